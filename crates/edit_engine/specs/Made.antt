@@ -1,0 +1,52 @@
+-- Finite maps made of the entries of a `BTreeMap`: what its calls leave, said of the map.
+use Rattle.std.specs.Prelude.{◌≡◌, ℕ, ◌≤◌, Bool, true, false, cond, is_some, List, [], ◌∷◌, Option, Some, None, refl}
+use Rattle.std.specs.Cmp.{IsTotalOrder, eq_by_cmp_equiv}
+use Rattle.std.specs.FinMap.{FinMap, IsAntisymmetric, from_entries, find, get, insert, remove, get-from_entries, get-insert, get-remove, same_map}
+use Rattle.std.specs.BTreeMap.{is_at}
+use Rattle.std.specs.Map.{lookup}
+use Rattle.std.specs.Ordering.{nat_cmp, is_eq}
+use Rattle.std.specs.declared.cmp.Ordering.{Ordering}
+use Rattle.std.specs.declared.cmp.Ordering.TheVariants.{Less, Equal, Greater}
+use Rattle.std.proofs.Common.{ap, sym, ◌∙◌}
+
+tied_by : (o : Ordering) → is_eq o ≡ true → o ≡ Equal
+tied_by Less e = cc
+tied_by Equal e = refl
+tied_by Greater e = cc
+
+none_by : {X : Type 0} (o : Option X) → is_some o ≡ false → None ≡ o
+none_by None e = refl
+none_by (Some x) e = cc
+
+module _ {K X : Type 0} {R : K → K → Ordering} (total : IsTotalOrder R) where
+  find_looked_up : (es : List (K × X)) (q : K) → find R q es ≡ lookup (is_at (R q)) es
+  find_looked_up [] q = refl
+  find_looked_up (e ∷ es) q = ap (cond (is_at (R q) e.0) (Some e.1)) (find_looked_up es q)
+
+  -- what the map has at a key is what the entries have there
+  pub get_made : (es : List (K × X)) (q : K) → get (from_entries {R = R} es) q ≡ lookup (is_at (R q)) es
+  get_made es q = get-from_entries total es q ∙ find_looked_up es q
+
+  -- entries that differ by what stands at one key make maps that differ there
+  pub one_given : IsAntisymmetric R → (es fs : List (K × X)) (k : K) (v : X) → ((q : K) → lookup (is_at (R q)) fs ≡ cond (is_at (R k) q) (Some v) (lookup (is_at (R q)) es)) → from_entries {R = R} fs ≡ insert (from_entries es) k v
+  one_given exact es fs k v h = same_map total exact _ _ (λ q.
+      get_made fs q ∙ h q ∙ ap (λ b. cond b (Some v) (lookup (is_at (R q)) es)) ((eq_by_cmp_equiv total).symm k q)
+      ∙ sym (get-insert total (from_entries es) k v q ∙ ap (cond (is_at (R q) k) (Some v)) (get_made es q)))
+
+  pub one_removed : IsAntisymmetric R → (es fs : List (K × X)) (k : K) → ((q : K) → lookup (is_at (R q)) fs ≡ cond (is_at (R k) q) None (lookup (is_at (R q)) es)) → from_entries {R = R} fs ≡ remove (from_entries es) k
+  one_removed exact es fs k h = same_map total exact _ _ (λ q.
+      get_made fs q ∙ h q ∙ ap (λ b. cond b None (lookup (is_at (R q)) es)) ((eq_by_cmp_equiv total).symm k q)
+      ∙ sym (get-remove total (from_entries es) k q ∙ ap (cond (is_at (R q) k) None) (get_made es q)))
+
+  -- an entry that is put in and taken out again leaves the map as it was
+  pub put_back : IsAntisymmetric R → (es fs gs : List (K × X)) (k : K) (v : X) → is_some (lookup (is_at (R k)) es) ≡ false → ((q : K) → lookup (is_at (R q)) fs ≡ cond (is_at (R k) q) (Some v) (lookup (is_at (R q)) es)) → ((q : K) → lookup (is_at (R q)) gs ≡ cond (is_at (R k) q) None (lookup (is_at (R q)) fs)) → from_entries {R = R} gs ≡ from_entries es
+  put_back exact es fs gs k v free put taken = same_map total exact _ _ (λ q.
+      get_made gs q ∙ taken q ∙ at_key (is_at (R k) q) q refl ∙ sym (get_made es q))
+    where
+      at_key : (b : Bool) → (q : K) → is_at (R k) q ≡ b → cond b None (lookup (is_at (R q)) fs) ≡ lookup (is_at (R q)) es
+      at_key true q e = none_by _ free ∙ ap (λ x. lookup (is_at (R x)) es) (exact k q (tied_by (R k q) e))
+      at_key false q e = put q ∙ ap (λ b. cond b (Some v) (lookup (is_at (R q)) es)) e
+
+-- no key from here on has a value
+abbrev pub IsFreeFrom : {X : Type 0} → ℕ → List (ℕ × X) → Type 0
+IsFreeFrom next es = (k : ℕ) → next ≤ k → is_some (lookup (is_at (nat_cmp k)) es) ≡ false
