@@ -1,3 +1,11 @@
+pub mod Leaves
+pub mod Limits
 pub mod Made
+pub mod Model
 pub mod Name
 pub mod Numbered
+pub mod Printed
+pub mod Refusals
+pub mod Script
+pub mod Line
+pub mod Tokens

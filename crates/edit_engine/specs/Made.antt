@@ -1,18 +1,25 @@
 -- Finite maps made of the entries of a `BTreeMap`: what its calls leave, said of the map.
-use Rattle.std.specs.Prelude.{◌≡◌, ℕ, ◌≤◌, Bool, true, false, cond, is_some, List, [], ◌∷◌, Option, Some, None, refl}
+use Rattle.std.specs.Prelude.{◌≡◌, ℕ, ◌≤◌, Bool, true, false, cond, is_some, length, map, List, [], ◌∷◌, Option, Some, None, refl}
 use Rattle.std.specs.Cmp.{IsTotalOrder, eq_by_cmp_equiv}
-use Rattle.std.specs.FinMap.{FinMap, IsAntisymmetric, from_entries, find, get, insert, remove, get-from_entries, get-insert, get-remove, same_map}
+use Rattle.std.specs.FinMap.{FinMap, IsAntisymmetric, from_entries, find, get, insert, remove, get-from_entries, get-insert, get-remove, same_map, entries, empty, len, len-entries, len-empty, entries-insert}
+use Rattle.std.specs.FinMap.Entries.{put, by_order}
+use Rattle.std.specs.List.{AllByRecursion}
+use Rattle.std.specs.List.Sorted.{IsStrictlySortedBy}
 use Rattle.std.specs.BTreeMap.{is_at}
 use Rattle.std.specs.Map.{lookup}
 use Rattle.std.specs.Ordering.{nat_cmp, is_eq}
 use Rattle.std.specs.declared.cmp.Ordering.{Ordering}
 use Rattle.std.specs.declared.cmp.Ordering.TheVariants.{Less, Equal, Greater}
-use Rattle.std.proofs.Common.{ap, sym, ◌∙◌}
+use Rattle.std.proofs.Common.{ap, sym, ◌∙◌, arith}
 
 tied_by : (o : Ordering) → is_eq o ≡ true → o ≡ Equal
 tied_by Less e = cc
 tied_by Equal e = refl
 tied_by Greater e = cc
+
+nothing_of : {A : Type 0} (xs : List A) → length xs ≡ 0 → xs ≡ []
+nothing_of [] e = refl
+nothing_of (x ∷ xs) e = absurd (omega arith)
 
 none_by : {X : Type 0} (o : Option X) → is_some o ≡ false → None ≡ o
 none_by None e = refl
@@ -26,6 +33,16 @@ module _ {K X : Type 0} {R : K → K → Ordering} (total : IsTotalOrder R) wher
   -- what the map has at a key is what the entries have there
   pub get_made : (es : List (K × X)) (q : K) → get (from_entries {R = R} es) q ≡ lookup (is_at (R q)) es
   get_made es q = get-from_entries total es q ∙ find_looked_up es q
+
+  put_first : (e : K × X) (es : List (K × X)) → AllByRecursion (λ y. R e.0 y ≡ Less) (map (λ f. f.0) es) → put R e.0 e.1 es ≡ e ∷ es
+  put_first e [] h = refl
+  put_first e (f ∷ fs) h = ap (λ o. by_order o (e ∷ f ∷ fs) ((f.0, e.1) ∷ fs) (f ∷ put R e.0 e.1 fs)) h.0
+
+  -- entries whose keys rise are those of the map
+  pub entries_made : (es : List (K × X)) → IsStrictlySortedBy R (map (λ e. e.0) es) → entries (from_entries {R = R} es) ≡ es
+  unfolding IsStrictlySortedBy
+  entries_made [] h = nothing_of _ (sym (len-entries empty) ∙ len-empty R X)
+  entries_made (e ∷ es) h = entries-insert total (from_entries es) e.0 e.1 ∙ (ap (put R e.0 e.1) (entries_made es h.1) ∙ put_first e es h.0)
 
   -- entries that differ by what stands at one key make maps that differ there
   pub one_given : IsAntisymmetric R → (es fs : List (K × X)) (k : K) (v : X) → ((q : K) → lookup (is_at (R q)) fs ≡ cond (is_at (R k) q) (Some v) (lookup (is_at (R q)) es)) → from_entries {R = R} fs ≡ insert (from_entries es) k v

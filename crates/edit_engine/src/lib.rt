@@ -1,8 +1,26 @@
-//! The script machine: a model of named variables and rows, an attached solver's model, and one step for each line.
+//! The script machine: a user's model, the model of an attached solver, and one step for each line.
 #![tactic(auto)]
 
-mod name;
+mod answer;
+pub mod command;
+pub mod grammar;
+mod leaf_row;
+mod leaves;
+mod limits;
+mod line;
+mod model;
+pub mod name;
 mod numbered;
+mod printed;
+mod refusal;
+mod row;
+mod row_function;
+mod session;
+pub mod terms;
+#[cfg(test)]
+mod tests;
+mod tokens;
 
-pub use name::Name;
-pub use numbered::Numbered;
+pub use answer::Answer;
+pub use line::Line;
+pub use session::Session;

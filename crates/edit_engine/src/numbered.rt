@@ -1,20 +1,22 @@
 //! Things under names and numbers.
-ghost use Rattle.std.specs.Prelude.{◌≡◌, ◌+◌, ◌^◌, ◌<◌, OnOk, OnErr};
+ghost use Rattle.std.specs.Prelude.{◌≡◌, ◌+◌, ◌^◌, ◌<◌, OnOk, OnErr, length};
 ghost use Rattle.std.specs.Option.{option_copied};
-ghost use Rattle.std.specs.FinMap.{get};
+ghost use Rattle.std.specs.FinMap.{get, len, from_entries};
 ghost use Rattle.edit_engine.specs.Numbered.{nothing, with_item, without_item};
 
-use std::alloc::{AllocError, Global};
+use ratio_core::Memory;
+use std::alloc::Global;
 use std::collections::BTreeMap;
 use std::marker::Model;
 
-use crate::Name;
+use crate::name::Name;
 
 /// Things under names, and under numbers that rise and are never used again.
 #[derive(Drop)]
 pub struct Numbered<X> {
+    alloc: Global,
     numbers: BTreeMap<Name, u32>,
-    items: BTreeMap<u32, X>,
+    items: BTreeMap<u32, (Name, X)>,
     next: u32,
 }
 
@@ -38,10 +40,18 @@ impl<X: Drop> Numbered<X> {
         ensures { result ≡ nothing }
     {
         Numbered {
+            alloc,
             numbers: BTreeMap::new(alloc),
             items: BTreeMap::new(alloc),
             next: 0,
         }
+    }
+
+    /// How many things there are.
+    pub fn len(&self) -> usize
+        ensures { result ≡ len self.now.items }
+    {
+        self.items.len()
     }
 
     /// The number of a name.
@@ -51,11 +61,18 @@ impl<X: Drop> Numbered<X> {
         self.numbers.get(name).copied()
     }
 
-    /// What a number stands for.
-    pub fn get(&self, number: u32) -> Option<&X>
+    /// The name and the thing of a number.
+    pub fn get(&self, number: u32) -> Option<&(Name, X)>
         ensures { option_copied result ≡ get self.now.items number }
     {
         self.items.get(&number)
+    }
+
+    /// All names and things, by their numbers.
+    pub fn items(&self) -> &BTreeMap<u32, (Name, X)>
+        ensures { from_entries result.now.entries ≡ self.now.items }
+    {
+        &self.items
     }
 
     /// The number that comes next.
@@ -66,23 +83,24 @@ impl<X: Drop> Numbered<X> {
     }
 
     /// Puts a thing under a name, and under the next number.
-    pub fn add(&mut self, name: Name, item: X) -> Result<(), AllocError>
+    pub fn add(&mut self, name: Name, item: X) -> Result<(), Memory>
         requires { self.old.next + 1 < 2 ^ 32 }
         ensures ok { OnOk result (self.new ≡ with_item self.old name item) }
         ensures err { OnErr result (self.new ≡ self.old) }
     {
         let number = self.next;
-        self.items.insert(number, item)?;
+        let copy = name.copy(self.alloc)?;
+        self.items.insert(number, (copy, item))?;
         if self.numbers.insert(name, number).is_err() {
             self.items.remove(&number);
-            return Err(AllocError);
+            return Err(Memory);
         }
         self.next = number + 1;
         Ok(())
     }
 
     /// Takes out a name and its number, which isn't given again, and answers what stood there.
-    pub fn remove(&mut self, name: &Name, number: u32) -> Option<X>
+    pub fn remove(&mut self, name: &Name, number: u32) -> Option<(Name, X)>
         ensures removed { self.new ≡ without_item self.old name.now number }
         ensures item { result ≡ get self.old.items number }
     {

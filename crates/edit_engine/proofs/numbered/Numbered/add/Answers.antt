@@ -1,10 +1,10 @@
 use Rattle.std.proofs.Common.{◌≡◌, ◌+◌, true, false, ap, ◌∙◌, sym, arith}
 use Rattle.std.specs.Prelude.{Result, Ok, Err}
 use Rattle.std.specs.Result.{is_err, OnOk, OnErr}
-use Rattle.std.specs.FinMap.{nat_cmp-IsAntisymmetric, slice_cmp-IsAntisymmetric, from_entries}
+use Rattle.std.specs.FinMap.{nat_cmp-IsAntisymmetric, insert, from_entries}
 use Rattle.std.specs.Cmp.{nat_cmp_total}
-use Rattle.std.specs.Cmp.Lexicographic.{nat_list_cmp_total}
 use Rattle.edit_engine.specs.Made.{one_given, put_back}
+use Rattle.edit_engine.specs.Name.{name_cmp_total, name_cmp_exact}
 use Rattle.edit_engine.specs.Numbered.{with_item}
 use Rattle.edit_engine.proofs.numbered.Numbered.add.Goals as goal
 
@@ -21,7 +21,7 @@ returns-then-is_err-clause-err g c =
     let s = c.self.inside in
     (λ i. record {
       numbers = from_entries (on_err_holds c.insert-2.result (sym c.is_err.ensures.value ∙ c.if-is_err.true) c.insert-2.ensures.err i);
-      items = put_back nat_cmp_total nat_cmp-IsAntisymmetric s.items.entries c.insert.new.self.entries c.remove.new.self.entries s.next c.args.item (c.self.invariant s.next (omega arith)) c.in_ok-insert.ensures.updates.0 c.remove.ensures.updates.0 i;
+      items = put_back nat_cmp_total nat_cmp-IsAntisymmetric s.items.entries c.insert.new.self.entries c.remove.new.self.entries s.next (c.in_ok-copy.copy, c.args.item) (c.self.invariant s.next (omega arith)) c.in_ok-insert.ensures.updates.0 c.remove.ensures.updates.0 i;
       next = s.next
     }) ∙ c.self.view_is
 
@@ -30,7 +30,8 @@ returns-clause-ok g c =
     let s = c.self.inside in
     let named = on_ok_holds c.insert-2.result (sym c.is_err.ensures.value ∙ c.if-is_err.false) c.insert-2.ensures.updates in
     (λ i. record {
-      numbers = one_given nat_list_cmp_total (slice_cmp-IsAntisymmetric nat_cmp-IsAntisymmetric) s.numbers.entries c.insert-2.new.self.entries c.args.name s.next named.0 i;
-      items = one_given nat_cmp_total nat_cmp-IsAntisymmetric s.items.entries c.insert.new.self.entries s.next c.args.item c.in_ok-insert.ensures.updates.0 i;
+      numbers = one_given name_cmp_total name_cmp_exact s.numbers.entries c.insert-2.new.self.entries c.args.name s.next named.0 i;
+      items = (one_given nat_cmp_total nat_cmp-IsAntisymmetric s.items.entries c.insert.new.self.entries s.next (c.in_ok-copy.copy, c.args.item) c.in_ok-insert.ensures.updates.0
+          ∙ ap (λ n. insert (from_entries s.items.entries) s.next (n, c.args.item)) c.in_ok-copy.ensures) i;
       next = s.next + 1
     }) ∙ ap (λ s. with_item s c.args.name c.args.item) c.self.view_is

@@ -1,10 +1,10 @@
 use Rattle.std.proofs.Common.{sym, ap, ◌∙◌}
 use Rattle.std.specs.FinMap.{get}
-use Rattle.std.specs.Cmp.Lexicographic.{nat_list_cmp_total}
+use Rattle.edit_engine.specs.Name.{name_cmp_total}
 use Rattle.edit_engine.specs.Made.{get_made}
 use Rattle.edit_engine.proofs.numbered.Numbered.number.Goals as goal
 
 pub returns : goal.returns
 returns g c =
-    c.copied.ensures ∙ (c.get.ensures.value ∙ sym (get_made nat_list_cmp_total c.self.inside.numbers.entries c.args.name.now)
+    c.copied.ensures ∙ (c.get.ensures.value ∙ sym (get_made name_cmp_total c.self.inside.numbers.entries c.args.name.now)
     ∙ ap (λ s. get s.numbers c.args.name.now) c.self.view_is)

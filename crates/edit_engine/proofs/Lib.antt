@@ -1,0 +1,5 @@
+mod Forms
+mod Names
+mod RowTerms
+mod Splits
+mod Backwards

@@ -1,0 +1,12 @@
+use Rattle.std.proofs.Common.{◌≡◌, ℕ, List, ◌++◌, map}
+use Rattle.std.specs.FinMap.{from_entries}
+use Rattle.aff_core.specs.Address.{address_cmp}
+use Rattle.edit_engine.specs.declared.row.Domain.{Domain}
+use Rattle.edit_engine.specs.Leaves.{variable_leaf}
+use Rattle.edit_engine.proofs.leaves.variable_leaves.Given as goal
+
+-- the leaves so far are those of the items that were taken, from the last on
+abbrev pub invariant-loop-number : goal.invariant-loop-number
+invariant-loop-number l =
+    (taken : List (ℕ × (List ℕ × Domain))) × (l.items.entries ≡ l.number-iterator.iter ++ taken)
+    × (from_entries {R = address_cmp} l.leaves.entries ≡ from_entries (map variable_leaf taken))
