@@ -3,3 +3,4 @@ mod Names
 mod RowTerms
 mod Splits
 mod Backwards
+mod Counts

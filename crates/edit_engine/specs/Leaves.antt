@@ -51,12 +51,17 @@ fresh model = record {
   rows = from_entries (map row_leaf (entries model.rows.items));
 }
 
--- at how many addresses two maps differ: those of the first where the second has something else or nothing, and those
--- of the second alone
+-- the new map has something else at an address of the old one, or nothing
+abbrev pub is_changed : {X : Type 0} → (X → X → Bool) → FinMap address_cmp X → Address × X → Bool
+is_changed same new e = not (option_map_or (same e.1) (get new e.0) false)
+
+-- the old map has nothing at an address of the new one
+abbrev pub is_new : {X : Type 0} → FinMap address_cmp X → Address × X → Bool
+is_new old e = not (contains_key old e.0)
+
+-- at how many addresses two maps differ
 abbrev pub differences : {X : Type 0} → (X → X → Bool) → FinMap address_cmp X → FinMap address_cmp X → ℕ
-differences same old new =
-    count_by (λ e. not (option_map_or (same e.1) (get new e.0) false)) (entries old)
-    + count_by (λ e. not (contains_key old e.0)) (entries new)
+differences same old new = count_by (is_changed same new) (entries old) + count_by (is_new old) (entries new)
 
 abbrev pub same_domain : Domain → Domain → Bool
 same_domain Free Free = true

@@ -1,6 +1,8 @@
 //! The solver's model, and the fresh bridging that it is made by.
-ghost use Rattle.std.specs.Prelude.{◌≡◌, IfOk, map};
-ghost use Rattle.std.specs.FinMap.{from_entries};
+ghost use Rattle.std.specs.Prelude.{◌≡◌, false, IfOk, map};
+ghost use Rattle.std.specs.Option.{option_map_or};
+ghost use Rattle.std.specs.FinMap.{from_entries, entries, get, contains_key};
+ghost use Rattle.std.specs.Ordering.{nat_cmp};
 ghost use Rattle.aff_core.specs.Address.{address_cmp};
 ghost use Rattle.edit_engine.specs.Leaves.{no_leaves, fresh, changed, variable_leaf, row_leaf, differences};
 
@@ -69,10 +71,11 @@ impl Leaves {
     }
 
     /// At how many addresses the other bridging differs from this one.
-    pub fn changed(&self, new: &Leaves) -> u64
+    pub fn changed(&self, new: &Leaves) -> u128
         ensures { result ≡ changed self.now new.now }
     {
-        differences(&self.variables, &new.variables) + differences(&self.rows, &new.rows)
+        u128::from(differences(&self.variables, &new.variables))
+            + u128::from(differences(&self.rows, &new.rows))
     }
 }
 
@@ -81,7 +84,8 @@ fn variable_leaves(
     alloc: Global,
     items: &BTreeMap<u32, (Name, Domain)>,
 ) -> Result<BTreeMap<Address, Domain>, Memory>
-    ensures { IfOk result (λ leaves. from_entries {R = address_cmp} leaves.entries ≡ from_entries (map variable_leaf items.now.entries)) }
+    ensures { IfOk result (λ leaves. from_entries {R = address_cmp} leaves.entries
+        ≡ from_entries (map variable_leaf (entries (from_entries {R = nat_cmp} items.now.entries)))) }
 {
     let mut leaves = BTreeMap::new(alloc);
     for (number, (_, domain)) in items.iter().rev() {
@@ -95,12 +99,13 @@ fn row_leaves(
     alloc: Global,
     items: &BTreeMap<u32, (Name, Row)>,
 ) -> Result<BTreeMap<Address, LeafRow>, Memory>
-    ensures { IfOk result (λ leaves. from_entries {R = address_cmp} leaves.entries ≡ from_entries (map row_leaf items.now.entries)) }
+    ensures { IfOk result (λ leaves. from_entries {R = address_cmp} leaves.entries
+        ≡ from_entries (map row_leaf (entries (from_entries {R = nat_cmp} items.now.entries)))) }
 {
     let mut leaves = BTreeMap::new(alloc);
     for (number, (_, row)) in items.iter().rev() {
         let leaf = Edge::GreaterToLess.image(alloc, row)?;
-        leaves.insert(Address::root(Root::Row, *number).child(0), leaf)?;
+        drop(leaves.insert(Address::root(Root::Row, *number).child(0), leaf)?);
     }
     Ok(leaves)
 }
@@ -110,15 +115,30 @@ fn differences<X: PartialEq>(old: &BTreeMap<Address, X>, new: &BTreeMap<Address,
     ensures { result ≡ differences X.eq (from_entries old.now.entries) (from_entries new.now.entries) }
 {
     let mut count = 0;
-    for (at, leaf) in old {
-        if !new.get(at).is_some_and(|other| leaf == other) {
+    for (at, leaf) in old.iter() {
+        if !has_leaf(new, at, leaf) {
             count += 1;
         }
     }
-    for (at, _) in new {
-        if !old.contains_key(at) {
+    for (at, _) in new.iter() {
+        if !has_address(old, at) {
             count += 1;
         }
     }
     count
+}
+
+fn has_leaf<X: PartialEq>(leaves: &BTreeMap<Address, X>, at: &Address, leaf: &X) -> bool
+    ensures { result ≡ option_map_or (X.eq leaf.now) (get (from_entries {R = address_cmp} leaves.now.entries) at.now) false }
+{
+    match leaves.get(at) {
+        Some(other) => leaf == other,
+        None => false,
+    }
+}
+
+fn has_address<X>(leaves: &BTreeMap<Address, X>, at: &Address) -> bool
+    ensures { result ≡ contains_key (from_entries {R = address_cmp} leaves.now.entries) at.now }
+{
+    leaves.contains_key(at)
 }

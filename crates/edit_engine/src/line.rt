@@ -44,7 +44,7 @@ impl Line {
         Ok(())
     }
 
-    pub fn push_number(&mut self, number: u64) -> Result<(), Memory>
+    pub fn push_number(&mut self, number: u128) -> Result<(), Memory>
         ensures { OnOk result (self.new ≡ self.old ++ decimal number) }
     {
         let text = number.to_string(self.alloc)?;

@@ -16,7 +16,7 @@ use crate::refusal::Refusal;
 use crate::row::Domain;
 
 /// `ok`, with the number of the leaves that changed where a solver is attached.
-pub fn done(alloc: Global, changes: Option<u64>) -> Result<Line, Memory>
+pub fn done(alloc: Global, changes: Option<u128>) -> Result<Line, Memory>
     ensures { IfOk result (λ line. line ≡ done_text changes) }
 {
     let mut line = Line::new(alloc);
@@ -41,9 +41,9 @@ pub fn refusal(alloc: Global, refusal: Refusal) -> Result<Line, Memory>
         Refusal::NameTaken => line.push(b"refused 3 NameTaken\n")?,
         Refusal::Full { count, limit } => {
             line.push(b"refused 12 Full ")?;
-            line.push_number(count)?;
+            line.push_number(u128::from(count))?;
             line.push(b" ")?;
-            line.push_number(limit)?;
+            line.push_number(u128::from(limit))?;
             line.push(b"\n")?;
         }
         Refusal::NotAttached => line.push(b"refused 13 NotAttached\n")?,
@@ -130,7 +130,7 @@ fn push_address(line: &mut Line, model: &UserModel, at: &Address) -> Result<(), 
     push_root(line, model, at.kind(), at.number())?;
     for position in at.positions() {
         line.push(b".")?;
-        line.push_number(u64::from(*position))?;
+        line.push_number(u128::from(*position))?;
     }
     Ok(())
 }

@@ -1,10 +1,11 @@
 use Rattle.std.proofs.Common.{◌≡◌, ℕ, List, [], ◌∷◌, map, sym, ap, ◌∙◌}
 use Rattle.std.proofs.lemmas.List.{append-nil}
 use Rattle.std.specs.FinMap.{from_entries, insert}
+use Rattle.std.specs.Cmp.{nat_cmp_total}
 use Rattle.aff_core.specs.Address.{address_total, exact_addresses}
 use Rattle.edit_engine.specs.declared.row.Domain.{Domain}
 use Rattle.edit_engine.specs.Leaves.{variable_leaf}
-use Rattle.edit_engine.specs.Made.{one_given}
+use Rattle.edit_engine.specs.Made.{one_given, entries_made}
 use Rattle.edit_engine.proofs.Backwards.{taken_more, taken_all}
 use Rattle.edit_engine.proofs.leaves.variable_leaves.Goals as goal
 
@@ -24,4 +25,5 @@ loop-number-preserved c =
 
 pub returns : goal.returns
 returns c =
-    c.loop-number.invariant.2 ∙ ap (λ es. from_entries (map variable_leaf es)) (taken_all c.loop-number.invariant.0 c.loop-number.invariant.1 c.in-None.ensures.steps.0)
+    let whole = taken_all c.loop-number.invariant.0 c.loop-number.invariant.1 c.in-None.ensures.steps.0 ∙ sym (entries_made nat_cmp_total c.args.items.now.entries c.iter.ensures.ordered) in
+    c.loop-number.invariant.2 ∙ ap (λ es. from_entries (map variable_leaf es)) whole
