@@ -4,3 +4,5 @@ mod RowTerms
 mod Splits
 mod Backwards
 mod Counts
+mod Sums
+mod Unrefused

@@ -1,5 +1,4 @@
 pub mod Leaves
-pub mod Limits
 pub mod Made
 pub mod Model
 pub mod Name

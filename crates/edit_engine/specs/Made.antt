@@ -21,9 +21,12 @@ nothing_of : {A : Type 0} (xs : List A) → length xs ≡ 0 → xs ≡ []
 nothing_of [] e = refl
 nothing_of (x ∷ xs) e = absurd (omega arith)
 
-none_by : {X : Type 0} (o : Option X) → is_some o ≡ false → None ≡ o
+pub none_by : {X : Type 0} (o : Option X) → is_some o ≡ false → None ≡ o
 none_by None e = refl
 none_by (Some x) e = cc
+
+pub entries_empty : {K X : Type 0} (R : K → K → Ordering) → entries (empty {K = K} {X = X} {R = R}) ≡ []
+entries_empty {X = X} R = nothing_of _ (sym (len-entries empty) ∙ len-empty R X)
 
 module _ {K X : Type 0} {R : K → K → Ordering} (total : IsTotalOrder R) where
   find_looked_up : (es : List (K × X)) (q : K) → find R q es ≡ lookup (is_at (R q)) es
@@ -41,7 +44,7 @@ module _ {K X : Type 0} {R : K → K → Ordering} (total : IsTotalOrder R) wher
   -- entries whose keys rise are those of the map
   pub entries_made : (es : List (K × X)) → IsStrictlySortedBy R (map (λ e. e.0) es) → entries (from_entries {R = R} es) ≡ es
   unfolding IsStrictlySortedBy
-  entries_made [] h = nothing_of _ (sym (len-entries empty) ∙ len-empty R X)
+  entries_made [] h = entries_empty R
   entries_made (e ∷ es) h = entries-insert total (from_entries es) e.0 e.1 ∙ (ap (put R e.0 e.1) (entries_made es h.1) ∙ put_first e es h.0)
 
   -- entries that differ by what stands at one key make maps that differ there

@@ -1,5 +1,5 @@
 -- The user's model: free variables, and rows whose functions are to be at least a number.
-use Rattle.std.specs.Prelude.{◌≡◌, ℕ, Bool, not, Option, Some, None, if◌then◌else◌, List, length, map, sum_by, unwrap_or, refl}
+use Rattle.std.specs.Prelude.{◌≡◌, ℕ, ◌≤◌, Bool, not, Option, Some, None, if◌then◌else◌, List, length, map, sum_by, unwrap_or, refl}
 use Rattle.std.specs.List.{list_any}
 use Rattle.std.specs.FinMap.{FinMap, entries, from_entries, get, contains_key}
 use Rattle.std.specs.Coded.{Coded, code_by, coded×}
@@ -12,6 +12,7 @@ use Rattle.edit_engine.specs.declared.terms.Term.{Term}
 use Rattle.edit_engine.specs.declared.row.Domain.{Domain}
 use Rattle.edit_engine.specs.declared.row.Row.{Row}
 use Rattle.edit_engine.specs.contracts.row.Domain as domain
+use Rattle.edit_engine.specs.declared.limits.TheConstants.{ALL_TERMS}
 use Rattle.edit_engine.specs.Numbered.{Numbered, numbered_code, nothing, with_item, without_item}
 
 pub record UserModel : Type 0 where
@@ -46,6 +47,11 @@ term_count f = length (terms_of f)
 -- how many terms all rows have
 abbrev pub all_terms : UserModel → ℕ
 all_terms model = sum_by (λ e. term_count e.1.1.function) (entries model.rows.items)
+
+-- all rows have this many terms, and no more than they may
+pub record IsCountOfTerms (count : ℕ) (model : UserModel) : Type 0 where
+  pub count_is : count ≡ all_terms model
+  pub within : count ≤ ALL_TERMS
 
 -- some term names a variable that isn't there
 abbrev pub names_unknown : Numbered Domain → List Term → Bool

@@ -1,5 +1,5 @@
 //! The user's model.
-ghost use Rattle.std.specs.Prelude.{◌≡◌, [], ◌∷◌, None, OnOk, OnErr};
+ghost use Rattle.std.specs.Prelude.{◌≡◌, map, None, OnOk, OnErr};
 ghost use Rattle.edit_engine.specs.Model.{empty_model};
 ghost use Rattle.edit_engine.specs.Numbered.{with_item, without_item};
 ghost use Rattle.edit_engine.specs.Refusals.{variable_refusal, named_row_refusal, first_refusal, passes};
@@ -26,8 +26,7 @@ pub struct UserModel {
 }
 
 impl Model for UserModel {
-    ghost use Rattle.std.specs.Prelude.{◌≡◌};
-    ghost use Rattle.edit_engine.specs.Model.{UserModel, model_code, all_terms};
+    ghost use Rattle.edit_engine.specs.Model.{UserModel, model_code, IsCountOfTerms};
 
     ghost Value = { UserModel };
 
@@ -35,7 +34,7 @@ impl Model for UserModel {
 
     ghost view = { λ a. record { variables = a.variables; rows = a.rows } };
 
-    ghost invariant = { λ a. a.terms ≡ all_terms (record { variables = a.variables; rows = a.rows }) };
+    ghost invariant = { λ a. IsCountOfTerms a.terms (record { variables = a.variables; rows = a.rows }) };
 }
 
 impl UserModel {
@@ -68,8 +67,10 @@ impl UserModel {
         if self.variables.number(name).is_some() {
             return Some(Refusal::NameTaken);
         }
-        passes(self.variables.len() as u64 + 1, VARIABLES)
-            .or_else(|| passes(u64::from(self.variables.next()), LAST_NUMBER))
+        first_full(&[
+            (self.variables.len() as u64 + 1, VARIABLES),
+            (u64::from(self.variables.next()), LAST_NUMBER),
+        ])
     }
 
     /// Why no row of this name and function can be added, if so.
@@ -80,10 +81,17 @@ impl UserModel {
             return Some(Refusal::NameTaken);
         }
         let terms = function.term_count() as u64;
-        passes(terms, TERMS)
-            .or_else(|| passes(self.rows.len() as u64 + 1, ROWS))
-            .or_else(|| passes(self.terms + terms, ALL_TERMS))
-            .or_else(|| passes(u64::from(self.rows.next()), LAST_NUMBER))
+        if TERMS < terms {
+            return Some(Refusal::Full {
+                count: terms,
+                limit: TERMS,
+            });
+        }
+        first_full(&[
+            (self.rows.len() as u64 + 1, ROWS),
+            (self.terms + terms, ALL_TERMS),
+            (u64::from(self.rows.next()), LAST_NUMBER),
+        ])
     }
 
     pub fn add_variable(&mut self, name: Name) -> Result<(), Memory>
@@ -115,9 +123,14 @@ impl UserModel {
     }
 }
 
-/// The refusal of an edit after which there would be `count` of what there may be `limit` of.
-fn passes(count: u64, limit: u64) -> Option<Refusal>
-    ensures { result ≡ first_refusal (passes count limit ∷ []) }
+/// The refusal of an edit for the first of these counts, as they would be after it, that passes its limit.
+fn first_full(counts: &[(u64, u64)]) -> Option<Refusal>
+    ensures { result ≡ first_refusal (map (λ c. passes c.0 c.1) counts.now) }
 {
-    (limit < count).then_some(Refusal::Full { count, limit })
+    for &(count, limit) in counts {
+        if limit < count {
+            return Some(Refusal::Full { count, limit });
+        }
+    }
+    None
 }

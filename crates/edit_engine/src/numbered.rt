@@ -1,5 +1,5 @@
 //! Things under names and numbers.
-ghost use Rattle.std.specs.Prelude.{◌≡◌, ◌+◌, ◌^◌, ◌<◌, OnOk, OnErr, length};
+ghost use Rattle.std.specs.Prelude.{◌≡◌, ◌+◌, ◌^◌, ◌<◌, None, OnOk, OnErr};
 ghost use Rattle.std.specs.Option.{option_copied};
 ghost use Rattle.std.specs.FinMap.{get, len, from_entries};
 ghost use Rattle.edit_engine.specs.Numbered.{nothing, with_item, without_item};
@@ -49,7 +49,8 @@ impl<X: Drop> Numbered<X> {
 
     /// How many things there are.
     pub fn len(&self) -> usize
-        ensures { result ≡ len self.now.items }
+        ensures value { result ≡ len self.now.items }
+        ensures few { result < 2 ^ 63 }
     {
         self.items.len()
     }
@@ -86,6 +87,7 @@ impl<X: Drop> Numbered<X> {
     pub fn add(&mut self, name: Name, item: X) -> Result<(), Memory>
         requires { self.old.next + 1 < 2 ^ 32 }
         ensures ok { OnOk result (self.new ≡ with_item self.old name item) }
+        ensures unused { get self.old.items self.old.next ≡ None }
         ensures err { OnErr result (self.new ≡ self.old) }
     {
         let number = self.next;

@@ -1,11 +1,11 @@
-use Rattle.std.proofs.Common.{◌≡◌, ◌+◌, true, false, ap, ◌∙◌, sym, arith}
+use Rattle.std.proofs.Common.{◌≡◌, ℕ, List, None, ◌+◌, true, false, ap, ◌∙◌, sym, arith}
 use Rattle.std.specs.Prelude.{Result, Ok, Err}
 use Rattle.std.specs.Result.{is_err, OnOk, OnErr}
-use Rattle.std.specs.FinMap.{nat_cmp-IsAntisymmetric, insert, from_entries}
+use Rattle.std.specs.FinMap.{nat_cmp-IsAntisymmetric, insert, get, from_entries}
 use Rattle.std.specs.Cmp.{nat_cmp_total}
-use Rattle.edit_engine.specs.Made.{one_given, put_back}
+use Rattle.edit_engine.specs.Made.{one_given, put_back, get_made, none_by, IsFreeFrom}
 use Rattle.edit_engine.specs.Name.{name_cmp_total, name_cmp_exact}
-use Rattle.edit_engine.specs.Numbered.{with_item}
+use Rattle.edit_engine.specs.Numbered.{Numbered, with_item}
 use Rattle.edit_engine.proofs.numbered.Numbered.add.Goals as goal
 
 on_ok_holds : {T E P : Type 0} (r : Result T E) → is_err r ≡ false → OnOk r P → P
@@ -15,6 +15,10 @@ on_ok_holds (Err x) e h = cc
 on_err_holds : {T E P : Type 0} (r : Result T E) → is_err r ≡ true → OnErr r P → P
 on_err_holds (Ok x) e h = cc
 on_err_holds (Err x) e h = h
+
+is_unused : {X : Type 0} (now : Numbered X) (items : List (ℕ × (List ℕ × X))) (next : ℕ) → from_entries items ≡ now.items → next ≡ now.next → IsFreeFrom next items → get now.items now.next ≡ None
+is_unused now items next items_are next_is free =
+    sym (λ i. get (items_are i) (next_is i)) ∙ (get_made nat_cmp_total items next ∙ sym (none_by _ (free next (omega arith))))
 
 pub returns-then-is_err-clause-err : goal.returns-then-is_err-clause-err
 returns-then-is_err-clause-err g c =
@@ -35,3 +39,19 @@ returns-clause-ok g c =
           ∙ ap (λ n. insert (from_entries s.items.entries) s.next (n, c.args.item)) c.in_ok-copy.ensures) i;
       next = s.next + 1
     }) ∙ ap (λ s. with_item s c.args.name c.args.item) c.self.view_is
+
+pub returns-in_err-copy-clause-unused : goal.returns-in_err-copy-clause-unused
+returns-in_err-copy-clause-unused g c =
+    is_unused c.args.self.now c.self.inside.items.entries c.self.inside.next (ap (λ s. s.items) c.self.view_is) (ap (λ s. s.next) c.self.view_is) c.self.invariant
+
+pub returns-in_err-insert-clause-unused : goal.returns-in_err-insert-clause-unused
+returns-in_err-insert-clause-unused g c =
+    is_unused c.args.self.now c.self.inside.items.entries c.self.inside.next (ap (λ s. s.items) c.self.view_is) (ap (λ s. s.next) c.self.view_is) c.self.invariant
+
+pub returns-then-is_err-clause-unused : goal.returns-then-is_err-clause-unused
+returns-then-is_err-clause-unused g c =
+    is_unused c.args.self.now c.self.inside.items.entries c.self.inside.next (ap (λ s. s.items) c.self.view_is) (ap (λ s. s.next) c.self.view_is) c.self.invariant
+
+pub returns-clause-unused : goal.returns-clause-unused
+returns-clause-unused g c =
+    is_unused c.args.self.now c.self.inside.items.entries c.self.inside.next (ap (λ s. s.items) c.self.view_is) (ap (λ s. s.next) c.self.view_is) c.self.invariant
