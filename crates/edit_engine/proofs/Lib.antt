@@ -6,3 +6,5 @@ mod Backwards
 mod Counts
 mod Sums
 mod Unrefused
+mod Steps
+mod Located

@@ -144,16 +144,15 @@ abbrev pub OnMemory : Answer → Type 0 → Type 0
 OnMemory answer.Memory P = P
 OnMemory a P = Unit {0}
 
--- the model is the one before the line or the one after it, and the solver holds what it held, or nothing, or the
--- fresh bridging of the model
-pub record KeepsModel (old after new : State) : Type 0 where
-  pub model : (new.model ≡ old.model) ⊎ (new.model ≡ after.model)
+-- the state is the one before the line, or the model is the one after it and no solver is attached
+abbrev pub IsBetween : State → State → State → Type 0
+IsBetween old after new = (new ≡ old) ⊎ ((new.model ≡ after.model) × (new.solver ≡ None))
 
 -- one step of the machine, for what a line says
 pub record Steps (old : State) (command : Option Command) (result : Result Answer Memory) (new : State) : Type 0 where
   pub answer : IfOk result (λ a. a ≡ answer_to_command old command)
   pub state : OnOk result (new ≡ state_after_command old command)
-  pub memory : OnErr result (KeepsModel old (state_after_command old command) new)
+  pub memory : OnErr result (IsBetween old (state_after_command old command) new)
 
 -- an attached solver got the fresh bridging of the model, and what changed there was told
 pub record IsBridgedAnew (old : State) (attached : Bool) (result : Result Answer Memory) (new : State) : Type 0 where

@@ -17,7 +17,8 @@ use std::collections::BTreeSet;
 /// What a line without its end says, or None where it has none of the forms.
 pub fn command(alloc: Global, line: &[u8]) -> Result<Option<Command>, Memory>
     ensures value { IfOk result (λ said. said ≡ command_of line.now) }
-    ensures names { IfOk result (λ said. IfSome said (λ c. IsTrue (list_all is_name (names_of c)))) }
+    ensures names { IfOk result
+        (λ said. IfSome said (λ c. IsTrue (list_all is_name (names_of c)))) }
 {
     if are_line_bytes(line) {
         form(alloc, Tokens::new(line))
@@ -154,7 +155,8 @@ fn row_terms(alloc: Global, tokens: Tokens<'_>) -> Result<Option<Terms>, Memory>
 /// Puts a name among those that were `seen`, and says whether it is new.
 fn insert_name<'a>(seen: &mut BTreeSet<&'a [u8]>, name: &'a [u8]) -> Result<bool, Memory>
     ensures new { IfOk result (λ new. new ≡ not (has_name seen.old name.now)) }
-    ensures after { OnOk result ((q : List ℕ) → has_name seen.new q ≡ (bytes_eq q name.now || has_name seen.old q)) }
+    ensures after { OnOk result
+        ((q : List ℕ) → has_name seen.new q ≡ (bytes_eq q name.now || has_name seen.old q)) }
 {
     Ok(seen.insert(name)?)
 }
@@ -169,7 +171,8 @@ struct ReadTerm<'a> {
 /// `Q*X`, parted at the first star.
 #[tactic(auto, unfolding(crate::specs::Line::term_of, crate::specs::Name::name_of))]
 fn read_term(token: &[u8]) -> Option<ReadTerm<'_>>
-    ensures { option_map (λ t. record { variable = t.variable.now; coefficient = t.coefficient }) result ≡ term_of token.now }
+    ensures { option_map (λ t. record { variable = t.variable.now; coefficient = t.coefficient }) result
+        ≡ term_of token.now }
 {
     let (coefficient, variable) = parted_at(token, b'*');
     let coefficient = Ratio::read(coefficient)?;

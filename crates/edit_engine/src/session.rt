@@ -1,6 +1,6 @@
 //! The session: a step of the script machine for each line.
 ghost use Rattle.std.specs.Prelude.{◌≡◌, Some, None, true, is_some, OnOk, OnErr, IfOk};
-ghost use Rattle.edit_engine.specs.Script.{start, IsBridged, answer_to, state_after, answer_to_command, state_after_command, with_model, changes, OnAnswered, OnMemory, KeepsModel, Steps, IsBridgedAnew, refused_answer, done_answer};
+ghost use Rattle.edit_engine.specs.Script.{start, IsBridged, answer_to, state_after, answer_to_command, state_after_command, with_model, changes, OnAnswered, OnMemory, IsBetween, Steps, IsBridgedAnew, refused_answer, done_answer};
 ghost use Rattle.edit_engine.specs.Leaves.{changed, fresh};
 ghost use Rattle.edit_engine.specs.Line.{command_of};
 ghost use Rattle.edit_engine.specs.Printed.{done_text};
@@ -51,12 +51,12 @@ impl Session {
         }
     }
 
-    /// Answers a line, by one step of the script machine. After `Memory` the model is the one before
-    /// the line or the one after it, and no solver may be attached any more.
+    /// Answers a line, by one step of the script machine. After `Memory` nothing changed, or the model is
+    /// the one after the line and no solver is attached any more.
     pub fn line(&mut self, line: &[u8]) -> Answer
         ensures answer { OnAnswered result (result ≡ answer_to self.old line.now) }
         ensures state { OnAnswered result (self.new ≡ state_after self.old line.now) }
-        ensures memory { OnMemory result (KeepsModel self.old (state_after self.old line.now) self.new) }
+        ensures memory { OnMemory result (IsBetween self.old (state_after self.old line.now) self.new) }
         // What an attached solver holds is the fresh bridging of the model.
         ensures bridged { IsBridged self.old → IsBridged self.new }
     {
