@@ -1,3 +1,4 @@
+mod Located
 mod Forms
 mod Names
 mod RowTerms
