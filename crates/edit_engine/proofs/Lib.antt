@@ -1,10 +1,10 @@
+mod Backwards
+mod Counts
 mod Forms
+mod Located
 mod Names
 mod RowTerms
 mod Splits
-mod Backwards
-mod Counts
+mod Steps
 mod Sums
 mod Unrefused
-mod Steps
-mod Located

@@ -7,7 +7,6 @@ use Rattle.ratio_core.specs.Rational.{Rational, rational_code, zero_ℚ}
 use Rattle.aff_core.specs.Address.{Address, address_cmp, root_address}
 use Rattle.aff_core.specs.Function.{Function, function_code, function_of, terms_of}
 use Rattle.aff_core.specs.declared.root.Root.TheVariants.{Variable}
-use Rattle.edit_engine.specs.declared.command.NewRow.{NewRow}
 use Rattle.edit_engine.specs.declared.terms.Term.{Term}
 use Rattle.edit_engine.specs.declared.row.Domain.{Domain}
 use Rattle.edit_engine.specs.declared.row.Row.{Row}
@@ -36,9 +35,13 @@ variable_address number = root_address Variable number
 abbrev pub located : Numbered Domain → Term → Address × Rational
 located variables t = (variable_address (unwrap_or (get variables.numbers t.variable) 0), t.coefficient)
 
+-- the coefficients of a row's terms at the addresses of their variables
+abbrev pub located_terms : Numbered Domain → List Term → FinMap address_cmp Rational
+located_terms variables terms = from_entries (map (located variables) terms)
+
 -- the function of a row's terms, those with the coefficient 0 left out
 unfoldable pub row_function : Numbered Domain → List Term → Function
-row_function variables terms = function_of (entries (from_entries {R = address_cmp} (map (located variables) terms))) zero_ℚ
+row_function variables terms = function_of (entries (located_terms variables terms)) zero_ℚ
 
 -- how many terms a function has
 abbrev pub term_count : Function → ℕ
@@ -60,3 +63,7 @@ names_unknown variables terms = list_any (λ t. not (contains_key variables.numb
 -- the function of the terms, or nothing where one names a variable that isn't there
 abbrev pub known_function : Numbered Domain → List Term → Option Function
 known_function variables terms = if names_unknown variables terms then None else Some (row_function variables terms)
+
+-- the terms at their addresses, or nothing where one names a variable that isn't there
+abbrev pub known_terms : Numbered Domain → List Term → Option (FinMap address_cmp Rational)
+known_terms variables terms = if names_unknown variables terms then None else Some (located_terms variables terms)

@@ -3,10 +3,6 @@ ghost use Rattle.std.specs.Prelude.{◌≡◌, ◌++◌, OnOk, IfOk, Some, None,
 ghost use Rattle.edit_engine.specs.Numbered.{name_of};
 ghost use Rattle.edit_engine.specs.Printed.{done_text, refusal_text, bridged_text, address_text, root_text, function_text, variable_line, row_line};
 
-use aff_core::{Address, Aff, Root};
-use ratio_core::Memory;
-use std::alloc::Global;
-
 use crate::leaf_row::LeafRow;
 use crate::leaves::Leaves;
 use crate::line::Line;
@@ -14,6 +10,9 @@ use crate::model::UserModel;
 use crate::numbered::Numbered;
 use crate::refusal::Refusal;
 use crate::row::Domain;
+use aff_core::{Address, Aff, Root};
+use ratio_core::Memory;
+use std::alloc::Global;
 
 /// `ok`, with the number of the leaves that changed where a solver is attached.
 pub fn done(alloc: Global, changes: Option<u128>) -> Result<Line, Memory>
@@ -81,12 +80,7 @@ fn push_variable(
     }
 }
 
-fn push_row(
-    line: &mut Line,
-    model: &UserModel,
-    at: &Address,
-    row: &LeafRow,
-) -> Result<(), Memory>
+fn push_row(line: &mut Line, model: &UserModel, at: &Address, row: &LeafRow) -> Result<(), Memory>
     ensures { OnOk result (line.new ≡ line.old ++ row_line model.now (at.now, row.now)) }
 {
     line.push(b"row ")?;
