@@ -35,9 +35,9 @@ accepted_leaves : (old : State) (command : Command) → refusal_of old command �
 accepted_leaves old command none = ap (λ r. cond (is_some r) old (accepted_state old command)) none
 
 -- an edit: the solver follows the edited model
-record IsEdit (old : State) (command : Command) : Type 0 where
-  state : accepted_state old command ≡ with_model (is_some old.solver) (edited old.model command)
-  answer : accepted_answer old command ≡ done_answer (changes old (with_model (is_some old.solver) (edited old.model command)))
+pub record IsEdit (old : State) (command : Command) : Type 0 where
+  pub state : accepted_state old command ≡ with_model (is_some old.solver) (edited old.model command)
+  pub answer : accepted_answer old command ≡ done_answer (changes old (with_model (is_some old.solver) (edited old.model command)))
 
 pub edit : (old : State) (command : Command) → IsEdit old command → refusal_of old command ≡ None → (result : Result Answer Memory) (new : State) → IsBridgedAnew (record { model = edited old.model command; solver = old.solver }) (is_some old.solver) result new → OnErr result (new ≡ record { model = edited old.model command; solver = None }) → Steps old (Some command) result new
 edit old command is none result new ok err = record {
