@@ -4,3 +4,4 @@ mod Names
 mod RowTerms
 mod Splits
 mod Backwards
+mod Pushes
