@@ -3,6 +3,7 @@ mod Counts
 mod Forms
 mod Located
 mod Names
+mod Pushes
 mod RowTerms
 mod Splits
 mod Steps

@@ -1,6 +1,5 @@
 -- The texts of the answers. Each printed line ends with a newline.
 use Rattle.std.specs.Prelude.{ℕ, List, [], ◌∷◌, ◌++◌, map, flat_map, codes, decimal, Option, Some, None, if◌then◌else◌}
-use Rattle.std.specs.List.{join_with_byte}
 use Rattle.std.specs.FinMap.{entries}
 use Rattle.ratio_core.specs.Rational.{Rational, zero_ℚ, rational_eq}
 use Rattle.ratio_core.specs.Text.{text_of}
@@ -43,10 +42,14 @@ term_text model t = text_of t.1 ++ codes "*" ++ address_text model t.0
 abbrev pub constant_texts : Rational → List (List ℕ)
 constant_texts q = if rational_eq q zero_ℚ then [] else text_of q ∷ []
 
--- the parts of a function, or 0 where it has none
+-- after a space
+abbrev pub spaced : List ℕ → List ℕ
+spaced part = codes " " ++ part
+
+-- the parts with a space between each two, or 0 where there are none
 abbrev pub sum_text : List (List ℕ) → List ℕ
 sum_text [] = codes "0"
-sum_text (part ∷ parts) = join_with_byte 32 (part ∷ parts)
+sum_text (part ∷ parts) = part ++ flat_map spaced parts
 
 unfoldable pub function_text : UserModel → Function → List ℕ
 function_text model f = sum_text (map (term_text model) (terms_of f) ++ constant_texts f.constant)

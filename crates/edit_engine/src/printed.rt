@@ -1,7 +1,9 @@
 //! The texts of the answers.
-ghost use Rattle.std.specs.Prelude.{◌≡◌, ◌++◌, OnOk, IfOk, Some, None, Option};
+ghost use Rattle.std.specs.Prelude.{◌≡◌, ◌++◌, OnOk, IfOk, Some, None, Option, map, flat_map};
+ghost use Rattle.std.specs.FinMap.{entries, from_entries};
+ghost use Rattle.aff_core.specs.Address.{address_cmp};
 ghost use Rattle.edit_engine.specs.Numbered.{name_of};
-ghost use Rattle.edit_engine.specs.Printed.{done_text, refusal_text, bridged_text, address_text, root_text, function_text, variable_line, row_line};
+ghost use Rattle.edit_engine.specs.Printed.{done_text, refusal_text, bridged_text, address_text, root_text, position_text, spaced, term_text, constant_texts, function_text, variable_line, row_line};
 
 use crate::leaf_row::LeafRow;
 use crate::leaves::Leaves;
@@ -11,22 +13,16 @@ use crate::numbered::Numbered;
 use crate::refusal::Refusal;
 use crate::row::Domain;
 use aff_core::{Address, Aff, Root};
-use ratio_core::Memory;
+use ratio_core::{Memory, Ratio};
 use std::alloc::Global;
+use std::collections::BTreeMap;
 
 /// `ok`, with the number of the leaves that changed where a solver is attached.
 pub fn done(alloc: Global, changes: Option<u128>) -> Result<Line, Memory>
     ensures { IfOk result (λ line. line ≡ done_text changes) }
 {
     let mut line = Line::new(alloc);
-    match changes {
-        None => line.push(b"ok\n")?,
-        Some(count) => {
-            line.push(b"ok ")?;
-            line.push_number(count)?;
-            line.push(b"\n")?;
-        }
-    }
+    push_done(&mut line, changes)?;
     Ok(line)
 }
 
@@ -34,20 +30,7 @@ pub fn refusal(alloc: Global, refusal: Refusal) -> Result<Line, Memory>
     ensures { IfOk result (λ line. line ≡ refusal_text refusal) }
 {
     let mut line = Line::new(alloc);
-    match refusal {
-        Refusal::BadLine => line.push(b"refused 1 BadLine\n")?,
-        Refusal::UnknownName => line.push(b"refused 2 UnknownName\n")?,
-        Refusal::NameTaken => line.push(b"refused 3 NameTaken\n")?,
-        Refusal::Full { count, limit } => {
-            line.push(b"refused 12 Full ")?;
-            line.push_number(u128::from(count))?;
-            line.push(b" ")?;
-            line.push_number(u128::from(limit))?;
-            line.push(b"\n")?;
-        }
-        Refusal::NotAttached => line.push(b"refused 13 NotAttached\n")?,
-        Refusal::AlreadyAttached => line.push(b"refused 14 AlreadyAttached\n")?,
-    }
+    push_refusal(&mut line, refusal)?;
     Ok(line)
 }
 
@@ -56,15 +39,72 @@ pub fn bridged(alloc: Global, model: &UserModel, leaves: &Leaves) -> Result<Line
     ensures { IfOk result (λ line. line ≡ bridged_text model.now leaves.now) }
 {
     let mut line = Line::new(alloc);
-    for (at, domain) in leaves.variables() {
-        push_variable(&mut line, model, at, *domain)?;
-    }
-    for (at, row) in leaves.rows() {
-        push_row(&mut line, model, at, row)?;
-    }
+    push_variables(&mut line, model, leaves.variables())?;
+    push_rows(&mut line, model, leaves.rows())?;
     Ok(line)
 }
 
+#[tactic(auto, using(std::proofs::lemmas::List::append_assoc), unfolding(crate::specs::Printed::done_text))]
+fn push_done(line: &mut Line, changes: Option<u128>) -> Result<(), Memory>
+    ensures { OnOk result (line.new ≡ line.old ++ done_text changes) }
+{
+    match changes {
+        None => line.push(b"ok\n"),
+        Some(count) => {
+            line.push(b"ok ")?;
+            line.push_number(count)?;
+            line.push(b"\n")
+        }
+    }
+}
+
+#[tactic(auto, using(std::proofs::lemmas::List::append_assoc), unfolding(crate::specs::Printed::refusal_text))]
+fn push_refusal(line: &mut Line, refusal: Refusal) -> Result<(), Memory>
+    ensures { OnOk result (line.new ≡ line.old ++ refusal_text refusal) }
+{
+    match refusal {
+        Refusal::BadLine => line.push(b"refused 1 BadLine\n"),
+        Refusal::UnknownName => line.push(b"refused 2 UnknownName\n"),
+        Refusal::NameTaken => line.push(b"refused 3 NameTaken\n"),
+        Refusal::Full { count, limit } => {
+            line.push(b"refused 12 Full ")?;
+            line.push_number(u128::from(count))?;
+            line.push(b" ")?;
+            line.push_number(u128::from(limit))?;
+            line.push(b"\n")
+        }
+        Refusal::NotAttached => line.push(b"refused 13 NotAttached\n"),
+        Refusal::AlreadyAttached => line.push(b"refused 14 AlreadyAttached\n"),
+    }
+}
+
+fn push_variables(
+    line: &mut Line,
+    model: &UserModel,
+    variables: &BTreeMap<Address, Domain>,
+) -> Result<(), Memory>
+    ensures { OnOk result (line.new ≡ line.old ++ flat_map (variable_line model.now) (entries (from_entries {R = address_cmp} variables.now.entries))) }
+{
+    for (at, domain) in variables.iter() {
+        push_variable(line, model, at, *domain)?;
+    }
+    Ok(())
+}
+
+fn push_rows(
+    line: &mut Line,
+    model: &UserModel,
+    rows: &BTreeMap<Address, LeafRow>,
+) -> Result<(), Memory>
+    ensures { OnOk result (line.new ≡ line.old ++ flat_map (row_line model.now) (entries (from_entries {R = address_cmp} rows.now.entries))) }
+{
+    for (at, row) in rows.iter() {
+        push_row(line, model, at, row)?;
+    }
+    Ok(())
+}
+
+#[tactic(auto, using(std::proofs::lemmas::List::append_assoc), unfolding(crate::specs::Printed::variable_line))]
 fn push_variable(
     line: &mut Line,
     model: &UserModel,
@@ -80,6 +120,7 @@ fn push_variable(
     }
 }
 
+#[tactic(auto, using(std::proofs::lemmas::List::append_assoc), unfolding(crate::specs::Printed::row_line))]
 fn push_row(line: &mut Line, model: &UserModel, at: &Address, row: &LeafRow) -> Result<(), Memory>
     ensures { OnOk result (line.new ≡ line.old ++ row_line model.now (at.now, row.now)) }
 {
@@ -92,37 +133,70 @@ fn push_row(line: &mut Line, model: &UserModel, at: &Address, row: &LeafRow) -> 
     line.push(b"\n")
 }
 
-/// The terms in the order of their addresses, and the constant where it isn't zero; `0` where nothing is left.
+/// The terms in the order of their addresses, and the constant where it isn't zero or stands alone.
 fn push_function(line: &mut Line, model: &UserModel, function: &Aff) -> Result<(), Memory>
     ensures { OnOk result (line.new ≡ line.old ++ function_text model.now function.now) }
 {
-    for n in 0..function.term_count() {
-        if let Some((at, coefficient)) = function.term(n) {
-            if 0 < n {
-                line.push(b" ")?;
-            }
-            line.push_ratio(&coefficient)?;
-            line.push(b"*")?;
-            push_address(line, model, &at)?;
-        }
-    }
     let constant = function.constant();
-    if function.term_count() == 0 {
-        line.push_ratio(&constant)
-    } else if constant.is_zero() {
-        Ok(())
-    } else {
-        line.push(b" ")?;
-        line.push_ratio(&constant)
+    match function.terms().split_first() {
+        None => line.push_ratio(&constant),
+        Some((first, rest)) => {
+            push_term(line, model, first)?;
+            push_further_terms(line, model, rest)?;
+            push_further_constant(line, &constant)
+        }
     }
 }
 
+/// Each term after a space.
+fn push_further_terms(
+    line: &mut Line,
+    model: &UserModel,
+    terms: &[(Address, Ratio)],
+) -> Result<(), Memory>
+    ensures { OnOk result (line.new ≡ line.old ++ flat_map spaced (map (term_text model.now) terms.now)) }
+{
+    for term in terms {
+        line.push(b" ")?;
+        push_term(line, model, term)?;
+    }
+    Ok(())
+}
+
+/// The constant after a space, where it isn't zero.
+fn push_further_constant(line: &mut Line, constant: &Ratio) -> Result<(), Memory>
+    ensures { OnOk result (line.new ≡ line.old ++ flat_map spaced (constant_texts constant.now)) }
+{
+    if constant.is_zero() {
+        return Ok(());
+    }
+    line.push(b" ")?;
+    line.push_ratio(constant)
+}
+
+#[tactic(auto, using(std::proofs::lemmas::List::append_assoc))]
+fn push_term(line: &mut Line, model: &UserModel, term: &(Address, Ratio)) -> Result<(), Memory>
+    ensures { OnOk result (line.new ≡ line.old ++ term_text model.now term.now) }
+{
+    let (at, coefficient) = term;
+    line.push_ratio(coefficient)?;
+    line.push(b"*")?;
+    push_address(line, model, at)
+}
+
 /// The root with its name, and a point and each position.
+#[tactic(auto, using(std::proofs::lemmas::List::append_assoc), unfolding(crate::specs::Printed::address_text))]
 fn push_address(line: &mut Line, model: &UserModel, at: &Address) -> Result<(), Memory>
     ensures { OnOk result (line.new ≡ line.old ++ address_text model.now at.now) }
 {
     push_root(line, model, at.kind(), at.number())?;
-    for position in at.positions() {
+    push_positions(line, at.positions())
+}
+
+fn push_positions(line: &mut Line, positions: &[u16]) -> Result<(), Memory>
+    ensures { OnOk result (line.new ≡ line.old ++ flat_map position_text positions.now) }
+{
+    for position in positions {
         line.push(b".")?;
         line.push_number(u128::from(*position))?;
     }
