@@ -4,13 +4,14 @@ use Rattle.std.specs.Option.{option_map_or}
 use Rattle.std.proofs.lemmas.Result.{IfOk-weaker, on_ok_weaker, on_err_weaker}
 use Rattle.ratio_core.specs.declared.fault.Memory.{Memory}
 use Rattle.edit_engine.specs.declared.answer.Answer.{Answer}
+use Rattle.edit_engine.specs.declared.answer.Answer.TheVariants as answer
 use Rattle.edit_engine.specs.declared.command.Command.{Command}
 use Rattle.edit_engine.specs.declared.command.Command.TheVariants.{Silent, AddVariable, AddRow, DeleteRow, Attach, Bridged, Quit}
 use Rattle.edit_engine.specs.declared.refusal.Refusal.{Refusal}
 use Rattle.edit_engine.specs.declared.refusal.Refusal.TheVariants.{AlreadyAttached}
 use Rattle.edit_engine.specs.Leaves.{Leaves, fresh, changed, no_leaves}
 use Rattle.edit_engine.specs.Model.{UserModel}
-use Rattle.edit_engine.specs.Script.{State, IsBridged, IsBetween, IsBridgedAnew, Steps, accepted_answer, accepted_state, answer_to_command, changes, done_answer, edited, refusal_of, refused_answer, state_after_command, with_model}
+use Rattle.edit_engine.specs.Script.{State, IsBridged, IsBetween, IsBridgedAnew, OnAnswered, OnMemory, Steps, accepted_answer, accepted_state, answer_to_command, changes, done_answer, edited, refusal_of, refused_answer, state_after_command, with_model}
 
 -- ---- a refused line
 
@@ -109,3 +110,56 @@ attaches old detached result new state answer err =
       state = on_ok_weaker result (λ e. e ∙ sym (accepted_leaves old Attach none)) state;
       memory = on_err_weaker result inl err;
     }
+
+-- what prints the solver's model, or is refused, leaves the state
+pub asks : (old : State) (result : Result Answer Memory) → IfOk result (λ a. a ≡ answer_to_command old (Some Bridged)) → Steps old (Some Bridged) result old
+unfolding accepted_state
+asks old result answered = record {
+  answer = answered;
+  state = IfOk-weaker result _ _ (λ a e. by (is_some (refusal_of old Bridged))) answered;
+  memory = on_err result;
+}
+  where
+    by : (b : Bool) → old ≡ cond b old old
+    by true = refl
+    by false = refl
+
+    on_err : (r : Result Answer Memory) → OnErr r (IsBetween old (state_after_command old (Some Bridged)) old)
+    on_err (Ok a) = tt
+    on_err (Err e) = inl refl
+
+pub says_nothing : (old : State) → Steps old (Some Silent) (Ok answer.Silent) old
+unfolding accepted_state accepted_answer
+says_nothing old = record { answer = refl; state = refl; memory = tt }
+
+pub ends : (old : State) → Steps old (Some Quit) (Ok answer.Quit) old
+unfolding accepted_state accepted_answer
+ends old = record { answer = refl; state = refl; memory = tt }
+
+-- ---- answers
+
+-- no answer of the machine is want of memory
+pub never_memory : (old : State) (command : Option Command) (P : Type 0) → OnMemory (answer_to_command old command) P
+unfolding accepted_answer
+never_memory old None P = tt
+never_memory old (Some command) P = by (refusal_of old command)
+  where
+    accepted : (command : Command) → OnMemory (accepted_answer old command) P
+    accepted Silent = tt
+    accepted Quit = tt
+    accepted Bridged = tt
+    accepted Attach = tt
+    accepted (AddVariable name) = tt
+    accepted (AddRow row) = tt
+    accepted (DeleteRow name) = tt
+
+    by : (r : Option Refusal) → OnMemory (option_map_or refused_answer r (accepted_answer old command)) P
+    by None = accepted command
+    by (Some refusal) = tt
+
+pub on_answered : {P : Type 0} (a : Answer) → P → OnAnswered a P
+on_answered answer.Silent h = h
+on_answered (answer.Printed text) h = h
+on_answered (answer.Refused text) h = h
+on_answered answer.Quit h = h
+on_answered answer.Memory h = tt
