@@ -1,0 +1,55 @@
+//! What a program writes to.
+ghost use Rattle.std.specs.Prelude.{◌≡◌, ℕ, ◌<◌, ◌≤◌, List, Option, length, take, IfOk, OnErr, IsErrOf};
+ghost use Rattle.io_face.specs.Fault.{HasFaulted};
+ghost use Rattle.io_face.specs.Sink.{Adds};
+ghost use Rattle.io_face.specs.declared.sink.SinkFault.TheVariants.{Memory};
+
+use std::alloc::AllocError;
+use std::error::Error;
+use std::fmt;
+
+/// A write failed, or found no memory, and took nothing.
+#[derive(Clone, Copy, Debug, PartialEq, Eq)]
+pub enum SinkFault {
+    Failed,
+    Memory,
+}
+
+impl fmt::Display for SinkFault {
+    fn fmt<W: fmt::Write>(&self, f: &mut fmt::Formatter<W>) -> fmt::Result {
+        match self {
+            SinkFault::Failed => write!(f, "writing failed"),
+            SinkFault::Memory => write!(f, "out of memory"),
+        }
+    }
+}
+
+impl Error for SinkFault {}
+
+impl From<AllocError> for SinkFault {
+    ghost from_gives = { λ _ fault. fault ≡ Memory };
+
+    fn from(_error: AllocError) -> SinkFault {
+        SinkFault::Memory
+    }
+}
+
+pub trait Sink {
+    /// The bytes written so far, where the sink tells them.
+    ghost written: { Self → Option (List ℕ) };
+
+    /// How many writes failed for another cause than memory; it stands still at `u64::MAX`.
+    ghost faults: { Self → ℕ };
+
+    /// Takes bytes from the front of `piece`, at least one where there is one, and returns how many.
+    fn write(&mut self, piece: &[u8]) -> Result<usize, SinkFault>
+        ensures within { IfOk result (λ n. n ≤ length piece.now) }
+        ensures progress { IfOk result (λ n. 0 < length piece.now → 0 < n) }
+        ensures added { IfOk result (λ n. Adds (written self.old) (written self.new) (take n piece.now)) }
+        ensures failed { OnErr result (written self.new ≡ written self.old) }
+        ensures count { faults self.old ≤ faults self.new }
+        ensures cause { IsErrOf result SinkFault.Failed → HasFaulted (faults self.old) (faults self.new) };
+
+    fn faults(&self) -> u64
+        ensures { result ≡ faults self.now };
+}
