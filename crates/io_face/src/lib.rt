@@ -4,8 +4,19 @@
 //! such a source and sink speak of texts; over one that tells nothing they speak of faults alone.
 #![tactic(auto)]
 
+pub mod calls;
+pub mod mem_sink;
+pub mod mem_source;
+mod schedule;
 pub mod sink;
 pub mod source;
+pub mod sure_sink;
+pub mod sure_source;
 
+pub use calls::Calls;
+pub use mem_sink::MemSink;
+pub use mem_source::MemSource;
 pub use sink::{Sink, SinkFault};
 pub use source::{Failed, Source};
+pub use sure_sink::SureSink;
+pub use sure_source::SureSource;
