@@ -4,3 +4,4 @@ pub mod Sink
 pub mod Plan
 pub mod MemSource
 pub mod MemSink
+pub mod Adapter

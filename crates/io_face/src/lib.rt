@@ -7,9 +7,12 @@
 pub mod calls;
 pub mod mem_sink;
 pub mod mem_source;
+mod retry;
 mod schedule;
 pub mod sink;
 pub mod source;
+pub mod std_in;
+pub mod std_out;
 pub mod sure_sink;
 pub mod sure_source;
 
@@ -18,5 +21,7 @@ pub use mem_sink::MemSink;
 pub use mem_source::MemSource;
 pub use sink::{Sink, SinkFault};
 pub use source::{Failed, Source};
+pub use std_in::StdIn;
+pub use std_out::StdOut;
 pub use sure_sink::SureSink;
 pub use sure_source::SureSource;

@@ -1,0 +1,67 @@
+//! Standard output as a sink.
+ghost use Rattle.std.specs.Prelude.{◌≡◌, ℕ, ◌<◌, ◌≤◌, List, Option, None, length, take, IfOk, OnOk, OnErr, IsErrOf, IsOkUnless};
+ghost use Rattle.std.specs.Io.KnownBytes.{WriteAppends};
+ghost use Rattle.io_face.specs.Fault.{HasFaulted};
+ghost use Rattle.io_face.specs.Sink.{Adds};
+
+use super::retry::write_retrying;
+use super::sink::{Sink, SinkFault};
+use std::io::Write;
+use std::marker::Model;
+
+/// A writer of the system, as `rt.stdout()`. It tells nothing of what is written. A write that takes
+/// none of the bytes of a piece is a fault.
+#[derive(Drop)]
+pub struct StdOut<W> {
+    writer: W,
+    faults: u64,
+}
+
+impl<W> Model for StdOut<W> {
+    ghost use Rattle.io_face.specs.Adapter.{Adapter};
+
+    ghost Value = { Adapter W };
+
+    ghost view = { λ s. record { inner = s.writer; faults = s.faults } };
+}
+
+impl<W> StdOut<W> {
+    pub fn new(writer: W) -> StdOut<W>
+        ensures { result ≡ record { inner = writer; faults = 0 } }
+    {
+        StdOut { writer, faults: 0 }
+    }
+}
+
+impl<W: Write> Sink for StdOut<W> {
+    ghost written = { λ _. None };
+
+    ghost faults = { λ s. s.faults };
+
+    fn write(&mut self, piece: &[u8]) -> Result<usize, SinkFault>
+        // As for any sink.
+        ensures within { IfOk result (λ n. n ≤ length piece.now) }
+        ensures progress { IfOk result (λ n. 0 < length piece.now → 0 < n) }
+        ensures added { IfOk result (λ n. Adds None None (take n piece.now)) }
+        ensures failed { OnErr result (◌≡◌ {A = Option (List ℕ)} None None) }
+        ensures count { self.old.faults ≤ self.new.faults }
+        ensures cause { IsErrOf result SinkFault.Failed → HasFaulted self.old.faults self.new.faults }
+
+        // Over a writer that tells its bytes, each is written once.
+        ensures bytes { WriteAppends (W.contents self.old.inner) (W.contents self.new.inner) result piece.now }
+        ensures no_memory { IsOkUnless result SinkFault.Failed }
+        ensures sound { OnOk result (self.new.faults ≡ self.old.faults) }
+    {
+        match write_retrying(&mut self.writer, piece) {
+            Ok(count) if count > 0 || piece.is_empty() => Ok(count),
+            _ => {
+                self.faults = self.faults.saturating_add(1);
+                Err(SinkFault::Failed)
+            }
+        }
+    }
+
+    fn faults(&self) -> u64 {
+        self.faults
+    }
+}
