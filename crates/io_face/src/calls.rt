@@ -74,3 +74,25 @@ impl From<Calls> for Vec<u64> {
         calls.numbers
     }
 }
+
+#[cfg(test)]
+mod tests {
+    use super::*;
+    use std::test::Fail;
+
+    #[test]
+    fn keeps_numbers_in_order(rt: HostRuntime) -> Result<(), Fail> {
+        let mut calls = Calls::new(rt.alloc());
+        assert!(rt; calls.is_empty());
+        calls.push(2)?;
+        calls.push(5)?;
+        assert_eq!(rt; (calls.len(), calls.is_empty()), (2, false));
+        assert_eq!(rt; (calls.get(1), calls.get(2)), (Some(5), None));
+        assert_eq!(rt; (calls.contains(5), calls.contains(3)), (true, false));
+        let numbers: Vec<u64> = calls.into();
+        assert_eq!(rt; numbers.as_slice(), [2, 5].as_slice());
+        let again = Calls::from(numbers);
+        assert_eq!(rt; again.get(0), Some(2));
+        Ok(())
+    }
+}

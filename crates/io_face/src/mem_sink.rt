@@ -85,3 +85,27 @@ impl Sink for MemSink {
         self.schedule.faults()
     }
 }
+
+#[cfg(test)]
+mod tests {
+    use super::*;
+    use std::test::Fail;
+
+    #[test]
+    fn takes_parts_and_fails_at_the_listed_calls(rt: HostRuntime) -> Result<(), Fail> {
+        let fails = vec![in rt.alloc(); 2u64]?;
+        let mut sink = MemSink::new(rt.alloc(), 2, fails.into());
+        for (piece, want, faults, written) in [
+            (b"hello".as_slice(), Ok(2), 0, b"he".as_slice()),
+            (b"llo", Err(SinkFault::Failed), 1, b"he"),
+            (b"llo", Ok(2), 1, b"hell"),
+            (b"", Ok(0), 1, b"hell"),
+            (b"o", Ok(1), 1, b"hello"),
+        ] {
+            assert_eq!(rt; sink.write(piece), want);
+            assert_eq!(rt; sink.faults(), faults);
+            assert_eq!(rt; sink.written(), written);
+        }
+        Ok(())
+    }
+}

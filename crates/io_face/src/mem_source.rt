@@ -78,3 +78,32 @@ impl Source for MemSource {
         self.schedule.faults()
     }
 }
+
+#[cfg(test)]
+mod tests {
+    use super::*;
+    use std::test::Fail;
+
+    #[test]
+    fn gives_pieces_and_fails_at_the_listed_calls(rt: HostRuntime) -> Result<(), Fail> {
+        let fails = vec![in rt.alloc(); 1u64, 3]?;
+        let mut source = MemSource::new(b"hello".to_vec(rt.alloc())?, 2, fails.into());
+        for (want, faults) in [
+            (Err(Failed), 1),
+            (Ok(b"he".as_slice()), 1),
+            (Err(Failed), 2),
+            (Ok(b"ll"), 2),
+            (Ok(b"o"), 2),
+            (Ok(b""), 2),
+        ] {
+            let mut into = [0u8; 3];
+            let outcome = source.read(&mut into);
+            match (outcome, want) {
+                (Ok(count), Ok(bytes)) => assert_eq!(rt; &into[..count], bytes),
+                (outcome, want) => assert_eq!(rt; outcome.is_err(), want.is_err()),
+            }
+            assert_eq!(rt; source.faults(), faults);
+        }
+        Ok(())
+    }
+}

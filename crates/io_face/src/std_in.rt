@@ -63,3 +63,48 @@ impl<R: Read> Source for StdIn<R> {
         self.faults
     }
 }
+
+#[cfg(test)]
+mod tests {
+    use super::*;
+    use std::io;
+    use std::io::ErrorKind;
+    use std::test::Fail;
+
+    /// Is interrupted, gives two bytes, fails, and is at its end.
+    #[derive(Drop)]
+    struct Wire {
+        calls: u8,
+    }
+
+    impl Read for Wire {
+        fn read(&mut self, into: &mut [u8]) -> io::Result<usize> {
+            self.calls = self.calls.saturating_add(1);
+            match self.calls {
+                1 => Err(ErrorKind::Interrupted.into()),
+                2 if into.len() >= 2 => {
+                    into[..2].copy_from_slice(b"hi");
+                    Ok(2)
+                }
+                3 => Err(ErrorKind::Other.into()),
+                _ => Ok(0),
+            }
+        }
+    }
+
+    #[test]
+    fn reads_on_after_a_signal_and_counts_faults(rt: HostRuntime) -> Result<(), Fail> {
+        let mut input = StdIn::new(Wire { calls: 0 });
+        for (want, faults) in [(Ok(b"hi".as_slice()), 0), (Err(Failed), 1), (Ok(b""), 1)] {
+            let mut into = [0u8; 4];
+            let outcome = input.read(&mut into);
+            match (outcome, want) {
+                (Ok(count), Ok(bytes)) => assert_eq!(rt; &into[..count], bytes),
+                (outcome, want) => assert_eq!(rt; outcome.is_err(), want.is_err()),
+            }
+            assert_eq!(rt; input.faults(), faults);
+        }
+        assert_eq!(rt; StdIn::new(rt.stdin()).read(&mut []), Ok(0));
+        Ok(())
+    }
+}

@@ -65,3 +65,48 @@ impl<W: Write> Sink for StdOut<W> {
         self.faults
     }
 }
+
+#[cfg(test)]
+mod tests {
+    use super::*;
+    use std::io;
+    use std::io::ErrorKind;
+    use std::test::Fail;
+
+    /// Is interrupted, takes a byte, then none, and fails.
+    #[derive(Drop)]
+    struct Wire {
+        calls: u8,
+    }
+
+    impl Write for Wire {
+        fn write(&mut self, piece: &[u8]) -> io::Result<usize> {
+            self.calls = self.calls.saturating_add(1);
+            match self.calls {
+                1 => Err(ErrorKind::Interrupted.into()),
+                2 => Ok(piece.len().min(1)),
+                3 => Ok(0),
+                _ => Err(ErrorKind::BrokenPipe.into()),
+            }
+        }
+
+        fn flush(&mut self) -> io::Result<()> {
+            Ok(())
+        }
+    }
+
+    #[test]
+    fn writes_on_after_a_signal_and_counts_faults(rt: HostRuntime) -> Result<(), Fail> {
+        let mut output = StdOut::new(Wire { calls: 0 });
+        for (want, faults) in [
+            (Ok(1), 0),
+            (Err(SinkFault::Failed), 1),
+            (Err(SinkFault::Failed), 2),
+        ] {
+            assert_eq!(rt; output.write(b"hi"), want);
+            assert_eq!(rt; output.faults(), faults);
+        }
+        assert_eq!(rt; StdOut::new(rt.stdout()).write(b""), Ok(0));
+        Ok(())
+    }
+}

@@ -62,3 +62,24 @@ impl Sink for SureSink {
         0
     }
 }
+
+#[cfg(test)]
+mod tests {
+    use super::*;
+    use std::test::Fail;
+
+    #[test]
+    fn takes_each_piece_whole(rt: HostRuntime) -> Result<(), Fail> {
+        let mut sink = SureSink::new(rt.alloc());
+        for (piece, want) in [
+            (b"hel".as_slice(), b"hel".as_slice()),
+            (b"", b"hel"),
+            (b"lo", b"hello"),
+        ] {
+            assert_eq!(rt; sink.write(piece)?, piece.len());
+            assert_eq!(rt; sink.written(), want);
+        }
+        assert_eq!(rt; sink.faults(), 0);
+        Ok(())
+    }
+}
