@@ -1,6 +1,39 @@
 -- Reads, one after another.
-use Rattle.std.proofs.Common.{◌≡◌, ℕ, ◌+◌, ◌≤◌, List, ◌++◌, length, take, drop, refl, sym, ◌∙◌, ap, arith}
-use Rattle.std.proofs.lemmas.List.{take-append-drop, take_at, drop-drop}
+use Rattle.std.proofs.Common.{◌≡◌, ℕ, ◌+◌, ◌≤◌, List, [], ◌++◌, length, take, drop, refl, sym, ◌∙◌, ap, arith, append_assoc, length-append, Some, None}
+use Rattle.std.specs.Prelude.{Option, option_map}
+use Rattle.std.proofs.lemmas.List.{take-append-drop, take_at, drop_at, drop-drop}
+use Rattle.io_face.specs.Source.{Takes}
+
+-- a read of nothing
+pub Takes-empty : (left : Option (List ℕ)) → Takes left left []
+Takes-empty None = refl
+Takes-empty (Some bytes) = refl
+
+-- two reads took one text after the other
+pub Takes-append : (first second third : Option (List ℕ)) (s t : List ℕ)
+    → Takes first second s → Takes second third t → Takes first third (s ++ t)
+Takes-append first second None s t p q = rw q at p
+Takes-append first second (Some rest) s t p q = (rw q at p) ∙ ap Some (sym (append_assoc s t rest))
+
+-- what is told stays told, and began with the text
+pub Takes-told : (bytes : List ℕ) (new : Option (List ℕ)) (text : List ℕ)
+    → Takes (Some bytes) new text → (rest : List ℕ) × (new ≡ Some rest) × (bytes ≡ text ++ rest)
+Takes-told bytes None text p = cc
+Takes-told bytes (Some rest) text p = (rest, refl, cc)
+
+-- what is left now is what was left without its front
+pub Takes-drop : (old new : Option (List ℕ)) (text : List ℕ)
+    → Takes old new text → new ≡ option_map (drop (length text)) old
+Takes-drop old None text p = rw p refl
+Takes-drop old (Some rest) text p = rw p (ap Some (sym (drop_at text rest (length text) refl)))
+
+-- the text is the front of what was left
+pub Takes-take : (bytes : List ℕ) (new : Option (List ℕ)) (text : List ℕ)
+    → Takes (Some bytes) new text → (length text ≤ length bytes) × (text ≡ take (length text) bytes)
+Takes-take bytes None text p = cc
+Takes-take bytes (Some rest) text p =
+    let e : bytes ≡ text ++ rest = cc in
+    rw e (omega (arith, length-append text rest), sym (take_at text rest (length text) refl))
 
 -- a part that was copied from the place `at`, and what lies behind it there, are what began there
 pub copied_front : (bytes given rest : List ℕ) (at n : ℕ) → length given ≡ n → given ≡ take n (drop at bytes)

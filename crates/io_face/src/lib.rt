@@ -15,6 +15,7 @@ pub mod std_in;
 pub mod std_out;
 pub mod sure_sink;
 pub mod sure_source;
+pub mod write_all;
 
 pub use calls::Calls;
 pub use mem_sink::MemSink;
