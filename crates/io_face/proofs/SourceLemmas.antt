@@ -1,6 +1,7 @@
 -- Reads, one after another.
-use Rattle.std.proofs.Common.{◌≡◌, ℕ, ◌+◌, ◌≤◌, List, [], ◌++◌, length, take, drop, refl, sym, ◌∙◌, ap, arith, append_assoc, length-append, Some, None}
-use Rattle.std.specs.Prelude.{Option, option_map}
+use Rattle.std.proofs.Common.{◌≡◌, ℕ, ◌+◌, ◌≤◌, List, [], ◌++◌, length, take, drop, refl, sym, ◌∙◌, ap, arith, append_assoc, append-nil, length-append, Some, None}
+use Rattle.std.specs.Prelude.{Option, option_map, IfSome}
+use Rattle.std.specs.Io.KnownBytes.{IsAtEnd}
 use Rattle.std.proofs.lemmas.List.{take-append-drop, take_at, drop_at, drop-drop}
 use Rattle.io_face.specs.Source.{Takes}
 
@@ -34,6 +35,15 @@ Takes-take bytes None text p = cc
 Takes-take bytes (Some rest) text p =
     let e : bytes ≡ text ++ rest = cc in
     rw e (omega (arith, length-append text rest), sym (take_at text rest (length text) refl))
+
+-- at the end of the input everything was taken
+pub Takes-all : (old new : Option (List ℕ)) (text : List ℕ)
+    → Takes old new text → IsAtEnd new → IfSome old (λ bytes. bytes ≡ text)
+Takes-all None new text p end = tt
+Takes-all (Some bytes) None text p end = cc
+Takes-all (Some bytes) (Some rest) text p end =
+    let e : bytes ≡ text ++ rest = cc in
+    e ∙ (rw end (append-nil text))
 
 -- a part that was copied from the place `at`, and what lies behind it there, are what began there
 pub copied_front : (bytes given rest : List ℕ) (at n : ℕ) → length given ≡ n → given ≡ take n (drop at bytes)

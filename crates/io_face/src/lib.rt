@@ -15,12 +15,11 @@ pub mod std_in;
 pub mod std_out;
 pub mod sure_sink;
 pub mod sure_source;
-pub mod write_all;
 
 pub use calls::Calls;
 pub use mem_sink::MemSink;
 pub use mem_source::MemSource;
-pub use sink::{Sink, SinkFault};
+pub use sink::{Sink, SinkFault, write_all};
 pub use source::{Failed, Source};
 pub use std_in::StdIn;
 pub use std_out::StdOut;

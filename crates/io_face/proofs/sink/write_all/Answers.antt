@@ -2,7 +2,7 @@
 use Rattle.std.proofs.Common.{rules, arith}
 use Rattle.std.proofs.lemmas.Grind.{common_steps}
 use Rattle.io_face.proofs.SinkLemmas.{Adds-next}
-use Rattle.io_face.proofs.write_all.write_all.Goals as goal
+use Rattle.io_face.proofs.sink.write_all.Goals as goal
 
 pub loop-done-preserved : goal.loop-done-preserved
 loop-done-preserved g c = record {

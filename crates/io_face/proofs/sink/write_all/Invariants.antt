@@ -1,7 +1,7 @@
 -- The sink has the first `done` bytes of the text.
 use Rattle.std.proofs.Common.{ℕ, ◌≤◌, ◌-◌, length, take}
 use Rattle.io_face.specs.Sink.{Adds}
-use Rattle.io_face.proofs.write_all.write_all.Given as goal
+use Rattle.io_face.proofs.sink.write_all.Given as goal
 
 abbrev pub invariant-loop-done : goal.invariant-loop-done
 invariant-loop-done g l = record {
