@@ -1,5 +1,5 @@
 //! A sink in memory that fails at chosen calls.
-ghost use Rattle.std.specs.Prelude.{◌≡◌, ℕ, ◌<◌, ◌≤◌, ◌↔◌, ◌++◌, List, [], Some, length, take, min, IfOk, OnErr, IsErrOf};
+ghost use Rattle.std.specs.Prelude.{◌≡◌, ◌<◌, ◌≤◌, ◌↔◌, [], Some, length, take, min, IfOk, OnErr, IsErrOf};
 ghost use Rattle.io_face.specs.Fault.{HasFaulted};
 ghost use Rattle.io_face.specs.Sink.{Adds};
 ghost use Rattle.io_face.specs.Plan.{IsFailing};

@@ -1,5 +1,5 @@
 //! Which calls of an object in memory fail.
-ghost use Rattle.std.specs.Prelude.{◌≡◌, ◌↔◌, ◌≤◌, [], IsTrue, if◌then◌else◌};
+ghost use Rattle.std.specs.Prelude.{◌≡◌, ◌↔◌, ◌≤◌, IsTrue, if◌then◌else◌};
 ghost use Rattle.io_face.specs.Plan.{Plan, IsFailing, after_success, after_failure};
 
 use super::calls::Calls;

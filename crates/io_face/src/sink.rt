@@ -34,11 +34,12 @@ impl From<AllocError> for SinkFault {
     }
 }
 
+/// What bytes are written to. A write that fails takes none, and is counted unless memory ran out.
 pub trait Sink {
     /// The bytes written so far, where the sink tells them.
     ghost written: { Self → Option (List ℕ) };
 
-    /// How many writes failed for another cause than memory; it stands still at `u64::MAX`.
+    /// The count that `faults` gives.
     ghost faults: { Self → ℕ };
 
     /// Takes bytes from the front of `piece`, at least one where there is one, and returns how many.
@@ -50,6 +51,7 @@ pub trait Sink {
         ensures count { faults self.old ≤ faults self.new }
         ensures cause { IsErrOf result SinkFault.Failed → HasFaulted (faults self.old) (faults self.new) };
 
+    /// How many writes failed for another cause than memory; `u64::MAX` stands for more too.
     fn faults(&self) -> u64
         ensures { result ≡ faults self.now };
 }

@@ -7,7 +7,7 @@ ghost use Rattle.io_face.specs.Source.{Takes};
 use std::error::Error;
 use std::fmt;
 
-/// A read or a fetch failed, and took nothing.
+/// A read failed, and took nothing.
 #[derive(Clone, Copy, Debug, PartialEq, Eq)]
 pub struct Failed;
 
@@ -19,11 +19,12 @@ impl fmt::Display for Failed {
 
 impl Error for Failed {}
 
+/// What bytes are read from. A read that fails takes none, and is counted.
 pub trait Source {
     /// The bytes that reads are still to give, where the source tells them.
     ghost left: { Self → Option (List ℕ) };
 
-    /// How many reads failed; it stands still at `u64::MAX`.
+    /// The count that `faults` gives.
     ghost faults: { Self → ℕ };
 
     /// Takes bytes from the front of those left, puts them at the front of `into` and returns how
@@ -36,6 +37,7 @@ pub trait Source {
         ensures count { faults self.old ≤ faults self.new }
         ensures cause { OnErr result (HasFaulted (faults self.old) (faults self.new)) };
 
+    /// How many reads failed; `u64::MAX` stands for more too.
     fn faults(&self) -> u64
         ensures { result ≡ faults self.now };
 }

@@ -1,5 +1,5 @@
 -- The sink has the first `done` bytes of the text.
-use Rattle.std.proofs.Common.{ℕ, ◌≤◌, ◌-◌, length, take}
+use Rattle.std.proofs.Common.{◌≤◌, ◌-◌, length, take}
 use Rattle.io_face.specs.Sink.{Adds}
 use Rattle.io_face.proofs.sink.write_all.Given as goal
 
