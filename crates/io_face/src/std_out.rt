@@ -1,8 +1,7 @@
 //! Standard output as a sink.
-ghost use Rattle.std.specs.Prelude.{◌≡◌, ℕ, ◌<◌, ◌≤◌, List, Option, None, length, take, IfOk, OnOk, OnErr, IsErrOf, IsOkUnless};
+ghost use Rattle.std.specs.Prelude.{◌≡◌, ◌<◌, ◌≤◌, None, length, IfOk, OnOk, OnErr, IsOkUnless};
 ghost use Rattle.std.specs.Io.KnownBytes.{WriteAppends};
-ghost use Rattle.io_face.specs.Fault.{HasFaulted};
-ghost use Rattle.io_face.specs.Sink.{Adds};
+ghost use Rattle.io_face.specs.Fault.{next_count};
 
 use super::retry::write_retrying;
 use super::sink::{Sink, SinkFault};
@@ -42,15 +41,13 @@ impl<W: Write> Sink for StdOut<W> {
         // As for any sink.
         ensures within { IfOk result (λ n. n ≤ length piece.now) }
         ensures progress { IfOk result (λ n. 0 < length piece.now → 0 < n) }
-        ensures added { IfOk result (λ n. Adds None None (take n piece.now)) }
-        ensures failed { OnErr result (◌≡◌ {A = Option (List ℕ)} None None) }
         ensures count { self.old.faults ≤ self.new.faults }
-        ensures cause { IsErrOf result SinkFault.Failed → HasFaulted self.old.faults self.new.faults }
 
         // Over a writer that tells its bytes, each is written once.
         ensures bytes { WriteAppends (W.contents self.old.inner) (W.contents self.new.inner) result piece.now }
         ensures no_memory { IsOkUnless result SinkFault.Failed }
-        ensures sound { OnOk result (self.new.faults ≡ self.old.faults) }
+        ensures no_fault { OnOk result (self.new.faults ≡ self.old.faults) }
+        ensures fault { OnErr result (self.new.faults ≡ next_count self.old.faults) }
     {
         match write_retrying(&mut self.writer, piece) {
             Ok(count) if count > 0 || piece.is_empty() => Ok(count),

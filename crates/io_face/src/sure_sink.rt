@@ -1,7 +1,5 @@
 //! A sink in memory that never fails.
-ghost use Rattle.std.specs.Prelude.{◌≡◌, ℕ, ◌<◌, ◌≤◌, ◌++◌, List, [], Some, length, take, IfOk, OnOk, OnErr, IsErrOf, IsOkUnless};
-ghost use Rattle.io_face.specs.Fault.{HasFaulted};
-ghost use Rattle.io_face.specs.Sink.{Adds};
+ghost use Rattle.std.specs.Prelude.{◌≡◌, ℕ, ◌++◌, List, [], Some, length, IfOk, OnOk, OnErr, IsOkUnless};
 
 use super::sink::{Sink, SinkFault};
 use std::alloc::Global;
@@ -41,17 +39,10 @@ impl Sink for SureSink {
     ghost faults = { λ _. 0 };
 
     fn write(&mut self, piece: &[u8]) -> Result<usize, SinkFault>
-        // As for any sink.
-        ensures within { IfOk result (λ n. n ≤ length piece.now) }
-        ensures progress { IfOk result (λ n. 0 < length piece.now → 0 < n) }
-        ensures added { IfOk result (λ n. Adds (Some self.old) (Some self.new) (take n piece.now)) }
-        ensures failed { OnErr result (Some self.new ≡ Some self.old) }
-        ensures count { 0 ≤ 0 }
-        ensures cause { IsErrOf result SinkFault.Failed → HasFaulted 0 0 }
-
-        // The whole piece, unless memory runs out.
+        // It takes the whole piece, unless memory runs out.
         ensures sure { IsOkUnless result SinkFault.Memory }
         ensures whole { IfOk result (λ n. n ≡ length piece.now) }
+        ensures unchanged { OnErr result (self.new ≡ self.old) }
         ensures after { OnOk result (self.new ≡ self.old ++ piece.now) }
     {
         self.bytes.extend_from_slice(piece)?;

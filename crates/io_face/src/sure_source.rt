@@ -1,7 +1,5 @@
 //! A source in memory that never fails.
-ghost use Rattle.std.specs.Prelude.{◌≡◌, ℕ, ◌<◌, ◌≤◌, List, Some, length, take, drop, min, Ok, IfOk, OnErr};
-ghost use Rattle.std.specs.Io.KnownBytes.{IsAtEnd};
-ghost use Rattle.io_face.specs.Fault.{HasFaulted};
+ghost use Rattle.std.specs.Prelude.{◌≡◌, ℕ, ◌≤◌, List, Some, length, take, drop, min, Ok, IfOk};
 ghost use Rattle.io_face.specs.Source.{Takes};
 
 use super::source::{Failed, Source};
@@ -36,15 +34,9 @@ impl Source for SureSource {
     ghost faults = { λ _. 0 };
 
     fn read(&mut self, into: &mut [u8]) -> Result<usize, Failed>
-        // As for any source.
-        ensures within { IfOk result (λ n. n ≤ length into.old) }
         ensures taken { IfOk result (λ n. Takes (Some self.old) (Some self.new) (take n into.new)) }
-        ensures end { IfOk result (λ n. n ≡ 0 → 0 < length into.old → IsAtEnd (Some self.old)) }
-        ensures failed { OnErr result (Some self.new ≡ Some self.old) }
-        ensures count { 0 ≤ 0 }
-        ensures cause { OnErr result (HasFaulted 0 0) }
 
-        // As much as there is and fits.
+        // It gives as much as there is and fits.
         ensures sure { result ≡ Ok (min (length into.old) (length self.old)) }
         ensures rest { self.new ≡ drop (length into.old) self.old }
         ensures front { take (length self.old) into.new ≡ take (length into.old) self.old }
