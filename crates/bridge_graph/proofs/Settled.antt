@@ -1,5 +1,5 @@
 -- The kinds before any edge is used, one more settled kind, and the end.
-use Rattle.std.proofs.Common.{◌≡◌, ◌≢◌, ℕ, suc, zero, ◌+◌, ◌-◌, ◌*◌, ◌^◌, ◌<◌, ◌≤◌, ◌⊎◌, inl, inr, Bool, true, false, IsTrue, List, [], ◌∷◌, length, take, Option, Some, None, unwrap_or, slice_get, slice_set, refl, sym, ap, subst, ◌∙◌, arith, add-one, add-suc, add-zero, lit≤, if◌then◌else◌, slice_index_or}
+use Rattle.std.proofs.Common.{◌≡◌, ◌≢◌, ℕ, suc, zero, ◌+◌, ◌-◌, ◌*◌, ◌^◌, ◌<◌, ◌≤◌, ◌⊎◌, inl, inr, Bool, true, false, IsTrue, List, [], ◌∷◌, length, Option, Some, None, unwrap_or, slice_get, slice_set, refl, sym, ap, subst, ◌∙◌, arith, add-one, add-suc, add-zero, lit≤, if◌then◌else◌, slice_index_or}
 use Rattle.std.specs.Option.{option_and_then}
 use Rattle.std.specs.List.{count_by, list_all}
 use Rattle.std.proofs.lemmas.Grind.{common_steps}
@@ -13,10 +13,9 @@ use Rattle.bridge_graph.specs.declared.EdgeRow.{EdgeRow}
 use Rattle.bridge_graph.specs.declared.settling.Plan.{Plan}
 use Rattle.bridge_graph.specs.declared.settling.Plan.TheVariants.{Open, Native, By}
 use Rattle.bridge_graph.specs.declared.settling.Step.{Step}
-use Rattle.bridge_graph.specs.Table.{Table, children_of, IsSupported, IsUsable, IsCostly, is_edge_cost, has_kinds_below}
-use Rattle.bridge_graph.specs.Tree.{Tree, BeginsLeast}
+use Rattle.bridge_graph.specs.Hypergraph.{Hypergraph, children_of, IsCostly, is_edge_cost, has_kinds_below}
 use Rattle.bridge_graph.specs.Plan.{plan_at, cost_of, AreWithin, start_at, IsPlan}
-use Rattle.bridge_graph.specs.Candidate.{with_children, IsCandidate, IsCheapest}
+use Rattle.bridge_graph.specs.Candidate.{with_children, IsCheapest}
 use Rattle.bridge_graph.proofs.Trees.{IsPlanSoFar, IsSettling, IsStep, open_tree, best_of_step}
 
 abbrev pub is_open : Plan → Bool
@@ -56,13 +55,13 @@ at_set P plans kind plan within here others other = elim (same_or_other other ki
   | inr ne ↦ subst (P other) (sym (get_or-set_other plans kind other plan Open ne)) (others other ne)
 ]
 
-pub settle_one : {t : Table} {plans : List Plan} {step : Step} → IsSettling t plans → IsCostly t → IsCheapest t.edges t.costs t.on plans step → step.kind < length plans → IsSettling t (slice_set plans step.kind (By step.edge step.cost))
-settle_one {t} {plans} {step} settling costly cheapest within = record {
+pub settle_one : {graph : Hypergraph} {plans : List Plan} {step : Step} → IsSettling graph plans → IsCostly graph → IsCheapest graph.edges graph.costs graph.on plans step → step.kind < length plans → IsSettling graph (slice_set plans step.kind (By step.edge step.cost))
+settle_one {graph} {plans} {step} settling costly cheapest within = record {
   native = λ kind supported.
       let was = settling.native kind supported in
       let ne : kind ≢ step.kind = λ e. let f = ap (plan_at plans) e in absurd (cc (f, was, cheapest.candidate.is_open)) in
       get_or-set_other plans step.kind kind (By step.edge step.cost) Open ne ∙ was;
-  plan = at_set (IsPlanSoFar t) plans step.kind (By step.edge step.cost) within (best_of_step settling costly cheapest) (λ other ne. settling.plan other);
+  plan = at_set (IsPlanSoFar graph) plans step.kind (By step.edge step.cost) within (best_of_step settling costly cheapest) (λ other ne. settling.plan other);
 }
 
 pub open_count-set : (plans : List Plan) (kind edge cost : ℕ) → kind < length plans → plan_at plans kind ≡ Open → open_count (slice_set plans kind (By edge cost)) + 1 ≡ open_count plans
@@ -96,51 +95,51 @@ few_children n row all =
 edge_cost : (cost : ℕ) → is_edge_cost cost ≡ true → (1 ≤ cost) × (cost ≤ 1000)
 edge_cost cost all = (grind (arith, common_steps), grind (arith, common_steps))
 
-pub costly_from : (t : Table) → IsTrue (list_all is_edge_cost t.costs) → IsCostly t
-costly_from t costs edge cost is = (edge_cost cost (passes is_edge_cost t.costs edge cost costs is)).0
+pub costly_from : (graph : Hypergraph) → IsTrue (list_all is_edge_cost graph.costs) → IsCostly graph
+costly_from graph costs edge cost is = (edge_cost cost (passes is_edge_cost graph.costs edge cost costs is)).0
 
 three_at_most : (cost children limit : ℕ) → cost ≤ 1000 → children ≤ 3 → cost + children * limit ≤ 3 * limit + 1000
 three_at_most cost children limit small few = grind arith
 
-pub within_set : (t : Table) {plans : List Plan} {step : Step} (n : ℕ) → AreWithin plans (limit_of n) → IsStep t plans step → step.kind < length plans → IsTrue (list_all (has_kinds_below (length plans)) t.edges) → IsTrue (list_all is_edge_cost t.costs) → AreWithin (slice_set plans step.kind (By step.edge step.cost)) (limit_of (n + 1))
+pub within_set : (graph : Hypergraph) {plans : List Plan} {step : Step} (n : ℕ) → AreWithin plans (limit_of n) → IsStep graph plans step → step.kind < length plans → IsTrue (list_all (has_kinds_below (length plans)) graph.edges) → IsTrue (list_all is_edge_cost graph.costs) → AreWithin (slice_set plans step.kind (By step.edge step.cost)) (limit_of (n + 1))
 unfolding limit_of
-within_set t {plans} {step} n within c kind rows costs =
-    let small = (edge_cost c.cost (passes is_edge_cost t.costs step.edge c.cost costs c.usable.cost_is)).1 in
-    let few = few_children (length plans) c.row (passes (has_kinds_below (length plans)) t.edges step.edge c.row rows c.usable.row_is) in
+within_set graph {plans} {step} n within c kind rows costs =
+    let small = (edge_cost c.cost (passes is_edge_cost graph.costs step.edge c.cost costs c.usable.cost_is)).1 in
+    let few = few_children (length plans) c.row (passes (has_kinds_below (length plans)) graph.edges step.edge c.row rows c.usable.row_is) in
     let sum = total_within plans (limit_of n) within (children_of c.row) c.cost step.cost c.total in
     let here : step.cost ≤ limit_of (n + 1) = rw add-one (omega (arith, sum, three_at_most c.cost (length (children_of c.row)) (limit_of n) small few)) in
     at_set (λ k plan. unwrap_or (cost_of plan) 0 ≤ limit_of (n + 1)) plans step.kind (By step.edge step.cost) kind here
     (λ other ne. let was = within other in rw add-one (omega (arith, was)))
 
-pub within_step : (t : Table) {plans : List Plan} {step : Step} → AreWithin plans (limit_of (length plans - open_count plans)) → IsStep t plans step → step.kind < length plans → IsTrue (list_all (has_kinds_below (length plans)) t.edges) → IsTrue (list_all is_edge_cost t.costs) → AreWithin (slice_set plans step.kind (By step.edge step.cost)) (limit_of (length (slice_set plans step.kind (By step.edge step.cost)) - open_count (slice_set plans step.kind (By step.edge step.cost))))
-within_step t {plans} {step} within c kind rows costs =
+pub within_step : (graph : Hypergraph) {plans : List Plan} {step : Step} → AreWithin plans (limit_of (length plans - open_count plans)) → IsStep graph plans step → step.kind < length plans → IsTrue (list_all (has_kinds_below (length plans)) graph.edges) → IsTrue (list_all is_edge_cost graph.costs) → AreWithin (slice_set plans step.kind (By step.edge step.cost)) (limit_of (length (slice_set plans step.kind (By step.edge step.cost)) - open_count (slice_set plans step.kind (By step.edge step.cost))))
+within_step graph {plans} {step} within c kind rows costs =
     let after : List Plan = slice_set plans step.kind (By step.edge step.cost) in
     let one_less = open_count-set plans step.kind step.edge step.cost kind c.is_open in
     let at_most = count_by-le-length is_open after in
     let at_most_before = count_by-le-length is_open plans in
     let same : length after ≡ length plans = length-set plans step.kind (By step.edge step.cost) in
     let n : (length plans - open_count plans) + 1 ≡ length after - open_count after = omega (arith, one_less, at_most, at_most_before, same) in
-    subst (λ n. AreWithin after (limit_of n)) n (within_set t (length plans - open_count plans) within c kind rows costs)
+    subst (λ n. AreWithin after (limit_of n)) n (within_set graph (length plans - open_count plans) within c kind rows costs)
 
 -- where there is no step, an open kind has no tree
-all_settled : (t : Table) (plans : List Plan) (kind : ℕ) → IsSettling t plans → ((step : Step) → IsStep t plans step → ⊥) → (plan : Plan) → plan_at plans kind ≡ plan → IsPlanSoFar t kind plan → IsPlan t kind plan
-all_settled t plans kind settling no_step Open is right =
-    λ cost tree. let h : suc cost ≤ cost = open_tree t plans (suc cost) settling (λ step c. absurd (no_step step c)) tree is in absurd (omega arith)
-all_settled t plans kind settling no_step Native is right = right
-all_settled t plans kind settling no_step (By edge cost) is right = right
+all_settled : (graph : Hypergraph) (plans : List Plan) (kind : ℕ) → IsSettling graph plans → ((step : Step) → IsStep graph plans step → ⊥) → (plan : Plan) → plan_at plans kind ≡ plan → IsPlanSoFar graph kind plan → IsPlan graph kind plan
+all_settled graph plans kind settling no_step Open is right =
+    λ cost tree. let h : suc cost ≤ cost = open_tree graph plans (suc cost) settling (λ step c. absurd (no_step step c)) tree is in absurd (omega arith)
+all_settled graph plans kind settling no_step Native is right = right
+all_settled graph plans kind settling no_step (By edge cost) is right = right
 
-pub settled : {t : Table} {plans : List Plan} → IsSettling t plans → ((step : Step) → IsStep t plans step → ⊥) → (kind : ℕ) → IsPlan t kind (plan_at plans kind)
-settled {t} {plans} settling no_step kind = all_settled t plans kind settling no_step (plan_at plans kind) refl (settling.plan kind)
+pub settled : {graph : Hypergraph} {plans : List Plan} → IsSettling graph plans → ((step : Step) → IsStep graph plans step → ⊥) → (kind : ℕ) → IsPlan graph kind (plan_at plans kind)
+settled {graph} {plans} settling no_step kind = all_settled graph plans kind settling no_step (plan_at plans kind) refl (settling.plan kind)
 
-start_plan : (t : Table) (kind : ℕ) (is : Option Bool) → slice_get t.supported kind ≡ is → IsPlanSoFar t kind (if unwrap_or is false then Native else Open)
-start_plan t kind None e = tt
-start_plan t kind (Some true) e = e
-start_plan t kind (Some false) e = tt
+start_plan : (graph : Hypergraph) (kind : ℕ) (is : Option Bool) → slice_get graph.supported kind ≡ is → IsPlanSoFar graph kind (if unwrap_or is false then Native else Open)
+start_plan graph kind None e = tt
+start_plan graph kind (Some true) e = e
+start_plan graph kind (Some false) e = tt
 
-pub starts : {t : Table} {plans : List Plan} → ((kind : ℕ) → plan_at plans kind ≡ start_at t.supported kind) → IsSettling t plans
-starts {t} {plans} start = record {
-  native = λ kind supported. start kind ∙ ap (λ b. if b then Native else Open) (get_or_from_slice_get t.supported kind true false supported);
-  plan = λ kind. subst (IsPlanSoFar t kind) (ap (λ b. if b then Native else Open) (unwrap_or-slice_get t.supported kind false) ∙ sym (start kind)) (start_plan t kind (slice_get t.supported kind) refl);
+pub starts : {graph : Hypergraph} {plans : List Plan} → ((kind : ℕ) → plan_at plans kind ≡ start_at graph.supported kind) → IsSettling graph plans
+starts {graph} {plans} start = record {
+  native = λ kind supported. start kind ∙ ap (λ b. if b then Native else Open) (get_or_from_slice_get graph.supported kind true false supported);
+  plan = λ kind. subst (IsPlanSoFar graph kind) (ap (λ b. if b then Native else Open) (unwrap_or-slice_get graph.supported kind false) ∙ sym (start kind)) (start_plan graph kind (slice_get graph.supported kind) refl);
 }
 
 free : (b : Bool) (limit : ℕ) → unwrap_or (cost_of (if b then Native else Open)) 0 ≤ limit

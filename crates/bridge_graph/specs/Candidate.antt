@@ -4,7 +4,7 @@ use Rattle.bridge_graph.specs.declared.EdgeRow.{EdgeRow}
 use Rattle.bridge_graph.specs.declared.settling.Plan.{Plan}
 use Rattle.bridge_graph.specs.declared.settling.Plan.TheVariants.{Open}
 use Rattle.bridge_graph.specs.declared.settling.Step.{Step}
-use Rattle.bridge_graph.specs.Table.{children_of, IsUsable}
+use Rattle.bridge_graph.specs.Hypergraph.{children_of, IsUsable}
 use Rattle.bridge_graph.specs.Plan.{plan_at, cost_of}
 
 -- a total with the costs of these kinds, where each is settled

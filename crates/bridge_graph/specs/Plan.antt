@@ -1,8 +1,8 @@
 -- What is worked out for each kind.
-use Rattle.std.specs.Prelude.{◌≡◌, ℕ, ◌≤◌, Bool, true, false, List, Option, Some, None, unwrap_or, slice_index_or, if◌then◌else◌, ⊤}
+use Rattle.std.specs.Prelude.{ℕ, ◌≤◌, Bool, false, List, Option, Some, None, unwrap_or, slice_index_or, if◌then◌else◌}
 use Rattle.bridge_graph.specs.declared.settling.Plan.{Plan}
 use Rattle.bridge_graph.specs.declared.settling.Plan.TheVariants.{Open, Native, By}
-use Rattle.bridge_graph.specs.Table.{Table, IsSupported, IsCostly}
+use Rattle.bridge_graph.specs.Hypergraph.{Hypergraph, IsSupported, IsCostly}
 use Rattle.bridge_graph.specs.Tree.{IsTreeless, BeginsLeast}
 
 -- the plan of a kind, which is open past the end
@@ -10,15 +10,15 @@ abbrev pub plan_at : List Plan → ℕ → Plan
 plan_at plans kind = slice_index_or plans kind Open
 
 -- the plan says how the kind is reached at least cost
-abbrev pub IsPlan : Table → ℕ → Plan → Type 0
-IsPlan t kind Open = IsTreeless t kind
-IsPlan t kind Native = IsSupported t kind
-IsPlan t kind (By edge cost) = BeginsLeast t kind edge cost
+abbrev pub IsPlan : Hypergraph → ℕ → Plan → Type 0
+IsPlan graph kind Open = IsTreeless graph kind
+IsPlan graph kind Native = IsSupported graph kind
+IsPlan graph kind (By edge cost) = BeginsLeast graph kind edge cost
 
 -- each kind has its plan, and no edge is free
-pub record IsSolved (t : Table) (plans : List Plan) : Type 0 where
-  pub plan : (kind : ℕ) → IsPlan t kind (plan_at plans kind)
-  pub costly : IsCostly t
+pub record IsSolved (graph : Hypergraph) (plans : List Plan) : Type 0 where
+  pub plan : (kind : ℕ) → IsPlan graph kind (plan_at plans kind)
+  pub costly : IsCostly graph
 
 -- what reaching the kind costs, where that is known
 abbrev pub cost_of : Plan → Option ℕ

@@ -1,8 +1,9 @@
-//! Least-cost choice over a graph of kinds and edges.
+//! Least-cost choice over a hypergraph of kinds.
 //!
 //! A solver supports some kinds of function in set. Each edge rewrites an item of its source kind as items of its
-//! child kinds, at a cost. A tree of a kind is native, where the kind is supported, or an edge that is on with a
-//! tree for each child kind that it lists; its cost is the sum of its edges' costs.
+//! child kinds, at a cost. A tree of a kind is native, where the kind is supported, or an edge that is on with a tree
+//! for each child kind that it lists. A tree's cost is the sum of its edges' costs, so a child kind that is listed
+//! twice is paid twice.
 #![tactic(auto)]
 
 ghost use Rattle.std.specs.Prelude.{◌≡◌, ◌≤◌, ◌↔◌, ℕ, IsTrue, IsNone, IfSome};
@@ -36,7 +37,7 @@ pub enum Choice {
 
 /// The least-cost trees of `K` kinds over `E` edges.
 ///
-/// Clauses see the table that the graph was built from.
+/// Clauses see what the graph was built from.
 #[derive(Debug, Drop)]
 pub struct Graph<const K: usize, const E: usize> {
     edges: [EdgeRow; E],
@@ -47,22 +48,25 @@ pub struct Graph<const K: usize, const E: usize> {
 }
 
 impl<const K: usize, const E: usize> Model for Graph<K, E> {
-    ghost use Rattle.bridge_graph.specs.Table.{Table};
+    ghost use Rattle.bridge_graph.specs.Hypergraph.{Hypergraph, hypergraph_of};
     ghost use Rattle.bridge_graph.specs.Plan.{IsSolved};
 
-    ghost Value = { Table };
+    ghost Value = { Hypergraph };
 
-    ghost view = { λ g. record { edges = g.edges; costs = g.costs; supported = g.supported; on = g.on } };
+    ghost view = { λ g. hypergraph_of g.edges g.costs g.supported g.on };
 
-    ghost invariant = { λ g. IsSolved (record { edges = g.edges; costs = g.costs; supported = g.supported; on = g.on }) g.plans };
+    ghost invariant = { λ g. IsSolved (hypergraph_of g.edges g.costs g.supported g.on) g.plans };
 }
 
 impl<const K: usize, const E: usize> Graph<K, E> {
-    ghost use Rattle.bridge_graph.specs.Table.{has_kinds_below, is_edge_cost, IsSupported, IsCostly};
+    ghost use Rattle.bridge_graph.specs.Hypergraph.{hypergraph_of, has_kinds_below, is_edge_cost};
+    ghost use Rattle.bridge_graph.specs.Hypergraph.{IsSupported, IsCostly};
     ghost use Rattle.bridge_graph.specs.Tree.{IsTreeless, IsLeastCost, IsFirstEdge};
     ghost use Rattle.bridge_graph.specs.Plan.{IsPlan};
 
-    /// The graph of these edges with their costs, where `on` says which edges may be used.
+    /// The graph of these edges with their costs of 1 to 1,000, of which those that are `on` may be used.
+    ///
+    /// Kinds and edges are numbered from 0, and an edge lists at most three children.
     pub fn build(
         edges: &[EdgeRow; E],
         costs: &[u32; E],
@@ -73,10 +77,7 @@ impl<const K: usize, const E: usize> Graph<K, E> {
         requires numbers { E ≤ 256 }
         requires rows { IsTrue (list_all (has_kinds_below K) edges.now) }
         requires costs { IsTrue (list_all is_edge_cost costs.now) }
-        ensures edges { result.edges ≡ edges.now }
-        ensures costs { result.costs ≡ costs.now }
-        ensures supported { result.supported ≡ supported.now }
-        ensures on { result.on ≡ on.now }
+        ensures { result ≡ hypergraph_of edges.now costs.now supported.now on.now }
     {
         let mut plans = [Plan::Open; K];
         settle(edges, costs, supported, on, &mut plans);
@@ -89,7 +90,7 @@ impl<const K: usize, const E: usize> Graph<K, E> {
         }
     }
 
-    /// How an item of the kind reaches the solver at least cost; a kind that the graph lacks is `Missing`.
+    /// How an item of this kind reaches the solver at least cost; a kind of number `K` or above is `Missing`.
     pub fn choice(&self, kind: u8) -> Choice
         ensures native { (result ≡ Choice.Native) ↔ IsSupported self.now kind }
         ensures by { (edge : ℕ) → ((result ≡ Choice.By edge) ↔ IsFirstEdge self.now kind edge) }
@@ -102,7 +103,7 @@ impl<const K: usize, const E: usize> Graph<K, E> {
         }
     }
 
-    /// The least cost of a tree of the kind, if there is a tree.
+    /// The least cost of a tree of this kind, if it has one.
     pub fn cost(&self, kind: u8) -> Option<u128>
         ensures none { IsNone result ↔ IsTreeless self.now kind }
         ensures least { IfSome result (IsLeastCost self.now kind) }

@@ -1,7 +1,10 @@
-//! The kinds are settled one at a time, each by the cheapest edge whose children are settled.
+//! The kinds are settled one at a time, by the cheapest edge from an open kind whose children are all settled.
+//!
+//! No tree of an open kind costs less than that edge with its children, since some edge of such a tree leads from an
+//! open kind to settled ones (Knuth, "A generalization of Dijkstra's algorithm", 1977).
 ghost use Rattle.std.specs.Prelude.{◌≡◌, ◌<◌, ◌≤◌, ◌^◌, ◌↔◌, ℕ, IsTrue, length, IsNone, IfSome};
 ghost use Rattle.std.specs.List.{list_all};
-ghost use Rattle.bridge_graph.specs.Table.{children_of, has_kinds_below, is_edge_cost};
+ghost use Rattle.bridge_graph.specs.Hypergraph.{hypergraph_of, children_of, has_kinds_below, is_edge_cost};
 ghost use Rattle.bridge_graph.specs.Plan.{plan_at, cost_of, AreWithin, IsSolved, start_at};
 ghost use Rattle.bridge_graph.specs.Candidate.{with_children, cheaper_of, IsCandidate, IsCheapest};
 
@@ -46,46 +49,38 @@ struct Step {
     cost: u128,
 }
 
-/// What an edge costs with its children, if each of them is settled.
-fn total(row: &EdgeRow, cost: u32, plans: &[Plan]) -> Option<u128>
-    requires kinds { IsTrue (has_kinds_below (length plans.now) row.now) }
-    requires within { AreWithin plans.now (2 ^ 120) }
-    ensures { result ≡ with_children plans.now cost (children_of row.now) }
-{
-    let mut total = u128::from(cost);
-    for kind in &row.children[..row.count as usize] {
-        total += plans[*kind as usize].cost()?;
-    }
-    Some(total)
-}
-
-/// The step by this edge, if the edge is on, its source is open and its children are settled.
-fn candidate(
-    edges: &[EdgeRow],
-    costs: &[u32],
-    on: &[bool],
-    plans: &[Plan],
-    edge: usize,
-) -> Option<Step>
+/// Works out the plan of each kind.
+pub fn settle(edges: &[EdgeRow], costs: &[u32], supported: &[bool], on: &[bool], plans: &mut [Plan])
+    requires few { length plans.old ≤ 64 }
     requires numbers { length edges.now ≤ 256 }
     requires costs { length costs.now ≡ length edges.now }
+    requires supported { length supported.now ≡ length plans.old }
     requires on { length on.now ≡ length edges.now }
-    requires kinds { IsTrue (list_all (has_kinds_below (length plans.now)) edges.now) }
-    requires within { AreWithin plans.now (2 ^ 120) }
-    requires edge { edge < length edges.now }
-    ensures none { IsNone result → (step : Step) → step.edge ≡ edge → IsCandidate edges.now costs.now on.now plans.now step → ⊥ }
-    ensures step { IfSome result (λ step. (step.edge ≡ edge) × (step.kind < length plans.now) × IsCandidate edges.now costs.now on.now plans.now step) }
+    requires kinds { IsTrue (list_all (has_kinds_below (length plans.old)) edges.now) }
+    requires edge_costs { IsTrue (list_all is_edge_cost costs.now) }
+    ensures { IsSolved (hypergraph_of edges.now costs.now supported.now on.now) plans.new }
 {
-    let row = edges[edge];
-    if !on[edge] || !plans[row.source as usize].is_open() {
-        return None;
+    start(supported, plans);
+    while let Some(step) = cheapest(edges, costs, on, plans) {
+        plans[step.kind as usize] = Plan::By {
+            edge: step.edge,
+            cost: step.cost,
+        };
     }
-    let cost = total(&row, costs[edge], plans)?;
-    Some(Step {
-        kind: row.source,
-        edge: edge as u8,
-        cost,
-    })
+}
+
+/// The plans of the kinds before any edge is used.
+fn start(supported: &[bool], plans: &mut [Plan])
+    requires { length supported.now ≡ length plans.old }
+    ensures { (kind : ℕ) → plan_at plans.new kind ≡ start_at supported.now kind }
+{
+    for kind in 0..plans.len() {
+        plans[kind] = if supported[kind] {
+            Plan::Native
+        } else {
+            Plan::Open
+        };
+    }
 }
 
 /// The cheapest step, by the lowest edge where several cost the same.
@@ -118,36 +113,46 @@ fn cheaper(best: Option<Step>, step: Step) -> Step
     }
 }
 
-/// The plans of the kinds before any edge is used.
-fn start(supported: &[bool], plans: &mut [Plan])
-    requires { length supported.now ≡ length plans.old }
-    ensures { (kind : ℕ) → plan_at plans.new kind ≡ start_at supported.now kind }
-{
-    for kind in 0..plans.len() {
-        plans[kind] = if supported[kind] {
-            Plan::Native
-        } else {
-            Plan::Open
-        };
-    }
-}
-
-/// Works out the plan of each kind.
-pub fn settle(edges: &[EdgeRow], costs: &[u32], supported: &[bool], on: &[bool], plans: &mut [Plan])
-    requires few { length plans.old ≤ 64 }
+/// The step by this edge, if the edge is on, its source is open and its children are settled.
+fn candidate(
+    edges: &[EdgeRow],
+    costs: &[u32],
+    on: &[bool],
+    plans: &[Plan],
+    edge: usize,
+) -> Option<Step>
     requires numbers { length edges.now ≤ 256 }
     requires costs { length costs.now ≡ length edges.now }
-    requires supported { length supported.now ≡ length plans.old }
     requires on { length on.now ≡ length edges.now }
-    requires kinds { IsTrue (list_all (has_kinds_below (length plans.old)) edges.now) }
-    requires edge_costs { IsTrue (list_all is_edge_cost costs.now) }
-    ensures { IsSolved (record { edges = edges.now; costs = costs.now; supported = supported.now; on = on.now }) plans.new }
+    requires kinds { IsTrue (list_all (has_kinds_below (length plans.now)) edges.now) }
+    requires within { AreWithin plans.now (2 ^ 120) }
+    requires edge { edge < length edges.now }
+    ensures none { IsNone result → (step : Step) → step.edge ≡ edge
+        → IsCandidate edges.now costs.now on.now plans.now step → ⊥ }
+    ensures step { IfSome result (IsCandidate edges.now costs.now on.now plans.now) }
+    ensures place { IfSome result (λ step. (step.edge ≡ edge) × (step.kind < length plans.now)) }
 {
-    start(supported, plans);
-    while let Some(step) = cheapest(edges, costs, on, plans) {
-        plans[step.kind as usize] = Plan::By {
-            edge: step.edge,
-            cost: step.cost,
-        };
+    let row = edges[edge];
+    if !on[edge] || !plans[row.source as usize].is_open() {
+        return None;
     }
+    let cost = total(&row, costs[edge], plans)?;
+    Some(Step {
+        kind: row.source,
+        edge: edge as u8,
+        cost,
+    })
+}
+
+/// What an edge costs with its children, if each of them is settled.
+fn total(row: &EdgeRow, cost: u32, plans: &[Plan]) -> Option<u128>
+    requires kinds { IsTrue (has_kinds_below (length plans.now) row.now) }
+    requires within { AreWithin plans.now (2 ^ 120) }
+    ensures { result ≡ with_children plans.now cost (children_of row.now) }
+{
+    let mut total = u128::from(cost);
+    for kind in &row.children[..row.count as usize] {
+        total += plans[*kind as usize].cost()?;
+    }
+    Some(total)
 }

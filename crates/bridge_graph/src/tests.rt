@@ -1,7 +1,7 @@
 //! The graph of 35 kinds and 63 edges, on five choices of supported kinds.
 ghost use Rattle.std.specs.Prelude.{IsTrue};
 ghost use Rattle.std.specs.List.{list_all};
-ghost use Rattle.bridge_graph.specs.Table.{is_edge_cost};
+ghost use Rattle.bridge_graph.specs.Hypergraph.{is_edge_cost};
 
 use crate::{Choice, EdgeRow, Graph};
 use Choice::{By, Missing, Native};

@@ -1,4 +1,4 @@
-use Rattle.std.proofs.Common.{◌≡◌, ℕ, ap, subst}
+use Rattle.std.proofs.Common.{◌≡◌, ap, subst}
 use Rattle.bridge_graph.specs.declared.Choice.TheVariants.{By}
 use Rattle.bridge_graph.specs.Tree.{native, by, BeginsLeast}
 use Rattle.bridge_graph.proofs.Choices.{supported_first, same_first}

@@ -1,5 +1,3 @@
-use Rattle.std.proofs.Common.{◌≡◌, IsNone, IfSome, ◌↔◌, subst, sym, Option}
-use Rattle.bridge_graph.specs.Tree.{IsTreeless, IsLeastCost}
 use Rattle.bridge_graph.proofs.Choices.{no_cost, least_cost}
 use Rattle.bridge_graph.proofs.Graph.cost.Goals as goal
 

@@ -1,4 +1,4 @@
-use Rattle.std.proofs.Common.{◌≡◌, ℕ, ◌+◌, length, sym, subst, ap, ◌∙◌, Option, Some, arith, refl}
+use Rattle.std.proofs.Common.{◌≡◌, ◌+◌, length, sym, subst, Option, Some, arith, refl}
 use Rattle.bridge_graph.specs.declared.settling.Step.{Step}
 use Rattle.bridge_graph.specs.Candidate.{cheaper_of}
 use Rattle.bridge_graph.proofs.Steps.{IsBestBelow, best_kept, best_next, best_absent, best_cheapest, best_kind}
@@ -10,9 +10,9 @@ loop-edge-preserved c =
     let P : Option Step → Type 0 = λ best. IsBestBelow c.args.edges.now c.args.costs.now c.args.on.now c.args.plans.now (c.loop-edge.edge + 1) best in
     elim c.match-candidate.branch [
       | in-Some w ↦
-          let step = w.in-Some.ensures.step in
+          let found = w.in-Some.ensures in
           let is : Some (cheaper_of c.loop-edge.best w.in-Some.step) ≡ c.match-candidate.best = cc (w.best-is, w.cheaper.ensures) in
-          subst P is (best_next c.loop-edge.best w.in-Some.step c.loop-edge.invariant step.0 step.1 step.2)
+          subst P is (best_next c.loop-edge.best w.in-Some.step c.loop-edge.invariant found.place.0 found.place.1 found.step)
       | in_default w ↦ subst P (sym w.best-is) (best_kept c.loop-edge.invariant (λ step e h. w.in_default.ensures.none refl step e h))
     ]
 

@@ -1,6 +1,6 @@
 -- What is left gives what all gives, and the total stays small.
 use Rattle.std.proofs.Common.{◌≡◌, ◌+◌, ◌*◌, ◌^◌, ◌≤◌, drop}
-use Rattle.bridge_graph.specs.Table.{children_of}
+use Rattle.bridge_graph.specs.Hypergraph.{children_of}
 use Rattle.bridge_graph.specs.Candidate.{with_children}
 use Rattle.bridge_graph.proofs.settling.total.Given as goal
 

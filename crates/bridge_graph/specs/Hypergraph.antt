@@ -1,21 +1,24 @@
--- What a graph of kinds and edges is made from.
+-- A hypergraph of kinds: an edge leads from one kind to up to three.
 use Rattle.std.specs.Prelude.{◌≡◌, ℕ, ◌≤◌, Bool, true, ◌&&◌, nat_lt, nat_le, List, take, Some, slice_get}
 use Rattle.std.specs.List.{list_all}
 use Rattle.bridge_graph.specs.declared.EdgeRow.{EdgeRow}
 
 -- the edges in order with their costs, which kinds are supported, and which edges are on
-pub record Table : Type 0 where
+pub record Hypergraph : Type 0 where
   pub edges : List EdgeRow
   pub costs : List ℕ
   pub supported : List Bool
   pub on : List Bool
 
+abbrev pub hypergraph_of : List EdgeRow → List ℕ → List Bool → List Bool → Hypergraph
+hypergraph_of edges costs supported on = record { edges = edges; costs = costs; supported = supported; on = on }
+
 -- the kinds that an edge leads to, each as often as it is listed
 abbrev pub children_of : EdgeRow → List ℕ
 children_of row = take row.count row.children
 
-abbrev pub IsSupported : Table → ℕ → Type 0
-IsSupported t kind = slice_get t.supported kind ≡ Some true
+abbrev pub IsSupported : Hypergraph → ℕ → Type 0
+IsSupported graph kind = slice_get graph.supported kind ≡ Some true
 
 -- the edge is on, with this row and this cost
 pub record IsUsable (edges : List EdgeRow) (costs : List ℕ) (on : List Bool) (edge : ℕ) (row : EdgeRow) (cost : ℕ) : Type 0 where
@@ -31,5 +34,5 @@ abbrev pub is_edge_cost : ℕ → Bool
 is_edge_cost cost = nat_le 1 cost && nat_le cost 1000
 
 -- no edge is free
-abbrev pub IsCostly : Table → Type 0
-IsCostly t = (edge cost : ℕ) → slice_get t.costs edge ≡ Some cost → 1 ≤ cost
+abbrev pub IsCostly : Hypergraph → Type 0
+IsCostly graph = (edge cost : ℕ) → slice_get graph.costs edge ≡ Some cost → 1 ≤ cost
