@@ -1,0 +1,4 @@
+pub mod Steps
+pub mod Trees
+pub mod Settled
+pub mod Choices

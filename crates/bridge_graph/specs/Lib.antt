@@ -1,0 +1,4 @@
+pub mod Hypergraph
+pub mod Tree
+pub mod Plan
+pub mod Candidate

@@ -1,0 +1,51 @@
+//! Which calls of an object in memory fail.
+ghost use Rattle.std.specs.Prelude.{◌≡◌, ◌↔◌, ◌≤◌, IsTrue, if◌then◌else◌};
+ghost use Rattle.io_face.specs.Plan.{Plan, IsFailing, after_success, after_failure};
+
+use super::calls::Calls;
+use std::marker::Model;
+
+#[derive(Drop)]
+pub struct Schedule {
+    fails: Calls,
+    made: u64,
+    faults: u64,
+}
+
+impl Model for Schedule {
+    ghost Value = { Plan };
+
+    ghost view = { λ s. record { fails = s.fails; made = s.made; faults = s.faults } };
+}
+
+impl Schedule {
+    pub fn new(fails: Calls) -> Schedule
+        ensures { result ≡ record { fails = fails; made = 0; faults = 0 } }
+    {
+        Schedule {
+            fails,
+            made: 0,
+            faults: 0,
+        }
+    }
+
+    /// Counts a call, and a fault where the call is to fail. True if it is.
+    pub fn count_call(&mut self) -> bool
+        ensures failing { IsTrue result ↔ IsFailing self.old }
+        ensures after { self.new ≡ (if result then after_failure self.old else after_success self.old) }
+        ensures never_falls { self.old.faults ≤ self.new.faults }
+    {
+        self.made = self.made.saturating_add(1);
+        let fails = self.fails.contains(self.made);
+        if fails {
+            self.faults = self.faults.saturating_add(1);
+        }
+        fails
+    }
+
+    pub fn faults(&self) -> u64
+        ensures { result ≡ self.now.faults }
+    {
+        self.faults
+    }
+}
