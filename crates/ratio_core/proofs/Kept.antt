@@ -6,7 +6,7 @@ use mir.Syntax.{w128}
 use Rattle.std.proofs.Common.{◌/◌, ◌≤◌, ◌⊎◌, ◌*ℤ◌, inl, inr, zero-mul}
 use Rattle.std.proofs.Math.Nat.{zero-div}
 use Rattle.std.specs.Prelude.{int_div, int_lt}
-use Rattle.std.proofs.Common.{le-ltb, zero-le, not, ap₂, OkIff, Result, Ok, Err}
+use Rattle.std.proofs.Common.{le-ltb, zero-le, not, ap₂, OkIff, Result, Ok, Err, IsErr, true≢false}
 use mathlib.Core.Bool.{beq}
 use borrow.Author.Differences.{same_in}
 use Rattle.ratio_core.specs.Gcd.{gcd, gcd_pos}
@@ -150,3 +150,8 @@ fraction_signs n d k l size den e f g h =
 pub exact_along : {E P : Type 0} (r : Result Rational E) (p q : Rational) → p ≡ q → P → OkIff r (Fits p) p → OkIff r (P × Fits q) q
 exact_along (Ok x) p q e h k = ((h, subst Fits e k.0), k.1 ∙ e)
 exact_along (Err x) p q e h k = λ w. k (subst Fits (sym e) w.1)
+
+-- a refusal is exact where the condition fails
+pub refused_is : {T E P : Type 0} (v : T) (r : Result T E) → IsErr r → ¬ P → OkIff r P v
+refused_is v (Err e) h n = n
+refused_is v (Ok x) h n = absurd (true≢false (sym h))

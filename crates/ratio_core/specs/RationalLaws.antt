@@ -26,6 +26,12 @@ times_times z a b =
     let v : down (z *ℤ pos a) * b ≡ down z * a * b = ap (λ x. x * b) (times_is z a).1 in
     same_in _ _ (omega (arith, u, v, times_is (z *ℤ pos a) b, times_is z (a * b)))
 
+pub swap_times : (z : ℤ) (a b : ℕ) → (z *ℤ pos a) *ℤ pos b ≡ (z *ℤ pos b) *ℤ pos a
+swap_times z a b = times_times z a b ∙ ap (λ k. z *ℤ pos k) (swap_lem a b) ∙ sym (times_times z b a)
+  where
+    swap_lem : (a b : ℕ) → a * b ≡ b * a
+    swap_lem a b = omega arith
+
 pub cancel_times : (y z : ℤ) (d : ℕ) → 0 < d → y *ℤ pos d ≡ z *ℤ pos d → y ≡ z
 cancel_times y z d h e =
     same_in y z (cancel_lem (up y) (down y) (up z) (down z) d h (omega (arith, same_out _ _ e, times_is y d, times_is z d)))
@@ -52,7 +58,7 @@ same_from_cross p q e =
 
 -- ---- lowest terms
 
-neg_times : (x g : ℕ) → neg_ℤ (pos x) *ℤ pos g ≡ neg_ℤ (pos (x * g))
+pub neg_times : (x g : ℕ) → neg_ℤ (pos x) *ℤ pos g ≡ neg_ℤ (pos (x * g))
 neg_times zero g = simp zero-mul
 neg_times (suc x) g = refl
 
@@ -85,6 +91,18 @@ reduce_cross n d h =
   where
     swap_lem : (a b : ℕ) → a * b ≡ b * a
     swap_lem a b = omega arith
+
+-- n over d is the number whose cross product with it is equal
+pub reduce_is : (r : Rational) (n : ℤ) (d : ℕ) → 0 < d → r.num *ℤ pos d ≡ n *ℤ pos r.den → reduce n d ≡ r
+reduce_is r n d h e =
+    let s : Rational = reduce n d in
+    same_from_cross s r
+    (cancel_times (s.num *ℤ pos r.den) (r.num *ℤ pos s.den) d h
+      (swap_times s.num r.den d
+       ∙ ap (λ z. z *ℤ pos r.den) (reduce_cross n d h)
+       ∙ swap_times n s.den r.den
+       ∙ ap (λ z. z *ℤ pos s.den) (sym e)
+       ∙ swap_times r.num d s.den))
 
 -- a number is its numerator over its denominator
 pub reduce_itself : (q : Rational) → reduce q.num q.den ≡ q

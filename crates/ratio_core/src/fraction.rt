@@ -110,6 +110,7 @@ impl Ratio {
     // The denominator.
     pub(crate) fn over(&self) -> u128
         ensures value { result ≡ self.now.den }
+        ensures positive { 0 < result }
         ensures fits { result < 2 ^ 127 }
     {
         self.den
