@@ -19,7 +19,7 @@ coprime_within a b x y h k l = coprime_by x y (λ e m n. coprime_at a b e h (dvd
 pub coprime_product : (x y z : ℕ) → gcd x z ≡ 1 → gcd y z ≡ 1 → gcd (x * y) z ≡ 1
 coprime_product x y z h k =
     coprime_by (x * y) z (λ e m n.
-      coprime_at y z e k (dvd_from_coprime x e y (coprime_within x z x e h (dvd_refl x) n) (subst (λ w. e ∣ w) (mul_comm x y) m)) n)
+    coprime_at y z e k (dvd_from_coprime x e y (coprime_within x z x e h (dvd_refl x) n) (subst (λ w. e ∣ w) (mul_comm x y) m)) n)
 
 pub coprime_product_right : (x y z : ℕ) → gcd x y ≡ 1 → gcd x z ≡ 1 → gcd x (y * z) ≡ 1
 coprime_product_right x y z h k =
@@ -58,6 +58,7 @@ divides_term e x y h k = by_size (size_lem x y)
   where
     add_lem : (a b : ℕ) → a + b ≡ b + a
     add_lem a b = omega arith
+
     by_size : (unsigned_abs (x +ℤ y) ≡ unsigned_abs x + unsigned_abs y) ⊎ ((unsigned_abs x ≡ unsigned_abs y + unsigned_abs (x +ℤ y)) ⊎ (unsigned_abs y ≡ unsigned_abs x + unsigned_abs (x +ℤ y))) → e ∣ unsigned_abs x
     by_size (inl s) = (dvd-add_iff_right e k).1 (subst (λ w. e ∣ w) (s ∙ add_lem (unsigned_abs x) (unsigned_abs y)) h)
     by_size (inr (inl s)) = subst (λ w. e ∣ w) (sym s) (dvd-add e k h)

@@ -37,18 +37,22 @@ shuffle_lem n m g h d e = omega arith
 module _ (p q : Rational) where
   a : ℕ
   a = unsigned_abs p.num
+
   c : ℕ
   c = unsigned_abs q.num
 
   abbrev left : ℕ
   left = gcd (unsigned_abs p.num) q.den
+
   abbrev right : ℕ
   right = gcd (unsigned_abs q.num) p.den
 
   abbrev pub product_size : ℕ
   product_size = (unsigned_abs p.num / left) * (unsigned_abs q.num / right)
+
   abbrev pub product_den : ℕ
   product_den = (p.den / right) * (q.den / left)
+
   abbrev pub product_sign : Bool
   product_sign = not (beq (is_negative p.num) (is_negative q.num))
 
@@ -67,9 +71,10 @@ module _ (p q : Rational) where
       (coprime_product_right m d e (coprime_parts (unsigned_abs q.num) p.den p.reduced.0) (coprime_within (unsigned_abs q.num) q.den m e q.reduced.1 m_within e_within))
 
   pub product_reduced : IsReduced (signed product_sign product_size) product_den
-  product_reduced =
-      (mul-pos (part_pos (unsigned_abs q.num) p.den p.reduced.0) (part_pos (unsigned_abs p.num) q.den q.reduced.0),
-       ap (λ x. gcd x product_den) (unsigned_abs-signed product_sign product_size) ∙ coprime_lem)
+  product_reduced = (
+    mul-pos (part_pos (unsigned_abs q.num) p.den p.reduced.0) (part_pos (unsigned_abs p.num) q.den q.reduced.0),
+    ap (λ x. gcd x product_den) (unsigned_abs-signed product_sign product_size) ∙ coprime_lem,
+  )
 
   abbrev result : Rational
   result = record { num = signed product_sign product_size; den = product_den; reduced = product_reduced }
@@ -82,14 +87,14 @@ module _ (p q : Rational) where
       let m_times : (unsigned_abs q.num / right) * right ≡ unsigned_abs q.num = div-mul_cancel right (gcd_is (unsigned_abs q.num) p.den).0 in
       let d_times : (p.den / right) * right ≡ p.den = div-mul_cancel right (gcd_is (unsigned_abs q.num) p.den).1 in
       let sizes : product_size * (p.den * q.den) ≡ (unsigned_abs p.num * unsigned_abs q.num) * product_den =
-        ap₂ (λ x y. product_size * (x * y)) (sym d_times) (sym e_times)
-        ∙ shuffle_lem (unsigned_abs p.num / left) (unsigned_abs q.num / right) left right (p.den / right) (q.den / left)
-        ∙ ap₂ (λ x y. (x * y) * product_den) n_times m_times in
+      ap₂ (λ x y. product_size * (x * y)) (sym d_times) (sym e_times)
+      ∙ shuffle_lem (unsigned_abs p.num / left) (unsigned_abs q.num / right) left right (p.den / right) (q.den / left)
+      ∙ ap₂ (λ x y. (x * y) * product_den) n_times m_times in
       reduce_is result (p.num *ℤ q.num) (p.den * q.den) (mul-pos p.reduced.0 q.reduced.0)
       (signed_times product_sign product_size (p.den * q.den)
-       ∙ ap (signed product_sign) sizes
-       ∙ sym (signed_times product_sign (unsigned_abs p.num * unsigned_abs q.num) product_den)
-       ∙ ap (λ z. z *ℤ pos product_den) (sym (signed_product p.num q.num)))
+      ∙ ap (signed product_sign) sizes
+      ∙ sym (signed_times product_sign (unsigned_abs p.num * unsigned_abs q.num) product_den)
+      ∙ ap (λ z. z *ℤ pos product_den) (sym (signed_product p.num q.num)))
 
   pub product_size_is : unsigned_abs (p *ℚ q).num ≡ product_size
   product_size_is = ap (λ r. unsigned_abs r.num) product_is ∙ unsigned_abs-signed product_sign product_size
@@ -126,7 +131,7 @@ module _ (p q : Rational) (ps pd qs qd l r nl nr dl dr : ℕ) (ps_is : ps ≡ un
     made_stored h k = record {
       reduced = subst (λ z. IsReduced z den) (sym made_num) (subst (IsReduced (signed (product_sign p q) (product_size p q))) (sym (den_is ∙ made_den)) (product_reduced p q));
       num = subst (λ x. x < 2 ^ 127) (sym (unsigned_abs-signed s size)) h;
-      den = k
+      den = k;
     }
 
     pub made_value : reduce (signed s size) den ≡ p *ℚ q
@@ -136,7 +141,7 @@ module _ (p q : Rational) (ps pd qs qd l r nl nr dl dr : ℕ) (ps_is : ps ≡ un
     pub made_fits : size < 2 ^ 127 → den < 2 ^ 127 → Fits (p *ℚ q)
     made_fits h k = record {
       num = subst (λ x. x < 2 ^ 127) (size_is ∙ made_size ∙ sym (product_size_is p q)) h;
-      den = subst (λ x. x < 2 ^ 127) (den_is ∙ made_den ∙ sym (product_den_is p q)) k
+      den = subst (λ x. x < 2 ^ 127) (den_is ∙ made_den ∙ sym (product_den_is p q)) k;
     }
 
 -- ---- the magnitude and the inverse
@@ -150,7 +155,7 @@ module _ (q : Rational) (size den : ℕ) (size_is : size ≡ unsigned_abs q.num)
   abs_stored h k = record {
     reduced = (subst (λ d. 0 < d) (sym den_is) q.reduced.0, ap₂ gcd size_is den_is ∙ q.reduced.1);
     num = h;
-    den = k
+    den = k;
   }
 
   module _ (s : Bool) (s_is : s ≡ is_negative q.num) where
@@ -166,7 +171,7 @@ module _ (q : Rational) (size den : ℕ) (size_is : size ≡ unsigned_abs q.num)
     inverse_stored h k n = record {
       reduced = (above_lem size refl, ap (λ x. gcd x size) (unsigned_abs-signed s den) ∙ ap₂ gcd den_is size_is ∙ gcd_swap q.den (unsigned_abs q.num) ∙ q.reduced.1);
       num = subst (λ x. x < 2 ^ 127) (sym (unsigned_abs-signed s den)) k;
-      den = h
+      den = h;
     }
       where
         above_lem : (m : ℕ) → m ≡ size → 0 < m

@@ -25,10 +25,10 @@ times_add x y k =
 apart_lem : (x y : ℤ) (a c d b whole : ℕ) → unsigned_abs x ≡ a * d → unsigned_abs y ≡ c * b → gcd a whole ≡ 1 → b ∣ whole → gcd d b ≡ 1 → gcd (unsigned_abs (x +ℤ y)) b ≡ 1
 apart_lem x y a c d b whole hx hy prime within apart =
     coprime_by (unsigned_abs (x +ℤ y)) b (λ e in_sum in_b.
-      let in_y : e ∣ unsigned_abs y = subst (λ w. e ∣ w) (sym hy) (dvd_trans e in_b (dvd-mul_left b c)) in
-      let in_x : e ∣ a * d = subst (λ w. e ∣ w) hx (divides_term e x y in_sum in_y) in
-      let in_a : e ∣ a = dvd_from_coprime d e a (coprime_within d b d e apart (dvd_refl d) in_b) in_x in
-      coprime_at a whole e prime in_a (dvd_trans e in_b within))
+    let in_y : e ∣ unsigned_abs y = subst (λ w. e ∣ w) (sym hy) (dvd_trans e in_b (dvd-mul_left b c)) in
+    let in_x : e ∣ a * d = subst (λ w. e ∣ w) hx (divides_term e x y in_sum in_y) in
+    let in_a : e ∣ a = dvd_from_coprime d e a (coprime_within d b d e apart (dvd_refl d) in_b) in_x in
+    coprime_at a whole e prime in_a (dvd_trans e in_b within))
 
 dens_lem : (b d g k h : ℕ) → g ≡ k * h → (b * g) * (d * g) ≡ h * (g * (b * (d * k)))
 dens_lem b d g k h e = ap (λ x. (b * g) * (d * x)) e ∙ order_lem b d g k h
@@ -39,10 +39,13 @@ dens_lem b d g k h e = ap (λ x. (b * g) * (d * x)) e ∙ order_lem b d g k h
 module _ (p q : Rational) where
   abbrev common : ℕ
   common = common_divisor p q
+
   abbrev left_part : ℕ
   left_part = p.den / common_divisor p q
+
   abbrev right_part : ℕ
   right_part = q.den / common_divisor p q
+
   abbrev last : ℕ
   last = gcd (unsigned_abs (sum_of_terms p q)) (common_divisor p q)
 
@@ -91,7 +94,7 @@ module _ (p q : Rational) where
   right_over_last =
       let last_pos : 0 < last = gcd_pos (unsigned_abs (sum_of_terms p q)) common common_pos in
       let whole : (right_part * (common / last)) * last ≡ q.den =
-        group_lem right_part (common / last) last ∙ ap (λ k. right_part * k) (div-mul_cancel last last_within) ∙ right_times in
+      group_lem right_part (common / last) last ∙ ap (λ k. right_part * k) (div-mul_cancel last last_within) ∙ right_times in
       ap (λ k. k / last) (sym whole) ∙ mul-div_cancel (right_part * (common / last)) last_pos
     where
       group_lem : (a b c : ℕ) → (a * b) * c ≡ a * (b * c)
@@ -109,8 +112,8 @@ module _ (p q : Rational) where
       ∙ coprime_product_right (size / last) left_part (right_part * (common / last))
       (coprime_within size left_part (size / last) left_part sum_left within (dvd_refl left_part))
       (coprime_product_right (size / last) right_part (common / last)
-        (coprime_within size right_part (size / last) right_part sum_right within (dvd_refl right_part))
-        (coprime_parts size common common_pos))
+      (coprime_within size right_part (size / last) right_part sum_right within (dvd_refl right_part))
+      (coprime_parts size common common_pos))
 
   den_pos : 0 < sum_denominator p q
   unfolding sum_denominator common_divisor
@@ -139,17 +142,17 @@ module _ (p q : Rational) where
     unfolding ◌+ℚ◌ sum_of_terms
     sum_value =
         let s_times : signed s size *ℤ pos last ≡ sum_of_terms p q =
-          signed_times s size last ∙ ap (signed s) (div-mul_cancel last (gcd_is (unsigned_abs (sum_of_terms p q)) common).0) ∙ sum_is in
+        signed_times s size last ∙ ap (signed s) (div-mul_cancel last (gcd_is (unsigned_abs (sum_of_terms p q)) common).0) ∙ sum_is in
         let terms : sum_of_terms p q *ℤ pos common ≡ (p.num *ℤ pos q.den) +ℤ (q.num *ℤ pos p.den) =
-          times_add (left_term p q) (right_term p q) common ∙ ap₂ ◌+ℤ◌ left_whole right_whole in
+        times_add (left_term p q) (right_term p q) common ∙ ap₂ ◌+ℤ◌ left_whole right_whole in
         let inner : ℕ = left_part * (right_part * (common / last)) in
         reduce_is (record { num = signed s size; den = sum_denominator p q; reduced = sum_reduced })
         ((p.num *ℤ pos q.den) +ℤ (q.num *ℤ pos p.den)) (p.den * q.den) (mul-pos p.reduced.0 q.reduced.0)
         (ap (λ k. signed s size *ℤ pos k) (ap₂ (λ x y. x * y) (sym left_times) (sym right_times) ∙ dens_lem left_part right_part common (common / last) last (sym (div-mul_cancel last last_within)))
-         ∙ sym (times_times (signed s size) last (common * inner))
-         ∙ ap (λ z. z *ℤ pos (common * inner)) s_times
-         ∙ sym (times_times (sum_of_terms p q) common inner)
-         ∙ ap₂ (λ z k. z *ℤ pos k) terms (sym sum_den_is))
+        ∙ sym (times_times (signed s size) last (common * inner))
+        ∙ ap (λ z. z *ℤ pos (common * inner)) s_times
+        ∙ sym (times_times (sum_of_terms p q) common inner)
+        ∙ ap₂ (λ z k. z *ℤ pos k) terms (sym sum_den_is))
 
 -- ---- the sum as the code makes it
 
@@ -218,7 +221,7 @@ module _ (p q : Rational) (pd qd g lo ro ps qs : ℕ) (pd_is : pd ≡ p.den) (qd
         made_stored h k = record {
           reduced = subst (λ z. IsReduced z den) (sym made_num) (subst (IsReduced (signed s (unsigned_abs (sum_of_terms p q) / gcd (unsigned_abs (sum_of_terms p q)) (common_divisor p q)))) (sym (den_is ∙ made_den)) (sum_reduced p q s whole_is));
           num = below_lem;
-          den = k
+          den = k;
         }
           where
             below_lem : unsigned_abs (signed s (size / last)) < 2 ^ 127
@@ -233,5 +236,5 @@ module _ (p q : Rational) (pd qd g lo ro ps qs : ℕ) (pd_is : pd ≡ p.den) (qd
           left = subst (λ x. x < 2 ^ 127) (left_is ∙ made_left_size) h;
           right = subst (λ x. x < 2 ^ 127) (right_is ∙ made_right_size) k;
           sum = subst (λ x. x < 2 ^ 127) made_size l;
-          denominator = subst (λ x. x < 2 ^ 127) (den_is ∙ made_den) m
+          denominator = subst (λ x. x < 2 ^ 127) (den_is ∙ made_den) m;
         }

@@ -38,7 +38,7 @@ pub same_parts : (p q : Rational) → rational_parts p ≡ rational_parts q → 
 same_parts p q e = λ i. record {
   num = (e i).0;
   den = (e i).1;
-  reduced = is_prop→PathP (λ j. IsReduced (e j).0 (e j).1) (λ j. ×_prop le_prop (ℕ_set _ _)) p.reduced q.reduced i
+  reduced = is_prop→PathP (λ j. IsReduced (e j).0 (e j).1) (λ j. ×_prop le_prop (ℕ_set _ _)) p.reduced q.reduced i;
 }
 
 -- a number's code is that of its parts

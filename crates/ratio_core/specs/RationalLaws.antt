@@ -78,9 +78,10 @@ reduce-den n (suc d) h = refl
 
 -- the parts in lowest terms, times the greatest common divisor, are the parts given
 pub reduce_parts : (n : ℤ) (d : ℕ) → 0 < d → ((reduce n d).num *ℤ pos (gcd (unsigned_abs n) d) ≡ n) × ((reduce n d).den * gcd (unsigned_abs n) d ≡ d)
-reduce_parts n d h =
-    (ap (λ x. x *ℤ pos (gcd (unsigned_abs n) d)) (reduce-num n d h) ∙ int_div-exact n _ (gcd_is (unsigned_abs n) d).0,
-     ap (λ x. x * gcd (unsigned_abs n) d) (reduce-den n d h) ∙ div-mul_cancel _ (gcd_is (unsigned_abs n) d).1)
+reduce_parts n d h = (
+  ap (λ x. x *ℤ pos (gcd (unsigned_abs n) d)) (reduce-num n d h) ∙ int_div-exact n _ (gcd_is (unsigned_abs n) d).0,
+  ap (λ x. x * gcd (unsigned_abs n) d) (reduce-den n d h) ∙ div-mul_cancel _ (gcd_is (unsigned_abs n) d).1,
+)
 
 pub reduce_cross : (n : ℤ) (d : ℕ) → 0 < d → (reduce n d).num *ℤ pos d ≡ n *ℤ pos (reduce n d).den
 reduce_cross n d h =
@@ -98,11 +99,11 @@ reduce_is r n d h e =
     let s : Rational = reduce n d in
     same_from_cross s r
     (cancel_times (s.num *ℤ pos r.den) (r.num *ℤ pos s.den) d h
-      (swap_times s.num r.den d
-       ∙ ap (λ z. z *ℤ pos r.den) (reduce_cross n d h)
-       ∙ swap_times n s.den r.den
-       ∙ ap (λ z. z *ℤ pos s.den) (sym e)
-       ∙ swap_times r.num d s.den))
+    (swap_times s.num r.den d
+    ∙ ap (λ z. z *ℤ pos r.den) (reduce_cross n d h)
+    ∙ swap_times n s.den r.den
+    ∙ ap (λ z. z *ℤ pos s.den) (sym e)
+    ∙ swap_times r.num d s.den))
 
 -- a number is its numerator over its denominator
 pub reduce_itself : (q : Rational) → reduce q.num q.den ≡ q
@@ -209,7 +210,7 @@ sum_fits_Decides p q =
     (λ h. record { left = h.0.0.0; right = h.0.0.1; sum = h.0.1; denominator = h.1 })
     (λ h. (((h.left, h.right), h.sum), h.denominator))
     (Decides-and _ _
-      (Decides-and _ _
-        (Decides-and _ _ (Decides-ltb (unsigned_abs (left_term p q)) (2 ^ 127)) (Decides-ltb (unsigned_abs (right_term p q)) (2 ^ 127)))
-        (Decides-ltb (unsigned_abs (sum_of_terms p q)) (2 ^ 127)))
-      (Decides-ltb (sum_denominator p q) (2 ^ 127)))
+    (Decides-and _ _
+    (Decides-and _ _ (Decides-ltb (unsigned_abs (left_term p q)) (2 ^ 127)) (Decides-ltb (unsigned_abs (right_term p q)) (2 ^ 127)))
+    (Decides-ltb (unsigned_abs (sum_of_terms p q)) (2 ^ 127)))
+    (Decides-ltb (sum_denominator p q) (2 ^ 127)))

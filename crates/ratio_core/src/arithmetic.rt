@@ -78,7 +78,12 @@ impl Ratio {
 }
 
 // The sign and the size of the sum of two numbers, by theirs.
-fn signed_sum(left_is_negative: bool, left: u128, right_is_negative: bool, right: u128) -> (bool, u128)
+fn signed_sum(
+    left_is_negative: bool,
+    left: u128,
+    right_is_negative: bool,
+    right: u128,
+) -> (bool, u128)
     requires left_fits { left < 2 ^ 127 }
     requires right_fits { right < 2 ^ 127 }
     ensures { signed result.0 result.1 ≡ signed left_is_negative left +ℤ signed right_is_negative right }

@@ -23,6 +23,9 @@ pub(crate) fn greatest_common_divisor(a: u128, b: u128) -> u128
     if y == 1 {
         return 1;
     }
+    if x <= u64::MAX as u128 {
+        return narrow_divisor(x as u64, y as u64) as u128;
+    }
     narrow_divisor(y as u64, (x % y) as u64) as u128
 }
 
