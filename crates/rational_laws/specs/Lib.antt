@@ -1,4 +1,5 @@
 -- What other crates cite.
 pub mod Field
+pub mod Order
 pub mod Over
 pub mod Whole
