@@ -1,5 +1,5 @@
 -- Equality and order, as the code tests them.
-use Rattle.std.proofs.Common.{◌≡◌, ℕ, zero, suc, ◌*◌, ◌+◌, ◌<◌, Bool, true, false, ℤ, pos, negsuc, neg_ℤ, ◌*ℤ◌, ◌<ℤ◌, unsigned_abs, nat_eq, refl, sym, ◌∙◌, ap, subst, arith, ne_eqb, ltb, le-ltb, zero-le, true≢false, Ordering, Less, Equal, Greater, mul-lt-mul_of_pos_right}
+use Rattle.std.proofs.Common.{◌≡◌, ℕ, zero, suc, ◌*◌, ◌<◌, Bool, true, false, ℤ, pos, negsuc, neg_ℤ, ◌*ℤ◌, ◌<ℤ◌, unsigned_abs, nat_eq, refl, sym, ◌∙◌, ap, arith, le-ltb, zero-le, true≢false, Ordering, Less, Equal, Greater, mul-lt-mul_of_pos_right}
 use Rattle.std.proofs.lemmas.Bool.Decides.{Decides-like, Decides-eqb, same_from_decides}
 use Rattle.std.proofs.lemmas.Int.{ints}
 use Rattle.std.specs.Cmp.{ranked, int_cmp_is, nat_cmp_is}

@@ -1,11 +1,10 @@
 -- Numbers without a common divisor.
-use Rattle.std.proofs.Common.{◌≡◌, ℕ, zero, suc, ◌+◌, ◌*◌, ◌/◌, ◌<◌, ◌⊎◌, inl, inr, ℤ, pos, negsuc, ◌+ℤ◌, unsigned_abs, refl, sym, ◌∙◌, ap, ap₂, subst, arith, mul_comm, ◌-◌, ◌≤◌, Bool, true, false, cond, ltb, ltb-true, ltb-false}
+use Rattle.std.proofs.Common.{◌≡◌, ℕ, suc, ◌+◌, ◌*◌, ◌/◌, ◌<◌, ◌⊎◌, inl, inr, ℤ, pos, negsuc, ◌+ℤ◌, unsigned_abs, refl, sym, ◌∙◌, subst, arith, mul_comm, ◌-◌, ◌≤◌, Bool, true, false, cond, ltb, ltb-true, ltb-false}
 use Rattle.std.proofs.lemmas.Bool.{cases_lt}
 use lib.IntN.{sub_ℕ}
-use Rattle.std.proofs.Math.Nat.{dvd_trans, dvd-mul_left, dvd-mul_right, div-mul_cancel, eq-one_of_dvd-one, dvd-add, dvd-add_iff_right, dvd_refl}
-use Rattle.std.proofs.lemmas.Int.{ints}
+use Rattle.std.proofs.Math.Nat.{dvd_trans, dvd-mul_right, div-mul_cancel, eq-one_of_dvd-one, dvd-add, dvd-add_iff_right, dvd_refl}
 use Rattle.std.specs.Int.{◌∣◌}
-use Rattle.ratio_core.specs.Gcd.{gcd, gcd_is, gcd_swap, dvd_from_coprime, coprime_parts}
+use Rattle.ratio_core.specs.Gcd.{gcd, gcd_is, gcd_swap, dvd_from_coprime}
 
 pub coprime_at : (a b e : ℕ) → gcd a b ≡ 1 → e ∣ a → e ∣ b → e ≡ 1
 coprime_at a b e h k l = eq-one_of_dvd-one (subst (λ x. e ∣ x) h ((gcd_is a b).2 e k l))

@@ -1,7 +1,6 @@
 -- A kept fraction against the number that it stands for: n and d are the parts kept, and q is the number.
-use Rattle.std.proofs.Common.{◌≡◌, ℕ, zero, suc, ◌+◌, ◌*◌, ◌^◌, ◌<◌, ◌↔◌, Bool, true, false, ℤ, pos, negsuc, neg_ℤ, ◌<ℤ◌, ◌≤ℤ◌, ◌-ℤ◌, unsigned_abs, IsTrue, nat_eq, sym, ◌∙◌, ap, subst, arith, refl, to_z, of_z, SFits, to_z-of_z, eqb-true, eq-eqb}
+use Rattle.std.proofs.Common.{◌≡◌, ℕ, zero, suc, ◌^◌, ◌<◌, Bool, true, false, ℤ, pos, negsuc, neg_ℤ, ◌-ℤ◌, unsigned_abs, sym, ◌∙◌, ap, subst, arith, refl, to_z, of_z, SFits, to_z-of_z}
 use Rattle.std.proofs.lemmas.Int.{ints}
-use Rattle.std.specs.Int.{is_negative, int_signum}
 use mir.Syntax.{w128}
 use Rattle.std.proofs.Common.{◌/◌, ◌≤◌, ◌⊎◌, ◌*ℤ◌, inl, inr, zero-mul}
 use Rattle.std.proofs.Math.Nat.{zero-div}
@@ -10,7 +9,7 @@ use Rattle.std.proofs.Common.{le-ltb, zero-le, not, ap₂, OkIff, Result, Ok, Er
 use mathlib.Core.Bool.{beq}
 use borrow.Author.Differences.{same_in}
 use Rattle.ratio_core.specs.Gcd.{gcd, gcd_pos}
-use Rattle.ratio_core.specs.Rational.{Rational, IsStored, IsReduced, Fits, reduce, fraction, signed, whole_ℚ, zero_ℚ, one_ℚ, neg_ℚ, sign_ℚ, same_parts, whole_reduced}
+use Rattle.ratio_core.specs.Rational.{Rational, IsStored, IsReduced, Fits, reduce, fraction, signed, whole_ℚ, zero_ℚ, neg_ℚ, whole_reduced}
 use Rattle.ratio_core.specs.RationalLaws.{reduce_reduced, reduce_itself, reduce-num, reduce-den, same_from_cross, times_is}
 
 module _ (n : ℤ) (d : ℕ) (q : Rational) (view : reduce n d ≡ q) (kept : IsStored n d) where

@@ -1,11 +1,11 @@
 -- The parts of a literal, round its first '/'.
-use Rattle.std.proofs.Common.{◌≡◌, ℕ, zero, suc, ◌+◌, ◌-◌, ◌<◌, ◌≤◌, Bool, true, false, not, cond, List, [], length, take, drop, Option, Some, None, position, refl, sym, ◌∙◌, ap, subst, arith, ltb, nat_lt, ltb-true, ltb-false, true≢false, length-drop, take_all, lt-ltb, le-ltb}
+use Rattle.std.proofs.Common.{◌≡◌, ℕ, zero, suc, ◌+◌, ◌-◌, ◌<◌, Bool, true, false, cond, List, [], length, take, drop, Option, Some, None, position, refl, sym, ◌∙◌, ap, arith, nat_lt, ltb-false, length-drop, take_all, lt-ltb, le-ltb}
 use Rattle.std.proofs.lemmas.Bool.Decides.{nat_tests}
-use Rattle.std.proofs.Common.{◌/◌, ◌^◌, ◌∷◌, Ok, Err, OkIff, Result, ap₂, div-le_self, eq-eqb, ne_eqb, slice_index}
+use Rattle.std.proofs.Common.{◌/◌, ◌^◌, ◌∷◌, Ok, Err, OkIff, Result, ap₂, div-le_self, slice_index}
 use Rattle.std.specs.Result.{result_ok}
 use Rattle.ratio_core.specs.Gcd.{gcd}
 use Rattle.ratio_core.specs.Rational.{Fits, Rational, reduce, signed}
-use Rattle.ratio_core.specs.Text.{denominator_of, is_slash, numerator_of, part_of, rational_from, rational_of}
+use Rattle.ratio_core.specs.Text.{denominator_of, is_slash, numerator_of, part_of, rational_from}
 use Rattle.ratio_core.proofs.Kept.{lowest_fits}
 use Rattle.std.specs.List.{after_first, before_first, list_any, position_or_len}
 

@@ -1,11 +1,11 @@
 -- A product in lowest terms, by taking common divisors out of the factors crosswise.
-use Rattle.std.proofs.Common.{◌≡◌, ℕ, zero, suc, ◌+◌, ◌*◌, ◌/◌, ◌^◌, ◌<◌, Bool, true, false, not, ℤ, pos, negsuc, neg_ℤ, ◌*ℤ◌, unsigned_abs, refl, sym, ◌∙◌, ap, ap₂, subst, arith, zero-le, le-ltb, zero-mul, mul-zero, mul-pos}
+use Rattle.std.proofs.Common.{◌≡◌, ℕ, zero, suc, ◌*◌, ◌/◌, ◌^◌, ◌<◌, Bool, true, false, not, ℤ, pos, negsuc, neg_ℤ, ◌*ℤ◌, unsigned_abs, refl, sym, ◌∙◌, ap, ap₂, subst, arith, zero-le, le-ltb, mul-pos}
 use Rattle.std.proofs.Math.Nat.{div-mul_cancel}
 use Rattle.std.specs.Int.{◌∣◌, is_negative}
 use mathlib.Core.Bool.{beq}
-use Rattle.ratio_core.specs.Gcd.{gcd, gcd_is, gcd_pos, gcd_swap, coprime_parts, part_pos}
+use Rattle.ratio_core.specs.Gcd.{gcd, gcd_is, gcd_swap, coprime_parts, part_pos}
 use Rattle.ratio_core.specs.Rational.{Fits, IsReduced, IsStored, Rational, abs_ℚ, fraction, inverse_ℚ, reduce, signed, zero_ℚ, ◌*ℚ◌}
-use Rattle.ratio_core.specs.RationalLaws.{neg_times, reduce_is, reduce_itself, times_times}
+use Rattle.ratio_core.specs.RationalLaws.{neg_times, reduce_is, reduce_itself}
 use Rattle.ratio_core.proofs.Coprime.{coprime_product, coprime_product_right, coprime_within, quotient_divides}
 use Rattle.ratio_core.proofs.Kept.{is_zero_lem, unsigned_abs-signed}
 

@@ -1,5 +1,5 @@
 -- A sum in lowest terms, by the greatest common divisor of the denominators.
-use Rattle.std.proofs.Common.{◌≡◌, ℕ, zero, suc, ◌+◌, ◌*◌, ◌/◌, ◌^◌, ◌<◌, Bool, true, false, ℤ, pos, negsuc, ◌+ℤ◌, ◌*ℤ◌, unsigned_abs, refl, sym, ◌∙◌, ap, ap₂, subst, arith, mul-pos, mul_comm, mul-div_cancel, div-le_self, ◌≤◌}
+use Rattle.std.proofs.Common.{◌≡◌, ℕ, ◌+◌, ◌*◌, ◌/◌, ◌^◌, ◌<◌, Bool, ℤ, pos, ◌+ℤ◌, ◌*ℤ◌, unsigned_abs, sym, ◌∙◌, ap, ap₂, subst, arith, mul-pos, mul-div_cancel, div-le_self, ◌≤◌}
 use Rattle.std.proofs.Math.Nat.{div-mul_cancel, dvd-mul_left, dvd_refl, dvd_trans}
 use Rattle.std.proofs.lemmas.Int.{unsigned_abs-mul}
 use Rattle.std.specs.Int.{◌∣◌, is_negative}

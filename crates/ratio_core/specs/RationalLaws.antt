@@ -1,19 +1,19 @@
 -- The laws of the rational numbers that every user needs: equal parts and equal cross products make equal numbers, and
 -- the order is total.
-use Rattle.std.specs.Prelude.{◌≡◌, ℕ, zero, suc, ◌+◌, ◌*◌, ◌/◌, ◌%◌, ◌^◌, ◌<◌, ◌≤◌, Bool, true, false, ◌&&◌, nat_lt, ℤ, pos, negsuc, ◌+ℤ◌, ◌*ℤ◌, neg_ℤ, ◌≤ℤ◌, ◌<ℤ◌, int_div, unsigned_abs, Decides, refl, ◌↔◌, IsTrue, ◌⊎◌}
-use Rattle.std.specs.Cmp.{int_ranked, int_ranks, IsTotalOrder, one_rank, strict, eq_by_cmp_equiv, IsEquivalence, IsPartialEquivalence, partial_equiv_from_equiv, IsPartialOrder, partial_order_from_total}
+use Rattle.std.specs.Prelude.{◌≡◌, ℕ, zero, suc, ◌+◌, ◌*◌, ◌/◌, ◌^◌, ◌<◌, true, false, ℤ, pos, negsuc, ◌*ℤ◌, neg_ℤ, ◌<ℤ◌, int_div, unsigned_abs, Decides, refl}
+use Rattle.std.specs.Cmp.{int_ranks, IsTotalOrder, one_rank, strict, eq_by_cmp_equiv, IsEquivalence, IsPartialEquivalence, partial_equiv_from_equiv, IsPartialOrder, partial_order_from_total}
 use Rattle.std.specs.FinMap.{IsAntisymmetric}
 use Rattle.std.specs.Int.{◌∣◌}
-use Rattle.std.specs.Ordering.{int_cmp, eq_by_cmp, is_eq, MatchOrdering, as_partial_cmp}
+use Rattle.std.specs.Ordering.{is_eq, MatchOrdering, as_partial_cmp}
 use Rattle.std.specs.declared.cmp.Ordering.{Ordering}
 use Rattle.std.specs.declared.cmp.Ordering.TheVariants.{Less, Equal, Greater}
-use Rattle.std.proofs.Common.{sym, ◌∙◌, ap, subst, arith, true≢false, mul-lt-mul_of_pos_right, lt_of_mul-lt-mul_right, zero-mul, inl, inr, ltb-true, lt-ltb, tests}
+use Rattle.std.proofs.Common.{sym, ◌∙◌, ap, subst, arith, true≢false, mul-lt-mul_of_pos_right, lt_of_mul-lt-mul_right, zero-mul}
 use Rattle.std.proofs.Math.Nat.{div-mul_cancel, dvd_antisymm, dvd-mul_left, mul-div_cancel}
-use Rattle.std.proofs.lemmas.Int.{unsigned_abs-mul, ints}
-use borrow.Author.Differences.{up, down, same_in, same_out, product_is, sum_is_lem, neg_is, at_most_in, below_in, le_out, lt_out}
-use Rattle.ratio_core.specs.Gcd.{gcd, gcd_is, gcd_swap, gcd_pos, coprime_parts, part_pos, dvd_from_coprime}
+use Rattle.std.proofs.lemmas.Int.{unsigned_abs-mul}
+use borrow.Author.Differences.{up, down, same_in, same_out, product_is, below_in, lt_out}
+use Rattle.ratio_core.specs.Gcd.{gcd, gcd_is, dvd_from_coprime}
 use Rattle.std.proofs.lemmas.Bool.Decides.{Decides-like, Decides-and, Decides-ltb}
-use Rattle.ratio_core.specs.Rational.{Rational, IsReduced, rational_parts, same_parts, whole_ℚ, zero_ℚ, one_ℚ, reduce, fraction, ◌≤ℚ◌, ◌‹ℚ◌, rational_cmp, rational_eq, Fits, fits, left_term, right_term, sum_of_terms, sum_denominator, SumFits, sum_fits}
+use Rattle.ratio_core.specs.Rational.{Rational, IsReduced, rational_parts, same_parts, reduce, ◌‹ℚ◌, rational_cmp, rational_eq, Fits, fits, left_term, right_term, sum_of_terms, sum_denominator, SumFits, sum_fits}
 
 -- ---- integers times naturals
 

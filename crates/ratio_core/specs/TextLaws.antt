@@ -1,5 +1,5 @@
 -- The law of texts: what is printed reads back (`reads_back`).
-use Rattle.std.proofs.Common.{◌≡◌, ℕ, zero, suc, ◌+◌, ◌-◌, ◌*◌, ◌^◌, ◌<◌, ◌≤◌, Bool, true, false, not, cond, ◌&&◌, ◌||◌, List, [], ◌∷◌, ◌++◌, length, take, drop, slice_index, decimal, Option, Some, None, ℤ, pos, negsuc, neg_ℤ, unsigned_abs, refl, sym, ◌∙◌, ap, ap₂, subst, arith, eq-eqb, ne_eqb, lt-ltb, ◌==◌, append-nil, add-one, take_all, eqb-true}
+use Rattle.std.proofs.Common.{◌≡◌, ℕ, zero, suc, ◌+◌, ◌^◌, ◌<◌, Bool, true, false, cond, List, [], ◌∷◌, ◌++◌, length, take, drop, slice_index, decimal, Some, ℤ, pos, negsuc, unsigned_abs, refl, sym, ◌∙◌, ap, ap₂, subst, arith, eq-eqb, ne_eqb, lt-ltb, ◌==◌, append-nil, add-one, take_all, eqb-true}
 use Rattle.std.proofs.lemmas.Bool.Decides.{nat_tests}
 use Rattle.std.proofs.lemmas.Fmt.{decimal_is_IsNumeral_wide}
 use Rattle.std.specs.Char.{digit_value, is_ascii_digit}

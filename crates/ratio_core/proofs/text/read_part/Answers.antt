@@ -1,4 +1,4 @@
-use Rattle.std.proofs.Common.{arith, inl, inr, eqb-true, sym, ◌∙◌, ◌<◌, ◌≡◌, ◌≤◌, length, ◌⊎◌}
+use Rattle.std.proofs.Common.{arith, inl, inr, eqb-true, sym, ◌∙◌, ◌<◌, ◌≡◌, length}
 use Rattle.std.proofs.lemmas.Bool.{eqb-false}
 use Rattle.ratio_core.proofs.Digits.{part_of_empty, part_read, part_refused}
 use Rattle.ratio_core.proofs.text.read_part.Goals as goal

@@ -1,5 +1,5 @@
-use Rattle.std.proofs.Common.{◌≡◌, ◌*◌, ◌/◌, ◌^◌, ◌<◌, ◌∙◌, ap, arith, refl, subst, sym, unsigned_abs}
-use Rattle.ratio_core.specs.Rational.{IsStored, SumFits, reduce, signed}
+use Rattle.std.proofs.Common.{◌*◌, ◌^◌, ◌<◌, ◌∙◌, ap, arith, refl, subst, sym, unsigned_abs}
+use Rattle.ratio_core.specs.Rational.{IsStored, reduce, signed}
 use Rattle.ratio_core.proofs.Kept.{refused_is}
 use Rattle.ratio_core.proofs.Sums.{den_refused, left_refused, made_fits, made_stored, made_value, right_refused, sum_refused}
 use Rattle.ratio_core.proofs.fraction.Ratio.add.Goals as goal
