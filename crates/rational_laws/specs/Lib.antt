@@ -5,4 +5,5 @@ pub mod Order
 pub mod Over
 pub mod Ring
 pub mod Sums
+pub mod Tests
 pub mod Whole
