@@ -1,10 +1,10 @@
 -- What the code's `<`, `<=`, `>`, `>=` and `==` at fractions say of the numbers.
 -- A function that compares fractions names the set once:
 --     #[tactic(auto, using(rational_laws::specs::Tests::rational_tests))]
-use Rattle.std.specs.Prelude.{◌≡◌, Bool, true, false, Decides, ◌≢◌, refl}
-use Rattle.std.proofs.Common.{sym, ◌∙◌, ap, true≢false, is_ge, is_gt, is_le, is_lt, Ordering, Less, Equal, Greater}
+use Rattle.std.specs.Prelude.{◌≡◌, true, false, Decides, refl}
+use Rattle.std.proofs.Common.{sym, true≢false, is_ge, is_gt, is_le, is_lt, Ordering, Less, Equal, Greater}
 use Rattle.std.specs.Ordering.{MatchOrdering}
-use Rattle.ratio_core.specs.Rational.{Rational, rational_cmp, rational_eq, ◌≤ℚ◌, ◌‹ℚ◌}
+use Rattle.ratio_core.specs.Rational.{Rational, rational_cmp, ◌≤ℚ◌, ◌‹ℚ◌}
 use Rattle.ratio_core.specs.RationalLaws.{eq_rational_eq, rational_eq-false, rational_eq-true, rational_ranks}
 use Rattle.rational_laws.specs.Order.{not_‹ℚ_from_≤ℚ, ≤ℚ_from_≡, ≤ℚ_from_‹ℚ}
 
