@@ -1,11 +1,11 @@
 -- The parts of a literal, round its first '/'.
-use Rattle.std.proofs.Common.{◌≡◌, ℕ, zero, suc, ◌+◌, ◌-◌, ◌<◌, ◌≤◌, Bool, true, false, not, cond, List, [], length, take, drop, Option, Some, None, position, refl, sym, ◌∙◌, ap, subst, arith, ltb, nat_lt, ltb-true, ltb-false, true≢false, length-drop, take_all, lt-ltb, le-ltb}
+use Rattle.std.proofs.Common.{◌≡◌, ℕ, zero, suc, ◌+◌, ◌-◌, ◌<◌, Bool, true, false, cond, List, [], length, take, drop, Option, Some, None, position, refl, sym, ◌∙◌, ap, arith, nat_lt, ltb-false, length-drop, take_all, lt-ltb, le-ltb}
 use Rattle.std.proofs.lemmas.Bool.Decides.{nat_tests}
-use Rattle.std.proofs.Common.{◌/◌, ◌^◌, ◌∷◌, Ok, Err, OkIff, Result, ap₂, div-le_self, eq-eqb, ne_eqb, slice_index}
+use Rattle.std.proofs.Common.{◌/◌, ◌^◌, ◌∷◌, Ok, Err, OkIff, Result, ap₂, div-le_self, slice_index}
 use Rattle.std.specs.Result.{result_ok}
 use Rattle.ratio_core.specs.Gcd.{gcd}
 use Rattle.ratio_core.specs.Rational.{Fits, Rational, reduce, signed}
-use Rattle.ratio_core.specs.Text.{denominator_of, is_slash, numerator_of, part_of, rational_from, rational_of}
+use Rattle.ratio_core.specs.Text.{denominator_of, is_slash, numerator_of, part_of, rational_from}
 use Rattle.ratio_core.proofs.Kept.{lowest_fits}
 use Rattle.std.specs.List.{after_first, before_first, list_any, position_or_len}
 
@@ -76,14 +76,6 @@ parts_whole s text n e f =
     ap₂ (rational_from s) (f ∙ ap part_of (sym none.0)) (sym (ap (λ t. cond t (part_of (after_first is_slash text)) (Some 1)) none.1))
 
 -- ---- the sign
-
-pub minus_read : (text : List ℕ) → slice_index text 0 ≡ 45 → rational_from true (numerator_of (drop 1 text)) (denominator_of (drop 1 text)) ≡ rational_of text
-unfolding rational_of
-minus_read text e = sym (ap (λ t. rational_from t (numerator_of (cond t (drop 1 text) text)) (denominator_of (cond t (drop 1 text) text))) (eq-eqb _ _ e))
-
-pub plain_read : (text : List ℕ) → ¬ (slice_index text 0 ≡ 45) → rational_from false (numerator_of text) (denominator_of text) ≡ rational_of text
-unfolding rational_of
-plain_read text e = sym (ap (λ t. rational_from t (numerator_of (cond t (drop 1 text) text)) (denominator_of (cond t (drop 1 text) text))) (ne_eqb _ _ e))
 
 pub empty_start : (text : List ℕ) → length text ≡ 0 → ¬ (slice_index text 0 ≡ 45)
 empty_start [] h e = omega arith

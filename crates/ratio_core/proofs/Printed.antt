@@ -1,5 +1,5 @@
 -- Decimal digits, written from the last to the first.
-use Rattle.std.proofs.Common.{◌≡◌, ℕ, zero, suc, ◌+◌, ◌-◌, ◌*◌, ◌/◌, ◌%◌, ◌^◌, ◌<◌, ◌≤◌, Bool, true, false, cond, List, [], ◌∷◌, ◌++◌, length, drop, set, get_or, decimal, refl, sym, ◌∙◌, ap, ap₂, subst, arith, ◌==◌, nat_lt, eq-eqb, ne_eqb, lt-ltb, pos, negsuc, ℤ, neg_ℤ, unsigned_abs, div-lt_iff_lt-mul, pow-suc, drop-cons, drop-set-lt, get_or-set_same, length-set, sub-one, zero-le, le-ltb, true≢false, drop_of_length-le, append-nil, take, take_all, length-drop}
+use Rattle.std.proofs.Common.{◌≡◌, ℕ, zero, suc, ◌+◌, ◌-◌, ◌*◌, ◌/◌, ◌%◌, ◌^◌, ◌<◌, ◌≤◌, Bool, true, false, cond, List, [], ◌∷◌, ◌++◌, length, drop, set, decimal, refl, sym, ◌∙◌, ap, ap₂, subst, arith, ◌==◌, eq-eqb, ne_eqb, lt-ltb, pos, negsuc, ℤ, unsigned_abs, pow-suc, drop-cons, drop-set-lt, get_or-set_same, length-set, zero-le, le-ltb, drop_of_length-le, append-nil, take, take_all, length-drop}
 use Rattle.std.specs.Fmt.{digits_onto, digit_glyph, signed_decimal}
 use Rattle.std.specs.Fmt as Fmt
 use Rattle.std.specs.Int.{is_negative}

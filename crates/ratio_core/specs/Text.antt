@@ -1,7 +1,7 @@
 -- How a number is written: an optional '-', decimal digits, and where it is no whole number a '/' and the denominator.
 --     rational_of text           the number that a literal stands for, or `None` where the text is no literal
 --     text_of q                  the text that is printed for q
-use Rattle.std.specs.Prelude.{◌≡◌, ℕ, zero, suc, ◌+◌, ◌*◌, ◌^◌, ◌<◌, Bool, true, false, ◌&&◌, List, [], ◌∷◌, ◌++◌, length, drop, pos, neg_ℤ, Option, Some, None, nat_lt, ◌==◌, if◌then◌else◌, decimal}
+use Rattle.std.specs.Prelude.{ℕ, suc, ◌^◌, Bool, ◌&&◌, List, [], ◌∷◌, ◌++◌, length, drop, Option, Some, None, nat_lt, ◌==◌, if◌then◌else◌, decimal}
 use Rattle.std.specs.Char.{is_ascii_digit}
 use Rattle.std.specs.Fmt.{signed_decimal}
 use Rattle.std.specs.List.{after_first, before_first, list_all, list_any}

@@ -1,4 +1,3 @@
-use Rattle.std.proofs.Common.{◌∙◌, sym}
 use Rattle.ratio_core.proofs.Literals.{fraction_is}
 use Rattle.ratio_core.proofs.text.fraction_of.Goals as goal
 

@@ -1,4 +1,4 @@
-use Rattle.std.proofs.Common.{rules, ◌∙◌, sym, subst, T, IsTrue, eqb-true, eq-eqb, true≢false}
+use Rattle.std.proofs.Common.{rules, ◌∙◌, sym}
 use Rattle.ratio_core.proofs.Kept.{is_zero_lem, zero_num}
 use Rattle.ratio_core.proofs.fraction.Ratio.is_zero.Goals as goal
 
