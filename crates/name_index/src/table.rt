@@ -101,7 +101,7 @@ impl NameTable {
         ensures one_to_one { IsOneToOne self.now.numbers }
     {
         let place = self.places.get_index_of(&id)?;
-        let (name, _) = self.numbers.get_index(place)?;
+        let (name, _) = self.numbers.get_index(place).unwrap();
         Some(name)
     }
 
@@ -114,7 +114,7 @@ impl NameTable {
         ensures one_to_one { IsOneToOne self.new.numbers }
     {
         let (place, _) = self.places.swap_remove_full(&id)?;
-        let (name, _) = self.numbers.swap_remove_index(place)?;
+        let (name, _) = self.numbers.swap_remove_index(place).unwrap();
         Some(name)
     }
 }
