@@ -122,19 +122,31 @@ module _ (es : Entries) (ids : List ℕ) (step : InStep es ids) where
       let there = place_from_get other id found in
       same_Some one other (sym (name_at here.0 one id here.1) ∙ name_at there.0 other id there.1)
 
+  -- the name that has a number is the only one
+  name_at_from : (name : List ℕ) (id : ℕ) → map.get (numbers_of es) name ≡ Some id → IsNameAt (numbers_of es) id (Some name)
+  name_at_from name id got other = (λ same. ap (map.get (numbers_of es)) (sym (same_Some name other same)) ∙ got, λ found. ap Some (one_to_one name other id got found))
+
   -- the name at the index where a number stands
-  pub get_at_position : (i : ℕ) (name : List ℕ) (other id : ℕ) → position (nat_eq id) ids ≡ Some i → slice_get es i ≡ Some (name, other) → map.get (numbers_of es) name ≡ Some id
+  get_at_position : (i : ℕ) (name : List ℕ) (other id : ℕ) → position (nat_eq id) ids ≡ Some i → slice_get es i ≡ Some (name, other) → map.get (numbers_of es) name ≡ Some id
   get_at_position i name other id found at =
       let fact = position-Some (nat_eq id) ids i 0 found in
       let stands : slice_get ids i ≡ Some id = slice_get-get_or ids i 0 fact.0 ∙ ap Some (sym (same_number id (get_or ids i 0) fact.1)) in
       let same : other ≡ id = same_Some other id (sym (value_at es i name other at) ∙ ap (λ l. slice_get l i) step.in_step ∙ stands) in
       get_at i name other at ∙ ap Some same
 
+  -- the answer where a number stands
+  pub name_at_position : (i : ℕ) (name : List ℕ) (other id : ℕ) → position (nat_eq id) ids ≡ Some i → slice_get es i ≡ Some (name, other) → IsNameAt (numbers_of es) id (Some name)
+  name_at_position i name other id found at = name_at_from name id (get_at_position i name other id found at)
+
   -- a number that stands nowhere is no name's
-  pub free_from_absent : (id : ℕ) → list_any (nat_eq id) ids ≡ false → IsFree (numbers_of es) id
+  free_from_absent : (id : ℕ) → list_any (nat_eq id) ids ≡ false → IsFree (numbers_of es) id
   free_from_absent id absent name got =
       let place = place_from_get name id got in
       stands_nowhere ids id absent place.0 (ap (λ l. slice_get l place.0) (sym step.in_step) ∙ value_at es place.0 name id place.1)
+
+  -- the answer where it stands nowhere
+  pub none_at_absent : (id : ℕ) → list_any (nat_eq id) ids ≡ false → IsNameAt (numbers_of es) id None
+  none_at_absent id absent name = (λ same. absurd (none-some name same), λ got. absurd (free_from_absent id absent name got))
 
   -- and a number that is no name's stands nowhere
   pub absent_from_free : (id : ℕ) → IsFree (numbers_of es) id → list_any (nat_eq id) ids ≡ false

@@ -1,5 +1,5 @@
 -- What contracts see of a table of names and numbers.
-use Rattle.std.specs.Prelude.{◌≡◌, ◌≢◌, ℕ, List, Some, Option, MatchOption, refl}
+use Rattle.std.specs.Prelude.{◌≡◌, ◌≢◌, ◌↔◌, ℕ, List, Some, Option, refl}
 use Rattle.std.specs.Coded.{Coded, code_by, coded×, coded_ℕ, coded_list}
 use Rattle.std.specs.Cmp.Lexicographic.{slice_cmp}
 use Rattle.std.specs.FinMap as map
@@ -28,6 +28,6 @@ IsFree numbers id = (name : List ℕ) → map.get numbers name ≢ Some id
 abbrev pub IsOneToOne : Numbers → Type 0
 IsOneToOne numbers = (one other : List ℕ) (id : ℕ) → map.get numbers one ≡ Some id → map.get numbers other ≡ Some id → one ≡ other
 
--- the answer is the name with the number, and none where no name has it
+-- the answer is a name exactly where the name has the number: what looking up a number gives, the other way round
 abbrev pub IsNameAt : Numbers → ℕ → Option (List ℕ) → Type 0
-IsNameAt numbers id answer = MatchOption answer (IsFree numbers id) (λ name. map.get numbers name ≡ Some id)
+IsNameAt numbers id answer = (name : List ℕ) → (answer ≡ Some name) ↔ (map.get numbers name ≡ Some id)

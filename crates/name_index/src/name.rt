@@ -7,7 +7,7 @@ ghost use Rattle.std.specs.Cmp.{partial_equiv_from_equiv};
 ghost use Rattle.name_index.specs.Escape.{escaped, percent_decoded};
 
 use crate::{Memory, Text};
-use percent_encoding::{AsciiSet, CONTROLS, ascii_set, percent_decode, percent_encode};
+use percent_encoding::{AsciiSet, CONTROLS, ascii_set, percent_decode, utf8_percent_encode};
 use std::alloc::{AllocError, Global};
 use std::hash::{Hash, Hasher};
 use std::marker::Model;
@@ -114,7 +114,7 @@ impl Name {
         ensures reads_back { name_of_token (escaped self.now) ≡ Some self.now }
     {
         let mut token = String::new(*self.text.allocator());
-        percent_encode(self.text.as_bytes(), ESCAPED).append_to(&mut token)?;
+        utf8_percent_encode(self.text(), ESCAPED).append_to(&mut token)?;
         Ok(Text::from(token.into_bytes()))
     }
 

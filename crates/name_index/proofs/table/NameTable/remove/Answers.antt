@@ -1,10 +1,10 @@
 use Rattle.std.proofs.Common.{sym, ap, subst, is_some, ◌∙◌}
-use Rattle.name_index.proofs.TableLemmas.{free_from_absent, get_at_position, entry_at, remove_in_step, numbers-remove, one_to_one}
+use Rattle.name_index.proofs.TableLemmas.{none_at_absent, name_at_position, entry_at, remove_in_step, numbers-remove, one_to_one}
 use Rattle.name_index.proofs.table.NameTable.remove.Goals as goal
 
 pub returns-in_err-place-clause-value : goal.returns-in_err-place-clause-value
 returns-in_err-place-clause-value c =
-    rw (← c.self.view_is, c.from_residual.ensures) (free_from_absent _ _ c.self.invariant c.args.id (sym c.in_err-place.ensures.found))
+    rw (← c.self.view_is, c.from_residual.ensures) (none_at_absent _ _ c.self.invariant c.args.id (sym c.in_err-place.ensures.found))
 
 pub returns-in_err-place-clause-one_to_one : goal.returns-in_err-place-clause-one_to_one
 returns-in_err-place-clause-one_to_one c = one_to_one _ _ c.self.invariant
@@ -22,7 +22,7 @@ invariant_of-self-2 c =
 pub returns-clause-value : goal.returns-clause-value
 returns-clause-value c =
     rw (← c.self.view_is)
-    (get_at_position _ _ c.self.invariant c.in_ok-place.place _ _ c.args.id (sym c.in_ok-place.ensures.index)
+    (name_at_position _ _ c.self.invariant c.in_ok-place.place _ _ c.args.id (sym c.in_ok-place.ensures.index)
       (sym c.swap_remove_index.ensures.entry ∙ c.unwrap-name.ensures))
 
 pub returns-clause-removed : goal.returns-clause-removed
