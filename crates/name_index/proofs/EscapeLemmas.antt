@@ -37,8 +37,8 @@ bytes_of_char c small =
     let low : (x : ℕ) → IsByte (128 + x % 64) = λ x. omega arith in
     cond_both (nat_lt c 128) _ _ (All IsByte) (λ t. one c (grind (arith, nat_tests)))
     (λ _. cond_both (nat_lt c 2048) _ _ (All IsByte) (λ t. let high : c < 2048 = grind (arith, nat_tests) in two _ _ (omega arith) (low c))
-      (λ _. cond_both (nat_lt c 65536) _ _ (All IsByte) (λ t. let high : c < 65536 = grind (arith, nat_tests) in three _ _ _ (omega arith) (low (c / 64)) (low c))
-        (λ _. four _ _ _ _ (omega arith) (low (c / 4096)) (low (c / 64)) (low c))))
+    (λ _. cond_both (nat_lt c 65536) _ _ (All IsByte) (λ t. let high : c < 65536 = grind (arith, nat_tests) in three _ _ _ (omega arith) (low (c / 64)) (low c))
+    (λ _. four _ _ _ _ (omega arith) (low (c / 4096)) (low (c / 64)) (low c))))
 
 bytes_of_chars : (cs : List ℕ) → scalars cs ≡ true → All IsByte (encodes cs)
 bytes_of_chars [] good = All-nil IsByte
@@ -105,15 +105,15 @@ percent_decode-decoded (b ∷ c ∷ []) = refl
 percent_decode-decoded (b ∷ high ∷ low ∷ rest) =
     elim (is_escape b high low) as (λ t. is_escape b high low ≡ t → crate.percent_decode (b ∷ high ∷ low ∷ rest) ≡ percent_decoded (b ∷ high ∷ low ∷ rest)) [
       | true ↦ λ t.
-        let high_same = hex_same high (high_is_hex b high low t) in
-        let low_same = hex_same low (low_is_hex b high low t) in
-        cond-true _ _ _ (escape_test b high low ∙ t)
-        ∙ (λ i. (16 * high_same i + low_same i) ∷ percent_decode-decoded rest i)
-        ∙ sym (cond-true _ _ _ t)
+          let high_same = hex_same high (high_is_hex b high low t) in
+          let low_same = hex_same low (low_is_hex b high low t) in
+          cond-true _ _ _ (escape_test b high low ∙ t)
+          ∙ (λ i. (16 * high_same i + low_same i) ∷ percent_decode-decoded rest i)
+          ∙ sym (cond-true _ _ _ t)
       | false ↦ λ t.
-        cond-false _ _ _ (escape_test b high low ∙ t)
-        ∙ ap (λ l. b ∷ l) (percent_decode-decoded (high ∷ low ∷ rest))
-        ∙ sym (cond-false _ _ _ t)
+          cond-false _ _ _ (escape_test b high low ∙ t)
+          ∙ ap (λ l. b ∷ l) (percent_decode-decoded (high ∷ low ∷ rest))
+          ∙ sym (cond-false _ _ _ t)
     ] refl
 
 -- ---- the way back
@@ -127,6 +127,7 @@ graphic-escaped bs small =
     kept b outside = let ascii = ascii_from_kept ESCAPED b outside in
         let plain : is_escaped b ≡ false = sym (in_set b (omega arith)) ∙ outside in
         unescaped_range b plain
+
     digit : (b : ℕ) → IsEscapeByte b → (33 ≤ b) × (b ≤ 126)
     digit b one = grind arith
 

@@ -191,6 +191,6 @@ numbers-add es more name id free entries =
 pub numbers-remove : (es fewer : Entries) (name : List ℕ) → ((q : List ℕ) → lookup (bytes_eq q) fewer ≡ cond (bytes_eq name q) None (lookup (bytes_eq q) es)) → numbers_of fewer ≡ map.remove (numbers_of es) name
 numbers-remove es fewer name looks =
     map.same_map nat_list_cmp_total names_differ _ _ (λ q.
-      get-numbers_of fewer q ∙ looks q
-      ∙ (λ i. cond (turned_test name q i) None (sym (get-numbers_of es q) i))
-      ∙ sym (map.get-remove nat_list_cmp_total (numbers_of es) name q))
+    get-numbers_of fewer q ∙ looks q
+    ∙ (λ i. cond (turned_test name q i) None (sym (get-numbers_of es q) i))
+    ∙ sym (map.get-remove nat_list_cmp_total (numbers_of es) name q))

@@ -13,9 +13,9 @@ returns-then-not-is_name_length-clause-value c =
     let is : c.append_to.new.out.items ≡ percent_decoded c.args.token.now = decoded ∙ percent_decode-decoded _ in
     let counted = c.append_to.new.out.ok.0 in
     sym (name_of_token-none _ (λ name.
-      let short : 1 ≤ c.len.result = omega (arith, counted, ap length is, name.length.0) in
-      let long : c.len.result ≤ 4096 = omega (arith, counted, ap length is, name.length.1) in
-      true≢false (sym (c.is_name_length.ensures.1 (short, long)) ∙ c.if-not-is_name_length.true)))
+    let short : 1 ≤ c.len.result = omega (arith, counted, ap length is, name.length.0) in
+    let long : c.len.result ≤ 4096 = omega (arith, counted, ap length is, name.length.1) in
+    true≢false (sym (c.is_name_length.ensures.1 (short, long)) ∙ c.if-not-is_name_length.true)))
 
 pub returns-in-Ok-clause-is_name : goal.returns-in-Ok-clause-is_name
 returns-in-Ok-clause-is_name c =

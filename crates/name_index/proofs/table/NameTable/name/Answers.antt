@@ -15,7 +15,7 @@ pub returns-clause-value : goal.returns-clause-value
 returns-clause-value c =
     rw (← c.self.view_is)
     (name_at_position _ _ c.self.invariant c.in_ok-place.place _ _ c.args.id (sym c.in_ok-place.ensures.index)
-      (sym c.get_index.ensures.entry ∙ ap (option_map deref_pair) c.unwrap.ensures))
+    (sym c.get_index.ensures.entry ∙ ap (option_map deref_pair) c.unwrap.ensures))
 
 pub returns-clause-one_to_one : goal.returns-clause-one_to_one
 returns-clause-one_to_one c = rw (← c.self.view_is) (one_to_one _ _ c.self.invariant)

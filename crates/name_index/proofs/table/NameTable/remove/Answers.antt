@@ -17,13 +17,13 @@ unwrap-name-requires c =
 pub invariant_of-self-2 : goal.invariant_of-self-2
 invariant_of-self-2 c =
     remove_in_step _ _ c.self.invariant c.in_ok-place.place c.args.id c.unwrap-name.result _ _ (sym c.in_ok-place.ensures.index)
-      (rw c.unwrap-name.ensures at c.swap_remove_index.ensures.entries) c.swap_remove_full.ensures.keys c.swap_remove_index.ensures.unique c.swap_remove_full.ensures.unique
+    (rw c.unwrap-name.ensures at c.swap_remove_index.ensures.entries) c.swap_remove_full.ensures.keys c.swap_remove_index.ensures.unique c.swap_remove_full.ensures.unique
 
 pub returns-clause-value : goal.returns-clause-value
 returns-clause-value c =
     rw (← c.self.view_is)
     (name_at_position _ _ c.self.invariant c.in_ok-place.place _ _ c.args.id (sym c.in_ok-place.ensures.index)
-      (sym c.swap_remove_index.ensures.entry ∙ c.unwrap-name.ensures))
+    (sym c.swap_remove_index.ensures.entry ∙ c.unwrap-name.ensures))
 
 pub returns-clause-removed : goal.returns-clause-removed
 returns-clause-removed c =
