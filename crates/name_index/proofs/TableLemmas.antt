@@ -1,9 +1,9 @@
 -- What the entries of a table, and its numbers beside them, say of the map from names to numbers.
-use Rattle.std.proofs.Common.{◌≡◌, ◌≢◌, ◌-◌, ◌<◌, ◌≤◌, ◌||◌, ◌++◌, ℕ, zero, suc, Bool, true, false, cond, List, [], ◌∷◌, length, take, set, get_or, slice_get, position, Option, None, Some, nat_eq, map as mapped, refl, sym, ap, subst, ◌∙◌, arith, is_some, true≢false}
-use Rattle.std.specs.Cmp.{IsEquivalence, nat_eq_equiv, eq_by_cmp_equiv}
+use Rattle.std.proofs.Common.{◌≡◌, ◌≢◌, ◌-◌, ◌||◌, ◌++◌, ℕ, zero, suc, Bool, true, false, cond, List, [], ◌∷◌, length, take, set, get_or, slice_get, position, None, Some, nat_eq, map as mapped, refl, sym, ap, subst, ◌∙◌, arith, true≢false}
+use Rattle.std.specs.Cmp.{nat_eq_equiv}
 use Rattle.std.specs.Cmp.Lexicographic.{slice_cmp, texts_ties, nat_list_eq_equiv, nat_list_cmp_total, bytes_decides}
 use Rattle.std.specs.FinMap as map
-use Rattle.std.specs.FinMap.{FinMap, find}
+use Rattle.std.specs.FinMap.{find}
 use Rattle.std.specs.List.{IsDistinct, list_any, swap_remove}
 use Rattle.std.specs.Map.{keys_of, values_of, lookup}
 use Rattle.std.specs.Option.{option_map, option_map_or}
@@ -14,7 +14,7 @@ use Rattle.std.proofs.lemmas.List.{take-map, map-set, length-map, map_push}
 use Rattle.std.proofs.Math.ListN.{get_or-map}
 use Rattle.std.proofs.lemmas.List.Quantifiers.{position-Some}
 use Rattle.std.proofs.lemmas.Map.Entries.{place_from_lookup, lookup_from_place}
-use Rattle.std.proofs.lemmas.Option.{slice_get-map, same_Some, none-some, slice_get-get_or, slice_get_within, get_or_from_slice_get}
+use Rattle.std.proofs.lemmas.Option.{slice_get-map, same_Some, none-some, slice_get-get_or}
 use Rattle.indexmap.specs.IndexSet.{insert_key, swap_remove_by}
 use Rattle.indexmap.proofs.MapLemmas.{swap_remove-default}
 use Rattle.name_index.specs.InStep.{InStep}

@@ -109,6 +109,7 @@ impl Name {
     /// case. A token so written reads back as the name.
     pub fn escape(&self) -> Result<Text, Memory>
         ensures value { IfOk result (λ token. token ≡ escaped self.now) }
+        ensures is_name { IsName self.now }
         ensures graphic { All (λ b. (33 ≤ b) × (b ≤ 126)) (escaped self.now) }
         ensures decodes { percent_decoded (escaped self.now) ≡ self.now }
         ensures reads_back { name_of_token (escaped self.now) ≡ Some self.now }
@@ -120,9 +121,10 @@ impl Name {
 
     /// An equal name in memory of its own.
     pub fn copy(&self) -> Result<Name, Memory>
-        ensures { IfOk result (λ name. name ≡ self.now) }
+        ensures value { IfOk result (λ name. name ≡ self.now) }
+        ensures is_name { IsName self.now }
     {
-        let text = self.text.clone()?;
+        let text = String::from_str(*self.text.allocator(), self.text())?;
         Ok(Name { text })
     }
 }

@@ -12,7 +12,7 @@ use std::marker::Model;
 ///
 /// Contracts see the finite map from names to numbers, and beside it how many names can still be added without memory.
 /// Looking up a name or a number and removing one cost the same however many names there are.
-#[derive(Drop)]
+#[derive(Debug, Drop)]
 pub struct NameTable {
     numbers: IndexMap<Name, u32>,
     // The numbers by themselves, each at the index of its name.

@@ -71,6 +71,7 @@ fn a_name_has_1_to_4096_bytes(rt: HostRuntime) -> Result<(), Fail> {
 fn texts_and_names_are_lists(rt: HostRuntime) -> Result<(), Fail> {
     let alloc = rt.alloc();
     let mut text = Text::new(alloc);
+    assert!(rt; text.is_empty());
     assert!(rt; text.push(b'a').is_ok() && text.push(b'b').is_ok());
     assert_eq!(rt;
         (text.len(), text.get(1), text.get(2)),
@@ -80,6 +81,7 @@ fn texts_and_names_are_lists(rt: HostRuntime) -> Result<(), Fail> {
     assert_eq!(rt; Text::from(bytes).bytes(), b"ab".as_slice());
 
     let mut names = Names::new(alloc);
+    assert!(rt; names.is_empty());
     assert!(rt; names.push(Name::new(alloc, "x")?).is_ok());
     let list = Vec::from(names.copy()?);
     let names = Names::from(list);

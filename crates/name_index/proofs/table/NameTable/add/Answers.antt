@@ -1,10 +1,9 @@
-use Rattle.std.proofs.Common.{◌≡◌, ◌++◌, ◌∷◌, [], None, nat_eq, sym, ap, subst, ◌∙◌}
+use Rattle.std.proofs.Common.{◌≡◌, None, nat_eq, sym, ap, ◌∙◌}
 use Rattle.std.specs.FinMap as map
 use Rattle.std.specs.Str.{bytes_eq}
 use Rattle.indexmap.specs.IndexSet.{insert_key}
 use Rattle.indexmap.proofs.CallerLemmas.{insert_entry-new}
-use Rattle.name_index.specs.InStep.{InStep}
-use Rattle.name_index.specs.NameTable.{IsFree, IsOneToOne}
+use Rattle.name_index.specs.NameTable.{IsFree}
 use Rattle.name_index.proofs.TableLemmas.{numbers_of, get-numbers_of, add_in_step, numbers-add, one_to_one}
 use Rattle.name_index.proofs.table.NameTable.add.Goals as goal
 

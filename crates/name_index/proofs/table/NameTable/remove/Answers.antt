@@ -1,4 +1,4 @@
-use Rattle.std.proofs.Common.{sym, ap, subst, is_some, ◌∙◌}
+use Rattle.std.proofs.Common.{sym, ◌∙◌}
 use Rattle.name_index.proofs.TableLemmas.{none_at_absent, name_at_position, entry_at, remove_in_step, numbers-remove, one_to_one}
 use Rattle.name_index.proofs.table.NameTable.remove.Goals as goal
 
