@@ -1,0 +1,4 @@
+pub mod Escape
+pub mod Name
+pub mod NameTable
+pub mod InStep
