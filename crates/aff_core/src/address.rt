@@ -1,0 +1,132 @@
+//! Addresses of items.
+ghost use Rattle.std.specs.Prelude.{◌≡◌, ℕ, ◌<◌, length, refl};
+ghost use Rattle.std.specs.Cmp.{eq_by_cmp_equiv, partial_equiv_from_equiv, po};
+ghost use Rattle.std.specs.Ordering.{eq_by_cmp, as_partial_cmp};
+ghost use Rattle.aff_core.specs.Address.{root_address, child_of, address_cmp, address_total};
+
+use crate::Root;
+use std::cmp::Ordering;
+use std::marker::Model;
+
+/// The address of an item: what it begins at, the number of that, and the positions of the
+/// children chosen on the way down, at most forty.
+#[derive(Clone, Copy)]
+pub struct Address {
+    root: Root,
+    number: u32,
+    positions: [u16; 40],
+    depth: u8,
+}
+
+impl Model for Address {
+    ghost use Rattle.aff_core.specs.Address.{Address, address_code};
+
+    ghost Value = { Address };
+
+    ghost coded = { address_code };
+
+    ghost use Rattle.aff_core.specs.Stored.{address_of, IsPadded, padded, padded-address_of};
+
+    ghost view = { address_of };
+
+    ghost invariant = { IsPadded };
+
+    ghost inverse = { padded };
+
+    ghost inverse_ok = { padded-address_of };
+}
+
+impl Address {
+    /// The address of an item of the model.
+    pub fn root(root: Root, id: u32) -> Address
+        ensures { result ≡ root_address root id }
+    {
+        Address {
+            root,
+            number: id,
+            positions: [0; 40],
+            depth: 0,
+        }
+    }
+
+    /// The address of the child at a position.
+    pub fn child(&self, position: u16) -> Address
+        requires { length self.now.positions < 40 }
+        ensures { result ≡ child_of self.now position }
+    {
+        let mut child = *self;
+        child.positions[self.depth as usize] = position;
+        child.depth += 1;
+        child
+    }
+
+    /// The number of positions.
+    pub fn depth(&self) -> usize
+        ensures { result ≡ length self.now.positions }
+    {
+        self.depth as usize
+    }
+
+    /// What the address begins at.
+    pub fn kind(&self) -> Root
+        ensures { result ≡ self.now.root }
+    {
+        self.root
+    }
+
+    /// The number of what the address begins at.
+    pub fn number(&self) -> u32
+        ensures { result ≡ self.now.number }
+    {
+        self.number
+    }
+
+    /// The positions of the children chosen on the way down.
+    pub fn positions(&self) -> &[u16]
+        ensures { result.now ≡ self.now.positions }
+    {
+        &self.positions[..self.depth as usize]
+    }
+}
+
+impl PartialEq for Address {
+    ghost eq = { eq_by_cmp address_cmp };
+
+    ghost laws = { partial_equiv_from_equiv (eq_by_cmp_equiv address_total) };
+
+    fn eq(&self, other: &Address) -> bool {
+        self.cmp(other) == Ordering::Equal
+    }
+}
+
+impl Eq for Address {
+    ghost laws = { eq_by_cmp_equiv address_total };
+}
+
+impl PartialOrd for Address {
+    ghost partial_cmp = { as_partial_cmp address_cmp };
+
+    ghost laws = { po address_total (λ a b. refl) };
+
+    fn partial_cmp(&self, other: &Address) -> Option<Ordering> {
+        Some(self.cmp(other))
+    }
+}
+
+impl Ord for Address {
+    ghost cmp = { address_cmp };
+
+    ghost total = { address_total };
+
+    ghost matches_partial_cmp = { λ a b. refl };
+
+    ghost matches_eq = { λ a b. refl };
+
+    /// By root, number and positions, of which the first that differ decide.
+    fn cmp(&self, other: &Address) -> Ordering {
+        self.root
+            .cmp(&other.root)
+            .then(self.number.cmp(&other.number))
+            .then_with(|| self.positions().cmp(other.positions()))
+    }
+}
