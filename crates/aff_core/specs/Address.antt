@@ -1,10 +1,12 @@
 -- Addresses of items: a root with its number, and the positions of the children chosen on the way down.
 use Rattle.std.specs.Prelude.{◌≡◌, ℕ, suc, zero, Bool, true, ◌&&◌, List, [], ◌∷◌, ◌++◌, refl}
-use Rattle.std.proofs.Common.{ap, sym, ◌∙◌}
+use Rattle.std.proofs.Common.{ap, sym, subst, ◌∙◌}
 use Rattle.std.specs.Coded.{Coded, code_by, coded×, coded_ℕ, coded_list}
-use Rattle.std.specs.Ordering.{nat_cmp, on, then_cmp}
+use Rattle.std.specs.Ordering.{nat_cmp, on, then_cmp, is_eq, eq_by_cmp}
+use Rattle.std.specs.Bool.{Decides}
 use Rattle.std.specs.declared.cmp.Ordering.{Ordering}
-use Rattle.std.specs.Cmp.{IsTotalOrder, nat_cmp_total, on_total, then_total}
+use Rattle.std.specs.declared.cmp.Ordering.TheVariants.{Equal}
+use Rattle.std.specs.Cmp.{IsTotalOrder, nat_cmp_total, on_total, then_total, Equal-is, tied_itself}
 use Rattle.std.specs.Cmp.Lexicographic.{slice_cmp, nat_list_cmp_total}
 use Rattle.std.specs.FinMap.{IsAntisymmetric, nat_cmp-IsAntisymmetric, slice_cmp-IsAntisymmetric}
 use Rattle.std.proofs.lemmas.Map.Lookups.{exact_pairs}
@@ -67,3 +69,8 @@ unfolding address_cmp
 exact_addresses a b e =
     let same = exact_pairs nat_cmp _ nat_cmp-IsAntisymmetric (exact_pairs nat_cmp (slice_cmp nat_cmp) nat_cmp-IsAntisymmetric (slice_cmp-IsAntisymmetric nat_cmp-IsAntisymmetric)) (root_number a.root, (a.number, a.positions)) (root_number b.root, (b.number, b.positions)) e in
     λ i. record { root = root_number-injective a.root b.root (ap (λ p. p.0) same) i; number = (same i).1.0; positions = (same i).1.1 }
+
+-- so `==` on addresses is equality
+pub address_eq-Decides : (a b : Address) → Decides (eq_by_cmp address_cmp a b) (a ≡ b)
+address_eq-Decides a b =
+    (λ e. exact_addresses a b ((Equal-is (address_cmp a b)).0 e), λ e. ap is_eq (subst (λ c. address_cmp a c ≡ Equal) e (tied_itself address_total a)))

@@ -1,5 +1,5 @@
 //! Addresses of items.
-ghost use Rattle.std.specs.Prelude.{◌≡◌, ℕ, ◌<◌, length, refl};
+ghost use Rattle.std.specs.Prelude.{◌≡◌, ℕ, ◌<◌, length, refl, IsTrue, ◌↔◌};
 ghost use Rattle.std.specs.Cmp.{eq_by_cmp_equiv, partial_equiv_from_equiv, po};
 ghost use Rattle.std.specs.Ordering.{eq_by_cmp, as_partial_cmp};
 ghost use Rattle.aff_core.specs.Address.{root_address, child_of, address_cmp, address_total};
@@ -94,8 +94,11 @@ impl PartialEq for Address {
 
     ghost laws = { partial_equiv_from_equiv (eq_by_cmp_equiv address_total) };
 
-    fn eq(&self, other: &Address) -> bool {
-        self.cmp(other) == Ordering::Equal
+    fn eq(&self, other: &Address) -> bool
+        ensures value { result ≡ eq_by_cmp address_cmp self.now other.now }
+        ensures same { IsTrue result ↔ (self.now ≡ other.now) }
+    {
+        self.cmp(other).is_eq()
     }
 }
 
@@ -124,9 +127,10 @@ impl Ord for Address {
 
     /// By root, number and positions, of which the first that differ decide.
     fn cmp(&self, other: &Address) -> Ordering {
-        self.root
-            .cmp(&other.root)
-            .then(self.number.cmp(&other.number))
-            .then_with(|| self.positions().cmp(other.positions()))
+        let first = self.root.cmp(&other.root);
+        match first.then(self.number.cmp(&other.number)) {
+            Ordering::Equal => self.positions().cmp(other.positions()),
+            decided => decided,
+        }
     }
 }
