@@ -1,1 +1,4 @@
+pub mod Entries
+pub mod Kept
 mod Padding
+pub mod Rising

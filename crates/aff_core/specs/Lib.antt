@@ -1,2 +1,6 @@
 pub mod Address
+pub mod Function
+pub mod FunctionEq
+pub mod Kept
+pub mod Rising
 pub mod Stored

@@ -2,7 +2,11 @@
 #![tactic(auto)]
 
 mod address;
+mod aff;
 mod root;
+mod terms;
 
 pub use address::Address;
+pub use aff::Aff;
 pub use root::Root;
+pub use terms::rise_strictly;

@@ -1,0 +1,30 @@
+-- How an affine function is kept: as its terms in the order of their addresses.
+use Rattle.std.specs.Prelude.{◌≡◌, ◌≢◌, ℕ, ◌<◌, List, All, length, slice_index_or, Some, None}
+use Rattle.std.specs.FinMap.{from_sorted, get}
+use Rattle.ratio_core.specs.Rational.{Rational, zero_ℚ}
+use Rattle.aff_core.specs.declared.aff.Aff.TheInside.{Inside}
+use Rattle.aff_core.specs.Address.{Address}
+use Rattle.aff_core.specs.Function.{Function, terms_of}
+use Rattle.aff_core.specs.Rising.{RiseStrictly}
+
+-- the function of terms in the order of their addresses, none of which is zero
+abbrev pub kept_as : List (Address × Rational) → Rational → Function
+kept_as ts constant = record { terms = from_sorted ts; constant = constant }
+
+abbrev pub HaveNoZero : List (Address × Rational) → Type 0
+HaveNoZero ts = All (λ t. t.1 ≢ zero_ℚ) ts
+
+abbrev pub function_in : Inside → Function
+function_in a = kept_as a.terms.items a.constant
+
+pub record IsKept (a : Inside) : Type 0 where
+  pub terms : RiseStrictly a.terms.items
+  pub nonzero : HaveNoZero a.terms.items
+
+-- the term at place n is that of the address
+pub record IsPlaceOf (f : Function) (at : Address) (n : ℕ) : Type 0 where
+  pub in_range : n < length (terms_of f)
+  pub found : (d : Address × Rational) → get f.terms at ≡ Some (slice_index_or (terms_of f) n d).1
+
+pub record IsAbsent (f : Function) (at : Address) : Type 0 where
+  pub absent : get f.terms at ≡ None

@@ -1,0 +1,147 @@
+//! Affine functions of addresses.
+ghost use Rattle.std.specs.Prelude.{◌≡◌, ◌≢◌, ℕ, All, IfOk, OnErr, IfSome, IsTrue, ◌↔◌, slice_get, length};
+ghost use Rattle.std.specs.FinMap as finite;
+ghost use Rattle.ratio_core.specs.Rational.{zero_ℚ};
+ghost use Rattle.aff_core.specs.Function.{coefficient, function_of, negated, terms_of, IsNormal};
+ghost use Rattle.aff_core.specs.FunctionEq.{function_eq, function_eq_equiv, function_eq_partial_equiv};
+ghost use Rattle.aff_core.specs.Rising.{RiseStrictly};
+
+use crate::Address;
+use crate::terms::{negated_terms, nonzero_terms};
+use ratio_core::{Memory, Ratio};
+use std::alloc::Global;
+use std::marker::Model;
+
+/// An affine function: the nonzero coefficients of addresses, and a constant.
+#[derive(Drop)]
+pub struct Aff {
+    terms: Vec<(Address, Ratio)>,
+    constant: Ratio,
+}
+
+impl Model for Aff {
+    ghost use Rattle.aff_core.specs.Function.{Function, function_code};
+
+    ghost Value = { Function };
+
+    ghost coded = { function_code };
+
+    ghost use Rattle.aff_core.specs.Kept.{function_in, IsKept};
+
+    ghost view = { function_in };
+
+    ghost invariant = { IsKept };
+}
+
+impl Aff {
+    ghost use Rattle.aff_core.specs.Kept.{IsPlaceOf, IsAbsent, HaveNoZero, kept_as};
+
+    /// The function of these terms, of which those with the coefficient 0 are left out.
+    pub fn from_terms(
+        alloc: Global,
+        terms: &[(Address, Ratio)],
+        constant: Ratio,
+    ) -> Result<Aff, Memory>
+        requires { RiseStrictly terms.now }
+        ensures { IfOk result (λ f. f ≡ function_of terms.now constant) }
+    {
+        Ok(Aff::of(nonzero_terms(alloc, terms)?, constant))
+    }
+
+    // The function of terms in the order of their addresses, none of which is zero.
+    fn of(terms: Vec<(Address, Ratio)>, constant: Ratio) -> Aff
+        requires rising { RiseStrictly terms.items }
+        requires nonzero { HaveNoZero terms.items }
+        ensures { result ≡ kept_as terms.items constant }
+    {
+        Aff { terms, constant }
+    }
+
+    /// The terms, in the order of their addresses.
+    pub fn terms(&self) -> &[(Address, Ratio)]
+        ensures all { result.now ≡ terms_of self.now }
+        ensures rising { RiseStrictly (terms_of self.now) }
+        ensures normal { IsNormal self.now }
+    {
+        &self.terms
+    }
+
+    /// The number of terms.
+    pub fn term_count(&self) -> usize
+        ensures { result ≡ length (terms_of self.now) }
+    {
+        self.terms().len()
+    }
+
+    /// The term at a place in the order of addresses, and `None` past the last.
+    pub fn term(&self, n: usize) -> Option<(Address, Ratio)>
+        ensures { result ≡ slice_get (terms_of self.now) n }
+    {
+        self.terms().get(n).copied()
+    }
+
+    /// The coefficient of an address, which is 0 where the function doesn't mention it.
+    pub fn coef(&self, at: &Address) -> Ratio
+        ensures { result ≡ coefficient self.now at.now }
+    {
+        match self.place(at) {
+            Ok(n) => self.terms()[n].1,
+            Err(_) => Ratio::zero(),
+        }
+    }
+
+    /// Whether an address has a nonzero coefficient.
+    pub fn mentions(&self, at: &Address) -> bool
+        ensures { result ≡ finite.contains_key self.now.terms at.now }
+    {
+        self.place(at).is_ok()
+    }
+
+    pub fn constant(&self) -> Ratio
+        ensures { result ≡ self.now.constant }
+    {
+        self.constant
+    }
+
+    pub fn copy(&self, alloc: Global) -> Result<Aff, Memory>
+        ensures { IfOk result (λ f. f ≡ self.now) }
+    {
+        Ok(Aff {
+            terms: Vec::from_slice(alloc, &self.terms)?,
+            constant: self.constant,
+        })
+    }
+
+    /// The function with each number negated.
+    pub fn neg(&self, alloc: Global) -> Result<Aff, Memory>
+        ensures { IfOk result (λ f. f ≡ negated self.now) }
+    {
+        Ok(Aff::of(negated_terms(alloc, self.terms())?, self.constant().neg()))
+    }
+
+    // Where the address stands among the terms, or where it would.
+    fn place(&self, at: &Address) -> Result<usize, usize>
+        ensures found { IfOk result (IsPlaceOf self.now at.now) }
+        ensures absent { OnErr result (IsAbsent self.now at.now) }
+    {
+        self.terms()
+            .binary_search_by(|(address, _)| address.cmp(at))
+    }
+}
+
+impl PartialEq for Aff {
+    ghost eq = { function_eq };
+
+    ghost laws = { function_eq_partial_equiv };
+
+    fn eq(&self, other: &Aff) -> bool
+        ensures value { result ≡ function_eq self.now other.now }
+        ensures same { IsTrue result ↔ (self.now ≡ other.now) }
+    {
+        self.constant() == other.constant() && self.terms() == other.terms()
+    }
+}
+
+impl Eq for Aff {
+    ghost laws = { function_eq_equiv };
+}
