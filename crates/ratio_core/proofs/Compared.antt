@@ -1,0 +1,80 @@
+-- Equality and order, as the code tests them.
+use Rattle.std.proofs.Common.{◌≡◌, ℕ, zero, suc, ◌*◌, ◌+◌, ◌<◌, Bool, true, false, ℤ, pos, negsuc, neg_ℤ, ◌*ℤ◌, ◌<ℤ◌, unsigned_abs, nat_eq, refl, sym, ◌∙◌, ap, subst, arith, ne_eqb, ltb, le-ltb, zero-le, true≢false, Ordering, Less, Equal, Greater}
+use Rattle.std.proofs.lemmas.Bool.Decides.{Decides-like, Decides-eqb, same_from_decides}
+use Rattle.std.proofs.lemmas.Int.{ints}
+use Rattle.std.specs.Cmp.{ranked, int_cmp_is}
+use Rattle.std.specs.Int.{is_negative}
+use Rattle.std.specs.Ordering.{MatchOrdering, nat_cmp, int_cmp}
+use Rattle.ratio_core.specs.Rational.{Rational, same_parts, rational_cmp, rational_eq}
+use Rattle.ratio_core.specs.RationalLaws.{rational_eq_Decides}
+
+-- where the numerators are equal, the denominators decide
+pub eq_by_den : (p q : Rational) → p.num ≡ q.num → nat_eq p.den q.den ≡ rational_eq p q
+eq_by_den p q e =
+    same_from_decides (nat_eq p.den q.den) (rational_eq p q)
+    (Decides-like (nat_eq p.den q.den) (λ f. same_parts p q (λ i. (e i, f i))) (λ f. ap (λ r. r.den) f) (Decides-eqb p.den q.den))
+    (rational_eq_Decides p q)
+
+pub not_eq_by_num : (p q : Rational) → ¬ (p.num ≡ q.num) → false ≡ rational_eq p q
+not_eq_by_num p q n = decided (rational_eq p q) refl
+  where
+    decided : (b : Bool) → rational_eq p q ≡ b → false ≡ rational_eq p q
+    decided false e = sym e
+    decided true e = absurd (n (ap (λ r. r.num) ((rational_eq_Decides p q).0 e)))
+
+-- ---- the order, by the signs
+
+not_below_zero : (a : ℕ) → is_negative (pos a) ≡ false
+not_below_zero a = le-ltb a 0 zero-le
+
+up_lem : (a b : ℕ) (r : Ordering) → MatchOrdering r (a < b) (a ≡ b) (b < a) → MatchOrdering r (pos a <ℤ pos b) (pos a ≡ pos b) (pos b <ℤ pos a)
+up_lem a b Less h = omega (arith, ints)
+up_lem a b Equal h = ap pos h
+up_lem a b Greater h = omega (arith, ints)
+
+down_lem : (a b : ℕ) (r : Ordering) → MatchOrdering r (b < a) (b ≡ a) (a < b) → MatchOrdering r (neg_ℤ (pos a) <ℤ neg_ℤ (pos b)) (neg_ℤ (pos a) ≡ neg_ℤ (pos b)) (neg_ℤ (pos b) <ℤ neg_ℤ (pos a))
+down_lem a b Less h = omega (arith, ints)
+down_lem a b Equal h = ap (λ n. neg_ℤ (pos n)) (sym h)
+down_lem a b Greater h = omega (arith, ints)
+
+no_sign : (a : ℕ) {P : Type 0} → is_negative (pos a) ≡ true → P
+no_sign a e = absurd (true≢false (sym e ∙ not_below_zero a))
+
+above_lem : (m n : ℤ) (b d : ℕ) (r : Ordering) → false ≡ is_negative m → false ≡ is_negative n → r ≡ nat_cmp (unsigned_abs m * d) (unsigned_abs n * b) → r ≡ int_cmp (m *ℤ pos d) (n *ℤ pos b)
+above_lem (pos a) (pos c) b d r e f h = int_cmp_is _ _ r (up_lem (a * d) (c * b) r (ranked _ _ r h))
+above_lem (pos a) (negsuc c) b d r e f h = absurd (true≢false (sym f))
+above_lem (negsuc a) n b d r e f h = absurd (true≢false (sym e))
+
+below_lem : (m n : ℤ) (b d : ℕ) (r : Ordering) → true ≡ is_negative m → true ≡ is_negative n → r ≡ nat_cmp (unsigned_abs n * b) (unsigned_abs m * d) → r ≡ int_cmp (m *ℤ pos d) (n *ℤ pos b)
+below_lem (negsuc a) (negsuc c) b d r e f h = int_cmp_is _ _ r (down_lem (suc a * d) (suc c * b) r (ranked _ _ r h))
+below_lem (pos a) n b d r e f h = no_sign a (sym e)
+below_lem (negsuc a) (pos c) b d r e f h = no_sign c (sym f)
+
+pos_lem : (a d : ℕ) → 0 < d → 0 < suc a * d
+pos_lem a (suc d) h = omega arith
+pos_lem a zero h = absurd (omega arith)
+
+apart_lem : (m n : ℤ) (b d : ℕ) → 0 < d → true ≡ is_negative m → false ≡ is_negative n → (m *ℤ pos d) <ℤ (n *ℤ pos b)
+apart_lem (negsuc a) (pos c) b d h e f = let above : 0 < suc a * d = pos_lem a d h in omega (arith, ints)
+apart_lem (pos a) n b d h e f = no_sign a (sym e)
+apart_lem (negsuc a) (negsuc c) b d h e f = absurd (true≢false (sym f))
+
+module _ (p q : Rational) where
+  pub cmp_above : (r : Ordering) → false ≡ is_negative p.num → false ≡ is_negative q.num → r ≡ nat_cmp (unsigned_abs p.num * q.den) (unsigned_abs q.num * p.den) → r ≡ rational_cmp p q
+  unfolding rational_cmp
+  cmp_above r = above_lem p.num q.num p.den q.den r
+
+  pub cmp_below : (r : Ordering) → true ≡ is_negative p.num → true ≡ is_negative q.num → r ≡ nat_cmp (unsigned_abs q.num * p.den) (unsigned_abs p.num * q.den) → r ≡ rational_cmp p q
+  unfolding rational_cmp
+  cmp_below r = below_lem p.num q.num p.den q.den r
+
+  pub cmp_less : true ≡ is_negative p.num → false ≡ is_negative q.num → Less ≡ rational_cmp p q
+  unfolding rational_cmp
+  cmp_less e f = int_cmp_is _ _ Less (apart_lem p.num q.num p.den q.den q.reduced.0 e f)
+
+  pub cmp_greater : false ≡ is_negative p.num → true ≡ is_negative q.num → Greater ≡ rational_cmp p q
+  unfolding rational_cmp
+  cmp_greater e f = int_cmp_is _ _ Greater (apart_lem q.num p.num q.den p.den p.reduced.0 f e)
+
+pub products_along : (a b c d a' b' c' d' : ℕ) → a ≡ a' → b ≡ b' → c ≡ c' → d ≡ d' → nat_cmp (a * b) (c * d) ≡ nat_cmp (a' * b') (c' * d')
+products_along a b c d a' b' c' d' e f g h = λ i. nat_cmp (e i * f i) (g i * h i)

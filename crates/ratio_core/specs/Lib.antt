@@ -1,0 +1,5 @@
+-- What the contracts of this crate cite.
+pub mod Gcd
+pub mod Rational
+pub mod RationalLaws
+pub mod Text

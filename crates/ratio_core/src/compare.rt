@@ -1,0 +1,67 @@
+// Equality and order.
+ghost use Rattle.std.specs.Prelude.{◌≡◌, ◌*◌, refl};
+ghost use Rattle.std.specs.Ordering.{as_partial_cmp, nat_cmp};
+ghost use Rattle.ratio_core.specs.Rational.{rational_cmp, rational_eq};
+ghost use Rattle.ratio_core.specs.RationalLaws.{rational_cmp_total, rational_eq-is_eq, rational_eq_equiv, rational_eq_partial_equiv, rational_partial_order};
+
+use crate::fraction::Ratio;
+use std::cmp::Ordering;
+
+impl PartialEq for Ratio {
+    ghost eq = { rational_eq };
+
+    ghost laws = { rational_eq_partial_equiv };
+
+    fn eq(&self, other: &Ratio) -> bool {
+        self.num() == other.num() && self.over() == other.over()
+    }
+}
+
+impl Eq for Ratio {
+    ghost laws = { rational_eq_equiv };
+}
+
+impl PartialOrd for Ratio {
+    ghost partial_cmp = { as_partial_cmp rational_cmp };
+
+    ghost laws = { rational_partial_order };
+
+    fn partial_cmp(&self, other: &Ratio) -> Option<Ordering> {
+        Some(self.cmp(other))
+    }
+}
+
+impl Ord for Ratio {
+    ghost cmp = { rational_cmp };
+
+    ghost total = { rational_cmp_total };
+
+    ghost matches_partial_cmp = { λ p q. refl };
+
+    ghost matches_eq = { rational_eq-is_eq };
+
+    fn cmp(&self, other: &Ratio) -> Ordering {
+        match (self.is_negative(), other.is_negative()) {
+            (false, true) => Ordering::Greater,
+            (true, false) => Ordering::Less,
+            (false, false) => cmp_products(self.size(), other.over(), other.size(), self.over()),
+            (true, true) => cmp_products(other.size(), self.over(), self.size(), other.over()),
+        }
+    }
+}
+
+// `a * b` against `c * d`, which may pass 128 bits.
+fn cmp_products(a: u128, b: u128, c: u128, d: u128) -> Ordering
+    ensures { result ≡ nat_cmp (a * b) (c * d) }
+{
+    match (a.checked_mul(b), c.checked_mul(d)) {
+        (Some(left), Some(right)) => left.cmp(&right),
+        _ => {
+            let (left_low, left_high) = a.carrying_mul(b, 0);
+            let (right_low, right_high) = c.carrying_mul(d, 0);
+            left_high
+                .cmp(&right_high)
+                .then(left_low.cmp(&right_low))
+        }
+    }
+}
