@@ -1,10 +1,10 @@
 -- A function and the terms that it is kept as.
-use Rattle.std.specs.Prelude.{◌≡◌, ◌≢◌, ℕ, Bool, true, false, not, T, refl, ℤ, pos, ◌*ℤ◌, neg_ℤ, List, map, filter, All, IsTrue}
+use Rattle.std.specs.Prelude.{◌≡◌, ◌≢◌, ℕ, true, not, T, ℤ, pos, ◌*ℤ◌, neg_ℤ, List, map, filter}
 use Rattle.std.proofs.Common.{arith, sym, ap, subst, ◌∙◌}
 use Rattle.std.proofs.lemmas.Int.{ints}
-use Rattle.std.specs.FinMap.{entries, entries_sorted, from_sorted, entries-from_sorted, is_sorted}
+use Rattle.std.specs.FinMap.{entries_sorted, entries-from_sorted}
 use Rattle.std.proofs.lemmas.List.Elements.{All-map, All-weaker, filter_passes}
-use Rattle.ratio_core.specs.Rational.{Rational, zero_ℚ, whole_ℚ, neg_ℚ, reduce, rational_eq}
+use Rattle.ratio_core.specs.Rational.{Rational, zero_ℚ, whole_ℚ, neg_ℚ}
 use Rattle.ratio_core.specs.RationalLaws.{same_from_cross, reduce_cross, eq_rational_eq}
 use Rattle.aff_core.specs.Address.{Address, address_cmp}
 use Rattle.aff_core.specs.Function.{Function, terms_of, is_nonzero}

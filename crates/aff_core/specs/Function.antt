@@ -1,5 +1,5 @@
 -- Affine functions: a finite map from addresses to their coefficients, and a constant.
-use Rattle.std.specs.Prelude.{◌≡◌, ◌≢◌, ℕ, Bool, true, ◌&&◌, not, List, map, filter, All, unwrap_or, IsTrue, refl}
+use Rattle.std.specs.Prelude.{◌≢◌, Bool, not, List, map, filter, All, unwrap_or, refl}
 use Rattle.std.specs.Coded.{Coded, code_by, coded×}
 use Rattle.std.specs.FinMap as finite
 use Rattle.std.specs.FinMap.{FinMap}

@@ -1,5 +1,5 @@
 -- Equality of affine functions.
-use Rattle.std.specs.Prelude.{◌≡◌, Bool, true, ◌&&◌, List, refl}
+use Rattle.std.specs.Prelude.{◌≡◌, Bool, ◌&&◌}
 use Rattle.std.proofs.Common.{ap}
 use Rattle.std.specs.Bool.{Decides}
 use Rattle.std.specs.Ordering.{eq_by_cmp}

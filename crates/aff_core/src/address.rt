@@ -1,5 +1,5 @@
 //! Addresses of items.
-ghost use Rattle.std.specs.Prelude.{◌≡◌, ℕ, ◌<◌, length, refl, IsTrue, ◌↔◌};
+ghost use Rattle.std.specs.Prelude.{◌≡◌, ℕ, ◌<◌, ◌≤◌, length, refl, IsTrue, ◌↔◌};
 ghost use Rattle.std.specs.Cmp.{eq_by_cmp_equiv, partial_equiv_from_equiv, po};
 ghost use Rattle.std.specs.Ordering.{eq_by_cmp, as_partial_cmp};
 ghost use Rattle.aff_core.specs.Address.{root_address, child_of, address_cmp, address_total};
@@ -62,7 +62,8 @@ impl Address {
 
     /// The number of positions.
     pub fn depth(&self) -> usize
-        ensures { result ≡ length self.now.positions }
+        ensures count { result ≡ length self.now.positions }
+        ensures at_most_forty { length self.now.positions ≤ 40 }
     {
         self.depth as usize
     }
@@ -131,6 +132,35 @@ impl Ord for Address {
         match first.then(self.number.cmp(&other.number)) {
             Ordering::Equal => self.positions().cmp(other.positions()),
             decided => decided,
+        }
+    }
+}
+
+#[cfg(test)]
+mod tests {
+    use super::*;
+
+    #[test]
+    fn orders_by_root_number_and_positions(rt: HostRuntime) {
+        let row = Address::root(Root::Row, 7);
+        let child = row.child(0);
+        assert!(rt; child.kind() == Root::Row && child.number() == 7 && child.depth() == 1);
+        assert_eq!(rt; child.child(3).positions(), [0, 3].as_slice());
+        let in_order = [
+            Address::root(Root::Variable, 9),
+            Address::root(Root::Group, 0),
+            row,
+            child,
+            child.child(3),
+            row.child(1),
+            Address::root(Root::Row, 8),
+            Address::root(Root::Objective, 0),
+        ];
+        for (i, a) in in_order.iter().enumerate() {
+            for (j, b) in in_order.iter().enumerate() {
+                assert!(rt; a.cmp(b) == i.cmp(&j));
+                assert!(rt; (a == b) == (i == j));
+            }
         }
     }
 }

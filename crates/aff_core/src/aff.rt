@@ -145,3 +145,29 @@ impl PartialEq for Aff {
 impl Eq for Aff {
     ghost laws = { function_eq_equiv };
 }
+
+#[cfg(test)]
+mod tests {
+    use super::*;
+    use crate::{Root, rise_strictly};
+    use std::test::Fail;
+
+    #[test]
+    fn reads_its_terms_in_order(rt: HostRuntime) -> Result<(), Fail> {
+        let x = Address::root(Root::Variable, 0);
+        let y = Address::root(Root::Variable, 1);
+        let z = Address::root(Root::Variable, 2);
+        let (two, three) = (Ratio::new(2, 1)?, Ratio::new(3, 1)?);
+        let terms = [(x, two), (y, Ratio::zero()), (z, three)];
+        assert!(rt; rise_strictly(&terms));
+        let f = Aff::from_terms(rt.alloc(), &terms, Ratio::one())?;
+        assert!(rt; f.term_count() == 2 && f.term(2).is_none());
+        assert!(rt; f.coef(&z) == three && f.coef(&y) == Ratio::zero());
+        assert!(rt; f.mentions(&x) && !f.mentions(&y));
+        assert!(rt; f.constant() == Ratio::one());
+        assert!(rt; f.copy(rt.alloc())? == f);
+        let minus = f.neg(rt.alloc())?;
+        assert!(rt; minus.coef(&x) == Ratio::new(-2, 1)? && minus != f);
+        Ok(())
+    }
+}

@@ -1,4 +1,3 @@
-use Rattle.std.specs.Prelude.{◌≡◌, filter}
 use Rattle.std.proofs.Common.{sym, ap, subst, ◌∙◌}
 use Rattle.aff_core.specs.Function.{function_of, is_nonzero}
 use Rattle.aff_core.specs.Rising.{RiseStrictly}

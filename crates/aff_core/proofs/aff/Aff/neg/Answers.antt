@@ -1,4 +1,4 @@
-use Rattle.std.specs.Prelude.{◌≡◌, map}
+use Rattle.std.specs.Prelude.{map}
 use Rattle.std.proofs.Common.{sym, ap, subst, ◌∙◌}
 use Rattle.ratio_core.specs.Rational.{neg_ℚ}
 use Rattle.aff_core.specs.Function.{negated, terms_of}

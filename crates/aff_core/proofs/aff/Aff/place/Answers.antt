@@ -1,9 +1,8 @@
-use Rattle.std.specs.Prelude.{◌≡◌, ℕ, List, length, slice_index_or, Some, None, Result, Ok, Err, IfOk, OnErr}
-use Rattle.std.proofs.Common.{rules, sym, ap, subst, ◌∙◌}
+use Rattle.std.specs.Prelude.{ℕ, length, Result, Ok, Err, IfOk, OnErr}
+use Rattle.std.proofs.Common.{rules, ◌∙◌}
 use Rattle.std.specs.FinMap.{entries_sorted, get-entries}
 use Rattle.std.specs.List.Sorted.{IsBinarySearchResult, IsSearchInRange}
 use Rattle.std.proofs.lemmas.Fn.{always_returns_same}
-use Rattle.ratio_core.specs.Rational.{Rational}
 use Rattle.aff_core.specs.Address.{Address, address_cmp, address_total}
 use Rattle.aff_core.specs.Function.{Function, terms_of}
 use Rattle.aff_core.specs.Kept.{IsPlaceOf, IsAbsent}

@@ -1,4 +1,3 @@
-use Rattle.std.specs.Prelude.{◌≡◌}
 use Rattle.std.proofs.Common.{sym, ap, subst, ◌∙◌}
 use Rattle.aff_core.specs.Function.{terms_of}
 use Rattle.aff_core.specs.Kept.{HaveNoZero}
