@@ -1,2 +1,5 @@
 pub mod Compared
+pub mod Digits
 pub mod Kept
+pub mod Literals
+pub mod Printed

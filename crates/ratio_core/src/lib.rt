@@ -8,6 +8,10 @@ mod compare;
 mod divisor;
 mod fault;
 mod fraction;
+mod text;
 
 pub use fault::{Memory, RatioFault};
 pub use fraction::Ratio;
+
+#[cfg(test)]
+mod tests;
