@@ -3,10 +3,14 @@
 
 mod address;
 mod aff;
+mod by_address;
 mod root;
+mod sequence;
 mod terms;
 
 pub use address::Address;
 pub use aff::Aff;
+pub use by_address::{ByAddress, Exprs, Point};
 pub use root::Root;
+pub use sequence::{Addresses, Affs, Ratios, Sequence, VecAff};
 pub use terms::rise_strictly;
