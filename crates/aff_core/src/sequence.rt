@@ -104,3 +104,15 @@ impl<T: Copy> Sequence<T> {
         })
     }
 }
+
+impl Sequence<Aff> {
+    pub fn copy(&self, alloc: Global) -> Result<Affs, Memory>
+        ensures { IfOk result (λ s. s ≡ self.now) }
+    {
+        let mut copies = Vec::with_capacity(alloc, self.len())?;
+        for f in self.as_slice() {
+            copies.push(f.copy(alloc)?)?;
+        }
+        Ok(Sequence::from_vec(copies))
+    }
+}
