@@ -1,8 +1,8 @@
 -- Equality and order, as the code tests them.
-use Rattle.std.proofs.Common.{◌≡◌, ℕ, zero, suc, ◌*◌, ◌+◌, ◌<◌, Bool, true, false, ℤ, pos, negsuc, neg_ℤ, ◌*ℤ◌, ◌<ℤ◌, unsigned_abs, nat_eq, refl, sym, ◌∙◌, ap, subst, arith, ne_eqb, ltb, le-ltb, zero-le, true≢false, Ordering, Less, Equal, Greater}
+use Rattle.std.proofs.Common.{◌≡◌, ℕ, zero, suc, ◌*◌, ◌+◌, ◌<◌, Bool, true, false, ℤ, pos, negsuc, neg_ℤ, ◌*ℤ◌, ◌<ℤ◌, unsigned_abs, nat_eq, refl, sym, ◌∙◌, ap, subst, arith, ne_eqb, ltb, le-ltb, zero-le, true≢false, Ordering, Less, Equal, Greater, mul-lt-mul_of_pos_right}
 use Rattle.std.proofs.lemmas.Bool.Decides.{Decides-like, Decides-eqb, same_from_decides}
 use Rattle.std.proofs.lemmas.Int.{ints}
-use Rattle.std.specs.Cmp.{ranked, int_cmp_is}
+use Rattle.std.specs.Cmp.{ranked, int_cmp_is, nat_cmp_is}
 use Rattle.std.specs.Int.{is_negative}
 use Rattle.std.specs.Ordering.{MatchOrdering, nat_cmp, int_cmp}
 use Rattle.ratio_core.specs.Rational.{Rational, same_parts, rational_cmp, rational_eq}
@@ -78,3 +78,12 @@ module _ (p q : Rational) where
 
 pub products_along : (a b c d a' b' c' d' : ℕ) → a ≡ a' → b ≡ b' → c ≡ c' → d ≡ d' → nat_cmp (a * b) (c * d) ≡ nat_cmp (a' * b') (c' * d')
 products_along a b c d a' b' c' d' e f g h = λ i. nat_cmp (e i * f i) (g i * h i)
+
+-- a common factor does not change an order
+pub nat_cmp_scaled : (a c k : ℕ) → 0 < k → nat_cmp (a * k) (c * k) ≡ nat_cmp a c
+nat_cmp_scaled a c k h = sym (nat_cmp_is (a * k) (c * k) (nat_cmp a c) (by_order (nat_cmp a c) (ranked a c (nat_cmp a c) refl)))
+  where
+    by_order : (r : Ordering) → MatchOrdering r (a < c) (a ≡ c) (c < a) → MatchOrdering r (a * k < c * k) (a * k ≡ c * k) (c * k < a * k)
+    by_order Less l = mul-lt-mul_of_pos_right l h
+    by_order Equal e = ap (λ n. n * k) e
+    by_order Greater l = mul-lt-mul_of_pos_right l h

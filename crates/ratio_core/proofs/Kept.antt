@@ -6,7 +6,7 @@ use mir.Syntax.{w128}
 use Rattle.std.proofs.Common.{◌/◌, ◌≤◌, ◌⊎◌, ◌*ℤ◌, inl, inr, zero-mul}
 use Rattle.std.proofs.Math.Nat.{zero-div}
 use Rattle.std.specs.Prelude.{int_div, int_lt}
-use Rattle.std.proofs.Common.{le-ltb, zero-le, not, ap₂, OkIff, Result, Ok, Err}
+use Rattle.std.proofs.Common.{le-ltb, zero-le, not, ap₂, OkIff, Result, Ok, Err, IsErr, true≢false}
 use mathlib.Core.Bool.{beq}
 use borrow.Author.Differences.{same_in}
 use Rattle.ratio_core.specs.Gcd.{gcd, gcd_pos}
@@ -50,11 +50,12 @@ module _ (n : ℤ) (d : ℕ) (q : Rational) (view : reduce n d ≡ q) (kept : Is
       size_lem (pos zero) = refl
       size_lem (pos (suc a)) = refl
       size_lem (negsuc a) = refl
+
       neg_stored : (n : ℤ) (d : ℕ) → IsStored n d → IsStored (neg_ℤ n) d
       neg_stored n d s = record {
         reduced = (s.reduced.0, ap (λ m. gcd m d) (sym (size_lem n)) ∙ s.reduced.1);
         num = subst (λ m. m < 2 ^ 127) (size_lem n) s.num;
-        den = s.den
+        den = s.den;
       }
 
 -- ---- whole numbers
@@ -74,8 +75,10 @@ is_zero_lem q e =
   where
     times_one : (z : ℤ) → z *ℤ pos 1 ≡ z
     times_one z = same_in _ _ (omega (arith, times_is z 1))
+
     zero_times : (d : ℕ) → pos 0 *ℤ pos d ≡ pos 0
     zero_times d = ap pos (zero-mul d)
+
     abs_zero : (z : ℤ) → unsigned_abs z ≡ 0 → z ≡ pos 0
     abs_zero (pos n) h = ap pos h
     abs_zero (negsuc n) h = absurd (omega arith)
@@ -119,7 +122,7 @@ module _ (s : Bool) (n d g : ℕ) (common : g ≡ gcd n d) (above : 0 < d) where
   lowest_stored h k = record {
     reduced = subst (λ x. IsReduced x (d / g)) lowest_num (subst (IsReduced (reduce (signed s n) d).num) lowest_den (reduce (signed s n) d).reduced);
     num = omega (arith, unsigned_abs-signed s (n / g), h);
-    den = k
+    den = k;
   }
 
   pub lowest_fits : n / g < 2 ^ 127 → d / g < 2 ^ 127 → Fits (reduce (signed s n) d)
@@ -128,6 +131,23 @@ module _ (s : Bool) (n d g : ℕ) (common : g ≡ gcd n d) (above : 0 < d) where
   pub lowest_refuses : (2 ^ 127 ≤ n / g) ⊎ (2 ^ 127 ≤ d / g) → ¬ Fits (reduce (signed s n) d)
   lowest_refuses (inl h) f = omega (arith, lowest_size, h, f.num)
   lowest_refuses (inr h) f = omega (arith, lowest_den, h, f.den)
+
+-- the same, of the quotients as the code makes them
+module _ (s : Bool) (n d g size den : ℕ) (common : g ≡ gcd n d) (above : 0 < d) (size_is : size ≡ n / g) (den_is : den ≡ d / g) where
+  pub made_stored : size < 2 ^ 127 → den < 2 ^ 127 → IsStored (signed s size) den
+  made_stored h k =
+      subst (λ x. IsStored (signed s x) den) (sym size_is)
+      (subst (IsStored (signed s (n / g))) (sym den_is) (lowest_stored s n d g common above (subst (λ x. x < 2 ^ 127) size_is h) (subst (λ x. x < 2 ^ 127) den_is k)))
+
+  pub made_same : reduce (signed s size) den ≡ reduce (signed s n) d
+  made_same = ap₂ (λ x y. reduce (signed s x) y) size_is den_is ∙ lowest_same s n d g common above
+
+  pub made_fits : size < 2 ^ 127 → den < 2 ^ 127 → Fits (reduce (signed s n) d)
+  made_fits h k = lowest_fits s n d g common above (subst (λ x. x < 2 ^ 127) size_is h) (subst (λ x. x < 2 ^ 127) den_is k)
+
+  pub made_refuses : (2 ^ 127 ≤ size) ⊎ (2 ^ 127 ≤ den) → ¬ Fits (reduce (signed s n) d)
+  made_refuses (inl h) = lowest_refuses s n d g common above (inl (subst (λ x. 2 ^ 127 ≤ x) size_is h))
+  made_refuses (inr h) = lowest_refuses s n d g common above (inr (subst (λ x. 2 ^ 127 ≤ x) den_is h))
 
 -- ---- a fraction by the signs of its parts
 
@@ -150,3 +170,8 @@ fraction_signs n d k l size den e f g h =
 pub exact_along : {E P : Type 0} (r : Result Rational E) (p q : Rational) → p ≡ q → P → OkIff r (Fits p) p → OkIff r (P × Fits q) q
 exact_along (Ok x) p q e h k = ((h, subst Fits e k.0), k.1 ∙ e)
 exact_along (Err x) p q e h k = λ w. k (subst Fits (sym e) w.1)
+
+-- a refusal is exact where the condition fails
+pub refused_is : {T E P : Type 0} (v : T) (r : Result T E) → IsErr r → ¬ P → OkIff r P v
+refused_is v (Err e) h n = n
+refused_is v (Ok x) h n = absurd (true≢false (sym h))

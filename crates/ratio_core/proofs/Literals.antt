@@ -77,14 +77,6 @@ parts_whole s text n e f =
 
 -- ---- the sign
 
-pub minus_read : (text : List ℕ) → slice_index text 0 ≡ 45 → rational_from true (numerator_of (drop 1 text)) (denominator_of (drop 1 text)) ≡ rational_of text
-unfolding rational_of
-minus_read text e = sym (ap (λ t. rational_from t (numerator_of (cond t (drop 1 text) text)) (denominator_of (cond t (drop 1 text) text))) (eq-eqb _ _ e))
-
-pub plain_read : (text : List ℕ) → ¬ (slice_index text 0 ≡ 45) → rational_from false (numerator_of text) (denominator_of text) ≡ rational_of text
-unfolding rational_of
-plain_read text e = sym (ap (λ t. rational_from t (numerator_of (cond t (drop 1 text) text)) (denominator_of (cond t (drop 1 text) text))) (ne_eqb _ _ e))
-
 pub empty_start : (text : List ℕ) → length text ≡ 0 → ¬ (slice_index text 0 ≡ 45)
 empty_start [] h e = omega arith
 empty_start (c ∷ cs) h e = omega arith

@@ -6,7 +6,7 @@
 use Rattle.std.specs.Prelude.{◌≡◌, ℕ, zero, suc, ◌+◌, ◌*◌, ◌/◌, ◌%◌, ◌<◌, ◌≤◌, refl}
 use Rattle.std.specs.Int.{◌∣◌, IsGcd}
 use Rattle.std.proofs.Common.{sym, ◌∙◌, ap, subst, arith, mul-zero, zero-mul, mul_comm, mod-lt, inl, inr, eq-zero-or-pos, ⊎_elim}
-use Rattle.std.proofs.Math.Nat.{mul-div-mul_left, div-add-mod, mul-div_cancel', div-mul_cancel, dvd-zero, dvd-mul_left, dvd-mul_right, dvd_antisymm, pos_of_dvd_of_pos}
+use Rattle.std.proofs.Math.Nat.{mul-div-mul_left, div-add-mod, mul-div_cancel', div-mul_cancel, dvd-zero, dvd-mul_left, dvd-mul_right, dvd_antisymm, one-dvd, pos_of_dvd_of_pos}
 use Rattle.std.proofs.lemmas.Nat.Gcd.{IsGcd-from_zero, IsGcd-from_mod, same_from_IsGcd, IsGcd-swap}
 
 -- Euclid's rule: the pair (a, b) goes to (b, a % b) until b is 0, in at most `fuel` steps
@@ -117,4 +117,7 @@ gcd-zero a = refl
 pub gcd-rem : (a b : ℕ) → gcd b (a % b) ≡ gcd a b
 gcd-rem a b = same_from_IsGcd a b _ _ (IsGcd-from_mod a b _ (gcd_is b (a % b))) (gcd_is a b)
 
-pub ruleset euclid = (gcd-zero, gcd-rem)
+pub gcd-one : (a : ℕ) → gcd a 1 ≡ 1
+gcd-one a = dvd_antisymm (gcd_is a 1).1 (one-dvd (gcd a 1))
+
+pub ruleset euclid = (gcd-zero, gcd-rem, gcd-one, gcd_pos)

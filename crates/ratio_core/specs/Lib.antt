@@ -3,3 +3,4 @@ pub mod Gcd
 pub mod Rational
 pub mod RationalLaws
 pub mod Text
+pub mod TextLaws

@@ -4,7 +4,7 @@
 -- number, and `≡` is equality of numbers. No width is spoken of but by `Fits` and `SumFits`.
 --     reduce n d                 n over d in lowest terms, and 0 where d is 0
 --     fraction n d               the same, where d may be negative
---     +ℚ *ℚ neg_ℚ inverse_ℚ      the field, with 0 for the inverse of 0
+--     +ℚ *ℚ -ℚ /ℚ neg_ℚ inverse_ℚ          the field, with 0 for the inverse of 0
 --     ≤ℚ ‹ℚ rational_cmp rational_eq       the order, and its tests
 --     Fits fits, SumFits sum_fits          what 128 bits hold, and the rule for sums, each with its test
 use Rattle.std.specs.Prelude.{◌≡◌, ℕ, zero, suc, ◌+◌, ◌*◌, ◌/◌, ◌%◌, ◌^◌, ◌<◌, ◌≤◌, Bool, true, false, ◌&&◌, nat_lt, ℤ, pos, negsuc, ◌+ℤ◌, ◌*ℤ◌, neg_ℤ, ◌≤ℤ◌, ◌<ℤ◌, int_div, unsigned_abs, refl}
@@ -38,7 +38,7 @@ pub same_parts : (p q : Rational) → rational_parts p ≡ rational_parts q → 
 same_parts p q e = λ i. record {
   num = (e i).0;
   den = (e i).1;
-  reduced = is_prop→PathP (λ j. IsReduced (e j).0 (e j).1) (λ j. ×_prop le_prop (ℕ_set _ _)) p.reduced q.reduced i
+  reduced = is_prop→PathP (λ j. IsReduced (e j).0 (e j).1) (λ j. ×_prop le_prop (ℕ_set _ _)) p.reduced q.reduced i;
 }
 
 -- a number's code is that of its parts
@@ -105,6 +105,14 @@ neg_ℚ q = reduce (neg_ℤ q.num) q.den
 -- 1 over q, and 0 where q is 0
 unfoldable pub inverse_ℚ : Rational → Rational
 inverse_ℚ q = fraction (pos q.den) q.num
+
+infixl 65 ◌-ℚ◌
+abbrev pub ◌-ℚ◌ : Rational → Rational → Rational
+p -ℚ q = p +ℚ neg_ℚ q
+
+infixl 70 ◌/ℚ◌
+abbrev pub ◌/ℚ◌ : Rational → Rational → Rational
+p /ℚ q = p *ℚ inverse_ℚ q
 
 -- the magnitude
 unfoldable pub abs_ℚ : Rational → Rational

@@ -26,6 +26,12 @@ times_times z a b =
     let v : down (z *ℤ pos a) * b ≡ down z * a * b = ap (λ x. x * b) (times_is z a).1 in
     same_in _ _ (omega (arith, u, v, times_is (z *ℤ pos a) b, times_is z (a * b)))
 
+pub swap_times : (z : ℤ) (a b : ℕ) → (z *ℤ pos a) *ℤ pos b ≡ (z *ℤ pos b) *ℤ pos a
+swap_times z a b = times_times z a b ∙ ap (λ k. z *ℤ pos k) (swap_lem a b) ∙ sym (times_times z b a)
+  where
+    swap_lem : (a b : ℕ) → a * b ≡ b * a
+    swap_lem a b = omega arith
+
 pub cancel_times : (y z : ℤ) (d : ℕ) → 0 < d → y *ℤ pos d ≡ z *ℤ pos d → y ≡ z
 cancel_times y z d h e =
     same_in y z (cancel_lem (up y) (down y) (up z) (down z) d h (omega (arith, same_out _ _ e, times_is y d, times_is z d)))
@@ -52,7 +58,7 @@ same_from_cross p q e =
 
 -- ---- lowest terms
 
-neg_times : (x g : ℕ) → neg_ℤ (pos x) *ℤ pos g ≡ neg_ℤ (pos (x * g))
+pub neg_times : (x g : ℕ) → neg_ℤ (pos x) *ℤ pos g ≡ neg_ℤ (pos (x * g))
 neg_times zero g = simp zero-mul
 neg_times (suc x) g = refl
 
@@ -72,9 +78,10 @@ reduce-den n (suc d) h = refl
 
 -- the parts in lowest terms, times the greatest common divisor, are the parts given
 pub reduce_parts : (n : ℤ) (d : ℕ) → 0 < d → ((reduce n d).num *ℤ pos (gcd (unsigned_abs n) d) ≡ n) × ((reduce n d).den * gcd (unsigned_abs n) d ≡ d)
-reduce_parts n d h =
-    (ap (λ x. x *ℤ pos (gcd (unsigned_abs n) d)) (reduce-num n d h) ∙ int_div-exact n _ (gcd_is (unsigned_abs n) d).0,
-     ap (λ x. x * gcd (unsigned_abs n) d) (reduce-den n d h) ∙ div-mul_cancel _ (gcd_is (unsigned_abs n) d).1)
+reduce_parts n d h = (
+  ap (λ x. x *ℤ pos (gcd (unsigned_abs n) d)) (reduce-num n d h) ∙ int_div-exact n _ (gcd_is (unsigned_abs n) d).0,
+  ap (λ x. x * gcd (unsigned_abs n) d) (reduce-den n d h) ∙ div-mul_cancel _ (gcd_is (unsigned_abs n) d).1,
+)
 
 pub reduce_cross : (n : ℤ) (d : ℕ) → 0 < d → (reduce n d).num *ℤ pos d ≡ n *ℤ pos (reduce n d).den
 reduce_cross n d h =
@@ -85,6 +92,18 @@ reduce_cross n d h =
   where
     swap_lem : (a b : ℕ) → a * b ≡ b * a
     swap_lem a b = omega arith
+
+-- n over d is the number whose cross product with it is equal
+pub reduce_is : (r : Rational) (n : ℤ) (d : ℕ) → 0 < d → r.num *ℤ pos d ≡ n *ℤ pos r.den → reduce n d ≡ r
+reduce_is r n d h e =
+    let s : Rational = reduce n d in
+    same_from_cross s r
+    (cancel_times (s.num *ℤ pos r.den) (r.num *ℤ pos s.den) d h
+    (swap_times s.num r.den d
+    ∙ ap (λ z. z *ℤ pos r.den) (reduce_cross n d h)
+    ∙ swap_times n s.den r.den
+    ∙ ap (λ z. z *ℤ pos s.den) (sym e)
+    ∙ swap_times r.num d s.den))
 
 -- a number is its numerator over its denominator
 pub reduce_itself : (q : Rational) → reduce q.num q.den ≡ q
@@ -191,7 +210,7 @@ sum_fits_Decides p q =
     (λ h. record { left = h.0.0.0; right = h.0.0.1; sum = h.0.1; denominator = h.1 })
     (λ h. (((h.left, h.right), h.sum), h.denominator))
     (Decides-and _ _
-      (Decides-and _ _
-        (Decides-and _ _ (Decides-ltb (unsigned_abs (left_term p q)) (2 ^ 127)) (Decides-ltb (unsigned_abs (right_term p q)) (2 ^ 127)))
-        (Decides-ltb (unsigned_abs (sum_of_terms p q)) (2 ^ 127)))
-      (Decides-ltb (sum_denominator p q) (2 ^ 127)))
+    (Decides-and _ _
+    (Decides-and _ _ (Decides-ltb (unsigned_abs (left_term p q)) (2 ^ 127)) (Decides-ltb (unsigned_abs (right_term p q)) (2 ^ 127)))
+    (Decides-ltb (unsigned_abs (sum_of_terms p q)) (2 ^ 127)))
+    (Decides-ltb (sum_denominator p q) (2 ^ 127)))

@@ -1,5 +1,5 @@
 // Equality and order.
-ghost use Rattle.std.specs.Prelude.{◌≡◌, ◌*◌, refl};
+ghost use Rattle.std.specs.Prelude.{◌≡◌, ◌<◌, ◌*◌, refl};
 ghost use Rattle.std.specs.Ordering.{as_partial_cmp, nat_cmp};
 ghost use Rattle.ratio_core.specs.Rational.{rational_cmp, rational_eq};
 ghost use Rattle.ratio_core.specs.RationalLaws.{rational_cmp_total, rational_eq-is_eq, rational_eq_equiv, rational_eq_partial_equiv, rational_partial_order};
@@ -51,17 +51,19 @@ impl Ord for Ratio {
 }
 
 // `a * b` against `c * d`, which may pass 128 bits.
+#[tactic(auto, using(crate::proofs::Compared::nat_cmp_scaled))]
 fn cmp_products(a: u128, b: u128, c: u128, d: u128) -> Ordering
+    requires { 0 < b }
     ensures { result ≡ nat_cmp (a * b) (c * d) }
 {
-    match (a.checked_mul(b), c.checked_mul(d)) {
-        (Some(left), Some(right)) => left.cmp(&right),
-        _ => {
-            let (left_low, left_high) = a.carrying_mul(b, 0);
-            let (right_low, right_high) = c.carrying_mul(d, 0);
-            left_high
-                .cmp(&right_high)
-                .then(left_low.cmp(&right_low))
-        }
+    const NARROW: u128 = u64::MAX as u128;
+    if b == d {
+        return a.cmp(&c);
     }
+    if a <= NARROW && b <= NARROW && c <= NARROW && d <= NARROW {
+        return (a * b).cmp(&(c * d));
+    }
+    let (left_low, left_high) = a.carrying_mul(b, 0);
+    let (right_low, right_high) = c.carrying_mul(d, 0);
+    left_high.cmp(&right_high).then(left_low.cmp(&right_low))
 }

@@ -3,7 +3,7 @@ ghost use Rattle.std.specs.Prelude.{◌≡◌, ◌≢◌, ◌<◌, ◌^◌, ◌�
 ghost use Rattle.std.specs.Int.{is_negative};
 ghost use Rattle.ratio_core.specs.Rational.{Fits, IsStored, fraction, neg_ℚ, one_ℚ, reduce, sign_ℚ, signed, zero_ℚ};
 
-use crate::divisor::greatest_common_divisor;
+use crate::divisor::{GREATEST_PART, greatest_common_divisor, quotient};
 use crate::fault::RatioFault;
 use std::marker::Model;
 
@@ -110,6 +110,7 @@ impl Ratio {
     // The denominator.
     pub(crate) fn over(&self) -> u128
         ensures value { result ≡ self.now.den }
+        ensures positive { 0 < result }
         ensures fits { result < 2 ^ 127 }
     {
         self.den
@@ -135,8 +136,8 @@ impl Ratio {
         ensures err { IsOkUnless result RatioFault.Overflow }
     {
         let common = greatest_common_divisor(size, den);
-        let (size, den) = (size / common, den / common);
-        if size > i128::MAX as u128 || den > i128::MAX as u128 {
+        let (size, den) = (quotient(size, common), quotient(den, common));
+        if size > GREATEST_PART || den > GREATEST_PART {
             return Err(RatioFault::Overflow);
         }
         Ok(Ratio::store(is_negative, size, den))

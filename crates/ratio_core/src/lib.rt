@@ -4,6 +4,7 @@
 // exact result has a part past 2^127 - 1 answers `Overflow`; none wraps or rounds.
 #![tactic(auto)]
 
+mod arithmetic;
 mod compare;
 mod divisor;
 mod fault;

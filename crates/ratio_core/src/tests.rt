@@ -1,4 +1,6 @@
-// What no clause says: that calls succeed, and the printed text.
+// What no clause says: that calls succeed, and that the definitions give the numbers that another program gives.
+mod table;
+
 use crate::{Memory, Ratio, RatioFault};
 use std::cmp::Ordering;
 use std::test::Fail;
@@ -37,7 +39,10 @@ fn reads_and_prints(rt: HostRuntime) -> Result<(), Memory> {
         (b"4/6", b"2/3"),
         (b"-0010/005", b"-2"),
         (b"-0/7", b"0"),
-        (b"170141183460469231731687303715884105727/170141183460469231731687303715884105726", b"170141183460469231731687303715884105727/170141183460469231731687303715884105726"),
+        (
+            b"170141183460469231731687303715884105727/170141183460469231731687303715884105726",
+            b"170141183460469231731687303715884105727/170141183460469231731687303715884105726",
+        ),
         (b"170141183460469231731687303715884105728/2", b"none"),
         (b"1/0", b"none"),
         (b"+1", b"none"),

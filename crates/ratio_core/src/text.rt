@@ -3,6 +3,7 @@ ghost use Rattle.std.specs.Prelude.{◌≡◌, ◌<◌, ◌≤◌, ◌^◌, ◌+
 ghost use Rattle.std.specs.Option.{ForSome};
 ghost use Rattle.ratio_core.specs.Text.{denominator_of, denominator_text, is_slash, numerator_of, part_of, rational_from, rational_of, text_of};
 
+use crate::divisor::GREATEST_PART;
 use crate::fault::Memory;
 use crate::fraction::Ratio;
 use std::fmt;
@@ -25,6 +26,9 @@ impl Ratio {
     pub fn print(&self, out: &mut Vec<u8>) -> Result<(), Memory>
         ensures ok { OnOk result (out.new.items ≡ out.old.items ++ text_of self.now) }
         ensures memory { OnErr result (out.new.items ≡ out.old.items) }
+
+        // What is printed reads back.
+        ensures reads_back { rational_of (text_of self.now) ≡ Some self.now }
     {
         let mut text = [0; TEXT_ROOM];
         let end = put_denominator(&mut text, self.over());
@@ -140,17 +144,16 @@ fn read_part(text: &[u8]) -> Option<u128>
     ensures value { result ≡ part_of text.now }
     ensures fits { IfSome result (λ n. n < 2 ^ 127) }
 {
-    const GREATEST: u128 = 170141183460469231731687303715884105727;
     if text.is_empty() {
         return None;
     }
     let mut value: u128 = 0;
     for byte in text {
-        if !byte.is_ascii_digit() || value > GREATEST / 10 {
+        if !byte.is_ascii_digit() || value > GREATEST_PART / 10 {
             return None;
         }
         value = value * 10 + u128::from(*byte - b'0');
-        if value > GREATEST {
+        if value > GREATEST_PART {
             return None;
         }
     }

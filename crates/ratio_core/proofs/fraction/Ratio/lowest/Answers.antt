@@ -1,25 +1,28 @@
-use Rattle.std.proofs.Common.{◌∙◌, arith, inl, inr}
-use Rattle.ratio_core.proofs.Kept.{lowest_divisor_pos, lowest_same, lowest_stored, lowest_fits, lowest_refuses}
+use Rattle.std.proofs.Common.{◌∙◌, ◌≤◌, ◌^◌, ◌⊎◌, arith, inl, inr}
+use Rattle.ratio_core.proofs.Kept.{made_fits, made_refuses, made_same, made_stored}
 use Rattle.ratio_core.proofs.fraction.Ratio.lowest.Goals as goal
-use Rattle.ratio_core.proofs.fraction.Ratio.lowest.Goals.{then-size-via-then-size, then-size-via-else-size+then-den}
+use Rattle.ratio_core.proofs.fraction.Ratio.lowest.Goals.{then-size-gt-GREATEST_PART-via-then-size-gt-GREATEST_PART, then-size-gt-GREATEST_PART-via-else-size-gt-GREATEST_PART+then-den-gt-GREATEST_PART}
 
-pub nonzero_div-size : goal.nonzero_div-size
-nonzero_div-size c = lowest_divisor_pos c.args.is_negative c.args.size c.args.den _ c.greatest_common_divisor-common.ensures c.requires
-
-pub nonzero_div-den : goal.nonzero_div-den
-nonzero_div-den c = lowest_divisor_pos c.args.is_negative c.args.size c.args.den _ c.greatest_common_divisor-common.ensures c.requires
-
-pub returns-then-size-clause-exact : goal.returns-then-size-clause-exact
-returns-then-size-clause-exact c =
-    elim c.then-size.branch [
-      then-size-via-then-size w ↦ lowest_refuses c.args.is_negative c.args.size c.args.den _ c.greatest_common_divisor-common.ensures c.requires (inl (omega arith))
-    | then-size-via-else-size+then-den w ↦ lowest_refuses c.args.is_negative c.args.size c.args.den _ c.greatest_common_divisor-common.ensures c.requires (inr (omega arith))
-    ]
+pub returns-then-size-gt-GREATEST_PART-clause-exact : goal.returns-then-size-gt-GREATEST_PART-clause-exact
+returns-then-size-gt-GREATEST_PART-clause-exact c =
+    let past : (2 ^ 127 ≤ c.quotient-size.result) ⊎ (2 ^ 127 ≤ c.quotient-den.result) =
+    elim c.then-size-gt-GREATEST_PART.branch [
+      | then-size-gt-GREATEST_PART-via-then-size-gt-GREATEST_PART w ↦ inl (omega arith)
+      | then-size-gt-GREATEST_PART-via-else-size-gt-GREATEST_PART+then-den-gt-GREATEST_PART w ↦ inr (omega arith)
+    ] in
+    made_refuses c.args.is_negative c.args.size c.args.den c.greatest_common_divisor-common.result c.quotient-size.result c.quotient-den.result
+    c.greatest_common_divisor-common.ensures.value c.requires c.quotient-size.ensures c.quotient-den.ensures past
 
 pub store-requires : goal.store-requires
-store-requires c = lowest_stored c.args.is_negative c.args.size c.args.den _ c.greatest_common_divisor-common.ensures c.requires (omega arith) (omega arith)
+store-requires c =
+    made_stored c.args.is_negative c.args.size c.args.den c.greatest_common_divisor-common.result c.quotient-size.result c.quotient-den.result
+    c.greatest_common_divisor-common.ensures.value c.requires c.quotient-size.ensures c.quotient-den.ensures (omega arith) (omega arith)
 
 pub returns-clause-exact : goal.returns-clause-exact
-returns-clause-exact c =
-    (lowest_fits c.args.is_negative c.args.size c.args.den _ c.greatest_common_divisor-common.ensures c.requires (omega arith) (omega arith),
-     c.store.ensures ∙ lowest_same c.args.is_negative c.args.size c.args.den _ c.greatest_common_divisor-common.ensures c.requires)
+returns-clause-exact c = (
+  made_fits c.args.is_negative c.args.size c.args.den c.greatest_common_divisor-common.result c.quotient-size.result c.quotient-den.result
+      c.greatest_common_divisor-common.ensures.value c.requires c.quotient-size.ensures c.quotient-den.ensures (omega arith) (omega arith),
+  c.store.ensures
+      ∙ made_same c.args.is_negative c.args.size c.args.den c.greatest_common_divisor-common.result c.quotient-size.result c.quotient-den.result
+      c.greatest_common_divisor-common.ensures.value c.requires c.quotient-size.ensures c.quotient-den.ensures,
+)
