@@ -1,5 +1,8 @@
 pub mod Entries
 pub mod Kept
 pub mod KeptMaps
+pub mod Merging
 mod Padding
 pub mod Rising
+pub mod Steps
+pub mod Values

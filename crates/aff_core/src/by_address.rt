@@ -61,3 +61,12 @@ impl<V> ByAddress<V> {
         self.entries.get(at)
     }
 }
+
+impl Point {
+    // The terms in the order of their addresses.
+    pub(crate) fn into_terms(self, alloc: Global) -> Result<Vec<(Address, Ratio)>, Memory>
+        ensures { IfOk result (λ v. v.items ≡ finite.entries self) }
+    {
+        Ok(self.entries.into_iter().collect(alloc)?)
+    }
+}
