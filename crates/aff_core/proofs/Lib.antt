@@ -1,3 +1,4 @@
+pub mod Answered
 pub mod Entries
 pub mod Kept
 pub mod KeptMaps

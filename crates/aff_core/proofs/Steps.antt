@@ -5,7 +5,8 @@ use Rattle.std.proofs.lemmas.List.Elements.{All-cons, All-head, All-tail, All-ni
 use Rattle.std.specs.FinMap.{FinMap, get}
 use Rattle.ratio_core.specs.Rational.{Rational, ◌*ℚ◌, Fits}
 use Rattle.aff_core.specs.Address.{Address, address_cmp}
-use Rattle.aff_core.specs.Arithmetic.{times, TimesFit, TermsFit, MeetsFit, added_terms, added_at}
+use Rattle.aff_core.specs.Arithmetic.{times, TimesFit, TermsFit, MeetsFit, added_terms, added_at, substituted, SubstitutionFits, plus_times, PlusTimesFits}
+use Rattle.aff_core.specs.Function.{Function}
 
 abbrev Sums : Type 0
 Sums = FinMap address_cmp Rational
@@ -39,3 +40,32 @@ module _ (c : Rational) (start sums : Sums) (ts rest left : List (Address × Rat
   pub adds-meets_fit : TimesFit c ts → TermsFit start (times c ts) → MeetsFit (get sums t.0) (c *ℚ t.1)
   unfolding TermsFit
   adds-meets_fit h k = (subst (λ l. TermsFit sums (times c l)) next (so_far.only h k).1).0
+
+-- ---- substitution
+
+-- what is left to substitute, from the sum so far, is as all of it is
+pub record SubstitutesAsAll (e : Address → Function) (start sum : Function) (ts rest : List (Address × Rational)) : Type 0 where
+  pub value : substituted e sum rest ≡ substituted e start ts
+  pub fits : SubstitutionFits e sum rest → SubstitutionFits e start ts
+  pub only : SubstitutionFits e start ts → SubstitutionFits e sum rest
+
+pub substitutes-start : (e : Address → Function) (start : Function) (ts : List (Address × Rational)) → SubstitutesAsAll e start start ts ts
+substitutes-start e start ts = record { value = refl; fits = λ h. h; only = λ h. h }
+
+pub substitutes-end : (e : Address → Function) (start sum : Function) (ts : List (Address × Rational)) → SubstitutesAsAll e start sum ts [] → SubstitutionFits e start ts × (sum ≡ substituted e start ts)
+unfolding substituted SubstitutionFits
+substitutes-end e start sum ts h = (h.fits tt, h.value)
+
+module _ (e : Address → Function) (start sum : Function) (ts rest left : List (Address × Rational)) (t : Address × Rational) (so_far : SubstitutesAsAll e start sum ts rest) (next : rest ≡ t ∷ left) where
+  pub substitutes-step : PlusTimesFits sum t.1 (e t.0) → SubstitutesAsAll e start (plus_times sum t.1 (e t.0)) ts left
+  unfolding substituted SubstitutionFits
+  substitutes-step step = record {
+    value = sym (ap (substituted e sum) next) ∙ so_far.value;
+    fits = λ h. so_far.fits (subst (SubstitutionFits e sum) (sym next) (step, h));
+    only = λ h. (subst (SubstitutionFits e sum) next (so_far.only h)).1;
+  }
+
+  -- a step that doesn't fit
+  pub substitutes-fits : SubstitutionFits e start ts → PlusTimesFits sum t.1 (e t.0)
+  unfolding SubstitutionFits
+  substitutes-fits h = (subst (SubstitutionFits e sum) next (so_far.only h)).0

@@ -5,10 +5,10 @@ use Rattle.std.specs.Option.{option_copied}
 use Rattle.std.specs.FinMap.{FinMap, get}
 use Rattle.std.proofs.Common.{get_or, drop, sym, ap, subst, ◌∙◌, arith}
 use Rattle.std.proofs.lemmas.List.{drop_more, take_more, map-append}
-use Rattle.ratio_core.specs.Rational.{Rational, zero_ℚ, ◌+ℚ◌, ◌*ℚ◌}
+use Rattle.ratio_core.specs.Rational.{Rational, ◌+ℚ◌, ◌*ℚ◌}
 use Rattle.aff_core.specs.Address.{Address, address_cmp}
 use Rattle.aff_core.specs.Function.{Function, terms_of}
-use Rattle.aff_core.specs.Arithmetic.{ValueFits, StepFits, value_from, value_of, linear, number_at}
+use Rattle.aff_core.specs.Arithmetic.{ValueFits, StepFits, value_from, value_of, linear}
 
 -- what is left begins with the item that is read
 pub next_term : {X : Type 0} (ts es : List X) (i : ℕ) (t : X) → es ≡ ts → t ≡ get_or es i t → i < length es → drop i ts ≡ t ∷ drop (i + 1) ts
@@ -20,8 +20,8 @@ pub map-take_more : {X Y : Type 0} (f : X → Y) (xs : List X) (i : ℕ) (x : X)
 map-take_more f xs i x is lt = ap (map f) (take_more xs i x lt) ∙ map-append f (take i xs) (get_or xs i x ∷ []) ∙ ap (λ y. map f (take i xs) ++ f y ∷ []) (sym is)
 
 -- what stands at a key that was looked up
-pub number_is : (point : FinMap address_cmp Rational) (at : Address) (o : Option (Bor Rational)) (n : Bor Rational) → option_copied o ≡ get point at → o ≡ Some n → n.now ≡ number_at point at
-number_is point at o n found some = ap (λ r. unwrap_or r zero_ℚ) (sym (ap option_copied some) ∙ found)
+pub found_is : {V : Type 0} (m : FinMap address_cmp V) (at : Address) (o : Option (Bor V)) (n : Bor V) (d : V) → option_copied o ≡ get m at → o ≡ Some n → n.now ≡ unwrap_or (get m at) d
+found_is m at o n d found some = ap (λ r. unwrap_or r d) (sym (ap option_copied some) ∙ found)
 
 -- what is left, from the sum so far, is as all of it is
 pub record IsAsAll (start sum : Rational) (ts rest : List (Address × Rational)) (x : Address → Rational) : Type 0 where

@@ -4,7 +4,6 @@ ghost use Rattle.aff_core.specs.Function.{terms_of};
 ghost use Rattle.aff_core.specs.Arithmetic.{HasEach, ValueFits, value_of, number_at, ProductsFit, scaled, ExactWhere, PlusFits, sum_of, SubstitutionFits, composed, constant_of, expression_at};
 
 use crate::folds::{add_products, merged, plus_product, products};
-use crate::terms::nonzero_terms;
 use crate::{Aff, AffFault, Exprs, Point};
 use ratio_core::Ratio;
 use std::alloc::Global;
@@ -31,7 +30,7 @@ impl Aff {
     {
         let constant = by.mul(&self.constant())?;
         let terms = products(alloc, by, self.terms())?;
-        Ok(Aff::of(nonzero_terms(alloc, &terms)?, constant))
+        Ok(Aff::from_terms(alloc, &terms, constant)?)
     }
 
     /// The sum of two functions. `Overflow` exactly where the sum of the constants, or that of
@@ -41,7 +40,7 @@ impl Aff {
     {
         let constant = self.constant().add(&other.constant())?;
         let terms = merged(alloc, self.terms(), other.terms())?;
-        Ok(Aff::of(nonzero_terms(alloc, &terms)?, constant))
+        Ok(Aff::from_terms(alloc, &terms, constant)?)
     }
 
     /// The function with the expression of each address in its place: from the constant on, each
@@ -58,7 +57,7 @@ impl Aff {
             constant = plus_product(&constant, coefficient, &expression.constant())?;
             add_products(&mut sums, coefficient, expression.terms())?;
         }
-        let terms = sums.into_terms(alloc)?;
-        Ok(Aff::of(nonzero_terms(alloc, &terms)?, constant))
+        let terms = sums.to_terms(alloc)?;
+        Ok(Aff::from_terms(alloc, &terms, constant)?)
     }
 }

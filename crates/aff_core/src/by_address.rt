@@ -64,9 +64,14 @@ impl<V> ByAddress<V> {
 
 impl Point {
     // The terms in the order of their addresses.
-    pub(crate) fn into_terms(self, alloc: Global) -> Result<Vec<(Address, Ratio)>, Memory>
-        ensures { IfOk result (λ v. v.items ≡ finite.entries self) }
+    pub(crate) fn to_terms(&self, alloc: Global) -> Result<Vec<(Address, Ratio)>, Memory>
+        ensures { IfOk result (λ v. v.items ≡ finite.entries self.now) }
     {
-        Ok(self.entries.into_iter().collect(alloc)?)
+        Ok(
+            self.entries
+                .iter()
+                .map(|(at, number)| (*at, *number))
+                .collect(alloc)?,
+        )
     }
 }

@@ -1,16 +1,24 @@
-use Rattle.std.proofs.Common.{rules, ◌≡◌, OkIff, IsOkUnless, ℕ, ◌+◌, ◌-◌, ◌*◌, ◌<◌, ◌≤◌, length, ◌/◌, ◌%◌, Bool, true, false, nat_eq, nat_lt, List, [], ◌∷◌, ◌++◌, slice_index_or, slice_set, bit_and, bit_or, Fits, w8, w32, w64, Bor, MutBor}
-use Rattle.aff_core.specs.Function.{terms_of}
-use Rattle.aff_core.specs.Arithmetic.{HasEach, ValueFits, value_of, number_at, ProductsFit, scaled, ExactWhere, PlusFits, sum_of, SubstitutionFits, composed, constant_of, expression_at}
+use Rattle.std.specs.Prelude.{◌≡◌}
+use Rattle.std.proofs.Common.{sym, ap, subst, ◌∙◌}
+use Rattle.ratio_core.specs.Rational.{Fits, ◌*ℚ◌}
+use Rattle.aff_core.specs.Function.{terms_of, function_of}
+use Rattle.aff_core.specs.Rising.{RiseStrictly}
+use Rattle.aff_core.specs.Arithmetic.{scaled, times, TimesFit}
+use Rattle.aff_core.proofs.Rising.{RiseStrictly-map}
 use Rattle.aff_core.proofs.aff.Aff.scale.Goals as goal
 
--- src/arithmetic.rt:34:12
-pub of-requires-clause-rising : goal.of-requires-clause-rising
-of-requires-clause-rising c = ?
+pub from_terms-requires : goal.from_terms-requires
+from_terms-requires c =
+    subst RiseStrictly (sym (c.deref.ensures.value ∙ c.in_ok-terms.ensures.1 ∙ ap (times c.args.by.now) c.terms.ensures.all))
+    (RiseStrictly-map (λ q. c.args.by.now *ℚ q) (terms_of c.args.self.now) c.terms.ensures.rising)
 
--- src/arithmetic.rt:34:12
-pub of-requires-clause-nonzero : goal.of-requires-clause-nonzero
-of-requires-clause-nonzero c = ?
-
--- src/arithmetic.rt:29:5
 pub returns : goal.returns
-returns c = ?
+unfolding scaled
+returns c = (
+  record {
+    constant = subst (λ k. Fits (c.args.by.now *ℚ k)) c.constant.ensures c.in_ok-constant.ensures.exact.0;
+    terms = subst (TimesFit c.args.by.now) c.terms.ensures.all c.in_ok-terms.ensures.0;
+  },
+  c.in_ok-from_terms.ensures
+      ∙ (λ i. function_of ((c.deref.ensures.value ∙ c.in_ok-terms.ensures.1 ∙ ap (times c.args.by.now) c.terms.ensures.all) i) ((c.in_ok-constant.ensures.exact.1 ∙ ap (λ k. c.args.by.now *ℚ k) c.constant.ensures) i)),
+)
