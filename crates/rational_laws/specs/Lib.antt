@@ -2,4 +2,5 @@
 pub mod Field
 pub mod Order
 pub mod Over
+pub mod Sums
 pub mod Whole
