@@ -2,5 +2,6 @@
 pub mod Field
 pub mod Order
 pub mod Over
+pub mod Ring
 pub mod Sums
 pub mod Whole
