@@ -1,13 +1,13 @@
 -- The field of the rational numbers. Each law is an equality of numbers, and but for the inverse it holds unconditionally.
-use Rattle.std.specs.Prelude.{◌≡◌, ℕ, zero, suc, ◌+◌, ◌*◌, ◌<◌, ◌≤◌, ℤ, pos, negsuc, ◌+ℤ◌, ◌*ℤ◌, neg_ℤ, refl}
-use Rattle.std.proofs.Common.{sym, ◌∙◌, ap, ap₂, arith, mul-pos, subst, mul_comm, mul_assoc, one-mul}
+use Rattle.std.specs.Prelude.{◌≡◌, ℕ, zero, suc, ◌*◌, ◌<◌, ℤ, pos, negsuc, ◌+ℤ◌, ◌*ℤ◌, neg_ℤ, refl}
+use Rattle.std.proofs.Common.{sym, ◌∙◌, ap, ap₂, arith, mul-pos, mul_comm, mul_assoc}
 use Rattle.std.proofs.Math.IntN.{+ℤ_assoc, +ℤ_comm, +ℤ_invr, *ℤ_comm}
 use Rattle.std.proofs.lemmas.Int.{ints}
 use borrow.Author.Differences.{same_in, product_is, neg_is}
 use Rattle.ratio_core.specs.Rational.{Rational, reduce, fraction, whole_ℚ, zero_ℚ, one_ℚ, ◌+ℚ◌, ◌-ℚ◌, ◌*ℚ◌, neg_ℚ, inverse_ℚ}
-use Rattle.ratio_core.specs.RationalLaws.{reduce_is, reduce_itself, same_from_cross}
-use Rattle.rational_laws.specs.Over.{over-+ℚ, over-neg_ℚ, over-zero_ℚ, over₁, over₂, over₃, reduce-*ℚ, reduce_same}
-use Rattle.rational_laws.specs.Whole.{*ℤ_assoc, *ℤ-+ℤ, neg_ℤ-*ℤ, *ℤ_pos_one}
+use Rattle.ratio_core.specs.RationalLaws.{reduce_is, reduce_itself}
+use Rattle.rational_laws.specs.Over.{over-+ℚ, over-neg_ℚ, over-zero_ℚ, over₁, over₂, over₃, reduce-*ℚ}
+use Rattle.rational_laws.specs.Whole.{*ℤ_assoc, *ℤ-+ℤ, *ℤ_pos_one}
 
 -- ---- sums
 
@@ -18,8 +18,8 @@ pub +ℚ_assoc : (p q r : Rational) → (p +ℚ q) +ℚ r ≡ p +ℚ (q +ℚ r)
 +ℚ_assoc =
     over₃ (λ p q r. (p +ℚ q) +ℚ r ≡ p +ℚ (q +ℚ r))
     (λ a b c d h.
-      ap (λ x. x +ℚ reduce c d) (over-+ℚ a b d h) ∙ over-+ℚ (a +ℤ b) c d h ∙ ap (λ z. reduce z d) (+ℤ_assoc a b c)
-      ∙ sym (ap (λ x. reduce a d +ℚ x) (over-+ℚ b c d h) ∙ over-+ℚ a (b +ℤ c) d h))
+    ap (λ x. x +ℚ reduce c d) (over-+ℚ a b d h) ∙ over-+ℚ (a +ℤ b) c d h ∙ ap (λ z. reduce z d) (+ℤ_assoc a b c)
+    ∙ sym (ap (λ x. reduce a d +ℚ x) (over-+ℚ b c d h) ∙ over-+ℚ a (b +ℤ c) d h))
 
 pub zero-+ℚ : (p : Rational) → zero_ℚ +ℚ p ≡ p
 zero-+ℚ =
@@ -81,8 +81,8 @@ pub *ℚ-+ℚ : (p q r : Rational) → p *ℚ (q +ℚ r) ≡ p *ℚ q +ℚ p *�
 *ℚ-+ℚ p =
     over₂ (λ q r. p *ℚ (q +ℚ r) ≡ p *ℚ q +ℚ p *ℚ r)
     (λ b c d h.
-      ap (λ x. p *ℚ x) (over-+ℚ b c d h) ∙ times_fraction p (b +ℤ c) d h ∙ ap (λ z. reduce z (p.den * d)) (*ℤ-+ℤ p.num b c)
-      ∙ sym (ap₂ ◌+ℚ◌ (times_fraction p b d h) (times_fraction p c d h) ∙ over-+ℚ (p.num *ℤ b) (p.num *ℤ c) (p.den * d) (mul-pos p.reduced.0 h)))
+    ap (λ x. p *ℚ x) (over-+ℚ b c d h) ∙ times_fraction p (b +ℤ c) d h ∙ ap (λ z. reduce z (p.den * d)) (*ℤ-+ℤ p.num b c)
+    ∙ sym (ap₂ ◌+ℚ◌ (times_fraction p b d h) (times_fraction p c d h) ∙ over-+ℚ (p.num *ℤ b) (p.num *ℤ c) (p.den * d) (mul-pos p.reduced.0 h)))
 
 pub +ℚ-*ℚ : (p q r : Rational) → (p +ℚ q) *ℚ r ≡ p *ℚ r +ℚ q *ℚ r
 +ℚ-*ℚ p q r = *ℚ_comm (p +ℚ q) r ∙ *ℚ-+ℚ r p q ∙ ap₂ ◌+ℚ◌ (*ℚ_comm r p) (*ℚ_comm r q)
@@ -109,7 +109,7 @@ neg_ℚ-zero = sym (neg_ℚ_unique zero_ℚ zero_ℚ (zero-+ℚ zero_ℚ))
 pub neg_ℚ-sum : (p q : Rational) → neg_ℚ (p +ℚ q) ≡ neg_ℚ p +ℚ neg_ℚ q
 neg_ℚ-sum p q =
     sym (neg_ℚ_unique (p +ℚ q) (neg_ℚ p +ℚ neg_ℚ q)
-      (+ℚ_inner_comm p q (neg_ℚ p) (neg_ℚ q) ∙ ap₂ ◌+ℚ◌ (+ℚ-neg_ℚ p) (+ℚ-neg_ℚ q) ∙ zero-+ℚ zero_ℚ))
+    (+ℚ_inner_comm p q (neg_ℚ p) (neg_ℚ q) ∙ ap₂ ◌+ℚ◌ (+ℚ-neg_ℚ p) (+ℚ-neg_ℚ q) ∙ zero-+ℚ zero_ℚ))
 
 pub neg_ℚ-*ℚ : (p q : Rational) → neg_ℚ p *ℚ q ≡ neg_ℚ (p *ℚ q)
 neg_ℚ-*ℚ p q =
@@ -150,6 +150,7 @@ one_lem n d h = reduce_is (whole_ℚ (pos 1)) (pos (suc n * d)) (d * suc n) (abo
     above_lem : (n d : ℕ) → 0 < d → 0 < d * suc n
     above_lem n (suc d) h = omega arith
     above_lem n zero h = absurd (omega arith)
+
     shape_lem : (n d : ℕ) → 1 * (d * suc n) ≡ (suc n * d) * 1
     shape_lem n d = omega arith
 
@@ -180,6 +181,7 @@ pub *ℚ_cancel : (p q r : Rational) → ¬ (r ≡ zero_ℚ) → p *ℚ r ≡ q 
   where
     whole_lem : (p : Rational) → r *ℚ inverse_ℚ r ≡ one_ℚ → (p *ℚ r) *ℚ inverse_ℚ r ≡ p
     whole_lem p e = *ℚ_assoc p r (inverse_ℚ r) ∙ ap (λ x. p *ℚ x) e ∙ *ℚ-one p
+
     whole : (p : Rational) → (p *ℚ r) *ℚ inverse_ℚ r ≡ p
     whole p = whole_lem p (*ℚ-inverse_ℚ r n)
 

@@ -1,5 +1,6 @@
 -- What other crates cite.
 pub mod Field
+pub mod Linear
 pub mod Order
 pub mod Over
 pub mod Ring

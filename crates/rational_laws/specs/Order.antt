@@ -1,14 +1,14 @@
 -- The order of the rational numbers, and how it goes with sums, products and magnitudes.
-use Rattle.std.specs.Prelude.{◌≡◌, ℕ, zero, suc, ◌+◌, ◌*◌, ◌<◌, ◌≤◌, ◌⊎◌, ◌↔◌, ℤ, pos, negsuc, ◌+ℤ◌, ◌*ℤ◌, neg_ℤ, ◌≤ℤ◌, ◌<ℤ◌, unsigned_abs, refl}
+use Rattle.std.specs.Prelude.{◌≡◌, ℕ, zero, suc, ◌*◌, ◌<◌, ◌⊎◌, ℤ, pos, negsuc, ◌+ℤ◌, ◌*ℤ◌, neg_ℤ, ◌≤ℤ◌, ◌<ℤ◌, unsigned_abs, refl}
 use Rattle.std.proofs.Common.{sym, ◌∙◌, ap, ap₂, arith, mul-pos, subst, subst₂, inl, inr, Ordering, Less, Equal, Greater}
-use Rattle.std.proofs.lemmas.Int.{ints, unsigned_abs-mul}
+use Rattle.std.proofs.lemmas.Int.{ints}
 use Rattle.std.specs.Int.{int_signum}
 use Rattle.std.specs.Ordering.{MatchOrdering}
-use borrow.Author.Differences.{up, down, same_in, at_most_in, below_in, le_out, lt_out, product_is}
+use borrow.Author.Differences.{at_most_in, below_in, le_out, lt_out}
 use Rattle.ratio_core.specs.Rational.{Rational, abs_ℚ, fraction, inverse_ℚ, neg_ℚ, one_ℚ, rational_cmp, reduce, sign_ℚ, whole_ℚ, zero_ℚ, ◌*ℚ◌, ◌+ℚ◌, ◌-ℚ◌, ◌≤ℚ◌, ◌‹ℚ◌}
-use Rattle.ratio_core.specs.RationalLaws.{rational_ranks, reduce-den, reduce-num, reduce_itself, reduce_parts, same_from_cross, times_is, ‹ℚ_irrefl, ‹ℚ_trans}
-use Rattle.rational_laws.specs.Field.{*ℚ--ℚ, *ℚ_comm, *ℚ-inverse_ℚ, *ℚ-neg_ℚ, *ℚ-zero, +ℚ-neg_ℚ, +ℚ-zero, +ℚ_comm, neg_ℚ-*ℚ, neg_ℚ-neg_ℚ, neg_ℚ-sum, neg_ℚ-zero, zero-*ℚ, zero-+ℚ}
-use Rattle.rational_laws.specs.Over.{over-+ℚ, over-neg_ℚ, over-zero_ℚ, over-‹ℚ_in, over-‹ℚ_out, over-≤ℚ_in, over-≤ℚ_out, over₁, over₂, over₃, over₄}
+use Rattle.ratio_core.specs.RationalLaws.{rational_ranks, reduce_itself, same_from_cross, times_is}
+use Rattle.rational_laws.specs.Field.{*ℚ--ℚ, *ℚ_comm, *ℚ-neg_ℚ, +ℚ-neg_ℚ, neg_ℚ-*ℚ, neg_ℚ-neg_ℚ, neg_ℚ-sum, neg_ℚ-zero, zero-*ℚ, zero-+ℚ}
+use Rattle.rational_laws.specs.Over.{over-+ℚ, over-neg_ℚ, over-zero_ℚ, over-‹ℚ_in, over-‹ℚ_out, over-≤ℚ_in, over-≤ℚ_out, over₂, over₃, over₄}
 
 -- ---- an order
 
@@ -81,15 +81,15 @@ pub ≤ℚ-+ℚ : (p q r s : Rational) → p ≤ℚ q → r ≤ℚ s → (p +ℚ
 ≤ℚ-+ℚ =
     over₄ (λ p q r s. p ≤ℚ q → r ≤ℚ s → (p +ℚ r) ≤ℚ (q +ℚ s))
     (λ a b c e d above h k.
-      subst₂ (λ x y. x ≤ℚ y) (sym (over-+ℚ a c d above)) (sym (over-+ℚ b e d above))
-      (over-≤ℚ_in (a +ℤ c) (b +ℤ e) d above (omega (arith, ints, over-≤ℚ_out a b d above h, over-≤ℚ_out c e d above k))))
+    subst₂ (λ x y. x ≤ℚ y) (sym (over-+ℚ a c d above)) (sym (over-+ℚ b e d above))
+    (over-≤ℚ_in (a +ℤ c) (b +ℤ e) d above (omega (arith, ints, over-≤ℚ_out a b d above h, over-≤ℚ_out c e d above k))))
 
 pub ‹ℚ-+ℚ : (p q r s : Rational) → p ‹ℚ q → r ≤ℚ s → (p +ℚ r) ‹ℚ (q +ℚ s)
 ‹ℚ-+ℚ =
     over₄ (λ p q r s. p ‹ℚ q → r ≤ℚ s → (p +ℚ r) ‹ℚ (q +ℚ s))
     (λ a b c e d above h k.
-      subst₂ (λ x y. x ‹ℚ y) (sym (over-+ℚ a c d above)) (sym (over-+ℚ b e d above))
-      (over-‹ℚ_in (a +ℤ c) (b +ℤ e) d above (omega (arith, ints, over-‹ℚ_out a b d above h, over-≤ℚ_out c e d above k))))
+    subst₂ (λ x y. x ‹ℚ y) (sym (over-+ℚ a c d above)) (sym (over-+ℚ b e d above))
+    (over-‹ℚ_in (a +ℤ c) (b +ℤ e) d above (omega (arith, ints, over-‹ℚ_out a b d above h, over-≤ℚ_out c e d above k))))
 
 pub ≤ℚ-+ℚ_right : (p q r : Rational) → p ≤ℚ q → (p +ℚ r) ≤ℚ (q +ℚ r)
 ≤ℚ-+ℚ_right p q r h = ≤ℚ-+ℚ p q r r h (≤ℚ_refl r)
@@ -104,15 +104,15 @@ pub neg_ℚ-≤ℚ : (p q : Rational) → p ≤ℚ q → neg_ℚ q ≤ℚ neg_�
 neg_ℚ-≤ℚ =
     over₂ (λ p q. p ≤ℚ q → neg_ℚ q ≤ℚ neg_ℚ p)
     (λ a b d above h.
-      subst₂ (λ x y. x ≤ℚ y) (sym (over-neg_ℚ b d above)) (sym (over-neg_ℚ a d above))
-      (over-≤ℚ_in (neg_ℤ b) (neg_ℤ a) d above (omega (arith, ints, over-≤ℚ_out a b d above h))))
+    subst₂ (λ x y. x ≤ℚ y) (sym (over-neg_ℚ b d above)) (sym (over-neg_ℚ a d above))
+    (over-≤ℚ_in (neg_ℤ b) (neg_ℤ a) d above (omega (arith, ints, over-≤ℚ_out a b d above h))))
 
 pub neg_ℚ-‹ℚ : (p q : Rational) → p ‹ℚ q → neg_ℚ q ‹ℚ neg_ℚ p
 neg_ℚ-‹ℚ =
     over₂ (λ p q. p ‹ℚ q → neg_ℚ q ‹ℚ neg_ℚ p)
     (λ a b d above h.
-      subst₂ (λ x y. x ‹ℚ y) (sym (over-neg_ℚ b d above)) (sym (over-neg_ℚ a d above))
-      (over-‹ℚ_in (neg_ℤ b) (neg_ℤ a) d above (omega (arith, ints, over-‹ℚ_out a b d above h))))
+    subst₂ (λ x y. x ‹ℚ y) (sym (over-neg_ℚ b d above)) (sym (over-neg_ℚ a d above))
+    (over-‹ℚ_in (neg_ℤ b) (neg_ℤ a) d above (omega (arith, ints, over-‹ℚ_out a b d above h))))
 
 pub nonneg_neg : (p : Rational) → p ≤ℚ zero_ℚ → zero_ℚ ≤ℚ neg_ℚ p
 nonneg_neg p h = subst (λ x. x ≤ℚ neg_ℚ p) neg_ℚ-zero (neg_ℚ-≤ℚ p zero_ℚ h)
@@ -129,9 +129,9 @@ pub ≤ℚ_from_nonneg : (p q : Rational) → zero_ℚ ≤ℚ (q -ℚ p) → p �
 ≤ℚ_from_nonneg =
     over₂ (λ p q. zero_ℚ ≤ℚ (q -ℚ p) → p ≤ℚ q)
     (λ a b d above h.
-      let difference : reduce b d -ℚ reduce a d ≡ reduce (b +ℤ neg_ℤ a) d = ap (λ x. reduce b d +ℚ x) (over-neg_ℚ a d above) ∙ over-+ℚ b (neg_ℤ a) d above in
-      let moved : reduce (pos 0) d ≤ℚ reduce (b +ℤ neg_ℤ a) d = subst₂ (λ x y. x ≤ℚ y) (over-zero_ℚ d above) difference h in
-      over-≤ℚ_in a b d above (omega (arith, ints, over-≤ℚ_out (pos 0) (b +ℤ neg_ℤ a) d above moved)))
+    let difference : reduce b d -ℚ reduce a d ≡ reduce (b +ℤ neg_ℤ a) d = ap (λ x. reduce b d +ℚ x) (over-neg_ℚ a d above) ∙ over-+ℚ b (neg_ℤ a) d above in
+    let moved : reduce (pos 0) d ≤ℚ reduce (b +ℤ neg_ℤ a) d = subst₂ (λ x y. x ≤ℚ y) (over-zero_ℚ d above) difference h in
+    over-≤ℚ_in a b d above (omega (arith, ints, over-≤ℚ_out (pos 0) (b +ℤ neg_ℤ a) d above moved)))
 
 -- ---- signs
 

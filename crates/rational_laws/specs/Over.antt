@@ -1,22 +1,22 @@
 -- Fractions over one denominator: sums, products, negation and order are those of the numerators.
-use Rattle.std.specs.Prelude.{◌≡◌, ℕ, zero, suc, ◌+◌, ◌*◌, ◌<◌, ◌≤◌, ℤ, pos, negsuc, ◌+ℤ◌, ◌*ℤ◌, neg_ℤ, ◌≤ℤ◌, ◌<ℤ◌, refl}
+use Rattle.std.specs.Prelude.{◌≡◌, ℕ, ◌+◌, ◌*◌, ◌<◌, ◌≤◌, ℤ, pos, ◌+ℤ◌, ◌*ℤ◌, neg_ℤ, ◌≤ℤ◌, ◌<ℤ◌}
 use Rattle.std.proofs.Common.{sym, ◌∙◌, ap, ap₂, arith, mul-pos, subst, subst₂, mul_comm, zero-mul, mul-le-mul_right, le_of_mul-le-mul_right, mul-lt-mul_of_pos_right, lt_of_mul-lt-mul_right}
-use Rattle.std.proofs.Math.IntN.{+ℤ_assoc, +ℤ_comm, *ℤ_comm}
-use borrow.Author.Differences.{up, down, same_in, at_most_in, below_in, le_out, lt_out}
-use Rattle.ratio_core.specs.Rational.{Rational, reduce, whole_ℚ, zero_ℚ, one_ℚ, ◌+ℚ◌, ◌*ℚ◌, neg_ℚ, ◌≤ℚ◌, ◌‹ℚ◌}
-use Rattle.ratio_core.specs.RationalLaws.{reduce_is, reduce_itself, reduce_cross, same_from_cross, times_is, times_times, swap_times, cancel_times}
+use Rattle.std.proofs.Math.IntN.{*ℤ_comm}
+use borrow.Author.Differences.{up, down, at_most_in, below_in, le_out, lt_out}
+use Rattle.ratio_core.specs.Rational.{Rational, reduce, whole_ℚ, zero_ℚ, ◌+ℚ◌, ◌*ℚ◌, neg_ℚ, ◌≤ℚ◌, ◌‹ℚ◌}
+use Rattle.ratio_core.specs.RationalLaws.{reduce_is, reduce_itself, reduce_cross, times_is, times_times, swap_times, cancel_times}
 use Rattle.rational_laws.specs.Whole.{*ℤ_assoc, *ℤ-+ℤ, neg_ℤ-*ℤ, *ℤ_pos_one}
 
 -- equal cross products make equal fractions
 pub reduce_same : (m n : ℤ) (e d : ℕ) → 0 < e → 0 < d → m *ℤ pos d ≡ n *ℤ pos e → reduce m e ≡ reduce n d
 reduce_same m n e d above below same =
     sym (reduce_is (reduce m e) n d below
-      (cancel_times _ _ e above
-        (swap_times (reduce m e).num d e
-         ∙ ap (λ z. z *ℤ pos d) (reduce_cross m e above)
-         ∙ swap_times m (reduce m e).den d
-         ∙ ap (λ z. z *ℤ pos (reduce m e).den) same
-         ∙ swap_times n e (reduce m e).den)))
+    (cancel_times _ _ e above
+    (swap_times (reduce m e).num d e
+    ∙ ap (λ z. z *ℤ pos d) (reduce_cross m e above)
+    ∙ swap_times m (reduce m e).den d
+    ∙ ap (λ z. z *ℤ pos (reduce m e).den) same
+    ∙ swap_times n e (reduce m e).den)))
 
 -- a common factor goes out
 pub reduce_scaled : (n : ℤ) (d k : ℕ) → 0 < d → 0 < k → reduce (n *ℤ pos k) (d * k) ≡ reduce n d
@@ -78,10 +78,10 @@ module _ (m n : ℤ) (d : ℕ) (above : 0 < d) where
       reduce_same ((p.num *ℤ pos q.den) +ℤ (q.num *ℤ pos p.den)) (m +ℤ n) (p.den * q.den) d
       (mul-pos p.reduced.0 q.reduced.0) above
       (times_add (p.num *ℤ pos q.den) (q.num *ℤ pos p.den) d
-       ∙ ap₂ ◌+ℤ◌
-         (swap_times p.num q.den d ∙ ap (λ z. z *ℤ pos q.den) (reduce_cross m d above) ∙ times_times m p.den q.den)
-         (swap_times q.num p.den d ∙ ap (λ z. z *ℤ pos p.den) (reduce_cross n d above) ∙ times_times n q.den p.den ∙ ap (λ k. n *ℤ pos k) (mul_comm q.den p.den))
-       ∙ sym (times_add m n (p.den * q.den)))
+      ∙ ap₂ ◌+ℤ◌
+      (swap_times p.num q.den d ∙ ap (λ z. z *ℤ pos q.den) (reduce_cross m d above) ∙ times_times m p.den q.den)
+      (swap_times q.num p.den d ∙ ap (λ z. z *ℤ pos p.den) (reduce_cross n d above) ∙ times_times n q.den p.den ∙ ap (λ k. n *ℤ pos k) (mul_comm q.den p.den))
+      ∙ sym (times_add m n (p.den * q.den)))
 
   -- the cross products, times d, are the numerators times the product of the denominators
   dens : ℕ
@@ -161,19 +161,19 @@ pub over₃ : (P : Rational → Rational → Rational → Type 0) → ((a b c : 
 over₃ P h p q r =
     over₂ (λ p q. P p q r)
     (λ a b d above.
-      subst (λ x. P x (reduce b d) r) (over_more a d r above).0
-      (subst (λ x. P (reduce (a *ℤ pos r.den) (d * r.den)) x r) (over_more b d r above).0
-        (subst (λ x. P (reduce (a *ℤ pos r.den) (d * r.den)) (reduce (b *ℤ pos r.den) (d * r.den)) x) (over_more a d r above).1
-          (h (a *ℤ pos r.den) (b *ℤ pos r.den) (r.num *ℤ pos d) (d * r.den) (mul-pos above r.reduced.0)))))
+    subst (λ x. P x (reduce b d) r) (over_more a d r above).0
+    (subst (λ x. P (reduce (a *ℤ pos r.den) (d * r.den)) x r) (over_more b d r above).0
+    (subst (λ x. P (reduce (a *ℤ pos r.den) (d * r.den)) (reduce (b *ℤ pos r.den) (d * r.den)) x) (over_more a d r above).1
+    (h (a *ℤ pos r.den) (b *ℤ pos r.den) (r.num *ℤ pos d) (d * r.den) (mul-pos above r.reduced.0)))))
     p q
 
 pub over₄ : (P : Rational → Rational → Rational → Rational → Type 0) → ((a b c e : ℤ) (d : ℕ) → 0 < d → P (reduce a d) (reduce b d) (reduce c d) (reduce e d)) → (p q r s : Rational) → P p q r s
 over₄ P h p q r s =
     over₃ (λ p q r. P p q r s)
     (λ a b c d above.
-      subst (λ x. P x (reduce b d) (reduce c d) s) (over_more a d s above).0
-      (subst (λ x. P (reduce (a *ℤ pos s.den) (d * s.den)) x (reduce c d) s) (over_more b d s above).0
-        (subst (λ x. P (reduce (a *ℤ pos s.den) (d * s.den)) (reduce (b *ℤ pos s.den) (d * s.den)) x s) (over_more c d s above).0
-          (subst (λ x. P (reduce (a *ℤ pos s.den) (d * s.den)) (reduce (b *ℤ pos s.den) (d * s.den)) (reduce (c *ℤ pos s.den) (d * s.den)) x) (over_more a d s above).1
-            (h (a *ℤ pos s.den) (b *ℤ pos s.den) (c *ℤ pos s.den) (s.num *ℤ pos d) (d * s.den) (mul-pos above s.reduced.0))))))
+    subst (λ x. P x (reduce b d) (reduce c d) s) (over_more a d s above).0
+    (subst (λ x. P (reduce (a *ℤ pos s.den) (d * s.den)) x (reduce c d) s) (over_more b d s above).0
+    (subst (λ x. P (reduce (a *ℤ pos s.den) (d * s.den)) (reduce (b *ℤ pos s.den) (d * s.den)) x s) (over_more c d s above).0
+    (subst (λ x. P (reduce (a *ℤ pos s.den) (d * s.den)) (reduce (b *ℤ pos s.den) (d * s.den)) (reduce (c *ℤ pos s.den) (d * s.den)) x) (over_more a d s above).1
+    (h (a *ℤ pos s.den) (b *ℤ pos s.den) (c *ℤ pos s.den) (s.num *ℤ pos d) (d * s.den) (mul-pos above s.reduced.0))))))
     p q r

@@ -4,14 +4,13 @@
 -- laws of the ring have the same list. How to use it:
 --     square : (a b : Rational) → (a +ℚ b) *ℚ (a +ℚ b) ≡ a *ℚ a +ℚ (whole_ℚ (pos 2) *ℚ a *ℚ b +ℚ b *ℚ b)
 --     square = ring₂ _ (λ ρ. simp (as_expression, whole_as ρ) (by_ring ρ _ _ refl))
-use Rattle.std.specs.Prelude.{◌≡◌, ℕ, zero, suc, ◌+◌, ◌*◌, Bool, true, false, cond, nat_le, List, [], ◌∷◌, ℤ, pos, negsuc, ◌+ℤ◌, ◌*ℤ◌, neg_ℤ, refl}
-use Rattle.std.proofs.Common.{sym, ◌∙◌, ap, ap₂, arith, subst, Ordering, Less, Equal, Greater, nat_cmp, one-mul}
-use Rattle.std.proofs.lemmas.Int.{ints}
+use Rattle.std.specs.Prelude.{◌≡◌, ℕ, zero, suc, Bool, true, false, cond, nat_le, List, [], ◌∷◌, ℤ, pos, negsuc, ◌+ℤ◌, ◌*ℤ◌, neg_ℤ, refl}
+use Rattle.std.proofs.Common.{sym, ◌∙◌, ap, ap₂, arith, Ordering, Less, Equal, Greater, nat_cmp}
 use Rattle.std.specs.Cmp.Lexicographic.{slice_cmp}
 use Rattle.std.specs.FinMap.{nat_cmp-IsAntisymmetric, slice_cmp-IsAntisymmetric}
 use Rattle.ratio_core.specs.Rational.{Rational, neg_ℚ, one_ℚ, reduce, whole_ℚ, zero_ℚ, ◌*ℚ◌, ◌+ℚ◌}
 use Rattle.ratio_core.specs.RationalLaws.{reduce_itself}
-use Rattle.rational_laws.specs.Field.{*ℚ-+ℚ, *ℚ-neg_ℚ, *ℚ-one, *ℚ-zero, *ℚ_assoc, *ℚ_comm, +ℚ-*ℚ, +ℚ-zero, +ℚ_assoc, +ℚ_comm, +ℚ_inner_comm, +ℚ_left_comm, neg_ℚ-*ℚ, neg_ℚ-sum, neg_ℚ-zero, one-*ℚ, zero-*ℚ, zero-+ℚ}
+use Rattle.rational_laws.specs.Field.{*ℚ-+ℚ, *ℚ-one, *ℚ-zero, *ℚ_assoc, *ℚ_comm, +ℚ-*ℚ, +ℚ-zero, +ℚ_assoc, +ℚ_left_comm, neg_ℚ-*ℚ, neg_ℚ-sum, neg_ℚ-zero, one-*ℚ, zero-*ℚ, zero-+ℚ}
 use Rattle.rational_laws.specs.Over.{over-+ℚ, over-neg_ℚ, reduce-*ℚ}
 
 -- ---- whole numbers among the rationals
