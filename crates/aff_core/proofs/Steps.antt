@@ -5,11 +5,14 @@ use Rattle.std.proofs.lemmas.List.Elements.{All-cons, All-head, All-tail, All-ni
 use Rattle.std.specs.FinMap.{FinMap, get}
 use Rattle.ratio_core.specs.Rational.{Rational, ◌*ℚ◌, Fits}
 use Rattle.aff_core.specs.Address.{Address, address_cmp}
-use Rattle.aff_core.specs.Arithmetic.{times, TimesFit, TermsFit, MeetsFit, added_terms, added_at, substituted, SubstitutionFits, plus_times, PlusTimesFits}
-use Rattle.aff_core.specs.Function.{Function}
+use Rattle.aff_core.specs.Arithmetic.{times, TimesFit, TermsFit, MeetsFit, added_terms, added_at, substituted, SubstitutionFits, plus_times, PlusTimesFits, StepFits}
+use Rattle.aff_core.specs.Function.{Function, terms_of}
 
 abbrev Sums : Type 0
 Sums = FinMap address_cmp Rational
+
+abbrev pub as_function : Sums → Rational → Function
+as_function m k = record { terms = m; constant = k }
 
 -- the products with c of what is left, added to the sums so far, are as those of all
 pub record AddsAsAll (c : Rational) (start sums : Sums) (ts rest : List (Address × Rational)) : Type 0 where
@@ -69,3 +72,15 @@ module _ (e : Address → Function) (start sum : Function) (ts rest left : List 
   pub substitutes-fits : SubstitutionFits e start ts → PlusTimesFits sum t.1 (e t.0)
   unfolding SubstitutionFits
   substitutes-fits h = (subst (SubstitutionFits e sum) next (so_far.only h)).0
+
+-- functions of equal parts
+pub functions_same : (m n : Sums) (j k : Rational) → m ≡ n → j ≡ k → as_function m j ≡ as_function n k
+functions_same m n j k e f = λ i. record { terms = e i; constant = f i }
+
+-- the parts of a step, read from an expression, fit
+pub plus_times_fits : (sum e : Function) (c k : Rational) (ts : List (Address × Rational)) → k ≡ e.constant → ts ≡ terms_of e → StepFits sum.constant c k → TimesFit c ts → TermsFit sum.terms (times c ts) → PlusTimesFits sum c e
+plus_times_fits sum e c k ts constant terms step products sums = record {
+  constant = subst (StepFits sum.constant c) constant step;
+  products = subst (TimesFit c) terms products;
+  sums = subst (λ l. TermsFit sum.terms (times c l)) terms sums;
+}

@@ -109,9 +109,13 @@ sum_of f g = normal (plus f g.constant (terms_of g))
 
 -- ---- substitutions
 
+-- the function that is 0
+abbrev pub nothing : Function
+nothing = record { terms = finite.empty; constant = zero_ℚ }
+
 -- the expression of an address, which is 0 where it has none
 abbrev pub expression_at : FinMap address_cmp Function → Address → Function
-expression_at exprs at = unwrap_or (finite.get exprs at) (record { terms = finite.empty; constant = zero_ℚ })
+expression_at exprs at = unwrap_or (finite.get exprs at) nothing
 
 -- c times the expression added
 abbrev pub plus_times : Function → Rational → Function → Function

@@ -91,8 +91,8 @@ rest_of xs i = ap (λ n. take n (drop i xs)) (sym (length-drop i xs)) ∙ take-l
 pub returns : goal.returns
 returns c =
     let items : c.extend_from_slice-2.new.self.items ≡ (c.loop-i.merged.items ++ drop c.loop-i.i c.args.left.now) ++ drop c.loop-i.j c.args.right.now = c.in_ok-extend_from_slice-2.ensures.items
-        ∙ (λ k. c.in_ok-extend_from_slice.ensures.items k ++ rest_of c.args.right.now c.loop-i.j k)
-        ∙ ap (λ l. (c.loop-i.merged.items ++ l) ++ drop c.loop-i.j c.args.right.now) (rest_of c.args.left.now c.loop-i.i) in
+    ∙ (λ k. c.in_ok-extend_from_slice.ensures.items k ++ rest_of c.args.right.now c.loop-i.j k)
+    ∙ ap (λ l. (c.loop-i.merged.items ++ l) ++ drop c.loop-i.j c.args.right.now) (rest_of c.args.left.now c.loop-i.i) in
     elim c.loop-i-test.branch [
       | then-loop-i-test+else-j-right w ↦
           let all = merged-end_right c.args.left.now c.args.right.now c.loop-i.i c.loop-i.j c.loop-i.merged.items c.loop-i.invariant w.if-j-right.false in
