@@ -1,5 +1,5 @@
 -- Lists of entries whose keys strictly rise: what a search among them finds, and what keeps them so.
-use Rattle.std.specs.Prelude.{◌≡◌, ℕ, zero, suc, ◌<◌, Bool, true, false, ◌&&◌, cond, T, List, [], ◌∷◌, ◌++◌, take, length, slice_index_or, Some, None, Result, Ok, Err, MatchResult, filter, map, nat_lt, ◌+◌, refl}
+use Rattle.std.specs.Prelude.{◌≡◌, ℕ, zero, suc, ◌<◌, Bool, true, false, ◌&&◌, cond, T, List, [], ◌∷◌, ◌++◌, take, drop, length, slice_index_or, Some, None, Result, Ok, Err, MatchResult, filter, map, nat_lt, ◌+◌, refl}
 use Rattle.std.specs.Option.{option_map}
 use Rattle.std.proofs.Common.{arith, sym, ap, subst, ◌∙◌}
 use Rattle.std.specs.Ordering.{is_eq, is_lt, ordering_reverse}
@@ -80,7 +80,7 @@ module _ {K X : Type 0} {R : K → K → Ordering} (o : IsTotalOrder R) where
         | false ↦ λ t. apart_greater o _ q (parts.1 j d (ltb-false j i t) lt)
       ] refl)
 
-  below_less : (x y : K) (es : List (K × X)) → R x y ≡ Less → T (below_all R y es) → T (below_all R x es)
+  pub below_less : (x y : K) (es : List (K × X)) → R x y ≡ Less → T (below_all R y es) → T (below_all R x es)
   below_less x y [] p h = tt
   below_less x y (e ∷ es) p h = both _ _ (subst (λ r. T (is_lt r)) (sym (o.trans x y e.0 p (is_less _ (first _ _ h)))) tt) (below_less x y es p (second _ _ h))
 
@@ -106,6 +106,16 @@ module _ {K X : Type 0} (R : K → K → Ordering) where
   is_sorted-filter p (e ∷ es) h =
       let rest = is_sorted-filter p es (second _ _ h) in
       elim (p e) as (λ b. T (is_sorted R (cond b (e ∷ filter p es) (filter p es)))) [ true ↦ both _ _ (below_all-filter p e.0 es (first _ _ h)) rest | false ↦ rest ]
+
+  -- a key below all of them is not found
+  pub find_below : (q : K) (es : List (K × X)) → T (below_all R q es) → find R q es ≡ None
+  find_below q [] h = refl
+  find_below q (e ∷ es) h = ap (λ r. cond (is_eq r) (Some e.1) (find R q es)) (is_less _ (first _ _ h)) ∙ find_below q es (second _ _ h)
+
+  pub is_sorted-drop : (n : ℕ) (es : List (K × X)) → T (is_sorted R es) → T (is_sorted R (drop n es))
+  is_sorted-drop zero es h = h
+  is_sorted-drop (suc n) [] h = tt
+  is_sorted-drop (suc n) (e ∷ es) h = is_sorted-drop n es (second _ _ h)
 
   below_all_push : (k : K) (es : List (K × X)) (e : K × X) → T (below_all R k es) → R k e.0 ≡ Less → T (below_all R k (es ++ e ∷ []))
   below_all_push k [] e h lt = both _ _ (subst (λ r. T (is_lt r)) (sym lt) tt) tt

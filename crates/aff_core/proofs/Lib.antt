@@ -1,4 +1,9 @@
+pub mod Answered
 pub mod Entries
 pub mod Kept
+pub mod KeptMaps
+pub mod Merging
 mod Padding
 pub mod Rising
+pub mod Steps
+pub mod Values

@@ -5,7 +5,7 @@ use Rattle.std.specs.Bool.{Decides}
 use Rattle.std.specs.List.{IsAllAdjacentAnswer}
 use Rattle.std.specs.Ordering.{is_lt}
 use Rattle.std.specs.declared.cmp.Ordering.TheVariants.{Less}
-use Rattle.std.specs.FinMap.{is_sorted}
+use Rattle.std.specs.FinMap.{FinMap, entries, entries_sorted, is_sorted}
 use Rattle.aff_core.specs.Address.{Address, address_cmp, address_total}
 use Rattle.aff_core.specs.Rising.{RiseStrictly}
 use Rattle.aff_core.proofs.Entries.{key_less, is_sorted_push, is_sorted_adjacent, is_sorted-take, is_sorted-filter, is_sorted-map, is_less}
@@ -26,6 +26,10 @@ module _ {X : Type 0} where
 
   pub RiseStrictly-map : {Y : Type 0} (f : X → Y) (es : List (Address × X)) → RiseStrictly es → RiseStrictly (map (λ e. (e.0, f e.1)) es)
   RiseStrictly-map f es h = record { rising = is_sorted-map address_cmp f es ∙ h.rising }
+
+  -- those of a finite map rise
+  pub entries_rise : (m : FinMap address_cmp X) → RiseStrictly (entries m)
+  entries_rise m = rise_from _ (entries_sorted m)
 
   pub RiseStrictly-nil : RiseStrictly {X = X} []
   RiseStrictly-nil = record { rising = refl }

@@ -1,4 +1,5 @@
 pub mod Address
+pub mod Arithmetic
 pub mod Function
 pub mod FunctionEq
 pub mod Kept

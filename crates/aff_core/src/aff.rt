@@ -49,7 +49,7 @@ impl Aff {
     }
 
     // The function of terms in the order of their addresses, none of which is zero.
-    fn of(terms: Vec<(Address, Ratio)>, constant: Ratio) -> Aff
+    pub(crate) fn of(terms: Vec<(Address, Ratio)>, constant: Ratio) -> Aff
         requires rising { RiseStrictly terms.items }
         requires nonzero { HaveNoZero terms.items }
         ensures { result ≡ kept_as terms.items constant }

@@ -3,10 +3,18 @@
 
 mod address;
 mod aff;
+mod arithmetic;
+mod by_address;
+mod fault;
+mod folds;
 mod root;
+mod sequence;
 mod terms;
 
 pub use address::Address;
 pub use aff::Aff;
+pub use by_address::{ByAddress, Exprs, Point};
+pub use fault::AffFault;
 pub use root::Root;
+pub use sequence::{Addresses, Affs, Ratios, Sequence, VecAff};
 pub use terms::rise_strictly;

@@ -1,0 +1,63 @@
+//! Values, multiples, sums and substitutions of affine functions.
+ghost use Rattle.std.specs.Prelude.{◌≡◌, OkIff, IsOkUnless};
+ghost use Rattle.aff_core.specs.Function.{terms_of};
+ghost use Rattle.aff_core.specs.Arithmetic.{HasEach, ValueFits, value_of, number_at, ProductsFit, scaled, ExactWhere, PlusFits, sum_of, SubstitutionFits, composed, constant_of, expression_at};
+
+use crate::folds::{add_products, merged, plus_product, products};
+use crate::{Aff, AffFault, Exprs, Point};
+use ratio_core::Ratio;
+use std::alloc::Global;
+
+impl Aff {
+    /// The value at a point: the constant, and then each coefficient times its number, added in
+    /// the order of addresses. `Overflow` exactly where a product or a sum doesn't fit.
+    pub fn value(&self, at: &Point) -> Result<Ratio, AffFault>
+        requires { HasEach at.now self.now }
+        ensures exact { OkIff result (ValueFits self.now.constant (terms_of self.now) (number_at at.now)) (value_of self.now (number_at at.now)) }
+        ensures err { IsOkUnless result AffFault.Overflow }
+    {
+        let mut value = self.constant();
+        for (address, coefficient) in self.terms() {
+            let number = at.get(address).unwrap();
+            value = plus_product(&value, coefficient, number)?;
+        }
+        Ok(value)
+    }
+
+    /// The function times a number. `Overflow` exactly where a product doesn't fit.
+    pub fn scale(&self, alloc: Global, by: &Ratio) -> Result<Aff, AffFault>
+        ensures { ExactWhere result (ProductsFit by.now self.now) (λ f. f ≡ scaled by.now self.now) }
+    {
+        let constant = by.mul(&self.constant())?;
+        let terms = products(alloc, by, self.terms())?;
+        Ok(Aff::from_terms(alloc, &terms, constant)?)
+    }
+
+    /// The sum of two functions. `Overflow` exactly where the sum of the constants, or that of
+    /// the two coefficients of an address, doesn't fit.
+    pub fn add(&self, alloc: Global, other: &Aff) -> Result<Aff, AffFault>
+        ensures { ExactWhere result (PlusFits self.now other.now.constant (terms_of other.now)) (λ f. f ≡ sum_of self.now other.now) }
+    {
+        let constant = self.constant().add(&other.constant())?;
+        let terms = merged(alloc, self.terms(), other.terms())?;
+        Ok(Aff::from_terms(alloc, &terms, constant)?)
+    }
+
+    /// The function with the expression of each address in its place: from the constant on, each
+    /// coefficient times its expression is added in the order of addresses. `Overflow` exactly
+    /// where a product or a sum doesn't fit.
+    pub fn substitute(&self, alloc: Global, by: &Exprs) -> Result<Aff, AffFault>
+        requires { HasEach by.now self.now }
+        ensures { ExactWhere result (SubstitutionFits (expression_at by.now) (constant_of self.now) (terms_of self.now)) (λ f. f ≡ composed (expression_at by.now) self.now) }
+    {
+        let mut sums = Point::new(alloc);
+        let mut constant = self.constant();
+        for (address, coefficient) in self.terms() {
+            let expression = by.get(address).unwrap();
+            constant = plus_product(&constant, coefficient, &expression.constant())?;
+            add_products(&mut sums, coefficient, expression.terms())?;
+        }
+        let terms = sums.to_terms(alloc)?;
+        Ok(Aff::from_terms(alloc, &terms, constant)?)
+    }
+}
