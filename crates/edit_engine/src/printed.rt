@@ -44,7 +44,7 @@ pub fn bridged(alloc: Global, model: &UserModel, leaves: &Leaves) -> Result<Line
     Ok(line)
 }
 
-#[tactic(auto, using(std::proofs::lemmas::List::append_assoc), unfolding(crate::specs::Printed::done_text))]
+#[tactic(auto, unfolding(crate::specs::Printed::done_text))]
 fn push_done(line: &mut Line, changes: Option<u128>) -> Result<(), Memory>
     ensures { OnOk result (line.new ≡ line.old ++ done_text changes) }
 {
@@ -58,7 +58,7 @@ fn push_done(line: &mut Line, changes: Option<u128>) -> Result<(), Memory>
     }
 }
 
-#[tactic(auto, using(std::proofs::lemmas::List::append_assoc), unfolding(crate::specs::Printed::refusal_text))]
+#[tactic(auto, unfolding(crate::specs::Printed::refusal_text))]
 fn push_refusal(line: &mut Line, refusal: Refusal) -> Result<(), Memory>
     ensures { OnOk result (line.new ≡ line.old ++ refusal_text refusal) }
 {
@@ -104,7 +104,7 @@ fn push_rows(
     Ok(())
 }
 
-#[tactic(auto, using(std::proofs::lemmas::List::append_assoc), unfolding(crate::specs::Printed::variable_line))]
+#[tactic(auto, unfolding(crate::specs::Printed::variable_line))]
 fn push_variable(
     line: &mut Line,
     model: &UserModel,
@@ -120,7 +120,7 @@ fn push_variable(
     }
 }
 
-#[tactic(auto, using(std::proofs::lemmas::List::append_assoc), unfolding(crate::specs::Printed::row_line))]
+#[tactic(auto, unfolding(crate::specs::Printed::row_line))]
 fn push_row(line: &mut Line, model: &UserModel, at: &Address, row: &LeafRow) -> Result<(), Memory>
     ensures { OnOk result (line.new ≡ line.old ++ row_line model.now (at.now, row.now)) }
 {
@@ -174,7 +174,6 @@ fn push_further_constant(line: &mut Line, constant: &Ratio) -> Result<(), Memory
     line.push_ratio(constant)
 }
 
-#[tactic(auto, using(std::proofs::lemmas::List::append_assoc))]
 fn push_term(line: &mut Line, model: &UserModel, term: &(Address, Ratio)) -> Result<(), Memory>
     ensures { OnOk result (line.new ≡ line.old ++ term_text model.now term.now) }
 {
@@ -185,7 +184,7 @@ fn push_term(line: &mut Line, model: &UserModel, term: &(Address, Ratio)) -> Res
 }
 
 /// The root with its name, and a point and each position.
-#[tactic(auto, using(std::proofs::lemmas::List::append_assoc), unfolding(crate::specs::Printed::address_text))]
+#[tactic(auto, unfolding(crate::specs::Printed::address_text))]
 fn push_address(line: &mut Line, model: &UserModel, at: &Address) -> Result<(), Memory>
     ensures { OnOk result (line.new ≡ line.old ++ address_text model.now at.now) }
 {
