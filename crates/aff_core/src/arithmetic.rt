@@ -61,3 +61,54 @@ impl Aff {
         Ok(Aff::from_terms(alloc, &terms, constant)?)
     }
 }
+
+#[cfg(test)]
+mod tests {
+    use super::*;
+    use crate::{Address, Root, rise_strictly};
+    use std::test::Fail;
+
+    fn linear(rt: &HostRuntime, terms: &[(Address, Ratio)], constant: Ratio) -> Result<Aff, Fail> {
+        if !rise_strictly(terms) {
+            return Err(Fail::new("the addresses do not rise"));
+        }
+        Ok(Aff::from_terms(rt.alloc(), terms, constant)?)
+    }
+
+    #[test]
+    fn adds_scales_and_substitutes(rt: HostRuntime) -> Result<(), Fail> {
+        let x = Address::root(Root::Variable, 0);
+        let y = Address::root(Root::Variable, 1);
+        let z = Address::root(Root::Variable, 2);
+        let number = |n| Ratio::new(n, 1);
+        let f = linear(&rt, &[(x, number(2)?), (z, number(3)?)], number(1)?)?;
+        let g = linear(&rt, &[(x, number(-2)?), (y, number(5)?)], number(4)?)?;
+
+        let sum = f.add(rt.alloc(), &g)?;
+        let expected = linear(&rt, &[(y, number(5)?), (z, number(3)?)], number(5)?)?;
+        assert!(rt; sum == expected);
+        assert!(rt; f.scale(rt.alloc(), &Ratio::zero())?.term_count() == 0);
+        assert!(rt; f.scale(rt.alloc(), &number(-1)?)? == f.neg(rt.alloc())?);
+
+        // x is 1 and z is 2.
+        let mut point = Point::new(rt.alloc());
+        let _ = point.put(x, number(1)?);
+        let _ = point.put(z, number(2)?);
+        assert!(rt; point.get(&y).is_none());
+        assert!(rt; point.has_each(&f) && !point.has_each(&g));
+        assert!(rt; f.value(&point)? == number(9)?);
+
+        // x is y + 1 and z is 2 y - 3.
+        let mut exprs = Exprs::new(rt.alloc());
+        let _ = exprs.put(x, linear(&rt, &[(y, number(1)?)], number(1)?)?);
+        let _ = exprs.put(z, linear(&rt, &[(y, number(2)?)], number(-3)?)?);
+        let composed = linear(&rt, &[(y, number(8)?)], number(-6)?)?;
+        assert!(rt; exprs.has_each(&f));
+        assert!(rt; f.substitute(rt.alloc(), &exprs)? == composed);
+
+        let great = linear(&rt, &[(x, number(1 << 100)?)], Ratio::zero())?;
+        let refused = great.scale(rt.alloc(), &number(1 << 100)?);
+        assert!(rt; refused == Err(AffFault::Overflow));
+        Ok(())
+    }
+}

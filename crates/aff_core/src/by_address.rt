@@ -1,7 +1,8 @@
 //! Finite maps from addresses.
-ghost use Rattle.std.specs.Prelude.{◌≡◌, IfOk, OnOk, OnErr, IfErr};
+ghost use Rattle.std.specs.Prelude.{◌≡◌, IfOk, OnOk, OnErr, IfErr, IsTrue, ◌↔◌};
 ghost use Rattle.std.specs.Option.{option_copied};
 ghost use Rattle.std.specs.FinMap as finite;
+ghost use Rattle.aff_core.specs.Arithmetic.{HasEach};
 
 use crate::{Address, Aff};
 use ratio_core::{Memory, Ratio};
@@ -59,6 +60,15 @@ impl<V> ByAddress<V> {
         ensures { option_copied result ≡ finite.get self.now at.now }
     {
         self.entries.get(at)
+    }
+}
+
+impl<V> ByAddress<V> {
+    /// Whether each address that the function mentions has a value.
+    pub fn has_each(&self, f: &Aff) -> bool
+        ensures { IsTrue result ↔ HasEach self.now f.now }
+    {
+        f.terms().iter().all(|(at, _)| self.get(at).is_some())
     }
 }
 
