@@ -1,6 +1,6 @@
 -- The model of the solver, which takes free variables and functions that are at most a number: the fresh bridging of
 -- the user's model.
-use Rattle.std.specs.Prelude.{◌≡◌, ℕ, ◌+◌, Bool, true, false, ◌&&◌, not, List, map, Option, count_by, refl}
+use Rattle.std.specs.Prelude.{ℕ, ◌+◌, Bool, true, false, ◌&&◌, not, List, map, count_by, refl}
 use Rattle.std.specs.Option.{option_map_or}
 use Rattle.std.specs.FinMap.{FinMap, entries, from_entries, get, contains_key, empty, code}
 use Rattle.std.specs.Coded.{Coded, code_by, coded×}

@@ -1,7 +1,7 @@
 -- Finite maps made of the entries of a `BTreeMap`: what its calls leave, said of the map.
 use Rattle.std.specs.Prelude.{◌≡◌, ℕ, ◌≤◌, Bool, true, false, cond, is_some, length, map, List, [], ◌∷◌, Option, Some, None, refl}
 use Rattle.std.specs.Cmp.{IsTotalOrder, eq_by_cmp_equiv}
-use Rattle.std.specs.FinMap.{FinMap, IsAntisymmetric, from_entries, find, get, insert, remove, get-from_entries, get-insert, get-remove, same_map, entries, empty, len, len-entries, len-empty, entries-insert}
+use Rattle.std.specs.FinMap.{IsAntisymmetric, from_entries, find, get, insert, remove, get-from_entries, get-insert, get-remove, same_map, entries, empty, len-entries, len-empty, entries-insert}
 use Rattle.std.specs.FinMap.Entries.{put, by_order}
 use Rattle.std.specs.List.{AllByRecursion}
 use Rattle.std.specs.List.Sorted.{IsStrictlySortedBy}

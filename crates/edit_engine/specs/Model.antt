@@ -12,7 +12,7 @@ use Rattle.edit_engine.specs.declared.row.Domain.{Domain}
 use Rattle.edit_engine.specs.declared.row.Row.{Row}
 use Rattle.edit_engine.specs.contracts.row.Domain as domain
 use Rattle.edit_engine.specs.declared.limits.TheConstants.{ALL_TERMS}
-use Rattle.edit_engine.specs.Numbered.{Numbered, numbered_code, nothing, with_item, without_item}
+use Rattle.edit_engine.specs.Numbered.{Numbered, numbered_code, nothing}
 
 pub record UserModel : Type 0 where
   pub variables : Numbered Domain

@@ -1,5 +1,5 @@
 -- Things under names, and under numbers that rise and are never used again.
-use Rattle.std.specs.Prelude.{◌≡◌, ℕ, ◌+◌, List, [], refl}
+use Rattle.std.specs.Prelude.{ℕ, ◌+◌, List, [], refl}
 use Rattle.std.specs.Option.{option_map_or}
 use Rattle.std.specs.FinMap.{FinMap, empty, insert, remove, get, code}
 use Rattle.std.specs.Ordering.{nat_cmp}
@@ -7,9 +7,9 @@ use Rattle.std.specs.Coded.{Coded, code_by, coded×, coded_ℕ, coded_list}
 use Rattle.edit_engine.specs.Name.{name_cmp}
 
 pub record Numbered (X : Type 0) : Type 0 where
-  pub numbers : FinMap name_cmp ℕ             -- the number of each name
-  pub items : FinMap nat_cmp (List ℕ × X)     -- the name and the thing of each number
-  pub next : ℕ                                -- the number that comes next
+  pub numbers : FinMap name_cmp ℕ  -- the number of each name
+  pub items : FinMap nat_cmp (List ℕ × X)  -- the name and the thing of each number
+  pub next : ℕ  -- the number that comes next
 
 abbrev pub numbered_code : {X : Type 0} → Coded X → Coded (Numbered X)
 numbered_code x =

@@ -1,5 +1,5 @@
 -- Which refusal a line meets: the first whose test holds, in this order.
-use Rattle.std.specs.Prelude.{ℕ, ◌+◌, Bool, List, [], ◌∷◌, Option, Some, None, is_some, nat_lt, if◌then◌else◌}
+use Rattle.std.specs.Prelude.{ℕ, ◌+◌, Bool, List, [], ◌∷◌, Option, Some, None, nat_lt, if◌then◌else◌}
 use Rattle.std.specs.FinMap.{contains_key, len}
 use Rattle.aff_core.specs.Function.{Function}
 use Rattle.edit_engine.specs.declared.command.NewRow.{NewRow}

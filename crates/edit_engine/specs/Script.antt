@@ -8,7 +8,6 @@ use Rattle.edit_engine.specs.declared.answer.Answer.{Answer}
 use Rattle.edit_engine.specs.declared.answer.Answer.TheVariants as answer
 use Rattle.edit_engine.specs.declared.command.Command.{Command}
 use Rattle.edit_engine.specs.declared.command.Command.TheVariants.{Silent, AddVariable, AddRow, DeleteRow, Attach, Bridged, Quit}
-use Rattle.edit_engine.specs.declared.command.NewRow.{NewRow}
 use Rattle.edit_engine.specs.declared.row.Domain.TheVariants.{Free}
 use Rattle.edit_engine.specs.declared.refusal.Refusal.{Refusal}
 use Rattle.edit_engine.specs.declared.refusal.Refusal.TheVariants.{BadLine, UnknownName, NotAttached, AlreadyAttached}

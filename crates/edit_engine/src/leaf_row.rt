@@ -2,11 +2,10 @@
 ghost use Rattle.std.specs.Prelude.{◌≡◌, IfOk};
 ghost use Rattle.edit_engine.specs.Leaves.{image};
 
+use crate::row::Row;
 use aff_core::Aff;
 use ratio_core::{Memory, Ratio};
 use std::alloc::Global;
-
-use crate::row::Row;
 
 /// A row that the solver takes: its function is at most `upper`.
 #[derive(PartialEq, Drop)]

@@ -6,16 +6,15 @@ ghost use Rattle.std.specs.Ordering.{nat_cmp};
 ghost use Rattle.aff_core.specs.Address.{address_cmp};
 ghost use Rattle.edit_engine.specs.Leaves.{no_leaves, fresh, changed, variable_leaf, row_leaf, differences};
 
+use crate::leaf_row::{Edge, LeafRow};
+use crate::model::UserModel;
+use crate::name::Name;
+use crate::row::{Domain, Row};
 use aff_core::{Address, Root};
 use ratio_core::Memory;
 use std::alloc::Global;
 use std::collections::BTreeMap;
 use std::marker::Model;
-
-use crate::leaf_row::{Edge, LeafRow};
-use crate::model::UserModel;
-use crate::name::Name;
-use crate::row::{Domain, Row};
 
 /// The solver's model: free variables and rows, at the addresses that they are leaves of.
 #[derive(Drop)]

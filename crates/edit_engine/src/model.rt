@@ -5,16 +5,15 @@ ghost use Rattle.edit_engine.specs.Numbered.{with_item, without_item};
 ghost use Rattle.edit_engine.specs.Refusals.{variable_refusal, named_row_refusal, first_refusal, passes};
 ghost use Rattle.edit_engine.specs.declared.row.Domain.TheVariants.{Free};
 
-use aff_core::Aff;
-use ratio_core::Memory;
-use std::alloc::Global;
-use std::marker::Model;
-
 use crate::limits::{ALL_TERMS, LAST_NUMBER, ROWS, TERMS, VARIABLES};
 use crate::name::Name;
 use crate::numbered::Numbered;
 use crate::refusal::Refusal;
 use crate::row::{Domain, Row};
+use aff_core::Aff;
+use ratio_core::Memory;
+use std::alloc::Global;
+use std::marker::Model;
 
 /// The user's model: free variables and rows, each under its name and number.
 #[derive(Drop)]

@@ -4,12 +4,11 @@ ghost use Rattle.std.specs.Option.{option_copied};
 ghost use Rattle.std.specs.FinMap.{get, len, from_entries};
 ghost use Rattle.edit_engine.specs.Numbered.{nothing, with_item, without_item};
 
+use crate::name::Name;
 use ratio_core::Memory;
 use std::alloc::Global;
 use std::collections::BTreeMap;
 use std::marker::Model;
-
-use crate::name::Name;
 
 /// Things under names, and under numbers that rise and are never used again.
 #[derive(Drop)]

@@ -6,10 +6,6 @@ ghost use Rattle.edit_engine.specs.Line.{command_of};
 ghost use Rattle.edit_engine.specs.Printed.{done_text};
 ghost use Rattle.edit_engine.specs.declared.command.Command.TheVariants.{AddVariable, AddRow, DeleteRow, Attach, Bridged};
 
-use ratio_core::Memory;
-use std::alloc::Global;
-use std::marker::Model;
-
 use crate::answer::Answer;
 use crate::command::{Command, NewRow};
 use crate::grammar::command;
@@ -20,6 +16,9 @@ use crate::printed;
 use crate::refusal::Refusal;
 use crate::row::Row;
 use crate::row_function::row_function;
+use ratio_core::Memory;
+use std::alloc::Global;
+use std::marker::Model;
 
 /// A user's model, and while a solver is attached the model that it holds.
 #[derive(Drop)]

@@ -17,11 +17,13 @@ loop-number-init c =
 pub loop-number-preserved : goal.loop-number-preserved
 loop-number-preserved c =
     let taken = c.loop-number.invariant.0 in
-    let item : ℕ × (List ℕ × Row) = (c.in-Some.number.now, c.in-Some.field-0-1.now) in
-    (item ∷ taken, taken_more c.next.new.self.iter item taken c.loop-number.invariant.1 c.in-Some.ensures.steps,
+    let item : ℕ × (List ℕ × Row) = (c.in-Some.number.now, c.in-Some.field-0-1.now) in (
+      item ∷ taken,
+      taken_more c.next.new.self.iter item taken c.loop-number.invariant.1 c.in-Some.ensures.steps,
       one_given address_total exact_addresses _ _ c.child.result c.in_ok-leaf.leaf c.in_ok-insert.ensures.updates.0
-      ∙ (ap (λ m. insert m c.child.result c.in_ok-leaf.leaf) c.loop-number.invariant.2
-      ∙ (λ i. insert (from_entries (map row_leaf taken)) ((c.child.ensures ∙ ap (λ r. child_of r 0) c.root.ensures) i) (c.in_ok-leaf.ensures i))))
+          ∙ (ap (λ m. insert m c.child.result c.in_ok-leaf.leaf) c.loop-number.invariant.2
+          ∙ (λ i. insert (from_entries (map row_leaf taken)) ((c.child.ensures ∙ ap (λ r. child_of r 0) c.root.ensures) i) (c.in_ok-leaf.ensures i))),
+    )
 
 pub returns : goal.returns
 returns c =

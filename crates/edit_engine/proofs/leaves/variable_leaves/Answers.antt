@@ -17,11 +17,13 @@ loop-number-init c =
 pub loop-number-preserved : goal.loop-number-preserved
 loop-number-preserved c =
     let taken = c.loop-number.invariant.0 in
-    let item : ℕ × (List ℕ × Domain) = (c.in-Some.number.now, c.in-Some.field-0-1.now) in
-    (item ∷ taken, taken_more c.next.new.self.iter item taken c.loop-number.invariant.1 c.in-Some.ensures.steps,
+    let item : ℕ × (List ℕ × Domain) = (c.in-Some.number.now, c.in-Some.field-0-1.now) in (
+      item ∷ taken,
+      taken_more c.next.new.self.iter item taken c.loop-number.invariant.1 c.in-Some.ensures.steps,
       one_given address_total exact_addresses _ _ c.root.result c.in-Some.field-0-1.now.1 c.in_ok-insert.ensures.updates.0
-      ∙ (ap (λ m. insert m c.root.result c.in-Some.field-0-1.now.1) c.loop-number.invariant.2
-      ∙ ap (λ at. insert (from_entries (map variable_leaf taken)) at c.in-Some.field-0-1.now.1) c.root.ensures))
+          ∙ (ap (λ m. insert m c.root.result c.in-Some.field-0-1.now.1) c.loop-number.invariant.2
+          ∙ ap (λ at. insert (from_entries (map variable_leaf taken)) at c.in-Some.field-0-1.now.1) c.root.ensures),
+    )
 
 pub returns : goal.returns
 returns c =

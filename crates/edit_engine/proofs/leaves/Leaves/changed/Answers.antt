@@ -1,4 +1,4 @@
-use Rattle.std.proofs.Common.{◌≡◌, ◌+◌, refl, ap, ◌∙◌}
+use Rattle.std.proofs.Common.{◌≡◌, ◌+◌, refl, ◌∙◌}
 use Rattle.edit_engine.specs.declared.row.Domain.{Domain}
 use Rattle.edit_engine.specs.declared.row.Domain.TheVariants.{Free}
 use Rattle.edit_engine.specs.declared.leaf_row.LeafRow.{LeafRow}

@@ -1,4 +1,4 @@
-use Rattle.std.proofs.Common.{◌≡◌, sum_by, sym, ap, ◌∙◌, arith}
+use Rattle.std.proofs.Common.{sum_by, sym, ap, ◌∙◌, arith}
 use Rattle.std.specs.FinMap.{entries, nat_cmp-IsAntisymmetric}
 use Rattle.std.specs.Cmp.{nat_cmp_total}
 use Rattle.edit_engine.specs.Model.{term_count}
@@ -20,7 +20,7 @@ invariant_of-self c =
     let left = ap (λ (s : Numbered Row). sum_by (λ e. term_count e.1.1.function) (entries s.items)) c.in-Some.ensures.removed in
     record {
       count_is = omega (arith, less, left, c.self.invariant.count_is, c.term_count.ensures);
-      within = omega (arith, c.self.invariant.within)
+      within = omega (arith, c.self.invariant.within);
     }
 
 pub invariant_of-self-in_default : goal.invariant_of-self-in_default
@@ -30,5 +30,5 @@ invariant_of-self-in_default c =
     let same = ap (λ m. sum_by (λ e. term_count e.1.1.function) (entries m)) (taken_in_vain nat_cmp_total nat_cmp-IsAntisymmetric rows.items c.args.number (sym c.in_default.ensures.item)) in
     record {
       count_is = c.self.invariant.count_is ∙ sym (left ∙ same);
-      within = c.self.invariant.within
+      within = c.self.invariant.within;
     }

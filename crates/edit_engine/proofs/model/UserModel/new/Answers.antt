@@ -1,4 +1,4 @@
-use Rattle.std.proofs.Common.{◌≡◌, sum_by, sym, ap, ◌∙◌, arith}
+use Rattle.std.proofs.Common.{sum_by, sym, ap, ◌∙◌, arith}
 use Rattle.std.specs.FinMap.{entries}
 use Rattle.std.specs.Ordering.{nat_cmp}
 use Rattle.edit_engine.specs.Made.{entries_empty}
@@ -10,5 +10,5 @@ use Rattle.edit_engine.proofs.model.UserModel.new.Goals as goal
 pub invariant_of-result : goal.invariant_of-result
 invariant_of-result c = record {
   count_is = sym (ap (λ (s : Numbered Row). sum_by (λ e. term_count e.1.1.function) (entries s.items)) c.new-2.ensures ∙ ap (sum_by (λ e. term_count e.1.1.function)) (entries_empty nat_cmp));
-  within = omega arith
+  within = omega arith;
 }

@@ -26,7 +26,7 @@ returns-then-is_err-clause-err g c =
     (λ i. record {
       numbers = from_entries (on_err_holds c.insert-2.result (sym c.is_err.ensures.value ∙ c.if-is_err.true) c.insert-2.ensures.err i);
       items = put_back nat_cmp_total nat_cmp-IsAntisymmetric s.items.entries c.insert.new.self.entries c.remove.new.self.entries s.next (c.in_ok-copy.copy, c.args.item) (c.self.invariant s.next (omega arith)) c.in_ok-insert.ensures.updates.0 c.remove.ensures.updates.0 i;
-      next = s.next
+      next = s.next;
     }) ∙ c.self.view_is
 
 pub returns-clause-ok : goal.returns-clause-ok
@@ -37,7 +37,7 @@ returns-clause-ok g c =
       numbers = one_given name_cmp_total name_cmp_exact s.numbers.entries c.insert-2.new.self.entries c.args.name s.next named.0 i;
       items = (one_given nat_cmp_total nat_cmp-IsAntisymmetric s.items.entries c.insert.new.self.entries s.next (c.in_ok-copy.copy, c.args.item) c.in_ok-insert.ensures.updates.0
           ∙ ap (λ n. insert (from_entries s.items.entries) s.next (n, c.args.item)) c.in_ok-copy.ensures) i;
-      next = s.next + 1
+      next = s.next + 1;
     }) ∙ ap (λ s. with_item s c.args.name c.args.item) c.self.view_is
 
 pub returns-in_err-copy-clause-unused : goal.returns-in_err-copy-clause-unused

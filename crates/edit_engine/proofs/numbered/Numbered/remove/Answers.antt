@@ -12,7 +12,7 @@ returns-clause-removed g c =
     (λ i. record {
       numbers = one_removed name_cmp_total name_cmp_exact s.numbers.entries c.remove.new.self.entries c.args.name.now c.remove.ensures.updates.0 i;
       items = one_removed nat_cmp_total nat_cmp-IsAntisymmetric s.items.entries c.remove-2.new.self.entries c.args.number c.remove-2.ensures.updates.0 i;
-      next = s.next
+      next = s.next;
     }) ∙ ap (λ s. without_item s c.args.name.now c.args.number) c.self.view_is
 
 pub returns-clause-item : goal.returns-clause-item

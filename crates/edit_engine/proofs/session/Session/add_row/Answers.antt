@@ -22,9 +22,9 @@ returns c =
     let found : Some f ≡ known_function old.model.variables row.terms = sym c.in-Some.is ∙ (c.in_ok-function.ensures ∙ (λ i. known_function (c.variables-variables.ensures i) (c.as_slice.ensures i))) in
     let is = known (names_unknown old.model.variables row.terms) f (row_function old.model.variables row.terms) found in
     let none : refusal_of old (AddRow row) ≡ None =
-      (λ i. cond (is.0 i) (Some UnknownName) (named_row_refusal old.model row.name (is.1 i))) ∙ (sym c.row_refusal.ensures ∙ c.in_default-row_refusal.is) in
+    (λ i. cond (is.0 i) (Some UnknownName) (named_row_refusal old.model row.name (is.1 i))) ∙ (sym c.row_refusal.ensures ∙ c.in_default-row_refusal.is) in
     let longer : c.add_row.new.self ≡ edited old.model (AddRow row) = c.in_ok-add_row.ensures.ok
-      ∙ ap (λ g. record { variables = old.model.variables; rows = with_item old.model.rows row.name (record { function = g; lower = row.lower }) }) (sym is.1) in
+    ∙ ap (λ g. record { variables = old.model.variables; rows = with_item old.model.rows row.name (record { function = g; lower = row.lower }) }) (sym is.1) in
     let result = c.update.result in
     let new = c.update.new.self in
     let ok = subst (λ (m : UserModel). IsBridgedAnew (record { model = m; solver = old.solver }) (is_some old.solver) result new) longer c.update.ensures.ok in

@@ -1,4 +1,4 @@
-use Rattle.std.proofs.Common.{◌≡◌, Some, None, OnErr, is_some, sym, ap, ◌∙◌, subst}
+use Rattle.std.proofs.Common.{◌≡◌, Some, None, OnErr, is_some, sym, ◌∙◌, subst}
 use Rattle.edit_engine.specs.Model.{UserModel}
 use Rattle.edit_engine.specs.Script.{State, Steps, IsBridgedAnew, refusal_of}
 use Rattle.edit_engine.specs.declared.command.Command.TheVariants.{AddVariable}

@@ -15,7 +15,7 @@ returns c =
     let there : Some c.in-Some.number ≡ get old.model.rows.numbers name = c.in-Some.ensures ∙ ap (λ rows. get rows.numbers name) c.rows.ensures in
     let none : refusal_of old (DeleteRow name) ≡ None = ap (λ n. cond (is_some n) None (Some UnknownName)) (sym there) in
     let shorter : c.delete_row.new.self ≡ edited old.model (DeleteRow name) = c.delete_row.ensures
-      ∙ ap (λ n. record { variables = old.model.variables; rows = without_item old.model.rows name (unwrap_or n 0) }) there in
+    ∙ ap (λ n. record { variables = old.model.variables; rows = without_item old.model.rows name (unwrap_or n 0) }) there in
     let result = c.update.result in
     let new = c.update.new.self in
     let ok = subst (λ (m : UserModel). IsBridgedAnew (record { model = m; solver = old.solver }) (is_some old.solver) result new) shorter c.update.ensures.ok in

@@ -1,4 +1,4 @@
-use Rattle.std.proofs.Common.{◌≡◌, sym, subst}
+use Rattle.std.proofs.Common.{sym, subst}
 use Rattle.edit_engine.specs.declared.answer.Answer.{Answer}
 use Rattle.edit_engine.specs.Line.{command_of}
 use Rattle.edit_engine.specs.Script.{IsBetween, IsBridged, OnMemory, answer_to, state_after, state_after_command}
