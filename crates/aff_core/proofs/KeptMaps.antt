@@ -1,5 +1,5 @@
 -- A map from addresses, and the entries that it is kept as.
-use Rattle.std.specs.Prelude.{◌≡◌, Bool, List, [], ◌∷◌, Option, Some, cond, map, T, refl}
+use Rattle.std.specs.Prelude.{◌≡◌, List, [], ◌∷◌, Some, cond, map, T, refl}
 use Rattle.std.specs.Ordering.{is_lt}
 use Rattle.std.specs.declared.cmp.Ordering.TheVariants.{Less}
 use Rattle.std.specs.List.{AllByRecursion}

@@ -1,5 +1,5 @@
 -- Two lists of terms merged, step by step.
-use Rattle.std.specs.Prelude.{◌≡◌, ℕ, ◌+◌, ◌<◌, ◌≤◌, Bool, true, false, nat_lt, cond, T, List, [], ◌∷◌, ◌++◌, length, take, drop, slice_index_or, Option, Some, None, refl}
+use Rattle.std.specs.Prelude.{◌≡◌, ℕ, ◌+◌, ◌<◌, ◌≤◌, true, false, nat_lt, cond, T, List, [], ◌∷◌, ◌++◌, length, take, drop, slice_index_or, Some, None, refl}
 use Rattle.std.proofs.Common.{sym, ap, subst, ◌∙◌, arith, append_assoc}
 use Rattle.std.proofs.lemmas.List.{append-nil, take_more, drop_more, take-append-drop}
 use Rattle.std.proofs.Math.ListN.{drop_of_length-le}
@@ -7,7 +7,7 @@ use borrow.Author.Tests.{ltb-true, ltb-false}
 use Rattle.std.specs.Ordering.{is_lt, is_eq, ordering_reverse}
 use Rattle.std.specs.declared.cmp.Ordering.TheVariants.{Less, Equal, Greater}
 use Rattle.std.specs.Cmp.{tied_back}
-use Rattle.std.specs.FinMap.{FinMap, entries, from_sorted, entries-from_sorted, find, get, get-entries, insert, entries-insert, is_sorted}
+use Rattle.std.specs.FinMap.{FinMap, entries, from_sorted, entries-from_sorted, find, get, get-entries, entries-insert, is_sorted}
 use Rattle.std.specs.FinMap.Entries.{put, below_all, by_order}
 use Rattle.ratio_core.specs.Rational.{Rational, zero_ℚ, ◌+ℚ◌, SumFits}
 use Rattle.aff_core.specs.Address.{Address, address_cmp, address_total, root_address}

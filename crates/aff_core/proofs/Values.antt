@@ -3,7 +3,7 @@ use Rattle.std.specs.Prelude.{◌≡◌, ℕ, ◌+◌, ◌<◌, List, [], ◌∷
 use Rattle.std.specs.Borrow.{Bor}
 use Rattle.std.specs.Option.{option_copied}
 use Rattle.std.specs.FinMap.{FinMap, get}
-use Rattle.std.proofs.Common.{get_or, drop, sym, ap, subst, ◌∙◌, arith}
+use Rattle.std.proofs.Common.{get_or, drop, sym, ap, subst, ◌∙◌}
 use Rattle.std.proofs.lemmas.List.{drop_more, take_more, map-append}
 use Rattle.ratio_core.specs.Rational.{Rational, ◌+ℚ◌, ◌*ℚ◌}
 use Rattle.rational_laws.specs.Field.{+ℚ-zero, +ℚ_assoc}

@@ -2,14 +2,14 @@
 --
 -- Every sum is made from the left, and each of its steps must fit. The results themselves have no order: they are the sum,
 -- the multiple, the value and the composition of functions.
-use Rattle.std.specs.Prelude.{◌≡◌, ℕ, Bool, true, IsTrue, List, [], ◌∷◌, map, All, Option, Some, None, Result, Ok, Err, unwrap_or}
+use Rattle.std.specs.Prelude.{◌≡◌, IsTrue, List, [], ◌∷◌, map, All, Option, Some, None, Result, Ok, Err, unwrap_or}
 use Rattle.std.specs.FinMap as finite
 use Rattle.std.specs.FinMap.{FinMap}
 use Rattle.ratio_core.specs.Rational.{Rational, zero_ℚ, ◌+ℚ◌, ◌*ℚ◌, Fits, SumFits}
 use Rattle.aff_core.specs.declared.fault.AffFault.{AffFault}
 use Rattle.aff_core.specs.declared.fault.AffFault.TheVariants.{Overflow, Memory}
 use Rattle.aff_core.specs.Address.{Address, address_cmp}
-use Rattle.aff_core.specs.Function.{Function, terms_of, function_of}
+use Rattle.aff_core.specs.Function.{Function, terms_of, coefficient, function_of}
 
 -- ---- values
 
@@ -143,3 +143,23 @@ constant_of f = record { terms = finite.empty; constant = f.constant }
 -- the function with the expression of each address in its place
 unfoldable pub composed : (Address → Function) → Function → Function
 composed e f = normal (substituted e (constant_of f) (terms_of f))
+
+-- ---- the same with no word on order
+
+-- a multiple has the multiples of the numbers
+pub record IsMultiple (c : Rational) (f h : Function) : Type 0 where
+  pub same : h ≡ scaled c f
+  pub constant : h.constant ≡ c *ℚ f.constant
+  pub coefficients : (v : Address) → coefficient h v ≡ c *ℚ coefficient f v
+
+-- a sum has the sums of the numbers
+pub record IsSum (f g h : Function) : Type 0 where
+  pub same : h ≡ sum_of f g
+  pub constant : h.constant ≡ f.constant +ℚ g.constant
+  pub coefficients : (v : Address) → coefficient h v ≡ coefficient f v +ℚ coefficient g v
+
+-- a composition's numbers are the values of the function where each address has that number of its expression
+pub record IsComposition (e : Address → Function) (f h : Function) : Type 0 where
+  pub same : h ≡ composed e f
+  pub constant : h.constant ≡ value_of f (λ u. (e u).constant)
+  pub coefficients : (v : Address) → coefficient h v ≡ linear (terms_of f) (λ u. coefficient (e u) v)

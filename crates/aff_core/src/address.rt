@@ -6,6 +6,7 @@ ghost use Rattle.aff_core.specs.Address.{root_address, child_of, address_cmp, ad
 
 use crate::Root;
 use std::cmp::Ordering;
+use std::fmt;
 use std::marker::Model;
 
 /// The address of an item: what it begins at, the number of that, and the positions of the
@@ -90,6 +91,23 @@ impl Address {
     }
 }
 
+/// As `row 7.0.3`: what it begins at, the number, and the positions.
+impl fmt::Display for Address {
+    fn fmt<W: fmt::Write>(&self, f: &mut fmt::Formatter<W>) -> fmt::Result {
+        write!(f, "{} {}", self.root, self.number)?;
+        for position in self.positions() {
+            write!(f, ".{position}")?;
+        }
+        Ok(())
+    }
+}
+
+impl fmt::Debug for Address {
+    fn fmt<W: fmt::Write>(&self, f: &mut fmt::Formatter<W>) -> fmt::Result {
+        fmt::Display::fmt(self, f)
+    }
+}
+
 impl PartialEq for Address {
     ghost eq = { eq_by_cmp address_cmp };
 
@@ -139,6 +157,14 @@ impl Ord for Address {
 #[cfg(test)]
 mod tests {
     use super::*;
+    use std::test::Fail;
+
+    #[test]
+    fn prints_its_positions(rt: HostRuntime) -> Result<(), Fail> {
+        let child = Address::root(Root::Row, 7).child(0).child(3);
+        assert_eq!(rt; format!(in rt.alloc(); "{child}")?.as_str(), "row 7.0.3");
+        Ok(())
+    }
 
     #[test]
     fn orders_by_root_number_and_positions(rt: HostRuntime) {

@@ -13,7 +13,7 @@ use std::alloc::Global;
 use std::marker::Model;
 
 /// An affine function: the nonzero coefficients of addresses, and a constant.
-#[derive(Drop)]
+#[derive(Debug, Drop)]
 pub struct Aff {
     terms: Vec<(Address, Ratio)>,
     constant: Ratio,

@@ -1,7 +1,7 @@
 //! Values, multiples, sums and substitutions of affine functions.
 ghost use Rattle.std.specs.Prelude.{◌≡◌, OkIff, IsOkUnless};
 ghost use Rattle.aff_core.specs.Function.{terms_of};
-ghost use Rattle.aff_core.specs.Arithmetic.{HasEach, ValueFits, value_of, number_at, ProductsFit, scaled, ExactWhere, PlusFits, sum_of, SubstitutionFits, composed, constant_of, expression_at};
+ghost use Rattle.aff_core.specs.Arithmetic.{HasEach, ValueFits, value_of, number_at, ProductsFit, ExactWhere, PlusFits, SubstitutionFits, IsMultiple, IsSum, IsComposition, constant_of, expression_at};
 
 use crate::folds::{add_products, merged, plus_product, products};
 use crate::{Aff, AffFault, Exprs, Point};
@@ -26,7 +26,7 @@ impl Aff {
 
     /// The function times a number. `Overflow` exactly where a product doesn't fit.
     pub fn scale(&self, alloc: Global, by: &Ratio) -> Result<Aff, AffFault>
-        ensures { ExactWhere result (ProductsFit by.now self.now) (λ f. f ≡ scaled by.now self.now) }
+        ensures { ExactWhere result (ProductsFit by.now self.now) (IsMultiple by.now self.now) }
     {
         let constant = by.mul(&self.constant())?;
         let terms = products(alloc, by, self.terms())?;
@@ -36,7 +36,7 @@ impl Aff {
     /// The sum of two functions. `Overflow` exactly where the sum of the constants, or that of
     /// the two coefficients of an address, doesn't fit.
     pub fn add(&self, alloc: Global, other: &Aff) -> Result<Aff, AffFault>
-        ensures { ExactWhere result (PlusFits self.now other.now.constant (terms_of other.now)) (λ f. f ≡ sum_of self.now other.now) }
+        ensures { ExactWhere result (PlusFits self.now other.now.constant (terms_of other.now)) (IsSum self.now other.now) }
     {
         let constant = self.constant().add(&other.constant())?;
         let terms = merged(alloc, self.terms(), other.terms())?;
@@ -48,7 +48,7 @@ impl Aff {
     /// where a product or a sum doesn't fit.
     pub fn substitute(&self, alloc: Global, by: &Exprs) -> Result<Aff, AffFault>
         requires { HasEach by.now self.now }
-        ensures { ExactWhere result (SubstitutionFits (expression_at by.now) (constant_of self.now) (terms_of self.now)) (λ f. f ≡ composed (expression_at by.now) self.now) }
+        ensures { ExactWhere result (SubstitutionFits (expression_at by.now) (constant_of self.now) (terms_of self.now)) (IsComposition (expression_at by.now) self.now) }
     {
         let mut sums = Point::new(alloc);
         let mut constant = self.constant();

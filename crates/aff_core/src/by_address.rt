@@ -11,7 +11,7 @@ use std::collections::BTreeMap;
 use std::marker::Model;
 
 /// A finite map from addresses to values.
-#[derive(Drop)]
+#[derive(Debug, Drop)]
 pub struct ByAddress<V> {
     entries: BTreeMap<Address, V>,
 }

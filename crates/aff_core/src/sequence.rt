@@ -8,7 +8,7 @@ use std::alloc::Global;
 use std::marker::Model;
 
 /// A list of values.
-#[derive(Drop)]
+#[derive(Debug, Drop)]
 pub struct Sequence<T> {
     items: Vec<T>,
 }

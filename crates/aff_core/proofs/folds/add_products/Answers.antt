@@ -1,7 +1,5 @@
-use Rattle.std.specs.Prelude.{◌≡◌, ◌∷◌, [], length, Result, Ok, Err, IsErrAnd, IsTrue, T}
-use Rattle.std.proofs.Common.{drop, sym, ap, subst, ◌∙◌, ◌+◌, ◌≤◌, refl}
+use Rattle.std.proofs.Common.{drop, sym, ap, subst, ◌∙◌, ◌+◌, refl}
 use Rattle.std.proofs.Math.ListN.{drop_of_length-le}
-use Rattle.ratio_core.specs.Rational.{Fits, ◌*ℚ◌}
 use Rattle.std.specs.FinMap.{get}
 use Rattle.aff_core.specs.Arithmetic.{MeetsFit, added_at}
 use Rattle.aff_core.proofs.Steps.{AddsAsAll, adds-step, adds-end, adds-meets_fit}

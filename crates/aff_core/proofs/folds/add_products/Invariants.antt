@@ -1,5 +1,4 @@
 use Rattle.std.proofs.Common.{drop}
-use Rattle.aff_core.specs.Arithmetic.{times}
 use Rattle.aff_core.proofs.Steps.{AddsAsAll}
 use Rattle.aff_core.proofs.folds.add_products.Given as goal
 

@@ -1,8 +1,7 @@
-use Rattle.std.specs.Prelude.{◌≡◌, ◌∷◌, [], ◌++◌, map, take}
-use Rattle.std.proofs.Common.{get_or, sym, ap, subst, ◌∙◌}
+use Rattle.std.specs.Prelude.{◌∷◌, [], ◌++◌}
+use Rattle.std.proofs.Common.{sym, subst, ◌∙◌}
 use Rattle.std.proofs.lemmas.List.Elements.{All-more}
 use Rattle.ratio_core.specs.Rational.{◌*ℚ◌, Fits}
-use Rattle.aff_core.specs.Arithmetic.{times}
 use Rattle.aff_core.proofs.Values.{map-take_more}
 use Rattle.aff_core.proofs.folds.products.Goals as goal
 

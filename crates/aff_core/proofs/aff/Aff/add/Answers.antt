@@ -2,10 +2,11 @@ use Rattle.std.specs.Prelude.{◌≡◌}
 use Rattle.std.proofs.Common.{sym, ap, subst, ◌∙◌}
 use Rattle.std.specs.FinMap.{entries, from_sorted}
 use Rattle.ratio_core.specs.Rational.{SumFits, ◌+ℚ◌}
-use Rattle.aff_core.specs.Function.{terms_of, function_of}
+use Rattle.aff_core.specs.Function.{function_of}
 use Rattle.aff_core.specs.Rising.{RiseStrictly}
 use Rattle.aff_core.specs.Arithmetic.{sum_of, added_terms, TermsFit}
 use Rattle.aff_core.proofs.Answered.{passed_on}
+use Rattle.aff_core.proofs.Coefficients.{is_sum}
 use Rattle.aff_core.proofs.KeptMaps.{from_sorted-entries}
 use Rattle.aff_core.proofs.Rising.{entries_rise}
 use Rattle.aff_core.proofs.aff.Aff.add.Goals as goal
@@ -27,6 +28,6 @@ returns c =
         constant = subst (SumFits c.args.self.now.constant) c.constant-2.ensures (subst (λ k. SumFits k c.constant-2.result) c.constant.ensures c.in_ok-constant.ensures.exact.0);
         terms = subst (TermsFit c.args.self.now.terms) c.terms-2.ensures.all (subst (λ m. TermsFit m c.terms-2.result.now) mine c.in_ok-terms.ensures.0);
       },
-      c.in_ok-from_terms.ensures
-          ∙ (λ i. function_of ((c.deref.ensures.value ∙ c.in_ok-terms.ensures.1 ∙ (λ k. entries (added_terms (mine k) (c.terms-2.ensures.all k)))) i) ((c.in_ok-constant.ensures.exact.1 ∙ (λ k. c.constant.ensures k +ℚ c.constant-2.ensures k)) i)),
+      is_sum c.args.self.now c.args.other.now _ (c.in_ok-from_terms.ensures
+          ∙ (λ i. function_of ((c.deref.ensures.value ∙ c.in_ok-terms.ensures.1 ∙ (λ k. entries (added_terms (mine k) (c.terms-2.ensures.all k)))) i) ((c.in_ok-constant.ensures.exact.1 ∙ (λ k. c.constant.ensures k +ℚ c.constant-2.ensures k)) i))),
     )

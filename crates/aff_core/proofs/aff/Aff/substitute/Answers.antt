@@ -1,12 +1,12 @@
-use Rattle.std.specs.Prelude.{◌≡◌, ◌∷◌, [], length, ◌≤◌}
+use Rattle.std.specs.Prelude.{◌≡◌, [], length, ◌≤◌}
 use Rattle.std.proofs.Common.{drop, sym, ap, subst, ◌∙◌, ◌+◌}
 use Rattle.std.proofs.Math.ListN.{drop_of_length-le}
-use Rattle.std.specs.FinMap.{entries}
 use Rattle.ratio_core.specs.Rational.{◌+ℚ◌, ◌*ℚ◌}
 use Rattle.aff_core.specs.Function.{terms_of, function_of}
 use Rattle.aff_core.specs.Rising.{RiseStrictly}
 use Rattle.aff_core.specs.Arithmetic.{StepFits, TimesFit, TermsFit, times, added_terms, expression_at, constant_of, composed, normal, nothing}
 use Rattle.aff_core.proofs.Answered.{passed_on, overflowed}
+use Rattle.aff_core.proofs.Coefficients.{is_composition}
 use Rattle.aff_core.proofs.Rising.{entries_rise}
 use Rattle.aff_core.proofs.Steps.{SubstitutesAsAll, as_function, functions_same, plus_times_fits, substitutes-start, substitutes-step, substitutes-fits, substitutes-end}
 use Rattle.aff_core.proofs.Values.{next_term, found_is}
@@ -79,4 +79,4 @@ returns c =
     let ts = terms_of c.args.self.now in
     let done : drop c.loop-address.address-index ts ≡ [] = drop_of_length-le ts (subst (λ l. length l ≤ c.loop-address.address-index) c.terms-address-items.ensures.all c.loop-address-test.false) in
     let all = substitutes-end e start sum ts (subst (SubstitutesAsAll e start sum ts) done c.loop-address.invariant) in
-    (all.0, c.in_ok-from_terms.ensures ∙ ap (λ l. function_of l c.loop-address.constant) (c.deref.ensures.value ∙ c.in_ok-terms.ensures) ∙ ap normal all.1)
+    (all.0, is_composition e c.args.self.now _ (c.in_ok-from_terms.ensures ∙ ap (λ l. function_of l c.loop-address.constant) (c.deref.ensures.value ∙ c.in_ok-terms.ensures) ∙ ap normal all.1))

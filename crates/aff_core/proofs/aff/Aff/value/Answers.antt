@@ -1,5 +1,5 @@
-use Rattle.std.specs.Prelude.{◌≡◌, ◌∷◌, [], length, OkIff, IsErr, T, Result, Ok, Err, ◌≤◌}
-use Rattle.std.proofs.Common.{drop, sym, ap, subst, ◌∙◌, arith, ◌+◌}
+use Rattle.std.specs.Prelude.{◌≡◌, [], length, OkIff, IsErr, T, Result, Ok, Err, ◌≤◌}
+use Rattle.std.proofs.Common.{drop, sym, subst, ◌∙◌}
 use Rattle.std.proofs.Math.ListN.{drop_of_length-le}
 use Rattle.ratio_core.specs.Rational.{zero_ℚ}
 use Rattle.aff_core.specs.Function.{terms_of}
