@@ -68,47 +68,65 @@ mod tests {
     use crate::{Address, Root, rise_strictly};
     use std::test::Fail;
 
-    fn linear(rt: &HostRuntime, terms: &[(Address, Ratio)], constant: Ratio) -> Result<Aff, Fail> {
-        if !rise_strictly(terms) {
+    fn variable(number: u32) -> Address {
+        Address::root(Root::Variable, number)
+    }
+
+    /// A function with whole coefficients.
+    fn whole(rt: &HostRuntime, terms: &[(u32, i128)], constant: i128) -> Result<Aff, Fail> {
+        let mut rising = Vec::new(rt.alloc());
+        for (number, coefficient) in terms {
+            rising.push((variable(*number), Ratio::new(*coefficient, 1)?))?;
+        }
+        if !rise_strictly(&rising) {
             return Err(Fail::new("the addresses do not rise"));
         }
-        Ok(Aff::from_terms(rt.alloc(), terms, constant)?)
+        Ok(Aff::from_terms(rt.alloc(), &rising, Ratio::new(constant, 1)?)?)
     }
 
     #[test]
-    fn adds_scales_and_substitutes(rt: HostRuntime) -> Result<(), Fail> {
-        let x = Address::root(Root::Variable, 0);
-        let y = Address::root(Root::Variable, 1);
-        let z = Address::root(Root::Variable, 2);
-        let number = |n| Ratio::new(n, 1);
-        let f = linear(&rt, &[(x, number(2)?), (z, number(3)?)], number(1)?)?;
-        let g = linear(&rt, &[(x, number(-2)?), (y, number(5)?)], number(4)?)?;
+    fn adds(rt: HostRuntime) -> Result<(), Fail> {
+        let f = whole(&rt, &[(0, 2), (2, 3)], 1)?;
+        let g = whole(&rt, &[(0, -2), (1, 5)], 4)?;
+        let sum = whole(&rt, &[(1, 5), (2, 3)], 5)?;
+        assert!(rt; f.add(rt.alloc(), &g)? == sum);
+        Ok(())
+    }
 
-        let sum = f.add(rt.alloc(), &g)?;
-        let expected = linear(&rt, &[(y, number(5)?), (z, number(3)?)], number(5)?)?;
-        assert!(rt; sum == expected);
+    #[test]
+    fn scales(rt: HostRuntime) -> Result<(), Fail> {
+        let f = whole(&rt, &[(0, 2), (2, 3)], 1)?;
+        let minus = whole(&rt, &[(0, -2), (2, -3)], -1)?;
         assert!(rt; f.scale(rt.alloc(), &Ratio::zero())?.term_count() == 0);
-        assert!(rt; f.scale(rt.alloc(), &number(-1)?)? == f.neg(rt.alloc())?);
+        assert!(rt; f.scale(rt.alloc(), &Ratio::one().neg())? == minus);
+        let great = whole(&rt, &[(0, 1 << 100)], 0)?;
+        let refused = great.scale(rt.alloc(), &Ratio::new(1 << 100, 1)?);
+        assert!(rt; refused == Err(AffFault::Overflow));
+        Ok(())
+    }
 
-        // x is 1 and z is 2.
+    #[test]
+    fn values(rt: HostRuntime) -> Result<(), Fail> {
+        let f = whole(&rt, &[(0, 2), (2, 3)], 1)?;
+        let g = whole(&rt, &[(1, 5)], 4)?;
         let mut point = Point::new(rt.alloc());
-        let _ = point.put(x, number(1)?);
-        let _ = point.put(z, number(2)?);
-        assert!(rt; point.get(&y).is_none());
+        let _ = point.put(variable(0), Ratio::one());
+        let _ = point.put(variable(2), Ratio::new(2, 1)?);
+        assert!(rt; point.get(&variable(1)).is_none());
         assert!(rt; point.has_each(&f) && !point.has_each(&g));
-        assert!(rt; f.value(&point)? == number(9)?);
+        assert!(rt; f.value(&point)? == Ratio::new(9, 1)?);
+        Ok(())
+    }
 
-        // x is y + 1 and z is 2 y - 3.
+    #[test]
+    fn substitutes(rt: HostRuntime) -> Result<(), Fail> {
+        let f = whole(&rt, &[(0, 2), (2, 3)], 1)?;
         let mut exprs = Exprs::new(rt.alloc());
-        let _ = exprs.put(x, linear(&rt, &[(y, number(1)?)], number(1)?)?);
-        let _ = exprs.put(z, linear(&rt, &[(y, number(2)?)], number(-3)?)?);
-        let composed = linear(&rt, &[(y, number(8)?)], number(-6)?)?;
+        let _ = exprs.put(variable(0), whole(&rt, &[(1, 1)], 1)?);
+        let _ = exprs.put(variable(2), whole(&rt, &[(1, 2)], -3)?);
+        let composed = whole(&rt, &[(1, 8)], -6)?;
         assert!(rt; exprs.has_each(&f));
         assert!(rt; f.substitute(rt.alloc(), &exprs)? == composed);
-
-        let great = linear(&rt, &[(x, number(1 << 100)?)], Ratio::zero())?;
-        let refused = great.scale(rt.alloc(), &number(1 << 100)?);
-        assert!(rt; refused == Err(AffFault::Overflow));
         Ok(())
     }
 }
