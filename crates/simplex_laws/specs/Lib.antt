@@ -1,0 +1,23 @@
+-- What other crates cite: the definitions, and then the laws.
+pub mod BoundedSums
+pub mod Form
+pub mod Basis
+pub mod Board
+pub mod Turns
+pub mod Trail
+pub mod Fit
+pub mod Outcome
+pub mod Pivots
+pub mod Inverses
+pub mod Determined
+pub mod Steps
+pub mod Values
+pub mod Choice
+pub mod Rules
+pub mod Standing
+pub mod TurnLaws
+pub mod Kept
+pub mod Ends
+pub mod Outcomes
+pub mod OutcomeLaws
+pub mod Answers
