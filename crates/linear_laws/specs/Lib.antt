@@ -1,0 +1,5 @@
+pub mod Units
+pub mod Supports
+pub mod Slopes
+pub mod SlopeLaws
+pub mod Evaluations
