@@ -40,12 +40,12 @@ down_lem a b Greater h = omega (arith, ints)
 no_sign : (a : ℕ) {P : Type 0} → is_negative (pos a) ≡ true → P
 no_sign a e = absurd (true≢false (sym e ∙ not_below_zero a))
 
-above_lem : (m n : ℤ) (b d : ℕ) (r : Ordering) → false ≡ is_negative m → false ≡ is_negative n → r ≡ nat_cmp (unsigned_abs m * d) (unsigned_abs n * b) → r ≡ int_cmp (m *ℤ pos d) (n *ℤ pos b)
+pub above_lem : (m n : ℤ) (b d : ℕ) (r : Ordering) → false ≡ is_negative m → false ≡ is_negative n → r ≡ nat_cmp (unsigned_abs m * d) (unsigned_abs n * b) → r ≡ int_cmp (m *ℤ pos d) (n *ℤ pos b)
 above_lem (pos a) (pos c) b d r e f h = int_cmp_is _ _ r (up_lem (a * d) (c * b) r (ranked _ _ r h))
 above_lem (pos a) (negsuc c) b d r e f h = absurd (true≢false (sym f))
 above_lem (negsuc a) n b d r e f h = absurd (true≢false (sym e))
 
-below_lem : (m n : ℤ) (b d : ℕ) (r : Ordering) → true ≡ is_negative m → true ≡ is_negative n → r ≡ nat_cmp (unsigned_abs n * b) (unsigned_abs m * d) → r ≡ int_cmp (m *ℤ pos d) (n *ℤ pos b)
+pub below_lem : (m n : ℤ) (b d : ℕ) (r : Ordering) → true ≡ is_negative m → true ≡ is_negative n → r ≡ nat_cmp (unsigned_abs n * b) (unsigned_abs m * d) → r ≡ int_cmp (m *ℤ pos d) (n *ℤ pos b)
 below_lem (negsuc a) (negsuc c) b d r e f h = int_cmp_is _ _ r (down_lem (suc a * d) (suc c * b) r (ranked _ _ r h))
 below_lem (pos a) n b d r e f h = no_sign a (sym e)
 below_lem (negsuc a) (pos c) b d r e f h = no_sign c (sym f)
@@ -54,7 +54,7 @@ pos_lem : (a d : ℕ) → 0 < d → 0 < suc a * d
 pos_lem a (suc d) h = omega arith
 pos_lem a zero h = absurd (omega arith)
 
-apart_lem : (m n : ℤ) (b d : ℕ) → 0 < d → true ≡ is_negative m → false ≡ is_negative n → (m *ℤ pos d) <ℤ (n *ℤ pos b)
+pub apart_lem : (m n : ℤ) (b d : ℕ) → 0 < d → true ≡ is_negative m → false ≡ is_negative n → (m *ℤ pos d) <ℤ (n *ℤ pos b)
 apart_lem (negsuc a) (pos c) b d h e f = let above : 0 < suc a * d = pos_lem a d h in omega (arith, ints)
 apart_lem (pos a) n b d h e f = no_sign a (sym e)
 apart_lem (negsuc a) (negsuc c) b d h e f = absurd (true≢false (sym f))

@@ -1,5 +1,6 @@
 pub mod Compared
 pub mod Coprime
+pub mod Crossed
 pub mod Digits
 pub mod Kept
 pub mod Literals

@@ -50,13 +50,15 @@ impl Ord for Ratio {
     }
 }
 
+// The product of two numbers up to this one has 128 bits.
+pub(crate) const NARROW: u128 = u64::MAX as u128;
+
 // `a * b` against `c * d`, which may pass 128 bits.
 #[tactic(auto, using(crate::proofs::Compared::nat_cmp_scaled))]
-fn cmp_products(a: u128, b: u128, c: u128, d: u128) -> Ordering
+pub(crate) fn cmp_products(a: u128, b: u128, c: u128, d: u128) -> Ordering
     requires { 0 < b }
     ensures { result ≡ nat_cmp (a * b) (c * d) }
 {
-    const NARROW: u128 = u64::MAX as u128;
     if b == d {
         return a.cmp(&c);
     }

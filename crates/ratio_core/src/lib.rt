@@ -9,7 +9,9 @@ mod compare;
 mod divisor;
 mod fault;
 mod fraction;
+mod quotients;
 mod text;
+mod wide;
 
 pub use fault::{Memory, RatioFault};
 pub use fraction::Ratio;
