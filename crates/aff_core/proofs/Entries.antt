@@ -67,7 +67,7 @@ module _ {K X : Type 0} {R : K → K → Ordering} (o : IsTotalOrder R) where
   key_less (e ∷ es) zero (suc j) d h lt end = below_at e.0 es j d (first _ _ h) (omega arith)
   key_less (e ∷ es) (suc i) (suc j) d h lt end = key_less es i j d (second _ _ h) (omega arith) (omega arith)
 
-  ascending : (es : List (K × X)) → T (is_sorted R es) → IsSortedBy (λ a b. is_lt (R a.0 b.0)) es
+  pub ascending : (es : List (K × X)) → T (is_sorted R es) → IsSortedBy (λ a b. is_lt (R a.0 b.0)) es
   ascending es h k d low lt = turned_less o _ _ (key_less es k (k + 1) d h (omega arith) lt)
 
   -- what a binary search by the keys answers is what is found

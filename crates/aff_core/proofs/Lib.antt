@@ -1,4 +1,5 @@
 pub mod Answered
+pub mod Changed
 pub mod Coefficients
 pub mod Entries
 pub mod Kept

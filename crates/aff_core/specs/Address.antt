@@ -1,5 +1,5 @@
 -- Addresses of items: a root with its number, and the positions of the children chosen on the way down.
-use Rattle.std.specs.Prelude.{◌≡◌, ℕ, suc, zero, List, [], ◌∷◌, ◌++◌, refl}
+use Rattle.std.specs.Prelude.{◌≡◌, Bool, ℕ, suc, zero, List, [], ◌∷◌, ◌++◌, refl}
 use Rattle.std.proofs.Common.{ap, sym, subst, ◌∙◌}
 use Rattle.std.specs.Coded.{Coded, code_by, coded×, coded_ℕ, coded_list}
 use Rattle.std.specs.Ordering.{nat_cmp, on, then_cmp, is_eq, eq_by_cmp}
@@ -69,6 +69,9 @@ unfolding address_cmp
 exact_addresses a b e =
     let same = exact_pairs nat_cmp _ nat_cmp-IsAntisymmetric (exact_pairs nat_cmp (slice_cmp nat_cmp) nat_cmp-IsAntisymmetric (slice_cmp-IsAntisymmetric nat_cmp-IsAntisymmetric)) (root_number a.root, (a.number, a.positions)) (root_number b.root, (b.number, b.positions)) e in
     λ i. record { root = root_number-injective a.root b.root (ap (λ p. p.0) same) i; number = (same i).1.0; positions = (same i).1.1 }
+
+abbrev pub address_eq : Address → Address → Bool
+address_eq = eq_by_cmp address_cmp
 
 -- so `==` on addresses is equality
 pub address_eq-Decides : (a b : Address) → Decides (eq_by_cmp address_cmp a b) (a ≡ b)

@@ -1,5 +1,5 @@
 -- Affine functions: a finite map from addresses to their coefficients, and a constant.
-use Rattle.std.specs.Prelude.{◌≢◌, Bool, not, List, map, filter, All, unwrap_or, refl}
+use Rattle.std.specs.Prelude.{◌≡◌, ◌≢◌, Bool, not, cond, List, map, filter, All, unwrap_or, refl}
 use Rattle.std.specs.Coded.{Coded, code_by, coded×}
 use Rattle.std.specs.FinMap as finite
 use Rattle.std.specs.FinMap.{FinMap}
@@ -37,3 +37,17 @@ function_of ts constant = record { terms = finite.from_sorted (filter is_nonzero
 -- each number negated
 unfoldable pub negated : Function → Function
 negated f = record { terms = finite.from_sorted (map (λ t. (t.0, neg_ℚ t.1)) (terms_of f)); constant = neg_ℚ f.constant }
+
+-- the function with this coefficient at the address, where 0 removes the term
+unfoldable pub with_coefficient : Function → Address → Rational → Function
+with_coefficient f at value = record f { terms = cond (rational_eq value zero_ℚ) (finite.remove f.terms at) (finite.insert f.terms at value) }
+
+-- the same with no word on maps: this coefficient alone is changed
+pub record HasCoefficient (f : Function) (at : Address) (value : Rational) (h : Function) : Type 0 where
+  pub constant : h.constant ≡ f.constant
+  pub here : coefficient h at ≡ value
+  pub elsewhere : (u : Address) → u ≢ at → coefficient h u ≡ coefficient f u
+
+-- the function of terms in any order, of which the first of each address counts, and those with the coefficient 0 are left out
+unfoldable pub gathered : List (Address × Rational) → Rational → Function
+gathered ts constant = function_of (finite.entries (finite.from_entries {R = address_cmp} ts)) constant

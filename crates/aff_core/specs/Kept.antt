@@ -1,6 +1,6 @@
 -- How an affine function is kept: as its terms in the order of their addresses.
-use Rattle.std.specs.Prelude.{◌≡◌, ◌≢◌, ℕ, ◌<◌, List, All, length, slice_index_or, Some, None}
-use Rattle.std.specs.FinMap.{from_sorted, get}
+use Rattle.std.specs.Prelude.{◌≡◌, ◌≢◌, ℕ, ◌+◌, ◌<◌, ◌≤◌, List, ◌∷◌, ◌++◌, take, drop, All, length, slice_index_or, Some, None}
+use Rattle.std.specs.FinMap.{from_sorted, get, entries, insert, remove}
 use Rattle.ratio_core.specs.Rational.{Rational, zero_ℚ}
 use Rattle.aff_core.specs.declared.aff.Aff.TheInside.{Inside}
 use Rattle.aff_core.specs.Address.{Address}
@@ -28,3 +28,9 @@ pub record IsPlaceOf (f : Function) (at : Address) (n : ℕ) : Type 0 where
 
 pub record IsAbsent (f : Function) (at : Address) : Type 0 where
   pub absent : get f.terms at ≡ None
+
+-- the address has this many terms, one or none, from this place on: before them stand those of the addresses below it, after them those of the addresses above it
+pub record IsSpanOf (f : Function) (at : Address) (from count : ℕ) : Type 0 where
+  pub in_range : from + count ≤ length (terms_of f)
+  pub given : (q : Rational) → entries (insert f.terms at q) ≡ take from (terms_of f) ++ (at, q) ∷ drop (from + count) (terms_of f)
+  pub removed : entries (remove f.terms at) ≡ take from (terms_of f) ++ drop (from + count) (terms_of f)

@@ -1,5 +1,5 @@
 //! Affine functions of addresses.
-ghost use Rattle.std.specs.Prelude.{◌≡◌, ◌≢◌, ℕ, All, IfOk, OnErr, IfSome, IsTrue, ◌↔◌, slice_get, length};
+ghost use Rattle.std.specs.Prelude.{◌≡◌, ◌≢◌, ℕ, MatchResult, All, IfOk, OnErr, IfSome, IsTrue, ◌↔◌, slice_get, length};
 ghost use Rattle.std.specs.FinMap as finite;
 ghost use Rattle.ratio_core.specs.Rational.{zero_ℚ};
 ghost use Rattle.aff_core.specs.Function.{coefficient, function_of, negated, terms_of, IsNormal};
@@ -34,7 +34,7 @@ impl Model for Aff {
 }
 
 impl Aff {
-    ghost use Rattle.aff_core.specs.Kept.{IsPlaceOf, IsAbsent, HaveNoZero, kept_as};
+    ghost use Rattle.aff_core.specs.Kept.{IsPlaceOf, IsAbsent, IsSpanOf, HaveNoZero, kept_as};
 
     /// The function of these terms, of which those with the coefficient 0 are left out.
     pub fn from_terms(
@@ -112,6 +112,14 @@ impl Aff {
         })
     }
 
+    /// The function with another constant.
+    pub fn with_constant(&self, alloc: Global, constant: Ratio) -> Result<Aff, Memory>
+        ensures { IfOk result (λ f. f ≡ record self.now { constant = constant }) }
+    {
+        let terms = Vec::from_slice(alloc, &self.terms)?;
+        Ok(Aff { terms, constant })
+    }
+
     /// The function with each number negated.
     pub fn neg(&self, alloc: Global) -> Result<Aff, Memory>
         ensures { IfOk result (λ f. f ≡ negated self.now) }
@@ -120,9 +128,10 @@ impl Aff {
     }
 
     // Where the address stands among the terms, or where it would.
-    fn place(&self, at: &Address) -> Result<usize, usize>
+    pub(crate) fn place(&self, at: &Address) -> Result<usize, usize>
         ensures found { IfOk result (IsPlaceOf self.now at.now) }
         ensures absent { OnErr result (IsAbsent self.now at.now) }
+        ensures span { MatchResult result (λ n. IsSpanOf self.now at.now n 1) (λ n. IsSpanOf self.now at.now n 0) }
     {
         self.terms()
             .binary_search_by(|(address, _)| address.cmp(at))
@@ -166,6 +175,7 @@ mod tests {
         assert!(rt; f.mentions(&x) && !f.mentions(&y));
         assert!(rt; f.constant() == Ratio::one());
         assert!(rt; f.copy(rt.alloc())? == f);
+        assert!(rt; f.with_constant(rt.alloc(), two)?.constant() == two);
         let minus = f.neg(rt.alloc())?;
         assert!(rt; minus.coef(&x) == Ratio::new(-2, 1)? && minus != f);
         Ok(())

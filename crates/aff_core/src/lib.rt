@@ -5,6 +5,7 @@ mod address;
 mod aff;
 mod arithmetic;
 mod by_address;
+mod edits;
 mod fault;
 mod folds;
 mod root;

@@ -1,6 +1,8 @@
 //! Lists that contracts see as lists.
-ghost use Rattle.std.specs.Prelude.{◌≡◌, [], ◌∷◌, ◌++◌, IfOk, OnOk, OnErr, IfErr, IsTrue, ◌↔◌, length, slice_get};
+ghost use Rattle.std.specs.Prelude.{◌≡◌, [], ◌∷◌, ◌++◌, IfOk, OnOk, OnErr, IfErr, IsTrue, ◌↔◌, length, slice_get, filter, not, Contains};
+ghost use Rattle.std.specs.List.{list_any};
 ghost use Rattle.std.specs.Option.{option_copied};
+ghost use Rattle.aff_core.specs.Address.{address_eq};
 
 use crate::{Address, Aff};
 use ratio_core::{Memory, Ratio};
@@ -114,5 +116,50 @@ impl Sequence<Aff> {
             copies.push(f.copy(alloc)?)?;
         }
         Ok(Sequence::from_vec(copies))
+    }
+}
+
+impl Addresses {
+    pub fn contains(&self, at: &Address) -> bool
+        ensures value { result ≡ list_any (address_eq at.now) self.now }
+        ensures member { IsTrue result ↔ Contains self.now at.now }
+    {
+        self.as_slice().contains(at)
+    }
+
+    /// The list without an address, however often it stands there.
+    pub fn without(&self, alloc: Global, at: &Address) -> Result<Addresses, Memory>
+        ensures { IfOk result (λ s. s ≡ filter (λ a. not (address_eq at.now a)) self.now) }
+    {
+        Ok(Sequence::from_vec(others(alloc, self.as_slice(), at)?))
+    }
+}
+
+// The addresses but this one.
+fn others(alloc: Global, addresses: &[Address], at: &Address) -> Result<Vec<Address>, Memory>
+    ensures { IfOk result (λ v. v.items ≡ filter (λ a. not (address_eq at.now a)) addresses.now) }
+{
+    Ok(
+        addresses
+            .iter()
+            .copied()
+            .filter(|a| *at != *a)
+            .collect(alloc)?,
+    )
+}
+
+#[cfg(test)]
+mod tests {
+    use super::*;
+    use crate::Root;
+    use std::test::Fail;
+
+    #[test]
+    fn leaves_an_address_out(rt: HostRuntime) -> Result<(), Fail> {
+        let [x, y] = [0, 1].map(|n| Address::root(Root::Variable, n));
+        let all = Addresses::from_vec([x, y, x].to_vec(rt.alloc())?);
+        assert!(rt; all.contains(&x) && all.contains(&y));
+        assert_eq!(rt; all.without(rt.alloc(), &x)?.as_slice(), [y].as_slice());
+        Ok(())
     }
 }

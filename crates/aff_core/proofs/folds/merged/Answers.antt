@@ -1,12 +1,12 @@
-use Rattle.std.specs.Prelude.{◌≡◌, ℕ, ◌-◌, List, ◌∷◌, [], ◌++◌, take, length, slice_index_or, T}
+use Rattle.std.specs.Prelude.{◌≡◌, ◌∷◌, [], ◌++◌, slice_index_or, T}
 use Rattle.std.proofs.Common.{sym, ap, subst, ◌∙◌, ◌+◌, drop, refl}
-use Rattle.std.proofs.lemmas.List.{drop_more, get_or_default, length-drop}
-use Rattle.std.proofs.Math.Seq.{take-length}
+use Rattle.std.proofs.lemmas.List.{drop_more, get_or_default}
 use Rattle.std.specs.declared.cmp.Ordering.TheVariants.{Less, Equal, Greater}
 use Rattle.std.specs.FinMap.{is_sorted}
 use Rattle.ratio_core.specs.Rational.{SumFits, ◌+ℚ◌}
 use Rattle.aff_core.specs.Address.{address_cmp}
 use Rattle.aff_core.proofs.Answered.{overflowed}
+use Rattle.aff_core.proofs.Changed.{rest_of}
 use Rattle.aff_core.proofs.Entries.{is_sorted-drop}
 use Rattle.aff_core.proofs.Rising.{in_order}
 use Rattle.aff_core.proofs.Merging.{IsMergedSoFar, no_term, merged-start, merged-less, merged-equal, merged-greater, merged-refused, merged-end_left, merged-end_right}
@@ -84,9 +84,6 @@ loop-i-preserved c =
     let sorted : T (is_sorted address_cmp (f ∷ drop (i + 1) left)) = subst (λ l. T (is_sorted address_cmp l)) (drop_more left i no_term c.loop-i-test.true) (is_sorted-drop address_cmp i left (in_order left c.requires.left)) in
     subst (IsMergedSoFar left right i (j + 1)) (sym pushed)
     (merged-greater left right i j c.loop-i.merged.items f g c.requires.left c.requires.right c.loop-i.invariant c.loop-i-test.true c.if-j-right.true (drop_more left i no_term c.loop-i-test.true) (λ d. get_or_default right j d no_term c.if-j-right.true) sorted greater)
-
-rest_of : {X : Type 0} (xs : List X) (i : ℕ) → take (length xs - i) (drop i xs) ≡ drop i xs
-rest_of xs i = ap (λ n. take n (drop i xs)) (sym (length-drop i xs)) ∙ take-length (drop i xs)
 
 pub returns : goal.returns
 returns c =

@@ -6,6 +6,7 @@ use Rattle.std.proofs.lemmas.Fn.{always_returns_same}
 use Rattle.aff_core.specs.Address.{Address, address_cmp, address_total}
 use Rattle.aff_core.specs.Function.{Function, terms_of}
 use Rattle.aff_core.specs.Kept.{IsPlaceOf, IsAbsent}
+use Rattle.aff_core.proofs.Changed.{span_found}
 use Rattle.aff_core.proofs.Entries.{searched}
 use Rattle.aff_core.proofs.aff.Aff.place.Goals as goal
 
@@ -23,3 +24,8 @@ pub returns-clause-absent : goal.returns-clause-absent
 returns-clause-absent c =
     let by_address = c.binary_search_by.ensures.position (λ t. address_cmp t.0 c.args.at.now) (always_returns_same _ _ _ (λ a r f called. search rules)) in
     (placed c.args.self.now c.args.at.now _ (rw (← c.terms.ensures.all) c.binary_search_by.ensures.bound) (rw (← c.terms.ensures.all) by_address)).1
+
+pub returns-clause-span : goal.returns-clause-span
+returns-clause-span c =
+    let by_address = c.binary_search_by.ensures.position (λ t. address_cmp t.0 c.args.at.now) (always_returns_same _ _ _ (λ a r f called. search rules)) in
+    span_found c.args.self.now c.args.at.now _ (rw (← c.terms.ensures.all) c.binary_search_by.ensures.bound) (rw (← c.terms.ensures.all) by_address)
