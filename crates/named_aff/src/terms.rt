@@ -20,13 +20,11 @@ impl NamedTerm {
     pub fn copy(&self) -> Result<NamedTerm, Memory>
         ensures { IfOk result (λ term. term ≡ self.now) }
     {
-        match self.variable.copy() {
-            Ok(variable) => Ok(NamedTerm {
-                variable,
-                coefficient: self.coefficient,
-            }),
-            Err(_) => Err(Memory),
-        }
+        let variable = self.variable.copy()?;
+        Ok(NamedTerm {
+            variable,
+            coefficient: self.coefficient,
+        })
     }
 }
 
