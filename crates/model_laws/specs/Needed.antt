@@ -1,0 +1,41 @@
+-- The rows and variables that an edit needs are there, where no name is unknown.
+use Rattle.std.specs.Prelude.{◌≡◌, ℕ, Bool, true, false, not, List, [], ◌∷◌, Some, IsSome, refl}
+use Rattle.std.specs.List.{list_any}
+use Rattle.std.specs.Option.{option_map_or}
+use Rattle.std.proofs.Common.{subst}
+use Rattle.std.proofs.lemmas.Bool.{both_ways, not-false, or_parts}
+use Rattle.user_model.specs.declared.edit.Edit.{Edit}
+use Rattle.user_model.specs.declared.edit.NamedFunc.{NamedFunc}
+use Rattle.user_model.specs.declared.edit.NamedFunc.TheVariants as named
+use Rattle.user_model.specs.declared.row.Row.{Row}
+use Rattle.user_model.specs.Model.{UserModel, group_of, is_variable, row_named, variable_named}
+use Rattle.user_model.specs.Functions.{mentioned}
+use Rattle.user_model.specs.Edited.{located}
+use Rattle.user_model.specs.Refusals.{has_row_named, has_variable_named, is_unknown, needed_row, needed_variables}
+use Rattle.model_laws.specs.Found.{something}
+use Rattle.model_laws.specs.Located.{address_stands}
+
+module _ (model : UserModel) where
+  -- no variable has the name
+  abbrev pub unknown : List ℕ → Bool
+  unknown name = not (has_variable_named model name)
+
+  first_known : (name : List ℕ) (names : List (List ℕ)) → list_any unknown (name ∷ names) ≡ false → (n : ℕ) × (variable_named model name ≡ Some n)
+  first_known name names e = something (variable_named model name) (not-false (has_variable_named model name) (or_parts (unknown name) (list_any unknown names) e).0)
+
+  -- the first variable that the edit needs
+  pub needed_variable : (e : Edit) (name : List ℕ) (names : List (List ℕ)) → needed_variables e ≡ name ∷ names → is_unknown model e ≡ false → (n : ℕ) × (variable_named model name ≡ Some n)
+  needed_variable e name names is known =
+      first_known name names (subst (λ ns. list_any unknown ns ≡ false) is (or_parts (list_any unknown (needed_variables e)) (option_map_or (λ name. not (has_row_named model name)) (needed_row e) false) known).0)
+
+  -- the row that the edit needs
+  pub needed_row_there : (e : Edit) (name : List ℕ) → needed_row e ≡ Some name → is_unknown model e ≡ false → (row : Row) × (row_named model name ≡ Some row)
+  needed_row_there e name is known =
+      something (row_named model name) (not-false (has_row_named model name) (subst (λ o. option_map_or (λ name. not (has_row_named model name)) o false ≡ false) is (or_parts (list_any unknown (needed_variables e)) (option_map_or (λ name. not (has_row_named model name)) (needed_row e) false) known).1))
+
+  -- a function by name is on no variable that doesn't stand
+  pub located_stands : (func : NamedFunc) → list_any unknown (mentioned func) ≡ false → (n : ℕ) → is_variable n (located model func) ≡ true → IsSome (group_of model n)
+  located_stands (named.Plain var) known n e = let at = first_known var [] known in address_stands model var at.0 n at.1 e
+  located_stands (named.Affine f) known n e = absurd (both_ways false refl e)
+  located_stands (named.PlainVec vars) known n e = absurd (both_ways false refl e)
+  located_stands (named.AffineVec fs) known n e = absurd (both_ways false refl e)

@@ -1,0 +1,78 @@
+-- What is known of an edit that is not refused.
+use Rattle.std.specs.Prelude.{◌≡◌, ℕ, ◌≤◌, Bool, true, false, if◌then◌else◌, List, [], ◌∷◌, map, Option, Some, None, All, refl}
+use Rattle.std.proofs.Common.{ltb-false}
+use Rattle.std.proofs.lemmas.List.Elements.{All-nil, All-cons}
+use Rattle.user_model.specs.declared.edit.Edit.{Edit}
+use Rattle.user_model.specs.declared.refusal.Refusal.{Refusal}
+use Rattle.user_model.specs.declared.refusal.Refusal.TheVariants.{UnknownName, NameTaken, FunctionShape, BadDimension, OutputIndex, BadInterval, LowerBoundAlreadySet, UpperBoundAlreadySet, SetTypeMismatch, DeleteNotAllowed}
+use Rattle.user_model.specs.Sets.{sets_lower, sets_upper}
+use Rattle.user_model.specs.Model.{UserModel, has_lower_bound, has_upper_bound}
+use Rattle.user_model.specs.Refusals.{first_of, first_refusal, passes, counts, is_unknown, is_taken, is_misshapen, is_of_bad_dimension, is_no_output, is_bad_interval, is_bounded, is_of_other_type, is_undeletable}
+
+-- each test of a refusal fails, and each count is at most its limit
+pub record IsPassed (model : UserModel) (e : Edit) : Type 0 where
+  pub known : is_unknown model e ≡ false
+  pub free : is_taken model e ≡ false
+  pub shaped : is_misshapen model e ≡ false
+  pub dimension : is_of_bad_dimension model e ≡ false
+  pub output : is_no_output model e ≡ false
+  pub interval : is_bad_interval e ≡ false
+  pub lower : is_bounded sets_lower has_lower_bound model e ≡ false
+  pub upper : is_bounded sets_upper has_upper_bound model e ≡ false
+  pub of_type : is_of_other_type model e ≡ false
+  pub deletable : is_undeletable model e ≡ false
+  pub counted : All (λ c. c.0 ≤ c.1) (counts model e)
+
+-- no test of the list holds
+abbrev AllFail : List (Bool × Refusal) → Type 0
+AllFail [] = Unit {0}
+AllFail (test ∷ tests) = (test.0 ≡ false) × AllFail tests
+
+first_fails : (b : Bool) (r : Refusal) (rest : Option Refusal) → (if b then Some r else rest) ≡ None → b ≡ false
+first_fails true r rest e = cc
+first_fails false r rest e = refl
+
+others_fail : (b : Bool) (r : Refusal) (rest : Option Refusal) → (if b then Some r else rest) ≡ None → rest ≡ None
+others_fail true r rest e = cc
+others_fail false r rest e = e
+
+none_holds : (tests : List (Bool × Refusal)) → first_of tests ≡ None → AllFail tests
+none_holds [] e = tt
+none_holds (test ∷ tests) e = (first_fails test.0 test.1 (first_of tests) e, none_holds tests (others_fail test.0 test.1 (first_of tests) e))
+
+within_limits : (counted : List (ℕ × ℕ)) → AllFail (map passes counted) → All (λ c. c.0 ≤ c.1) counted
+within_limits [] h = All-nil (λ c. c.0 ≤ c.1)
+within_limits (c ∷ counted) h = All-cons (λ c. c.0 ≤ c.1) c counted (ltb-false c.1 c.0 h.0) (within_limits counted h.1)
+
+abbrev tests : UserModel → Edit → List (Bool × Refusal)
+tests model e =
+    (is_unknown model e, UnknownName)
+    ∷ (is_taken model e, NameTaken)
+    ∷ (is_misshapen model e, FunctionShape)
+    ∷ (is_of_bad_dimension model e, BadDimension)
+    ∷ (is_no_output model e, OutputIndex)
+    ∷ (is_bad_interval e, BadInterval)
+    ∷ (is_bounded sets_lower has_lower_bound model e, LowerBoundAlreadySet)
+    ∷ (is_bounded sets_upper has_upper_bound model e, UpperBoundAlreadySet)
+    ∷ (is_of_other_type model e, SetTypeMismatch)
+    ∷ (is_undeletable model e, DeleteNotAllowed)
+    ∷ map passes (counts model e)
+
+-- an edit that is not refused passes every test
+pub passed : (model : UserModel) (e : Edit) → first_refusal model e ≡ None → IsPassed model e
+unfolding first_refusal
+passed model e none =
+    let h : AllFail (tests model e) = none_holds (tests model e) none in
+    record {
+      known = h.0;
+      free = h.1.0;
+      shaped = h.1.1.0;
+      dimension = h.1.1.1.0;
+      output = h.1.1.1.1.0;
+      interval = h.1.1.1.1.1.0;
+      lower = h.1.1.1.1.1.1.0;
+      upper = h.1.1.1.1.1.1.1.0;
+      of_type = h.1.1.1.1.1.1.1.1.0;
+      deletable = h.1.1.1.1.1.1.1.1.1.0;
+      counted = within_limits (counts model e) h.1.1.1.1.1.1.1.1.1.1;
+    }

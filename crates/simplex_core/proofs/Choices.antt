@@ -1,0 +1,117 @@
+-- The least and the best below a bound, found by a loop.
+use Rattle.std.specs.Prelude.{◌≡◌, ℕ, zero, suc, ◌+◌, ◌<◌, ◌≤◌, Bool, true, false, ◌&&◌, ◌||◌, Option, Some, None, IfSome, if◌then◌else◌, refl}
+use Rattle.std.proofs.Common.{sym, ◌∙◌, ap, ap₂, arith, is_lt, Ordering}
+use Rattle.std.specs.Ordering.{is_eq}
+use Rattle.ratio_core.specs.Rational.{Rational, rational_cmp, rational_eq, ◌/ℚ◌}
+use Rattle.ratio_core.specs.RationalLaws.{rational_eq-is_eq}
+use Rattle.simplex_laws.specs.BoundedSums.{same_or_other}
+use Rattle.simplex_laws.specs.Turns.{is_below, best_below, better_of, least_below, least_row, or_else, row_or_else}
+
+one_more : (n : ℕ) → n + 1 ≡ suc n
+one_more n = omega arith
+
+-- ---- the least number
+
+pub least_more : (n : ℕ) (test : ℕ → Bool) → least_below n test ≡ None → test n ≡ false → least_below (n + 1) test ≡ None
+least_more n test e f =
+    ap (λ k. least_below k test) (one_more n) ∙ (λ i. or_else (e i) (if f i then Some n else None))
+
+least_here : (j : ℕ) (test : ℕ → Bool) → least_below j test ≡ None → test j ≡ true → least_below (suc j) test ≡ Some j
+least_here j test e f = λ i. or_else (e i) (if f i then Some j else None)
+
+pub least_found : (n j : ℕ) (test : ℕ → Bool) → j < n → least_below j test ≡ None → test j ≡ true → least_below n test ≡ Some j
+least_found zero j test b e f = absurd (omega (arith, b))
+least_found (suc n) j test b e f =
+    same_or_other (least_below (suc n) test ≡ Some j) j n
+    (λ q. ap (λ k. least_below (suc k) test) (sym q) ∙ least_here j test e f)
+    (λ m. ap (λ o. or_else o (if test n then Some n else None)) (least_found n j test (omega (arith, b, m)) e f))
+
+-- ---- the least row
+
+pub row_more : (n : ℕ) (column_of : ℕ → Option ℕ) → least_row n column_of ≡ None → column_of n ≡ None → least_row (n + 1) column_of ≡ None
+row_more n column_of e f = ap (λ k. least_row k column_of) (one_more n) ∙ (λ i. row_or_else (e i) n (f i))
+
+row_here : (r q : ℕ) (column_of : ℕ → Option ℕ) → least_row r column_of ≡ None → column_of r ≡ Some q → least_row (suc r) column_of ≡ Some (r, q)
+row_here r q column_of e f = λ i. row_or_else (e i) r (f i)
+
+pub row_found : (n r q : ℕ) (column_of : ℕ → Option ℕ) → r < n → least_row r column_of ≡ None → column_of r ≡ Some q → least_row n column_of ≡ Some (r, q)
+row_found zero r q column_of b e f = absurd (omega (arith, b))
+row_found (suc n) r q column_of b e f =
+    same_or_other (least_row (suc n) column_of ≡ Some (r, q)) r n
+    (λ i. ap (λ k. least_row (suc k) column_of) (sym i) ∙ row_here r q column_of e f)
+    (λ m. ap (λ o. row_or_else o n (column_of n)) (row_found n r q column_of (omega (arith, b, m)) e f))
+
+-- ---- the best
+
+pub best_more : (n : ℕ) (test : ℕ → Bool) (before : ℕ → ℕ → Bool) (best next : Option ℕ) → best ≡ best_below n test before → next ≡ better_of test before best n → next ≡ best_below (n + 1) test before
+best_more n test before best next e f = f ∙ ap (λ o. better_of test before o n) e ∙ ap (λ k. best_below k test before) (sym (one_more n))
+
+-- a number that fails the test changes nothing
+pub best_passed : (test : ℕ → Bool) (before : ℕ → ℕ → Bool) (best : Option ℕ) (n : ℕ) → test n ≡ false → best ≡ better_of test before best n
+best_passed test before None n e = λ i. if sym e i then Some n else None
+best_passed test before (Some k) n e = λ i. if sym e i && before n k then Some n else Some k
+
+-- ---- which row leaves first
+
+pub before_by : (p q : Rational) (w : Bool) (r : Ordering) → r ≡ rational_cmp p q → (is_lt r || is_eq r && w) ≡ (is_below p q || rational_eq p q && w)
+before_by p q w r e =
+    (λ i. is_lt (e i) || is_eq (e i) && w) ∙ (λ i. is_lt (rational_cmp p q) || sym (rational_eq-is_eq p q) i && w)
+
+pub ratios_same : (a b c d x y z w : Rational) (r : Ordering) → r ≡ rational_cmp (a /ℚ b) (c /ℚ d) → a ≡ x → b ≡ y → c ≡ z → d ≡ w → r ≡ rational_cmp (x /ℚ y) (z /ℚ w)
+ratios_same a b c d x y z w r e f g h k = e ∙ (λ i. rational_cmp (f i /ℚ g i) (h i /ℚ k i))
+
+-- the best stays, or the next number is better
+pub best_stays : (test : ℕ → Bool) (before : ℕ → ℕ → Bool) (best k n : ℕ) → before n k ≡ false → Some k ≡ better_of test before (Some k) n
+best_stays test before best k n e = by_test (test n)
+  where
+    by_test : (b : Bool) → Some k ≡ (if b && before n k then Some n else Some k)
+    by_test true = λ i. if sym e i then Some n else Some k
+    by_test false = refl
+
+pub better_next : (test : ℕ → Bool) (before : ℕ → ℕ → Bool) (o : Option ℕ) (k n : ℕ) → o ≡ Some k → test n ≡ true → before n k ≡ true → Some n ≡ better_of test before o n
+better_next test before o k n e f g =
+    (λ i. if sym f i && sym g i then Some n else Some k) ∙ ap (λ o. better_of test before o n) (sym e)
+
+pub better_first : (test : ℕ → Bool) (before : ℕ → ℕ → Bool) (o : Option ℕ) (n : ℕ) → o ≡ None → test n ≡ true → Some n ≡ better_of test before o n
+better_first test before o n e f = (λ i. if sym f i then Some n else None) ∙ ap (λ o. better_of test before o n) (sym e)
+
+-- ---- the same choices by the same tests
+
+pub least_below_same : (n : ℕ) (f g : ℕ → Bool) → ((k : ℕ) → k < n → f k ≡ g k) → least_below n f ≡ least_below n g
+least_below_same zero f g e = refl
+least_below_same (suc n) f g e =
+    ap₂ or_else (least_below_same n f g (λ k b. e k (omega (arith, b)))) (ap (λ b. if b then Some n else None) (e n (omega arith)))
+
+pub least_row_same : (n : ℕ) (f g : ℕ → Option ℕ) → ((k : ℕ) → k < n → f k ≡ g k) → least_row n f ≡ least_row n g
+least_row_same zero f g e = refl
+least_row_same (suc n) f g e =
+    ap₂ (λ o c. row_or_else o n c) (least_row_same n f g (λ k b. e k (omega (arith, b)))) (e n (omega arith))
+
+module _ (f g : ℕ → Bool) (before other : ℕ → ℕ → Bool) (m : ℕ) (e : (k : ℕ) → k < m → f k ≡ g k) (h : (i k : ℕ) → i < m → k < m → before i k ≡ other i k) where
+  abbrev AgreesBelow : ℕ → Option ℕ → Option ℕ → Type 0
+  AgreesBelow n o p = (o ≡ p) × IfSome o (λ k. k < n)
+
+  better_same : (n : ℕ) (o : Option ℕ) → n < m → IfSome o (λ k. k < n) → AgreesBelow (suc n) (better_of f before o n) (better_of g other o n)
+  better_same n None b h2 = (ap (λ t. if t then Some n else None) (e n b), by_test (f n))
+    where
+      by_test : (t : Bool) → IfSome (if t then Some n else None) (λ k. k < suc n)
+      by_test true = omega arith
+      by_test false = tt
+  better_same n (Some k) b c =
+      (ap₂ (λ t u. if t && u then Some n else Some k) (e n b) (h n k b (omega (arith, b, c))), by_test (f n && before n k))
+    where
+      by_test : (t : Bool) → IfSome (if t then Some n else Some k) (λ k. k < suc n)
+      by_test true = omega arith
+      by_test false = omega (arith, c)
+
+  agrees_below : (n : ℕ) → n ≤ m → AgreesBelow n (best_below n f before) (best_below n g other)
+  agrees_below zero b = (refl, tt)
+  agrees_below (suc n) b = step (agrees_below n (omega (arith, b)))
+    where
+      step : AgreesBelow n (best_below n f before) (best_below n g other) → AgreesBelow (suc n) (best_below (suc n) f before) (best_below (suc n) g other)
+      step k =
+          let next = better_same n (best_below n f before) (omega (arith, b)) k.1 in
+          (next.0 ∙ ap (λ o. better_of g other o n) k.0, next.1)
+
+  pub best_below_same : best_below m f before ≡ best_below m g other
+  best_below_same = (agrees_below m (omega arith)).0

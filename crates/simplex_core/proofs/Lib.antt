@@ -1,0 +1,7 @@
+pub mod Choices
+pub mod Comparisons
+pub mod Agree
+pub mod Placing
+pub mod Stepping
+pub mod Running
+pub mod Right

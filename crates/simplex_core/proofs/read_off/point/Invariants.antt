@@ -1,0 +1,13 @@
+use Rattle.std.proofs.Common.{◌≡◌, length}
+use Rattle.simplex_laws.specs.Form.{Form}
+use Rattle.simplex_laws.specs.Basis.{IsBasis, State, basic}
+use Rattle.simplex_laws.specs.Board.{right_side}
+use Rattle.tableau_core.specs.Board.{IsBoardOf}
+use Rattle.simplex_core.proofs.Placing.{IsPlacedTo}
+use Rattle.simplex_core.proofs.read_off.point.Given as goal
+
+abbrev pub invariant-loop-i : goal.invariant-loop-i
+invariant-loop-i l = record {
+  long : length l.x.items ≡ l.c;
+  placed : (F : Form) (s : State) → IsBasis F s → IsBoardOf F s l.board → IsPlacedTo l.c l.i (basic s) (right_side F s) l.x.items;
+}

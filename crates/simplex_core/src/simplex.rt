@@ -1,0 +1,49 @@
+//! The simplex.
+ghost use Rattle.std.specs.Prelude.{◌≡◌, ◌+◌, ◌<◌, ◌^◌, IfOk};
+ghost use Rattle.std.specs.List.{range_with_len};
+ghost use Rattle.simplex_laws.specs.Outcome.{IsOutcome, outcome};
+ghost use Rattle.simplex_core.specs.Answer.{IsRightAnswer, SaysOutcome};
+ghost use Rattle.simplex_core.specs.StdForm.{IsWellShaped, equality_form};
+
+use crate::answer::{Basis, SolverAnswer};
+use crate::fault::SolveFault;
+use crate::form::StdForm;
+use crate::run::run;
+use aff_core::Sequence;
+use ratio_core::Memory;
+use std::alloc::Global;
+use tableau_core::{Board, BoardFault};
+
+/// Solves a form by Bland's rule in two phases, with an allowance of `pivots` pivots.
+///
+/// Answers `Limit` where the allowance is used up before the end, and `Overflow` where a sum of the first board, or a quotient,
+/// product or difference of the next pivot, passes 128 bits; each with the basis there.
+pub fn solve(alloc: Global, form: &StdForm, pivots: u64) -> Result<SolverAnswer, SolveFault>
+    requires { IsWellShaped form.now }
+    ensures outcome { SaysOutcome (equality_form form.now) pivots result }
+    ensures meaning { IsOutcome (equality_form form.now) pivots (outcome (equality_form form.now) pivots) }
+    ensures right { IfOk result (IsRightAnswer (equality_form form.now)) }
+{
+    let right = form.right.as_slice();
+    let costs = form.costs.as_slice();
+    match Board::start(alloc, form.m, form.c, form.matrix.as_slice(), right, costs) {
+        Ok(board) => run(alloc, board, form.m, form.c, pivots),
+        Err(BoardFault::Overflow) => {
+            let basis = first_basis(alloc, form.m, form.c)?;
+            Err(SolveFault::Overflow { basis })
+        }
+        Err(BoardFault::Memory) => Err(SolveFault::Memory),
+    }
+}
+
+// The artificial columns.
+fn first_basis(alloc: Global, m: usize, c: usize) -> Result<Basis, Memory>
+    requires { c + m < 2 ^ 64 }
+    ensures { IfOk result (λ basis. basis ≡ range_with_len c m) }
+{
+    let mut basis = Vec::with_capacity(alloc, m)?;
+    for i in 0..m {
+        basis.push(c + i)?;
+    }
+    Ok(Sequence::from_vec(basis))
+}

@@ -1,0 +1,42 @@
+use Rattle.std.proofs.Common.{ap, length, refl, subst, sym, true, ◌+◌, ◌∙◌}
+use Rattle.std.proofs.lemmas.List.FromFn.{length-range_with_len}
+use Rattle.simplex_laws.specs.Basis.{start}
+use Rattle.simplex_laws.specs.Board.{price}
+use Rattle.simplex_laws.specs.Form.{Form, first_cost, second_cost}
+use Rattle.tableau_core.specs.declared.board.Board.TheInside.{Inside}
+use Rattle.tableau_core.specs.Start.{IsListOf, form_of}
+use Rattle.tableau_core.proofs.StartBoard.{start-board, start-kept}
+use Rattle.tableau_core.proofs.board.Board.start.Goals as goal
+
+abbrev form : goal.In_ok-basis → Form
+form c = form_of c.args.m c.args.c c.args.matrix.now c.args.right.now c.args.costs.now
+
+abbrev made : goal.In_ok-basis → Inside
+made c = record {
+  reals = c.args.c;
+  rows = c.in_ok-rows.rows;
+  in_first = true;
+  first = c.in_ok-first.first;
+  second = c.in_ok-second.second;
+  step = c.in_ok-step.step;
+  basis = c.in_ok-basis.basis;
+}
+
+first_listed : (c : goal.In_ok-basis) → IsListOf (c.args.c + c.args.m) (price (form c) (start (form c)) (first_cost (form c))) c.in_ok-first.first.now.items
+first_listed c =
+    subst (IsListOf (c.args.c + c.args.m) (price (form c) (start (form c)) (first_cost (form c)))) (sym c.in_ok-first.ensures) (c.in_ok-first_prices.ensures.prices c.args.right.now c.args.costs.now)
+
+second_listed : (c : goal.In_ok-basis) → IsListOf (c.args.c + c.args.m) (second_cost (form c)) c.in_ok-second.second.now.items
+second_listed c =
+    subst (IsListOf (c.args.c + c.args.m) (second_cost (form c))) (sym c.in_ok-second.ensures)
+    (subst (λ n. IsListOf (n + c.args.m) (second_cost (form_of c.args.m n c.args.matrix.now c.args.right.now c.args.costs.now)) c.in_ok-second_prices.field-0.items) c.requires.costs (c.in_ok-second_prices.ensures.prices c.args.matrix.now c.args.right.now))
+
+pub invariant_of-result : goal.invariant_of-result
+invariant_of-result c =
+    start-kept (form c) (made c) refl c.in_ok-rows.ensures.count (c.in_ok-rows.ensures.rows c.args.costs.now) c.in_ok-basis.ensures
+    (first_listed c).long (second_listed c).long c.in_ok-step.ensures.long c.in_ok-step.ensures.all_fit
+    (ap length c.in_ok-basis.ensures ∙ length-range_with_len c.args.c c.args.m)
+
+pub returns-clause-board : goal.returns-clause-board
+returns-clause-board c =
+    start-board (form c) (made c) refl c.in_ok-rows.ensures.count (c.in_ok-rows.ensures.rows c.args.costs.now) c.in_ok-basis.ensures (first_listed c) (second_listed c)

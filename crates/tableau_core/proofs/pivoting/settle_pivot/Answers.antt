@@ -1,0 +1,18 @@
+use Rattle.std.proofs.Common.{refl}
+use Rattle.tableau_core.proofs.SettleSteps.{room-long, settled-all, settled-wide}
+use Rattle.tableau_core.proofs.pivoting.settle_pivot.Goals as goal
+
+pub returns-clause-settled : goal.returns-clause-settled
+returns-clause-settled c =
+    settled-all c.args.rows.now c.settle_rows.new.rows c.args.r c.args.q c.args.step.now.items c.exchange.new.self c.settle_rows.auto.rows c.requires.row c.exchange.ensures.now c.args.in_first c.args.first.now c.args.second.now c.settle_if.new.row.now.items c.settle.new.self.now.items c.requires.ready
+    (c.settle_rows.ensures.lowered c.args.step.now.items c.requires.ready.others)
+    (λ u. c.settle_if.ensures.lowered u c.args.step.now.items (c.requires.ready.first_ready u))
+    (c.settle.ensures.lowered c.args.step.now.items c.requires.ready.second_ready)
+
+pub returns-clause-wide : goal.returns-clause-wide
+returns-clause-wide c =
+    settled-wide c.args.rows.now c.settle_rows.new.rows c.args.r c.args.q c.args.step.now.items c.exchange.new.self c.settle_rows.auto.rows c.requires.row c.exchange.ensures.now _ refl c.requires.wide (c.settle_rows.ensures.lowered c.args.step.now.items c.requires.ready.others)
+
+pub returns-clause-step_long : goal.returns-clause-step_long
+returns-clause-step_long c =
+    room-long c.args.rows.now c.settle_rows.new.rows c.args.r c.index-rows-r.result c.exchange.new.step.items _ c.settle_rows.auto.rows c.requires.row c.exchange.ensures.step c.settle_rows.ensures.stays c.requires.wide

@@ -1,0 +1,102 @@
+//! A row of the board, with room for the row that comes after it.
+ghost use Rattle.std.specs.Prelude.{◌≡◌, ◌<◌, ◌≤◌, List, ◌||◌, not, IsTrue, length, is_ok, IfOk, OnOk};
+ghost use Rattle.ratio_core.specs.Rational.{Rational};
+ghost use Rattle.tableau_core.specs.Row.{AllFit, IsLowered, IsPrepared, cell, differences_fit};
+
+use crate::fault::BoardOverflow;
+use crate::row::lower;
+use ratio_core::Ratio;
+use std::alloc::{AllocError, Global};
+use std::mem;
+
+#[derive(Drop)]
+pub(crate) struct Row {
+    pub(crate) now: Vec<Ratio>,
+    pub(crate) next: Vec<Ratio>,
+    ghost long: { length next.items ≡ length now.items },
+    ghost now_fit: { AllFit now.items },
+    ghost next_fit: { AllFit next.items },
+}
+
+// As many zeros: room for numbers to come.
+pub(crate) fn zeros(alloc: Global, n: usize) -> Result<Vec<Ratio>, AllocError>
+    ensures long { IfOk result (λ numbers. length numbers.items ≡ n) }
+    ensures all_fit { IfOk result (λ numbers. AllFit numbers.items) }
+{
+    vec![in alloc; Ratio::zero(); n]
+}
+
+impl Row {
+    // A row of these numbers.
+    pub(crate) fn new(alloc: Global, now: Vec<Ratio>) -> Result<Row, AllocError>
+        requires { AllFit now.items }
+        ensures { IfOk result (λ row. row.now.items ≡ now.items) }
+    {
+        let next = zeros(alloc, now.len())?;
+        Ok(Row { now, next })
+    }
+
+    // Works out what a pivot on column q makes of the row, where `step` is the pivot's new row.
+    pub(crate) fn prepare(&mut self, q: usize, step: &[Ratio]) -> Result<(), BoardOverflow>
+        requires within { q < length self.old.now.items }
+        requires step_long { length self.old.now.items ≤ length step.now }
+        ensures stays { self.new.now.items ≡ self.old.now.items }
+        ensures fits { is_ok result ≡ differences_fit (cell self.old.now.items q) step.now self.old.now.items }
+        ensures ok { OnOk result (IsPrepared q step.now self.old.now.items self.new.next.items) }
+    {
+        let by = self.now[q];
+        if by.is_zero() {
+            return Ok(());
+        }
+        lower(&self.now, &by, step, &mut self.next)
+    }
+
+    // Puts in place what was worked out.
+    pub(crate) fn settle(&mut self, q: usize)
+        requires { q < length self.old.now.items }
+        ensures long { length self.new.now.items ≡ length self.old.now.items }
+        ensures lowered { (step : List Rational) → IsPrepared q step self.old.now.items self.old.next.items → IsLowered (cell self.old.now.items q) step self.old.now.items self.new.now.items }
+    {
+        let by = self.now[q];
+        if !by.is_zero() {
+            mem::swap(&mut self.now, &mut self.next);
+        }
+    }
+
+    // Changes places with a row of as many numbers.
+    pub(crate) fn exchange(&mut self, step: &mut Vec<Ratio>)
+        requires long { length step.old.items ≡ length self.old.now.items }
+        requires step_fits { AllFit step.old.items }
+        ensures now { self.new.now.items ≡ step.old.items }
+        ensures step { step.new.items ≡ self.old.now.items }
+        ensures step_fits { AllFit step.new.items }
+    {
+        mem::swap(&mut self.now, step);
+    }
+}
+
+// The same of a row that is in use.
+pub(crate) fn prepare_if(
+    used: bool,
+    row: &mut Row,
+    q: usize,
+    step: &[Ratio],
+) -> Result<(), BoardOverflow>
+    requires within { q < length row.old.now.items }
+    requires step_long { length row.old.now.items ≤ length step.now }
+    ensures stays { row.new.now.items ≡ row.old.now.items }
+    ensures fits { is_ok result ≡ (not used || differences_fit (cell row.old.now.items q) step.now row.old.now.items) }
+    ensures ok { OnOk result (IsTrue used → IsPrepared q step.now row.old.now.items row.new.next.items) }
+{
+    if used { row.prepare(q, step) } else { Ok(()) }
+}
+
+pub(crate) fn settle_if(used: bool, row: &mut Row, q: usize)
+    requires { q < length row.old.now.items }
+    ensures lowered { IsTrue used → (step : List Rational) → IsPrepared q step row.old.now.items row.old.next.items → IsLowered (cell row.old.now.items q) step row.old.now.items row.new.now.items }
+    ensures long { length row.new.now.items ≡ length row.old.now.items }
+{
+    if used {
+        row.settle(q);
+    }
+}

@@ -1,0 +1,92 @@
+//! A pivot worked out beside what stands.
+ghost use Rattle.std.specs.Prelude.{◌≡◌, ◌≢◌, ◌+◌, ◌<◌, ◌≤◌, ℕ, length, is_ok, OnOk};
+ghost use Rattle.ratio_core.specs.Rational.{zero_ℚ};
+ghost use Rattle.tableau_core.specs.Row.{AllFit, IsDivided, cell, quotients_fit};
+ghost use Rattle.tableau_core.specs.Rows.{AreWide, now_at};
+ghost use Rattle.tableau_core.specs.Pivoting.{IsReady, IsSettled};
+ghost use Rattle.tableau_core.specs.Tableau.{numbers_fit};
+
+use crate::fault::BoardOverflow;
+use crate::kept::{Row, prepare_if, settle_if};
+use crate::row::divide;
+use crate::rows::{prepare_rows, settle_rows};
+use ratio_core::Ratio;
+
+// Works out what a pivot makes of the rows and of the cost rows in use, and changes nothing that stands. The pivot's new row
+// goes into `step`.
+pub(crate) fn prepare_pivot(
+    rows: &mut [Row],
+    in_first: bool,
+    first: &mut Row,
+    second: &mut Row,
+    step: &mut [Ratio],
+    r: usize,
+    q: usize,
+) -> Result<(), BoardOverflow>
+    requires row { r < length rows.old }
+    requires wide { AreWide (length step.old) rows.old }
+    requires first_within { q < length first.old.now.items }
+    requires first_long { length first.old.now.items ≤ length step.old }
+    requires second_within { q < length second.old.now.items }
+    requires second_long { length second.old.now.items ≤ length step.old }
+    requires step_fits { AllFit step.old }
+    requires nonzero { cell (now_at rows.old r) q ≢ zero_ℚ }
+    ensures rows_stay { (i : ℕ) → now_at rows.new i ≡ now_at rows.old i }
+    ensures first_stays { first.new.now.items ≡ first.old.now.items }
+    ensures second_stays { second.new.now.items ≡ second.old.now.items }
+    ensures step_fits { AllFit step.new }
+    ensures fits { is_ok result ≡ numbers_fit (length rows.old) (now_at rows.old) r q in_first first.old.now.items second.old.now.items }
+    ensures ok { OnOk result (IsReady rows.new r q in_first first.new second.new step.new) }
+{
+    divide_row(rows, r, q, step)?;
+    prepare_rows(rows, r, q, step)?;
+    prepare_if(in_first, first, q, step)?;
+    second.prepare(q, step)
+}
+
+// Row r divided by its number in column q.
+fn divide_row(rows: &[Row], r: usize, q: usize, step: &mut [Ratio]) -> Result<(), BoardOverflow>
+    requires row { r < length rows.now }
+    requires long { length step.old ≡ length (now_at rows.now r) }
+    requires column { q < length (now_at rows.now r) }
+    requires step_fits { AllFit step.old }
+    requires nonzero { cell (now_at rows.now r) q ≢ zero_ℚ }
+    ensures step_fits { AllFit step.new }
+    ensures fits { is_ok result ≡ quotients_fit (cell (now_at rows.now r) q) (now_at rows.now r) }
+    ensures ok { OnOk result (IsDivided (cell (now_at rows.now r) q) (now_at rows.now r) step.new) }
+{
+    let row = &rows[r];
+    let by = row.now[q];
+    divide(&row.now, &by, step)
+}
+
+// Puts a pivot that was worked out in place.
+pub(crate) fn settle_pivot(
+    rows: &mut [Row],
+    in_first: bool,
+    first: &mut Row,
+    second: &mut Row,
+    step: &mut Vec<Ratio>,
+    r: usize,
+    q: usize,
+)
+    requires row { r < length rows.old }
+    requires wide { AreWide (length step.old.items) rows.old }
+    requires within { q < length step.old.items }
+    requires first_within { q < length first.old.now.items }
+    requires second_within { q < length second.old.now.items }
+    requires step_fits { AllFit step.old.items }
+    requires ready { IsReady rows.old r q in_first first.old second.old step.old.items }
+    ensures settled { IsSettled rows.old rows.new r q in_first first.old.now.items first.new.now.items second.old.now.items second.new.now.items }
+    ensures wide { AreWide (length step.old.items) rows.new }
+    ensures first_long { length first.new.now.items ≡ length first.old.now.items }
+    ensures second_long { length second.new.now.items ≡ length second.old.now.items }
+    ensures step_long { length step.new.items ≡ length step.old.items }
+    ensures step_fits { AllFit step.new.items }
+{
+    settle_rows(rows, r, q);
+    let row = &mut rows[r];
+    row.exchange(step);
+    settle_if(in_first, first, q);
+    second.settle(q);
+}

@@ -1,0 +1,70 @@
+//! Row operations: each works out a row beside the one that stands.
+ghost use Rattle.std.specs.Prelude.{◌≡◌, ◌≢◌, ◌≤◌, length, is_ok, IfOk, OkIff, OnOk};
+ghost use Rattle.ratio_core.specs.Rational.{Fits, zero_ℚ, ◌*ℚ◌, ◌-ℚ◌, ◌/ℚ◌};
+ghost use Rattle.simplex_laws.specs.Fit.{lowered_fits};
+ghost use Rattle.tableau_core.specs.Row.{AllFit, IsDivided, IsLowered, differences_fit, quotients_fit};
+
+use crate::fault::BoardOverflow;
+use ratio_core::{Ratio, RatioFault};
+
+// Each number divided.
+pub(crate) fn divide(row: &[Ratio], by: &Ratio, next: &mut [Ratio]) -> Result<(), BoardOverflow>
+    requires long { length next.old ≡ length row.now }
+    requires nonzero { by.now ≢ zero_ℚ }
+    requires all_fit { AllFit next.old }
+    ensures fits { is_ok result ≡ quotients_fit by.now row.now }
+    ensures ok { OnOk result (IsDivided by.now row.now next.new) }
+    ensures all_fit { AllFit next.new }
+{
+    for (j, number) in row.iter().enumerate() {
+        next[j] = divide_number(number, by)?;
+    }
+    Ok(())
+}
+
+// A number divided, without arithmetic where it is 0.
+fn divide_number(number: &Ratio, by: &Ratio) -> Result<Ratio, RatioFault>
+    requires nonzero { by.now ≢ zero_ℚ }
+    ensures exact { OkIff result ((by.now ≢ zero_ℚ) × Fits (number.now /ℚ by.now)) (number.now /ℚ by.now) }
+{
+    if number.is_zero() {
+        let _fits = number.num();
+        return Ok(*number);
+    }
+    number.div(by)
+}
+
+// Each number lowered by a multiple of the step's.
+pub(crate) fn lower(
+    row: &[Ratio],
+    by: &Ratio,
+    step: &[Ratio],
+    next: &mut [Ratio],
+) -> Result<(), BoardOverflow>
+    requires long { length next.old ≡ length row.now }
+    requires step_long { length row.now ≤ length step.now }
+    requires all_fit { AllFit next.old }
+    ensures fits { is_ok result ≡ differences_fit by.now step.now row.now }
+    ensures ok { OnOk result (IsLowered by.now step.now row.now next.new) }
+    ensures all_fit { AllFit next.new }
+{
+    for (j, number) in row.iter().enumerate() {
+        next[j] = lower_number(number, by, &step[j])?;
+    }
+    Ok(())
+}
+
+// A number lowered by a multiple, which is itself where the step is 0.
+fn lower_number(number: &Ratio, by: &Ratio, step: &Ratio) -> Result<Ratio, BoardOverflow>
+    ensures fits { is_ok result ≡ lowered_fits number.now by.now step.now }
+    ensures ok { IfOk result (λ x. (x ≡ number.now -ℚ by.now *ℚ step.now) × Fits x) }
+{
+    if step.is_zero() {
+        let _fits = number.num();
+        return Ok(*number);
+    }
+    let multiple = by.mul(step)?;
+    let lowered = number.sub(&multiple)?;
+    let _fits = lowered.num();
+    Ok(lowered)
+}

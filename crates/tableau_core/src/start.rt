@@ -1,0 +1,145 @@
+//! The numbers that a board starts with.
+ghost use Rattle.std.specs.Prelude.{◌≡◌, ◌+◌, ◌*◌, ◌^◌, ◌<◌, ℕ, List, length, false, true, is_ok, IfOk, IsErrOf, OnOk};
+ghost use Rattle.std.specs.List.{range_with_len};
+ghost use Rattle.ratio_core.specs.Rational.{Rational, neg_ℚ};
+ghost use Rattle.simplex_laws.specs.BoundedSums.{sum_to};
+ghost use Rattle.simplex_laws.specs.Form.{first_cost, second_cost};
+ghost use Rattle.simplex_laws.specs.Basis.{start};
+ghost use Rattle.simplex_laws.specs.Board.{entry, price};
+ghost use Rattle.simplex_laws.specs.Fit.{first_sum_fits, start_fits};
+ghost use Rattle.tableau_core.specs.Row.{AllFit, cell};
+ghost use Rattle.tableau_core.specs.Start.{AreRowsOf, AtEachStart, IsListOf, form_of};
+
+use crate::fault::{BoardFault, BoardOverflow};
+use crate::kept::Row;
+use ratio_core::Ratio;
+use std::alloc::{AllocError, Global};
+
+// The rows, whose basis matrix is the unit matrix.
+pub(crate) fn start_rows(
+    alloc: Global,
+    m: usize,
+    c: usize,
+    matrix: &[Ratio],
+    right: &[Ratio],
+) -> Result<Vec<Row>, AllocError>
+    requires matrix { length matrix.now ≡ m * c }
+    requires right { length right.now ≡ m }
+    requires room { c + m + 1 < 2 ^ 64 }
+    ensures count { IfOk result (λ rows. length rows.items ≡ m) }
+    ensures rows { IfOk result (λ rows. (costs : List Rational) → AreRowsOf (form_of m c matrix.now right.now costs) (start (form_of m c matrix.now right.now costs)) rows.items) }
+{
+    let mut rows = Vec::with_capacity(alloc, m)?;
+    for (i, side) in right.iter().enumerate() {
+        rows.push(start_row(alloc, m, c, matrix, i, side)?)?;
+    }
+    Ok(rows)
+}
+
+// Row i: its entries, the unit numbers of the artificial columns, and its right side.
+fn start_row(
+    alloc: Global,
+    m: usize,
+    c: usize,
+    matrix: &[Ratio],
+    i: usize,
+    side: &Ratio,
+) -> Result<Row, AllocError>
+    requires long { length matrix.now ≡ m * c }
+    requires within { i < m }
+    requires room { c + m + 1 < 2 ^ 64 }
+    ensures long { IfOk result (λ row. length row.now.items ≡ c + m + 1) }
+    ensures entries { IfOk result (λ row. AtEachStart m c matrix.now (λ F s. (j : ℕ) → j < c + m → cell row.now.items j ≡ entry F s j i)) }
+    ensures side { IfOk result (λ row. cell row.now.items (c + m) ≡ side.now) }
+{
+    let mut numbers = Vec::with_capacity(alloc, c + m + 1)?;
+    for j in 0..c + m {
+        let number = start_entry(m, c, matrix, i, j);
+        let _fits = number.num();
+        numbers.push(number)?;
+    }
+    let _fits = side.num();
+    numbers.push(*side)?;
+    Row::new(alloc, numbers)
+}
+
+// The entry of column j in row i.
+fn start_entry(m: usize, c: usize, matrix: &[Ratio], i: usize, j: usize) -> Ratio
+    requires long { length matrix.now ≡ m * c }
+    requires within { i < m }
+    ensures { AtEachStart m c matrix.now (λ F s. result ≡ entry F s j i) }
+{
+    if j < c {
+        matrix[i * c + j]
+    } else if j - c == i {
+        Ratio::one()
+    } else {
+        Ratio::zero()
+    }
+}
+
+// The first cost row.
+pub(crate) fn first_prices(
+    alloc: Global,
+    m: usize,
+    c: usize,
+    matrix: &[Ratio],
+) -> Result<Vec<Ratio>, BoardFault>
+    requires long { length matrix.now ≡ m * c }
+    requires room { c + m + 1 < 2 ^ 64 }
+    ensures prices { IfOk result (λ prices. AtEachStart m c matrix.now (λ F s. IsListOf (c + m) (price F s (first_cost F)) prices.items)) }
+    ensures all_fit { IfOk result (λ prices. AllFit prices.items) }
+    ensures fits { OnOk result (AtEachStart m c matrix.now (λ F _. start_fits F ≡ true)) }
+    ensures overflow { IsErrOf result BoardFault.Overflow → AtEachStart m c matrix.now (λ F _. start_fits F ≡ false) }
+{
+    let mut prices = Vec::with_capacity(alloc, c + m)?;
+    for j in 0..c {
+        let price = first_price(m, c, matrix, j)?;
+        let _fits = price.num();
+        prices.push(price)?;
+    }
+    prices.resize(c + m, Ratio::zero())?;
+    Ok(prices)
+}
+
+// The first price of column j: minus the sum of its entries, added from the first row on.
+fn first_price(m: usize, c: usize, matrix: &[Ratio], j: usize) -> Result<Ratio, BoardOverflow>
+    requires long { length matrix.now ≡ m * c }
+    requires within { j < c }
+    ensures fits { AtEachStart m c matrix.now (λ F _. is_ok result ≡ first_sum_fits F j) }
+    ensures ok { IfOk result (λ x. AtEachStart m c matrix.now (λ F _. x ≡ neg_ℚ (sum_to m (λ i. F.matrix i j)))) }
+{
+    let mut sum = Ratio::zero();
+    for i in 0..m {
+        let entry = &matrix[i * c + j];
+        sum = sum.add(entry)?;
+    }
+    Ok(sum.neg())
+}
+
+// The second cost row: the costs, and 0 at each artificial column.
+pub(crate) fn second_prices(
+    alloc: Global,
+    m: usize,
+    costs: &[Ratio],
+) -> Result<Vec<Ratio>, AllocError>
+    requires room { length costs.now + m + 1 < 2 ^ 64 }
+    ensures prices { IfOk result (λ prices. (matrix right : List Rational) → IsListOf (length costs.now + m) (second_cost (form_of m (length costs.now) matrix right costs.now)) prices.items) }
+    ensures all_fit { IfOk result (λ prices. AllFit prices.items) }
+{
+    let mut prices = Vec::with_capacity(alloc, costs.len() + m)?;
+    for cost in costs {
+        let _fits = cost.num();
+        prices.push(*cost)?;
+    }
+    prices.resize(costs.len() + m, Ratio::zero())?;
+    Ok(prices)
+}
+
+// The artificial columns.
+pub(crate) fn start_basis(alloc: Global, m: usize, c: usize) -> Result<Vec<usize>, AllocError>
+    requires room { c + m + 1 < 2 ^ 64 }
+    ensures { IfOk result (λ basis. basis.items ≡ range_with_len c m) }
+{
+    (c..c + m).collect(alloc)
+}

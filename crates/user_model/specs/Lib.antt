@@ -1,0 +1,11 @@
+-- What the contracts cite.
+pub mod Sets
+pub mod Functions
+pub mod Model
+pub mod Limits
+pub mod Deletion
+pub mod Edited
+pub mod Refusals
+pub mod Undone
+pub mod Consistent
+pub mod UndoLaws

@@ -1,0 +1,22 @@
+//! The user's model: what it is, and what an edit makes of it.
+#![tactic(auto)]
+
+mod copies;
+mod edit;
+mod function;
+mod group;
+mod objective;
+mod refusal;
+mod row;
+mod undo;
+
+pub use edit::{Edit, NamedFunc};
+pub use function::UserFunc;
+pub use group::{Group, GroupVar, GroupVars};
+pub use objective::{Objective, Sense};
+pub use refusal::{ApplyFault, Refusal};
+pub use row::Row;
+pub use undo::{Numbers, OldGroups, OldRows, Undo};
+
+#[cfg(test)]
+mod tests;

@@ -1,0 +1,43 @@
+//! Objectives.
+ghost use Rattle.std.specs.Prelude.{◌≡◌, IfOk};
+
+use aff_core::{Address, Aff};
+use ratio_core::Memory;
+use std::alloc::Global;
+
+/// Whether the least or the greatest value is sought.
+#[derive(Clone, Copy, Debug, PartialEq, Eq)]
+pub enum Sense {
+    Min,
+    Max,
+}
+
+/// What is sought of the feasible points.
+#[derive(Debug, Drop)]
+pub enum Objective {
+    /// Any of them.
+    Feasibility,
+    /// One that makes a variable least or greatest.
+    Plain { sense: Sense, var: Address },
+    /// One that makes an affine function least or greatest.
+    Affine { sense: Sense, func: Aff },
+}
+
+impl Objective {
+    /// An equal objective in memory of its own.
+    pub fn copy(&self, alloc: Global) -> Result<Objective, Memory>
+        ensures { IfOk result (λ objective. objective ≡ self.now) }
+    {
+        Ok(match self {
+            Objective::Feasibility => Objective::Feasibility,
+            Objective::Plain { sense, var } => Objective::Plain {
+                sense: *sense,
+                var: *var,
+            },
+            Objective::Affine { sense, func } => Objective::Affine {
+                sense: *sense,
+                func: func.copy(alloc)?,
+            },
+        })
+    }
+}
