@@ -1,0 +1,145 @@
+-- The variables that are kept, as those that are listed come and go.
+use Rattle.std.proofs.Common.{◌≡◌, ℕ, ◌+◌, ◌<◌, ◌≤◌, Bool, true, false, cond, List, ◌∷◌, length, drop, Option, Some, None, Result, Ok, Err, refl, sym, ap, subst, ◌∙◌, arith, inl, inr}
+use Rattle.std.specs.Prelude.{IsSome, is_some, unwrap_or, slice_index_or, count_by}
+use Rattle.std.specs.Result.{is_err}
+use Rattle.std.specs.Option.{option_map_or, option_to_list}
+use Rattle.std.proofs.lemmas.Bool.{cases_eq}
+use Rattle.std.proofs.lemmas.List.{drop_more, drop_all}
+use Rattle.std.proofs.lemmas.List.Sums.{sum_by-drop_more}
+use Rattle.numbered.specs.Numbered.{Rise, IsAt, find, set_at}
+use Rattle.numbered.specs.Places.{IsPlaceOf}
+use Rattle.numbered.specs.Laws.{IsAt-find, Rise-head, Rise-tail, find-first, find-rest, find-none_above}
+use Rattle.numbered.specs.SetLaws.{find-set_at_same, find-set_at_other, length-set_at, set_at_found}
+use Rattle.model_catalog.specs.declared.names.Listed.{Listed}
+use Rattle.model_catalog.specs.declared.variable.Variable.{Variable}
+use Rattle.model_catalog.specs.Names.{listed_number, put_count}
+use Rattle.model_catalog.specs.Index.{given_variable, kept_count, listed_in, unbounded_in, variable_number}
+use Rattle.model_catalog.proofs.NameLoops.{not_some, some_is}
+
+-- what is given stands at its number
+pub IsAt-given : (group : ℕ) (l : Listed) (kept : List Variable) → IsAt variable_number l.number (given_variable group l (find variable_number l.number kept))
+IsAt-given group l kept = by_name (is_some l.name) (find variable_number l.number kept) (IsAt-find variable_number l.number kept)
+  where
+    by_name : (named : Bool) (o : Option Variable) → IsAt variable_number l.number o → IsAt variable_number l.number (cond named (Some (unwrap_or o (unbounded_in group l.number))) None)
+    by_name false o at = tt
+    by_name true None at = refl
+    by_name true (Some v) at = at
+
+-- a variable that is listed with a name, and was kept, stays
+pub kept_there : (group : ℕ) (l : Listed) (kept : List Variable) (place : Result ℕ ℕ) → is_some l.name ≡ true → false ≡ is_err place → IsPlaceOf variable_number l.number kept place → Rise variable_number kept → kept ≡ set_at variable_number l.number (given_variable group l (find variable_number l.number kept)) kept
+kept_there group l kept (Err i) named there at rise = let both : false ≡ true = there in cc
+kept_there group l kept (Ok i) named there at rise =
+    by_name l.name (find variable_number l.number kept) named refl at.there
+  where
+    by_name : (name : Option (List ℕ)) (o : Option Variable) → is_some name ≡ true → find variable_number l.number kept ≡ o → IsSome (find variable_number l.number kept) → kept ≡ set_at variable_number l.number (cond (is_some name) (Some (unwrap_or (find variable_number l.number kept) (unbounded_in group l.number))) None) kept
+    by_name None o unnamed e some = let both : false ≡ true = unnamed in cc
+    by_name (Some name) None unnamed e some = absurd (not_some (find variable_number l.number kept) e some)
+    by_name (Some name) (Some v) unnamed e some =
+        sym (set_at_found variable_number l.number kept rise)
+        ∙ ap (λ o. set_at variable_number l.number o kept) (e ∙ sym (ap (λ o. Some (unwrap_or o (unbounded_in group l.number))) e))
+
+-- ---- the loop
+
+-- what is left of the listed gives, from those that are kept now, what all of them give
+pub record ListedSoFar (group : ℕ) (start now : List Variable) (listed : List Listed) (i first capacity : ℕ) : Type 0 where
+  pub rest : (n : ℕ) → listed_in group (drop i listed) (λ n. find variable_number n now) n ≡ listed_in group listed (λ n. find variable_number n start) n
+  pub still : (n : ℕ) → IsSome (find listed_number n (drop i listed)) → find variable_number n now ≡ find variable_number n start
+  pub left : Rise listed_number (drop i listed)
+  pub rising : Rise variable_number now
+  pub count : length now + kept_count start listed + put_count (drop i listed) ≡ length start + put_count listed + kept_count start (drop i listed)
+  pub fits : length now + put_count (drop i listed) ≤ capacity
+  pub grown : first ≤ capacity
+
+pub listed_none : (group : ℕ) (start : List Variable) (listed : List Listed) (capacity : ℕ) → Rise variable_number start → Rise listed_number listed → length start + put_count listed ≤ capacity → ListedSoFar group start start listed 0 capacity capacity
+listed_none group start listed capacity rise up fits =
+    record { rest = λ n. refl; still = λ n some. refl; left = up; rising = rise; count = omega arith; fits = fits; grown = omega arith }
+
+-- one of them, as those after it are left
+record Step (group : ℕ) (start now : List Variable) (x : Listed) (left : List Listed) (all : ℕ → Option Variable) : Type 0 where
+  rest : (n : ℕ) → listed_in group left (λ n. find variable_number n (set_at variable_number x.number (given_variable group x (find variable_number x.number now)) now)) n ≡ all n
+  still : (n : ℕ) → IsSome (find listed_number n left) → find variable_number n (set_at variable_number x.number (given_variable group x (find variable_number x.number now)) now) ≡ find variable_number n start
+  own : find variable_number x.number now ≡ find variable_number x.number start
+
+step : (group : ℕ) (start now : List Variable) (x : Listed) (left : List Listed) (all : ℕ → Option Variable) → Rise listed_number (x ∷ left) → ((n : ℕ) → listed_in group (x ∷ left) (λ n. find variable_number n now) n ≡ all n) → ((n : ℕ) → IsSome (find listed_number n (x ∷ left)) → find variable_number n now ≡ find variable_number n start) → Step group start now x left all
+step group start now x left all rise rest still = record {
+  rest = λ n. elim (cases_eq x.number n) [
+    | inl same ↦
+        ap (λ o. option_map_or (λ l. given_variable group l (find variable_number n after)) o (find variable_number n after)) (absent n same)
+        ∙ (subst (λ m. find variable_number m after ≡ given_variable group x (find variable_number m now)) same (find-set_at_same variable_number x.number given now at)
+        ∙ (sym (ap (λ o. option_map_or (λ l. given_variable group l (find variable_number n now)) o (find variable_number n now)) (find-first listed_number n x left same)) ∙ rest n))
+    | inr other ↦
+        ap (λ o. option_map_or (λ l. given_variable group l o) (find listed_number n left) o) (find-set_at_other variable_number n x.number given now (λ e. other (sym e)) at)
+        ∙ (sym (ap (λ o. option_map_or (λ l. given_variable group l (find variable_number n now)) o (find variable_number n now)) (find-rest listed_number n x left other)) ∙ rest n)
+  ];
+  still = λ n some. elim (cases_eq x.number n) [
+    | inl same ↦ absurd (not_some (find listed_number n left) (absent n same) some)
+    | inr other ↦ find-set_at_other variable_number n x.number given now (λ e. other (sym e)) at ∙ still n (subst IsSome (sym (find-rest listed_number n x left other)) some)
+  ];
+  own = still x.number (some_is (find listed_number x.number (x ∷ left)) x (find-first listed_number x.number x left refl));
+}
+  where
+    given : Option Variable
+    given = given_variable group x (find variable_number x.number now)
+
+    after : List Variable
+    after = set_at variable_number x.number given now
+
+    at : IsAt variable_number x.number given
+    at = IsAt-given group x now
+
+    absent : (n : ℕ) → x.number ≡ n → find listed_number n left ≡ None
+    absent n same = find-none_above listed_number n left (subst (λ m. (k : ℕ) (d : Listed) → k < length left → m < (slice_index_or left k d).number) same (Rise-head listed_number x left rise))
+
+count_first : {X : Type 0} (p : X → Bool) (x : X) (xs : List X) → count_by p (x ∷ xs) ≡ cond (p x) 1 0 + count_by p xs
+count_first p x xs = sum_by-drop_more (λ y. cond (p y) 1 0) (x ∷ xs) 0 x (omega arith)
+
+length_of : {X : Type 0} (o : Option X) → length (option_to_list o) ≡ cond (is_some o) 1 0
+length_of None = refl
+length_of (Some x) = refl
+
+some_given : (group : ℕ) (l : Listed) (o : Option Variable) → is_some (given_variable group l o) ≡ is_some l.name
+some_given group l o = elim (is_some l.name) as (λ b. is_some (cond b (Some (unwrap_or o (unbounded_in group l.number))) None) ≡ b) [ true ↦ refl | false ↦ refl ]
+
+pub room_for_next : (group : ℕ) (start now : List Variable) (listed : List Listed) (i first capacity : ℕ) (d : Listed) → ListedSoFar group start now listed i first capacity → i < length listed → IsSome (slice_index_or listed i d).name → length now < capacity
+room_for_next group start now listed i first capacity d h lt some =
+    let x = slice_index_or listed i d in
+    let split = ap put_count (drop_more listed i d lt) in
+    let count = count_first (λ l. is_some l.name) x (drop (i + 1) listed) in
+    let named = ap (λ b. cond {A = ℕ} b 1 0) some in
+    omega (arith, h.fits, split, count, named)
+
+pub listed_more : (group : ℕ) (start now after : List Variable) (listed : List Listed) (i first capacity more : ℕ) (d : Listed) → ListedSoFar group start now listed i first capacity → i < length listed → after ≡ set_at variable_number (slice_index_or listed i d).number (given_variable group (slice_index_or listed i d) (find variable_number (slice_index_or listed i d).number now)) now → Rise variable_number after → capacity ≤ more → ListedSoFar group start after listed (i + 1) first more
+listed_more group start now after listed i first capacity more d h lt is rise grows =
+    let x = slice_index_or listed i d in
+    let left = drop (i + 1) listed in
+    let split = drop_more listed i d lt in
+    let s = step group start now x left (λ n. listed_in group listed (λ n. find variable_number n start) n) (subst (Rise listed_number) split h.left)
+    (λ n. sym (ap (λ xs. listed_in group xs (λ n. find variable_number n now) n) split) ∙ h.rest n) (λ n some. h.still n (subst (λ xs. IsSome (find listed_number n xs)) (sym split) some)) in
+    let given = given_variable group x (find variable_number x.number now) in
+    let lengths = length-set_at variable_number x.number given now h.rising in
+    let was = length_of (find variable_number x.number now) ∙ ap (λ o. cond {A = ℕ} (is_some o) 1 0) s.own in
+    let gives = length_of given ∙ ap (λ b. cond {A = ℕ} b 1 0) (some_given group x (find variable_number x.number now)) in
+    let puts = ap put_count split ∙ count_first (λ l. is_some l.name) x left in
+    let keeps = ap (kept_count start) split ∙ count_first (λ l. is_some (find variable_number l.number start)) x left in
+    let long = ap length is in
+    record {
+      rest = λ n. ap (λ vs. listed_in group left (λ n. find variable_number n vs) n) is ∙ s.rest n;
+      still = λ n some. ap (find variable_number n) is ∙ s.still n some;
+      left = Rise-tail listed_number x left (subst (Rise listed_number) split h.left);
+      rising = rise;
+      count = omega (arith, h.count, lengths, was, gives, puts, keeps, long);
+      fits = omega (arith, h.fits, lengths, was, gives, puts, keeps, long);
+      grown = omega (arith, h.grown);
+    }
+
+pub record AllListed (group : ℕ) (start now : List Variable) (listed : List Listed) : Type 0 where
+  pub entries : (n : ℕ) → find variable_number n now ≡ listed_in group listed (λ n. find variable_number n start) n
+  pub count : length now + kept_count start listed ≡ length start + put_count listed
+
+pub listed_all : (group : ℕ) (start now : List Variable) (listed : List Listed) (i first capacity : ℕ) → ListedSoFar group start now listed i first capacity → length listed ≤ i → AllListed group start now listed
+listed_all group start now listed i first capacity h end =
+    let nothing = drop_all i listed end in
+    record {
+      entries = λ n. sym (ap (λ xs. listed_in group xs (λ n. find variable_number n now) n) nothing) ∙ h.rest n;
+      count = omega (arith, h.count, ap put_count nothing, ap (kept_count start) nothing);
+    }

@@ -1,0 +1,16 @@
+use Rattle.std.proofs.Common.{List, ap, ◌∙◌}
+use Rattle.numbered.specs.Numbered.{find}
+use Rattle.user_model.specs.declared.group.Group.{Group}
+use Rattle.user_model.specs.Edited.{group_number}
+use Rattle.model_catalog.specs.declared.variable.Variable.{Variable}
+use Rattle.model_catalog.specs.Index.{variable_number}
+use Rattle.model_catalog.specs.Kept.{model_of}
+use Rattle.model_catalog.proofs.Models.{group_of_kept}
+use Rattle.model_catalog.proofs.catalog.Catalog.group_of.Goals as goal
+
+pub returns : goal.returns
+returns c =
+    let variable = c.in_ok-variable.variable.now in
+    let there = c.in_ok-variable.ensures ∙ ap (λ (vs : List Variable). find variable_number c.args.number vs) c.deref.ensures.value in
+    let group = c.with_number-2.ensures ∙ ap (λ (gs : List Group). find group_number variable.group gs) c.deref-2.ensures.value in
+    rw (← c.self.view_is) (group ∙ group_of_kept (model_of c.self.inside) c.self.inside.kept.items c.self.invariant.consistent c.self.invariant.index c.args.number variable there)
