@@ -1,0 +1,10 @@
+pub mod Loops
+pub mod Finding
+pub mod Comparisons
+pub mod NamesListed
+pub mod Leading
+pub mod RowPlans
+pub mod GroupPlans
+pub mod DeletionPlans
+pub mod LeftObjectives
+pub mod FirstEdit

@@ -1,0 +1,15 @@
+use Rattle.std.proofs.Common.{◌≡◌, ◌≢◌, sym, subst}
+use Rattle.std.specs.Prelude.{MatchBool}
+use Rattle.model_plans.specs.Plans.{with_part}
+use Rattle.model_plans.proofs.Comparisons.{has_coefficient, has_constant}
+use Rattle.model_plans.proofs.parts.is_value.Goals as goal
+
+pub returns-in-Coefficient : goal.returns-in-Coefficient
+returns-in-Coefficient c =
+    let f = c.args.func.now in
+    subst (λ p. MatchBool c.eq.result (with_part p c.args.value f ≡ f) (with_part p c.args.value f ≢ f)) (sym c.in-Coefficient.is) (has_coefficient f c.in-Coefficient.at c.args.value c.eq.result c.coef.result c.terms.ensures.normal c.coef.ensures c.eq.ensures)
+
+pub returns-in-Constant : goal.returns-in-Constant
+returns-in-Constant c =
+    let f = c.args.func.now in
+    subst (λ p. MatchBool c.eq-in-Constant.result (with_part p c.args.value f ≡ f) (with_part p c.args.value f ≢ f)) (sym c.in-Constant.is) (has_constant f c.args.value c.eq-in-Constant.result c.constant.result c.constant.ensures c.eq-in-Constant.ensures)

@@ -1,0 +1,22 @@
+use Rattle.std.proofs.Common.{◌≡◌, ◌+◌, ◌∷◌, [], Some, arith, refl, ap, ◌∙◌}
+use Rattle.std.proofs.lemmas.Result.{IfOk-weaker}
+use Rattle.user_model.specs.Edited.{edited, located}
+use Rattle.model_catalog.specs.Names.{listed_as}
+use Rattle.model_plans.proofs.Leading.{parts_same}
+use Rattle.model_plans.proofs.RowPlans.{added_leads, next_row}
+use Rattle.model_plans.proofs.rows.add.Goals as goal
+
+pub overflow_add-after : goal.overflow_add-after
+overflow_add-after c =
+    let row = ap (λ k. k.row) c.next-next.ensures in
+    let fits = next_row c.args.model.now.model c.args.name c.args.func.now c.args.set c.requires in
+    omega (arith, row, fits)
+
+pub returns : goal.returns
+unfolding edited
+returns c =
+    let model = c.args.model.now.model in
+    let next = c.next-next.ensures in
+    let func : c.in_ok-located.field-0 ≡ located model c.args.func.now = c.in_ok-located.ensures in
+    let name = c.in_ok-copy.ensures.value in
+    IfOk-weaker c.of_row.result _ _ (λ plan p. added_leads model plan c.args.name (located model c.args.func.now) c.args.set c.requires.consistent (parts_same p [] _ _ [] _ refl (λ i. record { number = (next i).row; content = Some (record { id = (next i).row; name = c.name.view_is i; func = func i; set = c.args.set }) } ∷ []) (λ i. record { group = (next i).group; variable = (next i).variable; row = (next i).row + 1 }) refl (ap (λ l. l ∷ []) c.new-listed.ensures ∙ (λ i. listed_as (next i).row (Some (name i)) ∷ [])))) c.of_row.ensures

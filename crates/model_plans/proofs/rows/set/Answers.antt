@@ -1,0 +1,33 @@
+use Rattle.std.proofs.Common.{◌≡◌, ◌≢◌, ◌∷◌, [], None, Some, refl, sym, ap, subst, ◌∙◌}
+use Rattle.std.specs.Prelude.{MatchBool}
+use Rattle.std.specs.Option.{option_copied}
+use Rattle.std.proofs.lemmas.Option.{none-some}
+use Rattle.std.proofs.lemmas.Result.{IfOk-weaker}
+use Rattle.user_model.specs.declared.edit.Edit.TheVariants as edit
+use Rattle.user_model.specs.Edited.{edited}
+use Rattle.model_plans.specs.Plans.{HasParts}
+use Rattle.model_plans.proofs.Leading.{parts_same}
+use Rattle.model_plans.proofs.Comparisons.{same_sets}
+use Rattle.model_plans.proofs.RowPlans.{row_there, set_new, set_same}
+use Rattle.model_plans.proofs.rows.set.Goals as goal
+
+pub unreachable-requires : goal.unreachable-requires
+unreachable-requires c =
+    let there = row_there c.args.model.now.model (edit.RowSet c.args.row.now c.args.set) c.args.row.now refl c.requires in
+    none-some there.0 (sym (ap option_copied c.in_default.is) ∙ (c.row.ensures ∙ there.1))
+
+pub returns-then-eq : goal.returns-then-eq
+unfolding edited
+returns-then-eq c =
+    let model = c.args.model.now.model in
+    let same = subst (λ b. MatchBool b (c.in-Some.row.now.set ≡ c.args.set) (c.in-Some.row.now.set ≢ c.args.set)) (sym c.eq.ensures ∙ c.if-eq.true) (same_sets c.in-Some.row.now.set c.args.set) in
+    set_same model c.unchanged.result c.requires.consistent c.args.row.now c.in-Some.row.now (sym c.in-Some.ensures) c.args.set same (subst (λ n. HasParts c.unchanged.result [] [] None n [] []) c.next.ensures c.unchanged.ensures)
+
+pub returns : goal.returns
+unfolding edited
+returns c =
+    let model = c.args.model.now.model in
+    let other = subst (λ b. MatchBool b (c.in-Some.row.now.set ≡ c.args.set) (c.in-Some.row.now.set ≢ c.args.set)) (sym c.eq.ensures ∙ c.if-eq.false) (same_sets c.in-Some.row.now.set c.args.set) in
+    let name = c.in_ok-copy.ensures.value in
+    let func : c.in_ok-copy-2.field-0 ≡ c.in-Some.row.now.func = c.in_ok-copy-2.ensures in
+    IfOk-weaker c.of_row.result _ _ (λ plan p. set_new model plan c.requires.consistent c.args.row.now c.in-Some.row.now (sym c.in-Some.ensures) c.args.set other (parts_same p [] _ _ [] [] refl (λ i. record { number = c.in-Some.row.now.id; content = Some (record { id = c.in-Some.row.now.id; name = name i; func = func i; set = c.args.set }) } ∷ []) c.next-2.ensures refl refl)) c.of_row.ensures

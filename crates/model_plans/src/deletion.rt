@@ -1,0 +1,219 @@
+//! What a deleted variable leaves.
+ghost use Rattle.std.specs.Prelude.{◌≡◌, IfOk, Some, filter, not, ◌==◌, map, true};
+ghost use Rattle.std.specs.List.{list_any};
+ghost use Rattle.user_model.specs.Edited.{edited, row_number};
+ghost use Rattle.user_model.specs.Deletion.{group_without, objective_without, row_without, without_term};
+ghost use Rattle.user_model.specs.Model.{has_variable};
+ghost use Rattle.user_model.specs.Sets.{resized};
+ghost use Rattle.user_model.specs.declared.edit.Edit.TheVariants.{DeleteVariable};
+ghost use Rattle.model_laws.specs.Listed.{edits_of};
+ghost use Rattle.model_laws.specs.Mentions.{func_mentions, has_term, row_mentions};
+ghost use Rattle.model_plans.specs.Plans.{Accepts, IsChange, Leads, gone};
+
+use crate::lists::only;
+use crate::plan::Plan;
+use aff_core::{Address, Aff, Root, VecAff};
+use model_catalog::{Catalog, Listed};
+use name_index::Name;
+use numbered::Change;
+use ratio_core::{Memory, Ratio};
+use set_core::Set;
+use std::alloc::Global;
+use user_model::{Group, GroupVar, GroupVars, Objective, Row, UserFunc};
+
+/// The model without a variable. It goes once over the rows, and copies those that mention it, the variable's group, and the
+/// objective where it mentions it.
+pub(crate) fn delete(alloc: Global, model: &Catalog, var: &Name) -> Result<Plan, Memory>
+    requires { Accepts model.now.model (DeleteVariable var.now) }
+    ensures { IfOk result (Leads model.now.model (edited model.now.model (DeleteVariable var.now))) }
+{
+    let Some(number) = model.variable(var) else {
+        unreachable!()
+    };
+    let Some(group) = model.group_of(number) else {
+        unreachable!()
+    };
+    let at = Address::root(Root::Variable, number);
+    let change = Change {
+        number: group.id,
+        content: group_without(alloc, group, number)?,
+    };
+    let listed = only(alloc, Listed::new(number, None))?;
+    let mut plan = Plan::of_group_change(alloc, change, listed, model.next())?;
+    plan.exchange.rows = rows_without(alloc, model.rows(), &at)?;
+    plan.names.rows = gone_rows(alloc, &plan.exchange.rows)?;
+    plan.exchange.objective = objective_without(alloc, model.objective(), &at)?;
+    Ok(plan)
+}
+
+// The rows that mention the variable lose it, or go.
+fn rows_without(alloc: Global, rows: &[Row], at: &Address) -> Result<Vec<Change<Row>>, Memory>
+    ensures { IfOk result (λ changes. changes.items ≡ edits_of row_number (row_without at.now) (row_mentions at.now) rows.now) }
+{
+    let mut changes = Vec::new(alloc);
+    for row in rows {
+        if mentions(&row.func, at) {
+            let content = row_without(alloc, row, at)?;
+            changes.push(Change {
+                number: row.id,
+                content,
+            })?;
+        }
+    }
+    Ok(changes)
+}
+
+// The rows that go, without their names.
+fn gone_rows(alloc: Global, changes: &[Change<Row>]) -> Result<Vec<Listed>, Memory>
+    ensures { IfOk result (λ names. names.items ≡ gone changes.now) }
+{
+    let mut names = Vec::new(alloc);
+    for change in changes {
+        if change.content.is_none() {
+            names.push(Listed::new(change.number, None))?;
+        }
+    }
+    Ok(names)
+}
+
+// Whether the function has the address as a component or in a term.
+fn mentions(func: &UserFunc, at: &Address) -> bool
+    ensures { result ≡ func_mentions at.now func.now }
+{
+    match func {
+        UserFunc::Plain(var) => *at == *var,
+        UserFunc::Affine(f) => f.mentions(at),
+        UserFunc::PlainVec(vars) => vars.contains(at),
+        UserFunc::AffineVec(funcs) => any_mentions(funcs.as_slice(), at),
+    }
+}
+
+fn any_mentions(funcs: &[Aff], at: &Address) -> bool
+    ensures { result ≡ list_any (has_term at.now) funcs.now }
+{
+    funcs.iter().any(|f| f.mentions(at))
+}
+
+// What the variable leaves of a row that mentions it: none where no component is left.
+fn row_without(alloc: Global, row: &Row, at: &Address) -> Result<Option<Row>, Memory>
+    requires { row_mentions at.now row.now ≡ true }
+    ensures { IfOk result (λ left. left ≡ row_without at.now row.now) }
+{
+    match &row.func {
+        UserFunc::Plain(_) => Ok(None),
+        UserFunc::Affine(f) => {
+            let f = f.with_coef(alloc, at, Ratio::zero())?;
+            with_content(row, UserFunc::Affine(f), row.set.copy(alloc)?)
+        }
+        UserFunc::PlainVec(vars) => {
+            let left = vars.without(alloc, at)?;
+            if left.is_empty() {
+                return Ok(None);
+            }
+            let set = resized(alloc, &row.set, left.len())?;
+            with_content(row, UserFunc::PlainVec(left), set)
+        }
+        UserFunc::AffineVec(funcs) => {
+            let left = all_without(alloc, funcs.as_slice(), at)?;
+            let set = row.set.copy(alloc)?;
+            with_content(row, UserFunc::AffineVec(VecAff::from_vec(left)), set)
+        }
+    }
+}
+
+// The row with another function and set.
+fn with_content(row: &Row, func: UserFunc, set: Set) -> Result<Option<Row>, Memory>
+    ensures { IfOk result (λ made. made ≡ Some (record row.now { func = func; set = set })) }
+{
+    Ok(Some(Row {
+        id: row.id,
+        name: row.name.copy()?,
+        func,
+        set,
+    }))
+}
+
+fn all_without(alloc: Global, funcs: &[Aff], at: &Address) -> Result<Vec<Aff>, Memory>
+    ensures { IfOk result (λ left. left.items ≡ map (without_term at.now) funcs.now) }
+{
+    let mut left = Vec::with_capacity(alloc, funcs.len())?;
+    for f in funcs {
+        left.push(f.with_coef(alloc, at, Ratio::zero())?)?;
+    }
+    Ok(left)
+}
+
+// The set of the same type for so many components; a scalar set stays. More components than a dimension counts find no memory.
+fn resized(alloc: Global, set: &Set, components: usize) -> Result<Set, Memory>
+    ensures { IfOk result (λ other. other ≡ resized components set.now) }
+{
+    let Ok(dimension) = u32::try_from(components) else {
+        return Err(Memory);
+    };
+    match set {
+        Set::Reals { .. } => Ok(Set::Reals { dimension }),
+        Set::Zeros { .. } => Ok(Set::Zeros { dimension }),
+        Set::Nonnegatives { .. } => Ok(Set::Nonnegatives { dimension }),
+        Set::Nonpositives { .. } => Ok(Set::Nonpositives { dimension }),
+        Set::NormInfinityCone { .. } => Ok(Set::NormInfinityCone { dimension }),
+        Set::NormOneCone { .. } => Ok(Set::NormOneCone { dimension }),
+        _ => set.copy(alloc),
+    }
+}
+
+// The group without the variable, and none where it was the only one.
+fn group_without(alloc: Global, group: &Group, number: u32) -> Result<Option<Group>, Memory>
+    requires { has_variable number group.now ≡ true }
+    ensures { IfOk result (λ left. left ≡ group_without number group.now) }
+{
+    let vars = other_vars(alloc, group.vars.as_slice(), number)?;
+    if vars.is_empty() {
+        return Ok(None);
+    }
+    let set = resized(alloc, &group.set, vars.len())?;
+    Ok(Some(Group {
+        id: group.id,
+        vars: GroupVars::from_vec(vars),
+        set,
+    }))
+}
+
+fn other_vars(alloc: Global, vars: &[GroupVar], number: u32) -> Result<Vec<GroupVar>, Memory>
+    ensures { IfOk result (λ left. left.items ≡ filter (λ v. not (v.number == number)) vars.now) }
+{
+    let mut left = Vec::with_capacity(alloc, vars.len())?;
+    for var in vars {
+        if var.number != number {
+            left.push(var.copy()?)?;
+        }
+    }
+    Ok(left)
+}
+
+// The objective without the variable, and none where it doesn't mention it.
+fn objective_without(
+    alloc: Global,
+    objective: &Objective,
+    at: &Address,
+) -> Result<Option<Objective>, Memory>
+    ensures { IfOk result (IsChange objective.now (objective_without at.now objective.now)) }
+{
+    match objective {
+        Objective::Feasibility => Ok(None),
+        Objective::Plain { var, .. } => {
+            if *at != *var {
+                return Ok(None);
+            }
+            Ok(Some(Objective::Feasibility))
+        }
+        Objective::Affine { sense, func } => {
+            if !func.mentions(at) {
+                return Ok(None);
+            }
+            Ok(Some(Objective::Affine {
+                sense: *sense,
+                func: func.with_coef(alloc, at, Ratio::zero())?,
+            }))
+        }
+    }
+}

@@ -1,0 +1,154 @@
+//! Plans of the edits of one group.
+ghost use Rattle.std.specs.Prelude.{◌≡◌, ◌+◌, ◌<◌, ◌^◌, IfOk, IsSome, length, map};
+ghost use Rattle.user_model.specs.Edited.{change_group, edited, numbered_from, renamed, with_variable};
+ghost use Rattle.user_model.specs.Consistent.{IsConsistent};
+ghost use Rattle.user_model.specs.Model.{variable_named};
+ghost use Rattle.user_model.specs.declared.edit.Edit.TheVariants.{AddGroup, FreeGroup, RenameVariable, Reset};
+ghost use Rattle.model_plans.specs.Plans.{Accepts, Leads, listed_variables};
+
+use crate::lists::only;
+use crate::plan::Plan;
+use model_catalog::{Catalog, Listed};
+use name_index::{Name, Names};
+use ratio_core::Memory;
+use set_core::Set;
+use std::alloc::Global;
+use user_model::{Group, GroupVar, GroupVars, Numbers};
+
+/// A new group. Each name is copied into the group and into the listing.
+pub(crate) fn add(alloc: Global, model: &Catalog, names: &Names, set: Set) -> Result<Plan, Memory>
+    requires { Accepts model.now.model (AddGroup names.now set) }
+    ensures { IfOk result (Leads model.now.model (edited model.now.model (AddGroup names.now set))) }
+{
+    let next = model.next();
+    let vars = numbered_vars(alloc, names, next.variable)?;
+    let listed = listed_vars(alloc, &vars)?;
+    let after = Numbers {
+        group: next.group + 1,
+        variable: next.variable + names.len() as u32,
+        row: next.row,
+    };
+    let group = Group {
+        id: next.group,
+        vars: GroupVars::from_vec(vars),
+        set,
+    };
+    Plan::of_group(alloc, group, listed, after)
+}
+
+// The variables with these names, numbered from the first on.
+fn numbered_vars(alloc: Global, names: &Names, first: u32) -> Result<Vec<GroupVar>, Memory>
+    requires { first + length names.now < 2 ^ 32 }
+    ensures { IfOk result (λ vars. vars.items ≡ numbered_from first names.now) }
+{
+    let mut vars = Vec::with_capacity(alloc, names.len())?;
+    for place in 0..names.len() {
+        let Some(name) = names.get(place) else {
+            unreachable!()
+        };
+        let number = first + place as u32;
+        vars.push(GroupVar {
+            number,
+            name: name.copy()?,
+        })?;
+    }
+    Ok(vars)
+}
+
+// The variables with their names.
+fn listed_vars(alloc: Global, vars: &[GroupVar]) -> Result<Vec<Listed>, Memory>
+    ensures { IfOk result (λ names. names.items ≡ listed_variables vars.now) }
+{
+    let mut names = Vec::with_capacity(alloc, vars.len())?;
+    for var in vars {
+        names.push(Listed::new(var.number, Some(var.name.copy()?)))?;
+    }
+    Ok(names)
+}
+
+/// Another creation set of a group of one variable. It copies the group, or nothing where the set stays.
+#[tactic(auto, unfolding(user_model::specs::Edited::edited))]
+pub(crate) fn reset(alloc: Global, model: &Catalog, var: &Name, set: Set) -> Result<Plan, Memory>
+    requires { Accepts model.now.model (Reset var.now set) }
+    ensures { IfOk result (Leads model.now.model (edited model.now.model (Reset var.now set))) }
+{
+    with_set(alloc, model, var, set)
+}
+
+/// A group of one variable becomes free. It copies the group, or nothing where it is free.
+#[tactic(auto, unfolding(user_model::specs::Edited::edited))]
+pub(crate) fn free(alloc: Global, model: &Catalog, var: &Name) -> Result<Plan, Memory>
+    requires { Accepts model.now.model (FreeGroup var.now) }
+    ensures { IfOk result (Leads model.now.model (edited model.now.model (FreeGroup var.now))) }
+{
+    with_set(alloc, model, var, Set::Reals { dimension: 1 })
+}
+
+// Another set of the group of a variable.
+fn with_set(alloc: Global, model: &Catalog, var: &Name, set: Set) -> Result<Plan, Memory>
+    requires consistent { IsConsistent model.now.model }
+    requires there { IsSome (variable_named model.now.model var.now) }
+    ensures { IfOk result (Leads model.now.model (with_variable model.now.model var.now (λ n. change_group model.now.model n (λ g. record g { set = set })))) }
+{
+    let Some(number) = model.variable(var) else {
+        unreachable!()
+    };
+    let Some(group) = model.group_of(number) else {
+        unreachable!()
+    };
+    if group.set == set {
+        return Ok(Plan::unchanged(alloc, model.next()));
+    }
+    let mut group = group.copy(alloc)?;
+    group.set = set;
+    Plan::of_group(alloc, group, Vec::new(alloc), model.next())
+}
+
+/// Another name of a variable. It copies the variable's group.
+pub(crate) fn rename(alloc: Global, model: &Catalog, old: &Name, new: Name) -> Result<Plan, Memory>
+    requires { Accepts model.now.model (RenameVariable old.now new) }
+    ensures { IfOk result (Leads model.now.model (edited model.now.model (RenameVariable old.now new))) }
+{
+    let Some(number) = model.variable(old) else {
+        unreachable!()
+    };
+    let Some(group) = model.group_of(number) else {
+        unreachable!()
+    };
+    let vars = renamed_vars(alloc, group.vars.as_slice(), number, &new)?;
+    let group = Group {
+        id: group.id,
+        vars: GroupVars::from_vec(vars),
+        set: group.set.copy(alloc)?,
+    };
+    let listed = only(alloc, Listed::new(number, Some(new)))?;
+    Plan::of_group(alloc, group, listed, model.next())
+}
+
+// The variables, of which the one with the number has the new name.
+fn renamed_vars(
+    alloc: Global,
+    vars: &[GroupVar],
+    number: u32,
+    new: &Name,
+) -> Result<Vec<GroupVar>, Memory>
+    ensures { IfOk result (λ copies. copies.items ≡ map (renamed number new.now) vars.now) }
+{
+    let mut copies = Vec::with_capacity(alloc, vars.len())?;
+    for var in vars {
+        copies.push(renamed_var(var, number, new)?)?;
+    }
+    Ok(copies)
+}
+
+fn renamed_var(var: &GroupVar, number: u32, new: &Name) -> Result<GroupVar, Memory>
+    ensures { IfOk result (λ copy. copy ≡ renamed number new.now var.now) }
+{
+    if var.number != number {
+        return var.copy();
+    }
+    Ok(GroupVar {
+        number,
+        name: new.copy()?,
+    })
+}

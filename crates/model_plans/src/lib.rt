@@ -1,0 +1,16 @@
+//! What an accepted edit is to make of the user's model, worked out before anything changes.
+#![tactic(auto)]
+
+mod deletion;
+mod groups;
+mod lists;
+mod located;
+mod objective;
+mod parts;
+mod plan;
+mod rows;
+
+pub use plan::{Plan, planned};
+
+#[cfg(test)]
+mod tests;

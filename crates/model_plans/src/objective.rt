@@ -1,0 +1,117 @@
+//! Plans of the edits of the objective.
+ghost use Rattle.std.specs.Prelude.{◌≡◌, ◌≢◌, IfOk, MatchBool, true};
+ghost use Rattle.user_model.specs.Edited.{edited, objective_of, on_objective};
+ghost use Rattle.user_model.specs.Refusals.{is_affine_objective};
+ghost use Rattle.user_model.specs.declared.edit.Edit.TheVariants as edit;
+ghost use Rattle.model_plans.specs.Plans.{Accepts, Leads, with_part};
+
+use crate::located::{address_named, affine};
+use crate::parts::{Part, replaced};
+use crate::plan::Plan;
+use model_catalog::Catalog;
+use name_index::Name;
+use ratio_core::{Memory, Ratio};
+use std::alloc::Global;
+use user_model::{NamedFunc, Objective, Sense};
+
+/// The objective of a scalar function, which is made anew over the addresses of its variables.
+#[tactic(auto, unfolding(user_model::specs::Edited::edited))]
+pub(crate) fn set(
+    alloc: Global,
+    model: &Catalog,
+    sense: Sense,
+    func: &NamedFunc,
+) -> Result<Plan, Memory>
+    ensures { IfOk result (Leads model.now.model (edited model.now.model (edit.Objective sense func.now))) }
+{
+    let objective = objective_of(alloc, model, sense, func)?;
+    Ok(with_objective(alloc, model, objective))
+}
+
+fn objective_of(
+    alloc: Global,
+    model: &Catalog,
+    sense: Sense,
+    func: &NamedFunc,
+) -> Result<Objective, Memory>
+    ensures { IfOk result (λ objective. objective ≡ objective_of model.now.model sense func.now) }
+{
+    Ok(match func {
+        NamedFunc::Plain(var) => Objective::Plain {
+            sense,
+            var: address_named(model, var),
+        },
+        NamedFunc::Affine(func) => Objective::Affine {
+            sense,
+            func: affine(alloc, model, func)?,
+        },
+        NamedFunc::PlainVec(_) | NamedFunc::AffineVec(_) => Objective::Feasibility,
+    })
+}
+
+/// No objective. Nothing is copied.
+#[tactic(auto, unfolding(user_model::specs::Edited::edited))]
+pub(crate) fn feasibility(alloc: Global, model: &Catalog) -> Plan
+    ensures { Leads model.now.model (edited model.now.model edit.Feasibility) result }
+{
+    with_objective(alloc, model, Objective::Feasibility)
+}
+
+fn with_objective(alloc: Global, model: &Catalog, objective: Objective) -> Plan
+    ensures { Leads model.now.model (record model.now.model { objective = objective }) result }
+{
+    if same_objective(model.objective(), &objective) {
+        return Plan::unchanged(alloc, model.next());
+    }
+    Plan::of_objective(alloc, Some(objective), model.next())
+}
+
+// Whether two objectives are the same.
+fn same_objective(one: &Objective, other: &Objective) -> bool
+    ensures { MatchBool result (one.now ≡ other.now) (other.now ≢ one.now) }
+{
+    match (one, other) {
+        (Objective::Feasibility, Objective::Feasibility) => true,
+        (Objective::Plain { sense, var }, Objective::Plain { sense: s, var: v }) => {
+            *sense == *s && *var == *v
+        }
+        (Objective::Affine { sense, func }, Objective::Affine { sense: s, func: f }) => {
+            *sense == *s && *func == *f
+        }
+        _ => false,
+    }
+}
+
+/// Another coefficient of the affine objective. It copies the function, or nothing where the coefficient stays.
+#[tactic(auto, unfolding(user_model::specs::Edited::edited))]
+pub(crate) fn coef(alloc: Global, model: &Catalog, var: &Name, value: Ratio) -> Result<Plan, Memory>
+    requires { Accepts model.now.model (edit.ObjCoef var.now value) }
+    ensures { IfOk result (Leads model.now.model (edited model.now.model (edit.ObjCoef var.now value))) }
+{
+    let part = Part::Coefficient(address_named(model, var));
+    with_part_of(alloc, model, &part, value)
+}
+
+/// Another constant of the affine objective. It copies the function, or nothing where the constant stays.
+#[tactic(auto, unfolding(user_model::specs::Edited::edited))]
+pub(crate) fn constant(alloc: Global, model: &Catalog, value: Ratio) -> Result<Plan, Memory>
+    requires { Accepts model.now.model (edit.ObjConstant value) }
+    ensures { IfOk result (Leads model.now.model (edited model.now.model (edit.ObjConstant value))) }
+{
+    with_part_of(alloc, model, &Part::Constant, value)
+}
+
+fn with_part_of(alloc: Global, model: &Catalog, part: &Part, value: Ratio) -> Result<Plan, Memory>
+    requires { is_affine_objective model.now.model.objective ≡ true }
+    ensures { IfOk result (Leads model.now.model (record model.now.model { objective = on_objective (with_part part.now value) model.now.model.objective })) }
+{
+    let Objective::Affine { sense, func } = model.objective() else {
+        unreachable!()
+    };
+    let sense = *sense;
+    let objective = replaced(alloc, func, part, value)?.map(|func| Objective::Affine {
+        sense,
+        func,
+    });
+    Ok(Plan::of_objective(alloc, objective, model.next()))
+}

@@ -1,0 +1,148 @@
+//! What an accepted edit is to make of the model, as an exchange of contents.
+ghost use Rattle.std.specs.Prelude.{◌≡◌, ◌∷◌, [], IfOk, None};
+ghost use Rattle.std.specs.Option.{option_to_list};
+ghost use Rattle.user_model.specs.Edited.{edited, group_number, row_number};
+ghost use Rattle.model_laws.specs.Listed.{set_to};
+ghost use Rattle.model_plans.specs.Plans.{Accepts, HasParts, Leads};
+
+use crate::lists::only;
+use crate::{deletion, groups, objective, rows};
+use model_catalog::{Catalog, Exchange, Listed, Listing};
+use numbered::Change;
+use ratio_core::Memory;
+use std::alloc::Global;
+use user_model::{Edit, Group, Numbers, Objective, Row};
+
+/// What is to stand in the model, each content other than what stands there, and the names that change.
+#[derive(Drop)]
+pub struct Plan {
+    pub exchange: Exchange,
+    pub names: Listing,
+}
+
+impl Plan {
+    /// Nothing changes.
+    pub(crate) fn unchanged(alloc: Global, next: Numbers) -> Plan
+        ensures { HasParts result [] [] None next [] [] }
+    {
+        Plan::of_objective(alloc, None, next)
+    }
+
+    /// Nothing changes but the objective, where one is given.
+    pub(crate) fn of_objective(alloc: Global, objective: Option<Objective>, next: Numbers) -> Plan
+        ensures { HasParts result [] [] objective next [] [] }
+    {
+        Plan {
+            exchange: Exchange {
+                groups: Vec::new(alloc),
+                rows: Vec::new(alloc),
+                objective,
+                next,
+            },
+            names: Listing {
+                group: 0,
+                variables: Vec::new(alloc),
+                rows: Vec::new(alloc),
+            },
+        }
+    }
+
+    /// A row is to stand at its number, and its name changes, where one is listed.
+    pub(crate) fn of_row(
+        alloc: Global,
+        row: Row,
+        name: Option<Listed>,
+        next: Numbers,
+    ) -> Result<Plan, Memory>
+        ensures { IfOk result (λ plan. HasParts plan [] (set_to row_number row ∷ []) None next [] (option_to_list name)) }
+    {
+        let change = Change {
+            number: row.id,
+            content: Some(row),
+        };
+        Plan::of_row_change(alloc, change, name, next)
+    }
+
+    /// One row changes, and its name, where one is listed.
+    pub(crate) fn of_row_change(
+        alloc: Global,
+        change: Change<Row>,
+        name: Option<Listed>,
+        next: Numbers,
+    ) -> Result<Plan, Memory>
+        ensures { IfOk result (λ plan. HasParts plan [] (change ∷ []) None next [] (option_to_list name)) }
+    {
+        let mut plan = Plan::unchanged(alloc, next);
+        plan.exchange.rows = only(alloc, change)?;
+        if let Some(listed) = name {
+            plan.names.rows = only(alloc, listed)?;
+        }
+        Ok(plan)
+    }
+
+    /// A group is to stand at its number, and the names of its variables that are listed change.
+    pub(crate) fn of_group(
+        alloc: Global,
+        group: Group,
+        variables: Vec<Listed>,
+        next: Numbers,
+    ) -> Result<Plan, Memory>
+        ensures { IfOk result (λ plan. HasParts plan (set_to group_number group ∷ []) [] None next variables.items [] × (plan.names.group ≡ group.id)) }
+    {
+        let change = Change {
+            number: group.id,
+            content: Some(group),
+        };
+        Plan::of_group_change(alloc, change, variables, next)
+    }
+
+    /// One group changes, and the names of its variables that are listed.
+    pub(crate) fn of_group_change(
+        alloc: Global,
+        change: Change<Group>,
+        variables: Vec<Listed>,
+        next: Numbers,
+    ) -> Result<Plan, Memory>
+        ensures { IfOk result (λ plan. HasParts plan (change ∷ []) [] None next variables.items [] × (plan.names.group ≡ change.number)) }
+    {
+        let mut plan = Plan::unchanged(alloc, next);
+        plan.names.group = change.number;
+        plan.names.variables = variables;
+        plan.exchange.groups = only(alloc, change)?;
+        Ok(plan)
+    }
+}
+
+/// The plan of an edit that is not refused. It fails for want of memory alone. Only the row, the group or the objective that
+/// changes is copied, and the deletion of a variable goes once over the rows. What stays as it is, is in no plan.
+pub fn planned(alloc: Global, model: &Catalog, edit: Edit) -> Result<Plan, Memory>
+    requires { Accepts model.now.model edit }
+    ensures { IfOk result (Leads model.now.model (edited model.now.model edit)) }
+{
+    match edit {
+        Edit::AddGroup { names, set } => groups::add(alloc, model, &names, set),
+        Edit::AddRow { name, func, set } => rows::add(alloc, model, name, &func, set),
+        Edit::Objective { sense, func } => objective::set(alloc, model, sense, &func),
+        Edit::Feasibility => Ok(objective::feasibility(alloc, model)),
+        Edit::Coef { row, var, value } => rows::coef(alloc, model, &row, &var, value),
+        Edit::VecCoef {
+            row,
+            output,
+            var,
+            value,
+        } => { rows::vec_coef(alloc, model, &row, output, &var, value) }
+        Edit::ObjCoef { var, value } => objective::coef(alloc, model, &var, value),
+        Edit::Constant { row, value } => rows::constant(alloc, model, &row, value),
+        Edit::VecConstant { row, output, value } => {
+            rows::vec_constant(alloc, model, &row, output, value)
+        }
+        Edit::ObjConstant { value } => objective::constant(alloc, model, value),
+        Edit::RowSet { row, set } => rows::set(alloc, model, &row, set),
+        Edit::Reset { var, set } => groups::reset(alloc, model, &var, set),
+        Edit::FreeGroup { var } => groups::free(alloc, model, &var),
+        Edit::DeleteVariable { var } => deletion::delete(alloc, model, &var),
+        Edit::DeleteRow { row } => rows::delete(alloc, model, &row),
+        Edit::RenameVariable { old, new } => groups::rename(alloc, model, &old, new),
+        Edit::RenameRow { old, new } => rows::rename(alloc, model, &old, new),
+    }
+}

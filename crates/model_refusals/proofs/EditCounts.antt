@@ -1,0 +1,84 @@
+-- The counts of an edit that adds a function, and how its first refusal follows from those of its parts.
+use Rattle.std.specs.Prelude.{◌≡◌, ℕ, zero, suc, ◌+◌, ◌-◌, ◌≤◌, ◌<◌, ◌==◌, ◌||◌, nat_lt, true, false, List, [], ◌∷◌, ◌++◌, length, sum, Option, Some, None, is_some, refl}
+use Rattle.std.specs.Option.{option_map_or}
+use Rattle.std.proofs.Common.{arith, ltb-false, sym, ap, ◌∙◌}
+use Rattle.std.proofs.lemmas.Bool.{both_ways, false≢true, or_parts}
+use Rattle.aff_core.specs.Function.{Function}
+use Rattle.named_aff.specs.declared.aff.NamedAff.{NamedAff}
+use Rattle.set_core.specs.declared.set.Set.{Set}
+use Rattle.user_model.specs.declared.edit.Edit.TheVariants as edit
+use Rattle.user_model.specs.declared.edit.NamedFunc.{NamedFunc}
+use Rattle.user_model.specs.declared.edit.NamedFunc.TheVariants as named
+use Rattle.user_model.specs.declared.objective.Objective.TheVariants as objective
+use Rattle.user_model.specs.declared.objective.Sense.{Sense}
+use Rattle.user_model.specs.declared.function.UserFunc.TheVariants.{AffineVec}
+use Rattle.user_model.specs.declared.refusal.Refusal.{Refusal}
+use Rattle.user_model.specs.declared.row.Row.{Row}
+use Rattle.user_model.specs.Edited.{affine, edited, located, objective_of}
+use Rattle.user_model.specs.Functions.{all_terms, components, named_components, term_count, term_counts}
+use Rattle.user_model.specs.Limits.{ALL_TERMS, COMPONENTS, LAST_NUMBER, ROWS, TERMS}
+use Rattle.user_model.specs.Model.{UserModel, objective_terms, row_named, total_terms}
+use Rattle.user_model.specs.Refusals.{counts, row_is, terms_of_objective, within}
+use Rattle.model_refusals.proofs.Counting.{not_above}
+use Rattle.model_refusals.proofs.Firsts.{first_found, first_full, first_later, first_within}
+use Rattle.model_refusals.specs.WellFormed.{with_change}
+use Rattle.model_refusals.proofs.Totals.{total-add_row, total-objective}
+
+-- where one of the first passes, it is the first of all
+pub first_some : (xs ys : List (ℕ × ℕ)) → is_some (first_full xs) ≡ true → first_full xs ≡ first_full (xs ++ ys)
+first_some xs ys e = by (first_full xs) refl e
+  where
+    by : (o : Option Refusal) → first_full xs ≡ o → is_some o ≡ true → first_full xs ≡ first_full (xs ++ ys)
+    by None is e = absurd (both_ways (is_some {T = Refusal} None) refl e)
+    by (Some r) is e = is ∙ sym (first_found xs ys r is)
+
+pub first_none : {X : Type 0} (o : Option X) → is_some o ≡ false → o ≡ None
+first_none None e = refl
+first_none (Some x) e = cc
+
+-- an output that is not refused is one of the row's
+in_range : (output n : ℕ) → ((output == 0) || nat_lt n output) ≡ false → output - 1 < n
+in_range zero n e = absurd (false≢true (sym e))
+in_range (suc k) n e =
+    let parts = or_parts (suc k == 0) (nat_lt n (suc k)) e in
+    let le = ltb-false n (suc k) parts.1 in
+    omega arith
+
+pub output_there : (model : UserModel) (name : List ℕ) (row : Row) (fs : List Function) (output : ℕ) → row_named model name ≡ Some row → row.func ≡ AffineVec fs → row_is (λ r. (output == 0) || nat_lt (components r.func) output) model name ≡ false → output - 1 < length fs
+output_there model name row fs output found affine_row e =
+    in_range output (length fs) (sym (ap (λ func. (output == 0) || nat_lt (components func) output) affine_row) ∙ (sym (ap (λ o. option_map_or (λ r. (output == 0) || nat_lt (components r.func) output) o false) found) ∙ e))
+
+module _ (model : UserModel) where
+  module _ (name : List ℕ) (func : NamedFunc) (set : Set) (few : named_components func ≤ COMPONENTS) where
+    abbrev others : ℕ → List (ℕ × ℕ)
+    others total = (length model.rows + 1, ROWS) ∷ (total, ALL_TERMS) ∷ (model.next.row, LAST_NUMBER) ∷ []
+
+    abbrev of_terms : List (ℕ × ℕ)
+    of_terms = within TERMS (term_counts (located model func))
+
+    row_counts : first_full (counts model (edit.AddRow name func set)) ≡ first_full (of_terms ++ others (total_terms model + all_terms (located model func)))
+    row_counts =
+        first_within (named_components func) COMPONENTS (of_terms ++ others (total_terms (edited model (edit.AddRow name func set)))) (not_above COMPONENTS (named_components func) few)
+        ∙ ap (λ n. first_full (of_terms ++ others n)) (total-add_row model name func set)
+
+    -- a component has too many terms
+    pub row_refused : (r : Refusal) → first_full of_terms ≡ Some r → Some r ≡ first_full (counts model (edit.AddRow name func set))
+    row_refused r e = sym (row_counts ∙ first_found of_terms (others (total_terms model + all_terms (located model func))) r e)
+
+    pub row_counted : (terms : ℕ) → first_full of_terms ≡ None → terms ≡ sum (term_counts (located model func)) → first_full (others (total_terms model + terms)) ≡ first_full (counts model (edit.AddRow name func set))
+    row_counted terms none is =
+        ap (λ n. first_full (others (total_terms model + n))) is ∙ sym (row_counts ∙ first_later of_terms (others (total_terms model + all_terms (located model func))) none)
+
+  pub objective_counts : (sense : Sense) (f : NamedAff) → counts model (edit.Objective sense (named.Affine f)) ≡ with_change (total_terms model) (objective_terms model.objective) (term_count (affine model f))
+  unfolding edited
+  objective_counts sense f = ap (λ n. (term_count (affine model f), TERMS) ∷ (n, ALL_TERMS) ∷ []) (total-objective model (objective.Affine sense (affine model f)))
+
+  -- an objective with no terms
+  pub plain_objective_counts : (sense : Sense) (var : List ℕ) → counts model (edit.Objective sense (named.Plain var)) ≡ (total_terms model - objective_terms model.objective + 0, ALL_TERMS) ∷ []
+  unfolding edited
+  plain_objective_counts sense var = ap (λ n. (n, ALL_TERMS) ∷ []) (total-objective model (objective_of model sense (named.Plain var)))
+
+  pub no_objective_counts : (sense : Sense) (func : NamedFunc) → objective_of model sense func ≡ objective.Feasibility → counts model (edit.Objective sense func) ≡ (total_terms model - objective_terms model.objective + 0, ALL_TERMS) ∷ []
+  unfolding edited
+  no_objective_counts sense func e =
+      ap (λ o. within TERMS (terms_of_objective o) ++ (total_terms (record model { objective = o }), ALL_TERMS) ∷ []) e ∙ ap (λ n. (n, ALL_TERMS) ∷ []) (total-objective model objective.Feasibility)

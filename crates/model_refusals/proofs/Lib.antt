@@ -1,0 +1,12 @@
+-- Lemmas that proofs cite.
+pub mod SeenNames
+pub mod Walks
+pub mod Firsts
+pub mod Inserted
+pub mod MarkLemmas
+pub mod NamedTerms
+pub mod ChangedTerms
+pub mod Totals
+pub mod Counting
+pub mod ZeroTests
+pub mod EditCounts

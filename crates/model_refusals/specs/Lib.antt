@@ -1,0 +1,4 @@
+-- What the contracts cite.
+pub mod Hash
+pub mod Marked
+pub mod WellFormed

@@ -1,0 +1,35 @@
+use Rattle.std.proofs.Common.{sym, ap, subst, ◌∙◌}
+use Rattle.user_model.specs.Consistent.{IsConsistent, IsWithinLimits}
+use Rattle.user_model.specs.Edited.{edited}
+use Rattle.user_model.specs.Undone.{IsUndo}
+use Rattle.model_laws.specs.KeptConsistent.{kept_consistent}
+use Rattle.model_laws.specs.KeptWithin.{kept_within}
+use Rattle.model_catalog.specs.Exchange.{exchanged}
+use Rattle.model_plans.specs.Plans.{Leads}
+use Rattle.model_plans.specs.Undos.{undo_left}
+use Rattle.model_store.proofs.store.UserModel.apply.Goals as goal
+
+pub planned-requires : goal.planned-requires
+planned-requires c = record {
+  consistent = c.groups.ensures.consistent;
+  within = c.groups.ensures.within;
+  accepted = sym c.first_refusal.ensures ∙ c.in_default.is;
+}
+
+pub park-undo-requires-clause-consistent : goal.park-undo-requires-clause-consistent
+park-undo-requires-clause-consistent c =
+    let model = c.self.inside.catalog.model in
+    let leads : Leads model (edited model c.args.edit) c.in-Ok.plan = c.in-Ok.ensures in
+    subst IsConsistent (sym (ap (exchanged c.in-Ok.plan.exchange) c.reserve.ensures.model ∙ leads.after)) (kept_consistent model c.args.edit c.groups.ensures.consistent (sym c.first_refusal.ensures ∙ c.in_default.is))
+
+pub park-undo-requires-clause-within : goal.park-undo-requires-clause-within
+park-undo-requires-clause-within c =
+    let model = c.self.inside.catalog.model in
+    let leads : Leads model (edited model c.args.edit) c.in-Ok.plan = c.in-Ok.ensures in
+    subst IsWithinLimits (sym (ap (exchanged c.in-Ok.plan.exchange) c.reserve.ensures.model ∙ leads.after)) (kept_within model c.args.edit c.groups.ensures.consistent c.groups.ensures.within (sym c.first_refusal.ensures ∙ c.in_default.is))
+
+pub returns-clause-undo : goal.returns-clause-undo
+returns-clause-undo c =
+    let model = c.self.inside.catalog.model in
+    let leads : Leads model (edited model c.args.edit) c.in-Ok.plan = c.in-Ok.ensures in
+    subst (λ s. IsUndo s.model c.park-undo.new.catalog.model c.park-undo.result) c.self.view_is (undo_left model (edited model c.args.edit) c.reserve.new.catalog.model c.park-undo.new.catalog.model c.in-Ok.plan c.park-undo.result leads c.reserve.ensures.model c.park-undo.ensures.model c.park-undo.ensures.undo)

@@ -1,0 +1,5 @@
+-- What other crates cite.
+pub mod Store
+pub mod Rooms
+pub mod Parking
+pub mod SameUpToNumbers

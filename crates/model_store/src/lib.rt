@@ -1,0 +1,16 @@
+//! The user's model: every edit, every refusal in order, and taking back.
+#![tactic(auto)]
+
+mod parked;
+mod parking;
+mod store;
+
+pub use parked::Parked;
+pub use store::UserModel;
+pub use user_model::{
+    ApplyFault, Edit, Group, GroupVar, GroupVars, NamedFunc, Numbers, Objective, OldGroups,
+    OldRows, Refusal, Row, Sense, Undo, UserFunc,
+};
+
+#[cfg(test)]
+mod tests;

@@ -1,0 +1,4 @@
+mod edits;
+mod models;
+mod refused;
+mod taken_back;
