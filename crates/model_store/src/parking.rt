@@ -31,7 +31,8 @@ pub(crate) struct Reserved {
     pub(crate) rows: usize,
 }
 
-/// Makes room for a plan, for its undo, and for the entry of that.
+/// Makes room for a plan, for its undo, and for the entry of that: for the plan's own names beside those that the undos put back,
+/// its own among them.
 pub(crate) fn reserve(
     catalog: &mut Catalog,
     parked: &mut Vec<Parked>,

@@ -119,7 +119,10 @@ impl UserModel {
         }
     }
 
-    /// Makes an edit, and gives what leads back from it. Where it is refused, or memory is short, everything is as it was.
+    /// Makes an edit, and gives what leads back from it: `take_back` or `settle` is to have it.
+    ///
+    /// It is refused with the first refusal in their order. `Memory` comes after all of these, and before anything changes:
+    /// whatever isn't made leaves everything as it was.
     pub fn apply(&mut self, edit: Edit) -> Result<Undo, ApplyFault>
         ensures ok { IfOk result (λ undo. refusals.first_refusal self.old.model edit ≡ None) }
         ensures model { IfOk result (λ undo. self.new.model ≡ edited self.old.model edit) }
@@ -133,6 +136,7 @@ impl UserModel {
         if let Some(refusal) = first_refusal(&self.catalog, &edit) {
             return Err(ApplyFault::Refused(refusal));
         }
+        // The plan asks for a consistent model within its limits, and the reader says that the kept one is. It costs nothing.
         let _ = self.catalog.groups();
         let Ok(plan) = planned(self.alloc, &self.catalog, edit) else {
             return Err(ApplyFault::Memory);
@@ -151,7 +155,7 @@ impl UserModel {
         Ok(undo)
     }
 
-    /// Takes the last edit back, whose undo this is. It takes no memory.
+    /// Takes the last edit back that was not yet taken back or settled, whose undo this is. It takes no memory.
     pub fn take_back(&mut self, undo: Undo)
         requires last { (others : List Parked) × HasParked others self.old.parked self.old.model undo }
         requires edit { LeadsTo (before self.old.model undo) self.old.model }
@@ -162,7 +166,7 @@ impl UserModel {
         self.catalog.exchange(&mut Exchange::from(undo), &mut names);
     }
 
-    /// Lets the last edit stand for good, whose undo this is.
+    /// Lets the last edit that was not yet taken back or settled stand for good, whose undo this is.
     pub fn settle(&mut self, undo: Undo)
         requires { (others : List Parked) × HasParked others self.old.parked self.old.model undo }
         ensures model { self.new.model ≡ self.old.model }
