@@ -18,4 +18,6 @@ pub use by_address::{ByAddress, Exprs, Point};
 pub use fault::AffFault;
 pub use root::Root;
 pub use sequence::{Addresses, Affs, Ratios, Sequence, VecAff};
-pub use terms::rise_strictly;
+pub use terms::{
+    gathered_terms, negated_terms, nonzero_terms, rise_strictly, scaled_terms, summed_terms,
+};

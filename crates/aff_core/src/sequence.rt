@@ -113,7 +113,7 @@ impl Sequence<Aff> {
     {
         let mut copies = Vec::with_capacity(alloc, self.len())?;
         for f in self.as_slice() {
-            copies.push(f.copy(alloc)?)?;
+            copies.push(f.copy()?)?;
         }
         Ok(Sequence::from_vec(copies))
     }
