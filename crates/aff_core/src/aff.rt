@@ -10,6 +10,7 @@ ghost use Rattle.aff_core.specs.Terms.{HaveNoZero};
 
 use crate::Address;
 use crate::terms::{gathered_terms, negated_terms, nonzero_terms};
+use lists::Duplicate;
 use ratio_core::{Memory, Ratio};
 use std::alloc::Global;
 use std::marker::Model;
@@ -133,12 +134,6 @@ impl Aff {
         self.constant
     }
 
-    pub fn copy(&self) -> Result<Aff, Memory>
-        ensures { IfOk result (λ f. f ≡ self.now) }
-    {
-        self.with_constant(self.constant())
-    }
-
     /// The function with another constant.
     pub fn with_constant(&self, constant: Ratio) -> Result<Aff, Memory>
         ensures { IfOk result (λ f. f ≡ record self.now { constant = constant }) }
@@ -165,6 +160,12 @@ impl Aff {
     {
         self.terms()
             .binary_search_by(|(address, _)| address.cmp(at))
+    }
+}
+
+impl Duplicate for Aff {
+    fn copy(&self) -> Result<Aff, Memory> {
+        self.with_constant(self.constant())
     }
 }
 

@@ -16,8 +16,10 @@ pub use address::Address;
 pub use aff::Aff;
 pub use by_address::{ByAddress, Exprs, Point};
 pub use fault::AffFault;
+pub use lists::Sequence;
+pub use ratio_core::Ratios;
 pub use root::Root;
-pub use sequence::{Addresses, Affs, Ratios, Sequence, VecAff};
+pub use sequence::{Addresses, Affs, VecAff, has_address, without_address};
 pub use terms::{
     gathered_terms, negated_terms, nonzero_terms, rise_strictly, scaled_terms, summed_terms,
 };

@@ -6,7 +6,7 @@ use Rattle.std.specs.List.{list_any}
 use Rattle.std.specs.Ordering.{eq_by_cmp}
 use Rattle.std.proofs.lemmas.List.Elements.{contains_decides, Decides-contains}
 use Rattle.aff_core.specs.Address.{Address, address_cmp, address_total, address_eq, address_eq-Decides}
-use Rattle.aff_core.proofs.sequence.Addresses.contains.Goals as goal
+use Rattle.aff_core.proofs.sequence.has_address.Goals as goal
 
 other_side : (xs : List Address) (at : Address) → list_any (λ x. eq_by_cmp address_cmp x at) xs ≡ list_any (address_eq at) xs
 other_side [] at = refl
