@@ -1,1 +1,8 @@
+mod Answered
+mod Changed
+mod KeptMaps
 mod Padding
+mod Rising
+mod Steps
+mod Summing
+mod Values

@@ -17,7 +17,7 @@ use Rattle.std.specs.FinMap.{FinMap}
 use base.Stored.{coded_via}
 use mathlib.Core.HLevel.{is_prop→PathP}
 use Rattle.ratio_core.specs.Rational.{Rational, rational_code, zero_ℚ, one_ℚ, neg_ℚ, ◌+ℚ◌, ◌*ℚ◌}
-use Rattle.aff_core.specs.Address.{Address, address_cmp, address_code}
+use Rattle.aff_core.specs.Address.{address_cmp, address_code}
 use Rattle.aff_core.specs.Terms.{is_nonzero, HaveNoZero, linear, negated_terms}
 
 -- ---- terms for a function

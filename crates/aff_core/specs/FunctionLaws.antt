@@ -15,15 +15,15 @@ use Rattle.std.specs.FinMap as finite
 use Rattle.std.specs.FinMap.{FinMap, find, is_sorted}
 use Rattle.std.specs.FinMap.Entries.{below_all}
 use Rattle.ratio_core.specs.Rational.{Rational, zero_ℚ, one_ℚ, neg_ℚ, rational_eq}
-use Rattle.ratio_core.specs.RationalLaws.{rational_eq-true, rational_eq-false, rational_eq_Decides, eq_rational_eq}
+use Rattle.ratio_core.specs.RationalLaws.{rational_eq-true, eq_rational_eq}
 use Rattle.rational_laws.specs.Field.{neg_ℚ-neg_ℚ, neg_ℚ-zero}
 use Rattle.aff_core.specs.Function.{FunctionOver, HasCoefficient, HasEachTerm, IsNegated, coefficient, constant_function, function_of, gathered, if_rising, negated, same_parts, terms_of, variable, with_coefficient}
-use Rattle.aff_core.specs.KeyOrder.{IsKeyOrder, key_eq-Decides, other_key, same_key, same_or_other}
+use Rattle.aff_core.specs.KeyOrder.{IsKeyOrder, key_eq-Decides, other_key, same_key}
 use Rattle.aff_core.specs.Rising.{HasDistinctKeys, RiseBy}
 use Rattle.aff_core.specs.Terms.{HaveNoZero, is_nonzero, negated_terms}
 use Rattle.aff_core.specs.EntryLaws.{first, second, find_below, find-map, below_all-filter, is_sorted-filter, is_sorted-map}
 
-tested : (b : Bool) → T b → b ≡ true
+pub tested : (b : Bool) → T b → b ≡ true
 tested true t = refl
 tested false t = absurd t
 
@@ -75,7 +75,7 @@ unfolding function_of
 constant-function_of R ts k = refl
 
 module _ {K : Type 0} {R : K → K → Ordering} where
-  pub rises : (ts : List (K × Rational)) → RiseBy R ts → T (is_sorted R ts)
+  pub rises : {X : Type 0} (ts : List (K × X)) → RiseBy R ts → T (is_sorted R ts)
   rises ts h = passes _ h.rising
 
   pub terms-function_of : (ts : List (K × Rational)) (k : Rational) → RiseBy R ts → terms_of (function_of {R = R} ts k) ≡ filter is_nonzero ts
@@ -105,6 +105,9 @@ module _ {K : Type 0} {R : K → K → Ordering} where
 
   pub filter_rises : (ts : List (K × Rational)) → RiseBy R ts → RiseBy R (filter is_nonzero ts)
   filter_rises ts h = record { rising = tested _ (is_sorted-filter R is_nonzero ts (rises ts h)) }
+
+  pub negated_rise : (ts : List (K × Rational)) → RiseBy R ts → RiseBy R (negated_terms ts)
+  negated_rise ts h = record { rising = is_sorted-map R neg_ℚ ts ∙ h.rising }
 
   -- terms in order, none of which is 0, are those of their function
   pub terms_kept : (ts : List (K × Rational)) (k : Rational) → RiseBy R ts → HaveNoZero ts → terms_of (function_of {R = R} ts k) ≡ ts
@@ -283,9 +286,6 @@ module _ {K : Type 0} {R : K → K → Ordering} (o : IsKeyOrder R) where
       by v false e = there v (Some q) (eq_by_cmp R v at) (ap (λ b. cond b None (Some q)) e) ∙ sym (finite.get-insert o.total f.terms at q v)
 
   -- ---- the negated function
-
-  pub negated_rise : (ts : List (K × Rational)) → RiseBy R ts → RiseBy R (negated_terms ts)
-  negated_rise ts h = record { rising = is_sorted-map R neg_ℚ ts ∙ h.rising }
 
   pub coefficient-negated : (f : FunctionOver R) (v : K) → coefficient (negated f) v ≡ neg_ℚ (coefficient f v)
   unfolding negated

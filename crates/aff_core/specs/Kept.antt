@@ -1,5 +1,5 @@
 -- How an affine function is kept: as its terms in the order of their addresses.
-use Rattle.std.specs.Prelude.{◌≡◌, ℕ, ◌+◌, ◌<◌, ◌≤◌, List, ◌∷◌, ◌++◌, take, drop, length, slice_index_or, Some, None}
+use Rattle.std.specs.Prelude.{◌≡◌, ℕ, ◌+◌, ◌<◌, ◌≤◌, ◌∷◌, ◌++◌, take, drop, length, slice_index_or, Some, None}
 use Rattle.std.specs.FinMap.{get, entries, insert}
 use Rattle.ratio_core.specs.Rational.{Rational}
 use Rattle.aff_core.specs.declared.aff.Aff.TheInside.{Inside}

@@ -8,8 +8,8 @@ ghost use Rattle.aff_core.specs.FunctionEq.{function_eq, function_eq_equiv, func
 ghost use Rattle.aff_core.specs.Rising.{HasDistinctKeys, RiseStrictly};
 ghost use Rattle.aff_core.specs.Terms.{HaveNoZero};
 
-use crate::Address;
-use crate::terms::{gathered_terms, negated_terms, nonzero_terms};
+use crate::terms::{negated_terms, nonzero_terms};
+use crate::{Address, Point};
 use lists::Duplicate;
 use ratio_core::{Memory, Ratio};
 use std::alloc::Global;
@@ -71,7 +71,8 @@ impl Aff {
         ensures same { IfOk result (λ f. f ≡ gathered terms.now constant) }
         ensures each { IfOk result (HasEachTerm terms.now) }
     {
-        Ok(Aff::of(gathered_terms(alloc, terms)?, constant))
+        let terms = first_coefficients(alloc, terms)?.nonzero_terms(alloc)?;
+        Ok(Aff::of(terms, constant))
     }
 
     // The function of terms in the order of their addresses, none of which is zero.
@@ -161,6 +162,19 @@ impl Aff {
         self.terms()
             .binary_search_by(|(address, _)| address.cmp(at))
     }
+}
+
+// The first coefficient that each address has.
+fn first_coefficients(alloc: Global, terms: &[(Address, Ratio)]) -> Result<Point, Memory>
+    ensures { IfOk result (λ point. point ≡ finite.from_entries {R = address_cmp} terms.now) }
+{
+    let mut point = Point::new(alloc);
+    for term in terms.iter().rev() {
+        let Ok(_) = point.put(term.0, term.1) else {
+            return Err(Memory);
+        };
+    }
+    Ok(point)
 }
 
 impl Duplicate for Aff {

@@ -20,13 +20,7 @@ impl Aff {
     }
 
     // The function with a term of the address, or with none, in place of those of a span.
-    fn replaced(
-        &self,
-        from: usize,
-        count: usize,
-        at: &Address,
-        value: Ratio,
-    ) -> Result<Aff, Memory>
+    fn replaced(&self, from: usize, count: usize, at: &Address, value: Ratio) -> Result<Aff, Memory>
         requires { IsSpanOf self.now at.now from count }
         ensures { IfOk result (λ f. f ≡ with_coefficient self.now at.now value) }
     {

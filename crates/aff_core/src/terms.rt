@@ -2,14 +2,13 @@
 ghost use Rattle.std.specs.Prelude.{◌≡◌, [], ◌∷◌, ◌++◌, ◌↔◌, IfOk, IsTrue, filter};
 ghost use Rattle.std.specs.FinMap as finite;
 ghost use Rattle.aff_core.specs.Arithmetic.{ExactWhere, TermsFit, added_terms};
-ghost use Rattle.aff_core.specs.Rising.{HasDistinctKeys, RiseBy};
+ghost use Rattle.aff_core.specs.Rising.{RiseBy};
 ghost use Rattle.aff_core.specs.Terms.{HaveNoZero, TimesFit, is_nonzero, negated_terms, times};
 
 use crate::AffFault;
 use ratio_core::{Memory, Ratio};
 use std::alloc::Global;
 use std::cmp::Ordering;
-use std::collections::BTreeMap;
 
 /// Whether each key is above all earlier ones.
 pub fn rise_strictly<K: Ord + Copy>(terms: &[(K, Ratio)]) -> bool
@@ -106,43 +105,6 @@ pub fn summed_terms<K: Ord + Copy>(
     summed.extend_from_slice(&left[i..])?;
     summed.extend_from_slice(&right[j..])?;
     Ok(summed)
-}
-
-/// The terms in the order of their keys, which are distinct, but those with the coefficient 0.
-pub fn gathered_terms<K: Ord + Copy>(
-    alloc: Global,
-    terms: &[(K, Ratio)],
-) -> Result<Vec<(K, Ratio)>, Memory>
-    requires exact { finite.IsAntisymmetric K.cmp }
-    requires distinct { HasDistinctKeys K.cmp terms.now }
-    ensures { IfOk result
-        (λ v. v.items ≡ filter is_nonzero (finite.entries (finite.from_entries {R = K.cmp} terms.now))) }
-{
-    let sorted = by_key(alloc, terms)?;
-    let zero = Ratio::zero();
-    Ok(
-        sorted
-            .iter()
-            .map(|(key, coefficient)| (*key, *coefficient))
-            .filter(|(_, coefficient)| *coefficient != zero)
-            .collect(alloc)?,
-    )
-}
-
-// The map of terms, of which the first of each key counts.
-fn by_key<K: Ord + Copy>(
-    alloc: Global,
-    terms: &[(K, Ratio)],
-) -> Result<BTreeMap<K, Ratio>, Memory>
-    requires { finite.IsAntisymmetric K.cmp }
-    ensures { IfOk result
-        (λ m. finite.from_entries m.entries ≡ finite.from_entries {R = K.cmp} terms.now) }
-{
-    let mut sorted = BTreeMap::new(alloc);
-    for term in terms.iter().rev() {
-        sorted.insert(term.0, term.1)?;
-    }
-    Ok(sorted)
 }
 
 // Puts a term last, unless its coefficient is 0.

@@ -1,6 +1,5 @@
 use Rattle.std.proofs.Common.{ap, ◌∙◌}
 use Rattle.aff_core.specs.Function.{constant_function, function_of}
-use Rattle.aff_core.specs.ArithmeticLaws.{is_composition}
 use Rattle.aff_core.proofs.aff.Aff.constant_function.Goals as goal
 
 pub returns : goal.returns

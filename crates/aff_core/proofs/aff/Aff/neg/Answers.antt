@@ -1,4 +1,3 @@
-use Rattle.std.specs.Prelude.{◌≡◌}
 use Rattle.std.proofs.Common.{sym, ap, subst, ◌∙◌}
 use Rattle.ratio_core.specs.Rational.{neg_ℚ}
 use Rattle.aff_core.specs.Function.{function_of, negated, terms_of}

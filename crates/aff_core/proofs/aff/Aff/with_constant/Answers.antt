@@ -1,6 +1,5 @@
-use Rattle.std.specs.Prelude.{◌≡◌}
 use Rattle.std.proofs.Common.{sym, ap, subst, ◌∙◌}
-use Rattle.aff_core.specs.Function.{function_of, terms_of}
+use Rattle.aff_core.specs.Function.{function_of}
 use Rattle.aff_core.specs.FunctionLaws.{function_of-terms}
 use Rattle.aff_core.specs.Rising.{RiseStrictly}
 use Rattle.aff_core.specs.Terms.{HaveNoZero}
