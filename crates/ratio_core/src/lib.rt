@@ -5,6 +5,7 @@
 #![tactic(auto)]
 
 mod arithmetic;
+mod binary;
 mod compare;
 mod divisor;
 mod fault;
