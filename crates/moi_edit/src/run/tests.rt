@@ -53,36 +53,31 @@ fn answers_a_script_by_single_bytes(rt: HostRuntime) -> Result<(), Fail> {
     Ok(())
 }
 
-/// The line `quit` is taken by the ninth read.
-#[test]
-fn stops_at_each_read_that_fails(rt: HostRuntime) -> Result<(), Fail> {
-    for failing_read in 1..10u64 {
-        let case = Case {
-            script: SCRIPT.as_bytes(),
-            piece: 8,
-            failing_read,
-            failing_write: 0,
-        };
-        let (status, output) = outcome(rt.alloc(), &case)?;
-        assert_eq!(rt; status, Status::ReadFault);
-        assert!(rt; TEXT.as_bytes().starts_with(output.written()));
-    }
-    Ok(())
+/// The status that the run ends with whose calls take eight bytes and fail at these, where it wrote a beginning of the text.
+fn stopped(
+    alloc: Global,
+    failing_read: u64,
+    failing_write: u64,
+) -> Result<Option<Status>, AllocError> {
+    let case = Case {
+        script: SCRIPT.as_bytes(),
+        piece: 8,
+        failing_read,
+        failing_write,
+    };
+    let (status, output) = outcome(alloc, &case)?;
+    let is_beginning = TEXT.as_bytes().starts_with(output.written());
+    Ok(is_beginning.then_some(status))
 }
 
-/// The text goes out in eleven writes.
+/// The line `quit` is taken by the ninth read, and the text goes out in eleven writes.
 #[test]
-fn stops_at_each_write_that_fails(rt: HostRuntime) -> Result<(), Fail> {
-    for failing_write in 1..12u64 {
-        let case = Case {
-            script: SCRIPT.as_bytes(),
-            piece: 8,
-            failing_read: 0,
-            failing_write,
-        };
-        let (status, output) = outcome(rt.alloc(), &case)?;
-        assert_eq!(rt; status, Status::WriteFault);
-        assert!(rt; TEXT.as_bytes().starts_with(output.written()));
+fn stops_at_each_fault(rt: HostRuntime) -> Result<(), Fail> {
+    for call in 1..10u64 {
+        assert_eq!(rt; stopped(rt.alloc(), call, 0)?, Some(Status::ReadFault));
+    }
+    for call in 1..12u64 {
+        assert_eq!(rt; stopped(rt.alloc(), 0, call)?, Some(Status::WriteFault));
     }
     Ok(())
 }
@@ -113,7 +108,5 @@ fn takes_no_other_words(rt: HostRuntime) -> Result<(), Fail> {
         Status::Usage
     );
     assert_eq!(rt; output.written(), b"".as_slice());
-    let mut first = [0u8; 3];
-    assert_eq!(rt; input.read(&mut first), Ok(3));
     Ok(())
 }
