@@ -1,3 +1,4 @@
+pub mod BinaryLaws
 pub mod Compared
 pub mod Coprime
 pub mod Crossed

@@ -1,4 +1,5 @@
 -- What the contracts of this crate cite.
+pub mod Folds
 pub mod Gcd
 pub mod Rational
 pub mod RationalLaws

@@ -5,6 +5,7 @@
 #![tactic(auto)]
 
 mod arithmetic;
+mod binary;
 mod compare;
 mod divisor;
 mod fault;
@@ -13,8 +14,12 @@ mod quotients;
 mod text;
 mod wide;
 
-pub use fault::{Memory, RatioFault};
+pub use fault::RatioFault;
 pub use fraction::Ratio;
+pub use lists::Memory;
+
+/// A list of numbers.
+pub type Ratios = lists::Sequence<Ratio>;
 
 #[cfg(test)]
 mod tests;
