@@ -1,12 +1,12 @@
 -- What has a nonnegative product with each vector of one kind: the kind's vectors of one number, and those of signs, say it.
-use Rattle.std.specs.Prelude.{◌≡◌, ◌⊎◌, ℕ, zero, suc, ◌<◌, List, [], ◌∷◌, length, map, All, refl}
-use Rattle.std.proofs.Common.{sym, ◌∙◌, ap, ap₂, arith, subst, inl, inr}
+use Rattle.std.specs.Prelude.{◌≡◌, ◌⊎◌, ℕ, zero, suc, List, [], ◌∷◌, length, map, All, refl}
+use Rattle.std.proofs.Common.{sym, ◌∙◌, ap, ap₂, subst, inl, inr}
 use Rattle.std.proofs.lemmas.List.Elements.{All-cons, All-nil}
 use Rattle.ratio_core.specs.Rational.{Rational, abs_ℚ, neg_ℚ, one_ℚ, zero_ℚ, ◌*ℚ◌, ◌+ℚ◌, ◌≤ℚ◌}
 use Rattle.rational_laws.specs.Dot.{dot}
 use Rattle.rational_laws.specs.DotLaws.{dot_behind, dot_front}
-use Rattle.rational_laws.specs.Field.{*ℚ-neg_ℚ, *ℚ-one, *ℚ-zero, +ℚ-zero, neg_ℚ-neg_ℚ, neg_ℚ-sum, neg_ℚ-zero, zero-+ℚ}
-use Rattle.rational_laws.specs.Order.{abs_ℚ-neg_ℚ, abs_ℚ_nonneg, abs_ℚ_nonpos, zero_‹ℚ_one, ≤ℚ_antisymm, ≤ℚ_from_nonneg, ≤ℚ_from_≡, ≤ℚ_from_‹ℚ, ≤ℚ_total}
+use Rattle.rational_laws.specs.Field.{*ℚ-neg_ℚ, *ℚ-one, +ℚ-zero, neg_ℚ-neg_ℚ, neg_ℚ-sum, neg_ℚ-zero, zero-+ℚ}
+use Rattle.rational_laws.specs.Order.{abs_ℚ-neg_ℚ, abs_ℚ_nonneg, abs_ℚ_nonpos, zero_‹ℚ_one, ≤ℚ_antisymm, ≤ℚ_from_nonneg, ≤ℚ_from_≡, ≤ℚ_from_‹ℚ, ≤ℚ_refl, ≤ℚ_total}
 use Rattle.set_core.specs.Vectors.{DominatesEach, DominatesSum}
 use Rattle.set_laws.specs.Least.{length-zeros, norm_zeros, zeros}
 use Rattle.set_laws.specs.Norms.{abs_zero, norm, norm_dominated}
@@ -86,11 +86,10 @@ against_within : (w : List Rational) → All (λ q. abs_ℚ q ≤ℚ one_ℚ) (m
 against_within [] = All-nil (λ q. abs_ℚ q ≤ℚ one_ℚ)
 against_within (q ∷ w) = All-cons (λ q. abs_ℚ q ≤ℚ one_ℚ) (against q) (map against w) (≤ℚ_from_≡ (abs_ℚ (against q)) one_ℚ (abs_against q)) (against_within w)
 
-pub sum_dominated : (w : List Rational) → 0 < length w → ((v : List Rational) → length v ≡ length w → DominatesEach v → zero_ℚ ≤ℚ dot w v) → DominatesSum w
-sum_dominated [] b h = absurd (omega (arith, b))
-sum_dominated (p ∷ w) b h =
-    subst (λ x. x ≤ℚ p) (sym (sum_from_zero (map abs_ℚ w)))
-    (≤ℚ_from_nonneg (norm w) p (subst (λ x. zero_ℚ ≤ℚ x) (ap₂ ◌+ℚ◌ (*ℚ-one p) (dot_against w)) (h (one_ℚ ∷ map against w) (ap suc (length_against w)) (against_within w))))
+pub sum_dominated : (w : List Rational) → ((v : List Rational) → length v ≡ length w → DominatesEach v → zero_ℚ ≤ℚ dot w v) → DominatesSum w
+sum_dominated [] h = ≤ℚ_refl zero_ℚ
+sum_dominated (p ∷ w) h =
+    norm_dominated p w (≤ℚ_from_nonneg (norm w) p (subst (λ x. zero_ℚ ≤ℚ x) (ap₂ ◌+ℚ◌ (*ℚ-one p) (dot_against w)) (h (one_ℚ ∷ map against w) (ap suc (length_against w)) (against_within w))))
 
 -- the vectors v that may follow 1 in the cone of sums
 within_products : (p : Rational) (w : List Rational) → ((v : List Rational) → length v ≡ length w → norm v ≤ℚ one_ℚ → zero_ℚ ≤ℚ (p +ℚ dot w v)) → All (λ q. abs_ℚ q ≤ℚ p) w
@@ -100,7 +99,7 @@ within_products p (q ∷ w) h =
     (≤ℚ_from_nonneg (abs_ℚ q) p (subst (λ x. zero_ℚ ≤ℚ (p +ℚ x)) (dot_front q (against q) w (length w) ∙ times_against q) (h (against q ∷ zeros (length w)) (ap suc (length-zeros (length w))) (≤ℚ_from_≡ _ one_ℚ (ap₂ ◌+ℚ◌ (abs_against q) (norm_zeros (length w)) ∙ +ℚ-zero one_ℚ)))))
     (within_products p w (λ v e s. subst (λ x. zero_ℚ ≤ℚ (p +ℚ x)) (dot_behind q w v) (h (zero_ℚ ∷ v) (ap suc e) (subst (λ x. x ≤ℚ one_ℚ) (sym (ap (λ x. x +ℚ norm v) abs_zero ∙ zero-+ℚ (norm v))) s))))
 
-pub each_dominated : (w : List Rational) → 0 < length w → ((v : List Rational) → length v ≡ length w → DominatesSum v → zero_ℚ ≤ℚ dot w v) → DominatesEach w
-each_dominated [] b h = absurd (omega (arith, b))
-each_dominated (p ∷ w) b h =
-    within_products p w (λ v e s. subst (λ x. zero_ℚ ≤ℚ (x +ℚ dot w v)) (*ℚ-one p) (h (one_ℚ ∷ v) (ap suc e) (subst (λ x. x ≤ℚ one_ℚ) (sym (sum_from_zero (map abs_ℚ v))) s)))
+pub each_dominated : (w : List Rational) → ((v : List Rational) → length v ≡ length w → DominatesSum v → zero_ℚ ≤ℚ dot w v) → DominatesEach w
+each_dominated [] h = All-nil (λ q. abs_ℚ q ≤ℚ zero_ℚ)
+each_dominated (p ∷ w) h =
+    within_products p w (λ v e s. subst (λ x. zero_ℚ ≤ℚ (x +ℚ dot w v)) (*ℚ-one p) (h (one_ℚ ∷ v) (ap suc e) (norm_dominated one_ℚ v s)))
