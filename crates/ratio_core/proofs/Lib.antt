@@ -5,6 +5,7 @@ pub mod Crossed
 pub mod Digits
 pub mod Kept
 pub mod Literals
+pub mod NarrowLaws
 pub mod Printed
 pub mod Products
 pub mod Sums

@@ -44,12 +44,18 @@ fn unequal_divisor(a: u128, b: u128) -> u128
     wide_divisor(a, b)
 }
 
-// `a / by`, without a division by 1.
+// `a / by`, without a division by 1, and in 64 bits where both fit.
 pub(crate) fn quotient(a: u128, by: u128) -> u128
     requires { 0 < by }
     ensures { result ≡ a / by }
 {
-    if by == 1 { a } else { a / by }
+    if by == 1 {
+        a
+    } else if a <= NARROW && by <= NARROW {
+        (a as u64 / by as u64) as u128
+    } else {
+        a / by
+    }
 }
 
 pub(crate) fn product(a: u128, b: u128) -> Result<u128, RatioFault>

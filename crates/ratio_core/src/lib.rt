@@ -10,6 +10,7 @@ mod compare;
 mod divisor;
 mod fault;
 mod fraction;
+mod narrow;
 mod quotients;
 mod text;
 mod wide;

@@ -1,7 +1,7 @@
 use Rattle.std.proofs.Common.{◌/◌, ◌∙◌, arith, refl}
 use Rattle.ratio_core.proofs.Kept.{refused_is}
 use Rattle.ratio_core.proofs.Products.{den_refused, made_fits, made_stored, made_value, size_refused}
-use Rattle.ratio_core.proofs.fraction.Ratio.mul.Goals as goal
+use Rattle.ratio_core.proofs.fraction.Ratio.mul_wide.Goals as goal
 
 pub returns-in_err-size-clause-exact : goal.returns-in_err-size-clause-exact
 returns-in_err-size-clause-exact c =

@@ -2,7 +2,7 @@ use Rattle.std.proofs.Common.{◌*◌, ◌^◌, ◌<◌, ◌∙◌, ap, arith, r
 use Rattle.ratio_core.specs.Rational.{IsStored, reduce, signed}
 use Rattle.ratio_core.proofs.Kept.{refused_is}
 use Rattle.ratio_core.proofs.Sums.{den_refused, left_refused, made_fits, made_stored, made_value, right_refused, sum_refused}
-use Rattle.ratio_core.proofs.fraction.Ratio.add.Goals as goal
+use Rattle.ratio_core.proofs.fraction.Ratio.add_wide.Goals as goal
 
 pub returns-in_err-left-clause-exact : goal.returns-in_err-left-clause-exact
 returns-in_err-left-clause-exact c =
