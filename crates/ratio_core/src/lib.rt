@@ -5,10 +5,12 @@
 #![tactic(auto)]
 
 mod arithmetic;
+mod binary;
 mod compare;
 mod divisor;
 mod fault;
 mod fraction;
+mod narrow;
 mod quotients;
 mod text;
 mod wide;
