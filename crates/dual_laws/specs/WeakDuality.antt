@@ -14,8 +14,8 @@ use Rattle.rational_laws.specs.Ring.{as_expression, by_ring, ring₄}
 use Rattle.aff_core.specs.Address.{Address}
 use Rattle.aff_core.specs.Arithmetic.{value_of}
 use Rattle.aff_core.specs.Function.{Function, coefficient}
-use Rattle.linear_laws.specs.Evaluations.{evaluated}
-use Rattle.linear_laws.specs.Slopes.{slope}
+use Rattle.aff_core.specs.Function.{evaluated}
+use Rattle.aff_core.specs.Function.{slope}
 use Rattle.set_core.specs.Membership.{Dual, low_of}
 use Rattle.set_core.specs.Mirrored.{multiplied}
 use Rattle.set_laws.specs.Least.{low_least}
