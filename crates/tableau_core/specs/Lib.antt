@@ -1,5 +1,4 @@
 -- What the contracts cite.
-pub mod Below
 pub mod Row
 pub mod Rows
 pub mod Tableau

@@ -1,7 +1,7 @@
 -- The equality form: the least cost of a column of numbers, each at least 0, that meets rows of equations.
-use Rattle.std.specs.Prelude.{◌≡◌, ℕ, ◌+◌, ◌<◌, ◌-◌, nat_lt, if◌then◌else◌}
+use Rattle.std.specs.Prelude.{◌≡◌, ℕ, ◌<◌, ◌-◌, nat_lt, if◌then◌else◌}
 use Rattle.ratio_core.specs.Rational.{Rational, one_ℚ, zero_ℚ, ◌*ℚ◌, ◌≤ℚ◌, ◌‹ℚ◌}
-use Rattle.simplex_laws.specs.BoundedSums.{sum_to, delta}
+use Rattle.simplex_form.specs.BoundedSums.{sum_to, delta}
 
 -- `reals` columns with their costs, and `rows` equations: the matrix by row and column, and the right sides
 pub record Form : Type 0 where
@@ -14,10 +14,6 @@ pub record Form : Type 0 where
 -- no right side is below 0
 abbrev pub IsStandard : Form → Type 0
 IsStandard F = (i : ℕ) → i < F.rows → zero_ℚ ≤ℚ F.right i
-
--- the real columns and then the artificial ones, one a row
-abbrev pub columns : Form → ℕ
-columns F = F.reals + F.rows
 
 -- the j-th column, whose entry in row i is `column F j i`; the artificial ones are the unit matrix
 unfoldable pub column : Form → ℕ → ℕ → Rational

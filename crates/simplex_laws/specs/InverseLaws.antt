@@ -4,9 +4,12 @@ use Rattle.std.proofs.Common.{sym, ◌∙◌, ap, ap₂, subst}
 use Rattle.ratio_core.specs.Rational.{Rational, inverse_ℚ, one_ℚ, zero_ℚ, ◌*ℚ◌, ◌+ℚ◌, ◌-ℚ◌}
 use Rattle.rational_laws.specs.Field.{*ℚ-inverse_ℚ, *ℚ-one, +ℚ-neg_ℚ, +ℚ-zero, zero-*ℚ}
 use Rattle.rational_laws.specs.Field.{ring_ℚ}
-use Rattle.simplex_laws.specs.BoundedSums.{delta, delta_other, delta_same, same_or_other, sum_to, sum_to_delta, sum_to_delta_right, sum_to_same}
-use Rattle.simplex_laws.specs.Basis.{IsInverse, pivoted, times}
-use Rattle.simplex_laws.specs.Pivots.{pivot-weighted, pivoted_at, pivoted_off, pivoted_same, products_regrouped, times-pivoted}
+use Rattle.simplex_form.specs.Basis.{IsInverse, basic, pivoted, times}
+use Rattle.simplex_form.specs.BoundedSums.{delta, sum_to}
+use Rattle.simplex_form.specs.Form.{column}
+use Rattle.simplex_form.specs.Trail.{next}
+use Rattle.simplex_laws.specs.BoundedSumLaws.{delta_other, delta_same, same_or_other, sum_to_delta, sum_to_delta_right, sum_to_same}
+use Rattle.simplex_laws.specs.PivotLaws.{pivot-weighted, pivoted_at, pivoted_off, pivoted_same, products_regrouped, times-pivoted}
 
 -- ---- a column of the board becomes a unit vector
 

@@ -5,9 +5,10 @@ use Rattle.std.proofs.Common.{sym, ◌∙◌, ap, subst}
 use Rattle.ratio_core.specs.Rational.{Rational, zero_ℚ, ◌*ℚ◌, ◌+ℚ◌, ◌≤ℚ◌}
 use Rattle.rational_laws.specs.Field.{*ℚ-+ℚ, *ℚ-zero, *ℚ_assoc, *ℚ_comm, +ℚ-zero}
 use Rattle.rational_laws.specs.Order.{nonneg_add, nonneg_mul, nonpos_mul, not_‹ℚ_from_≤ℚ, ≤ℚ-*ℚ}
-use Rattle.simplex_laws.specs.BoundedSums.{sum_to, sum_to-*ℚ, sum_to-+ℚ, sum_to_same, sum_to-≤ℚ, sum_to_zero}
-use Rattle.simplex_laws.specs.Form.{Form, IsFeasible, IsInfeasible, IsOptimal, IsUnbounded, cost_at, left_side, weighted}
-use Rattle.simplex_laws.specs.Pivots.{products_regrouped}
+use Rattle.simplex_form.specs.BoundedSums.{sum_to}
+use Rattle.simplex_form.specs.Form.{Form, IsFeasible, IsInfeasible, IsOptimal, IsUnbounded, cost_at, left_side, weighted}
+use Rattle.simplex_laws.specs.BoundedSumLaws.{sum_to-*ℚ, sum_to-+ℚ, sum_to-≤ℚ, sum_to_same, sum_to_zero}
+use Rattle.simplex_laws.specs.PivotLaws.{products_regrouped}
 
 -- the multipliers make of the right sides what they make of each column, times the feasible point
 pub weighted_by_point : (F : Form) (y z : ℕ → Rational) → IsFeasible F z → weighted F y F.right ≡ sum_to F.reals (λ j. weighted F y (λ i. F.matrix i j) *ℚ z j)

@@ -4,29 +4,23 @@ use Rattle.std.proofs.Common.{sym, ◌∙◌, ap, ap₂, arith, subst}
 use Rattle.ratio_core.specs.Rational.{Rational, neg_ℚ, one_ℚ, zero_ℚ, ◌*ℚ◌, ◌-ℚ◌, ◌≤ℚ◌, ◌‹ℚ◌}
 use Rattle.rational_laws.specs.Field.{*ℚ-zero, -ℚ-itself, zero-*ℚ}
 use Rattle.rational_laws.specs.Order.{nonneg_add, nonneg_mul, nonneg_neg, nonpos_mul, zero_‹ℚ_one, ≤ℚ_from_nonneg, ≤ℚ_from_‹ℚ, ≤ℚ_refl}
-use Rattle.simplex_laws.specs.BoundedSums.{delta, delta_other, delta_same, same_or_other, sum_to, sum_to_nonneg, sum_to_same, sum_to_zeros}
-use Rattle.simplex_laws.specs.Form.{Form, IsFeasible, IsInfeasible, IsOptimal, IsUnbounded, column, cost_at, first_cost, left_side, second_cost, weighted}
-use Rattle.simplex_laws.specs.Basis.{State, basic}
-use Rattle.simplex_laws.specs.Board.{entry, multiplier, point, price, ray, right_side}
-use Rattle.simplex_laws.specs.Turns.{Turn, infeasibility, infeasible, optimal, pivots, stuck, unbounded}
-use Rattle.simplex_laws.specs.Values.{equal_costs, point_meets, price_by_multipliers, ray_cost, ray_stays, sum_to_shorter, weighted-multiplier}
-use Rattle.simplex_laws.specs.Rules.{Enters, HasNoNegativePrice, HasNoPositiveEntry, IsSwept}
-use Rattle.simplex_laws.specs.Standing.{IsDrained, Says, Stands}
+use Rattle.simplex_form.specs.Basis.{State, basic}
+use Rattle.simplex_form.specs.Board.{entry, multiplier, point, price, ray, right_side}
+use Rattle.simplex_form.specs.BoundedSums.{delta, sum_to}
+use Rattle.simplex_form.specs.Form.{Form, IsFeasible, IsInfeasible, IsOptimal, IsUnbounded, column, cost_at, first_cost, left_side, second_cost, weighted}
+use Rattle.simplex_form.specs.Readings.{readings}
+use Rattle.simplex_form.specs.Standing.{Enters, HasNoNegativePrice, HasNoPositiveEntry, IsAnswered, IsDrained, IsSwept, Says, Stands, infeasibility}
+use Rattle.simplex_form.specs.declared.turn.Turn.{Turn}
+use Rattle.simplex_form.specs.declared.turn.Turn.TheVariants.{Infeasible, Optimal, Pivot, Stuck, Unbounded}
+use Rattle.simplex_laws.specs.BoundedSumLaws.{delta_other, delta_same, same_or_other, sum_to_nonneg, sum_to_same, sum_to_zeros}
 use Rattle.simplex_laws.specs.TurnLaws.{column_real, first_cost_real, second_cost_artificial, second_cost_real, sum_to_nonpos}
+use Rattle.simplex_laws.specs.ValueLaws.{equal_costs, point_meets, price_by_multipliers, ray_cost, ray_stays, sum_to_shorter, weighted-multiplier}
 
 pub delta_nonneg : (i k : ℕ) → zero_ℚ ≤ℚ delta i k
 delta_nonneg i k =
     same_or_other (zero_ℚ ≤ℚ delta i k) i k
     (λ e. subst (λ j. zero_ℚ ≤ℚ delta i j) e (subst (λ x. zero_ℚ ≤ℚ x) (sym (delta_same i)) (≤ℚ_from_‹ℚ zero_ℚ one_ℚ zero_‹ℚ_one)))
     (λ n. subst (λ x. zero_ℚ ≤ℚ x) (sym (delta_other i k n)) (≤ℚ_refl zero_ℚ))
-
--- the right answer to each end
-abbrev pub IsAnswered : Form → State → Turn → Type 0
-IsAnswered F s (pivots phase r q) = Unit {0}
-IsAnswered F s stuck = Unit {0}
-IsAnswered F s infeasible = IsInfeasible F (multiplier F s (first_cost F))
-IsAnswered F s (unbounded q) = IsUnbounded F (point F s) (ray F s q)
-IsAnswered F s optimal = IsOptimal F (point F s) (multiplier F s (second_cost F))
 
 -- ---- from all columns to the real ones
 
@@ -65,31 +59,31 @@ weighted_at_most F s h cost j b k =
 -- ---- the ends
 
 module _ (F : Form) (s : State) (h : Stands F s) where
-  pub point_feasible : IsDrained F s → IsFeasible F (point F s)
+  pub point_feasible : IsDrained (readings F s) → IsFeasible F (point F s)
   point_feasible d = record {
     nonneg = λ j b. sum_to_nonneg F.rows (λ i. delta (basic s i) j *ℚ right_side F s i) (λ i c. nonneg_mul (delta (basic s i) j) (right_side F s i) (delta_nonneg (basic s i) j) (h.nonneg i c));
     meets = λ i b. sym (real_left_side F (point F s) (placed_zero F s (right_side F s) d) i) ∙ point_meets F s h.basis i b;
   }
 
-  pub optimal_right : IsDrained F s → HasNoNegativePrice F s (second_cost F) → IsOptimal F (point F s) (multiplier F s (second_cost F))
+  pub optimal_right : IsDrained (readings F s) → HasNoNegativePrice (readings F s) (price F s (second_cost F)) → IsOptimal F (point F s) (multiplier F s (second_cost F))
   optimal_right d k = record {
     feasible = point_feasible d;
     reduced = λ j b. subst (λ x. weighted F (multiplier F s (second_cost F)) (λ i. F.matrix i j) ≤ℚ x) (second_cost_real F j b) (weighted_at_most F s h (second_cost F) j b (k j b));
     equal = equal_costs F s h.basis (second_cost F) ∙ real_cost F (point F s);
   }
 
-  pub infeasible_right : HasNoNegativePrice F s (first_cost F) → zero_ℚ ‹ℚ infeasibility F s → IsInfeasible F (multiplier F s (first_cost F))
+  pub infeasible_right : HasNoNegativePrice (readings F s) (price F s (first_cost F)) → zero_ℚ ‹ℚ infeasibility F s → IsInfeasible F (multiplier F s (first_cost F))
   infeasible_right k above = record {
     nonpos = λ j b. subst (λ x. weighted F (multiplier F s (first_cost F)) (λ i. F.matrix i j) ≤ℚ x) (first_cost_real F j b) (weighted_at_most F s h (first_cost F) j b (k j b));
     above = subst (λ x. zero_ℚ ‹ℚ x) (sym (weighted-multiplier F s h.basis (first_cost F) F.right)) above;
   }
 
-  ray_nonneg : (q : ℕ) → HasNoPositiveEntry F s q → (j : ℕ) → zero_ℚ ≤ℚ ray F s q j
+  ray_nonneg : (q : ℕ) → HasNoPositiveEntry (readings F s) q → (j : ℕ) → zero_ℚ ≤ℚ ray F s q j
   ray_nonneg q none j =
       nonneg_add (delta q j) (neg_ℚ (sum_to F.rows (λ i. delta (basic s i) j *ℚ entry F s q i))) (delta_nonneg q j)
       (nonneg_neg (sum_to F.rows (λ i. delta (basic s i) j *ℚ entry F s q i)) (sum_to_nonpos F.rows (λ i. delta (basic s i) j *ℚ entry F s q i) (λ i b. nonpos_mul (delta (basic s i) j) (entry F s q i) (delta_nonneg (basic s i) j) (none i b))))
 
-  ray_real : (q : ℕ) → q < F.reals → IsSwept F s → (j : ℕ) → F.reals ≤ j → ray F s q j ≡ zero_ℚ
+  ray_real : (q : ℕ) → q < F.reals → IsSwept (readings F s) → (j : ℕ) → F.reals ≤ j → ray F s q j ≡ zero_ℚ
   ray_real q b w j a =
       ap₂ ◌-ℚ◌ (delta_other q j (λ e. other_lem q F.reals j b a e)) (placed_zero F s (entry F s q) (λ i c k. w i q c k b) j a) ∙ -ℚ-itself zero_ℚ
     where
@@ -99,7 +93,7 @@ module _ (F : Form) (s : State) (h : Stands F s) where
   within_columns : (q c m : ℕ) → q < c → q < c + m
   within_columns q c m h = omega (arith, h)
 
-  pub unbounded_right : (q : ℕ) → IsDrained F s → IsSwept F s → Enters F s (second_cost F) q → HasNoPositiveEntry F s q → IsUnbounded F (point F s) (ray F s q)
+  pub unbounded_right : (q : ℕ) → IsDrained (readings F s) → IsSwept (readings F s) → Enters (readings F s) (price F s (second_cost F)) q → HasNoPositiveEntry (readings F s) q → IsUnbounded F (point F s) (ray F s q)
   unbounded_right q d w e none = record {
     feasible = point_feasible d;
     nonneg = λ j b. ray_nonneg q none j;
@@ -108,8 +102,8 @@ module _ (F : Form) (s : State) (h : Stands F s) where
   }
 
   pub end_right : (t : Turn) → Says F s t → IsAnswered F s t
-  end_right (pivots phase r q) k = tt
-  end_right stuck k = tt
-  end_right infeasible k = infeasible_right k.0 k.1
-  end_right (unbounded q) k = unbounded_right q k.0 k.1 k.2 k.3
-  end_right optimal k = optimal_right k.0 k.2
+  end_right (Pivot phase r q) k = tt
+  end_right Stuck k = tt
+  end_right Infeasible k = infeasible_right k.0 k.1
+  end_right (Unbounded q) k = unbounded_right q k.0 k.1 k.2 k.3
+  end_right Optimal k = optimal_right k.0 k.2

@@ -1,15 +1,18 @@
 -- The board after a pivot, by row operations on the board before it.
-use Rattle.std.specs.Prelude.{◌≡◌, ℕ, ◌+◌, ◌<◌, length, refl}
+use Rattle.std.specs.Prelude.{◌≡◌, ℕ, ◌+◌, ◌<◌, Bool, length, refl}
 use Rattle.std.proofs.Common.{sym, ◌∙◌, ap, subst}
 use Rattle.std.proofs.lemmas.List.{get_or-set_other, get_or-set_same, length-set}
 use Rattle.ratio_core.specs.Rational.{Rational, inverse_ℚ, zero_ℚ, ◌*ℚ◌, ◌+ℚ◌, ◌-ℚ◌}
 use Rattle.rational_laws.specs.Ring.{as_expression, by_ring, ring₄}
-use Rattle.simplex_laws.specs.BoundedSums.{same_or_other, sum_to, sum_to_same}
-use Rattle.simplex_laws.specs.Form.{Form, column}
-use Rattle.simplex_laws.specs.Basis.{IsBasis, IsInverse, Phase, State, basic, pivoted}
-use Rattle.simplex_laws.specs.Board.{entry, pivot, price, right_side}
-use Rattle.simplex_laws.specs.Pivots.{pivot-weighted, times-pivoted}
-use Rattle.simplex_laws.specs.Inverses.{inverse_pivoted}
+use Rattle.simplex_form.specs.Basis.{IsBasis, IsInverse, State, basic, pivoted}
+use Rattle.simplex_form.specs.Board.{entry, pivot, price, right_side}
+use Rattle.simplex_form.specs.BoundedSums.{sum_to}
+use Rattle.simplex_form.specs.Form.{Form, column, first_cost, second_cost}
+use Rattle.simplex_form.specs.Readings.{Agrees, pivoted_readings, readings}
+use Rattle.simplex_form.specs.declared.turn.Phase.{Phase}
+use Rattle.simplex_laws.specs.BoundedSumLaws.{same_or_other, sum_to_same}
+use Rattle.simplex_laws.specs.InverseLaws.{inverse_pivoted}
+use Rattle.simplex_laws.specs.PivotLaws.{pivot-weighted, times-pivoted}
 
 module _ (F : Form) (s : State) (phase : Phase) (r q : ℕ) where
   -- ---- the basis
@@ -70,4 +73,17 @@ module _ (F : Form) (s : State) (phase : Phase) (r q : ℕ) where
     long = long-pivot ∙ basis.long;
     within = λ i d. same_or_other (basic (pivot F s phase r q) i < F.reals + F.rows) i r (λ e. subst (λ k. basic (pivot F s phase r q) k < F.reals + F.rows) (sym e) (subst (λ j. j < F.reals + F.rows) (sym (basic-pivot_at basis b)) c)) (λ m. subst (λ j. j < F.reals + F.rows) (sym (basic-pivot_off i m)) (basis.within i d));
     inverse = inverse-pivot (inverse-pivot_lem basis b n);
+  }
+
+  -- what is read at the next basis
+  pub readings-pivot : (in_first : Bool) → IsBasis F s → r < F.rows → ¬ (entry F s q r ≡ zero_ℚ) → Agrees in_first (pivoted_readings r q (readings F s)) (readings F (pivot F s phase r q))
+  unfolding pivot
+  readings-pivot in_first basis b n = record {
+    rows = refl;
+    reals = refl;
+    basis = refl;
+    entries = λ i j _ _. sym (entry-pivot j i);
+    rights = λ i _. sym (right_side-pivot i);
+    first = λ _ j _. sym (price-pivot (first_cost F) j basis b n);
+    second = λ j _. sym (price-pivot (second_cost F) j basis b n);
   }

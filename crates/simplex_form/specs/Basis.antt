@@ -2,8 +2,10 @@
 use Rattle.std.specs.Prelude.{◌≡◌, ℕ, ◌<◌, ◌+◌, List, length, slice_index, nat_eq, if◌then◌else◌}
 use Rattle.std.specs.List.{range_with_len}
 use Rattle.ratio_core.specs.Rational.{Rational, inverse_ℚ, ◌*ℚ◌, ◌-ℚ◌}
-use Rattle.simplex_laws.specs.BoundedSums.{sum_to, delta}
-use Rattle.simplex_laws.specs.Form.{Form, column}
+use Rattle.simplex_form.specs.declared.turn.Phase.{Phase}
+use Rattle.simplex_form.specs.declared.turn.Phase.TheVariants.{First}
+use Rattle.simplex_form.specs.BoundedSums.{sum_to, delta}
+use Rattle.simplex_form.specs.Form.{Form, column}
 
 -- row i of the matrix M times the vector v of n numbers
 abbrev pub times : ℕ → (ℕ → ℕ → Rational) → (ℕ → Rational) → ℕ → Rational
@@ -13,11 +15,6 @@ times n M v i = sum_to n (λ k. M i k *ℚ v k)
 pub record IsInverse (n : ℕ) (column : ℕ → ℕ → Rational) (basic : ℕ → ℕ) (M : ℕ → ℕ → Rational) : Type 0 where
   pub units : (i k : ℕ) → i < n → k < n → times n M (column (basic k)) i ≡ delta i k
   pub spans : (v : ℕ → Rational) (k : ℕ) → k < n → sum_to n (λ i. column (basic i) k *ℚ times n M v i) ≡ v k
-
--- in the first phase the artificial columns are driven out; the sweep drives out those left at 0; the second phase
--- lowers the costs
-pub data Phase : Type 0 where
-  first sweep second : Phase
 
 -- a basis of the trail with its phase, and its inverse, which the basis determines
 pub record State : Type 0 where
@@ -37,7 +34,7 @@ pub record IsBasis (F : Form) (s : State) : Type 0 where
 
 -- the artificial columns and the unit matrix
 unfoldable pub start : Form → State
-start F = record { phase = first; basis = range_with_len F.reals F.rows; inverse = λ i k. delta i k }
+start F = record { phase = First; basis = range_with_len F.reals F.rows; inverse = λ i k. delta i k }
 
 -- what a pivot in row r makes of the numbers w of a column, where the entering column has the entries e
 unfoldable pub pivoted : ℕ → (ℕ → Rational) → (ℕ → Rational) → ℕ → Rational

@@ -1,19 +1,11 @@
--- Sums over the numbers below a bound, and the unit vectors.
+-- Laws of sums over the numbers below a bound, and of the unit vectors.
 use Rattle.std.specs.Prelude.{◌≡◌, ℕ, zero, suc, ◌<◌, ◌≤◌, Bool, true, false, cond, nat_eq, if◌then◌else◌, refl}
 use Rattle.std.proofs.Common.{sym, ◌∙◌, ap, ap₂, arith, subst, true≢false}
 use Rattle.std.proofs.lemmas.Bool.{cond-true, eq-eqb, eqb-true}
 use Rattle.ratio_core.specs.Rational.{Rational, neg_ℚ, one_ℚ, zero_ℚ, ◌*ℚ◌, ◌+ℚ◌, ◌-ℚ◌, ◌≤ℚ◌}
 use Rattle.rational_laws.specs.Field.{*ℚ-+ℚ, *ℚ-zero, *ℚ_comm, +ℚ-zero, +ℚ_inner_comm, neg_ℚ-sum, neg_ℚ-zero, one-*ℚ, zero-*ℚ, zero-+ℚ}
 use Rattle.rational_laws.specs.Order.{nonneg_add, ≤ℚ-+ℚ, ≤ℚ_refl}
-
--- f 0 + f 1 + .. over the numbers below n
-abbrev pub sum_to : ℕ → (ℕ → Rational) → Rational
-sum_to zero f = zero_ℚ
-sum_to (suc n) f = sum_to n f +ℚ f n
-
--- 1 where the two numbers are equal, and 0 elsewhere
-unfoldable pub delta : ℕ → ℕ → Rational
-delta i k = if nat_eq i k then one_ℚ else zero_ℚ
+use Rattle.simplex_form.specs.BoundedSums.{delta, sum_to}
 
 -- ---- sums
 

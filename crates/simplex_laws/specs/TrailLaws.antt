@@ -1,19 +1,24 @@
 -- The trail from its start: what stands at each basis, and that every end that is reached is right.
-use Rattle.std.specs.Prelude.{◌≡◌, ℕ, zero, suc, ◌+◌, ◌-◌, ◌<◌, ◌≤◌, length}
+use Rattle.std.specs.Prelude.{◌≡◌, ℕ, zero, suc, ◌+◌, ◌-◌, ◌<◌, ◌≤◌, Bool, true, false, List, [], ◌∷◌, if◌then◌else◌, length, refl}
 use Rattle.std.proofs.Common.{sym, ◌∙◌, ap, ap₂, arith, subst}
+use Rattle.std.proofs.lemmas.Bool.{cond-true}
 use Rattle.std.proofs.lemmas.List.FromFn.{get_or-range_with_len, length-range_with_len}
 use Rattle.ratio_core.specs.Rational.{Rational, neg_ℚ, one_ℚ, zero_ℚ, ◌*ℚ◌, ◌+ℚ◌, ◌-ℚ◌, ◌≤ℚ◌}
 use Rattle.rational_laws.specs.Field.{*ℚ_comm, +ℚ-neg_ℚ, +ℚ-zero, neg_ℚ-zero, one-*ℚ, zero-*ℚ, zero-+ℚ}
-use Rattle.simplex_laws.specs.BoundedSums.{delta, delta_sym, sum_to, sum_to_delta, sum_to_same, sum_to_zero}
-use Rattle.simplex_laws.specs.Form.{Form, IsStandard, column, first_cost, second_cost}
-use Rattle.simplex_laws.specs.Basis.{IsBasis, IsInverse, basic, start, times}
-use Rattle.simplex_laws.specs.Board.{entry, price, right_side}
-use Rattle.simplex_laws.specs.Turns.{turn}
-use Rattle.simplex_laws.specs.Trail.{reached}
-use Rattle.simplex_laws.specs.Standing.{Stands}
+use Rattle.simplex_form.specs.Basis.{IsBasis, IsInverse, State, basic, start, times}
+use Rattle.simplex_form.specs.Board.{entry, price, right_side}
+use Rattle.simplex_form.specs.BoundedSums.{delta, sum_to}
+use Rattle.simplex_form.specs.Fit.{start_fits}
+use Rattle.simplex_form.specs.Form.{Form, IsStandard, column, first_cost, second_cost}
+use Rattle.simplex_form.specs.Outcome.{HasTrail}
+use Rattle.simplex_form.specs.Standing.{IsAnswered, Stands}
+use Rattle.simplex_form.specs.Trail.{goes_on, next, reached, stop, trail_from}
+use Rattle.simplex_form.specs.Turns.{turn}
+use Rattle.simplex_form.specs.declared.turn.Phase.{Phase}
+use Rattle.simplex_laws.specs.BoundedSumLaws.{delta_sym, sum_to_delta, sum_to_same, sum_to_zero}
+use Rattle.simplex_laws.specs.EndLaws.{end_right}
+use Rattle.simplex_laws.specs.StandingLaws.{after_stands}
 use Rattle.simplex_laws.specs.TurnLaws.{column_artificial, column_real, first_cost_artificial, first_cost_real, second_cost_artificial, turn_says}
-use Rattle.simplex_laws.specs.Kept.{after_stands}
-use Rattle.simplex_laws.specs.Ends.{IsAnswered, end_right}
 
 -- ---- the start
 
@@ -118,3 +123,62 @@ module _ (F : Form) where
   answers_right h n =
       let now : Stands F (reached F n) = reached_stands h n in
       end_right F (reached F n) now (turn F (reached F n)) (turn_says F (reached F n) now)
+
+  -- ---- the trail's length
+
+  reached_from : ℕ → State → State
+  reached_from zero s = s
+  reached_from (suc n) s = next F (reached_from n s)
+
+  reached_from-start : (n : ℕ) → reached_from n (start F) ≡ reached F n
+  unfolding reached_from
+  reached_from-start zero = refl
+  reached_from-start (suc n) = ap (next F) (reached_from-start n)
+
+  reached_from-next : (n : ℕ) (s : State) → reached_from n (next F s) ≡ reached_from (suc n) s
+  unfolding reached_from
+  reached_from-next zero s = refl
+  reached_from-next (suc n) s = ap (next F) (reached_from-next n s)
+
+  -- a trail with a pivot has one at its first basis
+  first_goes_on : (n : ℕ) (s : State) → length (trail_from F (suc n) s) ≡ suc (suc n) → (goes_on F s ≡ true) × (length (trail_from F n (next F s)) ≡ suc n)
+  first_goes_on n s e = by_test (goes_on F s) refl e
+    where
+      by_test : (b : Bool) → goes_on F s ≡ b → length (stop s ∷ (if b then trail_from F n (next F s) else [])) ≡ suc (suc n) → (goes_on F s ≡ true) × (length (trail_from F n (next F s)) ≡ suc n)
+      by_test true g h = (g, omega (arith, h))
+      by_test false g h = absurd (omega (arith, h))
+
+  one_more : (n : ℕ) (s : State) → length (trail_from F n s) ≡ suc n → goes_on F (reached_from n s) ≡ true → length (trail_from F (suc n) s) ≡ suc (suc n)
+  unfolding reached_from
+  one_more zero s e g = ap (λ b. length (stop s ∷ (if b then trail_from F zero (next F s) else []))) g
+  one_more (suc n) s e g =
+      let first : (goes_on F s ≡ true) × (length (trail_from F n (next F s)) ≡ suc n) = first_goes_on n s e in
+      let rest : length (trail_from F (suc n) (next F s)) ≡ suc (suc n) = one_more n (next F s) first.1 (ap (goes_on F) (reached_from-next n s) ∙ g) in
+      ap (λ b. length (stop s ∷ (if b then trail_from F (suc n) (next F s) else []))) first.0 ∙ longer_lem (trail_from F (suc n) (next F s)) (suc (suc n)) rest
+    where
+      longer_lem : (xs : List (Phase × List ℕ)) (n : ℕ) → length xs ≡ n → length (stop s ∷ xs) ≡ suc n
+      longer_lem xs n e = omega (arith, e)
+
+  each_goes_on : (n k : ℕ) (s : State) → length (trail_from F n s) ≡ suc n → k < n → goes_on F (reached_from k s) ≡ true
+  unfolding reached_from
+  each_goes_on zero k s e b = absurd (omega (arith, b))
+  each_goes_on (suc n) zero s e b = (first_goes_on n s e).0
+  each_goes_on (suc n) (suc k) s e b =
+      ap (goes_on F) (sym (reached_from-next k s)) ∙ each_goes_on n k (next F s) (first_goes_on n s e).1 (omega (arith, b))
+
+  from_start : (n : ℕ) → HasTrail F n → length (trail_from F n (start F)) ≡ suc n
+  from_start n h = ap length (sym (cond-true (start_fits F) (trail_from F n (start F)) (stop (start F) ∷ []) h.start_fits)) ∙ h.long
+
+  -- the first basis is a trail where the start fits, and a basis that goes on makes a trail longer
+  pub trail_start : start_fits F ≡ true → HasTrail F 0
+  trail_start e = record { start_fits = e; long = ap length (cond-true (start_fits F) (trail_from F 0 (start F)) (stop (start F) ∷ []) e) }
+
+  pub trail_more : (n : ℕ) → HasTrail F n → goes_on F (reached F n) ≡ true → HasTrail F (suc n)
+  trail_more n h g = record {
+    start_fits = h.start_fits;
+    long = ap length (cond-true (start_fits F) (trail_from F (suc n) (start F)) (stop (start F) ∷ []) h.start_fits) ∙ one_more n (start F) (from_start n h) (ap (goes_on F) (reached_from-start n) ∙ g);
+  }
+
+  -- each basis of a trail but its last goes on
+  pub trail-goes_on : (n k : ℕ) → HasTrail F n → k < n → goes_on F (reached F k) ≡ true
+  trail-goes_on n k h b = ap (goes_on F) (sym (reached_from-start k)) ∙ each_goes_on n k (start F) (from_start n h) b

@@ -4,11 +4,12 @@ use Rattle.std.proofs.Common.{sym, ◌∙◌, ap, ap₂, arith}
 use Rattle.ratio_core.specs.Rational.{Rational, zero_ℚ, ◌*ℚ◌, ◌+ℚ◌, ◌-ℚ◌}
 use Rattle.rational_laws.specs.Field.{*ℚ--ℚ, +ℚ-neg_ℚ, +ℚ-zero}
 use Rattle.rational_laws.specs.Ring.{as_expression, by_ring, ring₂}
-use Rattle.simplex_laws.specs.BoundedSums.{delta, same_or_other, sum_to, sum_to--ℚ, sum_to_delta_right, sum_to_same}
-use Rattle.simplex_laws.specs.Form.{Form, column, weighted}
-use Rattle.simplex_laws.specs.Basis.{IsBasis, State, basic}
-use Rattle.simplex_laws.specs.Board.{entry, multiplier, point, price, ray, right_side}
-use Rattle.simplex_laws.specs.Pivots.{products_regrouped}
+use Rattle.simplex_form.specs.Basis.{IsBasis, State, basic}
+use Rattle.simplex_form.specs.Board.{entry, multiplier, point, price, ray, right_side}
+use Rattle.simplex_form.specs.BoundedSums.{delta, sum_to}
+use Rattle.simplex_form.specs.Form.{Form, column, weighted}
+use Rattle.simplex_laws.specs.BoundedSumLaws.{same_or_other, sum_to--ℚ, sum_to_delta_right, sum_to_same}
+use Rattle.simplex_laws.specs.PivotLaws.{products_regrouped}
 
 -- values at the numbers of a list, summed with weights of all numbers, are the weights there
 pub sum_to_placed : (m n : ℕ) (f w : ℕ → Rational) (at : ℕ → ℕ) → ((i : ℕ) → i < n → at i < m) → sum_to m (λ j. f j *ℚ sum_to n (λ i. delta (at i) j *ℚ w i)) ≡ sum_to n (λ i. f (at i) *ℚ w i)

@@ -1,9 +1,10 @@
 -- The board of a basis: what is read from the original columns by its inverse.
 use Rattle.std.specs.Prelude.{ℕ, slice_set}
 use Rattle.ratio_core.specs.Rational.{Rational, ◌*ℚ◌, ◌-ℚ◌}
-use Rattle.simplex_laws.specs.BoundedSums.{delta, sum_to}
-use Rattle.simplex_laws.specs.Form.{Form, column}
-use Rattle.simplex_laws.specs.Basis.{Phase, State, basic, pivoted, times}
+use Rattle.simplex_form.specs.BoundedSums.{delta, sum_to}
+use Rattle.simplex_form.specs.Form.{Form, column}
+use Rattle.simplex_form.specs.declared.turn.Phase.{Phase}
+use Rattle.simplex_form.specs.Basis.{State, basic, pivoted, times}
 
 -- the entry of column j in row i
 abbrev pub entry : Form → State → ℕ → ℕ → Rational
