@@ -50,9 +50,13 @@ swept_in R i = if is_artificial R (basic_at R i) then swept_column R i else None
 abbrev pub swept_entry : Readings → Option (ℕ × ℕ)
 swept_entry R = least_row R.rows (swept_in R)
 
+-- row i has a basic artificial column, and its value is above 0
+abbrev pub is_above : Readings → ℕ → Bool
+is_above R i = is_artificial R (basic_at R i) && is_below zero_ℚ (R.right i)
+
 -- some artificial column has a value above 0
 abbrev pub is_left_above : Readings → Bool
-is_left_above R = some_below R.rows (λ i. is_artificial R (basic_at R i) && is_below zero_ℚ (R.right i))
+is_left_above R = some_below R.rows (is_above R)
 
 -- the multiplier of a row at the end of the first phase is 1 without its artificial column's price: each difference fits
 abbrev pub multipliers_fit : Readings → Bool

@@ -6,12 +6,12 @@ use Rattle.ratio_core.specs.Rational.{Fits, Rational, SumFits, fits, neg_ℚ, su
 use Rattle.ratio_core.specs.RationalLaws.{fits_Decides, sum_fits_Decides}
 use Rattle.rational_laws.specs.Field.{*ℚ-zero, +ℚ-zero, neg_ℚ-zero, zero-*ℚ}
 use Rattle.rational_laws.specs.Fitting.{Fits_zero}
-use Rattle.simplex_laws.specs.BoundedSums.{same_or_other}
-use Rattle.simplex_laws.specs.Turns.{all_below}
-use Rattle.simplex_laws.specs.Fit.{lowered_fits}
 use Rattle.tableau_core.specs.Row.{AllFit, IsLowered, cell, differences_fit, quotients_fit}
 use Rattle.tableau_core.proofs.ZeroSums.{SumFits-zero_right}
-use Rattle.tableau_core.specs.Below.{all_below_all, all_below_failed, all_below_more}
+use Rattle.simplex_laws.specs.SearchLaws.{all_below_all, all_below_failed, all_below_more}
+use Rattle.simplex_form.specs.Fit.{lowered_fits}
+use Rattle.simplex_form.specs.Search.{all_below}
+use Rattle.simplex_laws.specs.BoundedSumLaws.{same_or_other}
 
 -- of n numbers those below j pass the test and have their values
 pub record IsMadeTo (n j : ℕ) (test : ℕ → Bool) (made : ℕ → Rational) (next : List Rational) : Type 0 where

@@ -1,7 +1,7 @@
 //! Row operations: each works out a row beside the one that stands.
 ghost use Rattle.std.specs.Prelude.{◌≡◌, ◌≢◌, ◌≤◌, length, is_ok, IfOk, OkIff, OnOk};
 ghost use Rattle.ratio_core.specs.Rational.{Fits, zero_ℚ, ◌*ℚ◌, ◌-ℚ◌, ◌/ℚ◌};
-ghost use Rattle.simplex_laws.specs.Fit.{lowered_fits};
+ghost use Rattle.simplex_form.specs.Fit.{lowered_fits};
 ghost use Rattle.tableau_core.specs.Row.{AllFit, IsDivided, IsLowered, differences_fit, quotients_fit};
 
 use crate::fault::BoardOverflow;
