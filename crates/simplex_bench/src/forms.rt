@@ -5,7 +5,7 @@ ghost use Rattle.simplex_core.specs.StdForm.{IsWellShaped};
 
 use crate::draw::Draw;
 use crate::fault::BenchFault;
-use aff_core::Sequence;
+use lists::Sequence;
 use ratio_core::{Ratio, RatioFault};
 use simplex_core::StdForm;
 use std::alloc::{AllocError, Global};

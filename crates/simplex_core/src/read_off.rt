@@ -9,8 +9,8 @@ ghost use Rattle.simplex_core.specs.Placed.{GivesPoint, GivesRay, artificial};
 ghost use Rattle.simplex_core.specs.Steps.{Reads};
 
 use crate::answer::{Basis, SolverAnswer};
-use aff_core::{Ratios, Sequence};
-use ratio_core::{Memory, Ratio};
+use lists::{Memory, Sequence};
+use ratio_core::{Ratio, Ratios};
 use std::alloc::Global;
 use tableau_core::Board;
 

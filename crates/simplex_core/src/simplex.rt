@@ -9,8 +9,7 @@ use crate::answer::{Basis, SolverAnswer};
 use crate::fault::SolveFault;
 use crate::form::StdForm;
 use crate::run::run;
-use aff_core::Sequence;
-use ratio_core::Memory;
+use lists::{Memory, Sequence};
 use std::alloc::Global;
 use tableau_core::{Board, BoardFault};
 

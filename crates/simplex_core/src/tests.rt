@@ -3,8 +3,8 @@ ghost use Rattle.std.specs.Prelude.{◌↔◌, All, IsTrue};
 ghost use Rattle.ratio_core.specs.Rational.{zero_ℚ, ◌≤ℚ◌};
 
 use crate::{Basis, SolveFault, SolverAnswer, StdForm, solve};
-use aff_core::{Ratios, Sequence};
-use ratio_core::Ratio;
+use lists::Sequence;
+use ratio_core::{Ratio, Ratios};
 use std::alloc::{AllocError, Global};
 use std::test::Fail;
 
