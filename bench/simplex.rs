@@ -239,7 +239,7 @@ impl Draw {
 fn form(seed: u64, m: usize, c: usize, sparse: u64, greatest: u64) -> Form {
     let mut draw = Draw { state: seed };
     let point: Vec<i64> = (0..c).map(|_| draw.below(4) as i64).collect();
-    let costs = (0..c).map(|_| whole(draw.below(9) as i64 - 2)).collect();
+    let costs = (0..c).map(|_| whole(draw.below(9) as i64)).collect();
     let mut matrix = Vec::with_capacity(m * c);
     let mut right = Vec::with_capacity(m);
     for _ in 0..m {

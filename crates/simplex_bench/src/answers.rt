@@ -61,6 +61,9 @@ fn with_basis(start: u64, basis: &Basis) -> u64 {
 
 // Both halves of a number.
 fn parts(n: u128) -> u64 {
-    let (low, high) = ((n & 0xFFFF_FFFF_FFFF_FFFF) as u64, (n >> 64 & 0xFFFF_FFFF_FFFF_FFFF) as u64);
+    let (low, high) = (
+        (n & 0xFFFF_FFFF_FFFF_FFFF) as u64,
+        (n >> 64 & 0xFFFF_FFFF_FFFF_FFFF) as u64,
+    );
     low.wrapping_add(high.wrapping_mul(37))
 }

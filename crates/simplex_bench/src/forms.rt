@@ -26,15 +26,19 @@ pub fn form(alloc: Global, seed: u32, size: &Size) -> Result<StdForm, BenchFault
 {
     let mut draw = Draw::new(seed);
     let (m, c) = (usize::from(size.rows), usize::from(size.columns));
-    let point = numbers(alloc, &mut draw, c, 4, 0)?;
-    let costs = fractions(alloc, &numbers(alloc, &mut draw, c, 9, 2)?)?;
+    let point = numbers(alloc, &mut draw, c, 4)?;
+    let costs = fractions(alloc, &numbers(alloc, &mut draw, c, 9)?)?;
     let mut matrix = Vec::with_capacity(alloc, m * c)?;
     let mut right = Vec::with_capacity(alloc, m)?;
     for _ in 0..m {
         let row = row(alloc, &mut draw, size)?;
         let side = side(&row, &point);
         for entry in &row {
-            matrix.push(whole(if side < 0 { entry.wrapping_neg() } else { *entry })?)?;
+            matrix.push(whole(if side < 0 {
+                entry.wrapping_neg()
+            } else {
+                *entry
+            })?)?;
         }
         right.push(whole(if side < 0 { side.wrapping_neg() } else { side })?)?;
     }
@@ -65,19 +69,18 @@ fn is_side(b: &Ratio) -> bool
     *b >= Ratio::zero()
 }
 
-// Numbers of which each is one of n, the least of them `-below`.
+// Numbers below n.
 fn numbers(
     alloc: Global,
     draw: &mut Draw,
     count: usize,
     n: u32,
-    below: i64,
 ) -> Result<Vec<i64>, AllocError>
     requires { 0 < n }
 {
     let mut drawn = Vec::with_capacity(alloc, count)?;
     for _ in 0..count {
-        drawn.push(i64::from(draw.below(n)).wrapping_sub(below))?;
+        drawn.push(i64::from(draw.below(n)))?;
     }
     Ok(drawn)
 }
@@ -103,8 +106,7 @@ fn side(row: &[i64], point: &[i64]) -> i64 {
     sum
 }
 
-fn fractions(alloc: Global, numbers: &[i64]) -> Result<Vec<Ratio>, BenchFault>
-{
+fn fractions(alloc: Global, numbers: &[i64]) -> Result<Vec<Ratio>, BenchFault> {
     let mut made = Vec::with_capacity(alloc, numbers.len())?;
     for number in numbers {
         made.push(whole(*number)?)?;

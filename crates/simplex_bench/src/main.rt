@@ -18,9 +18,9 @@ fn main(rt: HostRuntime) -> io::Result<()> {
     let sparse = words.next().and_then(|word| word.as_str().parse().ok());
     let greatest = words.next().and_then(|word| word.as_str().parse().ok());
     let count = words.next().and_then(|word| word.as_str().parse().ok());
-    let (Some(rows), Some(columns), Some(sparse), Some(greatest), Some(count)) =
-        (rows, columns, sparse, greatest, count)
-    else {
+    let (Some(rows), Some(columns), Some(sparse), Some(greatest), Some(count)) = (
+        rows, columns, sparse, greatest, count,
+    ) else {
         return println!(rt; "usage: simplex_bench ROWS COLUMNS SPARSE GREATEST FORMS");
     };
     let size = Size {

@@ -96,8 +96,8 @@ module _ (F : Form) (n left : ℕ) (phase : Phase) (t : Tableau) (a : IsAtStep F
     stands = a.stands;
     board = a.board;
     due = by
-      ∙ turn_same t.in_first (readings_of t) (readings F a.state) a.board phase (λ u. subst IsTrue (sym kept) u)
-      ∙ ap (λ p. bland.turn_in p (readings F a.state)) (sym a.told);
+        ∙ turn_same t.in_first (readings_of t) (readings F a.state) a.board phase (λ u. subst IsTrue (sym kept) u)
+        ∙ ap (λ p. bland.turn_in p (readings F a.state)) (sym a.told);
   }
 
   due_ends : (b : Turn) → turn ≡ b → ends b ≡ ends (bland.turn F a.state)

@@ -91,10 +91,8 @@ fn ray(alloc: Global, board: &Board, q: usize) -> Result<Ratios, Memory>
 fn first_multipliers(alloc: Global, board: &Board) -> Result<Ratios, Memory>
     requires first { IsTrue board.now.in_first }
     requires fit { multipliers_fit (readings_of board.now) ≡ true }
-    ensures {
-        let R = readings_of board.now in
-        IfOk result (IsListOf R.rows (λ k. one_ℚ -ℚ artificial R.first_price R k))
-    }
+    ensures { let R = readings_of board.now in
+        IfOk result (IsListOf R.rows (λ k. one_ℚ -ℚ artificial R.first_price R k)) }
 {
     let mut y = Vec::with_capacity(alloc, board.row_count())?;
     for j in board.real_count()..board.column_count() {
@@ -105,10 +103,8 @@ fn first_multipliers(alloc: Global, board: &Board) -> Result<Ratios, Memory>
 
 // The second phase's: the negated price of the row's artificial column.
 fn second_multipliers(alloc: Global, board: &Board) -> Result<Ratios, Memory>
-    ensures {
-        let R = readings_of board.now in
-        IfOk result (IsListOf R.rows (λ k. neg_ℚ (artificial R.second_price R k)))
-    }
+    ensures { let R = readings_of board.now in
+        IfOk result (IsListOf R.rows (λ k. neg_ℚ (artificial R.second_price R k))) }
 {
     let mut y = Vec::with_capacity(alloc, board.row_count())?;
     for j in board.real_count()..board.column_count() {

@@ -27,9 +27,7 @@ pub(crate) fn turn(board: &Board, phase: Phase) -> Turn
 
 fn first_turn(board: &Board) -> Turn
     requires first { IsTrue board.now.in_first }
-    ensures turn {
-        let R = readings_of board.now in result ≡ bland.first_turn R (bland.entering R R.first_price)
-    }
+    ensures turn { let R = readings_of board.now in result ≡ bland.first_turn R (bland.entering R R.first_price) }
     ensures within { IsWithin board.now result }
 {
     if let Some(column) = entering(board, 1) {
@@ -46,9 +44,7 @@ fn first_turn(board: &Board) -> Turn
 }
 
 fn sweep_turn(board: &Board) -> Turn
-    ensures turn {
-        let R = readings_of board.now in result ≡ bland.sweep_turn R (bland.swept_entry R)
-    }
+    ensures turn { let R = readings_of board.now in result ≡ bland.sweep_turn R (bland.swept_entry R) }
     ensures within { IsWithin board.now result }
 {
     match swept(board) {
@@ -62,10 +58,8 @@ fn sweep_turn(board: &Board) -> Turn
 }
 
 fn second_turn(board: &Board) -> Turn
-    ensures turn {
-        let R = readings_of board.now in
-        result ≡ bland.second_turn R (bland.entering R R.second_price)
-    }
+    ensures turn { let R = readings_of board.now in
+        result ≡ bland.second_turn R (bland.entering R R.second_price) }
     ensures within { IsWithin board.now result }
 {
     match entering(board, 2) {
@@ -78,9 +72,7 @@ fn second_turn(board: &Board) -> Turn
 fn enters(board: &Board, phase: Phase, column: usize) -> Turn
     requires first { IsTrue (uses_first phase) → IsTrue board.now.in_first }
     requires column { column < board.now.reals }
-    ensures turn {
-        result ≡ bland.enters phase column (bland.leaving (readings_of board.now) column)
-    }
+    ensures turn { result ≡ bland.enters phase column (bland.leaving (readings_of board.now) column) }
     ensures within { IsWithin board.now result }
 {
     match leaving(board, column) {
@@ -107,9 +99,7 @@ fn entering(board: &Board, phase: u8) -> Option<usize>
 fn leaving(board: &Board, q: usize) -> Option<usize>
     requires column { q < width board.now }
     ensures value { result ≡ bland.leaving (readings_of board.now) q }
-    ensures row {
-        IfSome result (λ r. (r < length board.now.rows) × (zero_ℚ ‹ℚ (readings_of board.now).entry q r))
-    }
+    ensures row { IfSome result (λ r. (r < length board.now.rows) × (zero_ℚ ‹ℚ (readings_of board.now).entry q r)) }
 {
     let mut best = None;
     for i in 0..board.row_count() {
@@ -123,19 +113,11 @@ fn leaving(board: &Board, q: usize) -> Option<usize>
 // The row that leaves first, of the best so far and row i.
 fn better(board: &Board, q: usize, best: Option<usize>, i: usize) -> usize
     requires column { q < width board.now }
-    requires row {
-        (i < length board.now.rows) × (zero_ℚ ‹ℚ (readings_of board.now).entry q i)
-    }
-    requires best {
-        IfSome best (λ k. (k < length board.now.rows) × (zero_ℚ ‹ℚ (readings_of board.now).entry q k))
-    }
-    ensures value {
-        let R = readings_of board.now in
-        Some result ≡ better_of (bland.may_leave R q) (bland.leaves_before R q) best i
-    }
-    ensures row {
-        (result < length board.now.rows) × (zero_ℚ ‹ℚ (readings_of board.now).entry q result)
-    }
+    requires row { (i < length board.now.rows) × (zero_ℚ ‹ℚ (readings_of board.now).entry q i) }
+    requires best { IfSome best (λ k. (k < length board.now.rows) × (zero_ℚ ‹ℚ (readings_of board.now).entry q k)) }
+    ensures value { let R = readings_of board.now in
+        Some result ≡ better_of (bland.may_leave R q) (bland.leaves_before R q) best i }
+    ensures row { (result < length board.now.rows) × (zero_ℚ ‹ℚ (readings_of board.now).entry q result) }
 {
     match best {
         Some(best) if !leaves_before(board, q, i, best) => best,
@@ -146,12 +128,8 @@ fn better(board: &Board, q: usize, best: Option<usize>, i: usize) -> usize
 // Row i leaves before row k: by a lower ratio, and of equal ones by the lower basic column.
 fn leaves_before(board: &Board, q: usize, i: usize, k: usize) -> bool
     requires column { q < width board.now }
-    requires row {
-        (i < length board.now.rows) × (zero_ℚ ‹ℚ (readings_of board.now).entry q i)
-    }
-    requires other {
-        (k < length board.now.rows) × (zero_ℚ ‹ℚ (readings_of board.now).entry q k)
-    }
+    requires row { (i < length board.now.rows) × (zero_ℚ ‹ℚ (readings_of board.now).entry q i) }
+    requires other { (k < length board.now.rows) × (zero_ℚ ‹ℚ (readings_of board.now).entry q k) }
     ensures { result ≡ bland.leaves_before (readings_of board.now) q i k }
 {
     let (by, over) = (board.entry(i, q), board.entry(k, q));
@@ -165,11 +143,9 @@ fn leaves_before(board: &Board, q: usize, i: usize, k: usize) -> bool
 // The least row with a basic artificial column and a real entry that isn't 0, with the least such column.
 fn swept(board: &Board) -> Option<(usize, usize)>
     ensures value { result ≡ bland.swept_entry (readings_of board.now) }
-    ensures entry {
-        IfSome result (λ found.
-            (found.0 < length board.now.rows) × (found.1 < board.now.reals)
-            × ¬ ((readings_of board.now).entry found.1 found.0 ≡ zero_ℚ))
-    }
+    ensures entry { IfSome result (λ found.
+        (found.0 < length board.now.rows) × (found.1 < board.now.reals)
+        × ¬ ((readings_of board.now).entry found.1 found.0 ≡ zero_ℚ)) }
 {
     for i in 0..board.row_count() {
         if board.basis()[i] >= board.real_count() {
@@ -185,10 +161,8 @@ fn swept(board: &Board) -> Option<(usize, usize)>
 fn swept_column(board: &Board, r: usize) -> Option<usize>
     requires row { r < length board.now.rows }
     ensures value { result ≡ bland.swept_column (readings_of board.now) r }
-    ensures entry {
-        IfSome result (λ q.
-            (q < board.now.reals) × ¬ ((readings_of board.now).entry q r ≡ zero_ℚ))
-    }
+    ensures entry { IfSome result (λ q.
+        (q < board.now.reals) × ¬ ((readings_of board.now).entry q r ≡ zero_ℚ)) }
 {
     for j in 0..board.real_count() {
         if !board.entry(r, j).is_zero() {

@@ -18,16 +18,10 @@ use std::alloc::Global;
 use tableau_core::{Board, BoardOverflow};
 
 // Goes on from the first board, with an allowance of pivots.
-pub(crate) fn run(
-    alloc: Global,
-    mut board: Board,
-    pivots: u64,
-) -> Result<SolverAnswer, SolveFault>
+pub(crate) fn run(alloc: Global, mut board: Board, pivots: u64) -> Result<SolverAnswer, SolveFault>
     requires in_first { board.in_first ≡ true }
-    ensures {
-        (F : Form) → IsStandard F → IsBoardOf F (start F) board
-        → Tells F pivots (outcome_from F pivots (start F)) result
-    }
+    ensures { (F : Form) → IsStandard F → IsBoardOf F (start F) board
+        → Tells F pivots (outcome_from F pivots (start F)) result }
 {
     let mut phase = Phase::First;
     let mut left = pivots;
@@ -70,11 +64,9 @@ fn step(board: &mut Board, next: Phase, row: usize, column: usize) -> Result<(),
     requires column { column < board.old.reals }
     requires nonzero { (readings_of board.old).entry column row ≢ zero_ℚ }
     ensures fits { is_ok result ≡ pivot_fits (uses_first next) (readings_of board.old) row column }
-    ensures board {
-        MatchResult result
-            (λ _. IsPivoted row column (in_phase next board.old) board.new)
-            (λ _. board.new ≡ in_phase next board.old)
-    }
+    ensures board { MatchResult result
+        (λ _. IsPivoted row column (in_phase next board.old) board.new)
+        (λ _. board.new ≡ in_phase next board.old) }
 {
     leave(board, next);
     board.pivot(row, column)

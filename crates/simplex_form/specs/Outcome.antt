@@ -30,7 +30,7 @@ IsOutcome F n (limited s) = HasTrail F n × (s ≡ reached F n) × (ends (turn F
 IsOutcome F n (overflowing s) =
     ((start_fits F ≡ false) × (s ≡ start F))
     ⊎ ((k : ℕ) × (k < n) × HasTrail F k × (s ≡ reached F k)
-        × (ends (turn F s) ≡ false) × (turn_fits (readings F s) (turn F s) ≡ false))
+    × (ends (turn F s) ≡ false) × (turn_fits (readings F s) (turn F s) ≡ false))
 
 -- from the basis on, with n steps more
 abbrev pub outcome_from : Form → ℕ → State → Outcome

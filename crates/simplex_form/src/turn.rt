@@ -23,7 +23,9 @@ pub enum Turn {
     /// The rows can't be met.
     Infeasible,
     /// The column has a negative price and no positive entry.
-    Unbounded { column: usize },
+    Unbounded {
+        column: usize,
+    },
     /// No column has a negative price.
     Optimal,
 }

@@ -1,5 +1,5 @@
 -- The trail from its start: what stands at each basis, and that every end that is reached is right.
-use Rattle.std.specs.Prelude.{◌≡◌, ℕ, zero, suc, ◌+◌, ◌-◌, ◌<◌, ◌≤◌, Bool, true, false, List, [], ◌∷◌, if◌then◌else◌, length, refl}
+use Rattle.std.specs.Prelude.{◌≡◌, ℕ, zero, suc, ◌+◌, ◌-◌, ◌<◌, ◌≤◌, Bool, true, false, List, [], ◌∷◌, if◌then◌else◌, length, Some, slice_get, refl}
 use Rattle.std.proofs.Common.{sym, ◌∙◌, ap, ap₂, arith, subst}
 use Rattle.std.proofs.lemmas.Bool.{cond-true}
 use Rattle.std.proofs.lemmas.List.FromFn.{get_or-range_with_len, length-range_with_len}
@@ -12,7 +12,7 @@ use Rattle.simplex_form.specs.Fit.{start_fits}
 use Rattle.simplex_form.specs.Form.{Form, IsStandard, column, first_cost, second_cost}
 use Rattle.simplex_form.specs.Outcome.{HasTrail}
 use Rattle.simplex_form.specs.Standing.{IsAnswered, Stands}
-use Rattle.simplex_form.specs.Trail.{goes_on, next, reached, stop, trail_from}
+use Rattle.simplex_form.specs.Trail.{goes_on, next, reached, stop, trail, trail_from}
 use Rattle.simplex_form.specs.Turns.{turn}
 use Rattle.simplex_form.specs.declared.turn.Phase.{Phase}
 use Rattle.simplex_laws.specs.BoundedSumLaws.{delta_sym, sum_to_delta, sum_to_same, sum_to_zero}
@@ -166,6 +166,16 @@ module _ (F : Form) where
   each_goes_on (suc n) (suc k) s e b =
       ap (goes_on F) (sym (reached_from-next k s)) ∙ each_goes_on n k (next F s) (first_goes_on n s e).1 (omega (arith, b))
 
+  each_stop : (n k : ℕ) (s : State) → length (trail_from F n s) ≡ suc n → k ≤ n → slice_get (trail_from F n s) k ≡ Some (stop (reached_from k s))
+  unfolding reached_from
+  each_stop zero zero s e b = refl
+  each_stop zero (suc k) s e b = absurd (omega (arith, b))
+  each_stop (suc n) zero s e b = refl
+  each_stop (suc n) (suc k) s e b =
+      let first : (goes_on F s ≡ true) × (length (trail_from F n (next F s)) ≡ suc n) = first_goes_on n s e in
+      ap (λ b. slice_get (stop s ∷ (if b then trail_from F n (next F s) else [])) (suc k)) first.0
+      ∙ each_stop n k (next F s) first.1 (omega (arith, b)) ∙ ap (λ t. Some (stop t)) (reached_from-next k s)
+
   from_start : (n : ℕ) → HasTrail F n → length (trail_from F n (start F)) ≡ suc n
   from_start n h = ap length (sym (cond-true (start_fits F) (trail_from F n (start F)) (stop (start F) ∷ []) h.start_fits)) ∙ h.long
 
@@ -182,3 +192,9 @@ module _ (F : Form) where
   -- each basis of a trail but its last goes on
   pub trail-goes_on : (n k : ℕ) → HasTrail F n → k < n → goes_on F (reached F k) ≡ true
   trail-goes_on n k h b = ap (goes_on F) (sym (reached_from-start k)) ∙ each_goes_on n k (start F) (from_start n h) b
+
+  -- and each is that of as many steps
+  pub trail-reached : (n k : ℕ) → HasTrail F n → k ≤ n → slice_get (trail F n) k ≡ Some (stop (reached F k))
+  trail-reached n k h b =
+      ap (λ l. slice_get l k) (cond-true (start_fits F) (trail_from F n (start F)) (stop (start F) ∷ []) h.start_fits)
+      ∙ each_stop n k (start F) (from_start n h) b ∙ ap (λ t. Some (stop t)) (reached_from-start k)

@@ -221,6 +221,6 @@ module _ (a b : Inside) (reals : b.reals ≡ a.reals) (count : length b.rows.ite
         (record {
           in_first = in_first;
           readings = agrees_chain a.in_first (readings_of (tableau_of b)) (kept_readings b) (pivoted_readings r q (readings_of (tableau_of a))) (value_agrees a.in_first b)
-            (agrees_chain a.in_first (kept_readings b) (pivoted_readings r q (kept_readings a)) (pivoted_readings r q (readings_of (tableau_of a))) (inside_pivoted basis)
-            (pivoted_agrees a.in_first (kept_readings a) (readings_of (tableau_of a)) (kept_agrees a.in_first a) r q (subst (λ n. r < n) (sym (count_is (width_of a) a.rows.items)) row) (subst (λ t. q < width t) (sym view) column)));
+              (agrees_chain a.in_first (kept_readings b) (pivoted_readings r q (kept_readings a)) (pivoted_readings r q (readings_of (tableau_of a))) (inside_pivoted basis)
+              (pivoted_agrees a.in_first (kept_readings a) (readings_of (tableau_of a)) (kept_agrees a.in_first a) r q (subst (λ n. r < n) (sym (count_is (width_of a) a.rows.items)) row) (subst (λ t. q < width t) (sym view) column)));
         })

@@ -37,4 +37,4 @@ abbrev pub numbers_fit : ℕ → (ℕ → List Rational) → ℕ → ℕ → Boo
 numbers_fit n row r q in_first first second =
     quotients_fit (cell (row r) q) (row r)
     && (all_below n (λ i. nat_eq i r || row_fits row r q (row i))
-        && ((not in_first || row_fits row r q first) && row_fits row r q second))
+    && ((not in_first || row_fits row r q first) && row_fits row r q second))

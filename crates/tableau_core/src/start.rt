@@ -29,14 +29,10 @@ pub(crate) fn start_rows(
     requires room { c + m + 1 < 2 ^ 64 }
     ensures count { IfOk result (λ rows. length rows.items ≡ m) }
     ensures wide { IfOk result (λ rows. AreWide (c + m + 1) rows.items) }
-    ensures entries {
-        IfOk result (λ rows. AtEachStart m c matrix.now (λ F s.
-            (i j : ℕ) → i < m → j < c + m → cell (now_at rows.items i) j ≡ entry F s j i))
-    }
-    ensures sides {
-        IfOk result (λ rows.
-            (i : ℕ) → i < m → cell (now_at rows.items i) (c + m) ≡ cell right.now i)
-    }
+    ensures entries { IfOk result (λ rows. AtEachStart m c matrix.now (λ F s.
+        (i j : ℕ) → i < m → j < c + m → cell (now_at rows.items i) j ≡ entry F s j i)) }
+    ensures sides { IfOk result (λ rows.
+        (i : ℕ) → i < m → cell (now_at rows.items i) (c + m) ≡ cell right.now i) }
 {
     let mut rows = Vec::with_capacity(alloc, m)?;
     for (i, side) in right.iter().enumerate() {
@@ -58,10 +54,8 @@ fn start_row(
     requires within { i < m }
     requires room { c + m + 1 < 2 ^ 64 }
     ensures long { IfOk result (λ row. length row.now.items ≡ c + m + 1) }
-    ensures entries {
-        IfOk result (λ row. AtEachStart m c matrix.now (λ F s.
-            (j : ℕ) → j < c + m → cell row.now.items j ≡ entry F s j i))
-    }
+    ensures entries { IfOk result (λ row. AtEachStart m c matrix.now (λ F s.
+        (j : ℕ) → j < c + m → cell row.now.items j ≡ entry F s j i)) }
     ensures side { IfOk result (λ row. cell row.now.items (c + m) ≡ side.now) }
 {
     let mut numbers = Vec::with_capacity(alloc, c + m + 1)?;
@@ -99,15 +93,11 @@ pub(crate) fn first_prices(
 ) -> Result<Vec<Ratio>, BoardFault>
     requires long { length matrix.now ≡ m * c }
     requires room { c + m + 1 < 2 ^ 64 }
-    ensures prices {
-        IfOk result (λ prices. AtEachStart m c matrix.now (λ F s.
-            IsListOf (c + m) (price F s (first_cost F)) prices.items))
-    }
+    ensures prices { IfOk result (λ prices. AtEachStart m c matrix.now (λ F s.
+        IsListOf (c + m) (price F s (first_cost F)) prices.items)) }
     ensures all_fit { IfOk result (λ prices. AllFit prices.items) }
     ensures fits { OnOk result (AtEachStart m c matrix.now (λ F _. start_fits F ≡ true)) }
-    ensures overflow {
-        IsErrOf result BoardFault.Overflow → AtEachStart m c matrix.now (λ F _. start_fits F ≡ false)
-    }
+    ensures overflow { IsErrOf result BoardFault.Overflow → AtEachStart m c matrix.now (λ F _. start_fits F ≡ false) }
 {
     let mut prices = Vec::with_capacity(alloc, c + m)?;
     for j in 0..c {
@@ -124,10 +114,8 @@ fn first_price(m: usize, c: usize, matrix: &[Ratio], j: usize) -> Result<Ratio, 
     requires long { length matrix.now ≡ m * c }
     requires within { j < c }
     ensures fits { AtEachStart m c matrix.now (λ F _. is_ok result ≡ first_sum_fits F j) }
-    ensures ok {
-        IfOk result (λ x. AtEachStart m c matrix.now (λ F _.
-            x ≡ neg_ℚ (sum_to m (λ i. F.matrix i j))))
-    }
+    ensures ok { IfOk result (λ x. AtEachStart m c matrix.now (λ F _.
+        x ≡ neg_ℚ (sum_to m (λ i. F.matrix i j)))) }
 {
     let mut sum = Ratio::zero();
     for i in 0..m {
@@ -144,11 +132,9 @@ pub(crate) fn second_prices(
     costs: &[Ratio],
 ) -> Result<Vec<Ratio>, AllocError>
     requires room { length costs.now + m + 1 < 2 ^ 64 }
-    ensures prices {
-        IfOk result (λ prices. (matrix right : List Rational) →
-            let F = form_of m (length costs.now) matrix right costs.now in
-            IsListOf (length costs.now + m) (second_cost F) prices.items)
-    }
+    ensures prices { IfOk result (λ prices. (matrix right : List Rational) →
+        let F = form_of m (length costs.now) matrix right costs.now in
+        IsListOf (length costs.now + m) (second_cost F) prices.items) }
     ensures all_fit { IfOk result (λ prices. AllFit prices.items) }
 {
     let mut prices = Vec::with_capacity(alloc, costs.len() + m)?;
