@@ -1,72 +1,259 @@
-//! The same benchmark as `ratio_bench`, written plainly in Rust: i128, Euclid's rule, and the same refusals.
+//! The same benchmark as `ratio_bench`, written plainly in Rust: binary gcds, 64 bits wherever they serve, and the same
+//! refusals.
 use std::cmp::Ordering;
 
+/// In lowest terms; the denominator is positive, and both parts are at most 2^127 - 1 in magnitude.
 #[derive(Clone, Copy)]
 struct Ratio {
     num: i128,
-    den: i128,
+    den: u128,
 }
 
-fn gcd(mut a: i128, mut b: i128) -> i128 {
-    while b != 0 {
-        (a, b) = (b, a % b);
+enum Fault {
+    ZeroDenominator,
+    Overflow,
+}
+
+const GREATEST: u128 = i128::MAX as u128;
+
+/// Of two odd numbers.
+#[inline]
+fn odd_gcd(mut x: u64, mut y: u64) -> u64 {
+    while x != y {
+        let zeros = x.wrapping_sub(y).trailing_zeros();
+        let apart = x.abs_diff(y);
+        x = x.min(y);
+        y = apart >> zeros;
     }
-    a.abs()
+    x
+}
+
+/// Of two numbers, the second of which isn't 0.
+#[inline]
+fn narrow_gcd(x: u64, y: u64) -> u64 {
+    if x == 1 || y == 1 {
+        return 1;
+    }
+    if x == 0 {
+        return y;
+    }
+    let zeros = (x | y).trailing_zeros();
+    odd_gcd(x >> x.trailing_zeros(), y >> y.trailing_zeros()) << zeros
+}
+
+fn gcd(x: u128, y: u128) -> u128 {
+    if let (Ok(x), Ok(y)) = (u64::try_from(x), u64::try_from(y)) {
+        return narrow_gcd(x, y) as u128;
+    }
+    wide_gcd(x, y)
+}
+
+#[cold]
+#[inline(never)]
+fn wide_gcd(x: u128, y: u128) -> u128 {
+    if y <= u64::MAX as u128 {
+        return narrow_gcd((x % y) as u64, y as u64) as u128;
+    }
+    if x == 0 {
+        return y;
+    }
+    if x <= u64::MAX as u128 {
+        let rest = (y % x) as u64;
+        return if rest == 0 { x } else { narrow_gcd(x as u64, rest) as u128 };
+    }
+    let zeros = (x | y).trailing_zeros();
+    let mut x = x >> x.trailing_zeros();
+    let mut y = y >> y.trailing_zeros();
+    while x > u64::MAX as u128 || y > u64::MAX as u128 {
+        if x == y {
+            return x << zeros;
+        }
+        let ends = x.wrapping_sub(y).trailing_zeros();
+        let apart = x.abs_diff(y);
+        x = x.min(y);
+        y = apart >> ends;
+    }
+    (odd_gcd(x as u64, y as u64) as u128) << zeros
+}
+
+#[inline]
+fn quotient(a: u128, by: u128) -> u128 {
+    if by == 1 {
+        a
+    } else if let (Ok(a), Ok(by)) = (u64::try_from(a), u64::try_from(by)) {
+        (a / by) as u128
+    } else {
+        a / by
+    }
+}
+
+#[inline]
+fn product(a: u128, b: u128) -> Result<u128, Fault> {
+    if a <= i64::MAX as u128 && b <= u64::MAX as u128 {
+        return Ok((a as u64 as u128) * (b as u64 as u128));
+    }
+    match a.checked_mul(b) {
+        Some(whole) if whole <= GREATEST => Ok(whole),
+        _ => Err(Fault::Overflow),
+    }
+}
+
+#[inline]
+fn with_sign(is_negative: bool, size: u128) -> i128 {
+    if is_negative { -(size as i128) } else { size as i128 }
+}
+
+#[inline]
+fn within(num: i128) -> Result<i128, Fault> {
+    if num == i128::MIN { Err(Fault::Overflow) } else { Ok(num) }
 }
 
 impl Ratio {
-    fn new(num: i128, den: i128) -> Option<Ratio> {
+    fn new(num: i128, den: i128) -> Result<Ratio, Fault> {
         if den == 0 {
-            return None;
+            return Err(Fault::ZeroDenominator);
         }
-        let common = gcd(num, den);
-        Some(Ratio { num: num / common, den: den / common })
+        let (size, over) = (num.unsigned_abs(), den.unsigned_abs());
+        let common = gcd(size, over);
+        let (size, over) = (quotient(size, common), quotient(over, common));
+        if size > GREATEST || over > GREATEST {
+            return Err(Fault::Overflow);
+        }
+        Ok(Ratio { num: with_sign((num < 0) != (den < 0), size), den: over })
     }
 
-    fn add(&self, other: &Ratio) -> Option<Ratio> {
+    /// Whether the parts of both fit 63 bits.
+    #[inline]
+    fn are_narrow(&self, other: &Ratio) -> bool {
+        let sizes = self.num.unsigned_abs() | other.num.unsigned_abs();
+        (sizes | self.den | other.den) <= i64::MAX as u128
+    }
+
+    fn add(&self, other: &Ratio) -> Result<Ratio, Fault> {
+        if self.den == 1 && other.den == 1 {
+            let num = self.num.checked_add(other.num).ok_or(Fault::Overflow)?;
+            return Ok(Ratio { num: within(num)?, den: 1 });
+        }
+        if self.are_narrow(other) {
+            return Ok(add_narrow(self.num as i64, self.den as u64, other.num as i64, other.den as u64));
+        }
+        self.add_wide(other)
+    }
+
+    fn add_wide(&self, other: &Ratio) -> Result<Ratio, Fault> {
         let common = gcd(self.den, other.den);
-        let left = self.num.checked_mul(other.den / common)?;
-        let right = other.num.checked_mul(self.den / common)?;
-        let sum = left.checked_add(right)?;
-        let last = gcd(sum, common);
-        let den = (self.den / common).checked_mul(other.den / last)?;
-        if left == i128::MIN || right == i128::MIN || sum == i128::MIN {
-            return None;
-        }
-        Some(Ratio { num: sum / last, den })
+        let left_over = quotient(self.den, common);
+        let right_over = quotient(other.den, common);
+        let left = product(self.num.unsigned_abs(), right_over)?;
+        let right = product(other.num.unsigned_abs(), left_over)?;
+        let sum = with_sign(self.num < 0, left).checked_add(with_sign(other.num < 0, right)).ok_or(Fault::Overflow)?;
+        let size = within(sum)?.unsigned_abs();
+        let last = gcd(size, common);
+        let den = product(left_over, quotient(other.den, last))?;
+        Ok(Ratio { num: with_sign(sum < 0, quotient(size, last)), den })
     }
 
-    fn mul(&self, other: &Ratio) -> Option<Ratio> {
-        let left = gcd(self.num, other.den);
-        let right = gcd(other.num, self.den);
-        let num = (self.num / left).checked_mul(other.num / right)?;
-        let den = (self.den / right).checked_mul(other.den / left)?;
-        if num == i128::MIN {
-            return None;
+    fn mul(&self, other: &Ratio) -> Result<Ratio, Fault> {
+        if self.are_narrow(other) {
+            return Ok(mul_narrow(self.num as i64, self.den as u64, other.num as i64, other.den as u64));
         }
-        Some(Ratio { num, den })
+        self.mul_wide(other)
+    }
+
+    fn mul_wide(&self, other: &Ratio) -> Result<Ratio, Fault> {
+        let (left_size, right_size) = (self.num.unsigned_abs(), other.num.unsigned_abs());
+        let left = gcd(left_size, other.den);
+        let right = gcd(right_size, self.den);
+        let size = product(quotient(left_size, left), quotient(right_size, right))?;
+        let den = product(quotient(self.den, right), quotient(other.den, left))?;
+        Ok(Ratio { num: with_sign((self.num < 0) != (other.num < 0), size), den })
+    }
+
+    fn sub(&self, other: &Ratio) -> Result<Ratio, Fault> {
+        self.add(&Ratio { num: -other.num, den: other.den })
+    }
+
+    fn div(&self, other: &Ratio) -> Result<Ratio, Fault> {
+        if other.num == 0 {
+            return Err(Fault::ZeroDenominator);
+        }
+        self.mul(&Ratio { num: with_sign(other.num < 0, other.den), den: other.num.unsigned_abs() })
     }
 
     fn cmp(&self, other: &Ratio) -> Ordering {
-        match (self.num.checked_mul(other.den), other.num.checked_mul(self.den)) {
-            (Some(left), Some(right)) => left.cmp(&right),
-            _ => by_quotients(self.num, self.den, other.num, other.den),
+        if self.den == other.den {
+            return self.num.cmp(&other.num);
+        }
+        match (self.num < 0, other.num < 0) {
+            (false, true) => Ordering::Greater,
+            (true, false) => Ordering::Less,
+            (false, false) => cmp_products(self.num.unsigned_abs(), other.den, other.num.unsigned_abs(), self.den),
+            (true, true) => cmp_products(other.num.unsigned_abs(), self.den, self.num.unsigned_abs(), other.den),
         }
     }
 }
 
-// By the whole parts, and then by the reciprocals of what is left.
-fn by_quotients(a: i128, b: i128, c: i128, d: i128) -> Ordering {
-    let (left, right) = (a.div_euclid(b), c.div_euclid(d));
-    if left != right {
-        return left.cmp(&right);
+/// No step of it passes 128 bits.
+#[inline]
+fn add_narrow(a: i64, b: u64, c: i64, d: u64) -> Ratio {
+    let common = narrow_gcd(b, d);
+    if common == 1 {
+        let num = a as i128 * d as i128 + c as i128 * b as i128;
+        return Ratio { num, den: b as u128 * d as u128 };
     }
-    match (a.rem_euclid(b), c.rem_euclid(d)) {
-        (0, 0) => Ordering::Equal,
-        (0, _) => Ordering::Less,
-        (_, 0) => Ordering::Greater,
-        (rest, other) => by_quotients(d, other, b, rest),
+    let (left_over, right_over) = (b / common, d / common);
+    let sum = a as i128 * right_over as i128 + c as i128 * left_over as i128;
+    let size = sum.unsigned_abs();
+    let rest = match u64::try_from(size) {
+        Ok(size) => size % common,
+        Err(_) => (size % common as u128) as u64,
+    };
+    let last = narrow_gcd(rest, common);
+    if last == 1 {
+        return Ratio { num: sum, den: left_over as u128 * d as u128 };
     }
+    Ratio {
+        num: with_sign(sum < 0, quotient(size, last as u128)),
+        den: left_over as u128 * (d / last) as u128,
+    }
+}
+
+#[inline]
+fn mul_narrow(a: i64, b: u64, c: i64, d: u64) -> Ratio {
+    let (left_size, right_size) = (a.unsigned_abs(), c.unsigned_abs());
+    let left = narrow_gcd(left_size, d);
+    let right = narrow_gcd(right_size, b);
+    let size = narrow_quotient(left_size, left) as u128 * narrow_quotient(right_size, right) as u128;
+    let den = narrow_quotient(b, right) as u128 * narrow_quotient(d, left) as u128;
+    Ratio { num: with_sign((a < 0) != (c < 0), size), den }
+}
+
+#[inline]
+fn narrow_quotient(a: u64, by: u64) -> u64 {
+    if by == 1 { a } else { a / by }
+}
+
+/// `a * b` against `c * d`, in 256 bits.
+fn cmp_products(a: u128, b: u128, c: u128, d: u128) -> Ordering {
+    if a <= u64::MAX as u128 && b <= u64::MAX as u128 && c <= u64::MAX as u128 && d <= u64::MAX as u128 {
+        return (a * b).cmp(&(c * d));
+    }
+    let (left_low, left_high) = widening_mul(a, b);
+    let (right_low, right_high) = widening_mul(c, d);
+    (left_high, left_low).cmp(&(right_high, right_low))
+}
+
+/// The low and the high half of a product.
+#[inline]
+fn widening_mul(a: u128, b: u128) -> (u128, u128) {
+    a.carrying_mul(b, 0)
+}
+
+#[derive(Clone, Copy)]
+enum Operation {
+    Add,
+    Multiply,
+    Compare,
 }
 
 struct Draw {
@@ -79,52 +266,112 @@ impl Draw {
         self.state
     }
 
-    fn below(&mut self, modulus: u128) -> i128 {
-        let (high, low) = (self.next() >> 8, self.next() >> 8);
-        let wide = (high as u128) << 56 | low as u128;
-        (wide * 0x4000 % modulus) as i128
+    /// How many bits the next part has at most.
+    fn bits(&mut self, size: &str) -> u32 {
+        match size {
+            "whole" | "small" => 7,
+            "medium" => 31,
+            "limit" => 62,
+            "wide" => 126,
+            _ => ((self.next() >> 57) % 127) as u32,
+        }
+    }
+
+    fn operand(&mut self, size: &str) -> Result<Ratio, Fault> {
+        let bits = self.bits(size);
+        let num = self.part(bits);
+        let num = if self.next() >= 1 << 63 { -num } else { num };
+        let bits = self.bits(size);
+        let den = if size == "whole" { 1 } else { self.part(bits) + 1 };
+        Ratio::new(num, den)
+    }
+
+    /// A number of so many bits: the highest of two draws, which are the best of such a congruence.
+    fn part(&mut self, bits: u32) -> i128 {
+        let (high, low) = (self.next() >> 1, self.next() >> 1);
+        let wide = ((high as u128) << 63) + low as u128;
+        (wide >> (126 - bits)) as i128
     }
 }
 
-fn digest(result: Option<Ratio>) -> u64 {
-    match result {
-        Some(value) => value.num.unsigned_abs() as u64 ^ value.den as u64,
-        None => 1,
-    }
-}
-
-fn main() {
-    let words: Vec<String> = std::env::args().collect();
-    let modulus: u128 = match words[2].as_str() {
-        "whole" | "small" => 0x80,
-        "medium" => 0x8000_0000,
-        "limit" => 0x4000_0000_0000_0000,
-        _ => 0x4000_0000_0000_0000_0000_0000_0000_0000,
-    };
+fn operands(size: &str) -> Vec<Ratio> {
     let mut draw = Draw { state: 1 };
-    let mut operands = Vec::with_capacity(1024);
-    for _ in 0..1024 {
-        let num = draw.below(modulus);
-        let num = if draw.next() >= 1 << 63 { -num } else { num };
-        let den = if words[2] == "whole" { 1 } else { draw.below(modulus) + 1 };
-        operands.extend(Ratio::new(num, den));
+    (0..1024).filter_map(|_| draw.operand(size).ok()).collect()
+}
+
+fn mixed(sum: u64, word: u64) -> u64 {
+    sum.wrapping_mul(31).wrapping_add(word)
+}
+
+/// Every part of the answer, or which refusal it is.
+fn digest(answer: Result<Ratio, Fault>) -> u64 {
+    match answer {
+        Ok(value) => {
+            let num = mixed(value.num as u64, (value.num >> 64) as u64);
+            mixed(mixed(num, value.den as u64), (value.den >> 64) as u64)
+        }
+        Err(Fault::Overflow) => 1,
+        Err(Fault::ZeroDenominator) => 2,
     }
-    let rounds: u32 = words[3].parse().unwrap();
+}
+
+fn order(answer: Ordering) -> u64 {
+    match answer {
+        Ordering::Less => 2,
+        Ordering::Equal => 3,
+        Ordering::Greater => 5,
+    }
+}
+
+fn comparison(size: &str, seed: u64, count: u32) -> u64 {
+    let mut draw = Draw { state: seed };
+    let mut left = Ratio { num: 0, den: 1 };
+    let mut sum = 0u64;
+    for _ in 0..count {
+        if let Ok(right) = draw.operand(size) {
+            for answer in [
+                digest(left.add(&right)),
+                digest(left.sub(&right)),
+                digest(left.mul(&right)),
+                digest(left.div(&right)),
+                order(left.cmp(&right)),
+            ] {
+                sum = mixed(sum, answer);
+            }
+            left = right;
+        }
+    }
+    sum
+}
+
+fn checksum(operation: Operation, operands: &[Ratio], rounds: u32) -> u64 {
     let mut sum = 0u64;
     for _ in 0..rounds {
         for i in 1..operands.len() {
             let (left, right) = (&operands[i - 1], &operands[i]);
-            let answer = match words[1].as_str() {
-                "add" => digest(left.add(right)),
-                "mul" => digest(left.mul(right)),
-                _ => match left.cmp(right) {
-                    Ordering::Less => 2,
-                    Ordering::Equal => 3,
-                    Ordering::Greater => 5,
-                },
+            let answer = match operation {
+                Operation::Add => digest(left.add(right)),
+                Operation::Multiply => digest(left.mul(right)),
+                Operation::Compare => order(left.cmp(right)),
             };
-            sum = sum.wrapping_mul(31).wrapping_add(answer);
+            sum = mixed(sum, answer);
         }
     }
-    println!("{sum}");
+    sum
+}
+
+fn main() {
+    let words: Vec<String> = std::env::args().collect();
+    let number = words[3].parse().unwrap();
+    let operation = match words[1].as_str() {
+        "add" => Operation::Add,
+        "mul" => Operation::Multiply,
+        "cmp" => Operation::Compare,
+        _ => {
+            let count = words[4].parse().unwrap();
+            println!("{}", comparison(&words[2], number, count));
+            return;
+        }
+    };
+    println!("{}", checksum(operation, &operands(&words[2]), number as u32));
 }

@@ -20,4 +20,4 @@ pub use lists::Sequence;
 pub use ratio_core::Ratios;
 pub use root::Root;
 pub use sequence::{Addresses, Affs, VecAff, has_address, without_address};
-pub use terms::rise_strictly;
+pub use terms::{negated_terms, nonzero_terms, rise_strictly, scaled_terms, summed_terms};

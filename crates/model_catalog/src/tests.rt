@@ -4,6 +4,7 @@ ghost use Rattle.model_catalog.specs.Small.{IsSmall, group_change, row_change};
 
 use crate::{Catalog, Exchange, Listed, Listing, More};
 use aff_core::{Address, Root};
+use lists::Duplicate;
 use name_index::Name;
 use numbered::Change;
 use ratio_core::Ratio;

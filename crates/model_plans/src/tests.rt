@@ -4,6 +4,7 @@ ghost use Rattle.set_core.specs.declared.set.Set.TheVariants.{Reals};
 ghost use Rattle.user_model.specs.declared.edit.Edit.TheVariants.{AddGroup};
 
 use crate::{Plan, planned};
+use lists::Duplicate;
 use model_catalog::Catalog;
 use name_index::{Name, Names};
 use set_core::Set;

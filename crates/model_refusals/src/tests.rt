@@ -13,7 +13,7 @@ fn names_of(alloc: Global, texts: &[&str]) -> Result<Names, Fail> {
     for text in texts {
         names.push(Name::new(alloc, text)?)?;
     }
-    Ok(Names::from(names))
+    Ok(Names::from_vec(names))
 }
 
 // A new group of two variables.

@@ -13,6 +13,6 @@ returns c = record {
   objective = refl;
   next = refl;
   group = refl;
-  variables = c.in_ok-vec-3.ensures.items ∙ ap (λ (y : Listed). y ∷ []) (c.new-variable.ensures ∙ ap (λ name. listed_as 0 (Some name)) c.in_ok-copy.ensures.value);
-  named_rows = c.in_ok-vec-4.ensures.items ∙ ap (λ (y : Listed). y ∷ []) (c.new-named_row.ensures ∙ ap (λ name. listed_as 0 (Some name)) c.in_ok-copy-2.ensures.value);
+  variables = c.in_ok-vec-3.ensures.items ∙ ap (λ (y : Listed). y ∷ []) (c.new-variable.ensures ∙ ap (λ name. listed_as 0 (Some name)) c.in_ok-copy.ensures);
+  named_rows = c.in_ok-vec-4.ensures.items ∙ ap (λ (y : Listed). y ∷ []) (c.new-named_row.ensures ∙ ap (λ name. listed_as 0 (Some name)) c.in_ok-copy-2.ensures);
 }
