@@ -1,5 +1,6 @@
 //! The same benchmark as `simplex_bench`, written plainly in Rust: fractions of 128 bits, a dense board of rows, and Bland's rule
 //! in two phases with a sweep between them.
+#[allow(dead_code)]
 #[path = "fraction.rs"]
 mod fraction;
 
@@ -33,7 +34,7 @@ impl Board {
             row[c + i] = ONE;
             row[c + m] = form.right[i];
             for j in 0..c {
-                first[j] = first[j].add(&row[j])?;
+                first[j] = first[j].add(&row[j]).ok()?;
             }
             rows.push(row);
         }
@@ -50,7 +51,7 @@ impl Board {
         let entry = step[q];
         for number in &mut step {
             if !number.is_zero() {
-                *number = number.div(&entry)?;
+                *number = number.div(&entry).ok()?;
             }
         }
         for (i, row) in self.rows.iter_mut().enumerate() {
@@ -104,7 +105,7 @@ fn lower(row: &mut [Ratio], q: usize, step: &[Ratio]) -> Option<()> {
     }
     for (number, unit) in row.iter_mut().zip(step) {
         if !unit.is_zero() {
-            *number = number.add(&by.mul(unit)?.neg())?;
+            *number = number.sub(&by.mul(unit).ok()?).ok()?;
         }
     }
     Some(())
@@ -125,7 +126,7 @@ fn turn(board: &mut Board, sweeps: &mut bool) -> Turn {
         }
         let above = |i: usize| board.basis[i] >= board.c && board.rows[i][board.c + board.m].num > 0;
         if (0..board.m).any(above) {
-            let multiplier = |k: usize| ONE.add(&first[board.c + k].neg());
+            let multiplier = |k: usize| ONE.sub(&first[board.c + k]).ok();
             return (0..board.m).map(multiplier).collect::<Option<_>>().map_or(Turn::Stuck, Turn::Infeasible);
         }
     }
@@ -208,7 +209,7 @@ fn multipliers(board: &Board) -> Vec<Ratio> {
 /// The numbers mixed into a sum.
 fn mixed(start: u64, numbers: &[Ratio]) -> u64 {
     numbers.iter().fold(start, |sum, q| {
-        let digest = parts(q.num.unsigned_abs()) ^ parts(q.den.unsigned_abs());
+        let digest = parts(q.num.unsigned_abs()) ^ parts(q.den);
         sum.wrapping_mul(31).wrapping_add(digest).wrapping_add(u64::from(q.num < 0))
     })
 }
