@@ -207,13 +207,11 @@ mod tests {
     use std::test::Fail;
 
     #[test]
-    fn gathers_terms_in_the_order_of_addresses(rt: HostRuntime) -> Result<(), Fail> {
-        let [x, y, z] = [0, 1, 2].map(|n| Address::root(Root::Variable, n));
-        let (zero, one) = (Ratio::zero(), Ratio::one());
-        let f = Aff::gather(rt.alloc(), &[(z, one), (y, zero), (x, one.neg())], one)?;
-        assert!(rt; f.term(0) == Some((x, one.neg())) && f.term(1) == Some((z, one)));
-        assert!(rt; f.term_count() == 2 && f.constant() == one);
-        assert!(rt; f.mentions(&z) && !f.mentions(&y) && f.coef(&y) == zero);
+    fn gathers_a_term(rt: HostRuntime) -> Result<(), Fail> {
+        let x = Address::root(Root::Variable, 0);
+        let f = Aff::gather(rt.alloc(), &[(x, Ratio::one())], Ratio::zero())?;
+        assert!(rt; f.term_count() == 1 && f.term(0) == Some((x, Ratio::one())));
+        assert!(rt; f.mentions(&x) && f.coef(&x) == Ratio::one());
         Ok(())
     }
 
