@@ -4,3 +4,5 @@ pub mod Places
 pub mod Laws
 pub mod SetLaws
 pub mod ChangeLaws
+pub mod ExchangeLaws
+pub mod PlaceLaws

@@ -1,7 +1,7 @@
 use Rattle.std.specs.Prelude.{is_some}
 use Rattle.std.specs.Vec.{vec_capacity}
 use Rattle.std.proofs.Common.{arith, ap, sym, ◌∙◌}
-use Rattle.numbered.proofs.ExchangeLemmas.{next, one_more, done}
+use Rattle.numbered.specs.ExchangeLaws.{next, one_more, done}
 use Rattle.user_model.specs.Edited.{row_number}
 use Rattle.model_catalog.proofs.RowLoop.{counts_now, counts_after}
 use Rattle.model_catalog.proofs.index.exchange_rows.Goals as goal
