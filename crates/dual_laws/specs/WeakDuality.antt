@@ -2,7 +2,7 @@
 -- the pull. So a point's value is at least the duals' objective, a ray leads nowhere below, and a gap above 0 of rows without a
 -- pull leaves no point.
 use Rattle.std.specs.Prelude.{◌≡◌, List, [], ◌∷◌, length, map, refl}
-use Rattle.std.proofs.Common.{sym, ◌∙◌, ap, ap₂, subst}
+use Rattle.std.proofs.Common.{sym, ◌∙◌, ap, subst}
 use Rattle.std.proofs.lemmas.List.{length-map}
 use Rattle.std.proofs.lemmas.List.Elements.{All-head, All-tail}
 use Rattle.ratio_core.specs.Rational.{Rational, neg_ℚ, one_ℚ, zero_ℚ, ◌*ℚ◌, ◌+ℚ◌, ◌-ℚ◌, ◌≤ℚ◌, ◌‹ℚ◌}
@@ -16,7 +16,7 @@ use Rattle.aff_core.specs.Arithmetic.{value_of}
 use Rattle.aff_core.specs.Function.{Function, coefficient}
 use Rattle.linear_laws.specs.Evaluations.{evaluated}
 use Rattle.linear_laws.specs.Slopes.{slope}
-use Rattle.set_core.specs.Membership.{Dual, low_of}
+use Rattle.set_core.specs.Membership.{low_of}
 use Rattle.set_core.specs.Mirrored.{multiplied}
 use Rattle.set_laws.specs.Least.{low_least}
 use Rattle.set_laws.specs.Multiples.{dual_of-multiplied, low_multiplied, multiplied_set}
