@@ -29,7 +29,7 @@ pub row_keeps_number : (at : Address) → KeepsNumbers row_number (row_without a
 row_keeps_number at = record { keeps = λ row. IfSome_then (row_without at row) (row_without_is at row) (λ left h. h.id) }
 
 -- a list of edited items has no greater sum, and is no longer
-sum_filter_map : {X : Type 0} (f : X → ℕ) (g : X → Option X) (xs : List X) → ((x : X) → IfSome (g x) (λ y. f y ≤ f x)) → sum_by f (filter_map g xs) ≤ sum_by f xs
+pub sum_filter_map : {X : Type 0} (f : X → ℕ) (g : X → Option X) (xs : List X) → ((x : X) → IfSome (g x) (λ y. f y ≤ f x)) → sum_by f (filter_map g xs) ≤ sum_by f xs
 sum_filter_map f g [] each = omega arith
 sum_filter_map {X = X} f g (x ∷ xs) each = first (g x) (each x) (sum_filter_map f g xs each)
   where

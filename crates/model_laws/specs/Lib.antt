@@ -29,3 +29,10 @@ pub mod Undoing
 pub mod Shapes
 pub mod Exchanged
 pub mod Empty
+pub mod Standing
+pub mod SingleBounds
+pub mod PartsLeft
+pub mod KeptParts
+pub mod ChangedRow
+pub mod KeptShapes
+pub mod KeptValid

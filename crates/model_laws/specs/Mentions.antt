@@ -19,29 +19,11 @@ use Rattle.user_model.specs.declared.group.GroupVar.{GroupVar}
 use Rattle.user_model.specs.declared.objective.Objective.{Objective}
 use Rattle.user_model.specs.declared.objective.Objective.TheVariants as objective
 use Rattle.user_model.specs.declared.row.Row.{Row}
-use Rattle.user_model.specs.Model.{has_variable}
+use Rattle.user_model.specs.Functions.{func_mentions, has_term}
+use Rattle.user_model.specs.Model.{has_variable, objective_mentions, row_mentions}
 use Rattle.user_model.specs.Deletion.{group_without, objective_without, row_without, unless_empty, without_address, without_term}
 use Rattle.model_laws.specs.RowWithout.{row_of}
 use Rattle.model_laws.specs.GroupWithout.{others}
-
--- the function has a term of the address
-abbrev pub has_term : Address → Function → Bool
-has_term at f = finite.contains_key f.terms at
-
--- the function has the address as a component or in a term
-abbrev pub func_mentions : Address → UserFunc → Bool
-func_mentions at (Plain var) = address_eq at var
-func_mentions at (Affine f) = has_term at f
-func_mentions at (PlainVec vars) = list_any (address_eq at) vars
-func_mentions at (AffineVec fs) = list_any (has_term at) fs
-
-abbrev pub row_mentions : Address → Row → Bool
-row_mentions at row = func_mentions at row.func
-
-abbrev pub objective_mentions : Address → Objective → Bool
-objective_mentions at objective.Feasibility = false
-objective_mentions at (objective.Plain sense var) = address_eq at var
-objective_mentions at (objective.Affine sense f) = has_term at f
 
 -- ---- a function without a term
 

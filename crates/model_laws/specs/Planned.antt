@@ -8,11 +8,10 @@ use Rattle.user_model.specs.declared.edit.Edit.{Edit}
 use Rattle.user_model.specs.declared.edit.Edit.TheVariants as edit
 use Rattle.user_model.specs.declared.group.Group.{Group}
 use Rattle.user_model.specs.declared.row.Row.{Row}
-use Rattle.user_model.specs.Model.{UserModel, address_named, group_of, row_named, variable_address, variable_named}
+use Rattle.user_model.specs.Model.{UserModel, address_named, group_of, row_mentions, row_named, variable_address, variable_named}
 use Rattle.user_model.specs.Deletion.{group_without, row_without}
 use Rattle.user_model.specs.Edited.{group_number, located, numbered_from, on_affine, on_output, renamed, row_number, with_constant}
 use Rattle.model_laws.specs.Listed.{edits_of, set_to, taken_out}
-use Rattle.model_laws.specs.Mentions.{row_mentions}
 
 -- ---- by name
 

@@ -13,12 +13,12 @@ use Rattle.user_model.specs.declared.edit.Edit.{Edit}
 use Rattle.user_model.specs.declared.edit.Edit.TheVariants as edit
 use Rattle.user_model.specs.declared.group.Group.{Group}
 use Rattle.user_model.specs.declared.row.Row.{Row}
-use Rattle.user_model.specs.Model.{UserModel, address_named, group_of, row_named, variable_address, variable_named}
+use Rattle.user_model.specs.Model.{UserModel, address_named, group_of, row_mentions, row_named, variable_address, variable_named}
 use Rattle.user_model.specs.Deletion.{group_without, row_without, without_variable}
 use Rattle.user_model.specs.Edited.{change_group, change_row, delete_row, edited, group_number, located, numbered_from, on_affine, on_output, renamed, row_number, with_constant, with_variable}
 use Rattle.user_model.specs.Consistent.{IsConsistent}
 use Rattle.model_laws.specs.Listed.{AreChanges-edits, one_change, set_all_edits, set_all_last}
-use Rattle.model_laws.specs.Mentions.{row_mentions, row_unmentioned}
+use Rattle.model_laws.specs.Mentions.{row_unmentioned}
 use Rattle.model_laws.specs.KeptDeletion.{row_keeps_number}
 use Rattle.model_laws.specs.GroupWithout.{group_keeps_number}
 use Rattle.model_laws.specs.DeletedGroup.{group_deleted}

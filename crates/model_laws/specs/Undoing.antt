@@ -16,7 +16,7 @@ use Rattle.user_model.specs.declared.edit.Edit.{Edit}
 use Rattle.user_model.specs.declared.group.Group.{Group}
 use Rattle.user_model.specs.declared.row.Row.{Row}
 use Rattle.user_model.specs.declared.objective.Objective.{Objective}
-use Rattle.user_model.specs.Model.{UserModel, group_of, has_variable, row_named, variable_address, variable_named, variables}
+use Rattle.user_model.specs.Model.{UserModel, group_of, has_variable, row_mentions, row_named, variable_address, variable_named, variables}
 use Rattle.user_model.specs.Deletion.{group_without, row_without}
 use Rattle.user_model.specs.Edited.{change_group, change_row, edited, group_number, renamed, row_number}
 use Rattle.user_model.specs.Refusals.{has_row_named, has_variable_named}
@@ -27,7 +27,7 @@ use Rattle.model_laws.specs.Found.{found_passes, found_stands, stands_found}
 use Rattle.model_laws.specs.Listed.{differences, edit_of, find-filter, set_to}
 use Rattle.model_laws.specs.Located.{free_row, free_variable, group_by_number, row_by_number, stands_in_joined, variable_located}
 use Rattle.model_laws.specs.Shapes.{group_name_other, row_name_other}
-use Rattle.model_laws.specs.Mentions.{group_changes_where_mentioned, row_changes_where_mentioned, row_mentions}
+use Rattle.model_laws.specs.Mentions.{group_changes_where_mentioned, row_changes_where_mentioned}
 use Rattle.model_laws.specs.Planned.{deletion_changes, group_change, group_changes, group_deletion, row_change, row_changes, row_deletion}
 use Rattle.model_laws.specs.PlannedLaws.{AreChanges-groups, AreChanges-rows, groups_changed, rows_changed}
 

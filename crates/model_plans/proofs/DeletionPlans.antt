@@ -16,7 +16,7 @@ use Rattle.user_model.specs.declared.group.Group.{Group}
 use Rattle.user_model.specs.declared.group.GroupVar.{GroupVar}
 use Rattle.user_model.specs.declared.objective.Objective.{Objective}
 use Rattle.user_model.specs.declared.row.Row.{Row}
-use Rattle.user_model.specs.Model.{UserModel, group_of, has_variable, variable_address, variable_named, variables}
+use Rattle.user_model.specs.Model.{UserModel, group_of, has_variable, row_mentions, variable_address, variable_named, variables}
 use Rattle.user_model.specs.Deletion.{group_without, objective_without, row_without, unless_empty, without_variable}
 use Rattle.user_model.specs.Edited.{group_number, row_number, with_variable}
 use Rattle.user_model.specs.Consistent.{IsConsistent, variable_number}
@@ -27,7 +27,7 @@ use Rattle.model_laws.specs.Located.{variable_of_name}
 use Rattle.model_laws.specs.GroupWithout.{group_keeps_number, others, others_stand, vars_without}
 use Rattle.model_laws.specs.KeptDeletion.{row_keeps_number}
 use Rattle.model_laws.specs.Listed.{edit_of, edits_of, find-filter, one_change}
-use Rattle.model_laws.specs.Mentions.{failing_none, row_mentions, row_unmentioned}
+use Rattle.model_laws.specs.Mentions.{failing_none, row_unmentioned}
 use Rattle.model_laws.specs.Pairs.{AllPairs-map}
 use Rattle.model_laws.specs.Planned.{deletion_changes, group_deletion}
 use Rattle.model_laws.specs.PlannedLaws.{AreChanges-deletion, deletion_makes, group_deletion_makes}

@@ -3,11 +3,11 @@ ghost use Rattle.std.specs.Prelude.{◌≡◌, IfOk, Some, filter, not, ◌==◌
 ghost use Rattle.std.specs.List.{list_any};
 ghost use Rattle.user_model.specs.Edited.{edited, row_number};
 ghost use Rattle.user_model.specs.Deletion.{group_without, objective_without, row_without, without_term};
-ghost use Rattle.user_model.specs.Model.{has_variable};
+ghost use Rattle.user_model.specs.Model.{has_variable, row_mentions};
 ghost use Rattle.user_model.specs.Sets.{resized};
 ghost use Rattle.user_model.specs.declared.edit.Edit.TheVariants.{DeleteVariable};
 ghost use Rattle.model_laws.specs.Listed.{edits_of};
-ghost use Rattle.model_laws.specs.Mentions.{func_mentions, has_term, row_mentions};
+ghost use Rattle.user_model.specs.Functions.{func_mentions, has_term};
 ghost use Rattle.model_plans.specs.Plans.{Accepts, IsChange, Leads, gone};
 
 use crate::lists::only;

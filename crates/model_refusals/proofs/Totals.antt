@@ -28,6 +28,7 @@ use Rattle.user_model.specs.Limits.{ALL_TERMS, TERMS}
 use Rattle.user_model.specs.Model.{UserModel, address_named, is_variable, objective_terms, row_named, total_terms}
 use Rattle.user_model.specs.Refusals.{counts, terms_of_objective, terms_of_row, within}
 use Rattle.model_laws.specs.Changed.{change_row-found}
+use Rattle.model_laws.specs.ChangedRow.{row_named-put}
 use Rattle.model_laws.specs.Found.{found_stands}
 use Rattle.model_laws.specs.KeptRows.{row_terms}
 use Rattle.model_laws.specs.Located.{row_by_number, row_name}
@@ -37,22 +38,7 @@ use Rattle.model_laws.specs.ByName.{affine_bounds, function_change, output_bound
 use Rattle.model_refusals.specs.WellFormed.{with_change}
 use Rattle.model_refusals.proofs.ChangedTerms.{sum-changed_at}
 
--- the one after others of other names
-found_behind : (name : List ℕ) (before after : List Row) (x : Row) → All (λ r. r.name ≢ name) before → x.name ≡ name → find (λ r. bytes_eq r.name name) (before ++ (x ∷ after)) ≡ Some x
-found_behind name [] after x others e = ap (λ b. cond b (Some x) (find (λ r. bytes_eq r.name name) after)) ((bytes_eq-Decides x.name name).1 e)
-found_behind name (r ∷ before) after x others e =
-    elim (cases_Bool (bytes_eq r.name name)) [
-      | inl same ↦ absurd (All-head (λ r. r.name ≢ name) r before others ((bytes_eq-Decides r.name name).0 same))
-      | inr other ↦ ap (λ b. cond b (Some r) (find (λ r. bytes_eq r.name name) (before ++ (x ∷ after)))) other ∙ found_behind name before after x (All-tail (λ r. r.name ≢ name) r before others) e
-    ]
-
 module _ (model : UserModel) (c : IsConsistent model) (name : List ℕ) (row : Row) (found : row_named model name ≡ Some row) where
-  -- a row that is changed is found where it was
-  row_named-put : (new : Row) → new.id ≡ row.id → new.name ≡ row.name → find (λ r. bytes_eq r.name name) (put row_number new model.rows) ≡ Some new
-  row_named-put new id same =
-      let is : row.name ≡ name = row_name model name row found in
-      replaced row_number (λ xs ys. AllPairs (λ r s. r.name ≢ s.name) xs → find (λ r. bytes_eq r.name name) ys ≡ Some new) new row model.rows c.rows_rise (ap (λ n. numbered.find row_number n model.rows) id ∙ row_by_number model name row c found) (λ before after distinct. found_behind name before after new (λ k d end same_name. AllPairs-before (λ r s. r.name ≢ s.name) before row after distinct k d end (same_name ∙ sym is)) (same ∙ is)) c.row_names
-
   -- its terms are some of all
   pub row_part : all_terms row.func ≤ total_terms model
   row_part =

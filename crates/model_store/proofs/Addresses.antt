@@ -8,10 +8,9 @@ use Rattle.numbered.specs.Laws.{other_number, same_number}
 use Rattle.aff_core.specs.Address.{Address, address_eq, address_eq-Decides}
 use Rattle.aff_core.specs.declared.root.Root.TheVariants.{Variable}
 use Rattle.user_model.specs.declared.group.GroupVar.{GroupVar}
-use Rattle.user_model.specs.Model.{UserModel, variable_address, variables}
+use Rattle.user_model.specs.Model.{UserModel, name_at, variable_address, variables}
 use Rattle.user_model.specs.Consistent.{variable_number}
 use Rattle.model_catalog.specs.Named.{variable_name}
-use Rattle.model_store.specs.Store.{name_at}
 
 not_equal : (at : Address) (n : ℕ) → variable_address n ≢ at → address_eq (variable_address n) at ≡ false
 not_equal at n ne =

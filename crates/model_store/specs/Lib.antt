@@ -2,4 +2,3 @@
 pub mod Store
 pub mod Rooms
 pub mod Parking
-pub mod SameUpToNumbers

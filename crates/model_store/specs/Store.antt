@@ -44,6 +44,12 @@ pub record HasParked (shorter longer : List Parked) (model : UserModel) (undo : 
   pub last : longer ≡ shorter ++ entry ∷ []
   pub is : IsEntryOf entry model undo
 
+-- the last entry is this undo's: it was made for it, as some model stood then
+pub record IsLastOf (parked : List Parked) (undo : Undo) : Type 0 where
+  pub others : List Parked
+  pub model : UserModel
+  pub entry : HasParked others parked model undo
+
 -- the longer list has one entry more, last
 abbrev pub IsButLast : List Parked → List Parked → Type 0
 IsButLast shorter longer = (entry : Parked) × (longer ≡ shorter ++ entry ∷ [])
@@ -52,15 +58,3 @@ IsButLast shorter longer = (entry : Parked) × (longer ≡ shorter ++ entry ∷ 
 abbrev pub refusal_of : ApplyFault → Option Refusal
 refusal_of (Refused refusal) = Some refusal
 refusal_of Memory = None
-
--- an accepted edit leads from one model to the other
-pub record LeadsTo (old new : UserModel) : Type 0 where
-  pub consistent : IsConsistent old
-  pub within : IsWithinLimits old
-  pub edit : Edit
-  pub accepted : first_refusal old edit ≡ None
-  pub after : edited old edit ≡ new
-
--- the name of the variable at an address
-abbrev pub name_at : UserModel → Address → Option (List ℕ)
-name_at model at = option_map (λ v. v.name) (find (λ v. address_eq (variable_address v.number) at) (variables model))

@@ -14,7 +14,7 @@ use Rattle.user_model.specs.declared.row.Row.{Row}
 use Rattle.user_model.specs.declared.objective.Objective.{Objective}
 use Rattle.user_model.specs.declared.objective.Objective.TheVariants as objective
 use Rattle.user_model.specs.declared.undo.Numbers.{Numbers}
-use Rattle.user_model.specs.Functions.{all_terms, term_count}
+use Rattle.user_model.specs.Functions.{all_terms, func_mentions, has_term, term_count}
 use Rattle.user_model.specs.Sets.{sets_lower, sets_upper}
 
 pub record UserModel : Type 0 where
@@ -59,6 +59,19 @@ variable_address n = root_address Variable n
 -- the address of the variable with a name, which is to stand in the model
 abbrev pub address_named : UserModel → List ℕ → Address
 address_named model name = variable_address (unwrap_or (variable_named model name) 0)
+
+-- the name of the variable at an address
+abbrev pub name_at : UserModel → Address → Option (List ℕ)
+name_at model at = option_map (λ v. v.name) (find (λ v. address_eq (variable_address v.number) at) (variables model))
+
+-- the row, or the objective, has the address as a component or in a term
+abbrev pub row_mentions : Address → Row → Bool
+row_mentions at row = func_mentions at row.func
+
+abbrev pub objective_mentions : Address → Objective → Bool
+objective_mentions at objective.Feasibility = false
+objective_mentions at (objective.Plain sense var) = address_eq at var
+objective_mentions at (objective.Affine sense f) = has_term at f
 
 -- ---- bounds
 

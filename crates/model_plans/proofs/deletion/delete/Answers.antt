@@ -4,11 +4,10 @@ use Rattle.std.proofs.lemmas.Option.{none-some}
 use Rattle.user_model.specs.declared.edit.Edit.TheVariants as edit
 use Rattle.user_model.specs.Deletion.{group_without, objective_without, row_without}
 use Rattle.user_model.specs.Edited.{edited, row_number}
-use Rattle.user_model.specs.Model.{group_of, has_variable, variable_address}
+use Rattle.user_model.specs.Model.{group_of, has_variable, row_mentions, variable_address}
 use Rattle.model_laws.specs.Found.{found_passes}
 use Rattle.model_laws.specs.Listed.{edits_of}
 use Rattle.model_laws.specs.Located.{named_stands}
-use Rattle.model_laws.specs.Mentions.{row_mentions}
 use Rattle.model_laws.specs.Needed.{needed_variable}
 use Rattle.model_laws.specs.Planned.{deletion_changes}
 use Rattle.model_laws.specs.Passed.{passed}

@@ -5,7 +5,7 @@ use Rattle.model_store.proofs.store.UserModel.settle.Goals as goal
 
 pub invariant_of-self : goal.invariant_of-self
 invariant_of-self c =
-    let parked : IsParked (c.take_last.new.parked.items ++ c.take_last.result ∷ []) c.self.inside.names c.self.inside.catalog.room = subst (λ ps. IsParked ps c.self.inside.names c.self.inside.catalog.room) c.take_last.ensures.last c.self.invariant in
+    let parked : IsParked (c.take_last.new.parked.items ++ c.take_last.result ∷ []) c.self.inside.names c.self.inside.catalog.room = subst (λ ps. IsParked ps c.self.inside.names c.self.inside.catalog.room) c.take_last.ensures.last c.self.invariant.room in
     parked_settled c.take_last.new.parked.items c.take_last.result c.self.inside.names c.take_last.new.names c.self.inside.catalog.room parked c.take_last.ensures.counted
 
 pub returns-clause-parked : goal.returns-clause-parked

@@ -14,12 +14,12 @@ pub exchange-requires-clause-room : goal.exchange-requires-clause-room
 exchange-requires-clause-room c =
     let h = subst (λ s. HasParked c.requires.last.0 s.parked s.model c.args.undo) (sym c.self.view_is) c.requires.last.1 in
     let is : IsEntryOf c.take_last.result c.self.inside.catalog.model c.args.undo = entry_taken c.requires.last.0 c.take_last.new.parked.items c.self.inside.parked.items c.take_last.result c.self.inside.catalog.model c.args.undo h c.take_last.ensures.last in
-    let parked : IsParked (c.take_last.new.parked.items ++ c.take_last.result ∷ []) c.self.inside.names c.self.inside.catalog.room = subst (λ ps. IsParked ps c.self.inside.names c.self.inside.catalog.room) c.take_last.ensures.last c.self.invariant in
+    let parked : IsParked (c.take_last.new.parked.items ++ c.take_last.result ∷ []) c.self.inside.names c.self.inside.catalog.room = subst (λ ps. IsParked ps c.self.inside.names c.self.inside.catalog.room) c.take_last.ensures.last c.self.invariant.room in
     entry_room c.take_last.new.parked.items c.take_last.result c.self.inside.names c.take_last.new.names c.self.inside.catalog.room parked c.take_last.ensures.counted c.self.inside.catalog c.from.result c.args.undo refl c.from.ensures is
 
 pub invariant_of-self : goal.invariant_of-self
 invariant_of-self c =
-    let parked : IsParked (c.take_last.new.parked.items ++ c.take_last.result ∷ []) c.self.inside.names c.self.inside.catalog.room = subst (λ ps. IsParked ps c.self.inside.names c.self.inside.catalog.room) c.take_last.ensures.last c.self.invariant in
+    let parked : IsParked (c.take_last.new.parked.items ++ c.take_last.result ∷ []) c.self.inside.names c.self.inside.catalog.room = subst (λ ps. IsParked ps c.self.inside.names c.self.inside.catalog.room) c.take_last.ensures.last c.self.invariant.room in
     parked_less c.take_last.new.parked.items c.take_last.result c.self.inside.names c.take_last.new.names c.self.inside.catalog.room parked c.take_last.ensures.counted c.exchange.new.self.room c.exchange.ensures.kept
 
 pub returns-clause-parked : goal.returns-clause-parked
