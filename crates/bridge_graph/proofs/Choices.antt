@@ -1,11 +1,10 @@
 -- The choice and the cost that a plan gives.
-use Rattle.std.proofs.Common.{◌≡◌, ℕ, zero, suc, ◌≤◌, ◌<◌, ◌↔◌, List, Contains, slice_get, Some, IsNone, IfSome, refl, sym, subst, arith}
-use Rattle.bridge_graph.specs.declared.EdgeRow.{EdgeRow}
+use Rattle.std.proofs.Common.{◌≡◌, ℕ, zero, suc, ◌+◌, ◌≤◌, ◌<◌, ◌↔◌, List, Contains, IsNone, IfSome, refl, sym, subst, arith}
 use Rattle.bridge_graph.specs.declared.settling.Plan.{Plan}
 use Rattle.bridge_graph.specs.declared.settling.Plan.TheVariants.{Open, Native, By}
 use Rattle.bridge_graph.specs.Hypergraph.{Hypergraph, children_of, IsSupported, IsCostly}
-use Rattle.bridge_graph.specs.Tree.{Tree, native, by, TreeBy, via, Trees, none, each, IsTreeless, IsLeastCost, BeginsLeast, IsFirstEdge}
-use Rattle.bridge_graph.specs.Plan.{IsPlan, cost_of}
+use Rattle.bridge_graph.specs.Tree.{Tree, native, by, TreeBy, via, Trees, none, each, IsTreeless, IsLeastCost, BeginsLeast, IsFirstEdge, CostsLess, LeadsBelow}
+use Rattle.bridge_graph.specs.Plan.{IsPlan, IsSolved, plan_at, cost_of}
 
 -- a tree that begins with an edge isn't free
 costs_something : {graph : Hypergraph} {edge kind cost : ℕ} → IsCostly graph → TreeBy graph edge kind cost → 1 ≤ cost
@@ -51,11 +50,27 @@ child_tree graph (each {kind} {cost} {others} {kinds} tree trees) child (suc k, 
     let (less, found, le) = child_tree graph trees child (k, omega arith, is) in
     (less, found, omega arith)
 
--- so a chosen way passes no kind twice: each child of the edge has a tree that costs less than the whole
-pub child_costs_less : (graph : Hypergraph) {edge kind cost : ℕ} (row : EdgeRow) → IsCostly graph → TreeBy graph edge kind cost → slice_get graph.edges edge ≡ Some row → (child : ℕ) → Contains (children_of row) child → (less : ℕ) × Tree graph child less × (less < cost)
+-- a kind that has a tree has a least cost, which is at most that tree's
+least_below : (graph : Hypergraph) (kind cost limit : ℕ) (plan : Plan) → IsPlan graph kind plan → Tree graph kind cost → cost < limit → CostsLess graph limit kind
+least_below graph kind cost limit Open treeless tree below = absurd (treeless cost tree)
+least_below graph kind cost limit Native is tree below =
+    record { cost = 0; is_least = record { tree = native is; least = λ other _. omega arith }; less = omega arith }
+least_below graph kind cost limit (By edge c) is tree below =
+    let h = is.least cost tree in
+    record { cost = c; is_least = record { tree = by is.tree; least = is.least }; less = omega arith }
+
+children_below : (graph : Hypergraph) {plans : List Plan} {edge kind cost : ℕ} → IsSolved graph plans → TreeBy graph edge kind cost → LeadsBelow graph edge cost
 unfolding ChildTree
-child_costs_less graph row costly (via {edge} {cost} {children} {row = used} usable trees) is child found =
+children_below graph {plans} solved (via {edge} {cost} {children} {row = used} usable trees) row is child found =
     let same : row ≡ used = cc (is, usable.row_is) in
     let (less, tree, le) = child_tree graph trees child (subst (λ r. Contains (children_of r) child) same found) in
-    let positive = costly edge cost usable.cost_is in
-    (less, tree, omega arith)
+    let positive = solved.costly edge cost usable.cost_is in
+    least_below graph child less (cost + children) (plan_at plans child) (solved.plan child) tree (omega arith)
+
+-- each child of an edge that begins a least-cost tree costs less than the kind
+pub leads_below : (graph : Hypergraph) {plans : List Plan} {edge kind found cost : ℕ} → IsSolved graph plans → BeginsLeast graph kind edge found → IsLeastCost graph kind cost → LeadsBelow graph edge cost
+leads_below graph {plans} {edge} {kind} {found} {cost} solved best least =
+    let up = best.least cost least.tree in
+    let down = least.least found (by best.tree) in
+    let same : found ≡ cost = omega arith in
+    subst (LeadsBelow graph edge) same (children_below graph solved best.tree)

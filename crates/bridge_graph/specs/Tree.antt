@@ -1,5 +1,5 @@
 -- Trees of a kind, their cost, and the least of them.
-use Rattle.std.specs.Prelude.{ℕ, ◌+◌, ◌≤◌, List, [], ◌∷◌}
+use Rattle.std.specs.Prelude.{◌≡◌, ℕ, ◌+◌, ◌<◌, ◌≤◌, List, [], ◌∷◌, Some, slice_get, Contains}
 use Rattle.bridge_graph.specs.declared.EdgeRow.{EdgeRow}
 use Rattle.bridge_graph.specs.Hypergraph.{Hypergraph, children_of, IsSupported, IsUsable}
 
@@ -36,3 +36,15 @@ pub record BeginsLeast (graph : Hypergraph) (kind edge cost : ℕ) : Type 0 wher
 -- the lowest edge that begins a least-cost tree of the kind
 abbrev pub IsFirstEdge : Hypergraph → ℕ → ℕ → Type 0
 IsFirstEdge graph kind edge = (cost : ℕ) × BeginsLeast graph kind edge cost
+
+-- the kind has a least cost, which is below the limit
+pub record CostsLess (graph : Hypergraph) (limit kind : ℕ) : Type 0 where
+  pub cost : ℕ
+  pub is_least : IsLeastCost graph kind cost
+  pub less : cost < limit
+
+-- each kind that the edge leads to costs less than the limit
+abbrev pub LeadsBelow : Hypergraph → ℕ → ℕ → Type 0
+LeadsBelow graph edge limit =
+    (row : EdgeRow) → slice_get graph.edges edge ≡ Some row → (child : ℕ) → Contains (children_of row) child
+    → CostsLess graph limit child

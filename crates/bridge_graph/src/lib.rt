@@ -6,7 +6,7 @@
 //! twice is paid twice.
 #![tactic(auto)]
 
-ghost use Rattle.std.specs.Prelude.{◌≡◌, ◌≤◌, ◌↔◌, ℕ, IsTrue, IsNone, IfSome};
+ghost use Rattle.std.specs.Prelude.{◌≡◌, ◌≤◌, ◌↔◌, ℕ, IsTrue, List, IsNone, IfSome};
 ghost use Rattle.std.specs.List.{list_all};
 
 mod settling;
@@ -60,9 +60,9 @@ impl<const K: usize, const E: usize> Model for Graph<K, E> {
 
 impl<const K: usize, const E: usize> Graph<K, E> {
     ghost use Rattle.bridge_graph.specs.Hypergraph.{hypergraph_of, has_kinds_below, is_edge_cost};
-    ghost use Rattle.bridge_graph.specs.Hypergraph.{IsSupported, IsCostly};
-    ghost use Rattle.bridge_graph.specs.Tree.{IsTreeless, IsLeastCost, IsFirstEdge};
-    ghost use Rattle.bridge_graph.specs.Plan.{IsPlan};
+    ghost use Rattle.bridge_graph.specs.Hypergraph.{IsSupported};
+    ghost use Rattle.bridge_graph.specs.Tree.{IsTreeless, IsLeastCost, IsFirstEdge, LeadsBelow};
+    ghost use Rattle.bridge_graph.specs.Plan.{IsPlan, IsSolved};
 
     /// The graph of these edges with their costs of 1 to 1,000, of which those that are `on` may be used.
     ///
@@ -91,10 +91,14 @@ impl<const K: usize, const E: usize> Graph<K, E> {
     }
 
     /// How an item of this kind reaches the solver at least cost; a kind of number `K` or above is `Missing`.
+    ///
+    /// Each child of a chosen edge costs less than the kind, so whoever follows the choices comes to an end.
     pub fn choice(&self, kind: u8) -> Choice
         ensures native { (result ≡ Choice.Native) ↔ IsSupported self.now kind }
         ensures by { (edge : ℕ) → ((result ≡ Choice.By edge) ↔ IsFirstEdge self.now kind edge) }
         ensures missing { (result ≡ Choice.Missing) ↔ IsTreeless self.now kind }
+        ensures cheaper { (edge cost : ℕ) → (result ≡ Choice.By edge) → IsLeastCost self.now kind cost
+            → LeadsBelow self.now edge cost }
     {
         match self.plan(kind) {
             Plan::Open => Choice::Missing,
@@ -113,7 +117,7 @@ impl<const K: usize, const E: usize> Graph<K, E> {
 
     fn plan(&self, kind: u8) -> Plan
         ensures plan { IsPlan self.now kind result }
-        ensures costly { IsCostly self.now }
+        ensures solved { (plans : List Plan) × IsSolved self.now plans }
     {
         self.plans.get(kind as usize).copied().unwrap_or(Plan::Open)
     }

@@ -1,4 +1,6 @@
 -- What other crates cite.
+pub mod Dot
+pub mod DotLaws
 pub mod Field
 pub mod Fitting
 pub mod Linear

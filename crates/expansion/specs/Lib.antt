@@ -1,0 +1,9 @@
+pub mod Rules
+pub mod Bridged
+pub mod Read
+pub mod Grown
+pub mod GrownLaws
+pub mod Ranks
+pub mod RankLaws
+pub mod Kept
+pub mod KeptLaws
