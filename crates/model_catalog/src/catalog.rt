@@ -4,11 +4,11 @@ ghost use Rattle.std.specs.Option.{option_map};
 ghost use Rattle.user_model.specs.Consistent.{IsConsistent, IsWithinLimits};
 ghost use Rattle.user_model.specs.Model.{empty_model, total_terms, variables};
 ghost use Rattle.model_catalog.specs.Exchange.{HasRoom, HasRoomFor, HasSpare, IsExchange, IsNoLess, KeepsRoom, contents, exchanged, standing};
-ghost use Rattle.model_catalog.specs.Named.{Lists, ListsStanding};
+ghost use Rattle.model_catalog.specs.Named.{AreNameChanges, HasStandingNames};
 
 use crate::exchange::Exchange;
 use crate::index::{exchange_rows, list_variables};
-use crate::names::{Listing, exchange_names};
+use crate::names::{NameChanges, exchange_names};
 use crate::room::More;
 use crate::terms::{changed_terms, objective_terms};
 use crate::variable::Variable;
@@ -18,7 +18,7 @@ use ratio_core::Memory;
 use std::alloc::Global;
 use std::marker::Model;
 use std::mem;
-use user_model::{Group, Numbers, Objective, Row};
+use user_model::{Group, NextNumbers, Objective, Row};
 
 /// A model with what finds things in it. Contracts see the model, and beside it the room: how many groups, rows, variables and
 /// names can be put in without memory.
@@ -27,7 +27,7 @@ pub struct Catalog {
     pub(crate) groups: Vec<Group>,
     pub(crate) rows: Vec<Row>,
     pub(crate) objective: Objective,
-    pub(crate) next: Numbers,
+    pub(crate) next: NextNumbers,
     pub(crate) kept: Vec<Variable>,
     pub(crate) variable_names: NameTable,
     pub(crate) row_names: NameTable,
@@ -58,7 +58,7 @@ impl Catalog {
             groups: Vec::new(alloc),
             rows: Vec::new(alloc),
             objective: Objective::Feasibility,
-            next: Numbers {
+            next: NextNumbers {
                 group: 0,
                 variable: 0,
                 row: 0,
@@ -95,7 +95,7 @@ impl Catalog {
     }
 
     /// The numbers that the next group, variable and row are given.
-    pub fn next(&self) -> Numbers
+    pub fn next(&self) -> NextNumbers
         ensures { result ≡ self.now.model.next }
     {
         self.next
@@ -130,19 +130,19 @@ impl Catalog {
     /// Puts the contents in, and takes those out that stood there, so that the same exchange then leads back. It takes no memory.
     ///
     /// `names` lists each variable and each row whose name comes, goes or changes, and afterwards the names that were there.
-    pub fn exchange(&mut self, with: &mut Exchange, names: &mut Listing)
+    pub fn exchange(&mut self, with: &mut Exchange, names: &mut NameChanges)
         requires changes { IsExchange with.old }
         requires consistent { IsConsistent (exchanged with.old self.old.model) }
         requires within { IsWithinLimits (exchanged with.old self.old.model) }
-        requires names { Lists names.old self.old.model (exchanged with.old self.old.model) }
+        requires names { AreNameChanges names.old self.old.model (exchanged with.old self.old.model) }
         requires room { HasRoomFor with.old names.old self.old }
         requires spare { HasSpare names.old self.old.room }
         ensures model { self.new.model ≡ exchanged with.old self.old.model }
         ensures contents { contents with.new ≡ standing self.old.model (contents with.old) }
-        ensures standing { ListsStanding self.old.model names.old names.new }
+        ensures standing { HasStandingNames self.old.model names.old names.new }
         ensures changes { IsExchange with.new }
         ensures back { exchanged with.new self.new.model ≡ self.old.model }
-        ensures names { Lists names.new self.new.model self.old.model }
+        ensures names { AreNameChanges names.new self.new.model self.old.model }
         ensures room { HasRoomFor with.new names.new self.new }
         ensures kept { KeepsRoom names.old self.old.room self.new.room }
     {

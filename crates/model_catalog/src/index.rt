@@ -11,7 +11,7 @@ ghost use Rattle.user_model.specs.Sets as sets;
 ghost use Rattle.model_catalog.specs.Names.{listed_number, put_count};
 ghost use Rattle.model_catalog.specs.Index.{CountsBounds, IsCounted, counted, given_variable, is_number, kept_count, listed_in, recounted, variable_number};
 
-use crate::names::Listed;
+use crate::names::NameChange;
 use crate::variable::Variable;
 use aff_core::{Address, Root};
 use numbered::{Change, exchange, place_of};
@@ -19,7 +19,7 @@ use set_core::Set;
 use user_model::{Row, UserFunc};
 
 // Variables that are listed with a name stand from now on, new ones in the group, and those that are listed without don't.
-pub(crate) fn list_variables(kept: &mut Vec<Variable>, group: u32, listed: &[Listed])
+pub(crate) fn list_variables(kept: &mut Vec<Variable>, group: u32, listed: &[NameChange])
     requires rising { Rise variable_number kept.old.items }
     requires listed { Rise listed_number listed.now }
     requires room { vec_len kept.old + put_count listed.now ≤ vec_capacity kept.old }
@@ -34,7 +34,7 @@ pub(crate) fn list_variables(kept: &mut Vec<Variable>, group: u32, listed: &[Lis
 }
 
 // The same for one.
-fn list_variable(kept: &mut Vec<Variable>, group: u32, item: &Listed)
+fn list_variable(kept: &mut Vec<Variable>, group: u32, item: &NameChange)
     requires rising { Rise variable_number kept.old.items }
     requires room { IsSome item.now.name → vec_len kept.old < vec_capacity kept.old }
     ensures after { kept.new.items ≡ set_at variable_number item.now.number (given_variable group item.now (find variable_number item.now.number kept.old.items)) kept.old.items }

@@ -13,7 +13,7 @@ use Rattle.user_model.specs.declared.row.Row.{Row}
 use Rattle.user_model.specs.Consistent.{IsConsistent}
 use Rattle.user_model.specs.Edited.{change_function, row_number}
 use Rattle.user_model.specs.Functions.{term_counts}
-use Rattle.user_model.specs.Model.{UserModel, row_named}
+use Rattle.user_model.specs.Model.{ModelValue, row_named}
 use Rattle.user_model.specs.Refusals.{terms_of_row}
 use Rattle.model_laws.specs.Changed.{change_row-found}
 use Rattle.model_laws.specs.Located.{row_by_number, row_name}
@@ -29,7 +29,7 @@ found_behind name (r ∷ before) after x others e =
       | inr other ↦ ap (λ b. cond b (Some r) (find (λ r. bytes_eq r.name name) (before ++ (x ∷ after)))) other ∙ found_behind name before after x (All-tail (λ r. r.name ≢ name) r before others) e
     ]
 
-module _ (model : UserModel) (c : IsConsistent model) (name : List ℕ) (row : Row) (found : row_named model name ≡ Some row) where
+module _ (model : ModelValue) (c : IsConsistent model) (name : List ℕ) (row : Row) (found : row_named model name ≡ Some row) where
   -- a row that is changed is found where it was
   pub row_named-put : (new : Row) → new.id ≡ row.id → new.name ≡ row.name → find (λ r. bytes_eq r.name name) (put row_number new model.rows) ≡ Some new
   row_named-put new id same =

@@ -25,7 +25,7 @@ use Rattle.user_model.specs.declared.row.Row.{Row}
 use Rattle.user_model.specs.Sets.{is_norm_cone, is_scalar_set, sets_lower, sets_upper}
 use Rattle.user_model.specs.Functions.{components, func_mentions, is_scalar_function, is_scalar_named, named_components, term_counts}
 use Rattle.user_model.specs.Limits.{TERMS}
-use Rattle.user_model.specs.Model.{UserModel, group_of, has_variable, is_variable, objective_terms, row_named, variable_address, variable_named, variables}
+use Rattle.user_model.specs.Model.{ModelValue, group_of, has_variable, is_variable, objective_terms, row_named, variable_address, variable_named, variables}
 use Rattle.user_model.specs.Edited.{group_number, located, row_number}
 use Rattle.user_model.specs.Refusals.{differ, within}
 use Rattle.user_model.specs.Consistent.{IsConsistent}
@@ -69,7 +69,7 @@ pub record IsGroupInPlace (old new : Group) : Type 0 where
   pub lower : sets_lower new.set ≡ true → sets_lower old.set ≡ true
   pub upper : sets_upper new.set ≡ true → sets_upper old.set ≡ true
 
-module _ (model : UserModel) (c : IsConsistent model) (h : HasValidParts model.groups model.rows model.objective) where
+module _ (model : ModelValue) (c : IsConsistent model) (h : HasValidParts model.groups model.rows model.objective) where
   -- ---- an objective
 
   pub parts_of_objective : (o : Objective) → IsValidObjective model.groups o → HasValidParts model.groups model.rows o

@@ -19,7 +19,7 @@ use Rattle.user_model.specs.declared.row.Row.{Row}
 use Rattle.user_model.specs.Sets.{has_bad_dimension, is_crossed, is_scalar_set, same_type, sets_lower, sets_upper, type_number}
 use Rattle.user_model.specs.Functions.{components, func_mentions, is_scalar_function, is_scalar_named, named_components, term_count, term_counts}
 use Rattle.user_model.specs.Limits.{TERMS}
-use Rattle.user_model.specs.Model.{UserModel, is_variable}
+use Rattle.user_model.specs.Model.{ModelValue, is_variable}
 use Rattle.user_model.specs.Edited.{changed_at, located, on_affine, on_output, with_constant}
 use Rattle.user_model.specs.Valid.{IsSetOf, IsValidGroup, IsValidRow, Stands}
 use Rattle.model_laws.specs.ByName.{affine_bounds, output_bounds}
@@ -50,13 +50,13 @@ output_shape output h (Affine f) = record { scalar = refl; components = refl; va
 output_shape output h (PlainVec vars) = record { scalar = refl; components = refl; variable = λ n. refl }
 output_shape output h (AffineVec fs) = record { scalar = refl; components = changed_length (output - 1) h fs; variable = λ n. refl }
 
-pub located_scalar : (model : UserModel) (func : NamedFunc) → is_scalar_function (located model func) ≡ is_scalar_named func
+pub located_scalar : (model : ModelValue) (func : NamedFunc) → is_scalar_function (located model func) ≡ is_scalar_named func
 located_scalar model (named.Plain var) = refl
 located_scalar model (named.Affine f) = refl
 located_scalar model (named.PlainVec vars) = refl
 located_scalar model (named.AffineVec fs) = refl
 
-pub located_components : (model : UserModel) (func : NamedFunc) → components (located model func) ≡ named_components func
+pub located_components : (model : ModelValue) (func : NamedFunc) → components (located model func) ≡ named_components func
 located_components model (named.Plain var) = refl
 located_components model (named.Affine f) = refl
 located_components model (named.PlainVec vars) = length-map vars _

@@ -27,10 +27,10 @@ use Rattle.user_model.specs.declared.row.Row.{Row}
 use Rattle.user_model.specs.Sets.{has_bad_dimension, is_crossed, is_norm_cone, is_scalar_set, same_type, sets_lower, sets_upper}
 use Rattle.user_model.specs.Functions.{components, func_mentions, is_scalar_function, is_scalar_named, mentioned, named_components, term_counts}
 use Rattle.user_model.specs.Limits.{COMPONENTS, TERMS}
-use Rattle.user_model.specs.Model.{UserModel, address_named, group_of, has_lower_bound, has_upper_bound, has_variable, is_variable, objective_mentions, objective_terms, row_named, variable_address, variable_named, variables}
+use Rattle.user_model.specs.Model.{ModelValue, address_named, group_of, has_lower_bound, has_upper_bound, has_variable, is_variable, objective_mentions, objective_terms, row_named, variable_address, variable_named, variables}
 use Rattle.user_model.specs.Deletion.{group_without, objective_without, row_without, without_variable}
 use Rattle.user_model.specs.Edited.{change_function, change_group, change_row, delete_row, edited, group_number, located, numbered_from, objective_of, on_affine, on_objective, on_output, renamed, row_number, with_constant, with_variable}
-use Rattle.user_model.specs.Refusals.{counts, differ, first_refusal, group_is, is_bounded, is_cone_row_of, is_in_cone, row_is, terms_of_objective, terms_of_row, within}
+use Rattle.user_model.specs.Refusals.{counts, differ, first_refusal, group_is, meets_bound_already_set, is_cone_row_of, is_in_cone, row_is, terms_of_objective, terms_of_row, within}
 use Rattle.user_model.specs.Consistent.{IsConsistent}
 use Rattle.user_model.specs.Valid.{HasValidParts, IsSetOf, IsValid, IsValidGroup, IsValidObjective, IsValidRow, Stands, is_created_by}
 use Rattle.model_laws.specs.ByName.{of_group, of_number}
@@ -58,7 +58,7 @@ use Rattle.model_laws.specs.Standing.{affine_only, constant_only, function_stand
 use Rattle.model_laws.specs.Terms.{constant_adds_none, objective_change_terms}
 use Rattle.model_laws.specs.Variables.{group_found, vars_in, vars_renamed, vars_replaced}
 
-abbrev Parts : UserModel → Type 0
+abbrev Parts : ModelValue → Type 0
 Parts model = HasValidParts model.groups model.rows model.objective
 
 -- ---- tests that fail, as facts
@@ -76,10 +76,10 @@ not_both true b e is = e
 not_both false b e is = absurd (both_ways false refl is)
 
 -- a test of what stands at a name that is found
-row_fact : (test : Row → Bool) (model : UserModel) (name : List ℕ) (row : Row) → row_named model name ≡ Some row → row_is test model name ≡ false → test row ≡ false
+row_fact : (test : Row → Bool) (model : ModelValue) (name : List ℕ) (row : Row) → row_named model name ≡ Some row → row_is test model name ≡ false → test row ≡ false
 row_fact test model name row found e = sym (ap (λ o. option_map_or test o false) found) ∙ e
 
-group_fact : (test : Group → Bool) (model : UserModel) (name : List ℕ) (n : ℕ) (group : Group) → variable_named model name ≡ Some n → group_of model n ≡ Some group → group_is test model name ≡ false → test group ≡ false
+group_fact : (test : Group → Bool) (model : ModelValue) (name : List ℕ) (n : ℕ) (group : Group) → variable_named model name ≡ Some n → group_of model n ≡ Some group → group_is test model name ≡ false → test group ≡ false
 group_fact test model name n group at found e =
     sym (ap (λ o. option_map_or test o false) found) ∙ (sym (ap (λ o. option_map_or (λ n. option_map_or test (group_of model n) false) o false) at) ∙ e)
 
@@ -94,7 +94,7 @@ objective_limited objective.Feasibility rest h = omega arith
 objective_limited (objective.Plain sense var) rest h = omega arith
 objective_limited (objective.Affine sense f) rest h = h 0 (0, 0) (omega arith)
 
-module _ (model : UserModel) (c : IsConsistent model) (h : HasValidParts model.groups model.rows model.objective) where
+module _ (model : ModelValue) (c : IsConsistent model) (h : HasValidParts model.groups model.rows model.objective) where
   -- ---- rows by name
 
   module _ (name : List ℕ) (row : Row) (found : row_named model name ≡ Some row) where
@@ -114,7 +114,7 @@ module _ (model : UserModel) (c : IsConsistent model) (h : HasValidParts model.g
 
   -- no bound of its kind was there, where the row is one
   module _ (test : Set → Bool) (name : List ℕ) (set : Set) where
-    no_bound : (func : NamedFunc) → list_any (unknown model) (mentioned func) ≡ false → is_bounded test (λ m n. list_any (λ r. is_variable n r.func && test r.set) m.rows || is_created_by test m.groups n) model (edit.AddRow name func set) ≡ false → (n : ℕ) → (is_variable n (located model func) && test set) ≡ true → (list_any (λ r. is_variable n r.func && test r.set) model.rows || is_created_by test model.groups n) ≡ false
+    no_bound : (func : NamedFunc) → list_any (unknown model) (mentioned func) ≡ false → meets_bound_already_set test (λ m n. list_any (λ r. is_variable n r.func && test r.set) m.rows || is_created_by test m.groups n) model (edit.AddRow name func set) ≡ false → (n : ℕ) → (is_variable n (located model func) && test set) ≡ true → (list_any (λ r. is_variable n r.func && test r.set) model.rows || is_created_by test model.groups n) ≡ false
     no_bound (named.Plain var) known e n on =
         let parts = both (address_eq (variable_address n) (address_named model var)) (test set) on in
         let at = something (variable_named model var) (not-false (is_some (variable_named model var)) (or_parts (unknown model var) false known).0) in
@@ -342,7 +342,7 @@ module _ (model : UserModel) (c : IsConsistent model) (h : HasValidParts model.g
       let at = needed_row_there model (edit.RenameRow old new) old refl p.known in
       of_row old at.0 at.1 (λ r. record r { name = new }) (name_in_place model.groups at.0 new)
 
-pub kept_valid : (model : UserModel) (e : Edit) → IsValid model → first_refusal model e ≡ None → IsValid (edited model e)
+pub kept_valid : (model : ModelValue) (e : Edit) → IsValid model → first_refusal model e ≡ None → IsValid (edited model e)
 kept_valid model e v none = record {
   consistent = kept_consistent model e v.consistent none;
   within = kept_within model e v.consistent v.within none;

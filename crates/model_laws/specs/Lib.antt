@@ -19,7 +19,7 @@ pub mod Needed
 pub mod ByName
 pub mod KeptConsistent
 pub mod KeptWithin
-pub mod Listed
+pub mod ItemChanges
 pub mod Mentions
 pub mod Coefficients
 pub mod DeletedGroup

@@ -8,14 +8,14 @@ use Rattle.user_model.specs.declared.edit.Edit.{Edit}
 use Rattle.user_model.specs.declared.edit.NamedFunc.{NamedFunc}
 use Rattle.user_model.specs.declared.edit.NamedFunc.TheVariants as named
 use Rattle.user_model.specs.declared.row.Row.{Row}
-use Rattle.user_model.specs.Model.{UserModel, group_of, is_variable, row_named, variable_named}
+use Rattle.user_model.specs.Model.{ModelValue, group_of, is_variable, row_named, variable_named}
 use Rattle.user_model.specs.Functions.{mentioned}
 use Rattle.user_model.specs.Edited.{located}
-use Rattle.user_model.specs.Refusals.{has_row_named, has_variable_named, is_unknown, needed_row, needed_variables}
+use Rattle.user_model.specs.Refusals.{has_row_named, has_variable_named, meets_unknown_name, needed_row, needed_variables}
 use Rattle.model_laws.specs.Found.{something}
 use Rattle.model_laws.specs.Located.{address_stands}
 
-module _ (model : UserModel) where
+module _ (model : ModelValue) where
   -- no variable has the name
   abbrev pub unknown : List ℕ → Bool
   unknown name = not (has_variable_named model name)
@@ -24,12 +24,12 @@ module _ (model : UserModel) where
   first_known name names e = something (variable_named model name) (not-false (has_variable_named model name) (or_parts (unknown name) (list_any unknown names) e).0)
 
   -- the first variable that the edit needs
-  pub needed_variable : (e : Edit) (name : List ℕ) (names : List (List ℕ)) → needed_variables e ≡ name ∷ names → is_unknown model e ≡ false → (n : ℕ) × (variable_named model name ≡ Some n)
+  pub needed_variable : (e : Edit) (name : List ℕ) (names : List (List ℕ)) → needed_variables e ≡ name ∷ names → meets_unknown_name model e ≡ false → (n : ℕ) × (variable_named model name ≡ Some n)
   needed_variable e name names is known =
       first_known name names (subst (λ ns. list_any unknown ns ≡ false) is (or_parts (list_any unknown (needed_variables e)) (option_map_or (λ name. not (has_row_named model name)) (needed_row e) false) known).0)
 
   -- the row that the edit needs
-  pub needed_row_there : (e : Edit) (name : List ℕ) → needed_row e ≡ Some name → is_unknown model e ≡ false → (row : Row) × (row_named model name ≡ Some row)
+  pub needed_row_there : (e : Edit) (name : List ℕ) → needed_row e ≡ Some name → meets_unknown_name model e ≡ false → (row : Row) × (row_named model name ≡ Some row)
   needed_row_there e name is known =
       something (row_named model name) (not-false (has_row_named model name) (subst (λ o. option_map_or (λ name. not (has_row_named model name)) o false ≡ false) is (or_parts (list_any unknown (needed_variables e)) (option_map_or (λ name. not (has_row_named model name)) (needed_row e) false) known).1))
 

@@ -22,7 +22,7 @@ use Rattle.user_model.specs.declared.objective.Objective.{Objective}
 use Rattle.user_model.specs.declared.objective.Objective.TheVariants as objective
 use Rattle.user_model.specs.declared.objective.Sense.{Sense}
 use Rattle.user_model.specs.Functions.{func_mentions, has_term, mentioned, names_of}
-use Rattle.user_model.specs.Model.{UserModel, address_named, has_variable, objective_mentions, variable_address, variable_named}
+use Rattle.user_model.specs.Model.{ModelValue, address_named, has_variable, objective_mentions, variable_address, variable_named}
 use Rattle.user_model.specs.Deletion.{without_address, without_term}
 use Rattle.user_model.specs.Edited.{affine, changed_at, located, objective_of, on_affine, on_objective, on_output}
 use Rattle.user_model.specs.Valid.{Stands}
@@ -127,7 +127,7 @@ module _ (groups others : List Group) where
   pub stands_along : ((n : ℕ) → IsSome (find (has_variable n) groups) → IsSome (find (has_variable n) others)) → (at : Address) → Stands groups at → Stands others at
   stands_along along at s = record { number = s.number; address = s.address; group = along s.number s.group }
 
-module _ (model : UserModel) where
+module _ (model : ModelValue) where
   -- each name is of a variable that stands
   pub name_stands : (name : List ℕ) → unknown model name ≡ false → Stands model.groups (address_named model name)
   name_stands name known =

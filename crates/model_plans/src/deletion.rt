@@ -6,14 +6,14 @@ ghost use Rattle.user_model.specs.Deletion.{group_without, objective_without, ro
 ghost use Rattle.user_model.specs.Model.{has_variable, row_mentions};
 ghost use Rattle.user_model.specs.Sets.{resized};
 ghost use Rattle.user_model.specs.declared.edit.Edit.TheVariants.{DeleteVariable};
-ghost use Rattle.model_laws.specs.Listed.{edits_of};
+ghost use Rattle.model_laws.specs.ItemChanges.{edits_of};
 ghost use Rattle.user_model.specs.Functions.{func_mentions, has_term};
 ghost use Rattle.model_plans.specs.Plans.{Accepts, IsChange, Leads, gone};
 
 use crate::lists::only;
 use crate::plan::Plan;
 use aff_core::{Address, Aff, Root, VecAff};
-use model_catalog::{Catalog, Listed};
+use model_catalog::{Catalog, NameChange};
 use name_index::Name;
 use numbered::Change;
 use ratio_core::{Memory, Ratio};
@@ -38,7 +38,7 @@ pub(crate) fn delete(alloc: Global, model: &Catalog, var: &Name) -> Result<Plan,
         number: group.id,
         content: group_without(alloc, group, number)?,
     };
-    let listed = only(alloc, Listed::new(number, None))?;
+    let listed = only(alloc, NameChange::new(number, None))?;
     let mut plan = Plan::of_group_change(alloc, change, listed, model.next())?;
     plan.exchange.rows = rows_without(alloc, model.rows(), &at)?;
     plan.names.rows = gone_rows(alloc, &plan.exchange.rows)?;
@@ -64,13 +64,13 @@ fn rows_without(alloc: Global, rows: &[Row], at: &Address) -> Result<Vec<Change<
 }
 
 // The rows that go, without their names.
-fn gone_rows(alloc: Global, changes: &[Change<Row>]) -> Result<Vec<Listed>, Memory>
+fn gone_rows(alloc: Global, changes: &[Change<Row>]) -> Result<Vec<NameChange>, Memory>
     ensures { IfOk result (λ names. names.items ≡ gone changes.now) }
 {
     let mut names = Vec::new(alloc);
     for change in changes {
         if change.content.is_none() {
-            names.push(Listed::new(change.number, None))?;
+            names.push(NameChange::new(change.number, None))?;
         }
     }
     Ok(names)

@@ -20,13 +20,13 @@ use Rattle.named_aff.specs.declared.terms.NamedTerm.{NamedTerm}
 use Rattle.user_model.specs.Consistent.{IsConsistent, variable_number}
 use Rattle.user_model.specs.Edited.{affine}
 use Rattle.user_model.specs.Functions.{names_of, term_count}
-use Rattle.user_model.specs.Model.{UserModel, address_named, variable_named, variables}
+use Rattle.user_model.specs.Model.{ModelValue, address_named, variable_named, variables}
 use Rattle.user_model.specs.Refusals.{has_variable_named}
 use Rattle.model_laws.specs.Found.{something, stands_found}
 use Rattle.model_laws.specs.Located.{variable_of_name}
 use Rattle.model_refusals.proofs.Inserted.{entries_empty, sum_inserted}
 
-module _ (model : UserModel) (c : IsConsistent model) where
+module _ (model : ModelValue) (c : IsConsistent model) where
   -- names of one number are one name
   one_name : (x y : List ℕ) (n m : ℕ) → variable_named model x ≡ Some n → variable_named model y ≡ Some m → n ≡ m → x ≡ y
   one_name x y n m ex ey e =

@@ -25,7 +25,7 @@ use Rattle.user_model.specs.Consistent.{IsConsistent}
 use Rattle.user_model.specs.Edited.{change_function, changed_at, edited, located, on_affine, on_objective, on_output, row_number}
 use Rattle.user_model.specs.Functions.{all_terms, term_count, term_counts}
 use Rattle.user_model.specs.Limits.{ALL_TERMS, TERMS}
-use Rattle.user_model.specs.Model.{UserModel, address_named, is_variable, objective_terms, row_named, total_terms}
+use Rattle.user_model.specs.Model.{ModelValue, address_named, is_variable, objective_terms, row_named, total_terms}
 use Rattle.user_model.specs.Refusals.{counts, terms_of_objective, terms_of_row, within}
 use Rattle.model_laws.specs.Changed.{change_row-found}
 use Rattle.model_laws.specs.ChangedRow.{row_named-put}
@@ -38,7 +38,7 @@ use Rattle.model_laws.specs.ByName.{affine_bounds, function_change, output_bound
 use Rattle.model_refusals.specs.WellFormed.{with_change}
 use Rattle.model_refusals.proofs.ChangedTerms.{sum-changed_at}
 
-module _ (model : UserModel) (c : IsConsistent model) (name : List ℕ) (row : Row) (found : row_named model name ≡ Some row) where
+module _ (model : ModelValue) (c : IsConsistent model) (name : List ℕ) (row : Row) (found : row_named model name ≡ Some row) where
   -- its terms are some of all
   pub row_part : all_terms row.func ≤ total_terms model
   row_part =
@@ -74,7 +74,7 @@ sum_part (suc i) (g ∷ fs) f e = omega (arith, sum_part i fs f e, sum_by-cons (
 moved_total : (all old new less more : ℕ) → old ≤ all → less ≤ old → new + less ≡ old + more → all - old + new ≡ all - less + more
 moved_total all old new less more a b e = omega arith
 
-module _ (model : UserModel) (c : IsConsistent model) (name : List ℕ) (row : Row) (found : row_named model name ≡ Some row) where
+module _ (model : ModelValue) (c : IsConsistent model) (name : List ℕ) (row : Row) (found : row_named model name ≡ Some row) where
   one_term : (n : ℕ) → sum (n ∷ []) ≡ n
   one_term n = sum_by-cons (λ x. x) n [] ∙ omega arith
 
@@ -127,7 +127,7 @@ module _ (model : UserModel) (c : IsConsistent model) (name : List ℕ) (row : R
         let total : total_terms (change_function model name (on_output output g)) ≡ total_terms model - term_count f + term_count (g f) = total-changed model c name row found (on_output output g) same ∙ (ap₂ (λ o n. total_terms model - o + n) old new ∙ moved) in
         ap₂ (λ ts n. within TERMS ts ++ (n, ALL_TERMS) ∷ []) terms total
 
-module _ (model : UserModel) where
+module _ (model : ModelValue) where
   -- the objective's terms are some of all
   pub objective_part : objective_terms model.objective ≤ total_terms model
   objective_part = omega arith

@@ -4,7 +4,7 @@ ghost use Rattle.std.specs.List.{list_any};
 ghost use Rattle.std.specs.Option.{option_map, option_map_or};
 ghost use Rattle.user_model.specs.Model as models;
 ghost use Rattle.user_model.specs.Model.{has_lower_bound, has_upper_bound};
-ghost use Rattle.user_model.specs.Refusals.{is_bad_interval, is_bounded, is_cone_row_of, is_in_cone, is_undeletable, new_bound};
+ghost use Rattle.user_model.specs.Refusals.{meets_bad_interval, meets_bound_already_set, is_cone_row_of, is_in_cone, meets_delete_not_allowed, new_bound};
 ghost use Rattle.user_model.specs.Sets as tests;
 
 use crate::sets::{is_crossed, is_norm_cone, sets_lower, sets_upper};
@@ -15,8 +15,8 @@ use set_core::Set;
 use user_model::{Edit, NamedFunc, Row, UserFunc};
 
 /// Whether the edit gives an interval whose lower bound is above its upper bound.
-pub(crate) fn is_bad_interval(edit: &Edit) -> bool
-    ensures { result ≡ is_bad_interval edit.now }
+pub(crate) fn meets_bad_interval(edit: &Edit) -> bool
+    ensures { result ≡ meets_bad_interval edit.now }
 {
     match edit {
         Edit::AddGroup { set, .. } | Edit::AddRow { set, .. } => is_crossed(set),
@@ -30,8 +30,8 @@ pub(crate) fn is_bad_interval(edit: &Edit) -> bool
 }
 
 /// Whether the edit gives a lower bound to a variable that has one.
-pub(crate) fn is_lower_bounded(model: &Catalog, edit: &Edit) -> bool
-    ensures { result ≡ is_bounded tests.sets_lower has_lower_bound model.now.model edit.now }
+pub(crate) fn meets_lower_bound_already_set(model: &Catalog, edit: &Edit) -> bool
+    ensures { result ≡ meets_bound_already_set tests.sets_lower has_lower_bound model.now.model edit.now }
 {
     let Some(bound) = new_bound(edit) else {
         return false;
@@ -46,8 +46,8 @@ pub(crate) fn is_lower_bounded(model: &Catalog, edit: &Edit) -> bool
 }
 
 /// Whether the edit gives an upper bound to a variable that has one.
-pub(crate) fn is_upper_bounded(model: &Catalog, edit: &Edit) -> bool
-    ensures { result ≡ is_bounded tests.sets_upper has_upper_bound model.now.model edit.now }
+pub(crate) fn meets_upper_bound_already_set(model: &Catalog, edit: &Edit) -> bool
+    ensures { result ≡ meets_bound_already_set tests.sets_upper has_upper_bound model.now.model edit.now }
 {
     let Some(bound) = new_bound(edit) else {
         return false;
@@ -62,8 +62,8 @@ pub(crate) fn is_upper_bounded(model: &Catalog, edit: &Edit) -> bool
 }
 
 /// Whether the edit deletes a variable of a norm cone.
-pub(crate) fn is_undeletable(model: &Catalog, edit: &Edit) -> bool
-    ensures { result ≡ is_undeletable model.now.model edit.now }
+pub(crate) fn meets_delete_not_allowed(model: &Catalog, edit: &Edit) -> bool
+    ensures { result ≡ meets_delete_not_allowed model.now.model edit.now }
 {
     match edit {
         Edit::DeleteVariable { var } => is_named_in_cone(model, var),
@@ -122,7 +122,7 @@ fn has_upper_bound(model: &Catalog, number: u32) -> bool
 }
 
 fn is_named_in_cone(model: &Catalog, name: &Name) -> bool
-    ensures { result ≡ is_undeletable model.now.model (Edit.DeleteVariable name.now) }
+    ensures { result ≡ meets_delete_not_allowed model.now.model (Edit.DeleteVariable name.now) }
 {
     match model.variable(name) {
         Some(number) => is_in_cone(model, number),

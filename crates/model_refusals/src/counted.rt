@@ -6,7 +6,7 @@ ghost use Rattle.user_model.specs.Consistent.{IsConsistent};
 ghost use Rattle.user_model.specs.Edited.{affine, changed_at, located};
 ghost use Rattle.user_model.specs.Functions.{named_components, term_count, term_counts};
 ghost use Rattle.user_model.specs.Limits as limits;
-ghost use Rattle.user_model.specs.Model.{UserModel};
+ghost use Rattle.user_model.specs.Model.{ModelValue};
 ghost use Rattle.user_model.specs.Refusals.{first_of, passes, within};
 ghost use Rattle.model_refusals.specs.WellFormed.{IsKnown};
 
@@ -18,7 +18,7 @@ use user_model::{NamedFunc, Refusal};
 
 /// How many terms the function with these names has in a model that has them: those with the coefficient 0 are left out.
 pub(crate) fn named_terms(func: &NamedAff) -> u64
-    ensures value { (model : UserModel) → IsConsistent model → IsKnown model (NamedFunc.Affine func.now) → result ≡ term_count (affine model func.now) }
+    ensures value { (model : ModelValue) → IsConsistent model → IsKnown model (NamedFunc.Affine func.now) → result ≡ term_count (affine model func.now) }
     ensures fits { result ≤ 2 ^ 63 }
 {
     nonzero_terms(func.terms.as_slice())
@@ -48,7 +48,7 @@ fn is_counted(term: &NamedTerm) -> bool
 /// How many terms all components of a function by name have, or the refusal for the first that has more than it may.
 pub(crate) fn terms_within(func: &NamedFunc) -> Result<u64, Refusal>
     requires { named_components func.now ≤ limits.COMPONENTS }
-    ensures value { (model : UserModel) → IsConsistent model → IsKnown model func.now → MatchResult result
+    ensures value { (model : ModelValue) → IsConsistent model → IsKnown model func.now → MatchResult result
         (λ terms. (first_of (map passes (within limits.TERMS (term_counts (located model func.now)))) ≡ None) × (terms ≡ sum (term_counts (located model func.now))))
         (λ refusal. first_of (map passes (within limits.TERMS (term_counts (located model func.now)))) ≡ Some refusal) }
     ensures fits { IfOk result (λ terms. terms ≤ 2 ^ 24) }
@@ -63,7 +63,7 @@ pub(crate) fn terms_within(func: &NamedFunc) -> Result<u64, Refusal>
 // The same for its components.
 fn vec_terms_within(funcs: &NamedVec) -> Result<u64, Refusal>
     requires { length funcs.now ≤ limits.COMPONENTS }
-    ensures value { (model : UserModel) → IsConsistent model → IsKnown model (NamedFunc.AffineVec funcs.now) → MatchResult result
+    ensures value { (model : ModelValue) → IsConsistent model → IsKnown model (NamedFunc.AffineVec funcs.now) → MatchResult result
         (λ terms. (first_of (map passes (within limits.TERMS (map term_count (map (affine model) funcs.now)))) ≡ None) × (terms ≡ sum (map term_count (map (affine model) funcs.now))))
         (λ refusal. first_of (map passes (within limits.TERMS (map term_count (map (affine model) funcs.now)))) ≡ Some refusal) }
     ensures fits { IfOk result (λ terms. terms ≤ 2 ^ 24) }

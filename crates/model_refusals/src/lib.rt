@@ -10,8 +10,6 @@ mod names_known;
 mod refusals;
 mod sets;
 mod shapes;
-#[cfg(test)]
-mod tests;
 mod twins;
 
 pub use refusals::first_refusal;

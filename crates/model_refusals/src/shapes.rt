@@ -3,7 +3,7 @@ ghost use Rattle.std.specs.Prelude.{◌≡◌, ◌==◌, ◌||◌, nat_lt, not};
 ghost use Rattle.std.specs.Option.{option_copied, option_and_then};
 ghost use Rattle.user_model.specs.Functions as functions;
 ghost use Rattle.user_model.specs.Model as models;
-ghost use Rattle.user_model.specs.Refusals.{differ, group_is, is_affine_objective, is_misshapen, is_no_output, is_of_bad_dimension, is_of_other_type, row_is};
+ghost use Rattle.user_model.specs.Refusals.{differ, group_is, is_affine_objective, meets_function_shape, meets_output_index, meets_bad_dimension, meets_set_type_mismatch, row_is};
 ghost use Rattle.user_model.specs.Sets as tests;
 
 use crate::sets::{has_bad_dimension, is_scalar_set, same_type};
@@ -13,8 +13,8 @@ use set_core::Set;
 use user_model::{Edit, Group, NamedFunc, Objective, UserFunc};
 
 /// Whether the function or what stands at the name has not the shape that the edit needs.
-pub(crate) fn is_misshapen(model: &Catalog, edit: &Edit) -> bool
-    ensures { result ≡ is_misshapen model.now.model edit.now }
+pub(crate) fn meets_function_shape(model: &Catalog, edit: &Edit) -> bool
+    ensures { result ≡ meets_function_shape model.now.model edit.now }
 {
     match edit {
         Edit::AddGroup { names, set } => is_scalar_set(set) && names.len() != 1,
@@ -36,8 +36,8 @@ pub(crate) fn is_misshapen(model: &Catalog, edit: &Edit) -> bool
 }
 
 /// Whether a new vector set's dimension isn't the number of components, is 0, or is 1 for a norm cone.
-pub(crate) fn is_of_bad_dimension(model: &Catalog, edit: &Edit) -> bool
-    ensures { result ≡ is_of_bad_dimension model.now.model edit.now }
+pub(crate) fn meets_bad_dimension(model: &Catalog, edit: &Edit) -> bool
+    ensures { result ≡ meets_bad_dimension model.now.model edit.now }
 {
     match edit {
         Edit::AddGroup { names, set } => has_bad_dimension(set, names.len()),
@@ -53,8 +53,8 @@ pub(crate) fn is_of_bad_dimension(model: &Catalog, edit: &Edit) -> bool
 }
 
 /// Whether an output is 0 or above the number of the row's components.
-pub(crate) fn is_no_output(model: &Catalog, edit: &Edit) -> bool
-    ensures { result ≡ is_no_output model.now.model edit.now }
+pub(crate) fn meets_output_index(model: &Catalog, edit: &Edit) -> bool
+    ensures { result ≡ meets_output_index model.now.model edit.now }
 {
     match edit {
         Edit::VecCoef { row, output, .. } | Edit::VecConstant { row, output, .. } => {
@@ -71,8 +71,8 @@ pub(crate) fn is_no_output(model: &Catalog, edit: &Edit) -> bool
 }
 
 /// Whether a new set is of another type than the old one.
-pub(crate) fn is_of_other_type(model: &Catalog, edit: &Edit) -> bool
-    ensures { result ≡ is_of_other_type model.now.model edit.now }
+pub(crate) fn meets_set_type_mismatch(model: &Catalog, edit: &Edit) -> bool
+    ensures { result ≡ meets_set_type_mismatch model.now.model edit.now }
 {
     match edit {
         Edit::RowSet { row, set } => row_set_differs(model, row, set),

@@ -12,8 +12,8 @@ use Rattle.user_model.specs.declared.group.GroupVar.{GroupVar}
 use Rattle.user_model.specs.declared.row.Row.{Row}
 use Rattle.user_model.specs.declared.objective.Objective.{Objective}
 use Rattle.user_model.specs.declared.objective.Objective.TheVariants as objective
-use Rattle.user_model.specs.declared.undo.Numbers.{Numbers}
-use Rattle.user_model.specs.Model.{UserModel, variable_address, variables}
+use Rattle.user_model.specs.declared.undo.NextNumbers.{NextNumbers}
+use Rattle.user_model.specs.Model.{ModelValue, variable_address, variables}
 use Rattle.user_model.specs.Consistent.{variable_number}
 use Rattle.user_model.specs.Edited.{group_number, row_number}
 
@@ -44,34 +44,34 @@ module _ (vars : List ℕ) where
   variable_by_position var = record var { number = position vars var.number }
 
 -- the numbers of the variables
-abbrev pub variable_numbers : UserModel → List ℕ
+abbrev pub variable_numbers : ModelValue → List ℕ
 variable_numbers model = map variable_number (variables model)
 
 -- the groups, the rows and the objective with each number replaced by its position
-abbrev pub group_by_position : UserModel → Group → Group
+abbrev pub group_by_position : ModelValue → Group → Group
 group_by_position model g = record g {
   id = position (map group_number model.groups) g.id;
   vars = map (variable_by_position (variable_numbers model)) g.vars;
 }
 
-abbrev pub row_by_position : UserModel → Row → Row
+abbrev pub row_by_position : ModelValue → Row → Row
 row_by_position model r = record r { id = position (map row_number model.rows) r.id; func = function_by_position (variable_numbers model) r.func }
 
-abbrev pub groups_by_position : UserModel → List Group
+abbrev pub groups_by_position : ModelValue → List Group
 groups_by_position model = map (group_by_position model) model.groups
 
-abbrev pub rows_by_position : UserModel → List Row
+abbrev pub rows_by_position : ModelValue → List Row
 rows_by_position model = map (row_by_position model) model.rows
 
 -- the lists and the objectives agree once each number is replaced by its position
-pub record SameUpToNumbers (one other : UserModel) : Type 0 where
+pub record SameUpToNumbers (one other : ModelValue) : Type 0 where
   pub groups : groups_by_position one ≡ groups_by_position other
   pub rows : rows_by_position one ≡ rows_by_position other
   pub objective : objective_by_position (variable_numbers one) one.objective ≡ objective_by_position (variable_numbers other) other.objective
 
 -- ---- an example: a variable and a row that bounds it, with these numbers and any next ones
 
-example : ℕ → ℕ → ℕ → Numbers → List ℕ → List ℕ → UserModel
+example : ℕ → ℕ → ℕ → NextNumbers → List ℕ → List ℕ → ModelValue
 example g v r next x q = record {
   groups = record { id = g; vars = record { number = v; name = x } ∷ []; set = Reals 1 } ∷ [];
   rows = record { id = r; name = q; func = Plain (variable_address v); set = GreaterThan zero_ℚ } ∷ [];
@@ -79,6 +79,6 @@ example g v r next x q = record {
   next = next;
 }
 
-example_same : (next later : Numbers) (x q : List ℕ) → SameUpToNumbers (example 0 0 0 next x q) (example 3 7 5 later x q)
+example_same : (next later : NextNumbers) (x q : List ℕ) → SameUpToNumbers (example 0 0 0 next x q) (example 3 7 5 later x q)
 unfolding example
 example_same next later x q = record { groups = refl; rows = refl; objective = refl }

@@ -10,7 +10,7 @@ use Rattle.user_model.specs.declared.row.Row.{Row}
 use Rattle.user_model.specs.Sets.{has_bad_dimension, is_crossed, is_scalar_set, sets_lower, sets_upper}
 use Rattle.user_model.specs.Functions.{components, func_mentions, is_scalar_function, term_counts}
 use Rattle.user_model.specs.Limits.{COMPONENTS, TERMS}
-use Rattle.user_model.specs.Model.{UserModel, has_variable, is_variable, objective_mentions, objective_terms, variable_address}
+use Rattle.user_model.specs.Model.{ModelValue, has_variable, is_variable, objective_mentions, objective_terms, variable_address}
 use Rattle.user_model.specs.Consistent.{IsConsistent, IsWithinLimits}
 
 -- a set for functions of so many components: of numbers or of vectors, as the functions are, of their dimension, which is at
@@ -61,7 +61,7 @@ pub record HasValidParts (groups : List Group) (rows : List Row) (objective : Ob
   pub upper : (n : ℕ) → bound_count sets_upper groups rows n ≤ 1
 
 -- numbers and names are in order, no limit is passed, and each part is valid
-pub record IsValid (model : UserModel) : Type 0 where
+pub record IsValid (model : ModelValue) : Type 0 where
   pub consistent : IsConsistent model
   pub within : IsWithinLimits model
   pub parts : HasValidParts model.groups model.rows model.objective

@@ -16,7 +16,4 @@ pub use group::{Group, GroupVar, GroupVars};
 pub use objective::{Objective, Sense};
 pub use refusal::{ApplyFault, Refusal};
 pub use row::Row;
-pub use undo::{Numbers, OldGroups, OldRows, Undo};
-
-#[cfg(test)]
-mod tests;
+pub use undo::{NextNumbers, OldGroups, OldRows, Undo};

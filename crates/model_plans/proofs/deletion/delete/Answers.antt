@@ -6,7 +6,7 @@ use Rattle.user_model.specs.Deletion.{group_without, objective_without, row_with
 use Rattle.user_model.specs.Edited.{edited, row_number}
 use Rattle.user_model.specs.Model.{group_of, has_variable, row_mentions, variable_address}
 use Rattle.model_laws.specs.Found.{found_passes}
-use Rattle.model_laws.specs.Listed.{edits_of}
+use Rattle.model_laws.specs.ItemChanges.{edits_of}
 use Rattle.model_laws.specs.Located.{named_stands}
 use Rattle.model_laws.specs.Needed.{needed_variable}
 use Rattle.model_laws.specs.Planned.{deletion_changes}

@@ -1,7 +1,7 @@
 use Rattle.std.proofs.Common.{◌≡◌, take}
 use Rattle.user_model.specs.Deletion.{row_without}
 use Rattle.user_model.specs.Edited.{row_number}
-use Rattle.model_laws.specs.Listed.{edits_of}
+use Rattle.model_laws.specs.ItemChanges.{edits_of}
 use Rattle.user_model.specs.Model.{row_mentions}
 use Rattle.model_plans.proofs.deletion.rows_without.Given as goal
 

@@ -10,13 +10,13 @@ use Rattle.user_model.specs.Edited.{group_number, row_number}
 use Rattle.user_model.specs.Model.{objective_terms, variables}
 use Rattle.model_catalog.specs.declared.catalog.Catalog.TheInside.{Inside}
 use Rattle.model_catalog.specs.declared.exchange.Exchange.{Exchange}
-use Rattle.model_catalog.specs.declared.names.Listed.{Listed}
-use Rattle.model_catalog.specs.declared.names.Listing.{Listing}
+use Rattle.model_catalog.specs.declared.names.NameChange.{NameChange}
+use Rattle.model_catalog.specs.declared.names.NameChanges.{NameChanges}
 use Rattle.model_catalog.specs.Catalog.{Catalog}
 use Rattle.model_catalog.specs.Names.{name_of, put_count, renamed_by}
 use Rattle.model_catalog.specs.Index.{CountsBounds}
 use Rattle.model_catalog.specs.Kept.{Keeps, model_of}
-use Rattle.model_catalog.specs.Named.{Lists, ListsStanding}
+use Rattle.model_catalog.specs.Named.{AreNameChanges, HasStandingNames}
 use Rattle.model_catalog.specs.Exchange.{contents, exchanged, standing}
 use Rattle.model_catalog.proofs.Models.{kept_length}
 use Rattle.model_catalog.proofs.Exchanges.{kept_alike}
@@ -126,7 +126,7 @@ invariant_of-self c =
     let kept_is = with_items_is c.list_variables.new.kept c.exchange_rows.new.kept (c.exchange_rows.auto.kept ∙ c.deref_mut-4.ensures.len) in
     let keeps = keeps_after model a.kept.items a.variable_names.numbers a.row_names.numbers a.terms c.args.with.now names is c.list_variables.new.kept.items c.deref-2.result.now c.deref-2.ensures.value c.list_variables.ensures.entries
     c.exchange_rows.new.kept c.exchange_names.new.table.numbers c.exchange_names-2.new.table.numbers c.deref_mut-2.result.now c.deref_mut-2.ensures.value c.exchange_rows.new.rows.items rows_are c.exchange_rows.ensures.kept c.deref_mut-4.result.now c.deref_mut-4.ensures.value c.exchange_rows.ensures.entries
-    (λ n. c.exchange_names.ensures.names n ∙ ap (λ (ls : List Listed). renamed_by ls (name_of a.variable_names.numbers) n) (c.deref_mut.ensures.value ∙ sym c.deref-2.ensures.value)) c.exchange_names-2.ensures.names c.exchange_names.ensures.one_to_one c.exchange_names-2.ensures.one_to_one
+    (λ n. c.exchange_names.ensures.names n ∙ ap (λ (ls : List NameChange). renamed_by ls (name_of a.variable_names.numbers) n) (c.deref_mut.ensures.value ∙ sym c.deref-2.ensures.value)) c.exchange_names-2.ensures.names c.exchange_names.ensures.one_to_one c.exchange_names-2.ensures.one_to_one
     after.terms fit.all in
     let kept = kept_alike (exchanged c.args.with.now model) (model_of after) c.exchange_rows.new.kept after.kept.items c.exchange_names.new.table.numbers c.exchange_names.new.table.numbers c.exchange_names-2.new.table.numbers c.exchange_names-2.new.table.numbers after.terms after_is kept_is refl refl keeps in
     kept
@@ -137,11 +137,11 @@ returns-clause-standing c =
     let model = model_of a in
     let names = c.args.names.now in
     let is = ready model c.args.self.now.model a.kept.items a.variable_names.numbers a.row_names.numbers a.terms c.args.with.now names (ap (λ (x : Catalog). x.model) c.self.view_is) c.self.invariant c.requires.changes c.requires.consistent c.requires.within c.requires.names in
-    let names_after : Listing = record { group = names.group; variables = with_items names.variables c.exchange_names.new.listed; rows = with_items names.rows c.exchange_names-2.new.listed } in
+    let names_after : NameChanges = record { group = names.group; variables = with_items names.variables c.exchange_names.new.listed; rows = with_items names.rows c.exchange_names-2.new.listed } in
     let stands = stood model a.kept.items a.variable_names.numbers a.row_names.numbers a.terms c.args.with.now names is names_after c.deref_mut.result.now c.deref_mut-2.result.now refl c.deref_mut.ensures.value c.deref_mut-2.ensures.value
     (with_items_is names.variables c.exchange_names.new.listed (c.exchange_names.auto.listed ∙ c.deref_mut.ensures.len) ∙ c.exchange_names.ensures.listed)
     (with_items_is names.rows c.exchange_names-2.new.listed (c.exchange_names-2.auto.listed ∙ c.deref_mut-2.ensures.len) ∙ c.exchange_names-2.ensures.listed) in
-    subst (λ m. ListsStanding m names names_after) (ap (λ (x : Catalog). x.model) c.self.view_is) stands
+    subst (λ m. HasStandingNames m names names_after) (ap (λ (x : Catalog). x.model) c.self.view_is) stands
 
 pub returns-clause-back : goal.returns-clause-back
 returns-clause-back c =
@@ -165,11 +165,11 @@ returns-clause-names c =
     let is = ready model c.args.self.now.model a.kept.items a.variable_names.numbers a.row_names.numbers a.terms c.args.with.now names (ap (λ (x : Catalog). x.model) c.self.view_is) c.self.invariant c.requires.changes c.requires.consistent c.requires.within c.requires.names in
     let after : Inside = record { groups = c.exchange_all.new.items; rows = c.exchange_rows.new.rows; objective = c.exchange_objective.new.objective; next = c.swap.new.x; kept = with_items c.list_variables.new.kept c.exchange_rows.new.kept; variable_names = c.exchange_names.new.table; row_names = c.exchange_names-2.new.table; terms = a.terms + c.changed_terms-put_in.result - c.changed_terms-taken_out.result - c.objective_terms-objective_was.result + c.objective_terms.result } in
     let after_is : model_of after ≡ exchanged c.args.with.now model = λ i. record { groups = (c.exchange_all.ensures.after ∙ ap (λ (cs : List (Change Group)). set_all group_number cs a.groups.items) c.deref_mut-3.ensures.value) i; rows = (c.exchange_rows.ensures.after ∙ ap (λ (cs : List (Change Row)). set_all row_number cs a.rows.items) c.deref_mut-5.ensures.value) i; objective = c.exchange_objective.ensures.objective i; next = c.swap.ensures.x_after i } in
-    let names_after : Listing = record { group = names.group; variables = with_items names.variables c.exchange_names.new.listed; rows = with_items names.rows c.exchange_names-2.new.listed } in
+    let names_after : NameChanges = record { group = names.group; variables = with_items names.variables c.exchange_names.new.listed; rows = with_items names.rows c.exchange_names-2.new.listed } in
     let stands = stood model a.kept.items a.variable_names.numbers a.row_names.numbers a.terms c.args.with.now names is names_after c.deref_mut.result.now c.deref_mut-2.result.now refl c.deref_mut.ensures.value c.deref_mut-2.ensures.value
     (with_items_is names.variables c.exchange_names.new.listed (c.exchange_names.auto.listed ∙ c.deref_mut.ensures.len) ∙ c.exchange_names.ensures.listed)
     (with_items_is names.rows c.exchange_names-2.new.listed (c.exchange_names-2.auto.listed ∙ c.deref_mut-2.ensures.len) ∙ c.exchange_names-2.ensures.listed) in
-    subst (λ m. Lists names_after (model_of after) m) (ap (λ (x : Catalog). x.model) c.self.view_is) (names_way_back model a.kept.items a.variable_names.numbers a.row_names.numbers a.terms c.args.with.now names is names_after (model_of after) after_is stands)
+    subst (λ m. AreNameChanges names_after (model_of after) m) (ap (λ (x : Catalog). x.model) c.self.view_is) (names_way_back model a.kept.items a.variable_names.numbers a.row_names.numbers a.terms c.args.with.now names is names_after (model_of after) after_is stands)
 
 pub returns-clause-room : goal.returns-clause-room
 returns-clause-room c =
@@ -185,10 +185,10 @@ returns-clause-room c =
     let kept_is = with_items_is c.list_variables.new.kept c.exchange_rows.new.kept (c.exchange_rows.auto.kept ∙ c.deref_mut-4.ensures.len) in
     let keeps = keeps_after model a.kept.items a.variable_names.numbers a.row_names.numbers a.terms c.args.with.now names is c.list_variables.new.kept.items c.deref-2.result.now c.deref-2.ensures.value c.list_variables.ensures.entries
     c.exchange_rows.new.kept c.exchange_names.new.table.numbers c.exchange_names-2.new.table.numbers c.deref_mut-2.result.now c.deref_mut-2.ensures.value c.exchange_rows.new.rows.items rows_are c.exchange_rows.ensures.kept c.deref_mut-4.result.now c.deref_mut-4.ensures.value c.exchange_rows.ensures.entries
-    (λ n. c.exchange_names.ensures.names n ∙ ap (λ (ls : List Listed). renamed_by ls (name_of a.variable_names.numbers) n) (c.deref_mut.ensures.value ∙ sym c.deref-2.ensures.value)) c.exchange_names-2.ensures.names c.exchange_names.ensures.one_to_one c.exchange_names-2.ensures.one_to_one
+    (λ n. c.exchange_names.ensures.names n ∙ ap (λ (ls : List NameChange). renamed_by ls (name_of a.variable_names.numbers) n) (c.deref_mut.ensures.value ∙ sym c.deref-2.ensures.value)) c.exchange_names-2.ensures.names c.exchange_names.ensures.one_to_one c.exchange_names-2.ensures.one_to_one
     after.terms fit.all in
     let kept = kept_alike (exchanged c.args.with.now model) (model_of after) c.exchange_rows.new.kept after.kept.items c.exchange_names.new.table.numbers c.exchange_names.new.table.numbers c.exchange_names-2.new.table.numbers c.exchange_names-2.new.table.numbers after.terms after_is kept_is refl refl keeps in
-    let names_after : Listing = record { group = names.group; variables = with_items names.variables c.exchange_names.new.listed; rows = with_items names.rows c.exchange_names-2.new.listed } in
+    let names_after : NameChanges = record { group = names.group; variables = with_items names.variables c.exchange_names.new.listed; rows = with_items names.rows c.exchange_names-2.new.listed } in
     let stands = stood model a.kept.items a.variable_names.numbers a.row_names.numbers a.terms c.args.with.now names is names_after c.deref_mut.result.now c.deref_mut-2.result.now refl c.deref_mut.ensures.value c.deref_mut-2.ensures.value
     (with_items_is names.variables c.exchange_names.new.listed (c.exchange_names.auto.listed ∙ c.deref_mut.ensures.len) ∙ c.exchange_names.ensures.listed)
     (with_items_is names.rows c.exchange_names-2.new.listed (c.exchange_names-2.auto.listed ∙ c.deref_mut-2.ensures.len) ∙ c.exchange_names-2.ensures.listed) in

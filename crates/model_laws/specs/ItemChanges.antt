@@ -10,7 +10,7 @@ use Rattle.numbered.specs.Changes.{AreChanges, changed_number, old, olds, set_al
 use Rattle.numbered.specs.Laws.{KeepsNumbers, Rise-filter, find-filter_map, same_lists, Rise-filter_map}
 use Rattle.numbered.specs.SetLaws.{put_last}
 use Rattle.numbered.specs.ChangeLaws.{AreChanges-cons, AreChanges-nil, AreChanges-olds, Rise-set_all, find-changed, find-set_all}
-use Rattle.user_model.specs.Undone.{ListsDifferences}
+use Rattle.user_model.specs.Undone.{AreDifferences}
 use Rattle.model_laws.specs.Pairs.{AllPairs-map}
 
 module _ {X : Type 0} (number_of : X → ℕ) where
@@ -19,8 +19,8 @@ module _ {X : Type 0} (number_of : X → ℕ) where
   set_to x = record { number = number_of x; content = Some x }
 
   -- nothing is to stand at a number
-  abbrev pub taken_out : ℕ → Change X
-  taken_out n = record { number = n; content = None }
+  abbrev pub removal_at : ℕ → Change X
+  removal_at n = record { number = n; content = None }
 
   -- an item is to be what f makes of it
   abbrev pub edit_of : (X → Option X) → X → Change X
@@ -106,7 +106,7 @@ module _ {X : Type 0} (number_of : X → ℕ) where
       elim (c.number == n) as (λ b. cond b (Some (old number_of xs c)) (find changed_number n (olds number_of cs xs)) ≡ option_map (old number_of xs) (cond b (Some c) (find changed_number n cs))) [ true ↦ refl | false ↦ found_old n cs xs ]
 
   -- changes that each put other content than stood there list, with the old content, exactly what differs
-  pub differences : (xs : List X) (cs : List (Change X)) → AreChanges number_of cs → All (λ c. find number_of c.number xs ≢ c.content) cs → ListsDifferences number_of xs (set_all number_of cs xs) (olds number_of cs xs)
+  pub differences : (xs : List X) (cs : List (Change X)) → AreChanges number_of cs → All (λ c. find number_of c.number xs ≢ c.content) cs → AreDifferences number_of xs (set_all number_of cs xs) (olds number_of cs xs)
   differences xs cs are differ = record {
     rising = (AreChanges-olds number_of cs xs are).rising;
     contents = All-map {X = Change X} (λ c. c.content ≡ find number_of c.number xs) (old number_of xs) cs (λ k d end. refl);
