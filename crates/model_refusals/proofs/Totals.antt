@@ -55,7 +55,7 @@ module _ (model : ModelValue) (c : IsConsistent model) (name : List ℕ) (row : 
     changed = change_row-found model name (λ row. record row { func = h row.func }) row found
 
     pub terms_of_row-changed : terms_of_row (change_function model name h) name ≡ term_counts (h row.func)
-    terms_of_row-changed = ap (λ m. terms_of_row m name) changed ∙ ap (λ o. option_map_or (λ r. term_counts r.func) o []) (row_named-put new refl refl)
+    terms_of_row-changed = ap (λ m. terms_of_row m name) changed ∙ ap (λ o. option_map_or (λ r. term_counts r.func) o []) (row_named-put model c name row found new refl refl)
 
     pub total-changed : total_terms (change_function model name h) ≡ total_terms model - all_terms row.func + all_terms (h row.func)
     total-changed =

@@ -2,3 +2,4 @@
 pub mod Store
 pub mod Rooms
 pub mod Parking
+pub mod StoreLaws

@@ -11,6 +11,3 @@ pub use user_model::{
     ApplyFault, Edit, Group, GroupVar, GroupVars, NamedFunc, NextNumbers, Objective, OldGroups,
     OldRows, Refusal, Row, Sense, Undo, UserFunc,
 };
-
-#[cfg(test)]
-mod tests;

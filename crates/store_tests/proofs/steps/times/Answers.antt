@@ -1,6 +1,6 @@
 use Rattle.std.proofs.Common.{sym, subst, [], ◌∷◌, ◌++◌}
 use Rattle.named_aff.specs.Distinct.{HasDistinctNames, one_distinct}
-use Rattle.model_store.proofs.tests.edits.times.Goals as goal
+use Rattle.store_tests.proofs.steps.times.Goals as goal
 
 pub push-requires : goal.push-requires
 push-requires c =
