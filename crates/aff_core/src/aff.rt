@@ -8,6 +8,7 @@ ghost use Rattle.aff_core.specs.Rising.{RiseStrictly};
 
 use crate::Address;
 use crate::terms::{negated_terms, nonzero_terms};
+use lists::Duplicate;
 use ratio_core::{Memory, Ratio};
 use std::alloc::Global;
 use std::marker::Model;
@@ -135,6 +136,15 @@ impl Aff {
     {
         self.terms()
             .binary_search_by(|(address, _)| address.cmp(at))
+    }
+}
+
+impl Duplicate for Aff {
+    fn copy(&self) -> Result<Aff, Memory> {
+        Ok(Aff {
+            terms: Vec::from_slice(*self.terms.allocator(), &self.terms)?,
+            constant: self.constant,
+        })
     }
 }
 

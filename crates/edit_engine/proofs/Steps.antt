@@ -2,7 +2,7 @@
 use Rattle.std.proofs.Common.{◌≡◌, Bool, true, false, Option, Some, None, is_some, IfSome, cond, Result, Ok, Err, IfOk, OnOk, OnErr, unwrap_or, refl, sym, ap, ◌∙◌, subst, inl, inr}
 use Rattle.std.specs.Option.{option_map_or}
 use Rattle.std.proofs.lemmas.Result.{IfOk-weaker, on_ok_weaker, on_err_weaker}
-use Rattle.ratio_core.specs.declared.fault.Memory.{Memory}
+use Rattle.lists.specs.declared.memory.Memory.{Memory}
 use Rattle.edit_engine.specs.declared.answer.Answer.{Answer}
 use Rattle.edit_engine.specs.declared.answer.Answer.TheVariants as answer
 use Rattle.edit_engine.specs.declared.command.Command.{Command}

@@ -1,7 +1,7 @@
 -- The script machine: the state of a session, and what each line answers and leaves.
 use Rattle.std.specs.Prelude.{◌≡◌, ℕ, Bool, true, false, ◌||◌, List, [], ◌∷◌, ◌++◌, Option, Some, None, is_some, unwrap_or, IfSome, Result, IfOk, OnOk, OnErr, ◌⊎◌, if◌then◌else◌, refl}
 use Rattle.std.specs.Option.{option_map, option_map_or}
-use Rattle.ratio_core.specs.declared.fault.Memory.{Memory}
+use Rattle.lists.specs.declared.memory.Memory.{Memory}
 use Rattle.std.specs.Coded.{Coded, code_by, coded×, coded_option}
 use Rattle.std.specs.FinMap.{get, contains_key}
 use Rattle.edit_engine.specs.declared.answer.Answer.{Answer}

@@ -12,7 +12,7 @@ ghost use Rattle.model_plans.specs.Plans.{Accepts, IsChange, Leads, gone};
 
 use crate::lists::only;
 use crate::plan::Plan;
-use aff_core::{Address, Aff, Root, VecAff};
+use aff_core::{Address, Aff, Root, VecAff, has_address, without_address};
 use model_catalog::{Catalog, NameChange};
 use name_index::Name;
 use numbered::Change;
@@ -83,7 +83,7 @@ fn mentions(func: &UserFunc, at: &Address) -> bool
     match func {
         UserFunc::Plain(var) => *at == *var,
         UserFunc::Affine(f) => f.mentions(at),
-        UserFunc::PlainVec(vars) => vars.contains(at),
+        UserFunc::PlainVec(vars) => has_address(vars, at),
         UserFunc::AffineVec(funcs) => any_mentions(funcs.as_slice(), at),
     }
 }
@@ -106,7 +106,7 @@ fn row_without(alloc: Global, row: &Row, at: &Address) -> Result<Option<Row>, Me
             with_content(row, UserFunc::Affine(f), row.set.copy(alloc)?)
         }
         UserFunc::PlainVec(vars) => {
-            let left = vars.without(alloc, at)?;
+            let left = without_address(vars, at)?;
             if left.is_empty() {
                 return Ok(None);
             }

@@ -8,7 +8,7 @@ ghost use Rattle.user_model.specs.Refusals.{meets_bad_interval, meets_bound_alre
 ghost use Rattle.user_model.specs.Sets as tests;
 
 use crate::sets::{is_crossed, is_norm_cone, sets_lower, sets_upper};
-use aff_core::{Address, Root};
+use aff_core::{Address, Root, has_address};
 use model_catalog::Catalog;
 use name_index::Name;
 use set_core::Set;
@@ -162,7 +162,7 @@ fn is_cone_row_of(row: &Row, number: u32) -> bool
 {
     match &row.func {
         UserFunc::PlainVec(vars) => {
-            is_norm_cone(&row.set) && vars.contains(&Address::root(Root::Variable, number))
+            is_norm_cone(&row.set) && has_address(vars, &Address::root(Root::Variable, number))
         }
         UserFunc::Plain(_) | UserFunc::Affine(_) | UserFunc::AffineVec(_) => false,
     }

@@ -1,9 +1,11 @@
+pub mod BinaryLaws
 pub mod Compared
 pub mod Coprime
 pub mod Crossed
 pub mod Digits
 pub mod Kept
 pub mod Literals
+pub mod NarrowLaws
 pub mod Printed
 pub mod Products
 pub mod Sums

@@ -3,7 +3,7 @@
 --     gcd-scaled                 a common factor comes out
 --     dvd_from_coprime           Euclid's lemma
 --     coprime_parts              two numbers over their greatest common divisor have no common divisor
-use Rattle.std.specs.Prelude.{◌≡◌, ℕ, zero, suc, ◌+◌, ◌*◌, ◌/◌, ◌%◌, ◌<◌, ◌≤◌, refl}
+use Rattle.std.specs.Prelude.{◌≡◌, ℕ, zero, suc, ◌+◌, ◌*◌, ◌/◌, ◌%◌, ◌^◌, ◌<◌, ◌≤◌, refl}
 use Rattle.std.specs.Int.{◌∣◌, IsGcd}
 use Rattle.std.proofs.Common.{sym, ◌∙◌, ap, subst, arith, mul-zero}
 use Rattle.std.proofs.Math.Nat.{mul-div-mul_left, div-add-mod, mul-div_cancel', dvd-zero, dvd-mul_left, dvd_antisymm, one-dvd, pos_of_dvd_of_pos}
@@ -120,4 +120,21 @@ gcd-rem a b = same_from_IsGcd a b _ _ (IsGcd-from_mod a b _ (gcd_is b (a % b))) 
 pub gcd-one : (a : ℕ) → gcd a 1 ≡ 1
 gcd-one a = dvd_antisymm (gcd_is a 1).1 (one-dvd (gcd a 1))
 
-pub ruleset euclid = (gcd-zero, gcd-rem, gcd-one, gcd_pos)
+pub gcd-rem_first : (a b : ℕ) → gcd (a % b) b ≡ gcd a b
+gcd-rem_first a b = gcd_swap (a % b) b ∙ gcd-rem a b
+
+pub gcd-rem_second : (a b : ℕ) → gcd (b % a) a ≡ gcd a b
+gcd-rem_second a b = gcd_swap (b % a) a ∙ gcd-rem b a ∙ gcd_swap b a
+
+pub gcd-zero_first : (b : ℕ) → gcd 0 b ≡ b
+gcd-zero_first b = gcd_swap 0 b ∙ gcd-zero b
+
+pub ruleset remainders = (gcd-zero, gcd-zero_first, gcd-rem_first, gcd-rem_second, gcd_pos)
+
+-- ---- halves
+
+-- n without its factors of 2
+pub record IsOddPart (n odd : ℕ) : Type 0 where
+  pub zeros : ℕ
+  pub whole : n ≡ odd * 2 ^ zeros
+  pub is_odd : odd % 2 ≡ 1

@@ -1,6 +1,7 @@
 -- What the contracts of this crate cite.
 pub mod Folds
 pub mod Gcd
+pub mod Narrow
 pub mod Rational
 pub mod RationalLaws
 pub mod Text

@@ -13,6 +13,16 @@ impl Ratio {
         ensures exact { OkIff result (SumFits self.now other.now) (self.now +ℚ other.now) }
         ensures err { IsOkUnless result RatioFault.Overflow }
     {
+        if self.are_narrow(other) {
+            return Ok(self.add_narrow(other));
+        }
+        self.add_wide(other)
+    }
+
+    fn add_wide(&self, other: &Ratio) -> Result<Ratio, RatioFault>
+        ensures exact { OkIff result (SumFits self.now other.now) (self.now +ℚ other.now) }
+        ensures err { IsOkUnless result RatioFault.Overflow }
+    {
         let (left_den, right_den) = (self.over(), other.over());
         let common = greatest_common_divisor(left_den, right_den);
         let left_over = quotient(left_den, common);
@@ -38,6 +48,16 @@ impl Ratio {
 
     /// The product, or `Overflow` exactly where it doesn't fit.
     pub fn mul(&self, other: &Ratio) -> Result<Ratio, RatioFault>
+        ensures exact { OkIff result (Fits (self.now *ℚ other.now)) (self.now *ℚ other.now) }
+        ensures err { IsOkUnless result RatioFault.Overflow }
+    {
+        if self.are_narrow(other) {
+            return Ok(self.mul_narrow(other));
+        }
+        self.mul_wide(other)
+    }
+
+    fn mul_wide(&self, other: &Ratio) -> Result<Ratio, RatioFault>
         ensures exact { OkIff result (Fits (self.now *ℚ other.now)) (self.now *ℚ other.now) }
         ensures err { IsOkUnless result RatioFault.Overflow }
     {

@@ -4,6 +4,7 @@ ghost use Rattle.std.specs.Ordering.{as_partial_cmp, nat_cmp};
 ghost use Rattle.ratio_core.specs.Rational.{rational_cmp, rational_eq};
 ghost use Rattle.ratio_core.specs.RationalLaws.{rational_cmp_total, rational_eq-is_eq, rational_eq_equiv, rational_eq_partial_equiv, rational_partial_order};
 
+use crate::divisor::NARROW;
 use crate::fraction::Ratio;
 use std::cmp::Ordering;
 
@@ -49,9 +50,6 @@ impl Ord for Ratio {
         }
     }
 }
-
-// The product of two numbers up to this one has 128 bits.
-pub(crate) const NARROW: u128 = u64::MAX as u128;
 
 // `a * b` against `c * d`, which may pass 128 bits.
 #[tactic(auto, using(crate::proofs::Compared::nat_cmp_scaled))]

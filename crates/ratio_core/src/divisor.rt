@@ -2,50 +2,60 @@
 ghost use Rattle.std.specs.Prelude.{◌≡◌, ◌*◌, ◌/◌, ◌<◌, ◌^◌, OkIff, IsOkUnless};
 ghost use Rattle.ratio_core.specs.Gcd.{gcd};
 
+use crate::binary::{narrow_divisor, wide_divisor};
 use crate::fault::RatioFault;
 
 // The greatest magnitude of a part, 2^127 - 1.
 pub(crate) const GREATEST_PART: u128 = 170141183460469231731687303715884105727;
 
-// Euclid's rule, in 64 bits as soon as the numbers allow it.
-#[tactic(auto, using(crate::specs::Gcd::euclid))]
+// The greatest number of 64 bits.
+pub(crate) const NARROW: u128 = u64::MAX as u128;
+
 pub(crate) fn greatest_common_divisor(a: u128, b: u128) -> u128
     ensures value { result ≡ gcd a b }
     ensures positive { 0 < b → 0 < result }
 {
-    let (mut x, mut y) = (a, b);
-    while y > u64::MAX as u128 {
-        (x, y) = (y, x % y);
+    if a <= NARROW && b <= NARROW && b > 0 {
+        return narrow_divisor(a as u64, b as u64) as u128;
     }
-    if y == 0 {
-        return x;
-    }
-    if y == 1 {
-        return 1;
-    }
-    if x <= u64::MAX as u128 {
-        return narrow_divisor(x as u64, y as u64) as u128;
-    }
-    narrow_divisor(y as u64, (x % y) as u64) as u128
+    unequal_divisor(a, b)
 }
 
-#[tactic(auto, using(crate::specs::Gcd::euclid))]
-fn narrow_divisor(a: u64, b: u64) -> u64
-    ensures { result ≡ gcd a b }
+// In 64 bits after one remainder, where one of the two fits.
+#[cold]
+#[inline(never)]
+#[tactic(auto, using(crate::specs::Gcd::remainders))]
+fn unequal_divisor(a: u128, b: u128) -> u128
+    ensures value { result ≡ gcd a b }
+    ensures positive { 0 < b → 0 < result }
 {
-    let (mut x, mut y) = (a, b);
-    while y != 0 {
-        (x, y) = (y, x % y);
+    if b == 0 {
+        return a;
     }
-    x
+    if a == 0 {
+        return b;
+    }
+    if b <= NARROW {
+        return narrow_divisor((a % b) as u64, b as u64) as u128;
+    }
+    if a <= NARROW {
+        return narrow_divisor((b % a) as u64, a as u64) as u128;
+    }
+    wide_divisor(a, b)
 }
 
-// `a / by`, without a division by 1.
+// `a / by`, without a division by 1, and in 64 bits where both fit.
 pub(crate) fn quotient(a: u128, by: u128) -> u128
     requires { 0 < by }
     ensures { result ≡ a / by }
 {
-    if by == 1 { a } else { a / by }
+    if by == 1 {
+        a
+    } else if a <= NARROW && by <= NARROW {
+        (a as u64 / by as u64) as u128
+    } else {
+        a / by
+    }
 }
 
 pub(crate) fn product(a: u128, b: u128) -> Result<u128, RatioFault>

@@ -129,7 +129,15 @@ impl Ratio {
         Ratio { num, den }
     }
 
-    // The same, of any size and denominator.
+    // The number of these parts, which are in lowest terms.
+    pub(crate) fn keep(num: i128, den: u128) -> Ratio
+        requires { IsStored num den }
+        ensures { result ≡ reduce num den }
+    {
+        Ratio { num, den }
+    }
+
+    // The number of this sign, of any size and denominator, in lowest terms.
     pub(crate) fn lowest(is_negative: bool, size: u128, den: u128) -> Result<Ratio, RatioFault>
         requires { 0 < den }
         ensures exact { OkIff result (Fits (reduce (signed is_negative size) den)) (reduce (signed is_negative size) den) }

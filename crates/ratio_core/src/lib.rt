@@ -5,16 +5,22 @@
 #![tactic(auto)]
 
 mod arithmetic;
+mod binary;
 mod compare;
 mod divisor;
 mod fault;
 mod fraction;
+mod narrow;
 mod quotients;
 mod text;
 mod wide;
 
-pub use fault::{Memory, RatioFault};
+pub use fault::RatioFault;
 pub use fraction::Ratio;
+pub use lists::Memory;
+
+/// A list of numbers.
+pub type Ratios = lists::Sequence<Ratio>;
 
 #[cfg(test)]
 mod tests;

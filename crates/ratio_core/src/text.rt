@@ -4,8 +4,8 @@ ghost use Rattle.std.specs.Option.{ForSome};
 ghost use Rattle.ratio_core.specs.Text.{denominator_of, denominator_text, is_slash, numerator_of, part_of, rational_from, rational_of, text_of};
 
 use crate::divisor::GREATEST_PART;
-use crate::fault::Memory;
 use crate::fraction::Ratio;
+use lists::Memory;
 use std::fmt;
 
 impl Ratio {

@@ -2,7 +2,8 @@
 ghost use Rattle.std.specs.Prelude.{◌≡◌, ◌+◌, ◌*◌, ◌<◌, ◌^◌};
 ghost use Rattle.std.specs.Ordering.{nat_cmp};
 
-use crate::compare::{NARROW, cmp_products};
+use crate::compare::cmp_products;
+use crate::divisor::NARROW;
 use std::cmp::Ordering;
 use std::marker::Model;
 

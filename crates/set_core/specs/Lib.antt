@@ -1,2 +1,5 @@
+pub mod Answers
 pub mod Membership
+pub mod ShapeLaws
+pub mod Shapes
 pub mod Vectors

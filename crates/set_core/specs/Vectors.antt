@@ -1,6 +1,7 @@
 -- Tests of vectors of rational numbers.
-use Rattle.std.specs.Prelude.{◌≡◌, List, [], ◌∷◌, map, All, slice_index_or, drop}
-use Rattle.ratio_core.specs.Rational.{Rational, zero_ℚ, ◌+ℚ◌, ◌≤ℚ◌, abs_ℚ, SumFits}
+use Rattle.std.specs.Prelude.{◌≡◌, List, map, All, slice_index_or, drop}
+use Rattle.ratio_core.specs.Folds.{FoldFits, sum_from}
+use Rattle.ratio_core.specs.Rational.{Rational, zero_ℚ, ◌≤ℚ◌, abs_ℚ}
 
 -- the first number, and those after it
 abbrev pub first_of : List Rational → Rational
@@ -22,16 +23,6 @@ AllNonpositive v = All (λ q. q ≤ℚ zero_ℚ) v
 abbrev pub DominatesEach : List Rational → Type 0
 DominatesEach v = All (λ q. abs_ℚ q ≤ℚ first_of v) (others_of v)
 
--- numbers added from the left
-unfoldable pub sum_from : Rational → List Rational → Rational
-sum_from sum [] = sum
-sum_from sum (q ∷ qs) = sum_from (sum +ℚ q) qs
-
--- each of these sums fits
-unfoldable pub SumsFit : Rational → List Rational → Type 0
-SumsFit sum [] = Unit {0}
-SumsFit sum (q ∷ qs) = SumFits sum q × SumsFit (sum +ℚ q) qs
-
 -- the magnitudes of the others
 abbrev pub magnitudes : List Rational → List Rational
 magnitudes v = map abs_ℚ (others_of v)
@@ -41,4 +32,4 @@ abbrev pub DominatesSum : List Rational → Type 0
 DominatesSum v = sum_from zero_ℚ (magnitudes v) ≤ℚ first_of v
 
 abbrev pub NormFits : List Rational → Type 0
-NormFits v = SumsFit zero_ℚ (magnitudes v)
+NormFits v = FoldFits zero_ℚ (magnitudes v)

@@ -1,52 +1,13 @@
 //! Tests of vectors.
-ghost use Rattle.std.specs.Prelude.{◌≡◌, ◌↔◌, ◌<◌, IsTrue, MatchResult, OkIff, All, length, map};
-ghost use Rattle.std.specs.Ordering.{is_le};
-ghost use Rattle.ratio_core.specs.Rational.{zero_ℚ, ◌≤ℚ◌, ◌*ℚ◌, abs_ℚ, rational_cmp, Fits};
-ghost use Rattle.set_core.specs.Vectors.{first_of, others_of, AllZero, AllNonnegative, AllNonpositive, DominatesEach, DominatesSum, NormFits, SumsFit, sum_from};
+ghost use Rattle.std.specs.Prelude.{◌≡◌, ◌↔◌, IsTrue, OkIff, All, map};
+ghost use Rattle.ratio_core.specs.Folds.{FoldFits, sum_from};
+ghost use Rattle.ratio_core.specs.Rational.{zero_ℚ, ◌≤ℚ◌, abs_ℚ};
+ghost use Rattle.set_core.specs.Answers.{TellsWhere};
+ghost use Rattle.set_core.specs.Vectors.{AllZero, AllNonnegative, AllNonpositive, DominatesEach, DominatesSum, NormFits};
 
 use crate::SetOverflow;
+use crate::numbers::at_most;
 use ratio_core::Ratio;
-
-// Whether a number is at most another.
-pub(crate) fn at_most(a: &Ratio, b: &Ratio) -> bool
-    ensures value { result ≡ is_le (rational_cmp a.now b.now) }
-    ensures order { IsTrue result ↔ (a.now ≤ℚ b.now) }
-{
-    a.cmp(b).is_le()
-}
-
-// Whether two numbers are equal.
-pub(crate) fn equal(a: &Ratio, b: &Ratio) -> bool
-    ensures { IsTrue result ↔ (a.now ≡ b.now) }
-{
-    *a == *b
-}
-
-// The first number.
-pub(crate) fn first(v: &[Ratio]) -> Ratio
-    requires { 0 < length v.now }
-    ensures { result ≡ first_of v.now }
-{
-    v[0]
-}
-
-// The numbers after the first.
-fn others(v: &[Ratio]) -> &[Ratio]
-    requires { 0 < length v.now }
-    ensures { result.now ≡ others_of v.now }
-{
-    &v[1..]
-}
-
-// A product, where it fits.
-pub(crate) fn product(a: &Ratio, b: &Ratio) -> Result<Ratio, SetOverflow>
-    ensures { OkIff result (Fits (a.now *ℚ b.now)) (a.now *ℚ b.now) }
-{
-    match a.mul(b) {
-        Ok(product) => Ok(product),
-        Err(_) => Err(SetOverflow),
-    }
-}
 
 pub(crate) fn all_zero(v: &[Ratio]) -> bool
     ensures { IsTrue result ↔ AllZero v.now }
@@ -68,10 +29,12 @@ pub(crate) fn all_nonpositive(v: &[Ratio]) -> bool
 
 // Whether the first number is at least the magnitude of each other.
 pub(crate) fn dominates_each(v: &[Ratio]) -> bool
-    requires { 0 < length v.now }
     ensures { IsTrue result ↔ DominatesEach v.now }
 {
-    all_within(others(v), &first(v))
+    match v {
+        [] => true,
+        [first, others @ ..] => all_within(others, first),
+    }
 }
 
 // Whether each magnitude is at most a number.
@@ -81,20 +44,24 @@ fn all_within(v: &[Ratio], most: &Ratio) -> bool
     v.iter().all(|q| at_most(&q.abs(), most))
 }
 
-// Whether the first number is at least the sum of the magnitudes of the others, added from the left.
+// Whether the first number is at least the sum of the magnitudes of the others, added from the
+// left.
 pub(crate) fn dominates_sum(v: &[Ratio]) -> Result<bool, SetOverflow>
-    requires { 0 < length v.now }
-    ensures { MatchResult result (λ holds. NormFits v.now × (IsTrue holds ↔ DominatesSum v.now)) (λ _. ¬ (NormFits v.now)) }
+    ensures { TellsWhere result (NormFits v.now) (DominatesSum v.now) }
 {
-    match sum_of_magnitudes(others(v)) {
-        Ok(sum) => Ok(at_most(&sum, &first(v))),
-        Err(fault) => Err(fault),
+    match v {
+        [] => Ok(true),
+        [first, others @ ..] => match sum_of_magnitudes(others) {
+            Ok(sum) => Ok(at_most(&sum, first)),
+            Err(fault) => Err(fault),
+        },
     }
 }
 
 // The sum of the magnitudes, added from the left.
 fn sum_of_magnitudes(v: &[Ratio]) -> Result<Ratio, SetOverflow>
-    ensures { OkIff result (SumsFit zero_ℚ (map abs_ℚ v.now)) (sum_from zero_ℚ (map abs_ℚ v.now)) }
+    ensures { let magnitudes = map abs_ℚ v.now in
+        OkIff result (FoldFits zero_ℚ magnitudes) (sum_from zero_ℚ magnitudes) }
 {
     let mut sum = Ratio::zero();
     for q in v {

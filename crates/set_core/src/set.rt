@@ -1,12 +1,8 @@
-//! The sets of the standard form.
-ghost use Rattle.std.specs.Prelude.{◌≡◌, ◌↔◌, IfOk, IsTrue, MatchResult, OkIff, length};
-ghost use Rattle.set_core.specs.Membership.{In, Dual, dimension_of, HasLength, MembershipFits, DualFits, recession, low_of, LowFits};
+//! The sets of the standard form, with what their types, dimensions and bounds are.
+ghost use Rattle.std.specs.Prelude.{◌≡◌, ◌↔◌, IfOk, IsTrue, false};
+ghost use Rattle.set_core.specs.Shapes.{dimension_of, has_bad_dimension, is_crossed, is_norm_cone, is_scalar, lower_bound, resized, same_type, type_of, upper_bound};
 
-use crate::SetOverflow;
-use crate::cones::{
-    all_nonnegative, all_nonpositive, all_zero, at_most, dominates_each, dominates_sum, equal,
-    first, product,
-};
+use crate::SetType;
 use ratio_core::{Memory, Ratio};
 use std::alloc::Global;
 
@@ -42,25 +38,64 @@ impl Set {
                 lower: *lower,
                 upper: *upper,
             },
-            Set::Reals { dimension } => Set::Reals {
-                dimension: *dimension,
-            },
-            Set::Zeros { dimension } => Set::Zeros {
-                dimension: *dimension,
-            },
-            Set::Nonnegatives { dimension } => Set::Nonnegatives {
-                dimension: *dimension,
-            },
-            Set::Nonpositives { dimension } => Set::Nonpositives {
-                dimension: *dimension,
-            },
-            Set::NormInfinityCone { dimension } => Set::NormInfinityCone {
-                dimension: *dimension,
-            },
-            Set::NormOneCone { dimension } => Set::NormOneCone {
-                dimension: *dimension,
-            },
+            vectors => vectors.with_dimension(vectors.dimension()),
         })
+    }
+
+    /// The set for this number of components: a set of vectors gets it as its dimension, and a set
+    /// of numbers stays. More components than a dimension counts find no memory.
+    pub fn resized(&self, alloc: Global, components: usize) -> Result<Set, Memory>
+        ensures { IfOk result (λ set. set ≡ resized components self.now) }
+    {
+        if self.is_scalar() {
+            return self.copy(alloc);
+        }
+        match u32::try_from(components) {
+            Ok(dimension) => Ok(self.with_dimension(dimension)),
+            Err(_) => Err(Memory),
+        }
+    }
+
+    // The set of vectors with another dimension.
+    fn with_dimension(&self, dimension: u32) -> Set
+        requires { is_scalar self.now ≡ false }
+        ensures { result ≡ resized dimension self.now }
+    {
+        match self {
+            Set::Reals { .. } => Set::Reals { dimension },
+            Set::Zeros { .. } => Set::Zeros { dimension },
+            Set::Nonnegatives { .. } => Set::Nonnegatives { dimension },
+            Set::Nonpositives { .. } => Set::Nonpositives { dimension },
+            Set::NormInfinityCone { .. } => Set::NormInfinityCone { dimension },
+            Set::NormOneCone { .. } => Set::NormOneCone { dimension },
+            _ => unreachable!(),
+        }
+    }
+
+    /// What the set is apart from its numbers.
+    pub fn set_type(&self) -> SetType
+        ensures { result ≡ type_of self.now }
+    {
+        match self {
+            Set::LessThan { .. } => SetType::LessThan,
+            Set::GreaterThan { .. } => SetType::GreaterThan,
+            Set::EqualTo { .. } => SetType::EqualTo,
+            Set::Interval { .. } => SetType::Interval,
+            Set::Reals { .. } => SetType::Reals,
+            Set::Zeros { .. } => SetType::Zeros,
+            Set::Nonnegatives { .. } => SetType::Nonnegatives,
+            Set::Nonpositives { .. } => SetType::Nonpositives,
+            Set::NormInfinityCone { .. } => SetType::NormInfinityCone,
+            Set::NormOneCone { .. } => SetType::NormOneCone,
+        }
+    }
+
+    /// Whether the set is of the type of another.
+    pub fn has_type_of(&self, other: &Set) -> bool
+        ensures value { result ≡ same_type self.now other.now }
+        ensures meaning { IsTrue result ↔ (type_of self.now ≡ type_of other.now) }
+    {
+        self.set_type() == other.set_type()
     }
 
     /// The length of the set's vectors, which is 1 for a set of numbers.
@@ -68,147 +103,71 @@ impl Set {
         ensures { result ≡ dimension_of self.now }
     {
         match self {
-            Set::LessThan { .. } | Set::GreaterThan { .. } => 1,
-            Set::EqualTo { .. } | Set::Interval { .. } => 1,
             Set::Reals { dimension } | Set::Zeros { dimension } => *dimension,
             Set::Nonnegatives { dimension } | Set::Nonpositives { dimension } => *dimension,
             Set::NormInfinityCone { dimension } | Set::NormOneCone { dimension } => *dimension,
+            _ => 1,
         }
     }
 
-    /// Whether the set has a vector. `SetOverflow` exactly where the sum of a norm doesn't fit.
-    pub fn holds(&self, v: &[Ratio]) -> Result<bool, SetOverflow>
-        requires { HasLength self.now v.now }
-        ensures { MatchResult result (λ holds. MembershipFits self.now v.now × (IsTrue holds ↔ In self.now v.now)) (λ _. ¬ (MembershipFits self.now v.now)) }
+    /// Whether it is a set of numbers, and not of vectors.
+    pub fn is_scalar(&self) -> bool
+        ensures { result ≡ is_scalar self.now }
+    {
+        matches!(
+            self,
+            Set::LessThan { .. }
+                | Set::GreaterThan { .. }
+                | Set::EqualTo { .. }
+                | Set::Interval { .. }
+        )
+    }
+
+    pub fn is_norm_cone(&self) -> bool
+        ensures { result ≡ is_norm_cone self.now }
+    {
+        matches!(self, Set::NormInfinityCone { .. } | Set::NormOneCone { .. })
+    }
+
+    /// The bound below, if it is a set of numbers with one.
+    pub fn lower_bound(&self) -> Option<Ratio>
+        ensures { result ≡ lower_bound self.now }
     {
         match self {
-            Set::LessThan { upper } => Ok(at_most(&first(v), upper)),
-            Set::GreaterThan { lower } => Ok(at_most(lower, &first(v))),
-            Set::EqualTo { value } => Ok(equal(&first(v), value)),
-            Set::Interval { lower, upper } => {
-                Ok(at_most(lower, &first(v)) && at_most(&first(v), upper))
-            }
-            Set::Reals { .. } => Ok(true),
-            Set::Zeros { .. } => Ok(all_zero(v)),
-            Set::Nonnegatives { .. } => Ok(all_nonnegative(v)),
-            Set::Nonpositives { .. } => Ok(all_nonpositive(v)),
-            Set::NormInfinityCone { .. } => Ok(dominates_each(v)),
-            Set::NormOneCone { .. } => dominates_sum(v),
+            Set::GreaterThan { lower } | Set::Interval { lower, .. } => Some(*lower),
+            Set::EqualTo { value } => Some(*value),
+            _ => None,
         }
     }
 
-    /// Whether the dual set has a vector. `SetOverflow` exactly where the sum of a norm doesn't
-    /// fit.
-    pub fn dual_holds(&self, w: &[Ratio]) -> Result<bool, SetOverflow>
-        requires { HasLength self.now w.now }
-        ensures { MatchResult result (λ holds. DualFits self.now w.now × (IsTrue holds ↔ Dual self.now w.now)) (λ _. ¬ (DualFits self.now w.now)) }
+    /// The bound above, if it is a set of numbers with one.
+    pub fn upper_bound(&self) -> Option<Ratio>
+        ensures { result ≡ upper_bound self.now }
     {
         match self {
-            Set::LessThan { .. } => Ok(all_nonpositive(w)),
-            Set::GreaterThan { .. } => Ok(all_nonnegative(w)),
-            Set::EqualTo { .. } | Set::Interval { .. } | Set::Zeros { .. } => Ok(true),
-            Set::Reals { .. } => Ok(all_zero(w)),
-            Set::Nonnegatives { .. } => Ok(all_nonnegative(w)),
-            Set::Nonpositives { .. } => Ok(all_nonpositive(w)),
-            Set::NormInfinityCone { .. } => dominates_sum(w),
-            Set::NormOneCone { .. } => Ok(dominates_each(w)),
+            Set::LessThan { upper } | Set::Interval { upper, .. } => Some(*upper),
+            Set::EqualTo { value } => Some(*value),
+            _ => None,
         }
     }
 
-    /// Whether the set has all that any of its vectors and a multiple of this one make.
-    /// `SetOverflow` exactly where the sum of a norm doesn't fit.
-    pub fn recession_holds(&self, v: &[Ratio]) -> Result<bool, SetOverflow>
-        requires { HasLength self.now v.now }
-        ensures { MatchResult result (λ holds. MembershipFits self.now v.now × (IsTrue holds ↔ In (recession self.now) v.now)) (λ _. ¬ (MembershipFits self.now v.now)) }
+    /// Whether a lower bound is above its upper bound.
+    pub fn is_crossed(&self) -> bool
+        ensures { result ≡ is_crossed self.now }
     {
         match self {
-            Set::LessThan { .. } => Ok(all_nonpositive(v)),
-            Set::GreaterThan { .. } => Ok(all_nonnegative(v)),
-            Set::EqualTo { .. } | Set::Interval { .. } => Ok(all_zero(v)),
-            Set::Reals { .. } => Ok(true),
-            Set::Zeros { .. } => Ok(all_zero(v)),
-            Set::Nonnegatives { .. } => Ok(all_nonnegative(v)),
-            Set::Nonpositives { .. } => Ok(all_nonpositive(v)),
-            Set::NormInfinityCone { .. } => Ok(dominates_each(v)),
-            Set::NormOneCone { .. } => dominates_sum(v),
+            Set::Interval { lower, upper } => upper < lower,
+            _ => false,
         }
     }
 
-    /// The least product of a vector of the dual set with those of the set. `SetOverflow` exactly
-    /// where it doesn't fit.
-    pub fn low(&self, w: &[Ratio]) -> Result<Ratio, SetOverflow>
-        requires { HasLength self.now w.now }
-        ensures { OkIff result (LowFits self.now w.now) (low_of self.now w.now) }
+    /// Whether it is a set of vectors whose dimension isn't this number of components, or is less
+    /// than 1, or less than 2 for a norm cone.
+    pub fn has_bad_dimension(&self, components: usize) -> bool
+        ensures { result ≡ has_bad_dimension self.now components }
     {
-        match self {
-            Set::LessThan { upper } => product(upper, &first(w)),
-            Set::GreaterThan { lower } => product(lower, &first(w)),
-            Set::EqualTo { value } => product(value, &first(w)),
-            Set::Interval { lower, upper } => {
-                if at_most(&Ratio::zero(), &first(w)) {
-                    product(lower, &first(w))
-                } else {
-                    product(upper, &first(w))
-                }
-            }
-            Set::Reals { .. } | Set::Zeros { .. } => Ok(Ratio::zero()),
-            Set::Nonnegatives { .. } | Set::Nonpositives { .. } => Ok(Ratio::zero()),
-            Set::NormInfinityCone { .. } | Set::NormOneCone { .. } => Ok(Ratio::zero()),
-        }
-    }
-}
-
-#[cfg(test)]
-mod tests {
-    use super::*;
-    use std::test::Fail;
-
-    // The greatest number that is kept.
-    const GREATEST: i128 = 170141183460469231731687303715884105727;
-
-    fn interval(lower: i128, upper: i128) -> Result<Set, Fail> {
-        Ok(Set::Interval {
-            lower: Ratio::new(lower, 1)?,
-            upper: Ratio::new(upper, 1)?,
-        })
-    }
-
-    #[test]
-    fn interval_holds_what_lies_between(rt: HostRuntime) -> Result<(), Fail> {
-        let set = interval(-3, 1)?;
-        let (one, two) = (Ratio::one(), Ratio::new(2, 1)?);
-        assert!(rt; set.dimension() == 1 && set.copy(rt.alloc())? == set);
-        assert!(rt; set.holds(&[one])? && !set.holds(&[two])?);
-        assert!(rt; set.dual_holds(&[two])? && !set.recession_holds(&[one])?);
-        Ok(())
-    }
-
-    #[test]
-    fn interval_is_least_at_an_end(rt: HostRuntime) -> Result<(), Fail> {
-        let set = interval(-3, 1)?;
-        let (two, minus) = (Ratio::new(2, 1)?, Ratio::new(-3, 1)?);
-        assert!(rt; set.dimension() == 1);
-        assert!(rt; set.low(&[two])? == Ratio::new(-6, 1)? && set.low(&[minus])? == minus);
-        Ok(())
-    }
-
-    #[test]
-    fn norm_cones_are_each_others_dual(rt: HostRuntime) -> Result<(), Fail> {
-        let infinity = Set::NormInfinityCone { dimension: 3 };
-        let norm = Set::NormOneCone { dimension: 3 };
-        let vector = [Ratio::new(3, 1)?, Ratio::new(-3, 1)?, Ratio::one()];
-        assert!(rt; infinity.holds(&vector)? && !norm.holds(&vector)?);
-        assert!(rt; norm.dual_holds(&vector)? && !infinity.dual_holds(&vector)?);
-        Ok(())
-    }
-
-    #[test]
-    fn low_beside_the_greatest_number(rt: HostRuntime) -> Result<(), Fail> {
-        let bound = Set::LessThan {
-            upper: Ratio::new(GREATEST, 1)?,
-        };
-        assert!(rt; bound.low(&[Ratio::new(-2, 1)?]) == Err(SetOverflow));
-        assert!(rt; bound.low(&[Ratio::new(-1, 1)?])? == Ratio::new(-GREATEST, 1)?);
-        Ok(())
+        let dimension = self.dimension() as usize;
+        let least = if self.is_norm_cone() { 2 } else { 1 };
+        !self.is_scalar() && (dimension != components || dimension < least)
     }
 }

@@ -2,6 +2,7 @@
 ghost use Rattle.std.specs.Prelude.{◌≡◌, IfOk};
 
 use aff_core::{Address, Addresses, Aff, VecAff};
+use lists::Duplicate;
 use ratio_core::Memory;
 use std::alloc::Global;
 
@@ -25,8 +26,8 @@ impl UserFunc {
         Ok(match self {
             UserFunc::Plain(var) => UserFunc::Plain(*var),
             UserFunc::Affine(func) => UserFunc::Affine(func.copy(alloc)?),
-            UserFunc::PlainVec(vars) => UserFunc::PlainVec(vars.copy(alloc)?),
-            UserFunc::AffineVec(funcs) => UserFunc::AffineVec(funcs.copy(alloc)?),
+            UserFunc::PlainVec(vars) => UserFunc::PlainVec(vars.copy()?),
+            UserFunc::AffineVec(funcs) => UserFunc::AffineVec(funcs.copy()?),
         })
     }
 }

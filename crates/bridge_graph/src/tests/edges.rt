@@ -2,325 +2,47 @@
 
 use crate::EdgeRow;
 
+/// An edge by its source and its children.
+macro_rules! edge {
+    ($source:literal) => {
+        edge!($source, [0, 0, 0], 0)
+    };
+    ($source:literal $one:literal) => {
+        edge!($source, [$one, 0, 0], 1)
+    };
+    ($source:literal $one:literal $two:literal) => {
+        edge!($source, [$one, $two, 0], 2)
+    };
+    ($source:literal $one:literal $two:literal $three:literal) => {
+        edge!($source, [$one, $two, $three], 3)
+    };
+    ($source:literal, $children:expr, $count:literal) => {
+        EdgeRow {
+            source: $source,
+            children: $children,
+            count: $count,
+        }
+    };
+}
+
+macro_rules! edges {
+    ($($source:literal -> $($child:literal)*;)*) => {
+        [$(edge!($source $($child)*)),*]
+    };
+}
+
 // The kinds are numbered in this order: the scalar sets LessThan, GreaterThan, EqualTo and Interval with plain
 // and then with affine functions (0 to 7), the vector sets Reals, Zeros, Nonnegatives, Nonpositives,
 // NormInfinityCone and NormOneCone with plain and then with affine functions (8 to 19), groups of variables in these
 // ten sets (20 to 29), free variables (30), and the objectives: least plain, least affine, greatest plain and greatest
 // affine (31 to 34).
-pub const EDGES: [EdgeRow; 63] = [
-    EdgeRow {
-        source: 0,
-        children: [5, 0, 0],
-        count: 1,
-    },
-    EdgeRow {
-        source: 4,
-        children: [5, 0, 0],
-        count: 1,
-    },
-    EdgeRow {
-        source: 1,
-        children: [4, 0, 0],
-        count: 1,
-    },
-    EdgeRow {
-        source: 5,
-        children: [4, 0, 0],
-        count: 1,
-    },
-    EdgeRow {
-        source: 4,
-        children: [17, 0, 0],
-        count: 1,
-    },
-    EdgeRow {
-        source: 5,
-        children: [16, 0, 0],
-        count: 1,
-    },
-    EdgeRow {
-        source: 6,
-        children: [15, 0, 0],
-        count: 1,
-    },
-    EdgeRow {
-        source: 0,
-        children: [17, 0, 0],
-        count: 1,
-    },
-    EdgeRow {
-        source: 1,
-        children: [16, 0, 0],
-        count: 1,
-    },
-    EdgeRow {
-        source: 2,
-        children: [15, 0, 0],
-        count: 1,
-    },
-    EdgeRow {
-        source: 7,
-        children: [5, 4, 0],
-        count: 2,
-    },
-    EdgeRow {
-        source: 3,
-        children: [1, 0, 0],
-        count: 2,
-    },
-    EdgeRow {
-        source: 6,
-        children: [5, 4, 0],
-        count: 2,
-    },
-    EdgeRow {
-        source: 15,
-        children: [16, 17, 0],
-        count: 2,
-    },
-    EdgeRow {
-        source: 15,
-        children: [6, 0, 0],
-        count: 1,
-    },
-    EdgeRow {
-        source: 16,
-        children: [5, 0, 0],
-        count: 1,
-    },
-    EdgeRow {
-        source: 17,
-        children: [4, 0, 0],
-        count: 1,
-    },
-    EdgeRow {
-        source: 9,
-        children: [2, 0, 0],
-        count: 1,
-    },
-    EdgeRow {
-        source: 10,
-        children: [1, 0, 0],
-        count: 1,
-    },
-    EdgeRow {
-        source: 11,
-        children: [0, 0, 0],
-        count: 1,
-    },
-    EdgeRow {
-        source: 16,
-        children: [17, 0, 0],
-        count: 1,
-    },
-    EdgeRow {
-        source: 17,
-        children: [16, 0, 0],
-        count: 1,
-    },
-    EdgeRow {
-        source: 0,
-        children: [4, 0, 0],
-        count: 1,
-    },
-    EdgeRow {
-        source: 1,
-        children: [5, 0, 0],
-        count: 1,
-    },
-    EdgeRow {
-        source: 2,
-        children: [6, 0, 0],
-        count: 1,
-    },
-    EdgeRow {
-        source: 3,
-        children: [7, 0, 0],
-        count: 1,
-    },
-    EdgeRow {
-        source: 16,
-        children: [26, 15, 0],
-        count: 2,
-    },
-    EdgeRow {
-        source: 17,
-        children: [27, 15, 0],
-        count: 2,
-    },
-    EdgeRow {
-        source: 18,
-        children: [28, 15, 0],
-        count: 2,
-    },
-    EdgeRow {
-        source: 19,
-        children: [29, 15, 0],
-        count: 2,
-    },
-    EdgeRow {
-        source: 4,
-        children: [20, 6, 0],
-        count: 2,
-    },
-    EdgeRow {
-        source: 5,
-        children: [21, 6, 0],
-        count: 2,
-    },
-    EdgeRow {
-        source: 7,
-        children: [23, 6, 0],
-        count: 2,
-    },
-    EdgeRow {
-        source: 9,
-        children: [15, 0, 0],
-        count: 1,
-    },
-    EdgeRow {
-        source: 10,
-        children: [16, 0, 0],
-        count: 1,
-    },
-    EdgeRow {
-        source: 11,
-        children: [17, 0, 0],
-        count: 1,
-    },
-    EdgeRow {
-        source: 12,
-        children: [18, 0, 0],
-        count: 1,
-    },
-    EdgeRow {
-        source: 13,
-        children: [19, 0, 0],
-        count: 1,
-    },
-    EdgeRow {
-        source: 8,
-        children: [0, 0, 0],
-        count: 0,
-    },
-    EdgeRow {
-        source: 14,
-        children: [0, 0, 0],
-        count: 0,
-    },
-    EdgeRow {
-        source: 18,
-        children: [16, 0, 0],
-        count: 1,
-    },
-    EdgeRow {
-        source: 19,
-        children: [24, 16, 0],
-        count: 2,
-    },
-    EdgeRow {
-        source: 24,
-        children: [26, 0, 0],
-        count: 1,
-    },
-    EdgeRow {
-        source: 27,
-        children: [26, 0, 0],
-        count: 1,
-    },
-    EdgeRow {
-        source: 25,
-        children: [0, 0, 0],
-        count: 0,
-    },
-    EdgeRow {
-        source: 20,
-        children: [27, 0, 0],
-        count: 1,
-    },
-    EdgeRow {
-        source: 21,
-        children: [26, 0, 0],
-        count: 1,
-    },
-    EdgeRow {
-        source: 22,
-        children: [25, 0, 0],
-        count: 1,
-    },
-    EdgeRow {
-        source: 20,
-        children: [30, 0, 0],
-        count: 2,
-    },
-    EdgeRow {
-        source: 21,
-        children: [30, 1, 0],
-        count: 2,
-    },
-    EdgeRow {
-        source: 22,
-        children: [30, 2, 0],
-        count: 2,
-    },
-    EdgeRow {
-        source: 23,
-        children: [30, 3, 0],
-        count: 2,
-    },
-    EdgeRow {
-        source: 26,
-        children: [30, 10, 0],
-        count: 2,
-    },
-    EdgeRow {
-        source: 23,
-        children: [24, 7, 0],
-        count: 2,
-    },
-    EdgeRow {
-        source: 26,
-        children: [24, 16, 0],
-        count: 2,
-    },
-    EdgeRow {
-        source: 28,
-        children: [24, 18, 0],
-        count: 2,
-    },
-    EdgeRow {
-        source: 29,
-        children: [24, 19, 0],
-        count: 2,
-    },
-    EdgeRow {
-        source: 32,
-        children: [34, 0, 0],
-        count: 1,
-    },
-    EdgeRow {
-        source: 34,
-        children: [32, 0, 0],
-        count: 1,
-    },
-    EdgeRow {
-        source: 31,
-        children: [32, 0, 0],
-        count: 1,
-    },
-    EdgeRow {
-        source: 33,
-        children: [34, 0, 0],
-        count: 1,
-    },
-    EdgeRow {
-        source: 32,
-        children: [30, 5, 31],
-        count: 3,
-    },
-    EdgeRow {
-        source: 34,
-        children: [30, 4, 33],
-        count: 3,
-    },
-];
+pub const EDGES: [EdgeRow; 63] = edges! {
+    0 -> 5; 4 -> 5; 1 -> 4; 5 -> 4; 4 -> 17; 5 -> 16; 6 -> 15; 0 -> 17; 1 -> 16; 2 -> 15;
+    7 -> 5 4; 3 -> 1 0; 6 -> 5 4; 15 -> 16 17; 15 -> 6; 16 -> 5; 17 -> 4; 9 -> 2; 10 -> 1;
+    11 -> 0; 16 -> 17; 17 -> 16; 0 -> 4; 1 -> 5; 2 -> 6; 3 -> 7; 16 -> 26 15; 17 -> 27 15;
+    18 -> 28 15; 19 -> 29 15; 4 -> 20 6; 5 -> 21 6; 7 -> 23 6; 9 -> 15; 10 -> 16; 11 -> 17;
+    12 -> 18; 13 -> 19; 8 ->; 14 ->; 18 -> 16; 19 -> 24 16; 24 -> 26; 27 -> 26; 25 ->; 20 -> 27;
+    21 -> 26; 22 -> 25; 20 -> 30 0; 21 -> 30 1; 22 -> 30 2; 23 -> 30 3; 26 -> 30 10; 23 -> 24 7;
+    26 -> 24 16; 28 -> 24 18; 29 -> 24 19; 32 -> 34; 34 -> 32; 31 -> 32; 33 -> 34;
+    32 -> 30 5 31; 34 -> 30 4 33;
+};

@@ -1,0 +1,13 @@
+//! Lists that contracts see as lists, how their values are copied, and want of memory.
+#![tactic(auto)]
+
+mod duplicate;
+mod memory;
+mod sequence;
+
+pub use duplicate::Duplicate;
+pub use memory::Memory;
+pub use sequence::Sequence;
+
+#[cfg(test)]
+mod tests;

@@ -1,0 +1,7 @@
+pub mod EntryLaws
+pub mod LoopLaws
+pub mod MadeLaws
+pub mod OptionLaws
+pub mod PlaceLaws
+pub mod SumLaws
+pub mod TestLaws

@@ -1,0 +1,18 @@
+-- What stands in an option, from the test of whether anything does.
+use Rattle.std.specs.Prelude.{◌≡◌, true, false, Option, Some, None, IsSome, is_some, refl}
+use Rattle.std.specs.Option.{option_or}
+use Rattle.std.proofs.Common.{ap, sym, ◌∙◌}
+
+pub none_of : {X : Type 0} (o : Option X) → is_some o ≡ false → o ≡ None
+none_of None e = refl
+none_of (Some x) e = cc
+
+pub not_some : {X : Type 0} (o : Option X) → o ≡ None → IsSome o → ⊥
+not_some o e some = let both : false ≡ true = sym (ap is_some e) ∙ some in cc
+
+pub some_is : {X : Type 0} (o : Option X) (x : X) → o ≡ Some x → IsSome o
+some_is o x e = ap is_some e
+
+pub option_or-none : {X : Type 0} (o : Option X) → option_or o None ≡ o
+option_or-none None = refl
+option_or-none (Some x) = refl
