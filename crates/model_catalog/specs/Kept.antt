@@ -1,5 +1,5 @@
 -- What is kept of a model, and the model that it is.
-use Rattle.std.specs.Prelude.{◌≡◌, ℕ, List, Option}
+use Rattle.std.specs.Prelude.{◌≡◌, ℕ, List, [], Option}
 use Rattle.std.specs.Vec.{vec_capacity}
 use Rattle.name_index.specs.NameTable.{Numbers, IsOneToOne}
 use Rattle.user_model.specs.Model.{ModelValue, total_terms}
@@ -40,5 +40,7 @@ pub record Keeps (model : ModelValue) (kept : List Variable) (variable_table row
   pub row_names : HasNames (row_name model) row_table
   pub terms : count ≡ total_terms model
 
-abbrev pub IsKept : Inside → Type 0
-IsKept a = Keeps (model_of a) a.kept.items a.variable_names.numbers a.row_names.numbers a.terms
+-- the model is kept, and no row stands aside
+pub record IsKept (a : Inside) : Type 0 where
+  pub keeps : Keeps (model_of a) a.kept.items a.variable_names.numbers a.row_names.numbers a.terms
+  pub aside : a.aside.items ≡ []

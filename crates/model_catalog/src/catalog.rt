@@ -26,6 +26,8 @@ use user_model::{Group, NextNumbers, Objective, Row};
 pub struct Catalog {
     pub(crate) groups: Vec<Group>,
     pub(crate) rows: Vec<Row>,
+    // empty but while many rows change at once
+    pub(crate) aside: Vec<Row>,
     pub(crate) objective: Objective,
     pub(crate) next: NextNumbers,
     pub(crate) kept: Vec<Variable>,
@@ -57,6 +59,7 @@ impl Catalog {
         Catalog {
             groups: Vec::new(alloc),
             rows: Vec::new(alloc),
+            aside: Vec::new(alloc),
             objective: Objective::Feasibility,
             next: NextNumbers {
                 group: 0,
@@ -89,7 +92,9 @@ impl Catalog {
     }
 
     pub fn objective(&self) -> &Objective
-        ensures { result.now ≡ self.now.model.objective }
+        ensures value { result.now ≡ self.now.model.objective }
+        ensures consistent { IsConsistent self.now.model }
+        ensures within { IsWithinLimits self.now.model }
     {
         &self.objective
     }
@@ -122,6 +127,7 @@ impl Catalog {
     {
         self.groups.reserve(more.groups)?;
         self.rows.reserve(more.rows)?;
+        reserve_aside(&mut self.aside, self.rows.capacity(), more.rows)?;
         self.kept.reserve(more.variables)?;
         self.variable_names.reserve(more.variable_names)?;
         self.row_names.reserve(more.row_names)
@@ -152,13 +158,28 @@ impl Catalog {
         exchange_names(&mut self.variable_names, &mut names.variables);
         exchange_names(&mut self.row_names, &mut names.rows);
         exchange_all(&mut self.groups, &mut with.groups);
-        exchange_rows(&mut self.rows, &mut self.kept, &mut with.rows);
+        exchange_rows(
+            &mut self.rows,
+            &mut self.aside,
+            &mut self.kept,
+            &mut with.rows,
+        );
         exchange_objective(&mut self.objective, &mut with.objective);
         mem::swap(&mut self.next, &mut with.next);
         let taken_out = changed_terms(&with.rows);
         self.terms = self.terms + put_in - taken_out - objective_was
             + objective_terms(&self.objective);
     }
+}
+
+// Makes room for all rows to stand aside, where many come.
+fn reserve_aside(aside: &mut Vec<Row>, rows: usize, more: usize) -> Result<(), Memory>
+    ensures { aside.new.items ≡ aside.old.items }
+{
+    if more > 1 {
+        aside.reserve(rows)?;
+    }
+    Ok(())
 }
 
 // Lets another objective, if there is one, change places with the objective.

@@ -32,7 +32,7 @@ module _ {X : Type 0} (number_of : X → ℕ) where
   room_for (Some x) None n more capacity h some none = omega arith
 
   -- the change that is next, as it stands in the list
-  as_it_was : (start : List X) (changes left : List (Change X)) (i : ℕ) (d : Change X) → i < length changes → left ≡ map (old number_of start) (take i changes) ++ drop i changes → slice_index_or left i d ≡ slice_index_or changes i d
+  pub as_it_was : (start : List X) (changes left : List (Change X)) (i : ℕ) (d : Change X) → i < length changes → left ≡ map (old number_of start) (take i changes) ++ drop i changes → slice_index_or left i d ≡ slice_index_or changes i d
   as_it_was start changes left i d lt past =
       let done = map (old number_of start) (take i changes) in
       let long : length done ≡ i = length-map (take i changes) (old number_of start) ∙ length-take-le i changes (omega arith) in

@@ -1,2 +1,4 @@
 pub mod ExchangeLemmas
 pub mod PlaceLemmas
+pub mod GapLemmas
+pub mod GapRun

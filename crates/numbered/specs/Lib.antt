@@ -4,3 +4,4 @@ pub mod Places
 pub mod Laws
 pub mod SetLaws
 pub mod ChangeLaws
+pub mod Gap

@@ -1,6 +1,6 @@
 use Rattle.std.specs.Vec.{vec_capacity}
 use Rattle.model_catalog.proofs.RowLoop.{RowsSoFar}
-use Rattle.model_catalog.proofs.index.exchange_rows.Given as goal
+use Rattle.model_catalog.proofs.index.exchange_in_turn.Given as goal
 
 abbrev pub invariant-loop-change : goal.invariant-loop-change
 invariant-loop-change l =

@@ -4,7 +4,7 @@ use Rattle.std.proofs.Common.{arith, ap, sym, ◌∙◌}
 use Rattle.numbered.proofs.ExchangeLemmas.{next, one_more, done}
 use Rattle.user_model.specs.Edited.{row_number}
 use Rattle.model_catalog.proofs.RowLoop.{counts_now, counts_after}
-use Rattle.model_catalog.proofs.index.exchange_rows.Goals as goal
+use Rattle.model_catalog.proofs.index.exchange_in_turn.Goals as goal
 
 pub exchange_row-requires-clause-room : goal.exchange_row-requires-clause-room
 exchange_row-requires-clause-room c =
