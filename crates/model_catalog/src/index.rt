@@ -272,17 +272,11 @@ fn variable_at(address: &Address) -> Option<u32>
 fn sets_lower(set: &Set) -> bool
     ensures { result ≡ sets.sets_lower set.now }
 {
-    matches!(
-        set,
-        Set::GreaterThan { .. } | Set::EqualTo { .. } | Set::Interval { .. }
-    )
+    set.lower_bound().is_some()
 }
 
 fn sets_upper(set: &Set) -> bool
     ensures { result ≡ sets.sets_upper set.now }
 {
-    matches!(
-        set,
-        Set::LessThan { .. } | Set::EqualTo { .. } | Set::Interval { .. }
-    )
+    set.upper_bound().is_some()
 }

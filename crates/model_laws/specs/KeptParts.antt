@@ -22,14 +22,15 @@ use Rattle.user_model.specs.declared.group.Group.{Group}
 use Rattle.user_model.specs.declared.objective.Objective.{Objective}
 use Rattle.user_model.specs.declared.objective.Objective.TheVariants as objective
 use Rattle.user_model.specs.declared.row.Row.{Row}
-use Rattle.user_model.specs.Sets.{is_norm_cone, is_scalar_set, sets_lower, sets_upper}
+use Rattle.user_model.specs.Sets.{sets_lower, sets_upper}
+use Rattle.set_core.specs.Shapes.{is_norm_cone, is_scalar}
 use Rattle.user_model.specs.Functions.{components, func_mentions, is_scalar_function, is_scalar_named, named_components, term_counts}
 use Rattle.user_model.specs.Limits.{TERMS}
 use Rattle.user_model.specs.Model.{ModelValue, group_of, has_variable, is_variable, objective_terms, row_named, variable_address, variable_named, variables}
 use Rattle.user_model.specs.Edited.{group_number, located, row_number}
 use Rattle.user_model.specs.Refusals.{differ, within}
 use Rattle.user_model.specs.Consistent.{IsConsistent}
-use Rattle.user_model.specs.Valid.{HasValidParts, IsSetOf, IsValidGroup, IsValidObjective, IsValidRow, Stands, is_created_by}
+use Rattle.user_model.specs.Valid.{HasValidParts, IsValidGroup, IsValidObjective, IsValidRow, Stands, is_created_by}
 use Rattle.model_laws.specs.Pairs.{All-left}
 use Rattle.model_laws.specs.Replaced.{All-put, All-without}
 use Rattle.model_laws.specs.SingleBounds.{bounds_less, group_added, group_put, row_added, row_deleted, row_put}
@@ -39,7 +40,7 @@ use Rattle.model_laws.specs.Standing.{stands_along}
 
 module _ (groups others : List Group) (along : (n : ℕ) → IsSome (find (has_variable n) groups) → IsSome (find (has_variable n) others)) where
   row_along : (row : Row) → IsValidRow groups row → IsValidRow others row
-  row_along row is = record { stand = λ at e. stands_along groups others along at (is.stand at e); limit = is.limit; terms = is.terms; set = is.set }
+  row_along row is = record { stand = λ at e. stands_along groups others along at (is.stand at e); limit = is.limit; terms = is.terms; shape = is.shape; set = is.set }
 
   objective_along : (o : Objective) → IsValidObjective groups o → IsValidObjective others o
   objective_along o is = record { stand = λ at e. stands_along groups others along at (is.stand at e); terms = is.terms }

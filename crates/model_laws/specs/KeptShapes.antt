@@ -1,6 +1,6 @@
 -- Changes of functions and sets that keep a row and a group valid.
 use Rattle.std.specs.Prelude.{◌≡◌, ◌⊎◌, ℕ, zero, suc, ◌-◌, ◌≤◌, ◌==◌, Bool, true, false, ◌&&◌, ◌||◌, not, List, [], ◌∷◌, All, length, map, refl}
-use Rattle.std.proofs.Common.{arith, sym, ap, subst, inl, inr, ◌∙◌}
+use Rattle.std.proofs.Common.{arith, rules, sym, ap, subst, inl, inr, ◌∙◌}
 use Rattle.std.proofs.lemmas.Bool.{both_ways, eqb-true, not-false}
 use Rattle.std.proofs.lemmas.List.{length-map}
 use Rattle.ratio_core.specs.Rational.{Rational}
@@ -16,12 +16,17 @@ use Rattle.user_model.specs.declared.function.UserFunc.TheVariants.{Plain, Affin
 use Rattle.user_model.specs.declared.group.Group.{Group}
 use Rattle.user_model.specs.declared.group.GroupVar.{GroupVar}
 use Rattle.user_model.specs.declared.row.Row.{Row}
-use Rattle.user_model.specs.Sets.{has_bad_dimension, is_crossed, is_scalar_set, same_type, sets_lower, sets_upper, type_number}
+use Rattle.user_model.specs.Sets.{sets_lower, sets_upper}
+use Rattle.set_core.specs.Shapes.{IsSetOf, is_scalar, same_type, type_of}
+use Rattle.set_core.specs.declared.set_type.SetType.{SetType}
+use Rattle.set_core.specs.declared.set_type.SetType.TheVariants as types
+use Rattle.set_core.specs.contracts.set_type.SetType.{the_type}
+use denote.Enum.Bare.{same_true}
 use Rattle.user_model.specs.Functions.{components, func_mentions, is_scalar_function, is_scalar_named, named_components, term_count, term_counts}
 use Rattle.user_model.specs.Limits.{TERMS}
 use Rattle.user_model.specs.Model.{ModelValue, is_variable}
 use Rattle.user_model.specs.Edited.{changed_at, located, on_affine, on_output, with_constant}
-use Rattle.user_model.specs.Valid.{IsSetOf, IsValidGroup, IsValidRow, Stands}
+use Rattle.user_model.specs.Valid.{IsValidRow, Stands}
 use Rattle.model_laws.specs.ByName.{affine_bounds, output_bounds}
 use Rattle.model_laws.specs.KeptParts.{IsRowInPlace}
 use Rattle.model_laws.specs.Standing.{MentionsOnly, affine_only, output_only, with_term}
@@ -55,6 +60,12 @@ located_scalar model (named.Plain var) = refl
 located_scalar model (named.Affine f) = refl
 located_scalar model (named.PlainVec vars) = refl
 located_scalar model (named.AffineVec fs) = refl
+
+pub scalar_components : (func : UserFunc) → is_scalar_function func ≡ true → components func ≡ 1
+scalar_components (Plain var) e = refl
+scalar_components (Affine f) e = refl
+scalar_components (PlainVec vars) e = absurd (both_ways false refl e)
+scalar_components (AffineVec fs) e = absurd (both_ways false refl e)
 
 pub located_components : (model : ModelValue) (func : NamedFunc) → components (located model func) ≡ named_components func
 located_components model (named.Plain var) = refl
@@ -100,7 +111,8 @@ module _ (groups : List Group) (row : Row) where
       stand = λ q e. by_mention is (only q e);
       limit = let limit = is.limit in let same = shape.components in omega (arith, limit, same);
       terms = terms is.terms;
-      set = subst (λ b. IsSetOf b (components func) row.set) (sym shape.scalar) (subst (λ k. IsSetOf (is_scalar_function row.func) k row.set) (sym shape.components) is.set);
+      shape = is.shape ∙ sym shape.scalar;
+      set = subst (λ k. IsSetOf k row.set) (sym shape.components) is.set;
     });
     lower = λ n e. ap (λ b. b && sets_lower row.set) (sym (shape.variable n)) ∙ e;
     upper = λ n e. ap (λ b. b && sets_upper row.set) (sym (shape.variable n)) ∙ e;
@@ -113,14 +125,27 @@ module _ (groups : List Group) (row : Row) where
   pub name_in_place : (name : List ℕ) → IsRowInPlace groups row (record row { name = name })
   name_in_place name = record {
     id = refl;
-    valid = λ is. (record { stand = is.stand; limit = is.limit; terms = is.terms; set = is.set });
+    valid = λ is. (record { stand = is.stand; limit = is.limit; terms = is.terms; shape = is.shape; set = is.set });
     lower = λ n e. e;
     upper = λ n e. e;
   }
 
 -- ---- sets of one type set the same bounds
 
-type_lower : (set : Set) → sets_lower set ≡ ((type_number set == 2) || (type_number set == 3) || (type_number set == 4))
+by_lower : SetType → Bool
+by_lower types.GreaterThan = true
+by_lower types.EqualTo = true
+by_lower types.Interval = true
+by_lower _ = false
+
+by_upper : SetType → Bool
+by_upper types.LessThan = true
+by_upper types.EqualTo = true
+by_upper types.Interval = true
+by_upper _ = false
+
+type_lower : (set : Set) → sets_lower set ≡ by_lower (type_of set)
+unfolding by_lower
 type_lower (LessThan u) = refl
 type_lower (GreaterThan l) = refl
 type_lower (EqualTo a) = refl
@@ -132,7 +157,8 @@ type_lower (Nonpositives n) = refl
 type_lower (NormInfinityCone n) = refl
 type_lower (NormOneCone n) = refl
 
-type_upper : (set : Set) → sets_upper set ≡ ((type_number set == 1) || (type_number set == 3) || (type_number set == 4))
+type_upper : (set : Set) → sets_upper set ≡ by_upper (type_of set)
+unfolding by_upper
 type_upper (LessThan u) = refl
 type_upper (GreaterThan l) = refl
 type_upper (EqualTo a) = refl
@@ -144,22 +170,23 @@ type_upper (Nonpositives n) = refl
 type_upper (NormInfinityCone n) = refl
 type_upper (NormOneCone n) = refl
 
+types_same : (old new : Set) → same_type old new ≡ true → type_of old ≡ type_of new
+types_same old new e = same_true the_type (search rules) (type_of old) (type_of new) e
+
 pub same_lower : (old new : Set) → same_type old new ≡ true → sets_lower new ≡ true → sets_lower old ≡ true
-same_lower old new same e =
-    type_lower old ∙ (ap (λ k. (k == 2) || (k == 3) || (k == 4)) (eqb-true (type_number old) (type_number new) same) ∙ (sym (type_lower new) ∙ e))
+same_lower old new same e = type_lower old ∙ (ap by_lower (types_same old new same) ∙ (sym (type_lower new) ∙ e))
 
 pub same_upper : (old new : Set) → same_type old new ≡ true → sets_upper new ≡ true → sets_upper old ≡ true
-same_upper old new same e =
-    type_upper old ∙ (ap (λ k. (k == 1) || (k == 3) || (k == 4)) (eqb-true (type_number old) (type_number new) same) ∙ (sym (type_upper new) ∙ e))
+same_upper old new same e = type_upper old ∙ (ap by_upper (types_same old new same) ∙ (sym (type_upper new) ∙ e))
 
 and_more : (a b c : Bool) → (b ≡ true → c ≡ true) → (a && b) ≡ true → (a && c) ≡ true
 and_more true b c h e = h e
 and_more false b c h e = e
 
-pub set_in_place : (groups : List Group) (row : Row) (set : Set) → IsSetOf (is_scalar_function row.func) (components row.func) set → same_type row.set set ≡ true → IsRowInPlace groups row (record row { set = set })
-set_in_place groups row set is same = record {
+pub set_in_place : (groups : List Group) (row : Row) (set : Set) → is_scalar set ≡ is_scalar_function row.func → IsSetOf (components row.func) set → same_type row.set set ≡ true → IsRowInPlace groups row (record row { set = set })
+set_in_place groups row set shape is same = record {
   id = refl;
-  valid = λ was. (record { stand = was.stand; limit = was.limit; terms = was.terms; set = is });
+  valid = λ was. (record { stand = was.stand; limit = was.limit; terms = was.terms; shape = shape; set = is });
   lower = λ n e. and_more (is_variable n row.func) (sets_lower set) (sets_lower row.set) (same_lower row.set set same) e;
   upper = λ n e. and_more (is_variable n row.func) (sets_upper set) (sets_upper row.set) (same_upper row.set set same) e;
 }

@@ -1,5 +1,5 @@
 -- Each edit that is not refused keeps a model valid.
-use Rattle.std.specs.Prelude.{◌≡◌, ◌≢◌, ◌⊎◌, ℕ, ◌≤◌, ◌==◌, Bool, true, false, ◌&&◌, ◌||◌, not, cond, List, [], ◌∷◌, ◌++◌, Option, Some, None, IfSome, All, IsSome, count_by, find, is_some, length, map, unwrap_or, refl}
+use Rattle.std.specs.Prelude.{◌≡◌, ◌≢◌, ◌⊎◌, ℕ, ◌≤◌, ◌==◌, nat_lt, Bool, true, false, ◌&&◌, ◌||◌, not, cond, List, [], ◌∷◌, ◌++◌, Option, Some, None, IfSome, All, IsSome, count_by, find, is_some, length, map, unwrap_or, refl}
 use Rattle.std.specs.List.{filter_map, list_any}
 use Rattle.std.specs.Option.{option_map_or, option_to_list}
 use Rattle.std.proofs.Common.{arith, sym, ap, subst, inl, inr, ◌∙◌}
@@ -13,7 +13,8 @@ use Rattle.aff_core.specs.Address.{Address, address_eq, address_eq-Decides}
 use Rattle.aff_core.specs.Function.{Function, with_coefficient}
 use Rattle.set_core.specs.declared.set.Set.{Set}
 use Rattle.set_core.specs.declared.set.Set.TheVariants.{Reals}
-use Rattle.set_core.specs.Membership.{dimension_of}
+use Rattle.set_core.specs.Shapes.{IsSetOf, dimension_of, has_bad_dimension, is_crossed, is_norm_cone, is_scalar, least_dimension, same_type}
+use Rattle.set_core.specs.ShapeLaws.{scalar_of_one, set_of_from_tests}
 use Rattle.user_model.specs.declared.edit.Edit.{Edit}
 use Rattle.user_model.specs.declared.edit.Edit.TheVariants as edit
 use Rattle.user_model.specs.declared.edit.NamedFunc.{NamedFunc}
@@ -24,7 +25,7 @@ use Rattle.user_model.specs.declared.group.GroupVar.{GroupVar}
 use Rattle.user_model.specs.declared.objective.Objective.{Objective}
 use Rattle.user_model.specs.declared.objective.Objective.TheVariants as objective
 use Rattle.user_model.specs.declared.row.Row.{Row}
-use Rattle.user_model.specs.Sets.{has_bad_dimension, is_crossed, is_norm_cone, is_scalar_set, same_type, sets_lower, sets_upper}
+use Rattle.user_model.specs.Sets.{sets_lower, sets_upper}
 use Rattle.user_model.specs.Functions.{components, func_mentions, is_scalar_function, is_scalar_named, mentioned, named_components, term_counts}
 use Rattle.user_model.specs.Limits.{COMPONENTS, TERMS}
 use Rattle.user_model.specs.Model.{ModelValue, address_named, group_of, has_lower_bound, has_upper_bound, has_variable, is_variable, objective_mentions, objective_terms, row_named, variable_address, variable_named, variables}
@@ -32,7 +33,7 @@ use Rattle.user_model.specs.Deletion.{group_without, objective_without, row_with
 use Rattle.user_model.specs.Edited.{change_function, change_group, change_row, delete_row, edited, group_number, located, numbered_from, objective_of, on_affine, on_objective, on_output, renamed, row_number, with_constant, with_variable}
 use Rattle.user_model.specs.Refusals.{counts, differ, first_refusal, group_is, meets_bound_already_set, is_cone_row_of, is_in_cone, row_is, terms_of_objective, terms_of_row, within}
 use Rattle.user_model.specs.Consistent.{IsConsistent}
-use Rattle.user_model.specs.Valid.{HasValidParts, IsSetOf, IsValid, IsValidGroup, IsValidObjective, IsValidRow, Stands, is_created_by}
+use Rattle.user_model.specs.Valid.{HasValidParts, IsValid, IsValidGroup, IsValidObjective, IsValidRow, Stands, is_created_by}
 use Rattle.model_laws.specs.ByName.{of_group, of_number}
 use Rattle.model_laws.specs.Changed.{change_group-found, change_row-found, delete_row-found}
 use Rattle.model_laws.specs.ChangedRow.{terms_after}
@@ -43,7 +44,7 @@ use Rattle.model_laws.specs.KeptAdditions.{new_group, new_row, vars_added}
 use Rattle.model_laws.specs.KeptConsistent.{kept_consistent}
 use Rattle.model_laws.specs.KeptDeletion.{sum_filter_map}
 use Rattle.model_laws.specs.KeptParts.{IsGroupInPlace, IsRowInPlace, parts_of_group, parts_of_objective, parts_of_row, parts_with_group, parts_with_row, parts_without_row}
-use Rattle.model_laws.specs.KeptShapes.{affine_shape, constant_counts, function_in_place, HasShapeOf, located_components, located_scalar, name_in_place, output_counts, output_shape, same_lower, same_upper, set_in_place, standing_coefficient}
+use Rattle.model_laws.specs.KeptShapes.{affine_shape, constant_counts, function_in_place, HasShapeOf, located_components, located_scalar, name_in_place, output_counts, output_shape, scalar_components, same_lower, same_upper, set_in_place, standing_coefficient}
 use Rattle.model_laws.specs.KeptWithin.{kept_within}
 use Rattle.model_laws.specs.Located.{group_by_number, row_by_number, variable_found, variable_located}
 use Rattle.model_laws.specs.Needed.{needed_row_there, needed_variable, unknown}
@@ -131,12 +132,12 @@ module _ (model : ModelValue) (c : IsConsistent model) (h : HasValidParts model.
     stand = function_stands model func (or_parts (list_any (unknown model) (mentioned func)) false p.known).0;
     limit = omega (arith, p.counted 0 (0, 0) (omega arith), located_components model func);
     terms = limited TERMS (term_counts (located model func)) (All-left (λ c. c.0 ≤ c.1) (within TERMS (term_counts (located model func))) _ (All-tail (λ c. c.0 ≤ c.1) (named_components func, COMPONENTS) _ p.counted));
-    set = record {
-      shape = same_shape (is_scalar_named func) (is_scalar_set set) p.shaped ∙ sym (located_scalar model func);
-      fits = ap (has_bad_dimension set) (located_components model func) ∙ p.dimension;
-      ordered = p.interval;
-    };
+    shape = shape;
+    set = set_of_from_tests (components (located model func)) set (λ e. scalar_components (located model func) (sym shape ∙ e)) (ap (has_bad_dimension set) (located_components model func) ∙ p.dimension) p.interval;
   }
+    where
+      shape : is_scalar set ≡ is_scalar_function (located model func)
+      shape = same_shape (is_scalar_named func) (is_scalar set) p.shaped ∙ sym (located_scalar model func)
 
   -- ---- groups by number
 
@@ -166,8 +167,7 @@ module _ (model : ModelValue) (c : IsConsistent model) (h : HasValidParts model.
               id = refl;
               valid = λ is. (record {
                 limit = let limit = is.limit in omega (arith, limit, long);
-                set = subst (λ k. IsSetOf (is_scalar_set group.set) k group.set) (sym long) is.set;
-                one = λ e. long ∙ is.one e;
+                set = subst (λ k. IsSetOf k group.set) (sym long) is.set;
               });
               same = λ m. renamed_stands n new m group.vars;
               lower = λ e. e;
@@ -175,30 +175,24 @@ module _ (model : ModelValue) (c : IsConsistent model) (h : HasValidParts model.
             }
 
   -- another scalar set of the same type
-  set_reset : (group : Group) (set : Set) → is_scalar_set group.set ≡ true → is_scalar_set set ≡ true → is_crossed set ≡ false → same_type group.set set ≡ true → IsGroupInPlace group (record group { set = set })
+  set_reset : (group : Group) (set : Set) → is_scalar group.set ≡ true → is_scalar set ≡ true → is_crossed set ≡ false → same_type group.set set ≡ true → IsGroupInPlace group (record group { set = set })
   set_reset group set was scalar ordered same = record {
     id = refl;
     valid = λ is. (record {
       limit = is.limit;
-      set = record {
-        shape = refl;
-        fits = ap (λ b. not b && (not (dimension_of set == length group.vars) || (dimension_of set == 0) || is_norm_cone set && (dimension_of set == 1))) scalar;
-        ordered = ordered;
-      };
-      one = λ e. is.one was;
+      set = set_of_from_tests (length group.vars) set (λ e. scalar_of_one (length group.vars) group.set is.set was) (ap (λ b. not b && (not (dimension_of set == length group.vars) || nat_lt (dimension_of set) (least_dimension set))) scalar) ordered;
     });
     same = λ m. refl;
     lower = same_lower group.set set same;
     upper = same_upper group.set set same;
   }
 
-  set_free : (group : Group) → is_scalar_set group.set ≡ true → IsGroupInPlace group (record group { set = Reals 1 })
+  set_free : (group : Group) → is_scalar group.set ≡ true → IsGroupInPlace group (record group { set = Reals 1 })
   set_free group was = record {
     id = refl;
     valid = λ is. (record {
       limit = is.limit;
-      set = record { shape = refl; fits = ap (has_bad_dimension (Reals 1)) (is.one was); ordered = refl };
-      one = λ e. absurd (both_ways false refl e);
+      set = subst (λ k. IsSetOf k (Reals 1)) (sym (scalar_of_one (length group.vars) group.set is.set was)) (record { dimension = refl; enough = omega arith; uncrossed = refl });
     });
     same = λ m. refl;
     lower = λ e. absurd (both_ways false refl e);
@@ -212,8 +206,7 @@ module _ (model : ModelValue) (c : IsConsistent model) (h : HasValidParts model.
       let long = numbered_length model.next.variable names in
       record {
         limit = omega (arith, p.counted 0 (0, 0) (omega arith), long);
-        set = record { shape = refl; fits = ap (has_bad_dimension set) long ∙ p.dimension; ordered = p.interval };
-        one = λ e. long ∙ eqb-true (length names) 1 (not-false (length names == 1) (not_both (is_scalar_set set) (not (length names == 1)) p.shaped e));
+        set = set_of_from_tests (length (numbered_from model.next.variable names)) set (λ e. long ∙ eqb-true (length names) 1 (not-false (length names == 1) (not_both (is_scalar set) (not (length names == 1)) p.shaped e))) (ap (has_bad_dimension set) long ∙ p.dimension) p.interval;
       }
 
   still_there : (names : List (List ℕ)) (set : Set) (n : ℕ) → IsSome (find (has_variable n) model.groups) → IsSome (find (has_variable n) (model.groups ++ new_group model names set ∷ []))
@@ -317,18 +310,15 @@ module _ (model : ModelValue) (c : IsConsistent model) (h : HasValidParts model.
       stood {q = q} (inr was) = h.valid_objective.stand q was
   parts_by (edit.RowSet row set) p =
       let at = needed_row_there model (edit.RowSet row set) row refl p.known in
-      of_row row at.0 at.1 (λ r. record r { set = set }) (set_in_place model.groups at.0 set (record {
-        shape = same_shape (is_scalar_function at.0.func) (is_scalar_set set) (row_fact (λ r. differ (is_scalar_function r.func) (is_scalar_set set)) model row at.0 at.1 p.shaped);
-        fits = row_fact (λ r. has_bad_dimension set (components r.func)) model row at.0 at.1 p.dimension;
-        ordered = p.interval;
-      }) (not-false (same_type at.0.set set) (row_fact (λ r. not (same_type r.set set)) model row at.0 at.1 p.of_type)))
+      let shape : is_scalar set ≡ is_scalar_function at.0.func = same_shape (is_scalar_function at.0.func) (is_scalar set) (row_fact (λ r. differ (is_scalar_function r.func) (is_scalar set)) model row at.0 at.1 p.shaped) in
+      of_row row at.0 at.1 (λ r. record r { set = set }) (set_in_place model.groups at.0 set shape (set_of_from_tests (components at.0.func) set (λ e. scalar_components at.0.func (sym shape ∙ e)) (row_fact (λ r. has_bad_dimension set (components r.func)) model row at.0 at.1 p.dimension) p.interval) (not-false (same_type at.0.set set) (row_fact (λ r. not (same_type r.set set)) model row at.0 at.1 p.of_type)))
   parts_by (edit.Reset var set) p =
       let at = needed_variable model (edit.Reset var set) var [] refl p.known in
-      let shape = or_parts (not (is_scalar_set set)) (group_is (λ g. not (is_scalar_set g.set)) model var) p.shaped in
-      of_number model c var at.0 at.1 Parts (λ n. change_group model n (λ g. record g { set = set })) (of_set var at.0 at.1 set (λ group found. set_reset group set (not-false (is_scalar_set group.set) (group_fact (λ g. not (is_scalar_set g.set)) model var at.0 group at.1 found shape.1)) (not-false (is_scalar_set set) shape.0) p.interval (not-false (same_type group.set set) (group_fact (λ g. not (same_type g.set set)) model var at.0 group at.1 found p.of_type))))
+      let shape = or_parts (not (is_scalar set)) (group_is (λ g. not (is_scalar g.set)) model var) p.shaped in
+      of_number model c var at.0 at.1 Parts (λ n. change_group model n (λ g. record g { set = set })) (of_set var at.0 at.1 set (λ group found. set_reset group set (not-false (is_scalar group.set) (group_fact (λ g. not (is_scalar g.set)) model var at.0 group at.1 found shape.1)) (not-false (is_scalar set) shape.0) p.interval (not-false (same_type group.set set) (group_fact (λ g. not (same_type g.set set)) model var at.0 group at.1 found p.of_type))))
   parts_by (edit.FreeGroup var) p =
       let at = needed_variable model (edit.FreeGroup var) var [] refl p.known in
-      of_number model c var at.0 at.1 Parts (λ n. change_group model n (λ g. record g { set = Reals 1 })) (of_set var at.0 at.1 (Reals 1) (λ group found. set_free group (not-false (is_scalar_set group.set) (group_fact (λ g. not (is_scalar_set g.set)) model var at.0 group at.1 found p.shaped))))
+      of_number model c var at.0 at.1 Parts (λ n. change_group model n (λ g. record g { set = Reals 1 })) (of_set var at.0 at.1 (Reals 1) (λ group found. set_free group (not-false (is_scalar group.set) (group_fact (λ g. not (is_scalar g.set)) model var at.0 group at.1 found p.shaped))))
   parts_by (edit.DeleteVariable var) p =
       let at = needed_variable model (edit.DeleteVariable var) var [] refl p.known in
       of_number model c var at.0 at.1 Parts (without_variable model) (parts_left var at.0 at.1 (sym (ap (λ o. option_map_or (is_in_cone model) o false) at.1) ∙ p.deletable))

@@ -18,13 +18,15 @@ use Rattle.user_model.specs.declared.group.GroupVar.{GroupVar}
 use Rattle.user_model.specs.declared.objective.Objective.{Objective}
 use Rattle.user_model.specs.declared.objective.Objective.TheVariants as objective
 use Rattle.user_model.specs.declared.row.Row.{Row}
-use Rattle.user_model.specs.Sets.{has_bad_dimension, is_crossed, is_norm_cone, is_scalar_set, resized, sets_lower, sets_upper}
+use Rattle.user_model.specs.Sets.{sets_lower, sets_upper}
+use Rattle.set_core.specs.Shapes.{IsSetOf, is_norm_cone, is_scalar, resized}
+use Rattle.set_core.specs.ShapeLaws.{resized_set}
 use Rattle.user_model.specs.Functions.{has_term, term_count}
 use Rattle.user_model.specs.Limits.{COMPONENTS, TERMS}
 use Rattle.user_model.specs.Model.{has_variable, is_variable, variable_address}
 use Rattle.user_model.specs.Deletion.{group_without, objective_without, row_without, unless_empty, without_address, without_term}
 use Rattle.user_model.specs.Refusals.{is_cone_row_of}
-use Rattle.user_model.specs.Valid.{IsSetOf, IsValidGroup, IsValidObjective, IsValidRow, Stands, is_created_by}
+use Rattle.user_model.specs.Valid.{IsValidGroup, IsValidObjective, IsValidRow, Stands, is_created_by}
 use Rattle.model_laws.specs.Replaced.{length_filter}
 use Rattle.model_laws.specs.Variables.{group_found, vars_in}
 use Rattle.model_laws.specs.GroupWithout.{others, others_stand, vars_without}
@@ -38,43 +40,21 @@ use Rattle.model_laws.specs.Standing.{without_terms_mention, without_term_mentio
 
 -- the set of another dimension is of the same kind
 pub record IsResized (set left : Set) : Type 0 where
-  pub shape : is_scalar_set left ≡ is_scalar_set set
-  pub crossed : is_crossed left ≡ is_crossed set
+  pub shape : is_scalar left ≡ is_scalar set
   pub lower : sets_lower left ≡ sets_lower set
   pub upper : sets_upper left ≡ sets_upper set
 
 pub resized_is : (n : ℕ) (set : Set) → IsResized set (resized n set)
-resized_is n (LessThan u) = record { shape = refl; crossed = refl; lower = refl; upper = refl }
-resized_is n (GreaterThan l) = record { shape = refl; crossed = refl; lower = refl; upper = refl }
-resized_is n (EqualTo a) = record { shape = refl; crossed = refl; lower = refl; upper = refl }
-resized_is n (Interval l u) = record { shape = refl; crossed = refl; lower = refl; upper = refl }
-resized_is n (Reals d) = record { shape = refl; crossed = refl; lower = refl; upper = refl }
-resized_is n (Zeros d) = record { shape = refl; crossed = refl; lower = refl; upper = refl }
-resized_is n (Nonnegatives d) = record { shape = refl; crossed = refl; lower = refl; upper = refl }
-resized_is n (Nonpositives d) = record { shape = refl; crossed = refl; lower = refl; upper = refl }
-resized_is n (NormInfinityCone d) = record { shape = refl; crossed = refl; lower = refl; upper = refl }
-resized_is n (NormOneCone d) = record { shape = refl; crossed = refl; lower = refl; upper = refl }
-
-some_length : (n : ℕ) → 0 ≢ n → (not (n == n) || (n == 0) || false) ≡ false
-some_length n some = rw (same_number n n refl, other_number n 0 (λ e. some (sym e))) refl
-
--- its dimension is a good one, where there is a component and it is no norm cone
-resized_fits : (n : ℕ) (set : Set) → 0 ≢ n → is_norm_cone set ≡ false → has_bad_dimension (resized n set) n ≡ false
-resized_fits n (LessThan u) some plain = refl
-resized_fits n (GreaterThan l) some plain = refl
-resized_fits n (EqualTo a) some plain = refl
-resized_fits n (Interval l u) some plain = refl
-resized_fits n (Reals d) some plain = some_length n some
-resized_fits n (Zeros d) some plain = some_length n some
-resized_fits n (Nonnegatives d) some plain = some_length n some
-resized_fits n (Nonpositives d) some plain = some_length n some
-resized_fits n (NormInfinityCone d) some plain = absurd (both_ways true plain refl)
-resized_fits n (NormOneCone d) some plain = absurd (both_ways true plain refl)
-
-resized_set : (scalar : Bool) (old n : ℕ) (set : Set) → 0 ≢ n → is_norm_cone set ≡ false → IsSetOf scalar old set → IsSetOf scalar n (resized n set)
-resized_set scalar old n set some plain is =
-    let left = resized_is n set in
-    record { shape = left.shape ∙ is.shape; fits = resized_fits n set some plain; ordered = left.crossed ∙ is.ordered }
+resized_is n (LessThan u) = record { shape = refl; lower = refl; upper = refl }
+resized_is n (GreaterThan l) = record { shape = refl; lower = refl; upper = refl }
+resized_is n (EqualTo a) = record { shape = refl; lower = refl; upper = refl }
+resized_is n (Interval l u) = record { shape = refl; lower = refl; upper = refl }
+resized_is n (Reals d) = record { shape = refl; lower = refl; upper = refl }
+resized_is n (Zeros d) = record { shape = refl; lower = refl; upper = refl }
+resized_is n (Nonnegatives d) = record { shape = refl; lower = refl; upper = refl }
+resized_is n (Nonpositives d) = record { shape = refl; lower = refl; upper = refl }
+resized_is n (NormInfinityCone d) = record { shape = refl; lower = refl; upper = refl }
+resized_is n (NormOneCone d) = record { shape = refl; lower = refl; upper = refl }
 
 -- ---- groups
 
@@ -85,12 +65,9 @@ group_remade : (n : ℕ) (group : Group) → IsValidGroup group → is_norm_cone
 group_remade n group is plain [] less = tt
 group_remade n group is plain (v ∷ vs) less =
     let limit = is.limit in
-    let set = resized_is (length (v ∷ vs)) group.set in
-    let fits : IsSetOf (is_scalar_set group.set) (length (v ∷ vs)) (resized (length (v ∷ vs)) group.set) = resized_set (is_scalar_set group.set) (length group.vars) (length (v ∷ vs)) group.set (λ e. absurd (omega arith)) plain is.set in
     record {
       limit = omega (arith, limit, less);
-      set = record { shape = refl; fits = fits.fits; ordered = fits.ordered };
-      one = λ e. let single = is.one (sym set.shape ∙ e) in omega (arith, single, less);
+      set = resized_set (length group.vars) (length (v ∷ vs)) group.set is.set plain (omega arith) less;
     }
 
 pub group_left_valid : (n : ℕ) (group : Group) → IsValidGroup group → (has_variable n group ≡ true → is_norm_cone group.set ≡ false) → IfSome (group_without n group) IsValidGroup
@@ -177,7 +154,8 @@ module _ (n : ℕ) (groups left_groups : List Group) (stay : (at : Address) → 
         stand = λ q e. let from = only q e in stay q from.0 (is.stand q from.1);
         limit = omega (arith, limit, less);
         terms = All-nil (λ count. count ≤ TERMS);
-        set = resized_set false (length vars) (length (v ∷ vs)) set (λ e. absurd (omega arith)) plain is.set;
+        shape = (resized_is (length (v ∷ vs)) set).shape ∙ is.shape;
+        set = resized_set (length vars) (length (v ∷ vs)) set is.set plain (omega arith) less;
       }
 
   row_left : (id : ℕ) (name : List ℕ) (func : UserFunc) (set : Set) → IsValidRow groups (row_of id name func set) → is_cone_row_of n (row_of id name func set) ≡ false → IfSome (row_without at (row_of id name func set)) (IsValidRow left_groups)
@@ -189,6 +167,7 @@ module _ (n : ℕ) (groups left_groups : List Group) (stay : (at : Address) → 
               stand = λ q e. stay q (λ off. both_ways (address_eq at var) other ((address_eq-Decides at var).1 (sym off ∙ (address_eq-Decides q var).0 e))) (is.stand q e);
               limit = is.limit;
               terms = is.terms;
+              shape = is.shape;
               set = is.set;
             })
       ]
@@ -196,6 +175,7 @@ module _ (n : ℕ) (groups left_groups : List Group) (stay : (at : Address) → 
     stand = λ q e. let from = without_term_mentions at f q e in stay q from.0 (is.stand q from.1);
     limit = is.limit;
     terms = fewer_terms at (f ∷ []) is.terms;
+    shape = is.shape;
     set = is.set;
   }
   row_left id name (PlainVec vars) set is plain =
@@ -207,6 +187,7 @@ module _ (n : ℕ) (groups left_groups : List Group) (stay : (at : Address) → 
               stand = λ q e. stay q (λ off. both_ways (list_any (address_eq at) vars) lacks (subst (λ a. list_any (address_eq a) vars ≡ true) off e)) (is.stand q e);
               limit = is.limit;
               terms = is.terms;
+              shape = is.shape;
               set = is.set;
             })
       ]
@@ -218,7 +199,8 @@ module _ (n : ℕ) (groups left_groups : List Group) (stay : (at : Address) → 
     stand = λ q e. let from = without_terms_mention at fs q e in stay q from.0 (is.stand q from.1);
     limit = let limit = is.limit in omega (arith, limit, length-map fs (without_term at));
     terms = fewer_terms at fs is.terms;
-    set = subst (λ k. IsSetOf false k set) (sym (length-map fs (without_term at))) is.set;
+    shape = is.shape;
+    set = subst (λ k. IsSetOf k set) (sym (length-map fs (without_term at))) is.set;
   }
 
   pub row_left_valid : (row : Row) → IsValidRow groups row → is_cone_row_of n row ≡ false → IfSome (row_without at row) (IsValidRow left_groups)

@@ -20,7 +20,7 @@ use Rattle.user_model.specs.Functions.{is_scalar_affine, is_vector_affine}
 use Rattle.user_model.specs.Model.{ModelValue, group_of, row_named, variable_named}
 use Rattle.user_model.specs.Edited.{on_affine, on_objective, on_output, renamed}
 use Rattle.user_model.specs.Refusals.{group_is, is_affine_objective, row_is}
-use Rattle.user_model.specs.Sets.{is_scalar_set}
+use Rattle.set_core.specs.Shapes.{is_scalar}
 use Rattle.model_laws.specs.Coefficients.{other_at, same_at}
 use Rattle.model_laws.specs.Renamed.{renamed_there}
 
@@ -121,8 +121,8 @@ pub group_set_other : (group : Group) (set : Set) → group.set ≢ set → reco
 group_set_other group set ne same = ne (sym (ap (λ g. g.set) same))
 
 -- a group with a set of numbers isn't free as a freed one is
-pub scalar_not_free : (set : Set) → is_scalar_set set ≡ true → set ≢ Reals 1
-scalar_not_free set scalar same = both_ways (is_scalar_set set) (ap is_scalar_set same) scalar
+pub scalar_not_free : (set : Set) → is_scalar set ≡ true → set ≢ Reals 1
+scalar_not_free set scalar same = both_ways (is_scalar set) (ap is_scalar same) scalar
 
 -- a group of which a variable has another name
 pub group_name_other : (n : ℕ) (name : List ℕ) (group : Group) (var : GroupVar) → Contains group.vars var → var.number ≡ n → var.name ≢ name → record group { vars = map (renamed n name) group.vars } ≢ group

@@ -10,7 +10,7 @@ use Rattle.std.proofs.lemmas.List.Elements.{All-nil, All-cons, All-head, All-tai
 use Rattle.ratio_core.specs.Rational.{Rational, rational_eq, zero_ℚ}
 use Rattle.aff_core.specs.Address.{Address, address_cmp, address_eq, address_eq-Decides, address_total}
 use Rattle.aff_core.specs.Function.{Function, function_of, gathered, is_nonzero, with_coefficient}
-use Rattle.aff_core.proofs.Entries.{is_sorted-filter}
+use Rattle.map_laws.specs.EntryLaws.{is_sorted-filter}
 use Rattle.named_aff.specs.declared.aff.NamedAff.{NamedAff}
 use Rattle.named_aff.specs.declared.terms.NamedTerm.{NamedTerm}
 use Rattle.user_model.specs.declared.edit.NamedFunc.{NamedFunc}

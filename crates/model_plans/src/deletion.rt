@@ -4,7 +4,7 @@ ghost use Rattle.std.specs.List.{list_any};
 ghost use Rattle.user_model.specs.Edited.{edited, row_number};
 ghost use Rattle.user_model.specs.Deletion.{group_without, objective_without, row_without, without_term};
 ghost use Rattle.user_model.specs.Model.{has_variable, row_mentions};
-ghost use Rattle.user_model.specs.Sets.{resized};
+ghost use Rattle.set_core.specs.Shapes.{resized};
 ghost use Rattle.user_model.specs.declared.edit.Edit.TheVariants.{DeleteVariable};
 ghost use Rattle.model_laws.specs.ItemChanges.{edits_of};
 ghost use Rattle.user_model.specs.Functions.{func_mentions, has_term};
@@ -110,7 +110,7 @@ fn row_without(alloc: Global, row: &Row, at: &Address) -> Result<Option<Row>, Me
             if left.is_empty() {
                 return Ok(None);
             }
-            let set = resized(alloc, &row.set, left.len())?;
+            let set = row.set.resized(alloc, left.len())?;
             with_content(row, UserFunc::PlainVec(left), set)
         }
         UserFunc::AffineVec(funcs) => {
@@ -143,24 +143,6 @@ fn all_without(alloc: Global, funcs: &[Aff], at: &Address) -> Result<Vec<Aff>, M
     Ok(left)
 }
 
-// The set of the same type for so many components; a scalar set stays. More components than a dimension counts find no memory.
-fn resized(alloc: Global, set: &Set, components: usize) -> Result<Set, Memory>
-    ensures { IfOk result (λ other. other ≡ resized components set.now) }
-{
-    let Ok(dimension) = u32::try_from(components) else {
-        return Err(Memory);
-    };
-    match set {
-        Set::Reals { .. } => Ok(Set::Reals { dimension }),
-        Set::Zeros { .. } => Ok(Set::Zeros { dimension }),
-        Set::Nonnegatives { .. } => Ok(Set::Nonnegatives { dimension }),
-        Set::Nonpositives { .. } => Ok(Set::Nonpositives { dimension }),
-        Set::NormInfinityCone { .. } => Ok(Set::NormInfinityCone { dimension }),
-        Set::NormOneCone { .. } => Ok(Set::NormOneCone { dimension }),
-        _ => set.copy(alloc),
-    }
-}
-
 // The group without the variable, and none where it was the only one.
 fn group_without(alloc: Global, group: &Group, number: u32) -> Result<Option<Group>, Memory>
     requires { has_variable number group.now ≡ true }
@@ -170,7 +152,7 @@ fn group_without(alloc: Global, group: &Group, number: u32) -> Result<Option<Gro
     if vars.is_empty() {
         return Ok(None);
     }
-    let set = resized(alloc, &group.set, vars.len())?;
+    let set = group.set.resized(alloc, vars.len())?;
     Ok(Some(Group {
         id: group.id,
         vars: GroupVars::from_vec(vars),

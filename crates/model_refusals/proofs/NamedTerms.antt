@@ -13,7 +13,7 @@ use Rattle.numbered.specs.Numbered as numbered
 use Rattle.ratio_core.specs.Rational.{Rational, rational_eq, zero_ℚ}
 use Rattle.aff_core.specs.Address.{Address, address_cmp, address_eq, address_eq-Decides, address_total}
 use Rattle.aff_core.specs.Function.{function_of, gathered, is_nonzero}
-use Rattle.aff_core.proofs.Entries.{is_sorted-filter}
+use Rattle.map_laws.specs.EntryLaws.{is_sorted-filter}
 use Rattle.named_aff.specs.Distinct.{HasDistinctNames}
 use Rattle.named_aff.specs.declared.aff.NamedAff.{NamedAff}
 use Rattle.named_aff.specs.declared.terms.NamedTerm.{NamedTerm}

@@ -5,9 +5,9 @@ ghost use Rattle.std.specs.Option.{option_map, option_map_or};
 ghost use Rattle.user_model.specs.Model as models;
 ghost use Rattle.user_model.specs.Model.{has_lower_bound, has_upper_bound};
 ghost use Rattle.user_model.specs.Refusals.{meets_bad_interval, meets_bound_already_set, is_cone_row_of, is_in_cone, meets_delete_not_allowed, new_bound};
+ghost use Rattle.set_core.specs.Shapes as shapes;
 ghost use Rattle.user_model.specs.Sets as tests;
 
-use crate::sets::{is_crossed, is_norm_cone, sets_lower, sets_upper};
 use aff_core::{Address, Root, has_address};
 use model_catalog::Catalog;
 use name_index::Name;
@@ -19,8 +19,8 @@ pub(crate) fn meets_bad_interval(edit: &Edit) -> bool
     ensures { result ≡ meets_bad_interval edit.now }
 {
     match edit {
-        Edit::AddGroup { set, .. } | Edit::AddRow { set, .. } => is_crossed(set),
-        Edit::RowSet { set, .. } | Edit::Reset { set, .. } => is_crossed(set),
+        Edit::AddGroup { set, .. } | Edit::AddRow { set, .. } => set.is_crossed(),
+        Edit::RowSet { set, .. } | Edit::Reset { set, .. } => set.is_crossed(),
         Edit::Objective { .. } | Edit::Feasibility => false,
         Edit::Coef { .. } | Edit::VecCoef { .. } | Edit::ObjCoef { .. } => false,
         Edit::Constant { .. } | Edit::VecConstant { .. } | Edit::ObjConstant { .. } => false,
@@ -36,7 +36,7 @@ pub(crate) fn meets_lower_bound_already_set(model: &Catalog, edit: &Edit) -> boo
     let Some(bound) = new_bound(edit) else {
         return false;
     };
-    if !sets_lower(bound.set) {
+    if bound.set.lower_bound().is_none() {
         return false;
     }
     match model.variable(bound.variable) {
@@ -52,7 +52,7 @@ pub(crate) fn meets_upper_bound_already_set(model: &Catalog, edit: &Edit) -> boo
     let Some(bound) = new_bound(edit) else {
         return false;
     };
-    if !sets_upper(bound.set) {
+    if bound.set.upper_bound().is_none() {
         return false;
     }
     match model.variable(bound.variable) {
@@ -104,7 +104,7 @@ fn has_lower_bound(model: &Catalog, number: u32) -> bool
         return true;
     }
     match model.group_of(number) {
-        Some(group) => sets_lower(&group.set),
+        Some(group) => group.set.lower_bound().is_some(),
         None => false,
     }
 }
@@ -116,7 +116,7 @@ fn has_upper_bound(model: &Catalog, number: u32) -> bool
         return true;
     }
     match model.group_of(number) {
-        Some(group) => sets_upper(&group.set),
+        Some(group) => group.set.upper_bound().is_some(),
         None => false,
     }
 }
@@ -138,10 +138,10 @@ fn is_in_cone(model: &Catalog, number: u32) -> bool
 }
 
 fn is_in_cone_group(model: &Catalog, number: u32) -> bool
-    ensures { result ≡ option_map_or (λ g. tests.is_norm_cone g.set) (models.group_of model.now.model number) false }
+    ensures { result ≡ option_map_or (λ g. shapes.is_norm_cone g.set) (models.group_of model.now.model number) false }
 {
     match model.group_of(number) {
-        Some(group) => is_norm_cone(&group.set),
+        Some(group) => group.set.is_norm_cone(),
         None => false,
     }
 }
@@ -162,7 +162,7 @@ fn is_cone_row_of(row: &Row, number: u32) -> bool
 {
     match &row.func {
         UserFunc::PlainVec(vars) => {
-            is_norm_cone(&row.set) && has_address(vars, &Address::root(Root::Variable, number))
+            row.set.is_norm_cone() && has_address(vars, &Address::root(Root::Variable, number))
         }
         UserFunc::Plain(_) | UserFunc::Affine(_) | UserFunc::AffineVec(_) => false,
     }

@@ -8,7 +8,6 @@ mod limits;
 mod marks;
 mod names_known;
 mod refusals;
-mod sets;
 mod shapes;
 mod twins;
 

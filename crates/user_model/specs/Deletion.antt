@@ -14,7 +14,7 @@ use Rattle.user_model.specs.declared.group.GroupVar.{GroupVar}
 use Rattle.user_model.specs.declared.row.Row.{Row}
 use Rattle.user_model.specs.declared.objective.Objective.{Objective}
 use Rattle.user_model.specs.declared.objective.Objective.TheVariants as objective
-use Rattle.user_model.specs.Sets.{resized}
+use Rattle.set_core.specs.Shapes.{resized}
 use Rattle.user_model.specs.Model.{ModelValue, has_variable, variable_address}
 
 -- the function without its term at the address

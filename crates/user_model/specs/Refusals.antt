@@ -17,7 +17,8 @@ use Rattle.user_model.specs.declared.objective.Objective.{Objective}
 use Rattle.user_model.specs.declared.objective.Objective.TheVariants as objective
 use Rattle.user_model.specs.declared.refusal.Refusal.{Refusal}
 use Rattle.user_model.specs.declared.refusal.Refusal.TheVariants.{UnknownName, NameTaken, FunctionShape, BadDimension, OutputIndex, BadInterval, LowerBoundAlreadySet, UpperBoundAlreadySet, SetTypeMismatch, DeleteNotAllowed, Full}
-use Rattle.user_model.specs.Sets.{has_bad_dimension, is_crossed, is_norm_cone, is_scalar_set, same_type, sets_lower, sets_upper}
+use Rattle.user_model.specs.Sets.{sets_lower, sets_upper}
+use Rattle.set_core.specs.Shapes.{has_bad_dimension, is_crossed, is_norm_cone, is_scalar, same_type}
 use Rattle.user_model.specs.Functions.{components, is_scalar_affine, is_scalar_function, is_scalar_named, is_vector_affine, mentioned, named_components, term_counts, term_count}
 use Rattle.user_model.specs.Model.{ModelValue, address_named, group_of, has_lower_bound, has_upper_bound, row_named, total_terms, variable_address, variable_named, variables}
 use Rattle.user_model.specs.Limits.{ALL_TERMS, COMPONENTS, LAST_NUMBER, ROWS, TERMS, VARIABLES}
@@ -124,8 +125,8 @@ abbrev pub differ : Bool → Bool → Bool
 differ scalar_function scalar_set = if scalar_function then not scalar_set else scalar_set
 
 abbrev pub meets_function_shape : ModelValue → Edit → Bool
-meets_function_shape model (edit.AddGroup names set) = is_scalar_set set && not (length names == 1)
-meets_function_shape model (edit.AddRow name func set) = differ (is_scalar_named func) (is_scalar_set set)
+meets_function_shape model (edit.AddGroup names set) = is_scalar set && not (length names == 1)
+meets_function_shape model (edit.AddRow name func set) = differ (is_scalar_named func) (is_scalar set)
 meets_function_shape model (edit.Objective sense func) = not (is_scalar_named func)
 meets_function_shape model edit.Feasibility = false
 meets_function_shape model (edit.Coef row var value) = row_is (λ r. not (is_scalar_affine r.func)) model row
@@ -134,9 +135,9 @@ meets_function_shape model (edit.ObjCoef var value) = not (is_affine_objective m
 meets_function_shape model (edit.Constant row value) = row_is (λ r. not (is_scalar_affine r.func)) model row
 meets_function_shape model (edit.VecConstant row output value) = row_is (λ r. not (is_vector_affine r.func)) model row
 meets_function_shape model (edit.ObjConstant value) = not (is_affine_objective model.objective)
-meets_function_shape model (edit.RowSet row set) = row_is (λ r. differ (is_scalar_function r.func) (is_scalar_set set)) model row
-meets_function_shape model (edit.Reset var set) = not (is_scalar_set set) || group_is (λ g. not (is_scalar_set g.set)) model var
-meets_function_shape model (edit.FreeGroup var) = group_is (λ g. not (is_scalar_set g.set)) model var
+meets_function_shape model (edit.RowSet row set) = row_is (λ r. differ (is_scalar_function r.func) (is_scalar set)) model row
+meets_function_shape model (edit.Reset var set) = not (is_scalar set) || group_is (λ g. not (is_scalar g.set)) model var
+meets_function_shape model (edit.FreeGroup var) = group_is (λ g. not (is_scalar g.set)) model var
 meets_function_shape model (edit.DeleteVariable var) = false
 meets_function_shape model (edit.DeleteRow row) = false
 meets_function_shape model (edit.RenameVariable old new) = false

@@ -7,18 +7,12 @@ use Rattle.set_core.specs.declared.set.Set.{Set}
 use Rattle.user_model.specs.declared.group.Group.{Group}
 use Rattle.user_model.specs.declared.objective.Objective.{Objective}
 use Rattle.user_model.specs.declared.row.Row.{Row}
-use Rattle.user_model.specs.Sets.{has_bad_dimension, is_crossed, is_scalar_set, sets_lower, sets_upper}
+use Rattle.user_model.specs.Sets.{sets_lower, sets_upper}
+use Rattle.set_core.specs.Shapes.{IsSetOf, is_scalar}
 use Rattle.user_model.specs.Functions.{components, func_mentions, is_scalar_function, term_counts}
 use Rattle.user_model.specs.Limits.{COMPONENTS, TERMS}
 use Rattle.user_model.specs.Model.{ModelValue, has_variable, is_variable, objective_mentions, objective_terms, variable_address}
 use Rattle.user_model.specs.Consistent.{IsConsistent, IsWithinLimits}
-
--- a set for functions of so many components: of numbers or of vectors, as the functions are, of their dimension, which is at
--- least 1 and for a norm cone at least 2, and no interval whose lower bound is above its upper bound
-pub record IsSetOf (is_scalar : Bool) (dimension : ℕ) (set : Set) : Type 0 where
-  pub shape : is_scalar_set set ≡ is_scalar
-  pub fits : has_bad_dimension set dimension ≡ false
-  pub ordered : is_crossed set ≡ false
 
 -- a variable of the groups stands at the address
 pub record Stands (groups : List Group) (at : Address) : Type 0 where
@@ -26,18 +20,19 @@ pub record Stands (groups : List Group) (at : Address) : Type 0 where
   pub address : at ≡ variable_address number
   pub group : IsSome (find (has_variable number) groups)
 
--- the creation set is one of numbers for one variable, or one of vectors of the variables' number
+-- the creation set is one for the variables, of which there are no more than there may be
 pub record IsValidGroup (group : Group) : Type 0 where
   pub limit : length group.vars ≤ COMPONENTS
-  pub set : IsSetOf (is_scalar_set group.set) (length group.vars) group.set
-  pub one : is_scalar_set group.set ≡ true → length group.vars ≡ 1
+  pub set : IsSetOf (length group.vars) group.set
 
--- the variables of the function stand, and the set is one for it
+-- the variables of the function stand, its components and terms are no more than they may be, and the set is one of numbers for
+-- a scalar function and of vectors for another, and for its components
 pub record IsValidRow (groups : List Group) (row : Row) : Type 0 where
   pub stand : (at : Address) → func_mentions at row.func ≡ true → Stands groups at
   pub limit : components row.func ≤ COMPONENTS
   pub terms : All (λ count. count ≤ TERMS) (term_counts row.func)
-  pub set : IsSetOf (is_scalar_function row.func) (components row.func) row.set
+  pub shape : is_scalar row.set ≡ is_scalar_function row.func
+  pub set : IsSetOf (components row.func) row.set
 
 pub record IsValidObjective (groups : List Group) (objective : Objective) : Type 0 where
   pub stand : (at : Address) → objective_mentions at objective ≡ true → Stands groups at
