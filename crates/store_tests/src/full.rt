@@ -52,12 +52,7 @@ fn add_groups(alloc: Global, model: &mut UserModel, count: u32) -> Result<(), Fa
     Ok(())
 }
 
-fn add_rows(
-    alloc: Global,
-    model: &mut UserModel,
-    count: u32,
-    components: u32,
-) -> Result<(), Fail> {
+fn add_rows(alloc: Global, model: &mut UserModel, count: u32, components: u32) -> Result<(), Fail> {
     for row in 0..count {
         model.apply(long_row(alloc, row, components)?)?;
     }

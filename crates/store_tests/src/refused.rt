@@ -85,11 +85,7 @@ const CASES: &[(Step, Refusal)] = &[
 ];
 
 /// Whether `check` and `apply` tell the refusal.
-pub(crate) fn is_told(
-    model: &mut UserModel,
-    edit: model_store::Edit,
-    refusal: Refusal,
-) -> bool {
+pub(crate) fn is_told(model: &mut UserModel, edit: model_store::Edit, refusal: Refusal) -> bool {
     let checked = model.check(&edit);
     let applied = model.apply(edit);
     checked == Err(refusal) && applied.err() == Some(ApplyFault::Refused(refusal))
