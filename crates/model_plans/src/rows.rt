@@ -91,7 +91,7 @@ fn scalar(
     let UserFunc::Affine(func) = &row.func else {
         unreachable!()
     };
-    match replaced(alloc, func, part, value)? {
+    match replaced(func, part, value)? {
         Some(func) => with_function(alloc, model, row, UserFunc::Affine(func)),
         None => Ok(Plan::unchanged(alloc, model.next())),
     }
@@ -151,7 +151,7 @@ fn vector(
     let Some(func) = funcs.get(place) else {
         unreachable!()
     };
-    match replaced(alloc, func, part, value)? {
+    match replaced(func, part, value)? {
         Some(func) => {
             let funcs = with_component(alloc, funcs.as_slice(), place, func)?;
             with_function(alloc, model, row, UserFunc::AffineVec(funcs))
