@@ -13,6 +13,7 @@ ghost use Rattle.model_plans.specs.Plans.{Accepts, IsChange, Leads, gone};
 use crate::lists::only;
 use crate::plan::Plan;
 use aff_core::{Address, Aff, Root, VecAff, has_address, without_address};
+use lists::Duplicate;
 use model_catalog::{Catalog, NameChange};
 use name_index::Name;
 use numbered::Change;

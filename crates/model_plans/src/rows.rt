@@ -9,6 +9,7 @@ use crate::lists::with_component;
 use crate::located::{address_named, located};
 use crate::parts::{Part, replaced};
 use crate::plan::Plan;
+use lists::Duplicate;
 use model_catalog::{Catalog, NameChange};
 use name_index::Name;
 use numbered::Change;
