@@ -11,10 +11,12 @@ use Rattle.bridge_graph.specs.Plan.{plan_at, cost_of}
 abbrev pub with_children : List Plan → ℕ → List ℕ → Option ℕ
 with_children plans total [] = Some total
 with_children plans total (kind ∷ kinds) =
-    option_and_then (λ cost. with_children plans (total + cost) kinds) (cost_of (plan_at plans kind))
+    option_and_then (λ cost. with_children plans (total + cost) kinds)
+    (cost_of (plan_at plans kind))
 
 -- the step settles an open kind by an edge that is on, whose children are settled
-pub record IsCandidate (edges : List EdgeRow) (costs : List ℕ) (on : List Bool) (plans : List Plan) (step : Step) : Type 0 where
+pub record IsCandidate (edges : List EdgeRow) (costs : List ℕ) (on : List Bool) (plans : List Plan)
+    (step : Step) : Type 0 where
   pub row : EdgeRow
   pub cost : ℕ
   pub usable : IsUsable edges costs on step.edge row cost
@@ -33,6 +35,7 @@ pub record ComesFirst (step other : Step) : Type 0 where
   pub lower : step.cost ≡ other.cost → step.edge ≤ other.edge
 
 -- a candidate that comes before every other
-pub record IsCheapest (edges : List EdgeRow) (costs : List ℕ) (on : List Bool) (plans : List Plan) (step : Step) : Type 0 where
+pub record IsCheapest (edges : List EdgeRow) (costs : List ℕ) (on : List Bool) (plans : List Plan)
+    (step : Step) : Type 0 where
   pub candidate : IsCandidate edges costs on plans step
   pub first : (other : Step) → IsCandidate edges costs on plans other → ComesFirst step other

@@ -11,7 +11,8 @@ pub record Hypergraph : Type 0 where
   pub on : List Bool
 
 abbrev pub hypergraph_of : List EdgeRow → List ℕ → List Bool → List Bool → Hypergraph
-hypergraph_of edges costs supported on = record { edges = edges; costs = costs; supported = supported; on = on }
+hypergraph_of edges costs supported on =
+    record { edges = edges; costs = costs; supported = supported; on = on }
 
 -- the kinds that an edge leads to, each as often as it is listed
 abbrev pub children_of : EdgeRow → List ℕ
@@ -21,14 +22,16 @@ abbrev pub IsSupported : Hypergraph → ℕ → Type 0
 IsSupported graph kind = slice_get graph.supported kind ≡ Some true
 
 -- the edge is on, with this row and this cost
-pub record IsUsable (edges : List EdgeRow) (costs : List ℕ) (on : List Bool) (edge : ℕ) (row : EdgeRow) (cost : ℕ) : Type 0 where
+pub record IsUsable (edges : List EdgeRow) (costs : List ℕ) (on : List Bool) (edge : ℕ)
+    (row : EdgeRow) (cost : ℕ) : Type 0 where
   pub is_on : slice_get on edge ≡ Some true
   pub row_is : slice_get edges edge ≡ Some row
   pub cost_is : slice_get costs edge ≡ Some cost
 
 -- the row lists at most three children, and its kinds are below n
 abbrev pub has_kinds_below : ℕ → EdgeRow → Bool
-has_kinds_below n row = nat_lt row.source n && nat_le row.count 3 && list_all (λ kind. nat_lt kind n) (children_of row)
+has_kinds_below n row =
+    nat_lt row.source n && nat_le row.count 3 && list_all (λ kind. nat_lt kind n) (children_of row)
 
 abbrev pub is_edge_cost : ℕ → Bool
 is_edge_cost cost = nat_le 1 cost && nat_le cost 1000

@@ -11,12 +11,15 @@ mutual
 
   -- a tree that begins with this edge from this kind: it costs what the edge costs, and its children's trees
   pub data TreeBy (graph : Hypergraph) : ℕ → ℕ → ℕ → Type 0 where
-    via : {edge cost children : ℕ} {row : EdgeRow} → IsUsable graph.edges graph.costs graph.on edge row cost → Trees graph (children_of row) children → TreeBy graph edge row.source (cost + children)
+    via : {edge cost children : ℕ} {row : EdgeRow}
+        → IsUsable graph.edges graph.costs graph.on edge row cost
+        → Trees graph (children_of row) children → TreeBy graph edge row.source (cost + children)
 
   -- one tree for each of the listed kinds, and the sum of their costs
   pub data Trees (graph : Hypergraph) : List ℕ → ℕ → Type 0 where
     none : Trees graph [] 0
-    each : {kind cost others : ℕ} {kinds : List ℕ} → Tree graph kind cost → Trees graph kinds others → Trees graph (kind ∷ kinds) (cost + others)
+    each : {kind cost others : ℕ} {kinds : List ℕ} → Tree graph kind cost → Trees graph kinds others
+        → Trees graph (kind ∷ kinds) (cost + others)
 
 -- the kind has no tree
 abbrev pub IsTreeless : Hypergraph → ℕ → Type 0
@@ -46,5 +49,5 @@ pub record CostsLess (graph : Hypergraph) (limit kind : ℕ) : Type 0 where
 -- each kind that the edge leads to costs less than the limit
 abbrev pub LeadsBelow : Hypergraph → ℕ → ℕ → Type 0
 LeadsBelow graph edge limit =
-    (row : EdgeRow) → slice_get graph.edges edge ≡ Some row → (child : ℕ) → Contains (children_of row) child
-    → CostsLess graph limit child
+    (row : EdgeRow) → slice_get graph.edges edge ≡ Some row
+    → (child : ℕ) → Contains (children_of row) child → CostsLess graph limit child

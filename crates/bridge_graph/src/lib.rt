@@ -97,8 +97,8 @@ impl<const K: usize, const E: usize> Graph<K, E> {
         ensures native { (result ≡ Choice.Native) ↔ IsSupported self.now kind }
         ensures by { (edge : ℕ) → ((result ≡ Choice.By edge) ↔ IsFirstEdge self.now kind edge) }
         ensures missing { (result ≡ Choice.Missing) ↔ IsTreeless self.now kind }
-        ensures cheaper { (edge cost : ℕ) → (result ≡ Choice.By edge) → IsLeastCost self.now kind cost
-            → LeadsBelow self.now edge cost }
+        ensures cheaper { (edge cost : ℕ) → (result ≡ Choice.By edge)
+            → IsLeastCost self.now kind cost → LeadsBelow self.now edge cost }
     {
         match self.plan(kind) {
             Plan::Open => Choice::Missing,

@@ -90,7 +90,8 @@ fn cheapest(edges: &[EdgeRow], costs: &[u32], on: &[bool], plans: &[Plan]) -> Op
     requires on { length on.now ≡ length edges.now }
     requires kinds { IsTrue (list_all (has_kinds_below (length plans.now)) edges.now) }
     requires within { AreWithin plans.now (2 ^ 120) }
-    ensures none { IsNone result → (step : Step) → IsCandidate edges.now costs.now on.now plans.now step → ⊥ }
+    ensures none { IsNone result → (step : Step)
+        → IsCandidate edges.now costs.now on.now plans.now step → ⊥ }
     ensures cheapest { IfSome result (IsCheapest edges.now costs.now on.now plans.now) }
     ensures kind { IfSome result (λ step. step.kind < length plans.now) }
 {

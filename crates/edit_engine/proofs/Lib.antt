@@ -1,4 +1,3 @@
-mod Backwards
 mod Counts
 mod Forms
 mod Located
@@ -7,5 +6,4 @@ mod Pushes
 mod RowTerms
 mod Splits
 mod Steps
-mod Sums
 mod Unrefused

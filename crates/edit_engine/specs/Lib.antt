@@ -1,5 +1,4 @@
 pub mod Leaves
-pub mod Made
 pub mod Model
 pub mod Name
 pub mod Numbered

@@ -1,8 +1,10 @@
 -- Things under names, and under numbers that rise and are never used again.
-use Rattle.std.specs.Prelude.{ℕ, ◌+◌, List, [], refl}
+use Rattle.std.specs.Prelude.{◌≡◌, ℕ, ◌+◌, ◌≤◌, false, is_some, List, [], refl}
 use Rattle.std.specs.Option.{option_map_or}
 use Rattle.std.specs.FinMap.{FinMap, empty, insert, remove, get, code}
 use Rattle.std.specs.Ordering.{nat_cmp}
+use Rattle.std.specs.BTreeMap.{is_at}
+use Rattle.std.specs.Map.{lookup}
 use Rattle.std.specs.Coded.{Coded, code_by, coded×, coded_ℕ, coded_list}
 use Rattle.edit_engine.specs.Name.{name_cmp}
 
@@ -29,3 +31,7 @@ without_item s name number = record { numbers = remove s.numbers name; items = r
 -- the name of a number
 abbrev pub name_of : {X : Type 0} → Numbered X → ℕ → List ℕ
 name_of s number = option_map_or (λ e. e.0) (get s.items number) []
+
+-- no number from here on has a thing
+abbrev pub IsFreeFrom : {X : Type 0} → ℕ → List (ℕ × X) → Type 0
+IsFreeFrom next es = (k : ℕ) → next ≤ k → is_some (lookup (is_at (nat_cmp k)) es) ≡ false

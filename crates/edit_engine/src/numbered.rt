@@ -21,8 +21,7 @@ pub struct Numbered<X> {
 
 impl<X> Model for Numbered<X> {
     ghost use Rattle.std.specs.FinMap.{from_entries};
-    ghost use Rattle.edit_engine.specs.Numbered.{Numbered, numbered_code};
-    ghost use Rattle.edit_engine.specs.Made.{IsFreeFrom};
+    ghost use Rattle.edit_engine.specs.Numbered.{IsFreeFrom, Numbered, numbered_code};
 
     ghost Value = { Numbered X };
 

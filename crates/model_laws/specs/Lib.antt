@@ -36,3 +36,4 @@ pub mod KeptParts
 pub mod ChangedRow
 pub mod KeptShapes
 pub mod KeptValid
+pub mod DistinctTerms

@@ -9,8 +9,10 @@ use Rattle.std.proofs.lemmas.List.Folds.{list_any-append}
 use Rattle.std.proofs.lemmas.List.Elements.{All-nil, All-cons, All-head, All-tail}
 use Rattle.ratio_core.specs.Rational.{Rational, rational_eq, zero_ℚ}
 use Rattle.aff_core.specs.Address.{Address, address_cmp, address_eq, address_eq-Decides, address_total}
-use Rattle.aff_core.specs.Function.{Function, function_of, gathered, is_nonzero, with_coefficient}
-use Rattle.map_laws.specs.EntryLaws.{is_sorted-filter}
+use Rattle.aff_core.specs.Function.{Function, gathered, with_coefficient}
+use Rattle.aff_core.specs.FunctionLaws.{entries_rise, terms-function_of, terms-with_coefficient}
+use Rattle.aff_core.specs.KeyOrder.{address_order}
+use Rattle.aff_core.specs.Terms.{is_nonzero}
 use Rattle.named_aff.specs.declared.aff.NamedAff.{NamedAff}
 use Rattle.named_aff.specs.declared.terms.NamedTerm.{NamedTerm}
 use Rattle.user_model.specs.declared.edit.NamedFunc.{NamedFunc}
@@ -49,20 +51,19 @@ found_before p q (t ∷ ts) e =
 
 -- a term of a function that is gathered is of one of the addresses
 gathered_term : (q : Address) (ts : List (Address × Rational)) (constant : Rational) → has_term q (gathered ts constant) ≡ true → is_some (finite.find address_cmp q ts) ≡ true
-unfolding gathered function_of
+unfolding gathered
 gathered_term q ts constant e =
     let all : FinMap address_cmp Rational = finite.from_entries ts in
-    let kept = filter is_nonzero (finite.entries all) in
-    let found = sym (ap is_some (finite.get-from_sorted address_cmp kept q (is_sorted-filter address_cmp is_nonzero (finite.entries all) (finite.entries_sorted all)))) ∙ e in
+    let is : finite.entries (gathered ts constant).terms ≡ filter is_nonzero (finite.entries all) = terms-function_of (finite.entries all) constant (entries_rise all) in
+    let found = sym (ap is_some (finite.get-entries (gathered ts constant).terms q ∙ ap (finite.find address_cmp q) is)) ∙ e in
     ap is_some (sym (finite.get-from_entries address_total ts q) ∙ finite.get-entries all q) ∙ found_before is_nonzero q (finite.entries all) found
 
 -- a term of a function with a coefficient set is of that address, or was there
 pub with_term : (f : Function) (at : Address) (value : Rational) (q : Address) → has_term q (with_coefficient f at value) ≡ true → (q ≡ at) ⊎ (has_term q f ≡ true)
-unfolding with_coefficient
 with_term f at value q e =
     elim (cases_Bool (address_eq q at)) [
       | inl same ↦ inl ((address_eq-Decides q at).0 same)
-      | inr other ↦ inr (by_value (rational_eq value zero_ℚ) other e)
+      | inr other ↦ inr (by_value (rational_eq value zero_ℚ) other (subst (λ m. is_some (finite.get m q) ≡ true) (terms-with_coefficient address_order f at value) e))
     ]
   where
     by_value : (b : Bool) → address_eq q at ≡ false → is_some (finite.get (cond b (finite.remove f.terms at) (finite.insert f.terms at value)) q) ≡ true → is_some (finite.get f.terms q) ≡ true
@@ -185,7 +186,6 @@ module _ (model : ModelValue) where
 -- ---- functions without a variable
 
 pub without_term_mentions : (at : Address) (f : Function) (q : Address) → has_term q (without_term at f) ≡ true → (q ≢ at) × (has_term q f ≡ true)
-unfolding with_coefficient
 without_term_mentions at f q e = (off, was)
   where
     off : q ≢ at

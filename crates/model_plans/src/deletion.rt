@@ -13,6 +13,7 @@ ghost use Rattle.model_plans.specs.Plans.{Accepts, IsChange, Leads, gone};
 use crate::lists::only;
 use crate::plan::Plan;
 use aff_core::{Address, Aff, Root, VecAff, has_address, without_address};
+use lists::Duplicate;
 use model_catalog::{Catalog, NameChange};
 use name_index::Name;
 use numbered::Change;
@@ -42,7 +43,7 @@ pub(crate) fn delete(alloc: Global, model: &Catalog, var: &Name) -> Result<Plan,
     let mut plan = Plan::of_group_change(alloc, change, listed, model.next())?;
     plan.exchange.rows = rows_without(alloc, model.rows(), &at)?;
     plan.names.rows = gone_rows(alloc, &plan.exchange.rows)?;
-    plan.exchange.objective = objective_without(alloc, model.objective(), &at)?;
+    plan.exchange.objective = objective_without(model.objective(), &at)?;
     Ok(plan)
 }
 
@@ -102,7 +103,7 @@ fn row_without(alloc: Global, row: &Row, at: &Address) -> Result<Option<Row>, Me
     match &row.func {
         UserFunc::Plain(_) => Ok(None),
         UserFunc::Affine(f) => {
-            let f = f.with_coef(alloc, at, Ratio::zero())?;
+            let f = f.with_coef(at, Ratio::zero())?;
             with_content(row, UserFunc::Affine(f), row.set.copy(alloc)?)
         }
         UserFunc::PlainVec(vars) => {
@@ -138,7 +139,7 @@ fn all_without(alloc: Global, funcs: &[Aff], at: &Address) -> Result<Vec<Aff>, M
 {
     let mut left = Vec::with_capacity(alloc, funcs.len())?;
     for f in funcs {
-        left.push(f.with_coef(alloc, at, Ratio::zero())?)?;
+        left.push(f.with_coef(at, Ratio::zero())?)?;
     }
     Ok(left)
 }
@@ -174,7 +175,6 @@ fn other_vars(alloc: Global, vars: &[GroupVar], number: u32) -> Result<Vec<Group
 
 // The objective without the variable, and none where it doesn't mention it.
 fn objective_without(
-    alloc: Global,
     objective: &Objective,
     at: &Address,
 ) -> Result<Option<Objective>, Memory>
@@ -194,7 +194,7 @@ fn objective_without(
             }
             Ok(Some(Objective::Affine {
                 sense: *sense,
-                func: func.with_coef(alloc, at, Ratio::zero())?,
+                func: func.with_coef(at, Ratio::zero())?,
             }))
         }
     }

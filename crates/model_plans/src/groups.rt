@@ -8,6 +8,7 @@ ghost use Rattle.model_plans.specs.Plans.{Accepts, Leads, listed_variables};
 
 use crate::lists::only;
 use crate::plan::Plan;
+use lists::Duplicate;
 use model_catalog::{Catalog, NameChange};
 use name_index::{Name, Names};
 use ratio_core::Memory;

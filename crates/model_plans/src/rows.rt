@@ -9,6 +9,7 @@ use crate::lists::with_component;
 use crate::located::{address_named, located};
 use crate::parts::{Part, replaced};
 use crate::plan::Plan;
+use lists::Duplicate;
 use model_catalog::{Catalog, NameChange};
 use name_index::Name;
 use numbered::Change;
@@ -91,7 +92,7 @@ fn scalar(
     let UserFunc::Affine(func) = &row.func else {
         unreachable!()
     };
-    match replaced(alloc, func, part, value)? {
+    match replaced(func, part, value)? {
         Some(func) => with_function(alloc, model, row, UserFunc::Affine(func)),
         None => Ok(Plan::unchanged(alloc, model.next())),
     }
@@ -151,7 +152,7 @@ fn vector(
     let Some(func) = funcs.get(place) else {
         unreachable!()
     };
-    match replaced(alloc, func, part, value)? {
+    match replaced(func, part, value)? {
         Some(func) => {
             let funcs = with_component(alloc, funcs.as_slice(), place, func)?;
             with_function(alloc, model, row, UserFunc::AffineVec(funcs))

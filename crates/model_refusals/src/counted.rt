@@ -7,8 +7,7 @@ ghost use Rattle.user_model.specs.Edited.{affine, changed_at, located};
 ghost use Rattle.user_model.specs.Functions.{named_components, term_count, term_counts};
 ghost use Rattle.user_model.specs.Limits as limits;
 ghost use Rattle.user_model.specs.Model.{ModelValue};
-ghost use Rattle.user_model.specs.Refusals.{first_of, full_at, within};
-ghost use Rattle.model_refusals.specs.WellFormed.{IsKnown};
+ghost use Rattle.user_model.specs.Refusals.{IsKnown, first_of, full_at, within};
 
 use crate::limits::TERMS;
 use aff_core::{Address, Aff};

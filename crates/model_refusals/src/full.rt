@@ -5,10 +5,10 @@ ghost use Rattle.user_model.specs.Consistent.{IsConsistent, IsWithinLimits};
 ghost use Rattle.user_model.specs.Functions.{term_count};
 ghost use Rattle.user_model.specs.Limits as limits;
 ghost use Rattle.user_model.specs.Model as models;
-ghost use Rattle.user_model.specs.Refusals.{counts, first_of, full_at};
+ghost use Rattle.user_model.specs.Refusals.{IsKnown, counts, first_of, full_at};
 ghost use Rattle.user_model.specs.declared.objective.Sense.{Sense};
 ghost use Rattle.set_core.specs.declared.set.Set.{Set};
-ghost use Rattle.model_refusals.specs.WellFormed.{IsKnown, IsWellFormed, with_change};
+ghost use Rattle.model_refusals.specs.WellFormed.{IsWellFormed, with_change};
 
 use crate::counted::{first_full_component, named_terms, terms_with, terms_within};
 use crate::limits::{ALL_TERMS, COMPONENTS, LAST_NUMBER, ROWS, TERMS, VARIABLES, first_passed};

@@ -19,7 +19,8 @@ abbrev pub rest_of : Held → Option (List ℕ) → Option (List ℕ)
 rest_of reader left = prepend_known reader.held left
 
 -- what was not yet given begins with this line and its newline, and then comes what is left to give
-pub record GivesLine (old : Held) (left : Option (List ℕ)) (new : Held) (left' : Option (List ℕ)) (line : List ℕ) : Type 0 where
+pub record GivesLine (old : Held) (left : Option (List ℕ)) (new : Held) (left' : Option (List ℕ))
+    (line : List ℕ) : Type 0 where
   pub raw : List ℕ
   pub unended : IsUnended raw
   pub stripped : line ≡ strip_carriage_return raw

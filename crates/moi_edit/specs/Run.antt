@@ -27,7 +27,8 @@ script_text bytes = answers start (lines bytes)
 -- the lines up to their end, or through the first that ends the work
 abbrev pub heard : State → List (List ℕ) → List (List ℕ)
 heard s [] = []
-heard s (line ∷ more) = line ∷ (if is_quit (answer_to s line) then [] else heard (state_after s line) more)
+heard s (line ∷ more) =
+    line ∷ (if is_quit (answer_to s line) then [] else heard (state_after s line) more)
 
 -- whether a line that ends the work is in the text with its newline
 abbrev pub has_quit : List ℕ → Bool
@@ -58,7 +59,8 @@ pub record AnswersTaken (bytes : List ℕ) (left old new : Option (List ℕ)) : 
 
 -- the answers of all lines that end within the limit were written, up to the first that is too long
 abbrev pub AnswersWithinLimits : List ℕ → Option (List ℕ) → Option (List ℕ) → Type 0
-AnswersWithinLimits bytes old new = Adds old new (answers start (take_while is_short (ended_lines (take input_limit bytes))))
+AnswersWithinLimits bytes old new =
+    Adds old new (answers start (take_while is_short (ended_lines (take input_limit bytes))))
 
 -- no fault is counted between two counts, which stand short of the last
 abbrev pub IsSound : ℕ → ℕ → Type 0

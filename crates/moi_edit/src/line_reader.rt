@@ -68,7 +68,8 @@ impl Model for LineReader {
 
     ghost view = { λ r. record { held = drop r.start (take r.end r.buffer.items); room = r.room } };
 
-    ghost invariant = { λ r. (r.start ≤ r.end) × (r.end ≤ length r.buffer.items) × (0 < length r.buffer.items) };
+    ghost invariant = { λ r. (r.start ≤ r.end) × (r.end ≤ length r.buffer.items)
+        × (0 < length r.buffer.items) };
 }
 
 impl LineReader {
@@ -90,7 +91,8 @@ impl LineReader {
     /// Moves what is held of the line, and returns whether its newline was held too.
     fn move_held(&mut self, line: &mut Vec<u8>) -> Result<bool, AllocError>
         ensures ended { result ≡ Ok true → (piece : List ℕ) × IsUnended piece
-            × (self.old.held ≡ piece ++ 10 ∷ self.new.held) × (line.new.items ≡ line.old.items ++ piece) }
+            × (self.old.held ≡ piece ++ 10 ∷ self.new.held)
+            × (line.new.items ≡ line.old.items ++ piece) }
         ensures unended { result ≡ Ok false → IsUnended self.old.held
             × (self.new.held ≡ []) × (line.new.items ≡ line.old.items ++ self.old.held) }
         ensures room { self.new.room ≡ self.old.room }
@@ -115,7 +117,8 @@ impl LineReader {
         requires { self.old.held ≡ [] }
         ensures more { result ≡ Ok true → Takes (I.left input.old) (I.left input.new) self.new.held
             × (0 < length self.new.held) × (allowance self.new ≡ allowance self.old) }
-        ensures end { result ≡ Ok false → IsAtEnd (I.left input.old) × (I.left input.new ≡ I.left input.old) }
+        ensures end { result ≡ Ok false → IsAtEnd (I.left input.old)
+            × (I.left input.new ≡ I.left input.old) }
         ensures read_fault { result ≡ Err ReadStop.ReadFault → (I.left input.new ≡ I.left input.old)
             × HasFaulted (I.faults input.old) (I.faults input.new) }
         ensures too_long { result ≡ Err ReadStop.TooLong → (self.old.room ≡ 0)
@@ -141,11 +144,15 @@ impl LineReader {
         input: &mut I,
         line: &mut Vec<u8>,
     ) -> Result<Next, ReadStop>
-        ensures line { result ≡ Ok Next.Line → GivesLine self.old (I.left input.old) self.new (I.left input.new) line.new.items }
-        ensures last_line { result ≡ Ok Next.LastLine → GivesLastLine self.old (I.left input.old) (I.left input.new) line.new.items }
-        ensures end { result ≡ Ok Next.End → GivesNothing self.old (I.left input.old) (I.left input.new) }
+        ensures line { result ≡ Ok Next.Line
+            → GivesLine self.old (I.left input.old) self.new (I.left input.new) line.new.items }
+        ensures last_line { result ≡ Ok Next.LastLine
+            → GivesLastLine self.old (I.left input.old) (I.left input.new) line.new.items }
+        ensures end { result ≡ Ok Next.End
+            → GivesNothing self.old (I.left input.old) (I.left input.new) }
 
-        ensures read_fault { result ≡ Err ReadStop.ReadFault → LosesPart self.old (I.left input.old) (I.left input.new)
+        ensures read_fault { result ≡ Err ReadStop.ReadFault
+            → LosesPart self.old (I.left input.old) (I.left input.new)
             × HasFaulted (I.faults input.old) (I.faults input.new) }
         ensures too_long { result ≡ Err ReadStop.TooLong
             → IfSome (rest_of self.old (I.left input.old)) (IsTooLong (allowance self.old)) }
@@ -174,9 +181,11 @@ fn read_front<I: Source>(input: &mut I, buffer: &mut [u8], most: usize) -> Resul
     requires some { 0 < most }
     requires room { most ≤ length buffer.old }
     ensures within { IfOk result (λ n. n ≤ most) }
-    ensures taken { IfOk result (λ n. Takes (I.left input.old) (I.left input.new) (take n buffer.new)) }
+    ensures taken { IfOk result (λ n.
+        Takes (I.left input.old) (I.left input.new) (take n buffer.new)) }
     ensures end { IfOk result (λ n. n ≡ 0 → IsAtEnd (I.left input.old)) }
-    ensures read_fault { OnErr result ((I.left input.new ≡ I.left input.old) × HasFaulted (I.faults input.old) (I.faults input.new)) }
+    ensures read_fault { OnErr result ((I.left input.new ≡ I.left input.old)
+        × HasFaulted (I.faults input.old) (I.faults input.new)) }
     ensures only_read_fault { IfErr result (λ stop. stop ≡ ReadStop.ReadFault) }
     ensures count { I.faults input.old ≤ I.faults input.new }
 {
@@ -188,10 +197,12 @@ fn read_front<I: Source>(input: &mut I, buffer: &mut [u8], most: usize) -> Resul
 
 /// Tries one byte behind the greatest length of the input. False at the end of the input.
 fn probe<I: Source>(input: &mut I) -> Result<bool, ReadStop>
-    ensures end { IfOk result (λ more. (more ≡ false) × IsAtEnd (I.left input.old) × (I.left input.new ≡ I.left input.old)) }
+    ensures end { IfOk result (λ more. (more ≡ false) × IsAtEnd (I.left input.old)
+        × (I.left input.new ≡ I.left input.old)) }
     ensures read_fault { result ≡ Err ReadStop.ReadFault → (I.left input.new ≡ I.left input.old)
         × HasFaulted (I.faults input.old) (I.faults input.new) }
-    ensures too_long { result ≡ Err ReadStop.TooLong → IfSome (I.left input.old) (λ left. 0 < length left) }
+    ensures too_long { result ≡ Err ReadStop.TooLong
+        → IfSome (I.left input.old) (λ left. 0 < length left) }
     ensures no_memory { result ≢ Err ReadStop.Memory }
     ensures count { I.faults input.old ≤ I.faults input.new }
 {

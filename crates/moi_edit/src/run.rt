@@ -30,9 +30,12 @@ fn answer_line<O: Sink>(
 ) -> Result<Reply, SinkFault>
     ensures reply { IfOk result (λ reply. reply ≡ reply_of (answer_to session.old line.now)) }
     ensures state { OnOk result (session.new ≡ state_after session.old line.now) }
-    ensures written { OnOk result (Adds (O.written output.old) (O.written output.new) (printed (answer_to session.old line.now))) }
-    ensures prefix { OnErr result (AddsPrefix (O.written output.old) (O.written output.new) (printed (answer_to session.old line.now))) }
-    ensures cause { IsErrOf result SinkFault.Failed → HasFaulted (O.faults output.old) (O.faults output.new) }
+    ensures written { OnOk result (Adds (O.written output.old) (O.written output.new)
+        (printed (answer_to session.old line.now))) }
+    ensures prefix { OnErr result (AddsPrefix (O.written output.old) (O.written output.new)
+        (printed (answer_to session.old line.now))) }
+    ensures cause { IsErrOf result SinkFault.Failed
+        → HasFaulted (O.faults output.old) (O.faults output.new) }
     ensures count { O.faults output.old ≤ O.faults output.new }
 {
     match session.line(line) {
@@ -93,9 +96,12 @@ fn answer_lines<I: Source, O: Sink>(
 ) -> Status
     requires held { reader.old.held ≡ [] }
     requires room { reader.old.room ≡ input_limit }
-    ensures outcome { IfSome (I.left input.old) (λ bytes. Outcome result bytes (I.left input.new) (O.written output.old) (O.written output.new)) }
-    ensures prefix { IfSome (I.left input.old) (λ bytes. AddsPrefix (O.written output.old) (O.written output.new) (script_text bytes)) }
-    ensures cause { HasCause result (I.faults input.old) (I.faults input.new) (O.faults output.old) (O.faults output.new) }
+    ensures outcome { IfSome (I.left input.old) (λ bytes.
+        Outcome result bytes (I.left input.new) (O.written output.old) (O.written output.new)) }
+    ensures prefix { IfSome (I.left input.old) (λ bytes.
+        AddsPrefix (O.written output.old) (O.written output.new) (script_text bytes)) }
+    ensures cause { HasCause result (I.faults input.old) (I.faults input.new)
+        (O.faults output.old) (O.faults output.new) }
     ensures not_usage { result ≢ Status.Usage }
 {
     let mut session = Session::new(alloc);
@@ -133,12 +139,14 @@ pub fn run<I: Source, O: Sink>(
 ) -> Status
     // Nothing is read or written at other words than those of the command.
     ensures usage { (result ≡ Status.Usage) ↔ (¬ IsRunOnLess words.now) }
-    ensures untouched { result ≡ Status.Usage → (input.new ≡ input.old) × (output.new ≡ output.old) }
+    ensures untouched { result ≡ Status.Usage
+        → (input.new ≡ input.old) × (output.new ≡ output.old) }
 
     // Once the work ended, the text of the script was written.
     ensures text { IsEnded result → IfSome (I.left input.old) (λ bytes.
         Adds (O.written output.old) (O.written output.new) (script_text bytes)) }
-    ensures to_the_end { IsEnded result → IfSome (I.left input.old) (λ bytes. IsReadToEnd bytes (I.left input.new)) }
+    ensures to_the_end { IsEnded result → IfSome (I.left input.old) (λ bytes.
+        IsReadToEnd bytes (I.left input.new)) }
     ensures within_limits { IsEnded result → IfSome (I.left input.old) IsWithinLimits }
     ensures refused { IsEnded result → IfSome (I.left input.old) (λ bytes.
         (result ≡ Status.SomeRefused) ↔ IsTrue (any_refused start (lines bytes))) }
@@ -147,17 +155,20 @@ pub fn run<I: Source, O: Sink>(
     ensures prefix { IfSome (I.left input.old) (λ bytes.
         AddsPrefix (O.written output.old) (O.written output.new) (script_text bytes)) }
 
-    ensures read_fault { result ≡ Status.ReadFault → HasFaulted (I.faults input.old) (I.faults input.new) }
+    ensures read_fault { result ≡ Status.ReadFault
+        → HasFaulted (I.faults input.old) (I.faults input.new) }
     ensures answers_at_read_fault { result ≡ Status.ReadFault → IfSome (I.left input.old) (λ bytes.
         AnswersTaken bytes (I.left input.new) (O.written output.old) (O.written output.new)) }
-    ensures write_fault { result ≡ Status.WriteFault → HasFaulted (O.faults output.old) (O.faults output.new) }
+    ensures write_fault { result ≡ Status.WriteFault
+        → HasFaulted (O.faults output.old) (O.faults output.new) }
     ensures too_long { result ≡ Status.TooLong → IfSome (I.left input.old) PassesLimit }
     ensures answers_at_limit { result ≡ Status.TooLong → IfSome (I.left input.old) (λ bytes.
         AnswersWithinLimits bytes (O.written output.old) (O.written output.new)) }
 
     // With nothing against it, the work ends, unless memory runs out.
     ensures complete { IsRunOnLess words.now → IsSome (I.left input.old)
-        → IsSound (I.faults input.old) (I.faults input.new) → IsSound (O.faults output.old) (O.faults output.new)
+        → IsSound (I.faults input.old) (I.faults input.new)
+        → IsSound (O.faults output.old) (O.faults output.new)
         → IfSome (I.left input.old) IsWithinLimits → IsEnded result ⊎ (result ≡ Status.Memory) }
 {
     if !is_run_on_less(words) {

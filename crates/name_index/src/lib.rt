@@ -2,15 +2,17 @@
 #![tactic(auto)]
 
 mod name;
-mod names;
 mod table;
-mod text;
 
+pub use lists::Memory;
 pub use name::{Name, NameFault};
-pub use names::Names;
-pub use ratio_core::Memory;
 pub use table::NameTable;
-pub use text::Text;
+
+/// Names in a row.
+pub type Names = lists::Sequence<Name>;
+
+/// Text as bytes.
+pub type Text = lists::Sequence<u8>;
 
 #[cfg(test)]
 mod tests;

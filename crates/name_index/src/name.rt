@@ -7,6 +7,7 @@ ghost use Rattle.std.specs.Cmp.{partial_equiv_from_equiv};
 ghost use Rattle.name_index.specs.Escape.{escaped, percent_decoded};
 
 use crate::{Memory, Text};
+use lists::Duplicate;
 use percent_encoding::{AsciiSet, CONTROLS, ascii_set, percent_decode, utf8_percent_encode};
 use std::alloc::{AllocError, Global};
 use std::hash::{Hash, Hasher};
@@ -116,14 +117,12 @@ impl Name {
     {
         let mut token = String::new(*self.text.allocator());
         utf8_percent_encode(self.text(), ESCAPED).append_to(&mut token)?;
-        Ok(Text::from(token.into_bytes()))
+        Ok(Text::from_vec(token.into_bytes()))
     }
+}
 
-    /// An equal name in memory of its own.
-    pub fn copy(&self) -> Result<Name, Memory>
-        ensures value { IfOk result (λ name. name ≡ self.now) }
-        ensures is_name { IsName self.now }
-    {
+impl Duplicate for Name {
+    fn copy(&self) -> Result<Name, Memory> {
         let text = String::from_str(*self.text.allocator(), self.text())?;
         Ok(Name { text })
     }

@@ -1,10 +1,11 @@
 //! Terms by name, in the order of first mention.
-ghost use Rattle.std.specs.Prelude.{◌≡◌, ◌↔◌, [], ◌∷◌, ◌++◌, length, slice_get, IsTrue, IfOk, IfErr, OnOk, OnErr};
+ghost use Rattle.std.specs.Prelude.{◌≡◌, ◌↔◌, [], ◌∷◌, ◌++◌, length, slice_get, IsTrue, IfErr, OnOk, OnErr};
 ghost use Rattle.std.specs.Option.{option_copied};
 ghost use Rattle.named_aff.specs.Distinct.{HasDistinctNames};
 
+use lists::{Duplicate, Memory, Sequence};
 use name_index::Name;
-use ratio_core::{Memory, Ratio};
+use ratio_core::Ratio;
 use std::alloc::Global;
 use std::marker::Model;
 
@@ -15,11 +16,8 @@ pub struct NamedTerm {
     pub coefficient: Ratio,
 }
 
-impl NamedTerm {
-    /// An equal term in memory of its own.
-    pub fn copy(&self) -> Result<NamedTerm, Memory>
-        ensures { IfOk result (λ term. term ≡ self.now) }
-    {
+impl Duplicate for NamedTerm {
+    fn copy(&self) -> Result<NamedTerm, Memory> {
         let variable = self.variable.copy()?;
         Ok(NamedTerm {
             variable,
@@ -31,7 +29,7 @@ impl NamedTerm {
 /// Terms of distinct variables in the order of their first mention, which contracts see as the list of them.
 #[derive(Debug, Drop)]
 pub struct NamedTerms {
-    items: Vec<NamedTerm>,
+    items: Sequence<NamedTerm>,
 }
 
 impl Model for NamedTerms {
@@ -41,9 +39,9 @@ impl Model for NamedTerms {
 
     ghost Value = { List NamedTerm };
 
-    ghost view = { λ terms. terms.items.items };
+    ghost view = { λ terms. terms.items };
 
-    ghost invariant = { λ terms. HasDistinctNames terms.items.items };
+    ghost invariant = { λ terms. HasDistinctNames terms.items };
 }
 
 impl NamedTerms {
@@ -52,7 +50,7 @@ impl NamedTerms {
         ensures { result ≡ [] }
     {
         NamedTerms {
-            items: Vec::new(alloc),
+            items: Sequence::new(alloc),
         }
     }
 
@@ -63,10 +61,7 @@ impl NamedTerms {
         ensures err { OnErr result (self.new ≡ self.old) }
         ensures handed_back { IfErr result (λ refused. refused.0 ≡ term) }
     {
-        match self.items.push(term) {
-            Ok(()) => Ok(()),
-            Err(full) => Err((full.value, Memory)),
-        }
+        self.items.push(term)
     }
 
     /// How many terms there are.
@@ -95,25 +90,14 @@ impl NamedTerms {
         ensures value { result.now ≡ self.now }
         ensures distinct { HasDistinctNames self.now }
     {
-        &self.items
-    }
-
-    /// Equal terms in memory of their own.
-    pub fn copy(&self, alloc: Global) -> Result<NamedTerms, Memory>
-        ensures { IfOk result (λ terms. terms ≡ self.now) }
-    {
-        let items = copy_each(alloc, &self.items)?;
-        Ok(NamedTerms { items })
+        self.items.as_slice()
     }
 }
 
-// Each term copied.
-fn copy_each(alloc: Global, terms: &[NamedTerm]) -> Result<Vec<NamedTerm>, Memory>
-    ensures { IfOk result (λ copies. copies.items ≡ terms.now) }
-{
-    let mut copies = Vec::with_capacity(alloc, terms.len())?;
-    for term in terms {
-        copies.push(term.copy()?)?;
+impl Duplicate for NamedTerms {
+    fn copy(&self) -> Result<NamedTerms, Memory> {
+        Ok(NamedTerms {
+            items: self.items.copy()?,
+        })
     }
-    Ok(copies)
 }

@@ -1,10 +1,10 @@
 -- The state of a run of exchanges, and one more of them.
-use Rattle.std.specs.Prelude.{◌≡◌, ℕ, ◌+◌, ◌<◌, ◌≤◌, ◌&&◌, cond, List, [], ◌∷◌, ◌++◌, Option, Some, None, IsSome, IsNone, is_some, map, length, take, drop, slice_index_or, refl}
+use Rattle.std.specs.Prelude.{◌≡◌, ℕ, ◌+◌, ◌<◌, ◌≤◌, ◌&&◌, cond, List, [], ◌∷◌, Option, Some, None, IsSome, IsNone, is_some, length, drop, slice_index_or, refl}
 use Rattle.std.specs.Option.{is_none}
 use Rattle.std.proofs.Math.ListN.{set}
 use Rattle.std.proofs.Common.{arith, sym, ap, subst, ◌∙◌}
-use Rattle.std.proofs.lemmas.List.{drop_more, drop_all, take_all, get_or_at, get_or_default, append-nil, length-append, length-map, length-take-le, length-drop}
-use Rattle.std.proofs.lemmas.List.Edits.{map_over_more}
+use Rattle.std.proofs.lemmas.List.{drop_more, drop_all}
+use Rattle.map_laws.specs.LoopLaws.{IsPast, past_none, as_it_was, past_more, past_all}
 use Rattle.numbered.specs.declared.change.Change.{Change}
 use Rattle.numbered.specs.Numbered.{Rise, IsAt, find, set_at}
 use Rattle.numbered.specs.Changes.{changed_number, AreChanges, set_all, old, olds, added}
@@ -17,30 +17,19 @@ module _ {X : Type 0} (number_of : X → ℕ) where
   pub record SoFar (start now : List X) (changes left : List (Change X)) (i capacity least : ℕ) : Type 0 where
     pub rest : set_all number_of (drop i changes) now ≡ set_all number_of changes start
     pub still : olds number_of (drop i changes) now ≡ olds number_of (drop i changes) start
-    pub past : left ≡ map (old number_of start) (take i changes) ++ drop i changes
+    pub past : IsPast (old number_of start) changes left i
     pub rising : Rise number_of now
     pub are : AreChanges number_of (drop i changes)
     pub fits : length now + added number_of (drop i changes) now ≤ capacity
     pub grown : least ≤ capacity
 
   pub at_start : (start : List X) (changes : List (Change X)) (room : ℕ) → Rise number_of start → AreChanges number_of changes → length start + added number_of changes start ≤ room → SoFar start start changes changes 0 room room
-  at_start start changes room rise are enough = record { rest = refl; still = refl; past = refl; rising = rise; are = are; fits = enough; grown = omega arith }
+  at_start start changes room rise are enough = record { rest = refl; still = refl; past = past_none (old number_of start) changes; rising = rise; are = are; fits = enough; grown = omega arith }
 
   room_for : (new was : Option X) (n more capacity : ℕ) → n + (cond (is_some new && is_none was) 1 0 + more) ≤ capacity → IsSome new → IsNone was → n < capacity
   room_for None was n more capacity h some none = cc
   room_for (Some x) (Some y) n more capacity h some none = cc
   room_for (Some x) None n more capacity h some none = omega arith
-
-  -- the change that is next, as it stands in the list
-  pub as_it_was : (start : List X) (changes left : List (Change X)) (i : ℕ) (d : Change X) → i < length changes → left ≡ map (old number_of start) (take i changes) ++ drop i changes → slice_index_or left i d ≡ slice_index_or changes i d
-  as_it_was start changes left i d lt past =
-      let done = map (old number_of start) (take i changes) in
-      let long : length done ≡ i = length-map (take i changes) (old number_of start) ∙ length-take-le i changes (omega arith) in
-      ap (λ cs. slice_index_or cs i d) (past ∙ ap (λ cs. done ++ cs) (drop_more changes i d lt)) ∙ get_or_at done (slice_index_or changes i d) (drop (i + 1) changes) d i long
-
-  as_long : (start : List X) (changes left : List (Change X)) (i : ℕ) → i < length changes → left ≡ map (old number_of start) (take i changes) ++ drop i changes → i < length left
-  as_long start changes left i lt past =
-      omega (arith, ap length past, length-append (map (old number_of start) (take i changes)) (drop i changes), length-map (take i changes) (old number_of start), length-take-le i changes (omega arith), length-drop i changes)
 
   -- what the next change may rest on
   pub record Next (now : List X) (change : Change X) (capacity : ℕ) : Type 0 where
@@ -54,7 +43,7 @@ module _ {X : Type 0} (number_of : X → ℕ) where
   pub next : (start now : List X) (changes left : List (Change X)) (i capacity least : ℕ) (d : Change X) → SoFar start now changes left i capacity least → i < length changes → Next now (slice_index_or left i d) capacity
   next start now changes left i capacity least d so_far lt =
       let split = drop_more changes i d lt in
-      subst (λ c. Next now c capacity) (sym (as_it_was start changes left i d lt so_far.past))
+      subst (λ c. Next now c capacity) (sym (as_it_was (old number_of start) changes left i d lt so_far.past))
       (first_of now (slice_index_or changes i d) (drop (i + 1) changes) capacity (subst (AreChanges number_of) split so_far.are) (subst (λ cs. length now + added number_of cs now ≤ capacity) split so_far.fits))
 
   -- the state after the first of the changes that are left
@@ -101,7 +90,7 @@ module _ {X : Type 0} (number_of : X → ℕ) where
       let split = drop_more changes i d lt in
       let x = slice_index_or left i d in
       let c = slice_index_or changes i d in
-      let read : x ≡ c = as_it_was start changes left i d lt so_far.past in
+      let read : x ≡ c = as_it_was (old number_of start) changes left i d lt so_far.past in
       let step = stepped start now c (drop (i + 1) changes) capacity (set_all number_of changes start)
       (subst (λ cs. set_all number_of cs now ≡ set_all number_of changes start) split so_far.rest)
       (subst (λ cs. olds number_of cs now ≡ olds number_of cs start) split so_far.still)
@@ -110,11 +99,10 @@ module _ {X : Type 0} (number_of : X → ℕ) where
       (subst (λ cs. length now + added number_of cs now ≤ capacity) split so_far.fits) in
       let became : after ≡ set_at number_of c.number c.content now = is ∙ (ap (λ o. set_at number_of x.number o now) content ∙ ap (λ (y : Change X). set_at number_of y.number y.content now) read) in
       let found : was ≡ find number_of x.number start = before ∙ (ap (λ (y : Change X). find number_of y.number now) read ∙ (step.found ∙ sym (ap (λ (y : Change X). find number_of y.number start) read))) in
-      let itself = get_or_default left i d x (as_long start changes left i lt so_far.past) in
       record {
         rest = ap (set_all number_of (drop (i + 1) changes)) became ∙ step.gives;
         still = ap (olds number_of (drop (i + 1) changes)) became ∙ step.still;
-        past = ap (λ o. let given : Change X = record { number = x.number; content = o } in set left i given) found ∙ map_over_more (old number_of start) changes left i x lt so_far.past itself;
+        past = past_more (old number_of start) changes left i d (record { number = x.number; content = was }) lt so_far.past (ap (λ o. let given : Change X = record { number = x.number; content = o } in given) found);
         rising = subst (Rise number_of) (sym became) step.rising;
         are = step.are;
         fits = omega (arith, step.fits, ap length became, ap (added number_of (drop (i + 1) changes)) became);
@@ -131,7 +119,7 @@ module _ {X : Type 0} (number_of : X → ℕ) where
   done start now changes left i capacity least so_far end rise are enough =
       let nothing = drop_all i changes end in
       let gave : now ≡ set_all number_of changes start = subst (λ cs. set_all number_of cs now ≡ set_all number_of changes start) nothing so_far.rest in
-      let before : left ≡ olds number_of changes start = so_far.past ∙ rw (nothing, take_all i changes end) (append-nil (olds number_of changes start)) in
+      let before = past_all (old number_of start) changes left i end so_far.past in
       let back = room_back number_of changes start are rise in
       record {
         before = before;

@@ -1,5 +1,6 @@
 pub mod Answers
 pub mod Membership
+pub mod Mirrored
 pub mod ShapeLaws
 pub mod Shapes
 pub mod Vectors

@@ -1,10 +1,11 @@
 -- When a set is one of so many components: the tests that refuse one that isn't, and what is left when components go.
 use Rattle.std.specs.Prelude.{◌≡◌, ◌↔◌, ℕ, ◌<◌, ◌≤◌, nat_lt, Bool, true, false, ◌||◌, not, ◌==◌, List, length, filter, refl}
-use Rattle.std.proofs.Common.{sym, ap, ◌∙◌, arith, subst, true≢false}
+use Rattle.std.proofs.Common.{sym, arith, is_lt, subst, true≢false}
 use Rattle.std.proofs.lemmas.Bool.Decides.{nat_tests}
 use Rattle.std.proofs.lemmas.List.Sums.{count_by-le-length, length-filter}
-use Rattle.ratio_core.specs.Rational.{Rational, ◌≤ℚ◌}
-use Rattle.rational_laws.specs.Tests.{ge_from_failed}
+use Rattle.ratio_core.specs.Rational.{Rational, rational_cmp, ◌≤ℚ◌}
+use Rattle.rational_laws.specs.Order.{not_‹ℚ_from_≤ℚ}
+use Rattle.rational_laws.specs.Tests.{ge_from_failed, lt_from_test}
 use Rattle.set_core.specs.declared.set.Set.{Set}
 use Rattle.set_core.specs.declared.set.Set.TheVariants.{LessThan, GreaterThan, EqualTo, Interval, Reals, Zeros, Nonnegatives, Nonpositives, NormInfinityCone, NormOneCone}
 use Rattle.set_core.specs.Shapes.{IsSetOf, dimension_of, has_bad_dimension, is_crossed, is_norm_cone, is_scalar, least_dimension, resized, shrunk}
@@ -12,6 +13,13 @@ use Rattle.set_core.specs.Shapes.{IsSetOf, dimension_of, has_bad_dimension, is_c
 -- the bounds of an interval that isn't crossed are in order
 pub in_order : (l u : Rational) → is_crossed (Interval l u) ≡ false → l ≤ℚ u
 in_order l u h = ge_from_failed u l h
+
+pub not_crossed : (l u : Rational) → l ≤ℚ u → is_crossed (Interval l u) ≡ false
+not_crossed l u h = test_fails (is_lt (rational_cmp u l)) (λ t. not_‹ℚ_from_≤ℚ l u h (lt_from_test u l t))
+  where
+    test_fails : (b : Bool) → ¬ (b ≡ true) → b ≡ false
+    test_fails true h = absurd (h refl)
+    test_fails false h = refl
 
 -- ---- the refusals
 

@@ -1,78 +1,54 @@
--- The dual of a cone is exactly what has a nonnegative product with each of its vectors, and is a cone itself.
-use Rattle.std.specs.Prelude.{◌≡◌, ℕ, ◌<◌, List, length, refl}
-use Rattle.std.proofs.Common.{sym, ◌∙◌, subst}
+-- The dual of a cone is exactly what has no negative product with a vector of the cone, and is a cone itself.
+use Rattle.std.specs.Prelude.{◌≡◌, ◌↔◌, ℕ, false, List, length, refl}
+use Rattle.std.proofs.Common.{◌∙◌, subst, true≢false}
 use Rattle.ratio_core.specs.Rational.{Rational, one_ℚ, zero_ℚ, ◌≤ℚ◌}
+use Rattle.rational_laws.specs.Dot.{dot}
 use Rattle.rational_laws.specs.Order.{nonpos_neg, ≤ℚ_refl}
 use Rattle.set_core.specs.declared.set.Set.{Set}
 use Rattle.set_core.specs.declared.set.Set.TheVariants.{LessThan, GreaterThan, EqualTo, Interval, Reals, Zeros, Nonnegatives, Nonpositives, NormInfinityCone, NormOneCone}
-use Rattle.set_core.specs.Membership.{Dual, HasLength, In}
-use Rattle.set_laws.specs.Product.{dot}
+use Rattle.set_core.specs.Membership.{Dual, In, dual_of, low_of}
+use Rattle.set_core.specs.Shapes.{IsSetOf, is_scalar}
+use Rattle.set_laws.specs.Least.{low_least}
 use Rattle.set_laws.specs.Units.{each_dominated, nonneg_units, nonpos_units, one_nonneg, sum_dominated, zero_units}
 
-abbrev pub IsCone : Set → Type 0
-IsCone (LessThan u) = ⊥
-IsCone (GreaterThan l) = ⊥
-IsCone (EqualTo a) = ⊥
-IsCone (Interval l u) = ⊥
-IsCone (Reals n) = Unit {0}
-IsCone (Zeros n) = Unit {0}
-IsCone (Nonnegatives n) = Unit {0}
-IsCone (Nonpositives n) = Unit {0}
-IsCone (NormInfinityCone n) = Unit {0}
-IsCone (NormOneCone n) = Unit {0}
+-- w has a nonnegative product with each vector of its length in the set
+abbrev pub WeighsNonnegative : Set → List Rational → Type 0
+WeighsNonnegative set w = (v : List Rational) → length v ≡ length w → In set v → zero_ℚ ≤ℚ dot w v
 
-filled : (set : Set) (w v : List Rational) → HasLength set w → length v ≡ length w → HasLength set v
-filled set w v a e = record { same = e ∙ a.same; first = a.first }
+-- what has no negative product is a dual, whatever the cone's dimension
+pub dual_from_products : (set : Set) (w : List Rational) → is_scalar set ≡ false → WeighsNonnegative set w → Dual set w
+dual_from_products (LessThan u) w c h = absurd (true≢false c)
+dual_from_products (GreaterThan l) w c h = absurd (true≢false c)
+dual_from_products (EqualTo x) w c h = absurd (true≢false c)
+dual_from_products (Interval l u) w c h = absurd (true≢false c)
+dual_from_products (Reals n) w c h = zero_units w (λ v e. h v e tt)
+dual_from_products (Zeros n) w c h = tt
+dual_from_products (Nonnegatives n) w c h = nonneg_units (λ x. zero_ℚ ≤ℚ x) (≤ℚ_refl zero_ℚ) one_nonneg w h
+dual_from_products (Nonpositives n) w c h = nonpos_units (λ x. x ≤ℚ zero_ℚ) (≤ℚ_refl zero_ℚ) (nonpos_neg one_ℚ one_nonneg) w h
+dual_from_products (NormInfinityCone n) w c h = sum_dominated w h
+dual_from_products (NormOneCone n) w c h = each_dominated w h
 
-above_none : (n m : ℕ) → m ≡ n → 0 < n → 0 < m
-above_none n m e h = subst (λ k. 0 < k) (sym e) h
+cone_low : (set : Set) (w : List Rational) → is_scalar set ≡ false → low_of set w ≡ zero_ℚ
+cone_low (LessThan u) w c = absurd (true≢false c)
+cone_low (GreaterThan l) w c = absurd (true≢false c)
+cone_low (EqualTo x) w c = absurd (true≢false c)
+cone_low (Interval l u) w c = absurd (true≢false c)
+cone_low _ w c = refl
 
-pub dual_least : (set : Set) (w : List Rational) → IsCone set → HasLength set w → ((v : List Rational) → HasLength set v → In set v → zero_ℚ ≤ℚ dot w v) → Dual set w
-dual_least (LessThan u) w c a h = absurd c
-dual_least (GreaterThan l) w c a h = absurd c
-dual_least (EqualTo x) w c a h = absurd c
-dual_least (Interval l u) w c a h = absurd c
-dual_least (Reals n) w c a h = zero_units w (λ v e. h v (filled (Reals n) w v a e) tt)
-dual_least (Zeros n) w c a h = tt
-dual_least (Nonnegatives n) w c a h = nonneg_units (λ x. zero_ℚ ≤ℚ x) (≤ℚ_refl zero_ℚ) one_nonneg w (λ v e i. h v (filled (Nonnegatives n) w v a e) i)
-dual_least (Nonpositives n) w c a h = nonpos_units (λ x. x ≤ℚ zero_ℚ) (≤ℚ_refl zero_ℚ) (nonpos_neg one_ℚ one_nonneg) w (λ v e i. h v (filled (Nonpositives n) w v a e) i)
-dual_least (NormInfinityCone n) w c a h = sum_dominated w (above_none n (length w) a.same a.first) (λ v e i. h v (filled (NormInfinityCone n) w v a e) i)
-dual_least (NormOneCone n) w c a h = each_dominated w (above_none n (length w) a.same a.first) (λ v e i. h v (filled (NormOneCone n) w v a e) i)
-
--- the set that the dual of a cone is; a scalar set stays
-abbrev pub dual_cone : Set → Set
-dual_cone (LessThan u) = LessThan u
-dual_cone (GreaterThan l) = GreaterThan l
-dual_cone (EqualTo x) = EqualTo x
-dual_cone (Interval l u) = Interval l u
-dual_cone (Reals n) = Zeros n
-dual_cone (Zeros n) = Reals n
-dual_cone (Nonnegatives n) = Nonnegatives n
-dual_cone (Nonpositives n) = Nonpositives n
-dual_cone (NormInfinityCone n) = NormOneCone n
-dual_cone (NormOneCone n) = NormInfinityCone n
-
-pub dual_is : (set : Set) (w : List Rational) → IsCone set → Dual set w ≡ In (dual_cone set) w
-dual_is (LessThan u) w c = absurd c
-dual_is (GreaterThan l) w c = absurd c
-dual_is (EqualTo x) w c = absurd c
-dual_is (Interval l u) w c = absurd c
-dual_is (Reals n) w c = refl
-dual_is (Zeros n) w c = refl
-dual_is (Nonnegatives n) w c = refl
-dual_is (Nonpositives n) w c = refl
-dual_is (NormInfinityCone n) w c = refl
-dual_is (NormOneCone n) w c = refl
+-- for a cone of its components, each implies the other
+pub dual_exactly : (n : ℕ) (set : Set) (w : List Rational) → IsSetOf n set → is_scalar set ≡ false → length w ≡ n → Dual set w ↔ WeighsNonnegative set w
+dual_exactly n set w s c a =
+    (λ d v e i. subst (λ q. q ≤ℚ dot w v) (cone_low set w c) (low_least n set w v s a (e ∙ a) i d), dual_from_products set w c)
 
 -- a cone is the dual of its dual
-pub dual_cone-dual_cone : (set : Set) → dual_cone (dual_cone set) ≡ set
-dual_cone-dual_cone (LessThan u) = refl
-dual_cone-dual_cone (GreaterThan l) = refl
-dual_cone-dual_cone (EqualTo x) = refl
-dual_cone-dual_cone (Interval l u) = refl
-dual_cone-dual_cone (Reals n) = refl
-dual_cone-dual_cone (Zeros n) = refl
-dual_cone-dual_cone (Nonnegatives n) = refl
-dual_cone-dual_cone (Nonpositives n) = refl
-dual_cone-dual_cone (NormInfinityCone n) = refl
-dual_cone-dual_cone (NormOneCone n) = refl
+pub dual_of-dual_of : (set : Set) → is_scalar set ≡ false → dual_of (dual_of set) ≡ set
+dual_of-dual_of (LessThan u) c = absurd (true≢false c)
+dual_of-dual_of (GreaterThan l) c = absurd (true≢false c)
+dual_of-dual_of (EqualTo x) c = absurd (true≢false c)
+dual_of-dual_of (Interval l u) c = absurd (true≢false c)
+dual_of-dual_of (Reals n) c = refl
+dual_of-dual_of (Zeros n) c = refl
+dual_of-dual_of (Nonnegatives n) c = refl
+dual_of-dual_of (Nonpositives n) c = refl
+dual_of-dual_of (NormInfinityCone n) c = refl
+dual_of-dual_of (NormOneCone n) c = refl

@@ -1,8 +1,7 @@
-pub mod Product
-pub mod Bounds
+pub mod Norms
 pub mod Least
-pub mod Recession
-pub mod Rays
+pub mod Multiples
 pub mod Units
 pub mod Cones
+pub mod Mirrors
 pub mod Lone

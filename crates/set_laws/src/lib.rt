@@ -1,3 +1,3 @@
-// Sets and their duals: that the least product is least, that a recession keeps its set, and which cones are each other's
-// dual. It has no code: its files in specs/ are what other crates cite.
+// Sets and their duals: that the least product is least and reached, what leads nowhere out of a set, what the dual of a cone is,
+// and what negation does to a set. It has no code: its files in specs/ are what other crates cite.
 #![tactic(auto)]

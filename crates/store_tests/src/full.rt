@@ -21,7 +21,7 @@ fn numbered_group(alloc: Global, first: u32, count: u32) -> Result<Edit, Fail> {
         names.push(Name::new(alloc, &text)?)?;
     }
     Ok(Edit::AddGroup {
-        names: Names::from(names),
+        names: Names::from_vec(names),
         set: Set::Nonnegatives { dimension: count },
     })
 }

@@ -87,7 +87,7 @@ fn names(alloc: Global, texts: &[&str]) -> Result<Names, Fail> {
     for text in texts {
         names.push(Name::new(alloc, text)?)?;
     }
-    Ok(Names::from(names))
+    Ok(Names::from_vec(names))
 }
 
 // One term.

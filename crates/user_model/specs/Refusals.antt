@@ -1,5 +1,5 @@
 -- Which refusal an edit meets: the first whose test holds, in this order.
-use Rattle.std.specs.Prelude.{ℕ, ◌+◌, ◌-◌, Bool, true, false, ◌&&◌, ◌||◌, not, ◌==◌, nat_lt, if◌then◌else◌, List, [], ◌∷◌, ◌++◌, length, map, Option, Some, None, is_some}
+use Rattle.std.specs.Prelude.{◌≡◌, ℕ, ◌+◌, ◌-◌, Bool, true, false, ◌&&◌, ◌||◌, not, ◌==◌, nat_lt, if◌then◌else◌, List, [], ◌∷◌, ◌++◌, length, map, Option, Some, None, is_some}
 use Rattle.std.specs.List.{list_any, list_all}
 use Rattle.std.specs.Option.{option_map_or, is_none}
 use Rattle.std.specs.Str.{bytes_eq}
@@ -77,6 +77,10 @@ abbrev pub meets_unknown_name : ModelValue → Edit → Bool
 meets_unknown_name model e =
     list_any (λ name. not (has_variable_named model name)) (needed_variables e)
     || option_map_or (λ name. not (has_row_named model name)) (needed_row e) false
+
+-- the variables of the function stand in the model
+pub record IsKnown (model : ModelValue) (func : NamedFunc) : Type 0 where
+  pub known : list_any (λ name. not (has_variable_named model name)) (mentioned func) ≡ false
 
 -- ---- 3: new names
 

@@ -1,9 +1,8 @@
 -- Models that differ in nothing but the numbers of their groups, variables and rows.
 use Rattle.std.specs.Prelude.{◌≡◌, ℕ, nat_lt, List, map, count_by, refl, [], ◌∷◌}
-use Rattle.std.specs.FinMap as finite
 use Rattle.ratio_core.specs.Rational.{zero_ℚ}
 use Rattle.aff_core.specs.Address.{Address}
-use Rattle.aff_core.specs.Function.{Function, terms_of}
+use Rattle.aff_core.specs.Function.{Function, function_of, terms_of}
 use Rattle.set_core.specs.declared.set.Set.TheVariants.{GreaterThan, Reals}
 use Rattle.user_model.specs.declared.function.UserFunc.{UserFunc}
 use Rattle.user_model.specs.declared.function.UserFunc.TheVariants.{Plain, Affine, PlainVec, AffineVec}
@@ -27,7 +26,7 @@ module _ (vars : List ℕ) where
   address_by_position at = variable_address (position vars at.number)
 
   abbrev pub affine_by_position : Function → Function
-  affine_by_position f = record f { terms = finite.from_sorted (map (λ t. (address_by_position t.0, t.1)) (terms_of f)) }
+  affine_by_position f = function_of (map (λ t. (address_by_position t.0, t.1)) (terms_of f)) f.constant
 
   abbrev pub function_by_position : UserFunc → UserFunc
   function_by_position (Plain var) = Plain (address_by_position var)

@@ -3,6 +3,7 @@ ghost use Rattle.std.specs.Prelude.{◌≡◌, IfOk};
 ghost use Rattle.user_model.specs.declared.edit.Edit.TheVariants.{AddGroup, AddRow, Objective, Coef, VecCoef, ObjCoef, Constant, VecConstant, RowSet, Reset, RenameVariable, RenameRow};
 
 use crate::{Edit, NamedFunc, Sense};
+use lists::Duplicate;
 use name_index::{Name, Names};
 use ratio_core::{Memory, Ratio};
 use set_core::Set;

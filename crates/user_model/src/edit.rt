@@ -2,6 +2,7 @@
 ghost use Rattle.std.specs.Prelude.{◌≡◌, IfOk};
 
 use crate::{Sense, copies};
+use lists::Duplicate;
 use name_index::{Name, Names};
 use named_aff::{NamedAff, NamedVec};
 use ratio_core::{Memory, Ratio};
@@ -109,9 +110,9 @@ impl NamedFunc {
     {
         Ok(match self {
             NamedFunc::Plain(var) => NamedFunc::Plain(var.copy()?),
-            NamedFunc::Affine(func) => NamedFunc::Affine(func.copy(alloc)?),
+            NamedFunc::Affine(func) => NamedFunc::Affine(func.copy()?),
             NamedFunc::PlainVec(vars) => NamedFunc::PlainVec(vars.copy()?),
-            NamedFunc::AffineVec(funcs) => NamedFunc::AffineVec(funcs.copy(alloc)?),
+            NamedFunc::AffineVec(funcs) => NamedFunc::AffineVec(funcs.copy()?),
         })
     }
 }

@@ -2,6 +2,7 @@
 ghost use Rattle.std.specs.Prelude.{◌≡◌, IfOk};
 
 use aff_core::Sequence;
+use lists::Duplicate;
 use name_index::Name;
 use numbered::HasNumber;
 use ratio_core::Memory;

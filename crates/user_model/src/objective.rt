@@ -2,6 +2,7 @@
 ghost use Rattle.std.specs.Prelude.{◌≡◌, IfOk};
 
 use aff_core::{Address, Aff};
+use lists::Duplicate;
 use ratio_core::Memory;
 use std::alloc::Global;
 
@@ -25,7 +26,7 @@ pub enum Objective {
 
 impl Objective {
     /// An equal objective in memory of its own.
-    pub fn copy(&self, alloc: Global) -> Result<Objective, Memory>
+    pub fn copy(&self, _alloc: Global) -> Result<Objective, Memory>
         ensures { IfOk result (λ objective. objective ≡ self.now) }
     {
         Ok(match self {
@@ -36,7 +37,7 @@ impl Objective {
             },
             Objective::Affine { sense, func } => Objective::Affine {
                 sense: *sense,
-                func: func.copy(alloc)?,
+                func: func.copy()?,
             },
         })
     }

@@ -2,7 +2,7 @@ use Rattle.std.proofs.Common.{◌≡◌, ◌+◌, count_by, sym, ap, ◌∙◌, 
 use Rattle.std.specs.FinMap.{from_entries}
 use Rattle.aff_core.specs.Address.{address_cmp, address_total}
 use Rattle.edit_engine.specs.Leaves.{is_changed, is_new}
-use Rattle.edit_engine.specs.Made.{entries_made}
+use Rattle.map_laws.specs.MadeLaws.{entries_made}
 use Rattle.edit_engine.proofs.leaves.differences.Goals as goal
 
 pub returns : goal.returns

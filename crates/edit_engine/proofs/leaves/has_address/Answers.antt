@@ -1,7 +1,7 @@
 use Rattle.std.proofs.Common.{sym, ap, ◌∙◌}
 use Rattle.std.specs.Option.{is_some}
 use Rattle.aff_core.specs.Address.{address_total}
-use Rattle.edit_engine.specs.Made.{get_made}
+use Rattle.map_laws.specs.MadeLaws.{get_made}
 use Rattle.edit_engine.proofs.leaves.has_address.Goals as goal
 
 pub returns : goal.returns

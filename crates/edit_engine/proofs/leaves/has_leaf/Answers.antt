@@ -1,7 +1,7 @@
 use Rattle.std.proofs.Common.{false, sym, ap, ◌∙◌}
 use Rattle.std.specs.Option.{option_map_or}
 use Rattle.aff_core.specs.Address.{address_total}
-use Rattle.edit_engine.specs.Made.{get_made}
+use Rattle.map_laws.specs.MadeLaws.{get_made}
 use Rattle.edit_engine.proofs.leaves.has_leaf.Goals as goal
 
 pub returns-in-Some : goal.returns-in-Some

@@ -5,8 +5,8 @@ use Rattle.std.specs.Cmp.{nat_cmp_total}
 use Rattle.aff_core.specs.Address.{address_total, exact_addresses}
 use Rattle.edit_engine.specs.declared.row.Domain.{Domain}
 use Rattle.edit_engine.specs.Leaves.{variable_leaf}
-use Rattle.edit_engine.specs.Made.{one_given, entries_made}
-use Rattle.edit_engine.proofs.Backwards.{taken_more, taken_all}
+use Rattle.map_laws.specs.MadeLaws.{one_given, entries_made}
+use Rattle.map_laws.specs.LoopLaws.{taken_more, taken_all}
 use Rattle.edit_engine.proofs.leaves.variable_leaves.Goals as goal
 
 pub loop-number-init : goal.loop-number-init

@@ -1,6 +1,6 @@
 use Rattle.std.proofs.Common.{◌∙◌, ◌++◌, flat_map, ap, sym}
 use Rattle.aff_core.specs.Address.{address_total}
-use Rattle.edit_engine.specs.Made.{entries_made}
+use Rattle.map_laws.specs.MadeLaws.{entries_made}
 use Rattle.edit_engine.specs.Printed.{row_line}
 use Rattle.edit_engine.proofs.Pushes.{pushed_more, pushed_all}
 use Rattle.edit_engine.proofs.printed.push_rows.Goals as goal

@@ -5,7 +5,7 @@ use Rattle.std.proofs.lemmas.Iterator.Consumers.{YieldsList-at, YieldsList-from_
 use Rattle.std.proofs.lemmas.List.{map-id}
 use Rattle.ratio_core.specs.Rational.{Rational}
 use Rattle.aff_core.specs.Address.{Address, address_total}
-use Rattle.edit_engine.specs.Made.{entries_made}
+use Rattle.map_laws.specs.MadeLaws.{entries_made}
 use Rattle.edit_engine.proofs.row_function.in_order.Goals as goal
 
 pub returns : goal.returns

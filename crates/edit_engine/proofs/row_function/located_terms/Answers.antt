@@ -3,8 +3,8 @@ use Rattle.std.proofs.lemmas.List.{append-nil, nil_from_length}
 use Rattle.std.specs.FinMap.{from_entries, insert}
 use Rattle.aff_core.specs.Address.{address_total, exact_addresses}
 use Rattle.edit_engine.specs.Model.{variable_address, located_terms, known_terms}
-use Rattle.edit_engine.specs.Made.{one_given}
-use Rattle.edit_engine.proofs.Backwards.{taken_more, taken_all}
+use Rattle.map_laws.specs.MadeLaws.{one_given}
+use Rattle.map_laws.specs.LoopLaws.{taken_more, taken_all}
 use Rattle.edit_engine.proofs.Located.{known_terms_without, known_terms_there, names_unknown_more, number_found}
 use Rattle.edit_engine.proofs.row_function.located_terms.Goals as goal
 

@@ -18,5 +18,5 @@ returns c =
     let model = c.args.model.now.model in
     let next = c.next-next.ensures in
     let func : c.in_ok-located.field-0 ≡ located model c.args.func.now = c.in_ok-located.ensures in
-    let name = c.in_ok-copy.ensures.value in
+    let name = c.in_ok-copy.ensures in
     IfOk-weaker c.of_row.result _ _ (λ plan p. added_leads model plan c.args.name (located model c.args.func.now) c.args.set c.requires.consistent (parts_same p [] _ _ [] _ refl (λ i. record { number = (next i).row; content = Some (record { id = (next i).row; name = c.name.view_is i; func = func i; set = c.args.set }) } ∷ []) (λ i. record { group = (next i).group; variable = (next i).variable; row = (next i).row + 1 }) refl (ap (λ l. l ∷ []) c.new-listed.ensures ∙ (λ i. listed_as (next i).row (Some (name i)) ∷ [])))) c.of_row.ensures

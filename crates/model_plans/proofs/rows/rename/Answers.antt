@@ -20,7 +20,7 @@ unfolding edited
 returns c =
     let model = c.args.model.now.model in
     let free = (passed model (edit.RenameRow c.args.old.now c.args.new) c.requires.accepted).free in
-    let listed_name = c.in_ok-copy.ensures.value in
+    let listed_name = c.in_ok-copy.ensures in
     let func : c.in_ok-copy-2.field-0 ≡ c.in-Some.row.now.func = c.in_ok-copy-2.ensures in
     let set : c.in_ok-copy-3.field-0 ≡ c.in-Some.row.now.set = c.in_ok-copy-3.ensures in
     IfOk-weaker c.of_row.result _ _ (λ plan p. renamed_leads model plan c.requires.consistent c.args.old.now c.in-Some.row.now (sym c.in-Some.ensures) c.args.new free (parts_same p [] _ _ [] _ refl (λ i. record { number = c.in-Some.row.now.id; content = Some (record { id = c.in-Some.row.now.id; name = c.new.view_is i; func = func i; set = set i }) } ∷ []) c.next.ensures refl (ap (λ l. l ∷ []) c.new-listed.ensures ∙ (λ i. listed_as c.in-Some.row.now.id (Some (listed_name i)) ∷ [])))) c.of_row.ensures

@@ -28,6 +28,6 @@ unfolding edited
 returns c =
     let model = c.args.model.now.model in
     let other = subst (λ b. MatchBool b (c.in-Some.row.now.set ≡ c.args.set) (c.in-Some.row.now.set ≢ c.args.set)) (sym c.eq.ensures ∙ c.if-eq.false) (same_sets c.in-Some.row.now.set c.args.set) in
-    let name = c.in_ok-copy.ensures.value in
+    let name = c.in_ok-copy.ensures in
     let func : c.in_ok-copy-2.field-0 ≡ c.in-Some.row.now.func = c.in_ok-copy-2.ensures in
     IfOk-weaker c.of_row.result _ _ (λ plan p. set_new model plan c.requires.consistent c.args.row.now c.in-Some.row.now (sym c.in-Some.ensures) c.args.set other (parts_same p [] _ _ [] [] refl (λ i. record { number = c.in-Some.row.now.id; content = Some (record { id = c.in-Some.row.now.id; name = name i; func = func i; set = c.args.set }) } ∷ []) c.next-2.ensures refl refl)) c.of_row.ensures

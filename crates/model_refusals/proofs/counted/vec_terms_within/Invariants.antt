@@ -5,8 +5,7 @@ use Rattle.user_model.specs.Edited.{affine}
 use Rattle.user_model.specs.Functions.{term_count}
 use Rattle.user_model.specs.Limits.{TERMS}
 use Rattle.user_model.specs.Model.{ModelValue}
-use Rattle.user_model.specs.Refusals.{within}
-use Rattle.model_refusals.specs.WellFormed.{IsKnown}
+use Rattle.user_model.specs.Refusals.{IsKnown, within}
 use Rattle.model_refusals.proofs.Firsts.{first_full}
 use Rattle.model_refusals.proofs.counted.vec_terms_within.Given as goal
 

@@ -10,7 +10,7 @@ loop-place-init c = at_start c.args.names.now _
 
 pub returns-then-stands_before : goal.returns-then-stands_before
 returns-then-stands_before c =
-    twin_found c.args.names.now c.loop-place.place c.in-Some.name.now c.loop-place.marks (sym c.in-Some.ensures.value) c.loop-place.invariant (sym c.stands_before.ensures ∙ c.if-stands_before.true)
+    twin_found c.args.names.now c.loop-place.place c.in-Some.name.now c.loop-place.marks (sym c.in-Some.ensures) c.loop-place.invariant (sym c.stands_before.ensures ∙ c.if-stands_before.true)
 
 pub loop-place-preserved : goal.loop-place-preserved
 loop-place-preserved c =
@@ -20,7 +20,7 @@ loop-place-preserved c =
     elim c.match-get.branch [
       | in-Some+else-has w ↦
           let name = w.in-Some.name.now in
-          let here = sym w.in-Some.ensures.value in
+          let here = sym w.in-Some.ensures in
           let hash = w.hash_of-hash.ensures in
           let unseen : is_seen names place name ≡ false = elim w.else-has.branch [
             | else-has-via-then-has+else-stands_before v ↦ sym v.stands_before.ensures ∙ v.if-stands_before.false
@@ -28,7 +28,7 @@ loop-place-preserved c =
           ] in
           one_more names place name marks here c.loop-place.invariant c.match-get.marks unseen
           (λ n. ap (λ m. is_marked m n) w.marks-is ∙ (w.put.ensures n ∙ ap (λ h. (n == h) || is_marked marks n) hash))
-      | in_default w ↦ absurd (none_past place names (sym w.in_default.ensures.value) (omega arith))
+      | in_default w ↦ absurd (none_past place names (sym w.in_default.ensures) (omega arith))
     ]
 
 pub returns : goal.returns

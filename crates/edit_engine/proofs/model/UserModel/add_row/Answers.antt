@@ -5,7 +5,7 @@ use Rattle.edit_engine.specs.Model.{term_count}
 use Rattle.edit_engine.specs.Numbered.{Numbered}
 use Rattle.edit_engine.specs.Refusals.{named_row_refusal}
 use Rattle.edit_engine.specs.declared.row.Row.{Row}
-use Rattle.edit_engine.proofs.Sums.{sum_inserted}
+use Rattle.map_laws.specs.SumLaws.{sum_inserted}
 use Rattle.edit_engine.proofs.Unrefused.{terms_within}
 use Rattle.edit_engine.proofs.model.UserModel.add_row.Goals as goal
 

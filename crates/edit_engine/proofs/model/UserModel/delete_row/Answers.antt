@@ -4,7 +4,7 @@ use Rattle.std.specs.Cmp.{nat_cmp_total}
 use Rattle.edit_engine.specs.Model.{term_count}
 use Rattle.edit_engine.specs.Numbered.{Numbered}
 use Rattle.edit_engine.specs.declared.row.Row.{Row}
-use Rattle.edit_engine.proofs.Sums.{sum_removed, taken_in_vain}
+use Rattle.map_laws.specs.SumLaws.{sum_removed, taken_in_vain}
 use Rattle.edit_engine.proofs.model.UserModel.delete_row.Goals as goal
 
 pub overflow_sub-self : goal.overflow_sub-self

@@ -1,7 +1,7 @@
 use Rattle.std.proofs.Common.{sum_by, sym, ap, ◌∙◌, arith}
 use Rattle.std.specs.FinMap.{entries}
 use Rattle.std.specs.Ordering.{nat_cmp}
-use Rattle.edit_engine.specs.Made.{entries_empty}
+use Rattle.map_laws.specs.MadeLaws.{entries_empty}
 use Rattle.edit_engine.specs.Model.{term_count}
 use Rattle.edit_engine.specs.Numbered.{Numbered}
 use Rattle.edit_engine.specs.declared.row.Row.{Row}

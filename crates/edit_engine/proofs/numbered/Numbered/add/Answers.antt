@@ -3,7 +3,9 @@ use Rattle.std.specs.Prelude.{Result, Ok, Err}
 use Rattle.std.specs.Result.{is_err, OnOk, OnErr}
 use Rattle.std.specs.FinMap.{nat_cmp-IsAntisymmetric, insert, get, from_entries}
 use Rattle.std.specs.Cmp.{nat_cmp_total}
-use Rattle.edit_engine.specs.Made.{one_given, put_back, get_made, none_by, IsFreeFrom}
+use Rattle.map_laws.specs.MadeLaws.{one_given, put_back, get_made}
+use Rattle.map_laws.specs.OptionLaws.{none_of}
+use Rattle.edit_engine.specs.Numbered.{IsFreeFrom}
 use Rattle.edit_engine.specs.Name.{name_cmp_total, name_cmp_exact}
 use Rattle.edit_engine.specs.Numbered.{Numbered, with_item}
 use Rattle.edit_engine.proofs.numbered.Numbered.add.Goals as goal
@@ -18,7 +20,7 @@ on_err_holds (Err x) e h = h
 
 is_unused : {X : Type 0} (now : Numbered X) (items : List (ℕ × (List ℕ × X))) (next : ℕ) → from_entries items ≡ now.items → next ≡ now.next → IsFreeFrom next items → get now.items now.next ≡ None
 is_unused now items next items_are next_is free =
-    sym (λ i. get (items_are i) (next_is i)) ∙ (get_made nat_cmp_total items next ∙ sym (none_by _ (free next (omega arith))))
+    sym (λ i. get (items_are i) (next_is i)) ∙ (get_made nat_cmp_total items next ∙ (none_of _ (free next (omega arith))))
 
 pub returns-then-is_err-clause-err : goal.returns-then-is_err-clause-err
 returns-then-is_err-clause-err g c =

@@ -1,7 +1,7 @@
 use Rattle.std.proofs.Common.{sym, ap, ◌∙◌, length}
 use Rattle.std.specs.FinMap.{len, len-entries, from_entries}
 use Rattle.std.specs.Cmp.{nat_cmp_total}
-use Rattle.edit_engine.specs.Made.{entries_made}
+use Rattle.map_laws.specs.MadeLaws.{entries_made}
 use Rattle.edit_engine.proofs.numbered.Numbered.len.Goals as goal
 
 pub returns-clause-value : goal.returns-clause-value

@@ -1,7 +1,7 @@
 use Rattle.std.proofs.Common.{sym, ap, ◌∙◌}
 use Rattle.std.specs.FinMap.{get}
 use Rattle.edit_engine.specs.Name.{name_cmp_total}
-use Rattle.edit_engine.specs.Made.{get_made}
+use Rattle.map_laws.specs.MadeLaws.{get_made}
 use Rattle.edit_engine.proofs.numbered.Numbered.number.Goals as goal
 
 pub returns : goal.returns

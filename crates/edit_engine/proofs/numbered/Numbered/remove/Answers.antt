@@ -2,7 +2,7 @@ use Rattle.std.proofs.Common.{ap, sym, ◌∙◌}
 use Rattle.std.specs.FinMap.{get, nat_cmp-IsAntisymmetric}
 use Rattle.std.specs.Cmp.{nat_cmp_total}
 use Rattle.edit_engine.specs.Name.{name_cmp_total, name_cmp_exact}
-use Rattle.edit_engine.specs.Made.{one_removed, get_made}
+use Rattle.map_laws.specs.MadeLaws.{one_removed, get_made}
 use Rattle.edit_engine.specs.Numbered.{without_item}
 use Rattle.edit_engine.proofs.numbered.Numbered.remove.Goals as goal
 

@@ -5,7 +5,7 @@ use Rattle.name_index.proofs.name.Name.escape.Goals as goal
 pub returns-clause-value : goal.returns-clause-value
 returns-clause-value c =
     rw (
-      c.from.ensures,
+      c.from_vec.ensures,
       c.into_bytes.ensures.value,
       c.in_ok-append_to.ensures.ok,
       c.new-token.ensures.bytes,
