@@ -1,11 +1,8 @@
-pub mod Answered
-pub mod Changed
-pub mod Coefficients
-pub mod Entries
-pub mod Kept
-pub mod KeptMaps
-pub mod Merging
+mod Answered
+mod Changed
+mod KeptMaps
 mod Padding
-pub mod Rising
-pub mod Steps
-pub mod Values
+mod Rising
+mod Steps
+mod Summing
+mod Values

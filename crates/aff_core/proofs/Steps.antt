@@ -1,86 +1,86 @@
 -- Products of terms added one after another, step by step.
-use Rattle.std.specs.Prelude.{◌≡◌, List, [], ◌∷◌, refl}
+use Rattle.std.specs.Prelude.{◌≡◌, List, [], ◌∷◌, All, refl}
 use Rattle.std.proofs.Common.{sym, ap, subst, ◌∙◌}
 use Rattle.std.proofs.lemmas.List.Elements.{All-cons, All-head, All-tail, All-nil}
 use Rattle.std.specs.FinMap.{FinMap, get}
+use Rattle.std.specs.declared.cmp.Ordering.{Ordering}
 use Rattle.ratio_core.specs.Rational.{Rational, ◌*ℚ◌, Fits}
-use Rattle.aff_core.specs.Address.{Address, address_cmp}
-use Rattle.aff_core.specs.Arithmetic.{times, TimesFit, TermsFit, MeetsFit, added_terms, added_at, substituted, SubstitutionFits, plus_times, PlusTimesFits, StepFits}
-use Rattle.aff_core.specs.Function.{Function, terms_of}
-
-abbrev Sums : Type 0
-Sums = FinMap address_cmp Rational
-
-abbrev pub as_function : Sums → Rational → Function
-as_function m k = record { terms = m; constant = k }
+use Rattle.aff_core.specs.Arithmetic.{TermsFit, MeetsFit, added_terms, added_at, substituted}
+use Rattle.aff_core.specs.ArithmeticLaws.{added_terms-append}
+use Rattle.aff_core.specs.Function.{FunctionOver, terms_of}
+use Rattle.aff_core.specs.Terms.{TimesFit, times}
+use Rattle.aff_core.proofs.Summing.{TermsFit-append, TermsFit-parts}
 
 -- the products with c of what is left, added to the sums so far, are as those of all
-pub record AddsAsAll (c : Rational) (start sums : Sums) (ts rest : List (Address × Rational)) : Type 0 where
+pub record AddsAsAll {K : Type 0} {R : K → K → Ordering} (c : Rational) (start sums : FinMap R Rational) (ts rest : List (K × Rational)) : Type 0 where
   pub value : added_terms sums (times c rest) ≡ added_terms start (times c ts)
   pub fits : TimesFit c rest → TermsFit sums (times c rest) → TimesFit c ts × TermsFit start (times c ts)
   pub only : TimesFit c ts → TermsFit start (times c ts) → TimesFit c rest × TermsFit sums (times c rest)
 
-pub adds-start : (c : Rational) (start : Sums) (ts : List (Address × Rational)) → AddsAsAll c start start ts ts
-adds-start c start ts = record { value = refl; fits = λ h k. (h, k); only = λ h k. (h, k) }
-
-pub adds-end : (c : Rational) (start sums : Sums) (ts : List (Address × Rational)) → AddsAsAll c start sums ts [] → (TimesFit c ts × TermsFit start (times c ts)) × (sums ≡ added_terms start (times c ts))
-unfolding added_terms TermsFit
-adds-end c start sums ts h = (h.fits (All-nil (λ t. Fits (c *ℚ t.1))) tt, h.value)
-
-module _ (c : Rational) (start sums : Sums) (ts rest left : List (Address × Rational)) (t : Address × Rational) (so_far : AddsAsAll c start sums ts rest) (next : rest ≡ t ∷ left) where
-  pub adds-step : Fits (c *ℚ t.1) → MeetsFit (get sums t.0) (c *ℚ t.1) → AddsAsAll c start (added_at sums t.0 (c *ℚ t.1)) ts left
+module _ {K : Type 0} {R : K → K → Ordering} (c : Rational) (start sums : FinMap R Rational) (ts : List (K × Rational)) where
+  pub adds-end : AddsAsAll c start sums ts [] → (TimesFit c ts × TermsFit start (times c ts)) × (sums ≡ added_terms start (times c ts))
   unfolding added_terms TermsFit
-  adds-step product meets = record {
-    value = sym (ap (λ l. added_terms sums (times c l)) next) ∙ so_far.value;
-    fits = λ h k. so_far.fits (subst (TimesFit c) (sym next) (All-cons (λ u. Fits (c *ℚ u.1)) t left product h)) (subst (λ l. TermsFit sums (times c l)) (sym next) (meets, k));
-    only = λ h k. (All-tail (λ u. Fits (c *ℚ u.1)) t left (subst (TimesFit c) next (so_far.only h k).0), (subst (λ l. TermsFit sums (times c l)) next (so_far.only h k).1).1);
-  }
+  adds-end h = (h.fits (All-nil (λ t. Fits (c *ℚ t.1))) tt, h.value)
 
-  -- a step that doesn't fit
-  pub adds-product_fits : TimesFit c ts → TermsFit start (times c ts) → Fits (c *ℚ t.1)
-  adds-product_fits h k = All-head (λ u. Fits (c *ℚ u.1)) t left (subst (TimesFit c) next (so_far.only h k).0)
+  module _ (rest left : List (K × Rational)) (t : K × Rational) (so_far : AddsAsAll c start sums ts rest) (next : rest ≡ t ∷ left) where
+    pub adds-step : Fits (c *ℚ t.1) → MeetsFit (get sums t.0) (c *ℚ t.1) → AddsAsAll c start (added_at sums t.0 (c *ℚ t.1)) ts left
+    unfolding added_terms TermsFit
+    adds-step product meets = record {
+      value = sym (ap (λ l. added_terms sums (times c l)) next) ∙ so_far.value;
+      fits = λ h k. so_far.fits (subst (TimesFit c) (sym next) (All-cons (λ u. Fits (c *ℚ u.1)) t left product h)) (subst (λ l. TermsFit sums (times c l)) (sym next) (meets, k));
+      only = λ h k. (All-tail (λ u. Fits (c *ℚ u.1)) t left (subst (TimesFit c) next (so_far.only h k).0), (subst (λ l. TermsFit sums (times c l)) next (so_far.only h k).1).1);
+    }
 
-  pub adds-meets_fit : TimesFit c ts → TermsFit start (times c ts) → MeetsFit (get sums t.0) (c *ℚ t.1)
-  unfolding TermsFit
-  adds-meets_fit h k = (subst (λ l. TermsFit sums (times c l)) next (so_far.only h k).1).0
+    -- a step that doesn't fit
+    pub adds-meets_fit : TimesFit c ts → TermsFit start (times c ts) → MeetsFit (get sums t.0) (c *ℚ t.1)
+    unfolding TermsFit
+    adds-meets_fit h k = (subst (λ l. TermsFit sums (times c l)) next (so_far.only h k).1).0
 
 -- ---- substitution
 
--- what is left to substitute, from the sum so far, is as all of it is
-pub record SubstitutesAsAll (e : Address → Function) (start sum : Function) (ts rest : List (Address × Rational)) : Type 0 where
-  pub value : substituted e sum rest ≡ substituted e start ts
-  pub fits : SubstitutionFits e sum rest → SubstitutionFits e start ts
-  pub only : SubstitutionFits e start ts → SubstitutionFits e sum rest
+-- each product fits, and each sum from some sums on
+pub record SpreadFits {K J : Type 0} {S : J → J → Ordering} (e : K → FunctionOver S) (sums : FinMap S Rational) (ts : List (K × Rational)) : Type 0 where
+  pub products : All (λ t. TimesFit t.1 (terms_of (e t.0))) ts
+  pub sums_fit : TermsFit sums (substituted e ts)
 
-pub substitutes-start : (e : Address → Function) (start : Function) (ts : List (Address × Rational)) → SubstitutesAsAll e start start ts ts
-substitutes-start e start ts = record { value = refl; fits = λ h. h; only = λ h. h }
+-- what is left to substitute, from the sums so far, is as all of it is
+pub record SubstitutesAsAll {K J : Type 0} {S : J → J → Ordering} (e : K → FunctionOver S) (start sums : FinMap S Rational) (ts rest : List (K × Rational)) : Type 0 where
+  pub value : added_terms sums (substituted e rest) ≡ added_terms start (substituted e ts)
+  pub fits : SpreadFits e sums rest → SpreadFits e start ts
+  pub only : SpreadFits e start ts → SpreadFits e sums rest
 
-pub substitutes-end : (e : Address → Function) (start sum : Function) (ts : List (Address × Rational)) → SubstitutesAsAll e start sum ts [] → SubstitutionFits e start ts × (sum ≡ substituted e start ts)
-unfolding substituted SubstitutionFits
-substitutes-end e start sum ts h = (h.fits tt, h.value)
+module _ {K J : Type 0} {S : J → J → Ordering} (e : K → FunctionOver S) (start : FinMap S Rational) (ts : List (K × Rational)) where
+  pub substitutes-start : SubstitutesAsAll e start start ts ts
+  substitutes-start = record { value = refl; fits = λ h. h; only = λ h. h }
 
-module _ (e : Address → Function) (start sum : Function) (ts rest left : List (Address × Rational)) (t : Address × Rational) (so_far : SubstitutesAsAll e start sum ts rest) (next : rest ≡ t ∷ left) where
-  pub substitutes-step : PlusTimesFits sum t.1 (e t.0) → SubstitutesAsAll e start (plus_times sum t.1 (e t.0)) ts left
-  unfolding substituted SubstitutionFits
-  substitutes-step step = record {
-    value = sym (ap (substituted e sum) next) ∙ so_far.value;
-    fits = λ h. so_far.fits (subst (SubstitutionFits e sum) (sym next) (step, h));
-    only = λ h. (subst (SubstitutionFits e sum) next (so_far.only h)).1;
-  }
+  pub substitutes-end : (sums : FinMap S Rational) → SubstitutesAsAll e start sums ts [] → SpreadFits e start ts × (sums ≡ added_terms start (substituted e ts))
+  unfolding substituted added_terms TermsFit
+  substitutes-end sums h = (h.fits (record { products = All-nil (λ t. TimesFit t.1 (terms_of (e t.0))); sums_fit = tt }), h.value)
 
-  -- a step that doesn't fit
-  pub substitutes-fits : SubstitutionFits e start ts → PlusTimesFits sum t.1 (e t.0)
-  unfolding SubstitutionFits
-  substitutes-fits h = (subst (SubstitutionFits e sum) next (so_far.only h)).0
+  module _ (sums : FinMap S Rational) (rest left : List (K × Rational)) (t : K × Rational) (so_far : SubstitutesAsAll e start sums ts rest) (next : rest ≡ t ∷ left) where
+    abbrev here : List (J × Rational)
+    here = times t.1 (terms_of (e t.0))
 
--- functions of equal parts
-pub functions_same : (m n : Sums) (j k : Rational) → m ≡ n → j ≡ k → as_function m j ≡ as_function n k
-functions_same m n j k e f = λ i. record { terms = e i; constant = f i }
+    parted : SpreadFits e sums (t ∷ left) → TimesFit t.1 (terms_of (e t.0)) × TermsFit sums here × SpreadFits e (added_terms sums here) left
+    unfolding substituted
+    parted h =
+        let sums_fit = TermsFit-parts sums here (substituted e left) h.sums_fit in (
+          All-head (λ t. TimesFit t.1 (terms_of (e t.0))) t left h.products,
+          sums_fit.0,
+          record { products = All-tail (λ t. TimesFit t.1 (terms_of (e t.0))) t left h.products; sums_fit = sums_fit.1 },
+        )
 
--- the parts of a step, read from an expression, fit
-pub plus_times_fits : (sum e : Function) (c k : Rational) (ts : List (Address × Rational)) → k ≡ e.constant → ts ≡ terms_of e → StepFits sum.constant c k → TimesFit c ts → TermsFit sum.terms (times c ts) → PlusTimesFits sum c e
-plus_times_fits sum e c k ts constant terms step products sums = record {
-  constant = subst (StepFits sum.constant c) constant step;
-  products = subst (TimesFit c) terms products;
-  sums = subst (λ l. TermsFit sum.terms (times c l)) terms sums;
-}
+    pub substitutes-step : TimesFit t.1 (terms_of (e t.0)) → TermsFit sums here → SubstitutesAsAll e start (added_terms sums here) ts left
+    unfolding substituted
+    substitutes-step products sums_fit = record {
+      value = sym (ap (λ l. added_terms sums (substituted e l)) next ∙ added_terms-append sums here (substituted e left)) ∙ so_far.value;
+      fits = λ h. so_far.fits (subst (SpreadFits e sums) (sym next) (record {
+        products = All-cons (λ t. TimesFit t.1 (terms_of (e t.0))) t left products h.products;
+        sums_fit = TermsFit-append sums here (substituted e left) sums_fit h.sums_fit;
+      }));
+      only = λ h. (parted (subst (SpreadFits e sums) next (so_far.only h))).2;
+    }
+
+    -- a step that doesn't fit
+    pub substitutes-fits : SpreadFits e start ts → TimesFit t.1 (terms_of (e t.0)) × TermsFit sums here
+    substitutes-fits h = let all = parted (subst (SpreadFits e sums) next (so_far.only h)) in (all.0, all.1)

@@ -6,10 +6,8 @@ use Rattle.std.specs.FinMap.{FinMap, get}
 use Rattle.std.proofs.Common.{get_or, drop, sym, ap, subst, ◌∙◌}
 use Rattle.std.proofs.lemmas.List.{drop_more, take_more, map-append}
 use Rattle.ratio_core.specs.Rational.{Rational, ◌+ℚ◌, ◌*ℚ◌}
-use Rattle.rational_laws.specs.Field.{+ℚ-zero, +ℚ_assoc}
 use Rattle.aff_core.specs.Address.{Address, address_cmp}
-use Rattle.aff_core.specs.Function.{Function, terms_of}
-use Rattle.aff_core.specs.Arithmetic.{ValueFits, StepFits, value_from, value_of, linear}
+use Rattle.aff_core.specs.Terms.{StepFits, ValueFits, value_from}
 
 -- what is left begins with the item that is read
 pub next_term : {X : Type 0} (ts es : List X) (i : ℕ) (t : X) → es ≡ ts → t ≡ get_or es i t → i < length es → drop i ts ≡ t ∷ drop (i + 1) ts
@@ -51,13 +49,3 @@ module _ (start sum : Rational) (ts rest left : List (Address × Rational)) (t :
   pub as_all-refused : (StepFits sum t.1 n → ⊥) → ValueFits start ts x → ⊥
   unfolding ValueFits
   as_all-refused bars h = bars (subst (StepFits sum t.1) (sym number) (subst (λ l. ValueFits sum l x) next (so_far.only h)).0)
-
-value_from-linear : (sum : Rational) (ts : List (Address × Rational)) (x : Address → Rational) → value_from sum ts x ≡ sum +ℚ linear ts x
-unfolding value_from linear
-value_from-linear sum [] x = sym (+ℚ-zero sum)
-value_from-linear sum (t ∷ ts) x = value_from-linear (sum +ℚ (t.1 *ℚ x t.0)) ts x ∙ +ℚ_assoc sum (t.1 *ℚ x t.0) (linear ts x)
-
--- added from the left or not, the value is the same
-pub value_from-value_of : (f : Function) (x : Address → Rational) → value_from f.constant (terms_of f) x ≡ value_of f x
-unfolding value_of
-value_from-value_of f x = value_from-linear f.constant (terms_of f) x

@@ -1,48 +1,16 @@
--- Sums, multiples, values and substitutions of affine functions, and what of them fits in the numbers that are kept.
+-- Sums, multiples, and compositions of affine functions, and what of them fits in the numbers that are kept.
 --
 -- Every sum is made from the left, and each of its steps must fit. The results themselves have no order: they are the sum,
 -- the multiple, the value and the composition of functions.
-use Rattle.std.specs.Prelude.{◌≡◌, IsTrue, List, [], ◌∷◌, map, All, Option, Some, None, Result, Ok, Err, unwrap_or}
+use Rattle.std.specs.Prelude.{◌≡◌, IsTrue, List, [], ◌∷◌, ◌++◌, All, Option, Some, None, Result, Ok, Err, unwrap_or}
 use Rattle.std.specs.FinMap as finite
 use Rattle.std.specs.FinMap.{FinMap}
+use Rattle.std.specs.declared.cmp.Ordering.{Ordering}
 use Rattle.ratio_core.specs.Rational.{Rational, zero_ℚ, ◌+ℚ◌, ◌*ℚ◌, Fits, SumFits}
 use Rattle.aff_core.specs.declared.fault.AffFault.{AffFault}
 use Rattle.aff_core.specs.declared.fault.AffFault.TheVariants.{Overflow, Memory}
-use Rattle.aff_core.specs.Address.{Address, address_cmp}
-use Rattle.aff_core.specs.Function.{Function, terms_of, coefficient, function_of}
-
--- ---- values
-
--- the sum of coefficient times number
-unfoldable pub linear : List (Address × Rational) → (Address → Rational) → Rational
-linear [] x = zero_ℚ
-linear (t ∷ ts) x = (t.1 *ℚ x t.0) +ℚ linear ts x
-
-unfoldable pub value_of : Function → (Address → Rational) → Rational
-value_of f x = f.constant +ℚ linear (terms_of f) x
-
--- the same, added from the left
-unfoldable pub value_from : Rational → List (Address × Rational) → (Address → Rational) → Rational
-value_from sum [] x = sum
-value_from sum (t ∷ ts) x = value_from (sum +ℚ (t.1 *ℚ x t.0)) ts x
-
--- a product, and its sum with what is there, fit
-pub record StepFits (sum a b : Rational) : Type 0 where
-  pub product : Fits (a *ℚ b)
-  pub total : SumFits sum (a *ℚ b)
-
--- each step of the sum from the left fits
-unfoldable pub ValueFits : Rational → List (Address × Rational) → (Address → Rational) → Type 0
-ValueFits sum [] x = Unit {0}
-ValueFits sum (t ∷ ts) x = StepFits sum t.1 (x t.0) × ValueFits (sum +ℚ (t.1 *ℚ x t.0)) ts x
-
--- the number of an address at a point, which is 0 where it has none
-abbrev pub number_at : FinMap address_cmp Rational → Address → Rational
-number_at point at = unwrap_or (finite.get point at) zero_ℚ
-
--- each address that the function mentions is a key of the map
-abbrev pub HasEach : {X : Type 0} → FinMap address_cmp X → Function → Type 0
-HasEach m f = All (λ t. IsTrue (finite.contains_key m t.0)) (terms_of f)
+use Rattle.aff_core.specs.Terms.{TimesFit, ValueFits, linear, times}
+use Rattle.aff_core.specs.Function.{FunctionOver, coefficient, constant_function, function_of, terms_of, value_of}
 
 -- ---- answers
 
@@ -52,23 +20,7 @@ ExactWhere (Ok x) P Q = P × Q x
 ExactWhere (Err Overflow) P Q = ¬ P
 ExactWhere (Err Memory) P Q = Unit {0}
 
--- ---- multiples
-
-abbrev pub times : Rational → List (Address × Rational) → List (Address × Rational)
-times c ts = map (λ t. (t.0, c *ℚ t.1)) ts
-
-unfoldable pub scaled : Rational → Function → Function
-scaled c f = function_of (times c (terms_of f)) (c *ℚ f.constant)
-
-abbrev pub TimesFit : Rational → List (Address × Rational) → Type 0
-TimesFit c ts = All (λ t. Fits (c *ℚ t.1)) ts
-
--- each product fits
-pub record ProductsFit (c : Rational) (f : Function) : Type 0 where
-  pub constant : Fits (c *ℚ f.constant)
-  pub terms : TimesFit c (terms_of f)
-
--- ---- sums
+-- ---- sums of coefficients
 
 -- a number added to the coefficient that it meets, if it meets one
 abbrev pub met : Option Rational → Rational → Rational
@@ -79,87 +31,87 @@ abbrev pub MeetsFit : Option Rational → Rational → Type 0
 MeetsFit None q = Unit {0}
 MeetsFit (Some p) q = SumFits p q
 
-abbrev pub added_at : FinMap address_cmp Rational → Address → Rational → FinMap address_cmp Rational
-added_at m at q = finite.insert m at (met (finite.get m at) q)
+module _ {K : Type 0} {R : K → K → Ordering} where
+  abbrev pub added_at : FinMap R Rational → K → Rational → FinMap R Rational
+  added_at m at q = finite.insert m at (met (finite.get m at) q)
 
--- terms added from the first to the last, each to the coefficient that it meets
-unfoldable pub added_terms : FinMap address_cmp Rational → List (Address × Rational) → FinMap address_cmp Rational
-added_terms m [] = m
-added_terms m (t ∷ ts) = added_terms (added_at m t.0 t.1) ts
+  -- terms added from the first to the last, each to the coefficient that it meets
+  unfoldable pub added_terms : FinMap R Rational → List (K × Rational) → FinMap R Rational
+  added_terms m [] = m
+  added_terms m (t ∷ ts) = added_terms (added_at m t.0 t.1) ts
 
--- and each of these sums fits
-unfoldable pub TermsFit : FinMap address_cmp Rational → List (Address × Rational) → Type 0
-TermsFit m [] = Unit {0}
-TermsFit m (t ∷ ts) = MeetsFit (finite.get m t.0) t.1 × TermsFit (added_at m t.0 t.1) ts
+  -- and each of these sums fits
+  unfoldable pub TermsFit : FinMap R Rational → List (K × Rational) → Type 0
+  TermsFit m [] = Unit {0}
+  TermsFit m (t ∷ ts) = MeetsFit (finite.get m t.0) t.1 × TermsFit (added_at m t.0 t.1) ts
 
--- without the terms whose coefficients came to 0
-abbrev pub normal : Function → Function
-normal f = function_of (terms_of f) f.constant
+  -- ---- points
 
--- a constant and terms added
-abbrev pub plus : Function → Rational → List (Address × Rational) → Function
-plus f k ts = record { terms = added_terms f.terms ts; constant = f.constant +ℚ k }
+  -- the number of a key at a point, which is 0 where it has none
+  abbrev pub number_at : FinMap R Rational → K → Rational
+  number_at point at = unwrap_or (finite.get point at) zero_ℚ
 
-pub record PlusFits (f : Function) (k : Rational) (ts : List (Address × Rational)) : Type 0 where
-  pub constant : SumFits f.constant k
-  pub terms : TermsFit f.terms ts
+  -- each key that the function mentions is one of the map
+  abbrev pub HasEach : {X : Type 0} → FinMap R X → FunctionOver R → Type 0
+  HasEach m f = All (λ t. IsTrue (finite.contains_key m t.0)) (terms_of f)
 
-unfoldable pub sum_of : Function → Function → Function
-sum_of f g = normal (plus f g.constant (terms_of g))
+  -- ---- multiples
 
--- ---- substitutions
+  unfoldable pub scaled : Rational → FunctionOver R → FunctionOver R
+  scaled c f = function_of (times c (terms_of f)) (c *ℚ f.constant)
 
--- the function that is 0
-abbrev pub nothing : Function
-nothing = record { terms = finite.empty; constant = zero_ℚ }
+  -- each product fits
+  pub record ProductsFit (c : Rational) (f : FunctionOver R) : Type 0 where
+    pub constant : Fits (c *ℚ f.constant)
+    pub terms : TimesFit c (terms_of f)
 
--- the expression of an address, which is 0 where it has none
-abbrev pub expression_at : FinMap address_cmp Function → Address → Function
-expression_at exprs at = unwrap_or (finite.get exprs at) nothing
+  -- each number is that of f times c
+  pub record IsMultiple (c : Rational) (f h : FunctionOver R) : Type 0 where
+    pub same : h ≡ scaled c f
+    pub constant : h.constant ≡ c *ℚ f.constant
+    pub coefficients : (v : K) → coefficient h v ≡ c *ℚ coefficient f v
 
--- c times the expression added
-abbrev pub plus_times : Function → Rational → Function → Function
-plus_times f c e = plus f (c *ℚ e.constant) (times c (terms_of e))
+  -- ---- sums
 
--- each product of it and each sum fits
-pub record PlusTimesFits (f : Function) (c : Rational) (e : Function) : Type 0 where
-  pub constant : StepFits f.constant c e.constant
-  pub products : TimesFit c (terms_of e)
-  pub sums : TermsFit f.terms (times c (terms_of e))
+  unfoldable pub sum_of : FunctionOver R → FunctionOver R → FunctionOver R
+  sum_of f g =
+      function_of (finite.entries (added_terms f.terms (terms_of g))) (f.constant +ℚ g.constant)
 
--- for each term its coefficient times the expression of its address added
-unfoldable pub substituted : (Address → Function) → Function → List (Address × Rational) → Function
-substituted e f [] = f
-substituted e f (t ∷ ts) = substituted e (plus_times f t.1 (e t.0)) ts
+  -- the sum of the constants, and that of two coefficients of one key
+  pub record PlusFits (f g : FunctionOver R) : Type 0 where
+    pub constant : SumFits f.constant g.constant
+    pub terms : TermsFit f.terms (terms_of g)
 
--- and each of these fits
-unfoldable pub SubstitutionFits : (Address → Function) → Function → List (Address × Rational) → Type 0
-SubstitutionFits e f [] = Unit {0}
-SubstitutionFits e f (t ∷ ts) = PlusTimesFits f t.1 (e t.0) × SubstitutionFits e (plus_times f t.1 (e t.0)) ts
+  -- each number is the sum of those of f and g
+  pub record IsSum (f g h : FunctionOver R) : Type 0 where
+    pub same : h ≡ sum_of f g
+    pub constant : h.constant ≡ f.constant +ℚ g.constant
+    pub coefficients : (v : K) → coefficient h v ≡ coefficient f v +ℚ coefficient g v
 
-abbrev pub constant_of : Function → Function
-constant_of f = record { terms = finite.empty; constant = f.constant }
+-- ---- compositions: the function with the expression of each key in its place, whose keys may be others
 
--- the function with the expression of each address in its place
-unfoldable pub composed : (Address → Function) → Function → Function
-composed e f = normal (substituted e (constant_of f) (terms_of f))
+-- the expression of a key, which is 0 where it has none
+abbrev pub expression_at : {K J : Type 0} {R : K → K → Ordering} {S : J → J → Ordering} → FinMap R (FunctionOver S) → K → FunctionOver S
+expression_at exprs at = unwrap_or (finite.get exprs at) (constant_function zero_ℚ)
 
--- ---- the same with no word on order
+-- each coefficient times the terms of its key's expression, one after the other
+unfoldable pub substituted : {K J : Type 0} {S : J → J → Ordering} → (K → FunctionOver S) → List (K × Rational) → List (J × Rational)
+substituted e [] = []
+substituted e (t ∷ ts) = times t.1 (terms_of (e t.0)) ++ substituted e ts
 
--- a multiple has the multiples of the numbers
-pub record IsMultiple (c : Rational) (f h : Function) : Type 0 where
-  pub same : h ≡ scaled c f
-  pub constant : h.constant ≡ c *ℚ f.constant
-  pub coefficients : (v : Address) → coefficient h v ≡ c *ℚ coefficient f v
+module _ {K J : Type 0} {R : K → K → Ordering} {S : J → J → Ordering} where
+  unfoldable pub composed : (K → FunctionOver S) → FunctionOver R → FunctionOver S
+  composed e f =
+      function_of (finite.entries (added_terms (finite.empty {R = S}) (substituted e (terms_of f)))) (value_of f (λ u. (e u).constant))
 
--- a sum has the sums of the numbers
-pub record IsSum (f g h : Function) : Type 0 where
-  pub same : h ≡ sum_of f g
-  pub constant : h.constant ≡ f.constant +ℚ g.constant
-  pub coefficients : (v : Address) → coefficient h v ≡ coefficient f v +ℚ coefficient g v
+  -- each product and each sum of it fits
+  pub record SubstitutionFits (e : K → FunctionOver S) (f : FunctionOver R) : Type 0 where
+    pub constant : ValueFits f.constant (terms_of f) (λ u. (e u).constant)
+    pub products : All (λ t. TimesFit t.1 (terms_of (e t.0))) (terms_of f)
+    pub sums : TermsFit (finite.empty {R = S}) (substituted e (terms_of f))
 
--- a composition's numbers are the values of the function where each address has that number of its expression
-pub record IsComposition (e : Address → Function) (f h : Function) : Type 0 where
-  pub same : h ≡ composed e f
-  pub constant : h.constant ≡ value_of f (λ u. (e u).constant)
-  pub coefficients : (v : Address) → coefficient h v ≡ linear (terms_of f) (λ u. coefficient (e u) v)
+  -- each number is the value of f where each key has that number of its expression
+  pub record IsComposition (e : K → FunctionOver S) (f : FunctionOver R) (h : FunctionOver S) : Type 0 where
+    pub same : h ≡ composed e f
+    pub constant : h.constant ≡ value_of f (λ u. (e u).constant)
+    pub coefficients : (v : J) → coefficient h v ≡ linear (terms_of f) (λ u. coefficient (e u) v)

@@ -9,7 +9,7 @@ use Rattle.std.specs.FinMap.{same_entries_map}
 use Rattle.ratio_core.specs.Rational.{Rational, rational_eq}
 use Rattle.ratio_core.specs.RationalLaws.{rational_eq_Decides}
 use Rattle.aff_core.specs.Address.{Address, address_cmp, address_eq-Decides}
-use Rattle.aff_core.specs.Function.{Function, terms_of}
+use Rattle.aff_core.specs.Function.{Function, same_parts, terms_of}
 
 -- the same address with the same coefficient
 abbrev pub term_eq : Address × Rational → Address × Rational → Bool
@@ -29,7 +29,7 @@ term_eq-Decides s t =
 
 -- a function is its terms and its constant
 pub same_function : (f g : Function) → terms_of f ≡ terms_of g → f.constant ≡ g.constant → f ≡ g
-same_function f g e k = λ i. record { terms = same_entries_map f.terms g.terms e i; constant = k i }
+same_function f g e k = same_parts f g (λ i. (same_entries_map f.terms g.terms e i, k i))
 
 pub function_eq-Decides : (f g : Function) → Decides (function_eq f g) (f ≡ g)
 unfolding function_eq

@@ -1,21 +1,15 @@
 -- How an affine function is kept: as its terms in the order of their addresses.
-use Rattle.std.specs.Prelude.{◌≡◌, ◌≢◌, ℕ, ◌+◌, ◌<◌, ◌≤◌, List, ◌∷◌, ◌++◌, take, drop, All, length, slice_index_or, Some, None}
-use Rattle.std.specs.FinMap.{from_sorted, get, entries, insert, remove}
-use Rattle.ratio_core.specs.Rational.{Rational, zero_ℚ}
+use Rattle.std.specs.Prelude.{◌≡◌, ℕ, ◌+◌, ◌<◌, ◌≤◌, ◌∷◌, ◌++◌, take, drop, length, slice_index_or, Some, None}
+use Rattle.std.specs.FinMap.{get, entries, insert}
+use Rattle.ratio_core.specs.Rational.{Rational}
 use Rattle.aff_core.specs.declared.aff.Aff.TheInside.{Inside}
 use Rattle.aff_core.specs.Address.{Address}
-use Rattle.aff_core.specs.Function.{Function, terms_of}
+use Rattle.aff_core.specs.Function.{Function, function_of, terms_of}
 use Rattle.aff_core.specs.Rising.{RiseStrictly}
-
--- the function of terms in the order of their addresses, none of which is zero
-abbrev pub kept_as : List (Address × Rational) → Rational → Function
-kept_as ts constant = record { terms = from_sorted ts; constant = constant }
-
-abbrev pub HaveNoZero : List (Address × Rational) → Type 0
-HaveNoZero ts = All (λ t. t.1 ≢ zero_ℚ) ts
+use Rattle.aff_core.specs.Terms.{HaveNoZero}
 
 abbrev pub function_in : Inside → Function
-function_in a = kept_as a.terms.items a.constant
+function_in a = function_of a.terms.items a.constant
 
 pub record IsKept (a : Inside) : Type 0 where
   pub terms : RiseStrictly a.terms.items
@@ -29,8 +23,8 @@ pub record IsPlaceOf (f : Function) (at : Address) (n : ℕ) : Type 0 where
 pub record IsAbsent (f : Function) (at : Address) : Type 0 where
   pub absent : get f.terms at ≡ None
 
--- the address has this many terms, one or none, from this place on: before them stand those of the addresses below it, after them those of the addresses above it
+-- the address has this many terms, one or none, from this place on: before them stand those of the addresses below it,
+-- after them those of the addresses above it
 pub record IsSpanOf (f : Function) (at : Address) (from count : ℕ) : Type 0 where
   pub in_range : from + count ≤ length (terms_of f)
   pub given : (q : Rational) → entries (insert f.terms at q) ≡ take from (terms_of f) ++ (at, q) ∷ drop (from + count) (terms_of f)
-  pub removed : entries (remove f.terms at) ≡ take from (terms_of f) ++ drop (from + count) (terms_of f)

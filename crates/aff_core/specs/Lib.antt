@@ -5,3 +5,8 @@ pub mod FunctionEq
 pub mod Kept
 pub mod Rising
 pub mod Stored
+pub mod Terms
+pub mod FunctionLaws
+pub mod KeyOrder
+pub mod EntryLaws
+pub mod ArithmeticLaws

@@ -1,13 +1,15 @@
 //! Affine functions of addresses.
-ghost use Rattle.std.specs.Prelude.{◌≡◌, ◌≢◌, ℕ, MatchResult, All, IfOk, OnErr, IfSome, IsTrue, ◌↔◌, slice_get, length};
+ghost use Rattle.std.specs.Prelude.{◌≡◌, ℕ, MatchResult, IfOk, OnErr, IsTrue, ◌↔◌, slice_get, length};
 ghost use Rattle.std.specs.FinMap as finite;
 ghost use Rattle.ratio_core.specs.Rational.{zero_ℚ};
-ghost use Rattle.aff_core.specs.Function.{coefficient, function_of, negated, terms_of, IsNormal};
+ghost use Rattle.aff_core.specs.Address.{address_cmp};
+ghost use Rattle.aff_core.specs.Function.{HasEachTerm, IsNegated, coefficient, constant_function, function_of, gathered, negated, terms_of, variable};
 ghost use Rattle.aff_core.specs.FunctionEq.{function_eq, function_eq_equiv, function_eq_partial_equiv};
-ghost use Rattle.aff_core.specs.Rising.{RiseStrictly};
+ghost use Rattle.aff_core.specs.Rising.{HasDistinctKeys, RiseStrictly};
+ghost use Rattle.aff_core.specs.Terms.{HaveNoZero};
 
-use crate::Address;
 use crate::terms::{negated_terms, nonzero_terms};
+use crate::{Address, Point};
 use lists::Duplicate;
 use ratio_core::{Memory, Ratio};
 use std::alloc::Global;
@@ -35,7 +37,21 @@ impl Model for Aff {
 }
 
 impl Aff {
-    ghost use Rattle.aff_core.specs.Kept.{IsPlaceOf, IsAbsent, IsSpanOf, HaveNoZero, kept_as};
+    ghost use Rattle.aff_core.specs.Kept.{IsPlaceOf, IsAbsent, IsSpanOf};
+
+    /// The function that is a number everywhere.
+    pub fn constant_function(alloc: Global, constant: Ratio) -> Aff
+        ensures { result ≡ constant_function constant }
+    {
+        Aff::of(Vec::new(alloc), constant)
+    }
+
+    /// The function that is an address's own number.
+    pub fn variable(alloc: Global, at: &Address) -> Result<Aff, Memory>
+        ensures { IfOk result (λ f. f ≡ variable at.now) }
+    {
+        Aff::from_terms(alloc, &[(*at, Ratio::one())], Ratio::zero())
+    }
 
     /// The function of these terms, of which those with the coefficient 0 are left out.
     pub fn from_terms(
@@ -49,20 +65,35 @@ impl Aff {
         Ok(Aff::of(nonzero_terms(alloc, terms)?, constant))
     }
 
+    /// The function of terms in any order, whose addresses are distinct.
+    pub fn gather(alloc: Global, terms: &[(Address, Ratio)], constant: Ratio) -> Result<Aff, Memory>
+        requires { HasDistinctKeys address_cmp terms.now }
+        ensures same { IfOk result (λ f. f ≡ gathered terms.now constant) }
+        ensures each { IfOk result (HasEachTerm terms.now) }
+    {
+        let terms = first_coefficients(alloc, terms)?.nonzero_terms(alloc)?;
+        Ok(Aff::of(terms, constant))
+    }
+
     // The function of terms in the order of their addresses, none of which is zero.
     pub(crate) fn of(terms: Vec<(Address, Ratio)>, constant: Ratio) -> Aff
         requires rising { RiseStrictly terms.items }
         requires nonzero { HaveNoZero terms.items }
-        ensures { result ≡ kept_as terms.items constant }
+        ensures { result ≡ function_of terms.items constant }
     {
         Aff { terms, constant }
+    }
+
+    // The memory that the function is kept in.
+    pub(crate) fn allocator(&self) -> Global {
+        *self.terms.allocator()
     }
 
     /// The terms, in the order of their addresses.
     pub fn terms(&self) -> &[(Address, Ratio)]
         ensures all { result.now ≡ terms_of self.now }
         ensures rising { RiseStrictly (terms_of self.now) }
-        ensures normal { IsNormal self.now }
+        ensures nonzero { HaveNoZero (terms_of self.now) }
     {
         &self.terms
     }
@@ -104,47 +135,51 @@ impl Aff {
         self.constant
     }
 
-    pub fn copy(&self, alloc: Global) -> Result<Aff, Memory>
-        ensures { IfOk result (λ f. f ≡ self.now) }
-    {
-        Ok(Aff {
-            terms: Vec::from_slice(alloc, &self.terms)?,
-            constant: self.constant,
-        })
-    }
-
     /// The function with another constant.
-    pub fn with_constant(&self, alloc: Global, constant: Ratio) -> Result<Aff, Memory>
+    pub fn with_constant(&self, constant: Ratio) -> Result<Aff, Memory>
         ensures { IfOk result (λ f. f ≡ record self.now { constant = constant }) }
     {
-        let terms = Vec::from_slice(alloc, &self.terms)?;
-        Ok(Aff { terms, constant })
+        let terms = Vec::from_slice(self.allocator(), self.terms())?;
+        Ok(Aff::of(terms, constant))
     }
 
     /// The function with each number negated.
-    pub fn neg(&self, alloc: Global) -> Result<Aff, Memory>
-        ensures { IfOk result (λ f. f ≡ negated self.now) }
+    pub fn neg(&self) -> Result<Aff, Memory>
+        ensures same { IfOk result (λ f. f ≡ negated self.now) }
+        ensures numbers { IfOk result (IsNegated self.now) }
     {
-        Ok(Aff::of(negated_terms(alloc, self.terms())?, self.constant().neg()))
+        let terms = negated_terms(self.allocator(), self.terms())?;
+        Ok(Aff::of(terms, self.constant().neg()))
     }
 
     // Where the address stands among the terms, or where it would.
     pub(crate) fn place(&self, at: &Address) -> Result<usize, usize>
         ensures found { IfOk result (IsPlaceOf self.now at.now) }
         ensures absent { OnErr result (IsAbsent self.now at.now) }
-        ensures span { MatchResult result (λ n. IsSpanOf self.now at.now n 1) (λ n. IsSpanOf self.now at.now n 0) }
+        ensures span { MatchResult result
+            (λ n. IsSpanOf self.now at.now n 1) (λ n. IsSpanOf self.now at.now n 0) }
     {
         self.terms()
             .binary_search_by(|(address, _)| address.cmp(at))
     }
 }
 
+// The first coefficient that each address has.
+fn first_coefficients(alloc: Global, terms: &[(Address, Ratio)]) -> Result<Point, Memory>
+    ensures { IfOk result (λ point. point ≡ finite.from_entries {R = address_cmp} terms.now) }
+{
+    let mut point = Point::new(alloc);
+    for term in terms.iter().rev() {
+        let Ok(_) = point.put(term.0, term.1) else {
+            return Err(Memory);
+        };
+    }
+    Ok(point)
+}
+
 impl Duplicate for Aff {
     fn copy(&self) -> Result<Aff, Memory> {
-        Ok(Aff {
-            terms: Vec::from_slice(*self.terms.allocator(), &self.terms)?,
-            constant: self.constant,
-        })
+        self.with_constant(self.constant())
     }
 }
 
@@ -184,9 +219,9 @@ mod tests {
         assert!(rt; f.coef(&z) == three && f.coef(&y) == Ratio::zero());
         assert!(rt; f.mentions(&x) && !f.mentions(&y));
         assert!(rt; f.constant() == Ratio::one());
-        assert!(rt; f.copy(rt.alloc())? == f);
-        assert!(rt; f.with_constant(rt.alloc(), two)?.constant() == two);
-        let minus = f.neg(rt.alloc())?;
+        assert!(rt; f.copy()? == f);
+        assert!(rt; f.with_constant(two)?.constant() == two);
+        let minus = f.neg()?;
         assert!(rt; minus.coef(&x) == Ratio::new(-2, 1)? && minus != f);
         Ok(())
     }

@@ -1,8 +1,9 @@
 //! Finite maps from addresses.
-ghost use Rattle.std.specs.Prelude.{◌≡◌, IfOk, OnOk, OnErr, IfErr, IsTrue, ◌↔◌};
+ghost use Rattle.std.specs.Prelude.{◌≡◌, IfOk, OnOk, OnErr, IfErr, IsTrue, ◌↔◌, filter};
 ghost use Rattle.std.specs.Option.{option_copied};
 ghost use Rattle.std.specs.FinMap as finite;
 ghost use Rattle.aff_core.specs.Arithmetic.{HasEach};
+ghost use Rattle.aff_core.specs.Terms.{is_nonzero};
 
 use crate::{Address, Aff};
 use ratio_core::{Memory, Ratio};
@@ -73,14 +74,16 @@ impl<V> ByAddress<V> {
 }
 
 impl Point {
-    // The terms in the order of their addresses.
-    pub(crate) fn to_terms(&self, alloc: Global) -> Result<Vec<(Address, Ratio)>, Memory>
-        ensures { IfOk result (λ v. v.items ≡ finite.entries self.now) }
+    // The terms in the order of their addresses, but those with the coefficient 0.
+    pub(crate) fn nonzero_terms(&self, alloc: Global) -> Result<Vec<(Address, Ratio)>, Memory>
+        ensures { IfOk result (λ v. v.items ≡ filter is_nonzero (finite.entries self.now)) }
     {
+        let zero = Ratio::zero();
         Ok(
             self.entries
                 .iter()
                 .map(|(at, number)| (*at, *number))
+                .filter(|(_, number)| *number != zero)
                 .collect(alloc)?,
         )
     }

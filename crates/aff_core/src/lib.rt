@@ -9,6 +9,7 @@ mod edits;
 mod fault;
 mod folds;
 mod root;
+mod sense;
 mod sequence;
 mod terms;
 
@@ -19,5 +20,6 @@ pub use fault::AffFault;
 pub use lists::Sequence;
 pub use ratio_core::Ratios;
 pub use root::Root;
+pub use sense::Sense;
 pub use sequence::{Addresses, Affs, VecAff, has_address, without_address};
-pub use terms::rise_strictly;
+pub use terms::{negated_terms, nonzero_terms, rise_strictly, scaled_terms, summed_terms};

@@ -26,43 +26,18 @@ use Rattle.model_laws.specs.PlannedLaws.{groups_changed, rows_changed}
 
 -- the objective after the edit
 unfoldable pub objective_after : ModelValue → Edit → Objective
-objective_after model (edit.AddGroup names set) = model.objective
-objective_after model (edit.AddRow name func set) = model.objective
 objective_after model (edit.Objective sense func) = objective_of model sense func
 objective_after model edit.Feasibility = objective.Feasibility
-objective_after model (edit.Coef row var value) = model.objective
-objective_after model (edit.VecCoef row output var value) = model.objective
 objective_after model (edit.ObjCoef var value) = on_objective (λ f. with_coefficient f (address_named model var) value) model.objective
-objective_after model (edit.Constant row value) = model.objective
-objective_after model (edit.VecConstant row output value) = model.objective
 objective_after model (edit.ObjConstant value) = on_objective (λ f. with_constant f value) model.objective
-objective_after model (edit.RowSet row set) = model.objective
-objective_after model (edit.Reset var set) = model.objective
-objective_after model (edit.FreeGroup var) = model.objective
 objective_after model (edit.DeleteVariable var) = option_map_or (λ n. objective_without (variable_address n) model.objective) (variable_named model var) model.objective
-objective_after model (edit.DeleteRow row) = model.objective
-objective_after model (edit.RenameVariable old new) = model.objective
-objective_after model (edit.RenameRow old new) = model.objective
+objective_after model _ = model.objective
 
 -- the next numbers after the edit
 unfoldable pub next_after : ModelValue → Edit → NextNumbers
 next_after model (edit.AddGroup names set) = record model.next { group = model.next.group + 1; variable = model.next.variable + length names }
 next_after model (edit.AddRow name func set) = record model.next { row = model.next.row + 1 }
-next_after model (edit.Objective sense func) = model.next
-next_after model edit.Feasibility = model.next
-next_after model (edit.Coef row var value) = model.next
-next_after model (edit.VecCoef row output var value) = model.next
-next_after model (edit.ObjCoef var value) = model.next
-next_after model (edit.Constant row value) = model.next
-next_after model (edit.VecConstant row output value) = model.next
-next_after model (edit.ObjConstant value) = model.next
-next_after model (edit.RowSet row set) = model.next
-next_after model (edit.Reset var set) = model.next
-next_after model (edit.FreeGroup var) = model.next
-next_after model (edit.DeleteVariable var) = model.next
-next_after model (edit.DeleteRow row) = model.next
-next_after model (edit.RenameVariable old new) = model.next
-next_after model (edit.RenameRow old new) = model.next
+next_after model _ = model.next
 
 module _ (model : ModelValue) where
   -- changes by name of rows and groups leave the rest

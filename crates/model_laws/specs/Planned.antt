@@ -43,40 +43,22 @@ at_variable model name h = option_map_or h (variable_named model name) []
 
 -- what the edit changes among the rows
 unfoldable pub row_changes : ModelValue → Edit → List (Change Row)
-row_changes model (edit.AddGroup names set) = []
 row_changes model (edit.AddRow name func set) = set_to row_number (record { id = model.next.row; name = name; func = located model func; set = set }) ∷ []
-row_changes model (edit.Objective sense func) = []
-row_changes model edit.Feasibility = []
 row_changes model (edit.Coef row var value) = row_change model row (λ r. record r { func = on_affine (λ f. with_coefficient f (address_named model var) value) r.func })
 row_changes model (edit.VecCoef row output var value) = row_change model row (λ r. record r { func = on_output output (λ f. with_coefficient f (address_named model var) value) r.func })
-row_changes model (edit.ObjCoef var value) = []
 row_changes model (edit.Constant row value) = row_change model row (λ r. record r { func = on_affine (λ f. with_constant f value) r.func })
 row_changes model (edit.VecConstant row output value) = row_change model row (λ r. record r { func = on_output output (λ f. with_constant f value) r.func })
-row_changes model (edit.ObjConstant value) = []
 row_changes model (edit.RowSet row set) = row_change model row (λ r. record r { set = set })
-row_changes model (edit.Reset var set) = []
-row_changes model (edit.FreeGroup var) = []
 row_changes model (edit.DeleteVariable var) = at_variable model var (deletion_changes model)
 row_changes model (edit.DeleteRow row) = row_deletion model row
-row_changes model (edit.RenameVariable old new) = []
 row_changes model (edit.RenameRow old new) = row_change model old (λ r. record r { name = new })
+row_changes model _ = []
 
 -- what the edit changes among the groups
 unfoldable pub group_changes : ModelValue → Edit → List (Change Group)
 group_changes model (edit.AddGroup names set) = set_to group_number (record { id = model.next.group; vars = numbered_from model.next.variable names; set = set }) ∷ []
-group_changes model (edit.AddRow name func set) = []
-group_changes model (edit.Objective sense func) = []
-group_changes model edit.Feasibility = []
-group_changes model (edit.Coef row var value) = []
-group_changes model (edit.VecCoef row output var value) = []
-group_changes model (edit.ObjCoef var value) = []
-group_changes model (edit.Constant row value) = []
-group_changes model (edit.VecConstant row output value) = []
-group_changes model (edit.ObjConstant value) = []
-group_changes model (edit.RowSet row set) = []
 group_changes model (edit.Reset var set) = at_variable model var (λ n. group_change model n (λ g. record g { set = set }))
 group_changes model (edit.FreeGroup var) = at_variable model var (λ n. group_change model n (λ g. record g { set = Reals 1 }))
 group_changes model (edit.DeleteVariable var) = at_variable model var (group_deletion model)
-group_changes model (edit.DeleteRow row) = []
 group_changes model (edit.RenameVariable old new) = at_variable model old (λ n. group_change model n (λ g. record g { vars = map (renamed n new) g.vars }))
-group_changes model (edit.RenameRow old new) = []
+group_changes model _ = []

@@ -12,7 +12,7 @@ use Rattle.user_model.specs.declared.function.UserFunc.{UserFunc}
 use Rattle.user_model.specs.declared.function.UserFunc.TheVariants.{Plain, Affine, PlainVec, AffineVec}
 use Rattle.user_model.specs.declared.group.Group.{Group}
 use Rattle.user_model.specs.declared.group.GroupVar.{GroupVar}
-use Rattle.user_model.specs.declared.objective.Sense.{Sense}
+use Rattle.aff_core.specs.declared.sense.Sense.{Sense}
 use Rattle.user_model.specs.declared.objective.Objective.{Objective}
 use Rattle.user_model.specs.declared.objective.Objective.TheVariants as objective
 use Rattle.user_model.specs.declared.row.Row.{Row}

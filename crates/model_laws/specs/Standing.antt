@@ -22,7 +22,7 @@ use Rattle.user_model.specs.declared.function.UserFunc.TheVariants.{Plain, Affin
 use Rattle.user_model.specs.declared.group.Group.{Group}
 use Rattle.user_model.specs.declared.objective.Objective.{Objective}
 use Rattle.user_model.specs.declared.objective.Objective.TheVariants as objective
-use Rattle.user_model.specs.declared.objective.Sense.{Sense}
+use Rattle.aff_core.specs.declared.sense.Sense.{Sense}
 use Rattle.user_model.specs.Functions.{func_mentions, has_term, mentioned, names_of}
 use Rattle.user_model.specs.Model.{ModelValue, address_named, has_variable, objective_mentions, variable_address, variable_named}
 use Rattle.user_model.specs.Deletion.{without_address, without_term}

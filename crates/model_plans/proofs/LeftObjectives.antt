@@ -2,7 +2,7 @@
 use Rattle.std.proofs.Common.{◌≡◌, ◌≢◌, true, false, sym, ap, ◌∙◌}
 use Rattle.aff_core.specs.Address.{Address}
 use Rattle.aff_core.specs.Function.{Function}
-use Rattle.user_model.specs.declared.objective.Sense.{Sense}
+use Rattle.aff_core.specs.declared.sense.Sense.{Sense}
 use Rattle.user_model.specs.declared.objective.Objective.{Objective}
 use Rattle.user_model.specs.declared.objective.Objective.TheVariants.{Affine}
 use Rattle.user_model.specs.Deletion.{objective_without, without_term}

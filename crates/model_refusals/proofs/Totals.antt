@@ -19,7 +19,7 @@ use Rattle.user_model.specs.declared.edit.Edit.TheVariants as edit
 use Rattle.user_model.specs.declared.edit.NamedFunc.{NamedFunc}
 use Rattle.user_model.specs.declared.objective.Objective.{Objective}
 use Rattle.user_model.specs.declared.objective.Objective.TheVariants as objective
-use Rattle.user_model.specs.declared.objective.Sense.{Sense}
+use Rattle.aff_core.specs.declared.sense.Sense.{Sense}
 use Rattle.user_model.specs.declared.row.Row.{Row}
 use Rattle.user_model.specs.Consistent.{IsConsistent}
 use Rattle.user_model.specs.Edited.{change_function, changed_at, edited, located, on_affine, on_objective, on_output, row_number}

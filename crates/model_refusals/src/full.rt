@@ -6,7 +6,7 @@ ghost use Rattle.user_model.specs.Functions.{term_count};
 ghost use Rattle.user_model.specs.Limits as limits;
 ghost use Rattle.user_model.specs.Model as models;
 ghost use Rattle.user_model.specs.Refusals.{IsKnown, counts, first_of, full_at};
-ghost use Rattle.user_model.specs.declared.objective.Sense.{Sense};
+ghost use Rattle.aff_core.specs.declared.sense.Sense.{Sense};
 ghost use Rattle.set_core.specs.declared.set.Set.{Set};
 ghost use Rattle.model_refusals.specs.WellFormed.{IsWellFormed, with_change};
 

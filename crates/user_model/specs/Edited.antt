@@ -17,7 +17,7 @@ use Rattle.user_model.specs.declared.edit.Edit.TheVariants as edit
 use Rattle.user_model.specs.declared.group.Group.{Group}
 use Rattle.user_model.specs.declared.group.GroupVar.{GroupVar}
 use Rattle.user_model.specs.declared.row.Row.{Row}
-use Rattle.user_model.specs.declared.objective.Sense.{Sense}
+use Rattle.aff_core.specs.declared.sense.Sense.{Sense}
 use Rattle.user_model.specs.declared.objective.Objective.{Objective}
 use Rattle.user_model.specs.declared.objective.Objective.TheVariants as objective
 use Rattle.user_model.specs.Model.{ModelValue, address_named, group_of, row_named, variable_named}

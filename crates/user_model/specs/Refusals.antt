@@ -28,43 +28,27 @@ use Rattle.user_model.specs.Edited.{edited, located}
 
 -- the variables that the edit needs
 abbrev pub needed_variables : Edit → List (List ℕ)
-needed_variables (edit.AddGroup names set) = []
 needed_variables (edit.AddRow name func set) = mentioned func
 needed_variables (edit.Objective sense func) = mentioned func
-needed_variables edit.Feasibility = []
 needed_variables (edit.Coef row var value) = var ∷ []
 needed_variables (edit.VecCoef row output var value) = var ∷ []
 needed_variables (edit.ObjCoef var value) = var ∷ []
-needed_variables (edit.Constant row value) = []
-needed_variables (edit.VecConstant row output value) = []
-needed_variables (edit.ObjConstant value) = []
-needed_variables (edit.RowSet row set) = []
 needed_variables (edit.Reset var set) = var ∷ []
 needed_variables (edit.FreeGroup var) = var ∷ []
 needed_variables (edit.DeleteVariable var) = var ∷ []
-needed_variables (edit.DeleteRow row) = []
 needed_variables (edit.RenameVariable old new) = old ∷ []
-needed_variables (edit.RenameRow old new) = []
+needed_variables _ = []
 
 -- the row that the edit needs
 abbrev pub needed_row : Edit → Option (List ℕ)
-needed_row (edit.AddGroup names set) = None
-needed_row (edit.AddRow name func set) = None
-needed_row (edit.Objective sense func) = None
-needed_row edit.Feasibility = None
 needed_row (edit.Coef row var value) = Some row
 needed_row (edit.VecCoef row output var value) = Some row
-needed_row (edit.ObjCoef var value) = None
 needed_row (edit.Constant row value) = Some row
 needed_row (edit.VecConstant row output value) = Some row
-needed_row (edit.ObjConstant value) = None
 needed_row (edit.RowSet row set) = Some row
-needed_row (edit.Reset var set) = None
-needed_row (edit.FreeGroup var) = None
-needed_row (edit.DeleteVariable var) = None
 needed_row (edit.DeleteRow row) = Some row
-needed_row (edit.RenameVariable old new) = None
 needed_row (edit.RenameRow old new) = Some old
+needed_row _ = None
 
 abbrev pub has_variable_named : ModelValue → List ℕ → Bool
 has_variable_named model name = is_some (variable_named model name)
@@ -93,21 +77,9 @@ has_twins (name ∷ names) = list_any (bytes_eq name) names || has_twins names
 abbrev pub meets_name_taken : ModelValue → Edit → Bool
 meets_name_taken model (edit.AddGroup names set) = list_any (has_variable_named model) names || has_twins names
 meets_name_taken model (edit.AddRow name func set) = has_row_named model name
-meets_name_taken model (edit.Objective sense func) = false
-meets_name_taken model edit.Feasibility = false
-meets_name_taken model (edit.Coef row var value) = false
-meets_name_taken model (edit.VecCoef row output var value) = false
-meets_name_taken model (edit.ObjCoef var value) = false
-meets_name_taken model (edit.Constant row value) = false
-meets_name_taken model (edit.VecConstant row output value) = false
-meets_name_taken model (edit.ObjConstant value) = false
-meets_name_taken model (edit.RowSet row set) = false
-meets_name_taken model (edit.Reset var set) = false
-meets_name_taken model (edit.FreeGroup var) = false
-meets_name_taken model (edit.DeleteVariable var) = false
-meets_name_taken model (edit.DeleteRow row) = false
 meets_name_taken model (edit.RenameVariable old new) = has_variable_named model new
 meets_name_taken model (edit.RenameRow old new) = has_row_named model new
+meets_name_taken model _ = false
 
 -- ---- what stands at a name passes a test, or isn't there
 
@@ -132,7 +104,6 @@ abbrev pub meets_function_shape : ModelValue → Edit → Bool
 meets_function_shape model (edit.AddGroup names set) = is_scalar set && not (length names == 1)
 meets_function_shape model (edit.AddRow name func set) = differ (is_scalar_named func) (is_scalar set)
 meets_function_shape model (edit.Objective sense func) = not (is_scalar_named func)
-meets_function_shape model edit.Feasibility = false
 meets_function_shape model (edit.Coef row var value) = row_is (λ r. not (is_scalar_affine r.func)) model row
 meets_function_shape model (edit.VecCoef row output var value) = row_is (λ r. not (is_vector_affine r.func)) model row
 meets_function_shape model (edit.ObjCoef var value) = not (is_affine_objective model.objective)
@@ -142,10 +113,7 @@ meets_function_shape model (edit.ObjConstant value) = not (is_affine_objective m
 meets_function_shape model (edit.RowSet row set) = row_is (λ r. differ (is_scalar_function r.func) (is_scalar set)) model row
 meets_function_shape model (edit.Reset var set) = not (is_scalar set) || group_is (λ g. not (is_scalar g.set)) model var
 meets_function_shape model (edit.FreeGroup var) = group_is (λ g. not (is_scalar g.set)) model var
-meets_function_shape model (edit.DeleteVariable var) = false
-meets_function_shape model (edit.DeleteRow row) = false
-meets_function_shape model (edit.RenameVariable old new) = false
-meets_function_shape model (edit.RenameRow old new) = false
+meets_function_shape model _ = false
 
 -- ---- 5 to 7, 10: sets
 
@@ -153,21 +121,8 @@ meets_function_shape model (edit.RenameRow old new) = false
 abbrev pub meets_bad_dimension : ModelValue → Edit → Bool
 meets_bad_dimension model (edit.AddGroup names set) = has_bad_dimension set (length names)
 meets_bad_dimension model (edit.AddRow name func set) = has_bad_dimension set (named_components func)
-meets_bad_dimension model (edit.Objective sense func) = false
-meets_bad_dimension model edit.Feasibility = false
-meets_bad_dimension model (edit.Coef row var value) = false
-meets_bad_dimension model (edit.VecCoef row output var value) = false
-meets_bad_dimension model (edit.ObjCoef var value) = false
-meets_bad_dimension model (edit.Constant row value) = false
-meets_bad_dimension model (edit.VecConstant row output value) = false
-meets_bad_dimension model (edit.ObjConstant value) = false
 meets_bad_dimension model (edit.RowSet row set) = row_is (λ r. has_bad_dimension set (components r.func)) model row
-meets_bad_dimension model (edit.Reset var set) = false
-meets_bad_dimension model (edit.FreeGroup var) = false
-meets_bad_dimension model (edit.DeleteVariable var) = false
-meets_bad_dimension model (edit.DeleteRow row) = false
-meets_bad_dimension model (edit.RenameVariable old new) = false
-meets_bad_dimension model (edit.RenameRow old new) = false
+meets_bad_dimension model _ = false
 
 -- the output and the row that it is to be one of
 abbrev pub output_in : Edit → Option (List ℕ × ℕ)
@@ -249,23 +204,13 @@ counts model (edit.AddRow name func set) =
     (length model.rows + 1, ROWS) ∷ (total_terms (edited model (edit.AddRow name func set)), ALL_TERMS) ∷ (model.next.row, LAST_NUMBER) ∷ []))
 counts model (edit.Objective sense func) =
     within TERMS (terms_of_objective (edited model (edit.Objective sense func)).objective) ++ (total_terms (edited model (edit.Objective sense func)), ALL_TERMS) ∷ []
-counts model edit.Feasibility = []
 counts model (edit.Coef row var value) =
     within TERMS (terms_of_row (edited model (edit.Coef row var value)) row) ++ (total_terms (edited model (edit.Coef row var value)), ALL_TERMS) ∷ []
 counts model (edit.VecCoef row output var value) =
     within TERMS (terms_of_row (edited model (edit.VecCoef row output var value)) row) ++ (total_terms (edited model (edit.VecCoef row output var value)), ALL_TERMS) ∷ []
 counts model (edit.ObjCoef var value) =
     within TERMS (terms_of_objective (edited model (edit.ObjCoef var value)).objective) ++ (total_terms (edited model (edit.ObjCoef var value)), ALL_TERMS) ∷ []
-counts model (edit.Constant row value) = []
-counts model (edit.VecConstant row output value) = []
-counts model (edit.ObjConstant value) = []
-counts model (edit.RowSet row set) = []
-counts model (edit.Reset var set) = []
-counts model (edit.FreeGroup var) = []
-counts model (edit.DeleteVariable var) = []
-counts model (edit.DeleteRow row) = []
-counts model (edit.RenameVariable old new) = []
-counts model (edit.RenameRow old new) = []
+counts model _ = []
 
 -- ---- the first refusal
 

@@ -1,17 +1,10 @@
 //! Objectives.
 ghost use Rattle.std.specs.Prelude.{◌≡◌, IfOk};
 
-use aff_core::{Address, Aff};
+use aff_core::{Address, Aff, Sense};
 use lists::Duplicate;
 use ratio_core::Memory;
 use std::alloc::Global;
-
-/// Whether the least or the greatest value is sought.
-#[derive(Clone, Copy, Debug, PartialEq, Eq)]
-pub enum Sense {
-    Min,
-    Max,
-}
 
 /// What is sought of the feasible points.
 #[derive(Debug, Drop)]

@@ -1,82 +1,90 @@
 use Rattle.std.specs.Prelude.{◌≡◌, [], length, ◌≤◌}
 use Rattle.std.proofs.Common.{drop, sym, ap, subst, ◌∙◌, ◌+◌}
 use Rattle.std.proofs.Math.ListN.{drop_of_length-le}
-use Rattle.ratio_core.specs.Rational.{◌+ℚ◌, ◌*ℚ◌}
-use Rattle.aff_core.specs.Function.{terms_of, function_of}
+use Rattle.std.specs.FinMap.{empty, entries}
+use Rattle.ratio_core.specs.Rational.{zero_ℚ}
+use Rattle.aff_core.specs.Address.{address_cmp}
+use Rattle.aff_core.specs.Arithmetic.{TermsFit, added_terms, composed, expression_at}
+use Rattle.aff_core.specs.ArithmeticLaws.{is_composition, value_from-linear}
+use Rattle.aff_core.specs.Function.{constant_function, function_of, terms_of, value_of}
+use Rattle.aff_core.specs.FunctionLaws.{entries_rise, filter_nonzero, filter_rises, function_of-filter}
+use Rattle.aff_core.specs.KeyOrder.{address_order}
 use Rattle.aff_core.specs.Rising.{RiseStrictly}
-use Rattle.aff_core.specs.Arithmetic.{StepFits, TimesFit, TermsFit, times, added_terms, expression_at, constant_of, composed, normal, nothing}
+use Rattle.aff_core.specs.Terms.{HaveNoZero, TimesFit, times}
 use Rattle.aff_core.proofs.Answered.{passed_on, overflowed}
-use Rattle.aff_core.proofs.Coefficients.{is_composition}
-use Rattle.aff_core.proofs.Rising.{entries_rise}
-use Rattle.aff_core.proofs.Steps.{SubstitutesAsAll, as_function, functions_same, plus_times_fits, substitutes-start, substitutes-step, substitutes-fits, substitutes-end}
-use Rattle.aff_core.proofs.Values.{next_term, found_is}
+use Rattle.aff_core.proofs.Steps.{SubstitutesAsAll, substitutes-start, substitutes-step, substitutes-fits, substitutes-end}
+use Rattle.aff_core.proofs.Values.{IsAsAll, as_all-start, as_all-step, as_all-end, as_all-refused, next_term, found_is}
 use Rattle.aff_core.proofs.aff.Aff.substitute.Goals as goal
 
 pub loop-address-init : goal.loop-address-init
 loop-address-init c =
     let e = expression_at c.args.by.now in
-    let start = constant_of c.args.self.now in
-    let ts = terms_of c.args.self.now in
-    subst (λ s. SubstitutesAsAll e start s ts ts) (functions_same _ _ _ _ (sym c.new-sums.ensures) (sym c.constant-constant.ensures)) (substitutes-start e start ts)
+    let f = c.args.self.now in
+    record {
+      constant = subst (λ k. IsAsAll f.constant k (terms_of f) (terms_of f) (λ u. (e u).constant)) (sym c.constant-constant.ensures) (as_all-start f.constant (terms_of f) (λ u. (e u).constant));
+      sums = subst (λ m. SubstitutesAsAll e (empty {R = address_cmp}) m (terms_of f) (terms_of f)) (sym c.new-sums.ensures) (substitutes-start e (empty {R = address_cmp}) (terms_of f));
+    }
 
 pub returns-in_err-constant : goal.returns-in_err-constant
 returns-in_err-constant c =
     let e = expression_at c.args.by.now in
-    let start = constant_of c.args.self.now in
-    let sum = as_function c.loop-address.sums c.loop-address.constant in
-    let ts = terms_of c.args.self.now in
+    let f = c.args.self.now in
     let t = c.loop-address-item.result in
-    let next = next_term ts c.terms-address-items.result.now c.loop-address.address-index t c.terms-address-items.ensures.all c.loop-address-item.is c.loop-address-test.true in
-    let read : c.unwrap-expression.result.now ≡ e t.0 = found_is c.args.by.now t.0 c.get.result c.unwrap-expression.result nothing c.get.ensures c.unwrap-expression.ensures in
+    let next = next_term (terms_of f) c.terms-address-items.result.now c.loop-address.address-index t c.terms-address-items.ensures.all c.loop-address-item.is c.loop-address-test.true in
+    let read : c.unwrap-expression.result.now ≡ e t.0 = found_is c.args.by.now t.0 c.get.result c.unwrap-expression.result (constant_function zero_ℚ) c.get.ensures c.unwrap-expression.ensures in
     let constant : c.constant.result ≡ (e t.0).constant = c.constant.ensures ∙ ap (λ f. f.constant) read in
     overflowed c.from_residual.result c.in_err-constant.field-0.0 _ _ c.from_residual.ensures.1 c.in_err-constant.ensures.err
-    (λ h. c.in_err-constant.ensures.exact (subst (StepFits c.loop-address.constant t.1) (sym constant) (substitutes-fits e start sum ts _ _ t c.loop-address.invariant next h).constant))
+    (λ h. as_all-refused f.constant c.loop-address.constant (terms_of f) _ _ t (λ u. (e u).constant) c.constant.result c.loop-address.invariant.constant next constant c.in_err-constant.ensures.exact h.constant)
 
 pub returns-in_err-add_products : goal.returns-in_err-add_products
 returns-in_err-add_products c =
     let e = expression_at c.args.by.now in
-    let start = constant_of c.args.self.now in
-    let sum = as_function c.loop-address.sums c.loop-address.constant in
-    let ts = terms_of c.args.self.now in
+    let f = c.args.self.now in
     let t = c.loop-address-item.result in
-    let next = next_term ts c.terms-address-items.result.now c.loop-address.address-index t c.terms-address-items.ensures.all c.loop-address-item.is c.loop-address-test.true in
-    let read : c.unwrap-expression.result.now ≡ e t.0 = found_is c.args.by.now t.0 c.get.result c.unwrap-expression.result nothing c.get.ensures c.unwrap-expression.ensures in
-    let constant : c.constant.result ≡ (e t.0).constant = c.constant.ensures ∙ ap (λ f. f.constant) read in
+    let next = next_term (terms_of f) c.terms-address-items.result.now c.loop-address.address-index t c.terms-address-items.ensures.all c.loop-address-item.is c.loop-address-test.true in
+    let read : c.unwrap-expression.result.now ≡ e t.0 = found_is c.args.by.now t.0 c.get.result c.unwrap-expression.result (constant_function zero_ℚ) c.get.ensures c.unwrap-expression.ensures in
     let terms : c.terms.result.now ≡ terms_of (e t.0) = c.terms.ensures.all ∙ ap terms_of read in
     passed_on c.from_residual-in_err-add_products.result c.in_err-add_products.field-0.0 (TimesFit t.1 c.terms.result.now × TermsFit c.loop-address.sums (times t.1 c.terms.result.now)) _ _ _
     c.from_residual-in_err-add_products.ensures.1 c.in_err-add_products.ensures
     (λ h.
-    let step = substitutes-fits e start sum ts _ _ t c.loop-address.invariant next h in
-    (subst (TimesFit t.1) (sym terms) step.products, subst (λ l. TermsFit c.loop-address.sums (times t.1 l)) (sym terms) step.sums))
+    let step = substitutes-fits e (empty {R = address_cmp}) (terms_of f) c.loop-address.sums _ _ t c.loop-address.invariant.sums next (record { products = h.products; sums_fit = h.sums }) in
+    (subst (TimesFit t.1) (sym terms) step.0, subst (λ l. TermsFit c.loop-address.sums (times t.1 l)) (sym terms) step.1))
 
 pub loop-address-preserved : goal.loop-address-preserved
 loop-address-preserved c =
     let e = expression_at c.args.by.now in
-    let start = constant_of c.args.self.now in
-    let sum = as_function c.loop-address.sums c.loop-address.constant in
-    let ts = terms_of c.args.self.now in
+    let f = c.args.self.now in
     let t = c.loop-address-item.result in
-    let next = next_term ts c.terms-address-items.result.now c.loop-address.address-index t c.terms-address-items.ensures.all c.loop-address-item.is c.loop-address-test.true in
-    let read : c.unwrap-expression.result.now ≡ e t.0 = found_is c.args.by.now t.0 c.get.result c.unwrap-expression.result nothing c.get.ensures c.unwrap-expression.ensures in
+    let next = next_term (terms_of f) c.terms-address-items.result.now c.loop-address.address-index t c.terms-address-items.ensures.all c.loop-address-item.is c.loop-address-test.true in
+    let read : c.unwrap-expression.result.now ≡ e t.0 = found_is c.args.by.now t.0 c.get.result c.unwrap-expression.result (constant_function zero_ℚ) c.get.ensures c.unwrap-expression.ensures in
     let constant : c.constant.result ≡ (e t.0).constant = c.constant.ensures ∙ ap (λ f. f.constant) read in
     let terms : c.terms.result.now ≡ terms_of (e t.0) = c.terms.ensures.all ∙ ap terms_of read in
-    let step = plus_times_fits sum (e t.0) t.1 c.constant.result c.terms.result.now constant terms c.in_ok-constant.ensures.exact.0 c.in_ok-add_products.ensures.0.0 c.in_ok-add_products.ensures.0.1 in
-    subst (λ s. SubstitutesAsAll e start s ts (drop (c.loop-address.address-index + 1) ts))
-    (functions_same _ _ _ _
-    (sym (c.in_ok-add_products.ensures.1 ∙ ap (λ l. added_terms c.loop-address.sums (times t.1 l)) terms))
-    (sym (c.in_ok-constant.ensures.exact.1 ∙ ap (λ k. c.loop-address.constant +ℚ (t.1 *ℚ k)) constant)))
-    (substitutes-step e start sum ts _ _ t c.loop-address.invariant next step)
+    let added = c.in_ok-add_products.ensures in
+    record {
+      constant = as_all-step f.constant c.loop-address.constant (terms_of f) _ _ t (λ u. (e u).constant) c.constant.result c.loop-address.invariant.constant next constant _ c.in_ok-constant.ensures.exact.0 c.in_ok-constant.ensures.exact.1;
+      sums = subst (λ m. SubstitutesAsAll e (empty {R = address_cmp}) m (terms_of f) (drop (c.loop-address.address-index + 1) (terms_of f)))
+          (sym (added.1 ∙ ap (λ l. added_terms c.loop-address.sums (times t.1 l)) terms))
+          (substitutes-step e (empty {R = address_cmp}) (terms_of f) c.loop-address.sums _ _ t c.loop-address.invariant.sums next (subst (TimesFit t.1) terms added.0.0) (subst (λ l. TermsFit c.loop-address.sums (times t.1 l)) terms added.0.1));
+    }
 
-pub from_terms-requires : goal.from_terms-requires
-from_terms-requires c = subst RiseStrictly (sym (c.deref.ensures.value ∙ c.in_ok-terms.ensures)) (entries_rise c.loop-address.sums)
+pub of-requires-clause-rising : goal.of-requires-clause-rising
+of-requires-clause-rising c = subst RiseStrictly (sym c.in_ok-nonzero_terms.ensures) (filter_rises _ (entries_rise c.loop-address.sums))
+
+pub of-requires-clause-nonzero : goal.of-requires-clause-nonzero
+of-requires-clause-nonzero c = subst HaveNoZero (sym c.in_ok-nonzero_terms.ensures) (filter_nonzero _)
 
 pub returns : goal.returns
-unfolding composed
+unfolding composed value_of
 returns c =
     let e = expression_at c.args.by.now in
-    let start = constant_of c.args.self.now in
-    let sum = as_function c.loop-address.sums c.loop-address.constant in
-    let ts = terms_of c.args.self.now in
-    let done : drop c.loop-address.address-index ts ≡ [] = drop_of_length-le ts (subst (λ l. length l ≤ c.loop-address.address-index) c.terms-address-items.ensures.all c.loop-address-test.false) in
-    let all = substitutes-end e start sum ts (subst (SubstitutesAsAll e start sum ts) done c.loop-address.invariant) in
-    (all.0, is_composition e c.args.self.now _ (c.in_ok-from_terms.ensures ∙ ap (λ l. function_of l c.loop-address.constant) (c.deref.ensures.value ∙ c.in_ok-terms.ensures) ∙ ap normal all.1))
+    let f = c.args.self.now in
+    let done : drop c.loop-address.address-index (terms_of f) ≡ [] = drop_of_length-le (terms_of f) (subst (λ l. length l ≤ c.loop-address.address-index) c.terms-address-items.ensures.all c.loop-address-test.false) in
+    let sums = substitutes-end e (empty {R = address_cmp}) (terms_of f) c.loop-address.sums (subst (SubstitutesAsAll e (empty {R = address_cmp}) c.loop-address.sums (terms_of f)) done c.loop-address.invariant.sums) in
+    let value = as_all-end f.constant c.loop-address.constant (terms_of f) (λ u. (e u).constant) (subst (λ l. IsAsAll f.constant c.loop-address.constant (terms_of f) l (λ u. (e u).constant)) done c.loop-address.invariant.constant) in (
+      record { constant = value.0; products = sums.0.products; sums = sums.0.sums_fit },
+      is_composition address_order e f _ (c.of.ensures
+          ∙ ap (λ ts. function_of ts c.loop-address.constant) c.in_ok-nonzero_terms.ensures
+          ∙ function_of-filter (entries c.loop-address.sums) c.loop-address.constant (entries_rise c.loop-address.sums)
+          ∙ (λ i. function_of (entries (sums.1 i)) ((value.1 ∙ value_from-linear f.constant (terms_of f) (λ u. (e u).constant)) i))
+          ),
+    )

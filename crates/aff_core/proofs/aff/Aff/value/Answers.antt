@@ -4,7 +4,8 @@ use Rattle.std.proofs.Math.ListN.{drop_of_length-le}
 use Rattle.ratio_core.specs.Rational.{zero_ℚ}
 use Rattle.aff_core.specs.Function.{terms_of}
 use Rattle.aff_core.specs.Arithmetic.{number_at}
-use Rattle.aff_core.proofs.Values.{IsAsAll, as_all-start, as_all-step, as_all-end, as_all-refused, next_term, found_is, value_from-value_of}
+use Rattle.aff_core.specs.ArithmeticLaws.{value_from-value_of}
+use Rattle.aff_core.proofs.Values.{IsAsAll, as_all-start, as_all-step, as_all-end, as_all-refused, next_term, found_is}
 use Rattle.aff_core.proofs.aff.Aff.value.Goals as goal
 
 refused : {T E : Type 0} (r : Result T E) (P : Type 0) (v : T) → IsErr r → (P → ⊥) → OkIff r P v
