@@ -1,72 +1,16 @@
-//! The same benchmark as `ratio_bench`, written plainly in Rust: i128, Euclid's rule, and the same refusals.
+//! The same benchmark as `ratio_bench`, written plainly in Rust.
+#[allow(dead_code)]
+#[path = "fraction.rs"]
+mod fraction;
+
+use fraction::{Fault, Ratio};
 use std::cmp::Ordering;
 
 #[derive(Clone, Copy)]
-struct Ratio {
-    num: i128,
-    den: i128,
-}
-
-fn gcd(mut a: i128, mut b: i128) -> i128 {
-    while b != 0 {
-        (a, b) = (b, a % b);
-    }
-    a.abs()
-}
-
-impl Ratio {
-    fn new(num: i128, den: i128) -> Option<Ratio> {
-        if den == 0 {
-            return None;
-        }
-        let common = gcd(num, den);
-        Some(Ratio { num: num / common, den: den / common })
-    }
-
-    fn add(&self, other: &Ratio) -> Option<Ratio> {
-        let common = gcd(self.den, other.den);
-        let left = self.num.checked_mul(other.den / common)?;
-        let right = other.num.checked_mul(self.den / common)?;
-        let sum = left.checked_add(right)?;
-        let last = gcd(sum, common);
-        let den = (self.den / common).checked_mul(other.den / last)?;
-        if left == i128::MIN || right == i128::MIN || sum == i128::MIN {
-            return None;
-        }
-        Some(Ratio { num: sum / last, den })
-    }
-
-    fn mul(&self, other: &Ratio) -> Option<Ratio> {
-        let left = gcd(self.num, other.den);
-        let right = gcd(other.num, self.den);
-        let num = (self.num / left).checked_mul(other.num / right)?;
-        let den = (self.den / right).checked_mul(other.den / left)?;
-        if num == i128::MIN {
-            return None;
-        }
-        Some(Ratio { num, den })
-    }
-
-    fn cmp(&self, other: &Ratio) -> Ordering {
-        match (self.num.checked_mul(other.den), other.num.checked_mul(self.den)) {
-            (Some(left), Some(right)) => left.cmp(&right),
-            _ => by_quotients(self.num, self.den, other.num, other.den),
-        }
-    }
-}
-
-// By the whole parts, and then by the reciprocals of what is left.
-fn by_quotients(a: i128, b: i128, c: i128, d: i128) -> Ordering {
-    let (left, right) = (a.div_euclid(b), c.div_euclid(d));
-    if left != right {
-        return left.cmp(&right);
-    }
-    match (a.rem_euclid(b), c.rem_euclid(d)) {
-        (0, 0) => Ordering::Equal,
-        (0, _) => Ordering::Less,
-        (_, 0) => Ordering::Greater,
-        (rest, other) => by_quotients(d, other, b, rest),
-    }
+enum Operation {
+    Add,
+    Multiply,
+    Compare,
 }
 
 struct Draw {
@@ -79,52 +23,112 @@ impl Draw {
         self.state
     }
 
-    fn below(&mut self, modulus: u128) -> i128 {
-        let (high, low) = (self.next() >> 8, self.next() >> 8);
-        let wide = (high as u128) << 56 | low as u128;
-        (wide * 0x4000 % modulus) as i128
+    /// How many bits the next part has at most.
+    fn bits(&mut self, size: &str) -> u32 {
+        match size {
+            "whole" | "small" => 7,
+            "medium" => 31,
+            "limit" => 62,
+            "wide" => 126,
+            _ => ((self.next() >> 57) % 127) as u32,
+        }
+    }
+
+    fn operand(&mut self, size: &str) -> Result<Ratio, Fault> {
+        let bits = self.bits(size);
+        let num = self.part(bits);
+        let num = if self.next() >= 1 << 63 { -num } else { num };
+        let bits = self.bits(size);
+        let den = if size == "whole" { 1 } else { self.part(bits) + 1 };
+        Ratio::new(num, den)
+    }
+
+    /// A number of so many bits: the highest of two draws, which are the best of such a congruence.
+    fn part(&mut self, bits: u32) -> i128 {
+        let (high, low) = (self.next() >> 1, self.next() >> 1);
+        let wide = ((high as u128) << 63) + low as u128;
+        (wide >> (126 - bits)) as i128
     }
 }
 
-fn digest(result: Option<Ratio>) -> u64 {
-    match result {
-        Some(value) => value.num.unsigned_abs() as u64 ^ value.den as u64,
-        None => 1,
-    }
-}
-
-fn main() {
-    let words: Vec<String> = std::env::args().collect();
-    let modulus: u128 = match words[2].as_str() {
-        "whole" | "small" => 0x80,
-        "medium" => 0x8000_0000,
-        "limit" => 0x4000_0000_0000_0000,
-        _ => 0x4000_0000_0000_0000_0000_0000_0000_0000,
-    };
+fn operands(size: &str) -> Vec<Ratio> {
     let mut draw = Draw { state: 1 };
-    let mut operands = Vec::with_capacity(1024);
-    for _ in 0..1024 {
-        let num = draw.below(modulus);
-        let num = if draw.next() >= 1 << 63 { -num } else { num };
-        let den = if words[2] == "whole" { 1 } else { draw.below(modulus) + 1 };
-        operands.extend(Ratio::new(num, den));
+    (0..1024).filter_map(|_| draw.operand(size).ok()).collect()
+}
+
+fn mixed(sum: u64, word: u64) -> u64 {
+    sum.wrapping_mul(31).wrapping_add(word)
+}
+
+/// Every part of the answer, or which refusal it is.
+fn digest(answer: Result<Ratio, Fault>) -> u64 {
+    match answer {
+        Ok(value) => {
+            let num = mixed(value.num as u64, (value.num >> 64) as u64);
+            mixed(mixed(num, value.den as u64), (value.den >> 64) as u64)
+        }
+        Err(Fault::Overflow) => 1,
+        Err(Fault::ZeroDenominator) => 2,
     }
-    let rounds: u32 = words[3].parse().unwrap();
+}
+
+fn order(answer: Ordering) -> u64 {
+    match answer {
+        Ordering::Less => 2,
+        Ordering::Equal => 3,
+        Ordering::Greater => 5,
+    }
+}
+
+fn comparison(size: &str, seed: u64, count: u32) -> u64 {
+    let mut draw = Draw { state: seed };
+    let mut left = Ratio { num: 0, den: 1 };
+    let mut sum = 0u64;
+    for _ in 0..count {
+        if let Ok(right) = draw.operand(size) {
+            for answer in [
+                digest(left.add(&right)),
+                digest(left.sub(&right)),
+                digest(left.mul(&right)),
+                digest(left.div(&right)),
+                order(left.cmp(&right)),
+            ] {
+                sum = mixed(sum, answer);
+            }
+            left = right;
+        }
+    }
+    sum
+}
+
+fn checksum(operation: Operation, operands: &[Ratio], rounds: u32) -> u64 {
     let mut sum = 0u64;
     for _ in 0..rounds {
         for i in 1..operands.len() {
             let (left, right) = (&operands[i - 1], &operands[i]);
-            let answer = match words[1].as_str() {
-                "add" => digest(left.add(right)),
-                "mul" => digest(left.mul(right)),
-                _ => match left.cmp(right) {
-                    Ordering::Less => 2,
-                    Ordering::Equal => 3,
-                    Ordering::Greater => 5,
-                },
+            let answer = match operation {
+                Operation::Add => digest(left.add(right)),
+                Operation::Multiply => digest(left.mul(right)),
+                Operation::Compare => order(left.cmp(right)),
             };
-            sum = sum.wrapping_mul(31).wrapping_add(answer);
+            sum = mixed(sum, answer);
         }
     }
-    println!("{sum}");
+    sum
+}
+
+fn main() {
+    let words: Vec<String> = std::env::args().collect();
+    let number = words[3].parse().unwrap();
+    let operation = match words[1].as_str() {
+        "add" => Operation::Add,
+        "mul" => Operation::Multiply,
+        "cmp" => Operation::Compare,
+        _ => {
+            let count = words[4].parse().unwrap();
+            println!("{}", comparison(&words[2], number, count));
+            return;
+        }
+    };
+    println!("{}", checksum(operation, &operands(&words[2]), number as u32));
 }

@@ -1,92 +1,10 @@
-//! The same benchmark as `simplex_bench`, written plainly in Rust: i128 fractions, a dense board of rows, and Bland's rule in two
-//! phases with a sweep between them.
-use std::cmp::Ordering;
+//! The same benchmark as `simplex_bench`, written plainly in Rust: fractions of 128 bits, a dense board of rows, and Bland's rule
+//! in two phases with a sweep between them.
+#[allow(dead_code)]
+#[path = "fraction.rs"]
+mod fraction;
 
-#[derive(Clone, Copy)]
-struct Ratio {
-    num: i128,
-    den: i128,
-}
-
-const ZERO: Ratio = Ratio { num: 0, den: 1 };
-const ONE: Ratio = Ratio { num: 1, den: 1 };
-
-fn gcd(mut a: i128, mut b: i128) -> i128 {
-    while b != 0 {
-        (a, b) = (b, a % b);
-    }
-    a.abs()
-}
-
-impl Ratio {
-    fn is_zero(&self) -> bool {
-        self.num == 0
-    }
-
-    fn neg(&self) -> Ratio {
-        Ratio { num: -self.num, den: self.den }
-    }
-
-    fn add(&self, other: &Ratio) -> Option<Ratio> {
-        let common = gcd(self.den, other.den);
-        let left = self.num.checked_mul(other.den / common)?;
-        let right = other.num.checked_mul(self.den / common)?;
-        let sum = left.checked_add(right)?;
-        let last = gcd(sum, common);
-        let den = (self.den / common).checked_mul(other.den / last)?;
-        if left == i128::MIN || right == i128::MIN || sum == i128::MIN {
-            return None;
-        }
-        Some(Ratio { num: sum / last, den })
-    }
-
-    fn mul(&self, other: &Ratio) -> Option<Ratio> {
-        let left = gcd(self.num, other.den);
-        let right = gcd(other.num, self.den);
-        let num = (self.num / left).checked_mul(other.num / right)?;
-        let den = (self.den / right).checked_mul(other.den / left)?;
-        if num == i128::MIN {
-            return None;
-        }
-        Some(Ratio { num, den })
-    }
-
-    fn div(&self, other: &Ratio) -> Option<Ratio> {
-        let sign = other.num.signum();
-        self.mul(&Ratio { num: other.den * sign, den: other.num.abs() })
-    }
-}
-
-/// The product of whole numbers in digits of 64 bits, the lowest first.
-fn product(parts: [i128; 4]) -> [u64; 8] {
-    let mut digits = [0u64; 8];
-    digits[0] = 1;
-    for part in parts {
-        let part = part.unsigned_abs();
-        let halves = [part as u64, (part >> 64) as u64];
-        let mut next = [0u64; 8];
-        for (i, half) in halves.into_iter().enumerate() {
-            let mut carry = 0u128;
-            for j in 0..8 - i {
-                let sum = next[i + j] as u128 + half as u128 * digits[j] as u128 + carry;
-                next[i + j] = sum as u64;
-                carry = sum >> 64;
-            }
-        }
-        digits = next;
-    }
-    digits
-}
-
-/// The order of p / a and q / b, all of which are at least 0.
-fn cmp_quotients(p: &Ratio, a: &Ratio, q: &Ratio, b: &Ratio) -> Ordering {
-    let narrow = |parts: [i128; 4]| parts.into_iter().try_fold(1i128, |all, part| all.checked_mul(part));
-    let (left, right) = ([p.num, a.den, q.den, b.num], [q.num, b.den, p.den, a.num]);
-    match (narrow(left), narrow(right)) {
-        (Some(left), Some(right)) => left.cmp(&right),
-        _ => product(left).into_iter().rev().cmp(product(right).into_iter().rev()),
-    }
-}
+use fraction::{ONE, Ratio, ZERO, cmp_quotients};
 
 struct Form {
     m: usize,
@@ -116,7 +34,7 @@ impl Board {
             row[c + i] = ONE;
             row[c + m] = form.right[i];
             for j in 0..c {
-                first[j] = first[j].add(&row[j])?;
+                first[j] = first[j].add(&row[j]).ok()?;
             }
             rows.push(row);
         }
@@ -133,7 +51,7 @@ impl Board {
         let entry = step[q];
         for number in &mut step {
             if !number.is_zero() {
-                *number = number.div(&entry)?;
+                *number = number.div(&entry).ok()?;
             }
         }
         for (i, row) in self.rows.iter_mut().enumerate() {
@@ -187,7 +105,7 @@ fn lower(row: &mut [Ratio], q: usize, step: &[Ratio]) -> Option<()> {
     }
     for (number, unit) in row.iter_mut().zip(step) {
         if !unit.is_zero() {
-            *number = number.add(&by.mul(unit)?.neg())?;
+            *number = number.sub(&by.mul(unit).ok()?).ok()?;
         }
     }
     Some(())
@@ -197,18 +115,18 @@ enum Turn {
     Pivot(usize, usize),
     Infeasible(Vec<Ratio>),
     Stuck,
-    Unbounded,
+    Unbounded(usize),
     Optimal,
 }
 
 fn turn(board: &mut Board, sweeps: &mut bool) -> Turn {
     if let Some(first) = &board.first {
         if let Some(q) = board.entering(first) {
-            return board.leaving(q).map_or(Turn::Unbounded, |r| Turn::Pivot(r, q));
+            return board.leaving(q).map_or(Turn::Unbounded(q), |r| Turn::Pivot(r, q));
         }
         let above = |i: usize| board.basis[i] >= board.c && board.rows[i][board.c + board.m].num > 0;
         if (0..board.m).any(above) {
-            let multiplier = |k: usize| ONE.add(&first[board.c + k].neg());
+            let multiplier = |k: usize| ONE.sub(&first[board.c + k]).ok();
             return (0..board.m).map(multiplier).collect::<Option<_>>().map_or(Turn::Stuck, Turn::Infeasible);
         }
     }
@@ -221,7 +139,7 @@ fn turn(board: &mut Board, sweeps: &mut bool) -> Turn {
     match board.entering(&board.second) {
         None => Turn::Optimal,
         Some(q) => match board.leaving(q) {
-            None => Turn::Unbounded,
+            None => Turn::Unbounded(q),
             Some(r) => {
                 board.first = None;
                 *sweeps = false;
@@ -231,24 +149,32 @@ fn turn(board: &mut Board, sweeps: &mut bool) -> Turn {
     }
 }
 
-/// What the allowance leads to, mixed into one number, and whether it was too small.
-fn solve(form: &Form, pivots: u64) -> (u64, bool) {
+/// What the allowance leads to, mixed into one number.
+fn solve(form: &Form, pivots: u64) -> u64 {
     let Some(mut board) = Board::start(form) else {
-        return (3, false);
+        return mixed_basis(3, &(form.c..form.c + form.m).collect::<Vec<_>>());
     };
     let mut sweeps = true;
     let mut left = pivots;
     loop {
         match turn(&mut board, &mut sweeps) {
-            Turn::Optimal => return (mixed(5, &point(&board)), false),
-            Turn::Infeasible(multipliers) => return (mixed(7, &multipliers), false),
-            Turn::Unbounded => return (mixed(11, &point(&board)), false),
-            Turn::Stuck | Turn::Pivot(..) if left == 0 => return (2, true),
-            Turn::Stuck => return (3, false),
+            Turn::Optimal => {
+                let sum = mixed(mixed(5, &point(&board)), &multipliers(&board));
+                return mixed_basis(sum, &board.basis);
+            }
+            Turn::Infeasible(multipliers) => return mixed_basis(mixed(7, &multipliers), &board.basis),
+            Turn::Unbounded(q) => {
+                let sum = mixed(mixed(11, &point(&board)), &ray(&board, q));
+                return mixed_basis(sum, &board.basis);
+            }
+            Turn::Stuck | Turn::Pivot(..) if left == 0 => {
+                return mixed_basis(2, &board.basis).wrapping_mul(31).wrapping_add(pivots);
+            }
+            Turn::Stuck => return mixed_basis(3, &board.basis),
             Turn::Pivot(r, q) => {
                 left -= 1;
                 if board.pivot(r, q).is_none() {
-                    return (3, false);
+                    return mixed_basis(3, &board.basis);
                 }
             }
         }
@@ -265,14 +191,39 @@ fn point(board: &Board) -> Vec<Ratio> {
     x
 }
 
+fn ray(board: &Board, q: usize) -> Vec<Ratio> {
+    let mut d = vec![ZERO; board.c];
+    for (row, &column) in board.rows.iter().zip(&board.basis) {
+        if column < board.c {
+            d[column] = row[q].neg();
+        }
+    }
+    d[q] = ONE;
+    d
+}
+
+fn multipliers(board: &Board) -> Vec<Ratio> {
+    board.second[board.c..].iter().map(Ratio::neg).collect()
+}
+
+/// The numbers mixed into a sum.
 fn mixed(start: u64, numbers: &[Ratio]) -> u64 {
     numbers.iter().fold(start, |sum, q| {
-        let digest = q.num.unsigned_abs() as u64 ^ q.den.unsigned_abs() as u64;
-        sum.wrapping_mul(31).wrapping_add(digest)
+        let digest = parts(q.num.unsigned_abs()) ^ parts(q.den);
+        sum.wrapping_mul(31).wrapping_add(digest).wrapping_add(u64::from(q.num < 0))
     })
 }
 
-/// Draws by the linear congruence of the generated scripts.
+/// Both halves of a number.
+fn parts(n: u128) -> u64 {
+    (n as u64).wrapping_add(((n >> 64) as u64).wrapping_mul(37))
+}
+
+fn mixed_basis(start: u64, basis: &[usize]) -> u64 {
+    basis.iter().fold(start, |sum, &column| sum.wrapping_mul(31).wrapping_add(column as u64))
+}
+
+/// Draws by a linear congruence.
 struct Draw {
     state: u64,
 }
@@ -284,40 +235,43 @@ impl Draw {
     }
 }
 
-/// A form of as many rows and columns, of whose entries one in `sparse` isn't 0.
-fn form(seed: u64, m: usize, c: usize, sparse: u64) -> Form {
+/// A form of as many rows and columns, of whose entries one in `sparse` isn't 0. The point that is drawn first meets its rows,
+/// each negated where its right side would be below 0.
+fn form(seed: u64, m: usize, c: usize, sparse: u64, greatest: u64) -> Form {
     let mut draw = Draw { state: seed };
-    let whole = |n: i128| Ratio { num: n, den: 1 };
-    let mut entry = |_| {
-        let stands = draw.below(sparse) == 0;
-        let number = draw.below(9) as i128 - 4;
-        if stands { whole(number) } else { ZERO }
-    };
-    let matrix = (0..m * c).map(&mut entry).collect();
-    let right = (0..m).map(|_| whole(draw.below(20) as i128)).collect();
-    let costs = (0..c).map(|_| whole(draw.below(9) as i128 - 2)).collect();
+    let point: Vec<i64> = (0..c).map(|_| draw.below(4) as i64).collect();
+    let costs = (0..c).map(|_| whole(draw.below(9) as i64)).collect();
+    let mut matrix = Vec::with_capacity(m * c);
+    let mut right = Vec::with_capacity(m);
+    for _ in 0..m {
+        let mut entry = |_| {
+            let stands = draw.below(sparse) == 0;
+            let number = draw.below(2 * greatest + 1) as i64 - greatest as i64;
+            if stands { number } else { 0 }
+        };
+        let row: Vec<i64> = (0..c).map(&mut entry).collect();
+        let side: i64 = row.iter().zip(&point).map(|(entry, x)| entry * x).sum();
+        let sign = if side < 0 { -1 } else { 1 };
+        matrix.extend(row.into_iter().map(|entry| whole(entry * sign)));
+        right.push(whole(side.abs()));
+    }
     Form { m, c, matrix, right, costs }
+}
+
+fn whole(n: i64) -> Ratio {
+    Ratio { num: n.into(), den: 1 }
 }
 
 fn main() {
     let words: Vec<u64> = std::env::args().skip(1).filter_map(|word| word.parse().ok()).collect();
-    let [m, c, sparse, forms] = words[..] else {
-        println!("usage: simplex_plain ROWS COLUMNS SPARSE FORMS");
+    let [m, c, sparse, greatest, forms] = words[..] else {
+        println!("usage: simplex_plain ROWS COLUMNS SPARSE GREATEST FORMS");
         return;
     };
-    let (mut pivots, mut sum) = (0u64, 0u64);
+    let mut sum = 0u64;
     for seed in 1..=forms {
-        let form = form(seed, m as usize, c as usize, sparse);
-        let mut allowance = 0;
-        loop {
-            let (answer, limited) = solve(&form, allowance);
-            pivots += allowance;
-            sum = sum.wrapping_mul(31).wrapping_add(answer);
-            if !limited {
-                break;
-            }
-            allowance += 1;
-        }
+        let form = form(seed, m as usize, c as usize, sparse, greatest);
+        sum = sum.wrapping_mul(31).wrapping_add(solve(&form, 1_000_000));
     }
-    println!("{pivots} {sum}");
+    println!("{sum}");
 }

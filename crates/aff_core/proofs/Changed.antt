@@ -19,7 +19,7 @@ use Rattle.aff_core.specs.Function.{Function, function_of, terms_of, with_coeffi
 use Rattle.aff_core.specs.Kept.{IsSpanOf}
 use Rattle.aff_core.specs.Terms.{HaveNoZero, is_nonzero}
 use Rattle.aff_core.specs.Rising.{RiseStrictly}
-use Rattle.aff_core.specs.EntryLaws.{ascending, key_less}
+use Rattle.map_laws.specs.EntryLaws.{ascending, key_less}
 use Rattle.aff_core.specs.FunctionLaws.{entries_rise, filter_nonzero, filter_rises, function_of-filter, nonzero-filter, nonzero_test, zero_test}
 
 -- the items of a slice from a place on

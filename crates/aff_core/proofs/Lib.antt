@@ -1,6 +1,5 @@
 mod Answered
 mod Changed
-mod KeptMaps
 mod Padding
 mod Rising
 mod Steps

@@ -6,7 +6,8 @@ use Rattle.std.specs.Cmp.{IsTotalOrder}
 use Rattle.std.specs.List.{IsAllAdjacentAnswer}
 use Rattle.std.specs.Ordering.{is_lt}
 use Rattle.std.specs.declared.cmp.Ordering.{Ordering}
-use Rattle.aff_core.specs.EntryLaws.{is_less, is_sorted_adjacent, key_less}
+use Rattle.map_laws.specs.EntryLaws.{is_sorted_adjacent, key_less}
+use Rattle.map_laws.specs.TestLaws.{is_less}
 use Rattle.aff_core.specs.FunctionLaws.{tested}
 use Rattle.aff_core.specs.Rising.{RiseBy}
 use Rattle.aff_core.specs.FunctionLaws.{rises}

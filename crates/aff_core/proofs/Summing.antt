@@ -14,7 +14,8 @@ use Rattle.std.specs.FinMap.Entries.{put, below_all, by_order}
 use Rattle.ratio_core.specs.Rational.{Rational, ◌+ℚ◌, SumFits}
 use Rattle.aff_core.specs.Arithmetic.{TermsFit, MeetsFit, met, added_terms, added_at}
 use Rattle.aff_core.specs.ArithmeticLaws.{added_terms-append}
-use Rattle.aff_core.specs.EntryLaws.{both, first, second, is_less, below_less, find_below, is_sorted-drop}
+use Rattle.map_laws.specs.EntryLaws.{below_less, find_below, is_sorted-drop}
+use Rattle.map_laws.specs.TestLaws.{both, first, second, is_less}
 use Rattle.aff_core.specs.FunctionLaws.{nonzero-filter, rises}
 use Rattle.aff_core.specs.Rising.{RiseBy}
 use Rattle.aff_core.specs.Terms.{HaveNoZero, is_nonzero}

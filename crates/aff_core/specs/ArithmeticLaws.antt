@@ -10,7 +10,8 @@ use Rattle.std.specs.FinMap.Entries.{below_all}
 use Rattle.ratio_core.specs.Rational.{Rational, zero_ℚ, ◌+ℚ◌, ◌*ℚ◌}
 use Rattle.rational_laws.specs.Field.{+ℚ-zero, zero-+ℚ, *ℚ-zero, +ℚ_assoc}
 use Rattle.aff_core.specs.Arithmetic.{IsComposition, IsMultiple, IsSum, added_at, added_terms, composed, met, scaled, substituted, sum_of}
-use Rattle.aff_core.specs.EntryLaws.{first, second, find_below, find-map, is_sorted-map}
+use Rattle.map_laws.specs.EntryLaws.{find_below, find-map, is_sorted-map}
+use Rattle.map_laws.specs.TestLaws.{first, second}
 use Rattle.aff_core.specs.Function.{FunctionOver, coefficient, terms_of, value_of}
 use Rattle.aff_core.specs.FunctionLaws.{coefficient-function_of, coefficient-made, coefficient_in, coefficient_in-terms_of, constant-function_of, rises, terms_rise}
 use Rattle.aff_core.specs.KeyOrder.{IsKeyOrder, key_eq-Decides}

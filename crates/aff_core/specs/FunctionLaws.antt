@@ -21,7 +21,9 @@ use Rattle.aff_core.specs.Function.{FunctionOver, HasCoefficient, HasEachTerm, I
 use Rattle.aff_core.specs.KeyOrder.{IsKeyOrder, key_eq-Decides, other_key, same_key}
 use Rattle.aff_core.specs.Rising.{HasDistinctKeys, RiseBy}
 use Rattle.aff_core.specs.Terms.{HaveNoZero, is_nonzero, negated_terms}
-use Rattle.aff_core.specs.EntryLaws.{first, second, find_below, find-map, below_all-filter, is_sorted-filter, is_sorted-map}
+use Rattle.map_laws.specs.EntryLaws.{find_below, find-map, below_all-filter, is_sorted-filter, is_sorted-map}
+use Rattle.map_laws.specs.PlaceLaws.{filter_all}
+use Rattle.map_laws.specs.TestLaws.{first, second}
 
 pub tested : (b : Bool) → T b → b ≡ true
 tested true t = refl
@@ -51,13 +53,7 @@ zero_test q e = ap not (eq_rational_eq q zero_ℚ e)
 
 -- where no coefficient is 0, none is left out
 pub nonzero-filter : {K : Type 0} (ts : List (K × Rational)) → HaveNoZero ts → filter is_nonzero ts ≡ ts
-nonzero-filter {K} ts h = by ts (AllPass-from_list_all is_nonzero ts h)
-  where
-    by : (us : List (K × Rational)) → All (λ t. is_nonzero t ≡ true) us → filter is_nonzero us ≡ us
-    by [] a = refl
-    by (t ∷ us) a =
-        ap (λ b. cond b (t ∷ filter is_nonzero us) (filter is_nonzero us)) (All-head (λ t. is_nonzero t ≡ true) t us a)
-        ∙ ap (λ l. t ∷ l) (by us (All-tail (λ t. is_nonzero t ≡ true) t us a))
+nonzero-filter ts h = filter_all is_nonzero ts (AllPass-from_list_all is_nonzero ts h)
 
 negation_nonzero : (q : Rational) → not (rational_eq q zero_ℚ) ≡ true → not (rational_eq (neg_ℚ q) zero_ℚ) ≡ true
 negation_nonzero q h = nonzero_test (neg_ℚ q) (λ e. nonzero_from q h (sym (neg_ℚ-neg_ℚ q) ∙ ap neg_ℚ e ∙ neg_ℚ-zero))

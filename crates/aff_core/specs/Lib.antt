@@ -8,5 +8,4 @@ pub mod Stored
 pub mod Terms
 pub mod FunctionLaws
 pub mod KeyOrder
-pub mod EntryLaws
 pub mod ArithmeticLaws

@@ -5,7 +5,6 @@ ghost use Rattle.edit_engine.specs.Leaves.{image};
 use crate::row::Row;
 use aff_core::Aff;
 use ratio_core::{Memory, Ratio};
-use std::alloc::Global;
 
 /// A row that the solver takes: its function is at most `upper`.
 #[derive(PartialEq, Drop)]
@@ -22,12 +21,12 @@ pub enum Edge {
 }
 
 impl Edge {
-    pub fn image(self, alloc: Global, row: &Row) -> Result<LeafRow, Memory>
+    pub fn image(self, row: &Row) -> Result<LeafRow, Memory>
         ensures { IfOk result (λ leaf. leaf ≡ image self row.now) }
     {
         match self {
             Edge::GreaterToLess => Ok(LeafRow {
-                function: row.function.neg(alloc)?,
+                function: row.function.neg()?,
                 upper: row.lower.neg(),
             }),
         }

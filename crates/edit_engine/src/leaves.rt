@@ -103,7 +103,7 @@ fn row_leaves(
 {
     let mut leaves = BTreeMap::new(alloc);
     for (number, (_, row)) in items.iter().rev() {
-        let leaf = Edge::GreaterToLess.image(alloc, row)?;
+        let leaf = Edge::GreaterToLess.image(row)?;
         drop(leaves.insert(Address::root(Root::Row, *number).child(0), leaf)?);
     }
     Ok(leaves)

@@ -4,7 +4,6 @@
 //! such a source and sink speak of texts; over one that tells nothing they speak of faults alone.
 #![tactic(auto)]
 
-pub mod calls;
 pub mod mem_sink;
 pub mod mem_source;
 mod retry;
@@ -16,7 +15,6 @@ pub mod std_out;
 pub mod sure_sink;
 pub mod sure_source;
 
-pub use calls::Calls;
 pub use mem_sink::MemSink;
 pub use mem_source::MemSource;
 pub use sink::{Sink, SinkFault, write_all};
@@ -25,3 +23,6 @@ pub use std_in::StdIn;
 pub use std_out::StdOut;
 pub use sure_sink::SureSink;
 pub use sure_source::SureSource;
+
+/// Calls by their numbers, the first being 1.
+pub type Calls = lists::Sequence<u64>;

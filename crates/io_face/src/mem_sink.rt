@@ -4,10 +4,10 @@ ghost use Rattle.io_face.specs.Fault.{HasFaulted};
 ghost use Rattle.io_face.specs.Plan.{IsFailing};
 ghost use Rattle.io_face.specs.MemSink.{collector_after, collector_after_failure, collector_without_memory};
 
-use super::calls::Calls;
 use super::schedule::Schedule;
 use super::sink::{Sink, SinkFault};
 use super::sure_sink::SureSink;
+use crate::Calls;
 use std::alloc::Global;
 use std::marker::Model;
 
@@ -89,20 +89,19 @@ mod tests {
     use std::test::Fail;
 
     #[test]
-    fn takes_parts_and_fails_at_the_listed_calls(rt: HostRuntime) -> Result<(), Fail> {
-        let fails = vec![in rt.alloc(); 2u64]?;
-        let mut sink = MemSink::new(rt.alloc(), 2, fails.into());
-        for (piece, want, faults, written) in [
-            (b"hello".as_slice(), Ok(2), 0, b"he".as_slice()),
-            (b"llo", Err(SinkFault::Failed), 1, b"he"),
-            (b"llo", Ok(2), 1, b"hell"),
-            (b"", Ok(0), 1, b"hell"),
-            (b"o", Ok(1), 1, b"hello"),
-        ] {
-            assert_eq!(rt; sink.write(piece), want);
-            assert_eq!(rt; sink.faults(), faults);
-            assert_eq!(rt; sink.written(), written);
-        }
+    fn takes_parts(rt: HostRuntime) -> Result<(), Fail> {
+        let mut sink = MemSink::new(rt.alloc(), 2, Calls::new(rt.alloc()));
+        assert_eq!(rt; sink.write(b"hello"), Ok(2));
+        assert_eq!(rt; (sink.written(), sink.faults()), (b"he".as_slice(), 0));
+        Ok(())
+    }
+
+    #[test]
+    fn fails_at_the_listed_call(rt: HostRuntime) -> Result<(), Fail> {
+        let fails = Calls::from_vec(vec![in rt.alloc(); 1u64]?);
+        let mut sink = MemSink::new(rt.alloc(), 2, fails);
+        assert_eq!(rt; sink.write(b"hello"), Err(SinkFault::Failed));
+        assert_eq!(rt; sink.faults(), 1);
         Ok(())
     }
 }

@@ -4,10 +4,10 @@ ghost use Rattle.io_face.specs.Source.{Takes};
 ghost use Rattle.io_face.specs.Plan.{IsFailing};
 ghost use Rattle.io_face.specs.MemSource.{feed_after, feed_after_failure};
 
-use super::calls::Calls;
 use super::schedule::Schedule;
 use super::source::{Failed, Source};
 use super::sure_source::SureSource;
+use crate::Calls;
 use std::marker::Model;
 
 /// Gives its bytes in pieces, and fails at the reads whose numbers are listed, the first being 1.
@@ -80,25 +80,21 @@ mod tests {
     use std::test::Fail;
 
     #[test]
-    fn gives_pieces_and_fails_at_the_listed_calls(rt: HostRuntime) -> Result<(), Fail> {
-        let fails = vec![in rt.alloc(); 1u64, 3]?;
-        let mut source = MemSource::new(b"hello".to_vec(rt.alloc())?, 2, fails.into());
-        for (want, faults) in [
-            (Err(Failed), 1),
-            (Ok(b"he".as_slice()), 1),
-            (Err(Failed), 2),
-            (Ok(b"ll"), 2),
-            (Ok(b"o"), 2),
-            (Ok(b""), 2),
-        ] {
-            let mut into = [0u8; 3];
-            let outcome = source.read(&mut into);
-            match (outcome, want) {
-                (Ok(count), Ok(bytes)) => assert_eq!(rt; &into[..count], bytes),
-                (outcome, want) => assert_eq!(rt; outcome.is_err(), want.is_err()),
-            }
-            assert_eq!(rt; source.faults(), faults);
-        }
+    fn gives_pieces(rt: HostRuntime) -> Result<(), Fail> {
+        let bytes = b"hello".to_vec(rt.alloc())?;
+        let mut source = MemSource::new(bytes, 2, Calls::new(rt.alloc()));
+        let mut into = [0u8; 3];
+        assert_eq!(rt; source.read(&mut into), Ok(2));
+        assert_eq!(rt; into, *b"he\0");
+        Ok(())
+    }
+
+    #[test]
+    fn fails_at_the_listed_call(rt: HostRuntime) -> Result<(), Fail> {
+        let fails = Calls::from_vec(vec![in rt.alloc(); 1u64]?);
+        let mut source = MemSource::new(b"hello".to_vec(rt.alloc())?, 2, fails);
+        assert_eq!(rt; source.read(&mut [0u8; 3]), Err(Failed));
+        assert_eq!(rt; source.faults(), 1);
         Ok(())
     }
 }

@@ -2,7 +2,7 @@
 ghost use Rattle.std.specs.Prelude.{◌≡◌, ◌↔◌, ◌≤◌, IsTrue, if◌then◌else◌};
 ghost use Rattle.io_face.specs.Plan.{Plan, IsFailing, after_success, after_failure};
 
-use super::calls::Calls;
+use crate::Calls;
 use std::marker::Model;
 
 #[derive(Drop)]
@@ -36,7 +36,7 @@ impl Schedule {
         ensures never_falls { self.old.faults ≤ self.new.faults }
     {
         self.made = self.made.saturating_add(1);
-        let fails = self.fails.contains(self.made);
+        let fails = self.fails.as_slice().contains(&self.made);
         if fails {
             self.faults = self.faults.saturating_add(1);
         }

@@ -61,12 +61,9 @@ mod tests {
     #[test]
     fn gives_its_bytes_in_order(rt: HostRuntime) -> Result<(), Fail> {
         let mut source = SureSource::new(b"hello".to_vec(rt.alloc())?);
-        assert_eq!(rt; source.read(&mut []), Ok(0));
-        for want in [b"hel".as_slice(), b"lo", b"", b""] {
-            let mut into = [0u8; 3];
-            let count = source.read(&mut into)?;
-            assert_eq!(rt; &into[..count], want);
-        }
+        let mut into = [0u8; 3];
+        assert_eq!(rt; (source.read(&mut into), into), (Ok(3), *b"hel"));
+        assert_eq!(rt; (source.read(&mut into), into), (Ok(2), *b"lol"));
         assert_eq!(rt; source.faults(), 0);
         Ok(())
     }

@@ -1,7 +1,7 @@
 // Operands drawn by a linear congruence.
 ghost use Rattle.std.specs.Prelude.{◌<◌, ◌≤◌, ◌≤ℤ◌, ◌^◌, neg_ℤ, pos};
 
-use ratio_core::Ratio;
+use ratio_core::{Ratio, RatioFault};
 use std::alloc::{AllocError, Global};
 
 /// How large the parts of the operands are.
@@ -17,6 +17,8 @@ pub enum Size {
     Limit,
     /// 126 bits, whose products pass 128 bits.
     Wide,
+    /// Each part of as many bits as it happens, up to 126.
+    Mixed,
 }
 
 impl Size {
@@ -27,19 +29,21 @@ impl Size {
             "medium" => Some(Size::Medium),
             "limit" => Some(Size::Limit),
             "wide" => Some(Size::Wide),
+            "mixed" => Some(Size::Mixed),
             _ => None,
         }
     }
 
-    fn modulus(self) -> u128
-        ensures positive { 0 < result }
-        ensures fits { result ≤ 2 ^ 126 }
+    // How many bits the next part has at most.
+    fn bits(self, draw: &mut Draw) -> u32
+        ensures { result ≤ 126 }
     {
         match self {
-            Size::Whole | Size::Small => 0x80,
-            Size::Medium => 0x8000_0000,
-            Size::Limit => 0x4000_0000_0000_0000,
-            Size::Wide => 0x4000_0000_0000_0000_0000_0000_0000_0000,
+            Size::Whole | Size::Small => 7,
+            Size::Medium => 31,
+            Size::Limit => 62,
+            Size::Wide => 126,
+            Size::Mixed => ((draw.next() >> 57) % 127) as u32,
         }
     }
 }
@@ -49,16 +53,9 @@ const OPERANDS: usize = 1024;
 /// The operands of this size.
 pub fn operands(alloc: Global, size: Size) -> Result<Vec<Ratio>, AllocError> {
     let mut operands = Vec::with_capacity(alloc, OPERANDS)?;
-    let mut draw = Draw { state: 1 };
-    let modulus = size.modulus();
+    let mut draw = Draw::new(1);
     for _ in 0..OPERANDS {
-        let num = draw.below(modulus);
-        let num = if draw.next() >= 1 << 63 { -num } else { num };
-        let den = match size {
-            Size::Whole => 1,
-            _ => draw.below(modulus) + 1,
-        };
-        if let Ok(operand) = Ratio::new(num, den) {
+        if let Ok(operand) = draw.operand(size) {
             operands.push(operand)?;
         }
     }
@@ -66,11 +63,28 @@ pub fn operands(alloc: Global, size: Size) -> Result<Vec<Ratio>, AllocError> {
 }
 
 #[derive(Drop)]
-struct Draw {
+pub struct Draw {
     state: u64,
 }
 
 impl Draw {
+    pub fn new(seed: u64) -> Draw {
+        Draw { state: seed }
+    }
+
+    /// The next operand.
+    pub fn operand(&mut self, size: Size) -> Result<Ratio, RatioFault> {
+        let bits = size.bits(self);
+        let num = self.part(bits);
+        let num = if self.next() >= 1 << 63 { -num } else { num };
+        let bits = size.bits(self);
+        let den = match size {
+            Size::Whole => 1,
+            _ => self.part(bits) + 1,
+        };
+        Ratio::new(num, den)
+    }
+
     fn next(&mut self) -> u64 {
         self.state = self
             .state
@@ -79,14 +93,14 @@ impl Draw {
         self.state
     }
 
-    fn below(&mut self, modulus: u128) -> i128
-        requires positive { 0 < modulus }
-        requires fits { modulus ≤ 2 ^ 126 }
+    // A number of so many bits: the highest of two draws, which are the best of such a congruence.
+    fn part(&mut self, bits: u32) -> i128
+        requires { bits ≤ 126 }
         ensures low { pos 0 ≤ℤ result }
         ensures high { result ≤ℤ pos (2 ^ 126) }
     {
-        let (high, low) = (self.next() >> 8, self.next() >> 8);
-        let wide = (high as u128) << 56 | low as u128;
-        (wide * 0x4000 % modulus) as i128
+        let (high, low) = (self.next() >> 1, self.next() >> 1);
+        let wide = ((high as u128) << 63) + low as u128;
+        (wide >> (126 - bits)) as i128
     }
 }

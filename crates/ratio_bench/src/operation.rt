@@ -1,4 +1,5 @@
-// What is measured.
+// What is measured, and what is compared.
+use crate::draw::{Draw, Size};
 use ratio_core::{Ratio, RatioFault};
 use std::cmp::Ordering;
 
@@ -29,25 +30,64 @@ pub fn checksum(operation: Operation, operands: &[Ratio], rounds: u32) -> u64 {
             let answer = match operation {
                 Operation::Add => digest(left.add(right)),
                 Operation::Multiply => digest(left.mul(right)),
-                Operation::Compare => match left.cmp(right) {
-                    Ordering::Less => 2,
-                    Ordering::Equal => 3,
-                    Ordering::Greater => 5,
-                },
+                Operation::Compare => order(left.cmp(right)),
             };
-            sum = sum.wrapping_mul(31).wrapping_add(answer);
+            sum = mixed(sum, answer);
         }
     }
     sum
 }
 
+/// The results of all operations on each two neighbours of so many operands, drawn from the seed.
+pub fn comparison(size: Size, seed: u64, count: u32) -> u64 {
+    let mut draw = Draw::new(seed);
+    let mut left = Ratio::zero();
+    let mut sum = 0u64;
+    for _ in 0..count {
+        if let Ok(right) = draw.operand(size) {
+            for answer in [
+                digest(left.add(&right)),
+                digest(left.sub(&right)),
+                digest(left.mul(&right)),
+                digest(left.div(&right)),
+                order(left.cmp(&right)),
+            ] {
+                sum = mixed(sum, answer);
+            }
+            left = right;
+        }
+    }
+    sum
+}
+
+// Every part of the answer, or which refusal it is.
 fn digest(answer: Result<Ratio, RatioFault>) -> u64 {
     match answer {
-        Ok(value) => low(value.num().unsigned_abs()) ^ low(value.den().unsigned_abs()),
-        Err(_) => 1,
+        Ok(value) => {
+            let (num, den) = (value.num().cast_unsigned(), value.den().cast_unsigned());
+            mixed(mixed(mixed(low(num), high(num)), low(den)), high(den))
+        }
+        Err(RatioFault::Overflow) => 1,
+        Err(RatioFault::ZeroDenominator) => 2,
     }
+}
+
+fn order(answer: Ordering) -> u64 {
+    match answer {
+        Ordering::Less => 2,
+        Ordering::Equal => 3,
+        Ordering::Greater => 5,
+    }
+}
+
+fn mixed(sum: u64, word: u64) -> u64 {
+    sum.wrapping_mul(31).wrapping_add(word)
 }
 
 fn low(n: u128) -> u64 {
     (n & 0xFFFF_FFFF_FFFF_FFFF) as u64
+}
+
+fn high(n: u128) -> u64 {
+    (n >> 64) as u64
 }

@@ -25,6 +25,12 @@ int_cmp_scaled x y k h = sym (int_cmp_is (x *ℤ pos k) (y *ℤ pos k) (int_cmp 
     by_order Equal e = ap (λ n. n *ℤ pos k) e
     by_order Greater l = below_scaled y x k h l
 
+-- numbers over one denominator are ordered as their numerators
+pub cmp_of_numerators : (p q : Rational) → p.den ≡ q.den → int_cmp p.num q.num ≡ rational_cmp p q
+unfolding rational_cmp
+cmp_of_numerators p q e =
+    sym (int_cmp_scaled p.num q.num p.den p.reduced.0) ∙ ap (λ d. int_cmp (p.num *ℤ pos d) (q.num *ℤ pos p.den)) e
+
 -- ---- the order of numbers over denominators that need not be the lowest
 
 -- s over c is n over d: then s times t*d*e, for any t and e, is n times e*c*t

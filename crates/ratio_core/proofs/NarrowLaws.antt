@@ -1,15 +1,17 @@
 -- Sums and products of narrow fractions, as the code makes them.
-use Rattle.std.proofs.Common.{◌≡◌, ℕ, ◌*◌, ◌/◌, ◌^◌, ◌<◌, ◌≤◌, true, ℤ, pos, ◌+ℤ◌, ◌*ℤ◌, unsigned_abs, refl, sym, ◌∙◌, ap, ap₂, subst, arith, div-le_self, div-one, bit_or, leb}
+use Rattle.std.proofs.Common.{◌≡◌, ℕ, ◌*◌, ◌/◌, ◌^◌, ◌<◌, ◌≤◌, true, ℤ, pos, ◌+ℤ◌, ◌*ℤ◌, unsigned_abs, refl, sym, ◌∙◌, ap, ap₂, subst, arith, div-le_self, div-one, bit_or, leb, SFits, of_z, to_z, to_z-of_z}
+use Rattle.std.proofs.lemmas.Int.{ints}
+use mir.Syntax.{w128}
 use Rattle.std.proofs.lemmas.Bool.{leb-true}
 use Rattle.std.proofs.lemmas.Nat.{le_or_l, le_or_r, mul-le}
 use Rattle.std.specs.Int.{is_negative}
 use borrow.Author.Differences.{same_in}
 use Rattle.ratio_core.specs.Gcd.{gcd, gcd-one}
 use Rattle.ratio_core.specs.Narrow.{IsNarrow}
-use Rattle.ratio_core.specs.Rational.{IsStored, Rational, SumFits, reduce, signed, ◌+ℚ◌}
+use Rattle.ratio_core.specs.Rational.{Fits, IsStored, Rational, SumFits, reduce, signed, ◌+ℚ◌}
 use Rattle.ratio_core.specs.RationalLaws.{times_is}
 use Rattle.ratio_core.proofs.Products.{signed_itself, signed_times}
-use Rattle.ratio_core.proofs.Sums.{made_fits, made_stored, made_value}
+use Rattle.ratio_core.proofs.Sums.{made_fits, made_stored, made_value, sum_refused}
 
 pub small_product : (a b : ℕ) → a < 2 ^ 63 → b < 2 ^ 63 → a * b < 2 ^ 127
 small_product a b h k =
@@ -21,6 +23,9 @@ quotient_below a g m e h = omega (arith, e, div-le_self a g, h)
 
 pub fits_along : (y z : ℤ) → y ≡ z → unsigned_abs z < 2 ^ 127 → unsigned_abs y < 2 ^ 127
 fits_along y z e h = subst (λ n. unsigned_abs n < 2 ^ 127) (sym e) h
+
+pub back_is : (z : ℤ) → unsigned_abs z < 2 ^ 127 → to_z w128 (of_z w128 z) ≡ z
+back_is z h = let range : SFits w128 z = omega (arith, ints, h) in to_z-of_z range
 
 -- one test of all bits
 pub narrow_by_bits : (p q : Rational) (ps qs pd qd : ℕ) → ps ≡ unsigned_abs p.num → qs ≡ unsigned_abs q.num → pd ≡ p.den → qd ≡ q.den → leb (bit_or (bit_or ps qs) (bit_or pd qd)) 9223372036854775807 ≡ true → IsNarrow p × IsNarrow q
@@ -50,10 +55,21 @@ module _ (p q : Rational) (pd qd g lo ro : ℕ) (pd_is : pd ≡ p.den) (qd_is : 
         ap (λ n. reduce n (lo * k)) num_lem
         ∙ made_value p q pd qd g lo ro (unsigned_abs p.num) (unsigned_abs q.num) pd_is qd_is g_is lo_is ro_is refl refl (is_negative p.num) (is_negative q.num) (is_negative y) (unsigned_abs p.num * ro) (unsigned_abs q.num * lo) size refl refl refl refl sum_lem last last_is (lo * k) (ap (λ n. lo * n) k_is)
 
-    module _ (narrow_p : IsNarrow p) (narrow_q : IsNarrow q) (fits : unsigned_abs z < 2 ^ 127) where
+    module _ (left_fits : unsigned_abs p.num * ro < 2 ^ 127) (right_fits : unsigned_abs q.num * lo < 2 ^ 127) (sum_fits : unsigned_abs z < 2 ^ 127) (den_fits : lo * k < 2 ^ 127) where
       size_below : size < 2 ^ 127
-      size_below = subst (λ n. n < 2 ^ 127) (sym size_is) (fits_along y z y_is fits)
+      size_below = subst (λ n. n < 2 ^ 127) (sym size_is) (fits_along y z y_is sum_fits)
 
+      pub sum_stored : IsStored v (lo * k)
+      sum_stored =
+          subst (λ n. IsStored n (lo * k)) (sym num_lem)
+          (made_stored p q pd qd g lo ro (unsigned_abs p.num) (unsigned_abs q.num) pd_is qd_is g_is lo_is ro_is refl refl (is_negative p.num) (is_negative q.num) (is_negative y) (unsigned_abs p.num * ro) (unsigned_abs q.num * lo) size refl refl refl refl sum_lem last last_is (lo * k) (ap (λ n. lo * n) k_is) size_below den_fits)
+
+      pub sum_fits_all : SumFits p q
+      sum_fits_all =
+          made_fits p q pd qd g lo ro (unsigned_abs p.num) (unsigned_abs q.num) pd_is qd_is g_is lo_is ro_is refl refl (is_negative p.num) (is_negative q.num) (is_negative y) (unsigned_abs p.num * ro) (unsigned_abs q.num * lo) size refl refl refl refl sum_lem last last_is (lo * k) (ap (λ n. lo * n) k_is)
+          left_fits right_fits size_below den_fits
+
+    module _ (narrow_p : IsNarrow p) (narrow_q : IsNarrow q) (fits : unsigned_abs z < 2 ^ 127) where
       lo_below : lo < 2 ^ 63
       lo_below = quotient_below pd g lo lo_is (omega (arith, pd_is, narrow_p.den))
 
@@ -64,14 +80,10 @@ module _ (p q : Rational) (pd qd g lo ro : ℕ) (pd_is : pd ≡ p.den) (qd_is : 
       den_below = small_product lo k lo_below (quotient_below qd last k k_is (omega (arith, qd_is, narrow_q.den)))
 
       pub narrow_sum_stored : IsStored v (lo * k)
-      narrow_sum_stored =
-          subst (λ n. IsStored n (lo * k)) (sym num_lem)
-          (made_stored p q pd qd g lo ro (unsigned_abs p.num) (unsigned_abs q.num) pd_is qd_is g_is lo_is ro_is refl refl (is_negative p.num) (is_negative q.num) (is_negative y) (unsigned_abs p.num * ro) (unsigned_abs q.num * lo) size refl refl refl refl sum_lem last last_is (lo * k) (ap (λ n. lo * n) k_is) size_below den_below)
+      narrow_sum_stored = sum_stored (small_product _ ro narrow_p.num ro_below) (small_product _ lo narrow_q.num lo_below) fits den_below
 
       pub narrow_sum_fits : SumFits p q
-      narrow_sum_fits =
-          made_fits p q pd qd g lo ro (unsigned_abs p.num) (unsigned_abs q.num) pd_is qd_is g_is lo_is ro_is refl refl (is_negative p.num) (is_negative q.num) (is_negative y) (unsigned_abs p.num * ro) (unsigned_abs q.num * lo) size refl refl refl refl sum_lem last last_is (lo * k) (ap (λ n. lo * n) k_is)
-          (small_product _ ro narrow_p.num ro_below) (small_product _ lo narrow_q.num lo_below) size_below den_below
+      narrow_sum_fits = sum_fits_all (small_product _ ro narrow_p.num ro_below) (small_product _ lo narrow_q.num lo_below) fits den_below
 
 -- ---- sums of whole numbers: v is the sum z after it went to bits and back
 
@@ -90,13 +102,20 @@ module _ (p q : Rational) (whole_p : p.den ≡ 1) (whole_q : q.den ≡ 1) (a b z
       narrow_sum_value p q 1 1 1 1 1 (sym whole_p) (sym whole_q) (sym (gcd-one 1)) refl refl a b z z a_is b_is products_lem refl
       (unsigned_abs z) 1 1 refl (sym (gcd-one (unsigned_abs z))) refl z v itself_lem v_is
 
-  module _ (narrow_p : IsNarrow p) (narrow_q : IsNarrow q) (fits : unsigned_abs z < 2 ^ 127) where
+  pub whole_sum_refused : ¬ (unsigned_abs z < 2 ^ 127) → ¬ SumFits p q
+  whole_sum_refused h f =
+      sum_refused p q 1 1 1 1 1 (unsigned_abs p.num) (unsigned_abs q.num) (sym whole_p) (sym whole_q) (sym (gcd-one 1)) refl refl refl refl
+      (is_negative p.num) (is_negative q.num) (is_negative z) (unsigned_abs p.num * 1) (unsigned_abs q.num * 1) (unsigned_abs z) refl refl refl refl
+      (sum_lem p q 1 1 1 1 1 (sym whole_p) (sym whole_q) (sym (gcd-one 1)) refl refl a b z z a_is b_is products_lem refl (unsigned_abs z) 1 1 refl (sym (gcd-one (unsigned_abs z))) refl)
+      (omega (arith, h)) f
+
+  module _ (fits_p : Fits p) (fits_q : Fits q) (fits : unsigned_abs z < 2 ^ 127) where
     pub whole_sum_stored : IsStored v 1
     whole_sum_stored =
-        narrow_sum_stored p q 1 1 1 1 1 (sym whole_p) (sym whole_q) (sym (gcd-one 1)) refl refl a b z z a_is b_is products_lem refl
-        (unsigned_abs z) 1 1 refl (sym (gcd-one (unsigned_abs z))) refl z v itself_lem v_is narrow_p narrow_q fits
+        sum_stored p q 1 1 1 1 1 (sym whole_p) (sym whole_q) (sym (gcd-one 1)) refl refl a b z z a_is b_is products_lem refl
+        (unsigned_abs z) 1 1 refl (sym (gcd-one (unsigned_abs z))) refl z v itself_lem v_is (omega (arith, fits_p.num)) (omega (arith, fits_q.num)) fits (omega arith)
 
     pub whole_sum_fits : SumFits p q
     whole_sum_fits =
-        narrow_sum_fits p q 1 1 1 1 1 (sym whole_p) (sym whole_q) (sym (gcd-one 1)) refl refl a b z z a_is b_is products_lem refl
-        (unsigned_abs z) 1 1 refl (sym (gcd-one (unsigned_abs z))) refl z v itself_lem v_is narrow_p narrow_q fits
+        sum_fits_all p q 1 1 1 1 1 (sym whole_p) (sym whole_q) (sym (gcd-one 1)) refl refl a b z z a_is b_is products_lem refl
+        (unsigned_abs z) 1 1 refl (sym (gcd-one (unsigned_abs z))) refl z v itself_lem v_is (omega (arith, fits_p.num)) (omega (arith, fits_q.num)) fits (omega arith)

@@ -1,5 +1,5 @@
 // Sums, products and quotients, exact or refused.
-ghost use Rattle.std.specs.Prelude.{◌≡◌, ◌≢◌, ◌<◌, ◌^◌, ◌↔◌, ◌+ℤ◌, OkIff, IsOkUnless};
+ghost use Rattle.std.specs.Prelude.{◌≡◌, ◌≢◌, ◌<◌, ◌^◌, ◌↔◌, ◌+ℤ◌, OkIff, SomeIff, IsOkUnless, unsigned_abs};
 ghost use Rattle.ratio_core.specs.Rational.{Fits, SumFits, abs_ℚ, inverse_ℚ, neg_ℚ, signed, zero_ℚ, ◌+ℚ◌, ◌-ℚ◌, ◌*ℚ◌, ◌/ℚ◌};
 
 use crate::divisor::{GREATEST_PART, greatest_common_divisor, product, quotient};
@@ -13,10 +13,26 @@ impl Ratio {
         ensures exact { OkIff result (SumFits self.now other.now) (self.now +ℚ other.now) }
         ensures err { IsOkUnless result RatioFault.Overflow }
     {
+        if self.over() == 1 && other.over() == 1 {
+            return self.add_whole(other);
+        }
         if self.are_narrow(other) {
             return Ok(self.add_narrow(other));
         }
         self.add_wide(other)
+    }
+
+    #[inline]
+    fn add_whole(&self, other: &Ratio) -> Result<Ratio, RatioFault>
+        requires left { self.now.den ≡ 1 }
+        requires right { other.now.den ≡ 1 }
+        ensures exact { OkIff result (SumFits self.now other.now) (self.now +ℚ other.now) }
+        ensures err { IsOkUnless result RatioFault.Overflow }
+    {
+        match whole_sum(self.num(), other.num()) {
+            Some(sum) => Ok(Ratio::keep(sum, 1)),
+            None => Err(RatioFault::Overflow),
+        }
     }
 
     fn add_wide(&self, other: &Ratio) -> Result<Ratio, RatioFault>
@@ -94,6 +110,16 @@ impl Ratio {
         ensures { result ≡ inverse_ℚ self.now }
     {
         Ratio::store(self.is_negative(), self.over(), self.size())
+    }
+}
+
+#[inline]
+fn whole_sum(a: i128, b: i128) -> Option<i128>
+    ensures { SomeIff result (unsigned_abs (a +ℤ b) < 2 ^ 127) (a +ℤ b) }
+{
+    match a.checked_add(b) {
+        Some(sum) if sum > i128::MIN => Some(sum),
+        _ => None,
     }
 }
 

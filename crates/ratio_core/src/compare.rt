@@ -1,6 +1,6 @@
 // Equality and order.
 ghost use Rattle.std.specs.Prelude.{◌≡◌, ◌<◌, ◌*◌, refl};
-ghost use Rattle.std.specs.Ordering.{as_partial_cmp, nat_cmp};
+ghost use Rattle.std.specs.Ordering.{as_partial_cmp, int_cmp, nat_cmp};
 ghost use Rattle.ratio_core.specs.Rational.{rational_cmp, rational_eq};
 ghost use Rattle.ratio_core.specs.RationalLaws.{rational_cmp_total, rational_eq-is_eq, rational_eq_equiv, rational_eq_partial_equiv, rational_partial_order};
 
@@ -42,6 +42,18 @@ impl Ord for Ratio {
     ghost matches_eq = { rational_eq-is_eq };
 
     fn cmp(&self, other: &Ratio) -> Ordering {
+        if self.over() == other.over() {
+            return cmp_numerators(self.num(), other.num());
+        }
+        self.cmp_by_products(other)
+    }
+}
+
+impl Ratio {
+    #[inline]
+    fn cmp_by_products(&self, other: &Ratio) -> Ordering
+        ensures { result ≡ rational_cmp self.now other.now }
+    {
         match (self.is_negative(), other.is_negative()) {
             (false, true) => Ordering::Greater,
             (true, false) => Ordering::Less,
@@ -51,7 +63,15 @@ impl Ord for Ratio {
     }
 }
 
+#[inline]
+fn cmp_numerators(a: i128, b: i128) -> Ordering
+    ensures { result ≡ int_cmp a b }
+{
+    a.cmp(&b)
+}
+
 // `a * b` against `c * d`, which may pass 128 bits.
+#[inline(always)]
 #[tactic(auto, using(crate::proofs::Compared::nat_cmp_scaled))]
 pub(crate) fn cmp_products(a: u128, b: u128, c: u128, d: u128) -> Ordering
     requires { 0 < b }
@@ -65,5 +85,8 @@ pub(crate) fn cmp_products(a: u128, b: u128, c: u128, d: u128) -> Ordering
     }
     let (left_low, left_high) = a.carrying_mul(b, 0);
     let (right_low, right_high) = c.carrying_mul(d, 0);
-    left_high.cmp(&right_high).then(left_low.cmp(&right_low))
+    if left_high == right_high {
+        return left_low.cmp(&right_low);
+    }
+    left_high.cmp(&right_high)
 }

@@ -31,9 +31,6 @@ impl Ratio {
         ensures value { result ≡ self.now +ℚ other.now }
     {
         let (left_den, right_den) = (self.narrow_over(), other.narrow_over());
-        if left_den == 1 && right_den == 1 {
-            return self.add_whole(other);
-        }
         let common = narrow_divisor(left_den, right_den);
         let left_over = narrow_quotient(left_den, common);
         let right_over = narrow_quotient(right_den, common);
@@ -41,18 +38,6 @@ impl Ratio {
         let last = last_divisor(sum.unsigned_abs(), common);
         let den = left_over as u128 * narrow_quotient(right_den, last) as u128;
         Ratio::keep(signed_quotient(sum, last), den)
-    }
-
-    #[inline]
-    fn add_whole(&self, other: &Ratio) -> Ratio
-        requires left { IsNarrow self.now }
-        requires right { IsNarrow other.now }
-        requires left_whole { self.now.den ≡ 1 }
-        requires right_whole { other.now.den ≡ 1 }
-        ensures fits { SumFits self.now other.now }
-        ensures value { result ≡ self.now +ℚ other.now }
-    {
-        Ratio::keep(sum_of_wholes(self.narrow_num(), other.narrow_num()), 1)
     }
 
     #[inline]
@@ -105,14 +90,6 @@ fn narrow_quotient(a: u64, by: u64) -> u64
     ensures { result ≡ a / by }
 {
     if by == 1 { a } else { a / by }
-}
-
-#[inline]
-fn sum_of_wholes(a: i64, b: i64) -> i128
-    ensures value { result ≡ a +ℤ b }
-    ensures fits { unsigned_abs result < 2 ^ 127 }
-{
-    a as i128 + b as i128
 }
 
 // `a * by + b * over`.

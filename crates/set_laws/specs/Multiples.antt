@@ -1,18 +1,21 @@
 -- A set with its numbers multiplied. What is in the set multiplied by s and in that by t adds to what is in that by s + t, and
 -- a multiple by a number of at least 0 goes along. So each multiple of a recession vector by such a number keeps each vector of
 -- the set in it: the set is that by 1, its recession set that by 0.
-use Rattle.std.specs.Prelude.{◌≡◌, List, [], ◌∷◌, length, All, refl}
+use Rattle.std.specs.Prelude.{◌≡◌, ℕ, Bool, true, false, cond, List, [], ◌∷◌, length, All, refl}
+use Rattle.std.specs.Ordering.{is_le}
 use Rattle.std.proofs.Common.{sym, ◌∙◌, ap, ap₂, arith, subst}
 use Rattle.std.proofs.lemmas.List.Elements.{All-cons, All-head, All-nil, All-tail}
-use Rattle.ratio_core.specs.Rational.{Rational, abs_ℚ, neg_ℚ, one_ℚ, zero_ℚ, ◌*ℚ◌, ◌+ℚ◌, ◌≤ℚ◌}
+use Rattle.ratio_core.specs.Rational.{Rational, abs_ℚ, one_ℚ, rational_cmp, zero_ℚ, ◌*ℚ◌, ◌+ℚ◌, ◌≤ℚ◌}
 use Rattle.rational_laws.specs.Dot.{plus, times}
 use Rattle.rational_laws.specs.DotLaws.{length-times}
-use Rattle.rational_laws.specs.Field.{*ℚ-+ℚ, *ℚ-neg_ℚ, *ℚ-zero, *ℚ_assoc, +ℚ-*ℚ, +ℚ-zero, +ℚ_inner_comm, one-*ℚ, zero-*ℚ, zero-+ℚ}
+use Rattle.rational_laws.specs.Field.{*ℚ-+ℚ, *ℚ-zero, *ℚ_assoc, +ℚ-*ℚ, +ℚ-zero, +ℚ_inner_comm, one-*ℚ, zero-*ℚ}
 use Rattle.rational_laws.specs.Order.{abs_ℚ-*ℚ, abs_ℚ-+ℚ, abs_ℚ_nonneg, nonneg_add, nonneg_mul, nonpos_mul, ≤ℚ-*ℚ_left, ≤ℚ-+ℚ, ≤ℚ_refl, ≤ℚ_trans}
 use Rattle.set_core.specs.declared.set.Set.{Set}
 use Rattle.set_core.specs.declared.set.Set.TheVariants.{EqualTo, GreaterThan, Interval, LessThan, Nonnegatives, Nonpositives, NormInfinityCone, NormOneCone, Reals, Zeros}
-use Rattle.set_core.specs.Membership.{In, recession}
+use Rattle.set_core.specs.Membership.{Dual, In, low_of, recession}
 use Rattle.set_core.specs.Mirrored.{multiplied}
+use Rattle.set_core.specs.ShapeLaws.{in_order, not_crossed}
+use Rattle.set_core.specs.Shapes.{IsSetOf}
 use Rattle.set_core.specs.Vectors.{DominatesEach, DominatesSum, first_of}
 use Rattle.set_laws.specs.Norms.{dominates_norm, norm, norm_dominated}
 
@@ -53,6 +56,44 @@ multiplied-recession t (Nonnegatives n) = refl
 multiplied-recession t (Nonpositives n) = refl
 multiplied-recession t (NormInfinityCone n) = refl
 multiplied-recession t (NormOneCone n) = refl
+
+-- ---- what else is multiplied
+
+pub dual_of-multiplied : (t : Rational) (set : Set) (w : List Rational) → Dual set w → Dual (multiplied t set) w
+dual_of-multiplied t (LessThan u) w h = h
+dual_of-multiplied t (GreaterThan l) w h = h
+dual_of-multiplied t (EqualTo a) w h = h
+dual_of-multiplied t (Interval l u) w h = h
+dual_of-multiplied t (Reals n) w h = h
+dual_of-multiplied t (Zeros n) w h = h
+dual_of-multiplied t (Nonnegatives n) w h = h
+dual_of-multiplied t (Nonpositives n) w h = h
+dual_of-multiplied t (NormInfinityCone n) w h = h
+dual_of-multiplied t (NormOneCone n) w h = h
+
+pub low_multiplied : (t : Rational) (set : Set) (w : List Rational) → low_of (multiplied t set) w ≡ t *ℚ low_of set w
+low_multiplied t (LessThan u) w = *ℚ_assoc t u (first_of w)
+low_multiplied t (GreaterThan l) w = *ℚ_assoc t l (first_of w)
+low_multiplied t (EqualTo a) w = *ℚ_assoc t a (first_of w)
+low_multiplied t (Interval l u) w = either (is_le (rational_cmp zero_ℚ (first_of w)))
+  where
+    either : (c : Bool) → cond c (t *ℚ l) (t *ℚ u) *ℚ first_of w ≡ t *ℚ (cond c l u *ℚ first_of w)
+    either true = *ℚ_assoc t l (first_of w)
+    either false = *ℚ_assoc t u (first_of w)
+low_multiplied t _ w = sym (*ℚ-zero t)
+
+pub multiplied_set : (t : Rational) → zero_ℚ ≤ℚ t → (n : ℕ) (set : Set) → IsSetOf n set → IsSetOf n (multiplied t set)
+multiplied_set t a n (LessThan u) s = record { dimension = s.dimension; enough = s.enough; uncrossed = refl }
+multiplied_set t a n (GreaterThan l) s = record { dimension = s.dimension; enough = s.enough; uncrossed = refl }
+multiplied_set t a n (EqualTo x) s = record { dimension = s.dimension; enough = s.enough; uncrossed = refl }
+multiplied_set t a n (Interval l u) s =
+    record { dimension = s.dimension; enough = s.enough; uncrossed = not_crossed (t *ℚ l) (t *ℚ u) (≤ℚ-*ℚ_left l u t (in_order l u s.uncrossed) a) }
+multiplied_set t a n (Reals m) s = s
+multiplied_set t a n (Zeros m) s = s
+multiplied_set t a n (Nonnegatives m) s = s
+multiplied_set t a n (Nonpositives m) s = s
+multiplied_set t a n (NormInfinityCone m) s = s
+multiplied_set t a n (NormOneCone m) s = s
 
 -- ---- sums
 

@@ -4,65 +4,66 @@ ghost use Rattle.simplex_core.specs.StdForm.{IsWellShaped};
 use crate::fault::BenchFault;
 use crate::forms::{Size, form};
 use ratio_core::Ratio;
-use simplex_core::{SolveFault, SolverAnswer, StdForm, solve};
+use simplex_core::{Basis, SolveFault, SolverAnswer, StdForm, solve};
 use std::alloc::Global;
 
-/// How many pivots were allowed in all, and the checksum of the answers.
-#[derive(Clone, Copy)]
-pub struct Tally {
-    pub pivots: u64,
-    pub sum: u64,
-}
+// No form needs as many pivots.
+const ALLOWANCE: u64 = 1_000_000;
 
-// No form needs as many.
-const GREATEST_ALLOWANCE: u64 = 1_000_000;
-
-/// The forms of the numbers from 1 on.
-pub fn tally_forms(alloc: Global, size: &Size, count: u32) -> Result<Tally, BenchFault> {
-    let mut tally = Tally { pivots: 0, sum: 0 };
+/// The checksum of what the forms of the numbers from 1 on lead to.
+pub fn checksum(alloc: Global, size: &Size, count: u32) -> Result<u64, BenchFault> {
+    let mut sum = 0u64;
     for seed in 0..count {
         let form = form(alloc, seed.wrapping_add(1), size)?;
-        tally = solved(alloc, &form, tally)?;
+        sum = sum.wrapping_mul(31).wrapping_add(solved(alloc, &form)?);
     }
-    Ok(tally)
+    Ok(sum)
 }
 
-// The form with every allowance until it comes to an end.
-fn solved(alloc: Global, form: &StdForm, mut tally: Tally) -> Result<Tally, BenchFault>
+fn solved(alloc: Global, form: &StdForm) -> Result<u64, BenchFault>
     requires { IsWellShaped form.now }
 {
-    for allowance in 0..GREATEST_ALLOWANCE {
-        let answer = solve(alloc, form, allowance);
-        let ended = !matches!(answer, Err(SolveFault::Limit { .. }));
-        tally.pivots = tally.pivots.wrapping_add(allowance);
-        tally.sum = tally.sum.wrapping_mul(31).wrapping_add(digest(answer)?);
-        if ended {
-            break;
+    match solve(alloc, form, ALLOWANCE) {
+        Ok(SolverAnswer::Optimal { x, y, basis }) => {
+            Ok(with_basis(with(with(5, x.as_slice()), y.as_slice()), &basis))
         }
-    }
-    Ok(tally)
-}
-
-fn digest(answer: Result<SolverAnswer, SolveFault>) -> Result<u64, BenchFault> {
-    match answer {
-        Ok(SolverAnswer::Optimal { x, .. }) => Ok(mixed(5, x.as_slice())),
-        Ok(SolverAnswer::Infeasible { y, .. }) => Ok(mixed(7, y.as_slice())),
-        Ok(SolverAnswer::Unbounded { x, .. }) => Ok(mixed(11, x.as_slice())),
-        Err(SolveFault::Limit { .. }) => Ok(2),
-        Err(SolveFault::Overflow { .. }) => Ok(3),
+        Ok(SolverAnswer::Infeasible { y, basis }) => Ok(with_basis(with(7, y.as_slice()), &basis)),
+        Ok(SolverAnswer::Unbounded { x, d, basis }) => {
+            Ok(with_basis(with(with(11, x.as_slice()), d.as_slice()), &basis))
+        }
+        Err(SolveFault::Limit { basis, pivots }) => {
+            Ok(with_basis(2, &basis).wrapping_mul(31).wrapping_add(pivots))
+        }
+        Err(SolveFault::Overflow { basis }) => Ok(with_basis(3, &basis)),
         Err(SolveFault::Memory) => Err(BenchFault::Memory),
     }
 }
 
-fn mixed(start: u64, numbers: &[Ratio]) -> u64 {
+// The numbers mixed into a sum.
+fn with(start: u64, numbers: &[Ratio]) -> u64 {
     let mut sum = start;
     for number in numbers {
-        let digest = low(number.num().unsigned_abs()) ^ low(number.den().unsigned_abs());
-        sum = sum.wrapping_mul(31).wrapping_add(digest);
+        let num = number.num();
+        let sign = u64::from(num < 0);
+        let digest = parts(num.unsigned_abs()) ^ parts(number.den().unsigned_abs());
+        sum = sum.wrapping_mul(31).wrapping_add(digest).wrapping_add(sign);
     }
     sum
 }
 
-fn low(n: u128) -> u64 {
-    (n & 0xFFFF_FFFF_FFFF_FFFF) as u64
+fn with_basis(start: u64, basis: &Basis) -> u64 {
+    let mut sum = start;
+    for column in basis.as_slice() {
+        sum = sum.wrapping_mul(31).wrapping_add(*column as u64);
+    }
+    sum
+}
+
+// Both halves of a number.
+fn parts(n: u128) -> u64 {
+    let (low, high) = (
+        (n & 0xFFFF_FFFF_FFFF_FFFF) as u64,
+        (n >> 64 & 0xFFFF_FFFF_FFFF_FFFF) as u64,
+    );
+    low.wrapping_add(high.wrapping_mul(37))
 }

@@ -1,5 +1,6 @@
 // Why the benchmark ends early.
-use ratio_core::{Memory, RatioFault};
+use lists::Memory;
+use ratio_core::RatioFault;
 use std::alloc::{AllocError, AllocFailed};
 use thiserror::Error;
 

@@ -1,33 +1,51 @@
-// Generated forms.
-ghost use Rattle.std.specs.Prelude.{◌≡◌, ◌<◌, ◌*◌, All, IfOk, length};
+// Generated forms, each with a point that meets its rows.
+ghost use Rattle.std.specs.Prelude.{◌<◌, ◌↔◌, All, IfOk, IsTrue};
 ghost use Rattle.ratio_core.specs.Rational.{zero_ℚ, ◌≤ℚ◌};
 ghost use Rattle.simplex_core.specs.StdForm.{IsWellShaped};
 
 use crate::draw::Draw;
 use crate::fault::BenchFault;
-use aff_core::Sequence;
-use ratio_core::Ratio;
+use lists::Sequence;
+use ratio_core::{Ratio, RatioFault};
 use simplex_core::StdForm;
-use std::alloc::Global;
+use std::alloc::{AllocError, Global};
 
-/// How large the forms are. One entry in `sparse` isn't 0.
+/// How large the forms and their entries are. One entry in `sparse` is drawn from `-greatest` to `greatest`, and the others are 0.
 #[derive(Clone, Copy)]
 pub struct Size {
     pub rows: u16,
     pub columns: u16,
-    pub sparse: u8,
+    pub sparse: u16,
+    pub greatest: u16,
 }
 
-/// The form that a number draws.
+/// The form that a number draws. The point that is drawn first meets its rows, each negated where its right side would be
+/// below 0.
 pub fn form(alloc: Global, seed: u32, size: &Size) -> Result<StdForm, BenchFault>
     ensures { IfOk result IsWellShaped }
 {
     let mut draw = Draw::new(seed);
     let (m, c) = (usize::from(size.rows), usize::from(size.columns));
-    let matrix = entries(alloc, &mut draw, m * c, size.sparse)?;
-    let right = sides(alloc, &mut draw, m)?;
-    let costs = costs(alloc, &mut draw, c)?;
+    let point = numbers(alloc, &mut draw, c, 4)?;
+    let costs = fractions(alloc, &numbers(alloc, &mut draw, c, 9)?)?;
+    let mut matrix = Vec::with_capacity(alloc, m * c)?;
+    let mut right = Vec::with_capacity(alloc, m)?;
+    for _ in 0..m {
+        let row = row(alloc, &mut draw, size)?;
+        let side = side(&row, &point);
+        for entry in &row {
+            matrix.push(whole(if side < 0 {
+                entry.wrapping_neg()
+            } else {
+                *entry
+            })?)?;
+        }
+        right.push(whole(if side < 0 { side.wrapping_neg() } else { side })?)?;
+    }
     let flips = Vec::from_elem(alloc, false, m)?;
+    if matrix.len() != m * c || right.len() != m || costs.len() != c || !are_sides(&right) {
+        return Err(BenchFault::Number);
+    }
     Ok(StdForm {
         m,
         c,
@@ -38,58 +56,64 @@ pub fn form(alloc: Global, seed: u32, size: &Size) -> Result<StdForm, BenchFault
     })
 }
 
-// Entries from -4 to 4, of which one in `sparse` is kept and the others are 0.
-fn entries(
-    alloc: Global,
-    draw: &mut Draw,
-    count: usize,
-    sparse: u8,
-) -> Result<Vec<Ratio>, BenchFault>
-    ensures { IfOk result (λ numbers. length numbers.items ≡ count) }
+fn are_sides(right: &[Ratio]) -> bool
+    ensures { IsTrue result ↔ All (λ b. zero_ℚ ≤ℚ b) right.now }
 {
-    let mut numbers = Vec::with_capacity(alloc, count)?;
-    for _ in 0..count {
-        let stands = sparse == 0 || draw.below(u32::from(sparse)) == 0;
-        let number = i128::from(draw.below(9)) - 4;
-        numbers.push(if stands {
-            Ratio::new(number, 1)?
-        } else {
-            Ratio::zero()
-        })?;
-    }
-    Ok(numbers)
-}
-
-// Right sides from 0 to 19.
-fn sides(alloc: Global, draw: &mut Draw, count: usize) -> Result<Vec<Ratio>, BenchFault>
-    ensures long { IfOk result (λ numbers. length numbers.items ≡ count) }
-    ensures nonneg { IfOk result (λ numbers. All (λ b. zero_ℚ ≤ℚ b) numbers.items) }
-{
-    let mut numbers = Vec::with_capacity(alloc, count)?;
-    for _ in 0..count {
-        numbers.push(side(draw)?)?;
-    }
-    Ok(numbers)
+    right.iter().all(|b| is_side(b))
 }
 
 #[tactic(auto, using(rational_laws::specs::Tests::rational_tests))]
-fn side(draw: &mut Draw) -> Result<Ratio, BenchFault>
-    ensures { IfOk result (λ b. zero_ℚ ≤ℚ b) }
+fn is_side(b: &Ratio) -> bool
+    ensures { IsTrue result ↔ (zero_ℚ ≤ℚ b.now) }
 {
-    let number = Ratio::new(i128::from(draw.below(20)), 1)?;
-    if number < Ratio::zero() {
-        return Err(BenchFault::Number);
-    }
-    Ok(number)
+    *b >= Ratio::zero()
 }
 
-// Costs from -2 to 6.
-fn costs(alloc: Global, draw: &mut Draw, count: usize) -> Result<Vec<Ratio>, BenchFault>
-    ensures { IfOk result (λ numbers. length numbers.items ≡ count) }
+// Numbers below n.
+fn numbers(
+    alloc: Global,
+    draw: &mut Draw,
+    count: usize,
+    n: u32,
+) -> Result<Vec<i64>, AllocError>
+    requires { 0 < n }
 {
-    let mut numbers = Vec::with_capacity(alloc, count)?;
+    let mut drawn = Vec::with_capacity(alloc, count)?;
     for _ in 0..count {
-        numbers.push(Ratio::new(i128::from(draw.below(9)) - 2, 1)?)?;
+        drawn.push(i64::from(draw.below(n)))?;
     }
-    Ok(numbers)
+    Ok(drawn)
+}
+
+// The entries of a row.
+fn row(alloc: Global, draw: &mut Draw, size: &Size) -> Result<Vec<i64>, AllocError> {
+    let span = 2 * u32::from(size.greatest) + 1;
+    let mut drawn = Vec::with_capacity(alloc, usize::from(size.columns))?;
+    for _ in 0..size.columns {
+        let stands = size.sparse == 0 || draw.below(u32::from(size.sparse)) == 0;
+        let number = i64::from(draw.below(span)).wrapping_sub(i64::from(size.greatest));
+        drawn.push(if stands { number } else { 0 })?;
+    }
+    Ok(drawn)
+}
+
+// The row times the point.
+fn side(row: &[i64], point: &[i64]) -> i64 {
+    let mut sum = 0i64;
+    for (entry, x) in row.iter().zip(point) {
+        sum = sum.wrapping_add(entry.wrapping_mul(*x));
+    }
+    sum
+}
+
+fn fractions(alloc: Global, numbers: &[i64]) -> Result<Vec<Ratio>, BenchFault> {
+    let mut made = Vec::with_capacity(alloc, numbers.len())?;
+    for number in numbers {
+        made.push(whole(*number)?)?;
+    }
+    Ok(made)
+}
+
+fn whole(n: i64) -> Result<Ratio, RatioFault> {
+    Ratio::new(i128::from(n), 1)
 }

@@ -1,5 +1,5 @@
-// Solves generated forms, each with every allowance of pivots from 0 on until it comes to an end, and prints how many pivots were
-// allowed in all and a checksum of the answers: `simplex_bench ROWS COLUMNS SPARSE FORMS`. One entry in SPARSE isn't 0.
+// Solves generated forms with an ample allowance of pivots, and prints a checksum of the answers:
+// `simplex_bench ROWS COLUMNS SPARSE GREATEST FORMS`. One entry in SPARSE isn't 0, and is at most GREATEST in magnitude.
 #![tactic(auto)]
 
 mod answers;
@@ -7,8 +7,6 @@ mod draw;
 mod fault;
 mod forms;
 
-use answers::Tally;
-use fault::BenchFault;
 use forms::Size;
 use std::{env, io};
 
@@ -18,18 +16,21 @@ fn main(rt: HostRuntime) -> io::Result<()> {
     let rows = words.next().and_then(|word| word.as_str().parse().ok());
     let columns = words.next().and_then(|word| word.as_str().parse().ok());
     let sparse = words.next().and_then(|word| word.as_str().parse().ok());
+    let greatest = words.next().and_then(|word| word.as_str().parse().ok());
     let count = words.next().and_then(|word| word.as_str().parse().ok());
-    let (Some(rows), Some(columns), Some(sparse), Some(count)) = (rows, columns, sparse, count)
-    else {
-        return println!(rt; "usage: simplex_bench ROWS COLUMNS SPARSE FORMS");
+    let (Some(rows), Some(columns), Some(sparse), Some(greatest), Some(count)) = (
+        rows, columns, sparse, greatest, count,
+    ) else {
+        return println!(rt; "usage: simplex_bench ROWS COLUMNS SPARSE GREATEST FORMS");
     };
     let size = Size {
         rows,
         columns,
         sparse,
+        greatest,
     };
-    match answers::tally_forms(rt.alloc(), &size, count) {
-        Ok(Tally { pivots, sum }) => println!(rt; "{pivots} {sum}"),
+    match answers::checksum(rt.alloc(), &size, count) {
+        Ok(sum) => println!(rt; "{sum}"),
         Err(fault) => println!(rt; "{fault}"),
     }
 }

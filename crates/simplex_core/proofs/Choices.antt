@@ -1,11 +1,13 @@
 -- The least and the best below a bound, found by a loop.
-use Rattle.std.specs.Prelude.{◌≡◌, ℕ, zero, suc, ◌+◌, ◌<◌, ◌≤◌, Bool, true, false, ◌&&◌, ◌||◌, Option, Some, None, IfSome, if◌then◌else◌, refl}
+use Rattle.std.specs.Prelude.{◌≡◌, ℕ, zero, suc, ◌+◌, ◌-◌, ◌<◌, ◌≤◌, Bool, true, false, ◌&&◌, ◌||◌, Option, Some, None, if◌then◌else◌, refl}
 use Rattle.std.proofs.Common.{sym, ◌∙◌, ap, ap₂, arith, is_lt, Ordering}
 use Rattle.std.specs.Ordering.{is_eq}
 use Rattle.ratio_core.specs.Rational.{Rational, rational_cmp, rational_eq, ◌/ℚ◌}
 use Rattle.ratio_core.specs.RationalLaws.{rational_eq-is_eq}
-use Rattle.simplex_laws.specs.BoundedSums.{same_or_other}
-use Rattle.simplex_laws.specs.Turns.{is_below, best_below, better_of, least_below, least_row, or_else, row_or_else}
+use Rattle.simplex_laws.specs.BoundedSumLaws.{same_or_other}
+use Rattle.simplex_laws.specs.SearchLaws.{all_below_at, all_below_failed, all_below_more}
+use Rattle.simplex_form.specs.Search.{all_below, best_below, better_of, least_below, least_row, or_else, row_or_else, some_below}
+use Rattle.simplex_form.specs.Turns.{is_below}
 
 one_more : (n : ℕ) → n + 1 ≡ suc n
 one_more n = omega arith
@@ -75,43 +77,61 @@ better_next test before o k n e f g =
 pub better_first : (test : ℕ → Bool) (before : ℕ → ℕ → Bool) (o : Option ℕ) (n : ℕ) → o ≡ None → test n ≡ true → Some n ≡ better_of test before o n
 better_first test before o n e f = (λ i. if sym f i then Some n else None) ∙ ap (λ o. better_of test before o n) (sym e)
 
--- ---- the same choices by the same tests
+-- ---- some number
 
-pub least_below_same : (n : ℕ) (f g : ℕ → Bool) → ((k : ℕ) → k < n → f k ≡ g k) → least_below n f ≡ least_below n g
-least_below_same zero f g e = refl
-least_below_same (suc n) f g e =
-    ap₂ or_else (least_below_same n f g (λ k b. e k (omega (arith, b)))) (ap (λ b. if b then Some n else None) (e n (omega arith)))
+pub some_more : (n : ℕ) (test : ℕ → Bool) → some_below n test ≡ false → test n ≡ false → some_below (n + 1) test ≡ false
+some_more n test e f = ap (λ k. some_below k test) (one_more n) ∙ (λ i. e i || f i)
 
-pub least_row_same : (n : ℕ) (f g : ℕ → Option ℕ) → ((k : ℕ) → k < n → f k ≡ g k) → least_row n f ≡ least_row n g
-least_row_same zero f g e = refl
-least_row_same (suc n) f g e =
-    ap₂ (λ o c. row_or_else o n c) (least_row_same n f g (λ k b. e k (omega (arith, b)))) (e n (omega arith))
+or_true : (a b : Bool) → b ≡ true → (a || b) ≡ true
+or_true true b e = refl
+or_true false b e = e
 
-module _ (f g : ℕ → Bool) (before other : ℕ → ℕ → Bool) (m : ℕ) (e : (k : ℕ) → k < m → f k ≡ g k) (h : (i k : ℕ) → i < m → k < m → before i k ≡ other i k) where
-  abbrev AgreesBelow : ℕ → Option ℕ → Option ℕ → Type 0
-  AgreesBelow n o p = (o ≡ p) × IfSome o (λ k. k < n)
+pub some_found : (n k : ℕ) (test : ℕ → Bool) → k < n → test k ≡ true → some_below n test ≡ true
+some_found zero k test b e = absurd (omega (arith, b))
+some_found (suc n) k test b e =
+    same_or_other (some_below (suc n) test ≡ true) k n
+    (λ q. or_true (some_below n test) (test n) (ap test (sym q) ∙ e))
+    (λ m. ap (λ x. x || test n) (some_found n k test (omega (arith, b, m)) e))
 
-  better_same : (n : ℕ) (o : Option ℕ) → n < m → IfSome o (λ k. k < n) → AgreesBelow (suc n) (better_of f before o n) (better_of g other o n)
-  better_same n None b h2 = (ap (λ t. if t then Some n else None) (e n b), by_test (f n))
+-- ---- tests of the numbers from a on
+
+module _ (a : ℕ) (f : ℕ → Bool) where
+  pub passed_none : (j : ℕ) → j ≡ a → all_below (j - a) (λ k. f (a + k)) ≡ true
+  passed_none j e = ap (λ n. all_below n (λ k. f (a + k))) (none_lem j a e)
     where
-      by_test : (t : Bool) → IfSome (if t then Some n else None) (λ k. k < suc n)
-      by_test true = omega arith
-      by_test false = tt
-  better_same n (Some k) b c =
-      (ap₂ (λ t u. if t && u then Some n else Some k) (e n b) (h n k b (omega (arith, b, c))), by_test (f n && before n k))
-    where
-      by_test : (t : Bool) → IfSome (if t then Some n else Some k) (λ k. k < suc n)
-      by_test true = omega arith
-      by_test false = omega (arith, c)
+      none_lem : (j a : ℕ) → j ≡ a → j - a ≡ 0
+      none_lem j a e = omega (arith, e)
 
-  agrees_below : (n : ℕ) → n ≤ m → AgreesBelow n (best_below n f before) (best_below n g other)
-  agrees_below zero b = (refl, tt)
-  agrees_below (suc n) b = step (agrees_below n (omega (arith, b)))
+  pub passed_more : (j : ℕ) → a ≤ j → all_below (j - a) (λ k. f (a + k)) ≡ true → f j ≡ true → all_below (j + 1 - a) (λ k. f (a + k)) ≡ true
+  passed_more j b h e =
+      ap (λ n. all_below n (λ k. f (a + k))) (more_lem j a b) ∙ all_below_more (j - a) (λ k. f (a + k)) h (ap f (back_lem j a b) ∙ e)
     where
-      step : AgreesBelow n (best_below n f before) (best_below n g other) → AgreesBelow (suc n) (best_below (suc n) f before) (best_below (suc n) g other)
-      step k =
-          let next = better_same n (best_below n f before) (omega (arith, b)) k.1 in
-          (next.0 ∙ ap (λ o. better_of g other o n) k.0, next.1)
+      more_lem : (j a : ℕ) → a ≤ j → j + 1 - a ≡ j - a + 1
+      more_lem j a b = omega (arith, b)
 
-  pub best_below_same : best_below m f before ≡ best_below m g other
-  best_below_same = (agrees_below m (omega arith)).0
+      back_lem : (j a : ℕ) → a ≤ j → a + (j - a) ≡ j
+      back_lem j a b = omega (arith, b)
+
+  pub passed_failed : (j m : ℕ) → a ≤ j → j < a + m → f j ≡ false → all_below m (λ k. f (a + k)) ≡ false
+  passed_failed j m b c e = all_below_failed m (j - a) (λ k. f (a + k)) (within_lem j a m b c) (ap f (back_lem j a b) ∙ e)
+    where
+      within_lem : (j a m : ℕ) → a ≤ j → j < a + m → j - a < m
+      within_lem j a m b c = omega (arith, b, c)
+
+      back_lem : (j a : ℕ) → a ≤ j → a + (j - a) ≡ j
+      back_lem j a b = omega (arith, b)
+
+  pub passed_all : (j m : ℕ) → j ≡ a + m → all_below (j - a) (λ k. f (a + k)) ≡ true → all_below m (λ k. f (a + k)) ≡ true
+  passed_all j m e h = ap (λ n. all_below n (λ k. f (a + k))) (all_lem j a m e) ∙ h
+    where
+      all_lem : (j a m : ℕ) → j ≡ a + m → m ≡ j - a
+      all_lem j a m e = omega (arith, e)
+
+  pub passed_at : (j m : ℕ) → a ≤ j → j < a + m → all_below m (λ k. f (a + k)) ≡ true → f j ≡ true
+  passed_at j m b c h = ap f (sym (back_lem j a b)) ∙ all_below_at m (j - a) (λ k. f (a + k)) h (within_lem j a m b c)
+    where
+      within_lem : (j a m : ℕ) → a ≤ j → j < a + m → j - a < m
+      within_lem j a m b c = omega (arith, b, c)
+
+      back_lem : (j a : ℕ) → a ≤ j → a + (j - a) ≡ j
+      back_lem j a b = omega (arith, b)

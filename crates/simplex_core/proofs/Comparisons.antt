@@ -5,8 +5,8 @@ use Rattle.std.proofs.lemmas.Bool.{cond-true, le-leb}
 use Rattle.ratio_core.specs.Rational.{Rational, SumFits, neg_ℚ, one_ℚ, rational_cmp, rational_eq, sum_fits, zero_ℚ, ◌≤ℚ◌, ◌‹ℚ◌}
 use Rattle.ratio_core.specs.RationalLaws.{eq_rational_eq, rational_eq-true, sum_fits_Decides}
 use Rattle.rational_laws.specs.Order.{not_‹ℚ_from_≤ℚ}
-use Rattle.rational_laws.specs.Tests.{gt_from_test, le_from_failed, lt_from_test}
-use Rattle.simplex_laws.specs.Turns.{is_below}
+use Rattle.rational_laws.specs.Tests.{gt_from_test, le_from_failed, lt_from_test, test_from_lt}
+use Rattle.simplex_form.specs.Turns.{is_below}
 
 module _ (b : Bool) (x z v : Rational) (zero : z ≡ zero_ℚ) (is : x ≡ v) where
   pub above_from : b ≡ is_gt (rational_cmp x z) → b ≡ true → zero_ℚ ‹ℚ v
@@ -56,3 +56,9 @@ ok_from_fits (Err e) o p v w h one is f =
 
 pub artificial_row : (c reals n : ℕ) (o : Option ℕ) → reals ≡ c → c ≤ n → (if nat_le reals n then o else None) ≡ o
 artificial_row c reals n o e b = cond-true (nat_le reals n) o None (le-leb reals n (omega (arith, e, b)))
+
+-- ---- an artificial column above 0
+
+pub above_is : (x z v : Rational) (b : Bool) → z ≡ zero_ℚ → x ≡ v → b ≡ is_gt (rational_cmp x z) → b ≡ is_below zero_ℚ v
+above_is x z v true zero is e = sym (test_from_lt zero_ℚ v (above_from true x z v zero is e refl))
+above_is x z v false zero is e = sym (below_failed v (at_most_from false x z v zero is e refl))

@@ -1,7 +1,6 @@
 pub mod Choices
 pub mod Comparisons
-pub mod Agree
+pub mod Multipliers
 pub mod Placing
-pub mod Stepping
 pub mod Running
 pub mod Right

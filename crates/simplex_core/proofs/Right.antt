@@ -4,26 +4,22 @@ use Rattle.std.specs.List.{range_with_len}
 use Rattle.std.proofs.Common.{sym, ◌∙◌, ap, subst}
 use Rattle.std.proofs.lemmas.Bool.{cond-false, cond-true}
 use Rattle.ratio_core.specs.Rational.{Rational, zero_ℚ, ◌*ℚ◌, ◌≤ℚ◌, ◌‹ℚ◌}
-use Rattle.simplex_laws.specs.BoundedSums.{sum_to_same}
-use Rattle.simplex_laws.specs.Form.{Form, IsFeasible, IsInfeasible, IsOptimal, IsStandard, IsUnbounded, cost_at, first_cost, left_side, second_cost, weighted}
-use Rattle.simplex_laws.specs.Basis.{State, start}
-use Rattle.simplex_laws.specs.Board.{multiplier, point, ray}
-use Rattle.simplex_laws.specs.Turns as turns
-use Rattle.simplex_laws.specs.Fit.{start_fits}
-use Rattle.simplex_laws.specs.Ends.{IsAnswered}
-use Rattle.simplex_laws.specs.Outcome.{IsOutcome, outcome, outcome_from, overflowing}
+use Rattle.simplex_laws.specs.BoundedSumLaws.{sum_to_same}
+use Rattle.simplex_form.specs.Form.{Form, IsFeasible, IsInfeasible, IsOptimal, IsStandard, IsUnbounded, cost_at, first_cost, left_side, second_cost, weighted}
+use Rattle.simplex_form.specs.Basis.{State, start}
+use Rattle.simplex_form.specs.Board.{multiplier, point, ray}
+use Rattle.simplex_form.specs.declared.turn.Turn.{Turn}
+use Rattle.simplex_form.specs.Fit.{start_fits}
+use Rattle.simplex_form.specs.Standing.{IsAnswered}
+use Rattle.simplex_form.specs.Outcome.{IsOutcome, outcome, outcome_from, overflowing}
 use Rattle.simplex_laws.specs.OutcomeLaws.{ended_right, outcome_is}
-use Rattle.simplex_laws.specs.Outcomes.{start_basis}
 use Rattle.tableau_core.specs.Row.{cell}
-use Rattle.tableau_core.specs.Tableau.{Tableau}
-use Rattle.tableau_core.specs.Board.{IsBoardOf}
 use Rattle.simplex_core.specs.declared.answer.SolverAnswer.{SolverAnswer}
 use Rattle.simplex_core.specs.declared.answer.SolverAnswer.TheVariants.{Infeasible, Optimal, Unbounded}
 use Rattle.simplex_core.specs.declared.fault.SolveFault.{SolveFault}
 use Rattle.simplex_core.specs.declared.fault.SolveFault.TheVariants.{Overflow}
 use Rattle.simplex_core.specs.declared.form.StdForm.{StdForm}
 use Rattle.simplex_core.specs.Answer.{IsReadOff, IsRightAnswer, Tells}
-use Rattle.simplex_core.specs.OnBoard.{HasSize}
 use Rattle.simplex_core.specs.StdForm.{IsWellShaped, equality_form}
 
 -- ---- answers that agree on the rows and the real columns
@@ -65,7 +61,7 @@ module _ (F : Form) where
     falls = subst (λ q. q ‹ℚ zero_ℚ) (cost_same d w f) h.falls;
   }
 
-  read_right : (s : State) (t : turns.Turn) (answer : SolverAnswer) → IsAnswered F s t → IsReadOff F s t answer → IsRightAnswer F answer
+  read_right : (s : State) (t : Turn) (answer : SolverAnswer) → IsAnswered F s t → IsReadOff F s t answer → IsRightAnswer F answer
   read_right s t (Optimal x y basis) h k =
       (k.1.long, k.2.long, optimal_same (point F s) (cell x) (multiplier F s (second_cost F)) (cell y) (λ j b. sym (k.1.cells j b)) (λ i b. sym (k.2.cells i b)) (subst (IsAnswered F s) k.0 h))
   read_right s t (Infeasible y basis) h k =
@@ -91,9 +87,6 @@ module _ (F : Form) where
   pub tells_start : (n : ℕ) (basis : List ℕ) → start_fits F ≡ false → basis ≡ range_with_len F.reals F.rows → Tells F n (outcome F n) (Err (Overflow basis))
   tells_start n basis e same =
       (start F, cond-false (start_fits F) (outcome_from F n (start F)) (overflowing (start F)) e, same ∙ sym basis-start)
-
-  pub start_size : (t : Tableau) → IsBoardOf F (start F) t → HasSize F.rows F.reals t
-  start_size t h = record { reals = h.reals; rows = h.count; basis = ap length h.basis ∙ (start_basis F).long }
 
 pub standard_form : (form : StdForm) → IsWellShaped form → IsStandard (equality_form form)
 standard_form form h = λ i b. h.nonneg i zero_ℚ (subst (λ n. i < n) (sym h.right) b)

@@ -1,95 +1,144 @@
 -- The loop: what is told of the rest of the trail is told of all of it.
-use Rattle.std.specs.Prelude.{◌≡◌, ℕ, zero, suc, ◌-◌, ◌<◌, true, false, Some, None, Ok, Err, List, if◌then◌else◌, refl}
-use Rattle.std.proofs.Common.{sym, ◌∙◌, ap, arith}
+use Rattle.std.specs.Prelude.{◌≡◌, ℕ, zero, suc, ◌+◌, ◌-◌, ◌<◌, Bool, true, false, Result, Ok, Err, MatchResult, is_err, is_ok, List, if◌then◌else◌, IsTrue, length, refl}
+use Rattle.std.proofs.Common.{sym, ◌∙◌, ap, arith, subst, true≢false}
 use Rattle.std.proofs.lemmas.Bool.{cond-false, cond-true}
-use Rattle.simplex_laws.specs.Form.{Form, IsStandard}
-use Rattle.simplex_laws.specs.Basis as laws
-use Rattle.simplex_laws.specs.Turns as turns
-use Rattle.simplex_laws.specs.Trail.{after, ends}
-use Rattle.simplex_laws.specs.Fit.{turn_fits}
-use Rattle.simplex_laws.specs.Outcome.{ended, limited, outcome_from, overflowing}
-use Rattle.simplex_laws.specs.Standing.{Stands}
+use Rattle.ratio_core.specs.Rational.{zero_ℚ}
+use Rattle.simplex_form.specs.declared.turn.Phase.{Phase}
+use Rattle.simplex_form.specs.declared.turn.Phase.TheVariants.{First}
+use Rattle.simplex_form.specs.declared.turn.Turn.{Turn}
+use Rattle.simplex_form.specs.declared.turn.Turn.TheVariants.{Pivot}
+use Rattle.simplex_form.specs.Form.{Form, IsStandard}
+use Rattle.simplex_form.specs.Basis.{State, start}
+use Rattle.simplex_form.specs.Board.{pivot}
+use Rattle.simplex_form.specs.Readings.{Agrees, readings}
+use Rattle.simplex_form.specs.Turns as bland
+use Rattle.simplex_form.specs.Fit.{pivot_fits, turn_fits, uses_first}
+use Rattle.simplex_form.specs.Standing.{Stands}
+use Rattle.simplex_form.specs.Trail.{after, ends, next}
+use Rattle.simplex_form.specs.Outcome.{ended, limited, outcome_from, overflowing}
+use Rattle.simplex_laws.specs.AgreementLaws.{agrees_less, turn_same}
 use Rattle.simplex_laws.specs.TurnLaws.{turn_says}
-use Rattle.simplex_laws.specs.Kept.{after_stands}
-use Rattle.simplex_laws.specs.Outcomes.{start_stands}
-use Rattle.tableau_core.specs.Tableau.{Tableau}
-use Rattle.tableau_core.specs.Board.{IsBoardOf}
-use Rattle.tableau_core.specs.declared.fault.BoardOverflow.{BoardOverflow}
+use Rattle.simplex_laws.specs.StandingLaws.{after_stands}
+use Rattle.simplex_laws.specs.TrailLaws.{start_stands}
+use Rattle.tableau_core.specs.Tableau.{IsBoardOf, IsPivoted, Tableau, readings_of}
+use Rattle.tableau_core.specs.TableauLaws.{fits_same, next_board}
 use Rattle.simplex_core.specs.declared.answer.SolverAnswer.{SolverAnswer}
 use Rattle.simplex_core.specs.declared.fault.SolveFault.TheVariants.{Limit, Overflow}
-use Rattle.simplex_core.specs.declared.turn.Phase.{Phase}
-use Rattle.simplex_core.specs.declared.turn.Phase.TheVariants.{First}
-use Rattle.simplex_core.specs.declared.turn.Turn.{Turn}
-use Rattle.simplex_core.specs.Answer.{Tells}
-use Rattle.simplex_core.specs.Steps.{IsDue, IsReadAt, IsStepped}
-use Rattle.simplex_core.specs.Turn.{IsTurnBy, phase_of}
+use Rattle.simplex_core.specs.Answer.{IsReadOff, Tells}
+use Rattle.simplex_core.specs.Phases.{IsInPhase, IsWithin, in_phase}
+use Rattle.simplex_core.specs.Steps.{IsDue}
 
 -- ---- the rest of the trail
 
-ended_at : (F : Form) (n : ℕ) (s : laws.State) → ends (turns.turn F s) ≡ true → outcome_from F n s ≡ ended s (turns.turn F s)
-ended_at F zero s e = cond-true (ends (turns.turn F s)) (ended s (turns.turn F s)) (limited s) e
+ended_at : (F : Form) (n : ℕ) (s : State) → ends (bland.turn F s) ≡ true → outcome_from F n s ≡ ended s (bland.turn F s)
+ended_at F zero s e = cond-true (ends (bland.turn F s)) (ended s (bland.turn F s)) (limited s) e
 ended_at F (suc n) s e =
-    cond-true (ends (turns.turn F s)) (ended s (turns.turn F s)) (if turn_fits F s (turns.turn F s) then outcome_from F n (after F s (turns.turn F s)) else overflowing s) e
+    cond-true (ends (bland.turn F s)) (ended s (bland.turn F s)) (if turn_fits (readings F s) (bland.turn F s) then outcome_from F n (next F s) else overflowing s) e
 
-limited_at : (F : Form) (n : ℕ) (s : laws.State) → n ≡ 0 → ends (turns.turn F s) ≡ false → outcome_from F n s ≡ limited s
+limited_at : (F : Form) (n : ℕ) (s : State) → n ≡ 0 → ends (bland.turn F s) ≡ false → outcome_from F n s ≡ limited s
 limited_at F n s z e =
-    ap (λ k. outcome_from F k s) z ∙ cond-false (ends (turns.turn F s)) (ended s (turns.turn F s)) (limited s) e
+    ap (λ k. outcome_from F k s) z ∙ cond-false (ends (bland.turn F s)) (ended s (bland.turn F s)) (limited s) e
 
-refused_at : (F : Form) (n : ℕ) (s : laws.State) → 0 < n → ends (turns.turn F s) ≡ false → turn_fits F s (turns.turn F s) ≡ false → outcome_from F n s ≡ overflowing s
+refused_at : (F : Form) (n : ℕ) (s : State) → 0 < n → ends (bland.turn F s) ≡ false → turn_fits (readings F s) (bland.turn F s) ≡ false → outcome_from F n s ≡ overflowing s
 refused_at F zero s b e f = absurd (omega (arith, b))
 refused_at F (suc n) s b e f =
-    cond-false (ends (turns.turn F s)) (ended s (turns.turn F s)) (if turn_fits F s (turns.turn F s) then outcome_from F n (after F s (turns.turn F s)) else overflowing s) e
-    ∙ cond-false (turn_fits F s (turns.turn F s)) (outcome_from F n (after F s (turns.turn F s))) (overflowing s) f
+    cond-false (ends (bland.turn F s)) (ended s (bland.turn F s)) (if turn_fits (readings F s) (bland.turn F s) then outcome_from F n (next F s) else overflowing s) e
+    ∙ cond-false (turn_fits (readings F s) (bland.turn F s)) (outcome_from F n (next F s)) (overflowing s) f
 
-goes_on_at : (F : Form) (n : ℕ) (s : laws.State) → 0 < n → ends (turns.turn F s) ≡ false → turn_fits F s (turns.turn F s) ≡ true → outcome_from F n s ≡ outcome_from F (n - 1) (after F s (turns.turn F s))
+goes_on_at : (F : Form) (n : ℕ) (s : State) → 0 < n → ends (bland.turn F s) ≡ false → turn_fits (readings F s) (bland.turn F s) ≡ true → outcome_from F n s ≡ outcome_from F (n - 1) (next F s)
 goes_on_at F zero s b e f = absurd (omega (arith, b))
 goes_on_at F (suc n) s b e f =
-    cond-false (ends (turns.turn F s)) (ended s (turns.turn F s)) (if turn_fits F s (turns.turn F s) then outcome_from F n (after F s (turns.turn F s)) else overflowing s) e
-    ∙ cond-true (turn_fits F s (turns.turn F s)) (outcome_from F n (after F s (turns.turn F s))) (overflowing s) f
-    ∙ ap (λ k. outcome_from F k (after F s (turns.turn F s))) (back_lem n)
+    cond-false (ends (bland.turn F s)) (ended s (bland.turn F s)) (if turn_fits (readings F s) (bland.turn F s) then outcome_from F n (next F s) else overflowing s) e
+    ∙ cond-true (turn_fits (readings F s) (bland.turn F s)) (outcome_from F n (next F s)) (overflowing s) f
+    ∙ ap (λ k. outcome_from F k (next F s)) (back_lem n)
   where
     back_lem : (n : ℕ) → n ≡ suc n - 1
     back_lem n = omega arith
+
+-- ---- a result and what it says
+
+pub refused_and : {T E : Type 0} (r : Result T E) (P Q : Type 0) → MatchResult r (λ _. P) (λ _. Q) → is_err r ≡ true → (is_ok r ≡ false) × Q
+refused_and (Ok x) P Q h e = absurd (true≢false (sym e))
+refused_and (Err x) P Q h e = (refl, h)
+
+pub made_and : {T E : Type 0} (r : Result T E) (P Q : Type 0) → MatchResult r (λ _. P) (λ _. Q) → is_err r ≡ false → (is_ok r ≡ true) × P
+made_and (Ok x) P Q h e = (refl, h)
+made_and (Err x) P Q h e = absurd (true≢false e)
 
 -- ---- the loop
 
 -- the board is that of a basis with this phase, from which `left` steps more come out as n do from the start
 pub record IsAtStep (F : Form) (n left : ℕ) (phase : Phase) (t : Tableau) : Type 0 where
-  pub state : laws.State
+  pub state : State
   pub stands : Stands F state
   pub board : IsBoardOf F state t
-  pub told : state.phase ≡ phase_of phase
-  pub rest : outcome_from F n (laws.start F) ≡ outcome_from F left state
+  pub told : state.phase ≡ phase
+  pub rest : outcome_from F n (start F) ≡ outcome_from F left state
 
-phase-start : (F : Form) → (laws.start F).phase ≡ laws.first
-unfolding laws.start
+phase-start : (F : Form) → (start F).phase ≡ First
+unfolding start
 phase-start F = refl
 
-pub at_start : (F : Form) (n : ℕ) (t : Tableau) → IsStandard F → IsBoardOf F (laws.start F) t → IsAtStep F n n First t
-at_start F n t h b = record { state = laws.start F; stands = start_stands F h; board = b; told = phase-start F; rest = refl }
+phase-pivot : (F : Form) (s : State) (phase : Phase) (r q : ℕ) → (pivot F s phase r q).phase ≡ phase
+unfolding pivot
+phase-pivot F s phase r q = refl
 
-module _ (F : Form) (n left : ℕ) (phase : Phase) (t : Tableau) (a : IsAtStep F n left phase t) (turn : Turn) (by : IsTurnBy (turns.turn_in (phase_of phase)) t turn) where
+pub at_start : (F : Form) (n : ℕ) (t : Tableau) → IsStandard F → IsBoardOf F (start F) t → IsAtStep F n n First t
+at_start F n t h b = record { state = start F; stands = start_stands F h; board = b; told = phase-start F; rest = refl }
+
+-- the board with the first cost row as the phase has it
+board_in : (F : Form) (s : State) (t : Tableau) (phase : Phase) → (IsTrue (uses_first phase) → IsTrue t.in_first) → IsBoardOf F s t → IsBoardOf F s (in_phase phase t)
+board_in F s t phase u h = agrees_less (uses_first phase) t.in_first (readings_of t) (readings F s) u h
+
+module _ (F : Form) (n left : ℕ) (phase : Phase) (t : Tableau) (a : IsAtStep F n left phase t) (kept : IsInPhase phase t) (turn : Turn) (by : turn ≡ bland.turn_in phase (readings_of t)) where
   pub is_due : IsDue F a.state t turn
   is_due = record {
     stands = a.stands;
     board = a.board;
-    due = by F a.state a.stands a.board ∙ ap (λ p. turns.turn_in p F a.state) (sym a.told);
+    due = by
+        ∙ turn_same t.in_first (readings_of t) (readings F a.state) a.board phase (λ u. subst IsTrue (sym kept) u)
+        ∙ ap (λ p. bland.turn_in p (readings F a.state)) (sym a.told);
   }
 
-  pub tells_end : (answer : SolverAnswer) → IsReadAt F a.state (Some answer) → Tells F n (outcome_from F n (laws.start F)) (Ok answer)
-  tells_end answer k = (a.state, turns.turn F a.state, a.rest ∙ ended_at F left a.state k.0, k.1)
+  due_ends : (b : Turn) → turn ≡ b → ends b ≡ ends (bland.turn F a.state)
+  due_ends b e = ap ends (sym e) ∙ ap ends is_due.due
 
-  pub tells_limit : (basis : List ℕ) → IsReadAt F a.state None → left ≡ 0 → basis ≡ t.basis → Tells F n (outcome_from F n (laws.start F)) (Err (Limit basis n))
-  tells_limit basis k z e = (a.state, a.rest ∙ limited_at F left a.state z k, e ∙ a.board.basis, refl)
+  pub tells_end : (b : Turn) (answer : SolverAnswer) → turn ≡ b → ends b ≡ true → (IsDue F a.state t b → IsReadOff F a.state b answer) → Tells F n (outcome_from F n (start F)) (Ok answer)
+  tells_end b answer e k read =
+      let due : IsDue F a.state t b = subst (IsDue F a.state t) e is_due in
+      (a.state, b, a.rest ∙ ended_at F left a.state (sym (due_ends b e) ∙ k) ∙ ap (ended a.state) (sym due.due), read due)
 
-  pub tells_overflow : (u : Tableau) (e : BoardOverflow) (basis : List ℕ) → IsReadAt F a.state None → 0 < left → IsStepped F a.state (Err e) u → basis ≡ u.basis → Tells F n (outcome_from F n (laws.start F)) (Err (Overflow basis))
-  tells_overflow u e basis k b d same = (a.state, a.rest ∙ refused_at F left a.state b k d.0, same ∙ d.1)
+  pub tells_limit : (b : Turn) (basis : List ℕ) → turn ≡ b → ends b ≡ false → left ≡ 0 → basis ≡ t.basis → Tells F n (outcome_from F n (start F)) (Err (Limit basis n))
+  tells_limit b basis e k z same = (a.state, a.rest ∙ limited_at F left a.state z (sym (due_ends b e) ∙ k), same ∙ a.board.basis, refl)
 
-  pub at_next : (u : Tableau) (next : Phase) → IsReadAt F a.state None → 0 < left → IsStepped F a.state (Ok next) u → IsAtStep F n (left - 1) next u
-  at_next u next k b d = record {
-    state = after F a.state (turns.turn F a.state);
-    stands = after_stands F a.state a.stands (turns.turn F a.state) (turn_says F a.state a.stands);
-    board = d.1;
-    told = d.2;
-    rest = a.rest ∙ goes_on_at F left a.state b k d.0;
-  }
+  pub tells_overflow : (b : Turn) (basis : List ℕ) → turn ≡ b → ends b ≡ false → 0 < left → turn_fits (readings F a.state) b ≡ false → basis ≡ t.basis → Tells F n (outcome_from F n (start F)) (Err (Overflow basis))
+  tells_overflow b basis e k c fits same =
+      (a.state, a.rest ∙ refused_at F left a.state c (sym (due_ends b e) ∙ k) (ap (turn_fits (readings F a.state)) (sym is_due.due ∙ e) ∙ fits), same ∙ a.board.basis)
+
+  -- a pivot
+  module _ (next_phase : Phase) (r q : ℕ) (is : turn ≡ Pivot next_phase r q) (within : IsWithin t (Pivot next_phase r q)) where
+    column : q < t.reals → q < t.reals + length t.rows
+    column b = omega (arith, b)
+
+    before : IsBoardOf F a.state (in_phase next_phase t)
+    before = board_in F a.state t next_phase within.0 a.board
+
+    pivot_fit : (made : Bool) → made ≡ pivot_fits (uses_first next_phase) (readings_of t) r q → turn_fits (readings F a.state) (Pivot next_phase r q) ≡ made
+    pivot_fit made e =
+        sym (e ∙ fits_same F a.state next_phase r q (in_phase next_phase t) before within.1 (column within.2))
+
+    pub tells_refused : (made : Bool) (basis : List ℕ) (u : Tableau) → 0 < left → made ≡ pivot_fits (uses_first next_phase) (readings_of t) r q → made ≡ false → u ≡ in_phase next_phase t → basis ≡ u.basis → Tells F n (outcome_from F n (start F)) (Err (Overflow basis))
+    tells_refused made basis u c e failed stays same =
+        tells_overflow (Pivot next_phase r q) basis is refl c (pivot_fit made e ∙ failed) (same ∙ ap (λ x. x.basis) stays)
+
+    next_is : next F a.state ≡ pivot F a.state next_phase r q
+    next_is = ap (after F a.state) (sym is_due.due ∙ is)
+
+    pub at_next : (made : Bool) (u : Tableau) → 0 < left → made ≡ pivot_fits (uses_first next_phase) (readings_of t) r q → made ≡ true → IsPivoted r q (in_phase next_phase t) u → IsAtStep F n (left - 1) next_phase u
+    at_next made u c e ok p = record {
+      state = next F a.state;
+      stands = after_stands F a.state a.stands (bland.turn F a.state) (turn_says F a.state a.stands);
+      board = subst (λ x. IsBoardOf F x u) (sym next_is) (next_board F a.state next_phase r q (in_phase next_phase t) before within.1 (column within.2) u a.stands.basis within.3 p);
+      told = ap (λ x. x.phase) next_is ∙ phase-pivot F a.state next_phase r q;
+      rest = a.rest ∙ goes_on_at F left a.state c (sym (due_ends (Pivot next_phase r q) is)) (ap (turn_fits (readings F a.state)) (sym is_due.due ∙ is) ∙ pivot_fit made e ∙ ok);
+    }

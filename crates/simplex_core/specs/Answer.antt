@@ -1,10 +1,11 @@
 -- What an answer says of the form.
 use Rattle.std.specs.Prelude.{◌≡◌, ℕ, length, Result, Ok, Err}
-use Rattle.simplex_laws.specs.Form.{Form, IsInfeasible, IsOptimal, IsUnbounded, first_cost, second_cost}
-use Rattle.simplex_laws.specs.Basis.{State}
-use Rattle.simplex_laws.specs.Board.{multiplier, point, ray}
-use Rattle.simplex_laws.specs.Turns as turns
-use Rattle.simplex_laws.specs.Outcome.{Outcome, ended, limited, outcome, overflowing}
+use Rattle.simplex_form.specs.declared.turn.Turn.{Turn}
+use Rattle.simplex_form.specs.declared.turn.Turn.TheVariants as turn
+use Rattle.simplex_form.specs.Form.{Form, IsInfeasible, IsOptimal, IsUnbounded, first_cost, second_cost}
+use Rattle.simplex_form.specs.Basis.{State}
+use Rattle.simplex_form.specs.Board.{multiplier, point, ray}
+use Rattle.simplex_form.specs.Outcome.{Outcome, ended, limited, outcome, overflowing}
 use Rattle.tableau_core.specs.Row.{cell}
 use Rattle.tableau_core.specs.Start.{IsListOf}
 use Rattle.simplex_core.specs.declared.answer.SolverAnswer.{SolverAnswer}
@@ -13,17 +14,21 @@ use Rattle.simplex_core.specs.declared.fault.SolveFault.{SolveFault}
 use Rattle.simplex_core.specs.declared.fault.SolveFault.TheVariants.{Limit, Memory, Overflow}
 
 -- the answer is read off the basis, where this turn is due
-abbrev pub IsReadOff : Form → State → turns.Turn → SolverAnswer → Type 0
+abbrev pub IsReadOff : Form → State → Turn → SolverAnswer → Type 0
 IsReadOff F s t (Optimal x y basis) =
-    (t ≡ turns.optimal) × IsListOf F.reals (point F s) x × IsListOf F.rows (multiplier F s (second_cost F)) y × (basis ≡ s.basis)
-IsReadOff F s t (Infeasible y basis) = (t ≡ turns.infeasible) × IsListOf F.rows (multiplier F s (first_cost F)) y × (basis ≡ s.basis)
+    (t ≡ turn.Optimal) × IsListOf F.reals (point F s) x
+    × IsListOf F.rows (multiplier F s (second_cost F)) y × (basis ≡ s.basis)
+IsReadOff F s t (Infeasible y basis) =
+    (t ≡ turn.Infeasible) × IsListOf F.rows (multiplier F s (first_cost F)) y × (basis ≡ s.basis)
 IsReadOff F s t (Unbounded x d basis) =
-    (q : ℕ) × (t ≡ turns.unbounded q) × IsListOf F.reals (point F s) x × IsListOf F.reals (ray F s q) d × (basis ≡ s.basis)
+    (q : ℕ) × (t ≡ turn.Unbounded q) × IsListOf F.reals (point F s) x
+    × IsListOf F.reals (ray F s q) d × (basis ≡ s.basis)
 
 -- the result tells the outcome of a trail with an allowance of n steps; want of memory tells nothing
 abbrev pub Tells : Form → ℕ → Outcome → Result SolverAnswer SolveFault → Type 0
-Tells F n o (Ok answer) = (s : State) × (t : turns.Turn) × (o ≡ ended s t) × IsReadOff F s t answer
-Tells F n o (Err (Limit basis pivots)) = (s : State) × (o ≡ limited s) × (basis ≡ s.basis) × (pivots ≡ n)
+Tells F n o (Ok answer) = (s : State) × (t : Turn) × (o ≡ ended s t) × IsReadOff F s t answer
+Tells F n o (Err (Limit basis pivots)) =
+    (s : State) × (o ≡ limited s) × (basis ≡ s.basis) × (pivots ≡ n)
 Tells F n o (Err (Overflow basis)) = (s : State) × (o ≡ overflowing s) × (basis ≡ s.basis)
 Tells F n o (Err Memory) = Unit {0}
 
@@ -32,6 +37,8 @@ SaysOutcome F n res = Tells F n (outcome F n) res
 
 -- the answer is right, whatever basis it comes from
 abbrev pub IsRightAnswer : Form → SolverAnswer → Type 0
-IsRightAnswer F (Optimal x y basis) = (length x ≡ F.reals) × (length y ≡ F.rows) × IsOptimal F (cell x) (cell y)
+IsRightAnswer F (Optimal x y basis) =
+    (length x ≡ F.reals) × (length y ≡ F.rows) × IsOptimal F (cell x) (cell y)
 IsRightAnswer F (Infeasible y basis) = (length y ≡ F.rows) × IsInfeasible F (cell y)
-IsRightAnswer F (Unbounded x d basis) = (length x ≡ F.reals) × (length d ≡ F.reals) × IsUnbounded F (cell x) (cell d)
+IsRightAnswer F (Unbounded x d basis) =
+    (length x ≡ F.reals) × (length d ≡ F.reals) × IsUnbounded F (cell x) (cell d)

@@ -1,7 +1,6 @@
 -- What the contracts cite.
 pub mod StdForm
 pub mod Answer
-pub mod OnBoard
-pub mod Turn
+pub mod Phases
 pub mod Placed
 pub mod Steps

@@ -2,7 +2,7 @@
 use Rattle.std.specs.Prelude.{◌≡◌, ◌*◌, length}
 use Rattle.std.specs.List.{All}
 use Rattle.ratio_core.specs.Rational.{zero_ℚ, ◌≤ℚ◌}
-use Rattle.simplex_laws.specs.Form.{Form}
+use Rattle.simplex_form.specs.Form.{Form}
 use Rattle.tableau_core.specs.Start.{form_of}
 use Rattle.simplex_core.specs.declared.form.StdForm.{StdForm}
 

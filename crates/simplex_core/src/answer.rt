@@ -1,5 +1,6 @@
 //! What the simplex answers.
-use aff_core::{Ratios, Sequence};
+use lists::Sequence;
+use ratio_core::Ratios;
 
 /// The basic column of each row. The real columns are numbered from 0, and after them the artificial ones, one a row.
 pub type Basis = Sequence<usize>;

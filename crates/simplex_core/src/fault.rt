@@ -3,7 +3,7 @@ ghost use Rattle.std.specs.Prelude.{◌≡◌};
 ghost use Rattle.simplex_core.specs.declared.fault.SolveFault.TheVariants as fault;
 
 use crate::answer::Basis;
-use ratio_core::Memory;
+use lists::Memory;
 use std::alloc::AllocError;
 use std::error::Error;
 use std::fmt;

@@ -1,5 +1,6 @@
 //! The equality form.
-use aff_core::{Ratios, Sequence};
+use lists::Sequence;
+use ratio_core::Ratios;
 
 /// One flag a row.
 pub type Flags = Sequence<bool>;

@@ -8,7 +8,6 @@ mod read_off;
 mod rule;
 mod run;
 mod simplex;
-mod turn;
 
 pub use answer::{Basis, SolverAnswer};
 pub use fault::SolveFault;

@@ -1,53 +1,46 @@
 //! What is read off the board at the end of the trail.
-ghost use Rattle.std.specs.Prelude.{◌≡◌, ◌+◌, ◌<◌, ◌^◌, IsTrue, IfOk, true, replicate};
+ghost use Rattle.std.specs.Prelude.{◌≡◌, ◌<◌, IsTrue, IfOk, true, replicate};
 ghost use Rattle.ratio_core.specs.Rational.{neg_ℚ, one_ℚ, zero_ℚ, ◌-ℚ◌};
-ghost use Rattle.tableau_core.specs.Row.{cell};
+ghost use Rattle.simplex_form.specs.Turns.{multipliers_fit};
+ghost use Rattle.simplex_form.specs.declared.turn.Turn.TheVariants as turn;
 ghost use Rattle.tableau_core.specs.Start.{IsListOf};
-ghost use Rattle.simplex_core.specs.OnBoard.{HasSize, multipliers_fit_on};
-ghost use Rattle.simplex_core.specs.Placed.{GivesPoint, GivesRay};
+ghost use Rattle.tableau_core.specs.Tableau.{readings_of};
+ghost use Rattle.simplex_core.specs.Placed.{GivesPoint, GivesRay, artificial};
 ghost use Rattle.simplex_core.specs.Steps.{Reads};
-ghost use Rattle.simplex_core.specs.Turn.{IsWithin};
 
 use crate::answer::{Basis, SolverAnswer};
-use crate::turn::Turn;
-use aff_core::{Ratios, Sequence};
-use ratio_core::{Memory, Ratio};
+use lists::{Memory, Sequence};
+use ratio_core::{Ratio, Ratios};
 use std::alloc::Global;
 use tableau_core::Board;
 
-// The answer, if the turn is an end.
-pub(crate) fn read_off(
-    alloc: Global,
-    board: &Board,
-    m: usize,
-    c: usize,
-    turn: Turn,
-) -> Result<Option<SolverAnswer>, Memory>
-    requires size { HasSize m c board.now }
-    requires columns { c + m < 2 ^ 64 }
-    requires within { IsWithin board.now turn }
-    ensures { IfOk result (Reads board.now turn) }
+pub(crate) fn infeasible(alloc: Global, board: &Board) -> Result<SolverAnswer, Memory>
+    requires first { IsTrue board.now.in_first }
+    requires fit { multipliers_fit (readings_of board.now) ≡ true }
+    ensures { IfOk result (Reads board.now turn.Infeasible) }
 {
-    match turn {
-        Turn::Pivot { .. } | Turn::Stuck => Ok(None),
-        Turn::Infeasible => {
-            let y = first_multipliers(alloc, board, m, c)?;
-            let basis = basis_of(alloc, board)?;
-            Ok(Some(SolverAnswer::Infeasible { y, basis }))
-        }
-        Turn::Unbounded { column } => {
-            let x = point(alloc, board, m, c)?;
-            let d = ray(alloc, board, m, c, column)?;
-            let basis = basis_of(alloc, board)?;
-            Ok(Some(SolverAnswer::Unbounded { x, d, basis }))
-        }
-        Turn::Optimal => {
-            let x = point(alloc, board, m, c)?;
-            let y = second_multipliers(alloc, board, m, c)?;
-            let basis = basis_of(alloc, board)?;
-            Ok(Some(SolverAnswer::Optimal { x, y, basis }))
-        }
-    }
+    let y = first_multipliers(alloc, board)?;
+    let basis = basis_of(alloc, board)?;
+    Ok(SolverAnswer::Infeasible { y, basis })
+}
+
+pub(crate) fn unbounded(alloc: Global, board: &Board, q: usize) -> Result<SolverAnswer, Memory>
+    requires { q < board.now.reals }
+    ensures { IfOk result (Reads board.now (turn.Unbounded q)) }
+{
+    let x = point(alloc, board)?;
+    let d = ray(alloc, board, q)?;
+    let basis = basis_of(alloc, board)?;
+    Ok(SolverAnswer::Unbounded { x, d, basis })
+}
+
+pub(crate) fn optimal(alloc: Global, board: &Board) -> Result<SolverAnswer, Memory>
+    ensures { IfOk result (Reads board.now turn.Optimal) }
+{
+    let x = point(alloc, board)?;
+    let y = second_multipliers(alloc, board)?;
+    let basis = basis_of(alloc, board)?;
+    Ok(SolverAnswer::Optimal { x, y, basis })
 }
 
 pub(crate) fn basis_of(alloc: Global, board: &Board) -> Result<Basis, Memory>
@@ -56,19 +49,19 @@ pub(crate) fn basis_of(alloc: Global, board: &Board) -> Result<Basis, Memory>
     Ok(Sequence::from_vec(Vec::from_slice(alloc, board.basis())?))
 }
 
-fn zeros(alloc: Global, c: usize) -> Result<Vec<Ratio>, Memory>
-    ensures { IfOk result (λ x. x.items ≡ replicate c zero_ℚ) }
+fn zeros(alloc: Global, n: usize) -> Result<Vec<Ratio>, Memory>
+    ensures { IfOk result (λ x. x.items ≡ replicate n zero_ℚ) }
 {
-    Ok(vec![in alloc; Ratio::zero(); c]?)
+    Ok(vec![in alloc; Ratio::zero(); n]?)
 }
 
 // A basic column has its row's right side, and any other is 0.
-fn point(alloc: Global, board: &Board, m: usize, c: usize) -> Result<Ratios, Memory>
-    requires size { HasSize m c board.now }
+fn point(alloc: Global, board: &Board) -> Result<Ratios, Memory>
     ensures { IfOk result (GivesPoint board.now) }
 {
+    let c = board.real_count();
     let mut x = zeros(alloc, c)?;
-    for i in 0..m {
+    for i in 0..board.row_count() {
         let column = board.basis()[i];
         if column < c {
             x[column] = board.right(i);
@@ -78,13 +71,13 @@ fn point(alloc: Global, board: &Board, m: usize, c: usize) -> Result<Ratios, Mem
 }
 
 // 1 at the entering column, and at each basic column the negated entry.
-fn ray(alloc: Global, board: &Board, m: usize, c: usize, q: usize) -> Result<Ratios, Memory>
-    requires size { HasSize m c board.now }
-    requires real { q < c }
+fn ray(alloc: Global, board: &Board, q: usize) -> Result<Ratios, Memory>
+    requires { q < board.now.reals }
     ensures { IfOk result (GivesRay q board.now) }
 {
+    let c = board.real_count();
     let mut d = zeros(alloc, c)?;
-    for i in 0..m {
+    for i in 0..board.row_count() {
         let column = board.basis()[i];
         if column < c {
             d[column] = board.entry(i, q).neg();
@@ -95,30 +88,27 @@ fn ray(alloc: Global, board: &Board, m: usize, c: usize, q: usize) -> Result<Rat
 }
 
 // The first phase's multipliers: 1 without the price of the row's artificial column.
-fn first_multipliers(alloc: Global, board: &Board, m: usize, c: usize) -> Result<Ratios, Memory>
-    requires size { HasSize m c board.now }
-    requires columns { c + m < 2 ^ 64 }
+fn first_multipliers(alloc: Global, board: &Board) -> Result<Ratios, Memory>
     requires first { IsTrue board.now.in_first }
-    requires fit { multipliers_fit_on board.now ≡ true }
-    ensures { IfOk result (IsListOf m (λ k. one_ℚ -ℚ cell board.now.first (c + k))) }
+    requires fit { multipliers_fit (readings_of board.now) ≡ true }
+    ensures { let R = readings_of board.now in
+        IfOk result (IsListOf R.rows (λ k. one_ℚ -ℚ artificial R.first_price R k)) }
 {
-    let mut y = Vec::with_capacity(alloc, m)?;
-    for k in 0..m {
-        let price = board.price(1, c + k);
-        y.push(Ratio::one().sub(&price).unwrap())?;
+    let mut y = Vec::with_capacity(alloc, board.row_count())?;
+    for j in board.real_count()..board.column_count() {
+        y.push(Ratio::one().sub(&board.price(1, j)).unwrap())?;
     }
     Ok(Sequence::from_vec(y))
 }
 
 // The second phase's: the negated price of the row's artificial column.
-fn second_multipliers(alloc: Global, board: &Board, m: usize, c: usize) -> Result<Ratios, Memory>
-    requires size { HasSize m c board.now }
-    requires columns { c + m < 2 ^ 64 }
-    ensures { IfOk result (IsListOf m (λ k. neg_ℚ (cell board.now.second (c + k)))) }
+fn second_multipliers(alloc: Global, board: &Board) -> Result<Ratios, Memory>
+    ensures { let R = readings_of board.now in
+        IfOk result (IsListOf R.rows (λ k. neg_ℚ (artificial R.second_price R k))) }
 {
-    let mut y = Vec::with_capacity(alloc, m)?;
-    for k in 0..m {
-        y.push(board.price(2, c + k).neg())?;
+    let mut y = Vec::with_capacity(alloc, board.row_count())?;
+    for j in board.real_count()..board.column_count() {
+        y.push(board.price(2, j).neg())?;
     }
     Ok(Sequence::from_vec(y))
 }

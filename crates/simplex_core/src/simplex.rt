@@ -1,7 +1,7 @@
 //! The simplex.
 ghost use Rattle.std.specs.Prelude.{◌≡◌, ◌+◌, ◌<◌, ◌^◌, IfOk};
 ghost use Rattle.std.specs.List.{range_with_len};
-ghost use Rattle.simplex_laws.specs.Outcome.{IsOutcome, outcome};
+ghost use Rattle.simplex_form.specs.Outcome.{IsOutcome, outcome};
 ghost use Rattle.simplex_core.specs.Answer.{IsRightAnswer, SaysOutcome};
 ghost use Rattle.simplex_core.specs.StdForm.{IsWellShaped, equality_form};
 
@@ -9,8 +9,7 @@ use crate::answer::{Basis, SolverAnswer};
 use crate::fault::SolveFault;
 use crate::form::StdForm;
 use crate::run::run;
-use aff_core::Sequence;
-use ratio_core::Memory;
+use lists::{Memory, Sequence};
 use std::alloc::Global;
 use tableau_core::{Board, BoardFault};
 
@@ -27,7 +26,7 @@ pub fn solve(alloc: Global, form: &StdForm, pivots: u64) -> Result<SolverAnswer,
     let right = form.right.as_slice();
     let costs = form.costs.as_slice();
     match Board::start(alloc, form.m, form.c, form.matrix.as_slice(), right, costs) {
-        Ok(board) => run(alloc, board, form.m, form.c, pivots),
+        Ok(board) => run(alloc, board, pivots),
         Err(BoardFault::Overflow) => {
             let basis = first_basis(alloc, form.m, form.c)?;
             Err(SolveFault::Overflow { basis })

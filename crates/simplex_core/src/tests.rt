@@ -3,8 +3,8 @@ ghost use Rattle.std.specs.Prelude.{◌↔◌, All, IsTrue};
 ghost use Rattle.ratio_core.specs.Rational.{zero_ℚ, ◌≤ℚ◌};
 
 use crate::{Basis, SolveFault, SolverAnswer, StdForm, solve};
-use aff_core::{Ratios, Sequence};
-use ratio_core::Ratio;
+use lists::Sequence;
+use ratio_core::{Ratio, Ratios};
 use std::alloc::{AllocError, Global};
 use std::test::Fail;
 
@@ -190,5 +190,19 @@ fn overflow(rt: HostRuntime) -> Result<(), Fail> {
     assert_eq!(rt; text.as_str(), "overflow | 1 2");
     let text = told(alloc, TOP, "1", "3 0", 1000)?;
     assert_eq!(rt; text.as_str(), "overflow | 2");
+    Ok(())
+}
+
+// With K = 2^63 - 1 and s = 2 (K + 2) / 3 two pivots lead to a row of value s K in an artificial column, and to the first price
+// (3 - 2^127) / 3 of another. Its multiplier, 1 without that price, is 2^127 / 3.
+const STUCK: &str = "1 0  9223372036854775807 1  -9223372036854775807 6148914691236517205  -2/3 0";
+
+#[test]
+fn stuck(rt: HostRuntime) -> Result<(), Fail> {
+    let alloc = rt.alloc();
+    let text = told(alloc, STUCK, "0 0 1 1", "0 0", 2)?;
+    assert_eq!(rt; text.as_str(), "limit 2 | 0 1 4 5");
+    let text = told(alloc, STUCK, "0 0 1 1", "0 0", 3)?;
+    assert_eq!(rt; text.as_str(), "overflow | 0 1 4 5");
     Ok(())
 }

@@ -1,23 +1,16 @@
--- What other crates cite: the definitions, and then the laws.
-pub mod BoundedSums
-pub mod Form
-pub mod Basis
-pub mod Board
-pub mod Turns
-pub mod Trail
-pub mod Fit
-pub mod Outcome
-pub mod Pivots
-pub mod Inverses
-pub mod Determined
-pub mod Steps
-pub mod Values
-pub mod Choice
-pub mod Rules
-pub mod Standing
+-- The laws: of searches and sums, of pivots, of a basis and its board, of the rule's turns, of the trail and of its answers.
+pub mod BoundedSumLaws
+pub mod SearchLaws
+pub mod PivotLaws
+pub mod InverseLaws
+pub mod BasisLaws
+pub mod BoardLaws
+pub mod ValueLaws
+pub mod RuleLaws
 pub mod TurnLaws
-pub mod Kept
-pub mod Ends
-pub mod Outcomes
+pub mod AgreementLaws
+pub mod StandingLaws
+pub mod EndLaws
+pub mod TrailLaws
 pub mod OutcomeLaws
-pub mod Answers
+pub mod AnswerLaws

@@ -1,19 +1,24 @@
 -- Each turn says what it is to say; above all the first phase is never unbounded, and ends with each artificial column at 0
 -- where it isn't infeasible.
-use Rattle.std.specs.Prelude.{◌≡◌, ℕ, zero, suc, ◌-◌, ◌<◌, ◌≤◌, Bool, true, false, cond, nat_lt, Option, Some, None, if◌then◌else◌, refl}
-use Rattle.std.proofs.Common.{sym, ◌∙◌, ap, arith, subst}
-use Rattle.std.proofs.lemmas.Bool.{cond-false, cond-true, le-ltb, lt-ltb}
+use Rattle.std.specs.Prelude.{◌≡◌, ℕ, zero, suc, ◌-◌, ◌<◌, ◌≤◌, Bool, ◌&&◌, true, false, cond, nat_lt, Option, Some, None, if◌then◌else◌, refl}
+use Rattle.std.proofs.Common.{sym, ◌∙◌, ap, arith, subst, true≢false}
+use Rattle.std.proofs.lemmas.Bool.{cond-false, cond-true, le-leb, le-ltb, leb-true, lt-ltb}
 use Rattle.ratio_core.specs.Rational.{Rational, neg_ℚ, one_ℚ, zero_ℚ, ◌*ℚ◌, ◌+ℚ◌, ◌-ℚ◌, ◌≤ℚ◌, ◌‹ℚ◌}
 use Rattle.rational_laws.specs.Field.{one-*ℚ, zero-+ℚ}
-use Rattle.rational_laws.specs.Order.{nonneg_mul, nonneg_neg, nonpos_mul, not_‹ℚ_from_≤ℚ, zero_‹ℚ_one, ≤ℚ_antisymm, ≤ℚ_from_‹ℚ, ≤ℚ_refl, ≤ℚ_trans, ≤ℚ-+ℚ}
+use Rattle.rational_laws.specs.Order.{nonneg_mul, nonneg_neg, nonpos_mul, not_‹ℚ_from_≤ℚ, zero_‹ℚ_one, ≤ℚ_antisymm, ≤ℚ_from_‹ℚ, ‹ℚ-≤ℚ_trans, ≤ℚ_refl, ≤ℚ_trans, ≤ℚ-+ℚ}
 use Rattle.rational_laws.specs.Tests.{ge_from_failed, lt_from_test}
-use Rattle.simplex_laws.specs.BoundedSums.{delta, sum_to, term-≤ℚ-sum_to}
-use Rattle.simplex_laws.specs.Form.{Form, column, first_cost, second_cost}
-use Rattle.simplex_laws.specs.Basis.{Phase, State, basic, first, second, sweep}
-use Rattle.simplex_laws.specs.Board.{entry, price, right_side}
-use Rattle.simplex_laws.specs.Turns.{entering, enters, first_turn, infeasibility, infeasible_turn, is_below, leaving, multipliers_fit, second_turn, sweep_turn, swept_entry, turn, turn_in}
-use Rattle.simplex_laws.specs.Rules.{Enters, HasNoNegativePrice, HasNoPositiveEntry, IsEntering, IsLeaving, IsSweep, IsSwept, entering_is, leaving_is, swept_entry_is}
-use Rattle.simplex_laws.specs.Standing.{IsDrained, Says, Stands, StandsIn}
+use Rattle.simplex_form.specs.Basis.{State, basic}
+use Rattle.simplex_form.specs.Board.{entry, price, right_side}
+use Rattle.simplex_form.specs.BoundedSums.{delta, sum_to}
+use Rattle.simplex_form.specs.Form.{Form, column, first_cost, second_cost}
+use Rattle.simplex_form.specs.Readings.{Readings, basic_at, readings}
+use Rattle.simplex_form.specs.Standing.{Enters, HasNoNegativePrice, HasNoPositiveEntry, IsDrained, IsSwept, Says, Stands, StandsIn, infeasibility}
+use Rattle.simplex_form.specs.Turns.{entering, enters, first_turn, infeasible_turn, is_artificial, is_below, is_left_above, leaving, multipliers_fit, second_turn, sweep_turn, swept_entry, turn, turn_in}
+use Rattle.simplex_form.specs.declared.turn.Phase.{Phase}
+use Rattle.simplex_form.specs.declared.turn.Phase.TheVariants.{First, Second, Sweep}
+use Rattle.simplex_laws.specs.BoundedSumLaws.{term-≤ℚ-sum_to}
+use Rattle.simplex_laws.specs.RuleLaws.{IsEntering, IsLeaving, IsSweep, entering_is, leaving_is, swept_entry_is}
+use Rattle.simplex_laws.specs.SearchLaws.{some_below_false, some_below_true}
 
 -- ---- the columns and costs, real and artificial
 
@@ -58,7 +63,7 @@ sum_to_nonpos (suc n) f h =
     (≤ℚ-+ℚ (sum_to n f) zero_ℚ (f n) zero_ℚ (sum_to_nonpos n f (λ k b. h k (omega arith))) (h n (omega arith)))
 
 -- where no entry of a real column is positive, its first price isn't negative
-first_price_nonneg : (F : Form) (s : State) (q : ℕ) → HasNoPositiveEntry F s q → q < F.reals → zero_ℚ ≤ℚ price F s (first_cost F) q
+first_price_nonneg : (F : Form) (s : State) (q : ℕ) → HasNoPositiveEntry (readings F s) q → q < F.reals → zero_ℚ ≤ℚ price F s (first_cost F) q
 first_price_nonneg F s q none b =
     subst (λ x. zero_ℚ ≤ℚ (x -ℚ lowered)) (sym (first_cost_real F q b))
     (subst (λ x. zero_ℚ ≤ℚ x) (sym (zero-+ℚ (neg_ℚ lowered)))
@@ -67,69 +72,87 @@ first_price_nonneg F s q none b =
     lowered : Rational
     lowered = sum_to F.rows (λ i. first_cost F (basic s i) *ℚ entry F s q i)
 
-pub first_phase_bounded : (F : Form) (s : State) (q : ℕ) → Enters F s (first_cost F) q → HasNoPositiveEntry F s q → ⊥
+pub first_phase_bounded : (F : Form) (s : State) (q : ℕ) → Enters (readings F s) (price F s (first_cost F)) q → HasNoPositiveEntry (readings F s) q → ⊥
 first_phase_bounded F s q e none =
     not_‹ℚ_from_≤ℚ zero_ℚ (price F s (first_cost F) q) (first_price_nonneg F s q none e.real) e.negative
 
--- where the sum of the artificial columns isn't above 0, each is 0
-pub drained_from_sum : (F : Form) (s : State) → Stands F s → infeasibility F s ≤ℚ zero_ℚ → IsDrained F s
-drained_from_sum F s h sum i b a =
-    ≤ℚ_antisymm (right_side F s i) zero_ℚ
-    (subst (λ x. x ≤ℚ zero_ℚ) value
-    (≤ℚ_trans (term i) (infeasibility F s) zero_ℚ (term-≤ℚ-sum_to F.rows i term (λ k c. nonneg_mul (first_cost F (basic s k)) (right_side F s k) (first_cost_nonneg F (basic s k)) (h.nonneg k c)) b) sum))
-    (h.nonneg i b)
+-- where no artificial column is above 0, each is 0
+pub drained_from_test : (R : Readings) → ((i : ℕ) → i < R.rows → zero_ℚ ≤ℚ R.right i) → is_left_above R ≡ false → IsDrained R
+drained_from_test R nonneg e i b a =
+    ≤ℚ_antisymm (R.right i) zero_ℚ (ge_from_failed zero_ℚ (R.right i) (second_false (is_artificial R (basic_at R i)) (is_below zero_ℚ (R.right i)) (le-leb R.reals (basic_at R i) a) (some_below_false R.rows (λ k. is_artificial R (basic_at R k) && is_below zero_ℚ (R.right k)) e i b))) (nonneg i b)
+  where
+    second_false : (a b : Bool) → a ≡ true → (a && b) ≡ false → b ≡ false
+    second_false true b e h = h
+    second_false false b e h = absurd (true≢false (sym e))
+
+-- where one is, so is their sum
+pub infeasibility-above : (F : Form) (s : State) → ((i : ℕ) → i < F.rows → zero_ℚ ≤ℚ right_side F s i) → is_left_above (readings F s) ≡ true → zero_ℚ ‹ℚ infeasibility F s
+infeasibility-above F s nonneg e = by_row (some_below_true F.rows (λ k. is_artificial (readings F s) (basic s k) && is_below zero_ℚ (right_side F s k)) e)
   where
     term : ℕ → Rational
     term k = first_cost F (basic s k) *ℚ right_side F s k
 
-    value : term i ≡ right_side F s i
-    value = ap (λ x. x *ℚ right_side F s i) (first_cost_artificial F (basic s i) a) ∙ one-*ℚ (right_side F s i)
+    both_true : (a b : Bool) → (a && b) ≡ true → (a ≡ true) × (b ≡ true)
+    both_true true b e = (refl, e)
+    both_true false b e = absurd (true≢false (sym e))
+
+    by_row : (k : ℕ) × (k < F.rows) × ((is_artificial (readings F s) (basic s k) && is_below zero_ℚ (right_side F s k)) ≡ true) → zero_ℚ ‹ℚ infeasibility F s
+    by_row found =
+        let k : ℕ = found.0 in
+        let tests : (is_artificial (readings F s) (basic s k) ≡ true) × (is_below zero_ℚ (right_side F s k) ≡ true) = both_true (is_artificial (readings F s) (basic s k)) (is_below zero_ℚ (right_side F s k)) found.2 in
+        let value : right_side F s k ≡ term k = sym (ap (λ x. x *ℚ right_side F s k) (first_cost_artificial F (basic s k) (leb-true F.reals (basic s k) tests.0)) ∙ one-*ℚ (right_side F s k)) in
+        ‹ℚ-≤ℚ_trans zero_ℚ (term k) (infeasibility F s)
+        (subst (λ x. zero_ℚ ‹ℚ x) value (lt_from_test zero_ℚ (right_side F s k) tests.1))
+        (term-≤ℚ-sum_to F.rows k term (λ i c. nonneg_mul (first_cost F (basic s i)) (right_side F s i) (first_cost_nonneg F (basic s i)) (nonneg i c)) found.1)
 
 -- ---- the turns
 
 module _ (F : Form) (s : State) (h : Stands F s) where
-  second_says : IsDrained F s → IsSwept F s → Says F s (second_turn F s (entering F s (second_cost F)))
-  second_says d w = by_entering (entering F s (second_cost F)) (entering_is F s (second_cost F))
+  abbrev R : Readings
+  R = readings F s
+
+  second_says : IsDrained R → IsSwept R → Says F s (second_turn R (entering R R.second_price))
+  second_says d w = by_entering (entering R R.second_price) (entering_is R R.second_price)
     where
-      by_leaving : (q : ℕ) → Enters F s (second_cost F) q → (o : Option ℕ) → IsLeaving F s q o → Says F s (enters second q o)
+      by_leaving : (q : ℕ) → Enters R R.second_price q → (o : Option ℕ) → IsLeaving R q o → Says F s (enters Second q o)
       by_leaving q e None k = (d, w, e, k)
       by_leaving q e (Some r) k = (d, w, e, k)
 
-      by_entering : (o : Option ℕ) → IsEntering F s (second_cost F) o → Says F s (second_turn F s o)
+      by_entering : (o : Option ℕ) → IsEntering R R.second_price o → Says F s (second_turn R o)
       by_entering None e = (d, w, e)
-      by_entering (Some q) e = by_leaving q e (leaving F s q) (leaving_is F s q)
+      by_entering (Some q) e = by_leaving q e (leaving R q) (leaving_is R q)
 
-  sweep_says : IsDrained F s → Says F s (sweep_turn F s (swept_entry F s))
-  sweep_says d = by_entry (swept_entry F s) (swept_entry_is F s)
+  sweep_says : IsDrained R → Says F s (sweep_turn R (swept_entry R))
+  sweep_says d = by_entry (swept_entry R) (swept_entry_is R)
     where
-      by_entry : (o : Option (ℕ × ℕ)) → IsSweep F s o → Says F s (sweep_turn F s o)
+      by_entry : (o : Option (ℕ × ℕ)) → IsSweep R o → Says F s (sweep_turn R o)
       by_entry None w = second_says d w
       by_entry (Some found) w = (d, w)
 
-  first_says : Says F s (first_turn F s (entering F s (first_cost F)))
-  first_says = by_entering (entering F s (first_cost F)) (entering_is F s (first_cost F))
+  first_says : Says F s (first_turn R (entering R R.first_price))
+  first_says = by_entering (entering R R.first_price) (entering_is R R.first_price)
     where
-      by_leaving : (q : ℕ) → Enters F s (first_cost F) q → (o : Option ℕ) → IsLeaving F s q o → Says F s (enters first q o)
+      by_leaving : (q : ℕ) → Enters R R.first_price q → (o : Option ℕ) → IsLeaving R q o → Says F s (enters First q o)
       by_leaving q e None k = absurd (first_phase_bounded F s q e k)
       by_leaving q e (Some r) k = (e, k)
 
-      by_fit : (b : Bool) → HasNoNegativePrice F s (first_cost F) → zero_ℚ ‹ℚ infeasibility F s → Says F s (infeasible_turn b)
+      by_fit : (b : Bool) → HasNoNegativePrice R R.first_price → zero_ℚ ‹ℚ infeasibility F s → Says F s (infeasible_turn b)
       by_fit true e k = (e, k)
       by_fit false e k = (e, k)
 
-      by_sum : HasNoNegativePrice F s (first_cost F) → (b : Bool) → is_below zero_ℚ (infeasibility F s) ≡ b → Says F s (if b then infeasible_turn (multipliers_fit F s) else sweep_turn F s (swept_entry F s))
-      by_sum e true k = by_fit (multipliers_fit F s) e (lt_from_test zero_ℚ (infeasibility F s) k)
-      by_sum e false k = sweep_says (drained_from_sum F s h (ge_from_failed zero_ℚ (infeasibility F s) k))
+      by_test : HasNoNegativePrice R R.first_price → (b : Bool) → is_left_above R ≡ b → Says F s (if b then infeasible_turn (multipliers_fit R) else sweep_turn R (swept_entry R))
+      by_test e true k = by_fit (multipliers_fit R) e (infeasibility-above F s h.nonneg k)
+      by_test e false k = sweep_says (drained_from_test R h.nonneg k)
 
-      by_entering : (o : Option ℕ) → IsEntering F s (first_cost F) o → Says F s (first_turn F s o)
-      by_entering None e = by_sum e (is_below zero_ℚ (infeasibility F s)) refl
-      by_entering (Some q) e = by_leaving q e (leaving F s q) (leaving_is F s q)
+      by_entering : (o : Option ℕ) → IsEntering R R.first_price o → Says F s (first_turn R o)
+      by_entering None e = by_test e (is_left_above R) refl
+      by_entering (Some q) e = by_leaving q e (leaving R q) (leaving_is R q)
 
   -- the turn is right about the basis
   pub turn_says : Says F s (turn F s)
   turn_says = by_phase s.phase h.phase
     where
-      by_phase : (p : Phase) → StandsIn p F s → Says F s (turn_in p F s)
-      by_phase first k = first_says
-      by_phase sweep k = sweep_says k
-      by_phase second k = second_says k.0 k.1
+      by_phase : (p : Phase) → StandsIn p R → Says F s (turn_in p R)
+      by_phase First k = first_says
+      by_phase Sweep k = sweep_says k
+      by_phase Second k = second_says k.0 k.1

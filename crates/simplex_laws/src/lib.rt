@@ -1,3 +1,2 @@
-// The exact simplex: what its form, basis, board, turns and trail are, and why its answers are right. It has no code: its
-// files in specs/ are what other crates cite.
+//! Why the exact simplex is right: laws of its definitions, which other crates cite.
 #![tactic(auto)]

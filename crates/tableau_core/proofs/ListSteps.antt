@@ -6,11 +6,11 @@ use Rattle.std.proofs.lemmas.List.{get_or_append_left, length-append, length-rep
 use Rattle.std.proofs.Math.Seq.{get_or-append_seam}
 use Rattle.ratio_core.specs.Rational.{Fits, Rational, zero_ℚ}
 use Rattle.rational_laws.specs.Fitting.{Fits_zero}
-use Rattle.simplex_laws.specs.BoundedSums.{same_or_other}
 use Rattle.tableau_core.specs.declared.kept.Row.{Row}
 use Rattle.tableau_core.specs.Row.{AllFit, cell}
 use Rattle.tableau_core.specs.Rows.{now_at}
 use Rattle.tableau_core.specs.Start.{IsListOf}
+use Rattle.simplex_laws.specs.BoundedSumLaws.{same_or_other}
 
 pub none-listed : (f : ℕ → Rational) (row : List Rational) → row ≡ [] → IsListOf 0 f row
 none-listed f row e = record { long = ap length e; cells = λ j b. absurd (omega (arith, b)) }

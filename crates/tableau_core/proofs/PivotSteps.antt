@@ -2,13 +2,13 @@
 use Rattle.std.specs.Prelude.{◌≡◌, ℕ, ◌<◌, ◌≤◌, Bool, true, false, ◌&&◌, ◌||◌, not, nat_eq, List, length, refl}
 use Rattle.std.proofs.Common.{sym, ◌∙◌, ap, arith}
 use Rattle.ratio_core.specs.Rational.{Rational}
-use Rattle.simplex_laws.specs.Fit.{lowered_fits}
-use Rattle.simplex_laws.specs.Turns.{all_below}
 use Rattle.tableau_core.specs.declared.kept.Row.{Row}
 use Rattle.tableau_core.specs.Row.{IsDivided, cell, differences_fit, quotients_fit}
 use Rattle.tableau_core.specs.Rows.{AreWide, now_at, rows_fit}
-use Rattle.tableau_core.specs.Tableau.{numbers_fit, quotient_at, row_fits}
-use Rattle.tableau_core.specs.Below.{all_below_same}
+use Rattle.tableau_core.specs.Pivoting.{numbers_fit, quotient_at, row_fits}
+use Rattle.simplex_laws.specs.SearchLaws.{all_below_same}
+use Rattle.simplex_form.specs.Fit.{lowered_fits}
+use Rattle.simplex_form.specs.Search.{all_below}
 
 false_second : (a b c : Bool) → b ≡ false → (a && (b && c)) ≡ false
 false_second true b c e = ap (λ x. x && c) e

@@ -6,12 +6,12 @@ use Rattle.ratio_core.specs.Rational.{Fits, Rational, SumFits, fits, neg_ℚ, su
 use Rattle.ratio_core.specs.RationalLaws.{fits_Decides, sum_fits_Decides}
 use Rattle.rational_laws.specs.Field.{*ℚ-zero, +ℚ-zero, neg_ℚ-zero, zero-*ℚ}
 use Rattle.rational_laws.specs.Fitting.{Fits_zero}
-use Rattle.simplex_laws.specs.BoundedSums.{same_or_other}
-use Rattle.simplex_laws.specs.Turns.{all_below}
-use Rattle.simplex_laws.specs.Fit.{lowered_fits}
 use Rattle.tableau_core.specs.Row.{AllFit, IsLowered, cell, differences_fit, quotients_fit}
 use Rattle.tableau_core.proofs.ZeroSums.{SumFits-zero_right}
-use Rattle.tableau_core.specs.Below.{all_below_all, all_below_failed, all_below_more}
+use Rattle.simplex_laws.specs.SearchLaws.{all_below_all, all_below_failed, all_below_more}
+use Rattle.simplex_form.specs.Fit.{lowered_fits}
+use Rattle.simplex_form.specs.Search.{all_below}
+use Rattle.simplex_laws.specs.BoundedSumLaws.{same_or_other}
 
 -- of n numbers those below j pass the test and have their values
 pub record IsMadeTo (n j : ℕ) (test : ℕ → Bool) (made : ℕ → Rational) (next : List Rational) : Type 0 where
@@ -74,18 +74,6 @@ lowered_at a e t h =
     let both : (fits (e *ℚ t) ≡ true) × (sum_fits a (neg_ℚ (e *ℚ t)) ≡ true) = lowered_parts (fits (e *ℚ t)) (sum_fits a (neg_ℚ (e *ℚ t))) h in
     ((fits_Decides (e *ℚ t)).0 both.0, (sum_fits_Decides a (neg_ℚ (e *ℚ t))).0 both.1)
 
--- a lowered number that is refused
-pub lower_refused : (by item other : Rational) (row step : List Rational) (j : ℕ) → j < length row → length row ≤ length step → item ≡ slice_index_or row j item → other ≡ slice_index_or step j other → lowered_fits item by other ≡ false → differences_fit by step row ≡ false
-lower_refused by item other row step j b long e k refused =
-    all_below_failed (length row) j (λ i. lowered_fits (cell row i) by (cell step i)) b
-    (ap₂ (λ x y. lowered_fits x by y) (sym (item_is row j item b e)) (sym (item_is step j other (omega (arith, long, b)) k)) ∙ refused)
-
-pub lower_made : (by item other value : Rational) (row step next : List Rational) (j : ℕ) → IsMadeTo (length row) j (λ k. lowered_fits (cell row k) by (cell step k)) (λ k. cell row k -ℚ by *ℚ cell step k) next → j < length row → length row ≤ length step → item ≡ slice_index_or row j item → other ≡ slice_index_or step j other → lowered_fits item by other ≡ true → value ≡ item -ℚ by *ℚ other → Fits value → IsMadeTo (length row) (j + 1) (λ k. lowered_fits (cell row k) by (cell step k)) (λ k. cell row k -ℚ by *ℚ cell step k) (slice_set next j value)
-lower_made by item other value row step next j h b long e k fit is f =
-    let here : item ≡ cell row j = item_is row j item b e in
-    let there : other ≡ cell step j = item_is step j other (omega (arith, long, b)) k in
-    made_more (length row) j (λ i. lowered_fits (cell row i) by (cell step i)) (λ i. cell row i -ℚ by *ℚ cell step i) next value h b (ap₂ (λ x y. lowered_fits x by y) (sym here) (sym there) ∙ fit) (is ∙ ap₂ (λ x y. x -ℚ by *ℚ y) here there) f
-
 -- one number: a product or a difference that doesn't fit, and both that do
 pub product_refused : (a e t : Rational) → ¬ (Fits (e *ℚ t)) → lowered_fits a e t ≡ false
 product_refused a e t n = false_from_not (lowered_fits a e t) (Fits (e *ℚ t)) (λ h. (lowered_at a e t h).0) n
@@ -129,3 +117,59 @@ lowered-itself by step row z = record { long = refl; cells = λ j b. sym (lowere
 pub differences_fit-zero : (by : Rational) (step row : List Rational) → by ≡ zero_ℚ → AllFit row → differences_fit by step row ≡ true
 differences_fit-zero by step row z h =
     all_below_all (length row) (λ j. lowered_fits (cell row j) by (cell step j)) (λ j b. lowered_fits-zero (cell row j) by (cell step j) (zero-step by (cell step j) z) (h j))
+
+-- ---- a row that is lowered where the step isn't 0
+
+-- of the numbers of a row those below j are lowered, and the others are as they were
+pub record IsLoweredTo (by : Rational) (step row next : List Rational) (j : ℕ) : Type 0 where
+  pub within : j ≤ length row
+  pub long : length next ≡ length row
+  pub fit : all_below j (λ k. lowered_fits (cell row k) by (cell step k)) ≡ true
+  pub cells : (k : ℕ) → k < j → cell next k ≡ cell row k -ℚ by *ℚ cell step k
+  pub later : (k : ℕ) → j ≤ k → cell next k ≡ cell row k
+  pub all_fit : AllFit next
+
+pub lowered_none : (by : Rational) (step row next : List Rational) → next ≡ row → AllFit row → IsLoweredTo by step row next 0
+lowered_none by step row next e fit = record {
+  within = omega arith;
+  long = ap length e;
+  fit = refl;
+  cells = λ k b. absurd (omega (arith, b));
+  later = λ k _. ap (λ l. cell l k) e;
+  all_fit = subst AllFit (sym e) fit;
+}
+
+module _ (by : Rational) (step row next : List Rational) (j : ℕ) (h : IsLoweredTo by step row next j) (b : j < length row) where
+  lowered_below : (other : List Rational) → ((k : ℕ) → ¬ (k ≡ j) → cell other k ≡ cell next k) → cell other j ≡ cell row j -ℚ by *ℚ cell step j → (k : ℕ) → k < j + 1 → cell other k ≡ cell row k -ℚ by *ℚ cell step k
+  lowered_below other same here k c =
+      same_or_other (cell other k ≡ cell row k -ℚ by *ℚ cell step k) k j
+      (λ q. subst (λ i. cell other i ≡ cell row i -ℚ by *ℚ cell step i) (sym q) here)
+      (λ m. same k m ∙ h.cells k (omega (arith, m, c)))
+
+  -- a number is passed over where the step is 0
+  pub lowered_past : cell step j ≡ zero_ℚ → AllFit row → IsLoweredTo by step row next (j + 1)
+  lowered_past z fit = record {
+    within = omega arith;
+    long = h.long;
+    fit = all_below_more j (λ k. lowered_fits (cell row k) by (cell step k)) h.fit (lowered_fits-zero (cell row j) by (cell step j) (step-zero by (cell step j) z) (fit j));
+    cells = lowered_below next (λ _ _. refl) (h.later j (omega arith) ∙ sym (lowered-zero (cell row j) by (cell step j) (step-zero by (cell step j) z)));
+    later = λ k c. h.later k (omega (arith, c));
+    all_fit = h.all_fit;
+  }
+
+  -- and else written
+  pub lowered_here : (value : Rational) → lowered_fits (cell row j) by (cell step j) ≡ true → value ≡ cell row j -ℚ by *ℚ cell step j → Fits value → IsLoweredTo by step row (slice_set next j value) (j + 1)
+  lowered_here value e is f = record {
+    within = omega arith;
+    long = length-set next j value ∙ h.long;
+    fit = all_below_more j (λ k. lowered_fits (cell row k) by (cell step k)) h.fit e;
+    cells = lowered_below (slice_set next j value) (λ k m. get_or-set_other next j k value zero_ℚ m) (get_or-set_same next j value zero_ℚ (subst (λ m. j < m) (sym h.long) b) ∙ is);
+    later = λ k c. get_or-set_other next j k value zero_ℚ (above_lem k j c) ∙ h.later k (omega (arith, c));
+    all_fit = set_fits next j value h.all_fit (subst (λ m. j < m) (sym h.long) b) f;
+  }
+    where
+      above_lem : (k j : ℕ) → j + 1 ≤ k → ¬ (k ≡ j)
+      above_lem k j c e = omega (arith, c, e)
+
+  pub lowered_refused : lowered_fits (cell row j) by (cell step j) ≡ false → differences_fit by step row ≡ false
+  lowered_refused e = all_below_failed (length row) j (λ k. lowered_fits (cell row k) by (cell step k)) b e

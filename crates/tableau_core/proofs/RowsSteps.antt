@@ -5,12 +5,12 @@ use Rattle.std.proofs.lemmas.Bool.{cases_lt, eq-eqb, eqb-true}
 use Rattle.std.proofs.lemmas.List.{get_or-set_other, get_or-set_same, length-set}
 use Rattle.std.proofs.lemmas.Option.{slice_get-get_or, slice_get_past}
 use Rattle.ratio_core.specs.Rational.{Rational}
-use Rattle.simplex_laws.specs.BoundedSums.{same_or_other}
-use Rattle.simplex_laws.specs.Turns.{all_below}
 use Rattle.tableau_core.specs.declared.kept.Row.{Row}
 use Rattle.tableau_core.specs.Row.{IsLowered, IsPrepared, cell, differences_fit}
 use Rattle.tableau_core.specs.Rows.{ArePrepared, next_at, next_numbers, now_at, numbers, rows_fit}
-use Rattle.tableau_core.specs.Below.{all_below_failed, all_below_more}
+use Rattle.simplex_laws.specs.SearchLaws.{all_below_failed, all_below_more}
+use Rattle.simplex_form.specs.Search.{all_below}
+use Rattle.simplex_laws.specs.BoundedSumLaws.{same_or_other}
 
 -- the rows below i are worked out, and all stand
 pub record ArePreparedTo (r q : ℕ) (step : List Rational) (before rows : List Row) (i : ℕ) : Type 0 where

@@ -3,12 +3,12 @@ use Rattle.std.specs.Prelude.{◌≡◌, ℕ, ◌<◌, Bool, List, length, slice
 use Rattle.std.proofs.Common.{sym, ◌∙◌, ap, subst}
 use Rattle.std.proofs.lemmas.List.{length-set}
 use Rattle.ratio_core.specs.Rational.{Rational}
-use Rattle.simplex_laws.specs.BoundedSums.{same_or_other}
 use Rattle.tableau_core.specs.declared.kept.Row.{Row}
 use Rattle.tableau_core.specs.Row.{IsDivided, IsLowered, cell}
 use Rattle.tableau_core.specs.Rows.{AreLowered, AreWide, now_at, numbers}
 use Rattle.tableau_core.specs.Pivoting.{IsReady, IsSettled}
 use Rattle.tableau_core.proofs.RowsSteps.{read_at, written_at, written_off}
+use Rattle.simplex_laws.specs.BoundedSumLaws.{same_or_other}
 
 module _ (before middle : List Row) (r q : ℕ) (step : List Rational) (new : Row) (count : length middle ≡ length before) (row : r < length before) (is : new.now.items ≡ step) where
   new_row : now_at (slice_set middle r new) r ≡ step

@@ -3,9 +3,9 @@ use Rattle.std.specs.Prelude.{◌≡◌, ℕ, ◌+◌, ◌*◌, ◌<◌, ◌≤�
 use Rattle.std.proofs.Common.{sym, ◌∙◌, ap, arith, subst, mul-le-mul_right}
 use Rattle.ratio_core.specs.Rational.{Rational, SumFits, sum_fits, ◌+ℚ◌}
 use Rattle.ratio_core.specs.RationalLaws.{sum_fits_Decides}
-use Rattle.simplex_laws.specs.BoundedSums.{sum_to}
-use Rattle.simplex_laws.specs.Turns.{all_below}
-use Rattle.tableau_core.specs.Below.{all_below_failed, all_below_more}
+use Rattle.simplex_laws.specs.SearchLaws.{all_below_failed, all_below_more}
+use Rattle.simplex_form.specs.BoundedSums.{sum_to}
+use Rattle.simplex_form.specs.Search.{all_below}
 
 -- the first i numbers f are added, and each sum fits
 pub record IsSummedTo (n : ℕ) (f : ℕ → Rational) (i : ℕ) (sum : Rational) : Type 0 where

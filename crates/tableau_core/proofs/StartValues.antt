@@ -2,12 +2,13 @@
 use Rattle.std.specs.Prelude.{◌≡◌, ℕ, ◌+◌, ◌-◌, ◌<◌, ◌≤◌}
 use Rattle.std.proofs.Common.{sym, ◌∙◌, ap, arith}
 use Rattle.ratio_core.specs.Rational.{Rational, neg_ℚ, one_ℚ, zero_ℚ}
-use Rattle.simplex_laws.specs.BoundedSums.{delta_other, delta_same, delta, sum_to}
-use Rattle.simplex_laws.specs.Form.{Form, first_cost}
-use Rattle.simplex_laws.specs.Basis.{start}
-use Rattle.simplex_laws.specs.Board.{entry, price}
+use Rattle.simplex_form.specs.Basis.{start}
+use Rattle.simplex_form.specs.Board.{entry, price}
+use Rattle.simplex_form.specs.BoundedSums.{delta, sum_to}
+use Rattle.simplex_form.specs.Form.{Form, first_cost}
+use Rattle.simplex_laws.specs.BoundedSumLaws.{delta_other, delta_same}
+use Rattle.simplex_laws.specs.TrailLaws.{entry-start, first_price-start_artificial, first_price-start_real}
 use Rattle.simplex_laws.specs.TurnLaws.{column_artificial, column_real}
-use Rattle.simplex_laws.specs.Outcomes.{entry-start, first_price-start_artificial, first_price-start_real}
 
 module _ (F : Form) (j i : ℕ) (x : Rational) (row : i < F.rows) where
   pub real-entry : j < F.reals → x ≡ F.matrix i j → x ≡ entry F (start F) j i

@@ -1,14 +1,20 @@
 -- How a board is kept.
-use Rattle.std.specs.Prelude.{◌≡◌, ◌+◌, length, map}
+use Rattle.std.specs.Prelude.{◌≡◌, ℕ, ◌+◌, length, map, take}
 use Rattle.tableau_core.specs.declared.board.Board.TheInside.{Inside}
-use Rattle.tableau_core.specs.Row.{AllFit}
+use Rattle.tableau_core.specs.Row.{AllFit, cell}
 use Rattle.tableau_core.specs.Rows.{AreWide}
 use Rattle.tableau_core.specs.Tableau.{Tableau}
 
+-- the real columns and an artificial one for each row
+abbrev pub width_of : Inside → ℕ
+width_of a = a.reals + length a.rows.items
+
+-- each row is kept with its right side behind its entries
 abbrev pub tableau_of : Inside → Tableau
 tableau_of a = record {
   reals = a.reals;
-  rows = map (λ row. row.now.items) a.rows.items;
+  rows = map (λ row. take (width_of a) row.now.items) a.rows.items;
+  rights = map (λ row. cell row.now.items (width_of a)) a.rows.items;
   in_first = a.in_first;
   first = a.first.now.items;
   second = a.second.now.items;
@@ -17,9 +23,9 @@ tableau_of a = record {
 
 -- each row has its length, and so has the spare one
 pub record IsKept (a : Inside) : Type 0 where
-  pub wide : AreWide (a.reals + length a.rows.items + 1) a.rows.items
-  pub spare : length a.step.items ≡ a.reals + length a.rows.items + 1
+  pub wide : AreWide (width_of a + 1) a.rows.items
+  pub spare : length a.step.items ≡ width_of a + 1
   pub spare_fits : AllFit a.step.items
-  pub first : length a.first.now.items ≡ a.reals + length a.rows.items
-  pub second : length a.second.now.items ≡ a.reals + length a.rows.items
+  pub first : length a.first.now.items ≡ width_of a
+  pub second : length a.second.now.items ≡ width_of a
   pub basis : length a.basis.items ≡ length a.rows.items

@@ -1,12 +1,8 @@
 -- What the contracts cite.
-pub mod Below
 pub mod Row
 pub mod Rows
 pub mod Tableau
-pub mod Board
-pub mod BoardLaws
+pub mod TableauLaws
 pub mod Pivoting
 pub mod Kept
-pub mod FitLaws
-pub mod NextBoard
 pub mod Start

@@ -1,8 +1,8 @@
 -- What a pivot makes of a row of numbers.
 use Rattle.std.specs.Prelude.{◌≡◌, ℕ, ◌<◌, Bool, List, length, slice_index_or}
 use Rattle.ratio_core.specs.Rational.{Fits, Rational, fits, zero_ℚ, ◌*ℚ◌, ◌-ℚ◌, ◌/ℚ◌}
-use Rattle.simplex_laws.specs.Turns.{all_below}
-use Rattle.simplex_laws.specs.Fit.{lowered_fits}
+use Rattle.simplex_form.specs.Fit.{lowered_fits}
+use Rattle.simplex_form.specs.Search.{all_below}
 
 -- the j-th number of a row
 abbrev pub cell : List Rational → ℕ → Rational

@@ -1,9 +1,9 @@
 -- The rows of a board: what stands, and what is worked out for the next.
 use Rattle.std.specs.Prelude.{◌≡◌, ℕ, ◌<◌, Bool, ◌||◌, nat_eq, List, [], length, Option, Some, None, slice_get}
 use Rattle.ratio_core.specs.Rational.{Rational}
-use Rattle.simplex_laws.specs.Turns.{all_below}
 use Rattle.tableau_core.specs.declared.kept.Row.{Row}
 use Rattle.tableau_core.specs.Row.{IsLowered, IsPrepared, cell, differences_fit}
+use Rattle.simplex_form.specs.Search.{all_below}
 
 abbrev pub numbers : Option Row → List Rational
 numbers None = []

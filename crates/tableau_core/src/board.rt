@@ -1,7 +1,6 @@
 //! The board.
-ghost use Rattle.std.specs.Prelude.{◌≡◌, ◌≢◌, ◌*◌, ◌<◌, ◌⊎◌, IsTrue, All, false, true, length, is_ok, IfOk, IsErrOf, OnErr, OnOk};
+ghost use Rattle.std.specs.Prelude.{◌≡◌, ◌≢◌, ◌*◌, ◌<◌, ◌⊎◌, IsTrue, All, false, true, length, is_ok, IfOk, IsErrOf, MatchResult, OnOk};
 ghost use Rattle.ratio_core.specs.Rational.{zero_ℚ};
-ghost use Rattle.tableau_core.specs.Row.{cell};
 
 use crate::fault::{BoardFault, BoardOverflow};
 use crate::kept::{Row, zeros};
@@ -38,13 +37,11 @@ impl Model for Board {
 }
 
 impl Board {
-    ghost use Rattle.tableau_core.specs.Tableau.{IsPivoted, prices_of, row_at, step_fits, width};
-    ghost use Rattle.tableau_core.specs.NextBoard.{IsMadeWhereFit, IsNextBoard};
     ghost use Rattle.ratio_core.specs.Rational.{◌≤ℚ◌};
-    ghost use Rattle.simplex_laws.specs.Basis.{start};
-    ghost use Rattle.simplex_laws.specs.Fit.{start_fits};
-    ghost use Rattle.tableau_core.specs.Board.{IsBoardOf};
+    ghost use Rattle.simplex_form.specs.Basis.{start};
+    ghost use Rattle.simplex_form.specs.Fit.{pivot_fits, start_fits};
     ghost use Rattle.tableau_core.specs.Start.{form_of};
+    ghost use Rattle.tableau_core.specs.Tableau.{IsBoardOf, IsPivoted, prices_of, readings_of, width};
 
     /// The board at the artificial columns, of `m` rows and `c` real columns with the matrix row by row. Overflow where a sum
     /// of a column's entries doesn't fit.
@@ -60,10 +57,11 @@ impl Board {
         requires right { length right.now ≡ m }
         requires costs { length costs.now ≡ c }
         requires standard { All (λ side. zero_ℚ ≤ℚ side) right.now }
-        ensures board { IfOk result (λ board. IsBoardOf (form_of m c matrix.now right.now costs.now) (start (form_of m c matrix.now right.now costs.now)) board) }
+        ensures board { let F = form_of m c matrix.now right.now costs.now in IfOk result (IsBoardOf F (start F)) }
         ensures in_first { IfOk result (λ board. board.in_first ≡ true) }
         ensures fits { OnOk result (start_fits (form_of m c matrix.now right.now costs.now) ≡ true) }
-        ensures overflow { IsErrOf result BoardFault.Overflow → start_fits (form_of m c matrix.now right.now costs.now) ≡ false }
+        ensures overflow { IsErrOf result BoardFault.Overflow
+            → start_fits (form_of m c matrix.now right.now costs.now) ≡ false }
     {
         let first = Row::new(alloc, first_prices(alloc, m, c, matrix)?)?;
         let second = Row::new(alloc, second_prices(alloc, m, costs)?)?;
@@ -81,11 +79,32 @@ impl Board {
         })
     }
 
+    /// How many rows there are.
+    pub fn row_count(&self) -> usize
+        ensures { result ≡ length self.now.rows }
+    {
+        self.rows.len()
+    }
+
+    /// How many real columns there are.
+    pub fn real_count(&self) -> usize
+        ensures { result ≡ self.now.reals }
+    {
+        self.reals
+    }
+
+    /// How many columns there are, real and artificial.
+    pub fn column_count(&self) -> usize
+        ensures { result ≡ width self.now }
+    {
+        self.second.now.len()
+    }
+
     /// The number in row `r` and column `q`.
     pub fn entry(&self, r: usize, q: usize) -> Ratio
         requires row { r < length self.now.rows }
         requires column { q < width self.now }
-        ensures { result ≡ cell (row_at self.now r) q }
+        ensures { result ≡ (readings_of self.now).entry q r }
     {
         self.rows[r].now[q]
     }
@@ -93,7 +112,7 @@ impl Board {
     /// The right side of row `r`.
     pub fn right(&self, r: usize) -> Ratio
         requires { r < length self.now.rows }
-        ensures { result ≡ cell (row_at self.now r) (width self.now) }
+        ensures { result ≡ (readings_of self.now).right r }
     {
         let row = &self.rows[r].now;
         row[row.len() - 1]
@@ -103,12 +122,9 @@ impl Board {
     pub fn pivot(&mut self, r: usize, q: usize) -> Result<(), BoardOverflow>
         requires row { r < length self.old.rows }
         requires column { q < width self.old }
-        requires nonzero { cell (row_at self.old r) q ≢ zero_ℚ }
-        ensures fits { is_ok result ≡ step_fits r q self.old }
-        ensures ok { OnOk result (IsPivoted r q self.old self.new) }
-        ensures err { OnErr result (self.new ≡ self.old) }
-        ensures next { OnOk result (IsNextBoard r q self.old self.new) }
-        ensures exact { IsMadeWhereFit r q self.old (is_ok result) }
+        requires nonzero { (readings_of self.old).entry q r ≢ zero_ℚ }
+        ensures fits { is_ok result ≡ pivot_fits self.old.in_first (readings_of self.old) r q }
+        ensures board { MatchResult result (λ _. IsPivoted r q self.old self.new) (λ _. self.new ≡ self.old) }
     {
         prepare_pivot(
             &mut self.rows,
@@ -136,7 +152,7 @@ impl Board {
     pub fn price(&self, phase: u8, q: usize) -> Ratio
         requires phase { (phase ≡ 2) ⊎ ((phase ≡ 1) × IsTrue self.now.in_first) }
         requires column { q < width self.now }
-        ensures { result ≡ cell (prices_of phase self.now) q }
+        ensures { result ≡ prices_of phase self.now q }
     {
         if phase == 1 {
             self.first.now[q]
@@ -147,7 +163,8 @@ impl Board {
 
     /// The basic column of each row.
     pub fn basis(&self) -> &[usize]
-        ensures { result.now ≡ self.now.basis }
+        ensures columns { result.now ≡ self.now.basis }
+        ensures long { length self.now.basis ≡ length self.now.rows }
     {
         &self.basis
     }

@@ -2,7 +2,8 @@
 ghost use Rattle.std.specs.Prelude.{◌≡◌};
 ghost use Rattle.tableau_core.specs.declared.fault.BoardFault.TheVariants as fault;
 
-use ratio_core::{Memory, RatioFault};
+use lists::Memory;
+use ratio_core::RatioFault;
 use std::alloc::{AllocError, AllocFailed};
 use std::error::Error;
 use std::fmt;

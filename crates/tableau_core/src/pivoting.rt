@@ -3,8 +3,7 @@ ghost use Rattle.std.specs.Prelude.{◌≡◌, ◌≢◌, ◌+◌, ◌<◌, ◌�
 ghost use Rattle.ratio_core.specs.Rational.{zero_ℚ};
 ghost use Rattle.tableau_core.specs.Row.{AllFit, IsDivided, cell, quotients_fit};
 ghost use Rattle.tableau_core.specs.Rows.{AreWide, now_at};
-ghost use Rattle.tableau_core.specs.Pivoting.{IsReady, IsSettled};
-ghost use Rattle.tableau_core.specs.Tableau.{numbers_fit};
+ghost use Rattle.tableau_core.specs.Pivoting.{IsReady, IsSettled, numbers_fit};
 
 use crate::fault::BoardOverflow;
 use crate::kept::{Row, prepare_if, settle_if};

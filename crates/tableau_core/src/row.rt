@@ -1,7 +1,7 @@
 //! Row operations: each works out a row beside the one that stands.
 ghost use Rattle.std.specs.Prelude.{◌≡◌, ◌≢◌, ◌≤◌, length, is_ok, IfOk, OkIff, OnOk};
 ghost use Rattle.ratio_core.specs.Rational.{Fits, zero_ℚ, ◌*ℚ◌, ◌-ℚ◌, ◌/ℚ◌};
-ghost use Rattle.simplex_laws.specs.Fit.{lowered_fits};
+ghost use Rattle.simplex_form.specs.Fit.{lowered_fits};
 ghost use Rattle.tableau_core.specs.Row.{AllFit, IsDivided, IsLowered, differences_fit, quotients_fit};
 
 use crate::fault::BoardOverflow;
@@ -34,7 +34,7 @@ fn divide_number(number: &Ratio, by: &Ratio) -> Result<Ratio, RatioFault>
     number.div(by)
 }
 
-// Each number lowered by a multiple of the step's.
+// Each number lowered by a multiple of the step's. Where the step is 0 a number stays.
 pub(crate) fn lower(
     row: &[Ratio],
     by: &Ratio,
@@ -43,26 +43,26 @@ pub(crate) fn lower(
 ) -> Result<(), BoardOverflow>
     requires long { length next.old ≡ length row.now }
     requires step_long { length row.now ≤ length step.now }
-    requires all_fit { AllFit next.old }
+    requires row_fits { AllFit row.now }
     ensures fits { is_ok result ≡ differences_fit by.now step.now row.now }
     ensures ok { OnOk result (IsLowered by.now step.now row.now next.new) }
     ensures all_fit { AllFit next.new }
 {
-    for (j, number) in row.iter().enumerate() {
-        next[j] = lower_number(number, by, &step[j])?;
+    next.copy_from_slice(row);
+    for j in 0..row.len() {
+        let unit = &step[j];
+        if !unit.is_zero() {
+            next[j] = lower_number(&row[j], by, unit)?;
+        }
     }
     Ok(())
 }
 
-// A number lowered by a multiple, which is itself where the step is 0.
+// A number lowered by a multiple.
 fn lower_number(number: &Ratio, by: &Ratio, step: &Ratio) -> Result<Ratio, BoardOverflow>
     ensures fits { is_ok result ≡ lowered_fits number.now by.now step.now }
     ensures ok { IfOk result (λ x. (x ≡ number.now -ℚ by.now *ℚ step.now) × Fits x) }
 {
-    if step.is_zero() {
-        let _fits = number.num();
-        return Ok(*number);
-    }
     let multiple = by.mul(step)?;
     let lowered = number.sub(&multiple)?;
     let _fits = lowered.num();

@@ -2,13 +2,14 @@
 ghost use Rattle.std.specs.Prelude.{◌≡◌, ◌+◌, ◌*◌, ◌^◌, ◌<◌, ℕ, List, length, false, true, is_ok, IfOk, IsErrOf, OnOk};
 ghost use Rattle.std.specs.List.{range_with_len};
 ghost use Rattle.ratio_core.specs.Rational.{Rational, neg_ℚ};
-ghost use Rattle.simplex_laws.specs.BoundedSums.{sum_to};
-ghost use Rattle.simplex_laws.specs.Form.{first_cost, second_cost};
-ghost use Rattle.simplex_laws.specs.Basis.{start};
-ghost use Rattle.simplex_laws.specs.Board.{entry, price};
-ghost use Rattle.simplex_laws.specs.Fit.{first_sum_fits, start_fits};
+ghost use Rattle.simplex_form.specs.BoundedSums.{sum_to};
+ghost use Rattle.simplex_form.specs.Form.{first_cost, second_cost};
+ghost use Rattle.simplex_form.specs.Basis.{start};
+ghost use Rattle.simplex_form.specs.Board.{entry, price};
+ghost use Rattle.simplex_form.specs.Fit.{first_sum_fits, start_fits};
 ghost use Rattle.tableau_core.specs.Row.{AllFit, cell};
-ghost use Rattle.tableau_core.specs.Start.{AreRowsOf, AtEachStart, IsListOf, form_of};
+ghost use Rattle.tableau_core.specs.Rows.{AreWide, now_at};
+ghost use Rattle.tableau_core.specs.Start.{AtEachStart, IsListOf, form_of};
 
 use crate::fault::{BoardFault, BoardOverflow};
 use crate::kept::Row;
@@ -27,7 +28,11 @@ pub(crate) fn start_rows(
     requires right { length right.now ≡ m }
     requires room { c + m + 1 < 2 ^ 64 }
     ensures count { IfOk result (λ rows. length rows.items ≡ m) }
-    ensures rows { IfOk result (λ rows. (costs : List Rational) → AreRowsOf (form_of m c matrix.now right.now costs) (start (form_of m c matrix.now right.now costs)) rows.items) }
+    ensures wide { IfOk result (λ rows. AreWide (c + m + 1) rows.items) }
+    ensures entries { IfOk result (λ rows. AtEachStart m c matrix.now (λ F s.
+        (i j : ℕ) → i < m → j < c + m → cell (now_at rows.items i) j ≡ entry F s j i)) }
+    ensures sides { IfOk result (λ rows.
+        (i : ℕ) → i < m → cell (now_at rows.items i) (c + m) ≡ cell right.now i) }
 {
     let mut rows = Vec::with_capacity(alloc, m)?;
     for (i, side) in right.iter().enumerate() {
@@ -49,7 +54,8 @@ fn start_row(
     requires within { i < m }
     requires room { c + m + 1 < 2 ^ 64 }
     ensures long { IfOk result (λ row. length row.now.items ≡ c + m + 1) }
-    ensures entries { IfOk result (λ row. AtEachStart m c matrix.now (λ F s. (j : ℕ) → j < c + m → cell row.now.items j ≡ entry F s j i)) }
+    ensures entries { IfOk result (λ row. AtEachStart m c matrix.now (λ F s.
+        (j : ℕ) → j < c + m → cell row.now.items j ≡ entry F s j i)) }
     ensures side { IfOk result (λ row. cell row.now.items (c + m) ≡ side.now) }
 {
     let mut numbers = Vec::with_capacity(alloc, c + m + 1)?;
@@ -87,7 +93,8 @@ pub(crate) fn first_prices(
 ) -> Result<Vec<Ratio>, BoardFault>
     requires long { length matrix.now ≡ m * c }
     requires room { c + m + 1 < 2 ^ 64 }
-    ensures prices { IfOk result (λ prices. AtEachStart m c matrix.now (λ F s. IsListOf (c + m) (price F s (first_cost F)) prices.items)) }
+    ensures prices { IfOk result (λ prices. AtEachStart m c matrix.now (λ F s.
+        IsListOf (c + m) (price F s (first_cost F)) prices.items)) }
     ensures all_fit { IfOk result (λ prices. AllFit prices.items) }
     ensures fits { OnOk result (AtEachStart m c matrix.now (λ F _. start_fits F ≡ true)) }
     ensures overflow { IsErrOf result BoardFault.Overflow → AtEachStart m c matrix.now (λ F _. start_fits F ≡ false) }
@@ -107,7 +114,8 @@ fn first_price(m: usize, c: usize, matrix: &[Ratio], j: usize) -> Result<Ratio, 
     requires long { length matrix.now ≡ m * c }
     requires within { j < c }
     ensures fits { AtEachStart m c matrix.now (λ F _. is_ok result ≡ first_sum_fits F j) }
-    ensures ok { IfOk result (λ x. AtEachStart m c matrix.now (λ F _. x ≡ neg_ℚ (sum_to m (λ i. F.matrix i j)))) }
+    ensures ok { IfOk result (λ x. AtEachStart m c matrix.now (λ F _.
+        x ≡ neg_ℚ (sum_to m (λ i. F.matrix i j)))) }
 {
     let mut sum = Ratio::zero();
     for i in 0..m {
@@ -124,7 +132,9 @@ pub(crate) fn second_prices(
     costs: &[Ratio],
 ) -> Result<Vec<Ratio>, AllocError>
     requires room { length costs.now + m + 1 < 2 ^ 64 }
-    ensures prices { IfOk result (λ prices. (matrix right : List Rational) → IsListOf (length costs.now + m) (second_cost (form_of m (length costs.now) matrix right costs.now)) prices.items) }
+    ensures prices { IfOk result (λ prices. (matrix right : List Rational) →
+        let F = form_of m (length costs.now) matrix right costs.now in
+        IsListOf (length costs.now + m) (second_cost F) prices.items) }
     ensures all_fit { IfOk result (λ prices. AllFit prices.items) }
 {
     let mut prices = Vec::with_capacity(alloc, costs.len() + m)?;

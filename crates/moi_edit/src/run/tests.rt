@@ -30,8 +30,8 @@ fn outcome(alloc: Global, case: &Case) -> Result<(Status, MemSink), AllocError>
         String::from_str(alloc, "--target")?,
         String::from_str(alloc, "less")?,
     ]?;
-    let failing_reads = Calls::from(vec![in alloc; case.failing_read]?);
-    let failing_writes = Calls::from(vec![in alloc; case.failing_write]?);
+    let failing_reads = Calls::from_vec(vec![in alloc; case.failing_read]?);
+    let failing_writes = Calls::from_vec(vec![in alloc; case.failing_write]?);
     let script = Vec::from_slice(alloc, case.script)?;
     let mut input = MemSource::new(script, case.piece, failing_reads);
     let mut output = MemSink::new(alloc, case.piece, failing_writes);

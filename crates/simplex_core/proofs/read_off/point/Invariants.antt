@@ -1,8 +1,8 @@
 use Rattle.std.proofs.Common.{◌≡◌, length}
-use Rattle.simplex_laws.specs.Form.{Form}
-use Rattle.simplex_laws.specs.Basis.{IsBasis, State, basic}
-use Rattle.simplex_laws.specs.Board.{right_side}
-use Rattle.tableau_core.specs.Board.{IsBoardOf}
+use Rattle.simplex_form.specs.Form.{Form}
+use Rattle.simplex_form.specs.Basis.{IsBasis, State, basic}
+use Rattle.simplex_form.specs.Board.{right_side}
+use Rattle.tableau_core.specs.Tableau.{IsBoardOf}
 use Rattle.simplex_core.proofs.Placing.{IsPlacedTo}
 use Rattle.simplex_core.proofs.read_off.point.Given as goal
 

@@ -1,8 +1,8 @@
-use Rattle.std.proofs.Common.{◌+◌}
-use Rattle.ratio_core.specs.Rational.{neg_ℚ}
-use Rattle.tableau_core.specs.Row.{cell}
+use Rattle.std.proofs.Common.{◌+◌, ◌-◌}
+use Rattle.ratio_core.specs.Rational.{neg_ℚ, one_ℚ, ◌-ℚ◌}
 use Rattle.tableau_core.specs.Start.{IsListOf}
+use Rattle.tableau_core.specs.Tableau.{readings_of}
 use Rattle.simplex_core.proofs.read_off.second_multipliers.Given as goal
 
-abbrev pub invariant-loop-k : goal.invariant-loop-k
-invariant-loop-k l = IsListOf l.k (λ k. neg_ℚ (cell l.board.second (l.c + k))) l.y.items
+abbrev pub invariant-loop-j : goal.invariant-loop-j
+invariant-loop-j l = IsListOf (l.j - l.board.reals) (λ k. neg_ℚ ((readings_of l.board).second_price (l.board.reals + k))) l.y.items

@@ -1,43 +1,56 @@
-use Rattle.std.proofs.Common.{arith, subst}
-use Rattle.simplex_core.specs.Steps.{IsReadAt}
-use Rattle.simplex_core.proofs.Running.{at_next, at_start, is_due, tells_end, tells_limit, tells_overflow}
+use Rattle.std.proofs.Common.{arith, is_ok, refl, sym, ◌∙◌}
+use Rattle.simplex_form.specs.declared.turn.Turn.TheVariants.{Infeasible, Optimal, Pivot, Stuck, Unbounded}
+use Rattle.simplex_core.proofs.Running.{at_next, at_start, made_and, refused_and, tells_end, tells_limit, tells_overflow, tells_refused}
 use Rattle.simplex_core.proofs.run.run.Goals as goal
 
 pub steps-init : goal.steps-init
 steps-init c = record {
-  size = c.requires.size;
   phase = c.requires.in_first;
   steps = λ F h b. at_start F c.args.pivots c.args.board h b;
 }
 
-pub returns-in-Some : goal.returns-in-Some
-returns-in-Some c = λ F h b.
+pub returns-in-Infeasible : goal.returns-in-Infeasible
+returns-in-Infeasible c = λ F h b.
     let a = c.steps.invariant.steps F h b in
-    let due = is_due F c.args.pivots c.steps.left c.steps.phase c.steps.board a c.turn-step.result c.turn-step.ensures.turn in
-    let read = subst (IsReadAt F a.state) c.in-Some.is (c.in_ok-answer.ensures F a.state due) in
-    tells_end F c.args.pivots c.steps.left c.steps.phase c.steps.board a c.turn-step.result c.turn-step.ensures.turn c.in-Some.answer read
+    tells_end F c.args.pivots c.steps.left c.steps.phase c.steps.board a c.steps.invariant.phase c.turn.result c.turn.ensures.turn Infeasible c.in_ok-infeasible-in-Infeasible.field-0 c.in-Infeasible.is refl (c.in_ok-infeasible-in-Infeasible.ensures F a.state)
+
+pub returns-in-Unbounded : goal.returns-in-Unbounded
+returns-in-Unbounded c = λ F h b.
+    let a = c.steps.invariant.steps F h b in
+    tells_end F c.args.pivots c.steps.left c.steps.phase c.steps.board a c.steps.invariant.phase c.turn.result c.turn.ensures.turn (Unbounded c.in-Unbounded.column) c.in_ok-unbounded-in-Unbounded.field-0 c.in-Unbounded.is refl (c.in_ok-unbounded-in-Unbounded.ensures F a.state)
+
+pub returns-in-Optimal : goal.returns-in-Optimal
+returns-in-Optimal c = λ F h b.
+    let a = c.steps.invariant.steps F h b in
+    tells_end F c.args.pivots c.steps.left c.steps.phase c.steps.board a c.steps.invariant.phase c.turn.result c.turn.ensures.turn Optimal c.in_ok-optimal-in-Optimal.field-0 c.in-Optimal.is refl (c.in_ok-optimal-in-Optimal.ensures F a.state)
 
 pub returns-then-left-eq0 : goal.returns-then-left-eq0
 returns-then-left-eq0 c = λ F h b.
     let a = c.steps.invariant.steps F h b in
-    let due = is_due F c.args.pivots c.steps.left c.steps.phase c.steps.board a c.turn-step.result c.turn-step.ensures.turn in
-    let read = subst (IsReadAt F a.state) c.in_default.is (c.in_ok-answer.ensures F a.state due) in
-    tells_limit F c.args.pivots c.steps.left c.steps.phase c.steps.board a c.turn-step.result c.turn-step.ensures.turn c.in_ok-basis.basis read c.if-left-eq0.true c.in_ok-basis.ensures
+    tells_limit F c.args.pivots c.steps.left c.steps.phase c.steps.board a c.steps.invariant.phase c.turn.result c.turn.ensures.turn Stuck c.in_ok-basis-in-Stuck.basis c.in-Stuck.is refl c.if-left-eq0.true c.in_ok-basis-in-Stuck.ensures
+
+pub returns-in-Stuck : goal.returns-in-Stuck
+returns-in-Stuck c = λ F h b.
+    let a = c.steps.invariant.steps F h b in
+    tells_overflow F c.args.pivots c.steps.left c.steps.phase c.steps.board a c.steps.invariant.phase c.turn.result c.turn.ensures.turn Stuck c.in_ok-basis-in-Stuck.basis c.in-Stuck.is refl (omega arith) refl c.in_ok-basis-in-Stuck.ensures
+
+pub returns-then-left-eq0-2 : goal.returns-then-left-eq0-2
+returns-then-left-eq0-2 c = λ F h b.
+    let a = c.steps.invariant.steps F h b in
+    tells_limit F c.args.pivots c.steps.left c.steps.phase c.steps.board a c.steps.invariant.phase c.turn.result c.turn.ensures.turn (Pivot c.in-Pivot.next c.in-Pivot.row c.in-Pivot.column) c.in_ok-basis-in-Pivot.basis c.in-Pivot.is refl c.if-left-eq0-2.true c.in_ok-basis-in-Pivot.ensures
+
+pub returns-then-is_err : goal.returns-then-is_err
+returns-then-is_err c = λ F h b.
+    let a = c.steps.invariant.steps F h b in
+    let made = refused_and c.step.result _ _ c.step.ensures.board (sym c.is_err.ensures.value ∙ c.if-is_err.true) in
+    tells_refused F c.args.pivots c.steps.left c.steps.phase c.steps.board a c.steps.invariant.phase c.turn.result c.turn.ensures.turn c.in-Pivot.next c.in-Pivot.row c.in-Pivot.column c.in-Pivot.is c.in-Pivot.ensures.within (is_ok c.step.result) c.in_ok-basis-in-Pivot-2.basis c.step.new.board (omega arith) c.step.ensures.fits made.0 made.1 c.in_ok-basis-in-Pivot-2.ensures
 
 pub steps-preserved : goal.steps-preserved
-steps-preserved c = record {
-  size = c.in-Ok.ensures.size;
-  phase = c.in-Ok.ensures.phase;
-  steps = λ F h b.
-      let a = c.steps.invariant.steps F h b in
-      let due = is_due F c.args.pivots c.steps.left c.steps.phase c.steps.board a c.turn-step.result c.turn-step.ensures.turn in
-      let read = subst (IsReadAt F a.state) c.in_default.is (c.in_ok-answer.ensures F a.state due) in
-      at_next F c.args.pivots c.steps.left c.steps.phase c.steps.board a c.turn-step.result c.turn-step.ensures.turn c.advance.new.board c.in-Ok.next read (omega arith) (c.in-Ok.ensures.steps F a.state due a.told);
-}
-
-pub returns-in-Err : goal.returns-in-Err
-returns-in-Err c = λ F h b.
-    let a = c.steps.invariant.steps F h b in
-    let due = is_due F c.args.pivots c.steps.left c.steps.phase c.steps.board a c.turn-step.result c.turn-step.ensures.turn in
-    let read = subst (IsReadAt F a.state) c.in_default.is (c.in_ok-answer.ensures F a.state due) in
-    tells_overflow F c.args.pivots c.steps.left c.steps.phase c.steps.board a c.turn-step.result c.turn-step.ensures.turn c.advance.new.board c.in-Err.field-0 c.in_ok-basis-in-Err.basis read (omega arith) (c.in-Err.ensures.steps F a.state due a.told) c.in_ok-basis-in-Err.ensures
+steps-preserved c =
+    let made = made_and c.step.result _ _ c.step.ensures.board (sym c.is_err.ensures.value ∙ c.if-is_err.false) in
+    record {
+      phase = made.1.in_first;
+      steps = λ F h b.
+          let a = c.steps.invariant.steps F h b in
+          at_next F c.args.pivots c.steps.left c.steps.phase c.steps.board a c.steps.invariant.phase c.turn.result c.turn.ensures.turn c.in-Pivot.next c.in-Pivot.row c.in-Pivot.column c.in-Pivot.is c.in-Pivot.ensures.within (is_ok c.step.result) c.step.new.board (omega arith) c.step.ensures.fits made.0 made.1;
+    }

@@ -1,14 +1,12 @@
-use Rattle.simplex_laws.specs.Form.{Form, IsStandard}
-use Rattle.simplex_laws.specs.Basis.{start}
-use Rattle.tableau_core.specs.Board.{IsBoardOf}
-use Rattle.simplex_core.specs.OnBoard.{HasSize}
-use Rattle.simplex_core.specs.Turn.{IsInPhase}
+use Rattle.simplex_form.specs.Basis.{start}
+use Rattle.simplex_form.specs.Form.{Form, IsStandard}
+use Rattle.tableau_core.specs.Tableau.{IsBoardOf}
+use Rattle.simplex_core.specs.Phases.{IsInPhase}
 use Rattle.simplex_core.proofs.Running.{IsAtStep}
 use Rattle.simplex_core.proofs.run.run.Given as goal
 
 abbrev pub invariant-steps : goal.invariant-steps
 invariant-steps l = record {
-  size : HasSize l.m l.c l.board;
   phase : IsInPhase l.phase l.board;
   steps : (F : Form) → IsStandard F → IsBoardOf F (start F) l.fn.board → IsAtStep F l.pivots l.left l.phase l.board;
 }

@@ -1,17 +1,6 @@
-use Rattle.std.proofs.Common.{◌≡◌, sym, ◌∙◌}
-use Rattle.ratio_core.specs.Rational.{zero_ℚ}
-use Rattle.tableau_core.proofs.RowSteps.{difference_refused, is_ok-err, lowered-zero, lowered_fits-zero, lowered_made, product_refused, step-zero}
+use Rattle.std.proofs.Common.{sym, ◌∙◌}
+use Rattle.tableau_core.proofs.RowSteps.{difference_refused, is_ok-err, lowered_made, product_refused}
 use Rattle.tableau_core.proofs.row.lower_number.Goals as goal
-
-pub returns-then-is_zero-clause-fits : goal.returns-then-is_zero-clause-fits
-returns-then-is_zero-clause-fits c =
-    let zero : c.args.step.now ≡ zero_ℚ = c.is_zero.ensures.0 c.if-is_zero.true in
-    sym (lowered_fits-zero c.args.number.now c.args.by.now c.args.step.now (step-zero c.args.by.now c.args.step.now zero) c.num-fits.ensures.fits)
-
-pub returns-then-is_zero-clause-ok : goal.returns-then-is_zero-clause-ok
-returns-then-is_zero-clause-ok c =
-    let zero : c.args.step.now ≡ zero_ℚ = c.is_zero.ensures.0 c.if-is_zero.true in
-    (sym (lowered-zero c.args.number.now c.args.by.now c.args.step.now (step-zero c.args.by.now c.args.step.now zero)), c.num-fits.ensures.fits)
 
 pub returns-in_err-multiple-clause-fits : goal.returns-in_err-multiple-clause-fits
 returns-in_err-multiple-clause-fits c =

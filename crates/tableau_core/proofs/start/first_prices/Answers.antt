@@ -1,13 +1,13 @@
 use Rattle.std.proofs.Common.{[], sym, ◌≡◌, ◌∙◌, arith, refl, subst}
-use Rattle.simplex_laws.specs.Basis.{start}
-use Rattle.simplex_laws.specs.Board.{price}
-use Rattle.simplex_laws.specs.Fit.{first_sum_fits}
-use Rattle.simplex_laws.specs.Form.{Form, first_cost}
-use Rattle.tableau_core.specs.Below.{all_below_failed, all_below_more}
+use Rattle.simplex_laws.specs.SearchLaws.{all_below_failed, all_below_more}
 use Rattle.tableau_core.specs.Start.{IsListOf, form_of}
 use Rattle.tableau_core.proofs.ListSteps.{fit-more, fit-padded, listed-more, listed-padded, none-fit, none-listed}
 use Rattle.tableau_core.proofs.StartValues.{first-artificial, first-real}
 use Rattle.tableau_core.proofs.start.first_prices.Goals as goal
+use Rattle.simplex_form.specs.Basis.{start}
+use Rattle.simplex_form.specs.Board.{price}
+use Rattle.simplex_form.specs.Fit.{first_sum_fits}
+use Rattle.simplex_form.specs.Form.{Form, first_cost}
 
 pub loop-j-init : goal.loop-j-init
 loop-j-init c = record {

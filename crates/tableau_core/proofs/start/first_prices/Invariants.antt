@@ -1,11 +1,11 @@
 use Rattle.std.proofs.Common.{◌≡◌, true}
-use Rattle.simplex_laws.specs.Board.{price}
-use Rattle.simplex_laws.specs.Fit.{first_sum_fits}
-use Rattle.simplex_laws.specs.Form.{first_cost}
-use Rattle.simplex_laws.specs.Turns.{all_below}
 use Rattle.tableau_core.specs.Row.{AllFit}
 use Rattle.tableau_core.specs.Start.{AtEachStart, IsListOf}
 use Rattle.tableau_core.proofs.start.first_prices.Given as goal
+use Rattle.simplex_form.specs.Board.{price}
+use Rattle.simplex_form.specs.Fit.{first_sum_fits}
+use Rattle.simplex_form.specs.Form.{first_cost}
+use Rattle.simplex_form.specs.Search.{all_below}
 
 abbrev pub invariant-loop-j : goal.invariant-loop-j
 invariant-loop-j l = record {

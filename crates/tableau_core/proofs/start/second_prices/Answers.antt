@@ -1,11 +1,11 @@
 use Rattle.std.proofs.Common.{arith, length, subst, sym, ◌≡◌, ◌∙◌}
-use Rattle.simplex_laws.specs.Form.{Form, second_cost}
-use Rattle.simplex_laws.specs.TurnLaws.{second_cost_artificial, second_cost_real}
 use Rattle.tableau_core.specs.Row.{cell}
 use Rattle.tableau_core.specs.Start.{IsListOf, form_of}
 use Rattle.tableau_core.proofs.RowSteps.{item_is}
 use Rattle.tableau_core.proofs.ListSteps.{fit-more, fit-padded, listed-more, listed-padded, listed-same, none-fit, none-listed}
 use Rattle.tableau_core.proofs.start.second_prices.Goals as goal
+use Rattle.simplex_form.specs.Form.{Form, second_cost}
+use Rattle.simplex_laws.specs.TurnLaws.{second_cost_artificial, second_cost_real}
 
 pub loop-cost-init : goal.loop-cost-init
 loop-cost-init c = record {

@@ -1,12 +1,12 @@
 use Rattle.std.proofs.Common.{◌≡◌, ◌+◌, ◌∙◌, [], ap, arith, length, subst}
 use Rattle.std.proofs.lemmas.Result.{IfOk-weaker}
-use Rattle.simplex_laws.specs.Basis.{start}
-use Rattle.simplex_laws.specs.Board.{entry}
-use Rattle.simplex_laws.specs.Form.{Form}
 use Rattle.tableau_core.specs.Row.{cell}
 use Rattle.tableau_core.specs.Start.{IsListOf, form_of}
 use Rattle.tableau_core.proofs.ListSteps.{appended-cell, appended-last, appended-long, fit-more, listed-more, none-fit, none-listed}
 use Rattle.tableau_core.proofs.start.start_row.Goals as goal
+use Rattle.simplex_form.specs.Basis.{start}
+use Rattle.simplex_form.specs.Board.{entry}
+use Rattle.simplex_form.specs.Form.{Form}
 
 pub loop-j-init : goal.loop-j-init
 loop-j-init c = record {

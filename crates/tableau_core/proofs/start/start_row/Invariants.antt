@@ -1,7 +1,7 @@
-use Rattle.simplex_laws.specs.Board.{entry}
 use Rattle.tableau_core.specs.Row.{AllFit}
 use Rattle.tableau_core.specs.Start.{AtEachStart, IsListOf}
 use Rattle.tableau_core.proofs.start.start_row.Given as goal
+use Rattle.simplex_form.specs.Board.{entry}
 
 abbrev pub invariant-loop-j : goal.invariant-loop-j
 invariant-loop-j l = record {

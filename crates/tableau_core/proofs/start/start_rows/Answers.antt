@@ -1,21 +1,25 @@
-use Rattle.std.proofs.Common.{sym, subst, ◌<◌, ◌∙◌}
-use Rattle.simplex_laws.specs.Basis.{start}
-use Rattle.simplex_laws.specs.Form.{Form}
-use Rattle.simplex_laws.specs.Outcomes.{right_side-start}
-use Rattle.tableau_core.specs.Start.{IsRowOf, form_of}
+use Rattle.std.proofs.Common.{◌≡◌, ◌+◌, ◌<◌, ◌∙◌, ℕ, arith, length}
+use Rattle.simplex_form.specs.Basis.{start}
+use Rattle.simplex_form.specs.Board.{entry}
+use Rattle.simplex_form.specs.Form.{Form}
+use Rattle.tableau_core.specs.Row.{cell}
+use Rattle.tableau_core.specs.Start.{form_of}
 use Rattle.tableau_core.proofs.RowSteps.{item_is}
 use Rattle.tableau_core.proofs.ListSteps.{appended-long, rows-more}
 use Rattle.tableau_core.proofs.start.start_rows.Goals as goal
 
 pub loop-i-preserved : goal.loop-i-preserved
-loop-i-preserved c = record {
-  count = appended-long c.loop-i.i c.loop-i.rows.items c.push.new.self.items c.in_ok-start_row.field-0 c.loop-i.invariant.count c.in_ok-push.ensures.items;
-  rows = λ costs.
-      let F : Form = form_of c.args.m c.args.c c.args.matrix.now c.args.right.now costs in
-      let new : IsRowOf F (start F) c.loop-i.i c.in_ok-start_row.field-0.now.items = record {
-        long = c.in_ok-start_row.ensures.long;
-        entries = c.in_ok-start_row.ensures.entries c.args.right.now costs;
-        right = c.in_ok-start_row.ensures.side ∙ item_is c.args.right.now c.loop-i.i c.index-right-i.result c.loop-i-test.true c.index-right-i.is ∙ sym (right_side-start F c.loop-i.i (subst (λ n. c.loop-i.i < n) c.requires.right c.loop-i-test.true));
-      } in
-      rows-more (IsRowOf F (start F)) c.loop-i.i c.loop-i.rows.items c.push.new.self.items c.in_ok-start_row.field-0 c.loop-i.invariant.count (c.loop-i.invariant.rows costs) new c.in_ok-push.ensures.items;
-}
+loop-i-preserved c =
+    let i = c.loop-i.i in
+    let count = c.loop-i.invariant.count in
+    let rows = c.loop-i.rows.items in
+    let next = c.push.new.self.items in
+    let new = c.in_ok-start_row.field-0 in
+    record {
+      count = appended-long i rows next new count c.in_ok-push.ensures.items;
+      wide = rows-more (λ k row. length row ≡ c.args.c + c.args.m + 1) i rows next new count c.loop-i.invariant.wide c.in_ok-start_row.ensures.long c.in_ok-push.ensures.items;
+      entries = λ right costs.
+          let F : Form = form_of c.args.m c.args.c c.args.matrix.now right costs in
+          rows-more (λ k row. (j : ℕ) → j < c.args.c + c.args.m → cell row j ≡ entry F (start F) j k) i rows next new count (c.loop-i.invariant.entries right costs) (c.in_ok-start_row.ensures.entries right costs) c.in_ok-push.ensures.items;
+      sides = rows-more (λ k row. cell row (c.args.c + c.args.m) ≡ cell c.args.right.now k) i rows next new count c.loop-i.invariant.sides (c.in_ok-start_row.ensures.side ∙ item_is c.args.right.now i c.index-right-i.result c.loop-i-test.true c.index-right-i.is) c.in_ok-push.ensures.items;
+    }

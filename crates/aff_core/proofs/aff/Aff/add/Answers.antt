@@ -2,7 +2,7 @@ use Rattle.std.specs.Prelude.{◌≡◌, filter}
 use Rattle.std.proofs.Common.{sym, ap, subst, ◌∙◌}
 use Rattle.std.specs.FinMap.{entries, from_sorted}
 use Rattle.ratio_core.specs.Rational.{SumFits, ◌+ℚ◌}
-use Rattle.aff_core.specs.Address.{address_cmp}
+use Rattle.aff_core.specs.Address.{address_cmp, address_total}
 use Rattle.aff_core.specs.Arithmetic.{sum_of, added_terms, TermsFit}
 use Rattle.aff_core.specs.ArithmeticLaws.{is_sum}
 use Rattle.aff_core.specs.Function.{function_of, terms_of}
@@ -11,7 +11,7 @@ use Rattle.aff_core.specs.KeyOrder.{address_order}
 use Rattle.aff_core.specs.Rising.{RiseStrictly}
 use Rattle.aff_core.specs.Terms.{HaveNoZero, is_nonzero}
 use Rattle.aff_core.proofs.Answered.{passed_on}
-use Rattle.aff_core.proofs.KeptMaps.{from_sorted-entries}
+use Rattle.map_laws.specs.MadeLaws.{from_sorted-entries}
 use Rattle.aff_core.proofs.aff.Aff.add.Goals as goal
 
 pub summed_terms-requires-clause-left : goal.summed_terms-requires-clause-left
@@ -28,7 +28,7 @@ summed_terms-requires-clause-right_nonzero c = subst HaveNoZero (sym c.terms-2.e
 
 pub returns-in_err-terms : goal.returns-in_err-terms
 returns-in_err-terms c =
-    let mine : c.args.self.now.terms ≡ from_sorted {R = address_cmp} c.terms.result.now = sym (from_sorted-entries c.args.self.now.terms) ∙ ap from_sorted (sym c.terms.ensures.all) in
+    let mine : c.args.self.now.terms ≡ from_sorted {R = address_cmp} c.terms.result.now = sym (from_sorted-entries address_total c.args.self.now.terms) ∙ ap from_sorted (sym c.terms.ensures.all) in
     passed_on c.from_residual-in_err-terms.result c.in_err-terms.field-0.0 (TermsFit (from_sorted {R = address_cmp} c.terms.result.now) c.terms-2.result.now) _ _ _ c.from_residual-in_err-terms.ensures.1 c.in_err-terms.ensures
     (λ h. subst (λ m. TermsFit m c.terms-2.result.now) mine (subst (TermsFit c.args.self.now.terms) (sym c.terms-2.ensures.all) h.terms))
 
@@ -43,7 +43,7 @@ unfolding sum_of
 returns c =
     let f = c.args.self.now in
     let g = c.args.other.now in
-    let mine : from_sorted {R = address_cmp} c.terms.result.now ≡ f.terms = ap from_sorted c.terms.ensures.all ∙ from_sorted-entries f.terms in (
+    let mine : from_sorted {R = address_cmp} c.terms.result.now ≡ f.terms = ap from_sorted c.terms.ensures.all ∙ from_sorted-entries address_total f.terms in (
       record {
         constant = subst (SumFits f.constant) c.constant-2.ensures (subst (λ k. SumFits k c.constant-2.result) c.constant.ensures c.in_ok-constant.ensures.exact.0);
         terms = subst (TermsFit f.terms) c.terms-2.ensures.all (subst (λ m. TermsFit m c.terms-2.result.now) mine c.in_ok-terms.ensures.0);

@@ -7,7 +7,7 @@ use Rattle.aff_core.specs.Address.{Address, address_cmp, address_total}
 use Rattle.aff_core.specs.Function.{Function, terms_of}
 use Rattle.aff_core.specs.Kept.{IsPlaceOf, IsAbsent}
 use Rattle.aff_core.proofs.Changed.{span_found}
-use Rattle.aff_core.specs.EntryLaws.{searched}
+use Rattle.map_laws.specs.EntryLaws.{searched}
 use Rattle.aff_core.proofs.aff.Aff.place.Goals as goal
 
 -- what a search among the terms finds

@@ -4,11 +4,9 @@ use Rattle.std.specs.Vec.{with_item, with_items}
 use Rattle.std.proofs.lemmas.List.{length-set}
 use Rattle.tableau_core.specs.Row.{AllFit}
 use Rattle.tableau_core.specs.Rows.{AreWide, now_at}
-use Rattle.tableau_core.specs.Pivoting.{IsReady, IsSettled}
-use Rattle.tableau_core.specs.Tableau.{numbers_fit}
-use Rattle.tableau_core.specs.NextBoard.{made_where_fit, next_board}
+use Rattle.tableau_core.specs.Pivoting.{IsReady, IsSettled, numbers_fit}
 use Rattle.tableau_core.proofs.RowSteps.{is_ok-err}
-use Rattle.tableau_core.proofs.BoardSteps.{kept_after, kept_same, on_err, pivoted_all, tests_same, view_same, wide_after}
+use Rattle.tableau_core.proofs.BoardSteps.{kept_after, kept_same, pivoted_all, refused, row_within, tests_same, view_same, wide_after}
 use Rattle.tableau_core.proofs.board.Board.pivot.Goals as goal
 
 pub returns-in_err-prepare_pivot-clause-fits : goal.returns-in_err-prepare_pivot-clause-fits
@@ -16,13 +14,13 @@ returns-in_err-prepare_pivot-clause-fits c =
     is_ok-err c.from_residual.result c.from_residual.ensures.0
     ∙ c.in_err-prepare_pivot.ensures.fits
     ∙ ap (λ rows. numbers_fit (length rows) (now_at rows) c.args.r c.args.q c.self.inside.in_first c.self.inside.first.now.items c.self.inside.second.now.items) c.deref_mut.ensures.value
-    ∙ tests_same c.self.inside c.args.self.now c.args.r c.args.q c.self.view_is
+    ∙ tests_same c.self.inside c.self.invariant c.args.r c.args.q c.args.self.now c.self.view_is c.requires.row c.requires.column
 
 pub returns-clause-fits : goal.returns-clause-fits
 returns-clause-fits c =
     c.in_ok-prepare_pivot.ensures.fits
     ∙ ap (λ rows. numbers_fit (length rows) (now_at rows) c.args.r c.args.q c.self.inside.in_first c.self.inside.first.now.items c.self.inside.second.now.items) c.deref_mut.ensures.value
-    ∙ tests_same c.self.inside c.args.self.now c.args.r c.args.q c.self.view_is
+    ∙ tests_same c.self.inside c.self.invariant c.args.r c.args.q c.args.self.now c.self.view_is c.requires.row c.requires.column
 
 pub invariant_of-self : goal.invariant_of-self
 invariant_of-self c =
@@ -34,10 +32,10 @@ invariant_of-self c =
     (ap length step ∙ c.prepare_pivot.auto.step ∙ ap length c.deref_mut-2.ensures.value)
     (subst AllFit (sym step) c.prepare_pivot.ensures.step_fits)
 
-pub returns-in_err-prepare_pivot-clause-err : goal.returns-in_err-prepare_pivot-clause-err
-returns-in_err-prepare_pivot-clause-err c =
+pub returns-in_err-prepare_pivot-clause-board : goal.returns-in_err-prepare_pivot-clause-board
+returns-in_err-prepare_pivot-clause-board c =
     let rows = with_items_is c.self.inside.rows c.prepare_pivot.new.rows (c.prepare_pivot.auto.rows ∙ c.deref_mut.ensures.len) in
-    on_err c.from_residual.result _
+    refused c.from_residual.result _ _ c.from_residual.ensures.0
     (view_same c.self.inside (record { reals = c.self.inside.reals; rows = with_items c.self.inside.rows c.prepare_pivot.new.rows; in_first = c.self.inside.in_first; first = c.prepare_pivot.new.first; second = c.prepare_pivot.new.second; step = with_items c.self.inside.step c.prepare_pivot.new.step; basis = c.self.inside.basis }) refl refl (ap length rows ∙ c.prepare_pivot.auto.rows ∙ ap length c.deref_mut.ensures.value) refl
     (λ i. ap (λ l. now_at l i) rows ∙ c.prepare_pivot.ensures.rows_stay i ∙ ap (λ l. now_at l i) c.deref_mut.ensures.value)
     c.prepare_pivot.ensures.first_stays c.prepare_pivot.ensures.second_stays ∙ c.self.view_is)
@@ -73,26 +71,18 @@ invariant_of-self-2 c =
     c.settle_pivot.ensures.step_long c.settle_pivot.ensures.step_fits
     (length-set c.self.inside.basis.items c.args.r c.args.q)
 
-pub returns-clause-ok : goal.returns-clause-ok
-returns-clause-ok c =
+pub returns-clause-board : goal.returns-clause-board
+returns-clause-board c =
     let rows = c.deref_mut-3.ensures.value ∙ with_items_is c.self.inside.rows c.prepare_pivot.new.rows (c.prepare_pivot.auto.rows ∙ c.deref_mut.ensures.len) in
     let last = with_items_is (with_items c.self.inside.rows c.prepare_pivot.new.rows) c.settle_pivot.new.rows (c.settle_pivot.auto.rows ∙ c.deref_mut-3.ensures.len) in
     pivoted_all c.self.inside
     (record { reals = c.self.inside.reals; rows = with_items (with_items c.self.inside.rows c.prepare_pivot.new.rows) c.settle_pivot.new.rows; in_first = c.self.inside.in_first; first = c.settle_pivot.new.first; second = c.settle_pivot.new.second; step = c.settle_pivot.new.step; basis = with_item c.self.inside.basis c.args.r c.args.q })
     refl
     (ap length last ∙ c.settle_pivot.auto.rows ∙ ap length rows ∙ c.prepare_pivot.auto.rows ∙ ap length c.deref_mut.ensures.value)
-    c.args.self.now c.args.r c.args.q c.deref_mut-3.result.now c.prepare_pivot.new.first.now.items c.prepare_pivot.new.second.now.items c.self.view_is refl refl
+    c.self.invariant c.args.r c.args.q (row_within c.self.inside c.args.self.now c.args.r c.self.view_is c.requires.row)
+    c.deref_mut-3.result.now c.prepare_pivot.new.first.now.items c.prepare_pivot.new.second.now.items
     (ap length rows ∙ c.prepare_pivot.auto.rows ∙ ap length c.deref_mut.ensures.value)
     (λ i. ap (λ l. now_at l i) rows ∙ c.prepare_pivot.ensures.rows_stay i ∙ ap (λ l. now_at l i) c.deref_mut.ensures.value)
     c.prepare_pivot.ensures.first_stays c.prepare_pivot.ensures.second_stays
     (subst (λ l. IsSettled c.deref_mut-3.result.now l c.args.r c.args.q c.self.inside.in_first c.prepare_pivot.new.first.now.items c.settle_pivot.new.first.now.items c.prepare_pivot.new.second.now.items c.settle_pivot.new.second.now.items) (sym last) c.settle_pivot.ensures.settled)
-
-pub returns-clause-next : goal.returns-clause-next
-returns-clause-next c = next_board c.args.r c.args.q c.args.self.now c.requires.row c.requires.column _ c.requires.nonzero (returns-clause-ok c)
-
-pub returns-clause-exact : goal.returns-clause-exact
-returns-clause-exact c = made_where_fit c.args.r c.args.q c.args.self.now c.requires.row c.requires.column _ (returns-clause-fits c)
-
-pub returns-in_err-prepare_pivot-clause-exact : goal.returns-in_err-prepare_pivot-clause-exact
-returns-in_err-prepare_pivot-clause-exact c =
-    made_where_fit c.args.r c.args.q c.args.self.now c.requires.row c.requires.column _ (returns-in_err-prepare_pivot-clause-fits c)
+    c.args.self.now c.self.view_is c.requires.column refl refl

@@ -1,12 +1,12 @@
 use Rattle.std.proofs.Common.{ap, length, refl, subst, sym, true, ◌+◌, ◌∙◌}
 use Rattle.std.proofs.lemmas.List.FromFn.{length-range_with_len}
-use Rattle.simplex_laws.specs.Basis.{start}
-use Rattle.simplex_laws.specs.Board.{price}
-use Rattle.simplex_laws.specs.Form.{Form, first_cost, second_cost}
 use Rattle.tableau_core.specs.declared.board.Board.TheInside.{Inside}
 use Rattle.tableau_core.specs.Start.{IsListOf, form_of}
 use Rattle.tableau_core.proofs.StartBoard.{start-board, start-kept}
 use Rattle.tableau_core.proofs.board.Board.start.Goals as goal
+use Rattle.simplex_form.specs.Basis.{start}
+use Rattle.simplex_form.specs.Board.{price}
+use Rattle.simplex_form.specs.Form.{Form, first_cost, second_cost}
 
 abbrev form : goal.In_ok-basis → Form
 form c = form_of c.args.m c.args.c c.args.matrix.now c.args.right.now c.args.costs.now
@@ -33,10 +33,10 @@ second_listed c =
 
 pub invariant_of-result : goal.invariant_of-result
 invariant_of-result c =
-    start-kept (form c) (made c) refl c.in_ok-rows.ensures.count (c.in_ok-rows.ensures.rows c.args.costs.now) c.in_ok-basis.ensures
+    start-kept (form c) (made c) refl c.in_ok-rows.ensures.count c.in_ok-rows.ensures.wide c.in_ok-basis.ensures
     (first_listed c).long (second_listed c).long c.in_ok-step.ensures.long c.in_ok-step.ensures.all_fit
     (ap length c.in_ok-basis.ensures ∙ length-range_with_len c.args.c c.args.m)
 
 pub returns-clause-board : goal.returns-clause-board
 returns-clause-board c =
-    start-board (form c) (made c) refl c.in_ok-rows.ensures.count (c.in_ok-rows.ensures.rows c.args.costs.now) c.in_ok-basis.ensures (first_listed c) (second_listed c)
+    start-board (form c) (made c) refl c.in_ok-rows.ensures.count c.in_ok-rows.ensures.wide c.in_ok-basis.ensures (c.in_ok-rows.ensures.entries c.args.right.now c.args.costs.now) c.in_ok-rows.ensures.sides (first_listed c) (second_listed c)

@@ -1,0 +1,66 @@
+-- Rows and groups with duals. Each is a list of functions that are together in a set, with a dual for each function; a group's
+-- functions are its variables.
+--     pull hs x        the sum of the duals times the slopes at x
+--     adjoint hs v     the sum of the duals times the coefficients of v
+--     gap hs           the sum of the least products, less the duals times the constants
+--     AllHold one hs x the functions are in the sets: at a point where `one` is 1, along a ray where it is 0
+use Rattle.std.specs.Prelude.{◌≡◌, List, length, map, All}
+use Rattle.ratio_core.specs.Rational.{Rational, ◌-ℚ◌, ◌≤ℚ◌}
+use Rattle.rational_laws.specs.Dot.{dot}
+use Rattle.rational_laws.specs.Sums.{sum_by_ℚ}
+use Rattle.aff_core.specs.Address.{Address}
+use Rattle.aff_core.specs.Function.{Function, coefficient}
+use Rattle.linear_laws.specs.Evaluations.{evaluated}
+use Rattle.linear_laws.specs.Slopes.{slope}
+use Rattle.set_core.specs.declared.set.Set.{Set}
+use Rattle.set_core.specs.Membership.{Dual, In, low_of}
+use Rattle.set_core.specs.Mirrored.{multiplied}
+use Rattle.set_core.specs.Shapes.{IsSetOf}
+
+pub record Held : Type 0 where
+  pub duals : List Rational
+  pub functions : List Function
+  pub set : Set
+
+-- the set is one for so many functions, and its dual set has the duals, one for each
+pub record IsHeld (h : Held) : Type 0 where
+  pub set : IsSetOf (length h.functions) h.set
+  pub size : length h.duals ≡ length h.functions
+  pub dual : Dual h.set h.duals
+
+abbrev pub DualsHold : List Held → Type 0
+DualsHold hs = All IsHeld hs
+
+-- ---- of one
+
+abbrev pub pull_of : Held → (Address → Rational) → Rational
+pull_of h x = dot h.duals (map (λ f. slope f x) h.functions)
+
+abbrev pub adjoint_of : Held → Address → Rational
+adjoint_of h v = dot h.duals (map (λ f. coefficient f v) h.functions)
+
+abbrev pub gap_of : Held → Rational
+gap_of h = low_of h.set h.duals -ℚ dot h.duals (map (λ f. f.constant) h.functions)
+
+abbrev pub Holds : Rational → Held → (Address → Rational) → Type 0
+Holds one h x = In (multiplied one h.set) (map (λ f. evaluated one f x) h.functions)
+
+-- ---- of all
+
+abbrev pub pull : List Held → (Address → Rational) → Rational
+pull hs x = sum_by_ℚ (λ h. pull_of h x) hs
+
+abbrev pub adjoint : List Held → Address → Rational
+adjoint hs v = sum_by_ℚ (λ h. adjoint_of h v) hs
+
+abbrev pub gap : List Held → Rational
+gap hs = sum_by_ℚ gap_of hs
+
+abbrev pub AllHold : Rational → List Held → (Address → Rational) → Type 0
+AllHold one hs x = All (λ h. Holds one h x) hs
+
+-- hs can stand for gs: its duals hold, it pulls alike at every point, and its gap is no smaller
+pub record Covers (hs gs : List Held) : Type 0 where
+  pub duals : DualsHold hs
+  pub pulls : (x : Address → Rational) → pull hs x ≡ pull gs x
+  pub gaps : gap gs ≤ℚ gap hs

@@ -1,0 +1,4 @@
+pub mod Held
+pub mod PullLaws
+pub mod CoverLaws
+pub mod WeakDuality
