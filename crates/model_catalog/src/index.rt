@@ -137,8 +137,13 @@ fn exchange_in_one_pass(
 {
     open_gap(rows, aside);
     for change in changes.iter_mut() {
-        change.content =
-            exchange_row_at_gap(rows, aside, kept, change.number, change.content.take());
+        change.content = exchange_row_at_gap(
+            rows,
+            aside,
+            kept,
+            change.number,
+            change.content.take(),
+        );
     }
     close_gap(rows, aside);
 }

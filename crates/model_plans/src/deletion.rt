@@ -174,10 +174,7 @@ fn other_vars(alloc: Global, vars: &[GroupVar], number: u32) -> Result<Vec<Group
 }
 
 // The objective without the variable, and none where it doesn't mention it.
-fn objective_without(
-    objective: &Objective,
-    at: &Address,
-) -> Result<Option<Objective>, Memory>
+fn objective_without(objective: &Objective, at: &Address) -> Result<Option<Objective>, Memory>
     ensures { IfOk result (IsChange objective.now (objective_without at.now objective.now)) }
 {
     match objective {

@@ -113,9 +113,6 @@ fn with_part_of(alloc: Global, model: &Catalog, part: &Part, value: Ratio) -> Re
         unreachable!()
     };
     let sense = *sense;
-    let objective = replaced(func, part, value)?.map(|func| Objective::Affine {
-        sense,
-        func,
-    });
+    let objective = replaced(func, part, value)?.map(|func| Objective::Affine { sense, func });
     Ok(Plan::of_objective(alloc, objective, model.next()))
 }

@@ -29,7 +29,11 @@ impl Plan {
     }
 
     /// Nothing changes but the objective, where one is given.
-    pub(crate) fn of_objective(alloc: Global, objective: Option<Objective>, next: NextNumbers) -> Plan
+    pub(crate) fn of_objective(
+        alloc: Global,
+        objective: Option<Objective>,
+        next: NextNumbers,
+    ) -> Plan
         ensures { HasParts result [] [] objective next [] [] }
     {
         Plan {

@@ -206,7 +206,12 @@ pub(crate) fn delete(alloc: Global, model: &Catalog, row: &Name) -> Result<Plan,
         number: row.id,
         content: None,
     };
-    Plan::of_row_change(alloc, change, Some(NameChange::new(row.id, None)), model.next())
+    Plan::of_row_change(
+        alloc,
+        change,
+        Some(NameChange::new(row.id, None)),
+        model.next(),
+    )
 }
 
 /// Another name of a row. It copies the row.

@@ -2,10 +2,15 @@
 ghost use Rattle.std.specs.Prelude.{◌≡◌};
 ghost use Rattle.user_model.specs.Refusals.{first_refusal};
 
-use crate::bounds::{meets_bad_interval, meets_lower_bound_already_set, meets_delete_not_allowed, meets_upper_bound_already_set};
+use crate::bounds::{
+    meets_bad_interval, meets_delete_not_allowed, meets_lower_bound_already_set,
+    meets_upper_bound_already_set,
+};
 use crate::full::first_full;
 use crate::names_known::{meets_name_taken, meets_unknown_name};
-use crate::shapes::{meets_function_shape, meets_output_index, meets_bad_dimension, meets_set_type_mismatch};
+use crate::shapes::{
+    meets_bad_dimension, meets_function_shape, meets_output_index, meets_set_type_mismatch,
+};
 use model_catalog::Catalog;
 use user_model::{Edit, Refusal};
 

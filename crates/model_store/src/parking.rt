@@ -10,7 +10,7 @@ ghost use Rattle.model_store.specs.Rooms.{IsCounted, IsParked, IsReserved};
 ghost use Rattle.model_store.specs.Store.{HasParked};
 
 use crate::Parked;
-use model_catalog::{Catalog, NameChange, More};
+use model_catalog::{Catalog, More, NameChange};
 use model_plans::Plan;
 use ratio_core::Memory;
 use user_model::Undo;

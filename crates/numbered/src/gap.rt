@@ -62,11 +62,7 @@ pub fn exchange_at_gap<X: HasNumber + Drop>(
 }
 
 // Moves the gap on past the items of lower numbers, and takes the item with the number out.
-fn take_ahead<X: HasNumber + Drop>(
-    items: &mut Vec<X>,
-    aside: &mut Vec<X>,
-    number: u32,
-) -> Option<X>
+fn take_ahead<X: HasNumber + Drop>(items: &mut Vec<X>, aside: &mut Vec<X>, number: u32) -> Option<X>
     requires rising { Rise X.number_of (with_gap items.old.items aside.old.items) }
     requires passed { All (λ x. X.number_of x < number) items.old.items }
     requires room { vec_len items.old + vec_len aside.old ≤ vec_capacity items.old }
