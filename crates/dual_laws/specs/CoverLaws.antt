@@ -2,10 +2,10 @@
 use Rattle.std.specs.Prelude.{◌≡◌, List, ◌++◌, refl}
 use Rattle.std.proofs.Common.{sym, ◌∙◌, ap₂, subst}
 use Rattle.std.proofs.lemmas.List.Elements.{All-append}
-use Rattle.ratio_core.specs.Rational.{Rational, ◌+ℚ◌, ◌≤ℚ◌}
+use Rattle.ratio_core.specs.Rational.{◌+ℚ◌, ◌≤ℚ◌}
 use Rattle.rational_laws.specs.Order.{≤ℚ-+ℚ, ≤ℚ_refl, ≤ℚ_trans}
 use Rattle.aff_core.specs.Address.{Address}
-use Rattle.dual_laws.specs.Held.{Covers, DualsHold, Held, IsHeld, adjoint, gap, pull}
+use Rattle.dual_laws.specs.Held.{Covers, DualsHold, Held, IsHeld, adjoint, gap}
 use Rattle.dual_laws.specs.PullLaws.{gap-append, pull-append, pull_same}
 
 pub covers_from_adjoints : (hs gs : List Held) → DualsHold hs → ((v : Address) → adjoint hs v ≡ adjoint gs v) → gap gs ≤ℚ gap hs → Covers hs gs

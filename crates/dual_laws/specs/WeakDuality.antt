@@ -2,7 +2,7 @@
 -- the pull. So a point's value is at least the duals' objective, a ray leads nowhere below, and a gap above 0 of rows without a
 -- pull leaves no point.
 use Rattle.std.specs.Prelude.{◌≡◌, List, [], ◌∷◌, length, map, refl}
-use Rattle.std.proofs.Common.{sym, ◌∙◌, ap, ap₂, subst}
+use Rattle.std.proofs.Common.{sym, ◌∙◌, ap, subst}
 use Rattle.std.proofs.lemmas.List.{length-map}
 use Rattle.std.proofs.lemmas.List.Elements.{All-head, All-tail}
 use Rattle.ratio_core.specs.Rational.{Rational, neg_ℚ, one_ℚ, zero_ℚ, ◌*ℚ◌, ◌+ℚ◌, ◌-ℚ◌, ◌≤ℚ◌, ◌‹ℚ◌}
@@ -12,11 +12,8 @@ use Rattle.rational_laws.specs.Field.{*ℚ-+ℚ, *ℚ-zero, one-*ℚ, zero-*ℚ}
 use Rattle.rational_laws.specs.Order.{not_‹ℚ_from_≤ℚ, zero_‹ℚ_one, ≤ℚ-+ℚ, ≤ℚ-+ℚ_left, ≤ℚ-+ℚ_right, ≤ℚ_from_‹ℚ, ≤ℚ_refl}
 use Rattle.rational_laws.specs.Ring.{as_expression, by_ring, ring₄}
 use Rattle.aff_core.specs.Address.{Address}
-use Rattle.aff_core.specs.Arithmetic.{value_of}
-use Rattle.aff_core.specs.Function.{Function, coefficient}
-use Rattle.linear_laws.specs.Evaluations.{evaluated}
-use Rattle.linear_laws.specs.Slopes.{slope}
-use Rattle.set_core.specs.Membership.{Dual, low_of}
+use Rattle.aff_core.specs.Function.{Function, coefficient, evaluated, slope, value_of}
+use Rattle.set_core.specs.Membership.{low_of}
 use Rattle.set_core.specs.Mirrored.{multiplied}
 use Rattle.set_laws.specs.Least.{low_least}
 use Rattle.set_laws.specs.Multiples.{dual_of-multiplied, low_multiplied, multiplied_set}

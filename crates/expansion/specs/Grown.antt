@@ -1,11 +1,9 @@
 -- A bridging worked out to a depth: what every bridging of the item holds, where one is no deeper.
-use Rattle.std.specs.Prelude.{ℕ, zero, suc, ◌≤◌, Bool, true, ◌&&◌, List, [], ◌∷◌, ◌++◌, map, max, Option, Some, None}
+use Rattle.std.specs.Prelude.{ℕ, zero, suc, Bool, true, ◌&&◌, List, [], ◌∷◌, ◌++◌, Option, Some, None}
 use Rattle.std.specs.Option.{option_and_then}
 use Rattle.bridge_graph.specs.declared.Choice.{Choice}
 use Rattle.bridge_graph.specs.declared.Choice.TheVariants.{By, Missing, Native}
-use Rattle.expansion.specs.Rules.{Image, Rules}
-use Rattle.expansion.specs.Bridged.{Bridged, EachBridged, EachBridgedIn, Fresh, by, each, each_in, natively, none, none_in}
-use Rattle.expansion.specs.Read.{fits, fits_each, fits_in, leaves, leaves_in, leaves_of_each, nodes, nodes_in, nodes_of_each}
+use Rattle.expansion.specs.Rules.{Rules}
 
 -- what a bridging holds of one item, or of several
 pub record Held (Item Entry : Type 0) : Type 0 where

@@ -1,11 +1,9 @@
 -- Every bridging of an item holds what is worked out to any depth that is enough, so all of them hold the same.
-use Rattle.std.specs.Prelude.{◌≡◌, ℕ, zero, suc, ◌+◌, ◌≤◌, List, [], ◌∷◌, ◌++◌, max, Option, Some, None, refl}
+use Rattle.std.specs.Prelude.{◌≡◌, ℕ, zero, suc, ◌+◌, ◌≤◌, List, [], Option, Some, refl}
 use Rattle.std.proofs.Common.{sym, ap, ◌∙◌, arith}
 use Rattle.std.specs.Option.{option_and_then}
-use Rattle.bridge_graph.specs.declared.Choice.{Choice}
-use Rattle.bridge_graph.specs.declared.Choice.TheVariants.{By, Native}
-use Rattle.expansion.specs.Rules.{Image, Rules}
-use Rattle.expansion.specs.Bridged.{Bridged, EachBridged, EachBridgedIn, Fresh, by, each, each_in, natively, none, none_in}
+use Rattle.expansion.specs.Rules.{Rules}
+use Rattle.expansion.specs.Bridged.{Bridged, EachBridged, EachBridgedIn, by, each, each_in, natively, none, none_in}
 use Rattle.expansion.specs.Read.{fits, fits_each, fits_in, leaves, leaves_in, leaves_of_each, nodes, nodes_in, nodes_of_each}
 use Rattle.expansion.specs.Grown.{Held, grown, grown_by, grown_each, grown_in, joined, node_held, put_held}
 

@@ -1,5 +1,5 @@
 -- Choices that agree with a bridging at each of its nodes and leaves.
-use Rattle.std.specs.Prelude.{◌≡◌, ℕ, List}
+use Rattle.std.specs.Prelude.{◌≡◌, List}
 use Rattle.bridge_graph.specs.declared.Choice.{Choice}
 use Rattle.bridge_graph.specs.declared.Choice.TheVariants.{By, Native}
 use Rattle.expansion.specs.Rules.{Rules}

@@ -1,13 +1,12 @@
 -- Other choices that agree at each node and leaf make the same bridging.
-use Rattle.std.specs.Prelude.{◌≡◌, ℕ, List, [], ◌∷◌, ◌++◌, refl}
-use Rattle.std.proofs.Common.{ap, ap₂, ◌∙◌}
+use Rattle.std.specs.Prelude.{◌≡◌, List, refl}
+use Rattle.std.proofs.Common.{ap₂}
 use Rattle.bridge_graph.specs.declared.Choice.{Choice}
-use Rattle.bridge_graph.specs.declared.Choice.TheVariants.{By, Native}
-use Rattle.expansion.specs.Rules.{Image, Rules}
+use Rattle.expansion.specs.Rules.{Rules}
 use Rattle.expansion.specs.Bridged.{Bridged, EachBridged, EachBridgedIn, by, each, each_in, natively, none, none_in}
 use Rattle.expansion.specs.Read.{fits, leaves, nodes}
 use Rattle.expansion.specs.Kept.{Keeps, KeepsEach, KeepsIn, rechosen}
-use Rattle.expansion.specs.Grown.{Held, joined, node_held, put_held}
+use Rattle.expansion.specs.Grown.{joined, node_held, put_held}
 use Rattle.expansion.specs.GrownLaws.{held, held_each, held_in}
 
 module _ {Item Entry : Type 0} {rules : Rules Item Entry} (choice : Item → Choice) where

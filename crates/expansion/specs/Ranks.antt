@@ -1,7 +1,7 @@
 -- When every item can be bridged: none lacks a choice, and what stands below has a lower rank.
 use Rattle.std.specs.Prelude.{◌≡◌, ◌≢◌, ℕ, ◌<◌, List, All}
 use Rattle.bridge_graph.specs.declared.Choice.TheVariants.{By, Missing}
-use Rattle.expansion.specs.Rules.{Image, Rules}
+use Rattle.expansion.specs.Rules.{Rules}
 
 -- the item is of those that can be bridged, and ranks below a number
 pub record RanksBelow {Item : Type 0} (Can : Item → Type 0) (rank : Item → ℕ) (bound : ℕ) (item : Item) : Type 0 where

@@ -1,5 +1,4 @@
-pub mod Units
-pub mod Supports
-pub mod Slopes
+pub mod UnitLaws
+pub mod SupportLaws
 pub mod SlopeLaws
-pub mod Evaluations
+pub mod EvaluationLaws

@@ -1,7 +1,7 @@
 -- The set of the negated vectors, and the set with its numbers multiplied.
 use Rattle.ratio_core.specs.Rational.{Rational, ◌*ℚ◌, neg_ℚ}
 use Rattle.set_core.specs.declared.set.Set.{Set}
-use Rattle.set_core.specs.declared.set.Set.TheVariants.{LessThan, GreaterThan, EqualTo, Interval, Reals, Zeros, Nonnegatives, Nonpositives, NormInfinityCone, NormOneCone}
+use Rattle.set_core.specs.declared.set.Set.TheVariants.{LessThan, GreaterThan, EqualTo, Interval, Nonnegatives, Nonpositives}
 
 -- the set of the negated vectors; for a norm cone there is none, and it stays
 abbrev pub mirrored : Set → Set

@@ -1,5 +1,5 @@
 -- When a set is one of so many components: the tests that refuse one that isn't, and what is left when components go.
-use Rattle.std.specs.Prelude.{◌≡◌, ◌↔◌, ℕ, ◌<◌, ◌≤◌, nat_lt, Bool, true, false, ◌||◌, not, ◌==◌, List, length, filter, refl}
+use Rattle.std.specs.Prelude.{◌≡◌, ℕ, ◌<◌, ◌≤◌, nat_lt, Bool, true, false, ◌||◌, not, ◌==◌, List, length, filter, refl}
 use Rattle.std.proofs.Common.{sym, arith, is_lt, subst, true≢false}
 use Rattle.std.proofs.lemmas.Bool.Decides.{nat_tests}
 use Rattle.std.proofs.lemmas.List.Sums.{count_by-le-length, length-filter}

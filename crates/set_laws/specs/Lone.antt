@@ -1,6 +1,6 @@
 -- In a norm cone of one number low_of isn't least: `DominatesEach` says nothing of a number alone, so 1 is in the dual and -1 in the cone.
 use Rattle.std.specs.Prelude.{◌≡◌, List, [], ◌∷◌, length, refl}
-use Rattle.std.proofs.Common.{sym, ◌∙◌, subst}
+use Rattle.std.proofs.Common.{◌∙◌, subst}
 use Rattle.std.proofs.lemmas.List.Elements.{All-nil}
 use Rattle.ratio_core.specs.Rational.{Rational, abs_ℚ, neg_ℚ, one_ℚ, zero_ℚ, ◌≤ℚ◌, ◌‹ℚ◌}
 use Rattle.rational_laws.specs.Dot.{dot}

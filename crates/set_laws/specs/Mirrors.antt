@@ -1,6 +1,6 @@
 -- What the negation of vectors does to a set that isn't a norm cone: it leads to the mirrored set, with the duals and the least
 -- products of its negated duals. So f in a set is -f in its mirrored set, and a dual of that, negated, is one of this.
-use Rattle.std.specs.Prelude.{◌≡◌, ◌↔◌, ℕ, true, false, Bool, List, [], ◌∷◌, map, length, cond, All, refl}
+use Rattle.std.specs.Prelude.{◌≡◌, ◌↔◌, ℕ, true, false, Bool, List, [], ◌∷◌, cond, All, refl}
 use Rattle.std.specs.Bool.{Decides}
 use Rattle.std.specs.Ordering.{is_le}
 use Rattle.std.proofs.Common.{sym, ◌∙◌, ap, ap₂, subst, true≢false}
@@ -39,12 +39,7 @@ mirrored-mirrored (LessThan u) = ap LessThan (neg_ℚ-neg_ℚ u)
 mirrored-mirrored (GreaterThan l) = ap GreaterThan (neg_ℚ-neg_ℚ l)
 mirrored-mirrored (EqualTo a) = ap EqualTo (neg_ℚ-neg_ℚ a)
 mirrored-mirrored (Interval l u) = ap₂ Interval (neg_ℚ-neg_ℚ l) (neg_ℚ-neg_ℚ u)
-mirrored-mirrored (Reals n) = refl
-mirrored-mirrored (Zeros n) = refl
-mirrored-mirrored (Nonnegatives n) = refl
-mirrored-mirrored (Nonpositives n) = refl
-mirrored-mirrored (NormInfinityCone n) = refl
-mirrored-mirrored (NormOneCone n) = refl
+mirrored-mirrored _ = refl
 
 -- the multiplied, the recession and the dual set of the mirrored set are the mirrored ones of these
 pub mirrored-multiplied : (t : Rational) (set : Set) → mirrored (multiplied t set) ≡ multiplied t (mirrored set)
@@ -52,36 +47,19 @@ mirrored-multiplied t (LessThan u) = ap GreaterThan (sym (*ℚ-neg_ℚ t u))
 mirrored-multiplied t (GreaterThan l) = ap LessThan (sym (*ℚ-neg_ℚ t l))
 mirrored-multiplied t (EqualTo a) = ap EqualTo (sym (*ℚ-neg_ℚ t a))
 mirrored-multiplied t (Interval l u) = ap₂ Interval (sym (*ℚ-neg_ℚ t u)) (sym (*ℚ-neg_ℚ t l))
-mirrored-multiplied t (Reals n) = refl
-mirrored-multiplied t (Zeros n) = refl
-mirrored-multiplied t (Nonnegatives n) = refl
-mirrored-multiplied t (Nonpositives n) = refl
-mirrored-multiplied t (NormInfinityCone n) = refl
-mirrored-multiplied t (NormOneCone n) = refl
+mirrored-multiplied t _ = refl
 
 pub mirrored-recession : (set : Set) → mirrored (recession set) ≡ recession (mirrored set)
 mirrored-recession (LessThan u) = ap GreaterThan neg_ℚ-zero
 mirrored-recession (GreaterThan l) = ap LessThan neg_ℚ-zero
 mirrored-recession (EqualTo a) = ap EqualTo neg_ℚ-zero
 mirrored-recession (Interval l u) = ap₂ Interval neg_ℚ-zero neg_ℚ-zero
-mirrored-recession (Reals n) = refl
-mirrored-recession (Zeros n) = refl
-mirrored-recession (Nonnegatives n) = refl
-mirrored-recession (Nonpositives n) = refl
-mirrored-recession (NormInfinityCone n) = refl
-mirrored-recession (NormOneCone n) = refl
+mirrored-recession _ = refl
 
 pub mirrored-dual_of : (set : Set) → mirrored (dual_of set) ≡ dual_of (mirrored set)
 mirrored-dual_of (LessThan u) = ap GreaterThan neg_ℚ-zero
 mirrored-dual_of (GreaterThan l) = ap LessThan neg_ℚ-zero
-mirrored-dual_of (EqualTo a) = refl
-mirrored-dual_of (Interval l u) = refl
-mirrored-dual_of (Reals n) = refl
-mirrored-dual_of (Zeros n) = refl
-mirrored-dual_of (Nonnegatives n) = refl
-mirrored-dual_of (Nonpositives n) = refl
-mirrored-dual_of (NormInfinityCone n) = refl
-mirrored-dual_of (NormOneCone n) = refl
+mirrored-dual_of _ = refl
 
 norm_cone_kept : (set : Set) → is_norm_cone set ≡ false → (is_norm_cone (mirrored set) ≡ false) × (is_norm_cone (recession set) ≡ false) × (is_norm_cone (dual_of set) ≡ false)
 norm_cone_kept (NormInfinityCone n) c = absurd (true≢false c)
@@ -98,8 +76,7 @@ mirrored_set n (Reals m) s = s
 mirrored_set n (Zeros m) s = s
 mirrored_set n (Nonnegatives m) s = record { dimension = s.dimension; enough = s.enough; uncrossed = refl }
 mirrored_set n (Nonpositives m) s = record { dimension = s.dimension; enough = s.enough; uncrossed = refl }
-mirrored_set n (NormInfinityCone m) s = s
-mirrored_set n (NormOneCone m) s = s
+mirrored_set n _ s = s
 
 -- ---- vectors
 

@@ -26,50 +26,27 @@ multiplied_one (LessThan u) = ap LessThan (one-*ℚ u)
 multiplied_one (GreaterThan l) = ap GreaterThan (one-*ℚ l)
 multiplied_one (EqualTo a) = ap EqualTo (one-*ℚ a)
 multiplied_one (Interval l u) = ap₂ Interval (one-*ℚ l) (one-*ℚ u)
-multiplied_one (Reals n) = refl
-multiplied_one (Zeros n) = refl
-multiplied_one (Nonnegatives n) = refl
-multiplied_one (Nonpositives n) = refl
-multiplied_one (NormInfinityCone n) = refl
-multiplied_one (NormOneCone n) = refl
+multiplied_one _ = refl
 
 pub multiplied_zero : (set : Set) → multiplied zero_ℚ set ≡ recession set
 multiplied_zero (LessThan u) = ap LessThan (zero-*ℚ u)
 multiplied_zero (GreaterThan l) = ap GreaterThan (zero-*ℚ l)
 multiplied_zero (EqualTo a) = ap EqualTo (zero-*ℚ a)
 multiplied_zero (Interval l u) = ap₂ Interval (zero-*ℚ l) (zero-*ℚ u)
-multiplied_zero (Reals n) = refl
-multiplied_zero (Zeros n) = refl
-multiplied_zero (Nonnegatives n) = refl
-multiplied_zero (Nonpositives n) = refl
-multiplied_zero (NormInfinityCone n) = refl
-multiplied_zero (NormOneCone n) = refl
+multiplied_zero _ = refl
 
 pub multiplied-recession : (t : Rational) (set : Set) → multiplied t (recession set) ≡ recession set
 multiplied-recession t (LessThan u) = ap LessThan (*ℚ-zero t)
 multiplied-recession t (GreaterThan l) = ap GreaterThan (*ℚ-zero t)
 multiplied-recession t (EqualTo a) = ap EqualTo (*ℚ-zero t)
 multiplied-recession t (Interval l u) = ap₂ Interval (*ℚ-zero t) (*ℚ-zero t)
-multiplied-recession t (Reals n) = refl
-multiplied-recession t (Zeros n) = refl
-multiplied-recession t (Nonnegatives n) = refl
-multiplied-recession t (Nonpositives n) = refl
-multiplied-recession t (NormInfinityCone n) = refl
-multiplied-recession t (NormOneCone n) = refl
+multiplied-recession t _ = refl
 
 -- ---- what else is multiplied
 
 pub dual_of-multiplied : (t : Rational) (set : Set) (w : List Rational) → Dual set w → Dual (multiplied t set) w
 dual_of-multiplied t (LessThan u) w h = h
-dual_of-multiplied t (GreaterThan l) w h = h
-dual_of-multiplied t (EqualTo a) w h = h
-dual_of-multiplied t (Interval l u) w h = h
-dual_of-multiplied t (Reals n) w h = h
-dual_of-multiplied t (Zeros n) w h = h
-dual_of-multiplied t (Nonnegatives n) w h = h
-dual_of-multiplied t (Nonpositives n) w h = h
-dual_of-multiplied t (NormInfinityCone n) w h = h
-dual_of-multiplied t (NormOneCone n) w h = h
+dual_of-multiplied t _ w h = h
 
 pub low_multiplied : (t : Rational) (set : Set) (w : List Rational) → low_of (multiplied t set) w ≡ t *ℚ low_of set w
 low_multiplied t (LessThan u) w = *ℚ_assoc t u (first_of w)
@@ -88,12 +65,7 @@ multiplied_set t a n (GreaterThan l) s = record { dimension = s.dimension; enoug
 multiplied_set t a n (EqualTo x) s = record { dimension = s.dimension; enough = s.enough; uncrossed = refl }
 multiplied_set t a n (Interval l u) s =
     record { dimension = s.dimension; enough = s.enough; uncrossed = not_crossed (t *ℚ l) (t *ℚ u) (≤ℚ-*ℚ_left l u t (in_order l u s.uncrossed) a) }
-multiplied_set t a n (Reals m) s = s
-multiplied_set t a n (Zeros m) s = s
-multiplied_set t a n (Nonnegatives m) s = s
-multiplied_set t a n (Nonpositives m) s = s
-multiplied_set t a n (NormInfinityCone m) s = s
-multiplied_set t a n (NormOneCone m) s = s
+multiplied_set t a n _ s = s
 
 -- ---- sums
 

@@ -1,4 +1,4 @@
-use Rattle.std.specs.Prelude.{ℕ, ◌<◌, true, IsTrue, ◌↔◌, List, [], ◌∷◌, length, refl}
+use Rattle.std.specs.Prelude.{◌<◌, true, IsTrue, ◌↔◌, List, [], ◌∷◌, length, refl}
 use Rattle.std.proofs.Common.{arith}
 use Rattle.ratio_core.specs.Folds.{FoldFits}
 use Rattle.ratio_core.specs.Rational.{Rational, zero_ℚ}

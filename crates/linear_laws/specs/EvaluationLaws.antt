@@ -5,14 +5,10 @@ use Rattle.ratio_core.specs.Rational.{Rational, one_ℚ, zero_ℚ, ◌*ℚ◌, �
 use Rattle.rational_laws.specs.Field.{*ℚ-+ℚ, *ℚ-zero, one-*ℚ, zero-*ℚ, zero-+ℚ, +ℚ-zero, +ℚ_inner_comm}
 use Rattle.rational_laws.specs.Ring.{as_expression, by_ring, ring₄, ring₅}
 use Rattle.aff_core.specs.Address.{Address}
-use Rattle.aff_core.specs.Arithmetic.{IsComposition, IsMultiple, IsSum, linear, value_of}
-use Rattle.aff_core.specs.Function.{Function, coefficient, terms_of}
-use Rattle.linear_laws.specs.Slopes.{slope}
+use Rattle.aff_core.specs.Arithmetic.{IsComposition, IsMultiple, IsSum}
+use Rattle.aff_core.specs.Function.{Function, IsNegated, coefficient, evaluated, slope, terms_of, value_of}
+use Rattle.aff_core.specs.Terms.{linear}
 use Rattle.linear_laws.specs.SlopeLaws.{slope_agreeing, slope_composed, slope_multiple, slope_same, slope_sum}
-
--- the slope with `one` times the constant: at a point `one` is 1, and along a ray it is 0
-abbrev pub evaluated : Rational → Function → (Address → Rational) → Rational
-evaluated one f x = one *ℚ f.constant +ℚ slope f x
 
 pub evaluated_value : (f : Function) (x : Address → Rational) → evaluated one_ℚ f x ≡ value_of f x
 unfolding value_of
