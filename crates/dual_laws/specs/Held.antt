@@ -9,9 +9,7 @@ use Rattle.ratio_core.specs.Rational.{Rational, ◌-ℚ◌, ◌≤ℚ◌}
 use Rattle.rational_laws.specs.Dot.{dot}
 use Rattle.rational_laws.specs.Sums.{sum_by_ℚ}
 use Rattle.aff_core.specs.Address.{Address}
-use Rattle.aff_core.specs.Function.{Function, coefficient}
-use Rattle.aff_core.specs.Function.{evaluated}
-use Rattle.aff_core.specs.Function.{slope}
+use Rattle.aff_core.specs.Function.{Function, coefficient, evaluated, slope}
 use Rattle.set_core.specs.declared.set.Set.{Set}
 use Rattle.set_core.specs.Membership.{Dual, In, low_of}
 use Rattle.set_core.specs.Mirrored.{multiplied}

@@ -7,10 +7,8 @@ use Rattle.rational_laws.specs.DotLaws.{dot_map-*ℚ, dot_map-sum, dot_map_same}
 use Rattle.rational_laws.specs.Field.{*ℚ_comm, zero-*ℚ, +ℚ-*ℚ}
 use Rattle.rational_laws.specs.Sums.{sum_by_ℚ, sum_by_ℚ-+ℚ, sum_by_ℚ-append, sum_by_ℚ_same, sum_by_ℚ_zero}
 use Rattle.aff_core.specs.Address.{Address}
-use Rattle.aff_core.specs.Function.{Function, coefficient}
-use Rattle.aff_core.specs.Function.{slope}
-use Rattle.linear_laws.specs.SlopeLaws.{slope_over}
-use Rattle.linear_laws.specs.SlopeLaws.{mentioned}
+use Rattle.aff_core.specs.Function.{Function, coefficient, slope}
+use Rattle.linear_laws.specs.SlopeLaws.{mentioned, slope_over}
 use Rattle.linear_laws.specs.SupportLaws.{Supports, support, support_supports, supports_first, supports_second}
 use Rattle.dual_laws.specs.Held.{Held, adjoint, adjoint_of, gap, gap_of, pull, pull_of}
 

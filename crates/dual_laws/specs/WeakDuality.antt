@@ -12,10 +12,7 @@ use Rattle.rational_laws.specs.Field.{*ℚ-+ℚ, *ℚ-zero, one-*ℚ, zero-*ℚ}
 use Rattle.rational_laws.specs.Order.{not_‹ℚ_from_≤ℚ, zero_‹ℚ_one, ≤ℚ-+ℚ, ≤ℚ-+ℚ_left, ≤ℚ-+ℚ_right, ≤ℚ_from_‹ℚ, ≤ℚ_refl}
 use Rattle.rational_laws.specs.Ring.{as_expression, by_ring, ring₄}
 use Rattle.aff_core.specs.Address.{Address}
-use Rattle.aff_core.specs.Function.{value_of}
-use Rattle.aff_core.specs.Function.{Function, coefficient}
-use Rattle.aff_core.specs.Function.{evaluated}
-use Rattle.aff_core.specs.Function.{slope}
+use Rattle.aff_core.specs.Function.{Function, coefficient, evaluated, slope, value_of}
 use Rattle.set_core.specs.Membership.{low_of}
 use Rattle.set_core.specs.Mirrored.{multiplied}
 use Rattle.set_laws.specs.Least.{low_least}

@@ -5,3 +5,6 @@ pub mod Plan
 pub mod MemSource
 pub mod MemSink
 pub mod Adapter
+pub mod FaultLaws
+pub mod SinkLaws
+pub mod SourceLaws

@@ -4,6 +4,7 @@
 //! such a source and sink speak of texts; over one that tells nothing they speak of faults alone.
 #![tactic(auto)]
 
+mod adapter;
 pub mod mem_sink;
 pub mod mem_source;
 mod retry;

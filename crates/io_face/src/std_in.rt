@@ -3,35 +3,15 @@ ghost use Rattle.std.specs.Prelude.{◌≡◌, ◌≤◌, None, length, IfOk, On
 ghost use Rattle.std.specs.Io.KnownBytes.{ReadConsumes};
 ghost use Rattle.io_face.specs.Fault.{next_count};
 
+use super::adapter::Adapter;
 use super::retry::read_retrying;
 use super::source::{Failed, Source};
 use std::io::Read;
-use std::marker::Model;
 
-/// A reader of the system, as `rt.stdin()`. It tells nothing of what is left.
-#[derive(Drop)]
-pub struct StdIn<R> {
-    reader: R,
-    faults: u64,
-}
+/// A reader of the system, as `rt.stdin()`.
+pub type StdIn<R> = Adapter<R>;
 
-impl<R> Model for StdIn<R> {
-    ghost use Rattle.io_face.specs.Adapter.{Adapter};
-
-    ghost Value = { Adapter R };
-
-    ghost view = { λ s. record { inner = s.reader; faults = s.faults } };
-}
-
-impl<R> StdIn<R> {
-    pub fn new(reader: R) -> StdIn<R>
-        ensures { result ≡ record { inner = reader; faults = 0 } }
-    {
-        StdIn { reader, faults: 0 }
-    }
-}
-
-impl<R: Read> Source for StdIn<R> {
+impl<R: Read> Source for Adapter<R> {
     ghost left = { λ _. None };
 
     ghost faults = { λ s. s.faults };
@@ -46,10 +26,10 @@ impl<R: Read> Source for StdIn<R> {
         ensures no_fault { OnOk result (self.new.faults ≡ self.old.faults) }
         ensures fault { OnErr result (self.new.faults ≡ next_count self.old.faults) }
     {
-        match read_retrying(&mut self.reader, into) {
+        match read_retrying(&mut self.inner, into) {
             Ok(count) => Ok(count),
             Err(_) => {
-                self.faults = self.faults.saturating_add(1);
+                self.count_fault();
                 Err(Failed)
             }
         }
@@ -89,18 +69,20 @@ mod tests {
     }
 
     #[test]
-    fn reads_on_after_a_signal_and_counts_faults(rt: HostRuntime) -> Result<(), Fail> {
+    fn reads_on_after_a_signal(rt: HostRuntime) -> Result<(), Fail> {
         let mut input = StdIn::new(Wire { calls: 0 });
-        for (want, faults) in [(Ok(b"hi".as_slice()), 0), (Err(Failed), 1), (Ok(b""), 1)] {
-            let mut into = [0u8; 4];
-            let outcome = input.read(&mut into);
-            match (outcome, want) {
-                (Ok(count), Ok(bytes)) => assert_eq!(rt; &into[..count], bytes),
-                (outcome, want) => assert_eq!(rt; outcome.is_err(), want.is_err()),
-            }
-            assert_eq!(rt; input.faults(), faults);
-        }
-        assert_eq!(rt; StdIn::new(rt.stdin()).read(&mut []), Ok(0));
+        let mut into = [0u8; 4];
+        assert_eq!(rt; (input.read(&mut into), into), (Ok(2), *b"hi\0\0"));
+        Ok(())
+    }
+
+    #[test]
+    fn counts_a_fault(rt: HostRuntime) -> Result<(), Fail> {
+        let mut input = StdIn::new(Wire { calls: 2 });
+        assert_eq!(rt;
+            (input.read(&mut [0u8; 4]), input.faults()),
+            (Err(Failed), 1)
+        );
         Ok(())
     }
 }

@@ -3,36 +3,16 @@ ghost use Rattle.std.specs.Prelude.{◌≡◌, ◌<◌, ◌≤◌, None, length,
 ghost use Rattle.std.specs.Io.KnownBytes.{WriteAppends};
 ghost use Rattle.io_face.specs.Fault.{next_count};
 
+use super::adapter::Adapter;
 use super::retry::write_retrying;
 use super::sink::{Sink, SinkFault};
 use std::io::Write;
-use std::marker::Model;
 
-/// A writer of the system, as `rt.stdout()`. It tells nothing of what is written. A write that takes
-/// none of the bytes of a piece is a fault.
-#[derive(Drop)]
-pub struct StdOut<W> {
-    writer: W,
-    faults: u64,
-}
+/// A writer of the system, as `rt.stdout()`. A write that takes none of the bytes of a piece is a
+/// fault.
+pub type StdOut<W> = Adapter<W>;
 
-impl<W> Model for StdOut<W> {
-    ghost use Rattle.io_face.specs.Adapter.{Adapter};
-
-    ghost Value = { Adapter W };
-
-    ghost view = { λ s. record { inner = s.writer; faults = s.faults } };
-}
-
-impl<W> StdOut<W> {
-    pub fn new(writer: W) -> StdOut<W>
-        ensures { result ≡ record { inner = writer; faults = 0 } }
-    {
-        StdOut { writer, faults: 0 }
-    }
-}
-
-impl<W: Write> Sink for StdOut<W> {
+impl<W: Write> Sink for Adapter<W> {
     ghost written = { λ _. None };
 
     ghost faults = { λ s. s.faults };
@@ -49,10 +29,10 @@ impl<W: Write> Sink for StdOut<W> {
         ensures no_fault { OnOk result (self.new.faults ≡ self.old.faults) }
         ensures fault { OnErr result (self.new.faults ≡ next_count self.old.faults) }
     {
-        match write_retrying(&mut self.writer, piece) {
+        match write_retrying(&mut self.inner, piece) {
             Ok(count) if count > 0 || piece.is_empty() => Ok(count),
             _ => {
-                self.faults = self.faults.saturating_add(1);
+                self.count_fault();
                 Err(SinkFault::Failed)
             }
         }
@@ -93,17 +73,17 @@ mod tests {
     }
 
     #[test]
-    fn writes_on_after_a_signal_and_counts_faults(rt: HostRuntime) -> Result<(), Fail> {
+    fn writes_on_after_a_signal(rt: HostRuntime) -> Result<(), Fail> {
         let mut output = StdOut::new(Wire { calls: 0 });
-        for (want, faults) in [
-            (Ok(1), 0),
-            (Err(SinkFault::Failed), 1),
-            (Err(SinkFault::Failed), 2),
-        ] {
-            assert_eq!(rt; output.write(b"hi"), want);
-            assert_eq!(rt; output.faults(), faults);
-        }
-        assert_eq!(rt; StdOut::new(rt.stdout()).write(b""), Ok(0));
+        assert_eq!(rt; (output.write(b"hi"), output.faults()), (Ok(1), 0));
+        Ok(())
+    }
+
+    #[test]
+    fn counts_a_write_of_nothing(rt: HostRuntime) -> Result<(), Fail> {
+        let mut output = StdOut::new(Wire { calls: 2 });
+        assert_eq!(rt; output.write(b"hi"), Err(SinkFault::Failed));
+        assert_eq!(rt; output.faults(), 1);
         Ok(())
     }
 }

@@ -13,7 +13,7 @@ use Rattle.numbered.specs.Numbered.{Rise, IsAt, find, set_at}
 use Rattle.numbered.specs.Places.{IsFoundAt, IsMissingAt}
 use Rattle.numbered.specs.Laws.{IsAt-find, same_number, other_number}
 use Rattle.numbered.specs.SetLaws.{Rise-set_at, find-set_at_same, find-set_at_other}
-use Rattle.numbered.proofs.PlaceLemmas.{replaced}
+use Rattle.numbered.specs.PlaceLaws.{replaced}
 use Rattle.user_model.specs.declared.row.Row.{Row}
 use Rattle.user_model.specs.Edited.{row_number}
 use Rattle.user_model.specs.Model.{bounds_above, bounds_below, is_variable, variable_address}

@@ -3,7 +3,7 @@ use Rattle.std.proofs.Common.{◌≡◌, ℕ, List, Option, Some, None, refl, ap
 use Rattle.std.specs.Option.{option_map}
 use Rattle.numbered.specs.declared.change.Change.{Change}
 use Rattle.numbered.specs.Numbered.{Rise, find}
-use Rattle.numbered.proofs.ExchangeLemmas.{SoFar}
+use Rattle.numbered.specs.ExchangeLaws.{SoFar}
 use Rattle.user_model.specs.declared.row.Row.{Row}
 use Rattle.user_model.specs.Edited.{row_number}
 use Rattle.model_catalog.specs.declared.variable.Variable.{Variable}

@@ -12,7 +12,7 @@ use Rattle.std.proofs.Math.Seq.{take-append-add, take-append_seam, get_or-append
 use Rattle.std.proofs.lemmas.List.Elements.{All-head, All-tail}
 use Rattle.std.proofs.lemmas.List.{take-append-drop}
 use Rattle.io_face.specs.Sink.{Adds, AddsPrefix}
-use Rattle.io_face.proofs.SinkLemmas.{Adds-empty, Adds-append}
+use Rattle.io_face.specs.SinkLaws.{Adds-empty, Adds-append}
 use Rattle.io_face.specs.Fault.{HasFaulted}
 use Rattle.io_face.specs.declared.sink.SinkFault.{SinkFault}
 use Rattle.io_face.specs.declared.sink.SinkFault.TheVariants as fault

@@ -1,2 +1,1 @@
-pub mod ExchangeLemmas
-pub mod PlaceLemmas
+pub mod GapLemmas

@@ -4,3 +4,7 @@ pub mod Places
 pub mod Laws
 pub mod SetLaws
 pub mod ChangeLaws
+pub mod ExchangeLaws
+pub mod PlaceLaws
+pub mod Gap
+pub mod GapLaws

@@ -10,7 +10,8 @@ use Rattle.tableau_core.specs.Tableau.{IsBoardOf, Tableau}
 
 -- the point of each form and basis whose board it is
 abbrev pub GivesPoint : Tableau → List Rational → Type 0
-GivesPoint t x = (F : Form) (s : State) → IsBasis F s → IsBoardOf F s t → IsListOf F.reals (point F s) x
+GivesPoint t x =
+    (F : Form) (s : State) → IsBasis F s → IsBoardOf F s t → IsListOf F.reals (point F s) x
 
 -- and the ray of a column of negative price
 abbrev pub GivesRay : ℕ → Tableau → List Rational → Type 0

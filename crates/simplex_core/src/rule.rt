@@ -27,7 +27,8 @@ pub(crate) fn turn(board: &Board, phase: Phase) -> Turn
 
 fn first_turn(board: &Board) -> Turn
     requires first { IsTrue board.now.in_first }
-    ensures turn { let R = readings_of board.now in result ≡ bland.first_turn R (bland.entering R R.first_price) }
+    ensures turn { let R = readings_of board.now in
+        result ≡ bland.first_turn R (bland.entering R R.first_price) }
     ensures within { IsWithin board.now result }
 {
     if let Some(column) = entering(board, 1) {
@@ -44,7 +45,8 @@ fn first_turn(board: &Board) -> Turn
 }
 
 fn sweep_turn(board: &Board) -> Turn
-    ensures turn { let R = readings_of board.now in result ≡ bland.sweep_turn R (bland.swept_entry R) }
+    ensures turn { let R = readings_of board.now in
+        result ≡ bland.sweep_turn R (bland.swept_entry R) }
     ensures within { IsWithin board.now result }
 {
     match swept(board) {
@@ -72,7 +74,8 @@ fn second_turn(board: &Board) -> Turn
 fn enters(board: &Board, phase: Phase, column: usize) -> Turn
     requires first { IsTrue (uses_first phase) → IsTrue board.now.in_first }
     requires column { column < board.now.reals }
-    ensures turn { result ≡ bland.enters phase column (bland.leaving (readings_of board.now) column) }
+    ensures turn { result
+        ≡ bland.enters phase column (bland.leaving (readings_of board.now) column) }
     ensures within { IsWithin board.now result }
 {
     match leaving(board, column) {
@@ -99,7 +102,8 @@ fn entering(board: &Board, phase: u8) -> Option<usize>
 fn leaving(board: &Board, q: usize) -> Option<usize>
     requires column { q < width board.now }
     ensures value { result ≡ bland.leaving (readings_of board.now) q }
-    ensures row { IfSome result (λ r. (r < length board.now.rows) × (zero_ℚ ‹ℚ (readings_of board.now).entry q r)) }
+    ensures row { IfSome result (λ r. (r < length board.now.rows)
+        × (zero_ℚ ‹ℚ (readings_of board.now).entry q r)) }
 {
     let mut best = None;
     for i in 0..board.row_count() {
@@ -114,10 +118,12 @@ fn leaving(board: &Board, q: usize) -> Option<usize>
 fn better(board: &Board, q: usize, best: Option<usize>, i: usize) -> usize
     requires column { q < width board.now }
     requires row { (i < length board.now.rows) × (zero_ℚ ‹ℚ (readings_of board.now).entry q i) }
-    requires best { IfSome best (λ k. (k < length board.now.rows) × (zero_ℚ ‹ℚ (readings_of board.now).entry q k)) }
+    requires best { IfSome best (λ k. (k < length board.now.rows)
+        × (zero_ℚ ‹ℚ (readings_of board.now).entry q k)) }
     ensures value { let R = readings_of board.now in
         Some result ≡ better_of (bland.may_leave R q) (bland.leaves_before R q) best i }
-    ensures row { (result < length board.now.rows) × (zero_ℚ ‹ℚ (readings_of board.now).entry q result) }
+    ensures row { (result < length board.now.rows)
+        × (zero_ℚ ‹ℚ (readings_of board.now).entry q result) }
 {
     match best {
         Some(best) if !leaves_before(board, q, i, best) => best,

@@ -20,7 +20,7 @@ use tableau_core::{Board, BoardFault};
 pub fn solve(alloc: Global, form: &StdForm, pivots: u64) -> Result<SolverAnswer, SolveFault>
     requires { IsWellShaped form.now }
     ensures outcome { SaysOutcome (equality_form form.now) pivots result }
-    ensures meaning { IsOutcome (equality_form form.now) pivots (outcome (equality_form form.now) pivots) }
+    ensures meaning { let F = equality_form form.now in IsOutcome F pivots (outcome F pivots) }
     ensures right { IfOk result (IsRightAnswer (equality_form form.now)) }
 {
     let right = form.right.as_slice();

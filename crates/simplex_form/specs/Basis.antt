@@ -12,9 +12,11 @@ abbrev pub times : ℕ → (ℕ → ℕ → Rational) → (ℕ → Rational) →
 times n M v i = sum_to n (λ k. M i k *ℚ v k)
 
 -- M makes the basic columns, of which `basic i` stands in row i, the unit matrix, and they span each vector
-pub record IsInverse (n : ℕ) (column : ℕ → ℕ → Rational) (basic : ℕ → ℕ) (M : ℕ → ℕ → Rational) : Type 0 where
+pub record IsInverse (n : ℕ) (column : ℕ → ℕ → Rational) (basic : ℕ → ℕ)
+    (M : ℕ → ℕ → Rational) : Type 0 where
   pub units : (i k : ℕ) → i < n → k < n → times n M (column (basic k)) i ≡ delta i k
-  pub spans : (v : ℕ → Rational) (k : ℕ) → k < n → sum_to n (λ i. column (basic i) k *ℚ times n M v i) ≡ v k
+  pub spans : (v : ℕ → Rational) (k : ℕ) → k < n →
+      sum_to n (λ i. column (basic i) k *ℚ times n M v i) ≡ v k
 
 -- a basis of the trail with its phase, and its inverse, which the basis determines
 pub record State : Type 0 where
@@ -34,8 +36,13 @@ pub record IsBasis (F : Form) (s : State) : Type 0 where
 
 -- the artificial columns and the unit matrix
 unfoldable pub start : Form → State
-start F = record { phase = First; basis = range_with_len F.reals F.rows; inverse = λ i k. delta i k }
+start F = record {
+  phase = First;
+  basis = range_with_len F.reals F.rows;
+  inverse = λ i k. delta i k;
+}
 
 -- what a pivot in row r makes of the numbers w of a column, where the entering column has the entries e
 unfoldable pub pivoted : ℕ → (ℕ → Rational) → (ℕ → Rational) → ℕ → Rational
-pivoted r e w i = if nat_eq i r then w r *ℚ inverse_ℚ (e r) else w i -ℚ e i *ℚ (w r *ℚ inverse_ℚ (e r))
+pivoted r e w i =
+    if nat_eq i r then w r *ℚ inverse_ℚ (e r) else w i -ℚ e i *ℚ (w r *ℚ inverse_ℚ (e r))

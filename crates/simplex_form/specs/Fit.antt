@@ -36,7 +36,8 @@ lowered_row_fits R r q i =
 
 -- and so is a cost row
 abbrev pub lowered_prices_fit : Readings → (ℕ → Rational) → ℕ → ℕ → Bool
-lowered_prices_fit R price r q = all_below (columns R) (λ j. lowered_fits (price j) (price q) (quotient R r q j))
+lowered_prices_fit R price r q =
+    all_below (columns R) (λ j. lowered_fits (price j) (price q) (quotient R r q j))
 
 -- each quotient, product and difference of the pivot fits, of the first cost row where it is in use
 abbrev pub pivot_fits : Bool → Readings → ℕ → ℕ → Bool

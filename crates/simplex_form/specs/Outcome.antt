@@ -36,7 +36,8 @@ IsOutcome F n (overflowing s) =
 abbrev pub outcome_from : Form → ℕ → State → Outcome
 outcome_from F zero s = unless_ended F s (limited s)
 outcome_from F (suc n) s =
-    unless_ended F s (if turn_fits (readings F s) (turn F s) then outcome_from F n (next F s) else overflowing s)
+    unless_ended F s
+    (if turn_fits (readings F s) (turn F s) then outcome_from F n (next F s) else overflowing s)
 
 -- the outcome with an allowance of n steps
 abbrev pub outcome : Form → ℕ → Outcome

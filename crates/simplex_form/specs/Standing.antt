@@ -34,7 +34,8 @@ ComesFirst p a q b = (p ‹ℚ q) ⊎ ((p ≡ q) × (a ≤ b))
 pub record Leaves (R : Readings) (q r : ℕ) : Type 0 where
   pub row : r < R.rows
   pub above : zero_ℚ ‹ℚ R.entry q r
-  pub least : (i : ℕ) → i < R.rows → zero_ℚ ‹ℚ R.entry q i → ComesFirst (ratio R q r) (basic_at R r) (ratio R q i) (basic_at R i)
+  pub least : (i : ℕ) → i < R.rows → zero_ℚ ‹ℚ R.entry q i →
+      ComesFirst (ratio R q r) (basic_at R r) (ratio R q i) (basic_at R i)
 
 -- no row of an artificial column has a real entry that isn't 0
 abbrev pub IsSwept : Readings → Type 0
@@ -82,7 +83,8 @@ Says F s Stuck =
 Says F s Infeasible =
     let R = readings F s in HasNoNegativePrice R R.first_price × (zero_ℚ ‹ℚ infeasibility F s)
 Says F s (Unbounded q) =
-    let R = readings F s in IsDrained R × IsSwept R × Enters R R.second_price q × HasNoPositiveEntry R q
+    let R = readings F s in
+    IsDrained R × IsSwept R × Enters R R.second_price q × HasNoPositiveEntry R q
 Says F s Optimal =
     let R = readings F s in IsDrained R × IsSwept R × HasNoNegativePrice R R.second_price
 

@@ -21,7 +21,8 @@ pub record IsDivided (by : Rational) (row next : List Rational) : Type 0 where
   pub cells : (j : ℕ) → j < length row → cell next j ≡ cell row j /ℚ by
 
 abbrev pub differences_fit : Rational → List Rational → List Rational → Bool
-differences_fit by step row = all_below (length row) (λ j. lowered_fits (cell row j) by (cell step j))
+differences_fit by step row =
+    all_below (length row) (λ j. lowered_fits (cell row j) by (cell step j))
 
 -- each number is lowered by a multiple of the step's
 pub record IsLowered (by : Rational) (step row next : List Rational) : Type 0 where

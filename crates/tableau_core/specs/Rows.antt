@@ -26,12 +26,16 @@ AreWide n rows = (i : ℕ) → i < length rows → length (now_at rows i) ≡ n
 
 -- each product and difference of the rows other than r fits
 abbrev pub rows_fit : ℕ → ℕ → List Rational → List Row → Bool
-rows_fit r q step rows = all_below (length rows) (λ i. nat_eq i r || differences_fit (cell (now_at rows i) q) step (now_at rows i))
+rows_fit r q step rows =
+    all_below (length rows)
+    (λ i. nat_eq i r || differences_fit (cell (now_at rows i) q) step (now_at rows i))
 
 abbrev pub ArePrepared : ℕ → ℕ → List Rational → List Row → Type 0
-ArePrepared r q step rows = (i : ℕ) → i < length rows → ¬ (i ≡ r) → IsPrepared q step (now_at rows i) (next_at rows i)
+ArePrepared r q step rows =
+    (i : ℕ) → i < length rows → ¬ (i ≡ r) → IsPrepared q step (now_at rows i) (next_at rows i)
 
 -- the rows other than r are lowered
 abbrev pub AreLowered : ℕ → ℕ → List Rational → List Row → List Row → Type 0
 AreLowered r q step before after =
-    (i : ℕ) → i < length before → ¬ (i ≡ r) → IsLowered (cell (now_at before i) q) step (now_at before i) (now_at after i)
+    (i : ℕ) → i < length before → ¬ (i ≡ r) →
+    IsLowered (cell (now_at before i) q) step (now_at before i) (now_at after i)

@@ -22,4 +22,6 @@ pub record IsListOf (n : ℕ) (f : ℕ → Rational) (row : List Rational) : Typ
 
 -- a fact of the start of each form with this matrix
 abbrev pub AtEachStart : ℕ → ℕ → List Rational → (Form → State → Type 0) → Type 0
-AtEachStart m c matrix P = (right costs : List Rational) → P (form_of m c matrix right costs) (start (form_of m c matrix right costs))
+AtEachStart m c matrix P =
+    (right costs : List Rational) →
+    P (form_of m c matrix right costs) (start (form_of m c matrix right costs))

@@ -42,7 +42,8 @@ prices_of phase t = if nat_eq phase 1 then cell t.first else cell t.second
 -- times the new row r
 pub record IsPivoted (r q : ℕ) (before after : Tableau) : Type 0 where
   pub in_first : after.in_first ≡ before.in_first
-  pub readings : Agrees before.in_first (readings_of after) (pivoted_readings r q (readings_of before))
+  pub readings :
+      Agrees before.in_first (readings_of after) (pivoted_readings r q (readings_of before))
 
 -- the board of a form at a basis: the same is read of both
 abbrev pub IsBoardOf : Form → State → Tableau → Type 0

@@ -57,9 +57,11 @@ impl Board {
         requires right { length right.now ≡ m }
         requires costs { length costs.now ≡ c }
         requires standard { All (λ side. zero_ℚ ≤ℚ side) right.now }
-        ensures board { let F = form_of m c matrix.now right.now costs.now in IfOk result (IsBoardOf F (start F)) }
+        ensures board { let F = form_of m c matrix.now right.now costs.now in
+            IfOk result (IsBoardOf F (start F)) }
         ensures in_first { IfOk result (λ board. board.in_first ≡ true) }
-        ensures fits { OnOk result (start_fits (form_of m c matrix.now right.now costs.now) ≡ true) }
+        ensures fits { OnOk result
+            (start_fits (form_of m c matrix.now right.now costs.now) ≡ true) }
         ensures overflow { IsErrOf result BoardFault.Overflow
             → start_fits (form_of m c matrix.now right.now costs.now) ≡ false }
     {
@@ -124,7 +126,9 @@ impl Board {
         requires column { q < width self.old }
         requires nonzero { (readings_of self.old).entry q r ≢ zero_ℚ }
         ensures fits { is_ok result ≡ pivot_fits self.old.in_first (readings_of self.old) r q }
-        ensures board { MatchResult result (λ _. IsPivoted r q self.old self.new) (λ _. self.new ≡ self.old) }
+        ensures board { MatchResult result
+            (λ _. IsPivoted r q self.old self.new)
+            (λ _. self.new ≡ self.old) }
     {
         prepare_pivot(
             &mut self.rows,

@@ -41,7 +41,8 @@ impl Row {
         requires within { q < length self.old.now.items }
         requires step_long { length self.old.now.items ≤ length step.now }
         ensures stays { self.new.now.items ≡ self.old.now.items }
-        ensures fits { is_ok result ≡ differences_fit (cell self.old.now.items q) step.now self.old.now.items }
+        ensures fits { is_ok result
+            ≡ differences_fit (cell self.old.now.items q) step.now self.old.now.items }
         ensures ok { OnOk result (IsPrepared q step.now self.old.now.items self.new.next.items) }
     {
         let by = self.now[q];
@@ -55,7 +56,9 @@ impl Row {
     pub(crate) fn settle(&mut self, q: usize)
         requires { q < length self.old.now.items }
         ensures long { length self.new.now.items ≡ length self.old.now.items }
-        ensures lowered { (step : List Rational) → IsPrepared q step self.old.now.items self.old.next.items → IsLowered (cell self.old.now.items q) step self.old.now.items self.new.now.items }
+        ensures lowered { (step : List Rational)
+            → IsPrepared q step self.old.now.items self.old.next.items
+            → IsLowered (cell self.old.now.items q) step self.old.now.items self.new.now.items }
     {
         let by = self.now[q];
         if !by.is_zero() {
@@ -85,15 +88,19 @@ pub(crate) fn prepare_if(
     requires within { q < length row.old.now.items }
     requires step_long { length row.old.now.items ≤ length step.now }
     ensures stays { row.new.now.items ≡ row.old.now.items }
-    ensures fits { is_ok result ≡ (not used || differences_fit (cell row.old.now.items q) step.now row.old.now.items) }
-    ensures ok { OnOk result (IsTrue used → IsPrepared q step.now row.old.now.items row.new.next.items) }
+    ensures fits { is_ok result
+        ≡ (not used || differences_fit (cell row.old.now.items q) step.now row.old.now.items) }
+    ensures ok { OnOk result
+        (IsTrue used → IsPrepared q step.now row.old.now.items row.new.next.items) }
 {
     if used { row.prepare(q, step) } else { Ok(()) }
 }
 
 pub(crate) fn settle_if(used: bool, row: &mut Row, q: usize)
     requires { q < length row.old.now.items }
-    ensures lowered { IsTrue used → (step : List Rational) → IsPrepared q step row.old.now.items row.old.next.items → IsLowered (cell row.old.now.items q) step row.old.now.items row.new.now.items }
+    ensures lowered { IsTrue used → (step : List Rational)
+        → IsPrepared q step row.old.now.items row.old.next.items
+        → IsLowered (cell row.old.now.items q) step row.old.now.items row.new.now.items }
     ensures long { length row.new.now.items ≡ length row.old.now.items }
 {
     if used {

@@ -34,7 +34,9 @@ pub(crate) fn prepare_pivot(
     ensures first_stays { first.new.now.items ≡ first.old.now.items }
     ensures second_stays { second.new.now.items ≡ second.old.now.items }
     ensures step_fits { AllFit step.new }
-    ensures fits { is_ok result ≡ numbers_fit (length rows.old) (now_at rows.old) r q in_first first.old.now.items second.old.now.items }
+    ensures fits { is_ok result
+        ≡ numbers_fit (length rows.old) (now_at rows.old) r q in_first
+        first.old.now.items second.old.now.items }
     ensures ok { OnOk result (IsReady rows.new r q in_first first.new second.new step.new) }
 {
     divide_row(rows, r, q, step)?;
@@ -76,7 +78,8 @@ pub(crate) fn settle_pivot(
     requires second_within { q < length second.old.now.items }
     requires step_fits { AllFit step.old.items }
     requires ready { IsReady rows.old r q in_first first.old second.old step.old.items }
-    ensures settled { IsSettled rows.old rows.new r q in_first first.old.now.items first.new.now.items second.old.now.items second.new.now.items }
+    ensures settled { IsSettled rows.old rows.new r q in_first
+        first.old.now.items first.new.now.items second.old.now.items second.new.now.items }
     ensures wide { AreWide (length step.old.items) rows.new }
     ensures first_long { length first.new.now.items ≡ length first.old.now.items }
     ensures second_long { length second.new.now.items ≡ length second.old.now.items }

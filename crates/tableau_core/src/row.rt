@@ -25,7 +25,9 @@ pub(crate) fn divide(row: &[Ratio], by: &Ratio, next: &mut [Ratio]) -> Result<()
 // A number divided, without arithmetic where it is 0.
 fn divide_number(number: &Ratio, by: &Ratio) -> Result<Ratio, RatioFault>
     requires nonzero { by.now ≢ zero_ℚ }
-    ensures exact { OkIff result ((by.now ≢ zero_ℚ) × Fits (number.now /ℚ by.now)) (number.now /ℚ by.now) }
+    ensures exact { OkIff result
+        ((by.now ≢ zero_ℚ) × Fits (number.now /ℚ by.now))
+        (number.now /ℚ by.now) }
 {
     if number.is_zero() {
         let _fits = number.num();

@@ -32,7 +32,8 @@ pub(crate) fn prepare_rows(
 // Puts each row other than r in place.
 pub(crate) fn settle_rows(rows: &mut [Row], r: usize, q: usize)
     requires within { (i : ℕ) → i < length rows.old → q < length (now_at rows.old i) }
-    ensures lowered { (step : List Rational) → ArePrepared r q step rows.old → AreLowered r q step rows.old rows.new }
+    ensures lowered { (step : List Rational)
+        → ArePrepared r q step rows.old → AreLowered r q step rows.old rows.new }
     ensures stays { now_at rows.new r ≡ now_at rows.old r }
 {
     for i in 0..rows.len() {

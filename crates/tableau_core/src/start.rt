@@ -97,7 +97,8 @@ pub(crate) fn first_prices(
         IsListOf (c + m) (price F s (first_cost F)) prices.items)) }
     ensures all_fit { IfOk result (λ prices. AllFit prices.items) }
     ensures fits { OnOk result (AtEachStart m c matrix.now (λ F _. start_fits F ≡ true)) }
-    ensures overflow { IsErrOf result BoardFault.Overflow → AtEachStart m c matrix.now (λ F _. start_fits F ≡ false) }
+    ensures overflow { IsErrOf result BoardFault.Overflow
+        → AtEachStart m c matrix.now (λ F _. start_fits F ≡ false) }
 {
     let mut prices = Vec::with_capacity(alloc, c + m)?;
     for j in 0..c {

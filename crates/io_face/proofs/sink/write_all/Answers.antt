@@ -1,7 +1,7 @@
 -- A write adds the next bytes to those before.
 use Rattle.std.proofs.Common.{rules, arith}
 use Rattle.std.proofs.lemmas.Grind.{common_steps}
-use Rattle.io_face.proofs.SinkLemmas.{Adds-next}
+use Rattle.io_face.specs.SinkLaws.{Adds-next}
 use Rattle.io_face.proofs.sink.write_all.Goals as goal
 
 pub loop-done-preserved : goal.loop-done-preserved

@@ -1,6 +1,6 @@
 -- Each exit says what the text written so far is of the script's.
 use Rattle.std.proofs.Common.{false, ◌||◌, Ok, Err, refl, sym, ◌∙◌, ap, subst, arith}
-use Rattle.io_face.proofs.FaultLemmas.{HasFaulted-within}
+use Rattle.io_face.specs.FaultLaws.{HasFaulted-within}
 use Rattle.edit_engine.specs.Script.{answer_to}
 use Rattle.moi_edit.proofs.RunLemmas as run
 use Rattle.moi_edit.proofs.run.answer_lines.Goals as goal

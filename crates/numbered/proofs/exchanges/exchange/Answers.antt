@@ -1,4 +1,4 @@
-use Rattle.numbered.proofs.PlaceLemmas.{after_replacing, after_removing, after_inserting, after_nothing, taken_out, Rise-after}
+use Rattle.numbered.specs.PlaceLaws.{after_replacing, after_removing, after_inserting, after_nothing, taken_out, Rise-after}
 use Rattle.numbered.proofs.exchanges.exchange.Goals as goal
 
 pub returns-in-Ok-Some-clause-after : goal.returns-in-Ok-Some-clause-after

@@ -1,7 +1,7 @@
 use Rattle.std.specs.Prelude.{is_some}
 use Rattle.std.specs.Vec.{vec_capacity}
 use Rattle.std.proofs.Common.{arith, ap, sym, ◌∙◌}
-use Rattle.numbered.proofs.ExchangeLemmas.{next, one_more, done}
+use Rattle.numbered.specs.ExchangeLaws.{next, one_more, done}
 use Rattle.numbered.proofs.exchanges.exchange_all.Goals as goal
 
 pub exchange-requires-clause-room : goal.exchange-requires-clause-room

@@ -1,5 +1,5 @@
 use Rattle.std.specs.Vec.{vec_capacity}
-use Rattle.numbered.proofs.ExchangeLemmas.{SoFar}
+use Rattle.numbered.specs.ExchangeLaws.{SoFar}
 use Rattle.numbered.proofs.exchanges.exchange_all.Given as goal
 
 abbrev pub invariant-loop-change : goal.invariant-loop-change

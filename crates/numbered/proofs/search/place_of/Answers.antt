@@ -1,6 +1,6 @@
 use Rattle.std.proofs.Common.{rules}
 use Rattle.std.proofs.lemmas.Fn.{always_returns_same}
-use Rattle.numbered.proofs.PlaceLemmas.{searched}
+use Rattle.numbered.specs.PlaceLaws.{searched}
 use Rattle.numbered.proofs.search.place_of.Goals as goal
 
 pub returns : goal.returns

@@ -1,7 +1,7 @@
 -- What was copied is the front of the bytes left.
 use Rattle.std.proofs.Common.{rules, ◌≡◌, Some, ap, sym, ◌∙◌, length, take, drop}
 use Rattle.std.proofs.lemmas.Grind.{common_steps}
-use Rattle.io_face.proofs.SourceLemmas.{copied_front}
+use Rattle.io_face.specs.SourceLaws.{copied_front}
 use Rattle.io_face.proofs.sure_source.SureSourceSource.read.Goals as goal
 
 pub returns-clause-taken : goal.returns-clause-taken

@@ -4,7 +4,7 @@ use Rattle.std.specs.Str.Lines.{strip_carriage_return}
 use Rattle.std.specs.Io.KnownBytes.{prepend_known, IsAtEnd}
 use Rattle.std.proofs.lemmas.Bool.{cases_Bool}
 use Rattle.std.proofs.lemmas.Result.{err_from_is_err_and}
-use Rattle.io_face.proofs.FaultLemmas.{HasFaulted-within}
+use Rattle.io_face.specs.FaultLaws.{HasFaulted-within}
 use Rattle.moi_edit.specs.Limits.{line_limit}
 use Rattle.moi_edit.proofs.ReadingLemmas.{ended_turn, unended_turn, more_read, line_too_long, part_too_long, end_too_long, input_too_long, strip-front, last_line_fits, last_line_is_long}
 use Rattle.moi_edit.proofs.line_reader.LineReader.next_line.Goals as goal

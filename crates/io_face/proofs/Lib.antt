@@ -1,3 +1,0 @@
-pub mod SourceLemmas
-pub mod SinkLemmas
-pub mod FaultLemmas
