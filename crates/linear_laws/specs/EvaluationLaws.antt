@@ -6,7 +6,7 @@ use Rattle.rational_laws.specs.Field.{*ℚ-+ℚ, *ℚ-zero, one-*ℚ, zero-*ℚ,
 use Rattle.rational_laws.specs.Ring.{as_expression, by_ring, ring₄, ring₅}
 use Rattle.aff_core.specs.Address.{Address}
 use Rattle.aff_core.specs.Arithmetic.{IsComposition, IsMultiple, IsSum}
-use Rattle.aff_core.specs.Function.{Function, IsNegated, coefficient, evaluated, slope, terms_of, value_of}
+use Rattle.aff_core.specs.Function.{Function, coefficient, evaluated, slope, terms_of, value_of}
 use Rattle.aff_core.specs.Terms.{linear}
 use Rattle.linear_laws.specs.SlopeLaws.{slope_agreeing, slope_composed, slope_multiple, slope_same, slope_sum}
 

@@ -12,7 +12,7 @@ use Rattle.map_laws.specs.EntryLaws.{find_below}
 use Rattle.map_laws.specs.TestLaws.{first, second}
 use Rattle.aff_core.specs.Address.{Address, address_cmp, address_eq-Decides}
 use Rattle.aff_core.specs.Arithmetic.{IsComposition, IsMultiple, IsSum}
-use Rattle.aff_core.specs.Function.{Function, IsNegated, coefficient, slope, terms_of}
+use Rattle.aff_core.specs.Function.{Function, coefficient, slope, terms_of}
 use Rattle.aff_core.specs.Terms.{linear}
 use Rattle.linear_laws.specs.SupportLaws.{Supports, count, support, support_supports, supports_first, supports_second}
 use Rattle.linear_laws.specs.UnitLaws.{same_or_other, unit, unit_other, zero_or_other}
