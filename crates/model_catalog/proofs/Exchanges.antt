@@ -18,7 +18,7 @@ use Rattle.user_model.specs.declared.undo.Undo.{Undo}
 use Rattle.user_model.specs.Functions.{all_terms}
 use Rattle.user_model.specs.Edited.{group_number, row_number}
 use Rattle.user_model.specs.Consistent as consistent
-use Rattle.user_model.specs.Consistent.{IsConsistent, IsWithinLimits}
+use Rattle.user_model.specs.Consistent.{IsConsistent}
 use Rattle.user_model.specs.Model.{ModelValue, variables}
 use Rattle.user_model.specs.Undone.{before}
 use Rattle.model_catalog.specs.declared.names.NameChange.{NameChange}

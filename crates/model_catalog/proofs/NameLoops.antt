@@ -1,16 +1,15 @@
 -- The loops over the listed names: what is left of them gives, from the names now, what all of them give.
-use Rattle.std.proofs.Common.{◌≡◌, ℕ, ◌+◌, ◌<◌, ◌≤◌, ◌==◌, cond, List, [], ◌∷◌, ◌++◌, map, length, take, drop, Option, Some, None, refl, sym, ap, subst, ◌∙◌, arith, inl, inr}
+use Rattle.std.proofs.Common.{◌≡◌, ℕ, ◌+◌, ◌<◌, ◌≤◌, ◌==◌, cond, List, [], ◌∷◌, map, length, drop, Option, Some, None, refl, sym, ap, subst, ◌∙◌, arith, inl, inr}
 use Rattle.std.specs.Prelude.{All, true, false, IsSome, IfSome, is_some, slice_index_or}
 use Rattle.std.specs.Option.{option_map, option_map_or}
 use Rattle.std.proofs.lemmas.List.Elements.{All-nil, All-cons, All-head, All-tail}
 use Rattle.std.specs.FinMap.{get}
 use Rattle.std.proofs.Math.ListN.{set}
 use Rattle.std.proofs.lemmas.Bool.{cases_eq}
-use Rattle.std.proofs.lemmas.List.{drop_more, drop_all, take_all, get_or_at, get_or_default, append-nil, length-append, length-map, length-take-le, length-drop}
-use Rattle.std.proofs.lemmas.List.Edits.{map_over_more}
+use Rattle.std.proofs.lemmas.List.{drop_more, drop_all}
 use Rattle.std.proofs.lemmas.List.Sums.{sum_by-drop_more}
 use Rattle.std.proofs.lemmas.Option.{none-some, slice_get-get_or}
-use Rattle.map_laws.specs.LoopLaws.{IsPast, as_it_was, past_all, past_more, past_none}
+use Rattle.map_laws.specs.LoopLaws.{IsPast, as_it_was, past_more, past_none}
 use Rattle.map_laws.specs.OptionLaws.{not_some, some_is}
 use Rattle.numbered.specs.Numbered.{Rise, find}
 use Rattle.numbered.specs.Laws.{Rise-nil, Rise-cons, Rise-head, Rise-tail, find-at, find-first, find-rest, find-none_above, same_number, other_number}

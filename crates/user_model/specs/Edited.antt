@@ -1,8 +1,6 @@
 -- What an accepted edit makes of the model. All that a line doesn't name stays.
-use Rattle.std.specs.Prelude.{ℕ, zero, suc, ◌+◌, ◌-◌, Bool, ◌==◌, if◌then◌else◌, List, [], ◌∷◌, ◌++◌, length, map, Option, Some, None, unwrap_or, slice_set, slice_index_or}
-use Rattle.std.specs.Str.{bytes_eq}
+use Rattle.std.specs.Prelude.{ℕ, zero, suc, ◌+◌, ◌-◌, ◌==◌, if◌then◌else◌, List, [], ◌∷◌, ◌++◌, length, map, Option, Some, None}
 use Rattle.ratio_core.specs.Rational.{Rational}
-use Rattle.aff_core.specs.Address.{Address}
 use Rattle.aff_core.specs.Function.{Function, gathered, with_coefficient}
 use Rattle.named_aff.specs.declared.aff.NamedAff.{NamedAff}
 use Rattle.set_core.specs.declared.set.Set.{Set}

@@ -1,12 +1,12 @@
 -- Which refusal an edit meets: the first whose test holds, in this order.
 use Rattle.std.specs.Prelude.{◌≡◌, ℕ, ◌+◌, ◌-◌, Bool, true, false, ◌&&◌, ◌||◌, not, ◌==◌, nat_lt, if◌then◌else◌, List, [], ◌∷◌, ◌++◌, length, map, Option, Some, None, is_some}
-use Rattle.std.specs.List.{list_any, list_all}
-use Rattle.std.specs.Option.{option_map_or, is_none}
+use Rattle.std.specs.List.{list_any}
+use Rattle.std.specs.Option.{option_map_or}
 use Rattle.std.specs.Str.{bytes_eq}
 use Rattle.aff_core.specs.Address.{address_eq}
 use Rattle.set_core.specs.declared.set.Set.{Set}
 use Rattle.user_model.specs.declared.function.UserFunc.{UserFunc}
-use Rattle.user_model.specs.declared.function.UserFunc.TheVariants.{Plain, Affine, PlainVec, AffineVec}
+use Rattle.user_model.specs.declared.function.UserFunc.TheVariants.{PlainVec}
 use Rattle.user_model.specs.declared.edit.NamedFunc.{NamedFunc}
 use Rattle.user_model.specs.declared.edit.NamedFunc.TheVariants as named
 use Rattle.user_model.specs.declared.edit.Edit.{Edit}
@@ -20,7 +20,7 @@ use Rattle.user_model.specs.declared.refusal.Refusal.TheVariants.{UnknownName, N
 use Rattle.user_model.specs.Sets.{sets_lower, sets_upper}
 use Rattle.set_core.specs.Shapes.{has_bad_dimension, is_crossed, is_norm_cone, is_scalar, same_type}
 use Rattle.user_model.specs.Functions.{components, is_scalar_affine, is_scalar_function, is_scalar_named, is_vector_affine, mentioned, named_components, term_counts, term_count}
-use Rattle.user_model.specs.Model.{ModelValue, address_named, group_of, has_lower_bound, has_upper_bound, row_named, total_terms, variable_address, variable_named, variables}
+use Rattle.user_model.specs.Model.{ModelValue, group_of, has_lower_bound, has_upper_bound, row_named, total_terms, variable_address, variable_named, variables}
 use Rattle.user_model.specs.Limits.{ALL_TERMS, COMPONENTS, LAST_NUMBER, ROWS, TERMS, VARIABLES}
 use Rattle.user_model.specs.Edited.{edited, located}
 
