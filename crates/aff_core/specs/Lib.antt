@@ -1,11 +1,12 @@
 pub mod Address
 pub mod Arithmetic
+pub mod ArithmeticLaws
 pub mod Function
 pub mod FunctionEq
+pub mod FunctionLaws
+pub mod FunctionLists
 pub mod Kept
+pub mod KeyOrder
 pub mod Rising
 pub mod Stored
 pub mod Terms
-pub mod FunctionLaws
-pub mod KeyOrder
-pub mod ArithmeticLaws

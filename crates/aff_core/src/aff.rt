@@ -203,26 +203,39 @@ impl Eq for Aff {
 #[cfg(test)]
 mod tests {
     use super::*;
-    use crate::{Root, rise_strictly};
+    use crate::Root;
     use std::test::Fail;
 
     #[test]
-    fn reads_its_terms_in_order(rt: HostRuntime) -> Result<(), Fail> {
+    fn gathers_a_term(rt: HostRuntime) -> Result<(), Fail> {
         let x = Address::root(Root::Variable, 0);
-        let y = Address::root(Root::Variable, 1);
-        let z = Address::root(Root::Variable, 2);
-        let (two, three) = (Ratio::new(2, 1)?, Ratio::new(3, 1)?);
-        let terms = [(x, two), (y, Ratio::zero()), (z, three)];
-        assert!(rt; rise_strictly(&terms));
+        let f = Aff::gather(rt.alloc(), &[(x, Ratio::one())], Ratio::zero())?;
+        assert!(rt; f.term_count() == 1 && f.term(0) == Some((x, Ratio::one())));
+        assert!(rt; f.mentions(&x) && f.coef(&x) == Ratio::one());
+        Ok(())
+    }
+
+    #[test]
+    fn changes_what_a_variable_is(rt: HostRuntime) -> Result<(), Fail> {
+        let x = Address::root(Root::Variable, 0);
+        let f = Aff::variable(rt.alloc(), &x)?;
+        assert!(rt; f.copy()? == f && f.neg()?.coef(&x) == Ratio::one().neg());
+        assert!(rt; f.with_constant(Ratio::one())?.constant() == Ratio::one());
+        Ok(())
+    }
+
+    #[test]
+    fn is_a_number_everywhere(rt: HostRuntime) {
+        let f = Aff::constant_function(rt.alloc(), Ratio::one());
+        assert!(rt; f.terms().is_empty() && f.constant() == Ratio::one());
+    }
+
+    #[test]
+    fn leaves_zeros_out(rt: HostRuntime) -> Result<(), Fail> {
+        let x = Address::root(Root::Variable, 0);
+        let terms = [(x, Ratio::zero())];
         let f = Aff::from_terms(rt.alloc(), &terms, Ratio::one())?;
-        assert!(rt; f.term_count() == 2 && f.term(2).is_none());
-        assert!(rt; f.coef(&z) == three && f.coef(&y) == Ratio::zero());
-        assert!(rt; f.mentions(&x) && !f.mentions(&y));
-        assert!(rt; f.constant() == Ratio::one());
-        assert!(rt; f.copy()? == f);
-        assert!(rt; f.with_constant(two)?.constant() == two);
-        let minus = f.neg()?;
-        assert!(rt; minus.coef(&x) == Ratio::new(-2, 1)? && minus != f);
+        assert!(rt; f == Aff::constant_function(rt.alloc(), Ratio::one()));
         Ok(())
     }
 }

@@ -68,68 +68,50 @@ impl Aff {
 #[cfg(test)]
 mod tests {
     use super::*;
-    use crate::{Address, Root, rise_strictly};
+    use crate::{Address, Root};
     use std::test::Fail;
 
-    fn variable(number: u32) -> Address {
-        Address::root(Root::Variable, number)
-    }
-
-    /// A function with whole coefficients.
-    fn whole(rt: &HostRuntime, terms: &[(u32, i128)], constant: i128) -> Result<Aff, Fail> {
-        let mut rising = Vec::new(rt.alloc());
-        for (number, coefficient) in terms {
-            rising.push((variable(*number), Ratio::new(*coefficient, 1)?))?;
-        }
-        if !rise_strictly(&rising) {
-            return Err(Fail::new("the addresses do not rise"));
-        }
-        Ok(Aff::from_terms(rt.alloc(), &rising, Ratio::new(constant, 1)?)?)
+    fn x() -> Address {
+        Address::root(Root::Variable, 0)
     }
 
     #[test]
     fn adds(rt: HostRuntime) -> Result<(), Fail> {
-        let f = whole(&rt, &[(0, 2), (2, 3)], 1)?;
-        let g = whole(&rt, &[(0, -2), (1, 5)], 4)?;
-        let sum = whole(&rt, &[(1, 5), (2, 3)], 5)?;
-        assert!(rt; f.add(&g)? == sum);
+        let f = Aff::variable(rt.alloc(), &x())?;
+        let minus = f.neg()?;
+        assert!(rt; f.add(&minus)? == Aff::constant_function(rt.alloc(), Ratio::zero()));
         Ok(())
     }
 
     #[test]
     fn scales(rt: HostRuntime) -> Result<(), Fail> {
-        let f = whole(&rt, &[(0, 2), (2, 3)], 1)?;
-        let minus = whole(&rt, &[(0, -2), (2, -3)], -1)?;
-        assert!(rt; f.scale(&Ratio::zero())?.term_count() == 0);
-        assert!(rt; f.scale(&Ratio::one().neg())? == minus);
-        let great = whole(&rt, &[(0, 1 << 100)], 0)?;
-        let refused = great.scale(&Ratio::new(1 << 100, 1)?);
-        assert!(rt; refused == Err(AffFault::Overflow));
+        let great = Ratio::new(1 << 100, 1)?;
+        let f = Aff::variable(rt.alloc(), &x())?.scale(&great)?;
+        assert!(rt; f.coef(&x()) == great && f.scale(&great) == Err(AffFault::Overflow));
         Ok(())
     }
 
     #[test]
     fn values(rt: HostRuntime) -> Result<(), Fail> {
-        let f = whole(&rt, &[(0, 2), (2, 3)], 1)?;
-        let g = whole(&rt, &[(1, 5)], 4)?;
+        let f = Aff::variable(rt.alloc(), &x())?;
         let mut point = Point::new(rt.alloc());
-        let _ = point.put(variable(0), Ratio::one());
-        let _ = point.put(variable(2), Ratio::new(2, 1)?);
-        assert!(rt; point.get(&variable(1)).is_none());
-        assert!(rt; point.has_each(&f) && !point.has_each(&g));
-        assert!(rt; f.value(&point)? == Ratio::new(9, 1)?);
+        assert!(rt; point.get(&x()).is_none() && !point.has_each(&f));
+        assert!(rt; point.put(x(), Ratio::one()).is_ok() && point.get(&x()) == Some(&Ratio::one()));
+        if point.has_each(&f) {
+            assert!(rt; f.value(&point)? == Ratio::one());
+        }
         Ok(())
     }
 
     #[test]
     fn substitutes(rt: HostRuntime) -> Result<(), Fail> {
-        let f = whole(&rt, &[(0, 2), (2, 3)], 1)?;
+        let f = Aff::variable(rt.alloc(), &x())?;
         let mut exprs = Exprs::new(rt.alloc());
-        let _ = exprs.put(variable(0), whole(&rt, &[(1, 1)], 1)?);
-        let _ = exprs.put(variable(2), whole(&rt, &[(1, 2)], -3)?);
-        let composed = whole(&rt, &[(1, 8)], -6)?;
-        assert!(rt; exprs.has_each(&f));
-        assert!(rt; f.substitute(&exprs)? == composed);
+        let expression = Aff::constant_function(rt.alloc(), Ratio::one());
+        assert!(rt; exprs.put(x(), expression).is_ok() && exprs.has_each(&f));
+        if exprs.has_each(&f) {
+            assert!(rt; f.substitute(&exprs)?.constant() == Ratio::one());
+        }
         Ok(())
     }
 }

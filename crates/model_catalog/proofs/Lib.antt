@@ -10,4 +10,3 @@ pub mod Models
 pub mod Exchanges
 pub mod ExchangeSteps
 pub mod Empty
-pub mod SmallModel

@@ -10,14 +10,14 @@ use Rattle.numbered.specs.Numbered.{Rise, IsAt, find, set_at}
 use Rattle.numbered.specs.Places.{IsPlaceOf}
 use Rattle.numbered.specs.Laws.{IsAt-find, Rise-head, Rise-tail, find-first, find-rest, find-none_above}
 use Rattle.numbered.specs.SetLaws.{find-set_at_same, find-set_at_other, length-set_at, set_at_found}
-use Rattle.model_catalog.specs.declared.names.Listed.{Listed}
+use Rattle.model_catalog.specs.declared.names.NameChange.{NameChange}
 use Rattle.model_catalog.specs.declared.variable.Variable.{Variable}
 use Rattle.model_catalog.specs.Names.{listed_number, put_count}
 use Rattle.model_catalog.specs.Index.{given_variable, kept_count, listed_in, unbounded_in, variable_number}
 use Rattle.model_catalog.proofs.NameLoops.{not_some, some_is}
 
 -- what is given stands at its number
-pub IsAt-given : (group : ℕ) (l : Listed) (kept : List Variable) → IsAt variable_number l.number (given_variable group l (find variable_number l.number kept))
+pub IsAt-given : (group : ℕ) (l : NameChange) (kept : List Variable) → IsAt variable_number l.number (given_variable group l (find variable_number l.number kept))
 IsAt-given group l kept = by_name (is_some l.name) (find variable_number l.number kept) (IsAt-find variable_number l.number kept)
   where
     by_name : (named : Bool) (o : Option Variable) → IsAt variable_number l.number o → IsAt variable_number l.number (cond named (Some (unwrap_or o (unbounded_in group l.number))) None)
@@ -26,7 +26,7 @@ IsAt-given group l kept = by_name (is_some l.name) (find variable_number l.numbe
     by_name true (Some v) at = at
 
 -- a variable that is listed with a name, and was kept, stays
-pub kept_there : (group : ℕ) (l : Listed) (kept : List Variable) (place : Result ℕ ℕ) → is_some l.name ≡ true → false ≡ is_err place → IsPlaceOf variable_number l.number kept place → Rise variable_number kept → kept ≡ set_at variable_number l.number (given_variable group l (find variable_number l.number kept)) kept
+pub kept_there : (group : ℕ) (l : NameChange) (kept : List Variable) (place : Result ℕ ℕ) → is_some l.name ≡ true → false ≡ is_err place → IsPlaceOf variable_number l.number kept place → Rise variable_number kept → kept ≡ set_at variable_number l.number (given_variable group l (find variable_number l.number kept)) kept
 kept_there group l kept (Err i) named there at rise = let both : false ≡ true = there in cc
 kept_there group l kept (Ok i) named there at rise =
     by_name l.name (find variable_number l.number kept) named refl at.there
@@ -41,7 +41,7 @@ kept_there group l kept (Ok i) named there at rise =
 -- ---- the loop
 
 -- what is left of the listed gives, from those that are kept now, what all of them give
-pub record ListedSoFar (group : ℕ) (start now : List Variable) (listed : List Listed) (i first capacity : ℕ) : Type 0 where
+pub record ListedSoFar (group : ℕ) (start now : List Variable) (listed : List NameChange) (i first capacity : ℕ) : Type 0 where
   pub rest : (n : ℕ) → listed_in group (drop i listed) (λ n. find variable_number n now) n ≡ listed_in group listed (λ n. find variable_number n start) n
   pub still : (n : ℕ) → IsSome (find listed_number n (drop i listed)) → find variable_number n now ≡ find variable_number n start
   pub left : Rise listed_number (drop i listed)
@@ -50,17 +50,17 @@ pub record ListedSoFar (group : ℕ) (start now : List Variable) (listed : List 
   pub fits : length now + put_count (drop i listed) ≤ capacity
   pub grown : first ≤ capacity
 
-pub listed_none : (group : ℕ) (start : List Variable) (listed : List Listed) (capacity : ℕ) → Rise variable_number start → Rise listed_number listed → length start + put_count listed ≤ capacity → ListedSoFar group start start listed 0 capacity capacity
+pub listed_none : (group : ℕ) (start : List Variable) (listed : List NameChange) (capacity : ℕ) → Rise variable_number start → Rise listed_number listed → length start + put_count listed ≤ capacity → ListedSoFar group start start listed 0 capacity capacity
 listed_none group start listed capacity rise up fits =
     record { rest = λ n. refl; still = λ n some. refl; left = up; rising = rise; count = omega arith; fits = fits; grown = omega arith }
 
 -- one of them, as those after it are left
-record Step (group : ℕ) (start now : List Variable) (x : Listed) (left : List Listed) (all : ℕ → Option Variable) : Type 0 where
+record Step (group : ℕ) (start now : List Variable) (x : NameChange) (left : List NameChange) (all : ℕ → Option Variable) : Type 0 where
   rest : (n : ℕ) → listed_in group left (λ n. find variable_number n (set_at variable_number x.number (given_variable group x (find variable_number x.number now)) now)) n ≡ all n
   still : (n : ℕ) → IsSome (find listed_number n left) → find variable_number n (set_at variable_number x.number (given_variable group x (find variable_number x.number now)) now) ≡ find variable_number n start
   own : find variable_number x.number now ≡ find variable_number x.number start
 
-step : (group : ℕ) (start now : List Variable) (x : Listed) (left : List Listed) (all : ℕ → Option Variable) → Rise listed_number (x ∷ left) → ((n : ℕ) → listed_in group (x ∷ left) (λ n. find variable_number n now) n ≡ all n) → ((n : ℕ) → IsSome (find listed_number n (x ∷ left)) → find variable_number n now ≡ find variable_number n start) → Step group start now x left all
+step : (group : ℕ) (start now : List Variable) (x : NameChange) (left : List NameChange) (all : ℕ → Option Variable) → Rise listed_number (x ∷ left) → ((n : ℕ) → listed_in group (x ∷ left) (λ n. find variable_number n now) n ≡ all n) → ((n : ℕ) → IsSome (find listed_number n (x ∷ left)) → find variable_number n now ≡ find variable_number n start) → Step group start now x left all
 step group start now x left all rise rest still = record {
   rest = λ n. elim (cases_eq x.number n) [
     | inl same ↦
@@ -88,7 +88,7 @@ step group start now x left all rise rest still = record {
     at = IsAt-given group x now
 
     absent : (n : ℕ) → x.number ≡ n → find listed_number n left ≡ None
-    absent n same = find-none_above listed_number n left (subst (λ m. (k : ℕ) (d : Listed) → k < length left → m < (slice_index_or left k d).number) same (Rise-head listed_number x left rise))
+    absent n same = find-none_above listed_number n left (subst (λ m. (k : ℕ) (d : NameChange) → k < length left → m < (slice_index_or left k d).number) same (Rise-head listed_number x left rise))
 
 count_first : {X : Type 0} (p : X → Bool) (x : X) (xs : List X) → count_by p (x ∷ xs) ≡ cond (p x) 1 0 + count_by p xs
 count_first p x xs = sum_by-drop_more (λ y. cond (p y) 1 0) (x ∷ xs) 0 x (omega arith)
@@ -97,10 +97,10 @@ length_of : {X : Type 0} (o : Option X) → length (option_to_list o) ≡ cond (
 length_of None = refl
 length_of (Some x) = refl
 
-some_given : (group : ℕ) (l : Listed) (o : Option Variable) → is_some (given_variable group l o) ≡ is_some l.name
+some_given : (group : ℕ) (l : NameChange) (o : Option Variable) → is_some (given_variable group l o) ≡ is_some l.name
 some_given group l o = elim (is_some l.name) as (λ b. is_some (cond b (Some (unwrap_or o (unbounded_in group l.number))) None) ≡ b) [ true ↦ refl | false ↦ refl ]
 
-pub room_for_next : (group : ℕ) (start now : List Variable) (listed : List Listed) (i first capacity : ℕ) (d : Listed) → ListedSoFar group start now listed i first capacity → i < length listed → IsSome (slice_index_or listed i d).name → length now < capacity
+pub room_for_next : (group : ℕ) (start now : List Variable) (listed : List NameChange) (i first capacity : ℕ) (d : NameChange) → ListedSoFar group start now listed i first capacity → i < length listed → IsSome (slice_index_or listed i d).name → length now < capacity
 room_for_next group start now listed i first capacity d h lt some =
     let x = slice_index_or listed i d in
     let split = ap put_count (drop_more listed i d lt) in
@@ -108,7 +108,7 @@ room_for_next group start now listed i first capacity d h lt some =
     let named = ap (λ b. cond {A = ℕ} b 1 0) some in
     omega (arith, h.fits, split, count, named)
 
-pub listed_more : (group : ℕ) (start now after : List Variable) (listed : List Listed) (i first capacity more : ℕ) (d : Listed) → ListedSoFar group start now listed i first capacity → i < length listed → after ≡ set_at variable_number (slice_index_or listed i d).number (given_variable group (slice_index_or listed i d) (find variable_number (slice_index_or listed i d).number now)) now → Rise variable_number after → capacity ≤ more → ListedSoFar group start after listed (i + 1) first more
+pub listed_more : (group : ℕ) (start now after : List Variable) (listed : List NameChange) (i first capacity more : ℕ) (d : NameChange) → ListedSoFar group start now listed i first capacity → i < length listed → after ≡ set_at variable_number (slice_index_or listed i d).number (given_variable group (slice_index_or listed i d) (find variable_number (slice_index_or listed i d).number now)) now → Rise variable_number after → capacity ≤ more → ListedSoFar group start after listed (i + 1) first more
 listed_more group start now after listed i first capacity more d h lt is rise grows =
     let x = slice_index_or listed i d in
     let left = drop (i + 1) listed in
@@ -132,11 +132,11 @@ listed_more group start now after listed i first capacity more d h lt is rise gr
       grown = omega (arith, h.grown);
     }
 
-pub record AllListed (group : ℕ) (start now : List Variable) (listed : List Listed) : Type 0 where
+pub record AllListed (group : ℕ) (start now : List Variable) (listed : List NameChange) : Type 0 where
   pub entries : (n : ℕ) → find variable_number n now ≡ listed_in group listed (λ n. find variable_number n start) n
   pub count : length now + kept_count start listed ≡ length start + put_count listed
 
-pub listed_all : (group : ℕ) (start now : List Variable) (listed : List Listed) (i first capacity : ℕ) → ListedSoFar group start now listed i first capacity → length listed ≤ i → AllListed group start now listed
+pub listed_all : (group : ℕ) (start now : List Variable) (listed : List NameChange) (i first capacity : ℕ) → ListedSoFar group start now listed i first capacity → length listed ≤ i → AllListed group start now listed
 listed_all group start now listed i first capacity h end =
     let nothing = drop_all i listed end in
     record {

@@ -17,7 +17,7 @@ use Rattle.user_model.specs.declared.row.Row.{Row}
 use Rattle.user_model.specs.Edited.{group_number, row_number}
 use Rattle.user_model.specs.Consistent as consistent
 use Rattle.user_model.specs.Consistent.{IsConsistent}
-use Rattle.user_model.specs.Model.{UserModel, bounds_above, bounds_below, group_of, has_variable, is_variable, row_named, variable_named, variables}
+use Rattle.user_model.specs.Model.{ModelValue, bounds_above, bounds_below, group_of, has_variable, is_variable, row_named, variable_named, variables}
 use Rattle.user_model.specs.Sets.{sets_lower, sets_upper}
 use Rattle.model_catalog.specs.declared.variable.Variable.{Variable}
 use Rattle.model_catalog.specs.Index.{IsIndexOf, group_number_of, lower_count, upper_count, variable_number}
@@ -38,12 +38,12 @@ pub none_mapped : {X Y : Type 0} (f : X → Y) (o : Option X) → option_map f o
 none_mapped f o e = none_of o (sym (some_mapped f o) ∙ ap is_some e)
 
 -- a variable has a name exactly where it has a group
-pub named_in_group : (model : UserModel) (n : ℕ) → is_some (variable_name model n) ≡ is_some (group_number_of model n)
+pub named_in_group : (model : ModelValue) (n : ℕ) → is_some (variable_name model n) ≡ is_some (group_number_of model n)
 named_in_group model n =
     some_mapped (λ (v : GroupVar). v.name) (find consistent.variable_number n (variables model))
     ∙ (some_found_in (λ (g : Group). g.vars) (λ v. consistent.variable_number v == n) model.groups ∙ sym (some_mapped (λ (g : Group). g.id) (group_of model n)))
 
-module _ (model : UserModel) (kept : List Variable) (ok : IsConsistent model) (index : IsIndexOf model kept) where
+module _ (model : ModelValue) (kept : List Variable) (ok : IsConsistent model) (index : IsIndexOf model kept) where
   pub kept_number : (n : ℕ) → is_some (find variable_number n kept) ≡ is_some (group_number_of model n)
   kept_number n = ap is_some (index.entries n) ∙ some_mapped _ (group_number_of model n)
 
@@ -124,11 +124,11 @@ is_number_of number name xs table h q = record {
   all = λ n e. get-name_of table n q (h.names n ∙ e);
 }
 
-pub variable_looked_up : (model : UserModel) (table : Numbers) → IsConsistent model → HasNames (variable_name model) table → (name : List ℕ) → get table name ≡ variable_named model name
+pub variable_looked_up : (model : ModelValue) (table : Numbers) → IsConsistent model → HasNames (variable_name model) table → (name : List ℕ) → get table name ≡ variable_named model name
 variable_looked_up model table ok h name =
     (found_by_name consistent.variable_number (λ (v : GroupVar). v.name) (variables model) name (get table name) ok.variables_rise (is_number_of consistent.variable_number (λ (v : GroupVar). v.name) (variables model) table h name)).0
 
-pub row_looked_up : (model : UserModel) (table : Numbers) → IsConsistent model → HasNames (row_name model) table → (name : List ℕ) (o : Option ℕ) → o ≡ get table name → option_and_then (λ n. find row_number n model.rows) o ≡ row_named model name
+pub row_looked_up : (model : ModelValue) (table : Numbers) → IsConsistent model → HasNames (row_name model) table → (name : List ℕ) (o : Option ℕ) → o ≡ get table name → option_and_then (λ n. find row_number n model.rows) o ≡ row_named model name
 row_looked_up model table ok h name o e =
     ap (option_and_then (λ n. find row_number n model.rows)) e
     ∙ (found_by_name row_number (λ (r : Row). r.name) model.rows name (get table name) ok.rows_rise (is_number_of row_number (λ (r : Row). r.name) model.rows table h name)).1

@@ -13,8 +13,8 @@ use Rattle.std.proofs.lemmas.Option.{none-some, slice_get-get_or}
 use Rattle.numbered.specs.Numbered.{Rise, find}
 use Rattle.numbered.specs.Laws.{Rise-nil, Rise-cons, Rise-head, Rise-tail, find-at, find-first, find-rest, find-none_above, same_number, other_number}
 use Rattle.name_index.specs.NameTable.{Numbers, IsOneToOne}
-use Rattle.model_catalog.specs.declared.names.Listed.{Listed}
-use Rattle.model_catalog.specs.Names.{AreDistinct, given_by, listed_number, listing_of, name_of, put_aside, put_count, renamed_by, settled, taken_out}
+use Rattle.model_catalog.specs.declared.names.NameChange.{NameChange}
+use Rattle.model_catalog.specs.Names.{AreDistinct, given_by, listed_number, standing_names, name_of, put_aside, put_count, renamed_by, settled, without_names}
 use Rattle.model_catalog.proofs.TableNames.{none_of_free}
 
 pub not_some : {X : Type 0} (o : Option X) → o ≡ None → IsSome o → ⊥
@@ -55,21 +55,21 @@ module _ {X : Type 0} (f : X → X) where
 
 -- ---- names that are given in turn
 
-module _ (given : Listed → Option (List ℕ)) where
+module _ (given : NameChange → Option (List ℕ)) where
   -- what is left of the listed numbers gives the names that all give, and their own names stand as they were
-  pub record GivenSoFar (start now : Naming) (listed left : List Listed) : Type 0 where
+  pub record GivenSoFar (start now : Naming) (listed left : List NameChange) : Type 0 where
     pub rest : (n : ℕ) → given_by given left now n ≡ given_by given listed start n
     pub still : (n : ℕ) → IsSome (find listed_number n left) → now n ≡ start n
     pub among : (n : ℕ) → IsSome (find listed_number n left) → IsSome (find listed_number n listed)
     pub rising : Rise listed_number left
 
-  pub given_none : (start : Naming) (listed : List Listed) → Rise listed_number listed → GivenSoFar start start listed listed
+  pub given_none : (start : Naming) (listed : List NameChange) → Rise listed_number listed → GivenSoFar start start listed listed
   given_none start listed rise = record { rest = λ n. refl; still = λ n some. refl; among = λ n some. some; rising = rise }
 
-  absent : (x : Listed) (rest : List Listed) (n : ℕ) → Rise listed_number (x ∷ rest) → x.number ≡ n → find listed_number n rest ≡ None
-  absent x rest n rise e = find-none_above listed_number n rest (subst (λ m. (i : ℕ) (d : Listed) → i < length rest → m < (slice_index_or rest i d).number) e (Rise-head listed_number x rest rise))
+  absent : (x : NameChange) (rest : List NameChange) (n : ℕ) → Rise listed_number (x ∷ rest) → x.number ≡ n → find listed_number n rest ≡ None
+  absent x rest n rise e = find-none_above listed_number n rest (subst (λ m. (i : ℕ) (d : NameChange) → i < length rest → m < (slice_index_or rest i d).number) e (Rise-head listed_number x rest rise))
 
-  pub given_next : (start now after : Naming) (listed : List Listed) (x : Listed) (rest : List Listed) → GivenSoFar start now listed (x ∷ rest) → ((n : ℕ) → after n ≡ cond (x.number == n) (given x) (now n)) → GivenSoFar start after listed rest
+  pub given_next : (start now after : Naming) (listed : List NameChange) (x : NameChange) (rest : List NameChange) → GivenSoFar start now listed (x ∷ rest) → ((n : ℕ) → after n ≡ cond (x.number == n) (given x) (now n)) → GivenSoFar start after listed rest
   given_next start now after listed x rest h is = record {
     rest = λ n. elim (cases_eq x.number n) [
       | inl same ↦
@@ -93,31 +93,31 @@ module _ (given : Listed → Option (List ℕ)) where
     rising = Rise-tail listed_number x rest h.rising;
   }
 
-  pub given_more : (start now after : Naming) (listed : List Listed) (i : ℕ) (d x : Listed) → i < length listed → GivenSoFar start now listed (drop i listed) → x ≡ slice_index_or listed i d → ((n : ℕ) → after n ≡ cond (x.number == n) (given x) (now n)) → GivenSoFar start after listed (drop (i + 1) listed)
+  pub given_more : (start now after : Naming) (listed : List NameChange) (i : ℕ) (d x : NameChange) → i < length listed → GivenSoFar start now listed (drop i listed) → x ≡ slice_index_or listed i d → ((n : ℕ) → after n ≡ cond (x.number == n) (given x) (now n)) → GivenSoFar start after listed (drop (i + 1) listed)
   given_more start now after listed i d x lt h read is =
       given_next start now after listed x (drop (i + 1) listed) (subst (GivenSoFar start now listed) (drop_more listed i d lt ∙ ap (λ y. y ∷ drop (i + 1) listed) (sym read)) h) is
 
   -- the own name of the next
-  pub still_next : (start now : Naming) (listed : List Listed) (i : ℕ) (d x : Listed) → i < length listed → GivenSoFar start now listed (drop i listed) → x ≡ slice_index_or listed i d → now x.number ≡ start x.number
+  pub still_next : (start now : Naming) (listed : List NameChange) (i : ℕ) (d x : NameChange) → i < length listed → GivenSoFar start now listed (drop i listed) → x ≡ slice_index_or listed i d → now x.number ≡ start x.number
   still_next start now listed i d x lt h read =
       h.still x.number (subst (λ xs. IsSome (find listed_number x.number xs)) (sym (drop_more listed i d lt ∙ ap (λ y. y ∷ drop (i + 1) listed) (sym read))) (some_is (find listed_number x.number (x ∷ drop (i + 1) listed)) x (find-first listed_number x.number x (drop (i + 1) listed) refl)))
 
-  pub given_all : (start now : Naming) (listed : List Listed) (i : ℕ) → length listed ≤ i → GivenSoFar start now listed (drop i listed) → (n : ℕ) → now n ≡ given_by given listed start n
+  pub given_all : (start now : Naming) (listed : List NameChange) (i : ℕ) → length listed ≤ i → GivenSoFar start now listed (drop i listed) → (n : ℕ) → now n ≡ given_by given listed start n
   given_all start now listed i end h n = sym (ap (λ xs. given_by given xs now n) (drop_all i listed end)) ∙ h.rest n
 
 -- ---- the names taken out
 
-pub record TakenSoFar (start now : Numbers) (listed left : List Listed) (i first spare_now : ℕ) : Type 0 where
+pub record TakenSoFar (start now : Numbers) (listed left : List NameChange) (i first spare_now : ℕ) : Type 0 where
   pub names : GivenSoFar (λ l. None) (name_of start) (name_of now) listed (drop i listed)
   pub past : IsPast (put_aside (name_of start)) listed left i
   pub one_to_one : IsOneToOne now
   pub spare : first ≤ spare_now
 
-pub taken_none : (start : Numbers) (listed : List Listed) (spare : ℕ) → Rise listed_number listed → IsOneToOne start → TakenSoFar start start listed listed 0 spare spare
+pub taken_none : (start : Numbers) (listed : List NameChange) (spare : ℕ) → Rise listed_number listed → IsOneToOne start → TakenSoFar start start listed listed 0 spare spare
 taken_none start listed spare rise one = record { names = given_none (λ l. None) (name_of start) listed rise; past = past_none (put_aside (name_of start)) listed; one_to_one = one; spare = omega arith }
 
-pub taken_more : (start now after : Numbers) (listed left : List Listed) (i spare spare_now spare_after : ℕ) (d : Listed) (was : Option (List ℕ)) → TakenSoFar start now listed left i spare spare_now → i < length listed → was ≡ name_of now (slice_index_or left i d).number → ((n : ℕ) → name_of after n ≡ cond ((slice_index_or left i d).number == n) None (name_of now n)) → spare_now ≤ spare_after → IsOneToOne after
-    → TakenSoFar start after listed (let given : Listed = record { number = (slice_index_or left i d).number; name = (slice_index_or left i d).name; aside = was } in set left i given) (i + 1) spare spare_after
+pub taken_more : (start now after : Numbers) (listed left : List NameChange) (i spare spare_now spare_after : ℕ) (d : NameChange) (was : Option (List ℕ)) → TakenSoFar start now listed left i spare spare_now → i < length listed → was ≡ name_of now (slice_index_or left i d).number → ((n : ℕ) → name_of after n ≡ cond ((slice_index_or left i d).number == n) None (name_of now n)) → spare_now ≤ spare_after → IsOneToOne after
+    → TakenSoFar start after listed (let given : NameChange = record { number = (slice_index_or left i d).number; name = (slice_index_or left i d).name; aside = was } in set left i given) (i + 1) spare spare_after
 taken_more start now after listed left i spare spare_now spare_after d was h lt value is grows one =
     let x = slice_index_or left i d in
     let read = as_it_was (put_aside (name_of start)) listed left i d lt h.past in
@@ -131,29 +131,29 @@ taken_more start now after listed left i spare spare_now spare_after d was h lt 
 
 -- ---- the names put in
 
-pub record PutSoFar (start now : Numbers) (listed left : List Listed) (i first spare_now : ℕ) : Type 0 where
+pub record PutSoFar (start now : Numbers) (listed left : List NameChange) (i first spare_now : ℕ) : Type 0 where
   pub names : GivenSoFar (λ l. l.name) (name_of start) (name_of now) listed (drop i listed)
   pub past : IsPast settled listed left i
   pub one_to_one : IsOneToOne now
   pub spare : first + put_count (drop i listed) ≤ spare_now + put_count listed
 
-pub put_none : (start : Numbers) (listed : List Listed) (spare : ℕ) → Rise listed_number listed → IsOneToOne start → PutSoFar start start listed listed 0 spare spare
+pub put_none : (start : Numbers) (listed : List NameChange) (spare : ℕ) → Rise listed_number listed → IsOneToOne start → PutSoFar start start listed listed 0 spare spare
 put_none start listed spare rise one = record { names = given_none (λ l. l.name) (name_of start) listed rise; past = past_none settled listed; one_to_one = one; spare = omega arith }
 
 -- the names that stand before the listed ones are put in, and those that are to stand afterwards
-pub record ArePut (start : Numbers) (listed : List Listed) (spare : ℕ) : Type 0 where
+pub record ArePut (start : Numbers) (listed : List NameChange) (spare : ℕ) : Type 0 where
   pub rising : Rise listed_number listed
   pub free : (n : ℕ) → IsSome (find listed_number n listed) → name_of start n ≡ None
   pub distinct : AreDistinct (renamed_by listed (name_of start))
   pub room : put_count listed ≤ spare
 
 -- what the next may rest on
-pub record NextPut (now : Numbers) (x : Listed) (spare : ℕ) : Type 0 where
+pub record NextPut (now : Numbers) (x : NameChange) (spare : ℕ) : Type 0 where
   pub free : name_of now x.number ≡ None
   pub new : IfSome x.name (λ name. get now name ≡ None)
   pub room : IsSome x.name → 0 < spare
 
-put_count-first : (x : Listed) (rest : List Listed) → put_count (x ∷ rest) ≡ cond (is_some x.name) 1 0 + put_count rest
+put_count-first : (x : NameChange) (rest : List NameChange) → put_count (x ∷ rest) ≡ cond (is_some x.name) 1 0 + put_count rest
 put_count-first x rest = sum_by-drop_more (λ l. cond (is_some l.name) 1 0) (x ∷ rest) 0 x (omega arith)
 
 one_of_some : (o : Option (List ℕ)) → IsSome o → 0 < cond (is_some o) 1 0
@@ -161,13 +161,13 @@ one_of_some None some = absurd (let both : false ≡ true = some in cc)
 one_of_some (Some x) some = omega arith
 
 -- a name that is put in next is no other's yet
-new_name : (start now : Numbers) (listed : List Listed) (i spare : ℕ) (x : Listed) (name : List ℕ) → ArePut start listed spare → GivenSoFar (λ l. l.name) (name_of start) (name_of now) listed (drop i listed) → IsOneToOne now → find listed_number x.number listed ≡ Some x → IsSome (find listed_number x.number (drop i listed)) → x.name ≡ Some name → get now name ≡ None
+new_name : (start now : Numbers) (listed : List NameChange) (i spare : ℕ) (x : NameChange) (name : List ℕ) → ArePut start listed spare → GivenSoFar (λ l. l.name) (name_of start) (name_of now) listed (drop i listed) → IsOneToOne now → find listed_number x.number listed ≡ Some x → IsSome (find listed_number x.number (drop i listed)) → x.name ≡ Some name → get now name ≡ None
 new_name start now listed i spare x name put h one there some is = none_of_free now one name taken
   where
     its : renamed_by listed (name_of start) x.number ≡ Some name
     its = ap (λ o. option_map_or (λ l. l.name) o (name_of start x.number)) there ∙ is
 
-    by_place : (n : ℕ) (o : Option Listed) → find listed_number n (drop i listed) ≡ o → name_of now n ≡ Some name → ⊥
+    by_place : (n : ℕ) (o : Option NameChange) → find listed_number n (drop i listed) ≡ o → name_of now n ≡ Some name → ⊥
     by_place n (Some y) e at =
         let listed_still = some_is (find listed_number n (drop i listed)) y e in
         none-some name (sym (put.free n (h.among n listed_still)) ∙ (sym (h.still n listed_still) ∙ at))
@@ -179,12 +179,12 @@ new_name start now listed i spare x name put h one there some is = none_of_free 
     taken : (n : ℕ) → name_of now n ≡ Some name → ⊥
     taken n at = by_place n (find listed_number n (drop i listed)) refl at
 
-pub next_put : (start now : Numbers) (listed left : List Listed) (i spare spare_now : ℕ) (d : Listed) → ArePut start listed spare → PutSoFar start now listed left i spare spare_now → i < length listed → NextPut now (slice_index_or left i d) spare_now
+pub next_put : (start now : Numbers) (listed left : List NameChange) (i spare spare_now : ℕ) (d : NameChange) → ArePut start listed spare → PutSoFar start now listed left i spare spare_now → i < length listed → NextPut now (slice_index_or left i d) spare_now
 next_put start now listed left i spare spare_now d put h lt =
     let x = slice_index_or left i d in
     let read = as_it_was settled listed left i d lt h.past in
     let split = drop_more listed i d lt ∙ ap (λ y. y ∷ drop (i + 1) listed) (sym read) in
-    let there : find listed_number x.number listed ≡ Some x = ap (λ (y : Listed). find listed_number y.number listed) read ∙ (find-at listed_number listed i (slice_index_or listed i d) put.rising (slice_get-get_or listed i d lt) ∙ ap Some (sym read)) in
+    let there : find listed_number x.number listed ≡ Some x = ap (λ (y : NameChange). find listed_number y.number listed) read ∙ (find-at listed_number listed i (slice_index_or listed i d) put.rising (slice_get-get_or listed i d lt) ∙ ap Some (sym read)) in
     let some : IsSome (find listed_number x.number (drop i listed)) = subst (λ xs. IsSome (find listed_number x.number xs)) (sym split) (some_is (find listed_number x.number (x ∷ drop (i + 1) listed)) x (find-first listed_number x.number x (drop (i + 1) listed) refl)) in
     let count = ap put_count split ∙ put_count-first x (drop (i + 1) listed) in
     record {
@@ -193,15 +193,15 @@ next_put start now listed left i spare spare_now d put h lt =
       room = λ named. omega (arith, h.spare, put.room, count, one_of_some x.name named);
     }
   where
-    by_name : (start now : Numbers) (listed : List Listed) (i spare : ℕ) (x : Listed) → ArePut start listed spare → GivenSoFar (λ l. l.name) (name_of start) (name_of now) listed (drop i listed) → IsOneToOne now → find listed_number x.number listed ≡ Some x → IsSome (find listed_number x.number (drop i listed)) → (o : Option (List ℕ)) → x.name ≡ o → IfSome o (λ name. get now name ≡ None)
+    by_name : (start now : Numbers) (listed : List NameChange) (i spare : ℕ) (x : NameChange) → ArePut start listed spare → GivenSoFar (λ l. l.name) (name_of start) (name_of now) listed (drop i listed) → IsOneToOne now → find listed_number x.number listed ≡ Some x → IsSome (find listed_number x.number (drop i listed)) → (o : Option (List ℕ)) → x.name ≡ o → IfSome o (λ name. get now name ≡ None)
     by_name start now listed i spare x put h one there some None e = tt
     by_name start now listed i spare x put h one there some (Some name) e = new_name start now listed i spare x name put h one there some e
 
 one_if : {o p : Option (List ℕ)} → o ≡ p → cond {A = ℕ} (is_some o) 1 0 ≡ cond (is_some p) 1 0
 one_if e = ap (λ x. cond (is_some x) 1 0) e
 
-pub put_more : (start now after : Numbers) (listed left : List Listed) (i spare spare_now spare_after : ℕ) (d : Listed) (was nothing new : Option (List ℕ)) → PutSoFar start now listed left i spare spare_now → i < length listed → was ≡ (slice_index_or left i d).aside → nothing ≡ None → new ≡ (slice_index_or left i d).name → ((n : ℕ) → name_of after n ≡ cond ((slice_index_or left i d).number == n) new (name_of now n)) → spare_now ≤ spare_after + cond (is_some new) 1 0 → IsOneToOne after
-    → PutSoFar start after listed (let given : Listed = record { number = (slice_index_or left i d).number; name = was; aside = nothing } in set left i given) (i + 1) spare spare_after
+pub put_more : (start now after : Numbers) (listed left : List NameChange) (i spare spare_now spare_after : ℕ) (d : NameChange) (was nothing new : Option (List ℕ)) → PutSoFar start now listed left i spare spare_now → i < length listed → was ≡ (slice_index_or left i d).aside → nothing ≡ None → new ≡ (slice_index_or left i d).name → ((n : ℕ) → name_of after n ≡ cond ((slice_index_or left i d).number == n) new (name_of now n)) → spare_now ≤ spare_after + cond (is_some new) 1 0 → IsOneToOne after
+    → PutSoFar start after listed (let given : NameChange = record { number = (slice_index_or left i d).number; name = was; aside = nothing } in set left i given) (i + 1) spare spare_after
 put_more start now after listed left i spare spare_now spare_after d was nothing new h lt aside none name is grows one =
     let x = slice_index_or left i d in
     let read = as_it_was settled listed left i d lt h.past in
@@ -215,45 +215,45 @@ put_more start now after listed left i spare spare_now spare_after d was nothing
       spare = omega (arith, h.spare, count, counted, grows);
     }
 
-pub put_all : (start now : Numbers) (listed left : List Listed) (i spare spare_now : ℕ) → length listed ≤ i → PutSoFar start now listed left i spare spare_now → spare ≤ spare_now + put_count listed
+pub put_all : (start now : Numbers) (listed left : List NameChange) (i spare spare_now : ℕ) → length listed ≤ i → PutSoFar start now listed left i spare spare_now → spare ≤ spare_now + put_count listed
 put_all start now listed left i spare spare_now end h = omega (arith, h.spare)
 
 -- ---- both
 
 module _ (naming : Naming) where
-  find-aside : (n : ℕ) (listed : List Listed) → find listed_number n (map (put_aside naming) listed) ≡ option_map (put_aside naming) (find listed_number n listed)
+  find-aside : (n : ℕ) (listed : List NameChange) → find listed_number n (map (put_aside naming) listed) ≡ option_map (put_aside naming) (find listed_number n listed)
   find-aside n [] = refl
   find-aside n (x ∷ xs) =
       elim (x.number == n) as (λ b. cond b (Some (put_aside naming x)) (find listed_number n (map (put_aside naming) xs)) ≡ option_map (put_aside naming) (cond b (Some x) (find listed_number n xs))) [ true ↦ refl | false ↦ find-aside n xs ]
 
-  All-aside : (n : ℕ) (listed : List Listed) → All (λ l. n < l.number) listed → All (λ l. n < l.number) (map (put_aside naming) listed)
+  All-aside : (n : ℕ) (listed : List NameChange) → All (λ l. n < l.number) listed → All (λ l. n < l.number) (map (put_aside naming) listed)
   All-aside n [] h = All-nil (λ l. n < l.number)
   All-aside n (x ∷ xs) h = All-cons (λ l. n < l.number) (put_aside naming x) (map (put_aside naming) xs) (All-head (λ l. n < l.number) x xs h) (All-aside n xs (All-tail (λ l. n < l.number) x xs h))
 
-  pub Rise-aside : (listed : List Listed) → Rise listed_number listed → Rise listed_number (map (put_aside naming) listed)
+  pub Rise-aside : (listed : List NameChange) → Rise listed_number listed → Rise listed_number (map (put_aside naming) listed)
   Rise-aside [] rise = Rise-nil listed_number
   Rise-aside (x ∷ xs) rise = Rise-cons listed_number (put_aside naming x) (map (put_aside naming) xs) (All-aside x.number xs (Rise-head listed_number x xs rise)) (Rise-aside xs (Rise-tail listed_number x xs rise))
 
-  pub free_aside : (now : Naming) (listed : List Listed) → ((n : ℕ) → now n ≡ taken_out listed naming n) → (n : ℕ) → IsSome (find listed_number n (map (put_aside naming) listed)) → now n ≡ None
+  pub free_aside : (now : Naming) (listed : List NameChange) → ((n : ℕ) → now n ≡ without_names listed naming n) → (n : ℕ) → IsSome (find listed_number n (map (put_aside naming) listed)) → now n ≡ None
   free_aside now listed is n some = is n ∙ by_place (find listed_number n listed) (subst IsSome (find-aside n listed) some)
     where
-      by_place : (o : Option Listed) → IsSome (option_map (put_aside naming) o) → option_map_or (λ (l : Listed). None) o (naming n) ≡ None
+      by_place : (o : Option NameChange) → IsSome (option_map (put_aside naming) o) → option_map_or (λ (l : NameChange). None) o (naming n) ≡ None
       by_place None some = absurd (not_some (option_map (put_aside naming) None) refl some)
       by_place (Some l) some = refl
 
-  pub renamed_aside : (now : Naming) (listed : List Listed) → ((n : ℕ) → now n ≡ taken_out listed naming n) → (n : ℕ) → renamed_by (map (put_aside naming) listed) now n ≡ renamed_by listed naming n
+  pub renamed_aside : (now : Naming) (listed : List NameChange) → ((n : ℕ) → now n ≡ without_names listed naming n) → (n : ℕ) → renamed_by (map (put_aside naming) listed) now n ≡ renamed_by listed naming n
   renamed_aside now listed is n =
       ap (λ o. option_map_or (λ l. l.name) o (now n)) (find-aside n listed)
       ∙ (ap (option_map_or (λ l. l.name) (option_map (put_aside naming) (find listed_number n listed))) (is n) ∙ by_place (find listed_number n listed))
     where
-      by_place : (o : Option Listed) → option_map_or (λ (l : Listed). l.name) (option_map (put_aside naming) o) (option_map_or (λ (l : Listed). None) o (naming n)) ≡ option_map_or (λ (l : Listed). l.name) o (naming n)
+      by_place : (o : Option NameChange) → option_map_or (λ (l : NameChange). l.name) (option_map (put_aside naming) o) (option_map_or (λ (l : NameChange). None) o (naming n)) ≡ option_map_or (λ (l : NameChange). l.name) o (naming n)
       by_place None = refl
       by_place (Some l) = refl
 
-  pub put_count-aside : (listed : List Listed) → put_count (map (put_aside naming) listed) ≡ put_count listed
+  pub put_count-aside : (listed : List NameChange) → put_count (map (put_aside naming) listed) ≡ put_count listed
   put_count-aside [] = refl
   put_count-aside (x ∷ xs) = put_count-first (put_aside naming x) (map (put_aside naming) xs) ∙ (ap (λ m. cond (is_some x.name) 1 0 + m) (put_count-aside xs) ∙ sym (put_count-first x xs))
 
-  pub settled_aside : (listed : List Listed) → map settled (map (put_aside naming) listed) ≡ listing_of naming listed
+  pub settled_aside : (listed : List NameChange) → map settled (map (put_aside naming) listed) ≡ standing_names naming listed
   settled_aside [] = refl
   settled_aside (x ∷ xs) = ap (λ ys. settled (put_aside naming x) ∷ ys) (settled_aside xs)

@@ -8,7 +8,7 @@ use Rattle.std.specs.Cmp.{tied_itself}
 use Rattle.std.specs.Cmp.Lexicographic.{slice_cmp, texts_ties, nat_list_cmp_total, bytes_decides}
 use Rattle.std.proofs.lemmas.Bool.{cases_eq}
 use Rattle.std.proofs.lemmas.Option.{none-some, same_Some, slice_get_within, get_or_from_slice_get}
-use Rattle.aff_core.proofs.Entries.{find_at}
+use Rattle.map_laws.specs.EntryLaws.{find_at}
 use Rattle.numbered.specs.Laws.{same_number, other_number}
 use Rattle.name_index.specs.NameTable.{Numbers, IsFree, IsOneToOne, IsNameAt}
 use Rattle.model_catalog.specs.Names.{name_of}

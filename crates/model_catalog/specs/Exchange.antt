@@ -3,11 +3,11 @@ use Rattle.std.specs.Prelude.{◌+◌, ◌≤◌, length}
 use Rattle.std.specs.Option.{option_map}
 use Rattle.numbered.specs.Changes.{AreChanges, added, olds}
 use Rattle.user_model.specs.declared.undo.Undo.{Undo}
-use Rattle.user_model.specs.Model.{UserModel, variables}
+use Rattle.user_model.specs.Model.{ModelValue, variables}
 use Rattle.user_model.specs.Edited.{group_number, row_number}
 use Rattle.user_model.specs.Undone.{before}
 use Rattle.model_catalog.specs.declared.exchange.Exchange.{Exchange}
-use Rattle.model_catalog.specs.declared.names.Listing.{Listing}
+use Rattle.model_catalog.specs.declared.names.NameChanges.{NameChanges}
 use Rattle.model_catalog.specs.declared.room.More.{More}
 use Rattle.model_catalog.specs.Catalog.{Catalog, Room}
 use Rattle.model_catalog.specs.Names.{put_count}
@@ -17,11 +17,11 @@ abbrev pub contents : Exchange → Undo
 contents with = record { groups = with.groups.items; rows = with.rows.items; objective = with.objective; next = with.next }
 
 -- the model in which the contents have taken the places of what stood there
-abbrev pub exchanged : Exchange → UserModel → UserModel
+abbrev pub exchanged : Exchange → ModelValue → ModelValue
 exchanged with model = before model (contents with)
 
 -- what stands in the model where the contents are to stand
-abbrev pub standing : UserModel → Undo → Undo
+abbrev pub standing : ModelValue → Undo → Undo
 standing model undo = record {
   groups = olds group_number undo.groups model.groups;
   rows = olds row_number undo.rows model.rows;
@@ -35,18 +35,18 @@ pub record IsExchange (with : Exchange) : Type 0 where
   pub rows : AreChanges row_number with.rows.items
 
 -- there is room for the groups, rows and variables
-pub record HasRoomFor (with : Exchange) (names : Listing) (catalog : Catalog) : Type 0 where
+pub record HasRoomFor (with : Exchange) (names : NameChanges) (catalog : Catalog) : Type 0 where
   pub groups : length catalog.model.groups + added group_number with.groups.items catalog.model.groups ≤ catalog.room.groups
   pub rows : length catalog.model.rows + added row_number with.rows.items catalog.model.rows ≤ catalog.room.rows
   pub variables : length (variables catalog.model) + put_count names.variables.items ≤ catalog.room.variables
 
 -- there is room for the names
-pub record HasSpare (names : Listing) (room : Room) : Type 0 where
+pub record HasSpare (names : NameChanges) (room : Room) : Type 0 where
   pub variable_names : put_count names.variables.items ≤ room.variable_names
   pub row_names : put_count names.rows.items ≤ room.row_names
 
 -- no more room is gone than that for the names which were put in
-pub record KeepsRoom (names : Listing) (old new : Room) : Type 0 where
+pub record KeepsRoom (names : NameChanges) (old new : Room) : Type 0 where
   pub groups : old.groups ≤ new.groups
   pub rows : old.rows ≤ new.rows
   pub variables : old.variables ≤ new.variables

@@ -4,8 +4,8 @@ use Rattle.std.specs.Option.{option_map, option_map_or}
 use Rattle.numbered.specs.Numbered as numbered
 use Rattle.numbered.specs.Numbered.{Rise}
 use Rattle.user_model.specs.declared.row.Row.{Row}
-use Rattle.user_model.specs.Model.{UserModel, bounds_above, bounds_below, group_of}
-use Rattle.model_catalog.specs.declared.names.Listed.{Listed}
+use Rattle.user_model.specs.Model.{ModelValue, bounds_above, bounds_below, group_of}
+use Rattle.model_catalog.specs.declared.names.NameChange.{NameChange}
 use Rattle.model_catalog.specs.declared.variable.Variable.{Variable}
 use Rattle.model_catalog.specs.Names.{listed_number}
 
@@ -20,16 +20,16 @@ abbrev pub upper_count : ℕ → List Row → ℕ
 upper_count n rows = count_by (bounds_above n) rows
 
 -- the number of the group of the variable with a number
-abbrev pub group_number_of : UserModel → ℕ → Option ℕ
+abbrev pub group_number_of : ModelValue → ℕ → Option ℕ
 group_number_of model n = option_map (λ g. g.id) (group_of model n)
 
 -- what is kept of the variable with a number
-abbrev pub kept_of : UserModel → ℕ → Option Variable
+abbrev pub kept_of : ModelValue → ℕ → Option Variable
 kept_of model n =
     option_map (λ id. record { number = n; group = id; lower = lower_count n model.rows; upper = upper_count n model.rows }) (group_number_of model n)
 
 -- the variables of the model are kept, in the order of their numbers, and no others
-pub record IsIndexOf (model : UserModel) (kept : List Variable) : Type 0 where
+pub record IsIndexOf (model : ModelValue) (kept : List Variable) : Type 0 where
   pub rising : Rise variable_number kept
   pub entries : (n : ℕ) → numbered.find variable_number n kept ≡ kept_of model n
 
@@ -40,11 +40,11 @@ abbrev pub unbounded_in : ℕ → ℕ → Variable
 unbounded_in group n = record { number = n; group = group; lower = 0; upper = 0 }
 
 -- what stands at a listed number, where the variable was kept or wasn't: itself, or a new one in the group, or nothing
-abbrev pub given_variable : ℕ → Listed → Option Variable → Option Variable
+abbrev pub given_variable : ℕ → NameChange → Option Variable → Option Variable
 given_variable group l was = if is_some l.name then Some (unwrap_or was (unbounded_in group l.number)) else None
 
 -- the variable with a number, where those that are listed with a name stand, new ones in the group, and those without don't
-abbrev pub listed_in : ℕ → List Listed → (ℕ → Option Variable) → ℕ → Option Variable
+abbrev pub listed_in : ℕ → List NameChange → (ℕ → Option Variable) → ℕ → Option Variable
 listed_in group listed kept n = option_map_or (λ l. given_variable group l (kept n)) (numbered.find listed_number n listed) (kept n)
 
 -- the counts of the rows that bound it
@@ -79,5 +79,5 @@ abbrev pub is_number : Option ℕ → ℕ → Bool
 is_number number n = option_map_or (λ m. m == n) number false
 
 -- how many of the listed numbers are kept
-abbrev pub kept_count : List Variable → List Listed → ℕ
+abbrev pub kept_count : List Variable → List NameChange → ℕ
 kept_count kept listed = count_by (λ l. is_some (numbered.find variable_number l.number kept)) listed

@@ -1,8 +1,8 @@
 -- What is kept of a model, and the model that it is.
-use Rattle.std.specs.Prelude.{◌≡◌, ℕ, List, Option}
+use Rattle.std.specs.Prelude.{◌≡◌, ℕ, List, [], Option}
 use Rattle.std.specs.Vec.{vec_capacity}
 use Rattle.name_index.specs.NameTable.{Numbers, IsOneToOne}
-use Rattle.user_model.specs.Model.{UserModel, total_terms}
+use Rattle.user_model.specs.Model.{ModelValue, total_terms}
 use Rattle.user_model.specs.Consistent.{IsConsistent, IsWithinLimits}
 use Rattle.model_catalog.specs.declared.catalog.Catalog.TheInside.{Inside}
 use Rattle.model_catalog.specs.declared.variable.Variable.{Variable}
@@ -11,7 +11,7 @@ use Rattle.model_catalog.specs.Names.{name_of}
 use Rattle.model_catalog.specs.Index.{IsIndexOf}
 use Rattle.model_catalog.specs.Named.{variable_name, row_name}
 
-abbrev pub model_of : Inside → UserModel
+abbrev pub model_of : Inside → ModelValue
 model_of a = record { groups = a.groups.items; rows = a.rows.items; objective = a.objective; next = a.next }
 
 abbrev pub catalog_of : Inside → Catalog
@@ -32,7 +32,7 @@ pub record HasNames (naming : ℕ → Option (List ℕ)) (table : Numbers) : Typ
   pub names : (n : ℕ) → name_of table n ≡ naming n
 
 -- the model is kept with its variables, the names of variables and of rows, and the number of its terms
-pub record Keeps (model : UserModel) (kept : List Variable) (variable_table row_table : Numbers) (count : ℕ) : Type 0 where
+pub record Keeps (model : ModelValue) (kept : List Variable) (variable_table row_table : Numbers) (count : ℕ) : Type 0 where
   pub consistent : IsConsistent model
   pub within : IsWithinLimits model
   pub index : IsIndexOf model kept
@@ -40,5 +40,7 @@ pub record Keeps (model : UserModel) (kept : List Variable) (variable_table row_
   pub row_names : HasNames (row_name model) row_table
   pub terms : count ≡ total_terms model
 
-abbrev pub IsKept : Inside → Type 0
-IsKept a = Keeps (model_of a) a.kept.items a.variable_names.numbers a.row_names.numbers a.terms
+-- the model is kept, and no row stands aside
+pub record IsKept (a : Inside) : Type 0 where
+  pub keeps : Keeps (model_of a) a.kept.items a.variable_names.numbers a.row_names.numbers a.terms
+  pub aside : a.aside.items ≡ []

@@ -6,4 +6,3 @@ pub mod Named
 pub mod Catalog
 pub mod Kept
 pub mod Exchange
-pub mod Small

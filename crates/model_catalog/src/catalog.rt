@@ -4,11 +4,11 @@ ghost use Rattle.std.specs.Option.{option_map};
 ghost use Rattle.user_model.specs.Consistent.{IsConsistent, IsWithinLimits};
 ghost use Rattle.user_model.specs.Model.{empty_model, total_terms, variables};
 ghost use Rattle.model_catalog.specs.Exchange.{HasRoom, HasRoomFor, HasSpare, IsExchange, IsNoLess, KeepsRoom, contents, exchanged, standing};
-ghost use Rattle.model_catalog.specs.Named.{Lists, ListsStanding};
+ghost use Rattle.model_catalog.specs.Named.{AreNameChanges, HasStandingNames};
 
 use crate::exchange::Exchange;
 use crate::index::{exchange_rows, list_variables};
-use crate::names::{Listing, exchange_names};
+use crate::names::{NameChanges, exchange_names};
 use crate::room::More;
 use crate::terms::{changed_terms, objective_terms};
 use crate::variable::Variable;
@@ -18,7 +18,7 @@ use ratio_core::Memory;
 use std::alloc::Global;
 use std::marker::Model;
 use std::mem;
-use user_model::{Group, Numbers, Objective, Row};
+use user_model::{Group, NextNumbers, Objective, Row};
 
 /// A model with what finds things in it. Contracts see the model, and beside it the room: how many groups, rows, variables and
 /// names can be put in without memory.
@@ -26,8 +26,10 @@ use user_model::{Group, Numbers, Objective, Row};
 pub struct Catalog {
     pub(crate) groups: Vec<Group>,
     pub(crate) rows: Vec<Row>,
+    // empty but while many rows change at once
+    pub(crate) aside: Vec<Row>,
     pub(crate) objective: Objective,
-    pub(crate) next: Numbers,
+    pub(crate) next: NextNumbers,
     pub(crate) kept: Vec<Variable>,
     pub(crate) variable_names: NameTable,
     pub(crate) row_names: NameTable,
@@ -57,8 +59,9 @@ impl Catalog {
         Catalog {
             groups: Vec::new(alloc),
             rows: Vec::new(alloc),
+            aside: Vec::new(alloc),
             objective: Objective::Feasibility,
-            next: Numbers {
+            next: NextNumbers {
                 group: 0,
                 variable: 0,
                 row: 0,
@@ -89,13 +92,15 @@ impl Catalog {
     }
 
     pub fn objective(&self) -> &Objective
-        ensures { result.now ≡ self.now.model.objective }
+        ensures value { result.now ≡ self.now.model.objective }
+        ensures consistent { IsConsistent self.now.model }
+        ensures within { IsWithinLimits self.now.model }
     {
         &self.objective
     }
 
     /// The numbers that the next group, variable and row are given.
-    pub fn next(&self) -> Numbers
+    pub fn next(&self) -> NextNumbers
         ensures { result ≡ self.now.model.next }
     {
         self.next
@@ -122,6 +127,7 @@ impl Catalog {
     {
         self.groups.reserve(more.groups)?;
         self.rows.reserve(more.rows)?;
+        reserve_aside(&mut self.aside, self.rows.capacity(), more.rows)?;
         self.kept.reserve(more.variables)?;
         self.variable_names.reserve(more.variable_names)?;
         self.row_names.reserve(more.row_names)
@@ -130,19 +136,19 @@ impl Catalog {
     /// Puts the contents in, and takes those out that stood there, so that the same exchange then leads back. It takes no memory.
     ///
     /// `names` lists each variable and each row whose name comes, goes or changes, and afterwards the names that were there.
-    pub fn exchange(&mut self, with: &mut Exchange, names: &mut Listing)
+    pub fn exchange(&mut self, with: &mut Exchange, names: &mut NameChanges)
         requires changes { IsExchange with.old }
         requires consistent { IsConsistent (exchanged with.old self.old.model) }
         requires within { IsWithinLimits (exchanged with.old self.old.model) }
-        requires names { Lists names.old self.old.model (exchanged with.old self.old.model) }
+        requires names { AreNameChanges names.old self.old.model (exchanged with.old self.old.model) }
         requires room { HasRoomFor with.old names.old self.old }
         requires spare { HasSpare names.old self.old.room }
         ensures model { self.new.model ≡ exchanged with.old self.old.model }
         ensures contents { contents with.new ≡ standing self.old.model (contents with.old) }
-        ensures standing { ListsStanding self.old.model names.old names.new }
+        ensures standing { HasStandingNames self.old.model names.old names.new }
         ensures changes { IsExchange with.new }
         ensures back { exchanged with.new self.new.model ≡ self.old.model }
-        ensures names { Lists names.new self.new.model self.old.model }
+        ensures names { AreNameChanges names.new self.new.model self.old.model }
         ensures room { HasRoomFor with.new names.new self.new }
         ensures kept { KeepsRoom names.old self.old.room self.new.room }
     {
@@ -152,13 +158,28 @@ impl Catalog {
         exchange_names(&mut self.variable_names, &mut names.variables);
         exchange_names(&mut self.row_names, &mut names.rows);
         exchange_all(&mut self.groups, &mut with.groups);
-        exchange_rows(&mut self.rows, &mut self.kept, &mut with.rows);
+        exchange_rows(
+            &mut self.rows,
+            &mut self.aside,
+            &mut self.kept,
+            &mut with.rows,
+        );
         exchange_objective(&mut self.objective, &mut with.objective);
         mem::swap(&mut self.next, &mut with.next);
         let taken_out = changed_terms(&with.rows);
         self.terms = self.terms + put_in - taken_out - objective_was
             + objective_terms(&self.objective);
     }
+}
+
+// Makes room for all rows to stand aside, where many come.
+fn reserve_aside(aside: &mut Vec<Row>, rows: usize, more: usize) -> Result<(), Memory>
+    ensures { aside.new.items ≡ aside.old.items }
+{
+    if more > 1 {
+        aside.reserve(rows)?;
+    }
+    Ok(())
 }
 
 // Lets another objective, if there is one, change places with the objective.

@@ -3,7 +3,7 @@ ghost use Rattle.std.specs.Prelude.{◌≡◌};
 ghost use Rattle.model_catalog.specs.Exchange.{contents};
 
 use numbered::Change;
-use user_model::{Group, Numbers, Objective, OldGroups, OldRows, Row, Undo};
+use user_model::{Group, NextNumbers, Objective, OldGroups, OldRows, Row, Undo};
 
 /// What is to stand at some numbers of groups and of rows, another objective, and other next numbers: what an undo has, and
 /// what an edit puts in.
@@ -12,7 +12,7 @@ pub struct Exchange {
     pub groups: Vec<Change<Group>>,
     pub rows: Vec<Change<Row>>,
     pub objective: Option<Objective>,
-    pub next: Numbers,
+    pub next: NextNumbers,
 }
 
 impl From<Undo> for Exchange {

@@ -1,8 +1,9 @@
 //! The variables that are kept, as groups and rows come and go.
-ghost use Rattle.std.specs.Prelude.{◌≡◌, ℕ, ◌+◌, ◌<◌, ◌≤◌, ◌^◌, vec_len, length, IsSome, IsNone, IfSome};
+ghost use Rattle.std.specs.Prelude.{◌≡◌, ℕ, ◌+◌, ◌<◌, ◌≤◌, ◌^◌, [], All, vec_len, length, IsSome, IsNone, IfSome};
 ghost use Rattle.std.specs.Vec.{vec_capacity};
 ghost use Rattle.std.specs.Option.{option_copied, option_map};
 ghost use Rattle.numbered.specs.Numbered.{IsAt, Rise, find, set_at};
+ghost use Rattle.numbered.specs.Gap.{with_gap};
 ghost use Rattle.numbered.specs.Changes.{AreChanges, added, olds, set_all};
 ghost use Rattle.user_model.specs.Edited.{row_number};
 ghost use Rattle.user_model.specs.Model.{is_variable, variable_address};
@@ -11,15 +12,15 @@ ghost use Rattle.user_model.specs.Sets as sets;
 ghost use Rattle.model_catalog.specs.Names.{listed_number, put_count};
 ghost use Rattle.model_catalog.specs.Index.{CountsBounds, IsCounted, counted, given_variable, is_number, kept_count, listed_in, recounted, variable_number};
 
-use crate::names::Listed;
+use crate::names::NameChange;
 use crate::variable::Variable;
 use aff_core::{Address, Root};
-use numbered::{Change, exchange, place_of};
+use numbered::{Change, close_gap, exchange, exchange_at_gap, open_gap, place_of};
 use set_core::Set;
 use user_model::{Row, UserFunc};
 
 // Variables that are listed with a name stand from now on, new ones in the group, and those that are listed without don't.
-pub(crate) fn list_variables(kept: &mut Vec<Variable>, group: u32, listed: &[Listed])
+pub(crate) fn list_variables(kept: &mut Vec<Variable>, group: u32, listed: &[NameChange])
     requires rising { Rise variable_number kept.old.items }
     requires listed { Rise listed_number listed.now }
     requires room { vec_len kept.old + put_count listed.now ≤ vec_capacity kept.old }
@@ -33,8 +34,8 @@ pub(crate) fn list_variables(kept: &mut Vec<Variable>, group: u32, listed: &[Lis
     }
 }
 
-// The same for one.
-fn list_variable(kept: &mut Vec<Variable>, group: u32, item: &Listed)
+// One variable.
+fn list_variable(kept: &mut Vec<Variable>, group: u32, item: &NameChange)
     requires rising { Rise variable_number kept.old.items }
     requires room { IsSome item.now.name → vec_len kept.old < vec_capacity kept.old }
     ensures after { kept.new.items ≡ set_at variable_number item.now.number (given_variable group item.now (find variable_number item.now.number kept.old.items)) kept.old.items }
@@ -58,8 +59,39 @@ fn list_variable(kept: &mut Vec<Variable>, group: u32, item: &Listed)
     }
 }
 
-// Lets the content of each change change places with the row at its number, and counts the bounds.
-pub(crate) fn exchange_rows(rows: &mut Vec<Row>, kept: &mut [Variable], changes: &mut [Change<Row>])
+// Lets the content of each change change places with the row at its number, and counts the bounds: where many rows change, in
+// one pass over the rows, for which there is to be room aside.
+pub(crate) fn exchange_rows(
+    rows: &mut Vec<Row>,
+    aside: &mut Vec<Row>,
+    kept: &mut [Variable],
+    changes: &mut [Change<Row>],
+)
+    requires aside { aside.old.items ≡ [] }
+    requires rising { Rise row_number rows.old.items }
+    requires changes { AreChanges row_number changes.old }
+    requires room { vec_len rows.old + added row_number changes.old rows.old.items ≤ vec_capacity rows.old }
+    requires kept { Rise variable_number kept.old }
+    requires counts { CountsBounds rows.old.items kept.old }
+    ensures after { rows.new.items ≡ set_all row_number changes.old rows.old.items }
+    ensures before { changes.new ≡ olds row_number changes.old rows.old.items }
+    ensures rising { Rise row_number rows.new.items }
+    ensures changes { AreChanges row_number changes.new }
+    ensures capacity { vec_capacity rows.old ≤ vec_capacity rows.new }
+    ensures room { vec_len rows.new + added row_number changes.new rows.new.items ≤ vec_capacity rows.new }
+    ensures kept { Rise variable_number kept.new }
+    ensures entries { (n : ℕ) → find variable_number n kept.new ≡ option_map (recounted rows.new.items) (find variable_number n kept.old) }
+    ensures aside { aside.new.items ≡ [] }
+{
+    if changes.len() > 1 && rows.len() <= aside.capacity() {
+        exchange_in_one_pass(rows, aside, kept, changes);
+    } else {
+        exchange_in_turn(rows, kept, changes);
+    }
+}
+
+// Row by row, each found and moved for itself.
+fn exchange_in_turn(rows: &mut Vec<Row>, kept: &mut [Variable], changes: &mut [Change<Row>])
     requires rising { Rise row_number rows.old.items }
     requires changes { AreChanges row_number changes.old }
     requires room { vec_len rows.old + added row_number changes.old rows.old.items ≤ vec_capacity rows.old }
@@ -79,7 +111,72 @@ pub(crate) fn exchange_rows(rows: &mut Vec<Row>, kept: &mut [Variable], changes:
     }
 }
 
-// The same for one.
+// The rows behind the next change stand aside.
+fn exchange_in_one_pass(
+    rows: &mut Vec<Row>,
+    aside: &mut Vec<Row>,
+    kept: &mut [Variable],
+    changes: &mut [Change<Row>],
+)
+    requires aside { aside.old.items ≡ [] }
+    requires aside_room { vec_len rows.old ≤ vec_capacity aside.old }
+    requires rising { Rise row_number rows.old.items }
+    requires changes { AreChanges row_number changes.old }
+    requires room { vec_len rows.old + added row_number changes.old rows.old.items ≤ vec_capacity rows.old }
+    requires kept { Rise variable_number kept.old }
+    requires counts { CountsBounds rows.old.items kept.old }
+    ensures after { rows.new.items ≡ set_all row_number changes.old rows.old.items }
+    ensures before { changes.new ≡ olds row_number changes.old rows.old.items }
+    ensures rising { Rise row_number rows.new.items }
+    ensures changes { AreChanges row_number changes.new }
+    ensures capacity { vec_capacity rows.old ≤ vec_capacity rows.new }
+    ensures room { vec_len rows.new + added row_number changes.new rows.new.items ≤ vec_capacity rows.new }
+    ensures kept { Rise variable_number kept.new }
+    ensures entries { (n : ℕ) → find variable_number n kept.new ≡ option_map (recounted rows.new.items) (find variable_number n kept.old) }
+    ensures aside { aside.new.items ≡ [] }
+{
+    open_gap(rows, aside);
+    for change in changes.iter_mut() {
+        change.content = exchange_row_at_gap(
+            rows,
+            aside,
+            kept,
+            change.number,
+            change.content.take(),
+        );
+    }
+    close_gap(rows, aside);
+}
+
+// One row, where the gap comes before all changes that are left.
+fn exchange_row_at_gap(
+    rows: &mut Vec<Row>,
+    aside: &mut Vec<Row>,
+    kept: &mut [Variable],
+    number: u32,
+    new: Option<Row>,
+) -> Option<Row>
+    requires rising { Rise row_number (with_gap rows.old.items aside.old.items) }
+    requires own { IsAt row_number number new }
+    requires passed { All (λ r. row_number r < number) rows.old.items }
+    requires room { vec_len rows.old + vec_len aside.old ≤ vec_capacity rows.old }
+    requires more { IsSome new → IsNone (find row_number number (with_gap rows.old.items aside.old.items)) → vec_len rows.old + vec_len aside.old < vec_capacity rows.old }
+    requires kept { Rise variable_number kept.old }
+    requires counts { CountsBounds (with_gap rows.old.items aside.old.items) kept.old }
+    ensures before { result ≡ find row_number number (with_gap rows.old.items aside.old.items) }
+    ensures after { with_gap rows.new.items aside.new.items ≡ set_at row_number number new (with_gap rows.old.items aside.old.items) }
+    ensures passed { All (λ r. row_number r ≤ number) rows.new.items }
+    ensures capacity { vec_capacity rows.old ≤ vec_capacity rows.new }
+    ensures kept { Rise variable_number kept.new }
+    ensures entries { (n : ℕ) → find variable_number n kept.new ≡ option_map (recounted (with_gap rows.new.items aside.new.items)) (find variable_number n kept.old) }
+{
+    count_bounds(kept, new.as_ref());
+    let old = exchange_at_gap(rows, aside, number, new);
+    discount_bounds(kept, old.as_ref());
+    old
+}
+
+// One row, found by its number.
 fn exchange_row(
     rows: &mut Vec<Row>,
     kept: &mut [Variable],
@@ -180,17 +277,11 @@ fn variable_at(address: &Address) -> Option<u32>
 fn sets_lower(set: &Set) -> bool
     ensures { result ≡ sets.sets_lower set.now }
 {
-    matches!(
-        set,
-        Set::GreaterThan { .. } | Set::EqualTo { .. } | Set::Interval { .. }
-    )
+    set.lower_bound().is_some()
 }
 
 fn sets_upper(set: &Set) -> bool
     ensures { result ≡ sets.sets_upper set.now }
 {
-    matches!(
-        set,
-        Set::LessThan { .. } | Set::EqualTo { .. } | Set::Interval { .. }
-    )
+    set.upper_bound().is_some()
 }

@@ -13,8 +13,5 @@ mod variable;
 
 pub use catalog::Catalog;
 pub use exchange::Exchange;
-pub use names::{Listed, Listing};
+pub use names::{NameChange, NameChanges};
 pub use room::More;
-
-#[cfg(test)]
-mod tests;

@@ -3,7 +3,7 @@ ghost use Rattle.std.specs.Prelude.{◌≡◌, ◌+◌, ◌<◌, ◌≤◌, ◌=
 ghost use Rattle.std.specs.FinMap.{get};
 ghost use Rattle.name_index.specs.NameTable.{IsFree, IsOneToOne};
 ghost use Rattle.numbered.specs.Numbered.{Rise, find};
-ghost use Rattle.model_catalog.specs.Names.{AreDistinct, listed_as, listed_number, listing_of, name_of, put_aside, put_count, renamed_by, settled, taken_out};
+ghost use Rattle.model_catalog.specs.Names.{AreDistinct, listed_as, listed_number, standing_names, name_of, put_aside, put_count, renamed_by, settled, without_names};
 
 use name_index::{Name, NameTable};
 use numbered::HasNumber;
@@ -11,7 +11,7 @@ use std::mem;
 
 /// What name a variable or a row is to have: one, or none where it isn't to stand any more.
 #[derive(Debug, Drop)]
-pub struct Listed {
+pub struct NameChange {
     pub number: u32,
     pub name: Option<Name>,
     // where the name that is taken out stands until the others are put in
@@ -20,14 +20,14 @@ pub struct Listed {
 
 /// The names that come, go or change, by the numbers of the variables and of the rows, in rising order.
 #[derive(Debug, Drop)]
-pub struct Listing {
+pub struct NameChanges {
     /// The number of the group that the listed variables stand in, before and after.
     pub group: u32,
-    pub variables: Vec<Listed>,
-    pub rows: Vec<Listed>,
+    pub variables: Vec<NameChange>,
+    pub rows: Vec<NameChange>,
 }
 
-impl HasNumber for Listed {
+impl HasNumber for NameChange {
     ghost number_of = { λ listed. listed.number };
 
     fn number(&self) -> u32 {
@@ -35,12 +35,12 @@ impl HasNumber for Listed {
     }
 }
 
-impl Listed {
+impl NameChange {
     /// The name that is to stand at a number, or none.
-    pub fn new(number: u32, name: Option<Name>) -> Listed
+    pub fn new(number: u32, name: Option<Name>) -> NameChange
         ensures { result ≡ listed_as number name }
     {
-        Listed {
+        NameChange {
             number,
             name,
             aside: None,
@@ -50,13 +50,13 @@ impl Listed {
 
 /// Lets each listed name change places with the name at its number in the table. It takes no memory, and no order of the
 /// numbers matters.
-pub(crate) fn exchange_names(table: &mut NameTable, listed: &mut [Listed])
+pub(crate) fn exchange_names(table: &mut NameTable, listed: &mut [NameChange])
     requires one_to_one { IsOneToOne table.old.numbers }
     requires rising { Rise listed_number listed.old }
     requires distinct { AreDistinct (renamed_by listed.old (name_of table.old.numbers)) }
     requires room { put_count listed.old ≤ table.old.spare }
     ensures names { (n : ℕ) → name_of table.new.numbers n ≡ renamed_by listed.old (name_of table.old.numbers) n }
-    ensures listed { listed.new ≡ listing_of (name_of table.old.numbers) listed.old }
+    ensures listed { listed.new ≡ standing_names (name_of table.old.numbers) listed.old }
     ensures spare { table.old.spare ≤ table.new.spare + put_count listed.old }
     ensures one_to_one { IsOneToOne table.new.numbers }
 {
@@ -65,10 +65,10 @@ pub(crate) fn exchange_names(table: &mut NameTable, listed: &mut [Listed])
 }
 
 // Takes the names at the listed numbers out, and puts them aside.
-fn take_names(table: &mut NameTable, listed: &mut [Listed])
+fn take_names(table: &mut NameTable, listed: &mut [NameChange])
     requires one_to_one { IsOneToOne table.old.numbers }
     requires rising { Rise listed_number listed.old }
-    ensures names { (n : ℕ) → name_of table.new.numbers n ≡ taken_out listed.old (name_of table.old.numbers) n }
+    ensures names { (n : ℕ) → name_of table.new.numbers n ≡ without_names listed.old (name_of table.old.numbers) n }
     ensures listed { listed.new ≡ map (put_aside (name_of table.old.numbers)) listed.old }
     ensures spare { table.old.spare ≤ table.new.spare }
     ensures one_to_one { IsOneToOne table.new.numbers }
@@ -79,7 +79,7 @@ fn take_names(table: &mut NameTable, listed: &mut [Listed])
 }
 
 // Puts the listed names in, at numbers that have none.
-fn put_names(table: &mut NameTable, listed: &mut [Listed])
+fn put_names(table: &mut NameTable, listed: &mut [NameChange])
     requires one_to_one { IsOneToOne table.old.numbers }
     requires rising { Rise listed_number listed.old }
     requires free { (n : ℕ) → IsSome (find listed_number n listed.old) → name_of table.old.numbers n ≡ None }

@@ -9,7 +9,7 @@ use Rattle.user_model.specs.declared.objective.Objective.{Objective}
 use Rattle.user_model.specs.declared.row.Row.{Row}
 use Rattle.user_model.specs.Functions.{all_terms}
 use Rattle.user_model.specs.Limits.{ALL_TERMS}
-use Rattle.user_model.specs.Model.{UserModel, group_of, is_variable, row_named, total_terms, variable_named}
+use Rattle.user_model.specs.Model.{ModelValue, group_of, is_variable, row_named, total_terms, variable_named}
 use Rattle.user_model.specs.Edited.{change_group, change_row, delete_row, on_affine, on_output, with_variable}
 use Rattle.user_model.specs.Consistent.{IsConsistent, IsWithinLimits}
 use Rattle.model_laws.specs.Changed.{change_group-found, change_row-found, delete_row-found, with_variable-found}
@@ -30,7 +30,7 @@ output_bounds output h n (Affine f) = refl
 output_bounds output h n (PlainVec vars) = refl
 output_bounds output h n (AffineVec fs) = refl
 
-module _ (model : UserModel) (c : IsConsistent model) where
+module _ (model : ModelValue) (c : IsConsistent model) where
   -- a row that is found by name
   module _ (name : List ℕ) (row : Row) (found : row_named model name ≡ Some row) where
     -- changes of its function that leave it on the variable it is on
@@ -61,11 +61,11 @@ module _ (model : UserModel) (c : IsConsistent model) where
   -- a variable that is found by name
   module _ (name : List ℕ) (n : ℕ) (found : variable_named model name ≡ Some n) where
     -- what holds of the model that its number gives
-    pub of_number : (P : UserModel → Type 0) (h : ℕ → UserModel) → P (h n) → P (with_variable model name h)
+    pub of_number : (P : ModelValue → Type 0) (h : ℕ → ModelValue) → P (h n) → P (with_variable model name h)
     of_number P h = subst P (sym (with_variable-found model name h n found))
 
     -- what holds of the model with its group changed
-    pub of_group : (P : UserModel → Type 0) (h : Group → Group) → ((group : Group) → group_of model n ≡ Some group → P (change_group model n h)) → P (change_group model n h)
+    pub of_group : (P : ModelValue → Type 0) (h : Group → Group) → ((group : Group) → group_of model n ≡ Some group → P (change_group model n h)) → P (change_group model n h)
     of_group P h each = let there = something (group_of model n) (named_stands model name n found) in each there.0 there.1
 
     pub consistent_group : (h : Group → Group) → ((group : Group) → (h group).id ≡ group.id) → ((group : Group) → (h group).vars ≡ group.vars) → IsConsistent (change_group model n h)
@@ -92,7 +92,7 @@ module _ (model : UserModel) (c : IsConsistent model) where
     bounds = c.bounds;
   }
 
-pub within_objective : (model : UserModel) (o : Objective) → IsWithinLimits model → total_terms (record model { objective = o }) ≤ ALL_TERMS → IsWithinLimits (record model { objective = o })
+pub within_objective : (model : ModelValue) (o : Objective) → IsWithinLimits model → total_terms (record model { objective = o }) ≤ ALL_TERMS → IsWithinLimits (record model { objective = o })
 within_objective model o w terms = record {
   variables = w.variables;
   rows = w.rows;

@@ -11,9 +11,9 @@ use Rattle.user_model.specs.declared.group.Group.{Group}
 use Rattle.user_model.specs.declared.objective.Objective.{Objective}
 use Rattle.user_model.specs.declared.objective.Objective.TheVariants as objective
 use Rattle.user_model.specs.declared.row.Row.{Row}
-use Rattle.user_model.specs.declared.undo.Numbers.{Numbers}
+use Rattle.user_model.specs.declared.undo.NextNumbers.{NextNumbers}
 use Rattle.user_model.specs.declared.undo.Undo.{Undo}
-use Rattle.user_model.specs.Model.{UserModel, address_named, group_of, row_named, variable_address, variable_named}
+use Rattle.user_model.specs.Model.{ModelValue, address_named, group_of, row_named, variable_address, variable_named}
 use Rattle.user_model.specs.Deletion.{objective_without, without_variable}
 use Rattle.user_model.specs.Edited.{change_group, change_row, delete_row, edited, group_number, objective_of, on_affine, on_objective, on_output, renamed, row_number, with_constant, with_variable}
 use Rattle.user_model.specs.Refusals.{first_refusal}
@@ -25,46 +25,21 @@ use Rattle.model_laws.specs.Planned.{group_changes, row_changes}
 use Rattle.model_laws.specs.PlannedLaws.{groups_changed, rows_changed}
 
 -- the objective after the edit
-unfoldable pub objective_after : UserModel → Edit → Objective
-objective_after model (edit.AddGroup names set) = model.objective
-objective_after model (edit.AddRow name func set) = model.objective
+unfoldable pub objective_after : ModelValue → Edit → Objective
 objective_after model (edit.Objective sense func) = objective_of model sense func
 objective_after model edit.Feasibility = objective.Feasibility
-objective_after model (edit.Coef row var value) = model.objective
-objective_after model (edit.VecCoef row output var value) = model.objective
 objective_after model (edit.ObjCoef var value) = on_objective (λ f. with_coefficient f (address_named model var) value) model.objective
-objective_after model (edit.Constant row value) = model.objective
-objective_after model (edit.VecConstant row output value) = model.objective
 objective_after model (edit.ObjConstant value) = on_objective (λ f. with_constant f value) model.objective
-objective_after model (edit.RowSet row set) = model.objective
-objective_after model (edit.Reset var set) = model.objective
-objective_after model (edit.FreeGroup var) = model.objective
 objective_after model (edit.DeleteVariable var) = option_map_or (λ n. objective_without (variable_address n) model.objective) (variable_named model var) model.objective
-objective_after model (edit.DeleteRow row) = model.objective
-objective_after model (edit.RenameVariable old new) = model.objective
-objective_after model (edit.RenameRow old new) = model.objective
+objective_after model _ = model.objective
 
 -- the next numbers after the edit
-unfoldable pub next_after : UserModel → Edit → Numbers
+unfoldable pub next_after : ModelValue → Edit → NextNumbers
 next_after model (edit.AddGroup names set) = record model.next { group = model.next.group + 1; variable = model.next.variable + length names }
 next_after model (edit.AddRow name func set) = record model.next { row = model.next.row + 1 }
-next_after model (edit.Objective sense func) = model.next
-next_after model edit.Feasibility = model.next
-next_after model (edit.Coef row var value) = model.next
-next_after model (edit.VecCoef row output var value) = model.next
-next_after model (edit.ObjCoef var value) = model.next
-next_after model (edit.Constant row value) = model.next
-next_after model (edit.VecConstant row output value) = model.next
-next_after model (edit.ObjConstant value) = model.next
-next_after model (edit.RowSet row set) = model.next
-next_after model (edit.Reset var set) = model.next
-next_after model (edit.FreeGroup var) = model.next
-next_after model (edit.DeleteVariable var) = model.next
-next_after model (edit.DeleteRow row) = model.next
-next_after model (edit.RenameVariable old new) = model.next
-next_after model (edit.RenameRow old new) = model.next
+next_after model _ = model.next
 
-module _ (model : UserModel) where
+module _ (model : ModelValue) where
   -- changes by name of rows and groups leave the rest
   row_rest : (name : List ℕ) (h : Row → Row) → ((change_row model name h).objective ≡ model.objective) × ((change_row model name h).next ≡ model.next)
   row_rest name h = from (row_named model name) refl
@@ -87,7 +62,7 @@ module _ (model : UserModel) where
       from None e = rw e (refl, refl)
       from (Some group) e = rw e (refl, refl)
 
-  variable_rest : (name : List ℕ) (h : ℕ → UserModel) → ((n : ℕ) → ((h n).objective ≡ model.objective) × ((h n).next ≡ model.next)) → ((with_variable model name h).objective ≡ model.objective) × ((with_variable model name h).next ≡ model.next)
+  variable_rest : (name : List ℕ) (h : ℕ → ModelValue) → ((n : ℕ) → ((h n).objective ≡ model.objective) × ((h n).next ≡ model.next)) → ((with_variable model name h).objective ≡ model.objective) × ((with_variable model name h).next ≡ model.next)
   variable_rest name h each = from (variable_named model name) refl
     where
       from : (o : Option ℕ) → variable_named model name ≡ o → ((with_variable model name h).objective ≡ model.objective) × ((with_variable model name h).next ≡ model.next)

@@ -16,7 +16,7 @@ use Rattle.user_model.specs.declared.group.Group.{Group}
 use Rattle.user_model.specs.declared.group.GroupVar.{GroupVar}
 use Rattle.user_model.specs.declared.row.Row.{Row}
 use Rattle.user_model.specs.Limits.{ALL_TERMS, LAST_NUMBER, ROWS, VARIABLES}
-use Rattle.user_model.specs.Model.{UserModel, group_of, has_variable, is_variable, total_terms, variables}
+use Rattle.user_model.specs.Model.{ModelValue, group_of, has_variable, is_variable, total_terms, variables}
 use Rattle.user_model.specs.Edited.{add_group, add_row, group_number, numbered_from, row_number}
 use Rattle.user_model.specs.Refusals.{has_row_named, has_twins, has_variable_named}
 use Rattle.user_model.specs.Consistent.{IsConsistent, IsWithinLimits, variable_number}
@@ -26,7 +26,7 @@ use Rattle.model_laws.specs.Variables.{group_found, vars_in}
 use Rattle.model_laws.specs.Numbering.{numbered_below, numbered_distinct, numbered_from_on, numbered_length, numbered_names, numbered_rise}
 use Rattle.model_laws.specs.Located.{free_row, free_variable}
 
-module _ (model : UserModel) (names : List (List ℕ)) (set : Set) where
+module _ (model : ModelValue) (names : List (List ℕ)) (set : Set) where
   -- the new variables, and their group
   abbrev pub new_vars : List GroupVar
   new_vars = numbered_from model.next.variable names
@@ -71,7 +71,7 @@ module _ (model : UserModel) (names : List (List ℕ)) (set : Set) where
     row_numbers = w.row_numbers;
   }
 
-module _ (model : UserModel) (name : List ℕ) (func : UserFunc) (set : Set) where
+module _ (model : ModelValue) (name : List ℕ) (func : UserFunc) (set : Set) where
   abbrev pub new_row : Row
   new_row = record { id = model.next.row; name = name; func = func; set = set }
 

@@ -8,10 +8,10 @@ use Rattle.set_core.specs.declared.set.Set.TheVariants.{Reals}
 use Rattle.user_model.specs.declared.edit.Edit.{Edit}
 use Rattle.user_model.specs.declared.edit.Edit.TheVariants as edit
 use Rattle.user_model.specs.declared.objective.Objective.TheVariants as objective
-use Rattle.user_model.specs.Model.{UserModel, address_named, variable_named}
+use Rattle.user_model.specs.Model.{ModelValue, address_named, variable_named}
 use Rattle.user_model.specs.Deletion.{without_variable}
 use Rattle.user_model.specs.Edited.{change_group, edited, located, objective_of, on_affine, on_objective, on_output, renamed, with_constant}
-use Rattle.user_model.specs.Refusals.{first_refusal, has_twins, has_variable_named, is_unknown, is_taken}
+use Rattle.user_model.specs.Refusals.{first_refusal, has_twins, has_variable_named, meets_unknown_name, meets_name_taken}
 use Rattle.user_model.specs.Consistent.{IsConsistent}
 use Rattle.model_laws.specs.Passed.{passed}
 use Rattle.model_laws.specs.Located.{free_row, free_variable, variable_located}
@@ -22,14 +22,14 @@ use Rattle.model_laws.specs.KeptAdditions.{kept_add_group, kept_add_row}
 use Rattle.model_laws.specs.Needed.{located_stands, needed_row_there, needed_variable}
 use Rattle.model_laws.specs.ByName.{affine_bounds, consistent_delete, consistent_group, consistent_objective, consistent_row, function_change, of_group, of_number, output_bounds}
 
-module _ (model : UserModel) (c : IsConsistent model) where
+module _ (model : ModelValue) (c : IsConsistent model) where
   consistent_rename : (name new : List ℕ) (n : ℕ) → variable_named model name ≡ Some n → has_variable_named model new ≡ false → IsConsistent (change_group model n (λ g. record g { vars = map (renamed n new) g.vars }))
   consistent_rename name new n at free =
       of_group model c name n at IsConsistent (λ g. record g { vars = map (renamed n new) g.vars }) (λ group found.
       let var = variable_located model name n group c at found in
       subst IsConsistent (sym (change_group-found model n (λ g. record g { vars = map (renamed n new) g.vars }) group found)) (kept_renamed model c group var.1.by_number n new var.0 var.1.there var.1.number (free_variable model new free)))
 
-  kept_by : (e : Edit) → is_unknown model e ≡ false → is_taken model e ≡ false → IsConsistent (edited model e)
+  kept_by : (e : Edit) → meets_unknown_name model e ≡ false → meets_name_taken model e ≡ false → IsConsistent (edited model e)
   unfolding edited
   kept_by (edit.AddGroup names set) known free =
       let parts = or_parts (list_any (has_variable_named model) names) (has_twins names) free in
@@ -78,5 +78,5 @@ module _ (model : UserModel) (c : IsConsistent model) where
       let at = needed_row_there model (edit.RenameRow old new) old refl known in
       consistent_row model c old at.0 at.1 (λ r. record r { name = new }) (record { id = refl; named = inr (free_row model new free); bounds = λ n e. e })
 
-pub kept_consistent : (model : UserModel) (e : Edit) → IsConsistent model → first_refusal model e ≡ None → IsConsistent (edited model e)
+pub kept_consistent : (model : ModelValue) (e : Edit) → IsConsistent model → first_refusal model e ≡ None → IsConsistent (edited model e)
 kept_consistent model e c none = let p = passed model e none in kept_by model c e p.known p.free

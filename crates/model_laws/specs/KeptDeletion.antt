@@ -14,7 +14,7 @@ use Rattle.user_model.specs.declared.row.Row.{Row}
 use Rattle.user_model.specs.declared.objective.Objective.{Objective}
 use Rattle.user_model.specs.declared.objective.Objective.TheVariants as objective
 use Rattle.user_model.specs.Functions.{all_terms}
-use Rattle.user_model.specs.Model.{UserModel, group_of, has_variable, is_variable, objective_terms, variable_address, variables}
+use Rattle.user_model.specs.Model.{ModelValue, group_of, has_variable, is_variable, objective_terms, variable_address, variables}
 use Rattle.user_model.specs.Edited.{group_number, row_number}
 use Rattle.user_model.specs.Deletion.{group_without, objective_without, row_without, without_variable}
 use Rattle.user_model.specs.Consistent.{IsConsistent, IsWithinLimits, variable_number}
@@ -29,7 +29,7 @@ pub row_keeps_number : (at : Address) → KeepsNumbers row_number (row_without a
 row_keeps_number at = record { keeps = λ row. IfSome_then (row_without at row) (row_without_is at row) (λ left h. h.id) }
 
 -- a list of edited items has no greater sum, and is no longer
-sum_filter_map : {X : Type 0} (f : X → ℕ) (g : X → Option X) (xs : List X) → ((x : X) → IfSome (g x) (λ y. f y ≤ f x)) → sum_by f (filter_map g xs) ≤ sum_by f xs
+pub sum_filter_map : {X : Type 0} (f : X → ℕ) (g : X → Option X) (xs : List X) → ((x : X) → IfSome (g x) (λ y. f y ≤ f x)) → sum_by f (filter_map g xs) ≤ sum_by f xs
 sum_filter_map f g [] each = omega arith
 sum_filter_map {X = X} f g (x ∷ xs) each = first (g x) (each x) (sum_filter_map f g xs each)
   where
@@ -51,7 +51,7 @@ objective_without_terms at (objective.Plain sense var) =
     elim (address_eq at var) as (λ b. objective_terms (cond b objective.Feasibility (objective.Plain sense var)) ≤ 0) [ true ↦ omega arith | false ↦ omega arith ]
 objective_without_terms at (objective.Affine sense f) = terms_without at f
 
-module _ (model : UserModel) (n : ℕ) (c : IsConsistent model) where
+module _ (model : ModelValue) (n : ℕ) (c : IsConsistent model) where
   -- a row that is left is on a variable that is left
   bounds_left : (m : ℕ) (row : Row) → (is_variable m row.func ≡ true → IsSome (group_of model m)) → IfSome (row_without (variable_address n) row) (λ r. is_variable m r.func ≡ true → IsSome (find (has_variable m) (filter_map (group_without n) model.groups)))
   bounds_left m row stands =

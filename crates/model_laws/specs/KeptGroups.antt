@@ -10,7 +10,7 @@ use Rattle.numbered.specs.Laws.{Contains-found}
 use Rattle.numbered.specs.SetLaws.{Rise-set_at}
 use Rattle.user_model.specs.declared.group.Group.{Group}
 use Rattle.user_model.specs.declared.group.GroupVar.{GroupVar}
-use Rattle.user_model.specs.Model.{UserModel, group_of, has_variable, is_variable, variables}
+use Rattle.user_model.specs.Model.{ModelValue, group_of, has_variable, is_variable, variables}
 use Rattle.user_model.specs.Edited.{group_number, renamed}
 use Rattle.user_model.specs.Consistent.{IsConsistent, IsWithinLimits, variable_number}
 use Rattle.model_laws.specs.Replaced.{All-put}
@@ -18,11 +18,11 @@ use Rattle.model_laws.specs.Variables.{group_found, vars_in, vars_renamed, vars_
 use Rattle.model_laws.specs.Renamed.{renamed_below, renamed_distinct, renamed_rise, renamed_stands}
 
 -- each variable that stands in a row stands in the groups
-pub stand_on : (model : UserModel) (groups : List Group) → IsConsistent model → ((n : ℕ) → list_any (λ v. v.number == n) (vars_in groups) ≡ list_any (λ v. v.number == n) (variables model)) → (n : ℕ) → All (λ r. is_variable n r.func ≡ true → IsSome (find (has_variable n) groups)) model.rows
+pub stand_on : (model : ModelValue) (groups : List Group) → IsConsistent model → ((n : ℕ) → list_any (λ v. v.number == n) (vars_in groups) ≡ list_any (λ v. v.number == n) (variables model)) → (n : ℕ) → All (λ r. is_variable n r.func ≡ true → IsSome (find (has_variable n) groups)) model.rows
 stand_on model groups c same n =
     All-weaker (λ r. is_variable n r.func ≡ true → IsSome (group_of model n)) (λ r. is_variable n r.func ≡ true → IsSome (find (has_variable n) groups)) (λ r h e. group_found n groups ∙ (same n ∙ (sym (group_found n model.groups) ∙ h e))) model.rows (c.bounds n)
 
-module _ (model : UserModel) (c : IsConsistent model) where
+module _ (model : ModelValue) (c : IsConsistent model) where
   -- the groups alone change, with other variables of the same numbers
   pub kept_groups : (groups : List Group) (vars : List GroupVar) → vars_in groups ≡ vars → Rise group_number groups → All (λ g. g.id < model.next.group) groups → Rise variable_number vars → All (λ v. v.number < model.next.variable) vars → AllPairs (λ v w. v.name ≢ w.name) vars → ((n : ℕ) → list_any (λ v. v.number == n) vars ≡ list_any (λ v. v.number == n) (variables model)) → IsConsistent (record model { groups = groups })
   kept_groups groups vars is rise given vars_rise vars_given names same = record {

@@ -8,23 +8,23 @@ use Rattle.numbered.specs.SetLaws.{Rise-set_at}
 use Rattle.user_model.specs.declared.row.Row.{Row}
 use Rattle.user_model.specs.Functions.{all_terms}
 use Rattle.user_model.specs.Limits.{ALL_TERMS, ROWS}
-use Rattle.user_model.specs.Model.{UserModel, group_of, is_variable, total_terms}
+use Rattle.user_model.specs.Model.{ModelValue, group_of, is_variable, total_terms}
 use Rattle.user_model.specs.Edited.{row_number}
 use Rattle.user_model.specs.Consistent.{IsConsistent, IsWithinLimits}
 use Rattle.model_laws.specs.Pairs.{distinct-replaced}
 use Rattle.model_laws.specs.Replaced.{All-put, All-without, AllPairs-without, replaced, sum_put, length_put, sum_without, length_without}
 
 -- the rows are on variables that stand
-abbrev pub BoundsStand : UserModel → List Row → Type 0
+abbrev pub BoundsStand : ModelValue → List Row → Type 0
 BoundsStand model rows = (n : ℕ) → All (λ r. is_variable n r.func ≡ true → IsSome (group_of model n)) rows
 
 -- a row that may take another's place: its number stays, its name stays or is free, and it is on no other variable
-pub record IsRowChange (model : UserModel) (old new : Row) : Type 0 where
+pub record IsRowChange (model : ModelValue) (old new : Row) : Type 0 where
   pub id : new.id ≡ old.id
   pub named : (new.name ≡ old.name) ⊎ All (λ r. r.name ≢ new.name) model.rows
   pub bounds : (n : ℕ) → is_variable n new.func ≡ true → is_variable n old.func ≡ true
 
-module _ (model : UserModel) (c : IsConsistent model) where
+module _ (model : ModelValue) (c : IsConsistent model) where
   -- the rows alone change
   pub kept_rows : (rows : List Row) → Rise row_number rows → All (λ r. r.id < model.next.row) rows → AllPairs (λ r s. r.name ≢ s.name) rows → BoundsStand model rows → IsConsistent (record model { rows = rows })
   kept_rows rows rise given names bounds = record {

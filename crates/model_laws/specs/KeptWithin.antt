@@ -9,10 +9,10 @@ use Rattle.user_model.specs.declared.edit.Edit.TheVariants as edit
 use Rattle.user_model.specs.declared.objective.Objective.TheVariants as objective
 use Rattle.user_model.specs.Functions.{named_components, term_counts}
 use Rattle.user_model.specs.Limits.{TERMS}
-use Rattle.user_model.specs.Model.{UserModel, address_named, variable_named}
+use Rattle.user_model.specs.Model.{ModelValue, address_named, variable_named}
 use Rattle.user_model.specs.Deletion.{without_variable}
 use Rattle.user_model.specs.Edited.{change_group, edited, located, objective_of, on_affine, on_objective, on_output, renamed, with_constant}
-use Rattle.user_model.specs.Refusals.{counts, first_refusal, is_unknown, is_taken, terms_of_objective, terms_of_row, within}
+use Rattle.user_model.specs.Refusals.{counts, first_refusal, meets_unknown_name, meets_name_taken, terms_of_objective, terms_of_row, within}
 use Rattle.user_model.specs.Consistent.{IsConsistent, IsWithinLimits}
 use Rattle.model_laws.specs.Pairs.{All-right}
 use Rattle.model_laws.specs.Passed.{passed}
@@ -32,14 +32,14 @@ IsLimited c = c.0 ≤ c.1
 after_terms : (terms : List ℕ) (count : ℕ × ℕ) (others : List (ℕ × ℕ)) → All IsLimited (within TERMS terms ++ count ∷ others) → IsLimited count
 after_terms terms count others h = All-head IsLimited count others (All-right IsLimited (within TERMS terms) (count ∷ others) h)
 
-module _ (model : UserModel) (c : IsConsistent model) (w : IsWithinLimits model) where
+module _ (model : ModelValue) (c : IsConsistent model) (w : IsWithinLimits model) where
   within_rename : (name new : List ℕ) (n : ℕ) → variable_named model name ≡ Some n → IsWithinLimits (change_group model n (λ g. record g { vars = map (renamed n new) g.vars }))
   within_rename name new n at =
       of_group model c name n at IsWithinLimits (λ g. record g { vars = map (renamed n new) g.vars }) (λ group found.
       let var = variable_located model name n group c at found in
       subst IsWithinLimits (sym (change_group-found model n (λ g. record g { vars = map (renamed n new) g.vars }) group found)) (renamed_within model c group var.1.by_number n new var.0 var.1.there var.1.number w))
 
-  within_by : (e : Edit) → is_unknown model e ≡ false → is_taken model e ≡ false → All IsLimited (counts model e) → IsWithinLimits (edited model e)
+  within_by : (e : Edit) → meets_unknown_name model e ≡ false → meets_name_taken model e ≡ false → All IsLimited (counts model e) → IsWithinLimits (edited model e)
   unfolding edited
   within_by (edit.AddGroup names set) known free counted =
       add_group_within model names set w (counted 1 (0, 0) (omega arith)) (counted 2 (0, 0) (omega arith)) (counted 3 (0, 0) (omega arith))
@@ -91,5 +91,5 @@ module _ (model : UserModel) (c : IsConsistent model) (w : IsWithinLimits model)
       let at = needed_row_there model (edit.RenameRow old new) old refl known in
       within_less model c old at.0 at.1 (λ r. record r { name = new }) (record { id = refl; named = inr (free_row model new free); bounds = λ n e. e }) w (omega arith)
 
-pub kept_within : (model : UserModel) (e : Edit) → IsConsistent model → IsWithinLimits model → first_refusal model e ≡ None → IsWithinLimits (edited model e)
+pub kept_within : (model : ModelValue) (e : Edit) → IsConsistent model → IsWithinLimits model → first_refusal model e ≡ None → IsWithinLimits (edited model e)
 kept_within model e c w none = let p = passed model e none in within_by model c w e p.known p.free p.counted

@@ -19,7 +19,7 @@ pub mod Needed
 pub mod ByName
 pub mod KeptConsistent
 pub mod KeptWithin
-pub mod Listed
+pub mod ItemChanges
 pub mod Mentions
 pub mod Coefficients
 pub mod DeletedGroup
@@ -29,3 +29,11 @@ pub mod Undoing
 pub mod Shapes
 pub mod Exchanged
 pub mod Empty
+pub mod Standing
+pub mod SingleBounds
+pub mod PartsLeft
+pub mod KeptParts
+pub mod ChangedRow
+pub mod KeptShapes
+pub mod KeptValid
+pub mod DistinctTerms

@@ -14,7 +14,7 @@ use Rattle.aff_core.specs.Address.{address_eq, address_eq-Decides}
 use Rattle.user_model.specs.declared.group.Group.{Group}
 use Rattle.user_model.specs.declared.group.GroupVar.{GroupVar}
 use Rattle.user_model.specs.declared.row.Row.{Row}
-use Rattle.user_model.specs.Model.{UserModel, address_named, group_of, has_variable, row_named, variable_address, variable_named, variables}
+use Rattle.user_model.specs.Model.{ModelValue, address_named, group_of, has_variable, row_named, variable_address, variable_named, variables}
 use Rattle.user_model.specs.Edited.{group_number, row_number}
 use Rattle.user_model.specs.Consistent.{IsConsistent, variable_number}
 use Rattle.user_model.specs.Refusals.{has_row_named, has_variable_named}
@@ -22,7 +22,7 @@ use Rattle.model_laws.specs.Found.{found_passes, found_stands, is_some-find, is_
 use Rattle.model_laws.specs.Variables.{group_found}
 
 -- the variable with a number and a name, in its group
-pub record IsVariableOf (model : UserModel) (n : ℕ) (name : List ℕ) (group : Group) (var : GroupVar) : Type 0 where
+pub record IsVariableOf (model : ModelValue) (n : ℕ) (name : List ℕ) (group : Group) (var : GroupVar) : Type 0 where
   pub found : group_of model n ≡ Some group
   pub by_number : numbered.find group_number group.id model.groups ≡ Some group
   pub there : Contains group.vars var
@@ -38,7 +38,7 @@ stands_in_joined {X = X} {Y = Y} f xs x y at there = from xs at.0 at.1 at.2
     from (z ∷ zs) zero lt e = Contains-append_left (f z) (flat_map f zs) y (subst (λ w. Contains (f w) y) (sym e) there)
     from (z ∷ zs) (suc k) lt e = Contains-append_right (f z) (flat_map f zs) y (from zs k (omega arith) e)
 
-module _ (model : UserModel) where
+module _ (model : ModelValue) where
   -- a row is found by its name and by its number
   pub row_by_number : (name : List ℕ) (row : Row) → IsConsistent model → row_named model name ≡ Some row → numbered.find row_number row.id model.rows ≡ Some row
   row_by_number name row c e = stands_found row_number model.rows row c.rows_rise (found_stands (λ r. bytes_eq r.name name) model.rows row e)

@@ -1,16 +1,16 @@
 -- A row, a group and an objective without a variable differ from what they were exactly where they mention it.
-use Rattle.std.specs.Prelude.{◌≡◌, ◌≢◌, ℕ, ◌==◌, Bool, true, false, ◌||◌, not, cond, List, [], ◌∷◌, Option, Some, None, IfSome, filter, is_some, map, refl}
+use Rattle.std.specs.Prelude.{◌≡◌, ◌≢◌, ℕ, ◌==◌, Bool, true, false, ◌||◌, not, cond, List, [], ◌∷◌, Option, Some, None, IfSome, filter, is_some, map, unwrap_or, refl}
 use Rattle.std.specs.List.{list_any}
 use Rattle.std.specs.FinMap as finite
-use Rattle.std.specs.FinMap.{FinMap}
 use Rattle.std.proofs.Common.{sym, ap, ap₂, subst, inl, inr, ◌∙◌}
 use Rattle.std.proofs.lemmas.Bool.{both_ways, cases_Bool, not-true, or_parts}
 use Rattle.std.proofs.lemmas.List.Elements.{filter_passes, All-weaker}
 use Rattle.std.proofs.lemmas.List.Folds.{list_any_none}
-use Rattle.ratio_core.specs.Rational.{Rational, zero_ℚ}
-use Rattle.ratio_core.specs.RationalLaws.{eq_rational_eq}
-use Rattle.aff_core.specs.Address.{Address, address_cmp, address_eq, address_eq-Decides, address_total, exact_addresses}
-use Rattle.aff_core.specs.Function.{Function, with_coefficient}
+use Rattle.ratio_core.specs.Rational.{zero_ℚ}
+use Rattle.aff_core.specs.Address.{Address, address_eq, address_eq-Decides, address_total}
+use Rattle.aff_core.specs.Function.{Function}
+use Rattle.aff_core.specs.FunctionLaws.{same_coefficient}
+use Rattle.aff_core.specs.KeyOrder.{address_order}
 use Rattle.set_core.specs.declared.set.Set.{Set}
 use Rattle.user_model.specs.declared.function.UserFunc.{UserFunc}
 use Rattle.user_model.specs.declared.function.UserFunc.TheVariants.{Plain, Affine, PlainVec, AffineVec}
@@ -19,50 +19,21 @@ use Rattle.user_model.specs.declared.group.GroupVar.{GroupVar}
 use Rattle.user_model.specs.declared.objective.Objective.{Objective}
 use Rattle.user_model.specs.declared.objective.Objective.TheVariants as objective
 use Rattle.user_model.specs.declared.row.Row.{Row}
-use Rattle.user_model.specs.Model.{has_variable}
+use Rattle.user_model.specs.Functions.{func_mentions, has_term}
+use Rattle.user_model.specs.Model.{has_variable, objective_mentions, row_mentions}
 use Rattle.user_model.specs.Deletion.{group_without, objective_without, row_without, unless_empty, without_address, without_term}
 use Rattle.model_laws.specs.RowWithout.{row_of}
 use Rattle.model_laws.specs.GroupWithout.{others}
-
--- the function has a term of the address
-abbrev pub has_term : Address → Function → Bool
-has_term at f = finite.contains_key f.terms at
-
--- the function has the address as a component or in a term
-abbrev pub func_mentions : Address → UserFunc → Bool
-func_mentions at (Plain var) = address_eq at var
-func_mentions at (Affine f) = has_term at f
-func_mentions at (PlainVec vars) = list_any (address_eq at) vars
-func_mentions at (AffineVec fs) = list_any (has_term at) fs
-
-abbrev pub row_mentions : Address → Row → Bool
-row_mentions at row = func_mentions at row.func
-
-abbrev pub objective_mentions : Address → Objective → Bool
-objective_mentions at objective.Feasibility = false
-objective_mentions at (objective.Plain sense var) = address_eq at var
-objective_mentions at (objective.Affine sense f) = has_term at f
+use Rattle.model_laws.specs.Terms.{terms_left}
 
 -- ---- a function without a term
-
-remove_absent : (m : FinMap address_cmp Rational) (at : Address) → finite.get m at ≡ None → finite.remove m at ≡ m
-remove_absent m at none =
-    finite.same_map address_total exact_addresses (finite.remove m at) m (λ q. finite.get-remove address_total m at q ∙ elim (cases_Bool (address_eq q at)) [
-      | inl same ↦ ap (λ b. cond b None (finite.get m q)) same ∙ (sym none ∙ ap (finite.get m) (sym ((address_eq-Decides q at).0 same)))
-      | inr other ↦ ap (λ b. cond b None (finite.get m q)) other
-    ])
 
 nothing : {X : Type 0} (o : Option X) → is_some o ≡ false → o ≡ None
 nothing None e = refl
 nothing (Some x) e = absurd (both_ways true e refl)
 
-terms_left : (at : Address) (f : Function) → (without_term at f).terms ≡ finite.remove f.terms at
-unfolding with_coefficient
-terms_left at f = ap (λ b. cond b (finite.remove f.terms at) (finite.insert f.terms at zero_ℚ)) (eq_rational_eq zero_ℚ zero_ℚ refl)
-
 pub without_unmentioned : (at : Address) (f : Function) → has_term at f ≡ false → without_term at f ≡ f
-unfolding with_coefficient
-without_unmentioned at f e = ap (λ m. record f { terms = m }) (terms_left at f ∙ remove_absent f.terms at (nothing (finite.get f.terms at) e))
+without_unmentioned at f e = same_coefficient address_order f at zero_ℚ (ap (λ o. unwrap_or o zero_ℚ) (nothing (finite.get f.terms at) e))
 
 pub without_mentions_none : (at : Address) (f : Function) → has_term at (without_term at f) ≡ false
 without_mentions_none at f =

@@ -1,21 +1,24 @@
 -- The rows and variables that an edit needs are there, where no name is unknown.
-use Rattle.std.specs.Prelude.{◌≡◌, ℕ, Bool, true, false, not, List, [], ◌∷◌, Some, IsSome, refl}
+use Rattle.std.specs.Prelude.{◌≡◌, ℕ, zero, suc, Bool, true, false, not, List, [], ◌∷◌, Some, IsSome, slice_get, refl}
 use Rattle.std.specs.List.{list_any}
 use Rattle.std.specs.Option.{option_map_or}
-use Rattle.std.proofs.Common.{subst}
+use Rattle.std.proofs.Common.{sym, subst, ◌∙◌}
 use Rattle.std.proofs.lemmas.Bool.{both_ways, not-false, or_parts}
+use Rattle.std.proofs.lemmas.Option.{same_Some}
+use Rattle.std.proofs.lemmas.List.Folds.{list_any-append}
+use Rattle.named_aff.specs.declared.aff.NamedAff.{NamedAff}
 use Rattle.user_model.specs.declared.edit.Edit.{Edit}
 use Rattle.user_model.specs.declared.edit.NamedFunc.{NamedFunc}
 use Rattle.user_model.specs.declared.edit.NamedFunc.TheVariants as named
 use Rattle.user_model.specs.declared.row.Row.{Row}
-use Rattle.user_model.specs.Model.{UserModel, group_of, is_variable, row_named, variable_named}
-use Rattle.user_model.specs.Functions.{mentioned}
+use Rattle.user_model.specs.Model.{ModelValue, group_of, is_variable, row_named, variable_named}
+use Rattle.user_model.specs.Functions.{mentioned, names_of}
 use Rattle.user_model.specs.Edited.{located}
-use Rattle.user_model.specs.Refusals.{has_row_named, has_variable_named, is_unknown, needed_row, needed_variables}
+use Rattle.user_model.specs.Refusals.{IsKnown, has_row_named, has_variable_named, meets_unknown_name, needed_row, needed_variables}
 use Rattle.model_laws.specs.Found.{something}
 use Rattle.model_laws.specs.Located.{address_stands}
 
-module _ (model : UserModel) where
+module _ (model : ModelValue) where
   -- no variable has the name
   abbrev pub unknown : List ℕ → Bool
   unknown name = not (has_variable_named model name)
@@ -24,12 +27,12 @@ module _ (model : UserModel) where
   first_known name names e = something (variable_named model name) (not-false (has_variable_named model name) (or_parts (unknown name) (list_any unknown names) e).0)
 
   -- the first variable that the edit needs
-  pub needed_variable : (e : Edit) (name : List ℕ) (names : List (List ℕ)) → needed_variables e ≡ name ∷ names → is_unknown model e ≡ false → (n : ℕ) × (variable_named model name ≡ Some n)
+  pub needed_variable : (e : Edit) (name : List ℕ) (names : List (List ℕ)) → needed_variables e ≡ name ∷ names → meets_unknown_name model e ≡ false → (n : ℕ) × (variable_named model name ≡ Some n)
   needed_variable e name names is known =
       first_known name names (subst (λ ns. list_any unknown ns ≡ false) is (or_parts (list_any unknown (needed_variables e)) (option_map_or (λ name. not (has_row_named model name)) (needed_row e) false) known).0)
 
   -- the row that the edit needs
-  pub needed_row_there : (e : Edit) (name : List ℕ) → needed_row e ≡ Some name → is_unknown model e ≡ false → (row : Row) × (row_named model name ≡ Some row)
+  pub needed_row_there : (e : Edit) (name : List ℕ) → needed_row e ≡ Some name → meets_unknown_name model e ≡ false → (row : Row) × (row_named model name ≡ Some row)
   needed_row_there e name is known =
       something (row_named model name) (not-false (has_row_named model name) (subst (λ o. option_map_or (λ name. not (has_row_named model name)) o false ≡ false) is (or_parts (list_any unknown (needed_variables e)) (option_map_or (λ name. not (has_row_named model name)) (needed_row e) false) known).1))
 
@@ -39,3 +42,17 @@ module _ (model : UserModel) where
   located_stands (named.Affine f) known n e = absurd (both_ways false refl e)
   located_stands (named.PlainVec vars) known n e = absurd (both_ways false refl e)
   located_stands (named.AffineVec fs) known n e = absurd (both_ways false refl e)
+
+  -- the function of an edit that isn't refused is of names that stand
+  pub known_function : (e : Edit) (func : NamedFunc) → needed_variables e ≡ mentioned func → meets_unknown_name model e ≡ false → IsKnown model func
+  known_function e func is known =
+      record { known = subst (λ names. list_any unknown names ≡ false) is (or_parts (list_any unknown (needed_variables e)) (option_map_or (λ name. not (has_row_named model name)) (needed_row e) false) known).0 }
+
+  -- so is each component
+  pub known_component : (fs : List NamedAff) (i : ℕ) (f : NamedAff) → IsKnown model (named.AffineVec fs) → slice_get fs i ≡ Some f → IsKnown model (named.Affine f)
+  known_component [] i f h e = cc
+  known_component (g ∷ fs) zero f h e =
+      let same : g ≡ f = same_Some g f e in
+      record { known = subst (λ f. list_any unknown (names_of f) ≡ false) same (or_parts (list_any unknown (names_of g)) (list_any unknown (mentioned (named.AffineVec fs))) (sym (list_any-append unknown (names_of g) (mentioned (named.AffineVec fs))) ∙ h.known)).0 }
+  known_component (g ∷ fs) (suc i) f h e =
+      known_component fs i f (record { known = (or_parts (list_any unknown (names_of g)) (list_any unknown (mentioned (named.AffineVec fs))) (sym (list_any-append unknown (names_of g) (mentioned (named.AffineVec fs))) ∙ h.known)).1 }) e

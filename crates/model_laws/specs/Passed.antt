@@ -6,21 +6,21 @@ use Rattle.user_model.specs.declared.edit.Edit.{Edit}
 use Rattle.user_model.specs.declared.refusal.Refusal.{Refusal}
 use Rattle.user_model.specs.declared.refusal.Refusal.TheVariants.{UnknownName, NameTaken, FunctionShape, BadDimension, OutputIndex, BadInterval, LowerBoundAlreadySet, UpperBoundAlreadySet, SetTypeMismatch, DeleteNotAllowed}
 use Rattle.user_model.specs.Sets.{sets_lower, sets_upper}
-use Rattle.user_model.specs.Model.{UserModel, has_lower_bound, has_upper_bound}
-use Rattle.user_model.specs.Refusals.{first_of, first_refusal, passes, counts, is_unknown, is_taken, is_misshapen, is_of_bad_dimension, is_no_output, is_bad_interval, is_bounded, is_of_other_type, is_undeletable}
+use Rattle.user_model.specs.Model.{ModelValue, has_lower_bound, has_upper_bound}
+use Rattle.user_model.specs.Refusals.{first_of, first_refusal, full_at, counts, meets_unknown_name, meets_name_taken, meets_function_shape, meets_bad_dimension, meets_output_index, meets_bad_interval, meets_bound_already_set, meets_set_type_mismatch, meets_delete_not_allowed}
 
 -- each test of a refusal fails, and each count is at most its limit
-pub record IsPassed (model : UserModel) (e : Edit) : Type 0 where
-  pub known : is_unknown model e ≡ false
-  pub free : is_taken model e ≡ false
-  pub shaped : is_misshapen model e ≡ false
-  pub dimension : is_of_bad_dimension model e ≡ false
-  pub output : is_no_output model e ≡ false
-  pub interval : is_bad_interval e ≡ false
-  pub lower : is_bounded sets_lower has_lower_bound model e ≡ false
-  pub upper : is_bounded sets_upper has_upper_bound model e ≡ false
-  pub of_type : is_of_other_type model e ≡ false
-  pub deletable : is_undeletable model e ≡ false
+pub record IsPassed (model : ModelValue) (e : Edit) : Type 0 where
+  pub known : meets_unknown_name model e ≡ false
+  pub free : meets_name_taken model e ≡ false
+  pub shaped : meets_function_shape model e ≡ false
+  pub dimension : meets_bad_dimension model e ≡ false
+  pub output : meets_output_index model e ≡ false
+  pub interval : meets_bad_interval e ≡ false
+  pub lower : meets_bound_already_set sets_lower has_lower_bound model e ≡ false
+  pub upper : meets_bound_already_set sets_upper has_upper_bound model e ≡ false
+  pub of_type : meets_set_type_mismatch model e ≡ false
+  pub deletable : meets_delete_not_allowed model e ≡ false
   pub counted : All (λ c. c.0 ≤ c.1) (counts model e)
 
 -- no test of the list holds
@@ -40,26 +40,26 @@ none_holds : (tests : List (Bool × Refusal)) → first_of tests ≡ None → Al
 none_holds [] e = tt
 none_holds (test ∷ tests) e = (first_fails test.0 test.1 (first_of tests) e, none_holds tests (others_fail test.0 test.1 (first_of tests) e))
 
-within_limits : (counted : List (ℕ × ℕ)) → AllFail (map passes counted) → All (λ c. c.0 ≤ c.1) counted
+within_limits : (counted : List (ℕ × ℕ)) → AllFail (map full_at counted) → All (λ c. c.0 ≤ c.1) counted
 within_limits [] h = All-nil (λ c. c.0 ≤ c.1)
 within_limits (c ∷ counted) h = All-cons (λ c. c.0 ≤ c.1) c counted (ltb-false c.1 c.0 h.0) (within_limits counted h.1)
 
-abbrev tests : UserModel → Edit → List (Bool × Refusal)
+abbrev tests : ModelValue → Edit → List (Bool × Refusal)
 tests model e =
-    (is_unknown model e, UnknownName)
-    ∷ (is_taken model e, NameTaken)
-    ∷ (is_misshapen model e, FunctionShape)
-    ∷ (is_of_bad_dimension model e, BadDimension)
-    ∷ (is_no_output model e, OutputIndex)
-    ∷ (is_bad_interval e, BadInterval)
-    ∷ (is_bounded sets_lower has_lower_bound model e, LowerBoundAlreadySet)
-    ∷ (is_bounded sets_upper has_upper_bound model e, UpperBoundAlreadySet)
-    ∷ (is_of_other_type model e, SetTypeMismatch)
-    ∷ (is_undeletable model e, DeleteNotAllowed)
-    ∷ map passes (counts model e)
+    (meets_unknown_name model e, UnknownName)
+    ∷ (meets_name_taken model e, NameTaken)
+    ∷ (meets_function_shape model e, FunctionShape)
+    ∷ (meets_bad_dimension model e, BadDimension)
+    ∷ (meets_output_index model e, OutputIndex)
+    ∷ (meets_bad_interval e, BadInterval)
+    ∷ (meets_bound_already_set sets_lower has_lower_bound model e, LowerBoundAlreadySet)
+    ∷ (meets_bound_already_set sets_upper has_upper_bound model e, UpperBoundAlreadySet)
+    ∷ (meets_set_type_mismatch model e, SetTypeMismatch)
+    ∷ (meets_delete_not_allowed model e, DeleteNotAllowed)
+    ∷ map full_at (counts model e)
 
 -- an edit that is not refused passes every test
-pub passed : (model : UserModel) (e : Edit) → first_refusal model e ≡ None → IsPassed model e
+pub passed : (model : ModelValue) (e : Edit) → first_refusal model e ≡ None → IsPassed model e
 unfolding first_refusal
 passed model e none =
     let h : AllFail (tests model e) = none_holds (tests model e) none in

@@ -13,12 +13,12 @@ use Rattle.user_model.specs.declared.edit.Edit.{Edit}
 use Rattle.user_model.specs.declared.edit.Edit.TheVariants as edit
 use Rattle.user_model.specs.declared.group.Group.{Group}
 use Rattle.user_model.specs.declared.row.Row.{Row}
-use Rattle.user_model.specs.Model.{UserModel, address_named, group_of, row_named, variable_address, variable_named}
+use Rattle.user_model.specs.Model.{ModelValue, address_named, group_of, row_mentions, row_named, variable_address, variable_named}
 use Rattle.user_model.specs.Deletion.{group_without, row_without, without_variable}
 use Rattle.user_model.specs.Edited.{change_group, change_row, delete_row, edited, group_number, located, numbered_from, on_affine, on_output, renamed, row_number, with_constant, with_variable}
 use Rattle.user_model.specs.Consistent.{IsConsistent}
-use Rattle.model_laws.specs.Listed.{AreChanges-edits, one_change, set_all_edits, set_all_last}
-use Rattle.model_laws.specs.Mentions.{row_mentions, row_unmentioned}
+use Rattle.model_laws.specs.ItemChanges.{AreChanges-edits, one_change, set_all_edits, set_all_last}
+use Rattle.model_laws.specs.Mentions.{row_unmentioned}
 use Rattle.model_laws.specs.KeptDeletion.{row_keeps_number}
 use Rattle.model_laws.specs.GroupWithout.{group_keeps_number}
 use Rattle.model_laws.specs.DeletedGroup.{group_deleted}
@@ -36,7 +36,7 @@ are_at : {X : Type 0} (number_of : X → ℕ) (make : ℕ → List (Change X)) (
 are_at number_of make None each = AreChanges-nil number_of
 are_at number_of make (Some n) each = each n
 
-module _ (model : UserModel) where
+module _ (model : ModelValue) where
   -- ---- the ways of changing
 
   pub AreChanges-row_change : (name : List ℕ) (h : Row → Row) → AreChanges row_number (row_change model name h)
@@ -110,14 +110,14 @@ module _ (model : UserModel) where
       subst (λ o. set_all group_number (option_map_or (λ group. record { number = group.id; content = group_without n group } ∷ []) o []) model.groups ≡ filter_map (group_without n) model.groups) (sym there.1) (group_deleted n there.0 model.groups c.groups_rise c.variables_rise var.1.by_number var.0 var.1.there var.1.number)
 
   -- changes for the variable with a name
-  at_variable_makes : {X : Type 0} (number_of : X → ℕ) (part : UserModel → List X) (name : List ℕ) (make : ℕ → List (Change X)) (h : ℕ → UserModel) → ((n : ℕ) → variable_named model name ≡ Some n → set_all number_of (make n) (part model) ≡ part (h n)) → set_all number_of (at_variable model name make) (part model) ≡ part (with_variable model name h)
+  at_variable_makes : {X : Type 0} (number_of : X → ℕ) (part : ModelValue → List X) (name : List ℕ) (make : ℕ → List (Change X)) (h : ℕ → ModelValue) → ((n : ℕ) → variable_named model name ≡ Some n → set_all number_of (make n) (part model) ≡ part (h n)) → set_all number_of (at_variable model name make) (part model) ≡ part (with_variable model name h)
   at_variable_makes {X = X} number_of part name make h each = from (variable_named model name) refl
     where
       from : (o : Option ℕ) → variable_named model name ≡ o → set_all number_of (at_variable model name make) (part model) ≡ part (with_variable model name h)
       from None e = rw e refl
       from (Some n) e = rw e (each n e)
 
-  variable_rows : (name : List ℕ) (h : ℕ → UserModel) → ((n : ℕ) → (h n).rows ≡ model.rows) → model.rows ≡ (with_variable model name h).rows
+  variable_rows : (name : List ℕ) (h : ℕ → ModelValue) → ((n : ℕ) → (h n).rows ≡ model.rows) → model.rows ≡ (with_variable model name h).rows
   variable_rows name h each = from (variable_named model name) refl
     where
       from : (o : Option ℕ) → variable_named model name ≡ o → model.rows ≡ (with_variable model name h).rows

@@ -10,7 +10,7 @@ use Rattle.user_model.specs.declared.function.UserFunc.TheVariants.{Plain, Affin
 use Rattle.user_model.specs.declared.row.Row.{Row}
 use Rattle.user_model.specs.Functions.{all_terms}
 use Rattle.user_model.specs.Model.{is_variable, variable_address}
-use Rattle.user_model.specs.Sets.{resized}
+use Rattle.set_core.specs.Shapes.{resized}
 use Rattle.user_model.specs.Deletion.{row_without, unless_empty, without_address, without_term}
 use Rattle.model_laws.specs.Terms.{map_terms, affine_terms, without_adds_none}
 

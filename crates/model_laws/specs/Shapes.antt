@@ -12,24 +12,24 @@ use Rattle.user_model.specs.declared.function.UserFunc.{UserFunc}
 use Rattle.user_model.specs.declared.function.UserFunc.TheVariants.{Plain, Affine, PlainVec, AffineVec}
 use Rattle.user_model.specs.declared.group.Group.{Group}
 use Rattle.user_model.specs.declared.group.GroupVar.{GroupVar}
-use Rattle.user_model.specs.declared.objective.Sense.{Sense}
+use Rattle.aff_core.specs.declared.sense.Sense.{Sense}
 use Rattle.user_model.specs.declared.objective.Objective.{Objective}
 use Rattle.user_model.specs.declared.objective.Objective.TheVariants as objective
 use Rattle.user_model.specs.declared.row.Row.{Row}
 use Rattle.user_model.specs.Functions.{is_scalar_affine, is_vector_affine}
-use Rattle.user_model.specs.Model.{UserModel, group_of, row_named, variable_named}
+use Rattle.user_model.specs.Model.{ModelValue, group_of, row_named, variable_named}
 use Rattle.user_model.specs.Edited.{on_affine, on_objective, on_output, renamed}
 use Rattle.user_model.specs.Refusals.{group_is, is_affine_objective, row_is}
-use Rattle.user_model.specs.Sets.{is_scalar_set}
+use Rattle.set_core.specs.Shapes.{is_scalar}
 use Rattle.model_laws.specs.Coefficients.{other_at, same_at}
 use Rattle.model_laws.specs.Renamed.{renamed_there}
 
 -- a test that no row of the name passes fails at the row
-pub row_fails : (test : Row → Bool) (model : UserModel) (name : List ℕ) (row : Row) → row_named model name ≡ Some row → row_is test model name ≡ false → test row ≡ false
+pub row_fails : (test : Row → Bool) (model : ModelValue) (name : List ℕ) (row : Row) → row_named model name ≡ Some row → row_is test model name ≡ false → test row ≡ false
 row_fails test model name row found e = ap (λ o. option_map_or test o false) (sym found) ∙ e
 
 -- the same of the group of a variable
-pub group_fails : (test : Group → Bool) (model : UserModel) (name : List ℕ) (n : ℕ) (group : Group) → variable_named model name ≡ Some n → group_of model n ≡ Some group → group_is test model name ≡ false → test group ≡ false
+pub group_fails : (test : Group → Bool) (model : ModelValue) (name : List ℕ) (n : ℕ) (group : Group) → variable_named model name ≡ Some n → group_of model n ≡ Some group → group_is test model name ≡ false → test group ≡ false
 group_fails test model name n group found at e =
     ap (λ o. option_map_or test o false) (sym at) ∙ (ap (λ o. option_map_or (λ n. option_map_or test (group_of model n) false) o false) (sym found) ∙ e)
 
@@ -121,8 +121,8 @@ pub group_set_other : (group : Group) (set : Set) → group.set ≢ set → reco
 group_set_other group set ne same = ne (sym (ap (λ g. g.set) same))
 
 -- a group with a set of numbers isn't free as a freed one is
-pub scalar_not_free : (set : Set) → is_scalar_set set ≡ true → set ≢ Reals 1
-scalar_not_free set scalar same = both_ways (is_scalar_set set) (ap is_scalar_set same) scalar
+pub scalar_not_free : (set : Set) → is_scalar set ≡ true → set ≢ Reals 1
+scalar_not_free set scalar same = both_ways (is_scalar set) (ap is_scalar same) scalar
 
 -- a group of which a variable has another name
 pub group_name_other : (n : ℕ) (name : List ℕ) (group : Group) (var : GroupVar) → Contains group.vars var → var.number ≡ n → var.name ≢ name → record group { vars = map (renamed n name) group.vars } ≢ group

@@ -1,12 +1,14 @@
 -- How many terms a function has after a change.
 use Rattle.std.specs.Prelude.{◌≡◌, ℕ, zero, suc, ◌-◌, ◌≤◌, Bool, true, false, cond, List, [], ◌∷◌, map, sum, length, refl}
 use Rattle.std.specs.FinMap as finite
-use Rattle.std.proofs.Common.{arith, sym, subst}
+use Rattle.std.proofs.Common.{arith, sym, ap, subst, ◌∙◌}
 use Rattle.std.proofs.lemmas.List.Sums.{sum_by-cons}
-use Rattle.ratio_core.specs.Rational.{Rational, zero_ℚ, rational_eq}
+use Rattle.ratio_core.specs.Rational.{Rational, zero_ℚ}
 use Rattle.ratio_core.specs.RationalLaws.{eq_rational_eq}
 use Rattle.aff_core.specs.Address.{Address, address_total}
-use Rattle.aff_core.specs.Function.{Function, with_coefficient}
+use Rattle.aff_core.specs.Function.{Function}
+use Rattle.aff_core.specs.FunctionLaws.{terms-with_coefficient}
+use Rattle.aff_core.specs.KeyOrder.{address_order}
 use Rattle.user_model.specs.declared.function.UserFunc.{UserFunc}
 use Rattle.user_model.specs.declared.function.UserFunc.TheVariants.{Plain, Affine, PlainVec, AffineVec}
 use Rattle.user_model.specs.declared.objective.Objective.{Objective}
@@ -20,18 +22,19 @@ one_less : (b : Bool) (n : ℕ) → cond b (n - 1) n ≤ n
 one_less true n = omega arith
 one_less false n = omega arith
 
--- the terms without one address are no more
+-- the terms that are left without one address
+pub terms_left : (at : Address) (f : Function) → (without_term at f).terms ≡ finite.remove f.terms at
+terms_left at f =
+    terms-with_coefficient address_order f at zero_ℚ
+    ∙ ap (λ b. cond b (finite.remove f.terms at) (finite.insert f.terms at zero_ℚ)) (eq_rational_eq zero_ℚ zero_ℚ refl)
+
+-- they are no more
 pub terms_without : (at : Address) (f : Function) → term_count (without_term at f) ≤ term_count f
-unfolding with_coefficient
-terms_without at f =
-    removed (rational_eq zero_ℚ zero_ℚ) (eq_rational_eq zero_ℚ zero_ℚ refl)
+terms_without at f = subst (λ m. length (finite.entries m) ≤ term_count f) (sym (terms_left at f)) less
   where
     less : length (finite.entries (finite.remove f.terms at)) ≤ length (finite.entries f.terms)
     less =
         subst (λ n. n ≤ length (finite.entries f.terms)) (finite.len-entries (finite.remove f.terms at)) (subst (λ n. finite.len (finite.remove f.terms at) ≤ n) (finite.len-entries f.terms) (subst (λ n. n ≤ finite.len f.terms) (sym (finite.len-remove address_total f.terms at)) (one_less (finite.contains_key f.terms at) (finite.len f.terms))))
-
-    removed : (b : Bool) → b ≡ true → length (finite.entries (cond b (finite.remove f.terms at) (finite.insert f.terms at zero_ℚ))) ≤ length (finite.entries f.terms)
-    removed b e = subst (λ b. length (finite.entries (cond b (finite.remove f.terms at) (finite.insert f.terms at zero_ℚ))) ≤ length (finite.entries f.terms)) (sym e) less
 
 -- a change of a function that adds no term adds none where the function stands
 pub record AddsNone (h : Function → Function) : Type 0 where

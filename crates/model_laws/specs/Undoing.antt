@@ -16,18 +16,18 @@ use Rattle.user_model.specs.declared.edit.Edit.{Edit}
 use Rattle.user_model.specs.declared.group.Group.{Group}
 use Rattle.user_model.specs.declared.row.Row.{Row}
 use Rattle.user_model.specs.declared.objective.Objective.{Objective}
-use Rattle.user_model.specs.Model.{UserModel, group_of, has_variable, row_named, variable_address, variable_named, variables}
+use Rattle.user_model.specs.Model.{ModelValue, group_of, has_variable, row_mentions, row_named, variable_address, variable_named, variables}
 use Rattle.user_model.specs.Deletion.{group_without, row_without}
 use Rattle.user_model.specs.Edited.{change_group, change_row, edited, group_number, renamed, row_number}
 use Rattle.user_model.specs.Refusals.{has_row_named, has_variable_named}
 use Rattle.user_model.specs.Consistent.{IsConsistent}
-use Rattle.user_model.specs.Undone.{IsOldObjective, IsUndo, ListsDifferences}
+use Rattle.user_model.specs.Undone.{IsOldObjective, IsUndo, AreDifferences}
 use Rattle.model_laws.specs.Changed.{change_group-found, change_row-found}
 use Rattle.model_laws.specs.Found.{found_passes, found_stands, stands_found}
-use Rattle.model_laws.specs.Listed.{differences, edit_of, find-filter, set_to}
+use Rattle.model_laws.specs.ItemChanges.{differences, edit_of, find-filter, set_to}
 use Rattle.model_laws.specs.Located.{free_row, free_variable, group_by_number, row_by_number, stands_in_joined, variable_located}
 use Rattle.model_laws.specs.Shapes.{group_name_other, row_name_other}
-use Rattle.model_laws.specs.Mentions.{group_changes_where_mentioned, row_changes_where_mentioned, row_mentions}
+use Rattle.model_laws.specs.Mentions.{group_changes_where_mentioned, row_changes_where_mentioned}
 use Rattle.model_laws.specs.Planned.{deletion_changes, group_change, group_changes, group_deletion, row_change, row_changes, row_deletion}
 use Rattle.model_laws.specs.PlannedLaws.{AreChanges-groups, AreChanges-rows, groups_changed, rows_changed}
 
@@ -67,11 +67,11 @@ module _ {X : Type 0} (number_of : X → ℕ) where
             test false is = ap (λ m. find number_of m xs) (sym (number_of_found changed_number n c cs e)) ∙ same c is
 
     -- those that differ list exactly what differs
-    pub kept_differ : Rise number_of xs → ((c : Change X) → differs c ≡ false → find number_of c.number xs ≡ c.content) → ((c : Change X) → differs c ≡ true → Differs xs c) → ListsDifferences number_of xs (set_all number_of cs xs) (olds number_of (filter differs cs) xs)
+    pub kept_differ : Rise number_of xs → ((c : Change X) → differs c ≡ false → find number_of c.number xs ≡ c.content) → ((c : Change X) → differs c ≡ true → Differs xs c) → AreDifferences number_of xs (set_all number_of cs xs) (olds number_of (filter differs cs) xs)
     kept_differ rise same other =
-        subst (λ ys. ListsDifferences number_of xs ys (olds number_of (filter differs cs) xs)) (set_all_kept rise same) (differences number_of xs (filter differs cs) AreChanges-kept (All-weaker (λ c. differs c ≡ true) (Differs xs) other (filter differs cs) (filter_passes differs cs)))
+        subst (λ ys. AreDifferences number_of xs ys (olds number_of (filter differs cs) xs)) (set_all_kept rise same) (differences number_of xs (filter differs cs) AreChanges-kept (All-weaker (λ c. differs c ≡ true) (Differs xs) other (filter differs cs) (filter_passes differs cs)))
 
-module _ (model : UserModel) (c : IsConsistent model) where
+module _ (model : ModelValue) (c : IsConsistent model) where
   -- ---- rows
 
   -- a row that is changed to another differs
@@ -143,13 +143,13 @@ module _ (model : UserModel) (c : IsConsistent model) where
   -- ---- the undo
 
   -- where each planned change differs, their olds are the undo's
-  pub rows_differ : (e : Edit) → All (Differs row_number model.rows) (row_changes model e) → ListsDifferences row_number model.rows (edited model e).rows (olds row_number (row_changes model e) model.rows)
+  pub rows_differ : (e : Edit) → All (Differs row_number model.rows) (row_changes model e) → AreDifferences row_number model.rows (edited model e).rows (olds row_number (row_changes model e) model.rows)
   rows_differ e differ =
-      subst (λ rows. ListsDifferences row_number model.rows rows (olds row_number (row_changes model e) model.rows)) (rows_changed model e c) (differences row_number model.rows (row_changes model e) (AreChanges-rows model e c) differ)
+      subst (λ rows. AreDifferences row_number model.rows rows (olds row_number (row_changes model e) model.rows)) (rows_changed model e c) (differences row_number model.rows (row_changes model e) (AreChanges-rows model e c) differ)
 
-  pub groups_differ : (e : Edit) → All (Differs group_number model.groups) (group_changes model e) → ListsDifferences group_number model.groups (edited model e).groups (olds group_number (group_changes model e) model.groups)
+  pub groups_differ : (e : Edit) → All (Differs group_number model.groups) (group_changes model e) → AreDifferences group_number model.groups (edited model e).groups (olds group_number (group_changes model e) model.groups)
   groups_differ e differ =
-      subst (λ groups. ListsDifferences group_number model.groups groups (olds group_number (group_changes model e) model.groups)) (groups_changed model e c) (differences group_number model.groups (group_changes model e) (AreChanges-groups model e) differ)
+      subst (λ groups. AreDifferences group_number model.groups groups (olds group_number (group_changes model e) model.groups)) (groups_changed model e c) (differences group_number model.groups (group_changes model e) (AreChanges-groups model e) differ)
 
   -- with the old objective where it changed, they are the whole undo
   pub undo_is : (e : Edit) (old : Option Objective) → All (Differs row_number model.rows) (row_changes model e) → All (Differs group_number model.groups) (group_changes model e) → IsOldObjective model.objective (edited model e).objective old → IsUndo model (edited model e) (record { groups = olds group_number (group_changes model e) model.groups; rows = olds row_number (row_changes model e) model.rows; objective = old; next = model.next })

@@ -16,7 +16,7 @@ use Rattle.user_model.specs.declared.group.Group.{Group}
 use Rattle.user_model.specs.declared.group.GroupVar.{GroupVar}
 use Rattle.user_model.specs.declared.objective.Objective.{Objective}
 use Rattle.user_model.specs.declared.row.Row.{Row}
-use Rattle.user_model.specs.Model.{UserModel, group_of, has_variable, variable_address, variable_named, variables}
+use Rattle.user_model.specs.Model.{ModelValue, group_of, has_variable, row_mentions, variable_address, variable_named, variables}
 use Rattle.user_model.specs.Deletion.{group_without, objective_without, row_without, unless_empty, without_variable}
 use Rattle.user_model.specs.Edited.{group_number, row_number, with_variable}
 use Rattle.user_model.specs.Consistent.{IsConsistent, variable_number}
@@ -26,18 +26,18 @@ use Rattle.model_laws.specs.Found.{something}
 use Rattle.model_laws.specs.Located.{variable_of_name}
 use Rattle.model_laws.specs.GroupWithout.{group_keeps_number, others, others_stand, vars_without}
 use Rattle.model_laws.specs.KeptDeletion.{row_keeps_number}
-use Rattle.model_laws.specs.Listed.{edit_of, edits_of, find-filter, one_change}
-use Rattle.model_laws.specs.Mentions.{failing_none, row_mentions, row_unmentioned}
+use Rattle.model_laws.specs.ItemChanges.{edit_of, edits_of, find-filter, one_change}
+use Rattle.model_laws.specs.Mentions.{failing_none, row_unmentioned}
 use Rattle.model_laws.specs.Pairs.{AllPairs-map}
 use Rattle.model_laws.specs.Planned.{deletion_changes, group_deletion}
 use Rattle.model_laws.specs.PlannedLaws.{AreChanges-deletion, deletion_makes, group_deletion_makes}
 use Rattle.model_laws.specs.RowWithout.{IsRowWithout, row_without_is}
 use Rattle.model_laws.specs.Undoing.{Differs, deletion_differs, group_deletion_differs}
 use Rattle.model_laws.specs.Variables.{group_found, vars_in}
-use Rattle.model_catalog.specs.declared.names.Listed.{Listed}
+use Rattle.model_catalog.specs.declared.names.NameChange.{NameChange}
 use Rattle.model_plans.specs.declared.plan.Plan.{Plan}
 use Rattle.model_catalog.specs.Names.{listed_as, listed_number}
-use Rattle.model_catalog.specs.Named.{IsInGroup, Lists, ListsNames, variable_name}
+use Rattle.model_catalog.specs.Named.{IsInGroup, AreNameChanges, ChangesNames, variable_name}
 use Rattle.model_plans.specs.Plans.{HasParts, IsChange, IsRenamed, Leads, gone}
 use Rattle.model_plans.proofs.Finding.{find-mapped, found_by_number, nothing}
 use Rattle.model_plans.proofs.NamesListed.{one_listed, one_renamed, row_names_in}
@@ -105,7 +105,7 @@ module _ (at : Address) (rows : List Row) (rise : Rise row_number rows) where
   abbrev changes : List (Change Row)
   changes = edits_of row_number (row_without at) (row_mentions at) rows
 
-  abbrev as_gone : Change Row → Listed
+  abbrev as_gone : Change Row → NameChange
   as_gone c = listed_as c.number None
 
   found_gone : (m : ℕ) → Rise changed_number changes → find listed_number m (gone changes) ≡ option_map as_gone (option_and_then (λ c. cond (is_none c.content) (Some c) None) (option_map (edit_of row_number (row_without at)) (option_and_then (λ r. cond (row_mentions at r) (Some r) None) (find row_number m rows))))
@@ -136,19 +136,19 @@ module _ (at : Address) (rows : List Row) (rise : Rise row_number rows) where
       by false e = ap (option_map (λ r. r.name)) (row_unmentioned at r e) ∙ sym (ap (seen r) e)
       by true e = left (row_without at r) refl ∙ sym (ap (seen r) e)
 
-  pub rows_gone : ListsNames (gone changes) (row_names_in rows) (row_names_in (filter_map (row_without at) rows))
+  pub rows_gone : ChangesNames (gone changes) (row_names_in rows) (row_names_in (filter_map (row_without at) rows))
   rows_gone =
       let up : Rise changed_number changes = record { rising = AllPairs-map {X = Change Row} (λ c d. c.number < d.number) (edit_of row_number (row_without at)) (λ r s. r.id < s.id) (filter (row_mentions at) rows) (λ r s lt. lt) (Rise-filter row_number (row_mentions at) rows rise).rising } in
       let kept = Rise-filter {X = Change Row} changed_number (λ c. is_none c.content) changes up in
       record {
-        rising = record { rising = AllPairs-map {X = Listed} (λ l k. l.number < k.number) {Y = Change Row} as_gone (λ c d. c.number < d.number) (filter {X = Change Row} (λ c. is_none c.content) changes) (λ c d lt. lt) kept.rising };
-        named = λ m. ap (option_map (λ r. r.name)) (find-filter_map row_number (row_without at) m rows (row_keeps_number at) rise) ∙ (one_row (find row_number m rows) ∙ sym (ap (λ o. option_map_or {T = Listed} (λ l. l.name) o (row_names_in rows m)) (found_gone m up)));
+        rising = record { rising = AllPairs-map {X = NameChange} (λ l k. l.number < k.number) {Y = Change Row} as_gone (λ c d. c.number < d.number) (filter {X = Change Row} (λ c. is_none c.content) changes) (λ c d lt. lt) kept.rising };
+        named = λ m. ap (option_map (λ r. r.name)) (find-filter_map row_number (row_without at) m rows (row_keeps_number at) rise) ∙ (one_row (find row_number m rows) ∙ sym (ap (λ o. option_map_or {T = NameChange} (λ l. l.name) o (row_names_in rows m)) (found_gone m up)));
       }
 
 -- each row that goes had a name
 pub gone_renamed : (rows : List Row) (cs : List (Change Row)) → All (Differs row_number rows) cs → All (IsRenamed (row_names_in rows)) (gone cs)
 gone_renamed rows cs differ =
-    All-map {X = Listed} (IsRenamed (row_names_in rows)) {Y = Change Row} (λ c. listed_as c.number None) going (λ k d end same.
+    All-map {X = NameChange} (IsRenamed (row_names_in rows)) {Y = Change Row} (λ c. listed_as c.number None) going (λ k d end same.
     let c : Change Row = slice_index_or going k d in
     let other : find row_number c.number rows ≢ c.content = All-filter {X = Change Row} (λ c. is_none c.content) (Differs row_number rows) cs differ k d end in
     other (unnamed (find row_number c.number rows) same ∙ sym (no_content c.content (filter_passes {X = Change Row} (λ c. is_none c.content) cs k d end))))
@@ -166,14 +166,14 @@ gone_renamed rows cs differ =
 
 -- ---- the plan
 
-module _ (model : UserModel) (plan : Plan) (c : IsConsistent model) (name : List ℕ) (n : ℕ) (named : variable_named model name ≡ Some n) (group : Group) (found : group_of model n ≡ Some group) where
+module _ (model : ModelValue) (plan : Plan) (c : IsConsistent model) (name : List ℕ) (n : ℕ) (named : variable_named model name ≡ Some n) (group : Group) (found : group_of model n ≡ Some group) where
   abbrev pub at : Address
   at = variable_address n
 
-  target_names : plan.names.group ≡ group.id → plan.names.variables.items ≡ listed_as n None ∷ [] → plan.names.rows.items ≡ gone (deletion_changes model n) → Lists plan.names model (without_variable model n)
+  target_names : plan.names.group ≡ group.id → plan.names.variables.items ≡ listed_as n None ∷ [] → plan.names.rows.items ≡ gone (deletion_changes model n) → AreNameChanges plan.names model (without_variable model n)
   target_names in_group vs ns = record {
-    variables = subst (λ ls. ListsNames ls (variable_name model) (variable_name (without_variable model n))) (sym vs) (one_listed (listed_as n None) (variable_name model) (variable_name (without_variable model n)) (name_gone n model.groups c.variables_rise) (λ m off. name_left m n model.groups off c.variables_rise));
-    rows = subst (λ ls. ListsNames ls (row_names_in model.rows) (row_names_in (filter_map (row_without at) model.rows))) (sym ns) (rows_gone at model.rows c.rows_rise);
+    variables = subst (λ ls. ChangesNames ls (variable_name model) (variable_name (without_variable model n))) (sym vs) (one_listed (listed_as n None) (variable_name model) (variable_name (without_variable model n)) (name_gone n model.groups c.variables_rise) (λ m off. name_left m n model.groups off c.variables_rise));
+    rows = subst (λ ls. ChangesNames ls (row_names_in model.rows) (row_names_in (filter_map (row_without at) model.rows))) (sym ns) (rows_gone at model.rows c.rows_rise);
     in_group = λ m some. elim (cases_eq n m) [
       | inl same ↦
           subst (λ k. IsInGroup plan.names.group model k × IsInGroup plan.names.group (without_variable model n) k) same (
@@ -215,4 +215,4 @@ module _ (model : UserModel) (plan : Plan) (c : IsConsistent model) (name : List
       let objective = objective_left o left in
       let target : made model plan cs (deletion_changes model n) o model.next ≡ without_variable model n = λ i. record { groups = groups i; rows = rows i; objective = objective i; next = model.next } in
       subst (λ after. Leads model after plan) (target ∙ sym (with_variable-found model name (without_variable model) n named))
-      (leads model plan cs (deletion_changes model n) o model.next (listed_as n None ∷ []) (gone (deletion_changes model n)) p (one_change group_number group.id (group_without n group) ((group_keeps_number n).keeps group)) (AreChanges-deletion model n c) (subst (All (Differs group_number model.groups)) planned (group_deletion_differs model c n group found)) (deletion_differs model c n) (old_left o left) (subst (Lists plan.names model) (sym target) (target_names in_group p.variables p.row_names)) (one_renamed (variable_name model) (listed_as n None) gone_variable) (gone_renamed model.rows (deletion_changes model n) (deletion_differs model c n)))
+      (leads model plan cs (deletion_changes model n) o model.next (listed_as n None ∷ []) (gone (deletion_changes model n)) p (one_change group_number group.id (group_without n group) ((group_keeps_number n).keeps group)) (AreChanges-deletion model n c) (subst (All (Differs group_number model.groups)) planned (group_deletion_differs model c n group found)) (deletion_differs model c n) (old_left o left) (subst (AreNameChanges plan.names model) (sym target) (target_names in_group p.variables p.row_names)) (one_renamed (variable_name model) (listed_as n None) gone_variable) (gone_renamed model.rows (deletion_changes model n) (deletion_differs model c n)))

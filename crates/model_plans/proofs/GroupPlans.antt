@@ -16,8 +16,8 @@ use Rattle.set_core.specs.declared.set.Set.{Set}
 use Rattle.user_model.specs.declared.edit.Edit.TheVariants as edit
 use Rattle.user_model.specs.declared.group.Group.{Group}
 use Rattle.user_model.specs.declared.group.GroupVar.{GroupVar}
-use Rattle.user_model.specs.declared.undo.Numbers.{Numbers}
-use Rattle.user_model.specs.Model.{UserModel, group_of, has_variable, variable_named, variables}
+use Rattle.user_model.specs.declared.undo.NextNumbers.{NextNumbers}
+use Rattle.user_model.specs.Model.{ModelValue, group_of, has_variable, variable_named, variables}
 use Rattle.user_model.specs.Edited.{add_group, change_group, edited, group_number, numbered_from, renamed, with_variable}
 use Rattle.user_model.specs.Consistent.{IsConsistent, variable_number}
 use Rattle.user_model.specs.Limits.{LAST_NUMBER}
@@ -25,7 +25,7 @@ use Rattle.user_model.specs.Refusals.{has_variable_named}
 use Rattle.model_laws.specs.Changed.{change_group-found, with_variable-found}
 use Rattle.model_laws.specs.Found.{is_some-find, something}
 use Rattle.model_laws.specs.KeptWithin.{kept_within}
-use Rattle.model_laws.specs.Listed.{set_all_last, set_to}
+use Rattle.model_laws.specs.ItemChanges.{set_all_last, set_to}
 use Rattle.model_laws.specs.Located.{free_variable, group_by_number, variable_located, variable_of_name}
 use Rattle.model_laws.specs.Numbering.{numbered_from_on, numbered_rise}
 use Rattle.model_laws.specs.Pairs.{AllPairs-map}
@@ -34,14 +34,14 @@ use Rattle.model_laws.specs.Replaced.{replaced}
 use Rattle.model_laws.specs.Shapes.{group_name_other, group_set_other, group_set_same}
 use Rattle.model_laws.specs.Undoing.{group_unchanged}
 use Rattle.model_laws.specs.Variables.{group_found, vars_in, vars_renamed, vars_replaced}
-use Rattle.model_catalog.specs.declared.names.Listed.{Listed}
+use Rattle.model_catalog.specs.declared.names.NameChange.{NameChange}
 use Rattle.model_plans.specs.declared.plan.Plan.{Plan}
 use Rattle.model_catalog.specs.Names.{listed_as, listed_number}
 use Rattle.model_catalog.specs.Index.{group_number_of}
-use Rattle.model_catalog.specs.Named.{IsInGroup, Lists, ListsNames, variable_name}
+use Rattle.model_catalog.specs.Named.{IsInGroup, AreNameChanges, ChangesNames, variable_name}
 use Rattle.model_plans.specs.Plans.{Accepts, HasParts, IsRenamed, Leads, listed_variables}
 use Rattle.model_plans.proofs.Finding.{find-mapped, found_by_number, nothing, option_or-none}
-use Rattle.model_plans.proofs.NamesListed.{Lists-groups, none_listed, one_listed, one_renamed, unlisted}
+use Rattle.model_plans.proofs.NamesListed.{AreNameChanges-groups, none_listed, one_listed, one_renamed, unlisted}
 use Rattle.model_plans.proofs.Leading.{leads_group, leads_nowhere}
 
 -- ---- the groups of variables, as one group changes
@@ -79,17 +79,17 @@ module _ (n : ℕ) (name : List ℕ) where
 
 -- ---- the plans
 
-module _ (model : UserModel) (plan : Plan) (c : IsConsistent model) (name : List ℕ) (n : ℕ) (named : variable_named model name ≡ Some n) (group : Group) (found : group_of model n ≡ Some group) where
+module _ (model : ModelValue) (plan : Plan) (c : IsConsistent model) (name : List ℕ) (n : ℕ) (named : variable_named model name ≡ Some n) (group : Group) (found : group_of model n ≡ Some group) where
   there : find group_number group.id model.groups ≡ Some group
   there = group_by_number model n group c found
 
   -- the group changes, and the variables' names as they are listed
-  leads_changed_group : (h : Group → Group) (vs : List Listed) → (h group).id ≡ group.id → h group ≢ group → HasParts plan (set_to group_number (h group) ∷ []) [] None model.next vs [] → ListsNames vs (variable_name model) (variable_name (record model { groups = put group_number (h group) model.groups })) → All (IsRenamed (variable_name model)) vs → ((m : ℕ) → has_variable m (h group) ≡ has_variable m group) → ((m : ℕ) → IsSome (find listed_number m vs) → IsInGroup plan.names.group model m) → Leads model (change_group model n h) plan
+  leads_changed_group : (h : Group → Group) (vs : List NameChange) → (h group).id ≡ group.id → h group ≢ group → HasParts plan (set_to group_number (h group) ∷ []) [] None model.next vs [] → ChangesNames vs (variable_name model) (variable_name (record model { groups = put group_number (h group) model.groups })) → All (IsRenamed (variable_name model)) vs → ((m : ℕ) → has_variable m (h group) ≡ has_variable m group) → ((m : ℕ) → IsSome (find listed_number m vs) → IsInGroup plan.names.group model m) → Leads model (change_group model n h) plan
   leads_changed_group h vs id ne p names renamed same inside =
       let at : find group_number (h group).id model.groups ≡ Some group = ap (λ m. find group_number m model.groups) id ∙ there in
       let ids : (m : ℕ) → group_number_of (record model { groups = put group_number (h group) model.groups }) m ≡ group_number_of model m = λ m. ids_replaced (h group) group model.groups m c.groups_rise at id (same m) in
       subst (λ after. Leads model after plan) (sym (change_group-found model n h group found)) (leads_group model plan (h group).id (Some (h group)) model.next vs p refl (λ e. ne (sym (same_Some group (h group) (sym at ∙ e))))
-      (Lists-groups plan.names vs model (put group_number (h group) model.groups) model.objective model.next p.variables p.row_names names (λ m some. (inside m some, subst (λ o. IfSome o (λ id. id ≡ plan.names.group)) (sym (ids m)) (inside m some))) (λ m absent. ids m)) renamed)
+      (AreNameChanges-groups plan.names vs model (put group_number (h group) model.groups) model.objective model.next p.variables p.row_names names (λ m some. (inside m some, subst (λ o. IfSome o (λ id. id ≡ plan.names.group)) (sym (ids m)) (inside m some))) (λ m absent. ids m)) renamed)
 
   pub group_set_same_leads : (set : Set) → group.set ≡ set → HasParts plan [] [] None model.next [] [] → Leads model (with_variable model name (λ n. change_group model n (λ g. record g { set = set }))) plan
   group_set_same_leads set e p =
@@ -128,12 +128,12 @@ module _ (model : UserModel) (plan : Plan) (c : IsConsistent model) (name : List
 -- ---- a new group
 
 -- the next numbers of groups and of variables fit
-pub next_group : (model : UserModel) (names : List (List ℕ)) (set : Set) → Accepts model (edit.AddGroup names set) → (model.next.group + 1 ≤ LAST_NUMBER + 1) × (model.next.variable + length names ≤ LAST_NUMBER + 1)
+pub next_group : (model : ModelValue) (names : List (List ℕ)) (set : Set) → Accepts model (edit.AddGroup names set) → (model.next.group + 1 ≤ LAST_NUMBER + 1) × (model.next.variable + length names ≤ LAST_NUMBER + 1)
 unfolding edited
 next_group model names set h = let w = kept_within model (edit.AddGroup names set) h.consistent h.within h.accepted in (w.group_numbers, w.variable_numbers)
 
 module _ (first : ℕ) (vars : List GroupVar) (old : List GroupVar) (below : All (λ v. v.number < first) old) (above : All (λ v. first ≤ v.number) vars) where
-  abbrev as_listed : GroupVar → Listed
+  abbrev as_listed : GroupVar → NameChange
   as_listed v = listed_as v.number (Some v.name)
 
   found_listed : (n : ℕ) → find listed_number n (listed_variables vars) ≡ option_map as_listed (find variable_number n vars)
@@ -175,25 +175,25 @@ module _ (first : ℕ) (vars : List GroupVar) (old : List GroupVar) (below : All
   listed_are_new =
       All-map (IsRenamed (λ n. option_map (λ v. v.name) (find variable_number n old))) as_listed vars (All-weaker (λ v. first ≤ v.number) (λ v. IsRenamed (λ n. option_map (λ w. w.name) (find variable_number n old)) (as_listed v)) (λ v from same. none-some v.name (sym (ap (option_map (λ w. w.name)) (find-none_below variable_number v.number old (All-weaker (λ w. w.number < first) (λ w. w.number < v.number) (λ w lt. omega (arith, from)) old below))) ∙ same)) vars above)
 
-  pub listed_names : Rise variable_number vars → ListsNames (listed_variables vars) (λ n. option_map (λ v. v.name) (find variable_number n old)) (λ n. option_map (λ v. v.name) (find variable_number n (old ++ vars)))
+  pub listed_names : Rise variable_number vars → ChangesNames (listed_variables vars) (λ n. option_map (λ v. v.name) (find variable_number n old)) (λ n. option_map (λ v. v.name) (find variable_number n (old ++ vars)))
   listed_names rise = record {
-    rising = record { rising = AllPairs-map {X = Listed} (λ l k. l.number < k.number) as_listed (λ v w. v.number < w.number) vars (λ v w lt. lt) rise.rising };
+    rising = record { rising = AllPairs-map {X = NameChange} (λ l k. l.number < k.number) as_listed (λ v w. v.number < w.number) vars (λ v w lt. lt) rise.rising };
     named = added_name;
   }
 
-pub added_leads : (model : UserModel) (plan : Plan) (names : List (List ℕ)) (set : Set) → IsConsistent model → plan.names.group ≡ model.next.group → HasParts plan (record { number = model.next.group; content = Some (record { id = model.next.group; vars = numbered_from model.next.variable names; set = set }) } ∷ []) [] None (record model.next { group = model.next.group + 1; variable = model.next.variable + length names }) (listed_variables (numbered_from model.next.variable names)) [] → Leads model (add_group model names set) plan
+pub added_leads : (model : ModelValue) (plan : Plan) (names : List (List ℕ)) (set : Set) → IsConsistent model → plan.names.group ≡ model.next.group → HasParts plan (record { number = model.next.group; content = Some (record { id = model.next.group; vars = numbered_from model.next.variable names; set = set }) } ∷ []) [] None (record model.next { group = model.next.group + 1; variable = model.next.variable + length names }) (listed_variables (numbered_from model.next.variable names)) [] → Leads model (add_group model names set) plan
 added_leads model plan names set c in_group p =
     let vars : List GroupVar = numbered_from model.next.variable names in
     let group : Group = record { id = model.next.group; vars = vars; set = set } in
-    let next : Numbers = record model.next { group = model.next.group + 1; variable = model.next.variable + length names } in
+    let next : NextNumbers = record model.next { group = model.next.group + 1; variable = model.next.variable + length names } in
     let last = set_all_last group_number group model.groups c.given_groups in
     let above = numbered_from_on model.next.variable names in
     let all : vars_in (model.groups ++ group ∷ []) ≡ variables model ++ vars = flat_map-append (λ g. g.vars) model.groups (group ∷ []) ∙ ap (λ vs. variables model ++ vs) (append-nil vars) in
     let same = listed_names model.next.variable vars (variables model) c.given_variables above (numbered_rise model.next.variable names) in
     subst (λ gs. Leads model (record model { groups = gs; next = next }) plan) last
     (leads_group model plan model.next.group (Some group) next (listed_variables vars) p refl (λ e. none-some group (sym (find-none_below group_number model.next.group model.groups c.given_groups) ∙ e))
-    (subst (λ gs. Lists plan.names model (record model { groups = gs; next = next })) (sym last)
-    (Lists-groups plan.names (listed_variables vars) model (model.groups ++ group ∷ []) model.objective next p.variables p.row_names (subst (λ vs. ListsNames (listed_variables vars) (variable_name model) (λ n. option_map (λ v. v.name) (find variable_number n vs))) (sym all) same)
+    (subst (λ gs. AreNameChanges plan.names model (record model { groups = gs; next = next })) (sym last)
+    (AreNameChanges-groups plan.names (listed_variables vars) model (model.groups ++ group ∷ []) model.objective next p.variables p.row_names (subst (λ vs. ChangesNames (listed_variables vars) (variable_name model) (λ n. option_map (λ v. v.name) (find variable_number n vs))) (sym all) same)
     (λ n some. let v = listed_new model.next.variable vars (variables model) c.given_variables above n some in let none = no_group n (none_old model.next.variable vars (variables model) c.given_variables above n v.0 v.1) in (
       subst (λ o. IfSome (option_map (λ g. g.id) o) (λ id. id ≡ plan.names.group)) (sym none) tt,
       subst (λ o. IfSome (option_map (λ g. g.id) o) (λ id. id ≡ plan.names.group)) (sym (find-append (has_variable n) model.groups (group ∷ []) ∙ ap (λ o. option_or o (cond (has_variable n group) (Some group) None)) none)) (alone (has_variable n group) group (sym in_group)),

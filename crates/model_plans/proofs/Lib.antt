@@ -7,4 +7,3 @@ pub mod RowPlans
 pub mod GroupPlans
 pub mod DeletionPlans
 pub mod LeftObjectives
-pub mod FirstEdit

@@ -10,25 +10,25 @@ use Rattle.numbered.specs.SetLaws.{find-set_at_other, find-set_at_same}
 use Rattle.user_model.specs.declared.group.Group.{Group}
 use Rattle.user_model.specs.declared.objective.Objective.{Objective}
 use Rattle.user_model.specs.declared.row.Row.{Row}
-use Rattle.user_model.specs.declared.undo.Numbers.{Numbers}
-use Rattle.user_model.specs.Model.{UserModel}
+use Rattle.user_model.specs.declared.undo.NextNumbers.{NextNumbers}
+use Rattle.user_model.specs.Model.{ModelValue}
 use Rattle.user_model.specs.Edited.{row_number}
-use Rattle.model_catalog.specs.declared.names.Listed.{Listed}
-use Rattle.model_catalog.specs.declared.names.Listing.{Listing}
+use Rattle.model_catalog.specs.declared.names.NameChange.{NameChange}
+use Rattle.model_catalog.specs.declared.names.NameChanges.{NameChanges}
 use Rattle.model_catalog.specs.Names.{listed_number}
 use Rattle.model_catalog.specs.Index.{group_number_of}
 use Rattle.model_plans.specs.Plans.{IsRenamed}
-use Rattle.model_catalog.specs.Named.{IsInGroup, Lists, ListsNames, variable_name}
+use Rattle.model_catalog.specs.Named.{IsInGroup, AreNameChanges, ChangesNames, variable_name}
 
 pub none_listed : {X : Type 0} (o : Option X) → o ≡ None → IsSome o → ⊥
 none_listed o e some = let both : false ≡ true = sym (ap is_some e) ∙ some in cc
 
 -- no name changes
-pub unlisted : (old new : ℕ → Option (List ℕ)) → ((n : ℕ) → new n ≡ old n) → ListsNames [] old new
+pub unlisted : (old new : ℕ → Option (List ℕ)) → ((n : ℕ) → new n ≡ old n) → ChangesNames [] old new
 unlisted old new same = record { rising = Rise-nil listed_number; named = same }
 
 -- one name changes, or comes, or goes
-pub one_listed : (l : Listed) (old new : ℕ → Option (List ℕ)) → new l.number ≡ l.name → ((n : ℕ) → n ≢ l.number → new n ≡ old n) → ListsNames (l ∷ []) old new
+pub one_listed : (l : NameChange) (old new : ℕ → Option (List ℕ)) → new l.number ≡ l.name → ((n : ℕ) → n ≢ l.number → new n ≡ old n) → ChangesNames (l ∷ []) old new
 one_listed l old new here elsewhere = record {
   rising = Rise-cons listed_number l [] (All-nil (λ m. l.number < m.number)) (Rise-nil listed_number);
   named = λ n. elim (cases_eq l.number n) [
@@ -41,7 +41,7 @@ one_listed l old new here elsewhere = record {
   ];
 }
 
-pub one_renamed : (naming : ℕ → Option (List ℕ)) (l : Listed) → IsRenamed naming l → All (IsRenamed naming) (l ∷ [])
+pub one_renamed : (naming : ℕ → Option (List ℕ)) (l : NameChange) → IsRenamed naming l → All (IsRenamed naming) (l ∷ [])
 one_renamed naming l other = All-cons (IsRenamed naming) l [] other (All-nil (IsRenamed naming))
 
 -- ---- one row
@@ -57,7 +57,7 @@ pub row_named_elsewhere : (m : ℕ) (new : Option Row) (rows : List Row) (n : �
 row_named_elsewhere m new rows n at off = ap (option_map (λ r. r.name)) (find-set_at_other row_number n m new rows off at)
 
 -- a row keeps its name
-pub row_unlisted : (m : ℕ) (new : Option Row) (rows : List Row) → IsAt row_number m new → option_map (λ r. r.name) new ≡ row_names_in rows m → ListsNames [] (row_names_in rows) (row_names_in (set_at row_number m new rows))
+pub row_unlisted : (m : ℕ) (new : Option Row) (rows : List Row) → IsAt row_number m new → option_map (λ r. r.name) new ≡ row_names_in rows m → ChangesNames [] (row_names_in rows) (row_names_in (set_at row_number m new rows))
 row_unlisted m new rows at same =
     unlisted (row_names_in rows) (row_names_in (set_at row_number m new rows)) (λ n. elim (cases_eq m n) [
       | inl here ↦ subst (λ k. row_names_in (set_at row_number m new rows) k ≡ row_names_in rows k) here (row_named_there m new rows at ∙ same)
@@ -65,26 +65,26 @@ row_unlisted m new rows at same =
     ])
 
 -- a row comes, goes or has another name
-pub row_listed : (l : Listed) (m : ℕ) (new : Option Row) (rows : List Row) → IsAt row_number m new → l.number ≡ m → option_map (λ r. r.name) new ≡ l.name → ListsNames (l ∷ []) (row_names_in rows) (row_names_in (set_at row_number m new rows))
+pub row_listed : (l : NameChange) (m : ℕ) (new : Option Row) (rows : List Row) → IsAt row_number m new → l.number ≡ m → option_map (λ r. r.name) new ≡ l.name → ChangesNames (l ∷ []) (row_names_in rows) (row_names_in (set_at row_number m new rows))
 row_listed l m new rows at number name =
     one_listed l (row_names_in rows) (row_names_in (set_at row_number m new rows)) (subst (λ k. row_names_in (set_at row_number m new rows) k ≡ l.name) (sym number) (row_named_there m new rows at ∙ name)) (λ n off. row_named_elsewhere m new rows n at (λ e. off (e ∙ sym number)))
 
 -- ---- a listing
 
 -- no variable's name changes
-pub Lists-rows : (names : Listing) (listed : List Listed) (model : UserModel) (rows : List Row) (o : Objective) (k : Numbers) → names.variables.items ≡ [] → names.rows.items ≡ listed → ListsNames listed (row_names_in model.rows) (row_names_in rows) → Lists names model (record { groups = model.groups; rows = rows; objective = o; next = k })
-Lists-rows names listed model rows o k none is h = record {
-  variables = subst (λ ls. ListsNames ls (variable_name model) (variable_name model)) (sym none) (unlisted (variable_name model) (variable_name model) (λ n. refl));
-  rows = subst (λ ls. ListsNames ls (row_names_in model.rows) (row_names_in rows)) (sym is) h;
+pub AreNameChanges-rows : (names : NameChanges) (listed : List NameChange) (model : ModelValue) (rows : List Row) (o : Objective) (k : NextNumbers) → names.variables.items ≡ [] → names.rows.items ≡ listed → ChangesNames listed (row_names_in model.rows) (row_names_in rows) → AreNameChanges names model (record { groups = model.groups; rows = rows; objective = o; next = k })
+AreNameChanges-rows names listed model rows o k none is h = record {
+  variables = subst (λ ls. ChangesNames ls (variable_name model) (variable_name model)) (sym none) (unlisted (variable_name model) (variable_name model) (λ n. refl));
+  rows = subst (λ ls. ChangesNames ls (row_names_in model.rows) (row_names_in rows)) (sym is) h;
   in_group = λ n some. absurd (none_listed (find listed_number n names.variables.items) (ap (find listed_number n) none) some);
   others = λ n absent. refl;
 }
 
 -- no row's name changes
-pub Lists-groups : (names : Listing) (listed : List Listed) (model : UserModel) (groups : List Group) (o : Objective) (k : Numbers) → names.variables.items ≡ listed → names.rows.items ≡ [] → ListsNames listed (variable_name model) (variable_name (record model { groups = groups })) → ((n : ℕ) → IsSome (find listed_number n listed) → IsInGroup names.group model n × IsInGroup names.group (record model { groups = groups }) n) → ((n : ℕ) → find listed_number n listed ≡ None → group_number_of (record model { groups = groups }) n ≡ group_number_of model n) → Lists names model (record { groups = groups; rows = model.rows; objective = o; next = k })
-Lists-groups names listed model groups o k is none h inside others = record {
-  variables = subst (λ ls. ListsNames ls (variable_name model) (variable_name (record model { groups = groups }))) (sym is) h;
-  rows = subst (λ ls. ListsNames ls (row_names_in model.rows) (row_names_in model.rows)) (sym none) (unlisted (row_names_in model.rows) (row_names_in model.rows) (λ n. refl));
+pub AreNameChanges-groups : (names : NameChanges) (listed : List NameChange) (model : ModelValue) (groups : List Group) (o : Objective) (k : NextNumbers) → names.variables.items ≡ listed → names.rows.items ≡ [] → ChangesNames listed (variable_name model) (variable_name (record model { groups = groups })) → ((n : ℕ) → IsSome (find listed_number n listed) → IsInGroup names.group model n × IsInGroup names.group (record model { groups = groups }) n) → ((n : ℕ) → find listed_number n listed ≡ None → group_number_of (record model { groups = groups }) n ≡ group_number_of model n) → AreNameChanges names model (record { groups = groups; rows = model.rows; objective = o; next = k })
+AreNameChanges-groups names listed model groups o k is none h inside others = record {
+  variables = subst (λ ls. ChangesNames ls (variable_name model) (variable_name (record model { groups = groups }))) (sym is) h;
+  rows = subst (λ ls. ChangesNames ls (row_names_in model.rows) (row_names_in model.rows)) (sym none) (unlisted (row_names_in model.rows) (row_names_in model.rows) (λ n. refl));
   in_group = λ n some. inside n (subst (λ ls. IsSome (find listed_number n ls)) is some);
   others = λ n absent. others n (subst (λ ls. find listed_number n ls ≡ None) is absent);
 }

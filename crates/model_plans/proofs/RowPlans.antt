@@ -14,15 +14,15 @@ use Rattle.user_model.specs.declared.function.UserFunc.{UserFunc}
 use Rattle.user_model.specs.declared.function.UserFunc.TheVariants.{Affine, AffineVec}
 use Rattle.user_model.specs.declared.row.Row.{Row}
 use Rattle.user_model.specs.Functions.{is_scalar_affine, is_vector_affine, components}
-use Rattle.user_model.specs.Model.{UserModel, row_named}
+use Rattle.user_model.specs.Model.{ModelValue, row_named}
 use Rattle.user_model.specs.Edited.{add_row, change_function, change_row, changed_at, delete_row, edited, on_affine, on_output, row_number}
 use Rattle.user_model.specs.Consistent.{IsConsistent}
 use Rattle.user_model.specs.Limits.{LAST_NUMBER}
-use Rattle.user_model.specs.Refusals.{has_row_named, is_misshapen, is_no_output, needed_row, row_is}
+use Rattle.user_model.specs.Refusals.{has_row_named, meets_function_shape, meets_output_index, needed_row, row_is}
 use Rattle.model_laws.specs.Changed.{delete_row-found}
 use Rattle.model_laws.specs.Found.{found_stands}
 use Rattle.model_laws.specs.KeptWithin.{kept_within}
-use Rattle.model_laws.specs.Listed.{set_all_last, set_to}
+use Rattle.model_laws.specs.ItemChanges.{set_all_last, set_to}
 use Rattle.model_laws.specs.Located.{free_row, row_by_number}
 use Rattle.model_laws.specs.Needed.{needed_row_there}
 use Rattle.model_laws.specs.Passed.{passed}
@@ -38,17 +38,17 @@ use Rattle.model_plans.proofs.Leading.{leads_changed_row, leads_renamed_row, lea
 
 -- ---- what an accepted edit finds
 
-module _ (model : UserModel) (e : Edit) (name : List ℕ) (needs : needed_row e ≡ Some name) (h : Accepts model e) where
+module _ (model : ModelValue) (e : Edit) (name : List ℕ) (needs : needed_row e ≡ Some name) (h : Accepts model e) where
   pub row_there : (row : Row) × (row_named model name ≡ Some row)
   row_there = needed_row_there model e name needs (passed model e h.accepted).known
 
-  pub affine_row : is_misshapen model e ≡ row_is (λ r. not (is_scalar_affine r.func)) model name → HasAffineRow model name
+  pub affine_row : meets_function_shape model e ≡ row_is (λ r. not (is_scalar_affine r.func)) model name → HasAffineRow model name
   affine_row shape =
       let there = row_there in
       let func = scalar_affine there.0.func (not-false (is_scalar_affine there.0.func) (row_fails (λ r. not (is_scalar_affine r.func)) model name there.0 there.1 (sym shape ∙ (passed model e h.accepted).shaped))) in
       record { consistent = h.consistent; row = there.0; found = there.1; func = func.0; affine = func.1 }
 
-  pub output_row : (output : ℕ) → is_misshapen model e ≡ row_is (λ r. not (is_vector_affine r.func)) model name → is_no_output model e ≡ row_is (λ r. output == 0 || nat_lt (components r.func) output) model name → HasOutput model name output
+  pub output_row : (output : ℕ) → meets_function_shape model e ≡ row_is (λ r. not (is_vector_affine r.func)) model name → meets_output_index model e ≡ row_is (λ r. output == 0 || nat_lt (components r.func) output) model name → HasOutput model name output
   output_row output shape outputs =
       let there = row_there in
       let func = vector_affine there.0.func (not-false (is_vector_affine there.0.func) (row_fails (λ r. not (is_vector_affine r.func)) model name there.0 there.1 (sym shape ∙ (passed model e h.accepted).shaped))) in
@@ -60,7 +60,7 @@ module _ (model : UserModel) (e : Edit) (name : List ℕ) (needs : needed_row e 
       positive m ne = omega (arith, ne)
 
 -- the next number of rows fits
-pub next_row : (model : UserModel) (name : List ℕ) (func : NamedFunc) (set : Set) → Accepts model (edit.AddRow name func set) → model.next.row + 1 ≤ LAST_NUMBER + 1
+pub next_row : (model : ModelValue) (name : List ℕ) (func : NamedFunc) (set : Set) → Accepts model (edit.AddRow name func set) → model.next.row + 1 ≤ LAST_NUMBER + 1
 unfolding edited
 next_row model name func set h = (kept_within model (edit.AddRow name func set) h.consistent h.within h.accepted).row_numbers
 
@@ -75,7 +75,7 @@ changed_split i h xs x e = rw add-one (from i xs e)
     from zero (y ∷ ys) is = let same : y ≡ x = cc in ap (λ z. h z ∷ ys) same
     from (suc i) (y ∷ ys) is = ap (λ zs. y ∷ zs) (from i ys is)
 
-module _ (model : UserModel) (plan : Plan) (c : IsConsistent model) (name : List ℕ) (row : Row) (found : row_named model name ≡ Some row) where
+module _ (model : ModelValue) (plan : Plan) (c : IsConsistent model) (name : List ℕ) (row : Row) (found : row_named model name ≡ Some row) where
   abbrev IsUnchanged : Type 0
   IsUnchanged = HasParts plan [] [] None model.next [] []
 
@@ -114,7 +114,7 @@ module _ (model : UserModel) (plan : Plan) (c : IsConsistent model) (name : List
       let there = row_by_number model name row c found in
       subst (λ after. Leads model after plan) (sym (delete_row-found model name row found)) (leads_row model plan row.id None model.next (listed_as row.id None ∷ []) p tt (λ same. none-some row (sym same ∙ there)) (row_listed (listed_as row.id None) row.id None model.rows tt refl refl) (one_renamed (row_name model) (listed_as row.id None) (λ same. none-some row.name (sym same ∙ ap (option_map (λ r. r.name)) there))))
 
-pub added_leads : (model : UserModel) (plan : Plan) (name : List ℕ) (func : UserFunc) (set : Set) → IsConsistent model → HasParts plan [] (record { number = model.next.row; content = Some (record { id = model.next.row; name = name; func = func; set = set }) } ∷ []) None (record model.next { row = model.next.row + 1 }) [] (listed_as model.next.row (Some name) ∷ []) → Leads model (add_row model name func set) plan
+pub added_leads : (model : ModelValue) (plan : Plan) (name : List ℕ) (func : UserFunc) (set : Set) → IsConsistent model → HasParts plan [] (record { number = model.next.row; content = Some (record { id = model.next.row; name = name; func = func; set = set }) } ∷ []) None (record model.next { row = model.next.row + 1 }) [] (listed_as model.next.row (Some name) ∷ []) → Leads model (add_row model name func set) plan
 added_leads model plan name func set c p =
     let row : Row = record { id = model.next.row; name = name; func = func; set = set } in
     let free : find row_number model.next.row model.rows ≡ None = find-none_below row_number model.next.row model.rows c.given_rows in

@@ -10,44 +10,44 @@ use Rattle.user_model.specs.declared.group.Group.{Group}
 use Rattle.user_model.specs.declared.group.GroupVar.{GroupVar}
 use Rattle.user_model.specs.declared.objective.Objective.{Objective}
 use Rattle.user_model.specs.declared.row.Row.{Row}
-use Rattle.user_model.specs.declared.undo.Numbers.{Numbers}
-use Rattle.user_model.specs.Model.{UserModel, row_named}
+use Rattle.user_model.specs.declared.undo.NextNumbers.{NextNumbers}
+use Rattle.user_model.specs.Model.{ModelValue, row_named}
 use Rattle.user_model.specs.Edited.{group_number, row_number, with_constant}
 use Rattle.user_model.specs.Consistent.{IsConsistent, IsWithinLimits}
 use Rattle.user_model.specs.Refusals.{first_refusal}
 use Rattle.user_model.specs.Undone.{IsOldObjective}
 use Rattle.model_laws.specs.Undoing.{Differs}
-use Rattle.model_catalog.specs.declared.names.Listed.{Listed}
+use Rattle.model_catalog.specs.declared.names.NameChange.{NameChange}
 use Rattle.model_plans.specs.declared.parts.Part.{Part}
 use Rattle.model_plans.specs.declared.parts.Part.TheVariants.{Coefficient, Constant}
 use Rattle.model_plans.specs.declared.plan.Plan.{Plan}
 use Rattle.model_catalog.specs.Exchange.{IsExchange, exchanged}
-use Rattle.model_catalog.specs.Named.{Lists, row_name, variable_name}
+use Rattle.model_catalog.specs.Named.{AreNameChanges, row_name, variable_name}
 use Rattle.model_catalog.specs.Names.{listed_as}
 
 -- the edit is made on a model as edits lead to, and isn't refused
-pub record Accepts (model : UserModel) (e : Edit) : Type 0 where
+pub record Accepts (model : ModelValue) (e : Edit) : Type 0 where
   pub consistent : IsConsistent model
   pub within : IsWithinLimits model
   pub accepted : first_refusal model e ≡ None
 
 -- the name that is listed, or none, is other than the name that stands at its number
-abbrev pub IsRenamed : (ℕ → Option (List ℕ)) → Listed → Type 0
+abbrev pub IsRenamed : (ℕ → Option (List ℕ)) → NameChange → Type 0
 IsRenamed naming l = naming l.number ≢ l.name
 
 -- the plan leads from the model to the one after, and has exactly what differs
-pub record Leads (model target : UserModel) (plan : Plan) : Type 0 where
+pub record Leads (model target : ModelValue) (plan : Plan) : Type 0 where
   pub changes : IsExchange plan.exchange
   pub after : exchanged plan.exchange model ≡ target
   pub groups : All (Differs group_number model.groups) plan.exchange.groups.items
   pub rows : All (Differs row_number model.rows) plan.exchange.rows.items
   pub objective : IsOldObjective target.objective model.objective plan.exchange.objective
-  pub names : Lists plan.names model target
+  pub names : AreNameChanges plan.names model target
   pub variable_names : All (IsRenamed (variable_name model)) plan.names.variables.items
   pub row_names : All (IsRenamed (row_name model)) plan.names.rows.items
 
 -- the parts of a plan
-pub record HasParts (plan : Plan) (group_list : List (Change Group)) (row_list : List (Change Row)) (content : Option Objective) (numbers : Numbers) (variable_list row_name_list : List Listed) : Type 0 where
+pub record HasParts (plan : Plan) (group_list : List (Change Group)) (row_list : List (Change Row)) (content : Option Objective) (numbers : NextNumbers) (variable_list row_name_list : List NameChange) : Type 0 where
   pub groups : plan.exchange.groups.items ≡ group_list
   pub rows : plan.exchange.rows.items ≡ row_list
   pub objective : plan.exchange.objective ≡ content
@@ -60,11 +60,11 @@ abbrev pub IsChange : {X : Type 0} → X → X → Option X → Type 0
 IsChange old new found = MatchOption found (new ≡ old) (λ x. (x ≡ new) × (x ≢ old))
 
 -- the variables with their names
-abbrev pub listed_variables : List GroupVar → List Listed
+abbrev pub listed_variables : List GroupVar → List NameChange
 listed_variables vars = map (λ v. listed_as v.number (Some v.name)) vars
 
 -- the rows that go
-abbrev pub gone : List (Change Row) → List Listed
+abbrev pub gone : List (Change Row) → List NameChange
 gone changes = map (λ c. listed_as c.number None) (filter (λ c. is_none c.content) changes)
 
 -- the function with another coefficient, or with another constant
@@ -73,7 +73,7 @@ with_part (Coefficient at) value f = with_coefficient f at value
 with_part Constant value f = with_constant f value
 
 -- the row with a name stands, and is scalar affine
-pub record HasAffineRow (model : UserModel) (name : List ℕ) : Type 0 where
+pub record HasAffineRow (model : ModelValue) (name : List ℕ) : Type 0 where
   pub consistent : IsConsistent model
   pub row : Row
   pub found : row_named model name ≡ Some row
@@ -81,7 +81,7 @@ pub record HasAffineRow (model : UserModel) (name : List ℕ) : Type 0 where
   pub affine : row.func ≡ Affine func
 
 -- the row with a name stands, and is vector affine with this output, counted from 1
-pub record HasOutput (model : UserModel) (name : List ℕ) (output : ℕ) : Type 0 where
+pub record HasOutput (model : ModelValue) (name : List ℕ) (output : ℕ) : Type 0 where
   pub consistent : IsConsistent model
   pub row : Row
   pub found : row_named model name ≡ Some row

@@ -3,18 +3,18 @@ ghost use Rattle.std.specs.Prelude.{◌≡◌, IfOk, Some, filter, not, ◌==◌
 ghost use Rattle.std.specs.List.{list_any};
 ghost use Rattle.user_model.specs.Edited.{edited, row_number};
 ghost use Rattle.user_model.specs.Deletion.{group_without, objective_without, row_without, without_term};
-ghost use Rattle.user_model.specs.Model.{has_variable};
-ghost use Rattle.user_model.specs.Sets.{resized};
+ghost use Rattle.user_model.specs.Model.{has_variable, row_mentions};
+ghost use Rattle.set_core.specs.Shapes.{resized};
 ghost use Rattle.user_model.specs.declared.edit.Edit.TheVariants.{DeleteVariable};
-ghost use Rattle.model_laws.specs.Listed.{edits_of};
-ghost use Rattle.model_laws.specs.Mentions.{func_mentions, has_term, row_mentions};
+ghost use Rattle.model_laws.specs.ItemChanges.{edits_of};
+ghost use Rattle.user_model.specs.Functions.{func_mentions, has_term};
 ghost use Rattle.model_plans.specs.Plans.{Accepts, IsChange, Leads, gone};
 
 use crate::lists::only;
 use crate::plan::Plan;
 use aff_core::{Address, Aff, Root, VecAff, has_address, without_address};
 use lists::Duplicate;
-use model_catalog::{Catalog, Listed};
+use model_catalog::{Catalog, NameChange};
 use name_index::Name;
 use numbered::Change;
 use ratio_core::{Memory, Ratio};
@@ -39,11 +39,11 @@ pub(crate) fn delete(alloc: Global, model: &Catalog, var: &Name) -> Result<Plan,
         number: group.id,
         content: group_without(alloc, group, number)?,
     };
-    let listed = only(alloc, Listed::new(number, None))?;
+    let listed = only(alloc, NameChange::new(number, None))?;
     let mut plan = Plan::of_group_change(alloc, change, listed, model.next())?;
     plan.exchange.rows = rows_without(alloc, model.rows(), &at)?;
     plan.names.rows = gone_rows(alloc, &plan.exchange.rows)?;
-    plan.exchange.objective = objective_without(alloc, model.objective(), &at)?;
+    plan.exchange.objective = objective_without(model.objective(), &at)?;
     Ok(plan)
 }
 
@@ -65,13 +65,13 @@ fn rows_without(alloc: Global, rows: &[Row], at: &Address) -> Result<Vec<Change<
 }
 
 // The rows that go, without their names.
-fn gone_rows(alloc: Global, changes: &[Change<Row>]) -> Result<Vec<Listed>, Memory>
+fn gone_rows(alloc: Global, changes: &[Change<Row>]) -> Result<Vec<NameChange>, Memory>
     ensures { IfOk result (λ names. names.items ≡ gone changes.now) }
 {
     let mut names = Vec::new(alloc);
     for change in changes {
         if change.content.is_none() {
-            names.push(Listed::new(change.number, None))?;
+            names.push(NameChange::new(change.number, None))?;
         }
     }
     Ok(names)
@@ -103,7 +103,7 @@ fn row_without(alloc: Global, row: &Row, at: &Address) -> Result<Option<Row>, Me
     match &row.func {
         UserFunc::Plain(_) => Ok(None),
         UserFunc::Affine(f) => {
-            let f = f.with_coef(alloc, at, Ratio::zero())?;
+            let f = f.with_coef(at, Ratio::zero())?;
             with_content(row, UserFunc::Affine(f), row.set.copy(alloc)?)
         }
         UserFunc::PlainVec(vars) => {
@@ -111,7 +111,7 @@ fn row_without(alloc: Global, row: &Row, at: &Address) -> Result<Option<Row>, Me
             if left.is_empty() {
                 return Ok(None);
             }
-            let set = resized(alloc, &row.set, left.len())?;
+            let set = row.set.resized(alloc, left.len())?;
             with_content(row, UserFunc::PlainVec(left), set)
         }
         UserFunc::AffineVec(funcs) => {
@@ -139,27 +139,9 @@ fn all_without(alloc: Global, funcs: &[Aff], at: &Address) -> Result<Vec<Aff>, M
 {
     let mut left = Vec::with_capacity(alloc, funcs.len())?;
     for f in funcs {
-        left.push(f.with_coef(alloc, at, Ratio::zero())?)?;
+        left.push(f.with_coef(at, Ratio::zero())?)?;
     }
     Ok(left)
-}
-
-// The set of the same type for so many components; a scalar set stays. More components than a dimension counts find no memory.
-fn resized(alloc: Global, set: &Set, components: usize) -> Result<Set, Memory>
-    ensures { IfOk result (λ other. other ≡ resized components set.now) }
-{
-    let Ok(dimension) = u32::try_from(components) else {
-        return Err(Memory);
-    };
-    match set {
-        Set::Reals { .. } => Ok(Set::Reals { dimension }),
-        Set::Zeros { .. } => Ok(Set::Zeros { dimension }),
-        Set::Nonnegatives { .. } => Ok(Set::Nonnegatives { dimension }),
-        Set::Nonpositives { .. } => Ok(Set::Nonpositives { dimension }),
-        Set::NormInfinityCone { .. } => Ok(Set::NormInfinityCone { dimension }),
-        Set::NormOneCone { .. } => Ok(Set::NormOneCone { dimension }),
-        _ => set.copy(alloc),
-    }
 }
 
 // The group without the variable, and none where it was the only one.
@@ -171,7 +153,7 @@ fn group_without(alloc: Global, group: &Group, number: u32) -> Result<Option<Gro
     if vars.is_empty() {
         return Ok(None);
     }
-    let set = resized(alloc, &group.set, vars.len())?;
+    let set = group.set.resized(alloc, vars.len())?;
     Ok(Some(Group {
         id: group.id,
         vars: GroupVars::from_vec(vars),
@@ -192,11 +174,7 @@ fn other_vars(alloc: Global, vars: &[GroupVar], number: u32) -> Result<Vec<Group
 }
 
 // The objective without the variable, and none where it doesn't mention it.
-fn objective_without(
-    alloc: Global,
-    objective: &Objective,
-    at: &Address,
-) -> Result<Option<Objective>, Memory>
+fn objective_without(objective: &Objective, at: &Address) -> Result<Option<Objective>, Memory>
     ensures { IfOk result (IsChange objective.now (objective_without at.now objective.now)) }
 {
     match objective {
@@ -213,7 +191,7 @@ fn objective_without(
             }
             Ok(Some(Objective::Affine {
                 sense: *sense,
-                func: func.with_coef(alloc, at, Ratio::zero())?,
+                func: func.with_coef(at, Ratio::zero())?,
             }))
         }
     }

@@ -9,12 +9,12 @@ ghost use Rattle.model_plans.specs.Plans.{Accepts, Leads, listed_variables};
 use crate::lists::only;
 use crate::plan::Plan;
 use lists::Duplicate;
-use model_catalog::{Catalog, Listed};
+use model_catalog::{Catalog, NameChange};
 use name_index::{Name, Names};
 use ratio_core::Memory;
 use set_core::Set;
 use std::alloc::Global;
-use user_model::{Group, GroupVar, GroupVars, Numbers};
+use user_model::{Group, GroupVar, GroupVars, NextNumbers};
 
 /// A new group. Each name is copied into the group and into the listing.
 pub(crate) fn add(alloc: Global, model: &Catalog, names: &Names, set: Set) -> Result<Plan, Memory>
@@ -24,7 +24,7 @@ pub(crate) fn add(alloc: Global, model: &Catalog, names: &Names, set: Set) -> Re
     let next = model.next();
     let vars = numbered_vars(alloc, names, next.variable)?;
     let listed = listed_vars(alloc, &vars)?;
-    let after = Numbers {
+    let after = NextNumbers {
         group: next.group + 1,
         variable: next.variable + names.len() as u32,
         row: next.row,
@@ -57,12 +57,12 @@ fn numbered_vars(alloc: Global, names: &Names, first: u32) -> Result<Vec<GroupVa
 }
 
 // The variables with their names.
-fn listed_vars(alloc: Global, vars: &[GroupVar]) -> Result<Vec<Listed>, Memory>
+fn listed_vars(alloc: Global, vars: &[GroupVar]) -> Result<Vec<NameChange>, Memory>
     ensures { IfOk result (λ names. names.items ≡ listed_variables vars.now) }
 {
     let mut names = Vec::with_capacity(alloc, vars.len())?;
     for var in vars {
-        names.push(Listed::new(var.number, Some(var.name.copy()?)))?;
+        names.push(NameChange::new(var.number, Some(var.name.copy()?)))?;
     }
     Ok(names)
 }
@@ -122,7 +122,7 @@ pub(crate) fn rename(alloc: Global, model: &Catalog, old: &Name, new: Name) -> R
         vars: GroupVars::from_vec(vars),
         set: group.set.copy(alloc)?,
     };
-    let listed = only(alloc, Listed::new(number, Some(new)))?;
+    let listed = only(alloc, NameChange::new(number, Some(new)))?;
     Plan::of_group(alloc, group, listed, model.next())
 }
 

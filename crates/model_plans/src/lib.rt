@@ -11,6 +11,3 @@ mod plan;
 mod rows;
 
 pub use plan::{Plan, planned};
-
-#[cfg(test)]
-mod tests;

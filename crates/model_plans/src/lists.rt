@@ -2,6 +2,7 @@
 ghost use Rattle.std.specs.Prelude.{◌≡◌, ◌+◌, ◌<◌, ◌∷◌, [], ◌++◌, IfOk, length, take, drop};
 
 use aff_core::{Aff, VecAff};
+use lists::Duplicate;
 use ratio_core::Memory;
 use std::alloc::Global;
 
@@ -25,17 +26,17 @@ pub(crate) fn with_component(
     ensures { IfOk result (λ copies. copies ≡ take place funcs.now ++ (func ∷ drop (place + 1) funcs.now)) }
 {
     let mut copies = Vec::with_capacity(alloc, funcs.len())?;
-    copy_onto(alloc, &mut copies, &funcs[..place])?;
+    copy_onto(&mut copies, &funcs[..place])?;
     copies.push(func)?;
-    copy_onto(alloc, &mut copies, &funcs[place + 1..])?;
+    copy_onto(&mut copies, &funcs[place + 1..])?;
     Ok(VecAff::from_vec(copies))
 }
 
-fn copy_onto(alloc: Global, copies: &mut Vec<Aff>, funcs: &[Aff]) -> Result<(), Memory>
+fn copy_onto(copies: &mut Vec<Aff>, funcs: &[Aff]) -> Result<(), Memory>
     ensures { IfOk result (λ _. copies.new.items ≡ copies.old.items ++ funcs.now) }
 {
     for func in funcs {
-        copies.push(func.copy(alloc)?)?;
+        copies.push(func.copy()?)?;
     }
     Ok(())
 }

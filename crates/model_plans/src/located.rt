@@ -1,7 +1,10 @@
 //! Functions over the addresses of variables, from functions by the names of variables that stand in the model.
 ghost use Rattle.std.specs.Prelude.{◌≡◌, IfOk, map};
 ghost use Rattle.user_model.specs.Model.{address_named};
+ghost use Rattle.user_model.specs.Consistent.{IsConsistent};
 ghost use Rattle.user_model.specs.Edited.{affine, located};
+ghost use Rattle.user_model.specs.Refusals.{IsKnown};
+ghost use Rattle.user_model.specs.declared.edit.NamedFunc.TheVariants.{Affine, AffineVec};
 
 use aff_core::{Address, Addresses, Aff, Root, VecAff};
 use model_catalog::Catalog;
@@ -20,6 +23,8 @@ pub(crate) fn address_named(model: &Catalog, name: &Name) -> Address
 
 /// The function over the addresses of its variables, which are to stand in the model.
 pub(crate) fn located(alloc: Global, model: &Catalog, func: &NamedFunc) -> Result<UserFunc, Memory>
+    requires consistent { IsConsistent model.now.model }
+    requires known { IsKnown model.now.model func.now }
     ensures { IfOk result (λ f. f ≡ located model.now.model func.now) }
 {
     Ok(match func {
@@ -32,6 +37,8 @@ pub(crate) fn located(alloc: Global, model: &Catalog, func: &NamedFunc) -> Resul
 
 /// The same of an affine function: terms that are zero are dropped.
 pub(crate) fn affine(alloc: Global, model: &Catalog, func: &NamedAff) -> Result<Aff, Memory>
+    requires consistent { IsConsistent model.now.model }
+    requires known { IsKnown model.now.model (Affine func.now) }
     ensures { IfOk result (λ f. f ≡ affine model.now.model func.now) }
 {
     let terms = located_terms(alloc, model, func.terms.as_slice())?;
@@ -66,6 +73,8 @@ fn addresses(alloc: Global, model: &Catalog, vars: &Names) -> Result<Addresses, 
 }
 
 fn affines(alloc: Global, model: &Catalog, funcs: &NamedVec) -> Result<VecAff, Memory>
+    requires consistent { IsConsistent model.now.model }
+    requires known { IsKnown model.now.model (AffineVec funcs.now) }
     ensures { IfOk result (λ located. located ≡ map (affine model.now.model) funcs.now) }
 {
     let mut located = Vec::with_capacity(alloc, funcs.len())?;

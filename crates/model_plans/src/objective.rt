@@ -1,7 +1,8 @@
 //! Plans of the edits of the objective.
 ghost use Rattle.std.specs.Prelude.{◌≡◌, ◌≢◌, IfOk, MatchBool, true};
 ghost use Rattle.user_model.specs.Edited.{edited, objective_of, on_objective};
-ghost use Rattle.user_model.specs.Refusals.{is_affine_objective};
+ghost use Rattle.user_model.specs.Consistent.{IsConsistent};
+ghost use Rattle.user_model.specs.Refusals.{IsKnown, is_affine_objective};
 ghost use Rattle.user_model.specs.declared.edit.Edit.TheVariants as edit;
 ghost use Rattle.model_plans.specs.Plans.{Accepts, Leads, with_part};
 
@@ -22,6 +23,7 @@ pub(crate) fn set(
     sense: Sense,
     func: &NamedFunc,
 ) -> Result<Plan, Memory>
+    requires { Accepts model.now.model (edit.Objective sense func.now) }
     ensures { IfOk result (Leads model.now.model (edited model.now.model (edit.Objective sense func.now))) }
 {
     let objective = objective_of(alloc, model, sense, func)?;
@@ -34,6 +36,8 @@ fn objective_of(
     sense: Sense,
     func: &NamedFunc,
 ) -> Result<Objective, Memory>
+    requires consistent { IsConsistent model.now.model }
+    requires known { IsKnown model.now.model func.now }
     ensures { IfOk result (λ objective. objective ≡ objective_of model.now.model sense func.now) }
 {
     Ok(match func {
@@ -109,9 +113,6 @@ fn with_part_of(alloc: Global, model: &Catalog, part: &Part, value: Ratio) -> Re
         unreachable!()
     };
     let sense = *sense;
-    let objective = replaced(alloc, func, part, value)?.map(|func| Objective::Affine {
-        sense,
-        func,
-    });
+    let objective = replaced(func, part, value)?.map(|func| Objective::Affine { sense, func });
     Ok(Plan::of_objective(alloc, objective, model.next()))
 }

@@ -4,7 +4,6 @@ ghost use Rattle.model_plans.specs.Plans.{IsChange, with_part};
 
 use aff_core::{Address, Aff};
 use ratio_core::{Memory, Ratio};
-use std::alloc::Global;
 
 /// What of an affine function an edit changes.
 #[derive(Clone, Copy)]
@@ -14,20 +13,15 @@ pub(crate) enum Part {
 }
 
 /// The function with another coefficient or constant, and none where it has that one.
-pub(crate) fn replaced(
-    alloc: Global,
-    func: &Aff,
-    part: &Part,
-    value: Ratio,
-) -> Result<Option<Aff>, Memory>
+pub(crate) fn replaced(func: &Aff, part: &Part, value: Ratio) -> Result<Option<Aff>, Memory>
     ensures { IfOk result (IsChange func.now (with_part part.now value func.now)) }
 {
     if is_value(func, part, value) {
         return Ok(None);
     }
     Ok(Some(match part {
-        Part::Coefficient(at) => func.with_coef(alloc, at, value)?,
-        Part::Constant => func.with_constant(alloc, value)?,
+        Part::Coefficient(at) => func.with_coef(at, value)?,
+        Part::Constant => func.with_constant(value)?,
     }))
 }
 
@@ -35,8 +29,6 @@ pub(crate) fn replaced(
 fn is_value(func: &Aff, part: &Part, value: Ratio) -> bool
     ensures { MatchBool result (with_part part.now value func.now ≡ func.now) (with_part part.now value func.now ≢ func.now) }
 {
-    // `terms` ensures that no term is 0, so that setting a coefficient of 0 to 0 changes nothing
-    let _ = func.terms();
     match part {
         Part::Coefficient(at) => func.coef(at) == value,
         Part::Constant => func.constant() == value,

@@ -2,34 +2,38 @@
 ghost use Rattle.std.specs.Prelude.{◌≡◌, ◌∷◌, [], IfOk, None};
 ghost use Rattle.std.specs.Option.{option_to_list};
 ghost use Rattle.user_model.specs.Edited.{edited, group_number, row_number};
-ghost use Rattle.model_laws.specs.Listed.{set_to};
+ghost use Rattle.model_laws.specs.ItemChanges.{set_to};
 ghost use Rattle.model_plans.specs.Plans.{Accepts, HasParts, Leads};
 
 use crate::lists::only;
 use crate::{deletion, groups, objective, rows};
-use model_catalog::{Catalog, Exchange, Listed, Listing};
+use model_catalog::{Catalog, Exchange, NameChange, NameChanges};
 use numbered::Change;
 use ratio_core::Memory;
 use std::alloc::Global;
-use user_model::{Edit, Group, Numbers, Objective, Row};
+use user_model::{Edit, Group, NextNumbers, Objective, Row};
 
 /// What is to stand in the model, each content other than what stands there, and the names that change.
 #[derive(Drop)]
 pub struct Plan {
     pub exchange: Exchange,
-    pub names: Listing,
+    pub names: NameChanges,
 }
 
 impl Plan {
     /// Nothing changes.
-    pub(crate) fn unchanged(alloc: Global, next: Numbers) -> Plan
+    pub(crate) fn unchanged(alloc: Global, next: NextNumbers) -> Plan
         ensures { HasParts result [] [] None next [] [] }
     {
         Plan::of_objective(alloc, None, next)
     }
 
     /// Nothing changes but the objective, where one is given.
-    pub(crate) fn of_objective(alloc: Global, objective: Option<Objective>, next: Numbers) -> Plan
+    pub(crate) fn of_objective(
+        alloc: Global,
+        objective: Option<Objective>,
+        next: NextNumbers,
+    ) -> Plan
         ensures { HasParts result [] [] objective next [] [] }
     {
         Plan {
@@ -39,7 +43,7 @@ impl Plan {
                 objective,
                 next,
             },
-            names: Listing {
+            names: NameChanges {
                 group: 0,
                 variables: Vec::new(alloc),
                 rows: Vec::new(alloc),
@@ -51,8 +55,8 @@ impl Plan {
     pub(crate) fn of_row(
         alloc: Global,
         row: Row,
-        name: Option<Listed>,
-        next: Numbers,
+        name: Option<NameChange>,
+        next: NextNumbers,
     ) -> Result<Plan, Memory>
         ensures { IfOk result (λ plan. HasParts plan [] (set_to row_number row ∷ []) None next [] (option_to_list name)) }
     {
@@ -67,8 +71,8 @@ impl Plan {
     pub(crate) fn of_row_change(
         alloc: Global,
         change: Change<Row>,
-        name: Option<Listed>,
-        next: Numbers,
+        name: Option<NameChange>,
+        next: NextNumbers,
     ) -> Result<Plan, Memory>
         ensures { IfOk result (λ plan. HasParts plan [] (change ∷ []) None next [] (option_to_list name)) }
     {
@@ -84,8 +88,8 @@ impl Plan {
     pub(crate) fn of_group(
         alloc: Global,
         group: Group,
-        variables: Vec<Listed>,
-        next: Numbers,
+        variables: Vec<NameChange>,
+        next: NextNumbers,
     ) -> Result<Plan, Memory>
         ensures { IfOk result (λ plan. HasParts plan (set_to group_number group ∷ []) [] None next variables.items [] × (plan.names.group ≡ group.id)) }
     {
@@ -100,8 +104,8 @@ impl Plan {
     pub(crate) fn of_group_change(
         alloc: Global,
         change: Change<Group>,
-        variables: Vec<Listed>,
-        next: Numbers,
+        variables: Vec<NameChange>,
+        next: NextNumbers,
     ) -> Result<Plan, Memory>
         ensures { IfOk result (λ plan. HasParts plan (change ∷ []) [] None next variables.items [] × (plan.names.group ≡ change.number)) }
     {

@@ -2,7 +2,7 @@
 ghost use Rattle.std.specs.Prelude.{◌∷◌, [], IfOk, None};
 ghost use Rattle.user_model.specs.Edited.{edited, change_function, on_affine, on_output, row_number};
 ghost use Rattle.user_model.specs.declared.edit.Edit.TheVariants.{AddRow, Coef, VecCoef, Constant, VecConstant, RowSet, DeleteRow, RenameRow};
-ghost use Rattle.model_laws.specs.Listed.{set_to};
+ghost use Rattle.model_laws.specs.ItemChanges.{set_to};
 ghost use Rattle.model_plans.specs.Plans.{Accepts, HasAffineRow, HasOutput, HasParts, Leads, with_part};
 
 use crate::lists::with_component;
@@ -10,13 +10,13 @@ use crate::located::{address_named, located};
 use crate::parts::{Part, replaced};
 use crate::plan::Plan;
 use lists::Duplicate;
-use model_catalog::{Catalog, Listed};
+use model_catalog::{Catalog, NameChange};
 use name_index::Name;
 use numbered::Change;
 use ratio_core::{Memory, Ratio};
 use set_core::Set;
 use std::alloc::Global;
-use user_model::{NamedFunc, Numbers, Row, UserFunc};
+use user_model::{NamedFunc, NextNumbers, Row, UserFunc};
 
 /// A new row. Its function is made anew over the addresses of its variables, and its name is copied into the listing.
 pub(crate) fn add(
@@ -30,14 +30,14 @@ pub(crate) fn add(
     ensures { IfOk result (Leads model.now.model (edited model.now.model (AddRow name func.now set))) }
 {
     let next = model.next();
-    let listed = Listed::new(next.row, Some(name.copy()?));
+    let listed = NameChange::new(next.row, Some(name.copy()?));
     let row = Row {
         id: next.row,
         name,
         func: located(alloc, model, func)?,
         set,
     };
-    let after = Numbers {
+    let after = NextNumbers {
         group: next.group,
         variable: next.variable,
         row: next.row + 1,
@@ -92,7 +92,7 @@ fn scalar(
     let UserFunc::Affine(func) = &row.func else {
         unreachable!()
     };
-    match replaced(alloc, func, part, value)? {
+    match replaced(func, part, value)? {
         Some(func) => with_function(alloc, model, row, UserFunc::Affine(func)),
         None => Ok(Plan::unchanged(alloc, model.next())),
     }
@@ -152,7 +152,7 @@ fn vector(
     let Some(func) = funcs.get(place) else {
         unreachable!()
     };
-    match replaced(alloc, func, part, value)? {
+    match replaced(func, part, value)? {
         Some(func) => {
             let funcs = with_component(alloc, funcs.as_slice(), place, func)?;
             with_function(alloc, model, row, UserFunc::AffineVec(funcs))
@@ -206,7 +206,12 @@ pub(crate) fn delete(alloc: Global, model: &Catalog, row: &Name) -> Result<Plan,
         number: row.id,
         content: None,
     };
-    Plan::of_row_change(alloc, change, Some(Listed::new(row.id, None)), model.next())
+    Plan::of_row_change(
+        alloc,
+        change,
+        Some(NameChange::new(row.id, None)),
+        model.next(),
+    )
 }
 
 /// Another name of a row. It copies the row.
@@ -217,7 +222,7 @@ pub(crate) fn rename(alloc: Global, model: &Catalog, old: &Name, new: Name) -> R
     let Some(row) = model.row(old) else {
         unreachable!()
     };
-    let listed = Listed::new(row.id, Some(new.copy()?));
+    let listed = NameChange::new(row.id, Some(new.copy()?));
     let row = Row {
         id: row.id,
         name: new,

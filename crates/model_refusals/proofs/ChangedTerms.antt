@@ -8,6 +8,8 @@ use Rattle.std.proofs.lemmas.List.Sums.{sum_by-cons}
 use Rattle.ratio_core.specs.Rational.{Rational, rational_eq, zero_ℚ}
 use Rattle.aff_core.specs.Address.{Address, address_cmp, address_total}
 use Rattle.aff_core.specs.Function.{Function, with_coefficient}
+use Rattle.aff_core.specs.FunctionLaws.{terms-with_coefficient}
+use Rattle.aff_core.specs.KeyOrder.{address_order}
 use Rattle.user_model.specs.Edited.{changed_at}
 use Rattle.user_model.specs.Functions.{term_count}
 
@@ -36,8 +38,7 @@ module _ (f : Function) (at : Address) where
   inserted false n le = omega arith
 
   pub terms_with-is : (value : Rational) → term_count (with_coefficient f at value) ≡ term_count f - cond mentioned 1 0 + cond (rational_eq value zero_ℚ) 0 1
-  unfolding with_coefficient
-  terms_with-is value = by (rational_eq value zero_ℚ)
+  terms_with-is value = ap (λ m. length (finite.entries m)) (terms-with_coefficient address_order f at value) ∙ by (rational_eq value zero_ℚ)
     where
       by : (b : Bool) → length (finite.entries (cond b (finite.remove f.terms at) (finite.insert f.terms at value))) ≡ term_count f - cond mentioned 1 0 + cond b 0 1
       by true =

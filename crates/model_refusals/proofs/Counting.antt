@@ -15,10 +15,9 @@ use Rattle.user_model.specs.declared.refusal.Refusal.TheVariants.{Full}
 use Rattle.user_model.specs.Edited.{affine, changed_at}
 use Rattle.user_model.specs.Functions.{names_of, term_count}
 use Rattle.user_model.specs.Limits.{TERMS}
-use Rattle.user_model.specs.Model.{UserModel}
-use Rattle.user_model.specs.Refusals.{has_variable_named, within}
+use Rattle.user_model.specs.Model.{ModelValue}
+use Rattle.user_model.specs.Refusals.{IsKnown, has_variable_named, within}
 use Rattle.user_model.specs.declared.edit.NamedFunc.TheVariants as named
-use Rattle.model_refusals.specs.WellFormed.{IsKnown}
 use Rattle.model_refusals.proofs.Walks.{drop_at}
 use Rattle.model_refusals.proofs.ChangedTerms.{changed_elsewhere, changed_here}
 use Rattle.model_refusals.proofs.Firsts.{first_above, first_found, first_full, first_within}
@@ -76,11 +75,11 @@ known_at unknown (suc i) (g ∷ fs) f here known =
     known_at unknown i fs f here parts.1
 
 -- the number of terms of a component by name
-named_count_at : (model : UserModel) (i : ℕ) (fs : List NamedAff) (f : NamedAff) → slice_get fs i ≡ Some f → slice_get (map term_count (map (affine model) fs)) i ≡ Some (term_count (affine model f))
+named_count_at : (model : ModelValue) (i : ℕ) (fs : List NamedAff) (f : NamedAff) → slice_get fs i ≡ Some f → slice_get (map term_count (map (affine model) fs)) i ≡ Some (term_count (affine model f))
 named_count_at model i fs f here =
     slice_get-map term_count (map (affine model) fs) i ∙ ap (option_map term_count) (slice_get-map (affine model) fs i ∙ ap (option_map (affine model)) here)
 
-pub known_count_at : (model : UserModel) (i : ℕ) (fs : List NamedAff) (f : NamedAff) (n : ℕ) → slice_get fs i ≡ Some f → IsKnown model (named.AffineVec fs) → (IsKnown model (named.Affine f) → n ≡ term_count (affine model f)) → slice_get (map term_count (map (affine model) fs)) i ≡ Some n
+pub known_count_at : (model : ModelValue) (i : ℕ) (fs : List NamedAff) (f : NamedAff) (n : ℕ) → slice_get fs i ≡ Some f → IsKnown model (named.AffineVec fs) → (IsKnown model (named.Affine f) → n ≡ term_count (affine model f)) → slice_get (map term_count (map (affine model) fs)) i ≡ Some n
 known_count_at model i fs f n here known value =
     named_count_at model i fs f here ∙ ap Some (sym (value (record { known = known_at (λ name. not (has_variable_named model name)) i fs f here known.known })))
 

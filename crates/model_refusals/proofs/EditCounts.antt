@@ -10,14 +10,14 @@ use Rattle.user_model.specs.declared.edit.Edit.TheVariants as edit
 use Rattle.user_model.specs.declared.edit.NamedFunc.{NamedFunc}
 use Rattle.user_model.specs.declared.edit.NamedFunc.TheVariants as named
 use Rattle.user_model.specs.declared.objective.Objective.TheVariants as objective
-use Rattle.user_model.specs.declared.objective.Sense.{Sense}
+use Rattle.aff_core.specs.declared.sense.Sense.{Sense}
 use Rattle.user_model.specs.declared.function.UserFunc.TheVariants.{AffineVec}
 use Rattle.user_model.specs.declared.refusal.Refusal.{Refusal}
 use Rattle.user_model.specs.declared.row.Row.{Row}
 use Rattle.user_model.specs.Edited.{affine, edited, located, objective_of}
 use Rattle.user_model.specs.Functions.{all_terms, components, named_components, term_count, term_counts}
 use Rattle.user_model.specs.Limits.{ALL_TERMS, COMPONENTS, LAST_NUMBER, ROWS, TERMS}
-use Rattle.user_model.specs.Model.{UserModel, objective_terms, row_named, total_terms}
+use Rattle.user_model.specs.Model.{ModelValue, objective_terms, row_named, total_terms}
 use Rattle.user_model.specs.Refusals.{counts, row_is, terms_of_objective, within}
 use Rattle.model_refusals.proofs.Counting.{not_above}
 use Rattle.model_refusals.proofs.Firsts.{first_found, first_full, first_later, first_within}
@@ -44,11 +44,11 @@ in_range (suc k) n e =
     let le = ltb-false n (suc k) parts.1 in
     omega arith
 
-pub output_there : (model : UserModel) (name : List ℕ) (row : Row) (fs : List Function) (output : ℕ) → row_named model name ≡ Some row → row.func ≡ AffineVec fs → row_is (λ r. (output == 0) || nat_lt (components r.func) output) model name ≡ false → output - 1 < length fs
+pub output_there : (model : ModelValue) (name : List ℕ) (row : Row) (fs : List Function) (output : ℕ) → row_named model name ≡ Some row → row.func ≡ AffineVec fs → row_is (λ r. (output == 0) || nat_lt (components r.func) output) model name ≡ false → output - 1 < length fs
 output_there model name row fs output found affine_row e =
     in_range output (length fs) (sym (ap (λ func. (output == 0) || nat_lt (components func) output) affine_row) ∙ (sym (ap (λ o. option_map_or (λ r. (output == 0) || nat_lt (components r.func) output) o false) found) ∙ e))
 
-module _ (model : UserModel) where
+module _ (model : ModelValue) where
   module _ (name : List ℕ) (func : NamedFunc) (set : Set) (few : named_components func ≤ COMPONENTS) where
     abbrev others : ℕ → List (ℕ × ℕ)
     others total = (length model.rows + 1, ROWS) ∷ (total, ALL_TERMS) ∷ (model.next.row, LAST_NUMBER) ∷ []

@@ -3,10 +3,10 @@ use Rattle.std.specs.Prelude.{◌≡◌, ℕ, Bool, true, false, nat_lt, List, [
 use Rattle.std.proofs.Common.{ap}
 use Rattle.user_model.specs.declared.refusal.Refusal.{Refusal}
 use Rattle.user_model.specs.declared.refusal.Refusal.TheVariants.{Full}
-use Rattle.user_model.specs.Refusals.{first_of, passes}
+use Rattle.user_model.specs.Refusals.{first_of, full_at}
 
 abbrev pub first_full : List (ℕ × ℕ) → Option Refusal
-first_full counts = first_of (map passes counts)
+first_full counts = first_of (map full_at counts)
 
 later : (b : Bool) (r : Refusal) (rest more : Option Refusal) (P : Option Refusal) → (if b then Some r else rest) ≡ None → (rest ≡ None → more ≡ P) → (if b then Some r else more) ≡ P
 later true r rest more P e h = cc

@@ -19,15 +19,16 @@ use Rattle.user_model.specs.declared.edit.Edit.TheVariants as edit
 use Rattle.user_model.specs.declared.edit.NamedFunc.{NamedFunc}
 use Rattle.user_model.specs.declared.objective.Objective.{Objective}
 use Rattle.user_model.specs.declared.objective.Objective.TheVariants as objective
-use Rattle.user_model.specs.declared.objective.Sense.{Sense}
+use Rattle.aff_core.specs.declared.sense.Sense.{Sense}
 use Rattle.user_model.specs.declared.row.Row.{Row}
 use Rattle.user_model.specs.Consistent.{IsConsistent}
 use Rattle.user_model.specs.Edited.{change_function, changed_at, edited, located, on_affine, on_objective, on_output, row_number}
 use Rattle.user_model.specs.Functions.{all_terms, term_count, term_counts}
 use Rattle.user_model.specs.Limits.{ALL_TERMS, TERMS}
-use Rattle.user_model.specs.Model.{UserModel, address_named, is_variable, objective_terms, row_named, total_terms}
+use Rattle.user_model.specs.Model.{ModelValue, address_named, is_variable, objective_terms, row_named, total_terms}
 use Rattle.user_model.specs.Refusals.{counts, terms_of_objective, terms_of_row, within}
 use Rattle.model_laws.specs.Changed.{change_row-found}
+use Rattle.model_laws.specs.ChangedRow.{row_named-put}
 use Rattle.model_laws.specs.Found.{found_stands}
 use Rattle.model_laws.specs.KeptRows.{row_terms}
 use Rattle.model_laws.specs.Located.{row_by_number, row_name}
@@ -37,22 +38,7 @@ use Rattle.model_laws.specs.ByName.{affine_bounds, function_change, output_bound
 use Rattle.model_refusals.specs.WellFormed.{with_change}
 use Rattle.model_refusals.proofs.ChangedTerms.{sum-changed_at}
 
--- the one after others of other names
-found_behind : (name : List ℕ) (before after : List Row) (x : Row) → All (λ r. r.name ≢ name) before → x.name ≡ name → find (λ r. bytes_eq r.name name) (before ++ (x ∷ after)) ≡ Some x
-found_behind name [] after x others e = ap (λ b. cond b (Some x) (find (λ r. bytes_eq r.name name) after)) ((bytes_eq-Decides x.name name).1 e)
-found_behind name (r ∷ before) after x others e =
-    elim (cases_Bool (bytes_eq r.name name)) [
-      | inl same ↦ absurd (All-head (λ r. r.name ≢ name) r before others ((bytes_eq-Decides r.name name).0 same))
-      | inr other ↦ ap (λ b. cond b (Some r) (find (λ r. bytes_eq r.name name) (before ++ (x ∷ after)))) other ∙ found_behind name before after x (All-tail (λ r. r.name ≢ name) r before others) e
-    ]
-
-module _ (model : UserModel) (c : IsConsistent model) (name : List ℕ) (row : Row) (found : row_named model name ≡ Some row) where
-  -- a row that is changed is found where it was
-  row_named-put : (new : Row) → new.id ≡ row.id → new.name ≡ row.name → find (λ r. bytes_eq r.name name) (put row_number new model.rows) ≡ Some new
-  row_named-put new id same =
-      let is : row.name ≡ name = row_name model name row found in
-      replaced row_number (λ xs ys. AllPairs (λ r s. r.name ≢ s.name) xs → find (λ r. bytes_eq r.name name) ys ≡ Some new) new row model.rows c.rows_rise (ap (λ n. numbered.find row_number n model.rows) id ∙ row_by_number model name row c found) (λ before after distinct. found_behind name before after new (λ k d end same_name. AllPairs-before (λ r s. r.name ≢ s.name) before row after distinct k d end (same_name ∙ sym is)) (same ∙ is)) c.row_names
-
+module _ (model : ModelValue) (c : IsConsistent model) (name : List ℕ) (row : Row) (found : row_named model name ≡ Some row) where
   -- its terms are some of all
   pub row_part : all_terms row.func ≤ total_terms model
   row_part =
@@ -69,7 +55,7 @@ module _ (model : UserModel) (c : IsConsistent model) (name : List ℕ) (row : R
     changed = change_row-found model name (λ row. record row { func = h row.func }) row found
 
     pub terms_of_row-changed : terms_of_row (change_function model name h) name ≡ term_counts (h row.func)
-    terms_of_row-changed = ap (λ m. terms_of_row m name) changed ∙ ap (λ o. option_map_or (λ r. term_counts r.func) o []) (row_named-put new refl refl)
+    terms_of_row-changed = ap (λ m. terms_of_row m name) changed ∙ ap (λ o. option_map_or (λ r. term_counts r.func) o []) (row_named-put model c name row found new refl refl)
 
     pub total-changed : total_terms (change_function model name h) ≡ total_terms model - all_terms row.func + all_terms (h row.func)
     total-changed =
@@ -88,7 +74,7 @@ sum_part (suc i) (g ∷ fs) f e = omega (arith, sum_part i fs f e, sum_by-cons (
 moved_total : (all old new less more : ℕ) → old ≤ all → less ≤ old → new + less ≡ old + more → all - old + new ≡ all - less + more
 moved_total all old new less more a b e = omega arith
 
-module _ (model : UserModel) (c : IsConsistent model) (name : List ℕ) (row : Row) (found : row_named model name ≡ Some row) where
+module _ (model : ModelValue) (c : IsConsistent model) (name : List ℕ) (row : Row) (found : row_named model name ≡ Some row) where
   one_term : (n : ℕ) → sum (n ∷ []) ≡ n
   one_term n = sum_by-cons (λ x. x) n [] ∙ omega arith
 
@@ -141,7 +127,7 @@ module _ (model : UserModel) (c : IsConsistent model) (name : List ℕ) (row : R
         let total : total_terms (change_function model name (on_output output g)) ≡ total_terms model - term_count f + term_count (g f) = total-changed model c name row found (on_output output g) same ∙ (ap₂ (λ o n. total_terms model - o + n) old new ∙ moved) in
         ap₂ (λ ts n. within TERMS ts ++ (n, ALL_TERMS) ∷ []) terms total
 
-module _ (model : UserModel) where
+module _ (model : ModelValue) where
   -- the objective's terms are some of all
   pub objective_part : objective_terms model.objective ≤ total_terms model
   objective_part = omega arith

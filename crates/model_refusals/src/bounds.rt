@@ -4,10 +4,10 @@ ghost use Rattle.std.specs.List.{list_any};
 ghost use Rattle.std.specs.Option.{option_map, option_map_or};
 ghost use Rattle.user_model.specs.Model as models;
 ghost use Rattle.user_model.specs.Model.{has_lower_bound, has_upper_bound};
-ghost use Rattle.user_model.specs.Refusals.{is_bad_interval, is_bounded, is_cone_row_of, is_in_cone, is_undeletable, new_bound};
+ghost use Rattle.user_model.specs.Refusals.{meets_bad_interval, meets_bound_already_set, is_cone_row_of, is_in_cone, meets_delete_not_allowed, new_bound};
+ghost use Rattle.set_core.specs.Shapes as shapes;
 ghost use Rattle.user_model.specs.Sets as tests;
 
-use crate::sets::{is_crossed, is_norm_cone, sets_lower, sets_upper};
 use aff_core::{Address, Root, has_address};
 use model_catalog::Catalog;
 use name_index::Name;
@@ -15,12 +15,12 @@ use set_core::Set;
 use user_model::{Edit, NamedFunc, Row, UserFunc};
 
 /// Whether the edit gives an interval whose lower bound is above its upper bound.
-pub(crate) fn is_bad_interval(edit: &Edit) -> bool
-    ensures { result ≡ is_bad_interval edit.now }
+pub(crate) fn meets_bad_interval(edit: &Edit) -> bool
+    ensures { result ≡ meets_bad_interval edit.now }
 {
     match edit {
-        Edit::AddGroup { set, .. } | Edit::AddRow { set, .. } => is_crossed(set),
-        Edit::RowSet { set, .. } | Edit::Reset { set, .. } => is_crossed(set),
+        Edit::AddGroup { set, .. } | Edit::AddRow { set, .. } => set.is_crossed(),
+        Edit::RowSet { set, .. } | Edit::Reset { set, .. } => set.is_crossed(),
         Edit::Objective { .. } | Edit::Feasibility => false,
         Edit::Coef { .. } | Edit::VecCoef { .. } | Edit::ObjCoef { .. } => false,
         Edit::Constant { .. } | Edit::VecConstant { .. } | Edit::ObjConstant { .. } => false,
@@ -30,13 +30,13 @@ pub(crate) fn is_bad_interval(edit: &Edit) -> bool
 }
 
 /// Whether the edit gives a lower bound to a variable that has one.
-pub(crate) fn is_lower_bounded(model: &Catalog, edit: &Edit) -> bool
-    ensures { result ≡ is_bounded tests.sets_lower has_lower_bound model.now.model edit.now }
+pub(crate) fn meets_lower_bound_already_set(model: &Catalog, edit: &Edit) -> bool
+    ensures { result ≡ meets_bound_already_set tests.sets_lower has_lower_bound model.now.model edit.now }
 {
     let Some(bound) = new_bound(edit) else {
         return false;
     };
-    if !sets_lower(bound.set) {
+    if bound.set.lower_bound().is_none() {
         return false;
     }
     match model.variable(bound.variable) {
@@ -46,13 +46,13 @@ pub(crate) fn is_lower_bounded(model: &Catalog, edit: &Edit) -> bool
 }
 
 /// Whether the edit gives an upper bound to a variable that has one.
-pub(crate) fn is_upper_bounded(model: &Catalog, edit: &Edit) -> bool
-    ensures { result ≡ is_bounded tests.sets_upper has_upper_bound model.now.model edit.now }
+pub(crate) fn meets_upper_bound_already_set(model: &Catalog, edit: &Edit) -> bool
+    ensures { result ≡ meets_bound_already_set tests.sets_upper has_upper_bound model.now.model edit.now }
 {
     let Some(bound) = new_bound(edit) else {
         return false;
     };
-    if !sets_upper(bound.set) {
+    if bound.set.upper_bound().is_none() {
         return false;
     }
     match model.variable(bound.variable) {
@@ -62,8 +62,8 @@ pub(crate) fn is_upper_bounded(model: &Catalog, edit: &Edit) -> bool
 }
 
 /// Whether the edit deletes a variable of a norm cone.
-pub(crate) fn is_undeletable(model: &Catalog, edit: &Edit) -> bool
-    ensures { result ≡ is_undeletable model.now.model edit.now }
+pub(crate) fn meets_delete_not_allowed(model: &Catalog, edit: &Edit) -> bool
+    ensures { result ≡ meets_delete_not_allowed model.now.model edit.now }
 {
     match edit {
         Edit::DeleteVariable { var } => is_named_in_cone(model, var),
@@ -104,7 +104,7 @@ fn has_lower_bound(model: &Catalog, number: u32) -> bool
         return true;
     }
     match model.group_of(number) {
-        Some(group) => sets_lower(&group.set),
+        Some(group) => group.set.lower_bound().is_some(),
         None => false,
     }
 }
@@ -116,13 +116,13 @@ fn has_upper_bound(model: &Catalog, number: u32) -> bool
         return true;
     }
     match model.group_of(number) {
-        Some(group) => sets_upper(&group.set),
+        Some(group) => group.set.upper_bound().is_some(),
         None => false,
     }
 }
 
 fn is_named_in_cone(model: &Catalog, name: &Name) -> bool
-    ensures { result ≡ is_undeletable model.now.model (Edit.DeleteVariable name.now) }
+    ensures { result ≡ meets_delete_not_allowed model.now.model (Edit.DeleteVariable name.now) }
 {
     match model.variable(name) {
         Some(number) => is_in_cone(model, number),
@@ -138,10 +138,10 @@ fn is_in_cone(model: &Catalog, number: u32) -> bool
 }
 
 fn is_in_cone_group(model: &Catalog, number: u32) -> bool
-    ensures { result ≡ option_map_or (λ g. tests.is_norm_cone g.set) (models.group_of model.now.model number) false }
+    ensures { result ≡ option_map_or (λ g. shapes.is_norm_cone g.set) (models.group_of model.now.model number) false }
 {
     match model.group_of(number) {
-        Some(group) => is_norm_cone(&group.set),
+        Some(group) => group.set.is_norm_cone(),
         None => false,
     }
 }
@@ -162,7 +162,7 @@ fn is_cone_row_of(row: &Row, number: u32) -> bool
 {
     match &row.func {
         UserFunc::PlainVec(vars) => {
-            is_norm_cone(&row.set) && has_address(vars, &Address::root(Root::Variable, number))
+            row.set.is_norm_cone() && has_address(vars, &Address::root(Root::Variable, number))
         }
         UserFunc::Plain(_) | UserFunc::Affine(_) | UserFunc::AffineVec(_) => false,
     }

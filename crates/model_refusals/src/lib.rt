@@ -8,10 +8,7 @@ mod limits;
 mod marks;
 mod names_known;
 mod refusals;
-mod sets;
 mod shapes;
-#[cfg(test)]
-mod tests;
 mod twins;
 
 pub use refusals::first_refusal;

@@ -1,6 +1,6 @@
 //! How much a model may have.
 ghost use Rattle.std.specs.Prelude.{◌≡◌, map};
-ghost use Rattle.user_model.specs.Refusals.{first_of, passes};
+ghost use Rattle.user_model.specs.Refusals.{first_of, full_at};
 
 use user_model::Refusal;
 
@@ -20,9 +20,9 @@ pub(crate) const ALL_TERMS: u64 = 1048576;
 /// The last number that a group, a variable or a row is given.
 pub(crate) const LAST_NUMBER: u64 = 4294967294;
 
-/// The refusal for the first of these counts that passes the limit beside it.
+/// The refusal for the first of these counts that pass the limit beside it.
 pub(crate) fn first_passed(counts: &[(u64, u64)]) -> Option<Refusal>
-    ensures { result ≡ first_of (map passes counts.now) }
+    ensures { result ≡ first_of (map full_at counts.now) }
 {
     for &(count, limit) in counts {
         if limit < count {

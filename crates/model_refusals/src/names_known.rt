@@ -2,7 +2,7 @@
 ghost use Rattle.std.specs.Prelude.{◌≡◌, not, map};
 ghost use Rattle.std.specs.List.{list_any};
 ghost use Rattle.user_model.specs.Functions.{mentioned};
-ghost use Rattle.user_model.specs.Refusals.{has_row_named, has_variable_named, is_taken, is_unknown};
+ghost use Rattle.user_model.specs.Refusals.{has_row_named, has_variable_named, meets_name_taken, meets_unknown_name};
 
 use crate::twins::has_twins;
 use model_catalog::Catalog;
@@ -11,8 +11,8 @@ use named_aff::{NamedTerm, NamedVec};
 use user_model::{Edit, NamedFunc};
 
 /// Whether a variable or row that the edit needs isn't there.
-pub(crate) fn is_unknown(model: &Catalog, edit: &Edit) -> bool
-    ensures { result ≡ is_unknown model.now.model edit.now }
+pub(crate) fn meets_unknown_name(model: &Catalog, edit: &Edit) -> bool
+    ensures { result ≡ meets_unknown_name model.now.model edit.now }
 {
     match edit {
         Edit::AddGroup { .. } | Edit::Feasibility | Edit::ObjConstant { .. } => false,
@@ -30,8 +30,8 @@ pub(crate) fn is_unknown(model: &Catalog, edit: &Edit) -> bool
 }
 
 /// Whether a name that the edit gives is there already, or stands twice in it.
-pub(crate) fn is_taken(model: &Catalog, edit: &Edit) -> bool
-    ensures { result ≡ is_taken model.now.model edit.now }
+pub(crate) fn meets_name_taken(model: &Catalog, edit: &Edit) -> bool
+    ensures { result ≡ meets_name_taken model.now.model edit.now }
 {
     match edit {
         Edit::AddGroup { names, .. } => has_known(model, names) || has_twins(names),

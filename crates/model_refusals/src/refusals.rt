@@ -2,10 +2,15 @@
 ghost use Rattle.std.specs.Prelude.{◌≡◌};
 ghost use Rattle.user_model.specs.Refusals.{first_refusal};
 
-use crate::bounds::{is_bad_interval, is_lower_bounded, is_undeletable, is_upper_bounded};
+use crate::bounds::{
+    meets_bad_interval, meets_delete_not_allowed, meets_lower_bound_already_set,
+    meets_upper_bound_already_set,
+};
 use crate::full::first_full;
-use crate::names_known::{is_taken, is_unknown};
-use crate::shapes::{is_misshapen, is_no_output, is_of_bad_dimension, is_of_other_type};
+use crate::names_known::{meets_name_taken, meets_unknown_name};
+use crate::shapes::{
+    meets_bad_dimension, meets_function_shape, meets_output_index, meets_set_type_mismatch,
+};
 use model_catalog::Catalog;
 use user_model::{Edit, Refusal};
 
@@ -20,34 +25,34 @@ use user_model::{Edit, Refusal};
 pub fn first_refusal(model: &Catalog, edit: &Edit) -> Option<Refusal>
     ensures { result ≡ first_refusal model.now.model edit.now }
 {
-    if is_unknown(model, edit) {
+    if meets_unknown_name(model, edit) {
         return Some(Refusal::UnknownName);
     }
-    if is_taken(model, edit) {
+    if meets_name_taken(model, edit) {
         return Some(Refusal::NameTaken);
     }
-    if is_misshapen(model, edit) {
+    if meets_function_shape(model, edit) {
         return Some(Refusal::FunctionShape);
     }
-    if is_of_bad_dimension(model, edit) {
+    if meets_bad_dimension(model, edit) {
         return Some(Refusal::BadDimension);
     }
-    if is_no_output(model, edit) {
+    if meets_output_index(model, edit) {
         return Some(Refusal::OutputIndex);
     }
-    if is_bad_interval(edit) {
+    if meets_bad_interval(edit) {
         return Some(Refusal::BadInterval);
     }
-    if is_lower_bounded(model, edit) {
+    if meets_lower_bound_already_set(model, edit) {
         return Some(Refusal::LowerBoundAlreadySet);
     }
-    if is_upper_bounded(model, edit) {
+    if meets_upper_bound_already_set(model, edit) {
         return Some(Refusal::UpperBoundAlreadySet);
     }
-    if is_of_other_type(model, edit) {
+    if meets_set_type_mismatch(model, edit) {
         return Some(Refusal::SetTypeMismatch);
     }
-    if is_undeletable(model, edit) {
+    if meets_delete_not_allowed(model, edit) {
         return Some(Refusal::DeleteNotAllowed);
     }
     first_full(model, edit)

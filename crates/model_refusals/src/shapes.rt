@@ -3,22 +3,21 @@ ghost use Rattle.std.specs.Prelude.{◌≡◌, ◌==◌, ◌||◌, nat_lt, not};
 ghost use Rattle.std.specs.Option.{option_copied, option_and_then};
 ghost use Rattle.user_model.specs.Functions as functions;
 ghost use Rattle.user_model.specs.Model as models;
-ghost use Rattle.user_model.specs.Refusals.{differ, group_is, is_affine_objective, is_misshapen, is_no_output, is_of_bad_dimension, is_of_other_type, row_is};
-ghost use Rattle.user_model.specs.Sets as tests;
+ghost use Rattle.user_model.specs.Refusals.{differ, group_is, is_affine_objective, meets_function_shape, meets_output_index, meets_bad_dimension, meets_set_type_mismatch, row_is};
+ghost use Rattle.set_core.specs.Shapes as tests;
 
-use crate::sets::{has_bad_dimension, is_scalar_set, same_type};
 use model_catalog::Catalog;
 use name_index::Name;
 use set_core::Set;
 use user_model::{Edit, Group, NamedFunc, Objective, UserFunc};
 
 /// Whether the function or what stands at the name has not the shape that the edit needs.
-pub(crate) fn is_misshapen(model: &Catalog, edit: &Edit) -> bool
-    ensures { result ≡ is_misshapen model.now.model edit.now }
+pub(crate) fn meets_function_shape(model: &Catalog, edit: &Edit) -> bool
+    ensures { result ≡ meets_function_shape model.now.model edit.now }
 {
     match edit {
-        Edit::AddGroup { names, set } => is_scalar_set(set) && names.len() != 1,
-        Edit::AddRow { func, set, .. } => differ(is_scalar_named(func), is_scalar_set(set)),
+        Edit::AddGroup { names, set } => set.is_scalar() && names.len() != 1,
+        Edit::AddRow { func, set, .. } => differ(is_scalar_named(func), set.is_scalar()),
         Edit::Objective { func, .. } => !is_scalar_named(func),
         Edit::Coef { row, .. } | Edit::Constant { row, .. } => is_not_affine(model, row),
         Edit::VecCoef { row, .. } | Edit::VecConstant { row, .. } => {
@@ -28,7 +27,7 @@ pub(crate) fn is_misshapen(model: &Catalog, edit: &Edit) -> bool
             !is_affine_objective(model.objective())
         }
         Edit::RowSet { row, set } => is_of_other_shape(model, row, set),
-        Edit::Reset { var, set } => !is_scalar_set(set) || is_in_vector_group(model, var),
+        Edit::Reset { var, set } => !set.is_scalar() || is_in_vector_group(model, var),
         Edit::FreeGroup { var } => is_in_vector_group(model, var),
         Edit::Feasibility | Edit::DeleteVariable { .. } | Edit::DeleteRow { .. } => false,
         Edit::RenameVariable { .. } | Edit::RenameRow { .. } => false,
@@ -36,12 +35,12 @@ pub(crate) fn is_misshapen(model: &Catalog, edit: &Edit) -> bool
 }
 
 /// Whether a new vector set's dimension isn't the number of components, is 0, or is 1 for a norm cone.
-pub(crate) fn is_of_bad_dimension(model: &Catalog, edit: &Edit) -> bool
-    ensures { result ≡ is_of_bad_dimension model.now.model edit.now }
+pub(crate) fn meets_bad_dimension(model: &Catalog, edit: &Edit) -> bool
+    ensures { result ≡ meets_bad_dimension model.now.model edit.now }
 {
     match edit {
-        Edit::AddGroup { names, set } => has_bad_dimension(set, names.len()),
-        Edit::AddRow { func, set, .. } => has_bad_dimension(set, named_components(func)),
+        Edit::AddGroup { names, set } => set.has_bad_dimension(names.len()),
+        Edit::AddRow { func, set, .. } => set.has_bad_dimension(named_components(func)),
         Edit::RowSet { row, set } => has_other_dimension(model, row, set),
         Edit::Objective { .. } | Edit::Feasibility => false,
         Edit::Coef { .. } | Edit::VecCoef { .. } | Edit::ObjCoef { .. } => false,
@@ -53,8 +52,8 @@ pub(crate) fn is_of_bad_dimension(model: &Catalog, edit: &Edit) -> bool
 }
 
 /// Whether an output is 0 or above the number of the row's components.
-pub(crate) fn is_no_output(model: &Catalog, edit: &Edit) -> bool
-    ensures { result ≡ is_no_output model.now.model edit.now }
+pub(crate) fn meets_output_index(model: &Catalog, edit: &Edit) -> bool
+    ensures { result ≡ meets_output_index model.now.model edit.now }
 {
     match edit {
         Edit::VecCoef { row, output, .. } | Edit::VecConstant { row, output, .. } => {
@@ -71,8 +70,8 @@ pub(crate) fn is_no_output(model: &Catalog, edit: &Edit) -> bool
 }
 
 /// Whether a new set is of another type than the old one.
-pub(crate) fn is_of_other_type(model: &Catalog, edit: &Edit) -> bool
-    ensures { result ≡ is_of_other_type model.now.model edit.now }
+pub(crate) fn meets_set_type_mismatch(model: &Catalog, edit: &Edit) -> bool
+    ensures { result ≡ meets_set_type_mismatch model.now.model edit.now }
 {
     match edit {
         Edit::RowSet { row, set } => row_set_differs(model, row, set),
@@ -166,10 +165,10 @@ fn is_not_vector_affine(model: &Catalog, name: &Name) -> bool
 
 // Whether the row's function doesn't suit the set.
 fn is_of_other_shape(model: &Catalog, name: &Name, set: &Set) -> bool
-    ensures { result ≡ row_is (λ r. differ (functions.is_scalar_function r.func) (tests.is_scalar_set set.now)) model.now.model name.now }
+    ensures { result ≡ row_is (λ r. differ (functions.is_scalar_function r.func) (tests.is_scalar set.now)) model.now.model name.now }
 {
     match model.row(name) {
-        Some(row) => differ(is_scalar_function(&row.func), is_scalar_set(set)),
+        Some(row) => differ(is_scalar_function(&row.func), set.is_scalar()),
         None => false,
     }
 }
@@ -179,7 +178,7 @@ fn has_other_dimension(model: &Catalog, name: &Name, set: &Set) -> bool
     ensures { result ≡ row_is (λ r. tests.has_bad_dimension set.now (functions.components r.func)) model.now.model name.now }
 {
     match model.row(name) {
-        Some(row) => has_bad_dimension(set, components(&row.func)),
+        Some(row) => set.has_bad_dimension(components(&row.func)),
         None => false,
     }
 }
@@ -198,7 +197,7 @@ fn row_set_differs(model: &Catalog, name: &Name, set: &Set) -> bool
     ensures { result ≡ row_is (λ r. not (tests.same_type r.set set.now)) model.now.model name.now }
 {
     match model.row(name) {
-        Some(row) => !same_type(&row.set, set),
+        Some(row) => !row.set.has_type_of(set),
         None => false,
     }
 }
@@ -207,16 +206,16 @@ fn group_set_differs(model: &Catalog, name: &Name, set: &Set) -> bool
     ensures { result ≡ group_is (λ g. not (tests.same_type g.set set.now)) model.now.model name.now }
 {
     match group_named(model, name) {
-        Some(group) => !same_type(&group.set, set),
+        Some(group) => !group.set.has_type_of(set),
         None => false,
     }
 }
 
 fn is_in_vector_group(model: &Catalog, name: &Name) -> bool
-    ensures { result ≡ group_is (λ g. not (tests.is_scalar_set g.set)) model.now.model name.now }
+    ensures { result ≡ group_is (λ g. not (tests.is_scalar g.set)) model.now.model name.now }
 {
     match group_named(model, name) {
-        Some(group) => !is_scalar_set(&group.set),
+        Some(group) => !group.set.is_scalar(),
         None => false,
     }
 }

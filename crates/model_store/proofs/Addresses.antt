@@ -8,17 +8,16 @@ use Rattle.numbered.specs.Laws.{other_number, same_number}
 use Rattle.aff_core.specs.Address.{Address, address_eq, address_eq-Decides}
 use Rattle.aff_core.specs.declared.root.Root.TheVariants.{Variable}
 use Rattle.user_model.specs.declared.group.GroupVar.{GroupVar}
-use Rattle.user_model.specs.Model.{UserModel, variable_address, variables}
+use Rattle.user_model.specs.Model.{ModelValue, name_at, variable_address, variables}
 use Rattle.user_model.specs.Consistent.{variable_number}
 use Rattle.model_catalog.specs.Named.{variable_name}
-use Rattle.model_store.specs.Store.{name_at}
 
 not_equal : (at : Address) (n : ℕ) → variable_address n ≢ at → address_eq (variable_address n) at ≡ false
 not_equal at n ne =
     elim (cases_Bool (address_eq (variable_address n) at)) [ inl same ↦ absurd (ne ((address_eq-Decides (variable_address n) at).0 same)) | inr other ↦ other ]
 
 -- where no variable stands
-pub nothing_at : (model : UserModel) (at : Address) → ((n : ℕ) → variable_address n ≢ at) → None ≡ name_at model at
+pub nothing_at : (model : ModelValue) (at : Address) → ((n : ℕ) → variable_address n ≢ at) → None ≡ name_at model at
 nothing_at model at ne = sym (ap (option_map (λ v. v.name)) (none (variables model)))
   where
     none : (vars : List GroupVar) → list.find (λ v. address_eq (variable_address v.number) at) vars ≡ None
@@ -30,7 +29,7 @@ no_positions [] e = refl
 no_positions (p ∷ ps) e = absurd (omega (arith, e))
 
 -- the variable with the address's number
-pub variable_at : (model : UserModel) (at : Address) → at.root ≡ Variable → length at.positions ≡ 0 → variable_name model at.number ≡ name_at model at
+pub variable_at : (model : ModelValue) (at : Address) → at.root ≡ Variable → length at.positions ≡ 0 → variable_name model at.number ≡ name_at model at
 variable_at model at root depth = ap (option_map (λ v. v.name)) (same (variables model))
   where
     is : at ≡ variable_address at.number

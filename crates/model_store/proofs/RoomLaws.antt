@@ -7,12 +7,12 @@ use Rattle.std.proofs.lemmas.List.Sums.{count_by-le-length, sum_by-append, sum_b
 use Rattle.numbered.specs.Changes.{AreChanges, added}
 use Rattle.numbered.specs.ChangeLaws.{AreChanges-olds, added-le, room_back}
 use Rattle.user_model.specs.declared.undo.Undo.{Undo}
-use Rattle.user_model.specs.Model.{UserModel, variables}
+use Rattle.user_model.specs.Model.{ModelValue, variables}
 use Rattle.user_model.specs.Edited.{group_number, row_number}
 use Rattle.user_model.specs.Consistent.{IsConsistent}
 use Rattle.user_model.specs.Undone.{before}
 use Rattle.model_catalog.specs.declared.exchange.Exchange.{Exchange}
-use Rattle.model_catalog.specs.declared.names.Listed.{Listed}
+use Rattle.model_catalog.specs.declared.names.NameChange.{NameChange}
 use Rattle.model_store.specs.declared.parked.Parked.{Parked}
 use Rattle.model_store.specs.declared.parking.NameCounts.{NameCounts}
 use Rattle.model_store.specs.declared.parking.Reserved.{Reserved}
@@ -20,12 +20,12 @@ use Rattle.model_plans.specs.declared.plan.Plan.{Plan}
 use Rattle.model_catalog.specs.Catalog.{Catalog, Room}
 use Rattle.model_catalog.specs.Exchange.{HasRoomFor, HasSpare, IsExchange, IsNoLess, KeepsRoom, contents, exchanged, standing}
 use Rattle.model_catalog.specs.Names.{put_count}
-use Rattle.model_catalog.specs.Named.{Lists, ListsStanding}
+use Rattle.model_catalog.specs.Named.{AreNameChanges, HasStandingNames}
 use Rattle.model_laws.specs.Pairs.{All-left, All-right}
 use Rattle.model_store.specs.Rooms.{HasLengths, IsCounted, IsParked, IsReserved, row_count, variable_count}
 use Rattle.model_store.specs.Store.{HasParked, IsEntryOf}
 
-put-le : (listed : List Listed) → put_count listed ≤ length listed
+put-le : (listed : List NameChange) → put_count listed ≤ length listed
 put-le listed = count_by-le-length (λ l. is_some l.name) listed
 
 more_lengths : (parked : List Parked) (old new : Room) → old.groups ≤ new.groups → old.rows ≤ new.rows → old.variables ≤ new.variables → All (HasLengths old) parked → All (HasLengths new) parked
@@ -63,7 +63,7 @@ reserved_spare plan names reserved catalog h =
 -- ---- one entry more
 
 module _ (plan : Plan) (names : NameCounts) (reserved : Reserved) (old new : Catalog) (with : Exchange) (parked : List Parked) (entry : Parked) (h : IsReserved plan names reserved old) where
-  pub parked_more : IsParked parked names old.room → KeepsRoom plan.names old.room new.room → HasRoomFor with entry.names new → ListsStanding old.model plan.names entry.names → entry.groups ≡ reserved.groups → entry.rows ≡ reserved.rows → entry.variables ≡ length (variables new.model) + put_count entry.names.variables.items → IsParked (parked ++ entry ∷ []) reserved.names new.room
+  pub parked_more : IsParked parked names old.room → KeepsRoom plan.names old.room new.room → HasRoomFor with entry.names new → HasStandingNames old.model plan.names entry.names → entry.groups ≡ reserved.groups → entry.rows ≡ reserved.rows → entry.variables ≡ length (variables new.model) + put_count entry.names.variables.items → IsParked (parked ++ entry ∷ []) reserved.names new.room
   parked_more was keeps room lists groups rows vars =
       let vs : length entry.names.variables.items ≡ length plan.names.variables.items = ap length lists.variables ∙ length-map plan.names.variables.items _ in
       let rs : length entry.names.rows.items ≡ length plan.names.rows.items = ap length lists.rows ∙ length-map plan.names.rows.items _ in
@@ -83,7 +83,7 @@ module _ (plan : Plan) (names : NameCounts) (reserved : Reserved) (old new : Cat
       }
 
 -- the entry is that of the undo
-pub entry_of : (plan : Plan) (names : NameCounts) (reserved : Reserved) (old new : Catalog) (entry : Parked) (undo : Undo) → IsReserved plan names reserved old → IsConsistent old.model → IsExchange plan.exchange → new.model ≡ exchanged plan.exchange old.model → undo ≡ standing old.model (contents plan.exchange) → before new.model undo ≡ old.model → Lists entry.names new.model old.model → entry.groups ≡ reserved.groups → entry.rows ≡ reserved.rows → entry.variables ≡ length (variables new.model) + put_count entry.names.variables.items → IsEntryOf entry new.model undo
+pub entry_of : (plan : Plan) (names : NameCounts) (reserved : Reserved) (old new : Catalog) (entry : Parked) (undo : Undo) → IsReserved plan names reserved old → IsConsistent old.model → IsExchange plan.exchange → new.model ≡ exchanged plan.exchange old.model → undo ≡ standing old.model (contents plan.exchange) → before new.model undo ≡ old.model → AreNameChanges entry.names new.model old.model → entry.groups ≡ reserved.groups → entry.rows ≡ reserved.rows → entry.variables ≡ length (variables new.model) + put_count entry.names.variables.items → IsEntryOf entry new.model undo
 entry_of plan names reserved old new entry undo h c are after is back lists groups rows vars =
     let gs = plan.exchange.groups.items in
     let rs = plan.exchange.rows.items in
@@ -95,7 +95,7 @@ entry_of plan names reserved old new entry undo h c are after is back lists grou
     record {
       group_changes = subst (λ u. AreChanges group_number u.groups) (sym is) (AreChanges-olds group_number gs old.model.groups are.groups);
       row_changes = subst (λ u. AreChanges row_number u.rows) (sym is) (AreChanges-olds row_number rs old.model.rows are.rows);
-      names = subst (Lists entry.names new.model) (sym back) lists;
+      names = subst (AreNameChanges entry.names new.model) (sym back) lists;
       groups = omega (arith, g, more_g, a, groups);
       rows = omega (arith, r, more_r, b, rows);
       variables = omega (arith, vars);
@@ -170,11 +170,11 @@ last_same (w ∷ xs) [] x y e = let long = ap length e in absurd (omega (arith, 
 last_same (w ∷ xs) (z ∷ ys) x y e = let rest : xs ++ x ∷ [] ≡ ys ++ y ∷ [] = cc in last_same xs ys x y rest
 
 -- the entry that is taken out is that of the undo
-pub entry_taken : (others left parked : List Parked) (entry : Parked) (model : UserModel) (undo : Undo) → HasParked others parked model undo → parked ≡ left ++ entry ∷ [] → IsEntryOf entry model undo
+pub entry_taken : (others left parked : List Parked) (entry : Parked) (model : ModelValue) (undo : Undo) → HasParked others parked model undo → parked ≡ left ++ entry ∷ [] → IsEntryOf entry model undo
 entry_taken others left parked entry model undo h is = subst (λ p. IsEntryOf p model undo) (last_same others left h.entry entry (sym h.last ∙ is)) h.is
 
-pub exchange_of : (with : Exchange) (undo : Undo) (entry : Parked) (model : UserModel) → contents with ≡ undo → IsEntryOf entry model undo → IsExchange with
+pub exchange_of : (with : Exchange) (undo : Undo) (entry : Parked) (model : ModelValue) → contents with ≡ undo → IsEntryOf entry model undo → IsExchange with
 exchange_of with undo entry model is e = record { groups = subst (λ u. AreChanges group_number u.groups) (sym is) e.group_changes; rows = subst (λ u. AreChanges row_number u.rows) (sym is) e.row_changes }
 
-pub names_taken : (with : Exchange) (undo : Undo) (entry : Parked) (model : UserModel) → contents with ≡ undo → IsEntryOf entry model undo → Lists entry.names model (exchanged with model)
-names_taken with undo entry model is e = subst (λ u. Lists entry.names model (before model u)) (sym is) e.names
+pub names_taken : (with : Exchange) (undo : Undo) (entry : Parked) (model : ModelValue) → contents with ≡ undo → IsEntryOf entry model undo → AreNameChanges entry.names model (exchanged with model)
+names_taken with undo entry model is e = subst (λ u. AreNameChanges entry.names model (before model u)) (sym is) e.names

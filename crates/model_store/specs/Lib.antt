@@ -2,4 +2,4 @@
 pub mod Store
 pub mod Rooms
 pub mod Parking
-pub mod SameUpToNumbers
+pub mod StoreLaws

@@ -8,9 +8,6 @@ mod store;
 pub use parked::Parked;
 pub use store::UserModel;
 pub use user_model::{
-    ApplyFault, Edit, Group, GroupVar, GroupVars, NamedFunc, Numbers, Objective, OldGroups,
+    ApplyFault, Edit, Group, GroupVar, GroupVars, NamedFunc, NextNumbers, Objective, OldGroups,
     OldRows, Refusal, Row, Sense, Undo, UserFunc,
 };
-
-#[cfg(test)]
-mod tests;

@@ -4,13 +4,13 @@ ghost use Rattle.std.specs.Vec.{vec_capacity};
 ghost use Rattle.user_model.specs.Consistent.{IsConsistent, IsWithinLimits};
 ghost use Rattle.user_model.specs.Undone.{before};
 ghost use Rattle.model_catalog.specs.Exchange.{IsExchange, IsNoLess, contents, exchanged, standing};
-ghost use Rattle.model_catalog.specs.Named.{Lists};
+ghost use Rattle.model_catalog.specs.Named.{AreNameChanges};
 ghost use Rattle.model_catalog.specs.Names as names;
 ghost use Rattle.model_store.specs.Rooms.{IsCounted, IsParked, IsReserved};
 ghost use Rattle.model_store.specs.Store.{HasParked};
 
 use crate::Parked;
-use model_catalog::{Catalog, Listed, More};
+use model_catalog::{Catalog, More, NameChange};
 use model_plans::Plan;
 use ratio_core::Memory;
 use user_model::Undo;
@@ -85,7 +85,7 @@ pub(crate) fn park(
     requires changes { IsExchange plan.exchange }
     requires consistent { IsConsistent (exchanged plan.exchange catalog.old.model) }
     requires within { IsWithinLimits (exchanged plan.exchange catalog.old.model) }
-    requires names { Lists plan.names catalog.old.model (exchanged plan.exchange catalog.old.model) }
+    requires names { AreNameChanges plan.names catalog.old.model (exchanged plan.exchange catalog.old.model) }
     requires spare { vec_len parked.old < vec_capacity parked.old }
     requires reserved { IsReserved plan names reserved catalog.old }
     requires parked { IsParked parked.old.items names catalog.old.room }
@@ -110,7 +110,7 @@ pub(crate) fn park(
 }
 
 // How many names are put in.
-fn put_count(listed: &[Listed]) -> usize
+fn put_count(listed: &[NameChange]) -> usize
     ensures { result ≡ names.put_count listed.now }
 {
     listed.iter().filter(|l| l.name.is_some()).count()

@@ -1,13 +1,15 @@
 //! The user's model: edits, and taking them back.
 ghost use Rattle.std.specs.Prelude.{◌≡◌, [], List, Some, None, IfOk, IfErr, OnErr, MatchResult};
 ghost use Rattle.std.specs.Option.{option_copied, option_map};
-ghost use Rattle.user_model.specs.Consistent.{IsConsistent, IsWithinLimits};
 ghost use Rattle.user_model.specs.Edited.{edited};
 ghost use Rattle.user_model.specs.Model as model;
 ghost use Rattle.user_model.specs.Refusals as refusals;
 ghost use Rattle.user_model.specs.Undone.{IsUndo, before};
+ghost use Rattle.user_model.specs.Valid.{IsValid};
 ghost use Rattle.model_store.specs.declared.parked.Parked.{Parked};
-ghost use Rattle.model_store.specs.Store.{HasParked, IsButLast, LeadsTo, name_at, refusal_of};
+ghost use Rattle.user_model.specs.Accepted.{LeadsTo};
+ghost use Rattle.model_store.specs.Store.{HasParked, IsButLast, IsLastOf, refusal_of};
+ghost use Rattle.user_model.specs.Model.{name_at};
 
 use crate::Parked;
 use crate::parking::{NameCounts, park, reserve, take_last};
@@ -40,11 +42,11 @@ impl Model for UserModel {
 
     ghost coded = { stored_code };
 
-    ghost use Rattle.model_store.specs.Parking.{HasRoomForAll, stored_of};
+    ghost use Rattle.model_store.specs.Parking.{IsSound, stored_of};
 
     ghost view = { stored_of };
 
-    ghost invariant = { HasRoomForAll };
+    ghost invariant = { IsSound };
 }
 
 impl UserModel {
@@ -67,8 +69,7 @@ impl UserModel {
     /// The groups in the order of their numbers.
     pub fn groups(&self) -> &[Group]
         ensures value { result.now ≡ self.now.model.groups }
-        ensures consistent { IsConsistent self.now.model }
-        ensures within { IsWithinLimits self.now.model }
+        ensures valid { IsValid self.now.model }
     {
         self.catalog.groups()
     }
@@ -76,14 +77,14 @@ impl UserModel {
     /// The rows in the order of their numbers.
     pub fn rows(&self) -> &[Row]
         ensures value { result.now ≡ self.now.model.rows }
-        ensures consistent { IsConsistent self.now.model }
-        ensures within { IsWithinLimits self.now.model }
+        ensures valid { IsValid self.now.model }
     {
         self.catalog.rows()
     }
 
     pub fn objective(&self) -> &Objective
-        ensures { result.now ≡ self.now.model.objective }
+        ensures value { result.now ≡ self.now.model.objective }
+        ensures valid { IsValid self.now.model }
     {
         self.catalog.objective()
     }
@@ -126,6 +127,7 @@ impl UserModel {
     pub fn apply(&mut self, edit: Edit) -> Result<Undo, ApplyFault>
         ensures ok { IfOk result (λ undo. refusals.first_refusal self.old.model edit ≡ None) }
         ensures model { IfOk result (λ undo. self.new.model ≡ edited self.old.model edit) }
+        ensures valid { IfOk result (λ undo. IsValid self.new.model) }
         ensures edit { IfOk result (λ undo. LeadsTo self.old.model self.new.model) }
         ensures undo { IfOk result (IsUndo self.old.model self.new.model) }
         ensures before { IfOk result (λ undo. before self.new.model undo ≡ self.old.model) }
@@ -166,9 +168,10 @@ impl UserModel {
         self.catalog.exchange(&mut Exchange::from(undo), &mut names);
     }
 
-    /// Lets the last edit that was not yet taken back or settled stand for good, whose undo this is.
+    /// Lets the last edit that was not yet taken back or settled stand for good, whose undo this is. Of several that wait the
+    /// last is settled first, whatever the model is by then.
     pub fn settle(&mut self, undo: Undo)
-        requires { (others : List Parked) × HasParked others self.old.parked self.old.model undo }
+        requires { IsLastOf self.old.parked undo }
         ensures model { self.new.model ≡ self.old.model }
         ensures parked { IsButLast self.new.parked self.old.parked }
     {

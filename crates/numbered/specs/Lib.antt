@@ -6,3 +6,5 @@ pub mod SetLaws
 pub mod ChangeLaws
 pub mod ExchangeLaws
 pub mod PlaceLaws
+pub mod Gap
+pub mod GapLaws

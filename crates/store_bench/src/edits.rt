@@ -10,11 +10,22 @@ use std::alloc::Global;
 
 const VARIABLE: &str = "x";
 
+const OTHER: &str = "y";
+
 /// The variable x, at least 0, in a group of its own.
 pub fn add_variable(alloc: Global) -> Result<Edit, BenchFault> {
+    add_named(alloc, VARIABLE)
+}
+
+/// The same of y.
+pub fn add_other(alloc: Global) -> Result<Edit, BenchFault> {
+    add_named(alloc, OTHER)
+}
+
+fn add_named(alloc: Global, variable: &str) -> Result<Edit, BenchFault> {
     let set = at_least(Ratio::zero());
     let mut names = Names::new(alloc);
-    match names.push(Name::new(alloc, VARIABLE)?) {
+    match names.push(Name::new(alloc, variable)?) {
         Ok(()) => Ok(Edit::AddGroup { names, set }),
         Err((_, memory)) => Err(memory.into()),
     }
@@ -29,6 +40,20 @@ pub fn add_row(alloc: Global, row: u32) -> Result<Edit, BenchFault> {
     })
 }
 
+/// The row of a number that is x or y itself, by turns: it is 0.
+pub fn add_plain_row(alloc: Global, row: u32) -> Result<Edit, BenchFault> {
+    let variable = if row % 2 == 0 { VARIABLE } else { OTHER };
+    let mut vars = Names::new(alloc);
+    match vars.push(Name::new(alloc, variable)?) {
+        Ok(()) => Ok(Edit::AddRow {
+            name: row_name(alloc, row)?,
+            func: NamedFunc::PlainVec(vars),
+            set: Set::Zeros { dimension: 1 },
+        }),
+        Err((_, memory)) => Err(memory.into()),
+    }
+}
+
 /// The edit of a round, at the row of a number, if there is one. It changes the model: the coefficients are 1 at first and the
 /// bounds 0, and the rounds give numbers from 2 on.
 pub fn edit(alloc: Global, kind: Kind, row: u32, round: u32) -> Result<Option<Edit>, BenchFault> {
@@ -38,7 +63,8 @@ pub fn edit(alloc: Global, kind: Kind, row: u32, round: u32) -> Result<Option<Ed
         Kind::RowSet => row_set(alloc, row, value).map(Some),
         Kind::RenameRow => rename_row(alloc, row, round).map(Some),
         Kind::Reset => reset(alloc, value).map(Some),
-        Kind::Nothing => Ok(None),
+        Kind::DeleteVariable => delete_variable(alloc).map(Some),
+        Kind::Nothing | Kind::PlainRows => Ok(None),
     }
 }
 
@@ -93,5 +119,11 @@ fn reset(alloc: Global, lower: Ratio) -> Result<Edit, BenchFault> {
     Ok(Edit::Reset {
         var: Name::new(alloc, VARIABLE)?,
         set: at_least(lower),
+    })
+}
+
+fn delete_variable(alloc: Global) -> Result<Edit, BenchFault> {
+    Ok(Edit::DeleteVariable {
+        var: Name::new(alloc, VARIABLE)?,
     })
 }

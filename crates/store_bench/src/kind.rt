@@ -9,8 +9,12 @@ pub enum Kind {
     RenameRow,
     /// The bound of x.
     Reset,
+    /// The variable x, which every second row is, and back.
+    DeleteVariable,
     /// No edit, for the time of building alone.
     Nothing,
+    /// The same with the rows of `DeleteVariable`.
+    PlainRows,
 }
 
 impl Kind {
@@ -20,7 +24,9 @@ impl Kind {
             "set" => Some(Kind::RowSet),
             "renrow" => Some(Kind::RenameRow),
             "reset" => Some(Kind::Reset),
+            "delvar" => Some(Kind::DeleteVariable),
             "none" => Some(Kind::Nothing),
+            "plain" => Some(Kind::PlainRows),
             _ => None,
         }
     }

@@ -21,7 +21,7 @@ const STRIDE: u64 = 7919;
 pub fn tally_edits(alloc: Global, rows: u32, kind: Kind, rounds: u32) -> Result<Tally, BenchFault>
     requires { 0 < rows }
 {
-    let mut model = model(alloc, rows)?;
+    let mut model = model(alloc, rows, kind)?;
     let mut tally = Tally { edits: 0, sum: 0 };
     for round in 0..rounds {
         let row = (u64::from(round) * STRIDE % u64::from(rows)) as u32;
@@ -35,19 +35,27 @@ pub fn tally_edits(alloc: Global, rows: u32, kind: Kind, rounds: u32) -> Result<
     Ok(tally)
 }
 
-fn model(alloc: Global, rows: u32) -> Result<UserModel, BenchFault> {
+fn model(alloc: Global, rows: u32, kind: Kind) -> Result<UserModel, BenchFault> {
     let mut model = UserModel::new(alloc);
     make_for_good(&mut model, edits::add_variable(alloc)?)?;
+    make_for_good(&mut model, edits::add_other(alloc)?)?;
     for row in 0..rows {
-        make_for_good(&mut model, edits::add_row(alloc, row)?)?;
+        make_for_good(&mut model, row_of(alloc, row, kind)?)?;
     }
     Ok(model)
 }
 
-// A row that is renamed has its name back for the next round; the other edits stand.
+fn row_of(alloc: Global, row: u32, kind: Kind) -> Result<Edit, BenchFault> {
+    match kind {
+        Kind::DeleteVariable | Kind::PlainRows => edits::add_plain_row(alloc, row),
+        _ => edits::add_row(alloc, row),
+    }
+}
+
+// A row that is renamed has its name back for the next round, and a deleted variable its rows; the other edits stand.
 fn make(model: &mut UserModel, kind: Kind, edit: Edit) -> Result<u64, BenchFault> {
     match kind {
-        Kind::RenameRow => make_and_take_back(model, edit),
+        Kind::RenameRow | Kind::DeleteVariable => make_and_take_back(model, edit),
         _ => make_for_good(model, edit),
     }
 }

@@ -2,7 +2,7 @@
 use Rattle.std.specs.Prelude.{◌≡◌, ◌≢◌, ℕ, ◌+◌, ◌<◌, ◌≤◌, true, All, AllPairs, IsSome, length}
 use Rattle.numbered.specs.Numbered.{Rise}
 use Rattle.user_model.specs.declared.group.GroupVar.{GroupVar}
-use Rattle.user_model.specs.Model.{UserModel, group_of, is_variable, total_terms, variables}
+use Rattle.user_model.specs.Model.{ModelValue, group_of, is_variable, total_terms, variables}
 use Rattle.user_model.specs.Limits.{ALL_TERMS, LAST_NUMBER, ROWS, VARIABLES}
 use Rattle.user_model.specs.Edited.{group_number, row_number}
 
@@ -11,7 +11,7 @@ variable_number var = var.number
 
 -- the lists stand in the order of their numbers, which are below the next ones; names are distinct; plain scalar rows are on
 -- variables that stand in the model
-pub record IsConsistent (model : UserModel) : Type 0 where
+pub record IsConsistent (model : ModelValue) : Type 0 where
   pub groups_rise : Rise group_number model.groups
   pub variables_rise : Rise variable_number (variables model)
   pub rows_rise : Rise row_number model.rows
@@ -23,7 +23,7 @@ pub record IsConsistent (model : UserModel) : Type 0 where
   pub bounds : (n : ℕ) → All (λ r. is_variable n r.func ≡ true → IsSome (group_of model n)) model.rows
 
 -- the model has no more than it may
-pub record IsWithinLimits (model : UserModel) : Type 0 where
+pub record IsWithinLimits (model : ModelValue) : Type 0 where
   pub variables : length (variables model) ≤ VARIABLES
   pub rows : length model.rows ≤ ROWS
   pub terms : total_terms model ≤ ALL_TERMS

@@ -14,8 +14,8 @@ use Rattle.user_model.specs.declared.group.GroupVar.{GroupVar}
 use Rattle.user_model.specs.declared.row.Row.{Row}
 use Rattle.user_model.specs.declared.objective.Objective.{Objective}
 use Rattle.user_model.specs.declared.objective.Objective.TheVariants as objective
-use Rattle.user_model.specs.Sets.{resized}
-use Rattle.user_model.specs.Model.{UserModel, has_variable, variable_address}
+use Rattle.set_core.specs.Shapes.{resized}
+use Rattle.user_model.specs.Model.{ModelValue, has_variable, variable_address}
 
 -- the function without its term at the address
 abbrev pub without_term : Address → Function → Function
@@ -54,7 +54,7 @@ objective_without at (objective.Plain sense var) = if address_eq at var then obj
 objective_without at (objective.Affine sense f) = objective.Affine sense (without_term at f)
 
 -- the model without the variable with a number
-abbrev pub without_variable : UserModel → ℕ → UserModel
+abbrev pub without_variable : ModelValue → ℕ → ModelValue
 without_variable model n = record model {
   groups = filter_map (group_without n) model.groups;
   rows = filter_map (row_without (variable_address n)) model.rows;

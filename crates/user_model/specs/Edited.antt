@@ -17,10 +17,10 @@ use Rattle.user_model.specs.declared.edit.Edit.TheVariants as edit
 use Rattle.user_model.specs.declared.group.Group.{Group}
 use Rattle.user_model.specs.declared.group.GroupVar.{GroupVar}
 use Rattle.user_model.specs.declared.row.Row.{Row}
-use Rattle.user_model.specs.declared.objective.Sense.{Sense}
+use Rattle.aff_core.specs.declared.sense.Sense.{Sense}
 use Rattle.user_model.specs.declared.objective.Objective.{Objective}
 use Rattle.user_model.specs.declared.objective.Objective.TheVariants as objective
-use Rattle.user_model.specs.Model.{UserModel, address_named, group_of, row_named, variable_named}
+use Rattle.user_model.specs.Model.{ModelValue, address_named, group_of, row_named, variable_named}
 use Rattle.user_model.specs.Deletion.{without_variable}
 
 -- the number of a group, and of a row
@@ -32,17 +32,17 @@ row_number row = row.id
 
 -- ---- functions by name, whose names stand in the model: terms that are zero are dropped
 
-abbrev pub affine : UserModel → NamedAff → Function
+abbrev pub affine : ModelValue → NamedAff → Function
 affine model f = gathered (map (λ t. (address_named model t.variable, t.coefficient)) f.terms) f.constant
 
-abbrev pub located : UserModel → NamedFunc → UserFunc
+abbrev pub located : ModelValue → NamedFunc → UserFunc
 located model (named.Plain var) = Plain (address_named model var)
 located model (named.Affine f) = Affine (affine model f)
 located model (named.PlainVec vars) = PlainVec (map (address_named model) vars)
 located model (named.AffineVec fs) = AffineVec (map (affine model) fs)
 
 -- the objective of a scalar function
-abbrev pub objective_of : UserModel → Sense → NamedFunc → Objective
+abbrev pub objective_of : ModelValue → Sense → NamedFunc → Objective
 objective_of model sense (named.Plain var) = objective.Plain sense (address_named model var)
 objective_of model sense (named.Affine f) = objective.Affine sense (affine model f)
 objective_of model sense (named.PlainVec vars) = objective.Feasibility
@@ -86,36 +86,36 @@ with_constant f value = record f { constant = value }
 -- ---- changes of rows and groups
 
 -- the row with a name takes h's place
-abbrev pub change_row : UserModel → List ℕ → (Row → Row) → UserModel
+abbrev pub change_row : ModelValue → List ℕ → (Row → Row) → ModelValue
 change_row model name h = by_row (row_named model name)
   where
-    by_row : Option Row → UserModel
+    by_row : Option Row → ModelValue
     by_row None = model
     by_row (Some row) = record model { rows = put row_number (h row) model.rows }
 
-abbrev pub change_function : UserModel → List ℕ → (UserFunc → UserFunc) → UserModel
+abbrev pub change_function : ModelValue → List ℕ → (UserFunc → UserFunc) → ModelValue
 change_function model name h = change_row model name (λ row. record row { func = h row.func })
 
-abbrev pub delete_row : UserModel → List ℕ → UserModel
+abbrev pub delete_row : ModelValue → List ℕ → ModelValue
 delete_row model name = by_row (row_named model name)
   where
-    by_row : Option Row → UserModel
+    by_row : Option Row → ModelValue
     by_row None = model
     by_row (Some row) = record model { rows = without row_number row.id model.rows }
 
 -- the group of the variable with a number changed by h
-abbrev pub change_group : UserModel → ℕ → (Group → Group) → UserModel
+abbrev pub change_group : ModelValue → ℕ → (Group → Group) → ModelValue
 change_group model n h = by_group (group_of model n)
   where
-    by_group : Option Group → UserModel
+    by_group : Option Group → ModelValue
     by_group None = model
     by_group (Some group) = record model { groups = put group_number (h group) model.groups }
 
 -- the same for the variable with a name
-abbrev pub with_variable : UserModel → List ℕ → (ℕ → UserModel) → UserModel
+abbrev pub with_variable : ModelValue → List ℕ → (ℕ → ModelValue) → ModelValue
 with_variable model name h = by_number (variable_named model name)
   where
-    by_number : Option ℕ → UserModel
+    by_number : Option ℕ → ModelValue
     by_number None = model
     by_number (Some n) = h n
 
@@ -124,19 +124,19 @@ renamed n name var = if var.number == n then record var { name = name } else var
 
 -- ---- the edits
 
-abbrev pub add_group : UserModel → List (List ℕ) → Set → UserModel
+abbrev pub add_group : ModelValue → List (List ℕ) → Set → ModelValue
 add_group model names set = record model {
   groups = model.groups ++ record { id = model.next.group; vars = numbered_from model.next.variable names; set = set } ∷ [];
   next = record model.next { group = model.next.group + 1; variable = model.next.variable + length names };
 }
 
-abbrev pub add_row : UserModel → List ℕ → UserFunc → Set → UserModel
+abbrev pub add_row : ModelValue → List ℕ → UserFunc → Set → ModelValue
 add_row model name func set = record model {
   rows = model.rows ++ record { id = model.next.row; name = name; func = func; set = set } ∷ [];
   next = record model.next { row = model.next.row + 1 };
 }
 
-unfoldable pub edited : UserModel → Edit → UserModel
+unfoldable pub edited : ModelValue → Edit → ModelValue
 edited model (edit.AddGroup names set) = add_group model names set
 edited model (edit.AddRow name func set) = add_row model name (located model func) set
 edited model (edit.Objective sense func) = record model { objective = objective_of model sense func }

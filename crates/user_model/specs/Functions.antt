@@ -1,7 +1,9 @@
 -- Functions of the user's variables, by address and by name.
 use Rattle.std.specs.Prelude.{ℕ, Bool, true, false, List, [], ◌∷◌, length, map, flat_map, sum}
+use Rattle.std.specs.List.{list_any}
+use Rattle.std.specs.FinMap as finite
 use Rattle.ratio_core.specs.Rational.{Rational}
-use Rattle.aff_core.specs.Address.{Address}
+use Rattle.aff_core.specs.Address.{Address, address_eq}
 use Rattle.aff_core.specs.Function.{Function, terms_of}
 use Rattle.named_aff.specs.declared.aff.NamedAff.{NamedAff}
 use Rattle.user_model.specs.declared.function.UserFunc.{UserFunc}
@@ -45,6 +47,17 @@ term_counts (AffineVec fs) = map term_count fs
 
 abbrev pub all_terms : UserFunc → ℕ
 all_terms func = sum (term_counts func)
+
+-- the function has a term of the address
+abbrev pub has_term : Address → Function → Bool
+has_term at f = finite.contains_key f.terms at
+
+-- the function has the address as a component or in a term
+abbrev pub func_mentions : Address → UserFunc → Bool
+func_mentions at (Plain var) = address_eq at var
+func_mentions at (Affine f) = has_term at f
+func_mentions at (PlainVec vars) = list_any (address_eq at) vars
+func_mentions at (AffineVec fs) = list_any (has_term at) fs
 
 -- ---- by name
 

@@ -9,3 +9,6 @@ pub mod Refusals
 pub mod Undone
 pub mod Consistent
 pub mod UndoLaws
+pub mod Valid
+pub mod Accepted
+pub mod SameUpToNumbers

@@ -10,11 +10,11 @@ use Rattle.numbered.specs.Laws.{Contains-found, IsAt-find, number_of_found, same
 use Rattle.numbered.specs.ChangeLaws.{Rise-set_all, find-set_all}
 use Rattle.user_model.specs.declared.objective.Objective.{Objective}
 use Rattle.user_model.specs.declared.undo.Undo.{Undo}
-use Rattle.user_model.specs.Model.{UserModel}
+use Rattle.user_model.specs.Model.{ModelValue}
 use Rattle.user_model.specs.Edited.{group_number, row_number}
-use Rattle.user_model.specs.Undone.{IsOldObjective, IsUndo, ListsDifferences, before}
+use Rattle.user_model.specs.Undone.{IsOldObjective, IsUndo, AreDifferences, before}
 
-module _ {X : Type 0} (number_of : X → ℕ) (old new : List X) (changes : List (Change X)) (h : ListsDifferences number_of old new changes) where
+module _ {X : Type 0} (number_of : X → ℕ) (old new : List X) (changes : List (Change X)) (h : AreDifferences number_of old new changes) where
   pub are_changes : AreChanges number_of changes
   are_changes = record {
     rising = h.rising;
@@ -38,7 +38,7 @@ objective_back old new None e = sym e
 objective_back old new (Some content) e = e.0
 
 -- the undo leads back to the model before
-pub undone : (old new : UserModel) (undo : Undo) → Rise group_number old.groups → Rise group_number new.groups → Rise row_number old.rows → Rise row_number new.rows → IsUndo old new undo → before new undo ≡ old
+pub undone : (old new : ModelValue) (undo : Undo) → Rise group_number old.groups → Rise group_number new.groups → Rise row_number old.rows → Rise row_number new.rows → IsUndo old new undo → before new undo ≡ old
 undone old new undo groups groups_new rows rows_new h = λ i. record {
   groups = lists_back group_number old.groups new.groups undo.groups h.groups groups groups_new i;
   rows = lists_back row_number old.rows new.rows undo.rows h.rows rows rows_new i;

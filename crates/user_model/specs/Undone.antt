@@ -7,11 +7,11 @@ use Rattle.user_model.specs.declared.group.Group.{Group}
 use Rattle.user_model.specs.declared.row.Row.{Row}
 use Rattle.user_model.specs.declared.objective.Objective.{Objective}
 use Rattle.user_model.specs.declared.undo.Undo.{Undo}
-use Rattle.user_model.specs.Model.{UserModel}
+use Rattle.user_model.specs.Model.{ModelValue}
 use Rattle.user_model.specs.Edited.{group_number, row_number}
 
 -- the changes list, in the order of numbers, exactly the numbers at which the lists differ, with the old content
-pub record ListsDifferences {X : Type 0} (number_of : X → ℕ) (old new : List X) (changes : List (Change X)) : Type 0 where
+pub record AreDifferences {X : Type 0} (number_of : X → ℕ) (old new : List X) (changes : List (Change X)) : Type 0 where
   pub rising : Rise changed_number changes
   pub contents : All (λ c. c.content ≡ find number_of c.number old) changes
   pub differ : All (λ c. find number_of c.number old ≢ find number_of c.number new) changes
@@ -23,14 +23,14 @@ IsOldObjective old new None = old ≡ new
 IsOldObjective old new (Some content) = (content ≡ old) × (old ≢ new)
 
 -- the undo lists exactly what differs, with the old content
-pub record IsUndo (old new : UserModel) (undo : Undo) : Type 0 where
-  pub groups : ListsDifferences group_number old.groups new.groups undo.groups
-  pub rows : ListsDifferences row_number old.rows new.rows undo.rows
+pub record IsUndo (old new : ModelValue) (undo : Undo) : Type 0 where
+  pub groups : AreDifferences group_number old.groups new.groups undo.groups
+  pub rows : AreDifferences row_number old.rows new.rows undo.rows
   pub objective : IsOldObjective old.objective new.objective undo.objective
   pub next : undo.next ≡ old.next
 
 -- the model before: each content that the undo has stands at its number again
-abbrev pub before : UserModel → Undo → UserModel
+abbrev pub before : ModelValue → Undo → ModelValue
 before model undo = record {
   groups = set_all group_number undo.groups model.groups;
   rows = set_all row_number undo.rows model.rows;

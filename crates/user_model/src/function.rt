@@ -20,12 +20,12 @@ pub enum UserFunc {
 
 impl UserFunc {
     /// An equal function in memory of its own.
-    pub fn copy(&self, alloc: Global) -> Result<UserFunc, Memory>
+    pub fn copy(&self, _alloc: Global) -> Result<UserFunc, Memory>
         ensures { IfOk result (λ func. func ≡ self.now) }
     {
         Ok(match self {
             UserFunc::Plain(var) => UserFunc::Plain(*var),
-            UserFunc::Affine(func) => UserFunc::Affine(func.copy(alloc)?),
+            UserFunc::Affine(func) => UserFunc::Affine(func.copy()?),
             UserFunc::PlainVec(vars) => UserFunc::PlainVec(vars.copy()?),
             UserFunc::AffineVec(funcs) => UserFunc::AffineVec(funcs.copy()?),
         })

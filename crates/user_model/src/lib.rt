@@ -10,13 +10,11 @@ mod refusal;
 mod row;
 mod undo;
 
+pub use aff_core::Sense;
 pub use edit::{Edit, NamedFunc};
 pub use function::UserFunc;
 pub use group::{Group, GroupVar, GroupVars};
-pub use objective::{Objective, Sense};
+pub use objective::Objective;
 pub use refusal::{ApplyFault, Refusal};
 pub use row::Row;
-pub use undo::{Numbers, OldGroups, OldRows, Undo};
-
-#[cfg(test)]
-mod tests;
+pub use undo::{NextNumbers, OldGroups, OldRows, Undo};

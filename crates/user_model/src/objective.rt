@@ -1,16 +1,10 @@
 //! Objectives.
 ghost use Rattle.std.specs.Prelude.{◌≡◌, IfOk};
 
-use aff_core::{Address, Aff};
+use aff_core::{Address, Aff, Sense};
+use lists::Duplicate;
 use ratio_core::Memory;
 use std::alloc::Global;
-
-/// Whether the least or the greatest value is sought.
-#[derive(Clone, Copy, Debug, PartialEq, Eq)]
-pub enum Sense {
-    Min,
-    Max,
-}
 
 /// What is sought of the feasible points.
 #[derive(Debug, Drop)]
@@ -25,7 +19,7 @@ pub enum Objective {
 
 impl Objective {
     /// An equal objective in memory of its own.
-    pub fn copy(&self, alloc: Global) -> Result<Objective, Memory>
+    pub fn copy(&self, _alloc: Global) -> Result<Objective, Memory>
         ensures { IfOk result (λ objective. objective ≡ self.now) }
     {
         Ok(match self {
@@ -36,7 +30,7 @@ impl Objective {
             },
             Objective::Affine { sense, func } => Objective::Affine {
                 sense: *sense,
-                func: func.copy(alloc)?,
+                func: func.copy()?,
             },
         })
     }

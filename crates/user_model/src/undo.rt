@@ -5,7 +5,7 @@ use numbered::Change;
 
 /// The numbers that the next group, the next variable and the next row are given.
 #[derive(Clone, Copy, Debug, PartialEq, Eq)]
-pub struct Numbers {
+pub struct NextNumbers {
     pub group: u32,
     pub variable: u32,
     pub row: u32,
@@ -24,5 +24,5 @@ pub struct Undo {
     pub groups: OldGroups,
     pub rows: OldRows,
     pub objective: Option<Objective>,
-    pub next: Numbers,
+    pub next: NextNumbers,
 }

@@ -4,11 +4,10 @@ use Rattle.std.proofs.lemmas.Option.{none-some}
 use Rattle.user_model.specs.declared.edit.Edit.TheVariants as edit
 use Rattle.user_model.specs.Deletion.{group_without, objective_without, row_without}
 use Rattle.user_model.specs.Edited.{edited, row_number}
-use Rattle.user_model.specs.Model.{group_of, has_variable, variable_address}
+use Rattle.user_model.specs.Model.{group_of, has_variable, row_mentions, variable_address}
 use Rattle.model_laws.specs.Found.{found_passes}
-use Rattle.model_laws.specs.Listed.{edits_of}
+use Rattle.model_laws.specs.ItemChanges.{edits_of}
 use Rattle.model_laws.specs.Located.{named_stands}
-use Rattle.model_laws.specs.Mentions.{row_mentions}
 use Rattle.model_laws.specs.Needed.{needed_variable}
 use Rattle.model_laws.specs.Planned.{deletion_changes}
 use Rattle.model_laws.specs.Passed.{passed}
@@ -46,7 +45,7 @@ returns c =
     let names : c.in_ok-listed.listed.items ≡ c.new.result ∷ [] = c.in_ok-listed.ensures in
     let p : HasParts c.in_ok-plan.plan (record { number = group.id; content = c.in_ok-group_without.field-0 } ∷ []) [] None c.next.result c.in_ok-listed.listed.items [] × (c.in_ok-plan.plan.names.group ≡ group.id) = c.in_ok-plan.ensures in
     deleted_leads model _ c.requires.consistent c.args.var.now n (sym c.variable.ensures ∙ c.in-Some.is) group (sym c.in-Some-group_of.ensures) c.in_ok-plan-4.field-0
-    (subst (λ at. IsChange model.objective (objective_without at model.objective) c.in_ok-plan-4.field-0) place (subst (λ old. IsChange old (objective_without c.root-at.result old) c.in_ok-plan-4.field-0) c.objective.ensures left))
+    (subst (λ at. IsChange model.objective (objective_without at model.objective) c.in_ok-plan-4.field-0) place (subst (λ old. IsChange old (objective_without c.root-at.result old) c.in_ok-plan-4.field-0) c.objective.ensures.value left))
     p.1
     (record {
       groups = p.0.groups ∙ ap (λ content. record { number = group.id; content = content } ∷ []) made;

@@ -1,8 +1,8 @@
 use Rattle.std.proofs.Common.{◌≡◌, take}
 use Rattle.user_model.specs.Deletion.{row_without}
 use Rattle.user_model.specs.Edited.{row_number}
-use Rattle.model_laws.specs.Listed.{edits_of}
-use Rattle.model_laws.specs.Mentions.{row_mentions}
+use Rattle.model_laws.specs.ItemChanges.{edits_of}
+use Rattle.user_model.specs.Model.{row_mentions}
 use Rattle.model_plans.proofs.deletion.rows_without.Given as goal
 
 abbrev pub invariant-loop-row : goal.invariant-loop-row

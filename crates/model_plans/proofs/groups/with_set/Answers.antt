@@ -3,7 +3,7 @@ use Rattle.std.specs.Prelude.{MatchBool}
 use Rattle.std.specs.Option.{option_copied}
 use Rattle.std.proofs.lemmas.Result.{IfOk-weaker}
 use Rattle.user_model.specs.Edited.{group_number}
-use Rattle.model_laws.specs.Listed.{set_to}
+use Rattle.model_laws.specs.ItemChanges.{set_to}
 use Rattle.model_plans.specs.Plans.{HasParts}
 use Rattle.model_plans.proofs.Leading.{parts_same}
 use Rattle.model_plans.proofs.Comparisons.{same_sets}

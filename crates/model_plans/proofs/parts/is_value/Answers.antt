@@ -7,7 +7,7 @@ use Rattle.model_plans.proofs.parts.is_value.Goals as goal
 pub returns-in-Coefficient : goal.returns-in-Coefficient
 returns-in-Coefficient c =
     let f = c.args.func.now in
-    subst (λ p. MatchBool c.eq.result (with_part p c.args.value f ≡ f) (with_part p c.args.value f ≢ f)) (sym c.in-Coefficient.is) (has_coefficient f c.in-Coefficient.at c.args.value c.eq.result c.coef.result c.terms.ensures.normal c.coef.ensures c.eq.ensures)
+    subst (λ p. MatchBool c.eq.result (with_part p c.args.value f ≡ f) (with_part p c.args.value f ≢ f)) (sym c.in-Coefficient.is) (has_coefficient f c.in-Coefficient.at c.args.value c.eq.result c.coef.result c.coef.ensures c.eq.ensures)
 
 pub returns-in-Constant : goal.returns-in-Constant
 returns-in-Constant c =

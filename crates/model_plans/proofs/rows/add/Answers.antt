@@ -1,10 +1,19 @@
 use Rattle.std.proofs.Common.{◌≡◌, ◌+◌, ◌∷◌, [], Some, arith, refl, ap, ◌∙◌}
 use Rattle.std.proofs.lemmas.Result.{IfOk-weaker}
+use Rattle.user_model.specs.declared.edit.Edit.TheVariants as edit
 use Rattle.user_model.specs.Edited.{edited, located}
+use Rattle.model_laws.specs.Needed.{known_function}
+use Rattle.model_laws.specs.Passed.{passed}
 use Rattle.model_catalog.specs.Names.{listed_as}
 use Rattle.model_plans.proofs.Leading.{parts_same}
 use Rattle.model_plans.proofs.RowPlans.{added_leads, next_row}
 use Rattle.model_plans.proofs.rows.add.Goals as goal
+
+pub located-requires-clause-known : goal.located-requires-clause-known
+located-requires-clause-known c =
+    let model = c.args.model.now.model in
+    let e = edit.AddRow c.args.name c.args.func.now c.args.set in
+    known_function model e c.args.func.now refl (passed model e c.requires.accepted).known
 
 pub overflow_add-after : goal.overflow_add-after
 overflow_add-after c =

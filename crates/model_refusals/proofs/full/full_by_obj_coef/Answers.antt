@@ -13,4 +13,4 @@ returns-in-Affine c =
     let func = c.in-Affine.func in
     c.full_by_change.ensures
     ∙ (ap (λ at. first_full (with_change (total_terms model) (term_count func) (term_count (with_coefficient func at c.args.value.now)))) c.address_named.ensures
-    ∙ ap first_full (sym (obj_coef_counts model c.in-Affine.sense func c.args.var.now c.args.value.now (sym c.objective.ensures ∙ c.in-Affine.is))))
+    ∙ ap first_full (sym (obj_coef_counts model c.in-Affine.sense func c.args.var.now c.args.value.now (sym c.objective.ensures.value ∙ c.in-Affine.is))))

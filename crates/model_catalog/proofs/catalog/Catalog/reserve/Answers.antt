@@ -1,4 +1,4 @@
-use Rattle.std.proofs.Common.{List, Result, Ok, Err, length, flat_map, arith, ap}
+use Rattle.std.proofs.Common.{List, Result, Ok, Err, length, flat_map, arith, ap, ◌∙◌}
 use Rattle.std.specs.Prelude.{OnOk}
 use Rattle.user_model.specs.declared.group.Group.{Group}
 use Rattle.model_catalog.specs.Kept.{model_of}
@@ -13,14 +13,17 @@ on_ok (Err e) h f = h
 pub invariant_of-self-2 : goal.invariant_of-self-2
 invariant_of-self-2 c =
     let a = c.self.inside in
-    kept_alike (model_of a) _ a.kept.items _ a.variable_names.numbers _ a.row_names.numbers _ a.terms
-    (λ i. record { groups = c.reserve.ensures.items i; rows = c.reserve-2.ensures.items i; objective = a.objective; next = a.next })
-    c.reserve-3.ensures.items c.reserve-4.ensures.numbers c.reserve-5.ensures.numbers c.self.invariant
+    record {
+      keeps = kept_alike (model_of a) _ a.kept.items _ a.variable_names.numbers _ a.row_names.numbers _ a.terms
+          (λ i. record { groups = c.reserve.ensures.items i; rows = c.reserve-2.ensures.items i; objective = a.objective; next = a.next })
+          c.reserve-3.ensures.items c.reserve-4.ensures.numbers c.reserve-5.ensures.numbers c.self.invariant.keeps;
+      aside = c.reserve_aside.ensures ∙ c.self.invariant.aside;
+    }
 
 pub returns-clause-ok : goal.returns-clause-ok
 returns-clause-ok c =
     let a = c.self.inside in
-    let long = kept_length (model_of a) a.kept.items c.self.invariant.consistent c.self.invariant.index in
+    let long = kept_length (model_of a) a.kept.items c.self.invariant.keeps.consistent c.self.invariant.keeps.index in
     let same = ap (λ (gs : List Group). length (flat_map (λ g. g.vars) gs)) c.reserve.ensures.items in
     on_ok c.reserve-5.result c.reserve-5.ensures.ok (λ fits. record {
       groups = omega (arith, c.reserve.new.self.ok.0, c.in_ok-reserve.ensures.ok);

@@ -2,6 +2,8 @@ use Rattle.std.proofs.Common.{sym, ap, subst, ◌∙◌}
 use Rattle.user_model.specs.Consistent.{IsConsistent, IsWithinLimits}
 use Rattle.user_model.specs.Edited.{edited}
 use Rattle.user_model.specs.Undone.{IsUndo}
+use Rattle.user_model.specs.Valid.{IsValid}
+use Rattle.model_laws.specs.KeptValid.{kept_valid}
 use Rattle.model_laws.specs.KeptConsistent.{kept_consistent}
 use Rattle.model_laws.specs.KeptWithin.{kept_within}
 use Rattle.model_catalog.specs.Exchange.{exchanged}
@@ -33,3 +35,13 @@ returns-clause-undo c =
     let model = c.self.inside.catalog.model in
     let leads : Leads model (edited model c.args.edit) c.in-Ok.plan = c.in-Ok.ensures in
     subst (λ s. IsUndo s.model c.park-undo.new.catalog.model c.park-undo.result) c.self.view_is (undo_left model (edited model c.args.edit) c.reserve.new.catalog.model c.park-undo.new.catalog.model c.in-Ok.plan c.park-undo.result leads c.reserve.ensures.model c.park-undo.ensures.model c.park-undo.ensures.undo)
+
+pub returns-clause-valid : goal.returns-clause-valid
+returns-clause-valid c =
+    let model = c.self.inside.catalog.model in
+    let leads : Leads model (edited model c.args.edit) c.in-Ok.plan = c.in-Ok.ensures in
+    let valid : IsValid model = record { consistent = c.groups.ensures.consistent; within = c.groups.ensures.within; parts = c.self.invariant.parts } in
+    subst IsValid (sym (c.park-undo.ensures.model ∙ (ap (exchanged c.in-Ok.plan.exchange) c.reserve.ensures.model ∙ leads.after))) (kept_valid model c.args.edit valid (sym c.first_refusal.ensures ∙ c.in_default.is))
+
+pub invariant_of-self-2 : goal.invariant_of-self-2
+invariant_of-self-2 c = record { room = c.park-undo.ensures.parked; parts = (returns-clause-valid c).parts }

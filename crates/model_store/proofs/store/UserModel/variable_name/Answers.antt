@@ -1,7 +1,7 @@
 use Rattle.std.proofs.Common.{◌≡◌, arith, length, sym, ap, subst, ◌∙◌}
 use Rattle.std.specs.Option.{option_copied}
 use Rattle.model_catalog.specs.Named.{variable_name}
-use Rattle.model_store.specs.Store.{name_at}
+use Rattle.user_model.specs.Model.{name_at}
 use Rattle.model_store.proofs.Addresses.{nothing_at, variable_at}
 use Rattle.model_store.proofs.store.UserModel.variable_name.Goals as goal
 

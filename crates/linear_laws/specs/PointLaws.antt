@@ -1,0 +1,39 @@
+-- Points spread over a list of addresses, and points cut to some addresses.
+use Rattle.std.specs.Prelude.{◌≡◌, ℕ, suc, Bool, true, false, ◌||◌, cond, List, [], ◌∷◌, All, length, map, refl}
+use Rattle.std.proofs.Common.{sym, ◌∙◌, ap, ap₂, arith}
+use Rattle.std.proofs.lemmas.Map.Keys.{IsDistinct-head, IsDistinct-tail}
+use Rattle.std.specs.List.{AllByRecursion, IsDistinct, list_any}
+use Rattle.ratio_core.specs.Rational.{Rational, zero_ℚ}
+use Rattle.aff_core.specs.Address.{Address, address_cmp, address_eq, address_total}
+use Rattle.aff_core.specs.Function.{Function, coefficient, evaluated, slope}
+use Rattle.aff_core.specs.KeyOrder.{address_order, same_key}
+use Rattle.std.specs.Cmp.{eq_by_cmp_equiv}
+use Rattle.linear_laws.specs.EvaluationLaws.{evaluated_agreeing}
+
+-- the numbers at the addresses, one after the other, and 0 elsewhere
+abbrev pub spread : List Address → List Rational → Address → Rational
+spread [] v u = zero_ℚ
+spread (a ∷ us) [] u = zero_ℚ
+spread (a ∷ us) (q ∷ v) u = cond (address_eq u a) q (spread us v u)
+
+past_first : (a : Address) (q : Rational) (us vs : List Address) (v : List Rational) → AllByRecursion (λ u. address_eq a u ≡ false) us → map (spread (a ∷ vs) (q ∷ v)) us ≡ map (spread vs v) us
+past_first a q [] vs v apart = refl
+past_first a q (u ∷ us) vs v apart =
+    ap₂ (λ p ps. p ∷ ps) (ap (λ b. cond b q (spread vs v u)) ((eq_by_cmp_equiv address_total).symm u a ∙ apart.0)) (past_first a q us vs v apart.1)
+
+-- at distinct addresses stand the numbers
+pub spread_at : (us : List Address) (v : List Rational) → IsDistinct address_eq us → length us ≡ length v → map (spread us v) us ≡ v
+spread_at [] [] d n = refl
+spread_at [] (q ∷ v) d n = absurd (omega arith)
+spread_at (a ∷ us) [] d n = absurd (omega arith)
+spread_at (a ∷ us) (q ∷ v) d n =
+    ap₂ (λ p ps. p ∷ ps) (ap (λ b. cond b q (spread us v a)) (same_key address_order a))
+    (past_first a q us us v (IsDistinct-head address_eq a us d) ∙ spread_at us v (IsDistinct-tail address_eq a us d) (omega arith))
+
+-- the point where a test passes, and 0 elsewhere
+abbrev pub cut : (Address → Bool) → (Address → Rational) → Address → Rational
+cut p x u = cond (p u) (x u) zero_ℚ
+
+-- a function that mentions only addresses that pass doesn't see the cut
+pub evaluated_cut : (one : Rational) (p : Address → Bool) (f : Function) (x : Address → Rational) → ((v : Address) → ¬ (coefficient f v ≡ zero_ℚ) → p v ≡ true) → evaluated one f (cut p x) ≡ evaluated one f x
+evaluated_cut one p f x h = evaluated_agreeing one f (cut p x) x (λ v n. ap (λ b. cond b (x v) zero_ℚ) (h v n))

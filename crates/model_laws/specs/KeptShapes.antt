@@ -1,0 +1,192 @@
+-- Changes of functions and sets that keep a row and a group valid.
+use Rattle.std.specs.Prelude.{◌≡◌, ◌⊎◌, ℕ, zero, suc, ◌-◌, ◌≤◌, ◌==◌, Bool, true, false, ◌&&◌, ◌||◌, not, List, [], ◌∷◌, All, length, map, refl}
+use Rattle.std.proofs.Common.{arith, rules, sym, ap, subst, inl, inr, ◌∙◌}
+use Rattle.std.proofs.lemmas.Bool.{both_ways, eqb-true, not-false}
+use Rattle.std.proofs.lemmas.List.{length-map}
+use Rattle.ratio_core.specs.Rational.{Rational}
+use Rattle.aff_core.specs.Address.{Address}
+use Rattle.aff_core.specs.Function.{Function, with_coefficient}
+use Rattle.named_aff.specs.declared.aff.NamedAff.{NamedAff}
+use Rattle.set_core.specs.declared.set.Set.{Set}
+use Rattle.set_core.specs.declared.set.Set.TheVariants.{LessThan, GreaterThan, EqualTo, Interval, Reals, Zeros, Nonnegatives, Nonpositives, NormInfinityCone, NormOneCone}
+use Rattle.user_model.specs.declared.edit.NamedFunc.{NamedFunc}
+use Rattle.user_model.specs.declared.edit.NamedFunc.TheVariants as named
+use Rattle.user_model.specs.declared.function.UserFunc.{UserFunc}
+use Rattle.user_model.specs.declared.function.UserFunc.TheVariants.{Plain, Affine, PlainVec, AffineVec}
+use Rattle.user_model.specs.declared.group.Group.{Group}
+use Rattle.user_model.specs.declared.group.GroupVar.{GroupVar}
+use Rattle.user_model.specs.declared.row.Row.{Row}
+use Rattle.user_model.specs.Sets.{sets_lower, sets_upper}
+use Rattle.set_core.specs.Shapes.{IsSetOf, is_scalar, same_type, type_of}
+use Rattle.set_core.specs.declared.set_type.SetType.{SetType}
+use Rattle.set_core.specs.declared.set_type.SetType.TheVariants as types
+use Rattle.set_core.specs.contracts.set_type.SetType.{the_type}
+use denote.Enum.Bare.{same_true}
+use Rattle.user_model.specs.Functions.{components, func_mentions, is_scalar_function, is_scalar_named, named_components, term_count, term_counts}
+use Rattle.user_model.specs.Limits.{TERMS}
+use Rattle.user_model.specs.Model.{ModelValue, is_variable}
+use Rattle.user_model.specs.Edited.{changed_at, located, on_affine, on_output, with_constant}
+use Rattle.user_model.specs.Valid.{IsValidRow, Stands}
+use Rattle.model_laws.specs.ByName.{affine_bounds, output_bounds}
+use Rattle.model_laws.specs.KeptParts.{IsRowInPlace}
+use Rattle.model_laws.specs.Standing.{MentionsOnly, affine_only, output_only, with_term}
+
+-- ---- functions of the same shape
+
+pub record HasShapeOf (old new : UserFunc) : Type 0 where
+  pub scalar : is_scalar_function new ≡ is_scalar_function old
+  pub components : components new ≡ components old
+  pub variable : (n : ℕ) → is_variable n new ≡ is_variable n old
+
+pub affine_shape : (h : Function → Function) (func : UserFunc) → HasShapeOf func (on_affine h func)
+affine_shape h (Plain var) = record { scalar = refl; components = refl; variable = λ n. refl }
+affine_shape h (Affine f) = record { scalar = refl; components = refl; variable = λ n. refl }
+affine_shape h (PlainVec vars) = record { scalar = refl; components = refl; variable = λ n. refl }
+affine_shape h (AffineVec fs) = record { scalar = refl; components = refl; variable = λ n. refl }
+
+changed_length : (i : ℕ) (h : Function → Function) (fs : List Function) → length (changed_at i h fs) ≡ length fs
+changed_length i h [] = refl
+changed_length zero h (f ∷ fs) = refl
+changed_length (suc i) h (f ∷ fs) = ap suc (changed_length i h fs)
+
+pub output_shape : (output : ℕ) (h : Function → Function) (func : UserFunc) → HasShapeOf func (on_output output h func)
+output_shape output h (Plain var) = record { scalar = refl; components = refl; variable = λ n. refl }
+output_shape output h (Affine f) = record { scalar = refl; components = refl; variable = λ n. refl }
+output_shape output h (PlainVec vars) = record { scalar = refl; components = refl; variable = λ n. refl }
+output_shape output h (AffineVec fs) = record { scalar = refl; components = changed_length (output - 1) h fs; variable = λ n. refl }
+
+pub located_scalar : (model : ModelValue) (func : NamedFunc) → is_scalar_function (located model func) ≡ is_scalar_named func
+located_scalar model (named.Plain var) = refl
+located_scalar model (named.Affine f) = refl
+located_scalar model (named.PlainVec vars) = refl
+located_scalar model (named.AffineVec fs) = refl
+
+pub scalar_components : (func : UserFunc) → is_scalar_function func ≡ true → components func ≡ 1
+scalar_components (Plain var) e = refl
+scalar_components (Affine f) e = refl
+scalar_components (PlainVec vars) e = absurd (both_ways false refl e)
+scalar_components (AffineVec fs) e = absurd (both_ways false refl e)
+
+pub located_components : (model : ModelValue) (func : NamedFunc) → components (located model func) ≡ named_components func
+located_components model (named.Plain var) = refl
+located_components model (named.Affine f) = refl
+located_components model (named.PlainVec vars) = length-map vars _
+located_components model (named.AffineVec fs) = length-map fs _
+
+-- ---- constants have no part in the number of terms
+
+counts_at : (i : ℕ) (value : Rational) (fs : List Function) → map term_count (changed_at i (λ f. with_constant f value) fs) ≡ map term_count fs
+counts_at i value [] = refl
+counts_at zero value (f ∷ fs) = refl
+counts_at (suc i) value (f ∷ fs) = ap (λ ns. term_count f ∷ ns) (counts_at i value fs)
+
+pub constant_counts : (value : Rational) (func : UserFunc) → term_counts (on_affine (λ f. with_constant f value) func) ≡ term_counts func
+constant_counts value (Plain var) = refl
+constant_counts value (Affine f) = refl
+constant_counts value (PlainVec vars) = refl
+constant_counts value (AffineVec fs) = refl
+
+pub output_counts : (output : ℕ) (value : Rational) (func : UserFunc) → term_counts (on_output output (λ f. with_constant f value) func) ≡ term_counts func
+output_counts output value (Plain var) = refl
+output_counts output value (Affine f) = refl
+output_counts output value (PlainVec vars) = refl
+output_counts output value (AffineVec fs) = counts_at (output - 1) value fs
+
+-- ---- changes of functions that mention variables that stand
+
+pub standing_coefficient : (groups : List Group) (at : Address) (value : Rational) → Stands groups at → MentionsOnly (Stands groups) (λ f. with_coefficient f at value)
+standing_coefficient groups at value s = record { only = λ f q e. by_term f q (with_term f at value q e) }
+  where
+    by_term : (f : Function) (q : Address) → (q ≡ at) ⊎ (func_mentions q (Affine f) ≡ true) → Stands groups q ⊎ (func_mentions q (Affine f) ≡ true)
+    by_term f q (inl same) = inl (subst (Stands groups) (sym same) s)
+    by_term f q (inr was) = inr was
+
+-- ---- a row with another function, set or name
+
+module _ (groups : List Group) (row : Row) where
+  pub function_in_place : (func : UserFunc) → HasShapeOf row.func func → ((q : Address) → func_mentions q func ≡ true → Stands groups q ⊎ (func_mentions q row.func ≡ true)) → (All (λ count. count ≤ TERMS) (term_counts row.func) → All (λ count. count ≤ TERMS) (term_counts func)) → IsRowInPlace groups row (record row { func = func })
+  function_in_place func shape only terms = record {
+    id = refl;
+    valid = λ is. (record {
+      stand = λ q e. by_mention is (only q e);
+      limit = let limit = is.limit in let same = shape.components in omega (arith, limit, same);
+      terms = terms is.terms;
+      shape = is.shape ∙ sym shape.scalar;
+      set = subst (λ k. IsSetOf k row.set) (sym shape.components) is.set;
+    });
+    lower = λ n e. ap (λ b. b && sets_lower row.set) (sym (shape.variable n)) ∙ e;
+    upper = λ n e. ap (λ b. b && sets_upper row.set) (sym (shape.variable n)) ∙ e;
+  }
+    where
+      by_mention : IsValidRow groups row → {q : Address} → Stands groups q ⊎ (func_mentions q row.func ≡ true) → Stands groups q
+      by_mention is (inl s) = s
+      by_mention is {q = q} (inr was) = is.stand q was
+
+  pub name_in_place : (name : List ℕ) → IsRowInPlace groups row (record row { name = name })
+  name_in_place name = record {
+    id = refl;
+    valid = λ is. (record { stand = is.stand; limit = is.limit; terms = is.terms; shape = is.shape; set = is.set });
+    lower = λ n e. e;
+    upper = λ n e. e;
+  }
+
+-- ---- sets of one type set the same bounds
+
+by_lower : SetType → Bool
+by_lower types.GreaterThan = true
+by_lower types.EqualTo = true
+by_lower types.Interval = true
+by_lower _ = false
+
+by_upper : SetType → Bool
+by_upper types.LessThan = true
+by_upper types.EqualTo = true
+by_upper types.Interval = true
+by_upper _ = false
+
+type_lower : (set : Set) → sets_lower set ≡ by_lower (type_of set)
+unfolding by_lower
+type_lower (LessThan u) = refl
+type_lower (GreaterThan l) = refl
+type_lower (EqualTo a) = refl
+type_lower (Interval l u) = refl
+type_lower (Reals n) = refl
+type_lower (Zeros n) = refl
+type_lower (Nonnegatives n) = refl
+type_lower (Nonpositives n) = refl
+type_lower (NormInfinityCone n) = refl
+type_lower (NormOneCone n) = refl
+
+type_upper : (set : Set) → sets_upper set ≡ by_upper (type_of set)
+unfolding by_upper
+type_upper (LessThan u) = refl
+type_upper (GreaterThan l) = refl
+type_upper (EqualTo a) = refl
+type_upper (Interval l u) = refl
+type_upper (Reals n) = refl
+type_upper (Zeros n) = refl
+type_upper (Nonnegatives n) = refl
+type_upper (Nonpositives n) = refl
+type_upper (NormInfinityCone n) = refl
+type_upper (NormOneCone n) = refl
+
+types_same : (old new : Set) → same_type old new ≡ true → type_of old ≡ type_of new
+types_same old new e = same_true the_type (search rules) (type_of old) (type_of new) e
+
+pub same_lower : (old new : Set) → same_type old new ≡ true → sets_lower new ≡ true → sets_lower old ≡ true
+same_lower old new same e = type_lower old ∙ (ap by_lower (types_same old new same) ∙ (sym (type_lower new) ∙ e))
+
+pub same_upper : (old new : Set) → same_type old new ≡ true → sets_upper new ≡ true → sets_upper old ≡ true
+same_upper old new same e = type_upper old ∙ (ap by_upper (types_same old new same) ∙ (sym (type_upper new) ∙ e))
+
+and_more : (a b c : Bool) → (b ≡ true → c ≡ true) → (a && b) ≡ true → (a && c) ≡ true
+and_more true b c h e = h e
+and_more false b c h e = e
+
+pub set_in_place : (groups : List Group) (row : Row) (set : Set) → is_scalar set ≡ is_scalar_function row.func → IsSetOf (components row.func) set → same_type row.set set ≡ true → IsRowInPlace groups row (record row { set = set })
+set_in_place groups row set shape is same = record {
+  id = refl;
+  valid = λ was. (record { stand = was.stand; limit = was.limit; terms = was.terms; shape = shape; set = is });
+  lower = λ n e. and_more (is_variable n row.func) (sets_lower set) (sets_lower row.set) (same_lower row.set set same) e;
+  upper = λ n e. and_more (is_variable n row.func) (sets_upper set) (sets_upper row.set) (same_upper row.set set same) e;
+}

@@ -1,4 +1,0 @@
-mod edits;
-mod models;
-mod refused;
-mod taken_back;

@@ -1,0 +1,16 @@
+use Rattle.std.proofs.Common.{◌≡◌, ◌+◌, ◌<◌, ◌≤◌, All, vec_len}
+use Rattle.std.specs.Vec.{vec_capacity}
+use Rattle.numbered.specs.Gap.{with_gap}
+use Rattle.numbered.proofs.gap.take_ahead.Given as goal
+
+abbrev pub invariant-loop-item : goal.invariant-loop-item
+invariant-loop-item g l = record {
+  all : with_gap l.items.items l.aside.items ≡ with_gap l.initial.items.items l.initial.aside.items;
+  passed : All (λ x. g.X.HasNumber.number_of x < l.number) l.items.items;
+  fits : vec_len l.items + vec_len l.aside ≤ vec_capacity l.items;
+  capacity : vec_capacity l.initial.items ≤ vec_capacity l.items;
+  capacity_aside : vec_capacity l.initial.aside ≤ vec_capacity l.aside;
+}
+
+abbrev pub decreases-loop-item : goal.decreases-loop-item
+decreases-loop-item g l = vec_len l.aside
