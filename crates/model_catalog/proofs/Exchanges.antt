@@ -30,7 +30,7 @@ use Rattle.model_catalog.specs.Terms.{changed_terms}
 use Rattle.model_catalog.specs.Named.{IsInGroup, AreNameChanges, ChangesNames, HasStandingNames, row_name, variable_name}
 use Rattle.model_catalog.specs.Kept.{HasNames, Keeps}
 use Rattle.model_catalog.specs.Exchange.{standing}
-use Rattle.model_catalog.proofs.NameLoops.{some_is}
+use Rattle.map_laws.specs.OptionLaws.{some_is}
 use Rattle.model_catalog.proofs.Weights.{sum_set_at, sum_set_all}
 use Rattle.model_catalog.proofs.Found.{distinct_names}
 use Rattle.model_catalog.proofs.Counts.{same_variable}
