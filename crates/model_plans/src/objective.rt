@@ -111,8 +111,10 @@ pub(crate) fn constant(alloc: Global, model: &Catalog, value: Ratio) -> Result<P
 fn with_part_of(alloc: Global, model: &Catalog, part: &Part, value: Ratio) -> Result<Plan, Memory>
     requires { is_affine_objective model.now.model.objective ≡ true }
     ensures { IfOk result (Leads model.now.model
-        (record model.now.model { objective = on_objective
-        (with_part part.now value) model.now.model.objective })) }
+        (record model.now.model {
+          objective = on_objective
+              (with_part part.now value) model.now.model.objective;
+        })) }
 {
     let Objective::Affine { sense, func } = model.objective() else {
         unreachable!()
