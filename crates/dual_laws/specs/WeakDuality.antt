@@ -1,8 +1,8 @@
 -- Weak duality, for points and rays at once: where duals hold and the functions are in their sets, the gap times `one` is at most
 -- the pull. So a point's value is at least the duals' objective, a ray leads nowhere below, and a gap above 0 of rows without a
 -- pull leaves no point.
-use Rattle.std.specs.Prelude.{◌≡◌, List, [], ◌∷◌, length, map, refl}
-use Rattle.std.proofs.Common.{sym, ◌∙◌, ap, subst}
+use Rattle.std.specs.Prelude.{◌≡◌, List, [], ◌∷◌, length, refl}
+use Rattle.std.proofs.Common.{sym, subst}
 use Rattle.std.proofs.lemmas.List.{length-map}
 use Rattle.std.proofs.lemmas.List.Elements.{All-head, All-tail}
 use Rattle.ratio_core.specs.Rational.{Rational, neg_ℚ, one_ℚ, zero_ℚ, ◌*ℚ◌, ◌+ℚ◌, ◌-ℚ◌, ◌≤ℚ◌, ◌‹ℚ◌}

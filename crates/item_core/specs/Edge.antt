@@ -19,7 +19,9 @@ edge_number edge = tag_of contracts.the_type edge
 
 -- an edge's entry in the table
 unfoldable pub edge_entry : Edge → EdgeEntry
-edge_entry edge = slice_index_or EDGES (edge_number edge) (record { edge = edge; family = GreaterLess; source = Free; children = None })
+edge_entry edge =
+    slice_index_or EDGES (edge_number edge)
+    (record { edge = edge; family = GreaterLess; source = Free; children = None })
 
 abbrev pub source_of : Edge → Kind
 source_of edge = (edge_entry edge).source

@@ -15,4 +15,8 @@ supported_by Less = KINDS.less
 
 -- these kinds, with every family on and every cost 1
 unfoldable pub target_table : Target → Table
-target_table target = record { supported = supported_by target; on = replicate 20 true; cost = replicate 63 1 }
+target_table target = record {
+  supported = supported_by target;
+  on = replicate 20 true;
+  cost = replicate 63 1;
+}

@@ -49,7 +49,8 @@ group_without n group =
 
 abbrev pub objective_without : Address → Objective → Objective
 objective_without at objective.Feasibility = objective.Feasibility
-objective_without at (objective.Plain sense var) = if address_eq at var then objective.Feasibility else objective.Plain sense var
+objective_without at (objective.Plain sense var) =
+    if address_eq at var then objective.Feasibility else objective.Plain sense var
 objective_without at (objective.Affine sense f) = objective.Affine sense (without_term at f)
 
 -- the model without the variable with a number
