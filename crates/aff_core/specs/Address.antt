@@ -57,7 +57,9 @@ root_number-injective r s e = sym (root_at-root_number r) ∙ ap root_at e ∙ r
 
 -- by root, then by number, then by positions, a prefix first
 unfoldable pub address_cmp : Address → Address → Ordering
-address_cmp = then_cmp (on (λ a. root_number a.root) nat_cmp) (then_cmp (on (λ a. a.number) nat_cmp) (on (λ a. a.positions) (slice_cmp nat_cmp)))
+address_cmp =
+    then_cmp (on (λ a. root_number a.root) nat_cmp)
+    (then_cmp (on (λ a. a.number) nat_cmp) (on (λ a. a.positions) (slice_cmp nat_cmp)))
 
 pub address_total : IsTotalOrder address_cmp
 unfolding address_cmp

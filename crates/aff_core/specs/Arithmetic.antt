@@ -91,11 +91,13 @@ module _ {K : Type 0} {R : K → K → Ordering} where
 -- ---- compositions: the function with the expression of each key in its place, whose keys may be others
 
 -- the expression of a key, which is 0 where it has none
-abbrev pub expression_at : {K J : Type 0} {R : K → K → Ordering} {S : J → J → Ordering} → FinMap R (FunctionOver S) → K → FunctionOver S
+abbrev pub expression_at : {K J : Type 0} {R : K → K → Ordering} {S : J → J → Ordering}
+    → FinMap R (FunctionOver S) → K → FunctionOver S
 expression_at exprs at = unwrap_or (finite.get exprs at) (constant_function zero_ℚ)
 
 -- each coefficient times the terms of its key's expression, one after the other
-unfoldable pub substituted : {K J : Type 0} {S : J → J → Ordering} → (K → FunctionOver S) → List (K × Rational) → List (J × Rational)
+unfoldable pub substituted : {K J : Type 0} {S : J → J → Ordering} → (K → FunctionOver S)
+    → List (K × Rational) → List (J × Rational)
 substituted e [] = []
 substituted e (t ∷ ts) = times t.1 (terms_of (e t.0)) ++ substituted e ts
 

@@ -70,7 +70,8 @@ module _ {K : Type 0} {R : K → K → Ordering} where
 
   -- and is stored as them
   abbrev pub code_over : Coded K → Coded (FunctionOver R)
-  code_over key = coded_via (coded× (finite.code key rational_code) rational_code) function_parts same_parts
+  code_over key =
+      coded_via (coded× (finite.code key rational_code) rational_code) function_parts same_parts
 
   -- the terms in the order of their keys
   abbrev pub terms_of : FunctionOver R → List (K × Rational)
@@ -106,7 +107,8 @@ module _ {K : Type 0} {R : K → K → Ordering} where
 
   -- the function with this coefficient at the key, where 0 removes the term
   unfoldable pub with_coefficient : FunctionOver R → K → Rational → FunctionOver R
-  with_coefficient f at value = function_of (finite.entries (finite.insert f.terms at value)) f.constant
+  with_coefficient f at value =
+      function_of (finite.entries (finite.insert f.terms at value)) f.constant
 
   -- the same with no word on maps: this coefficient alone is changed
   pub record HasCoefficient (f : FunctionOver R) (at : K) (value : Rational) (h : FunctionOver R) : Type 0 where

@@ -15,7 +15,12 @@ pub record IsPadded (a : Inside) : Type 0 where
   pub zeros : drop a.depth a.positions ≡ replicate (40 - a.depth) 0
 
 abbrev pub padded : Address → Inside
-padded v = record { root = v.root; number = v.number; positions = v.positions ++ replicate (40 - length v.positions) 0; depth = length v.positions }
+padded v = record {
+  root = v.root;
+  number = v.number;
+  positions = v.positions ++ replicate (40 - length v.positions) 0;
+  depth = length v.positions;
+}
 
 -- the places come back from the address
 pub padded-address_of : (a : Inside) → IsPadded a → padded (address_of a) ≡ a

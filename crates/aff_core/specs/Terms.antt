@@ -27,7 +27,8 @@ linear [] x = zero_ℚ
 linear (t ∷ ts) x = (t.1 *ℚ x t.0) +ℚ linear ts x
 
 -- a number and the same, added from the left
-unfoldable pub value_from : {K : Type 0} → Rational → List (K × Rational) → (K → Rational) → Rational
+unfoldable pub value_from : {K : Type 0} → Rational → List (K × Rational) → (K → Rational)
+    → Rational
 value_from sum [] x = sum
 value_from sum (t ∷ ts) x = value_from (sum +ℚ (t.1 *ℚ x t.0)) ts x
 

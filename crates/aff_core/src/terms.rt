@@ -113,7 +113,8 @@ fn push_nonzero<K: Copy>(
     key: K,
     coefficient: Ratio,
 ) -> Result<(), Memory>
-    ensures { IfOk result (λ _. terms.new.items ≡ terms.old.items ++ filter is_nonzero ((key, coefficient) ∷ [])) }
+    ensures { IfOk result (λ _. terms.new.items
+        ≡ terms.old.items ++ filter is_nonzero ((key, coefficient) ∷ [])) }
 {
     if !coefficient.is_zero() {
         terms.push((key, coefficient))?;

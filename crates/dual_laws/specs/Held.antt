@@ -4,12 +4,13 @@
 --     adjoint hs v     the sum of the duals times the coefficients of v
 --     gap hs           the sum of the least products, less the duals times the constants
 --     AllHold one hs x the functions are in the sets: at a point where `one` is 1, along a ray where it is 0
-use Rattle.std.specs.Prelude.{◌≡◌, List, length, map, All}
+use Rattle.std.specs.Prelude.{◌≡◌, List, length, All}
 use Rattle.ratio_core.specs.Rational.{Rational, ◌-ℚ◌, ◌≤ℚ◌}
 use Rattle.rational_laws.specs.Dot.{dot}
 use Rattle.rational_laws.specs.Sums.{sum_by_ℚ}
 use Rattle.aff_core.specs.Address.{Address}
-use Rattle.aff_core.specs.Function.{Function, coefficient, evaluated, slope}
+use Rattle.aff_core.specs.Function.{Function}
+use Rattle.aff_core.specs.FunctionLists.{coefficients, constants, evaluations, slopes}
 use Rattle.set_core.specs.declared.set.Set.{Set}
 use Rattle.set_core.specs.Membership.{Dual, In, low_of}
 use Rattle.set_core.specs.Mirrored.{multiplied}
@@ -32,16 +33,16 @@ DualsHold hs = All IsHeld hs
 -- ---- of one
 
 abbrev pub pull_of : Held → (Address → Rational) → Rational
-pull_of h x = dot h.duals (map (λ f. slope f x) h.functions)
+pull_of h x = dot h.duals (slopes h.functions x)
 
 abbrev pub adjoint_of : Held → Address → Rational
-adjoint_of h v = dot h.duals (map (λ f. coefficient f v) h.functions)
+adjoint_of h v = dot h.duals (coefficients h.functions v)
 
 abbrev pub gap_of : Held → Rational
-gap_of h = low_of h.set h.duals -ℚ dot h.duals (map (λ f. f.constant) h.functions)
+gap_of h = low_of h.set h.duals -ℚ dot h.duals (constants h.functions)
 
 abbrev pub Holds : Rational → Held → (Address → Rational) → Type 0
-Holds one h x = In (multiplied one h.set) (map (λ f. evaluated one f x) h.functions)
+Holds one h x = In (multiplied one h.set) (evaluations one h.functions x)
 
 -- ---- of all
 

@@ -8,6 +8,7 @@ use Rattle.rational_laws.specs.Field.{*ℚ_comm, zero-*ℚ, +ℚ-*ℚ}
 use Rattle.rational_laws.specs.Sums.{sum_by_ℚ, sum_by_ℚ-+ℚ, sum_by_ℚ-append, sum_by_ℚ_same, sum_by_ℚ_zero}
 use Rattle.aff_core.specs.Address.{Address}
 use Rattle.aff_core.specs.Function.{Function, coefficient, slope}
+use Rattle.aff_core.specs.FunctionLists.{coefficients, slopes}
 use Rattle.linear_laws.specs.SlopeLaws.{mentioned, slope_over}
 use Rattle.linear_laws.specs.SupportLaws.{Supports, support, support_supports, supports_first, supports_second}
 use Rattle.dual_laws.specs.Held.{Held, adjoint, adjoint_of, gap, gap_of, pull, pull_of}
@@ -21,20 +22,20 @@ mentioned_in hs = flat_map (λ h. all_mentioned h.functions) hs
 
 -- ---- over any list that has each address once
 
-weighed_over : (us : List Address) (y : List Rational) (fs : List Function) (x : Address → Rational) → Supports us (all_mentioned fs) → dot y (map (λ f. slope f x) fs) ≡ sum_by_ℚ (λ u. dot y (map (λ f. coefficient f u) fs) *ℚ x u) us
-weighed_over us y fs x h = spread fs y h ∙ dot_map-sum y (λ f u. coefficient f u *ℚ x u) fs us ∙ sum_by_ℚ_same (λ u. dot y (map (λ f. coefficient f u *ℚ x u) fs)) (λ u. dot y (map (λ f. coefficient f u) fs) *ℚ x u) us out
+weighed_over : (us : List Address) (y : List Rational) (fs : List Function) (x : Address → Rational) → Supports us (all_mentioned fs) → dot y (slopes fs x) ≡ sum_by_ℚ (λ u. dot y (coefficients fs u) *ℚ x u) us
+weighed_over us y fs x h = spread fs y h ∙ dot_map-sum y (λ f u. coefficient f u *ℚ x u) fs us ∙ sum_by_ℚ_same (λ u. dot y (map (λ f. coefficient f u *ℚ x u) fs)) (λ u. dot y (coefficients fs u) *ℚ x u) us out
   where
-    spread : (fs : List Function) (y : List Rational) → Supports us (all_mentioned fs) → dot y (map (λ f. slope f x) fs) ≡ dot y (map (λ f. sum_by_ℚ (λ u. coefficient f u *ℚ x u) us) fs)
+    spread : (fs : List Function) (y : List Rational) → Supports us (all_mentioned fs) → dot y (slopes fs x) ≡ dot y (map (λ f. sum_by_ℚ (λ u. coefficient f u *ℚ x u) us) fs)
     spread [] y h = refl
     spread (f ∷ fs) [] h = refl
     spread (f ∷ fs) (p ∷ y) h =
         ap₂ (λ s t. p *ℚ s +ℚ t) (slope_over us f x (supports_first us (mentioned f) (all_mentioned fs) h)) (spread fs y (supports_second us (mentioned f) (all_mentioned fs) h))
 
-    out : (u : Address) → dot y (map (λ f. coefficient f u *ℚ x u) fs) ≡ dot y (map (λ f. coefficient f u) fs) *ℚ x u
+    out : (u : Address) → dot y (map (λ f. coefficient f u *ℚ x u) fs) ≡ dot y (coefficients fs u) *ℚ x u
     out u =
         dot_map_same y (λ f. coefficient f u *ℚ x u) (λ f. x u *ℚ coefficient f u) fs (λ f. *ℚ_comm (coefficient f u) (x u))
         ∙ dot_map-*ℚ y (x u) (λ f. coefficient f u) fs
-        ∙ *ℚ_comm (x u) (dot y (map (λ f. coefficient f u) fs))
+        ∙ *ℚ_comm (x u) (dot y (coefficients fs u))
 
 pub pull_over : (us : List Address) (hs : List Held) (x : Address → Rational) → Supports us (mentioned_in hs) → pull hs x ≡ sum_by_ℚ (λ u. adjoint hs u *ℚ x u) us
 pull_over us [] x h = sym (sum_by_ℚ_same (λ u. zero_ℚ *ℚ x u) (λ _. zero_ℚ) us (λ u. zero-*ℚ (x u)) ∙ sum_by_ℚ_zero us)

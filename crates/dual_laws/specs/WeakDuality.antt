@@ -1,18 +1,19 @@
 -- Weak duality, for points and rays at once: where duals hold and the functions are in their sets, the gap times `one` is at most
 -- the pull. So a point's value is at least the duals' objective, a ray leads nowhere below, and a gap above 0 of rows without a
 -- pull leaves no point.
-use Rattle.std.specs.Prelude.{◌≡◌, List, [], ◌∷◌, length, map, refl}
-use Rattle.std.proofs.Common.{sym, ◌∙◌, ap, subst}
+use Rattle.std.specs.Prelude.{◌≡◌, List, [], ◌∷◌, length, refl}
+use Rattle.std.proofs.Common.{sym, subst}
 use Rattle.std.proofs.lemmas.List.{length-map}
 use Rattle.std.proofs.lemmas.List.Elements.{All-head, All-tail}
 use Rattle.ratio_core.specs.Rational.{Rational, neg_ℚ, one_ℚ, zero_ℚ, ◌*ℚ◌, ◌+ℚ◌, ◌-ℚ◌, ◌≤ℚ◌, ◌‹ℚ◌}
 use Rattle.rational_laws.specs.Dot.{dot}
-use Rattle.rational_laws.specs.DotLaws.{dot_map-*ℚ, dot_map-+ℚ}
 use Rattle.rational_laws.specs.Field.{*ℚ-+ℚ, *ℚ-zero, one-*ℚ, zero-*ℚ}
 use Rattle.rational_laws.specs.Order.{not_‹ℚ_from_≤ℚ, zero_‹ℚ_one, ≤ℚ-+ℚ, ≤ℚ-+ℚ_left, ≤ℚ-+ℚ_right, ≤ℚ_from_‹ℚ, ≤ℚ_refl}
 use Rattle.rational_laws.specs.Ring.{as_expression, by_ring, ring₄}
 use Rattle.aff_core.specs.Address.{Address}
 use Rattle.aff_core.specs.Function.{Function, coefficient, evaluated, slope, value_of}
+use Rattle.aff_core.specs.FunctionLists.{constants, evaluations}
+use Rattle.linear_laws.specs.ListLaws.{dot_evaluations}
 use Rattle.set_core.specs.Membership.{low_of}
 use Rattle.set_core.specs.Mirrored.{multiplied}
 use Rattle.set_laws.specs.Least.{low_least}
@@ -24,12 +25,6 @@ one_nonneg : zero_ℚ ≤ℚ one_ℚ
 one_nonneg = ≤ℚ_from_‹ℚ zero_ℚ one_ℚ zero_‹ℚ_one
 
 module _ (one : Rational) (a : zero_ℚ ≤ℚ one) (x : Address → Rational) where
-  -- the duals times the functions are the duals times the constants and the slopes
-  weighed : (y : List Rational) (fs : List Function) → dot y (map (λ f. evaluated one f x) fs) ≡ one *ℚ dot y (map (λ f. f.constant) fs) +ℚ dot y (map (λ f. slope f x) fs)
-  weighed y fs =
-      dot_map-+ℚ y (λ f. one *ℚ f.constant) (λ f. slope f x) fs
-      ∙ ap (λ s. s +ℚ dot y (map (λ f. slope f x) fs)) (dot_map-*ℚ y one (λ f. f.constant) fs)
-
   moved : (o l k s : Rational) → (o *ℚ l) ≤ℚ (o *ℚ k +ℚ s) → (o *ℚ (l -ℚ k)) ≤ℚ s
   moved o l k s h =
       subst (λ q. (o *ℚ (l -ℚ k)) ≤ℚ q) (right o l k s) (subst (λ q. q ≤ℚ ((o *ℚ k +ℚ s) -ℚ o *ℚ k)) (left o l k s) (≤ℚ-+ℚ_right (o *ℚ l) (o *ℚ k +ℚ s) (neg_ℚ (o *ℚ k)) h))
@@ -42,10 +37,10 @@ module _ (one : Rational) (a : zero_ℚ ≤ℚ one) (x : Address → Rational) w
 
   pub gap_below : (h : Held) → IsHeld h → Holds one h x → (one *ℚ gap_of h) ≤ℚ pull_of h x
   gap_below h d i =
-      moved one (low_of h.set h.duals) (dot h.duals (map (λ f. f.constant) h.functions)) (pull_of h x)
-      (subst (λ q. q ≤ℚ (one *ℚ dot h.duals (map (λ f. f.constant) h.functions) +ℚ pull_of h x)) (low_multiplied one h.set h.duals)
-      (subst (λ q. low_of (multiplied one h.set) h.duals ≤ℚ q) (weighed h.duals h.functions)
-      (low_least (length h.functions) (multiplied one h.set) h.duals (map (λ f. evaluated one f x) h.functions) (multiplied_set one a (length h.functions) h.set d.set) d.size (length-map h.functions (λ f. evaluated one f x)) i (dual_of-multiplied one h.set h.duals d.dual))))
+      moved one (low_of h.set h.duals) (dot h.duals (constants h.functions)) (pull_of h x)
+      (subst (λ q. q ≤ℚ (one *ℚ dot h.duals (constants h.functions) +ℚ pull_of h x)) (low_multiplied one h.set h.duals)
+      (subst (λ q. low_of (multiplied one h.set) h.duals ≤ℚ q) (dot_evaluations h.duals one h.functions x)
+      (low_least (length h.functions) (multiplied one h.set) h.duals (evaluations one h.functions x) (multiplied_set one a (length h.functions) h.set d.set) d.size (length-map h.functions (λ f. evaluated one f x)) i (dual_of-multiplied one h.set h.duals d.dual))))
 
   pub gaps_below : (hs : List Held) → DualsHold hs → AllHold one hs x → (one *ℚ gap hs) ≤ℚ pull hs x
   gaps_below [] d i = subst (λ q. q ≤ℚ zero_ℚ) (sym (*ℚ-zero one)) (≤ℚ_refl zero_ℚ)

@@ -26,7 +26,12 @@ joined a b = record {
 
 module _ {Item Entry : Type 0} (rules : Rules Item Entry) where
   abbrev pub native_held : Item → Held Item Entry
-  native_held item = record { entries = rules.own item; leaves = item ∷ []; nodes = []; fits = true }
+  native_held item = record {
+    entries = rules.own item;
+    leaves = item ∷ [];
+    nodes = [];
+    fits = true;
+  }
 
   -- the node of an item by an edge, over its child groups and its further children
   abbrev pub node_held : ℕ → Item → Held Item Entry → Held Item Entry → Held Item Entry
@@ -39,7 +44,8 @@ module _ {Item Entry : Type 0} (rules : Rules Item Entry) where
 
   -- what is held of a further child: no components, and the making of the child is to fit as well
   abbrev pub put_held : List Entry → Item → Held Item Entry → Held Item Entry
-  put_held inner item held = record held { entries = []; fits = rules.put_in_fits inner item && held.fits }
+  put_held inner item held =
+      record held { entries = []; fits = rules.put_in_fits inner item && held.fits }
 
   -- ---- worked out to a depth
 

@@ -48,12 +48,14 @@ module _ {Item Entry : Type 0} {rules : Rules Item Entry} where
     fits_in (each_in {inner} {item} first rest) = (rules.put_in_fits inner item && fits first) && fits_in rest
 
   -- the first of the items that doesn't fit
-  unfoldable pub unfit_each : {items : List Item} {entries : List Entry} → EachBridged rules items entries → Option Item
+  unfoldable pub unfit_each : {items : List Item} {entries : List Entry}
+      → EachBridged rules items entries → Option Item
   unfit_each none = None
   unfit_each (each {item} first rest) = if fits first then unfit_each rest else Some item
 
   -- the first item that doesn't fit as it stands with the expressions put in
-  unfoldable pub unfit_in : {inner : List Entry} {items : List Item} → EachBridgedIn rules inner items → Option Item
+  unfoldable pub unfit_in : {inner : List Entry} {items : List Item}
+      → EachBridgedIn rules inner items → Option Item
   unfit_in none_in = None
   unfit_in (each_in {inner} {item} first rest) =
       if rules.put_in_fits inner item && fits first then unfit_in rest else Some item

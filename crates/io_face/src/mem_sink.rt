@@ -62,14 +62,17 @@ impl Sink for MemSink {
         ensures progress { IfOk result (λ n. 0 < length piece.now → 0 < n) }
         ensures failed { OnErr result (self.new.written ≡ self.old.written) }
         ensures count { self.old.plan.faults ≤ self.new.plan.faults }
-        ensures cause { IsErrOf result SinkFault.Failed → HasFaulted self.old.plan.faults self.new.plan.faults }
+        ensures cause { IsErrOf result SinkFault.Failed
+            → HasFaulted self.old.plan.faults self.new.plan.faults }
 
         // It fails exactly at the listed calls, and else takes as much as it may, unless memory runs out.
         ensures failing { IsErrOf result SinkFault.Failed ↔ IsFailing self.old.plan }
         ensures amount { IfOk result (λ n. n ≡ min (length piece.now) self.old.piece) }
         ensures ok { IfOk result (λ n. self.new ≡ collector_after self.old (take n piece.now)) }
-        ensures err { IsErrOf result SinkFault.Failed → self.new ≡ collector_after_failure self.old }
-        ensures memory { IsErrOf result SinkFault.Memory → self.new ≡ collector_without_memory self.old }
+        ensures err { IsErrOf result SinkFault.Failed
+            → self.new ≡ collector_after_failure self.old }
+        ensures memory { IsErrOf result SinkFault.Memory
+            → self.new ≡ collector_without_memory self.old }
     {
         if self.schedule.count_call() {
             return Err(SinkFault::Failed);

@@ -52,13 +52,15 @@ impl Source for MemSource {
 
     fn read(&mut self, into: &mut [u8]) -> Result<usize, Failed>
         // As for any source.
-        ensures taken { IfOk result (λ n. Takes (Some self.old.left) (Some self.new.left) (take n into.new)) }
+        ensures taken { IfOk result (λ n. Takes (Some self.old.left) (Some self.new.left)
+            (take n into.new)) }
         ensures end { IfOk result (λ n. n ≡ 0 → 0 < length into.old → self.old.left ≡ []) }
         ensures count { self.old.plan.faults ≤ self.new.plan.faults }
 
         // It fails exactly at the listed calls, and else gives a piece, or what is left of it.
         ensures failing { IsErr result ↔ IsFailing self.old.plan }
-        ensures amount { IfOk result (λ n. n ≡ min (min (length into.old) self.old.piece) (length self.old.left)) }
+        ensures amount { IfOk result (λ n. n ≡ min (min (length into.old) self.old.piece)
+            (length self.old.left)) }
         ensures ok { IfOk result (λ n. self.new ≡ feed_after self.old n) }
         ensures err { OnErr result (self.new ≡ feed_after_failure self.old) }
     {

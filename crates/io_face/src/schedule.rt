@@ -32,7 +32,8 @@ impl Schedule {
     /// Counts a call, and a fault where the call is to fail. True if it is.
     pub fn count_call(&mut self) -> bool
         ensures failing { IsTrue result ↔ IsFailing self.old }
-        ensures after { self.new ≡ (if result then after_failure self.old else after_success self.old) }
+        ensures after { self.new ≡ (if result then after_failure self.old else after_success
+            self.old) }
         ensures never_falls { self.old.faults ≤ self.new.faults }
     {
         self.made = self.made.saturating_add(1);

@@ -46,10 +46,12 @@ pub trait Sink {
     fn write(&mut self, piece: &[u8]) -> Result<usize, SinkFault>
         ensures within { IfOk result (λ n. n ≤ length piece.now) }
         ensures progress { IfOk result (λ n. 0 < length piece.now → 0 < n) }
-        ensures added { IfOk result (λ n. Adds (written self.old) (written self.new) (take n piece.now)) }
+        ensures added { IfOk result (λ n. Adds (written self.old) (written self.new)
+            (take n piece.now)) }
         ensures failed { OnErr result (written self.new ≡ written self.old) }
         ensures count { faults self.old ≤ faults self.new }
-        ensures cause { IsErrOf result SinkFault.Failed → HasFaulted (faults self.old) (faults self.new) };
+        ensures cause { IsErrOf result SinkFault.Failed
+            → HasFaulted (faults self.old) (faults self.new) };
 
     /// How many writes failed for another cause than memory; `u64::MAX` stands for more too.
     fn faults(&self) -> u64
@@ -61,7 +63,8 @@ pub fn write_all<O: Sink>(output: &mut O, text: &[u8]) -> Result<(), SinkFault>
     ensures ok { OnOk result (Adds (O.written output.old) (O.written output.new) text.now) }
     ensures err { OnErr result (AddsPrefix (O.written output.old) (O.written output.new) text.now) }
     ensures count { O.faults output.old ≤ O.faults output.new }
-    ensures cause { IsErrOf result SinkFault.Failed → HasFaulted (O.faults output.old) (O.faults output.new) }
+    ensures cause { IsErrOf result SinkFault.Failed
+        → HasFaulted (O.faults output.old) (O.faults output.new) }
 {
     let mut done = 0;
     while done < text.len() {

@@ -22,7 +22,8 @@ impl<R: Read> Source for Adapter<R> {
         ensures count { self.old.faults ≤ self.new.faults }
 
         // Over a reader that tells its bytes, none is lost.
-        ensures bytes { ReadConsumes (R.remaining self.old.inner) (R.remaining self.new.inner) result into.new }
+        ensures bytes { ReadConsumes (R.remaining self.old.inner)
+            (R.remaining self.new.inner) result into.new }
         ensures no_fault { OnOk result (self.new.faults ≡ self.old.faults) }
         ensures fault { OnErr result (self.new.faults ≡ next_count self.old.faults) }
     {

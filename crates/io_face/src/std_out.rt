@@ -24,7 +24,8 @@ impl<W: Write> Sink for Adapter<W> {
         ensures count { self.old.faults ≤ self.new.faults }
 
         // Over a writer that tells its bytes, each is written once.
-        ensures bytes { WriteAppends (W.contents self.old.inner) (W.contents self.new.inner) result piece.now }
+        ensures bytes { WriteAppends (W.contents self.old.inner)
+            (W.contents self.new.inner) result piece.now }
         ensures no_memory { IsOkUnless result SinkFault.Failed }
         ensures no_fault { OnOk result (self.new.faults ≡ self.old.faults) }
         ensures fault { OnErr result (self.new.faults ≡ next_count self.old.faults) }

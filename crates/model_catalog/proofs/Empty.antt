@@ -8,7 +8,6 @@ use Rattle.std.proofs.lemmas.Option.{none-some}
 use Rattle.name_index.specs.NameTable.{Numbers}
 use Rattle.numbered.specs.Laws.{Rise-nil}
 use Rattle.user_model.specs.Consistent as consistent
-use Rattle.user_model.specs.Consistent.{IsConsistent}
 use Rattle.user_model.specs.Edited.{group_number, row_number}
 use Rattle.user_model.specs.Model.{empty_model}
 use Rattle.model_catalog.specs.Names.{name_of}

@@ -18,7 +18,7 @@ use Rattle.user_model.specs.declared.undo.Undo.{Undo}
 use Rattle.user_model.specs.Functions.{all_terms}
 use Rattle.user_model.specs.Edited.{group_number, row_number}
 use Rattle.user_model.specs.Consistent as consistent
-use Rattle.user_model.specs.Consistent.{IsConsistent, IsWithinLimits}
+use Rattle.user_model.specs.Consistent.{IsConsistent}
 use Rattle.user_model.specs.Model.{ModelValue, variables}
 use Rattle.user_model.specs.Undone.{before}
 use Rattle.model_catalog.specs.declared.names.NameChange.{NameChange}
@@ -30,7 +30,7 @@ use Rattle.model_catalog.specs.Terms.{changed_terms}
 use Rattle.model_catalog.specs.Named.{IsInGroup, AreNameChanges, ChangesNames, HasStandingNames, row_name, variable_name}
 use Rattle.model_catalog.specs.Kept.{HasNames, Keeps}
 use Rattle.model_catalog.specs.Exchange.{standing}
-use Rattle.model_catalog.proofs.NameLoops.{some_is}
+use Rattle.map_laws.specs.OptionLaws.{some_is}
 use Rattle.model_catalog.proofs.Weights.{sum_set_at, sum_set_all}
 use Rattle.model_catalog.proofs.Found.{distinct_names}
 use Rattle.model_catalog.proofs.Counts.{same_variable}

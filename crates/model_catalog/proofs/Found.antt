@@ -1,5 +1,5 @@
 -- What is found in lists of items with numbers and names.
-use Rattle.std.proofs.Common.{◌≡◌, ◌≢◌, ℕ, zero, suc, ◌+◌, ◌<◌, ◌==◌, ◌||◌, nat_lt, Bool, true, false, cond, List, [], ◌∷◌, map, Option, Some, None, refl, sym, ap, ◌∙◌, arith, inl, inr, slice_get}
+use Rattle.std.proofs.Common.{◌≡◌, ◌≢◌, ℕ, ◌+◌, ◌<◌, ◌==◌, ◌||◌, nat_lt, Bool, true, false, cond, List, [], ◌∷◌, map, Option, Some, None, refl, sym, ap, ◌∙◌, arith, inl, inr, slice_get}
 use Rattle.std.specs.Prelude.{is_some, AllPairs, All, count_by, flat_map}
 use Rattle.std.specs.List as list
 use Rattle.std.specs.List.{list_any}
@@ -12,6 +12,7 @@ use Rattle.std.proofs.lemmas.List.Elements.{All-nil, All-cons, All-head, All-tai
 use Rattle.std.proofs.lemmas.List.Folds.{find-append}
 use Rattle.std.proofs.lemmas.List.Sums.{sum_by-drop_more}
 use Rattle.std.proofs.lemmas.Option.{none-some, same_Some, slice_get_within, get_or_from_slice_get}
+use Rattle.map_laws.specs.PlaceLaws.{none_passes, place_of_found, some_found}
 use Rattle.numbered.specs.Numbered.{Rise, IsAt, find}
 use Rattle.numbered.specs.Laws.{IsAt-find, Rise-nil, Rise-cons, Rise-head, Rise-tail, find-at, number_of_found, same_lists}
 use Rattle.model_catalog.specs.Names.{AreDistinct}
@@ -19,30 +20,6 @@ use Rattle.model_catalog.specs.Names.{AreDistinct}
 -- ---- searches
 
 module _ {X : Type 0} (p : X → Bool) where
-  pub place_of_found : (xs : List X) (x : X) → list.find p xs ≡ Some x → (p x ≡ true) × ((i : ℕ) × (slice_get xs i ≡ Some x))
-  place_of_found [] x e = absurd (none-some x e)
-  place_of_found (y ∷ xs) x e =
-      elim (p y) as (λ b. p y ≡ b → cond b (Some y) (list.find p xs) ≡ Some x → (p x ≡ true) × ((i : ℕ) × (slice_get (y ∷ xs) i ≡ Some x))) [
-        | true ↦ λ passes is. (ap p (sym (same_Some y x is)) ∙ passes, (0, is))
-        | false ↦ λ passes is. let rest = place_of_found xs x is in (rest.0, (suc rest.1.0, rest.1.1))
-      ] refl e
-
-  pub none_passes : (xs : List X) (i : ℕ) (y : X) → list.find p xs ≡ None → slice_get xs i ≡ Some y → p y ≡ false
-  none_passes [] i y none at = absurd (none-some y at)
-  none_passes (x ∷ xs) i y none at =
-      elim (p x) as (λ b. p x ≡ b → cond b (Some x) (list.find p xs) ≡ None → p y ≡ false) [
-        | true ↦ λ passes is. absurd (none-some x (sym is))
-        | false ↦ λ passes is. later i passes (λ k at. none_passes xs k y is at) at
-      ] refl none
-    where
-      later : (k : ℕ) → p x ≡ false → ((k : ℕ) → slice_get xs k ≡ Some y → p y ≡ false) → slice_get (x ∷ xs) k ≡ Some y → p y ≡ false
-      later zero passes rest at = ap p (sym (same_Some x y at)) ∙ passes
-      later (suc k) passes rest at = rest k at
-
-  pub some_found : (xs : List X) → is_some (list.find p xs) ≡ list_any p xs
-  some_found [] = refl
-  some_found (x ∷ xs) = elim (p x) as (λ b. is_some (cond b (Some x) (list.find p xs)) ≡ (b || list_any p xs)) [ true ↦ refl | false ↦ some_found xs ]
-
   count_first : (x : X) (xs : List X) → count_by p (x ∷ xs) ≡ cond (p x) 1 0 + count_by p xs
   count_first x xs = sum_by-drop_more (λ y. cond (p y) 1 0) (x ∷ xs) 0 x (omega arith)
 

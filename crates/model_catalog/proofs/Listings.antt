@@ -14,7 +14,7 @@ use Rattle.model_catalog.specs.declared.names.NameChange.{NameChange}
 use Rattle.model_catalog.specs.declared.variable.Variable.{Variable}
 use Rattle.model_catalog.specs.Names.{listed_number, put_count}
 use Rattle.model_catalog.specs.Index.{given_variable, kept_count, listed_in, unbounded_in, variable_number}
-use Rattle.model_catalog.proofs.NameLoops.{not_some, some_is}
+use Rattle.map_laws.specs.OptionLaws.{not_some, some_is}
 
 -- what is given stands at its number
 pub IsAt-given : (group : ℕ) (l : NameChange) (kept : List Variable) → IsAt variable_number l.number (given_variable group l (find variable_number l.number kept))

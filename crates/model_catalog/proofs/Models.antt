@@ -24,7 +24,8 @@ use Rattle.model_catalog.specs.Index.{IsIndexOf, group_number_of, lower_count, u
 use Rattle.model_catalog.specs.Named.{variable_name, row_name}
 use Rattle.model_catalog.specs.Kept.{HasNames}
 use Rattle.model_catalog.proofs.TableNames.{get-name_of, name_of-get}
-use Rattle.model_catalog.proofs.Found.{IsNumberOf, any_counted, found_by_name, place_of_found, same_numbers, some_found_in}
+use Rattle.model_catalog.proofs.Found.{IsNumberOf, any_counted, found_by_name, same_numbers, some_found_in}
+use Rattle.map_laws.specs.PlaceLaws.{place_of_found}
 
 pub some_mapped : {X Y : Type 0} (f : X → Y) (o : Option X) → is_some (option_map f o) ≡ is_some o
 some_mapped f None = refl

@@ -1,15 +1,16 @@
 -- The loops over the listed names: what is left of them gives, from the names now, what all of them give.
-use Rattle.std.proofs.Common.{◌≡◌, ℕ, ◌+◌, ◌<◌, ◌≤◌, ◌==◌, cond, List, [], ◌∷◌, ◌++◌, map, length, take, drop, Option, Some, None, refl, sym, ap, subst, ◌∙◌, arith, inl, inr}
+use Rattle.std.proofs.Common.{◌≡◌, ℕ, ◌+◌, ◌<◌, ◌≤◌, ◌==◌, cond, List, [], ◌∷◌, map, length, drop, Option, Some, None, refl, sym, ap, subst, ◌∙◌, arith, inl, inr}
 use Rattle.std.specs.Prelude.{All, true, false, IsSome, IfSome, is_some, slice_index_or}
 use Rattle.std.specs.Option.{option_map, option_map_or}
 use Rattle.std.proofs.lemmas.List.Elements.{All-nil, All-cons, All-head, All-tail}
 use Rattle.std.specs.FinMap.{get}
 use Rattle.std.proofs.Math.ListN.{set}
 use Rattle.std.proofs.lemmas.Bool.{cases_eq}
-use Rattle.std.proofs.lemmas.List.{drop_more, drop_all, take_all, get_or_at, get_or_default, append-nil, length-append, length-map, length-take-le, length-drop}
-use Rattle.std.proofs.lemmas.List.Edits.{map_over_more}
+use Rattle.std.proofs.lemmas.List.{drop_more, drop_all}
 use Rattle.std.proofs.lemmas.List.Sums.{sum_by-drop_more}
 use Rattle.std.proofs.lemmas.Option.{none-some, slice_get-get_or}
+use Rattle.map_laws.specs.LoopLaws.{IsPast, as_it_was, past_more, past_none}
+use Rattle.map_laws.specs.OptionLaws.{not_some, some_is}
 use Rattle.numbered.specs.Numbered.{Rise, find}
 use Rattle.numbered.specs.Laws.{Rise-nil, Rise-cons, Rise-head, Rise-tail, find-at, find-first, find-rest, find-none_above, same_number, other_number}
 use Rattle.name_index.specs.NameTable.{Numbers, IsOneToOne}
@@ -17,41 +18,8 @@ use Rattle.model_catalog.specs.declared.names.NameChange.{NameChange}
 use Rattle.model_catalog.specs.Names.{AreDistinct, given_by, listed_number, standing_names, name_of, put_aside, put_count, renamed_by, settled, without_names}
 use Rattle.model_catalog.proofs.TableNames.{none_of_free}
 
-pub not_some : {X : Type 0} (o : Option X) → o ≡ None → IsSome o → ⊥
-not_some o e some = let both : false ≡ true = sym (ap is_some e) ∙ some in cc
-
-pub some_is : {X : Type 0} (o : Option X) (x : X) → o ≡ Some x → IsSome o
-some_is o x e = ap is_some e
-
 abbrev pub Naming : Type 0
 Naming = ℕ → Option (List ℕ)
-
--- ---- a list each of whose items is changed in turn
-
-module _ {X : Type 0} (f : X → X) where
-  pub record IsPast (all left : List X) (i : ℕ) : Type 0 where
-    pub past : left ≡ map f (take i all) ++ drop i all
-
-  pub past_none : (all : List X) → IsPast all all 0
-  past_none all = record { past = refl }
-
-  pub as_long : (all left : List X) (i : ℕ) → i < length all → IsPast all left i → i < length left
-  as_long all left i lt h = omega (arith, ap length h.past, length-append (map f (take i all)) (drop i all), length-map (take i all) f, length-take-le i all (omega arith), length-drop i all)
-
-  -- the next item stands as it was
-  pub as_it_was : (all left : List X) (i : ℕ) (d : X) → i < length all → IsPast all left i → slice_index_or left i d ≡ slice_index_or all i d
-  as_it_was all left i d lt h =
-      let done = map f (take i all) in
-      let long : length done ≡ i = length-map (take i all) f ∙ length-take-le i all (omega arith) in
-      ap (λ xs. slice_index_or xs i d) (h.past ∙ ap (λ xs. done ++ xs) (drop_more all i d lt)) ∙ get_or_at done (slice_index_or all i d) (drop (i + 1) all) d i long
-
-  pub past_more : (all left : List X) (i : ℕ) (d x : X) → i < length all → IsPast all left i → x ≡ f (slice_index_or left i d) → IsPast all (set left i x) (i + 1)
-  past_more all left i d x lt h is =
-      let itself = get_or_default left i d (slice_index_or left i d) (as_long all left i lt h) in
-      record { past = ap (set left i) is ∙ map_over_more f all left i (slice_index_or left i d) lt h.past itself }
-
-  pub past_all : (all left : List X) (i : ℕ) → length all ≤ i → IsPast all left i → left ≡ map f all
-  past_all all left i end h = h.past ∙ rw (drop_all i all end, take_all i all end) (append-nil (map f all))
 
 -- ---- names that are given in turn
 

@@ -32,4 +32,6 @@ model_code =
     code_by (List Group × (List Row × (Objective × NextNumbers))) (coded× (coded_list (group.the_row).coded) (coded× (coded_list (row.the_row).coded) (coded× (objective.the_row).coded (numbers.the_row).coded))) (λ m. (m.groups, (m.rows, (m.objective, m.next)))) (λ p. record { groups = p.0; rows = p.1.0; objective = p.1.1.0; next = p.1.1.1 }) (λ _. refl)
 
 abbrev pub catalog_code : Coded Catalog
-catalog_code = code_by (ModelValue × Room) (coded× model_code room_code) (λ c. (c.model, c.room)) (λ p. record { model = p.0; room = p.1 }) (λ _. refl)
+catalog_code =
+    code_by (ModelValue × Room) (coded× model_code room_code) (λ c. (c.model, c.room))
+    (λ p. record { model = p.0; room = p.1 }) (λ _. refl)

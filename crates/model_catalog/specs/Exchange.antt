@@ -14,7 +14,12 @@ use Rattle.model_catalog.specs.Names.{put_count}
 
 -- the contents of an exchange as an undo has them
 abbrev pub contents : Exchange → Undo
-contents with = record { groups = with.groups.items; rows = with.rows.items; objective = with.objective; next = with.next }
+contents with = record {
+  groups = with.groups.items;
+  rows = with.rows.items;
+  objective = with.objective;
+  next = with.next;
+}
 
 -- the model in which the contents have taken the places of what stood there
 abbrev pub exchanged : Exchange → ModelValue → ModelValue

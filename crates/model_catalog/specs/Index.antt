@@ -41,19 +41,27 @@ unbounded_in group n = record { number = n; group = group; lower = 0; upper = 0 
 
 -- what stands at a listed number, where the variable was kept or wasn't: itself, or a new one in the group, or nothing
 abbrev pub given_variable : ℕ → NameChange → Option Variable → Option Variable
-given_variable group l was = if is_some l.name then Some (unwrap_or was (unbounded_in group l.number)) else None
+given_variable group l was =
+    if is_some l.name then Some (unwrap_or was (unbounded_in group l.number)) else None
 
 -- the variable with a number, where those that are listed with a name stand, new ones in the group, and those without don't
 abbrev pub listed_in : ℕ → List NameChange → (ℕ → Option Variable) → ℕ → Option Variable
-listed_in group listed kept n = option_map_or (λ l. given_variable group l (kept n)) (numbered.find listed_number n listed) (kept n)
+listed_in group listed kept n =
+    option_map_or (λ l. given_variable group l (kept n))
+    (numbered.find listed_number n listed) (kept n)
 
 -- the counts of the rows that bound it
 abbrev pub recounted : List Row → Variable → Variable
-recounted rows variable = record variable { lower = lower_count variable.number rows; upper = upper_count variable.number rows }
+recounted rows variable = record variable {
+  lower = lower_count variable.number rows;
+  upper = upper_count variable.number rows;
+}
 
 -- each variable that is kept has the counts of these rows
 abbrev pub CountsBounds : List Row → List Variable → Type 0
-CountsBounds rows kept = (n : ℕ) → numbered.find variable_number n kept ≡ option_map (recounted rows) (numbered.find variable_number n kept)
+CountsBounds rows kept =
+    (n : ℕ) → numbered.find variable_number n kept
+    ≡ option_map (recounted rows) (numbered.find variable_number n kept)
 
 -- what an item weighs, and nothing where there is none
 abbrev pub weight : {X : Type 0} → (X → ℕ) → Option X → ℕ
@@ -72,7 +80,9 @@ counted row variable = record variable {
 
 -- the counts are those with the row
 abbrev pub IsCounted : Option Row → Variable → Type 0
-IsCounted row variable = (bound_count (bounds_below variable.number) row ≤ variable.lower) × (bound_count (bounds_above variable.number) row ≤ variable.upper)
+IsCounted row variable =
+    (bound_count (bounds_below variable.number) row ≤ variable.lower)
+    × (bound_count (bounds_above variable.number) row ≤ variable.upper)
 
 -- the number is that one
 abbrev pub is_number : Option ℕ → ℕ → Bool
@@ -80,4 +90,5 @@ is_number number n = option_map_or (λ m. m == n) number false
 
 -- how many of the listed numbers are kept
 abbrev pub kept_count : List Variable → List NameChange → ℕ
-kept_count kept listed = count_by (λ l. is_some (numbered.find variable_number l.number kept)) listed
+kept_count kept listed =
+    count_by (λ l. is_some (numbered.find variable_number l.number kept)) listed

@@ -12,7 +12,12 @@ use Rattle.model_catalog.specs.Index.{IsIndexOf}
 use Rattle.model_catalog.specs.Named.{variable_name, row_name}
 
 abbrev pub model_of : Inside → ModelValue
-model_of a = record { groups = a.groups.items; rows = a.rows.items; objective = a.objective; next = a.next }
+model_of a = record {
+  groups = a.groups.items;
+  rows = a.rows.items;
+  objective = a.objective;
+  next = a.next;
+}
 
 abbrev pub catalog_of : Inside → Catalog
 catalog_of a = record {

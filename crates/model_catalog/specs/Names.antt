@@ -18,8 +18,10 @@ unfoldable pub name_of : Numbers → ℕ → Option (List ℕ)
 name_of numbers n = option_map (λ e. e.0) (find (λ e. e.1 == n) (entries numbers))
 
 -- the names where each number that is listed has what is given for it
-abbrev pub given_by : (NameChange → Option (List ℕ)) → List NameChange → (ℕ → Option (List ℕ)) → ℕ → Option (List ℕ)
-given_by given listed naming n = option_map_or given (numbered.find listed_number n listed) (naming n)
+abbrev pub given_by : (NameChange → Option (List ℕ)) → List NameChange → (ℕ → Option (List ℕ)) → ℕ
+    → Option (List ℕ)
+given_by given listed naming n =
+    option_map_or given (numbered.find listed_number n listed) (naming n)
 
 -- the names where those that are listed have taken the places of others
 abbrev pub renamed_by : List NameChange → (ℕ → Option (List ℕ)) → ℕ → Option (List ℕ)

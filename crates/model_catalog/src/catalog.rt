@@ -140,7 +140,8 @@ impl Catalog {
         requires changes { IsExchange with.old }
         requires consistent { IsConsistent (exchanged with.old self.old.model) }
         requires within { IsWithinLimits (exchanged with.old self.old.model) }
-        requires names { AreNameChanges names.old self.old.model (exchanged with.old self.old.model) }
+        requires names { AreNameChanges names.old self.old.model
+            (exchanged with.old self.old.model) }
         requires room { HasRoomFor with.old names.old self.old }
         requires spare { HasSpare names.old self.old.room }
         ensures model { self.new.model ≡ exchanged with.old self.old.model }

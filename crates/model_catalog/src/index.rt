@@ -24,10 +24,12 @@ pub(crate) fn list_variables(kept: &mut Vec<Variable>, group: u32, listed: &[Nam
     requires rising { Rise variable_number kept.old.items }
     requires listed { Rise listed_number listed.now }
     requires room { vec_len kept.old + put_count listed.now ≤ vec_capacity kept.old }
-    ensures entries { (n : ℕ) → find variable_number n kept.new.items ≡ listed_in group listed.now (λ n. find variable_number n kept.old.items) n }
+    ensures entries { (n : ℕ) → find variable_number n kept.new.items
+        ≡ listed_in group listed.now (λ n. find variable_number n kept.old.items) n }
     ensures rising { Rise variable_number kept.new.items }
     ensures capacity { vec_capacity kept.old ≤ vec_capacity kept.new }
-    ensures count { vec_len kept.new + kept_count kept.old.items listed.now ≤ vec_len kept.old + put_count listed.now }
+    ensures count { vec_len kept.new + kept_count kept.old.items listed.now
+        ≤ vec_len kept.old + put_count listed.now }
 {
     for item in listed {
         list_variable(kept, group, item);
@@ -38,7 +40,9 @@ pub(crate) fn list_variables(kept: &mut Vec<Variable>, group: u32, listed: &[Nam
 fn list_variable(kept: &mut Vec<Variable>, group: u32, item: &NameChange)
     requires rising { Rise variable_number kept.old.items }
     requires room { IsSome item.now.name → vec_len kept.old < vec_capacity kept.old }
-    ensures after { kept.new.items ≡ set_at variable_number item.now.number (given_variable group item.now (find variable_number item.now.number kept.old.items)) kept.old.items }
+    ensures after { kept.new.items ≡ set_at variable_number item.now.number
+        (given_variable group item.now (find variable_number item.now.number kept.old.items))
+        kept.old.items }
     ensures rising { Rise variable_number kept.new.items }
     ensures capacity { vec_capacity kept.old ≤ vec_capacity kept.new }
 {
@@ -70,7 +74,8 @@ pub(crate) fn exchange_rows(
     requires aside { aside.old.items ≡ [] }
     requires rising { Rise row_number rows.old.items }
     requires changes { AreChanges row_number changes.old }
-    requires room { vec_len rows.old + added row_number changes.old rows.old.items ≤ vec_capacity rows.old }
+    requires room { vec_len rows.old + added row_number changes.old rows.old.items
+        ≤ vec_capacity rows.old }
     requires kept { Rise variable_number kept.old }
     requires counts { CountsBounds rows.old.items kept.old }
     ensures after { rows.new.items ≡ set_all row_number changes.old rows.old.items }
@@ -78,9 +83,11 @@ pub(crate) fn exchange_rows(
     ensures rising { Rise row_number rows.new.items }
     ensures changes { AreChanges row_number changes.new }
     ensures capacity { vec_capacity rows.old ≤ vec_capacity rows.new }
-    ensures room { vec_len rows.new + added row_number changes.new rows.new.items ≤ vec_capacity rows.new }
+    ensures room { vec_len rows.new + added row_number changes.new rows.new.items
+        ≤ vec_capacity rows.new }
     ensures kept { Rise variable_number kept.new }
-    ensures entries { (n : ℕ) → find variable_number n kept.new ≡ option_map (recounted rows.new.items) (find variable_number n kept.old) }
+    ensures entries { (n : ℕ) → find variable_number n kept.new
+        ≡ option_map (recounted rows.new.items) (find variable_number n kept.old) }
     ensures aside { aside.new.items ≡ [] }
 {
     if changes.len() > 1 && rows.len() <= aside.capacity() {
@@ -94,7 +101,8 @@ pub(crate) fn exchange_rows(
 fn exchange_in_turn(rows: &mut Vec<Row>, kept: &mut [Variable], changes: &mut [Change<Row>])
     requires rising { Rise row_number rows.old.items }
     requires changes { AreChanges row_number changes.old }
-    requires room { vec_len rows.old + added row_number changes.old rows.old.items ≤ vec_capacity rows.old }
+    requires room { vec_len rows.old + added row_number changes.old rows.old.items
+        ≤ vec_capacity rows.old }
     requires kept { Rise variable_number kept.old }
     requires counts { CountsBounds rows.old.items kept.old }
     ensures after { rows.new.items ≡ set_all row_number changes.old rows.old.items }
@@ -102,9 +110,11 @@ fn exchange_in_turn(rows: &mut Vec<Row>, kept: &mut [Variable], changes: &mut [C
     ensures rising { Rise row_number rows.new.items }
     ensures changes { AreChanges row_number changes.new }
     ensures capacity { vec_capacity rows.old ≤ vec_capacity rows.new }
-    ensures room { vec_len rows.new + added row_number changes.new rows.new.items ≤ vec_capacity rows.new }
+    ensures room { vec_len rows.new + added row_number changes.new rows.new.items
+        ≤ vec_capacity rows.new }
     ensures kept { Rise variable_number kept.new }
-    ensures entries { (n : ℕ) → find variable_number n kept.new ≡ option_map (recounted rows.new.items) (find variable_number n kept.old) }
+    ensures entries { (n : ℕ) → find variable_number n kept.new
+        ≡ option_map (recounted rows.new.items) (find variable_number n kept.old) }
 {
     for change in changes.iter_mut() {
         change.content = exchange_row(rows, kept, change.number, change.content.take());
@@ -122,7 +132,8 @@ fn exchange_in_one_pass(
     requires aside_room { vec_len rows.old ≤ vec_capacity aside.old }
     requires rising { Rise row_number rows.old.items }
     requires changes { AreChanges row_number changes.old }
-    requires room { vec_len rows.old + added row_number changes.old rows.old.items ≤ vec_capacity rows.old }
+    requires room { vec_len rows.old + added row_number changes.old rows.old.items
+        ≤ vec_capacity rows.old }
     requires kept { Rise variable_number kept.old }
     requires counts { CountsBounds rows.old.items kept.old }
     ensures after { rows.new.items ≡ set_all row_number changes.old rows.old.items }
@@ -130,9 +141,11 @@ fn exchange_in_one_pass(
     ensures rising { Rise row_number rows.new.items }
     ensures changes { AreChanges row_number changes.new }
     ensures capacity { vec_capacity rows.old ≤ vec_capacity rows.new }
-    ensures room { vec_len rows.new + added row_number changes.new rows.new.items ≤ vec_capacity rows.new }
+    ensures room { vec_len rows.new + added row_number changes.new rows.new.items
+        ≤ vec_capacity rows.new }
     ensures kept { Rise variable_number kept.new }
-    ensures entries { (n : ℕ) → find variable_number n kept.new ≡ option_map (recounted rows.new.items) (find variable_number n kept.old) }
+    ensures entries { (n : ℕ) → find variable_number n kept.new
+        ≡ option_map (recounted rows.new.items) (find variable_number n kept.old) }
     ensures aside { aside.new.items ≡ [] }
 {
     open_gap(rows, aside);
@@ -160,15 +173,20 @@ fn exchange_row_at_gap(
     requires own { IsAt row_number number new }
     requires passed { All (λ r. row_number r < number) rows.old.items }
     requires room { vec_len rows.old + vec_len aside.old ≤ vec_capacity rows.old }
-    requires more { IsSome new → IsNone (find row_number number (with_gap rows.old.items aside.old.items)) → vec_len rows.old + vec_len aside.old < vec_capacity rows.old }
+    requires more { IsSome new → IsNone (find row_number number
+        (with_gap rows.old.items aside.old.items))
+        → vec_len rows.old + vec_len aside.old < vec_capacity rows.old }
     requires kept { Rise variable_number kept.old }
     requires counts { CountsBounds (with_gap rows.old.items aside.old.items) kept.old }
     ensures before { result ≡ find row_number number (with_gap rows.old.items aside.old.items) }
-    ensures after { with_gap rows.new.items aside.new.items ≡ set_at row_number number new (with_gap rows.old.items aside.old.items) }
+    ensures after { with_gap rows.new.items aside.new.items
+        ≡ set_at row_number number new (with_gap rows.old.items aside.old.items) }
     ensures passed { All (λ r. row_number r ≤ number) rows.new.items }
     ensures capacity { vec_capacity rows.old ≤ vec_capacity rows.new }
     ensures kept { Rise variable_number kept.new }
-    ensures entries { (n : ℕ) → find variable_number n kept.new ≡ option_map (recounted (with_gap rows.new.items aside.new.items)) (find variable_number n kept.old) }
+    ensures entries { (n : ℕ) → find variable_number n kept.new
+        ≡ option_map (recounted (with_gap rows.new.items aside.new.items))
+        (find variable_number n kept.old) }
 {
     count_bounds(kept, new.as_ref());
     let old = exchange_at_gap(rows, aside, number, new);
@@ -185,7 +203,8 @@ fn exchange_row(
 ) -> Option<Row>
     requires rising { Rise row_number rows.old.items }
     requires own { IsAt row_number number new }
-    requires room { IsSome new → IsNone (find row_number number rows.old.items) → vec_len rows.old < vec_capacity rows.old }
+    requires room { IsSome new → IsNone (find row_number number rows.old.items)
+        → vec_len rows.old < vec_capacity rows.old }
     requires kept { Rise variable_number kept.old }
     requires counts { CountsBounds rows.old.items kept.old }
     ensures before { result ≡ find row_number number rows.old.items }
@@ -193,7 +212,8 @@ fn exchange_row(
     ensures rising { Rise row_number rows.new.items }
     ensures capacity { vec_capacity rows.old ≤ vec_capacity rows.new }
     ensures kept { Rise variable_number kept.new }
-    ensures entries { (n : ℕ) → find variable_number n kept.new ≡ option_map (recounted rows.new.items) (find variable_number n kept.old) }
+    ensures entries { (n : ℕ) → find variable_number n kept.new
+        ≡ option_map (recounted rows.new.items) (find variable_number n kept.old) }
 {
     count_bounds(kept, new.as_ref());
     let old = exchange(rows, number, new);
@@ -204,9 +224,11 @@ fn exchange_row(
 // Counts the bounds that the row sets.
 fn count_bounds(kept: &mut [Variable], row: Option<&Row>)
     requires rising { Rise variable_number kept.old }
-    requires fits { (n : ℕ) → IfSome (find variable_number n kept.old) (λ v. (v.lower < 2 ^ 63) × (v.upper < 2 ^ 63)) }
+    requires fits { (n : ℕ) → IfSome (find variable_number n kept.old)
+        (λ v. (v.lower < 2 ^ 63) × (v.upper < 2 ^ 63)) }
     ensures rising { Rise variable_number kept.new }
-    ensures entries { (n : ℕ) → find variable_number n kept.new ≡ option_map (counted (option_copied row.entry)) (find variable_number n kept.old) }
+    ensures entries { (n : ℕ) → find variable_number n kept.new
+        ≡ option_map (counted (option_copied row.entry)) (find variable_number n kept.old) }
 {
     let Some(row) = row else {
         return;
@@ -229,9 +251,11 @@ fn count_bounds(kept: &mut [Variable], row: Option<&Row>)
 // Takes back the counts of the bounds that the row sets.
 fn discount_bounds(kept: &mut [Variable], row: Option<&Row>)
     requires rising { Rise variable_number kept.old }
-    requires counted { (n : ℕ) → IfSome (find variable_number n kept.old) (λ v. IsCounted (option_copied row) v) }
+    requires counted { (n : ℕ) → IfSome (find variable_number n kept.old)
+        (λ v. IsCounted (option_copied row) v) }
     ensures rising { Rise variable_number kept.new }
-    ensures entries { (n : ℕ) → option_map (counted (option_copied row.entry)) (find variable_number n kept.new) ≡ find variable_number n kept.old }
+    ensures entries { (n : ℕ) → option_map (counted (option_copied row.entry))
+        (find variable_number n kept.new) ≡ find variable_number n kept.old }
 {
     let Some(row) = row else {
         return;

@@ -55,7 +55,8 @@ pub(crate) fn exchange_names(table: &mut NameTable, listed: &mut [NameChange])
     requires rising { Rise listed_number listed.old }
     requires distinct { AreDistinct (renamed_by listed.old (name_of table.old.numbers)) }
     requires room { put_count listed.old ≤ table.old.spare }
-    ensures names { (n : ℕ) → name_of table.new.numbers n ≡ renamed_by listed.old (name_of table.old.numbers) n }
+    ensures names { (n : ℕ) → name_of table.new.numbers n
+        ≡ renamed_by listed.old (name_of table.old.numbers) n }
     ensures listed { listed.new ≡ standing_names (name_of table.old.numbers) listed.old }
     ensures spare { table.old.spare ≤ table.new.spare + put_count listed.old }
     ensures one_to_one { IsOneToOne table.new.numbers }
@@ -68,7 +69,8 @@ pub(crate) fn exchange_names(table: &mut NameTable, listed: &mut [NameChange])
 fn take_names(table: &mut NameTable, listed: &mut [NameChange])
     requires one_to_one { IsOneToOne table.old.numbers }
     requires rising { Rise listed_number listed.old }
-    ensures names { (n : ℕ) → name_of table.new.numbers n ≡ without_names listed.old (name_of table.old.numbers) n }
+    ensures names { (n : ℕ) → name_of table.new.numbers n
+        ≡ without_names listed.old (name_of table.old.numbers) n }
     ensures listed { listed.new ≡ map (put_aside (name_of table.old.numbers)) listed.old }
     ensures spare { table.old.spare ≤ table.new.spare }
     ensures one_to_one { IsOneToOne table.new.numbers }
@@ -82,10 +84,12 @@ fn take_names(table: &mut NameTable, listed: &mut [NameChange])
 fn put_names(table: &mut NameTable, listed: &mut [NameChange])
     requires one_to_one { IsOneToOne table.old.numbers }
     requires rising { Rise listed_number listed.old }
-    requires free { (n : ℕ) → IsSome (find listed_number n listed.old) → name_of table.old.numbers n ≡ None }
+    requires free { (n : ℕ) → IsSome (find listed_number n listed.old)
+        → name_of table.old.numbers n ≡ None }
     requires distinct { AreDistinct (renamed_by listed.old (name_of table.old.numbers)) }
     requires room { put_count listed.old ≤ table.old.spare }
-    ensures names { (n : ℕ) → name_of table.new.numbers n ≡ renamed_by listed.old (name_of table.old.numbers) n }
+    ensures names { (n : ℕ) → name_of table.new.numbers n
+        ≡ renamed_by listed.old (name_of table.old.numbers) n }
     ensures listed { listed.new ≡ map settled listed.old }
     ensures spare { table.old.spare ≤ table.new.spare + put_count listed.old }
     ensures one_to_one { IsOneToOne table.new.numbers }
@@ -100,7 +104,8 @@ fn put_names(table: &mut NameTable, listed: &mut [NameChange])
 fn take_name(table: &mut NameTable, number: u32) -> Option<Name>
     requires one_to_one { IsOneToOne table.old.numbers }
     ensures value { result ≡ name_of table.old.numbers number }
-    ensures names { (n : ℕ) → name_of table.new.numbers n ≡ cond (number == n) None (name_of table.old.numbers n) }
+    ensures names { (n : ℕ) → name_of table.new.numbers n
+        ≡ cond (number == n) None (name_of table.old.numbers n) }
     ensures spare { table.old.spare ≤ table.new.spare }
     ensures one_to_one { IsOneToOne table.new.numbers }
 {
@@ -113,7 +118,8 @@ fn put_name(table: &mut NameTable, number: u32, name: Option<Name>)
     requires free { name_of table.old.numbers number ≡ None }
     requires new { IfSome name (λ name. get table.old.numbers name ≡ None) }
     requires room { IsSome name → 0 < table.old.spare }
-    ensures names { (n : ℕ) → name_of table.new.numbers n ≡ cond (number == n) name (name_of table.old.numbers n) }
+    ensures names { (n : ℕ) → name_of table.new.numbers n
+        ≡ cond (number == n) name (name_of table.old.numbers n) }
     ensures spare { table.old.spare ≤ table.new.spare + cond (is_some name) 1 0 }
     ensures one_to_one { IsOneToOne table.new.numbers }
 {

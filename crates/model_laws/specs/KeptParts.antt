@@ -1,37 +1,20 @@
 -- Each edit that is not refused keeps the parts of a model valid.
-use Rattle.std.specs.Prelude.{◌≡◌, ◌⊎◌, ℕ, ◌-◌, ◌≤◌, Bool, true, false, ◌&&◌, ◌||◌, not, cond, List, [], ◌∷◌, ◌++◌, Some, None, All, IsSome, Contains, find, length, map, refl}
-use Rattle.std.specs.List.{list_any, filter_map}
-use Rattle.std.specs.Option.{option_map_or}
+use Rattle.std.specs.Prelude.{◌≡◌, ◌⊎◌, ℕ, Bool, true, false, ◌&&◌, ◌||◌, List, [], ◌∷◌, ◌++◌, Some, All, IsSome, find, refl}
+use Rattle.std.specs.List.{list_any}
 use Rattle.std.proofs.Common.{arith, sym, ap, subst, inl, inr, ◌∙◌}
-use Rattle.std.proofs.lemmas.Bool.{both_ways, cases_Bool, not-false, or_parts}
-use Rattle.std.proofs.lemmas.List.{length-map}
-use Rattle.std.proofs.lemmas.List.Elements.{All-nil, All-cons, All-head, All-tail, All-contains, All-push, All-weaker}
+use Rattle.std.proofs.lemmas.List.Elements.{All-contains, All-push, All-weaker}
 use Rattle.numbered.specs.Numbered.{put}
 use Rattle.numbered.specs.Numbered as numbered
 use Rattle.numbered.specs.Laws.{Contains-found}
-use Rattle.aff_core.specs.Address.{Address, address_eq, address_eq-Decides}
-use Rattle.aff_core.specs.Function.{Function, with_coefficient}
 use Rattle.set_core.specs.declared.set.Set.{Set}
-use Rattle.set_core.specs.declared.set.Set.TheVariants.{Reals}
-use Rattle.user_model.specs.declared.edit.Edit.{Edit}
-use Rattle.user_model.specs.declared.edit.Edit.TheVariants as edit
-use Rattle.user_model.specs.declared.edit.NamedFunc.{NamedFunc}
-use Rattle.user_model.specs.declared.edit.NamedFunc.TheVariants as named
-use Rattle.user_model.specs.declared.function.UserFunc.{UserFunc}
 use Rattle.user_model.specs.declared.group.Group.{Group}
 use Rattle.user_model.specs.declared.objective.Objective.{Objective}
-use Rattle.user_model.specs.declared.objective.Objective.TheVariants as objective
 use Rattle.user_model.specs.declared.row.Row.{Row}
 use Rattle.user_model.specs.Sets.{sets_lower, sets_upper}
-use Rattle.set_core.specs.Shapes.{is_norm_cone, is_scalar}
-use Rattle.user_model.specs.Functions.{components, func_mentions, is_scalar_function, is_scalar_named, named_components, term_counts}
-use Rattle.user_model.specs.Limits.{TERMS}
-use Rattle.user_model.specs.Model.{ModelValue, group_of, has_variable, is_variable, objective_terms, row_named, variable_address, variable_named, variables}
-use Rattle.user_model.specs.Edited.{group_number, located, row_number}
-use Rattle.user_model.specs.Refusals.{differ, within}
+use Rattle.user_model.specs.Model.{ModelValue, has_variable, is_variable}
+use Rattle.user_model.specs.Edited.{group_number, row_number}
 use Rattle.user_model.specs.Consistent.{IsConsistent}
-use Rattle.user_model.specs.Valid.{HasValidParts, IsValidGroup, IsValidObjective, IsValidRow, Stands, is_created_by}
-use Rattle.model_laws.specs.Pairs.{All-left}
+use Rattle.user_model.specs.Valid.{HasValidParts, IsValidGroup, IsValidObjective, IsValidRow, is_created_by}
 use Rattle.model_laws.specs.Replaced.{All-put, All-without}
 use Rattle.model_laws.specs.SingleBounds.{bounds_less, group_added, group_put, row_added, row_deleted, row_put}
 use Rattle.model_laws.specs.Standing.{stands_along}

@@ -1,12 +1,11 @@
 -- Changes of functions and sets that keep a row and a group valid.
-use Rattle.std.specs.Prelude.{◌≡◌, ◌⊎◌, ℕ, zero, suc, ◌-◌, ◌≤◌, ◌==◌, Bool, true, false, ◌&&◌, ◌||◌, not, List, [], ◌∷◌, All, length, map, refl}
+use Rattle.std.specs.Prelude.{◌≡◌, ◌⊎◌, ℕ, zero, suc, ◌-◌, ◌≤◌, Bool, true, false, ◌&&◌, List, [], ◌∷◌, All, length, map, refl}
 use Rattle.std.proofs.Common.{arith, rules, sym, ap, subst, inl, inr, ◌∙◌}
-use Rattle.std.proofs.lemmas.Bool.{both_ways, eqb-true, not-false}
+use Rattle.std.proofs.lemmas.Bool.{both_ways}
 use Rattle.std.proofs.lemmas.List.{length-map}
 use Rattle.ratio_core.specs.Rational.{Rational}
 use Rattle.aff_core.specs.Address.{Address}
 use Rattle.aff_core.specs.Function.{Function, with_coefficient}
-use Rattle.named_aff.specs.declared.aff.NamedAff.{NamedAff}
 use Rattle.set_core.specs.declared.set.Set.{Set}
 use Rattle.set_core.specs.declared.set.Set.TheVariants.{LessThan, GreaterThan, EqualTo, Interval, Reals, Zeros, Nonnegatives, Nonpositives, NormInfinityCone, NormOneCone}
 use Rattle.user_model.specs.declared.edit.NamedFunc.{NamedFunc}
@@ -14,7 +13,6 @@ use Rattle.user_model.specs.declared.edit.NamedFunc.TheVariants as named
 use Rattle.user_model.specs.declared.function.UserFunc.{UserFunc}
 use Rattle.user_model.specs.declared.function.UserFunc.TheVariants.{Plain, Affine, PlainVec, AffineVec}
 use Rattle.user_model.specs.declared.group.Group.{Group}
-use Rattle.user_model.specs.declared.group.GroupVar.{GroupVar}
 use Rattle.user_model.specs.declared.row.Row.{Row}
 use Rattle.user_model.specs.Sets.{sets_lower, sets_upper}
 use Rattle.set_core.specs.Shapes.{IsSetOf, is_scalar, same_type, type_of}
@@ -27,9 +25,8 @@ use Rattle.user_model.specs.Limits.{TERMS}
 use Rattle.user_model.specs.Model.{ModelValue, is_variable}
 use Rattle.user_model.specs.Edited.{changed_at, located, on_affine, on_output, with_constant}
 use Rattle.user_model.specs.Valid.{IsValidRow, Stands}
-use Rattle.model_laws.specs.ByName.{affine_bounds, output_bounds}
 use Rattle.model_laws.specs.KeptParts.{IsRowInPlace}
-use Rattle.model_laws.specs.Standing.{MentionsOnly, affine_only, output_only, with_term}
+use Rattle.model_laws.specs.Standing.{MentionsOnly, with_term}
 
 -- ---- functions of the same shape
 

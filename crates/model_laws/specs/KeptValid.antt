@@ -7,10 +7,9 @@ use Rattle.std.proofs.lemmas.Bool.{both_ways, eqb-true, not-false, or_left, or_p
 use Rattle.std.proofs.lemmas.List.{length-map}
 use Rattle.std.proofs.lemmas.List.Elements.{All-append, All-head, All-nil, All-cons, All-tail}
 use Rattle.std.proofs.lemmas.List.Folds.{list_any-append}
-use Rattle.numbered.specs.Numbered.{put, set_at}
-use Rattle.numbered.specs.Numbered as numbered
+use Rattle.numbered.specs.Numbered.{put}
 use Rattle.aff_core.specs.Address.{Address, address_eq, address_eq-Decides}
-use Rattle.aff_core.specs.Function.{Function, with_coefficient}
+use Rattle.aff_core.specs.Function.{with_coefficient}
 use Rattle.set_core.specs.declared.set.Set.{Set}
 use Rattle.set_core.specs.declared.set.Set.TheVariants.{Reals}
 use Rattle.set_core.specs.Shapes.{IsSetOf, dimension_of, has_bad_dimension, is_crossed, is_norm_cone, is_scalar, least_dimension, same_type}
@@ -21,25 +20,23 @@ use Rattle.user_model.specs.declared.edit.NamedFunc.{NamedFunc}
 use Rattle.user_model.specs.declared.edit.NamedFunc.TheVariants as named
 use Rattle.user_model.specs.declared.function.UserFunc.{UserFunc}
 use Rattle.user_model.specs.declared.group.Group.{Group}
-use Rattle.user_model.specs.declared.group.GroupVar.{GroupVar}
 use Rattle.user_model.specs.declared.objective.Objective.{Objective}
 use Rattle.user_model.specs.declared.objective.Objective.TheVariants as objective
 use Rattle.user_model.specs.declared.row.Row.{Row}
 use Rattle.user_model.specs.Sets.{sets_lower, sets_upper}
 use Rattle.user_model.specs.Functions.{components, func_mentions, is_scalar_function, is_scalar_named, mentioned, named_components, term_counts}
 use Rattle.user_model.specs.Limits.{COMPONENTS, TERMS}
-use Rattle.user_model.specs.Model.{ModelValue, address_named, group_of, has_lower_bound, has_upper_bound, has_variable, is_variable, objective_mentions, objective_terms, row_named, variable_address, variable_named, variables}
-use Rattle.user_model.specs.Deletion.{group_without, objective_without, row_without, without_variable}
-use Rattle.user_model.specs.Edited.{change_function, change_group, change_row, delete_row, edited, group_number, located, numbered_from, objective_of, on_affine, on_objective, on_output, renamed, row_number, with_constant, with_variable}
-use Rattle.user_model.specs.Refusals.{counts, differ, first_refusal, group_is, meets_bound_already_set, is_cone_row_of, is_in_cone, row_is, terms_of_objective, terms_of_row, within}
+use Rattle.user_model.specs.Model.{ModelValue, address_named, group_of, has_variable, is_variable, objective_mentions, objective_terms, row_named, variable_address, variable_named, variables}
+use Rattle.user_model.specs.Deletion.{group_without, row_without, without_variable}
+use Rattle.user_model.specs.Edited.{change_function, change_group, change_row, edited, group_number, located, numbered_from, objective_of, on_affine, on_objective, on_output, renamed, with_constant}
+use Rattle.user_model.specs.Refusals.{differ, first_refusal, group_is, meets_bound_already_set, is_cone_row_of, is_in_cone, row_is, terms_of_objective, terms_of_row, within}
 use Rattle.user_model.specs.Consistent.{IsConsistent}
-use Rattle.user_model.specs.Valid.{HasValidParts, IsValid, IsValidGroup, IsValidObjective, IsValidRow, Stands, is_created_by}
+use Rattle.user_model.specs.Valid.{HasValidParts, IsValid, IsValidGroup, IsValidRow, Stands, is_created_by}
 use Rattle.model_laws.specs.ByName.{of_group, of_number}
 use Rattle.model_laws.specs.Changed.{change_group-found, change_row-found, delete_row-found}
 use Rattle.model_laws.specs.ChangedRow.{terms_after}
 use Rattle.model_laws.specs.DeletedGroup.{group_deleted}
-use Rattle.model_laws.specs.Found.{found_passes, none_pass, something}
-use Rattle.model_laws.specs.GroupWithout.{group_keeps_number}
+use Rattle.model_laws.specs.Found.{none_pass, something}
 use Rattle.model_laws.specs.KeptAdditions.{new_group, new_row, vars_added}
 use Rattle.model_laws.specs.KeptConsistent.{kept_consistent}
 use Rattle.model_laws.specs.KeptDeletion.{sum_filter_map}
@@ -57,7 +54,7 @@ use Rattle.model_laws.specs.Replaced.{set_at_around}
 use Rattle.model_laws.specs.SingleBounds.{bounds_less}
 use Rattle.model_laws.specs.Standing.{affine_only, constant_only, function_stands, name_stands, objective_only, objective_stands, output_only}
 use Rattle.model_laws.specs.Terms.{constant_adds_none, objective_change_terms}
-use Rattle.model_laws.specs.Variables.{group_found, vars_in, vars_renamed, vars_replaced}
+use Rattle.model_laws.specs.Variables.{group_found, vars_renamed, vars_replaced}
 
 abbrev Parts : ModelValue → Type 0
 Parts model = HasValidParts model.groups model.rows model.objective

@@ -1,12 +1,11 @@
 -- What is left of valid groups, rows and objectives without a variable is valid.
-use Rattle.std.specs.Prelude.{◌≡◌, ◌≢◌, ℕ, suc, ◌≤◌, ◌==◌, Bool, true, false, ◌&&◌, ◌||◌, not, cond, List, [], ◌∷◌, Option, Some, None, IfSome, All, IsSome, filter, find, is_some, length, map, refl}
+use Rattle.std.specs.Prelude.{◌≡◌, ◌≢◌, ℕ, ◌≤◌, ◌==◌, Bool, true, false, ◌&&◌, not, cond, List, [], ◌∷◌, Option, Some, None, IfSome, All, find, is_some, length, map, refl}
 use Rattle.std.specs.List.{filter_map, list_any}
 use Rattle.std.specs.Option.{option_map_or}
 use Rattle.std.proofs.Common.{arith, sym, ap, subst, inl, inr, ◌∙◌}
-use Rattle.std.proofs.lemmas.Bool.{both_ways, cases_Bool, cases_eq, or_parts}
+use Rattle.std.proofs.lemmas.Bool.{both_ways, cases_Bool, cases_eq}
 use Rattle.std.proofs.lemmas.List.{length-map}
 use Rattle.std.proofs.lemmas.List.Elements.{All-nil, All-cons, All-head, All-tail}
-use Rattle.numbered.specs.Laws.{other_number, same_number}
 use Rattle.aff_core.specs.Address.{Address, address_eq, address_eq-Decides}
 use Rattle.aff_core.specs.Function.{Function}
 use Rattle.set_core.specs.declared.set.Set.{Set}
@@ -21,8 +20,8 @@ use Rattle.user_model.specs.declared.row.Row.{Row}
 use Rattle.user_model.specs.Sets.{sets_lower, sets_upper}
 use Rattle.set_core.specs.Shapes.{IsSetOf, is_norm_cone, is_scalar, resized}
 use Rattle.set_core.specs.ShapeLaws.{resized_set}
-use Rattle.user_model.specs.Functions.{has_term, term_count}
-use Rattle.user_model.specs.Limits.{COMPONENTS, TERMS}
+use Rattle.user_model.specs.Functions.{term_count}
+use Rattle.user_model.specs.Limits.{TERMS}
 use Rattle.user_model.specs.Model.{has_variable, is_variable, variable_address}
 use Rattle.user_model.specs.Deletion.{group_without, objective_without, row_without, unless_empty, without_address, without_term}
 use Rattle.user_model.specs.Refusals.{is_cone_row_of}

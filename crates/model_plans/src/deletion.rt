@@ -26,7 +26,8 @@ use user_model::{Group, GroupVar, GroupVars, Objective, Row, UserFunc};
 /// objective where it mentions it.
 pub(crate) fn delete(alloc: Global, model: &Catalog, var: &Name) -> Result<Plan, Memory>
     requires { Accepts model.now.model (DeleteVariable var.now) }
-    ensures { IfOk result (Leads model.now.model (edited model.now.model (DeleteVariable var.now))) }
+    ensures { IfOk result (Leads model.now.model
+        (edited model.now.model (DeleteVariable var.now))) }
 {
     let Some(number) = model.variable(var) else {
         unreachable!()
@@ -49,7 +50,8 @@ pub(crate) fn delete(alloc: Global, model: &Catalog, var: &Name) -> Result<Plan,
 
 // The rows that mention the variable lose it, or go.
 fn rows_without(alloc: Global, rows: &[Row], at: &Address) -> Result<Vec<Change<Row>>, Memory>
-    ensures { IfOk result (λ changes. changes.items ≡ edits_of row_number (row_without at.now) (row_mentions at.now) rows.now) }
+    ensures { IfOk result (λ changes. changes.items
+        ≡ edits_of row_number (row_without at.now) (row_mentions at.now) rows.now) }
 {
     let mut changes = Vec::new(alloc);
     for row in rows {

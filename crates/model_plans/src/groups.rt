@@ -19,7 +19,8 @@ use user_model::{Group, GroupVar, GroupVars, NextNumbers};
 /// A new group. Each name is copied into the group and into the listing.
 pub(crate) fn add(alloc: Global, model: &Catalog, names: &Names, set: Set) -> Result<Plan, Memory>
     requires { Accepts model.now.model (AddGroup names.now set) }
-    ensures { IfOk result (Leads model.now.model (edited model.now.model (AddGroup names.now set))) }
+    ensures { IfOk result (Leads model.now.model
+        (edited model.now.model (AddGroup names.now set))) }
 {
     let next = model.next();
     let vars = numbered_vars(alloc, names, next.variable)?;
@@ -89,7 +90,9 @@ pub(crate) fn free(alloc: Global, model: &Catalog, var: &Name) -> Result<Plan, M
 fn with_set(alloc: Global, model: &Catalog, var: &Name, set: Set) -> Result<Plan, Memory>
     requires consistent { IsConsistent model.now.model }
     requires there { IsSome (variable_named model.now.model var.now) }
-    ensures { IfOk result (Leads model.now.model (with_variable model.now.model var.now (λ n. change_group model.now.model n (λ g. record g { set = set })))) }
+    ensures { IfOk result (Leads model.now.model
+        (with_variable model.now.model var.now
+        (λ n. change_group model.now.model n (λ g. record g { set = set })))) }
 {
     let Some(number) = model.variable(var) else {
         unreachable!()
@@ -108,7 +111,8 @@ fn with_set(alloc: Global, model: &Catalog, var: &Name, set: Set) -> Result<Plan
 /// Another name of a variable. It copies the variable's group.
 pub(crate) fn rename(alloc: Global, model: &Catalog, old: &Name, new: Name) -> Result<Plan, Memory>
     requires { Accepts model.now.model (RenameVariable old.now new) }
-    ensures { IfOk result (Leads model.now.model (edited model.now.model (RenameVariable old.now new))) }
+    ensures { IfOk result (Leads model.now.model
+        (edited model.now.model (RenameVariable old.now new))) }
 {
     let Some(number) = model.variable(old) else {
         unreachable!()

@@ -23,7 +23,8 @@ pub(crate) fn with_component(
     func: Aff,
 ) -> Result<VecAff, Memory>
     requires { place < length funcs.now }
-    ensures { IfOk result (λ copies. copies ≡ take place funcs.now ++ (func ∷ drop (place + 1) funcs.now)) }
+    ensures { IfOk result (λ copies. copies
+        ≡ take place funcs.now ++ (func ∷ drop (place + 1) funcs.now)) }
 {
     let mut copies = Vec::with_capacity(alloc, funcs.len())?;
     copy_onto(&mut copies, &funcs[..place])?;

@@ -50,7 +50,8 @@ fn located_terms(
     model: &Catalog,
     terms: &[NamedTerm],
 ) -> Result<Vec<(Address, Ratio)>, Memory>
-    ensures { IfOk result (λ located. located.items ≡ map (λ t. (address_named model.now.model t.variable, t.coefficient)) terms.now) }
+    ensures { IfOk result (λ located. located.items
+        ≡ map (λ t. (address_named model.now.model t.variable, t.coefficient)) terms.now) }
 {
     let mut located = Vec::with_capacity(alloc, terms.len())?;
     for term in terms {

@@ -24,7 +24,8 @@ pub(crate) fn set(
     func: &NamedFunc,
 ) -> Result<Plan, Memory>
     requires { Accepts model.now.model (edit.Objective sense func.now) }
-    ensures { IfOk result (Leads model.now.model (edited model.now.model (edit.Objective sense func.now))) }
+    ensures { IfOk result (Leads model.now.model
+        (edited model.now.model (edit.Objective sense func.now))) }
 {
     let objective = objective_of(alloc, model, sense, func)?;
     Ok(with_objective(alloc, model, objective))
@@ -90,7 +91,8 @@ fn same_objective(one: &Objective, other: &Objective) -> bool
 #[tactic(auto, unfolding(user_model::specs::Edited::edited))]
 pub(crate) fn coef(alloc: Global, model: &Catalog, var: &Name, value: Ratio) -> Result<Plan, Memory>
     requires { Accepts model.now.model (edit.ObjCoef var.now value) }
-    ensures { IfOk result (Leads model.now.model (edited model.now.model (edit.ObjCoef var.now value))) }
+    ensures { IfOk result (Leads model.now.model
+        (edited model.now.model (edit.ObjCoef var.now value))) }
 {
     let part = Part::Coefficient(address_named(model, var));
     with_part_of(alloc, model, &part, value)
@@ -100,14 +102,19 @@ pub(crate) fn coef(alloc: Global, model: &Catalog, var: &Name, value: Ratio) -> 
 #[tactic(auto, unfolding(user_model::specs::Edited::edited))]
 pub(crate) fn constant(alloc: Global, model: &Catalog, value: Ratio) -> Result<Plan, Memory>
     requires { Accepts model.now.model (edit.ObjConstant value) }
-    ensures { IfOk result (Leads model.now.model (edited model.now.model (edit.ObjConstant value))) }
+    ensures { IfOk result (Leads model.now.model
+        (edited model.now.model (edit.ObjConstant value))) }
 {
     with_part_of(alloc, model, &Part::Constant, value)
 }
 
 fn with_part_of(alloc: Global, model: &Catalog, part: &Part, value: Ratio) -> Result<Plan, Memory>
     requires { is_affine_objective model.now.model.objective ≡ true }
-    ensures { IfOk result (Leads model.now.model (record model.now.model { objective = on_objective (with_part part.now value) model.now.model.objective })) }
+    ensures { IfOk result (Leads model.now.model
+        (record model.now.model {
+          objective = on_objective
+              (with_part part.now value) model.now.model.objective;
+        })) }
 {
     let Objective::Affine { sense, func } = model.objective() else {
         unreachable!()

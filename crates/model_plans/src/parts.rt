@@ -27,7 +27,8 @@ pub(crate) fn replaced(func: &Aff, part: &Part, value: Ratio) -> Result<Option<A
 
 // Whether the function has the value there.
 fn is_value(func: &Aff, part: &Part, value: Ratio) -> bool
-    ensures { MatchBool result (with_part part.now value func.now ≡ func.now) (with_part part.now value func.now ≢ func.now) }
+    ensures { MatchBool result (with_part part.now value func.now ≡ func.now)
+        (with_part part.now value func.now ≢ func.now) }
 {
     match part {
         Part::Coefficient(at) => func.coef(at) == value,

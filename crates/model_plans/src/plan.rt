@@ -58,7 +58,8 @@ impl Plan {
         name: Option<NameChange>,
         next: NextNumbers,
     ) -> Result<Plan, Memory>
-        ensures { IfOk result (λ plan. HasParts plan [] (set_to row_number row ∷ []) None next [] (option_to_list name)) }
+        ensures { IfOk result (λ plan. HasParts plan [] (set_to row_number row ∷ []) None next []
+            (option_to_list name)) }
     {
         let change = Change {
             number: row.id,
@@ -74,7 +75,8 @@ impl Plan {
         name: Option<NameChange>,
         next: NextNumbers,
     ) -> Result<Plan, Memory>
-        ensures { IfOk result (λ plan. HasParts plan [] (change ∷ []) None next [] (option_to_list name)) }
+        ensures { IfOk result (λ plan. HasParts plan [] (change ∷ []) None next []
+            (option_to_list name)) }
     {
         let mut plan = Plan::unchanged(alloc, next);
         plan.exchange.rows = only(alloc, change)?;
@@ -91,7 +93,9 @@ impl Plan {
         variables: Vec<NameChange>,
         next: NextNumbers,
     ) -> Result<Plan, Memory>
-        ensures { IfOk result (λ plan. HasParts plan (set_to group_number group ∷ []) [] None next variables.items [] × (plan.names.group ≡ group.id)) }
+        ensures { IfOk result (λ plan. HasParts plan
+            (set_to group_number group ∷ []) [] None next variables.items []
+            × (plan.names.group ≡ group.id)) }
     {
         let change = Change {
             number: group.id,
@@ -107,7 +111,8 @@ impl Plan {
         variables: Vec<NameChange>,
         next: NextNumbers,
     ) -> Result<Plan, Memory>
-        ensures { IfOk result (λ plan. HasParts plan (change ∷ []) [] None next variables.items [] × (plan.names.group ≡ change.number)) }
+        ensures { IfOk result (λ plan. HasParts plan (change ∷ []) [] None next variables.items []
+            × (plan.names.group ≡ change.number)) }
     {
         let mut plan = Plan::unchanged(alloc, next);
         plan.names.group = change.number;

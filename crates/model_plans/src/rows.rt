@@ -27,7 +27,8 @@ pub(crate) fn add(
     set: Set,
 ) -> Result<Plan, Memory>
     requires { Accepts model.now.model (AddRow name func.now set) }
-    ensures { IfOk result (Leads model.now.model (edited model.now.model (AddRow name func.now set))) }
+    ensures { IfOk result (Leads model.now.model
+        (edited model.now.model (AddRow name func.now set))) }
 {
     let next = model.next();
     let listed = NameChange::new(next.row, Some(name.copy()?));
@@ -55,7 +56,8 @@ pub(crate) fn coef(
     value: Ratio,
 ) -> Result<Plan, Memory>
     requires { Accepts model.now.model (Coef row.now var.now value) }
-    ensures { IfOk result (Leads model.now.model (edited model.now.model (Coef row.now var.now value))) }
+    ensures { IfOk result (Leads model.now.model
+        (edited model.now.model (Coef row.now var.now value))) }
 {
     let part = Part::Coefficient(address_named(model, var));
     scalar(alloc, model, row, &part, value)
@@ -70,7 +72,8 @@ pub(crate) fn constant(
     value: Ratio,
 ) -> Result<Plan, Memory>
     requires { Accepts model.now.model (Constant row.now value) }
-    ensures { IfOk result (Leads model.now.model (edited model.now.model (Constant row.now value))) }
+    ensures { IfOk result (Leads model.now.model
+        (edited model.now.model (Constant row.now value))) }
 {
     scalar(alloc, model, row, &Part::Constant, value)
 }
@@ -84,7 +87,8 @@ fn scalar(
     value: Ratio,
 ) -> Result<Plan, Memory>
     requires { HasAffineRow model.now.model row.now }
-    ensures { IfOk result (Leads model.now.model (change_function model.now.model row.now (on_affine (with_part part.now value)))) }
+    ensures { IfOk result (Leads model.now.model
+        (change_function model.now.model row.now (on_affine (with_part part.now value)))) }
 {
     let Some(row) = model.row(row) else {
         unreachable!()
@@ -109,7 +113,8 @@ pub(crate) fn vec_coef(
     value: Ratio,
 ) -> Result<Plan, Memory>
     requires { Accepts model.now.model (VecCoef row.now output var.now value) }
-    ensures { IfOk result (Leads model.now.model (edited model.now.model (VecCoef row.now output var.now value))) }
+    ensures { IfOk result (Leads model.now.model
+        (edited model.now.model (VecCoef row.now output var.now value))) }
 {
     let part = Part::Coefficient(address_named(model, var));
     vector(alloc, model, row, output, &part, value)
@@ -125,7 +130,8 @@ pub(crate) fn vec_constant(
     value: Ratio,
 ) -> Result<Plan, Memory>
     requires { Accepts model.now.model (VecConstant row.now output value) }
-    ensures { IfOk result (Leads model.now.model (edited model.now.model (VecConstant row.now output value))) }
+    ensures { IfOk result (Leads model.now.model
+        (edited model.now.model (VecConstant row.now output value))) }
 {
     vector(alloc, model, row, output, &Part::Constant, value)
 }
@@ -140,7 +146,8 @@ fn vector(
     value: Ratio,
 ) -> Result<Plan, Memory>
     requires { HasOutput model.now.model row.now output }
-    ensures { IfOk result (Leads model.now.model (change_function model.now.model row.now (on_output output (with_part part.now value)))) }
+    ensures { IfOk result (Leads model.now.model
+        (change_function model.now.model row.now (on_output output (with_part part.now value)))) }
 {
     let Some(row) = model.row(row) else {
         unreachable!()
@@ -163,7 +170,8 @@ fn vector(
 
 // A row with another function.
 fn with_function(alloc: Global, model: &Catalog, row: &Row, func: UserFunc) -> Result<Plan, Memory>
-    ensures { IfOk result (λ plan. HasParts plan [] (set_to row_number (record row.now { func = func }) ∷ []) None model.now.model.next [] []) }
+    ensures { IfOk result (λ plan. HasParts plan []
+        (set_to row_number (record row.now { func = func }) ∷ []) None model.now.model.next [] []) }
 {
     let row = Row {
         id: row.id,

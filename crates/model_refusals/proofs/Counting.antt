@@ -18,7 +18,7 @@ use Rattle.user_model.specs.Limits.{TERMS}
 use Rattle.user_model.specs.Model.{ModelValue}
 use Rattle.user_model.specs.Refusals.{IsKnown, has_variable_named, within}
 use Rattle.user_model.specs.declared.edit.NamedFunc.TheVariants as named
-use Rattle.model_refusals.proofs.Walks.{drop_at}
+use Rattle.map_laws.specs.PlaceLaws.{drop_at}
 use Rattle.model_refusals.proofs.ChangedTerms.{changed_elsewhere, changed_here}
 use Rattle.model_refusals.proofs.Firsts.{first_above, first_found, first_full, first_within}
 

@@ -1,8 +1,6 @@
 -- Lemmas that proofs cite.
 pub mod SeenNames
-pub mod Walks
 pub mod Firsts
-pub mod Inserted
 pub mod MarkLemmas
 pub mod NamedTerms
 pub mod ChangedTerms

@@ -24,7 +24,8 @@ use Rattle.user_model.specs.Functions.{names_of, term_count}
 use Rattle.user_model.specs.Model.{ModelValue, address_named, variable_named, variables}
 use Rattle.user_model.specs.Refusals.{has_variable_named}
 use Rattle.model_laws.specs.DistinctTerms.{apart}
-use Rattle.model_refusals.proofs.Inserted.{entries_empty, sum_inserted}
+use Rattle.map_laws.specs.MadeLaws.{entries_empty}
+use Rattle.map_laws.specs.SumLaws.{sum_inserted}
 
 module _ (model : ModelValue) (c : IsConsistent model) where
   abbrev unknown : List ℕ → Bool

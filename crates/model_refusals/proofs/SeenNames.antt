@@ -12,7 +12,7 @@ use Rattle.user_model.specs.Refusals.{has_twins}
 use Rattle.model_refusals.specs.declared.marks.Marks.{Marks}
 use Rattle.model_refusals.specs.Hash.{hash_of}
 use Rattle.model_refusals.specs.Marked.{is_marked}
-use Rattle.model_refusals.proofs.Walks.{drop_at}
+use Rattle.map_laws.specs.PlaceLaws.{drop_at}
 
 -- fewer than two names
 pub no_twins : (names : List (List ℕ)) → length names < 2 → false ≡ has_twins names

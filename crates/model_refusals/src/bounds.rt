@@ -31,7 +31,8 @@ pub(crate) fn meets_bad_interval(edit: &Edit) -> bool
 
 /// Whether the edit gives a lower bound to a variable that has one.
 pub(crate) fn meets_lower_bound_already_set(model: &Catalog, edit: &Edit) -> bool
-    ensures { result ≡ meets_bound_already_set tests.sets_lower has_lower_bound model.now.model edit.now }
+    ensures { result ≡ meets_bound_already_set tests.sets_lower has_lower_bound model.now.model
+        edit.now }
 {
     let Some(bound) = new_bound(edit) else {
         return false;
@@ -47,7 +48,8 @@ pub(crate) fn meets_lower_bound_already_set(model: &Catalog, edit: &Edit) -> boo
 
 /// Whether the edit gives an upper bound to a variable that has one.
 pub(crate) fn meets_upper_bound_already_set(model: &Catalog, edit: &Edit) -> bool
-    ensures { result ≡ meets_bound_already_set tests.sets_upper has_upper_bound model.now.model edit.now }
+    ensures { result ≡ meets_bound_already_set tests.sets_upper has_upper_bound model.now.model
+        edit.now }
 {
     let Some(bound) = new_bound(edit) else {
         return false;
@@ -85,7 +87,8 @@ struct NewBound<'a> {
 }
 
 fn new_bound(edit: &Edit) -> Option<NewBound<'_>>
-    ensures { option_map (λ bound. (bound.variable.now, bound.set.now)) result ≡ new_bound edit.now }
+    ensures { option_map (λ bound. (bound.variable.now, bound.set.now)) result
+        ≡ new_bound edit.now }
 {
     match edit {
         Edit::AddRow {
@@ -138,7 +141,8 @@ fn is_in_cone(model: &Catalog, number: u32) -> bool
 }
 
 fn is_in_cone_group(model: &Catalog, number: u32) -> bool
-    ensures { result ≡ option_map_or (λ g. shapes.is_norm_cone g.set) (models.group_of model.now.model number) false }
+    ensures { result ≡ option_map_or (λ g. shapes.is_norm_cone g.set)
+        (models.group_of model.now.model number) false }
 {
     match model.group_of(number) {
         Some(group) => group.set.is_norm_cone(),

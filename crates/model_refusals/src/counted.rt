@@ -17,7 +17,8 @@ use user_model::{NamedFunc, Refusal};
 
 /// How many terms the function with these names has in a model that has them: those with the coefficient 0 are left out.
 pub(crate) fn named_terms(func: &NamedAff) -> u64
-    ensures value { (model : ModelValue) → IsConsistent model → IsKnown model (NamedFunc.Affine func.now) → result ≡ term_count (affine model func.now) }
+    ensures value { (model : ModelValue) → IsConsistent model
+        → IsKnown model (NamedFunc.Affine func.now) → result ≡ term_count (affine model func.now) }
     ensures fits { result ≤ 2 ^ 63 }
 {
     nonzero_terms(func.terms.as_slice())
@@ -47,7 +48,8 @@ fn is_counted(term: &NamedTerm) -> bool
 /// How many terms all components of a function by name have, or the refusal for the first that has more than it may.
 pub(crate) fn terms_within(func: &NamedFunc) -> Result<u64, Refusal>
     requires { named_components func.now ≤ limits.COMPONENTS }
-    ensures value { (model : ModelValue) → IsConsistent model → IsKnown model func.now → MatchResult result
+    ensures value { (model : ModelValue) → IsConsistent model → IsKnown model func.now
+        → MatchResult result
         (λ terms. (first_of (map full_at (within limits.TERMS (term_counts (located model func.now)))) ≡ None) × (terms ≡ sum (term_counts (located model func.now))))
         (λ refusal. first_of (map full_at (within limits.TERMS (term_counts (located model func.now)))) ≡ Some refusal) }
     ensures fits { IfOk result (λ terms. terms ≤ 2 ^ 24) }
@@ -62,7 +64,8 @@ pub(crate) fn terms_within(func: &NamedFunc) -> Result<u64, Refusal>
 // The same for its components.
 fn vec_terms_within(funcs: &NamedVec) -> Result<u64, Refusal>
     requires { length funcs.now ≤ limits.COMPONENTS }
-    ensures value { (model : ModelValue) → IsConsistent model → IsKnown model (NamedFunc.AffineVec funcs.now) → MatchResult result
+    ensures value { (model : ModelValue) → IsConsistent model
+        → IsKnown model (NamedFunc.AffineVec funcs.now) → MatchResult result
         (λ terms. (first_of (map full_at (within limits.TERMS (map term_count (map (affine model) funcs.now)))) ≡ None) × (terms ≡ sum (map term_count (map (affine model) funcs.now))))
         (λ refusal. first_of (map full_at (within limits.TERMS (map term_count (map (affine model) funcs.now)))) ≡ Some refusal) }
     ensures fits { IfOk result (λ terms. terms ≤ 2 ^ 24) }
@@ -79,7 +82,8 @@ fn vec_terms_within(funcs: &NamedVec) -> Result<u64, Refusal>
 // The sum with these terms more, or the refusal where they are more than they may.
 fn add_terms(all: u64, terms: u64) -> Result<u64, Refusal>
     requires { all ≤ 2 ^ 24 }
-    ensures { MatchResult result (λ sum. (terms ≤ limits.TERMS) × (sum ≡ all + terms)) (λ refusal. Some refusal ≡ first_of (map full_at ((terms, limits.TERMS) ∷ []))) }
+    ensures { MatchResult result (λ sum. (terms ≤ limits.TERMS) × (sum ≡ all + terms))
+        (λ refusal. Some refusal ≡ first_of (map full_at ((terms, limits.TERMS) ∷ []))) }
 {
     if TERMS < terms {
         return Err(Refusal::Full {
@@ -106,7 +110,9 @@ pub(crate) fn first_full_component(
     at: &Address,
     value: &Ratio,
 ) -> Option<Refusal>
-    ensures { result ≡ first_of (map full_at (within limits.TERMS (map term_count (changed_at place (λ f. with_coefficient f at.now value.now) funcs.now)))) }
+    ensures { result ≡ first_of (map full_at
+        (within limits.TERMS (map term_count
+        (changed_at place (λ f. with_coefficient f at.now value.now) funcs.now)))) }
 {
     for index in 0..funcs.len() {
         let count = component_terms(funcs, place, at, value, index);
@@ -123,7 +129,9 @@ pub(crate) fn first_full_component(
 // The number of terms of the component at an index, where the one at a place is given a coefficient.
 fn component_terms(funcs: &[Aff], place: usize, at: &Address, value: &Ratio, index: usize) -> u64
     requires { index < length funcs.now }
-    ensures { slice_get (map term_count (changed_at place (λ f. with_coefficient f at.now value.now) funcs.now)) index ≡ Some result }
+    ensures { slice_get
+        (map term_count (changed_at place (λ f. with_coefficient f at.now value.now) funcs.now))
+        index ≡ Some result }
 {
     let func = &funcs[index];
     if index == place {

@@ -48,7 +48,8 @@ pub(crate) fn first_full(model: &Catalog, edit: &Edit) -> Option<Refusal>
 
 fn full_by_group(model: &Catalog, names: &Names) -> Option<Refusal>
     requires { IsWithinLimits model.now.model }
-    ensures { (set : Set) → result ≡ first_of (map full_at (counts model.now.model (Edit.AddGroup names.now set))) }
+    ensures { (set : Set) → result ≡ first_of
+        (map full_at (counts model.now.model (Edit.AddGroup names.now set))) }
 {
     let added = names.len() as u64;
     if COMPONENTS < added {
@@ -73,7 +74,8 @@ fn full_by_row(model: &Catalog, rows: u64, func: &NamedFunc) -> Option<Refusal>
     requires within { IsWithinLimits model.now.model }
     requires rows { rows ≡ length model.now.model.rows }
     requires known { IsKnown model.now.model func.now }
-    ensures { (name : List ℕ) (set : Set) → result ≡ first_of (map full_at (counts model.now.model (Edit.AddRow name func.now set))) }
+    ensures { (name : List ℕ) (set : Set)
+        → result ≡ first_of (map full_at (counts model.now.model (Edit.AddRow name func.now set))) }
 {
     let components = named_components(func) as u64;
     if COMPONENTS < components {
@@ -96,7 +98,8 @@ fn full_by_objective(model: &Catalog, func: &NamedFunc) -> Option<Refusal>
     requires consistent { IsConsistent model.now.model }
     requires within { IsWithinLimits model.now.model }
     requires known { IsKnown model.now.model func.now }
-    ensures { (sense : Sense) → result ≡ first_of (map full_at (counts model.now.model (Edit.Objective sense func.now))) }
+    ensures { (sense : Sense) → result ≡ first_of
+        (map full_at (counts model.now.model (Edit.Objective sense func.now))) }
 {
     let old = objective_terms(model.objective());
     match func {
@@ -111,7 +114,8 @@ fn full_by_coef(model: &Catalog, row: &Name, var: &Name, value: &Ratio) -> Optio
     requires consistent { IsConsistent model.now.model }
     requires within { IsWithinLimits model.now.model }
     requires well_formed { IsWellFormed model.now.model (Edit.Coef row.now var.now value.now) }
-    ensures { result ≡ first_of (map full_at (counts model.now.model (Edit.Coef row.now var.now value.now))) }
+    ensures { result ≡ first_of (map full_at
+        (counts model.now.model (Edit.Coef row.now var.now value.now))) }
 {
     let row = model.row(row)?;
     match &row.func {
@@ -129,8 +133,10 @@ fn full_by_vec_coef(
 ) -> Option<Refusal>
     requires consistent { IsConsistent model.now.model }
     requires within { IsWithinLimits model.now.model }
-    requires well_formed { IsWellFormed model.now.model (Edit.VecCoef row.now output var.now value.now) }
-    ensures { result ≡ first_of (map full_at (counts model.now.model (Edit.VecCoef row.now output var.now value.now))) }
+    requires well_formed { IsWellFormed model.now.model
+        (Edit.VecCoef row.now output var.now value.now) }
+    ensures { result ≡ first_of (map full_at
+        (counts model.now.model (Edit.VecCoef row.now output var.now value.now))) }
 {
     let row = model.row(row)?;
     let UserFunc::AffineVec(funcs) = &row.func else {
@@ -153,7 +159,8 @@ fn full_by_vec_coef(
 fn full_by_obj_coef(model: &Catalog, var: &Name, value: &Ratio) -> Option<Refusal>
     requires within { IsWithinLimits model.now.model }
     requires well_formed { IsWellFormed model.now.model (Edit.ObjCoef var.now value.now) }
-    ensures { result ≡ first_of (map full_at (counts model.now.model (Edit.ObjCoef var.now value.now))) }
+    ensures { result ≡ first_of (map full_at
+        (counts model.now.model (Edit.ObjCoef var.now value.now))) }
 {
     match model.objective() {
         Objective::Affine { func, .. } => {
@@ -167,7 +174,9 @@ fn full_by_obj_coef(model: &Catalog, var: &Name, value: &Ratio) -> Option<Refusa
 fn full_by_change(model: &Catalog, func: &Aff, at: &Address, value: &Ratio) -> Option<Refusal>
     requires within { IsWithinLimits model.now.model }
     requires part { term_count func.now ≤ models.total_terms model.now.model }
-    ensures { result ≡ first_of (map full_at (with_change (models.total_terms model.now.model) (term_count func.now) (term_count (with_coefficient func.now at.now value.now)))) }
+    ensures { result ≡ first_of (map full_at
+        (with_change (models.total_terms model.now.model) (term_count func.now)
+        (term_count (with_coefficient func.now at.now value.now)))) }
 {
     full_by_terms(
         model,
@@ -181,7 +190,8 @@ fn full_by_terms(model: &Catalog, old: u64, new: u64) -> Option<Refusal>
     requires within { IsWithinLimits model.now.model }
     requires part { old ≤ models.total_terms model.now.model }
     requires fits { new ≤ 2 ^ 63 }
-    ensures { result ≡ first_of (map full_at (with_change (models.total_terms model.now.model) old new)) }
+    ensures { result ≡ first_of (map full_at
+        (with_change (models.total_terms model.now.model) old new)) }
 {
     if TERMS < new {
         return Some(Refusal::Full {
@@ -197,7 +207,8 @@ fn full_by_total(model: &Catalog, old: u64, new: u64) -> Option<Refusal>
     requires within { IsWithinLimits model.now.model }
     requires part { old ≤ models.total_terms model.now.model }
     requires fits { new ≤ 2 ^ 63 }
-    ensures { result ≡ first_of (map full_at (((models.total_terms model.now.model) - old + new, limits.ALL_TERMS) ∷ [])) }
+    ensures { result ≡ first_of (map full_at
+        (((models.total_terms model.now.model) - old + new, limits.ALL_TERMS) ∷ [])) }
 {
     first_passed(&[(model.term_count() - old + new, ALL_TERMS)])
 }

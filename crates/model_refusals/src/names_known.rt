@@ -60,7 +60,8 @@ fn has_row(model: &Catalog, name: &Name) -> bool
 
 // Whether the function is on a variable that isn't there.
 fn has_unknown(model: &Catalog, func: &NamedFunc) -> bool
-    ensures { result ≡ list_any (λ name. not (has_variable_named model.now.model name)) (mentioned func.now) }
+    ensures { result ≡ list_any (λ name. not (has_variable_named model.now.model name))
+        (mentioned func.now) }
 {
     match func {
         NamedFunc::Plain(var) => !has_variable(model, var),
@@ -71,7 +72,8 @@ fn has_unknown(model: &Catalog, func: &NamedFunc) -> bool
 }
 
 fn has_unknown_term(model: &Catalog, terms: &[NamedTerm]) -> bool
-    ensures { result ≡ list_any (λ name. not (has_variable_named model.now.model name)) (map (λ t. t.variable) terms.now) }
+    ensures { result ≡ list_any (λ name. not (has_variable_named model.now.model name))
+        (map (λ t. t.variable) terms.now) }
 {
     for term in terms {
         if !has_variable(model, &term.variable) {
@@ -95,7 +97,8 @@ fn has_unknown_name(model: &Catalog, names: &Names) -> bool
 }
 
 fn has_unknown_component(model: &Catalog, funcs: &NamedVec) -> bool
-    ensures { result ≡ list_any (λ name. not (has_variable_named model.now.model name)) (mentioned (NamedFunc.AffineVec funcs.now)) }
+    ensures { result ≡ list_any (λ name. not (has_variable_named model.now.model name))
+        (mentioned (NamedFunc.AffineVec funcs.now)) }
 {
     for place in 0..funcs.len() {
         if let Some(func) = funcs.get(place) {

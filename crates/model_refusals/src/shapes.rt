@@ -146,7 +146,8 @@ fn is_affine_objective(objective: &Objective) -> bool
 // ---- what stands at a name, of which no test holds where nothing stands
 
 fn is_not_affine(model: &Catalog, name: &Name) -> bool
-    ensures { result ≡ row_is (λ r. not (functions.is_scalar_affine r.func)) model.now.model name.now }
+    ensures { result ≡ row_is (λ r. not (functions.is_scalar_affine r.func)) model.now.model
+        name.now }
 {
     match model.row(name) {
         Some(row) => !is_scalar_affine(&row.func),
@@ -155,7 +156,8 @@ fn is_not_affine(model: &Catalog, name: &Name) -> bool
 }
 
 fn is_not_vector_affine(model: &Catalog, name: &Name) -> bool
-    ensures { result ≡ row_is (λ r. not (functions.is_vector_affine r.func)) model.now.model name.now }
+    ensures { result ≡ row_is (λ r. not (functions.is_vector_affine r.func)) model.now.model
+        name.now }
 {
     match model.row(name) {
         Some(row) => !is_vector_affine(&row.func),
@@ -165,7 +167,8 @@ fn is_not_vector_affine(model: &Catalog, name: &Name) -> bool
 
 // Whether the row's function doesn't suit the set.
 fn is_of_other_shape(model: &Catalog, name: &Name, set: &Set) -> bool
-    ensures { result ≡ row_is (λ r. differ (functions.is_scalar_function r.func) (tests.is_scalar set.now)) model.now.model name.now }
+    ensures { result ≡ row_is (λ r. differ (functions.is_scalar_function r.func)
+        (tests.is_scalar set.now)) model.now.model name.now }
 {
     match model.row(name) {
         Some(row) => differ(is_scalar_function(&row.func), set.is_scalar()),
@@ -175,7 +178,8 @@ fn is_of_other_shape(model: &Catalog, name: &Name, set: &Set) -> bool
 
 // Whether the set's dimension doesn't suit the row.
 fn has_other_dimension(model: &Catalog, name: &Name, set: &Set) -> bool
-    ensures { result ≡ row_is (λ r. tests.has_bad_dimension set.now (functions.components r.func)) model.now.model name.now }
+    ensures { result ≡ row_is (λ r. tests.has_bad_dimension set.now (functions.components r.func))
+        model.now.model name.now }
 {
     match model.row(name) {
         Some(row) => set.has_bad_dimension(components(&row.func)),
@@ -185,7 +189,8 @@ fn has_other_dimension(model: &Catalog, name: &Name, set: &Set) -> bool
 
 // Whether the row has no such output.
 fn lacks_output(model: &Catalog, name: &Name, output: u32) -> bool
-    ensures { result ≡ row_is (λ r. output == 0 || nat_lt (functions.components r.func) output) model.now.model name.now }
+    ensures { result ≡ row_is (λ r. output == 0 || nat_lt (functions.components r.func) output)
+        model.now.model name.now }
 {
     match model.row(name) {
         Some(row) => output == 0 || components(&row.func) < output as usize,
@@ -203,7 +208,8 @@ fn row_set_differs(model: &Catalog, name: &Name, set: &Set) -> bool
 }
 
 fn group_set_differs(model: &Catalog, name: &Name, set: &Set) -> bool
-    ensures { result ≡ group_is (λ g. not (tests.same_type g.set set.now)) model.now.model name.now }
+    ensures { result ≡ group_is (λ g. not (tests.same_type g.set set.now)) model.now.model
+        name.now }
 {
     match group_named(model, name) {
         Some(group) => !group.set.has_type_of(set),
@@ -222,7 +228,8 @@ fn is_in_vector_group(model: &Catalog, name: &Name) -> bool
 
 // The group of the variable with a name.
 fn group_named<'a>(model: &'a Catalog, name: &Name) -> Option<&'a Group>
-    ensures { option_copied result ≡ option_and_then (models.group_of model.now.model) (models.variable_named model.now.model name.now) }
+    ensures { option_copied result ≡ option_and_then (models.group_of model.now.model)
+        (models.variable_named model.now.model name.now) }
 {
     model.group_of(model.variable(name)?)
 }

@@ -85,7 +85,8 @@ pub(crate) fn park(
     requires changes { IsExchange plan.exchange }
     requires consistent { IsConsistent (exchanged plan.exchange catalog.old.model) }
     requires within { IsWithinLimits (exchanged plan.exchange catalog.old.model) }
-    requires names { AreNameChanges plan.names catalog.old.model (exchanged plan.exchange catalog.old.model) }
+    requires names { AreNameChanges plan.names catalog.old.model
+        (exchanged plan.exchange catalog.old.model) }
     requires spare { vec_len parked.old < vec_capacity parked.old }
     requires reserved { IsReserved plan names reserved catalog.old }
     requires parked { IsParked parked.old.items names catalog.old.room }

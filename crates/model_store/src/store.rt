@@ -91,7 +91,8 @@ impl UserModel {
 
     /// The address of the variable with a name, and none where no such variable stands.
     pub fn variable(&self, name: &Name) -> Option<Address>
-        ensures { result ≡ option_map model.variable_address (model.variable_named self.now.model name.now) }
+        ensures { result ≡ option_map model.variable_address
+            (model.variable_named self.now.model name.now) }
     {
         let number = self.catalog.variable(name)?;
         Some(Address::root(Root::Variable, number))
@@ -112,7 +113,8 @@ impl UserModel {
 
     /// Why an edit would be refused, the first reason in the order of refusals.
     pub fn check(&self, edit: &Edit) -> Result<(), Refusal>
-        ensures { MatchResult result (λ _. refusals.first_refusal self.now.model edit.now ≡ None) (λ refusal. refusals.first_refusal self.now.model edit.now ≡ Some refusal) }
+        ensures { MatchResult result (λ _. refusals.first_refusal self.now.model edit.now ≡ None)
+            (λ refusal. refusals.first_refusal self.now.model edit.now ≡ Some refusal) }
     {
         match first_refusal(&self.catalog, edit) {
             Some(refusal) => Err(refusal),
@@ -132,7 +134,8 @@ impl UserModel {
         ensures undo { IfOk result (IsUndo self.old.model self.new.model) }
         ensures before { IfOk result (λ undo. before self.new.model undo ≡ self.old.model) }
         ensures parked { IfOk result (HasParked self.old.parked self.new.parked self.new.model) }
-        ensures refused { IfErr result (λ fault. refusal_of fault ≡ refusals.first_refusal self.old.model edit) }
+        ensures refused { IfErr result (λ fault. refusal_of fault
+            ≡ refusals.first_refusal self.old.model edit) }
         ensures kept { OnErr result (self.new ≡ self.old) }
     {
         if let Some(refusal) = first_refusal(&self.catalog, &edit) {
@@ -159,7 +162,8 @@ impl UserModel {
 
     /// Takes the last edit back that was not yet taken back or settled, whose undo this is. It takes no memory.
     pub fn take_back(&mut self, undo: Undo)
-        requires last { (others : List Parked) × HasParked others self.old.parked self.old.model undo }
+        requires last { (others : List Parked) × HasParked others self.old.parked self.old.model
+            undo }
         requires edit { LeadsTo (before self.old.model undo) self.old.model }
         ensures model { self.new.model ≡ before self.old.model undo }
         ensures parked { IsButLast self.new.parked self.old.parked }

@@ -14,7 +14,8 @@ hex_digit d = if nat_lt d 10 then 48 + d else 55 + d
 
 -- the value of a hexadecimal digit: '0' to '9', 'A' to 'F' or 'a' to 'f'
 abbrev pub hex_value : ℕ → ℕ
-hex_value b = if is_in_range 48 57 b then b - 48 else (if is_in_range 65 70 b then b - 55 else b - 87)
+hex_value b =
+    if is_in_range 48 57 b then b - 48 else (if is_in_range 65 70 b then b - 55 else b - 87)
 
 -- the byte is written as an escape: 0 to 32, 127 and past it, and `%`
 abbrev pub is_escaped : ℕ → Bool
@@ -22,7 +23,8 @@ is_escaped b = nat_lt b 33 || b == percent || nat_lt 126 b
 
 -- a byte as it is written: itself, or `%` and its two hexadecimal digits
 abbrev pub escaped_byte : ℕ → List ℕ
-escaped_byte b = if is_escaped b then percent ∷ hex_digit (b / 16) ∷ hex_digit (b % 16) ∷ [] else b ∷ []
+escaped_byte b =
+    if is_escaped b then percent ∷ hex_digit (b / 16) ∷ hex_digit (b % 16) ∷ [] else b ∷ []
 
 -- the bytes as they are written
 unfoldable pub escaped : List ℕ → List ℕ

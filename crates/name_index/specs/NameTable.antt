@@ -26,8 +26,11 @@ IsFree numbers id = (name : List ℕ) → map.get numbers name ≢ Some id
 
 -- no two names have one number
 abbrev pub IsOneToOne : Numbers → Type 0
-IsOneToOne numbers = (one other : List ℕ) (id : ℕ) → map.get numbers one ≡ Some id → map.get numbers other ≡ Some id → one ≡ other
+IsOneToOne numbers =
+    (one other : List ℕ) (id : ℕ) → map.get numbers one ≡ Some id → map.get numbers other ≡ Some id
+    → one ≡ other
 
 -- the answer is a name exactly where the name has the number: what looking up a number gives, the other way round
 abbrev pub IsNameAt : Numbers → ℕ → Option (List ℕ) → Type 0
-IsNameAt numbers id answer = (name : List ℕ) → (answer ≡ Some name) ↔ (map.get numbers name ≡ Some id)
+IsNameAt numbers id answer =
+    (name : List ℕ) → (answer ≡ Some name) ↔ (map.get numbers name ≡ Some id)

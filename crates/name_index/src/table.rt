@@ -108,7 +108,8 @@ impl NameTable {
     /// Takes out the name with a number, and gives it back. There is none where the number isn't there.
     pub fn remove(&mut self, id: u32) -> Option<Name>
         ensures value { IsNameAt self.old.numbers id result }
-        ensures removed { IfSome result (λ name. self.new.numbers ≡ map.remove self.old.numbers name) }
+        ensures removed { IfSome result (λ name. self.new.numbers
+            ≡ map.remove self.old.numbers name) }
         ensures absent { IfNone result (self.new.numbers ≡ self.old.numbers) }
         ensures spare { self.old.spare ≤ self.new.spare }
         ensures one_to_one { IsOneToOne self.new.numbers }

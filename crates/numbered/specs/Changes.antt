@@ -29,4 +29,6 @@ module _ {X : Type 0} (number_of : X → ℕ) where
 
   -- how many changes put an item where none stands
   abbrev pub added : List (Change X) → List X → ℕ
-  added changes xs = count_by (λ change. is_some change.content && is_none (find number_of change.number xs)) changes
+  added changes xs =
+      count_by (λ change. is_some change.content && is_none (find number_of change.number xs))
+      changes

@@ -12,7 +12,8 @@ use std::mem;
 pub fn exchange<X: HasNumber>(items: &mut Vec<X>, number: u32, new: Option<X>) -> Option<X>
     requires rising { Rise X.number_of items.old.items }
     requires own { IsAt X.number_of number new }
-    requires room { IsSome new → IsNone (find X.number_of number items.old.items) → vec_len items.old < vec_capacity items.old }
+    requires room { IsSome new → IsNone (find X.number_of number items.old.items)
+        → vec_len items.old < vec_capacity items.old }
     ensures before { result ≡ find X.number_of number items.old.items }
     ensures after { items.new.items ≡ set_at X.number_of number new items.old.items }
     ensures rising { Rise X.number_of items.new.items }
@@ -47,13 +48,15 @@ fn insert_with_room<X>(items: &mut Vec<X>, place: usize, item: X)
 pub fn exchange_all<X: HasNumber + Drop>(items: &mut Vec<X>, changes: &mut [Change<X>])
     requires rising { Rise X.number_of items.old.items }
     requires changes { AreChanges X.number_of changes.old }
-    requires room { vec_len items.old + added X.number_of changes.old items.old.items ≤ vec_capacity items.old }
+    requires room { vec_len items.old + added X.number_of changes.old items.old.items
+        ≤ vec_capacity items.old }
     ensures after { items.new.items ≡ set_all X.number_of changes.old items.old.items }
     ensures before { changes.new ≡ olds X.number_of changes.old items.old.items }
     ensures rising { Rise X.number_of items.new.items }
     ensures changes { AreChanges X.number_of changes.new }
     ensures capacity { vec_capacity items.old ≤ vec_capacity items.new }
-    ensures room { vec_len items.new + added X.number_of changes.new items.new.items ≤ vec_capacity items.new }
+    ensures room { vec_len items.new + added X.number_of changes.new items.new.items
+        ≤ vec_capacity items.new }
 {
     for change in changes.iter_mut() {
         change.content = exchange(items, change.number, change.content.take());

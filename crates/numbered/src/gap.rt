@@ -47,9 +47,12 @@ pub fn exchange_at_gap<X: HasNumber + Drop>(
     requires own { IsAt X.number_of number new }
     requires passed { All (λ x. X.number_of x < number) items.old.items }
     requires room { vec_len items.old + vec_len aside.old ≤ vec_capacity items.old }
-    requires more { IsSome new → IsNone (find X.number_of number (with_gap items.old.items aside.old.items)) → vec_len items.old + vec_len aside.old < vec_capacity items.old }
+    requires more { IsSome new → IsNone (find X.number_of number
+        (with_gap items.old.items aside.old.items))
+        → vec_len items.old + vec_len aside.old < vec_capacity items.old }
     ensures before { result ≡ find X.number_of number (with_gap items.old.items aside.old.items) }
-    ensures after { with_gap items.new.items aside.new.items ≡ set_at X.number_of number new (with_gap items.old.items aside.old.items) }
+    ensures after { with_gap items.new.items aside.new.items
+        ≡ set_at X.number_of number new (with_gap items.old.items aside.old.items) }
     ensures passed { All (λ x. X.number_of x ≤ number) items.new.items }
     ensures capacity { vec_capacity items.old ≤ vec_capacity items.new }
     ensures capacity_aside { vec_capacity aside.old ≤ vec_capacity aside.new }
@@ -67,7 +70,8 @@ fn take_ahead<X: HasNumber + Drop>(items: &mut Vec<X>, aside: &mut Vec<X>, numbe
     requires passed { All (λ x. X.number_of x < number) items.old.items }
     requires room { vec_len items.old + vec_len aside.old ≤ vec_capacity items.old }
     ensures before { result ≡ find X.number_of number (with_gap items.old.items aside.old.items) }
-    ensures after { with_gap items.new.items aside.new.items ≡ set_at X.number_of number None (with_gap items.old.items aside.old.items) }
+    ensures after { with_gap items.new.items aside.new.items
+        ≡ set_at X.number_of number None (with_gap items.old.items aside.old.items) }
     ensures parted { IsParted X.number_of number items.new.items aside.new.items }
     ensures capacity { vec_capacity items.old ≤ vec_capacity items.new }
     ensures capacity_aside { vec_capacity aside.old ≤ vec_capacity aside.new }

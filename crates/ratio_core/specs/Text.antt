@@ -15,7 +15,8 @@ is_slash c = c == 47
 
 -- a part of a literal: one digit or more, that write a number of at most 2^127 - 1
 unfoldable pub is_part : List ℕ → Bool
-is_part ds = nat_lt 0 (length ds) && list_all is_ascii_digit ds && nat_lt (digits_value 10 ds) (2 ^ 127)
+is_part ds =
+    nat_lt 0 (length ds) && list_all is_ascii_digit ds && nat_lt (digits_value 10 ds) (2 ^ 127)
 
 unfoldable pub part_of : List ℕ → Option ℕ
 part_of ds = if is_part ds then Some (digits_value 10 ds) else None

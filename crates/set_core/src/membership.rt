@@ -53,7 +53,8 @@ impl Set {
     #[tactic(auto, using(rational_laws::specs::Tests::rational_tests))]
     pub fn recession_holds(&self, v: &[Ratio]) -> Result<bool, SetOverflow>
         requires { length v.now ≡ dimension_of self.now }
-        ensures { TellsWhere result (MembershipFits self.now v.now) (In (recession self.now) v.now) }
+        ensures { TellsWhere result (MembershipFits self.now v.now)
+            (In (recession self.now) v.now) }
     {
         let zero = Ratio::zero();
         match self {

@@ -70,12 +70,7 @@ fn is_side(b: &Ratio) -> bool
 }
 
 // Numbers below n.
-fn numbers(
-    alloc: Global,
-    draw: &mut Draw,
-    count: usize,
-    n: u32,
-) -> Result<Vec<i64>, AllocError>
+fn numbers(alloc: Global, draw: &mut Draw, count: usize, n: u32) -> Result<Vec<i64>, AllocError>
     requires { 0 < n }
 {
     let mut drawn = Vec::with_capacity(alloc, count)?;

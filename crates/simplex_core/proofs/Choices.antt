@@ -1,6 +1,6 @@
 -- The least and the best below a bound, found by a loop.
 use Rattle.std.specs.Prelude.{◌≡◌, ℕ, zero, suc, ◌+◌, ◌-◌, ◌<◌, ◌≤◌, Bool, true, false, ◌&&◌, ◌||◌, Option, Some, None, if◌then◌else◌, refl}
-use Rattle.std.proofs.Common.{sym, ◌∙◌, ap, ap₂, arith, is_lt, Ordering}
+use Rattle.std.proofs.Common.{sym, ◌∙◌, ap, arith, is_lt, Ordering}
 use Rattle.std.specs.Ordering.{is_eq}
 use Rattle.ratio_core.specs.Rational.{Rational, rational_cmp, rational_eq, ◌/ℚ◌}
 use Rattle.ratio_core.specs.RationalLaws.{rational_eq-is_eq}

@@ -1,7 +1,7 @@
 -- The multipliers are read off the prices of the artificial columns.
 use Rattle.std.specs.Prelude.{◌≡◌, ℕ, ◌+◌, ◌-◌, ◌<◌, ◌≤◌, IsTrue}
 use Rattle.std.proofs.Common.{sym, ◌∙◌, ap, ap₂, arith}
-use Rattle.ratio_core.specs.Rational.{neg_ℚ, one_ℚ, zero_ℚ, ◌-ℚ◌}
+use Rattle.ratio_core.specs.Rational.{neg_ℚ, one_ℚ, ◌-ℚ◌}
 use Rattle.rational_laws.specs.Field.{zero-+ℚ}
 use Rattle.simplex_form.specs.BoundedSums.{delta}
 use Rattle.simplex_form.specs.Form.{Form, column, first_cost, second_cost}

@@ -2,7 +2,6 @@
 use Rattle.std.specs.Prelude.{◌≡◌, ℕ, zero, suc, ◌+◌, ◌-◌, ◌<◌, Bool, true, false, Result, Ok, Err, MatchResult, is_err, is_ok, List, if◌then◌else◌, IsTrue, length, refl}
 use Rattle.std.proofs.Common.{sym, ◌∙◌, ap, arith, subst, true≢false}
 use Rattle.std.proofs.lemmas.Bool.{cond-false, cond-true}
-use Rattle.ratio_core.specs.Rational.{zero_ℚ}
 use Rattle.simplex_form.specs.declared.turn.Phase.{Phase}
 use Rattle.simplex_form.specs.declared.turn.Phase.TheVariants.{First}
 use Rattle.simplex_form.specs.declared.turn.Turn.{Turn}
@@ -10,7 +9,7 @@ use Rattle.simplex_form.specs.declared.turn.Turn.TheVariants.{Pivot}
 use Rattle.simplex_form.specs.Form.{Form, IsStandard}
 use Rattle.simplex_form.specs.Basis.{State, start}
 use Rattle.simplex_form.specs.Board.{pivot}
-use Rattle.simplex_form.specs.Readings.{Agrees, readings}
+use Rattle.simplex_form.specs.Readings.{readings}
 use Rattle.simplex_form.specs.Turns as bland
 use Rattle.simplex_form.specs.Fit.{pivot_fits, turn_fits, uses_first}
 use Rattle.simplex_form.specs.Standing.{Stands}

@@ -1,5 +1,5 @@
 -- What the choices of the rule say of what is read; what stands at each basis of the trail; and what each turn says there.
-use Rattle.std.specs.Prelude.{◌≡◌, ℕ, ◌+◌, ◌<◌, ◌≤◌, ◌⊎◌, Option, Some, None}
+use Rattle.std.specs.Prelude.{◌≡◌, ℕ, ◌<◌, ◌≤◌, ◌⊎◌}
 use Rattle.ratio_core.specs.Rational.{Rational, zero_ℚ, ◌*ℚ◌, ◌≤ℚ◌, ◌‹ℚ◌}
 use Rattle.simplex_form.specs.declared.turn.Phase.{Phase}
 use Rattle.simplex_form.specs.declared.turn.Phase.TheVariants.{First, Second, Sweep}

@@ -1,5 +1,5 @@
 -- Bland's rule: which column enters and which row leaves by what is read, and where the trail ends.
-use Rattle.std.specs.Prelude.{ℕ, ◌+◌, Bool, true, false, ◌&&◌, ◌||◌, not, nat_lt, nat_le, Option, Some, None, if◌then◌else◌}
+use Rattle.std.specs.Prelude.{ℕ, ◌+◌, Bool, ◌&&◌, ◌||◌, not, nat_lt, nat_le, Option, Some, None, if◌then◌else◌}
 use Rattle.std.proofs.Common.{is_lt}
 use Rattle.ratio_core.specs.Rational.{Rational, neg_ℚ, one_ℚ, sum_fits, rational_cmp, rational_eq, zero_ℚ, ◌/ℚ◌}
 use Rattle.simplex_form.specs.declared.turn.Phase.{Phase}

@@ -1,10 +1,9 @@
 -- Readings that agree below the sizes lead to the same turn, to the same tests of a pivot, and to readings that agree.
 use Rattle.std.specs.Prelude.{◌≡◌, ℕ, ◌+◌, ◌<◌, Bool, true, false, ◌&&◌, ◌||◌, not, nat_eq, nat_le, nat_lt, Option, Some, None, IsTrue, if◌then◌else◌, slice_index, slice_set, refl}
-use Rattle.std.proofs.Common.{◌∙◌, ap, ap₂, arith, subst}
+use Rattle.std.proofs.Common.{◌∙◌, ap, ap₂, arith}
 use Rattle.ratio_core.specs.Rational.{Rational, fits, inverse_ℚ, neg_ℚ, one_ℚ, rational_eq, sum_fits, zero_ℚ, ◌*ℚ◌, ◌-ℚ◌, ◌/ℚ◌}
 use Rattle.simplex_form.specs.Basis.{pivoted}
 use Rattle.simplex_form.specs.Fit.{divided_row_fits, lowered_fits, lowered_prices_fit, lowered_row_fits, pivot_fits, uses_first}
-use Rattle.simplex_form.specs.Form.{column}
 use Rattle.simplex_form.specs.Readings.{Agrees, Readings, basic_at, columns, lowered_price, pivoted_readings, quotient}
 use Rattle.simplex_form.specs.Search.{all_below, best_below, least_below, least_row, some_below}
 use Rattle.simplex_form.specs.Turns.{entering, enters, first_turn, infeasible_turn, is_artificial, is_below, is_left_above, leaves_before, leaving, may_leave, multipliers_fit, ratio, second_turn, sweep_turn, swept_column, swept_entry, swept_in, turn_in}

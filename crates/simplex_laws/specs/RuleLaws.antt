@@ -1,15 +1,14 @@
 -- What the choices of Bland's rule mean, in terms of prices, entries and ratios.
-use Rattle.std.specs.Prelude.{◌≡◌, ℕ, ◌<◌, ◌≤◌, ◌⊎◌, Bool, true, false, ◌&&◌, ◌||◌, not, nat_lt, Option, Some, None, unwrap_or, if◌then◌else◌, refl}
+use Rattle.std.specs.Prelude.{◌≡◌, ℕ, ◌<◌, ◌≤◌, Bool, true, false, ◌&&◌, ◌||◌, not, nat_lt, Option, Some, None, unwrap_or, if◌then◌else◌, refl}
 use Rattle.std.proofs.Common.{inl, inr, sym, ◌∙◌, ap, arith, subst, true≢false}
 use Rattle.std.proofs.lemmas.Bool.{cond-true, le-leb, leb-true, ltb-false, ltb-true}
 use Rattle.std.proofs.lemmas.Option.{none-some}
-use Rattle.ratio_core.specs.Rational.{Rational, rational_eq, zero_ℚ, ◌≤ℚ◌, ◌‹ℚ◌}
+use Rattle.ratio_core.specs.Rational.{Rational, rational_eq, zero_ℚ, ◌≤ℚ◌}
 use Rattle.ratio_core.specs.RationalLaws.{rational_eq-false, rational_eq-true}
 use Rattle.rational_laws.specs.Order.{‹ℚ-≤ℚ_trans, ‹ℚ_from_≤ℚ_and_not, ≤ℚ_from_‹ℚ, ≤ℚ_from_≡, ≤ℚ-‹ℚ_trans}
 use Rattle.rational_laws.specs.Tests.{ge_from_failed, lt_from_test, test_from_lt}
 use Rattle.simplex_form.specs.Board.{price}
 use Rattle.simplex_form.specs.Readings.{Readings, basic_at}
-use Rattle.simplex_form.specs.Search.{least_row}
 use Rattle.simplex_form.specs.Standing.{ComesFirst, Enters, HasNoNegativePrice, HasNoPositiveEntry, IsSwept, Leaves, Sweeps}
 use Rattle.simplex_form.specs.Turns.{entering, is_artificial, is_below, leaves_before, leaving, ratio, swept_column, swept_entry, swept_in}
 use Rattle.simplex_laws.specs.SearchLaws.{IsBest, IsLeast, IsLeastRow, best_below_is, least_below_is, least_row_is}

@@ -2,7 +2,6 @@
 use Rattle.std.specs.Prelude.{◌≡◌, ℕ, zero, suc, ◌+◌, ◌<◌, ◌≤◌, Bool, true, false, ◌&&◌, ◌||◌, Option, Some, None, IfSome, if◌then◌else◌, refl}
 use Rattle.std.proofs.Common.{sym, ◌∙◌, ap, ap₂, arith, subst, true≢false}
 use Rattle.simplex_form.specs.Search.{all_below, best_below, better_of, least_below, least_row, or_else, row_or_else, some_below}
-use Rattle.simplex_form.specs.Trail.{next}
 use Rattle.simplex_laws.specs.BoundedSumLaws.{same_or_other}
 
 -- a fact of each number below n + 1, from one of each below n and one of n

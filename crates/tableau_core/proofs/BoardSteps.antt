@@ -1,18 +1,18 @@
 -- What is read of a board as it is kept, before and after a pivot.
-use Rattle.std.specs.Prelude.{◌≡◌, ℕ, zero, suc, ◌+◌, ◌<◌, ◌≤◌, Bool, true, false, ◌&&◌, ◌||◌, not, nat_eq, List, [], ◌∷◌, length, map, take, slice_index_or, slice_set, Result, Ok, Err, IsErr, MatchResult, refl}
+use Rattle.std.specs.Prelude.{◌≡◌, ℕ, zero, suc, ◌+◌, ◌<◌, Bool, true, false, ◌&&◌, ◌||◌, not, nat_eq, List, [], ◌∷◌, length, map, take, slice_index_or, slice_set, Result, Ok, Err, IsErr, MatchResult, refl}
 use Rattle.std.proofs.Common.{sym, ◌∙◌, ap, ap₂, arith, subst, true≢false}
 use Rattle.std.proofs.lemmas.List.{length-map}
-use Rattle.ratio_core.specs.Rational.{Rational, fits, inverse_ℚ, zero_ℚ, ◌*ℚ◌, ◌-ℚ◌, ◌/ℚ◌}
+use Rattle.ratio_core.specs.Rational.{Rational, fits, ◌*ℚ◌, ◌-ℚ◌, ◌/ℚ◌}
 use Rattle.tableau_core.specs.declared.board.Board.TheInside.{Inside}
 use Rattle.tableau_core.specs.declared.kept.Row.{Row}
 use Rattle.tableau_core.specs.Row.{AllFit, IsDivided, IsLowered, cell, quotients_fit}
 use Rattle.tableau_core.specs.Rows.{AreWide, now_at}
 use Rattle.tableau_core.specs.Tableau.{IsPivoted, Tableau, readings_of, width}
 use Rattle.tableau_core.specs.Kept.{IsKept, tableau_of, width_of}
-use Rattle.tableau_core.specs.Pivoting.{IsSettled, numbers_fit, quotient_at, row_fits}
+use Rattle.tableau_core.specs.Pivoting.{IsSettled, numbers_fit, row_fits}
 use Rattle.simplex_form.specs.Basis.{pivoted}
 use Rattle.simplex_form.specs.Fit.{divided_row_fits, lowered_fits, lowered_prices_fit, lowered_row_fits, pivot_fits}
-use Rattle.simplex_form.specs.Readings.{Agrees, Readings, lowered_price, pivoted_readings, readings}
+use Rattle.simplex_form.specs.Readings.{Agrees, Readings, lowered_price, pivoted_readings}
 use Rattle.simplex_form.specs.Search.{all_below}
 use Rattle.simplex_laws.specs.AgreementLaws.{agrees_chain, pivot_fits_same, pivoted_agrees}
 use Rattle.simplex_laws.specs.BoundedSumLaws.{same_or_other}

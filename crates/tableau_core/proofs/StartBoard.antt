@@ -1,7 +1,7 @@
 -- The fields of a board at its start.
-use Rattle.std.specs.Prelude.{◌≡◌, ℕ, ◌+◌, ◌<◌, Bool, length}
+use Rattle.std.specs.Prelude.{◌≡◌, ℕ, ◌+◌, ◌<◌, length}
 use Rattle.std.specs.List.{range_with_len}
-use Rattle.std.proofs.Common.{sym, ◌∙◌, ap, ap₂, subst}
+use Rattle.std.proofs.Common.{sym, ◌∙◌, ap, ap₂}
 use Rattle.tableau_core.specs.declared.board.Board.TheInside.{Inside}
 use Rattle.tableau_core.specs.Row.{AllFit, cell}
 use Rattle.tableau_core.specs.Rows.{AreWide, now_at}

@@ -1,7 +1,7 @@
 -- What stands of a model without a variable: affine functions lose its terms; its group and the plain vector rows that name it
 -- shrink; plain scalar rows on it, and groups and rows that are left with no component, are deleted; a plain objective on it is
 -- no objective.
-use Rattle.std.specs.Prelude.{ℕ, ◌≡◌, Bool, not, ◌==◌, if◌then◌else◌, List, [], ◌∷◌, length, map, filter, Option, Some, None}
+use Rattle.std.specs.Prelude.{ℕ, not, ◌==◌, if◌then◌else◌, List, [], ◌∷◌, length, map, filter, Option, Some, None}
 use Rattle.std.specs.List.{filter_map, list_any}
 use Rattle.ratio_core.specs.Rational.{zero_ℚ}
 use Rattle.aff_core.specs.Address.{Address, address_eq}
@@ -10,7 +10,6 @@ use Rattle.set_core.specs.declared.set.Set.{Set}
 use Rattle.user_model.specs.declared.function.UserFunc.{UserFunc}
 use Rattle.user_model.specs.declared.function.UserFunc.TheVariants.{Plain, Affine, PlainVec, AffineVec}
 use Rattle.user_model.specs.declared.group.Group.{Group}
-use Rattle.user_model.specs.declared.group.GroupVar.{GroupVar}
 use Rattle.user_model.specs.declared.row.Row.{Row}
 use Rattle.user_model.specs.declared.objective.Objective.{Objective}
 use Rattle.user_model.specs.declared.objective.Objective.TheVariants as objective
@@ -50,7 +49,8 @@ group_without n group =
 
 abbrev pub objective_without : Address → Objective → Objective
 objective_without at objective.Feasibility = objective.Feasibility
-objective_without at (objective.Plain sense var) = if address_eq at var then objective.Feasibility else objective.Plain sense var
+objective_without at (objective.Plain sense var) =
+    if address_eq at var then objective.Feasibility else objective.Plain sense var
 objective_without at (objective.Affine sense f) = objective.Affine sense (without_term at f)
 
 -- the model without the variable with a number

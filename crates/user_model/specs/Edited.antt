@@ -1,8 +1,6 @@
 -- What an accepted edit makes of the model. All that a line doesn't name stays.
-use Rattle.std.specs.Prelude.{ℕ, zero, suc, ◌+◌, ◌-◌, Bool, ◌==◌, if◌then◌else◌, List, [], ◌∷◌, ◌++◌, length, map, Option, Some, None, unwrap_or, slice_set, slice_index_or}
-use Rattle.std.specs.Str.{bytes_eq}
+use Rattle.std.specs.Prelude.{ℕ, zero, suc, ◌+◌, ◌-◌, ◌==◌, if◌then◌else◌, List, [], ◌∷◌, ◌++◌, length, map, Option, Some, None}
 use Rattle.ratio_core.specs.Rational.{Rational}
-use Rattle.aff_core.specs.Address.{Address}
 use Rattle.aff_core.specs.Function.{Function, gathered, with_coefficient}
 use Rattle.named_aff.specs.declared.aff.NamedAff.{NamedAff}
 use Rattle.set_core.specs.declared.set.Set.{Set}
@@ -33,7 +31,8 @@ row_number row = row.id
 -- ---- functions by name, whose names stand in the model: terms that are zero are dropped
 
 abbrev pub affine : ModelValue → NamedAff → Function
-affine model f = gathered (map (λ t. (address_named model t.variable, t.coefficient)) f.terms) f.constant
+affine model f =
+    gathered (map (λ t. (address_named model t.variable, t.coefficient)) f.terms) f.constant
 
 abbrev pub located : ModelValue → NamedFunc → UserFunc
 located model (named.Plain var) = Plain (address_named model var)
@@ -139,18 +138,31 @@ add_row model name func set = record model {
 unfoldable pub edited : ModelValue → Edit → ModelValue
 edited model (edit.AddGroup names set) = add_group model names set
 edited model (edit.AddRow name func set) = add_row model name (located model func) set
-edited model (edit.Objective sense func) = record model { objective = objective_of model sense func }
+edited model (edit.Objective sense func) =
+    record model { objective = objective_of model sense func }
 edited model edit.Feasibility = record model { objective = objective.Feasibility }
-edited model (edit.Coef row var value) = change_function model row (on_affine (λ f. with_coefficient f (address_named model var) value))
-edited model (edit.VecCoef row output var value) = change_function model row (on_output output (λ f. with_coefficient f (address_named model var) value))
-edited model (edit.ObjCoef var value) = record model { objective = on_objective (λ f. with_coefficient f (address_named model var) value) model.objective }
-edited model (edit.Constant row value) = change_function model row (on_affine (λ f. with_constant f value))
-edited model (edit.VecConstant row output value) = change_function model row (on_output output (λ f. with_constant f value))
-edited model (edit.ObjConstant value) = record model { objective = on_objective (λ f. with_constant f value) model.objective }
+edited model (edit.Coef row var value) =
+    change_function model row (on_affine (λ f. with_coefficient f (address_named model var) value))
+edited model (edit.VecCoef row output var value) =
+    change_function model row
+    (on_output output (λ f. with_coefficient f (address_named model var) value))
+edited model (edit.ObjCoef var value) = record model {
+  objective = on_objective (λ f. with_coefficient f (address_named model var) value) model.objective;
+}
+edited model (edit.Constant row value) =
+    change_function model row (on_affine (λ f. with_constant f value))
+edited model (edit.VecConstant row output value) =
+    change_function model row (on_output output (λ f. with_constant f value))
+edited model (edit.ObjConstant value) =
+    record model { objective = on_objective (λ f. with_constant f value) model.objective }
 edited model (edit.RowSet row set) = change_row model row (λ r. record r { set = set })
-edited model (edit.Reset var set) = with_variable model var (λ n. change_group model n (λ g. record g { set = set }))
-edited model (edit.FreeGroup var) = with_variable model var (λ n. change_group model n (λ g. record g { set = Reals 1 }))
+edited model (edit.Reset var set) =
+    with_variable model var (λ n. change_group model n (λ g. record g { set = set }))
+edited model (edit.FreeGroup var) =
+    with_variable model var (λ n. change_group model n (λ g. record g { set = Reals 1 }))
 edited model (edit.DeleteVariable var) = with_variable model var (without_variable model)
 edited model (edit.DeleteRow row) = delete_row model row
-edited model (edit.RenameVariable old new) = with_variable model old (λ n. change_group model n (λ g. record g { vars = map (renamed n new) g.vars }))
+edited model (edit.RenameVariable old new) =
+    with_variable model old
+    (λ n. change_group model n (λ g. record g { vars = map (renamed n new) g.vars }))
 edited model (edit.RenameRow old new) = change_row model old (λ r. record r { name = new })

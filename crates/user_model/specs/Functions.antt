@@ -2,7 +2,6 @@
 use Rattle.std.specs.Prelude.{ℕ, Bool, true, false, List, [], ◌∷◌, length, map, flat_map, sum}
 use Rattle.std.specs.List.{list_any}
 use Rattle.std.specs.FinMap as finite
-use Rattle.ratio_core.specs.Rational.{Rational}
 use Rattle.aff_core.specs.Address.{Address, address_eq}
 use Rattle.aff_core.specs.Function.{Function, terms_of}
 use Rattle.named_aff.specs.declared.aff.NamedAff.{NamedAff}

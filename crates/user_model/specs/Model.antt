@@ -1,5 +1,5 @@
 -- The user's model: groups of variables and rows, each in the order of their numbers, an objective, and the next numbers.
-use Rattle.std.specs.Prelude.{ℕ, ◌+◌, Bool, ◌&&◌, ◌||◌, ◌==◌, false, List, [], ◌∷◌, length, map, flat_map, find, sum_by, Option, Some, None, unwrap_or}
+use Rattle.std.specs.Prelude.{ℕ, ◌+◌, Bool, ◌&&◌, ◌||◌, ◌==◌, false, List, [], flat_map, find, sum_by, Option, unwrap_or}
 use Rattle.std.specs.List.{list_any}
 use Rattle.std.specs.Option.{option_map, option_map_or}
 use Rattle.std.specs.Str.{bytes_eq}
@@ -40,7 +40,8 @@ variables model = flat_map (λ g. g.vars) model.groups
 
 -- the number of the variable with a name
 abbrev pub variable_named : ModelValue → List ℕ → Option ℕ
-variable_named model name = option_map (λ v. v.number) (find (λ v. bytes_eq v.name name) (variables model))
+variable_named model name =
+    option_map (λ v. v.number) (find (λ v. bytes_eq v.name name) (variables model))
 
 abbrev pub row_named : ModelValue → List ℕ → Option Row
 row_named model name = find (λ r. bytes_eq r.name name) model.rows
@@ -62,7 +63,9 @@ address_named model name = variable_address (unwrap_or (variable_named model nam
 
 -- the name of the variable at an address
 abbrev pub name_at : ModelValue → Address → Option (List ℕ)
-name_at model at = option_map (λ v. v.name) (find (λ v. address_eq (variable_address v.number) at) (variables model))
+name_at model at =
+    option_map (λ v. v.name)
+    (find (λ v. address_eq (variable_address v.number) at) (variables model))
 
 -- the row, or the objective, has the address as a component or in a term
 abbrev pub row_mentions : Address → Row → Bool

@@ -1,12 +1,12 @@
 -- Which refusal an edit meets: the first whose test holds, in this order.
 use Rattle.std.specs.Prelude.{◌≡◌, ℕ, ◌+◌, ◌-◌, Bool, true, false, ◌&&◌, ◌||◌, not, ◌==◌, nat_lt, if◌then◌else◌, List, [], ◌∷◌, ◌++◌, length, map, Option, Some, None, is_some}
-use Rattle.std.specs.List.{list_any, list_all}
-use Rattle.std.specs.Option.{option_map_or, is_none}
+use Rattle.std.specs.List.{list_any}
+use Rattle.std.specs.Option.{option_map_or}
 use Rattle.std.specs.Str.{bytes_eq}
 use Rattle.aff_core.specs.Address.{address_eq}
 use Rattle.set_core.specs.declared.set.Set.{Set}
 use Rattle.user_model.specs.declared.function.UserFunc.{UserFunc}
-use Rattle.user_model.specs.declared.function.UserFunc.TheVariants.{Plain, Affine, PlainVec, AffineVec}
+use Rattle.user_model.specs.declared.function.UserFunc.TheVariants.{PlainVec}
 use Rattle.user_model.specs.declared.edit.NamedFunc.{NamedFunc}
 use Rattle.user_model.specs.declared.edit.NamedFunc.TheVariants as named
 use Rattle.user_model.specs.declared.edit.Edit.{Edit}
@@ -20,7 +20,7 @@ use Rattle.user_model.specs.declared.refusal.Refusal.TheVariants.{UnknownName, N
 use Rattle.user_model.specs.Sets.{sets_lower, sets_upper}
 use Rattle.set_core.specs.Shapes.{has_bad_dimension, is_crossed, is_norm_cone, is_scalar, same_type}
 use Rattle.user_model.specs.Functions.{components, is_scalar_affine, is_scalar_function, is_scalar_named, is_vector_affine, mentioned, named_components, term_counts, term_count}
-use Rattle.user_model.specs.Model.{ModelValue, address_named, group_of, has_lower_bound, has_upper_bound, row_named, total_terms, variable_address, variable_named, variables}
+use Rattle.user_model.specs.Model.{ModelValue, group_of, has_lower_bound, has_upper_bound, row_named, total_terms, variable_address, variable_named, variables}
 use Rattle.user_model.specs.Limits.{ALL_TERMS, COMPONENTS, LAST_NUMBER, ROWS, TERMS, VARIABLES}
 use Rattle.user_model.specs.Edited.{edited, located}
 
@@ -75,7 +75,8 @@ has_twins (name ∷ names) = list_any (bytes_eq name) names || has_twins names
 
 -- a new name is there already or occurs twice in the edit
 abbrev pub meets_name_taken : ModelValue → Edit → Bool
-meets_name_taken model (edit.AddGroup names set) = list_any (has_variable_named model) names || has_twins names
+meets_name_taken model (edit.AddGroup names set) =
+    list_any (has_variable_named model) names || has_twins names
 meets_name_taken model (edit.AddRow name func set) = has_row_named model name
 meets_name_taken model (edit.RenameVariable old new) = has_variable_named model new
 meets_name_taken model (edit.RenameRow old new) = has_row_named model new
@@ -87,7 +88,9 @@ abbrev pub row_is : (Row → Bool) → ModelValue → List ℕ → Bool
 row_is test model name = option_map_or test (row_named model name) false
 
 abbrev pub group_is : (Group → Bool) → ModelValue → List ℕ → Bool
-group_is test model name = option_map_or (λ n. option_map_or test (group_of model n) false) (variable_named model name) false
+group_is test model name =
+    option_map_or (λ n. option_map_or test (group_of model n) false)
+    (variable_named model name) false
 
 -- ---- 4: shapes
 
@@ -102,16 +105,23 @@ differ scalar_function scalar_set = if scalar_function then not scalar_set else 
 
 abbrev pub meets_function_shape : ModelValue → Edit → Bool
 meets_function_shape model (edit.AddGroup names set) = is_scalar set && not (length names == 1)
-meets_function_shape model (edit.AddRow name func set) = differ (is_scalar_named func) (is_scalar set)
+meets_function_shape model (edit.AddRow name func set) =
+    differ (is_scalar_named func) (is_scalar set)
 meets_function_shape model (edit.Objective sense func) = not (is_scalar_named func)
-meets_function_shape model (edit.Coef row var value) = row_is (λ r. not (is_scalar_affine r.func)) model row
-meets_function_shape model (edit.VecCoef row output var value) = row_is (λ r. not (is_vector_affine r.func)) model row
+meets_function_shape model (edit.Coef row var value) =
+    row_is (λ r. not (is_scalar_affine r.func)) model row
+meets_function_shape model (edit.VecCoef row output var value) =
+    row_is (λ r. not (is_vector_affine r.func)) model row
 meets_function_shape model (edit.ObjCoef var value) = not (is_affine_objective model.objective)
-meets_function_shape model (edit.Constant row value) = row_is (λ r. not (is_scalar_affine r.func)) model row
-meets_function_shape model (edit.VecConstant row output value) = row_is (λ r. not (is_vector_affine r.func)) model row
+meets_function_shape model (edit.Constant row value) =
+    row_is (λ r. not (is_scalar_affine r.func)) model row
+meets_function_shape model (edit.VecConstant row output value) =
+    row_is (λ r. not (is_vector_affine r.func)) model row
 meets_function_shape model (edit.ObjConstant value) = not (is_affine_objective model.objective)
-meets_function_shape model (edit.RowSet row set) = row_is (λ r. differ (is_scalar_function r.func) (is_scalar set)) model row
-meets_function_shape model (edit.Reset var set) = not (is_scalar set) || group_is (λ g. not (is_scalar g.set)) model var
+meets_function_shape model (edit.RowSet row set) =
+    row_is (λ r. differ (is_scalar_function r.func) (is_scalar set)) model row
+meets_function_shape model (edit.Reset var set) =
+    not (is_scalar set) || group_is (λ g. not (is_scalar g.set)) model var
 meets_function_shape model (edit.FreeGroup var) = group_is (λ g. not (is_scalar g.set)) model var
 meets_function_shape model _ = false
 
@@ -120,8 +130,10 @@ meets_function_shape model _ = false
 -- a new vector set's dimension isn't the number of components, is 0, or is 1 for a norm cone
 abbrev pub meets_bad_dimension : ModelValue → Edit → Bool
 meets_bad_dimension model (edit.AddGroup names set) = has_bad_dimension set (length names)
-meets_bad_dimension model (edit.AddRow name func set) = has_bad_dimension set (named_components func)
-meets_bad_dimension model (edit.RowSet row set) = row_is (λ r. has_bad_dimension set (components r.func)) model row
+meets_bad_dimension model (edit.AddRow name func set) =
+    has_bad_dimension set (named_components func)
+meets_bad_dimension model (edit.RowSet row set) =
+    row_is (λ r. has_bad_dimension set (components r.func)) model row
 meets_bad_dimension model _ = false
 
 -- the output and the row that it is to be one of
@@ -132,7 +144,9 @@ output_in _ = None
 
 -- an output is 0 or above the row's number of components
 abbrev pub meets_output_index : ModelValue → Edit → Bool
-meets_output_index model e = option_map_or (λ at. row_is (λ r. at.1 == 0 || nat_lt (components r.func) at.1) model at.0) (output_in e) false
+meets_output_index model e =
+    option_map_or (λ at. row_is (λ r. at.1 == 0 || nat_lt (components r.func) at.1) model at.0)
+    (output_in e) false
 
 -- the set that the edit gives
 abbrev pub given_set : Edit → Option Set
@@ -146,8 +160,10 @@ abbrev pub meets_bad_interval : Edit → Bool
 meets_bad_interval e = option_map_or is_crossed (given_set e) false
 
 abbrev pub meets_set_type_mismatch : ModelValue → Edit → Bool
-meets_set_type_mismatch model (edit.RowSet row set) = row_is (λ r. not (same_type r.set set)) model row
-meets_set_type_mismatch model (edit.Reset var set) = group_is (λ g. not (same_type g.set set)) model var
+meets_set_type_mismatch model (edit.RowSet row set) =
+    row_is (λ r. not (same_type r.set set)) model row
+meets_set_type_mismatch model (edit.Reset var set) =
+    group_is (λ g. not (same_type g.set set)) model var
 meets_set_type_mismatch model _ = false
 
 -- ---- 8 and 9: bounds
@@ -157,7 +173,8 @@ abbrev pub new_bound : Edit → Option (List ℕ × Set)
 new_bound (edit.AddRow name (named.Plain var) set) = Some (var, set)
 new_bound _ = None
 
-abbrev pub meets_bound_already_set : (Set → Bool) → (ModelValue → ℕ → Bool) → ModelValue → Edit → Bool
+abbrev pub meets_bound_already_set : (Set → Bool) → (ModelValue → ℕ → Bool) → ModelValue → Edit
+    → Bool
 meets_bound_already_set sets has_bound model e =
     option_map_or (λ bound. sets bound.1 && option_map_or (has_bound model) (variable_named model bound.0) false) (new_bound e) false
 
@@ -173,10 +190,13 @@ is_cone_row_of n row = is_norm_cone row.set && names_in row.func
 
 -- the variable is in a norm-cone group or in a plain vector row over a norm cone
 abbrev pub is_in_cone : ModelValue → ℕ → Bool
-is_in_cone model n = option_map_or (λ g. is_norm_cone g.set) (group_of model n) false || list_any (is_cone_row_of n) model.rows
+is_in_cone model n =
+    option_map_or (λ g. is_norm_cone g.set) (group_of model n) false
+    || list_any (is_cone_row_of n) model.rows
 
 abbrev pub meets_delete_not_allowed : ModelValue → Edit → Bool
-meets_delete_not_allowed model (edit.DeleteVariable var) = option_map_or (is_in_cone model) (variable_named model var) false
+meets_delete_not_allowed model (edit.DeleteVariable var) =
+    option_map_or (is_in_cone model) (variable_named model var) false
 meets_delete_not_allowed model _ = false
 
 -- ---- 12: limits
@@ -203,13 +223,17 @@ counts model (edit.AddRow name func set) =
     (named_components func, COMPONENTS) ∷ (within TERMS (term_counts (located model func)) ++ (
     (length model.rows + 1, ROWS) ∷ (total_terms (edited model (edit.AddRow name func set)), ALL_TERMS) ∷ (model.next.row, LAST_NUMBER) ∷ []))
 counts model (edit.Objective sense func) =
-    within TERMS (terms_of_objective (edited model (edit.Objective sense func)).objective) ++ (total_terms (edited model (edit.Objective sense func)), ALL_TERMS) ∷ []
+    within TERMS (terms_of_objective (edited model (edit.Objective sense func)).objective)
+    ++ (total_terms (edited model (edit.Objective sense func)), ALL_TERMS) ∷ []
 counts model (edit.Coef row var value) =
-    within TERMS (terms_of_row (edited model (edit.Coef row var value)) row) ++ (total_terms (edited model (edit.Coef row var value)), ALL_TERMS) ∷ []
+    within TERMS (terms_of_row (edited model (edit.Coef row var value)) row)
+    ++ (total_terms (edited model (edit.Coef row var value)), ALL_TERMS) ∷ []
 counts model (edit.VecCoef row output var value) =
-    within TERMS (terms_of_row (edited model (edit.VecCoef row output var value)) row) ++ (total_terms (edited model (edit.VecCoef row output var value)), ALL_TERMS) ∷ []
+    within TERMS (terms_of_row (edited model (edit.VecCoef row output var value)) row)
+    ++ (total_terms (edited model (edit.VecCoef row output var value)), ALL_TERMS) ∷ []
 counts model (edit.ObjCoef var value) =
-    within TERMS (terms_of_objective (edited model (edit.ObjCoef var value)).objective) ++ (total_terms (edited model (edit.ObjCoef var value)), ALL_TERMS) ∷ []
+    within TERMS (terms_of_objective (edited model (edit.ObjCoef var value)).objective)
+    ++ (total_terms (edited model (edit.ObjCoef var value)), ALL_TERMS) ∷ []
 counts model _ = []
 
 -- ---- the first refusal

@@ -26,7 +26,8 @@ module _ (vars : List ℕ) where
   address_by_position at = variable_address (position vars at.number)
 
   abbrev pub affine_by_position : Function → Function
-  affine_by_position f = function_of (map (λ t. (address_by_position t.0, t.1)) (terms_of f)) f.constant
+  affine_by_position f =
+      function_of (map (λ t. (address_by_position t.0, t.1)) (terms_of f)) f.constant
 
   abbrev pub function_by_position : UserFunc → UserFunc
   function_by_position (Plain var) = Plain (address_by_position var)
@@ -36,7 +37,8 @@ module _ (vars : List ℕ) where
 
   abbrev pub objective_by_position : Objective → Objective
   objective_by_position objective.Feasibility = objective.Feasibility
-  objective_by_position (objective.Plain sense var) = objective.Plain sense (address_by_position var)
+  objective_by_position (objective.Plain sense var) =
+      objective.Plain sense (address_by_position var)
   objective_by_position (objective.Affine sense f) = objective.Affine sense (affine_by_position f)
 
   abbrev pub variable_by_position : GroupVar → GroupVar
@@ -54,7 +56,10 @@ group_by_position model g = record g {
 }
 
 abbrev pub row_by_position : ModelValue → Row → Row
-row_by_position model r = record r { id = position (map row_number model.rows) r.id; func = function_by_position (variable_numbers model) r.func }
+row_by_position model r = record r {
+  id = position (map row_number model.rows) r.id;
+  func = function_by_position (variable_numbers model) r.func;
+}
 
 abbrev pub groups_by_position : ModelValue → List Group
 groups_by_position model = map (group_by_position model) model.groups

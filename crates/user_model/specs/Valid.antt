@@ -1,6 +1,5 @@
 -- What every model is that edits lead to.
 use Rattle.std.specs.Prelude.{◌≡◌, ℕ, ◌+◌, ◌≤◌, Bool, true, false, ◌&&◌, cond, List, All, IsSome, find, count_by, length}
-use Rattle.std.specs.List.{list_any}
 use Rattle.std.specs.Option.{option_map_or}
 use Rattle.aff_core.specs.Address.{Address}
 use Rattle.set_core.specs.declared.set.Set.{Set}

@@ -9,7 +9,7 @@ use Rattle.numbered.specs.ExchangeLaws.{next, one_more, done}
 use Rattle.numbered.specs.GapLaws.{IsBefore, before_later, before_next, gap_length, none_before, run_ended, run_started}
 use Rattle.user_model.specs.declared.row.Row.{Row}
 use Rattle.user_model.specs.Edited.{row_number}
-use Rattle.model_catalog.specs.Index.{CountsBounds, recounted, variable_number}
+use Rattle.model_catalog.specs.Index.{recounted, variable_number}
 use Rattle.model_catalog.proofs.RowLoop.{counts_now, counts_after}
 use Rattle.model_catalog.proofs.index.exchange_in_one_pass.Goals as goal
 

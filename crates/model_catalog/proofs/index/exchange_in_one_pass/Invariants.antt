@@ -1,4 +1,4 @@
-use Rattle.std.proofs.Common.{◌≤◌, drop}
+use Rattle.std.proofs.Common.{drop}
 use Rattle.std.specs.Vec.{vec_capacity}
 use Rattle.numbered.specs.Gap.{with_gap}
 use Rattle.numbered.specs.GapLaws.{IsBefore}

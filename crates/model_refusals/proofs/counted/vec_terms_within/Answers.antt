@@ -2,7 +2,7 @@ use Rattle.std.proofs.Common.{map, arith, sym}
 use Rattle.user_model.specs.Edited.{affine}
 use Rattle.user_model.specs.Functions.{term_count}
 use Rattle.model_refusals.proofs.Counting.{known_count_at, refused_by, sum_left, within_more, within_refused}
-use Rattle.model_refusals.proofs.Walks.{none_past}
+use Rattle.map_laws.specs.PlaceLaws.{none_past}
 use Rattle.model_refusals.proofs.counted.vec_terms_within.Goals.{in-Some+in_ok-all, in_default}
 use Rattle.model_refusals.proofs.counted.vec_terms_within.Goals as goal
 

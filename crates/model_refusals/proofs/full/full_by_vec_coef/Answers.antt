@@ -8,7 +8,7 @@ use Rattle.user_model.specs.Refusals.{within}
 use Rattle.model_refusals.proofs.EditCounts.{first_none, first_some, output_there}
 use Rattle.model_refusals.proofs.Firsts.{first_full, first_later}
 use Rattle.model_refusals.proofs.Totals.{vec_coef_counts, vec_coef_part}
-use Rattle.model_refusals.proofs.Walks.{none_past}
+use Rattle.map_laws.specs.PlaceLaws.{none_past}
 use Rattle.model_refusals.proofs.full.full_by_vec_coef.Goals as goal
 
 pub returns-in_err-func : goal.returns-in_err-func

@@ -1,6 +1,7 @@
 use Rattle.std.proofs.Common.{arith, sym, ◌∙◌}
 use Rattle.user_model.specs.Refusals.{has_variable_named}
-use Rattle.model_refusals.proofs.Walks.{any_found, any_more, none_past}
+use Rattle.map_laws.specs.LoopLaws.{any_found, any_more}
+use Rattle.map_laws.specs.PlaceLaws.{none_past}
 use Rattle.model_refusals.proofs.names_known.has_known.Goals.{in-Some+else-has_variable, in_default}
 use Rattle.model_refusals.proofs.names_known.has_known.Goals as goal
 

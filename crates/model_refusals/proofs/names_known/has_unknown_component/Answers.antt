@@ -2,7 +2,8 @@ use Rattle.std.proofs.Common.{arith, map, not, sym, ap, ◌∙◌}
 use Rattle.std.specs.List.{list_any}
 use Rattle.user_model.specs.Functions.{names_of}
 use Rattle.user_model.specs.Refusals.{has_variable_named}
-use Rattle.model_refusals.proofs.Walks.{each_found, each_more, none_past}
+use Rattle.map_laws.specs.LoopLaws.{each_found, each_more}
+use Rattle.map_laws.specs.PlaceLaws.{none_past}
 use Rattle.model_refusals.proofs.names_known.has_unknown_component.Goals.{in-Some+else-has_unknown_term, in_default}
 use Rattle.model_refusals.proofs.names_known.has_unknown_component.Goals as goal
 

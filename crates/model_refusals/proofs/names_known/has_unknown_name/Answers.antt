@@ -1,6 +1,7 @@
 use Rattle.std.proofs.Common.{arith, not, sym, ap, ◌∙◌}
 use Rattle.user_model.specs.Refusals.{has_variable_named}
-use Rattle.model_refusals.proofs.Walks.{any_found, any_more, none_past}
+use Rattle.map_laws.specs.LoopLaws.{any_found, any_more}
+use Rattle.map_laws.specs.PlaceLaws.{none_past}
 use Rattle.model_refusals.proofs.names_known.has_unknown_name.Goals.{in-Some+else-not-has_variable, in_default}
 use Rattle.model_refusals.proofs.names_known.has_unknown_name.Goals as goal
 

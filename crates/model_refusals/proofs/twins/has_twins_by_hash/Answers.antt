@@ -1,7 +1,7 @@
 use Rattle.std.proofs.Common.{◌≡◌, ◌==◌, ◌||◌, arith, false, sym, ap, ◌∙◌}
 use Rattle.model_refusals.specs.Marked.{is_marked}
 use Rattle.model_refusals.proofs.SeenNames.{at_end, at_start, is_seen, new_by_mark, one_more, twin_found}
-use Rattle.model_refusals.proofs.Walks.{none_past}
+use Rattle.map_laws.specs.PlaceLaws.{none_past}
 use Rattle.model_refusals.proofs.twins.has_twins_by_hash.Goals.{in-Some+else-has, else-has-via-then-has+else-stands_before, else-has-via-else-has, in_default}
 use Rattle.model_refusals.proofs.twins.has_twins_by_hash.Goals as goal
 

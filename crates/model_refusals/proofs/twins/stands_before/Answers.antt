@@ -1,6 +1,7 @@
 use Rattle.std.proofs.Common.{arith, take, sym, ◌∙◌}
 use Rattle.std.specs.Str.{bytes_eq}
-use Rattle.model_refusals.proofs.Walks.{any_found, any_more, none_past, taken_at}
+use Rattle.map_laws.specs.LoopLaws.{any_found, any_more}
+use Rattle.map_laws.specs.PlaceLaws.{none_past, taken_at}
 use Rattle.model_refusals.proofs.twins.stands_before.Goals.{in-Some+else-eq, in_default}
 use Rattle.model_refusals.proofs.twins.stands_before.Goals as goal
 

@@ -1,7 +1,10 @@
-use Rattle.std.proofs.Common.{sym, subst, [], ◌∷◌, ◌++◌}
+use Rattle.std.proofs.Common.{◌≡◌, List, [], ◌∷◌, ◌++◌, sym, subst}
+use Rattle.named_aff.specs.declared.terms.NamedTerm.{NamedTerm}
 use Rattle.named_aff.specs.Distinct.{HasDistinctNames, one_distinct}
 use Rattle.named_aff.proofs.tests.terms_keep_their_order.Goals as goal
 
+first_distinct : (ts : List NamedTerm) (t : NamedTerm) → ts ≡ [] → HasDistinctNames (ts ++ t ∷ [])
+first_distinct ts t none = subst (λ us. HasDistinctNames (us ++ t ∷ [])) (sym none) (one_distinct t)
+
 pub push-requires : goal.push-requires
-push-requires g c =
-    subst (λ ts. HasDistinctNames (ts ++ c.in_ok-copy.field-0 ∷ [])) (sym c.new-terms.ensures) (one_distinct c.in_ok-copy.field-0)
+push-requires g c = first_distinct _ _ c.new-terms.ensures

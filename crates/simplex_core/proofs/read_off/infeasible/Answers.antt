@@ -1,4 +1,4 @@
-use Rattle.std.proofs.Common.{◌∙◌, ◌<◌, length, refl, subst}
+use Rattle.std.proofs.Common.{◌∙◌, ◌<◌, refl, subst}
 use Rattle.ratio_core.specs.Rational.{one_ℚ, ◌-ℚ◌}
 use Rattle.simplex_form.specs.Board.{multiplier}
 use Rattle.simplex_form.specs.Form.{first_cost}

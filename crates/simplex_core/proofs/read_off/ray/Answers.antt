@@ -1,4 +1,4 @@
-use Rattle.std.proofs.Common.{◌≡◌, ◌<◌, ap, arith, length, slice_index_or, slice_set, sym, ◌∙◌}
+use Rattle.std.proofs.Common.{◌≡◌, ◌<◌, ap, arith, length, slice_index_or, slice_set, ◌∙◌}
 use Rattle.std.proofs.lemmas.List.{length-set}
 use Rattle.ratio_core.specs.Rational.{neg_ℚ}
 use Rattle.simplex_form.specs.Board.{entry}

@@ -1,5 +1,5 @@
 use Rattle.std.proofs.Common.{◌+◌, ◌-◌}
-use Rattle.ratio_core.specs.Rational.{neg_ℚ, one_ℚ, ◌-ℚ◌}
+use Rattle.ratio_core.specs.Rational.{neg_ℚ}
 use Rattle.tableau_core.specs.Start.{IsListOf}
 use Rattle.tableau_core.specs.Tableau.{readings_of}
 use Rattle.simplex_core.proofs.read_off.second_multipliers.Given as goal

@@ -1,4 +1,4 @@
-use Rattle.std.proofs.Common.{ap, arith}
+use Rattle.std.proofs.Common.{ap}
 use Rattle.simplex_form.specs.Turns as bland
 use Rattle.simplex_laws.specs.StandingLaws.{above_not_zero}
 use Rattle.tableau_core.specs.Tableau.{readings_of}

@@ -1,4 +1,4 @@
-use Rattle.std.proofs.Common.{length, ap, arith, not, sym, ◌∙◌, ◌+◌}
+use Rattle.std.proofs.Common.{length, ap, arith, not, sym, ◌∙◌}
 use Rattle.ratio_core.specs.Rational.{neg_ℚ, one_ℚ, sum_fits}
 use Rattle.tableau_core.specs.Tableau.{readings_of}
 use Rattle.simplex_core.proofs.Choices.{passed_all, passed_failed, passed_more, passed_none}
