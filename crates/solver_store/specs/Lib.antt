@@ -1,0 +1,4 @@
+pub mod SolverFunction
+pub mod KeptFunction
+pub mod SolverModel
+pub mod KeptModel
