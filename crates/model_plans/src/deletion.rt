@@ -10,7 +10,7 @@ ghost use Rattle.model_laws.specs.ItemChanges.{edits_of};
 ghost use Rattle.user_model.specs.Functions.{func_mentions, has_term};
 ghost use Rattle.model_plans.specs.Plans.{Accepts, IsChange, Leads, gone};
 
-use crate::lists::only;
+use crate::made_lists::only;
 use crate::plan::Plan;
 use aff_core::{Address, Aff, Root, VecAff, has_address, without_address};
 use lists::Duplicate;

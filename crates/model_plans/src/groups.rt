@@ -6,7 +6,7 @@ ghost use Rattle.user_model.specs.Model.{variable_named};
 ghost use Rattle.user_model.specs.declared.edit.Edit.TheVariants.{AddGroup, FreeGroup, RenameVariable, Reset};
 ghost use Rattle.model_plans.specs.Plans.{Accepts, Leads, listed_variables};
 
-use crate::lists::only;
+use crate::made_lists::only;
 use crate::plan::Plan;
 use lists::Duplicate;
 use model_catalog::{Catalog, NameChange};

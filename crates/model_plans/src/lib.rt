@@ -3,8 +3,8 @@
 
 mod deletion;
 mod groups;
-mod lists;
 mod located;
+mod made_lists;
 mod objective;
 mod parts;
 mod plan;

@@ -5,7 +5,7 @@ ghost use Rattle.user_model.specs.Edited.{edited, group_number, row_number};
 ghost use Rattle.model_laws.specs.ItemChanges.{set_to};
 ghost use Rattle.model_plans.specs.Plans.{Accepts, HasParts, Leads};
 
-use crate::lists::only;
+use crate::made_lists::only;
 use crate::{deletion, groups, objective, rows};
 use model_catalog::{Catalog, Exchange, NameChange, NameChanges};
 use numbered::Change;

@@ -5,8 +5,8 @@ ghost use Rattle.user_model.specs.declared.edit.Edit.TheVariants.{AddRow, Coef, 
 ghost use Rattle.model_laws.specs.ItemChanges.{set_to};
 ghost use Rattle.model_plans.specs.Plans.{Accepts, HasAffineRow, HasOutput, HasParts, Leads, with_part};
 
-use crate::lists::with_component;
 use crate::located::{address_named, located};
+use crate::made_lists::with_component;
 use crate::parts::{Part, replaced};
 use crate::plan::Plan;
 use lists::Duplicate;

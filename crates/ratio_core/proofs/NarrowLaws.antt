@@ -24,6 +24,9 @@ quotient_below a g m e h = omega (arith, e, div-le_self a g, h)
 pub fits_along : (y z : ℤ) → y ≡ z → unsigned_abs z < 2 ^ 127 → unsigned_abs y < 2 ^ 127
 fits_along y z e h = subst (λ n. unsigned_abs n < 2 ^ 127) (sym e) h
 
+pub short_along : (y z : ℤ) → y ≡ z → unsigned_abs z < 2 ^ 126 → unsigned_abs y < 2 ^ 126
+short_along y z e h = subst (λ n. unsigned_abs n < 2 ^ 126) (sym e) h
+
 pub back_is : (z : ℤ) → unsigned_abs z < 2 ^ 127 → to_z w128 (of_z w128 z) ≡ z
 back_is z h = let range : SFits w128 z = omega (arith, ints, h) in to_z-of_z range
 

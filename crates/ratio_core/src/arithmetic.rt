@@ -1,5 +1,5 @@
 // Sums, products and quotients, exact or refused.
-ghost use Rattle.std.specs.Prelude.{◌≡◌, ◌≢◌, ◌<◌, ◌^◌, ◌↔◌, ◌+ℤ◌, OkIff, SomeIff, IsOkUnless, unsigned_abs};
+ghost use Rattle.std.specs.Prelude.{◌≡◌, ◌≢◌, ◌<◌, ◌^◌, ◌↔◌, ◌+ℤ◌, OkIff, IsOkUnless, unsigned_abs, IsTrue};
 ghost use Rattle.ratio_core.specs.Rational.{Fits, SumFits, abs_ℚ, inverse_ℚ, neg_ℚ, signed, zero_ℚ, ◌+ℚ◌, ◌-ℚ◌, ◌*ℚ◌, ◌/ℚ◌};
 
 use crate::divisor::{GREATEST_PART, greatest_common_divisor, product, quotient};
@@ -13,8 +13,8 @@ impl Ratio {
         ensures exact { OkIff result (SumFits self.now other.now) (self.now +ℚ other.now) }
         ensures err { IsOkUnless result RatioFault.Overflow }
     {
-        if self.over() == 1 && other.over() == 1 {
-            return self.add_whole(other);
+        if self.is_short_whole() && other.is_short_whole() {
+            return Ok(self.add_short(other));
         }
         if self.are_narrow(other) {
             return Ok(self.add_narrow(other));
@@ -22,17 +22,25 @@ impl Ratio {
         self.add_wide(other)
     }
 
+    // Whether it is a whole number, and so short that the sum of two such numbers fits.
     #[inline]
-    fn add_whole(&self, other: &Ratio) -> Result<Ratio, RatioFault>
+    fn is_short_whole(&self) -> bool
+        ensures whole { IsTrue result → self.now.den ≡ 1 }
+        ensures short { IsTrue result → unsigned_abs self.now.num < 2 ^ 126 }
+    {
+        self.over() == 1 && is_short(self.num())
+    }
+
+    #[inline]
+    fn add_short(&self, other: &Ratio) -> Ratio
         requires left { self.now.den ≡ 1 }
         requires right { other.now.den ≡ 1 }
-        ensures exact { OkIff result (SumFits self.now other.now) (self.now +ℚ other.now) }
-        ensures err { IsOkUnless result RatioFault.Overflow }
+        requires left_short { unsigned_abs self.now.num < 2 ^ 126 }
+        requires right_short { unsigned_abs other.now.num < 2 ^ 126 }
+        ensures fits { SumFits self.now other.now }
+        ensures value { result ≡ self.now +ℚ other.now }
     {
-        match whole_sum(self.num(), other.num()) {
-            Some(sum) => Ok(Ratio::keep(sum, 1)),
-            None => Err(RatioFault::Overflow),
-        }
+        Ratio::keep(sum_of_shorts(self.num(), other.num()), 1)
     }
 
     fn add_wide(&self, other: &Ratio) -> Result<Ratio, RatioFault>
@@ -113,14 +121,24 @@ impl Ratio {
     }
 }
 
+// 2^125.
+const SHORT: i128 = 42535295865117307932921825928971026432;
+
 #[inline]
-fn whole_sum(a: i128, b: i128) -> Option<i128>
-    ensures { SomeIff result (unsigned_abs (a +ℤ b) < 2 ^ 127) (a +ℤ b) }
+fn is_short(n: i128) -> bool
+    ensures { IsTrue result → unsigned_abs n < 2 ^ 126 }
 {
-    match a.checked_add(b) {
-        Some(sum) if sum > i128::MIN => Some(sum),
-        _ => None,
-    }
+    -SHORT <= n && n < SHORT
+}
+
+#[inline]
+fn sum_of_shorts(a: i128, b: i128) -> i128
+    requires left { unsigned_abs a < 2 ^ 126 }
+    requires right { unsigned_abs b < 2 ^ 126 }
+    ensures value { result ≡ a +ℤ b }
+    ensures fits { unsigned_abs result < 2 ^ 127 }
+{
+    a + b
 }
 
 // The sign and the size of the sum of two numbers, by theirs.

@@ -41,6 +41,7 @@ impl Ord for Ratio {
 
     ghost matches_eq = { rational_eq-is_eq };
 
+    #[inline(always)]
     fn cmp(&self, other: &Ratio) -> Ordering {
         if self.over() == other.over() {
             return cmp_numerators(self.num(), other.num());
@@ -50,7 +51,7 @@ impl Ord for Ratio {
 }
 
 impl Ratio {
-    #[inline]
+    #[inline(always)]
     fn cmp_by_products(&self, other: &Ratio) -> Ordering
         ensures { result ≡ rational_cmp self.now other.now }
     {
@@ -83,6 +84,14 @@ pub(crate) fn cmp_products(a: u128, b: u128, c: u128, d: u128) -> Ordering
     if a <= NARROW && b <= NARROW && c <= NARROW && d <= NARROW {
         return (a * b).cmp(&(c * d));
     }
+    cmp_long_products(a, b, c, d)
+}
+
+// The same, in 256 bits.
+#[inline(always)]
+fn cmp_long_products(a: u128, b: u128, c: u128, d: u128) -> Ordering
+    ensures { result ≡ nat_cmp (a * b) (c * d) }
+{
     let (left_low, left_high) = a.carrying_mul(b, 0);
     let (right_low, right_high) = c.carrying_mul(d, 0);
     if left_high == right_high {
