@@ -10,17 +10,17 @@ use Rattle.rational_laws.specs.Field.{*ℚ-zero, *ℚ_comm, one-*ℚ, zero-*ℚ}
 use Rattle.rational_laws.specs.Sums.{sum_by_ℚ, sum_by_ℚ-*ℚ_right, sum_by_ℚ-append, sum_by_ℚ_same, sum_by_ℚ_zero}
 use Rattle.aff_core.specs.Address.{Address, address_cmp}
 use Rattle.aff_core.specs.Function.{Function, coefficient, slope, variable}
-use Rattle.aff_core.specs.FunctionLists.{coefficients, evaluations, slopes, values}
-use Rattle.linear_laws.specs.ListLaws.{evaluations_slopes, evaluations_values, slope_variable}
+use Rattle.aff_core.specs.FunctionLists.{coefficients, evaluations, values}
+use Rattle.linear_laws.specs.ListLaws.{evaluations_values, slope_variable}
 use Rattle.linear_laws.specs.SlopeLaws.{coefficient_by_unit, mentioned, slope_over}
 use Rattle.linear_laws.specs.SupportLaws.{count, support, support_supports, supports_first, supports_second}
 use Rattle.linear_laws.specs.UnitLaws.{same_or_other, unit, unit_other}
 use Rattle.set_core.specs.declared.set.Set.{Set}
-use Rattle.set_core.specs.Membership.{In, recession}
+use Rattle.set_core.specs.Membership.{In}
 use Rattle.set_core.specs.Mirrored.{multiplied}
 use Rattle.set_core.specs.Shapes.{IsSetOf}
 use Rattle.set_laws.specs.Multiples.{multiplied_one}
-use Rattle.dual_laws.specs.Held.{AllHold, DualsHold, Held, Holds, IsHeld, adjoint, adjoint_of, pull}
+use Rattle.dual_laws.specs.Held.{AllHold, DualsHold, Held, Holds, adjoint, pull}
 use Rattle.dual_laws.specs.PullLaws.{adjoint-append, mentioned_in, pull_is, pull_over, variables_in}
 use Rattle.user_model.specs.declared.function.UserFunc.{UserFunc}
 use Rattle.user_model.specs.declared.function.UserFunc.TheVariants.{Plain, Affine, PlainVec, AffineVec}
@@ -31,7 +31,7 @@ use Rattle.user_model.specs.Model.{ModelValue, variables}
 use Rattle.user_model.specs.Valid.{IsValid, IsValidGroup, IsValidRow}
 use Rattle.certificates.specs.Points.{address_of, addresses_of, at_point, functions_of, functions_of_group, variables_at}
 use Rattle.certificates.specs.Feasible.{IsFeasible}
-use Rattle.certificates.specs.Duals.{AreDuals, HasDuals, adjoint_of_rows, group_with, groups_with, row_with, rows_with, with_duals}
+use Rattle.certificates.specs.Duals.{AreDuals, adjoint_of_rows, group_with, groups_with, row_with, rows_with, with_duals}
 use Rattle.certificates.specs.PointLaws.{each_once, spread_cases}
 
 -- ---- the groups' part of the adjoint
@@ -75,7 +75,7 @@ module _ (model : ModelValue) (rows : List (List Rational)) (vars : List Rationa
   pub weighs : IsValid model → (c : Address → Rational) → All (λ v. adjoint_of_rows model rows v +ℚ at_point model vars v ≡ c v) (addresses_of (variables model)) → (y : List Rational) (v : Address) → adjoint (with_duals model rows vars) v *ℚ at_point model y v ≡ c v *ℚ at_point model y v
   weighs valid c equations y v =
       spread_cases (adjoint (with_duals model rows vars) v *ℚ at_point model y v ≡ c v *ℚ at_point model y v)
-      (λ u. (count us u ≡ one_ℚ) × (adjoint_of_rows model rows u +ℚ at_point model vars u ≡ c u))
+      (λ u. (count (addresses_of (variables model)) u ≡ one_ℚ) × (adjoint_of_rows model rows u +ℚ at_point model vars u ≡ c u))
       (addresses_of (variables model)) y v (λ k d end. (each_once (variables model) valid.consistent.variables_rise k d end, equations k d end)) here elsewhere
     where
       here : (count (addresses_of (variables model)) v ≡ one_ℚ) × (adjoint_of_rows model rows v +ℚ at_point model vars v ≡ c v) → adjoint (with_duals model rows vars) v *ℚ at_point model y v ≡ c v *ℚ at_point model y v

@@ -4,7 +4,7 @@ use Rattle.ratio_core.specs.Rational.{Rational, zero_ℚ}
 use Rattle.aff_core.specs.Address.{Address}
 use Rattle.aff_core.specs.Function.{Function, coefficient, constant_function, slope, value_of, variable}
 use Rattle.aff_core.specs.declared.sense.Sense.{Sense}
-use Rattle.aff_core.specs.declared.sense.Sense.TheVariants.{Min, Max}
+use Rattle.aff_core.specs.declared.sense.Sense.TheVariants.{Min}
 use Rattle.linear_laws.specs.PointLaws.{spread}
 use Rattle.user_model.specs.declared.function.UserFunc.{UserFunc}
 use Rattle.user_model.specs.declared.function.UserFunc.TheVariants.{Plain, Affine, PlainVec, AffineVec}
