@@ -24,6 +24,7 @@ fn adds_and_changes_a_variable(rt: HostRuntime) -> Result<(), Fail> {
 fn removes_a_variable(rt: HostRuntime) -> Result<(), Fail> {
     let mut solver = SolverModel::new(rt.alloc());
     let i = solver.add_var(LeafVar::Free)?;
+    assert!(rt; solver.var(i).is_some());
     solver.remove_var(i);
     assert_eq!(rt; (solver.var(i), solver.calls()), (None, 2));
     Ok(())
@@ -33,6 +34,7 @@ fn removes_a_variable(rt: HostRuntime) -> Result<(), Fail> {
 fn changes_a_row(rt: HostRuntime) -> Result<(), Fail> {
     let mut solver = SolverModel::new(rt.alloc());
     let i = solver.add_row(zero_row(3))?;
+    assert!(rt; solver.row(i).is_some());
     let old = solver.change_row(i, zero_row(4));
     assert!(rt; matches!(old, LeafRow::Plain { var: 3, .. }));
     assert!(rt; matches!(solver.row(i), Some(LeafRow::Plain { var: 4, .. })));
@@ -44,6 +46,7 @@ fn changes_a_row(rt: HostRuntime) -> Result<(), Fail> {
 fn removes_a_row(rt: HostRuntime) -> Result<(), Fail> {
     let mut solver = SolverModel::new(rt.alloc());
     let i = solver.add_row(zero_row(3))?;
+    assert!(rt; solver.row(i).is_some());
     assert!(rt; matches!(solver.remove_row(i), LeafRow::Plain { var: 3, .. }));
     assert!(rt; solver.row(i).is_none() && solver.calls() == 2);
     Ok(())
