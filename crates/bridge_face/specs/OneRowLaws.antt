@@ -1,0 +1,126 @@
+-- The law of an edge that makes one row of a row, from what is said of the two rows alone.
+use Rattle.std.specs.Prelude.{◌≡◌, ◌*◌, ◌<◌, ◌≤◌, ℕ, zero, suc, true, false, List, [], ◌∷◌, ◌++◌, map, All, cond, length, None, refl}
+use Rattle.std.specs.List.{range_with_len, zip}
+use Rattle.std.proofs.Common.{sym, ap, subst, ◌∙◌, arith, true≢false}
+use Rattle.std.proofs.lemmas.List.Elements.{All-cons, All-head, All-nil}
+use Rattle.ratio_core.specs.Rational.{Rational, zero_ℚ, ◌≤ℚ◌, ◌+ℚ◌}
+use Rattle.rational_laws.specs.Field.{+ℚ-zero}
+use Rattle.rational_laws.specs.Order.{≤ℚ_from_≡}
+use Rattle.aff_core.specs.Address.{Address}
+use Rattle.aff_core.specs.Function.{Function, coefficient}
+use Rattle.dual_laws.specs.Held.{DualsHold, Held, Holds, IsHeld, adjoint, adjoint_of, gap, gap_of}
+use Rattle.set_core.specs.declared.set.Set.{Set}
+use Rattle.item_core.specs.declared.edge.Edge.{Edge}
+use Rattle.item_core.specs.declared.item.Body.{Body}
+use Rattle.item_core.specs.declared.item.Body.TheVariants as body
+use Rattle.item_core.specs.declared.item.Item.{Item}
+use Rattle.item_core.specs.declared.image.Image.{Image}
+use Rattle.item_core.specs.Edge.{family_of}
+use Rattle.item_core.specs.Item.{functions_of, is_group, set_of}
+use Rattle.item_core.specs.Valid.{IsValidItem}
+use Rattle.bridge_face.specs.BackOf.{back_of}
+use Rattle.bridge_face.specs.Images.{child_at, row_at}
+use Rattle.bridge_face.specs.Law.{Balances, CarriesDuals, CarriesValues, ChildDuals, EdgeLaw, GrowsBy, HasComponents, HoldsAt, IsCovered, IsValidWithin, LeadsTo, MentionsKnown, Miss, expressed, growth, held_body, held_children, held_item, is_objective, row_functions, row_set}
+
+-- a row is neither a group nor an objective
+pub record IsRow (b : Body) : Type 0 where
+  pub no_group : is_group b ≡ false
+  pub no_objective : is_objective b ≡ false
+
+-- a body with duals
+abbrev pub row_held : Body → List Rational → Held
+row_held b w = record { duals = w; functions = functions_of b; set = set_of b }
+
+-- what an edge owes that makes this row of the item
+pub record OneRow (edge : Edge) (item : Item) (child : Body) : Type 0 where
+  pub source : IsRow item.body
+  pub made : IsRow child
+  pub values : (one : Rational) (x : Address → Rational) → zero_ℚ ≤ℚ one → Holds one (row_held child []) x → Holds one (row_held item.body []) x
+  pub holds : (y : List Rational) → IsHeld (row_held child y) → IsHeld (row_held item.body (back_of edge item (y ∷ [])))
+  pub same : (y : List Rational) (v : Address) → adjoint_of (row_held item.body (back_of edge item (y ∷ []))) v ≡ adjoint_of (row_held child y) v
+  pub gaps : (y : List Rational) → gap_of (row_held child y) ≤ℚ gap_of (row_held item.body (back_of edge item (y ∷ [])))
+  pub valid : length item.at.positions < 38 → length (functions_of child) ≤ 32767 → IsValidItem (child_at item 0 child)
+  pub sizes : length (functions_of child) ≤ growth (family_of edge) * length (functions_of item.body)
+  pub leads : LeadsTo edge child
+  pub mentioned : (v : Address) → Miss (functions_of item.body) v → Miss (functions_of child) v
+
+abbrev record_of : List Rational → List Function → Set → Held
+record_of w fs set = record { duals = w; functions = fs; set = set }
+
+held_row : (bound : Rational) (b : Body) (w : List Rational) → IsRow b → held_body bound b w ≡ row_held b w
+held_row bound (body.Group set vars) w r = absurd (true≢false r.no_group)
+held_row bound (body.Free vars) w r = absurd (true≢false r.no_group)
+held_row bound (body.Plain var set) w r = refl
+held_row bound (body.Affine func set) w r = refl
+held_row bound (body.PlainVec vars set) w r = refl
+held_row bound (body.AffineVec funcs set) w r = refl
+held_row bound (body.PlainObj sense var) w r = absurd (true≢false r.no_objective)
+held_row bound (body.AffineObj sense func) w r = absurd (true≢false r.no_objective)
+
+source_held : (bound : Rational) (b : Body) (w : List Rational) (fs : List Function) → IsRow b
+    → record_of w (cond (is_group b) fs (row_functions b)) (row_set bound b) ≡ row_held b w
+source_held bound (body.Group set vars) w fs r = absurd (true≢false r.no_group)
+source_held bound (body.Free vars) w fs r = absurd (true≢false r.no_group)
+source_held bound (body.Plain var set) w fs r = refl
+source_held bound (body.Affine func set) w fs r = refl
+source_held bound (body.PlainVec vars set) w fs r = refl
+source_held bound (body.AffineVec funcs set) w fs r = refl
+source_held bound (body.PlainObj sense var) w fs r = absurd (true≢false r.no_objective)
+source_held bound (body.AffineObj sense func) w fs r = absurd (true≢false r.no_objective)
+
+module _ (edge : Edge) (item : Item) (child : Body) (o : OneRow edge item child) where
+  abbrev image : Image
+  image = row_at item child
+
+  source_is : (bound : Rational) (w : List Rational) → held_item bound item image w ≡ row_held item.body w
+  source_is bound w = source_held bound item.body w (map expressed image.exprs) o.source
+
+  values : CarriesValues item image
+  values = record {
+    holds = λ no one x h below.
+        subst (λ k. Holds one k x) (sym (source_is zero_ℚ []))
+        (o.values one x h (subst (λ k. Holds one k x) (held_row zero_ℚ child [] o.made) (All-head (HoldsAt one x) (child_at item 0 child) [] below)));
+    costs = λ one x h below. All-nil _;
+  }
+
+  module _ (bound : Rational) (y w : List Rational) (w_is : w ≡ back_of edge item (y ∷ [])) where
+    child_is : held_body bound child y ≡ row_held child y
+    child_is = held_row bound child y o.made
+
+    item_is : held_item bound item image w ≡ row_held item.body (back_of edge item (y ∷ []))
+    item_is = source_is bound w ∙ ap (row_held item.body) w_is
+
+    covered_by : IsHeld (held_body bound child y) → IsCovered bound item image (record { groups = []; rows = y ∷ []; objective = [] }) w
+    covered_by h = record {
+      holds = subst IsHeld (sym item_is) (o.holds y (subst IsHeld child_is h));
+      same = λ v.
+          ap (λ k. adjoint_of k v) item_is ∙ o.same y v ∙ sym (ap (λ k. adjoint_of k v) child_is)
+          ∙ sym (+ℚ-zero (adjoint_of (held_body bound child y) v));
+      gaps =
+          subst (λ q. q ≤ℚ gap_of (held_item bound item image w)) (ap gap_of (sym child_is) ∙ sym (+ℚ-zero (gap_of (held_body bound child y))))
+          (subst (λ k. gap_of (row_held child y) ≤ℚ gap_of k) (sym item_is) (o.gaps y));
+    }
+
+  covered : (bound : Rational) (gs ys os : List (List Rational)) (w : List Rational)
+      → Balances bound edge item image (record { groups = gs; rows = ys; objective = os }) w
+      → IsCovered bound item image (record { groups = gs; rows = ys; objective = os }) w
+  covered bound (g ∷ gs) ys os w b = absurd (omega (arith, b.each.groups))
+  covered bound [] [] os w b = absurd (omega (arith, b.each.rows))
+  covered bound [] (y ∷ (z ∷ ys)) os w b = absurd (omega (arith, b.each.rows))
+  covered bound [] (y ∷ []) (u ∷ us) w b = absurd (omega (arith, b.each.objective))
+  covered bound [] (y ∷ []) [] w b =
+      covered_by bound y w (b.carries.by_rule o.source.no_group o.source.no_objective) (All-head IsHeld (held_body bound child y) [] b.hold)
+
+  pub one_row_law : EdgeLaw edge item image
+  one_row_law = record {
+    values = values;
+    duals = λ bound duals w b. covered bound duals.groups duals.rows duals.objective w b;
+    positions = refl;
+    valid = λ room. All-cons IsValidWithin (child_at item 0 child) [] (o.valid room) (All-nil IsValidWithin);
+    sizes = All-cons (GrowsBy (growth (family_of edge)) item) (child_at item 0 child) [] o.sizes (All-nil (GrowsBy (growth (family_of edge)) item));
+    kinds = All-cons (λ child. LeadsTo edge child.body) (child_at item 0 child) [] o.leads (All-nil (λ child. LeadsTo edge child.body));
+    components = All-nil HasComponents;
+    mentioned = All-cons (MentionsKnown item image) (child_at item 0 child) [] (λ v m n. o.mentioned v m) (All-nil (MentionsKnown item image));
+    exprs = λ group. absurd (true≢false (sym group ∙ o.source.no_group));
+    expressed = λ v n. All-nil (λ f. coefficient f v ≡ zero_ℚ);
+  }

@@ -1,0 +1,10 @@
+//! Items that a bridge keeps.
+
+use item_core::{Edge, Item};
+
+/// An item with the edge that it was bridged by.
+#[derive(Debug, Drop)]
+pub struct KeptItem {
+    pub edge: Edge,
+    pub item: Item,
+}

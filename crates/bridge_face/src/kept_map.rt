@@ -1,0 +1,83 @@
+//! Items with their edges, by address.
+ghost use Rattle.std.specs.Prelude.{◌≡◌, IfErr, IfSome, IsSome, OnErr, OnOk};
+ghost use Rattle.std.specs.Option.{option_copied};
+ghost use Rattle.std.specs.FinMap as finite;
+ghost use Rattle.bridge_face.specs.State.{kept_item};
+
+use crate::KeptItem;
+use aff_core::Address;
+use item_core::Item;
+use lists::Memory;
+use std::alloc::Global;
+use std::collections::BTreeMap;
+use std::marker::Model;
+use std::mem;
+
+/// Items with their edges, by address.
+#[derive(Debug, Drop)]
+pub(crate) struct KeptMap {
+    items: BTreeMap<Address, KeptItem>,
+}
+
+impl Model for KeptMap {
+    ghost use Rattle.std.specs.FinMap as finite;
+    ghost use Rattle.bridge_face.specs.State.{Kept, kept_code};
+
+    ghost Value = { Kept };
+
+    ghost coded = { kept_code };
+
+    ghost view = { λ a. finite.from_entries a.items.entries };
+}
+
+impl KeptMap {
+    pub(crate) fn new(alloc: Global) -> KeptMap
+        ensures { result ≡ finite.empty }
+    {
+        KeptMap {
+            items: BTreeMap::new(alloc),
+        }
+    }
+
+    pub(crate) fn get(&self, at: &Address) -> Option<&KeptItem>
+        ensures { option_copied result ≡ finite.get self.now at.now }
+    {
+        self.items.get(at)
+    }
+
+    // Puts an item at an address, or hands it back.
+    pub(crate) fn put(&mut self, at: Address, kept: KeptItem) -> Result<(), (KeptItem, Memory)>
+        ensures ok { OnOk result (self.new ≡ finite.insert self.old at kept) }
+        ensures err { OnErr result (self.new ≡ self.old) }
+        ensures handed_back { IfErr result (λ e. e.0 ≡ kept) }
+    {
+        match self.items.insert(at, kept) {
+            Ok(before) => {
+                drop(before);
+                Ok(())
+            }
+            Err(full) => Err((full.value.1, Memory)),
+        }
+    }
+
+    // Puts an item in the place of the one at its address.
+    pub(crate) fn replace(&mut self, item: Item) -> Item
+        requires { IsSome (finite.get self.old item.at) }
+        ensures old { IfSome (finite.get self.old item.at) (λ kept. result ≡ kept.item) }
+        ensures new { IfSome (finite.get self.old item.at)
+            (λ kept. self.new ≡ finite.insert self.old item.at (kept_item item kept)) }
+    {
+        let at = item.at;
+        let Some(kept) = self.items.get_mut(&at) else {
+            unreachable!()
+        };
+        mem::replace(&mut kept.item, item)
+    }
+
+    pub(crate) fn take(&mut self, at: &Address) -> Option<KeptItem>
+        ensures item { result ≡ finite.get self.old at.now }
+        ensures gone { self.new ≡ finite.remove self.old at.now }
+    {
+        self.items.remove(at)
+    }
+}

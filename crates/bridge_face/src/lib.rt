@@ -1,0 +1,19 @@
+//! The interface of bridges: what each makes of an item, what it keeps, and what it carries back.
+#![tactic(auto)]
+
+mod boxed;
+mod bridge;
+mod child_rows;
+mod kept_item;
+mod kept_items;
+mod kept_map;
+mod one_row;
+mod rewriting;
+
+pub use aff_core::AffFault as ItemFault;
+pub use bridge::Bridge;
+pub use child_rows::ChildRows;
+pub use kept_item::KeptItem;
+pub use kept_items::KeptItems;
+pub use one_row::row_image;
+pub use rewriting::Rewriting;

@@ -1,0 +1,47 @@
+//! What a family of bridges does with one item.
+ghost use Rattle.std.specs.Prelude.{◌≡◌};
+ghost use Rattle.aff_core.specs.Arithmetic.{ExactWhere};
+ghost use Rattle.item_core.specs.Edge.{family_of};
+ghost use Rattle.bridge_face.specs.BackOf.{back_of, BackFits};
+ghost use Rattle.bridge_face.specs.ImageOf.{image_of, ImageFits};
+ghost use Rattle.bridge_face.specs.Law.{IsItemFor, IsLawful};
+ghost use Rattle.bridge_face.specs.State.{TakesDuals, child_rows_of};
+
+use crate::{ChildRows, ItemFault};
+use item_core::{Edge, Family, Image, Item};
+use ratio_core::Ratios;
+use std::alloc::Global;
+
+/// What a family of bridges does with one item: its image, the dual that is carried back, and the
+/// proof of its law. What it keeps, and what is asked of all bridges, is `KeptItems`.
+pub trait Rewriting: Drop {
+    ghost use Rattle.item_core.specs.declared.family.Family.{Family};
+
+    ghost family: { Family };
+
+    fn family() -> Family
+        ensures { result ≡ family };
+
+    /// The item's image by an edge of the family.
+    fn image(alloc: Global, edge: Edge, item: &Item) -> Result<Image, ItemFault>
+        requires own { family_of edge ≡ family }
+        requires suits { IsItemFor edge item.now }
+        ensures { ExactWhere result (ImageFits edge item.now)
+            (λ image. image ≡ image_of edge item.now) };
+
+    /// Where the item's child rows stand.
+    fn child_rows(edge: Edge, item: &Item) -> ChildRows
+        requires own { family_of edge ≡ family }
+        requires suits { IsItemFor edge item.now }
+        ensures { result ≡ child_rows_of edge item.now };
+
+    /// The dual of a row, by those of its child rows.
+    fn back(alloc: Global, edge: Edge, item: &Item, duals: &[Ratios]) -> Result<Ratios, ItemFault>
+        requires own { family_of edge ≡ family }
+        requires suits { IsItemFor edge item.now }
+        requires duals { TakesDuals (record { edge = edge; item = item.now }) duals.now }
+        ensures { ExactWhere result (BackFits edge item.now duals.now)
+            (λ dual. dual ≡ back_of edge item.now duals.now) };
+
+    ghost lawful: { IsLawful family };
+}

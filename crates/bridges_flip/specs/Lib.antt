@@ -1,0 +1,2 @@
+pub mod FlipLaws
+pub mod GreaterLessLaws

@@ -1,0 +1,249 @@
+//! The edges: one table, of which all that is said of edges is read.
+ghost use Rattle.std.specs.Prelude.{◌≡◌};
+ghost use Rattle.item_core.specs.Edge.{edge_entry};
+
+use crate::{Family, Kind};
+use bridge_graph::EdgeRow;
+
+/// A rewriting of items of one kind as items of other kinds, by its number.
+#[derive(Clone, Copy, Debug, PartialEq, Eq)]
+pub enum Edge {
+    E1,
+    E2,
+    E3,
+    E4,
+    E5,
+    E6,
+    E7,
+    E8,
+    E9,
+    E10,
+    E11,
+    E12,
+    E13,
+    E14,
+    E15,
+    E16,
+    E17,
+    E18,
+    E19,
+    E20,
+    E21,
+    E22,
+    E23,
+    E24,
+    E25,
+    E26,
+    E27,
+    E28,
+    E29,
+    E30,
+    E31,
+    E32,
+    E33,
+    E34,
+    E35,
+    E36,
+    E37,
+    E38,
+    E39,
+    E40,
+    E41,
+    E42,
+    E43,
+    E44,
+    E45,
+    E46,
+    E47,
+    E48,
+    E49,
+    E50,
+    E51,
+    E52,
+    E53,
+    E54,
+    E55,
+    E56,
+    E57,
+    E58,
+    E59,
+    E60,
+    E61,
+    E62,
+    E63,
+}
+
+/// How many edges there are.
+pub const EDGE_COUNT: usize = 63;
+
+/// The kinds of an edge's children: of its groups, then of its rows, then of its objective. One
+/// row for each component counts once.
+#[derive(Clone, Copy, Debug, PartialEq, Eq)]
+pub enum Children {
+    None,
+    One(Kind),
+    Two(Kind, Kind),
+    Three(Kind, Kind, Kind),
+}
+
+/// What is said of an edge: the family of bridges that it is of, and what it leads from and to.
+#[derive(Clone, Copy, Debug, PartialEq, Eq)]
+pub struct EdgeEntry {
+    pub edge: Edge,
+    pub family: Family,
+    pub source: Kind,
+    pub children: Children,
+}
+
+// The table of edges, a row an edge, in order: its family, and the kinds that it leads from and to.
+macro_rules! edges {
+    ($with:ident) => {
+        $with! {
+            E1 GreaterLess PlainLessThan => AffineGreaterThan;
+            E2 GreaterLess AffineLessThan => AffineGreaterThan;
+            E3 GreaterLess PlainGreaterThan => AffineLessThan;
+            E4 GreaterLess AffineGreaterThan => AffineLessThan;
+            E5 Vectorize AffineLessThan => VaffineNonpositives;
+            E6 Vectorize AffineGreaterThan => VaffineNonnegatives;
+            E7 Vectorize AffineEqualTo => VaffineZeros;
+            E8 Vectorize PlainLessThan => VaffineNonpositives;
+            E9 Vectorize PlainGreaterThan => VaffineNonnegatives;
+            E10 Vectorize PlainEqualTo => VaffineZeros;
+            E11 SplitSet AffineInterval => AffineGreaterThan AffineLessThan;
+            E12 SplitSet PlainInterval => PlainGreaterThan PlainLessThan;
+            E13 SplitSet AffineEqualTo => AffineGreaterThan AffineLessThan;
+            E14 SplitSet VaffineZeros => VaffineNonnegatives VaffineNonpositives;
+            E15 Scalarize VaffineZeros => AffineEqualTo;
+            E16 Scalarize VaffineNonnegatives => AffineGreaterThan;
+            E17 Scalarize VaffineNonpositives => AffineLessThan;
+            E18 Scalarize VplainZeros => PlainEqualTo;
+            E19 Scalarize VplainNonnegatives => PlainGreaterThan;
+            E20 Scalarize VplainNonpositives => PlainLessThan;
+            E21 OrthantFlip VaffineNonnegatives => VaffineNonpositives;
+            E22 OrthantFlip VaffineNonpositives => VaffineNonnegatives;
+            E23 ScalarFunctionize PlainLessThan => AffineLessThan;
+            E24 ScalarFunctionize PlainGreaterThan => AffineGreaterThan;
+            E25 ScalarFunctionize PlainEqualTo => AffineEqualTo;
+            E26 ScalarFunctionize PlainInterval => AffineInterval;
+            E27 VectorSlack VaffineNonnegatives => GroupNonnegatives VaffineZeros;
+            E28 VectorSlack VaffineNonpositives => GroupNonpositives VaffineZeros;
+            E29 VectorSlack VaffineNormInfinityCone => GroupNormInfinityCone VaffineZeros;
+            E30 VectorSlack VaffineNormOneCone => GroupNormOneCone VaffineZeros;
+            E31 ScalarSlack AffineLessThan => GroupLessThan AffineEqualTo;
+            E32 ScalarSlack AffineGreaterThan => GroupGreaterThan AffineEqualTo;
+            E33 ScalarSlack AffineInterval => GroupInterval AffineEqualTo;
+            E34 VectorFunctionize VplainZeros => VaffineZeros;
+            E35 VectorFunctionize VplainNonnegatives => VaffineNonnegatives;
+            E36 VectorFunctionize VplainNonpositives => VaffineNonpositives;
+            E37 VectorFunctionize VplainNormInfinityCone => VaffineNormInfinityCone;
+            E38 VectorFunctionize VplainNormOneCone => VaffineNormOneCone;
+            E39 DropReals VplainReals =>;
+            E40 DropReals VaffineReals =>;
+            E41 NormInfinity VaffineNormInfinityCone => VaffineNonnegatives;
+            E42 NormOne VaffineNormOneCone => GroupReals VaffineNonnegatives;
+            E43 FreeVar GroupReals => GroupNonnegatives;
+            E44 NonposVar GroupNonpositives => GroupNonnegatives;
+            E45 ZerosVar GroupZeros =>;
+            E46 VectorizeVar GroupLessThan => GroupNonpositives;
+            E47 VectorizeVar GroupGreaterThan => GroupNonnegatives;
+            E48 VectorizeVar GroupEqualTo => GroupZeros;
+            E49 Later GroupLessThan => Free PlainLessThan;
+            E50 Later GroupGreaterThan => Free PlainGreaterThan;
+            E51 Later GroupEqualTo => Free PlainEqualTo;
+            E52 Later GroupInterval => Free PlainInterval;
+            E53 Later GroupNonnegatives => Free VplainNonnegatives;
+            E54 Later GroupInterval => GroupReals AffineInterval;
+            E55 Later GroupNonnegatives => GroupReals VaffineNonnegatives;
+            E56 Later GroupNormInfinityCone => GroupReals VaffineNormInfinityCone;
+            E57 Later GroupNormOneCone => GroupReals VaffineNormOneCone;
+            E58 ObjFlip MinAffine => MaxAffine;
+            E59 ObjFlip MaxAffine => MinAffine;
+            E60 ObjFunctionize MinPlain => MinAffine;
+            E61 ObjFunctionize MaxPlain => MaxAffine;
+            E62 ObjSlack MinAffine => Free AffineGreaterThan MinPlain;
+            E63 ObjSlack MaxAffine => Free AffineLessThan MaxPlain;
+        }
+    };
+}
+
+macro_rules! children {
+    () => {
+        Children::None
+    };
+    ($first:ident) => {
+        Children::One(Kind::$first)
+    };
+    ($first:ident $second:ident) => {
+        Children::Two(Kind::$first, Kind::$second)
+    };
+    ($first:ident $second:ident $third:ident) => {
+        Children::Three(Kind::$first, Kind::$second, Kind::$third)
+    };
+}
+
+macro_rules! edge_entries {
+    ($($edge:ident $family:ident $source:ident => $($child:ident)*;)*) => {
+        [$(EdgeEntry {
+            edge: Edge::$edge,
+            family: Family::$family,
+            source: Kind::$source,
+            children: children!($($child)*),
+        }),*]
+    };
+}
+
+/// The entries of the edges, in order.
+pub const EDGES: [EdgeEntry; EDGE_COUNT] = edges!(edge_entries);
+
+macro_rules! graph_children {
+    () => {
+        [0, 0, 0]
+    };
+    ($first:ident) => {
+        [Kind::$first as u8, 0, 0]
+    };
+    ($first:ident $second:ident) => {
+        [Kind::$first as u8, Kind::$second as u8, 0]
+    };
+    ($first:ident $second:ident $third:ident) => {
+        [Kind::$first as u8, Kind::$second as u8, Kind::$third as u8]
+    };
+}
+
+macro_rules! count {
+    () => {
+        0
+    };
+    ($first:ident) => {
+        1
+    };
+    ($first:ident $second:ident) => {
+        2
+    };
+    ($first:ident $second:ident $third:ident) => {
+        3
+    };
+}
+
+macro_rules! graph_rows {
+    ($($edge:ident $family:ident $source:ident => $($child:ident)*;)*) => {
+        [$(EdgeRow {
+            source: Kind::$source as u8,
+            children: graph_children!($($child)*),
+            count: count!($($child)*),
+        }),*]
+    };
+}
+
+/// The edges as those of a graph, in which kinds are numbered from 0.
+pub const EDGE_ROWS: [EdgeRow; EDGE_COUNT] = edges!(graph_rows);
+
+impl Edge {
+    /// The edge's entry in the table.
+    #[tactic(auto, unfolding(crate::specs::Edge::edge_entry))]
+    pub fn entry(self) -> EdgeEntry
+        ensures { result ≡ edge_entry self }
+    {
+        EDGES[self as usize]
+    }
+}

@@ -1,0 +1,20 @@
+//! Items of models and of what bridges make of them: their kinds, the edges between kinds, and
+//! which of both may be used.
+#![tactic(auto)]
+
+mod edge;
+mod family;
+mod image;
+mod item;
+mod kind;
+mod table;
+#[cfg(test)]
+mod tests;
+
+pub use aff_core::Sense;
+pub use edge::{Children, EDGE_COUNT, EDGE_ROWS, EDGES, Edge, EdgeEntry};
+pub use family::{FAMILY_COUNT, Family};
+pub use image::{Expression, Expressions, Image};
+pub use item::{Body, Item, Items, kind_of};
+pub use kind::{FirstWord, KIND_COUNT, KINDS, Kind, KindTable, SecondWord};
+pub use table::{Table, Target};
