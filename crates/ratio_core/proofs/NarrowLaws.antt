@@ -27,9 +27,6 @@ fits_along y z e h = subst (λ n. unsigned_abs n < 2 ^ 127) (sym e) h
 pub short_along : (y z : ℤ) → y ≡ z → unsigned_abs z < 2 ^ 126 → unsigned_abs y < 2 ^ 126
 short_along y z e h = subst (λ n. unsigned_abs n < 2 ^ 126) (sym e) h
 
-pub back_is : (z : ℤ) → unsigned_abs z < 2 ^ 127 → to_z w128 (of_z w128 z) ≡ z
-back_is z h = let range : SFits w128 z = omega (arith, ints, h) in to_z-of_z range
-
 -- one test of all bits
 pub narrow_by_bits : (p q : Rational) (ps qs pd qd : ℕ) → ps ≡ unsigned_abs p.num → qs ≡ unsigned_abs q.num → pd ≡ p.den → qd ≡ q.den → leb (bit_or (bit_or ps qs) (bit_or pd qd)) 9223372036854775807 ≡ true → IsNarrow p × IsNarrow q
 narrow_by_bits p q ps qs pd qd ps_is qs_is pd_is qd_is test =
@@ -104,13 +101,6 @@ module _ (p q : Rational) (whole_p : p.den ≡ 1) (whole_q : q.den ≡ 1) (a b z
   whole_sum_value =
       narrow_sum_value p q 1 1 1 1 1 (sym whole_p) (sym whole_q) (sym (gcd-one 1)) refl refl a b z z a_is b_is products_lem refl
       (unsigned_abs z) 1 1 refl (sym (gcd-one (unsigned_abs z))) refl z v itself_lem v_is
-
-  pub whole_sum_refused : ¬ (unsigned_abs z < 2 ^ 127) → ¬ SumFits p q
-  whole_sum_refused h f =
-      sum_refused p q 1 1 1 1 1 (unsigned_abs p.num) (unsigned_abs q.num) (sym whole_p) (sym whole_q) (sym (gcd-one 1)) refl refl refl refl
-      (is_negative p.num) (is_negative q.num) (is_negative z) (unsigned_abs p.num * 1) (unsigned_abs q.num * 1) (unsigned_abs z) refl refl refl refl
-      (sum_lem p q 1 1 1 1 1 (sym whole_p) (sym whole_q) (sym (gcd-one 1)) refl refl a b z z a_is b_is products_lem refl (unsigned_abs z) 1 1 refl (sym (gcd-one (unsigned_abs z))) refl)
-      (omega (arith, h)) f
 
   module _ (fits_p : Fits p) (fits_q : Fits q) (fits : unsigned_abs z < 2 ^ 127) where
     pub whole_sum_stored : IsStored v 1

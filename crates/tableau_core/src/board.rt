@@ -21,6 +21,8 @@ pub struct Board {
     second: Row,
     // room for a pivot's new row
     step: Vec<Ratio>,
+    // and for the places where it isn't 0
+    places: Vec<usize>,
     basis: Vec<usize>,
 }
 
@@ -69,6 +71,7 @@ impl Board {
         let second = Row::new(alloc, second_prices(alloc, m, costs)?)?;
         let rows = start_rows(alloc, m, c, matrix, right)?;
         let step = zeros(alloc, c + m + 1)?;
+        let places = vec![in alloc; 0; c + m + 1]?;
         let basis = start_basis(alloc, m, c)?;
         Ok(Board {
             reals: c,
@@ -77,6 +80,7 @@ impl Board {
             first,
             second,
             step,
+            places,
             basis,
         })
     }
@@ -136,6 +140,7 @@ impl Board {
             &mut self.first,
             &mut self.second,
             &mut self.step,
+            &mut self.places,
             r,
             q,
         )?;

@@ -5,6 +5,7 @@ mod board;
 mod fault;
 mod kept;
 mod pivoting;
+mod places;
 mod row;
 mod rows;
 mod start;

@@ -1,0 +1,21 @@
+//! Where the pivot's new row has a number that isn't 0: a row is lowered there alone.
+ghost use Rattle.std.specs.Prelude.{◌≤◌, length, take};
+ghost use Rattle.tableau_core.specs.Places.{Covers};
+
+use ratio_core::Ratio;
+
+// Notes the places of a row's numbers that aren't 0, and tells how many there are.
+pub(crate) fn note_places(row: &[Ratio], places: &mut [usize]) -> usize
+    requires { length row.now ≤ length places.old }
+    ensures within { result ≤ length places.new }
+    ensures covers { Covers (take result places.new) row.now }
+{
+    let mut used = 0;
+    for j in 0..row.len() {
+        if !row[j].is_zero() {
+            places[used] = j;
+            used += 1;
+        }
+    }
+    used
+}
