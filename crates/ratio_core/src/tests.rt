@@ -1,4 +1,5 @@
-// What no clause says: that calls succeed, and that the definitions give the numbers that another program gives.
+// What no clause says: that calls succeed, and that the definitions give the numbers that another
+// program gives.
 mod quotients;
 mod table;
 

@@ -1,4 +1,5 @@
-//! The exact simplex: a form of equations is solved by Bland's rule in two phases, with an allowance of pivots.
+//! The exact simplex: a form of equations is solved by Bland's rule in two phases, with an
+//! allowance of pivots.
 #![tactic(auto)]
 
 mod answer;

@@ -10,8 +10,8 @@ use ratio_core::Ratio;
 use std::alloc::Global;
 use std::marker::Model;
 
-/// The rows and costs of a form at a basis: the real columns, an artificial column for each row, and the right sides. The
-/// first cost row is in use until `end_phase_one`.
+/// The rows and costs of a form at a basis: the real columns, an artificial column for each row,
+/// and the right sides. The first cost row is in use until `end_phase_one`.
 #[derive(Drop)]
 pub struct Board {
     reals: usize,
@@ -45,8 +45,8 @@ impl Board {
     ghost use Rattle.tableau_core.specs.Start.{form_of};
     ghost use Rattle.tableau_core.specs.Tableau.{IsBoardOf, IsPivoted, prices_of, readings_of, width};
 
-    /// The board at the artificial columns, of `m` rows and `c` real columns with the matrix row by row. Overflow where a sum
-    /// of a column's entries doesn't fit.
+    /// The board at the artificial columns, of `m` rows and `c` real columns with the matrix row by
+    /// row. Overflow where a sum of a column's entries doesn't fit.
     pub fn start(
         alloc: Global,
         m: usize,
@@ -124,7 +124,8 @@ impl Board {
         row[row.len() - 1]
     }
 
-    /// Column `q` enters in row `r`, or nothing changes where a quotient, product or difference doesn't fit.
+    /// Column `q` enters in row `r`, or nothing changes where a quotient, product or difference
+    /// doesn't fit.
     pub fn pivot(&mut self, r: usize, q: usize) -> Result<(), BoardOverflow>
         requires row { r < length self.old.rows }
         requires column { q < width self.old }

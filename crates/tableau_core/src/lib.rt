@@ -1,4 +1,5 @@
-//! The board of the simplex: what is read from the original columns at each basis, kept by row operations.
+//! The board of the simplex: what is read from the original columns at each basis, kept by row
+//! operations.
 #![tactic(auto)]
 
 mod board;

@@ -12,8 +12,8 @@ use crate::row::divide;
 use crate::rows::{prepare_rows, settle_rows};
 use ratio_core::Ratio;
 
-// Works out what a pivot makes of the rows and of the cost rows in use, and changes nothing that stands. The pivot's new row
-// goes into `step`.
+// Works out what a pivot makes of the rows and of the cost rows in use, and changes nothing that
+// stands. The pivot's new row goes into `step`.
 pub(crate) fn prepare_pivot(
     rows: &mut [Row],
     in_first: bool,
