@@ -1,9 +1,10 @@
 -- Sums and products of narrow fractions, as the code makes them.
-use Rattle.std.proofs.Common.{◌≡◌, ℕ, ◌*◌, ◌/◌, ◌^◌, ◌<◌, ◌≤◌, true, Bool, not, beq, ℤ, pos, ◌+ℤ◌, ◌*ℤ◌, unsigned_abs, refl, sym, ◌∙◌, ap, ap₂, subst, arith, div-le_self, div-one, bit_or, leb, SFits, of_z, to_z, to_z-of_z}
+use Rattle.std.proofs.Common.{◌≡◌, ℕ, ◌*◌, ◌/◌, ◌^◌, ◌<◌, ◌≤◌, true, Bool, not, ℤ, pos, ◌+ℤ◌, ◌*ℤ◌, unsigned_abs, refl, sym, ◌∙◌, ap, ap₂, subst, arith, div-le_self, div-one, bit_or, leb, SFits, of_z, to_z, to_z-of_z}
 use Rattle.std.proofs.lemmas.Int.{ints}
 use mir.Syntax.{w128}
 use Rattle.std.proofs.lemmas.Bool.{leb-true}
 use Rattle.std.proofs.lemmas.Nat.{le_or_l, le_or_r, mul-le}
+use Rattle.std.specs.Bool.{beq}
 use Rattle.std.specs.Int.{is_negative}
 use borrow.Author.Differences.{same_in}
 use Rattle.ratio_core.specs.Gcd.{gcd, gcd-one}
@@ -117,10 +118,10 @@ module _ (p q : Rational) (whole_p : p.den ≡ 1) (whole_q : q.den ≡ 1) (a b z
 -- ---- products of whole numbers: v is the product z after it went to bits and back
 
 module _ (p q : Rational) (whole_p : p.den ≡ 1) (whole_q : q.den ≡ 1) (a b z v : ℤ) (a_is : a ≡ p.num) (b_is : b ≡ q.num) (z_is : z ≡ a *ℤ b) (v_is : v ≡ z) where
-  sign : Bool
+  abbrev sign : Bool
   sign = not (beq (is_negative p.num) (is_negative q.num))
 
-  size : ℕ
+  abbrev size : ℕ
   size = unsigned_abs p.num * unsigned_abs q.num
 
   signed_lem : v ≡ signed sign size

@@ -22,6 +22,3 @@ pub use lists::Memory;
 
 /// A list of numbers.
 pub type Ratios = lists::Sequence<Ratio>;
-
-#[cfg(test)]
-mod tests;

@@ -14,6 +14,3 @@ pub use answer::{Basis, SolverAnswer};
 pub use fault::SolveFault;
 pub use form::{Flags, StdForm};
 pub use simplex::solve;
-
-#[cfg(test)]
-mod tests;

@@ -10,8 +10,6 @@ mod places;
 mod row;
 mod rows;
 mod start;
-#[cfg(test)]
-mod tests;
 
 pub use board::Board;
 pub use fault::{BoardFault, BoardOverflow};

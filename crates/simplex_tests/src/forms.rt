@@ -2,7 +2,7 @@
 ghost use Rattle.std.specs.Prelude.{◌↔◌, All, IsTrue};
 ghost use Rattle.ratio_core.specs.Rational.{zero_ℚ, ◌≤ℚ◌};
 
-use crate::{Basis, SolveFault, SolverAnswer, StdForm, solve};
+use simplex_core::{Basis, SolveFault, SolverAnswer, StdForm, solve};
 use lists::Sequence;
 use ratio_core::{Ratio, Ratios};
 use std::alloc::{AllocError, Global};
