@@ -5,6 +5,7 @@ ghost use Rattle.ratio_core.specs.Rational.{zero_ℚ};
 use crate::fault::{BoardFault, BoardOverflow};
 use crate::kept::{Row, zeros};
 use crate::pivoting::{prepare_pivot, settle_pivot};
+use crate::places::room_for_places;
 use crate::start::{first_prices, second_prices, start_basis, start_rows};
 use ratio_core::Ratio;
 use std::alloc::Global;
@@ -71,7 +72,7 @@ impl Board {
         let second = Row::new(alloc, second_prices(alloc, m, costs)?)?;
         let rows = start_rows(alloc, m, c, matrix, right)?;
         let step = zeros(alloc, c + m + 1)?;
-        let places = vec![in alloc; 0; c + m + 1]?;
+        let places = room_for_places(alloc, c + m + 1)?;
         let basis = start_basis(alloc, m, c)?;
         Ok(Board {
             reals: c,

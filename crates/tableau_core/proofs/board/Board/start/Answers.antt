@@ -1,5 +1,4 @@
 use Rattle.std.proofs.Common.{ap, length, refl, subst, sym, true, ◌+◌, ◌∙◌}
-use Rattle.std.proofs.lemmas.List.{length-replicate}
 use Rattle.std.proofs.lemmas.List.FromFn.{length-range_with_len}
 use Rattle.tableau_core.specs.declared.board.Board.TheInside.{Inside}
 use Rattle.tableau_core.specs.Start.{IsListOf, form_of}
@@ -37,7 +36,7 @@ pub invariant_of-result : goal.invariant_of-result
 invariant_of-result c =
     start-kept (form c) (made c) refl c.in_ok-rows.ensures.count c.in_ok-rows.ensures.wide c.in_ok-basis.ensures
     (first_listed c).long (second_listed c).long c.in_ok-step.ensures.long c.in_ok-step.ensures.all_fit
-    (ap length c.in_ok-places.ensures.items ∙ length-replicate (c.args.c + c.args.m + 1) 0)
+    c.in_ok-places.ensures
     (ap length c.in_ok-basis.ensures ∙ length-range_with_len c.args.c c.args.m)
 
 pub returns-clause-board : goal.returns-clause-board
