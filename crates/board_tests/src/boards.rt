@@ -2,7 +2,7 @@
 ghost use Rattle.std.specs.Prelude.{◌≡◌, ◌⊎◌, ◌<◌, IsTrue, length, IfOk, true};
 ghost use Rattle.ratio_core.specs.Rational.{zero_ℚ, ◌≤ℚ◌};
 
-use crate::{Board, BoardFault, BoardOverflow};
+use tableau_core::{Board, BoardFault, BoardOverflow};
 use ratio_core::Ratio;
 use std::alloc::Global;
 use std::test::Fail;

@@ -1,5 +1,6 @@
-// Orders of quotients p/a and q/b, of which many pass 128 bits. The answers were computed with Python's exact fractions.
-use crate::Ratio;
+// Orders of quotients p/a and q/b, of which many pass 128 bits. The answers were computed with
+// Python's exact fractions.
+use ratio_core::Ratio;
 use std::cmp::Ordering;
 use std::test::Fail;
 

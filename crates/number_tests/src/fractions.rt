@@ -1,8 +1,7 @@
-// What no clause says: that calls succeed, and that the definitions give the numbers that another program gives.
-mod quotients;
-mod table;
+// What no clause says: that calls succeed, and that the definitions give the numbers that another
+// program gives.
 
-use crate::{Memory, Ratio, RatioFault};
+use ratio_core::{Memory, Ratio, RatioFault};
 use std::cmp::Ordering;
 use std::test::Fail;
 

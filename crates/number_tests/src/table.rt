@@ -1,6 +1,6 @@
-// Sums, differences, products, quotients and comparisons at and around the limits. The answers were computed with
-// Python's exact fractions.
-use crate::{Memory, Ratio, RatioFault};
+// Sums, differences, products, quotients and comparisons at and around the limits. The answers were
+// computed with Python's exact fractions.
+use ratio_core::{Memory, Ratio, RatioFault};
 use std::cmp::Ordering;
 use std::test::Fail;
 

@@ -2,7 +2,7 @@
 ghost use Rattle.std.specs.Prelude.{◌↔◌, All, IsTrue};
 ghost use Rattle.ratio_core.specs.Rational.{zero_ℚ, ◌≤ℚ◌};
 
-use crate::{Basis, SolveFault, SolverAnswer, StdForm, solve};
+use simplex_core::{Basis, SolveFault, SolverAnswer, StdForm, solve};
 use lists::Sequence;
 use ratio_core::{Ratio, Ratios};
 use std::alloc::{AllocError, Global};
@@ -157,7 +157,8 @@ fn unbounded(rt: HostRuntime) -> Result<(), Fail> {
     Ok(())
 }
 
-// The sweep leaves an artificial column at 0 where a row says what another does, and else drives it out.
+// The sweep leaves an artificial column at 0 where a row says what another does, and else drives it
+// out.
 #[test]
 fn sweep(rt: HostRuntime) -> Result<(), Fail> {
     let alloc = rt.alloc();
@@ -193,8 +194,9 @@ fn overflow(rt: HostRuntime) -> Result<(), Fail> {
     Ok(())
 }
 
-// With K = 2^63 - 1 and s = 2 (K + 2) / 3 two pivots lead to a row of value s K in an artificial column, and to the first price
-// (3 - 2^127) / 3 of another. Its multiplier, 1 without that price, is 2^127 / 3.
+// With K = 2^63 - 1 and s = 2 (K + 2) / 3 two pivots lead to a row of value s K in an artificial
+// column, and to the first price (3 - 2^127) / 3 of another. Its multiplier, 1 without that price,
+// is 2^127 / 3.
 const STUCK: &str = "1 0  9223372036854775807 1  -9223372036854775807 6148914691236517205  -2/3 0";
 
 #[test]
