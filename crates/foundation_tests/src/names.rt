@@ -1,5 +1,7 @@
-use super::*;
-use lists::Duplicate;
+//! Names and their table.
+
+use lists::{Duplicate, Memory};
+use name_index::{Name, NameFault, NameTable, Names};
 use std::alloc::Global;
 use std::test::Fail;
 

@@ -1,6 +1,8 @@
-use super::*;
+//! Functions by the names of their variables.
+
 use lists::Duplicate;
 use name_index::Name;
+use named_aff::{NamedAff, NamedTerm, NamedTerms, NamedVec};
 use ratio_core::Ratio;
 use std::test::Fail;
 

@@ -1,15 +1,7 @@
-//! What the lines mean is shown by the stored run of `moi_edit`.
+//! Names in a script.
 
-use crate::name::{MOST_BYTES, Name, is_name};
-use crate::{Answer, Session};
+use edit_engine::name::{MOST_BYTES, Name, is_name};
 use std::test::Fail;
-
-#[test]
-fn a_line_is_answered(rt: HostRuntime) {
-    let mut session = Session::new(rt.alloc());
-    let answer = session.line(b"var x free");
-    assert!(rt; matches!(&answer, Answer::Printed(text) if text.as_bytes() == b"ok\n".as_slice()));
-}
 
 #[test]
 fn the_longest_name(rt: HostRuntime) -> Result<(), Fail> {

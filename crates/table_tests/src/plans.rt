@@ -1,61 +1,13 @@
-//! The tables in words, and what bridging costs by them.
+//! What bridging costs: the graph of 35 kinds and 63 edges, on five choices of supported kinds.
 ghost use Rattle.std.specs.Prelude.{IsTrue};
 ghost use Rattle.std.specs.List.{list_all};
 ghost use Rattle.bridge_graph.specs.Hypergraph.{is_edge_cost};
 
-mod words;
-
-use crate::{
-    Children, EDGE_COUNT, EDGE_ROWS, EDGES, EdgeEntry, KIND_COUNT, KINDS, Kind, Table, Target,
-};
 use bridge_graph::{Choice, Graph};
+use item_core::{EDGE_COUNT, EDGE_ROWS, KIND_COUNT, KINDS, Table, Target};
 use std::alloc::Global;
 use std::fmt::Write;
 use std::test::Fail;
-use words::{EDGES_IN_WORDS, KINDS_IN_WORDS};
-
-/// The edges, each on a line.
-fn edges_in_words(alloc: Global, entries: &[EdgeEntry]) -> Result<String, Fail> {
-    let mut text = String::new(alloc);
-    for entry in entries {
-        let number = entry.edge as usize + 1;
-        write!(text, "{number} {:?} {} to", entry.family, entry.source)?;
-        match entry.children {
-            Children::None => text.push('\n')?,
-            Children::One(first) => writeln!(text, " {first}")?,
-            Children::Two(first, second) => writeln!(text, " {first} {second}")?,
-            Children::Three(first, second, third) => writeln!(text, " {first} {second} {third}")?,
-        }
-    }
-    Ok(text)
-}
-
-/// The kinds, each on a line.
-fn kinds_in_words(alloc: Global, kinds: &[Kind]) -> Result<String, Fail> {
-    let mut text = String::new(alloc);
-    for kind in kinds {
-        write!(text, "{kind}")?;
-        if kind.is_native() {
-            text.push_str(" native")?;
-        }
-        text.push('\n')?;
-    }
-    Ok(text)
-}
-
-#[test]
-fn each_edge_in_words(rt: HostRuntime) -> Result<(), Fail> {
-    let text = edges_in_words(rt.alloc(), &EDGES)?;
-    assert_eq!(rt; text.as_str(), EDGES_IN_WORDS);
-    Ok(())
-}
-
-#[test]
-fn each_kind_in_words(rt: HostRuntime) -> Result<(), Fail> {
-    let text = kinds_in_words(rt.alloc(), &KINDS.kinds)?;
-    assert_eq!(rt; text.as_str(), KINDS_IN_WORDS);
-    Ok(())
-}
 
 const TARGETS: [Target; 5] = [
     Target::Standard,

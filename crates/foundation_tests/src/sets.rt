@@ -1,9 +1,9 @@
-//! One call of each.
+//! Sets, one call of each.
 ghost use Rattle.std.specs.Prelude.{◌≡◌};
 ghost use Rattle.set_core.specs.Shapes.{dimension_of};
 
-use crate::{Set, SetOverflow, SetType};
 use ratio_core::Ratio;
+use set_core::{Set, SetOverflow, SetType};
 use std::test::Fail;
 
 // The numbers from -1 to 1.

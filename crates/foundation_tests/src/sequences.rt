@@ -1,4 +1,6 @@
-use super::*;
+//! Lists.
+
+use lists::{Duplicate, Sequence};
 use std::test::Fail;
 
 #[test]

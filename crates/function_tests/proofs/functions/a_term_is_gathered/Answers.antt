@@ -1,5 +1,5 @@
 use Rattle.std.specs.List.{IsDistinct}
-use Rattle.aff_core.proofs.aff.tests.gathers_a_term.Goals as goal
+use Rattle.function_tests.proofs.functions.a_term_is_gathered.Goals as goal
 
 pub gather-requires : goal.gather-requires
 unfolding IsDistinct
