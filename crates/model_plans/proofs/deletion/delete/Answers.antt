@@ -9,7 +9,7 @@ use Rattle.model_laws.specs.Found.{found_passes}
 use Rattle.model_laws.specs.ItemChanges.{edits_of}
 use Rattle.model_laws.specs.Located.{named_stands}
 use Rattle.model_laws.specs.Needed.{needed_variable}
-use Rattle.model_laws.specs.Planned.{deletion_changes}
+use Rattle.model_laws.specs.DeletionChanges.{deletion_changes}
 use Rattle.model_laws.specs.Passed.{passed}
 use Rattle.model_plans.specs.Plans.{HasParts, IsChange, gone}
 use Rattle.model_plans.proofs.NamesListed.{none_listed}
