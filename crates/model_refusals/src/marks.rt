@@ -2,6 +2,7 @@
 ghost use Rattle.std.specs.Prelude.{◌≡◌, ℕ, ◌<◌, ◌||◌, ◌==◌, true};
 
 const WORDS: usize = 8192;
+
 const BITS: u64 = 524_288;
 
 /// Bits, of which each hash that was put has three.

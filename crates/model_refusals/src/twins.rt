@@ -60,7 +60,9 @@ pub(crate) fn hash_of(name: &Name) -> u64
 {
     let mut hash: u64 = 0;
     for byte in name.text().as_bytes() {
-        hash = hash.wrapping_add(u64::from(*byte)).wrapping_mul(11_400_714_819_323_198_485);
+        hash = hash
+            .wrapping_add(u64::from(*byte))
+            .wrapping_mul(11_400_714_819_323_198_485);
     }
     hash
 }

@@ -1,4 +1,3 @@
-use Rattle.std.proofs.Common.{◌%◌, ◌<◌}
 use Rattle.model_refusals.proofs.SeenNames.{AreNewBelow}
 use Rattle.model_refusals.proofs.twins.has_twins.Given as goal
 
