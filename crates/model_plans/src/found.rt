@@ -18,13 +18,14 @@ pub(crate) fn row<'a>(model: &'a Catalog, name: &Name) -> &'a Row
 }
 
 /// A variable's number, and the group that it stands in.
-pub(crate) struct Variable<'a> {
+#[derive(Clone, Copy)]
+pub(crate) struct VariableInGroup<'a> {
     pub number: u32,
     pub group: &'a Group,
 }
 
 /// The variable with a name.
-pub(crate) fn variable<'a>(model: &'a Catalog, name: &Name) -> Variable<'a>
+pub(crate) fn variable<'a>(model: &'a Catalog, name: &Name) -> VariableInGroup<'a>
     requires { IsSome (variable_named model.now.model name.now) }
     ensures number { variable_named model.now.model name.now ≡ Some result.number }
     ensures group { group_of model.now.model result.number ≡ Some result.group.now }
@@ -35,5 +36,5 @@ pub(crate) fn variable<'a>(model: &'a Catalog, name: &Name) -> Variable<'a>
     let Some(group) = model.group_of(number) else {
         unreachable!()
     };
-    Variable { number, group }
+    VariableInGroup { number, group }
 }

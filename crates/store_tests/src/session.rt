@@ -2,8 +2,8 @@
 ghost use Rattle.std.specs.Prelude.{◌≡◌, OnOk};
 
 use crate::edits::edit;
-use crate::shown::{show, show_copies, text};
 use crate::many;
+use crate::shown::{show, show_copies, text};
 use anyhow::Result;
 use model_store::UserModel;
 

@@ -36,9 +36,15 @@ pub fn names(alloc: Global, words: &mut Words<'_>) -> Result<Names> {
 
 pub fn set(words: &mut Words<'_>) -> Result<Set> {
     match word(words)? {
-        "below" => Ok(Set::LessThan { upper: number(words)? }),
-        "above" => Ok(Set::GreaterThan { lower: number(words)? }),
-        "equal" => Ok(Set::EqualTo { value: number(words)? }),
+        "below" => Ok(Set::LessThan {
+            upper: number(words)?,
+        }),
+        "above" => Ok(Set::GreaterThan {
+            lower: number(words)?,
+        }),
+        "equal" => Ok(Set::EqualTo {
+            value: number(words)?,
+        }),
         "within" => interval(words),
         word => vector_set(word, whole(words)?),
     }
