@@ -47,7 +47,7 @@ pub record OneRow (edge : Edge) (item : Item) (child : Body) : Type 0 where
 abbrev record_of : List Rational → List Function → Set → Held
 record_of w fs set = record { duals = w; functions = fs; set = set }
 
-held_row : (bound : Rational) (b : Body) (w : List Rational) → IsRow b → held_body bound b w ≡ row_held b w
+pub held_row : (bound : Rational) (b : Body) (w : List Rational) → IsRow b → held_body bound b w ≡ row_held b w
 held_row bound (body.Group set vars) w r = absurd (true≢false r.no_group)
 held_row bound (body.Free vars) w r = absurd (true≢false r.no_group)
 held_row bound (body.Plain var set) w r = refl
@@ -57,7 +57,7 @@ held_row bound (body.AffineVec funcs set) w r = refl
 held_row bound (body.PlainObj sense var) w r = absurd (true≢false r.no_objective)
 held_row bound (body.AffineObj sense func) w r = absurd (true≢false r.no_objective)
 
-source_held : (bound : Rational) (b : Body) (w : List Rational) (fs : List Function) → IsRow b
+pub source_held : (bound : Rational) (b : Body) (w : List Rational) (fs : List Function) → IsRow b
     → record_of w (cond (is_group b) fs (row_functions b)) (row_set bound b) ≡ row_held b w
 source_held bound (body.Group set vars) w fs r = absurd (true≢false r.no_group)
 source_held bound (body.Free vars) w fs r = absurd (true≢false r.no_group)
