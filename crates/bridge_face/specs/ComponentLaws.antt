@@ -3,15 +3,14 @@ use Rattle.std.specs.Prelude.{◌≡◌, ◌≢◌, ◌+◌, ◌<◌, ◌≤◌,
 use Rattle.std.specs.List.{range_with_len}
 use Rattle.std.specs.Bool.{Decides}
 use Rattle.std.proofs.Common.{sym, ap, ap₂, subst, ◌∙◌, arith, append_assoc, true≢false}
-use Rattle.std.proofs.lemmas.List.{append-nil, length-map}
 use Rattle.std.proofs.lemmas.List.Elements.{All-cons, All-contains_itself, All-head, All-map, All-nil, All-tail, All-weaker}
 use Rattle.std.proofs.lemmas.List.FromFn.{length-map-range_with_len}
 use Rattle.std.proofs.lemmas.Map.Made.{is_member-Decides}
 use Rattle.ratio_core.specs.Rational.{Rational, one_ℚ, zero_ℚ, ◌+ℚ◌, ◌*ℚ◌}
 use Rattle.rational_laws.specs.Dot.{dot}
 use Rattle.rational_laws.specs.DotLaws.{dot_behind, dot_zeros}
-use Rattle.rational_laws.specs.Field.{*ℚ-one, *ℚ-zero, +ℚ-zero}
-use Rattle.aff_core.specs.Address.{Address, address_cmp, address_eq, address_eq-Decides, child_of}
+use Rattle.rational_laws.specs.Field.{*ℚ-one, +ℚ-zero}
+use Rattle.aff_core.specs.Address.{Address, address_cmp, address_eq-Decides, child_of}
 use Rattle.aff_core.specs.Function.{Function, coefficient, variable}
 use Rattle.aff_core.specs.FunctionLaws.{coefficient-variable_other, coefficient-variable_same, constant-function_of}
 use Rattle.aff_core.specs.FunctionLists.{coefficients, constants}
@@ -19,6 +18,10 @@ use Rattle.aff_core.specs.KeyOrder.{address_order}
 use Rattle.item_core.specs.Valid.{NamesNothingBelow, below}
 use Rattle.bridge_face.specs.Images.{components}
 use Rattle.bridge_face.specs.Law.{Miss}
+
+-- variables as functions
+abbrev pub variables : List Address → List Function
+variables vs = map variable vs
 
 -- ---- addresses below an item's children
 
@@ -92,7 +95,7 @@ component_apart at n h i rest =
     (apart at n 0 rest (i ∷ []) (λ e. absurd (omega (arith, e, h))))
 
 pub components_apart : (at : Address) (n m : ℕ) → 1 ≤ n
-    → All (NamesNothingBelow (child_of at n)) (map variable (components (child_of at 0) m))
+    → All (NamesNothingBelow (child_of at n)) (variables (components (child_of at 0) m))
 components_apart at n m h =
     All-map (NamesNothingBelow (child_of at n)) variable (components (child_of at 0) m)
     (all_components (λ v. NamesNothingBelow (child_of at n) (variable v)) (child_of at 0) 0 m (component_apart at n h))
@@ -125,7 +128,7 @@ map_same_on f g (x ∷ xs) h =
     ap₂ ◌∷◌ (All-head (λ x. f x ≡ g x) x xs h) (map_same_on f g xs (All-tail (λ x. f x ≡ g x) x xs h))
 
 pub variables_missed : (vs : List Address) (v : Address)
-    → All (λ u. v ≢ u) vs → Miss (map variable vs) v
+    → All (λ u. v ≢ u) vs → Miss (variables vs) v
 variables_missed vs v h =
     All-map (λ f. coefficient f v ≡ zero_ℚ) variable vs
     (All-weaker (λ u. v ≢ u) (λ u. coefficient (variable u) v ≡ zero_ℚ) (λ u. coefficient-variable_other address_order u v) vs h)
@@ -142,7 +145,7 @@ components_apart_from at k j (suc n) h =
     (other_child at j k (λ e. absurd (omega (arith, e, h)))) (components_apart_from at k (j + 1) n (omega (arith, h)))
 
 weighed_from : (at : Address) (k n : ℕ) (w : List Rational) → length w ≡ n
-    → weighed w (map variable (components_from at k n)) (components_from at k n) ≡ w
+    → weighed w (variables (components_from at k n)) (components_from at k n) ≡ w
 weighed_from at k zero [] e = refl
 weighed_from at k zero (p ∷ w) e = absurd (omega (arith, e))
 weighed_from at k (suc n) [] e = absurd (omega (arith, e))
@@ -151,26 +154,26 @@ weighed_from at k (suc n) (p ∷ w) e =
     let others = components_from at (k + 1) n in
     ap₂ ◌∷◌
     (ap₂ (λ x y. p *ℚ x +ℚ y) (coefficient-variable_same address_order here)
-    (dot_missed w (map variable others) here (variables_missed others here (All-weaker (λ v. v ≢ here) (λ v. here ≢ v) (λ v d e. d (sym e)) others (components_apart_from at k (k + 1) n (omega arith)))))
+    (dot_missed w (variables others) here (variables_missed others here (All-weaker (λ v. v ≢ here) (λ v. here ≢ v) (λ v d e. d (sym e)) others (components_apart_from at k (k + 1) n (omega arith)))))
     ∙ +ℚ-zero (p *ℚ one_ℚ) ∙ *ℚ-one p)
-    (map_same_on (λ v. p *ℚ coefficient (variable here) v +ℚ dot w (coefficients (map variable others) v)) (λ v. dot w (coefficients (map variable others) v)) others
-    (All-weaker (λ v. v ≢ here) (λ v. p *ℚ coefficient (variable here) v +ℚ dot w (coefficients (map variable others) v) ≡ dot w (coefficients (map variable others) v))
-    (λ v d. ap (λ x. p *ℚ x +ℚ dot w (coefficients (map variable others) v)) (coefficient-variable_other address_order here v d) ∙ dot_behind p w (coefficients (map variable others) v)) others (components_apart_from at k (k + 1) n (omega arith)))
+    (map_same_on (λ v. p *ℚ coefficient (variable here) v +ℚ dot w (coefficients (variables others) v)) (λ v. dot w (coefficients (variables others) v)) others
+    (All-weaker (λ v. v ≢ here) (λ v. p *ℚ coefficient (variable here) v +ℚ dot w (coefficients (variables others) v) ≡ dot w (coefficients (variables others) v))
+    (λ v d. ap (λ x. p *ℚ x +ℚ dot w (coefficients (variables others) v)) (coefficient-variable_other address_order here v d) ∙ dot_behind p w (coefficients (variables others) v)) others (components_apart_from at k (k + 1) n (omega arith)))
     ∙ weighed_from at (k + 1) n w (omega (arith, e)))
 
 -- over the components alone the numbers are those of the list
 pub weighed_components : (at : Address) (n : ℕ) (w : List Rational) → length w ≡ n
-    → weighed w (map variable (components at n)) (components at n) ≡ w
+    → weighed w (variables (components at n)) (components at n) ≡ w
 weighed_components at n w e = weighed_from at 0 n w e
 
--- ---- variables as functions
+-- ---- constants
 
 pub constant-variable : (v : Address) → (variable {R = address_cmp} v).constant ≡ zero_ℚ
 unfolding variable
 constant-variable v = constant-function_of address_cmp ((v, one_ℚ) ∷ []) zero_ℚ
 
 pub constants-variables : (vs : List Address)
-    → All (λ q. q ≡ zero_ℚ) (constants (map (variable {R = address_cmp}) vs))
+    → All (λ q. q ≡ zero_ℚ) (constants (variables vs))
 constants-variables [] = All-nil (λ q. q ≡ zero_ℚ)
 constants-variables (v ∷ vs) =
-    All-cons (λ q. q ≡ zero_ℚ) (variable {R = address_cmp} v).constant (constants (map variable vs)) (constant-variable v) (constants-variables vs)
+    All-cons (λ q. q ≡ zero_ℚ) (variable {R = address_cmp} v).constant (constants (variables vs)) (constant-variable v) (constants-variables vs)

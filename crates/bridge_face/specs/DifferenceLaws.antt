@@ -1,6 +1,5 @@
 -- Lists of differences of functions: their numbers are the differences of the functions' numbers.
 use Rattle.std.specs.Prelude.{◌≡◌, List, [], ◌∷◌, map, All, length, refl}
-use Rattle.std.specs.List.{zip}
 use Rattle.std.proofs.Common.{sym, ap, ap₂, ◌∙◌, arith}
 use Rattle.std.proofs.lemmas.List.{length-map}
 use Rattle.std.proofs.lemmas.List.Elements.{All-cons, All-head, All-nil, All-tail}
@@ -13,14 +12,12 @@ use Rattle.aff_core.specs.Arithmetic.{sum_of}
 use Rattle.aff_core.specs.ArithmeticLaws.{coefficient-sum_of, constant-sum_of, is_sum}
 use Rattle.aff_core.specs.Function.{Function, coefficient, evaluated, negated}
 use Rattle.aff_core.specs.FunctionLaws.{coefficient-negated, constant-negated, is_negated}
-use Rattle.aff_core.specs.FunctionLists.{coefficients, constants, evaluations}
 use Rattle.aff_core.specs.KeyOrder.{address_order}
 use Rattle.item_core.specs.Valid.{NamesNothingBelow, below}
 use Rattle.linear_laws.specs.EvaluationLaws.{evaluated_sum}
 use Rattle.linear_laws.specs.ListLaws.{evaluated_negated}
 use Rattle.bridge_face.specs.ImageOf.{differences, sums}
 use Rattle.bridge_face.specs.Images.{difference}
-use Rattle.bridge_face.specs.Law.{Miss}
 
 -- ---- of two functions
 

@@ -1,16 +1,16 @@
 -- The law of an edge that makes a group and a row of a row, from what is said of numbers alone.
-use Rattle.std.specs.Prelude.{◌≡◌, ◌*◌, ◌≤◌, ◌<◌, ℕ, true, false, Contains, List, [], ◌∷◌, ◌++◌, map, All, cond, length, Option, None, refl}
+use Rattle.std.specs.Prelude.{◌≡◌, ◌*◌, ◌≤◌, ◌<◌, ℕ, Contains, List, [], ◌∷◌, map, All, length, None, refl}
 use Rattle.std.proofs.Common.{sym, ap, ap₂, subst, ◌∙◌, arith, true≢false}
 use Rattle.std.proofs.lemmas.List.{append-nil, length-append, length-map}
-use Rattle.std.proofs.lemmas.List.Elements.{All-contains, All-cons, All-head, All-nil, All-tail, All-weaker}
-use Rattle.ratio_core.specs.Rational.{Rational, neg_ℚ, zero_ℚ, ◌≤ℚ◌, ◌+ℚ◌, ◌-ℚ◌}
+use Rattle.std.proofs.lemmas.List.Elements.{All-contains, All-cons, All-head, All-nil, All-tail}
+use Rattle.ratio_core.specs.Rational.{Rational, neg_ℚ, zero_ℚ, ◌≤ℚ◌, ◌+ℚ◌}
 use Rattle.rational_laws.specs.Dot.{dot, negated}
 use Rattle.rational_laws.specs.Field.{+ℚ-zero, +ℚ_comm, neg_ℚ_unique, zero-+ℚ}
 use Rattle.aff_core.specs.Address.{Address, child_of}
 use Rattle.aff_core.specs.Function.{Function, coefficient, variable}
-use Rattle.aff_core.specs.FunctionLists.{coefficients, constants, evaluations}
+use Rattle.aff_core.specs.FunctionLists.{coefficients}
 use Rattle.linear_laws.specs.ListLaws.{evaluations_variables}
-use Rattle.dual_laws.specs.Held.{DualsHold, Held, Holds, IsHeld, adjoint, adjoint_of, gap, gap_of}
+use Rattle.dual_laws.specs.Held.{Holds, IsHeld, adjoint, adjoint_of, gap, gap_of}
 use Rattle.set_core.specs.Membership.{Dual, In, low_of}
 use Rattle.set_core.specs.Mirrored.{multiplied}
 use Rattle.set_core.specs.Shapes.{IsSetOf}
@@ -24,11 +24,11 @@ use Rattle.item_core.specs.Edge.{family_of}
 use Rattle.item_core.specs.Item.{functions_of, set_of}
 use Rattle.item_core.specs.Valid.{FitsItsFunction, IsValidItem, NamesNothingBelow}
 use Rattle.bridge_face.specs.BackOf.{back_of}
-use Rattle.bridge_face.specs.ComponentLaws.{contained_or_not, dot_missed, length-components, map_same_on, misses_inner, not_contained, variables_missed, weighed}
+use Rattle.bridge_face.specs.ComponentLaws.{contained_or_not, dot_missed, length-components, misses_inner, not_contained, variables, variables_missed, weighed}
 use Rattle.bridge_face.specs.GroupLaws.{child_group_valid, group_gap, group_numbers, has_components, held_of}
 use Rattle.bridge_face.specs.ImageOf.{group_at, inner}
 use Rattle.bridge_face.specs.Images.{child_at}
-use Rattle.bridge_face.specs.Law.{Balances, CarriesValues, ChildDuals, EdgeLaw, GrowsBy, HasComponents, HoldsAt, IsCovered, IsValidWithin, LeadsTo, MentionsKnown, Miss, expressed, growth, held_body, held_children, held_item, inner_of}
+use Rattle.bridge_face.specs.Law.{Balances, CarriesValues, ChildDuals, EdgeLaw, GrowsBy, HasComponents, HoldsAt, IsCovered, IsValidWithin, LeadsTo, MentionsKnown, Miss, expressed, growth, held_body, held_children, held_item}
 use Rattle.bridge_face.specs.OneRowLaws.{IsRow, held_row, row_held, source_held}
 
 -- the numbers that the row's duals leave for the components
@@ -126,13 +126,13 @@ module _
   module _
       (bound : Rational) (g y w : List Rational)
       (b : Balances bound edge item image (duals_of g y) w) where
-    group_held_by : IsHeld (held_of g (map variable ss) set)
-    group_held_by = All-head IsHeld (held_of g (map variable ss) set) (held_body bound child y ∷ []) b.hold
+    group_held_by : IsHeld (held_of g (variables ss) set)
+    group_held_by = All-head IsHeld (held_of g (variables ss) set) (held_body bound child y ∷ []) b.hold
 
     row_held_by : IsHeld (row_held child y)
     row_held_by =
         subst IsHeld (held_row bound child y o.made)
-        (All-head IsHeld (held_body bound child y) [] (All-tail IsHeld (held_of g (map variable ss) set) (held_body bound child y ∷ []) b.hold))
+        (All-head IsHeld (held_body bound child y) [] (All-tail IsHeld (held_of g (variables ss) set) (held_body bound child y ∷ []) b.hold))
 
     carried : w ≡ back_of edge item (y ∷ [])
     carried = b.carries.by_rule o.source.no_group o.source.no_objective
@@ -152,18 +152,18 @@ module _
 
     -- the item names no component, so that the group's sums are the row's, negated
     left_at : (v : Address) → Miss (functions_of item.body) v → Agree v
-        → dot g (coefficients (map variable ss) v) ≡ neg_ℚ (dot y (coefficients fs v))
+        → dot g (coefficients (variables ss) v) ≡ neg_ℚ (dot y (coefficients fs v))
     left_at v m e =
-        neg_ℚ_unique (dot y (coefficients fs v)) (dot g (coefficients (map variable ss) v))
-        (+ℚ_comm (dot y (coefficients fs v)) (dot g (coefficients (map variable ss) v))
-        ∙ sym (ap (λ q. dot g (coefficients (map variable ss) v) +ℚ q) (of_row v))
+        neg_ℚ_unique (dot y (coefficients fs v)) (dot g (coefficients (variables ss) v))
+        (+ℚ_comm (dot y (coefficients fs v)) (dot g (coefficients (variables ss) v))
+        ∙ sym (ap (λ q. dot g (coefficients (variables ss) v) +ℚ q) (of_row v))
         ∙ sym e ∙ ap (λ k. adjoint_of k v) (item_is bound w) ∙ dot_missed w (functions_of item.body) v m)
 
     misses : All (λ v. Miss (functions_of item.body) v) ss
     misses = misses_inner item.at n (functions_of item.body) (o.item_valid.others o.source.no_group)
 
     left_each : (vs : List Address) → All (λ v. Miss (functions_of item.body) v) vs → All Agree vs
-        → weighed g (map variable ss) vs ≡ left_over y fs vs
+        → weighed g (variables ss) vs ≡ left_over y fs vs
     left_each [] m e = refl
     left_each (v ∷ vs) m e =
         ap₂ ◌∷◌
@@ -182,7 +182,7 @@ module _
         (λ there. All-contains Agree ss v balance there)
         (λ absent.
         ap (λ k. adjoint_of k v) w_is ∙ o.same y row_held_by v absent
-        ∙ sym (ap₂ ◌+ℚ◌ (dot_missed g (map variable ss) v (variables_missed ss v (not_contained ss v absent))) (of_row v)
+        ∙ sym (ap₂ ◌+ℚ◌ (dot_missed g (variables ss) v (variables_missed ss v (not_contained ss v absent))) (of_row v)
         ∙ zero-+ℚ (dot y (coefficients fs v))))
 
     gaps_are : gap (held_children bound image (duals_of g y))

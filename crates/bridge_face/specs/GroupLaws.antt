@@ -1,7 +1,7 @@
 -- The law of an edge that makes a group of one child group, from what is said of numbers alone.
-use Rattle.std.specs.Prelude.{◌≡◌, ◌*◌, ◌≤◌, ◌<◌, ℕ, true, false, Contains, List, [], ◌∷◌, ◌++◌, map, All, cond, length, refl}
+use Rattle.std.specs.Prelude.{◌≡◌, ◌*◌, ◌≤◌, ◌<◌, ℕ, true, Contains, List, [], ◌∷◌, map, All, cond, length, refl}
 use Rattle.std.specs.List.{range_with_len}
-use Rattle.std.proofs.Common.{sym, ap, ap₂, subst, ◌∙◌, arith, true≢false}
+use Rattle.std.proofs.Common.{sym, ap, subst, ◌∙◌, arith, true≢false}
 use Rattle.std.proofs.lemmas.List.{append-nil, length-append, length-map}
 use Rattle.std.proofs.lemmas.List.Elements.{All-contains, All-cons, All-head, All-nil, All-weaker}
 use Rattle.ratio_core.specs.Rational.{Rational, zero_ℚ, ◌≤ℚ◌, ◌+ℚ◌, ◌-ℚ◌}
@@ -10,10 +10,10 @@ use Rattle.rational_laws.specs.DotLaws.{dot_zeros}
 use Rattle.rational_laws.specs.Field.{+ℚ-zero, neg_ℚ-zero}
 use Rattle.rational_laws.specs.Order.{≤ℚ_from_≡}
 use Rattle.aff_core.specs.Address.{Address, child_of}
-use Rattle.aff_core.specs.Function.{Function, coefficient, variable}
+use Rattle.aff_core.specs.Function.{Function, variable}
 use Rattle.aff_core.specs.FunctionLists.{coefficients, constants, evaluations}
 use Rattle.linear_laws.specs.ListLaws.{evaluations_variables}
-use Rattle.dual_laws.specs.Held.{DualsHold, Held, Holds, IsHeld, adjoint, adjoint_of, gap, gap_of}
+use Rattle.dual_laws.specs.Held.{Held, Holds, IsHeld, adjoint, adjoint_of, gap_of}
 use Rattle.set_core.specs.Membership.{Dual, In, low_of}
 use Rattle.set_core.specs.Mirrored.{multiplied}
 use Rattle.set_core.specs.Shapes.{IsSetOf}
@@ -23,16 +23,15 @@ use Rattle.item_core.specs.declared.item.Body.{Body}
 use Rattle.item_core.specs.declared.item.Body.TheVariants as body
 use Rattle.item_core.specs.declared.item.Body.TheVariants.{Group}
 use Rattle.item_core.specs.declared.item.Item.{Item}
-use Rattle.item_core.specs.declared.image.Expression.{Expression}
 use Rattle.item_core.specs.declared.image.Expression.TheVariants as expression
 use Rattle.item_core.specs.declared.image.Image.{Image}
 use Rattle.item_core.specs.Edge.{family_of}
-use Rattle.item_core.specs.Item.{functions_of, is_group, set_of, variables_of}
+use Rattle.item_core.specs.Item.{functions_of, is_group, set_of}
 use Rattle.item_core.specs.Valid.{IsValidItem}
-use Rattle.bridge_face.specs.ComponentLaws.{constants-variables, contained_or_not, dot_missed, length-components, map_same_on, not_contained, variables_missed, weighed, weighed_components}
+use Rattle.bridge_face.specs.ComponentLaws.{constants-variables, contained_or_not, dot_missed, length-components, map_same_on, not_contained, variables, variables_missed, weighed, weighed_components}
 use Rattle.bridge_face.specs.ImageOf.{bridged, group_at, inner}
 use Rattle.bridge_face.specs.Images.{group_by}
-use Rattle.bridge_face.specs.Law.{Balances, CarriesValues, ChildDuals, EdgeLaw, GrowsBy, HasComponents, HoldsAt, IsCovered, IsValidWithin, LeadsTo, MentionsKnown, Miss, expressed, growth, held_body, held_children, held_item, inner_of, row_functions, row_set}
+use Rattle.bridge_face.specs.Law.{Balances, CarriesValues, ChildDuals, EdgeLaw, GrowsBy, HasComponents, HoldsAt, IsCovered, IsValidWithin, LeadsTo, MentionsKnown, Miss, expressed, growth, held_children, held_item, inner_of, row_functions, row_set}
 
 -- ---- of groups
 
@@ -76,17 +75,17 @@ has_components item set n =
 
 -- its numbers are the sums at its variables
 pub group_numbers : (item : Item) (set : Set) (n : ℕ) (g : List Rational)
-    → IsHeld (held_of g (map variable (inner item n)) set)
-    → weighed g (map variable (inner item n)) (inner item n) ≡ g
+    → IsHeld (held_of g (variables (inner item n)) set)
+    → weighed g (variables (inner item n)) (inner item n) ≡ g
 group_numbers item set n g h =
     weighed_components (child_of item.at 0) n g
     (h.size ∙ length-map (inner item n) variable ∙ length-components (child_of item.at 0) n)
 
 -- the constants of its functions count nothing
 pub group_gap : (set : Set) (vs : List Address) (g : List Rational)
-    → gap_of (held_of g (map variable vs) set) ≡ low_of set g
+    → gap_of (held_of g (variables vs) set) ≡ low_of set g
 group_gap set vs g =
-    ap (λ q. low_of set g -ℚ q) (dot_zeros g (constants (map variable vs)) (constants-variables vs))
+    ap (λ q. low_of set g -ℚ q) (dot_zeros g (constants (variables vs)) (constants-variables vs))
     ∙ ap (λ q. low_of set g +ℚ q) neg_ℚ-zero ∙ +ℚ-zero (low_of set g)
 
 -- ---- one child group
@@ -146,8 +145,8 @@ module _
   module _
       (bound : Rational) (g w : List Rational)
       (b : Balances bound edge item image (duals_of g) w) where
-    group_held_by : IsHeld (held_of g (map variable ss) set)
-    group_held_by = All-head IsHeld (held_of g (map variable ss) set) [] b.hold
+    group_held_by : IsHeld (held_of g (variables ss) set)
+    group_held_by = All-head IsHeld (held_of g (variables ss) set) [] b.hold
 
     w_size : length w ≡ length fs
     w_size = b.carries.by_component o.source ∙ sym o.size
@@ -155,10 +154,10 @@ module _
     -- at the components the sums agree
     given : weighed w fs ss ≡ g
     given =
-        map_same_on (λ v. dot w (coefficients fs v)) (λ v. dot g (coefficients (map variable ss) v)) ss
+        map_same_on (λ v. dot w (coefficients fs v)) (λ v. dot g (coefficients (variables ss) v)) ss
         (All-weaker (λ v. adjoint_of (held_item bound item image w) v ≡ adjoint (held_children bound image (duals_of g)) v)
-        (λ v. dot w (coefficients fs v) ≡ dot g (coefficients (map variable ss) v))
-        (λ v e. sym (ap (λ k. adjoint_of k v) (item_is bound w)) ∙ e ∙ +ℚ-zero (dot g (coefficients (map variable ss) v))) ss
+        (λ v. dot w (coefficients fs v) ≡ dot g (coefficients (variables ss) v))
+        (λ v e. sym (ap (λ k. adjoint_of k v) (item_is bound w)) ∙ e ∙ +ℚ-zero (dot g (coefficients (variables ss) v))) ss
         (subst (All (λ v. adjoint_of (held_item bound item image w) v ≡ adjoint (held_children bound image (duals_of g)) v)) (append-nil ss) b.inner))
         ∙ group_numbers item set n g group_held_by
 
@@ -171,7 +170,7 @@ module _
         (λ there. All-contains (λ v. adjoint_of (held_item bound item image w) v ≡ adjoint (held_children bound image (duals_of g)) v) (inner_of image.groups) v b.inner (subst (λ us. Contains us v) (sym (append-nil ss)) there))
         (λ absent.
         ap (λ k. adjoint_of k v) (item_is bound w) ∙ dot_missed w fs v (o.named v absent)
-        ∙ sym (+ℚ-zero (dot g (coefficients (map variable ss) v)) ∙ dot_missed g (map variable ss) v (variables_missed ss v (not_contained ss v absent))))
+        ∙ sym (+ℚ-zero (dot g (coefficients (variables ss) v)) ∙ dot_missed g (variables ss) v (variables_missed ss v (not_contained ss v absent))))
 
     covered_by : IsCovered bound item image (duals_of g) w
     covered_by = record {
@@ -182,7 +181,7 @@ module _
       });
       same = same_at;
       gaps = ≤ℚ_from_≡ _ _
-          (+ℚ-zero (gap_of (held_of g (map variable ss) set)) ∙ group_gap set ss g ∙ ap (low_of set) (sym given)
+          (+ℚ-zero (gap_of (held_of g (variables ss) set)) ∙ group_gap set ss g ∙ ap (low_of set) (sym given)
           ∙ o.gaps w w_size dual_there ∙ sym (ap gap_of (item_is bound w)));
     }
 

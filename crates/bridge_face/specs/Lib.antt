@@ -9,3 +9,6 @@ pub mod DifferenceLaws
 pub mod GroupLaws
 pub mod OneRowLaws
 pub mod GroupAndRowLaws
+pub mod RowsLaws
+pub mod ObjectiveLaws
+pub mod FamilyLaws

@@ -1,14 +1,12 @@
 -- The law of an edge that makes one row of a row, from what is said of the two rows alone.
-use Rattle.std.specs.Prelude.{◌≡◌, ◌*◌, ◌<◌, ◌≤◌, ℕ, zero, suc, true, false, List, [], ◌∷◌, ◌++◌, map, All, cond, length, None, refl}
-use Rattle.std.specs.List.{range_with_len, zip}
+use Rattle.std.specs.Prelude.{◌≡◌, ◌*◌, ◌<◌, ◌≤◌, false, List, [], ◌∷◌, map, cond, length, refl}
 use Rattle.std.proofs.Common.{sym, ap, subst, ◌∙◌, arith, true≢false}
 use Rattle.std.proofs.lemmas.List.Elements.{All-cons, All-head, All-nil}
-use Rattle.ratio_core.specs.Rational.{Rational, zero_ℚ, ◌≤ℚ◌, ◌+ℚ◌}
+use Rattle.ratio_core.specs.Rational.{Rational, zero_ℚ, ◌≤ℚ◌}
 use Rattle.rational_laws.specs.Field.{+ℚ-zero}
-use Rattle.rational_laws.specs.Order.{≤ℚ_from_≡}
 use Rattle.aff_core.specs.Address.{Address}
 use Rattle.aff_core.specs.Function.{Function, coefficient}
-use Rattle.dual_laws.specs.Held.{DualsHold, Held, Holds, IsHeld, adjoint, adjoint_of, gap, gap_of}
+use Rattle.dual_laws.specs.Held.{Held, Holds, IsHeld, adjoint_of, gap_of}
 use Rattle.set_core.specs.declared.set.Set.{Set}
 use Rattle.item_core.specs.declared.edge.Edge.{Edge}
 use Rattle.item_core.specs.declared.item.Body.{Body}
@@ -20,7 +18,7 @@ use Rattle.item_core.specs.Item.{functions_of, is_group, set_of}
 use Rattle.item_core.specs.Valid.{IsValidItem}
 use Rattle.bridge_face.specs.BackOf.{back_of}
 use Rattle.bridge_face.specs.Images.{child_at, row_at}
-use Rattle.bridge_face.specs.Law.{Balances, CarriesDuals, CarriesValues, ChildDuals, EdgeLaw, GrowsBy, HasComponents, HoldsAt, IsCovered, IsValidWithin, LeadsTo, MentionsKnown, Miss, expressed, growth, held_body, held_children, held_item, is_objective, row_functions, row_set}
+use Rattle.bridge_face.specs.Law.{Balances, CarriesValues, EdgeLaw, GrowsBy, HasComponents, HoldsAt, IsCovered, IsValidWithin, LeadsTo, MentionsKnown, Miss, expressed, growth, held_body, held_item, is_objective, row_functions, row_set}
 
 -- a row is neither a group nor an objective
 pub record IsRow (b : Body) : Type 0 where
