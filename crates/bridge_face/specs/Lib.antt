@@ -9,6 +9,7 @@ pub mod DifferenceLaws
 pub mod GroupLaws
 pub mod OneRowLaws
 pub mod GroupAndRowLaws
+pub mod SameRowLaws
 pub mod RowsLaws
 pub mod ObjectiveLaws
 pub mod FamilyLaws
