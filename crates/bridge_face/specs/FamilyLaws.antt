@@ -1,12 +1,15 @@
 -- What the proofs of all families share.
-use Rattle.std.specs.Prelude.{◌≡◌, ℕ, slice_index_or, List, [], ◌∷◌, map, All, length, refl}
-use Rattle.std.proofs.Common.{sym, ap, ◌∙◌, arith}
+use Rattle.std.specs.Prelude.{◌≡◌, ◌==◌, Bool, true, false, ℕ, slice_index_or, List, [], ◌∷◌, map, All, length, refl}
+use Rattle.std.specs.Cmp.{unsigned_Decides}
+use Rattle.std.proofs.Common.{sym, ap, ◌∙◌, arith, true≢false}
+use denote.Enum.Declared.{tag_of}
 use Rattle.std.proofs.lemmas.List.{length-map}
 use Rattle.std.proofs.lemmas.List.Elements.{All-from_recursion, All-weaker}
 use Rattle.ratio_core.specs.Rational.{Rational}
 use Rattle.item_core.specs.declared.edge.Edge.{Edge}
 use Rattle.item_core.specs.declared.family.Family.{Family}
 use Rattle.item_core.specs.declared.family.Family.TheVariants as family
+use Rattle.item_core.specs.contracts.family.Family as contracts
 use Rattle.item_core.specs.declared.item.Item.{Item}
 use Rattle.item_core.specs.declared.image.Image.{Image}
 use Rattle.item_core.specs.Edge.{edge_entry, edges_of, family_of}
@@ -71,6 +74,16 @@ Lawful edge = (item : Item) → IsItemFor edge item → EdgeLaw edge item (image
 
 pub lawful_family : (f : Family) → ((edge : Edge) → family_of edge ≡ f → Lawful edge) → IsLawful f
 lawful_family f h = All-weaker (OfFamily f) Lawful h (edges_of f) (own_edges f)
+
+-- ---- an edge of one family is of no other
+
+abbrev pub family_number : Family → ℕ
+family_number f = tag_of contracts.the_type f
+
+pub of_another : {C : Type 0} {f g : Family} → f ≡ g
+    → (family_number f == family_number g) ≡ false → C
+of_another {C} {f} {g} e h =
+    absurd (true≢false (sym ((unsigned_Decides (family_number f) (family_number g)).1 (ap family_number e)) ∙ h))
 
 -- ---- where child rows stand, and their duals
 
