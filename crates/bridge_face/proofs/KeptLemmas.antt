@@ -1,6 +1,6 @@
 -- What is kept after each call is kept rightly.
 use Rattle.std.specs.Prelude.{◌≡◌, Bool, true, false, cond, Option, Some, None, Result, Ok, Err, OnOk, OnErr, IfSome, IsSomeAnd, refl}
-use Rattle.std.proofs.Common.{rules, sym, ◌∙◌, subst, ap}
+use Rattle.std.proofs.Common.{rules, sym, ◌∙◌, subst}
 use Rattle.std.specs.FinMap as finite
 use Rattle.std.specs.Ordering.{eq_by_cmp}
 use Rattle.aff_core.specs.Address.{Address, address_cmp, address_eq-Decides, address_total}

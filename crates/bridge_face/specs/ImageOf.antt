@@ -2,12 +2,12 @@
 --
 -- x is the item's variable, f its function, d the number of its components, S its set, and s the
 -- components of its child group.
-use Rattle.std.specs.Prelude.{◌≡◌, ℕ, ◌+◌, ◌*◌, ◌-◌, Bool, true, false, cond, List, [], ◌∷◌, ◌++◌, map, take, drop, fold, length, All, Option, None, Some}
+use Rattle.std.specs.Prelude.{ℕ, ◌+◌, Bool, true, false, cond, List, [], ◌∷◌, ◌++◌, map, take, drop, fold, length, All, None, Some}
 use Rattle.std.specs.List.{zip}
-use Rattle.ratio_core.specs.Rational.{Rational, zero_ℚ, neg_ℚ, SumFits}
+use Rattle.ratio_core.specs.Rational.{zero_ℚ, neg_ℚ, SumFits}
 use Rattle.aff_core.specs.Address.{Address, child_of}
 use Rattle.aff_core.specs.Arithmetic.{sum_of, PlusFits}
-use Rattle.aff_core.specs.Function.{Function, constant_function, negated, terms_of, variable}
+use Rattle.aff_core.specs.Function.{Function, constant_function, negated, variable}
 use Rattle.set_core.specs.Mirrored.{mirrored}
 use Rattle.set_core.specs.declared.set.Set.{Set}
 use Rattle.set_core.specs.declared.set.Set.TheVariants.{LessThan, GreaterThan, EqualTo, Reals, Zeros, Nonnegatives}

@@ -1,5 +1,5 @@
 -- What images are made of: children at their positions, and total readers of functions and sets.
-use Rattle.std.specs.Prelude.{◌≡◌, ℕ, ◌+◌, Bool, true, false, cond, List, [], ◌∷◌, map, length, Option, None, Some}
+use Rattle.std.specs.Prelude.{ℕ, cond, List, [], ◌∷◌, map, None}
 use Rattle.std.specs.List.{enumerate_from, range_with_len}
 use Rattle.ratio_core.specs.Rational.{Rational, zero_ℚ, ◌+ℚ◌}
 use Rattle.aff_core.specs.Address.{Address, child_of}
@@ -7,9 +7,9 @@ use Rattle.aff_core.specs.Arithmetic.{sum_of}
 use Rattle.aff_core.specs.Function.{Function, constant_function, negated}
 use Rattle.set_core.specs.Shapes.{is_scalar}
 use Rattle.set_core.specs.declared.set.Set.{Set}
-use Rattle.set_core.specs.declared.set.Set.TheVariants.{LessThan, GreaterThan, EqualTo, Interval, Reals, Zeros, Nonnegatives, Nonpositives}
+use Rattle.set_core.specs.declared.set.Set.TheVariants.{LessThan, GreaterThan, EqualTo, Interval, Zeros, Nonnegatives, Nonpositives}
 use Rattle.item_core.specs.declared.item.Body.{Body}
-use Rattle.item_core.specs.declared.item.Body.TheVariants.{Group, Free, Plain, Affine, PlainVec, AffineVec, PlainObj, AffineObj}
+use Rattle.item_core.specs.declared.item.Body.TheVariants.{Plain, Affine, PlainVec, AffineVec}
 use Rattle.item_core.specs.declared.item.Item.{Item}
 use Rattle.item_core.specs.declared.image.Image.{Image}
 use Rattle.item_core.specs.declared.image.Expression.{Expression}

@@ -130,13 +130,14 @@ held_children bound image duals =
     ++ (held bound image.rows duals.rows ++ held bound (listed image.objective) duals.objective)
 
 -- what is carried to the item: to a row by its edge's rule, and to an objective from the child
--- objective; a group has any numbers
+-- objective; a group has any numbers, one for each component
 pub record Carries
     (edge : Edge) (item : Item) (duals : ChildDuals) (w : List Rational) : Type 0 where
   pub by_rule :
       is_group item.body ≡ false → is_objective item.body ≡ false
       → w ≡ back_of edge item duals.rows
   pub by_objective : is_objective item.body ≡ true → w ≡ first_of duals.objective
+  pub by_component : is_group item.body ≡ true → length w ≡ length (functions_of item.body)
 
 -- what is asked of the children's duals
 pub record Balances

@@ -4,4 +4,12 @@ pub mod ImageOf
 pub mod Law
 pub mod State
 pub mod Sources
+pub mod ComponentLaws
+pub mod DifferenceLaws
+pub mod GroupLaws
 pub mod OneRowLaws
+pub mod GroupAndRowLaws
+pub mod SameRowLaws
+pub mod RowsLaws
+pub mod ObjectiveLaws
+pub mod FamilyLaws

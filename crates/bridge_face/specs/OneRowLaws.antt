@@ -1,14 +1,12 @@
 -- The law of an edge that makes one row of a row, from what is said of the two rows alone.
-use Rattle.std.specs.Prelude.{◌≡◌, ◌*◌, ◌<◌, ◌≤◌, ℕ, zero, suc, true, false, List, [], ◌∷◌, ◌++◌, map, All, cond, length, None, refl}
-use Rattle.std.specs.List.{range_with_len, zip}
+use Rattle.std.specs.Prelude.{◌≡◌, ◌*◌, ◌<◌, ◌≤◌, false, List, [], ◌∷◌, map, cond, length, refl}
 use Rattle.std.proofs.Common.{sym, ap, subst, ◌∙◌, arith, true≢false}
 use Rattle.std.proofs.lemmas.List.Elements.{All-cons, All-head, All-nil}
-use Rattle.ratio_core.specs.Rational.{Rational, zero_ℚ, ◌≤ℚ◌, ◌+ℚ◌}
+use Rattle.ratio_core.specs.Rational.{Rational, zero_ℚ, ◌≤ℚ◌}
 use Rattle.rational_laws.specs.Field.{+ℚ-zero}
-use Rattle.rational_laws.specs.Order.{≤ℚ_from_≡}
 use Rattle.aff_core.specs.Address.{Address}
 use Rattle.aff_core.specs.Function.{Function, coefficient}
-use Rattle.dual_laws.specs.Held.{DualsHold, Held, Holds, IsHeld, adjoint, adjoint_of, gap, gap_of}
+use Rattle.dual_laws.specs.Held.{Held, Holds, IsHeld, adjoint_of, gap_of}
 use Rattle.set_core.specs.declared.set.Set.{Set}
 use Rattle.item_core.specs.declared.edge.Edge.{Edge}
 use Rattle.item_core.specs.declared.item.Body.{Body}
@@ -20,7 +18,7 @@ use Rattle.item_core.specs.Item.{functions_of, is_group, set_of}
 use Rattle.item_core.specs.Valid.{IsValidItem}
 use Rattle.bridge_face.specs.BackOf.{back_of}
 use Rattle.bridge_face.specs.Images.{child_at, row_at}
-use Rattle.bridge_face.specs.Law.{Balances, CarriesDuals, CarriesValues, ChildDuals, EdgeLaw, GrowsBy, HasComponents, HoldsAt, IsCovered, IsValidWithin, LeadsTo, MentionsKnown, Miss, expressed, growth, held_body, held_children, held_item, is_objective, row_functions, row_set}
+use Rattle.bridge_face.specs.Law.{Balances, CarriesValues, EdgeLaw, GrowsBy, HasComponents, HoldsAt, IsCovered, IsValidWithin, LeadsTo, MentionsKnown, Miss, expressed, growth, held_body, held_item, is_objective, row_functions, row_set}
 
 -- a row is neither a group nor an objective
 pub record IsRow (b : Body) : Type 0 where
@@ -47,7 +45,7 @@ pub record OneRow (edge : Edge) (item : Item) (child : Body) : Type 0 where
 abbrev record_of : List Rational → List Function → Set → Held
 record_of w fs set = record { duals = w; functions = fs; set = set }
 
-held_row : (bound : Rational) (b : Body) (w : List Rational) → IsRow b → held_body bound b w ≡ row_held b w
+pub held_row : (bound : Rational) (b : Body) (w : List Rational) → IsRow b → held_body bound b w ≡ row_held b w
 held_row bound (body.Group set vars) w r = absurd (true≢false r.no_group)
 held_row bound (body.Free vars) w r = absurd (true≢false r.no_group)
 held_row bound (body.Plain var set) w r = refl
@@ -57,7 +55,7 @@ held_row bound (body.AffineVec funcs set) w r = refl
 held_row bound (body.PlainObj sense var) w r = absurd (true≢false r.no_objective)
 held_row bound (body.AffineObj sense func) w r = absurd (true≢false r.no_objective)
 
-source_held : (bound : Rational) (b : Body) (w : List Rational) (fs : List Function) → IsRow b
+pub source_held : (bound : Rational) (b : Body) (w : List Rational) (fs : List Function) → IsRow b
     → record_of w (cond (is_group b) fs (row_functions b)) (row_set bound b) ≡ row_held b w
 source_held bound (body.Group set vars) w fs r = absurd (true≢false r.no_group)
 source_held bound (body.Free vars) w fs r = absurd (true≢false r.no_group)

@@ -1,5 +1,5 @@
 -- Bodies by their kinds: from the kind to what the body is.
-use Rattle.std.specs.Prelude.{◌≡◌, ℕ, true, false, List, refl}
+use Rattle.std.specs.Prelude.{ℕ, List}
 use Rattle.std.proofs.Common.{true≢false, sym}
 use Rattle.ratio_core.specs.Rational.{Rational}
 use Rattle.aff_core.specs.Address.{Address}

@@ -4,16 +4,24 @@
 mod boxed;
 mod bridge;
 mod child_rows;
+mod groups;
+mod images;
+mod item_functions;
 mod kept_item;
 mod kept_items;
 mod kept_map;
 mod one_row;
 mod rewriting;
+mod rows;
 
 pub use aff_core::AffFault as ItemFault;
 pub use bridge::Bridge;
 pub use child_rows::ChildRows;
+pub use groups::{child_group, components};
+pub use images::{group_image, group_row_image, objective_image};
+pub use item_functions::{alone, component_count, functions, variables};
 pub use kept_item::KeptItem;
 pub use kept_items::KeptItems;
 pub use one_row::row_image;
 pub use rewriting::Rewriting;
+pub use rows::rows_image;

@@ -1,4 +1,4 @@
-use Rattle.std.proofs.Common.{sym, ap, ◌∙◌}
+use Rattle.std.proofs.Common.{ap, ◌∙◌}
 use Rattle.std.specs.FinMap as finite
 use Rattle.aff_core.specs.Address.{address_total, exact_addresses}
 use Rattle.map_laws.specs.MadeLaws.{one_given}

@@ -2,9 +2,8 @@ use Rattle.std.proofs.Common.{rules, ◌≡◌, None, Some, sym, ap, subst, ◌�
 use Rattle.std.specs.Prelude.{IfSome, IsSome, Option}
 use Rattle.std.specs.Option.{option_copied_mut}
 use Rattle.std.specs.FinMap as finite
-use Rattle.aff_core.specs.Address.{Address, address_cmp, address_total, exact_addresses}
+use Rattle.aff_core.specs.Address.{address_total, exact_addresses}
 use Rattle.map_laws.specs.MadeLaws.{get_made, one_given}
-use Rattle.item_core.specs.declared.item.Item.{Item}
 use Rattle.bridge_face.specs.declared.kept_item.KeptItem.{KeptItem}
 use Rattle.bridge_face.specs.State.{kept_item}
 use Rattle.bridge_face.proofs.kept_map.KeptMap.replace.Goals as goal

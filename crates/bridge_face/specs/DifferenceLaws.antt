@@ -1,0 +1,137 @@
+-- Lists of differences of functions: their numbers are the differences of the functions' numbers.
+use Rattle.std.specs.Prelude.{◌≡◌, List, [], ◌∷◌, map, All, length, refl}
+use Rattle.std.proofs.Common.{sym, ap, ap₂, ◌∙◌, arith}
+use Rattle.std.proofs.lemmas.List.{length-map}
+use Rattle.std.proofs.lemmas.List.Elements.{All-cons, All-head, All-nil, All-tail}
+use Rattle.ratio_core.specs.Rational.{Rational, neg_ℚ, zero_ℚ, ◌+ℚ◌, ◌-ℚ◌}
+use Rattle.rational_laws.specs.Dot.{dot, minus, plus}
+use Rattle.rational_laws.specs.DotLaws.{dot-minus}
+use Rattle.rational_laws.specs.Field.{neg_ℚ-zero, zero-+ℚ}
+use Rattle.aff_core.specs.Address.{Address}
+use Rattle.aff_core.specs.Arithmetic.{sum_of}
+use Rattle.aff_core.specs.ArithmeticLaws.{coefficient-sum_of, constant-sum_of, is_sum}
+use Rattle.aff_core.specs.Function.{Function, coefficient, evaluated, negated}
+use Rattle.aff_core.specs.FunctionLaws.{coefficient-negated, constant-negated, is_negated}
+use Rattle.aff_core.specs.KeyOrder.{address_order}
+use Rattle.item_core.specs.Valid.{NamesNothingBelow, below}
+use Rattle.linear_laws.specs.EvaluationLaws.{evaluated_sum}
+use Rattle.linear_laws.specs.ListLaws.{evaluated_negated}
+use Rattle.bridge_face.specs.ImageOf.{differences, sums}
+use Rattle.bridge_face.specs.Images.{difference}
+
+-- ---- of two functions
+
+pub coefficient-difference : (f g : Function) (v : Address)
+    → coefficient (difference f g) v ≡ coefficient f v -ℚ coefficient g v
+coefficient-difference f g v =
+    coefficient-sum_of address_order f (negated g) v
+    ∙ ap (λ q. coefficient f v +ℚ q) (coefficient-negated address_order g v)
+
+pub constant-difference : (f g : Function)
+    → (difference f g).constant ≡ f.constant -ℚ g.constant
+constant-difference f g =
+    constant-sum_of address_order f (negated g)
+    ∙ ap (λ q. f.constant +ℚ q) (constant-negated address_order g)
+
+pub evaluated-sum : (one : Rational) (f g : Function) (x : Address → Rational)
+    → evaluated one (sum_of f g) x ≡ evaluated one f x +ℚ evaluated one g x
+evaluated-sum one f g x =
+    evaluated_sum one f g (sum_of f g) (is_sum address_order f g (sum_of f g) refl) x
+
+pub evaluated-negated : (one : Rational) (f : Function) (x : Address → Rational)
+    → evaluated one (negated f) x ≡ neg_ℚ (evaluated one f x)
+evaluated-negated one f x =
+    evaluated_negated one f (negated f) (is_negated address_order f (negated f) refl) x
+
+pub evaluated-difference : (one : Rational) (f g : Function) (x : Address → Rational)
+    → evaluated one (difference f g) x ≡ evaluated one f x -ℚ evaluated one g x
+evaluated-difference one f g x =
+    evaluated-sum one f (negated g) x
+    ∙ ap (λ q. evaluated one f x +ℚ q) (evaluated-negated one g x)
+
+-- ---- of lists
+
+-- a number of functions that goes along with differences, or with sums
+abbrev pub Subtracts : (Function → Rational) → Type 0
+Subtracts g = (f h : Function) → g (difference f h) ≡ g f -ℚ g h
+
+abbrev pub Adds : (Function → Rational) → Type 0
+Adds g = (f h : Function) → g (sum_of f h) ≡ g f +ℚ g h
+
+pub numbers-differences : (g : Function → Rational) → Subtracts g → (fs hs : List Function)
+    → map g (differences fs hs) ≡ minus (map g fs) (map g hs)
+numbers-differences g s [] hs = refl
+numbers-differences g s (f ∷ fs) [] = refl
+numbers-differences g s (f ∷ fs) (h ∷ hs) = ap₂ ◌∷◌ (s f h) (numbers-differences g s fs hs)
+
+pub numbers-sums : (g : Function → Rational) → Adds g → (fs hs : List Function)
+    → map g (sums fs hs) ≡ plus (map g fs) (map g hs)
+numbers-sums g s [] hs = refl
+numbers-sums g s (f ∷ fs) [] = refl
+numbers-sums g s (f ∷ fs) (h ∷ hs) = ap₂ ◌∷◌ (s f h) (numbers-sums g s fs hs)
+
+-- what two functions have, and their difference with them
+pub all_differences : (P : Function → Type 0)
+    → ((f h : Function) → P f → P h → P (difference f h))
+    → (fs hs : List Function) → All P fs → All P hs → All P (differences fs hs)
+all_differences P s [] hs p q = All-nil P
+all_differences P s (f ∷ fs) [] p q = All-nil P
+all_differences P s (f ∷ fs) (h ∷ hs) p q =
+    All-cons P (difference f h) (differences fs hs) (s f h (All-head P f fs p) (All-head P h hs q)) (all_differences P s fs hs (All-tail P f fs p) (All-tail P h hs q))
+
+pub all_sums : (P : Function → Type 0)
+    → ((f h : Function) → P f → P h → P (sum_of f h))
+    → (fs hs : List Function) → All P fs → All P hs → All P (sums fs hs)
+all_sums P s [] hs p q = All-nil P
+all_sums P s (f ∷ fs) [] p q = All-nil P
+all_sums P s (f ∷ fs) (h ∷ hs) p q =
+    All-cons P (sum_of f h) (sums fs hs) (s f h (All-head P f fs p) (All-head P h hs q)) (all_sums P s fs hs (All-tail P f fs p) (All-tail P h hs q))
+
+pub length-differences : (fs hs : List Function) → length fs ≡ length hs
+    → length (differences fs hs) ≡ length fs
+length-differences [] hs e = refl
+length-differences (f ∷ fs) [] e = absurd (omega (arith, e))
+length-differences (f ∷ fs) (h ∷ hs) e =
+    let rest = length-differences fs hs (omega (arith, e)) in omega (arith, rest)
+
+pub length-sums : (fs hs : List Function) → length fs ≡ length hs
+    → length (sums fs hs) ≡ length fs
+length-sums [] hs e = refl
+length-sums (f ∷ fs) [] e = absurd (omega (arith, e))
+length-sums (f ∷ fs) (h ∷ hs) e =
+    let rest = length-sums fs hs (omega (arith, e)) in omega (arith, rest)
+
+-- ---- what neither names
+
+pub missed-difference : (v : Address) (f h : Function)
+    → coefficient f v ≡ zero_ℚ → coefficient h v ≡ zero_ℚ
+    → coefficient (difference f h) v ≡ zero_ℚ
+missed-difference v f h e k =
+    coefficient-difference f h v ∙ ap₂ (λ p q. p -ℚ q) e k ∙ zero-+ℚ (neg_ℚ zero_ℚ) ∙ neg_ℚ-zero
+
+pub missed-sum : (v : Address) (f h : Function)
+    → coefficient f v ≡ zero_ℚ → coefficient h v ≡ zero_ℚ
+    → coefficient (sum_of f h) v ≡ zero_ℚ
+missed-sum v f h e k =
+    coefficient-sum_of address_order f h v ∙ ap₂ ◌+ℚ◌ e k ∙ zero-+ℚ zero_ℚ
+
+pub missed-negated : (v : Address) (f : Function)
+    → coefficient f v ≡ zero_ℚ → coefficient (negated f) v ≡ zero_ℚ
+missed-negated v f e = coefficient-negated address_order f v ∙ ap neg_ℚ e ∙ neg_ℚ-zero
+
+pub unnamed-difference : (at : Address) (f h : Function)
+    → NamesNothingBelow at f → NamesNothingBelow at h → NamesNothingBelow at (difference f h)
+unnamed-difference at f h p q rest = missed-difference (below at rest) f h (p rest) (q rest)
+
+pub unnamed-sum : (at : Address) (f h : Function)
+    → NamesNothingBelow at f → NamesNothingBelow at h → NamesNothingBelow at (sum_of f h)
+unnamed-sum at f h p q rest = missed-sum (below at rest) f h (p rest) (q rest)
+
+-- ---- products with a list
+
+module _ (w : List Rational) (fs hs : List Function) (e : length fs ≡ length hs) where
+  pub dot-differences : (g : Function → Rational) → Subtracts g
+      → dot w (map g (differences fs hs)) ≡ dot w (map g fs) -ℚ dot w (map g hs)
+  dot-differences g s =
+      ap (dot w) (numbers-differences g s fs hs)
+      ∙ dot-minus w (map g fs) (map g hs) (length-map fs g ∙ e ∙ sym (length-map hs g))

@@ -1,0 +1,127 @@
+-- What the proofs of all families share.
+use Rattle.std.specs.Prelude.{◌≡◌, ◌==◌, Bool, true, false, ℕ, slice_index_or, List, [], ◌∷◌, map, All, length, refl}
+use Rattle.std.specs.Cmp.{unsigned_Decides}
+use Rattle.std.proofs.Common.{sym, ap, ◌∙◌, arith, true≢false}
+use denote.Enum.Declared.{tag_of}
+use Rattle.std.proofs.lemmas.List.{length-map}
+use Rattle.std.proofs.lemmas.List.Elements.{All-from_recursion, All-weaker}
+use Rattle.ratio_core.specs.Rational.{Rational}
+use Rattle.item_core.specs.declared.edge.Edge.{Edge}
+use Rattle.item_core.specs.declared.family.Family.{Family}
+use Rattle.item_core.specs.declared.family.Family.TheVariants as family
+use Rattle.item_core.specs.contracts.family.Family as contracts
+use Rattle.item_core.specs.declared.item.Item.{Item}
+use Rattle.item_core.specs.declared.image.Image.{Image}
+use Rattle.item_core.specs.Edge.{edge_entry, edges_of, family_of}
+use Rattle.item_core.specs.Item.{functions_of}
+use Rattle.bridge_face.specs.BackOf.{back_of}
+use Rattle.bridge_face.specs.ImageOf.{image_of}
+use Rattle.bridge_face.specs.Law.{EdgeLaw, IsItemFor, IsLawful}
+use Rattle.bridge_face.specs.State.{TakesDuals, child_rows_of}
+use Rattle.bridge_face.specs.declared.child_rows.ChildRows.{ChildRows}
+use Rattle.bridge_face.specs.declared.kept_item.KeptItem.{KeptItem}
+
+-- ---- from what is said of each edge of the family to the family's law
+
+abbrev OfFamily : Family → Edge → Type 0
+OfFamily f edge = family_of edge ≡ f
+
+own_edges : (f : Family) → All (OfFamily f) (edges_of f)
+unfolding edge_entry edges_of
+own_edges family.GreaterLess =
+    All-from_recursion (OfFamily family.GreaterLess) (edges_of family.GreaterLess) (refl, (refl, (refl, (refl, tt))))
+own_edges family.OrthantFlip =
+    All-from_recursion (OfFamily family.OrthantFlip) (edges_of family.OrthantFlip) (refl, (refl, tt))
+own_edges family.NonposVar =
+    All-from_recursion (OfFamily family.NonposVar) (edges_of family.NonposVar) (refl, tt)
+own_edges family.ObjFlip =
+    All-from_recursion (OfFamily family.ObjFlip) (edges_of family.ObjFlip) (refl, (refl, tt))
+own_edges family.Vectorize =
+    All-from_recursion (OfFamily family.Vectorize) (edges_of family.Vectorize) (refl, (refl, (refl, (refl, (refl, (refl, tt))))))
+own_edges family.Scalarize =
+    All-from_recursion (OfFamily family.Scalarize) (edges_of family.Scalarize) (refl, (refl, (refl, (refl, (refl, (refl, tt))))))
+own_edges family.ScalarFunctionize =
+    All-from_recursion (OfFamily family.ScalarFunctionize) (edges_of family.ScalarFunctionize) (refl, (refl, (refl, (refl, tt))))
+own_edges family.VectorFunctionize =
+    All-from_recursion (OfFamily family.VectorFunctionize) (edges_of family.VectorFunctionize) (refl, (refl, (refl, (refl, (refl, tt)))))
+own_edges family.VectorizeVar =
+    All-from_recursion (OfFamily family.VectorizeVar) (edges_of family.VectorizeVar) (refl, (refl, (refl, tt)))
+own_edges family.ObjFunctionize =
+    All-from_recursion (OfFamily family.ObjFunctionize) (edges_of family.ObjFunctionize) (refl, (refl, tt))
+own_edges family.SplitSet =
+    All-from_recursion (OfFamily family.SplitSet) (edges_of family.SplitSet) (refl, (refl, (refl, (refl, tt))))
+own_edges family.DropReals =
+    All-from_recursion (OfFamily family.DropReals) (edges_of family.DropReals) (refl, (refl, tt))
+own_edges family.ZerosVar =
+    All-from_recursion (OfFamily family.ZerosVar) (edges_of family.ZerosVar) (refl, tt)
+own_edges family.FreeVar =
+    All-from_recursion (OfFamily family.FreeVar) (edges_of family.FreeVar) (refl, tt)
+own_edges family.ScalarSlack =
+    All-from_recursion (OfFamily family.ScalarSlack) (edges_of family.ScalarSlack) (refl, (refl, (refl, tt)))
+own_edges family.VectorSlack =
+    All-from_recursion (OfFamily family.VectorSlack) (edges_of family.VectorSlack) (refl, (refl, (refl, (refl, tt))))
+own_edges family.Later =
+    All-from_recursion (OfFamily family.Later) (edges_of family.Later) (refl, (refl, (refl, (refl, (refl, (refl, (refl, (refl, (refl, tt)))))))))
+own_edges family.ObjSlack =
+    All-from_recursion (OfFamily family.ObjSlack) (edges_of family.ObjSlack) (refl, (refl, tt))
+own_edges family.NormInfinity =
+    All-from_recursion (OfFamily family.NormInfinity) (edges_of family.NormInfinity) (refl, tt)
+own_edges family.NormOne =
+    All-from_recursion (OfFamily family.NormOne) (edges_of family.NormOne) (refl, tt)
+
+abbrev pub Lawful : Edge → Type 0
+Lawful edge = (item : Item) → IsItemFor edge item → EdgeLaw edge item (image_of edge item)
+
+pub lawful_family : (f : Family) → ((edge : Edge) → family_of edge ≡ f → Lawful edge) → IsLawful f
+lawful_family f h = All-weaker (OfFamily f) Lawful h (edges_of f) (own_edges f)
+
+-- ---- an edge of one family is of no other
+
+abbrev pub family_number : Family → ℕ
+family_number f = tag_of contracts.the_type f
+
+pub of_another : {C : Type 0} {f g : Family} → f ≡ g
+    → (family_number f == family_number g) ≡ false → C
+of_another {C} {f} {g} e h =
+    absurd (true≢false (sym ((unsigned_Decides (family_number f) (family_number g)).1 (ap family_number e)) ∙ h))
+
+-- ---- where child rows stand, and their duals
+
+abbrev pub record_of : ℕ → ℕ → ChildRows
+record_of first count = record { first = first; count = count }
+
+abbrev pub kept_by : Edge → Item → KeptItem
+kept_by edge item = record { edge = edge; item = item }
+
+module _ (edge : Edge) (item : Item) (image : Image) (image_is : image_of edge item ≡ image) where
+  pub child_rows_are : record_of (length image.groups) (length image.rows) ≡ child_rows_of edge item
+  child_rows_are =
+      sym (ap (λ image. record_of (length image.groups) (length image.rows)) image_is)
+
+  pub dual_sizes : (ys : List (List Rational)) → TakesDuals (kept_by edge item) ys
+      → map length ys ≡ map (λ row. length (functions_of row.body)) image.rows
+  dual_sizes ys t =
+      t.sizes ∙ ap (λ image. map (λ row. length (functions_of row.body)) image.rows) image_is
+
+  -- one dual for each child row
+  pub dual_count : (ys : List (List Rational)) → TakesDuals (kept_by edge item) ys
+      → length ys ≡ length image.rows
+  dual_count ys t =
+      sym (length-map ys length) ∙ ap length (dual_sizes ys t)
+      ∙ length-map image.rows (λ row. length (functions_of row.body))
+
+-- ---- the only one of a list
+
+pub only : (ys : List (List Rational)) (y : List Rational)
+    → length ys ≡ 1 → y ≡ slice_index_or ys 0 y → ys ≡ y ∷ []
+only [] y one first = absurd (omega (arith, one))
+only (z ∷ []) y one first = ap (λ u. u ∷ []) (sym first)
+only (z ∷ (u ∷ us)) y one first = absurd (omega (arith, one))
+
+-- what is carried back of the only dual
+pub back_one : (edge : Edge) (item : Item) (back : List Rational → List Rational)
+    → ((y : List Rational) → back_of edge item (y ∷ []) ≡ back y)
+    → (ys : List (List Rational)) (y : List Rational)
+    → length ys ≡ 1 → y ≡ slice_index_or ys 0 y → back y ≡ back_of edge item ys
+back_one edge item back back_is ys y one first =
+    sym (back_is y) ∙ ap (back_of edge item) (sym (only ys y one first))

@@ -1,0 +1,124 @@
+-- The law of an edge that makes an objective of an objective with the same cost.
+use Rattle.std.specs.Prelude.{◌≡◌, ◌*◌, ◌≤◌, ◌<◌, true, false, List, [], ◌∷◌, map, cond, length, refl}
+use Rattle.std.proofs.Common.{sym, ap, subst, ◌∙◌, arith, true≢false}
+use Rattle.std.proofs.lemmas.List.Elements.{All-cons, All-head, All-nil}
+use Rattle.ratio_core.specs.Rational.{Rational, zero_ℚ, ◌≤ℚ◌}
+use Rattle.rational_laws.specs.Field.{+ℚ-zero}
+use Rattle.rational_laws.specs.Order.{≤ℚ_from_≡}
+use Rattle.aff_core.specs.Address.{Address}
+use Rattle.aff_core.specs.Function.{Function, coefficient, evaluated}
+use Rattle.dual_laws.specs.Held.{IsHeld, adjoint_of, gap_of}
+use Rattle.set_core.specs.declared.set.Set.TheVariants.{LessThan}
+use Rattle.item_core.specs.declared.edge.Edge.{Edge}
+use Rattle.item_core.specs.declared.item.Body.{Body}
+use Rattle.item_core.specs.declared.item.Body.TheVariants as body
+use Rattle.item_core.specs.declared.item.Item.{Item}
+use Rattle.item_core.specs.declared.image.Image.{Image}
+use Rattle.item_core.specs.Edge.{family_of}
+use Rattle.item_core.specs.Item.{functions_of, is_group}
+use Rattle.item_core.specs.Valid.{IsValidItem}
+use Rattle.bridge_face.specs.GroupLaws.{held_of}
+use Rattle.bridge_face.specs.ImageOf.{objective_at}
+use Rattle.bridge_face.specs.Images.{child_at}
+use Rattle.bridge_face.specs.Law.{Balances, CarriesValues, EdgeLaw, GrowsBy, HasComponents, IsCovered, IsValidWithin, LeadsTo, MentionsKnown, Miss, cost_of, expressed, growth, held_body, held_item, is_objective, row_functions, row_set}
+
+-- ---- objectives as rows
+
+pub objective_held : (bound : Rational) (b : Body) (w : List Rational) → is_objective b ≡ true
+    → held_body bound b w ≡ held_of w (cost_of b ∷ []) (LessThan bound)
+objective_held bound (body.Group set vars) w o = absurd (true≢false (sym o))
+objective_held bound (body.Free vars) w o = absurd (true≢false (sym o))
+objective_held bound (body.Plain var set) w o = absurd (true≢false (sym o))
+objective_held bound (body.Affine func set) w o = absurd (true≢false (sym o))
+objective_held bound (body.PlainVec vars set) w o = absurd (true≢false (sym o))
+objective_held bound (body.AffineVec funcs set) w o = absurd (true≢false (sym o))
+objective_held bound (body.PlainObj sense var) w o = refl
+objective_held bound (body.AffineObj sense func) w o = refl
+
+pub objective_stands : (b : Body) (fs : List Function) → is_objective b ≡ true
+    → cond (is_group b) fs (row_functions b) ≡ row_functions b
+objective_stands (body.Group set vars) fs o = absurd (true≢false (sym o))
+objective_stands (body.Free vars) fs o = absurd (true≢false (sym o))
+objective_stands (body.Plain var set) fs o = refl
+objective_stands (body.Affine func set) fs o = refl
+objective_stands (body.PlainVec vars set) fs o = refl
+objective_stands (body.AffineVec funcs set) fs o = refl
+objective_stands (body.PlainObj sense var) fs o = refl
+objective_stands (body.AffineObj sense func) fs o = refl
+
+pub objective_no_group : (b : Body) → is_objective b ≡ true → is_group b ≡ false
+objective_no_group (body.Group set vars) o = absurd (true≢false (sym o))
+objective_no_group (body.Free vars) o = absurd (true≢false (sym o))
+objective_no_group (body.Plain var set) o = refl
+objective_no_group (body.Affine func set) o = refl
+objective_no_group (body.PlainVec vars set) o = refl
+objective_no_group (body.AffineVec funcs set) o = refl
+objective_no_group (body.PlainObj sense var) o = refl
+objective_no_group (body.AffineObj sense func) o = refl
+
+-- ---- one objective
+
+-- what an edge owes that makes this objective of the item
+pub record OneObjective (edge : Edge) (item : Item) (child : Body) : Type 0 where
+  pub source : is_objective item.body ≡ true
+  pub made : is_objective child ≡ true
+  pub cost : cost_of child ≡ cost_of item.body
+  pub valid :
+      length item.at.positions < 38 → length (functions_of child) ≤ 32767
+      → IsValidItem (child_at item 0 child)
+  pub grows :
+      length (functions_of child) ≤ growth (family_of edge) * length (functions_of item.body)
+  pub leads : LeadsTo edge child
+  pub mentioned : (v : Address) → Miss (functions_of item.body) v → Miss (functions_of child) v
+
+module _ (edge : Edge) (item : Item) (child : Body) (o : OneObjective edge item child) where
+  abbrev image : Image
+  image = objective_at item child
+
+  item_is : (bound : Rational) (w : List Rational)
+      → held_item bound item image w ≡ held_body bound child w
+  item_is bound w =
+      ap (λ fs. held_of w fs (row_set bound item.body)) (objective_stands item.body (map expressed image.exprs) o.source)
+      ∙ objective_held bound item.body w o.source
+      ∙ ap (λ f. held_of w (f ∷ []) (LessThan bound)) (sym o.cost) ∙ sym (objective_held bound child w o.made)
+
+  values : CarriesValues item image
+  values = record {
+    holds = λ no. absurd (true≢false (sym o.source ∙ no));
+    costs = λ one x h below.
+        All-cons (λ child. evaluated one (cost_of item.body) x ≤ℚ evaluated one (cost_of child.body) x) (child_at item 0 child) [] (≤ℚ_from_≡ _ _ (ap (λ f. evaluated one f x) (sym o.cost))) (All-nil (λ child. evaluated one (cost_of item.body) x ≤ℚ evaluated one (cost_of child.body) x));
+  }
+
+  covered_by : (bound : Rational) (u w : List Rational) → w ≡ u → IsHeld (held_body bound child u)
+      → IsCovered bound item image (record { groups = []; rows = []; objective = u ∷ [] }) w
+  covered_by bound u w e h =
+      let same_held : held_item bound item image w ≡ held_body bound child u = item_is bound w ∙ ap (held_body bound child) e in
+      record {
+        holds = subst IsHeld (sym same_held) h;
+        same = λ v. ap (λ k. adjoint_of k v) same_held ∙ sym (+ℚ-zero (adjoint_of (held_body bound child u) v));
+        gaps = ≤ℚ_from_≡ _ _ (+ℚ-zero (gap_of (held_body bound child u)) ∙ sym (ap gap_of same_held));
+      }
+
+  covered : (bound : Rational) (gs ys os : List (List Rational)) (w : List Rational)
+      → Balances bound edge item image (record { groups = gs; rows = ys; objective = os }) w
+      → IsCovered bound item image (record { groups = gs; rows = ys; objective = os }) w
+  covered bound (g ∷ gs) ys os w b = absurd (omega (arith, b.each.groups))
+  covered bound [] (y ∷ ys) os w b = absurd (omega (arith, b.each.rows))
+  covered bound [] [] [] w b = absurd (omega (arith, b.each.objective))
+  covered bound [] [] (u ∷ (z ∷ us)) w b = absurd (omega (arith, b.each.objective))
+  covered bound [] [] (u ∷ []) w b =
+      covered_by bound u w (b.carries.by_objective o.source) (All-head IsHeld (held_body bound child u) [] b.hold)
+
+  pub one_objective_law : EdgeLaw edge item image
+  one_objective_law = record {
+    values = values;
+    duals = λ bound duals w b. covered bound duals.groups duals.rows duals.objective w b;
+    positions = refl;
+    valid = λ room. All-cons IsValidWithin (child_at item 0 child) [] (o.valid room) (All-nil IsValidWithin);
+    sizes = All-cons (GrowsBy (growth (family_of edge)) item) (child_at item 0 child) [] o.grows (All-nil (GrowsBy (growth (family_of edge)) item));
+    kinds = All-cons (λ child. LeadsTo edge child.body) (child_at item 0 child) [] o.leads (All-nil (λ child. LeadsTo edge child.body));
+    components = All-nil HasComponents;
+    mentioned = All-cons (MentionsKnown item image) (child_at item 0 child) [] (λ v m n. o.mentioned v m) (All-nil (MentionsKnown item image));
+    exprs = λ group. absurd (true≢false (sym group ∙ objective_no_group item.body o.source));
+    expressed = λ v n. All-nil (λ f. coefficient f v ≡ zero_ℚ);
+  }

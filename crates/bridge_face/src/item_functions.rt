@@ -1,0 +1,56 @@
+//! The functions of items.
+ghost use Rattle.std.specs.Prelude.{◌≡◌, ◌≤◌, [], ◌∷◌, IfOk, length, map};
+ghost use Rattle.aff_core.specs.Function.{variable};
+ghost use Rattle.item_core.specs.Item.{functions_of};
+
+use aff_core::{Address, Aff, VecAff};
+use item_core::Body;
+use lists::{Duplicate, Memory};
+use std::alloc::Global;
+
+/// Variables as functions.
+pub fn variables(alloc: Global, vars: &[Address]) -> Result<VecAff, Memory>
+    ensures { IfOk result (λ funcs. funcs ≡ map variable vars.now) }
+{
+    let mut funcs = Vec::with_capacity(alloc, vars.len())?;
+    for var in vars {
+        funcs.push(Aff::variable(alloc, var)?)?;
+    }
+    Ok(VecAff::from_vec(funcs))
+}
+
+/// The functions of an item's components.
+pub fn functions(alloc: Global, body: &Body) -> Result<VecAff, Memory>
+    ensures { IfOk result (λ funcs. funcs ≡ functions_of body.now) }
+{
+    match body {
+        Body::Group { vars, .. } | Body::Free { vars } | Body::PlainVec { vars, .. } => {
+            variables(alloc, vars.as_slice())
+        }
+        Body::Plain { var, .. } | Body::PlainObj { var, .. } => {
+            alone(alloc, Aff::variable(alloc, var)?)
+        }
+        Body::Affine { func, .. } | Body::AffineObj { func, .. } => alone(alloc, func.copy()?),
+        Body::AffineVec { func, .. } => func.copy(),
+    }
+}
+
+/// One function as a vector of one component.
+pub fn alone(alloc: Global, func: Aff) -> Result<VecAff, Memory>
+    ensures { IfOk result (λ funcs. funcs ≡ func ∷ []) }
+{
+    let mut funcs = Vec::with_capacity(alloc, 1)?;
+    funcs.push(func)?;
+    Ok(VecAff::from_vec(funcs))
+}
+
+/// The number of an item's components.
+pub fn component_count(body: &Body) -> usize
+    ensures { result ≡ length (functions_of body.now) }
+{
+    match body {
+        Body::Group { vars, .. } | Body::Free { vars } | Body::PlainVec { vars, .. } => vars.len(),
+        Body::AffineVec { func, .. } => func.len(),
+        _ => 1,
+    }
+}
