@@ -4,32 +4,39 @@ use aff_core::{Address, Aff, Root};
 use lists::{Duplicate, Memory};
 use ratio_core::Ratio;
 use std::alloc::Global;
-use std::test::Fail;
 
 fn x() -> Address {
     Address::root(Root::Variable, 0)
 }
 
-#[test]
-fn a_term_is_gathered(rt: HostRuntime) -> Result<(), Fail> {
-    let f = Aff::gather(rt.alloc(), &[(x(), Ratio::one())], Ratio::zero())?;
-    assert!(rt; f.term_count() == 1 && f.term(0) == Some((x(), Ratio::one())));
-    assert!(rt; f.mentions(&x()) && f.coef(&x()) == Ratio::one());
-    Ok(())
+fn gathers(alloc: Global, at: Address) -> Result<bool, Memory> {
+    let f = Aff::gather(alloc, &[(at, Ratio::one())], Ratio::zero())?;
+    Ok(f.term_count() == 1 && f.mentions(&at) && f.coef(&at) == Ratio::one())
 }
 
 #[test]
-fn a_variable_is_copied_and_negated(rt: HostRuntime) -> Result<(), Fail> {
-    let f = Aff::variable(rt.alloc(), &x())?;
-    assert!(rt; f.copy()? == f && f.neg()?.coef(&x()) == Ratio::one().neg());
-    Ok(())
+fn a_term_is_gathered(rt: HostRuntime) {
+    assert!(rt; gathers(rt.alloc(), x()) == Ok(true));
+}
+
+fn copies(alloc: Global) -> Result<bool, Memory> {
+    let f = Aff::variable(alloc, &x())?;
+    Ok(f.copy()? == f)
 }
 
 #[test]
-fn a_constant_is_changed(rt: HostRuntime) -> Result<(), Fail> {
-    let zero = Aff::constant_function(rt.alloc(), Ratio::zero());
-    assert!(rt; zero.with_constant(Ratio::one())?.constant() == Ratio::one());
-    Ok(())
+fn a_copy_is_equal(rt: HostRuntime) {
+    assert!(rt; copies(rt.alloc()) == Ok(true));
+}
+
+/// The terms of x, negated.
+fn negated_term(alloc: Global) -> Result<Option<(Address, Ratio)>, Memory> {
+    Ok(Aff::variable(alloc, &x())?.neg()?.term(0))
+}
+
+#[test]
+fn a_variable_is_negated(rt: HostRuntime) {
+    assert!(rt; negated_term(rt.alloc()) == Ok(Some((x(), Ratio::one().neg()))));
 }
 
 #[test]
@@ -38,22 +45,40 @@ fn a_constant_function_is_a_number_everywhere(rt: HostRuntime) {
     assert!(rt; f.terms().is_empty() && f.constant() == Ratio::one());
 }
 
-#[test]
-fn zeros_are_left_out(rt: HostRuntime) -> Result<(), Fail> {
-    let f = Aff::from_terms(rt.alloc(), &[(x(), Ratio::zero())], Ratio::one())?;
-    assert!(rt; f == Aff::constant_function(rt.alloc(), Ratio::one()));
-    Ok(())
-}
-
-/// The sum of two variables, made of the second.
-fn both(alloc: Global, x: &Address, y: &Address) -> Result<Aff, Memory> {
-    Aff::variable(alloc, y)?.with_coef(x, Ratio::one())
+fn changed_constant(alloc: Global) -> Result<Ratio, Memory> {
+    let zero = Aff::constant_function(alloc, Ratio::zero());
+    Ok(zero.with_constant(Ratio::one())?.constant())
 }
 
 #[test]
-fn one_coefficient_is_changed(rt: HostRuntime) -> Result<(), Fail> {
+fn a_constant_is_changed(rt: HostRuntime) {
+    assert!(rt; changed_constant(rt.alloc()) == Ok(Ratio::one()));
+}
+
+fn count_without_zeros(alloc: Global) -> Result<usize, Memory> {
+    Ok(Aff::from_terms(alloc, &[(x(), Ratio::zero())], Ratio::one())?.term_count())
+}
+
+#[test]
+fn zeros_are_left_out(rt: HostRuntime) {
+    assert!(rt; count_without_zeros(rt.alloc()) == Ok(0));
+}
+
+/// The first term of a variable's function to which a term below it was added.
+fn first_term(
+    alloc: Global,
+    of: &Address,
+    below: &Address,
+) -> Result<Option<(Address, Ratio)>, Memory> {
+    Ok(
+        Aff::variable(alloc, of)?
+            .with_coef(below, Ratio::one())?
+            .term(0),
+    )
+}
+
+#[test]
+fn one_coefficient_is_changed(rt: HostRuntime) {
     let y = Address::root(Root::Variable, 1);
-    let f = both(rt.alloc(), &x(), &y)?;
-    assert!(rt; f.term(0) == Some((x(), Ratio::one())) && f.term(1) == Some((y, Ratio::one())));
-    Ok(())
+    assert!(rt; first_term(rt.alloc(), &y, &x()) == Ok(Some((x(), Ratio::one()))));
 }
