@@ -1,0 +1,9 @@
+pub mod FitTests
+pub mod Entries
+pub mod TheRules
+pub mod ModelImage
+pub mod Leaves
+pub mod FreshBridging
+pub mod ChoiceLaws
+pub mod OnceLaws
+pub mod Touched
