@@ -2,10 +2,10 @@
 ghost use Rattle.std.specs.Prelude.{◌≡◌, ◌⊎◌, ◌<◌, IsTrue, length, IfOk, true};
 ghost use Rattle.ratio_core.specs.Rational.{zero_ℚ, ◌≤ℚ◌};
 
-use tableau_core::{Board, BoardFault, BoardOverflow};
 use ratio_core::Ratio;
 use std::alloc::Global;
 use std::test::Fail;
+use tableau_core::{Board, BoardFault, BoardOverflow};
 
 type Parts = (i128, i128);
 

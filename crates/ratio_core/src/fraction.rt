@@ -30,8 +30,9 @@ impl Model for Ratio {
     ghost inverse = { λ q. record { num = q.num; den = q.den } };
 
     ghost inverse_ok = { λ a h i. record {
-        num = (reduce_reduced a.num a.den h.reduced i).0;
-        den = (reduce_reduced a.num a.den h.reduced i).1 } };
+      num = (reduce_reduced a.num a.den h.reduced i).0;
+      den = (reduce_reduced a.num a.den h.reduced i).1;
+    } };
 }
 
 impl Ratio {

@@ -2,9 +2,9 @@
 ghost use Rattle.std.specs.Prelude.{◌↔◌, All, IsTrue};
 ghost use Rattle.ratio_core.specs.Rational.{zero_ℚ, ◌≤ℚ◌};
 
-use simplex_core::{Basis, SolveFault, SolverAnswer, StdForm, solve};
 use lists::Sequence;
 use ratio_core::{Ratio, Ratios};
+use simplex_core::{Basis, SolveFault, SolverAnswer, StdForm, solve};
 use std::alloc::{AllocError, Global};
 use std::test::Fail;
 
