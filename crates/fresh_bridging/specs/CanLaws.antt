@@ -5,7 +5,8 @@ use Rattle.std.specs.Prelude.{◌≡◌, ◌≢◌, ◌+◌, ◌*◌, ◌<◌, �
 use Rattle.std.proofs.Common.{arith, sym, ap, subst, ◌∙◌, true≢false}
 use Rattle.std.specs.List.{list_all, list_any, range_with_len}
 use Rattle.std.proofs.lemmas.Bool.Decides.{Decides-eqb, nat_tests}
-use Rattle.std.proofs.lemmas.List.Elements.{All-head, All-tail, All-weaker, All-append}
+use Rattle.std.proofs.lemmas.List.{length-append}
+use Rattle.std.proofs.lemmas.List.Elements.{All-weaker}
 use Rattle.bridge_graph.specs.Hypergraph.{IsCostly}
 use Rattle.bridge_graph.specs.Tree.{Tree}
 use Rattle.bridge_graph.specs.declared.Choice.{Choice}
@@ -22,7 +23,9 @@ use Rattle.item_core.specs.Kind.{kind_eq, kind_number}
 use Rattle.item_core.specs.KindOf.{kind_of_body}
 use Rattle.item_core.specs.Valid.{IsValidItem}
 use Rattle.bridge_face.specs.ImageOf.{image_of}
-use Rattle.bridge_face.specs.Law.{EdgeLaw, IsItemFor, IsLawful, LeadsTo, children, growth, listed}
+use Rattle.aff_core.specs.Address.{Address, child_of}
+use Rattle.bridge_face.specs.Law.{EdgeLaw, GrowsBy, IsItemFor, IsLawful, IsValidWithin, LeadsTo, children, growth}
+use Rattle.fresh_bridging.specs.EachLaws.{StandsFrom, all_both, stand_from}
 use Rattle.fresh_bridging.specs.FreshBridging.{HasTree}
 use Rattle.fresh_bridging.specs.RankingLaws.{LeadsDown, at_most_34, fewer_below, leads_down, rank, ranked_below}
 use Rattle.fresh_bridging.specs.TableLaws.{all_keep_at, and_first, and_second, comes_of_norms, doubles_seldom, ends_norms, equal_kind, equal_kinds, grows_once, grows_seldom, splits_reals, is_norm_kind, keeps_to_the_table, leads_from_others, of_family, or_second, plain_beside_free}
@@ -227,3 +230,60 @@ module _ (setting : Setting) (costly : IsCostly (graph_of setting)) (choice : �
           let first = doubled_more (doublings kind) (doublings kind) lc (2 * length (functions_of item.body)) (omega arith) within in
           let next : doubled (suc (doublings kind)) (length (functions_of item.body)) ≤ doubled (doublings (kind_of_body item.body)) (length (functions_of item.body)) = doubled_more (suc (doublings kind)) (doublings (kind_of_body item.body)) (length (functions_of item.body)) (length (functions_of item.body)) (omega (arith, one_fewer other)) (omega arith) in
           omega (arith, first, doubled_once (doublings kind) (length (functions_of item.body)), next, can.size))
+
+    -- ---- children
+
+    -- a child of the edge, at its position, as the law says
+    pub record IsChild (child : Item) : Type 0 where
+      pub position : length child.at.positions ≡ length item.at.positions + 1
+      pub valid : length (functions_of child.body) ≤ 32767 → IsValidItem child
+      pub leads : LeadsTo (edge_at n) child.body
+      pub grows : length (functions_of child.body)
+          ≤ growth (family_of (edge_at n)) * length (functions_of item.body)
+
+    -- a child whose body has this kind and so many components
+    pub child_can : (child : Item) → IsChild child → (after : Item) → after.at ≡ child.at
+        → kind_of_body after.body ≡ kind_of_body child.body
+        → length (functions_of after.body) ≡ length (functions_of child.body)
+        → (IsValidItem child → IsValidItem after)
+        → RanksBelow Can rank_of (rank_of item) after
+    child_can child is after at kind count carried =
+        let listed : list_any (kind_eq (kind_of_body after.body)) (kinds_in down.entry.children) ≡ true = subst (λ k. list_any (kind_eq k) (kinds_in down.entry.children) ≡ true) (sym kind) (lists child is.leads) in
+        let grown : length (functions_of after.body) ≤ growth down.entry.family * length (functions_of item.body) = subst (λ x. length (functions_of after.body) ≤ growth x.family * length (functions_of item.body)) same_entry (subst (λ c. c ≤ growth (family_of (edge_at n)) * length (functions_of item.body)) (sym count) is.grows) in
+        let size = sized (kind_of_body after.body) listed (length (functions_of after.body)) grown in
+        let lower = (down.below (kind_of_body after.body) listed).1 in
+        let within = doubled_within (doublings (kind_of_body after.body)) (length (functions_of after.body)) in
+        record {
+          can = record {
+            valid = carried (is.valid (omega (arith, within, size, count)));
+            tree = (down.below (kind_of_body after.body) listed).0;
+            room = omega (arith, ap (λ (a : Address). length a.positions) at, is.position, can.room, fewer_below setting costly choice chosen (kind_of_body after.body) (rank_of item) lower);
+            size = size;
+          };
+          below = lower;
+        }
+
+    abbrev all_children : List Item
+    all_children = children (image_of (edge_at n) item)
+
+    one_longer : (j : ℕ) → length (child_of item.at j).positions ≡ length item.at.positions + 1
+    one_longer j = length-append item.at.positions (j ∷ [])
+
+    pub are_children : All IsChild all_children
+    are_children =
+        let positions = stand_from (λ c. c.at) (child_of item.at) all_children 0 (length all_children) (omega arith) law.positions in
+        let room : length item.at.positions < 38 = omega (arith, can.room) in
+        let Leads : Item → Type 0 = λ child. LeadsTo (edge_at n) child.body in
+        let Grows : Item → Type 0 = GrowsBy (growth (family_of (edge_at n))) item in
+        let Stands : Item → Type 0 = StandsFrom (λ c. c.at) (child_of item.at) 0 (length all_children) in
+        All-weaker (λ child. Stands child × (IsValidWithin child × (Leads child × Grows child))) IsChild
+        (λ child h. record {
+          position = ap (λ (a : Address). length a.positions) h.0.is ∙ one_longer h.0.place;
+          valid = h.1.0;
+          leads = h.1.1.0;
+          grows = h.1.1.1;
+        })
+        all_children
+        (all_both Stands (λ child. IsValidWithin child × (Leads child × Grows child)) all_children positions
+        (all_both IsValidWithin (λ child. Leads child × Grows child) all_children (law.valid room)
+        (all_both Leads Grows all_children law.kinds law.sizes)))

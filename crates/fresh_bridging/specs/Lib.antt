@@ -13,3 +13,4 @@ pub mod MentionLaws
 pub mod BodyLaws
 pub mod CanLaws
 pub mod EachLaws
+pub mod OmitLaws
