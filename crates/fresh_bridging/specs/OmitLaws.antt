@@ -33,13 +33,33 @@ use Rattle.fresh_bridging.specs.CanLaws.{AreLawful, Can, IsChild, are_children, 
 use Rattle.fresh_bridging.specs.EachLaws.{StandsFrom, all_both, all_first, all_from_map, all_seconds, stand_first}
 use Rattle.fresh_bridging.specs.Entries.{Entry, put_into}
 use Rattle.fresh_bridging.specs.MentionLaws.{AllOmit, Omits, put_into_omits}
-use Rattle.fresh_bridging.specs.TheRules.{AreChoices, Setting, edge_at, graph_of, rules_by}
+use Rattle.fresh_bridging.specs.TheRules.{AreChoices, Setting, edge_at, graph_of, outer_entries, own_entries, rules_by}
 
 -- ---- addresses
 
 pub record IsBelow (at v : Address) : Type 0 where
   pub rest : List ℕ
   pub is : v ≡ below at rest
+
+-- at or below the child at the position
+pub record IsBelowAt (at : Address) (position : ℕ) (v : Address) : Type 0 where
+  pub rest : List ℕ
+  pub is : v ≡ below at (position ∷ rest)
+
+same_position : (xs : List ℕ) (i j : ℕ) (r s : List ℕ) → xs ++ (i ∷ r) ≡ xs ++ (j ∷ s) → i ≡ j
+same_position [] i j r s e = first i j r s e
+  where
+    first : (a b : ℕ) (l m : List ℕ) → a ∷ l ≡ b ∷ m → a ≡ b
+    first a b l m k = cc
+same_position (x ∷ xs) i j r s e = same_position xs i j r s (rest x (xs ++ (i ∷ r)) (xs ++ (j ∷ s)) e)
+  where
+    rest : (a : ℕ) (l m : List ℕ) → a ∷ l ≡ a ∷ m → l ≡ m
+    rest a l m k = cc
+
+-- nothing stands at or below two children
+pub apart : (at : Address) (i j : ℕ) (v : Address) → IsBelowAt at i v → IsBelowAt at j v → i ≡ j
+apart at i j v a b =
+    same_position at.positions i j a.rest b.rest (ap (λ (x : Address). x.positions) (sym a.is ∙ b.is))
 
 -- a variable of the group, or an address at or below the group's
 abbrev pub Owns : Item → Address → Type 0
@@ -133,13 +153,13 @@ module _ (setting : Setting) (costly : IsCostly (graph_of setting)) (choice : �
 
   module _ (group : Item) (is : IsGroup group) (n : ℕ)
       (e : choice (kind_number (kind_of_body group.body)) ≡ By n) where
-    edge_law : EdgeLaw (edge_at n) group (image_of (edge_at n) group)
+    pub edge_law : EdgeLaw (edge_at n) group (image_of (edge_at n) group)
     edge_law = law setting costly choice chosen lawful group is.can n e
 
-    abbrev groups_in : List Item
+    abbrev pub groups_in : List Item
     groups_in = (image_of (edge_at n) group).groups
 
-    abbrev others_in : List Item
+    abbrev pub others_in : List Item
     others_in = (image_of (edge_at n) group).rows ++ listed (image_of (edge_at n) group).objective
 
     -- the child groups can be bridged
@@ -153,29 +173,65 @@ module _ (setting : Setting) (costly : IsCostly (graph_of setting)) (choice : �
         (all_first (IsChild setting costly choice chosen lawful group is.can n e) groups_in others_in (are_children setting costly choice chosen lawful group is.can n e)))
         (groups_are (edge_at n) group))
 
-    -- what a child group owns the group owns
-    owned : (g : Item) → StandsFrom (λ c. c.at) (child_of group.at) 0 (0 + length groups_in) g → HasComponents g
-        → (v : Address) → Owns g v → IsBelow group.at v
+    abbrev pub StandsAsGroup : Item → Type 0
+    StandsAsGroup g = StandsFrom (λ c. c.at) (child_of group.at) 0 (0 + length groups_in) g
+
+    -- what a child group owns is below the group, at the child's position
+    pub owned : (g : Item) (stands : StandsAsGroup g) → HasComponents g → (v : Address) → Owns g v
+        → IsBelowAt group.at stands.place v
     owned g stands components v (inl b) =
-        record { rest = stands.place ∷ b.rest; is = b.is ∙ ap (λ a. below a b.rest) stands.is ∙ below_child group.at stands.place b.rest }
+        record { rest = b.rest; is = b.is ∙ ap (λ a. below a b.rest) stands.is ∙ below_child group.at stands.place b.rest }
     owned g stands components v (inr c) =
         component (range_with_len 0 (length (variables_of g.body))) (subst (λ vs. Contains vs v) components c)
       where
-        component : (ns : List ℕ) → Contains (map (child_of g.at) ns) v → IsBelow group.at v
+        component : (ns : List ℕ) → Contains (map (child_of g.at) ns) v → IsBelowAt group.at stands.place v
         component [] (place, inside, is) = absurd (omega (arith, inside))
         component (m ∷ ns) (zero, inside, is) =
-            record { rest = stands.place ∷ m ∷ []; is = sym is ∙ ap (λ a. below a (m ∷ [])) stands.is ∙ below_child group.at stands.place (m ∷ []) }
+            record { rest = m ∷ []; is = sym is ∙ ap (λ a. below a (m ∷ [])) stands.is ∙ below_child group.at stands.place (m ∷ []) }
         component (m ∷ ns) (suc place, inside, is) = component ns (place, omega (arith, inside), is)
+
+    -- the child groups, where they stand
+    pub standing_groups : All (λ g. StandsAsGroup g × HasComponents g) groups_in
+    standing_groups =
+        all_both StandsAsGroup HasComponents groups_in
+        (stand_first (λ c. c.at) (child_of group.at) groups_in others_in 0 edge_law.positions) edge_law.components
 
     pub unowned : (v : Address) → ¬ (Owns group v) → All (λ g. ¬ (Owns g v)) groups_in
     unowned v h =
-        All-weaker (λ g. StandsFrom (λ c. c.at) (child_of group.at) 0 (0 + length groups_in) g × HasComponents g) (λ g. ¬ (Owns g v))
-        (λ g k o. h (inl (owned g k.0 k.1 v o))) groups_in
-        (all_both (StandsFrom (λ c. c.at) (child_of group.at) 0 (0 + length groups_in)) HasComponents groups_in
-        (stand_first (λ c. c.at) (child_of group.at) groups_in others_in 0 edge_law.positions) edge_law.components)
+        All-weaker (λ g. StandsAsGroup g × HasComponents g) (λ g. ¬ (Owns g v))
+        (λ g k o. let b = owned g k.0 k.1 v o in h (inl (record { rest = k.0.place ∷ b.rest; is = b.is }))) groups_in standing_groups
 
     -- the expressions of the image
     pub exprs_omit : (v : Address) → ¬ (Owns group v) → All (Omits v) (image_of (edge_at n) group).exprs
     exprs_omit v h =
         all_from_map (λ f. coefficient f v ≡ zero_ℚ) expressed (image_of (edge_at n) group).exprs
         (edge_law.expressed v (outside_inner groups_in v (unowned v h)))
+
+  -- natively, and by an edge
+  own_case : (group : Item) → IsGroup group → (v : Address) → ¬ (Owns group v)
+      → AllOmit v (own_entries group)
+  own_case group is v h =
+      subst (λ b. AllOmit v (cond b (map (λ u. record { component = u; expression = Kept u }) (variables_of group.body)) []))
+      (sym is.is_group) (own_omit (variables_of group.body) v (λ c. h (inr c)))
+
+  edge_case : (group : Item) (is : IsGroup group) (n : ℕ)
+      (e : choice (kind_number (kind_of_body group.body)) ≡ By n) (inner : List Entry) (v : Address)
+      → ¬ (Owns group v) → AllOmit v inner → AllOmit v (outer_entries n group inner)
+  edge_case group is n e inner v h omitted =
+      made_omit inner (variables_of group.body) (image_of (edge_at n) group).exprs v omitted (exprs_omit group is n e v h)
+
+  mutual
+    -- the expressions of a group's components mention nothing that the group doesn't own
+    pub omits : {group : Item} {entries : List Entry} → Bridged (rules_by choice) group entries
+        → IsGroup group → (v : Address) → ¬ (Owns group v) → AllOmit v entries
+    omits (natively {item} c) is v h = own_case item is v h
+    omits (by {item} {edge} {inner} c groups others) is v h =
+        edge_case item is edge c inner v h (omits_each groups (child_groups item is edge c) v (unowned item is edge c v h))
+
+    pub omits_each : {groups : List Item} {entries : List Entry} → EachBridged (rules_by choice) groups entries
+        → All IsGroup groups → (v : Address) → All (λ g. ¬ (Owns g v)) groups → AllOmit v entries
+    omits_each none all v h = All-nil (λ e. Omits v e.expression)
+    omits_each (each {item} {items} {entries} {others} first rest) all v h =
+        All-append (λ e. Omits v e.expression) entries others
+        (omits first (All-head IsGroup item items all) v (All-head (λ g. ¬ (Owns g v)) item items h))
+        (omits_each rest (All-tail IsGroup item items all) v (All-tail (λ g. ¬ (Owns g v)) item items h))
