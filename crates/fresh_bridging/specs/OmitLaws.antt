@@ -151,10 +151,10 @@ module _ (setting : Setting) (costly : IsCostly (graph_of setting)) (choice : �
     pub can : Can setting costly choice chosen group
     pub is_group : is_group group.body ≡ true
 
-  module _ (group : Item) (is : IsGroup group) (n : ℕ)
+  module _ (group : Item) (can : Can setting costly choice chosen group) (n : ℕ)
       (e : choice (kind_number (kind_of_body group.body)) ≡ By n) where
     pub edge_law : EdgeLaw (edge_at n) group (image_of (edge_at n) group)
-    edge_law = law setting costly choice chosen lawful group is.can n e
+    edge_law = law setting costly choice chosen lawful group can n e
 
     abbrev pub groups_in : List Item
     groups_in = (image_of (edge_at n) group).groups
@@ -168,9 +168,9 @@ module _ (setting : Setting) (costly : IsCostly (graph_of setting)) (choice : �
         All-weaker (λ g. RanksBelow (Can setting costly choice chosen) (rank_of setting costly choice chosen) (rank_of setting costly choice chosen group) g × (is_group g.body ≡ true)) IsGroup
         (λ g h. record { can = h.0.can; is_group = h.1 }) groups_in
         (all_both (RanksBelow (Can setting costly choice chosen) (rank_of setting costly choice chosen) (rank_of setting costly choice chosen group)) (λ g. is_group g.body ≡ true) groups_in
-        (All-weaker (IsChild setting costly choice chosen lawful group is.can n e) (RanksBelow (Can setting costly choice chosen) (rank_of setting costly choice chosen) (rank_of setting costly choice chosen group))
-        (λ g child. child_can setting costly choice chosen lawful group is.can n e g child g refl refl refl (λ v. v)) groups_in
-        (all_first (IsChild setting costly choice chosen lawful group is.can n e) groups_in others_in (are_children setting costly choice chosen lawful group is.can n e)))
+        (All-weaker (IsChild setting costly choice chosen lawful group can n e) (RanksBelow (Can setting costly choice chosen) (rank_of setting costly choice chosen) (rank_of setting costly choice chosen group))
+        (λ g child. child_can setting costly choice chosen lawful group can n e g child g refl refl refl (λ v. v)) groups_in
+        (all_first (IsChild setting costly choice chosen lawful group can n e) groups_in others_in (are_children setting costly choice chosen lawful group can n e)))
         (groups_are (edge_at n) group))
 
     abbrev pub StandsAsGroup : Item → Type 0
@@ -218,7 +218,7 @@ module _ (setting : Setting) (costly : IsCostly (graph_of setting)) (choice : �
       (e : choice (kind_number (kind_of_body group.body)) ≡ By n) (inner : List Entry) (v : Address)
       → ¬ (Owns group v) → AllOmit v inner → AllOmit v (outer_entries n group inner)
   edge_case group is n e inner v h omitted =
-      made_omit inner (variables_of group.body) (image_of (edge_at n) group).exprs v omitted (exprs_omit group is n e v h)
+      made_omit inner (variables_of group.body) (image_of (edge_at n) group).exprs v omitted (exprs_omit group is.can n e v h)
 
   mutual
     -- the expressions of a group's components mention nothing that the group doesn't own
@@ -226,7 +226,7 @@ module _ (setting : Setting) (costly : IsCostly (graph_of setting)) (choice : �
         → IsGroup group → (v : Address) → ¬ (Owns group v) → AllOmit v entries
     omits (natively {item} c) is v h = own_case item is v h
     omits (by {item} {edge} {inner} c groups others) is v h =
-        edge_case item is edge c inner v h (omits_each groups (child_groups item is edge c) v (unowned item is edge c v h))
+        edge_case item is edge c inner v h (omits_each groups (child_groups item is.can edge c) v (unowned item is.can edge c v h))
 
     pub omits_each : {groups : List Item} {entries : List Entry} → EachBridged (rules_by choice) groups entries
         → All IsGroup groups → (v : Address) → All (λ g. ¬ (Owns g v)) groups → AllOmit v entries
