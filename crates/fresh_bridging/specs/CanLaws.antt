@@ -79,6 +79,15 @@ module _ (setting : Setting) (costly : IsCostly (graph_of setting)) (choice : �
 
   -- ---- doublings
 
+  counted_once : (b : Bool) → counted b ≤ 1
+  counted_once true = omega arith
+  counted_once false = omega arith
+
+  at_most_two : (kind : Kind) → doublings kind ≤ 2
+  unfolding doublings
+  at_most_two kind =
+      omega (arith, counted_once (is_norm_kind kind), counted_once (nat_le (rank_in (kind_number GroupReals)) (rank_in (kind_number kind))))
+
   doubled_within : (k n : ℕ) → n ≤ doubled k n
   doubled_within zero n = omega arith
   doubled_within (suc k) n = omega (arith, doubled_within k n)
@@ -91,6 +100,10 @@ module _ (setting : Setting) (costly : IsCostly (graph_of setting)) (choice : �
   doubled_once : (k n : ℕ) → doubled k (2 * n) ≡ doubled (suc k) n
   doubled_once zero n = refl
   doubled_once (suc k) n = ap (λ x. 2 * x) (doubled_once k n)
+
+  -- an item of the user's has no more than 4,096
+  pub start_size : (kind : Kind) (n : ℕ) → n ≤ 4096 → doubled (doublings kind) n ≤ 16384
+  start_size kind n h = doubled_more (doublings kind) 2 n 4096 (at_most_two kind) h
 
   -- ---- a chosen edge
 

@@ -27,14 +27,20 @@ use Rattle.item_core.specs.KindOf.{group_kind_of, kind_of_body}
 use Rattle.item_core.specs.Valid.{IsValidItem, below}
 use Rattle.bridge_face.specs.ImageOf.{image_of}
 use Rattle.bridge_face.specs.Law.{HasComponents, children, listed}
+use Rattle.expansion.specs.Rules.{Image}
+use Rattle.aff_core.specs.declared.root.Root.TheVariants as root
 use Rattle.user_model.specs.Model.{ModelValue}
+use Rattle.user_model.specs.Valid.{IsValid, IsValidGroup}
+use Rattle.user_model.specs.declared.group.Group.{Group as UserGroup}
 use Rattle.fresh_bridging.specs.BodyLaws.{KeepsNamed, kind_put, length_put, valid_put}
-use Rattle.fresh_bridging.specs.CanLaws.{AreLawful, Can, IsChild, are_children, child_can, down, keeps, lists, rank_of}
-use Rattle.fresh_bridging.specs.EachLaws.{StandsFrom, all_both, all_first, all_second, stand_second}
+use Rattle.fresh_bridging.specs.CanLaws.{AreLawful, Can, IsChild, are_children, child_can, down, keeps, lists, rank_of, start_size}
+use Rattle.fresh_bridging.specs.EachLaws.{StandsFrom, all_both, all_first, all_from_map, all_second, stand_second}
 use Rattle.fresh_bridging.specs.Entries.{Entry, expression_in, is_kept, put_in, put_in_body}
 use Rattle.fresh_bridging.specs.FreshBridging.{FreshBridging, HasTree}
 use Rattle.fresh_bridging.specs.MentionLaws.{AllOmit, by_lookup}
-use Rattle.fresh_bridging.specs.ModelImage.{model_image}
+use Rattle.fresh_bridging.specs.ModelImage.{group_item, model_image}
+use Rattle.fresh_bridging.specs.ModelLaws.{IsFurther, further, group_size, group_valid, not_owned}
+use Rattle.fresh_bridging.specs.RankingLaws.{at_most_34}
 use Rattle.fresh_bridging.specs.OmitLaws.{IsBelowAt, IsGroup, Owns, StandsAsGroup, apart, below_child, child_groups, edge_law, groups_in, omits_each, others_in, owned, standing_groups}
 use Rattle.fresh_bridging.specs.TableLaws.{and_first, and_second, is_group_kind, is_plain_kind, leads_from_others, grows_seldom, plain_beside_free, equal_kind}
 use Rattle.fresh_bridging.specs.TheRules.{AreChoices, IsChoice, Setting, edge_at, graph_of, own_entries, rules_by}
@@ -237,3 +243,99 @@ module _ (setting : Setting) (costly : IsCostly (graph_of setting)) (choice : �
     groups = λ item n can e. groups_can item can n e;
     others = λ item n inner can e trees. others_can item can n e inner trees;
   }
+
+  -- ---- trees of items
+
+  tree_of : {item : Item} {entries : List Entry} → Bridged (rules_by choice) item entries
+      → HasTree (graph_of setting) item
+  tree_of (natively {item} c) =
+      (0, native (subst (IsChoice (graph_of setting) (kind_number (kind_of_body item.body))) c (chosen (kind_number (kind_of_body item.body)))))
+  tree_of (by {item} {edge} c groups others) =
+      let first = subst (IsChoice (graph_of setting) (kind_number (kind_of_body item.body))) c (chosen (kind_number (kind_of_body item.body))) in
+      (first.0, by_edge first.1.tree)
+
+  each_tree : {items : List Item} {entries : List Entry} → EachBridged (rules_by choice) items entries
+      → All (HasTree (graph_of setting)) items
+  each_tree none = All-nil (HasTree (graph_of setting))
+  each_tree (each {item} {items} first rest) =
+      All-cons (HasTree (graph_of setting)) item items (tree_of first) (each_tree rest)
+
+  tree_in : {inner : List Entry} {items : List Item} → EachBridgedIn (rules_by choice) inner items
+      → All (λ item. HasTree (graph_of setting) (put_in inner item)) items
+  tree_in {inner} none_in = All-nil (λ item. HasTree (graph_of setting) (put_in inner item))
+  tree_in {inner} (each_in {item = item} {items = items} first rest) =
+      All-cons (λ i. HasTree (graph_of setting) (put_in inner i)) item items (tree_of first) (tree_in rest)
+
+  -- ---- the user's model
+
+  module _ (model : ModelValue) (valid : IsValid model) where
+    abbrev HasTreeIn : List Entry → Item → Type 0
+    HasTreeIn inner item = HasTree (graph_of setting) (put_in inner item)
+
+    group_can : (group : UserGroup) → IsValidGroup group → HasTree (graph_of setting) (group_item group)
+        → IsGroupHere (group_item group)
+    group_can group h tree = record {
+      can = record {
+        valid = group_valid group h;
+        tree = tree;
+        room = omega (arith, at_most_34 setting costly choice chosen (kind_of_body (group_item group).body));
+        size = start_size setting costly choice chosen (kind_of_body (group_item group).body) (length (functions_of (group_item group).body)) (group_size group h);
+      };
+      is_group = refl;
+    }
+
+    groups_can_all : All (HasTree (graph_of setting)) (model_image model).groups → All IsGroupHere (model_image model).groups
+    groups_can_all trees =
+        All-map IsGroupHere group_item model.groups
+        (All-weaker (λ g. IsValidGroup g × HasTree (graph_of setting) (group_item g)) (λ g. IsGroupHere (group_item g))
+        (λ g h. group_can g h.0 h.1) model.groups
+        (all_both IsValidGroup (λ g. HasTree (graph_of setting) (group_item g)) model.groups valid.parts.valid_groups
+        (all_from_map (HasTree (graph_of setting)) group_item model.groups trees)))
+
+    module _ (inner : List Entry) (trees : EachBridged (rules_by choice) (model_image model).groups inner) where
+      none_owned : (v : Address) → (v.root ≡ root.Row) ⊎ (v.root ≡ root.Objective)
+          → All (λ g. ¬ (Owns g v)) (model_image model).groups
+      none_owned v which =
+          All-map (λ g. ¬ (Owns g v)) group_item model.groups (each_group model.groups)
+        where
+          each_group : (gs : List UserGroup) → All (λ g. ¬ (Owns (group_item g) v)) gs
+          each_group [] = All-nil (λ g. ¬ (Owns (group_item g) v))
+          each_group (g ∷ gs) = All-cons (λ x. ¬ (Owns (group_item x) v)) g gs (not_owned g v which) (each_group gs)
+
+      further_can : (item : Item) → IsFurther item → HasTreeIn inner item
+          → Can setting costly choice chosen (put_in inner item)
+      further_can item is tree =
+          let valid_in = valid_put inner item is.no_group is.valid (λ rest. omits_each setting costly choice chosen lawful trees (groups_can_all (each_tree trees)) (below item.at rest) (none_owned (below item.at rest) is.root)) in
+          record {
+            valid = valid_in;
+            tree = tree;
+            room = omega (arith, is.top, at_most_34 setting costly choice chosen (kind_of_body (put_in inner item).body));
+            size = start_size setting costly choice chosen (kind_of_body (put_in inner item).body) (length (functions_of (put_in inner item).body)) (omega (arith, length_put inner item.body is.no_group, is.count));
+          }
+
+      others_can_all : All (HasTreeIn inner) (model_image model).others
+          → All (λ item. Can setting costly choice chosen (put_in inner item)) (model_image model).others
+      others_can_all all =
+          All-weaker (λ item. IsFurther item × HasTreeIn inner item) (λ item. Can setting costly choice chosen (put_in inner item))
+          (λ item h. further_can item h.0 h.1) (model_image model).others
+          (all_both IsFurther (HasTreeIn inner) (model_image model).others (further model valid) all)
+
+    -- with a tree for each item there is a fresh bridging
+    pub bridged_by_trees : All (HasTree (graph_of setting)) (model_image model).groups
+        → ((inner : List Entry) → EachBridged (rules_by choice) (model_image model).groups inner
+        → All (HasTreeIn inner) (model_image model).others)
+        → FreshBridging setting model
+    bridged_by_trees groups others = record {
+      choice = choice;
+      chosen = chosen;
+      made =
+          fresh (rules_by choice) (Can setting costly choice chosen) (rank_of setting costly choice chosen) ranked (model_image model)
+          (All-weaker IsGroupHere (Can setting costly choice chosen) (λ g h. h.can) (model_image model).groups (groups_can_all groups))
+          (λ inner trees. others_can_all inner trees (others inner trees));
+    }
+
+  -- and where there is one, each item has a tree
+  pub trees_of_bridged : (model : Image Item) (made : Fresh (rules_by choice) model)
+      → All (HasTree (graph_of setting)) model.groups
+      × All (λ item. HasTree (graph_of setting) (put_in made.entries item)) model.others
+  trees_of_bridged model made = (each_tree made.groups, tree_in made.others)

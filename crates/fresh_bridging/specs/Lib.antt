@@ -14,5 +14,5 @@ pub mod BodyLaws
 pub mod CanLaws
 pub mod EachLaws
 pub mod OmitLaws
-pub mod ExistenceLaws
 pub mod ModelLaws
+pub mod ExistenceLaws

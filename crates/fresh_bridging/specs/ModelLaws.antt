@@ -220,6 +220,7 @@ pub record IsFurther (item : Item) : Type 0 where
   pub no_group : is_group item.body ≡ false
   pub count : length (functions_of item.body) ≤ 4096
   pub root : (item.at.root ≡ root.Row) ⊎ (item.at.root ≡ root.Objective)
+  pub top : length item.at.positions ≡ 0
 
 pub row_further : (groups : List Group) (row : Row) → IsValidRow groups row → IsFurther (row_item row)
 row_further groups row h = record {
@@ -227,6 +228,7 @@ row_further groups row h = record {
   no_group = row_is_row row.func row.set;
   count = omega (arith, row_count row.func row.set, h.limit);
   root = inl refl;
+  top = refl;
 }
 
 pub objective_further : (groups : List Group) (o : Objective) → IsValidObjective groups o
@@ -244,6 +246,7 @@ objective_further groups o h = by o (λ v other. objective_omits o v (not_mentio
           no_group = refl;
           count = omega arith;
           root = inr refl;
+          top = refl;
         })
         (All-nil IsFurther)
     by (objective.Affine sense func) k =
@@ -253,6 +256,7 @@ objective_further groups o h = by o (λ v other. objective_omits o v (not_mentio
           no_group = refl;
           count = omega arith;
           root = inr refl;
+          top = refl;
         })
         (All-nil IsFurther)
 
