@@ -7,3 +7,12 @@ pub mod FreshBridging
 pub mod ChoiceLaws
 pub mod OnceLaws
 pub mod Touched
+pub mod TableLaws
+pub mod RankingLaws
+pub mod MentionLaws
+pub mod BodyLaws
+pub mod CanLaws
+pub mod EachLaws
+pub mod OmitLaws
+pub mod ModelLaws
+pub mod ExistenceLaws
