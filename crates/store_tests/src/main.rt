@@ -6,10 +6,13 @@
 //     first EDIT; EDIT ..   makes edits, takes all but the first back, and settles that
 //     show, copies          prints the model, or copies of all that stands in it
 //     new                   begins with an empty model
+//     many ..               makes many edits, up to the limits (src/many.rt)
+//     # ..                  remarks
 //
-// and the lines of src/many.rt, which make models up to the limits. src/edits.rt has the edits.
+// src/edits.rt has the edits.
 #![tactic(auto)]
 
+mod command;
 mod edits;
 mod many;
 mod session;
@@ -22,7 +25,12 @@ use model_store::UserModel;
 fn main(rt: HostRuntime) -> Result<()> {
     let mut model = UserModel::new(rt.alloc());
     for line in rt.lines(rt.alloc()) {
-        session::step(&rt, &mut model, line?.as_str())?;
+        let line = line?;
+        if line.as_str() == "new" {
+            model = UserModel::new(rt.alloc());
+        } else {
+            session::step(&rt, &mut model, line.as_str())?;
+        }
     }
     Ok(())
 }

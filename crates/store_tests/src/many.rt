@@ -1,10 +1,10 @@
 // Steps of many edits or names, up to the limits of a model. Variables are called x0, x1 and on, and rows r0, r1 and on.
 //
-//     groups FIRST COUNT SIZE      groups of variables, whose names go on from the first number
-//     rows FIRST COUNT COMPONENTS  rows of components that are each x0
-//     coefs FIRST COUNT            the coefficients of so many variables in the first component of r0
-//     twins COUNT                  a group of so many variables, and of one more that is the first again
-use crate::words::{Words, times, whole};
+//     many groups FIRST COUNT SIZE      groups of variables, whose names go on from the first number
+//     many rows FIRST COUNT COMPONENTS  rows of components that are each x0
+//     many coefs FIRST COUNT            the coefficients of so many variables in the first component of r0
+//     many twins COUNT                  a group of so many variables, and of one more that is the first again
+use crate::words::{Words, times, whole, word};
 use anyhow::Result;
 use model_store::{Edit, NamedFunc, UserModel};
 use name_index::{Name, Names};
@@ -13,15 +13,15 @@ use ratio_core::Ratio;
 use set_core::Set;
 use std::alloc::Global;
 
-pub fn step(rt: &HostRuntime, model: &mut UserModel, word: &str, rest: &str) -> Result<()> {
-    let mut words = rest.split_whitespace();
-    match word {
-        "groups" => groups(rt, model, &mut words)?,
-        "rows" => rows(rt, model, &mut words)?,
-        "coefs" => coefs(rt, model, &mut words)?,
-        _ => twins(rt, model, &mut words)?,
+pub fn step(rt: &HostRuntime, model: &mut UserModel, text: &str) -> Result<()> {
+    let mut words = text.split_whitespace();
+    match word(&mut words)? {
+        "groups" => groups(rt, model, &mut words),
+        "rows" => rows(rt, model, &mut words),
+        "coefs" => coefs(rt, model, &mut words),
+        "twins" => twins(rt, model, &mut words),
+        _ => Err(anyhow::Error::msg("no such step")),
     }
-    Ok(())
 }
 
 // Makes an edit for good, and prints how it is called if it is refused.

@@ -1,25 +1,37 @@
 // Steps of a script.
 ghost use Rattle.std.specs.Prelude.{◌≡◌, OnOk};
 
+use crate::command::{Command, End};
 use crate::edits::edit;
 use crate::many;
 use crate::shown::{show, show_copies, text};
 use anyhow::Result;
 use model_store::UserModel;
 
-/// Makes one step, and prints the line with what it gives. An empty line, or one that begins with `#`, is no step.
+/// Makes one step, and prints what it gives. An empty line, or one that begins with `#`, is no step.
 pub fn step(rt: &HostRuntime, model: &mut UserModel, line: &str) -> Result<()> {
-    if line.is_empty() || line.starts_with('#') {
-        return Ok(());
+    let (word, rest) = parted(line);
+    match Command::named(word) {
+        Command::Remark => Ok(()),
+        Command::Show => show(rt, model),
+        Command::Copies => show_copies(rt, model),
+        Command::Several(end) => several(rt, model, end, rest),
+        Command::Many => many::step(rt, model, rest),
+        Command::Edit => make(rt, model, line),
     }
-    let (word, rest) = line.split_once(' ').unwrap_or((line, ""));
-    match word {
-        "new" => *model = UserModel::new(rt.alloc()),
-        "show" => show(rt, model)?,
-        "copies" => show_copies(rt, model)?,
-        "back" | "settle" | "first" => several(rt, model, word, rest)?,
-        "groups" | "rows" | "coefs" | "twins" => many::step(rt, model, word, rest)?,
-        _ => make(rt, model, line)?,
+}
+
+// The first word, and what is left.
+fn parted(line: &str) -> (&str, &str) {
+    line.split_once(' ').unwrap_or((line, ""))
+}
+
+fn several(rt: &HostRuntime, model: &mut UserModel, end: End, edits: &str) -> Result<()> {
+    let edits: Vec<&str> = edits.split("; ").collect(rt.alloc())?;
+    match end {
+        End::Back => take_back(rt, model, &edits)?,
+        End::Settle => settle(rt, model, &edits)?,
+        End::First => settle_the_first(rt, model, &edits)?,
     }
     Ok(())
 }
@@ -32,16 +44,6 @@ fn make(rt: &HostRuntime, model: &mut UserModel, line: &str) -> Result<()> {
             println!(rt; "{line}: made")?;
         }
         Err(fault) => println!(rt; "{line}: {fault}")?,
-    }
-    Ok(())
-}
-
-fn several(rt: &HostRuntime, model: &mut UserModel, word: &str, rest: &str) -> Result<()> {
-    let edits: Vec<&str> = rest.split("; ").collect(rt.alloc())?;
-    match word {
-        "back" => take_back(rt, model, &edits)?,
-        "settle" => settle(rt, model, &edits)?,
-        _ => settle_the_first(rt, model, &edits)?,
     }
     Ok(())
 }

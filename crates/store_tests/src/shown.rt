@@ -12,14 +12,15 @@ pub fn text(alloc: Global, model: &UserModel) -> Result<String> {
 }
 
 /// Prints the groups, the rows and the objective, a line each.
-pub fn show(rt: &HostRuntime, model: &UserModel) -> io::Result<()> {
+pub fn show(rt: &HostRuntime, model: &UserModel) -> Result<()> {
     for group in model.groups() {
         println!(rt; "{group:?}")?;
     }
     for row in model.rows() {
         println!(rt; "{row:?}")?;
     }
-    println!(rt; "{:?}", model.objective())
+    println!(rt; "{:?}", model.objective())?;
+    Ok(())
 }
 
 /// Prints copies of the same.
