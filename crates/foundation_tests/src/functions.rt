@@ -1,40 +1,40 @@
 //! Functions by the names of their variables.
 
 use lists::Duplicate;
-use name_index::Name;
+use name_index::{Name, NameFault};
 use named_aff::{NamedAff, NamedTerm, NamedTerms, NamedVec};
 use ratio_core::Ratio;
-use std::test::Fail;
+use std::alloc::Global;
 
-#[test]
-fn terms_keep_their_order(rt: HostRuntime) -> Result<(), Fail> {
-    let mut terms = NamedTerms::new(rt.alloc());
-    let term = NamedTerm {
-        variable: Name::new(rt.alloc(), "x")?,
-        coefficient: Ratio::zero(),
-    };
-    assert!(rt; terms.push(term).is_ok() && terms.len() == 1 && !terms.is_empty());
+/// Whether a list of one term has it, and so has a copy.
+fn keeps_a_term(alloc: Global) -> Result<bool, NameFault> {
+    let (variable, coefficient) = (Name::new(alloc, "x")?, Ratio::one());
+    let mut terms = NamedTerms::new(alloc);
+    let is_pushed = terms
+        .push(NamedTerm {
+            variable,
+            coefficient,
+        })
+        .is_ok();
     let copy = terms.copy()?;
-    assert!(rt;
-        copy.get(0)
-            .is_some_and(|t| t.variable.text() == "x" && t.coefficient.is_zero())
-    );
-    assert!(rt; copy.get(1).is_none() && copy.as_slice().len() == 1);
-    Ok(())
+    let is_it = copy.get(0).is_some_and(|t| t.variable.text() == "x"
+        && t.coefficient == Ratio::one());
+    Ok(is_pushed && is_it && terms.len() == 1 && !terms.is_empty() && copy.as_slice().len() == 1)
 }
 
 #[test]
-fn components_are_copied(rt: HostRuntime) -> Result<(), Fail> {
-    let mut list = NamedVec::new(rt.alloc());
-    let component = NamedAff {
-        terms: NamedTerms::new(rt.alloc()),
-        constant: Ratio::one(),
-    };
-    assert!(rt; list.push(component).is_ok());
-    assert!(rt;
-        list.copy()?
-            .get(0)
-            .is_some_and(|f| f.constant == Ratio::one())
-    );
-    Ok(())
+fn terms_keep_their_order(rt: HostRuntime) {
+    assert!(rt; keeps_a_term(rt.alloc()) == Ok(true));
+}
+
+/// The constant in a copy of a list of one constant function.
+fn copied_constant(alloc: Global) -> Result<Option<Ratio>, NameFault> {
+    let (terms, constant) = (NamedTerms::new(alloc), Ratio::one());
+    let list = NamedVec::from_vec(vec![in alloc; NamedAff { terms, constant }]?);
+    Ok(list.copy()?.get(0).map(|f| f.constant))
+}
+
+#[test]
+fn components_are_copied(rt: HostRuntime) {
+    assert!(rt; copied_constant(rt.alloc()) == Ok(Some(Ratio::one())));
 }
