@@ -42,7 +42,7 @@ fn stands_for(alloc: Global, token: &[u8], text: Option<&str>) -> Result<bool, M
     Ok(name.as_ref().map(|name| name.text()) == text)
 }
 
-fn is_written(alloc: Global, text: &str, token: &[u8]) -> Result<bool, NameFault> {
+fn is_written(alloc: Global, text: &str, token: &[u8]) -> Result<bool, Fail> {
     let name = Name::new(alloc, text)?;
     Ok(name.escape()?.as_slice() == token)
 }
@@ -58,10 +58,11 @@ fn a_token_stands_for_a_name(rt: HostRuntime) {
 }
 
 #[test]
-fn a_name_is_escaped(rt: HostRuntime) {
+fn a_name_is_escaped(rt: HostRuntime) -> Result<(), Fail> {
     for (text, token) in ESCAPES {
-        assert!(rt; is_written(rt.alloc(), text, token) == Ok(true), "{text}");
+        assert!(rt; is_written(rt.alloc(), text, token)?, "{text}");
     }
+    Ok(())
 }
 
 /// The fault of a name of 4,097 bytes.
@@ -76,14 +77,16 @@ fn a_name_has_4096_bytes_at_most(rt: HostRuntime) {
 }
 
 /// Whether a list of one name has it in a copy.
-fn is_in_a_list(alloc: Global) -> Result<bool, NameFault> {
-    let names = Names::from_vec(vec![in alloc; Name::new(alloc, "x")?]?);
+fn is_in_a_list(alloc: Global, x: Name) -> Result<bool, Memory> {
+    let names = Names::from_vec(vec![in alloc; x]?);
     Ok(names.copy()?.get(0).is_some_and(|name| name.text() == "x"))
 }
 
 #[test]
-fn names_are_a_list(rt: HostRuntime) {
-    assert!(rt; is_in_a_list(rt.alloc()) == Ok(true));
+fn names_are_a_list(rt: HostRuntime) -> Result<(), Fail> {
+    let x = Name::new(rt.alloc(), "x")?;
+    assert!(rt; is_in_a_list(rt.alloc(), x) == Ok(true));
+    Ok(())
 }
 
 /// Whether a name is found by its number, and the number by its name, until it is taken out.

@@ -36,6 +36,12 @@ const TARGET_PLANS: &str = "\
     native native native native native \n\
     ";
 
+// Each edge costs 1, but for the sixth.
+const DEARER_COSTS: [u32; EDGE_COUNT] = [
+    1, 1, 1, 1, 1, 5, 1, 1, 1, 1, 1, 1, 1, 1, 1, 1, 1, 1, 1, 1, 1, 1, 1, 1, 1, 1, 1, 1, 1, 1, 1, 1,
+    1, 1, 1, 1, 1, 1, 1, 1, 1, 1, 1, 1, 1, 1, 1, 1, 1, 1, 1, 1, 1, 1, 1, 1, 1, 1, 1, 1, 1, 1, 1,
+];
+
 const DEARER_PLANS: &str = "\
     7:3 8:2 9:1 11:6 4:3 31:3 6:1 10:7 38:1 33:1 34:2 35:3 36:3 37:4 39:1 native 26:1 21:2 \
     40:2 41:3 45:2 46:1 47:2 53:9 42:1 44:1 native 43:1 55:4 56:5 missing 59:1 native 60:2 \
@@ -76,15 +82,13 @@ fn plans_of_targets(alloc: Global) -> Result<String, Fail> {
 #[test]
 fn plans_of_the_targets(rt: HostRuntime) -> Result<(), Fail> {
     let text = plans_of_targets(rt.alloc())?;
-    assert_eq!(rt; text.as_str(), TARGET_PLANS);
+    assert!(rt; text.as_str() == TARGET_PLANS);
     Ok(())
 }
 
 #[test]
 fn plans_with_a_dearer_edge(rt: HostRuntime) -> Result<(), Fail> {
-    let mut costs = [1; EDGE_COUNT];
-    costs[5] = 5;
-    let plans = plans(rt.alloc(), &KINDS.standard, &costs)?;
-    assert_eq!(rt; plans.as_str(), DEARER_PLANS);
+    let text = plans(rt.alloc(), &KINDS.standard, &DEARER_COSTS)?;
+    assert!(rt; text.as_str() == DEARER_PLANS);
     Ok(())
 }
