@@ -7,7 +7,7 @@ use ratio_core::Ratio;
 use std::alloc::Global;
 use std::test::Fail;
 
-/// Whether a list of one term has it, and so has a copy.
+/// Whether a copy of a list of one term has it alone.
 fn keeps_a_term(alloc: Global, variable: Name) -> Result<bool, Memory> {
     let coefficient = Ratio::one();
     let mut terms = NamedTerms::new(alloc);
@@ -15,10 +15,14 @@ fn keeps_a_term(alloc: Global, variable: Name) -> Result<bool, Memory> {
         variable,
         coefficient,
     };
-    let is_pushed = terms.push(term).is_ok() && terms.len() == 1 && !terms.is_empty();
+    if terms.push(term).is_err() {
+        return Err(Memory);
+    }
     let copy = terms.copy()?;
-    let is_copied = copy.get(0).is_some_and(|t| t.variable.text() == "x");
-    Ok(is_pushed && is_copied && copy.as_slice().len() == 1)
+    let [term] = copy.as_slice() else {
+        return Ok(false);
+    };
+    Ok(term.variable.text() == "x" && term.coefficient == Ratio::one())
 }
 
 #[test]
