@@ -1,40 +1,45 @@
 //! Functions by the names of their variables.
 
-use lists::Duplicate;
+use lists::{Duplicate, Memory};
 use name_index::Name;
 use named_aff::{NamedAff, NamedTerm, NamedTerms, NamedVec};
 use ratio_core::Ratio;
+use std::alloc::Global;
 use std::test::Fail;
 
-#[test]
-fn terms_keep_their_order(rt: HostRuntime) -> Result<(), Fail> {
-    let mut terms = NamedTerms::new(rt.alloc());
+/// Whether a copy of a list of one term has it alone.
+fn keeps_a_term(alloc: Global, variable: Name) -> Result<bool, Memory> {
+    let coefficient = Ratio::one();
+    let mut terms = NamedTerms::new(alloc);
     let term = NamedTerm {
-        variable: Name::new(rt.alloc(), "x")?,
-        coefficient: Ratio::zero(),
+        variable,
+        coefficient,
     };
-    assert!(rt; terms.push(term).is_ok() && terms.len() == 1 && !terms.is_empty());
+    if terms.push(term).is_err() {
+        return Err(Memory);
+    }
     let copy = terms.copy()?;
-    assert!(rt;
-        copy.get(0)
-            .is_some_and(|t| t.variable.text() == "x" && t.coefficient.is_zero())
-    );
-    assert!(rt; copy.get(1).is_none() && copy.as_slice().len() == 1);
-    Ok(())
+    let [term] = copy.as_slice() else {
+        return Ok(false);
+    };
+    Ok(term.variable.text() == "x" && term.coefficient == Ratio::one())
 }
 
 #[test]
-fn components_are_copied(rt: HostRuntime) -> Result<(), Fail> {
-    let mut list = NamedVec::new(rt.alloc());
-    let component = NamedAff {
-        terms: NamedTerms::new(rt.alloc()),
-        constant: Ratio::one(),
-    };
-    assert!(rt; list.push(component).is_ok());
-    assert!(rt;
-        list.copy()?
-            .get(0)
-            .is_some_and(|f| f.constant == Ratio::one())
-    );
+fn terms_keep_their_order(rt: HostRuntime) -> Result<(), Fail> {
+    let x = Name::new(rt.alloc(), "x")?;
+    assert!(rt; keeps_a_term(rt.alloc(), x) == Ok(true));
     Ok(())
+}
+
+/// The constant in a copy of a list of one constant function.
+fn copied_constant(alloc: Global) -> Result<Option<Ratio>, Memory> {
+    let (terms, constant) = (NamedTerms::new(alloc), Ratio::one());
+    let list = NamedVec::from_vec(vec![in alloc; NamedAff { terms, constant }]?);
+    Ok(list.copy()?.get(0).map(|f| f.constant))
+}
+
+#[test]
+fn components_are_copied(rt: HostRuntime) {
+    assert!(rt; copied_constant(rt.alloc()) == Ok(Some(Ratio::one())));
 }

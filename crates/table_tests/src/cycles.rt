@@ -23,16 +23,13 @@ const CYCLE: [EdgeRow; 3] = [
 #[test]
 fn a_cycle_with_a_way_out(rt: HostRuntime) {
     let graph = Graph::<3, 3>::build(&CYCLE, &[1; 3], &[false, false, true], &[true; 3]);
-    assert_eq!(rt; graph.choice(0), Choice::By(2));
-    assert_eq!(rt; graph.choice(1), Choice::By(1));
-    assert_eq!(rt; graph.cost(1), Some(2));
-    assert_eq!(rt; graph.choice(3), Choice::Missing);
+    assert!(rt; graph.choice(0) == Choice::By(2) && graph.choice(1) == Choice::By(1));
+    assert!(rt; graph.cost(1) == Some(2) && graph.choice(3) == Choice::Missing);
 }
 
 #[test]
 fn a_cycle_without_one(rt: HostRuntime) {
     let on = [true, true, false];
     let graph = Graph::<3, 3>::build(&CYCLE, &[1; 3], &[false, false, true], &on);
-    assert_eq!(rt; graph.choice(0), Choice::Missing);
-    assert_eq!(rt; graph.cost(1), None);
+    assert!(rt; graph.choice(0) == Choice::Missing && graph.cost(1).is_none());
 }
