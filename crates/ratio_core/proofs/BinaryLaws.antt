@@ -1,5 +1,5 @@
 -- The greatest common divisor by halves and differences.
-use Rattle.std.proofs.Common.{◌≡◌, ◌≢◌, ℕ, zero, suc, ◌+◌, ◌-◌, ◌*◌, ◌/◌, ◌%◌, ◌^◌, ◌<◌, ◌≤◌, ◌⊎◌, inl, inr, sym, ◌∙◌, ap, ap₂, subst, arith, min, mul-le-mul_left, pow-suc, mul-div_cancel}
+use Rattle.std.proofs.Common.{◌≡◌, ◌≢◌, ℕ, zero, suc, ◌+◌, ◌-◌, ◌*◌, ◌/◌, ◌%◌, ◌^◌, ◌<◌, ◌≤◌, ◌⊎◌, inl, inr, sym, ◌∙◌, ap, ap₂, subst, arith, min, pow-suc, mul-div_cancel}
 use Rattle.std.proofs.Math.Nat.{dvd_antisymm, dvd_trans, dvd-mul_right, dvd_refl, le_of_mul-le-mul_right, mod-eq_of_lt, add-mod_right}
 use Rattle.std.proofs.lemmas.Bool.{cases_lt}
 use Rattle.std.proofs.lemmas.Nat.{mod-pow-add, pow_pos, div-add-mod', pow-add}

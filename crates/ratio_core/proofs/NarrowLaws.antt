@@ -1,7 +1,5 @@
 -- Sums and products of narrow fractions, as the code makes them.
-use Rattle.std.proofs.Common.{◌≡◌, ℕ, ◌*◌, ◌/◌, ◌^◌, ◌<◌, ◌≤◌, true, Bool, not, ℤ, pos, ◌+ℤ◌, ◌*ℤ◌, unsigned_abs, refl, sym, ◌∙◌, ap, ap₂, subst, arith, div-le_self, div-one, bit_or, leb, SFits, of_z, to_z, to_z-of_z}
-use Rattle.std.proofs.lemmas.Int.{ints}
-use mir.Syntax.{w128}
+use Rattle.std.proofs.Common.{◌≡◌, ℕ, ◌*◌, ◌/◌, ◌^◌, ◌<◌, ◌≤◌, true, Bool, not, ℤ, pos, ◌+ℤ◌, ◌*ℤ◌, unsigned_abs, refl, sym, ◌∙◌, ap, ap₂, subst, arith, div-le_self, div-one, bit_or, leb}
 use Rattle.std.proofs.lemmas.Bool.{leb-true}
 use Rattle.std.proofs.lemmas.Nat.{le_or_l, le_or_r, mul-le}
 use Rattle.std.specs.Bool.{beq}
@@ -13,7 +11,7 @@ use Rattle.ratio_core.specs.Rational.{Fits, IsStored, Rational, SumFits, reduce,
 use Rattle.ratio_core.specs.RationalLaws.{times_is}
 use Rattle.ratio_core.proofs.Products.{signed_itself, signed_product, signed_times}
 use Rattle.ratio_core.proofs.Products as product
-use Rattle.ratio_core.proofs.Sums.{made_fits, made_stored, made_value, sum_refused}
+use Rattle.ratio_core.proofs.Sums.{made_fits, made_stored, made_value}
 
 pub small_product : (a b : ℕ) → a < 2 ^ 63 → b < 2 ^ 63 → a * b < 2 ^ 127
 small_product a b h k =
