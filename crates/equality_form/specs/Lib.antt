@@ -3,3 +3,11 @@ pub mod Columns
 pub mod EqualityForm
 pub mod ReadBack
 pub mod Right
+pub mod CellLaws
+pub mod KeyLaws
+pub mod PointLaws
+pub mod SlackLaws
+pub mod Native
+pub mod ComponentLaws
+pub mod RowLaws
+pub mod FeasibleLaws
