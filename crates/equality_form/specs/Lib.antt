@@ -11,3 +11,4 @@ pub mod Native
 pub mod ComponentLaws
 pub mod RowLaws
 pub mod FeasibleLaws
+pub mod WeightLaws
