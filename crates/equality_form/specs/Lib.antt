@@ -12,3 +12,6 @@ pub mod ComponentLaws
 pub mod RowLaws
 pub mod FeasibleLaws
 pub mod WeightLaws
+pub mod DualLaws
+pub mod CostLaws
+pub mod RightLaws
