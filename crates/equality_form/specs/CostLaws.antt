@@ -1,9 +1,9 @@
 -- The cost of a leaf model, over its variables.
-use Rattle.std.specs.Prelude.{◌≡◌, List, [], ◌∷◌, ◌++◌, All, drop, length, map, refl}
+use Rattle.std.specs.Prelude.{◌≡◌, List, [], ◌∷◌, All, refl}
 use Rattle.std.specs.FinMap as finite
-use Rattle.std.proofs.Common.{sym, ◌∙◌, ap, ap₂}
+use Rattle.std.proofs.Common.{sym, ◌∙◌, ap}
 use Rattle.std.proofs.lemmas.List.Elements.{All-head}
-use Rattle.ratio_core.specs.Rational.{Rational, neg_ℚ, zero_ℚ, ◌*ℚ◌, ◌+ℚ◌}
+use Rattle.ratio_core.specs.Rational.{Rational, neg_ℚ, zero_ℚ, ◌*ℚ◌}
 use Rattle.rational_laws.specs.Field.{neg_ℚ-*ℚ, zero-*ℚ}
 use Rattle.rational_laws.specs.Sums.{sum_by_ℚ, sum_by_ℚ-neg_ℚ, sum_by_ℚ_same, sum_by_ℚ_zero}
 use Rattle.aff_core.specs.Address.{Address, address_cmp}

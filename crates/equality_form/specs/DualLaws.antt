@@ -3,7 +3,6 @@
 use Rattle.std.specs.Prelude.{◌≡◌, ℕ, zero, suc, ◌+◌, ◌<◌, Bool, true, false, List, [], ◌∷◌, ◌++◌, Option, Some, None, All, drop, length, map, slice_index_or, take, refl}
 use Rattle.std.proofs.Common.{sym, ◌∙◌, ap, ap₂, arith, subst}
 use Rattle.std.proofs.lemmas.Int.{ints}
-use Rattle.std.proofs.lemmas.List.{length-append, length-drop, length-map}
 use Rattle.std.proofs.lemmas.List.Elements.{All-cons, All-head, All-nil, All-tail}
 use Rattle.ratio_core.specs.Rational.{Rational, neg_ℚ, zero_ℚ, ◌*ℚ◌, ◌+ℚ◌, ◌-ℚ◌, ◌≤ℚ◌}
 use Rattle.rational_laws.specs.Dot.{dot}
@@ -21,7 +20,7 @@ use Rattle.solver_store.specs.declared.leaf.LeafVar.TheVariants.{Free, Nonneg}
 use Rattle.tableau_core.specs.Row.{cell}
 use Rattle.equality_form.specs.Columns.{parts_among, slack_at, slacks_from}
 use Rattle.equality_form.specs.ComponentLaws.{MayWeigh, gap_by_components, in_dual}
-use Rattle.equality_form.specs.Equations.{Equation, equations_among, equations_of, flipped, right_of, slack_of}
+use Rattle.equality_form.specs.Equations.{Equation, equations_among, flipped, right_of, slack_of}
 use Rattle.equality_form.specs.Native.{IsNativeRow}
 use Rattle.equality_form.specs.ReadBack.{by_rows}
 use Rattle.equality_form.specs.Right.{HasDuals, MayCost, held}

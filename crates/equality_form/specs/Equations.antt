@@ -1,6 +1,6 @@
 -- The equations of a leaf model: one for each component of each row, in the order of the rows'
 -- addresses. A slack makes an equation of a component that is to be at most or at least a number.
-use Rattle.std.specs.Prelude.{Bool, true, false, cond, List, [], ◌∷◌, Option, Some, None, flat_map, map}
+use Rattle.std.specs.Prelude.{Bool, true, false, cond, List, Option, Some, None, flat_map, map}
 use Rattle.std.specs.FinMap as finite
 use Rattle.std.proofs.Common.{is_lt}
 use Rattle.ratio_core.specs.Rational.{Rational, neg_ℚ, rational_cmp, zero_ℚ, ◌-ℚ◌}

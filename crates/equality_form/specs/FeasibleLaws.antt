@@ -1,11 +1,11 @@
 -- A feasible point of the equality form, read back, is feasible for the leaf model, and so is a ray.
-use Rattle.std.specs.Prelude.{◌≡◌, ℕ, ◌+◌, ◌-◌, ◌<◌, ◌≤◌, Bool, List, [], ◌∷◌, ◌++◌, All, IsSome, drop, length, map, slice_index_or, refl}
+use Rattle.std.specs.Prelude.{◌≡◌, ℕ, ◌+◌, ◌-◌, ◌<◌, ◌≤◌, Bool, List, [], ◌∷◌, ◌++◌, All, IsSome, drop, length, map, slice_index_or}
 use Rattle.std.specs.FinMap as finite
-use Rattle.std.proofs.Common.{sym, ◌∙◌, ap, ap₂, arith, subst}
+use Rattle.std.proofs.Common.{sym, ◌∙◌, ap, arith, subst}
 use Rattle.std.proofs.lemmas.List.{length-drop, length-map}
 use Rattle.std.proofs.lemmas.List.Elements.{All-append, All-cons, All-drop, All-head, All-map, All-nil, All-tail, All-weaker}
 use Rattle.std.proofs.lemmas.Simd.{map-map}
-use Rattle.ratio_core.specs.Rational.{Rational, one_ℚ, zero_ℚ, ◌*ℚ◌, ◌+ℚ◌, ◌≤ℚ◌}
+use Rattle.ratio_core.specs.Rational.{Rational, one_ℚ, zero_ℚ, ◌*ℚ◌, ◌+ℚ◌}
 use Rattle.rational_laws.specs.Dot.{dot}
 use Rattle.rational_laws.specs.Sums.{sum_by_ℚ, sum_by_ℚ-map}
 use Rattle.aff_core.specs.Address.{Address}
@@ -14,7 +14,7 @@ use Rattle.aff_core.specs.FunctionLists.{evaluations}
 use Rattle.item_core.specs.declared.item.Body.{Body}
 use Rattle.item_core.specs.Item.{functions_of, set_of}
 use Rattle.leaf_model.specs.LeafModel.{LeafModel}
-use Rattle.linear_laws.specs.SlopeLaws.{mentioned, slope_over}
+use Rattle.linear_laws.specs.SlopeLaws.{slope_over}
 use Rattle.linear_laws.specs.SupportLaws.{count}
 use Rattle.set_core.specs.Membership.{In}
 use Rattle.set_core.specs.Mirrored.{multiplied}

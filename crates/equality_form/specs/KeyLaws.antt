@@ -1,19 +1,18 @@
 -- Addresses that stand once: the keys of finite maps, what is listed at them, and slopes over them.
-use Rattle.std.specs.Prelude.{◌≡◌, Bool, true, false, T, cond, List, [], ◌∷◌, All, IsSome, Some, length, map, refl}
+use Rattle.std.specs.Prelude.{◌≡◌, Bool, true, false, T, cond, List, [], ◌∷◌, IsSome, Some, length, map, refl}
 use Rattle.std.specs.FinMap as finite
 use Rattle.std.specs.FinMap.{FinMap, is_sorted}
 use Rattle.std.specs.FinMap.Entries.{below_all, find}
 use Rattle.std.specs.List.{AllByRecursion, IsDistinct}
 use Rattle.std.proofs.Common.{sym, ◌∙◌, ap, ap₂, arith, subst, true≢false}
-use Rattle.std.proofs.lemmas.List.Elements.{All-map, All-weaker}
 use Rattle.std.proofs.lemmas.Map.Keys.{IsDistinct-cons, IsDistinct-head, IsDistinct-tail}
 use Rattle.std.specs.Cmp.{eq_by_cmp_equiv}
 use Rattle.std.specs.Ordering.{is_eq}
-use Rattle.ratio_core.specs.Rational.{Rational, neg_ℚ, one_ℚ, zero_ℚ, ◌*ℚ◌, ◌+ℚ◌}
+use Rattle.ratio_core.specs.Rational.{one_ℚ, zero_ℚ, ◌+ℚ◌}
 use Rattle.rational_laws.specs.Field.{+ℚ-zero, zero-+ℚ}
 use Rattle.aff_core.specs.Address.{Address, address_cmp, address_eq, address_eq-Decides, address_total}
 use Rattle.aff_core.specs.KeyOrder.{address_order, same_key}
-use Rattle.linear_laws.specs.SupportLaws.{Supports, count}
+use Rattle.linear_laws.specs.SupportLaws.{count}
 use Rattle.linear_laws.specs.UnitLaws.{unit, unit_other, unit_same}
 use Rattle.map_laws.specs.OptionLaws.{not_some}
 use Rattle.map_laws.specs.TestLaws.{first, is_less, second}

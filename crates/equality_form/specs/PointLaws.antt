@@ -1,31 +1,18 @@
 -- What of a point of the equality form the variables' columns give.
-use Rattle.std.specs.Prelude.{◌≡◌, ℕ, zero, suc, ◌+◌, ◌<◌, ◌≤◌, Bool, true, false, cond, List, [], ◌∷◌, ◌++◌, Option, Some, None, All, drop, length, map, slice_index_or, refl}
-use Rattle.std.specs.FinMap as finite
-use Rattle.std.specs.FinMap.{FinMap}
-use Rattle.std.specs.List.{AllByRecursion, IsDistinct}
-use Rattle.std.proofs.Common.{sym, ◌∙◌, ap, ap₂, arith, subst}
-use Rattle.std.proofs.lemmas.List.{length-append, length-map}
+use Rattle.std.specs.Prelude.{◌≡◌, suc, ◌≤◌, List, [], ◌∷◌, ◌++◌, All, drop, length, map, refl}
+use Rattle.std.proofs.Common.{sym, ◌∙◌, ap, arith, subst}
 use Rattle.std.proofs.lemmas.List.Elements.{All-cons, All-head, All-nil, All-tail}
-use Rattle.std.proofs.lemmas.Map.Keys.{IsDistinct-head, IsDistinct-tail}
-use Rattle.std.specs.Cmp.{eq_by_cmp_equiv}
-use Rattle.ratio_core.specs.Rational.{Rational, neg_ℚ, one_ℚ, zero_ℚ, ◌*ℚ◌, ◌+ℚ◌, ◌-ℚ◌, ◌≤ℚ◌}
+use Rattle.ratio_core.specs.Rational.{Rational, neg_ℚ, ◌*ℚ◌, ◌+ℚ◌, ◌-ℚ◌}
 use Rattle.rational_laws.specs.Dot.{dot}
-use Rattle.rational_laws.specs.DotLaws.{dot-append}
-use Rattle.rational_laws.specs.Field.{*ℚ_comm, +ℚ_assoc, zero-+ℚ}
-use Rattle.rational_laws.specs.Order.{nonpos_neg}
+use Rattle.rational_laws.specs.Field.{+ℚ_assoc, zero-+ℚ}
 use Rattle.rational_laws.specs.Ring.{as_expression, by_ring, ring₅}
-use Rattle.aff_core.specs.Address.{Address, address_eq, address_total}
-use Rattle.aff_core.specs.KeyOrder.{address_order, same_key}
-use Rattle.simplex_form.specs.BoundedSums.{delta}
-use Rattle.simplex_laws.specs.BoundedSumLaws.{delta_other, delta_same}
+use Rattle.aff_core.specs.Address.{Address}
 use Rattle.solver_store.specs.declared.leaf.LeafVar.{LeafVar}
 use Rattle.solver_store.specs.declared.leaf.LeafVar.TheVariants.{Free, Nonneg}
 use Rattle.tableau_core.specs.Row.{cell}
-use Rattle.equality_form.specs.CellLaws.{*ℚ-flipped, flipped-*ℚ, flipped-zero}
-use Rattle.equality_form.specs.Columns.{parts_among, slack_at, slacks_from}
-use Rattle.equality_form.specs.EqualityForm.{numbers_at, unit_at}
-use Rattle.equality_form.specs.Equations.{Equation, flipped, slack_of}
-use Rattle.equality_form.specs.ReadBack.{listed_at, value_in, values_in}
+use Rattle.equality_form.specs.Columns.{parts_among}
+use Rattle.equality_form.specs.EqualityForm.{numbers_at}
+use Rattle.equality_form.specs.ReadBack.{values_in}
 use Rattle.equality_form.specs.Right.{Admits}
 use Rattle.equality_form.specs.SlackLaws.{IsNonneg}
 
@@ -50,7 +37,6 @@ parts_dot ((v, Nonneg) ∷ vars) g rest (p ∷ x) h =
 pub length-values_in : (vars : List (Address × LeafVar)) (x : List Rational) → length (values_in vars x) ≡ length vars
 length-values_in [] x = refl
 length-values_in (var ∷ vars) x = ap suc (length-values_in vars _)
-
 
 -- the variables may have the numbers of a point that isn't negative
 pub admitted : (vars : List (Address × LeafVar)) (p : Address → Rational) (x : List Rational) → map (λ var. p var.0) vars ≡ values_in vars x → length (parts_among vars) ≤ length x → All IsNonneg x → All (λ var. Admits var.1 (p var.0)) vars

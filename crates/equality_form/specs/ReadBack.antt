@@ -1,5 +1,5 @@
 -- An answer of the equality form, read back as one of the leaf model.
-use Rattle.std.specs.Prelude.{Bool, List, [], ◌∷◌, cond, drop, length, map, take}
+use Rattle.std.specs.Prelude.{List, [], ◌∷◌, cond, drop, length, take}
 use Rattle.std.specs.FinMap as finite
 use Rattle.ratio_core.specs.Rational.{Rational, SumFits, neg_ℚ, zero_ℚ, ◌-ℚ◌}
 use Rattle.aff_core.specs.Address.{Address, address_eq}

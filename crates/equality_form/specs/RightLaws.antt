@@ -1,5 +1,5 @@
 -- A right answer of the equality form, read back, is right for the leaf model.
-use Rattle.std.specs.Prelude.{◌≡◌, ℕ, ◌+◌, ◌<◌, ◌≤◌, Bool, List, [], ◌∷◌, ◌++◌, All, drop, length, map, slice_index_or, refl}
+use Rattle.std.specs.Prelude.{◌≡◌, ℕ, ◌+◌, ◌<◌, List, [], ◌++◌, All, drop, length, map, slice_index_or, refl}
 use Rattle.std.specs.FinMap as finite
 use Rattle.std.proofs.Common.{sym, ◌∙◌, ap, ap₂, arith, subst}
 use Rattle.std.proofs.lemmas.List.{get_or-append-add, get_or-map, get_or_append_left, get_or_default, length-append, length-map}
@@ -13,7 +13,6 @@ use Rattle.rational_laws.specs.Sums.{sum_by_ℚ}
 use Rattle.aff_core.specs.Address.{Address}
 use Rattle.aff_core.specs.Function.{coefficient, slope, value_of}
 use Rattle.dual_laws.specs.Held.{adjoint, gap}
-use Rattle.item_core.specs.declared.item.Body.{Body}
 use Rattle.leaf_model.specs.LeafModel.{LeafModel}
 use Rattle.simplex_core.specs.Answer.{IsRightAnswer}
 use Rattle.simplex_core.specs.declared.answer.SolverAnswer.{SolverAnswer}
@@ -37,8 +36,9 @@ use Rattle.equality_form.specs.ReadBack.{by_rows, duals_in, point_in, read_back,
 use Rattle.equality_form.specs.Right.{AreDuals, HasDuals, IsRight, MayCost, held, held_rows}
 use Rattle.equality_form.specs.Right as right
 use Rattle.equality_form.specs.RowLaws.{from_none, right_at}
+use Rattle.equality_form.specs.ShapeLaws.{length-column_costs}
 use Rattle.equality_form.specs.SlackLaws.{IsNonneg}
-use Rattle.equality_form.specs.WeightLaws.{IsBelow, length-unflipped, part_weighed, slack_weighed, slacks_within, weighed_rights}
+use Rattle.equality_form.specs.WeightLaws.{length-unflipped, part_weighed, slack_weighed, slacks_within, weighed_rights}
 
 module _ (leaves : LeafModel) (native : IsNativeModel leaves) where
   abbrev F : Form
@@ -69,7 +69,7 @@ module _ (leaves : LeafModel) (native : IsNativeModel leaves) where
   cost_is : (x : List Rational) → length x ≡ column_count leaves → cost_at F (cell x) ≡ slope (cost leaves) (point_in leaves x)
   cost_is x n =
       subst (λ c. sum_to c (λ j. cell (column_costs leaves) j *ℚ cell x j) ≡ dot (column_costs leaves) x) n
-      (sum_to_dot (column_costs leaves) x (length_costs ∙ sym n))
+      (sum_to_dot (column_costs leaves) x (length-column_costs leaves ∙ sym n))
       ∙ columns_dot leaves (coefficient (cost leaves)) (map (λ slack. zero_ℚ) (slacks leaves)) x (omega (arith, n))
       ∙ ap (λ s. over_variables +ℚ s) (dot_comm (map (λ slack. zero_ℚ) (slacks leaves)) (drop (length (parts leaves)) x) ∙ dot_map_zero (drop (length (parts leaves)) x) (slacks leaves))
       ∙ +ℚ-zero over_variables
@@ -77,11 +77,6 @@ module _ (leaves : LeafModel) (native : IsNativeModel leaves) where
     where
       over_variables : Rational
       over_variables = sum_by_ℚ (λ u. coefficient (cost leaves) u *ℚ point_in leaves x u) (finite.keys leaves.variables)
-
-      length_costs : length (column_costs leaves) ≡ column_count leaves
-      length_costs =
-          length-append (numbers_at (parts leaves) (coefficient (cost leaves))) (map (λ slack. zero_ℚ) (slacks leaves))
-          ∙ ap₂ ◌+◌ (length-map (parts leaves) (λ part. flipped part.1 (coefficient (cost leaves) part.0))) (length-map (slacks leaves) (λ slack. zero_ℚ))
 
   -- ---- duals
 

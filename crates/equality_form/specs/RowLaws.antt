@@ -1,8 +1,8 @@
 -- The rows of a leaf model's matrix, cell by cell and weighed.
-use Rattle.std.specs.Prelude.{◌≡◌, ℕ, zero, suc, ◌+◌, ◌*◌, ◌<◌, ◌≤◌, Bool, List, [], ◌∷◌, ◌++◌, length, map, slice_index_or, refl}
+use Rattle.std.specs.Prelude.{◌≡◌, ℕ, zero, suc, ◌+◌, ◌*◌, ◌<◌, Bool, List, [], ◌∷◌, ◌++◌, length, slice_index_or}
 use Rattle.std.proofs.Common.{sym, ◌∙◌, ap, ap₂, arith, subst}
 use Rattle.std.proofs.lemmas.List.{get_or-map, length-append, length-map}
-use Rattle.ratio_core.specs.Rational.{Rational, zero_ℚ, ◌*ℚ◌, ◌+ℚ◌}
+use Rattle.ratio_core.specs.Rational.{Rational, zero_ℚ, ◌*ℚ◌}
 use Rattle.rational_laws.specs.Dot.{dot}
 use Rattle.aff_core.specs.Address.{Address}
 use Rattle.aff_core.specs.Function.{coefficient}
@@ -54,6 +54,7 @@ module _ (parts : List (Address × Bool)) (slacks : List (ℕ × Bool)) where
       ∙ cell_of_rest (row_cells parts slacks k e) (cells_from parts slacks (suc k) es) (length parts + length slacks) (i * (length parts + length slacks) + j) (length-row_cells k e)
       ∙ cell_at es (suc k) i j d (omega (arith, h)) b
       ∙ ap (λ n. cell (row_cells parts slacks n (slice_index_or es i d)) j) (omega arith)
+
   -- the left side of the i-th row
   pub left_of_row : (es : List Equation) (x : List Rational) (i : ℕ) (d : Equation) → i < length es → length x ≡ length parts + length slacks → sum_to (length parts + length slacks) (λ j. cell (cells_from parts slacks 0 es) (i * (length parts + length slacks) + j) *ℚ cell x j) ≡ flipped (is_flipped (slice_index_or es i d)) (dot (numbers_at parts (coefficient (slice_index_or es i d).function) ++ unit_at slacks i) x)
   left_of_row es x i d h n =
