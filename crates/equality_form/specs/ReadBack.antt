@@ -1,5 +1,5 @@
 -- An answer of the equality form, read back as one of the leaf model.
-use Rattle.std.specs.Prelude.{List, [], ◌∷◌, cond, drop, length, take}
+use Rattle.std.specs.Prelude.{List, [], ◌∷◌, cond, drop, length, take, ℕ, Bool, map}
 use Rattle.std.specs.FinMap as finite
 use Rattle.ratio_core.specs.Rational.{Rational, SumFits, neg_ℚ, zero_ℚ, ◌-ℚ◌}
 use Rattle.aff_core.specs.Address.{Address, address_eq}
@@ -12,7 +12,7 @@ use Rattle.solver_store.specs.declared.leaf.LeafVar.{LeafVar}
 use Rattle.solver_store.specs.declared.leaf.LeafVar.TheVariants.{Free, Nonneg}
 use Rattle.tableau_core.specs.Row.{cell}
 use Rattle.equality_form.specs.Columns.{signs}
-use Rattle.equality_form.specs.Equations.{Equation, equations, flipped, is_flipped}
+use Rattle.equality_form.specs.Equations.{equations, flipped, is_flipped}
 
 -- a number for each variable, and a list of duals for each row
 pub data Answer : Type 0 where
@@ -42,26 +42,30 @@ ValueFits Nonneg x = Unit {0}
 abbrev pub after : LeafVar → List Rational → List Rational
 after var x = drop (length (signs var)) x
 
-abbrev pub values_in : List (Address × LeafVar) → List Rational → List Rational
-values_in [] x = []
-values_in (var ∷ vars) x = value_in var.1 x ∷ values_in vars (after var.1 x)
+module _ {K : Type 0} where
+  abbrev pub values_in : List (K × LeafVar) → List Rational → List Rational
+  values_in [] x = []
+  values_in (var ∷ vars) x = value_in var.1 x ∷ values_in vars (after var.1 x)
 
-abbrev pub ValuesFit : List (Address × LeafVar) → List Rational → Type 0
-ValuesFit [] x = Unit {0}
-ValuesFit (var ∷ vars) x = ValueFits var.1 x × ValuesFit vars (after var.1 x)
+  abbrev pub ValuesFit : List (K × LeafVar) → List Rational → Type 0
+  ValuesFit [] x = Unit {0}
+  ValuesFit (var ∷ vars) x = ValueFits var.1 x × ValuesFit vars (after var.1 x)
 
 -- ---- duals
 
 -- the multipliers of the equations as they were before some were flipped
-abbrev pub unflipped : List Equation → List Rational → List Rational
+abbrev pub unflipped : List Bool → List Rational → List Rational
 unflipped [] y = []
-unflipped (e ∷ es) y = flipped (is_flipped e) (cell y 0) ∷ unflipped es (drop 1 y)
+unflipped (flip ∷ flips) y = flipped flip (cell y 0) ∷ unflipped flips (drop 1 y)
 
--- the list in parts, one a row, each as long as the row has components
+-- the list in parts of these lengths
+abbrev pub in_parts : List ℕ → List Rational → List (List Rational)
+in_parts [] w = []
+in_parts (n ∷ lengths) w = take n w ∷ in_parts lengths (drop n w)
+
+-- a part for each row, as long as the row has components
 abbrev pub by_rows : List (Address × Body) → List Rational → List (List Rational)
-by_rows [] w = []
-by_rows (row ∷ rows) w =
-    take (length (functions_of row.1)) w ∷ by_rows rows (drop (length (functions_of row.1)) w)
+by_rows rows w = in_parts (map (λ row. length (functions_of row.1)) rows) w
 
 -- ---- answers
 
@@ -74,7 +78,7 @@ module _ (leaves : LeafModel) where
   abbrev pub duals_in : List Rational → Address → List Rational
   duals_in y =
       listed_at [] (finite.keys leaves.rows)
-      (by_rows (finite.entries leaves.rows) (unflipped (equations leaves) y))
+      (by_rows (finite.entries leaves.rows) (unflipped (map is_flipped (equations leaves)) y))
 
   abbrev pub PointFits : List Rational → Type 0
   PointFits x = ValuesFit (finite.entries leaves.variables) x

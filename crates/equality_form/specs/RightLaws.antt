@@ -83,7 +83,7 @@ module _ (leaves : LeafModel) (native : IsNativeModel leaves) where
   module _ (y : List Rational) (c : Address → Rational)
       (reduced : (j : ℕ) → j < column_count leaves → weighted F (cell y) (λ i. F.matrix i j) ≤ℚ cell (numbers_at (parts leaves) c ++ map (λ slack. zero_ℚ) (slacks leaves)) j) where
     w : List Rational
-    w = unflipped es y
+    w = unflipped (map is_flipped es) y
 
     length_w : length w ≡ length es
     unfolding w
@@ -124,8 +124,8 @@ module _ (leaves : LeafModel) (native : IsNativeModel leaves) where
         held_is (duals_in leaves y) (finite.entries leaves.rows)
         ∙ ap (λ lists. held_with lists (finite.entries leaves.rows))
         (sym (map-map (duals_in leaves y) (λ row. row.0) (finite.entries leaves.rows))
-        ∙ listed [] (finite.keys leaves.rows) (by_rows (finite.entries leaves.rows) (unflipped es y)) (keys_distinct leaves.rows)
-        (length-by_rows (finite.entries leaves.rows) (unflipped es y) ∙ sym (length-map (finite.entries leaves.rows) (λ row. row.0))))
+        ∙ listed [] (finite.keys leaves.rows) (by_rows (finite.entries leaves.rows) (unflipped (map is_flipped es) y)) (keys_distinct leaves.rows)
+        (length-by_rows (finite.entries leaves.rows) (unflipped (map is_flipped es) y) ∙ sym (length-map (finite.entries leaves.rows) (λ row. row.0))))
 
     are_duals : AreDuals leaves c (duals_in leaves y)
     unfolding a

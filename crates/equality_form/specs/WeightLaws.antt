@@ -24,7 +24,7 @@ no_equation = record { function = constant_function zero_ℚ; set = EqualTo zero
 
 -- ---- multipliers
 
-pub length-unflipped : (es : List Equation) (y : List Rational) → length (unflipped es y) ≡ length es
+pub length-unflipped : (es : List Equation) (y : List Rational) → length (unflipped (map is_flipped es) y) ≡ length es
 length-unflipped [] y = refl
 length-unflipped (e ∷ es) y = ap suc (length-unflipped es (drop 1 y))
 
@@ -32,16 +32,16 @@ after_first : (y : List Rational) (i : ℕ) → cell (drop 1 y) i ≡ cell y (su
 after_first [] i = refl
 after_first (q ∷ y) i = refl
 
-cell_unflipped : (es : List Equation) (y : List Rational) (i : ℕ) (d : Equation) → i < length es → cell (unflipped es y) i ≡ flipped (is_flipped (slice_index_or es i d)) (cell y i)
+cell_unflipped : (es : List Equation) (y : List Rational) (i : ℕ) (d : Equation) → i < length es → cell (unflipped (map is_flipped es) y) i ≡ flipped (is_flipped (slice_index_or es i d)) (cell y i)
 cell_unflipped [] y i d h = absurd (omega (arith, h))
 cell_unflipped (e ∷ es) y zero d h = refl
 cell_unflipped (e ∷ es) y (suc i) d h =
     cell_unflipped es (drop 1 y) i d (omega (arith, h)) ∙ ap (flipped (is_flipped (slice_index_or es i d))) (after_first y i)
 
 -- a column whose cells are flipped with their equations
-weighed : (es : List Equation) (y : List Rational) (g h : ℕ → Rational) → ((i : ℕ) → i < length es → g i ≡ flipped (is_flipped (slice_index_or es i no_equation)) (h i)) → sum_to (length es) (λ i. cell y i *ℚ g i) ≡ sum_to (length es) (λ i. cell (unflipped es y) i *ℚ h i)
+weighed : (es : List Equation) (y : List Rational) (g h : ℕ → Rational) → ((i : ℕ) → i < length es → g i ≡ flipped (is_flipped (slice_index_or es i no_equation)) (h i)) → sum_to (length es) (λ i. cell y i *ℚ g i) ≡ sum_to (length es) (λ i. cell (unflipped (map is_flipped es) y) i *ℚ h i)
 weighed es y g h e =
-    sum_to_same (length es) (λ i. cell y i *ℚ g i) (λ i. cell (unflipped es y) i *ℚ h i)
+    sum_to_same (length es) (λ i. cell y i *ℚ g i) (λ i. cell (unflipped (map is_flipped es) y) i *ℚ h i)
     (λ i b. ap (λ q. cell y i *ℚ q) (e i b) ∙ *ℚ-flipped (is_flipped (slice_index_or es i no_equation)) (cell y i) (h i)
     ∙ flipped-*ℚ (is_flipped (slice_index_or es i no_equation)) (cell y i) (h i)
     ∙ ap (λ q. q *ℚ h i) (sym (cell_unflipped es y i no_equation b)))
@@ -52,10 +52,10 @@ over_equations es w h n =
     sum_to_same (length es) (λ i. cell w i *ℚ h (slice_index_or es i no_equation)) (λ i. cell w i *ℚ cell (map h es) i) (λ i b. ap (λ q. cell w i *ℚ q) (sym (get_or-map h es i no_equation zero_ℚ b)))
     ∙ subst (λ m. sum_to m (λ i. cell w i *ℚ cell (map h es) i) ≡ dot w (map h es)) (length-map es h) (sum_to_dot w (map h es) (n ∙ sym (length-map es h)))
 
-pub weighed_rights : (es : List Equation) (y : List Rational) → sum_to (length es) (λ i. cell y i *ℚ cell (right_sides es) i) ≡ dot (unflipped es y) (map right_of es)
+pub weighed_rights : (es : List Equation) (y : List Rational) → sum_to (length es) (λ i. cell y i *ℚ cell (right_sides es) i) ≡ dot (unflipped (map is_flipped es) y) (map right_of es)
 weighed_rights es y =
     weighed es y (cell (right_sides es)) (λ i. right_of (slice_index_or es i no_equation)) (λ i b. right_at es i no_equation b)
-    ∙ over_equations es (unflipped es y) right_of (length-unflipped es y)
+    ∙ over_equations es (unflipped (map is_flipped es) y) right_of (length-unflipped es y)
 
 flipped_sum : (b : Bool) (n : ℕ) (g : ℕ → Rational) → sum_to n (λ i. flipped b (g i)) ≡ flipped b (sum_to n g)
 flipped_sum true n g = sum_to-neg_ℚ n g
@@ -81,12 +81,12 @@ module _ (parts : List (Address × Bool)) (slacks : List (ℕ × Bool)) (es : Li
           ∙ ap₂ ◌+◌ (length-map parts (λ part. flipped part.1 (coefficient (slice_index_or es i no_equation).function part.0))) (length-map slacks (λ slack. flipped slack.1 (delta slack.0 i)))
 
   -- the column of a variable
-  pub part_weighed : (j : ℕ) (d : Address × Bool) → j < length parts → column_weighed j ≡ flipped (slice_index_or parts j d).1 (dot (unflipped es y) (map (λ e. coefficient e.function (slice_index_or parts j d).0) es))
+  pub part_weighed : (j : ℕ) (d : Address × Bool) → j < length parts → column_weighed j ≡ flipped (slice_index_or parts j d).1 (dot (unflipped (map is_flipped es) y) (map (λ e. coefficient e.function (slice_index_or parts j d).0) es))
   part_weighed j d h =
       weighed es y (λ i. cell (cells_from parts slacks 0 es) (i * (length parts + length slacks) + j)) (λ i. flipped (slice_index_or parts j d).1 (coefficient (slice_index_or es i no_equation).function (slice_index_or parts j d).0))
       (λ i b. cell_in i j b (omega (arith, h)) ∙ ap (flipped (is_flipped (slice_index_or es i no_equation))) (number_in i))
-      ∙ out (slice_index_or parts j d).1 (length es) (cell (unflipped es y)) (λ i. coefficient (slice_index_or es i no_equation).function (slice_index_or parts j d).0)
-      ∙ ap (flipped (slice_index_or parts j d).1) (over_equations es (unflipped es y) (λ e. coefficient e.function (slice_index_or parts j d).0) (length-unflipped es y))
+      ∙ out (slice_index_or parts j d).1 (length es) (cell (unflipped (map is_flipped es) y)) (λ i. coefficient (slice_index_or es i no_equation).function (slice_index_or parts j d).0)
+      ∙ ap (flipped (slice_index_or parts j d).1) (over_equations es (unflipped (map is_flipped es) y) (λ e. coefficient e.function (slice_index_or parts j d).0) (length-unflipped es y))
     where
       number_in : (i : ℕ) → cell (numbers_at parts (coefficient (slice_index_or es i no_equation).function) ++ unit_at slacks i) j ≡ flipped (slice_index_or parts j d).1 (coefficient (slice_index_or es i no_equation).function (slice_index_or parts j d).0)
       number_in i =
@@ -94,12 +94,12 @@ module _ (parts : List (Address × Bool)) (slacks : List (ℕ × Bool)) (es : Li
           ∙ get_or-map (λ part. flipped part.1 (coefficient (slice_index_or es i no_equation).function part.0)) parts j d zero_ℚ h
 
   -- the column of a slack
-  pub slack_weighed : (j : ℕ) (d : ℕ × Bool) → j < length slacks → (slice_index_or slacks j d).0 < length es → column_weighed (length parts + j) ≡ flipped (slice_index_or slacks j d).1 (cell (unflipped es y) (slice_index_or slacks j d).0)
+  pub slack_weighed : (j : ℕ) (d : ℕ × Bool) → j < length slacks → (slice_index_or slacks j d).0 < length es → column_weighed (length parts + j) ≡ flipped (slice_index_or slacks j d).1 (cell (unflipped (map is_flipped es) y) (slice_index_or slacks j d).0)
   slack_weighed j d h k =
       weighed es y (λ i. cell (cells_from parts slacks 0 es) (i * (length parts + length slacks) + (length parts + j))) (λ i. flipped (slice_index_or slacks j d).1 (delta (slice_index_or slacks j d).0 i))
       (λ i b. cell_in i (length parts + j) b (omega (arith, h)) ∙ ap (flipped (is_flipped (slice_index_or es i no_equation))) (unit_in i))
-      ∙ out (slice_index_or slacks j d).1 (length es) (cell (unflipped es y)) (delta (slice_index_or slacks j d).0)
-      ∙ ap (flipped (slice_index_or slacks j d).1) (sum_to_delta_right (length es) (slice_index_or slacks j d).0 (cell (unflipped es y)) k)
+      ∙ out (slice_index_or slacks j d).1 (length es) (cell (unflipped (map is_flipped es) y)) (delta (slice_index_or slacks j d).0)
+      ∙ ap (flipped (slice_index_or slacks j d).1) (sum_to_delta_right (length es) (slice_index_or slacks j d).0 (cell (unflipped (map is_flipped es) y)) k)
     where
       unit_in : (i : ℕ) → cell (numbers_at parts (coefficient (slice_index_or es i no_equation).function) ++ unit_at slacks i) (length parts + j) ≡ flipped (slice_index_or slacks j d).1 (delta (slice_index_or slacks j d).0 i)
       unit_in i =
