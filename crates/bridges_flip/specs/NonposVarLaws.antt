@@ -1,7 +1,7 @@
 -- The law of NonposVar: x ≤ 0 is -s with s ≥ 0.
-use Rattle.std.specs.Prelude.{All, List, [], length, map, refl, true, ℕ, ◌*◌, ◌∷◌, ◌≡◌, ◌≤◌}
+use Rattle.std.specs.Prelude.{All, List, [], length, map, refl, true, ℕ, ◌*◌, ◌∷◌, ◌≡◌, ◌≤◌, false}
 use Rattle.std.proofs.lemmas.List.Elements.{All-nil, All-weaker, All-cons, All-map}
-use Rattle.std.proofs.Common.{ap, ap₂, arith, ◌∙◌, subst, sym}
+use Rattle.std.proofs.Common.{ap, ap₂, arith, ◌∙◌, subst, sym, true≢false}
 use Rattle.std.proofs.lemmas.List.{length-map}
 use Rattle.rational_laws.specs.Field.{neg_ℚ-zero, -ℚ-itself}
 use Rattle.aff_core.specs.Address.{Address, child_of}
@@ -11,9 +11,9 @@ use Rattle.item_core.specs.declared.image.Expression.TheVariants.{Bridged}
 use Rattle.set_core.specs.Membership.{Dual, In, low_of}
 use Rattle.item_core.specs.declared.edge.Edge.TheVariants.{E44}
 use Rattle.item_core.specs.declared.edge.Edge.{Edge}
-use Rattle.bridge_face.specs.Law.{EdgeLaw, IsLawful, LeadsTo, Miss, growth}
+use Rattle.bridge_face.specs.Law.{EdgeLaw, IsLawful, LeadsTo, Miss, growth, IsItemFor}
 use Rattle.item_core.specs.declared.image.Expression.{Expression}
-use Rattle.bridge_face.specs.ImageOf.{FitsBy, ImageFits, bridged, image_by, image_of, inner, nonpos_var}
+use Rattle.bridge_face.specs.ImageOf.{FitsBy, ImageFits, bridged, image_by, image_of, inner, nonpos_var, group_at}
 use Rattle.item_core.specs.Valid.{FitsItsFunction, IsValidItem}
 use Rattle.aff_core.specs.Function.{Function, coefficient, negated, variable}
 use Rattle.item_core.specs.declared.item.Body.TheVariants.{Group}
@@ -37,6 +37,8 @@ use Rattle.item_core.specs.Item.{is_group, set_of}
 use Rattle.item_core.specs.KindOf.{kind_of_body}
 use Rattle.set_laws.specs.Mirrors.{mirrors}
 use Rattle.set_core.specs.Mirrored.{multiplied}
+use Rattle.item_core.specs.declared.image.Image.{Image}
+use Rattle.bridge_face.specs.Images.{child_at, group_by}
 use Rattle.item_core.specs.declared.kind.Kind.TheVariants as kind
 use Rattle.rational_laws.specs.Dot as numbers
 
@@ -67,6 +69,12 @@ leads_to : (edge : Edge) → family_of edge ≡ NonposVar → (n : ℕ) (vars : 
 unfolding edge_entry kind_of_body
 leads_to E44 own n vars = refl
 leads_to _ own n vars = of_another own refl
+
+-- so it is no row, to which duals would be carried
+pub no_row : (edge : Edge) → family_of edge ≡ NonposVar → (item : Item) → IsItemFor edge item
+    → is_group item.body ≡ false → ⊥
+no_row edge own item suits none =
+    true≢false (sym (of_nonpositive (is_nonpositive edge own item.body suits.valid.function suits.kind)).group ∙ none)
 
 -- ---- negated variables
 
@@ -126,6 +134,18 @@ module _ (edge : Edge) (own : family_of edge ≡ NonposVar) where
   pub back_fits : (item : Item) (ys : List (List Rational)) → BackFits edge item ys
   unfolding BackFitsBy
   back_fits item ys = subst (λ f. BackFitsBy f item ys) (sym own) tt
+
+  -- so is an image that is made of these parts
+  pub image_made : (item : Item) (count : ℕ) (vars : List Address) (exprs : List Expression) (group : Item) (image : Image)
+      → count ≡ size item → vars ≡ inner item count → exprs ≡ map negative vars
+      → group ≡ child_at item 0 (Group (Nonnegatives count) vars) → image ≡ group_by (group ∷ []) exprs
+      → image ≡ image_of edge item
+  image_made item count vars exprs group image count_is vars_are exprs_are group_is image_of_parts =
+      image_of_parts ∙ ap₂ (λ g es. group_by (g ∷ []) es) group_is exprs_are
+      ∙ ap (λ vs. group_by (child_at item 0 (Group (Nonnegatives count) vs) ∷ []) (map negative vs)) vars_are
+      ∙ ap (λ n. group_by (child_at item 0 (Group (Nonnegatives n) (inner item n)) ∷ []) (map negative (inner item n))) count_is
+      ∙ ap (λ es. group_by (group_at item (Nonnegatives (size item)) (size item) ∷ []) es) (sym (negatives_are (inner item (size item))))
+      ∙ sym (image_is item)
 
   module _ (item : Item) (valid : IsValidItem item) where
     abbrev d : ℕ

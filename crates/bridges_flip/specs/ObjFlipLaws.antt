@@ -1,14 +1,14 @@
 -- The law of ObjFlip: the least f is minus the greatest -f.
-use Rattle.std.specs.Prelude.{All, List, [], refl, true, ◌∷◌, ◌≡◌}
+use Rattle.std.specs.Prelude.{All, List, [], refl, true, ◌∷◌, ◌≡◌, false}
 use Rattle.std.proofs.lemmas.List.Elements.{All-head, All-nil, All-cons}
-use Rattle.std.proofs.Common.{ap, sym, subst}
+use Rattle.std.proofs.Common.{ap, sym, subst, true≢false, ◌∙◌}
 use Rattle.aff_core.specs.Address.{Address}
 use Rattle.item_core.specs.declared.item.Body.TheVariants.{AffineObj}
 use Rattle.bridge_face.specs.BackOf.{BackFits, BackFitsBy}
 use Rattle.item_core.specs.declared.item.Body.{Body}
 use Rattle.item_core.specs.declared.edge.Edge.TheVariants.{E58, E59}
 use Rattle.item_core.specs.declared.edge.Edge.{Edge}
-use Rattle.bridge_face.specs.Law.{EdgeLaw, IsLawful, LeadsTo, Miss, cost_of, growth, is_objective}
+use Rattle.bridge_face.specs.Law.{EdgeLaw, IsLawful, LeadsTo, Miss, cost_of, growth, is_objective, IsItemFor}
 use Rattle.bridge_face.specs.ImageOf.{FitsBy, ImageFits, image_by, image_of, objective_at, opposite, sense_of}
 use Rattle.item_core.specs.Valid.{FitsItsFunction, NamesNothingBelow, below}
 use Rattle.aff_core.specs.Function.{Function, coefficient, negated}
@@ -94,6 +94,11 @@ module _ (edge : Edge) (own : family_of edge ≡ ObjFlip) where
   pub is_affine : (b : Body) → FitsItsFunction b → kind_of_body b ≡ source_of edge
       → IsAffineObjective b
   is_affine b h k = (sourced edge own b h k).objective
+
+  -- it is no row, to which duals would be carried
+  pub no_row : (item : Item) → IsItemFor edge item → is_objective item.body ≡ false → ⊥
+  no_row item suits none =
+      true≢false (sym (read (is_affine item.body suits.valid.function suits.kind)).source ∙ none)
 
   law_at : Lawful edge
   law_at item suits =

@@ -12,7 +12,8 @@ bounds-duals-0 c =
 
 pub returns : goal.returns
 returns c =
-    let one = dual_count c.args._edge c.args._item.now (row_at c.args._item.now (made c.args._item.now.body)) (image_is c.args._edge c.requires.own c.args._item.now) c.args.duals.now c.requires.duals in
-    (back_fits c.args._edge c.requires.own c.args._item.now c.args.duals.now,
-    c.in_ok-negations.ensures ∙ ap numbers.negated c.as_slice.ensures
-    ∙ back_one c.args._edge c.args._item.now numbers.negated (back_is c.args._edge c.requires.own c.args._item.now) c.args.duals.now c.index-duals-0.result one c.index-duals-0.is)
+    let one = dual_count c.args._edge c.args._item.now (row_at c.args._item.now (made c.args._item.now.body)) (image_is c.args._edge c.requires.own c.args._item.now) c.args.duals.now c.requires.duals in (
+      back_fits c.args._edge c.requires.own c.args._item.now c.args.duals.now,
+      c.in_ok-negations.ensures ∙ ap numbers.negated c.as_slice.ensures
+          ∙ back_one c.args._edge c.args._item.now numbers.negated (back_is c.args._edge c.requires.own c.args._item.now) c.args.duals.now c.index-duals-0.result one c.index-duals-0.is,
+    )
