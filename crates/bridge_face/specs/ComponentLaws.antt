@@ -80,6 +80,27 @@ all_components P at k zero h = All-nil P
 all_components P at k (suc n) h =
     All-cons P (child_of at k) (components_from at (k + 1) n) (h k) (all_components P at (k + 1) n h)
 
+pub all_components_within : (P : Address → Type 0) (at : Address) (k n : ℕ)
+    → ((i : ℕ) → k ≤ i → i < k + n → P (child_of at i)) → All P (components_from at k n)
+all_components_within P at k zero h = All-nil P
+all_components_within P at k (suc n) h =
+    All-cons P (child_of at k) (components_from at (k + 1) n) (h k (omega arith) (omega arith))
+    (all_components_within P at (k + 1) n (λ i low high. h i (omega (arith, low)) (omega (arith, high))))
+
+pub components-append : (at : Address) (k n m : ℕ)
+    → components_from at k (n + m) ≡ components_from at k n ++ components_from at (k + n) m
+components-append at k zero m =
+    let start : k ≡ k + 0 = omega arith in
+    let count : 0 + m ≡ m = omega arith in
+    ap₂ (λ j l. components_from at j l) start count
+components-append at k (suc n) m =
+    let count : suc n + m ≡ suc (n + m) = omega arith in
+    let start : (k + 1) + n ≡ k + suc n = omega arith in
+    ap (λ l. components_from at k l) count
+    ∙ ap (λ us. child_of at k ∷ us)
+    (components-append at (k + 1) n m
+    ∙ ap (λ j. components_from at (k + 1) n ++ components_from at j m) start)
+
 -- a function that names nothing at or below an item names no component of a child group
 pub misses_inner : (at : Address) (n : ℕ) (fs : List Function)
     → All (NamesNothingBelow at) fs → All (λ v. Miss fs v) (components (child_of at 0) n)
@@ -144,7 +165,7 @@ components_apart_from at k j (suc n) h =
     All-cons (λ v. v ≢ child_of at k) (child_of at j) (components_from at (j + 1) n)
     (other_child at j k (λ e. absurd (omega (arith, e, h)))) (components_apart_from at k (j + 1) n (omega (arith, h)))
 
-weighed_from : (at : Address) (k n : ℕ) (w : List Rational) → length w ≡ n
+pub weighed_from : (at : Address) (k n : ℕ) (w : List Rational) → length w ≡ n
     → weighed w (variables (components_from at k n)) (components_from at k n) ≡ w
 weighed_from at k zero [] e = refl
 weighed_from at k zero (p ∷ w) e = absurd (omega (arith, e))

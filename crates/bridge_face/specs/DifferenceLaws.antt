@@ -1,23 +1,24 @@
 -- Lists of differences of functions: their numbers are the differences of the functions' numbers.
-use Rattle.std.specs.Prelude.{◌≡◌, List, [], ◌∷◌, map, All, length, refl}
+use Rattle.std.specs.Prelude.{◌≡◌, List, [], ◌∷◌, map, All, length, refl, cond}
 use Rattle.std.proofs.Common.{sym, ap, ap₂, ◌∙◌, arith}
 use Rattle.std.proofs.lemmas.List.{length-map}
 use Rattle.std.proofs.lemmas.List.Elements.{All-cons, All-head, All-nil, All-tail}
-use Rattle.ratio_core.specs.Rational.{Rational, neg_ℚ, zero_ℚ, ◌+ℚ◌, ◌-ℚ◌}
+use Rattle.ratio_core.specs.Rational.{Rational, neg_ℚ, zero_ℚ, ◌+ℚ◌, ◌-ℚ◌, one_ℚ}
 use Rattle.rational_laws.specs.Dot.{dot, minus, plus}
 use Rattle.rational_laws.specs.DotLaws.{dot-minus}
-use Rattle.rational_laws.specs.Field.{neg_ℚ-zero, zero-+ℚ}
-use Rattle.aff_core.specs.Address.{Address}
+use Rattle.rational_laws.specs.Field.{neg_ℚ-zero, zero-+ℚ, +ℚ-zero}
+use Rattle.aff_core.specs.Address.{Address, address_eq}
 use Rattle.aff_core.specs.Arithmetic.{sum_of}
 use Rattle.aff_core.specs.ArithmeticLaws.{coefficient-sum_of, constant-sum_of, is_sum}
-use Rattle.aff_core.specs.Function.{Function, coefficient, evaluated, negated}
-use Rattle.aff_core.specs.FunctionLaws.{coefficient-negated, constant-negated, is_negated}
-use Rattle.aff_core.specs.KeyOrder.{address_order}
+use Rattle.aff_core.specs.Function.{Function, coefficient, evaluated, negated, variable, with_coefficient}
+use Rattle.aff_core.specs.FunctionLaws.{coefficient-negated, constant-negated, is_negated, coefficient-variable_other, coefficient-variable_same, coefficient-with, constant-with, same_coefficients}
+use Rattle.aff_core.specs.KeyOrder.{address_order, other_key, same_key, same_or_other}
 use Rattle.item_core.specs.Valid.{NamesNothingBelow, below}
 use Rattle.linear_laws.specs.EvaluationLaws.{evaluated_sum}
 use Rattle.linear_laws.specs.ListLaws.{evaluated_negated}
 use Rattle.bridge_face.specs.ImageOf.{differences, sums}
 use Rattle.bridge_face.specs.Images.{difference}
+use Rattle.bridge_face.specs.ComponentLaws.{constant-variable}
 
 -- ---- of two functions
 
@@ -48,6 +49,27 @@ pub evaluated-difference : (one : Rational) (f g : Function) (x : Address → Ra
 evaluated-difference one f g x =
     evaluated-sum one f (negated g) x
     ∙ ap (λ q. evaluated one f x +ℚ q) (evaluated-negated one g x)
+
+-- where a function doesn't name a variable, the difference from it has one coefficient more
+pub difference-variable : (f : Function) (v : Address) → coefficient f v ≡ zero_ℚ
+    → with_coefficient f v (neg_ℚ one_ℚ) ≡ difference f (variable v)
+difference-variable f v absent =
+    same_coefficients address_order (with_coefficient f v (neg_ℚ one_ℚ)) (difference f (variable v)) each
+    (constant-with address_order f v (neg_ℚ one_ℚ)
+    ∙ sym (constant-difference f (variable v) ∙ ap (λ q. f.constant -ℚ q) (constant-variable v) ∙ ap (λ q. f.constant +ℚ q) neg_ℚ-zero ∙ +ℚ-zero f.constant))
+  where
+    each : (u : Address) → coefficient (with_coefficient f v (neg_ℚ one_ℚ)) u ≡ coefficient (difference f (variable v)) u
+    each u =
+        same_or_other address_order (coefficient (with_coefficient f v (neg_ℚ one_ℚ)) u ≡ coefficient (difference f (variable v)) u) u v
+        (λ e.
+        coefficient-with address_order f v (neg_ℚ one_ℚ) u ∙ ap (λ b. cond b (neg_ℚ one_ℚ) (coefficient f u)) (ap (λ w. address_eq w v) e ∙ same_key address_order v)
+        ∙ sym (coefficient-difference f (variable v) u
+        ∙ ap₂ (λ p q. p -ℚ q) (ap (coefficient f) e ∙ absent) (ap (coefficient (variable v)) e ∙ coefficient-variable_same address_order v)
+        ∙ zero-+ℚ (neg_ℚ one_ℚ)))
+        (λ other.
+        coefficient-with address_order f v (neg_ℚ one_ℚ) u ∙ ap (λ b. cond b (neg_ℚ one_ℚ) (coefficient f u)) (other_key address_order u v other)
+        ∙ sym (coefficient-difference f (variable v) u
+        ∙ ap (λ q. coefficient f u -ℚ q) (coefficient-variable_other address_order v u other) ∙ ap (λ q. coefficient f u +ℚ q) neg_ℚ-zero ∙ +ℚ-zero (coefficient f u)))
 
 -- ---- of lists
 

@@ -1,5 +1,5 @@
 -- What the proofs of all families share.
-use Rattle.std.specs.Prelude.{◌≡◌, ◌==◌, Bool, true, false, ℕ, slice_index_or, List, [], ◌∷◌, map, All, length, refl}
+use Rattle.std.specs.Prelude.{◌≡◌, ◌==◌, false, ℕ, slice_index_or, List, [], ◌∷◌, map, All, length, refl}
 use Rattle.std.specs.Cmp.{unsigned_Decides}
 use Rattle.std.proofs.Common.{sym, ap, ◌∙◌, arith, true≢false}
 use denote.Enum.Declared.{tag_of}

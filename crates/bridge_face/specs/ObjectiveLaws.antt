@@ -1,26 +1,29 @@
 -- The law of an edge that makes an objective of an objective with the same cost.
-use Rattle.std.specs.Prelude.{◌≡◌, ◌*◌, ◌≤◌, ◌<◌, true, false, List, [], ◌∷◌, map, cond, length, refl}
+use Rattle.std.specs.Prelude.{◌≡◌, ◌*◌, ◌≤◌, ◌<◌, true, false, List, ◌∷◌, map, cond, length, refl, All, ℕ, []}
 use Rattle.std.proofs.Common.{sym, ap, subst, ◌∙◌, arith, true≢false}
 use Rattle.std.proofs.lemmas.List.Elements.{All-cons, All-head, All-nil}
+use Rattle.std.proofs.lemmas.List.{length-append}
 use Rattle.ratio_core.specs.Rational.{Rational, zero_ℚ, ◌≤ℚ◌}
 use Rattle.rational_laws.specs.Field.{+ℚ-zero}
 use Rattle.rational_laws.specs.Order.{≤ℚ_from_≡}
-use Rattle.aff_core.specs.Address.{Address}
+use Rattle.aff_core.specs.Address.{Address, child_of}
 use Rattle.aff_core.specs.Function.{Function, coefficient, evaluated}
 use Rattle.dual_laws.specs.Held.{IsHeld, adjoint_of, gap_of}
 use Rattle.set_core.specs.declared.set.Set.TheVariants.{LessThan}
 use Rattle.item_core.specs.declared.edge.Edge.{Edge}
 use Rattle.item_core.specs.declared.item.Body.{Body}
-use Rattle.item_core.specs.declared.item.Body.TheVariants as body
 use Rattle.item_core.specs.declared.item.Item.{Item}
 use Rattle.item_core.specs.declared.image.Image.{Image}
 use Rattle.item_core.specs.Edge.{family_of}
-use Rattle.item_core.specs.Item.{functions_of, is_group}
-use Rattle.item_core.specs.Valid.{IsValidItem}
+use Rattle.item_core.specs.Item.{functions_of, is_group, set_of}
+use Rattle.item_core.specs.Valid.{FitsItsFunction, NamesNothingBelow}
 use Rattle.bridge_face.specs.GroupLaws.{held_of}
 use Rattle.bridge_face.specs.ImageOf.{objective_at}
 use Rattle.bridge_face.specs.Images.{child_at}
 use Rattle.bridge_face.specs.Law.{Balances, CarriesValues, EdgeLaw, GrowsBy, HasComponents, IsCovered, IsValidWithin, LeadsTo, MentionsKnown, Miss, cost_of, expressed, growth, held_body, held_item, is_objective, row_functions, row_set}
+use Rattle.set_core.specs.Shapes.{IsSetOf}
+use Rattle.bridge_face.specs.ComponentLaws.{all_unnamed_below}
+use Rattle.item_core.specs.declared.item.Body.TheVariants as body
 
 -- ---- objectives as rows
 
@@ -56,6 +59,51 @@ objective_no_group (body.AffineVec funcs set) o = refl
 objective_no_group (body.PlainObj sense var) o = refl
 objective_no_group (body.AffineObj sense func) o = refl
 
+pub objective_alone : (b : Body) → is_objective b ≡ true → length (functions_of b) ≡ 1
+objective_alone (body.Group set vars) o = absurd (true≢false (sym o))
+objective_alone (body.Free vars) o = absurd (true≢false (sym o))
+objective_alone (body.Plain var set) o = refl
+objective_alone (body.Affine func set) o = refl
+objective_alone (body.PlainVec vars set) o = absurd (true≢false (sym o))
+objective_alone (body.AffineVec funcs set) o = absurd (true≢false (sym o))
+objective_alone (body.PlainObj sense var) o = refl
+objective_alone (body.AffineObj sense func) o = refl
+
+shaped : (b : Body) → is_objective b ≡ true → FitsItsFunction b
+shaped (body.Group set vars) o = tt
+shaped (body.Free vars) o = tt
+shaped (body.Plain var set) o = absurd (true≢false (sym o))
+shaped (body.Affine func set) o = absurd (true≢false (sym o))
+shaped (body.PlainVec vars set) o = absurd (true≢false (sym o))
+shaped (body.AffineVec funcs set) o = absurd (true≢false (sym o))
+shaped (body.PlainObj sense var) o = tt
+shaped (body.AffineObj sense func) o = tt
+
+any_number : (b : Body) → is_objective b ≡ true → IsSetOf 1 (set_of b)
+any_number (body.Group set vars) o = absurd (true≢false (sym o))
+any_number (body.Free vars) o = absurd (true≢false (sym o))
+any_number (body.Plain var set) o = absurd (true≢false (sym o))
+any_number (body.Affine func set) o = absurd (true≢false (sym o))
+any_number (body.PlainVec vars set) o = absurd (true≢false (sym o))
+any_number (body.AffineVec funcs set) o = absurd (true≢false (sym o))
+any_number (body.PlainObj sense var) o = record { dimension = refl; enough = omega arith; uncrossed = refl }
+any_number (body.AffineObj sense func) o = record { dimension = refl; enough = omega arith; uncrossed = refl }
+
+-- a child objective at a position
+pub objective_valid : (item : Item) (n : ℕ) (child : Body) → is_objective child ≡ true
+    → All (NamesNothingBelow (child_of item.at n)) (functions_of child)
+    → length item.at.positions < 38 → IsValidWithin (child_at item n child)
+objective_valid item n child o unnamed room few =
+    let one = objective_alone child o in
+    record {
+      function = shaped child o;
+      some = omega (arith, one);
+      at_most = few;
+      set = subst (λ m. IsSetOf m (set_of child)) (sym one) (any_number child o);
+      depth = subst (λ m. m ≤ 38) (sym (length-append item.at.positions (n ∷ []))) (omega (arith, room));
+      others = λ _. unnamed;
+    }
+
 -- ---- one objective
 
 -- what an edge owes that makes this objective of the item
@@ -63,11 +111,8 @@ pub record OneObjective (edge : Edge) (item : Item) (child : Body) : Type 0 wher
   pub source : is_objective item.body ≡ true
   pub made : is_objective child ≡ true
   pub cost : cost_of child ≡ cost_of item.body
-  pub valid :
-      length item.at.positions < 38 → length (functions_of child) ≤ 32767
-      → IsValidItem (child_at item 0 child)
-  pub grows :
-      length (functions_of child) ≤ growth (family_of edge) * length (functions_of item.body)
+  pub unnamed : All (NamesNothingBelow item.at) (functions_of child)
+  pub no_growth : growth (family_of edge) ≡ 1
   pub leads : LeadsTo edge child
   pub mentioned : (v : Address) → Miss (functions_of item.body) v → Miss (functions_of child) v
 
@@ -109,13 +154,19 @@ module _ (edge : Edge) (item : Item) (child : Body) (o : OneObjective edge item 
   covered bound [] [] (u ∷ []) w b =
       covered_by bound u w (b.carries.by_objective o.source) (All-head IsHeld (held_body bound child u) [] b.hold)
 
+  no_more : GrowsBy (growth (family_of edge)) item (child_at item 0 child)
+  no_more =
+      subst (λ n. length (functions_of child) ≤ n * length (functions_of item.body)) (sym o.no_growth)
+      (let here : length (functions_of child) ≡ 1 = objective_alone child o.made in
+      let there : length (functions_of item.body) ≡ 1 = objective_alone item.body o.source in omega (arith, here, there))
+
   pub one_objective_law : EdgeLaw edge item image
   one_objective_law = record {
     values = values;
     duals = λ bound duals w b. covered bound duals.groups duals.rows duals.objective w b;
     positions = refl;
-    valid = λ room. All-cons IsValidWithin (child_at item 0 child) [] (o.valid room) (All-nil IsValidWithin);
-    sizes = All-cons (GrowsBy (growth (family_of edge)) item) (child_at item 0 child) [] o.grows (All-nil (GrowsBy (growth (family_of edge)) item));
+    valid = λ room. All-cons IsValidWithin (child_at item 0 child) [] (objective_valid item 0 child o.made (all_unnamed_below item.at 0 (functions_of child) o.unnamed) room) (All-nil IsValidWithin);
+    sizes = All-cons (GrowsBy (growth (family_of edge)) item) (child_at item 0 child) [] no_more (All-nil (GrowsBy (growth (family_of edge)) item));
     kinds = All-cons (λ child. LeadsTo edge child.body) (child_at item 0 child) [] o.leads (All-nil (λ child. LeadsTo edge child.body));
     components = All-nil HasComponents;
     mentioned = All-cons (MentionsKnown item image) (child_at item 0 child) [] (λ v m n. o.mentioned v m) (All-nil (MentionsKnown item image));

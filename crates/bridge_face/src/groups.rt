@@ -1,7 +1,8 @@
 //! Child groups.
 ghost use Rattle.std.specs.Prelude.{◌≡◌, ◌<◌, IfOk, length};
-ghost use Rattle.bridge_face.specs.ImageOf.{group_at};
-ghost use Rattle.bridge_face.specs.Images.{components};
+ghost use Rattle.item_core.specs.declared.item.Body.TheVariants.{Group};
+ghost use Rattle.bridge_face.specs.ImageOf.{inner};
+ghost use Rattle.bridge_face.specs.Images.{child_at, components};
 
 use aff_core::{Address, Addresses};
 use item_core::{Body, Item};
@@ -21,15 +22,21 @@ pub fn components(alloc: Global, at: &Address, count: u16) -> Result<Addresses, 
     Ok(Addresses::from_vec(vars))
 }
 
-/// The child group, at position 0, of so many components.
-pub fn child_group(alloc: Global, item: &Item, set: Set, count: u16) -> Result<Item, Memory>
+/// The variables of an item's child group, at position 0, of so many components.
+pub fn inner_variables(alloc: Global, item: &Item, count: u16) -> Result<Addresses, Memory>
     requires { length item.now.at.positions < 39 }
-    ensures { IfOk result (λ group. group ≡ group_at item.now set count) }
+    ensures { IfOk result (λ vars. vars ≡ inner item.now count) }
 {
-    let at = item.at.child(0);
-    let vars = components(alloc, &at, count)?;
-    Ok(Item {
-        at,
+    components(alloc, &item.at.child(0), count)
+}
+
+/// The child group, at position 0, of these variables.
+pub fn child_group(item: &Item, set: Set, vars: Addresses) -> Item
+    requires { length item.now.at.positions < 40 }
+    ensures { result ≡ child_at item.now 0 (Group set vars) }
+{
+    Item {
+        at: item.at.child(0),
         body: Body::Group { set, vars },
-    })
+    }
 }

@@ -45,12 +45,15 @@ pub fn alone(alloc: Global, func: Aff) -> Result<VecAff, Memory>
 }
 
 /// The number of an item's components.
-pub fn component_count(body: &Body) -> usize
+pub fn component_count(body: &Body) -> u16
+    requires { length (functions_of body.now) ≤ 32767 }
     ensures { result ≡ length (functions_of body.now) }
 {
     match body {
-        Body::Group { vars, .. } | Body::Free { vars } | Body::PlainVec { vars, .. } => vars.len(),
-        Body::AffineVec { func, .. } => func.len(),
+        Body::Group { vars, .. } | Body::Free { vars } | Body::PlainVec { vars, .. } => {
+            vars.len() as u16
+        }
+        Body::AffineVec { func, .. } => func.len() as u16,
         _ => 1,
     }
 }

@@ -17,7 +17,7 @@ mod rows;
 pub use aff_core::AffFault as ItemFault;
 pub use bridge::Bridge;
 pub use child_rows::ChildRows;
-pub use groups::{child_group, components};
+pub use groups::{child_group, components, inner_variables};
 pub use images::{group_image, group_row_image, objective_image};
 pub use item_functions::{alone, component_count, functions, variables};
 pub use kept_item::KeptItem;

@@ -1,9 +1,9 @@
 -- The law of a flip: a row becomes the row of its negated functions in the mirrored set, and its dual is the child's negated.
-use Rattle.std.specs.Prelude.{◌≡◌, ◌+◌, ◌*◌, ◌<◌, ◌≤◌, ℕ, false, List, [], ◌∷◌, ◌++◌, map, All, length, refl}
+use Rattle.std.specs.Prelude.{◌≡◌, ◌*◌, ◌≤◌, ℕ, false, List, [], ◌∷◌, map, All, length, refl}
 use Rattle.std.proofs.Common.{sym, ap, ap₂, subst, ◌∙◌, arith, append_assoc}
 use Rattle.std.proofs.lemmas.List.{length-append, length-map}
 use Rattle.std.proofs.lemmas.List.Elements.{All-map, All-weaker}
-use Rattle.ratio_core.specs.Rational.{Rational, neg_ℚ, zero_ℚ, ◌-ℚ◌, ◌≤ℚ◌}
+use Rattle.ratio_core.specs.Rational.{Rational, neg_ℚ, zero_ℚ, ◌-ℚ◌}
 use Rattle.rational_laws.specs.Dot as numbers
 use Rattle.rational_laws.specs.Dot.{dot}
 use Rattle.rational_laws.specs.DotLaws.{dot-negated, length-negated, negated-dot}
@@ -19,7 +19,7 @@ use Rattle.aff_core.specs.KeyOrder.{address_order}
 use Rattle.set_core.specs.Membership.{Dual, In, low_of}
 use Rattle.set_core.specs.Mirrored.{mirrored, multiplied}
 use Rattle.set_core.specs.Shapes.{IsSetOf, is_norm_cone}
-use Rattle.set_laws.specs.Mirrors.{AreMirrors, mirrored-multiplied, mirrored_set, mirrors, negated-negated}
+use Rattle.set_laws.specs.Mirrors.{mirrored-multiplied, mirrored_set, mirrors, negated-negated}
 use Rattle.dual_laws.specs.Held.{Held, Holds, IsHeld, adjoint_of, gap_of}
 use Rattle.item_core.specs.declared.edge.Edge.{Edge}
 use Rattle.item_core.specs.declared.item.Body.{Body}
@@ -28,7 +28,7 @@ use Rattle.item_core.specs.Edge.{family_of}
 use Rattle.item_core.specs.Item.{functions_of, set_of}
 use Rattle.item_core.specs.Valid.{FitsItsFunction, IsValidItem, NamesNothingBelow, below}
 use Rattle.bridge_face.specs.BackOf.{back_of}
-use Rattle.bridge_face.specs.Images.{child_at, row_at}
+use Rattle.bridge_face.specs.Images.{row_at}
 use Rattle.bridge_face.specs.Law.{EdgeLaw, LeadsTo, Miss, growth}
 use Rattle.bridge_face.specs.OneRowLaws.{IsRow, OneRow, one_row_law, row_held}
 

@@ -1,6 +1,6 @@
 -- The law of GreaterLess: f ≤ u is -f ≥ -u, and f ≥ l is -f ≤ -l.
-use Rattle.std.specs.Prelude.{◌≡◌, Bool, true, false, List, [], ◌∷◌, refl}
-use Rattle.std.proofs.Common.{sym, ap, subst, ◌∙◌, true≢false}
+use Rattle.std.specs.Prelude.{◌≡◌, List, [], ◌∷◌, refl}
+use Rattle.std.proofs.Common.{sym, ap, subst}
 use Rattle.ratio_core.specs.Rational.{Rational}
 use Rattle.rational_laws.specs.Dot as numbers
 use Rattle.aff_core.specs.Address.{Address}
@@ -9,7 +9,6 @@ use Rattle.set_core.specs.declared.set.Set.TheVariants.{GreaterThan, LessThan}
 use Rattle.set_core.specs.Mirrored.{mirrored}
 use Rattle.item_core.specs.declared.edge.Edge.{Edge}
 use Rattle.item_core.specs.declared.edge.Edge.TheVariants.{E1, E2, E3, E4}
-use Rattle.item_core.specs.declared.family.Family.{Family}
 use Rattle.item_core.specs.declared.family.Family.TheVariants.{GreaterLess}
 use Rattle.item_core.specs.declared.item.Body.{Body}
 use Rattle.item_core.specs.declared.item.Body.TheVariants.{Affine, Plain}
@@ -25,7 +24,7 @@ use Rattle.bridge_face.specs.ImageOf.{FitsBy, ImageFits, image_by, image_of}
 use Rattle.bridge_face.specs.Images.{function_of_body, row_at}
 use Rattle.bridge_face.specs.Law.{EdgeLaw, IsLawful, LeadsTo, growth}
 use Rattle.bridge_face.specs.Sources.{OfKind, affine_greater_than, affine_less_than, of_kind, plain_greater_than, plain_less_than}
-use Rattle.bridges_flip.specs.FlipLaws.{FlipsTo, IsFlip, flip_law}
+use Rattle.bridges_flip.specs.FlipLaws.{FlipsTo, flip_law}
 
 -- a row with one bound
 pub data IsBound : Body → Type 0 where

@@ -1,8 +1,10 @@
 //! What flips make of functions and sets.
-ghost use Rattle.std.specs.Prelude.{◌≡◌, IfOk};
+ghost use Rattle.std.specs.Prelude.{◌≡◌, IfOk, map};
+ghost use Rattle.aff_core.specs.Function.{negated};
 ghost use Rattle.rational_laws.specs.Dot as numbers;
 ghost use Rattle.set_core.specs.Mirrored.{mirrored};
 
+use aff_core::{Aff, VecAff};
 use lists::Memory;
 use ratio_core::{Ratio, Ratios};
 use set_core::Set;
@@ -52,4 +54,15 @@ fn negated_list(alloc: Global, duals: &[Ratio]) -> Result<Vec<Ratio>, Memory>
     ensures { IfOk result (λ negations. negations.items ≡ numbers.negated duals.now) }
 {
     Ok(duals.iter().map(|dual| dual.neg()).collect(alloc)?)
+}
+
+// Each function negated.
+pub(crate) fn negated_functions(alloc: Global, funcs: &[Aff]) -> Result<VecAff, Memory>
+    ensures { IfOk result (λ negations. negations ≡ map negated funcs.now) }
+{
+    let mut negations = Vec::with_capacity(alloc, funcs.len())?;
+    for func in funcs {
+        negations.push(func.neg()?)?;
+    }
+    Ok(VecAff::from_vec(negations))
 }

@@ -3,7 +3,13 @@
 
 mod flips;
 mod greater_less;
+mod nonpos_var;
+mod obj_flip;
+mod orthant_flip;
 #[cfg(test)]
 mod tests;
 
 pub use greater_less::{GreaterLess, GreaterLessRule};
+pub use nonpos_var::{NonposVar, NonposVarRule};
+pub use obj_flip::{ObjFlip, ObjFlipRule};
+pub use orthant_flip::{OrthantFlip, OrthantFlipRule};

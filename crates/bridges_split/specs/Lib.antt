@@ -1,0 +1,4 @@
+pub mod DropRealsLaws
+pub mod ZerosVarLaws
+pub mod FreeVarLaws
+pub mod SplitSetLaws

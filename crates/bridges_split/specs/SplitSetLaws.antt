@@ -1,0 +1,329 @@
+-- The law of SplitSet: l ≤ f ≤ u is f ≥ l and f ≤ u, and so for f = v and vectors f = 0.
+use Rattle.std.specs.Prelude.{All, Bool, List, [], cond, false, length, map, refl, true, ℕ, ◌*◌, ◌∷◌, ◌≡◌, ◌≤◌}
+use Rattle.std.proofs.lemmas.List.Elements.{All-cons, All-head, All-nil, All-tail}
+use Rattle.std.proofs.Common.{ap, ap₂, arith, subst, sym, true≢false, ◌∙◌}
+use Rattle.std.specs.Ordering.{is_le}
+use Rattle.std.proofs.Math.ListN.{set}
+use Rattle.rational_laws.specs.Field.{*ℚ-+ℚ, +ℚ-zero, +ℚ_inner_comm, neg_ℚ-sum}
+use Rattle.aff_core.specs.Address.{Address}
+use Rattle.item_core.specs.declared.item.Body.TheVariants.{Affine, AffineVec, Plain}
+use Rattle.bridge_face.specs.BackOf.{BackFits, BackFitsBy, SumsFit, back_by, back_of}
+use Rattle.item_core.specs.declared.item.Body.{Body}
+use Rattle.set_core.specs.Membership.{Dual, In, low_of}
+use Rattle.dual_laws.specs.Held.{DualsHold, Held, Holds, IsHeld, adjoint, adjoint_of, gap, gap_of}
+use Rattle.item_core.specs.declared.edge.Edge.TheVariants.{E11, E12, E13, E14}
+use Rattle.item_core.specs.declared.edge.Edge.{Edge}
+use Rattle.bridge_face.specs.Law.{EdgeLaw, IsLawful, LeadsTo, Miss, growth}
+use Rattle.set_core.specs.declared.set.Set.TheVariants.{EqualTo, GreaterThan, Interval, LessThan, Nonnegatives, Nonpositives, Zeros}
+use Rattle.bridge_face.specs.ImageOf.{FitsBy, ImageFits, image_by, image_of}
+use Rattle.item_core.specs.Valid.{FitsItsFunction, IsValidItem, NamesNothingBelow}
+use Rattle.aff_core.specs.Function.{Function, coefficient}
+use Rattle.bridge_face.specs.OneRowLaws.{IsRow, row_held}
+use Rattle.bridge_face.specs.RowsLaws.{IsRowOf, MadeOfRows, rows_held, rows_law}
+use Rattle.set_core.specs.Shapes.{IsSetOf, is_crossed}
+use Rattle.item_core.specs.declared.item.Item.{Item}
+use Rattle.bridge_face.specs.FamilyLaws.{Lawful, lawful_family, of_another}
+use Rattle.bridge_face.specs.Sources.{OfKind, affine_equal_to, of_kind, vaffine_zeros}
+use Rattle.ratio_core.specs.Rational.{Rational, fits, neg_ℚ, rational_cmp, zero_ℚ, ◌*ℚ◌, ◌+ℚ◌, ◌-ℚ◌, ◌≤ℚ◌}
+use Rattle.set_core.specs.declared.set.Set.{Set}
+use Rattle.item_core.specs.declared.family.Family.TheVariants.{SplitSet}
+use Rattle.aff_core.specs.FunctionLists.{constants, evaluations}
+use Rattle.rational_laws.specs.Dot.{dot, plus}
+use Rattle.item_core.specs.Edge.{edge_entry, family_of, source_of}
+use Rattle.set_core.specs.Vectors.{first_of}
+use Rattle.item_core.specs.Item.{functions_of, set_of}
+use Rattle.item_core.specs.KindOf.{kind_of_body}
+use Rattle.rational_laws.specs.DotLaws.{length-plus, plus-dot}
+use Rattle.bridge_face.specs.Images.{lower_part, rows_at, upper_part, with_set}
+use Rattle.set_core.specs.Mirrored.{multiplied}
+use Rattle.set_laws.specs.Least.{single₂}
+use Rattle.rational_laws.specs.Tests.{is_lt_Decides}
+use Rattle.rational_laws.specs.Order.{≤ℚ-*ℚ, ≤ℚ-*ℚ_nonpos, ≤ℚ-+ℚ_left, ≤ℚ-+ℚ_right, ≤ℚ_antisymm, ≤ℚ_from_not_‹ℚ, ≤ℚ_from_≡}
+use Rattle.item_core.specs.declared.kind.Kind.TheVariants as kind
+use Rattle.bridge_face.specs.Sources as kinds
+
+-- a row in a set that two others have in common
+pub data IsSplit : Body → Type 0 where
+  affine_interval : {f : Function} {l u : Rational} → IsSplit (Affine f (Interval l u))
+  plain_interval : {v : Address} {l u : Rational} → IsSplit (Plain v (Interval l u))
+  affine_equal : {f : Function} {a : Rational} → IsSplit (Affine f (EqualTo a))
+  affine_zeros : {fs : List Function} {n : ℕ} → IsSplit (AffineVec fs (Zeros n))
+
+-- the two rows
+abbrev pub lower : Body → Body
+lower b = with_set b (lower_part (set_of b))
+
+abbrev pub upper : Body → Body
+upper b = with_set b (upper_part (set_of b))
+
+record Sourced (edge : Edge) (b : Body) : Type 0 where
+  split : IsSplit b
+  lower_leads : LeadsTo edge (lower b)
+  upper_leads : LeadsTo edge (upper b)
+
+sourced_first : {b : Body} → OfKind kind.AffineInterval b → Sourced E11 b
+unfolding edge_entry kind_of_body
+sourced_first kinds.affine_interval = record { split = affine_interval; lower_leads = refl; upper_leads = refl }
+
+sourced_second : {b : Body} → OfKind kind.PlainInterval b → Sourced E12 b
+unfolding edge_entry kind_of_body
+sourced_second kinds.plain_interval = record { split = plain_interval; lower_leads = refl; upper_leads = refl }
+
+sourced_third : {b : Body} → OfKind kind.AffineEqualTo b → Sourced E13 b
+unfolding edge_entry kind_of_body
+sourced_third affine_equal_to = record { split = affine_equal; lower_leads = refl; upper_leads = refl }
+
+sourced_fourth : {b : Body} → OfKind kind.VaffineZeros b → Sourced E14 b
+unfolding edge_entry kind_of_body
+sourced_fourth vaffine_zeros = record { split = affine_zeros; lower_leads = refl; upper_leads = refl }
+
+sourced : (edge : Edge) → family_of edge ≡ SplitSet
+    → (b : Body) → FitsItsFunction b → kind_of_body b ≡ source_of edge → Sourced edge b
+unfolding edge_entry
+sourced E11 own b h k = sourced_first (subst (λ k. OfKind k b) k (of_kind b h))
+sourced E12 own b h k = sourced_second (subst (λ k. OfKind k b) k (of_kind b h))
+sourced E13 own b h k = sourced_third (subst (λ k. OfKind k b) k (of_kind b h))
+sourced E14 own b h k = sourced_fourth (subst (λ k. OfKind k b) k (of_kind b h))
+sourced _ own b h k = of_another own refl
+
+-- ---- a set and the two that have its vectors in common
+
+record Splits (n : ℕ) (s low high : Set) : Type 0 where
+  values :
+      (one : Rational) (v : List Rational) → In (multiplied one low) v → In (multiplied one high) v
+      → In (multiplied one s) v
+  duals : (p q : List Rational) → Dual low p → Dual high q → Dual s (plus p q)
+  lows :
+      (p q : List Rational) → length p ≡ n → length q ≡ n → Dual low p → Dual high q
+      → (low_of low p +ℚ low_of high q) ≤ℚ low_of s (plus p q)
+  lower_fits : IsSetOf n low
+  upper_fits : IsSetOf n high
+
+-- where l ≤ u, p ≥ 0 and q ≤ 0
+interval_low : (l u p q : Rational) → l ≤ℚ u → zero_ℚ ≤ℚ p → q ≤ℚ zero_ℚ
+    → ((l *ℚ p) +ℚ (u *ℚ q)) ≤ℚ low_of (Interval l u) ((p +ℚ q) ∷ [])
+interval_low l u p q order above beneath = by (is_le (rational_cmp zero_ℚ (p +ℚ q))) 
+  where
+    by : (b : Bool) → ((l *ℚ p) +ℚ (u *ℚ q)) ≤ℚ (cond b l u *ℚ (p +ℚ q))
+    by true =
+        subst (λ r. ((l *ℚ p) +ℚ (u *ℚ q)) ≤ℚ r) (sym (*ℚ-+ℚ l p q))
+        (≤ℚ-+ℚ_left (u *ℚ q) (l *ℚ q) (l *ℚ p) (≤ℚ-*ℚ_nonpos l u q order beneath))
+    by false =
+        subst (λ r. ((l *ℚ p) +ℚ (u *ℚ q)) ≤ℚ r) (sym (*ℚ-+ℚ u p q))
+        (≤ℚ-+ℚ_right (l *ℚ p) (u *ℚ p) (u *ℚ q) (≤ℚ-*ℚ l u p order above))
+
+-- the bounds of an interval that isn't crossed
+uncrossed_order : (l u : Rational) → is_crossed (Interval l u) ≡ false → l ≤ℚ u
+uncrossed_order l u e = ≤ℚ_from_not_‹ℚ l u (λ below. true≢false (sym ((is_lt_Decides u l).1 below) ∙ e))
+
+interval_splits : (l u : Rational) → IsSetOf 1 (Interval l u) → Splits 1 (Interval l u) (GreaterThan l) (LessThan u)
+interval_splits l u fits = record {
+  values = λ one v low high. (low, high);
+  duals = λ p q low high. tt;
+  lows = λ p q long same_long.
+      single₂ (λ p q. Dual (GreaterThan l) p → Dual (LessThan u) q → (low_of (GreaterThan l) p +ℚ low_of (LessThan u) q) ≤ℚ low_of (Interval l u) (plus p q))
+      (λ p q above beneath. interval_low l u p q (uncrossed_order l u fits.uncrossed) above beneath) p q long same_long;
+  lower_fits = record { dimension = refl; enough = omega arith; uncrossed = refl };
+  upper_fits = record { dimension = refl; enough = omega arith; uncrossed = refl };
+}
+
+equal_splits : (a : Rational) → Splits 1 (EqualTo a) (GreaterThan a) (LessThan a)
+equal_splits a = record {
+  values = λ one v low high. ≤ℚ_antisymm (first_of v) (one *ℚ a) high low;
+  duals = λ p q low high. tt;
+  lows = λ p q long same_long.
+      single₂ (λ p q. Dual (GreaterThan a) p → Dual (LessThan a) q → (low_of (GreaterThan a) p +ℚ low_of (LessThan a) q) ≤ℚ low_of (EqualTo a) (plus p q))
+      (λ p q above beneath. ≤ℚ_from_≡ _ _ (sym (*ℚ-+ℚ a p q))) p q long same_long;
+  lower_fits = record { dimension = refl; enough = omega arith; uncrossed = refl };
+  upper_fits = record { dimension = refl; enough = omega arith; uncrossed = refl };
+}
+
+neither_sign : (v : List Rational) → All (λ q. zero_ℚ ≤ℚ q) v → All (λ q. q ≤ℚ zero_ℚ) v → All (λ q. q ≡ zero_ℚ) v
+neither_sign [] low high = All-nil (λ q. q ≡ zero_ℚ)
+neither_sign (p ∷ v) low high =
+    All-cons (λ q. q ≡ zero_ℚ) p v (≤ℚ_antisymm p zero_ℚ (All-head (λ q. q ≤ℚ zero_ℚ) p v high) (All-head (λ q. zero_ℚ ≤ℚ q) p v low))
+    (neither_sign v (All-tail (λ q. zero_ℚ ≤ℚ q) p v low) (All-tail (λ q. q ≤ℚ zero_ℚ) p v high))
+
+zeros_split : (n m : ℕ) → IsSetOf m (Zeros n) → Splits m (Zeros n) (Nonnegatives n) (Nonpositives n)
+zeros_split n m fits = record {
+  values = λ one v low high. neither_sign v low high;
+  duals = λ p q low high. tt;
+  lows = λ p q long same_long low high. ≤ℚ_from_≡ _ _ (+ℚ-zero zero_ℚ);
+  lower_fits = record { dimension = fits.dimension; enough = fits.enough; uncrossed = refl };
+  upper_fits = record { dimension = fits.dimension; enough = fits.enough; uncrossed = refl };
+}
+
+-- ---- what is read of the row and its two
+
+record Parted (b : Body) : Type 0 where
+  source : IsRow b
+  lower_row : IsRow (lower b)
+  upper_row : IsRow (upper b)
+  lower_shaped : FitsItsFunction (lower b)
+  upper_shaped : FitsItsFunction (upper b)
+  lower_same : functions_of (lower b) ≡ functions_of b
+  upper_same : functions_of (upper b) ≡ functions_of b
+  lower_set : set_of (lower b) ≡ lower_part (set_of b)
+  upper_set : set_of (upper b) ≡ upper_part (set_of b)
+  splits : Splits (length (functions_of b)) (set_of b) (lower_part (set_of b)) (upper_part (set_of b))
+
+parted : {b : Body} → IsSplit b → IsSetOf (length (functions_of b)) (set_of b) → Parted b
+parted (affine_interval {f} {l} {u}) fits = record {
+  source = record { no_group = refl; no_objective = refl };
+  lower_row = record { no_group = refl; no_objective = refl };
+  upper_row = record { no_group = refl; no_objective = refl };
+  lower_shaped = refl; upper_shaped = refl; lower_same = refl; upper_same = refl; lower_set = refl; upper_set = refl;
+  splits = interval_splits l u fits;
+}
+parted (plain_interval {v} {l} {u}) fits = record {
+  source = record { no_group = refl; no_objective = refl };
+  lower_row = record { no_group = refl; no_objective = refl };
+  upper_row = record { no_group = refl; no_objective = refl };
+  lower_shaped = refl; upper_shaped = refl; lower_same = refl; upper_same = refl; lower_set = refl; upper_set = refl;
+  splits = interval_splits l u fits;
+}
+parted (affine_equal {f} {a}) fits = record {
+  source = record { no_group = refl; no_objective = refl };
+  lower_row = record { no_group = refl; no_objective = refl };
+  upper_row = record { no_group = refl; no_objective = refl };
+  lower_shaped = refl; upper_shaped = refl; lower_same = refl; upper_same = refl; lower_set = refl; upper_set = refl;
+  splits = equal_splits a;
+}
+parted (affine_zeros {fs} {n}) fits = record {
+  source = record { no_group = refl; no_objective = refl };
+  lower_row = record { no_group = refl; no_objective = refl };
+  upper_row = record { no_group = refl; no_objective = refl };
+  lower_shaped = refl; upper_shaped = refl; lower_same = refl; upper_same = refl; lower_set = refl; upper_set = refl;
+  splits = zeros_split n (length fs) fits;
+}
+
+-- ---- the law
+
+module _ (edge : Edge) (own : family_of edge ≡ SplitSet) where
+  pub image_is : (item : Item) → image_of edge item ≡ rows_at item (lower item.body ∷ upper item.body ∷ [])
+  unfolding image_by
+  image_is item = ap (λ f. image_by f edge item) own
+
+  pub back_is : (item : Item) (p q : List Rational) → back_of edge item (p ∷ q ∷ []) ≡ plus p q
+  unfolding back_by
+  back_is item p q = ap (λ f. back_by f item (p ∷ q ∷ [])) own
+
+  pub image_fits : (item : Item) → ImageFits edge item
+  unfolding FitsBy
+  image_fits item = subst (λ f. FitsBy f item) (sym own) tt
+
+  pub back_fits : (item : Item) (p q : List Rational) → BackFits edge item (p ∷ q ∷ []) ≡ SumsFit p q
+  unfolding BackFitsBy
+  back_fits item p q = ap (λ f. BackFitsBy f item (p ∷ q ∷ [])) own
+
+  pub is_split : (b : Body) → FitsItsFunction b → kind_of_body b ≡ source_of edge → IsSplit b
+  is_split b h k = (sourced edge own b h k).split
+
+  module _ (item : Item) (valid : IsValidItem item) (p : Parted item.body) where
+    abbrev fs : List Function
+    fs = functions_of item.body
+
+    abbrev s : Set
+    s = set_of item.body
+
+    -- one of the two rows
+    row_of : (child : Body) (part : Set) → IsRow child → FitsItsFunction child → functions_of child ≡ fs → set_of child ≡ part
+        → IsSetOf (length fs) part → LeadsTo edge child → IsRowOf edge item child
+    row_of child part row shaped same set fits leads = record {
+      made = row;
+      shaped = shaped;
+      some = subst (λ gs. 1 ≤ length gs) (sym same) valid.some;
+      fits = subst (λ gs. IsSetOf (length gs) (set_of child)) (sym same) (subst (IsSetOf (length fs)) (sym set) fits);
+      unnamed = subst (All (NamesNothingBelow item.at)) (sym same) (valid.others p.source.no_group);
+      grows = subst (λ n. length (functions_of child) ≤ n * length fs) (sym (ap growth own)) (let e : length (functions_of child) ≡ length fs = ap length same in omega (arith, e));
+      leads = leads;
+      mentioned = λ v m. subst (λ gs. Miss gs v) (sym same) m;
+    }
+
+    abbrev held_by : List Rational → Set → Held
+    held_by w part = record { duals = w; functions = fs; set = part }
+
+    lower_is : (w : List Rational) → row_held (lower item.body) w ≡ held_by w (lower_part s)
+    lower_is w = λ i. record { duals = w; functions = p.lower_same i; set = p.lower_set i }
+
+    upper_is : (w : List Rational) → row_held (upper item.body) w ≡ held_by w (upper_part s)
+    upper_is w = λ i. record { duals = w; functions = p.upper_same i; set = p.upper_set i }
+
+    abbrev bodies : List Body
+    bodies = lower item.body ∷ upper item.body ∷ []
+
+    module _ (u w : List Rational) (hold : DualsHold (rows_held bodies (u ∷ w ∷ []))) where
+      first : IsHeld (held_by u (lower_part s))
+      first = subst IsHeld (lower_is u) (All-head IsHeld (row_held (lower item.body) u) (row_held (upper item.body) w ∷ []) hold)
+
+      second : IsHeld (held_by w (upper_part s))
+      second =
+          subst IsHeld (upper_is w)
+          (All-head IsHeld (row_held (upper item.body) w) [] (All-tail IsHeld (row_held (lower item.body) u) (row_held (upper item.body) w ∷ []) hold))
+
+      same_size : length u ≡ length w
+      same_size = first.size ∙ sym second.size
+
+      two_hold : IsHeld (row_held item.body (plus u w))
+      two_hold = record {
+        set = valid.set;
+        size = length-plus u w same_size ∙ second.size;
+        dual = p.splits.duals u w first.dual second.dual;
+      }
+
+      products : (g : Function → Rational) → dot (plus u w) (map g fs) ≡ dot u (map g fs) +ℚ dot w (map g fs)
+      products g = plus-dot u w (map g fs) same_size
+
+      two_same : (v : Address) → adjoint_of (row_held item.body (plus u w)) v ≡ adjoint (rows_held bodies (u ∷ w ∷ [])) v
+      two_same v =
+          products (λ f. coefficient f v)
+          ∙ sym (ap₂ ◌+ℚ◌ (ap (λ k. adjoint_of k v) (lower_is u)) (+ℚ-zero (adjoint_of (row_held (upper item.body) w) v) ∙ ap (λ k. adjoint_of k v) (upper_is w)))
+
+      gaps_sum : gap (rows_held bodies (u ∷ w ∷ [])) ≡ (low_of (lower_part s) u +ℚ low_of (upper_part s) w) -ℚ dot (plus u w) (constants fs)
+      gaps_sum =
+          ap₂ ◌+ℚ◌ (ap gap_of (lower_is u)) (+ℚ-zero (gap_of (row_held (upper item.body) w)) ∙ ap gap_of (upper_is w))
+          ∙ +ℚ_inner_comm (low_of (lower_part s) u) (neg_ℚ (dot u (constants fs))) (low_of (upper_part s) w) (neg_ℚ (dot w (constants fs)))
+          ∙ ap (λ q. (low_of (lower_part s) u +ℚ low_of (upper_part s) w) +ℚ q)
+          (sym (neg_ℚ-sum (dot u (constants fs)) (dot w (constants fs))) ∙ ap neg_ℚ (sym (products (λ f. f.constant))))
+
+      two_gaps : gap (rows_held bodies (u ∷ w ∷ [])) ≤ℚ gap_of (row_held item.body (plus u w))
+      two_gaps =
+          subst (λ q. q ≤ℚ gap_of (row_held item.body (plus u w))) (sym gaps_sum)
+          (≤ℚ-+ℚ_right (low_of (lower_part s) u +ℚ low_of (upper_part s) w) (low_of s (plus u w)) (neg_ℚ (dot (plus u w) (constants fs)))
+          (p.splits.lows u w first.size second.size first.dual second.dual))
+
+    -- what is said of the only two duals
+    of_two : (P : List (List Rational) → Type 0)
+        → ((u w : List Rational) → P (u ∷ w ∷ [])) → (ys : List (List Rational)) → length ys ≡ 2 → P ys
+    of_two P h [] e = absurd (omega (arith, e))
+    of_two P h (u ∷ []) e = absurd (omega (arith, e))
+    of_two P h (u ∷ (w ∷ [])) e = h u w
+    of_two P h (u ∷ (w ∷ (z ∷ zs))) e = absurd (omega (arith, e))
+
+    two_rows : LeadsTo edge (lower item.body) → LeadsTo edge (upper item.body) → MadeOfRows edge item bodies
+    two_rows lower_leads upper_leads = record {
+      source = p.source;
+      each =
+          All-cons (IsRowOf edge item) (lower item.body) (upper item.body ∷ []) (row_of (lower item.body) (lower_part s) p.lower_row p.lower_shaped p.lower_same p.lower_set p.splits.lower_fits lower_leads)
+          (All-cons (IsRowOf edge item) (upper item.body) [] (row_of (upper item.body) (upper_part s) p.upper_row p.upper_shaped p.upper_same p.upper_set p.splits.upper_fits upper_leads) (All-nil (IsRowOf edge item)));
+      values = λ one x h below.
+          p.splits.values one (evaluations one fs x)
+          (subst (λ k. Holds one k x) (lower_is []) (All-head (λ b. Holds one (row_held b []) x) (lower item.body) (upper item.body ∷ []) below))
+          (subst (λ k. Holds one k x) (upper_is []) (All-head (λ b. Holds one (row_held b []) x) (upper item.body) [] (All-tail (λ b. Holds one (row_held b []) x) (lower item.body) (upper item.body ∷ []) below)));
+      holds = of_two (λ ys. DualsHold (rows_held bodies ys) → IsHeld (row_held item.body (back_of edge item ys)))
+          (λ u w hold. subst (λ z. IsHeld (row_held item.body z)) (sym (back_is item u w)) (two_hold u w hold));
+      same = of_two (λ ys. DualsHold (rows_held bodies ys) → (v : Address) → adjoint_of (row_held item.body (back_of edge item ys)) v ≡ adjoint (rows_held bodies ys) v)
+          (λ u w hold v. ap (λ z. adjoint_of (row_held item.body z) v) (back_is item u w) ∙ two_same u w hold v);
+      gaps = of_two (λ ys. DualsHold (rows_held bodies ys) → gap (rows_held bodies ys) ≤ℚ gap_of (row_held item.body (back_of edge item ys)))
+          (λ u w hold. subst (λ z. gap (rows_held bodies (u ∷ w ∷ [])) ≤ℚ gap_of (row_held item.body z)) (sym (back_is item u w)) (two_gaps u w hold));
+    }
+
+  law_at : Lawful edge
+  law_at item suits =
+      let source = sourced edge own item.body suits.valid.function suits.kind in
+      subst (EdgeLaw edge item) (sym (image_is item))
+      (rows_law edge item (lower item.body ∷ upper item.body ∷ [])
+      (two_rows item suits.valid (parted source.split suits.valid.set) source.lower_leads source.upper_leads))
+
+pub split_set_lawful : IsLawful SplitSet
+split_set_lawful = lawful_family SplitSet law_at
