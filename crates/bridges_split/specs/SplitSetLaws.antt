@@ -102,7 +102,7 @@ record Splits (n : ℕ) (s low high : Set) : Type 0 where
 -- where l ≤ u, p ≥ 0 and q ≤ 0
 interval_low : (l u p q : Rational) → l ≤ℚ u → zero_ℚ ≤ℚ p → q ≤ℚ zero_ℚ
     → ((l *ℚ p) +ℚ (u *ℚ q)) ≤ℚ low_of (Interval l u) ((p +ℚ q) ∷ [])
-interval_low l u p q order above beneath = by (is_le (rational_cmp zero_ℚ (p +ℚ q))) 
+interval_low l u p q order above beneath = by (is_le (rational_cmp zero_ℚ (p +ℚ q)))
   where
     by : (b : Bool) → ((l *ℚ p) +ℚ (u *ℚ q)) ≤ℚ (cond b l u *ℚ (p +ℚ q))
     by true =
@@ -172,28 +172,48 @@ parted (affine_interval {f} {l} {u}) fits = record {
   source = record { no_group = refl; no_objective = refl };
   lower_row = record { no_group = refl; no_objective = refl };
   upper_row = record { no_group = refl; no_objective = refl };
-  lower_shaped = refl; upper_shaped = refl; lower_same = refl; upper_same = refl; lower_set = refl; upper_set = refl;
+  lower_shaped = refl;
+  upper_shaped = refl;
+  lower_same = refl;
+  upper_same = refl;
+  lower_set = refl;
+  upper_set = refl;
   splits = interval_splits l u fits;
 }
 parted (plain_interval {v} {l} {u}) fits = record {
   source = record { no_group = refl; no_objective = refl };
   lower_row = record { no_group = refl; no_objective = refl };
   upper_row = record { no_group = refl; no_objective = refl };
-  lower_shaped = refl; upper_shaped = refl; lower_same = refl; upper_same = refl; lower_set = refl; upper_set = refl;
+  lower_shaped = refl;
+  upper_shaped = refl;
+  lower_same = refl;
+  upper_same = refl;
+  lower_set = refl;
+  upper_set = refl;
   splits = interval_splits l u fits;
 }
 parted (affine_equal {f} {a}) fits = record {
   source = record { no_group = refl; no_objective = refl };
   lower_row = record { no_group = refl; no_objective = refl };
   upper_row = record { no_group = refl; no_objective = refl };
-  lower_shaped = refl; upper_shaped = refl; lower_same = refl; upper_same = refl; lower_set = refl; upper_set = refl;
+  lower_shaped = refl;
+  upper_shaped = refl;
+  lower_same = refl;
+  upper_same = refl;
+  lower_set = refl;
+  upper_set = refl;
   splits = equal_splits a;
 }
 parted (affine_zeros {fs} {n}) fits = record {
   source = record { no_group = refl; no_objective = refl };
   lower_row = record { no_group = refl; no_objective = refl };
   upper_row = record { no_group = refl; no_objective = refl };
-  lower_shaped = refl; upper_shaped = refl; lower_same = refl; upper_same = refl; lower_set = refl; upper_set = refl;
+  lower_shaped = refl;
+  upper_shaped = refl;
+  lower_same = refl;
+  upper_same = refl;
+  lower_set = refl;
+  upper_set = refl;
   splits = zeros_split n (length fs) fits;
 }
 

@@ -167,5 +167,8 @@ module _ (setting : Setting) (costly : IsCostly (graph_of setting)) where
 
     pub at_most_34 : (kind : Kind) → ranked_below (rank (kind_number kind)) ≤ 34
     at_most_34 kind =
-        omega (arith, fewer_below kind (suc (rank (kind_number kind))) (omega arith),
-        count_by-le-length (λ k. nat_lt (rank (kind_number k)) (suc (rank (kind_number kind)))) KINDS.kinds)
+        omega (
+          arith,
+          fewer_below kind (suc (rank (kind_number kind))) (omega arith),
+          count_by-le-length (λ k. nat_lt (rank (kind_number k)) (suc (rank (kind_number kind)))) KINDS.kinds,
+        )
