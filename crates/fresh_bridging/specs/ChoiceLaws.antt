@@ -23,8 +23,11 @@ module _ (graph : Hypergraph) (costly : IsCostly graph) where
       let below = first.1.least second.0 (by second.1.tree) in
       let above = second.1.least first.0 (by first.1.tree) in
       let costs : first.0 ≡ second.0 = omega (arith, below, above) in
-      omega (arith, first.1.lowest other (subst (TreeBy graph other kind) (sym costs) second.1.tree),
-      second.1.lowest edge (subst (TreeBy graph edge kind) costs first.1.tree))
+      omega (
+        arith,
+        first.1.lowest other (subst (TreeBy graph other kind) (sym costs) second.1.tree),
+        second.1.lowest edge (subst (TreeBy graph edge kind) costs first.1.tree),
+      )
 
   pub one_choice : (kind : ℕ) (a b : Choice) → IsChoice graph kind a → IsChoice graph kind b → a ≡ b
   one_choice kind Native Native h k = refl

@@ -1,5 +1,5 @@
 -- What the table of edges says, read by their numbers in the graph.
-use Rattle.std.specs.Prelude.{◌≡◌, ℕ, zero, suc, ◌==◌, Bool, true, false, ◌&&◌, ◌||◌, not, cond, List, [], ◌∷◌, map, filter, All, Contains, Option, Some, None, slice_get, slice_index_or, refl}
+use Rattle.std.specs.Prelude.{◌≡◌, ℕ, zero, suc, ◌==◌, Bool, true, false, ◌&&◌, ◌||◌, not, cond, List, [], ◌∷◌, map, filter, All, Option, Some, None, slice_get, slice_index_or, refl}
 use Rattle.std.proofs.Common.{sym, ap, subst, ◌∙◌, true≢false}
 use Rattle.std.specs.List.{list_all, list_any}
 use Rattle.std.specs.Option.{option_map}
@@ -122,14 +122,16 @@ at_place (y ∷ ys) (suc n) x d e = at_place ys n x d e
 pub entry_of : (n : ℕ) (row : EdgeRow) → slice_get EDGE_ROWS n ≡ Some row
     → (entry : EdgeEntry) × IsEntryOf n row entry
 entry_of n row e =
-    let found = from_mapped said EDGES n (told row) (ap (λ l. slice_get l n) rows_agree ∙ mapped_at told EDGE_ROWS n row e) in
-    (found.0, record {
-      here = found.1;
-      edge = at_place (map (λ r. r.edge) EDGES) n found.0.edge E1 (mapped_at (λ r. r.edge) EDGES n found.0 found.1);
-      entry_is = same_Some _ _ (sym (mapped_at (λ r. edge_entry r.edge) EDGES n found.0 found.1) ∙ ap (λ l. slice_get l n) entries_agree ∙ found.1);
-      source = ap (λ p. p.0) (sym found.2);
-      children = ap (λ p. p.1) (sym found.2);
-    })
+    let found = from_mapped said EDGES n (told row) (ap (λ l. slice_get l n) rows_agree ∙ mapped_at told EDGE_ROWS n row e) in (
+      found.0,
+      record {
+        here = found.1;
+        edge = at_place (map (λ r. r.edge) EDGES) n found.0.edge E1 (mapped_at (λ r. r.edge) EDGES n found.0 found.1);
+        entry_is = same_Some _ _ (sym (mapped_at (λ r. edge_entry r.edge) EDGES n found.0 found.1) ∙ ap (λ l. slice_get l n) entries_agree ∙ found.1);
+        source = ap (λ p. p.0) (sym found.2);
+        children = ap (λ p. p.1) (sym found.2);
+      },
+    )
 
 -- an edge that is on is of a family that may be used
 pub usable_family : (setting : Setting) (n : ℕ) (entry : EdgeEntry) → slice_get EDGES n ≡ Some entry
