@@ -5,13 +5,12 @@ use Rattle.std.proofs.Common.{sym, ap, ap₂, subst, ◌∙◌, true≢false}
 use Rattle.std.specs.List.{list_all}
 use Rattle.std.proofs.lemmas.List.{length-map}
 use Rattle.std.proofs.lemmas.List.Elements.{All-map, All-weaker}
-use Rattle.ratio_core.specs.Rational.{zero_ℚ}
 use Rattle.set_core.specs.Shapes.{IsSetOf, is_scalar}
 use Rattle.set_core.specs.declared.set.Set.{Set}
 use Rattle.set_core.specs.declared.set.Set.TheVariants.{LessThan, GreaterThan, EqualTo, Interval, Reals, Zeros, Nonnegatives, Nonpositives, NormInfinityCone, NormOneCone}
 use Rattle.aff_core.specs.Address.{Address, address_cmp}
 use Rattle.aff_core.specs.Arithmetic.{composed}
-use Rattle.aff_core.specs.Function.{Function, coefficient, variable}
+use Rattle.aff_core.specs.Function.{Function, variable}
 use Rattle.aff_core.specs.declared.sense.Sense.{Sense}
 use Rattle.aff_core.specs.declared.sense.Sense.TheVariants.{Min, Max}
 use Rattle.item_core.specs.declared.image.Expression.{Expression}
@@ -25,7 +24,7 @@ use Rattle.item_core.specs.Valid.{FitsItsFunction, IsValidItem, NamesNothingBelo
 use Rattle.bridge_face.specs.Law.{expressed}
 use Rattle.fresh_bridging.specs.Entries.{Entry, expression_in, function_in, is_kept, kept_in, objective_by, plain_or_affine, put_in, put_in_body, vector_by}
 use Rattle.fresh_bridging.specs.MentionLaws.{AllOmit, composed-variable, composed_omits}
-use Rattle.fresh_bridging.specs.TableLaws.{and_first, and_second, is_plain_kind}
+use Rattle.fresh_bridging.specs.TableLaws.{is_plain_kind}
 
 -- ---- functions
 

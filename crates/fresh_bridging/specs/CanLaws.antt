@@ -1,24 +1,22 @@
 -- Items that can be bridged: valid, of a kind that has a tree, with room for the positions and the
 -- components of all that may stand below. What a chosen edge makes of one can be bridged, and ranks
 -- below it.
-use Rattle.std.specs.Prelude.{◌≡◌, ◌≢◌, ◌+◌, ◌*◌, ◌<◌, ◌≤◌, ℕ, zero, suc, nat_le, ◌==◌, Bool, true, false, ◌&&◌, ◌||◌, not, cond, List, [], ◌∷◌, ◌++◌, All, Contains, length, map, Option, Some, None, refl}
+use Rattle.std.specs.Prelude.{◌≡◌, ◌≢◌, ◌+◌, ◌*◌, ◌<◌, ◌≤◌, ℕ, zero, suc, nat_le, ◌==◌, Bool, true, false, ◌&&◌, ◌||◌, not, cond, List, [], ◌∷◌, All, length, refl}
 use Rattle.std.proofs.Common.{arith, sym, ap, subst, ◌∙◌, true≢false}
-use Rattle.std.specs.List.{list_all, list_any, range_with_len}
+use Rattle.std.specs.List.{list_any}
 use Rattle.std.proofs.lemmas.Bool.Decides.{Decides-eqb, nat_tests}
 use Rattle.std.proofs.lemmas.List.{length-append}
 use Rattle.std.proofs.lemmas.List.Elements.{All-weaker}
 use Rattle.bridge_graph.specs.Hypergraph.{IsCostly}
-use Rattle.bridge_graph.specs.Tree.{Tree}
 use Rattle.bridge_graph.specs.declared.Choice.{Choice}
-use Rattle.bridge_graph.specs.declared.Choice.TheVariants.{By, Missing, Native}
+use Rattle.bridge_graph.specs.declared.Choice.TheVariants.{By}
 use Rattle.expansion.specs.Ranks.{RanksBelow}
-use Rattle.item_core.specs.declared.edge.EdgeEntry.{EdgeEntry}
 use Rattle.item_core.specs.declared.family.Family.{Family}
 use Rattle.item_core.specs.declared.item.Item.{Item}
 use Rattle.item_core.specs.declared.kind.Kind.{Kind}
 use Rattle.item_core.specs.declared.kind.Kind.TheVariants.{GroupReals}
-use Rattle.item_core.specs.Edge.{children_of, edge_entry, family_eq, family_of, kinds_in, source_of}
-use Rattle.item_core.specs.Item.{functions_of, is_group}
+use Rattle.item_core.specs.Edge.{edge_entry, family_of, kinds_in}
+use Rattle.item_core.specs.Item.{functions_of}
 use Rattle.item_core.specs.Kind.{kind_eq, kind_number}
 use Rattle.item_core.specs.KindOf.{kind_of_body}
 use Rattle.item_core.specs.Valid.{IsValidItem}
@@ -27,8 +25,8 @@ use Rattle.aff_core.specs.Address.{Address, child_of}
 use Rattle.bridge_face.specs.Law.{EdgeLaw, GrowsBy, IsItemFor, IsLawful, IsValidWithin, LeadsTo, children, growth}
 use Rattle.fresh_bridging.specs.EachLaws.{StandsFrom, all_both, stand_from}
 use Rattle.fresh_bridging.specs.FreshBridging.{HasTree}
-use Rattle.fresh_bridging.specs.RankingLaws.{LeadsDown, at_most_34, fewer_below, leads_down, rank, ranked_below}
-use Rattle.fresh_bridging.specs.TableLaws.{all_keep_at, and_first, and_second, comes_of_norms, doubles_seldom, ends_norms, equal_kind, equal_kinds, grows_once, grows_seldom, splits_reals, is_norm_kind, keeps_to_the_table, leads_from_others, of_family, or_second, plain_beside_free}
+use Rattle.fresh_bridging.specs.RankingLaws.{LeadsDown, fewer_below, leads_down, rank, ranked_below}
+use Rattle.fresh_bridging.specs.TableLaws.{all_keep_at, and_first, and_second, comes_of_norms, doubles_seldom, ends_norms, equal_kind, grows_once, grows_seldom, splits_reals, is_norm_kind, keeps_to_the_table, leads_from_others, of_family, or_second, plain_beside_free}
 use Rattle.fresh_bridging.specs.TheRules.{AreChoices, Setting, edge_at, graph_of, is_usable}
 
 -- every family of which there is a box keeps the law of its edges

@@ -1,13 +1,13 @@
 -- A valid model has a fresh bridging exactly where each of its items has a tree: groups by their
 -- kinds, and rows and the objective by the kinds that they have once the groups' expressions are in.
-use Rattle.std.specs.Prelude.{◌≡◌, ◌≢◌, ◌⊎◌, ◌+◌, ◌*◌, ◌<◌, ◌≤◌, ℕ, zero, suc, Bool, true, false, ◌&&◌, ◌||◌, not, cond, List, [], ◌∷◌, ◌++◌, All, length, map, refl}
-use Rattle.std.proofs.Common.{arith, inl, inr, sym, ap, subst, ◌∙◌, true≢false}
-use Rattle.std.specs.List.{list_all, list_any}
+use Rattle.std.specs.Prelude.{◌≡◌, ◌⊎◌, ◌+◌, ℕ, Bool, true, false, ◌&&◌, ◌||◌, not, cond, List, [], ◌∷◌, ◌++◌, All, length, map, refl}
+use Rattle.std.proofs.Common.{arith, sym, ap, subst, ◌∙◌, true≢false}
+use Rattle.std.specs.List.{list_any}
 use Rattle.std.proofs.lemmas.List.Elements.{All-append, All-cons, All-head, All-map, All-nil, All-tail, All-weaker}
 use Rattle.bridge_graph.specs.Hypergraph.{IsCostly}
-use Rattle.bridge_graph.specs.Tree.{IsTreeless, Tree, by as by_edge, native}
+use Rattle.bridge_graph.specs.Tree.{by as by_edge, native}
 use Rattle.bridge_graph.specs.declared.Choice.{Choice}
-use Rattle.bridge_graph.specs.declared.Choice.TheVariants.{By, Missing, Native}
+use Rattle.bridge_graph.specs.declared.Choice.TheVariants.{By}
 use Rattle.expansion.specs.Bridged.{Bridged, EachBridged, EachBridgedIn, Fresh, by, each, each_in, natively, none, none_in}
 use Rattle.expansion.specs.RankLaws.{fresh}
 use Rattle.expansion.specs.Ranks.{IsRanked, RanksBelow}
@@ -25,8 +25,7 @@ use Rattle.item_core.specs.Item.{functions_of, is_group, variables_of}
 use Rattle.item_core.specs.Kind.{kind_eq, kind_number}
 use Rattle.item_core.specs.KindOf.{group_kind_of, kind_of_body}
 use Rattle.item_core.specs.Valid.{IsValidItem, below}
-use Rattle.bridge_face.specs.ImageOf.{image_of}
-use Rattle.bridge_face.specs.Law.{HasComponents, children, listed}
+use Rattle.bridge_face.specs.Law.{HasComponents}
 use Rattle.expansion.specs.Rules.{Image}
 use Rattle.aff_core.specs.declared.root.Root.TheVariants as root
 use Rattle.user_model.specs.Model.{ModelValue}
@@ -35,15 +34,15 @@ use Rattle.user_model.specs.declared.group.Group.{Group as UserGroup}
 use Rattle.fresh_bridging.specs.BodyLaws.{KeepsNamed, kind_put, length_put, valid_put}
 use Rattle.fresh_bridging.specs.CanLaws.{AreLawful, Can, IsChild, are_children, child_can, down, keeps, lists, rank_of, start_size}
 use Rattle.fresh_bridging.specs.EachLaws.{StandsFrom, all_both, all_first, all_from_map, all_second, stand_second}
-use Rattle.fresh_bridging.specs.Entries.{Entry, expression_in, is_kept, put_in, put_in_body}
+use Rattle.fresh_bridging.specs.Entries.{Entry, is_kept, put_in, put_in_body}
 use Rattle.fresh_bridging.specs.FreshBridging.{FreshBridging, HasTree}
 use Rattle.fresh_bridging.specs.MentionLaws.{AllOmit, by_lookup}
 use Rattle.fresh_bridging.specs.ModelImage.{group_item, model_image}
 use Rattle.fresh_bridging.specs.ModelLaws.{IsFurther, further, group_size, group_valid, not_owned}
 use Rattle.fresh_bridging.specs.RankingLaws.{at_most_34}
-use Rattle.fresh_bridging.specs.OmitLaws.{IsBelowAt, IsGroup, Owns, StandsAsGroup, apart, below_child, child_groups, edge_law, groups_in, omits_each, others_in, owned, standing_groups}
+use Rattle.fresh_bridging.specs.OmitLaws.{IsGroup, Owns, StandsAsGroup, apart, below_child, child_groups, edge_law, groups_in, omits_each, others_in, owned, standing_groups}
 use Rattle.fresh_bridging.specs.TableLaws.{and_first, and_second, is_group_kind, is_plain_kind, leads_from_others, grows_seldom, plain_beside_free, equal_kind}
-use Rattle.fresh_bridging.specs.TheRules.{AreChoices, IsChoice, Setting, edge_at, graph_of, own_entries, rules_by}
+use Rattle.fresh_bridging.specs.TheRules.{AreChoices, IsChoice, Setting, graph_of, rules_by}
 
 -- ---- kinds of groups
 
@@ -319,6 +318,14 @@ module _ (setting : Setting) (costly : IsCostly (graph_of setting)) (choice : �
           All-weaker (λ item. IsFurther item × HasTreeIn inner item) (λ item. Can setting costly choice chosen (put_in inner item))
           (λ item h. further_can item h.0 h.1) (model_image model).others
           (all_both IsFurther (HasTreeIn inner) (model_image model).others (further model valid) all)
+
+    -- with a tree for each group the groups are bridged
+    pub groups_bridged : All (HasTree (graph_of setting)) (model_image model).groups
+        → (entries : List Entry) × EachBridged (rules_by choice) (model_image model).groups entries
+    groups_bridged groups =
+        let alone : Image Item = record { groups = (model_image model).groups; others = [] } in
+        let made = fresh (rules_by choice) (Can setting costly choice chosen) (rank_of setting costly choice chosen) ranked alone (All-weaker IsGroupHere (Can setting costly choice chosen) (λ g h. h.can) (model_image model).groups (groups_can_all groups)) (λ inner trees. All-nil (λ item. Can setting costly choice chosen (put_in inner item))) in
+        (made.entries, made.groups)
 
     -- with a tree for each item there is a fresh bridging
     pub bridged_by_trees : All (HasTree (graph_of setting)) (model_image model).groups

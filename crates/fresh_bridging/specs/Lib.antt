@@ -16,3 +16,4 @@ pub mod EachLaws
 pub mod OmitLaws
 pub mod ModelLaws
 pub mod ExistenceLaws
+pub mod EitherLaws

@@ -1,12 +1,11 @@
 -- What expressions put in mention: nothing that neither the entries nor the function mention.
-use Rattle.std.specs.Prelude.{◌≡◌, Bool, true, false, cond, List, [], ◌∷◌, ◌++◌, All, find, map, Option, Some, None, refl}
-use Rattle.std.proofs.Common.{sym, ap, ap₂, subst, ◌∙◌}
-use Rattle.std.specs.List.{list_all}
+use Rattle.std.specs.Prelude.{◌≡◌, Bool, true, false, cond, List, [], ◌∷◌, All, find, Some, refl}
+use Rattle.std.proofs.Common.{sym, ap, ap₂, ◌∙◌}
 use Rattle.std.specs.Option.{option_map_or}
 use Rattle.std.proofs.lemmas.List.Elements.{All-head, All-tail}
 use Rattle.ratio_core.specs.Rational.{Rational, one_ℚ, zero_ℚ, ◌+ℚ◌}
 use Rattle.rational_laws.specs.Field.{*ℚ-zero, +ℚ-zero, zero-+ℚ}
-use Rattle.aff_core.specs.Address.{Address, address_cmp, address_eq, address_eq-Decides}
+use Rattle.aff_core.specs.Address.{Address, address_cmp, address_eq}
 use Rattle.aff_core.specs.Arithmetic.{composed}
 use Rattle.aff_core.specs.ArithmeticLaws.{coefficient-composed, constant-composed}
 use Rattle.aff_core.specs.Function.{Function, coefficient, slope, terms_of, value_of, variable}
@@ -15,7 +14,7 @@ use Rattle.aff_core.specs.KeyOrder.{address_order}
 use Rattle.aff_core.specs.Terms.{linear}
 use Rattle.linear_laws.specs.ListLaws.{slope_variable}
 use Rattle.linear_laws.specs.SlopeLaws.{slope_agreeing}
-use Rattle.linear_laws.specs.UnitLaws.{same_or_other, zero_or_other}
+use Rattle.linear_laws.specs.UnitLaws.{same_or_other}
 use Rattle.item_core.specs.declared.image.Expression.{Expression}
 use Rattle.item_core.specs.declared.image.Expression.TheVariants.{Kept, Bridged}
 use Rattle.bridge_face.specs.Law.{expressed}

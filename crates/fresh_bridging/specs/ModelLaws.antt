@@ -1,13 +1,12 @@
 -- Each group, row and objective of a valid model gives a valid item, which names the user's
 -- variables alone.
-use Rattle.std.specs.Prelude.{◌≡◌, ◌≢◌, ◌⊎◌, ◌+◌, ◌<◌, ◌≤◌, ℕ, zero, suc, Bool, true, false, ◌||◌, cond, List, [], ◌∷◌, ◌++◌, All, Contains, Option, Some, None, IsSome, is_some, length, map, unwrap_or, refl}
+use Rattle.std.specs.Prelude.{◌≡◌, ◌≢◌, ◌⊎◌, ◌≤◌, ℕ, zero, suc, Bool, true, false, ◌||◌, cond, List, [], ◌∷◌, All, Contains, Option, Some, None, is_some, length, map, unwrap_or, refl}
 use Rattle.std.proofs.Common.{arith, inl, inr, sym, ap, subst, ◌∙◌, true≢false}
 use Rattle.std.specs.FinMap as finite
 use Rattle.std.specs.List.{list_any}
 use Rattle.std.proofs.lemmas.List.{length-map}
 use Rattle.std.proofs.lemmas.List.Elements.{All-append, All-cons, All-head, All-map, All-nil, All-tail, All-weaker}
 use Rattle.ratio_core.specs.Rational.{zero_ℚ}
-use Rattle.linear_laws.specs.UnitLaws.{zero_or_other}
 use Rattle.set_core.specs.Shapes.{IsSetOf, is_norm_cone, is_scalar, least_dimension}
 use Rattle.set_core.specs.declared.set.Set.{Set}
 use Rattle.set_core.specs.declared.set.Set.TheVariants.{Reals}
@@ -15,15 +14,13 @@ use Rattle.aff_core.specs.Address.{Address, address_cmp, address_eq, address_eq-
 use Rattle.aff_core.specs.Function.{Function, coefficient, variable}
 use Rattle.aff_core.specs.FunctionLaws.{coefficient-variable_other}
 use Rattle.aff_core.specs.KeyOrder.{address_order}
-use Rattle.aff_core.specs.declared.root.Root.{Root}
 use Rattle.aff_core.specs.declared.root.Root.TheVariants as root
 use Rattle.item_core.specs.declared.item.Item.{Item}
 use Rattle.item_core.specs.declared.item.Body.{Body}
 use Rattle.item_core.specs.declared.item.Body.TheVariants.{PlainObj, AffineObj}
-use Rattle.item_core.specs.Item.{functions_of, is_group, set_of, variables_of}
+use Rattle.item_core.specs.Item.{functions_of, is_group, set_of}
 use Rattle.item_core.specs.Valid.{FitsItsFunction, IsValidItem, NamesNothingBelow, below}
 use Rattle.user_model.specs.Functions.{components, func_mentions, has_term, is_scalar_function}
-use Rattle.user_model.specs.Limits.{COMPONENTS}
 use Rattle.user_model.specs.Model.{ModelValue, objective_mentions, variable_address}
 use Rattle.user_model.specs.Valid.{IsValid, IsValidGroup, IsValidObjective, IsValidRow, Stands}
 use Rattle.user_model.specs.declared.function.UserFunc.{UserFunc}
@@ -34,7 +31,7 @@ use Rattle.user_model.specs.declared.objective.Objective.{Objective}
 use Rattle.user_model.specs.declared.objective.Objective.TheVariants as objective
 use Rattle.user_model.specs.declared.row.Row.{Row}
 use Rattle.fresh_bridging.specs.ModelImage.{group_item, model_image, objective_item, objective_items, row_body, row_item}
-use Rattle.fresh_bridging.specs.OmitLaws.{IsBelow, Owns}
+use Rattle.fresh_bridging.specs.OmitLaws.{Owns}
 
 at_least_one : (s : Set) → 1 ≤ least_dimension s
 at_least_one s = by (is_norm_cone s)

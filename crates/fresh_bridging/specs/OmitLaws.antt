@@ -1,6 +1,6 @@
 -- The expressions of a bridged group mention its own variables and addresses below it alone.
-use Rattle.std.specs.Prelude.{◌≡◌, ◌≢◌, ◌⊎◌, ◌+◌, ◌<◌, ◌≤◌, ℕ, zero, suc, Bool, true, false, cond, List, [], ◌∷◌, ◌++◌, All, Contains, length, map, refl}
-use Rattle.std.proofs.Common.{arith, inl, inr, sym, ap, ap₂, subst, ◌∙◌, true≢false}
+use Rattle.std.specs.Prelude.{◌≡◌, ◌⊎◌, ◌+◌, ℕ, zero, suc, Bool, true, false, cond, List, [], ◌∷◌, ◌++◌, All, Contains, length, map, refl}
+use Rattle.std.proofs.Common.{arith, inl, inr, sym, ap, subst, ◌∙◌}
 use Rattle.std.specs.List.{list_all, range_with_len, zip}
 use Rattle.std.proofs.lemmas.List.Sums.{AllPass-from_list_all}
 use Rattle.std.proofs.lemmas.List.Elements.{All-append, All-cons, All-head, All-map, All-nil, All-tail, All-weaker, Contains-append_cases}
@@ -28,7 +28,7 @@ use Rattle.item_core.specs.Valid.{below}
 use Rattle.bridge_face.specs.BackOf.{size}
 use Rattle.bridge_face.specs.ImageOf.{begins_free, free_at, group_at, image_by, image_of}
 use Rattle.set_core.specs.declared.set.Set.TheVariants.{Reals}
-use Rattle.bridge_face.specs.Law.{EdgeLaw, HasComponents, children, expressed, inner_of, listed}
+use Rattle.bridge_face.specs.Law.{EdgeLaw, HasComponents, expressed, inner_of, listed}
 use Rattle.fresh_bridging.specs.CanLaws.{AreLawful, Can, IsChild, are_children, child_can, law, rank_of}
 use Rattle.fresh_bridging.specs.EachLaws.{StandsFrom, all_both, all_first, all_from_map, all_seconds, stand_first}
 use Rattle.fresh_bridging.specs.Entries.{Entry, put_into}

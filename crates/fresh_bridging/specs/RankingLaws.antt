@@ -1,14 +1,14 @@
 -- The least cost of a kind ranks it: what a chosen edge leads to costs less, so a path of chosen
 -- edges repeats no kind.
-use Rattle.std.specs.Prelude.{◌≡◌, ◌+◌, ◌<◌, ◌≤◌, ℕ, zero, suc, ◌==◌, nat_lt, Bool, true, false, ◌||◌, cond, List, [], ◌∷◌, map, count_by, Option, Some, None, slice_get, refl}
+use Rattle.std.specs.Prelude.{◌≡◌, ◌+◌, ◌<◌, ◌≤◌, ℕ, zero, suc, nat_lt, Bool, true, false, ◌||◌, cond, List, [], ◌∷◌, map, count_by, Some, slice_get, refl}
 use Rattle.std.proofs.Common.{arith, sym, ap, subst, ◌∙◌, true≢false}
 use Rattle.std.specs.List.{list_any}
 use Rattle.std.proofs.lemmas.Bool.Decides.{Decides-eqb, nat_tests}
 use Rattle.std.proofs.lemmas.Option.{none-some, same_Some}
 use Rattle.std.proofs.lemmas.List.Sums.{count_by-le-length}
 use Rattle.map_laws.specs.SumLaws.{count_first}
-use Rattle.bridge_graph.specs.Hypergraph.{Hypergraph, IsCostly, children_of as children_in}
-use Rattle.bridge_graph.specs.Tree.{IsFirstEdge, Tree, TreeBy, Trees, by, each, native, none, via}
+use Rattle.bridge_graph.specs.Hypergraph.{IsCostly, children_of as children_in}
+use Rattle.bridge_graph.specs.Tree.{IsFirstEdge, Tree, TreeBy, Trees, by, each, native, via}
 use Rattle.bridge_graph.specs.declared.Choice.{Choice}
 use Rattle.bridge_graph.specs.declared.Choice.TheVariants.{By, Missing, Native}
 use Rattle.bridge_graph.specs.declared.EdgeRow.{EdgeRow}
