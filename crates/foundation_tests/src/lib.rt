@@ -2,6 +2,8 @@
 #![tactic(auto)]
 
 #[cfg(test)]
+mod exp;
+#[cfg(test)]
 mod functions;
 #[cfg(test)]
 mod names;
