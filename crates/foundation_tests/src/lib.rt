@@ -2,8 +2,6 @@
 #![tactic(auto)]
 
 #[cfg(test)]
-mod exp;
-#[cfg(test)]
 mod functions;
 #[cfg(test)]
 mod names;
