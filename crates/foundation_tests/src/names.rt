@@ -65,45 +65,61 @@ fn a_name_is_escaped(rt: HostRuntime) -> Result<(), Fail> {
     Ok(())
 }
 
-/// The fault of a name of 4,097 bytes.
-fn fault_of_a_longer_name(alloc: Global) -> Result<Option<NameFault>, NameFault> {
-    let text = "x".repeat(alloc, 4097)?;
-    Ok(Name::new(alloc, text.as_str()).err())
-}
-
 #[test]
-fn a_name_has_4096_bytes_at_most(rt: HostRuntime) {
-    assert!(rt; fault_of_a_longer_name(rt.alloc()) == Ok(Some(NameFault::BadName)));
+fn a_name_has_4096_bytes_at_most(rt: HostRuntime) -> Result<(), Fail> {
+    let text = "x".repeat(rt.alloc(), 4097)?;
+    let refused = Name::new(rt.alloc(), text.as_str());
+    assert!(rt; matches!(refused, Err(NameFault::BadName)));
+    Ok(())
 }
 
-/// Whether a list of one name has it in a copy.
-fn is_in_a_list(alloc: Global, x: Name) -> Result<bool, Memory> {
-    let names = Names::from_vec(vec![in alloc; x]?);
-    Ok(names.copy()?.get(0).is_some_and(|name| name.text() == "x"))
+/// Whether the first of the names is x.
+fn begins_with_x(names: &Names) -> bool {
+    match names.get(0) {
+        Some(name) => name.text() == "x",
+        None => false,
+    }
 }
 
 #[test]
 fn names_are_a_list(rt: HostRuntime) -> Result<(), Fail> {
     let x = Name::new(rt.alloc(), "x")?;
-    assert!(rt; is_in_a_list(rt.alloc(), x) == Ok(true));
+    let names = Names::from_vec(vec![in rt.alloc(); x]?);
+    assert!(rt; begins_with_x(&names.copy()?));
     Ok(())
 }
 
-/// Whether a name is found by its number, and the number by its name, until it is taken out.
-fn goes_both_ways(alloc: Global, x: Name) -> Result<bool, Memory> {
+/// A table of one name, with the number 7.
+fn table_of(alloc: Global, name: Name) -> Result<NameTable, Memory> {
     let mut table = NameTable::new(alloc);
     table.reserve(1)?;
-    if table.id(&x).is_some() || table.name(7).is_some() || table.add(x.copy()?, 7).is_err() {
-        return Ok(false);
+    if table.id(&name).is_some() || table.name(7).is_some() {
+        return Err(Memory);
     }
-    let is_found = table.id(&x) == Some(7) && table.name(7).is_some_and(|name| *name == x);
-    let is_removed = table.remove(7).is_some_and(|name| name == x);
-    Ok(is_found && is_removed && table.id(&x).is_none())
+    match table.add(name, 7) {
+        Ok(()) => Ok(table),
+        Err(_) => Err(Memory),
+    }
+}
+
+/// Whether the name with the number 7 is this one.
+fn has_at_7(table: &NameTable, name: &Name) -> bool {
+    match table.name(7) {
+        Some(found) => found.text() == name.text(),
+        None => false,
+    }
+}
+
+/// Whether a name that has the number 7 is taken out.
+fn takes_out(table: &mut NameTable, name: &Name) -> bool {
+    table.id(name) == Some(7) && table.remove(7).is_some() && table.id(name).is_none()
 }
 
 #[test]
 fn a_table_goes_both_ways(rt: HostRuntime) -> Result<(), Fail> {
     let x = Name::new(rt.alloc(), "x")?;
-    assert!(rt; goes_both_ways(rt.alloc(), x) == Ok(true));
+    let mut table = table_of(rt.alloc(), x.copy()?)?;
+    assert!(rt; has_at_7(&table, &x));
+    assert!(rt; takes_out(&mut table, &x));
     Ok(())
 }
