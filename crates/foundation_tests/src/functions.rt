@@ -28,10 +28,14 @@ fn is_x(terms: &NamedTerms) -> bool {
     }
 }
 
+fn is_copied_as_x(terms: &NamedTerms) -> Result<bool, Memory> {
+    Ok(is_x(&terms.copy()?))
+}
+
 #[test]
 fn terms_are_copied(rt: HostRuntime) -> Result<(), Fail> {
     let terms = one_term(rt.alloc(), Name::new(rt.alloc(), "x")?)?;
-    assert!(rt; is_x(&terms.copy()?));
+    assert!(rt; is_copied_as_x(&terms) == Ok(true));
     Ok(())
 }
 
@@ -43,10 +47,14 @@ fn is_one(functions: &NamedVec) -> bool {
     }
 }
 
+fn is_copied_as_one(functions: &NamedVec) -> Result<bool, Memory> {
+    Ok(is_one(&functions.copy()?))
+}
+
 #[test]
 fn components_are_copied(rt: HostRuntime) -> Result<(), Fail> {
     let (terms, constant) = (NamedTerms::new(rt.alloc()), Ratio::one());
     let list = NamedVec::from_vec(vec![in rt.alloc(); NamedAff { terms, constant }]?);
-    assert!(rt; is_one(&list.copy()?));
+    assert!(rt; is_copied_as_one(&list) == Ok(true));
     Ok(())
 }

@@ -37,31 +37,43 @@ const ESCAPES: [(&str, &[u8]); 6] = [
     ("\u{e9}", b"%C3%A9"),
 ];
 
-fn stands_for(alloc: Global, token: &[u8], text: Option<&str>) -> Result<bool, Memory> {
-    let name = Name::unescape(alloc, token)?;
-    Ok(name.as_ref().map(|name| name.text()) == text)
+fn has_text(name: &Option<Name>, text: Option<&str>) -> bool {
+    match name {
+        Some(name) => text == Some(name.text()),
+        None => text.is_none(),
+    }
 }
 
-fn is_written(alloc: Global, text: &str, token: &[u8]) -> Result<bool, Fail> {
-    let name = Name::new(alloc, text)?;
-    Ok(name.escape()?.as_slice() == token)
+fn stand_for(alloc: Global, cases: &[(&[u8], Option<&str>)]) -> Result<bool, Memory> {
+    for (token, text) in cases {
+        if !has_text(&Name::unescape(alloc, token)?, *text) {
+            return Ok(false);
+        }
+    }
+    Ok(true)
 }
 
 #[test]
 fn a_token_stands_for_a_name(rt: HostRuntime) {
-    for (token, text) in TOKENS {
-        assert!(rt;
-            stands_for(rt.alloc(), token, text) == Ok(true),
-            "{token:?}"
-        );
+    assert!(rt; stand_for(rt.alloc(), &TOKENS) == Ok(true));
+}
+
+fn is_written(name: &Name, token: &[u8]) -> Result<bool, Memory> {
+    Ok(name.escape()?.as_slice() == token)
+}
+
+fn are_written(alloc: Global, cases: &[(&str, &[u8])]) -> Result<bool, Fail> {
+    for (text, token) in cases {
+        if !is_written(&Name::new(alloc, text)?, token)? {
+            return Ok(false);
+        }
     }
+    Ok(true)
 }
 
 #[test]
 fn a_name_is_escaped(rt: HostRuntime) -> Result<(), Fail> {
-    for (text, token) in ESCAPES {
-        assert!(rt; is_written(rt.alloc(), text, token)?, "{text}");
-    }
+    assert!(rt; are_written(rt.alloc(), &ESCAPES)?);
     Ok(())
 }
 
@@ -89,17 +101,12 @@ fn names_are_a_list(rt: HostRuntime) -> Result<(), Fail> {
     Ok(())
 }
 
-/// A table of one name, with the number 7.
-fn table_of(alloc: Global, name: Name) -> Result<NameTable, Memory> {
-    let mut table = NameTable::new(alloc);
-    table.reserve(1)?;
+/// Whether a free name can have the number 7.
+fn takes(table: &mut NameTable, name: Name) -> bool {
     if table.id(&name).is_some() || table.name(7).is_some() {
-        return Err(Memory);
+        return false;
     }
-    match table.add(name, 7) {
-        Ok(()) => Ok(table),
-        Err(_) => Err(Memory),
-    }
+    table.add(name, 7).is_ok()
 }
 
 /// Whether the name with the number 7 is this one.
@@ -111,15 +118,20 @@ fn has_at_7(table: &NameTable, name: &Name) -> bool {
 }
 
 /// Whether a name that has the number 7 is taken out.
-fn takes_out(table: &mut NameTable, name: &Name) -> bool {
+fn gives_back(table: &mut NameTable, name: &Name) -> bool {
     table.id(name) == Some(7) && table.remove(7).is_some() && table.id(name).is_none()
+}
+
+/// Whether a name is put into the table, found and taken out.
+fn goes_both_ways(table: &mut NameTable, name: &Name) -> Result<bool, Memory> {
+    table.reserve(1)?;
+    Ok(takes(table, name.copy()?) && has_at_7(table, name) && gives_back(table, name))
 }
 
 #[test]
 fn a_table_goes_both_ways(rt: HostRuntime) -> Result<(), Fail> {
     let x = Name::new(rt.alloc(), "x")?;
-    let mut table = table_of(rt.alloc(), x.copy()?)?;
-    assert!(rt; has_at_7(&table, &x));
-    assert!(rt; takes_out(&mut table, &x));
+    let mut table = NameTable::new(rt.alloc());
+    assert!(rt; goes_both_ways(&mut table, &x) == Ok(true));
     Ok(())
 }
