@@ -7,39 +7,54 @@ use ratio_core::Ratio;
 use std::alloc::Global;
 use std::test::Fail;
 
-/// Whether a copy of a list of one term has it alone.
-fn keeps_a_term(alloc: Global, variable: Name) -> Result<bool, Memory> {
-    let coefficient = Ratio::one();
+/// A list of one term, x.
+fn one_term(alloc: Global, x: Name) -> Result<NamedTerms, Memory> {
     let mut terms = NamedTerms::new(alloc);
     let term = NamedTerm {
-        variable,
-        coefficient,
+        variable: x,
+        coefficient: Ratio::one(),
     };
-    if terms.push(term).is_err() {
-        return Err(Memory);
+    match terms.push(term) {
+        Ok(()) => Ok(terms),
+        Err(_) => Err(Memory),
     }
-    let copy = terms.copy()?;
-    let [term] = copy.as_slice() else {
-        return Ok(false);
-    };
-    Ok(term.variable.text() == "x" && term.coefficient == Ratio::one())
+}
+
+/// Whether a list is the term x alone.
+fn is_x(terms: &NamedTerms) -> bool {
+    match terms.as_slice() {
+        [term] => term.variable.text() == "x" && term.coefficient == Ratio::one(),
+        _ => false,
+    }
+}
+
+fn is_copied_as_x(terms: &NamedTerms) -> Result<bool, Memory> {
+    Ok(is_x(&terms.copy()?))
 }
 
 #[test]
-fn terms_keep_their_order(rt: HostRuntime) -> Result<(), Fail> {
-    let x = Name::new(rt.alloc(), "x")?;
-    assert!(rt; keeps_a_term(rt.alloc(), x) == Ok(true));
+fn terms_are_copied(rt: HostRuntime) -> Result<(), Fail> {
+    let terms = one_term(rt.alloc(), Name::new(rt.alloc(), "x")?)?;
+    assert!(rt; is_copied_as_x(&terms) == Ok(true));
     Ok(())
 }
 
-/// The constant in a copy of a list of one constant function.
-fn copied_constant(alloc: Global) -> Result<Option<Ratio>, Memory> {
-    let (terms, constant) = (NamedTerms::new(alloc), Ratio::one());
-    let list = NamedVec::from_vec(vec![in alloc; NamedAff { terms, constant }]?);
-    Ok(list.copy()?.get(0).map(|f| f.constant))
+/// Whether a list is the function that is 1 everywhere.
+fn is_one(functions: &NamedVec) -> bool {
+    match functions.as_slice() {
+        [f] => f.terms.as_slice().is_empty() && f.constant == Ratio::one(),
+        _ => false,
+    }
+}
+
+fn is_copied_as_one(functions: &NamedVec) -> Result<bool, Memory> {
+    Ok(is_one(&functions.copy()?))
 }
 
 #[test]
-fn components_are_copied(rt: HostRuntime) {
-    assert!(rt; copied_constant(rt.alloc()) == Ok(Some(Ratio::one())));
+fn components_are_copied(rt: HostRuntime) -> Result<(), Fail> {
+    let (terms, constant) = (NamedTerms::new(rt.alloc()), Ratio::one());
+    let list = NamedVec::from_vec(vec![in rt.alloc(); NamedAff { terms, constant }]?);
+    assert!(rt; is_copied_as_one(&list) == Ok(true));
+    Ok(())
 }

@@ -37,73 +37,101 @@ const ESCAPES: [(&str, &[u8]); 6] = [
     ("\u{e9}", b"%C3%A9"),
 ];
 
-fn stands_for(alloc: Global, token: &[u8], text: Option<&str>) -> Result<bool, Memory> {
-    let name = Name::unescape(alloc, token)?;
-    Ok(name.as_ref().map(|name| name.text()) == text)
+fn has_text(name: &Option<Name>, text: Option<&str>) -> bool {
+    match name {
+        Some(name) => text == Some(name.text()),
+        None => text.is_none(),
+    }
 }
 
-fn is_written(alloc: Global, text: &str, token: &[u8]) -> Result<bool, Fail> {
-    let name = Name::new(alloc, text)?;
-    Ok(name.escape()?.as_slice() == token)
+fn stand_for(alloc: Global, cases: &[(&[u8], Option<&str>)]) -> Result<bool, Memory> {
+    for (token, text) in cases {
+        if !has_text(&Name::unescape(alloc, token)?, *text) {
+            return Ok(false);
+        }
+    }
+    Ok(true)
 }
 
 #[test]
 fn a_token_stands_for_a_name(rt: HostRuntime) {
-    for (token, text) in TOKENS {
-        assert!(rt;
-            stands_for(rt.alloc(), token, text) == Ok(true),
-            "{token:?}"
-        );
+    assert!(rt; stand_for(rt.alloc(), &TOKENS) == Ok(true));
+}
+
+fn is_written(name: &Name, token: &[u8]) -> Result<bool, Memory> {
+    Ok(name.escape()?.as_slice() == token)
+}
+
+fn are_written(alloc: Global, cases: &[(&str, &[u8])]) -> Result<bool, Fail> {
+    for (text, token) in cases {
+        if !is_written(&Name::new(alloc, text)?, token)? {
+            return Ok(false);
+        }
     }
+    Ok(true)
 }
 
 #[test]
 fn a_name_is_escaped(rt: HostRuntime) -> Result<(), Fail> {
-    for (text, token) in ESCAPES {
-        assert!(rt; is_written(rt.alloc(), text, token)?, "{text}");
-    }
+    assert!(rt; are_written(rt.alloc(), &ESCAPES)?);
     Ok(())
 }
 
-/// The fault of a name of 4,097 bytes.
-fn fault_of_a_longer_name(alloc: Global) -> Result<Option<NameFault>, NameFault> {
-    let text = "x".repeat(alloc, 4097)?;
-    Ok(Name::new(alloc, text.as_str()).err())
-}
-
 #[test]
-fn a_name_has_4096_bytes_at_most(rt: HostRuntime) {
-    assert!(rt; fault_of_a_longer_name(rt.alloc()) == Ok(Some(NameFault::BadName)));
+fn a_name_has_4096_bytes_at_most(rt: HostRuntime) -> Result<(), Fail> {
+    let text = "x".repeat(rt.alloc(), 4097)?;
+    let refused = Name::new(rt.alloc(), text.as_str());
+    assert!(rt; matches!(refused, Err(NameFault::BadName)));
+    Ok(())
 }
 
-/// Whether a list of one name has it in a copy.
-fn is_in_a_list(alloc: Global, x: Name) -> Result<bool, Memory> {
-    let names = Names::from_vec(vec![in alloc; x]?);
-    Ok(names.copy()?.get(0).is_some_and(|name| name.text() == "x"))
+/// Whether the first of the names is x.
+fn begins_with_x(names: &Names) -> bool {
+    match names.get(0) {
+        Some(name) => name.text() == "x",
+        None => false,
+    }
 }
 
 #[test]
 fn names_are_a_list(rt: HostRuntime) -> Result<(), Fail> {
     let x = Name::new(rt.alloc(), "x")?;
-    assert!(rt; is_in_a_list(rt.alloc(), x) == Ok(true));
+    let names = Names::from_vec(vec![in rt.alloc(); x]?);
+    assert!(rt; begins_with_x(&names.copy()?));
     Ok(())
 }
 
-/// Whether a name is found by its number, and the number by its name, until it is taken out.
-fn goes_both_ways(alloc: Global, x: Name) -> Result<bool, Memory> {
-    let mut table = NameTable::new(alloc);
-    table.reserve(1)?;
-    if table.id(&x).is_some() || table.name(7).is_some() || table.add(x.copy()?, 7).is_err() {
-        return Ok(false);
+/// Whether a free name can have the number 7.
+fn takes(table: &mut NameTable, name: Name) -> bool {
+    if table.id(&name).is_some() || table.name(7).is_some() {
+        return false;
     }
-    let is_found = table.id(&x) == Some(7) && table.name(7).is_some_and(|name| *name == x);
-    let is_removed = table.remove(7).is_some_and(|name| name == x);
-    Ok(is_found && is_removed && table.id(&x).is_none())
+    table.add(name, 7).is_ok()
+}
+
+/// Whether the name with the number 7 is this one.
+fn has_at_7(table: &NameTable, name: &Name) -> bool {
+    match table.name(7) {
+        Some(found) => found.text() == name.text(),
+        None => false,
+    }
+}
+
+/// Whether a name that has the number 7 is taken out.
+fn gives_back(table: &mut NameTable, name: &Name) -> bool {
+    table.id(name) == Some(7) && table.remove(7).is_some() && table.id(name).is_none()
+}
+
+/// Whether a name is put into the table, found and taken out.
+fn goes_both_ways(table: &mut NameTable, name: &Name) -> Result<bool, Memory> {
+    table.reserve(1)?;
+    Ok(takes(table, name.copy()?) && has_at_7(table, name) && gives_back(table, name))
 }
 
 #[test]
 fn a_table_goes_both_ways(rt: HostRuntime) -> Result<(), Fail> {
     let x = Name::new(rt.alloc(), "x")?;
-    assert!(rt; goes_both_ways(rt.alloc(), x) == Ok(true));
+    let mut table = NameTable::new(rt.alloc());
+    assert!(rt; goes_both_ways(&mut table, &x) == Ok(true));
     Ok(())
 }

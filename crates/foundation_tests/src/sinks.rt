@@ -4,44 +4,62 @@ use io_face::{Calls, MemSink, Sink, SinkFault, StdOut, SureSink, write_all};
 use std::alloc::{AllocError, Global};
 use std::io;
 use std::io::{ErrorKind, Write};
+use std::test::Fail;
+
+/// Whether a piece is taken whole.
+fn takes_all(sink: &mut SureSink) -> bool {
+    let is_taken = sink.write(b"hello") == Ok(5);
+    is_taken && sink.written() == b"hello".as_slice() && sink.faults() == 0
+}
 
 #[test]
 fn a_piece_is_taken_whole(rt: HostRuntime) {
     let mut sink = SureSink::new(rt.alloc());
-    assert!(rt; sink.write(b"hello") == Ok(5));
-    assert!(rt; sink.written() == b"hello".as_slice() && sink.faults() == 0);
+    assert!(rt; takes_all(&mut sink));
+}
+
+/// A sink that takes two bytes at a time, and fails at this write.
+fn sink_of_pieces(alloc: Global, failing: u64) -> Result<MemSink, AllocError> {
+    let fails = Calls::from_vec(vec![in alloc; failing]?);
+    Ok(MemSink::new(alloc, 2, fails))
+}
+
+/// Whether the beginning of a piece is taken.
+fn takes_a_part(sink: &mut MemSink) -> bool {
+    let is_taken = sink.write(b"hello") == Ok(2);
+    is_taken && sink.written() == b"he".as_slice() && sink.faults() == 0
 }
 
 #[test]
-fn a_piece_is_taken_in_parts(rt: HostRuntime) {
-    let mut sink = MemSink::new(rt.alloc(), 2, Calls::new(rt.alloc()));
-    assert!(rt; sink.write(b"hello") == Ok(2));
-    assert!(rt; sink.written() == b"he".as_slice() && sink.faults() == 0);
+fn a_piece_is_taken_in_parts(rt: HostRuntime) -> Result<(), Fail> {
+    let mut sink = sink_of_pieces(rt.alloc(), 2)?;
+    assert!(rt; takes_a_part(&mut sink));
+    Ok(())
 }
 
-/// What the first write answers, which is to fail, and how many failed.
-fn failing_write(alloc: Global) -> Result<(Result<usize, SinkFault>, u64), AllocError> {
-    let fails = Calls::from_vec(vec![in alloc; 1u64]?);
-    let mut sink = MemSink::new(alloc, 2, fails);
-    Ok((sink.write(b"hello"), sink.faults()))
-}
-
-#[test]
-fn the_listed_write_fails(rt: HostRuntime) {
-    assert!(rt; failing_write(rt.alloc()) == Ok((Err(SinkFault::Failed), 1)));
-}
-
-/// Whether a text in pieces of two bytes is written up to the third write, which fails.
-fn stops_at_a_fault(alloc: Global) -> Result<bool, AllocError> {
-    let fails = Calls::from_vec(vec![in alloc; 3u64]?);
-    let mut sink = MemSink::new(alloc, 2, fails);
-    let outcome = write_all(&mut sink, b"hello");
-    Ok(outcome == Err(SinkFault::Failed) && sink.written() == b"hell".as_slice())
+/// Whether a write fails and is counted.
+fn fails_once(sink: &mut MemSink) -> bool {
+    sink.write(b"hello") == Err(SinkFault::Failed) && sink.faults() == 1
 }
 
 #[test]
-fn a_text_is_written_up_to_a_fault(rt: HostRuntime) {
-    assert!(rt; stops_at_a_fault(rt.alloc()) == Ok(true));
+fn the_listed_write_fails(rt: HostRuntime) -> Result<(), Fail> {
+    let mut sink = sink_of_pieces(rt.alloc(), 1)?;
+    assert!(rt; fails_once(&mut sink));
+    Ok(())
+}
+
+/// Whether a text is written up to the third write.
+fn stops_at_the_third(sink: &mut MemSink) -> bool {
+    let is_stopped = write_all(sink, b"hello") == Err(SinkFault::Failed);
+    is_stopped && sink.written() == b"hell".as_slice()
+}
+
+#[test]
+fn a_text_is_written_up_to_a_fault(rt: HostRuntime) -> Result<(), Fail> {
+    let mut sink = sink_of_pieces(rt.alloc(), 3)?;
+    assert!(rt; stops_at_the_third(&mut sink));
+    Ok(())
 }
 
 /// Is interrupted, takes a byte, then none, and fails.

@@ -1,45 +1,58 @@
 //! Sources: in memory, and of a system that interrupts and fails.
 
 use io_face::{Calls, Failed, MemSource, Source, StdIn, SureSource};
-use std::alloc::{AllocError, Global};
+use lists::Memory;
+use std::alloc::Global;
 use std::io;
 use std::io::{ErrorKind, Read};
+use std::test::Fail;
 
 /// Whether five bytes come in two reads, the first of three.
-fn gives_all(alloc: Global) -> Result<bool, AllocError> {
-    let mut source = SureSource::new(b"hello".to_vec(alloc)?);
+fn gives_all(source: &mut SureSource) -> bool {
     let mut into = [0u8; 3];
     let is_first = source.read(&mut into) == Ok(3) && into == *b"hel";
-    Ok(is_first && source.read(&mut into) == Ok(2) && into == *b"lol" && source.faults() == 0)
+    is_first && source.read(&mut into) == Ok(2) && into == *b"lol" && source.faults() == 0
 }
 
 #[test]
-fn all_bytes_come_in_order(rt: HostRuntime) {
-    assert!(rt; gives_all(rt.alloc()) == Ok(true));
+fn all_bytes_come_in_order(rt: HostRuntime) -> Result<(), Fail> {
+    let mut source = SureSource::new(b"hello".to_vec(rt.alloc())?);
+    assert!(rt; gives_all(&mut source));
+    Ok(())
 }
 
-/// Whether a read gives no more than a piece of two bytes.
-fn gives_a_piece(alloc: Global) -> Result<bool, AllocError> {
-    let mut source = MemSource::new(b"hello".to_vec(alloc)?, 2, Calls::new(alloc));
+/// A source of pieces of two bytes, whose first read fails or none.
+fn source_of_pieces(alloc: Global, first_fails: bool) -> Result<MemSource, Memory> {
+    let mut fails = Calls::new(alloc);
+    if first_fails && fails.push(1).is_err() {
+        return Err(Memory);
+    }
+    Ok(MemSource::new(b"hello".to_vec(alloc)?, 2, fails))
+}
+
+/// Whether a read gives no more than a piece.
+fn gives_a_piece(source: &mut MemSource) -> bool {
     let mut into = [0u8; 3];
-    Ok(source.read(&mut into) == Ok(2) && into == *b"he\0")
+    source.read(&mut into) == Ok(2) && into == *b"he\0"
 }
 
 #[test]
-fn bytes_come_in_pieces(rt: HostRuntime) {
-    assert!(rt; gives_a_piece(rt.alloc()) == Ok(true));
+fn bytes_come_in_pieces(rt: HostRuntime) -> Result<(), Fail> {
+    let mut source = source_of_pieces(rt.alloc(), false)?;
+    assert!(rt; gives_a_piece(&mut source));
+    Ok(())
 }
 
-/// What the first read answers, which is to fail, and how many failed.
-fn failing_read(alloc: Global) -> Result<(Result<usize, Failed>, u64), AllocError> {
-    let fails = Calls::from_vec(vec![in alloc; 1u64]?);
-    let mut source = MemSource::new(b"hello".to_vec(alloc)?, 2, fails);
-    Ok((source.read(&mut [0u8; 3]), source.faults()))
+/// Whether a read fails and is counted.
+fn fails_once(source: &mut MemSource) -> bool {
+    source.read(&mut [0u8; 3]) == Err(Failed) && source.faults() == 1
 }
 
 #[test]
-fn the_listed_read_fails(rt: HostRuntime) {
-    assert!(rt; failing_read(rt.alloc()) == Ok((Err(Failed), 1)));
+fn the_listed_read_fails(rt: HostRuntime) -> Result<(), Fail> {
+    let mut source = source_of_pieces(rt.alloc(), true)?;
+    assert!(rt; fails_once(&mut source));
+    Ok(())
 }
 
 /// Is interrupted, gives two bytes, fails, and is at its end.
