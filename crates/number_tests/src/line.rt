@@ -11,13 +11,17 @@ pub fn answer(line: &str) -> Option<Answer> {
         return Some(Answer::Parts(number(first)?));
     };
     let second = words.next()?;
-    match operation {
-        "over" => Some(Ratio::new(first.parse().ok()?, second.parse().ok()?).into()),
-        "by" => {
-            let other = words.nth(1)?;
-            order(number(first)?, number(second)?, number(other)?, number(words.nth(1)?)?)
+    match words.nth(1) {
+        None => result(first, operation, second),
+        Some(third) => {
+            let fourth = words.nth(1)?;
+            order(
+                number(first)?,
+                number(second)?,
+                number(third)?,
+                number(fourth)?,
+            )
         }
-        _ => result(number(first)?, operation, number(second)?),
     }
 }
 
@@ -25,7 +29,11 @@ fn number(word: &str) -> Option<Ratio> {
     Ratio::read(word.as_bytes())
 }
 
-fn result(left: Ratio, operation: &str, right: Ratio) -> Option<Answer> {
+fn result(first: &str, operation: &str, second: &str) -> Option<Answer> {
+    if operation == "over" {
+        return Some(Ratio::new(first.parse().ok()?, second.parse().ok()?).into());
+    }
+    let (left, right) = (number(first)?, number(second)?);
     match operation {
         "+" => Some(left.add(&right).into()),
         "-" => Some(left.sub(&right).into()),
