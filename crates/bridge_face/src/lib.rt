@@ -13,6 +13,7 @@ mod kept_map;
 mod one_row;
 mod rewriting;
 mod rows;
+mod sums;
 
 pub use aff_core::AffFault as ItemFault;
 pub use bridge::Bridge;
@@ -25,3 +26,4 @@ pub use kept_items::KeptItems;
 pub use one_row::row_image;
 pub use rewriting::Rewriting;
 pub use rows::rows_image;
+pub use sums::place_sums;
