@@ -5,7 +5,7 @@ pub mod Law
 pub mod State
 pub mod Sources
 pub mod AnsweredLaws
-pub mod SumsLaws
+pub mod ZippedLaws
 pub mod ComponentLaws
 pub mod DifferenceLaws
 pub mod GroupLaws

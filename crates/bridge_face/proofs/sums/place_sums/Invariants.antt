@@ -1,4 +1,4 @@
-use Rattle.bridge_face.specs.SumsLaws.{SummedTo}
+use Rattle.bridge_face.specs.ZippedLaws.{SummedTo}
 use Rattle.bridge_face.proofs.sums.place_sums.Given as goal
 
 abbrev pub invariant-loop-n : goal.invariant-loop-n
