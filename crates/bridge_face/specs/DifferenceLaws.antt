@@ -3,6 +3,7 @@ use Rattle.std.specs.Prelude.{◌≡◌, List, [], ◌∷◌, map, All, length, 
 use Rattle.std.proofs.Common.{sym, ap, ap₂, ◌∙◌, arith}
 use Rattle.std.proofs.lemmas.List.{length-map}
 use Rattle.std.proofs.lemmas.List.Elements.{All-cons, All-head, All-nil, All-tail}
+use Rattle.std.specs.List.{zip}
 use Rattle.ratio_core.specs.Rational.{Rational, neg_ℚ, zero_ℚ, ◌+ℚ◌, ◌-ℚ◌, one_ℚ}
 use Rattle.rational_laws.specs.Dot.{dot, minus, plus}
 use Rattle.rational_laws.specs.DotLaws.{dot-minus}
@@ -18,7 +19,10 @@ use Rattle.linear_laws.specs.EvaluationLaws.{evaluated_sum}
 use Rattle.linear_laws.specs.ListLaws.{evaluated_negated}
 use Rattle.bridge_face.specs.ImageOf.{differences, sums}
 use Rattle.bridge_face.specs.Images.{difference}
-use Rattle.bridge_face.specs.ComponentLaws.{constant-variable}
+use Rattle.bridge_face.specs.ComponentLaws.{constant-variable, dot_missed, variables, weighed}
+use Rattle.bridge_face.specs.Law.{Miss}
+use Rattle.aff_core.specs.FunctionLists.{coefficients}
+use Rattle.rational_laws.specs.Dot as numbers
 
 -- ---- of two functions
 
@@ -157,3 +161,34 @@ module _ (w : List Rational) (fs hs : List Function) (e : length fs ≡ length h
   dot-differences g s =
       ap (dot w) (numbers-differences g s fs hs)
       ∙ dot-minus w (map g fs) (map g hs) (length-map fs g ∙ e ∙ sym (length-map hs g))
+
+  -- at variables that the first functions don't name
+  pub weighed-differences : (vs : List Address) → All (λ v. Miss fs v) vs
+      → weighed w (differences fs hs) vs ≡ numbers.negated (weighed w hs vs)
+  weighed-differences [] m = refl
+  weighed-differences (v ∷ vs) m =
+      ap₂ ◌∷◌
+      (dot-differences (λ f. coefficient f v) (λ f g. coefficient-difference f g v)
+      ∙ ap (λ q. q -ℚ dot w (coefficients hs v)) (dot_missed w fs v (All-head (λ v. Miss fs v) v vs m))
+      ∙ zero-+ℚ (neg_ℚ (dot w (coefficients hs v))))
+      (weighed-differences vs (All-tail (λ v. Miss fs v) v vs m))
+
+  -- at a variable that the second functions don't name
+  pub dot-differences_missed : (v : Address) → Miss hs v
+      → dot w (coefficients (differences fs hs) v) ≡ dot w (coefficients fs v)
+  dot-differences_missed v m =
+      dot-differences (λ f. coefficient f v) (λ f g. coefficient-difference f g v)
+      ∙ ap (λ q. dot w (coefficients fs v) -ℚ q) (dot_missed w hs v m)
+      ∙ ap (λ q. dot w (coefficients fs v) +ℚ q) neg_ℚ-zero ∙ +ℚ-zero (dot w (coefficients fs v))
+
+-- ---- functions less variables
+
+-- each function less the variable at its place
+abbrev pub less : Function × Address → Function
+less p = difference p.0 (variable p.1)
+
+pub less_each : (fs : List Function) (vs : List Address)
+    → map less (zip fs vs) ≡ differences fs (variables vs)
+less_each [] vs = refl
+less_each (f ∷ fs) [] = refl
+less_each (f ∷ fs) (v ∷ vs) = ap (λ gs. difference f (variable v) ∷ gs) (less_each fs vs)

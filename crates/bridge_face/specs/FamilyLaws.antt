@@ -1,7 +1,7 @@
 -- What the proofs of all families share.
 use Rattle.std.specs.Prelude.{◌≡◌, ◌==◌, false, ℕ, slice_index_or, List, [], ◌∷◌, map, All, length, refl}
 use Rattle.std.specs.Cmp.{unsigned_Decides}
-use Rattle.std.proofs.Common.{sym, ap, ◌∙◌, arith, true≢false}
+use Rattle.std.proofs.Common.{sym, ap, ap₂, ◌∙◌, arith, true≢false}
 use denote.Enum.Declared.{tag_of}
 use Rattle.std.proofs.lemmas.List.{length-map}
 use Rattle.std.proofs.lemmas.List.Elements.{All-from_recursion, All-weaker}
@@ -125,3 +125,11 @@ pub back_one : (edge : Edge) (item : Item) (back : List Rational → List Ration
     → length ys ≡ 1 → y ≡ slice_index_or ys 0 y → back y ≡ back_of edge item ys
 back_one edge item back back_is ys y one first =
     sym (back_is y) ∙ ap (back_of edge item) (sym (only ys y one first))
+
+-- the two of a list
+pub only_two : (ys : List (List Rational)) (p q : List Rational) → length ys ≡ 2
+    → p ≡ slice_index_or ys 0 p → q ≡ slice_index_or ys 1 q → ys ≡ p ∷ q ∷ []
+only_two [] p q two first second = absurd (omega (arith, two))
+only_two (u ∷ []) p q two first second = absurd (omega (arith, two))
+only_two (u ∷ (v ∷ [])) p q two first second = ap₂ (λ a b. a ∷ b ∷ []) (sym first) (sym second)
+only_two (u ∷ (v ∷ (w ∷ ws))) p q two first second = absurd (omega (arith, two))

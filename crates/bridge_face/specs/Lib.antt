@@ -4,6 +4,8 @@ pub mod ImageOf
 pub mod Law
 pub mod State
 pub mod Sources
+pub mod AnsweredLaws
+pub mod ZippedLaws
 pub mod ComponentLaws
 pub mod DifferenceLaws
 pub mod GroupLaws

@@ -4,6 +4,7 @@
 mod boxed;
 mod bridge;
 mod child_rows;
+mod differences;
 mod groups;
 mod images;
 mod item_functions;
@@ -13,10 +14,12 @@ mod kept_map;
 mod one_row;
 mod rewriting;
 mod rows;
+mod sums;
 
 pub use aff_core::AffFault as ItemFault;
 pub use bridge::Bridge;
 pub use child_rows::ChildRows;
+pub use differences::{less_variable, less_variables};
 pub use groups::{child_group, components, inner_variables};
 pub use images::{group_image, group_row_image, objective_image};
 pub use item_functions::{alone, component_count, functions, variables};
@@ -25,3 +28,4 @@ pub use kept_items::KeptItems;
 pub use one_row::row_image;
 pub use rewriting::Rewriting;
 pub use rows::rows_image;
+pub use sums::place_sums;

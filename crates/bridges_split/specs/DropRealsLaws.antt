@@ -1,5 +1,5 @@
 -- The law of DropReals: a row that all vectors meet needs no row.
-use Rattle.std.specs.Prelude.{All, List, [], refl, replicate, ℕ, ◌≡◌}
+use Rattle.std.specs.Prelude.{All, List, [], refl, replicate, ℕ, ◌≡◌, None}
 use Rattle.std.proofs.lemmas.List.Elements.{All-nil, All-replicate}
 use Rattle.std.proofs.Common.{ap, ap₂, subst, sym, ◌∙◌}
 use Rattle.std.proofs.lemmas.List.{length-replicate}
@@ -32,6 +32,7 @@ use Rattle.set_core.specs.Mirrored.{multiplied}
 use Rattle.bridge_face.specs.Images.{rows_at}
 use Rattle.rational_laws.specs.DotLaws.{zeros_dot}
 use Rattle.rational_laws.specs.Order.{≤ℚ_from_≡}
+use Rattle.item_core.specs.declared.image.Image.{Image}
 use Rattle.item_core.specs.declared.kind.Kind.TheVariants as kind
 
 -- a row in all vectors
@@ -63,6 +64,10 @@ read (any_plain {vars} {n}) =
     record { row = record { no_group = refl; no_objective = refl }; count = n; set = refl }
 read (any_affine {fs} {n}) =
     record { row = record { no_group = refl; no_objective = refl }; count = n; set = refl }
+
+-- an image of rows alone
+abbrev pub rows_alone : List Item → Image
+rows_alone rows = record { groups = []; exprs = []; rows = rows; objective = None }
 
 -- ---- the law
 

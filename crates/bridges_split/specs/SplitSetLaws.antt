@@ -1,5 +1,5 @@
 -- The law of SplitSet: l ≤ f ≤ u is f ≥ l and f ≤ u, and so for f = v and vectors f = 0.
-use Rattle.std.specs.Prelude.{All, Bool, List, [], cond, false, length, map, refl, true, ℕ, ◌*◌, ◌∷◌, ◌≡◌, ◌≤◌}
+use Rattle.std.specs.Prelude.{All, Bool, List, [], cond, false, length, map, refl, true, ℕ, ◌*◌, ◌∷◌, ◌≡◌, ◌≤◌, None, Result}
 use Rattle.std.proofs.lemmas.List.Elements.{All-cons, All-head, All-nil, All-tail}
 use Rattle.std.proofs.Common.{ap, ap₂, arith, subst, sym, true≢false, ◌∙◌}
 use Rattle.std.specs.Ordering.{is_le}
@@ -13,7 +13,7 @@ use Rattle.set_core.specs.Membership.{Dual, In, low_of}
 use Rattle.dual_laws.specs.Held.{DualsHold, Held, Holds, IsHeld, adjoint, adjoint_of, gap, gap_of}
 use Rattle.item_core.specs.declared.edge.Edge.TheVariants.{E11, E12, E13, E14}
 use Rattle.item_core.specs.declared.edge.Edge.{Edge}
-use Rattle.bridge_face.specs.Law.{EdgeLaw, IsLawful, LeadsTo, Miss, growth}
+use Rattle.bridge_face.specs.Law.{EdgeLaw, IsLawful, LeadsTo, Miss, growth, IsItemFor}
 use Rattle.set_core.specs.declared.set.Set.TheVariants.{EqualTo, GreaterThan, Interval, LessThan, Nonnegatives, Nonpositives, Zeros}
 use Rattle.bridge_face.specs.ImageOf.{FitsBy, ImageFits, image_by, image_of}
 use Rattle.item_core.specs.Valid.{FitsItsFunction, IsValidItem, NamesNothingBelow}
@@ -22,7 +22,7 @@ use Rattle.bridge_face.specs.OneRowLaws.{IsRow, row_held}
 use Rattle.bridge_face.specs.RowsLaws.{IsRowOf, MadeOfRows, rows_held, rows_law}
 use Rattle.set_core.specs.Shapes.{IsSetOf, is_crossed}
 use Rattle.item_core.specs.declared.item.Item.{Item}
-use Rattle.bridge_face.specs.FamilyLaws.{Lawful, lawful_family, of_another}
+use Rattle.bridge_face.specs.FamilyLaws.{Lawful, lawful_family, of_another, dual_sizes, kept_by}
 use Rattle.bridge_face.specs.Sources.{OfKind, affine_equal_to, of_kind, vaffine_zeros}
 use Rattle.ratio_core.specs.Rational.{Rational, fits, neg_ℚ, rational_cmp, zero_ℚ, ◌*ℚ◌, ◌+ℚ◌, ◌-ℚ◌, ◌≤ℚ◌}
 use Rattle.set_core.specs.declared.set.Set.{Set}
@@ -39,6 +39,11 @@ use Rattle.set_core.specs.Mirrored.{multiplied}
 use Rattle.set_laws.specs.Least.{single₂}
 use Rattle.rational_laws.specs.Tests.{is_lt_Decides}
 use Rattle.rational_laws.specs.Order.{≤ℚ-*ℚ, ≤ℚ-*ℚ_nonpos, ≤ℚ-+ℚ_left, ≤ℚ-+ℚ_right, ≤ℚ_antisymm, ≤ℚ_from_not_‹ℚ, ≤ℚ_from_≡}
+use Rattle.aff_core.specs.declared.fault.AffFault.{AffFault}
+use Rattle.aff_core.specs.Arithmetic.{ExactWhere}
+use Rattle.item_core.specs.declared.image.Image.{Image}
+use Rattle.bridge_face.specs.State.{TakesDuals}
+use Rattle.bridge_face.specs.AnsweredLaws.{exact_as}
 use Rattle.item_core.specs.declared.kind.Kind.TheVariants as kind
 use Rattle.bridge_face.specs.Sources as kinds
 
@@ -48,6 +53,25 @@ pub data IsSplit : Body → Type 0 where
   plain_interval : {v : Address} {l u : Rational} → IsSplit (Plain v (Interval l u))
   affine_equal : {f : Function} {a : Rational} → IsSplit (Affine f (EqualTo a))
   affine_zeros : {fs : List Function} {n : ℕ} → IsSplit (AffineVec fs (Zeros n))
+
+-- an item at an address, and an image of rows alone
+abbrev pub item_of : Address → Body → Item
+item_of at body = record { at = at; body = body }
+
+abbrev pub rows_alone : List Item → Image
+rows_alone rows = record { groups = []; exprs = []; rows = rows; objective = None }
+
+-- such a set
+pub data IsSplitSet : Set → Type 0 where
+  an_interval : {l u : Rational} → IsSplitSet (Interval l u)
+  an_equal : {a : Rational} → IsSplitSet (EqualTo a)
+  some_zeros : {n : ℕ} → IsSplitSet (Zeros n)
+
+pub is_split_set : {b : Body} → IsSplit b → IsSplitSet (set_of b)
+is_split_set affine_interval = an_interval
+is_split_set plain_interval = an_interval
+is_split_set affine_equal = an_equal
+is_split_set affine_zeros = some_zeros
 
 -- the two rows
 abbrev pub lower : Body → Body
@@ -217,6 +241,15 @@ parted (affine_zeros {fs} {n}) fits = record {
   splits = zeros_split n (length fs) fits;
 }
 
+first_size : List ℕ → ℕ
+first_size [] = 0
+first_size (n ∷ ns) = n
+
+second_size : List ℕ → ℕ
+second_size [] = 0
+second_size (n ∷ []) = 0
+second_size (n ∷ (m ∷ ms)) = m
+
 -- ---- the law
 
 module _ (edge : Edge) (own : family_of edge ≡ SplitSet) where
@@ -235,6 +268,18 @@ module _ (edge : Edge) (own : family_of edge ≡ SplitSet) where
   pub back_fits : (item : Item) (p q : List Rational) → BackFits edge item (p ∷ q ∷ []) ≡ SumsFit p q
   unfolding BackFitsBy
   back_fits item p q = ap (λ f. BackFitsBy f item (p ∷ q ∷ [])) own
+
+  -- what is carried back of the two duals, by their sums
+  pub back_two : (item : Item) (ys : List (List Rational)) (a b p q : List Rational) (r : Result (List Rational) AffFault)
+      → ys ≡ p ∷ q ∷ [] → a ≡ p → b ≡ q → ExactWhere r (SumsFit a b) (λ x. x ≡ plus a b)
+      → ExactWhere r (BackFits edge item ys) (λ x. x ≡ back_of edge item ys)
+  back_two item ys a b p q r ys_are a_is b_is said =
+      subst (λ zs. ExactWhere r (BackFits edge item zs) (λ x. x ≡ back_of edge item zs)) (sym ys_are)
+      (subst (λ v. ExactWhere r (BackFits edge item (p ∷ q ∷ [])) (λ x. x ≡ v)) (sym (back_is item p q))
+      (exact_as r (SumsFit p q) (BackFits edge item (p ∷ q ∷ [])) (λ x. x ≡ plus p q) (λ x. x ≡ plus p q)
+      (subst (λ T. T) (sym (back_fits item p q))) (subst (λ T. T) (back_fits item p q)) (λ x e. e)
+      (subst (λ u. ExactWhere r (SumsFit u q) (λ x. x ≡ plus u q)) a_is
+      (subst (λ v. ExactWhere r (SumsFit a v) (λ x. x ≡ plus a v)) b_is said))))
 
   pub is_split : (b : Body) → FitsItsFunction b → kind_of_body b ≡ source_of edge → IsSplit b
   is_split b h k = (sourced edge own b h k).split
@@ -337,6 +382,15 @@ module _ (edge : Edge) (own : family_of edge ≡ SplitSet) where
       gaps = of_two (λ ys. DualsHold (rows_held bodies ys) → gap (rows_held bodies ys) ≤ℚ gap_of (row_held item.body (back_of edge item ys)))
           (λ u w hold. subst (λ z. gap (rows_held bodies (u ∷ w ∷ [])) ≤ℚ gap_of (row_held item.body z)) (sym (back_is item u w)) (two_gaps u w hold));
     }
+
+  -- the two duals are of one length
+  pub same_sizes : (item : Item) → IsItemFor edge item → (ys : List (List Rational)) (p q : List Rational)
+      → TakesDuals (kept_by edge item) ys → ys ≡ p ∷ q ∷ [] → length p ≡ length q
+  unfolding first_size second_size
+  same_sizes item suits ys p q takes ys_are =
+      let parts = parted (is_split item.body suits.valid.function suits.kind) suits.valid.set in
+      let sizes : map length (p ∷ q ∷ []) ≡ length (functions_of (lower item.body)) ∷ length (functions_of (upper item.body)) ∷ [] = ap (map length) (sym ys_are) ∙ dual_sizes edge item (rows_at item (lower item.body ∷ upper item.body ∷ [])) (image_is item) ys takes in
+      ap first_size sizes ∙ ap length (parts.lower_same ∙ sym parts.upper_same) ∙ sym (ap second_size sizes)
 
   law_at : Lawful edge
   law_at item suits =

@@ -1,5 +1,5 @@
 -- The law of ZerosVar: variables that are 0 need no variables.
-use Rattle.std.specs.Prelude.{All, List, [], false, length, map, refl, replicate, true, ℕ, ◌∷◌, ◌≡◌}
+use Rattle.std.specs.Prelude.{All, List, [], false, length, map, refl, replicate, true, ℕ, ◌∷◌, ◌≡◌, None}
 use Rattle.std.proofs.lemmas.List.Elements.{All-cons, All-map, All-nil}
 use Rattle.std.proofs.Common.{ap, ap₂, arith, subst, sym, true≢false, ◌∙◌}
 use Rattle.std.proofs.lemmas.List.{length-map}
@@ -93,6 +93,10 @@ missed fs v =
 constant-nothing : nothing.constant ≡ zero_ℚ
 unfolding constant_function
 constant-nothing = constant-function_of address_cmp [] zero_ℚ
+
+abbrev pub image_of_parts : List Item → List Expression → List Item → Image
+image_of_parts groups exprs rows =
+    record { groups = groups; exprs = exprs; rows = rows; objective = None }
 
 -- ---- the law
 

@@ -1,0 +1,58 @@
+//! A row that all vectors meet needs no row.
+//!
+//! - From: a plain or an affine vector row in `Reals`, by the edges 39 and 40.
+//! - To: nothing.
+//! - Dual: a zero for each component.
+//! - In MathOptInterface there is no such bridge.
+ghost use Rattle.std.specs.Prelude.{◌≡◌, IfOk, replicate};
+ghost use Rattle.ratio_core.specs.Rational.{zero_ℚ};
+
+use bridge_face::{ChildRows, ItemFault, KeptItems, Rewriting, component_count, rows_image};
+use item_core::{Edge, Family, Image, Item};
+use lists::Memory;
+use ratio_core::{Ratio, Ratios};
+use std::alloc::Global;
+
+/// The bridge that drops rows in all vectors.
+pub type DropReals = KeptItems<DropRealsRule>;
+
+/// What `DropReals` does with one row.
+#[derive(Drop)]
+pub struct DropRealsRule;
+
+impl Rewriting for DropRealsRule {
+    ghost use Rattle.item_core.specs.declared.family.Family.TheVariants as families;
+    ghost use Rattle.bridges_split.specs.DropRealsLaws.{drop_reals_lawful};
+
+    ghost family = { families.DropReals };
+
+    fn family() -> Family {
+        Family::DropReals
+    }
+
+    fn image(alloc: Global, _edge: Edge, _item: &Item) -> Result<Image, ItemFault> {
+        Ok(rows_image(alloc, Vec::new(alloc)))
+    }
+
+    fn child_rows(_edge: Edge, _item: &Item) -> ChildRows {
+        ChildRows { first: 0, count: 0 }
+    }
+
+    fn back(
+        alloc: Global,
+        _edge: Edge,
+        item: &Item,
+        _duals: &[Ratios],
+    ) -> Result<Ratios, ItemFault> {
+        let count = component_count(&item.body);
+        Ok(zeros(alloc, count as usize)?)
+    }
+
+    ghost lawful = { drop_reals_lawful };
+}
+
+fn zeros(alloc: Global, count: usize) -> Result<Ratios, Memory>
+    ensures { IfOk result (λ zeros. zeros ≡ replicate count zero_ℚ) }
+{
+    Ok(Ratios::from_vec(vec![in alloc; Ratio::zero(); count]?))
+}

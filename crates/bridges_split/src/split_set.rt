@@ -1,0 +1,137 @@
+//! A row in a set that is what two others have in common is a row in each of them.
+//!
+//! - From: a plain or an affine row in `Interval(l, u)`, an affine row in `EqualTo(v)`, or an affine
+//!   vector row in `Zeros`, by the edges 11 to 14.
+//! - To: at position 0 the row in `GreaterThan(l)`, `GreaterThan(v)` or `Nonnegatives`, and at
+//!   position 1 the row in `LessThan(u)`, `LessThan(v)` or `Nonpositives`.
+//! - Dual: the first child's numbers plus the second's.
+//! - In MathOptInterface: `SplitIntervalBridge`.
+ghost use Rattle.std.specs.Prelude.{◌≡◌, IfOk};
+ghost use Rattle.bridge_face.specs.Images as images;
+ghost use Rattle.bridges_split.specs.SplitSetLaws as laws;
+ghost use Rattle.bridges_split.specs.SplitSetLaws.{IsSplit, IsSplitSet};
+
+use bridge_face::{ChildRows, ItemFault, KeptItems, Rewriting, place_sums, rows_image};
+use item_core::{Body, Edge, Family, Image, Item};
+use lists::{Duplicate, Memory};
+use ratio_core::Ratios;
+use set_core::Set;
+use std::alloc::Global;
+
+/// The bridge that splits a set into two.
+pub type SplitSet = KeptItems<SplitSetRule>;
+
+/// What `SplitSet` does with one row.
+#[derive(Drop)]
+pub struct SplitSetRule;
+
+impl Rewriting for SplitSetRule {
+    ghost use Rattle.item_core.specs.declared.family.Family.TheVariants as families;
+    ghost use Rattle.bridges_split.specs.SplitSetLaws.{split_set_lawful};
+
+    ghost family = { families.SplitSet };
+
+    fn family() -> Family {
+        Family::SplitSet
+    }
+
+    fn image(alloc: Global, _edge: Edge, item: &Item) -> Result<Image, ItemFault> {
+        let mut rows = Vec::with_capacity(alloc, 2)?;
+        rows.push(Item {
+            at: item.at.child(0),
+            body: lower(&item.body)?,
+        })?;
+        rows.push(Item {
+            at: item.at.child(1),
+            body: upper(&item.body)?,
+        })?;
+        Ok(rows_image(alloc, rows))
+    }
+
+    fn child_rows(_edge: Edge, _item: &Item) -> ChildRows {
+        ChildRows { first: 0, count: 2 }
+    }
+
+    fn back(
+        alloc: Global,
+        _edge: Edge,
+        _item: &Item,
+        duals: &[Ratios],
+    ) -> Result<Ratios, ItemFault> {
+        place_sums(alloc, duals[0].as_slice(), duals[1].as_slice())
+    }
+
+    ghost lawful = { split_set_lawful };
+}
+
+// The row in the set of what is high enough.
+fn lower(body: &Body) -> Result<Body, Memory>
+    requires { IsSplit body.now }
+    ensures { IfOk result (λ part. part ≡ laws.lower body.now) }
+{
+    match body {
+        Body::Plain { var, set } => Ok(Body::Plain {
+            var: *var,
+            set: lower_part(set),
+        }),
+        Body::Affine { func, set } => Ok(Body::Affine {
+            func: func.copy()?,
+            set: lower_part(set),
+        }),
+        Body::AffineVec { func, set } => Ok(Body::AffineVec {
+            func: func.copy()?,
+            set: lower_part(set),
+        }),
+        _ => unreachable!(),
+    }
+}
+
+// The row in the set of what is low enough.
+fn upper(body: &Body) -> Result<Body, Memory>
+    requires { IsSplit body.now }
+    ensures { IfOk result (λ part. part ≡ laws.upper body.now) }
+{
+    match body {
+        Body::Plain { var, set } => Ok(Body::Plain {
+            var: *var,
+            set: upper_part(set),
+        }),
+        Body::Affine { func, set } => Ok(Body::Affine {
+            func: func.copy()?,
+            set: upper_part(set),
+        }),
+        Body::AffineVec { func, set } => Ok(Body::AffineVec {
+            func: func.copy()?,
+            set: upper_part(set),
+        }),
+        _ => unreachable!(),
+    }
+}
+
+fn lower_part(set: &Set) -> Set
+    requires { IsSplitSet set.now }
+    ensures { result ≡ images.lower_part set.now }
+{
+    match set {
+        Set::Interval { lower, .. } => Set::GreaterThan { lower: *lower },
+        Set::EqualTo { value } => Set::GreaterThan { lower: *value },
+        Set::Zeros { dimension } => Set::Nonnegatives {
+            dimension: *dimension,
+        },
+        _ => unreachable!(),
+    }
+}
+
+fn upper_part(set: &Set) -> Set
+    requires { IsSplitSet set.now }
+    ensures { result ≡ images.upper_part set.now }
+{
+    match set {
+        Set::Interval { upper, .. } => Set::LessThan { upper: *upper },
+        Set::EqualTo { value } => Set::LessThan { upper: *value },
+        Set::Zeros { dimension } => Set::Nonpositives {
+            dimension: *dimension,
+        },
+        _ => unreachable!(),
+    }
+}

@@ -1,0 +1,72 @@
+//! Variables that are 0 need no variables.
+//!
+//! - From: a group in `Zeros`, by edge 45.
+//! - To: nothing; each component is 0.
+//! - In MathOptInterface: `ZerosBridge` of variables.
+ghost use Rattle.std.specs.Prelude.{◌≡◌, [], IfOk, replicate};
+ghost use Rattle.bridge_face.specs.Images.{group_by};
+ghost use Rattle.bridges_split.specs.ZerosVarLaws.{none_of};
+
+use aff_core::Aff;
+use bridge_face::{ChildRows, ItemFault, KeptItems, Rewriting, component_count};
+use item_core::{Edge, Expression, Expressions, Family, Image, Item, Items};
+use lists::Memory;
+use ratio_core::{Ratio, Ratios};
+use std::alloc::Global;
+
+/// The bridge of variables that are 0.
+pub type ZerosVar = KeptItems<ZerosVarRule>;
+
+/// What `ZerosVar` does with one group.
+#[derive(Drop)]
+pub struct ZerosVarRule;
+
+impl Rewriting for ZerosVarRule {
+    ghost use Rattle.item_core.specs.declared.family.Family.TheVariants as families;
+    ghost use Rattle.bridges_split.specs.ZerosVarLaws.{zeros_var_lawful};
+
+    ghost family = { families.ZerosVar };
+
+    fn family() -> Family {
+        Family::ZerosVar
+    }
+
+    fn image(alloc: Global, _edge: Edge, item: &Item) -> Result<Image, ItemFault> {
+        let count = component_count(&item.body);
+        let exprs = nothings(alloc, count as usize)?;
+        Ok(Image {
+            groups: Items::new(alloc),
+            exprs,
+            rows: Items::new(alloc),
+            objective: None,
+        })
+    }
+
+    fn child_rows(_edge: Edge, _item: &Item) -> ChildRows {
+        ChildRows { first: 0, count: 0 }
+    }
+
+    fn back(
+        _alloc: Global,
+        _edge: Edge,
+        _item: &Item,
+        _duals: &[Ratios],
+    ) -> Result<Ratios, ItemFault> {
+        unreachable!()
+    }
+
+    ghost lawful = { zeros_var_lawful };
+}
+
+// Expressions that are 0.
+fn nothings(alloc: Global, count: usize) -> Result<Expressions, Memory>
+    ensures { IfOk result (λ exprs. exprs ≡ replicate count none_of) }
+{
+    let mut exprs = Vec::with_capacity(alloc, count)?;
+    for _n in 0..count {
+        exprs.push(Expression::Bridged {
+            func: Aff::constant_function(alloc, Ratio::zero()),
+        })?;
+    }
+    Ok(Expressions::from_vec(exprs))
+}
