@@ -1,0 +1,4 @@
+pub mod FunctionizeLaws
+pub mod ScalarFunctionizeLaws
+pub mod VectorFunctionizeLaws
+pub mod ObjFunctionizeLaws
