@@ -1,5 +1,5 @@
 -- A plain row is an affine one of the same variables.
-use Rattle.std.specs.Prelude.{◌≡◌, true, false, List, ◌∷◌, [], refl}
+use Rattle.std.specs.Prelude.{◌≡◌, true, false, List, ◌∷◌, []}
 use Rattle.ratio_core.specs.Rational.{Rational}
 use Rattle.aff_core.specs.Address.{Address}
 use Rattle.set_core.specs.Shapes.{is_scalar}

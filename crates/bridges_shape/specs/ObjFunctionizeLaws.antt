@@ -1,6 +1,5 @@
 -- The law of ObjFunctionize: a plain objective is an affine one of the same variable.
 use Rattle.std.specs.Prelude.{All, List, [], refl, true, ◌∷◌, ◌≡◌, false}
-use Rattle.std.proofs.lemmas.List.Elements.{All-head, All-nil, All-cons}
 use Rattle.std.proofs.Common.{ap, sym, subst, true≢false, ◌∙◌}
 use Rattle.aff_core.specs.Address.{Address}
 use Rattle.item_core.specs.declared.item.Body.TheVariants.{AffineObj, PlainObj}
@@ -9,23 +8,19 @@ use Rattle.item_core.specs.declared.item.Body.{Body}
 use Rattle.item_core.specs.declared.edge.Edge.TheVariants.{E60, E61}
 use Rattle.item_core.specs.declared.edge.Edge.{Edge}
 use Rattle.bridge_face.specs.Law.{EdgeLaw, IsLawful, LeadsTo, Miss, cost_of, growth, is_objective, IsItemFor}
-use Rattle.bridge_face.specs.ImageOf.{FitsBy, ImageFits, image_by, image_of, objective_at, opposite, sense_of}
-use Rattle.item_core.specs.Valid.{FitsItsFunction, NamesNothingBelow, below}
-use Rattle.aff_core.specs.Function.{Function, coefficient, negated}
+use Rattle.bridge_face.specs.ImageOf.{FitsBy, ImageFits, image_by, image_of, objective_at, sense_of}
+use Rattle.item_core.specs.Valid.{FitsItsFunction, NamesNothingBelow}
 use Rattle.item_core.specs.declared.item.Item.{Item}
 use Rattle.bridge_face.specs.FamilyLaws.{Lawful, lawful_family, of_another}
 use Rattle.item_core.specs.declared.family.Family.TheVariants.{ObjFunctionize}
 use Rattle.bridge_face.specs.Sources.{OfKind, max_plain, min_plain, of_kind}
-use Rattle.ratio_core.specs.Rational.{Rational, zero_ℚ}
+use Rattle.ratio_core.specs.Rational.{Rational}
 use Rattle.aff_core.specs.declared.sense.Sense.{Sense}
-use Rattle.aff_core.specs.KeyOrder.{address_order}
 use Rattle.item_core.specs.Edge.{edge_entry, family_of, source_of}
 use Rattle.bridge_face.specs.Images.{function_of_body}
 use Rattle.item_core.specs.Item.{functions_of}
 use Rattle.item_core.specs.KindOf.{kind_of_body}
-use Rattle.bridge_face.specs.DifferenceLaws.{missed-negated}
 use Rattle.bridge_face.specs.ObjectiveLaws.{objective_no_group, one_objective_law}
-use Rattle.aff_core.specs.FunctionLaws.{negated-negated}
 use Rattle.item_core.specs.declared.kind.Kind.TheVariants as kind
 
 -- a plain objective

@@ -17,7 +17,7 @@ use Rattle.bridge_face.specs.ImageOf.{FitsBy, ImageFits, image_by, image_of}
 use Rattle.bridge_face.specs.Images.{row_at}
 use Rattle.bridge_face.specs.Law.{EdgeLaw, IsLawful, growth}
 use Rattle.bridge_face.specs.Sources.{OfKind, plain_equal_to, plain_greater_than, plain_interval, plain_less_than, of_kind}
-use Rattle.bridges_shape.specs.FunctionizeLaws.{IsPlain, Sourced, StaysSame, functionize_law, made, number, vector}
+use Rattle.bridges_shape.specs.FunctionizeLaws.{IsPlain, Sourced, functionize_law, made, number}
 
 sourced_first : {b : Body} → OfKind kind.PlainLessThan b → Sourced E23 b
 unfolding edge_entry kind_of_body

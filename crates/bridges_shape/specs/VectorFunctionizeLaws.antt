@@ -17,7 +17,7 @@ use Rattle.bridge_face.specs.ImageOf.{FitsBy, ImageFits, image_by, image_of}
 use Rattle.bridge_face.specs.Images.{row_at}
 use Rattle.bridge_face.specs.Law.{EdgeLaw, IsLawful, growth}
 use Rattle.bridge_face.specs.Sources.{OfKind, vplain_nonnegatives, vplain_nonpositives, vplain_norm_infinity_cone, vplain_norm_one_cone, vplain_zeros, of_kind}
-use Rattle.bridges_shape.specs.FunctionizeLaws.{IsPlain, Sourced, StaysSame, functionize_law, made, number, vector}
+use Rattle.bridges_shape.specs.FunctionizeLaws.{IsPlain, Sourced, functionize_law, made, vector}
 
 sourced_first : {b : Body} → OfKind kind.VplainZeros b → Sourced E34 b
 unfolding edge_entry kind_of_body

@@ -1,7 +1,6 @@
 use Rattle.std.proofs.Common.{sym, ap, ◌∙◌}
 use Rattle.bridge_face.specs.Images.{row_at}
 use Rattle.bridges_shape.specs.VectorFunctionizeLaws.{image_fits, image_is, is_plain}
-use Rattle.bridges_shape.specs.FunctionizeLaws.{made}
 use Rattle.bridges_shape.proofs.vector_functionize.VectorFunctionizeRuleRewriting.image.Goals as goal
 
 pub functionized-requires : goal.functionized-requires
