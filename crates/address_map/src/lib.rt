@@ -8,6 +8,3 @@ mod places;
 pub use aff_core::{Address, Aff};
 pub use lists::Memory;
 pub use map::AddressMap;
-
-#[cfg(test)]
-mod tests;
