@@ -2,80 +2,76 @@
 
 use aff_core::{Address, Aff, AffFault, Exprs, Point, Root};
 use ratio_core::Ratio;
-use std::alloc::Global;
+use std::test::Fail;
 
 fn x() -> Address {
     Address::root(Root::Variable, 0)
 }
 
-/// How many terms a variable less itself has.
-fn count_of_difference(alloc: Global) -> Result<usize, AffFault> {
-    let f = Aff::variable(alloc, &x())?;
-    Ok(f.add(&f.neg()?)?.term_count())
+/// How many terms a function less itself has.
+fn count_less_itself(f: &Aff) -> Result<usize, AffFault> {
+    let minus = f.neg()?;
+    Ok(f.add(&minus)?.term_count())
 }
 
 #[test]
-fn a_function_less_itself_has_no_term(rt: HostRuntime) {
-    assert!(rt; count_of_difference(rt.alloc()) == Ok(0));
+fn a_function_less_itself_has_no_term(rt: HostRuntime) -> Result<(), Fail> {
+    let f = Aff::variable(rt.alloc(), &x())?;
+    assert!(rt; count_less_itself(&f) == Ok(0));
+    Ok(())
 }
 
-/// The coefficient in a variable times a number.
-fn scaled(alloc: Global, by: &Ratio) -> Result<Ratio, AffFault> {
-    Ok(Aff::variable(alloc, &x())?.scale(by)?.coef(&x()))
-}
-
-#[test]
-fn a_variable_is_scaled(rt: HostRuntime) {
-    assert!(rt; scaled(rt.alloc(), &Ratio::one().neg()) == Ok(Ratio::one().neg()));
-}
-
-/// The constant of a number's function times the number.
-fn squared(alloc: Global, number: i128) -> Result<Ratio, AffFault> {
-    let number = Ratio::new(number, 1)?;
-    Ok(
-        Aff::constant_function(alloc, number)
-            .scale(&number)?
-            .constant(),
-    )
+/// The coefficient of x in a function times a number.
+fn scaled(f: &Aff, by: &Ratio) -> Result<Ratio, AffFault> {
+    Ok(f.scale(by)?.coef(&x()))
 }
 
 #[test]
-fn a_multiple_overflows(rt: HostRuntime) {
-    assert!(rt; squared(rt.alloc(), 1 << 100) == Err(AffFault::Overflow));
+fn a_variable_is_scaled(rt: HostRuntime) -> Result<(), Fail> {
+    let f = Aff::variable(rt.alloc(), &x())?;
+    assert!(rt; scaled(&f, &Ratio::one().neg()) == Ok(Ratio::one().neg()));
+    Ok(())
 }
 
-/// The value of x where it is 1, if that is the point's number.
-fn value_at_one(alloc: Global) -> Result<Option<Ratio>, AffFault> {
-    let f = Aff::variable(alloc, &x())?;
-    let mut point = Point::new(alloc);
-    if point.put(x(), Ratio::one()).is_err() || !point.has_each(&f) {
+#[test]
+fn a_multiple_overflows(rt: HostRuntime) -> Result<(), Fail> {
+    let great = Ratio::new(1 << 100, 1)?;
+    let f = Aff::constant_function(rt.alloc(), great);
+    assert!(rt; scaled(&f, &great) == Err(AffFault::Overflow));
+    Ok(())
+}
+
+/// The value of a function where x is 1, if the point then has each of its addresses.
+fn value_at_one(f: &Aff, point: &mut Point) -> Result<Option<Ratio>, AffFault> {
+    if point.put(x(), Ratio::one()).is_err() || !point.has_each(f) {
         return Ok(None);
     }
-    Ok(Some(f.value(&point)?))
+    Ok(Some(f.value(point)?))
 }
 
 #[test]
-fn a_value_is_read_at_a_point(rt: HostRuntime) {
-    assert!(rt; value_at_one(rt.alloc()) == Ok(Some(Ratio::one())));
+fn a_value_is_read_at_a_point(rt: HostRuntime) -> Result<(), Fail> {
+    let f = Aff::variable(rt.alloc(), &x())?;
+    let mut point = Point::new(rt.alloc());
+    assert!(rt; value_at_one(&f, &mut point) == Ok(Some(Ratio::one())));
+    assert!(rt; point.get(&x()) == Some(&Ratio::one()));
+    Ok(())
 }
 
-/// The constant of x once 1 stands for it.
-fn constant_for_one(alloc: Global) -> Result<Option<Ratio>, AffFault> {
-    let f = Aff::variable(alloc, &x())?;
-    let mut exprs = Exprs::new(alloc);
-    if exprs
-        .put(x(), Aff::constant_function(alloc, Ratio::one()))
-        .is_err()
-    {
+/// The constant of a function once an expression stands for x, if each address then has one.
+fn constant_with(f: &Aff, exprs: &mut Exprs, expression: Aff) -> Result<Option<Ratio>, AffFault> {
+    let is_put = exprs.put(x(), expression).is_ok();
+    if !is_put || !exprs.has_each(f) {
         return Ok(None);
     }
-    if !exprs.has_each(&f) {
-        return Ok(None);
-    }
-    Ok(Some(f.substitute(&exprs)?.constant()))
+    Ok(Some(f.substitute(exprs)?.constant()))
 }
 
 #[test]
-fn an_expression_stands_for_a_variable(rt: HostRuntime) {
-    assert!(rt; constant_for_one(rt.alloc()) == Ok(Some(Ratio::one())));
+fn an_expression_stands_for_a_variable(rt: HostRuntime) -> Result<(), Fail> {
+    let f = Aff::variable(rt.alloc(), &x())?;
+    let mut exprs = Exprs::new(rt.alloc());
+    let one = Aff::constant_function(rt.alloc(), Ratio::one());
+    assert!(rt; constant_with(&f, &mut exprs, one) == Ok(Some(Ratio::one())));
+    Ok(())
 }
