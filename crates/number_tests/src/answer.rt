@@ -17,7 +17,12 @@ impl fmt::Display for Answer {
             Answer::Number(q) => write!(f, "{q}"),
             Answer::Parts(q) => {
                 let (num, den, sign) = (q.num(), q.den(), q.sign());
-                write!(f, "{num} over {den}, sign {sign}, {} and {}", q.neg(), q.abs())
+                write!(
+                    f,
+                    "{num} over {den}, sign {sign}, {} and {}",
+                    q.neg(),
+                    q.abs()
+                )
             }
             Answer::Order(order) => write!(f, "{order:?}"),
             Answer::Refused(fault) => write!(f, "{fault:?}"),
