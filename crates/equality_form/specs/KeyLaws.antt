@@ -12,8 +12,9 @@ use Rattle.ratio_core.specs.Rational.{one_ℚ, zero_ℚ, ◌+ℚ◌}
 use Rattle.rational_laws.specs.Field.{+ℚ-zero, zero-+ℚ}
 use Rattle.aff_core.specs.Address.{Address, address_cmp, address_eq, address_eq-Decides, address_total}
 use Rattle.aff_core.specs.KeyOrder.{address_order, same_key}
+use Rattle.aff_core.specs.Points.{unit}
 use Rattle.linear_laws.specs.SupportLaws.{count}
-use Rattle.linear_laws.specs.UnitLaws.{unit, unit_other, unit_same}
+use Rattle.linear_laws.specs.UnitLaws.{unit_other, unit_same}
 use Rattle.map_laws.specs.OptionLaws.{not_some}
 use Rattle.map_laws.specs.TestLaws.{first, is_less, second}
 use Rattle.equality_form.specs.ReadBack.{listed_at}
