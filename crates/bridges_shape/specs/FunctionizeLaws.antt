@@ -1,6 +1,6 @@
 -- The laws of ScalarFunctionize and VectorFunctionize: a plain row is an affine one of the same variables.
-use Rattle.std.specs.Prelude.{List, [], refl, ℕ, ◌∷◌, ◌≡◌}
-use Rattle.std.proofs.Common.{ap, subst, sym}
+use Rattle.std.specs.Prelude.{List, [], refl, ℕ, ◌∷◌, ◌≡◌, cond}
+use Rattle.std.proofs.Common.{ap, subst, sym, ◌∙◌}
 use Rattle.aff_core.specs.Address.{Address}
 use Rattle.bridge_face.specs.BackOf.{BackFits, BackFitsBy, back_by, back_of}
 use Rattle.item_core.specs.declared.item.Body.{Body}
@@ -14,14 +14,17 @@ use Rattle.bridge_face.specs.OneRowLaws.{IsRow}
 use Rattle.item_core.specs.declared.item.Item.{Item}
 use Rattle.bridge_face.specs.FamilyLaws.{Lawful, lawful_family, of_another}
 use Rattle.bridge_face.specs.Sources.{OfKind, of_kind, plain_equal_to, plain_greater_than, plain_interval, plain_less_than, vplain_nonnegatives, vplain_nonpositives, vplain_norm_infinity_cone, vplain_norm_one_cone, vplain_zeros}
-use Rattle.item_core.specs.declared.item.Body.TheVariants.{Plain, PlainVec}
+use Rattle.item_core.specs.declared.item.Body.TheVariants.{Plain, PlainVec, Affine, AffineVec}
 use Rattle.ratio_core.specs.Rational.{Rational}
 use Rattle.item_core.specs.declared.family.Family.TheVariants.{ScalarFunctionize, VectorFunctionize}
-use Rattle.bridge_face.specs.Images.{affine, row_at}
+use Rattle.bridge_face.specs.Images.{affine, row_at, first_in}
 use Rattle.item_core.specs.Edge.{edge_entry, family_of, source_of}
 use Rattle.item_core.specs.Item.{functions_of, set_of}
 use Rattle.item_core.specs.KindOf.{kind_of_body}
 use Rattle.bridge_face.specs.SameRowLaws.{same_row_law}
+use Rattle.set_core.specs.declared.set.Set.{Set}
+use Rattle.aff_core.specs.Function.{variable}
+use Rattle.bridge_face.specs.ComponentLaws.{variables}
 use Rattle.item_core.specs.declared.kind.Kind.TheVariants as kind
 
 -- a plain row in numbers
@@ -42,6 +45,14 @@ pub data IsPlainVector : Body → Type 0 where
 -- what the edges make of it
 abbrev pub made : Body → Body
 made b = affine (functions_of b) (set_of b)
+
+pub scalar_made : (b : Body) (v : Address) (s : Set) → b ≡ Plain v s → FitsItsFunction b → made b ≡ Affine (variable v) s
+scalar_made b v s e fits =
+    ap made e ∙ ap (λ t. cond t (Affine (variable v) s) (AffineVec (variable v ∷ []) s)) (subst FitsItsFunction e fits)
+
+pub vector_made : (b : Body) (vs : List Address) (s : Set) → b ≡ PlainVec vs s → FitsItsFunction b → made b ≡ AffineVec (variables vs) s
+vector_made b vs s e fits =
+    ap made e ∙ ap (λ t. cond t (Affine (first_in (variables vs)) s) (AffineVec (variables vs) s)) (subst FitsItsFunction e fits)
 
 -- what is said of the two
 record Alike (b : Body) : Type 0 where

@@ -1,9 +1,10 @@
 -- The law of Scalarize: a row of a vector is a row for each component.
-use Rattle.std.specs.Prelude.{All, Contains, List, [], length, map, refl, suc, true, ℕ, ◌*◌, ◌∷◌, ◌≡◌, ◌≤◌}
+use Rattle.std.specs.Prelude.{All, Contains, List, [], length, map, refl, suc, true, ℕ, ◌*◌, ◌∷◌, ◌≡◌, ◌≤◌, None, slice_index_or, take, ◌++◌, ◌+◌, ◌<◌}
 use Rattle.std.proofs.lemmas.List.Elements.{All-cons, All-contains, All-contains_itself, All-head, All-map, All-nil, All-tail, All-weaker}
-use Rattle.std.proofs.Common.{ap, ap₂, arith, subst, sym, ◌∙◌}
-use Rattle.std.proofs.lemmas.List.{length-map}
-use Rattle.std.specs.List.{zip}
+use Rattle.std.proofs.Common.{ap, ap₂, arith, subst, sym, ◌∙◌, append_assoc}
+use Rattle.std.proofs.lemmas.List.{length-map, append-nil, map-append, take_all, take_more}
+use Rattle.std.specs.List.{zip, enumerate_from}
+use Rattle.std.proofs.lemmas.List.FromFn.{length-enumerate_from}
 use Rattle.rational_laws.specs.Field.{*ℚ-zero, +ℚ-zero, neg_ℚ-sum, neg_ℚ-zero, zero-*ℚ, zero-+ℚ}
 use Rattle.aff_core.specs.Address.{Address}
 use Rattle.item_core.specs.declared.item.Body.TheVariants.{Affine, AffineVec, Plain, PlainVec}
@@ -13,22 +14,22 @@ use Rattle.set_core.specs.Membership.{Dual, In, low_of}
 use Rattle.dual_laws.specs.Held.{DualsHold, Held, Holds, IsHeld, adjoint, adjoint_of, gap, gap_of}
 use Rattle.item_core.specs.declared.edge.Edge.TheVariants.{E15, E16, E17, E18, E19, E20}
 use Rattle.item_core.specs.declared.edge.Edge.{Edge}
-use Rattle.bridge_face.specs.Law.{EdgeLaw, IsLawful, LeadsTo, Miss, growth, is_objective}
+use Rattle.bridge_face.specs.Law.{EdgeLaw, IsLawful, LeadsTo, Miss, growth, is_objective, IsItemFor}
 use Rattle.set_core.specs.declared.set.Set.TheVariants.{EqualTo, GreaterThan, LessThan, Nonnegatives, Nonpositives, Zeros}
 use Rattle.bridge_face.specs.ImageOf.{FitsBy, ImageFits, image_by, image_of}
 use Rattle.item_core.specs.Valid.{FitsItsFunction, IsValidItem, NamesNothingBelow}
 use Rattle.aff_core.specs.Function.{Function, coefficient, evaluated, variable}
 use Rattle.bridge_face.specs.OneRowLaws.{IsRow, row_held}
-use Rattle.bridge_face.specs.RowsLaws.{IsRowOf, MadeOfRows, rows_held, rows_law}
+use Rattle.bridge_face.specs.RowsLaws.{IsRowOf, MadeOfRows, rows_held, rows_law, all_children}
 use Rattle.set_core.specs.Shapes.{IsSetOf, is_scalar}
 use Rattle.item_core.specs.declared.item.Item.{Item}
-use Rattle.bridge_face.specs.FamilyLaws.{Lawful, lawful_family, of_another}
+use Rattle.bridge_face.specs.FamilyLaws.{Lawful, lawful_family, of_another, dual_sizes, kept_by}
 use Rattle.bridge_face.specs.Sources.{OfKind, of_kind, vaffine_nonnegatives, vaffine_nonpositives, vaffine_zeros, vplain_nonnegatives, vplain_nonpositives, vplain_zeros}
 use Rattle.ratio_core.specs.Rational.{Rational, neg_ℚ, zero_ℚ, ◌*ℚ◌, ◌+ℚ◌, ◌-ℚ◌, ◌≤ℚ◌}
 use Rattle.item_core.specs.declared.family.Family.TheVariants.{Scalarize}
 use Rattle.set_core.specs.declared.set.Set.{Set}
 use Rattle.aff_core.specs.FunctionLists.{coefficients, constants, evaluations}
-use Rattle.bridge_face.specs.Images.{component_of, each_component, rows_at}
+use Rattle.bridge_face.specs.Images.{component_of, each_component, rows_at, child_at, children_from}
 use Rattle.rational_laws.specs.Dot.{dot}
 use Rattle.item_core.specs.Edge.{edge_entry, family_of, source_of}
 use Rattle.item_core.specs.Item.{functions_of, is_group, set_of}
@@ -37,6 +38,8 @@ use Rattle.item_core.specs.KindOf.{kind_of_body}
 use Rattle.set_core.specs.Mirrored.{multiplied}
 use Rattle.bridge_face.specs.ComponentLaws.{variables}
 use Rattle.rational_laws.specs.Order.{≤ℚ_from_≡}
+use Rattle.item_core.specs.declared.image.Image.{Image}
+use Rattle.bridge_face.specs.State.{TakesDuals}
 use Rattle.item_core.specs.declared.kind.Kind.TheVariants as kind
 
 -- a set that asks the same of each component
@@ -53,6 +56,94 @@ pub data IsVectorRow : Body → Type 0 where
 -- the rows of its components
 abbrev pub bodies_of : Body → List Body
 bodies_of b = each_component b (component_of (set_of b))
+
+pub orthant_of : {b : Body} → IsVectorRow b → IsOrthant (set_of b)
+orthant_of (plain_row o) = o
+orthant_of (affine_row o) = o
+
+-- ---- how the rows are made
+
+-- an item at an address
+abbrev pub item_of : Address → Body → Item
+item_of at body = record { at = at; body = body }
+
+abbrev pub plain_rows : List Address → Set → List Body
+plain_rows vs c = map (λ v. Plain v c) vs
+
+abbrev pub affine_rows : List Function → Set → List Body
+affine_rows fs c = map (λ f. Affine f c) fs
+
+abbrev pub plain_child : Item → Set → ℕ × Address → Item
+plain_child item c p = child_at item p.0 (Plain p.1 c)
+
+abbrev pub affine_child : Item → Set → ℕ × Function → Item
+affine_child item c p = child_at item p.0 (Affine p.1 c)
+
+pub rows_count : {b : Body} → IsVectorRow b → length (bodies_of b) ≡ length (functions_of b)
+rows_count (plain_row {vs} {s} o) = length-map vs (λ v. Plain v (component_of s)) ∙ sym (length-map vs variable)
+rows_count (affine_row {fs} {s} o) = length-map fs (λ f. Affine f (component_of s))
+
+all_made : {X : Type 0} (P : Body → Type 0) (body : X → Body) → ((x : X) → P (body x)) → (xs : List X) → All P (map body xs)
+all_made P body h [] = All-nil P
+all_made P body h (x ∷ xs) = All-cons P (body x) (map body xs) (h x) (all_made P body h xs)
+
+pub one_each : {b : Body} → IsVectorRow b → All (λ row. length (functions_of row) ≡ 1) (bodies_of b)
+one_each (plain_row {vs} {s} o) = all_made (λ row. length (functions_of row) ≡ 1) (λ v. Plain v (component_of s)) (λ v. refl) vs
+one_each (affine_row {fs} {s} o) = all_made (λ row. length (functions_of row) ≡ 1) (λ f. Affine f (component_of s)) (λ f. refl) fs
+
+module _ {X : Type 0} (item : Item) (body : X → Body) where
+  made_from : (k : ℕ) (xs : List X)
+      → map (λ p. child_at item p.0 (body p.1)) (enumerate_from k xs) ≡ children_from item k (map body xs)
+  made_from k [] = refl
+  made_from k (x ∷ xs) = ap (λ rows. child_at item k (body x) ∷ rows) (made_from (k + 1) xs)
+
+  pub child_more : (xs : List X) (n : ℕ) (x : X) (rows : List Item) → n < length xs → x ≡ slice_index_or xs n x
+      → rows ≡ map (λ p. child_at item p.0 (body p.1)) (take n (enumerate_from 0 xs))
+      → rows ++ child_at item n (body x) ∷ [] ≡ map (λ p. child_at item p.0 (body p.1)) (take (n + 1) (enumerate_from 0 xs))
+  child_more xs n x rows low here so_far =
+      let within : n < length (enumerate_from 0 xs) = let e = length-enumerate_from 0 xs in omega (arith, e, low) in
+      let place : 0 + n ≡ n = omega arith in
+      let at_place : slice_index_or (enumerate_from 0 xs) n (n, x) ≡ (n, x) = get_or-enumerate_from 0 xs n (n, x) low ∙ ap₂ (λ i y. (i, y)) place (sym here) in
+      ap₂ (λ rs p. rs ++ child_at item p.0 (body p.1) ∷ []) so_far (sym at_place)
+      ∙ sym (map-append (λ p. child_at item p.0 (body p.1)) (take n (enumerate_from 0 xs)) (slice_index_or (enumerate_from 0 xs) n (n, x) ∷ []))
+      ∙ sym (ap (map (λ p. child_at item p.0 (body p.1))) (take_more (enumerate_from 0 xs) n (n, x) within))
+
+  pub children_all : (xs : List X) (n : ℕ) (rows : List Item) → length xs ≤ n
+      → rows ≡ map (λ p. child_at item p.0 (body p.1)) (take n (enumerate_from 0 xs))
+      → rows ≡ children_from item 0 (map body xs)
+  children_all xs n rows past so_far =
+      so_far
+      ∙ ap (map (λ p. child_at item p.0 (body p.1))) (take_all n (enumerate_from 0 xs) (let e = length-enumerate_from 0 xs in omega (arith, e, past)))
+      ∙ made_from 0 xs
+
+-- an image of rows alone
+abbrev pub rows_alone : List Item → Image
+rows_alone rows = record { groups = []; exprs = []; rows = rows; objective = None }
+
+-- ---- how the duals are joined
+
+joined-append : (ys : List (List Rational)) (y : List Rational) → joined (ys ++ y ∷ []) ≡ joined ys ++ y
+joined-append [] y = append-nil y
+joined-append (z ∷ ys) y = ap (λ s. z ++ s) (joined-append ys y) ∙ sym (append_assoc z (joined ys) y)
+
+alone_is : (y : List Rational) (p : Rational) → length y ≡ 1 → p ≡ slice_index_or y 0 p → y ≡ p ∷ []
+alone_is [] p one first = absurd (omega (arith, one))
+alone_is (q ∷ []) p one first = ap (λ r. r ∷ []) (sym first)
+alone_is (q ∷ (r ∷ y)) p one first = absurd (omega (arith, one))
+
+pub joined_more : (ys : List (List Rational)) (n : ℕ) (y : List Rational) (p : Rational) (numbers : List Rational)
+    → n < length ys → y ≡ slice_index_or ys n y → length y ≡ 1 → p ≡ slice_index_or y 0 p
+    → numbers ≡ joined (take n ys) → numbers ++ p ∷ [] ≡ joined (take (n + 1) ys)
+joined_more ys n y p numbers low here one first so_far =
+    ap₂ ◌++◌ so_far (sym (alone_is y p one first)) ∙ sym (joined-append (take n ys) y)
+    ∙ ap (λ z. joined (take n ys ++ z ∷ [])) here ∙ sym (ap joined (take_more ys n y low))
+
+sizes_one : (ys : List (List Rational)) → All (λ n. n ≡ 1) (map length ys) → All (λ y. length y ≡ 1) ys
+sizes_one [] h = All-nil (λ y. length y ≡ 1)
+sizes_one (y ∷ ys) h =
+    All-cons (λ y. length y ≡ 1) y ys (All-head (λ n. n ≡ 1) (length y) (map length ys) h) (sizes_one ys (All-tail (λ n. n ≡ 1) (length y) (map length ys) h))
+
+-- ---- what an edge of the family leads from
 
 record Sourced (edge : Edge) (b : Body) : Type 0 where
   vector : IsVectorRow b
@@ -387,6 +478,17 @@ module _ (edge : Edge) (own : family_of edge ≡ Scalarize) where
           ∙ ap (λ q. q -ℚ dot (joined ys) (constants fs)) (sym (r.asks_each.low (joined ys)))
           ∙ sym (ap (λ w. gap_of (row_held item.body w)) (back_is item ys)));
     }
+
+  -- each dual has one number
+  pub duals_one : (item : Item) → IsItemFor edge item → (ys : List (List Rational)) → TakesDuals (kept_by edge item) ys
+      → All (λ y. length y ≡ 1) ys
+  duals_one item suits ys takes =
+      let bodies = bodies_of item.body in
+      sizes_one ys
+      (subst (All (λ n. n ≡ 1)) (sym (dual_sizes edge item (rows_at item bodies) (image_is item) ys takes))
+      (All-map (λ n. n ≡ 1) (λ child. length (functions_of child.body)) (children_from item 0 bodies)
+      (all_children item (λ b. length (functions_of b) ≡ 1) (λ child. length (functions_of child.body) ≡ 1) (λ k b h. h) 0 bodies
+      (one_each (is_vector_row item.body suits.valid.function suits.kind)))))
 
   law_at : Lawful edge
   law_at item suits =

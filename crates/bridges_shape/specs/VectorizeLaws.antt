@@ -178,8 +178,8 @@ module _ (edge : Edge) (own : family_of edge ≡ Vectorize) where
             size = h.size;
             dual = single (λ y. Dual (cone_of s) y → Dual s y) (λ p d. r.set.duals p d) y h.size h.dual;
           });
-      same = λ y v. ap (λ k. adjoint_of k v) (carried y);
-      gaps = λ y. ≤ℚ_from_≡ _ _ (gap_same f s r.set y ∙ sym (ap gap_of (carried y)));
+      same = λ y h v. ap (λ k. adjoint_of k v) (carried y);
+      gaps = λ y h. ≤ℚ_from_≡ _ _ (gap_same f s r.set y ∙ sym (ap gap_of (carried y)));
       valid = λ room few. record {
         function = r.set.cone;
         some = omega arith;

@@ -1,2 +1,18 @@
-//! Bridges that change a row's or a group's shape, and neither its functions nor its set otherwise.
+//! Bridges that change the shape of rows, groups and objectives: numbers into vectors of one
+//! component, vectors into their components, and plain functions into affine ones.
 #![tactic(auto)]
+
+mod cones;
+mod obj_functionize;
+mod scalar_functionize;
+mod scalarize;
+mod vector_functionize;
+mod vectorize;
+mod vectorize_var;
+
+pub use obj_functionize::{ObjFunctionize, ObjFunctionizeRule};
+pub use scalar_functionize::{ScalarFunctionize, ScalarFunctionizeRule};
+pub use scalarize::{Scalarize, ScalarizeRule};
+pub use vector_functionize::{VectorFunctionize, VectorFunctionizeRule};
+pub use vectorize::{Vectorize, VectorizeRule};
+pub use vectorize_var::{VectorizeVar, VectorizeVarRule};

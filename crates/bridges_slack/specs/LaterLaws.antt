@@ -414,7 +414,7 @@ module _ (edge : Edge) (own : family_of edge ≡ Later) where
   unfolding FitsBy
   image_fits item = subst (λ f. FitsBy f item) (sym own) tt
 
-  later_is : (item : Item) → image_of edge item ≡ later edge item
+  pub later_is : (item : Item) → image_of edge item ≡ later edge item
   unfolding image_by
   later_is item = ap (λ f. image_by f edge item) own
 

@@ -13,7 +13,7 @@ use Rattle.bridge_face.specs.Law.{EdgeLaw, IsItemFor, IsLawful, LeadsTo, growth}
 use Rattle.set_core.specs.declared.set.Set.TheVariants.{EqualTo, GreaterThan, Interval, LessThan}
 use Rattle.bridge_face.specs.ImageOf.{FitsBy, ImageFits, differences, group_at, image_by, image_of, inner, inner_functions, scalar_slack}
 use Rattle.item_core.specs.Valid.{FitsItsFunction, NamesNothingBelow}
-use Rattle.aff_core.specs.Function.{Function, coefficient}
+use Rattle.aff_core.specs.Function.{Function, coefficient, variable}
 use Rattle.bridge_face.specs.OneRowLaws.{IsRow}
 use Rattle.bridges_slack.specs.SlackLaws.{IsSlack, slack_law}
 use Rattle.item_core.specs.declared.item.Item.{Item}
@@ -21,13 +21,14 @@ use Rattle.bridge_face.specs.FamilyLaws.{Lawful, lawful_family, of_another}
 use Rattle.bridge_face.specs.Sources.{OfKind, affine_greater_than, affine_interval, affine_less_than, of_kind}
 use Rattle.ratio_core.specs.Rational.{Rational, zero_ℚ, ◌*ℚ◌}
 use Rattle.item_core.specs.declared.family.Family.TheVariants.{ScalarSlack}
-use Rattle.bridge_face.specs.Images.{child_at, first_in, function_of_body}
+use Rattle.bridge_face.specs.Images.{child_at, first_in, function_of_body, difference}
 use Rattle.item_core.specs.Edge.{edge_entry, family_of, source_of}
 use Rattle.set_core.specs.Vectors.{first_of}
 use Rattle.item_core.specs.Item.{functions_of, set_of}
 use Rattle.item_core.specs.KindOf.{kind_of_body}
 use Rattle.set_laws.specs.Least.{single}
 use Rattle.bridge_face.specs.ComponentLaws.{unnamed_below, variables}
+use Rattle.bridge_face.specs.GroupAndRowLaws.{group_and_row}
 use Rattle.item_core.specs.declared.kind.Kind.TheVariants as kind
 
 -- an affine row with bounds
@@ -120,6 +121,15 @@ module _ (edge : Edge) (own : family_of edge ≡ ScalarSlack) where
       let facts = read (is_bounded item.body suits.valid.function suits.kind) in
       let unnamed : All (NamesNothingBelow item.at) (function_of_body item.body ∷ []) = subst (All (NamesNothingBelow item.at)) facts.functions (suits.valid.others facts.row.no_group) in
       unnamed_below item.at 0 (function_of_body item.body) (All-head (NamesNothingBelow item.at) (function_of_body item.body) [] unnamed) (0 ∷ [])
+
+  -- the image, with the row's function written out
+  pub image_made : (item : Item) → IsItemFor edge item
+      → group_and_row item (group_at item (set_of item.body) 1) []
+        (Affine (difference (function_of_body item.body) (variable (child_of (child_of item.at 0) 0))) (EqualTo zero_ℚ))
+      ≡ image_of edge item
+  image_made item suits =
+      ap (λ fs. group_and_row item (group_at item (set_of item.body) 1) [] (Affine (first_in (differences fs (inner_functions item 1))) (EqualTo zero_ℚ))) (sym (one_function item suits))
+      ∙ sym (image_is item)
 
   law_at : Lawful edge
   law_at item suits =

@@ -1,0 +1,14 @@
+use Rattle.std.proofs.Common.{sym, ap, ◌∙◌}
+use Rattle.bridge_face.specs.Images.{row_at}
+use Rattle.bridges_shape.specs.FunctionizeLaws.{is_plain_vector, vector_image_fits, vector_image_is}
+use Rattle.bridges_shape.proofs.vector_functionize.VectorFunctionizeRuleRewriting.image.Goals as goal
+
+pub functionized-requires-clause-plain : goal.functionized-requires-clause-plain
+functionized-requires-clause-plain c =
+    is_plain_vector c.args._edge c.requires.own c.args.item.now.body c.requires.suits.valid.function c.requires.suits.kind
+
+pub returns : goal.returns
+returns c =
+    (vector_image_fits c.args._edge c.requires.own c.args.item.now,
+    c.in_ok-row_image.ensures ∙ ap (row_at c.args.item.now) c.in_ok-body.ensures
+    ∙ sym (vector_image_is c.args._edge c.requires.own c.args.item.now))
