@@ -7,6 +7,7 @@ pub mod FunctionLaws
 pub mod FunctionLists
 pub mod Kept
 pub mod KeyOrder
+pub mod Points
 pub mod Rising
 pub mod Stored
 pub mod Terms

@@ -153,39 +153,3 @@ impl Ord for Address {
         }
     }
 }
-
-#[cfg(test)]
-mod tests {
-    use super::*;
-    use std::test::Fail;
-
-    #[test]
-    fn prints_its_positions(rt: HostRuntime) -> Result<(), Fail> {
-        let child = Address::root(Root::Row, 7).child(0).child(3);
-        assert_eq!(rt; format!(in rt.alloc(); "{child}")?.as_str(), "row 7.0.3");
-        Ok(())
-    }
-
-    #[test]
-    fn orders_by_root_number_and_positions(rt: HostRuntime) {
-        let row = Address::root(Root::Row, 7);
-        let in_order = [
-            Address::root(Root::Variable, 9),
-            Address::root(Root::Group, 0),
-            row,
-            row.child(0),
-            row.child(0).child(3),
-            row.child(1),
-            Address::root(Root::Row, 8),
-            Address::root(Root::Objective, 0),
-        ];
-        assert!(rt; in_order.is_sorted_by(|a, b| a < b));
-    }
-
-    #[test]
-    fn reads_its_parts(rt: HostRuntime) {
-        let child = Address::root(Root::Row, 7).child(2);
-        assert!(rt; child.kind() == Root::Row && child.number() == 7 && child.depth() == 1);
-        assert_eq!(rt; child.positions(), [2].as_slice());
-    }
-}

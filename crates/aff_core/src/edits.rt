@@ -50,19 +50,3 @@ fn joined(
     joined.extend_from_slice(after)?;
     Ok(joined)
 }
-
-#[cfg(test)]
-mod tests {
-    use super::*;
-    use crate::Root;
-    use std::test::Fail;
-
-    #[test]
-    fn changes_one_coefficient(rt: HostRuntime) -> Result<(), Fail> {
-        let [x, y] = [0, 1].map(|n| Address::root(Root::Variable, n));
-        let f = Aff::variable(rt.alloc(), &y)?;
-        let g = f.with_coef(&x, Ratio::one())?;
-        assert!(rt; g.term(0) == Some((x, Ratio::one())) && g.term(1) == Some((y, Ratio::one())));
-        Ok(())
-    }
-}

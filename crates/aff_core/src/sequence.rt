@@ -43,19 +43,3 @@ fn others(alloc: Global, addresses: &[Address], at: &Address) -> Result<Vec<Addr
             .collect(alloc)?,
     )
 }
-
-#[cfg(test)]
-mod tests {
-    use super::*;
-    use crate::Root;
-    use std::test::Fail;
-
-    #[test]
-    fn leaves_an_address_out(rt: HostRuntime) -> Result<(), Fail> {
-        let [x, y] = [0, 1].map(|n| Address::root(Root::Variable, n));
-        let all = Addresses::from_vec([x, y, x].to_vec(rt.alloc())?);
-        assert!(rt; has_address(&all, &x) && has_address(&all, &y));
-        assert_eq!(rt; without_address(&all, &x)?.as_slice(), [y].as_slice());
-        Ok(())
-    }
-}

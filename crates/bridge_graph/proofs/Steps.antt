@@ -45,6 +45,18 @@ best_kept {n = n} known here = record {
   };
 }
 
+-- a candidate with edge n is the best below n + 1, where it comes before each with an edge below n
+newest : {edges : List EdgeRow} {costs : List ℕ} {on : List Bool} {plans : List Plan} {n : ℕ} (step : Step) → step.edge ≡ n → step.kind < length plans → IsCandidate edges costs on plans step → ((other : Step) → IsCandidate edges costs on plans other → other.edge < n → ComesFirst step other) → IsBest edges costs on plans (n + 1) step
+newest {n = n} step here kind candidate earlier = record {
+  candidate = candidate;
+  below = omega arith;
+  kind = kind;
+  first = λ o c l. at_or_below o.edge n l
+      (λ e'. let same : step.cost ≡ o.cost = same_cost candidate c (here ∙ sym e') in
+      record { cheaper = omega arith; lower = λ _. omega arith })
+      (earlier o c);
+}
+
 -- of two candidates, the second by a higher edge, the one that is taken comes before the other
 taken : (edges : List EdgeRow) (costs : List ℕ) (on : List Bool) (plans : List Plan) (n : ℕ) (best step : Step) → IsBest edges costs on plans n best → step.edge ≡ n → step.kind < length plans → IsCandidate edges costs on plans step → (b : Bool) → nat_le best.cost step.cost ≡ b → IsBest edges costs on plans (n + 1) (if b then best else step)
 taken edges costs on plans n best step was here kind candidate true e = record {
@@ -56,28 +68,15 @@ taken edges costs on plans n best step was here kind candidate true e = record {
       record { cheaper = grind (arith, nat_tests); lower = λ _. omega (arith, was.below) })
       (was.first o c);
 }
-taken edges costs on plans n best step was here kind candidate false e = record {
-  candidate = candidate;
-  below = omega arith;
-  kind = kind;
-  first = λ o c l. at_or_below o.edge n l
-      (λ e'. let same : step.cost ≡ o.cost = same_cost candidate c (here ∙ sym e') in
-      record { cheaper = omega arith; lower = λ _. omega arith })
-      (λ below. let f = was.first o c below in record { cheaper = grind (arith, nat_tests, f.cheaper); lower = λ same. grind (arith, nat_tests, f.cheaper) });
-}
+taken edges costs on plans n best step was here kind candidate false e =
+    newest step here kind candidate
+    (λ o c below. let f = was.first o c below in record { cheaper = grind (arith, nat_tests, f.cheaper); lower = λ same. grind (arith, nat_tests, f.cheaper) })
 
 pub best_next : {edges : List EdgeRow} {costs : List ℕ} {on : List Bool} {plans : List Plan} {n : ℕ} (best : Option Step) (step : Step) → IsBestBelow edges costs on plans n best → step.edge ≡ n → step.kind < length plans → IsCandidate edges costs on plans step → IsBestBelow edges costs on plans (n + 1) (Some (cheaper_of best step))
 best_next {edges} {costs} {on} {plans} {n} None step known here kind candidate = record {
   absent = λ e. absurd (cc);
-  present = λ b e. subst (λ s. IsBest edges costs on plans (n + 1) s) (same_Some step b e) record {
-    candidate = candidate;
-    below = omega arith;
-    kind = kind;
-    first = λ o c l. at_or_below o.edge n l
-        (λ e'. let same : step.cost ≡ o.cost = same_cost candidate c (here ∙ sym e') in
-        record { cheaper = omega arith; lower = λ _. omega arith })
-        (λ below. absurd (known.absent refl o c below));
-  };
+  present = λ b e. subst (λ s. IsBest edges costs on plans (n + 1) s) (same_Some step b e)
+      (newest step here kind candidate (λ o c below. absurd (known.absent refl o c below)));
 }
 best_next {edges} {costs} {on} {plans} {n} (Some best) step known here kind candidate = record {
   absent = λ e. absurd (cc);

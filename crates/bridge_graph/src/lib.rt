@@ -10,8 +10,6 @@ ghost use Rattle.std.specs.Prelude.{◌≡◌, ◌≤◌, ◌↔◌, ℕ, IsTrue
 ghost use Rattle.std.specs.List.{list_all};
 
 mod settling;
-#[cfg(test)]
-mod tests;
 
 use settling::{Plan, settle};
 use std::marker::Model;

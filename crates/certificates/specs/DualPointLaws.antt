@@ -11,10 +11,11 @@ use Rattle.rational_laws.specs.Sums.{sum_by_ℚ, sum_by_ℚ-*ℚ_right, sum_by_�
 use Rattle.aff_core.specs.Address.{Address, address_cmp}
 use Rattle.aff_core.specs.Function.{Function, coefficient, slope, variable}
 use Rattle.aff_core.specs.FunctionLists.{coefficients, evaluations, values}
+use Rattle.aff_core.specs.Points.{unit}
 use Rattle.linear_laws.specs.ListLaws.{evaluations_values, slope_variable}
 use Rattle.linear_laws.specs.SlopeLaws.{coefficient_by_unit, mentioned, slope_over}
 use Rattle.linear_laws.specs.SupportLaws.{count, support, support_supports, supports_first, supports_second}
-use Rattle.linear_laws.specs.UnitLaws.{same_or_other, unit, unit_other}
+use Rattle.linear_laws.specs.UnitLaws.{same_or_other, unit_other}
 use Rattle.set_core.specs.declared.set.Set.{Set}
 use Rattle.set_core.specs.Membership.{In}
 use Rattle.set_core.specs.Mirrored.{multiplied}

@@ -6,7 +6,7 @@ use Rattle.ratio_core.specs.Rational.{Rational, one_ℚ, zero_ℚ, ◌*ℚ◌, �
 use Rattle.rational_laws.specs.Dot.{plus, times}
 use Rattle.rational_laws.specs.Field.{*ℚ-zero, +ℚ-zero, zero-+ℚ}
 use Rattle.aff_core.specs.Address.{Address, address_eq, address_eq-Decides}
-use Rattle.linear_laws.specs.PointLaws.{spread}
+use Rattle.aff_core.specs.Points.{spread}
 use Rattle.linear_laws.specs.SupportLaws.{count}
 use Rattle.linear_laws.specs.UnitLaws.{unit_other, unit_same}
 use Rattle.numbered.specs.Laws.{Rise-head, Rise-tail}

@@ -57,27 +57,29 @@ pull_is hs x = pull_over (variables_in hs) hs x (support_supports (mentioned_in 
 alike : (us : List Address) (a b x : Address → Rational) → ((v : Address) → a v ≡ b v) → sum_by_ℚ (λ u. a u *ℚ x u) us ≡ sum_by_ℚ (λ u. b u *ℚ x u) us
 alike us a b x h = sum_by_ℚ_same (λ u. a u *ℚ x u) (λ u. b u *ℚ x u) us (λ u. ap (λ q. q *ℚ x u) (h u))
 
-module _ (hs gs : List Held) where
-  abbrev both : List Address
-  both = support (mentioned_in hs ++ mentioned_in gs)
+-- what sums over any support of some addresses, and what does so over any support of others, are equal where the weights are
+weighed_alike : (vs ws : List Address) (p q : Rational) (a b x : Address → Rational)
+    → ((us : List Address) → Supports us vs → p ≡ sum_by_ℚ (λ u. a u *ℚ x u) us)
+    → ((us : List Address) → Supports us ws → q ≡ sum_by_ℚ (λ u. b u *ℚ x u) us)
+    → ((v : Address) → a v ≡ b v) → p ≡ q
+weighed_alike vs ws p q a b x first_over second_over h =
+    first_over both (supports_first both vs ws whole)
+    ∙ alike both a b x h
+    ∙ sym (second_over both (supports_second both vs ws whole))
+  where
+    both : List Address
+    both = support (vs ++ ws)
 
-  -- equal adjoints give equal pulls
-  pub pull_same : ((v : Address) → adjoint hs v ≡ adjoint gs v) → (x : Address → Rational) → pull hs x ≡ pull gs x
-  pull_same h x =
-      pull_over both hs x (supports_first both (mentioned_in hs) (mentioned_in gs) (support_supports (mentioned_in hs ++ mentioned_in gs)))
-      ∙ alike both (adjoint hs) (adjoint gs) x h
-      ∙ sym (pull_over both gs x (supports_second both (mentioned_in hs) (mentioned_in gs) (support_supports (mentioned_in hs ++ mentioned_in gs))))
+    whole : Supports both (vs ++ ws)
+    whole = support_supports (vs ++ ws)
 
-module _ (hs : List Held) (f : Function) where
-  abbrev with_function : List Address
-  with_function = support (mentioned_in hs ++ mentioned f)
+-- equal adjoints give equal pulls
+pub pull_same : (hs gs : List Held) → ((v : Address) → adjoint hs v ≡ adjoint gs v) → (x : Address → Rational) → pull hs x ≡ pull gs x
+pull_same hs gs h x = weighed_alike (mentioned_in hs) (mentioned_in gs) (pull hs x) (pull gs x) (adjoint hs) (adjoint gs) x (λ us. pull_over us hs x) (λ us. pull_over us gs x) h
 
-  -- and an adjoint that is a function's coefficients gives its slope
-  pub pull_is_slope : ((v : Address) → adjoint hs v ≡ coefficient f v) → (x : Address → Rational) → pull hs x ≡ slope f x
-  pull_is_slope h x =
-      pull_over with_function hs x (supports_first with_function (mentioned_in hs) (mentioned f) (support_supports (mentioned_in hs ++ mentioned f)))
-      ∙ alike with_function (adjoint hs) (coefficient f) x h
-      ∙ sym (slope_over with_function f x (supports_second with_function (mentioned_in hs) (mentioned f) (support_supports (mentioned_in hs ++ mentioned f))))
+-- and an adjoint that is a function's coefficients gives its slope
+pub pull_is_slope : (hs : List Held) (f : Function) → ((v : Address) → adjoint hs v ≡ coefficient f v) → (x : Address → Rational) → pull hs x ≡ slope f x
+pull_is_slope hs f h x = weighed_alike (mentioned_in hs) (mentioned f) (pull hs x) (slope f x) (adjoint hs) (coefficient f) x (λ us. pull_over us hs x) (λ us. slope_over us f x) h
 
 -- rows whose adjoints are 0 have no pull
 pub pull_none : (hs : List Held) → ((v : Address) → adjoint hs v ≡ zero_ℚ) → (x : Address → Rational) → pull hs x ≡ zero_ℚ

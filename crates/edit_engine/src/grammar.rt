@@ -171,7 +171,8 @@ struct ReadTerm<'a> {
 /// `Q*X`, parted at the first star.
 #[tactic(auto, unfolding(crate::specs::Line::term_of, crate::specs::Name::name_of))]
 fn read_term(token: &[u8]) -> Option<ReadTerm<'_>>
-    ensures { option_map (λ t. record { variable = t.variable.now; coefficient = t.coefficient }) result
+    ensures { option_map
+        (λ t. record { variable = t.variable.now; coefficient = t.coefficient }) result
         ≡ term_of token.now }
 {
     let (coefficient, variable) = parted_at(token, b'*');

@@ -31,7 +31,10 @@ impl Model for Leaves {
 
     ghost coded = { leaves_code };
 
-    ghost view = { λ a. record { variables = from_entries a.variables.entries; rows = from_entries a.rows.entries } };
+    ghost view = { λ a. record {
+      variables = from_entries a.variables.entries;
+      rows = from_entries a.rows.entries;
+    } };
 }
 
 impl Leaves {
@@ -84,7 +87,8 @@ fn variable_leaves(
     items: &BTreeMap<u32, (Name, Domain)>,
 ) -> Result<BTreeMap<Address, Domain>, Memory>
     ensures { IfOk result (λ leaves. from_entries {R = address_cmp} leaves.entries
-        ≡ from_entries (map variable_leaf (entries (from_entries {R = nat_cmp} items.now.entries)))) }
+        ≡ from_entries (map variable_leaf
+        (entries (from_entries {R = nat_cmp} items.now.entries)))) }
 {
     let mut leaves = BTreeMap::new(alloc);
     for (number, (_, domain)) in items.iter().rev() {
@@ -109,9 +113,11 @@ fn row_leaves(
     Ok(leaves)
 }
 
-/// At how many addresses the new map has something else than the old one, or nothing, or something new.
+/// At how many addresses the new map has something else than the old one, or nothing, or
+/// something new.
 fn differences<X: PartialEq>(old: &BTreeMap<Address, X>, new: &BTreeMap<Address, X>) -> u64
-    ensures { result ≡ differences X.eq (from_entries old.now.entries) (from_entries new.now.entries) }
+    ensures { result ≡ differences X.eq
+        (from_entries old.now.entries) (from_entries new.now.entries) }
 {
     let mut count = 0;
     for (at, leaf) in old.iter() {
@@ -128,7 +134,8 @@ fn differences<X: PartialEq>(old: &BTreeMap<Address, X>, new: &BTreeMap<Address,
 }
 
 fn has_leaf<X: PartialEq>(leaves: &BTreeMap<Address, X>, at: &Address, leaf: &X) -> bool
-    ensures { result ≡ option_map_or (X.eq leaf.now) (get (from_entries {R = address_cmp} leaves.now.entries) at.now) false }
+    ensures { result ≡ option_map_or (X.eq leaf.now)
+        (get (from_entries {R = address_cmp} leaves.now.entries) at.now) false }
 {
     match leaves.get(at) {
         Some(other) => leaf == other,

@@ -17,8 +17,6 @@ mod row;
 mod row_function;
 mod session;
 pub mod terms;
-#[cfg(test)]
-mod tests;
 mod tokens;
 
 pub use answer::Answer;

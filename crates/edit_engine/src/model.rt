@@ -33,7 +33,8 @@ impl Model for UserModel {
 
     ghost view = { λ a. record { variables = a.variables; rows = a.rows } };
 
-    ghost invariant = { λ a. IsCountOfTerms a.terms (record { variables = a.variables; rows = a.rows }) };
+    ghost invariant = { λ a. IsCountOfTerms a.terms
+        (record { variables = a.variables; rows = a.rows }) };
 }
 
 impl UserModel {
@@ -95,7 +96,8 @@ impl UserModel {
 
     pub fn add_variable(&mut self, name: Name) -> Result<(), Memory>
         requires { variable_refusal self.old name ≡ None }
-        ensures ok { OnOk result (self.new ≡ record self.old { variables = with_item self.old.variables name Free }) }
+        ensures ok { OnOk result
+            (self.new ≡ record self.old { variables = with_item self.old.variables name Free }) }
         ensures err { OnErr result (self.new ≡ self.old) }
     {
         self.variables.add(name, Domain::Free)
@@ -103,7 +105,8 @@ impl UserModel {
 
     pub fn add_row(&mut self, name: Name, row: Row) -> Result<(), Memory>
         requires { named_row_refusal self.old name row.function ≡ None }
-        ensures ok { OnOk result (self.new ≡ record self.old { rows = with_item self.old.rows name row }) }
+        ensures ok { OnOk result
+            (self.new ≡ record self.old { rows = with_item self.old.rows name row }) }
         ensures err { OnErr result (self.new ≡ self.old) }
     {
         let terms = row.function.term_count() as u64;
@@ -122,7 +125,8 @@ impl UserModel {
     }
 }
 
-/// The refusal of an edit for the first of these counts, as they would be after it, that passes its limit.
+/// The refusal of an edit for the first of these counts, as they would be after it, that passes
+/// its limit.
 fn first_full(counts: &[(u64, u64)]) -> Option<Refusal>
     ensures { result ≡ first_refusal (map (λ c. passes c.0 c.1) counts.now) }
 {

@@ -90,7 +90,8 @@ impl Eq for Name {
     ghost laws = { eq_by_cmp_equiv name_cmp_total };
 }
 
-/// Whether a script can write these bytes as a name: 1 to `MOST_BYTES` bytes that print, without the space and '%'.
+/// Whether a script can write these bytes as a name: 1 to `MOST_BYTES` bytes that print, without
+/// the space and '%'.
 pub fn is_name(bytes: &[u8]) -> bool
     ensures { result ≡ is_name bytes.now }
 {

@@ -27,7 +27,11 @@ impl<X> Model for Numbered<X> {
 
     ghost coded = { numbered_code X.code };
 
-    ghost view = { λ a. record { numbers = from_entries a.numbers.entries; items = from_entries a.items.entries; next = a.next } };
+    ghost view = { λ a. record {
+      numbers = from_entries a.numbers.entries;
+      items = from_entries a.items.entries;
+      next = a.next;
+    } };
 
     // no number from the next on is used
     ghost invariant = { λ a. IsFreeFrom a.next a.items.entries };

@@ -83,7 +83,8 @@ fn push_variables(
     model: &UserModel,
     variables: &BTreeMap<Address, Domain>,
 ) -> Result<(), Memory>
-    ensures { OnOk result (line.new ≡ line.old ++ flat_map (variable_line model.now) (entries (from_entries {R = address_cmp} variables.now.entries))) }
+    ensures { OnOk result (line.new ≡ line.old ++ flat_map (variable_line model.now)
+        (entries (from_entries {R = address_cmp} variables.now.entries))) }
 {
     for (at, domain) in variables.iter() {
         push_variable(line, model, at, *domain)?;
@@ -96,7 +97,8 @@ fn push_rows(
     model: &UserModel,
     rows: &BTreeMap<Address, LeafRow>,
 ) -> Result<(), Memory>
-    ensures { OnOk result (line.new ≡ line.old ++ flat_map (row_line model.now) (entries (from_entries {R = address_cmp} rows.now.entries))) }
+    ensures { OnOk result (line.new ≡ line.old ++ flat_map (row_line model.now)
+        (entries (from_entries {R = address_cmp} rows.now.entries))) }
 {
     for (at, row) in rows.iter() {
         push_row(line, model, at, row)?;
@@ -154,7 +156,8 @@ fn push_further_terms(
     model: &UserModel,
     terms: &[(Address, Ratio)],
 ) -> Result<(), Memory>
-    ensures { OnOk result (line.new ≡ line.old ++ flat_map spaced (map (term_text model.now) terms.now)) }
+    ensures { OnOk result (line.new ≡ line.old
+        ++ flat_map spaced (map (term_text model.now) terms.now)) }
 {
     for term in terms {
         line.push(b" ")?;

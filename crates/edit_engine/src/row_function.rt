@@ -36,7 +36,8 @@ fn located_terms(
     variables: &Numbered<Domain>,
     terms: &[Term],
 ) -> Result<Option<BTreeMap<Address, Ratio>>, Memory>
-    ensures { IfOk result (λ located. option_map (λ m. from_entries m.entries) located ≡ known_terms variables.now terms.now) }
+    ensures { IfOk result (λ located. option_map (λ m. from_entries m.entries) located
+        ≡ known_terms variables.now terms.now) }
 {
     let mut located = BTreeMap::new(alloc);
     for term in terms.iter().rev() {
@@ -53,7 +54,8 @@ fn in_order(
     alloc: Global,
     located: &BTreeMap<Address, Ratio>,
 ) -> Result<Vec<(Address, Ratio)>, Memory>
-    ensures { IfOk result (λ terms. terms.items ≡ entries (from_entries {R = address_cmp} located.now.entries)) }
+    ensures { IfOk result (λ terms. terms.items
+        ≡ entries (from_entries {R = address_cmp} located.now.entries)) }
 {
     Ok(
         located

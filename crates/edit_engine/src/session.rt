@@ -50,12 +50,13 @@ impl Session {
         }
     }
 
-    /// Answers a line, by one step of the script machine. After `Memory` nothing changed, or the model is
-    /// the one after the line and no solver is attached any more.
+    /// Answers a line, by one step of the script machine. After `Memory` nothing changed, or the
+    /// model is the one after the line and no solver is attached any more.
     pub fn line(&mut self, line: &[u8]) -> Answer
         ensures answer { OnAnswered result (result ≡ answer_to self.old line.now) }
         ensures state { OnAnswered result (self.new ≡ state_after self.old line.now) }
-        ensures memory { OnMemory result (IsBetween self.old (state_after self.old line.now) self.new) }
+        ensures memory { OnMemory result
+            (IsBetween self.old (state_after self.old line.now) self.new) }
         // What an attached solver holds is the fresh bridging of the model.
         ensures bridged { IsBridged self.old → IsBridged self.new }
     {
@@ -159,7 +160,8 @@ impl Session {
     fn bridge(&mut self, old: &Leaves) -> Result<Answer, Memory>
         requires { self.old.solver ≡ None }
         ensures state { OnOk result (self.new ≡ with_model true self.old.model) }
-        ensures answer { IfOk result (λ answer. answer ≡ done_answer (Some (changed old.now (fresh self.old.model)))) }
+        ensures answer { IfOk result (λ answer. answer
+            ≡ done_answer (Some (changed old.now (fresh self.old.model)))) }
         ensures err { OnErr result (self.new ≡ self.old) }
     {
         let new = Leaves::fresh(self.alloc, &self.model)?;

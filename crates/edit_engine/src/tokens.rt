@@ -49,7 +49,8 @@ impl<'a> Iterator for Tokens<'a> {
     }
 }
 
-/// What stands before and after the first `separator`, or everything and nothing where it is missing.
+/// What stands before and after the first `separator`, or everything and nothing where it is
+/// missing.
 pub fn parted_at(bytes: &[u8], separator: u8) -> (&[u8], &[u8])
     ensures before { result.0.now ≡ before_first (λ b. b == separator) bytes.now }
     ensures after { result.1.now ≡ after_first (λ b. b == separator) bytes.now }

@@ -35,7 +35,7 @@ module _ {Item Entry : Type 0} (rules : Rules Item Entry) where
     by_choice item can make Native c = (_, natively c)
     by_choice item can make (By edge) c =
         let groups = each_bridged (RanksBelow Can rank (rank item)) (rules.image edge item).groups make (ranked.groups item edge can c) in
-        (_, by c groups.1 (each_bridged_in (RanksBelow Can rank (rank item)) groups.0 (rules.image edge item).others make (ranked.others item edge groups.0 can c)))
+        (_, by c groups.1 (each_bridged_in (RanksBelow Can rank (rank item)) groups.0 (rules.image edge item).others make (ranked.others item edge groups.0 can c groups.1)))
     by_choice item can make Missing c = absurd (ranked.chosen item can c)
 
     bridged_below : (n : ℕ) (item : Item) → RanksBelow Can rank n item → IsBridged item
@@ -47,7 +47,9 @@ module _ {Item Entry : Type 0} (rules : Rules Item Entry) where
     bridged item can = bridged_below (suc (rank item)) item (record { can = can; below = omega arith })
 
     pub fresh : (model : Image Item) → All Can model.groups
-        → ((inner : List Entry) → All (λ item. Can (rules.put_in inner item)) model.others) → Fresh rules model
+        → ((inner : List Entry) → EachBridged rules model.groups inner
+        → All (λ item. Can (rules.put_in inner item)) model.others)
+        → Fresh rules model
     fresh model h k =
         let groups = each_bridged Can model.groups bridged h in
-        record { entries = groups.0; groups = groups.1; others = each_bridged_in Can groups.0 model.others bridged (k groups.0) }
+        record { entries = groups.0; groups = groups.1; others = each_bridged_in Can groups.0 model.others bridged (k groups.0 groups.1) }

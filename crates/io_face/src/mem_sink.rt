@@ -85,26 +85,3 @@ impl Sink for MemSink {
         self.schedule.faults()
     }
 }
-
-#[cfg(test)]
-mod tests {
-    use super::*;
-    use std::test::Fail;
-
-    #[test]
-    fn takes_parts(rt: HostRuntime) -> Result<(), Fail> {
-        let mut sink = MemSink::new(rt.alloc(), 2, Calls::new(rt.alloc()));
-        assert_eq!(rt; sink.write(b"hello"), Ok(2));
-        assert_eq!(rt; (sink.written(), sink.faults()), (b"he".as_slice(), 0));
-        Ok(())
-    }
-
-    #[test]
-    fn fails_at_the_listed_call(rt: HostRuntime) -> Result<(), Fail> {
-        let fails = Calls::from_vec(vec![in rt.alloc(); 1u64]?);
-        let mut sink = MemSink::new(rt.alloc(), 2, fails);
-        assert_eq!(rt; sink.write(b"hello"), Err(SinkFault::Failed));
-        assert_eq!(rt; sink.faults(), 1);
-        Ok(())
-    }
-}

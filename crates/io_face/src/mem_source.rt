@@ -75,28 +75,3 @@ impl Source for MemSource {
         self.schedule.faults()
     }
 }
-
-#[cfg(test)]
-mod tests {
-    use super::*;
-    use std::test::Fail;
-
-    #[test]
-    fn gives_pieces(rt: HostRuntime) -> Result<(), Fail> {
-        let bytes = b"hello".to_vec(rt.alloc())?;
-        let mut source = MemSource::new(bytes, 2, Calls::new(rt.alloc()));
-        let mut into = [0u8; 3];
-        assert_eq!(rt; source.read(&mut into), Ok(2));
-        assert_eq!(rt; into, *b"he\0");
-        Ok(())
-    }
-
-    #[test]
-    fn fails_at_the_listed_call(rt: HostRuntime) -> Result<(), Fail> {
-        let fails = Calls::from_vec(vec![in rt.alloc(); 1u64]?);
-        let mut source = MemSource::new(b"hello".to_vec(rt.alloc())?, 2, fails);
-        assert_eq!(rt; source.read(&mut [0u8; 3]), Err(Failed));
-        assert_eq!(rt; source.faults(), 1);
-        Ok(())
-    }
-}

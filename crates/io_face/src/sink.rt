@@ -72,20 +72,3 @@ pub fn write_all<O: Sink>(output: &mut O, text: &[u8]) -> Result<(), SinkFault>
     }
     Ok(())
 }
-
-#[cfg(test)]
-mod tests {
-    use super::*;
-    use crate::Calls;
-    use crate::mem_sink::MemSink;
-    use std::test::Fail;
-
-    #[test]
-    fn writes_a_text_up_to_a_fault(rt: HostRuntime) -> Result<(), Fail> {
-        let fails = Calls::from_vec(vec![in rt.alloc(); 3u64]?);
-        let mut sink = MemSink::new(rt.alloc(), 2, fails);
-        assert_eq!(rt; write_all(&mut sink, b"hello"), Err(SinkFault::Failed));
-        assert_eq!(rt; sink.written(), b"hell".as_slice());
-        Ok(())
-    }
-}

@@ -53,17 +53,3 @@ impl Sink for SureSink {
         0
     }
 }
-
-#[cfg(test)]
-mod tests {
-    use super::*;
-    use std::test::Fail;
-
-    #[test]
-    fn takes_a_piece_whole(rt: HostRuntime) -> Result<(), Fail> {
-        let mut sink = SureSink::new(rt.alloc());
-        assert_eq!(rt; sink.write(b"hello")?, 5);
-        assert_eq!(rt; (sink.written(), sink.faults()), (b"hello".as_slice(), 0));
-        Ok(())
-    }
-}

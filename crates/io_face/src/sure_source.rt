@@ -52,19 +52,3 @@ impl Source for SureSource {
         0
     }
 }
-
-#[cfg(test)]
-mod tests {
-    use super::*;
-    use std::test::Fail;
-
-    #[test]
-    fn gives_its_bytes_in_order(rt: HostRuntime) -> Result<(), Fail> {
-        let mut source = SureSource::new(b"hello".to_vec(rt.alloc())?);
-        let mut into = [0u8; 3];
-        assert_eq!(rt; (source.read(&mut into), into), (Ok(3), *b"hel"));
-        assert_eq!(rt; (source.read(&mut into), into), (Ok(2), *b"lol"));
-        assert_eq!(rt; source.faults(), 0);
-        Ok(())
-    }
-}

@@ -8,8 +8,6 @@ mod image;
 mod item;
 mod kind;
 mod table;
-#[cfg(test)]
-mod tests;
 
 pub use aff_core::Sense;
 pub use edge::{Children, EDGE_COUNT, EDGE_ROWS, EDGES, Edge, EdgeEntry};

@@ -7,14 +7,9 @@ use Rattle.ratio_core.specs.Rational.{Rational, zero_ℚ}
 use Rattle.aff_core.specs.Address.{Address, address_eq, address_total}
 use Rattle.aff_core.specs.Function.{Function, coefficient, evaluated}
 use Rattle.aff_core.specs.KeyOrder.{address_order, same_key}
+use Rattle.aff_core.specs.Points.{cut, spread}
 use Rattle.std.specs.Cmp.{eq_by_cmp_equiv}
 use Rattle.linear_laws.specs.EvaluationLaws.{evaluated_agreeing}
-
--- the numbers at the addresses, one after the other, and 0 elsewhere
-abbrev pub spread : List Address → List Rational → Address → Rational
-spread [] v u = zero_ℚ
-spread (a ∷ us) [] u = zero_ℚ
-spread (a ∷ us) (q ∷ v) u = cond (address_eq u a) q (spread us v u)
 
 past_first : (a : Address) (q : Rational) (us vs : List Address) (v : List Rational) → AllByRecursion (λ u. address_eq a u ≡ false) us → map (spread (a ∷ vs) (q ∷ v)) us ≡ map (spread vs v) us
 past_first a q [] vs v apart = refl
@@ -29,10 +24,6 @@ spread_at (a ∷ us) [] d n = absurd (omega arith)
 spread_at (a ∷ us) (q ∷ v) d n =
     ap₂ (λ p ps. p ∷ ps) (ap (λ b. cond b q (spread us v a)) (same_key address_order a))
     (past_first a q us us v (IsDistinct-head address_eq a us d) ∙ spread_at us v (IsDistinct-tail address_eq a us d) (omega arith))
-
--- the point where a test passes, and 0 elsewhere
-abbrev pub cut : (Address → Bool) → (Address → Rational) → Address → Rational
-cut p x u = cond (p u) (x u) zero_ℚ
 
 -- a function that mentions only addresses that pass doesn't see the cut
 pub evaluated_cut : (one : Rational) (p : Address → Bool) (f : Function) (x : Address → Rational) → ((v : Address) → ¬ (coefficient f v ≡ zero_ℚ) → p v ≡ true) → evaluated one f (cut p x) ≡ evaluated one f x

@@ -13,9 +13,10 @@ use Rattle.map_laws.specs.TestLaws.{first, second}
 use Rattle.aff_core.specs.Address.{Address, address_cmp, address_eq-Decides}
 use Rattle.aff_core.specs.Arithmetic.{IsComposition, IsMultiple, IsSum}
 use Rattle.aff_core.specs.Function.{Function, coefficient, slope, terms_of}
+use Rattle.aff_core.specs.Points.{unit}
 use Rattle.aff_core.specs.Terms.{linear}
 use Rattle.linear_laws.specs.SupportLaws.{Supports, count, support, support_supports, supports_first, supports_second}
-use Rattle.linear_laws.specs.UnitLaws.{same_or_other, unit, unit_other, zero_or_other}
+use Rattle.linear_laws.specs.UnitLaws.{same_or_other, unit_other, zero_or_other}
 
 abbrev pub addresses : List (Address × Rational) → List Address
 addresses ts = map (λ t. t.0) ts

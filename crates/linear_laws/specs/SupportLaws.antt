@@ -7,7 +7,8 @@ use Rattle.ratio_core.specs.Rational.{Rational, one_ℚ, zero_ℚ, ◌+ℚ◌}
 use Rattle.rational_laws.specs.Field.{+ℚ-zero, zero-+ℚ}
 use Rattle.rational_laws.specs.Sums.{sum_by_ℚ}
 use Rattle.aff_core.specs.Address.{Address, address_cmp, address_eq-Decides}
-use Rattle.linear_laws.specs.UnitLaws.{same_or_other, unit, unit_other, unit_same}
+use Rattle.aff_core.specs.Points.{unit}
+use Rattle.linear_laws.specs.UnitLaws.{same_or_other, unit_other, unit_same}
 
 -- how often an address stands in the list
 abbrev pub count : List Address → Address → Rational

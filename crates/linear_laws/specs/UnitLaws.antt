@@ -5,9 +5,7 @@ use Rattle.std.proofs.Common.{sym, ◌∙◌, ap, true≢false}
 use Rattle.ratio_core.specs.Rational.{Rational, one_ℚ, rational_eq, zero_ℚ}
 use Rattle.ratio_core.specs.RationalLaws.{rational_eq-false, rational_eq-true}
 use Rattle.aff_core.specs.Address.{Address, address_cmp, address_eq-Decides}
-
-abbrev pub unit : Address → Address → Rational
-unit v u = cond (eq_by_cmp address_cmp v u) one_ℚ zero_ℚ
+use Rattle.aff_core.specs.Points.{unit}
 
 pub same_or_other : (C : Type 0) (v u : Address) → (v ≡ u → C) → (¬ (v ≡ u) → C) → C
 same_or_other C v u same other = by_test (eq_by_cmp address_cmp v u) refl

@@ -8,6 +8,3 @@ mod sequence;
 pub use duplicate::Duplicate;
 pub use memory::Memory;
 pub use sequence::Sequence;
-
-#[cfg(test)]
-mod tests;

@@ -61,10 +61,10 @@ distinct_rows model ok = distinct_names row_number (λ (r : Row). r.name) model.
 -- ---- the way back of names
 
 module _ (naming : Naming) where
-  find-listing : (n : ℕ) (listed : List NameChange) → find listed_number n (standing_names naming listed) ≡ option_map (λ (l : NameChange). let l' : NameChange = record { number = l.number; name = naming l.number; aside = None } in l') (find listed_number n listed)
-  find-listing n [] = refl
-  find-listing n (x ∷ xs) =
-      elim (x.number == n) as (λ b. cond b (Some (record { number = x.number; name = naming x.number; aside = None })) (find listed_number n (standing_names naming xs)) ≡ option_map (λ (l : NameChange). let l' : NameChange = record { number = l.number; name = naming l.number; aside = None } in l') (cond b (Some x) (find listed_number n xs))) [ true ↦ refl | false ↦ find-listing n xs ]
+  find-standing : (n : ℕ) (listed : List NameChange) → find listed_number n (standing_names naming listed) ≡ option_map (λ (l : NameChange). let l' : NameChange = record { number = l.number; name = naming l.number; aside = None } in l') (find listed_number n listed)
+  find-standing n [] = refl
+  find-standing n (x ∷ xs) =
+      elim (x.number == n) as (λ b. cond b (Some (record { number = x.number; name = naming x.number; aside = None })) (find listed_number n (standing_names naming xs)) ≡ option_map (λ (l : NameChange). let l' : NameChange = record { number = l.number; name = naming l.number; aside = None } in l') (cond b (Some x) (find listed_number n xs))) [ true ↦ refl | false ↦ find-standing n xs ]
 
   All-listing : (n : ℕ) (listed : List NameChange) → All (λ l. n < l.number) listed → All (λ l. n < l.number) (standing_names naming listed)
   All-listing n [] h = All-nil (λ l. n < l.number)
@@ -75,13 +75,13 @@ module _ (naming : Naming) where
   Rise-listing (x ∷ xs) rise = Rise-cons listed_number _ (standing_names naming xs) (All-listing x.number xs (Rise-head listed_number x xs rise)) (Rise-listing xs (Rise-tail listed_number x xs rise))
 
   pub some_listing : (n : ℕ) (listed : List NameChange) → is_some (find listed_number n (standing_names naming listed)) ≡ is_some (find listed_number n listed)
-  some_listing n listed = ap is_some (find-listing n listed) ∙ some_mapped _ (find listed_number n listed)
+  some_listing n listed = ap is_some (find-standing n listed) ∙ some_mapped _ (find listed_number n listed)
 
 -- the old names listed lead back
 pub names_back : (listed : List NameChange) (old new : Naming) → ChangesNames listed old new → ChangesNames (standing_names old listed) new old
 names_back listed old new h = record {
   rising = Rise-listing old listed h.rising;
-  named = λ n. by_place n (find listed_number n listed) refl ∙ sym (ap (λ o. option_map_or (λ l. l.name) o (new n)) (find-listing old n listed));
+  named = λ n. by_place n (find listed_number n listed) refl ∙ sym (ap (λ o. option_map_or (λ l. l.name) o (new n)) (find-standing old n listed));
 }
   where
     by_place : (n : ℕ) (o : Option NameChange) → find listed_number n listed ≡ o → old n ≡ option_map_or (λ l. l.name) (option_map (λ (l : NameChange). let l' : NameChange = record { number = l.number; name = old l.number; aside = None } in l') (find listed_number n listed)) (new n)

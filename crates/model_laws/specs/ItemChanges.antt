@@ -18,10 +18,6 @@ module _ {X : Type 0} (number_of : X → ℕ) where
   abbrev pub set_to : X → Change X
   set_to x = record { number = number_of x; content = Some x }
 
-  -- nothing is to stand at a number
-  abbrev pub removal_at : ℕ → Change X
-  removal_at n = record { number = n; content = None }
-
   -- an item is to be what f makes of it
   abbrev pub edit_of : (X → Option X) → X → Change X
   edit_of f x = record { number = number_of x; content = f x }

@@ -23,11 +23,9 @@ pub mod ItemChanges
 pub mod Mentions
 pub mod Coefficients
 pub mod DeletedGroup
-pub mod Planned
-pub mod PlannedLaws
-pub mod Undoing
+pub mod DeletionChanges
+pub mod Differing
 pub mod Shapes
-pub mod Exchanged
 pub mod Empty
 pub mod Standing
 pub mod SingleBounds

@@ -29,10 +29,9 @@ use Rattle.model_laws.specs.KeptDeletion.{row_keeps_number}
 use Rattle.model_laws.specs.ItemChanges.{edit_of, edits_of, find-filter, one_change}
 use Rattle.model_laws.specs.Mentions.{failing_none, row_unmentioned}
 use Rattle.model_laws.specs.Pairs.{AllPairs-map}
-use Rattle.model_laws.specs.Planned.{deletion_changes, group_deletion}
-use Rattle.model_laws.specs.PlannedLaws.{AreChanges-deletion, deletion_makes, group_deletion_makes}
+use Rattle.model_laws.specs.DeletionChanges.{AreChanges-deletion, deletion_changes, deletion_makes, group_deletion, group_deletion_makes}
 use Rattle.model_laws.specs.RowWithout.{IsRowWithout, row_without_is}
-use Rattle.model_laws.specs.Undoing.{Differs, deletion_differs, group_deletion_differs}
+use Rattle.model_laws.specs.Differing.{Differs, deletion_differs, group_deletion_differs}
 use Rattle.model_laws.specs.Variables.{group_found, vars_in}
 use Rattle.model_catalog.specs.declared.names.NameChange.{NameChange}
 use Rattle.model_plans.specs.declared.plan.Plan.{Plan}

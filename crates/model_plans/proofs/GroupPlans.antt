@@ -32,7 +32,7 @@ use Rattle.model_laws.specs.Pairs.{AllPairs-map}
 use Rattle.model_laws.specs.Renamed.{renamed_number, renamed_stands, renamed_there}
 use Rattle.model_laws.specs.Replaced.{replaced}
 use Rattle.model_laws.specs.Shapes.{group_name_other, group_set_other, group_set_same}
-use Rattle.model_laws.specs.Undoing.{group_unchanged}
+use Rattle.model_laws.specs.Differing.{group_unchanged}
 use Rattle.model_laws.specs.Variables.{group_found, vars_in, vars_renamed, vars_replaced}
 use Rattle.model_catalog.specs.declared.names.NameChange.{NameChange}
 use Rattle.model_plans.specs.declared.plan.Plan.{Plan}

@@ -19,7 +19,7 @@ use Rattle.user_model.specs.Undone.{IsOldObjective}
 use Rattle.model_laws.specs.Changed.{change_row-found}
 use Rattle.model_laws.specs.ItemChanges.{one_change, set_to}
 use Rattle.model_laws.specs.Located.{row_by_number}
-use Rattle.model_laws.specs.Undoing.{Differs, row_unchanged}
+use Rattle.model_laws.specs.Differing.{Differs, row_unchanged}
 use Rattle.model_catalog.specs.declared.names.NameChange.{NameChange}
 use Rattle.model_plans.specs.declared.plan.Plan.{Plan}
 use Rattle.model_catalog.specs.Named.{AreNameChanges, ChangesNames, row_name, variable_name}

@@ -1,19 +1,8 @@
--- Loops that go through a list by index and push what they make of each item.
-use Rattle.std.proofs.Common.{◌≡◌, ℕ, zero, suc, ◌+◌, ◌∷◌, [], ◌++◌, List, Some, map, take, ap, sym, ◌∙◌, add-one, arith}
+-- The loop that numbers the variables of a new group.
+use Rattle.std.proofs.Common.{◌≡◌, ℕ, zero, suc, ◌+◌, ◌∷◌, [], ◌++◌, List, Some, take, ap, sym, ◌∙◌, add-one, arith}
 use Rattle.std.specs.Prelude.{slice_get}
 use Rattle.user_model.specs.declared.group.GroupVar.{GroupVar}
 use Rattle.user_model.specs.Edited.{numbered_from}
-
-next_taken : {X Y : Type 0} (f : X → Y) (xs : List X) (i : ℕ) (x : X) → slice_get xs i ≡ Some x → map f (take (suc i) xs) ≡ map f (take i xs) ++ f x ∷ []
-next_taken f [] i x e = cc
-next_taken f (y ∷ xs) zero x e = let same : y ≡ x = cc in ap (λ z. f z ∷ []) same
-next_taken f (y ∷ xs) (suc i) x e = ap (λ zs. f y ∷ zs) (next_taken f xs i x e)
-
--- one more item
-pub taken_pushed : {X Y : Type 0} (f : X → Y) (xs : List X) (i : ℕ) (x : X) (y : Y) (done after : List Y) → Some x ≡ slice_get xs i → done ≡ map f (take i xs) → y ≡ f x → after ≡ done ++ y ∷ [] → after ≡ map f (take (i + 1) xs)
-taken_pushed f xs i x y done after at so_far is pushed =
-    let more : map f (take (i + 1) xs) ≡ map f (take i xs) ++ f x ∷ [] = rw add-one (next_taken f xs i x (sym at)) in
-    cc
 
 next_numbered : (n : ℕ) (names : List (List ℕ)) (i : ℕ) (name : List ℕ) → slice_get names i ≡ Some name → numbered_from n (take (suc i) names) ≡ numbered_from n (take i names) ++ record { number = n + i; name = name } ∷ []
 next_numbered n [] i name e = cc

@@ -69,7 +69,7 @@ pub row_listed : (l : NameChange) (m : ℕ) (new : Option Row) (rows : List Row)
 row_listed l m new rows at number name =
     one_listed l (row_names_in rows) (row_names_in (set_at row_number m new rows)) (subst (λ k. row_names_in (set_at row_number m new rows) k ≡ l.name) (sym number) (row_named_there m new rows at ∙ name)) (λ n off. row_named_elsewhere m new rows n at (λ e. off (e ∙ sym number)))
 
--- ---- a listing
+-- ---- the listed names
 
 -- no variable's name changes
 pub AreNameChanges-rows : (names : NameChanges) (listed : List NameChange) (model : ModelValue) (rows : List Row) (o : Objective) (k : NextNumbers) → names.variables.items ≡ [] → names.rows.items ≡ listed → ChangesNames listed (row_names_in model.rows) (row_names_in rows) → AreNameChanges names model (record { groups = model.groups; rows = rows; objective = o; next = k })

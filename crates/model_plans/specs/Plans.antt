@@ -16,7 +16,7 @@ use Rattle.user_model.specs.Edited.{group_number, row_number, with_constant}
 use Rattle.user_model.specs.Consistent.{IsConsistent, IsWithinLimits}
 use Rattle.user_model.specs.Refusals.{first_refusal}
 use Rattle.user_model.specs.Undone.{IsOldObjective}
-use Rattle.model_laws.specs.Undoing.{Differs}
+use Rattle.model_laws.specs.Differing.{Differs}
 use Rattle.model_catalog.specs.declared.names.NameChange.{NameChange}
 use Rattle.model_plans.specs.declared.parts.Part.{Part}
 use Rattle.model_plans.specs.declared.parts.Part.TheVariants.{Coefficient, Constant}

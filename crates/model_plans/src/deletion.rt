@@ -10,6 +10,7 @@ ghost use Rattle.model_laws.specs.ItemChanges.{edits_of};
 ghost use Rattle.user_model.specs.Functions.{func_mentions, has_term};
 ghost use Rattle.model_plans.specs.Plans.{Accepts, IsChange, Leads, gone};
 
+use crate::found;
 use crate::made_lists::only;
 use crate::plan::Plan;
 use aff_core::{Address, Aff, Root, VecAff, has_address, without_address};
@@ -29,18 +30,13 @@ pub(crate) fn delete(alloc: Global, model: &Catalog, var: &Name) -> Result<Plan,
     ensures { IfOk result (Leads model.now.model
         (edited model.now.model (DeleteVariable var.now))) }
 {
-    let Some(number) = model.variable(var) else {
-        unreachable!()
-    };
-    let Some(group) = model.group_of(number) else {
-        unreachable!()
-    };
-    let at = Address::root(Root::Variable, number);
+    let variable = found::variable(model, var);
+    let at = Address::root(Root::Variable, variable.number);
     let change = Change {
-        number: group.id,
-        content: group_without(alloc, group, number)?,
+        number: variable.group.id,
+        content: group_without(alloc, variable.group, variable.number)?,
     };
-    let listed = only(alloc, NameChange::new(number, None))?;
+    let listed = only(alloc, NameChange::new(variable.number, None))?;
     let mut plan = Plan::of_group_change(alloc, change, listed, model.next())?;
     plan.exchange.rows = rows_without(alloc, model.rows(), &at)?;
     plan.names.rows = gone_rows(alloc, &plan.exchange.rows)?;

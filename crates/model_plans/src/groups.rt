@@ -6,6 +6,7 @@ ghost use Rattle.user_model.specs.Model.{variable_named};
 ghost use Rattle.user_model.specs.declared.edit.Edit.TheVariants.{AddGroup, FreeGroup, RenameVariable, Reset};
 ghost use Rattle.model_plans.specs.Plans.{Accepts, Leads, listed_variables};
 
+use crate::found;
 use crate::made_lists::only;
 use crate::plan::Plan;
 use lists::Duplicate;
@@ -44,15 +45,13 @@ fn numbered_vars(alloc: Global, names: &Names, first: u32) -> Result<Vec<GroupVa
     ensures { IfOk result (λ vars. vars.items ≡ numbered_from first names.now) }
 {
     let mut vars = Vec::with_capacity(alloc, names.len())?;
-    for place in 0..names.len() {
-        let Some(name) = names.get(place) else {
-            unreachable!()
-        };
-        let number = first + place as u32;
+    let mut number = first;
+    for name in names.as_slice() {
         vars.push(GroupVar {
             number,
             name: name.copy()?,
         })?;
+        number += 1;
     }
     Ok(vars)
 }
@@ -94,16 +93,11 @@ fn with_set(alloc: Global, model: &Catalog, var: &Name, set: Set) -> Result<Plan
         (with_variable model.now.model var.now
         (λ n. change_group model.now.model n (λ g. record g { set = set })))) }
 {
-    let Some(number) = model.variable(var) else {
-        unreachable!()
-    };
-    let Some(group) = model.group_of(number) else {
-        unreachable!()
-    };
-    if group.set == set {
+    let variable = found::variable(model, var);
+    if variable.group.set == set {
         return Ok(Plan::unchanged(alloc, model.next()));
     }
-    let mut group = group.copy(alloc)?;
+    let mut group = variable.group.copy(alloc)?;
     group.set = set;
     Plan::of_group(alloc, group, Vec::new(alloc), model.next())
 }
@@ -114,19 +108,15 @@ pub(crate) fn rename(alloc: Global, model: &Catalog, old: &Name, new: Name) -> R
     ensures { IfOk result (Leads model.now.model
         (edited model.now.model (RenameVariable old.now new))) }
 {
-    let Some(number) = model.variable(old) else {
-        unreachable!()
-    };
-    let Some(group) = model.group_of(number) else {
-        unreachable!()
-    };
-    let vars = renamed_vars(alloc, group.vars.as_slice(), number, &new)?;
+    let variable = found::variable(model, old);
+    let group = variable.group;
+    let vars = renamed_vars(alloc, group.vars.as_slice(), variable.number, &new)?;
     let group = Group {
         id: group.id,
         vars: GroupVars::from_vec(vars),
         set: group.set.copy(alloc)?,
     };
-    let listed = only(alloc, NameChange::new(number, Some(new)))?;
+    let listed = only(alloc, NameChange::new(variable.number, Some(new)))?;
     Plan::of_group(alloc, group, listed, model.next())
 }
 

@@ -2,6 +2,7 @@
 #![tactic(auto)]
 
 mod deletion;
+mod found;
 mod groups;
 mod located;
 mod made_lists;

@@ -64,10 +64,7 @@ fn addresses(alloc: Global, model: &Catalog, vars: &Names) -> Result<Addresses, 
     ensures { IfOk result (λ located. located ≡ map (address_named model.now.model) vars.now) }
 {
     let mut located = Vec::with_capacity(alloc, vars.len())?;
-    for place in 0..vars.len() {
-        let Some(var) = vars.get(place) else {
-            unreachable!()
-        };
+    for var in vars.as_slice() {
         located.push(address_named(model, var))?;
     }
     Ok(Addresses::from_vec(located))
@@ -79,10 +76,7 @@ fn affines(alloc: Global, model: &Catalog, funcs: &NamedVec) -> Result<VecAff, M
     ensures { IfOk result (λ located. located ≡ map (affine model.now.model) funcs.now) }
 {
     let mut located = Vec::with_capacity(alloc, funcs.len())?;
-    for place in 0..funcs.len() {
-        let Some(func) = funcs.get(place) else {
-            unreachable!()
-        };
+    for func in funcs.as_slice() {
         located.push(affine(alloc, model, func)?)?;
     }
     Ok(VecAff::from_vec(located))

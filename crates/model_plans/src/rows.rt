@@ -5,6 +5,7 @@ ghost use Rattle.user_model.specs.declared.edit.Edit.TheVariants.{AddRow, Coef, 
 ghost use Rattle.model_laws.specs.ItemChanges.{set_to};
 ghost use Rattle.model_plans.specs.Plans.{Accepts, HasAffineRow, HasOutput, HasParts, Leads, with_part};
 
+use crate::found;
 use crate::located::{address_named, located};
 use crate::made_lists::with_component;
 use crate::parts::{Part, replaced};
@@ -18,7 +19,7 @@ use set_core::Set;
 use std::alloc::Global;
 use user_model::{NamedFunc, NextNumbers, Row, UserFunc};
 
-/// A new row. Its function is made anew over the addresses of its variables, and its name is copied into the listing.
+/// A new row. Its function is made anew over the addresses of its variables, and its name is copied into the listed names.
 pub(crate) fn add(
     alloc: Global,
     model: &Catalog,
@@ -90,9 +91,7 @@ fn scalar(
     ensures { IfOk result (Leads model.now.model
         (change_function model.now.model row.now (on_affine (with_part part.now value)))) }
 {
-    let Some(row) = model.row(row) else {
-        unreachable!()
-    };
+    let row = found::row(model, row);
     let UserFunc::Affine(func) = &row.func else {
         unreachable!()
     };
@@ -149,9 +148,7 @@ fn vector(
     ensures { IfOk result (Leads model.now.model
         (change_function model.now.model row.now (on_output output (with_part part.now value)))) }
 {
-    let Some(row) = model.row(row) else {
-        unreachable!()
-    };
+    let row = found::row(model, row);
     let UserFunc::AffineVec(funcs) = &row.func else {
         unreachable!()
     };
@@ -187,9 +184,7 @@ pub(crate) fn set(alloc: Global, model: &Catalog, row: &Name, set: Set) -> Resul
     requires { Accepts model.now.model (RowSet row.now set) }
     ensures { IfOk result (Leads model.now.model (edited model.now.model (RowSet row.now set))) }
 {
-    let Some(row) = model.row(row) else {
-        unreachable!()
-    };
+    let row = found::row(model, row);
     if row.set == set {
         return Ok(Plan::unchanged(alloc, model.next()));
     }
@@ -207,9 +202,7 @@ pub(crate) fn delete(alloc: Global, model: &Catalog, row: &Name) -> Result<Plan,
     requires { Accepts model.now.model (DeleteRow row.now) }
     ensures { IfOk result (Leads model.now.model (edited model.now.model (DeleteRow row.now))) }
 {
-    let Some(row) = model.row(row) else {
-        unreachable!()
-    };
+    let row = found::row(model, row);
     let change = Change {
         number: row.id,
         content: None,
@@ -227,9 +220,7 @@ pub(crate) fn rename(alloc: Global, model: &Catalog, old: &Name, new: Name) -> R
     requires { Accepts model.now.model (RenameRow old.now new) }
     ensures { IfOk result (Leads model.now.model (edited model.now.model (RenameRow old.now new))) }
 {
-    let Some(row) = model.row(old) else {
-        unreachable!()
-    };
+    let row = found::row(model, old);
     let listed = NameChange::new(row.id, Some(new.copy()?));
     let row = Row {
         id: row.id,

@@ -1,23 +1,14 @@
 -- Marks as bits of words.
-use Rattle.std.specs.Prelude.{◌≡◌, ◌≢◌, ℕ, ◌*◌, ◌/◌, ◌%◌, ◌^◌, ◌<◌, Bool, false, ◌||◌, ◌==◌, bit_or, List, length}
-use Rattle.std.proofs.Common.{arith, eq-eqb, get_or, get_or-set_other, get_or-set_same, inl, inr, ne_eqb, replicate, set, sym, ap, w64, ◌∙◌}
-use Rattle.std.proofs.lemmas.Bool.{cases_eq, cases_lt}
-use Rattle.std.proofs.lemmas.List.{get_or-replicate, get_or_past, length-replicate}
-use Rattle.std.proofs.lemmas.Nat.Bits.{bit_at-zero, bit_at_set_other, bit_at_set_same}
+use Rattle.std.specs.Prelude.{◌≡◌, ◌≢◌, ℕ, ◌*◌, ◌/◌, ◌%◌, ◌^◌, ◌<◌, Bool, true, false, ◌||◌, ◌&&◌, ◌==◌, bit_or, List, length, refl}
+use Rattle.std.proofs.Common.{arith, eq-eqb, get_or, get_or-set_other, get_or-set_same, inl, inr, ne_eqb, set, sym, ap, w64, ◌∙◌}
+use Rattle.std.proofs.lemmas.Bool.{cases_eq, false≢true}
+use Rattle.std.proofs.lemmas.Nat.Bits.{bit_at_set_other, bit_at_set_same}
 use Rattle.std.specs.Int.{bit_at}
+use Rattle.model_refusals.specs.declared.marks.Marks.{Marks}
+use Rattle.model_refusals.specs.Marked.{has_bit}
 
 abbrev bit_in : List ℕ → ℕ → Bool
 bit_in words n = bit_at (get_or words (n / 64) 0) (n % 64) == 1
-
-pub none_in : (size n : ℕ) → bit_in (replicate size 0) n ≡ false
-none_in size n = ap (λ w. bit_at w (n % 64) == 1) zero_there ∙ ap (λ b. b == 1) (bit_at-zero (n % 64))
-  where
-    zero_there : ◌≡◌ {A = ℕ} (get_or (replicate size 0) (n / 64) 0) 0
-    zero_there =
-        elim (cases_lt (n / 64) size) [
-          | inl within ↦ get_or-replicate size (n / 64) 0 0 within
-          | inr past ↦ get_or_past (replicate size 0) (n / 64) 0 (omega (arith, length-replicate {A = ℕ} size 0))
-        ]
 
 -- `words[k / 64] |= 1 << (k % 64)`
 module _ (words : List ℕ) (k n : ℕ) (within : k / 64 < length words) where
@@ -45,3 +36,40 @@ module _ (words : List ℕ) (k n : ℕ) (within : k / 64 < length words) where
             ∙ sym (ap (λ b. b || bit_in words n) (eq-eqb n k same))))
         | inr other ↦ others_stay other ∙ sym (ap (λ b. b || bit_in words n) (ne_eqb n k other))
       ]
+
+-- ---- three bits for a hash
+
+module _ (old one two three : Marks) (a b c : ℕ) (first : (n : ℕ) → has_bit one n ≡ ((n == a) || has_bit old n)) (second : (n : ℕ) → has_bit two n ≡ ((n == b) || has_bit one n)) (third : (n : ℕ) → has_bit three n ≡ ((n == c) || has_bit two n)) where
+  all_true : (p q r : Bool) → p ≡ true → q ≡ true → r ≡ true → (p && (q && r)) ≡ true
+  all_true p q r d e f = cc
+
+  right_true : (x y : Bool) → y ≡ true → (x || y) ≡ true
+  right_true true y e = refl
+  right_true false y e = e
+
+  from_one : (n : ℕ) → has_bit one n ≡ true → has_bit three n ≡ true
+  from_one n e = third n ∙ right_true (n == c) (has_bit two n) (second n ∙ right_true (n == b) (has_bit one n) e)
+
+  -- bits that were set stay
+  from_old : (n : ℕ) → has_bit old n ≡ true → has_bit three n ≡ true
+  from_old n e = from_one n (first n ∙ right_true (n == a) (has_bit old n) e)
+
+  pub three_set : (has_bit three a && (has_bit three b && has_bit three c)) ≡ true
+  three_set =
+      all_true (has_bit three a) (has_bit three b) (has_bit three c)
+      (from_one a (first a ∙ itself a (has_bit old a)))
+      (third b ∙ right_true (b == c) (has_bit two b) (second b ∙ itself b (has_bit one b)))
+      (third c ∙ itself c (has_bit two c))
+    where
+      itself : (n : ℕ) (y : Bool) → ((n == n) || y) ≡ true
+      itself n y = ap (λ x. x || y) (eq-eqb n n refl)
+
+  pub three_stay : (x y z : ℕ) → (has_bit old x && (has_bit old y && has_bit old z)) ≡ true → (has_bit three x && (has_bit three y && has_bit three z)) ≡ true
+  three_stay x y z e =
+      let parts = taken_apart (has_bit old x) (has_bit old y) (has_bit old z) e in
+      all_true (has_bit three x) (has_bit three y) (has_bit three z) (from_old x parts.0) (from_old y parts.1) (from_old z parts.2)
+    where
+      taken_apart : (p q r : Bool) → (p && (q && r)) ≡ true → (p ≡ true) × (q ≡ true) × (r ≡ true)
+      taken_apart true true r e = (refl, refl, e)
+      taken_apart true false r e = absurd (false≢true e)
+      taken_apart false q r e = absurd (false≢true e)

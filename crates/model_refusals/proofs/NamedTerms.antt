@@ -1,27 +1,25 @@
 -- How many terms a function by name has in a model that has its names.
-use Rattle.std.specs.Prelude.{◌≡◌, ℕ, ◌+◌, Bool, true, false, not, cond, List, [], ◌∷◌, map, filter, length, Some, None, count_by, unwrap_or, refl}
+use Rattle.std.specs.Prelude.{◌≡◌, ℕ, ◌+◌, Bool, true, false, not, cond, List, [], ◌∷◌, map, length, Some, None, count_by, refl}
 use Rattle.std.specs.List.{AllByRecursion, list_any}
 use Rattle.std.specs.Str.{bytes_eq}
 use Rattle.std.specs.FinMap as finite
-use Rattle.std.proofs.Common.{sym, ap, subst, inl, inr, ◌∙◌}
-use Rattle.std.proofs.lemmas.Bool.{both_ways, cases_Bool, not-false, or_parts}
-use Rattle.std.proofs.lemmas.Option.{same_Some}
+use Rattle.std.proofs.Common.{sym, ap, ◌∙◌}
+use Rattle.std.proofs.lemmas.Bool.{not-false, or_parts}
 use Rattle.std.proofs.lemmas.Map.Keys.{IsDistinct-head, IsDistinct-tail}
 use Rattle.std.proofs.lemmas.List.Sums.{length-filter, sum_by-cons}
-use Rattle.std.proofs.lemmas.Slice.Eq.{bytes_eq-Decides}
 use Rattle.numbered.specs.Numbered as numbered
 use Rattle.ratio_core.specs.Rational.{Rational, rational_eq, zero_ℚ}
-use Rattle.aff_core.specs.Address.{Address, address_cmp, address_eq, address_eq-Decides, address_total}
+use Rattle.aff_core.specs.Address.{Address, address_cmp, address_total}
 use Rattle.aff_core.specs.Function.{gathered}
 use Rattle.aff_core.specs.FunctionLaws.{entries_rise, terms-function_of}
 use Rattle.aff_core.specs.Terms.{is_nonzero}
 use Rattle.named_aff.specs.Distinct.{HasDistinctNames}
 use Rattle.named_aff.specs.declared.aff.NamedAff.{NamedAff}
 use Rattle.named_aff.specs.declared.terms.NamedTerm.{NamedTerm}
-use Rattle.user_model.specs.Consistent.{IsConsistent, variable_number}
+use Rattle.user_model.specs.Consistent.{IsConsistent}
 use Rattle.user_model.specs.Edited.{affine}
 use Rattle.user_model.specs.Functions.{names_of, term_count}
-use Rattle.user_model.specs.Model.{ModelValue, address_named, variable_named, variables}
+use Rattle.user_model.specs.Model.{ModelValue, address_named}
 use Rattle.user_model.specs.Refusals.{has_variable_named}
 use Rattle.model_laws.specs.DistinctTerms.{apart}
 use Rattle.map_laws.specs.MadeLaws.{entries_empty}

@@ -1,18 +1,17 @@
 -- Names that stand twice, as they are found by going over the names, with marks for the hashes of those that were seen.
-use Rattle.std.specs.Prelude.{◌≡◌, ℕ, ◌+◌, ◌<◌, ◌≤◌, Bool, true, false, ◌||◌, ◌==◌, List, [], ◌∷◌, drop, length, slice_get, Some, take, refl}
-use Rattle.std.proofs.Common.{arith, drop_of_length-le, eq-eqb, inl, inr, sym, ap, ◌∙◌}
-use Rattle.std.proofs.lemmas.Bool.{cases_Bool, false≢true}
+use Rattle.std.specs.Prelude.{◌≡◌, ℕ, zero, suc, ◌+◌, ◌%◌, ◌==◌, ◌<◌, ◌≤◌, Bool, true, false, ◌||◌, List, [], ◌∷◌, length, slice_get, Some, refl}
+use Rattle.std.proofs.Common.{arith, eq-eqb, inl, inr, sym, ap, ◌∙◌}
+use Rattle.std.proofs.lemmas.Bool.{cases_Bool, cases_eq, false≢true}
 use Rattle.std.proofs.lemmas.List.Folds.{list_any_more}
-use Rattle.std.proofs.lemmas.Option.{get_or_from_slice_get, slice_get_within}
+use Rattle.std.proofs.lemmas.Option.{get_or_from_slice_get, same_Some, slice_get_within}
 use Rattle.std.proofs.lemmas.Slice.Eq.{bytes_eq-Decides}
 use Rattle.std.specs.Cmp.Lexicographic.{nat_list_eq_equiv}
 use Rattle.std.specs.List.{list_any}
 use Rattle.std.specs.Str.{bytes_eq}
 use Rattle.user_model.specs.Refusals.{has_twins}
 use Rattle.model_refusals.specs.declared.marks.Marks.{Marks}
-use Rattle.model_refusals.specs.Hash.{hash_of}
+use Rattle.model_refusals.specs.Hash.{AreNew, hash_of, is_seen}
 use Rattle.model_refusals.specs.Marked.{is_marked}
-use Rattle.map_laws.specs.PlaceLaws.{drop_at}
 
 -- fewer than two names
 pub no_twins : (names : List (List ℕ)) → length names < 2 → false ≡ has_twins names
@@ -20,84 +19,125 @@ no_twins [] few = refl
 no_twins (name ∷ []) few = refl
 no_twins (name ∷ other ∷ names) few = absurd (omega arith)
 
--- the name is one of those before the place
-abbrev pub is_seen : List (List ℕ) → ℕ → List ℕ → Bool
-is_seen names place name = list_any (bytes_eq name) (take place names)
+either : (a b : Bool) → (a || b) ≡ true → (a ≡ true → ⊥) → b ≡ true
+either true b e not = absurd (not refl)
+either false b e not = e
 
-pub record IsAt (names : List (List ℕ)) (place : ℕ) (marks : Marks) : Type 0 where
-  -- what is left has twins, among itself or with what was seen, where all has
-  pub left : (list_any (is_seen names place) (drop place names) || has_twins (drop place names)) ≡ has_twins names
-  -- the hash of each name that was seen is marked
-  pub marked : (name : List ℕ) → is_seen names place name ≡ true → is_marked marks (hash_of name) ≡ true
+right_true : (a b : Bool) → b ≡ true → (a || b) ≡ true
+right_true true b e = refl
+right_true false b e = e
 
-none_seen : (xs : List (List ℕ)) (b : Bool) → (list_any (λ q. false) xs || b) ≡ b
-none_seen [] b = refl
-none_seen (x ∷ xs) b = none_seen xs b
+both_false : (a b : Bool) → a ≡ false → b ≡ false → (a || b) ≡ false
+both_false a b e f = cc
 
-pub at_start : (names : List (List ℕ)) (marks : Marks) → IsAt names 0 marks
-at_start names marks = record {
-  left = none_seen names (has_twins names);
-  marked = λ name seen. absurd (false≢true seen);
-}
+-- some name passes a test that a name passes
+passes_at : (p : List ℕ → Bool) (names : List (List ℕ)) (place : ℕ) (name : List ℕ) → slice_get names place ≡ Some name → p name ≡ true → list_any p names ≡ true
+passes_at p [] place name at e = cc
+passes_at p (q ∷ qs) zero name at e = ap (λ b. b || list_any p qs) (ap p (same_Some q name at) ∙ e)
+passes_at p (q ∷ qs) (suc place) name at e = right_true (p q) (list_any p qs) (passes_at p qs place name at e)
 
-pub at_end : (names : List (List ℕ)) (place : ℕ) (marks : Marks) → length names ≤ place → IsAt names place marks → false ≡ has_twins names
-at_end names place marks past at = sym (ap (λ ns. list_any (is_seen names place) ns || has_twins ns) (drop_of_length-le names past)) ∙ at.left
+-- a name that stands before stands twice
+pub twin_at : (names : List (List ℕ)) (place : ℕ) (name : List ℕ) → slice_get names place ≡ Some name → is_seen names place name ≡ true → has_twins names ≡ true
+twin_at [] place name at seen = cc
+twin_at (q ∷ qs) zero name at seen = absurd (false≢true seen)
+twin_at (q ∷ qs) (suc place) name at seen =
+    elim (cases_Bool (bytes_eq name q)) [
+      | inl same ↦ ap (λ b. b || has_twins qs) (passes_at (bytes_eq q) qs place name at (nat_list_eq_equiv.symm q name ∙ same))
+      | inr other ↦ right_true (list_any (bytes_eq q) qs) (has_twins qs) (twin_at qs place name at (either (bytes_eq name q) (is_seen qs place name) seen (λ e. false≢true (sym other ∙ e))))
+    ]
 
--- where one name more was seen, the names that were seen or equal it
-any_seen : (old new : List ℕ → Bool) (name : List ℕ) → ((q : List ℕ) → new q ≡ (old q || bytes_eq q name)) → (names : List (List ℕ)) → list_any new names ≡ (list_any (bytes_eq name) names || list_any old names)
-any_seen old new name h [] = refl
-any_seen old new name h (q ∷ qs) = ap (λ b. b || list_any new qs) (h q ∙ ap (λ b. old q || b) (nat_list_eq_equiv.symm q name)) ∙ (ap (λ b. (old q || bytes_eq name q) || b) (any_seen old new name h qs) ∙ swapped (old q) (bytes_eq name q) (list_any (bytes_eq name) qs) (list_any old qs))
-  where
-    swapped : (a b c d : Bool) → (a || b) || (c || d) ≡ (b || c) || (a || d)
-    swapped true true c d = refl
-    swapped true false true d = refl
-    swapped true false false d = refl
-    swapped false true c d = refl
-    swapped false false c d = refl
+-- no name passes a test that none at a place passes
+passes_nowhere : (p : List ℕ → Bool) (names : List (List ℕ)) → ((place : ℕ) (name : List ℕ) → slice_get names place ≡ Some name → p name ≡ false) → list_any p names ≡ false
+passes_nowhere p [] none = refl
+passes_nowhere p (q ∷ qs) none = both_false (p q) (list_any p qs) (none zero q refl) (passes_nowhere p qs (λ place. none (suc place)))
 
-module _ (names : List (List ℕ)) (place : ℕ) (name : List ℕ) (marks : Marks) (here : slice_get names place ≡ Some name) (at : IsAt names place marks) where
-  abbrev rest : List (List ℕ)
-  rest = drop (place + 1) names
+left_false : (a b : Bool) → (a || b) ≡ false → a ≡ false
+left_false true b e = e
+left_false false b e = refl
 
-  split : (list_any (is_seen names place) (name ∷ rest) || has_twins (name ∷ rest)) ≡ has_twins names
-  split = sym (ap (λ ns. list_any (is_seen names place) ns || has_twins ns) (drop_at place name names here)) ∙ at.left
+right_false : (a b : Bool) → (a || b) ≡ false → b ≡ false
+right_false true b e = absurd (false≢true (sym e))
+right_false false b e = e
 
-  pub twin_found : is_seen names place name ≡ true → true ≡ has_twins names
-  twin_found seen = sym (ap (λ b. (b || list_any (is_seen names place) rest) || has_twins (name ∷ rest)) seen) ∙ split
+-- names none of which stands before are no twins
+pub all_new : (names : List (List ℕ)) → ((place : ℕ) (name : List ℕ) → slice_get names place ≡ Some name → is_seen names place name ≡ false) → has_twins names ≡ false
+all_new [] new = refl
+all_new (q ∷ qs) new =
+    both_false (list_any (bytes_eq q) qs) (has_twins qs)
+    (passes_nowhere (bytes_eq q) qs (λ place name at. nat_list_eq_equiv.symm q name ∙ left_false (bytes_eq name q) (is_seen qs place name) (new (suc place) name at)))
+    (all_new qs (λ place name at. right_false (bytes_eq name q) (is_seen qs place name) (new (suc place) name at)))
 
-  -- a name whose hash isn't marked is new
-  pub new_by_mark : is_marked marks (hash_of name) ≡ false → is_seen names place name ≡ false
-  new_by_mark unmarked =
-      elim (cases_Bool (is_seen names place name)) [
-        | inl seen ↦ absurd (false≢true (sym unmarked ∙ at.marked name seen))
-        | inr new ↦ new
-      ]
+-- ---- the names of one part
 
-  seen_more : (q : List ℕ) → is_seen names (place + 1) q ≡ (is_seen names place q || bytes_eq q name)
-  seen_more q =
-      list_any_more (bytes_eq q) names place name (slice_get_within names place name here)
-      ∙ ap (λ n. is_seen names place q || bytes_eq q n) (get_or_from_slice_get names place name name here)
+pub record IsAt (names : List (List ℕ)) (of_part : ℕ → Bool) (place : ℕ) (marks : Marks) : Type 0 where
+  -- those that were seen stood not before
+  pub new : (before : ℕ) (name : List ℕ) → before < place → slice_get names before ≡ Some name → of_part (hash_of name) ≡ true → is_seen names before name ≡ false
+  -- and their hashes are marked
+  pub marked : (name : List ℕ) → is_seen names place name ≡ true → of_part (hash_of name) ≡ true → is_marked marks (hash_of name) ≡ true
 
-  -- one name more was seen, and is marked
-  pub one_more : (new : Marks) → is_seen names place name ≡ false → ((n : ℕ) → is_marked new n ≡ ((n == hash_of name) || is_marked marks n)) → IsAt names (place + 1) new
-  one_more new unseen put = record {
-    left =
-        ap (λ b. b || has_twins rest) (any_seen (is_seen names place) (is_seen names (place + 1)) name seen_more rest)
-        ∙ (arranged (list_any (bytes_eq name) rest) (list_any (is_seen names place) rest) (has_twins rest)
-        ∙ (ap (λ b. (b || list_any (is_seen names place) rest) || has_twins (name ∷ rest)) (sym unseen) ∙ split));
-    marked = λ q seen.
-        put (hash_of q)
-        ∙ either (is_seen names place q) (bytes_eq q name) (hash_of q == hash_of name) (is_marked marks (hash_of q)) (at.marked q) (λ e. eq-eqb (hash_of q) (hash_of name) (ap hash_of ((bytes_eq-Decides q name).0 e))) (sym (seen_more q) ∙ seen);
+module _ (names : List (List ℕ)) (of_part : ℕ → Bool) where
+  pub at_start : (marks : Marks) → IsAt names of_part 0 marks
+  at_start marks = record {
+    new = λ before name lt. absurd (omega (arith, lt));
+    marked = λ name seen. absurd (false≢true seen);
   }
-    where
-      arranged : (a b c : Bool) → (a || b) || c ≡ b || (a || c)
-      arranged true true c = refl
-      arranged true false c = refl
-      arranged false true c = refl
-      arranged false false c = refl
 
-      either : (a b c d : Bool) → (a ≡ true → d ≡ true) → (b ≡ true → c ≡ true) → (a || b) ≡ true → (c || d) ≡ true
-      either a b true d f g e = refl
-      either true b false d f g e = f refl
-      either false true false d f g e = absurd (false≢true (g refl))
-      either false false false d f g e = absurd (false≢true e)
+  pub at_end : (place : ℕ) (marks : Marks) → length names ≤ place → IsAt names of_part place marks → AreNew names of_part
+  at_end place marks past at = λ before name here. at.new before name (omega (arith, past, slice_get_within names before name here)) here
+
+  module _ (place : ℕ) (name : List ℕ) (marks : Marks) (here : slice_get names place ≡ Some name) (at : IsAt names of_part place marks) where
+    -- a name whose hash isn't marked is new
+    pub new_by_mark : of_part (hash_of name) ≡ true → is_marked marks (hash_of name) ≡ false → is_seen names place name ≡ false
+    new_by_mark of_this unmarked =
+        elim (cases_Bool (is_seen names place name)) [
+          | inl seen ↦ absurd (false≢true (sym unmarked ∙ at.marked name seen of_this))
+          | inr new ↦ new
+        ]
+
+    seen_more : (q : List ℕ) → is_seen names (place + 1) q ≡ (is_seen names place q || bytes_eq q name)
+    seen_more q =
+        list_any_more (bytes_eq q) names place name (slice_get_within names place name here)
+        ∙ ap (λ n. is_seen names place q || bytes_eq q n) (get_or_from_slice_get names place name name here)
+
+    -- one name more was seen
+    pub one_more : (after : Marks) → (of_part (hash_of name) ≡ true → is_seen names place name ≡ false) → (of_part (hash_of name) ≡ true → is_marked after (hash_of name) ≡ true) → ((n : ℕ) → is_marked marks n ≡ true → is_marked after n ≡ true) → IsAt names of_part (place + 1) after
+    one_more after unseen put kept = record {
+      new = λ before q lt there of_this.
+          elim (cases_eq before place) [
+            | inl same ↦ up_to before q same there of_this
+            | inr other ↦ at.new before q (omega (arith, lt, other)) there of_this
+          ];
+      marked = λ q seen of_this.
+          elim (cases_Bool (bytes_eq q name)) [
+            | inl same ↦ let is = (bytes_eq-Decides q name).0 same in ap (λ n. is_marked after (hash_of n)) is ∙ put (ap (λ n. of_part (hash_of n)) (sym is) ∙ of_this)
+            | inr other ↦ kept (hash_of q) (at.marked q (before_it (is_seen names place q) (bytes_eq q name) other (sym (seen_more q) ∙ seen)) of_this)
+          ];
+    }
+      where
+        before_it : (a b : Bool) → b ≡ false → (a || b) ≡ true → a ≡ true
+        before_it true b f e = refl
+        before_it false b f e = sym f ∙ e
+
+        up_to : (before : ℕ) (q : List ℕ) → before ≡ place → slice_get names before ≡ Some q → of_part (hash_of q) ≡ true → is_seen names before q ≡ false
+        up_to before q same there of_this =
+            let is : q ≡ name = same_Some q name (sym there ∙ (ap (slice_get names) same ∙ here)) in
+            ap (λ k. is_seen names k q) same ∙ (ap (is_seen names place) is ∙ unseen (ap (λ n. of_part (hash_of n)) (sym is) ∙ of_this))
+
+-- ---- all parts
+
+-- the names of the parts so far are new
+abbrev pub AreNewBelow : List (List ℕ) → ℕ → ℕ → Type 0
+AreNewBelow names parts part = (place : ℕ) (name : List ℕ) → slice_get names place ≡ Some name → hash_of name % parts < part → is_seen names place name ≡ false
+
+pub no_part : (names : List (List ℕ)) (parts : ℕ) → AreNewBelow names parts 0
+no_part names parts = λ place name here lt. absurd (omega (arith, lt))
+
+pub part_more : (names : List (List ℕ)) (parts part : ℕ) → AreNewBelow names parts part → AreNew names (λ hash. hash % parts == part) → AreNewBelow names parts (part + 1)
+part_more names parts part below this = λ place name here lt.
+    elim (cases_eq (hash_of name % parts) part) [
+      | inl same ↦ this place name here (eq-eqb (hash_of name % parts) part same)
+      | inr other ↦ below place name here (omega (arith, lt, other))
+    ]
+
+pub each_part : (names : List (List ℕ)) (parts part : ℕ) → 0 < parts → parts ≤ part → AreNewBelow names parts part → false ≡ has_twins names
+each_part names parts part some all below = sym (all_new names (λ place name here. below place name here (omega (arith, some, all))))

@@ -1,13 +1,10 @@
 -- The counts of a model after an edit, by those before it.
-use Rattle.std.specs.Prelude.{◌≡◌, ◌≢◌, ℕ, zero, suc, ◌+◌, ◌-◌, ◌≤◌, cond, List, [], ◌∷◌, ◌++◌, All, AllPairs, find, map, slice_get, sum, sum_by, Some, refl}
+use Rattle.std.specs.Prelude.{◌≡◌, ℕ, zero, suc, ◌+◌, ◌-◌, ◌≤◌, List, [], ◌∷◌, ◌++◌, map, slice_get, sum, sum_by, Some, refl}
 use Rattle.std.specs.Option.{option_map_or}
 use Rattle.std.specs.Str.{bytes_eq}
-use Rattle.std.proofs.Common.{arith, sym, ap, ap₂, subst, inl, inr, ◌∙◌}
-use Rattle.std.proofs.lemmas.Bool.{cases_Bool}
+use Rattle.std.proofs.Common.{arith, ap, ap₂, subst, ◌∙◌}
 use Rattle.std.proofs.lemmas.Option.{same_Some}
-use Rattle.std.proofs.lemmas.List.Elements.{All-head, All-tail}
 use Rattle.std.proofs.lemmas.List.Sums.{get_or-le-sum_by, sum_by_push, sum_by-cons}
-use Rattle.std.proofs.lemmas.Slice.Eq.{bytes_eq-Decides}
 use Rattle.numbered.specs.Numbered as numbered
 use Rattle.numbered.specs.Numbered.{put}
 use Rattle.ratio_core.specs.Rational.{Rational}
@@ -31,9 +28,7 @@ use Rattle.model_laws.specs.Changed.{change_row-found}
 use Rattle.model_laws.specs.ChangedRow.{row_named-put}
 use Rattle.model_laws.specs.Found.{found_stands}
 use Rattle.model_laws.specs.KeptRows.{row_terms}
-use Rattle.model_laws.specs.Located.{row_by_number, row_name}
-use Rattle.model_laws.specs.Pairs.{AllPairs-before}
-use Rattle.model_laws.specs.Replaced.{replaced}
+use Rattle.model_laws.specs.Located.{row_by_number}
 use Rattle.model_laws.specs.ByName.{affine_bounds, function_change, output_bounds}
 use Rattle.model_refusals.specs.WellFormed.{with_change}
 use Rattle.model_refusals.proofs.ChangedTerms.{sum-changed_at}

@@ -1,34 +1,53 @@
-//! A set of numbers of 16 bits, which takes no memory but its own.
-ghost use Rattle.std.specs.Prelude.{◌≡◌, ℕ, ◌||◌, ◌==◌, false};
+//! A set of hashes, which takes no memory but its own.
+ghost use Rattle.std.specs.Prelude.{◌≡◌, ℕ, ◌<◌, ◌||◌, ◌==◌, true};
 
-const WORDS: usize = 1024;
+const WORDS: usize = 8192;
 
-/// Marks for the numbers of 16 bits, a bit for each.
+const BITS: u64 = 524_288;
+
+/// Bits, of which each hash that was put has three.
 #[derive(Drop)]
 pub(crate) struct Marks {
     words: [u64; WORDS],
 }
 
 impl Marks {
-    ghost use Rattle.model_refusals.specs.Marked.{is_marked};
+    ghost use Rattle.model_refusals.specs.Marked.{has_bit, is_marked};
 
-    /// No number is marked.
-    pub(crate) fn new() -> Marks
-        ensures { (n : ℕ) → is_marked result n ≡ false }
-    {
+    /// No bit is set.
+    pub(crate) fn new() -> Marks {
         Marks { words: [0; WORDS] }
     }
 
-    pub(crate) fn has(&self, number: u16) -> bool
-        ensures { result ≡ is_marked self.now number }
+    /// Whether the hash may have been put, as it is of each that was.
+    pub(crate) fn has(&self, hash: u64) -> bool
+        ensures { result ≡ is_marked self.now hash }
     {
-        (self.words[usize::from(number / 64)] >> (number % 64)) & 1 == 1
+        self.has_bit((hash >> 45) % BITS)
+            && self.has_bit((hash >> 26) % BITS)
+            && self.has_bit((hash >> 7) % BITS)
     }
 
-    /// Marks the number.
-    pub(crate) fn put(&mut self, number: u16)
-        ensures { (n : ℕ) → is_marked self.new n ≡ (n == number || is_marked self.old n) }
+    pub(crate) fn put(&mut self, hash: u64)
+        ensures put { is_marked self.new hash ≡ true }
+        ensures kept { (other : ℕ) → is_marked self.old other ≡ true → is_marked self.new other ≡ true }
     {
-        self.words[usize::from(number / 64)] |= 1 << (number % 64);
+        self.put_bit((hash >> 45) % BITS);
+        self.put_bit((hash >> 26) % BITS);
+        self.put_bit((hash >> 7) % BITS);
+    }
+
+    fn has_bit(&self, place: u64) -> bool
+        requires { place < 524288 }
+        ensures { result ≡ has_bit self.now place }
+    {
+        (self.words[(place / 64) as usize] >> (place % 64)) & 1 == 1
+    }
+
+    fn put_bit(&mut self, place: u64)
+        requires { place < 524288 }
+        ensures { (n : ℕ) → has_bit self.new n ≡ (n == place || has_bit self.old n) }
+    {
+        self.words[(place / 64) as usize] |= 1 << (place % 64);
     }
 }

@@ -97,11 +97,11 @@ pub(crate) fn park(
     ensures parked { IsParked parked.new.items reserved.names catalog.new.room }
 {
     let mut with = plan.exchange;
-    let mut listing = plan.names;
-    catalog.exchange(&mut with, &mut listing);
-    let variables = catalog.variable_count() + put_count(&listing.variables);
+    let mut listed = plan.names;
+    catalog.exchange(&mut with, &mut listed);
+    let variables = catalog.variable_count() + put_count(&listed.variables);
     let entry = Parked {
-        names: listing,
+        names: listed,
         groups: reserved.groups,
         rows: reserved.rows,
         variables,

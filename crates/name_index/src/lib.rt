@@ -13,6 +13,3 @@ pub type Names = lists::Sequence<Name>;
 
 /// Text as bytes.
 pub type Text = lists::Sequence<u8>;
-
-#[cfg(test)]
-mod tests;

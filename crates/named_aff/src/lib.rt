@@ -6,6 +6,3 @@ mod terms;
 
 pub use aff::{NamedAff, NamedVec};
 pub use terms::{NamedTerm, NamedTerms};
-
-#[cfg(test)]
-mod tests;

@@ -1,6 +1,5 @@
 //! Terms by name, in the order of first mention.
-ghost use Rattle.std.specs.Prelude.{◌≡◌, ◌↔◌, [], ◌∷◌, ◌++◌, length, slice_get, IsTrue, IfErr, OnOk, OnErr};
-ghost use Rattle.std.specs.Option.{option_copied};
+ghost use Rattle.std.specs.Prelude.{◌≡◌, [], ◌∷◌, ◌++◌, IfErr, OnOk, OnErr};
 ghost use Rattle.named_aff.specs.Distinct.{HasDistinctNames};
 
 use lists::{Duplicate, Memory, Sequence};
@@ -26,7 +25,8 @@ impl Duplicate for NamedTerm {
     }
 }
 
-/// Terms of distinct variables in the order of their first mention, which contracts see as the list of them.
+/// Terms of distinct variables in the order of their first mention, which contracts see as the
+/// list of them.
 #[derive(Debug, Drop)]
 pub struct NamedTerms {
     items: Sequence<NamedTerm>,
@@ -62,27 +62,6 @@ impl NamedTerms {
         ensures handed_back { IfErr result (λ refused. refused.0 ≡ term) }
     {
         self.items.push(term)
-    }
-
-    /// How many terms there are.
-    pub fn len(&self) -> usize
-        ensures { result ≡ length self.now }
-    {
-        self.items.len()
-    }
-
-    /// Whether there is no term.
-    pub fn is_empty(&self) -> bool
-        ensures { IsTrue result ↔ (self.now ≡ []) }
-    {
-        self.items.is_empty()
-    }
-
-    /// The term at a place, and none past the end.
-    pub fn get(&self, place: usize) -> Option<&NamedTerm>
-        ensures { option_copied result ≡ slice_get self.now place }
-    {
-        self.items.get(place)
     }
 
     /// All terms. No two of them are of one variable.

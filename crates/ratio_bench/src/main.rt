@@ -1,5 +1,6 @@
-// Runs one operation on fractions many times, and prints a checksum of the results: `ratio_bench add small 1000`. Or runs
-// all on many operands, once each: `ratio_bench check small 1 1000`, with the seed of the operands and their count.
+// Runs one operation on fractions many times, and prints a checksum of the results: `ratio_bench
+// add small 1000`. Or runs all on many operands, once each: `ratio_bench check small 1 1000`, with
+// the seed of the operands and their count.
 #![tactic(auto)]
 
 mod draw;

@@ -1,5 +1,5 @@
 -- The greatest common divisor by halves and differences.
-use Rattle.std.proofs.Common.{◌≡◌, ◌≢◌, ℕ, zero, suc, ◌+◌, ◌-◌, ◌*◌, ◌/◌, ◌%◌, ◌^◌, ◌<◌, ◌≤◌, ◌⊎◌, inl, inr, sym, ◌∙◌, ap, ap₂, subst, arith, min, mul-le-mul_left, pow-suc, mul-div_cancel}
+use Rattle.std.proofs.Common.{◌≡◌, ◌≢◌, ℕ, zero, suc, ◌+◌, ◌-◌, ◌*◌, ◌/◌, ◌%◌, ◌^◌, ◌<◌, ◌≤◌, ◌⊎◌, inl, inr, sym, ◌∙◌, ap, ap₂, subst, arith, min, pow-suc, mul-div_cancel}
 use Rattle.std.proofs.Math.Nat.{dvd_antisymm, dvd_trans, dvd-mul_right, dvd_refl, le_of_mul-le-mul_right, mod-eq_of_lt, add-mod_right}
 use Rattle.std.proofs.lemmas.Bool.{cases_lt}
 use Rattle.std.proofs.lemmas.Nat.{mod-pow-add, pow_pos, div-add-mod', pow-add}
@@ -70,16 +70,6 @@ gcd-step a b next odd_a odd_b part = by_order (cases_lt a b)
         let least : min a b ≡ b = omega arith in
         let whole : abs_diff a b ≡ a - b = omega arith in
         ap (λ x. gcd x next) least ∙ step_lem a b next odd_b h (subst (λ n. IsOddPart n next) whole part)
-
--- an odd part is at most half of an even number
-pub odd_part_below : (n odd : ℕ) → n % 2 ≡ 0 → IsOddPart n odd → odd + odd ≤ n
-odd_part_below n odd even part = by_zeros part.zeros part.whole
-  where
-    by_zeros : (k : ℕ) → n ≡ odd * 2 ^ k → odd + odd ≤ n
-    by_zeros zero e = absurd (omega (arith, e, part.is_odd))
-    by_zeros (suc k) e =
-        let more : odd * 1 ≤ odd * 2 ^ k = mul-le-mul_left odd (pow_pos k) in
-        omega (arith, ap (λ x. odd * x) (pow-suc 2 k))
 
 -- ---- the first step: both numbers without their factors of 2
 

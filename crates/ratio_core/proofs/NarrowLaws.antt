@@ -1,17 +1,17 @@
 -- Sums and products of narrow fractions, as the code makes them.
-use Rattle.std.proofs.Common.{◌≡◌, ℕ, ◌*◌, ◌/◌, ◌^◌, ◌<◌, ◌≤◌, true, ℤ, pos, ◌+ℤ◌, ◌*ℤ◌, unsigned_abs, refl, sym, ◌∙◌, ap, ap₂, subst, arith, div-le_self, div-one, bit_or, leb, SFits, of_z, to_z, to_z-of_z}
-use Rattle.std.proofs.lemmas.Int.{ints}
-use mir.Syntax.{w128}
+use Rattle.std.proofs.Common.{◌≡◌, ℕ, ◌*◌, ◌/◌, ◌^◌, ◌<◌, ◌≤◌, true, Bool, not, ℤ, pos, ◌+ℤ◌, ◌*ℤ◌, unsigned_abs, refl, sym, ◌∙◌, ap, ap₂, subst, arith, div-le_self, div-one, bit_or, leb}
 use Rattle.std.proofs.lemmas.Bool.{leb-true}
 use Rattle.std.proofs.lemmas.Nat.{le_or_l, le_or_r, mul-le}
+use Rattle.std.specs.Bool.{beq}
 use Rattle.std.specs.Int.{is_negative}
 use borrow.Author.Differences.{same_in}
 use Rattle.ratio_core.specs.Gcd.{gcd, gcd-one}
 use Rattle.ratio_core.specs.Narrow.{IsNarrow}
-use Rattle.ratio_core.specs.Rational.{Fits, IsStored, Rational, SumFits, reduce, signed, ◌+ℚ◌}
+use Rattle.ratio_core.specs.Rational.{Fits, IsStored, Rational, SumFits, reduce, signed, ◌*ℚ◌, ◌+ℚ◌}
 use Rattle.ratio_core.specs.RationalLaws.{times_is}
-use Rattle.ratio_core.proofs.Products.{signed_itself, signed_times}
-use Rattle.ratio_core.proofs.Sums.{made_fits, made_stored, made_value, sum_refused}
+use Rattle.ratio_core.proofs.Products.{signed_itself, signed_product, signed_times}
+use Rattle.ratio_core.proofs.Products as product
+use Rattle.ratio_core.proofs.Sums.{made_fits, made_stored, made_value}
 
 pub small_product : (a b : ℕ) → a < 2 ^ 63 → b < 2 ^ 63 → a * b < 2 ^ 127
 small_product a b h k =
@@ -26,9 +26,6 @@ fits_along y z e h = subst (λ n. unsigned_abs n < 2 ^ 127) (sym e) h
 
 pub short_along : (y z : ℤ) → y ≡ z → unsigned_abs z < 2 ^ 126 → unsigned_abs y < 2 ^ 126
 short_along y z e h = subst (λ n. unsigned_abs n < 2 ^ 126) (sym e) h
-
-pub back_is : (z : ℤ) → unsigned_abs z < 2 ^ 127 → to_z w128 (of_z w128 z) ≡ z
-back_is z h = let range : SFits w128 z = omega (arith, ints, h) in to_z-of_z range
 
 -- one test of all bits
 pub narrow_by_bits : (p q : Rational) (ps qs pd qd : ℕ) → ps ≡ unsigned_abs p.num → qs ≡ unsigned_abs q.num → pd ≡ p.den → qd ≡ q.den → leb (bit_or (bit_or ps qs) (bit_or pd qd)) 9223372036854775807 ≡ true → IsNarrow p × IsNarrow q
@@ -105,13 +102,6 @@ module _ (p q : Rational) (whole_p : p.den ≡ 1) (whole_q : q.den ≡ 1) (a b z
       narrow_sum_value p q 1 1 1 1 1 (sym whole_p) (sym whole_q) (sym (gcd-one 1)) refl refl a b z z a_is b_is products_lem refl
       (unsigned_abs z) 1 1 refl (sym (gcd-one (unsigned_abs z))) refl z v itself_lem v_is
 
-  pub whole_sum_refused : ¬ (unsigned_abs z < 2 ^ 127) → ¬ SumFits p q
-  whole_sum_refused h f =
-      sum_refused p q 1 1 1 1 1 (unsigned_abs p.num) (unsigned_abs q.num) (sym whole_p) (sym whole_q) (sym (gcd-one 1)) refl refl refl refl
-      (is_negative p.num) (is_negative q.num) (is_negative z) (unsigned_abs p.num * 1) (unsigned_abs q.num * 1) (unsigned_abs z) refl refl refl refl
-      (sum_lem p q 1 1 1 1 1 (sym whole_p) (sym whole_q) (sym (gcd-one 1)) refl refl a b z z a_is b_is products_lem refl (unsigned_abs z) 1 1 refl (sym (gcd-one (unsigned_abs z))) refl)
-      (omega (arith, h)) f
-
   module _ (fits_p : Fits p) (fits_q : Fits q) (fits : unsigned_abs z < 2 ^ 127) where
     pub whole_sum_stored : IsStored v 1
     whole_sum_stored =
@@ -122,3 +112,47 @@ module _ (p q : Rational) (whole_p : p.den ≡ 1) (whole_q : q.den ≡ 1) (a b z
     whole_sum_fits =
         sum_fits_all p q 1 1 1 1 1 (sym whole_p) (sym whole_q) (sym (gcd-one 1)) refl refl a b z z a_is b_is products_lem refl
         (unsigned_abs z) 1 1 refl (sym (gcd-one (unsigned_abs z))) refl z v itself_lem v_is (omega (arith, fits_p.num)) (omega (arith, fits_q.num)) fits (omega arith)
+
+-- ---- products of whole numbers: v is the product z after it went to bits and back
+
+module _ (p q : Rational) (whole_p : p.den ≡ 1) (whole_q : q.den ≡ 1) (a b z v : ℤ) (a_is : a ≡ p.num) (b_is : b ≡ q.num) (z_is : z ≡ a *ℤ b) (v_is : v ≡ z) where
+  abbrev sign : Bool
+  sign = not (beq (is_negative p.num) (is_negative q.num))
+
+  abbrev size : ℕ
+  size = unsigned_abs p.num * unsigned_abs q.num
+
+  signed_lem : v ≡ signed sign size
+  signed_lem = v_is ∙ z_is ∙ ap₂ ◌*ℤ◌ a_is b_is ∙ signed_product p.num q.num
+
+  whole_gcd : (n d : ℕ) → d ≡ 1 → 1 ≡ gcd n d
+  whole_gcd n d e = sym (ap (gcd n) e ∙ gcd-one n)
+
+  over_one : (n : ℕ) → n ≡ n / 1
+  over_one n = sym (div-one n)
+
+  whole_over : (d : ℕ) → d ≡ 1 → 1 ≡ d / 1
+  whole_over d e = sym (div-one d ∙ e)
+
+  pub whole_product_value : reduce v 1 ≡ p *ℚ q
+  whole_product_value =
+      ap (λ n. reduce n 1) signed_lem
+      ∙ product.made_value p q (unsigned_abs p.num) p.den (unsigned_abs q.num) q.den 1 1 (unsigned_abs p.num) (unsigned_abs q.num) 1 1 refl refl refl refl
+      (whole_gcd _ q.den whole_q) (whole_gcd _ p.den whole_p) (over_one _) (over_one _) (whole_over p.den whole_p) (whole_over q.den whole_q)
+      (is_negative p.num) (is_negative q.num) sign size 1 refl refl refl refl refl
+
+  module _ (narrow_p : IsNarrow p) (narrow_q : IsNarrow q) where
+    pub whole_product_stored : IsStored v 1
+    whole_product_stored =
+        subst (λ n. IsStored n 1) (sym signed_lem)
+        (product.made_stored p q (unsigned_abs p.num) p.den (unsigned_abs q.num) q.den 1 1 (unsigned_abs p.num) (unsigned_abs q.num) 1 1 refl refl refl refl
+        (whole_gcd _ q.den whole_q) (whole_gcd _ p.den whole_p) (over_one _) (over_one _) (whole_over p.den whole_p) (whole_over q.den whole_q)
+        (is_negative p.num) (is_negative q.num) sign size 1 refl refl refl refl refl
+        (small_product _ _ narrow_p.num narrow_q.num) (omega arith))
+
+    pub whole_product_fits : Fits (p *ℚ q)
+    whole_product_fits =
+        product.made_fits p q (unsigned_abs p.num) p.den (unsigned_abs q.num) q.den 1 1 (unsigned_abs p.num) (unsigned_abs q.num) 1 1 refl refl refl refl
+        (whole_gcd _ q.den whole_q) (whole_gcd _ p.den whole_p) (over_one _) (over_one _) (whole_over p.den whole_p) (whole_over q.den whole_q)
+        (is_negative p.num) (is_negative q.num) sign size 1 refl refl refl refl refl
+        (small_product _ _ narrow_p.num narrow_q.num) (omega arith)

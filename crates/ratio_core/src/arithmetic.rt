@@ -1,5 +1,6 @@
 // Sums, products and quotients, exact or refused.
 ghost use Rattle.std.specs.Prelude.{◌≡◌, ◌≢◌, ◌<◌, ◌^◌, ◌↔◌, ◌+ℤ◌, OkIff, IsOkUnless, unsigned_abs, IsTrue};
+ghost use Rattle.ratio_core.specs.Gcd.{gcd};
 ghost use Rattle.ratio_core.specs.Rational.{Fits, SumFits, abs_ℚ, inverse_ℚ, neg_ℚ, signed, zero_ℚ, ◌+ℚ◌, ◌-ℚ◌, ◌*ℚ◌, ◌/ℚ◌};
 
 use crate::divisor::{GREATEST_PART, greatest_common_divisor, product, quotient};
@@ -7,8 +8,10 @@ use crate::fault::RatioFault;
 use crate::fraction::Ratio;
 
 impl Ratio {
-    /// The sum, or `Overflow` where a step of it has a part past 2^127 - 1: with the greatest common divisor g of the
-    /// denominators of a/b and c/d, the steps are a*(d/g), c*(b/g), their sum s, and (b/g)*(d/gcd(s, g)).
+    /// The sum, or `Overflow` where a step of it has a part past 2^127 - 1: with the greatest
+    /// common divisor g of the denominators of a/b and c/d, the steps are a*(d/g), c*(b/g), their
+    /// sum s, and (b/g)*(d/gcd(s, g)).
+    #[inline(always)]
     pub fn add(&self, other: &Ratio) -> Result<Ratio, RatioFault>
         ensures exact { OkIff result (SumFits self.now other.now) (self.now +ℚ other.now) }
         ensures err { IsOkUnless result RatioFault.Overflow }
@@ -16,6 +19,13 @@ impl Ratio {
         if self.is_short_whole() && other.is_short_whole() {
             return Ok(self.add_short(other));
         }
+        self.add_fractions(other)
+    }
+
+    fn add_fractions(&self, other: &Ratio) -> Result<Ratio, RatioFault>
+        ensures exact { OkIff result (SumFits self.now other.now) (self.now +ℚ other.now) }
+        ensures err { IsOkUnless result RatioFault.Overflow }
+    {
         if self.are_narrow(other) {
             return Ok(self.add_narrow(other));
         }
@@ -57,7 +67,7 @@ impl Ratio {
         if size > GREATEST_PART {
             return Err(RatioFault::Overflow);
         }
-        let last = greatest_common_divisor(size, common);
+        let last = last_wide_divisor(size, common);
         let den = product(left_over, quotient(right_den, last))?;
         Ok(Ratio::store(is_negative, quotient(size, last), den))
     }
@@ -71,7 +81,18 @@ impl Ratio {
     }
 
     /// The product, or `Overflow` exactly where it doesn't fit.
+    #[inline(always)]
     pub fn mul(&self, other: &Ratio) -> Result<Ratio, RatioFault>
+        ensures exact { OkIff result (Fits (self.now *ℚ other.now)) (self.now *ℚ other.now) }
+        ensures err { IsOkUnless result RatioFault.Overflow }
+    {
+        if self.is_narrow_whole() && other.is_narrow_whole() {
+            return Ok(self.mul_whole(other));
+        }
+        self.mul_fractions(other)
+    }
+
+    fn mul_fractions(&self, other: &Ratio) -> Result<Ratio, RatioFault>
         ensures exact { OkIff result (Fits (self.now *ℚ other.now)) (self.now *ℚ other.now) }
         ensures err { IsOkUnless result RatioFault.Overflow }
     {
@@ -97,7 +118,9 @@ impl Ratio {
 
     /// The quotient, or `Overflow` exactly where it doesn't fit.
     pub fn div(&self, other: &Ratio) -> Result<Ratio, RatioFault>
-        ensures exact { OkIff result ((other.now ≢ zero_ℚ) × Fits (self.now /ℚ other.now)) (self.now /ℚ other.now) }
+        ensures exact { OkIff result
+            ((other.now ≢ zero_ℚ) × Fits (self.now /ℚ other.now))
+            (self.now /ℚ other.now) }
         ensures zero { (result ≡ Err RatioFault.ZeroDenominator) ↔ (other.now ≡ zero_ℚ) }
     {
         if other.is_zero() {
@@ -141,6 +164,20 @@ fn sum_of_shorts(a: i128, b: i128) -> i128
     a + b
 }
 
+// The greatest common divisor of a sum and the divisor of its denominators.
+#[inline]
+#[tactic(auto, using(crate::specs::Gcd::remainders))]
+fn last_wide_divisor(size: u128, common: u128) -> u128
+    requires { 0 < common }
+    ensures value { result ≡ gcd size common }
+    ensures positive { 0 < result }
+{
+    if common == 1 {
+        return 1;
+    }
+    greatest_common_divisor(size, common)
+}
+
 // The sign and the size of the sum of two numbers, by theirs.
 fn signed_sum(
     left_is_negative: bool,
@@ -150,7 +187,8 @@ fn signed_sum(
 ) -> (bool, u128)
     requires left_fits { left < 2 ^ 127 }
     requires right_fits { right < 2 ^ 127 }
-    ensures { signed result.0 result.1 ≡ signed left_is_negative left +ℤ signed right_is_negative right }
+    ensures { signed result.0 result.1
+        ≡ signed left_is_negative left +ℤ signed right_is_negative right }
 {
     if left_is_negative == right_is_negative {
         (left_is_negative, left + right)

@@ -35,6 +35,9 @@ fn odd_divisor(a: u64, b: u64) -> u64
 {
     let (mut x, mut y) = (a, b);
     while x != y {
+        if x == 1 {
+            return 1;
+        }
         let rest = difference_without_twos(x, y);
         x = lesser(x, y);
         y = rest;
@@ -50,12 +53,13 @@ fn lesser(a: u64, b: u64) -> u64
 }
 
 // The difference and the wrapped one end in as many zeros, and the wrapped one is there sooner.
+// Wrapped this way round it is a step of the difference itself.
 #[inline]
 fn difference_without_twos(a: u64, b: u64) -> u64
     requires { a ≢ b }
     ensures { IsOddPart (abs_diff a b) result }
 {
-    a.abs_diff(b) >> a.wrapping_sub(b).trailing_zeros()
+    a.abs_diff(b) >> b.wrapping_sub(a).trailing_zeros()
 }
 
 // The same of wider numbers.

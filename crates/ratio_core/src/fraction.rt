@@ -7,7 +7,8 @@ use crate::divisor::{GREATEST_PART, greatest_common_divisor, quotient};
 use crate::fault::RatioFault;
 use std::marker::Model;
 
-/// A fraction in lowest terms with a positive denominator. Both parts are at most 2^127 - 1 in magnitude.
+/// A fraction in lowest terms with a positive denominator. Both parts are at most 2^127 - 1 in
+/// magnitude.
 #[derive(Clone, Copy)]
 pub struct Ratio {
     num: i128,
@@ -28,7 +29,10 @@ impl Model for Ratio {
 
     ghost inverse = { λ q. record { num = q.num; den = q.den } };
 
-    ghost inverse_ok = { λ a h i. record { num = (reduce_reduced a.num a.den h.reduced i).0; den = (reduce_reduced a.num a.den h.reduced i).1 } };
+    ghost inverse_ok = { λ a h i. record {
+      num = (reduce_reduced a.num a.den h.reduced i).0;
+      den = (reduce_reduced a.num a.den h.reduced i).1;
+    } };
 }
 
 impl Ratio {
@@ -140,7 +144,9 @@ impl Ratio {
     // The number of this sign, of any size and denominator, in lowest terms.
     pub(crate) fn lowest(is_negative: bool, size: u128, den: u128) -> Result<Ratio, RatioFault>
         requires { 0 < den }
-        ensures exact { OkIff result (Fits (reduce (signed is_negative size) den)) (reduce (signed is_negative size) den) }
+        ensures exact { OkIff result
+            (Fits (reduce (signed is_negative size) den))
+            (reduce (signed is_negative size) den) }
         ensures err { IsOkUnless result RatioFault.Overflow }
     {
         let common = greatest_common_divisor(size, den);

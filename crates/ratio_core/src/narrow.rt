@@ -1,4 +1,5 @@
-// Sums and products of fractions whose parts are below 2^63: they fit, and take 64 bits but for the parts of the result.
+// Sums and products of fractions whose parts are below 2^63: they fit, and take 64 bits but for the
+// parts of the result.
 ghost use Rattle.std.specs.Prelude.{◌≡◌, ◌/◌, ◌%◌, ◌<◌, ◌^◌, ◌+ℤ◌, ◌*ℤ◌, pos, unsigned_abs, IsTrue};
 ghost use Rattle.std.specs.Int.{is_negative};
 ghost use Rattle.ratio_core.specs.Gcd.{gcd};
@@ -11,6 +12,9 @@ use crate::fraction::Ratio;
 
 // The greatest part of a narrow fraction.
 const GREATEST_NARROW: u128 = i64::MAX as u128;
+
+// 2^63.
+const NARROW_END: i128 = 9223372036854775808;
 
 impl Ratio {
     // Whether both are narrow: one test of all bits.
@@ -56,6 +60,27 @@ impl Ratio {
         let den = narrow_quotient(left_den, right) as u128
             * narrow_quotient(right_den, left) as u128;
         Ratio::store(self.is_negative() != other.is_negative(), size, den)
+    }
+
+    // Whether it is a narrow whole number.
+    #[inline]
+    pub(crate) fn is_narrow_whole(&self) -> bool
+        ensures whole { IsTrue result → self.now.den ≡ 1 }
+        ensures narrow { IsTrue result → IsNarrow self.now }
+    {
+        self.over() == 1 && is_narrow_part(self.num())
+    }
+
+    #[inline]
+    pub(crate) fn mul_whole(&self, other: &Ratio) -> Ratio
+        requires left { self.now.den ≡ 1 }
+        requires right { other.now.den ≡ 1 }
+        requires left_narrow { IsNarrow self.now }
+        requires right_narrow { IsNarrow other.now }
+        ensures fits { Fits (self.now *ℚ other.now) }
+        ensures value { result ≡ self.now *ℚ other.now }
+    {
+        Ratio::keep(product_of_narrows(self.narrow_num(), other.narrow_num()), 1)
     }
 
     #[inline]
@@ -110,6 +135,21 @@ fn product_of(a: i64, by: u64) -> i128
     ensures fits { unsigned_abs result < 2 ^ 126 }
 {
     a as i128 * by as i128
+}
+
+// Compares the number itself, which takes fewer steps than its magnitude does.
+#[inline]
+fn is_narrow_part(n: i128) -> bool
+    ensures { IsTrue result → unsigned_abs n < 2 ^ 63 }
+{
+    -NARROW_END < n && n < NARROW_END
+}
+
+#[inline]
+fn product_of_narrows(a: i64, b: i64) -> i128
+    ensures { result ≡ a *ℤ b }
+{
+    a as i128 * b as i128
 }
 
 // The greatest common divisor of a sum and the divisor of its denominators.

@@ -8,7 +8,8 @@ use crate::wide::{Wide, cmp_wide_products};
 use std::cmp::Ordering;
 
 impl Ratio {
-    /// The order of `self / by` and `other / over`, exact whether or not these quotients fit 128 bits.
+    /// The order of `self / by` and `other / over`, exact whether or not these quotients fit 128
+    /// bits.
     pub fn cmp_quotients(&self, by: &Ratio, other: &Ratio, over: &Ratio) -> Ordering
         requires by { zero_ℚ ‹ℚ by.now }
         requires over { zero_ℚ ‹ℚ over.now }
@@ -23,10 +24,13 @@ impl Ratio {
     }
 }
 
-// The order of the magnitudes of `p / a` and `q / b`: each is a product of a size and a denominator over another.
+// The order of the magnitudes of `p / a` and `q / b`: each is a product of a size and a denominator
+// over another.
 fn cmp_quotient_sizes(p: &Ratio, a: &Ratio, q: &Ratio, b: &Ratio) -> Ordering
     requires { zero_ℚ ‹ℚ b.now }
-    ensures { result ≡ nat_cmp ((unsigned_abs p.now.num * a.now.den) * (q.now.den * unsigned_abs b.now.num)) ((unsigned_abs q.now.num * b.now.den) * (p.now.den * unsigned_abs a.now.num)) }
+    ensures { result ≡ nat_cmp
+        ((unsigned_abs p.now.num * a.now.den) * (q.now.den * unsigned_abs b.now.num))
+        ((unsigned_abs q.now.num * b.now.den) * (p.now.den * unsigned_abs a.now.num)) }
 {
     let left = Wide::product(p.size(), a.over());
     let left_over = Wide::product(p.over(), a.size());

@@ -9,9 +9,9 @@ use lists::Memory;
 use std::fmt;
 
 impl Ratio {
-    /// The fraction that the text stands for: an optional `-`, one or more digits, and optionally `/` with one or more
-    /// digits. `None` exactly where the text isn't of that form, the denominator is 0, or a part as written passes
-    /// 2^127 - 1.
+    /// The fraction that the text stands for: an optional `-`, one or more digits, and optionally
+    /// `/` with one or more digits. `None` exactly where the text isn't of that form, the
+    /// denominator is 0, or a part as written passes 2^127 - 1.
     pub fn read(text: &[u8]) -> Option<Ratio>
         ensures { result ≡ rational_of text.now }
     {
@@ -57,7 +57,8 @@ impl fmt::Debug for Ratio {
 // Room for a sign, two numbers below 2^127, which have at most 39 digits, and a slash.
 const TEXT_ROOM: usize = 80;
 
-// Writes `/` and the denominator at the end of the text, or nothing for 1, and says where it starts.
+// Writes `/` and the denominator at the end of the text, or nothing for 1, and says where it
+// starts.
 fn put_denominator(text: &mut [u8; TEXT_ROOM], den: u128) -> usize
     requires { den < 2 ^ 127 }
     ensures within { (40 ≤ result) × (result ≤ 80) }
@@ -76,7 +77,8 @@ fn put_numerator(text: &mut [u8; TEXT_ROOM], end: usize, is_negative: bool, size
     requires size_fits { size < 2 ^ 127 }
     requires room { (40 ≤ end) × (end ≤ 80) }
     ensures within { result ≤ 80 }
-    ensures written { drop result text.new ≡ (if is_negative then 45 ∷ decimal size else decimal size) ++ drop end text.old }
+    ensures written { drop result text.new
+        ≡ (if is_negative then 45 ∷ decimal size else decimal size) ++ drop end text.old }
 {
     let digits = put_digits(text, end, size);
     if !is_negative {
@@ -108,7 +110,8 @@ fn put_digits(text: &mut [u8; TEXT_ROOM], end: usize, n: u128) -> usize
 
 // The fraction that the digits stand for, with this sign.
 fn read_fraction(is_negative: bool, digits: &[u8]) -> Option<Ratio>
-    ensures { result ≡ rational_from is_negative (numerator_of digits.now) (denominator_of digits.now) }
+    ensures { result
+        ≡ rational_from is_negative (numerator_of digits.now) (denominator_of digits.now) }
 {
     match slash_at(digits) {
         Some(at) => fraction_of(

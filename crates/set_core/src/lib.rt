@@ -8,8 +8,6 @@ mod membership;
 mod numbers;
 mod set;
 mod set_type;
-#[cfg(test)]
-mod tests;
 
 pub use fault::SetOverflow;
 pub use set::Set;

@@ -10,7 +10,8 @@ use ratio_core::{Ratio, RatioFault};
 use simplex_core::StdForm;
 use std::alloc::{AllocError, Global};
 
-/// How large the forms and their entries are. One entry in `sparse` is drawn from `-greatest` to `greatest`, and the others are 0.
+/// How large the forms and their entries are. One entry in `sparse` is drawn from `-greatest` to
+/// `greatest`, and the others are 0.
 #[derive(Clone, Copy)]
 pub struct Size {
     pub rows: u16,
@@ -19,8 +20,8 @@ pub struct Size {
     pub greatest: u16,
 }
 
-/// The form that a number draws. The point that is drawn first meets its rows, each negated where its right side would be
-/// below 0.
+/// The form that a number draws. The point that is drawn first meets its rows, each negated where
+/// its right side would be below 0.
 pub fn form(alloc: Global, seed: u32, size: &Size) -> Result<StdForm, BenchFault>
     ensures { IfOk result IsWellShaped }
 {

@@ -1,5 +1,6 @@
 // Solves generated forms with an ample allowance of pivots, and prints a checksum of the answers:
-// `simplex_bench ROWS COLUMNS SPARSE GREATEST FORMS`. One entry in SPARSE isn't 0, and is at most GREATEST in magnitude.
+// `simplex_bench ROWS COLUMNS SPARSE GREATEST FORMS`. One entry in SPARSE isn't 0, and is at most
+// GREATEST in magnitude.
 #![tactic(auto)]
 
 mod answers;

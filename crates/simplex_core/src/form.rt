@@ -18,6 +18,7 @@ pub struct StdForm {
     pub right: Ratios,
     /// The cost of each column.
     pub costs: Ratios,
-    /// Which rows were multiplied by -1, so that their right side is at least 0. It tells nothing to `solve`.
+    /// Which rows were multiplied by -1, so that their right side is at least 0. It tells nothing
+    /// to `solve`.
     pub flips: Flags,
 }

@@ -1,4 +1,5 @@
-//! The exact simplex: a form of equations is solved by Bland's rule in two phases, with an allowance of pivots.
+//! The exact simplex: a form of equations is solved by Bland's rule in two phases, with an
+//! allowance of pivots.
 #![tactic(auto)]
 
 mod answer;
@@ -13,6 +14,3 @@ pub use answer::{Basis, SolverAnswer};
 pub use fault::SolveFault;
 pub use form::{Flags, StdForm};
 pub use simplex::solve;
-
-#[cfg(test)]
-mod tests;

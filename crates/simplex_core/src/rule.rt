@@ -98,7 +98,8 @@ fn entering(board: &Board, phase: u8) -> Option<usize>
     None
 }
 
-// The row of least ratio of its right side to its positive entry of column q, and of these that of least basic column.
+// The row of least ratio of its right side to its positive entry of column q, and of these that of
+// least basic column.
 fn leaving(board: &Board, q: usize) -> Option<usize>
     requires column { q < width board.now }
     ensures value { result ≡ bland.leaving (readings_of board.now) q }
@@ -146,7 +147,8 @@ fn leaves_before(board: &Board, q: usize, i: usize, k: usize) -> bool
     }
 }
 
-// The least row with a basic artificial column and a real entry that isn't 0, with the least such column.
+// The least row with a basic artificial column and a real entry that isn't 0, with the least such
+// column.
 fn swept(board: &Board) -> Option<(usize, usize)>
     ensures value { result ≡ bland.swept_entry (readings_of board.now) }
     ensures entry { IfSome result (λ found.

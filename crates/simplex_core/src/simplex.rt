@@ -15,8 +15,9 @@ use tableau_core::{Board, BoardFault};
 
 /// Solves a form by Bland's rule in two phases, with an allowance of `pivots` pivots.
 ///
-/// Answers `Limit` where the allowance is used up before the end, and `Overflow` where a sum of the first board, or a quotient,
-/// product or difference of the next pivot, passes 128 bits; each with the basis there.
+/// Answers `Limit` where the allowance is used up before the end, and `Overflow` where a sum of the
+/// first board, or a quotient, product or difference of the next pivot, passes 128 bits; each with
+/// the basis there.
 pub fn solve(alloc: Global, form: &StdForm, pivots: u64) -> Result<SolverAnswer, SolveFault>
     requires { IsWellShaped form.now }
     ensures outcome { SaysOutcome (equality_form form.now) pivots result }

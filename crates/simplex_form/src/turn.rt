@@ -1,7 +1,7 @@
 //! The phases of the trail, and what is done at a basis.
 
-/// The phase of a basis: in the first one the artificial columns are driven out, the sweep drives out those left at 0, and
-/// the second one lowers the costs.
+/// The phase of a basis: in the first one the artificial columns are driven out, the sweep drives
+/// out those left at 0, and the second one lowers the costs.
 #[derive(Clone, Copy, Debug)]
 pub enum Phase {
     First,

@@ -15,6 +15,3 @@ pub use lists::Memory;
 pub use model::SolverModel;
 pub use set_core::Set;
 pub use solver_aff::SolverAff;
-
-#[cfg(test)]
-mod tests;

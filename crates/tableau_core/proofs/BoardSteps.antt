@@ -146,8 +146,9 @@ module _ (a b : Inside) (reals : b.reals ≡ a.reals) (in_first : b.in_first ≡
     basis = basis k;
   }
 
-  pub kept_same : IsKept a → ((i : ℕ) → now_at b.rows.items i ≡ now_at a.rows.items i) → b.first.now.items ≡ a.first.now.items → b.second.now.items ≡ a.second.now.items → length b.step.items ≡ length a.step.items → AllFit b.step.items → IsKept b
-  kept_same h rows first second step fit = record {
+  pub kept_same : IsKept a → ((i : ℕ) → now_at b.rows.items i ≡ now_at a.rows.items i) → b.first.now.items ≡ a.first.now.items → b.second.now.items ≡ a.second.now.items → length b.step.items ≡ length a.step.items → AllFit b.step.items → length b.places.items ≡ length a.places.items → IsKept b
+  kept_same h rows first second step fit places = record {
+    places = places ∙ h.places ∙ ap (λ n. n + 1) (sym width_is);
     wide = λ i c. ap length (rows i) ∙ h.wide i (subst (λ n. i < n) count c) ∙ ap (λ n. n + 1) (sym width_is);
     spare = step ∙ h.spare ∙ ap (λ n. n + 1) (sym width_is);
     spare_fits = fit;
@@ -165,8 +166,9 @@ module _ (a b : Inside) (reals : b.reals ≡ a.reals) (count : length b.rows.ite
   same_width : width_of b ≡ width_of a
   same_width = ap₂ ◌+◌ reals count
 
-  pub kept_after : IsKept a → (n : ℕ) → n ≡ width_of a + 1 → AreWide n b.rows.items → length b.first.now.items ≡ length a.first.now.items → length b.second.now.items ≡ length a.second.now.items → length b.step.items ≡ n → AllFit b.step.items → length b.basis.items ≡ length a.basis.items → IsKept b
-  kept_after h n e wide first second step fit basis = record {
+  pub kept_after : IsKept a → (n : ℕ) → n ≡ width_of a + 1 → AreWide n b.rows.items → length b.first.now.items ≡ length a.first.now.items → length b.second.now.items ≡ length a.second.now.items → length b.step.items ≡ n → AllFit b.step.items → length b.places.items ≡ length a.places.items → length b.basis.items ≡ length a.basis.items → IsKept b
+  kept_after h n e wide first second step fit places basis = record {
+    places = places ∙ h.places ∙ ap (λ n. n + 1) (sym same_width);
     wide = λ i c. wide i c ∙ e ∙ ap (λ n. n + 1) (sym same_width);
     spare = step ∙ e ∙ ap (λ n. n + 1) (sym same_width);
     spare_fits = fit;

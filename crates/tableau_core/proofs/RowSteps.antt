@@ -1,12 +1,13 @@
 -- A row worked out up to its j-th number.
-use Rattle.std.specs.Prelude.{◌≡◌, ℕ, ◌+◌, ◌<◌, ◌≤◌, Bool, true, false, ◌&&◌, List, length, slice_index_or, slice_set, Result, Ok, Err, IsErr, is_ok, refl}
-use Rattle.std.proofs.Common.{sym, ◌∙◌, ap, ap₂, arith, subst, true≢false}
-use Rattle.std.proofs.lemmas.List.{get_or_default, get_or-set_other, get_or-set_same, length-set}
+use Rattle.std.specs.Prelude.{◌≡◌, ℕ, ◌+◌, ◌<◌, ◌≤◌, Bool, true, false, ◌&&◌, List, length, slice_index_or, slice_set, Result, Ok, Err, IsErr, is_ok, refl, ◌⊎◌, take, min, slice_index}
+use Rattle.std.proofs.Common.{sym, ◌∙◌, ap, ap₂, arith, subst, true≢false, inl, inr}
+use Rattle.std.proofs.lemmas.List.{get_or_default, get_or-set_other, get_or-set_same, length-set, get_or-take, length-take}
 use Rattle.ratio_core.specs.Rational.{Fits, Rational, SumFits, fits, neg_ℚ, sum_fits, zero_ℚ, ◌*ℚ◌, ◌+ℚ◌, ◌-ℚ◌, ◌/ℚ◌}
 use Rattle.ratio_core.specs.RationalLaws.{fits_Decides, sum_fits_Decides}
 use Rattle.rational_laws.specs.Field.{*ℚ-zero, +ℚ-zero, neg_ℚ-zero, zero-*ℚ}
 use Rattle.rational_laws.specs.Fitting.{Fits_zero}
 use Rattle.tableau_core.specs.Row.{AllFit, IsLowered, cell, differences_fit, quotients_fit}
+use Rattle.tableau_core.specs.Places.{Covers}
 use Rattle.tableau_core.proofs.ZeroSums.{SumFits-zero_right}
 use Rattle.simplex_laws.specs.SearchLaws.{all_below_all, all_below_failed, all_below_more}
 use Rattle.simplex_form.specs.Fit.{lowered_fits}
@@ -118,58 +119,165 @@ pub differences_fit-zero : (by : Rational) (step row : List Rational) → by ≡
 differences_fit-zero by step row z h =
     all_below_all (length row) (λ j. lowered_fits (cell row j) by (cell step j)) (λ j b. lowered_fits-zero (cell row j) by (cell step j) (zero-step by (cell step j) z) (h j))
 
--- ---- a row that is lowered where the step isn't 0
+-- ---- the places where a row isn't 0
 
--- of the numbers of a row those below j are lowered, and the others are as they were
-pub record IsLoweredTo (by : Rational) (step row next : List Rational) (j : ℕ) : Type 0 where
-  pub within : j ≤ length row
+-- of a row's numbers below j those that aren't 0 are noted
+pub record IsNotedTo (row : List Rational) (places : List ℕ) (used j : ℕ) : Type 0 where
+  pub few : used ≤ j
+  pub row_end : j ≤ length row
+  pub room : length row ≤ length places
+  pub within : (k : ℕ) → k < used → slice_index places k < j
+  pub found : (i : ℕ) → i < j → (cell row i ≡ zero_ℚ) ⊎ ((k : ℕ) × (k < used) × (slice_index places k ≡ i))
+
+pub noted_none : (row : List Rational) (places : List ℕ) → length row ≤ length places → IsNotedTo row places 0 0
+noted_none row places h = record {
+  few = omega arith;
+  row_end = omega arith;
+  room = h;
+  within = λ k b. absurd (omega (arith, b));
+  found = λ i b. absurd (omega (arith, b));
+}
+
+pub noted_past : (row : List Rational) (places : List ℕ) (used j : ℕ) → IsNotedTo row places used j → j < length row → cell row j ≡ zero_ℚ → IsNotedTo row places used (j + 1)
+noted_past row places used j h b z = record {
+  few = omega (arith, h.few);
+  row_end = omega (arith, b);
+  room = h.room;
+  within = λ k c. omega (arith, h.within k c);
+  found = λ i c. same_or_other ((cell row i ≡ zero_ℚ) ⊎ ((k : ℕ) × (k < used) × (slice_index places k ≡ i))) i j (λ q. inl (ap (cell row) q ∙ z)) (λ m. h.found i (omega (arith, c, m)));
+}
+
+pub noted_here : (row : List Rational) (places : List ℕ) (used j : ℕ) → IsNotedTo row places used j → j < length row → IsNotedTo row (slice_set places used j) (used + 1) (j + 1)
+noted_here row places used j h b = record {
+  few = omega (arith, h.few);
+  row_end = omega (arith, b);
+  room = subst (λ n. length row ≤ n) (sym (length-set places used j)) h.room;
+  within = λ k c. same_or_other (slice_index (slice_set places used j) k < j + 1) k used (λ q. subst (λ n. slice_index (slice_set places used j) n < j + 1) (sym q) (subst (λ n. n < j + 1) (sym at) (omega arith))) (λ m. subst (λ n. n < j + 1) (sym (off k m)) (omega (arith, h.within k (omega (arith, c, m)))));
+  found = λ i c. same_or_other ((cell row i ≡ zero_ℚ) ⊎ ((k : ℕ) × (k < used + 1) × (slice_index (slice_set places used j) k ≡ i))) i j (λ q. inr (used, omega arith, at ∙ sym q)) (λ m. by_old i (h.found i (omega (arith, c, m))));
+}
+  where
+    at : slice_index (slice_set places used j) used ≡ j
+    at = get_or-set_same places used j 0 (omega (arith, h.few, h.room, b))
+
+    off : (k : ℕ) → ¬ (k ≡ used) → slice_index (slice_set places used j) k ≡ slice_index places k
+    off k m = get_or-set_other places used k j 0 m
+
+    by_old : (i : ℕ) → (cell row i ≡ zero_ℚ) ⊎ ((k : ℕ) × (k < used) × (slice_index places k ≡ i)) → (cell row i ≡ zero_ℚ) ⊎ ((k : ℕ) × (k < used + 1) × (slice_index (slice_set places used j) k ≡ i))
+    by_old i (inl z) = inl z
+    by_old i (inr f) = inr (f.0, omega (arith, f.1), off f.0 (λ e. omega (arith, f.1, e)) ∙ f.2)
+
+pub noted_all : (row : List Rational) (places : List ℕ) (used j : ℕ) → IsNotedTo row places used j → j ≡ length row → Covers (take used places) row
+noted_all row places used j h e = record {
+  within = λ k b. subst (λ n. n < length row) (sym (same k (less k b))) (omega (arith, h.within k (less k b), e));
+  found = λ i b. by_old i (h.found i (omega (arith, b, e)));
+}
+  where
+    few_lem : (used j n m : ℕ) → used ≤ j → j ≡ n → n ≤ m → used ≤ m
+    few_lem used j n m a b c = omega (arith, a, b, c)
+
+    long : length (take used places) ≡ used
+    long = length-take used places ∙ min_lem used (length places) (few_lem used j (length row) (length places) h.few e h.room)
+      where
+        min_lem : (a b : ℕ) → a ≤ b → min a b ≡ a
+        min_lem a b c = omega (arith, c)
+
+    less : (k : ℕ) → k < length (take used places) → k < used
+    less k b = subst (λ n. k < n) long b
+
+    same : (k : ℕ) → k < used → slice_index (take used places) k ≡ slice_index places k
+    same k b = get_or-take used places k 0 b
+
+    by_old : (i : ℕ) → (cell row i ≡ zero_ℚ) ⊎ ((k : ℕ) × (k < used) × (slice_index places k ≡ i)) → (cell row i ≡ zero_ℚ) ⊎ ((k : ℕ) × (k < length (take used places)) × (slice_index (take used places) k ≡ i))
+    by_old i (inl z) = inl z
+    by_old i (inr f) = inr (f.0, subst (λ n. f.0 < n) (sym long) f.1, same f.0 f.1 ∙ f.2)
+
+-- ---- a row that is lowered at these places
+
+-- the numbers at the first i places are lowered, and each other is as it was, or lowered
+pub record IsLoweredAt (by : Rational) (step row : List Rational) (places : List ℕ) (next : List Rational) (i : ℕ) : Type 0 where
   pub long : length next ≡ length row
-  pub fit : all_below j (λ k. lowered_fits (cell row k) by (cell step k)) ≡ true
-  pub cells : (k : ℕ) → k < j → cell next k ≡ cell row k -ℚ by *ℚ cell step k
-  pub later : (k : ℕ) → j ≤ k → cell next k ≡ cell row k
+  pub fit : (k : ℕ) → k < i → slice_index places k < length row → lowered_fits (cell row (slice_index places k)) by (cell step (slice_index places k)) ≡ true
+  pub done : (k : ℕ) → k < i → slice_index places k < length row → cell next (slice_index places k) ≡ cell row (slice_index places k) -ℚ by *ℚ cell step (slice_index places k)
+  pub kept : (j : ℕ) → (cell next j ≡ cell row j) ⊎ (cell next j ≡ cell row j -ℚ by *ℚ cell step j)
   pub all_fit : AllFit next
 
-pub lowered_none : (by : Rational) (step row next : List Rational) → next ≡ row → AllFit row → IsLoweredTo by step row next 0
-lowered_none by step row next e fit = record {
-  within = omega arith;
+pub lowered_none : (by : Rational) (step row : List Rational) (places : List ℕ) (next : List Rational) → next ≡ row → AllFit row → IsLoweredAt by step row places next 0
+lowered_none by step row places next e fit = record {
   long = ap length e;
-  fit = refl;
-  cells = λ k b. absurd (omega (arith, b));
-  later = λ k _. ap (λ l. cell l k) e;
+  fit = λ k b. absurd (omega (arith, b));
+  done = λ k b. absurd (omega (arith, b));
+  kept = λ j. inl (ap (λ l. cell l j) e);
   all_fit = subst AllFit (sym e) fit;
 }
 
-module _ (by : Rational) (step row next : List Rational) (j : ℕ) (h : IsLoweredTo by step row next j) (b : j < length row) where
-  lowered_below : (other : List Rational) → ((k : ℕ) → ¬ (k ≡ j) → cell other k ≡ cell next k) → cell other j ≡ cell row j -ℚ by *ℚ cell step j → (k : ℕ) → k < j + 1 → cell other k ≡ cell row k -ℚ by *ℚ cell step k
-  lowered_below other same here k c =
-      same_or_other (cell other k ≡ cell row k -ℚ by *ℚ cell step k) k j
-      (λ q. subst (λ i. cell other i ≡ cell row i -ℚ by *ℚ cell step i) (sym q) here)
-      (λ m. same k m ∙ h.cells k (omega (arith, m, c)))
+module _ (by : Rational) (step row : List Rational) (places : List ℕ) (next : List Rational) (i : ℕ) (h : IsLoweredAt by step row places next i) where
+  abbrev lowered : ℕ → Rational
+  lowered j = cell row j -ℚ by *ℚ cell step j
 
-  -- a number is passed over where the step is 0
-  pub lowered_past : cell step j ≡ zero_ℚ → AllFit row → IsLoweredTo by step row next (j + 1)
-  lowered_past z fit = record {
-    within = omega arith;
+  -- a place past the row's end
+  pub lowered_past : length row ≤ slice_index places i → IsLoweredAt by step row places next (i + 1)
+  lowered_past b = record {
     long = h.long;
-    fit = all_below_more j (λ k. lowered_fits (cell row k) by (cell step k)) h.fit (lowered_fits-zero (cell row j) by (cell step j) (step-zero by (cell step j) z) (fit j));
-    cells = lowered_below next (λ _ _. refl) (h.later j (omega arith) ∙ sym (lowered-zero (cell row j) by (cell step j) (step-zero by (cell step j) z)));
-    later = λ k c. h.later k (omega (arith, c));
+    fit = λ k c d. h.fit k (below k c d) d;
+    done = λ k c d. h.done k (below k c d) d;
+    kept = h.kept;
     all_fit = h.all_fit;
   }
+    where
+      below : (k : ℕ) → k < i + 1 → slice_index places k < length row → k < i
+      below k c d = same_or_other (k < i) k i (λ e. absurd (past_lem (slice_index places k) (slice_index places i) (length row) (ap (slice_index places) e) d b)) (λ m. omega (arith, c, m))
+        where
+          past_lem : (a b n : ℕ) → a ≡ b → a < n → n ≤ b → ⊥
+          past_lem a b n e d f = omega (arith, e, d, f)
 
-  -- and else written
-  pub lowered_here : (value : Rational) → lowered_fits (cell row j) by (cell step j) ≡ true → value ≡ cell row j -ℚ by *ℚ cell step j → Fits value → IsLoweredTo by step row (slice_set next j value) (j + 1)
-  lowered_here value e is f = record {
-    within = omega arith;
-    long = length-set next j value ∙ h.long;
-    fit = all_below_more j (λ k. lowered_fits (cell row k) by (cell step k)) h.fit e;
-    cells = lowered_below (slice_set next j value) (λ k m. get_or-set_other next j k value zero_ℚ m) (get_or-set_same next j value zero_ℚ (subst (λ m. j < m) (sym h.long) b) ∙ is);
-    later = λ k c. get_or-set_other next j k value zero_ℚ (above_lem k j c) ∙ h.later k (omega (arith, c));
-    all_fit = set_fits next j value h.all_fit (subst (λ m. j < m) (sym h.long) b) f;
+  -- a number is written
+  pub lowered_here : (value : Rational) → slice_index places i < length row → lowered_fits (cell row (slice_index places i)) by (cell step (slice_index places i)) ≡ true → value ≡ lowered (slice_index places i) → Fits value → IsLoweredAt by step row places (slice_set next (slice_index places i) value) (i + 1)
+  lowered_here value b e is f = record {
+    long = length-set next at value ∙ h.long;
+    fit = λ k c d. same_or_other (lowered_fits (cell row (slice_index places k)) by (cell step (slice_index places k)) ≡ true) k i (λ q. subst (λ n. lowered_fits (cell row (slice_index places n)) by (cell step (slice_index places n)) ≡ true) (sym q) e) (λ m. h.fit k (omega (arith, c, m)) d);
+    done = λ k c d. same_or_other (cell (slice_set next at value) (slice_index places k) ≡ lowered (slice_index places k)) (slice_index places k) at (λ q. subst (λ n. cell (slice_set next at value) n ≡ lowered n) (sym q) written) (λ m. off (slice_index places k) m ∙ h.done k (earlier k c m) d);
+    kept = λ j. same_or_other ((cell (slice_set next at value) j ≡ cell row j) ⊎ (cell (slice_set next at value) j ≡ lowered j)) j at (λ q. inr (subst (λ n. cell (slice_set next at value) n ≡ lowered n) (sym q) written)) (λ m. by_old j (off j m) (h.kept j));
+    all_fit = set_fits next at value h.all_fit (subst (λ n. at < n) (sym h.long) b) f;
   }
     where
-      above_lem : (k j : ℕ) → j + 1 ≤ k → ¬ (k ≡ j)
-      above_lem k j c e = omega (arith, c, e)
+      at : ℕ
+      at = slice_index places i
 
-  pub lowered_refused : lowered_fits (cell row j) by (cell step j) ≡ false → differences_fit by step row ≡ false
-  lowered_refused e = all_below_failed (length row) j (λ k. lowered_fits (cell row k) by (cell step k)) b e
+      written : cell (slice_set next at value) at ≡ lowered at
+      written = get_or-set_same next at value zero_ℚ (subst (λ n. at < n) (sym h.long) b) ∙ is
+
+      off : (j : ℕ) → ¬ (j ≡ at) → cell (slice_set next at value) j ≡ cell next j
+      off j m = get_or-set_other next at j value zero_ℚ m
+
+      earlier : (k : ℕ) → k < i + 1 → ¬ (slice_index places k ≡ at) → k < i
+      earlier k c m = same_or_other (k < i) k i (λ e. absurd (m (ap (slice_index places) e))) (λ n. omega (arith, c, n))
+
+      by_old : (j : ℕ) → cell (slice_set next at value) j ≡ cell next j → (cell next j ≡ cell row j) ⊎ (cell next j ≡ lowered j) → (cell (slice_set next at value) j ≡ cell row j) ⊎ (cell (slice_set next at value) j ≡ lowered j)
+      by_old j same (inl k) = inl (same ∙ k)
+      by_old j same (inr k) = inr (same ∙ k)
+
+  pub lowered_refused : slice_index places i < length row → lowered_fits (cell row (slice_index places i)) by (cell step (slice_index places i)) ≡ false → differences_fit by step row ≡ false
+  lowered_refused b e = all_below_failed (length row) (slice_index places i) (λ k. lowered_fits (cell row k) by (cell step k)) b e
+
+  -- at the end
+  module _ (all : i ≡ length places) (covers : Covers places step) (long : length row ≤ length step) (fits : AllFit row) where
+    by_place : (P : ℕ → Type 0) (j : ℕ) → j < length row → (cell step j ≡ zero_ℚ → P j) → ((k : ℕ) → k < i → slice_index places k < length row → P (slice_index places k)) → P j
+    by_place P j b zero place = by_found (covers.found j (omega (arith, b, long)))
+      where
+        by_found : (cell step j ≡ zero_ℚ) ⊎ ((k : ℕ) × (k < length places) × (slice_index places k ≡ j)) → P j
+        by_found (inl z) = zero z
+        by_found (inr f) = subst P f.2 (place f.0 (subst (λ n. f.0 < n) (sym all) f.1) (subst (λ n. n < length row) (sym f.2) b))
+
+    pub lowered_fit : differences_fit by step row ≡ true
+    lowered_fit =
+        all_below_all (length row) (λ j. lowered_fits (cell row j) by (cell step j)) (λ j b. by_place (λ j. lowered_fits (cell row j) by (cell step j) ≡ true) j b (λ z. lowered_fits-zero (cell row j) by (cell step j) (step-zero by (cell step j) z) (fits j)) h.fit)
+
+    pub lowered_all : IsLowered by step row next
+    lowered_all = record {
+      long = h.long;
+      cells = λ j b. by_place (λ j. cell next j ≡ lowered j) j b (λ z. by_kept j (sym (lowered-zero (cell row j) by (cell step j) (step-zero by (cell step j) z))) (h.kept j)) h.done;
+    }
+      where
+        by_kept : (j : ℕ) → cell row j ≡ lowered j → (cell next j ≡ cell row j) ⊎ (cell next j ≡ lowered j) → cell next j ≡ lowered j
+        by_kept j e (inl k) = k ∙ e
+        by_kept j e (inr k) = k

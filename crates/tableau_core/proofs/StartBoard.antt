@@ -24,8 +24,9 @@ module _ (F : Form) (a : Inside) (reals : a.reals ≡ F.reals) (count : length a
   unfolding start
   start_columns = basis
 
-  pub start-kept : length a.first.now.items ≡ F.reals + F.rows → length a.second.now.items ≡ F.reals + F.rows → length a.step.items ≡ F.reals + F.rows + 1 → AllFit a.step.items → length a.basis.items ≡ F.rows → IsKept a
-  start-kept first second step fit long = record {
+  pub start-kept : length a.first.now.items ≡ F.reals + F.rows → length a.second.now.items ≡ F.reals + F.rows → length a.step.items ≡ F.reals + F.rows + 1 → AllFit a.step.items → length a.places.items ≡ F.reals + F.rows + 1 → length a.basis.items ≡ F.rows → IsKept a
+  start-kept first second step fit places long = record {
+    places = places ∙ ap (λ n. n + 1) width_is;
     wide = λ i b. wide i b ∙ ap (λ n. n + 1) width_is;
     spare = step ∙ ap (λ n. n + 1) width_is;
     spare_fits = fit;

@@ -26,6 +26,7 @@ pub record IsKept (a : Inside) : Type 0 where
   pub wide : AreWide (width_of a + 1) a.rows.items
   pub spare : length a.step.items ≡ width_of a + 1
   pub spare_fits : AllFit a.step.items
+  pub places : length a.places.items ≡ width_of a + 1
   pub first : length a.first.now.items ≡ width_of a
   pub second : length a.second.now.items ≡ width_of a
   pub basis : length a.basis.items ≡ length a.rows.items

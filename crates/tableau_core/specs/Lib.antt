@@ -1,5 +1,6 @@
 -- What the contracts cite.
 pub mod Row
+pub mod Places
 pub mod Rows
 pub mod Tableau
 pub mod TableauLaws

@@ -5,13 +5,14 @@ ghost use Rattle.ratio_core.specs.Rational.{zero_ℚ};
 use crate::fault::{BoardFault, BoardOverflow};
 use crate::kept::{Row, zeros};
 use crate::pivoting::{prepare_pivot, settle_pivot};
+use crate::places::room_for_places;
 use crate::start::{first_prices, second_prices, start_basis, start_rows};
 use ratio_core::Ratio;
 use std::alloc::Global;
 use std::marker::Model;
 
-/// The rows and costs of a form at a basis: the real columns, an artificial column for each row, and the right sides. The
-/// first cost row is in use until `end_phase_one`.
+/// The rows and costs of a form at a basis: the real columns, an artificial column for each row,
+/// and the right sides. The first cost row is in use until `end_phase_one`.
 #[derive(Drop)]
 pub struct Board {
     reals: usize,
@@ -21,6 +22,8 @@ pub struct Board {
     second: Row,
     // room for a pivot's new row
     step: Vec<Ratio>,
+    // and for the places where it isn't 0
+    places: Vec<usize>,
     basis: Vec<usize>,
 }
 
@@ -43,8 +46,8 @@ impl Board {
     ghost use Rattle.tableau_core.specs.Start.{form_of};
     ghost use Rattle.tableau_core.specs.Tableau.{IsBoardOf, IsPivoted, prices_of, readings_of, width};
 
-    /// The board at the artificial columns, of `m` rows and `c` real columns with the matrix row by row. Overflow where a sum
-    /// of a column's entries doesn't fit.
+    /// The board at the artificial columns, of `m` rows and `c` real columns with the matrix row by
+    /// row. Overflow where a sum of a column's entries doesn't fit.
     pub fn start(
         alloc: Global,
         m: usize,
@@ -69,6 +72,7 @@ impl Board {
         let second = Row::new(alloc, second_prices(alloc, m, costs)?)?;
         let rows = start_rows(alloc, m, c, matrix, right)?;
         let step = zeros(alloc, c + m + 1)?;
+        let places = room_for_places(alloc, c + m + 1)?;
         let basis = start_basis(alloc, m, c)?;
         Ok(Board {
             reals: c,
@@ -77,6 +81,7 @@ impl Board {
             first,
             second,
             step,
+            places,
             basis,
         })
     }
@@ -120,7 +125,8 @@ impl Board {
         row[row.len() - 1]
     }
 
-    /// Column `q` enters in row `r`, or nothing changes where a quotient, product or difference doesn't fit.
+    /// Column `q` enters in row `r`, or nothing changes where a quotient, product or difference
+    /// doesn't fit.
     pub fn pivot(&mut self, r: usize, q: usize) -> Result<(), BoardOverflow>
         requires row { r < length self.old.rows }
         requires column { q < width self.old }
@@ -136,6 +142,7 @@ impl Board {
             &mut self.first,
             &mut self.second,
             &mut self.step,
+            &mut self.places,
             r,
             q,
         )?;

@@ -1,6 +1,7 @@
 //! A row of the board, with room for the row that comes after it.
 ghost use Rattle.std.specs.Prelude.{◌≡◌, ◌<◌, ◌≤◌, List, ◌||◌, not, IsTrue, length, is_ok, IfOk, OnOk};
 ghost use Rattle.ratio_core.specs.Rational.{Rational};
+ghost use Rattle.tableau_core.specs.Places.{Covers};
 ghost use Rattle.tableau_core.specs.Row.{AllFit, IsLowered, IsPrepared, cell, differences_fit};
 
 use crate::fault::BoardOverflow;
@@ -37,9 +38,15 @@ impl Row {
     }
 
     // Works out what a pivot on column q makes of the row, where `step` is the pivot's new row.
-    pub(crate) fn prepare(&mut self, q: usize, step: &[Ratio]) -> Result<(), BoardOverflow>
+    pub(crate) fn prepare(
+        &mut self,
+        q: usize,
+        step: &[Ratio],
+        places: &[usize],
+    ) -> Result<(), BoardOverflow>
         requires within { q < length self.old.now.items }
         requires step_long { length self.old.now.items ≤ length step.now }
+        requires covers { Covers places.now step.now }
         ensures stays { self.new.now.items ≡ self.old.now.items }
         ensures fits { is_ok result
             ≡ differences_fit (cell self.old.now.items q) step.now self.old.now.items }
@@ -49,7 +56,7 @@ impl Row {
         if by.is_zero() {
             return Ok(());
         }
-        lower(&self.now, &by, step, &mut self.next)
+        lower(&self.now, &by, step, places, &mut self.next)
     }
 
     // Puts in place what was worked out.
@@ -84,16 +91,22 @@ pub(crate) fn prepare_if(
     row: &mut Row,
     q: usize,
     step: &[Ratio],
+    places: &[usize],
 ) -> Result<(), BoardOverflow>
     requires within { q < length row.old.now.items }
     requires step_long { length row.old.now.items ≤ length step.now }
+    requires covers { Covers places.now step.now }
     ensures stays { row.new.now.items ≡ row.old.now.items }
     ensures fits { is_ok result
         ≡ (not used || differences_fit (cell row.old.now.items q) step.now row.old.now.items) }
     ensures ok { OnOk result
         (IsTrue used → IsPrepared q step.now row.old.now.items row.new.next.items) }
 {
-    if used { row.prepare(q, step) } else { Ok(()) }
+    if used {
+        row.prepare(q, step, places)
+    } else {
+        Ok(())
+    }
 }
 
 pub(crate) fn settle_if(used: bool, row: &mut Row, q: usize)

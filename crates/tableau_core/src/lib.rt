@@ -1,15 +1,15 @@
-//! The board of the simplex: what is read from the original columns at each basis, kept by row operations.
+//! The board of the simplex: what is read from the original columns at each basis, kept by row
+//! operations.
 #![tactic(auto)]
 
 mod board;
 mod fault;
 mod kept;
 mod pivoting;
+mod places;
 mod row;
 mod rows;
 mod start;
-#[cfg(test)]
-mod tests;
 
 pub use board::Board;
 pub use fault::{BoardFault, BoardOverflow};

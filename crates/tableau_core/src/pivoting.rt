@@ -7,21 +7,24 @@ ghost use Rattle.tableau_core.specs.Pivoting.{IsReady, IsSettled, numbers_fit};
 
 use crate::fault::BoardOverflow;
 use crate::kept::{Row, prepare_if, settle_if};
+use crate::places::note_places;
 use crate::row::divide;
 use crate::rows::{prepare_rows, settle_rows};
 use ratio_core::Ratio;
 
-// Works out what a pivot makes of the rows and of the cost rows in use, and changes nothing that stands. The pivot's new row
-// goes into `step`.
+// Works out what a pivot makes of the rows and of the cost rows in use, and changes nothing that
+// stands. The pivot's new row goes into `step`.
 pub(crate) fn prepare_pivot(
     rows: &mut [Row],
     in_first: bool,
     first: &mut Row,
     second: &mut Row,
     step: &mut [Ratio],
+    places: &mut [usize],
     r: usize,
     q: usize,
 ) -> Result<(), BoardOverflow>
+    requires places_long { length step.old ≤ length places.old }
     requires row { r < length rows.old }
     requires wide { AreWide (length step.old) rows.old }
     requires first_within { q < length first.old.now.items }
@@ -40,9 +43,11 @@ pub(crate) fn prepare_pivot(
     ensures ok { OnOk result (IsReady rows.new r q in_first first.new second.new step.new) }
 {
     divide_row(rows, r, q, step)?;
-    prepare_rows(rows, r, q, step)?;
-    prepare_if(in_first, first, q, step)?;
-    second.prepare(q, step)
+    let used = note_places(step, places);
+    let places = &places[..used];
+    prepare_rows(rows, r, q, step, places)?;
+    prepare_if(in_first, first, q, step, places)?;
+    second.prepare(q, step, places)
 }
 
 // Row r divided by its number in column q.

@@ -1,7 +1,8 @@
 //! Row operations: each works out a row beside the one that stands.
 ghost use Rattle.std.specs.Prelude.{◌≡◌, ◌≢◌, ◌≤◌, length, is_ok, IfOk, OkIff, OnOk};
-ghost use Rattle.ratio_core.specs.Rational.{Fits, zero_ℚ, ◌*ℚ◌, ◌-ℚ◌, ◌/ℚ◌};
+ghost use Rattle.ratio_core.specs.Rational.{Fits, SumFits, neg_ℚ, zero_ℚ, ◌*ℚ◌, ◌-ℚ◌, ◌/ℚ◌};
 ghost use Rattle.simplex_form.specs.Fit.{lowered_fits};
+ghost use Rattle.tableau_core.specs.Places.{Covers};
 ghost use Rattle.tableau_core.specs.Row.{AllFit, IsDivided, IsLowered, differences_fit, quotients_fit};
 
 use crate::fault::BoardOverflow;
@@ -36,25 +37,27 @@ fn divide_number(number: &Ratio, by: &Ratio) -> Result<Ratio, RatioFault>
     number.div(by)
 }
 
-// Each number lowered by a multiple of the step's. Where the step is 0 a number stays.
+// Each number lowered by a multiple of the step's, at the places where the step isn't 0.
 pub(crate) fn lower(
     row: &[Ratio],
     by: &Ratio,
     step: &[Ratio],
+    places: &[usize],
     next: &mut [Ratio],
 ) -> Result<(), BoardOverflow>
     requires long { length next.old ≡ length row.now }
     requires step_long { length row.now ≤ length step.now }
+    requires covers { Covers places.now step.now }
     requires row_fits { AllFit row.now }
     ensures fits { is_ok result ≡ differences_fit by.now step.now row.now }
     ensures ok { OnOk result (IsLowered by.now step.now row.now next.new) }
     ensures all_fit { AllFit next.new }
 {
     next.copy_from_slice(row);
-    for j in 0..row.len() {
-        let unit = &step[j];
-        if !unit.is_zero() {
-            next[j] = lower_number(&row[j], by, unit)?;
+    for i in 0..places.len() {
+        let j = places[i];
+        if j < row.len() {
+            next[j] = lower_number(&row[j], by, &step[j])?;
         }
     }
     Ok(())
@@ -66,7 +69,20 @@ fn lower_number(number: &Ratio, by: &Ratio, step: &Ratio) -> Result<Ratio, Board
     ensures ok { IfOk result (λ x. (x ≡ number.now -ℚ by.now *ℚ step.now) × Fits x) }
 {
     let multiple = by.mul(step)?;
-    let lowered = number.sub(&multiple)?;
+    let lowered = difference(number, &multiple)?;
     let _fits = lowered.num();
     Ok(lowered)
+}
+
+// A difference, without arithmetic where the number is 0.
+fn difference(number: &Ratio, multiple: &Ratio) -> Result<Ratio, RatioFault>
+    ensures exact { OkIff result
+        (SumFits number.now (neg_ℚ multiple.now))
+        (number.now -ℚ multiple.now) }
+{
+    if number.is_zero() {
+        let _fits = multiple.num();
+        return Ok(multiple.neg());
+    }
+    number.sub(multiple)
 }

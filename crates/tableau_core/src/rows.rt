@@ -1,6 +1,7 @@
 //! The rows other than the pivot's.
 ghost use Rattle.std.specs.Prelude.{◌≡◌, ℕ, ◌<◌, List, length, is_ok, OnOk};
 ghost use Rattle.ratio_core.specs.Rational.{Rational};
+ghost use Rattle.tableau_core.specs.Places.{Covers};
 ghost use Rattle.tableau_core.specs.Rows.{AreLowered, ArePrepared, AreWide, now_at, rows_fit};
 
 use crate::fault::BoardOverflow;
@@ -13,8 +14,10 @@ pub(crate) fn prepare_rows(
     r: usize,
     q: usize,
     step: &[Ratio],
+    places: &[usize],
 ) -> Result<(), BoardOverflow>
     requires within { q < length step.now }
+    requires covers { Covers places.now step.now }
     requires wide { AreWide (length step.now) rows.old }
     ensures stays { (i : ℕ) → now_at rows.new i ≡ now_at rows.old i }
     ensures fits { is_ok result ≡ rows_fit r q step.now rows.old }
@@ -23,7 +26,7 @@ pub(crate) fn prepare_rows(
     for i in 0..rows.len() {
         if i != r {
             let row = &mut rows[i];
-            row.prepare(q, step)?;
+            row.prepare(q, step, places)?;
         }
     }
     Ok(())

@@ -1,41 +1,32 @@
-use Rattle.std.proofs.Common.{◌≡◌, ◌∷◌, [], None, refl, sym, ap, subst, ◌∙◌}
-use Rattle.std.specs.Option.{option_copied}
-use Rattle.std.proofs.lemmas.Option.{none-some}
+use Rattle.std.specs.Prelude.{is_some}
+use Rattle.std.proofs.Common.{◌≡◌, ◌∷◌, [], None, refl, ap, subst, ◌∙◌}
 use Rattle.user_model.specs.declared.edit.Edit.TheVariants as edit
 use Rattle.user_model.specs.Deletion.{group_without, objective_without, row_without}
 use Rattle.user_model.specs.Edited.{edited, row_number}
-use Rattle.user_model.specs.Model.{group_of, has_variable, row_mentions, variable_address}
+use Rattle.user_model.specs.Model.{has_variable, row_mentions, variable_address}
 use Rattle.model_laws.specs.Found.{found_passes}
 use Rattle.model_laws.specs.ItemChanges.{edits_of}
-use Rattle.model_laws.specs.Located.{named_stands}
 use Rattle.model_laws.specs.Needed.{needed_variable}
-use Rattle.model_laws.specs.Planned.{deletion_changes}
+use Rattle.model_laws.specs.DeletionChanges.{deletion_changes}
 use Rattle.model_laws.specs.Passed.{passed}
 use Rattle.model_plans.specs.Plans.{HasParts, IsChange, gone}
-use Rattle.model_plans.proofs.NamesListed.{none_listed}
 use Rattle.model_plans.proofs.DeletionPlans.{deleted_leads}
 use Rattle.model_plans.proofs.deletion.delete.Goals as goal
 
-pub unreachable-requires : goal.unreachable-requires
-unreachable-requires c =
+pub variable-variable-requires : goal.variable-variable-requires
+variable-variable-requires c =
     let model = c.args.model.now.model in
-    let there = needed_variable model (edit.DeleteVariable c.args.var.now) c.args.var.now [] refl (passed model (edit.DeleteVariable c.args.var.now) c.requires.accepted).known in
-    none-some there.0 (sym c.in_default.is ∙ (c.variable.ensures ∙ there.1))
-
-pub unreachable-requires-in_default-group_of : goal.unreachable-requires-in_default-group_of
-unreachable-requires-in_default-group_of c =
-    let model = c.args.model.now.model in
-    none_listed (group_of model c.in-Some.number) (sym c.group_of.ensures ∙ ap option_copied c.in_default-group_of.is) (named_stands model c.args.var.now c.in-Some.number (sym c.variable.ensures ∙ c.in-Some.is))
+    ap is_some (needed_variable model (edit.DeleteVariable c.args.var.now) c.args.var.now [] refl (passed model (edit.DeleteVariable c.args.var.now) c.requires.accepted).known).1
 
 pub group_without-requires : goal.group_without-requires
-group_without-requires c = found_passes (has_variable c.in-Some.number) c.args.model.now.model.groups c.in-Some-group_of.group.now (sym c.in-Some-group_of.ensures)
+group_without-requires c = found_passes (has_variable c.variable-variable.result.number) c.args.model.now.model.groups c.variable-variable.result.group.now c.variable-variable.ensures.group
 
 pub returns : goal.returns
 unfolding edited
 returns c =
     let model = c.args.model.now.model in
-    let n = c.in-Some.number in
-    let group = c.in-Some-group_of.group.now in
+    let n = c.variable-variable.result.number in
+    let group = c.variable-variable.result.group.now in
     let place : c.root-at.result ≡ variable_address n = c.root-at.ensures in
     let changed : c.in_ok-plan-2.field-0.items ≡ edits_of row_number (row_without c.root-at.result) (row_mentions c.root-at.result) c.rows.result.now = c.in_ok-plan-2.ensures in
     let rows : c.in_ok-plan-2.field-0.items ≡ deletion_changes model n = changed ∙ (ap (edits_of row_number (row_without c.root-at.result) (row_mentions c.root-at.result)) c.rows.ensures.value ∙ ap (λ at. edits_of row_number (row_without at) (row_mentions at) model.rows) place) in
@@ -44,7 +35,7 @@ returns c =
     let made : c.in_ok-group_without.field-0 ≡ group_without n group = c.in_ok-group_without.ensures in
     let names : c.in_ok-listed.listed.items ≡ c.new.result ∷ [] = c.in_ok-listed.ensures in
     let p : HasParts c.in_ok-plan.plan (record { number = group.id; content = c.in_ok-group_without.field-0 } ∷ []) [] None c.next.result c.in_ok-listed.listed.items [] × (c.in_ok-plan.plan.names.group ≡ group.id) = c.in_ok-plan.ensures in
-    deleted_leads model _ c.requires.consistent c.args.var.now n (sym c.variable.ensures ∙ c.in-Some.is) group (sym c.in-Some-group_of.ensures) c.in_ok-plan-4.field-0
+    deleted_leads model _ c.requires.consistent c.args.var.now n c.variable-variable.ensures.number group c.variable-variable.ensures.group c.in_ok-plan-4.field-0
     (subst (λ at. IsChange model.objective (objective_without at model.objective) c.in_ok-plan-4.field-0) place (subst (λ old. IsChange old (objective_without c.root-at.result old) c.in_ok-plan-4.field-0) c.objective.ensures.value left))
     p.1
     (record {

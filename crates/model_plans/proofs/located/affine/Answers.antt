@@ -1,4 +1,4 @@
-use Rattle.std.proofs.Common.{map, sym, ap, subst, ◌∙◌}
+use Rattle.std.proofs.Common.{sym, ap, subst, ◌∙◌}
 use Rattle.aff_core.specs.Address.{address_cmp}
 use Rattle.aff_core.specs.Rising.{HasDistinctKeys}
 use Rattle.model_laws.specs.DistinctTerms.{distinct_terms, located_terms}

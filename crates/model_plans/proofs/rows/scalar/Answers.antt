@@ -1,16 +1,16 @@
-use Rattle.std.proofs.Common.{[], None, sym, subst}
+use Rattle.std.proofs.Common.{[], None, subst}
 use Rattle.std.proofs.lemmas.Result.{IfOk-weaker}
 use Rattle.model_plans.specs.Plans.{IsChange, HasParts, with_part}
 use Rattle.model_plans.proofs.RowPlans.{scalar_new, scalar_same}
 use Rattle.model_plans.proofs.rows.scalar.Goals as goal
 
-pub returns-in-Some-2 : goal.returns-in-Some-2
-returns-in-Some-2 c =
+pub returns-in-Some : goal.returns-in-Some
+returns-in-Some c =
     let model = c.args.model.now.model in
     let g = with_part c.args.part.now c.args.value in
     let f = c.in-Affine.func in
-    let made = subst (IsChange f (g f)) c.in-Some-2.is c.in_ok-func.ensures in
-    IfOk-weaker c.with_function.result _ _ (λ plan p. scalar_new model plan c.requires.consistent c.args.row.now c.in-Some.row.now (sym c.in-Some.ensures) g f c.in-Some-2.func c.in-Affine.is made.0 made.1 p) c.with_function.ensures
+    let made = subst (IsChange f (g f)) c.in-Some.is c.in_ok-func.ensures in
+    IfOk-weaker c.with_function.result _ _ (λ plan p. scalar_new model plan c.requires.consistent c.args.row.now c.row-row.result.now c.row-row.ensures g f c.in-Some.func c.in-Affine.is made.0 made.1 p) c.with_function.ensures
 
 pub returns-in-None : goal.returns-in-None
 returns-in-None c =
@@ -18,5 +18,5 @@ returns-in-None c =
     let g = with_part c.args.part.now c.args.value in
     let f = c.in-Affine.func in
     let made = subst (IsChange f (g f)) c.in-None.is c.in_ok-func.ensures in
-    scalar_same model c.unchanged.result c.requires.consistent c.args.row.now c.in-Some.row.now (sym c.in-Some.ensures) g f c.in-Affine.is made
+    scalar_same model c.unchanged.result c.requires.consistent c.args.row.now c.row-row.result.now c.row-row.ensures g f c.in-Affine.is made
     (subst (λ n. HasParts c.unchanged.result [] [] None n [] []) c.next.ensures c.unchanged.ensures)

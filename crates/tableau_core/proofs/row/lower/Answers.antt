@@ -1,29 +1,40 @@
+use Rattle.std.specs.Prelude.{slice_index}
 use Rattle.std.proofs.Common.{ap₂, arith, subst, sym, ◌∙◌, ◌+◌}
 use Rattle.ratio_core.specs.Rational.{◌*ℚ◌, ◌-ℚ◌}
 use Rattle.simplex_form.specs.Fit.{lowered_fits}
-use Rattle.tableau_core.proofs.RowSteps.{IsLoweredTo, is_ok-err, item_is, lowered_here, lowered_none, lowered_past, lowered_refused}
+use Rattle.tableau_core.proofs.RowSteps.{IsLoweredAt, is_ok-err, item_is, lowered_all, lowered_fit, lowered_here, lowered_none, lowered_past, lowered_refused}
 use Rattle.tableau_core.proofs.row.lower.Goals as goal
-use Rattle.tableau_core.proofs.row.lower.Goals.{then-not-is_zero+in_ok-next, else-not-is_zero}
+use Rattle.tableau_core.proofs.row.lower.Goals.{then-j-row+in_ok-next, else-j-row}
 
-pub loop-j-init : goal.loop-j-init
-loop-j-init c = lowered_none c.args.by.now c.args.step.now c.args.row.now c.copy_from_slice.new.self c.copy_from_slice.ensures.after c.requires.row_fits
+pub loop-i-init : goal.loop-i-init
+loop-i-init c = lowered_none c.args.by.now c.args.step.now c.args.row.now c.args.places.now c.copy_from_slice.new.self c.copy_from_slice.ensures.after c.requires.row_fits
+
+pub loop-i-preserved : goal.loop-i-preserved
+loop-i-preserved c =
+    let place = slice_index c.args.places.now c.loop-i.i in
+    elim c.if-j-row.branch [
+      | then-j-row+in_ok-next w ↦
+          let number = item_is c.args.row.now place w.index-row-j.result w.if-j-row.true w.index-row-j.is in
+          let unit = item_is c.args.step.now place w.index-step-j.result (omega (arith, w.if-j-row.true, c.requires.step_long)) w.index-step-j.is in
+          subst (λ next. IsLoweredAt c.args.by.now c.args.step.now c.args.row.now c.args.places.now next (c.loop-i.i + 1)) (sym w.next-is)
+          (lowered_here c.args.by.now c.args.step.now c.args.row.now c.args.places.now c.loop-i.next c.loop-i.i c.loop-i.invariant w.in_ok-next.field-0 w.if-j-row.true (ap₂ (λ x y. lowered_fits x c.args.by.now y) (sym number) (sym unit) ∙ sym w.in_ok-next.ensures.fits) (w.in_ok-next.ensures.ok.0 ∙ (λ i. number i -ℚ c.args.by.now *ℚ unit i)) w.in_ok-next.ensures.ok.1)
+      | else-j-row w ↦
+          subst (λ next. IsLoweredAt c.args.by.now c.args.step.now c.args.row.now c.args.places.now next (c.loop-i.i + 1)) (sym w.next-is)
+          (lowered_past c.args.by.now c.args.step.now c.args.row.now c.args.places.now c.loop-i.next c.loop-i.i c.loop-i.invariant (omega (arith, w.if-j-row.false)))
+    ]
 
 pub returns-in_err-next-clause-fits : goal.returns-in_err-next-clause-fits
 returns-in_err-next-clause-fits c =
-    let number = item_is c.args.row.now c.loop-j.j c.index-row-j.result c.loop-j-test.true c.index-row-j.is in
-    let unit = item_is c.args.step.now c.loop-j.j c.index-step-j.result (omega arith) c.index-step-j.is in
+    let place = slice_index c.args.places.now c.loop-i.i in
+    let number = item_is c.args.row.now place c.index-row-j.result c.if-j-row.true c.index-row-j.is in
+    let unit = item_is c.args.step.now place c.index-step-j.result (omega (arith, c.if-j-row.true, c.requires.step_long)) c.index-step-j.is in
     is_ok-err c.from_residual.result c.from_residual.ensures.0
-    ∙ sym (lowered_refused c.args.by.now c.args.step.now c.args.row.now c.loop-j.next c.loop-j.j c.loop-j.invariant c.loop-j-test.true (ap₂ (λ x y. lowered_fits x c.args.by.now y) (sym number) (sym unit) ∙ sym c.in_err-next.ensures.fits))
+    ∙ sym (lowered_refused c.args.by.now c.args.step.now c.args.row.now c.args.places.now c.loop-i.next c.loop-i.i c.loop-i.invariant c.if-j-row.true (ap₂ (λ x y. lowered_fits x c.args.by.now y) (sym number) (sym unit) ∙ sym c.in_err-next.ensures.fits))
 
-pub loop-j-preserved : goal.loop-j-preserved
-loop-j-preserved c =
-    let unit = item_is c.args.step.now c.loop-j.j c.index-step-j.result (omega arith) c.index-step-j.is in
-    elim c.if-not-is_zero.branch [
-      | then-not-is_zero+in_ok-next w ↦
-          let number = item_is c.args.row.now c.loop-j.j w.index-row-j.result c.loop-j-test.true w.index-row-j.is in
-          subst (λ next. IsLoweredTo c.args.by.now c.args.step.now c.args.row.now next (c.loop-j.j + 1)) (sym w.next-is)
-          (lowered_here c.args.by.now c.args.step.now c.args.row.now c.loop-j.next c.loop-j.j c.loop-j.invariant c.loop-j-test.true w.in_ok-next.field-0 (ap₂ (λ x y. lowered_fits x c.args.by.now y) (sym number) (sym unit) ∙ sym w.in_ok-next.ensures.fits) (w.in_ok-next.ensures.ok.0 ∙ (λ i. number i -ℚ c.args.by.now *ℚ unit i)) w.in_ok-next.ensures.ok.1)
-      | else-not-is_zero w ↦
-          subst (λ next. IsLoweredTo c.args.by.now c.args.step.now c.args.row.now next (c.loop-j.j + 1)) (sym w.next-is)
-          (lowered_past c.args.by.now c.args.step.now c.args.row.now c.loop-j.next c.loop-j.j c.loop-j.invariant c.loop-j-test.true (sym unit ∙ c.is_zero.ensures.0 w.if-not-is_zero.false) c.requires.row_fits)
-    ]
+pub returns-clause-fits : goal.returns-clause-fits
+returns-clause-fits c =
+    sym (lowered_fit c.args.by.now c.args.step.now c.args.row.now c.args.places.now c.loop-i.next c.loop-i.i c.loop-i.invariant (omega (arith, c.loop-i.auto.i-end, c.loop-i-test.false)) c.requires.covers c.requires.step_long c.requires.row_fits)
+
+pub returns-clause-ok : goal.returns-clause-ok
+returns-clause-ok c =
+    lowered_all c.args.by.now c.args.step.now c.args.row.now c.args.places.now c.loop-i.next c.loop-i.i c.loop-i.invariant (omega (arith, c.loop-i.auto.i-end, c.loop-i-test.false)) c.requires.covers c.requires.step_long c.requires.row_fits

@@ -1,5 +1,5 @@
-use Rattle.tableau_core.proofs.RowSteps.{IsLoweredTo}
+use Rattle.tableau_core.proofs.RowSteps.{IsLoweredAt}
 use Rattle.tableau_core.proofs.row.lower.Given as goal
 
-abbrev pub invariant-loop-j : goal.invariant-loop-j
-invariant-loop-j l = IsLoweredTo l.by l.step l.row l.next l.j
+abbrev pub invariant-loop-i : goal.invariant-loop-i
+invariant-loop-i l = IsLoweredAt l.by l.step l.row l.places l.next l.i

@@ -1,11 +1,13 @@
-use Rattle.std.proofs.Common.{◌≡◌, ◌||◌, ◌==◌, ◌*◌, ◌/◌, ◌%◌, ◌^◌, arith, bit_or, get_or, set, subst, sym}
-use Rattle.std.specs.Int.{bit_at}
-use Rattle.model_refusals.proofs.MarkLemmas.{bit_in-set}
+use Rattle.std.proofs.Common.{◌/◌, ◌%◌, ◌^◌}
+use Rattle.model_refusals.proofs.MarkLemmas.{three_set, three_stay}
 use Rattle.model_refusals.proofs.marks.Marks.put.Goals as goal
 
-pub returns : goal.returns
-returns c = λ n.
-    let words = c.args.self.now.words in
-    let k = c.args.number in
-    subst (λ w. (bit_at (get_or (set words w (bit_or (get_or words w 0) (1 * 2 ^ (k % 64) % 2 ^ 64))) (n / 64) 0) (n % 64) == 1) ≡ ((n == k) || (bit_at (get_or words (n / 64) 0) (n % 64) == 1)))
-    (sym c.from.ensures) (bit_in-set words k n (omega arith))
+pub returns-clause-put : goal.returns-clause-put
+returns-clause-put c =
+    let hash = c.args.hash in
+    three_set c.args.self.now c.put_bit.new.self c.put_bit-2.new.self c.put_bit-3.new.self (hash / 2 ^ 45 % 524288) (hash / 2 ^ 26 % 524288) (hash / 2 ^ 7 % 524288) c.put_bit.ensures c.put_bit-2.ensures c.put_bit-3.ensures
+
+pub returns-clause-kept : goal.returns-clause-kept
+returns-clause-kept c = λ other.
+    let hash = c.args.hash in
+    three_stay c.args.self.now c.put_bit.new.self c.put_bit-2.new.self c.put_bit-3.new.self (hash / 2 ^ 45 % 524288) (hash / 2 ^ 26 % 524288) (hash / 2 ^ 7 % 524288) c.put_bit.ensures c.put_bit-2.ensures c.put_bit-3.ensures (other / 2 ^ 45 % 524288) (other / 2 ^ 26 % 524288) (other / 2 ^ 7 % 524288)

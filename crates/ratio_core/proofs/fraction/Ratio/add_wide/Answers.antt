@@ -51,7 +51,7 @@ returns-in_err-den-clause-exact c =
     c.is_negative.result c.is_negative-2.result c.signed_sum-is_negative.result.0 c.in_ok-left.left
     c.in_ok-right.right c.signed_sum-is_negative.result.1 c.is_negative.ensures c.is_negative-2.ensures
     c.in_ok-left.ensures.exact.1 c.in_ok-right.ensures.exact.1 c.signed_sum-is_negative.ensures
-    c.greatest_common_divisor-last.result c.greatest_common_divisor-last.ensures.value
+    c.last_wide_divisor-last.result c.last_wide_divisor-last.ensures.value
     (subst (λ k. ¬ (c.quotient-left_over.result * k < 2 ^ 127)) c.quotient.ensures c.in_err-den.ensures.exact))
 
 pub store-requires : goal.store-requires
@@ -66,7 +66,7 @@ store-requires c =
     c.is_negative.result c.is_negative-2.result c.signed_sum-is_negative.result.0 c.in_ok-left.left
     c.in_ok-right.right c.signed_sum-is_negative.result.1 c.is_negative.ensures c.is_negative-2.ensures
     c.in_ok-left.ensures.exact.1 c.in_ok-right.ensures.exact.1 c.signed_sum-is_negative.ensures
-    c.greatest_common_divisor-last.result c.greatest_common_divisor-last.ensures.value
+    c.last_wide_divisor-last.result c.last_wide_divisor-last.ensures.value
     c.in_ok-den.den
     (c.in_ok-den.ensures.exact.1 ∙ ap (λ k. c.quotient-left_over.result * k) c.quotient.ensures)
     (omega arith) (omega (arith, c.in_ok-den.ensures.exact)))
@@ -82,7 +82,7 @@ returns-clause-exact c = (
       c.is_negative.result c.is_negative-2.result c.signed_sum-is_negative.result.0 c.in_ok-left.left
       c.in_ok-right.right c.signed_sum-is_negative.result.1 c.is_negative.ensures c.is_negative-2.ensures
       c.in_ok-left.ensures.exact.1 c.in_ok-right.ensures.exact.1 c.signed_sum-is_negative.ensures
-      c.greatest_common_divisor-last.result c.greatest_common_divisor-last.ensures.value
+      c.last_wide_divisor-last.result c.last_wide_divisor-last.ensures.value
       c.in_ok-den.den (c.in_ok-den.ensures.exact.1 ∙ ap (λ k. c.quotient-left_over.result * k) c.quotient.ensures)
       (omega (arith, c.in_ok-left.ensures.exact)) (omega (arith, c.in_ok-right.ensures.exact)) (omega arith) (omega (arith, c.in_ok-den.ensures.exact)),
   c.store.ensures
@@ -96,6 +96,6 @@ returns-clause-exact c = (
       c.is_negative.result c.is_negative-2.result c.signed_sum-is_negative.result.0 c.in_ok-left.left
       c.in_ok-right.right c.signed_sum-is_negative.result.1 c.is_negative.ensures c.is_negative-2.ensures
       c.in_ok-left.ensures.exact.1 c.in_ok-right.ensures.exact.1 c.signed_sum-is_negative.ensures
-      c.greatest_common_divisor-last.result c.greatest_common_divisor-last.ensures.value
+      c.last_wide_divisor-last.result c.last_wide_divisor-last.ensures.value
       c.in_ok-den.den (c.in_ok-den.ensures.exact.1 ∙ ap (λ k. c.quotient-left_over.result * k) c.quotient.ensures),
 )

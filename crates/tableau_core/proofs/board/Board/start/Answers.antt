@@ -19,6 +19,7 @@ made c = record {
   first = c.in_ok-first.first;
   second = c.in_ok-second.second;
   step = c.in_ok-step.step;
+  places = c.in_ok-places.places;
   basis = c.in_ok-basis.basis;
 }
 
@@ -35,6 +36,7 @@ pub invariant_of-result : goal.invariant_of-result
 invariant_of-result c =
     start-kept (form c) (made c) refl c.in_ok-rows.ensures.count c.in_ok-rows.ensures.wide c.in_ok-basis.ensures
     (first_listed c).long (second_listed c).long c.in_ok-step.ensures.long c.in_ok-step.ensures.all_fit
+    c.in_ok-places.ensures
     (ap length c.in_ok-basis.ensures ∙ length-range_with_len c.args.c c.args.m)
 
 pub returns-clause-board : goal.returns-clause-board

@@ -1,0 +1,131 @@
+-- An entry put among others or taken from them, at its place in the order of the addresses.
+use Rattle.std.specs.Prelude.{◌≡◌, ℕ, zero, suc, ◌<◌, ◌≤◌, Bool, true, false, not, cond, Option, None, List, [], ◌∷◌, ◌++◌, take, drop, length, filter, slice_index_or, Result, Ok, Err, MatchResult, refl}
+use Rattle.std.proofs.Common.{arith, sym, ap, subst, ◌∙◌}
+use Rattle.std.specs.List.{remove}
+use Rattle.std.specs.List.Sorted.{IsBinarySearchResult, IsSearchInRange}
+use Rattle.std.proofs.lemmas.List.Sorted.{searchable_from_sorted}
+use Rattle.std.specs.Ordering.{eq_by_cmp, is_eq, ordering_reverse}
+use Rattle.std.specs.declared.cmp.Ordering.{Ordering}
+use Rattle.std.specs.declared.cmp.Ordering.TheVariants.{Less, Equal, Greater}
+use Rattle.std.specs.Cmp.{IsTotalOrder}
+use Rattle.std.specs.FinMap as finite
+use Rattle.std.specs.FinMap.{FinMap, IsAntisymmetric}
+use Rattle.std.specs.FinMap.Entries.{by_order, find-where_key, is_sorted-where_key, put, where_key}
+use Rattle.aff_core.specs.Address.{Address, address_cmp, address_total, exact_addresses}
+use Rattle.aff_core.specs.FunctionLaws.{entries_rise, rises}
+use Rattle.aff_core.specs.Rising.{RiseStrictly}
+use Rattle.map_laws.specs.EntryLaws.{ascending, key_less, searched}
+use Rattle.map_laws.specs.MadeLaws.{from_sorted-entries}
+use Rattle.address_map.specs.KeptPlaces.{IsGapFor, IsPlaceOf}
+use Rattle.address_map.specs.Places.{Indices}
+
+-- each entry from one place up to another compares so with the key
+abbrev Within : {K X : Type 0} → (K → K → Ordering) → List (K × X) → K → Ordering → ℕ → ℕ → Type 0
+Within {K} {X} R es k o low high = (j : ℕ) (d : K × X) → low ≤ j → j < high → R (slice_index_or es j d).0 k ≡ o
+
+module _ {K : Type 0} {R : K → K → Ordering} (total : IsTotalOrder R) (k : K) where
+  turned : (x : K) (o : Ordering) → R x k ≡ o → R k x ≡ ordering_reverse o
+  turned x o e = total.antisymm k x ∙ ap ordering_reverse e
+
+module _ {K X : Type 0} {R : K → K → Ordering} (total : IsTotalOrder R) (k : K) where
+  -- the rest of a list has the same, one place earlier
+  rest : (e : K × X) (es : List (K × X)) (o : Ordering) (low high from : ℕ) → from ≤ suc low → Within R (e ∷ es) k o from (suc high) → Within R es k o low high
+  rest e es o low high from lt h j d after before = h (suc j) d (omega arith) (omega arith)
+
+  put_gap : (v : X) (es : List (K × X)) (i : ℕ) → i ≤ length es → Within R es k Less 0 i → Within R es k Greater i (length es) → put R k v es ≡ take i es ++ (k, v) ∷ drop i es
+  put_gap v [] zero lt below above = refl
+  put_gap v [] (suc i) lt below above = absurd (omega arith)
+  put_gap v (e ∷ es) zero lt below above =
+      ap (λ r. by_order r ((k, v) ∷ e ∷ es) ((e.0, v) ∷ es) (e ∷ put R k v es)) (turned total k e.0 Greater (above 0 e (omega arith) (omega arith)))
+  put_gap v (e ∷ es) (suc i) lt below above =
+      ap (λ r. by_order r ((k, v) ∷ e ∷ es) ((e.0, v) ∷ es) (e ∷ put R k v es)) (turned total k e.0 Less (below 0 e (omega arith) (omega arith)))
+      ∙ ap (λ l. e ∷ l) (put_gap v es i (omega arith) (rest e es Less 0 i 0 (omega arith) below) (rest e es Greater i (length es) (suc i) (omega arith) above))
+
+  -- the entries but the key's
+  others : List (K × X) → List (K × X)
+  others es = filter (λ e. not (eq_by_cmp R k e.0)) es
+
+  all_above : (es : List (K × X)) → Within R es k Greater 0 (length es) → others es ≡ es
+  unfolding others
+  all_above [] above = refl
+  all_above (e ∷ es) above =
+      ap (λ r. cond (not (is_eq r)) (e ∷ others es) (others es)) (turned total k e.0 Greater (above 0 e (omega arith) (omega arith)))
+      ∙ ap (λ l. e ∷ l) (all_above es (rest e es Greater 0 (length es) 0 (omega arith) above))
+
+  take_place : (es : List (K × X)) (i : ℕ) → i < length es → Within R es k Less 0 i → ((d : K × X) → R (slice_index_or es i d).0 k ≡ Equal) → Within R es k Greater (suc i) (length es) → others es ≡ take i es ++ drop (suc i) es
+  unfolding others
+  take_place [] i lt below here above = absurd (omega arith)
+  take_place (e ∷ es) zero lt below here above =
+      ap (λ r. cond (not (is_eq r)) (e ∷ others es) (others es)) (turned total k e.0 Equal (here e))
+      ∙ all_above es (rest e es Greater 0 (length es) 1 (omega arith) above)
+  take_place (e ∷ es) (suc i) lt below here above =
+      ap (λ r. cond (not (is_eq r)) (e ∷ others es) (others es)) (turned total k e.0 Less (below 0 e (omega arith) (omega arith)))
+      ∙ ap (λ l. e ∷ l) (take_place es i (omega arith) (rest e es Less 0 i 0 (omega arith) below) here (rest e es Greater (suc i) (length es) (suc (suc i)) (omega arith) above))
+
+same_test : {K : Type 0} {R : K → K → Ordering} (total : IsTotalOrder R) (q k : K)
+    → eq_by_cmp R q k ≡ eq_by_cmp R k q
+same_test {R = R} total q k = ap is_eq (total.antisymm q k) ∙ mirrored (R k q)
+  where
+    mirrored : (o : Ordering) → is_eq (ordering_reverse o) ≡ is_eq o
+    mirrored Less = refl
+    mirrored Equal = refl
+    mirrored Greater = refl
+
+swapped : {X : Type 0} (b : Bool) (o : Option X) → cond b None o ≡ cond (not b) o None
+swapped true o = refl
+swapped false o = refl
+
+entries-remove : {K X : Type 0} {R : K → K → Ordering} (total : IsTotalOrder R)
+    (exact : IsAntisymmetric R) (m : FinMap R X) (k : K)
+    → finite.entries (finite.remove m k) ≡ others total k (finite.entries m)
+unfolding others
+entries-remove {K} {X} {R} total exact m k =
+    let p : K → Bool = λ x. not (eq_by_cmp R k x) in
+    let kept = is_sorted-where_key R p (finite.entries m) (finite.entries_sorted m) in
+    ap finite.entries (finite.same_map total exact (finite.remove m k) (finite.from_sorted (where_key R p (finite.entries m))) (λ q.
+    finite.get-remove total m k q ∙ ap (λ b. cond b None (finite.get m q)) (same_test total q k)
+    ∙ swapped (eq_by_cmp R k q) (finite.get m q) ∙ ap (λ o. cond (p q) o None) (finite.get-entries m q)
+    ∙ sym (find-where_key R p q (λ x e. ap p (sym (exact q x e))) (finite.entries m))
+    ∙ sym (finite.get-from_sorted R (where_key R p (finite.entries m)) q kept)))
+    ∙ finite.entries-from_sorted R (where_key R p (finite.entries m)) kept
+
+-- ---- what a binary search among the entries answers
+
+module _ (m : Indices) (at : Address) where
+  es : List (Address × ℕ)
+  es = finite.entries m
+
+  found_at : (n : ℕ) → n < length (finite.entries m) → ((d : Address × ℕ) → address_cmp (slice_index_or (finite.entries m) n d).0 at ≡ Equal) → finite.entries (finite.remove m at) ≡ remove (finite.entries m) n
+  found_at n lt here =
+      let sorted = finite.entries_sorted m in
+      let same : (d : Address × ℕ) → (slice_index_or (finite.entries m) n d).0 ≡ at = λ d. exact_addresses _ _ (here d) in
+      let below : Within address_cmp (finite.entries m) at Less 0 n = λ j d from to. subst (λ k. address_cmp (slice_index_or (finite.entries m) j d).0 k ≡ Less) (same d) (key_less address_total (finite.entries m) j n d sorted to lt) in
+      let above : Within address_cmp (finite.entries m) at Greater (suc n) (length (finite.entries m)) = λ j d from to. turned address_total (slice_index_or (finite.entries m) j d).0 at Less (subst (λ k. address_cmp k (slice_index_or (finite.entries m) j d).0 ≡ Less) (same d) (key_less address_total (finite.entries m) n j d sorted (omega (arith, from)) to)) in
+      entries-remove address_total exact_addresses m at ∙ take_place address_total at (finite.entries m) n lt below here above
+
+  pub placed : (r : Result ℕ ℕ) → IsSearchInRange r (length (finite.entries m)) → IsBinarySearchResult (λ e. address_cmp e.0 at) (finite.entries m) r → MatchResult r (IsPlaceOf m at) (IsGapFor m at)
+  placed (Ok n) range here = record {
+    in_range = range;
+    found = λ d. finite.get-entries m at ∙ searched address_total at (finite.entries m) (Ok n) (finite.entries_sorted m) range here d;
+    others = found_at n range here;
+  }
+  placed (Err n) range parted =
+      let parts = parted (searchable_from_sorted address_total (λ e. e.0) (finite.entries m) at (ascending address_total (finite.entries m) (finite.entries_sorted m))) in
+      record {
+        in_range = range;
+        absent = finite.get-entries m at ∙ searched address_total at (finite.entries m) (Err n) (finite.entries_sorted m) range parted;
+        given = λ i. finite.entries-insert address_total m at i ∙ put_gap address_total at i (finite.entries m) n range (λ j d from to. parts.0 j d (omega arith) to) (λ j d from to. parts.1 j d from to);
+      }
+
+-- ---- the map of entries in order
+
+pub entries_kept : (items : List (Address × ℕ)) → RiseStrictly items → finite.entries (finite.from_sorted {R = address_cmp} items) ≡ items
+entries_kept items h = finite.entries-from_sorted address_cmp items (rises items h)
+
+-- entries that are a map's rise, and make that map
+module _ (m : Indices) (items : List (Address × ℕ)) (is : items ≡ finite.entries m) where
+  pub made_rise : RiseStrictly items
+  made_rise = subst RiseStrictly (sym is) (entries_rise m)
+
+  pub made_map : finite.from_sorted {R = address_cmp} items ≡ m
+  made_map = ap finite.from_sorted is ∙ from_sorted-entries address_total m

@@ -1,0 +1,25 @@
+-- What contracts see of the map between leaf addresses and solver indices.
+use Rattle.std.specs.Prelude.{refl}
+use Rattle.std.specs.Coded.{Coded, code_by, coded×}
+use Rattle.std.specs.FinMap as finite
+use Rattle.std.specs.FinMap.{FinMap}
+use Rattle.aff_core.specs.Address.{address_cmp, address_code}
+use Rattle.aff_core.specs.Function.{Function, function_code}
+use Rattle.address_map.specs.Places.{Places, places_code}
+
+-- each variable's expression over leaf variables
+abbrev pub Expressions : Type 0
+Expressions = FinMap address_cmp Function
+
+pub record AddressMap : Type 0 where
+  pub vars : Places
+  pub rows : Places
+  pub exprs : Expressions
+
+abbrev pub address_map_code : Coded AddressMap
+address_map_code =
+    code_by (Places × (Places × Expressions))
+    (coded× places_code (coded× places_code (finite.code address_code function_code)))
+    (λ m. (m.vars, (m.rows, m.exprs)))
+    (λ p. record { vars = p.0; rows = p.1.0; exprs = p.1.1 })
+    (λ _. refl)

@@ -1,0 +1,7 @@
+pub mod FunctionizeLaws
+pub mod ScalarFunctionizeLaws
+pub mod VectorFunctionizeLaws
+pub mod ObjFunctionizeLaws
+pub mod RaisedLaws
+pub mod VectorizeLaws
+pub mod VectorizeVarLaws

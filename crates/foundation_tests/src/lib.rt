@@ -1,0 +1,15 @@
+//! Tests of what all crates stand on: lists, sources and sinks, names, sets and named functions.
+#![tactic(auto)]
+
+#[cfg(test)]
+mod functions;
+#[cfg(test)]
+mod names;
+#[cfg(test)]
+mod sequences;
+#[cfg(test)]
+mod sets;
+#[cfg(test)]
+mod sinks;
+#[cfg(test)]
+mod sources;

@@ -1,0 +1,2 @@
+pub mod LeafModel
+pub mod ReadThrough
