@@ -5,3 +5,4 @@ pub mod ObjFunctionizeLaws
 pub mod RaisedLaws
 pub mod VectorizeLaws
 pub mod VectorizeVarLaws
+pub mod ScalarizeLaws

@@ -6,12 +6,14 @@ mod functionize;
 mod numbers;
 mod obj_functionize;
 mod scalar_functionize;
+mod scalarize;
 mod vector_functionize;
 mod vectorize;
 mod vectorize_var;
 
 pub use obj_functionize::{ObjFunctionize, ObjFunctionizeRule};
 pub use scalar_functionize::{ScalarFunctionize, ScalarFunctionizeRule};
+pub use scalarize::{Scalarize, ScalarizeRule};
 pub use vector_functionize::{VectorFunctionize, VectorFunctionizeRule};
 pub use vectorize::{Vectorize, VectorizeRule};
 pub use vectorize_var::{VectorizeVar, VectorizeVarRule};

@@ -1,0 +1,12 @@
+use Rattle.std.proofs.Common.{◌++◌, ◌∷◌, [], ap, ap₂, ◌∙◌}
+use Rattle.bridge_face.specs.Images.{component_of}
+use Rattle.item_core.specs.declared.item.Body.TheVariants.{Affine}
+use Rattle.item_core.specs.declared.item.Item.{Item}
+use Rattle.bridges_shape.specs.ScalarizeLaws.{row_made, rows_step}
+use Rattle.bridges_shape.proofs.scalarize.affine_parts.Goals as goal
+
+pub loop-n-preserved : goal.loop-n-preserved
+loop-n-preserved c =
+    c.in_ok-push.ensures.items
+    ∙ ap (λ (i : Item). c.loop-n.rows.items ++ i ∷ []) (row_made c.child.ensures (ap₂ Affine c.in_ok-copy.ensures c.part.ensures))
+    ∙ rows_step c.args.item.now (λ x. Affine x (component_of c.args.set.now)) c.args.funcs.now c.loop-n.n c.index-funcs-n.result c.loop-n.rows.items c.loop-n-test.true c.index-funcs-n.is c.loop-n.invariant
