@@ -34,10 +34,11 @@ use Rattle.rational_laws.specs.DotLaws.{dot_zeros, zeros_dot}
 use Rattle.item_core.specs.Item.{functions_of, is_group, set_of, variables_of}
 use Rattle.bridge_face.specs.GroupLaws.{group_held, held_of}
 use Rattle.item_core.specs.KindOf.{kind_of_body}
-use Rattle.bridge_face.specs.GroupAndRowLaws.{second_row_valid}
+use Rattle.bridge_face.specs.GroupAndRowLaws.{second_row_valid, group_and_row}
 use Rattle.bridge_face.specs.BackOf.{size}
 use Rattle.aff_core.specs.Function.{variable}
 use Rattle.rational_laws.specs.Order.{≤ℚ_from_≡}
+use Rattle.item_core.specs.declared.image.Expression.{Expression}
 use Rattle.item_core.specs.declared.kind.Kind.TheVariants as kind
 
 -- ---- the child group and the row
@@ -395,6 +396,10 @@ one_inner : (item : Item) → IsValidItem item → (scalar : Bool) → is_scalar
 one_inner item valid scalar s e =
     ap (inner item) (sym valid.set.dimension ∙ scalar_one (set_of item.body) (s ∙ e))
 
+-- an item at an address
+abbrev pub item_of : Address → Body → Item
+item_of at body = record { at = at; body = body }
+
 abbrev pub later_parts : Item → Body → Body → List Address → Image
 later_parts item group row ss = record {
   groups = child_at item 0 group ∷ [];
@@ -435,6 +440,26 @@ module _ (edge : Edge) (own : family_of edge ≡ Later) where
         rows = child_at item 1 (row_of free (inner item (size item)) (set_of item.body)) ∷ [];
         objective = None;
       }) (free_child free item)
+
+  -- so is an image that is made of these parts
+  pub parts_made : (item : Item) → IsItemFor edge item
+      → (at first : Address) (free : Bool) (count : ℕ) (vars : List Address) (exprs : List Expression) (part : Set) (group row : Body) (made : Image)
+      → at ≡ child_of item.at 0 → first ≡ child_of at 0 → free ≡ begins_free (children_of edge) → count ≡ size item
+      → vars ≡ inner item count → exprs ≡ map Kept vars → part ≡ set_of item.body
+      → group ≡ first_child free count vars → row ≡ second_child free (is_scalar part) first vars part
+      → made ≡ group_and_row item (item_of at group) exprs row
+      → made ≡ image_of edge item
+  parts_made item suits at first free count vars exprs part group row made at_is first_is free_is count_is vars_are exprs_are part_is group_is row_is image_of_parts =
+      let whole = set_of item.body in
+      let all = inner item (size item) in
+      image_of_parts
+      ∙ ap₂ (λ g es. group_and_row item g es row) (ap₂ item_of at_is group_is) exprs_are
+      ∙ ap (λ r. group_and_row item (child_at item 0 (first_child free count vars)) (map Kept vars) r) row_is
+      ∙ ap₂ (λ us t. group_and_row item (child_at item 0 (first_child free count us)) (map Kept us) (second_child free (is_scalar t) first us t)) vars_are part_is
+      ∙ ap (λ n. group_and_row item (child_at item 0 (first_child free n (inner item n))) (map Kept (inner item n)) (second_child free (is_scalar whole) first (inner item n) whole)) count_is
+      ∙ ap (λ v. group_and_row item (child_at item 0 (first_child free (size item) all)) (map Kept all) (second_child free (is_scalar whole) v all whole)) (first_is ∙ ap (λ a. child_of a 0) at_is)
+      ∙ sym (image_is item free (sym free_is)
+      ∙ ap (λ r. later_parts item (first_child free (size item) all) r all) (row_is_second free (is_scalar whole) (head_of item) all whole refl (one_inner item suits.valid (is_scalar whole) refl)))
 
   law_at : Lawful edge
   law_at item suits =

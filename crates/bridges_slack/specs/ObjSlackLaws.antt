@@ -4,7 +4,7 @@ use Rattle.std.proofs.lemmas.List.Elements.{All-cons, All-head, All-nil, All-tai
 use Rattle.std.proofs.Common.{ap, ap₂, arith, subst, sym, true≢false, ◌∙◌}
 use Rattle.std.proofs.lemmas.List.{length-append}
 use Rattle.rational_laws.specs.Field.{*ℚ-neg_ℚ, *ℚ-one, *ℚ-zero, +ℚ-zero, +ℚ_comm, neg_ℚ-zero, neg_ℚ_unique, zero-*ℚ, zero-+ℚ, -ℚ-itself}
-use Rattle.aff_core.specs.Address.{Address, address_cmp, child_of}
+use Rattle.aff_core.specs.Address.{Address, child_of}
 use Rattle.item_core.specs.declared.item.Body.TheVariants.{Affine, AffineObj, Free, PlainObj}
 use Rattle.bridge_face.specs.Law.{Balances, CarriesValues, ChildDuals, EdgeLaw, GrowsBy, HasComponents, HoldsAt, IsCovered, IsItemFor, IsLawful, IsValidWithin, LeadsTo, MentionsKnown, Miss, cost_by, cost_of, expressed, growth, held_children, held_item, inner_of, is_objective, row_set}
 use Rattle.item_core.specs.declared.item.Body.{Body}
@@ -44,11 +44,15 @@ use Rattle.rational_laws.specs.Order.{neg_ℚ-≤ℚ, nonneg_neg, ≤ℚ_from_no
 use Rattle.bridge_face.specs.ObjectiveLaws.{objective_held, objective_no_group, objective_stands, objective_valid}
 use Rattle.bridge_face.specs.GroupAndRowLaws.{second_row_valid}
 use Rattle.set_laws.specs.Least.{single₂}
+use Rattle.item_core.specs.declared.image.Expression.{Expression}
 use Rattle.item_core.specs.declared.kind.Kind.TheVariants as kind
 
 -- an affine objective
 pub data IsAffineObjective : Body → Type 0 where
   affine_objective : {sense : Sense} {func : Function} → IsAffineObjective (AffineObj sense func)
+
+pub is_one : (b : Body) → IsAffineObjective b → ((sense : Sense) (func : Function) → b ≡ AffineObj sense func → ⊥) → ⊥
+is_one b (affine_objective {sense} {func}) none = none sense func refl
 
 -- the row and the objective that the edges make
 abbrev pub row_of : Sense → Function → Address → Body
@@ -391,6 +395,14 @@ module _ (edge : Edge) (item : Item) (sense : Sense) (f : Function) (l : IsSlack
 
 -- ---- the table
 
+-- an item at an address
+abbrev pub item_of : Address → Body → Item
+item_of at body = record { at = at; body = body }
+
+abbrev pub objective_parts : List Item → List Expression → List Item → Item → Image
+objective_parts groups exprs rows objective =
+    record { groups = groups; exprs = exprs; rows = rows; objective = Some objective }
+
 abbrev pub slack_image : Item → Sense → Function → Image
 slack_image item sense f = record {
   groups = free_at item 1 ∷ [];
@@ -404,7 +416,7 @@ module _ (edge : Edge) (own : family_of edge ≡ ObjSlack) where
   unfolding FitsBy
   image_fits item = subst (λ f. FitsBy f item) (sym own) tt
 
-  slack_is : (item : Item) → image_of edge item ≡ obj_slack item
+  pub slack_is : (item : Item) → image_of edge item ≡ obj_slack item
   unfolding image_by
   slack_is item = ap (λ f. image_by f edge item) own
 
@@ -430,6 +442,25 @@ module _ (edge : Edge) (own : family_of edge ≡ ObjSlack) where
       unnamed_below item.at 0 (function_of_body item.body)
       (All-head (NamesNothingBelow item.at) (function_of_body item.body) []
       (subst (All (NamesNothingBelow item.at)) facts.functions (suits.valid.others (objective_no_group item.body facts.source)))) (0 ∷ [])
+
+  -- so is an image that is made of these parts
+  pub parts_made : (item : Item) → IsItemFor edge item
+      → (at var at_row at_objective : Address) (vars : List Address) (groups rows : List Item) (exprs : List Expression) (row objective : Body)
+      → at ≡ child_of item.at 0 → var ≡ child_of at 0 → at_row ≡ child_of item.at 1 → at_objective ≡ child_of item.at 2
+      → vars ≡ inner item 1 → groups ≡ item_of at (Free vars) ∷ [] → rows ≡ item_of at_row row ∷ [] → exprs ≡ []
+      → row ≡ row_of (sense_of item.body) (function_of_body item.body) var
+      → objective ≡ PlainObj (sense_of item.body) var
+      → objective_parts groups exprs rows (item_of at_objective objective) ≡ image_of edge item
+  parts_made item suits at var at_row at_objective vars groups rows exprs row objective at_is var_is at_row_is at_objective_is vars_are groups_are rows_are exprs_are row_is objective_is =
+      let sense = sense_of item.body in
+      let f = function_of_body item.body in
+      ap₂ (λ gs rs. objective_parts gs exprs rs (item_of at_objective objective)) groups_are rows_are
+      ∙ ap (λ es. objective_parts (item_of at (Free vars) ∷ []) es (item_of at_row row ∷ []) (item_of at_objective objective)) exprs_are
+      ∙ ap₂ (λ a vs. objective_parts (item_of a (Free vs) ∷ []) [] (item_of at_row row ∷ []) (item_of at_objective objective)) at_is vars_are
+      ∙ ap₂ (λ a b. objective_parts (free_at item 1 ∷ []) [] (item_of a b ∷ []) (item_of at_objective objective)) at_row_is row_is
+      ∙ ap₂ (λ a b. objective_parts (free_at item 1 ∷ []) [] (child_at item 1 (row_of sense f var) ∷ []) (item_of a b)) at_objective_is objective_is
+      ∙ ap (λ v. objective_parts (free_at item 1 ∷ []) [] (child_at item 1 (row_of sense f v) ∷ []) (child_at item 2 (PlainObj sense v))) (var_is ∙ ap (λ a. child_of a 0) at_is)
+      ∙ sym (image_is item suits)
 
   -- it is no row, to which duals would be carried
   pub no_row : (item : Item) → IsItemFor edge item → is_objective item.body ≡ false → ⊥

@@ -125,7 +125,7 @@ module _ (edge : Edge) (own : family_of edge ≡ ScalarSlack) where
   -- the image, with the row's function written out
   pub image_made : (item : Item) → IsItemFor edge item
       → group_and_row item (group_at item (set_of item.body) 1) []
-        (Affine (difference (function_of_body item.body) (variable (child_of (child_of item.at 0) 0))) (EqualTo zero_ℚ))
+      (Affine (difference (function_of_body item.body) (variable (child_of (child_of item.at 0) 0))) (EqualTo zero_ℚ))
       ≡ image_of edge item
   image_made item suits =
       ap (λ fs. group_and_row item (group_at item (set_of item.body) 1) [] (Affine (first_in (differences fs (inner_functions item 1))) (EqualTo zero_ℚ))) (sym (one_function item suits))

@@ -117,12 +117,7 @@ fn row_body(
     affine_body(alloc, first, vars, set)
 }
 
-fn plain_body(
-    alloc: Global,
-    first: &Address,
-    vars: &[Address],
-    set: Set,
-) -> Result<Body, Memory>
+fn plain_body(alloc: Global, first: &Address, vars: &[Address], set: Set) -> Result<Body, Memory>
     ensures { IfOk result (λ row. row
         ≡ second_child true (is_scalar set) first.now vars.now set) }
 {
@@ -135,12 +130,7 @@ fn plain_body(
     })
 }
 
-fn affine_body(
-    alloc: Global,
-    first: &Address,
-    vars: &[Address],
-    set: Set,
-) -> Result<Body, Memory>
+fn affine_body(alloc: Global, first: &Address, vars: &[Address], set: Set) -> Result<Body, Memory>
     ensures { IfOk result (λ row. row
         ≡ second_child false (is_scalar set) first.now vars.now set) }
 {

@@ -44,19 +44,21 @@ impl Rewriting for ObjSlackRule {
     fn image(alloc: Global, _edge: Edge, item: &Item) -> Result<Image, ItemFault> {
         let at = item.at.child(0);
         let var = at.child(0);
+        let body = over(&item.body, &var)?;
         let vars = inner_variables(alloc, item, 1)?;
-        let row = Item {
-            at: item.at.child(1),
-            body: over(&item.body, &var)?,
+        let group = Body::Free { vars };
+        let groups = one_item(alloc, Item { at, body: group })?;
+        let at = item.at.child(1);
+        let rows = one_item(alloc, Item { at, body })?;
+        let objective = Item {
+            at: item.at.child(2),
+            body: alone(&item.body, var),
         };
         Ok(Image {
-            groups: one_item(alloc, Item { at, body: Body::Free { vars } })?,
+            groups,
             exprs: Expressions::new(alloc),
-            rows: one_item(alloc, row)?,
-            objective: Some(Item {
-                at: item.at.child(2),
-                body: alone(&item.body, var),
-            }),
+            rows,
+            objective: Some(objective),
         })
     }
 

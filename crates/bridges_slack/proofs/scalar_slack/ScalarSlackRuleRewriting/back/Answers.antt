@@ -12,7 +12,8 @@ bounds-duals-0 c =
 
 pub returns : goal.returns
 returns c =
-    let one = dual_count c.args._edge c.args._item.now (scalar_slack c.args._item.now) (image_is c.args._edge c.requires.own c.args._item.now) c.args.duals.now c.requires.duals in
-    (back_fits c.args._edge c.requires.own c.args._item.now c.args.duals.now,
-    c.in_ok-copy.ensures
-    ∙ back_one c.args._edge c.args._item.now (λ y. y) (back_is c.args._edge c.requires.own c.args._item.now) c.args.duals.now c.index-duals-0.result one c.index-duals-0.is)
+    let one = dual_count c.args._edge c.args._item.now (scalar_slack c.args._item.now) (image_is c.args._edge c.requires.own c.args._item.now) c.args.duals.now c.requires.duals in (
+      back_fits c.args._edge c.requires.own c.args._item.now c.args.duals.now,
+      c.in_ok-copy.ensures
+          ∙ back_one c.args._edge c.args._item.now (λ y. y) (back_is c.args._edge c.requires.own c.args._item.now) c.args.duals.now c.index-duals-0.result one c.index-duals-0.is,
+    )

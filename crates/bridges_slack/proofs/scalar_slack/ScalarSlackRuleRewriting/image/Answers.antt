@@ -17,14 +17,15 @@ rest-requires-clause-bounded c =
 
 pub rest-requires-clause-absent : goal.rest-requires-clause-absent
 rest-requires-clause-absent c =
-    ap (coefficient (function_of_body c.args.item.now.body)) (c.child-2.ensures ∙ ap (λ at. child_of at 0) c.child.ensures)
+    ap (coefficient (function_of_body c.args.item.now.body)) (c.child.ensures ∙ ap (λ at. child_of at 0) c.child-group.ensures)
     ∙ absent c.args._edge c.requires.own c.args.item.now c.requires.suits
 
 pub returns : goal.returns
-returns c =
-    (image_fits c.args._edge c.requires.own c.args.item.now,
-    group_and_row_made c.args.item.now c.in_ok-set.set (set_of c.args.item.now.body) c.in_ok-vars.vars (inner c.args.item.now 1) c.child_group.result c.new.result _ c.in_ok-row.row _ c.in_ok-group_row_image.field-0
-    c.in_ok-set.ensures c.in_ok-vars.ensures c.new.ensures
-    (c.in_ok-row.ensures ∙ ap (λ v. Affine (difference (function_of_body c.args.item.now.body) (variable v)) (EqualTo zero_ℚ)) (c.child-2.ensures ∙ ap (λ at. child_of at 0) c.child.ensures))
-    c.child_group.ensures c.in_ok-group_row_image.ensures
-    ∙ image_made c.args._edge c.requires.own c.args.item.now c.requires.suits)
+returns c = (
+  image_fits c.args._edge c.requires.own c.args.item.now,
+  group_and_row_made c.args.item.now c.in_ok-set.set (set_of c.args.item.now.body) c.in_ok-vars.vars (inner c.args.item.now 1) c.child_group-group.result c.new.result _ c.in_ok-row.row _ c.in_ok-group_row_image.field-0
+      c.in_ok-set.ensures c.in_ok-vars.ensures c.new.ensures
+      (c.in_ok-row.ensures ∙ ap (λ v. Affine (difference (function_of_body c.args.item.now.body) (variable v)) (EqualTo zero_ℚ)) (c.child.ensures ∙ ap (λ at. child_of at 0) c.child-group.ensures))
+      c.child_group-group.ensures c.in_ok-group_row_image.ensures
+      ∙ image_made c.args._edge c.requires.own c.args.item.now c.requires.suits,
+)

@@ -27,12 +27,13 @@ rest-requires-clause-absent c =
     (absent c.args._edge c.requires.own c.args.item.now c.requires.suits)
 
 pub returns : goal.returns
-returns c =
-    (image_fits c.args._edge c.requires.own c.args.item.now,
-    group_and_row_made c.args.item.now c.in_ok-set.set (set_of c.args.item.now.body) c.in_ok-vars.vars (inner c.args.item.now (size c.args.item.now)) c.child_group.result c.new.result _ c.in_ok-row.row _ c.in_ok-group_row_image.field-0
-    c.in_ok-set.ensures (c.in_ok-vars.ensures ∙ ap (inner c.args.item.now) c.component_count-count.ensures) c.new.ensures
-    (c.in_ok-row.ensures
-    ∙ ap₂ (λ vs n. AffineVec (differences (functions_of c.args.item.now.body) (variables vs)) (Zeros n))
-    (c.as_slice.ensures ∙ c.in_ok-vars.ensures ∙ ap (inner c.args.item.now) c.component_count-count.ensures) c.component_count-count.ensures)
-    c.child_group.ensures c.in_ok-group_row_image.ensures
-    ∙ sym (image_is c.args._edge c.requires.own c.args.item.now))
+returns c = (
+  image_fits c.args._edge c.requires.own c.args.item.now,
+  group_and_row_made c.args.item.now c.in_ok-set.set (set_of c.args.item.now.body) c.in_ok-vars.vars (inner c.args.item.now (size c.args.item.now)) c.child_group-group.result c.new.result _ c.in_ok-row.row _ c.in_ok-group_row_image.field-0
+      c.in_ok-set.ensures (c.in_ok-vars.ensures ∙ ap (inner c.args.item.now) c.component_count-count.ensures) c.new.ensures
+      (c.in_ok-row.ensures
+      ∙ ap₂ (λ vs n. AffineVec (differences (functions_of c.args.item.now.body) (variables vs)) (Zeros n))
+      (c.as_slice.ensures ∙ c.in_ok-vars.ensures ∙ ap (inner c.args.item.now) c.component_count-count.ensures) c.component_count-count.ensures)
+      c.child_group-group.ensures c.in_ok-group_row_image.ensures
+      ∙ sym (image_is c.args._edge c.requires.own c.args.item.now),
+)
