@@ -2,7 +2,7 @@
 use Rattle.std.specs.Prelude.{◌≡◌, ◌<◌, ◌≤◌, ◌+◌, ℕ, List, [], ◌∷◌, ◌++◌, map, take, drop, fold, slice_index_or, All, length, refl}
 use Rattle.std.specs.List.{zip}
 use Rattle.std.proofs.Common.{sym, ap, ap₂, subst, ◌∙◌, arith, append_assoc}
-use Rattle.std.proofs.lemmas.List.{append-nil, map-append, take_all, take_more}
+use Rattle.std.proofs.lemmas.List.{append-nil, drop_more, map-append, take_all, take_more}
 use Rattle.std.proofs.lemmas.List.Elements.{All-cons, All-get_or, All-head, All-map, All-more, All-nil, All-tail, All-weaker}
 use Rattle.ratio_core.specs.Folds.{FoldFits, sum_from}
 use Rattle.ratio_core.specs.Rational.{Rational, SumFits, neg_ℚ, zero_ℚ, ◌+ℚ◌}
@@ -210,3 +210,9 @@ pub less_all : (first now : Function) (left all : List Address) → left ≡ [] 
 unfolding DifferencesFit
 less_all first now left all e done =
     (done.fits (subst (λ us. DifferencesFit now (variables us)) (sym e) tt), ap (all_less now) (sym e) ∙ done.same)
+
+-- ---- what is left of a list
+
+pub next : {X : Type 0} (xs : List X) (n : ℕ) (x : X) → n < length xs → x ≡ slice_index_or xs n x
+    → drop n xs ≡ x ∷ drop (n + 1) xs
+next xs n x low here = drop_more xs n x low ∙ ap (λ y. y ∷ drop (n + 1) xs) (sym here)

@@ -1,9 +1,9 @@
 -- The law of NormInfinity: t ≥ |x_i| for each i is t - x_i ≥ 0 and t + x_i ≥ 0.
-use Rattle.std.specs.Prelude.{All, List, [], drop, length, map, refl, suc, take, ℕ, ◌*◌, ◌++◌, ◌+◌, ◌-◌, ◌∷◌, ◌≡◌, ◌≤◌}
+use Rattle.std.specs.Prelude.{All, List, [], drop, length, map, refl, suc, take, ℕ, ◌*◌, ◌++◌, ◌+◌, ◌-◌, ◌∷◌, ◌≡◌, ◌≤◌, Result}
 use Rattle.std.proofs.lemmas.List.Elements.{All-append, All-head, All-map, All-tail, All-weaker}
 use Rattle.std.proofs.Common.{ap, ap₂, arith, subst, sym, ◌∙◌}
 use Rattle.std.proofs.lemmas.List.{length-append, length-drop, length-map, length-take-le, map-append, take-append-drop}
-use Rattle.bridge_face.specs.BackOf.{AcrossFits, BackFits, BackFitsBy, across, back_by, back_of, size}
+use Rattle.bridge_face.specs.BackOf.{AcrossFits, BackFits, BackFitsBy, across, back_by, back_of, size, SumsFit}
 use Rattle.aff_core.specs.Address.{Address, child_of}
 use Rattle.bridge_face.specs.DifferenceLaws.{Adds, Subtracts, coefficient-difference, constant-difference, evaluated-difference, evaluated-sum, less, missed-difference, missed-sum, unnamed-difference, unnamed-sum}
 use Rattle.item_core.specs.declared.item.Body.TheVariants.{AffineVec}
@@ -11,7 +11,7 @@ use Rattle.item_core.specs.declared.item.Body.{Body}
 use Rattle.set_core.specs.Vectors.{DominatesEach, DominatesSum}
 use Rattle.item_core.specs.declared.edge.Edge.TheVariants.{E41}
 use Rattle.item_core.specs.declared.edge.Edge.{Edge}
-use Rattle.bridge_face.specs.Law.{EdgeLaw, IsLawful, LeadsTo, Miss, growth}
+use Rattle.bridge_face.specs.Law.{EdgeLaw, IsLawful, LeadsTo, Miss, growth, IsItemFor}
 use Rattle.bridge_face.specs.ImageOf.{FitsBy, ImageFits, image_by, image_of}
 use Rattle.item_core.specs.Valid.{FitsItsFunction, IsValidItem, NamesNothingBelow}
 use Rattle.ratio_core.specs.Folds.{FoldFits, sum_from}
@@ -20,11 +20,11 @@ use Rattle.dual_laws.specs.Held.{Holds, IsHeld, adjoint_of, gap_of}
 use Rattle.bridge_face.specs.OneRowLaws.{IsRow, OneRow, one_row_law, row_held}
 use Rattle.set_core.specs.Shapes.{IsSetOf, least_dimension}
 use Rattle.item_core.specs.declared.item.Item.{Item}
-use Rattle.bridge_face.specs.FamilyLaws.{Lawful, lawful_family, of_another}
+use Rattle.bridge_face.specs.FamilyLaws.{Lawful, lawful_family, of_another, dual_sizes, kept_by}
 use Rattle.set_core.specs.declared.set.Set.TheVariants.{Nonnegatives, NormInfinityCone}
 use Rattle.item_core.specs.declared.family.Family.TheVariants.{NormInfinity}
 use Rattle.bridge_face.specs.Sources.{OfKind, of_kind, vaffine_norm_infinity_cone}
-use Rattle.aff_core.specs.Arithmetic.{PlusFits, sum_of}
+use Rattle.aff_core.specs.Arithmetic.{PlusFits, sum_of, ExactWhere}
 use Rattle.ratio_core.specs.Rational.{Rational, zero_ℚ, ◌+ℚ◌, ◌-ℚ◌, ◌≤ℚ◌}
 use Rattle.aff_core.specs.KeyOrder.{address_order}
 use Rattle.bridge_face.specs.ComponentLaws.{all_unnamed_below}
@@ -42,6 +42,9 @@ use Rattle.rational_laws.specs.DotLaws.{length-minus}
 use Rattle.set_laws.specs.Norms.{norm_dominated}
 use Rattle.rational_laws.specs.Field.{zero-+ℚ}
 use Rattle.rational_laws.specs.Order.{≤ℚ_from_≡}
+use Rattle.aff_core.specs.declared.fault.AffFault.{AffFault}
+use Rattle.bridge_face.specs.State.{TakesDuals}
+use Rattle.bridge_face.specs.AnsweredLaws.{exact_as}
 use Rattle.item_core.specs.declared.kind.Kind.TheVariants as kind
 
 -- a row in the cone
@@ -80,6 +83,10 @@ record Read (b : Body) : Type 0 where
 read : {b : Body} → InNormInfinity b → Read b
 read (in_norm_infinity {fs} {n}) =
     record { row = record { no_group = refl; no_objective = refl }; count = n; set = refl }
+
+first_size : List ℕ → ℕ
+first_size [] = 0
+first_size (n ∷ ns) = n
 
 -- ---- the law
 
@@ -254,6 +261,36 @@ module _ (edge : Edge) (own : family_of edge ≡ NormInfinity) where
       mentioned = λ v m.
           all_both (λ f. coefficient f v ≡ zero_ℚ) (missed-difference v) (missed-sum v) (subst (λ gs. Miss gs v) parts m);
     }
+
+  -- the dual has two numbers for each other function
+  pub dual_long : (item : Item) → IsItemFor edge item → (ys : List (List Rational)) (y : List Rational)
+      → TakesDuals (kept_by edge item) ys → ys ≡ y ∷ [] → length y ≡ (size item - 1) + (size item - 1)
+  unfolding first_size
+  dual_long item suits ys y takes ys_are =
+      let r = read (in_norm edge own item.body suits.valid.function suits.kind) in
+      let sizes : length y ∷ [] ≡ length (less_each (function_of_body item.body) (others_of item.body) ++ more_each (function_of_body item.body) (others_of item.body)) ∷ [] = ap (map length) (sym ys_are) ∙ dual_sizes edge item (row_at item (made item.body)) (image_is item) ys takes in
+      ap first_size sizes ∙ long item suits.valid r ∙ ap₂ ◌+◌ (sym (counted item suits.valid r)) (sym (counted item suits.valid r))
+
+  -- what is carried back by the sum of the dual and the differences of its halves
+  pub back_made : (item : Item) (ys : List (List Rational)) (y high low : List Rational) (first : Rational) (r : Result (List Rational) AffFault)
+      → ys ≡ y ∷ [] → FoldFits zero_ℚ y → first ≡ sum_from zero_ℚ y
+      → high ≡ drop (size item - 1) y → low ≡ take (size item - 1) y
+      → ExactWhere r (SumsFit high (numbers.negated low)) (λ d. d ≡ first ∷ minus high low)
+      → ExactWhere r (BackFits edge item ys) (λ d. d ≡ back_of edge item ys)
+  back_made item ys y high low first r ys_are fold_fits first_is high_is low_is said =
+      let fits : BackFits edge item ys ≡ (FoldFits zero_ℚ y × AcrossFits (size item - 1) y) = ap (BackFits edge item) ys_are ∙ back_fits item y in
+      let across_is : SumsFit high (numbers.negated low) ≡ AcrossFits (size item - 1) y = ap₂ (λ h l. SumsFit h (numbers.negated l)) high_is low_is in
+      exact_as r (SumsFit high (numbers.negated low)) (BackFits edge item ys) (λ d. d ≡ first ∷ minus high low) (λ d. d ≡ back_of edge item ys)
+      (λ h. subst (λ T. T) (sym fits) (fold_fits, subst (λ T. T) across_is h))
+      (λ h. subst (λ T. T) (sym across_is) (subst (λ T. T) fits h).1)
+      (λ d e. e ∙ ap₂ (λ s ds. s ∷ ds) first_is (ap₂ minus high_is low_is) ∙ sym (ap (back_of edge item) ys_are ∙ back_is item y))
+      said
+
+  -- where the sum doesn't fit, nothing is carried back
+  pub fold_needed : (item : Item) (ys : List (List Rational)) (y : List Rational) → ys ≡ y ∷ []
+      → BackFits edge item ys → FoldFits zero_ℚ y
+  fold_needed item ys y ys_are h =
+      (subst (λ T. T) (ap (BackFits edge item) ys_are ∙ back_fits item y) h).0
 
   law_at : Lawful edge
   law_at item suits =

@@ -1,10 +1,10 @@
 -- The law of NormOne: t ≥ Σ |x_i| is t - Σ s_i ≥ 0, s_i - x_i ≥ 0 and s_i + x_i ≥ 0.
-use Rattle.std.specs.Prelude.{All, List, [], drop, fold, length, map, refl, replicate, suc, take, ℕ, ◌*◌, ◌++◌, ◌+◌, ◌-◌, ◌∷◌, ◌≡◌, ◌≤◌}
+use Rattle.std.specs.Prelude.{All, List, [], drop, fold, length, map, refl, replicate, suc, take, ℕ, ◌*◌, ◌++◌, ◌+◌, ◌-◌, ◌∷◌, ◌≡◌, ◌≤◌, Result}
 use Rattle.std.proofs.lemmas.List.Elements.{All-append, All-cons, All-head, All-map, All-tail}
 use Rattle.std.proofs.Common.{ap, ap₂, arith, subst, sym, ◌∙◌}
 use Rattle.std.proofs.lemmas.List.{length-append, length-drop, length-map, length-replicate, length-take-le, map-append, take-append-drop}
 use Rattle.rational_laws.specs.Field.{+ℚ-zero, zero-+ℚ}
-use Rattle.bridge_face.specs.BackOf.{AcrossFits, BackFits, BackFitsBy, across, back_by, back_of, head_of, size, tail_of}
+use Rattle.bridge_face.specs.BackOf.{AcrossFits, BackFits, BackFitsBy, across, back_by, back_of, head_of, size, tail_of, SumsFit}
 use Rattle.aff_core.specs.Address.{Address, child_of}
 use Rattle.bridge_face.specs.DifferenceLaws.{Adds, Subtracts, all_differences, all_sums, coefficient-difference, constant-difference, dot-differences, evaluated-difference, evaluated-sum, length-differences, length-sums, less, missed-difference, missed-sum, numbers-differences, numbers-sums, unnamed-difference, unnamed-sum}
 use Rattle.item_core.specs.declared.item.Body.TheVariants.{AffineVec, Group}
@@ -13,15 +13,15 @@ use Rattle.bridge_face.specs.ImageOf.{DifferencesFit, EachSumFits, FitsBy, Image
 use Rattle.set_core.specs.Vectors.{DominatesSum}
 use Rattle.item_core.specs.declared.edge.Edge.TheVariants.{E42}
 use Rattle.item_core.specs.declared.edge.Edge.{Edge}
-use Rattle.bridge_face.specs.Law.{EdgeLaw, IsLawful, LeadsTo, Miss, growth}
+use Rattle.bridge_face.specs.Law.{EdgeLaw, IsLawful, LeadsTo, Miss, growth, IsItemFor}
 use Rattle.item_core.specs.Valid.{FitsItsFunction, IsValidItem, NamesNothingBelow}
 use Rattle.aff_core.specs.Function.{Function, coefficient, evaluated, variable}
-use Rattle.bridge_face.specs.GroupAndRowLaws.{GroupAndRow, group_and_row_law, left_over}
+use Rattle.bridge_face.specs.GroupAndRowLaws.{GroupAndRow, group_and_row_law, left_over, group_and_row_made}
 use Rattle.dual_laws.specs.Held.{Holds, IsHeld, adjoint_of, gap_of}
 use Rattle.bridge_face.specs.OneRowLaws.{IsRow, row_held}
 use Rattle.set_core.specs.Shapes.{IsSetOf, least_dimension}
 use Rattle.item_core.specs.declared.item.Item.{Item}
-use Rattle.bridge_face.specs.FamilyLaws.{Lawful, lawful_family, of_another}
+use Rattle.bridge_face.specs.FamilyLaws.{Lawful, lawful_family, of_another, dual_sizes, kept_by}
 use Rattle.set_core.specs.declared.set.Set.TheVariants.{Nonnegatives, NormOneCone, Reals}
 use Rattle.item_core.specs.declared.family.Family.TheVariants.{NormOne}
 use Rattle.bridge_face.specs.Sources.{OfKind, of_kind, vaffine_norm_one_cone}
@@ -32,7 +32,7 @@ use Rattle.bridge_face.specs.ComponentLaws.{all_unnamed_below, components_apart,
 use Rattle.rational_laws.specs.Ring.{as_expression, by_ring, ring₆}
 use Rattle.aff_core.specs.ArithmeticLaws.{coefficient-sum_of, constant-sum_of}
 use Rattle.aff_core.specs.FunctionLists.{coefficients, evaluations}
-use Rattle.bridge_face.specs.Images.{difference, function_of_body, rest_of}
+use Rattle.bridge_face.specs.Images.{difference, function_of_body, rest_of, child_at}
 use Rattle.rational_laws.specs.Dot.{dot, minus, plus}
 use Rattle.rational_laws.specs.DotLaws.{dot-append, dot-plus, dot-replicate, dot_comm, dot_zeros, length-minus, length-plus, minus-dot, plus-dot}
 use Rattle.item_core.specs.Edge.{edge_entry, family_of, source_of}
@@ -40,9 +40,16 @@ use Rattle.item_core.specs.Item.{functions_of, set_of}
 use Rattle.bridge_face.specs.GroupLaws.{held_of}
 use Rattle.item_core.specs.KindOf.{kind_of_body}
 use Rattle.set_laws.specs.Norms.{norm, norm_dominated}
-use Rattle.aff_core.specs.Arithmetic.{sum_of}
+use Rattle.aff_core.specs.Arithmetic.{sum_of, ExactWhere}
 use Rattle.rational_laws.specs.Sums.{sum_ℚ}
 use Rattle.rational_laws.specs.Order.{≤ℚ_from_nonneg, ≤ℚ_from_≡, ≤ℚ_trans}
+use Rattle.aff_core.specs.declared.fault.AffFault.{AffFault}
+use Rattle.item_core.specs.declared.image.Expression.{Expression}
+use Rattle.item_core.specs.declared.image.Image.{Image}
+use Rattle.set_core.specs.declared.set.Set.{Set}
+use Rattle.bridge_face.specs.State.{TakesDuals}
+use Rattle.bridge_face.specs.AnsweredLaws.{exact_as}
+use Rattle.bridge_face.specs.GroupAndRowLaws as parts
 use Rattle.item_core.specs.declared.kind.Kind.TheVariants as kind
 use Rattle.rational_laws.specs.Dot as numbers
 
@@ -121,6 +128,14 @@ parted_sums r k s a x b z =
   where
     turned : (k s a x b z : Rational) → (k -ℚ s) +ℚ ((a -ℚ x) +ℚ (b +ℚ z)) ≡ (k +ℚ (z -ℚ x)) +ℚ ((a +ℚ b) -ℚ s)
     turned = ring₆ _ (λ ρ. simp as_expression (by_ring ρ _ _ refl))
+
+first_size : List ℕ → ℕ
+first_size [] = 0
+first_size (n ∷ ns) = n
+
+-- an image of a child group and a child row
+abbrev pub group_and_row_of : Item → Item → List Expression → Body → Image
+group_and_row_of item group exprs row = parts.group_and_row item group exprs row
 
 -- ---- the law
 
@@ -361,6 +376,63 @@ module _ (edge : Edge) (own : family_of edge ≡ NormOne) where
           all_made (λ f. coefficient f v ≡ zero_ℚ) (missed-difference v) (missed-sum v) (subst (λ gs. Miss gs v) parts m)
           (variables_missed vs v (not_contained vs v absent));
     }
+
+  -- how many other functions there are
+  pub others_count : (item : Item) → IsItemFor edge item → (k : ℕ) → k ≡ size item → k - 1 ≡ length (others_of item.body)
+  others_count item suits k e =
+      ap (λ m. m - 1) e ∙ counted item suits.valid (read (in_norm edge own item.body suits.valid.function suits.kind))
+
+  -- the dual has one number, and two for each other function
+  pub dual_long : (item : Item) → IsItemFor edge item → (ys : List (List Rational)) (y : List Rational)
+      → TakesDuals (kept_by edge item) ys → ys ≡ y ∷ [] → length y ≡ suc ((size item - 1) + (size item - 1))
+  unfolding first_size
+  dual_long item suits ys y takes ys_are =
+      let r = read (in_norm edge own item.body suits.valid.function suits.kind) in
+      let sizes : length y ∷ [] ≡ length (made_functions item) ∷ [] = ap (map length) (sym ys_are) ∙ dual_sizes edge item (norm_one item) (image_is item) ys takes in
+      ap first_size sizes ∙ long item suits.valid r
+      ∙ ap suc (ap₂ ◌+◌ (sym (counted item suits.valid r)) (sym (counted item suits.valid r)))
+
+  -- what is carried back by the first number and the differences of the halves of the others
+  pub back_made : (item : Item) (ys : List (List Rational)) (y rest high low : List Rational) (first : Rational) (r : Result (List Rational) AffFault)
+      → ys ≡ y ∷ [] → y ≡ first ∷ rest
+      → high ≡ drop (size item - 1) rest → low ≡ take (size item - 1) rest
+      → ExactWhere r (SumsFit high (numbers.negated low)) (λ d. d ≡ first ∷ minus high low)
+      → ExactWhere r (BackFits edge item ys) (λ d. d ≡ back_of edge item ys)
+  back_made item ys y rest high low first r ys_are y_is high_is low_is said =
+      let fits : BackFits edge item ys ≡ AcrossFits (size item - 1) rest = ap (BackFits edge item) ys_are ∙ back_fits item y ∙ ap (λ z. AcrossFits (size item - 1) (tail_of z)) y_is in
+      let across_is : SumsFit high (numbers.negated low) ≡ AcrossFits (size item - 1) rest = ap₂ (λ h l. SumsFit h (numbers.negated l)) high_is low_is in
+      exact_as r (SumsFit high (numbers.negated low)) (BackFits edge item ys) (λ d. d ≡ first ∷ minus high low) (λ d. d ≡ back_of edge item ys)
+      (λ h. subst (λ T. T) (sym fits) (subst (λ T. T) across_is h))
+      (λ h. subst (λ T. T) (sym across_is) (subst (λ T. T) fits h))
+      (λ d e. e ∙ ap (λ ds. first ∷ ds) (ap₂ minus high_is low_is)
+      ∙ sym (ap (back_of edge item) ys_are ∙ back_is item y ∙ ap (λ z. head_of z ∷ across (size item - 1) (tail_of z)) y_is))
+      said
+
+  -- so is an image that is made of these parts
+  pub image_made : (item : Item) → IsItemFor edge item
+      → (count : ℕ) (vars : List Address) (part : Set) (group : Item) (exprs : List Expression) (row : Body) (image : Image)
+      → count ≡ size item - 1 → vars ≡ inner item count → part ≡ Reals count → exprs ≡ []
+      → group ≡ child_at item 0 (Group part vars)
+      → row ≡ bounded_row (function_of_body item.body) (others_of item.body) vars count
+      → image ≡ group_and_row_of item group exprs row
+      → image ≡ image_of edge item
+  image_made item suits count vars part group exprs row image count_is vars_are part_is exprs_are group_is row_is image_of_parts =
+      let t = function_of_body item.body in
+      let xs = others_of item.body in
+      let same_count : count ≡ length xs = count_is ∙ counted item suits.valid (read (in_norm edge own item.body suits.valid.function suits.kind)) in
+      group_and_row_made item part (Reals count) vars (inner item count) group exprs [] row (bounded_row t xs (inner item count) count) image
+      part_is vars_are exprs_are (row_is ∙ ap (λ vs. bounded_row t xs vs count) vars_are) group_is image_of_parts
+      ∙ ap (λ n. group_and_row_of item (child_at item 0 (Group (Reals n) (inner item n))) [] (bounded_row t xs (inner item n) n)) same_count
+      ∙ sym (image_is item)
+
+  -- and so it fits
+  pub fits_made : (item : Item) → IsItemFor edge item → (count : ℕ) (vars : List Address)
+      → count ≡ size item - 1 → vars ≡ inner item count
+      → BoundsFit (function_of_body item.body) (others_of item.body) (variables vars) ≡ ImageFits edge item
+  fits_made item suits count vars count_is vars_are =
+      ap (λ vs. BoundsFit (function_of_body item.body) (others_of item.body) (variables vs))
+      (vars_are ∙ ap (inner item) (count_is ∙ counted item suits.valid (read (in_norm edge own item.body suits.valid.function suits.kind))))
+      ∙ sym (image_fits item)
 
   law_at : Lawful edge
   law_at item suits =

@@ -117,12 +117,7 @@ fn left(alloc: Global, first: &Aff, vars: &[Address]) -> Result<Aff, ItemFault>
 }
 
 // Behind a function the variables less the other functions.
-fn less(
-    alloc: Global,
-    rest: Aff,
-    vars: &[Address],
-    others: &[Aff],
-) -> Result<Vec<Aff>, ItemFault>
+fn less(alloc: Global, rest: Aff, vars: &[Address], others: &[Aff]) -> Result<Vec<Aff>, ItemFault>
     requires { length vars.now ≡ length others.now }
     ensures { ExactWhere result (EachSumFits (variables vars.now) (negations others.now))
         (λ less. less.items ≡ rest ∷ differences (variables vars.now) others.now) }

@@ -1,4 +1,4 @@
-use Rattle.std.proofs.Common.{sym, ap, ap₂, subst, ◌∙◌, ◌≡◌, refl, arith, length}
+use Rattle.std.proofs.Common.{ap, ◌∙◌}
 use Rattle.ratio_core.specs.Rational.{zero_ℚ}
 use Rattle.aff_core.specs.Address.{child_of}
 use Rattle.aff_core.specs.Function.{coefficient, variable}

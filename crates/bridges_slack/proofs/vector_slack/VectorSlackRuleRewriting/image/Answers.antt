@@ -1,4 +1,4 @@
-use Rattle.std.proofs.Common.{sym, ap, ap₂, subst, ◌∙◌, ◌≡◌, refl, arith, length, All}
+use Rattle.std.proofs.Common.{sym, ap, ap₂, subst, ◌∙◌, length, All}
 use Rattle.aff_core.specs.Address.{child_of}
 use Rattle.item_core.specs.Item.{functions_of, set_of}
 use Rattle.item_core.specs.declared.item.Body.TheVariants.{AffineVec}
