@@ -75,6 +75,28 @@ difference-variable f v absent =
         ∙ sym (coefficient-difference f (variable v) u
         ∙ ap (λ q. coefficient f u -ℚ q) (coefficient-variable_other address_order v u other) ∙ ap (λ q. coefficient f u +ℚ q) neg_ℚ-zero ∙ +ℚ-zero (coefficient f u)))
 
+-- and so the difference to it
+pub variable-difference : (v : Address) (f : Function) → coefficient f v ≡ zero_ℚ
+    → with_coefficient (negated f) v one_ℚ ≡ difference (variable v) f
+variable-difference v f absent =
+    same_coefficients address_order (with_coefficient (negated f) v one_ℚ) (difference (variable v) f) each
+    (constant-with address_order (negated f) v one_ℚ ∙ constant-negated address_order f
+    ∙ sym (constant-difference (variable v) f ∙ ap (λ q. q -ℚ f.constant) (constant-variable v) ∙ zero-+ℚ (neg_ℚ f.constant)))
+  where
+    each : (u : Address) → coefficient (with_coefficient (negated f) v one_ℚ) u ≡ coefficient (difference (variable v) f) u
+    each u =
+        same_or_other address_order (coefficient (with_coefficient (negated f) v one_ℚ) u ≡ coefficient (difference (variable v) f) u) u v
+        (λ e.
+        coefficient-with address_order (negated f) v one_ℚ u ∙ ap (λ b. cond b one_ℚ (coefficient (negated f) u)) (ap (λ w. address_eq w v) e ∙ same_key address_order v)
+        ∙ sym (coefficient-difference (variable v) f u
+        ∙ ap₂ (λ p q. p -ℚ q) (ap (coefficient (variable v)) e ∙ coefficient-variable_same address_order v) (ap (coefficient f) e ∙ absent)
+        ∙ ap (λ q. one_ℚ +ℚ q) neg_ℚ-zero ∙ +ℚ-zero one_ℚ))
+        (λ other.
+        coefficient-with address_order (negated f) v one_ℚ u ∙ ap (λ b. cond b one_ℚ (coefficient (negated f) u)) (other_key address_order u v other)
+        ∙ coefficient-negated address_order f u
+        ∙ sym (coefficient-difference (variable v) f u
+        ∙ ap (λ q. q -ℚ coefficient f u) (coefficient-variable_other address_order v u other) ∙ zero-+ℚ (neg_ℚ (coefficient f u))))
+
 -- ---- of lists
 
 -- a number of functions that goes along with differences, or with sums

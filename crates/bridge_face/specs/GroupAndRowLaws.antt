@@ -30,6 +30,7 @@ use Rattle.bridge_face.specs.ImageOf.{group_at, inner}
 use Rattle.bridge_face.specs.Images.{child_at}
 use Rattle.bridge_face.specs.Law.{Balances, CarriesValues, ChildDuals, EdgeLaw, GrowsBy, HasComponents, HoldsAt, IsCovered, IsValidWithin, LeadsTo, MentionsKnown, Miss, expressed, growth, held_body, held_children, held_item}
 use Rattle.bridge_face.specs.OneRowLaws.{IsRow, held_row, row_held, source_held}
+use Rattle.item_core.specs.declared.image.Expression.{Expression}
 
 -- the numbers that the row's duals leave for the components
 abbrev pub left_over : List Rational → List Function → List Address → List Rational
@@ -73,6 +74,21 @@ pub record GroupAndRow
   pub mentioned :
       (v : Address) → Miss (functions_of item.body) v → ¬ (Contains (inner item n) v)
       → Miss (functions_of child) v
+
+-- an image of a child group and a child row
+abbrev pub group_and_row : Item → Item → List Expression → Body → Image
+group_and_row item group exprs row =
+    record { groups = group ∷ []; exprs = exprs; rows = child_at item 1 row ∷ []; objective = None }
+
+-- one that is made of such parts
+pub group_and_row_made : (item : Item) (s t : Set) (us vs : List Address) (group : Item) (es ds : List Expression) (b c : Body) (image : Image)
+    → s ≡ t → us ≡ vs → es ≡ ds → b ≡ c → group ≡ child_at item 0 (Group s us)
+    → image ≡ group_and_row item group es b
+    → image ≡ group_and_row item (child_at item 0 (Group t vs)) ds c
+group_and_row_made item s t us vs group es ds b c image same_set same_vars same_exprs same_row group_is image_is =
+    image_is ∙ ap (λ g. group_and_row item g es b) group_is
+    ∙ ap₂ (λ x y. group_and_row item (child_at item 0 (Group x y)) es b) same_set same_vars
+    ∙ ap₂ (λ x y. group_and_row item (child_at item 0 (Group t vs)) x y) same_exprs same_row
 
 -- a child row after the child group
 pub second_row_valid : (item : Item) (child : Body) → FitsItsFunction child

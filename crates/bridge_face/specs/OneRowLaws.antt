@@ -35,8 +35,8 @@ pub record OneRow (edge : Edge) (item : Item) (child : Body) : Type 0 where
   pub made : IsRow child
   pub values : (one : Rational) (x : Address → Rational) → zero_ℚ ≤ℚ one → Holds one (row_held child []) x → Holds one (row_held item.body []) x
   pub holds : (y : List Rational) → IsHeld (row_held child y) → IsHeld (row_held item.body (back_of edge item (y ∷ [])))
-  pub same : (y : List Rational) (v : Address) → adjoint_of (row_held item.body (back_of edge item (y ∷ []))) v ≡ adjoint_of (row_held child y) v
-  pub gaps : (y : List Rational) → gap_of (row_held child y) ≤ℚ gap_of (row_held item.body (back_of edge item (y ∷ [])))
+  pub same : (y : List Rational) → IsHeld (row_held child y) → (v : Address) → adjoint_of (row_held item.body (back_of edge item (y ∷ []))) v ≡ adjoint_of (row_held child y) v
+  pub gaps : (y : List Rational) → IsHeld (row_held child y) → gap_of (row_held child y) ≤ℚ gap_of (row_held item.body (back_of edge item (y ∷ [])))
   pub valid : length item.at.positions < 38 → length (functions_of child) ≤ 32767 → IsValidItem (child_at item 0 child)
   pub sizes : length (functions_of child) ≤ growth (family_of edge) * length (functions_of item.body)
   pub leads : LeadsTo edge child
@@ -92,11 +92,11 @@ module _ (edge : Edge) (item : Item) (child : Body) (o : OneRow edge item child)
     covered_by h = record {
       holds = subst IsHeld (sym item_is) (o.holds y (subst IsHeld child_is h));
       same = λ v.
-          ap (λ k. adjoint_of k v) item_is ∙ o.same y v ∙ sym (ap (λ k. adjoint_of k v) child_is)
+          ap (λ k. adjoint_of k v) item_is ∙ o.same y (subst IsHeld child_is h) v ∙ sym (ap (λ k. adjoint_of k v) child_is)
           ∙ sym (+ℚ-zero (adjoint_of (held_body bound child y) v));
       gaps =
           subst (λ q. q ≤ℚ gap_of (held_item bound item image w)) (ap gap_of (sym child_is) ∙ sym (+ℚ-zero (gap_of (held_body bound child y))))
-          (subst (λ k. gap_of (row_held child y) ≤ℚ gap_of k) (sym item_is) (o.gaps y));
+          (subst (λ k. gap_of (row_held child y) ≤ℚ gap_of k) (sym item_is) (o.gaps y (subst IsHeld child_is h)));
     }
 
   covered : (bound : Rational) (gs ys os : List (List Rational)) (w : List Rational)

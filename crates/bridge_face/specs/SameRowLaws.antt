@@ -47,8 +47,8 @@ module _ (edge : Edge) (item : Item) (child : Body) (s : SameRow edge item child
     made = s.made;
     values = λ one x h below. subst (λ k. Holds one k x) (child_is []) below;
     holds = λ y h. subst IsHeld (sym (back_is y)) h;
-    same = λ y v. ap (λ k. adjoint_of k v) (back_is y);
-    gaps = λ y. ≤ℚ_from_≡ _ _ (ap gap_of (sym (back_is y)));
+    same = λ y h v. ap (λ k. adjoint_of k v) (back_is y);
+    gaps = λ y h. ≤ℚ_from_≡ _ _ (ap gap_of (sym (back_is y)));
     valid = λ room few. record {
       function = s.shaped;
       some = subst (λ n. 1 ≤ n) (sym same_length) s.item_valid.some;

@@ -4,7 +4,7 @@ use Rattle.std.specs.List.{zip}
 use Rattle.std.proofs.Common.{sym, ap, ap₂, subst, ◌∙◌, arith}
 use Rattle.std.proofs.lemmas.List.{take_more, map-append}
 use Rattle.std.proofs.lemmas.List.{take_all}
-use Rattle.std.proofs.lemmas.List.Elements.{All-get_or, All-more, All-nil}
+use Rattle.std.proofs.lemmas.List.Elements.{All-get_or, All-more}
 use Rattle.std.proofs.lemmas.Slice.Zip.{get_or-zip}
 use Rattle.ratio_core.specs.Rational.{Rational, SumFits, ◌+ℚ◌}
 use Rattle.rational_laws.specs.Dot.{plus}

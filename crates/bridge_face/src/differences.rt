@@ -20,6 +20,14 @@ pub fn less_variable(func: &Aff, var: &Address) -> Result<Aff, Memory>
     func.with_coef(var, Ratio::one().neg())
 }
 
+/// A variable less a function that doesn't name it. As nothing is added, nothing overflows.
+pub fn variable_less(var: &Address, func: &Aff) -> Result<Aff, Memory>
+    requires { coefficient func.now var.now ≡ zero_ℚ }
+    ensures { IfOk result (λ less. less ≡ difference (variable var.now) func.now) }
+{
+    func.neg()?.with_coef(var, Ratio::one())
+}
+
 /// Each function less the variable at its place, none of which any of them names.
 pub fn less_variables(alloc: Global, funcs: &[Aff], vars: &[Address]) -> Result<VecAff, Memory>
     requires count { length funcs.now ≡ length vars.now }

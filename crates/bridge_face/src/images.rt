@@ -65,8 +65,8 @@ pub fn objective_image(alloc: Global, item: &Item, body: Body) -> Image
     }
 }
 
-// A list of one item.
-fn one_item(alloc: Global, item: Item) -> Result<Items, Memory>
+/// A list of one item.
+pub fn one_item(alloc: Global, item: Item) -> Result<Items, Memory>
     ensures { IfOk result (λ items. items ≡ item ∷ []) }
 {
     let mut items = Vec::with_capacity(alloc, 1)?;

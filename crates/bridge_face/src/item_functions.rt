@@ -1,11 +1,12 @@
 //! The functions of items.
 ghost use Rattle.std.specs.Prelude.{◌≡◌, ◌≤◌, [], ◌∷◌, IfOk, length, map};
 ghost use Rattle.aff_core.specs.Function.{variable};
-ghost use Rattle.item_core.specs.Item.{functions_of};
+ghost use Rattle.item_core.specs.Item.{functions_of, set_of};
 
 use aff_core::{Address, Aff, VecAff};
 use item_core::Body;
 use lists::{Duplicate, Memory};
+use set_core::Set;
 use std::alloc::Global;
 
 /// Variables as functions.
@@ -55,5 +56,23 @@ pub fn component_count(body: &Body) -> u16
         }
         Body::AffineVec { func, .. } => func.len() as u16,
         _ => 1,
+    }
+}
+
+/// The set of an item.
+pub fn item_set(alloc: Global, body: &Body) -> Result<Set, Memory>
+    requires { length (functions_of body.now) ≤ 32767 }
+    ensures { IfOk result (λ set. set ≡ set_of body.now) }
+{
+    match body {
+        Body::Group { set, .. }
+        | Body::Plain { set, .. }
+        | Body::Affine { set, .. }
+        | Body::PlainVec { set, .. }
+        | Body::AffineVec { set, .. } => set.copy(alloc),
+        Body::Free { vars } => Ok(Set::Reals {
+            dimension: vars.len() as u32,
+        }),
+        Body::PlainObj { .. } | Body::AffineObj { .. } => Ok(Set::Reals { dimension: 1 }),
     }
 }

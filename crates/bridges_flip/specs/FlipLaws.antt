@@ -139,10 +139,10 @@ module _ (edge : Edge) (item : Item) (child : Body) (f : IsFlip edge item child)
     holds = λ y h.
         subst (λ w. IsHeld (row_held item.body w)) (sym (f.back y))
         (holds fs s f.flips.no_norm_cone y f.item_valid.set (subst IsHeld (child_is y) h));
-    same = λ y v.
+    same = λ y h v.
         ap (λ w. adjoint_of (row_held item.body w) v) (f.back y) ∙ same fs s f.flips.no_norm_cone y v
         ∙ sym (ap (λ k. adjoint_of k v) (child_is y));
-    gaps = λ y.
+    gaps = λ y h.
         ≤ℚ_from_≡ _ _ (ap gap_of (child_is y) ∙ gaps fs s f.flips.no_norm_cone y ∙ sym (ap (λ w. gap_of (row_held item.body w)) (f.back y)));
     valid = λ room few. record {
       function = f.flips.shaped;

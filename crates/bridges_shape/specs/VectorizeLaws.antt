@@ -174,8 +174,8 @@ module _ (edge : Edge) (own : family_of edge ≡ Vectorize) where
       made = record { no_group = refl; no_objective = refl };
       values = λ one x h below. subst (λ k. Holds one k x) (sym (item_is [])) (holds_up (function_of_body item.body) r.has one x below);
       holds = λ y h. subst IsHeld (sym (back_held y)) (held_up (function_of_body item.body) r.has y h);
-      same = λ y v. ap (λ k. adjoint_of k v) (back_held y);
-      gaps = λ y. ≤ℚ_from_≡ _ _ (same_gap (function_of_body item.body) r.has y ∙ sym (ap gap_of (back_held y)));
+      same = λ y h v. ap (λ k. adjoint_of k v) (back_held y);
+      gaps = λ y h. ≤ℚ_from_≡ _ _ (same_gap (function_of_body item.body) r.has y ∙ sym (ap gap_of (back_held y)));
       valid = λ room few. record {
         function = cone_of_vectors r.has;
         some = omega arith;

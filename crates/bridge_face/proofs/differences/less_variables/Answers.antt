@@ -1,10 +1,8 @@
-use Rattle.std.proofs.Common.{◌++◌, ◌∷◌, ◌≡◌, ◌<◌, [], arith, sym, ap, ap₂, subst, ◌∙◌, refl, map, length}
+use Rattle.std.proofs.Common.{◌++◌, ◌∷◌, ◌≡◌, ◌<◌, [], arith, sym, ap, subst, ◌∙◌, map, length}
 use Rattle.std.proofs.lemmas.List.Elements.{All-get_or}
-use Rattle.std.specs.List.{zip}
 use Rattle.ratio_core.specs.Rational.{zero_ℚ}
-use Rattle.aff_core.specs.Function.{coefficient, variable}
+use Rattle.aff_core.specs.Function.{coefficient}
 use Rattle.bridge_face.specs.DifferenceLaws.{less, less_each}
-use Rattle.bridge_face.specs.Images.{difference}
 use Rattle.bridge_face.specs.Law.{Miss}
 use Rattle.bridge_face.specs.ZippedLaws.{zipped_all, zipped_more}
 use Rattle.bridge_face.proofs.differences.less_variables.Goals as goal

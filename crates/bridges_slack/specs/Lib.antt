@@ -1,0 +1,5 @@
+pub mod SlackLaws
+pub mod ScalarSlackLaws
+pub mod VectorSlackLaws
+pub mod LaterLaws
+pub mod ObjSlackLaws

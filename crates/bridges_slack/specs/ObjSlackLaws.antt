@@ -1,0 +1,487 @@
+-- The law of ObjSlack: the least f is the least s with s - f ≥ 0, and the greatest f the greatest s with s - f ≤ 0.
+use Rattle.std.specs.Prelude.{All, Contains, List, Some, [], false, length, map, refl, true, ◌*◌, ◌<◌, ◌∷◌, ◌≡◌, ◌≤◌}
+use Rattle.std.proofs.lemmas.List.Elements.{All-cons, All-head, All-nil, All-tail}
+use Rattle.std.proofs.Common.{ap, ap₂, arith, subst, sym, true≢false, ◌∙◌}
+use Rattle.std.proofs.lemmas.List.{length-append}
+use Rattle.rational_laws.specs.Field.{*ℚ-neg_ℚ, *ℚ-one, *ℚ-zero, +ℚ-zero, +ℚ_comm, neg_ℚ-zero, neg_ℚ_unique, zero-*ℚ, zero-+ℚ, -ℚ-itself}
+use Rattle.aff_core.specs.Address.{Address, child_of}
+use Rattle.item_core.specs.declared.item.Body.TheVariants.{Affine, AffineObj, Free, PlainObj}
+use Rattle.bridge_face.specs.Law.{Balances, CarriesValues, ChildDuals, EdgeLaw, GrowsBy, HasComponents, HoldsAt, IsCovered, IsItemFor, IsLawful, IsValidWithin, LeadsTo, MentionsKnown, Miss, cost_by, cost_of, expressed, growth, held_children, held_item, inner_of, is_objective, row_set}
+use Rattle.item_core.specs.declared.item.Body.{Body}
+use Rattle.item_core.specs.declared.edge.Edge.TheVariants.{E62, E63}
+use Rattle.item_core.specs.declared.edge.Edge.{Edge}
+use Rattle.bridge_face.specs.ImageOf.{FitsBy, ImageFits, beyond, differences, free_at, image_by, image_of, inner, inner_functions, obj_slack, sense_of}
+use Rattle.item_core.specs.Valid.{FitsItsFunction, IsValidItem, NamesNothingBelow}
+use Rattle.aff_core.specs.Function.{Function, coefficient, evaluated, variable}
+use Rattle.dual_laws.specs.Held.{Held, IsHeld, adjoint, adjoint_of, gap, gap_of}
+use Rattle.item_core.specs.declared.image.Image.{Image}
+use Rattle.set_core.specs.Membership.{In, low_of}
+use Rattle.bridge_face.specs.OneRowLaws.{IsRow}
+use Rattle.set_core.specs.Shapes.{IsSetOf, is_scalar}
+use Rattle.item_core.specs.declared.item.Item.{Item}
+use Rattle.bridge_face.specs.FamilyLaws.{Lawful, lawful_family, of_another}
+use Rattle.set_core.specs.declared.set.Set.TheVariants.{LessThan, Reals}
+use Rattle.aff_core.specs.declared.sense.Sense.TheVariants.{Max, Min}
+use Rattle.item_core.specs.declared.family.Family.TheVariants.{ObjSlack}
+use Rattle.bridge_face.specs.Sources.{OfKind, max_affine, min_affine, of_kind}
+use Rattle.ratio_core.specs.Rational.{Rational, neg_ℚ, one_ℚ, zero_ℚ, ◌*ℚ◌, ◌+ℚ◌, ◌-ℚ◌, ◌≤ℚ◌}
+use Rattle.aff_core.specs.declared.sense.Sense.{Sense}
+use Rattle.aff_core.specs.KeyOrder.{address_order}
+use Rattle.rational_laws.specs.Ring.{as_expression, by_ring, ring₂, ring₃, ring₄}
+use Rattle.bridge_face.specs.Images.{child_at, difference, first_in, function_of_body}
+use Rattle.bridge_face.specs.DifferenceLaws.{coefficient-difference, constant-difference, evaluated-difference, evaluated-negated, missed-difference, unnamed-difference}
+use Rattle.aff_core.specs.FunctionLaws.{coefficient-negated, coefficient-variable_same, constant-negated}
+use Rattle.aff_core.specs.FunctionLists.{coefficients, constants}
+use Rattle.bridge_face.specs.ComponentLaws.{component_apart, constants-variables, not_contained, unnamed_below, variables, variables_missed}
+use Rattle.rational_laws.specs.DotLaws.{dot_zeros, zeros_dot}
+use Rattle.item_core.specs.Edge.{edge_entry, family_of, source_of}
+use Rattle.set_core.specs.Vectors.{first_of}
+use Rattle.item_core.specs.Item.{functions_of}
+use Rattle.bridge_face.specs.GroupLaws.{held_of}
+use Rattle.item_core.specs.KindOf.{kind_of_body}
+use Rattle.set_core.specs.Mirrored.{multiplied}
+use Rattle.rational_laws.specs.Order.{neg_ℚ-≤ℚ, nonneg_neg, ≤ℚ_from_nonneg, ≤ℚ_from_≡}
+use Rattle.bridge_face.specs.ObjectiveLaws.{objective_held, objective_no_group, objective_stands, objective_valid}
+use Rattle.bridge_face.specs.GroupAndRowLaws.{second_row_valid}
+use Rattle.set_laws.specs.Least.{single₂}
+use Rattle.item_core.specs.declared.image.Expression.{Expression}
+use Rattle.item_core.specs.declared.kind.Kind.TheVariants as kind
+
+-- an affine objective
+pub data IsAffineObjective : Body → Type 0 where
+  affine_objective : {sense : Sense} {func : Function} → IsAffineObjective (AffineObj sense func)
+
+pub is_one : (b : Body) → IsAffineObjective b → ((sense : Sense) (func : Function) → b ≡ AffineObj sense func → ⊥) → ⊥
+is_one b (affine_objective {sense} {func}) none = none sense func refl
+
+-- the row and the objective that the edges make
+abbrev pub row_of : Sense → Function → Address → Body
+row_of sense f s = Affine (difference (variable s) f) (beyond sense)
+
+record Sourced (edge : Edge) (b : Body) : Type 0 where
+  objective : IsAffineObjective b
+  group_leads : (ss : List Address) → LeadsTo edge (Free ss)
+  row_leads : (f : Function) → LeadsTo edge (Affine f (beyond (sense_of b)))
+  objective_leads : (s : Address) → LeadsTo edge (PlainObj (sense_of b) s)
+
+sourced_first : {b : Body} → OfKind kind.MinAffine b → Sourced E62 b
+unfolding edge_entry kind_of_body
+sourced_first min_affine =
+    record { objective = affine_objective; group_leads = λ ss. refl; row_leads = λ f. refl; objective_leads = λ s. refl }
+
+sourced_second : {b : Body} → OfKind kind.MaxAffine b → Sourced E63 b
+unfolding edge_entry kind_of_body
+sourced_second max_affine =
+    record { objective = affine_objective; group_leads = λ ss. refl; row_leads = λ f. refl; objective_leads = λ s. refl }
+
+sourced : (edge : Edge) → family_of edge ≡ ObjSlack
+    → (b : Body) → FitsItsFunction b → kind_of_body b ≡ source_of edge → Sourced edge b
+unfolding edge_entry
+sourced E62 own b h k = sourced_first (subst (λ k. OfKind k b) k (of_kind b h))
+sourced E63 own b h k = sourced_second (subst (λ k. OfKind k b) k (of_kind b h))
+sourced _ own b h k = of_another own refl
+
+record Read (b : Body) : Type 0 where
+  source : is_objective b ≡ true
+  functions : functions_of b ≡ function_of_body b ∷ []
+  cost : cost_of b ≡ cost_by (sense_of b) (function_of_body b)
+
+read : {b : Body} → IsAffineObjective b → Read b
+read affine_objective = record { source = refl; functions = refl; cost = refl }
+
+-- ---- the numbers of a cost
+
+abbrev signed : Sense → Rational → Rational
+signed Min q = q
+signed Max q = neg_ℚ q
+
+coefficient-cost : (sense : Sense) (f : Function) (v : Address)
+    → coefficient (cost_by sense f) v ≡ signed sense (coefficient f v)
+coefficient-cost Min f v = refl
+coefficient-cost Max f v = coefficient-negated address_order f v
+
+constant-cost : (sense : Sense) (f : Function) → (cost_by sense f).constant ≡ signed sense f.constant
+constant-cost Min f = refl
+constant-cost Max f = constant-negated address_order f
+
+-- the row's number is the objective's, negated for the least value
+row_number : (sense : Sense) (y o : Rational)
+    → o *ℚ signed sense zero_ℚ ≡ y *ℚ (one_ℚ -ℚ zero_ℚ) +ℚ o *ℚ signed sense one_ℚ → y ≡ neg_ℚ (signed sense o)
+row_number Min y o e =
+    neg_ℚ_unique o y
+    (+ℚ_comm o y ∙ sym (ap₂ ◌+ℚ◌ (ap (λ q. y *ℚ q) (ap (λ q. one_ℚ +ℚ q) neg_ℚ-zero ∙ +ℚ-zero one_ℚ) ∙ *ℚ-one y) (*ℚ-one o)) ∙ sym e ∙ *ℚ-zero o)
+row_number Max y o e =
+    let sums : zero_ℚ ≡ y +ℚ neg_ℚ o = sym (ap (λ q. o *ℚ q) neg_ℚ-zero ∙ *ℚ-zero o) ∙ e ∙ ap₂ ◌+ℚ◌ (ap (λ q. y *ℚ q) (ap (λ q. one_ℚ +ℚ q) neg_ℚ-zero ∙ +ℚ-zero one_ℚ) ∙ *ℚ-one y) (*ℚ-neg_ℚ o one_ℚ ∙ ap neg_ℚ (*ℚ-one o)) in
+    neg_ℚ_unique (neg_ℚ o) y (+ℚ_comm (neg_ℚ o) y ∙ sym sums)
+
+least_sums : (o e k : Rational) → o *ℚ k ≡ neg_ℚ o *ℚ (e -ℚ k) +ℚ o *ℚ e
+least_sums = ring₃ _ (λ ρ. simp as_expression (by_ring ρ _ _ refl))
+
+greatest_sums : (o e k : Rational) → o *ℚ neg_ℚ k ≡ neg_ℚ (neg_ℚ o) *ℚ (e -ℚ k) +ℚ o *ℚ neg_ℚ e
+greatest_sums = ring₃ _ (λ ρ. simp as_expression (by_ring ρ _ _ refl))
+
+-- then the sums agree at every variable
+sums_agree : (sense : Sense) (o y e k : Rational) → y ≡ neg_ℚ (signed sense o)
+    → o *ℚ signed sense k ≡ y *ℚ (e -ℚ k) +ℚ o *ℚ signed sense e
+sums_agree Min o y e k is = least_sums o e k ∙ ap (λ z. z *ℚ (e -ℚ k) +ℚ o *ℚ e) (sym is)
+sums_agree Max o y e k is = greatest_sums o e k ∙ ap (λ z. z *ℚ (e -ℚ k) +ℚ o *ℚ neg_ℚ e) (sym is)
+
+least_gap : (b o z k : Rational)
+    → neg_ℚ (neg_ℚ o *ℚ (z -ℚ k)) +ℚ (b *ℚ o -ℚ o *ℚ z) ≡ b *ℚ o -ℚ o *ℚ k
+least_gap = ring₄ _ (λ ρ. simp as_expression (by_ring ρ _ _ refl))
+
+greatest_gap : (b o z k : Rational)
+    → neg_ℚ (neg_ℚ (neg_ℚ o) *ℚ (z -ℚ k)) +ℚ (b *ℚ o -ℚ o *ℚ neg_ℚ z) ≡ b *ℚ o -ℚ o *ℚ neg_ℚ k
+greatest_gap = ring₄ _ (λ ρ. simp as_expression (by_ring ρ _ _ refl))
+
+gaps_agree : (sense : Sense) (b o y z k : Rational) → y ≡ neg_ℚ (signed sense o)
+    → neg_ℚ (y *ℚ (z -ℚ k)) +ℚ (b *ℚ o -ℚ o *ℚ signed sense z) ≡ b *ℚ o -ℚ o *ℚ signed sense k
+gaps_agree Min b o y z k is = ap (λ u. neg_ℚ (u *ℚ (z -ℚ k)) +ℚ (b *ℚ o -ℚ o *ℚ z)) is ∙ least_gap b o z k
+gaps_agree Max b o y z k is = ap (λ u. neg_ℚ (u *ℚ (z -ℚ k)) +ℚ (b *ℚ o -ℚ o *ℚ neg_ℚ z)) is ∙ greatest_gap b o z k
+
+-- ---- sets
+
+low_beyond : (sense : Sense) (y : List Rational) → low_of (beyond sense) y ≡ zero_ℚ
+low_beyond Min y = zero-*ℚ (first_of y)
+low_beyond Max y = zero-*ℚ (first_of y)
+
+beyond_fits : (sense : Sense) → IsSetOf 1 (beyond sense)
+beyond_fits Min = record { dimension = refl; enough = omega arith; uncrossed = refl }
+beyond_fits Max = record { dimension = refl; enough = omega arith; uncrossed = refl }
+
+beyond_scalar : (sense : Sense) → is_scalar (beyond sense) ≡ true
+beyond_scalar Min = refl
+beyond_scalar Max = refl
+
+row_is_row : (sense : Sense) (f : Function) (s : Address) → IsRow (row_of sense f s)
+row_is_row sense f s = record { no_group = refl; no_objective = refl }
+
+-- where the row holds, the cost of the variable is no less
+costs_less : (sense : Sense) (one p q : Rational) → In (multiplied one (beyond sense)) ((q -ℚ p) ∷ [])
+    → signed sense p ≤ℚ signed sense q
+costs_less Min one p q h = ≤ℚ_from_nonneg p q (subst (λ z. z ≤ℚ (q -ℚ p)) (*ℚ-zero one) h)
+costs_less Max one p q h =
+    neg_ℚ-≤ℚ q p
+    (≤ℚ_from_nonneg q p (subst (λ z. zero_ℚ ≤ℚ z) (turned q p) (nonneg_neg (q -ℚ p) (subst (λ z. (q -ℚ p) ≤ℚ z) (*ℚ-zero one) h))))
+  where
+    turned : (q p : Rational) → neg_ℚ (q -ℚ p) ≡ p -ℚ q
+    turned = ring₂ _ (λ ρ. simp as_expression (by_ring ρ _ _ refl))
+
+evaluated-cost : (sense : Sense) (one : Rational) (f : Function) (x : Address → Rational)
+    → evaluated one (cost_by sense f) x ≡ signed sense (evaluated one f x)
+evaluated-cost Min one f x = refl
+evaluated-cost Max one f x = evaluated-negated one f x
+
+-- ---- the law
+
+record IsSlackObjective (edge : Edge) (item : Item) (sense : Sense) (f : Function) : Type 0 where
+  item_valid : IsValidItem item
+  source : is_objective item.body ≡ true
+  functions : functions_of item.body ≡ f ∷ []
+  cost : cost_of item.body ≡ cost_by sense f
+  no_growth : growth (family_of edge) ≡ 1
+  group_leads : LeadsTo edge (Free (inner item 1))
+  row_leads : LeadsTo edge (row_of sense f (child_of (child_of item.at 0) 0))
+  objective_leads : LeadsTo edge (PlainObj sense (child_of (child_of item.at 0) 0))
+
+module _ (edge : Edge) (item : Item) (sense : Sense) (f : Function) (l : IsSlackObjective edge item sense f) where
+  abbrev s : Address
+  s = child_of (child_of item.at 0) 0
+
+  abbrev slack : Function
+  slack = variable s
+
+  abbrev group : Item
+  group = free_at item 1
+
+  abbrev row : Item
+  row = child_at item 1 (row_of sense f s)
+
+  abbrev objective : Item
+  objective = child_at item 2 (PlainObj sense s)
+
+  abbrev image : Image
+  image = record { groups = group ∷ []; exprs = []; rows = row ∷ []; objective = Some objective }
+
+  unnamed : NamesNothingBelow item.at f
+  unnamed =
+      All-head (NamesNothingBelow item.at) f []
+      (subst (All (NamesNothingBelow item.at)) l.functions (l.item_valid.others (objective_no_group item.body l.source)))
+
+  -- f names no component
+  absent : coefficient f s ≡ zero_ℚ
+  absent = unnamed_below item.at 0 f unnamed (0 ∷ [])
+
+  item_is : (bound : Rational) (w : List Rational)
+      → held_item bound item image w ≡ held_of w (cost_by sense f ∷ []) (LessThan bound)
+  item_is bound w =
+      ap (λ fs. held_of w fs (row_set bound item.body)) (objective_stands item.body (map expressed image.exprs) l.source)
+      ∙ objective_held bound item.body w l.source
+      ∙ ap (λ c. held_of w (c ∷ []) (LessThan bound)) l.cost
+
+  values : CarriesValues item image
+  values = record {
+    holds = λ none. absurd (true≢false (sym l.source ∙ none));
+    costs = λ one x h below.
+        All-cons (λ child. evaluated one (cost_of item.body) x ≤ℚ evaluated one (cost_of child.body) x) objective []
+        (subst (λ q. q ≤ℚ evaluated one (cost_by sense slack) x) (sym (ap (λ c. evaluated one c x) l.cost ∙ evaluated-cost sense one f x))
+        (subst (λ q. signed sense (evaluated one f x) ≤ℚ q) (sym (evaluated-cost sense one slack x))
+        (costs_less sense one (evaluated one f x) (evaluated one slack x)
+        (subst (λ q. In (multiplied one (beyond sense)) (q ∷ [])) (evaluated-difference one slack f x)
+        (All-head (HoldsAt one x) row [] (All-tail (HoldsAt one x) group (row ∷ []) below))))))
+        (All-nil (λ child. evaluated one (cost_of item.body) x ≤ℚ evaluated one (cost_of child.body) x));
+  }
+
+  abbrev duals_of : List Rational → List Rational → List Rational → ChildDuals
+  duals_of g y o = record { groups = g ∷ []; rows = y ∷ []; objective = o ∷ [] }
+
+  abbrev group_held : List Rational → Held
+  group_held g = held_of g (variables (inner item 1)) (Reals 1)
+
+  abbrev row_held_by : List Rational → Held
+  row_held_by y = held_of y (difference slack f ∷ []) (beyond sense)
+
+  abbrev objective_held_by : Rational → List Rational → Held
+  objective_held_by bound o = held_of o (cost_by sense slack ∷ []) (LessThan bound)
+
+  module _
+      (bound : Rational) (g : List Rational) (y o : Rational) (w : List Rational)
+      (b : Balances bound edge item image (duals_of g (y ∷ []) (o ∷ [])) w) where
+    g_held : IsHeld (group_held g)
+    g_held = All-head IsHeld (group_held g) (row_held_by (y ∷ []) ∷ objective_held_by bound (o ∷ []) ∷ []) b.hold
+
+    o_held : IsHeld (objective_held_by bound (o ∷ []))
+    o_held =
+        All-head IsHeld (objective_held_by bound (o ∷ [])) []
+        (All-tail IsHeld (row_held_by (y ∷ [])) (objective_held_by bound (o ∷ []) ∷ [])
+        (All-tail IsHeld (group_held g) (row_held_by (y ∷ []) ∷ objective_held_by bound (o ∷ []) ∷ []) b.hold))
+
+    same_held : held_item bound item image w ≡ held_of (o ∷ []) (cost_by sense f ∷ []) (LessThan bound)
+    same_held = item_is bound w ∙ ap (λ u. held_of u (cost_by sense f ∷ []) (LessThan bound)) (b.carries.by_objective l.source)
+
+    item_at : (v : Address) → adjoint_of (held_item bound item image w) v ≡ o *ℚ signed sense (coefficient f v)
+    item_at v =
+        ap (λ k. adjoint_of k v) same_held ∙ +ℚ-zero (o *ℚ coefficient (cost_by sense f) v)
+        ∙ ap (λ q. o *ℚ q) (coefficient-cost sense f v)
+
+    children_at : (v : Address)
+        → adjoint (held_children bound image (duals_of g (y ∷ []) (o ∷ []))) v
+        ≡ y *ℚ (coefficient slack v -ℚ coefficient f v) +ℚ o *ℚ signed sense (coefficient slack v)
+    children_at v =
+        ap₂ ◌+ℚ◌ (zeros_dot g (coefficients (variables (inner item 1)) v) g_held.dual)
+        (ap₂ ◌+ℚ◌
+        (+ℚ-zero (y *ℚ coefficient (difference slack f) v) ∙ ap (λ q. y *ℚ q) (coefficient-difference slack f v))
+        (+ℚ-zero (o *ℚ coefficient (cost_by sense slack) v +ℚ zero_ℚ) ∙ +ℚ-zero (o *ℚ coefficient (cost_by sense slack) v) ∙ ap (λ q. o *ℚ q) (coefficient-cost sense slack v)))
+        ∙ zero-+ℚ (y *ℚ (coefficient slack v -ℚ coefficient f v) +ℚ o *ℚ signed sense (coefficient slack v))
+
+    abbrev Agree : Address → Type 0
+    Agree v = adjoint_of (held_item bound item image w) v ≡ adjoint (held_children bound image (duals_of g (y ∷ []) (o ∷ []))) v
+
+    y_is : y ≡ neg_ℚ (signed sense o)
+    y_is =
+        row_number sense y o
+        (sym (item_at s ∙ ap (λ q. o *ℚ signed sense q) absent)
+        ∙ All-head Agree s [] b.inner
+        ∙ children_at s
+        ∙ ap₂ (λ e k. y *ℚ (e -ℚ k) +ℚ o *ℚ signed sense e) (coefficient-variable_same address_order s) absent)
+
+    children_gap : gap (held_children bound image (duals_of g (y ∷ []) (o ∷ [])))
+        ≡ neg_ℚ (y *ℚ (slack.constant -ℚ f.constant)) +ℚ (bound *ℚ o -ℚ o *ℚ signed sense slack.constant)
+    children_gap =
+        ap₂ ◌+ℚ◌
+        (ap (λ q. zero_ℚ -ℚ q) (dot_zeros g (constants (variables (inner item 1))) (constants-variables (inner item 1))) ∙ -ℚ-itself zero_ℚ)
+        (ap₂ ◌+ℚ◌
+        (ap₂ ◌-ℚ◌ (low_beyond sense (y ∷ [])) (+ℚ-zero (y *ℚ (difference slack f).constant) ∙ ap (λ q. y *ℚ q) (constant-difference slack f))
+        ∙ zero-+ℚ (neg_ℚ (y *ℚ (slack.constant -ℚ f.constant))))
+        (+ℚ-zero (gap_of (objective_held_by bound (o ∷ [])))
+        ∙ ap (λ q. bound *ℚ o -ℚ q) (+ℚ-zero (o *ℚ (cost_by sense slack).constant) ∙ ap (λ q. o *ℚ q) (constant-cost sense slack))))
+        ∙ zero-+ℚ (neg_ℚ (y *ℚ (slack.constant -ℚ f.constant)) +ℚ (bound *ℚ o -ℚ o *ℚ signed sense slack.constant))
+
+    item_gap : gap_of (held_item bound item image w) ≡ bound *ℚ o -ℚ o *ℚ signed sense f.constant
+    item_gap =
+        ap gap_of same_held
+        ∙ ap (λ q. bound *ℚ o -ℚ q) (+ℚ-zero (o *ℚ (cost_by sense f).constant) ∙ ap (λ q. o *ℚ q) (constant-cost sense f))
+
+    covered_by : IsCovered bound item image (duals_of g (y ∷ []) (o ∷ [])) w
+    covered_by = record {
+      holds = subst IsHeld (sym same_held) (record {
+        set = record { dimension = refl; enough = omega arith; uncrossed = refl };
+        size = refl;
+        dual = o_held.dual;
+      });
+      same = λ v. item_at v ∙ sums_agree sense o y (coefficient slack v) (coefficient f v) y_is ∙ sym (children_at v);
+      gaps = ≤ℚ_from_≡ _ _ (children_gap ∙ gaps_agree sense bound o y slack.constant f.constant y_is ∙ sym item_gap);
+    }
+
+  of_numbers : (bound : Rational) (g y o w : List Rational)
+      → Balances bound edge item image (duals_of g y o) w → IsCovered bound item image (duals_of g y o) w
+  of_numbers bound g y o w b =
+      let rest = All-tail IsHeld (group_held g) (row_held_by y ∷ objective_held_by bound o ∷ []) b.hold in
+      let y_one : length y ≡ 1 = (All-head IsHeld (row_held_by y) (objective_held_by bound o ∷ []) rest).size in
+      let o_one : length o ≡ 1 = (All-head IsHeld (objective_held_by bound o) [] (All-tail IsHeld (row_held_by y) (objective_held_by bound o ∷ []) rest)).size in
+      single₂ (λ y o. Balances bound edge item image (duals_of g y o) w → IsCovered bound item image (duals_of g y o) w)
+      (λ p q c. covered_by bound g p q w c) y o y_one o_one b
+
+  covered : (bound : Rational) (gs ys os : List (List Rational)) (w : List Rational)
+      → Balances bound edge item image (record { groups = gs; rows = ys; objective = os }) w
+      → IsCovered bound item image (record { groups = gs; rows = ys; objective = os }) w
+  covered bound [] ys os w b = absurd (omega (arith, b.each.groups))
+  covered bound (g ∷ (k ∷ gs)) ys os w b = absurd (omega (arith, b.each.groups))
+  covered bound (g ∷ []) [] os w b = absurd (omega (arith, b.each.rows))
+  covered bound (g ∷ []) (y ∷ (z ∷ ys)) os w b = absurd (omega (arith, b.each.rows))
+  covered bound (g ∷ []) (y ∷ []) [] w b = absurd (omega (arith, b.each.objective))
+  covered bound (g ∷ []) (y ∷ []) (u ∷ (v ∷ us)) w b = absurd (omega (arith, b.each.objective))
+  covered bound (g ∷ []) (y ∷ []) (u ∷ []) w b = of_numbers bound g y u w b
+
+  one_component : length (functions_of item.body) ≡ 1
+  one_component = ap length l.functions
+
+  group_valid : length item.at.positions < 38 → IsValidWithin group
+  group_valid room few = record {
+    function = tt;
+    some = omega arith;
+    at_most = few;
+    set = record { dimension = refl; enough = omega arith; uncrossed = refl };
+    depth = subst (λ m. m ≤ 38) (sym (length-append item.at.positions (0 ∷ []))) (omega (arith, room));
+    others = λ none. absurd (true≢false none);
+  }
+
+  row_valid : length item.at.positions < 38 → IsValidWithin row
+  row_valid room =
+      second_row_valid item (row_of sense f s) (beyond_scalar sense) (omega arith) (beyond_fits sense)
+      (All-cons (NamesNothingBelow (child_of item.at 1)) (difference slack f) []
+      (unnamed-difference (child_of item.at 1) slack f (component_apart item.at 1 (omega arith) 0) (unnamed_below item.at 1 f unnamed))
+      (All-nil (NamesNothingBelow (child_of item.at 1)))) room
+
+  objective_is_valid : length item.at.positions < 38 → IsValidWithin objective
+  objective_is_valid room =
+      objective_valid item 2 (PlainObj sense s) refl
+      (All-cons (NamesNothingBelow (child_of item.at 2)) slack [] (component_apart item.at 2 (omega arith) 0) (All-nil (NamesNothingBelow (child_of item.at 2)))) room
+
+  abbrev all_three : (P : Item → Type 0) → P group → P row → P objective → All P (group ∷ row ∷ objective ∷ [])
+  all_three P p q r =
+      All-cons P group (row ∷ objective ∷ []) p (All-cons P row (objective ∷ []) q (All-cons P objective [] r (All-nil P)))
+
+  no_more : (child : Item) → length (functions_of child.body) ≡ 1 → GrowsBy (growth (family_of edge)) item child
+  no_more child e =
+      subst (λ n. length (functions_of child.body) ≤ n * length (functions_of item.body)) (sym l.no_growth) (omega (arith, e, one_component))
+
+  -- what isn't among the child group's variables
+  absent_from : (v : Address) → ¬ (Contains (inner_of image.groups) v) → coefficient slack v ≡ zero_ℚ
+  absent_from v there =
+      All-head (λ f. coefficient f v ≡ zero_ℚ) slack [] (variables_missed (s ∷ []) v (not_contained (s ∷ []) v there))
+
+  slack_objective_law : EdgeLaw edge item image
+  slack_objective_law = record {
+    values = values;
+    duals = λ bound duals w b. covered bound duals.groups duals.rows duals.objective w b;
+    positions = refl;
+    valid = λ room. all_three IsValidWithin (group_valid room) (row_valid room) (objective_is_valid room);
+    sizes = all_three (GrowsBy (growth (family_of edge)) item) (no_more group refl) (no_more row refl) (no_more objective refl);
+    kinds = all_three (λ child. LeadsTo edge child.body) l.group_leads l.row_leads l.objective_leads;
+    components = All-cons HasComponents group [] refl (All-nil HasComponents);
+    mentioned =
+        All-cons (MentionsKnown item image) row (objective ∷ [])
+        (λ v m there.
+        All-cons (λ f. coefficient f v ≡ zero_ℚ) (difference slack f) []
+        (missed-difference v slack f (absent_from v there) (All-head (λ f. coefficient f v ≡ zero_ℚ) f [] (subst (λ fs. Miss fs v) l.functions m)))
+        (All-nil (λ f. coefficient f v ≡ zero_ℚ)))
+        (All-cons (MentionsKnown item image) objective []
+        (λ v m there. All-cons (λ f. coefficient f v ≡ zero_ℚ) slack [] (absent_from v there) (All-nil (λ f. coefficient f v ≡ zero_ℚ)))
+        (All-nil (MentionsKnown item image)));
+    exprs = λ group. absurd (true≢false (sym group ∙ objective_no_group item.body l.source));
+    expressed = λ v n. All-nil (λ f. coefficient f v ≡ zero_ℚ);
+  }
+
+-- ---- the table
+
+-- an item at an address
+abbrev pub item_of : Address → Body → Item
+item_of at body = record { at = at; body = body }
+
+abbrev pub objective_parts : List Item → List Expression → List Item → Item → Image
+objective_parts groups exprs rows objective =
+    record { groups = groups; exprs = exprs; rows = rows; objective = Some objective }
+
+abbrev pub slack_image : Item → Sense → Function → Image
+slack_image item sense f = record {
+  groups = free_at item 1 ∷ [];
+  exprs = [];
+  rows = child_at item 1 (row_of sense f (child_of (child_of item.at 0) 0)) ∷ [];
+  objective = Some (child_at item 2 (PlainObj sense (child_of (child_of item.at 0) 0)));
+}
+
+module _ (edge : Edge) (own : family_of edge ≡ ObjSlack) where
+  pub image_fits : (item : Item) → ImageFits edge item
+  unfolding FitsBy
+  image_fits item = subst (λ f. FitsBy f item) (sym own) tt
+
+  pub slack_is : (item : Item) → image_of edge item ≡ obj_slack item
+  unfolding image_by
+  slack_is item = ap (λ f. image_by f edge item) own
+
+  pub is_affine : (b : Body) → FitsItsFunction b → kind_of_body b ≡ source_of edge → IsAffineObjective b
+  is_affine b h k = (sourced edge own b h k).objective
+
+  pub image_is : (item : Item) → IsItemFor edge item
+      → image_of edge item ≡ slack_image item (sense_of item.body) (function_of_body item.body)
+  image_is item suits =
+      slack_is item
+      ∙ ap (λ fs. record {
+        groups = free_at item 1 ∷ [];
+        exprs = [];
+        rows = child_at item 1 (Affine (first_in (differences (inner_functions item 1) fs)) (beyond (sense_of item.body))) ∷ [];
+        objective = Some (child_at item 2 (PlainObj (sense_of item.body) (child_of (child_of item.at 0) 0)));
+      }) (read (is_affine item.body suits.valid.function suits.kind)).functions
+
+  -- f names no component
+  pub unnamed_there : (item : Item) → IsItemFor edge item
+      → coefficient (function_of_body item.body) (child_of (child_of item.at 0) 0) ≡ zero_ℚ
+  unnamed_there item suits =
+      let facts = read (is_affine item.body suits.valid.function suits.kind) in
+      unnamed_below item.at 0 (function_of_body item.body)
+      (All-head (NamesNothingBelow item.at) (function_of_body item.body) []
+      (subst (All (NamesNothingBelow item.at)) facts.functions (suits.valid.others (objective_no_group item.body facts.source)))) (0 ∷ [])
+
+  -- so is an image that is made of these parts
+  pub parts_made : (item : Item) → IsItemFor edge item
+      → (at var at_row at_objective : Address) (vars : List Address) (groups rows : List Item) (exprs : List Expression) (row objective : Body)
+      → at ≡ child_of item.at 0 → var ≡ child_of at 0 → at_row ≡ child_of item.at 1 → at_objective ≡ child_of item.at 2
+      → vars ≡ inner item 1 → groups ≡ item_of at (Free vars) ∷ [] → rows ≡ item_of at_row row ∷ [] → exprs ≡ []
+      → row ≡ row_of (sense_of item.body) (function_of_body item.body) var
+      → objective ≡ PlainObj (sense_of item.body) var
+      → objective_parts groups exprs rows (item_of at_objective objective) ≡ image_of edge item
+  parts_made item suits at var at_row at_objective vars groups rows exprs row objective at_is var_is at_row_is at_objective_is vars_are groups_are rows_are exprs_are row_is objective_is =
+      let sense = sense_of item.body in
+      let f = function_of_body item.body in
+      ap₂ (λ gs rs. objective_parts gs exprs rs (item_of at_objective objective)) groups_are rows_are
+      ∙ ap (λ es. objective_parts (item_of at (Free vars) ∷ []) es (item_of at_row row ∷ []) (item_of at_objective objective)) exprs_are
+      ∙ ap₂ (λ a vs. objective_parts (item_of a (Free vs) ∷ []) [] (item_of at_row row ∷ []) (item_of at_objective objective)) at_is vars_are
+      ∙ ap₂ (λ a b. objective_parts (free_at item 1 ∷ []) [] (item_of a b ∷ []) (item_of at_objective objective)) at_row_is row_is
+      ∙ ap₂ (λ a b. objective_parts (free_at item 1 ∷ []) [] (child_at item 1 (row_of sense f var) ∷ []) (item_of a b)) at_objective_is objective_is
+      ∙ ap (λ v. objective_parts (free_at item 1 ∷ []) [] (child_at item 1 (row_of sense f v) ∷ []) (child_at item 2 (PlainObj sense v))) (var_is ∙ ap (λ a. child_of a 0) at_is)
+      ∙ sym (image_is item suits)
+
+  -- it is no row, to which duals would be carried
+  pub no_row : (item : Item) → IsItemFor edge item → is_objective item.body ≡ false → ⊥
+  no_row item suits none =
+      true≢false (sym (read (is_affine item.body suits.valid.function suits.kind)).source ∙ none)
+
+  law_at : Lawful edge
+  law_at item suits =
+      let source = sourced edge own item.body suits.valid.function suits.kind in
+      let facts = read source.objective in
+      subst (EdgeLaw edge item) (sym (image_is item suits))
+      (slack_objective_law edge item (sense_of item.body) (function_of_body item.body) (record {
+        item_valid = suits.valid;
+        source = facts.source;
+        functions = facts.functions;
+        cost = facts.cost;
+        no_growth = ap growth own;
+        group_leads = source.group_leads (inner item 1);
+        row_leads = source.row_leads (difference (variable (child_of (child_of item.at 0) 0)) (function_of_body item.body));
+        objective_leads = source.objective_leads (child_of (child_of item.at 0) 0);
+      }))
+
+pub obj_slack_lawful : IsLawful ObjSlack
+obj_slack_lawful = lawful_family ObjSlack law_at

@@ -1,0 +1,164 @@
+-- The law of ScalarSlack: f in S is s in S and f - s = 0.
+use Rattle.std.specs.Prelude.{All, List, None, [], length, refl, ◌∷◌, ◌≡◌}
+use Rattle.std.proofs.lemmas.List.Elements.{All-cons, All-head, All-nil}
+use Rattle.std.proofs.Common.{ap, arith, subst, sym, ◌∙◌}
+use Rattle.rational_laws.specs.Field.{*ℚ-zero, zero-*ℚ}
+use Rattle.aff_core.specs.Address.{Address, child_of}
+use Rattle.item_core.specs.declared.item.Body.TheVariants.{Affine, Group}
+use Rattle.bridge_face.specs.BackOf.{BackFits, BackFitsBy, back_by, back_of, size}
+use Rattle.item_core.specs.declared.item.Body.{Body}
+use Rattle.item_core.specs.declared.edge.Edge.TheVariants.{E31, E32, E33}
+use Rattle.item_core.specs.declared.edge.Edge.{Edge}
+use Rattle.bridge_face.specs.Law.{EdgeLaw, IsItemFor, IsLawful, LeadsTo, growth}
+use Rattle.set_core.specs.declared.set.Set.TheVariants.{EqualTo, GreaterThan, Interval, LessThan}
+use Rattle.bridge_face.specs.ImageOf.{FitsBy, ImageFits, differences, group_at, image_by, image_of, inner, inner_functions, scalar_slack}
+use Rattle.item_core.specs.Valid.{FitsItsFunction, NamesNothingBelow}
+use Rattle.aff_core.specs.Function.{Function, coefficient, variable}
+use Rattle.bridge_face.specs.OneRowLaws.{IsRow}
+use Rattle.bridges_slack.specs.SlackLaws.{IsSlack, slack_law}
+use Rattle.item_core.specs.declared.item.Item.{Item}
+use Rattle.bridge_face.specs.FamilyLaws.{Lawful, lawful_family, of_another}
+use Rattle.bridge_face.specs.Sources.{OfKind, affine_greater_than, affine_interval, affine_less_than, of_kind}
+use Rattle.ratio_core.specs.Rational.{Rational, zero_ℚ, ◌*ℚ◌}
+use Rattle.item_core.specs.declared.family.Family.TheVariants.{ScalarSlack}
+use Rattle.bridge_face.specs.Images.{child_at, first_in, function_of_body, difference}
+use Rattle.item_core.specs.Edge.{edge_entry, family_of, source_of}
+use Rattle.set_core.specs.Vectors.{first_of}
+use Rattle.item_core.specs.Item.{functions_of, set_of}
+use Rattle.item_core.specs.KindOf.{kind_of_body}
+use Rattle.set_laws.specs.Least.{single}
+use Rattle.bridge_face.specs.ComponentLaws.{unnamed_below, variables}
+use Rattle.bridge_face.specs.GroupAndRowLaws.{group_and_row}
+use Rattle.item_core.specs.declared.kind.Kind.TheVariants as kind
+
+-- an affine row with bounds
+pub data IsBounded : Body → Type 0 where
+  below_bound : {f : Function} {u : Rational} → IsBounded (Affine f (LessThan u))
+  above_bound : {f : Function} {l : Rational} → IsBounded (Affine f (GreaterThan l))
+  between : {f : Function} {l u : Rational} → IsBounded (Affine f (Interval l u))
+
+-- the row that the edges make of it
+abbrev pub made : Item → Body
+made item =
+    Affine (first_in (differences (functions_of item.body) (inner_functions item 1))) (EqualTo zero_ℚ)
+
+record Sourced (edge : Edge) (b : Body) : Type 0 where
+  bounded : IsBounded b
+  leads : (vars : List Address) → LeadsTo edge (Group (set_of b) vars)
+  row_leads : (f : Function) → LeadsTo edge (Affine f (EqualTo zero_ℚ))
+
+sourced_first : {b : Body} → OfKind kind.AffineLessThan b → Sourced E31 b
+unfolding edge_entry kind_of_body
+sourced_first affine_less_than = record { bounded = below_bound; leads = λ vars. refl; row_leads = λ f. refl }
+
+sourced_second : {b : Body} → OfKind kind.AffineGreaterThan b → Sourced E32 b
+unfolding edge_entry kind_of_body
+sourced_second affine_greater_than = record { bounded = above_bound; leads = λ vars. refl; row_leads = λ f. refl }
+
+sourced_third : {b : Body} → OfKind kind.AffineInterval b → Sourced E33 b
+unfolding edge_entry kind_of_body
+sourced_third affine_interval = record { bounded = between; leads = λ vars. refl; row_leads = λ f. refl }
+
+sourced : (edge : Edge) → family_of edge ≡ ScalarSlack
+    → (b : Body) → FitsItsFunction b → kind_of_body b ≡ source_of edge → Sourced edge b
+unfolding edge_entry
+sourced E31 own b h k = sourced_first (subst (λ k. OfKind k b) k (of_kind b h))
+sourced E32 own b h k = sourced_second (subst (λ k. OfKind k b) k (of_kind b h))
+sourced E33 own b h k = sourced_third (subst (λ k. OfKind k b) k (of_kind b h))
+sourced _ own b h k = of_another own refl
+
+-- what is read of it
+record Bounded (b : Body) : Type 0 where
+  row : IsRow b
+  functions : functions_of b ≡ function_of_body b ∷ []
+
+read : {b : Body} → IsBounded b → Bounded b
+read below_bound = record { row = record { no_group = refl; no_objective = refl }; functions = refl }
+read above_bound = record { row = record { no_group = refl; no_objective = refl }; functions = refl }
+read between = record { row = record { no_group = refl; no_objective = refl }; functions = refl }
+
+-- one difference is the list of it
+alone_is : (fs : List Function) (f : Function) (v : Address) → fs ≡ f ∷ []
+    → first_in (differences fs (variables (v ∷ []))) ∷ [] ≡ differences fs (variables (v ∷ []))
+alone_is fs f v e =
+    subst (λ gs. first_in (differences gs (variables (v ∷ []))) ∷ [] ≡ differences gs (variables (v ∷ []))) (sym e) refl
+
+zero_alone : (one : Rational) (v : List Rational) → length v ≡ 1 → first_of v ≡ one *ℚ zero_ℚ
+    → All (λ q. q ≡ zero_ℚ) v
+zero_alone one v e h =
+    single (λ v. first_of v ≡ one *ℚ zero_ℚ → All (λ q. q ≡ zero_ℚ) v)
+    (λ p is. All-cons (λ q. q ≡ zero_ℚ) p [] (is ∙ *ℚ-zero one) (All-nil (λ q. q ≡ zero_ℚ))) v e h
+
+-- ---- the law
+
+module _ (edge : Edge) (own : family_of edge ≡ ScalarSlack) where
+  pub image_is : (item : Item) → image_of edge item ≡ scalar_slack item
+  unfolding image_by
+  image_is item = ap (λ f. image_by f edge item) own
+
+  pub back_is : (item : Item) (y : List Rational) → back_of edge item (y ∷ []) ≡ y
+  unfolding back_by
+  back_is item y = ap (λ f. back_by f item (y ∷ [])) own
+
+  pub image_fits : (item : Item) → ImageFits edge item
+  unfolding FitsBy
+  image_fits item = subst (λ f. FitsBy f item) (sym own) tt
+
+  pub back_fits : (item : Item) (ys : List (List Rational)) → BackFits edge item ys
+  unfolding BackFitsBy
+  back_fits item ys = subst (λ f. BackFitsBy f item ys) (sym own) tt
+
+  pub is_bounded : (b : Body) → FitsItsFunction b → kind_of_body b ≡ source_of edge → IsBounded b
+  is_bounded b h k = (sourced edge own b h k).bounded
+
+  -- the row names none of the components, and has one function
+  pub one_function : (item : Item) → IsItemFor edge item → functions_of item.body ≡ function_of_body item.body ∷ []
+  one_function item suits = (read (is_bounded item.body suits.valid.function suits.kind)).functions
+
+  pub absent : (item : Item) → IsItemFor edge item
+      → coefficient (function_of_body item.body) (child_of (child_of item.at 0) 0) ≡ zero_ℚ
+  absent item suits =
+      let facts = read (is_bounded item.body suits.valid.function suits.kind) in
+      let unnamed : All (NamesNothingBelow item.at) (function_of_body item.body ∷ []) = subst (All (NamesNothingBelow item.at)) facts.functions (suits.valid.others facts.row.no_group) in
+      unnamed_below item.at 0 (function_of_body item.body) (All-head (NamesNothingBelow item.at) (function_of_body item.body) [] unnamed) (0 ∷ [])
+
+  -- the image, with the row's function written out
+  pub image_made : (item : Item) → IsItemFor edge item
+      → group_and_row item (group_at item (set_of item.body) 1) []
+      (Affine (difference (function_of_body item.body) (variable (child_of (child_of item.at 0) 0))) (EqualTo zero_ℚ))
+      ≡ image_of edge item
+  image_made item suits =
+      ap (λ fs. group_and_row item (group_at item (set_of item.body) 1) [] (Affine (first_in (differences fs (inner_functions item 1))) (EqualTo zero_ℚ))) (sym (one_function item suits))
+      ∙ sym (image_is item)
+
+  law_at : Lawful edge
+  law_at item suits =
+      let source = sourced edge own item.body suits.valid.function suits.kind in
+      let facts = read source.bounded in
+      let one : size item ≡ 1 = ap length facts.functions in
+      let slack : IsSlack edge item (made item) = record {
+        item_valid = suits.valid;
+        source = facts.row;
+        made = record { no_group = refl; no_objective = refl };
+        functions =
+            alone_is (functions_of item.body) (function_of_body item.body) (child_of (child_of item.at 0) 0) facts.functions
+            ∙ ap (λ n. differences (functions_of item.body) (variables (inner item n))) (sym one);
+        equal = λ t v long h. zero_alone t v (long ∙ one) h;
+        low = λ y. zero-*ℚ (first_of y);
+        shaped = refl;
+        fits = record { dimension = sym one; enough = omega (arith, one); uncrossed = refl };
+        back = back_is item;
+        no_growth = ap growth own;
+        group_leads = source.leads (inner item (size item));
+        row_leads = source.row_leads (first_in (differences (functions_of item.body) (inner_functions item 1)));
+      } in
+      subst (EdgeLaw edge item) (ap (λ n. record {
+        groups = group_at item (set_of item.body) n ∷ [];
+        exprs = [];
+        rows = child_at item 1 (made item) ∷ [];
+        objective = None;
+      }) one ∙ sym (image_is item))
+      (slack_law edge item (made item) slack)
+
+pub scalar_slack_lawful : IsLawful ScalarSlack
+scalar_slack_lawful = lawful_family ScalarSlack law_at
