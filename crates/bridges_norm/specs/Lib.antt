@@ -1,3 +1,0 @@
-pub mod BothLaws
-pub mod NormInfinityLaws
-pub mod NormOneLaws

@@ -1,9 +1,0 @@
-//! Bridges of the norm cones, into rows of numbers that aren't negative.
-#![tactic(auto)]
-
-mod duals;
-mod norm_infinity;
-mod norm_one;
-
-pub use norm_infinity::{NormInfinity, NormInfinityRule};
-pub use norm_one::{NormOne, NormOneRule};
