@@ -1,4 +1,5 @@
--- Addresses of items: a root with its number, and the positions of the children chosen on the way down.
+-- Addresses of items: a root with its number, and the positions of the children chosen on the way
+-- down.
 use Rattle.std.specs.Prelude.{◌≡◌, Bool, ℕ, suc, zero, List, [], ◌∷◌, ◌++◌, refl}
 use Rattle.std.proofs.Common.{ap, sym, subst, ◌∙◌}
 use Rattle.std.specs.Coded.{Coded, code_by, coded×, coded_ℕ, coded_list}
@@ -22,7 +23,10 @@ pub record Address : Type 0 where
 -- an address is stored as its three parts
 abbrev pub address_code : Coded Address
 address_code =
-    code_by (Root × (ℕ × List ℕ)) (coded× (contracts.the_row).coded (coded× coded_ℕ (coded_list coded_ℕ))) (λ a. (a.root, (a.number, a.positions))) (λ p. record { root = p.0; number = p.1.0; positions = p.1.1 }) (λ _. refl)
+    code_by (Root
+    × (ℕ × List ℕ)) (coded× (contracts.the_row).coded (coded× coded_ℕ (coded_list coded_ℕ)))
+    (λ a. (a.root, (a.number, a.positions))) (λ p.
+    record { root = p.0; number = p.1.0; positions = p.1.1 }) (λ _. refl)
 
 -- the address of an item of the model
 abbrev pub root_address : Root → ℕ → Address
@@ -63,19 +67,32 @@ address_cmp =
 
 pub address_total : IsTotalOrder address_cmp
 unfolding address_cmp
-address_total = then_total (on_total (λ a. root_number a.root) nat_cmp_total) (then_total (on_total (λ a. a.number) nat_cmp_total) (on_total (λ a. a.positions) nat_list_cmp_total))
+address_total = then_total (on_total (λ a. root_number a.root) nat_cmp_total)
+    (then_total (on_total (λ a. a.number) nat_cmp_total)
+    (on_total (λ a. a.positions) nat_list_cmp_total))
 
 -- addresses that compare alike are equal
 pub exact_addresses : IsAntisymmetric address_cmp
 unfolding address_cmp
 exact_addresses a b e =
-    let same = exact_pairs nat_cmp _ nat_cmp-IsAntisymmetric (exact_pairs nat_cmp (slice_cmp nat_cmp) nat_cmp-IsAntisymmetric (slice_cmp-IsAntisymmetric nat_cmp-IsAntisymmetric)) (root_number a.root, (a.number, a.positions)) (root_number b.root, (b.number, b.positions)) e in
-    λ i. record { root = root_number-injective a.root b.root (ap (λ p. p.0) same) i; number = (same i).1.0; positions = (same i).1.1 }
+    let same = exact_pairs nat_cmp _ nat_cmp-IsAntisymmetric
+    (exact_pairs nat_cmp (slice_cmp nat_cmp) nat_cmp-IsAntisymmetric
+    (slice_cmp-IsAntisymmetric nat_cmp-IsAntisymmetric))
+    (root_number a.root, (a.number, a.positions))
+    (root_number b.root, (b.number, b.positions)) e in
+    λ i. record {
+      root = root_number-injective a.root b.root (ap (λ p. p.0) same) i;
+      number = (same i).1.0;
+      positions = (same i).1.1;
+    }
 
 abbrev pub address_eq : Address → Address → Bool
 address_eq = eq_by_cmp address_cmp
 
 -- so `==` on addresses is equality
 pub address_eq-Decides : (a b : Address) → Decides (eq_by_cmp address_cmp a b) (a ≡ b)
-address_eq-Decides a b =
-    (λ e. exact_addresses a b ((Equal-is (address_cmp a b)).0 e), λ e. ap is_eq (subst (λ c. address_cmp a c ≡ Equal) e (tied_itself address_total a)))
+address_eq-Decides a b = (
+  λ e. exact_addresses a b ((Equal-is (address_cmp a b)).0 e),
+  λ e. ap is_eq
+      (subst (λ c. address_cmp a c ≡ Equal) e (tied_itself address_total a)),
+)

@@ -1,7 +1,8 @@
--- Sums, multiples, and compositions of affine functions, and what of them fits in the numbers that are kept.
+-- Sums, multiples, and compositions of affine functions, and what of them fits in the numbers that
+-- are kept.
 --
--- Every sum is made from the left, and each of its steps must fit. The results themselves have no order: they are the sum,
--- the multiple, the value and the composition of functions.
+-- Every sum is made from the left, and each of its steps must fit. The results themselves have no
+-- order: they are the sum, the multiple, the value and the composition of functions.
 use Rattle.std.specs.Prelude.{◌≡◌, IsTrue, List, [], ◌∷◌, ◌++◌, All, Option, Some, None, Result, Ok, Err, unwrap_or}
 use Rattle.std.specs.FinMap as finite
 use Rattle.std.specs.FinMap.{FinMap}
@@ -14,7 +15,8 @@ use Rattle.aff_core.specs.Function.{FunctionOver, coefficient, constant_function
 
 -- ---- answers
 
--- a value with Q exactly where P holds, and else Overflow; or want of memory, of which nothing is said
+-- a value with Q exactly where P holds, and else Overflow; or want of memory, of which nothing is
+-- said
 abbrev pub ExactWhere : {T : Type 0} → Result T AffFault → Type 0 → (T → Type 0) → Type 0
 ExactWhere (Ok x) P Q = P × Q x
 ExactWhere (Err Overflow) P Q = ¬ P
@@ -88,7 +90,7 @@ module _ {K : Type 0} {R : K → K → Ordering} where
     pub constant : h.constant ≡ f.constant +ℚ g.constant
     pub coefficients : (v : K) → coefficient h v ≡ coefficient f v +ℚ coefficient g v
 
--- ---- compositions: the function with the expression of each key in its place, whose keys may be others
+-- ---- compositions: the function with the expression of each key, over other keys, in its place
 
 -- the expression of a key, which is 0 where it has none
 abbrev pub expression_at : {K J : Type 0} {R : K → K → Ordering} {S : J → J → Ordering}
@@ -104,7 +106,8 @@ substituted e (t ∷ ts) = times t.1 (terms_of (e t.0)) ++ substituted e ts
 module _ {K J : Type 0} {R : K → K → Ordering} {S : J → J → Ordering} where
   unfoldable pub composed : (K → FunctionOver S) → FunctionOver R → FunctionOver S
   composed e f =
-      function_of (finite.entries (added_terms (finite.empty {R = S}) (substituted e (terms_of f)))) (value_of f (λ u. (e u).constant))
+      function_of (finite.entries (added_terms (finite.empty {R = S}) (substituted e (terms_of f))))
+      (value_of f (λ u. (e u).constant))
 
   -- each product and each sum of it fits
   pub record SubstitutionFits (e : K → FunctionOver S) (f : FunctionOver R) : Type 0 where
@@ -113,7 +116,8 @@ module _ {K J : Type 0} {R : K → K → Ordering} {S : J → J → Ordering} wh
     pub sums : TermsFit (finite.empty {R = S}) (substituted e (terms_of f))
 
   -- each number is the value of f where each key has that number of its expression
-  pub record IsComposition (e : K → FunctionOver S) (f : FunctionOver R) (h : FunctionOver S) : Type 0 where
+  pub record IsComposition (e : K → FunctionOver S) (f : FunctionOver R)
+      (h : FunctionOver S) : Type 0 where
     pub same : h ≡ composed e f
     pub constant : h.constant ≡ value_of f (λ u. (e u).constant)
     pub coefficients : (v : J) → coefficient h v ≡ linear (terms_of f) (λ u. coefficient (e u) v)

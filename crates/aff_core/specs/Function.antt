@@ -1,7 +1,9 @@
--- Affine functions: a finite map from keys to their coefficients, none of which is 0, and a constant.
+-- Affine functions: a finite map from keys to their coefficients, none of which is 0, and a
+-- constant.
 --     FunctionOver R        over keys in the order R.          Function      over addresses
---     terms_of coefficient value_of slope evaluated            what a function has, and what it is at a point and along a ray
---     function_of           of terms in the order of their keys, of which those with the coefficient 0 are left out
+--     terms_of coefficient               what a function has
+--     value_of slope evaluated           what it is at a point and along a ray
+--     function_of           of terms in the order of their keys, less those with the coefficient 0
 --     constant_function variable negated with_coefficient gathered      other functions
 use Rattle.std.specs.Prelude.{◌≡◌, ◌≢◌, Bool, true, false, cond, List, [], ◌∷◌, filter, All, unwrap_or, refl}
 use Rattle.std.specs.Bool.{passes}
@@ -38,12 +40,16 @@ module _ {K : Type 0} (R : K → K → Ordering) where
   none_zero ts = by (finite.is_sorted R (filter is_nonzero ts))
     where
       by : (b : Bool) → HaveNoZero (cond b (filter is_nonzero ts) [])
-      by true = list_all-from_AllPass is_nonzero (filter is_nonzero ts) (filter_passes is_nonzero ts)
+      by true =
+          list_all-from_AllPass is_nonzero (filter is_nonzero ts) (filter_passes is_nonzero ts)
       by false = refl
 
-  pub kept_nonzero : (ts : List (K × Rational)) → HaveNoZero (finite.entries (finite.from_sorted {R = R} (if_rising R (filter is_nonzero ts))))
+  pub kept_nonzero : (ts : List (K × Rational))
+      → HaveNoZero (finite.entries (finite.from_sorted {R = R}
+      (if_rising R (filter is_nonzero ts))))
   kept_nonzero ts =
-      ap (list_all is_nonzero) (finite.entries-from_sorted R (if_rising R (filter is_nonzero ts)) (passes _ (if_rising_rises (filter is_nonzero ts))))
+      ap (list_all is_nonzero) (finite.entries-from_sorted R (if_rising R (filter is_nonzero ts))
+      (passes _ (if_rising_rises (filter is_nonzero ts))))
       ∙ none_zero ts
 
 -- ---- functions
@@ -65,7 +71,8 @@ module _ {K : Type 0} {R : K → K → Ordering} where
   same_parts f g e = λ i. record {
     terms = (e i).0;
     constant = (e i).1;
-    nonzero = is_prop→PathP (λ j. HaveNoZero (finite.entries (e j).0)) (λ j. Bool-set _ _) f.nonzero g.nonzero i;
+    nonzero = is_prop→PathP (λ j. HaveNoZero (finite.entries (e j).0)) (λ j. Bool-set _ _) f.nonzero
+        g.nonzero i;
   }
 
   -- and is stored as them
@@ -83,7 +90,8 @@ module _ {K : Type 0} {R : K → K → Ordering} where
 
   -- ---- functions of terms
 
-  -- the function of terms in the order of their keys, of which those with the coefficient 0 are left out
+  -- the function of terms in the order of their keys, of which those with the coefficient 0 are
+  -- left out
   unfoldable pub function_of : List (K × Rational) → Rational → FunctionOver R
   function_of ts constant = record {
     terms = finite.from_sorted (if_rising R (filter is_nonzero ts));
@@ -111,7 +119,8 @@ module _ {K : Type 0} {R : K → K → Ordering} where
       function_of (finite.entries (finite.insert f.terms at value)) f.constant
 
   -- the same with no word on maps: this coefficient alone is changed
-  pub record HasCoefficient (f : FunctionOver R) (at : K) (value : Rational) (h : FunctionOver R) : Type 0 where
+  pub record HasCoefficient (f : FunctionOver R) (at : K) (value : Rational)
+      (h : FunctionOver R) : Type 0 where
     pub constant : h.constant ≡ f.constant
     pub here : coefficient h at ≡ value
     pub elsewhere : (u : K) → u ≢ at → coefficient h u ≡ coefficient f u

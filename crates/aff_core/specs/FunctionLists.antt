@@ -1,4 +1,5 @@
--- Lists of affine functions, as the components of a vector function: what each is at a point and along a ray.
+-- Lists of affine functions, as the components of a vector function: what each is at a point and
+-- along a ray.
 use Rattle.std.specs.Prelude.{List, map}
 use Rattle.std.specs.declared.cmp.Ordering.{Ordering}
 use Rattle.ratio_core.specs.Rational.{Rational}

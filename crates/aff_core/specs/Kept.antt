@@ -23,8 +23,10 @@ pub record IsPlaceOf (f : Function) (at : Address) (n : ℕ) : Type 0 where
 pub record IsAbsent (f : Function) (at : Address) : Type 0 where
   pub absent : get f.terms at ≡ None
 
--- the address has this many terms, one or none, from this place on: before them stand those of the addresses below it,
--- after them those of the addresses above it
+-- the address has this many terms, one or none, from this place on: before them stand those of the
+-- addresses below it, after them those of the addresses above it
 pub record IsSpanOf (f : Function) (at : Address) (from count : ℕ) : Type 0 where
   pub in_range : from + count ≤ length (terms_of f)
-  pub given : (q : Rational) → entries (insert f.terms at q) ≡ take from (terms_of f) ++ (at, q) ∷ drop (from + count) (terms_of f)
+  pub given : (q : Rational)
+      → entries (insert f.terms at q)
+      ≡ take from (terms_of f) ++ (at, q) ∷ drop (from + count) (terms_of f)

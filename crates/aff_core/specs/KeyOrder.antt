@@ -19,8 +19,11 @@ address_order = record { total = address_total; exact = exact_addresses }
 module _ {K : Type 0} {R : K → K → Ordering} (o : IsKeyOrder R) where
   -- so a test by the order is one of equality
   pub key_eq-Decides : (a b : K) → Decides (eq_by_cmp R a b) (a ≡ b)
-  key_eq-Decides a b =
-      (λ e. o.exact a b ((Equal-is (R a b)).0 e), λ e. ap is_eq (subst (λ c. R a c ≡ Equal) e (tied_itself o.total a)))
+  key_eq-Decides a b = (
+    λ e. o.exact a b ((Equal-is (R a b)).0 e),
+    λ e. ap is_eq
+        (subst (λ c. R a c ≡ Equal) e (tied_itself o.total a)),
+  )
 
   pub same_key : (a : K) → eq_by_cmp R a a ≡ true
   same_key a = (key_eq-Decides a a).1 (λ i. a)

@@ -25,7 +25,11 @@ padded v = record {
 -- the places come back from the address
 pub padded-address_of : (a : Inside) → IsPadded a → padded (address_of a) ≡ a
 padded-address_of a h =
-    let long : length (take a.depth a.positions) ≡ a.depth = length-take-le a.depth a.positions (omega (arith, h.depth, h.places)) in
-    let whole : take a.depth a.positions ++ replicate (40 - length (take a.depth a.positions)) 0 ≡ a.positions =
-    ap (λ n. take a.depth a.positions ++ replicate (40 - n) 0) long ∙ ap (λ t. take a.depth a.positions ++ t) (sym h.zeros) ∙ take-append-drop a.depth a.positions in
+    let long : length (take a.depth a.positions) ≡ a.depth =
+    length-take-le a.depth a.positions (omega (arith, h.depth, h.places)) in
+    let whole : take a.depth a.positions ++ replicate (40 - length (take a.depth a.positions)) 0
+    ≡ a.positions =
+    ap (λ n. take a.depth a.positions ++ replicate (40 - n) 0) long
+    ∙ ap (λ t. take a.depth a.positions ++ t) (sym h.zeros)
+    ∙ take-append-drop a.depth a.positions in
     λ i. record { root = a.root; number = a.number; positions = whole i; depth = long i }

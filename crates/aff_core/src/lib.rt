@@ -1,4 +1,5 @@
-//! Addresses of items, affine functions over them with exact coefficients, and their lists and maps.
+//! Addresses of items, affine functions over them with exact coefficients, and their lists and
+//! maps.
 #![tactic(auto)]
 
 mod address;

@@ -78,14 +78,16 @@ pub all_components : (P : Address → Type 0) (at : Address) (k n : ℕ)
     → ((i : ℕ) → P (child_of at i)) → All P (components_from at k n)
 all_components P at k zero h = All-nil P
 all_components P at k (suc n) h =
-    All-cons P (child_of at k) (components_from at (k + 1) n) (h k) (all_components P at (k + 1) n h)
+    All-cons P (child_of at k) (components_from at (k + 1) n) (h k)
+    (all_components P at (k + 1) n h)
 
 pub all_components_within : (P : Address → Type 0) (at : Address) (k n : ℕ)
     → ((i : ℕ) → k ≤ i → i < k + n → P (child_of at i)) → All P (components_from at k n)
 all_components_within P at k zero h = All-nil P
 all_components_within P at k (suc n) h =
     All-cons P (child_of at k) (components_from at (k + 1) n) (h k (omega arith) (omega arith))
-    (all_components_within P at (k + 1) n (λ i low high. h i (omega (arith, low)) (omega (arith, high))))
+    (all_components_within P at (k
+    + 1) n (λ i low high. h i (omega (arith, low)) (omega (arith, high))))
 
 pub components-append : (at : Address) (k n m : ℕ)
     → components_from at k (n + m) ≡ components_from at k n ++ components_from at (k + n) m
@@ -106,20 +108,24 @@ pub misses_inner : (at : Address) (n : ℕ) (fs : List Function)
     → All (NamesNothingBelow at) fs → All (λ v. Miss fs v) (components (child_of at 0) n)
 misses_inner at n fs h =
     all_components (λ v. Miss fs v) (child_of at 0) 0 n
-    (λ i. All-weaker (NamesNothingBelow (child_of at 0)) (λ f. coefficient f (child_of (child_of at 0) i) ≡ zero_ℚ) (λ f k. k (i ∷ [])) fs (all_unnamed_below at 0 fs h))
+    (λ i. All-weaker (NamesNothingBelow (child_of at 0))
+    (λ f. coefficient f (child_of (child_of at 0) i) ≡ zero_ℚ) (λ f k. k (i ∷ [])) fs
+    (all_unnamed_below at 0 fs h))
 
 -- a component names nothing at or below another child
 pub component_apart : (at : Address) (n : ℕ) → 1 ≤ n → (i : ℕ)
     → NamesNothingBelow (child_of at n) (variable (child_of (child_of at 0) i))
 component_apart at n h i rest =
-    coefficient-variable_other address_order (child_of (child_of at 0) i) (below (child_of at n) rest)
+    coefficient-variable_other address_order (child_of (child_of at 0) i)
+    (below (child_of at n) rest)
     (apart at n 0 rest (i ∷ []) (λ e. absurd (omega (arith, e, h))))
 
 pub components_apart : (at : Address) (n m : ℕ) → 1 ≤ n
     → All (NamesNothingBelow (child_of at n)) (variables (components (child_of at 0) m))
 components_apart at n m h =
     All-map (NamesNothingBelow (child_of at n)) variable (components (child_of at 0) m)
-    (all_components (λ v. NamesNothingBelow (child_of at n) (variable v)) (child_of at 0) 0 m (component_apart at n h))
+    (all_components (λ v. NamesNothingBelow (child_of at n) (variable v)) (child_of at 0) 0 m
+    (component_apart at n h))
 
 -- ---- by whether an address is one of a list
 
@@ -146,24 +152,28 @@ pub map_same_on : {X Y : Type 0} (f g : X → Y) (xs : List X) → All (λ x. f 
     → map f xs ≡ map g xs
 map_same_on f g [] h = refl
 map_same_on f g (x ∷ xs) h =
-    ap₂ ◌∷◌ (All-head (λ x. f x ≡ g x) x xs h) (map_same_on f g xs (All-tail (λ x. f x ≡ g x) x xs h))
+    ap₂ ◌∷◌ (All-head (λ x. f x ≡ g x) x xs h) (map_same_on f g xs
+    (All-tail (λ x. f x ≡ g x) x xs h))
 
 pub variables_missed : (vs : List Address) (v : Address)
     → All (λ u. v ≢ u) vs → Miss (variables vs) v
 variables_missed vs v h =
     All-map (λ f. coefficient f v ≡ zero_ℚ) variable vs
-    (All-weaker (λ u. v ≢ u) (λ u. coefficient (variable u) v ≡ zero_ℚ) (λ u. coefficient-variable_other address_order u v) vs h)
+    (All-weaker (λ u. v ≢ u) (λ u. coefficient (variable u) v ≡ zero_ℚ)
+    (λ u. coefficient-variable_other address_order u v) vs h)
 
 pub not_contained : (vs : List Address) (v : Address) → ¬ (Contains vs v) → All (λ u. v ≢ u) vs
 not_contained vs v n =
-    All-weaker (Contains vs) (λ u. v ≢ u) (λ u c e. n (subst (Contains vs) (sym e) c)) vs (All-contains_itself vs)
+    All-weaker (Contains vs) (λ u. v ≢ u) (λ u c e. n (subst (Contains vs) (sym e) c)) vs
+    (All-contains_itself vs)
 
 components_apart_from : (at : Address) (k j n : ℕ) → k < j
     → All (λ v. v ≢ child_of at k) (components_from at j n)
 components_apart_from at k j zero h = All-nil (λ v. v ≢ child_of at k)
 components_apart_from at k j (suc n) h =
     All-cons (λ v. v ≢ child_of at k) (child_of at j) (components_from at (j + 1) n)
-    (other_child at j k (λ e. absurd (omega (arith, e, h)))) (components_apart_from at k (j + 1) n (omega (arith, h)))
+    (other_child at j k (λ e. absurd (omega (arith, e, h))))
+    (components_apart_from at k (j + 1) n (omega (arith, h)))
 
 pub weighed_from : (at : Address) (k n : ℕ) (w : List Rational) → length w ≡ n
     → weighed w (variables (components_from at k n)) (components_from at k n) ≡ w
@@ -175,11 +185,20 @@ weighed_from at k (suc n) (p ∷ w) e =
     let others = components_from at (k + 1) n in
     ap₂ ◌∷◌
     (ap₂ (λ x y. p *ℚ x +ℚ y) (coefficient-variable_same address_order here)
-    (dot_missed w (variables others) here (variables_missed others here (All-weaker (λ v. v ≢ here) (λ v. here ≢ v) (λ v d e. d (sym e)) others (components_apart_from at k (k + 1) n (omega arith)))))
+    (dot_missed w (variables others) here (variables_missed others here
+    (All-weaker (λ v. v ≢ here) (λ v. here ≢ v) (λ v d e. d (sym e)) others
+    (components_apart_from at k (k + 1) n (omega arith)))))
     ∙ +ℚ-zero (p *ℚ one_ℚ) ∙ *ℚ-one p)
-    (map_same_on (λ v. p *ℚ coefficient (variable here) v +ℚ dot w (coefficients (variables others) v)) (λ v. dot w (coefficients (variables others) v)) others
-    (All-weaker (λ v. v ≢ here) (λ v. p *ℚ coefficient (variable here) v +ℚ dot w (coefficients (variables others) v) ≡ dot w (coefficients (variables others) v))
-    (λ v d. ap (λ x. p *ℚ x +ℚ dot w (coefficients (variables others) v)) (coefficient-variable_other address_order here v d) ∙ dot_behind p w (coefficients (variables others) v)) others (components_apart_from at k (k + 1) n (omega arith)))
+    (map_same_on (λ v. p *ℚ coefficient (variable here) v
+    +ℚ dot w (coefficients (variables others) v))
+    (λ v. dot w (coefficients (variables others) v)) others
+    (All-weaker (λ v. v
+    ≢ here) (λ v. p *ℚ coefficient (variable here) v
+    +ℚ dot w (coefficients (variables others) v) ≡ dot w (coefficients (variables others) v))
+    (λ v d. ap (λ x. p *ℚ x +ℚ dot w (coefficients (variables others) v))
+    (coefficient-variable_other address_order here v d)
+    ∙ dot_behind p w (coefficients (variables others) v)) others
+    (components_apart_from at k (k + 1) n (omega arith)))
     ∙ weighed_from at (k + 1) n w (omega (arith, e)))
 
 -- over the components alone the numbers are those of the list
@@ -197,4 +216,5 @@ pub constants-variables : (vs : List Address)
     → All (λ q. q ≡ zero_ℚ) (constants (variables vs))
 constants-variables [] = All-nil (λ q. q ≡ zero_ℚ)
 constants-variables (v ∷ vs) =
-    All-cons (λ q. q ≡ zero_ℚ) (variable {R = address_cmp} v).constant (constants (variables vs)) (constant-variable v) (constants-variables vs)
+    All-cons (λ q. q ≡ zero_ℚ) (variable {R = address_cmp} v).constant (constants (variables vs))
+    (constant-variable v) (constants-variables vs)

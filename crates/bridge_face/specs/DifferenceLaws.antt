@@ -58,44 +58,64 @@ evaluated-difference one f g x =
 pub difference-variable : (f : Function) (v : Address) → coefficient f v ≡ zero_ℚ
     → with_coefficient f v (neg_ℚ one_ℚ) ≡ difference f (variable v)
 difference-variable f v absent =
-    same_coefficients address_order (with_coefficient f v (neg_ℚ one_ℚ)) (difference f (variable v)) each
+    same_coefficients address_order (with_coefficient f v (neg_ℚ one_ℚ)) (difference f (variable v))
+    each
     (constant-with address_order f v (neg_ℚ one_ℚ)
-    ∙ sym (constant-difference f (variable v) ∙ ap (λ q. f.constant -ℚ q) (constant-variable v) ∙ ap (λ q. f.constant +ℚ q) neg_ℚ-zero ∙ +ℚ-zero f.constant))
+    ∙ sym (constant-difference f (variable v) ∙ ap (λ q. f.constant -ℚ q) (constant-variable v)
+    ∙ ap (λ q. f.constant +ℚ q) neg_ℚ-zero ∙ +ℚ-zero f.constant))
   where
-    each : (u : Address) → coefficient (with_coefficient f v (neg_ℚ one_ℚ)) u ≡ coefficient (difference f (variable v)) u
+    each : (u : Address)
+        → coefficient (with_coefficient f v (neg_ℚ one_ℚ)) u
+        ≡ coefficient (difference f (variable v)) u
     each u =
-        same_or_other address_order (coefficient (with_coefficient f v (neg_ℚ one_ℚ)) u ≡ coefficient (difference f (variable v)) u) u v
+        same_or_other address_order (coefficient (with_coefficient f v (neg_ℚ one_ℚ)) u
+        ≡ coefficient (difference f (variable v)) u) u v
         (λ e.
-        coefficient-with address_order f v (neg_ℚ one_ℚ) u ∙ ap (λ b. cond b (neg_ℚ one_ℚ) (coefficient f u)) (ap (λ w. address_eq w v) e ∙ same_key address_order v)
+        coefficient-with address_order f v (neg_ℚ one_ℚ) u
+        ∙ ap (λ b. cond b (neg_ℚ one_ℚ) (coefficient f u))
+        (ap (λ w. address_eq w v) e ∙ same_key address_order v)
         ∙ sym (coefficient-difference f (variable v) u
-        ∙ ap₂ (λ p q. p -ℚ q) (ap (coefficient f) e ∙ absent) (ap (coefficient (variable v)) e ∙ coefficient-variable_same address_order v)
+        ∙ ap₂ (λ p q. p -ℚ q) (ap (coefficient f) e ∙ absent)
+        (ap (coefficient (variable v)) e ∙ coefficient-variable_same address_order v)
         ∙ zero-+ℚ (neg_ℚ one_ℚ)))
         (λ other.
-        coefficient-with address_order f v (neg_ℚ one_ℚ) u ∙ ap (λ b. cond b (neg_ℚ one_ℚ) (coefficient f u)) (other_key address_order u v other)
+        coefficient-with address_order f v (neg_ℚ one_ℚ) u
+        ∙ ap (λ b. cond b (neg_ℚ one_ℚ) (coefficient f u)) (other_key address_order u v other)
         ∙ sym (coefficient-difference f (variable v) u
-        ∙ ap (λ q. coefficient f u -ℚ q) (coefficient-variable_other address_order v u other) ∙ ap (λ q. coefficient f u +ℚ q) neg_ℚ-zero ∙ +ℚ-zero (coefficient f u)))
+        ∙ ap (λ q. coefficient f u -ℚ q) (coefficient-variable_other address_order v u other)
+        ∙ ap (λ q. coefficient f u +ℚ q) neg_ℚ-zero ∙ +ℚ-zero (coefficient f u)))
 
 -- and so the difference to it
 pub variable-difference : (v : Address) (f : Function) → coefficient f v ≡ zero_ℚ
     → with_coefficient (negated f) v one_ℚ ≡ difference (variable v) f
 variable-difference v f absent =
-    same_coefficients address_order (with_coefficient (negated f) v one_ℚ) (difference (variable v) f) each
+    same_coefficients address_order (with_coefficient (negated f) v one_ℚ)
+    (difference (variable v) f) each
     (constant-with address_order (negated f) v one_ℚ ∙ constant-negated address_order f
-    ∙ sym (constant-difference (variable v) f ∙ ap (λ q. q -ℚ f.constant) (constant-variable v) ∙ zero-+ℚ (neg_ℚ f.constant)))
+    ∙ sym (constant-difference (variable v) f ∙ ap (λ q. q -ℚ f.constant) (constant-variable v)
+    ∙ zero-+ℚ (neg_ℚ f.constant)))
   where
-    each : (u : Address) → coefficient (with_coefficient (negated f) v one_ℚ) u ≡ coefficient (difference (variable v) f) u
+    each : (u : Address)
+        → coefficient (with_coefficient (negated f) v one_ℚ) u
+        ≡ coefficient (difference (variable v) f) u
     each u =
-        same_or_other address_order (coefficient (with_coefficient (negated f) v one_ℚ) u ≡ coefficient (difference (variable v) f) u) u v
+        same_or_other address_order (coefficient (with_coefficient (negated f) v one_ℚ) u
+        ≡ coefficient (difference (variable v) f) u) u v
         (λ e.
-        coefficient-with address_order (negated f) v one_ℚ u ∙ ap (λ b. cond b one_ℚ (coefficient (negated f) u)) (ap (λ w. address_eq w v) e ∙ same_key address_order v)
+        coefficient-with address_order (negated f) v one_ℚ u
+        ∙ ap (λ b. cond b one_ℚ (coefficient (negated f) u))
+        (ap (λ w. address_eq w v) e ∙ same_key address_order v)
         ∙ sym (coefficient-difference (variable v) f u
-        ∙ ap₂ (λ p q. p -ℚ q) (ap (coefficient (variable v)) e ∙ coefficient-variable_same address_order v) (ap (coefficient f) e ∙ absent)
+        ∙ ap₂ (λ p q. p -ℚ q) (ap (coefficient (variable v)) e
+        ∙ coefficient-variable_same address_order v) (ap (coefficient f) e ∙ absent)
         ∙ ap (λ q. one_ℚ +ℚ q) neg_ℚ-zero ∙ +ℚ-zero one_ℚ))
         (λ other.
-        coefficient-with address_order (negated f) v one_ℚ u ∙ ap (λ b. cond b one_ℚ (coefficient (negated f) u)) (other_key address_order u v other)
+        coefficient-with address_order (negated f) v one_ℚ u
+        ∙ ap (λ b. cond b one_ℚ (coefficient (negated f) u)) (other_key address_order u v other)
         ∙ coefficient-negated address_order f u
         ∙ sym (coefficient-difference (variable v) f u
-        ∙ ap (λ q. q -ℚ coefficient f u) (coefficient-variable_other address_order v u other) ∙ zero-+ℚ (neg_ℚ (coefficient f u))))
+        ∙ ap (λ q. q -ℚ coefficient f u) (coefficient-variable_other address_order v u other)
+        ∙ zero-+ℚ (neg_ℚ (coefficient f u))))
 
 -- ---- of lists
 
@@ -125,7 +145,8 @@ pub all_differences : (P : Function → Type 0)
 all_differences P s [] hs p q = All-nil P
 all_differences P s (f ∷ fs) [] p q = All-nil P
 all_differences P s (f ∷ fs) (h ∷ hs) p q =
-    All-cons P (difference f h) (differences fs hs) (s f h (All-head P f fs p) (All-head P h hs q)) (all_differences P s fs hs (All-tail P f fs p) (All-tail P h hs q))
+    All-cons P (difference f h) (differences fs hs) (s f h (All-head P f fs p) (All-head P h hs q))
+    (all_differences P s fs hs (All-tail P f fs p) (All-tail P h hs q))
 
 pub all_sums : (P : Function → Type 0)
     → ((f h : Function) → P f → P h → P (sum_of f h))
@@ -133,7 +154,8 @@ pub all_sums : (P : Function → Type 0)
 all_sums P s [] hs p q = All-nil P
 all_sums P s (f ∷ fs) [] p q = All-nil P
 all_sums P s (f ∷ fs) (h ∷ hs) p q =
-    All-cons P (sum_of f h) (sums fs hs) (s f h (All-head P f fs p) (All-head P h hs q)) (all_sums P s fs hs (All-tail P f fs p) (All-tail P h hs q))
+    All-cons P (sum_of f h) (sums fs hs) (s f h (All-head P f fs p) (All-head P h hs q))
+    (all_sums P s fs hs (All-tail P f fs p) (All-tail P h hs q))
 
 pub length-differences : (fs hs : List Function) → length fs ≡ length hs
     → length (differences fs hs) ≡ length fs
@@ -191,7 +213,8 @@ module _ (w : List Rational) (fs hs : List Function) (e : length fs ≡ length h
   weighed-differences (v ∷ vs) m =
       ap₂ ◌∷◌
       (dot-differences (λ f. coefficient f v) (λ f g. coefficient-difference f g v)
-      ∙ ap (λ q. q -ℚ dot w (coefficients hs v)) (dot_missed w fs v (All-head (λ v. Miss fs v) v vs m))
+      ∙ ap (λ q. q
+      -ℚ dot w (coefficients hs v)) (dot_missed w fs v (All-head (λ v. Miss fs v) v vs m))
       ∙ zero-+ℚ (neg_ℚ (dot w (coefficients hs v))))
       (weighed-differences vs (All-tail (λ v. Miss fs v) v vs m))
 

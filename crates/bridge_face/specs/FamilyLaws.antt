@@ -29,27 +29,36 @@ OfFamily f edge = family_of edge ≡ f
 own_edges : (f : Family) → All (OfFamily f) (edges_of f)
 unfolding edge_entry edges_of
 own_edges family.GreaterLess =
-    All-from_recursion (OfFamily family.GreaterLess) (edges_of family.GreaterLess) (refl, (refl, (refl, (refl, tt))))
+    All-from_recursion (OfFamily family.GreaterLess) (edges_of family.GreaterLess)
+    (refl, (refl, (refl, (refl, tt))))
 own_edges family.OrthantFlip =
-    All-from_recursion (OfFamily family.OrthantFlip) (edges_of family.OrthantFlip) (refl, (refl, tt))
+    All-from_recursion (OfFamily family.OrthantFlip) (edges_of family.OrthantFlip)
+    (refl, (refl, tt))
 own_edges family.NonposVar =
     All-from_recursion (OfFamily family.NonposVar) (edges_of family.NonposVar) (refl, tt)
 own_edges family.ObjFlip =
     All-from_recursion (OfFamily family.ObjFlip) (edges_of family.ObjFlip) (refl, (refl, tt))
 own_edges family.Vectorize =
-    All-from_recursion (OfFamily family.Vectorize) (edges_of family.Vectorize) (refl, (refl, (refl, (refl, (refl, (refl, tt))))))
+    All-from_recursion (OfFamily family.Vectorize) (edges_of family.Vectorize)
+    (refl, (refl, (refl, (refl, (refl, (refl, tt))))))
 own_edges family.Scalarize =
-    All-from_recursion (OfFamily family.Scalarize) (edges_of family.Scalarize) (refl, (refl, (refl, (refl, (refl, (refl, tt))))))
+    All-from_recursion (OfFamily family.Scalarize) (edges_of family.Scalarize)
+    (refl, (refl, (refl, (refl, (refl, (refl, tt))))))
 own_edges family.ScalarFunctionize =
-    All-from_recursion (OfFamily family.ScalarFunctionize) (edges_of family.ScalarFunctionize) (refl, (refl, (refl, (refl, tt))))
+    All-from_recursion (OfFamily family.ScalarFunctionize) (edges_of family.ScalarFunctionize)
+    (refl, (refl, (refl, (refl, tt))))
 own_edges family.VectorFunctionize =
-    All-from_recursion (OfFamily family.VectorFunctionize) (edges_of family.VectorFunctionize) (refl, (refl, (refl, (refl, (refl, tt)))))
+    All-from_recursion (OfFamily family.VectorFunctionize) (edges_of family.VectorFunctionize)
+    (refl, (refl, (refl, (refl, (refl, tt)))))
 own_edges family.VectorizeVar =
-    All-from_recursion (OfFamily family.VectorizeVar) (edges_of family.VectorizeVar) (refl, (refl, (refl, tt)))
+    All-from_recursion (OfFamily family.VectorizeVar) (edges_of family.VectorizeVar)
+    (refl, (refl, (refl, tt)))
 own_edges family.ObjFunctionize =
-    All-from_recursion (OfFamily family.ObjFunctionize) (edges_of family.ObjFunctionize) (refl, (refl, tt))
+    All-from_recursion (OfFamily family.ObjFunctionize) (edges_of family.ObjFunctionize)
+    (refl, (refl, tt))
 own_edges family.SplitSet =
-    All-from_recursion (OfFamily family.SplitSet) (edges_of family.SplitSet) (refl, (refl, (refl, (refl, tt))))
+    All-from_recursion (OfFamily family.SplitSet) (edges_of family.SplitSet)
+    (refl, (refl, (refl, (refl, tt))))
 own_edges family.DropReals =
     All-from_recursion (OfFamily family.DropReals) (edges_of family.DropReals) (refl, (refl, tt))
 own_edges family.ZerosVar =
@@ -57,11 +66,14 @@ own_edges family.ZerosVar =
 own_edges family.FreeVar =
     All-from_recursion (OfFamily family.FreeVar) (edges_of family.FreeVar) (refl, tt)
 own_edges family.ScalarSlack =
-    All-from_recursion (OfFamily family.ScalarSlack) (edges_of family.ScalarSlack) (refl, (refl, (refl, tt)))
+    All-from_recursion (OfFamily family.ScalarSlack) (edges_of family.ScalarSlack)
+    (refl, (refl, (refl, tt)))
 own_edges family.VectorSlack =
-    All-from_recursion (OfFamily family.VectorSlack) (edges_of family.VectorSlack) (refl, (refl, (refl, (refl, tt))))
+    All-from_recursion (OfFamily family.VectorSlack) (edges_of family.VectorSlack)
+    (refl, (refl, (refl, (refl, tt))))
 own_edges family.Later =
-    All-from_recursion (OfFamily family.Later) (edges_of family.Later) (refl, (refl, (refl, (refl, (refl, (refl, (refl, (refl, (refl, tt)))))))))
+    All-from_recursion (OfFamily family.Later) (edges_of family.Later)
+    (refl, (refl, (refl, (refl, (refl, (refl, (refl, (refl, (refl, tt)))))))))
 own_edges family.ObjSlack =
     All-from_recursion (OfFamily family.ObjSlack) (edges_of family.ObjSlack) (refl, (refl, tt))
 own_edges family.NormInfinity =
@@ -83,7 +95,8 @@ family_number f = tag_of contracts.the_type f
 pub of_another : {C : Type 0} {f g : Family} → f ≡ g
     → (family_number f == family_number g) ≡ false → C
 of_another {C} {f} {g} e h =
-    absurd (true≢false (sym ((unsigned_Decides (family_number f) (family_number g)).1 (ap family_number e)) ∙ h))
+    absurd (true≢false (sym ((unsigned_Decides (family_number f) (family_number g)).1
+    (ap family_number e)) ∙ h))
 
 -- ---- where child rows stand, and their duals
 

@@ -81,11 +81,13 @@ group_and_row item group exprs row =
     record { groups = group ∷ []; exprs = exprs; rows = child_at item 1 row ∷ []; objective = None }
 
 -- one that is made of such parts
-pub group_and_row_made : (item : Item) (s t : Set) (us vs : List Address) (group : Item) (es ds : List Expression) (b c : Body) (image : Image)
+pub group_and_row_made : (item : Item) (s t : Set) (us vs : List Address) (group : Item)
+    (es ds : List Expression) (b c : Body) (image : Image)
     → s ≡ t → us ≡ vs → es ≡ ds → b ≡ c → group ≡ child_at item 0 (Group s us)
     → image ≡ group_and_row item group es b
     → image ≡ group_and_row item (child_at item 0 (Group t vs)) ds c
-group_and_row_made item s t us vs group es ds b c image same_set same_vars same_exprs same_row group_is image_is =
+group_and_row_made item s t us vs group es ds b c image same_set same_vars same_exprs same_row
+    group_is image_is =
     image_is ∙ ap (λ g. group_and_row item g es b) group_is
     ∙ ap₂ (λ x y. group_and_row item (child_at item 0 (Group x y)) es b) same_set same_vars
     ∙ ap₂ (λ x y. group_and_row item (child_at item 0 (Group t vs)) x y) same_exprs same_row
@@ -100,7 +102,8 @@ second_row_valid item child shaped some fits apart room few = record {
   some = some;
   at_most = few;
   set = fits;
-  depth = subst (λ m. m ≤ 38) (sym (length-append item.at.positions (1 ∷ []))) (omega (arith, room));
+  depth =
+      subst (λ m. m ≤ 38) (sym (length-append item.at.positions (1 ∷ []))) (omega (arith, room));
   others = λ _. apart;
 }
 
@@ -131,8 +134,10 @@ module _
     holds = λ no one x h below.
         subst (λ k. Holds one k x) (sym (item_is zero_ℚ []))
         (o.values one x h
-        (subst (In (multiplied one set)) (evaluations_variables one ss x) (All-head (HoldsAt one x) group (row ∷ []) below))
-        (subst (λ k. Holds one k x) (held_row zero_ℚ child [] o.made) (All-head (HoldsAt one x) row [] (All-tail (HoldsAt one x) group (row ∷ []) below))));
+        (subst (In (multiplied one set)) (evaluations_variables one ss x)
+        (All-head (HoldsAt one x) group (row ∷ []) below))
+        (subst (λ k. Holds one k x) (held_row zero_ℚ child [] o.made)
+        (All-head (HoldsAt one x) row [] (All-tail (HoldsAt one x) group (row ∷ []) below))));
     costs = λ one x h below. All-nil _;
   }
 
@@ -143,12 +148,14 @@ module _
       (bound : Rational) (g y w : List Rational)
       (b : Balances bound edge item image (duals_of g y) w) where
     group_held_by : IsHeld (held_of g (variables ss) set)
-    group_held_by = All-head IsHeld (held_of g (variables ss) set) (held_body bound child y ∷ []) b.hold
+    group_held_by =
+        All-head IsHeld (held_of g (variables ss) set) (held_body bound child y ∷ []) b.hold
 
     row_held_by : IsHeld (row_held child y)
     row_held_by =
         subst IsHeld (held_row bound child y o.made)
-        (All-head IsHeld (held_body bound child y) [] (All-tail IsHeld (held_of g (variables ss) set) (held_body bound child y ∷ []) b.hold))
+        (All-head IsHeld (held_body bound child y) []
+        (All-tail IsHeld (held_of g (variables ss) set) (held_body bound child y ∷ []) b.hold))
 
     carried : w ≡ back_of edge item (y ∷ [])
     carried = b.carries.by_rule o.source.no_group o.source.no_objective
@@ -158,13 +165,16 @@ module _
 
     abbrev Agree : Address → Type 0
     Agree v =
-        adjoint_of (held_item bound item image w) v ≡ adjoint (held_children bound image (duals_of g y)) v
+        adjoint_of (held_item bound item image w) v
+        ≡ adjoint (held_children bound image (duals_of g y)) v
 
     balance : All Agree ss
     balance = subst (All Agree) (append-nil ss) b.inner
 
-    of_row : (v : Address) → adjoint_of (held_body bound child y) v +ℚ zero_ℚ ≡ dot y (coefficients fs v)
-    of_row v = +ℚ-zero (adjoint_of (held_body bound child y) v) ∙ ap (λ k. adjoint_of k v) (held_row bound child y o.made)
+    of_row : (v : Address)
+        → adjoint_of (held_body bound child y) v +ℚ zero_ℚ ≡ dot y (coefficients fs v)
+    of_row v = +ℚ-zero (adjoint_of (held_body bound child y) v)
+        ∙ ap (λ k. adjoint_of k v) (held_row bound child y o.made)
 
     -- the item names no component, so that the group's sums are the row's, negated
     left_at : (v : Address) → Miss (functions_of item.body) v → Agree v
@@ -173,7 +183,8 @@ module _
         neg_ℚ_unique (dot y (coefficients fs v)) (dot g (coefficients (variables ss) v))
         (+ℚ_comm (dot y (coefficients fs v)) (dot g (coefficients (variables ss) v))
         ∙ sym (ap (λ q. dot g (coefficients (variables ss) v) +ℚ q) (of_row v))
-        ∙ sym e ∙ ap (λ k. adjoint_of k v) (item_is bound w) ∙ dot_missed w (functions_of item.body) v m)
+        ∙ sym e ∙ ap (λ k. adjoint_of k v) (item_is bound w)
+        ∙ dot_missed w (functions_of item.body) v m)
 
     misses : All (λ v. Miss (functions_of item.body) v) ss
     misses = misses_inner item.at n (functions_of item.body) (o.item_valid.others o.source.no_group)
@@ -184,7 +195,8 @@ module _
     left_each (v ∷ vs) m e =
         ap₂ ◌∷◌
         (left_at v (All-head (λ v. Miss (functions_of item.body) v) v vs m) (All-head Agree v vs e))
-        (left_each vs (All-tail (λ v. Miss (functions_of item.body) v) v vs m) (All-tail Agree v vs e))
+        (left_each vs (All-tail (λ v. Miss (functions_of item.body) v) v vs m)
+        (All-tail Agree v vs e))
 
     given : g ≡ left_over y fs ss
     given = sym (group_numbers item set n g group_held_by) ∙ left_each ss misses balance
@@ -198,7 +210,8 @@ module _
         (λ there. All-contains Agree ss v balance there)
         (λ absent.
         ap (λ k. adjoint_of k v) w_is ∙ o.same y row_held_by v absent
-        ∙ sym (ap₂ ◌+ℚ◌ (dot_missed g (variables ss) v (variables_missed ss v (not_contained ss v absent))) (of_row v)
+        ∙ sym (ap₂ ◌+ℚ◌ (dot_missed g (variables ss) v
+        (variables_missed ss v (not_contained ss v absent))) (of_row v)
         ∙ zero-+ℚ (dot y (coefficients fs v))))
 
     gaps_are : gap (held_children bound image (duals_of g y))
@@ -213,7 +226,8 @@ module _
       same = same_at;
       gaps =
           subst (λ q. q ≤ℚ gap_of (held_item bound item image w)) (sym gaps_are)
-          (subst (λ k. (low_of set (left_over y fs ss) +ℚ gap_of (row_held child y)) ≤ℚ gap_of k) (sym w_is) (o.gaps y row_held_by dual_there));
+          (subst (λ k. (low_of set (left_over y fs ss) +ℚ gap_of (row_held child y)) ≤ℚ gap_of k)
+          (sym w_is) (o.gaps y row_held_by dual_there));
     }
 
   covered : (bound : Rational) (gs ys os : List (List Rational)) (w : List Rational)
@@ -234,13 +248,19 @@ module _
     values = values;
     duals = λ bound duals w b. covered bound duals.groups duals.rows duals.objective w b;
     positions = refl;
-    valid = λ room. both IsValidWithin (child_group_valid item set n o.some o.fits room) (second_row_valid item child o.row_shaped o.row_some o.row_fits o.row_apart room);
+    valid = λ room. both IsValidWithin (child_group_valid item set n o.some o.fits room)
+        (second_row_valid item child o.row_shaped o.row_some o.row_fits o.row_apart room);
     sizes = both (GrowsBy (growth (family_of edge)) item)
-        (subst (λ m. m ≤ growth (family_of edge) * length (functions_of item.body)) (sym (length-map ss variable ∙ length-components (child_of item.at 0) n)) o.grows)
+        (subst (λ m. m ≤ growth (family_of edge) * length (functions_of item.body))
+        (sym (length-map ss variable ∙ length-components (child_of item.at 0) n)) o.grows)
         o.row_grows;
     kinds = both (λ child. LeadsTo edge child.body) o.leads o.row_leads;
-    components = All-cons HasComponents group [] (has_components item set n) (All-nil HasComponents);
-    mentioned = All-cons (MentionsKnown item image) row [] (λ v m absent. o.mentioned v m (λ there. absent (subst (λ us. Contains us v) (sym (append-nil ss)) there))) (All-nil (MentionsKnown item image));
+    components =
+        All-cons HasComponents group [] (has_components item set n) (All-nil HasComponents);
+    mentioned = All-cons (MentionsKnown item image) row []
+        (λ v m absent. o.mentioned v m (λ there. absent
+        (subst (λ us. Contains us v) (sym (append-nil ss)) there)))
+        (All-nil (MentionsKnown item image));
     exprs = λ group. absurd (true≢false (sym group ∙ o.source.no_group));
     expressed = λ v n. All-nil (λ f. coefficient f v ≡ zero_ℚ);
   }

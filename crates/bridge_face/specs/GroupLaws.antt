@@ -65,13 +65,15 @@ child_group_valid item set n some fits room few =
       some = subst (λ m. 1 ≤ m) (sym size) some;
       at_most = few;
       set = subst (λ m. IsSetOf m set) (sym size) fits;
-      depth = subst (λ m. m ≤ 38) (sym (length-append item.at.positions (0 ∷ []))) (omega (arith, room));
+      depth = subst (λ m. m ≤ 38) (sym (length-append item.at.positions (0 ∷ [])))
+          (omega (arith, room));
       others = λ no. absurd (true≢false no);
     }
 
 pub has_components : (item : Item) (set : Set) (n : ℕ) → HasComponents (group_at item set n)
 has_components item set n =
-    sym (ap (λ m. map (child_of (child_of item.at 0)) (range_with_len 0 m)) (length-components (child_of item.at 0) n))
+    sym (ap (λ m. map (child_of (child_of item.at 0)) (range_with_len 0 m))
+    (length-components (child_of item.at 0) n))
 
 -- its numbers are the sums at its variables
 pub group_numbers : (item : Item) (set : Set) (n : ℕ) (g : List Rational)
@@ -135,7 +137,8 @@ module _
   values = record {
     holds = λ no one x h below.
         subst (λ k. Holds one k x) (sym (item_is zero_ℚ []))
-        (o.values one x h (subst (In (multiplied one set)) (evaluations_variables one ss x) (All-head (HoldsAt one x) group [] below)));
+        (o.values one x h (subst (In (multiplied one set)) (evaluations_variables one ss x)
+        (All-head (HoldsAt one x) group [] below)));
     costs = λ one x h below. All-nil _;
   }
 
@@ -155,22 +158,31 @@ module _
     given : weighed w fs ss ≡ g
     given =
         map_same_on (λ v. dot w (coefficients fs v)) (λ v. dot g (coefficients (variables ss) v)) ss
-        (All-weaker (λ v. adjoint_of (held_item bound item image w) v ≡ adjoint (held_children bound image (duals_of g)) v)
+        (All-weaker (λ v. adjoint_of (held_item bound item image w) v
+        ≡ adjoint (held_children bound image (duals_of g)) v)
         (λ v. dot w (coefficients fs v) ≡ dot g (coefficients (variables ss) v))
-        (λ v e. sym (ap (λ k. adjoint_of k v) (item_is bound w)) ∙ e ∙ +ℚ-zero (dot g (coefficients (variables ss) v))) ss
-        (subst (All (λ v. adjoint_of (held_item bound item image w) v ≡ adjoint (held_children bound image (duals_of g)) v)) (append-nil ss) b.inner))
+        (λ v e. sym (ap (λ k. adjoint_of k v) (item_is bound w)) ∙ e
+        ∙ +ℚ-zero (dot g (coefficients (variables ss) v))) ss
+        (subst (All (λ v. adjoint_of (held_item bound item image w) v
+        ≡ adjoint (held_children bound image (duals_of g)) v)) (append-nil ss) b.inner))
         ∙ group_numbers item set n g group_held_by
 
     dual_there : Dual set (weighed w fs ss)
     dual_there = subst (Dual set) (sym given) group_held_by.dual
 
-    same_at : (v : Address) → adjoint_of (held_item bound item image w) v ≡ adjoint (held_children bound image (duals_of g)) v
+    same_at : (v : Address)
+        → adjoint_of (held_item bound item image w) v
+        ≡ adjoint (held_children bound image (duals_of g)) v
     same_at v =
-        contained_or_not (adjoint_of (held_item bound item image w) v ≡ adjoint (held_children bound image (duals_of g)) v) ss v
-        (λ there. All-contains (λ v. adjoint_of (held_item bound item image w) v ≡ adjoint (held_children bound image (duals_of g)) v) (inner_of image.groups) v b.inner (subst (λ us. Contains us v) (sym (append-nil ss)) there))
+        contained_or_not (adjoint_of (held_item bound item image w) v
+        ≡ adjoint (held_children bound image (duals_of g)) v) ss v
+        (λ there. All-contains (λ v. adjoint_of (held_item bound item image w) v
+        ≡ adjoint (held_children bound image (duals_of g)) v) (inner_of image.groups) v b.inner
+        (subst (λ us. Contains us v) (sym (append-nil ss)) there))
         (λ absent.
         ap (λ k. adjoint_of k v) (item_is bound w) ∙ dot_missed w fs v (o.named v absent)
-        ∙ sym (+ℚ-zero (dot g (coefficients (variables ss) v)) ∙ dot_missed g (variables ss) v (variables_missed ss v (not_contained ss v absent))))
+        ∙ sym (+ℚ-zero (dot g (coefficients (variables ss) v))
+        ∙ dot_missed g (variables ss) v (variables_missed ss v (not_contained ss v absent))))
 
     covered_by : IsCovered bound item image (duals_of g) w
     covered_by = record {
@@ -181,7 +193,8 @@ module _
       });
       same = same_at;
       gaps = ≤ℚ_from_≡ _ _
-          (+ℚ-zero (gap_of (held_of g (variables ss) set)) ∙ group_gap set ss g ∙ ap (low_of set) (sym given)
+          (+ℚ-zero (gap_of (held_of g (variables ss) set)) ∙ group_gap set ss g
+          ∙ ap (low_of set) (sym given)
           ∙ o.gaps w w_size dual_there ∙ sym (ap gap_of (item_is bound w)));
     }
 
@@ -199,13 +212,18 @@ module _
     values = values;
     duals = λ bound duals w b. covered bound duals.groups duals.rows duals.objective w b;
     positions = refl;
-    valid = λ room. All-cons IsValidWithin group [] (child_group_valid item set n o.some o.fits room) (All-nil IsValidWithin);
+    valid = λ room. All-cons IsValidWithin group []
+        (child_group_valid item set n o.some o.fits room) (All-nil IsValidWithin);
     sizes = All-cons (GrowsBy (growth (family_of edge)) item) group []
-        (subst (λ m. m ≤ growth (family_of edge) * length (functions_of item.body)) (sym (length-map ss variable ∙ length-components (child_of item.at 0) n)) o.grows)
+        (subst (λ m. m ≤ growth (family_of edge) * length (functions_of item.body))
+        (sym (length-map ss variable ∙ length-components (child_of item.at 0) n)) o.grows)
         (All-nil (GrowsBy (growth (family_of edge)) item));
-    kinds = All-cons (λ child. LeadsTo edge child.body) group [] o.leads (All-nil (λ child. LeadsTo edge child.body));
-    components = All-cons HasComponents group [] (has_components item set n) (All-nil HasComponents);
+    kinds = All-cons (λ child. LeadsTo edge child.body) group [] o.leads
+        (All-nil (λ child. LeadsTo edge child.body));
+    components =
+        All-cons HasComponents group [] (has_components item set n) (All-nil HasComponents);
     mentioned = All-nil (MentionsKnown item image);
     exprs = λ _. length-map fs expression.Bridged ∙ o.size;
-    expressed = λ v absent. subst (λ gs. Miss gs v) (sym (expressed-bridged fs)) (o.named v (λ there. absent (subst (λ us. Contains us v) (sym (append-nil ss)) there)));
+    expressed = λ v absent. subst (λ gs. Miss gs v) (sym (expressed-bridged fs))
+        (o.named v (λ there. absent (subst (λ us. Contains us v) (sym (append-nil ss)) there)));
   }

@@ -165,7 +165,8 @@ free_var item =
 abbrev pub nonpos_var : Item → Image
 nonpos_var item =
     let d = size item in
-    group_by (group_at item (Nonnegatives d) d ∷ []) (bridged (map negated (inner_functions item d)))
+    group_by (group_at item (Nonnegatives d) d ∷ [])
+    (bridged (map negated (inner_functions item d)))
 
 -- x = 0 is 0
 abbrev pub zeros_var : Item → Image
@@ -190,7 +191,8 @@ later edge item =
       groups = cond free (free_at item d) (group_at item (Reals d) d) ∷ [];
       exprs = map Kept (inner item d);
       rows =
-          child_at item 1 (cond free (plain (inner item d) set) (affine (inner_functions item d) set))
+          child_at item 1 (cond free (plain (inner item d) set)
+          (affine (inner_functions item d) set))
           ∷ [];
       objective = None;
     }

@@ -86,8 +86,10 @@ any_number (body.Plain var set) o = absurd (true≢false (sym o))
 any_number (body.Affine func set) o = absurd (true≢false (sym o))
 any_number (body.PlainVec vars set) o = absurd (true≢false (sym o))
 any_number (body.AffineVec funcs set) o = absurd (true≢false (sym o))
-any_number (body.PlainObj sense var) o = record { dimension = refl; enough = omega arith; uncrossed = refl }
-any_number (body.AffineObj sense func) o = record { dimension = refl; enough = omega arith; uncrossed = refl }
+any_number (body.PlainObj sense var) o =
+    record { dimension = refl; enough = omega arith; uncrossed = refl }
+any_number (body.AffineObj sense func) o =
+    record { dimension = refl; enough = omega arith; uncrossed = refl }
 
 -- a child objective at a position
 pub objective_valid : (item : Item) (n : ℕ) (child : Body) → is_objective child ≡ true
@@ -100,7 +102,8 @@ objective_valid item n child o unnamed room few =
       some = omega (arith, one);
       at_most = few;
       set = subst (λ m. IsSetOf m (set_of child)) (sym one) (any_number child o);
-      depth = subst (λ m. m ≤ 38) (sym (length-append item.at.positions (n ∷ []))) (omega (arith, room));
+      depth = subst (λ m. m ≤ 38) (sym (length-append item.at.positions (n ∷ [])))
+          (omega (arith, room));
       others = λ _. unnamed;
     }
 
@@ -123,25 +126,33 @@ module _ (edge : Edge) (item : Item) (child : Body) (o : OneObjective edge item 
   item_is : (bound : Rational) (w : List Rational)
       → held_item bound item image w ≡ held_body bound child w
   item_is bound w =
-      ap (λ fs. held_of w fs (row_set bound item.body)) (objective_stands item.body (map expressed image.exprs) o.source)
+      ap (λ fs. held_of w fs (row_set bound item.body))
+      (objective_stands item.body (map expressed image.exprs) o.source)
       ∙ objective_held bound item.body w o.source
-      ∙ ap (λ f. held_of w (f ∷ []) (LessThan bound)) (sym o.cost) ∙ sym (objective_held bound child w o.made)
+      ∙ ap (λ f. held_of w (f ∷ []) (LessThan bound)) (sym o.cost)
+      ∙ sym (objective_held bound child w o.made)
 
   values : CarriesValues item image
   values = record {
     holds = λ no. absurd (true≢false (sym o.source ∙ no));
     costs = λ one x h below.
-        All-cons (λ child. evaluated one (cost_of item.body) x ≤ℚ evaluated one (cost_of child.body) x) (child_at item 0 child) [] (≤ℚ_from_≡ _ _ (ap (λ f. evaluated one f x) (sym o.cost))) (All-nil (λ child. evaluated one (cost_of item.body) x ≤ℚ evaluated one (cost_of child.body) x));
+        All-cons (λ child. evaluated one (cost_of item.body) x ≤ℚ evaluated one (cost_of child.body)
+        x) (child_at item 0 child) [] (≤ℚ_from_≡ _ _ (ap (λ f. evaluated one f x) (sym o.cost)))
+        (All-nil (λ child. evaluated one (cost_of item.body) x ≤ℚ evaluated one
+        (cost_of child.body) x));
   }
 
   covered_by : (bound : Rational) (u w : List Rational) → w ≡ u → IsHeld (held_body bound child u)
       → IsCovered bound item image (record { groups = []; rows = []; objective = u ∷ [] }) w
   covered_by bound u w e h =
-      let same_held : held_item bound item image w ≡ held_body bound child u = item_is bound w ∙ ap (held_body bound child) e in
+      let same_held : held_item bound item image w ≡ held_body bound child u = item_is bound w
+      ∙ ap (held_body bound child) e in
       record {
         holds = subst IsHeld (sym same_held) h;
-        same = λ v. ap (λ k. adjoint_of k v) same_held ∙ sym (+ℚ-zero (adjoint_of (held_body bound child u) v));
-        gaps = ≤ℚ_from_≡ _ _ (+ℚ-zero (gap_of (held_body bound child u)) ∙ sym (ap gap_of same_held));
+        same = λ v. ap (λ k. adjoint_of k v) same_held
+            ∙ sym (+ℚ-zero (adjoint_of (held_body bound child u) v));
+        gaps =
+            ≤ℚ_from_≡ _ _ (+ℚ-zero (gap_of (held_body bound child u)) ∙ sym (ap gap_of same_held));
       }
 
   covered : (bound : Rational) (gs ys os : List (List Rational)) (w : List Rational)
@@ -152,24 +163,32 @@ module _ (edge : Edge) (item : Item) (child : Body) (o : OneObjective edge item 
   covered bound [] [] [] w b = absurd (omega (arith, b.each.objective))
   covered bound [] [] (u ∷ (z ∷ us)) w b = absurd (omega (arith, b.each.objective))
   covered bound [] [] (u ∷ []) w b =
-      covered_by bound u w (b.carries.by_objective o.source) (All-head IsHeld (held_body bound child u) [] b.hold)
+      covered_by bound u w (b.carries.by_objective o.source)
+      (All-head IsHeld (held_body bound child u) [] b.hold)
 
   no_more : GrowsBy (growth (family_of edge)) item (child_at item 0 child)
   no_more =
-      subst (λ n. length (functions_of child) ≤ n * length (functions_of item.body)) (sym o.no_growth)
+      subst (λ n. length (functions_of child) ≤ n * length (functions_of item.body))
+      (sym o.no_growth)
       (let here : length (functions_of child) ≡ 1 = objective_alone child o.made in
-      let there : length (functions_of item.body) ≡ 1 = objective_alone item.body o.source in omega (arith, here, there))
+      let there : length (functions_of item.body) ≡ 1 = objective_alone item.body o.source
+      in omega (arith, here, there))
 
   pub one_objective_law : EdgeLaw edge item image
   one_objective_law = record {
     values = values;
     duals = λ bound duals w b. covered bound duals.groups duals.rows duals.objective w b;
     positions = refl;
-    valid = λ room. All-cons IsValidWithin (child_at item 0 child) [] (objective_valid item 0 child o.made (all_unnamed_below item.at 0 (functions_of child) o.unnamed) room) (All-nil IsValidWithin);
-    sizes = All-cons (GrowsBy (growth (family_of edge)) item) (child_at item 0 child) [] no_more (All-nil (GrowsBy (growth (family_of edge)) item));
-    kinds = All-cons (λ child. LeadsTo edge child.body) (child_at item 0 child) [] o.leads (All-nil (λ child. LeadsTo edge child.body));
+    valid = λ room. All-cons IsValidWithin (child_at item 0 child) []
+        (objective_valid item 0 child o.made (all_unnamed_below item.at 0 (functions_of child)
+        o.unnamed) room) (All-nil IsValidWithin);
+    sizes = All-cons (GrowsBy (growth (family_of edge)) item) (child_at item 0 child) [] no_more
+        (All-nil (GrowsBy (growth (family_of edge)) item));
+    kinds = All-cons (λ child. LeadsTo edge child.body) (child_at item 0 child) [] o.leads
+        (All-nil (λ child. LeadsTo edge child.body));
     components = All-nil HasComponents;
-    mentioned = All-cons (MentionsKnown item image) (child_at item 0 child) [] (λ v m n. o.mentioned v m) (All-nil (MentionsKnown item image));
+    mentioned = All-cons (MentionsKnown item image) (child_at item 0 child) []
+        (λ v m n. o.mentioned v m) (All-nil (MentionsKnown item image));
     exprs = λ group. absurd (true≢false (sym group ∙ objective_no_group item.body o.source));
     expressed = λ v n. All-nil (λ f. coefficient f v ≡ zero_ℚ);
   }

@@ -33,19 +33,27 @@ row_held b w = record { duals = w; functions = functions_of b; set = set_of b }
 pub record OneRow (edge : Edge) (item : Item) (child : Body) : Type 0 where
   pub source : IsRow item.body
   pub made : IsRow child
-  pub values : (one : Rational) (x : Address → Rational) → zero_ℚ ≤ℚ one → Holds one (row_held child []) x → Holds one (row_held item.body []) x
-  pub holds : (y : List Rational) → IsHeld (row_held child y) → IsHeld (row_held item.body (back_of edge item (y ∷ [])))
-  pub same : (y : List Rational) → IsHeld (row_held child y) → (v : Address) → adjoint_of (row_held item.body (back_of edge item (y ∷ []))) v ≡ adjoint_of (row_held child y) v
-  pub gaps : (y : List Rational) → IsHeld (row_held child y) → gap_of (row_held child y) ≤ℚ gap_of (row_held item.body (back_of edge item (y ∷ [])))
-  pub valid : length item.at.positions < 38 → length (functions_of child) ≤ 32767 → IsValidItem (child_at item 0 child)
-  pub sizes : length (functions_of child) ≤ growth (family_of edge) * length (functions_of item.body)
+  pub values : (one : Rational) (x : Address → Rational) → zero_ℚ ≤ℚ one
+      → Holds one (row_held child []) x → Holds one (row_held item.body []) x
+  pub holds : (y : List Rational) → IsHeld (row_held child y)
+      → IsHeld (row_held item.body (back_of edge item (y ∷ [])))
+  pub same : (y : List Rational) → IsHeld (row_held child y) → (v : Address)
+      → adjoint_of (row_held item.body (back_of edge item (y ∷ []))) v
+      ≡ adjoint_of (row_held child y) v
+  pub gaps : (y : List Rational) → IsHeld (row_held child y)
+      → gap_of (row_held child y) ≤ℚ gap_of (row_held item.body (back_of edge item (y ∷ [])))
+  pub valid : length item.at.positions < 38 → length (functions_of child) ≤ 32767
+      → IsValidItem (child_at item 0 child)
+  pub sizes : length (functions_of child)
+      ≤ growth (family_of edge) * length (functions_of item.body)
   pub leads : LeadsTo edge child
   pub mentioned : (v : Address) → Miss (functions_of item.body) v → Miss (functions_of child) v
 
 abbrev record_of : List Rational → List Function → Set → Held
 record_of w fs set = record { duals = w; functions = fs; set = set }
 
-pub held_row : (bound : Rational) (b : Body) (w : List Rational) → IsRow b → held_body bound b w ≡ row_held b w
+pub held_row : (bound : Rational) (b : Body) (w : List Rational) → IsRow b
+    → held_body bound b w ≡ row_held b w
 held_row bound (body.Group set vars) w r = absurd (true≢false r.no_group)
 held_row bound (body.Free vars) w r = absurd (true≢false r.no_group)
 held_row bound (body.Plain var set) w r = refl
@@ -70,14 +78,16 @@ module _ (edge : Edge) (item : Item) (child : Body) (o : OneRow edge item child)
   abbrev image : Image
   image = row_at item child
 
-  source_is : (bound : Rational) (w : List Rational) → held_item bound item image w ≡ row_held item.body w
+  source_is : (bound : Rational) (w : List Rational)
+      → held_item bound item image w ≡ row_held item.body w
   source_is bound w = source_held bound item.body w (map expressed image.exprs) o.source
 
   values : CarriesValues item image
   values = record {
     holds = λ no one x h below.
         subst (λ k. Holds one k x) (sym (source_is zero_ℚ []))
-        (o.values one x h (subst (λ k. Holds one k x) (held_row zero_ℚ child [] o.made) (All-head (HoldsAt one x) (child_at item 0 child) [] below)));
+        (o.values one x h (subst (λ k. Holds one k x) (held_row zero_ℚ child [] o.made)
+        (All-head (HoldsAt one x) (child_at item 0 child) [] below)));
     costs = λ one x h below. All-nil _;
   }
 
@@ -88,15 +98,19 @@ module _ (edge : Edge) (item : Item) (child : Body) (o : OneRow edge item child)
     item_is : held_item bound item image w ≡ row_held item.body (back_of edge item (y ∷ []))
     item_is = source_is bound w ∙ ap (row_held item.body) w_is
 
-    covered_by : IsHeld (held_body bound child y) → IsCovered bound item image (record { groups = []; rows = y ∷ []; objective = [] }) w
+    covered_by : IsHeld (held_body bound child y)
+        → IsCovered bound item image (record { groups = []; rows = y ∷ []; objective = [] }) w
     covered_by h = record {
       holds = subst IsHeld (sym item_is) (o.holds y (subst IsHeld child_is h));
       same = λ v.
-          ap (λ k. adjoint_of k v) item_is ∙ o.same y (subst IsHeld child_is h) v ∙ sym (ap (λ k. adjoint_of k v) child_is)
+          ap (λ k. adjoint_of k v) item_is ∙ o.same y (subst IsHeld child_is h) v
+          ∙ sym (ap (λ k. adjoint_of k v) child_is)
           ∙ sym (+ℚ-zero (adjoint_of (held_body bound child y) v));
       gaps =
-          subst (λ q. q ≤ℚ gap_of (held_item bound item image w)) (ap gap_of (sym child_is) ∙ sym (+ℚ-zero (gap_of (held_body bound child y))))
-          (subst (λ k. gap_of (row_held child y) ≤ℚ gap_of k) (sym item_is) (o.gaps y (subst IsHeld child_is h)));
+          subst (λ q. q ≤ℚ gap_of (held_item bound item image w))
+          (ap gap_of (sym child_is) ∙ sym (+ℚ-zero (gap_of (held_body bound child y))))
+          (subst (λ k. gap_of (row_held child y) ≤ℚ gap_of k) (sym item_is)
+          (o.gaps y (subst IsHeld child_is h)));
     }
 
   covered : (bound : Rational) (gs ys os : List (List Rational)) (w : List Rational)
@@ -107,18 +121,23 @@ module _ (edge : Edge) (item : Item) (child : Body) (o : OneRow edge item child)
   covered bound [] (y ∷ (z ∷ ys)) os w b = absurd (omega (arith, b.each.rows))
   covered bound [] (y ∷ []) (u ∷ us) w b = absurd (omega (arith, b.each.objective))
   covered bound [] (y ∷ []) [] w b =
-      covered_by bound y w (b.carries.by_rule o.source.no_group o.source.no_objective) (All-head IsHeld (held_body bound child y) [] b.hold)
+      covered_by bound y w (b.carries.by_rule o.source.no_group o.source.no_objective)
+      (All-head IsHeld (held_body bound child y) [] b.hold)
 
   pub one_row_law : EdgeLaw edge item image
   one_row_law = record {
     values = values;
     duals = λ bound duals w b. covered bound duals.groups duals.rows duals.objective w b;
     positions = refl;
-    valid = λ room. All-cons IsValidWithin (child_at item 0 child) [] (o.valid room) (All-nil IsValidWithin);
-    sizes = All-cons (GrowsBy (growth (family_of edge)) item) (child_at item 0 child) [] o.sizes (All-nil (GrowsBy (growth (family_of edge)) item));
-    kinds = All-cons (λ child. LeadsTo edge child.body) (child_at item 0 child) [] o.leads (All-nil (λ child. LeadsTo edge child.body));
+    valid = λ room. All-cons IsValidWithin (child_at item 0 child) [] (o.valid room)
+        (All-nil IsValidWithin);
+    sizes = All-cons (GrowsBy (growth (family_of edge)) item) (child_at item 0 child) [] o.sizes
+        (All-nil (GrowsBy (growth (family_of edge)) item));
+    kinds = All-cons (λ child. LeadsTo edge child.body) (child_at item 0 child) [] o.leads
+        (All-nil (λ child. LeadsTo edge child.body));
     components = All-nil HasComponents;
-    mentioned = All-cons (MentionsKnown item image) (child_at item 0 child) [] (λ v m n. o.mentioned v m) (All-nil (MentionsKnown item image));
+    mentioned = All-cons (MentionsKnown item image) (child_at item 0 child) []
+        (λ v m n. o.mentioned v m) (All-nil (MentionsKnown item image));
     exprs = λ group. absurd (true≢false (sym group ∙ o.source.no_group));
     expressed = λ v n. All-nil (λ f. coefficient f v ≡ zero_ℚ);
   }

@@ -34,7 +34,8 @@ pub record IsRowOf (edge : Edge) (item : Item) (child : Body) : Type 0 where
   pub some : 1 ≤ length (functions_of child)
   pub fits : IsSetOf (length (functions_of child)) (set_of child)
   pub unnamed : All (NamesNothingBelow item.at) (functions_of child)
-  pub grows : length (functions_of child) ≤ growth (family_of edge) * length (functions_of item.body)
+  pub grows : length (functions_of child)
+      ≤ growth (family_of edge) * length (functions_of item.body)
   pub leads : LeadsTo edge child
   pub mentioned : (v : Address) → Miss (functions_of item.body) v → Miss (functions_of child) v
 
@@ -64,7 +65,9 @@ module _ (item : Item) where
       → (k : ℕ) (bodies : List Body) → All P bodies → All Q (children_from item k bodies)
   all_children P Q h k [] all = All-nil Q
   all_children P Q h k (b ∷ bodies) all =
-      All-cons Q (child_at item k b) (children_from item (k + 1) bodies) (h k b (All-head P b bodies all)) (all_children P Q h (k + 1) bodies (All-tail P b bodies all))
+      All-cons Q (child_at item k b) (children_from item (k + 1) bodies)
+      (h k b (All-head P b bodies all)) (all_children P Q h (k + 1) bodies
+      (All-tail P b bodies all))
 
   stand_from : (k : ℕ) (bodies : List Body)
       → map (λ child. child.at) (children_from item k bodies)
@@ -75,22 +78,29 @@ module _ (item : Item) where
   pub length-children_from : (k : ℕ) (bodies : List Body)
       → length (children_from item k bodies) ≡ length bodies
   length-children_from k bodies =
-      length-map (enumerate_from k bodies) (λ p. child_at item p.0 p.1) ∙ length-enumerate_from k bodies
+      length-map (enumerate_from k bodies) (λ p. child_at item p.0 p.1)
+      ∙ length-enumerate_from k bodies
 
-  held_from : (bound : Rational) (k : ℕ) (bodies : List Body) (ys : List (List Rational)) → All IsRow bodies
+  held_from : (bound : Rational) (k : ℕ) (bodies : List Body) (ys : List (List Rational))
+      → All IsRow bodies
       → held bound (children_from item k bodies) ys ≡ rows_held bodies ys
   held_from bound k [] ys made = refl
   held_from bound k (b ∷ bodies) [] made = refl
   held_from bound k (b ∷ bodies) (y ∷ ys) made =
-      ap₂ ◌∷◌ (held_row bound b y (All-head IsRow b bodies made)) (held_from bound (k + 1) bodies ys (All-tail IsRow b bodies made))
+      ap₂ ◌∷◌ (held_row bound b y (All-head IsRow b bodies made))
+      (held_from bound (k + 1) bodies ys (All-tail IsRow b bodies made))
 
-  hold_from : (one : Rational) (x : Address → Rational) (k : ℕ) (bodies : List Body) → All IsRow bodies
-      → All (HoldsAt one x) (children_from item k bodies) → All (λ b. Holds one (row_held b []) x) bodies
+  hold_from : (one : Rational) (x : Address → Rational) (k : ℕ) (bodies : List Body)
+      → All IsRow bodies
+      → All (HoldsAt one x) (children_from item k bodies)
+      → All (λ b. Holds one (row_held b []) x) bodies
   hold_from one x k [] made h = All-nil (λ b. Holds one (row_held b []) x)
   hold_from one x k (b ∷ bodies) made h =
       All-cons (λ b. Holds one (row_held b []) x) b bodies
-      (subst (λ k. Holds one k x) (held_row zero_ℚ b [] (All-head IsRow b bodies made)) (All-head (HoldsAt one x) (child_at item k b) (children_from item (k + 1) bodies) h))
-      (hold_from one x (k + 1) bodies (All-tail IsRow b bodies made) (All-tail (HoldsAt one x) (child_at item k b) (children_from item (k + 1) bodies) h))
+      (subst (λ k. Holds one k x) (held_row zero_ℚ b [] (All-head IsRow b bodies made))
+      (All-head (HoldsAt one x) (child_at item k b) (children_from item (k + 1) bodies) h))
+      (hold_from one x (k + 1) bodies (All-tail IsRow b bodies made)
+      (All-tail (HoldsAt one x) (child_at item k b) (children_from item (k + 1) bodies) h))
 
 -- ---- the law
 
@@ -101,7 +111,8 @@ child_row_valid edge item k child room r few = record {
   some = r.some;
   at_most = few;
   set = r.fits;
-  depth = subst (λ m. m ≤ 38) (sym (length-append item.at.positions (k ∷ []))) (omega (arith, room));
+  depth =
+      subst (λ m. m ≤ 38) (sym (length-append item.at.positions (k ∷ []))) (omega (arith, room));
   others = λ _. all_unnamed_below item.at k (functions_of child) r.unnamed;
 }
 
@@ -122,7 +133,8 @@ module _ (edge : Edge) (item : Item) (bodies : List Body) (o : MadeOfRows edge i
   values : CarriesValues item image
   values = record {
     holds = λ no one x h below.
-        subst (λ k. Holds one k x) (sym (item_is zero_ℚ [])) (o.values one x h (hold_from item one x 0 bodies made below));
+        subst (λ k. Holds one k x) (sym (item_is zero_ℚ []))
+        (o.values one x h (hold_from item one x 0 bodies made below));
     costs = λ one x h below. All-nil _;
   }
 
@@ -136,14 +148,18 @@ module _ (edge : Edge) (item : Item) (bodies : List Body) (o : MadeOfRows edge i
   covered_by : (bound : Rational) (ys : List (List Rational)) (w : List Rational)
       → Balances bound edge item image (duals_of ys) w → IsCovered bound item image (duals_of ys) w
   covered_by bound ys w b =
-      let w_is : held_item bound item image w ≡ row_held item.body (back_of edge item ys) = item_is bound w ∙ ap (row_held item.body) (b.carries.by_rule o.source.no_group o.source.no_objective) in
+      let w_is : held_item bound item image w ≡ row_held item.body (back_of edge item ys) = item_is
+      bound w ∙ ap (row_held item.body) (b.carries.by_rule o.source.no_group
+      o.source.no_objective) in
       let size : length ys ≡ length bodies = b.each.rows ∙ length-children_from item 0 bodies in
       let hold : DualsHold (rows_held bodies ys) = subst DualsHold (held_are bound ys) b.hold in
       record {
         holds = subst IsHeld (sym w_is) (o.holds ys size hold);
-        same = λ v. ap (λ k. adjoint_of k v) w_is ∙ o.same ys size hold v ∙ sym (ap (λ hs. adjoint hs v) (held_are bound ys));
+        same = λ v. ap (λ k. adjoint_of k v) w_is ∙ o.same ys size hold v
+            ∙ sym (ap (λ hs. adjoint hs v) (held_are bound ys));
         gaps =
-            subst (λ q. q ≤ℚ gap_of (held_item bound item image w)) (sym (ap gap (held_are bound ys)))
+            subst (λ q. q ≤ℚ gap_of (held_item bound item image w))
+            (sym (ap gap (held_are bound ys)))
             (subst (λ k. gap (rows_held bodies ys) ≤ℚ gap_of k) (sym w_is) (o.gaps ys size hold));
       }
 
@@ -158,12 +174,14 @@ module _ (edge : Edge) (item : Item) (bodies : List Body) (o : MadeOfRows edge i
   of_all : (P : Item → Type 0) → ((k : ℕ) (b : Body) → IsRowOf edge item b → P (child_at item k b))
       → All P (children image)
   of_all P h =
-      subst (All P) (sym (append-nil rows)) (all_children item (IsRowOf edge item) P h 0 bodies o.each)
+      subst (All P) (sym (append-nil rows)) (all_children item (IsRowOf edge item) P h 0 bodies
+      o.each)
 
   in_order : StandsInOrder item image
   in_order =
       ap (map (λ child. child.at)) (append-nil rows) ∙ stand_from item 0 bodies
-      ∙ sym (ap (λ m. map (child_of item.at) (range_with_len 0 m)) (ap length (append-nil rows) ∙ length-children_from item 0 bodies))
+      ∙ sym (ap (λ m. map (child_of item.at) (range_with_len 0 m))
+      (ap length (append-nil rows) ∙ length-children_from item 0 bodies))
 
   pub rows_law : EdgeLaw edge item image
   rows_law = record {

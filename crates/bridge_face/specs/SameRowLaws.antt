@@ -53,11 +53,16 @@ module _ (edge : Edge) (item : Item) (child : Body) (s : SameRow edge item child
       function = s.shaped;
       some = subst (λ n. 1 ≤ n) (sym same_length) s.item_valid.some;
       at_most = few;
-      set = subst (λ n. IsSetOf n (set_of child)) (sym same_length) (subst (IsSetOf (length (functions_of item.body))) (sym s.set) s.item_valid.set);
-      depth = subst (λ n. n ≤ 38) (sym (length-append item.at.positions (0 ∷ []))) (omega (arith, room));
-      others = λ _. subst (All (NamesNothingBelow (child_of item.at 0))) (sym s.functions) (all_unnamed_below item.at 0 (functions_of item.body) (s.item_valid.others s.source.no_group));
+      set = subst (λ n. IsSetOf n (set_of child)) (sym same_length)
+          (subst (IsSetOf (length (functions_of item.body))) (sym s.set) s.item_valid.set);
+      depth = subst (λ n. n ≤ 38) (sym (length-append item.at.positions (0 ∷ [])))
+          (omega (arith, room));
+      others = λ _. subst (All (NamesNothingBelow (child_of item.at 0))) (sym s.functions)
+          (all_unnamed_below item.at 0 (functions_of item.body)
+          (s.item_valid.others s.source.no_group));
     };
-    sizes = subst (λ n. length (functions_of child) ≤ n * length (functions_of item.body)) (sym s.no_growth) (omega (arith, same_length));
+    sizes = subst (λ n. length (functions_of child) ≤ n * length (functions_of item.body))
+        (sym s.no_growth) (omega (arith, same_length));
     leads = s.leads;
     mentioned = λ v m. subst (λ fs. Miss fs v) (sym s.functions) m;
   }

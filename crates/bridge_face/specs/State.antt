@@ -100,4 +100,5 @@ pub record TakesDuals (kept : KeptItem) (ys : List (List Rational)) : Type 0 whe
 -- the answer is what is carried back of the duals, exactly where it fits
 abbrev pub IsDualOf : Result (List Rational) AffFault → List (List Rational) → KeptItem → Type 0
 IsDualOf answer ys kept =
-    ExactWhere answer (BackFits kept.edge kept.item ys) (λ dual. dual ≡ back_of kept.edge kept.item ys)
+    ExactWhere answer (BackFits kept.edge kept.item ys)
+    (λ dual. dual ≡ back_of kept.edge kept.item ys)

@@ -10,7 +10,8 @@ use Rattle.ratio_core.specs.Rational.{Rational, SumFits, ◌+ℚ◌}
 use Rattle.rational_laws.specs.Dot.{plus}
 use Rattle.bridge_face.specs.BackOf.{SumsFit}
 
-pub length-paired : {X Y : Type 0} (u : List X) (v : List Y) → length u ≡ length v → length (zip u v) ≡ length u
+pub length-paired : {X Y : Type 0} (u : List X) (v : List Y) → length u ≡ length v
+    → length (zip u v) ≡ length u
 length-paired [] v e = refl
 length-paired (p ∷ u) [] e = absurd (omega (arith, e))
 length-paired (p ∷ u) (q ∷ v) e =
@@ -18,7 +19,8 @@ length-paired (p ∷ u) (q ∷ v) e =
 
 module _
     {X Y : Type 0} (n : ℕ) (u : List X) (v : List Y) (long : length u ≡ length v) (p : X) (q : Y)
-    (below : n < length u) (first : p ≡ slice_index_or u n p) (second : q ≡ slice_index_or v n q) where
+    (below : n < length u) (first : p ≡ slice_index_or u n p)
+    (second : q ≡ slice_index_or v n q) where
   pub within : n < length (zip u v)
   within = let e = length-paired u v long in omega (arith, e, below)
 
@@ -36,10 +38,12 @@ module _
       ∙ sym (ap (map f) (take_more (zip u v) n (p, q) within))
 
 -- and its end
-pub zipped_all : {X Y : Type 0} (n : ℕ) (u : List X) (v : List Y) → length u ≡ length v → length u ≤ n
+pub zipped_all : {X Y : Type 0} (n : ℕ) (u : List X) (v : List Y) → length u ≡ length v
+    → length u ≤ n
     → take n (zip u v) ≡ zip u v
 zipped_all n u v long past =
-    take_all n (zip u v) (let e : length (zip u v) ≡ length u = length-paired u v long in omega (arith, e, past))
+    take_all n (zip u v) (let e : length (zip u v) ≡ length u = length-paired u v long
+    in omega (arith, e, past))
 
 -- ---- sums
 
@@ -63,19 +67,22 @@ pub record SummedTo (n : ℕ) (u v made : List Rational) : Type 0 where
   pub fit : All PairFits (take n (zip u v))
 
 module _
-    (n : ℕ) (u v : List Rational) (long : length u ≡ length v) (p q : Rational) (below : n < length u)
+    (n : ℕ) (u v : List Rational) (long : length u ≡ length v) (p q : Rational)
+    (below : n < length u)
     (first : p ≡ slice_index_or u n p) (second : q ≡ slice_index_or v n q) where
   pub summed_more : (made : List Rational) → SumFits p q → SummedTo n u v made
       → SummedTo (n + 1) u v (made ++ (p +ℚ q) ∷ [])
   summed_more made fits so_far = record {
     sums = zipped_more n u v long p q below first second summed made so_far.sums;
-    fit = All-more PairFits (zip u v) n (p, q) (within n u v long p q below first second) so_far.fit (subst PairFits (sym (at_place n u v long p q below first second)) fits);
+    fit = All-more PairFits (zip u v) n (p, q) (within n u v long p q below first second) so_far.fit
+        (subst PairFits (sym (at_place n u v long p q below first second)) fits);
   }
 
   -- where one doesn't fit, not all do
   pub sum_refused : ¬ (SumFits p q) → ¬ (SumsFit u v)
   sum_refused refused all =
-      refused (subst PairFits (at_place n u v long p q below first second) (All-get_or PairFits (zip u v) n (p, q) (within n u v long p q below first second) all))
+      refused (subst PairFits (at_place n u v long p q below first second)
+      (All-get_or PairFits (zip u v) n (p, q) (within n u v long p q below first second) all))
 
 pub summed_all : (n : ℕ) (u v made : List Rational) → length u ≡ length v → length u ≤ n
     → SummedTo n u v made → SumsFit u v × made ≡ plus u v

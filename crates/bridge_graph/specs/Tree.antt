@@ -9,7 +9,8 @@ mutual
     native : {kind : ℕ} → IsSupported graph kind → Tree graph kind 0
     by : {edge kind cost : ℕ} → TreeBy graph edge kind cost → Tree graph kind cost
 
-  -- a tree that begins with this edge from this kind: it costs what the edge costs, and its children's trees
+  -- a tree that begins with this edge from this kind: it costs what the edge costs, and its
+  -- children's trees
   pub data TreeBy (graph : Hypergraph) : ℕ → ℕ → ℕ → Type 0 where
     via : {edge cost children : ℕ} {row : EdgeRow}
         → IsUsable graph.edges graph.costs graph.on edge row cost

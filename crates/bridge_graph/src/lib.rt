@@ -1,9 +1,9 @@
 //! Least-cost choice over a hypergraph of kinds.
 //!
-//! A solver supports some kinds of function in set. Each edge rewrites an item of its source kind as items of its
-//! child kinds, at a cost. A tree of a kind is native, where the kind is supported, or an edge that is on with a tree
-//! for each child kind that it lists. A tree's cost is the sum of its edges' costs, so a child kind that is listed
-//! twice is paid twice.
+//! A solver supports some kinds of function in set. Each edge rewrites an item of its source kind
+//! as items of its child kinds, at a cost. A tree of a kind is native, where the kind is supported,
+//! or an edge that is on with a tree for each child kind that it lists. A tree's cost is the sum of
+//! its edges' costs, so a child kind that is listed twice is paid twice.
 #![tactic(auto)]
 
 ghost use Rattle.std.specs.Prelude.{◌≡◌, ◌≤◌, ◌↔◌, ℕ, IsTrue, List, IsNone, IfSome};
@@ -14,7 +14,8 @@ mod settling;
 use settling::{Plan, settle};
 use std::marker::Model;
 
-/// An edge: the kind that it rewrites, and the first `count` of `children`, the kinds that it leads to.
+/// An edge: the kind that it rewrites, and the first `count` of `children`, the kinds that it leads
+/// to.
 #[derive(Clone, Copy, Debug, PartialEq, Eq)]
 pub struct EdgeRow {
     pub source: u8,
@@ -62,7 +63,8 @@ impl<const K: usize, const E: usize> Graph<K, E> {
     ghost use Rattle.bridge_graph.specs.Tree.{IsTreeless, IsLeastCost, IsFirstEdge, LeadsBelow};
     ghost use Rattle.bridge_graph.specs.Plan.{IsPlan, IsSolved};
 
-    /// The graph of these edges with their costs of 1 to 1,000, of which those that are `on` may be used.
+    /// The graph of these edges with their costs of 1 to 1,000, of which those that are `on` may be
+    /// used.
     ///
     /// Kinds and edges are numbered from 0, and an edge lists at most three children.
     pub fn build(
@@ -88,9 +90,11 @@ impl<const K: usize, const E: usize> Graph<K, E> {
         }
     }
 
-    /// How an item of this kind reaches the solver at least cost; a kind of number `K` or above is `Missing`.
+    /// How an item of this kind reaches the solver at least cost; a kind of number `K` or above is
+    /// `Missing`.
     ///
-    /// Each child of a chosen edge costs less than the kind, so whoever follows the choices comes to an end.
+    /// Each child of a chosen edge costs less than the kind, so whoever follows the choices comes
+    /// to an end.
     pub fn choice(&self, kind: u8) -> Choice
         ensures native { (result ≡ Choice.Native) ↔ IsSupported self.now kind }
         ensures by { (edge : ℕ) → ((result ≡ Choice.By edge) ↔ IsFirstEdge self.now kind edge) }

@@ -1,7 +1,9 @@
-//! The kinds are settled one at a time, by the cheapest edge from an open kind whose children are all settled.
+//! The kinds are settled one at a time, by the cheapest edge from an open kind whose children are
+//! all settled.
 //!
-//! No tree of an open kind costs less than that edge with its children, since some edge of such a tree leads from an
-//! open kind to settled ones (Knuth, "A generalization of Dijkstra's algorithm", 1977).
+//! No tree of an open kind costs less than that edge with its children, since some edge of such a
+//! tree leads from an open kind to settled ones (Knuth, "A generalization of Dijkstra's algorithm",
+//! 1977).
 ghost use Rattle.std.specs.Prelude.{◌≡◌, ◌<◌, ◌≤◌, ◌^◌, ◌↔◌, ℕ, IsTrue, length, IsNone, IfSome};
 ghost use Rattle.std.specs.List.{list_all};
 ghost use Rattle.bridge_graph.specs.Hypergraph.{hypergraph_of, children_of, has_kinds_below, is_edge_cost};

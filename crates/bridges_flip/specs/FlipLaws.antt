@@ -1,4 +1,5 @@
--- The law of a flip: a row becomes the row of its negated functions in the mirrored set, and its dual is the child's negated.
+-- The law of a flip: a row becomes the row of its negated functions in the mirrored set, and its
+-- dual is the child's negated.
 use Rattle.std.specs.Prelude.{◌≡◌, ◌*◌, ◌≤◌, ℕ, false, List, [], ◌∷◌, map, All, length, refl}
 use Rattle.std.proofs.Common.{sym, ap, ap₂, subst, ◌∙◌, arith, append_assoc}
 use Rattle.std.proofs.lemmas.List.{length-append, length-map}
@@ -51,12 +52,14 @@ pub record IsFlip (edge : Edge) (item : Item) (child : Body) : Type 0 where
 
 -- ---- lists of negated functions
 
-negated_numbers : (g : Function → Rational) → ((f : Function) → g (negated f) ≡ neg_ℚ (g f)) → (fs : List Function)
+negated_numbers : (g : Function → Rational) → ((f : Function) → g (negated f) ≡ neg_ℚ (g f))
+    → (fs : List Function)
     → map g (map negated fs) ≡ numbers.negated (map g fs)
 negated_numbers g h [] = refl
 negated_numbers g h (f ∷ fs) = ap₂ ◌∷◌ (h f) (negated_numbers g h fs)
 
-cone_kept : (one : Rational) (s : Set) → is_norm_cone s ≡ false → is_norm_cone (multiplied one s) ≡ false
+cone_kept : (one : Rational) (s : Set) → is_norm_cone s ≡ false
+    → is_norm_cone (multiplied one s) ≡ false
 cone_kept one (LessThan u) c = refl
 cone_kept one (GreaterThan l) c = refl
 cone_kept one (EqualTo a) c = refl
@@ -75,31 +78,42 @@ module _ (fs : List Function) (s : Set) (no_norm_cone : is_norm_cone s ≡ false
   abbrev straight : List Rational → Held
   straight w = record { duals = w; functions = fs; set = s }
 
-  same_products : (g : Function → Rational) → ((f : Function) → g (negated f) ≡ neg_ℚ (g f)) → (y : List Rational)
+  same_products : (g : Function → Rational) → ((f : Function) → g (negated f) ≡ neg_ℚ (g f))
+      → (y : List Rational)
       → dot (numbers.negated y) (map g fs) ≡ dot y (map g (map negated fs))
   same_products g h y =
-      negated-dot y (map g fs) ∙ sym (dot-negated y (map g fs)) ∙ ap (dot y) (sym (negated_numbers g h fs))
+      negated-dot y (map g fs) ∙ sym (dot-negated y (map g fs))
+      ∙ ap (dot y) (sym (negated_numbers g h fs))
 
-  values : (one : Rational) (x : Address → Rational) → Holds one (flipped []) x → Holds one (straight []) x
+  values : (one : Rational) (x : Address → Rational) → Holds one (flipped []) x
+      → Holds one (straight []) x
   values one x h =
-      ((mirrors (multiplied one s) (cone_kept one s no_norm_cone)).values (map (λ f. evaluated one f x) fs)).1
-      (subst (λ t. In t (numbers.negated (map (λ f. evaluated one f x) fs))) (sym (mirrored-multiplied one s))
-      (subst (In (multiplied one (mirrored s))) (negated_numbers (λ f. evaluated one f x) (λ f. evaluated_negated one f (negated f) (is_negated address_order f (negated f) refl) x) fs) h))
+      ((mirrors (multiplied one s) (cone_kept one s no_norm_cone)).values
+      (map (λ f. evaluated one f x) fs)).1
+      (subst (λ t. In t (numbers.negated (map (λ f. evaluated one f x) fs)))
+      (sym (mirrored-multiplied one s))
+      (subst (In (multiplied one (mirrored s))) (negated_numbers (λ f. evaluated one f x)
+      (λ f. evaluated_negated one f (negated f) (is_negated address_order f (negated f) refl) x)
+      fs) h))
 
-  holds : (y : List Rational) → IsSetOf (length fs) s → IsHeld (flipped y) → IsHeld (straight (numbers.negated y))
+  holds : (y : List Rational) → IsSetOf (length fs) s → IsHeld (flipped y)
+      → IsHeld (straight (numbers.negated y))
   holds y set h = record {
     set = set;
     size = length-negated y ∙ h.size ∙ length-map fs negated;
-    dual = ((mirrors s no_norm_cone).duals (numbers.negated y)).1 (subst (Dual (mirrored s)) (sym (negated-negated y)) h.dual);
+    dual = ((mirrors s no_norm_cone).duals (numbers.negated y)).1
+        (subst (Dual (mirrored s)) (sym (negated-negated y)) h.dual);
   }
 
-  same : (y : List Rational) (v : Address) → adjoint_of (straight (numbers.negated y)) v ≡ adjoint_of (flipped y) v
+  same : (y : List Rational) (v : Address)
+      → adjoint_of (straight (numbers.negated y)) v ≡ adjoint_of (flipped y) v
   same y v = same_products (λ f. coefficient f v) (λ f. coefficient-negated address_order f v) y
 
   gaps : (y : List Rational) → gap_of (flipped y) ≡ gap_of (straight (numbers.negated y))
   gaps y =
       ap₂ ◌-ℚ◌
-      (ap (low_of (mirrored s)) (sym (negated-negated y)) ∙ sym ((mirrors s no_norm_cone).lows (numbers.negated y)))
+      (ap (low_of (mirrored s)) (sym (negated-negated y))
+      ∙ sym ((mirrors s no_norm_cone).lows (numbers.negated y)))
       (sym (same_products (λ f. f.constant) (λ f. constant-negated address_order f) y))
 
 -- ---- the law
@@ -107,15 +121,19 @@ module _ (fs : List Function) (s : Set) (no_norm_cone : is_norm_cone s ≡ false
 miss_negated : (fs : List Function) (v : Address) → Miss fs v → Miss (map negated fs) v
 miss_negated fs v m =
     All-map (λ f. coefficient f v ≡ zero_ℚ) negated fs
-    (All-weaker (λ f. coefficient f v ≡ zero_ℚ) (λ f. coefficient (negated f) v ≡ zero_ℚ) (λ f e. coefficient-negated address_order f v ∙ ap neg_ℚ e ∙ neg_ℚ-zero) fs m)
+    (All-weaker (λ f. coefficient f v ≡ zero_ℚ) (λ f. coefficient (negated f) v ≡ zero_ℚ)
+    (λ f e. coefficient-negated address_order f v ∙ ap neg_ℚ e ∙ neg_ℚ-zero) fs m)
 
 -- what names nothing at or below an address names nothing at or below its child
-nothing_below_child : (at : Address) (n : ℕ) (fs : List Function) → All (NamesNothingBelow at) fs → All (NamesNothingBelow (child_of at n)) (map negated fs)
+nothing_below_child : (at : Address) (n : ℕ) (fs : List Function) → All (NamesNothingBelow at) fs
+    → All (NamesNothingBelow (child_of at n)) (map negated fs)
 nothing_below_child at n fs h =
     All-map (NamesNothingBelow (child_of at n)) negated fs
-    (All-weaker (NamesNothingBelow at) (λ f. NamesNothingBelow (child_of at n) (negated f)) (λ f k rest.
+    (All-weaker (NamesNothingBelow at) (λ f. NamesNothingBelow (child_of at n) (negated f))
+    (λ f k rest.
     coefficient-negated address_order f (below (child_of at n) rest)
-    ∙ ap (λ ps. neg_ℚ (coefficient f (record at { positions = ps }))) (append_assoc at.positions (n ∷ []) rest)
+    ∙ ap (λ ps. neg_ℚ (coefficient f (record at { positions = ps })))
+    (append_assoc at.positions (n ∷ []) rest)
     ∙ ap neg_ℚ (k (n ∷ rest)) ∙ neg_ℚ-zero) fs h)
 
 module _ (edge : Edge) (item : Item) (child : Body) (f : IsFlip edge item child) where
@@ -135,24 +153,32 @@ module _ (edge : Edge) (item : Item) (child : Body) (f : IsFlip edge item child)
   is_one_row = record {
     source = f.flips.source;
     made = f.flips.made;
-    values = λ one x h below. values fs s f.flips.no_norm_cone one x (subst (λ k. Holds one k x) (child_is []) below);
+    values = λ one x h below. values fs s f.flips.no_norm_cone one x
+        (subst (λ k. Holds one k x) (child_is []) below);
     holds = λ y h.
         subst (λ w. IsHeld (row_held item.body w)) (sym (f.back y))
         (holds fs s f.flips.no_norm_cone y f.item_valid.set (subst IsHeld (child_is y) h));
     same = λ y h v.
-        ap (λ w. adjoint_of (row_held item.body w) v) (f.back y) ∙ same fs s f.flips.no_norm_cone y v
+        ap (λ w. adjoint_of (row_held item.body w) v) (f.back y)
+        ∙ same fs s f.flips.no_norm_cone y v
         ∙ sym (ap (λ k. adjoint_of k v) (child_is y));
     gaps = λ y h.
-        ≤ℚ_from_≡ _ _ (ap gap_of (child_is y) ∙ gaps fs s f.flips.no_norm_cone y ∙ sym (ap (λ w. gap_of (row_held item.body w)) (f.back y)));
+        ≤ℚ_from_≡ _ _ (ap gap_of (child_is y) ∙ gaps fs s f.flips.no_norm_cone y
+        ∙ sym (ap (λ w. gap_of (row_held item.body w)) (f.back y)));
     valid = λ room few. record {
       function = f.flips.shaped;
       some = subst (λ n. 1 ≤ n) (sym same_length) f.item_valid.some;
       at_most = few;
-      set = subst (λ n. IsSetOf n (set_of child)) (sym same_length) (subst (IsSetOf (length fs)) (sym f.flips.set) (mirrored_set (length fs) s f.item_valid.set));
-      depth = subst (λ n. n ≤ 38) (sym (length-append item.at.positions (0 ∷ []))) (omega (arith, room));
-      others = λ g. subst (All (NamesNothingBelow (child_of item.at 0))) (sym f.flips.functions) (nothing_below_child item.at 0 fs (f.item_valid.others f.flips.source.no_group));
+      set = subst (λ n. IsSetOf n (set_of child)) (sym same_length)
+          (subst (IsSetOf (length fs)) (sym f.flips.set)
+          (mirrored_set (length fs) s f.item_valid.set));
+      depth = subst (λ n. n ≤ 38) (sym (length-append item.at.positions (0 ∷ [])))
+          (omega (arith, room));
+      others = λ g. subst (All (NamesNothingBelow (child_of item.at 0))) (sym f.flips.functions)
+          (nothing_below_child item.at 0 fs (f.item_valid.others f.flips.source.no_group));
     };
-    sizes = subst (λ n. length (functions_of child) ≤ n * length fs) (sym f.no_growth) (omega (arith, same_length));
+    sizes = subst (λ n. length (functions_of child) ≤ n * length fs) (sym f.no_growth)
+        (omega (arith, same_length));
     leads = f.leads;
     mentioned = λ v m. subst (λ gs. Miss gs v) (sym f.flips.functions) (miss_negated fs v m);
   }

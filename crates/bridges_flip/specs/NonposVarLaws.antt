@@ -74,7 +74,8 @@ leads_to _ own n vars = of_another own refl
 pub no_row : (edge : Edge) → family_of edge ≡ NonposVar → (item : Item) → IsItemFor edge item
     → is_group item.body ≡ false → ⊥
 no_row edge own item suits none =
-    true≢false (sym (of_nonpositive (is_nonpositive edge own item.body suits.valid.function suits.kind)).group ∙ none)
+    true≢false (sym (of_nonpositive (is_nonpositive edge own item.body suits.valid.function
+    suits.kind)).group ∙ none)
 
 -- ---- negated variables
 
@@ -93,13 +94,15 @@ constants-negatives : (vs : List Address) → All (λ q. q ≡ zero_ℚ) (consta
 constants-negatives [] = All-nil (λ q. q ≡ zero_ℚ)
 constants-negatives (v ∷ vs) =
     All-cons (λ q. q ≡ zero_ℚ) (negated (variable v)).constant (constants (negatives vs))
-    (constant-negated address_order (variable v) ∙ ap neg_ℚ (constant-variable v) ∙ neg_ℚ-zero) (constants-negatives vs)
+    (constant-negated address_order (variable v) ∙ ap neg_ℚ (constant-variable v) ∙ neg_ℚ-zero)
+    (constants-negatives vs)
 
 evaluations-negatives : (one : Rational) (vs : List Address) (x : Address → Rational)
     → evaluations one (negatives vs) x ≡ numbers.negated (map x vs)
 evaluations-negatives one [] x = refl
 evaluations-negatives one (v ∷ vs) x =
-    ap₂ ◌∷◌ (evaluated-negated one (variable v) x ∙ ap neg_ℚ (evaluated_variable one v x)) (evaluations-negatives one vs x)
+    ap₂ ◌∷◌ (evaluated-negated one (variable v) x ∙ ap neg_ℚ (evaluated_variable one v x))
+    (evaluations-negatives one vs x)
 
 coefficients-negatives : (vs : List Address) (v : Address)
     → coefficients (negatives vs) v ≡ numbers.negated (coefficients (variables vs) v)
@@ -118,7 +121,8 @@ weighed-negatives w us (v ∷ vs) =
 misses-negatives : (vs : List Address) (v : Address) → Miss (variables vs) v → Miss (negatives vs) v
 misses-negatives vs v m =
     All-map (λ f. coefficient f v ≡ zero_ℚ) negated (variables vs)
-    (All-weaker (λ f. coefficient f v ≡ zero_ℚ) (λ f. coefficient (negated f) v ≡ zero_ℚ) (λ f e. missed-negated v f e) (variables vs) m)
+    (All-weaker (λ f. coefficient f v ≡ zero_ℚ) (λ f. coefficient (negated f) v ≡ zero_ℚ)
+    (λ f e. missed-negated v f e) (variables vs) m)
 
 -- ---- the law
 
@@ -136,15 +140,20 @@ module _ (edge : Edge) (own : family_of edge ≡ NonposVar) where
   back_fits item ys = subst (λ f. BackFitsBy f item ys) (sym own) tt
 
   -- so is an image that is made of these parts
-  pub image_made : (item : Item) (count : ℕ) (vars : List Address) (exprs : List Expression) (group : Item) (image : Image)
+  pub image_made : (item : Item) (count : ℕ) (vars : List Address) (exprs : List Expression)
+      (group : Item) (image : Image)
       → count ≡ size item → vars ≡ inner item count → exprs ≡ map negative vars
-      → group ≡ child_at item 0 (Group (Nonnegatives count) vars) → image ≡ group_by (group ∷ []) exprs
+      → group ≡ child_at item 0 (Group (Nonnegatives count) vars)
+      → image ≡ group_by (group ∷ []) exprs
       → image ≡ image_of edge item
   image_made item count vars exprs group image count_is vars_are exprs_are group_is image_of_parts =
       image_of_parts ∙ ap₂ (λ g es. group_by (g ∷ []) es) group_is exprs_are
-      ∙ ap (λ vs. group_by (child_at item 0 (Group (Nonnegatives count) vs) ∷ []) (map negative vs)) vars_are
-      ∙ ap (λ n. group_by (child_at item 0 (Group (Nonnegatives n) (inner item n)) ∷ []) (map negative (inner item n))) count_is
-      ∙ ap (λ es. group_by (group_at item (Nonnegatives (size item)) (size item) ∷ []) es) (sym (negatives_are (inner item (size item))))
+      ∙ ap (λ vs. group_by (child_at item 0 (Group (Nonnegatives count) vs) ∷ []) (map negative vs))
+      vars_are
+      ∙ ap (λ n. group_by (child_at item 0 (Group (Nonnegatives n) (inner item n)) ∷ [])
+      (map negative (inner item n))) count_is
+      ∙ ap (λ es. group_by (group_at item (Nonnegatives (size item)) (size item) ∷ []) es)
+      (sym (negatives_are (inner item (size item))))
       ∙ sym (image_is item)
 
   module _ (item : Item) (valid : IsValidItem item) where
@@ -162,7 +171,8 @@ module _ (edge : Edge) (own : family_of edge ≡ NonposVar) where
     numbers_are : (w : List Rational) → length w ≡ length (negatives ss)
         → weighed w (negatives ss) ss ≡ numbers.negated w
     numbers_are w e =
-        weighed-negatives w ss ss ∙ ap numbers.negated (weighed_components (child_of item.at 0) d w (e ∙ long))
+        weighed-negatives w ss ss
+        ∙ ap numbers.negated (weighed_components (child_of item.at 0) d w (e ∙ long))
 
     one_group : (n : ℕ) → set_of item.body ≡ Nonpositives n → is_group item.body ≡ true
         → OneGroup edge item (Nonnegatives d) d (negatives ss)
@@ -173,12 +183,15 @@ module _ (edge : Edge) (own : family_of edge ≡ NonposVar) where
       named = λ v absent. misses-negatives ss v (variables_missed ss v (not_contained ss v absent));
       values = λ one x h below.
           subst (λ s. In (multiplied one s) (evaluations one (negatives ss) x)) (sym set)
-          (subst (In (Nonpositives n)) (sym (evaluations-negatives one ss x)) (((mirrors (Nonnegatives n) refl).values (map x ss)).0 below));
+          (subst (In (Nonpositives n)) (sym (evaluations-negatives one ss x))
+          (((mirrors (Nonnegatives n) refl).values (map x ss)).0 below));
       dual = λ w e there.
           subst (λ s. Dual s w) (sym set)
-          (((mirrors (Nonpositives n) refl).duals w).1 (subst (Dual (Nonnegatives n)) (numbers_are w e) there));
+          (((mirrors (Nonpositives n) refl).duals w).1 (subst (Dual (Nonnegatives n))
+          (numbers_are w e) there));
       gaps = λ w e there.
-          sym (ap₂ ◌-ℚ◌ (ap (λ s. low_of s w) set) (dot_zeros w (constants (negatives ss)) (constants-negatives ss))
+          sym (ap₂ ◌-ℚ◌ (ap (λ s. low_of s w) set) (dot_zeros w (constants (negatives ss))
+          (constants-negatives ss))
           ∙ -ℚ-itself zero_ℚ);
       some = valid.some;
       fits = record { dimension = refl; enough = valid.some; uncrossed = refl };
@@ -188,9 +201,12 @@ module _ (edge : Edge) (own : family_of edge ≡ NonposVar) where
 
   law_at : Lawful edge
   law_at item suits =
-      let source = of_nonpositive (is_nonpositive edge own item.body suits.valid.function suits.kind) in
+      let source =
+      of_nonpositive (is_nonpositive edge own item.body suits.valid.function suits.kind) in
       subst (EdgeLaw edge item) (sym (image_is item))
-      (one_group_law edge item (Nonnegatives (size item)) (size item) (negatives (inner item (size item))) (one_group item suits.valid source.count source.set source.group))
+      (one_group_law edge item (Nonnegatives (size item)) (size item)
+      (negatives (inner item (size item))) (one_group item suits.valid source.count source.set
+      source.group))
 
 pub nonpos_var_lawful : IsLawful NonposVar
 nonpos_var_lawful = lawful_family NonposVar law_at

@@ -68,13 +68,15 @@ missed_negation : (fs : List Function) (f : Function) (v : Address) → fs ≡ f
     → Miss fs v → Miss (negated f ∷ []) v
 missed_negation fs f v e m =
     All-cons (λ f. coefficient f v ≡ zero_ℚ) (negated f) []
-    (missed-negated v f (All-head (λ f. coefficient f v ≡ zero_ℚ) f [] (subst (λ gs. Miss gs v) e m))) (All-nil (λ f. coefficient f v ≡ zero_ℚ))
+    (missed-negated v f (All-head (λ f. coefficient f v ≡ zero_ℚ) f []
+    (subst (λ gs. Miss gs v) e m))) (All-nil (λ f. coefficient f v ≡ zero_ℚ))
 
 unnamed_negation : (at : Address) (fs : List Function) (f : Function) → fs ≡ f ∷ []
     → All (NamesNothingBelow at) fs → All (NamesNothingBelow at) (negated f ∷ [])
 unnamed_negation at fs f e h =
     All-cons (NamesNothingBelow at) (negated f) []
-    (λ rest. missed-negated (below at rest) f (All-head (NamesNothingBelow at) f [] (subst (All (NamesNothingBelow at)) e h) rest)) (All-nil (NamesNothingBelow at))
+    (λ rest. missed-negated (below at rest) f (All-head (NamesNothingBelow at) f []
+    (subst (All (NamesNothingBelow at)) e h) rest)) (All-nil (NamesNothingBelow at))
 
 -- ---- the law
 
@@ -109,10 +111,12 @@ module _ (edge : Edge) (own : family_of edge ≡ ObjFlip) where
         source = facts.source;
         made = refl;
         cost = source.same;
-        unnamed = unnamed_negation item.at (functions_of item.body) (function_of_body item.body) facts.functions (suits.valid.others (objective_no_group item.body facts.source));
+        unnamed = unnamed_negation item.at (functions_of item.body) (function_of_body item.body)
+            facts.functions (suits.valid.others (objective_no_group item.body facts.source));
         no_growth = ap growth own;
         leads = source.leads;
-        mentioned = λ v m. missed_negation (functions_of item.body) (function_of_body item.body) v facts.functions m;
+        mentioned = λ v m. missed_negation (functions_of item.body) (function_of_body item.body) v
+            facts.functions m;
       }))
 
 pub obj_flip_lawful : IsLawful ObjFlip

@@ -91,7 +91,8 @@ module _ (edge : Edge) (own : family_of edge ≡ ObjFunctionize) where
         source = facts.source;
         made = refl;
         cost = source.same;
-        unnamed = subst (All (NamesNothingBelow item.at)) facts.functions (suits.valid.others (objective_no_group item.body facts.source));
+        unnamed = subst (All (NamesNothingBelow item.at)) facts.functions
+            (suits.valid.others (objective_no_group item.body facts.source));
         no_growth = ap growth own;
         leads = source.leads;
         mentioned = λ v m. subst (λ fs. Miss fs v) facts.functions m;

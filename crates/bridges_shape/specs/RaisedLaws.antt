@@ -44,8 +44,10 @@ lowered = ring₄ _ (λ ρ. simp as_expression (by_ring ρ _ _ refl))
 -- where the difference is in the cone the number is in the set
 pub in_set : {S C : Set} {a : Rational} → HasNumber S a C → (one p : Rational)
     → In (multiplied one C) ((p -ℚ one *ℚ a) ∷ []) → In (multiplied one S) (p ∷ [])
-in_set (at_most {a}) one p h = below_by p (one *ℚ a) (All-head (λ q. q ≤ℚ zero_ℚ) (p -ℚ one *ℚ a) [] h)
-in_set (at_least {a}) one p h = above_by p (one *ℚ a) (All-head (λ q. zero_ℚ ≤ℚ q) (p -ℚ one *ℚ a) [] h)
+in_set (at_most {a}) one p h =
+    below_by p (one *ℚ a) (All-head (λ q. q ≤ℚ zero_ℚ) (p -ℚ one *ℚ a) [] h)
+in_set (at_least {a}) one p h =
+    above_by p (one *ℚ a) (All-head (λ q. zero_ℚ ≤ℚ q) (p -ℚ one *ℚ a) [] h)
 in_set (equal {a}) one p h = equal_by p (one *ℚ a) (All-head (λ q. q ≡ zero_ℚ) (p -ℚ one *ℚ a) [] h)
 
 pub in_dual : {S C : Set} {a : Rational} → HasNumber S a C → (q : Rational) → Dual C (q ∷ [])

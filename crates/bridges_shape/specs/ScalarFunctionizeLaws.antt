@@ -107,7 +107,8 @@ module _ (edge : Edge) (own : family_of edge ≡ ScalarFunctionize) where
   law_at : Lawful edge
   law_at item suits =
       subst (EdgeLaw edge item) (sym (image_is item))
-      (functionize_law edge item suits.valid (sourced edge own item.body suits.valid.function suits.kind) (back_is item) (ap growth own))
+      (functionize_law edge item suits.valid (sourced edge own item.body suits.valid.function
+      suits.kind) (back_is item) (ap growth own))
 
 pub scalar_functionize_lawful : IsLawful ScalarFunctionize
 scalar_functionize_lawful = lawful_family ScalarFunctionize law_at

@@ -49,12 +49,14 @@ pub data HasParts : Set → Set → Type 0 where
 pub data AreParts (c : Set) : List Function → List Body → Type 0 where
   no_parts : AreParts c [] []
   part : {f : Function} {b : Body} {fs : List Function} {bodies : List Body} → IsRow b
-      → functions_of b ≡ f ∷ [] → set_of b ≡ c → AreParts c fs bodies → AreParts c (f ∷ fs) (b ∷ bodies)
+      → functions_of b ≡ f ∷ [] → set_of b ≡ c → AreParts c fs bodies
+      → AreParts c (f ∷ fs) (b ∷ bodies)
 
 abbrev held_as : List Rational → List Function → Set → Held
 held_as w fs set = record { duals = w; functions = fs; set = set }
 
-part_held : {c : Set} (b : Body) (f : Function) (w : List Rational) → functions_of b ≡ f ∷ [] → set_of b ≡ c
+part_held : {c : Set} (b : Body) (f : Function) (w : List Rational) → functions_of b ≡ f ∷ []
+    → set_of b ≡ c
     → row_held b w ≡ held_as w (f ∷ []) c
 part_held b f w fs set = λ i. record { duals = w; functions = fs i; set = set i }
 
@@ -73,18 +75,21 @@ none_in of_zeros one = All-nil (λ r. r ≡ zero_ℚ)
 none_in of_nonnegatives one = All-nil (λ r. zero_ℚ ≤ℚ r)
 none_in of_nonpositives one = All-nil (λ r. r ≤ℚ zero_ℚ)
 
-pub values_in : {S c : Set} → HasParts S c → {fs : List Function} {bodies : List Body} → AreParts c fs bodies
+pub values_in : {S c : Set} → HasParts S c → {fs : List Function} {bodies : List Body}
+    → AreParts c fs bodies
     → (one : Rational) (x : Address → Rational) → All (λ b. Holds one (row_held b []) x) bodies
     → In (multiplied one S) (evaluations one fs x)
 values_in has no_parts one x h = none_in has one
 values_in {S} {c} has (part {f} {b} {fs} {bodies} row functions set rest) one x h =
     value_in has one (evaluated one f x) (evaluations one fs x)
-    (subst (λ k. Holds one k x) (part_held b f [] functions set) (All-head (λ b. Holds one (row_held b []) x) b bodies h))
+    (subst (λ k. Holds one k x) (part_held b f [] functions set)
+    (All-head (λ b. Holds one (row_held b []) x) b bodies h))
     (values_in has rest one x (All-tail (λ b. Holds one (row_held b []) x) b bodies h))
 
 -- ---- duals
 
-dual_in : {S c : Set} → HasParts S c → (q : Rational) (v : List Rational) → Dual c (q ∷ []) → Dual S v
+dual_in : {S c : Set} → HasParts S c → (q : Rational) (v : List Rational) → Dual c (q ∷ [])
+    → Dual S v
     → Dual S (q ∷ v)
 dual_in of_zeros q v h rest = tt
 dual_in of_nonnegatives q v h rest = All-cons (λ r. zero_ℚ ≤ℚ r) q v h rest
@@ -95,7 +100,8 @@ none_dual of_zeros = tt
 none_dual of_nonnegatives = All-nil (λ r. zero_ℚ ≤ℚ r)
 none_dual of_nonpositives = All-nil (λ r. r ≤ℚ zero_ℚ)
 
-low_parts : {S c : Set} → HasParts S c → (w y : List Rational) → (low_of S w ≡ zero_ℚ) × (low_of c y ≡ zero_ℚ)
+low_parts : {S c : Set} → HasParts S c → (w y : List Rational)
+    → (low_of S w ≡ zero_ℚ) × (low_of c y ≡ zero_ℚ)
 low_parts of_zeros w y = (refl, zero-*ℚ (first_of y))
 low_parts of_nonnegatives w y = (refl, zero-*ℚ (first_of y))
 low_parts of_nonpositives w y = (refl, zero-*ℚ (first_of y))
@@ -112,15 +118,18 @@ one_number (q ∷ []) f h = (q, refl)
 one_number (q ∷ (r ∷ y)) f h = absurd (omega (arith, h.size))
 
 module _ {S c : Set} (has : HasParts S c) where
-  pub joined_held : {fs : List Function} {bodies : List Body} → AreParts c fs bodies → (ys : List (List Rational))
+  pub joined_held : {fs : List Function} {bodies : List Body} → AreParts c fs bodies
+      → (ys : List (List Rational))
       → length ys ≡ length bodies → DualsHold (rows_held bodies ys) → Joined S fs ys
   joined_held no_parts [] e h = record { size = refl; dual = none_dual has }
   joined_held no_parts (y ∷ ys) e h = absurd (omega (arith, e))
   joined_held (part row functions set rest) [] e h = absurd (omega (arith, e))
   joined_held (part {f} {b} {fs} {bodies} row functions set rest) (y ∷ ys) e h =
-      let first = subst IsHeld (part_held b f y functions set) (All-head IsHeld (row_held b y) (rows_held bodies ys) h) in
+      let first = subst IsHeld (part_held b f y functions set)
+      (All-head IsHeld (row_held b y) (rows_held bodies ys) h) in
       let one = one_number y f first in
-      let more = joined_held rest ys (omega (arith, e)) (All-tail IsHeld (row_held b y) (rows_held bodies ys) h) in
+      let more = joined_held rest ys (omega (arith, e))
+      (All-tail IsHeld (row_held b y) (rows_held bodies ys) h) in
       subst (λ w. Joined S (f ∷ fs) (w ∷ ys)) (sym one.1)
       (record {
         size = omega (arith, more.size);
@@ -128,19 +137,24 @@ module _ {S c : Set} (has : HasParts S c) where
       })
 
   -- the sums of duals times coefficients
-  pub joined_adjoint : {fs : List Function} {bodies : List Body} → AreParts c fs bodies → (ys : List (List Rational))
+  pub joined_adjoint : {fs : List Function} {bodies : List Body} → AreParts c fs bodies
+      → (ys : List (List Rational))
       → length ys ≡ length bodies → DualsHold (rows_held bodies ys) → (v : Address)
       → dot (joined ys) (coefficients fs v) ≡ adjoint (rows_held bodies ys) v
   joined_adjoint no_parts [] e h v = refl
   joined_adjoint no_parts (y ∷ ys) e h v = absurd (omega (arith, e))
   joined_adjoint (part row functions set rest) [] e h v = absurd (omega (arith, e))
   joined_adjoint (part {f} {b} {fs} {bodies} row functions set rest) (y ∷ ys) e h v =
-      let first = subst IsHeld (part_held b f y functions set) (All-head IsHeld (row_held b y) (rows_held bodies ys) h) in
+      let first = subst IsHeld (part_held b f y functions set)
+      (All-head IsHeld (row_held b y) (rows_held bodies ys) h) in
       let one = one_number y f first in
-      let more = joined_adjoint rest ys (omega (arith, e)) (All-tail IsHeld (row_held b y) (rows_held bodies ys) h) v in
+      let more = joined_adjoint rest ys (omega (arith, e))
+      (All-tail IsHeld (row_held b y) (rows_held bodies ys) h) v in
       ap (λ w. dot (w ++ joined ys) (coefficients (f ∷ fs) v)) one.1
-      ∙ spread (one.0 *ℚ coefficient f v) (dot (joined ys) (coefficients fs v)) (adjoint (rows_held bodies ys) v) more
-      ∙ ap (λ k. adjoint_of k v +ℚ adjoint (rows_held bodies ys) v) (sym (part_held b f y functions set ∙ ap (λ w. held_as w (f ∷ []) c) one.1))
+      ∙ spread (one.0 *ℚ coefficient f v) (dot (joined ys) (coefficients fs v))
+      (adjoint (rows_held bodies ys) v) more
+      ∙ ap (λ k. adjoint_of k v +ℚ adjoint (rows_held bodies ys) v)
+      (sym (part_held b f y functions set ∙ ap (λ w. held_as w (f ∷ []) c) one.1))
     where
       spread : (p d k : Rational) → d ≡ k → p +ℚ d ≡ (p +ℚ zero_ℚ) +ℚ k
       spread p d k e = ap (λ z. p +ℚ z) e ∙ padded p k
@@ -149,21 +163,26 @@ module _ {S c : Set} (has : HasParts S c) where
           padded = ring₂ _ (λ ρ. simp (as_expression, zero_as ρ) (by_ring ρ _ _ refl))
 
   -- the gaps of the rows
-  pub joined_gap : {fs : List Function} {bodies : List Body} → AreParts c fs bodies → (ys : List (List Rational))
+  pub joined_gap : {fs : List Function} {bodies : List Body} → AreParts c fs bodies
+      → (ys : List (List Rational))
       → length ys ≡ length bodies → DualsHold (rows_held bodies ys)
       → gap (rows_held bodies ys) ≡ zero_ℚ -ℚ dot (joined ys) (constants fs)
   joined_gap no_parts [] e h = nothing
     where
       nothing : zero_ℚ ≡ zero_ℚ -ℚ zero_ℚ
-      nothing = ring₂ (λ p q. zero_ℚ ≡ zero_ℚ -ℚ zero_ℚ) (λ ρ. simp (as_expression, zero_as ρ) (by_ring ρ _ _ refl)) zero_ℚ zero_ℚ
+      nothing = ring₂ (λ p q. zero_ℚ ≡ zero_ℚ -ℚ zero_ℚ)
+          (λ ρ. simp (as_expression, zero_as ρ) (by_ring ρ _ _ refl)) zero_ℚ zero_ℚ
   joined_gap no_parts (y ∷ ys) e h = absurd (omega (arith, e))
   joined_gap (part row functions set rest) [] e h = absurd (omega (arith, e))
   joined_gap (part {f} {b} {fs} {bodies} row functions set rest) (y ∷ ys) e h =
-      let first = subst IsHeld (part_held b f y functions set) (All-head IsHeld (row_held b y) (rows_held bodies ys) h) in
+      let first = subst IsHeld (part_held b f y functions set)
+      (All-head IsHeld (row_held b y) (rows_held bodies ys) h) in
       let one = one_number y f first in
-      let more = joined_gap rest ys (omega (arith, e)) (All-tail IsHeld (row_held b y) (rows_held bodies ys) h) in
+      let more = joined_gap rest ys (omega (arith, e))
+      (All-tail IsHeld (row_held b y) (rows_held bodies ys) h) in
       ap₂ ◌+ℚ◌
-      (ap gap_of (part_held b f y functions set ∙ ap (λ w. held_as w (f ∷ []) c) one.1) ∙ ap (λ l. l -ℚ (one.0 *ℚ f.constant +ℚ zero_ℚ)) (low_parts has [] (one.0 ∷ [])).1)
+      (ap gap_of (part_held b f y functions set ∙ ap (λ w. held_as w (f ∷ []) c) one.1)
+      ∙ ap (λ l. l -ℚ (one.0 *ℚ f.constant +ℚ zero_ℚ)) (low_parts has [] (one.0 ∷ [])).1)
       more
       ∙ gathered (one.0 *ℚ f.constant) (dot (joined ys) (constants fs))
       ∙ ap (λ w. zero_ℚ -ℚ dot (w ++ joined ys) (constants (f ∷ fs))) (sym one.1)
@@ -175,8 +194,10 @@ module _ {S c : Set} (has : HasParts S c) where
 
 -- a row of functions or of variables in such a cone
 pub data IsConeRow : Body → Type 0 where
-  affine : {funcs : List Function} {set : Set} → HasParts set (component_of set) → IsConeRow (AffineVec funcs set)
-  plain : {vars : List Address} {set : Set} → HasParts set (component_of set) → IsConeRow (PlainVec vars set)
+  affine : {funcs : List Function} {set : Set} → HasParts set (component_of set)
+      → IsConeRow (AffineVec funcs set)
+  plain : {vars : List Address} {set : Set} → HasParts set (component_of set)
+      → IsConeRow (PlainVec vars set)
 
 -- what the edges make of it
 abbrev pub made : Body → List Body
@@ -184,9 +205,11 @@ made b = each_component b (component_of (set_of b))
 
 -- one of its rows is of the kind that the edge leads to
 pub data LeadsToEach (edge : Edge) : Body → Type 0 where
-  affine_each : {funcs : List Function} {set : Set} → ((f : Function) → LeadsTo edge (Affine f (component_of set)))
+  affine_each : {funcs : List Function} {set : Set}
+      → ((f : Function) → LeadsTo edge (Affine f (component_of set)))
       → LeadsToEach edge (AffineVec funcs set)
-  plain_each : {vars : List Address} {set : Set} → ((v : Address) → LeadsTo edge (Plain v (component_of set)))
+  plain_each : {vars : List Address} {set : Set}
+      → ((v : Address) → LeadsTo edge (Plain v (component_of set)))
       → LeadsToEach edge (PlainVec vars set)
 
 record Sourced (edge : Edge) (b : Body) : Type 0 where
@@ -199,11 +222,13 @@ sourced_first vaffine_zeros = record { row = affine of_zeros; leads = affine_eac
 
 sourced_second : {b : Body} → OfKind kind.VaffineNonnegatives b → Sourced E16 b
 unfolding edge_entry kind_of_body
-sourced_second vaffine_nonnegatives = record { row = affine of_nonnegatives; leads = affine_each (λ f. refl) }
+sourced_second vaffine_nonnegatives =
+    record { row = affine of_nonnegatives; leads = affine_each (λ f. refl) }
 
 sourced_third : {b : Body} → OfKind kind.VaffineNonpositives b → Sourced E17 b
 unfolding edge_entry kind_of_body
-sourced_third vaffine_nonpositives = record { row = affine of_nonpositives; leads = affine_each (λ f. refl) }
+sourced_third vaffine_nonpositives =
+    record { row = affine of_nonpositives; leads = affine_each (λ f. refl) }
 
 sourced_fourth : {b : Body} → OfKind kind.VplainZeros b → Sourced E18 b
 unfolding edge_entry kind_of_body
@@ -211,11 +236,13 @@ sourced_fourth vplain_zeros = record { row = plain of_zeros; leads = plain_each 
 
 sourced_fifth : {b : Body} → OfKind kind.VplainNonnegatives b → Sourced E19 b
 unfolding edge_entry kind_of_body
-sourced_fifth vplain_nonnegatives = record { row = plain of_nonnegatives; leads = plain_each (λ v. refl) }
+sourced_fifth vplain_nonnegatives =
+    record { row = plain of_nonnegatives; leads = plain_each (λ v. refl) }
 
 sourced_sixth : {b : Body} → OfKind kind.VplainNonpositives b → Sourced E20 b
 unfolding edge_entry kind_of_body
-sourced_sixth vplain_nonpositives = record { row = plain of_nonpositives; leads = plain_each (λ v. refl) }
+sourced_sixth vplain_nonpositives =
+    record { row = plain of_nonpositives; leads = plain_each (λ v. refl) }
 
 sourced : (edge : Edge) → family_of edge ≡ Scalarize
     → (b : Body) → FitsItsFunction b → kind_of_body b ≡ source_of edge → Sourced edge b
@@ -242,12 +269,14 @@ part_of_one of_nonpositives = record { dimension = refl; enough = omega arith; u
 
 affine_parts : (c : Set) (fs : List Function) → AreParts c fs (map (λ f. Affine f c) fs)
 affine_parts c [] = no_parts
-affine_parts c (f ∷ fs) = part (record { no_group = refl; no_objective = refl }) refl refl (affine_parts c fs)
+affine_parts c (f ∷ fs) =
+    part (record { no_group = refl; no_objective = refl }) refl refl (affine_parts c fs)
 
 plain_parts : (c : Set) (vars : List Address)
     → AreParts c (map (variable {R = address_cmp}) vars) (map (λ v. Plain v c) vars)
 plain_parts c [] = no_parts
-plain_parts c (v ∷ vars) = part (record { no_group = refl; no_objective = refl }) refl refl (plain_parts c vars)
+plain_parts c (v ∷ vars) =
+    part (record { no_group = refl; no_objective = refl }) refl refl (plain_parts c vars)
 
 -- what is read of the row
 record Read (b : Body) : Type 0 where
@@ -257,12 +286,21 @@ record Read (b : Body) : Type 0 where
 
 read : {b : Body} → IsConeRow b → Read b
 read (affine {funcs} {set} has) =
-    record { source = record { no_group = refl; no_objective = refl }; has = has; parts = affine_parts (component_of set) funcs }
+    record {
+      source = record { no_group = refl; no_objective = refl };
+      has = has;
+      parts = affine_parts (component_of set) funcs;
+    }
 read (plain {vars} {set} has) =
-    record { source = record { no_group = refl; no_objective = refl }; has = has; parts = plain_parts (component_of set) vars }
+    record {
+      source = record { no_group = refl; no_objective = refl };
+      has = has;
+      parts = plain_parts (component_of set) vars;
+    }
 
 -- a fact of each element, at each index at which all have it
-each_at : {A B : Type 0} (P : B → A → Type 0) (Q : B → Type 0) (xs : List A) → ((b : B) → Q b → All (P b) xs)
+each_at : {A B : Type 0} (P : B → A → Type 0) (Q : B → Type 0) (xs : List A)
+    → ((b : B) → Q b → All (P b) xs)
     → All (λ x. (b : B) → Q b → P b x) xs
 each_at P Q [] h = All-nil (λ x. (b : _) → Q b → P b x)
 each_at P Q (x ∷ xs) h =
@@ -294,34 +332,52 @@ module _ (edge : Edge) (own : family_of edge ≡ Scalarize) where
   module _ (item : Item) (valid : IsValidItem item) (r : Read item.body) where
     -- a component of the item
     abbrev IsComponent : Function → Type 0
-    IsComponent f = NamesNothingBelow item.at f × ((v : Address) → Miss (functions_of item.body) v → coefficient f v ≡ zero_ℚ)
+    IsComponent f = NamesNothingBelow item.at f
+        × ((v : Address) → Miss (functions_of item.body) v → coefficient f v ≡ zero_ℚ)
 
     row_of : (b : Body) (f : Function) → IsRow b → FitsItsFunction b → functions_of b ≡ f ∷ []
-        → set_of b ≡ component_of (set_of item.body) → LeadsTo edge b → IsComponent f → IsRowOf edge item b
+        → set_of b ≡ component_of (set_of item.body) → LeadsTo edge b → IsComponent f
+        → IsRowOf edge item b
     row_of b f row shaped functions set leads component = record {
       made = row;
       shaped = shaped;
       some = subst (λ fs. 1 ≤ length fs) (sym functions) (omega arith);
-      fits = subst (λ fs. IsSetOf (length fs) (set_of b)) (sym functions) (subst (IsSetOf 1) (sym set) (part_of_one r.has));
-      unnamed = subst (All (NamesNothingBelow item.at)) (sym functions) (All-cons (NamesNothingBelow item.at) f [] component.0 (All-nil (NamesNothingBelow item.at)));
-      grows = subst (λ fs. length fs ≤ growth (family_of edge) * length (functions_of item.body)) (sym functions)
-          (subst (λ n. 1 ≤ n * length (functions_of item.body)) (sym (ap growth own)) (omega (arith, valid.some)));
+      fits = subst (λ fs. IsSetOf (length fs) (set_of b)) (sym functions)
+          (subst (IsSetOf 1) (sym set) (part_of_one r.has));
+      unnamed = subst (All (NamesNothingBelow item.at)) (sym functions)
+          (All-cons (NamesNothingBelow item.at) f [] component.0
+          (All-nil (NamesNothingBelow item.at)));
+      grows = subst (λ fs. length fs ≤ growth (family_of edge) * length (functions_of item.body))
+          (sym functions)
+          (subst (λ n. 1 ≤ n * length (functions_of item.body)) (sym (ap growth own))
+          (omega (arith, valid.some)));
       leads = leads;
-      mentioned = λ v m. subst (λ fs. Miss fs v) (sym functions) (All-cons (λ g. coefficient g v ≡ zero_ℚ) f [] (component.1 v m) (All-nil (λ g. coefficient g v ≡ zero_ℚ)));
+      mentioned = λ v m. subst (λ fs. Miss fs v) (sym functions)
+          (All-cons (λ g. coefficient g v ≡ zero_ℚ) f [] (component.1 v m)
+          (All-nil (λ g. coefficient g v ≡ zero_ℚ)));
     }
 
     components : All IsComponent (functions_of item.body)
     components =
         both (functions_of item.body) (valid.others r.source.no_group)
-        (each_at (λ v f. coefficient f v ≡ zero_ℚ) (λ v. Miss (functions_of item.body) v) (functions_of item.body) (λ v m. m))
+        (each_at (λ v f. coefficient f v ≡ zero_ℚ) (λ v. Miss (functions_of item.body) v)
+        (functions_of item.body) (λ v m. m))
       where
         both : (fs : List Function) → All (NamesNothingBelow item.at) fs
-            → All (λ f. (v : Address) → Miss (functions_of item.body) v → coefficient f v ≡ zero_ℚ) fs
+            → All (λ f. (v : Address) → Miss (functions_of item.body) v → coefficient f v ≡ zero_ℚ)
+            fs
             → All IsComponent fs
         both [] h k = All-nil IsComponent
         both (f ∷ fs) h k =
-            All-cons IsComponent f fs (All-head (NamesNothingBelow item.at) f fs h, All-head (λ g. (v : Address) → Miss (functions_of item.body) v → coefficient g v ≡ zero_ℚ) f fs k)
-            (both fs (All-tail (NamesNothingBelow item.at) f fs h) (All-tail (λ g. (v : Address) → Miss (functions_of item.body) v → coefficient g v ≡ zero_ℚ) f fs k))
+            All-cons IsComponent f fs (
+              All-head (NamesNothingBelow item.at) f fs h,
+              All-head
+                  (λ g. (v : Address) → Miss (functions_of item.body) v → coefficient g v ≡ zero_ℚ) f
+                  fs k,
+            )
+            (both fs (All-tail (NamesNothingBelow item.at) f fs h)
+            (All-tail (λ g. (v : Address) → Miss (functions_of item.body) v
+            → coefficient g v ≡ zero_ℚ) f fs k))
 
     affine_rows : (c : Set) → is_scalar c ≡ true → c ≡ component_of (set_of item.body)
         → ((f : Function) → LeadsTo edge (Affine f c)) → (fs : List Function) → All IsComponent fs
@@ -329,7 +385,8 @@ module _ (edge : Edge) (own : family_of edge ≡ Scalarize) where
     affine_rows c scalar set leads [] h = All-nil (IsRowOf edge item)
     affine_rows c scalar set leads (f ∷ fs) h =
         All-cons (IsRowOf edge item) (Affine f c) (map (λ f. Affine f c) fs)
-        (row_of (Affine f c) f (record { no_group = refl; no_objective = refl }) scalar refl set (leads f) (All-head IsComponent f fs h))
+        (row_of (Affine f c) f (record { no_group = refl; no_objective = refl }) scalar refl set
+        (leads f) (All-head IsComponent f fs h))
         (affine_rows c scalar set leads fs (All-tail IsComponent f fs h))
 
     plain_rows : (c : Set) → is_scalar c ≡ true → c ≡ component_of (set_of item.body)
@@ -339,17 +396,24 @@ module _ (edge : Edge) (own : family_of edge ≡ Scalarize) where
     plain_rows c scalar set leads [] h = All-nil (IsRowOf edge item)
     plain_rows c scalar set leads (v ∷ vars) h =
         All-cons (IsRowOf edge item) (Plain v c) (map (λ v. Plain v c) vars)
-        (row_of (Plain v c) (variable v) (record { no_group = refl; no_objective = refl }) scalar refl set (leads v) (All-head IsComponent (variable v) (map (variable {R = address_cmp}) vars) h))
-        (plain_rows c scalar set leads vars (All-tail IsComponent (variable v) (map (variable {R = address_cmp}) vars) h))
+        (row_of (Plain v c) (variable v) (record { no_group = refl; no_objective = refl }) scalar
+        refl set (leads v) (All-head IsComponent (variable v)
+        (map (variable {R = address_cmp}) vars) h))
+        (plain_rows c scalar set leads vars (All-tail IsComponent (variable v)
+        (map (variable {R = address_cmp}) vars) h))
 
-    rows_by : {b : Body} → LeadsToEach edge b → set_of b ≡ set_of item.body → All IsComponent (functions_of b)
+    rows_by : {b : Body} → LeadsToEach edge b → set_of b ≡ set_of item.body
+        → All IsComponent (functions_of b)
         → All (IsRowOf edge item) (made b)
     rows_by (affine_each {funcs} {set} leads) same h =
-        affine_rows (component_of set) (subst (λ s. is_scalar (component_of s) ≡ true) (sym same) (part_scalar r.has)) (ap component_of same) leads funcs h
+        affine_rows (component_of set) (subst (λ s. is_scalar (component_of s) ≡ true) (sym same)
+        (part_scalar r.has)) (ap component_of same) leads funcs h
     rows_by (plain_each {vars} {set} leads) same h =
-        plain_rows (component_of set) (subst (λ s. is_scalar (component_of s) ≡ true) (sym same) (part_scalar r.has)) (ap component_of same) leads vars h
+        plain_rows (component_of set) (subst (λ s. is_scalar (component_of s) ≡ true) (sym same)
+        (part_scalar r.has)) (ap component_of same) leads vars h
 
-    back_held : (ys : List (List Rational)) → row_held item.body (back_of edge item ys) ≡ row_held item.body (joined ys)
+    back_held : (ys : List (List Rational))
+        → row_held item.body (back_of edge item ys) ≡ row_held item.body (joined ys)
     back_held ys = ap (row_held item.body) (back_is item ys)
 
     scalarize_rows : LeadsToEach edge item.body → MadeOfRows edge item (made item.body)
@@ -359,11 +423,17 @@ module _ (edge : Edge) (own : family_of edge ≡ Scalarize) where
       values = λ one x h below. values_in r.has r.parts one x below;
       holds = λ ys e h.
           let all = joined_held r.has r.parts ys e h in
-          subst IsHeld (sym (back_held ys)) (record { set = valid.set; size = all.size; dual = all.dual });
-      same = λ ys e h v. ap (λ k. adjoint_of k v) (back_held ys) ∙ joined_adjoint r.has r.parts ys e h v;
+          subst IsHeld (sym (back_held ys)) (record {
+            set = valid.set;
+            size = all.size;
+            dual = all.dual;
+          });
+      same = λ ys e h v. ap (λ k. adjoint_of k v) (back_held ys)
+          ∙ joined_adjoint r.has r.parts ys e h v;
       gaps = λ ys e h.
           ≤ℚ_from_≡ _ _ (joined_gap r.has r.parts ys e h
-          ∙ ap (λ l. l -ℚ dot (joined ys) (constants (functions_of item.body))) (sym (low_parts r.has (joined ys) []).0)
+          ∙ ap (λ l. l -ℚ dot (joined ys) (constants (functions_of item.body)))
+          (sym (low_parts r.has (joined ys) []).0)
           ∙ sym (ap gap_of (back_held ys)));
     }
 
@@ -371,7 +441,8 @@ module _ (edge : Edge) (own : family_of edge ≡ Scalarize) where
   law_at item suits =
       let source = sourced edge own item.body suits.valid.function suits.kind in
       subst (EdgeLaw edge item) (sym (image_is item))
-      (rows_law edge item (made item.body) (scalarize_rows item suits.valid (read source.row) source.leads))
+      (rows_law edge item (made item.body) (scalarize_rows item suits.valid (read source.row)
+      source.leads))
 
 pub scalarize_lawful : IsLawful Scalarize
 scalarize_lawful = lawful_family Scalarize law_at
@@ -379,25 +450,33 @@ scalarize_lawful = lawful_family Scalarize law_at
 -- ---- one more
 
 pub children_more : (item : Item) (k : ℕ) (bodies : List Body) (b : Body)
-    → children_from item k (bodies ++ b ∷ []) ≡ children_from item k bodies ++ child_at item (k + length bodies) b ∷ []
-children_more item k [] b = let same : k ≡ k + 0 = omega arith in ap (λ n. child_at item n b ∷ []) same
+    → children_from item k (bodies ++ b ∷ [])
+    ≡ children_from item k bodies ++ child_at item (k + length bodies) b ∷ []
+children_more item k [] b =
+    let same : k ≡ k + 0 = omega arith in ap (λ n. child_at item n b ∷ []) same
 children_more item k (c ∷ bodies) b =
     let later : (k + 1) + length bodies ≡ k + length (c ∷ bodies) = omega arith in
     ap (λ l. child_at item k c ∷ l)
-    (children_more item (k + 1) bodies b ∙ ap (λ n. children_from item (k + 1) bodies ++ child_at item n b ∷ []) later)
+    (children_more item (k + 1) bodies b
+    ∙ ap (λ n. children_from item (k + 1) bodies ++ child_at item n b ∷ []) later)
 
-pub joined_more : (ys : List (List Rational)) (y : List Rational) → joined (ys ++ y ∷ []) ≡ joined ys ++ y
+pub joined_more : (ys : List (List Rational)) (y : List Rational)
+    → joined (ys ++ y ∷ []) ≡ joined ys ++ y
 joined_more [] y = append-nil y
 joined_more (z ∷ ys) y = ap (λ l. z ++ l) (joined_more ys y) ∙ sym (append_assoc z (joined ys) y)
 
-pub rows_step : {X : Type 0} (item : Item) (mk : X → Body) (xs : List X) (n : ℕ) (x : X) (rows : List Item)
+pub rows_step : {X : Type 0} (item : Item) (mk : X → Body) (xs : List X) (n : ℕ) (x : X)
+    (rows : List Item)
     → n < length xs → x ≡ slice_index_or xs n x → rows ≡ children_from item 0 (map mk (take n xs))
     → rows ++ child_at item n (mk x) ∷ [] ≡ children_from item 0 (map mk (take (n + 1) xs))
 rows_step item mk xs n x rows h is made_so_far =
-    let count : n ≡ 0 + length (map mk (take n xs)) = omega (arith, length-map (take n xs) mk, length-take n xs, h) in
+    let count : n ≡ 0 + length (map mk (take n xs)) =
+    omega (arith, length-map (take n xs) mk, length-take n xs, h) in
     ap₂ (λ r k. r ++ child_at item k (mk x) ∷ []) made_so_far count
     ∙ sym (children_more item 0 (map mk (take n xs)) (mk x))
-    ∙ ap (children_from item 0) (sym (ap (map mk) (take_more xs n x h ∙ ap (λ y. take n xs ++ y ∷ []) (sym is)) ∙ map-append mk (take n xs) (x ∷ [])))
+    ∙ ap (children_from item 0) (sym (ap (map mk)
+    (take_more xs n x h ∙ ap (λ y. take n xs ++ y ∷ []) (sym is))
+    ∙ map-append mk (take n xs) (x ∷ [])))
 
 pub joined_step : (ys : List (List Rational)) (n : ℕ) (y : List Rational) (all : List Rational)
     → n < length ys → y ≡ slice_index_or ys n y → all ≡ joined (take n ys)
@@ -406,16 +485,19 @@ joined_step ys n y all h is so_far =
     ap (λ l. l ++ y) so_far ∙ sym (joined_more (take n ys) y)
     ∙ ap joined (sym (take_more ys n y h ∙ ap (λ z. take n ys ++ z ∷ []) (sym is)))
 
-parts_length : {c : Set} {fs : List Function} {bodies : List Body} → AreParts c fs bodies → length bodies ≡ length fs
+parts_length : {c : Set} {fs : List Function} {bodies : List Body} → AreParts c fs bodies
+    → length bodies ≡ length fs
 parts_length no_parts = refl
 parts_length (part row functions set rest) = ap suc (parts_length rest)
 
 -- as many rows as components
-pub row_count : (edge : Edge) (own : family_of edge ≡ Scalarize) (item : Item) → FitsItsFunction item.body
+pub row_count : (edge : Edge) (own : family_of edge ≡ Scalarize) (item : Item)
+    → FitsItsFunction item.body
     → kind_of_body item.body ≡ source_of edge
     → length (functions_of item.body) ≡ length (children_from item 0 (made item.body))
 row_count edge own item h k =
-    sym (length-children_from item 0 (made item.body) ∙ parts_length (read (is_cone_row edge own item.body h k)).parts)
+    sym (length-children_from item 0 (made item.body)
+    ∙ parts_length (read (is_cone_row edge own item.body h k)).parts)
 
 abbrev pub record_at : Address → Body → Item
 record_at at b = record { at = at; body = b }

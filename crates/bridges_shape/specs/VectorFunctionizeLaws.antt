@@ -122,7 +122,8 @@ module _ (edge : Edge) (own : family_of edge ≡ VectorFunctionize) where
   law_at : Lawful edge
   law_at item suits =
       subst (EdgeLaw edge item) (sym (image_is item))
-      (functionize_law edge item suits.valid (sourced edge own item.body suits.valid.function suits.kind) (back_is item) (ap growth own))
+      (functionize_law edge item suits.valid (sourced edge own item.body suits.valid.function
+      suits.kind) (back_is item) (ap growth own))
 
 pub vector_functionize_lawful : IsLawful VectorFunctionize
 vector_functionize_lawful = lawful_family VectorFunctionize law_at

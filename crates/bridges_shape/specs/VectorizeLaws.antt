@@ -36,8 +36,10 @@ use Rattle.bridges_shape.specs.RaisedLaws.{HasNumber, at_least, at_most, cone_of
 
 -- a plain or an affine row in a set with one number
 pub data IsNumberRow : Body → Type 0 where
-  plain : {var : Address} {set : Set} → HasNumber set (number_in set) (cone_of set) → IsNumberRow (Plain var set)
-  affine : {func : Function} {set : Set} → HasNumber set (number_in set) (cone_of set) → IsNumberRow (Affine func set)
+  plain : {var : Address} {set : Set} → HasNumber set (number_in set) (cone_of set)
+      → IsNumberRow (Plain var set)
+  affine : {func : Function} {set : Set} → HasNumber set (number_in set) (cone_of set)
+      → IsNumberRow (Affine func set)
 
 -- the function less the number
 abbrev pub lowered : Body → Function
@@ -58,8 +60,10 @@ record Read (b : Body) : Type 0 where
   has : HasNumber (set_of b) (number_in (set_of b)) (cone_of (set_of b))
 
 read : {b : Body} → IsNumberRow b → Read b
-read (plain has) = record { source = record { no_group = refl; no_objective = refl }; functions = refl; has = has }
-read (affine has) = record { source = record { no_group = refl; no_objective = refl }; functions = refl; has = has }
+read (plain has) =
+    record { source = record { no_group = refl; no_objective = refl }; functions = refl; has = has }
+read (affine has) =
+    record { source = record { no_group = refl; no_objective = refl }; functions = refl; has = has }
 
 -- of which the edge makes a row of the kind that it leads to
 record Sourced (edge : Edge) (b : Body) : Type 0 where
@@ -113,22 +117,27 @@ abbrev one_held : List Rational → Function → Set → Held
 one_held w f set = record { duals = w; functions = f ∷ []; set = set }
 
 module _ (f : Function) {S C : Set} {a : Rational} (has : HasNumber S a C) where
-  same_gap : (y : List Rational) → gap_of (one_held y (raised f (neg_ℚ a)) C) ≡ gap_of (one_held y f S)
+  same_gap : (y : List Rational)
+      → gap_of (one_held y (raised f (neg_ℚ a)) C) ≡ gap_of (one_held y f S)
   same_gap [] =
-      ap (λ q. q -ℚ zero_ℚ) (low_cone has []) ∙ gap_none a ∙ ap (λ q. q -ℚ zero_ℚ) (sym (low_none has))
+      ap (λ q. q -ℚ zero_ℚ) (low_cone has []) ∙ gap_none a
+      ∙ ap (λ q. q -ℚ zero_ℚ) (sym (low_none has))
   same_gap (q ∷ y) =
       ap (λ r. r -ℚ (q *ℚ (f.constant +ℚ neg_ℚ a) +ℚ dot y [])) (low_cone has (q ∷ y))
       ∙ gap_number a f.constant q (dot y [])
       ∙ ap (λ r. r -ℚ (q *ℚ f.constant +ℚ dot y [])) (sym (low_first has q y))
 
-  held_up : (y : List Rational) → IsHeld (one_held y (raised f (neg_ℚ a)) C) → IsHeld (one_held y f S)
+  held_up : (y : List Rational) → IsHeld (one_held y (raised f (neg_ℚ a)) C)
+      → IsHeld (one_held y f S)
   held_up [] h = absurd (omega (arith, h.size))
   held_up (q ∷ []) h = record { set = set_of_one has; size = refl; dual = in_dual has q h.dual }
   held_up (q ∷ (r ∷ y)) h = absurd (omega (arith, h.size))
 
-  holds_up : (one : Rational) (x : Address → Rational) → Holds one (one_held [] (raised f (neg_ℚ a)) C) x
+  holds_up : (one : Rational) (x : Address → Rational)
+      → Holds one (one_held [] (raised f (neg_ℚ a)) C) x
       → Holds one (one_held [] f S) x
-  holds_up one x h = in_set has one (evaluated one f x) (subst (λ q. In (multiplied one C) (q ∷ [])) (evaluated-lowered one f a x) h)
+  holds_up one x h = in_set has one (evaluated one f x)
+      (subst (λ q. In (multiplied one C) (q ∷ [])) (evaluated-lowered one f a x) h)
 
 -- ---- the law
 
@@ -153,44 +162,58 @@ module _ (edge : Edge) (own : family_of edge ≡ Vectorize) where
   unfolding BackFitsBy
   back_fits item ys = subst (λ f. BackFitsBy f item ys) (sym own) tt
 
-  pub is_number_row : (b : Body) → FitsItsFunction b → kind_of_body b ≡ source_of edge → IsNumberRow b
+  pub is_number_row : (b : Body) → FitsItsFunction b → kind_of_body b ≡ source_of edge
+      → IsNumberRow b
   is_number_row b h k = (sourced edge own b h k).row
 
-  module _ (item : Item) (valid : IsValidItem item) (r : Read item.body) (leads : LeadsTo edge (made item.body)) where
+  module _ (item : Item) (valid : IsValidItem item) (r : Read item.body)
+      (leads : LeadsTo edge (made item.body)) where
     f : Function
     f = function_of_body item.body
 
     -- the item with duals, its function alone
-    item_is : (y : List Rational) → row_held item.body y ≡ one_held y (function_of_body item.body) (set_of item.body)
+    item_is : (y : List Rational)
+        → row_held item.body y ≡ one_held y (function_of_body item.body) (set_of item.body)
     item_is y = ap (λ fs. record { duals = y; functions = fs; set = set_of item.body }) r.functions
 
     back_held : (y : List Rational)
-        → row_held item.body (back_of edge item (y ∷ [])) ≡ one_held y (function_of_body item.body) (set_of item.body)
+        → row_held item.body (back_of edge item (y ∷ []))
+        ≡ one_held y (function_of_body item.body) (set_of item.body)
     back_held y = ap (row_held item.body) (back_is item y) ∙ item_is y
 
     is_one_row : OneRow edge item (made item.body)
     is_one_row = record {
       source = r.source;
       made = record { no_group = refl; no_objective = refl };
-      values = λ one x h below. subst (λ k. Holds one k x) (sym (item_is [])) (holds_up (function_of_body item.body) r.has one x below);
-      holds = λ y h. subst IsHeld (sym (back_held y)) (held_up (function_of_body item.body) r.has y h);
+      values = λ one x h below. subst (λ k. Holds one k x) (sym (item_is []))
+          (holds_up (function_of_body item.body) r.has one x below);
+      holds =
+          λ y h. subst IsHeld (sym (back_held y)) (held_up (function_of_body item.body) r.has y h);
       same = λ y h v. ap (λ k. adjoint_of k v) (back_held y);
-      gaps = λ y h. ≤ℚ_from_≡ _ _ (same_gap (function_of_body item.body) r.has y ∙ sym (ap gap_of (back_held y)));
+      gaps = λ y h. ≤ℚ_from_≡ _ _ (same_gap (function_of_body item.body) r.has y
+          ∙ sym (ap gap_of (back_held y)));
       valid = λ room few. record {
         function = cone_of_vectors r.has;
         some = omega arith;
         at_most = few;
         set = cone_of_one r.has;
-        depth = subst (λ n. n ≤ 38) (sym (length-append item.at.positions (0 ∷ []))) (omega (arith, room));
+        depth = subst (λ n. n ≤ 38) (sym (length-append item.at.positions (0 ∷ [])))
+            (omega (arith, room));
         others = λ _.
-            let unnamed = subst (All (NamesNothingBelow (child_of item.at 0))) r.functions (all_unnamed_below item.at 0 (functions_of item.body) (valid.others r.source.no_group)) in
-            All-cons (NamesNothingBelow (child_of item.at 0)) (lowered item.body) [] (All-head (NamesNothingBelow (child_of item.at 0)) (function_of_body item.body) [] unnamed) (All-nil (NamesNothingBelow (child_of item.at 0)));
+            let unnamed = subst (All (NamesNothingBelow (child_of item.at 0))) r.functions
+            (all_unnamed_below item.at 0 (functions_of item.body)
+            (valid.others r.source.no_group)) in
+            All-cons (NamesNothingBelow (child_of item.at 0)) (lowered item.body) []
+            (All-head (NamesNothingBelow (child_of item.at 0)) (function_of_body item.body) []
+            unnamed) (All-nil (NamesNothingBelow (child_of item.at 0)));
       };
-      sizes = subst (λ n. 1 ≤ n * length (functions_of item.body)) (sym (ap growth own)) (omega (arith, ap length r.functions));
+      sizes = subst (λ n. 1 ≤ n * length (functions_of item.body)) (sym (ap growth own))
+          (omega (arith, ap length r.functions));
       leads = leads;
       mentioned = λ v m.
           All-cons (λ g. coefficient g v ≡ zero_ℚ) (lowered item.body) []
-          (All-head (λ g. coefficient g v ≡ zero_ℚ) (function_of_body item.body) [] (subst (λ fs. Miss fs v) r.functions m))
+          (All-head (λ g. coefficient g v ≡ zero_ℚ) (function_of_body item.body) []
+          (subst (λ fs. Miss fs v) r.functions m))
           (All-nil (λ g. coefficient g v ≡ zero_ℚ));
     }
 
@@ -198,7 +221,8 @@ module _ (edge : Edge) (own : family_of edge ≡ Vectorize) where
   law_at item suits =
       let source = sourced edge own item.body suits.valid.function suits.kind in
       subst (EdgeLaw edge item) (sym (image_is item))
-      (one_row_law edge item (made item.body) (is_one_row item suits.valid (read source.row) source.leads))
+      (one_row_law edge item (made item.body) (is_one_row item suits.valid (read source.row)
+      source.leads))
 
 pub vectorize_lawful : IsLawful Vectorize
 vectorize_lawful = lawful_family Vectorize law_at

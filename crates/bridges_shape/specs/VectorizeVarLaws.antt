@@ -40,7 +40,8 @@ use Rattle.bridges_shape.specs.RaisedLaws.{HasNumber, at_least, at_most, cone_of
 
 -- a group in a set with one number
 pub data IsNumberGroup : Body → Type 0 where
-  group : {vars : List Address} {set : Set} → HasNumber set (number_in set) (cone_of set) → IsNumberGroup (Group set vars)
+  group : {vars : List Address} {set : Set} → HasNumber set (number_in set) (cone_of set)
+      → IsNumberGroup (Group set vars)
 
 -- what is read of it
 record Read (b : Body) : Type 0 where
@@ -84,9 +85,11 @@ no_gap = ring₂ _ (λ ρ. simp (as_expression, zero_as ρ) (by_ring ρ _ _ refl
 
 -- a variable with this constant
 pub raised-variable : (v : Address) (q : Rational)
-    → record (variable {R = address_cmp} v) { constant = q } ≡ raised (variable {R = address_cmp} v) q
+    → record (variable {R = address_cmp} v) { constant = q }
+    ≡ raised (variable {R = address_cmp} v) q
 raised-variable v q =
-    ap (λ k. record (variable {R = address_cmp} v) { constant = k }) (sym (zero-+ℚ q) ∙ ap (λ z. z +ℚ q) (sym (constant-variable v)))
+    ap (λ k. record (variable {R = address_cmp} v) { constant = k })
+    (sym (zero-+ℚ q) ∙ ap (λ z. z +ℚ q) (sym (constant-variable v)))
 
 -- ---- the law
 
@@ -103,13 +106,15 @@ module _ (edge : Edge) (own : family_of edge ≡ VectorizeVar) where
   unfolding BackFitsBy
   back_fits item ys = subst (λ f. BackFitsBy f item ys) (sym own) tt
 
-  pub is_number_group : (b : Body) → FitsItsFunction b → kind_of_body b ≡ source_of edge → IsNumberGroup b
+  pub is_number_group : (b : Body) → FitsItsFunction b → kind_of_body b ≡ source_of edge
+      → IsNumberGroup b
   is_number_group b h k = (sourced edge own b h k).group
 
   -- it is no row, to which duals would be carried
   pub no_row : (item : Item) → IsItemFor edge item → is_group item.body ≡ false → ⊥
   no_row item suits none =
-      true≢false (sym (read (is_number_group item.body suits.valid.function suits.kind)).source ∙ none)
+      true≢false (sym (read (is_number_group item.body suits.valid.function suits.kind)).source
+      ∙ none)
 
   -- so is an image that is made of these parts
   pub image_made : (item : Item) (set : Set) (cone : Set) (number : Rational) (vars : List Address)
@@ -118,10 +123,14 @@ module _ (edge : Edge) (own : family_of edge ≡ VectorizeVar) where
       → exprs ≡ Bridged (raised (variable (child_of (child_of item.at 0) 0)) number) ∷ []
       → child ≡ child_at item 0 (Group cone vars) → image ≡ group_by (child ∷ []) exprs
       → image ≡ image_of edge item
-  image_made item set cone number vars exprs child image set_is cone_is number_is vars_are exprs_are group_is image_of_parts =
+  image_made item set cone number vars exprs child image set_is cone_is number_is vars_are exprs_are
+      group_is image_of_parts =
       image_of_parts ∙ ap₂ (λ g es. group_by (g ∷ []) es) group_is exprs_are
-      ∙ ap (λ vs. group_by (child_at item 0 (Group cone vs) ∷ []) (Bridged (raised (variable (child_of (child_of item.at 0) 0)) number) ∷ [])) vars_are
-      ∙ ap₂ (λ k n. group_by (child_at item 0 (Group k (inner item 1)) ∷ []) (Bridged (raised (variable (child_of (child_of item.at 0) 0)) n) ∷ [])) (cone_is ∙ ap cone_of set_is) (number_is ∙ ap number_in set_is)
+      ∙ ap (λ vs. group_by (child_at item 0 (Group cone vs) ∷ [])
+      (Bridged (raised (variable (child_of (child_of item.at 0) 0)) number) ∷ [])) vars_are
+      ∙ ap₂ (λ k n. group_by (child_at item 0 (Group k (inner item 1)) ∷ [])
+      (Bridged (raised (variable (child_of (child_of item.at 0) 0)) n) ∷ []))
+      (cone_is ∙ ap cone_of set_is) (number_is ∙ ap number_in set_is)
       ∙ sym (image_is item)
 
   module _ (item : Item) (valid : IsValidItem item) (r : Read item.body)
@@ -145,7 +154,8 @@ module _ (edge : Edge) (own : family_of edge ≡ VectorizeVar) where
     value_is : (one : Rational) (x : Address → Rational)
         → evaluated one (raised (variable s) a) x -ℚ one *ℚ a ≡ x s
     value_is one x =
-        ap (λ k. (one *ℚ (k +ℚ a) +ℚ slope {R = address_cmp} (variable {R = address_cmp} s) x) -ℚ one *ℚ a) (constant-variable s)
+        ap (λ k. (one *ℚ (k +ℚ a) +ℚ slope {R = address_cmp} (variable {R = address_cmp} s) x)
+        -ℚ one *ℚ a) (constant-variable s)
         ∙ ap (λ k. (one *ℚ (zero_ℚ +ℚ a) +ℚ k) -ℚ one *ℚ a) (slope_variable s x)
         ∙ shed one a (x s)
       where
@@ -155,15 +165,18 @@ module _ (edge : Edge) (own : family_of edge ≡ VectorizeVar) where
     weighed_is : (w : List Rational) → length w ≡ 1 → weighed w fs (inner item 1) ≡ w
     weighed_is w e = weighed_components (child_of item.at 0) 1 w e
 
-    dual_one : (w : List Rational) → length w ≡ 1 → Dual (cone_of (set_of item.body)) w → Dual (set_of item.body) w
+    dual_one : (w : List Rational) → length w ≡ 1 → Dual (cone_of (set_of item.body)) w
+        → Dual (set_of item.body) w
     dual_one [] e h = absurd (omega (arith, e))
     dual_one (q ∷ []) e h = in_dual r.has q h
     dual_one (q ∷ (p ∷ w)) e h = absurd (omega (arith, e))
 
-    gap_one : (w : List Rational) → length w ≡ 1 → zero_ℚ ≡ low_of (set_of item.body) w -ℚ dot w (constants fs)
+    gap_one : (w : List Rational) → length w ≡ 1
+        → zero_ℚ ≡ low_of (set_of item.body) w -ℚ dot w (constants fs)
     gap_one [] e = absurd (omega (arith, e))
     gap_one (q ∷ []) e =
-        no_gap a q ∙ ap₂ (λ l k. l -ℚ (q *ℚ (k +ℚ a) +ℚ zero_ℚ)) (sym (low_first r.has q [])) (sym (constant-variable s))
+        no_gap a q ∙ ap₂ (λ l k. l -ℚ (q *ℚ (k +ℚ a) +ℚ zero_ℚ)) (sym (low_first r.has q []))
+        (sym (constant-variable s))
     gap_one (q ∷ (p ∷ w)) e = absurd (omega (arith, e))
 
     one_group : OneGroup edge item (cone_of (set_of item.body)) 1 fs
@@ -173,14 +186,18 @@ module _ (edge : Edge) (own : family_of edge ≡ VectorizeVar) where
       size = sym one_component;
       named = λ v absent.
           All-cons (λ f. coefficient f v ≡ zero_ℚ) (raised (variable s) a) []
-          (All-head (λ f. coefficient f v ≡ zero_ℚ) (variable s) [] (variables_missed (inner item 1) v (not_contained (inner item 1) v absent)))
+          (All-head (λ f. coefficient f v ≡ zero_ℚ) (variable s) []
+          (variables_missed (inner item 1) v (not_contained (inner item 1) v absent)))
           (All-nil (λ f. coefficient f v ≡ zero_ℚ));
-      values = λ one x h below. in_set r.has one (evaluated one (raised (variable s) a) x) (subst (λ q. In (multiplied one (cone_of (set_of item.body))) (q ∷ [])) (sym (value_is one x)) below);
+      values = λ one x h below. in_set r.has one (evaluated one (raised (variable s) a) x)
+          (subst (λ q. In (multiplied one (cone_of (set_of item.body))) (q ∷ []))
+          (sym (value_is one x)) below);
       dual = λ w e h. dual_one w e (subst (Dual (cone_of (set_of item.body))) (weighed_is w e) h);
       gaps = λ w e h. low_cone r.has (weighed w fs (inner item 1)) ∙ gap_one w e;
       some = omega arith;
       fits = cone_of_one r.has;
-      grows = subst (λ n. 1 ≤ n * length (functions_of item.body)) (sym (ap growth own)) (omega (arith, one_component));
+      grows = subst (λ n. 1 ≤ n * length (functions_of item.body)) (sym (ap growth own))
+          (omega (arith, one_component));
       leads = leads (inner item 1);
     }
 
@@ -188,7 +205,9 @@ module _ (edge : Edge) (own : family_of edge ≡ VectorizeVar) where
   law_at item suits =
       let source = sourced edge own item.body suits.valid.function suits.kind in
       subst (EdgeLaw edge item) (sym (image_is item))
-      (one_group_law edge item (cone_of (set_of item.body)) 1 (raised (variable (child_of (child_of item.at 0) 0)) (number_in (set_of item.body)) ∷ []) (one_group item suits.valid (read source.group) source.leads))
+      (one_group_law edge item (cone_of (set_of item.body)) 1
+      (raised (variable (child_of (child_of item.at 0) 0)) (number_in (set_of item.body)) ∷ [])
+      (one_group item suits.valid (read source.group) source.leads))
 
 pub vectorize_var_lawful : IsLawful VectorizeVar
 vectorize_var_lawful = lawful_family VectorizeVar law_at

@@ -61,8 +61,10 @@ record IsOfFree (b : Body) (ss : List Address) : Type 0 where
   named : variables_of b ≡ ss
   set : set_of b ≡ Reals (length ss)
 
-of_free : (free : Bool) (d : ℕ) (ss : List Address) → length ss ≡ d → IsOfFree (first_child free d ss) ss
-of_free true d ss e = record { group = refl; shaped = tt; functions = refl; named = refl; set = refl }
+of_free : (free : Bool) (d : ℕ) (ss : List Address) → length ss ≡ d
+    → IsOfFree (first_child free d ss) ss
+of_free true d ss e =
+    record { group = refl; shaped = tt; functions = refl; named = refl; set = refl }
 of_free false d ss e =
     record { group = refl; shaped = tt; functions = refl; named = refl; set = ap Reals (sym e) }
 
@@ -76,13 +78,33 @@ record IsOfRow (b : Body) (ss : List Address) (set : Set) : Type 0 where
 of_row : (free scalar : Bool) (v : Address) (ss : List Address) (set : Set) → is_scalar set ≡ scalar
     → (scalar ≡ true → ss ≡ v ∷ []) → IsOfRow (second_child free scalar v ss set) ss set
 of_row true true v ss set s one =
-    record { row = record { no_group = refl; no_objective = refl }; shaped = s; functions = ap variables (sym (one refl)); same_set = refl }
+    record {
+      row = record { no_group = refl; no_objective = refl };
+      shaped = s;
+      functions = ap variables (sym (one refl));
+      same_set = refl;
+    }
 of_row true false v ss set s one =
-    record { row = record { no_group = refl; no_objective = refl }; shaped = s; functions = refl; same_set = refl }
+    record {
+      row = record { no_group = refl; no_objective = refl };
+      shaped = s;
+      functions = refl;
+      same_set = refl;
+    }
 of_row false true v ss set s one =
-    record { row = record { no_group = refl; no_objective = refl }; shaped = s; functions = ap variables (sym (one refl)); same_set = refl }
+    record {
+      row = record { no_group = refl; no_objective = refl };
+      shaped = s;
+      functions = ap variables (sym (one refl));
+      same_set = refl;
+    }
 of_row false false v ss set s one =
-    record { row = record { no_group = refl; no_objective = refl }; shaped = s; functions = refl; same_set = refl }
+    record {
+      row = record { no_group = refl; no_objective = refl };
+      shaped = s;
+      functions = refl;
+      same_set = refl;
+    }
 
 -- ---- the law, over the two
 
@@ -134,23 +156,29 @@ module _ (edge : Edge) (item : Item) (group row : Body) (l : IsLater edge item g
   vars_long : length (variables ss) ≡ n
   vars_long = length-map ss variable ∙ long
 
-  item_is : (bound : Rational) (w : List Rational) → held_item bound item image w ≡ held_of w (variables ss) set
+  item_is : (bound : Rational) (w : List Rational)
+      → held_item bound item image w ≡ held_of w (variables ss) set
   item_is bound w =
       group_held bound item.body w (map expressed image.exprs) l.source
       ∙ ap (λ gs. held_of w gs set) (expressed-kept ss)
 
-  group_is : (bound : Rational) (g : List Rational) → held_body bound group g ≡ held_of g (variables ss) (Reals (length ss))
+  group_is : (bound : Rational) (g : List Rational)
+      → held_body bound group g ≡ held_of g (variables ss) (Reals (length ss))
   group_is bound g =
-      group_body_held bound group g l.of_group.group ∙ ap₂ (held_of g) l.of_group.functions l.of_group.set
+      group_body_held bound group g l.of_group.group
+      ∙ ap₂ (held_of g) l.of_group.functions l.of_group.set
 
-  row_is : (bound : Rational) (y : List Rational) → held_body bound row y ≡ held_of y (variables ss) set
-  row_is bound y = held_row bound row y l.of_row.row ∙ ap₂ (held_of y) l.of_row.functions l.of_row.same_set
+  row_is : (bound : Rational) (y : List Rational)
+      → held_body bound row y ≡ held_of y (variables ss) set
+  row_is bound y = held_row bound row y l.of_row.row
+      ∙ ap₂ (held_of y) l.of_row.functions l.of_row.same_set
 
   values : CarriesValues item image
   values = record {
     holds = λ no_objective one x h below.
         subst (λ k. Holds one k x) (row_is zero_ℚ [] ∙ sym (item_is zero_ℚ []))
-        (All-head (HoldsAt one x) (child_at item 1 row) [] (All-tail (HoldsAt one x) (child_at item 0 group) (child_at item 1 row ∷ []) below));
+        (All-head (HoldsAt one x) (child_at item 1 row) []
+        (All-tail (HoldsAt one x) (child_at item 0 group) (child_at item 1 row ∷ []) below));
     costs = λ one x h below. All-nil _;
   }
 
@@ -161,22 +189,28 @@ module _ (edge : Edge) (item : Item) (group row : Body) (l : IsLater edge item g
       (bound : Rational) (g y w : List Rational)
       (b : Balances bound edge item image (duals_of g y) w) where
     group_held_by : IsHeld (held_of g (variables ss) (Reals (length ss)))
-    group_held_by = subst IsHeld (group_is bound g) (All-head IsHeld (held_body bound group g) (held_body bound row y ∷ []) b.hold)
+    group_held_by = subst IsHeld (group_is bound g)
+        (All-head IsHeld (held_body bound group g) (held_body bound row y ∷ []) b.hold)
 
     row_held_by : IsHeld (held_of y (variables ss) set)
     row_held_by =
         subst IsHeld (row_is bound y)
-        (All-head IsHeld (held_body bound row y) [] (All-tail IsHeld (held_body bound group g) (held_body bound row y ∷ []) b.hold))
+        (All-head IsHeld (held_body bound row y) [] (All-tail IsHeld (held_body bound group g)
+        (held_body bound row y ∷ []) b.hold))
 
     -- the sums over the children are the row's, since the free variables' numbers are 0
-    children_at : (v : Address) → adjoint (held_children bound image (duals_of g y)) v ≡ dot y (coefficients (variables ss) v)
+    children_at : (v : Address)
+        → adjoint (held_children bound image (duals_of g y)) v
+        ≡ dot y (coefficients (variables ss) v)
     children_at v =
-        ap₂ ◌+ℚ◌ (ap (λ k. adjoint_of k v) (group_is bound g) ∙ zeros_dot g (coefficients (variables ss) v) group_held_by.dual)
+        ap₂ ◌+ℚ◌ (ap (λ k. adjoint_of k v) (group_is bound g)
+        ∙ zeros_dot g (coefficients (variables ss) v) group_held_by.dual)
         (+ℚ-zero (adjoint_of (held_body bound row y) v) ∙ ap (λ k. adjoint_of k v) (row_is bound y))
         ∙ zero-+ℚ (dot y (coefficients (variables ss) v))
 
     abbrev Agree : Address → Type 0
-    Agree v = adjoint_of (held_item bound item image w) v ≡ adjoint (held_children bound image (duals_of g y)) v
+    Agree v = adjoint_of (held_item bound item image w) v
+        ≡ adjoint (held_children bound image (duals_of g y)) v
 
     balance : All Agree ss
     balance = subst (All Agree) (append-nil (variables_of group) ∙ l.of_group.named) b.inner
@@ -187,18 +221,24 @@ module _ (edge : Edge) (item : Item) (group row : Body) (l : IsLater edge item g
     w_is : w ≡ y
     w_is =
         sym (weighed_components (child_of item.at 0) n w w_long)
-        ∙ map_same_on (λ v. dot w (coefficients (variables ss) v)) (λ v. dot y (coefficients (variables ss) v)) ss
-        (All-weaker Agree (λ v. dot w (coefficients (variables ss) v) ≡ dot y (coefficients (variables ss) v))
+        ∙ map_same_on (λ v. dot w (coefficients (variables ss) v))
+        (λ v. dot y (coefficients (variables ss) v)) ss
+        (All-weaker Agree (λ v. dot w (coefficients (variables ss) v)
+        ≡ dot y (coefficients (variables ss) v))
         (λ v e. sym (ap (λ k. adjoint_of k v) (item_is bound w)) ∙ e ∙ children_at v) ss balance)
         ∙ weighed_components (child_of item.at 0) n y (row_held_by.size ∙ vars_long)
 
     same_held : held_item bound item image w ≡ held_of y (variables ss) set
     same_held = item_is bound w ∙ ap (λ u. held_of u (variables ss) set) w_is
 
-    gaps_are : gap (held_children bound image (duals_of g y)) ≡ gap_of (held_of y (variables ss) set)
+    gaps_are : gap (held_children bound image (duals_of g y))
+        ≡ gap_of (held_of y (variables ss) set)
     gaps_are =
         ap₂ ◌+ℚ◌
-        (ap gap_of (group_is bound g) ∙ ap (λ q. zero_ℚ -ℚ q) (dot_zeros g (constants (variables ss)) (constants-variables ss)) ∙ -ℚ-itself zero_ℚ)
+        (ap gap_of (group_is bound g)
+        ∙ ap (λ q. zero_ℚ
+        -ℚ q) (dot_zeros g (constants (variables ss)) (constants-variables ss))
+        ∙ -ℚ-itself zero_ℚ)
         (+ℚ-zero (gap_of (held_body bound row y)) ∙ ap gap_of (row_is bound y))
         ∙ zero-+ℚ (gap_of (held_of y (variables ss) set))
 
@@ -232,8 +272,13 @@ module _ (edge : Edge) (item : Item) (group row : Body) (l : IsLater edge item g
     at_most = few;
     set =
         subst (λ m. IsSetOf m (set_of group)) (sym group_size)
-        (subst (IsSetOf n) (sym l.of_group.set) (record { dimension = long; enough = l.item_valid.some; uncrossed = refl }));
-    depth = subst (λ m. m ≤ 38) (sym (length-append item.at.positions (0 ∷ []))) (omega (arith, room));
+        (subst (IsSetOf n) (sym l.of_group.set) (record {
+          dimension = long;
+          enough = l.item_valid.some;
+          uncrossed = refl;
+        }));
+    depth =
+        subst (λ m. m ≤ 38) (sym (length-append item.at.positions (0 ∷ []))) (omega (arith, room));
     others = λ none. absurd (true≢false (sym l.of_group.group ∙ none));
   }
 
@@ -241,27 +286,33 @@ module _ (edge : Edge) (item : Item) (group row : Body) (l : IsLater edge item g
   row_valid room =
       second_row_valid item row l.of_row.shaped
       (subst (λ m. 1 ≤ m) (sym row_size) l.item_valid.some)
-      (subst (λ m. IsSetOf m (set_of row)) (sym row_size) (subst (IsSetOf n) (sym l.of_row.same_set) l.item_valid.set))
-      (subst (All (NamesNothingBelow (child_of item.at 1))) (sym l.of_row.functions) (components_apart item.at 1 n (omega arith)))
+      (subst (λ m. IsSetOf m (set_of row)) (sym row_size)
+      (subst (IsSetOf n) (sym l.of_row.same_set) l.item_valid.set))
+      (subst (All (NamesNothingBelow (child_of item.at 1))) (sym l.of_row.functions)
+      (components_apart item.at 1 n (omega arith)))
       room
 
   has_them : HasComponents (child_at item 0 group)
   has_them =
       l.of_group.named
-      ∙ sym (ap (λ m. map (child_of (child_of item.at 0)) (range_with_len 0 m)) (ap length l.of_group.named ∙ long))
+      ∙ sym (ap (λ m. map (child_of (child_of item.at 0)) (range_with_len 0 m))
+      (ap length l.of_group.named ∙ long))
 
   abbrev both : (P : Item → Type 0) → P (child_at item 0 group) → P (child_at item 1 row)
       → All P (child_at item 0 group ∷ child_at item 1 row ∷ [])
-  both P p q = All-cons P (child_at item 0 group) (child_at item 1 row ∷ []) p (All-cons P (child_at item 1 row) [] q (All-nil P))
+  both P p q = All-cons P (child_at item 0 group) (child_at item 1 row ∷ []) p
+      (All-cons P (child_at item 1 row) [] q (All-nil P))
 
-  grows : (b : Body) → length (functions_of b) ≡ n → length (functions_of b) ≤ growth (family_of edge) * n
+  grows : (b : Body) → length (functions_of b) ≡ n
+      → length (functions_of b) ≤ growth (family_of edge) * n
   grows b e = subst (λ m. length (functions_of b) ≤ m * n) (sym l.no_growth) (omega (arith, e))
 
   -- what isn't among the child group's variables
   absent_from : (v : Address) → ¬ (Contains (inner_of image.groups) v) → Miss (variables ss) v
   absent_from v absent =
       variables_missed ss v
-      (not_contained ss v (λ there. absent (subst (λ us. Contains us v) (sym (append-nil (variables_of group) ∙ l.of_group.named)) there)))
+      (not_contained ss v (λ there. absent (subst (λ us. Contains us v)
+      (sym (append-nil (variables_of group) ∙ l.of_group.named)) there)))
 
   later_law : EdgeLaw edge item image
   later_law = record {
@@ -269,12 +320,16 @@ module _ (edge : Edge) (item : Item) (group row : Body) (l : IsLater edge item g
     duals = λ bound duals w b. covered bound duals.groups duals.rows duals.objective w b;
     positions = refl;
     valid = λ room. both IsValidWithin (group_valid room) (row_valid room);
-    sizes = both (GrowsBy (growth (family_of edge)) item) (grows group group_size) (grows row row_size);
+    sizes =
+        both (GrowsBy (growth (family_of edge)) item) (grows group group_size) (grows row row_size);
     kinds = both (λ child. LeadsTo edge child.body) l.group_leads l.row_leads;
     components = All-cons HasComponents (child_at item 0 group) [] has_them (All-nil HasComponents);
-    mentioned = All-cons (MentionsKnown item image) (child_at item 1 row) [] (λ v m absent. subst (λ fs. Miss fs v) (sym l.of_row.functions) (absent_from v absent)) (All-nil (MentionsKnown item image));
+    mentioned = All-cons (MentionsKnown item image) (child_at item 1 row) []
+        (λ v m absent. subst (λ fs. Miss fs v) (sym l.of_row.functions) (absent_from v absent))
+        (All-nil (MentionsKnown item image));
     exprs = λ _. length-map ss Kept ∙ long;
-    expressed = λ v absent. subst (λ fs. Miss fs v) (sym (expressed-kept ss)) (absent_from v absent);
+    expressed =
+        λ v absent. subst (λ fs. Miss fs v) (sym (expressed-kept ss)) (absent_from v absent);
   }
 
 -- ---- what an edge of the family leads from
@@ -286,52 +341,125 @@ record Sourced (edge : Edge) (b : Body) : Type 0 where
   free : Bool
   free_is : begins_free (children_of edge) ≡ free
   group_leads : (d : ℕ) (ss : List Address) → LeadsTo edge (first_child free d ss)
-  row_leads : (v : Address) (ss : List Address) → LeadsTo edge (second_child free scalar v ss (set_of b))
+  row_leads : (v : Address) (ss : List Address)
+      → LeadsTo edge (second_child free scalar v ss (set_of b))
 
 from_less_than : {b : Body} → OfKind kind.GroupLessThan b → Sourced E49 b
 unfolding edge_entry kind_of_body
 from_less_than group_less_than =
-    record { group = refl; scalar = true; scalar_is = refl; free = true; free_is = refl; group_leads = λ d ss. refl; row_leads = λ v ss. refl }
+    record {
+      group = refl;
+      scalar = true;
+      scalar_is = refl;
+      free = true;
+      free_is = refl;
+      group_leads = λ d ss. refl;
+      row_leads = λ v ss. refl;
+    }
 
 from_greater_than : {b : Body} → OfKind kind.GroupGreaterThan b → Sourced E50 b
 unfolding edge_entry kind_of_body
 from_greater_than group_greater_than =
-    record { group = refl; scalar = true; scalar_is = refl; free = true; free_is = refl; group_leads = λ d ss. refl; row_leads = λ v ss. refl }
+    record {
+      group = refl;
+      scalar = true;
+      scalar_is = refl;
+      free = true;
+      free_is = refl;
+      group_leads = λ d ss. refl;
+      row_leads = λ v ss. refl;
+    }
 
 from_equal_to : {b : Body} → OfKind kind.GroupEqualTo b → Sourced E51 b
 unfolding edge_entry kind_of_body
 from_equal_to group_equal_to =
-    record { group = refl; scalar = true; scalar_is = refl; free = true; free_is = refl; group_leads = λ d ss. refl; row_leads = λ v ss. refl }
+    record {
+      group = refl;
+      scalar = true;
+      scalar_is = refl;
+      free = true;
+      free_is = refl;
+      group_leads = λ d ss. refl;
+      row_leads = λ v ss. refl;
+    }
 
 from_interval : {b : Body} → OfKind kind.GroupInterval b → Sourced E52 b
 unfolding edge_entry kind_of_body
 from_interval group_interval =
-    record { group = refl; scalar = true; scalar_is = refl; free = true; free_is = refl; group_leads = λ d ss. refl; row_leads = λ v ss. refl }
+    record {
+      group = refl;
+      scalar = true;
+      scalar_is = refl;
+      free = true;
+      free_is = refl;
+      group_leads = λ d ss. refl;
+      row_leads = λ v ss. refl;
+    }
 
 from_nonnegatives : {b : Body} → OfKind kind.GroupNonnegatives b → Sourced E53 b
 unfolding edge_entry kind_of_body
 from_nonnegatives group_nonnegatives =
-    record { group = refl; scalar = false; scalar_is = refl; free = true; free_is = refl; group_leads = λ d ss. refl; row_leads = λ v ss. refl }
+    record {
+      group = refl;
+      scalar = false;
+      scalar_is = refl;
+      free = true;
+      free_is = refl;
+      group_leads = λ d ss. refl;
+      row_leads = λ v ss. refl;
+    }
 
 affine_interval_row : {b : Body} → OfKind kind.GroupInterval b → Sourced E54 b
 unfolding edge_entry kind_of_body
 affine_interval_row group_interval =
-    record { group = refl; scalar = true; scalar_is = refl; free = false; free_is = refl; group_leads = λ d ss. refl; row_leads = λ v ss. refl }
+    record {
+      group = refl;
+      scalar = true;
+      scalar_is = refl;
+      free = false;
+      free_is = refl;
+      group_leads = λ d ss. refl;
+      row_leads = λ v ss. refl;
+    }
 
 affine_nonnegatives_row : {b : Body} → OfKind kind.GroupNonnegatives b → Sourced E55 b
 unfolding edge_entry kind_of_body
 affine_nonnegatives_row group_nonnegatives =
-    record { group = refl; scalar = false; scalar_is = refl; free = false; free_is = refl; group_leads = λ d ss. refl; row_leads = λ v ss. refl }
+    record {
+      group = refl;
+      scalar = false;
+      scalar_is = refl;
+      free = false;
+      free_is = refl;
+      group_leads = λ d ss. refl;
+      row_leads = λ v ss. refl;
+    }
 
 affine_norm_infinity_row : {b : Body} → OfKind kind.GroupNormInfinityCone b → Sourced E56 b
 unfolding edge_entry kind_of_body
 affine_norm_infinity_row group_norm_infinity_cone =
-    record { group = refl; scalar = false; scalar_is = refl; free = false; free_is = refl; group_leads = λ d ss. refl; row_leads = λ v ss. refl }
+    record {
+      group = refl;
+      scalar = false;
+      scalar_is = refl;
+      free = false;
+      free_is = refl;
+      group_leads = λ d ss. refl;
+      row_leads = λ v ss. refl;
+    }
 
 affine_norm_one_row : {b : Body} → OfKind kind.GroupNormOneCone b → Sourced E57 b
 unfolding edge_entry kind_of_body
 affine_norm_one_row group_norm_one_cone =
-    record { group = refl; scalar = false; scalar_is = refl; free = false; free_is = refl; group_leads = λ d ss. refl; row_leads = λ v ss. refl }
+    record {
+      group = refl;
+      scalar = false;
+      scalar_is = refl;
+      free = false;
+      free_is = refl;
+      group_leads = λ d ss. refl;
+      row_leads = λ v ss. refl;
+    }
 
 sourced : (edge : Edge) → family_of edge ≡ Later
     → (b : Body) → FitsItsFunction b → kind_of_body b ≡ source_of edge → Sourced edge b
@@ -363,17 +491,21 @@ row_of free ss set = cond free (plain ss set) (affine (variables ss) set)
 
 plain_is : (scalar : Bool) (v : Address) (ss : List Address) (set : Set) → is_scalar set ≡ scalar
     → (scalar ≡ true → ss ≡ v ∷ []) → plain ss set ≡ second_child true scalar v ss set
-plain_is true v us t s one = ap (λ ws. plain ws t) (one refl) ∙ ap (λ b. cond b (Plain v t) (PlainVec (v ∷ []) t)) s
+plain_is true v us t s one = ap (λ ws. plain ws t) (one refl)
+    ∙ ap (λ b. cond b (Plain v t) (PlainVec (v ∷ []) t)) s
 plain_is false v [] t s one = refl
 plain_is false v (u ∷ us) t s one = ap (λ b. cond b (Plain u t) (PlainVec (u ∷ us) t)) s
 
 affine_is : (scalar : Bool) (v : Address) (ss : List Address) (set : Set) → is_scalar set ≡ scalar
     → (scalar ≡ true → ss ≡ v ∷ []) → affine (variables ss) set ≡ second_child false scalar v ss set
 affine_is true v us t s one =
-    ap (λ ws. affine (variables ws) t) (one refl) ∙ ap (λ b. cond b (Affine (variable v) t) (AffineVec (variables (v ∷ [])) t)) s
-affine_is false v us t s one = ap (λ b. cond b (Affine (first_in (variables us)) t) (AffineVec (variables us) t)) s
+    ap (λ ws. affine (variables ws) t) (one refl)
+    ∙ ap (λ b. cond b (Affine (variable v) t) (AffineVec (variables (v ∷ [])) t)) s
+affine_is false v us t s one =
+    ap (λ b. cond b (Affine (first_in (variables us)) t) (AffineVec (variables us) t)) s
 
-pub row_is_second : (free scalar : Bool) (v : Address) (ss : List Address) (set : Set) → is_scalar set ≡ scalar
+pub row_is_second : (free scalar : Bool) (v : Address) (ss : List Address) (set : Set)
+    → is_scalar set ≡ scalar
     → (scalar ≡ true → ss ≡ v ∷ []) → row_of free ss set ≡ second_child free scalar v ss set
 row_is_second true scalar v us t s one = plain_is scalar v us t s one
 row_is_second false scalar v us t s one = affine_is scalar v us t s one
@@ -391,7 +523,8 @@ scalar_one (Nonpositives n) s = absurd (true≢false (sym s))
 scalar_one (NormInfinityCone n) s = absurd (true≢false (sym s))
 scalar_one (NormOneCone n) s = absurd (true≢false (sym s))
 
-one_inner : (item : Item) → IsValidItem item → (scalar : Bool) → is_scalar (set_of item.body) ≡ scalar
+one_inner : (item : Item) → IsValidItem item → (scalar : Bool)
+    → is_scalar (set_of item.body) ≡ scalar
     → scalar ≡ true → inner item (size item) ≡ head_of item ∷ []
 one_inner item valid scalar s e =
     ap (inner item) (sym valid.set.dimension ∙ scalar_one (set_of item.body) (s ∙ e))
@@ -425,13 +558,16 @@ module _ (edge : Edge) (own : family_of edge ≡ Later) where
 
   pub image_is : (item : Item) (free : Bool) → begins_free (children_of edge) ≡ free
       → image_of edge item
-      ≡ later_parts item (first_child free (size item) (inner item (size item))) (row_of free (inner item (size item)) (set_of item.body)) (inner item (size item))
+      ≡ later_parts item (first_child free (size item) (inner item (size item)))
+      (row_of free (inner item (size item)) (set_of item.body)) (inner item (size item))
   image_is item free e =
       later_is item
       ∙ ap (λ b. record {
-        groups = cond b (free_at item (size item)) (group_at item (Reals (size item)) (size item)) ∷ [];
+        groups =
+            cond b (free_at item (size item)) (group_at item (Reals (size item)) (size item)) ∷ [];
         exprs = map Kept (inner item (size item));
-        rows = child_at item 1 (cond b (plain (inner item (size item)) (set_of item.body)) (affine (inner_functions item (size item)) (set_of item.body))) ∷ [];
+        rows = child_at item 1 (cond b (plain (inner item (size item)) (set_of item.body))
+            (affine (inner_functions item (size item)) (set_of item.body))) ∷ [];
         objective = None;
       }) e
       ∙ ap (λ g. record {
@@ -443,38 +579,55 @@ module _ (edge : Edge) (own : family_of edge ≡ Later) where
 
   -- so is an image that is made of these parts
   pub parts_made : (item : Item) → IsItemFor edge item
-      → (at first : Address) (free : Bool) (count : ℕ) (vars : List Address) (exprs : List Expression) (part : Set) (group row : Body) (made : Image)
-      → at ≡ child_of item.at 0 → first ≡ child_of at 0 → free ≡ begins_free (children_of edge) → count ≡ size item
+      → (at first : Address) (free : Bool) (count : ℕ) (vars : List Address)
+      (exprs : List Expression) (part : Set) (group row : Body) (made : Image)
+      → at ≡ child_of item.at 0 → first ≡ child_of at 0 → free ≡ begins_free (children_of edge)
+      → count ≡ size item
       → vars ≡ inner item count → exprs ≡ map Kept vars → part ≡ set_of item.body
-      → group ≡ first_child free count vars → row ≡ second_child free (is_scalar part) first vars part
+      → group ≡ first_child free count vars
+      → row ≡ second_child free (is_scalar part) first vars part
       → made ≡ group_and_row item (item_of at group) exprs row
       → made ≡ image_of edge item
-  parts_made item suits at first free count vars exprs part group row made at_is first_is free_is count_is vars_are exprs_are part_is group_is row_is image_of_parts =
+  parts_made item suits at first free count vars exprs part group row made at_is first_is free_is
+      count_is vars_are exprs_are part_is group_is row_is image_of_parts =
       let whole = set_of item.body in
       let all = inner item (size item) in
       image_of_parts
       ∙ ap₂ (λ g es. group_and_row item g es row) (ap₂ item_of at_is group_is) exprs_are
-      ∙ ap (λ r. group_and_row item (child_at item 0 (first_child free count vars)) (map Kept vars) r) row_is
-      ∙ ap₂ (λ us t. group_and_row item (child_at item 0 (first_child free count us)) (map Kept us) (second_child free (is_scalar t) first us t)) vars_are part_is
-      ∙ ap (λ n. group_and_row item (child_at item 0 (first_child free n (inner item n))) (map Kept (inner item n)) (second_child free (is_scalar whole) first (inner item n) whole)) count_is
-      ∙ ap (λ v. group_and_row item (child_at item 0 (first_child free (size item) all)) (map Kept all) (second_child free (is_scalar whole) v all whole)) (first_is ∙ ap (λ a. child_of a 0) at_is)
+      ∙ ap (λ r. group_and_row item (child_at item 0 (first_child free count vars)) (map Kept vars)
+      r) row_is
+      ∙ ap₂ (λ us t. group_and_row item (child_at item 0 (first_child free count us)) (map Kept us)
+      (second_child free (is_scalar t) first us t)) vars_are part_is
+      ∙ ap (λ n. group_and_row item (child_at item 0 (first_child free n (inner item n)))
+      (map Kept (inner item n)) (second_child free (is_scalar whole) first (inner item n)
+      whole)) count_is
+      ∙ ap (λ v. group_and_row item (child_at item 0 (first_child free (size item) all))
+      (map Kept all) (second_child free (is_scalar whole) v all whole))
+      (first_is ∙ ap (λ a. child_of a 0) at_is)
       ∙ sym (image_is item free (sym free_is)
-      ∙ ap (λ r. later_parts item (first_child free (size item) all) r all) (row_is_second free (is_scalar whole) (head_of item) all whole refl (one_inner item suits.valid (is_scalar whole) refl)))
+      ∙ ap (λ r. later_parts item (first_child free (size item) all) r all)
+      (row_is_second free (is_scalar whole) (head_of item) all whole refl
+      (one_inner item suits.valid (is_scalar whole) refl)))
 
   law_at : Lawful edge
   law_at item suits =
       let s = sourced edge own item.body suits.valid.function suits.kind in
       let one = one_inner item suits.valid s.scalar s.scalar_is in
       let group : Body = first_child s.free (size item) (inner item (size item)) in
-      let row : Body = second_child s.free s.scalar (head_of item) (inner item (size item)) (set_of item.body) in
+      let row : Body = second_child s.free s.scalar (head_of item) (inner item (size item))
+      (set_of item.body) in
       subst (EdgeLaw edge item)
       (sym (image_is item s.free s.free_is
-      ∙ ap (λ r. later_parts item group r (inner item (size item))) (row_is_second s.free s.scalar (head_of item) (inner item (size item)) (set_of item.body) s.scalar_is one)))
+      ∙ ap (λ r. later_parts item group r (inner item (size item)))
+      (row_is_second s.free s.scalar (head_of item) (inner item (size item)) (set_of item.body)
+      s.scalar_is one)))
       (later_law edge item group row (record {
         item_valid = suits.valid;
         source = s.group;
-        of_group = of_free s.free (size item) (inner item (size item)) (length-components (child_of item.at 0) (size item));
-        of_row = of_row s.free s.scalar (head_of item) (inner item (size item)) (set_of item.body) s.scalar_is one;
+        of_group = of_free s.free (size item) (inner item (size item))
+            (length-components (child_of item.at 0) (size item));
+        of_row = of_row s.free s.scalar (head_of item) (inner item (size item)) (set_of item.body)
+            s.scalar_is one;
         no_growth = ap growth own;
         group_leads = s.group_leads (size item) (inner item (size item));
         row_leads = s.row_leads (head_of item) (inner item (size item));

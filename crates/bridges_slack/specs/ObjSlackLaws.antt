@@ -1,4 +1,5 @@
--- The law of ObjSlack: the least f is the least s with s - f ≥ 0, and the greatest f the greatest s with s - f ≤ 0.
+-- The law of ObjSlack: the least f is the least s with s - f ≥ 0, and the greatest f the greatest s
+-- with s - f ≤ 0.
 use Rattle.std.specs.Prelude.{All, Contains, List, Some, [], false, length, map, refl, true, ◌*◌, ◌<◌, ◌∷◌, ◌≡◌, ◌≤◌}
 use Rattle.std.proofs.lemmas.List.Elements.{All-cons, All-head, All-nil, All-tail}
 use Rattle.std.proofs.Common.{ap, ap₂, arith, subst, sym, true≢false, ◌∙◌}
@@ -51,7 +52,8 @@ use Rattle.item_core.specs.declared.kind.Kind.TheVariants as kind
 pub data IsAffineObjective : Body → Type 0 where
   affine_objective : {sense : Sense} {func : Function} → IsAffineObjective (AffineObj sense func)
 
-pub is_one : (b : Body) → IsAffineObjective b → ((sense : Sense) (func : Function) → b ≡ AffineObj sense func → ⊥) → ⊥
+pub is_one : (b : Body) → IsAffineObjective b
+    → ((sense : Sense) (func : Function) → b ≡ AffineObj sense func → ⊥) → ⊥
 is_one b (affine_objective {sense} {func}) none = none sense func refl
 
 -- the row and the objective that the edges make
@@ -67,12 +69,22 @@ record Sourced (edge : Edge) (b : Body) : Type 0 where
 sourced_first : {b : Body} → OfKind kind.MinAffine b → Sourced E62 b
 unfolding edge_entry kind_of_body
 sourced_first min_affine =
-    record { objective = affine_objective; group_leads = λ ss. refl; row_leads = λ f. refl; objective_leads = λ s. refl }
+    record {
+      objective = affine_objective;
+      group_leads = λ ss. refl;
+      row_leads = λ f. refl;
+      objective_leads = λ s. refl;
+    }
 
 sourced_second : {b : Body} → OfKind kind.MaxAffine b → Sourced E63 b
 unfolding edge_entry kind_of_body
 sourced_second max_affine =
-    record { objective = affine_objective; group_leads = λ ss. refl; row_leads = λ f. refl; objective_leads = λ s. refl }
+    record {
+      objective = affine_objective;
+      group_leads = λ ss. refl;
+      row_leads = λ f. refl;
+      objective_leads = λ s. refl;
+    }
 
 sourced : (edge : Edge) → family_of edge ≡ ObjSlack
     → (b : Body) → FitsItsFunction b → kind_of_body b ≡ source_of edge → Sourced edge b
@@ -100,18 +112,24 @@ coefficient-cost : (sense : Sense) (f : Function) (v : Address)
 coefficient-cost Min f v = refl
 coefficient-cost Max f v = coefficient-negated address_order f v
 
-constant-cost : (sense : Sense) (f : Function) → (cost_by sense f).constant ≡ signed sense f.constant
+constant-cost : (sense : Sense) (f : Function)
+    → (cost_by sense f).constant ≡ signed sense f.constant
 constant-cost Min f = refl
 constant-cost Max f = constant-negated address_order f
 
 -- the row's number is the objective's, negated for the least value
 row_number : (sense : Sense) (y o : Rational)
-    → o *ℚ signed sense zero_ℚ ≡ y *ℚ (one_ℚ -ℚ zero_ℚ) +ℚ o *ℚ signed sense one_ℚ → y ≡ neg_ℚ (signed sense o)
+    → o *ℚ signed sense zero_ℚ ≡ y *ℚ (one_ℚ -ℚ zero_ℚ) +ℚ o *ℚ signed sense one_ℚ
+    → y ≡ neg_ℚ (signed sense o)
 row_number Min y o e =
     neg_ℚ_unique o y
-    (+ℚ_comm o y ∙ sym (ap₂ ◌+ℚ◌ (ap (λ q. y *ℚ q) (ap (λ q. one_ℚ +ℚ q) neg_ℚ-zero ∙ +ℚ-zero one_ℚ) ∙ *ℚ-one y) (*ℚ-one o)) ∙ sym e ∙ *ℚ-zero o)
+    (+ℚ_comm o y
+    ∙ sym (ap₂ ◌+ℚ◌ (ap (λ q. y *ℚ q) (ap (λ q. one_ℚ +ℚ q) neg_ℚ-zero ∙ +ℚ-zero one_ℚ)
+    ∙ *ℚ-one y) (*ℚ-one o)) ∙ sym e ∙ *ℚ-zero o)
 row_number Max y o e =
-    let sums : zero_ℚ ≡ y +ℚ neg_ℚ o = sym (ap (λ q. o *ℚ q) neg_ℚ-zero ∙ *ℚ-zero o) ∙ e ∙ ap₂ ◌+ℚ◌ (ap (λ q. y *ℚ q) (ap (λ q. one_ℚ +ℚ q) neg_ℚ-zero ∙ +ℚ-zero one_ℚ) ∙ *ℚ-one y) (*ℚ-neg_ℚ o one_ℚ ∙ ap neg_ℚ (*ℚ-one o)) in
+    let sums : zero_ℚ ≡ y +ℚ neg_ℚ o = sym (ap (λ q. o *ℚ q) neg_ℚ-zero ∙ *ℚ-zero o) ∙ e
+    ∙ ap₂ ◌+ℚ◌ (ap (λ q. y *ℚ q) (ap (λ q. one_ℚ +ℚ q) neg_ℚ-zero ∙ +ℚ-zero one_ℚ)
+    ∙ *ℚ-one y) (*ℚ-neg_ℚ o one_ℚ ∙ ap neg_ℚ (*ℚ-one o)) in
     neg_ℚ_unique (neg_ℚ o) y (+ℚ_comm (neg_ℚ o) y ∙ sym sums)
 
 least_sums : (o e k : Rational) → o *ℚ k ≡ neg_ℚ o *ℚ (e -ℚ k) +ℚ o *ℚ e
@@ -136,8 +154,10 @@ greatest_gap = ring₄ _ (λ ρ. simp as_expression (by_ring ρ _ _ refl))
 
 gaps_agree : (sense : Sense) (b o y z k : Rational) → y ≡ neg_ℚ (signed sense o)
     → neg_ℚ (y *ℚ (z -ℚ k)) +ℚ (b *ℚ o -ℚ o *ℚ signed sense z) ≡ b *ℚ o -ℚ o *ℚ signed sense k
-gaps_agree Min b o y z k is = ap (λ u. neg_ℚ (u *ℚ (z -ℚ k)) +ℚ (b *ℚ o -ℚ o *ℚ z)) is ∙ least_gap b o z k
-gaps_agree Max b o y z k is = ap (λ u. neg_ℚ (u *ℚ (z -ℚ k)) +ℚ (b *ℚ o -ℚ o *ℚ neg_ℚ z)) is ∙ greatest_gap b o z k
+gaps_agree Min b o y z k is = ap (λ u. neg_ℚ (u *ℚ (z -ℚ k)) +ℚ (b *ℚ o -ℚ o *ℚ z)) is
+    ∙ least_gap b o z k
+gaps_agree Max b o y z k is = ap (λ u. neg_ℚ (u *ℚ (z -ℚ k)) +ℚ (b *ℚ o -ℚ o *ℚ neg_ℚ z)) is
+    ∙ greatest_gap b o z k
 
 -- ---- sets
 
@@ -157,12 +177,14 @@ row_is_row : (sense : Sense) (f : Function) (s : Address) → IsRow (row_of sens
 row_is_row sense f s = record { no_group = refl; no_objective = refl }
 
 -- where the row holds, the cost of the variable is no less
-costs_less : (sense : Sense) (one p q : Rational) → In (multiplied one (beyond sense)) ((q -ℚ p) ∷ [])
+costs_less : (sense : Sense) (one p q : Rational)
+    → In (multiplied one (beyond sense)) ((q -ℚ p) ∷ [])
     → signed sense p ≤ℚ signed sense q
 costs_less Min one p q h = ≤ℚ_from_nonneg p q (subst (λ z. z ≤ℚ (q -ℚ p)) (*ℚ-zero one) h)
 costs_less Max one p q h =
     neg_ℚ-≤ℚ q p
-    (≤ℚ_from_nonneg q p (subst (λ z. zero_ℚ ≤ℚ z) (turned q p) (nonneg_neg (q -ℚ p) (subst (λ z. (q -ℚ p) ≤ℚ z) (*ℚ-zero one) h))))
+    (≤ℚ_from_nonneg q p (subst (λ z. zero_ℚ ≤ℚ z) (turned q p)
+    (nonneg_neg (q -ℚ p) (subst (λ z. (q -ℚ p) ≤ℚ z) (*ℚ-zero one) h))))
   where
     turned : (q p : Rational) → neg_ℚ (q -ℚ p) ≡ p -ℚ q
     turned = ring₂ _ (λ ρ. simp as_expression (by_ring ρ _ _ refl))
@@ -184,7 +206,8 @@ record IsSlackObjective (edge : Edge) (item : Item) (sense : Sense) (f : Functio
   row_leads : LeadsTo edge (row_of sense f (child_of (child_of item.at 0) 0))
   objective_leads : LeadsTo edge (PlainObj sense (child_of (child_of item.at 0) 0))
 
-module _ (edge : Edge) (item : Item) (sense : Sense) (f : Function) (l : IsSlackObjective edge item sense f) where
+module _ (edge : Edge) (item : Item) (sense : Sense) (f : Function)
+    (l : IsSlackObjective edge item sense f) where
   abbrev s : Address
   s = child_of (child_of item.at 0) 0
 
@@ -206,7 +229,8 @@ module _ (edge : Edge) (item : Item) (sense : Sense) (f : Function) (l : IsSlack
   unnamed : NamesNothingBelow item.at f
   unnamed =
       All-head (NamesNothingBelow item.at) f []
-      (subst (All (NamesNothingBelow item.at)) l.functions (l.item_valid.others (objective_no_group item.body l.source)))
+      (subst (All (NamesNothingBelow item.at)) l.functions
+      (l.item_valid.others (objective_no_group item.body l.source)))
 
   -- f names no component
   absent : coefficient f s ≡ zero_ℚ
@@ -215,7 +239,8 @@ module _ (edge : Edge) (item : Item) (sense : Sense) (f : Function) (l : IsSlack
   item_is : (bound : Rational) (w : List Rational)
       → held_item bound item image w ≡ held_of w (cost_by sense f ∷ []) (LessThan bound)
   item_is bound w =
-      ap (λ fs. held_of w fs (row_set bound item.body)) (objective_stands item.body (map expressed image.exprs) l.source)
+      ap (λ fs. held_of w fs (row_set bound item.body))
+      (objective_stands item.body (map expressed image.exprs) l.source)
       ∙ objective_held bound item.body w l.source
       ∙ ap (λ c. held_of w (c ∷ []) (LessThan bound)) l.cost
 
@@ -223,13 +248,17 @@ module _ (edge : Edge) (item : Item) (sense : Sense) (f : Function) (l : IsSlack
   values = record {
     holds = λ none. absurd (true≢false (sym l.source ∙ none));
     costs = λ one x h below.
-        All-cons (λ child. evaluated one (cost_of item.body) x ≤ℚ evaluated one (cost_of child.body) x) objective []
-        (subst (λ q. q ≤ℚ evaluated one (cost_by sense slack) x) (sym (ap (λ c. evaluated one c x) l.cost ∙ evaluated-cost sense one f x))
+        All-cons (λ child. evaluated one (cost_of item.body) x ≤ℚ evaluated one (cost_of child.body)
+        x) objective []
+        (subst (λ q. q ≤ℚ evaluated one (cost_by sense slack) x)
+        (sym (ap (λ c. evaluated one c x) l.cost ∙ evaluated-cost sense one f x))
         (subst (λ q. signed sense (evaluated one f x) ≤ℚ q) (sym (evaluated-cost sense one slack x))
         (costs_less sense one (evaluated one f x) (evaluated one slack x)
-        (subst (λ q. In (multiplied one (beyond sense)) (q ∷ [])) (evaluated-difference one slack f x)
+        (subst (λ q. In (multiplied one (beyond sense)) (q ∷ []))
+        (evaluated-difference one slack f x)
         (All-head (HoldsAt one x) row [] (All-tail (HoldsAt one x) group (row ∷ []) below))))))
-        (All-nil (λ child. evaluated one (cost_of item.body) x ≤ℚ evaluated one (cost_of child.body) x));
+        (All-nil (λ child. evaluated one (cost_of item.body) x ≤ℚ evaluated one (cost_of child.body)
+        x));
   }
 
   abbrev duals_of : List Rational → List Rational → List Rational → ChildDuals
@@ -248,18 +277,24 @@ module _ (edge : Edge) (item : Item) (sense : Sense) (f : Function) (l : IsSlack
       (bound : Rational) (g : List Rational) (y o : Rational) (w : List Rational)
       (b : Balances bound edge item image (duals_of g (y ∷ []) (o ∷ [])) w) where
     g_held : IsHeld (group_held g)
-    g_held = All-head IsHeld (group_held g) (row_held_by (y ∷ []) ∷ objective_held_by bound (o ∷ []) ∷ []) b.hold
+    g_held = All-head IsHeld (group_held g) (row_held_by (y ∷ []) ∷ objective_held_by bound (o ∷ [])
+        ∷ []) b.hold
 
     o_held : IsHeld (objective_held_by bound (o ∷ []))
     o_held =
         All-head IsHeld (objective_held_by bound (o ∷ [])) []
         (All-tail IsHeld (row_held_by (y ∷ [])) (objective_held_by bound (o ∷ []) ∷ [])
-        (All-tail IsHeld (group_held g) (row_held_by (y ∷ []) ∷ objective_held_by bound (o ∷ []) ∷ []) b.hold))
+        (All-tail IsHeld (group_held g) (row_held_by (y ∷ []) ∷ objective_held_by bound (o ∷ [])
+        ∷ []) b.hold))
 
-    same_held : held_item bound item image w ≡ held_of (o ∷ []) (cost_by sense f ∷ []) (LessThan bound)
-    same_held = item_is bound w ∙ ap (λ u. held_of u (cost_by sense f ∷ []) (LessThan bound)) (b.carries.by_objective l.source)
+    same_held : held_item bound item image w
+        ≡ held_of (o ∷ []) (cost_by sense f ∷ []) (LessThan bound)
+    same_held = item_is bound w
+        ∙ ap (λ u. held_of u (cost_by sense f ∷ []) (LessThan bound))
+        (b.carries.by_objective l.source)
 
-    item_at : (v : Address) → adjoint_of (held_item bound item image w) v ≡ o *ℚ signed sense (coefficient f v)
+    item_at : (v : Address)
+        → adjoint_of (held_item bound item image w) v ≡ o *ℚ signed sense (coefficient f v)
     item_at v =
         ap (λ k. adjoint_of k v) same_held ∙ +ℚ-zero (o *ℚ coefficient (cost_by sense f) v)
         ∙ ap (λ q. o *ℚ q) (coefficient-cost sense f v)
@@ -270,12 +305,17 @@ module _ (edge : Edge) (item : Item) (sense : Sense) (f : Function) (l : IsSlack
     children_at v =
         ap₂ ◌+ℚ◌ (zeros_dot g (coefficients (variables (inner item 1)) v) g_held.dual)
         (ap₂ ◌+ℚ◌
-        (+ℚ-zero (y *ℚ coefficient (difference slack f) v) ∙ ap (λ q. y *ℚ q) (coefficient-difference slack f v))
-        (+ℚ-zero (o *ℚ coefficient (cost_by sense slack) v +ℚ zero_ℚ) ∙ +ℚ-zero (o *ℚ coefficient (cost_by sense slack) v) ∙ ap (λ q. o *ℚ q) (coefficient-cost sense slack v)))
-        ∙ zero-+ℚ (y *ℚ (coefficient slack v -ℚ coefficient f v) +ℚ o *ℚ signed sense (coefficient slack v))
+        (+ℚ-zero (y *ℚ coefficient (difference slack f) v)
+        ∙ ap (λ q. y *ℚ q) (coefficient-difference slack f v))
+        (+ℚ-zero (o *ℚ coefficient (cost_by sense slack) v +ℚ zero_ℚ)
+        ∙ +ℚ-zero (o *ℚ coefficient (cost_by sense slack) v)
+        ∙ ap (λ q. o *ℚ q) (coefficient-cost sense slack v)))
+        ∙ zero-+ℚ (y *ℚ (coefficient slack v -ℚ coefficient f v)
+        +ℚ o *ℚ signed sense (coefficient slack v))
 
     abbrev Agree : Address → Type 0
-    Agree v = adjoint_of (held_item bound item image w) v ≡ adjoint (held_children bound image (duals_of g (y ∷ []) (o ∷ []))) v
+    Agree v = adjoint_of (held_item bound item image w) v
+        ≡ adjoint (held_children bound image (duals_of g (y ∷ []) (o ∷ []))) v
 
     y_is : y ≡ neg_ℚ (signed sense o)
     y_is =
@@ -283,24 +323,32 @@ module _ (edge : Edge) (item : Item) (sense : Sense) (f : Function) (l : IsSlack
         (sym (item_at s ∙ ap (λ q. o *ℚ signed sense q) absent)
         ∙ All-head Agree s [] b.inner
         ∙ children_at s
-        ∙ ap₂ (λ e k. y *ℚ (e -ℚ k) +ℚ o *ℚ signed sense e) (coefficient-variable_same address_order s) absent)
+        ∙ ap₂ (λ e k. y *ℚ (e -ℚ k) +ℚ o *ℚ signed sense e)
+        (coefficient-variable_same address_order s) absent)
 
     children_gap : gap (held_children bound image (duals_of g (y ∷ []) (o ∷ [])))
-        ≡ neg_ℚ (y *ℚ (slack.constant -ℚ f.constant)) +ℚ (bound *ℚ o -ℚ o *ℚ signed sense slack.constant)
+        ≡ neg_ℚ (y *ℚ (slack.constant -ℚ f.constant))
+        +ℚ (bound *ℚ o -ℚ o *ℚ signed sense slack.constant)
     children_gap =
         ap₂ ◌+ℚ◌
-        (ap (λ q. zero_ℚ -ℚ q) (dot_zeros g (constants (variables (inner item 1))) (constants-variables (inner item 1))) ∙ -ℚ-itself zero_ℚ)
+        (ap (λ q. zero_ℚ
+        -ℚ q) (dot_zeros g (constants (variables (inner item 1)))
+        (constants-variables (inner item 1))) ∙ -ℚ-itself zero_ℚ)
         (ap₂ ◌+ℚ◌
-        (ap₂ ◌-ℚ◌ (low_beyond sense (y ∷ [])) (+ℚ-zero (y *ℚ (difference slack f).constant) ∙ ap (λ q. y *ℚ q) (constant-difference slack f))
+        (ap₂ ◌-ℚ◌ (low_beyond sense (y ∷ [])) (+ℚ-zero (y *ℚ (difference slack f).constant)
+        ∙ ap (λ q. y *ℚ q) (constant-difference slack f))
         ∙ zero-+ℚ (neg_ℚ (y *ℚ (slack.constant -ℚ f.constant))))
         (+ℚ-zero (gap_of (objective_held_by bound (o ∷ [])))
-        ∙ ap (λ q. bound *ℚ o -ℚ q) (+ℚ-zero (o *ℚ (cost_by sense slack).constant) ∙ ap (λ q. o *ℚ q) (constant-cost sense slack))))
-        ∙ zero-+ℚ (neg_ℚ (y *ℚ (slack.constant -ℚ f.constant)) +ℚ (bound *ℚ o -ℚ o *ℚ signed sense slack.constant))
+        ∙ ap (λ q. bound *ℚ o -ℚ q) (+ℚ-zero (o *ℚ (cost_by sense slack).constant)
+        ∙ ap (λ q. o *ℚ q) (constant-cost sense slack))))
+        ∙ zero-+ℚ (neg_ℚ (y *ℚ (slack.constant -ℚ f.constant))
+        +ℚ (bound *ℚ o -ℚ o *ℚ signed sense slack.constant))
 
     item_gap : gap_of (held_item bound item image w) ≡ bound *ℚ o -ℚ o *ℚ signed sense f.constant
     item_gap =
         ap gap_of same_held
-        ∙ ap (λ q. bound *ℚ o -ℚ q) (+ℚ-zero (o *ℚ (cost_by sense f).constant) ∙ ap (λ q. o *ℚ q) (constant-cost sense f))
+        ∙ ap (λ q. bound *ℚ o -ℚ q) (+ℚ-zero (o *ℚ (cost_by sense f).constant)
+        ∙ ap (λ q. o *ℚ q) (constant-cost sense f))
 
     covered_by : IsCovered bound item image (duals_of g (y ∷ []) (o ∷ [])) w
     covered_by = record {
@@ -309,17 +357,24 @@ module _ (edge : Edge) (item : Item) (sense : Sense) (f : Function) (l : IsSlack
         size = refl;
         dual = o_held.dual;
       });
-      same = λ v. item_at v ∙ sums_agree sense o y (coefficient slack v) (coefficient f v) y_is ∙ sym (children_at v);
-      gaps = ≤ℚ_from_≡ _ _ (children_gap ∙ gaps_agree sense bound o y slack.constant f.constant y_is ∙ sym item_gap);
+      same = λ v. item_at v ∙ sums_agree sense o y (coefficient slack v) (coefficient f v) y_is
+          ∙ sym (children_at v);
+      gaps = ≤ℚ_from_≡ _ _ (children_gap ∙ gaps_agree sense bound o y slack.constant f.constant y_is
+          ∙ sym item_gap);
     }
 
   of_numbers : (bound : Rational) (g y o w : List Rational)
-      → Balances bound edge item image (duals_of g y o) w → IsCovered bound item image (duals_of g y o) w
+      → Balances bound edge item image (duals_of g y o) w
+      → IsCovered bound item image (duals_of g y o) w
   of_numbers bound g y o w b =
-      let rest = All-tail IsHeld (group_held g) (row_held_by y ∷ objective_held_by bound o ∷ []) b.hold in
-      let y_one : length y ≡ 1 = (All-head IsHeld (row_held_by y) (objective_held_by bound o ∷ []) rest).size in
-      let o_one : length o ≡ 1 = (All-head IsHeld (objective_held_by bound o) [] (All-tail IsHeld (row_held_by y) (objective_held_by bound o ∷ []) rest)).size in
-      single₂ (λ y o. Balances bound edge item image (duals_of g y o) w → IsCovered bound item image (duals_of g y o) w)
+      let rest = All-tail IsHeld (group_held g) (row_held_by y ∷ objective_held_by bound o ∷ [])
+      b.hold in
+      let y_one : length y ≡ 1 =
+      (All-head IsHeld (row_held_by y) (objective_held_by bound o ∷ []) rest).size in
+      let o_one : length o ≡ 1 = (All-head IsHeld (objective_held_by bound o) []
+      (All-tail IsHeld (row_held_by y) (objective_held_by bound o ∷ []) rest)).size in
+      single₂ (λ y o. Balances bound edge item image (duals_of g y o) w
+      → IsCovered bound item image (duals_of g y o) w)
       (λ p q c. covered_by bound g p q w c) y o y_one o_one b
 
   covered : (bound : Rational) (gs ys os : List (List Rational)) (w : List Rational)
@@ -342,52 +397,68 @@ module _ (edge : Edge) (item : Item) (sense : Sense) (f : Function) (l : IsSlack
     some = omega arith;
     at_most = few;
     set = record { dimension = refl; enough = omega arith; uncrossed = refl };
-    depth = subst (λ m. m ≤ 38) (sym (length-append item.at.positions (0 ∷ []))) (omega (arith, room));
+    depth =
+        subst (λ m. m ≤ 38) (sym (length-append item.at.positions (0 ∷ []))) (omega (arith, room));
     others = λ none. absurd (true≢false none);
   }
 
   row_valid : length item.at.positions < 38 → IsValidWithin row
   row_valid room =
-      second_row_valid item (row_of sense f s) (beyond_scalar sense) (omega arith) (beyond_fits sense)
+      second_row_valid item (row_of sense f s) (beyond_scalar sense) (omega arith)
+      (beyond_fits sense)
       (All-cons (NamesNothingBelow (child_of item.at 1)) (difference slack f) []
-      (unnamed-difference (child_of item.at 1) slack f (component_apart item.at 1 (omega arith) 0) (unnamed_below item.at 1 f unnamed))
+      (unnamed-difference (child_of item.at 1) slack f (component_apart item.at 1 (omega arith) 0)
+      (unnamed_below item.at 1 f unnamed))
       (All-nil (NamesNothingBelow (child_of item.at 1)))) room
 
   objective_is_valid : length item.at.positions < 38 → IsValidWithin objective
   objective_is_valid room =
       objective_valid item 2 (PlainObj sense s) refl
-      (All-cons (NamesNothingBelow (child_of item.at 2)) slack [] (component_apart item.at 2 (omega arith) 0) (All-nil (NamesNothingBelow (child_of item.at 2)))) room
+      (All-cons (NamesNothingBelow (child_of item.at 2)) slack []
+      (component_apart item.at 2 (omega arith) 0) (All-nil
+      (NamesNothingBelow (child_of item.at 2)))) room
 
-  abbrev all_three : (P : Item → Type 0) → P group → P row → P objective → All P (group ∷ row ∷ objective ∷ [])
+  abbrev all_three : (P : Item → Type 0) → P group → P row → P objective
+      → All P (group ∷ row ∷ objective ∷ [])
   all_three P p q r =
-      All-cons P group (row ∷ objective ∷ []) p (All-cons P row (objective ∷ []) q (All-cons P objective [] r (All-nil P)))
+      All-cons P group (row ∷ objective
+      ∷ []) p (All-cons P row (objective ∷ []) q (All-cons P objective [] r (All-nil P)))
 
-  no_more : (child : Item) → length (functions_of child.body) ≡ 1 → GrowsBy (growth (family_of edge)) item child
+  no_more : (child : Item) → length (functions_of child.body) ≡ 1
+      → GrowsBy (growth (family_of edge)) item child
   no_more child e =
-      subst (λ n. length (functions_of child.body) ≤ n * length (functions_of item.body)) (sym l.no_growth) (omega (arith, e, one_component))
+      subst (λ n. length (functions_of child.body) ≤ n * length (functions_of item.body))
+      (sym l.no_growth) (omega (arith, e, one_component))
 
   -- what isn't among the child group's variables
-  absent_from : (v : Address) → ¬ (Contains (inner_of image.groups) v) → coefficient slack v ≡ zero_ℚ
+  absent_from : (v : Address) → ¬ (Contains (inner_of image.groups) v)
+      → coefficient slack v ≡ zero_ℚ
   absent_from v there =
-      All-head (λ f. coefficient f v ≡ zero_ℚ) slack [] (variables_missed (s ∷ []) v (not_contained (s ∷ []) v there))
+      All-head (λ f. coefficient f v ≡ zero_ℚ) slack []
+      (variables_missed (s ∷ []) v (not_contained (s ∷ []) v there))
 
   slack_objective_law : EdgeLaw edge item image
   slack_objective_law = record {
     values = values;
     duals = λ bound duals w b. covered bound duals.groups duals.rows duals.objective w b;
     positions = refl;
-    valid = λ room. all_three IsValidWithin (group_valid room) (row_valid room) (objective_is_valid room);
-    sizes = all_three (GrowsBy (growth (family_of edge)) item) (no_more group refl) (no_more row refl) (no_more objective refl);
-    kinds = all_three (λ child. LeadsTo edge child.body) l.group_leads l.row_leads l.objective_leads;
+    valid = λ room. all_three IsValidWithin (group_valid room) (row_valid room)
+        (objective_is_valid room);
+    sizes = all_three (GrowsBy (growth (family_of edge)) item) (no_more group refl)
+        (no_more row refl) (no_more objective refl);
+    kinds =
+        all_three (λ child. LeadsTo edge child.body) l.group_leads l.row_leads l.objective_leads;
     components = All-cons HasComponents group [] refl (All-nil HasComponents);
     mentioned =
         All-cons (MentionsKnown item image) row (objective ∷ [])
         (λ v m there.
         All-cons (λ f. coefficient f v ≡ zero_ℚ) (difference slack f) []
-        (missed-difference v slack f (absent_from v there) (All-head (λ f. coefficient f v ≡ zero_ℚ) f [] (subst (λ fs. Miss fs v) l.functions m)))
+        (missed-difference v slack f (absent_from v there)
+        (All-head (λ f. coefficient f v ≡ zero_ℚ) f [] (subst (λ fs. Miss fs v) l.functions m)))
         (All-nil (λ f. coefficient f v ≡ zero_ℚ)))
         (All-cons (MentionsKnown item image) objective []
-        (λ v m there. All-cons (λ f. coefficient f v ≡ zero_ℚ) slack [] (absent_from v there) (All-nil (λ f. coefficient f v ≡ zero_ℚ)))
+        (λ v m there. All-cons (λ f. coefficient f v ≡ zero_ℚ) slack [] (absent_from v there)
+        (All-nil (λ f. coefficient f v ≡ zero_ℚ)))
         (All-nil (MentionsKnown item image)));
     exprs = λ group. absurd (true≢false (sym group ∙ objective_no_group item.body l.source));
     expressed = λ v n. All-nil (λ f. coefficient f v ≡ zero_ℚ);
@@ -420,7 +491,8 @@ module _ (edge : Edge) (own : family_of edge ≡ ObjSlack) where
   unfolding image_by
   slack_is item = ap (λ f. image_by f edge item) own
 
-  pub is_affine : (b : Body) → FitsItsFunction b → kind_of_body b ≡ source_of edge → IsAffineObjective b
+  pub is_affine : (b : Body) → FitsItsFunction b → kind_of_body b ≡ source_of edge
+      → IsAffineObjective b
   is_affine b h k = (sourced edge own b h k).objective
 
   pub image_is : (item : Item) → IsItemFor edge item
@@ -430,8 +502,10 @@ module _ (edge : Edge) (own : family_of edge ≡ ObjSlack) where
       ∙ ap (λ fs. record {
         groups = free_at item 1 ∷ [];
         exprs = [];
-        rows = child_at item 1 (Affine (first_in (differences (inner_functions item 1) fs)) (beyond (sense_of item.body))) ∷ [];
-        objective = Some (child_at item 2 (PlainObj (sense_of item.body) (child_of (child_of item.at 0) 0)));
+        rows = child_at item 1 (Affine (first_in (differences (inner_functions item 1) fs))
+            (beyond (sense_of item.body))) ∷ [];
+        objective = Some (child_at item 2 (PlainObj (sense_of item.body)
+            (child_of (child_of item.at 0) 0)));
       }) (read (is_affine item.body suits.valid.function suits.kind)).functions
 
   -- f names no component
@@ -441,25 +515,36 @@ module _ (edge : Edge) (own : family_of edge ≡ ObjSlack) where
       let facts = read (is_affine item.body suits.valid.function suits.kind) in
       unnamed_below item.at 0 (function_of_body item.body)
       (All-head (NamesNothingBelow item.at) (function_of_body item.body) []
-      (subst (All (NamesNothingBelow item.at)) facts.functions (suits.valid.others (objective_no_group item.body facts.source)))) (0 ∷ [])
+      (subst (All (NamesNothingBelow item.at)) facts.functions
+      (suits.valid.others (objective_no_group item.body facts.source)))) (0 ∷ [])
 
   -- so is an image that is made of these parts
   pub parts_made : (item : Item) → IsItemFor edge item
-      → (at var at_row at_objective : Address) (vars : List Address) (groups rows : List Item) (exprs : List Expression) (row objective : Body)
-      → at ≡ child_of item.at 0 → var ≡ child_of at 0 → at_row ≡ child_of item.at 1 → at_objective ≡ child_of item.at 2
-      → vars ≡ inner item 1 → groups ≡ item_of at (Free vars) ∷ [] → rows ≡ item_of at_row row ∷ [] → exprs ≡ []
+      → (at var at_row at_objective : Address) (vars : List Address) (groups rows : List Item)
+      (exprs : List Expression) (row objective : Body)
+      → at ≡ child_of item.at 0 → var ≡ child_of at 0 → at_row ≡ child_of item.at 1
+      → at_objective ≡ child_of item.at 2
+      → vars ≡ inner item 1 → groups ≡ item_of at (Free vars) ∷ [] → rows ≡ item_of at_row row ∷ []
+      → exprs ≡ []
       → row ≡ row_of (sense_of item.body) (function_of_body item.body) var
       → objective ≡ PlainObj (sense_of item.body) var
       → objective_parts groups exprs rows (item_of at_objective objective) ≡ image_of edge item
-  parts_made item suits at var at_row at_objective vars groups rows exprs row objective at_is var_is at_row_is at_objective_is vars_are groups_are rows_are exprs_are row_is objective_is =
+  parts_made item suits at var at_row at_objective vars groups rows exprs row objective at_is var_is
+      at_row_is at_objective_is vars_are groups_are rows_are exprs_are row_is objective_is =
       let sense = sense_of item.body in
       let f = function_of_body item.body in
-      ap₂ (λ gs rs. objective_parts gs exprs rs (item_of at_objective objective)) groups_are rows_are
-      ∙ ap (λ es. objective_parts (item_of at (Free vars) ∷ []) es (item_of at_row row ∷ []) (item_of at_objective objective)) exprs_are
-      ∙ ap₂ (λ a vs. objective_parts (item_of a (Free vs) ∷ []) [] (item_of at_row row ∷ []) (item_of at_objective objective)) at_is vars_are
-      ∙ ap₂ (λ a b. objective_parts (free_at item 1 ∷ []) [] (item_of a b ∷ []) (item_of at_objective objective)) at_row_is row_is
-      ∙ ap₂ (λ a b. objective_parts (free_at item 1 ∷ []) [] (child_at item 1 (row_of sense f var) ∷ []) (item_of a b)) at_objective_is objective_is
-      ∙ ap (λ v. objective_parts (free_at item 1 ∷ []) [] (child_at item 1 (row_of sense f v) ∷ []) (child_at item 2 (PlainObj sense v))) (var_is ∙ ap (λ a. child_of a 0) at_is)
+      ap₂ (λ gs rs. objective_parts gs exprs rs (item_of at_objective objective)) groups_are
+      rows_are
+      ∙ ap (λ es. objective_parts (item_of at (Free vars) ∷ []) es (item_of at_row row ∷ [])
+      (item_of at_objective objective)) exprs_are
+      ∙ ap₂ (λ a vs. objective_parts (item_of a (Free vs) ∷ []) [] (item_of at_row row ∷ [])
+      (item_of at_objective objective)) at_is vars_are
+      ∙ ap₂ (λ a b. objective_parts (free_at item 1 ∷ []) [] (item_of a b ∷ [])
+      (item_of at_objective objective)) at_row_is row_is
+      ∙ ap₂ (λ a b. objective_parts (free_at item 1 ∷ []) []
+      (child_at item 1 (row_of sense f var) ∷ []) (item_of a b)) at_objective_is objective_is
+      ∙ ap (λ v. objective_parts (free_at item 1 ∷ []) [] (child_at item 1 (row_of sense f v) ∷ [])
+      (child_at item 2 (PlainObj sense v))) (var_is ∙ ap (λ a. child_of a 0) at_is)
       ∙ sym (image_is item suits)
 
   -- it is no row, to which duals would be carried
@@ -479,7 +564,8 @@ module _ (edge : Edge) (own : family_of edge ≡ ObjSlack) where
         cost = facts.cost;
         no_growth = ap growth own;
         group_leads = source.group_leads (inner item 1);
-        row_leads = source.row_leads (difference (variable (child_of (child_of item.at 0) 0)) (function_of_body item.body));
+        row_leads = source.row_leads (difference (variable (child_of (child_of item.at 0) 0))
+            (function_of_body item.body));
         objective_leads = source.objective_leads (child_of (child_of item.at 0) 0);
       }))
 

@@ -40,7 +40,8 @@ pub data IsBounded : Body → Type 0 where
 -- the row that the edges make of it
 abbrev pub made : Item → Body
 made item =
-    Affine (first_in (differences (functions_of item.body) (inner_functions item 1))) (EqualTo zero_ℚ)
+    Affine (first_in (differences (functions_of item.body) (inner_functions item 1)))
+    (EqualTo zero_ℚ)
 
 record Sourced (edge : Edge) (b : Body) : Type 0 where
   bounded : IsBounded b
@@ -49,15 +50,18 @@ record Sourced (edge : Edge) (b : Body) : Type 0 where
 
 sourced_first : {b : Body} → OfKind kind.AffineLessThan b → Sourced E31 b
 unfolding edge_entry kind_of_body
-sourced_first affine_less_than = record { bounded = below_bound; leads = λ vars. refl; row_leads = λ f. refl }
+sourced_first affine_less_than =
+    record { bounded = below_bound; leads = λ vars. refl; row_leads = λ f. refl }
 
 sourced_second : {b : Body} → OfKind kind.AffineGreaterThan b → Sourced E32 b
 unfolding edge_entry kind_of_body
-sourced_second affine_greater_than = record { bounded = above_bound; leads = λ vars. refl; row_leads = λ f. refl }
+sourced_second affine_greater_than =
+    record { bounded = above_bound; leads = λ vars. refl; row_leads = λ f. refl }
 
 sourced_third : {b : Body} → OfKind kind.AffineInterval b → Sourced E33 b
 unfolding edge_entry kind_of_body
-sourced_third affine_interval = record { bounded = between; leads = λ vars. refl; row_leads = λ f. refl }
+sourced_third affine_interval =
+    record { bounded = between; leads = λ vars. refl; row_leads = λ f. refl }
 
 sourced : (edge : Edge) → family_of edge ≡ ScalarSlack
     → (b : Body) → FitsItsFunction b → kind_of_body b ≡ source_of edge → Sourced edge b
@@ -73,15 +77,18 @@ record Bounded (b : Body) : Type 0 where
   functions : functions_of b ≡ function_of_body b ∷ []
 
 read : {b : Body} → IsBounded b → Bounded b
-read below_bound = record { row = record { no_group = refl; no_objective = refl }; functions = refl }
-read above_bound = record { row = record { no_group = refl; no_objective = refl }; functions = refl }
+read below_bound =
+    record { row = record { no_group = refl; no_objective = refl }; functions = refl }
+read above_bound =
+    record { row = record { no_group = refl; no_objective = refl }; functions = refl }
 read between = record { row = record { no_group = refl; no_objective = refl }; functions = refl }
 
 -- one difference is the list of it
 alone_is : (fs : List Function) (f : Function) (v : Address) → fs ≡ f ∷ []
     → first_in (differences fs (variables (v ∷ []))) ∷ [] ≡ differences fs (variables (v ∷ []))
 alone_is fs f v e =
-    subst (λ gs. first_in (differences gs (variables (v ∷ []))) ∷ [] ≡ differences gs (variables (v ∷ []))) (sym e) refl
+    subst (λ gs. first_in (differences gs (variables (v ∷ []))) ∷ []
+    ≡ differences gs (variables (v ∷ []))) (sym e) refl
 
 zero_alone : (one : Rational) (v : List Rational) → length v ≡ 1 → first_of v ≡ one *ℚ zero_ℚ
     → All (λ q. q ≡ zero_ℚ) v
@@ -112,23 +119,30 @@ module _ (edge : Edge) (own : family_of edge ≡ ScalarSlack) where
   is_bounded b h k = (sourced edge own b h k).bounded
 
   -- the row names none of the components, and has one function
-  pub one_function : (item : Item) → IsItemFor edge item → functions_of item.body ≡ function_of_body item.body ∷ []
+  pub one_function : (item : Item) → IsItemFor edge item
+      → functions_of item.body ≡ function_of_body item.body ∷ []
   one_function item suits = (read (is_bounded item.body suits.valid.function suits.kind)).functions
 
   pub absent : (item : Item) → IsItemFor edge item
       → coefficient (function_of_body item.body) (child_of (child_of item.at 0) 0) ≡ zero_ℚ
   absent item suits =
       let facts = read (is_bounded item.body suits.valid.function suits.kind) in
-      let unnamed : All (NamesNothingBelow item.at) (function_of_body item.body ∷ []) = subst (All (NamesNothingBelow item.at)) facts.functions (suits.valid.others facts.row.no_group) in
-      unnamed_below item.at 0 (function_of_body item.body) (All-head (NamesNothingBelow item.at) (function_of_body item.body) [] unnamed) (0 ∷ [])
+      let unnamed : All (NamesNothingBelow item.at) (function_of_body item.body ∷ []) = subst
+      (All (NamesNothingBelow item.at)) facts.functions
+      (suits.valid.others facts.row.no_group) in
+      unnamed_below item.at 0 (function_of_body item.body)
+      (All-head (NamesNothingBelow item.at) (function_of_body item.body) [] unnamed) (0 ∷ [])
 
   -- the image, with the row's function written out
   pub image_made : (item : Item) → IsItemFor edge item
       → group_and_row item (group_at item (set_of item.body) 1) []
-      (Affine (difference (function_of_body item.body) (variable (child_of (child_of item.at 0) 0))) (EqualTo zero_ℚ))
+      (Affine (difference (function_of_body item.body) (variable (child_of (child_of item.at 0) 0)))
+      (EqualTo zero_ℚ))
       ≡ image_of edge item
   image_made item suits =
-      ap (λ fs. group_and_row item (group_at item (set_of item.body) 1) [] (Affine (first_in (differences fs (inner_functions item 1))) (EqualTo zero_ℚ))) (sym (one_function item suits))
+      ap (λ fs. group_and_row item (group_at item (set_of item.body) 1) []
+      (Affine (first_in (differences fs (inner_functions item 1))) (EqualTo zero_ℚ)))
+      (sym (one_function item suits))
       ∙ sym (image_is item)
 
   law_at : Lawful edge
@@ -141,7 +155,8 @@ module _ (edge : Edge) (own : family_of edge ≡ ScalarSlack) where
         source = facts.row;
         made = record { no_group = refl; no_objective = refl };
         functions =
-            alone_is (functions_of item.body) (function_of_body item.body) (child_of (child_of item.at 0) 0) facts.functions
+            alone_is (functions_of item.body) (function_of_body item.body)
+            (child_of (child_of item.at 0) 0) facts.functions
             ∙ ap (λ n. differences (functions_of item.body) (variables (inner item n))) (sym one);
         equal = λ t v long h. zero_alone t v (long ∙ one) h;
         low = λ y. zero-*ℚ (first_of y);
@@ -150,7 +165,8 @@ module _ (edge : Edge) (own : family_of edge ≡ ScalarSlack) where
         back = back_is item;
         no_growth = ap growth own;
         group_leads = source.leads (inner item (size item));
-        row_leads = source.row_leads (first_in (differences (functions_of item.body) (inner_functions item 1)));
+        row_leads = source.row_leads (first_in (differences (functions_of item.body)
+            (inner_functions item 1)));
       } in
       subst (EdgeLaw edge item) (ap (λ n. record {
         groups = group_at item (set_of item.body) n ∷ [];

@@ -63,7 +63,8 @@ same_from_differences [] (q ∷ v) e h = absurd (omega (arith, e))
 same_from_differences (p ∷ u) [] e h = absurd (omega (arith, e))
 same_from_differences (p ∷ u) (q ∷ v) e h =
     ap₂ ◌∷◌ (same_from_difference p q (All-head (λ q. q ≡ zero_ℚ) (p -ℚ q) (minus u v) h))
-    (same_from_differences u v (omega (arith, e)) (All-tail (λ q. q ≡ zero_ℚ) (p -ℚ q) (minus u v) h))
+    (same_from_differences u v (omega (arith, e))
+    (All-tail (λ q. q ≡ zero_ℚ) (p -ℚ q) (minus u v) h))
 
 module _ (edge : Edge) (item : Item) (child : Body) (s : IsSlack edge item child) where
   abbrev fs : List Function
@@ -100,10 +101,16 @@ module _ (edge : Edge) (item : Item) (child : Body) (s : IsSlack edge item child
   values : (one : Rational) (x : Address → Rational) → In (multiplied one set) (map x ss)
       → Holds one (row_held child []) x → Holds one (row_held item.body []) x
   values one x inside below =
-      let row : In (multiplied one (set_of child)) (evaluations one rest x) = subst (λ k. Holds one k x) (child_is []) below in
-      let zeros : All (λ q. q ≡ zero_ℚ) (evaluations one rest x) = s.equal one (evaluations one rest x) (length-map rest (λ f. evaluated one f x) ∙ length-differences fs (variables ss) same_length) row in
+      let row : In (multiplied one (set_of child)) (evaluations one rest x) =
+      subst (λ k. Holds one k x) (child_is []) below in
+      let zeros : All (λ q. q ≡ zero_ℚ) (evaluations one rest x) = s.equal one
+      (evaluations one rest x) (length-map rest (λ f. evaluated one f x)
+      ∙ length-differences fs (variables ss) same_length) row in
       let apart : All (λ q. q ≡ zero_ℚ) (minus (evaluations one fs x) (evaluations one (variables ss) x)) = subst (All (λ q. q ≡ zero_ℚ)) (numbers-differences (λ f. evaluated one f x) (λ f g. evaluated-difference one f g x) fs (variables ss)) zeros in
-      let alike : evaluations one fs x ≡ evaluations one (variables ss) x = same_from_differences (evaluations one fs x) (evaluations one (variables ss) x) (length-map fs (λ f. evaluated one f x) ∙ same_length ∙ sym (length-map (variables ss) (λ f. evaluated one f x))) apart in
+      let alike : evaluations one fs x ≡ evaluations one (variables ss) x = same_from_differences
+      (evaluations one fs x) (evaluations one (variables ss) x)
+      (length-map fs (λ f. evaluated one f x) ∙ same_length
+      ∙ sym (length-map (variables ss) (λ f. evaluated one f x))) apart in
       subst (In (multiplied one set)) (sym (alike ∙ evaluations_variables one ss x)) inside
 
   -- the components get the row's numbers
@@ -119,7 +126,11 @@ module _ (edge : Edge) (item : Item) (child : Body) (s : IsSlack edge item child
   gap_is y =
       ap (λ q. low_of set y +ℚ q)
       (ap gap_of (child_is y)
-      ∙ ap₂ ◌-ℚ◌ (s.low y) (dot-differences y fs (variables ss) same_length (λ f. f.constant) constant-difference ∙ ap (λ q. dot y (constants fs) -ℚ q) (dot_zeros y (constants (variables ss)) (constants-variables ss)) ∙ ap (λ q. dot y (constants fs) +ℚ q) neg_ℚ-zero ∙ +ℚ-zero (dot y (constants fs)))
+      ∙ ap₂ ◌-ℚ◌ (s.low y) (dot-differences y fs (variables ss) same_length (λ f. f.constant)
+      constant-difference
+      ∙ ap (λ q. dot y (constants fs)
+      -ℚ q) (dot_zeros y (constants (variables ss)) (constants-variables ss))
+      ∙ ap (λ q. dot y (constants fs) +ℚ q) neg_ℚ-zero ∙ +ℚ-zero (dot y (constants fs)))
       ∙ zero-+ℚ (neg_ℚ (dot y (constants fs))))
 
   group_and_row : GroupAndRow edge item set n child
@@ -136,10 +147,13 @@ module _ (edge : Edge) (item : Item) (child : Body) (s : IsSlack edge item child
         });
     same = λ y h v absent.
         ap (λ w. adjoint_of (row_held item.body w) v) (s.back y)
-        ∙ sym (ap (λ k. adjoint_of k v) (child_is y) ∙ dot-differences_missed y fs (variables ss) same_length v (variables_missed ss v (not_contained ss v absent)));
+        ∙ sym (ap (λ k. adjoint_of k v) (child_is y)
+        ∙ dot-differences_missed y fs (variables ss) same_length v
+        (variables_missed ss v (not_contained ss v absent)));
     gaps = λ y h there.
         ≤ℚ_from_≡ _ _
-        (ap (λ z. low_of set z +ℚ gap_of (row_held child y)) (left_is y (h.size ∙ row_length)) ∙ gap_is y
+        (ap (λ z. low_of set z +ℚ gap_of (row_held child y)) (left_is y (h.size ∙ row_length))
+        ∙ gap_is y
         ∙ sym (ap (λ w. gap_of (row_held item.body w)) (s.back y)));
     some = s.item_valid.some;
     fits = s.item_valid.set;
@@ -150,13 +164,17 @@ module _ (edge : Edge) (item : Item) (child : Body) (s : IsSlack edge item child
     row_fits = subst (λ m. IsSetOf m (set_of child)) (sym row_length) s.fits;
     row_apart =
         subst (All (NamesNothingBelow (child_of item.at 1))) (sym s.functions)
-        (all_differences (NamesNothingBelow (child_of item.at 1)) (unnamed-difference (child_of item.at 1)) fs (variables ss)
-        (all_unnamed_below item.at 1 fs (s.item_valid.others s.source.no_group)) (components_apart item.at 1 n (omega arith)));
-    row_grows = subst (λ m. length (functions_of child) ≤ m * n) (sym s.no_growth) (omega (arith, row_length));
+        (all_differences (NamesNothingBelow (child_of item.at 1))
+        (unnamed-difference (child_of item.at 1)) fs (variables ss)
+        (all_unnamed_below item.at 1 fs (s.item_valid.others s.source.no_group))
+        (components_apart item.at 1 n (omega arith)));
+    row_grows = subst (λ m. length (functions_of child) ≤ m * n) (sym s.no_growth)
+        (omega (arith, row_length));
     row_leads = s.row_leads;
     mentioned = λ v m absent.
         subst (λ gs. Miss gs v) (sym s.functions)
-        (all_differences (λ f. coefficient f v ≡ zero_ℚ) (missed-difference v) fs (variables ss) m (variables_missed ss v (not_contained ss v absent)));
+        (all_differences (λ f. coefficient f v ≡ zero_ℚ) (missed-difference v) fs (variables ss) m
+        (variables_missed ss v (not_contained ss v absent)));
   }
 
   pub slack_law : EdgeLaw edge item (record {

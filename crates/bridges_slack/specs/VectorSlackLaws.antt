@@ -35,7 +35,8 @@ pub data InCone : Body → Type 0 where
 -- the row that the edges make of it
 abbrev pub made : Item → Body
 made item =
-    AffineVec (differences (functions_of item.body) (inner_functions item (size item))) (Zeros (size item))
+    AffineVec (differences (functions_of item.body) (inner_functions item (size item)))
+    (Zeros (size item))
 
 record Sourced (edge : Edge) (b : Body) : Type 0 where
   cone : InCone b
@@ -44,19 +45,23 @@ record Sourced (edge : Edge) (b : Body) : Type 0 where
 
 sourced_first : {b : Body} → OfKind kind.VaffineNonnegatives b → Sourced E27 b
 unfolding edge_entry kind_of_body
-sourced_first vaffine_nonnegatives = record { cone = nonnegative; leads = λ vars. refl; row_leads = λ fs n. refl }
+sourced_first vaffine_nonnegatives =
+    record { cone = nonnegative; leads = λ vars. refl; row_leads = λ fs n. refl }
 
 sourced_second : {b : Body} → OfKind kind.VaffineNonpositives b → Sourced E28 b
 unfolding edge_entry kind_of_body
-sourced_second vaffine_nonpositives = record { cone = nonpositive; leads = λ vars. refl; row_leads = λ fs n. refl }
+sourced_second vaffine_nonpositives =
+    record { cone = nonpositive; leads = λ vars. refl; row_leads = λ fs n. refl }
 
 sourced_third : {b : Body} → OfKind kind.VaffineNormInfinityCone b → Sourced E29 b
 unfolding edge_entry kind_of_body
-sourced_third vaffine_norm_infinity_cone = record { cone = norm_infinity; leads = λ vars. refl; row_leads = λ fs n. refl }
+sourced_third vaffine_norm_infinity_cone =
+    record { cone = norm_infinity; leads = λ vars. refl; row_leads = λ fs n. refl }
 
 sourced_fourth : {b : Body} → OfKind kind.VaffineNormOneCone b → Sourced E30 b
 unfolding edge_entry kind_of_body
-sourced_fourth vaffine_norm_one_cone = record { cone = norm_one; leads = λ vars. refl; row_leads = λ fs n. refl }
+sourced_fourth vaffine_norm_one_cone =
+    record { cone = norm_one; leads = λ vars. refl; row_leads = λ fs n. refl }
 
 sourced : (edge : Edge) → family_of edge ≡ VectorSlack
     → (b : Body) → FitsItsFunction b → kind_of_body b ≡ source_of edge → Sourced edge b
@@ -118,7 +123,8 @@ module _ (edge : Edge) (own : family_of edge ≡ VectorSlack) where
         back = back_is item;
         no_growth = ap growth own;
         group_leads = source.leads (inner item (size item));
-        row_leads = source.row_leads (differences (functions_of item.body) (inner_functions item (size item))) (size item);
+        row_leads = source.row_leads (differences (functions_of item.body)
+            (inner_functions item (size item))) (size item);
       }))
 
 pub vector_slack_lawful : IsLawful VectorSlack

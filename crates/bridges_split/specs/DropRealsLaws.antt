@@ -76,7 +76,8 @@ module _ (edge : Edge) (own : family_of edge ≡ DropReals) where
   unfolding image_by
   image_is item = ap (λ f. image_by f edge item) own
 
-  pub back_is : (item : Item) (ys : List (List Rational)) → back_of edge item ys ≡ replicate (size item) zero_ℚ
+  pub back_is : (item : Item) (ys : List (List Rational))
+      → back_of edge item ys ≡ replicate (size item) zero_ℚ
   unfolding back_by
   back_is item ys = ap (λ f. back_by f item ys) own
 
@@ -97,14 +98,16 @@ module _ (edge : Edge) (own : family_of edge ≡ DropReals) where
 
     gap_none : gap_of (row_held item.body zeros) ≡ zero_ℚ
     gap_none =
-        ap₂ ◌-ℚ◌ (ap (λ s. low_of s zeros) any.set) (zeros_dot zeros (constants (functions_of item.body)) all_zero)
+        ap₂ ◌-ℚ◌ (ap (λ s. low_of s zeros) any.set) (zeros_dot zeros
+        (constants (functions_of item.body)) all_zero)
         ∙ -ℚ-itself zero_ℚ
 
     no_rows : MadeOfRows edge item []
     no_rows = record {
       source = any.row;
       each = All-nil (IsRowOf edge item);
-      values = λ one x h below. subst (λ s. In (multiplied one s) (evaluations one (functions_of item.body) x)) (sym any.set) tt;
+      values = λ one x h below. subst (λ s. In (multiplied one s)
+          (evaluations one (functions_of item.body) x)) (sym any.set) tt;
       holds = λ ys none hold.
           subst (λ w. IsHeld (row_held item.body w)) (sym (back_is item ys)) (record {
             set = valid.set;
@@ -112,15 +115,18 @@ module _ (edge : Edge) (own : family_of edge ≡ DropReals) where
             dual = subst (λ s. Dual s zeros) (sym any.set) all_zero;
           });
       same = λ ys none hold v.
-          ap (λ w. adjoint_of (row_held item.body w) v) (back_is item ys) ∙ zeros_dot zeros (coefficients (functions_of item.body) v) all_zero;
+          ap (λ w. adjoint_of (row_held item.body w) v) (back_is item ys)
+          ∙ zeros_dot zeros (coefficients (functions_of item.body) v) all_zero;
       gaps = λ ys none hold.
-          ≤ℚ_from_≡ _ _ (sym (ap (λ w. gap_of (row_held item.body w)) (back_is item ys) ∙ gap_none));
+          ≤ℚ_from_≡ _ _ (sym (ap (λ w. gap_of (row_held item.body w)) (back_is item ys)
+          ∙ gap_none));
     }
 
   law_at : Lawful edge
   law_at item suits =
       subst (EdgeLaw edge item) (sym (image_is item))
-      (rows_law edge item [] (no_rows item suits.valid (read (is_any edge own item.body suits.valid.function suits.kind))))
+      (rows_law edge item [] (no_rows item suits.valid
+      (read (is_any edge own item.body suits.valid.function suits.kind))))
 
 pub drop_reals_lawful : IsLawful DropReals
 drop_reals_lawful = lawful_family DropReals law_at

@@ -87,19 +87,23 @@ record Sourced (edge : Edge) (b : Body) : Type 0 where
 
 sourced_first : {b : Body} → OfKind kind.AffineInterval b → Sourced E11 b
 unfolding edge_entry kind_of_body
-sourced_first kinds.affine_interval = record { split = affine_interval; lower_leads = refl; upper_leads = refl }
+sourced_first kinds.affine_interval =
+    record { split = affine_interval; lower_leads = refl; upper_leads = refl }
 
 sourced_second : {b : Body} → OfKind kind.PlainInterval b → Sourced E12 b
 unfolding edge_entry kind_of_body
-sourced_second kinds.plain_interval = record { split = plain_interval; lower_leads = refl; upper_leads = refl }
+sourced_second kinds.plain_interval =
+    record { split = plain_interval; lower_leads = refl; upper_leads = refl }
 
 sourced_third : {b : Body} → OfKind kind.AffineEqualTo b → Sourced E13 b
 unfolding edge_entry kind_of_body
-sourced_third affine_equal_to = record { split = affine_equal; lower_leads = refl; upper_leads = refl }
+sourced_third affine_equal_to =
+    record { split = affine_equal; lower_leads = refl; upper_leads = refl }
 
 sourced_fourth : {b : Body} → OfKind kind.VaffineZeros b → Sourced E14 b
 unfolding edge_entry kind_of_body
-sourced_fourth vaffine_zeros = record { split = affine_zeros; lower_leads = refl; upper_leads = refl }
+sourced_fourth vaffine_zeros =
+    record { split = affine_zeros; lower_leads = refl; upper_leads = refl }
 
 sourced : (edge : Edge) → family_of edge ≡ SplitSet
     → (b : Body) → FitsItsFunction b → kind_of_body b ≡ source_of edge → Sourced edge b
@@ -138,15 +142,19 @@ interval_low l u p q order above beneath = by (is_le (rational_cmp zero_ℚ (p +
 
 -- the bounds of an interval that isn't crossed
 uncrossed_order : (l u : Rational) → is_crossed (Interval l u) ≡ false → l ≤ℚ u
-uncrossed_order l u e = ≤ℚ_from_not_‹ℚ l u (λ below. true≢false (sym ((is_lt_Decides u l).1 below) ∙ e))
+uncrossed_order l u e =
+    ≤ℚ_from_not_‹ℚ l u (λ below. true≢false (sym ((is_lt_Decides u l).1 below) ∙ e))
 
-interval_splits : (l u : Rational) → IsSetOf 1 (Interval l u) → Splits 1 (Interval l u) (GreaterThan l) (LessThan u)
+interval_splits : (l u : Rational) → IsSetOf 1 (Interval l u)
+    → Splits 1 (Interval l u) (GreaterThan l) (LessThan u)
 interval_splits l u fits = record {
   values = λ one v low high. (low, high);
   duals = λ p q low high. tt;
   lows = λ p q long same_long.
-      single₂ (λ p q. Dual (GreaterThan l) p → Dual (LessThan u) q → (low_of (GreaterThan l) p +ℚ low_of (LessThan u) q) ≤ℚ low_of (Interval l u) (plus p q))
-      (λ p q above beneath. interval_low l u p q (uncrossed_order l u fits.uncrossed) above beneath) p q long same_long;
+      single₂ (λ p q. Dual (GreaterThan l) p → Dual (LessThan u) q
+      → (low_of (GreaterThan l) p +ℚ low_of (LessThan u) q) ≤ℚ low_of (Interval l u) (plus p q))
+      (λ p q above beneath. interval_low l u p q (uncrossed_order l u fits.uncrossed) above beneath)
+      p q long same_long;
   lower_fits = record { dimension = refl; enough = omega arith; uncrossed = refl };
   upper_fits = record { dimension = refl; enough = omega arith; uncrossed = refl };
 }
@@ -156,16 +164,20 @@ equal_splits a = record {
   values = λ one v low high. ≤ℚ_antisymm (first_of v) (one *ℚ a) high low;
   duals = λ p q low high. tt;
   lows = λ p q long same_long.
-      single₂ (λ p q. Dual (GreaterThan a) p → Dual (LessThan a) q → (low_of (GreaterThan a) p +ℚ low_of (LessThan a) q) ≤ℚ low_of (EqualTo a) (plus p q))
+      single₂ (λ p q. Dual (GreaterThan a) p → Dual (LessThan a) q
+      → (low_of (GreaterThan a) p +ℚ low_of (LessThan a) q) ≤ℚ low_of (EqualTo a) (plus p q))
       (λ p q above beneath. ≤ℚ_from_≡ _ _ (sym (*ℚ-+ℚ a p q))) p q long same_long;
   lower_fits = record { dimension = refl; enough = omega arith; uncrossed = refl };
   upper_fits = record { dimension = refl; enough = omega arith; uncrossed = refl };
 }
 
-neither_sign : (v : List Rational) → All (λ q. zero_ℚ ≤ℚ q) v → All (λ q. q ≤ℚ zero_ℚ) v → All (λ q. q ≡ zero_ℚ) v
+neither_sign : (v : List Rational) → All (λ q. zero_ℚ ≤ℚ q) v → All (λ q. q ≤ℚ zero_ℚ) v
+    → All (λ q. q ≡ zero_ℚ) v
 neither_sign [] low high = All-nil (λ q. q ≡ zero_ℚ)
 neither_sign (p ∷ v) low high =
-    All-cons (λ q. q ≡ zero_ℚ) p v (≤ℚ_antisymm p zero_ℚ (All-head (λ q. q ≤ℚ zero_ℚ) p v high) (All-head (λ q. zero_ℚ ≤ℚ q) p v low))
+    All-cons (λ q. q
+    ≡ zero_ℚ) p v (≤ℚ_antisymm p zero_ℚ (All-head (λ q. q ≤ℚ zero_ℚ) p v high)
+    (All-head (λ q. zero_ℚ ≤ℚ q) p v low))
     (neither_sign v (All-tail (λ q. zero_ℚ ≤ℚ q) p v low) (All-tail (λ q. q ≤ℚ zero_ℚ) p v high))
 
 zeros_split : (n m : ℕ) → IsSetOf m (Zeros n) → Splits m (Zeros n) (Nonnegatives n) (Nonpositives n)
@@ -189,7 +201,8 @@ record Parted (b : Body) : Type 0 where
   upper_same : functions_of (upper b) ≡ functions_of b
   lower_set : set_of (lower b) ≡ lower_part (set_of b)
   upper_set : set_of (upper b) ≡ upper_part (set_of b)
-  splits : Splits (length (functions_of b)) (set_of b) (lower_part (set_of b)) (upper_part (set_of b))
+  splits : Splits (length (functions_of b)) (set_of b) (lower_part (set_of b))
+      (upper_part (set_of b))
 
 parted : {b : Body} → IsSplit b → IsSetOf (length (functions_of b)) (set_of b) → Parted b
 parted (affine_interval {f} {l} {u}) fits = record {
@@ -253,7 +266,8 @@ second_size (n ∷ (m ∷ ms)) = m
 -- ---- the law
 
 module _ (edge : Edge) (own : family_of edge ≡ SplitSet) where
-  pub image_is : (item : Item) → image_of edge item ≡ rows_at item (lower item.body ∷ upper item.body ∷ [])
+  pub image_is : (item : Item)
+      → image_of edge item ≡ rows_at item (lower item.body ∷ upper item.body ∷ [])
   unfolding image_by
   image_is item = ap (λ f. image_by f edge item) own
 
@@ -265,18 +279,23 @@ module _ (edge : Edge) (own : family_of edge ≡ SplitSet) where
   unfolding FitsBy
   image_fits item = subst (λ f. FitsBy f item) (sym own) tt
 
-  pub back_fits : (item : Item) (p q : List Rational) → BackFits edge item (p ∷ q ∷ []) ≡ SumsFit p q
+  pub back_fits : (item : Item) (p q : List Rational)
+      → BackFits edge item (p ∷ q ∷ []) ≡ SumsFit p q
   unfolding BackFitsBy
   back_fits item p q = ap (λ f. BackFitsBy f item (p ∷ q ∷ [])) own
 
   -- what is carried back of the two duals, by their sums
-  pub back_two : (item : Item) (ys : List (List Rational)) (a b p q : List Rational) (r : Result (List Rational) AffFault)
+  pub back_two : (item : Item) (ys : List (List Rational)) (a b p q : List Rational)
+      (r : Result (List Rational) AffFault)
       → ys ≡ p ∷ q ∷ [] → a ≡ p → b ≡ q → ExactWhere r (SumsFit a b) (λ x. x ≡ plus a b)
       → ExactWhere r (BackFits edge item ys) (λ x. x ≡ back_of edge item ys)
   back_two item ys a b p q r ys_are a_is b_is said =
-      subst (λ zs. ExactWhere r (BackFits edge item zs) (λ x. x ≡ back_of edge item zs)) (sym ys_are)
-      (subst (λ v. ExactWhere r (BackFits edge item (p ∷ q ∷ [])) (λ x. x ≡ v)) (sym (back_is item p q))
-      (exact_as r (SumsFit p q) (BackFits edge item (p ∷ q ∷ [])) (λ x. x ≡ plus p q) (λ x. x ≡ plus p q)
+      subst (λ zs. ExactWhere r (BackFits edge item zs) (λ x. x ≡ back_of edge item zs))
+      (sym ys_are)
+      (subst (λ v. ExactWhere r (BackFits edge item (p ∷ q ∷ [])) (λ x. x ≡ v))
+      (sym (back_is item p q))
+      (exact_as r (SumsFit p q) (BackFits edge item (p ∷ q ∷ [])) (λ x. x ≡ plus p q)
+      (λ x. x ≡ plus p q)
       (subst (λ T. T) (sym (back_fits item p q))) (subst (λ T. T) (back_fits item p q)) (λ x e. e)
       (subst (λ u. ExactWhere r (SumsFit u q) (λ x. x ≡ plus u q)) a_is
       (subst (λ v. ExactWhere r (SumsFit a v) (λ x. x ≡ plus a v)) b_is said))))
@@ -292,15 +311,18 @@ module _ (edge : Edge) (own : family_of edge ≡ SplitSet) where
     s = set_of item.body
 
     -- one of the two rows
-    row_of : (child : Body) (part : Set) → IsRow child → FitsItsFunction child → functions_of child ≡ fs → set_of child ≡ part
+    row_of : (child : Body) (part : Set) → IsRow child → FitsItsFunction child
+        → functions_of child ≡ fs → set_of child ≡ part
         → IsSetOf (length fs) part → LeadsTo edge child → IsRowOf edge item child
     row_of child part row shaped same set fits leads = record {
       made = row;
       shaped = shaped;
       some = subst (λ gs. 1 ≤ length gs) (sym same) valid.some;
-      fits = subst (λ gs. IsSetOf (length gs) (set_of child)) (sym same) (subst (IsSetOf (length fs)) (sym set) fits);
+      fits = subst (λ gs. IsSetOf (length gs) (set_of child)) (sym same)
+          (subst (IsSetOf (length fs)) (sym set) fits);
       unnamed = subst (All (NamesNothingBelow item.at)) (sym same) (valid.others p.source.no_group);
-      grows = subst (λ n. length (functions_of child) ≤ n * length fs) (sym (ap growth own)) (let e : length (functions_of child) ≡ length fs = ap length same in omega (arith, e));
+      grows = subst (λ n. length (functions_of child) ≤ n * length fs) (sym (ap growth own))
+          (let e : length (functions_of child) ≡ length fs = ap length same in omega (arith, e));
       leads = leads;
       mentioned = λ v m. subst (λ gs. Miss gs v) (sym same) m;
     }
@@ -319,12 +341,15 @@ module _ (edge : Edge) (own : family_of edge ≡ SplitSet) where
 
     module _ (u w : List Rational) (hold : DualsHold (rows_held bodies (u ∷ w ∷ []))) where
       first : IsHeld (held_by u (lower_part s))
-      first = subst IsHeld (lower_is u) (All-head IsHeld (row_held (lower item.body) u) (row_held (upper item.body) w ∷ []) hold)
+      first = subst IsHeld (lower_is u) (All-head IsHeld (row_held (lower item.body) u)
+          (row_held (upper item.body) w ∷ []) hold)
 
       second : IsHeld (held_by w (upper_part s))
       second =
           subst IsHeld (upper_is w)
-          (All-head IsHeld (row_held (upper item.body) w) [] (All-tail IsHeld (row_held (lower item.body) u) (row_held (upper item.body) w ∷ []) hold))
+          (All-head IsHeld (row_held (upper item.body) w) []
+          (All-tail IsHeld (row_held (lower item.body) u) (row_held (upper item.body) w ∷ [])
+          hold))
 
       same_size : length u ≡ length w
       same_size = first.size ∙ sym second.size
@@ -336,68 +361,96 @@ module _ (edge : Edge) (own : family_of edge ≡ SplitSet) where
         dual = p.splits.duals u w first.dual second.dual;
       }
 
-      products : (g : Function → Rational) → dot (plus u w) (map g fs) ≡ dot u (map g fs) +ℚ dot w (map g fs)
+      products : (g : Function → Rational)
+          → dot (plus u w) (map g fs) ≡ dot u (map g fs) +ℚ dot w (map g fs)
       products g = plus-dot u w (map g fs) same_size
 
-      two_same : (v : Address) → adjoint_of (row_held item.body (plus u w)) v ≡ adjoint (rows_held bodies (u ∷ w ∷ [])) v
+      two_same : (v : Address)
+          → adjoint_of (row_held item.body (plus u w)) v ≡ adjoint (rows_held bodies (u ∷ w ∷ [])) v
       two_same v =
           products (λ f. coefficient f v)
-          ∙ sym (ap₂ ◌+ℚ◌ (ap (λ k. adjoint_of k v) (lower_is u)) (+ℚ-zero (adjoint_of (row_held (upper item.body) w) v) ∙ ap (λ k. adjoint_of k v) (upper_is w)))
+          ∙ sym (ap₂ ◌+ℚ◌ (ap (λ k. adjoint_of k v) (lower_is u))
+          (+ℚ-zero (adjoint_of (row_held (upper item.body) w) v)
+          ∙ ap (λ k. adjoint_of k v) (upper_is w)))
 
-      gaps_sum : gap (rows_held bodies (u ∷ w ∷ [])) ≡ (low_of (lower_part s) u +ℚ low_of (upper_part s) w) -ℚ dot (plus u w) (constants fs)
+      gaps_sum : gap (rows_held bodies (u ∷ w ∷ []))
+          ≡ (low_of (lower_part s) u +ℚ low_of (upper_part s) w) -ℚ dot (plus u w) (constants fs)
       gaps_sum =
-          ap₂ ◌+ℚ◌ (ap gap_of (lower_is u)) (+ℚ-zero (gap_of (row_held (upper item.body) w)) ∙ ap gap_of (upper_is w))
-          ∙ +ℚ_inner_comm (low_of (lower_part s) u) (neg_ℚ (dot u (constants fs))) (low_of (upper_part s) w) (neg_ℚ (dot w (constants fs)))
+          ap₂ ◌+ℚ◌ (ap gap_of (lower_is u)) (+ℚ-zero (gap_of (row_held (upper item.body) w))
+          ∙ ap gap_of (upper_is w))
+          ∙ +ℚ_inner_comm (low_of (lower_part s) u) (neg_ℚ (dot u (constants fs)))
+          (low_of (upper_part s) w) (neg_ℚ (dot w (constants fs)))
           ∙ ap (λ q. (low_of (lower_part s) u +ℚ low_of (upper_part s) w) +ℚ q)
-          (sym (neg_ℚ-sum (dot u (constants fs)) (dot w (constants fs))) ∙ ap neg_ℚ (sym (products (λ f. f.constant))))
+          (sym (neg_ℚ-sum (dot u (constants fs)) (dot w (constants fs)))
+          ∙ ap neg_ℚ (sym (products (λ f. f.constant))))
 
       two_gaps : gap (rows_held bodies (u ∷ w ∷ [])) ≤ℚ gap_of (row_held item.body (plus u w))
       two_gaps =
           subst (λ q. q ≤ℚ gap_of (row_held item.body (plus u w))) (sym gaps_sum)
-          (≤ℚ-+ℚ_right (low_of (lower_part s) u +ℚ low_of (upper_part s) w) (low_of s (plus u w)) (neg_ℚ (dot (plus u w) (constants fs)))
+          (≤ℚ-+ℚ_right (low_of (lower_part s) u +ℚ low_of (upper_part s) w) (low_of s (plus u w))
+          (neg_ℚ (dot (plus u w) (constants fs)))
           (p.splits.lows u w first.size second.size first.dual second.dual))
 
     -- what is said of the only two duals
     of_two : (P : List (List Rational) → Type 0)
-        → ((u w : List Rational) → P (u ∷ w ∷ [])) → (ys : List (List Rational)) → length ys ≡ 2 → P ys
+        → ((u w : List Rational) → P (u ∷ w ∷ [])) → (ys : List (List Rational)) → length ys ≡ 2
+        → P ys
     of_two P h [] e = absurd (omega (arith, e))
     of_two P h (u ∷ []) e = absurd (omega (arith, e))
     of_two P h (u ∷ (w ∷ [])) e = h u w
     of_two P h (u ∷ (w ∷ (z ∷ zs))) e = absurd (omega (arith, e))
 
-    two_rows : LeadsTo edge (lower item.body) → LeadsTo edge (upper item.body) → MadeOfRows edge item bodies
+    two_rows : LeadsTo edge (lower item.body) → LeadsTo edge (upper item.body)
+        → MadeOfRows edge item bodies
     two_rows lower_leads upper_leads = record {
       source = p.source;
       each =
-          All-cons (IsRowOf edge item) (lower item.body) (upper item.body ∷ []) (row_of (lower item.body) (lower_part s) p.lower_row p.lower_shaped p.lower_same p.lower_set p.splits.lower_fits lower_leads)
-          (All-cons (IsRowOf edge item) (upper item.body) [] (row_of (upper item.body) (upper_part s) p.upper_row p.upper_shaped p.upper_same p.upper_set p.splits.upper_fits upper_leads) (All-nil (IsRowOf edge item)));
+          All-cons (IsRowOf edge item) (lower item.body) (upper item.body ∷ [])
+          (row_of (lower item.body) (lower_part s) p.lower_row p.lower_shaped p.lower_same
+          p.lower_set p.splits.lower_fits lower_leads)
+          (All-cons (IsRowOf edge item) (upper item.body) []
+          (row_of (upper item.body) (upper_part s) p.upper_row p.upper_shaped p.upper_same
+          p.upper_set p.splits.upper_fits upper_leads) (All-nil (IsRowOf edge item)));
       values = λ one x h below.
           p.splits.values one (evaluations one fs x)
-          (subst (λ k. Holds one k x) (lower_is []) (All-head (λ b. Holds one (row_held b []) x) (lower item.body) (upper item.body ∷ []) below))
-          (subst (λ k. Holds one k x) (upper_is []) (All-head (λ b. Holds one (row_held b []) x) (upper item.body) [] (All-tail (λ b. Holds one (row_held b []) x) (lower item.body) (upper item.body ∷ []) below)));
-      holds = of_two (λ ys. DualsHold (rows_held bodies ys) → IsHeld (row_held item.body (back_of edge item ys)))
-          (λ u w hold. subst (λ z. IsHeld (row_held item.body z)) (sym (back_is item u w)) (two_hold u w hold));
-      same = of_two (λ ys. DualsHold (rows_held bodies ys) → (v : Address) → adjoint_of (row_held item.body (back_of edge item ys)) v ≡ adjoint (rows_held bodies ys) v)
-          (λ u w hold v. ap (λ z. adjoint_of (row_held item.body z) v) (back_is item u w) ∙ two_same u w hold v);
-      gaps = of_two (λ ys. DualsHold (rows_held bodies ys) → gap (rows_held bodies ys) ≤ℚ gap_of (row_held item.body (back_of edge item ys)))
-          (λ u w hold. subst (λ z. gap (rows_held bodies (u ∷ w ∷ [])) ≤ℚ gap_of (row_held item.body z)) (sym (back_is item u w)) (two_gaps u w hold));
+          (subst (λ k. Holds one k x) (lower_is []) (All-head (λ b. Holds one (row_held b []) x)
+          (lower item.body) (upper item.body ∷ []) below))
+          (subst (λ k. Holds one k x) (upper_is []) (All-head (λ b. Holds one (row_held b []) x)
+          (upper item.body) [] (All-tail (λ b. Holds one (row_held b []) x) (lower item.body)
+          (upper item.body ∷ []) below)));
+      holds = of_two (λ ys. DualsHold (rows_held bodies ys)
+          → IsHeld (row_held item.body (back_of edge item ys)))
+          (λ u w hold. subst (λ z. IsHeld (row_held item.body z)) (sym (back_is item u w))
+          (two_hold u w hold));
+      same = of_two (λ ys. DualsHold (rows_held bodies ys) → (v : Address)
+          → adjoint_of (row_held item.body (back_of edge item ys)) v
+          ≡ adjoint (rows_held bodies ys) v)
+          (λ u w hold v. ap (λ z. adjoint_of (row_held item.body z) v) (back_is item u w)
+          ∙ two_same u w hold v);
+      gaps = of_two (λ ys. DualsHold (rows_held bodies ys)
+          → gap (rows_held bodies ys) ≤ℚ gap_of (row_held item.body (back_of edge item ys)))
+          (λ u w hold. subst (λ z. gap (rows_held bodies (u ∷ w ∷ [])) ≤ℚ gap_of
+          (row_held item.body z)) (sym (back_is item u w)) (two_gaps u w hold));
     }
 
   -- the two duals are of one length
-  pub same_sizes : (item : Item) → IsItemFor edge item → (ys : List (List Rational)) (p q : List Rational)
+  pub same_sizes : (item : Item) → IsItemFor edge item
+      → (ys : List (List Rational)) (p q : List Rational)
       → TakesDuals (kept_by edge item) ys → ys ≡ p ∷ q ∷ [] → length p ≡ length q
   unfolding first_size second_size
   same_sizes item suits ys p q takes ys_are =
       let parts = parted (is_split item.body suits.valid.function suits.kind) suits.valid.set in
       let sizes : map length (p ∷ q ∷ []) ≡ length (functions_of (lower item.body)) ∷ length (functions_of (upper item.body)) ∷ [] = ap (map length) (sym ys_are) ∙ dual_sizes edge item (rows_at item (lower item.body ∷ upper item.body ∷ [])) (image_is item) ys takes in
-      ap first_size sizes ∙ ap length (parts.lower_same ∙ sym parts.upper_same) ∙ sym (ap second_size sizes)
+      ap first_size sizes ∙ ap length (parts.lower_same ∙ sym parts.upper_same)
+      ∙ sym (ap second_size sizes)
 
   law_at : Lawful edge
   law_at item suits =
       let source = sourced edge own item.body suits.valid.function suits.kind in
       subst (EdgeLaw edge item) (sym (image_is item))
       (rows_law edge item (lower item.body ∷ upper item.body ∷ [])
-      (two_rows item suits.valid (parted source.split suits.valid.set) source.lower_leads source.upper_leads))
+      (two_rows item suits.valid (parted source.split suits.valid.set) source.lower_leads
+      source.upper_leads))
 
 pub split_set_lawful : IsLawful SplitSet
 split_set_lawful = lawful_family SplitSet law_at

@@ -64,7 +64,8 @@ read (zeros {vars} {n}) = record { count = n; set = refl; group = refl }
 pub no_row : (edge : Edge) → family_of edge ≡ ZerosVar → (item : Item) → IsItemFor edge item
     → is_group item.body ≡ false → ⊥
 no_row edge own item suits none =
-    true≢false (sym (read (is_zeros edge own item.body suits.valid.function suits.kind)).group ∙ none)
+    true≢false (sym (read (is_zeros edge own item.body suits.valid.function suits.kind)).group
+    ∙ none)
 
 -- ---- functions that are 0
 
@@ -88,7 +89,8 @@ all_nothing P h (f ∷ fs) = All-cons P nothing (nothings fs) h (all_nothing P h
 
 missed : (fs : List Function) (v : Address) → Miss (nothings fs) v
 missed fs v =
-    all_nothing (λ f. coefficient f v ≡ zero_ℚ) (coefficient-constant_function address_order zero_ℚ v) fs
+    all_nothing (λ f. coefficient f v
+    ≡ zero_ℚ) (coefficient-constant_function address_order zero_ℚ v) fs
 
 constant-nothing : nothing.constant ≡ zero_ℚ
 unfolding constant_function
@@ -133,14 +135,18 @@ module _ (edge : Edge) (own : family_of edge ≡ ZerosVar) where
     covered bound [] [] (u ∷ us) w b = absurd (omega (arith, b.each.objective))
     covered bound [] [] [] w b = record {
       holds = subst IsHeld (sym (item_is bound w)) (record {
-        set = subst (λ m. IsSetOf m (Zeros at_zero.count)) (sym long) (subst (IsSetOf (size item)) at_zero.set valid.set);
+        set = subst (λ m. IsSetOf m (Zeros at_zero.count)) (sym long)
+            (subst (IsSetOf (size item)) at_zero.set valid.set);
         size = b.carries.by_component at_zero.group ∙ sym long;
         dual = tt;
       });
-      same = λ v. ap (λ k. adjoint_of k v) (item_is bound w) ∙ dot_missed w fs v (missed (functions_of item.body) v);
+      same = λ v. ap (λ k. adjoint_of k v) (item_is bound w)
+          ∙ dot_missed w fs v (missed (functions_of item.body) v);
       gaps = ≤ℚ_from_≡ _ _ (sym
           (ap gap_of (item_is bound w)
-          ∙ ap (λ q. zero_ℚ -ℚ q) (dot_zeros w (constants fs) (All-map (λ q. q ≡ zero_ℚ) (λ f. f.constant) fs (all_nothing (λ f. f.constant ≡ zero_ℚ) constant-nothing (functions_of item.body))))
+          ∙ ap (λ q. zero_ℚ
+          -ℚ q) (dot_zeros w (constants fs) (All-map (λ q. q ≡ zero_ℚ) (λ f. f.constant) fs
+          (all_nothing (λ f. f.constant ≡ zero_ℚ) constant-nothing (functions_of item.body))))
           ∙ -ℚ-itself zero_ℚ));
     }
 
@@ -149,7 +155,9 @@ module _ (edge : Edge) (own : family_of edge ≡ ZerosVar) where
       values = record {
         holds = λ no_objective one x h below.
             subst (λ k. Holds one k x) (sym (item_is zero_ℚ []))
-            (All-map (λ q. q ≡ zero_ℚ) (λ f. evaluated one f x) fs (all_nothing (λ f. evaluated one f x ≡ zero_ℚ) (evaluated_constant_function one zero_ℚ x ∙ *ℚ-zero one) (functions_of item.body)));
+            (All-map (λ q. q ≡ zero_ℚ) (λ f. evaluated one f x) fs
+            (all_nothing (λ f. evaluated one f x ≡ zero_ℚ)
+            (evaluated_constant_function one zero_ℚ x ∙ *ℚ-zero one) (functions_of item.body)));
         costs = λ one x h below. All-nil _;
       };
       duals = λ bound duals w b. covered bound duals.groups duals.rows duals.objective w b;
@@ -160,13 +168,15 @@ module _ (edge : Edge) (own : family_of edge ≡ ZerosVar) where
       components = All-nil HasComponents;
       mentioned = All-nil (MentionsKnown item image);
       exprs = λ _. length-map fs Bridged ∙ long;
-      expressed = λ v absent. subst (λ gs. Miss gs v) (sym (expressed-bridged fs)) (missed (functions_of item.body) v);
+      expressed = λ v absent. subst (λ gs. Miss gs v) (sym (expressed-bridged fs))
+          (missed (functions_of item.body) v);
     }
 
   law_at : Lawful edge
   law_at item suits =
       subst (EdgeLaw edge item) (sym (image_is item))
-      (zeros_law item suits.valid (read (is_zeros edge own item.body suits.valid.function suits.kind)))
+      (zeros_law item suits.valid (read (is_zeros edge own item.body suits.valid.function
+      suits.kind)))
 
 pub zeros_var_lawful : IsLawful ZerosVar
 zeros_var_lawful = lawful_family ZerosVar law_at

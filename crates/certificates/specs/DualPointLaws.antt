@@ -1,5 +1,5 @@
--- What duals that meet the equations say at points of the model: the groups' part of the adjoint is the variables' duals, and the
--- pull is a sum over the variables.
+-- What duals that meet the equations say at points of the model: the groups' part of the adjoint is
+-- the variables' duals, and the pull is a sum over the variables.
 use Rattle.std.specs.Prelude.{◌≡◌, List, [], ◌∷◌, ◌++◌, flat_map, length, map, All, refl}
 use Rattle.std.proofs.Common.{sym, ◌∙◌, ap, ap₂, subst}
 use Rattle.std.proofs.lemmas.List.{length-map, map-append}
@@ -40,24 +40,32 @@ use Rattle.certificates.specs.PointLaws.{each_once, spread_cases}
 coefficient_variable : (a v : Address) → coefficient (variable {R = address_cmp} a) v ≡ unit v a
 coefficient_variable a v = sym (coefficient_by_unit (variable a) v) ∙ slope_variable a (unit v)
 
-weighed : (w : Address → Rational) (us : List Address) (v : Address) → dot (map w us) (coefficients (variables_at us) v) ≡ sum_by_ℚ (λ a. w a *ℚ unit v a) us
+weighed : (w : Address → Rational) (us : List Address) (v : Address)
+    → dot (map w us) (coefficients (variables_at us) v) ≡ sum_by_ℚ (λ a. w a *ℚ unit v a) us
 weighed w [] v = refl
 weighed w (a ∷ us) v = ap₂ (λ p s. w a *ℚ p +ℚ s) (coefficient_variable a v) (weighed w us v)
 
-groups_weighed : (w : Address → Rational) (groups : List Group) (v : Address) → adjoint (groups_with w groups) v ≡ sum_by_ℚ (λ a. w a *ℚ unit v a) (addresses_of (flat_map (λ g. g.vars) groups))
+groups_weighed : (w : Address → Rational) (groups : List Group) (v : Address)
+    → adjoint (groups_with w groups) v
+    ≡ sum_by_ℚ (λ a. w a *ℚ unit v a) (addresses_of (flat_map (λ g. g.vars) groups))
 groups_weighed w [] v = refl
 groups_weighed w (g ∷ groups) v =
     ap₂ ◌+ℚ◌ (weighed w (addresses_of g.vars) v) (groups_weighed w groups v)
-    ∙ sym (sum_by_ℚ-append (λ a. w a *ℚ unit v a) (addresses_of g.vars) (addresses_of (flat_map (λ g. g.vars) groups)))
-    ∙ ap (sum_by_ℚ (λ a. w a *ℚ unit v a)) (sym (map-append address_of g.vars (flat_map (λ g. g.vars) groups)))
+    ∙ sym (sum_by_ℚ-append (λ a. w a *ℚ unit v a) (addresses_of g.vars)
+    (addresses_of (flat_map (λ g. g.vars) groups)))
+    ∙ ap (sum_by_ℚ (λ a. w a
+    *ℚ unit v a)) (sym (map-append address_of g.vars (flat_map (λ g. g.vars) groups)))
 
-picked : (w : Address → Rational) (us : List Address) (v : Address) → sum_by_ℚ (λ a. w a *ℚ unit v a) us ≡ count us v *ℚ w v
+picked : (w : Address → Rational) (us : List Address) (v : Address)
+    → sum_by_ℚ (λ a. w a *ℚ unit v a) us ≡ count us v *ℚ w v
 picked w us v =
-    sum_by_ℚ_same (λ a. w a *ℚ unit v a) (λ a. unit a v *ℚ w v) us (λ a. same_or_other (w a *ℚ unit v a ≡ unit a v *ℚ w v) a v (here a) (there a))
+    sum_by_ℚ_same (λ a. w a *ℚ unit v a) (λ a. unit a v *ℚ w v) us
+    (λ a. same_or_other (w a *ℚ unit v a ≡ unit a v *ℚ w v) a v (here a) (there a))
     ∙ sum_by_ℚ-*ℚ_right (w v) (λ a. unit a v) us
   where
     here : (a : Address) → a ≡ v → w a *ℚ unit v a ≡ unit a v *ℚ w v
-    here a e = *ℚ_comm (w a) (unit v a) ∙ ap₂ (λ b c. unit b c *ℚ w a) (sym e) e ∙ ap (λ u. unit a v *ℚ w u) e
+    here a e = *ℚ_comm (w a) (unit v a) ∙ ap₂ (λ b c. unit b c *ℚ w a) (sym e) e
+        ∙ ap (λ u. unit a v *ℚ w u) e
 
     there : (a : Address) → ¬ (a ≡ v) → w a *ℚ unit v a ≡ unit a v *ℚ w v
     there a n =
@@ -67,27 +75,45 @@ picked w us v =
 -- ---- at points
 
 module _ (model : ModelValue) (rows : List (List Rational)) (vars : List Rational) where
-  adjoint_with_duals : (v : Address) → adjoint (with_duals model rows vars) v ≡ adjoint_of_rows model rows v +ℚ count (addresses_of (variables model)) v *ℚ at_point model vars v
+  adjoint_with_duals : (v : Address)
+      → adjoint (with_duals model rows vars) v
+      ≡ adjoint_of_rows model rows v
+      +ℚ count (addresses_of (variables model)) v *ℚ at_point model vars v
   adjoint_with_duals v =
       adjoint-append (rows_with rows model.rows) (groups_with (at_point model vars) model.groups) v
-      ∙ ap (λ q. adjoint_of_rows model rows v +ℚ q) (groups_weighed (at_point model vars) model.groups v ∙ picked (at_point model vars) (addresses_of (variables model)) v)
+      ∙ ap (λ q. adjoint_of_rows model rows v +ℚ q)
+      (groups_weighed (at_point model vars) model.groups v
+      ∙ picked (at_point model vars) (addresses_of (variables model)) v)
 
-  -- at a point of the model the adjoint weighs as the equations say, which speak of its variables alone
-  pub weighs : IsValid model → (c : Address → Rational) → All (λ v. adjoint_of_rows model rows v +ℚ at_point model vars v ≡ c v) (addresses_of (variables model)) → (y : List Rational) (v : Address) → adjoint (with_duals model rows vars) v *ℚ at_point model y v ≡ c v *ℚ at_point model y v
+  -- at a point of the model the adjoint weighs as the equations say, which speak of its variables
+  -- alone
+  pub weighs : IsValid model → (c : Address → Rational)
+      → All (λ v. adjoint_of_rows model rows v +ℚ at_point model vars v ≡ c v)
+      (addresses_of (variables model)) → (y : List Rational) (v : Address)
+      → adjoint (with_duals model rows vars) v *ℚ at_point model y v ≡ c v *ℚ at_point model y v
   weighs valid c equations y v =
-      spread_cases (adjoint (with_duals model rows vars) v *ℚ at_point model y v ≡ c v *ℚ at_point model y v)
-      (λ u. (count (addresses_of (variables model)) u ≡ one_ℚ) × (adjoint_of_rows model rows u +ℚ at_point model vars u ≡ c u))
-      (addresses_of (variables model)) y v (λ k d end. (each_once (variables model) valid.consistent.variables_rise k d end, equations k d end)) here elsewhere
+      spread_cases (adjoint (with_duals model rows vars) v *ℚ at_point model y v
+      ≡ c v *ℚ at_point model y v)
+      (λ u. (count (addresses_of (variables model)) u ≡ one_ℚ)
+      × (adjoint_of_rows model rows u +ℚ at_point model vars u ≡ c u))
+      (addresses_of (variables model)) y v (λ k d end.
+      (each_once (variables model) valid.consistent.variables_rise k d end, equations k d end))
+      here elsewhere
     where
-      here : (count (addresses_of (variables model)) v ≡ one_ℚ) × (adjoint_of_rows model rows v +ℚ at_point model vars v ≡ c v) → adjoint (with_duals model rows vars) v *ℚ at_point model y v ≡ c v *ℚ at_point model y v
+      here : (count (addresses_of (variables model)) v ≡ one_ℚ)
+          × (adjoint_of_rows model rows v +ℚ at_point model vars v ≡ c v)
+          → adjoint (with_duals model rows vars) v *ℚ at_point model y v ≡ c v *ℚ at_point model y v
       here p =
           ap (λ q. q *ℚ at_point model y v)
-          (adjoint_with_duals v ∙ ap (λ n. adjoint_of_rows model rows v +ℚ n *ℚ at_point model vars v) p.0
+          (adjoint_with_duals v
+          ∙ ap (λ n. adjoint_of_rows model rows v +ℚ n *ℚ at_point model vars v) p.0
           ∙ ap (λ q. adjoint_of_rows model rows v +ℚ q) (one-*ℚ (at_point model vars v)) ∙ p.1)
 
-      elsewhere : at_point model y v ≡ zero_ℚ → adjoint (with_duals model rows vars) v *ℚ at_point model y v ≡ c v *ℚ at_point model y v
+      elsewhere : at_point model y v ≡ zero_ℚ
+          → adjoint (with_duals model rows vars) v *ℚ at_point model y v ≡ c v *ℚ at_point model y v
       elsewhere z =
-          ap (λ q. adjoint (with_duals model rows vars) v *ℚ q) z ∙ *ℚ-zero (adjoint (with_duals model rows vars) v)
+          ap (λ q. adjoint (with_duals model rows vars) v *ℚ q) z
+          ∙ *ℚ-zero (adjoint (with_duals model rows vars) v)
           ∙ sym (ap (λ q. c v *ℚ q) z ∙ *ℚ-zero (c v))
 
 -- ---- the pull at such a point
@@ -96,16 +122,21 @@ module _ (hs : List Held) (f : Function) where
   abbrev both : List Address
   both = support (mentioned_in hs ++ mentioned f)
 
-  pub pull_at : (x : Address → Rational) → ((v : Address) → adjoint hs v *ℚ x v ≡ coefficient f v *ℚ x v) → pull hs x ≡ slope f x
+  pub pull_at : (x : Address → Rational)
+      → ((v : Address) → adjoint hs v *ℚ x v ≡ coefficient f v *ℚ x v) → pull hs x ≡ slope f x
   pull_at x h =
-      pull_over both hs x (supports_first both (mentioned_in hs) (mentioned f) (support_supports (mentioned_in hs ++ mentioned f)))
+      pull_over both hs x (supports_first both (mentioned_in hs) (mentioned f)
+      (support_supports (mentioned_in hs ++ mentioned f)))
       ∙ sum_by_ℚ_same (λ u. adjoint hs u *ℚ x u) (λ u. coefficient f u *ℚ x u) both h
-      ∙ sym (slope_over both f x (supports_second both (mentioned_in hs) (mentioned f) (support_supports (mentioned_in hs ++ mentioned f))))
+      ∙ sym (slope_over both f x (supports_second both (mentioned_in hs) (mentioned f)
+      (support_supports (mentioned_in hs ++ mentioned f))))
 
-pub no_pull_at : (hs : List Held) (x : Address → Rational) → ((v : Address) → adjoint hs v *ℚ x v ≡ zero_ℚ *ℚ x v) → pull hs x ≡ zero_ℚ
+pub no_pull_at : (hs : List Held) (x : Address → Rational)
+    → ((v : Address) → adjoint hs v *ℚ x v ≡ zero_ℚ *ℚ x v) → pull hs x ≡ zero_ℚ
 no_pull_at hs x h =
     pull_is hs x
-    ∙ sum_by_ℚ_same (λ u. adjoint hs u *ℚ x u) (λ _. zero_ℚ) (variables_in hs) (λ u. h u ∙ zero-*ℚ (x u))
+    ∙ sum_by_ℚ_same (λ u. adjoint hs u *ℚ x u) (λ _. zero_ℚ) (variables_in hs)
+    (λ u. h u ∙ zero-*ℚ (x u))
     ∙ sum_by_ℚ_zero (variables_in hs)
 
 -- ---- duals of a valid model hold
@@ -119,19 +150,23 @@ component_count (Affine f) = refl
 component_count (PlainVec vars) = length-map vars (variable {R = address_cmp})
 component_count (AffineVec fs) = refl
 
-row_sets : (groups : List Group) (ys : List (List Rational)) (rows : List Row) → All (IsValidRow groups) rows → All HasSet (rows_with ys rows)
+row_sets : (groups : List Group) (ys : List (List Rational)) (rows : List Row)
+    → All (IsValidRow groups) rows → All HasSet (rows_with ys rows)
 row_sets groups [] rows valid = All-nil HasSet
 row_sets groups (y ∷ ys) [] valid = All-nil HasSet
 row_sets groups (y ∷ ys) (r ∷ rows) valid =
     All-cons HasSet (row_with y r) (rows_with ys rows)
-    (subst (λ n. IsSetOf n r.set) (sym (component_count r.func)) ((All-head (IsValidRow groups) r rows valid).set))
+    (subst (λ n. IsSetOf n r.set) (sym (component_count r.func))
+    ((All-head (IsValidRow groups) r rows valid).set))
     (row_sets groups ys rows (All-tail (IsValidRow groups) r rows valid))
 
 group_set : (w : Address → Rational) (g : Group) → IsValidGroup g → HasSet (group_with w g)
 group_set w g valid =
-    subst (λ n. IsSetOf n g.set) (sym (length-map (addresses_of g.vars) (variable {R = address_cmp}) ∙ length-map g.vars address_of)) valid.set
+    subst (λ n. IsSetOf n g.set) (sym (length-map (addresses_of g.vars) (variable {R = address_cmp})
+    ∙ length-map g.vars address_of)) valid.set
 
-pub duals_hold : (model : ModelValue) (rows : List (List Rational)) (vars : List Rational) → IsValid model → AreDuals model rows vars → DualsHold (with_duals model rows vars)
+pub duals_hold : (model : ModelValue) (rows : List (List Rational)) (vars : List Rational)
+    → IsValid model → AreDuals model rows vars → DualsHold (with_duals model rows vars)
 duals_hold model rows vars valid duals = λ k d end. record {
   set = sets k d end;
   size = (duals.duals k d end).size;
@@ -140,19 +175,26 @@ duals_hold model rows vars valid duals = λ k d end. record {
   where
     sets : All HasSet (with_duals model rows vars)
     sets =
-        All-append HasSet (rows_with rows model.rows) (groups_with (at_point model vars) model.groups) (row_sets model.groups rows model.rows valid.parts.valid_rows)
-        (All-map HasSet (group_with (at_point model vars)) model.groups (All-weaker IsValidGroup (λ g. HasSet (group_with (at_point model vars) g)) (group_set (at_point model vars)) model.groups valid.parts.valid_groups))
+        All-append HasSet (rows_with rows model.rows)
+        (groups_with (at_point model vars) model.groups)
+        (row_sets model.groups rows model.rows valid.parts.valid_rows)
+        (All-map HasSet (group_with (at_point model vars)) model.groups
+        (All-weaker IsValidGroup (λ g. HasSet (group_with (at_point model vars) g))
+        (group_set (at_point model vars)) model.groups valid.parts.valid_groups))
 
 -- ---- feasible points are in the sets
 
-value_holds : (set : Set) (fs : List Function) (x : Address → Rational) → In set (values fs x) → In (multiplied one_ℚ set) (evaluations one_ℚ fs x)
+value_holds : (set : Set) (fs : List Function) (x : Address → Rational) → In set (values fs x)
+    → In (multiplied one_ℚ set) (evaluations one_ℚ fs x)
 value_holds set fs x h =
-    subst (λ v. In (multiplied one_ℚ set) v) (sym (evaluations_values fs x)) (subst (λ s. In s (values fs x)) (sym (multiplied_one set)) h)
+    subst (λ v. In (multiplied one_ℚ set) v) (sym (evaluations_values fs x))
+    (subst (λ s. In s (values fs x)) (sym (multiplied_one set)) h)
 
 abbrev RowIn : (Address → Rational) → Row → Type 0
 RowIn x r = In r.set (values (functions_of r.func) x)
 
-rows_hold : (x : Address → Rational) (ys : List (List Rational)) (rows : List Row) → All (RowIn x) rows → AllHold one_ℚ (rows_with ys rows) x
+rows_hold : (x : Address → Rational) (ys : List (List Rational)) (rows : List Row)
+    → All (RowIn x) rows → AllHold one_ℚ (rows_with ys rows) x
 rows_hold x [] rows h = All-nil (λ h. Holds one_ℚ h x)
 rows_hold x (y ∷ ys) [] h = All-nil (λ h. Holds one_ℚ h x)
 rows_hold x (y ∷ ys) (r ∷ rows) h =
@@ -163,8 +205,13 @@ rows_hold x (y ∷ ys) (r ∷ rows) h =
 abbrev GroupIn : (Address → Rational) → Group → Type 0
 GroupIn x g = In g.set (values (functions_of_group g) x)
 
-pub all_hold : (model : ModelValue) (rows : List (List Rational)) (vars y : List Rational) → IsFeasible model y → AllHold one_ℚ (with_duals model rows vars) (at_point model y)
+pub all_hold : (model : ModelValue) (rows : List (List Rational)) (vars y : List Rational)
+    → IsFeasible model y → AllHold one_ℚ (with_duals model rows vars) (at_point model y)
 all_hold model rows vars y feasible =
-    All-append (λ h. Holds one_ℚ h (at_point model y)) (rows_with rows model.rows) (groups_with (at_point model vars) model.groups) (rows_hold (at_point model y) rows model.rows feasible.rows)
+    All-append (λ h. Holds one_ℚ h (at_point model y)) (rows_with rows model.rows)
+    (groups_with (at_point model vars) model.groups)
+    (rows_hold (at_point model y) rows model.rows feasible.rows)
     (All-map (λ h. Holds one_ℚ h (at_point model y)) (group_with (at_point model vars)) model.groups
-    (All-weaker (GroupIn (at_point model y)) (λ g. Holds one_ℚ (group_with (at_point model vars) g) (at_point model y)) (λ g. value_holds g.set (functions_of_group g) (at_point model y)) model.groups feasible.groups))
+    (All-weaker (GroupIn (at_point model y)) (λ g. Holds one_ℚ (group_with (at_point model vars) g)
+    (at_point model y)) (λ g. value_holds g.set (functions_of_group g) (at_point model y))
+    model.groups feasible.groups))

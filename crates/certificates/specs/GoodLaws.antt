@@ -1,5 +1,5 @@
--- What follows of a valid model that has a good certificate: the optimal value is as good as any feasible point's; no point is
--- feasible; every value is bettered by some feasible point.
+-- What follows of a valid model that has a good certificate: the optimal value is as good as any
+-- feasible point's; no point is feasible; every value is bettered by some feasible point.
 use Rattle.std.specs.Prelude.{◌≡◌, List, [], ◌∷◌, length, All, refl}
 use Rattle.std.proofs.Common.{sym, ◌∙◌, ap, ap₂, subst}
 use Rattle.std.proofs.lemmas.List.{length-map}
@@ -41,31 +41,52 @@ one_nonneg = ≤ℚ_from_‹ℚ zero_ℚ one_ℚ zero_‹ℚ_one
 
 -- ---- duals bound the objective
 
-module _ (model : ModelValue) (valid : IsValid model) (rows : List (List Rational)) (vars : List Rational) (duals : AreDuals model rows vars) where
-  gap_below_pull : (y : List Rational) → IsFeasible model y → dual_gap model rows vars ≤ℚ pull (with_duals model rows vars) (at_point model y)
+module _ (model : ModelValue) (valid : IsValid model) (rows : List (List Rational))
+    (vars : List Rational) (duals : AreDuals model rows vars) where
+  gap_below_pull : (y : List Rational) → IsFeasible model y
+      → dual_gap model rows vars ≤ℚ pull (with_duals model rows vars) (at_point model y)
   gap_below_pull y feasible =
-      subst (λ q. q ≤ℚ pull (with_duals model rows vars) (at_point model y)) (one-*ℚ (dual_gap model rows vars))
-      (gaps_below one_ℚ one_nonneg (at_point model y) (with_duals model rows vars) (duals_hold model rows vars valid duals) (all_hold model rows vars y feasible))
+      subst (λ q. q ≤ℚ pull (with_duals model rows vars) (at_point model y))
+      (one-*ℚ (dual_gap model rows vars))
+      (gaps_below one_ℚ one_nonneg (at_point model y) (with_duals model rows vars)
+      (duals_hold model rows vars valid duals) (all_hold model rows vars y feasible))
 
   -- the duals' objective is no worse than the value at any feasible point
-  dual_bound : (sense : Sense) (f : Function) → All (λ v. at_point model vars v ≡ reduced_cost sense (coefficient f v) (adjoint_of_rows model rows v)) (addresses_of (variables model)) → (y : List Rational) → IsFeasible model y → ¬ (IsBetter sense (value_of f (at_point model y)) (dual_value sense f.constant (dual_gap model rows vars)))
+  dual_bound : (sense : Sense) (f : Function)
+      → All (λ v. at_point model vars v
+      ≡ reduced_cost sense (coefficient f v) (adjoint_of_rows model rows v))
+      (addresses_of (variables model)) → (y : List Rational) → IsFeasible model y
+      → ¬ (IsBetter sense (value_of f (at_point model y))
+      (dual_value sense f.constant (dual_gap model rows vars)))
   unfolding value_of
   dual_bound Min f equations y feasible =
-      not_‹ℚ_from_≤ℚ (f.constant +ℚ dual_gap model rows vars) (f.constant +ℚ slope f (at_point model y))
+      not_‹ℚ_from_≤ℚ (f.constant +ℚ dual_gap model rows vars)
+      (f.constant +ℚ slope f (at_point model y))
       (≤ℚ-+ℚ_left (dual_gap model rows vars) (slope f (at_point model y)) f.constant
-      (subst (λ q. dual_gap model rows vars ≤ℚ q) (pull_at (with_duals model rows vars) f (at_point model y) (weighs model rows vars valid (coefficient f) each y)) (gap_below_pull y feasible)))
+      (subst (λ q. dual_gap model rows vars ≤ℚ q) (pull_at (with_duals model rows vars) f
+      (at_point model y) (weighs model rows vars valid (coefficient f) each y))
+      (gap_below_pull y feasible)))
     where
       regrouped : (a c : Rational) → a +ℚ (c -ℚ a) ≡ c
       regrouped = ring₂ _ (λ ρ. simp as_expression (by_ring ρ _ _ refl))
 
-      each : All (λ v. adjoint_of_rows model rows v +ℚ at_point model vars v ≡ coefficient f v) (addresses_of (variables model))
-      each = All-weaker (λ v. at_point model vars v ≡ coefficient f v -ℚ adjoint_of_rows model rows v) (λ v. adjoint_of_rows model rows v +ℚ at_point model vars v ≡ coefficient f v) (λ v e. ap (λ q. adjoint_of_rows model rows v +ℚ q) e ∙ regrouped (adjoint_of_rows model rows v) (coefficient f v)) (addresses_of (variables model)) equations
+      each : All (λ v. adjoint_of_rows model rows v +ℚ at_point model vars v ≡ coefficient f v)
+          (addresses_of (variables model))
+      each = All-weaker (λ v. at_point model vars v
+          ≡ coefficient f v -ℚ adjoint_of_rows model rows v)
+          (λ v. adjoint_of_rows model rows v +ℚ at_point model vars v ≡ coefficient f v)
+          (λ v e. ap (λ q. adjoint_of_rows model rows v +ℚ q) e
+          ∙ regrouped (adjoint_of_rows model rows v) (coefficient f v))
+          (addresses_of (variables model)) equations
   dual_bound Max f equations y feasible =
-      not_‹ℚ_from_≤ℚ (f.constant +ℚ slope f (at_point model y)) (f.constant -ℚ dual_gap model rows vars)
+      not_‹ℚ_from_≤ℚ (f.constant +ℚ slope f (at_point model y))
+      (f.constant -ℚ dual_gap model rows vars)
       (≤ℚ-+ℚ_left (slope f (at_point model y)) (neg_ℚ (dual_gap model rows vars)) f.constant
       (subst (λ q. q ≤ℚ neg_ℚ (dual_gap model rows vars)) (neg_ℚ-neg_ℚ (slope f (at_point model y)))
       (neg_ℚ-≤ℚ (dual_gap model rows vars) (neg_ℚ (slope f (at_point model y)))
-      (subst (λ q. dual_gap model rows vars ≤ℚ q) (pull_at (with_duals model rows vars) (negated f) (at_point model y) (weighs model rows vars valid (coefficient (negated f)) each y) ∙ slope_negated f (negated f) negation (at_point model y)) (gap_below_pull y feasible)))))
+      (subst (λ q. dual_gap model rows vars ≤ℚ q) (pull_at (with_duals model rows vars) (negated f)
+      (at_point model y) (weighs model rows vars valid (coefficient (negated f)) each y)
+      ∙ slope_negated f (negated f) negation (at_point model y)) (gap_below_pull y feasible)))))
     where
       negation : IsNegated f (negated f)
       negation = is_negated address_order f (negated f) refl
@@ -73,22 +94,35 @@ module _ (model : ModelValue) (valid : IsValid model) (rows : List (List Rationa
       regrouped : (a c : Rational) → a +ℚ neg_ℚ (c +ℚ a) ≡ neg_ℚ c
       regrouped = ring₂ _ (λ ρ. simp as_expression (by_ring ρ _ _ refl))
 
-      each : All (λ v. adjoint_of_rows model rows v +ℚ at_point model vars v ≡ coefficient (negated f) v) (addresses_of (variables model))
-      each = All-weaker (λ v. at_point model vars v ≡ neg_ℚ (coefficient f v +ℚ adjoint_of_rows model rows v)) (λ v. adjoint_of_rows model rows v +ℚ at_point model vars v ≡ coefficient (negated f) v) (λ v e. ap (λ q. adjoint_of_rows model rows v +ℚ q) e ∙ regrouped (adjoint_of_rows model rows v) (coefficient f v) ∙ sym (negation.coefficients v)) (addresses_of (variables model)) equations
+      each : All (λ v. adjoint_of_rows model rows v +ℚ at_point model vars v
+          ≡ coefficient (negated f) v) (addresses_of (variables model))
+      each = All-weaker (λ v. at_point model vars v
+          ≡ neg_ℚ (coefficient f v +ℚ adjoint_of_rows model rows v))
+          (λ v. adjoint_of_rows model rows v +ℚ at_point model vars v ≡ coefficient (negated f) v)
+          (λ v e. ap (λ q. adjoint_of_rows model rows v +ℚ q) e
+          ∙ regrouped (adjoint_of_rows model rows v) (coefficient f v)
+          ∙ sym (negation.coefficients v)) (addresses_of (variables model)) equations
 
 -- ---- the three kinds
 
 module _ (model : ModelValue) (valid : IsValid model) where
   -- no feasible point has a better value
-  pub none_is_better : (value : Rational) (x : List Rational) (rows : List (List Rational)) (vars : List Rational) → IsOptimal model value x rows vars → (y : List Rational) → IsFeasible model y → ¬ (IsBetter (sense_of model.objective) (objective_value model y) value)
+  pub none_is_better : (value : Rational) (x : List Rational) (rows : List (List Rational))
+      (vars : List Rational) → IsOptimal model value x rows vars → (y : List Rational)
+      → IsFeasible model y → ¬ (IsBetter (sense_of model.objective) (objective_value model y) value)
   none_is_better value x rows vars optimal y feasible better =
-      dual_bound model valid rows vars optimal.duals (sense_of model.objective) (objective_function model.objective) optimal.equations y feasible
-      (subst (λ q. IsBetter (sense_of model.objective) (objective_value model y) q) optimal.dual better)
+      dual_bound model valid rows vars optimal.duals (sense_of model.objective)
+      (objective_function model.objective) optimal.equations y feasible
+      (subst (λ q. IsBetter (sense_of model.objective) (objective_value model y) q) optimal.dual
+      better)
 
-  pub none_is_feasible : (gap : Rational) (rows : List (List Rational)) (vars : List Rational) → IsInfeasible model gap rows vars → (y : List Rational) → ¬ (IsFeasible model y)
+  pub none_is_feasible : (gap : Rational) (rows : List (List Rational)) (vars : List Rational)
+      → IsInfeasible model gap rows vars → (y : List Rational) → ¬ (IsFeasible model y)
   none_is_feasible gap rows vars infeasible y feasible =
       not_‹ℚ_from_≤ℚ (dual_gap model rows vars) zero_ℚ
-      (subst (λ q. dual_gap model rows vars ≤ℚ q) (no_pull_at (with_duals model rows vars) (at_point model y) (weighs model rows vars valid (λ _. zero_ℚ) infeasible.equations y)) (gap_below_pull model valid rows vars infeasible.duals y feasible))
+      (subst (λ q. dual_gap model rows vars ≤ℚ q) (no_pull_at (with_duals model rows vars)
+      (at_point model y) (weighs model rows vars valid (λ _. zero_ℚ) infeasible.equations y))
+      (gap_below_pull model valid rows vars infeasible.duals y feasible))
       (subst (λ q. zero_ℚ ‹ℚ q) infeasible.is_gap infeasible.positive)
 
 -- ---- along a ray
@@ -97,53 +131,75 @@ module _ (model : ModelValue) (valid : IsValid model) where
 abbrev pub moved : Rational → List Rational → List Rational → List Rational
 moved t x d = plus x (times t d)
 
-module _ (model : ModelValue) (t : Rational) (x d : List Rational) (e : length x ≡ length (variables model)) (k : length d ≡ length (variables model)) where
+module _ (model : ModelValue) (t : Rational) (x d : List Rational)
+    (e : length x ≡ length (variables model)) (k : length d ≡ length (variables model)) where
   size_of : length (addresses_of (variables model)) ≡ length (variables model)
   size_of = length-map (variables model) address_of
 
   moved_at : at_point model (moved t x d) ≡ (λ v. at_point model x v +ℚ t *ℚ at_point model d v)
   moved_at = λ i v. each v i
     where
-      each : (v : Address) → at_point model (moved t x d) v ≡ at_point model x v +ℚ t *ℚ at_point model d v
+      each : (v : Address)
+          → at_point model (moved t x d) v ≡ at_point model x v +ℚ t *ℚ at_point model d v
       each v =
-          spread-plus (addresses_of (variables model)) x (times t d) v (e ∙ sym size_of) (length-times t d ∙ k ∙ sym size_of)
+          spread-plus (addresses_of (variables model)) x (times t d) v (e ∙ sym size_of)
+          (length-times t d ∙ k ∙ sym size_of)
           ∙ ap (λ q. at_point model x v +ℚ q) (spread-times (addresses_of (variables model)) t d v)
 
-  slope_moved : (f : Function) → slope f (at_point model (moved t x d)) ≡ slope f (at_point model x) +ℚ t *ℚ slope f (at_point model d)
+  slope_moved : (f : Function)
+      → slope f (at_point model (moved t x d))
+      ≡ slope f (at_point model x) +ℚ t *ℚ slope f (at_point model d)
   slope_moved f =
-      ap (slope f) moved_at ∙ linear-+ℚ (terms_of f) (at_point model x) (λ v. t *ℚ at_point model d v)
+      ap (slope f) moved_at
+      ∙ linear-+ℚ (terms_of f) (at_point model x) (λ v. t *ℚ at_point model d v)
       ∙ ap (λ q. slope f (at_point model x) +ℚ q) (linear-*ℚ t (terms_of f) (at_point model d))
 
-  value_moved : (f : Function) → value_of f (at_point model (moved t x d)) ≡ value_of f (at_point model x) +ℚ t *ℚ slope f (at_point model d)
+  value_moved : (f : Function)
+      → value_of f (at_point model (moved t x d))
+      ≡ value_of f (at_point model x) +ℚ t *ℚ slope f (at_point model d)
   unfolding value_of
   value_moved f =
-      ap (λ q. f.constant +ℚ q) (slope_moved f) ∙ regrouped f.constant (slope f (at_point model x)) (t *ℚ slope f (at_point model d))
+      ap (λ q. f.constant +ℚ q) (slope_moved f)
+      ∙ regrouped f.constant (slope f (at_point model x)) (t *ℚ slope f (at_point model d))
     where
       regrouped : (a b c : Rational) → a +ℚ (b +ℚ c) ≡ (a +ℚ b) +ℚ c
       regrouped = ring₃ _ (λ ρ. simp as_expression (by_ring ρ _ _ refl))
 
-  values_moved : (fs : List Function) → values fs (at_point model (moved t x d)) ≡ plus (values fs (at_point model x)) (times t (slopes fs (at_point model d)))
+  values_moved : (fs : List Function)
+      → values fs (at_point model (moved t x d))
+      ≡ plus (values fs (at_point model x)) (times t (slopes fs (at_point model d)))
   values_moved [] = refl
   values_moved (f ∷ fs) = ap₂ (λ q qs. q ∷ qs) (value_moved f) (values_moved fs)
 
   module _ (a : zero_ℚ ≤ℚ t) where
-    stays : (set : Set) (fs : List Function) → In set (values fs (at_point model x)) → In (recession set) (slopes fs (at_point model d)) → In set (values fs (at_point model (moved t x d)))
+    stays : (set : Set) (fs : List Function) → In set (values fs (at_point model x))
+        → In (recession set) (slopes fs (at_point model d))
+        → In set (values fs (at_point model (moved t x d)))
     stays set fs inside along =
         subst (In set) (sym (values_moved fs))
-        (recession_stays t a set (values fs (at_point model x)) (slopes fs (at_point model d)) (length-map fs (λ f. value_of f (at_point model x)) ∙ sym (length-map fs (λ f. slope f (at_point model d)))) inside along)
+        (recession_stays t a set (values fs (at_point model x)) (slopes fs (at_point model d))
+        (length-map fs (λ f. value_of f (at_point model x))
+        ∙ sym (length-map fs (λ f. slope f (at_point model d)))) inside along)
 
     abbrev GroupStays : Group → Type 0
-    GroupStays g = In g.set (values (functions_of_group g) (at_point model x)) × In (recession g.set) (slopes (functions_of_group g) (at_point model d))
+    GroupStays g = In g.set (values (functions_of_group g) (at_point model x))
+        × In (recession g.set) (slopes (functions_of_group g) (at_point model d))
 
     abbrev RowStays : Row → Type 0
-    RowStays r = In r.set (values (functions_of r.func) (at_point model x)) × In (recession r.set) (slopes (functions_of r.func) (at_point model d))
+    RowStays r = In r.set (values (functions_of r.func) (at_point model x))
+        × In (recession r.set) (slopes (functions_of r.func) (at_point model d))
 
     -- a feasible point stays feasible
     moved_feasible : IsFeasible model x → IsRay model d → IsFeasible model (moved t x d)
     moved_feasible feasible ray = record {
       size = length-plus x (times t d) (e ∙ sym k ∙ sym (length-times t d)) ∙ length-times t d ∙ k;
-      groups = All-weaker GroupStays (λ g. In g.set (values (functions_of_group g) (at_point model (moved t x d)))) (λ g p. stays g.set (functions_of_group g) p.0 p.1) model.groups (λ i z end. (feasible.groups i z end, ray.groups i z end));
-      rows = All-weaker RowStays (λ r. In r.set (values (functions_of r.func) (at_point model (moved t x d)))) (λ r p. stays r.set (functions_of r.func) p.0 p.1) model.rows (λ i z end. (feasible.rows i z end, ray.rows i z end));
+      groups = All-weaker GroupStays (λ g. In g.set
+          (values (functions_of_group g) (at_point model (moved t x d))))
+          (λ g p. stays g.set (functions_of_group g) p.0 p.1) model.groups
+          (λ i z end. (feasible.groups i z end, ray.groups i z end));
+      rows = All-weaker RowStays (λ r. In r.set (values (functions_of r.func)
+          (at_point model (moved t x d)))) (λ r p. stays r.set (functions_of r.func) p.0 p.1)
+          model.rows (λ i z end. (feasible.rows i z end, ray.rows i z end));
     }
 
 -- ---- how far to go
@@ -160,7 +216,8 @@ past : (u b : Rational) → (u +ℚ b) ‹ℚ (above u +ℚ b)
 past u b =
     subst (λ q. q ‹ℚ (above u +ℚ b)) (left u b)
     (subst (λ q. (zero_ℚ +ℚ (u +ℚ b)) ‹ℚ q) (right one_ℚ (abs_ℚ u) b)
-    (‹ℚ-+ℚ zero_ℚ one_ℚ (u +ℚ b) (abs_ℚ u +ℚ b) zero_‹ℚ_one (≤ℚ-+ℚ_right u (abs_ℚ u) b ((≤ℚ_abs_ℚ u).0))))
+    (‹ℚ-+ℚ zero_ℚ one_ℚ (u +ℚ b) (abs_ℚ u +ℚ b) zero_‹ℚ_one
+    (≤ℚ-+ℚ_right u (abs_ℚ u) b ((≤ℚ_abs_ℚ u).0))))
   where
     left : (u b : Rational) → zero_ℚ +ℚ (u +ℚ b) ≡ u +ℚ b
     left u b = zero-+ℚ (u +ℚ b)
@@ -185,14 +242,19 @@ enough s g h a = record {
     not_zero e = not_‹ℚ_from_≤ℚ zero_ℚ zero_ℚ (≤ℚ_refl zero_ℚ) (subst (λ q. zero_ℚ ‹ℚ q) e h)
 
 -- from v on, so much of an improving slope s betters b
-betters : (sense : Sense) (v s b : Rational) → IsBetter sense s zero_ℚ → (t : Rational) × ((zero_ℚ ≤ℚ t) × IsBetter sense (v +ℚ t *ℚ s) b)
+betters : (sense : Sense) (v s b : Rational) → IsBetter sense s zero_ℚ
+    → (t : Rational) × ((zero_ℚ ≤ℚ t) × IsBetter sense (v +ℚ t *ℚ s) b)
 betters Min v s b h =
-    let r : Reaches (neg_ℚ s) (above (v -ℚ b)) = enough (neg_ℚ s) (above (v -ℚ b)) (subst (λ q. q ‹ℚ neg_ℚ s) neg_ℚ-zero (neg_ℚ-‹ℚ s zero_ℚ h)) (above_nonneg (v -ℚ b)) in (
+    let r : Reaches (neg_ℚ s) (above (v -ℚ b)) = enough (neg_ℚ s) (above (v -ℚ b))
+    (subst (λ q. q ‹ℚ neg_ℚ s) neg_ℚ-zero (neg_ℚ-‹ℚ s zero_ℚ h)) (above_nonneg (v -ℚ b))
+    in (
       r.much,
       (
         r.nonneg,
-        subst (λ q. q ‹ℚ b) (left v b (above (v -ℚ b)) ∙ ap (λ q. v +ℚ q) (sym (turned r.much s (above (v -ℚ b)) r.reached)))
-            (subst (λ q. ((v -ℚ b) +ℚ (b -ℚ above (v -ℚ b))) ‹ℚ q) (right b (above (v -ℚ b))) (past (v -ℚ b) (b -ℚ above (v -ℚ b)))),
+        subst (λ q. q ‹ℚ b) (left v b (above (v -ℚ b))
+            ∙ ap (λ q. v +ℚ q) (sym (turned r.much s (above (v -ℚ b)) r.reached)))
+            (subst (λ q. ((v -ℚ b) +ℚ (b -ℚ above (v -ℚ b))) ‹ℚ q) (right b (above (v -ℚ b)))
+            (past (v -ℚ b) (b -ℚ above (v -ℚ b)))),
       ),
     )
   where
@@ -210,7 +272,8 @@ betters Max v s b h =
       (
         r.nonneg,
         subst (λ q. q ‹ℚ (v +ℚ r.much *ℚ s)) (left b v)
-            (subst (λ q. ((b -ℚ v) +ℚ v) ‹ℚ q) (right v (above (b -ℚ v)) ∙ ap (λ q. v +ℚ q) (sym r.reached)) (past (b -ℚ v) v)),
+            (subst (λ q. ((b -ℚ v) +ℚ v) ‹ℚ q) (right v (above (b -ℚ v))
+            ∙ ap (λ q. v +ℚ q) (sym r.reached)) (past (b -ℚ v) v)),
       ),
     )
   where
@@ -228,20 +291,30 @@ module _ (model : ModelValue) where
     pub better : IsBetter (sense_of model.objective) (objective_value model point) b
 
   -- every value is bettered
-  pub some_is_better : (x d : List Rational) → IsUnbounded model x d → (b : Rational) → BetterPoint b
+  pub some_is_better : (x d : List Rational) → IsUnbounded model x d → (b : Rational)
+      → BetterPoint b
   some_is_better x d unbounded b =
-      reached (betters (sense_of model.objective) (objective_value model x) (objective_slope model d) b unbounded.improves)
+      reached (betters (sense_of model.objective) (objective_value model x)
+      (objective_slope model d) b unbounded.improves)
     where
-      reached : ((t : Rational) × ((zero_ℚ ≤ℚ t) × IsBetter (sense_of model.objective) (objective_value model x +ℚ t *ℚ objective_slope model d) b)) → BetterPoint b
+      reached : ((t : Rational)
+          × ((zero_ℚ ≤ℚ t)
+          × IsBetter (sense_of model.objective) (objective_value model x
+          +ℚ t *ℚ objective_slope model d) b)) → BetterPoint b
       reached p = record {
         point = moved p.0 x d;
-        feasible = moved_feasible model p.0 x d unbounded.feasible.size unbounded.ray.size p.1.0 unbounded.feasible unbounded.ray;
-        better = subst (λ q. IsBetter (sense_of model.objective) q b) (sym (value_moved model p.0 x d unbounded.feasible.size unbounded.ray.size (objective_function model.objective))) p.1.1;
+        feasible = moved_feasible model p.0 x d unbounded.feasible.size unbounded.ray.size p.1.0
+            unbounded.feasible unbounded.ray;
+        better = subst (λ q. IsBetter (sense_of model.objective) q b)
+            (sym (value_moved model p.0 x d unbounded.feasible.size unbounded.ray.size
+            (objective_function model.objective))) p.1.1;
       }
 
   -- a model without an objective has no such certificate
-  pub bounded_without_objective : model.objective ≡ objective.Feasibility → (x d : List Rational) → ¬ (IsUnbounded model x d)
+  pub bounded_without_objective : model.objective ≡ objective.Feasibility → (x d : List Rational)
+      → ¬ (IsUnbounded model x d)
   bounded_without_objective e x d unbounded =
       not_‹ℚ_from_≤ℚ zero_ℚ zero_ℚ (≤ℚ_refl zero_ℚ)
       (subst (λ q. q ‹ℚ zero_ℚ) (slope_constant_function zero_ℚ (at_point model d))
-      (subst (λ o. IsBetter (sense_of o) (slope (objective_function o) (at_point model d)) zero_ℚ) e unbounded.improves))
+      (subst (λ o. IsBetter (sense_of o) (slope (objective_function o) (at_point model d)) zero_ℚ) e
+      unbounded.improves))

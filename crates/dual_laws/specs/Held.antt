@@ -1,5 +1,5 @@
--- Rows and groups with duals. Each is a list of functions that are together in a set, with a dual for each function; a group's
--- functions are its variables.
+-- Rows and groups with duals. Each is a list of functions that are together in a set, with a dual
+-- for each function; a group's functions are its variables.
 --     pull hs x        the sum of the duals times the slopes at x
 --     adjoint hs v     the sum of the duals times the coefficients of v
 --     gap hs           the sum of the least products, less the duals times the constants

@@ -1,6 +1,6 @@
--- Weak duality, for points and rays at once: where duals hold and the functions are in their sets, the gap times `one` is at most
--- the pull. So a point's value is at least the duals' objective, a ray leads nowhere below, and a gap above 0 of rows without a
--- pull leaves no point.
+-- Weak duality, for points and rays at once: where duals hold and the functions are in their sets,
+-- the gap times `one` is at most the pull. So a point's value is at least the duals' objective, a
+-- ray leads nowhere below, and a gap above 0 of rows without a pull leaves no point.
 use Rattle.std.specs.Prelude.{◌≡◌, List, [], ◌∷◌, length, refl}
 use Rattle.std.proofs.Common.{sym, subst}
 use Rattle.std.proofs.lemmas.List.{length-map}
@@ -27,7 +27,9 @@ one_nonneg = ≤ℚ_from_‹ℚ zero_ℚ one_ℚ zero_‹ℚ_one
 module _ (one : Rational) (a : zero_ℚ ≤ℚ one) (x : Address → Rational) where
   moved : (o l k s : Rational) → (o *ℚ l) ≤ℚ (o *ℚ k +ℚ s) → (o *ℚ (l -ℚ k)) ≤ℚ s
   moved o l k s h =
-      subst (λ q. (o *ℚ (l -ℚ k)) ≤ℚ q) (right o l k s) (subst (λ q. q ≤ℚ ((o *ℚ k +ℚ s) -ℚ o *ℚ k)) (left o l k s) (≤ℚ-+ℚ_right (o *ℚ l) (o *ℚ k +ℚ s) (neg_ℚ (o *ℚ k)) h))
+      subst (λ q. (o *ℚ (l -ℚ k)) ≤ℚ q) (right o l k s)
+      (subst (λ q. q ≤ℚ ((o *ℚ k +ℚ s) -ℚ o *ℚ k)) (left o l k s)
+      (≤ℚ-+ℚ_right (o *ℚ l) (o *ℚ k +ℚ s) (neg_ℚ (o *ℚ k)) h))
     where
       left : (o l k s : Rational) → o *ℚ l -ℚ o *ℚ k ≡ o *ℚ (l -ℚ k)
       left = ring₄ _ (λ ρ. simp as_expression (by_ring ρ _ _ refl))
@@ -38,34 +40,50 @@ module _ (one : Rational) (a : zero_ℚ ≤ℚ one) (x : Address → Rational) w
   pub gap_below : (h : Held) → IsHeld h → Holds one h x → (one *ℚ gap_of h) ≤ℚ pull_of h x
   gap_below h d i =
       moved one (low_of h.set h.duals) (dot h.duals (constants h.functions)) (pull_of h x)
-      (subst (λ q. q ≤ℚ (one *ℚ dot h.duals (constants h.functions) +ℚ pull_of h x)) (low_multiplied one h.set h.duals)
-      (subst (λ q. low_of (multiplied one h.set) h.duals ≤ℚ q) (dot_evaluations h.duals one h.functions x)
-      (low_least (length h.functions) (multiplied one h.set) h.duals (evaluations one h.functions x) (multiplied_set one a (length h.functions) h.set d.set) d.size (length-map h.functions (λ f. evaluated one f x)) i (dual_of-multiplied one h.set h.duals d.dual))))
+      (subst (λ q. q ≤ℚ (one *ℚ dot h.duals (constants h.functions) +ℚ pull_of h x))
+      (low_multiplied one h.set h.duals)
+      (subst (λ q. low_of (multiplied one h.set) h.duals ≤ℚ q)
+      (dot_evaluations h.duals one h.functions x)
+      (low_least (length h.functions) (multiplied one h.set) h.duals (evaluations one h.functions x)
+      (multiplied_set one a (length h.functions) h.set d.set) d.size
+      (length-map h.functions (λ f. evaluated one f x)) i
+      (dual_of-multiplied one h.set h.duals d.dual))))
 
   pub gaps_below : (hs : List Held) → DualsHold hs → AllHold one hs x → (one *ℚ gap hs) ≤ℚ pull hs x
   gaps_below [] d i = subst (λ q. q ≤ℚ zero_ℚ) (sym (*ℚ-zero one)) (≤ℚ_refl zero_ℚ)
   gaps_below (h ∷ hs) d i =
       subst (λ q. q ≤ℚ (pull_of h x +ℚ pull hs x)) (sym (*ℚ-+ℚ one (gap_of h) (gap hs)))
-      (≤ℚ-+ℚ (one *ℚ gap_of h) (pull_of h x) (one *ℚ gap hs) (pull hs x) (gap_below h (All-head IsHeld h hs d) (All-head (λ h. Holds one h x) h hs i)) (gaps_below hs (All-tail IsHeld h hs d) (All-tail (λ h. Holds one h x) h hs i)))
+      (≤ℚ-+ℚ (one *ℚ gap_of h) (pull_of h x) (one *ℚ gap hs) (pull hs x)
+      (gap_below h (All-head IsHeld h hs d) (All-head (λ h. Holds one h x) h hs i))
+      (gaps_below hs (All-tail IsHeld h hs d) (All-tail (λ h. Holds one h x) h hs i)))
 
   -- where the adjoint is a function's coefficients, its slope is at least the gap times `one`
-  pub weak_duality : (hs : List Held) (f : Function) → DualsHold hs → ((v : Address) → adjoint hs v ≡ coefficient f v) → AllHold one hs x → (one *ℚ gap hs) ≤ℚ slope f x
-  weak_duality hs f d e i = subst (λ q. (one *ℚ gap hs) ≤ℚ q) (pull_is_slope hs f e x) (gaps_below hs d i)
+  pub weak_duality : (hs : List Held) (f : Function) → DualsHold hs
+      → ((v : Address) → adjoint hs v ≡ coefficient f v) → AllHold one hs x
+      → (one *ℚ gap hs) ≤ℚ slope f x
+  weak_duality hs f d e i =
+      subst (λ q. (one *ℚ gap hs) ≤ℚ q) (pull_is_slope hs f e x) (gaps_below hs d i)
 
 -- the value at a point is at least the duals' objective
-pub value_above_duals : (hs : List Held) (f : Function) (x : Address → Rational) → DualsHold hs → ((v : Address) → adjoint hs v ≡ coefficient f v) → AllHold one_ℚ hs x → (f.constant +ℚ gap hs) ≤ℚ value_of f x
+pub value_above_duals : (hs : List Held) (f : Function) (x : Address → Rational) → DualsHold hs
+    → ((v : Address) → adjoint hs v ≡ coefficient f v) → AllHold one_ℚ hs x
+    → (f.constant +ℚ gap hs) ≤ℚ value_of f x
 unfolding value_of
 value_above_duals hs f x d e i =
     ≤ℚ-+ℚ_left (gap hs) (slope f x) f.constant
     (subst (λ q. q ≤ℚ slope f x) (one-*ℚ (gap hs)) (weak_duality one_ℚ one_nonneg x hs f d e i))
 
 -- along a ray the slope is at least 0
-pub slope_above_zero : (hs : List Held) (f : Function) (r : Address → Rational) → DualsHold hs → ((v : Address) → adjoint hs v ≡ coefficient f v) → AllHold zero_ℚ hs r → zero_ℚ ≤ℚ slope f r
+pub slope_above_zero : (hs : List Held) (f : Function) (r : Address → Rational) → DualsHold hs
+    → ((v : Address) → adjoint hs v ≡ coefficient f v) → AllHold zero_ℚ hs r → zero_ℚ ≤ℚ slope f r
 slope_above_zero hs f r d e i =
-    subst (λ q. q ≤ℚ slope f r) (zero-*ℚ (gap hs)) (weak_duality zero_ℚ (≤ℚ_refl zero_ℚ) r hs f d e i)
+    subst (λ q. q ≤ℚ slope f r) (zero-*ℚ (gap hs))
+    (weak_duality zero_ℚ (≤ℚ_refl zero_ℚ) r hs f d e i)
 
 -- a gap above 0 where every adjoint is 0 is a proof that no point is in all sets
-pub no_point : (hs : List Held) (x : Address → Rational) → DualsHold hs → ((v : Address) → adjoint hs v ≡ zero_ℚ) → zero_ℚ ‹ℚ gap hs → ¬ (AllHold one_ℚ hs x)
+pub no_point : (hs : List Held) (x : Address → Rational) → DualsHold hs
+    → ((v : Address) → adjoint hs v ≡ zero_ℚ) → zero_ℚ ‹ℚ gap hs → ¬ (AllHold one_ℚ hs x)
 no_point hs x d e g i =
     not_‹ℚ_from_≤ℚ (gap hs) zero_ℚ
-    (subst (λ q. q ≤ℚ zero_ℚ) (one-*ℚ (gap hs)) (subst (λ q. (one_ℚ *ℚ gap hs) ≤ℚ q) (pull_none hs e x) (gaps_below one_ℚ one_nonneg x hs d i))) g
+    (subst (λ q. q ≤ℚ zero_ℚ) (one-*ℚ (gap hs)) (subst (λ q. (one_ℚ *ℚ gap hs) ≤ℚ q)
+    (pull_none hs e x) (gaps_below one_ℚ one_nonneg x hs d i))) g

@@ -1,5 +1,5 @@
--- The model of the solver, which takes free variables and functions that are at most a number: the fresh bridging of
--- the user's model.
+-- The model of the solver, which takes free variables and functions that are at most a number: the
+-- fresh bridging of the user's model.
 use Rattle.std.specs.Prelude.{ℕ, ◌+◌, Bool, true, false, ◌&&◌, not, List, map, count_by, refl}
 use Rattle.std.specs.Option.{option_map_or}
 use Rattle.std.specs.FinMap.{FinMap, entries, from_entries, get, contains_key, empty, code}
@@ -23,11 +23,14 @@ pub record Leaves : Type 0 where
   pub rows : FinMap address_cmp LeafRow
 
 abbrev pub leaf_row_code : Coded LeafRow
-leaf_row_code = code_by (Function × Rational) (coded× function_code rational_code) (λ r. (r.function, r.upper)) (λ p. record { function = p.0; upper = p.1 }) (λ _. refl)
+leaf_row_code = code_by (Function × Rational) (coded× function_code rational_code)
+    (λ r. (r.function, r.upper)) (λ p. record { function = p.0; upper = p.1 }) (λ _. refl)
 
 abbrev pub leaves_code : Coded Leaves
 leaves_code =
-    code_by (FinMap address_cmp Domain × FinMap address_cmp LeafRow) (coded× (code address_code (domain.the_row).coded) (code address_code leaf_row_code)) (λ l. (l.variables, l.rows)) (λ p. record { variables = p.0; rows = p.1 }) (λ _. refl)
+    code_by (FinMap address_cmp Domain × FinMap address_cmp LeafRow)
+    (coded× (code address_code (domain.the_row).coded) (code address_code leaf_row_code))
+    (λ l. (l.variables, l.rows)) (λ p. record { variables = p.0; rows = p.1 }) (λ _. refl)
 
 abbrev pub no_leaves : Leaves
 no_leaves = record { variables = empty; rows = empty }
@@ -60,8 +63,10 @@ abbrev pub is_new : {X : Type 0} → FinMap address_cmp X → Address × X → B
 is_new old e = not (contains_key old e.0)
 
 -- at how many addresses two maps differ
-abbrev pub differences : {X : Type 0} → (X → X → Bool) → FinMap address_cmp X → FinMap address_cmp X → ℕ
-differences same old new = count_by (is_changed same new) (entries old) + count_by (is_new old) (entries new)
+abbrev pub differences : {X : Type 0} → (X → X → Bool) → FinMap address_cmp X → FinMap address_cmp X
+    → ℕ
+differences same old new =
+    count_by (is_changed same new) (entries old) + count_by (is_new old) (entries new)
 
 abbrev pub same_domain : Domain → Domain → Bool
 same_domain Free Free = true
@@ -71,4 +76,5 @@ same_leaf_row a b = function_eq a.function b.function && rational_eq a.upper b.u
 
 -- at how many addresses two bridgings differ, a variable and a row at one address counted apart
 unfoldable pub changed : Leaves → Leaves → ℕ
-changed old new = differences same_domain old.variables new.variables + differences same_leaf_row old.rows new.rows
+changed old new = differences same_domain old.variables new.variables
+    + differences same_leaf_row old.rows new.rows

@@ -52,7 +52,8 @@ terms_of tokens = do
 
 -- var X free
 unfoldable pub variable_form : List (List ℕ) → Option Command
-variable_form (name ∷ free ∷ []) = if is "free" free then option_map AddVariable (name_of name) else None
+variable_form (name ∷ free ∷ []) =
+    if is "free" free then option_map AddVariable (name_of name) else None
 variable_form _ = None
 
 -- row R >= Q : TERMS

@@ -19,11 +19,14 @@ pub record UserModel : Type 0 where
   pub rows : Numbered Row
 
 abbrev pub row_code : Coded Row
-row_code = code_by (Function × Rational) (coded× function_code rational_code) (λ r. (r.function, r.lower)) (λ p. record { function = p.0; lower = p.1 }) (λ _. refl)
+row_code = code_by (Function × Rational) (coded× function_code rational_code)
+    (λ r. (r.function, r.lower)) (λ p. record { function = p.0; lower = p.1 }) (λ _. refl)
 
 abbrev pub model_code : Coded UserModel
 model_code =
-    code_by (Numbered Domain × Numbered Row) (coded× (numbered_code (domain.the_row).coded) (numbered_code row_code)) (λ m. (m.variables, m.rows)) (λ p. record { variables = p.0; rows = p.1 }) (λ _. refl)
+    code_by (Numbered Domain
+    × Numbered Row) (coded× (numbered_code (domain.the_row).coded) (numbered_code row_code))
+    (λ m. (m.variables, m.rows)) (λ p. record { variables = p.0; rows = p.1 }) (λ _. refl)
 
 abbrev pub empty_model : UserModel
 empty_model = record { variables = nothing; rows = nothing }
@@ -33,7 +36,8 @@ variable_address number = root_address Variable number
 
 -- a term, at the address of its variable
 abbrev pub located : Numbered Domain → Term → Address × Rational
-located variables t = (variable_address (unwrap_or (get variables.numbers t.variable) 0), t.coefficient)
+located variables t =
+    (variable_address (unwrap_or (get variables.numbers t.variable) 0), t.coefficient)
 
 -- the coefficients of a row's terms at the addresses of their variables
 abbrev pub located_terms : Numbered Domain → List Term → FinMap address_cmp Rational
@@ -58,12 +62,15 @@ pub record IsCountOfTerms (count : ℕ) (model : UserModel) : Type 0 where
 
 -- some term names a variable that isn't there
 abbrev pub names_unknown : Numbered Domain → List Term → Bool
-names_unknown variables terms = list_any (λ t. not (contains_key variables.numbers t.variable)) terms
+names_unknown variables terms =
+    list_any (λ t. not (contains_key variables.numbers t.variable)) terms
 
 -- the function of the terms, or nothing where one names a variable that isn't there
 abbrev pub known_function : Numbered Domain → List Term → Option Function
-known_function variables terms = if names_unknown variables terms then None else Some (row_function variables terms)
+known_function variables terms =
+    if names_unknown variables terms then None else Some (row_function variables terms)
 
 -- the terms at their addresses, or nothing where one names a variable that isn't there
 abbrev pub known_terms : Numbered Domain → List Term → Option (FinMap address_cmp Rational)
-known_terms variables terms = if names_unknown variables terms then None else Some (located_terms variables terms)
+known_terms variables terms =
+    if names_unknown variables terms then None else Some (located_terms variables terms)

@@ -15,18 +15,30 @@ pub record Numbered (X : Type 0) : Type 0 where
 
 abbrev pub numbered_code : {X : Type 0} → Coded X → Coded (Numbered X)
 numbered_code x =
-    code_by (FinMap name_cmp ℕ × (FinMap nat_cmp (List ℕ × _) × ℕ)) (coded× (code (coded_list coded_ℕ) coded_ℕ) (coded× (code coded_ℕ (coded× (coded_list coded_ℕ) x)) coded_ℕ)) (λ s. (s.numbers, (s.items, s.next))) (λ p. record { numbers = p.0; items = p.1.0; next = p.1.1 }) (λ _. refl)
+    code_by (FinMap name_cmp ℕ × (FinMap nat_cmp (List ℕ × _) × ℕ))
+    (coded× (code (coded_list coded_ℕ) coded_ℕ) (coded×
+    (code coded_ℕ (coded× (coded_list coded_ℕ) x)) coded_ℕ))
+    (λ s. (s.numbers, (s.items, s.next))) (λ p. record {
+      numbers = p.0;
+      items = p.1.0;
+      next = p.1.1;
+    }) (λ _. refl)
 
 abbrev pub nothing : {X : Type 0} → Numbered X
 nothing = record { numbers = empty; items = empty; next = 0 }
 
 -- with one more thing, under the next number
 abbrev pub with_item : {X : Type 0} → Numbered X → List ℕ → X → Numbered X
-with_item s name x = record { numbers = insert s.numbers name s.next; items = insert s.items s.next (name, x); next = s.next + 1 }
+with_item s name x = record {
+  numbers = insert s.numbers name s.next;
+  items = insert s.items s.next (name, x);
+  next = s.next + 1;
+}
 
 -- without the thing of a name and its number
 abbrev pub without_item : {X : Type 0} → Numbered X → List ℕ → ℕ → Numbered X
-without_item s name number = record { numbers = remove s.numbers name; items = remove s.items number; next = s.next }
+without_item s name number =
+    record { numbers = remove s.numbers name; items = remove s.items number; next = s.next }
 
 -- the name of a number
 abbrev pub name_of : {X : Type 0} → Numbered X → ℕ → List ℕ

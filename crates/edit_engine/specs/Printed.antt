@@ -58,15 +58,18 @@ abbrev pub domain_text : Domain → List ℕ
 domain_text Free = codes "free"
 
 unfoldable pub variable_line : UserModel → Address × Domain → List ℕ
-variable_line model e = codes "var " ++ address_text model e.0 ++ codes " " ++ domain_text e.1 ++ newline
+variable_line model e =
+    codes "var " ++ address_text model e.0 ++ codes " " ++ domain_text e.1 ++ newline
 
 unfoldable pub row_line : UserModel → Address × LeafRow → List ℕ
 row_line model e =
-    codes "row " ++ address_text model e.0 ++ codes " <= " ++ text_of e.1.upper ++ codes " : " ++ function_text model e.1.function ++ newline
+    codes "row " ++ address_text model e.0 ++ codes " <= " ++ text_of e.1.upper ++ codes " : "
+    ++ function_text model e.1.function ++ newline
 
 -- the leaves in the order of their addresses: variables have the lowest roots
 unfoldable pub bridged_text : UserModel → Leaves → List ℕ
-bridged_text model leaves = flat_map (variable_line model) (entries leaves.variables) ++ flat_map (row_line model) (entries leaves.rows)
+bridged_text model leaves = flat_map (variable_line model) (entries leaves.variables)
+    ++ flat_map (row_line model) (entries leaves.rows)
 
 -- ---- accepted lines and refusals
 
@@ -79,6 +82,7 @@ unfoldable pub refusal_text : Refusal → List ℕ
 refusal_text BadLine = codes "refused 1 BadLine" ++ newline
 refusal_text UnknownName = codes "refused 2 UnknownName" ++ newline
 refusal_text NameTaken = codes "refused 3 NameTaken" ++ newline
-refusal_text (Full count limit) = codes "refused 12 Full " ++ decimal count ++ codes " " ++ decimal limit ++ newline
+refusal_text (Full count limit) =
+    codes "refused 12 Full " ++ decimal count ++ codes " " ++ decimal limit ++ newline
 refusal_text NotAttached = codes "refused 13 NotAttached" ++ newline
 refusal_text AlreadyAttached = codes "refused 14 AlreadyAttached" ++ newline

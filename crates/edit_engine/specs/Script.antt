@@ -25,7 +25,8 @@ pub record State : Type 0 where
 
 abbrev pub state_code : Coded State
 state_code =
-    code_by (UserModel × Option Leaves) (coded× model_code (coded_option leaves_code)) (λ s. (s.model, s.solver)) (λ p. record { model = p.0; solver = p.1 }) (λ _. refl)
+    code_by (UserModel × Option Leaves) (coded× model_code (coded_option leaves_code))
+    (λ s. (s.model, s.solver)) (λ p. record { model = p.0; solver = p.1 }) (λ _. refl)
 
 -- nothing is there, and no solver is attached
 abbrev pub start : State
@@ -41,7 +42,8 @@ IsBridged s = IfSome s.solver (λ leaves. leaves ≡ fresh s.model)
 abbrev pub refusal_of : State → Command → Option Refusal
 refusal_of s (AddVariable name) = variable_refusal s.model name
 refusal_of s (AddRow row) = row_refusal s.model row
-refusal_of s (DeleteRow name) = if contains_key s.model.rows.numbers name then None else Some UnknownName
+refusal_of s (DeleteRow name) =
+    if contains_key s.model.rows.numbers name then None else Some UnknownName
 refusal_of s Attach = if is_some s.solver then Some AlreadyAttached else None
 refusal_of s Bridged = if is_some s.solver then None else Some NotAttached
 refusal_of s Silent = None
@@ -50,8 +52,12 @@ refusal_of s Quit = None
 -- the model after an accepted line
 abbrev pub edited : UserModel → Command → UserModel
 edited model (AddVariable name) = record model { variables = with_item model.variables name Free }
-edited model (AddRow row) = record model { rows = with_item model.rows row.name (record { function = row_function model.variables row.terms; lower = row.lower }) }
-edited model (DeleteRow name) = record model { rows = without_item model.rows name (unwrap_or (get model.rows.numbers name) 0) }
+edited model (AddRow row) = record model {
+  rows = with_item model.rows row.name
+      (record { function = row_function model.variables row.terms; lower = row.lower });
+}
+edited model (DeleteRow name) =
+    record model { rows = without_item model.rows name (unwrap_or (get model.rows.numbers name) 0) }
 edited model Attach = model
 edited model Bridged = model
 edited model Silent = model
@@ -59,7 +65,8 @@ edited model Quit = model
 
 -- a solver that is attached, or becomes so, holds the fresh bridging of the model
 abbrev pub with_model : Bool → UserModel → State
-with_model attached model = record { model = model; solver = if attached then Some (fresh model) else None }
+with_model attached model =
+    record { model = model; solver = if attached then Some (fresh model) else None }
 
 -- the state after an accepted line
 unfoldable pub accepted_state : State → Command → State
@@ -88,11 +95,13 @@ refused_answer refusal = answer.Refused (refusal_text refusal)
 
 abbrev pub answer_to_command : State → Option Command → Answer
 answer_to_command s None = refused_answer BadLine
-answer_to_command s (Some command) = option_map_or refused_answer (refusal_of s command) (accepted_answer s command)
+answer_to_command s (Some command) =
+    option_map_or refused_answer (refusal_of s command) (accepted_answer s command)
 
 abbrev pub state_after_command : State → Option Command → State
 state_after_command s None = s
-state_after_command s (Some command) = if is_some (refusal_of s command) then s else accepted_state s command
+state_after_command s (Some command) =
+    if is_some (refusal_of s command) then s else accepted_state s command
 
 unfoldable pub answer_to : State → List ℕ → Answer
 answer_to s line = answer_to_command s (command_of line)
@@ -121,12 +130,14 @@ is_refusal a = false
 -- what is printed for the lines, up to their end or the first that ends the work
 abbrev pub answers : State → List (List ℕ) → List ℕ
 answers s [] = []
-answers s (line ∷ lines) = printed (answer_to s line) ++ (if is_quit (answer_to s line) then [] else answers (state_after s line) lines)
+answers s (line ∷ lines) = printed (answer_to s line)
+    ++ (if is_quit (answer_to s line) then [] else answers (state_after s line) lines)
 
 -- whether one of those lines is refused
 abbrev pub any_refused : State → List (List ℕ) → Bool
 any_refused s [] = false
-any_refused s (line ∷ lines) = is_refusal (answer_to s line) || (if is_quit (answer_to s line) then false else any_refused (state_after s line) lines)
+any_refused s (line ∷ lines) = is_refusal (answer_to s line)
+    || (if is_quit (answer_to s line) then false else any_refused (state_after s line) lines)
 
 -- whether one of the lines ends the work
 abbrev pub quits : State → List (List ℕ) → Bool
@@ -148,12 +159,14 @@ abbrev pub IsBetween : State → State → State → Type 0
 IsBetween old after new = (new ≡ old) ⊎ ((new.model ≡ after.model) × (new.solver ≡ None))
 
 -- one step of the machine, for what a line says
-pub record Steps (old : State) (command : Option Command) (result : Result Answer Memory) (new : State) : Type 0 where
+pub record Steps (old : State) (command : Option Command) (result : Result Answer Memory)
+    (new : State) : Type 0 where
   pub answer : IfOk result (λ a. a ≡ answer_to_command old command)
   pub state : OnOk result (new ≡ state_after_command old command)
   pub memory : OnErr result (IsBetween old (state_after_command old command) new)
 
 -- an attached solver got the fresh bridging of the model, and what changed there was told
-pub record IsBridgedAnew (old : State) (attached : Bool) (result : Result Answer Memory) (new : State) : Type 0 where
+pub record IsBridgedAnew (old : State) (attached : Bool) (result : Result Answer Memory)
+    (new : State) : Type 0 where
   pub state : OnOk result (new ≡ with_model attached old.model)
   pub answer : IfOk result (λ a. a ≡ done_answer (changes old (with_model attached old.model)))

@@ -1,5 +1,5 @@
--- Laws of lists that stand for rows of cells: sums below a bound as products of lists, and the cells
--- of a matrix that is written row by row.
+-- Laws of lists that stand for rows of cells: sums below a bound as products of lists, and the
+-- cells of a matrix that is written row by row.
 use Rattle.std.specs.Prelude.{◌≡◌, ℕ, zero, suc, ◌+◌, ◌<◌, Bool, true, false, List, [], ◌∷◌, ◌++◌, All, length, map, refl}
 use Rattle.std.proofs.Common.{sym, ◌∙◌, ap, arith}
 use Rattle.std.proofs.lemmas.List.{get_or-append-add, get_or_append_left, map-id}
@@ -18,9 +18,11 @@ use Rattle.equality_form.specs.Equations.{flipped}
 sum_to_first : (n : ℕ) (f : ℕ → Rational) → sum_to (suc n) f ≡ f 0 +ℚ sum_to n (λ k. f (suc k))
 sum_to_first zero f = +ℚ_comm zero_ℚ (f 0)
 sum_to_first (suc n) f =
-    ap (λ s. s +ℚ f (suc n)) (sum_to_first n f) ∙ +ℚ_assoc (f 0) (sum_to n (λ k. f (suc k))) (f (suc n))
+    ap (λ s. s +ℚ f (suc n)) (sum_to_first n f)
+    ∙ +ℚ_assoc (f 0) (sum_to n (λ k. f (suc k))) (f (suc n))
 
-pub sum_to_dot : (u v : List Rational) → length u ≡ length v → sum_to (length v) (λ k. cell u k *ℚ cell v k) ≡ dot u v
+pub sum_to_dot : (u v : List Rational) → length u ≡ length v
+    → sum_to (length v) (λ k. cell u k *ℚ cell v k) ≡ dot u v
 sum_to_dot [] [] e = refl
 sum_to_dot [] (q ∷ v) e = absurd (omega (arith, e))
 sum_to_dot (p ∷ u) [] e = absurd (omega (arith, e))
@@ -29,7 +31,8 @@ sum_to_dot (p ∷ u) (q ∷ v) e =
     ∙ ap (λ s. p *ℚ q +ℚ s) (sum_to_dot u v (omega (arith, e)))
 
 -- a product of two lists that are made of one
-pub dot_of_maps : {X : Type 0} (f g : X → Rational) (xs : List X) → dot (map f xs) (map g xs) ≡ sum_by_ℚ (λ x. f x *ℚ g x) xs
+pub dot_of_maps : {X : Type 0} (f g : X → Rational) (xs : List X)
+    → dot (map f xs) (map g xs) ≡ sum_by_ℚ (λ x. f x *ℚ g x) xs
 dot_of_maps f g [] = refl
 dot_of_maps f g (x ∷ xs) = ap (λ s. f x *ℚ g x +ℚ s) (dot_of_maps f g xs)
 
@@ -63,18 +66,22 @@ dot_flipped false u v = ap (λ w. dot w v) (map-id u)
 -- ---- rows of a matrix
 
 -- the j-th cell of the i-th row, where each row has c cells
-pub cell_of_first : (row rest : List Rational) (j : ℕ) → j < length row → cell (row ++ rest) j ≡ cell row j
+pub cell_of_first : (row rest : List Rational) (j : ℕ) → j < length row
+    → cell (row ++ rest) j ≡ cell row j
 cell_of_first row rest j h = get_or_append_left row rest zero_ℚ j h
 
-pub cell_of_rest : (row rest : List Rational) (c j : ℕ) → length row ≡ c → cell (row ++ rest) (c + j) ≡ cell rest j
-cell_of_rest row rest c j e = ap (λ n. cell (row ++ rest) (n + j)) (sym e) ∙ get_or-append-add row rest j zero_ℚ
+pub cell_of_rest : (row rest : List Rational) (c j : ℕ) → length row ≡ c
+    → cell (row ++ rest) (c + j) ≡ cell rest j
+cell_of_rest row rest c j e = ap (λ n. cell (row ++ rest) (n + j)) (sym e)
+    ∙ get_or-append-add row rest j zero_ℚ
 
 -- ---- all of a list that is joined
 
 module _ {X : Type 0} (P : X → Type 0) where
   pub All-first : (xs ys : List X) → All P (xs ++ ys) → All P xs
   All-first [] ys h = All-nil P
-  All-first (x ∷ xs) ys h = All-cons P x xs (All-head P x (xs ++ ys) h) (All-first xs ys (All-tail P x (xs ++ ys) h))
+  All-first (x ∷ xs) ys h =
+      All-cons P x xs (All-head P x (xs ++ ys) h) (All-first xs ys (All-tail P x (xs ++ ys) h))
 
   pub All-second : (xs ys : List X) → All P (xs ++ ys) → All P ys
   All-second [] ys h = h

@@ -23,8 +23,10 @@ flipped_nonneg q = by_test (is_lt (rational_cmp q zero_ℚ)) refl
 
 pub length-column_costs : (leaves : LeafModel) → length (column_costs leaves) ≡ column_count leaves
 length-column_costs leaves =
-    length-append (numbers_at (parts leaves) (coefficient (cost leaves))) (map (λ slack. zero_ℚ) (slacks leaves))
-    ∙ ap₂ ◌+◌ (length-map (parts leaves) (λ part. flipped part.1 (coefficient (cost leaves) part.0))) (length-map (slacks leaves) (λ slack. zero_ℚ))
+    length-append (numbers_at (parts leaves) (coefficient (cost leaves)))
+    (map (λ slack. zero_ℚ) (slacks leaves))
+    ∙ ap₂ ◌+◌ (length-map (parts leaves) (λ part. flipped part.1
+    (coefficient (cost leaves) part.0))) (length-map (slacks leaves) (λ slack. zero_ℚ))
 
 pub well_shaped : (leaves : LeafModel) → IsWellShaped (form_of_leaves leaves)
 well_shaped leaves = record {
@@ -32,5 +34,6 @@ well_shaped leaves = record {
   right = length-map (equations leaves) (λ e. flipped (is_flipped e) (right_of e));
   costs = length-column_costs leaves;
   flips = length-map (equations leaves) is_flipped;
-  nonneg = All-map (λ b. zero_ℚ ≤ℚ b) (λ e. flipped (is_flipped e) (right_of e)) (equations leaves) (λ k d h. flipped_nonneg (right_of (slice_index_or (equations leaves) k d)));
+  nonneg = All-map (λ b. zero_ℚ ≤ℚ b) (λ e. flipped (is_flipped e) (right_of e)) (equations leaves)
+      (λ k d h. flipped_nonneg (right_of (slice_index_or (equations leaves) k d)));
 }

@@ -39,7 +39,8 @@ module _ {Item Entry : Type 0} (rules : Rules Item Entry) where
     entries = rules.outer edge item groups.entries;
     leaves = groups.leaves ++ others.leaves;
     nodes = (edge, item) ∷ (groups.nodes ++ others.nodes);
-    fits = rules.image_fits edge item && (groups.fits && (rules.outer_fits edge item groups.entries && others.fits));
+    fits = rules.image_fits edge item
+        && (groups.fits && (rules.outer_fits edge item groups.entries && others.fits));
   }
 
   -- what is held of a further child: no components, and the making of the child is to fit as well
@@ -53,13 +54,15 @@ module _ {Item Entry : Type 0} (rules : Rules Item Entry) where
     unfoldable pub grown_each : List Item → Option (Held Item Entry)
     grown_each [] = Some nothing_held
     grown_each (item ∷ items) =
-        option_and_then (λ first. option_and_then (λ rest. Some (joined first rest)) (grown_each items)) (below item)
+        option_and_then (λ first. option_and_then (λ rest. Some (joined first rest))
+        (grown_each items)) (below item)
 
     unfoldable pub grown_in : List Entry → List Item → Option (Held Item Entry)
     grown_in inner [] = Some nothing_held
     grown_in inner (item ∷ items) =
         option_and_then
-        (λ first. option_and_then (λ rest. Some (joined (put_held inner item first) rest)) (grown_in inner items))
+        (λ first. option_and_then (λ rest. Some (joined (put_held inner item first) rest))
+        (grown_in inner items))
         (below (rules.put_in inner item))
 
     unfoldable pub grown_by : Choice → Item → Option (Held Item Entry)

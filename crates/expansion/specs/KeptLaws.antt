@@ -13,7 +13,8 @@ module _ {Item Entry : Type 0} {rules : Rules Item Entry} (choice : Item → Cho
   mutual
     unfolding leaves nodes fits Keeps
 
-    pub rebridged : {item : Item} {entries : List Entry} (tree : Bridged rules item entries) → Keeps choice tree
+    pub rebridged : {item : Item} {entries : List Entry} (tree : Bridged rules item entries)
+        → Keeps choice tree
         → (other : Bridged (rechosen rules choice) item entries) × (held other ≡ held tree)
     rebridged (natively c) k = (natively k, refl)
     rebridged (by {item} {edge} {inner} c groups others) k =
@@ -21,16 +22,20 @@ module _ {Item Entry : Type 0} {rules : Rules Item Entry} (choice : Item → Cho
         let rest = rebridged_in others k.2 in
         (by k.0 first.0 rest.0, ap₂ (node_held rules edge item) first.1 rest.1)
 
-    pub rebridged_each : {items : List Item} {entries : List Entry} (trees : EachBridged rules items entries) → KeepsEach choice trees
-        → (others : EachBridged (rechosen rules choice) items entries) × (held_each others ≡ held_each trees)
+    pub rebridged_each : {items : List Item} {entries : List Entry}
+        (trees : EachBridged rules items entries) → KeepsEach choice trees
+        → (others : EachBridged (rechosen rules choice) items entries)
+        × (held_each others ≡ held_each trees)
     rebridged_each none k = (none, refl)
     rebridged_each (each first rest) k =
         let one = rebridged first k.0 in
         let more = rebridged_each rest k.1 in
         (each one.0 more.0, ap₂ joined one.1 more.1)
 
-    pub rebridged_in : {inner : List Entry} {items : List Item} (trees : EachBridgedIn rules inner items) → KeepsIn choice trees
-        → (others : EachBridgedIn (rechosen rules choice) inner items) × (held_in others ≡ held_in trees)
+    pub rebridged_in : {inner : List Entry} {items : List Item}
+        (trees : EachBridgedIn rules inner items) → KeepsIn choice trees
+        → (others : EachBridgedIn (rechosen rules choice) inner items)
+        × (held_in others ≡ held_in trees)
     rebridged_in none_in k = (none_in, refl)
     rebridged_in (each_in {inner} {item} first rest) k =
         let one = rebridged first k.0 in

@@ -22,11 +22,13 @@ module _ {Item Entry : Type 0} (rules : Rules Item Entry) where
       (_, each first.1 rest.1)
 
   each_bridged_in : (P : Item → Type 0) (inner : List Entry) (items : List Item)
-      → ((item : Item) → P item → IsBridged item) → All (λ item. P (rules.put_in inner item)) items → EachBridgedIn rules inner items
+      → ((item : Item) → P item → IsBridged item) → All (λ item. P (rules.put_in inner item)) items
+      → EachBridgedIn rules inner items
   each_bridged_in P inner [] make h = none_in
   each_bridged_in P inner (item ∷ items) make h =
       let Q : Item → Type 0 = λ item. P (rules.put_in inner item) in
-      each_in (make (rules.put_in inner item) (All-head Q item items h)).1 (each_bridged_in P inner items make (All-tail Q item items h))
+      each_in (make (rules.put_in inner item) (All-head Q item items h)).1
+      (each_bridged_in P inner items make (All-tail Q item items h))
 
   module _ (Can : Item → Type 0) (rank : Item → ℕ) (ranked : IsRanked rules Can rank) where
     by_choice : (item : Item) → Can item
@@ -34,17 +36,24 @@ module _ {Item Entry : Type 0} (rules : Rules Item Entry) where
         → (choice : Choice) → rules.choice item ≡ choice → IsBridged item
     by_choice item can make Native c = (_, natively c)
     by_choice item can make (By edge) c =
-        let groups = each_bridged (RanksBelow Can rank (rank item)) (rules.image edge item).groups make (ranked.groups item edge can c) in
-        (_, by c groups.1 (each_bridged_in (RanksBelow Can rank (rank item)) groups.0 (rules.image edge item).others make (ranked.others item edge groups.0 can c groups.1)))
+        let groups = each_bridged (RanksBelow Can rank (rank item)) (rules.image edge item).groups
+        make (ranked.groups item edge can c) in (
+          _,
+          by c groups.1 (each_bridged_in (RanksBelow Can rank (rank item)) groups.0
+              (rules.image edge item).others make (ranked.others item edge groups.0 can c groups.1)),
+        )
     by_choice item can make Missing c = absurd (ranked.chosen item can c)
 
     bridged_below : (n : ℕ) (item : Item) → RanksBelow Can rank n item → IsBridged item
     bridged_below zero item h = absurd (omega (arith, h.below))
     bridged_below (suc n) item h =
-        by_choice item h.can (λ child b. bridged_below n child (record { can = b.can; below = omega (arith, b.below, h.below) })) (rules.choice item) refl
+        by_choice item h.can (λ child b. bridged_below n child
+        (record { can = b.can; below = omega (arith, b.below, h.below) })) (rules.choice item)
+        refl
 
     pub bridged : (item : Item) → Can item → IsBridged item
-    bridged item can = bridged_below (suc (rank item)) item (record { can = can; below = omega arith })
+    bridged item can =
+        bridged_below (suc (rank item)) item (record { can = can; below = omega arith })
 
     pub fresh : (model : Image Item) → All Can model.groups
         → ((inner : List Entry) → EachBridged rules model.groups inner
@@ -52,4 +61,8 @@ module _ {Item Entry : Type 0} (rules : Rules Item Entry) where
         → Fresh rules model
     fresh model h k =
         let groups = each_bridged Can model.groups bridged h in
-        record { entries = groups.0; groups = groups.1; others = each_bridged_in Can groups.0 model.others bridged (k groups.0 groups.1) }
+        record {
+          entries = groups.0;
+          groups = groups.1;
+          others = each_bridged_in Can groups.0 model.others bridged (k groups.0 groups.1);
+        }

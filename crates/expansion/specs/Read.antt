@@ -1,4 +1,5 @@
--- What a bridging holds: the leaves that the solver is given, the nodes between, and whether every number fits.
+-- What a bridging holds: the leaves that the solver is given, the nodes between, and whether every
+-- number fits.
 use Rattle.std.specs.Prelude.{ℕ, Bool, true, ◌&&◌, List, [], ◌∷◌, ◌++◌, Option, Some, None, if◌then◌else◌}
 use Rattle.expansion.specs.Rules.{Rules}
 use Rattle.expansion.specs.Bridged.{Bridged, EachBridged, EachBridgedIn, Fresh, by, each, each_in, natively, none, none_in}
@@ -10,11 +11,13 @@ module _ {Item Entry : Type 0} {rules : Rules Item Entry} where
     leaves (natively {item} c) = item ∷ []
     leaves (by c groups others) = leaves_of_each groups ++ leaves_in others
 
-    pub leaves_of_each : {items : List Item} {entries : List Entry} → EachBridged rules items entries → List Item
+    pub leaves_of_each : {items : List Item} {entries : List Entry}
+        → EachBridged rules items entries → List Item
     leaves_of_each none = []
     leaves_of_each (each first rest) = leaves first ++ leaves_of_each rest
 
-    pub leaves_in : {inner : List Entry} {items : List Item} → EachBridgedIn rules inner items → List Item
+    pub leaves_in : {inner : List Entry} {items : List Item} → EachBridgedIn rules inner items
+        → List Item
     leaves_in none_in = []
     leaves_in (each_in first rest) = leaves first ++ leaves_in rest
 
@@ -22,13 +25,16 @@ module _ {Item Entry : Type 0} {rules : Rules Item Entry} where
     -- the bridged items with their edges
     pub nodes : {item : Item} {entries : List Entry} → Bridged rules item entries → List (ℕ × Item)
     nodes (natively c) = []
-    nodes (by {item} {edge} c groups others) = (edge, item) ∷ (nodes_of_each groups ++ nodes_in others)
+    nodes (by {item} {edge} c groups others) =
+        (edge, item) ∷ (nodes_of_each groups ++ nodes_in others)
 
-    pub nodes_of_each : {items : List Item} {entries : List Entry} → EachBridged rules items entries → List (ℕ × Item)
+    pub nodes_of_each : {items : List Item} {entries : List Entry} → EachBridged rules items entries
+        → List (ℕ × Item)
     nodes_of_each none = []
     nodes_of_each (each first rest) = nodes first ++ nodes_of_each rest
 
-    pub nodes_in : {inner : List Entry} {items : List Item} → EachBridgedIn rules inner items → List (ℕ × Item)
+    pub nodes_in : {inner : List Entry} {items : List Item} → EachBridgedIn rules inner items
+        → List (ℕ × Item)
     nodes_in none_in = []
     nodes_in (each_in first rest) = nodes first ++ nodes_in rest
 
@@ -37,15 +43,18 @@ module _ {Item Entry : Type 0} {rules : Rules Item Entry} where
     pub fits : {item : Item} {entries : List Entry} → Bridged rules item entries → Bool
     fits (natively c) = true
     fits (by {item} {edge} {inner} c groups others) =
-        rules.image_fits edge item && (fits_each groups && (rules.outer_fits edge item inner && fits_in others))
+        rules.image_fits edge item
+        && (fits_each groups && (rules.outer_fits edge item inner && fits_in others))
 
-    pub fits_each : {items : List Item} {entries : List Entry} → EachBridged rules items entries → Bool
+    pub fits_each : {items : List Item} {entries : List Entry} → EachBridged rules items entries
+        → Bool
     fits_each none = true
     fits_each (each first rest) = fits first && fits_each rest
 
     pub fits_in : {inner : List Entry} {items : List Item} → EachBridgedIn rules inner items → Bool
     fits_in none_in = true
-    fits_in (each_in {inner} {item} first rest) = (rules.put_in_fits inner item && fits first) && fits_in rest
+    fits_in (each_in {inner} {item} first rest) =
+        (rules.put_in_fits inner item && fits first) && fits_in rest
 
   -- the first of the items that doesn't fit
   unfoldable pub unfit_each : {items : List Item} {entries : List Entry}

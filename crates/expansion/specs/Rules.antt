@@ -2,7 +2,8 @@
 use Rattle.std.specs.Prelude.{ℕ, Bool, List}
 use Rattle.bridge_graph.specs.declared.Choice.{Choice}
 
--- what an edge makes of an item: its child groups, and then its further children, the rows and the objective
+-- what an edge makes of an item: its child groups, and then its further children, the rows and the
+-- objective
 pub record Image (Item : Type 0) : Type 0 where
   pub groups : List Item
   pub others : List Item
@@ -18,7 +19,8 @@ pub record Rules (Item Entry : Type 0) : Type 0 where
   pub outer : ℕ → Item → List Entry → List Entry
   -- an item with these expressions in place of their components
   pub put_in : List Entry → Item → Item
-  -- each number that the image, the components and the item with expressions put in are made with fits
+  -- each number that the image, the components and the item with expressions put in are made with
+  -- fits
   pub image_fits : ℕ → Item → Bool
   pub outer_fits : ℕ → Item → List Entry → Bool
   pub put_in_fits : List Entry → Item → Bool

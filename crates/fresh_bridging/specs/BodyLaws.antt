@@ -54,7 +54,8 @@ vector_functions false es set h = refl
 composed_variables : (e : Address → Function) (vars : List Address)
     → map e vars ≡ map (composed {R = address_cmp} e) (map (variable {R = address_cmp}) vars)
 composed_variables e [] = refl
-composed_variables e (v ∷ vs) = ap₂ (λ f fs. f ∷ fs) (sym (composed-variable e v)) (composed_variables e vs)
+composed_variables e (v ∷ vs) =
+    ap₂ (λ f fs. f ∷ fs) (sym (composed-variable e v)) (composed_variables e vs)
 
 looked_up : (entries : List Entry) (vars : List Address)
     → map expressed (map (expression_in entries) vars) ≡ map (function_in entries) vars
@@ -72,7 +73,8 @@ functions_put entries (Plain var set) h =
     ∙ ap (λ f. f ∷ []) (sym (composed-variable (function_in entries) var))
 functions_put entries (Affine func set) h = refl
 functions_put entries (PlainVec vars set) h =
-    vector_functions (list_all is_kept (map (expression_in entries) vars)) (map (expression_in entries) vars) set refl
+    vector_functions (list_all is_kept (map (expression_in entries) vars))
+    (map (expression_in entries) vars) set refl
     ∙ looked_up entries vars ∙ composed_variables (function_in entries) vars
 functions_put entries (AffineVec funcs set) h = refl
 functions_put entries (PlainObj sense var) h =
@@ -103,14 +105,16 @@ set_put entries (Free vars) h = absurd (true≢false h)
 set_put entries (Plain var set) h = plain_set (expression_in entries var) set
 set_put entries (Affine func set) h = refl
 set_put entries (PlainVec vars set) h =
-    vector_set (list_all is_kept (map (expression_in entries) vars)) (map (expression_in entries) vars) set
+    vector_set (list_all is_kept (map (expression_in entries) vars))
+    (map (expression_in entries) vars) set
 set_put entries (AffineVec funcs set) h = refl
 set_put entries (PlainObj sense var) h = objective_set sense (expression_in entries var)
 set_put entries (AffineObj sense func) h = refl
 
 -- ---- shapes
 
-plain_fits : (e : Expression) (set : Set) → is_scalar set ≡ true → FitsItsFunction (plain_or_affine e set)
+plain_fits : (e : Expression) (set : Set) → is_scalar set ≡ true
+    → FitsItsFunction (plain_or_affine e set)
 plain_fits (Kept var) set h = h
 plain_fits (Bridged func) set h = h
 
@@ -132,7 +136,8 @@ fits_put entries (Free vars) h = tt
 fits_put entries (Plain var set) h = plain_fits (expression_in entries var) set h
 fits_put entries (Affine func set) h = h
 fits_put entries (PlainVec vars set) h =
-    vector_fits (list_all is_kept (map (expression_in entries) vars)) (map (expression_in entries) vars) set h
+    vector_fits (list_all is_kept (map (expression_in entries) vars))
+    (map (expression_in entries) vars) set h
 fits_put entries (AffineVec funcs set) h = h
 fits_put entries (PlainObj sense var) h = objective_fits sense (expression_in entries var)
 fits_put entries (AffineObj sense func) h = tt
@@ -142,7 +147,8 @@ fits_put entries (AffineObj sense func) h = tt
 pub length_put : (entries : List Entry) (b : Body) → is_group b ≡ false
     → length (functions_of (put_in_body entries b)) ≡ length (functions_of b)
 length_put entries b h =
-    ap length (functions_put entries b h) ∙ length-map (functions_of b) (composed (function_in entries))
+    ap length (functions_put entries b h)
+    ∙ length-map (functions_of b) (composed (function_in entries))
 
 -- an item with expressions put in that mention nothing below it is valid
 pub valid_put : (entries : List Entry) (item : Item) → is_group item.body ≡ false → IsValidItem item
@@ -151,13 +157,17 @@ valid_put entries item row valid omit = record {
   function = fits_put entries item.body valid.function;
   some = subst (λ n. 1 ≤ n) (sym same) valid.some;
   at_most = subst (λ n. n ≤ 32767) (sym same) valid.at_most;
-  set = subst (λ s. IsSetOf (length (functions_of (put_in_body entries item.body))) s) (sym (set_put entries item.body row)) (subst (λ n. IsSetOf n (set_of item.body)) (sym same) valid.set);
+  set = subst (λ s. IsSetOf (length (functions_of (put_in_body entries item.body))) s)
+      (sym (set_put entries item.body row)) (subst (λ n. IsSetOf n (set_of item.body)) (sym same)
+      valid.set);
   depth = valid.depth;
   others = λ _.
       subst (All (NamesNothingBelow item.at)) (sym (functions_put entries item.body row))
       (All-map (NamesNothingBelow item.at) (composed (function_in entries)) (functions_of item.body)
-      (All-weaker (NamesNothingBelow item.at) (λ f. NamesNothingBelow item.at (composed (function_in entries) f))
-      (λ f h rest. composed_omits entries f (below item.at rest) (omit rest) (h rest)) (functions_of item.body) (valid.others row)));
+      (All-weaker (NamesNothingBelow item.at) (λ f. NamesNothingBelow item.at
+      (composed (function_in entries) f))
+      (λ f h rest. composed_omits entries f (below item.at rest) (omit rest) (h rest))
+      (functions_of item.body) (valid.others row)));
 }
   where
     same : length (functions_of (put_in_body entries item.body)) ≡ length (functions_of item.body)
@@ -201,12 +211,14 @@ kept_objective Min (Kept w) var h = refl
 kept_objective Max (Kept w) var h = refl
 kept_objective sense (Bridged func) var h = absurd (true≢false (sym h))
 
-all_kept : (entries : List Entry) (vars : List Address) → ((v : Address) → is_kept (expression_in entries v) ≡ true)
+all_kept : (entries : List Entry) (vars : List Address)
+    → ((v : Address) → is_kept (expression_in entries v) ≡ true)
     → list_all is_kept (map (expression_in entries) vars) ≡ true
 all_kept entries [] h = refl
 all_kept entries (v ∷ vs) h = ap₂ ◌&&◌ (h v) (all_kept entries vs h)
 
-sense_is_plain : (sense : Sense) (var : Address) → is_plain_kind (kind_of_body (PlainObj sense var)) ≡ true
+sense_is_plain : (sense : Sense) (var : Address)
+    → is_plain_kind (kind_of_body (PlainObj sense var)) ≡ true
 unfolding kind_of_body
 sense_is_plain Min var = refl
 sense_is_plain Max var = refl
@@ -222,10 +234,12 @@ pub kind_put : (entries : List Entry) (b : Body) → KeepsNamed entries b
 unfolding put_in_body kind_of_body
 kind_put entries (Group set vars) h = refl
 kind_put entries (Free vars) h = refl
-kind_put entries (Plain var set) h = kept_plain (expression_in entries var) set (h (plain_is_plain set) var)
+kind_put entries (Plain var set) h =
+    kept_plain (expression_in entries var) set (h (plain_is_plain set) var)
 kind_put entries (Affine func set) h = refl
 kind_put entries (PlainVec vars set) h =
-    kept_vector (list_all is_kept (map (expression_in entries) vars)) (map (expression_in entries) vars) set
+    kept_vector (list_all is_kept (map (expression_in entries) vars))
+    (map (expression_in entries) vars) set
     (all_kept entries vars (h (plain_is_plain set)))
 kind_put entries (AffineVec funcs set) h = refl
 kind_put entries (PlainObj sense var) h =

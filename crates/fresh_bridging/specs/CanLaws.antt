@@ -51,7 +51,8 @@ not_true : (b : Bool) → not b ≡ true → b ≡ false
 not_true true h = absurd (true≢false (sym h))
 not_true false h = refl
 
-module _ (setting : Setting) (costly : IsCostly (graph_of setting)) (choice : ℕ → Choice) (chosen : AreChoices setting choice) where
+module _ (setting : Setting) (costly : IsCostly (graph_of setting)) (choice : ℕ → Choice)
+    (chosen : AreChoices setting choice) where
   abbrev pub rank_in : ℕ → ℕ
   rank_in kind = rank setting costly choice chosen kind
 
@@ -72,8 +73,10 @@ module _ (setting : Setting) (costly : IsCostly (graph_of setting)) (choice : �
   pub record Can (item : Item) : Type 0 where
     pub valid : IsValidItem item
     pub tree : HasTree (graph_of setting) item
-    pub room : length item.at.positions + ranked_below setting costly choice chosen (rank_of item) ≤ 34
-    pub size : doubled (doublings (kind_of_body item.body)) (length (functions_of item.body)) ≤ 16384
+    pub room : length item.at.positions + ranked_below setting costly choice chosen (rank_of item)
+        ≤ 34
+    pub size : doubled (doublings (kind_of_body item.body)) (length (functions_of item.body))
+        ≤ 16384
 
   -- ---- doublings
 
@@ -84,7 +87,12 @@ module _ (setting : Setting) (costly : IsCostly (graph_of setting)) (choice : �
   at_most_two : (kind : Kind) → doublings kind ≤ 2
   unfolding doublings
   at_most_two kind =
-      omega (arith, counted_once (is_norm_kind kind), counted_once (nat_le (rank_in (kind_number GroupReals)) (rank_in (kind_number kind))))
+      omega (
+        arith,
+        counted_once (is_norm_kind kind),
+        counted_once
+            (nat_le (rank_in (kind_number GroupReals)) (rank_in (kind_number kind))),
+      )
 
   doubled_within : (k n : ℕ) → n ≤ doubled k n
   doubled_within zero n = omega arith
@@ -123,12 +131,14 @@ module _ (setting : Setting) (costly : IsCostly (graph_of setting)) (choice : �
     pub law : EdgeLaw (edge_at n) item (image_of (edge_at n) item)
     law =
         subst (λ edge. EdgeLaw edge item (image_of edge item)) (sym down.is_entry.edge)
-        (of_family (λ edge. (i : Item) → IsItemFor edge i → EdgeLaw edge i (image_of edge i)) n down.entry down.is_entry.here (lawful down.entry.family down.family) item is_item)
+        (of_family (λ edge. (i : Item) → IsItemFor edge i → EdgeLaw edge i (image_of edge i)) n
+        down.entry down.is_entry.here (lawful down.entry.family down.family) item is_item)
 
     -- the kind of a child is one that the entry lists
     pub lists : (child : Item) → LeadsTo (edge_at n) child.body
         → list_any (kind_eq (kind_of_body child.body)) (kinds_in down.entry.children) ≡ true
-    lists child h = subst (λ x. list_any (kind_eq (kind_of_body child.body)) (kinds_in x.children) ≡ true) same_entry h
+    lists child h = subst (λ x. list_any (kind_eq (kind_of_body child.body)) (kinds_in x.children)
+        ≡ true) same_entry h
 
     pub keeps : keeps_to_the_table down.entry ≡ true
     keeps = all_keep_at n down.entry down.is_entry.here
@@ -138,7 +148,8 @@ module _ (setting : Setting) (costly : IsCostly (graph_of setting)) (choice : �
     grows : grows_seldom down.entry ≡ true
     grows =
         and_second (leads_from_others down.entry) (grows_seldom down.entry)
-        (and_second (plain_beside_free down.entry) (leads_from_others down.entry && grows_seldom down.entry) keeps)
+        (and_second (plain_beside_free down.entry) (leads_from_others down.entry
+        && grows_seldom down.entry) keeps)
 
     norm_listed : (kinds : List Kind) (kind : Kind) → list_any (kind_eq kind) kinds ≡ true
         → is_norm_kind kind ≡ true → list_any is_norm_kind kinds ≡ true
@@ -146,39 +157,48 @@ module _ (setting : Setting) (costly : IsCostly (graph_of setting)) (choice : �
     norm_listed (k ∷ ks) kind h norm = by (kind_eq kind k) refl h (norm_listed ks kind)
       where
         by : (b : Bool) → kind_eq kind k ≡ b → (b || list_any (kind_eq kind) ks) ≡ true
-            → (list_any (kind_eq kind) ks ≡ true → is_norm_kind kind ≡ true → list_any is_norm_kind ks ≡ true)
+            → (list_any (kind_eq kind) ks ≡ true → is_norm_kind kind ≡ true
+            → list_any is_norm_kind ks ≡ true)
             → (is_norm_kind k || list_any is_norm_kind ks) ≡ true
         by true same all later =
-            ap (λ b. b || list_any is_norm_kind ks) (sym (ap is_norm_kind (equal_kind kind k same)) ∙ norm)
-        by false other rest later = or_second (is_norm_kind k) (list_any is_norm_kind ks) (later rest norm)
+            ap (λ b. b || list_any is_norm_kind ks) (sym (ap is_norm_kind (equal_kind kind k same))
+            ∙ norm)
+        by false other rest later =
+            or_second (is_norm_kind k) (list_any is_norm_kind ks) (later rest norm)
 
     grown_once : grows_once down.entry ≡ true
     grown_once =
         and_second (doubles_seldom down.entry) (grows_once down.entry)
-        (and_second (comes_of_norms down.entry) (doubles_seldom down.entry && grows_once down.entry) grows)
+        (and_second (comes_of_norms down.entry) (doubles_seldom down.entry && grows_once down.entry)
+        grows)
 
     grown_where : doubles_seldom down.entry ≡ true
     grown_where =
         and_first (doubles_seldom down.entry) (grows_once down.entry)
-        (and_second (comes_of_norms down.entry) (doubles_seldom down.entry && grows_once down.entry) grows)
+        (and_second (comes_of_norms down.entry) (doubles_seldom down.entry && grows_once down.entry)
+        grows)
 
     norm_first : comes_of_norms down.entry ≡ true
-    norm_first = and_first (comes_of_norms down.entry) (doubles_seldom down.entry && grows_once down.entry) grows
+    norm_first = and_first (comes_of_norms down.entry)
+        (doubles_seldom down.entry && grows_once down.entry) grows
 
-    module _ (kind : Kind) (listed : list_any (kind_eq kind) (kinds_in down.entry.children) ≡ true) where
+    module _ (kind : Kind) (listed : list_any (kind_eq kind) (kinds_in down.entry.children)
+        ≡ true) where
       lower : rank_in (kind_number kind) < rank_of item
       lower = (down.below kind listed).1
 
       norm_of : is_norm_kind kind ≡ true → is_norm_kind (kind_of_body item.body) ≡ true
       norm_of h =
           ap is_norm_kind down.source
-          ∙ left_if (is_norm_kind down.entry.source) (list_any is_norm_kind (kinds_in down.entry.children)) norm_first
+          ∙ left_if (is_norm_kind down.entry.source) (list_any is_norm_kind
+          (kinds_in down.entry.children)) norm_first
           (norm_listed (kinds_in down.entry.children) kind listed h)
 
       norms : counted (is_norm_kind kind) ≤ counted (is_norm_kind (kind_of_body item.body))
       norms = by (is_norm_kind kind) refl
         where
-          by : (b : Bool) → is_norm_kind kind ≡ b → counted b ≤ counted (is_norm_kind (kind_of_body item.body))
+          by : (b : Bool) → is_norm_kind kind ≡ b
+              → counted b ≤ counted (is_norm_kind (kind_of_body item.body))
           by true h = subst (λ b. 1 ≤ counted b) (sym (norm_of h)) (omega arith)
           by false h = omega arith
 
@@ -186,10 +206,12 @@ module _ (setting : Setting) (costly : IsCostly (graph_of setting)) (choice : �
           ≤ counted (nat_le (rank_in (kind_number GroupReals)) (rank_of item))
       frees = by (nat_le (rank_in (kind_number GroupReals)) (rank_in (kind_number kind))) refl
         where
-          by : (b : Bool) → nat_le (rank_in (kind_number GroupReals)) (rank_in (kind_number kind)) ≡ b
+          by : (b : Bool)
+              → nat_le (rank_in (kind_number GroupReals)) (rank_in (kind_number kind)) ≡ b
               → counted b ≤ counted (nat_le (rank_in (kind_number GroupReals)) (rank_of item))
           by true h =
-              let above : nat_le (rank_in (kind_number GroupReals)) (rank_of item) ≡ true = grind (arith, nat_tests, h, lower) in
+              let above : nat_le (rank_in (kind_number GroupReals)) (rank_of item) ≡ true =
+              grind (arith, nat_tests, h, lower) in
               subst (λ b. 1 ≤ counted b) (sym above) (omega arith)
           by false h = omega arith
 
@@ -197,31 +219,45 @@ module _ (setting : Setting) (costly : IsCostly (graph_of setting)) (choice : �
       unfolding doublings
       fewer = omega (arith, norms, frees)
 
-      one_fewer : growth down.entry.family ≢ 1 → doublings kind + 1 ≤ doublings (kind_of_body item.body)
+      one_fewer : growth down.entry.family ≢ 1
+          → doublings kind + 1 ≤ doublings (kind_of_body item.body)
       unfolding doublings
       one_fewer more =
-          either (doublings kind + 1 ≤ doublings (kind_of_body item.body)) (growth down.entry.family == 1) (ends_norms down.entry || splits_reals down.entry) grown_where
+          either (doublings kind + 1 ≤ doublings (kind_of_body item.body))
+          (growth down.entry.family == 1) (ends_norms down.entry || splits_reals down.entry)
+          grown_where
           (λ one. absurd (more ((Decides-eqb (growth down.entry.family) 1).0 one)))
-          (λ rest. either (doublings kind + 1 ≤ doublings (kind_of_body item.body)) (ends_norms down.entry) (splits_reals down.entry) rest at_norm at_free)
+          (λ rest. either (doublings kind + 1 ≤ doublings (kind_of_body item.body))
+          (ends_norms down.entry) (splits_reals down.entry) rest at_norm at_free)
         where
           at_norm : ends_norms down.entry ≡ true
               → doublings kind + 1 ≤ doublings (kind_of_body item.body)
           at_norm h =
-              let source : is_norm_kind (kind_of_body item.body) ≡ true = ap is_norm_kind down.source ∙ and_first (is_norm_kind down.entry.source) (not (list_any is_norm_kind (kinds_in down.entry.children))) h in
-              let none = not_true (list_any is_norm_kind (kinds_in down.entry.children)) (and_second (is_norm_kind down.entry.source) (not (list_any is_norm_kind (kinds_in down.entry.children))) h) in
+              let source : is_norm_kind (kind_of_body item.body) ≡ true = ap is_norm_kind
+              down.source ∙ and_first (is_norm_kind down.entry.source)
+              (not (list_any is_norm_kind (kinds_in down.entry.children))) h in
+              let none = not_true (list_any is_norm_kind (kinds_in down.entry.children))
+              (and_second (is_norm_kind down.entry.source) (not
+              (list_any is_norm_kind (kinds_in down.entry.children))) h) in
               let child : is_norm_kind kind ≡ false = no_norm (is_norm_kind kind) refl none in
               omega (arith, frees, ap counted source, ap counted child)
             where
-              no_norm : (b : Bool) → is_norm_kind kind ≡ b → list_any is_norm_kind (kinds_in down.entry.children) ≡ false → b ≡ false
-              no_norm true is none = absurd (true≢false (sym (norm_listed (kinds_in down.entry.children) kind listed is) ∙ none))
+              no_norm : (b : Bool) → is_norm_kind kind ≡ b
+                  → list_any is_norm_kind (kinds_in down.entry.children) ≡ false → b ≡ false
+              no_norm true is none = absurd (true≢false (sym
+                  (norm_listed (kinds_in down.entry.children) kind listed is) ∙ none))
               no_norm false is none = refl
 
           at_free : splits_reals down.entry ≡ true
               → doublings kind + 1 ≤ doublings (kind_of_body item.body)
           at_free h =
-              let free : kind_of_body item.body ≡ GroupReals = down.source ∙ equal_kind down.entry.source GroupReals (and_first (kind_eq down.entry.source GroupReals) (growth down.entry.family == 2) h) in
-              let same : rank_of item ≡ rank_in (kind_number GroupReals) = ap (λ k. rank_in (kind_number k)) free in
-              let here : nat_le (rank_in (kind_number GroupReals)) (rank_of item) ≡ true = grind (arith, nat_tests, same) in
+              let free : kind_of_body item.body ≡ GroupReals = down.source
+              ∙ equal_kind down.entry.source GroupReals (and_first
+              (kind_eq down.entry.source GroupReals) (growth down.entry.family == 2) h) in
+              let same : rank_of item ≡ rank_in (kind_number GroupReals) =
+              ap (λ k. rank_in (kind_number k)) free in
+              let here : nat_le (rank_in (kind_number GroupReals)) (rank_of item) ≡ true =
+              grind (arith, nat_tests, same) in
               let below : nat_le (rank_in (kind_number GroupReals)) (rank_in (kind_number kind)) ≡ false = grind (arith, nat_tests, same, lower) in
               omega (arith, norms, ap counted here, ap counted below)
 
@@ -229,18 +265,33 @@ module _ (setting : Setting) (costly : IsCostly (graph_of setting)) (choice : �
       sized : (lc : ℕ) → lc ≤ growth down.entry.family * length (functions_of item.body)
           → doubled (doublings kind) lc ≤ 16384
       sized lc h =
-          either (doubled (doublings kind) lc ≤ 16384) (growth down.entry.family == 1) (growth down.entry.family == 2) grown_once
+          either (doubled (doublings kind) lc ≤ 16384) (growth down.entry.family == 1)
+          (growth down.entry.family == 2) grown_once
           (λ one.
           let g = (Decides-eqb (growth down.entry.family) 1).0 one in
-          let within : lc ≤ 1 * length (functions_of item.body) = subst (λ k. lc ≤ k * length (functions_of item.body)) g h in
-          omega (arith, doubled_more (doublings kind) (doublings (kind_of_body item.body)) lc (length (functions_of item.body)) fewer (omega (arith, within)), can.size))
+          let within : lc ≤ 1 * length (functions_of item.body) =
+          subst (λ k. lc ≤ k * length (functions_of item.body)) g h in
+          omega (
+            arith,
+            doubled_more (doublings kind) (doublings (kind_of_body item.body)) lc
+                (length (functions_of item.body)) fewer (omega (arith, within)),
+            can.size,
+          ))
           (λ two.
           let g = (Decides-eqb (growth down.entry.family) 2).0 two in
-          let within : lc ≤ 2 * length (functions_of item.body) = subst (λ k. lc ≤ k * length (functions_of item.body)) g h in
+          let within : lc ≤ 2 * length (functions_of item.body) =
+          subst (λ k. lc ≤ k * length (functions_of item.body)) g h in
           let other : growth down.entry.family ≢ 1 = λ one. absurd (omega (arith, one, g)) in
-          let first = doubled_more (doublings kind) (doublings kind) lc (2 * length (functions_of item.body)) (omega arith) within in
+          let first = doubled_more (doublings kind) (doublings kind) lc
+          (2 * length (functions_of item.body)) (omega arith) within in
           let next : doubled (suc (doublings kind)) (length (functions_of item.body)) ≤ doubled (doublings (kind_of_body item.body)) (length (functions_of item.body)) = doubled_more (suc (doublings kind)) (doublings (kind_of_body item.body)) (length (functions_of item.body)) (length (functions_of item.body)) (omega (arith, one_fewer other)) (omega arith) in
-          omega (arith, first, doubled_once (doublings kind) (length (functions_of item.body)), next, can.size))
+          omega (
+            arith,
+            first,
+            doubled_once (doublings kind) (length (functions_of item.body)),
+            next,
+            can.size,
+          ))
 
     -- ---- children
 
@@ -261,14 +312,23 @@ module _ (setting : Setting) (costly : IsCostly (graph_of setting)) (choice : �
     child_can child is after at kind count carried =
         let listed : list_any (kind_eq (kind_of_body after.body)) (kinds_in down.entry.children) ≡ true = subst (λ k. list_any (kind_eq k) (kinds_in down.entry.children) ≡ true) (sym kind) (lists child is.leads) in
         let grown : length (functions_of after.body) ≤ growth down.entry.family * length (functions_of item.body) = subst (λ x. length (functions_of after.body) ≤ growth x.family * length (functions_of item.body)) same_entry (subst (λ c. c ≤ growth (family_of (edge_at n)) * length (functions_of item.body)) (sym count) is.grows) in
-        let size = sized (kind_of_body after.body) listed (length (functions_of after.body)) grown in
+        let size = sized (kind_of_body after.body) listed (length (functions_of after.body)) grown
+        in
         let lower = (down.below (kind_of_body after.body) listed).1 in
-        let within = doubled_within (doublings (kind_of_body after.body)) (length (functions_of after.body)) in
+        let within = doubled_within (doublings (kind_of_body after.body))
+        (length (functions_of after.body)) in
         record {
           can = record {
             valid = carried (is.valid (omega (arith, within, size, count)));
             tree = (down.below (kind_of_body after.body) listed).0;
-            room = omega (arith, ap (λ (a : Address). length a.positions) at, is.position, can.room, fewer_below setting costly choice chosen (kind_of_body after.body) (rank_of item) lower);
+            room = omega (
+              arith,
+              ap (λ (a : Address). length a.positions) at,
+              is.position,
+              can.room,
+              fewer_below setting costly choice chosen (kind_of_body after.body) (rank_of item)
+                  lower,
+            );
             size = size;
           };
           below = lower;
@@ -282,12 +342,15 @@ module _ (setting : Setting) (costly : IsCostly (graph_of setting)) (choice : �
 
     pub are_children : All IsChild all_children
     are_children =
-        let positions = stand_from (λ c. c.at) (child_of item.at) all_children 0 (length all_children) (omega arith) law.positions in
+        let positions = stand_from (λ c. c.at) (child_of item.at) all_children 0
+        (length all_children) (omega arith) law.positions in
         let room : length item.at.positions < 38 = omega (arith, can.room) in
         let Leads : Item → Type 0 = λ child. LeadsTo (edge_at n) child.body in
         let Grows : Item → Type 0 = GrowsBy (growth (family_of (edge_at n))) item in
-        let Stands : Item → Type 0 = StandsFrom (λ c. c.at) (child_of item.at) 0 (length all_children) in
-        All-weaker (λ child. Stands child × (IsValidWithin child × (Leads child × Grows child))) IsChild
+        let Stands : Item → Type 0 =
+        StandsFrom (λ c. c.at) (child_of item.at) 0 (length all_children) in
+        All-weaker (λ child. Stands child × (IsValidWithin child × (Leads child × Grows child)))
+        IsChild
         (λ child h. record {
           position = ap (λ (a : Address). length a.positions) h.0.is ∙ one_longer h.0.place;
           valid = h.1.0;
@@ -295,6 +358,7 @@ module _ (setting : Setting) (costly : IsCostly (graph_of setting)) (choice : �
           grows = h.1.1.1;
         })
         all_children
-        (all_both Stands (λ child. IsValidWithin child × (Leads child × Grows child)) all_children positions
+        (all_both Stands (λ child. IsValidWithin child × (Leads child × Grows child)) all_children
+        positions
         (all_both IsValidWithin (λ child. Leads child × Grows child) all_children (law.valid room)
         (all_both Leads Grows all_children law.kinds law.sizes)))

@@ -33,7 +33,8 @@ pub all_seconds : {A B : Type 0} (P : B → Type 0) (xs : List A) (ys : List B) 
 all_seconds P [] ys h = All-nil (λ p. P p.1)
 all_seconds P (x ∷ xs) [] h = All-nil (λ p. P p.1)
 all_seconds P (x ∷ xs) (y ∷ ys) h =
-    All-cons (λ p. P p.1) (x, y) (zip xs ys) (All-head P y ys h) (all_seconds P xs ys (All-tail P y ys h))
+    All-cons (λ p. P p.1) (x, y) (zip xs ys) (All-head P y ys h)
+    (all_seconds P xs ys (All-tail P y ys h))
 
 -- ---- elements that stand at the numbers from a first one on
 
@@ -56,15 +57,27 @@ module _ {A B : Type 0} (f : A → B) (g : ℕ → B) where
   stand_from [] low high h e = All-nil (StandsFrom f g low high)
   stand_from (x ∷ xs) low high h e =
       All-cons (StandsFrom f g low high) x xs
-      (record { place = low; from = omega arith; to = omega (arith, h); is = cons_head (f x) (g low) (map f xs) (map g (range_with_len (low + 1) (length xs))) e })
-      (lowered xs (stand_from xs (low + 1) high (omega (arith, h)) (cons_tail (f x) (g low) (map f xs) (map g (range_with_len (low + 1) (length xs))) e)))
+      (record {
+        place = low;
+        from = omega arith;
+        to = omega (arith, h);
+        is = cons_head (f x) (g low) (map f xs) (map g (range_with_len (low + 1) (length xs))) e;
+      })
+      (lowered xs (stand_from xs (low + 1) high (omega (arith, h))
+      (cons_tail (f x) (g low) (map f xs) (map g (range_with_len (low + 1) (length xs))) e)))
     where
-      lowered : (ys : List A) → All (StandsFrom f g (low + 1) high) ys → All (StandsFrom f g low high) ys
+      lowered : (ys : List A) → All (StandsFrom f g (low + 1) high) ys
+          → All (StandsFrom f g low high) ys
       lowered [] k = All-nil (StandsFrom f g low high)
       lowered (y ∷ ys) k =
           let first = All-head (StandsFrom f g (low + 1) high) y ys k in
           All-cons (StandsFrom f g low high) y ys
-          (record { place = first.place; from = omega (arith, first.from); to = first.to; is = first.is })
+          (record {
+            place = first.place;
+            from = omega (arith, first.from);
+            to = first.to;
+            is = first.is;
+          })
           (lowered ys (All-tail (StandsFrom f g (low + 1) high) y ys k))
 
   -- of two lists one after the other
@@ -74,8 +87,16 @@ module _ {A B : Type 0} (f : A → B) (g : ℕ → B) where
   stand_first [] ys low e = All-nil (StandsFrom f g low (low + 0))
   stand_first (x ∷ xs) ys low e =
       All-cons (StandsFrom f g low (low + length (x ∷ xs))) x xs
-      (record { place = low; from = omega arith; to = omega arith; is = cons_head (f x) (g low) (map f (xs ++ ys)) (map g (range_with_len (low + 1) (length (xs ++ ys)))) e })
-      (lowered xs (stand_first xs ys (low + 1) (cons_tail (f x) (g low) (map f (xs ++ ys)) (map g (range_with_len (low + 1) (length (xs ++ ys)))) e)))
+      (record {
+        place = low;
+        from = omega arith;
+        to = omega arith;
+        is = cons_head (f x) (g low) (map f (xs ++ ys))
+            (map g (range_with_len (low + 1) (length (xs ++ ys)))) e;
+      })
+      (lowered xs (stand_first xs ys (low
+      + 1) (cons_tail (f x) (g low) (map f (xs ++ ys))
+      (map g (range_with_len (low + 1) (length (xs ++ ys)))) e)))
     where
       lowered : (zs : List A) → All (StandsFrom f g (low + 1) ((low + 1) + length xs)) zs
           → All (StandsFrom f g low (low + length (x ∷ xs))) zs
@@ -83,7 +104,12 @@ module _ {A B : Type 0} (f : A → B) (g : ℕ → B) where
       lowered (z ∷ zs) k =
           let first = All-head (StandsFrom f g (low + 1) ((low + 1) + length xs)) z zs k in
           All-cons (StandsFrom f g low (low + length (x ∷ xs))) z zs
-          (record { place = first.place; from = omega (arith, first.from); to = omega (arith, first.to); is = first.is })
+          (record {
+            place = first.place;
+            from = omega (arith, first.from);
+            to = omega (arith, first.to);
+            is = first.is;
+          })
           (lowered zs (All-tail (StandsFrom f g (low + 1) ((low + 1) + length xs)) z zs k))
 
   pub stand_second : (xs ys : List A) (low : ℕ)
@@ -96,7 +122,9 @@ module _ {A B : Type 0} (f : A → B) (g : ℕ → B) where
   stand_second (x ∷ xs) ys low e =
       subst (λ n. All (StandsFrom f g n (low + length (x ∷ (xs ++ ys)))) ys) first
       (subst (λ n. All (StandsFrom f g ((low + 1) + length xs) n) ys) second
-      (stand_second xs ys (low + 1) (cons_tail (f x) (g low) (map f (xs ++ ys)) (map g (range_with_len (low + 1) (length (xs ++ ys)))) e)))
+      (stand_second xs ys (low
+      + 1) (cons_tail (f x) (g low) (map f (xs ++ ys))
+      (map g (range_with_len (low + 1) (length (xs ++ ys)))) e)))
     where
       first : low + 1 + length xs ≡ low + length (x ∷ xs)
       first = omega arith

@@ -67,7 +67,8 @@ put_in_body entries (Plain var set) = plain_or_affine (expression_in entries var
 put_in_body entries (Affine func set) = Affine (composed (function_in entries) func) set
 put_in_body entries (PlainVec vars set) =
     let es = map (expression_in entries) vars in vector_by (list_all is_kept es) es set
-put_in_body entries (AffineVec funcs set) = AffineVec (map (composed (function_in entries)) funcs) set
+put_in_body entries (AffineVec funcs set) =
+    AffineVec (map (composed (function_in entries)) funcs) set
 put_in_body entries (PlainObj sense var) = objective_by sense (expression_in entries var)
 put_in_body entries (AffineObj sense func) = AffineObj sense (composed (function_in entries) func)
 

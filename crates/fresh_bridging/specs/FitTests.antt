@@ -50,7 +50,8 @@ pub Decides-all : {X : Type 0} (p : X → Bool) (P : X → Type 0) → ((x : X) 
     → (xs : List X) → Decides (list_all p xs) (All P xs)
 Decides-all p P each xs = Decides-by_and p P (list_all p) each refl (λ _ _. refl) xs
 
-pub meets_fit_Decides : (o : Option Rational) (q : Rational) → Decides (meets_fit o q) (MeetsFit o q)
+pub meets_fit_Decides : (o : Option Rational) (q : Rational)
+    → Decides (meets_fit o q) (MeetsFit o q)
 meets_fit_Decides None q = (λ _. tt, λ _. refl)
 meets_fit_Decides (Some p) q = sum_fits_Decides p q
 
@@ -58,7 +59,8 @@ step_fits_Decides : (sum a b : Rational) → Decides (step_fits sum a b) (StepFi
 step_fits_Decides sum a b =
     Decides-like (step_fits sum a b) (λ h. record { product = h.0; total = h.1 })
     (λ h. (h.product, h.total))
-    (Decides-and (fits (a *ℚ b)) (sum_fits sum (a *ℚ b)) (fits_Decides (a *ℚ b)) (sum_fits_Decides sum (a *ℚ b)))
+    (Decides-and (fits (a *ℚ b)) (sum_fits sum (a *ℚ b)) (fits_Decides (a *ℚ b))
+    (sum_fits_Decides sum (a *ℚ b)))
 
 pub value_fits_Decides : {K : Type 0} (sum : Rational) (ts : List (K × Rational)) (x : K → Rational)
     → Decides (value_fits sum ts x) (ValueFits sum ts x)
@@ -98,7 +100,9 @@ module _ {K : Type 0} {R : K → K → Ordering} where
       Decides-like (substitution_fits e f)
       (λ h. record { constant = h.0; products = h.1.0; sums = h.1.1 })
       (λ h. (h.constant, (h.products, h.sums)))
-      (Decides-and value (products && sums) (value_fits_Decides f.constant (terms_of f) (λ u. (e u).constant))
+      (Decides-and value (products
+      && sums) (value_fits_Decides f.constant (terms_of f) (λ u. (e u).constant))
       (Decides-and products sums
-      (Decides-all (λ t. times_fit t.1 (terms_of (e t.0))) (λ t. TimesFit t.1 (terms_of (e t.0))) (λ t. times_fit_Decides t.1 (terms_of (e t.0))) (terms_of f))
+      (Decides-all (λ t. times_fit t.1 (terms_of (e t.0))) (λ t. TimesFit t.1 (terms_of (e t.0)))
+      (λ t. times_fit_Decides t.1 (terms_of (e t.0))) (terms_of f))
       (terms_fit_Decides (finite.empty {R = R}) (substituted e (terms_of f)))))

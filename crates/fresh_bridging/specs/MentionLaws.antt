@@ -38,7 +38,8 @@ by_lookup P (e ∷ es) u all itself =
     (by_lookup P es u (All-tail (λ x. P x.expression) e es all) itself)
   where
     here : (b : Bool) → P e.expression → P (expression_in es u)
-        → P (option_map_or (λ x. x.expression) (cond b (Some e) (find (λ x. address_eq x.component u) es)) (Kept u))
+        → P (option_map_or (λ x. x.expression) (cond b (Some e)
+        (find (λ x. address_eq x.component u) es)) (Kept u))
     here true found later = found
     here false found later = later
 
@@ -57,7 +58,8 @@ composed_omits entries f v all none =
     ∙ slope_agreeing f (λ u. coefficient (function_in entries u) v) (λ _. zero_ℚ) each
     ∙ slope_zero f
   where
-    each : (u : Address) → ¬ (coefficient f u ≡ zero_ℚ) → coefficient (function_in entries u) v ≡ zero_ℚ
+    each : (u : Address) → ¬ (coefficient f u ≡ zero_ℚ)
+        → coefficient (function_in entries u) v ≡ zero_ℚ
     each u some =
         by_lookup (Omits v) entries u all
         (same_or_other _ u v (λ same. absurd (some (ap (coefficient f) same ∙ none)))
@@ -80,9 +82,11 @@ pub composed-variable : (e : Address → Function) (u : Address)
 unfolding value_of
 composed-variable e u =
     same_coefficients address_order (composed e (variable u)) (e u)
-    (λ v. coefficient-composed address_order e (variable u) v ∙ slope_variable u (λ w. coefficient (e w) v))
+    (λ v. coefficient-composed address_order e (variable u) v
+    ∙ slope_variable u (λ w. coefficient (e w) v))
     (constant-composed address_order e (variable u) ∙ value)
   where
     value : value_of (variable {R = address_cmp} u) (λ w. (e w).constant) ≡ (e u).constant
     value =
-        ap₂ ◌+ℚ◌ (variable_constant u) (slope_variable u (λ w. (e w).constant)) ∙ zero-+ℚ (e u).constant
+        ap₂ ◌+ℚ◌ (variable_constant u) (slope_variable u (λ w. (e w).constant))
+        ∙ zero-+ℚ (e u).constant

@@ -48,7 +48,8 @@ some_of n s h = omega (arith, at_least_one s, h.enough)
 pub group_valid : (group : Group) → IsValidGroup group → IsValidItem (group_item group)
 group_valid group h =
     let vars = map (λ v. variable_address v.number) group.vars in
-    let count : length (map variable vars) ≡ length group.vars = length-map vars variable ∙ length-map group.vars (λ v. variable_address v.number) in
+    let count : length (map variable vars) ≡ length group.vars = length-map vars variable
+    ∙ length-map group.vars (λ v. variable_address v.number) in
     record {
       function = tt;
       some = omega (arith, count, some_of (length group.vars) group.set h.set);
@@ -58,10 +59,17 @@ group_valid group h =
       others = λ no. absurd (true≢false no);
     }
 
-pub group_size : (group : Group) → IsValidGroup group → length (functions_of (group_item group).body) ≤ 4096
+pub group_size : (group : Group) → IsValidGroup group
+    → length (functions_of (group_item group).body) ≤ 4096
 group_size group h =
     let vars = map (λ v. variable_address v.number) group.vars in
-    omega (arith, length-map vars (variable {R = address_cmp}), length-map group.vars (λ v. variable_address v.number), h.limit)
+    omega (
+      arith,
+      length-map vars (variable {R = address_cmp}),
+      length-map group.vars
+          (λ v. variable_address v.number),
+      h.limit,
+    )
 
 -- ---- functions name the user's variables alone
 
@@ -72,7 +80,8 @@ OfVariables fs = All (λ f. (v : Address) → v.root ≢ root.Variable → coeff
 unmentioned : (f : Function) (v : Address) → has_term v f ≡ false → coefficient f v ≡ zero_ℚ
 unmentioned f v h = by (finite.get f.terms v) refl h
   where
-    by : (o : Option _) → finite.get f.terms v ≡ o → is_some o ≡ false → unwrap_or (finite.get f.terms v) zero_ℚ ≡ zero_ℚ
+    by : (o : Option _) → finite.get f.terms v ≡ o → is_some o ≡ false
+        → unwrap_or (finite.get f.terms v) zero_ℚ ≡ zero_ℚ
     by None e k = ap (λ o. unwrap_or o zero_ℚ) e
     by (Some q) e k = absurd (true≢false k)
 
@@ -87,7 +96,8 @@ none_of : {A : Type 0} (p : A → Bool) (x : A) (xs : List A) → list_any p (x 
     → (p x ≡ false) × (list_any p xs ≡ false)
 none_of p x xs h = by (p x) refl h
   where
-    by : (b : Bool) → p x ≡ b → (b || list_any p xs) ≡ false → (p x ≡ false) × (list_any p xs ≡ false)
+    by : (b : Bool) → p x ≡ b → (b || list_any p xs) ≡ false
+        → (p x ≡ false) × (list_any p xs ≡ false)
     by true e k = absurd (true≢false k)
     by false e k = (e, k)
 
@@ -97,7 +107,8 @@ variables_omit [] v h = All-nil (λ f. coefficient f v ≡ zero_ℚ)
 variables_omit (u ∷ us) v h =
     let parts = none_of (address_eq v) u us h in
     All-cons (λ f. coefficient f v ≡ zero_ℚ) (variable u) (map (variable {R = address_cmp}) us)
-    (coefficient-variable_other address_order u v (λ same. true≢false (sym ((address_eq-Decides v u).1 same) ∙ parts.0)))
+    (coefficient-variable_other address_order u v
+    (λ same. true≢false (sym ((address_eq-Decides v u).1 same) ∙ parts.0)))
     (variables_omit us v parts.1)
 
 functions_omit : (fs : List Function) (v : Address) → list_any (has_term v) fs ≡ false
@@ -105,21 +116,25 @@ functions_omit : (fs : List Function) (v : Address) → list_any (has_term v) fs
 functions_omit [] v h = All-nil (λ f. coefficient f v ≡ zero_ℚ)
 functions_omit (f ∷ fs) v h =
     let parts = none_of (has_term v) f fs h in
-    All-cons (λ g. coefficient g v ≡ zero_ℚ) f fs (unmentioned f v parts.0) (functions_omit fs v parts.1)
+    All-cons (λ g. coefficient g v ≡ zero_ℚ) f fs (unmentioned f v parts.0)
+    (functions_omit fs v parts.1)
 
 row_omits : (func : UserFunc) (s : Set) (v : Address) → func_mentions v func ≡ false
     → All (λ f. coefficient f v ≡ zero_ℚ) (functions_of (row_body func s))
 row_omits (Plain var) s v h =
     All-cons (λ f. coefficient f v ≡ zero_ℚ) (variable var) []
-    (coefficient-variable_other address_order var v (λ same. true≢false (sym ((address_eq-Decides v var).1 same) ∙ h)))
+    (coefficient-variable_other address_order var v
+    (λ same. true≢false (sym ((address_eq-Decides v var).1 same) ∙ h)))
     (All-nil (λ f. coefficient f v ≡ zero_ℚ))
 row_omits (Affine f) s v h =
-    All-cons (λ g. coefficient g v ≡ zero_ℚ) f [] (unmentioned f v h) (All-nil (λ g. coefficient g v ≡ zero_ℚ))
+    All-cons (λ g. coefficient g v ≡ zero_ℚ) f [] (unmentioned f v h)
+    (All-nil (λ g. coefficient g v ≡ zero_ℚ))
 row_omits (PlainVec vars) s v h = variables_omit vars v h
 row_omits (AffineVec fs) s v h = functions_omit fs v h
 
 -- of all at once: a fact of each element at each index
-each_at : {A B : Type 0} (P : B → A → Type 0) (Q : B → Type 0) (xs : List A) → ((b : B) → Q b → All (P b) xs)
+each_at : {A B : Type 0} (P : B → A → Type 0) (Q : B → Type 0) (xs : List A)
+    → ((b : B) → Q b → All (P b) xs)
     → All (λ x. (b : B) → Q b → P b x) xs
 each_at P Q [] h = All-nil (λ x. (b : _) → Q b → P b x)
 each_at P Q (x ∷ xs) h =
@@ -129,18 +144,22 @@ each_at P Q (x ∷ xs) h =
 pub row_variables : (groups : List Group) (row : Row) → IsValidRow groups row
     → OfVariables (functions_of (row_item row).body)
 row_variables groups row h =
-    each_at (λ v f. coefficient f v ≡ zero_ℚ) (λ v. v.root ≢ root.Variable) (functions_of (row_item row).body)
-    (λ v other. row_omits row.func row.set v (not_mentioned (func_mentions v row.func) (λ t. other (stands_root groups v (h.stand v t)))))
+    each_at (λ v f. coefficient f v ≡ zero_ℚ) (λ v. v.root ≢ root.Variable)
+    (functions_of (row_item row).body)
+    (λ v other. row_omits row.func row.set v (not_mentioned (func_mentions v row.func)
+    (λ t. other (stands_root groups v (h.stand v t)))))
 
 -- ---- rows
 
-row_fits : (func : UserFunc) (s : Set) → is_scalar s ≡ is_scalar_function func → FitsItsFunction (row_body func s)
+row_fits : (func : UserFunc) (s : Set) → is_scalar s ≡ is_scalar_function func
+    → FitsItsFunction (row_body func s)
 row_fits (Plain var) s h = h
 row_fits (Affine f) s h = h
 row_fits (PlainVec vars) s h = h
 row_fits (AffineVec fs) s h = h
 
-pub row_count : (func : UserFunc) (s : Set) → length (functions_of (row_body func s)) ≡ components func
+pub row_count : (func : UserFunc) (s : Set)
+    → length (functions_of (row_body func s)) ≡ components func
 row_count (Plain var) s = refl
 row_count (Affine f) s = refl
 row_count (PlainVec vars) s = length-map vars variable
@@ -162,7 +181,8 @@ row_is_row (AffineVec fs) s = refl
 pub names_nothing : (at : Address) → at.root ≢ root.Variable → (fs : List Function) → OfVariables fs
     → All (NamesNothingBelow at) fs
 names_nothing at other fs h =
-    All-weaker (λ f. (v : Address) → v.root ≢ root.Variable → coefficient f v ≡ zero_ℚ) (NamesNothingBelow at)
+    All-weaker (λ f. (v : Address) → v.root ≢ root.Variable → coefficient f v ≡ zero_ℚ)
+    (NamesNothingBelow at)
     (λ f k rest. k (below at rest) other) fs h
 
 row_root : root.Row ≢ root.Variable
@@ -171,16 +191,19 @@ row_root e = let apart : 2 ≡ 0 = ap root_number e in omega (arith, apart)
 objective_root : root.Objective ≢ root.Variable
 objective_root e = let apart : 3 ≡ 0 = ap root_number e in omega (arith, apart)
 
-pub row_valid : (groups : List Group) (row : Row) → IsValidRow groups row → IsValidItem (row_item row)
+pub row_valid : (groups : List Group) (row : Row) → IsValidRow groups row
+    → IsValidItem (row_item row)
 row_valid groups row h =
     let count = row_count row.func row.set in
     record {
       function = row_fits row.func row.set h.shape;
       some = subst (λ n. 1 ≤ n) (sym count) (some_of (components row.func) row.set h.set);
       at_most = subst (λ n. n ≤ 32767) (sym count) (omega (arith, h.limit));
-      set = subst (λ n. IsSetOf n (set_of (row_body row.func row.set))) (sym count) (subst (IsSetOf (components row.func)) (sym (row_set_is row.func row.set)) h.set);
+      set = subst (λ n. IsSetOf n (set_of (row_body row.func row.set))) (sym count)
+          (subst (IsSetOf (components row.func)) (sym (row_set_is row.func row.set)) h.set);
       depth = omega arith;
-      others = λ _. names_nothing (root_address root.Row row.id) row_root (functions_of (row_item row).body) (row_variables groups row h);
+      others = λ _. names_nothing (root_address root.Row row.id) row_root
+          (functions_of (row_item row).body) (row_variables groups row h);
     }
 
 -- ---- the objective
@@ -190,14 +213,18 @@ objective_omits : (o : Objective) (v : Address) → objective_mentions v o ≡ f
 objective_omits objective.Feasibility v h =
     All-nil (λ item. All (λ f. coefficient f v ≡ zero_ℚ) (functions_of item.body))
 objective_omits (objective.Plain sense var) v h =
-    All-cons (λ item. All (λ f. coefficient f v ≡ zero_ℚ) (functions_of item.body)) (objective_item (PlainObj sense var)) []
+    All-cons (λ item. All (λ f. coefficient f v ≡ zero_ℚ) (functions_of item.body))
+    (objective_item (PlainObj sense var)) []
     (All-cons (λ f. coefficient f v ≡ zero_ℚ) (variable var) []
-    (coefficient-variable_other address_order var v (λ same. true≢false (sym ((address_eq-Decides v var).1 same) ∙ h)))
+    (coefficient-variable_other address_order var v
+    (λ same. true≢false (sym ((address_eq-Decides v var).1 same) ∙ h)))
     (All-nil (λ f. coefficient f v ≡ zero_ℚ)))
     (All-nil (λ item. All (λ f. coefficient f v ≡ zero_ℚ) (functions_of item.body)))
 objective_omits (objective.Affine sense func) v h =
-    All-cons (λ item. All (λ f. coefficient f v ≡ zero_ℚ) (functions_of item.body)) (objective_item (AffineObj sense func)) []
-    (All-cons (λ f. coefficient f v ≡ zero_ℚ) func [] (unmentioned func v h) (All-nil (λ f. coefficient f v ≡ zero_ℚ)))
+    All-cons (λ item. All (λ f. coefficient f v ≡ zero_ℚ) (functions_of item.body))
+    (objective_item (AffineObj sense func)) []
+    (All-cons (λ f. coefficient f v ≡ zero_ℚ) func [] (unmentioned func v h)
+    (All-nil (λ f. coefficient f v ≡ zero_ℚ)))
     (All-nil (λ item. All (λ f. coefficient f v ≡ zero_ℚ) (functions_of item.body)))
 
 one_valid : (b : Body) → FitsItsFunction b → length (functions_of b) ≡ 1 → set_of b ≡ Reals 1
@@ -206,7 +233,12 @@ one_valid b fits count set of = record {
   function = fits;
   some = omega (arith, count);
   at_most = omega (arith, count);
-  set = subst (λ n. IsSetOf n (set_of b)) (sym count) (subst (IsSetOf 1) (sym set) (record { dimension = refl; enough = omega arith; uncrossed = refl }));
+  set = subst (λ n. IsSetOf n (set_of b)) (sym count)
+      (subst (IsSetOf 1) (sym set) (record {
+        dimension = refl;
+        enough = omega arith;
+        uncrossed = refl;
+      }));
   depth = omega arith;
   others = λ _. names_nothing (root_address root.Objective 0) objective_root (functions_of b) of;
 }
@@ -219,7 +251,8 @@ pub record IsFurther (item : Item) : Type 0 where
   pub root : (item.at.root ≡ root.Row) ⊎ (item.at.root ≡ root.Objective)
   pub top : length item.at.positions ≡ 0
 
-pub row_further : (groups : List Group) (row : Row) → IsValidRow groups row → IsFurther (row_item row)
+pub row_further : (groups : List Group) (row : Row) → IsValidRow groups row
+    → IsFurther (row_item row)
 row_further groups row h = record {
   valid = row_valid groups row h;
   no_group = row_is_row row.func row.set;
@@ -230,16 +263,22 @@ row_further groups row h = record {
 
 pub objective_further : (groups : List Group) (o : Objective) → IsValidObjective groups o
     → All IsFurther (objective_items o)
-objective_further groups o h = by o (λ v other. objective_omits o v (not_mentioned (objective_mentions v o) (λ t. other (stands_root groups v (h.stand v t)))))
+objective_further groups o h = by o (λ v other. objective_omits o v
+    (not_mentioned (objective_mentions v o) (λ t. other (stands_root groups v (h.stand v t)))))
   where
     by : (o : Objective) → ((v : Address) → v.root ≢ root.Variable
-        → All (λ item. All (λ f. coefficient f v ≡ zero_ℚ) (functions_of item.body)) (objective_items o))
+        → All (λ item. All (λ f. coefficient f v ≡ zero_ℚ) (functions_of item.body))
+        (objective_items o))
         → All IsFurther (objective_items o)
     by objective.Feasibility k = All-nil IsFurther
     by (objective.Plain sense var) k =
         All-cons IsFurther (objective_item (PlainObj sense var)) []
         (record {
-          valid = one_valid (PlainObj sense var) tt refl refl (each_at (λ v f. coefficient f v ≡ zero_ℚ) (λ v. v.root ≢ root.Variable) (variable var ∷ []) (λ v other. All-head (λ item. All (λ f. coefficient f v ≡ zero_ℚ) (functions_of item.body)) (objective_item (PlainObj sense var)) [] (k v other)));
+          valid = one_valid (PlainObj sense var) tt refl refl
+              (each_at (λ v f. coefficient f v ≡ zero_ℚ) (λ v. v.root ≢ root.Variable)
+              (variable var
+              ∷ []) (λ v other. All-head (λ item. All (λ f. coefficient f v ≡ zero_ℚ)
+              (functions_of item.body)) (objective_item (PlainObj sense var)) [] (k v other)));
           no_group = refl;
           count = omega arith;
           root = inr refl;
@@ -249,7 +288,10 @@ objective_further groups o h = by o (λ v other. objective_omits o v (not_mentio
     by (objective.Affine sense func) k =
         All-cons IsFurther (objective_item (AffineObj sense func)) []
         (record {
-          valid = one_valid (AffineObj sense func) tt refl refl (each_at (λ v f. coefficient f v ≡ zero_ℚ) (λ v. v.root ≢ root.Variable) (func ∷ []) (λ v other. All-head (λ item. All (λ f. coefficient f v ≡ zero_ℚ) (functions_of item.body)) (objective_item (AffineObj sense func)) [] (k v other)));
+          valid = one_valid (AffineObj sense func) tt refl refl
+              (each_at (λ v f. coefficient f v ≡ zero_ℚ) (λ v. v.root ≢ root.Variable) (func ∷ [])
+              (λ v other. All-head (λ item. All (λ f. coefficient f v ≡ zero_ℚ)
+              (functions_of item.body)) (objective_item (AffineObj sense func)) [] (k v other)));
           no_group = refl;
           count = omega arith;
           root = inr refl;
@@ -261,7 +303,8 @@ pub further : (model : ModelValue) → IsValid model → All IsFurther (model_im
 further model valid =
     All-append IsFurther (map row_item model.rows) (objective_items model.objective)
     (All-map IsFurther row_item model.rows
-    (All-weaker (IsValidRow model.groups) (λ r. IsFurther (row_item r)) (row_further model.groups) model.rows valid.parts.valid_rows))
+    (All-weaker (IsValidRow model.groups) (λ r. IsFurther (row_item r)) (row_further model.groups)
+    model.rows valid.parts.valid_rows))
     (objective_further model.groups model.objective valid.parts.valid_objective)
 
 -- ---- a group owns nothing at or below another root
@@ -269,9 +312,12 @@ further model valid =
 pub group_owns : (group : Group) (v : Address) → Owns (group_item group) v
     → (v.root ≡ root.Group) ⊎ (v.root ≡ root.Variable)
 group_owns group v (inl b) = inl (ap (λ (a : Address). a.root) b.is)
-group_owns group v (inr c) = inr (named (map (λ g. g.number) group.vars) (subst (λ vs. Contains vs v) (numbered group.vars) c))
+group_owns group v (inr c) = inr (named (map (λ g. g.number) group.vars)
+    (subst (λ vs. Contains vs v) (numbered group.vars) c))
   where
-    numbered : (vars : List GroupVar) → map (λ g. variable_address g.number) vars ≡ map variable_address (map (λ g. g.number) vars)
+    numbered : (vars : List GroupVar)
+        → map (λ g. variable_address g.number) vars
+        ≡ map variable_address (map (λ g. g.number) vars)
     numbered [] = refl
     numbered (g ∷ gs) = ap (λ l. variable_address g.number ∷ l) (numbered gs)
 
@@ -284,7 +330,8 @@ pub not_owned : (group : Group) (v : Address) → (v.root ≡ root.Row) ⊎ (v.r
     → ¬ (Owns (group_item group) v)
 not_owned group v which o = numbers (group_owns group v o) which
   where
-    numbers : (v.root ≡ root.Group) ⊎ (v.root ≡ root.Variable) → (v.root ≡ root.Row) ⊎ (v.root ≡ root.Objective) → ⊥
+    numbers : (v.root ≡ root.Group) ⊎ (v.root ≡ root.Variable)
+        → (v.root ≡ root.Row) ⊎ (v.root ≡ root.Objective) → ⊥
     numbers (inl a) (inl b) = let n : 1 ≡ 2 = ap root_number (sym a ∙ b) in omega (arith, n)
     numbers (inl a) (inr b) = let n : 1 ≡ 3 = ap root_number (sym a ∙ b) in omega (arith, n)
     numbers (inr a) (inl b) = let n : 0 ≡ 2 = ap root_number (sym a ∙ b) in omega (arith, n)

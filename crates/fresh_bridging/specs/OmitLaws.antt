@@ -51,7 +51,8 @@ same_position [] i j r s e = first i j r s e
   where
     first : (a b : ℕ) (l m : List ℕ) → a ∷ l ≡ b ∷ m → a ≡ b
     first a b l m k = cc
-same_position (x ∷ xs) i j r s e = same_position xs i j r s (rest x (xs ++ (i ∷ r)) (xs ++ (j ∷ s)) e)
+same_position (x ∷ xs) i j r s e =
+    same_position xs i j r s (rest x (xs ++ (i ∷ r)) (xs ++ (j ∷ s)) e)
   where
     rest : (a : ℕ) (l m : List ℕ) → a ∷ l ≡ a ∷ m → l ≡ m
     rest a l m k = cc
@@ -59,7 +60,8 @@ same_position (x ∷ xs) i j r s e = same_position xs i j r s (rest x (xs ++ (i 
 -- nothing stands at or below two children
 pub apart : (at : Address) (i j : ℕ) (v : Address) → IsBelowAt at i v → IsBelowAt at j v → i ≡ j
 apart at i j v a b =
-    same_position at.positions i j a.rest b.rest (ap (λ (x : Address). x.positions) (sym a.is ∙ b.is))
+    same_position at.positions i j a.rest b.rest (ap (λ (x : Address). x.positions)
+    (sym a.is ∙ b.is))
 
 -- a variable of the group, or an address at or below the group's
 abbrev pub Owns : Item → Address → Type 0
@@ -69,7 +71,8 @@ appended : (xs ys zs : List ℕ) → (xs ++ ys) ++ zs ≡ xs ++ (ys ++ zs)
 appended [] ys zs = refl
 appended (x ∷ xs) ys zs = ap (λ l. x ∷ l) (appended xs ys zs)
 
-pub below_child : (at : Address) (j : ℕ) (rest : List ℕ) → below (child_of at j) rest ≡ below at (j ∷ rest)
+pub below_child : (at : Address) (j : ℕ) (rest : List ℕ)
+    → below (child_of at j) rest ≡ below at (j ∷ rest)
 below_child at j rest =
     ap (λ l. record at { positions = l }) (appended at.positions (j ∷ []) rest)
 
@@ -103,7 +106,8 @@ groups_by family.FreeVar edge item = refl
 groups_by family.ScalarSlack edge item = refl
 groups_by family.VectorSlack edge item = refl
 groups_by family.Later edge item =
-    one_or_other (begins_free (children_of edge)) (free_at item (size item)) (group_at item (Reals (size item)) (size item)) refl refl
+    one_or_other (begins_free (children_of edge)) (free_at item (size item))
+    (group_at item (Reals (size item)) (size item)) refl refl
 groups_by family.ObjSlack edge item = refl
 groups_by family.NormInfinity edge item = refl
 groups_by family.NormOne edge item = refl
@@ -111,7 +115,8 @@ groups_by family.NormOne edge item = refl
 pub groups_are : (edge : Edge) (item : Item)
     → All (λ g. is_group g.body ≡ true) (image_of edge item).groups
 groups_are edge item =
-    AllPass-from_list_all (λ g. is_group g.body) (image_of edge item).groups (groups_by (family_of edge) edge item)
+    AllPass-from_list_all (λ g. is_group g.body) (image_of edge item).groups
+    (groups_by (family_of edge) edge item)
 
 -- ---- what isn't mentioned
 
@@ -130,16 +135,22 @@ own_omit : (vars : List Address) (v : Address) → ¬ (Contains vars v)
     → AllOmit v (map (λ u. record { component = u; expression = Kept u }) vars)
 own_omit [] v h = All-nil (λ e. Omits v e.expression)
 own_omit (u ∷ us) v h =
-    All-cons (λ e. Omits v e.expression) (record { component = u; expression = Kept u }) (map (λ w. record { component = w; expression = Kept w }) us)
+    All-cons (λ e. Omits v e.expression) (record { component = u; expression = Kept u })
+    (map (λ w. record { component = w; expression = Kept w }) us)
     (coefficient-variable_other address_order u v (λ same. h (0, omega arith, sym same)))
     (own_omit us v (λ c. h (suc c.0, omega (arith, c.1), c.2)))
 
 made_omit : (entries : List Entry) (vars : List Address) (exprs : List Expression) (v : Address)
     → AllOmit v entries → All (Omits v) exprs
-    → AllOmit v (map (λ p. record { component = p.0; expression = put_into entries p.1 }) (zip vars exprs))
+    → AllOmit v (map (λ p. record { component = p.0; expression = put_into entries p.1 })
+    (zip vars exprs))
 made_omit entries vars exprs v inner own =
-    All-map (λ e. Omits v e.expression) (λ p. record { component = p.0; expression = put_into entries p.1 }) (zip vars exprs)
-    (All-weaker (λ p. Omits v p.1) (λ p. Omits v (put_into entries p.1)) (λ p h. put_into_omits entries p.1 v inner h) (zip vars exprs)
+    All-map (λ e. Omits v e.expression) (λ p. record {
+      component = p.0;
+      expression = put_into entries p.1;
+    }) (zip vars exprs)
+    (All-weaker (λ p. Omits v p.1) (λ p. Omits v (put_into entries p.1))
+    (λ p h. put_into_omits entries p.1 v inner h) (zip vars exprs)
     (all_seconds (Omits v) vars exprs own))
 
 -- ---- along the bridging of a group
@@ -165,12 +176,20 @@ module _ (setting : Setting) (costly : IsCostly (graph_of setting)) (choice : �
     -- the child groups can be bridged
     pub child_groups : All IsGroup groups_in
     child_groups =
-        All-weaker (λ g. RanksBelow (Can setting costly choice chosen) (rank_of setting costly choice chosen) (rank_of setting costly choice chosen group) g × (is_group g.body ≡ true)) IsGroup
+        All-weaker (λ g. RanksBelow (Can setting costly choice chosen)
+        (rank_of setting costly choice chosen) (rank_of setting costly choice chosen group) g
+        × (is_group g.body ≡ true)) IsGroup
         (λ g h. record { can = h.0.can; is_group = h.1 }) groups_in
-        (all_both (RanksBelow (Can setting costly choice chosen) (rank_of setting costly choice chosen) (rank_of setting costly choice chosen group)) (λ g. is_group g.body ≡ true) groups_in
-        (All-weaker (IsChild setting costly choice chosen lawful group can n e) (RanksBelow (Can setting costly choice chosen) (rank_of setting costly choice chosen) (rank_of setting costly choice chosen group))
-        (λ g child. child_can setting costly choice chosen lawful group can n e g child g refl refl refl (λ v. v)) groups_in
-        (all_first (IsChild setting costly choice chosen lawful group can n e) groups_in others_in (are_children setting costly choice chosen lawful group can n e)))
+        (all_both (RanksBelow (Can setting costly choice chosen)
+        (rank_of setting costly choice chosen) (rank_of setting costly choice chosen group))
+        (λ g. is_group g.body ≡ true) groups_in
+        (All-weaker (IsChild setting costly choice chosen lawful group can n e)
+        (RanksBelow (Can setting costly choice chosen) (rank_of setting costly choice chosen)
+        (rank_of setting costly choice chosen group))
+        (λ g child. child_can setting costly choice chosen lawful group can n e g child g refl refl
+        refl (λ v. v)) groups_in
+        (all_first (IsChild setting costly choice chosen lawful group can n e) groups_in others_in
+        (are_children setting costly choice chosen lawful group can n e)))
         (groups_are (edge_at n) group))
 
     abbrev pub StandsAsGroup : Item → Type 0
@@ -180,21 +199,32 @@ module _ (setting : Setting) (costly : IsCostly (graph_of setting)) (choice : �
     pub owned : (g : Item) (stands : StandsAsGroup g) → HasComponents g → (v : Address) → Owns g v
         → IsBelowAt group.at stands.place v
     owned g stands components v (inl b) =
-        record { rest = b.rest; is = b.is ∙ ap (λ a. below a b.rest) stands.is ∙ below_child group.at stands.place b.rest }
+        record {
+          rest = b.rest;
+          is = b.is ∙ ap (λ a. below a b.rest) stands.is
+              ∙ below_child group.at stands.place b.rest;
+        }
     owned g stands components v (inr c) =
-        component (range_with_len 0 (length (variables_of g.body))) (subst (λ vs. Contains vs v) components c)
+        component (range_with_len 0 (length (variables_of g.body)))
+        (subst (λ vs. Contains vs v) components c)
       where
-        component : (ns : List ℕ) → Contains (map (child_of g.at) ns) v → IsBelowAt group.at stands.place v
+        component : (ns : List ℕ) → Contains (map (child_of g.at) ns) v
+            → IsBelowAt group.at stands.place v
         component [] (place, inside, is) = absurd (omega (arith, inside))
         component (m ∷ ns) (zero, inside, is) =
-            record { rest = m ∷ []; is = sym is ∙ ap (λ a. below a (m ∷ [])) stands.is ∙ below_child group.at stands.place (m ∷ []) }
+            record {
+              rest = m ∷ [];
+              is = sym is ∙ ap (λ a. below a (m ∷ [])) stands.is
+                  ∙ below_child group.at stands.place (m ∷ []);
+            }
         component (m ∷ ns) (suc place, inside, is) = component ns (place, omega (arith, inside), is)
 
     -- the child groups, where they stand
     pub standing_groups : All (λ g. StandsAsGroup g × HasComponents g) groups_in
     standing_groups =
         all_both StandsAsGroup HasComponents groups_in
-        (stand_first (λ c. c.at) (child_of group.at) groups_in others_in 0 edge_law.positions) edge_law.components
+        (stand_first (λ c. c.at) (child_of group.at) groups_in others_in 0 edge_law.positions)
+        edge_law.components
 
     pub unowned : (v : Address) → ¬ (Owns group v) → All (λ g. ¬ (Owns g v)) groups_in
     unowned v h =
@@ -202,7 +232,8 @@ module _ (setting : Setting) (costly : IsCostly (graph_of setting)) (choice : �
         (λ g k o. let b = owned g k.0 k.1 v o in h (inl (record { rest = k.0.place ∷ b.rest; is = b.is }))) groups_in standing_groups
 
     -- the expressions of the image
-    pub exprs_omit : (v : Address) → ¬ (Owns group v) → All (Omits v) (image_of (edge_at n) group).exprs
+    pub exprs_omit : (v : Address) → ¬ (Owns group v)
+        → All (Omits v) (image_of (edge_at n) group).exprs
     exprs_omit v h =
         all_from_map (λ f. coefficient f v ≡ zero_ℚ) expressed (image_of (edge_at n) group).exprs
         (edge_law.expressed v (outside_inner groups_in v (unowned v h)))
@@ -211,14 +242,16 @@ module _ (setting : Setting) (costly : IsCostly (graph_of setting)) (choice : �
   own_case : (group : Item) → IsGroup group → (v : Address) → ¬ (Owns group v)
       → AllOmit v (own_entries group)
   own_case group is v h =
-      subst (λ b. AllOmit v (cond b (map (λ u. record { component = u; expression = Kept u }) (variables_of group.body)) []))
+      subst (λ b. AllOmit v (cond b (map (λ u. record { component = u; expression = Kept u })
+      (variables_of group.body)) []))
       (sym is.is_group) (own_omit (variables_of group.body) v (λ c. h (inr c)))
 
   edge_case : (group : Item) (is : IsGroup group) (n : ℕ)
       (e : choice (kind_number (kind_of_body group.body)) ≡ By n) (inner : List Entry) (v : Address)
       → ¬ (Owns group v) → AllOmit v inner → AllOmit v (outer_entries n group inner)
   edge_case group is n e inner v h omitted =
-      made_omit inner (variables_of group.body) (image_of (edge_at n) group).exprs v omitted (exprs_omit group is.can n e v h)
+      made_omit inner (variables_of group.body) (image_of (edge_at n) group).exprs v omitted
+      (exprs_omit group is.can n e v h)
 
   mutual
     -- the expressions of a group's components mention nothing that the group doesn't own
@@ -226,12 +259,16 @@ module _ (setting : Setting) (costly : IsCostly (graph_of setting)) (choice : �
         → IsGroup group → (v : Address) → ¬ (Owns group v) → AllOmit v entries
     omits (natively {item} c) is v h = own_case item is v h
     omits (by {item} {edge} {inner} c groups others) is v h =
-        edge_case item is edge c inner v h (omits_each groups (child_groups item is.can edge c) v (unowned item is.can edge c v h))
+        edge_case item is edge c inner v h (omits_each groups (child_groups item is.can edge c) v
+        (unowned item is.can edge c v h))
 
-    pub omits_each : {groups : List Item} {entries : List Entry} → EachBridged (rules_by choice) groups entries
+    pub omits_each : {groups : List Item} {entries : List Entry}
+        → EachBridged (rules_by choice) groups entries
         → All IsGroup groups → (v : Address) → All (λ g. ¬ (Owns g v)) groups → AllOmit v entries
     omits_each none all v h = All-nil (λ e. Omits v e.expression)
     omits_each (each {item} {items} {entries} {others} first rest) all v h =
         All-append (λ e. Omits v e.expression) entries others
-        (omits first (All-head IsGroup item items all) v (All-head (λ g. ¬ (Owns g v)) item items h))
-        (omits_each rest (All-tail IsGroup item items all) v (All-tail (λ g. ¬ (Owns g v)) item items h))
+        (omits first (All-head IsGroup item items all) v
+        (All-head (λ g. ¬ (Owns g v)) item items h))
+        (omits_each rest (All-tail IsGroup item items all) v
+        (All-tail (λ g. ¬ (Owns g v)) item items h))

@@ -36,13 +36,15 @@ module _ {Item Entry : Type 0} {rules : Rules Item Entry} where
       ap₂ (λ b o. if b then o else Some item) (ap (λ h. h.fits) (held_once first other))
       (unfit_each_once rest more)
 
-  held_in_once : {inner : List Entry} {items : List Item} (trees others : EachBridgedIn rules inner items)
+  held_in_once : {inner : List Entry} {items : List Item}
+      (trees others : EachBridgedIn rules inner items)
       → held_in trees ≡ held_in others
   held_in_once trees others =
       inside (sym (grown_in_is (depth_in trees + depth_in others) trees (omega arith))
       ∙ grown_in_is (depth_in trees + depth_in others) others (omega arith))
 
-  unfit_in_once : {inner : List Entry} {items : List Item} (trees others : EachBridgedIn rules inner items)
+  unfit_in_once : {inner : List Entry} {items : List Item}
+      (trees others : EachBridgedIn rules inner items)
       → unfit_in trees ≡ unfit_in others
   unfolding unfit_in
   unfit_in_once none_in none_in = refl
@@ -77,7 +79,8 @@ module _ {Item Entry : Type 0} {rules : Rules Item Entry} where
       → held_model one ≡ held_model other
   fresh_once model one other =
       let groups = held_each_once one.groups other.groups in
-      let further = others_once model.others one.entries other.entries (ap (λ h. h.entries) groups) one.others other.others in
+      let further = others_once model.others one.entries other.entries (ap (λ h. h.entries) groups)
+      one.others other.others in
       let unfit = unfit_each_once one.groups other.groups in
       λ i. record {
         groups = groups i;
@@ -90,7 +93,8 @@ module _ {Item Entry : Type 0} {rules : Rules Item Entry} where
 module _ (setting : Setting) (model : ModelValue) (costly : IsCostly (graph_of setting)) where
   same_choices : (one other : FreshBridging setting model) → one.choice ≡ other.choice
   same_choices one other =
-      λ i kind. one_choice (graph_of setting) costly kind (one.choice kind) (other.choice kind) (one.chosen kind) (other.chosen kind) i
+      λ i kind. one_choice (graph_of setting) costly kind (one.choice kind) (other.choice kind)
+      (one.chosen kind) (other.chosen kind) i
 
   pub one_bridging : (one other : FreshBridging setting model)
       → held_model one.made ≡ held_model other.made
@@ -112,7 +116,8 @@ module _ (setting : Setting) (model : ModelValue) (costly : IsCostly (graph_of s
       ap (λ h. finite.from_entries (map (λ n. (n.1.at, n)) (h.groups.nodes ++ h.others.nodes)))
       (one_bridging one other)
 
-  pub same_entries : (one other : FreshBridging setting model) → one.made.entries ≡ other.made.entries
+  pub same_entries : (one other : FreshBridging setting model)
+      → one.made.entries ≡ other.made.entries
   same_entries one other = ap (λ h. h.groups.entries) (one_bridging one other)
 
   pub made_alike : (one other : FreshBridging setting model) → is_made one ≡ is_made other

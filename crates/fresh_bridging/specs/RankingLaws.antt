@@ -33,9 +33,18 @@ fewer_pass p q [] weaker = omega arith
 fewer_pass p q (x ∷ xs) weaker =
     by (p x) refl (fewer_pass p q xs weaker)
   where
-    by : (b : Bool) → p x ≡ b → count_by p xs ≤ count_by q xs → count_by p (x ∷ xs) ≤ count_by q (x ∷ xs)
+    by : (b : Bool) → p x ≡ b → count_by p xs ≤ count_by q xs
+        → count_by p (x ∷ xs) ≤ count_by q (x ∷ xs)
     by true e h =
-        omega (arith, h, count_first p x xs, count_first q x xs, ap counted e, ap counted (weaker x e))
+        omega (
+          arith,
+          h,
+          count_first p x xs,
+          count_first q x xs,
+          ap counted e,
+          ap counted
+              (weaker x e),
+        )
     by false e h = omega (arith, h, count_first p x xs, count_first q x xs, ap counted e)
 
 pub fewer_by_one : {A : Type 0} (p q : A → Bool) (xs : List A) (n : ℕ) (one : A)
@@ -44,13 +53,30 @@ pub fewer_by_one : {A : Type 0} (p q : A → Bool) (xs : List A) (n : ℕ) (one 
 fewer_by_one p q [] n one weaker e out inside = absurd (none-some one e)
 fewer_by_one p q (x ∷ xs) zero one weaker e out inside =
     let same : x ≡ one = same_Some x one e in
-    omega (arith, fewer_pass p q xs weaker, count_first p x xs, count_first q x xs, ap counted (ap p same ∙ out), ap counted (ap q same ∙ inside))
+    omega (
+      arith,
+      fewer_pass p q xs weaker,
+      count_first p x xs,
+      count_first q x xs,
+      ap counted
+          (ap p same ∙ out),
+      ap counted (ap q same ∙ inside),
+    )
 fewer_by_one p q (x ∷ xs) (suc n) one weaker e out inside =
     by (p x) refl (fewer_by_one p q xs n one weaker e out inside)
   where
-    by : (b : Bool) → p x ≡ b → count_by p xs + 1 ≤ count_by q xs → count_by p (x ∷ xs) + 1 ≤ count_by q (x ∷ xs)
+    by : (b : Bool) → p x ≡ b → count_by p xs + 1 ≤ count_by q xs
+        → count_by p (x ∷ xs) + 1 ≤ count_by q (x ∷ xs)
     by true f h =
-        omega (arith, h, count_first p x xs, count_first q x xs, ap counted f, ap counted (weaker x f))
+        omega (
+          arith,
+          h,
+          count_first p x xs,
+          count_first q x xs,
+          ap counted f,
+          ap counted
+              (weaker x f),
+        )
     by false f h = omega (arith, h, count_first p x xs, count_first q x xs, ap counted f)
 
 -- ---- trees
@@ -79,7 +105,8 @@ module _ (setting : Setting) (costly : IsCostly (graph_of setting)) where
 
   -- of the listed kinds each has a tree, which costs no more than all
   one_of : (kinds : List Kind) (total : ℕ) (kind : Kind)
-      → Trees (graph_of setting) (map kind_number kinds) total → list_any (kind_eq kind) kinds ≡ true
+      → Trees (graph_of setting) (map kind_number kinds) total
+      → list_any (kind_eq kind) kinds ≡ true
       → (cost : ℕ) × Tree (graph_of setting) (kind_number kind) cost × (cost ≤ total)
   one_of [] total kind trees h = absurd (true≢false (sym h))
   one_of (k ∷ kinds) total kind (each {cost = cost} {others = others} tree trees) h =
@@ -89,8 +116,13 @@ module _ (setting : Setting) (costly : IsCostly (graph_of setting)) where
           → (list_any (kind_eq kind) kinds ≡ true
           → (c : ℕ) × Tree (graph_of setting) (kind_number kind) c × (c ≤ others))
           → (c : ℕ) × Tree (graph_of setting) (kind_number kind) c × (c ≤ cost + others)
-      here_or_later true e all rest =
-          (cost, subst (λ n. Tree (graph_of setting) n cost) (sym ((Decides-eqb (kind_number kind) (kind_number k)).0 (sym (equal_kinds kind k) ∙ e))) tree, omega arith)
+      here_or_later true e all rest = (
+        cost,
+        subst (λ n. Tree (graph_of setting) n cost)
+            (sym ((Decides-eqb (kind_number kind) (kind_number k)).0
+            (sym (equal_kinds kind k) ∙ e))) tree,
+        omega arith,
+      )
       here_or_later false e later rest =
           let found = rest later in (found.0, found.1, omega (arith, found.2))
 
@@ -140,7 +172,8 @@ module _ (setting : Setting) (costly : IsCostly (graph_of setting)) where
 
     pub leads_down : (kind : Kind) (n : ℕ) → choice (kind_number kind) ≡ By n → LeadsDown kind n
     leads_down kind n e =
-        let first : IsFirstEdge (graph_of setting) (kind_number kind) n = subst (IsChoice (graph_of setting) (kind_number kind)) e (chosen (kind_number kind)) in
+        let first : IsFirstEdge (graph_of setting) (kind_number kind) n = subst
+        (IsChoice (graph_of setting) (kind_number kind)) e (chosen (kind_number kind)) in
         let parts = opened first.1.tree in
         let entry = entry_of n parts.row parts.row_is in
         record {
@@ -150,8 +183,19 @@ module _ (setting : Setting) (costly : IsCostly (graph_of setting)) where
           source = same_kind kind entry.0.source (sym parts.source ∙ entry.1.source);
           family = usable_family setting n entry.0 entry.1.here parts.is_on;
           below = λ child h.
-              let one = one_of (kinds_in entry.0.children) parts.below child (subst (λ ks. Trees (graph_of setting) ks parts.below) entry.1.children parts.trees) h in
-              ((one.0, one.1), omega (arith, rank_least (kind_number child) one.0 one.1, one.2, parts.less, first.1.least (rank (kind_number kind)) (rank_tree (kind_number kind) first.0 (by first.1.tree))));
+              let one = one_of (kinds_in entry.0.children) parts.below child
+              (subst (λ ks. Trees (graph_of setting) ks parts.below) entry.1.children
+              parts.trees) h in (
+                (one.0, one.1),
+                omega (
+                  arith,
+                  rank_least (kind_number child) one.0 one.1,
+                  one.2,
+                  parts.less,
+                  first.1.least (rank (kind_number kind))
+                      (rank_tree (kind_number kind) first.0 (by first.1.tree)),
+                ),
+              );
         }
 
     -- how many kinds rank below a number
@@ -161,7 +205,8 @@ module _ (setting : Setting) (costly : IsCostly (graph_of setting)) where
     pub fewer_below : (kind : Kind) (r : ℕ) → rank (kind_number kind) < r
         → ranked_below (rank (kind_number kind)) + 1 ≤ ranked_below r
     fewer_below kind r h =
-        fewer_by_one (λ k. nat_lt (rank (kind_number k)) (rank (kind_number kind))) (λ k. nat_lt (rank (kind_number k)) r)
+        fewer_by_one (λ k. nat_lt (rank (kind_number k)) (rank (kind_number kind)))
+        (λ k. nat_lt (rank (kind_number k)) r)
         KINDS.kinds (kind_number kind) kind (λ k e. grind (arith, nat_tests)) (kind_stands kind)
         (grind (arith, nat_tests)) (grind (arith, nat_tests))
 
@@ -170,5 +215,6 @@ module _ (setting : Setting) (costly : IsCostly (graph_of setting)) where
         omega (
           arith,
           fewer_below kind (suc (rank (kind_number kind))) (omega arith),
-          count_by-le-length (λ k. nat_lt (rank (kind_number k)) (suc (rank (kind_number kind)))) KINDS.kinds,
+          count_by-le-length (λ k. nat_lt (rank (kind_number k)) (suc (rank (kind_number kind))))
+              KINDS.kinds,
         )

@@ -122,12 +122,15 @@ at_place (y ∷ ys) (suc n) x d e = at_place ys n x d e
 pub entry_of : (n : ℕ) (row : EdgeRow) → slice_get EDGE_ROWS n ≡ Some row
     → (entry : EdgeEntry) × IsEntryOf n row entry
 entry_of n row e =
-    let found = from_mapped said EDGES n (told row) (ap (λ l. slice_get l n) rows_agree ∙ mapped_at told EDGE_ROWS n row e) in (
+    let found = from_mapped said EDGES n (told row)
+    (ap (λ l. slice_get l n) rows_agree ∙ mapped_at told EDGE_ROWS n row e) in (
       found.0,
       record {
         here = found.1;
-        edge = at_place (map (λ r. r.edge) EDGES) n found.0.edge E1 (mapped_at (λ r. r.edge) EDGES n found.0 found.1);
-        entry_is = same_Some _ _ (sym (mapped_at (λ r. edge_entry r.edge) EDGES n found.0 found.1) ∙ ap (λ l. slice_get l n) entries_agree ∙ found.1);
+        edge = at_place (map (λ r. r.edge) EDGES) n found.0.edge E1
+            (mapped_at (λ r. r.edge) EDGES n found.0 found.1);
+        entry_is = same_Some _ _ (sym (mapped_at (λ r. edge_entry r.edge) EDGES n found.0 found.1)
+            ∙ ap (λ l. slice_get l n) entries_agree ∙ found.1);
         source = ap (λ p. p.0) (sym found.2);
         children = ap (λ p. p.1) (sym found.2);
       },
@@ -141,16 +144,19 @@ usable_family setting n entry here is_on =
 
 -- ---- what holds of each edge of a family
 
-of_filtered : {A B : Type 0} (P : B → Type 0) (g : A → B) (p : A → Bool) (xs : List A) (n : ℕ) (x : A)
+of_filtered : {A B : Type 0} (P : B → Type 0) (g : A → B) (p : A → Bool) (xs : List A) (n : ℕ)
+    (x : A)
     → slice_get xs n ≡ Some x → p x ≡ true → All P (map g (filter p xs)) → P (g x)
 of_filtered P g p [] n x e passes h = absurd (none-some x e)
 of_filtered P g p (y ∷ ys) zero x e passes h =
     let same : y ≡ x = same_Some y x e in
-    let front : All P (map g (y ∷ filter p ys)) = subst (λ b. All P (map g (cond b (y ∷ filter p ys) (filter p ys)))) (ap p same ∙ passes) h in
+    let front : All P (map g (y ∷ filter p ys)) = subst
+    (λ b. All P (map g (cond b (y ∷ filter p ys) (filter p ys)))) (ap p same ∙ passes) h in
     subst (λ z. P (g z)) same (All-head P (g y) (map g (filter p ys)) front)
 of_filtered P g p (y ∷ ys) (suc n) x e passes h = of_filtered P g p ys n x e passes (rest (p y) h)
   where
-    rest : (b : Bool) → All P (map g (cond b (y ∷ filter p ys) (filter p ys))) → All P (map g (filter p ys))
+    rest : (b : Bool) → All P (map g (cond b (y ∷ filter p ys) (filter p ys)))
+        → All P (map g (filter p ys))
     rest true k = All-tail P (g y) (map g (filter p ys)) k
     rest false k = k
 
@@ -180,7 +186,8 @@ pub of_family : (P : Edge → Type 0) (n : ℕ) (entry : EdgeEntry) → slice_ge
     → All P (edges_of entry.family) → P entry.edge
 unfolding edges_of
 of_family P n entry here h =
-    of_filtered P (λ r. r.edge) (λ r. family_eq r.family entry.family) EDGES n entry here (family_itself entry.family) h
+    of_filtered P (λ r. r.edge) (λ r. family_eq r.family entry.family) EDGES n entry here
+    (family_itself entry.family) h
 
 -- ---- kinds of children
 
@@ -206,7 +213,8 @@ is_norm_kind kind =
 -- plain children stand beside free variables alone, and no group
 abbrev pub plain_beside_free : EdgeEntry → Bool
 plain_beside_free e =
-    not (list_any is_plain_kind (kinds_in e.children) && list_any is_group_kind (kinds_in e.children))
+    not (list_any is_plain_kind (kinds_in e.children)
+    && list_any is_group_kind (kinds_in e.children))
 
 -- no edge leads from free variables
 abbrev pub leads_from_others : EdgeEntry → Bool
@@ -241,9 +249,11 @@ all_keep = refl
 
 at_all : {A : Type 0} (p : A → Bool) (xs : List A) (n : ℕ) (x : A) → list_all p xs ≡ true
     → slice_get xs n ≡ Some x → p x ≡ true
-at_all p xs n x h e = same_Some _ _ (sym (mapped_at p xs n x e) ∙ all_true xs n (p x) h (mapped_at p xs n x e))
+at_all p xs n x h e =
+    same_Some _ _ (sym (mapped_at p xs n x e) ∙ all_true xs n (p x) h (mapped_at p xs n x e))
   where
-    all_true : (ys : List _) (m : ℕ) (b : Bool) → list_all p ys ≡ true → slice_get (map p ys) m ≡ Some b
+    all_true : (ys : List _) (m : ℕ) (b : Bool) → list_all p ys ≡ true
+        → slice_get (map p ys) m ≡ Some b
         → slice_get (map p ys) m ≡ Some true
     all_true [] m b k f = absurd (none-some b f)
     all_true (y ∷ ys) zero b k f = ap Some (and_first (p y) (list_all p ys) k)
@@ -254,7 +264,8 @@ pub all_keep_at : (n : ℕ) (entry : EdgeEntry) → slice_get EDGES n ≡ Some e
 all_keep_at n entry e = at_all keeps_to_the_table EDGES n entry all_keep e
 
 pub equal_kind : (a b : Kind) → kind_eq a b ≡ true → a ≡ b
-equal_kind a b e = same_kind a b ((Decides-eqb (kind_number a) (kind_number b)).0 (sym (equal_kinds a b) ∙ e))
+equal_kind a b e =
+    same_kind a b ((Decides-eqb (kind_number a) (kind_number b)).0 (sym (equal_kinds a b) ∙ e))
 
 pub or_second : (a b : Bool) → b ≡ true → (a || b) ≡ true
 or_second true b h = refl

@@ -122,6 +122,7 @@ rules_by choice = record {
   outer = outer_entries;
   put_in = put_in;
   image_fits = image_fits;
-  outer_fits = λ edge item inner. list_all (put_into_fits inner) (image_of (edge_at edge) item).exprs;
+  outer_fits =
+      λ edge item inner. list_all (put_into_fits inner) (image_of (edge_at edge) item).exprs;
   put_in_fits = put_in_fits;
 }

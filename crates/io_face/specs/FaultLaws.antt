@@ -3,7 +3,8 @@ use Rattle.std.proofs.Common.{ℕ, ◌-◌, ◌^◌, ◌<◌, ◌≤◌, arith}
 use Rattle.io_face.specs.Fault.{HasFaulted, next_count}
 
 -- a fault in one of several calls is a fault in all of them together
-pub HasFaulted-within : (first old new last : ℕ) → first ≤ old → new ≤ last → HasFaulted old new → HasFaulted first last
+pub HasFaulted-within : (first old new last : ℕ) → first ≤ old → new ≤ last → HasFaulted old new
+    → HasFaulted first last
 HasFaulted-within first old new last before after h = grind arith
 
 -- a counted fault is one

@@ -2,7 +2,8 @@
 use Rattle.std.specs.Prelude.{ℕ, List, Contains}
 use Rattle.io_face.specs.Fault.{next_count}
 
--- the calls that are to fail, by their numbers from 1, how many calls were made, and how many failed
+-- the calls that are to fail, by their numbers from 1, how many calls were made, and how many
+-- failed
 pub record Plan : Type 0 where
   pub fails : List ℕ
   pub made : ℕ

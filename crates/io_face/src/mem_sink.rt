@@ -65,7 +65,8 @@ impl Sink for MemSink {
         ensures cause { IsErrOf result SinkFault.Failed
             → HasFaulted self.old.plan.faults self.new.plan.faults }
 
-        // It fails exactly at the listed calls, and else takes as much as it may, unless memory runs out.
+        // It fails exactly at the listed calls, and else takes as much as it may, unless memory
+        // runs out.
         ensures failing { IsErrOf result SinkFault.Failed ↔ IsFailing self.old.plan }
         ensures amount { IfOk result (λ n. n ≡ min (length piece.now) self.old.piece) }
         ensures ok { IfOk result (λ n. self.new ≡ collector_after self.old (take n piece.now)) }

@@ -42,7 +42,8 @@ pub trait Sink {
     /// The count that `faults` gives.
     ghost faults: { Self → ℕ };
 
-    /// Takes bytes from the front of `piece`, at least one where there is one, and returns how many.
+    /// Takes bytes from the front of `piece`, at least one where there is one, and returns how
+    /// many.
     fn write(&mut self, piece: &[u8]) -> Result<usize, SinkFault>
         ensures within { IfOk result (λ n. n ≤ length piece.now) }
         ensures progress { IfOk result (λ n. 0 < length piece.now → 0 < n) }

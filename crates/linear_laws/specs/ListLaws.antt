@@ -1,4 +1,5 @@
--- Lists of affine functions: their values and slopes by one notion, weighed, negated and composed; variables and constant functions.
+-- Lists of affine functions: their values and slopes by one notion, weighed, negated and composed;
+-- variables and constant functions.
 use Rattle.std.specs.Prelude.{◌≡◌, cond, List, [], ◌∷◌, map, refl}
 use Rattle.std.proofs.Common.{sym, ◌∙◌, ap, ap₂}
 use Rattle.ratio_core.specs.Rational.{Rational, neg_ℚ, one_ℚ, zero_ℚ, ◌*ℚ◌, ◌+ℚ◌}
@@ -20,34 +21,46 @@ use Rattle.linear_laws.specs.SupportLaws.{Supports, support, support_supports, s
 use Rattle.std.specs.Prelude.{◌++◌}
 
 -- one function for each, which agree
-map_same : {X : Type 0} (f g : X → Rational) (xs : List X) → ((x : X) → f x ≡ g x) → map f xs ≡ map g xs
+map_same : {X : Type 0} (f g : X → Rational) (xs : List X) → ((x : X) → f x ≡ g x)
+    → map f xs ≡ map g xs
 map_same f g [] h = refl
 map_same f g (x ∷ xs) h = ap₂ (λ q qs. q ∷ qs) (h x) (map_same f g xs h)
 
-map_both : {X Y Z : Type 0} (f : Y → Z) (h : X → Y) (g : X → Z) (xs : List X) → ((x : X) → f (h x) ≡ g x) → map f (map h xs) ≡ map g xs
+map_both : {X Y Z : Type 0} (f : Y → Z) (h : X → Y) (g : X → Z) (xs : List X)
+    → ((x : X) → f (h x) ≡ g x) → map f (map h xs) ≡ map g xs
 map_both f h g [] e = refl
 map_both f h g (x ∷ xs) e = ap₂ (λ y ys. y ∷ ys) (e x) (map_both f h g xs e)
 
 -- ---- values and slopes
 
-pub evaluations_values : (fs : List Function) (x : Address → Rational) → evaluations one_ℚ fs x ≡ values fs x
-evaluations_values fs x = map_same (λ f. evaluated one_ℚ f x) (λ f. value_of f x) fs (λ f. evaluated_value f x)
+pub evaluations_values : (fs : List Function) (x : Address → Rational)
+    → evaluations one_ℚ fs x ≡ values fs x
+evaluations_values fs x =
+    map_same (λ f. evaluated one_ℚ f x) (λ f. value_of f x) fs (λ f. evaluated_value f x)
 
-pub evaluations_slopes : (fs : List Function) (x : Address → Rational) → evaluations zero_ℚ fs x ≡ slopes fs x
-evaluations_slopes fs x = map_same (λ f. evaluated zero_ℚ f x) (λ f. slope f x) fs (λ f. evaluated_slope f x)
+pub evaluations_slopes : (fs : List Function) (x : Address → Rational)
+    → evaluations zero_ℚ fs x ≡ slopes fs x
+evaluations_slopes fs x =
+    map_same (λ f. evaluated zero_ℚ f x) (λ f. slope f x) fs (λ f. evaluated_slope f x)
 
 -- weighed, they are the constants weighed and the slopes weighed
-pub dot_evaluations : (w : List Rational) (one : Rational) (fs : List Function) (x : Address → Rational) → dot w (evaluations one fs x) ≡ one *ℚ dot w (constants fs) +ℚ dot w (slopes fs x)
+pub dot_evaluations : (w : List Rational) (one : Rational) (fs : List Function)
+    (x : Address → Rational)
+    → dot w (evaluations one fs x) ≡ one *ℚ dot w (constants fs) +ℚ dot w (slopes fs x)
 dot_evaluations w one fs x =
-    dot_map-+ℚ w (λ f. one *ℚ f.constant) (λ f. slope f x) fs ∙ ap (λ q. q +ℚ dot w (slopes fs x)) (dot_map-*ℚ w one (λ f. f.constant) fs)
+    dot_map-+ℚ w (λ f. one *ℚ f.constant) (λ f. slope f x) fs
+    ∙ ap (λ q. q +ℚ dot w (slopes fs x)) (dot_map-*ℚ w one (λ f. f.constant) fs)
 
-pub dot_values : (w : List Rational) (fs : List Function) (x : Address → Rational) → dot w (values fs x) ≡ dot w (constants fs) +ℚ dot w (slopes fs x)
+pub dot_values : (w : List Rational) (fs : List Function) (x : Address → Rational)
+    → dot w (values fs x) ≡ dot w (constants fs) +ℚ dot w (slopes fs x)
 dot_values w fs x =
-    ap (dot w) (sym (evaluations_values fs x)) ∙ dot_evaluations w one_ℚ fs x ∙ ap (λ q. q +ℚ dot w (slopes fs x)) (one-*ℚ (dot w (constants fs)))
+    ap (dot w) (sym (evaluations_values fs x)) ∙ dot_evaluations w one_ℚ fs x
+    ∙ ap (λ q. q +ℚ dot w (slopes fs x)) (one-*ℚ (dot w (constants fs)))
 
 -- ---- variables and constant functions
 
-linear_alone : (v : Address) (q : Rational) (x : Address → Rational) → linear ((v, q) ∷ []) x ≡ q *ℚ x v
+linear_alone : (v : Address) (q : Rational) (x : Address → Rational)
+    → linear ((v, q) ∷ []) x ≡ q *ℚ x v
 unfolding linear
 linear_alone v q x = +ℚ-zero (q *ℚ x v)
 
@@ -55,10 +68,12 @@ linear_none : (x : Address → Rational) → linear {K = Address} [] x ≡ zero_
 unfolding linear
 linear_none x = refl
 
-pub slope_variable : (v : Address) (x : Address → Rational) → slope (variable {R = address_cmp} v) x ≡ x v
+pub slope_variable : (v : Address) (x : Address → Rational)
+    → slope (variable {R = address_cmp} v) x ≡ x v
 unfolding variable
 slope_variable v x =
-    ap (λ ts. linear ts x) (terms-function_of ((v, one_ℚ) ∷ []) zero_ℚ (record { rising = refl }) ∙ ap (λ b. cond b ((v, one_ℚ) ∷ []) []) (nonzero_test one_ℚ one_not_zero))
+    ap (λ ts. linear ts x) (terms-function_of ((v, one_ℚ) ∷ []) zero_ℚ (record { rising = refl })
+    ∙ ap (λ b. cond b ((v, one_ℚ) ∷ []) []) (nonzero_test one_ℚ one_not_zero))
     ∙ linear_alone v one_ℚ x ∙ one-*ℚ (x v)
 
 constant_of_variable : (v : Address) → (variable {R = address_cmp} v).constant ≡ zero_ℚ
@@ -66,31 +81,40 @@ unfolding variable
 constant_of_variable v = constant-function_of address_cmp ((v, one_ℚ) ∷ []) zero_ℚ
 
 -- a variable is its own number, at a point and along a ray
-pub evaluated_variable : (one : Rational) (v : Address) (x : Address → Rational) → evaluated one (variable {R = address_cmp} v) x ≡ x v
+pub evaluated_variable : (one : Rational) (v : Address) (x : Address → Rational)
+    → evaluated one (variable {R = address_cmp} v) x ≡ x v
 evaluated_variable one v x =
-    (λ i. one *ℚ constant_of_variable v i +ℚ slope_variable v x i) ∙ ap (λ q. q +ℚ x v) (*ℚ-zero one) ∙ zero-+ℚ (x v)
+    (λ i. one *ℚ constant_of_variable v i +ℚ slope_variable v x i)
+    ∙ ap (λ q. q +ℚ x v) (*ℚ-zero one) ∙ zero-+ℚ (x v)
 
-pub evaluations_variables : (one : Rational) (vs : List Address) (x : Address → Rational) → evaluations one (map (λ v. variable {R = address_cmp} v) vs) x ≡ map x vs
-evaluations_variables one vs x = map_both (λ f. evaluated one f x) (λ v. variable {R = address_cmp} v) x vs (λ v. evaluated_variable one v x)
+pub evaluations_variables : (one : Rational) (vs : List Address) (x : Address → Rational)
+    → evaluations one (map (λ v. variable {R = address_cmp} v) vs) x ≡ map x vs
+evaluations_variables one vs x = map_both (λ f. evaluated one f x)
+    (λ v. variable {R = address_cmp} v) x vs (λ v. evaluated_variable one v x)
 
-pub slope_constant_function : (k : Rational) (x : Address → Rational) → slope (constant_function {R = address_cmp} k) x ≡ zero_ℚ
+pub slope_constant_function : (k : Rational) (x : Address → Rational)
+    → slope (constant_function {R = address_cmp} k) x ≡ zero_ℚ
 unfolding constant_function
-slope_constant_function k x = ap (λ ts. linear ts x) (terms-function_of [] k (record { rising = refl })) ∙ linear_none x
+slope_constant_function k x =
+    ap (λ ts. linear ts x) (terms-function_of [] k (record { rising = refl })) ∙ linear_none x
 
 constant_of_constant : (k : Rational) → (constant_function {R = address_cmp} k).constant ≡ k
 unfolding constant_function
 constant_of_constant k = constant-function_of address_cmp [] k
 
-pub evaluated_constant_function : (one k : Rational) (x : Address → Rational) → evaluated one (constant_function {R = address_cmp} k) x ≡ one *ℚ k
+pub evaluated_constant_function : (one k : Rational) (x : Address → Rational)
+    → evaluated one (constant_function {R = address_cmp} k) x ≡ one *ℚ k
 evaluated_constant_function one k x =
     (λ i. one *ℚ constant_of_constant k i +ℚ slope_constant_function k x i) ∙ +ℚ-zero (one *ℚ k)
 
 -- ---- negated functions
 
-pub slope_negated : (f h : Function) → IsNegated f h → (x : Address → Rational) → slope h x ≡ neg_ℚ (slope f x)
+pub slope_negated : (f h : Function) → IsNegated f h → (x : Address → Rational)
+    → slope h x ≡ neg_ℚ (slope f x)
 slope_negated f h n x =
     slope_over all h x (supports_first all (mentioned h) (mentioned f) each)
-    ∙ sum_by_ℚ_same (λ u. coefficient h u *ℚ x u) (λ u. neg_ℚ (coefficient f u *ℚ x u)) all (λ u. ap (λ q. q *ℚ x u) (n.coefficients u) ∙ neg_ℚ-*ℚ (coefficient f u) (x u))
+    ∙ sum_by_ℚ_same (λ u. coefficient h u *ℚ x u) (λ u. neg_ℚ (coefficient f u *ℚ x u)) all
+    (λ u. ap (λ q. q *ℚ x u) (n.coefficients u) ∙ neg_ℚ-*ℚ (coefficient f u) (x u))
     ∙ sum_by_ℚ-neg_ℚ (λ u. coefficient f u *ℚ x u) all
     ∙ ap neg_ℚ (sym (slope_over all f x (supports_second all (mentioned h) (mentioned f) each)))
   where
@@ -100,34 +124,45 @@ slope_negated f h n x =
     each : Supports all (mentioned h ++ mentioned f)
     each = support_supports (mentioned h ++ mentioned f)
 
-pub evaluated_negated : (one : Rational) (f h : Function) → IsNegated f h → (x : Address → Rational) → evaluated one h x ≡ neg_ℚ (evaluated one f x)
+pub evaluated_negated : (one : Rational) (f h : Function) → IsNegated f h → (x : Address → Rational)
+    → evaluated one h x ≡ neg_ℚ (evaluated one f x)
 evaluated_negated one f h n x =
     ap₂ ◌+ℚ◌ (ap (λ q. one *ℚ q) n.constant ∙ *ℚ-neg_ℚ one f.constant) (slope_negated f h n x)
     ∙ sym (neg_ℚ-sum (one *ℚ f.constant) (slope f x))
 
-pub evaluations-negated : (one : Rational) (fs : List Function) (x : Address → Rational) → evaluations one (map negated fs) x ≡ negated_numbers (evaluations one fs x)
+pub evaluations-negated : (one : Rational) (fs : List Function) (x : Address → Rational)
+    → evaluations one (map negated fs) x ≡ negated_numbers (evaluations one fs x)
 evaluations-negated one fs x =
-    map_both (λ f. evaluated one f x) negated (λ f. neg_ℚ (evaluated one f x)) fs (λ f. evaluated_negated one f (negated f) (is_negated address_order f (negated f) refl) x)
+    map_both (λ f. evaluated one f x) negated (λ f. neg_ℚ (evaluated one f x)) fs
+    (λ f. evaluated_negated one f (negated f) (is_negated address_order f (negated f) refl) x)
     ∙ sym (map_both neg_ℚ (λ f. evaluated one f x) (λ f. neg_ℚ (evaluated one f x)) fs (λ f. refl))
 
 -- ---- composed functions
 
 module _ (e : Address → Function) (fs : List Function) where
-  pub evaluations-composed : (one : Rational) (x : Address → Rational) → evaluations one (map (composed e) fs) x ≡ evaluations one fs (λ u. evaluated one (e u) x)
+  pub evaluations-composed : (one : Rational) (x : Address → Rational)
+      → evaluations one (map (composed e) fs) x ≡ evaluations one fs (λ u. evaluated one (e u) x)
   evaluations-composed one x =
-      map_both (λ f. evaluated one f x) (composed e) (λ f. evaluated one f (λ u. evaluated one (e u) x)) fs
-      (λ f. evaluated_composed one e f (composed e f) (is_composition address_order e f (composed e f) refl) x)
+      map_both (λ f. evaluated one f x) (composed e)
+      (λ f. evaluated one f (λ u. evaluated one (e u) x)) fs
+      (λ f. evaluated_composed one e f (composed e f)
+      (is_composition address_order e f (composed e f) refl) x)
 
-  pub slopes-composed : (x : Address → Rational) → slopes (map (composed e) fs) x ≡ slopes fs (λ u. slope (e u) x)
+  pub slopes-composed : (x : Address → Rational)
+      → slopes (map (composed e) fs) x ≡ slopes fs (λ u. slope (e u) x)
   slopes-composed x =
       map_both (λ f. slope f x) (composed e) (λ f. slope f (λ u. slope (e u) x)) fs
-      (λ f. slope_composed e f (composed e f) (is_composition address_order e f (composed e f) refl) x)
+      (λ f. slope_composed e f (composed e f) (is_composition address_order e f (composed e f) refl)
+      x)
 
   -- the adjoint of a substitution: coefficients are the slopes at those of the expressions
-  pub coefficients-composed : (v : Address) → coefficients (map (composed e) fs) v ≡ slopes fs (λ u. coefficient (e u) v)
+  pub coefficients-composed : (v : Address)
+      → coefficients (map (composed e) fs) v ≡ slopes fs (λ u. coefficient (e u) v)
   coefficients-composed v =
-      map_both (λ f. coefficient f v) (composed e) (λ f. slope f (λ u. coefficient (e u) v)) fs (λ f. coefficient-composed address_order e f v)
+      map_both (λ f. coefficient f v) (composed e) (λ f. slope f (λ u. coefficient (e u) v)) fs
+      (λ f. coefficient-composed address_order e f v)
 
   pub constants-composed : constants (map (composed e) fs) ≡ values fs (λ u. (e u).constant)
   constants-composed =
-      map_both (λ f. f.constant) (composed e) (λ f. value_of f (λ u. (e u).constant)) fs (λ f. constant-composed address_order e f)
+      map_both (λ f. f.constant) (composed e) (λ f. value_of f (λ u. (e u).constant)) fs
+      (λ f. constant-composed address_order e f)

@@ -11,20 +11,29 @@ use Rattle.aff_core.specs.Points.{cut, spread}
 use Rattle.std.specs.Cmp.{eq_by_cmp_equiv}
 use Rattle.linear_laws.specs.EvaluationLaws.{evaluated_agreeing}
 
-past_first : (a : Address) (q : Rational) (us vs : List Address) (v : List Rational) → AllByRecursion (λ u. address_eq a u ≡ false) us → map (spread (a ∷ vs) (q ∷ v)) us ≡ map (spread vs v) us
+past_first : (a : Address) (q : Rational) (us vs : List Address) (v : List Rational)
+    → AllByRecursion (λ u. address_eq a u ≡ false) us
+    → map (spread (a ∷ vs) (q ∷ v)) us ≡ map (spread vs v) us
 past_first a q [] vs v apart = refl
 past_first a q (u ∷ us) vs v apart =
-    ap₂ (λ p ps. p ∷ ps) (ap (λ b. cond b q (spread vs v u)) ((eq_by_cmp_equiv address_total).symm u a ∙ apart.0)) (past_first a q us vs v apart.1)
+    ap₂ (λ p ps. p
+    ∷ ps) (ap (λ b. cond b q (spread vs v u)) ((eq_by_cmp_equiv address_total).symm u a
+    ∙ apart.0)) (past_first a q us vs v apart.1)
 
 -- at distinct addresses stand the numbers
-pub spread_at : (us : List Address) (v : List Rational) → IsDistinct address_eq us → length us ≡ length v → map (spread us v) us ≡ v
+pub spread_at : (us : List Address) (v : List Rational) → IsDistinct address_eq us
+    → length us ≡ length v → map (spread us v) us ≡ v
 spread_at [] [] d n = refl
 spread_at [] (q ∷ v) d n = absurd (omega arith)
 spread_at (a ∷ us) [] d n = absurd (omega arith)
 spread_at (a ∷ us) (q ∷ v) d n =
     ap₂ (λ p ps. p ∷ ps) (ap (λ b. cond b q (spread us v a)) (same_key address_order a))
-    (past_first a q us us v (IsDistinct-head address_eq a us d) ∙ spread_at us v (IsDistinct-tail address_eq a us d) (omega arith))
+    (past_first a q us us v (IsDistinct-head address_eq a us d)
+    ∙ spread_at us v (IsDistinct-tail address_eq a us d) (omega arith))
 
 -- a function that mentions only addresses that pass doesn't see the cut
-pub evaluated_cut : (one : Rational) (p : Address → Bool) (f : Function) (x : Address → Rational) → ((v : Address) → ¬ (coefficient f v ≡ zero_ℚ) → p v ≡ true) → evaluated one f (cut p x) ≡ evaluated one f x
-evaluated_cut one p f x h = evaluated_agreeing one f (cut p x) x (λ v n. ap (λ b. cond b (x v) zero_ℚ) (h v n))
+pub evaluated_cut : (one : Rational) (p : Address → Bool) (f : Function) (x : Address → Rational)
+    → ((v : Address) → ¬ (coefficient f v ≡ zero_ℚ) → p v ≡ true)
+    → evaluated one f (cut p x) ≡ evaluated one f x
+evaluated_cut one p f x h =
+    evaluated_agreeing one f (cut p x) x (λ v n. ap (λ b. cond b (x v) zero_ℚ) (h v n))

@@ -1,4 +1,5 @@
--- Lists in which each of some addresses stands once, so that sums of several functions can be made over one list.
+-- Lists in which each of some addresses stands once, so that sums of several functions can be made
+-- over one list.
 use Rattle.std.specs.Prelude.{◌≡◌, Bool, true, false, cond, List, [], ◌∷◌, ◌++◌, All, refl}
 use Rattle.std.specs.Ordering.{eq_by_cmp}
 use Rattle.std.proofs.Common.{sym, ◌∙◌, ap, ap₂, subst, true≢false}
@@ -26,14 +27,17 @@ abbrev pub support : List Address → List Address
 support [] = []
 support (v ∷ vs) = v ∷ without v (support vs)
 
-count_without : (v w : Address) → ¬ (v ≡ w) → (us : List Address) → count (without v us) w ≡ count us w
+count_without : (v w : Address) → ¬ (v ≡ w) → (us : List Address)
+    → count (without v us) w ≡ count us w
 count_without v w n [] = refl
 count_without v w n (u ∷ us) = by_test (count_without v w n us) (eq_by_cmp address_cmp v u) refl
   where
-    by_test : count (without v us) w ≡ count us w → (b : Bool) → eq_by_cmp address_cmp v u ≡ b → count (cond b (without v us) (u ∷ without v us)) w ≡ unit u w +ℚ count us w
+    by_test : count (without v us) w ≡ count us w → (b : Bool) → eq_by_cmp address_cmp v u ≡ b
+        → count (cond b (without v us) (u ∷ without v us)) w ≡ unit u w +ℚ count us w
     by_test rest true e =
         rest ∙ sym (zero-+ℚ (count us w))
-        ∙ ap (λ q. q +ℚ count us w) (sym (unit_other u w (λ k. n ((address_eq-Decides v u).0 e ∙ k))))
+        ∙ ap (λ q. q
+        +ℚ count us w) (sym (unit_other u w (λ k. n ((address_eq-Decides v u).0 e ∙ k))))
     by_test rest false e = ap (λ q. unit u w +ℚ q) rest
 
 count_gone : (v : Address) (us : List Address) → count (without v us) v ≡ zero_ℚ
@@ -41,9 +45,11 @@ count_gone v [] = refl
 count_gone v (u ∷ us) = by_test (count_gone v us) (eq_by_cmp address_cmp v u) refl
   where
     other : eq_by_cmp address_cmp v u ≡ false → unit u v ≡ zero_ℚ
-    other e = same_or_other (unit u v ≡ zero_ℚ) u v (λ k. absurd (true≢false (sym ((address_eq-Decides v u).1 (sym k)) ∙ e))) (unit_other u v)
+    other e = same_or_other (unit u v ≡ zero_ℚ) u v
+        (λ k. absurd (true≢false (sym ((address_eq-Decides v u).1 (sym k)) ∙ e))) (unit_other u v)
 
-    by_test : count (without v us) v ≡ zero_ℚ → (b : Bool) → eq_by_cmp address_cmp v u ≡ b → count (cond b (without v us) (u ∷ without v us)) v ≡ zero_ℚ
+    by_test : count (without v us) v ≡ zero_ℚ → (b : Bool) → eq_by_cmp address_cmp v u ≡ b
+        → count (cond b (without v us) (u ∷ without v us)) v ≡ zero_ℚ
     by_test rest true e = rest
     by_test rest false e = ap₂ ◌+ℚ◌ (other e) rest ∙ +ℚ-zero zero_ℚ
 
@@ -51,7 +57,8 @@ pub support_supports : (vs : List Address) → Supports (support vs) vs
 support_supports [] = All-nil (λ w. count [] w ≡ one_ℚ)
 support_supports (v ∷ vs) =
     All-cons (λ w. count (support (v ∷ vs)) w ≡ one_ℚ) v vs here
-    (All-weaker (λ w. count (support vs) w ≡ one_ℚ) (λ w. count (support (v ∷ vs)) w ≡ one_ℚ) later vs (support_supports vs))
+    (All-weaker (λ w. count (support vs) w ≡ one_ℚ) (λ w. count (support (v ∷ vs)) w ≡ one_ℚ) later
+    vs (support_supports vs))
   where
     here : count (support (v ∷ vs)) v ≡ one_ℚ
     here = ap₂ ◌+ℚ◌ (unit_same v) (count_gone v (support vs)) ∙ +ℚ-zero one_ℚ
@@ -66,8 +73,10 @@ support_supports (v ∷ vs) =
 pub supports_first : (us vs ws : List Address) → Supports us (vs ++ ws) → Supports us vs
 supports_first us [] ws h = All-nil (λ w. count us w ≡ one_ℚ)
 supports_first us (v ∷ vs) ws h =
-    All-cons (λ w. count us w ≡ one_ℚ) v vs (All-head (λ w. count us w ≡ one_ℚ) v (vs ++ ws) h) (supports_first us vs ws (All-tail (λ w. count us w ≡ one_ℚ) v (vs ++ ws) h))
+    All-cons (λ w. count us w ≡ one_ℚ) v vs (All-head (λ w. count us w ≡ one_ℚ) v (vs ++ ws) h)
+    (supports_first us vs ws (All-tail (λ w. count us w ≡ one_ℚ) v (vs ++ ws) h))
 
 pub supports_second : (us vs ws : List Address) → Supports us (vs ++ ws) → Supports us ws
 supports_second us [] ws h = h
-supports_second us (v ∷ vs) ws h = supports_second us vs ws (All-tail (λ w. count us w ≡ one_ℚ) v (vs ++ ws) h)
+supports_second us (v ∷ vs) ws h =
+    supports_second us vs ws (All-tail (λ w. count us w ≡ one_ℚ) v (vs ++ ws) h)

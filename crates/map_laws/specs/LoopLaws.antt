@@ -10,20 +10,25 @@ use Rattle.map_laws.specs.PlaceLaws.{drop_at}
 
 -- ---- from the first to the last, pushing what is made of each item
 
-next_taken : {X Y : Type 0} (f : X → Y) (xs : List X) (i : ℕ) (x : X) → slice_get xs i ≡ Some x → map f (take (suc i) xs) ≡ map f (take i xs) ++ f x ∷ []
+next_taken : {X Y : Type 0} (f : X → Y) (xs : List X) (i : ℕ) (x : X) → slice_get xs i ≡ Some x
+    → map f (take (suc i) xs) ≡ map f (take i xs) ++ f x ∷ []
 next_taken f [] i x e = cc
 next_taken f (y ∷ xs) zero x e = let same : y ≡ x = cc in ap (λ z. f z ∷ []) same
 next_taken f (y ∷ xs) (suc i) x e = ap (λ zs. f y ∷ zs) (next_taken f xs i x e)
 
 -- one more item
-pub taken_pushed : {X Y : Type 0} (f : X → Y) (xs : List X) (i : ℕ) (x : X) (y : Y) (done after : List Y) → Some x ≡ slice_get xs i → done ≡ map f (take i xs) → y ≡ f x → after ≡ done ++ y ∷ [] → after ≡ map f (take (i + 1) xs)
+pub taken_pushed : {X Y : Type 0} (f : X → Y) (xs : List X) (i : ℕ) (x : X) (y : Y)
+    (done after : List Y) → Some x ≡ slice_get xs i → done ≡ map f (take i xs) → y ≡ f x
+    → after ≡ done ++ y ∷ [] → after ≡ map f (take (i + 1) xs)
 taken_pushed f xs i x y done after at so_far is pushed =
-    let more : map f (take (i + 1) xs) ≡ map f (take i xs) ++ f x ∷ [] = rw add-one (next_taken f xs i x (sym at)) in
+    let more : map f (take (i + 1) xs) ≡ map f (take i xs) ++ f x ∷ [] =
+    rw add-one (next_taken f xs i x (sym at)) in
     cc
 
 -- ---- from the first to the last, where a test of the items that are left is a test of all
 
-module _ {X : Type 0} (p : X → Bool) (xs : List X) (i : ℕ) (x : X) (so_far : list_any p (drop i xs) ≡ list_any p xs) (here : slice_get xs i ≡ Some x) where
+module _ {X : Type 0} (p : X → Bool) (xs : List X) (i : ℕ) (x : X)
+    (so_far : list_any p (drop i xs) ≡ list_any p xs) (here : slice_get xs i ≡ Some x) where
   at : list_any p (drop i xs) ≡ (p x || list_any p (drop (i + 1) xs))
   at = ap (list_any p) (drop_at i x xs here)
 
@@ -34,15 +39,22 @@ module _ {X : Type 0} (p : X → Bool) (xs : List X) (i : ℕ) (x : X) (so_far :
   any_more e = sym (ap (λ b. b || list_any p (drop (i + 1) xs)) e) ∙ (sym at ∙ so_far)
 
 -- where each item is a list
-module _ {X Y : Type 0} (p : Y → Bool) (f : X → List Y) (xs : List X) (i : ℕ) (x : X) (so_far : list_any p (flat_map f (drop i xs)) ≡ list_any p (flat_map f xs)) (here : slice_get xs i ≡ Some x) where
-  at_each : list_any p (flat_map f (drop i xs)) ≡ (list_any p (f x) || list_any p (flat_map f (drop (i + 1) xs)))
-  at_each = ap (λ ys. list_any p (flat_map f ys)) (drop_at i x xs here) ∙ list_any-append p (f x) (flat_map f (drop (i + 1) xs))
+module _ {X Y : Type 0} (p : Y → Bool) (f : X → List Y) (xs : List X) (i : ℕ) (x : X)
+    (so_far : list_any p (flat_map f (drop i xs)) ≡ list_any p (flat_map f xs))
+    (here : slice_get xs i ≡ Some x) where
+  at_each : list_any p (flat_map f (drop i xs))
+      ≡ (list_any p (f x) || list_any p (flat_map f (drop (i + 1) xs)))
+  at_each = ap (λ ys. list_any p (flat_map f ys)) (drop_at i x xs here)
+      ∙ list_any-append p (f x) (flat_map f (drop (i + 1) xs))
 
   pub each_found : list_any p (f x) ≡ true → true ≡ list_any p (flat_map f xs)
-  each_found e = sym (ap (λ b. b || list_any p (flat_map f (drop (i + 1) xs))) e) ∙ (sym at_each ∙ so_far)
+  each_found e = sym (ap (λ b. b || list_any p (flat_map f (drop (i + 1) xs))) e)
+      ∙ (sym at_each ∙ so_far)
 
-  pub each_more : list_any p (f x) ≡ false → list_any p (flat_map f (drop (i + 1) xs)) ≡ list_any p (flat_map f xs)
-  each_more e = sym (ap (λ b. b || list_any p (flat_map f (drop (i + 1) xs))) e) ∙ (sym at_each ∙ so_far)
+  pub each_more : list_any p (f x) ≡ false
+      → list_any p (flat_map f (drop (i + 1) xs)) ≡ list_any p (flat_map f xs)
+  each_more e = sym (ap (λ b. b || list_any p (flat_map f (drop (i + 1) xs))) e)
+      ∙ (sym at_each ∙ so_far)
 
 -- ---- from the first to the last, each item changed in its place
 
@@ -55,31 +67,50 @@ module _ {X : Type 0} (f : X → X) where
   past_none all = record { past = refl }
 
   pub as_long : (all left : List X) (i : ℕ) → i < length all → IsPast all left i → i < length left
-  as_long all left i lt h = omega (arith, ap length h.past, length-append (map f (take i all)) (drop i all), length-map (take i all) f, length-take-le i all (omega arith), length-drop i all)
+  as_long all left i lt h = omega (
+    arith,
+    ap length h.past,
+    length-append (map f (take i all))
+        (drop i all),
+    length-map (take i all) f,
+    length-take-le i all (omega arith),
+    length-drop i
+        all,
+  )
 
   -- the next item stands as it was
-  pub as_it_was : (all left : List X) (i : ℕ) (d : X) → i < length all → IsPast all left i → slice_index_or left i d ≡ slice_index_or all i d
+  pub as_it_was : (all left : List X) (i : ℕ) (d : X) → i < length all → IsPast all left i
+      → slice_index_or left i d ≡ slice_index_or all i d
   as_it_was all left i d lt h =
       let done = map f (take i all) in
       let long : length done ≡ i = length-map (take i all) f ∙ length-take-le i all (omega arith) in
-      ap (λ xs. slice_index_or xs i d) (h.past ∙ ap (λ xs. done ++ xs) (drop_more all i d lt)) ∙ get_or_at done (slice_index_or all i d) (drop (i + 1) all) d i long
+      ap (λ xs. slice_index_or xs i d) (h.past ∙ ap (λ xs. done ++ xs) (drop_more all i d lt))
+      ∙ get_or_at done (slice_index_or all i d) (drop (i + 1) all) d i long
 
   -- one more is changed
-  pub past_more : (all left : List X) (i : ℕ) (d x : X) → i < length all → IsPast all left i → x ≡ f (slice_index_or left i d) → IsPast all (set left i x) (i + 1)
+  pub past_more : (all left : List X) (i : ℕ) (d x : X) → i < length all → IsPast all left i
+      → x ≡ f (slice_index_or left i d) → IsPast all (set left i x) (i + 1)
   past_more all left i d x lt h is =
       let itself = get_or_default left i d (slice_index_or left i d) (as_long all left i lt h) in
-      record { past = ap (set left i) is ∙ map_over_more f all left i (slice_index_or left i d) lt h.past itself }
+      record {
+        past = ap (set left i) is
+            ∙ map_over_more f all left i (slice_index_or left i d) lt h.past itself;
+      }
 
   -- all are changed
   pub past_all : (all left : List X) (i : ℕ) → length all ≤ i → IsPast all left i → left ≡ map f all
-  past_all all left i end h = h.past ∙ rw (drop_all i all end, take_all i all end) (append-nil (map f all))
+  past_all all left i end h =
+      h.past ∙ rw (drop_all i all end, take_all i all end) (append-nil (map f all))
 
 -- ---- from the last to the first
 
 -- one more was taken
-pub taken_more : {A : Type 0} {all left : List A} (rest : List A) (x : A) (taken : List A) → all ≡ left ++ taken → left ≡ rest ++ x ∷ [] → all ≡ rest ++ x ∷ taken
-taken_more rest x taken all_is left_is = all_is ∙ (ap (λ l. l ++ taken) left_is ∙ append_assoc rest (x ∷ []) taken)
+pub taken_more : {A : Type 0} {all left : List A} (rest : List A) (x : A) (taken : List A)
+    → all ≡ left ++ taken → left ≡ rest ++ x ∷ [] → all ≡ rest ++ x ∷ taken
+taken_more rest x taken all_is left_is =
+    all_is ∙ (ap (λ l. l ++ taken) left_is ∙ append_assoc rest (x ∷ []) taken)
 
 -- nothing is left
-pub taken_all : {A : Type 0} {all left : List A} (taken : List A) → all ≡ left ++ taken → left ≡ [] → taken ≡ all
+pub taken_all : {A : Type 0} {all left : List A} (taken : List A) → all ≡ left ++ taken → left ≡ []
+    → taken ≡ all
 taken_all taken all_is none = sym (all_is ∙ ap (λ l. l ++ taken) none)

@@ -1,2 +1,3 @@
-//! Laws of finite maps, of entries in the order of their keys, of sums over them, and of lists by place. It has no code.
+//! Laws of finite maps, of entries in the order of their keys, of sums over them, and of lists by
+//! place. It has no code.
 #![tactic(auto)]

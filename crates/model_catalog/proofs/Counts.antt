@@ -19,7 +19,8 @@ use Rattle.user_model.specs.Edited.{row_number}
 use Rattle.user_model.specs.Model.{bounds_above, bounds_below, is_variable, variable_address}
 use Rattle.user_model.specs.Sets.{sets_lower, sets_upper}
 use Rattle.model_catalog.specs.declared.variable.Variable.{Variable}
-use Rattle.model_catalog.specs.Index.{CountsBounds, IsCounted, bound_count, counted, is_number, recounted, variable_number}
+use Rattle.model_catalog.specs.declared.index.Bounds.{Bounds}
+use Rattle.model_catalog.specs.Index.{CountsBounds, IsCounted, SetsBounds, bound_count, counted, is_number, recounted, variable_number}
 use Rattle.model_catalog.proofs.Weights.{sum_set_at}
 
 -- ---- the variable of an address
@@ -167,6 +168,12 @@ module _ (row : Row) (m : ℕ) (kept : List Variable) (i : ℕ) (d : Variable) (
   its_row_counts h =
       let x = slice_index_or kept i d in
       (subst (λ k. k ≤ x.lower) (one x (sets_lower row.set) its_number) h.0, subst (λ k. k ≤ x.upper) (one x (sets_upper row.set) its_number) h.1)
+
+-- where the counts are known of every variable, those of the bounds' variable have the bounds
+pub set_bounds_counted : (row : Option Row) (kept : List Variable) (bounds : Bounds) (d : Variable) (s : SetsBounds row kept bounds) → ((n : ℕ) → IfSome (find variable_number n kept) (λ v. IsCounted row v)) → (cond (sets_lower s.own.set) 1 0 ≤ (slice_index_or kept bounds.place d).lower) × (cond (sets_upper s.own.set) 1 0 ≤ (slice_index_or kept bounds.place d).upper)
+set_bounds_counted row kept bounds d s all =
+    let counts = its_counts s.own s.number kept bounds.place d s.variable s.found (λ v. IsCounted row v) all in
+    its_row_counts s.own s.number kept bounds.place d s.variable s.found (subst (λ (o : Option Row). IsCounted o (slice_index_or kept bounds.place d)) s.is counts)
 
 -- ---- a row that takes another's place
 

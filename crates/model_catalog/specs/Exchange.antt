@@ -41,9 +41,12 @@ pub record IsExchange (with : Exchange) : Type 0 where
 
 -- there is room for the groups, rows and variables
 pub record HasRoomFor (with : Exchange) (names : NameChanges) (catalog : Catalog) : Type 0 where
-  pub groups : length catalog.model.groups + added group_number with.groups.items catalog.model.groups ≤ catalog.room.groups
-  pub rows : length catalog.model.rows + added row_number with.rows.items catalog.model.rows ≤ catalog.room.rows
-  pub variables : length (variables catalog.model) + put_count names.variables.items ≤ catalog.room.variables
+  pub groups : length catalog.model.groups
+      + added group_number with.groups.items catalog.model.groups ≤ catalog.room.groups
+  pub rows : length catalog.model.rows + added row_number with.rows.items catalog.model.rows
+      ≤ catalog.room.rows
+  pub variables : length (variables catalog.model) + put_count names.variables.items
+      ≤ catalog.room.variables
 
 -- there is room for the names
 pub record HasSpare (names : NameChanges) (room : Room) : Type 0 where

@@ -3,8 +3,11 @@ use Rattle.std.specs.Prelude.{◌≡◌, ℕ, ◌+◌, ◌≤◌, ◌==◌, Bool
 use Rattle.std.specs.Option.{option_map, option_map_or}
 use Rattle.numbered.specs.Numbered as numbered
 use Rattle.numbered.specs.Numbered.{Rise}
+use Rattle.numbered.specs.Places.{IsFoundAt}
 use Rattle.user_model.specs.declared.row.Row.{Row}
-use Rattle.user_model.specs.Model.{ModelValue, bounds_above, bounds_below, group_of}
+use Rattle.user_model.specs.Model.{ModelValue, bounds_above, bounds_below, group_of, is_variable}
+use Rattle.user_model.specs.Sets.{sets_lower, sets_upper}
+use Rattle.model_catalog.specs.declared.index.Bounds.{Bounds}
 use Rattle.model_catalog.specs.declared.names.NameChange.{NameChange}
 use Rattle.model_catalog.specs.declared.variable.Variable.{Variable}
 use Rattle.model_catalog.specs.Names.{listed_number}
@@ -26,7 +29,12 @@ group_number_of model n = option_map (λ g. g.id) (group_of model n)
 -- what is kept of the variable with a number
 abbrev pub kept_of : ModelValue → ℕ → Option Variable
 kept_of model n =
-    option_map (λ id. record { number = n; group = id; lower = lower_count n model.rows; upper = upper_count n model.rows }) (group_number_of model n)
+    option_map (λ id. record {
+      number = n;
+      group = id;
+      lower = lower_count n model.rows;
+      upper = upper_count n model.rows;
+    }) (group_number_of model n)
 
 -- the variables of the model are kept, in the order of their numbers, and no others
 pub record IsIndexOf (model : ModelValue) (kept : List Variable) : Type 0 where
@@ -39,12 +47,14 @@ pub record IsIndexOf (model : ModelValue) (kept : List Variable) : Type 0 where
 abbrev pub unbounded_in : ℕ → ℕ → Variable
 unbounded_in group n = record { number = n; group = group; lower = 0; upper = 0 }
 
--- what stands at a listed number, where the variable was kept or wasn't: itself, or a new one in the group, or nothing
+-- what stands at a listed number, where the variable was kept or wasn't: itself, or a new one in
+-- the group, or nothing
 abbrev pub given_variable : ℕ → NameChange → Option Variable → Option Variable
 given_variable group l was =
     if is_some l.name then Some (unwrap_or was (unbounded_in group l.number)) else None
 
--- the variable with a number, where those that are listed with a name stand, new ones in the group, and those without don't
+-- the variable with a number, where those that are listed with a name stand, new ones in the group,
+-- and those without don't
 abbrev pub listed_in : ℕ → List NameChange → (ℕ → Option Variable) → ℕ → Option Variable
 listed_in group listed kept n =
     option_map_or (λ l. given_variable group l (kept n))
@@ -87,6 +97,17 @@ IsCounted row variable =
 -- the number is that one
 abbrev pub is_number : Option ℕ → ℕ → Bool
 is_number number n = option_map_or (λ m. m == n) number false
+
+-- the row is there, is the variable with a number that is kept at the place, and sets these bounds,
+-- 1 each
+pub record SetsBounds (row : Option Row) (kept : List Variable) (bounds : Bounds) : Type 0 where
+  pub own : Row
+  pub is : row ≡ Some own
+  pub number : ℕ
+  pub variable : (n : ℕ) → is_variable n own.func ≡ is_number (Some number) n
+  pub found : IsFoundAt variable_number number kept bounds.place
+  pub lower : bounds.lower ≡ cond (sets_lower own.set) 1 0
+  pub upper : bounds.upper ≡ cond (sets_upper own.set) 1 0
 
 -- how many of the listed numbers are kept
 abbrev pub kept_count : List Variable → List NameChange → ℕ

@@ -36,8 +36,10 @@ pub record HasNames (naming : ℕ → Option (List ℕ)) (table : Numbers) : Typ
   pub one_to_one : IsOneToOne table
   pub names : (n : ℕ) → name_of table n ≡ naming n
 
--- the model is kept with its variables, the names of variables and of rows, and the number of its terms
-pub record Keeps (model : ModelValue) (kept : List Variable) (variable_table row_table : Numbers) (count : ℕ) : Type 0 where
+-- the model is kept with its variables, the names of variables and of rows, and the number of its
+-- terms
+pub record Keeps (model : ModelValue) (kept : List Variable) (variable_table row_table : Numbers)
+    (count : ℕ) : Type 0 where
   pub consistent : IsConsistent model
   pub within : IsWithinLimits model
   pub index : IsIndexOf model kept

@@ -18,7 +18,8 @@ variable_name model n = option_map (λ v. v.name) (find variable_number n (varia
 abbrev pub row_name : ModelValue → ℕ → Option (List ℕ)
 row_name model n = option_map (λ r. r.name) (find row_number n model.rows)
 
--- the listed names, in the order of their numbers, are all in which the new names differ from the old ones
+-- the listed names, in the order of their numbers, are all in which the new names differ from the
+-- old ones
 pub record ChangesNames (listed : List NameChange) (old new : ℕ → Option (List ℕ)) : Type 0 where
   pub rising : Rise listed_number listed
   pub named : (n : ℕ) → new n ≡ renamed_by listed old n
@@ -27,15 +28,19 @@ pub record ChangesNames (listed : List NameChange) (old new : ℕ → Option (Li
 abbrev pub IsInGroup : ℕ → ModelValue → ℕ → Type 0
 IsInGroup group model n = IfSome (group_number_of model n) (λ id. id ≡ group)
 
--- the names that change from the old model to the new one; the listed variables stand in one group, and the others keep theirs
+-- the names that change from the old model to the new one; the listed variables stand in one group,
+-- and the others keep theirs
 pub record AreNameChanges (names : NameChanges) (old new : ModelValue) : Type 0 where
   pub variables : ChangesNames names.variables.items (variable_name old) (variable_name new)
   pub rows : ChangesNames names.rows.items (row_name old) (row_name new)
-  pub in_group : (n : ℕ) → IsSome (find listed_number n names.variables.items) → IsInGroup names.group old n × IsInGroup names.group new n
-  pub others : (n : ℕ) → find listed_number n names.variables.items ≡ None → group_number_of new n ≡ group_number_of old n
+  pub in_group : (n : ℕ) → IsSome (find listed_number n names.variables.items)
+      → IsInGroup names.group old n × IsInGroup names.group new n
+  pub others : (n : ℕ) → find listed_number n names.variables.items ≡ None
+      → group_number_of new n ≡ group_number_of old n
 
 -- the same numbers with the names that stand in the model
 pub record HasStandingNames (model : ModelValue) (names standing : NameChanges) : Type 0 where
   pub group : standing.group ≡ names.group
-  pub variables : standing.variables.items ≡ standing_names (variable_name model) names.variables.items
+  pub variables : standing.variables.items
+      ≡ standing_names (variable_name model) names.variables.items
   pub rows : standing.rows.items ≡ standing_names (row_name model) names.rows.items

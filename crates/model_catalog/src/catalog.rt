@@ -20,8 +20,8 @@ use std::marker::Model;
 use std::mem;
 use user_model::{Group, NextNumbers, Objective, Row};
 
-/// A model with what finds things in it. Contracts see the model, and beside it the room: how many groups, rows, variables and
-/// names can be put in without memory.
+/// A model with what finds things in it. Contracts see the model, and beside it the room: how many
+/// groups, rows, variables and names can be put in without memory.
 #[derive(Drop)]
 pub struct Catalog {
     pub(crate) groups: Vec<Group>,
@@ -119,7 +119,8 @@ impl Catalog {
         self.terms
     }
 
-    /// Makes room for more groups, rows and variables, and for the names of more variables and rows.
+    /// Makes room for more groups, rows and variables, and for the names of more variables and
+    /// rows.
     pub fn reserve(&mut self, more: &More) -> Result<(), Memory>
         ensures model { self.new.model ≡ self.old.model }
         ensures ok { OnOk result (HasRoom more.now self.new) }
@@ -133,9 +134,11 @@ impl Catalog {
         self.row_names.reserve(more.row_names)
     }
 
-    /// Puts the contents in, and takes those out that stood there, so that the same exchange then leads back. It takes no memory.
+    /// Puts the contents in, and takes those out that stood there, so that the same exchange then
+    /// leads back. It takes no memory.
     ///
-    /// `names` lists each variable and each row whose name comes, goes or changes, and afterwards the names that were there.
+    /// `names` lists each variable and each row whose name comes, goes or changes, and afterwards
+    /// the names that were there.
     pub fn exchange(&mut self, with: &mut Exchange, names: &mut NameChanges)
         requires changes { IsExchange with.old }
         requires consistent { IsConsistent (exchanged with.old self.old.model) }

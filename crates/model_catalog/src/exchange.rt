@@ -5,8 +5,8 @@ ghost use Rattle.model_catalog.specs.Exchange.{contents};
 use numbered::Change;
 use user_model::{Group, NextNumbers, Objective, OldGroups, OldRows, Row, Undo};
 
-/// What is to stand at some numbers of groups and of rows, another objective, and other next numbers: what an undo has, and
-/// what an edit puts in.
+/// What is to stand at some numbers of groups and of rows, another objective, and other next
+/// numbers: what an undo has, and what an edit puts in.
 #[derive(Debug, Drop)]
 pub struct Exchange {
     pub groups: Vec<Change<Group>>,

@@ -1,5 +1,5 @@
 //! The variables that are kept, as groups and rows come and go.
-ghost use Rattle.std.specs.Prelude.{◌≡◌, ℕ, ◌+◌, ◌<◌, ◌≤◌, ◌^◌, [], All, vec_len, length, IsSome, IsNone, IfSome};
+ghost use Rattle.std.specs.Prelude.{◌≡◌, ℕ, ◌+◌, ◌<◌, ◌≤◌, ◌^◌, [], All, vec_len, length, IsSome, IsNone, IfSome, MatchOption};
 ghost use Rattle.std.specs.Vec.{vec_capacity};
 ghost use Rattle.std.specs.Option.{option_copied, option_map};
 ghost use Rattle.numbered.specs.Numbered.{IsAt, Rise, find, set_at};
@@ -10,7 +10,7 @@ ghost use Rattle.user_model.specs.Model.{is_variable, variable_address};
 ghost use Rattle.aff_core.specs.Address.{address_eq};
 ghost use Rattle.user_model.specs.Sets as sets;
 ghost use Rattle.model_catalog.specs.Names.{listed_number, put_count};
-ghost use Rattle.model_catalog.specs.Index.{CountsBounds, IsCounted, counted, given_variable, is_number, kept_count, listed_in, recounted, variable_number};
+ghost use Rattle.model_catalog.specs.Index.{CountsBounds, IsCounted, SetsBounds, counted, given_variable, is_number, kept_count, listed_in, recounted, variable_number};
 
 use crate::names::NameChange;
 use crate::variable::Variable;
@@ -19,7 +19,8 @@ use numbered::{Change, close_gap, exchange, exchange_at_gap, open_gap, place_of}
 use set_core::Set;
 use user_model::{Row, UserFunc};
 
-// Variables that are listed with a name stand from now on, new ones in the group, and those that are listed without don't.
+// Variables that are listed with a name stand from now on, new ones in the group, and those that
+// are listed without don't.
 pub(crate) fn list_variables(kept: &mut Vec<Variable>, group: u32, listed: &[NameChange])
     requires rising { Rise variable_number kept.old.items }
     requires listed { Rise listed_number listed.now }
@@ -63,8 +64,8 @@ fn list_variable(kept: &mut Vec<Variable>, group: u32, item: &NameChange)
     }
 }
 
-// Lets the content of each change change places with the row at its number, and counts the bounds: where many rows change, in
-// one pass over the rows, for which there is to be room aside.
+// Lets the content of each change change places with the row at its number, and counts the bounds:
+// where many rows change, in one pass over the rows, for which there is to be room aside.
 pub(crate) fn exchange_rows(
     rows: &mut Vec<Row>,
     aside: &mut Vec<Row>,
@@ -230,21 +231,15 @@ fn count_bounds(kept: &mut [Variable], row: Option<&Row>)
     ensures entries { (n : ℕ) → find variable_number n kept.new
         ≡ option_map (counted (option_copied row.entry)) (find variable_number n kept.old) }
 {
-    let Some(row) = row else {
+    let Some(bounds) = bounds_of(kept, row) else {
         return;
     };
-    let Some(number) = plain_variable(row) else {
-        return;
-    };
-    let Ok(place) = place_of(kept, number) else {
-        return;
-    };
-    let variable = kept[place];
-    kept[place] = Variable {
-        number,
+    let variable = kept[bounds.place];
+    kept[bounds.place] = Variable {
+        number: variable.number,
         group: variable.group,
-        lower: variable.lower + u64::from(sets_lower(&row.set)),
-        upper: variable.upper + u64::from(sets_upper(&row.set)),
+        lower: variable.lower + bounds.lower,
+        upper: variable.upper + bounds.upper,
     };
 }
 
@@ -257,22 +252,44 @@ fn discount_bounds(kept: &mut [Variable], row: Option<&Row>)
     ensures entries { (n : ℕ) → option_map (counted (option_copied row.entry))
         (find variable_number n kept.new) ≡ find variable_number n kept.old }
 {
-    let Some(row) = row else {
+    let Some(bounds) = bounds_of(kept, row) else {
         return;
     };
-    let Some(number) = plain_variable(row) else {
-        return;
-    };
-    let Ok(place) = place_of(kept, number) else {
-        return;
-    };
-    let variable = kept[place];
-    kept[place] = Variable {
-        number,
+    let variable = kept[bounds.place];
+    kept[bounds.place] = Variable {
+        number: variable.number,
         group: variable.group,
-        lower: variable.lower - u64::from(sets_lower(&row.set)),
-        upper: variable.upper - u64::from(sets_upper(&row.set)),
+        lower: variable.lower - bounds.lower,
+        upper: variable.upper - bounds.upper,
     };
+}
+
+// The bounds that a plain row sets, 1 each, and where its variable is kept.
+#[derive(Clone, Copy)]
+struct Bounds {
+    place: usize,
+    lower: u64,
+    upper: u64,
+}
+
+// The bounds of a variable that is kept, and none where the row sets none of these.
+fn bounds_of(kept: &[Variable], row: Option<&Row>) -> Option<Bounds>
+    requires { Rise variable_number kept.now }
+    ensures { MatchOption result
+        ((n : ℕ) → option_map (counted (option_copied row.entry)) (find variable_number n kept.now)
+        ≡ find variable_number n kept.now)
+        (SetsBounds (option_copied row.entry) kept.now) }
+{
+    let row = row?;
+    let number = plain_variable(row)?;
+    let Ok(place) = place_of(kept, number) else {
+        return None;
+    };
+    Some(Bounds {
+        place,
+        lower: u64::from(sets_lower(&row.set)),
+        upper: u64::from(sets_upper(&row.set)),
+    })
 }
 
 // The number of the variable that the row is, if it is a plain row of one.

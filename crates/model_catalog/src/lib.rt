@@ -1,5 +1,5 @@
-//! The user's model as it is kept: with what finds things in it by name and by number, and exchanges of its content that take
-//! no memory.
+//! The user's model as it is kept: with what finds things in it by name and by number, and
+//! exchanges of its content that take no memory.
 #![tactic(auto)]
 
 mod catalog;

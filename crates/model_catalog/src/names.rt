@@ -18,7 +18,8 @@ pub struct NameChange {
     aside: Option<Name>,
 }
 
-/// The names that come, go or change, by the numbers of the variables and of the rows, in rising order.
+/// The names that come, go or change, by the numbers of the variables and of the rows, in rising
+/// order.
 #[derive(Debug, Drop)]
 pub struct NameChanges {
     /// The number of the group that the listed variables stand in, before and after.
@@ -48,8 +49,8 @@ impl NameChange {
     }
 }
 
-/// Lets each listed name change places with the name at its number in the table. It takes no memory, and no order of the
-/// numbers matters.
+/// Lets each listed name change places with the name at its number in the table. It takes no
+/// memory, and no order of the numbers matters.
 pub(crate) fn exchange_names(table: &mut NameTable, listed: &mut [NameChange])
     requires one_to_one { IsOneToOne table.old.numbers }
     requires rising { Rise listed_number listed.old }

@@ -32,19 +32,25 @@ module _ (model : ModelValue) (c : IsConsistent model) where
   -- ---- rows
 
   -- a row that is changed to itself leaves the model
-  pub row_unchanged : (name : List ℕ) (h : Row → Row) (row : Row) → row_named model name ≡ Some row → h row ≡ row → change_row model name h ≡ model
+  pub row_unchanged : (name : List ℕ) (h : Row → Row) (row : Row) → row_named model name ≡ Some row
+      → h row ≡ row → change_row model name h ≡ model
   row_unchanged name h row found same =
       change_row-found model name h row found
       ∙ (ap (λ r. record model { rows = put row_number r model.rows }) same
-      ∙ ap (λ rows. record model { rows = rows }) (ap (λ o. set_at row_number row.id o model.rows) (sym (row_by_number model name row c found)) ∙ set_at_found row_number row.id model.rows c.rows_rise))
+      ∙ ap (λ rows. record model { rows = rows }) (ap (λ o. set_at row_number row.id o model.rows)
+      (sym (row_by_number model name row c found))
+      ∙ set_at_found row_number row.id model.rows c.rows_rise))
 
   -- each row that a deleted variable's changes list differs
   pub deletion_differs : (n : ℕ) → All (Differs row_number model.rows) (deletion_changes model n)
   deletion_differs n =
-      All-map {X = Change Row} (Differs row_number model.rows) (edit_of row_number (row_without at)) rows (λ k d end.
+      All-map {X = Change Row} (Differs row_number model.rows) (edit_of row_number (row_without at))
+      rows (λ k d end.
       let row = slice_index_or rows k d in
-      let there : find row_number row.id model.rows ≡ Some row = All-filter (row_mentions at) (λ r. find row_number r.id model.rows ≡ Some r) model.rows each k d end in
-      let mentions : row_mentions at row ≡ true = filter_passes (row_mentions at) model.rows k d end in
+      let there : find row_number row.id model.rows ≡ Some row = All-filter (row_mentions at)
+      (λ r. find row_number r.id model.rows ≡ Some r) model.rows each k d end in
+      let mentions : row_mentions at row ≡ true = filter_passes (row_mentions at) model.rows k d end
+      in
       λ same. row_changes_where_mentioned at row mentions (sym same ∙ there))
     where
       at : Address
@@ -54,18 +60,30 @@ module _ (model : ModelValue) (c : IsConsistent model) where
       rows = filter (row_mentions at) model.rows
 
       each : All (λ r. find row_number r.id model.rows ≡ Some r) model.rows
-      each k d end = stands_found row_number model.rows (slice_index_or model.rows k d) c.rows_rise (Contains-get_or model.rows k d end)
+      each k d end = stands_found row_number model.rows (slice_index_or model.rows k d) c.rows_rise
+          (Contains-get_or model.rows k d end)
 
   -- ---- groups
 
   -- a group that is changed to itself leaves the model
-  pub group_unchanged : (n : ℕ) (h : Group → Group) (group : Group) → group_of model n ≡ Some group → h group ≡ group → change_group model n h ≡ model
+  pub group_unchanged : (n : ℕ) (h : Group → Group) (group : Group) → group_of model n ≡ Some group
+      → h group ≡ group → change_group model n h ≡ model
   group_unchanged n h group found same =
       change_group-found model n h group found
       ∙ (ap (λ g. record model { groups = put group_number g model.groups }) same
-      ∙ ap (λ groups. record model { groups = groups }) (ap (λ o. set_at group_number group.id o model.groups) (sym (group_by_number model n group c found)) ∙ set_at_found group_number group.id model.groups c.groups_rise))
+      ∙ ap (λ groups. record model { groups = groups })
+      (ap (λ o. set_at group_number group.id o model.groups)
+      (sym (group_by_number model n group c found))
+      ∙ set_at_found group_number group.id model.groups c.groups_rise))
 
   -- a group that loses a variable differs
-  pub group_deletion_differs : (n : ℕ) (group : Group) → group_of model n ≡ Some group → All (Differs group_number model.groups) (group_deletion model n)
+  pub group_deletion_differs : (n : ℕ) (group : Group) → group_of model n ≡ Some group
+      → All (Differs group_number model.groups) (group_deletion model n)
   group_deletion_differs n group found =
-      subst (λ o. All (Differs group_number model.groups) (option_map_or (λ group. record { number = group.id; content = group_without n group } ∷ []) o [])) (sym found) (one_differs group_number model.groups (record { number = group.id; content = group_without n group }) (λ same. group_changes_where_mentioned n group (found_passes (has_variable n) model.groups group found) (sym same ∙ group_by_number model n group c found)))
+      subst (λ o. All (Differs group_number model.groups)
+      (option_map_or (λ group. record { number = group.id; content = group_without n group }
+      ∷ []) o [])) (sym found) (one_differs group_number model.groups
+      (record { number = group.id; content = group_without n group })
+      (λ same. group_changes_where_mentioned n group
+      (found_passes (has_variable n) model.groups group found)
+      (sym same ∙ group_by_number model n group c found)))

@@ -21,7 +21,8 @@ empty_consistent = record {
   given_rows = All-nil {X = Row} (λ r. r.id < 0);
   variable_names = AllPairs-nil {X = GroupVar} (λ v w. v.name ≢ w.name);
   row_names = AllPairs-nil {X = Row} (λ r s. r.name ≢ s.name);
-  bounds = λ n. All-nil {X = Row} (λ r. is_variable n r.func ≡ true → IsSome (group_of empty_model n));
+  bounds =
+      λ n. All-nil {X = Row} (λ r. is_variable n r.func ≡ true → IsSome (group_of empty_model n));
 }
 
 pub empty_within : IsWithinLimits empty_model

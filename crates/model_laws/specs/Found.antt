@@ -16,7 +16,8 @@ use Rattle.numbered.specs.Laws.{find-at}
 module _ {X : Type 0} (p : X → Bool) where
   pub is_some-find : (xs : List X) → is_some (find p xs) ≡ list_any p xs
   is_some-find [] = refl
-  is_some-find (x ∷ xs) = elim (p x) as (λ b. is_some (cond b (Some x) (find p xs)) ≡ (b || list_any p xs)) [ true ↦ refl | false ↦ is_some-find xs ]
+  is_some-find (x ∷ xs) = elim (p x) as (λ b. is_some (cond b (Some x) (find p xs))
+      ≡ (b || list_any p xs)) [ true ↦ refl | false ↦ is_some-find xs ]
 
   find_here : (x : X) (xs : List X) → p x ≡ true → find p (x ∷ xs) ≡ Some x
   find_here x xs e = ap (λ b. cond b (Some x) (find p xs)) e
@@ -44,16 +45,22 @@ module _ {X : Type 0} (p : X → Bool) where
   -- where no item passes, each fails
   pub none_pass : (xs : List X) → list_any p xs ≡ false → All (λ x. p x ≡ false) xs
   none_pass [] e = All-nil (λ x. p x ≡ false)
-  none_pass (x ∷ xs) e = let parts = or_parts (p x) (list_any p xs) e in All-cons (λ x. p x ≡ false) x xs parts.0 (none_pass xs parts.1)
+  none_pass (x ∷ xs) e =
+      let parts = or_parts (p x) (list_any p xs) e
+      in All-cons (λ x. p x ≡ false) x xs parts.0 (none_pass xs parts.1)
 
   pub one_passes : (xs : List X) (x : X) → Contains xs x → p x ≡ true → list_any p xs ≡ true
-  one_passes xs x there passing = list_any_at p xs there.0 x there.1 (subst (λ y. p y ≡ true) (sym there.2) passing)
+  one_passes xs x there passing =
+      list_any_at p xs there.0 x there.1 (subst (λ y. p y ≡ true) (sym there.2) passing)
 
-  pub list_any-flat_map : {Y : Type 0} (f : Y → List X) (ys : List Y) → list_any p (flat_map f ys) ≡ list_any (λ y. list_any p (f y)) ys
+  pub list_any-flat_map : {Y : Type 0} (f : Y → List X) (ys : List Y)
+      → list_any p (flat_map f ys) ≡ list_any (λ y. list_any p (f y)) ys
   list_any-flat_map f [] = refl
-  list_any-flat_map f (y ∷ ys) = list_any-append p (f y) (flat_map f ys) ∙ ap (λ b. list_any p (f y) || b) (list_any-flat_map f ys)
+  list_any-flat_map f (y ∷ ys) = list_any-append p (f y) (flat_map f ys)
+      ∙ ap (λ b. list_any p (f y) || b) (list_any-flat_map f ys)
 
-pub is_some-option_map : {X Y : Type 0} (f : X → Y) (o : Option X) → is_some (option_map f o) ≡ is_some o
+pub is_some-option_map : {X Y : Type 0} (f : X → Y) (o : Option X)
+    → is_some (option_map f o) ≡ is_some o
 is_some-option_map f None = refl
 is_some-option_map f (Some x) = refl
 
@@ -64,14 +71,23 @@ something (Some x) e = (x, refl)
 
 module _ {X : Type 0} (number_of : X → ℕ) where
   -- an item of the list is found by its number
-  pub stands_found : (xs : List X) (x : X) → Rise number_of xs → Contains xs x → numbered.find number_of (number_of x) xs ≡ Some x
-  stands_found xs x rise there = find-at number_of xs there.0 x rise (slice_get-get_or xs there.0 x there.1 ∙ ap Some there.2)
+  pub stands_found : (xs : List X) (x : X) → Rise number_of xs → Contains xs x
+      → numbered.find number_of (number_of x) xs ≡ Some x
+  stands_found xs x rise there =
+      find-at number_of xs there.0 x rise (slice_get-get_or xs there.0 x there.1 ∙ ap Some there.2)
 
 -- a name that is not found is no item's
-pub other_names : {X : Type 0} (name_of : X → List ℕ) (name : List ℕ) (xs : List X) → list_any (λ x. bytes_eq (name_of x) name) xs ≡ false → All (λ x. name_of x ≢ name) xs
+pub other_names : {X : Type 0} (name_of : X → List ℕ) (name : List ℕ) (xs : List X)
+    → list_any (λ x. bytes_eq (name_of x) name) xs ≡ false → All (λ x. name_of x ≢ name) xs
 other_names name_of name xs e =
-    All-weaker (λ x. bytes_eq (name_of x) name ≡ false) (λ x. name_of x ≢ name) (λ x failing same. both_ways (bytes_eq (name_of x) name) failing ((bytes_eq-Decides (name_of x) name).1 same)) xs (none_pass (λ x. bytes_eq (name_of x) name) xs e)
+    All-weaker (λ x. bytes_eq (name_of x) name ≡ false) (λ x. name_of x ≢ name)
+    (λ x failing same. both_ways (bytes_eq (name_of x) name) failing
+    ((bytes_eq-Decides (name_of x) name).1 same)) xs
+    (none_pass (λ x. bytes_eq (name_of x) name) xs e)
 
-pub others_of_name : (name : List ℕ) (names : List (List ℕ)) → list_any (bytes_eq name) names ≡ false → All (λ other. name ≢ other) names
+pub others_of_name : (name : List ℕ) (names : List (List ℕ))
+    → list_any (bytes_eq name) names ≡ false → All (λ other. name ≢ other) names
 others_of_name name names e =
-    All-weaker (λ other. bytes_eq name other ≡ false) (λ other. name ≢ other) (λ other failing same. both_ways (bytes_eq name other) failing ((bytes_eq-Decides name other).1 same)) names (none_pass (bytes_eq name) names e)
+    All-weaker (λ other. bytes_eq name other ≡ false) (λ other. name ≢ other)
+    (λ other failing same. both_ways (bytes_eq name other) failing
+    ((bytes_eq-Decides name other).1 same)) names (none_pass (bytes_eq name) names e)

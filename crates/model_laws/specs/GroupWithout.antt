@@ -29,8 +29,10 @@ group_keeps_number n = record { keeps = one }
   where
     one : (group : Group) → IsAt group_number group.id (group_without n group)
     one group =
-        elim (has_variable n group) as (λ b. IsAt group_number group.id (cond b (unless_empty (remade group) group.set (others n group.vars)) (Some group))) [
-          | true ↦ unless_empty_all (λ g. g.id ≡ group.id) (remade group) group.set (others n group.vars) (λ left set. refl)
+        elim (has_variable n group) as (λ b. IsAt group_number group.id
+        (cond b (unless_empty (remade group) group.set (others n group.vars)) (Some group))) [
+          | true ↦ unless_empty_all (λ g. g.id ≡ group.id) (remade group) group.set
+              (others n group.vars) (λ left set. refl)
           | false ↦ refl
         ]
 
@@ -38,28 +40,38 @@ group_keeps_number n = record { keeps = one }
 abbrev vars_of : Option Group → List GroupVar
 vars_of group = option_map_or (λ g. g.vars) group []
 
-vars_remade : (group : Group) (set : Set) (xs : List GroupVar) → vars_of (unless_empty (remade group) set xs) ≡ xs
+vars_remade : (group : Group) (set : Set) (xs : List GroupVar)
+    → vars_of (unless_empty (remade group) set xs) ≡ xs
 vars_remade group set [] = refl
 vars_remade group set (x ∷ xs) = refl
 
-others_all : (n : ℕ) (vars : List GroupVar) → All (λ v. (v.number == n) ≡ false) vars → others n vars ≡ vars
+others_all : (n : ℕ) (vars : List GroupVar) → All (λ v. (v.number == n) ≡ false) vars
+    → others n vars ≡ vars
 others_all n [] h = refl
 others_all n (v ∷ vars) h =
-    ap (λ b. cond (not b) (v ∷ others n vars) (others n vars)) (All-head (λ v. (v.number == n) ≡ false) v vars h) ∙ ap (λ vs. v ∷ vs) (others_all n vars (All-tail (λ v. (v.number == n) ≡ false) v vars h))
+    ap (λ b. cond (not b) (v ∷ others n vars) (others n vars))
+    (All-head (λ v. (v.number == n) ≡ false) v vars h)
+    ∙ ap (λ vs. v ∷ vs) (others_all n vars (All-tail (λ v. (v.number == n) ≡ false) v vars h))
 
 vars_group_without : (n : ℕ) (group : Group) → vars_of (group_without n group) ≡ others n group.vars
 vars_group_without n group =
     elim (cases_Bool (has_variable n group)) [
-      | inl has ↦ ap (λ b. vars_of (cond b (unless_empty (remade group) group.set (others n group.vars)) (Some group))) has ∙ vars_remade group group.set (others n group.vars)
-      | inr lacks ↦ ap (λ b. vars_of (cond b (unless_empty (remade group) group.set (others n group.vars)) (Some group))) lacks ∙ sym (others_all n group.vars (none_pass (λ v. v.number == n) group.vars lacks))
+      | inl has ↦ ap (λ b. vars_of (cond b (unless_empty (remade group) group.set
+          (others n group.vars)) (Some group))) has
+          ∙ vars_remade group group.set (others n group.vars)
+      | inr lacks ↦ ap (λ b. vars_of (cond b (unless_empty (remade group) group.set
+          (others n group.vars)) (Some group))) lacks
+          ∙ sym (others_all n group.vars (none_pass (λ v. v.number == n) group.vars lacks))
     ]
 
-vars_cons_option : (o : Option Group) (groups : List Group) → vars_in (cons_option o groups) ≡ vars_of o ++ vars_in groups
+vars_cons_option : (o : Option Group) (groups : List Group)
+    → vars_in (cons_option o groups) ≡ vars_of o ++ vars_in groups
 vars_cons_option None groups = refl
 vars_cons_option (Some g) groups = refl
 
 -- the variables that are left
-pub vars_without : (n : ℕ) (groups : List Group) → vars_in (filter_map (group_without n) groups) ≡ others n (vars_in groups)
+pub vars_without : (n : ℕ) (groups : List Group)
+    → vars_in (filter_map (group_without n) groups) ≡ others n (vars_in groups)
 vars_without n [] = refl
 vars_without n (g ∷ groups) =
     vars_cons_option (group_without n g) (filter_map (group_without n) groups)
@@ -67,14 +79,19 @@ vars_without n (g ∷ groups) =
     ∙ sym (filter-append (λ v. not (v.number == n)) g.vars (vars_in groups)))
 
 -- another variable stands as before
-pub others_stand : (m n : ℕ) (vars : List GroupVar) → m ≢ n → list_any (λ v. v.number == m) (others n vars) ≡ list_any (λ v. v.number == m) vars
+pub others_stand : (m n : ℕ) (vars : List GroupVar) → m ≢ n
+    → list_any (λ v. v.number == m) (others n vars) ≡ list_any (λ v. v.number == m) vars
 others_stand m n [] ne = refl
 others_stand m n (v ∷ vars) ne =
     elim (cases_eq v.number n) [
       | inl e ↦
-          ap (λ b. list_any (λ v. v.number == m) (cond (not b) (v ∷ others n vars) (others n vars))) (same_number v.number n e)
-          ∙ (others_stand m n vars ne ∙ sym (ap (λ b. b || list_any (λ v. v.number == m) vars) (other_number v.number m (λ at. ne (sym at ∙ e)))))
+          ap (λ b. list_any (λ v. v.number == m) (cond (not b) (v ∷ others n vars) (others n vars)))
+          (same_number v.number n e)
+          ∙ (others_stand m n vars ne
+          ∙ sym (ap (λ b. b || list_any (λ v. v.number == m) vars)
+          (other_number v.number m (λ at. ne (sym at ∙ e)))))
       | inr off ↦
-          ap (λ b. list_any (λ v. v.number == m) (cond (not b) (v ∷ others n vars) (others n vars))) (other_number v.number n off)
+          ap (λ b. list_any (λ v. v.number == m) (cond (not b) (v ∷ others n vars) (others n vars)))
+          (other_number v.number n off)
           ∙ ap (λ b. (v.number == m) || b) (others_stand m n vars ne)
     ]

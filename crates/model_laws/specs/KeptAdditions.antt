@@ -36,34 +36,65 @@ module _ (model : ModelValue) (names : List (List ℕ)) (set : Set) where
 
   -- the new variables come last
   pub vars_added : vars_in (model.groups ++ new_group ∷ []) ≡ variables model ++ new_vars
-  vars_added = flat_map-append (λ g. g.vars) model.groups (new_group ∷ []) ∙ ap (λ vs. variables model ++ vs) (append-nil new_vars)
+  vars_added = flat_map-append (λ g. g.vars) model.groups (new_group ∷ [])
+      ∙ ap (λ vs. variables model ++ vs) (append-nil new_vars)
 
-  pub kept_add_group : IsConsistent model → list_any (has_variable_named model) names ≡ false → has_twins names ≡ false → IsConsistent (add_group model names set)
+  pub kept_add_group : IsConsistent model → list_any (has_variable_named model) names ≡ false
+      → has_twins names ≡ false → IsConsistent (add_group model names set)
   kept_add_group c free single = record {
     groups_rise = Rise-push group_number model.groups new_group c.groups_rise c.given_groups;
-    variables_rise = subst (Rise variable_number) (sym vars_added) (Rise-append variable_number model.next.variable (variables model) new_vars c.variables_rise c.given_variables (numbered_rise model.next.variable names) (numbered_from_on model.next.variable names));
+    variables_rise = subst (Rise variable_number) (sym vars_added)
+        (Rise-append variable_number model.next.variable (variables model) new_vars c.variables_rise
+        c.given_variables (numbered_rise model.next.variable names)
+        (numbered_from_on model.next.variable names));
     rows_rise = c.rows_rise;
-    given_groups = All-push (λ g. g.id < model.next.group + 1) model.groups new_group (All-weaker (λ g. g.id < model.next.group) (λ g. g.id < model.next.group + 1) (λ g lt. omega arith) model.groups c.given_groups) (omega arith);
-    given_variables = subst (All (λ v. v.number < model.next.variable + length names)) (sym vars_added) (All-append (λ v. v.number < model.next.variable + length names) (variables model) new_vars (All-weaker (λ v. v.number < model.next.variable) (λ v. v.number < model.next.variable + length names) (λ v lt. omega arith) (variables model) c.given_variables) (numbered_below model.next.variable names));
+    given_groups = All-push (λ g. g.id < model.next.group + 1) model.groups new_group
+        (All-weaker (λ g. g.id < model.next.group) (λ g. g.id < model.next.group + 1)
+        (λ g lt. omega arith) model.groups c.given_groups) (omega arith);
+    given_variables = subst (All (λ v. v.number < model.next.variable + length names))
+        (sym vars_added) (All-append (λ v. v.number < model.next.variable + length names)
+        (variables model) new_vars (All-weaker (λ v. v.number < model.next.variable)
+        (λ v. v.number < model.next.variable + length names) (λ v lt. omega arith) (variables model)
+        c.given_variables) (numbered_below model.next.variable names));
     given_rows = c.given_rows;
-    variable_names = subst (AllPairs (λ v w. v.name ≢ w.name)) (sym vars_added) (AllPairs-append (λ v w. v.name ≢ w.name) (variables model) new_vars c.variable_names (numbered_distinct model.next.variable names single) (λ k d end j b last. across j b last k d end));
+    variable_names = subst (AllPairs (λ v w. v.name ≢ w.name)) (sym vars_added)
+        (AllPairs-append (λ v w. v.name ≢ w.name) (variables model) new_vars c.variable_names
+        (numbered_distinct model.next.variable names single)
+        (λ k d end j b last. across j b last k d end));
     row_names = c.row_names;
-    bounds = λ n. All-weaker (λ r. is_variable n r.func ≡ true → IsSome (group_of model n)) (λ r. is_variable n r.func ≡ true → IsSome (find (has_variable n) (model.groups ++ new_group ∷ []))) (λ r h e. stays n (h e)) model.rows (c.bounds n);
+    bounds = λ n. All-weaker (λ r. is_variable n r.func ≡ true → IsSome (group_of model n))
+        (λ r. is_variable n r.func ≡ true
+        → IsSome (find (has_variable n) (model.groups ++ new_group ∷ []))) (λ r h e. stays n (h e))
+        model.rows (c.bounds n);
   }
     where
       across : All (λ w. All (λ v. v.name ≢ w.name) (variables model)) new_vars
-      across = numbered_names (λ name. All (λ v. v.name ≢ name) (variables model)) model.next.variable names (All-weaker (λ name. has_variable_named model name ≡ false) (λ name. All (λ v. v.name ≢ name) (variables model)) (λ name e. free_variable model name e) names (none_pass (has_variable_named model) names free))
+      across = numbered_names (λ name. All (λ v. v.name ≢ name) (variables model))
+          model.next.variable names (All-weaker (λ name. has_variable_named model name ≡ false)
+          (λ name. All (λ v. v.name ≢ name) (variables model))
+          (λ name e. free_variable model name e) names (none_pass (has_variable_named model) names
+          free))
 
-      stays : (n : ℕ) → IsSome (group_of model n) → IsSome (find (has_variable n) (model.groups ++ new_group ∷ []))
+      stays : (n : ℕ) → IsSome (group_of model n)
+          → IsSome (find (has_variable n) (model.groups ++ new_group ∷ []))
       stays n there =
           group_found n (model.groups ++ new_group ∷ [])
           ∙ (ap (list_any (λ v. v.number == n)) vars_added
           ∙ (list_any-append (λ v. v.number == n) (variables model) new_vars
-          ∙ or_left (list_any (λ v. v.number == n) (variables model)) (list_any (λ v. v.number == n) new_vars) (sym (group_found n model.groups) ∙ there)))
+          ∙ or_left (list_any (λ v. v.number == n) (variables model))
+          (list_any (λ v. v.number == n) new_vars) (sym (group_found n model.groups) ∙ there)))
 
-  pub add_group_within : IsWithinLimits model → length (variables model) + length names ≤ VARIABLES → model.next.group ≤ LAST_NUMBER → model.next.variable + length names - 1 ≤ LAST_NUMBER → IsWithinLimits (add_group model names set)
+  pub add_group_within : IsWithinLimits model → length (variables model) + length names ≤ VARIABLES
+      → model.next.group ≤ LAST_NUMBER → model.next.variable + length names - 1 ≤ LAST_NUMBER
+      → IsWithinLimits (add_group model names set)
   add_group_within w fits group last = record {
-    variables = omega (arith, fits, ap length vars_added, length-append (variables model) new_vars, numbered_length model.next.variable names);
+    variables = omega (
+      arith,
+      fits,
+      ap length vars_added,
+      length-append (variables model) new_vars,
+      numbered_length model.next.variable names,
+    );
     rows = w.rows;
     terms = w.terms;
     group_numbers = omega (arith, group);
@@ -75,20 +106,28 @@ module _ (model : ModelValue) (name : List ℕ) (func : UserFunc) (set : Set) wh
   abbrev pub new_row : Row
   new_row = record { id = model.next.row; name = name; func = func; set = set }
 
-  pub kept_add_row : IsConsistent model → has_row_named model name ≡ false → ((n : ℕ) → is_variable n func ≡ true → IsSome (group_of model n)) → IsConsistent (add_row model name func set)
+  pub kept_add_row : IsConsistent model → has_row_named model name ≡ false
+      → ((n : ℕ) → is_variable n func ≡ true → IsSome (group_of model n))
+      → IsConsistent (add_row model name func set)
   kept_add_row c free stands = record {
     groups_rise = c.groups_rise;
     variables_rise = c.variables_rise;
     rows_rise = Rise-push row_number model.rows new_row c.rows_rise c.given_rows;
     given_groups = c.given_groups;
     given_variables = c.given_variables;
-    given_rows = All-push (λ r. r.id < model.next.row + 1) model.rows new_row (All-weaker (λ r. r.id < model.next.row) (λ r. r.id < model.next.row + 1) (λ r lt. omega arith) model.rows c.given_rows) (omega arith);
+    given_rows = All-push (λ r. r.id < model.next.row + 1) model.rows new_row
+        (All-weaker (λ r. r.id < model.next.row) (λ r. r.id < model.next.row + 1)
+        (λ r lt. omega arith) model.rows c.given_rows) (omega arith);
     variable_names = c.variable_names;
-    row_names = all_pairs_push (λ r s. r.name ≢ s.name) model.rows new_row c.row_names (free_row model name free);
-    bounds = λ n. All-push (λ r. is_variable n r.func ≡ true → IsSome (group_of model n)) model.rows new_row (c.bounds n) (stands n);
+    row_names = all_pairs_push (λ r s. r.name ≢ s.name) model.rows new_row c.row_names
+        (free_row model name free);
+    bounds = λ n. All-push (λ r. is_variable n r.func ≡ true → IsSome (group_of model n)) model.rows
+        new_row (c.bounds n) (stands n);
   }
 
-  pub add_row_within : IsWithinLimits model → length model.rows + 1 ≤ ROWS → total_terms (add_row model name func set) ≤ ALL_TERMS → model.next.row ≤ LAST_NUMBER → IsWithinLimits (add_row model name func set)
+  pub add_row_within : IsWithinLimits model → length model.rows + 1 ≤ ROWS
+      → total_terms (add_row model name func set) ≤ ALL_TERMS → model.next.row ≤ LAST_NUMBER
+      → IsWithinLimits (add_row model name func set)
   add_row_within w rows terms number = record {
     variables = w.variables;
     rows = omega (arith, rows, length-append model.rows (new_row ∷ []));

@@ -23,60 +23,89 @@ use Rattle.model_laws.specs.Needed.{located_stands, needed_row_there, needed_var
 use Rattle.model_laws.specs.ByName.{affine_bounds, consistent_delete, consistent_group, consistent_objective, consistent_row, function_change, of_group, of_number, output_bounds}
 
 module _ (model : ModelValue) (c : IsConsistent model) where
-  consistent_rename : (name new : List ℕ) (n : ℕ) → variable_named model name ≡ Some n → has_variable_named model new ≡ false → IsConsistent (change_group model n (λ g. record g { vars = map (renamed n new) g.vars }))
+  consistent_rename : (name new : List ℕ) (n : ℕ) → variable_named model name ≡ Some n
+      → has_variable_named model new ≡ false
+      → IsConsistent (change_group model n (λ g. record g { vars = map (renamed n new) g.vars }))
   consistent_rename name new n at free =
-      of_group model c name n at IsConsistent (λ g. record g { vars = map (renamed n new) g.vars }) (λ group found.
+      of_group model c name n at IsConsistent (λ g. record g { vars = map (renamed n new) g.vars })
+      (λ group found.
       let var = variable_located model name n group c at found in
-      subst IsConsistent (sym (change_group-found model n (λ g. record g { vars = map (renamed n new) g.vars }) group found)) (kept_renamed model c group var.1.by_number n new var.0 var.1.there var.1.number (free_variable model new free)))
+      subst IsConsistent (sym (change_group-found model n
+      (λ g. record g { vars = map (renamed n new) g.vars }) group found))
+      (kept_renamed model c group var.1.by_number n new var.0 var.1.there var.1.number
+      (free_variable model new free)))
 
-  kept_by : (e : Edit) → meets_unknown_name model e ≡ false → meets_name_taken model e ≡ false → IsConsistent (edited model e)
+  kept_by : (e : Edit) → meets_unknown_name model e ≡ false → meets_name_taken model e ≡ false
+      → IsConsistent (edited model e)
   unfolding edited
   kept_by (edit.AddGroup names set) known free =
       let parts = or_parts (list_any (has_variable_named model) names) (has_twins names) free in
       kept_add_group model names set c parts.0 parts.1
   kept_by (edit.AddRow name func set) known free =
-      kept_add_row model name (located model func) set c free (located_stands model func (or_parts _ _ known).0)
-  kept_by (edit.Objective sense func) known free = consistent_objective model c (objective_of model sense func)
+      kept_add_row model name (located model func) set c free
+      (located_stands model func (or_parts _ _ known).0)
+  kept_by (edit.Objective sense func) known free =
+      consistent_objective model c (objective_of model sense func)
   kept_by edit.Feasibility known free = consistent_objective model c objective.Feasibility
   kept_by (edit.Coef row var value) known free =
       let at = needed_row_there model (edit.Coef row var value) row refl known in
       let h = on_affine (λ f. with_coefficient f (address_named model var) value) in
-      consistent_row model c row at.0 at.1 (λ r. record r { func = h r.func }) (function_change model c row at.0 at.1 h (λ n. affine_bounds (λ f. with_coefficient f (address_named model var) value) n at.0.func))
+      consistent_row model c row at.0 at.1 (λ r. record r { func = h r.func })
+      (function_change model c row at.0 at.1 h (λ n. affine_bounds
+      (λ f. with_coefficient f (address_named model var) value) n at.0.func))
   kept_by (edit.VecCoef row output var value) known free =
       let at = needed_row_there model (edit.VecCoef row output var value) row refl known in
       let h = on_output output (λ f. with_coefficient f (address_named model var) value) in
-      consistent_row model c row at.0 at.1 (λ r. record r { func = h r.func }) (function_change model c row at.0 at.1 h (λ n. output_bounds output (λ f. with_coefficient f (address_named model var) value) n at.0.func))
-  kept_by (edit.ObjCoef var value) known free = consistent_objective model c (on_objective (λ f. with_coefficient f (address_named model var) value) model.objective)
+      consistent_row model c row at.0 at.1 (λ r. record r { func = h r.func })
+      (function_change model c row at.0 at.1 h (λ n. output_bounds output
+      (λ f. with_coefficient f (address_named model var) value) n at.0.func))
+  kept_by (edit.ObjCoef var value) known free = consistent_objective model c
+      (on_objective (λ f. with_coefficient f (address_named model var) value) model.objective)
   kept_by (edit.Constant row value) known free =
       let at = needed_row_there model (edit.Constant row value) row refl known in
       let h = on_affine (λ f. with_constant f value) in
-      consistent_row model c row at.0 at.1 (λ r. record r { func = h r.func }) (function_change model c row at.0 at.1 h (λ n. affine_bounds (λ f. with_constant f value) n at.0.func))
+      consistent_row model c row at.0 at.1 (λ r. record r { func = h r.func })
+      (function_change model c row at.0 at.1 h (λ n. affine_bounds (λ f. with_constant f value)
+      n at.0.func))
   kept_by (edit.VecConstant row output value) known free =
       let at = needed_row_there model (edit.VecConstant row output value) row refl known in
       let h = on_output output (λ f. with_constant f value) in
-      consistent_row model c row at.0 at.1 (λ r. record r { func = h r.func }) (function_change model c row at.0 at.1 h (λ n. output_bounds output (λ f. with_constant f value) n at.0.func))
-  kept_by (edit.ObjConstant value) known free = consistent_objective model c (on_objective (λ f. with_constant f value) model.objective)
+      consistent_row model c row at.0 at.1 (λ r. record r { func = h r.func })
+      (function_change model c row at.0 at.1 h (λ n. output_bounds output
+      (λ f. with_constant f value) n at.0.func))
+  kept_by (edit.ObjConstant value) known free =
+      consistent_objective model c (on_objective (λ f. with_constant f value) model.objective)
   kept_by (edit.RowSet row set) known free =
       let at = needed_row_there model (edit.RowSet row set) row refl known in
-      consistent_row model c row at.0 at.1 (λ r. record r { set = set }) (record { id = refl; named = inl refl; bounds = λ n e. e })
+      consistent_row model c row at.0 at.1 (λ r. record r { set = set })
+      (record { id = refl; named = inl refl; bounds = λ n e. e })
   kept_by (edit.Reset var set) known free =
       let at = needed_variable model (edit.Reset var set) var [] refl known in
-      of_number model c var at.0 at.1 IsConsistent (λ n. change_group model n (λ g. record g { set = set })) (consistent_group model c var at.0 at.1 (λ g. record g { set = set }) (λ g. refl) (λ g. refl))
+      of_number model c var at.0 at.1 IsConsistent (λ n. change_group model n
+      (λ g. record g { set = set })) (consistent_group model c var at.0 at.1
+      (λ g. record g { set = set }) (λ g. refl) (λ g. refl))
   kept_by (edit.FreeGroup var) known free =
       let at = needed_variable model (edit.FreeGroup var) var [] refl known in
-      of_number model c var at.0 at.1 IsConsistent (λ n. change_group model n (λ g. record g { set = Reals 1 })) (consistent_group model c var at.0 at.1 (λ g. record g { set = Reals 1 }) (λ g. refl) (λ g. refl))
+      of_number model c var at.0 at.1 IsConsistent (λ n. change_group model n
+      (λ g. record g { set = Reals 1 })) (consistent_group model c var at.0 at.1
+      (λ g. record g { set = Reals 1 }) (λ g. refl) (λ g. refl))
   kept_by (edit.DeleteVariable var) known free =
       let at = needed_variable model (edit.DeleteVariable var) var [] refl known in
-      of_number model c var at.0 at.1 IsConsistent (without_variable model) (kept_without_variable model at.0 c)
+      of_number model c var at.0 at.1 IsConsistent (without_variable model)
+      (kept_without_variable model at.0 c)
   kept_by (edit.DeleteRow row) known free =
       let at = needed_row_there model (edit.DeleteRow row) row refl known in
       consistent_delete model c row at.0 at.1
   kept_by (edit.RenameVariable old new) known free =
       let at = needed_variable model (edit.RenameVariable old new) old [] refl known in
-      of_number model c old at.0 at.1 IsConsistent (λ n. change_group model n (λ g. record g { vars = map (renamed n new) g.vars })) (consistent_rename old new at.0 at.1 free)
+      of_number model c old at.0 at.1 IsConsistent (λ n. change_group model n
+      (λ g. record g { vars = map (renamed n new) g.vars }))
+      (consistent_rename old new at.0 at.1 free)
   kept_by (edit.RenameRow old new) known free =
       let at = needed_row_there model (edit.RenameRow old new) old refl known in
-      consistent_row model c old at.0 at.1 (λ r. record r { name = new }) (record { id = refl; named = inr (free_row model new free); bounds = λ n e. e })
+      consistent_row model c old at.0 at.1 (λ r. record r { name = new })
+      (record { id = refl; named = inr (free_row model new free); bounds = λ n e. e })
 
-pub kept_consistent : (model : ModelValue) (e : Edit) → IsConsistent model → first_refusal model e ≡ None → IsConsistent (edited model e)
+pub kept_consistent : (model : ModelValue) (e : Edit) → IsConsistent model
+    → first_refusal model e ≡ None → IsConsistent (edited model e)
 kept_consistent model e c none = let p = passed model e none in kept_by model c e p.known p.free

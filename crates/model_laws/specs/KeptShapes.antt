@@ -41,18 +41,24 @@ affine_shape h (Affine f) = record { scalar = refl; components = refl; variable 
 affine_shape h (PlainVec vars) = record { scalar = refl; components = refl; variable = λ n. refl }
 affine_shape h (AffineVec fs) = record { scalar = refl; components = refl; variable = λ n. refl }
 
-changed_length : (i : ℕ) (h : Function → Function) (fs : List Function) → length (changed_at i h fs) ≡ length fs
+changed_length : (i : ℕ) (h : Function → Function) (fs : List Function)
+    → length (changed_at i h fs) ≡ length fs
 changed_length i h [] = refl
 changed_length zero h (f ∷ fs) = refl
 changed_length (suc i) h (f ∷ fs) = ap suc (changed_length i h fs)
 
-pub output_shape : (output : ℕ) (h : Function → Function) (func : UserFunc) → HasShapeOf func (on_output output h func)
-output_shape output h (Plain var) = record { scalar = refl; components = refl; variable = λ n. refl }
+pub output_shape : (output : ℕ) (h : Function → Function) (func : UserFunc)
+    → HasShapeOf func (on_output output h func)
+output_shape output h (Plain var) =
+    record { scalar = refl; components = refl; variable = λ n. refl }
 output_shape output h (Affine f) = record { scalar = refl; components = refl; variable = λ n. refl }
-output_shape output h (PlainVec vars) = record { scalar = refl; components = refl; variable = λ n. refl }
-output_shape output h (AffineVec fs) = record { scalar = refl; components = changed_length (output - 1) h fs; variable = λ n. refl }
+output_shape output h (PlainVec vars) =
+    record { scalar = refl; components = refl; variable = λ n. refl }
+output_shape output h (AffineVec fs) =
+    record { scalar = refl; components = changed_length (output - 1) h fs; variable = λ n. refl }
 
-pub located_scalar : (model : ModelValue) (func : NamedFunc) → is_scalar_function (located model func) ≡ is_scalar_named func
+pub located_scalar : (model : ModelValue) (func : NamedFunc)
+    → is_scalar_function (located model func) ≡ is_scalar_named func
 located_scalar model (named.Plain var) = refl
 located_scalar model (named.Affine f) = refl
 located_scalar model (named.PlainVec vars) = refl
@@ -64,7 +70,8 @@ scalar_components (Affine f) e = refl
 scalar_components (PlainVec vars) e = absurd (both_ways false refl e)
 scalar_components (AffineVec fs) e = absurd (both_ways false refl e)
 
-pub located_components : (model : ModelValue) (func : NamedFunc) → components (located model func) ≡ named_components func
+pub located_components : (model : ModelValue) (func : NamedFunc)
+    → components (located model func) ≡ named_components func
 located_components model (named.Plain var) = refl
 located_components model (named.Affine f) = refl
 located_components model (named.PlainVec vars) = length-map vars _
@@ -72,18 +79,21 @@ located_components model (named.AffineVec fs) = length-map fs _
 
 -- ---- constants have no part in the number of terms
 
-counts_at : (i : ℕ) (value : Rational) (fs : List Function) → map term_count (changed_at i (λ f. with_constant f value) fs) ≡ map term_count fs
+counts_at : (i : ℕ) (value : Rational) (fs : List Function)
+    → map term_count (changed_at i (λ f. with_constant f value) fs) ≡ map term_count fs
 counts_at i value [] = refl
 counts_at zero value (f ∷ fs) = refl
 counts_at (suc i) value (f ∷ fs) = ap (λ ns. term_count f ∷ ns) (counts_at i value fs)
 
-pub constant_counts : (value : Rational) (func : UserFunc) → term_counts (on_affine (λ f. with_constant f value) func) ≡ term_counts func
+pub constant_counts : (value : Rational) (func : UserFunc)
+    → term_counts (on_affine (λ f. with_constant f value) func) ≡ term_counts func
 constant_counts value (Plain var) = refl
 constant_counts value (Affine f) = refl
 constant_counts value (PlainVec vars) = refl
 constant_counts value (AffineVec fs) = refl
 
-pub output_counts : (output : ℕ) (value : Rational) (func : UserFunc) → term_counts (on_output output (λ f. with_constant f value) func) ≡ term_counts func
+pub output_counts : (output : ℕ) (value : Rational) (func : UserFunc)
+    → term_counts (on_output output (λ f. with_constant f value) func) ≡ term_counts func
 output_counts output value (Plain var) = refl
 output_counts output value (Affine f) = refl
 output_counts output value (PlainVec vars) = refl
@@ -91,17 +101,25 @@ output_counts output value (AffineVec fs) = counts_at (output - 1) value fs
 
 -- ---- changes of functions that mention variables that stand
 
-pub standing_coefficient : (groups : List Group) (at : Address) (value : Rational) → Stands groups at → MentionsOnly (Stands groups) (λ f. with_coefficient f at value)
-standing_coefficient groups at value s = record { only = λ f q e. by_term f q (with_term f at value q e) }
+pub standing_coefficient : (groups : List Group) (at : Address) (value : Rational)
+    → Stands groups at → MentionsOnly (Stands groups) (λ f. with_coefficient f at value)
+standing_coefficient groups at value s =
+    record { only = λ f q e. by_term f q (with_term f at value q e) }
   where
-    by_term : (f : Function) (q : Address) → (q ≡ at) ⊎ (func_mentions q (Affine f) ≡ true) → Stands groups q ⊎ (func_mentions q (Affine f) ≡ true)
+    by_term : (f : Function) (q : Address) → (q ≡ at) ⊎ (func_mentions q (Affine f) ≡ true)
+        → Stands groups q ⊎ (func_mentions q (Affine f) ≡ true)
     by_term f q (inl same) = inl (subst (Stands groups) (sym same) s)
     by_term f q (inr was) = inr was
 
 -- ---- a row with another function, set or name
 
 module _ (groups : List Group) (row : Row) where
-  pub function_in_place : (func : UserFunc) → HasShapeOf row.func func → ((q : Address) → func_mentions q func ≡ true → Stands groups q ⊎ (func_mentions q row.func ≡ true)) → (All (λ count. count ≤ TERMS) (term_counts row.func) → All (λ count. count ≤ TERMS) (term_counts func)) → IsRowInPlace groups row (record row { func = func })
+  pub function_in_place : (func : UserFunc) → HasShapeOf row.func func
+      → ((q : Address) → func_mentions q func ≡ true
+      → Stands groups q ⊎ (func_mentions q row.func ≡ true))
+      → (All (λ count. count ≤ TERMS) (term_counts row.func)
+      → All (λ count. count ≤ TERMS) (term_counts func))
+      → IsRowInPlace groups row (record row { func = func })
   function_in_place func shape only terms = record {
     id = refl;
     valid = λ is. (record {
@@ -115,14 +133,21 @@ module _ (groups : List Group) (row : Row) where
     upper = λ n e. ap (λ b. b && sets_upper row.set) (sym (shape.variable n)) ∙ e;
   }
     where
-      by_mention : IsValidRow groups row → {q : Address} → Stands groups q ⊎ (func_mentions q row.func ≡ true) → Stands groups q
+      by_mention : IsValidRow groups row → {q : Address}
+          → Stands groups q ⊎ (func_mentions q row.func ≡ true) → Stands groups q
       by_mention is (inl s) = s
       by_mention is {q = q} (inr was) = is.stand q was
 
   pub name_in_place : (name : List ℕ) → IsRowInPlace groups row (record row { name = name })
   name_in_place name = record {
     id = refl;
-    valid = λ is. (record { stand = is.stand; limit = is.limit; terms = is.terms; shape = is.shape; set = is.set });
+    valid = λ is. (record {
+      stand = is.stand;
+      limit = is.limit;
+      terms = is.terms;
+      shape = is.shape;
+      set = is.set;
+    });
     lower = λ n e. e;
     upper = λ n e. e;
   }
@@ -170,20 +195,34 @@ type_upper (NormOneCone n) = refl
 types_same : (old new : Set) → same_type old new ≡ true → type_of old ≡ type_of new
 types_same old new e = same_true the_type (search rules) (type_of old) (type_of new) e
 
-pub same_lower : (old new : Set) → same_type old new ≡ true → sets_lower new ≡ true → sets_lower old ≡ true
-same_lower old new same e = type_lower old ∙ (ap by_lower (types_same old new same) ∙ (sym (type_lower new) ∙ e))
+pub same_lower : (old new : Set) → same_type old new ≡ true → sets_lower new ≡ true
+    → sets_lower old ≡ true
+same_lower old new same e = type_lower old
+    ∙ (ap by_lower (types_same old new same) ∙ (sym (type_lower new) ∙ e))
 
-pub same_upper : (old new : Set) → same_type old new ≡ true → sets_upper new ≡ true → sets_upper old ≡ true
-same_upper old new same e = type_upper old ∙ (ap by_upper (types_same old new same) ∙ (sym (type_upper new) ∙ e))
+pub same_upper : (old new : Set) → same_type old new ≡ true → sets_upper new ≡ true
+    → sets_upper old ≡ true
+same_upper old new same e = type_upper old
+    ∙ (ap by_upper (types_same old new same) ∙ (sym (type_upper new) ∙ e))
 
 and_more : (a b c : Bool) → (b ≡ true → c ≡ true) → (a && b) ≡ true → (a && c) ≡ true
 and_more true b c h e = h e
 and_more false b c h e = e
 
-pub set_in_place : (groups : List Group) (row : Row) (set : Set) → is_scalar set ≡ is_scalar_function row.func → IsSetOf (components row.func) set → same_type row.set set ≡ true → IsRowInPlace groups row (record row { set = set })
+pub set_in_place : (groups : List Group) (row : Row) (set : Set)
+    → is_scalar set ≡ is_scalar_function row.func → IsSetOf (components row.func) set
+    → same_type row.set set ≡ true → IsRowInPlace groups row (record row { set = set })
 set_in_place groups row set shape is same = record {
   id = refl;
-  valid = λ was. (record { stand = was.stand; limit = was.limit; terms = was.terms; shape = shape; set = is });
-  lower = λ n e. and_more (is_variable n row.func) (sets_lower set) (sets_lower row.set) (same_lower row.set set same) e;
-  upper = λ n e. and_more (is_variable n row.func) (sets_upper set) (sets_upper row.set) (same_upper row.set set same) e;
+  valid = λ was. (record {
+    stand = was.stand;
+    limit = was.limit;
+    terms = was.terms;
+    shape = shape;
+    set = is;
+  });
+  lower = λ n e. and_more (is_variable n row.func) (sets_lower set) (sets_lower row.set)
+      (same_lower row.set set same) e;
+  upper = λ n e. and_more (is_variable n row.func) (sets_upper set) (sets_upper row.set)
+      (same_upper row.set set same) e;
 }

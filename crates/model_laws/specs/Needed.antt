@@ -23,36 +23,65 @@ module _ (model : ModelValue) where
   abbrev pub unknown : List ℕ → Bool
   unknown name = not (has_variable_named model name)
 
-  first_known : (name : List ℕ) (names : List (List ℕ)) → list_any unknown (name ∷ names) ≡ false → (n : ℕ) × (variable_named model name ≡ Some n)
-  first_known name names e = something (variable_named model name) (not-false (has_variable_named model name) (or_parts (unknown name) (list_any unknown names) e).0)
+  first_known : (name : List ℕ) (names : List (List ℕ)) → list_any unknown (name ∷ names) ≡ false
+      → (n : ℕ) × (variable_named model name ≡ Some n)
+  first_known name names e = something (variable_named model name)
+      (not-false (has_variable_named model name) (or_parts (unknown name) (list_any unknown names)
+      e).0)
 
   -- the first variable that the edit needs
-  pub needed_variable : (e : Edit) (name : List ℕ) (names : List (List ℕ)) → needed_variables e ≡ name ∷ names → meets_unknown_name model e ≡ false → (n : ℕ) × (variable_named model name ≡ Some n)
+  pub needed_variable : (e : Edit) (name : List ℕ) (names : List (List ℕ))
+      → needed_variables e ≡ name ∷ names → meets_unknown_name model e ≡ false
+      → (n : ℕ) × (variable_named model name ≡ Some n)
   needed_variable e name names is known =
-      first_known name names (subst (λ ns. list_any unknown ns ≡ false) is (or_parts (list_any unknown (needed_variables e)) (option_map_or (λ name. not (has_row_named model name)) (needed_row e) false) known).0)
+      first_known name names (subst (λ ns. list_any unknown ns ≡ false) is
+      (or_parts (list_any unknown (needed_variables e))
+      (option_map_or (λ name. not (has_row_named model name)) (needed_row e) false) known).0)
 
   -- the row that the edit needs
-  pub needed_row_there : (e : Edit) (name : List ℕ) → needed_row e ≡ Some name → meets_unknown_name model e ≡ false → (row : Row) × (row_named model name ≡ Some row)
+  pub needed_row_there : (e : Edit) (name : List ℕ) → needed_row e ≡ Some name
+      → meets_unknown_name model e ≡ false → (row : Row) × (row_named model name ≡ Some row)
   needed_row_there e name is known =
-      something (row_named model name) (not-false (has_row_named model name) (subst (λ o. option_map_or (λ name. not (has_row_named model name)) o false ≡ false) is (or_parts (list_any unknown (needed_variables e)) (option_map_or (λ name. not (has_row_named model name)) (needed_row e) false) known).1))
+      something (row_named model name) (not-false (has_row_named model name)
+      (subst (λ o. option_map_or (λ name. not (has_row_named model name)) o false ≡ false) is
+      (or_parts (list_any unknown (needed_variables e))
+      (option_map_or (λ name. not (has_row_named model name)) (needed_row e) false) known).1))
 
   -- a function by name is on no variable that doesn't stand
-  pub located_stands : (func : NamedFunc) → list_any unknown (mentioned func) ≡ false → (n : ℕ) → is_variable n (located model func) ≡ true → IsSome (group_of model n)
-  located_stands (named.Plain var) known n e = let at = first_known var [] known in address_stands model var at.0 n at.1 e
+  pub located_stands : (func : NamedFunc) → list_any unknown (mentioned func) ≡ false → (n : ℕ)
+      → is_variable n (located model func) ≡ true → IsSome (group_of model n)
+  located_stands (named.Plain var) known n e =
+      let at = first_known var [] known in address_stands model var at.0 n at.1 e
   located_stands (named.Affine f) known n e = absurd (both_ways false refl e)
   located_stands (named.PlainVec vars) known n e = absurd (both_ways false refl e)
   located_stands (named.AffineVec fs) known n e = absurd (both_ways false refl e)
 
   -- the function of an edit that isn't refused is of names that stand
-  pub known_function : (e : Edit) (func : NamedFunc) → needed_variables e ≡ mentioned func → meets_unknown_name model e ≡ false → IsKnown model func
+  pub known_function : (e : Edit) (func : NamedFunc) → needed_variables e ≡ mentioned func
+      → meets_unknown_name model e ≡ false → IsKnown model func
   known_function e func is known =
-      record { known = subst (λ names. list_any unknown names ≡ false) is (or_parts (list_any unknown (needed_variables e)) (option_map_or (λ name. not (has_row_named model name)) (needed_row e) false) known).0 }
+      record {
+        known = subst (λ names. list_any unknown names ≡ false) is
+            (or_parts (list_any unknown (needed_variables e))
+            (option_map_or (λ name. not (has_row_named model name)) (needed_row e) false) known).0;
+      }
 
   -- so is each component
-  pub known_component : (fs : List NamedAff) (i : ℕ) (f : NamedAff) → IsKnown model (named.AffineVec fs) → slice_get fs i ≡ Some f → IsKnown model (named.Affine f)
+  pub known_component : (fs : List NamedAff) (i : ℕ) (f : NamedAff)
+      → IsKnown model (named.AffineVec fs) → slice_get fs i ≡ Some f
+      → IsKnown model (named.Affine f)
   known_component [] i f h e = cc
   known_component (g ∷ fs) zero f h e =
       let same : g ≡ f = same_Some g f e in
-      record { known = subst (λ f. list_any unknown (names_of f) ≡ false) same (or_parts (list_any unknown (names_of g)) (list_any unknown (mentioned (named.AffineVec fs))) (sym (list_any-append unknown (names_of g) (mentioned (named.AffineVec fs))) ∙ h.known)).0 }
+      record {
+        known = subst (λ f. list_any unknown (names_of f) ≡ false) same
+            (or_parts (list_any unknown (names_of g)) (list_any unknown
+            (mentioned (named.AffineVec fs))) (sym (list_any-append unknown (names_of g)
+            (mentioned (named.AffineVec fs))) ∙ h.known)).0;
+      }
   known_component (g ∷ fs) (suc i) f h e =
-      known_component fs i f (record { known = (or_parts (list_any unknown (names_of g)) (list_any unknown (mentioned (named.AffineVec fs))) (sym (list_any-append unknown (names_of g) (mentioned (named.AffineVec fs))) ∙ h.known)).1 }) e
+      known_component fs i f (record {
+        known = (or_parts (list_any unknown (names_of g))
+            (list_any unknown (mentioned (named.AffineVec fs)))
+            (sym (list_any-append unknown (names_of g) (mentioned (named.AffineVec fs))) ∙ h.known)).1;
+      }) e

@@ -28,21 +28,29 @@ abbrev AllFail : List (Bool × Refusal) → Type 0
 AllFail [] = Unit {0}
 AllFail (test ∷ tests) = (test.0 ≡ false) × AllFail tests
 
-first_fails : (b : Bool) (r : Refusal) (rest : Option Refusal) → (if b then Some r else rest) ≡ None → b ≡ false
+first_fails : (b : Bool) (r : Refusal) (rest : Option Refusal) → (if b then Some r else rest) ≡ None
+    → b ≡ false
 first_fails true r rest e = cc
 first_fails false r rest e = refl
 
-others_fail : (b : Bool) (r : Refusal) (rest : Option Refusal) → (if b then Some r else rest) ≡ None → rest ≡ None
+others_fail : (b : Bool) (r : Refusal) (rest : Option Refusal) → (if b then Some r else rest) ≡ None
+    → rest ≡ None
 others_fail true r rest e = cc
 others_fail false r rest e = e
 
 none_holds : (tests : List (Bool × Refusal)) → first_of tests ≡ None → AllFail tests
 none_holds [] e = tt
-none_holds (test ∷ tests) e = (first_fails test.0 test.1 (first_of tests) e, none_holds tests (others_fail test.0 test.1 (first_of tests) e))
+none_holds (test ∷ tests) e = (
+  first_fails test.0 test.1 (first_of tests) e,
+  none_holds tests
+      (others_fail test.0 test.1 (first_of tests) e),
+)
 
-within_limits : (counted : List (ℕ × ℕ)) → AllFail (map full_at counted) → All (λ c. c.0 ≤ c.1) counted
+within_limits : (counted : List (ℕ × ℕ)) → AllFail (map full_at counted)
+    → All (λ c. c.0 ≤ c.1) counted
 within_limits [] h = All-nil (λ c. c.0 ≤ c.1)
-within_limits (c ∷ counted) h = All-cons (λ c. c.0 ≤ c.1) c counted (ltb-false c.1 c.0 h.0) (within_limits counted h.1)
+within_limits (c ∷ counted) h =
+    All-cons (λ c. c.0 ≤ c.1) c counted (ltb-false c.1 c.0 h.0) (within_limits counted h.1)
 
 abbrev tests : ModelValue → Edit → List (Bool × Refusal)
 tests model e =

@@ -1,4 +1,5 @@
--- A row without a variable: its number and name stay, it has no more terms, and it is on no other variable, and not on that one.
+-- A row without a variable: its number and name stay, it has no more terms, and it is on no other
+-- variable, and not on that one.
 use Rattle.std.specs.Prelude.{◌≡◌, ◌≢◌, ℕ, ◌≤◌, true, false, cond, List, [], ◌∷◌, Some, None, IfSome, length, refl}
 use Rattle.std.specs.List.{list_any}
 use Rattle.std.proofs.Common.{arith, sym, subst, inl, inr, ◌∙◌}
@@ -22,7 +23,9 @@ pub record IsRowWithout (at : Address) (row left : Row) : Type 0 where
   pub terms : all_terms left.func ≤ all_terms row.func
 
 -- what holds of each list with its set
-pub unless_empty_all : {X Y : Type 0} (P : Y → Type 0) (make : List X → Set → Y) (set : Set) (xs : List X) → ((left : List X) (set : Set) → P (make left set)) → IfSome (unless_empty make set xs) P
+pub unless_empty_all : {X Y : Type 0} (P : Y → Type 0) (make : List X → Set → Y) (set : Set)
+    (xs : List X) → ((left : List X) (set : Set) → P (make left set))
+    → IfSome (unless_empty make set xs) P
 unless_empty_all P make set [] each = tt
 unless_empty_all P make set (x ∷ xs) each = each (x ∷ xs) (resized (length (x ∷ xs)) set)
 
@@ -30,28 +33,64 @@ unless_empty_all P make set (x ∷ xs) each = each (x ∷ xs) (resized (length (
 abbrev pub row_of : ℕ → List ℕ → UserFunc → Set → Row
 row_of id name func set = record { id = id; name = name; func = func; set = set }
 
-by_function : (at : Address) (id : ℕ) (name : List ℕ) (func : UserFunc) (set : Set) → IfSome (row_without at (row_of id name func set)) (IsRowWithout at (row_of id name func set))
+by_function : (at : Address) (id : ℕ) (name : List ℕ) (func : UserFunc) (set : Set)
+    → IfSome (row_without at (row_of id name func set)) (IsRowWithout at (row_of id name func set))
 by_function at id name (Plain var) set =
     elim (cases_Bool (address_eq at var)) [
-      | inl same ↦ subst (λ b. IfSome (cond b None (Some (row_of id name (Plain var) set))) (IsRowWithout at (row_of id name (Plain var) set))) (sym same) tt
-      | inr other ↦ subst (λ b. IfSome (cond b None (Some (row_of id name (Plain var) set))) (IsRowWithout at (row_of id name (Plain var) set))) (sym other) (stays other)
+      | inl same ↦ subst (λ b. IfSome (cond b None (Some (row_of id name (Plain var) set)))
+          (IsRowWithout at (row_of id name (Plain var) set))) (sym same) tt
+      | inr other ↦ subst (λ b. IfSome (cond b None (Some (row_of id name (Plain var) set)))
+          (IsRowWithout at (row_of id name (Plain var) set))) (sym other) (stays other)
     ]
   where
-    stays : address_eq at var ≡ false → IsRowWithout at (row_of id name (Plain var) set) (row_of id name (Plain var) set)
+    stays : address_eq at var ≡ false
+        → IsRowWithout at (row_of id name (Plain var) set) (row_of id name (Plain var) set)
     stays other = record {
       id = refl;
       name = refl;
       bounds = λ n e. e;
-      off = λ n e same. both_ways (address_eq at var) other ((address_eq-Decides at var).1 (sym same ∙ (address_eq-Decides (variable_address n) var).0 e));
+      off = λ n e same. both_ways (address_eq at var) other
+          ((address_eq-Decides at var).1 (sym same
+          ∙ (address_eq-Decides (variable_address n) var).0 e));
       terms = omega arith;
     }
-by_function at id name (Affine f) set = record { id = refl; name = refl; bounds = λ n e. cc; off = λ n e. cc; terms = affine_terms (without_term at) (without_adds_none at) (Affine f) }
+by_function at id name (Affine f) set = record {
+  id = refl;
+  name = refl;
+  bounds = λ n e. cc;
+  off = λ n e. cc;
+  terms = affine_terms (without_term at) (without_adds_none at) (Affine f);
+}
 by_function at id name (PlainVec vars) set =
-    elim (list_any (address_eq at) vars) as (λ b. IfSome (cond b (unless_empty (λ left s. record (row_of id name (PlainVec vars) set) { func = PlainVec left; set = s }) set (without_address at vars)) (Some (row_of id name (PlainVec vars) set))) (IsRowWithout at (row_of id name (PlainVec vars) set))) [
-      | true ↦ unless_empty_all (IsRowWithout at (row_of id name (PlainVec vars) set)) (λ left s. record (row_of id name (PlainVec vars) set) { func = PlainVec left; set = s }) set (without_address at vars) (λ left s. record { id = refl; name = refl; bounds = λ n e. cc; off = λ n e. cc; terms = omega arith })
-      | false ↦ record { id = refl; name = refl; bounds = λ n e. cc; off = λ n e. cc; terms = omega arith }
+    elim (list_any (address_eq at) vars) as (λ b. IfSome
+    (cond b (unless_empty (λ left s. record (row_of id name (PlainVec vars) set)
+    { func = PlainVec left; set = s }) set (without_address at vars))
+    (Some (row_of id name (PlainVec vars) set))) (IsRowWithout at
+    (row_of id name (PlainVec vars) set))) [
+      | true ↦ unless_empty_all (IsRowWithout at (row_of id name (PlainVec vars) set))
+          (λ left s. record (row_of id name (PlainVec vars) set) { func = PlainVec left; set = s })
+          set (without_address at vars) (λ left s. record {
+            id = refl;
+            name = refl;
+            bounds = λ n e. cc;
+            off = λ n e. cc;
+            terms = omega arith;
+          })
+      | false ↦ record {
+        id = refl;
+        name = refl;
+        bounds = λ n e. cc;
+        off = λ n e. cc;
+        terms = omega arith;
+      }
     ]
-by_function at id name (AffineVec fs) set = record { id = refl; name = refl; bounds = λ n e. cc; off = λ n e. cc; terms = map_terms (without_term at) (without_adds_none at) fs }
+by_function at id name (AffineVec fs) set = record {
+  id = refl;
+  name = refl;
+  bounds = λ n e. cc;
+  off = λ n e. cc;
+  terms = map_terms (without_term at) (without_adds_none at) fs;
+}
 
 pub row_without_is : (at : Address) (row : Row) → IfSome (row_without at row) (IsRowWithout at row)
 row_without_is at row = by_function at row.id row.name row.func row.set

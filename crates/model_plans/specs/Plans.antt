@@ -1,4 +1,5 @@
--- What a plan of an edit holds: the contents that are to stand, each other than what stands, and the names that change.
+-- What a plan of an edit holds: the contents that are to stand, each other than what stands, and
+-- the names that change.
 use Rattle.std.specs.Prelude.{◌≡◌, ◌≢◌, MatchOption, ℕ, List, All, Option, Some, None, map, filter, slice_get, ◌-◌, ◌<◌}
 use Rattle.std.specs.Option.{is_none}
 use Rattle.ratio_core.specs.Rational.{Rational}
@@ -47,7 +48,9 @@ pub record Leads (model target : ModelValue) (plan : Plan) : Type 0 where
   pub row_names : All (IsRenamed (row_name model)) plan.names.rows.items
 
 -- the parts of a plan
-pub record HasParts (plan : Plan) (group_list : List (Change Group)) (row_list : List (Change Row)) (content : Option Objective) (numbers : NextNumbers) (variable_list row_name_list : List NameChange) : Type 0 where
+pub record HasParts (plan : Plan) (group_list : List (Change Group)) (row_list : List (Change Row))
+    (content : Option Objective) (numbers : NextNumbers)
+    (variable_list row_name_list : List NameChange) : Type 0 where
   pub groups : plan.exchange.groups.items ≡ group_list
   pub rows : plan.exchange.rows.items ≡ row_list
   pub objective : plan.exchange.objective ≡ content

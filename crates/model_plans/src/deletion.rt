@@ -23,8 +23,8 @@ use set_core::Set;
 use std::alloc::Global;
 use user_model::{Group, GroupVar, GroupVars, Objective, Row, UserFunc};
 
-/// The model without a variable. It goes once over the rows, and copies those that mention it, the variable's group, and the
-/// objective where it mentions it.
+/// The model without a variable. It goes once over the rows, and copies those that mention it, the
+/// variable's group, and the objective where it mentions it.
 pub(crate) fn delete(alloc: Global, model: &Catalog, var: &Name) -> Result<Plan, Memory>
     requires { Accepts model.now.model (DeleteVariable var.now) }
     ensures { IfOk result (Leads model.now.model

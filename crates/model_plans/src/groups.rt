@@ -67,7 +67,8 @@ fn listed_vars(alloc: Global, vars: &[GroupVar]) -> Result<Vec<NameChange>, Memo
     Ok(names)
 }
 
-/// Another creation set of a group of one variable. It copies the group, or nothing where the set stays.
+/// Another creation set of a group of one variable. It copies the group, or nothing where the set
+/// stays.
 #[tactic(auto, unfolding(user_model::specs::Edited::edited))]
 pub(crate) fn reset(alloc: Global, model: &Catalog, var: &Name, set: Set) -> Result<Plan, Memory>
     requires { Accepts model.now.model (Reset var.now set) }

@@ -1,4 +1,5 @@
-//! Functions over the addresses of variables, from functions by the names of variables that stand in the model.
+//! Functions over the addresses of variables, from functions by the names of variables that stand
+//! in the model.
 ghost use Rattle.std.specs.Prelude.{◌≡◌, IfOk, map};
 ghost use Rattle.user_model.specs.Model.{address_named};
 ghost use Rattle.user_model.specs.Consistent.{IsConsistent};

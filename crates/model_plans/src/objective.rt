@@ -87,7 +87,8 @@ fn same_objective(one: &Objective, other: &Objective) -> bool
     }
 }
 
-/// Another coefficient of the affine objective. It copies the function, or nothing where the coefficient stays.
+/// Another coefficient of the affine objective. It copies the function, or nothing where the
+/// coefficient stays.
 #[tactic(auto, unfolding(user_model::specs::Edited::edited))]
 pub(crate) fn coef(alloc: Global, model: &Catalog, var: &Name, value: Ratio) -> Result<Plan, Memory>
     requires { Accepts model.now.model (edit.ObjCoef var.now value) }
@@ -98,7 +99,8 @@ pub(crate) fn coef(alloc: Global, model: &Catalog, var: &Name, value: Ratio) -> 
     with_part_of(alloc, model, &part, value)
 }
 
-/// Another constant of the affine objective. It copies the function, or nothing where the constant stays.
+/// Another constant of the affine objective. It copies the function, or nothing where the constant
+/// stays.
 #[tactic(auto, unfolding(user_model::specs::Edited::edited))]
 pub(crate) fn constant(alloc: Global, model: &Catalog, value: Ratio) -> Result<Plan, Memory>
     requires { Accepts model.now.model (edit.ObjConstant value) }

@@ -13,7 +13,8 @@ use ratio_core::Memory;
 use std::alloc::Global;
 use user_model::{Edit, Group, NextNumbers, Objective, Row};
 
-/// What is to stand in the model, each content other than what stands there, and the names that change.
+/// What is to stand in the model, each content other than what stands there, and the names that
+/// change.
 #[derive(Drop)]
 pub struct Plan {
     pub exchange: Exchange,
@@ -122,8 +123,9 @@ impl Plan {
     }
 }
 
-/// The plan of an edit that is not refused. It fails for want of memory alone. Only the row, the group or the objective that
-/// changes is copied, and the deletion of a variable goes once over the rows. What stays as it is, is in no plan.
+/// The plan of an edit that is not refused. It fails for want of memory alone. Only the row, the
+/// group or the objective that changes is copied, and the deletion of a variable goes once over the
+/// rows. What stays as it is, is in no plan.
 pub fn planned(alloc: Global, model: &Catalog, edit: Edit) -> Result<Plan, Memory>
     requires { Accepts model.now.model edit }
     ensures { IfOk result (Leads model.now.model (edited model.now.model edit)) }

@@ -19,7 +19,8 @@ use set_core::Set;
 use std::alloc::Global;
 use user_model::{NamedFunc, NextNumbers, Row, UserFunc};
 
-/// A new row. Its function is made anew over the addresses of its variables, and its name is copied into the listed names.
+/// A new row. Its function is made anew over the addresses of its variables, and its name is copied
+/// into the listed names.
 pub(crate) fn add(
     alloc: Global,
     model: &Catalog,
@@ -47,7 +48,8 @@ pub(crate) fn add(
     Plan::of_row(alloc, row, Some(listed), after)
 }
 
-/// Another coefficient of a scalar affine row. It copies the row, or nothing where the coefficient stays.
+/// Another coefficient of a scalar affine row. It copies the row, or nothing where the coefficient
+/// stays.
 #[tactic(auto, unfolding(user_model::specs::Edited::edited))]
 pub(crate) fn coef(
     alloc: Global,
@@ -101,7 +103,8 @@ fn scalar(
     }
 }
 
-/// Another coefficient of a component of a vector affine row. It copies the row, or nothing where the coefficient stays.
+/// Another coefficient of a component of a vector affine row. It copies the row, or nothing where
+/// the coefficient stays.
 #[tactic(auto, unfolding(user_model::specs::Edited::edited))]
 pub(crate) fn vec_coef(
     alloc: Global,
@@ -119,7 +122,8 @@ pub(crate) fn vec_coef(
     vector(alloc, model, row, output, &part, value)
 }
 
-/// Another constant of a component of a vector affine row. It copies the row, or nothing where the constant stays.
+/// Another constant of a component of a vector affine row. It copies the row, or nothing where the
+/// constant stays.
 #[tactic(auto, unfolding(user_model::specs::Edited::edited))]
 pub(crate) fn vec_constant(
     alloc: Global,

@@ -12,4 +12,5 @@ is_seen names place name = list_any (bytes_eq name) (take place names)
 
 -- no name whose hash passes stands before
 abbrev pub AreNew : List (List ℕ) → (ℕ → Bool) → Type 0
-AreNew names of_part = (place : ℕ) (name : List ℕ) → slice_get names place ≡ Some name → of_part (hash_of name) ≡ true → is_seen names place name ≡ false
+AreNew names of_part = (place : ℕ) (name : List ℕ) → slice_get names place ≡ Some name
+    → of_part (hash_of name) ≡ true → is_seen names place name ≡ false

@@ -15,7 +15,8 @@ use named_aff::{NamedAff, NamedTerm, NamedVec};
 use ratio_core::Ratio;
 use user_model::{NamedFunc, Refusal};
 
-/// How many terms the function with these names has in a model that has them: those with the coefficient 0 are left out.
+/// How many terms the function with these names has in a model that has them: those with the
+/// coefficient 0 are left out.
 pub(crate) fn named_terms(func: &NamedAff) -> u64
     ensures value { (model : ModelValue) → IsConsistent model
         → IsKnown model (NamedFunc.Affine func.now) → result ≡ term_count (affine model func.now) }
@@ -45,13 +46,17 @@ fn is_counted(term: &NamedTerm) -> bool
     term.coefficient != Ratio::zero()
 }
 
-/// How many terms all components of a function by name have, or the refusal for the first that has more than it may.
+/// How many terms all components of a function by name have, or the refusal for the first that has
+/// more than it may.
 pub(crate) fn terms_within(func: &NamedFunc) -> Result<u64, Refusal>
     requires { named_components func.now ≤ limits.COMPONENTS }
     ensures value { (model : ModelValue) → IsConsistent model → IsKnown model func.now
         → MatchResult result
-        (λ terms. (first_of (map full_at (within limits.TERMS (term_counts (located model func.now)))) ≡ None) × (terms ≡ sum (term_counts (located model func.now))))
-        (λ refusal. first_of (map full_at (within limits.TERMS (term_counts (located model func.now)))) ≡ Some refusal) }
+        (λ terms. (first_of (map full_at
+        (within limits.TERMS (term_counts (located model func.now)))) ≡ None)
+        × (terms ≡ sum (term_counts (located model func.now))))
+        (λ refusal. first_of (map full_at
+        (within limits.TERMS (term_counts (located model func.now)))) ≡ Some refusal) }
     ensures fits { IfOk result (λ terms. terms ≤ 2 ^ 24) }
 {
     match func {
@@ -66,8 +71,11 @@ fn vec_terms_within(funcs: &NamedVec) -> Result<u64, Refusal>
     requires { length funcs.now ≤ limits.COMPONENTS }
     ensures value { (model : ModelValue) → IsConsistent model
         → IsKnown model (NamedFunc.AffineVec funcs.now) → MatchResult result
-        (λ terms. (first_of (map full_at (within limits.TERMS (map term_count (map (affine model) funcs.now)))) ≡ None) × (terms ≡ sum (map term_count (map (affine model) funcs.now))))
-        (λ refusal. first_of (map full_at (within limits.TERMS (map term_count (map (affine model) funcs.now)))) ≡ Some refusal) }
+        (λ terms. (first_of (map full_at
+        (within limits.TERMS (map term_count (map (affine model) funcs.now)))) ≡ None)
+        × (terms ≡ sum (map term_count (map (affine model) funcs.now))))
+        (λ refusal. first_of (map full_at
+        (within limits.TERMS (map term_count (map (affine model) funcs.now)))) ≡ Some refusal) }
     ensures fits { IfOk result (λ terms. terms ≤ 2 ^ 24) }
 {
     let mut all = 0;
@@ -103,7 +111,8 @@ pub(crate) fn terms_with(func: &Aff, at: &Address, value: &Ratio) -> u64
     others + u64::from(!value.is_zero())
 }
 
-/// The refusal for the first component with more terms than it may have, where the one at a place is given a coefficient.
+/// The refusal for the first component with more terms than it may have, where the one at a place
+/// is given a coefficient.
 pub(crate) fn first_full_component(
     funcs: &[Aff],
     place: usize,
@@ -126,7 +135,8 @@ pub(crate) fn first_full_component(
     None
 }
 
-// The number of terms of the component at an index, where the one at a place is given a coefficient.
+// The number of terms of the component at an index, where the one at a place is given a
+// coefficient.
 fn component_terms(funcs: &[Aff], place: usize, at: &Address, value: &Ratio, index: usize) -> u64
     requires { index < length funcs.now }
     ensures { slice_get

@@ -19,7 +19,8 @@ use name_index::{Name, Names};
 use ratio_core::Ratio;
 use user_model::{Edit, NamedFunc, Objective, Refusal, UserFunc};
 
-/// The refusal for the first count that would pass its limit after the edit, which is not made for it.
+/// The refusal for the first count that would pass its limit after the edit, which is not made for
+/// it.
 pub(crate) fn first_full(model: &Catalog, edit: &Edit) -> Option<Refusal>
     requires { IsWellFormed model.now.model edit.now }
     ensures { result ≡ first_of (map full_at (counts model.now.model edit.now)) }

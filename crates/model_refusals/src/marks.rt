@@ -30,7 +30,8 @@ impl Marks {
 
     pub(crate) fn put(&mut self, hash: u64)
         ensures put { is_marked self.new hash ≡ true }
-        ensures kept { (other : ℕ) → is_marked self.old other ≡ true → is_marked self.new other ≡ true }
+        ensures kept { (other : ℕ) → is_marked self.old other ≡ true
+            → is_marked self.new other ≡ true }
     {
         self.put_bit((hash >> 45) % BITS);
         self.put_bit((hash >> 26) % BITS);

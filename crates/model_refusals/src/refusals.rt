@@ -14,12 +14,14 @@ use crate::shapes::{
 use model_catalog::Catalog;
 use user_model::{Edit, Refusal};
 
-/// The first refusal that the edit meets, if any, in the order of `Refusal`: names that it needs, new names, shapes, dimensions,
-/// outputs, intervals, lower bounds, upper bounds, types of sets, variables of norm cones, and last the limits.
+/// The first refusal that the edit meets, if any, in the order of `Refusal`: names that it needs,
+/// new names, shapes, dimensions, outputs, intervals, lower bounds, upper bounds, types of sets,
+/// variables of norm cones, and last the limits.
 ///
-/// It takes no memory, and the edit is not made for it. Each name of the edit is looked up. `AddGroup` compares its names where
-/// their hashes agree, `AddRow` and `Objective` count the terms that they bring, `Coef` and `ObjCoef` search a function for the
-/// variable, and `VecCoef` also reads how many terms each component of its row has. `DeleteVariable` reads all rows, for norm
+/// It takes no memory, and the edit is not made for it. Each name of the edit is looked up.
+/// `AddGroup` compares its names where their hashes agree, `AddRow` and `Objective` count the terms
+/// that they bring, `Coef` and `ObjCoef` search a function for the variable, and `VecCoef` also
+/// reads how many terms each component of its row has. `DeleteVariable` reads all rows, for norm
 /// cones; no other edit reads a row that it doesn't name.
 #[tactic(auto, unfolding(user_model::specs::Refusals::first_refusal))]
 pub fn first_refusal(model: &Catalog, edit: &Edit) -> Option<Refusal>

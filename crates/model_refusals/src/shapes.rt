@@ -34,7 +34,8 @@ pub(crate) fn meets_function_shape(model: &Catalog, edit: &Edit) -> bool
     }
 }
 
-/// Whether a new vector set's dimension isn't the number of components, is 0, or is 1 for a norm cone.
+/// Whether a new vector set's dimension isn't the number of components, is 0, or is 1 for a norm
+/// cone.
 pub(crate) fn meets_bad_dimension(model: &Catalog, edit: &Edit) -> bool
     ensures { result ≡ meets_bad_dimension model.now.model edit.now }
 {

@@ -13,8 +13,9 @@ const AT_ONCE: usize = 16_384;
 
 /// Whether some name stands twice.
 ///
-/// A name is compared with those before it only where their marks have its hash. Of n names it makes n² / 16,384 hashes and
-/// about as many comparisons, and n hashes up to 16,384 names; n² / 2 comparisons at worst, where most hashes are equal.
+/// A name is compared with those before it only where their marks have its hash. Of n names it
+/// makes n² / 16,384 hashes and about as many comparisons, and n hashes up to 16,384 names; n² / 2
+/// comparisons at worst, where most hashes are equal.
 pub(crate) fn has_twins(names: &Names) -> bool
     ensures { result ≡ has_twins names.now }
 {
@@ -32,8 +33,8 @@ pub(crate) fn has_twins(names: &Names) -> bool
 
 // Whether a name whose hash is of this part stands twice.
 //
-// A set of the names would take memory, and checking an edit takes none. So hashes are marked on the stack: a mark says that
-// a name may have stood before, and then the names decide.
+// A set of the names would take memory, and checking an edit takes none. So hashes are marked on
+// the stack: a mark says that a name may have stood before, and then the names decide.
 fn has_twins_in(names: &Names, part: u64, parts: u64) -> bool
     requires { 0 < parts }
     ensures some { result ≡ true → has_twins names.now ≡ true }
@@ -54,7 +55,8 @@ fn has_twins_in(names: &Names, part: u64, parts: u64) -> bool
     false
 }
 
-// Equal names have one hash. The factor is 2^64 over the golden ratio, so names that differ in a number have hashes far apart.
+// Equal names have one hash. The factor is 2^64 over the golden ratio, so names that differ in a
+// number have hashes far apart.
 pub(crate) fn hash_of(name: &Name) -> u64
     ensures { result ≡ hash_of name.now }
 {

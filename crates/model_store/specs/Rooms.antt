@@ -33,14 +33,18 @@ pub record IsParked (parked : List Parked) (names : NameCounts) (room : Room) : 
   pub rows : names.rows ≤ room.row_names
 
 -- there is room for the plan, and for an entry of its undo
-pub record IsReserved (plan : Plan) (names : NameCounts) (reserved : Reserved) (catalog : Catalog) : Type 0 where
+pub record IsReserved (plan : Plan) (names : NameCounts) (reserved : Reserved)
+    (catalog : Catalog) : Type 0 where
   pub groups : reserved.groups ≡ length catalog.model.groups + length plan.exchange.groups.items
   pub rows : reserved.rows ≡ length catalog.model.rows + length plan.exchange.rows.items
   pub group_room : reserved.groups ≤ catalog.room.groups
   pub row_room : reserved.rows ≤ catalog.room.rows
-  pub variable_room : length (variables catalog.model) + length plan.names.variables.items ≤ catalog.room.variables
-  pub variable_names : reserved.names.variables ≡ names.variables + length plan.names.variables.items
+  pub variable_room : length (variables catalog.model) + length plan.names.variables.items
+      ≤ catalog.room.variables
+  pub variable_names : reserved.names.variables
+      ≡ names.variables + length plan.names.variables.items
   pub row_names : reserved.names.rows ≡ names.rows + length plan.names.rows.items
-  pub variable_name_room : reserved.names.variables + length plan.names.variables.items ≤ catalog.room.variable_names
+  pub variable_name_room : reserved.names.variables + length plan.names.variables.items
+      ≤ catalog.room.variable_names
   pub row_name_room : reserved.names.rows + length plan.names.rows.items ≤ catalog.room.row_names
   pub fits : length plan.names.variables.items + length plan.names.variables.items < 2 ^ 64

@@ -1,4 +1,5 @@
--- What contracts see of the user's model as it is stored: the model, and an entry for each undo that may still be taken back.
+-- What contracts see of the user's model as it is stored: the model, and an entry for each undo
+-- that may still be taken back.
 use Rattle.std.specs.Prelude.{◌≡◌, ℕ, ◌+◌, ◌≤◌, List, [], ◌∷◌, ◌++◌, Option, Some, None, find, length, refl}
 use Rattle.std.specs.Option.{option_map}
 use Rattle.std.specs.Coded.{Coded, code_by, coded×, coded_list}
@@ -26,10 +27,11 @@ pub record Stored : Type 0 where
 
 abbrev pub stored_code : Coded Stored
 stored_code =
-    code_by (ModelValue × List Parked) (coded× model_code (coded_list (parked.the_row).coded)) (λ s. (s.model, s.parked)) (λ p. record { model = p.0; parked = p.1 }) (λ _. refl)
+    code_by (ModelValue × List Parked) (coded× model_code (coded_list (parked.the_row).coded))
+    (λ s. (s.model, s.parked)) (λ p. record { model = p.0; parked = p.1 }) (λ _. refl)
 
--- the entry is this undo's, as the model stands: the undo lists groups and rows in order, and the entry has the names that it
--- puts back, and lengths that are enough for it
+-- the entry is this undo's, as the model stands: the undo lists groups and rows in order, and the
+-- entry has the names that it puts back, and lengths that are enough for it
 pub record IsEntryOf (entry : Parked) (model : ModelValue) (undo : Undo) : Type 0 where
   pub group_changes : AreChanges group_number undo.groups
   pub row_changes : AreChanges row_number undo.rows
@@ -39,7 +41,8 @@ pub record IsEntryOf (entry : Parked) (model : ModelValue) (undo : Undo) : Type 
   pub variables : length (variables model) + put_count entry.names.variables.items ≤ entry.variables
 
 -- the longer list has one entry more, last, and that is this undo's as the model stands
-pub record HasParked (shorter longer : List Parked) (model : ModelValue) (undo : Undo) : Type 0 where
+pub record HasParked (shorter longer : List Parked) (model : ModelValue)
+    (undo : Undo) : Type 0 where
   pub entry : Parked
   pub last : longer ≡ shorter ++ entry ∷ []
   pub is : IsEntryOf entry model undo

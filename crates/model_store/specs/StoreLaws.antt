@@ -8,14 +8,23 @@ use Rattle.model_store.specs.Store.{HasParked, IsButLast, IsLastOf}
 
 same_front : (xs ys : List Parked) (x y : Parked) → xs ++ x ∷ [] ≡ ys ++ y ∷ [] → xs ≡ ys
 same_front [] [] x y e = refl
-same_front [] (z ∷ ys) x y e = let long = ap length e in absurd (omega (arith, long, length-append ys (y ∷ [])))
-same_front (w ∷ xs) [] x y e = let long = ap length e in absurd (omega (arith, long, length-append xs (x ∷ [])))
-same_front (w ∷ xs) (z ∷ ys) x y e = let first : w ≡ z = cc in let rest : xs ++ x ∷ [] ≡ ys ++ y ∷ [] = cc in let same = same_front xs ys x y rest in cc
+same_front [] (z ∷ ys) x y e =
+    let long = ap length e in absurd (omega (arith, long, length-append ys (y ∷ [])))
+same_front (w ∷ xs) [] x y e =
+    let long = ap length e in absurd (omega (arith, long, length-append xs (x ∷ [])))
+same_front (w ∷ xs) (z ∷ ys) x y e =
+    let first : w ≡ z = cc
+    in let rest : xs ++ x ∷ [] ≡ ys ++ y ∷ [] = cc in let same = same_front xs ys x y rest in cc
 
 -- the entries that are left are those before the last was parked
-pub left_front : (shorter longer left : List Parked) (model : ModelValue) (undo : Undo) → HasParked shorter longer model undo → IsButLast left longer → left ≡ shorter
-left_front shorter longer left model undo h but = same_front left shorter but.0 h.entry (sym but.1 ∙ h.last)
+pub left_front : (shorter longer left : List Parked) (model : ModelValue) (undo : Undo)
+    → HasParked shorter longer model undo → IsButLast left longer → left ≡ shorter
+left_front shorter longer left model undo h but =
+    same_front left shorter but.0 h.entry (sym but.1 ∙ h.last)
 
 -- an entry is last again where the one parked after it is taken out
-pub last_again : (others shorter longer left : List Parked) (old new : ModelValue) (undo later : Undo) → HasParked others shorter old undo → HasParked shorter longer new later → IsButLast left longer → HasParked others left old undo
-last_again others shorter longer left old new undo later h next but = subst (λ ps. HasParked others ps old undo) (sym (left_front shorter longer left new later next but)) h
+pub last_again : (others shorter longer left : List Parked) (old new : ModelValue)
+    (undo later : Undo) → HasParked others shorter old undo → HasParked shorter longer new later
+    → IsButLast left longer → HasParked others left old undo
+last_again others shorter longer left old new undo later h next but = subst
+    (λ ps. HasParked others ps old undo) (sym (left_front shorter longer left new later next but)) h

@@ -22,8 +22,8 @@ pub(crate) struct NameCounts {
     pub(crate) rows: usize,
 }
 
-/// What there is room for: the names that are put back with one undo more, and the lengths of the lists of groups and of rows
-/// on its way.
+/// What there is room for: the names that are put back with one undo more, and the lengths of the
+/// lists of groups and of rows on its way.
 #[derive(Clone, Copy)]
 pub(crate) struct Reserved {
     pub(crate) names: NameCounts,
@@ -31,8 +31,8 @@ pub(crate) struct Reserved {
     pub(crate) rows: usize,
 }
 
-/// Makes room for a plan, for its undo, and for the entry of that: for the plan's own names beside those that the undos put back,
-/// its own among them.
+/// Makes room for a plan, for its undo, and for the entry of that: for the plan's own names beside
+/// those that the undos put back, its own among them.
 pub(crate) fn reserve(
     catalog: &mut Catalog,
     parked: &mut Vec<Parked>,
@@ -73,7 +73,8 @@ fn total(one: usize, other: usize) -> Result<usize, Memory>
     one.checked_add(other).ok_or(Memory)
 }
 
-/// Makes the planned exchange, parks the entry of its undo last, and gives the undo. It takes no memory.
+/// Makes the planned exchange, parks the entry of its undo last, and gives the undo. It takes no
+/// memory.
 pub(crate) fn park(
     catalog: &mut Catalog,
     parked: &mut Vec<Parked>,

@@ -24,8 +24,8 @@ use user_model::{ApplyFault, Edit, Group, Objective, Refusal, Row, Undo};
 
 /// The user's model, and what is kept to take back its last edits.
 ///
-/// Contracts see the model, and beside it the list of what is parked: an entry for each undo that is neither taken back nor
-/// settled, the latest last.
+/// Contracts see the model, and beside it the list of what is parked: an entry for each undo that
+/// is neither taken back nor settled, the latest last.
 #[derive(Drop)]
 pub struct UserModel {
     alloc: Global,
@@ -124,8 +124,8 @@ impl UserModel {
 
     /// Makes an edit, and gives what leads back from it: `take_back` or `settle` is to have it.
     ///
-    /// It is refused with the first refusal in their order. `Memory` comes after all of these, and before anything changes:
-    /// whatever isn't made leaves everything as it was.
+    /// It is refused with the first refusal in their order. `Memory` comes after all of these, and
+    /// before anything changes: whatever isn't made leaves everything as it was.
     pub fn apply(&mut self, edit: Edit) -> Result<Undo, ApplyFault>
         ensures ok { IfOk result (λ undo. refusals.first_refusal self.old.model edit ≡ None) }
         ensures model { IfOk result (λ undo. self.new.model ≡ edited self.old.model edit) }
@@ -141,7 +141,8 @@ impl UserModel {
         if let Some(refusal) = first_refusal(&self.catalog, &edit) {
             return Err(ApplyFault::Refused(refusal));
         }
-        // The plan asks for a consistent model within its limits, and the reader says that the kept one is. It costs nothing.
+        // The plan asks for a consistent model within its limits, and the reader says that the kept
+        // one is. It costs nothing.
         let _ = self.catalog.groups();
         let Ok(plan) = planned(self.alloc, &self.catalog, edit) else {
             return Err(ApplyFault::Memory);
@@ -160,7 +161,8 @@ impl UserModel {
         Ok(undo)
     }
 
-    /// Takes the last edit back that was not yet taken back or settled, whose undo this is. It takes no memory.
+    /// Takes the last edit back that was not yet taken back or settled, whose undo this is. It
+    /// takes no memory.
     pub fn take_back(&mut self, undo: Undo)
         requires last { (others : List Parked) × HasParked others self.old.parked self.old.model
             undo }
@@ -172,8 +174,8 @@ impl UserModel {
         self.catalog.exchange(&mut Exchange::from(undo), &mut names);
     }
 
-    /// Lets the last edit that was not yet taken back or settled stand for good, whose undo this is. Of several that wait the
-    /// last is settled first, whatever the model is by then.
+    /// Lets the last edit that was not yet taken back or settled stand for good, whose undo this
+    /// is. Of several that wait the last is settled first, whatever the model is by then.
     pub fn settle(&mut self, undo: Undo)
         requires { IsLastOf self.old.parked undo }
         ensures model { self.new.model ≡ self.old.model }

@@ -18,7 +18,8 @@ pub record Numbering : Type 0 where
 -- a numbering is stored as the pair of its fields
 abbrev pub numbering_code : Coded Numbering
 numbering_code =
-    code_by (Numbers × ℕ) (coded× (map.code (coded_list coded_ℕ) coded_ℕ) coded_ℕ) (λ t. (t.numbers, t.spare)) (λ p. record { numbers = p.0; spare = p.1 }) (λ _. refl)
+    code_by (Numbers × ℕ) (coded× (map.code (coded_list coded_ℕ) coded_ℕ) coded_ℕ)
+    (λ t. (t.numbers, t.spare)) (λ p. record { numbers = p.0; spare = p.1 }) (λ _. refl)
 
 -- no name has the number
 abbrev pub IsFree : Numbers → ℕ → Type 0
@@ -30,7 +31,8 @@ IsOneToOne numbers =
     (one other : List ℕ) (id : ℕ) → map.get numbers one ≡ Some id → map.get numbers other ≡ Some id
     → one ≡ other
 
--- the answer is a name exactly where the name has the number: what looking up a number gives, the other way round
+-- the answer is a name exactly where the name has the number: what looking up a number gives, the
+-- other way round
 abbrev pub IsNameAt : Numbers → ℕ → Option (List ℕ) → Type 0
 IsNameAt numbers id answer =
     (name : List ℕ) → (answer ≡ Some name) ↔ (map.get numbers name ≡ Some id)

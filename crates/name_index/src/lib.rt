@@ -1,4 +1,5 @@
-//! Names of variables and rows: the text of a name, its escapes in a script, and a one-to-one table of names and numbers.
+//! Names of variables and rows: the text of a name, its escapes in a script, and a one-to-one table
+//! of names and numbers.
 #![tactic(auto)]
 
 mod name;

@@ -14,7 +14,8 @@ use std::hash::{Hash, Hasher};
 use std::marker::Model;
 use thiserror::Error;
 
-/// What escaping writes as `%XX`, beside the bytes past ASCII: the controls, the space and the percent sign.
+/// What escaping writes as `%XX`, beside the bytes past ASCII: the controls, the space and the
+/// percent sign.
 const ESCAPED: AsciiSet = ascii_set!(CONTROLS.add(b' ').add(b'%'));
 
 /// A name of a variable or a row: UTF-8 text of 1 to 4,096 bytes, which contracts see as its bytes.
@@ -89,8 +90,9 @@ impl Name {
         self.text.as_str()
     }
 
-    /// The name that a token of a script stands for: `%XX` is the byte with these hexadecimal digits, and any other
-    /// `%` stands for itself. There is none exactly where the decoded bytes aren't UTF-8 or not 1 to 4,096.
+    /// The name that a token of a script stands for: `%XX` is the byte with these hexadecimal
+    /// digits, and any other `%` stands for itself. There is none exactly where the decoded bytes
+    /// aren't UTF-8 or not 1 to 4,096.
     pub fn unescape(alloc: Global, token: &[u8]) -> Result<Option<Name>, Memory>
         ensures value { IfOk result (λ found. found ≡ name_of_token token.now) }
         ensures is_name { IfOk result (λ found. IfSome found IsName) }
@@ -106,8 +108,8 @@ impl Name {
         }
     }
 
-    /// The name as a token of a script: the bytes 0 to 32, 127, `%` and every byte past 127 become `%XX` in upper
-    /// case. A token so written reads back as the name.
+    /// The name as a token of a script: the bytes 0 to 32, 127, `%` and every byte past 127 become
+    /// `%XX` in upper case. A token so written reads back as the name.
     pub fn escape(&self) -> Result<Text, Memory>
         ensures value { IfOk result (λ token. token ≡ escaped self.now) }
         ensures is_name { IsName self.now }

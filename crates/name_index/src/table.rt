@@ -10,8 +10,9 @@ use std::marker::Model;
 
 /// Names with their numbers, where no two names have one number.
 ///
-/// Contracts see the finite map from names to numbers, and beside it how many names can still be added without memory.
-/// Looking up a name or a number and removing one cost the same however many names there are.
+/// Contracts see the finite map from names to numbers, and beside it how many names can still be
+/// added without memory. Looking up a name or a number and removing one cost the same however many
+/// names there are.
 #[derive(Debug, Drop)]
 pub struct NameTable {
     numbers: IndexMap<Name, u32>,
@@ -31,7 +32,10 @@ impl Model for NameTable {
 
     ghost coded = { numbering_code };
 
-    ghost view = { λ t. record { numbers = map.from_entries t.numbers.entries; spare = min (spare t.numbers) (set_spare t.places) } };
+    ghost view = { λ t. record {
+      numbers = map.from_entries t.numbers.entries;
+      spare = min (spare t.numbers) (set_spare t.places);
+    } };
 
     ghost invariant = { λ t. InStep t.numbers.entries t.places.keys };
 }
@@ -60,8 +64,8 @@ impl NameTable {
         Ok(())
     }
 
-    /// Adds a name with its number, neither of which may be there. Without memory the name comes back and the table is
-    /// as it was. With `spare` above 0 it can't be refused.
+    /// Adds a name with its number, neither of which may be there. Without memory the name comes
+    /// back and the table is as it was. With `spare` above 0 it can't be refused.
     pub fn add(&mut self, name: Name, id: u32) -> Result<(), (Name, Memory)>
         requires name_free { map.get self.old.numbers name ≡ None }
         requires id_free { IsFree self.old.numbers id }
@@ -105,7 +109,8 @@ impl NameTable {
         Some(name)
     }
 
-    /// Takes out the name with a number, and gives it back. There is none where the number isn't there.
+    /// Takes out the name with a number, and gives it back. There is none where the number isn't
+    /// there.
     pub fn remove(&mut self, id: u32) -> Option<Name>
         ensures value { IsNameAt self.old.numbers id result }
         ensures removed { IfSome result (λ name. self.new.numbers

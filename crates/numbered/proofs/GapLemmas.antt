@@ -1,5 +1,5 @@
 -- What stands at a number, and what is set there, where the numbers before are below it and those behind above it.
-use Rattle.std.specs.Prelude.{◌≡◌, ℕ, ◌<◌, ◌≤◌, List, [], ◌∷◌, ◌++◌, Option, Some, None, All, IsNone, filter, length, nat_lt, reverse, ◌==◌, refl}
+use Rattle.std.specs.Prelude.{◌≡◌, ℕ, ◌<◌, ◌≤◌, List, [], ◌∷◌, ◌++◌, Option, Some, None, All, IsNone, length, nat_lt, reverse, ◌==◌, refl}
 use Rattle.std.specs.Option.{option_or, option_to_list}
 use Rattle.std.proofs.Common.{arith, sym, ap, ap₂, subst, ◌∙◌}
 use Rattle.std.proofs.lemmas.List.{append_assoc, append-nil, length-append, reverse-append}

@@ -1,4 +1,5 @@
--- Lists of numbered items with a gap: those before it, and those behind it, which stand aside, the last of them first.
+-- Lists of numbered items with a gap: those before it, and those behind it, which stand aside, the
+-- last of them first.
 use Rattle.std.specs.Prelude.{ℕ, ◌<◌, List, ◌++◌, All, reverse}
 
 -- all items in their order

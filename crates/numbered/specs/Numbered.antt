@@ -24,7 +24,8 @@ module _ {X : Type 0} (number_of : X → ℕ) where
   abbrev pub IsAt : ℕ → Option X → Type 0
   IsAt n new = IfSome new (λ x. number_of x ≡ n)
 
-  -- what is to stand at the number n, if anything is, between the items of lesser and of greater numbers
+  -- what is to stand at the number n, if anything is, between the items of lesser and of greater
+  -- numbers
   unfoldable pub set_at : ℕ → Option X → List X → List X
   set_at n new xs = below n xs ++ (option_to_list new ++ above n xs)
 

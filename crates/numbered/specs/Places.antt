@@ -3,7 +3,8 @@ use Rattle.std.specs.Prelude.{◌≡◌, ℕ, ◌+◌, ◌<◌, ◌≤◌, List,
 use Rattle.numbered.specs.Numbered.{find, below, above}
 
 module _ {X : Type 0} (number_of : X → ℕ) where
-  -- the item with the number n stands at place i, after all of lesser numbers and before all of greater ones
+  -- the item with the number n stands at place i, after all of lesser numbers and before all of
+  -- greater ones
   pub record IsFoundAt (n : ℕ) (xs : List X) (i : ℕ) : Type 0 where
     pub in_range : i < length xs
     pub found : find number_of n xs ≡ slice_get xs i

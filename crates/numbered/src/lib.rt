@@ -1,4 +1,5 @@
-//! Lists of numbered items in the order of their numbers, and exchanges of what stands at some numbers.
+//! Lists of numbered items in the order of their numbers, and exchanges of what stands at some
+//! numbers.
 #![tactic(auto)]
 
 mod change;

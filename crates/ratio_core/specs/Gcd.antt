@@ -36,21 +36,26 @@ gcd_swap a b = same_from_IsGcd a b _ _ (gcd_is a b) (IsGcd-swap b a _ (gcd_is b 
 mod-scaled : (k a b : ℕ) → 0 < k → (k * a) % (k * b) ≡ k * (a % b)
 mod-scaled k a b h =
     let parts : k * (b * (a / b) + a % b) ≡ k * a = ap (λ x. k * x) (div-add-mod a b) in
-    let whole : (k * b) * ((k * a) / (k * b)) + (k * a) % (k * b) ≡ k * a = div-add-mod (k * a) (k * b) in
+    let whole : (k * b) * ((k * a) / (k * b)) + (k * a) % (k * b) ≡ k * a =
+    div-add-mod (k * a) (k * b) in
     let same : (k * a) / (k * b) ≡ a / b = mul-div-mul_left a b h in
-    let whole' : (k * b) * (a / b) + (k * a) % (k * b) ≡ k * a = subst (λ q. (k * b) * q + (k * a) % (k * b) ≡ k * a) same whole in
+    let whole' : (k * b) * (a / b) + (k * a) % (k * b) ≡ k * a =
+    subst (λ q. (k * b) * q + (k * a) % (k * b) ≡ k * a) same whole in
     omega (arith, parts, whole')
 
 gcd_step : (fuel a b : ℕ) → 0 < b → gcd_within (suc fuel) a b ≡ gcd_within fuel b (a % b)
 gcd_step fuel a zero h = absurd (omega arith)
 gcd_step fuel a (suc b) h = refl
 
-gcd_within-scaled : (fuel k a b : ℕ) → 0 < k → gcd_within fuel (k * a) (k * b) ≡ k * gcd_within fuel a b
+gcd_within-scaled : (fuel k a b : ℕ) → 0 < k
+    → gcd_within fuel (k * a) (k * b) ≡ k * gcd_within fuel a b
 gcd_within-scaled zero k a b h = refl
 gcd_within-scaled (suc fuel) k a zero h = ap (gcd_within (suc fuel) (k * a)) (mul-zero k)
 gcd_within-scaled (suc fuel) k a (suc b) h =
     let room : 0 < k * suc b = mul_pos_lem k b h in
-    gcd_step fuel (k * a) (k * suc b) room ∙ ap (gcd_within fuel (k * suc b)) (mod-scaled k a (suc b) h) ∙ gcd_within-scaled fuel k (suc b) (a % suc b) h
+    gcd_step fuel (k * a) (k * suc b) room
+    ∙ ap (gcd_within fuel (k * suc b)) (mod-scaled k a (suc b) h)
+    ∙ gcd_within-scaled fuel k (suc b) (a % suc b) h
   where
     mul_pos_lem : (k b : ℕ) → 0 < k → 0 < k * suc b
     mul_pos_lem k b h = omega arith
@@ -72,7 +77,8 @@ gcd-scaled k a b h =
 pub dvd_from_coprime : (a b c : ℕ) → gcd a b ≡ 1 → b ∣ c * a → b ∣ c
 dvd_from_coprime a b zero e h = dvd-zero b
 dvd_from_coprime a b (suc c) e h =
-    let g : gcd (suc c * a) (suc c * b) ≡ suc c = gcd-scaled (suc c) a b (omega arith) ∙ ap (λ x. suc c * x) e ∙ one_lem (suc c) in
+    let g : gcd (suc c * a) (suc c * b) ≡ suc c = gcd-scaled (suc c) a b (omega arith)
+    ∙ ap (λ x. suc c * x) e ∙ one_lem (suc c) in
     subst (λ x. b ∣ x) g ((gcd_is (suc c * a) (suc c * b)).2 b h (dvd-mul_left b (suc c)))
   where
     one_lem : (n : ℕ) → n * 1 ≡ n
@@ -87,8 +93,10 @@ coprime_parts a b h =
     let g : ℕ = gcd a b in
     let left : g * (a / g) ≡ a = mul-div_cancel' g (gcd_is a b).0 in
     let right : g * (b / g) ≡ b = mul-div_cancel' g (gcd_is a b).1 in
-    let scaled : gcd (g * (a / g)) (g * (b / g)) ≡ g * gcd (a / g) (b / g) = gcd-scaled g (a / g) (b / g) (gcd_pos a b h) in
-    let whole : g ≡ g * gcd (a / g) (b / g) = sym (ap (λ x. gcd x (g * (b / g))) left ∙ ap (gcd a) right) ∙ scaled in
+    let scaled : gcd (g * (a / g)) (g * (b / g)) ≡ g * gcd (a / g) (b / g) =
+    gcd-scaled g (a / g) (b / g) (gcd_pos a b h) in
+    let whole : g ≡ g * gcd (a / g) (b / g) =
+    sym (ap (λ x. gcd x (g * (b / g))) left ∙ ap (gcd a) right) ∙ scaled in
     one_lem g (gcd (a / g) (b / g)) (gcd_pos a b h) whole
   where
     one_lem : (g x : ℕ) → 0 < g → g ≡ g * x → x ≡ 1

@@ -1,7 +1,8 @@
 -- The rational numbers: what every number of the product is.
 --
--- A `Rational` is a pair of whole numbers in lowest terms, with a positive denominator. So there is one value for each
--- number, and `≡` is equality of numbers. No width is spoken of but by `Fits` and `SumFits`.
+-- A `Rational` is a pair of whole numbers in lowest terms, with a positive denominator. So there is
+-- one value for each number, and `≡` is equality of numbers. No width is spoken of but by `Fits`
+-- and `SumFits`.
 --     reduce n d                 n over d in lowest terms, and 0 where d is 0
 --     fraction n d               the same, where d may be negative
 --     +ℚ *ℚ -ℚ /ℚ neg_ℚ inverse_ℚ          the field, with 0 for the inverse of 0
@@ -35,7 +36,8 @@ pub same_parts : (p q : Rational) → rational_parts p ≡ rational_parts q → 
 same_parts p q e = λ i. record {
   num = (e i).0;
   den = (e i).1;
-  reduced = is_prop→PathP (λ j. IsReduced (e j).0 (e j).1) (λ j. ×_prop le_prop (ℕ_set _ _)) p.reduced q.reduced i;
+  reduced = is_prop→PathP (λ j. IsReduced (e j).0 (e j).1) (λ j. ×_prop le_prop (ℕ_set _ _))
+      p.reduced q.reduced i;
 }
 
 -- a number's code is that of its parts
@@ -71,15 +73,24 @@ unsigned_abs-int_div : (n : ℤ) (g : ℕ) → unsigned_abs (int_div n (pos g)) 
 unsigned_abs-int_div (pos n) g = refl
 unsigned_abs-int_div (negsuc n) g = unsigned_abs-neg (suc n / g)
 
-pub lowest_terms : (n : ℤ) (d : ℕ) → 0 < d → IsReduced (int_div n (pos (gcd (unsigned_abs n) d))) (d / gcd (unsigned_abs n) d)
-lowest_terms n d h = (part_pos (unsigned_abs n) d h, ap (λ m. gcd m (d / gcd (unsigned_abs n) d)) (unsigned_abs-int_div n (gcd (unsigned_abs n) d)) ∙ coprime_parts (unsigned_abs n) d h)
+pub lowest_terms : (n : ℤ) (d : ℕ) → 0 < d
+    → IsReduced (int_div n (pos (gcd (unsigned_abs n) d))) (d / gcd (unsigned_abs n) d)
+lowest_terms n d h = (
+  part_pos (unsigned_abs n) d h,
+  ap (λ m. gcd m (d / gcd (unsigned_abs n) d))
+      (unsigned_abs-int_div n (gcd (unsigned_abs n) d)) ∙ coprime_parts (unsigned_abs n) d h,
+)
 
 -- n over d in lowest terms, and 0 where d is 0
 unfoldable pub reduce : ℤ → ℕ → Rational
 reduce n zero = zero_ℚ
 reduce n (suc d) =
     let common = gcd (unsigned_abs n) (suc d) in
-    record { num = int_div n (pos common); den = suc d / common; reduced = lowest_terms n (suc d) (zero-lt-suc d) }
+    record {
+      num = int_div n (pos common);
+      den = suc d / common;
+      reduced = lowest_terms n (suc d) (zero-lt-suc d);
+    }
 
 -- the same, where d may be negative
 unfoldable pub fraction : ℤ → ℤ → Rational
@@ -144,7 +155,8 @@ pub record Fits (q : Rational) : Type 0 where
 unfoldable pub fits : Rational → Bool
 fits q = nat_lt (unsigned_abs q.num) (2 ^ 127) && nat_lt q.den (2 ^ 127)
 
--- the steps of a sum a/b + c/d: with g = gcd(b, d) the terms are a*(d/g) and c*(b/g), with the sum s
+-- the steps of a sum a/b + c/d: with g = gcd(b, d) the terms are a*(d/g) and c*(b/g), with the sum
+-- s
 unfoldable pub common_divisor : Rational → Rational → ℕ
 common_divisor p q = gcd p.den q.den
 
@@ -160,7 +172,8 @@ sum_of_terms p q = left_term p q +ℤ right_term p q
 -- (b/g) * (d/h), where h = gcd(s, g)
 unfoldable pub sum_denominator : Rational → Rational → ℕ
 sum_denominator p q =
-    (p.den / common_divisor p q) * (q.den / gcd (unsigned_abs (sum_of_terms p q)) (common_divisor p q))
+    (p.den / common_divisor p q)
+    * (q.den / gcd (unsigned_abs (sum_of_terms p q)) (common_divisor p q))
 
 -- each step of the sum is at most 2^127-1 in magnitude
 pub record SumFits (p q : Rational) : Type 0 where
@@ -171,7 +184,8 @@ pub record SumFits (p q : Rational) : Type 0 where
 
 unfoldable pub sum_fits : Rational → Rational → Bool
 sum_fits p q =
-    nat_lt (unsigned_abs (left_term p q)) (2 ^ 127) && nat_lt (unsigned_abs (right_term p q)) (2 ^ 127)
+    nat_lt (unsigned_abs (left_term p q)) (2 ^ 127)
+    && nat_lt (unsigned_abs (right_term p q)) (2 ^ 127)
     && nat_lt (unsigned_abs (sum_of_terms p q)) (2 ^ 127) && nat_lt (sum_denominator p q) (2 ^ 127)
 
 -- ---- how a number is kept

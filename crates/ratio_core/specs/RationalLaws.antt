@@ -1,5 +1,5 @@
--- The laws of the rational numbers that every user needs: equal parts and equal cross products make equal numbers, and
--- the order is total.
+-- The laws of the rational numbers that every user needs: equal parts and equal cross products make
+-- equal numbers, and the order is total.
 use Rattle.std.specs.Prelude.{◌≡◌, ℕ, zero, suc, ◌+◌, ◌*◌, ◌/◌, ◌^◌, ◌<◌, true, false, ℤ, pos, negsuc, ◌*ℤ◌, neg_ℤ, ◌<ℤ◌, int_div, unsigned_abs, Decides, refl}
 use Rattle.std.specs.Cmp.{int_ranks, IsTotalOrder, one_rank, strict, eq_by_cmp_equiv, IsEquivalence, IsPartialEquivalence, partial_equiv_from_equiv, IsPartialOrder, partial_order_from_total}
 use Rattle.std.specs.FinMap.{IsAntisymmetric}
@@ -34,7 +34,8 @@ swap_times z a b = times_times z a b ∙ ap (λ k. z *ℤ pos k) (swap_lem a b) 
 
 pub cancel_times : (y z : ℤ) (d : ℕ) → 0 < d → y *ℤ pos d ≡ z *ℤ pos d → y ≡ z
 cancel_times y z d h e =
-    same_in y z (cancel_lem (up y) (down y) (up z) (down z) d h (omega (arith, same_out _ _ e, times_is y d, times_is z d)))
+    same_in y z (cancel_lem (up y) (down y) (up z) (down z) d h
+    (omega (arith, same_out _ _ e, times_is y d, times_is z d)))
   where
     cancel_lem : (a b c e d : ℕ) → 0 < d → a * d + e * d ≡ c * d + b * d → a + e ≡ c + b
     cancel_lem a b c e d h k =
@@ -46,11 +47,18 @@ cancel_times y z d h e =
 -- equal cross products make equal numbers
 pub same_from_cross : (p q : Rational) → p.num *ℤ pos q.den ≡ q.num *ℤ pos p.den → p ≡ q
 same_from_cross p q e =
-    let sizes : unsigned_abs p.num * q.den ≡ unsigned_abs q.num * p.den = sym (unsigned_abs-mul p.num (pos q.den)) ∙ ap unsigned_abs e ∙ unsigned_abs-mul q.num (pos p.den) in
-    let forth : p.den ∣ q.den = dvd_from_coprime (unsigned_abs p.num) p.den q.den p.reduced.1 (subst (λ x. p.den ∣ x) (sym sizes ∙ swap_lem _ _) (dvd-mul_left p.den (unsigned_abs q.num))) in
-    let back : q.den ∣ p.den = dvd_from_coprime (unsigned_abs q.num) q.den p.den q.reduced.1 (subst (λ x. q.den ∣ x) (sizes ∙ swap_lem _ _) (dvd-mul_left q.den (unsigned_abs p.num))) in
+    let sizes : unsigned_abs p.num * q.den ≡ unsigned_abs q.num * p.den = sym
+    (unsigned_abs-mul p.num (pos q.den)) ∙ ap unsigned_abs e
+    ∙ unsigned_abs-mul q.num (pos p.den) in
+    let forth : p.den ∣ q.den = dvd_from_coprime (unsigned_abs p.num) p.den q.den p.reduced.1
+    (subst (λ x. p.den ∣ x) (sym sizes ∙ swap_lem _ _)
+    (dvd-mul_left p.den (unsigned_abs q.num))) in
+    let back : q.den ∣ p.den = dvd_from_coprime (unsigned_abs q.num) q.den p.den q.reduced.1
+    (subst (λ x. q.den ∣ x) (sizes ∙ swap_lem _ _)
+    (dvd-mul_left q.den (unsigned_abs p.num))) in
     let dens : p.den ≡ q.den = dvd_antisymm forth back in
-    let nums : p.num ≡ q.num = cancel_times p.num q.num q.den q.reduced.0 (e ∙ ap (λ d. q.num *ℤ pos d) dens) in
+    let nums : p.num ≡ q.num =
+    cancel_times p.num q.num q.den q.reduced.0 (e ∙ ap (λ d. q.num *ℤ pos d) dens) in
     same_parts p q (λ i. (nums i, dens i))
   where
     swap_lem : (a b : ℕ) → a * b ≡ b * a
@@ -64,9 +72,11 @@ neg_times (suc x) g = refl
 
 int_div-exact : (n : ℤ) (g : ℕ) → g ∣ unsigned_abs n → int_div n (pos g) *ℤ pos g ≡ n
 int_div-exact (pos n) g h = ap pos (div-mul_cancel g h)
-int_div-exact (negsuc n) g h = neg_times (suc n / g) g ∙ ap (λ x. neg_ℤ (pos x)) (div-mul_cancel g h)
+int_div-exact (negsuc n) g h = neg_times (suc n / g) g
+    ∙ ap (λ x. neg_ℤ (pos x)) (div-mul_cancel g h)
 
-pub reduce-num : (n : ℤ) (d : ℕ) → 0 < d → (reduce n d).num ≡ int_div n (pos (gcd (unsigned_abs n) d))
+pub reduce-num : (n : ℤ) (d : ℕ) → 0 < d
+    → (reduce n d).num ≡ int_div n (pos (gcd (unsigned_abs n) d))
 unfolding reduce
 reduce-num n zero h = absurd (omega arith)
 reduce-num n (suc d) h = refl
@@ -77,10 +87,14 @@ reduce-den n zero h = absurd (omega arith)
 reduce-den n (suc d) h = refl
 
 -- the parts in lowest terms, times the greatest common divisor, are the parts given
-pub reduce_parts : (n : ℤ) (d : ℕ) → 0 < d → ((reduce n d).num *ℤ pos (gcd (unsigned_abs n) d) ≡ n) × ((reduce n d).den * gcd (unsigned_abs n) d ≡ d)
+pub reduce_parts : (n : ℤ) (d : ℕ) → 0 < d
+    → ((reduce n d).num *ℤ pos (gcd (unsigned_abs n) d) ≡ n)
+    × ((reduce n d).den * gcd (unsigned_abs n) d ≡ d)
 reduce_parts n d h = (
-  ap (λ x. x *ℤ pos (gcd (unsigned_abs n) d)) (reduce-num n d h) ∙ int_div-exact n _ (gcd_is (unsigned_abs n) d).0,
-  ap (λ x. x * gcd (unsigned_abs n) d) (reduce-den n d h) ∙ div-mul_cancel _ (gcd_is (unsigned_abs n) d).1,
+  ap (λ x. x *ℤ pos (gcd (unsigned_abs n) d)) (reduce-num n d h)
+      ∙ int_div-exact n _ (gcd_is (unsigned_abs n) d).0,
+  ap (λ x. x * gcd (unsigned_abs n) d) (reduce-den n d h)
+      ∙ div-mul_cancel _ (gcd_is (unsigned_abs n) d).1,
 )
 
 pub reduce_cross : (n : ℤ) (d : ℕ) → 0 < d → (reduce n d).num *ℤ pos d ≡ n *ℤ pos (reduce n d).den
@@ -88,13 +102,15 @@ reduce_cross n d h =
     let g : ℕ = gcd (unsigned_abs n) d in
     let r : Rational = reduce n d in
     let parts : (r.num *ℤ pos g ≡ n) × (r.den * g ≡ d) = reduce_parts n d h in
-    ap (λ x. r.num *ℤ pos x) (sym parts.1 ∙ swap_lem r.den g) ∙ sym (times_times r.num g r.den) ∙ ap (λ x. x *ℤ pos r.den) parts.0
+    ap (λ x. r.num *ℤ pos x) (sym parts.1 ∙ swap_lem r.den g) ∙ sym (times_times r.num g r.den)
+    ∙ ap (λ x. x *ℤ pos r.den) parts.0
   where
     swap_lem : (a b : ℕ) → a * b ≡ b * a
     swap_lem a b = omega arith
 
 -- n over d is the number whose cross product with it is equal
-pub reduce_is : (r : Rational) (n : ℤ) (d : ℕ) → 0 < d → r.num *ℤ pos d ≡ n *ℤ pos r.den → reduce n d ≡ r
+pub reduce_is : (r : Rational) (n : ℤ) (d : ℕ) → 0 < d → r.num *ℤ pos d ≡ n *ℤ pos r.den
+    → reduce n d ≡ r
 reduce_is r n d h e =
     let s : Rational = reduce n d in
     same_from_cross s r
@@ -119,7 +135,8 @@ irrefl_lem : (p : Rational) → ¬ (p ‹ℚ p)
 irrefl_lem p h = omega (arith, lt_out _ _ h.cross)
 
 -- a/b below c/d and c/d below e/f, by cross products of differences of naturals
-chain_lem : (a a' b c c' d e e' f : ℕ) → 0 < b → 0 < f → a * d + c' * b < c * b + a' * d → c * f + e' * d < e * d + c' * f → (a * f + e' * b) * d < (e * b + a' * f) * d
+chain_lem : (a a' b c c' d e e' f : ℕ) → 0 < b → 0 < f → a * d + c' * b < c * b + a' * d
+    → c * f + e' * d < e * d + c' * f → (a * f + e' * b) * d < (e * b + a' * f) * d
 chain_lem a a' b c c' d e e' f hb hf h k =
     let first : (a * d + c' * b) * f < (c * b + a' * d) * f = mul-lt-mul_of_pos_right h hf in
     let second : (c * f + e' * d) * b < (e * d + c' * f) * b = mul-lt-mul_of_pos_right k hb in
@@ -127,15 +144,25 @@ chain_lem a a' b c c' d e e' f hb hf h k =
 
 pub ‹ℚ_trans : (p q r : Rational) → p ‹ℚ q → q ‹ℚ r → p ‹ℚ r
 ‹ℚ_trans p q r h k =
-    let first : up p.num * q.den + down q.num * p.den < up q.num * p.den + down p.num * q.den = omega (arith, lt_out _ _ h.cross, times_is p.num q.den, times_is q.num p.den) in
-    let second : up q.num * r.den + down r.num * q.den < up r.num * q.den + down q.num * r.den = omega (arith, lt_out _ _ k.cross, times_is q.num r.den, times_is r.num q.den) in
-    let third : up p.num * r.den + down r.num * p.den < up r.num * p.den + down p.num * r.den = lt_of_mul-lt-mul_right q.den (chain_lem (up p.num) (down p.num) p.den (up q.num) (down q.num) q.den (up r.num) (down r.num) r.den p.reduced.0 r.reduced.0 first second) in
-    record { cross = below_in _ _ (omega (arith, third, times_is p.num r.den, times_is r.num p.den)) }
+    let first : up p.num * q.den + down q.num * p.den < up q.num * p.den + down p.num * q.den =
+    omega (arith, lt_out _ _ h.cross, times_is p.num q.den, times_is q.num p.den) in
+    let second : up q.num * r.den + down r.num * q.den < up r.num * q.den + down q.num * r.den =
+    omega (arith, lt_out _ _ k.cross, times_is q.num r.den, times_is r.num q.den) in
+    let third : up p.num * r.den + down r.num * p.den < up r.num * p.den + down p.num * r.den =
+    lt_of_mul-lt-mul_right q.den (chain_lem (up p.num) (down p.num) p.den (up q.num)
+    (down q.num) q.den (up r.num) (down r.num) r.den p.reduced.0 r.reduced.0 first second)
+    in
+    record {
+      cross = below_in _ _ (omega (arith, third, times_is p.num r.den, times_is r.num p.den));
+    }
 
 pub ‹ℚ_irrefl : (p : Rational) → ¬ (p ‹ℚ p)
 ‹ℚ_irrefl = irrefl_lem
 
-rank_lem : (p q : Rational) (r : Ordering) → MatchOrdering r ((p.num *ℤ pos q.den) <ℤ (q.num *ℤ pos p.den)) (p.num *ℤ pos q.den ≡ q.num *ℤ pos p.den) ((q.num *ℤ pos p.den) <ℤ (p.num *ℤ pos q.den)) → MatchOrdering r (p ‹ℚ q) (p ≡ q) (q ‹ℚ p)
+rank_lem : (p q : Rational) (r : Ordering)
+    → MatchOrdering r ((p.num *ℤ pos q.den) <ℤ (q.num *ℤ pos p.den))
+    (p.num *ℤ pos q.den ≡ q.num *ℤ pos p.den) ((q.num *ℤ pos p.den) <ℤ (p.num *ℤ pos q.den))
+    → MatchOrdering r (p ‹ℚ q) (p ≡ q) (q ‹ℚ p)
 rank_lem p q Less h = record { cross = h }
 rank_lem p q Equal h = same_from_cross p q h
 rank_lem p q Greater h = record { cross = h }
@@ -145,12 +172,16 @@ pub rational_ranks : (p q : Rational) → MatchOrdering (rational_cmp p q) (p �
 unfolding rational_cmp
 rational_ranks p q = rank_lem p q _ (int_ranks (p.num *ℤ pos q.den) (q.num *ℤ pos p.den))
 
-pub rational_ranked : (p q : Rational) (r : Ordering) → r ≡ rational_cmp p q → MatchOrdering r (p ‹ℚ q) (p ≡ q) (q ‹ℚ p)
-rational_ranked p q r e = subst (λ k. MatchOrdering k (p ‹ℚ q) (p ≡ q) (q ‹ℚ p)) (sym e) (rational_ranks p q)
+pub rational_ranked : (p q : Rational) (r : Ordering) → r ≡ rational_cmp p q
+    → MatchOrdering r (p ‹ℚ q) (p ≡ q) (q ‹ℚ p)
+rational_ranked p q r e =
+    subst (λ k. MatchOrdering k (p ‹ℚ q) (p ≡ q) (q ‹ℚ p)) (sym e) (rational_ranks p q)
 
 -- and the answer from what holds
-pub rational_cmp_is : (p q : Rational) (r : Ordering) → MatchOrdering r (p ‹ℚ q) (p ≡ q) (q ‹ℚ p) → r ≡ rational_cmp p q
-rational_cmp_is p q r h = one_rank ◌‹ℚ◌ ‹ℚ_irrefl ‹ℚ_trans p q r (rational_cmp p q) h (rational_ranks p q)
+pub rational_cmp_is : (p q : Rational) (r : Ordering) → MatchOrdering r (p ‹ℚ q) (p ≡ q) (q ‹ℚ p)
+    → r ≡ rational_cmp p q
+rational_cmp_is p q r h =
+    one_rank ◌‹ℚ◌ ‹ℚ_irrefl ‹ℚ_trans p q r (rational_cmp p q) h (rational_ranks p q)
 
 pub rational_cmp_total : IsTotalOrder rational_cmp
 rational_cmp_total = strict ◌‹ℚ◌ ‹ℚ_irrefl ‹ℚ_trans rational_cmp rational_ranks
@@ -176,10 +207,13 @@ pub rational_eq-is_eq : (p q : Rational) → rational_eq p q ≡ is_eq (rational
 unfolding rational_eq
 rational_eq-is_eq p q = refl
 
-equal_lem : (p q : Rational) (r : Ordering) → MatchOrdering r (p ‹ℚ q) (p ≡ q) (q ‹ℚ p) → Decides (is_eq r) (p ≡ q)
-equal_lem p q Less h = (λ e. absurd (true≢false (sym e)), λ e. absurd (‹ℚ_irrefl q (subst (λ x. x ‹ℚ q) e h)))
+equal_lem : (p q : Rational) (r : Ordering) → MatchOrdering r (p ‹ℚ q) (p ≡ q) (q ‹ℚ p)
+    → Decides (is_eq r) (p ≡ q)
+equal_lem p q Less h =
+    (λ e. absurd (true≢false (sym e)), λ e. absurd (‹ℚ_irrefl q (subst (λ x. x ‹ℚ q) e h)))
 equal_lem p q Equal h = (λ e. h, λ e. refl)
-equal_lem p q Greater h = (λ e. absurd (true≢false (sym e)), λ e. absurd (‹ℚ_irrefl q (subst (λ x. q ‹ℚ x) e h)))
+equal_lem p q Greater h =
+    (λ e. absurd (true≢false (sym e)), λ e. absurd (‹ℚ_irrefl q (subst (λ x. q ‹ℚ x) e h)))
 
 -- the test of equality is true exactly where the numbers are equal
 pub rational_eq_Decides : (p q : Rational) → Decides (rational_eq p q) (p ≡ q)
@@ -211,6 +245,7 @@ sum_fits_Decides p q =
     (λ h. (((h.left, h.right), h.sum), h.denominator))
     (Decides-and _ _
     (Decides-and _ _
-    (Decides-and _ _ (Decides-ltb (unsigned_abs (left_term p q)) (2 ^ 127)) (Decides-ltb (unsigned_abs (right_term p q)) (2 ^ 127)))
+    (Decides-and _ _ (Decides-ltb (unsigned_abs (left_term p q)) (2 ^ 127))
+    (Decides-ltb (unsigned_abs (right_term p q)) (2 ^ 127)))
     (Decides-ltb (unsigned_abs (sum_of_terms p q)) (2 ^ 127)))
     (Decides-ltb (sum_denominator p q) (2 ^ 127)))

@@ -12,13 +12,18 @@ use Rattle.ratio_core.specs.Text.{denominator_of, denominator_text, is_part, is_
 
 -- ---- the sign
 
-pub minus_read : (text : List ℕ) → slice_index text 0 ≡ 45 → rational_from true (numerator_of (drop 1 text)) (denominator_of (drop 1 text)) ≡ rational_of text
+pub minus_read : (text : List ℕ) → slice_index text 0 ≡ 45
+    → rational_from true (numerator_of (drop 1 text)) (denominator_of (drop 1 text))
+    ≡ rational_of text
 unfolding rational_of
-minus_read text e = sym (ap (λ t. rational_from t (numerator_of (cond t (drop 1 text) text)) (denominator_of (cond t (drop 1 text) text))) (eq-eqb _ _ e))
+minus_read text e = sym (ap (λ t. rational_from t (numerator_of (cond t (drop 1 text) text))
+    (denominator_of (cond t (drop 1 text) text))) (eq-eqb _ _ e))
 
-pub plain_read : (text : List ℕ) → ¬ (slice_index text 0 ≡ 45) → rational_from false (numerator_of text) (denominator_of text) ≡ rational_of text
+pub plain_read : (text : List ℕ) → ¬ (slice_index text 0 ≡ 45)
+    → rational_from false (numerator_of text) (denominator_of text) ≡ rational_of text
 unfolding rational_of
-plain_read text e = sym (ap (λ t. rational_from t (numerator_of (cond t (drop 1 text) text)) (denominator_of (cond t (drop 1 text) text))) (ne_eqb _ _ e))
+plain_read text e = sym (ap (λ t. rational_from t (numerator_of (cond t (drop 1 text) text))
+    (denominator_of (cond t (drop 1 text) text))) (ne_eqb _ _ e))
 
 -- ---- digits
 
@@ -39,14 +44,17 @@ no_slash (c ∷ cs) h = rw (not_slash c h.0) (no_slash cs h.1)
 -- digits up to the end, and up to a slash
 place_end : (ds : List ℕ) → AllDigits 10 ds → position_or_len is_slash ds ≡ length ds
 place_end [] h = refl
-place_end (c ∷ cs) h = rw (not_slash c h.0) (ap (λ n. 1 + n) (place_end cs h.1) ∙ one_lem (length cs))
+place_end (c ∷ cs) h =
+    rw (not_slash c h.0) (ap (λ n. 1 + n) (place_end cs h.1) ∙ one_lem (length cs))
   where
     one_lem : (n : ℕ) → 1 + n ≡ suc n
     one_lem n = omega arith
 
-place_slash : (ds rest : List ℕ) → AllDigits 10 ds → position_or_len is_slash (ds ++ 47 ∷ rest) ≡ length ds
+place_slash : (ds rest : List ℕ) → AllDigits 10 ds
+    → position_or_len is_slash (ds ++ 47 ∷ rest) ≡ length ds
 place_slash [] rest h = refl
-place_slash (c ∷ cs) rest h = rw (not_slash c h.0) (ap (λ n. 1 + n) (place_slash cs rest h.1) ∙ one_lem (length cs))
+place_slash (c ∷ cs) rest h =
+    rw (not_slash c h.0) (ap (λ n. 1 + n) (place_slash cs rest h.1) ∙ one_lem (length cs))
   where
     one_lem : (n : ℕ) → 1 + n ≡ suc n
     one_lem n = omega arith
@@ -82,22 +90,31 @@ part_decimal n h =
     let numeral : IsNumeral 10 (decimal n) × (digits_value 10 (decimal n) ≡ n) = numeral_lem n h in
     passes_lem (decimal n) n numeral.0 numeral.1 h
   where
-    passes_lem : (ds : List ℕ) (n : ℕ) → IsNumeral 10 ds → digits_value 10 ds ≡ n → n < 2 ^ 127 → part_of ds ≡ Some n
-    passes_lem ds n k e l = rw (lt-ltb 0 (length ds) k.0, all_digits ds k.1, e, lt-ltb n (2 ^ 127) l) refl
+    passes_lem : (ds : List ℕ) (n : ℕ) → IsNumeral 10 ds → digits_value 10 ds ≡ n → n < 2 ^ 127
+        → part_of ds ≡ Some n
+    passes_lem ds n k e l =
+        rw (lt-ltb 0 (length ds) k.0, all_digits ds k.1, e, lt-ltb n (2 ^ 127) l) refl
 
 abbrev tail_of : Bool → ℕ → List ℕ
 tail_of t d = cond t [] (47 ∷ decimal d)
 
-front_lem : (ds : List ℕ) (d : ℕ) (t : Bool) → AllDigits 10 ds → before_first is_slash (ds ++ tail_of t d) ≡ ds
-front_lem ds d true h = ap (before_first is_slash) (append-nil ds) ∙ ap (λ n. take n ds) (place_end ds h) ∙ take_all (length ds) ds (omega arith)
-front_lem ds d false h = ap (λ n. take n (ds ++ 47 ∷ decimal d)) (place_slash ds (decimal d) h) ∙ take_front ds (47 ∷ decimal d)
+front_lem : (ds : List ℕ) (d : ℕ) (t : Bool) → AllDigits 10 ds
+    → before_first is_slash (ds ++ tail_of t d) ≡ ds
+front_lem ds d true h = ap (before_first is_slash) (append-nil ds)
+    ∙ ap (λ n. take n ds) (place_end ds h) ∙ take_all (length ds) ds (omega arith)
+front_lem ds d false h = ap (λ n. take n (ds ++ 47 ∷ decimal d)) (place_slash ds (decimal d) h)
+    ∙ take_front ds (47 ∷ decimal d)
 
-back_lem : (ds : List ℕ) (d : ℕ) (t : Bool) → (d == 1) ≡ t → AllDigits 10 ds → d < 2 ^ 127 → cond (list_any is_slash (ds ++ tail_of t d)) (part_of (after_first is_slash (ds ++ tail_of t d))) (Some 1) ≡ Some d
+back_lem : (ds : List ℕ) (d : ℕ) (t : Bool) → (d == 1) ≡ t → AllDigits 10 ds → d < 2 ^ 127
+    → cond (list_any is_slash (ds ++ tail_of t d))
+    (part_of (after_first is_slash (ds ++ tail_of t d))) (Some 1) ≡ Some d
 back_lem ds d true e h k =
-    ap (λ b. cond b (part_of (after_first is_slash (ds ++ []))) (Some 1)) (ap (list_any is_slash) (append-nil ds) ∙ no_slash ds h)
+    ap (λ b. cond b (part_of (after_first is_slash (ds ++ []))) (Some 1))
+    (ap (list_any is_slash) (append-nil ds) ∙ no_slash ds h)
     ∙ ap Some (sym (eqb-true d 1 e))
 back_lem ds d false e h k =
-    ap (λ b. cond b (part_of (after_first is_slash (ds ++ 47 ∷ decimal d))) (Some 1)) (some_slash ds (decimal d) h)
+    ap (λ b. cond b (part_of (after_first is_slash (ds ++ 47 ∷ decimal d))) (Some 1))
+    (some_slash ds (decimal d) h)
     ∙ ap (λ n. part_of (drop (n + 1) (ds ++ 47 ∷ decimal d))) (place_slash ds (decimal d) h)
     ∙ ap part_of (drop_front ds (decimal d))
     ∙ part_decimal d k
@@ -105,30 +122,40 @@ back_lem ds d false e h k =
 module _ (n d : ℕ) (h : n < 2 ^ 127) (k : d < 2 ^ 127) where
   numerator_lem : numerator_of (decimal n ++ denominator_text d) ≡ Some n
   unfolding numerator_of denominator_text
-  numerator_lem = ap part_of (front_lem (decimal n) d (d == 1) (numeral_lem n h).0.1) ∙ part_decimal n h
+  numerator_lem = ap part_of (front_lem (decimal n) d (d == 1) (numeral_lem n h).0.1)
+      ∙ part_decimal n h
 
   denominator_lem : denominator_of (decimal n ++ denominator_text d) ≡ Some d
   unfolding denominator_of denominator_text
   denominator_lem = back_lem (decimal n) d (d == 1) refl (numeral_lem n h).0.1 k
 
-above_lem : (s : Bool) (n d : ℕ) → 0 < d → rational_from s (Some n) (Some d) ≡ Some (reduce (signed s n) d)
+above_lem : (s : Bool) (n d : ℕ) → 0 < d
+    → rational_from s (Some n) (Some d) ≡ Some (reduce (signed s n) d)
 above_lem s n zero h = absurd (omega arith)
 above_lem s n (suc d) h = refl
 
-both_lem : (s : Bool) (n d : ℕ) → n < 2 ^ 127 → d < 2 ^ 127 → 0 < d → rational_from s (numerator_of (decimal n ++ denominator_text d)) (denominator_of (decimal n ++ denominator_text d)) ≡ Some (reduce (signed s n) d)
-both_lem s n d h k above = ap₂ (rational_from s) (numerator_lem n d h k) (denominator_lem n d h k) ∙ above_lem s n d above
+both_lem : (s : Bool) (n d : ℕ) → n < 2 ^ 127 → d < 2 ^ 127 → 0 < d
+    → rational_from s (numerator_of (decimal n ++ denominator_text d))
+    (denominator_of (decimal n ++ denominator_text d)) ≡ Some (reduce (signed s n) d)
+both_lem s n d h k above = ap₂ (rational_from s) (numerator_lem n d h k) (denominator_lem n d h k)
+    ∙ above_lem s n d above
 
-signed_lem : (z : ℤ) (d : ℕ) → unsigned_abs z < 2 ^ 127 → d < 2 ^ 127 → 0 < d → rational_of (signed_decimal z ++ denominator_text d) ≡ Some (reduce z d)
+signed_lem : (z : ℤ) (d : ℕ) → unsigned_abs z < 2 ^ 127 → d < 2 ^ 127 → 0 < d
+    → rational_of (signed_decimal z ++ denominator_text d) ≡ Some (reduce z d)
 signed_lem (pos n) d h k above =
-    sym (plain_read (decimal n ++ denominator_text d) (first_lem (decimal n) (denominator_text d) (numeral_lem n h).0))
+    sym (plain_read (decimal n ++ denominator_text d)
+    (first_lem (decimal n) (denominator_text d) (numeral_lem n h).0))
     ∙ both_lem false n d h k above
 signed_lem (negsuc n) d h k above =
-    sym (minus_read (45 ∷ (decimal (suc n) ++ denominator_text d)) refl) ∙ both_lem true (suc n) d h k above
+    sym (minus_read (45 ∷ (decimal (suc n) ++ denominator_text d)) refl)
+    ∙ both_lem true (suc n) d h k above
 
 pub reads_back : (q : Rational) → Fits q → rational_of (text_of q) ≡ Some q
 unfolding text_of
 reads_back q f = signed_lem q.num q.den f.num f.den q.reduced.0 ∙ ap Some (reduce_itself q)
 
 -- the same, of the parts as they are kept
-pub kept_reads_back : (q : Rational) (size den : ℕ) → size ≡ unsigned_abs q.num → den ≡ q.den → size < 2 ^ 127 → den < 2 ^ 127 → rational_of (text_of q) ≡ Some q
-kept_reads_back q size den e f h k = reads_back q (record { num = subst (λ n. n < 2 ^ 127) e h; den = subst (λ n. n < 2 ^ 127) f k })
+pub kept_reads_back : (q : Rational) (size den : ℕ) → size ≡ unsigned_abs q.num → den ≡ q.den
+    → size < 2 ^ 127 → den < 2 ^ 127 → rational_of (text_of q) ≡ Some q
+kept_reads_back q size den e f h k =
+    reads_back q (record { num = subst (λ n. n < 2 ^ 127) e h; den = subst (λ n. n < 2 ^ 127) f k })

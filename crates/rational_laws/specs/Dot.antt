@@ -1,4 +1,5 @@
--- Products, sums and multiples of lists of rational numbers, place by place; the places past the end of either list count nothing.
+-- Products, sums and multiples of lists of rational numbers, place by place; the places past the
+-- end of either list count nothing.
 use Rattle.std.specs.Prelude.{List, [], ◌∷◌, map}
 use Rattle.ratio_core.specs.Rational.{Rational, zero_ℚ, ◌*ℚ◌, ◌+ℚ◌, neg_ℚ}
 

@@ -1,4 +1,5 @@
--- The field of the rational numbers. Each law is an equality of numbers, and but for the inverse it holds unconditionally.
+-- The field of the rational numbers. Each law is an equality of numbers, and but for the inverse it
+-- holds unconditionally.
 use Rattle.std.specs.Prelude.{◌≡◌, ℕ, zero, suc, ◌*◌, ◌<◌, ℤ, pos, negsuc, ◌+ℤ◌, ◌*ℤ◌, neg_ℤ, Bool, true, false, ◌⊎◌, refl}
 use Rattle.std.proofs.Common.{inl, inr, sym, ◌∙◌, ap, ap₂, arith, mul-pos, mul_comm, mul_assoc}
 use Rattle.std.proofs.Math.IntN.{+ℤ_assoc, +ℤ_comm, +ℤ_invr, *ℤ_comm}
@@ -12,19 +13,22 @@ use Rattle.rational_laws.specs.Whole.{*ℤ_assoc, *ℤ-+ℤ, *ℤ_pos_one}
 -- ---- sums
 
 pub +ℚ_comm : (p q : Rational) → p +ℚ q ≡ q +ℚ p
-+ℚ_comm = over₂ (λ p q. p +ℚ q ≡ q +ℚ p) (λ a b d h. over-+ℚ a b d h ∙ ap (λ z. reduce z d) (+ℤ_comm a b) ∙ sym (over-+ℚ b a d h))
++ℚ_comm = over₂ (λ p q. p +ℚ q ≡ q +ℚ p) (λ a b d h. over-+ℚ a b d h
+    ∙ ap (λ z. reduce z d) (+ℤ_comm a b) ∙ sym (over-+ℚ b a d h))
 
 pub +ℚ_assoc : (p q r : Rational) → (p +ℚ q) +ℚ r ≡ p +ℚ (q +ℚ r)
 +ℚ_assoc =
     over₃ (λ p q r. (p +ℚ q) +ℚ r ≡ p +ℚ (q +ℚ r))
     (λ a b c d h.
-    ap (λ x. x +ℚ reduce c d) (over-+ℚ a b d h) ∙ over-+ℚ (a +ℤ b) c d h ∙ ap (λ z. reduce z d) (+ℤ_assoc a b c)
+    ap (λ x. x +ℚ reduce c d) (over-+ℚ a b d h) ∙ over-+ℚ (a +ℤ b) c d h
+    ∙ ap (λ z. reduce z d) (+ℤ_assoc a b c)
     ∙ sym (ap (λ x. reduce a d +ℚ x) (over-+ℚ b c d h) ∙ over-+ℚ a (b +ℤ c) d h))
 
 pub zero-+ℚ : (p : Rational) → zero_ℚ +ℚ p ≡ p
 zero-+ℚ =
     over₁ (λ p. zero_ℚ +ℚ p ≡ p)
-    (λ a d h. ap (λ x. x +ℚ reduce a d) (over-zero_ℚ d h) ∙ over-+ℚ (pos 0) a d h ∙ ap (λ z. reduce z d) (zero_lem a))
+    (λ a d h. ap (λ x. x +ℚ reduce a d) (over-zero_ℚ d h) ∙ over-+ℚ (pos 0) a d h
+    ∙ ap (λ z. reduce z d) (zero_lem a))
   where
     zero_lem : (a : ℤ) → pos 0 +ℤ a ≡ a
     zero_lem a = omega (arith, ints)
@@ -35,7 +39,8 @@ pub +ℚ-zero : (p : Rational) → p +ℚ zero_ℚ ≡ p
 pub +ℚ-neg_ℚ : (p : Rational) → p +ℚ neg_ℚ p ≡ zero_ℚ
 +ℚ-neg_ℚ =
     over₁ (λ p. p +ℚ neg_ℚ p ≡ zero_ℚ)
-    (λ a d h. ap (λ x. reduce a d +ℚ x) (over-neg_ℚ a d h) ∙ over-+ℚ a (neg_ℤ a) d h ∙ ap (λ z. reduce z d) (+ℤ_invr a) ∙ sym (over-zero_ℚ d h))
+    (λ a d h. ap (λ x. reduce a d +ℚ x) (over-neg_ℚ a d h) ∙ over-+ℚ a (neg_ℤ a) d h
+    ∙ ap (λ z. reduce z d) (+ℤ_invr a) ∙ sym (over-zero_ℚ d h))
 
 pub neg_ℚ-+ℚ : (p : Rational) → neg_ℚ p +ℚ p ≡ zero_ℚ
 neg_ℚ-+ℚ p = +ℚ_comm (neg_ℚ p) p ∙ +ℚ-neg_ℚ p
@@ -45,7 +50,8 @@ pub +ℚ_left_comm : (p q r : Rational) → p +ℚ (q +ℚ r) ≡ q +ℚ (p +ℚ
 
 -- the two inner ones of four change places
 pub +ℚ_inner_comm : (p q r s : Rational) → (p +ℚ q) +ℚ (r +ℚ s) ≡ (p +ℚ r) +ℚ (q +ℚ s)
-+ℚ_inner_comm p q r s = +ℚ_assoc p q (r +ℚ s) ∙ ap (λ x. p +ℚ x) (+ℚ_left_comm q r s) ∙ sym (+ℚ_assoc p r (q +ℚ s))
++ℚ_inner_comm p q r s = +ℚ_assoc p q (r +ℚ s) ∙ ap (λ x. p +ℚ x) (+ℚ_left_comm q r s)
+    ∙ sym (+ℚ_assoc p r (q +ℚ s))
 
 -- ---- products
 
@@ -54,8 +60,10 @@ unfolding ◌*ℚ◌
 *ℚ_comm p q = ap₂ reduce (*ℤ_comm p.num q.num) (mul_comm p.den q.den)
 
 -- a product with a fraction
-times_fraction : (p : Rational) (n : ℤ) (d : ℕ) → 0 < d → p *ℚ reduce n d ≡ reduce (p.num *ℤ n) (p.den * d)
-times_fraction p n d h = ap (λ x. x *ℚ reduce n d) (sym (reduce_itself p)) ∙ reduce-*ℚ p.num n p.den d p.reduced.0 h
+times_fraction : (p : Rational) (n : ℤ) (d : ℕ) → 0 < d
+    → p *ℚ reduce n d ≡ reduce (p.num *ℤ n) (p.den * d)
+times_fraction p n d h = ap (λ x. x *ℚ reduce n d) (sym (reduce_itself p))
+    ∙ reduce-*ℚ p.num n p.den d p.reduced.0 h
 
 product_is_fraction : (p q : Rational) → p *ℚ q ≡ reduce (p.num *ℤ q.num) (p.den * q.den)
 unfolding ◌*ℚ◌
@@ -63,9 +71,12 @@ product_is_fraction p q = refl
 
 pub *ℚ_assoc : (p q r : Rational) → (p *ℚ q) *ℚ r ≡ p *ℚ (q *ℚ r)
 *ℚ_assoc p q r =
-    *ℚ_comm (p *ℚ q) r ∙ ap (λ x. r *ℚ x) (product_is_fraction p q) ∙ times_fraction r (p.num *ℤ q.num) (p.den * q.den) (mul-pos p.reduced.0 q.reduced.0)
-    ∙ ap₂ reduce (*ℤ_comm r.num (p.num *ℤ q.num) ∙ *ℤ_assoc p.num q.num r.num) (mul_comm r.den (p.den * q.den) ∙ mul_assoc p.den q.den r.den)
-    ∙ sym (ap (λ x. p *ℚ x) (product_is_fraction q r) ∙ times_fraction p (q.num *ℤ r.num) (q.den * r.den) (mul-pos q.reduced.0 r.reduced.0))
+    *ℚ_comm (p *ℚ q) r ∙ ap (λ x. r *ℚ x) (product_is_fraction p q)
+    ∙ times_fraction r (p.num *ℤ q.num) (p.den * q.den) (mul-pos p.reduced.0 q.reduced.0)
+    ∙ ap₂ reduce (*ℤ_comm r.num (p.num *ℤ q.num) ∙ *ℤ_assoc p.num q.num r.num)
+    (mul_comm r.den (p.den * q.den) ∙ mul_assoc p.den q.den r.den)
+    ∙ sym (ap (λ x. p *ℚ x) (product_is_fraction q r)
+    ∙ times_fraction p (q.num *ℤ r.num) (q.den * r.den) (mul-pos q.reduced.0 r.reduced.0))
 
 pub *ℚ-one : (p : Rational) → p *ℚ one_ℚ ≡ p
 unfolding one_ℚ whole_ℚ ◌*ℚ◌
@@ -81,14 +92,19 @@ pub *ℚ-+ℚ : (p q r : Rational) → p *ℚ (q +ℚ r) ≡ p *ℚ q +ℚ p *�
 *ℚ-+ℚ p =
     over₂ (λ q r. p *ℚ (q +ℚ r) ≡ p *ℚ q +ℚ p *ℚ r)
     (λ b c d h.
-    ap (λ x. p *ℚ x) (over-+ℚ b c d h) ∙ times_fraction p (b +ℤ c) d h ∙ ap (λ z. reduce z (p.den * d)) (*ℤ-+ℤ p.num b c)
-    ∙ sym (ap₂ ◌+ℚ◌ (times_fraction p b d h) (times_fraction p c d h) ∙ over-+ℚ (p.num *ℤ b) (p.num *ℤ c) (p.den * d) (mul-pos p.reduced.0 h)))
+    ap (λ x. p *ℚ x) (over-+ℚ b c d h) ∙ times_fraction p (b +ℤ c) d h
+    ∙ ap (λ z. reduce z (p.den * d)) (*ℤ-+ℤ p.num b c)
+    ∙ sym (ap₂ ◌+ℚ◌ (times_fraction p b d h) (times_fraction p c d h)
+    ∙ over-+ℚ (p.num *ℤ b) (p.num *ℤ c) (p.den * d) (mul-pos p.reduced.0 h)))
 
 pub +ℚ-*ℚ : (p q r : Rational) → (p +ℚ q) *ℚ r ≡ p *ℚ r +ℚ q *ℚ r
 +ℚ-*ℚ p q r = *ℚ_comm (p +ℚ q) r ∙ *ℚ-+ℚ r p q ∙ ap₂ ◌+ℚ◌ (*ℚ_comm r p) (*ℚ_comm r q)
 
 pub *ℚ-zero : (p : Rational) → p *ℚ zero_ℚ ≡ zero_ℚ
-*ℚ-zero p = sym (+ℚ-zero (p *ℚ zero_ℚ)) ∙ ap (λ x. p *ℚ zero_ℚ +ℚ x) (sym (+ℚ-neg_ℚ (p *ℚ zero_ℚ))) ∙ sym (+ℚ_assoc (p *ℚ zero_ℚ) (p *ℚ zero_ℚ) (neg_ℚ (p *ℚ zero_ℚ))) ∙ ap (λ x. x +ℚ neg_ℚ (p *ℚ zero_ℚ)) (sym (*ℚ-+ℚ p zero_ℚ zero_ℚ) ∙ ap (λ x. p *ℚ x) (zero-+ℚ zero_ℚ)) ∙ +ℚ-neg_ℚ (p *ℚ zero_ℚ)
+*ℚ-zero p = sym (+ℚ-zero (p *ℚ zero_ℚ)) ∙ ap (λ x. p *ℚ zero_ℚ +ℚ x) (sym (+ℚ-neg_ℚ (p *ℚ zero_ℚ)))
+    ∙ sym (+ℚ_assoc (p *ℚ zero_ℚ) (p *ℚ zero_ℚ) (neg_ℚ (p *ℚ zero_ℚ)))
+    ∙ ap (λ x. x +ℚ neg_ℚ (p *ℚ zero_ℚ)) (sym (*ℚ-+ℚ p zero_ℚ zero_ℚ)
+    ∙ ap (λ x. p *ℚ x) (zero-+ℚ zero_ℚ)) ∙ +ℚ-neg_ℚ (p *ℚ zero_ℚ)
 
 pub zero-*ℚ : (p : Rational) → zero_ℚ *ℚ p ≡ zero_ℚ
 zero-*ℚ p = *ℚ_comm zero_ℚ p ∙ *ℚ-zero p
@@ -98,7 +114,8 @@ zero-*ℚ p = *ℚ_comm zero_ℚ p ∙ *ℚ-zero p
 -- the negation is the one number whose sum with p is 0
 pub neg_ℚ_unique : (p q : Rational) → p +ℚ q ≡ zero_ℚ → q ≡ neg_ℚ p
 neg_ℚ_unique p q e =
-    sym (zero-+ℚ q) ∙ ap (λ x. x +ℚ q) (sym (neg_ℚ-+ℚ p)) ∙ +ℚ_assoc (neg_ℚ p) p q ∙ ap (λ x. neg_ℚ p +ℚ x) e ∙ +ℚ-zero (neg_ℚ p)
+    sym (zero-+ℚ q) ∙ ap (λ x. x +ℚ q) (sym (neg_ℚ-+ℚ p)) ∙ +ℚ_assoc (neg_ℚ p) p q
+    ∙ ap (λ x. neg_ℚ p +ℚ x) e ∙ +ℚ-zero (neg_ℚ p)
 
 pub neg_ℚ-neg_ℚ : (p : Rational) → neg_ℚ (neg_ℚ p) ≡ p
 neg_ℚ-neg_ℚ p = sym (neg_ℚ_unique (neg_ℚ p) p (neg_ℚ-+ℚ p))
@@ -113,7 +130,8 @@ neg_ℚ-sum p q =
 
 pub neg_ℚ-*ℚ : (p q : Rational) → neg_ℚ p *ℚ q ≡ neg_ℚ (p *ℚ q)
 neg_ℚ-*ℚ p q =
-    neg_ℚ_unique (p *ℚ q) (neg_ℚ p *ℚ q) (sym (+ℚ-*ℚ p (neg_ℚ p) q) ∙ ap (λ x. x *ℚ q) (+ℚ-neg_ℚ p) ∙ zero-*ℚ q)
+    neg_ℚ_unique (p *ℚ q) (neg_ℚ p *ℚ q) (sym (+ℚ-*ℚ p (neg_ℚ p) q) ∙ ap (λ x. x *ℚ q) (+ℚ-neg_ℚ p)
+    ∙ zero-*ℚ q)
 
 pub *ℚ-neg_ℚ : (p q : Rational) → p *ℚ neg_ℚ q ≡ neg_ℚ (p *ℚ q)
 *ℚ-neg_ℚ p q = *ℚ_comm p (neg_ℚ q) ∙ neg_ℚ-*ℚ q p ∙ ap neg_ℚ (*ℚ_comm q p)
@@ -141,11 +159,18 @@ pub *ℚ--ℚ : (p q r : Rational) → p *ℚ (q -ℚ r) ≡ p *ℚ q -ℚ p *�
 -- ---- the inverse
 
 whole_product : (n d : ℕ) → negsuc n *ℤ neg_ℤ (pos d) ≡ pos (suc n * d)
-whole_product n d = same_in _ _ (omega (arith, product_is (negsuc n) (neg_ℤ (pos d)), ap (λ k. suc n * k) (neg_is (pos d)).1, ap (λ k. suc n * k) (neg_is (pos d)).0))
+whole_product n d = same_in _ _ (omega (
+  arith,
+  product_is (negsuc n) (neg_ℤ (pos d)),
+  ap
+      (λ k. suc n * k) (neg_is (pos d)).1,
+  ap (λ k. suc n * k) (neg_is (pos d)).0,
+))
 
 one_lem : (n d : ℕ) → 0 < d → reduce (pos (suc n * d)) (d * suc n) ≡ one_ℚ
 unfolding one_ℚ whole_ℚ
-one_lem n d h = reduce_is (whole_ℚ (pos 1)) (pos (suc n * d)) (d * suc n) (above_lem n d h) (ap pos (shape_lem n d))
+one_lem n d h = reduce_is (whole_ℚ (pos 1)) (pos (suc n * d)) (d * suc n) (above_lem n d h)
+    (ap pos (shape_lem n d))
   where
     above_lem : (n d : ℕ) → 0 < d → 0 < d * suc n
     above_lem n (suc d) h = omega arith
@@ -157,16 +182,20 @@ one_lem n d h = reduce_is (whole_ℚ (pos 1)) (pos (suc n * d)) (d * suc n) (abo
 inverse_lem : (z : ℤ) (d : ℕ) → 0 < d → ¬ (z ≡ pos 0) → reduce z d *ℚ fraction (pos d) z ≡ one_ℚ
 unfolding fraction
 inverse_lem (pos zero) d h n = absurd (n refl)
-inverse_lem (pos (suc n)) d h k = reduce-*ℚ (pos (suc n)) (pos d) d (suc n) h (omega arith) ∙ one_lem n d h
+inverse_lem (pos (suc n)) d h k = reduce-*ℚ (pos (suc n)) (pos d) d (suc n) h (omega arith)
+    ∙ one_lem n d h
 inverse_lem (negsuc n) d h k =
-    reduce-*ℚ (negsuc n) (neg_ℤ (pos d)) d (suc n) h (omega arith) ∙ ap (λ z. reduce z (d * suc n)) (whole_product n d) ∙ one_lem n d h
+    reduce-*ℚ (negsuc n) (neg_ℤ (pos d)) d (suc n) h (omega arith)
+    ∙ ap (λ z. reduce z (d * suc n)) (whole_product n d) ∙ one_lem n d h
 
 zero_from_num : (q : Rational) → q.num ≡ pos 0 → q ≡ zero_ℚ
-zero_from_num q e = sym (reduce_itself q) ∙ ap (λ z. reduce z q.den) e ∙ sym (over-zero_ℚ q.den q.reduced.0)
+zero_from_num q e = sym (reduce_itself q) ∙ ap (λ z. reduce z q.den) e
+    ∙ sym (over-zero_ℚ q.den q.reduced.0)
 
 pub *ℚ-inverse_ℚ : (q : Rational) → ¬ (q ≡ zero_ℚ) → q *ℚ inverse_ℚ q ≡ one_ℚ
 unfolding inverse_ℚ
-*ℚ-inverse_ℚ q n = ap (λ x. x *ℚ fraction (pos q.den) q.num) (sym (reduce_itself q)) ∙ inverse_lem q.num q.den q.reduced.0 (λ e. n (zero_from_num q e))
+*ℚ-inverse_ℚ q n = ap (λ x. x *ℚ fraction (pos q.den) q.num) (sym (reduce_itself q))
+    ∙ inverse_lem q.num q.den q.reduced.0 (λ e. n (zero_from_num q e))
 
 pub inverse_ℚ-*ℚ : (q : Rational) → ¬ (q ≡ zero_ℚ) → inverse_ℚ q *ℚ q ≡ one_ℚ
 inverse_ℚ-*ℚ q n = *ℚ_comm (inverse_ℚ q) q ∙ *ℚ-inverse_ℚ q n
@@ -206,7 +235,8 @@ factor_zero p q e = by_test (rational_eq q zero_ℚ) refl
   where
     by_test : (b : Bool) → rational_eq q zero_ℚ ≡ b → (p ≡ zero_ℚ) ⊎ (q ≡ zero_ℚ)
     by_test true f = inr (rational_eq-true q zero_ℚ f)
-    by_test false f = inl (*ℚ_cancel p zero_ℚ q (rational_eq-false q zero_ℚ f) (e ∙ sym (zero-*ℚ q)))
+    by_test false f =
+        inl (*ℚ_cancel p zero_ℚ q (rational_eq-false q zero_ℚ f) (e ∙ sym (zero-*ℚ q)))
 
 -- two numbers are equal or not
 pub rational_same_or_not : (p q : Rational) → (p ≡ q) ⊎ (¬ (p ≡ q))
@@ -218,4 +248,25 @@ rational_same_or_not p q = by_test (rational_eq p q) refl
 
 -- ---- for `simp`: small equations of the ring
 
-pub ruleset ring_ℚ = (+ℚ_assoc, +ℚ_comm, +ℚ_left_comm, *ℚ_assoc, *ℚ_comm, *ℚ-+ℚ, +ℚ-*ℚ, zero-+ℚ, +ℚ-zero, +ℚ-neg_ℚ, neg_ℚ-+ℚ, zero-*ℚ, *ℚ-zero, one-*ℚ, *ℚ-one, neg_ℚ-neg_ℚ, neg_ℚ-zero, neg_ℚ-sum, neg_ℚ-*ℚ, *ℚ-neg_ℚ)
+pub ruleset ring_ℚ = (
+  +ℚ_assoc,
+  +ℚ_comm,
+  +ℚ_left_comm,
+  *ℚ_assoc,
+  *ℚ_comm,
+  *ℚ-+ℚ,
+  +ℚ-*ℚ,
+  zero-+ℚ,
+  +ℚ-zero,
+  +ℚ-neg_ℚ,
+  neg_ℚ-+ℚ,
+  zero-*ℚ,
+  *ℚ-zero,
+  one-*ℚ,
+  *ℚ-one,
+  neg_ℚ-neg_ℚ,
+  neg_ℚ-zero,
+  neg_ℚ-sum,
+  neg_ℚ-*ℚ,
+  *ℚ-neg_ℚ,
+)

@@ -24,10 +24,12 @@ size_neg (negsuc n) = refl
 pub neg_ℚ_parts : (q : Rational) → ((neg_ℚ q).num ≡ neg_ℤ q.num) × ((neg_ℚ q).den ≡ q.den)
 unfolding neg_ℚ
 neg_ℚ_parts q =
-    let parts = reduce_reduced (neg_ℤ q.num) q.den (q.reduced.0, ap (λ n. gcd n q.den) (size_neg q.num) ∙ q.reduced.1) in
+    let parts = reduce_reduced (neg_ℤ q.num) q.den
+    (q.reduced.0, ap (λ n. gcd n q.den) (size_neg q.num) ∙ q.reduced.1) in
     (ap (λ e. e.0) parts, ap (λ e. e.1) parts)
 
-pub abs_ℚ_parts : (q : Rational) → ((abs_ℚ q).num ≡ pos (unsigned_abs q.num)) × ((abs_ℚ q).den ≡ q.den)
+pub abs_ℚ_parts : (q : Rational)
+    → ((abs_ℚ q).num ≡ pos (unsigned_abs q.num)) × ((abs_ℚ q).den ≡ q.den)
 unfolding abs_ℚ
 abs_ℚ_parts q =
     let parts = reduce_reduced (pos (unsigned_abs q.num)) q.den q.reduced in
@@ -36,7 +38,8 @@ abs_ℚ_parts q =
 pub Fits_neg_ℚ : (q : Rational) → Fits q → Fits (neg_ℚ q)
 Fits_neg_ℚ q f =
     record {
-      num = subst (λ n. n < 2 ^ 127) (sym (ap unsigned_abs (neg_ℚ_parts q).0 ∙ size_neg q.num)) f.num;
+      num =
+          subst (λ n. n < 2 ^ 127) (sym (ap unsigned_abs (neg_ℚ_parts q).0 ∙ size_neg q.num)) f.num;
       den = subst (λ n. n < 2 ^ 127) (sym (neg_ℚ_parts q).1) f.den;
     }
 
@@ -64,7 +67,8 @@ module _ (q : Rational) where
 
   whole_right : right_term zero_ℚ q ≡ q.num
   unfolding right_term
-  whole_right = ap (λ k. q.num *ℤ pos k) (ap (λ g. zero_ℚ.den / g) one_divisor ∙ div-one zero_ℚ.den ∙ one_den) ∙ *ℤ_pos_one q.num
+  whole_right = ap (λ k. q.num *ℤ pos k) (ap (λ g. zero_ℚ.den / g) one_divisor ∙ div-one zero_ℚ.den
+      ∙ one_den) ∙ *ℤ_pos_one q.num
 
   whole_sum : sum_of_terms zero_ℚ q ≡ q.num
   unfolding sum_of_terms
@@ -77,7 +81,8 @@ module _ (q : Rational) where
   unfolding sum_denominator
   whole_den =
       ap₂ ◌*◌ (ap (λ g. zero_ℚ.den / g) one_divisor ∙ div-one zero_ℚ.den ∙ one_den)
-      (ap (λ k. q.den / k) (ap (gcd (unsigned_abs (sum_of_terms zero_ℚ q))) one_divisor ∙ gcd-one (unsigned_abs (sum_of_terms zero_ℚ q))) ∙ div-one q.den)
+      (ap (λ k. q.den / k) (ap (gcd (unsigned_abs (sum_of_terms zero_ℚ q))) one_divisor
+      ∙ gcd-one (unsigned_abs (sum_of_terms zero_ℚ q))) ∙ div-one q.den)
       ∙ one_lem q.den
     where
       one_lem : (k : ℕ) → 1 * k ≡ k

@@ -1,5 +1,5 @@
--- Inequalities that are linear in given ones, by `omega`: all numbers are put over one denominator, and what is left speaks
--- of whole numbers. How to use it:
+-- Inequalities that are linear in given ones, by `omega`: all numbers are put over one denominator,
+-- and what is left speaks of whole numbers. How to use it:
 --     between : (p q r : Rational) → p ≤ℚ q → q ≤ℚ r → (p +ℚ q) ≤ℚ (r +ℚ q)
 --     between = linear₃ _ (λ a b c e h k. simp as_scaled (omega (arith, ints, scales)))
 -- A premise that has sums itself goes into the list of `omega` as `simp as_scaled at h`.
@@ -31,7 +31,8 @@ module _ (e : ℕ) where
   -- a whole multiple
   pub scaled-*ℚ : (n a : ℤ) → whole_ℚ n *ℚ scaled e a ≡ scaled e (n *ℤ a)
   unfolding scaled whole_ℚ
-  scaled-*ℚ n a = ap (λ x. x *ℚ reduce a (suc e)) (sym (reduce_itself (whole_ℚ n))) ∙ reduce-*ℚ n a 1 (suc e) (omega arith) above_lem ∙ ap (reduce (n *ℤ a)) (one_lem (suc e))
+  scaled-*ℚ n a = ap (λ x. x *ℚ reduce a (suc e)) (sym (reduce_itself (whole_ℚ n)))
+      ∙ reduce-*ℚ n a 1 (suc e) (omega arith) above_lem ∙ ap (reduce (n *ℤ a)) (one_lem (suc e))
     where
       one_lem : (k : ℕ) → 1 * k ≡ k
       one_lem k = omega arith
@@ -42,7 +43,8 @@ module _ (e : ℕ) where
 
   pub scaled_one : one_ℚ ≡ scaled e (pos (suc e))
   unfolding scaled one_ℚ
-  scaled_one = over-whole_ℚ (pos 1) (suc e) above_lem ∙ ap (λ k. reduce (pos k) (suc e)) (one_lem (suc e))
+  scaled_one = over-whole_ℚ (pos 1) (suc e) above_lem
+      ∙ ap (λ k. reduce (pos k) (suc e)) (one_lem (suc e))
     where
       one_lem : (k : ℕ) → 1 * k ≡ k
       one_lem k = omega arith
@@ -78,7 +80,8 @@ module _ (e : ℕ) where
 
 pub ruleset as_scaled = (scaled-+ℚ, scaled-neg_ℚ, scaled-*ℚ)
 
-pub ruleset scales = (scaled_le_out, scaled_lt_out, scaled_same_out, scaled_le_in, scaled_lt_in, scaled_same_in)
+pub ruleset scales =
+    (scaled_le_out, scaled_lt_out, scaled_same_out, scaled_le_in, scaled_lt_in, scaled_same_in)
 
 -- ---- up to four numbers
 
@@ -90,7 +93,8 @@ linear₁ P h = over₁ P (λ a d above. at_suc a d above)
     at_suc a zero above = absurd (omega arith)
     at_suc a (suc e) above = h a e
 
-pub linear₂ : (P : Rational → Rational → Type 0) → ((a b : ℤ) (e : ℕ) → P (scaled e a) (scaled e b)) → (p q : Rational) → P p q
+pub linear₂ : (P : Rational → Rational → Type 0) → ((a b : ℤ) (e : ℕ) → P (scaled e a) (scaled e b))
+    → (p q : Rational) → P p q
 unfolding scaled
 linear₂ P h = over₂ P (λ a b d above. at_suc a b d above)
   where
@@ -98,7 +102,9 @@ linear₂ P h = over₂ P (λ a b d above. at_suc a b d above)
     at_suc a b zero above = absurd (omega arith)
     at_suc a b (suc e) above = h a b e
 
-pub linear₃ : (P : Rational → Rational → Rational → Type 0) → ((a b c : ℤ) (e : ℕ) → P (scaled e a) (scaled e b) (scaled e c)) → (p q r : Rational) → P p q r
+pub linear₃ : (P : Rational → Rational → Rational → Type 0)
+    → ((a b c : ℤ) (e : ℕ) → P (scaled e a) (scaled e b) (scaled e c)) → (p q r : Rational)
+    → P p q r
 unfolding scaled
 linear₃ P h = over₃ P (λ a b c d above. at_suc a b c d above)
   where
@@ -106,7 +112,9 @@ linear₃ P h = over₃ P (λ a b c d above. at_suc a b c d above)
     at_suc a b c zero above = absurd (omega arith)
     at_suc a b c (suc e) above = h a b c e
 
-pub linear₄ : (P : Rational → Rational → Rational → Rational → Type 0) → ((a b c d : ℤ) (e : ℕ) → P (scaled e a) (scaled e b) (scaled e c) (scaled e d)) → (p q r s : Rational) → P p q r s
+pub linear₄ : (P : Rational → Rational → Rational → Rational → Type 0)
+    → ((a b c d : ℤ) (e : ℕ) → P (scaled e a) (scaled e b) (scaled e c) (scaled e d))
+    → (p q r s : Rational) → P p q r s
 unfolding scaled
 linear₄ P h = over₄ P (λ a b c d k above. at_suc a b c d k above)
   where

@@ -27,19 +27,23 @@ pub ≤ℚ_antisymm : (p q : Rational) → p ≤ℚ q → q ≤ℚ p → p ≡ q
 pub ≤ℚ_trans : (p q r : Rational) → p ≤ℚ q → q ≤ℚ r → p ≤ℚ r
 ≤ℚ_trans =
     over₃ (λ p q r. p ≤ℚ q → q ≤ℚ r → p ≤ℚ r)
-    (λ a b c d above h k. over-≤ℚ_in a c d above (omega (arith, ints, over-≤ℚ_out a b d above h, over-≤ℚ_out b c d above k)))
+    (λ a b c d above h k. over-≤ℚ_in a c d above (omega
+    (arith, ints, over-≤ℚ_out a b d above h, over-≤ℚ_out b c d above k)))
 
 pub ‹ℚ-≤ℚ_trans : (p q r : Rational) → p ‹ℚ q → q ≤ℚ r → p ‹ℚ r
 ‹ℚ-≤ℚ_trans =
     over₃ (λ p q r. p ‹ℚ q → q ≤ℚ r → p ‹ℚ r)
-    (λ a b c d above h k. over-‹ℚ_in a c d above (omega (arith, ints, over-‹ℚ_out a b d above h, over-≤ℚ_out b c d above k)))
+    (λ a b c d above h k. over-‹ℚ_in a c d above (omega
+    (arith, ints, over-‹ℚ_out a b d above h, over-≤ℚ_out b c d above k)))
 
 pub ≤ℚ-‹ℚ_trans : (p q r : Rational) → p ≤ℚ q → q ‹ℚ r → p ‹ℚ r
 ≤ℚ-‹ℚ_trans =
     over₃ (λ p q r. p ≤ℚ q → q ‹ℚ r → p ‹ℚ r)
-    (λ a b c d above h k. over-‹ℚ_in a c d above (omega (arith, ints, over-≤ℚ_out a b d above h, over-‹ℚ_out b c d above k)))
+    (λ a b c d above h k. over-‹ℚ_in a c d above (omega
+    (arith, ints, over-≤ℚ_out a b d above h, over-‹ℚ_out b c d above k)))
 
-cases_lem : (p q : Rational) (r : Ordering) → MatchOrdering r (p ‹ℚ q) (p ≡ q) (q ‹ℚ p) → (p ≤ℚ q) ⊎ (q ‹ℚ p)
+cases_lem : (p q : Rational) (r : Ordering) → MatchOrdering r (p ‹ℚ q) (p ≡ q) (q ‹ℚ p)
+    → (p ≤ℚ q) ⊎ (q ‹ℚ p)
 cases_lem p q Less h = inl (≤ℚ_from_‹ℚ p q h)
 cases_lem p q Equal h = inl (≤ℚ_from_≡ p q h)
 cases_lem p q Greater h = inr h
@@ -82,14 +86,24 @@ pub ≤ℚ-+ℚ : (p q r s : Rational) → p ≤ℚ q → r ≤ℚ s → (p +ℚ
     over₄ (λ p q r s. p ≤ℚ q → r ≤ℚ s → (p +ℚ r) ≤ℚ (q +ℚ s))
     (λ a b c e d above h k.
     subst₂ (λ x y. x ≤ℚ y) (sym (over-+ℚ a c d above)) (sym (over-+ℚ b e d above))
-    (over-≤ℚ_in (a +ℤ c) (b +ℤ e) d above (omega (arith, ints, over-≤ℚ_out a b d above h, over-≤ℚ_out c e d above k))))
+    (over-≤ℚ_in (a +ℤ c) (b +ℤ e) d above (omega (
+      arith,
+      ints,
+      over-≤ℚ_out a b d above h,
+      over-≤ℚ_out c e d above k,
+    ))))
 
 pub ‹ℚ-+ℚ : (p q r s : Rational) → p ‹ℚ q → r ≤ℚ s → (p +ℚ r) ‹ℚ (q +ℚ s)
 ‹ℚ-+ℚ =
     over₄ (λ p q r s. p ‹ℚ q → r ≤ℚ s → (p +ℚ r) ‹ℚ (q +ℚ s))
     (λ a b c e d above h k.
     subst₂ (λ x y. x ‹ℚ y) (sym (over-+ℚ a c d above)) (sym (over-+ℚ b e d above))
-    (over-‹ℚ_in (a +ℤ c) (b +ℤ e) d above (omega (arith, ints, over-‹ℚ_out a b d above h, over-≤ℚ_out c e d above k))))
+    (over-‹ℚ_in (a +ℤ c) (b +ℤ e) d above (omega (
+      arith,
+      ints,
+      over-‹ℚ_out a b d above h,
+      over-≤ℚ_out c e d above k,
+    ))))
 
 pub ≤ℚ-+ℚ_right : (p q r : Rational) → p ≤ℚ q → (p +ℚ r) ≤ℚ (q +ℚ r)
 ≤ℚ-+ℚ_right p q r h = ≤ℚ-+ℚ p q r r h (≤ℚ_refl r)
@@ -129,8 +143,10 @@ pub ≤ℚ_from_nonneg : (p q : Rational) → zero_ℚ ≤ℚ (q -ℚ p) → p �
 ≤ℚ_from_nonneg =
     over₂ (λ p q. zero_ℚ ≤ℚ (q -ℚ p) → p ≤ℚ q)
     (λ a b d above h.
-    let difference : reduce b d -ℚ reduce a d ≡ reduce (b +ℤ neg_ℤ a) d = ap (λ x. reduce b d +ℚ x) (over-neg_ℚ a d above) ∙ over-+ℚ b (neg_ℤ a) d above in
-    let moved : reduce (pos 0) d ≤ℚ reduce (b +ℤ neg_ℤ a) d = subst₂ (λ x y. x ≤ℚ y) (over-zero_ℚ d above) difference h in
+    let difference : reduce b d -ℚ reduce a d ≡ reduce (b +ℤ neg_ℤ a) d =
+    ap (λ x. reduce b d +ℚ x) (over-neg_ℚ a d above) ∙ over-+ℚ b (neg_ℤ a) d above in
+    let moved : reduce (pos 0) d ≤ℚ reduce (b +ℤ neg_ℤ a) d =
+    subst₂ (λ x y. x ≤ℚ y) (over-zero_ℚ d above) difference h in
     over-≤ℚ_in a b d above (omega (arith, ints, over-≤ℚ_out (pos 0) (b +ℤ neg_ℤ a) d above moved)))
 
 -- ---- signs
@@ -167,7 +183,8 @@ nonneg_lem (negsuc a) y h k = absurd (omega (arith, ints))
 
 above_lem : (x y : ℤ) → pos 0 <ℤ x → pos 0 <ℤ y → pos 0 <ℤ (x *ℤ y)
 above_lem (pos a) (pos b) h k =
-    let product : 0 < a * b = mul-pos (omega (arith, ints)) (omega (arith, ints)) in omega (arith, ints)
+    let product : 0 < a * b = mul-pos (omega (arith, ints)) (omega (arith, ints))
+    in omega (arith, ints)
 above_lem (pos a) (negsuc b) h k = absurd (omega (arith, ints))
 above_lem (negsuc a) y h k = absurd (omega (arith, ints))
 
@@ -175,13 +192,15 @@ pub nonneg_mul : (p q : Rational) → zero_ℚ ≤ℚ p → zero_ℚ ≤ℚ q �
 unfolding ◌*ℚ◌
 nonneg_mul p q h k =
     subst (λ x. x ≤ℚ (p *ℚ q)) (sym (over-zero_ℚ (p.den * q.den) (mul-pos p.reduced.0 q.reduced.0)))
-    (over-≤ℚ_in (pos 0) (p.num *ℤ q.num) (p.den * q.den) (mul-pos p.reduced.0 q.reduced.0) (nonneg_lem p.num q.num (zero_cross p h) (zero_cross q k)))
+    (over-≤ℚ_in (pos 0) (p.num *ℤ q.num) (p.den * q.den) (mul-pos p.reduced.0 q.reduced.0)
+    (nonneg_lem p.num q.num (zero_cross p h) (zero_cross q k)))
 
 pub above_mul : (p q : Rational) → zero_ℚ ‹ℚ p → zero_ℚ ‹ℚ q → zero_ℚ ‹ℚ (p *ℚ q)
 unfolding ◌*ℚ◌
 above_mul p q h k =
     subst (λ x. x ‹ℚ (p *ℚ q)) (sym (over-zero_ℚ (p.den * q.den) (mul-pos p.reduced.0 q.reduced.0)))
-    (over-‹ℚ_in (pos 0) (p.num *ℤ q.num) (p.den * q.den) (mul-pos p.reduced.0 q.reduced.0) (above_lem p.num q.num (above_cross p h) (above_cross q k)))
+    (over-‹ℚ_in (pos 0) (p.num *ℤ q.num) (p.den * q.den) (mul-pos p.reduced.0 q.reduced.0)
+    (above_lem p.num q.num (above_cross p h) (above_cross q k)))
 
 difference_times : (p q r : Rational) → r *ℚ (q -ℚ p) ≡ (q *ℚ r) -ℚ (p *ℚ r)
 difference_times p q r = *ℚ--ℚ r q p ∙ ap₂ (λ x y. x -ℚ y) (*ℚ_comm r q) (*ℚ_comm r p)
@@ -189,7 +208,9 @@ difference_times p q r = *ℚ--ℚ r q p ∙ ap₂ (λ x y. x -ℚ y) (*ℚ_comm
 -- an inequality times a nonnegative number
 pub ≤ℚ-*ℚ : (p q r : Rational) → p ≤ℚ q → zero_ℚ ≤ℚ r → (p *ℚ r) ≤ℚ (q *ℚ r)
 ≤ℚ-*ℚ p q r h k =
-    ≤ℚ_from_nonneg (p *ℚ r) (q *ℚ r) (subst (λ x. zero_ℚ ≤ℚ x) (difference_times p q r) (nonneg_mul r (q -ℚ p) k (nonneg_from_≤ℚ p q h)))
+    ≤ℚ_from_nonneg (p *ℚ r) (q
+    *ℚ r) (subst (λ x. zero_ℚ ≤ℚ x) (difference_times p q r)
+    (nonneg_mul r (q -ℚ p) k (nonneg_from_≤ℚ p q h)))
 
 pub ≤ℚ-*ℚ_left : (p q r : Rational) → p ≤ℚ q → zero_ℚ ≤ℚ r → (r *ℚ p) ≤ℚ (r *ℚ q)
 ≤ℚ-*ℚ_left p q r h k = subst₂ (λ x y. x ≤ℚ y) (*ℚ_comm p r) (*ℚ_comm q r) (≤ℚ-*ℚ p q r h k)
@@ -197,7 +218,8 @@ pub ≤ℚ-*ℚ_left : (p q r : Rational) → p ≤ℚ q → zero_ℚ ≤ℚ r �
 -- and times one that isn't positive
 pub ≤ℚ-*ℚ_nonpos : (p q r : Rational) → p ≤ℚ q → r ≤ℚ zero_ℚ → (q *ℚ r) ≤ℚ (p *ℚ r)
 ≤ℚ-*ℚ_nonpos p q r h k =
-    subst₂ (λ x y. x ≤ℚ y) (turn q) (turn p) (neg_ℚ-≤ℚ (p *ℚ neg_ℚ r) (q *ℚ neg_ℚ r) (≤ℚ-*ℚ p q (neg_ℚ r) h (nonneg_neg r k)))
+    subst₂ (λ x y. x ≤ℚ y) (turn q) (turn p) (neg_ℚ-≤ℚ (p *ℚ neg_ℚ r) (q *ℚ neg_ℚ r)
+    (≤ℚ-*ℚ p q (neg_ℚ r) h (nonneg_neg r k)))
   where
     turn : (x : Rational) → neg_ℚ (x *ℚ neg_ℚ r) ≡ x *ℚ r
     turn x = ap neg_ℚ (*ℚ-neg_ℚ x r) ∙ neg_ℚ-neg_ℚ (x *ℚ r)
@@ -229,7 +251,8 @@ above_inverse_lem : (z : ℤ) (d : ℕ) → 0 < d → pos 0 <ℤ z → zero_ℚ 
 unfolding fraction
 above_inverse_lem (pos zero) d h k = absurd (omega (arith, ints))
 above_inverse_lem (pos (suc n)) d h k =
-    subst (λ x. x ‹ℚ reduce (pos d) (suc n)) (sym (over-zero_ℚ (suc n) (omega arith))) (over-‹ℚ_in (pos 0) (pos d) (suc n) (omega arith) (omega (arith, ints)))
+    subst (λ x. x ‹ℚ reduce (pos d) (suc n)) (sym (over-zero_ℚ (suc n) (omega arith)))
+    (over-‹ℚ_in (pos 0) (pos d) (suc n) (omega arith) (omega (arith, ints)))
 above_inverse_lem (negsuc n) d h k = absurd (omega (arith, ints))
 
 pub above_inverse : (q : Rational) → zero_ℚ ‹ℚ q → zero_ℚ ‹ℚ inverse_ℚ q
@@ -271,8 +294,16 @@ pub ≤ℚ_abs_ℚ : (q : Rational) → (q ≤ℚ abs_ℚ q) × (neg_ℚ q ≤�
 ≤ℚ_abs_ℚ q = by_sign (≤ℚ_total zero_ℚ q)
   where
     by_sign : (zero_ℚ ≤ℚ q) ⊎ (q ≤ℚ zero_ℚ) → (q ≤ℚ abs_ℚ q) × (neg_ℚ q ≤ℚ abs_ℚ q)
-    by_sign (inl h) = (≤ℚ_from_≡ q (abs_ℚ q) (sym (abs_ℚ_nonneg q h)), ≤ℚ_trans (neg_ℚ q) zero_ℚ (abs_ℚ q) (nonpos_neg q h) (nonneg_abs_ℚ q))
-    by_sign (inr h) = (≤ℚ_trans q zero_ℚ (abs_ℚ q) h (nonneg_abs_ℚ q), ≤ℚ_from_≡ (neg_ℚ q) (abs_ℚ q) (sym (abs_ℚ_nonpos q h)))
+    by_sign (inl h) = (
+      ≤ℚ_from_≡ q (abs_ℚ q) (sym (abs_ℚ_nonneg q h)),
+      ≤ℚ_trans (neg_ℚ q) zero_ℚ
+          (abs_ℚ q) (nonpos_neg q h) (nonneg_abs_ℚ q),
+    )
+    by_sign (inr h) = (
+      ≤ℚ_trans q zero_ℚ (abs_ℚ q) h (nonneg_abs_ℚ q),
+      ≤ℚ_from_≡ (neg_ℚ q) (abs_ℚ q)
+          (sym (abs_ℚ_nonpos q h)),
+    )
 
 -- the magnitude is the greater of a number and its negation
 pub abs_ℚ_at_most : (q r : Rational) → q ≤ℚ r → neg_ℚ q ≤ℚ r → abs_ℚ q ≤ℚ r
@@ -286,27 +317,34 @@ pub abs_ℚ-+ℚ : (p q : Rational) → abs_ℚ (p +ℚ q) ≤ℚ (abs_ℚ p +�
 abs_ℚ-+ℚ p q =
     abs_ℚ_at_most (p +ℚ q) (abs_ℚ p +ℚ abs_ℚ q)
     (≤ℚ-+ℚ p (abs_ℚ p) q (abs_ℚ q) (≤ℚ_abs_ℚ p).0 (≤ℚ_abs_ℚ q).0)
-    (subst (λ x. x ≤ℚ (abs_ℚ p +ℚ abs_ℚ q)) (sym (neg_ℚ-sum p q)) (≤ℚ-+ℚ (neg_ℚ p) (abs_ℚ p) (neg_ℚ q) (abs_ℚ q) (≤ℚ_abs_ℚ p).1 (≤ℚ_abs_ℚ q).1))
+    (subst (λ x. x ≤ℚ (abs_ℚ p +ℚ abs_ℚ q)) (sym (neg_ℚ-sum p q))
+    (≤ℚ-+ℚ (neg_ℚ p) (abs_ℚ p) (neg_ℚ q) (abs_ℚ q) (≤ℚ_abs_ℚ p).1 (≤ℚ_abs_ℚ q).1))
 
 pub abs_ℚ-neg_ℚ : (q : Rational) → abs_ℚ (neg_ℚ q) ≡ abs_ℚ q
 abs_ℚ-neg_ℚ q =
     ≤ℚ_antisymm (abs_ℚ (neg_ℚ q)) (abs_ℚ q)
-    (abs_ℚ_at_most (neg_ℚ q) (abs_ℚ q) (≤ℚ_abs_ℚ q).1 (subst (λ x. x ≤ℚ abs_ℚ q) (sym (neg_ℚ-neg_ℚ q)) (≤ℚ_abs_ℚ q).0))
-    (abs_ℚ_at_most q (abs_ℚ (neg_ℚ q)) (subst (λ x. x ≤ℚ abs_ℚ (neg_ℚ q)) (neg_ℚ-neg_ℚ q) (≤ℚ_abs_ℚ (neg_ℚ q)).1) (≤ℚ_abs_ℚ (neg_ℚ q)).0)
+    (abs_ℚ_at_most (neg_ℚ q) (abs_ℚ q) (≤ℚ_abs_ℚ q).1
+    (subst (λ x. x ≤ℚ abs_ℚ q) (sym (neg_ℚ-neg_ℚ q)) (≤ℚ_abs_ℚ q).0))
+    (abs_ℚ_at_most q (abs_ℚ (neg_ℚ q)) (subst (λ x. x ≤ℚ abs_ℚ (neg_ℚ q)) (neg_ℚ-neg_ℚ q)
+    (≤ℚ_abs_ℚ (neg_ℚ q)).1) (≤ℚ_abs_ℚ (neg_ℚ q)).0)
 
 pub abs_ℚ-*ℚ : (p q : Rational) → abs_ℚ (p *ℚ q) ≡ abs_ℚ p *ℚ abs_ℚ q
 abs_ℚ-*ℚ p q = by_signs (≤ℚ_total zero_ℚ p) (≤ℚ_total zero_ℚ q)
   where
-    by_signs : (zero_ℚ ≤ℚ p) ⊎ (p ≤ℚ zero_ℚ) → (zero_ℚ ≤ℚ q) ⊎ (q ≤ℚ zero_ℚ) → abs_ℚ (p *ℚ q) ≡ abs_ℚ p *ℚ abs_ℚ q
-    by_signs (inl h) (inl k) = abs_ℚ_nonneg (p *ℚ q) (nonneg_mul p q h k) ∙ sym (ap₂ ◌*ℚ◌ (abs_ℚ_nonneg p h) (abs_ℚ_nonneg q k))
+    by_signs : (zero_ℚ ≤ℚ p) ⊎ (p ≤ℚ zero_ℚ) → (zero_ℚ ≤ℚ q) ⊎ (q ≤ℚ zero_ℚ)
+        → abs_ℚ (p *ℚ q) ≡ abs_ℚ p *ℚ abs_ℚ q
+    by_signs (inl h) (inl k) = abs_ℚ_nonneg (p *ℚ q) (nonneg_mul p q h k)
+        ∙ sym (ap₂ ◌*ℚ◌ (abs_ℚ_nonneg p h) (abs_ℚ_nonneg q k))
     by_signs (inl h) (inr k) =
-        abs_ℚ_nonpos (p *ℚ q) (nonpos_mul p q h k) ∙ sym (ap₂ ◌*ℚ◌ (abs_ℚ_nonneg p h) (abs_ℚ_nonpos q k) ∙ *ℚ-neg_ℚ p q)
+        abs_ℚ_nonpos (p *ℚ q) (nonpos_mul p q h k)
+        ∙ sym (ap₂ ◌*ℚ◌ (abs_ℚ_nonneg p h) (abs_ℚ_nonpos q k) ∙ *ℚ-neg_ℚ p q)
     by_signs (inr h) (inl k) =
         abs_ℚ_nonpos (p *ℚ q) (subst (λ x. x ≤ℚ zero_ℚ) (*ℚ_comm q p) (nonpos_mul q p k h))
         ∙ sym (ap₂ ◌*ℚ◌ (abs_ℚ_nonpos p h) (abs_ℚ_nonneg q k) ∙ neg_ℚ-*ℚ p q)
     by_signs (inr h) (inr k) =
         abs_ℚ_nonneg (p *ℚ q) (nonneg_mul_nonpos p q h k)
-        ∙ sym (ap₂ ◌*ℚ◌ (abs_ℚ_nonpos p h) (abs_ℚ_nonpos q k) ∙ *ℚ-neg_ℚ (neg_ℚ p) q ∙ ap neg_ℚ (neg_ℚ-*ℚ p q) ∙ neg_ℚ-neg_ℚ (p *ℚ q))
+        ∙ sym (ap₂ ◌*ℚ◌ (abs_ℚ_nonpos p h) (abs_ℚ_nonpos q k) ∙ *ℚ-neg_ℚ (neg_ℚ p) q
+        ∙ ap neg_ℚ (neg_ℚ-*ℚ p q) ∙ neg_ℚ-neg_ℚ (p *ℚ q))
 
 -- ---- the sign
 

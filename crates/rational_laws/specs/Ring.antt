@@ -1,7 +1,7 @@
 -- Equations that follow by the laws of the ring, decided by computing.
 --
--- A polynomial with whole coefficients is kept as a list of terms in one order, so two expressions that are equal by the
--- laws of the ring have the same list. How to use it:
+-- A polynomial with whole coefficients is kept as a list of terms in one order, so two expressions
+-- that are equal by the laws of the ring have the same list. How to use it:
 --     square : (a b : Rational) → (a +ℚ b) *ℚ (a +ℚ b) ≡ a *ℚ a +ℚ (whole_ℚ (pos 2) *ℚ a *ℚ b +ℚ b *ℚ b)
 --     square = ring₂ _ (λ ρ. simp (as_expression, whole_as ρ) (by_ring ρ _ _ refl))
 use Rattle.std.specs.Prelude.{◌≡◌, ℕ, zero, suc, Bool, true, false, cond, nat_le, List, [], ◌∷◌, ℤ, pos, negsuc, ◌+ℤ◌, ◌*ℤ◌, neg_ℤ, refl}
@@ -20,10 +20,12 @@ unfolding whole_ℚ
 whole_is n = sym (reduce_itself (whole_ℚ n))
 
 pub whole_ℚ-+ℤ : (m n : ℤ) → whole_ℚ (m +ℤ n) ≡ whole_ℚ m +ℚ whole_ℚ n
-whole_ℚ-+ℤ m n = whole_is (m +ℤ n) ∙ sym (ap₂ ◌+ℚ◌ (whole_is m) (whole_is n) ∙ over-+ℚ m n 1 (omega arith))
+whole_ℚ-+ℤ m n = whole_is (m +ℤ n)
+    ∙ sym (ap₂ ◌+ℚ◌ (whole_is m) (whole_is n) ∙ over-+ℚ m n 1 (omega arith))
 
 pub whole_ℚ-*ℤ : (m n : ℤ) → whole_ℚ (m *ℤ n) ≡ whole_ℚ m *ℚ whole_ℚ n
-whole_ℚ-*ℤ m n = whole_is (m *ℤ n) ∙ sym (ap₂ ◌*ℚ◌ (whole_is m) (whole_is n) ∙ reduce-*ℚ m n 1 1 (omega arith) (omega arith))
+whole_ℚ-*ℤ m n = whole_is (m *ℤ n)
+    ∙ sym (ap₂ ◌*ℚ◌ (whole_is m) (whole_is n) ∙ reduce-*ℚ m n 1 1 (omega arith) (omega arith))
 
 pub whole_ℚ-neg_ℤ : (m : ℤ) → whole_ℚ (neg_ℤ m) ≡ neg_ℚ (whole_ℚ m)
 whole_ℚ-neg_ℤ m = whole_is (neg_ℤ m) ∙ sym (ap neg_ℚ (whole_is m) ∙ over-neg_ℚ m 1 (omega arith))
@@ -117,57 +119,79 @@ module _ (ρ : ℕ → Rational) where
   left_comm : (p q r : Rational) → p *ℚ (q *ℚ r) ≡ q *ℚ (p *ℚ r)
   left_comm p q r = sym (*ℚ_assoc p q r) ∙ ap (λ x. x *ℚ r) (*ℚ_comm p q) ∙ *ℚ_assoc q p r
 
-  put_variable_is : (v : ℕ) (ws : List ℕ) → variables_value (put_variable v ws) ≡ ρ v *ℚ variables_value ws
+  put_variable_is : (v : ℕ) (ws : List ℕ)
+      → variables_value (put_variable v ws) ≡ ρ v *ℚ variables_value ws
   put_variable_is v [] = refl
   put_variable_is v (w ∷ ws) = by_test (nat_le v w) (put_variable_is v ws)
     where
-      by_test : (b : Bool) → variables_value (put_variable v ws) ≡ ρ v *ℚ variables_value ws → variables_value (cond b (v ∷ w ∷ ws) (w ∷ put_variable v ws)) ≡ ρ v *ℚ (ρ w *ℚ variables_value ws)
+      by_test : (b : Bool) → variables_value (put_variable v ws) ≡ ρ v *ℚ variables_value ws
+          → variables_value (cond b (v ∷ w ∷ ws) (w ∷ put_variable v ws))
+          ≡ ρ v *ℚ (ρ w *ℚ variables_value ws)
       by_test true e = refl
       by_test false e = ap (λ x. ρ w *ℚ x) e ∙ left_comm (ρ w) (ρ v) (variables_value ws)
 
-  times_variables_is : (vs ws : List ℕ) → variables_value (times_variables vs ws) ≡ variables_value vs *ℚ variables_value ws
+  times_variables_is : (vs ws : List ℕ)
+      → variables_value (times_variables vs ws) ≡ variables_value vs *ℚ variables_value ws
   times_variables_is [] ws = sym (one-*ℚ (variables_value ws))
   times_variables_is (v ∷ vs) ws =
-      put_variable_is v (times_variables vs ws) ∙ ap (λ x. ρ v *ℚ x) (times_variables_is vs ws) ∙ sym (*ℚ_assoc (ρ v) (variables_value vs) (variables_value ws))
+      put_variable_is v (times_variables vs ws) ∙ ap (λ x. ρ v *ℚ x) (times_variables_is vs ws)
+      ∙ sym (*ℚ_assoc (ρ v) (variables_value vs) (variables_value ws))
 
-  some_term_is : (c : ℤ) (m : List ℕ) (p : Terms) → terms_value (some_term c m p) ≡ whole_ℚ c *ℚ variables_value m +ℚ terms_value p
+  some_term_is : (c : ℤ) (m : List ℕ) (p : Terms)
+      → terms_value (some_term c m p) ≡ whole_ℚ c *ℚ variables_value m +ℚ terms_value p
   some_term_is (pos zero) m p =
-      sym (zero-+ℚ (terms_value p)) ∙ ap (λ x. x +ℚ terms_value p) (sym (zero-*ℚ (variables_value m)) ∙ ap (λ x. x *ℚ variables_value m) (sym whole_zero))
+      sym (zero-+ℚ (terms_value p))
+      ∙ ap (λ x. x +ℚ terms_value p) (sym (zero-*ℚ (variables_value m))
+      ∙ ap (λ x. x *ℚ variables_value m) (sym whole_zero))
   some_term_is (pos (suc n)) m p = refl
   some_term_is (negsuc n) m p = refl
 
-  order_lem : (r : Ordering) (c d : ℤ) (m n : List ℕ) (p more : Terms) → (r ≡ Equal → m ≡ n) → terms_value more ≡ whole_ℚ c *ℚ variables_value m +ℚ terms_value p → terms_value (at_order r c m d n p more) ≡ whole_ℚ c *ℚ variables_value m +ℚ (whole_ℚ d *ℚ variables_value n +ℚ terms_value p)
+  order_lem : (r : Ordering) (c d : ℤ) (m n : List ℕ) (p more : Terms) → (r ≡ Equal → m ≡ n)
+      → terms_value more ≡ whole_ℚ c *ℚ variables_value m +ℚ terms_value p
+      → terms_value (at_order r c m d n p more)
+      ≡ whole_ℚ c *ℚ variables_value m +ℚ (whole_ℚ d *ℚ variables_value n +ℚ terms_value p)
   order_lem Less c d m n p more same e = some_term_is c m ((d, n) ∷ p)
   order_lem Equal c d m n p more same e =
       some_term_is (c +ℤ d) n p
       ∙ ap (λ x. x *ℚ variables_value n +ℚ terms_value p) (whole_ℚ-+ℤ c d)
       ∙ ap (λ x. x +ℚ terms_value p) (+ℚ-*ℚ (whole_ℚ c) (whole_ℚ d) (variables_value n))
       ∙ +ℚ_assoc (whole_ℚ c *ℚ variables_value n) (whole_ℚ d *ℚ variables_value n) (terms_value p)
-      ∙ ap (λ k. whole_ℚ c *ℚ variables_value k +ℚ (whole_ℚ d *ℚ variables_value n +ℚ terms_value p)) (sym (same refl))
+      ∙ ap (λ k. whole_ℚ c *ℚ variables_value k
+      +ℚ (whole_ℚ d *ℚ variables_value n +ℚ terms_value p)) (sym (same refl))
   order_lem Greater c d m n p more same e =
-      ap (λ x. whole_ℚ d *ℚ variables_value n +ℚ x) e ∙ +ℚ_left_comm (whole_ℚ d *ℚ variables_value n) (whole_ℚ c *ℚ variables_value m) (terms_value p)
+      ap (λ x. whole_ℚ d *ℚ variables_value n +ℚ x) e
+      ∙ +ℚ_left_comm (whole_ℚ d *ℚ variables_value n) (whole_ℚ c *ℚ variables_value m)
+      (terms_value p)
 
-  put_term_is : (c : ℤ) (m : List ℕ) (p : Terms) → terms_value (put_term c m p) ≡ whole_ℚ c *ℚ variables_value m +ℚ terms_value p
+  put_term_is : (c : ℤ) (m : List ℕ) (p : Terms)
+      → terms_value (put_term c m p) ≡ whole_ℚ c *ℚ variables_value m +ℚ terms_value p
   put_term_is c m [] = some_term_is c m []
   put_term_is c m (t ∷ p) =
-      order_lem (slice_cmp nat_cmp m t.1) c t.0 m t.1 p (put_term c m p) (slice_cmp-IsAntisymmetric nat_cmp-IsAntisymmetric m t.1) (put_term_is c m p)
+      order_lem (slice_cmp nat_cmp m t.1) c t.0 m t.1 p (put_term c m p)
+      (slice_cmp-IsAntisymmetric nat_cmp-IsAntisymmetric m t.1) (put_term_is c m p)
 
   plus_is : (p q : Terms) → terms_value (plus p q) ≡ terms_value p +ℚ terms_value q
   plus_is [] q = sym (zero-+ℚ (terms_value q))
   plus_is (t ∷ p) q =
-      put_term_is t.0 t.1 (plus p q) ∙ ap (λ x. whole_ℚ t.0 *ℚ variables_value t.1 +ℚ x) (plus_is p q)
+      put_term_is t.0 t.1 (plus p q)
+      ∙ ap (λ x. whole_ℚ t.0 *ℚ variables_value t.1 +ℚ x) (plus_is p q)
       ∙ sym (+ℚ_assoc (whole_ℚ t.0 *ℚ variables_value t.1) (terms_value p) (terms_value q))
 
   cross_lem : (a b c d : Rational) → (a *ℚ c) *ℚ (b *ℚ d) ≡ (a *ℚ b) *ℚ (c *ℚ d)
-  cross_lem a b c d = *ℚ_assoc a c (b *ℚ d) ∙ ap (λ x. a *ℚ x) (left_comm c b d) ∙ sym (*ℚ_assoc a b (c *ℚ d))
+  cross_lem a b c d = *ℚ_assoc a c (b *ℚ d) ∙ ap (λ x. a *ℚ x) (left_comm c b d)
+      ∙ sym (*ℚ_assoc a b (c *ℚ d))
 
-  times_term_is : (c : ℤ) (m : List ℕ) (p : Terms) → terms_value (times_term c m p) ≡ (whole_ℚ c *ℚ variables_value m) *ℚ terms_value p
+  times_term_is : (c : ℤ) (m : List ℕ) (p : Terms)
+      → terms_value (times_term c m p) ≡ (whole_ℚ c *ℚ variables_value m) *ℚ terms_value p
   times_term_is c m [] = sym (*ℚ-zero (whole_ℚ c *ℚ variables_value m))
   times_term_is c m (t ∷ p) =
       put_term_is (c *ℤ t.0) (times_variables m t.1) (times_term c m p)
-      ∙ ap₂ (λ x y. x *ℚ y +ℚ terms_value (times_term c m p)) (whole_ℚ-*ℤ c t.0) (times_variables_is m t.1)
-      ∙ ap₂ ◌+ℚ◌ (cross_lem (whole_ℚ c) (variables_value m) (whole_ℚ t.0) (variables_value t.1)) (times_term_is c m p)
-      ∙ sym (*ℚ-+ℚ (whole_ℚ c *ℚ variables_value m) (whole_ℚ t.0 *ℚ variables_value t.1) (terms_value p))
+      ∙ ap₂ (λ x y. x *ℚ y +ℚ terms_value (times_term c m p)) (whole_ℚ-*ℤ c t.0)
+      (times_variables_is m t.1)
+      ∙ ap₂ ◌+ℚ◌ (cross_lem (whole_ℚ c) (variables_value m) (whole_ℚ t.0) (variables_value t.1))
+      (times_term_is c m p)
+      ∙ sym (*ℚ-+ℚ (whole_ℚ c *ℚ variables_value m) (whole_ℚ t.0 *ℚ variables_value t.1)
+      (terms_value p))
 
   times_is : (p q : Terms) → terms_value (times p q) ≡ terms_value p *ℚ terms_value q
   times_is [] q = sym (zero-*ℚ (terms_value q))
@@ -184,7 +208,8 @@ module _ (ρ : ℕ → Rational) where
 
   terms_is : (e : Expression) → terms_value (terms_of e) ≡ value ρ e
   unfolding value
-  terms_is (variable n) = +ℚ-zero (whole_ℚ (pos 1) *ℚ (ρ n *ℚ one_ℚ)) ∙ ap₂ ◌*ℚ◌ whole_one (*ℚ-one (ρ n)) ∙ one-*ℚ (ρ n)
+  terms_is (variable n) = +ℚ-zero (whole_ℚ (pos 1) *ℚ (ρ n *ℚ one_ℚ))
+      ∙ ap₂ ◌*ℚ◌ whole_one (*ℚ-one (ρ n)) ∙ one-*ℚ (ρ n)
   terms_is (number z) = some_term_is z [] [] ∙ +ℚ-zero (whole_ℚ z *ℚ one_ℚ) ∙ *ℚ-one (whole_ℚ z)
   terms_is (sum e f) = plus_is (terms_of e) (terms_of f) ∙ ap₂ ◌+ℚ◌ (terms_is e) (terms_is f)
   terms_is (product e f) = times_is (terms_of e) (terms_of f) ∙ ap₂ ◌*ℚ◌ (terms_is e) (terms_is f)
@@ -229,26 +254,40 @@ given [] n = zero_ℚ
 given (x ∷ xs) zero = x
 given (x ∷ xs) (suc n) = given xs n
 
-pub ring₁ : (P : Rational → Type 0) → ((ρ : ℕ → Rational) → P (value ρ (variable 0))) → (a : Rational) → P a
+pub ring₁ : (P : Rational → Type 0) → ((ρ : ℕ → Rational) → P (value ρ (variable 0)))
+    → (a : Rational) → P a
 unfolding value
 ring₁ P h a = h (given (a ∷ []))
 
-pub ring₂ : (P : Rational → Rational → Type 0) → ((ρ : ℕ → Rational) → P (value ρ (variable 0)) (value ρ (variable 1))) → (a b : Rational) → P a b
+pub ring₂ : (P : Rational → Rational → Type 0)
+    → ((ρ : ℕ → Rational) → P (value ρ (variable 0)) (value ρ (variable 1))) → (a b : Rational)
+    → P a b
 unfolding value
 ring₂ P h a b = h (given (a ∷ b ∷ []))
 
-pub ring₃ : (P : Rational → Rational → Rational → Type 0) → ((ρ : ℕ → Rational) → P (value ρ (variable 0)) (value ρ (variable 1)) (value ρ (variable 2))) → (a b c : Rational) → P a b c
+pub ring₃ : (P : Rational → Rational → Rational → Type 0)
+    → ((ρ : ℕ → Rational) → P (value ρ (variable 0)) (value ρ (variable 1)) (value ρ (variable 2)))
+    → (a b c : Rational) → P a b c
 unfolding value
 ring₃ P h a b c = h (given (a ∷ b ∷ c ∷ []))
 
-pub ring₄ : (P : Rational → Rational → Rational → Rational → Type 0) → ((ρ : ℕ → Rational) → P (value ρ (variable 0)) (value ρ (variable 1)) (value ρ (variable 2)) (value ρ (variable 3))) → (a b c d : Rational) → P a b c d
+pub ring₄ : (P : Rational → Rational → Rational → Rational → Type 0)
+    → ((ρ : ℕ → Rational)
+    → P (value ρ (variable 0)) (value ρ (variable 1)) (value ρ (variable 2)) (value ρ (variable 3)))
+    → (a b c d : Rational) → P a b c d
 unfolding value
 ring₄ P h a b c d = h (given (a ∷ b ∷ c ∷ d ∷ []))
 
-pub ring₅ : (P : Rational → Rational → Rational → Rational → Rational → Type 0) → ((ρ : ℕ → Rational) → P (value ρ (variable 0)) (value ρ (variable 1)) (value ρ (variable 2)) (value ρ (variable 3)) (value ρ (variable 4))) → (a b c d e : Rational) → P a b c d e
+pub ring₅ : (P : Rational → Rational → Rational → Rational → Rational → Type 0)
+    → ((ρ : ℕ → Rational)
+    → P (value ρ (variable 0)) (value ρ (variable 1)) (value ρ (variable 2)) (value ρ (variable 3))
+    (value ρ (variable 4))) → (a b c d e : Rational) → P a b c d e
 unfolding value
 ring₅ P h a b c d e = h (given (a ∷ b ∷ c ∷ d ∷ e ∷ []))
 
-pub ring₆ : (P : Rational → Rational → Rational → Rational → Rational → Rational → Type 0) → ((ρ : ℕ → Rational) → P (value ρ (variable 0)) (value ρ (variable 1)) (value ρ (variable 2)) (value ρ (variable 3)) (value ρ (variable 4)) (value ρ (variable 5))) → (a b c d e f : Rational) → P a b c d e f
+pub ring₆ : (P : Rational → Rational → Rational → Rational → Rational → Rational → Type 0)
+    → ((ρ : ℕ → Rational)
+    → P (value ρ (variable 0)) (value ρ (variable 1)) (value ρ (variable 2)) (value ρ (variable 3))
+    (value ρ (variable 4)) (value ρ (variable 5))) → (a b c d e f : Rational) → P a b c d e f
 unfolding value
 ring₆ P h a b c d e f = h (given (a ∷ b ∷ c ∷ d ∷ e ∷ f ∷ []))

@@ -9,22 +9,30 @@ use Rattle.ratio_core.specs.RationalLaws.{eq_rational_eq, rational_eq-false, rat
 use Rattle.rational_laws.specs.Order.{not_‹ℚ_from_≤ℚ, ≤ℚ_from_≡, ≤ℚ_from_‹ℚ}
 
 module _ (p q : Rational) where
-  is_le_lem : (r : Ordering) → MatchOrdering r (p ‹ℚ q) (p ≡ q) (q ‹ℚ p) → Decides (is_le r) (p ≤ℚ q)
+  is_le_lem : (r : Ordering) → MatchOrdering r (p ‹ℚ q) (p ≡ q) (q ‹ℚ p)
+      → Decides (is_le r) (p ≤ℚ q)
   is_le_lem Less h = (λ e. ≤ℚ_from_‹ℚ p q h, λ e. refl)
   is_le_lem Equal h = (λ e. ≤ℚ_from_≡ p q h, λ e. refl)
   is_le_lem Greater h = (λ e. absurd (true≢false (sym e)), λ k. absurd (not_‹ℚ_from_≤ℚ p q k h))
 
-  is_lt_lem : (r : Ordering) → MatchOrdering r (p ‹ℚ q) (p ≡ q) (q ‹ℚ p) → Decides (is_lt r) (p ‹ℚ q)
+  is_lt_lem : (r : Ordering) → MatchOrdering r (p ‹ℚ q) (p ≡ q) (q ‹ℚ p)
+      → Decides (is_lt r) (p ‹ℚ q)
   is_lt_lem Less h = (λ e. h, λ e. refl)
-  is_lt_lem Equal h = (λ e. absurd (true≢false (sym e)), λ k. absurd (not_‹ℚ_from_≤ℚ q p (≤ℚ_from_≡ q p (sym h)) k))
-  is_lt_lem Greater h = (λ e. absurd (true≢false (sym e)), λ k. absurd (not_‹ℚ_from_≤ℚ q p (≤ℚ_from_‹ℚ q p h) k))
+  is_lt_lem Equal h =
+      (λ e. absurd (true≢false (sym e)), λ k. absurd (not_‹ℚ_from_≤ℚ q p (≤ℚ_from_≡ q p (sym h)) k))
+  is_lt_lem Greater h =
+      (λ e. absurd (true≢false (sym e)), λ k. absurd (not_‹ℚ_from_≤ℚ q p (≤ℚ_from_‹ℚ q p h) k))
 
-  is_gt_lem : (r : Ordering) → MatchOrdering r (p ‹ℚ q) (p ≡ q) (q ‹ℚ p) → Decides (is_gt r) (q ‹ℚ p)
-  is_gt_lem Less h = (λ e. absurd (true≢false (sym e)), λ k. absurd (not_‹ℚ_from_≤ℚ p q (≤ℚ_from_‹ℚ p q h) k))
-  is_gt_lem Equal h = (λ e. absurd (true≢false (sym e)), λ k. absurd (not_‹ℚ_from_≤ℚ p q (≤ℚ_from_≡ p q h) k))
+  is_gt_lem : (r : Ordering) → MatchOrdering r (p ‹ℚ q) (p ≡ q) (q ‹ℚ p)
+      → Decides (is_gt r) (q ‹ℚ p)
+  is_gt_lem Less h =
+      (λ e. absurd (true≢false (sym e)), λ k. absurd (not_‹ℚ_from_≤ℚ p q (≤ℚ_from_‹ℚ p q h) k))
+  is_gt_lem Equal h =
+      (λ e. absurd (true≢false (sym e)), λ k. absurd (not_‹ℚ_from_≤ℚ p q (≤ℚ_from_≡ p q h) k))
   is_gt_lem Greater h = (λ e. h, λ e. refl)
 
-  is_ge_lem : (r : Ordering) → MatchOrdering r (p ‹ℚ q) (p ≡ q) (q ‹ℚ p) → Decides (is_ge r) (q ≤ℚ p)
+  is_ge_lem : (r : Ordering) → MatchOrdering r (p ‹ℚ q) (p ≡ q) (q ‹ℚ p)
+      → Decides (is_ge r) (q ≤ℚ p)
   is_ge_lem Less h = (λ e. absurd (true≢false (sym e)), λ k. absurd (not_‹ℚ_from_≤ℚ q p k h))
   is_ge_lem Equal h = (λ e. ≤ℚ_from_≡ q p (sym h), λ e. refl)
   is_ge_lem Greater h = (λ e. ≤ℚ_from_‹ℚ q p h, λ e. refl)
@@ -54,10 +62,13 @@ module _ (p q : Rational) where
   pub gt_from_test : is_gt (rational_cmp p q) ≡ true → q ‹ℚ p
   gt_from_test = is_gt_Decides.0
 
-  failed_lem : (r : Ordering) → (is_le r ≡ false → is_gt r ≡ true) × (is_lt r ≡ false → is_ge r ≡ true) × (is_ge r ≡ false → is_lt r ≡ true) × (is_gt r ≡ false → is_le r ≡ true)
+  failed_lem : (r : Ordering)
+      → (is_le r ≡ false → is_gt r ≡ true) × (is_lt r ≡ false → is_ge r ≡ true)
+      × (is_ge r ≡ false → is_lt r ≡ true) × (is_gt r ≡ false → is_le r ≡ true)
   failed_lem Less = (λ e. absurd (true≢false e), λ e. absurd (true≢false e), λ e. refl, λ e. refl)
   failed_lem Equal = (λ e. absurd (true≢false e), λ e. refl, λ e. absurd (true≢false e), λ e. refl)
-  failed_lem Greater = (λ e. refl, λ e. refl, λ e. absurd (true≢false e), λ e. absurd (true≢false e))
+  failed_lem Greater =
+      (λ e. refl, λ e. refl, λ e. absurd (true≢false e), λ e. absurd (true≢false e))
 
   pub gt_from_failed : is_le (rational_cmp p q) ≡ false → q ‹ℚ p
   gt_from_failed e = gt_from_test ((failed_lem (rational_cmp p q)).0 e)
@@ -84,4 +95,22 @@ module _ (p q : Rational) where
   pub test_from_gt : q ‹ℚ p → is_gt (rational_cmp p q) ≡ true
   test_from_gt = is_gt_Decides.1
 
-pub ruleset rational_tests = (le_from_test, lt_from_test, ge_from_test, gt_from_test, gt_from_failed, ge_from_failed, lt_from_failed, le_from_failed, test_from_le, test_from_lt, test_from_ge, test_from_gt, rational_eq-true, rational_eq-false, eq_rational_eq, ≤ℚ_from_‹ℚ, ≤ℚ_from_≡)
+pub ruleset rational_tests = (
+  le_from_test,
+  lt_from_test,
+  ge_from_test,
+  gt_from_test,
+  gt_from_failed,
+  ge_from_failed,
+  lt_from_failed,
+  le_from_failed,
+  test_from_le,
+  test_from_lt,
+  test_from_ge,
+  test_from_gt,
+  rational_eq-true,
+  rational_eq-false,
+  eq_rational_eq,
+  ≤ℚ_from_‹ℚ,
+  ≤ℚ_from_≡,
+)

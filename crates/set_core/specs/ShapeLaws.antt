@@ -1,4 +1,5 @@
--- When a set is one of so many components: the tests that refuse one that isn't, and what is left when components go.
+-- When a set is one of so many components: the tests that refuse one that isn't, and what is left
+-- when components go.
 use Rattle.std.specs.Prelude.{◌≡◌, ℕ, ◌<◌, ◌≤◌, nat_lt, Bool, true, false, ◌||◌, not, ◌==◌, List, length, filter, refl}
 use Rattle.std.proofs.Common.{sym, arith, is_lt, subst, true≢false}
 use Rattle.std.proofs.lemmas.Bool.Decides.{nat_tests}
@@ -15,7 +16,8 @@ pub in_order : (l u : Rational) → is_crossed (Interval l u) ≡ false → l �
 in_order l u h = ge_from_failed u l h
 
 pub not_crossed : (l u : Rational) → l ≤ℚ u → is_crossed (Interval l u) ≡ false
-not_crossed l u h = test_fails (is_lt (rational_cmp u l)) (λ t. not_‹ℚ_from_≤ℚ l u h (lt_from_test u l t))
+not_crossed l u h =
+    test_fails (is_lt (rational_cmp u l)) (λ t. not_‹ℚ_from_≤ℚ l u h (lt_from_test u l t))
   where
     test_fails : (b : Bool) → ¬ (b ≡ true) → b ≡ false
     test_fails true h = absurd (h refl)
@@ -30,13 +32,19 @@ not_bad : (d n least : ℕ) → d ≡ n → least ≤ n → (not (d == n) || nat
 not_bad d n least e h = grind (arith, nat_tests)
 
 -- a set that no test refuses is one of so many components
-pub set_of_from_tests : (n : ℕ) (set : Set) → (is_scalar set ≡ true → n ≡ 1) → has_bad_dimension set n ≡ false → is_crossed set ≡ false → IsSetOf n set
-set_of_from_tests n set one bad crossed = record { dimension = (sizes set one bad).0; enough = (sizes set one bad).1; uncrossed = crossed }
+pub set_of_from_tests : (n : ℕ) (set : Set) → (is_scalar set ≡ true → n ≡ 1)
+    → has_bad_dimension set n ≡ false → is_crossed set ≡ false → IsSetOf n set
+set_of_from_tests n set one bad crossed = record {
+  dimension = (sizes set one bad).0;
+  enough = (sizes set one bad).1;
+  uncrossed = crossed;
+}
   where
     scalar : n ≡ 1 → (1 ≡ n) × (1 ≤ n)
     scalar e = (sym e, omega arith)
 
-    sizes : (set : Set) → (is_scalar set ≡ true → n ≡ 1) → has_bad_dimension set n ≡ false → (dimension_of set ≡ n) × (least_dimension set ≤ n)
+    sizes : (set : Set) → (is_scalar set ≡ true → n ≡ 1) → has_bad_dimension set n ≡ false
+        → (dimension_of set ≡ n) × (least_dimension set ≤ n)
     sizes (LessThan u) one bad = scalar (one refl)
     sizes (GreaterThan l) one bad = scalar (one refl)
     sizes (EqualTo a) one bad = scalar (one refl)
@@ -71,19 +79,31 @@ good_dimension n (NormOneCone d) s = not_bad d n 2 s.dimension s.enough
 -- ---- fewer components
 
 -- a set of n components that is no norm cone is one of fewer, if some are left
-pub resized_set : (n k : ℕ) (set : Set) → IsSetOf n set → is_norm_cone set ≡ false → 0 < k → k ≤ n → IsSetOf k (resized k set)
-resized_set n k (LessThan u) s c some h = record { dimension = omega (arith, s.dimension); enough = some; uncrossed = refl }
-resized_set n k (GreaterThan l) s c some h = record { dimension = omega (arith, s.dimension); enough = some; uncrossed = refl }
-resized_set n k (EqualTo a) s c some h = record { dimension = omega (arith, s.dimension); enough = some; uncrossed = refl }
-resized_set n k (Interval l u) s c some h = record { dimension = omega (arith, s.dimension); enough = some; uncrossed = s.uncrossed }
+pub resized_set : (n k : ℕ) (set : Set) → IsSetOf n set → is_norm_cone set ≡ false → 0 < k → k ≤ n
+    → IsSetOf k (resized k set)
+resized_set n k (LessThan u) s c some h =
+    record { dimension = omega (arith, s.dimension); enough = some; uncrossed = refl }
+resized_set n k (GreaterThan l) s c some h =
+    record { dimension = omega (arith, s.dimension); enough = some; uncrossed = refl }
+resized_set n k (EqualTo a) s c some h =
+    record { dimension = omega (arith, s.dimension); enough = some; uncrossed = refl }
+resized_set n k (Interval l u) s c some h =
+    record { dimension = omega (arith, s.dimension); enough = some; uncrossed = s.uncrossed }
 resized_set n k (Reals d) s c some h = record { dimension = refl; enough = some; uncrossed = refl }
 resized_set n k (Zeros d) s c some h = record { dimension = refl; enough = some; uncrossed = refl }
-resized_set n k (Nonnegatives d) s c some h = record { dimension = refl; enough = some; uncrossed = refl }
-resized_set n k (Nonpositives d) s c some h = record { dimension = refl; enough = some; uncrossed = refl }
+resized_set n k (Nonnegatives d) s c some h =
+    record { dimension = refl; enough = some; uncrossed = refl }
+resized_set n k (Nonpositives d) s c some h =
+    record { dimension = refl; enough = some; uncrossed = refl }
 resized_set n k (NormInfinityCone d) s c some h = absurd (true≢false c)
 resized_set n k (NormOneCone d) s c some h = absurd (true≢false c)
 
 -- so it is with those that pass a test
-pub shrunk_set : {X : Type 0} (test : X → Bool) (components : List X) (set : Set) → IsSetOf (length components) set → is_norm_cone set ≡ false → 0 < length (filter test components) → IsSetOf (length (filter test components)) (shrunk test components set)
+pub shrunk_set : {X : Type 0} (test : X → Bool) (components : List X) (set : Set)
+    → IsSetOf (length components) set → is_norm_cone set ≡ false
+    → 0 < length (filter test components)
+    → IsSetOf (length (filter test components)) (shrunk test components set)
 shrunk_set test components set s c some =
-    resized_set (length components) (length (filter test components)) set s c some (subst (λ k. k ≤ length components) (sym (length-filter test components)) (count_by-le-length test components))
+    resized_set (length components) (length (filter test components)) set s c some
+    (subst (λ k. k ≤ length components) (sym (length-filter test components))
+    (count_by-le-length test components))

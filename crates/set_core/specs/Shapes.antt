@@ -1,4 +1,5 @@
--- What of a set isn't its vectors: its type, its dimension and its bounds, and for how many components it is a set.
+-- What of a set isn't its vectors: its type, its dimension and its bounds, and for how many
+-- components it is a set.
 use Rattle.std.specs.Prelude.{◌≡◌, ℕ, ◌≤◌, nat_lt, Bool, true, false, ◌&&◌, ◌||◌, not, ◌==◌, cond, List, length, filter, Option, Some, None}
 use Rattle.std.proofs.Common.{is_lt}
 use Rattle.ratio_core.specs.Rational.{Rational, rational_cmp}
@@ -80,7 +81,8 @@ pub record IsSetOf (n : ℕ) (set : Set) : Type 0 where
 -- a set of vectors that isn't one of so many components
 abbrev pub has_bad_dimension : Set → ℕ → Bool
 has_bad_dimension set components =
-    not (is_scalar set) && (not (dimension_of set == components) || nat_lt (dimension_of set) (least_dimension set))
+    not (is_scalar set)
+    && (not (dimension_of set == components) || nat_lt (dimension_of set) (least_dimension set))
 
 -- the set for this number of components
 abbrev pub resized : ℕ → Set → Set

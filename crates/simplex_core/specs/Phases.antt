@@ -16,8 +16,8 @@ IsInPhase phase t = t.in_first ≡ uses_first phase
 abbrev pub in_phase : Phase → Tableau → Tableau
 in_phase phase t = record t { in_first = uses_first phase }
 
--- what the turn does lies within the board: a pivot is on an entry that isn't 0, an unbounded column is a real one, and the
--- multipliers that show infeasibility fit
+-- what the turn does lies within the board: a pivot is on an entry that isn't 0, an unbounded
+-- column is a real one, and the multipliers that show infeasibility fit
 abbrev pub IsWithin : Tableau → Turn → Type 0
 IsWithin t (Pivot phase row column) =
     (IsTrue (uses_first phase) → IsTrue t.in_first)

@@ -11,7 +11,8 @@ use Rattle.simplex_form.specs.Form.{Form, column}
 abbrev pub times : ℕ → (ℕ → ℕ → Rational) → (ℕ → Rational) → ℕ → Rational
 times n M v i = sum_to n (λ k. M i k *ℚ v k)
 
--- M makes the basic columns, of which `basic i` stands in row i, the unit matrix, and they span each vector
+-- M makes the basic columns, of which `basic i` stands in row i, the unit matrix, and they span
+-- each vector
 pub record IsInverse (n : ℕ) (column : ℕ → ℕ → Rational) (basic : ℕ → ℕ)
     (M : ℕ → ℕ → Rational) : Type 0 where
   pub units : (i k : ℕ) → i < n → k < n → times n M (column (basic k)) i ≡ delta i k
@@ -42,7 +43,8 @@ start F = record {
   inverse = λ i k. delta i k;
 }
 
--- what a pivot in row r makes of the numbers w of a column, where the entering column has the entries e
+-- what a pivot in row r makes of the numbers w of a column, where the entering column has the
+-- entries e
 unfoldable pub pivoted : ℕ → (ℕ → Rational) → (ℕ → Rational) → ℕ → Rational
 pivoted r e w i =
     if nat_eq i r then w r *ℚ inverse_ℚ (e r) else w i -ℚ e i *ℚ (w r *ℚ inverse_ℚ (e r))

@@ -10,7 +10,8 @@ use Rattle.simplex_form.specs.Search.{all_below}
 use Rattle.simplex_form.specs.Form.{Form}
 use Rattle.simplex_form.specs.Readings.{Readings, columns, quotient}
 
--- the first price of a real column at the start is minus the sum of its entries, added from the first row on
+-- the first price of a real column at the start is minus the sum of its entries, added from the
+-- first row on
 abbrev pub first_sum_fits : Form → ℕ → Bool
 first_sum_fits F j = all_below F.rows (λ i. sum_fits (sum_to i (λ k. F.matrix k j)) (F.matrix i j))
 

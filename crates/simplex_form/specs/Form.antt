@@ -1,9 +1,11 @@
--- The equality form: the least cost of a column of numbers, each at least 0, that meets rows of equations.
+-- The equality form: the least cost of a column of numbers, each at least 0, that meets rows of
+-- equations.
 use Rattle.std.specs.Prelude.{◌≡◌, ℕ, ◌<◌, ◌-◌, nat_lt, if◌then◌else◌}
 use Rattle.ratio_core.specs.Rational.{Rational, one_ℚ, zero_ℚ, ◌*ℚ◌, ◌≤ℚ◌, ◌‹ℚ◌}
 use Rattle.simplex_form.specs.BoundedSums.{sum_to, delta}
 
--- `reals` columns with their costs, and `rows` equations: the matrix by row and column, and the right sides
+-- `reals` columns with their costs, and `rows` equations: the matrix by row and column, and the
+-- right sides
 pub record Form : Type 0 where
   pub rows : ℕ
   pub reals : ℕ
@@ -45,13 +47,15 @@ pub record IsFeasible (F : Form) (x : ℕ → Rational) : Type 0 where
   pub nonneg : (j : ℕ) → j < F.reals → zero_ℚ ≤ℚ x j
   pub meets : (i : ℕ) → i < F.rows → left_side F x i ≡ F.right i
 
--- x is feasible, no reduced cost is negative, and the multipliers cost what x costs: so no feasible point costs less
+-- x is feasible, no reduced cost is negative, and the multipliers cost what x costs: so no feasible
+-- point costs less
 pub record IsOptimal (F : Form) (x y : ℕ → Rational) : Type 0 where
   pub feasible : IsFeasible F x
   pub reduced : (j : ℕ) → j < F.reals → weighted F y (λ i. F.matrix i j) ≤ℚ F.costs j
   pub equal : weighted F y F.right ≡ cost_at F x
 
--- the multipliers are at most 0 on each column and above 0 on the right sides: so no point is feasible
+-- the multipliers are at most 0 on each column and above 0 on the right sides: so no point is
+-- feasible
 pub record IsInfeasible (F : Form) (y : ℕ → Rational) : Type 0 where
   pub nonpos : (j : ℕ) → j < F.reals → weighted F y (λ i. F.matrix i j) ≤ℚ zero_ℚ
   pub above : zero_ℚ ‹ℚ weighted F y F.right

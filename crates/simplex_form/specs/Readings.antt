@@ -5,8 +5,8 @@ use Rattle.simplex_form.specs.Form.{Form, first_cost, second_cost}
 use Rattle.simplex_form.specs.Basis.{State, pivoted}
 use Rattle.simplex_form.specs.Board as board
 
--- the sizes; the entry of each column in each row; the right side of each row; the price of each column in the first phase and
--- in the second; and the basic column of each row
+-- the sizes; the entry of each column in each row; the right side of each row; the price of each
+-- column in the first phase and in the second; and the basic column of each row
 pub record Readings : Type 0 where
   pub rows : ℕ
   pub reals : ℕ

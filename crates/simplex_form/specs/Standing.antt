@@ -1,4 +1,5 @@
--- What the choices of the rule say of what is read; what stands at each basis of the trail; and what each turn says there.
+-- What the choices of the rule say of what is read; what stands at each basis of the trail; and
+-- what each turn says there.
 use Rattle.std.specs.Prelude.{◌≡◌, ℕ, ◌<◌, ◌≤◌, ◌⊎◌}
 use Rattle.ratio_core.specs.Rational.{Rational, zero_ℚ, ◌*ℚ◌, ◌≤ℚ◌, ◌‹ℚ◌}
 use Rattle.simplex_form.specs.declared.turn.Phase.{Phase}
@@ -26,11 +27,13 @@ pub record Enters (R : Readings) (price : ℕ → Rational) (q : ℕ) : Type 0 w
 abbrev pub HasNoPositiveEntry : Readings → ℕ → Type 0
 HasNoPositiveEntry R q = (i : ℕ) → i < R.rows → R.entry q i ≤ℚ zero_ℚ
 
--- a ratio with its basic column comes before another: it is less, or it is equal and the column no greater
+-- a ratio with its basic column comes before another: it is less, or it is equal and the column no
+-- greater
 abbrev pub ComesFirst : Rational → ℕ → Rational → ℕ → Type 0
 ComesFirst p a q b = (p ‹ℚ q) ⊎ ((p ≡ q) × (a ≤ b))
 
--- r is the row of least ratio among those of positive entry, and of these the one of least basic column
+-- r is the row of least ratio among those of positive entry, and of these the one of least basic
+-- column
 pub record Leaves (R : Readings) (q r : ℕ) : Type 0 where
   pub row : r < R.rows
   pub above : zero_ℚ ‹ℚ R.entry q r

@@ -58,11 +58,12 @@ is_above R i = is_artificial R (basic_at R i) && is_below zero_ℚ (R.right i)
 abbrev pub is_left_above : Readings → Bool
 is_left_above R = some_below R.rows (is_above R)
 
--- the multiplier of a row at the end of the first phase is 1 without its artificial column's price: each difference fits
+-- the multiplier of a row at the end of the first phase is 1 without its artificial column's price:
+-- each difference fits
 abbrev pub multipliers_fit : Readings → Bool
 multipliers_fit R = all_below R.rows (λ k. sum_fits one_ℚ (neg_ℚ (R.first_price (R.reals + k))))
 
--- ---- the turn: a pivot, or an end, or `Stuck` where the multipliers that are to show infeasibility don't fit
+-- ---- the turn: a pivot, or an end, or `Stuck` where multipliers that show infeasibility don't fit
 
 -- column q enters where a row leaves
 abbrev pub enters : Phase → ℕ → Option ℕ → Turn

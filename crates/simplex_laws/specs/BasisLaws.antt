@@ -8,11 +8,15 @@ use Rattle.simplex_form.specs.Form.{Form, column}
 use Rattle.simplex_laws.specs.BoundedSumLaws.{sum_to_same}
 use Rattle.simplex_laws.specs.InverseLaws.{inverse-unique}
 
-module _ (F : Form) (s t : State) (left : IsBasis F s) (right : IsBasis F t) (same : s.basis ≡ t.basis) where
+module _ (F : Form) (s t : State) (left : IsBasis F s) (right : IsBasis F t)
+    (same : s.basis ≡ t.basis) where
   -- row i of the one inverse times a vector is that of the other
-  pub times-determined : (v : ℕ → Rational) (i : ℕ) → i < F.rows → times F.rows s.inverse v i ≡ times F.rows t.inverse v i
+  pub times-determined : (v : ℕ → Rational) (i : ℕ) → i < F.rows
+      → times F.rows s.inverse v i ≡ times F.rows t.inverse v i
   times-determined v i b =
-      inverse-unique F.rows (column F) (basic t) s.inverse t.inverse (subst (λ basis. IsInverse F.rows (column F) (slice_index basis) s.inverse) same left.inverse) right.inverse v i b
+      inverse-unique F.rows (column F) (basic t) s.inverse t.inverse
+      (subst (λ basis. IsInverse F.rows (column F) (slice_index basis) s.inverse) same
+      left.inverse) right.inverse v i b
 
   pub entry-determined : (j i : ℕ) → i < F.rows → entry F s j i ≡ entry F t j i
   entry-determined j i b = times-determined (column F j) i b
@@ -23,4 +27,7 @@ module _ (F : Form) (s t : State) (left : IsBasis F s) (right : IsBasis F t) (sa
   pub price-determined : (cost : ℕ → Rational) (j : ℕ) → price F s cost j ≡ price F t cost j
   price-determined cost j =
       ap (λ x. cost j -ℚ x)
-      (sum_to_same F.rows (λ i. cost (basic s i) *ℚ entry F s j i) (λ i. cost (basic t i) *ℚ entry F t j i) (λ i b. ap (λ x. cost (basic s i) *ℚ x) (entry-determined j i b) ∙ ap (λ basis. cost (slice_index basis i) *ℚ entry F t j i) same))
+      (sum_to_same F.rows (λ i. cost (basic s i) *ℚ entry F s j i)
+      (λ i. cost (basic t i)
+      *ℚ entry F t j i) (λ i b. ap (λ x. cost (basic s i) *ℚ x) (entry-determined j i b)
+      ∙ ap (λ basis. cost (slice_index basis i) *ℚ entry F t j i) same))

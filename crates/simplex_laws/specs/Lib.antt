@@ -1,4 +1,5 @@
--- The laws: of searches and sums, of pivots, of a basis and its board, of the rule's turns, of the trail and of its answers.
+-- The laws: of searches and sums, of pivots, of a basis and its board, of the rule's turns, of the
+-- trail and of its answers.
 pub mod BoundedSumLaws
 pub mod SearchLaws
 pub mod PivotLaws

@@ -33,7 +33,9 @@ module _ (F : Form) where
 
   start_column : (i k : ℕ) → i < F.rows → column F (basic (start F) i) k ≡ delta i k
   start_column i k b =
-      ap (λ j. column F j k) (basic-start i b) ∙ column_artificial F (F.reals + i) k (least_lem F.reals i) ∙ ap (λ j. delta j k) (back_lem F.reals i)
+      ap (λ j. column F j k) (basic-start i b)
+      ∙ column_artificial F (F.reals + i) k (least_lem F.reals i)
+      ∙ ap (λ j. delta j k) (back_lem F.reals i)
     where
       least_lem : (c i : ℕ) → c ≤ c + i
       least_lem c i = omega arith
@@ -43,11 +45,16 @@ module _ (F : Form) where
 
   start_inverse_lem : IsInverse F.rows (column F) (basic (start F)) delta
   start_inverse_lem = record {
-    units = λ i k b c. times_unit F.rows (column F (basic (start F) k)) i b ∙ start_column k i c ∙ delta_sym k i;
-    spans = λ v k b. sum_to_same F.rows (λ i. column F (basic (start F) i) k *ℚ times F.rows delta v i) (λ i. delta k i *ℚ v i) (λ i c. ap₂ ◌*ℚ◌ (start_column i k c ∙ delta_sym i k) (times_unit F.rows v i c)) ∙ sum_to_delta F.rows k v b;
+    units = λ i k b c. times_unit F.rows (column F (basic (start F) k)) i b ∙ start_column k i c
+        ∙ delta_sym k i;
+    spans = λ v k b. sum_to_same F.rows (λ i. column F (basic (start F) i) k
+        *ℚ times F.rows delta v i) (λ i. delta k i *ℚ v i)
+        (λ i c. ap₂ ◌*ℚ◌ (start_column i k c ∙ delta_sym i k) (times_unit F.rows v i c))
+        ∙ sum_to_delta F.rows k v b;
   }
 
-  start_inverse : IsInverse F.rows (column F) (basic (start F)) delta → IsInverse F.rows (column F) (basic (start F)) (start F).inverse
+  start_inverse : IsInverse F.rows (column F) (basic (start F)) delta
+      → IsInverse F.rows (column F) (basic (start F)) (start F).inverse
   unfolding start
   start_inverse h = h
 
@@ -58,7 +65,8 @@ module _ (F : Form) where
   pub start_basis : IsBasis F (start F)
   start_basis = record {
     long = start_long;
-    within = λ i b. subst (λ j. j < F.reals + F.rows) (sym (basic-start i b)) (within_lem F.reals F.rows i b);
+    within = λ i b. subst (λ j. j < F.reals + F.rows) (sym (basic-start i b))
+        (within_lem F.reals F.rows i b);
     inverse = start_inverse start_inverse_lem;
   }
     where
@@ -74,33 +82,46 @@ module _ (F : Form) where
   unfolding start
   entry-start j i b = times_unit F.rows (column F j) i b
 
-  start_price : (cost : ℕ → Rational) (j : ℕ) (f : ℕ → Rational) → ((i : ℕ) → i < F.rows → cost (F.reals + i) *ℚ column F j i ≡ f i) → price F (start F) cost j ≡ cost j -ℚ sum_to F.rows f
+  start_price : (cost : ℕ → Rational) (j : ℕ) (f : ℕ → Rational)
+      → ((i : ℕ) → i < F.rows → cost (F.reals + i) *ℚ column F j i ≡ f i)
+      → price F (start F) cost j ≡ cost j -ℚ sum_to F.rows f
   start_price cost j f e =
       ap (λ x. cost j -ℚ x)
-      (sum_to_same F.rows (λ i. cost (basic (start F) i) *ℚ entry F (start F) j i) f (λ i b. ap₂ ◌*ℚ◌ (ap cost (basic-start i b)) (entry-start j i b) ∙ e i b))
+      (sum_to_same F.rows (λ i. cost (basic (start F) i) *ℚ entry F (start F) j i) f
+      (λ i b. ap₂ ◌*ℚ◌ (ap cost (basic-start i b)) (entry-start j i b) ∙ e i b))
 
   past_reals : (c i : ℕ) → c ≤ c + i
   past_reals c i = omega arith
 
   -- the first price of a real column is minus the sum of its entries
-  pub first_price-start_real : (j : ℕ) → j < F.reals → price F (start F) (first_cost F) j ≡ neg_ℚ (sum_to F.rows (λ i. F.matrix i j))
+  pub first_price-start_real : (j : ℕ) → j < F.reals
+      → price F (start F) (first_cost F) j ≡ neg_ℚ (sum_to F.rows (λ i. F.matrix i j))
   first_price-start_real j b =
-      start_price (first_cost F) j (λ i. F.matrix i j) (λ i _. ap₂ ◌*ℚ◌ (first_cost_artificial F (F.reals + i) (past_reals F.reals i)) (column_real F j i b) ∙ one-*ℚ (F.matrix i j))
+      start_price (first_cost F) j (λ i. F.matrix i j)
+      (λ i _. ap₂ ◌*ℚ◌ (first_cost_artificial F (F.reals + i) (past_reals F.reals i))
+      (column_real F j i b) ∙ one-*ℚ (F.matrix i j))
       ∙ ap (λ x. x -ℚ sum_to F.rows (λ i. F.matrix i j)) (first_cost_real F j b)
       ∙ zero-+ℚ (neg_ℚ (sum_to F.rows (λ i. F.matrix i j)))
 
   -- and that of an artificial one is 0
-  pub first_price-start_artificial : (k : ℕ) → k < F.rows → price F (start F) (first_cost F) (F.reals + k) ≡ zero_ℚ
+  pub first_price-start_artificial : (k : ℕ) → k < F.rows
+      → price F (start F) (first_cost F) (F.reals + k) ≡ zero_ℚ
   first_price-start_artificial k b =
-      start_price (first_cost F) (F.reals + k) (λ i. delta k i *ℚ one_ℚ) (λ i c. ap₂ ◌*ℚ◌ (first_cost_artificial F (F.reals + i) (past_reals F.reals i)) (sym (ap (λ j. column F j i) (basic-start k b)) ∙ start_column k i b) ∙ *ℚ_comm one_ℚ (delta k i))
-      ∙ ap₂ ◌-ℚ◌ (first_cost_artificial F (F.reals + k) (past_reals F.reals k)) (sum_to_delta F.rows k (λ _. one_ℚ) b)
+      start_price (first_cost F) (F.reals + k) (λ i. delta k i *ℚ one_ℚ)
+      (λ i c. ap₂ ◌*ℚ◌ (first_cost_artificial F (F.reals + i) (past_reals F.reals i))
+      (sym (ap (λ j. column F j i) (basic-start k b)) ∙ start_column k i b)
+      ∙ *ℚ_comm one_ℚ (delta k i))
+      ∙ ap₂ ◌-ℚ◌ (first_cost_artificial F (F.reals + k) (past_reals F.reals k))
+      (sum_to_delta F.rows k (λ _. one_ℚ) b)
       ∙ +ℚ-neg_ℚ one_ℚ
 
   -- the second prices are the second costs
   pub second_price-start : (j : ℕ) → price F (start F) (second_cost F) j ≡ second_cost F j
   second_price-start j =
-      start_price (second_cost F) j (λ _. zero_ℚ) (λ i _. ap (λ x. x *ℚ column F j i) (second_cost_artificial F (F.reals + i) (past_reals F.reals i)) ∙ zero-*ℚ (column F j i))
-      ∙ ap (λ x. second_cost F j -ℚ x) (sum_to_zero F.rows) ∙ ap (λ x. second_cost F j +ℚ x) neg_ℚ-zero ∙ +ℚ-zero (second_cost F j)
+      start_price (second_cost F) j (λ _. zero_ℚ) (λ i _. ap (λ x. x *ℚ column F j i)
+      (second_cost_artificial F (F.reals + i) (past_reals F.reals i)) ∙ zero-*ℚ (column F j i))
+      ∙ ap (λ x. second_cost F j -ℚ x) (sum_to_zero F.rows)
+      ∙ ap (λ x. second_cost F j +ℚ x) neg_ℚ-zero ∙ +ℚ-zero (second_cost F j)
 
   pub start_stands : IsStandard F → Stands F (start F)
   unfolding start
@@ -141,60 +162,83 @@ module _ (F : Form) where
   reached_from-next (suc n) s = ap (next F) (reached_from-next n s)
 
   -- a trail with a pivot has one at its first basis
-  first_goes_on : (n : ℕ) (s : State) → length (trail_from F (suc n) s) ≡ suc (suc n) → (goes_on F s ≡ true) × (length (trail_from F n (next F s)) ≡ suc n)
+  first_goes_on : (n : ℕ) (s : State) → length (trail_from F (suc n) s) ≡ suc (suc n)
+      → (goes_on F s ≡ true) × (length (trail_from F n (next F s)) ≡ suc n)
   first_goes_on n s e = by_test (goes_on F s) refl e
     where
-      by_test : (b : Bool) → goes_on F s ≡ b → length (stop s ∷ (if b then trail_from F n (next F s) else [])) ≡ suc (suc n) → (goes_on F s ≡ true) × (length (trail_from F n (next F s)) ≡ suc n)
+      by_test : (b : Bool) → goes_on F s ≡ b
+          → length (stop s ∷ (if b then trail_from F n (next F s) else [])) ≡ suc (suc n)
+          → (goes_on F s ≡ true) × (length (trail_from F n (next F s)) ≡ suc n)
       by_test true g h = (g, omega (arith, h))
       by_test false g h = absurd (omega (arith, h))
 
-  one_more : (n : ℕ) (s : State) → length (trail_from F n s) ≡ suc n → goes_on F (reached_from n s) ≡ true → length (trail_from F (suc n) s) ≡ suc (suc n)
+  one_more : (n : ℕ) (s : State) → length (trail_from F n s) ≡ suc n
+      → goes_on F (reached_from n s) ≡ true → length (trail_from F (suc n) s) ≡ suc (suc n)
   unfolding reached_from
-  one_more zero s e g = ap (λ b. length (stop s ∷ (if b then trail_from F zero (next F s) else []))) g
+  one_more zero s e g =
+      ap (λ b. length (stop s ∷ (if b then trail_from F zero (next F s) else []))) g
   one_more (suc n) s e g =
-      let first : (goes_on F s ≡ true) × (length (trail_from F n (next F s)) ≡ suc n) = first_goes_on n s e in
-      let rest : length (trail_from F (suc n) (next F s)) ≡ suc (suc n) = one_more n (next F s) first.1 (ap (goes_on F) (reached_from-next n s) ∙ g) in
-      ap (λ b. length (stop s ∷ (if b then trail_from F (suc n) (next F s) else []))) first.0 ∙ longer_lem (trail_from F (suc n) (next F s)) (suc (suc n)) rest
+      let first : (goes_on F s ≡ true) × (length (trail_from F n (next F s)) ≡ suc n) =
+      first_goes_on n s e in
+      let rest : length (trail_from F (suc n) (next F s)) ≡ suc (suc n) =
+      one_more n (next F s) first.1 (ap (goes_on F) (reached_from-next n s) ∙ g) in
+      ap (λ b. length (stop s ∷ (if b then trail_from F (suc n) (next F s) else []))) first.0
+      ∙ longer_lem (trail_from F (suc n) (next F s)) (suc (suc n)) rest
     where
-      longer_lem : (xs : List (Phase × List ℕ)) (n : ℕ) → length xs ≡ n → length (stop s ∷ xs) ≡ suc n
+      longer_lem : (xs : List (Phase × List ℕ)) (n : ℕ) → length xs ≡ n
+          → length (stop s ∷ xs) ≡ suc n
       longer_lem xs n e = omega (arith, e)
 
-  each_goes_on : (n k : ℕ) (s : State) → length (trail_from F n s) ≡ suc n → k < n → goes_on F (reached_from k s) ≡ true
+  each_goes_on : (n k : ℕ) (s : State) → length (trail_from F n s) ≡ suc n → k < n
+      → goes_on F (reached_from k s) ≡ true
   unfolding reached_from
   each_goes_on zero k s e b = absurd (omega (arith, b))
   each_goes_on (suc n) zero s e b = (first_goes_on n s e).0
   each_goes_on (suc n) (suc k) s e b =
-      ap (goes_on F) (sym (reached_from-next k s)) ∙ each_goes_on n k (next F s) (first_goes_on n s e).1 (omega (arith, b))
+      ap (goes_on F) (sym (reached_from-next k s))
+      ∙ each_goes_on n k (next F s) (first_goes_on n s e).1 (omega (arith, b))
 
-  each_stop : (n k : ℕ) (s : State) → length (trail_from F n s) ≡ suc n → k ≤ n → slice_get (trail_from F n s) k ≡ Some (stop (reached_from k s))
+  each_stop : (n k : ℕ) (s : State) → length (trail_from F n s) ≡ suc n → k ≤ n
+      → slice_get (trail_from F n s) k ≡ Some (stop (reached_from k s))
   unfolding reached_from
   each_stop zero zero s e b = refl
   each_stop zero (suc k) s e b = absurd (omega (arith, b))
   each_stop (suc n) zero s e b = refl
   each_stop (suc n) (suc k) s e b =
-      let first : (goes_on F s ≡ true) × (length (trail_from F n (next F s)) ≡ suc n) = first_goes_on n s e in
+      let first : (goes_on F s ≡ true) × (length (trail_from F n (next F s)) ≡ suc n) =
+      first_goes_on n s e in
       ap (λ b. slice_get (stop s ∷ (if b then trail_from F n (next F s) else [])) (suc k)) first.0
-      ∙ each_stop n k (next F s) first.1 (omega (arith, b)) ∙ ap (λ t. Some (stop t)) (reached_from-next k s)
+      ∙ each_stop n k (next F s) first.1 (omega (arith, b))
+      ∙ ap (λ t. Some (stop t)) (reached_from-next k s)
 
   from_start : (n : ℕ) → HasTrail F n → length (trail_from F n (start F)) ≡ suc n
-  from_start n h = ap length (sym (cond-true (start_fits F) (trail_from F n (start F)) (stop (start F) ∷ []) h.start_fits)) ∙ h.long
+  from_start n h = ap length (sym (cond-true (start_fits F) (trail_from F n (start F))
+      (stop (start F) ∷ []) h.start_fits)) ∙ h.long
 
   -- the first basis is a trail where the start fits, and a basis that goes on makes a trail longer
   pub trail_start : start_fits F ≡ true → HasTrail F 0
-  trail_start e = record { start_fits = e; long = ap length (cond-true (start_fits F) (trail_from F 0 (start F)) (stop (start F) ∷ []) e) }
+  trail_start e = record {
+    start_fits = e;
+    long = ap length (cond-true (start_fits F) (trail_from F 0 (start F)) (stop (start F) ∷ []) e);
+  }
 
   pub trail_more : (n : ℕ) → HasTrail F n → goes_on F (reached F n) ≡ true → HasTrail F (suc n)
   trail_more n h g = record {
     start_fits = h.start_fits;
-    long = ap length (cond-true (start_fits F) (trail_from F (suc n) (start F)) (stop (start F) ∷ []) h.start_fits) ∙ one_more n (start F) (from_start n h) (ap (goes_on F) (reached_from-start n) ∙ g);
+    long = ap length (cond-true (start_fits F) (trail_from F (suc n) (start F))
+        (stop (start F) ∷ []) h.start_fits)
+        ∙ one_more n (start F) (from_start n h) (ap (goes_on F) (reached_from-start n) ∙ g);
   }
 
   -- each basis of a trail but its last goes on
   pub trail-goes_on : (n k : ℕ) → HasTrail F n → k < n → goes_on F (reached F k) ≡ true
-  trail-goes_on n k h b = ap (goes_on F) (sym (reached_from-start k)) ∙ each_goes_on n k (start F) (from_start n h) b
+  trail-goes_on n k h b = ap (goes_on F) (sym (reached_from-start k))
+      ∙ each_goes_on n k (start F) (from_start n h) b
 
   -- and each is that of as many steps
-  pub trail-reached : (n k : ℕ) → HasTrail F n → k ≤ n → slice_get (trail F n) k ≡ Some (stop (reached F k))
+  pub trail-reached : (n k : ℕ) → HasTrail F n → k ≤ n
+      → slice_get (trail F n) k ≡ Some (stop (reached F k))
   trail-reached n k h b =
-      ap (λ l. slice_get l k) (cond-true (start_fits F) (trail_from F n (start F)) (stop (start F) ∷ []) h.start_fits)
+      ap (λ l. slice_get l k) (cond-true (start_fits F) (trail_from F n (start F))
+      (stop (start F) ∷ []) h.start_fits)
       ∙ each_stop n k (start F) (from_start n h) b ∙ ap (λ t. Some (stop t)) (reached_from-start k)

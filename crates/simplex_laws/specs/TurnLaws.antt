@@ -1,5 +1,5 @@
--- Each turn says what it is to say; above all the first phase is never unbounded, and ends with each artificial column at 0
--- where it isn't infeasible.
+-- Each turn says what it is to say; above all the first phase is never unbounded, and ends with
+-- each artificial column at 0 where it isn't infeasible.
 use Rattle.std.specs.Prelude.{◌≡◌, ℕ, zero, suc, ◌-◌, ◌<◌, ◌≤◌, Bool, ◌&&◌, true, false, cond, nat_lt, Option, Some, None, if◌then◌else◌, refl}
 use Rattle.std.proofs.Common.{sym, ◌∙◌, ap, arith, subst, true≢false}
 use Rattle.std.proofs.lemmas.Bool.{cond-false, cond-true, le-leb, le-ltb, leb-true, lt-ltb}
@@ -40,11 +40,13 @@ second_cost_artificial F j b = cond-false (nat_lt j F.reals) (F.costs j) zero_�
 
 pub column_real : (F : Form) (j i : ℕ) → j < F.reals → column F j i ≡ F.matrix i j
 unfolding column
-column_real F j i b = cond-true (nat_lt j F.reals) (F.matrix i j) (delta (j - F.reals) i) (lt-ltb j F.reals b)
+column_real F j i b =
+    cond-true (nat_lt j F.reals) (F.matrix i j) (delta (j - F.reals) i) (lt-ltb j F.reals b)
 
 pub column_artificial : (F : Form) (j i : ℕ) → F.reals ≤ j → column F j i ≡ delta (j - F.reals) i
 unfolding column
-column_artificial F j i b = cond-false (nat_lt j F.reals) (F.matrix i j) (delta (j - F.reals) i) (le-ltb j F.reals b)
+column_artificial F j i b =
+    cond-false (nat_lt j F.reals) (F.matrix i j) (delta (j - F.reals) i) (le-ltb j F.reals b)
 
 first_cost_nonneg : (F : Form) (j : ℕ) → zero_ℚ ≤ℚ first_cost F j
 unfolding first_cost
@@ -56,38 +58,52 @@ first_cost_nonneg F j = by_test (nat_lt j F.reals)
 
 -- ---- the first phase
 
-pub sum_to_nonpos : (n : ℕ) (f : ℕ → Rational) → ((k : ℕ) → k < n → f k ≤ℚ zero_ℚ) → sum_to n f ≤ℚ zero_ℚ
+pub sum_to_nonpos : (n : ℕ) (f : ℕ → Rational) → ((k : ℕ) → k < n → f k ≤ℚ zero_ℚ)
+    → sum_to n f ≤ℚ zero_ℚ
 sum_to_nonpos zero f h = ≤ℚ_refl zero_ℚ
 sum_to_nonpos (suc n) f h =
     subst (λ x. (sum_to n f +ℚ f n) ≤ℚ x) (zero-+ℚ zero_ℚ)
-    (≤ℚ-+ℚ (sum_to n f) zero_ℚ (f n) zero_ℚ (sum_to_nonpos n f (λ k b. h k (omega arith))) (h n (omega arith)))
+    (≤ℚ-+ℚ (sum_to n f) zero_ℚ (f n) zero_ℚ (sum_to_nonpos n f (λ k b. h k (omega arith)))
+    (h n (omega arith)))
 
 -- where no entry of a real column is positive, its first price isn't negative
-first_price_nonneg : (F : Form) (s : State) (q : ℕ) → HasNoPositiveEntry (readings F s) q → q < F.reals → zero_ℚ ≤ℚ price F s (first_cost F) q
+first_price_nonneg : (F : Form) (s : State) (q : ℕ) → HasNoPositiveEntry (readings F s) q
+    → q < F.reals → zero_ℚ ≤ℚ price F s (first_cost F) q
 first_price_nonneg F s q none b =
     subst (λ x. zero_ℚ ≤ℚ (x -ℚ lowered)) (sym (first_cost_real F q b))
     (subst (λ x. zero_ℚ ≤ℚ x) (sym (zero-+ℚ (neg_ℚ lowered)))
-    (nonneg_neg lowered (sum_to_nonpos F.rows (λ i. first_cost F (basic s i) *ℚ entry F s q i) (λ i c. nonpos_mul (first_cost F (basic s i)) (entry F s q i) (first_cost_nonneg F (basic s i)) (none i c)))))
+    (nonneg_neg lowered (sum_to_nonpos F.rows (λ i. first_cost F (basic s i) *ℚ entry F s q i)
+    (λ i c. nonpos_mul (first_cost F (basic s i)) (entry F s q i)
+    (first_cost_nonneg F (basic s i)) (none i c)))))
   where
     lowered : Rational
     lowered = sum_to F.rows (λ i. first_cost F (basic s i) *ℚ entry F s q i)
 
-pub first_phase_bounded : (F : Form) (s : State) (q : ℕ) → Enters (readings F s) (price F s (first_cost F)) q → HasNoPositiveEntry (readings F s) q → ⊥
+pub first_phase_bounded : (F : Form) (s : State) (q : ℕ)
+    → Enters (readings F s) (price F s (first_cost F)) q → HasNoPositiveEntry (readings F s) q → ⊥
 first_phase_bounded F s q e none =
-    not_‹ℚ_from_≤ℚ zero_ℚ (price F s (first_cost F) q) (first_price_nonneg F s q none e.real) e.negative
+    not_‹ℚ_from_≤ℚ zero_ℚ (price F s (first_cost F) q) (first_price_nonneg F s q none e.real)
+    e.negative
 
 -- where no artificial column is above 0, each is 0
-pub drained_from_test : (R : Readings) → ((i : ℕ) → i < R.rows → zero_ℚ ≤ℚ R.right i) → is_left_above R ≡ false → IsDrained R
+pub drained_from_test : (R : Readings) → ((i : ℕ) → i < R.rows → zero_ℚ ≤ℚ R.right i)
+    → is_left_above R ≡ false → IsDrained R
 drained_from_test R nonneg e i b a =
-    ≤ℚ_antisymm (R.right i) zero_ℚ (ge_from_failed zero_ℚ (R.right i) (second_false (is_artificial R (basic_at R i)) (is_below zero_ℚ (R.right i)) (le-leb R.reals (basic_at R i) a) (some_below_false R.rows (λ k. is_artificial R (basic_at R k) && is_below zero_ℚ (R.right k)) e i b))) (nonneg i b)
+    ≤ℚ_antisymm (R.right i) zero_ℚ (ge_from_failed zero_ℚ (R.right i)
+    (second_false (is_artificial R (basic_at R i)) (is_below zero_ℚ (R.right i))
+    (le-leb R.reals (basic_at R i) a) (some_below_false R.rows
+    (λ k. is_artificial R (basic_at R k) && is_below zero_ℚ (R.right k)) e i b))) (nonneg i b)
   where
     second_false : (a b : Bool) → a ≡ true → (a && b) ≡ false → b ≡ false
     second_false true b e h = h
     second_false false b e h = absurd (true≢false (sym e))
 
 -- where one is, so is their sum
-pub infeasibility-above : (F : Form) (s : State) → ((i : ℕ) → i < F.rows → zero_ℚ ≤ℚ right_side F s i) → is_left_above (readings F s) ≡ true → zero_ℚ ‹ℚ infeasibility F s
-infeasibility-above F s nonneg e = by_row (some_below_true F.rows (λ k. is_artificial (readings F s) (basic s k) && is_below zero_ℚ (right_side F s k)) e)
+pub infeasibility-above : (F : Form) (s : State)
+    → ((i : ℕ) → i < F.rows → zero_ℚ ≤ℚ right_side F s i) → is_left_above (readings F s) ≡ true
+    → zero_ℚ ‹ℚ infeasibility F s
+infeasibility-above F s nonneg e = by_row (some_below_true F.rows
+    (λ k. is_artificial (readings F s) (basic s k) && is_below zero_ℚ (right_side F s k)) e)
   where
     term : ℕ → Rational
     term k = first_cost F (basic s k) *ℚ right_side F s k
@@ -96,14 +112,19 @@ infeasibility-above F s nonneg e = by_row (some_below_true F.rows (λ k. is_arti
     both_true true b e = (refl, e)
     both_true false b e = absurd (true≢false (sym e))
 
-    by_row : (k : ℕ) × (k < F.rows) × ((is_artificial (readings F s) (basic s k) && is_below zero_ℚ (right_side F s k)) ≡ true) → zero_ℚ ‹ℚ infeasibility F s
+    by_row : (k : ℕ) × (k < F.rows)
+        × ((is_artificial (readings F s) (basic s k) && is_below zero_ℚ (right_side F s k)) ≡ true)
+        → zero_ℚ ‹ℚ infeasibility F s
     by_row found =
         let k : ℕ = found.0 in
         let tests : (is_artificial (readings F s) (basic s k) ≡ true) × (is_below zero_ℚ (right_side F s k) ≡ true) = both_true (is_artificial (readings F s) (basic s k)) (is_below zero_ℚ (right_side F s k)) found.2 in
-        let value : right_side F s k ≡ term k = sym (ap (λ x. x *ℚ right_side F s k) (first_cost_artificial F (basic s k) (leb-true F.reals (basic s k) tests.0)) ∙ one-*ℚ (right_side F s k)) in
+        let value : right_side F s k ≡ term k = sym (ap (λ x. x *ℚ right_side F s k)
+        (first_cost_artificial F (basic s k) (leb-true F.reals (basic s k) tests.0))
+        ∙ one-*ℚ (right_side F s k)) in
         ‹ℚ-≤ℚ_trans zero_ℚ (term k) (infeasibility F s)
         (subst (λ x. zero_ℚ ‹ℚ x) value (lt_from_test zero_ℚ (right_side F s k) tests.1))
-        (term-≤ℚ-sum_to F.rows k term (λ i c. nonneg_mul (first_cost F (basic s i)) (right_side F s i) (first_cost_nonneg F (basic s i)) (nonneg i c)) found.1)
+        (term-≤ℚ-sum_to F.rows k term (λ i c. nonneg_mul (first_cost F (basic s i))
+        (right_side F s i) (first_cost_nonneg F (basic s i)) (nonneg i c)) found.1)
 
 -- ---- the turns
 
@@ -114,7 +135,8 @@ module _ (F : Form) (s : State) (h : Stands F s) where
   second_says : IsDrained R → IsSwept R → Says F s (second_turn R (entering R R.second_price))
   second_says d w = by_entering (entering R R.second_price) (entering_is R R.second_price)
     where
-      by_leaving : (q : ℕ) → Enters R R.second_price q → (o : Option ℕ) → IsLeaving R q o → Says F s (enters Second q o)
+      by_leaving : (q : ℕ) → Enters R R.second_price q → (o : Option ℕ) → IsLeaving R q o
+          → Says F s (enters Second q o)
       by_leaving q e None k = (d, w, e, k)
       by_leaving q e (Some r) k = (d, w, e, k)
 
@@ -132,15 +154,19 @@ module _ (F : Form) (s : State) (h : Stands F s) where
   first_says : Says F s (first_turn R (entering R R.first_price))
   first_says = by_entering (entering R R.first_price) (entering_is R R.first_price)
     where
-      by_leaving : (q : ℕ) → Enters R R.first_price q → (o : Option ℕ) → IsLeaving R q o → Says F s (enters First q o)
+      by_leaving : (q : ℕ) → Enters R R.first_price q → (o : Option ℕ) → IsLeaving R q o
+          → Says F s (enters First q o)
       by_leaving q e None k = absurd (first_phase_bounded F s q e k)
       by_leaving q e (Some r) k = (e, k)
 
-      by_fit : (b : Bool) → HasNoNegativePrice R R.first_price → zero_ℚ ‹ℚ infeasibility F s → Says F s (infeasible_turn b)
+      by_fit : (b : Bool) → HasNoNegativePrice R R.first_price → zero_ℚ ‹ℚ infeasibility F s
+          → Says F s (infeasible_turn b)
       by_fit true e k = (e, k)
       by_fit false e k = (e, k)
 
-      by_test : HasNoNegativePrice R R.first_price → (b : Bool) → is_left_above R ≡ b → Says F s (if b then infeasible_turn (multipliers_fit R) else sweep_turn R (swept_entry R))
+      by_test : HasNoNegativePrice R R.first_price → (b : Bool) → is_left_above R ≡ b
+          → Says F s (if b then infeasible_turn (multipliers_fit R)
+          else sweep_turn R (swept_entry R))
       by_test e true k = by_fit (multipliers_fit R) e (infeasibility-above F s h.nonneg k)
       by_test e false k = sweep_says (drained_from_test R h.nonneg k)
 

@@ -1,6 +1,6 @@
 -- The solver's model, and what each call makes of it.
 --     Leaves           variables and rows by index, an objective, and how many calls changed it
---     Stored           the same, and beside it how many variables and rows can still be added without memory
+--     Stored           the same, and how many variables and rows can still be added without memory
 --     no_leaves with_var with_row with_objective without_var without_row      what calls leave
 use Rattle.std.specs.Prelude.{ℕ, ◌+◌, ◌-◌, ◌^◌, Option, None, IsSome, min, refl}
 use Rattle.std.specs.Coded.{Coded, code_by, coded×, coded_ℕ, coded_option}
@@ -27,11 +27,18 @@ pub record Stored : Type 0 where
 
 abbrev pub leaves_code : Coded Leaves
 leaves_code =
-    code_by (FinMap nat_cmp LeafVar × (FinMap nat_cmp LeafRow × (Option LeafObjective × ℕ))) (coded× (finite.code coded_ℕ (var.the_row).coded) (coded× (finite.code coded_ℕ (row.the_row).coded) (coded× (coded_option (objective.the_row).coded) coded_ℕ))) (λ m. (m.vars, (m.rows, (m.objective, m.calls)))) (λ p. record { vars = p.0; rows = p.1.0; objective = p.1.1.0; calls = p.1.1.1 }) (λ _. refl)
+    code_by (FinMap nat_cmp LeafVar × (FinMap nat_cmp LeafRow × (Option LeafObjective × ℕ)))
+    (coded× (finite.code coded_ℕ (var.the_row).coded)
+    (coded× (finite.code coded_ℕ (row.the_row).coded)
+    (coded× (coded_option (objective.the_row).coded) coded_ℕ)))
+    (λ m. (m.vars, (m.rows, (m.objective, m.calls))))
+    (λ p. record { vars = p.0; rows = p.1.0; objective = p.1.1.0; calls = p.1.1.1 }) (λ _. refl)
 
 abbrev pub stored_code : Coded Stored
 stored_code =
-    code_by (Leaves × (ℕ × ℕ)) (coded× leaves_code (coded× coded_ℕ coded_ℕ)) (λ s. (s.leaves, (s.spare_vars, s.spare_rows))) (λ p. record { leaves = p.0; spare_vars = p.1.0; spare_rows = p.1.1 }) (λ _. refl)
+    code_by (Leaves × (ℕ × ℕ)) (coded× leaves_code (coded× coded_ℕ coded_ℕ))
+    (λ s. (s.leaves, (s.spare_vars, s.spare_rows)))
+    (λ p. record { leaves = p.0; spare_vars = p.1.0; spare_rows = p.1.1 }) (λ _. refl)
 
 -- the index is in use
 abbrev pub IsUsed : {X : Type 0} → FinMap nat_cmp X → ℕ → Type 0

@@ -1,4 +1,5 @@
-//! The solver's model: leaf variables and rows under indices of the store's choice, and an objective.
+//! The solver's model: leaf variables and rows under indices of the store's choice, and an
+//! objective.
 #![tactic(auto)]
 
 mod answer;

@@ -64,8 +64,8 @@ impl SolverModel {
         Ok(())
     }
 
-    /// Adds a variable, and answers its index, which was free. With `spare_vars` above 0 it can't be
-    /// refused.
+    /// Adds a variable, and answers its index, which was free. With `spare_vars` above 0 it can't
+    /// be refused.
     pub fn add_var(&mut self, var: LeafVar) -> Result<usize, Memory>
         ensures free { IfOk result (λ i. finite.get self.old.leaves.vars i ≡ None) }
         ensures ok { IfOk result (λ i. self.new.leaves ≡ with_var self.old.leaves i var) }
@@ -128,7 +128,8 @@ impl SolverModel {
         self.calls = one_more(self.calls);
     }
 
-    /// Takes out the variable at an index in use, which is free then. What names it is not looked at.
+    /// Takes out the variable at an index in use, which is free then. What names it is not looked
+    /// at.
     pub fn remove_var(&mut self, i: usize)
         requires { IsUsed self.old.leaves.vars i }
         ensures removed { self.new.leaves ≡ without_var self.old.leaves i }

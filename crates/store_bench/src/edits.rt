@@ -54,8 +54,8 @@ pub fn add_plain_row(alloc: Global, row: u32) -> Result<Edit, BenchFault> {
     }
 }
 
-/// The edit of a round, at the row of a number, if there is one. It changes the model: the coefficients are 1 at first and the
-/// bounds 0, and the rounds give numbers from 2 on.
+/// The edit of a round, at the row of a number, if there is one. It changes the model: the
+/// coefficients are 1 at first and the bounds 0, and the rounds give numbers from 2 on.
 pub fn edit(alloc: Global, kind: Kind, row: u32, round: u32) -> Result<Option<Edit>, BenchFault> {
     let value = Ratio::new(i128::from(round) + 2, 1)?;
     match kind {

@@ -1,6 +1,7 @@
-// Builds a model of two variables, x and y, and ROWS rows `1*x`, each at least 0 (or rows that are x and y by turns, each 0, for
-// `delvar`, which deletes x and takes that back), makes ROUNDS edits of one kind, and prints how many edits
-// were made and a checksum of what their undos list: `store_bench ROWS EDIT ROUNDS`.
+// Builds a model of two variables, x and y, and ROWS rows `1*x`, each at least 0 (or rows that are
+// x and y by turns, each 0, for `delvar`, which deletes x and takes that back), makes ROUNDS edits
+// of one kind, and prints how many edits were made and a checksum of what their undos list:
+// `store_bench ROWS EDIT ROUNDS`.
 #![tactic(auto)]
 
 mod edits;

@@ -52,7 +52,8 @@ fn row_of(alloc: Global, row: u32, kind: Kind) -> Result<Edit, BenchFault> {
     }
 }
 
-// A row that is renamed has its name back for the next round, and a deleted variable its rows; the other edits stand.
+// A row that is renamed has its name back for the next round, and a deleted variable its rows; the
+// other edits stand.
 fn make(model: &mut UserModel, kind: Kind, edit: Edit) -> Result<u64, BenchFault> {
     match kind {
         Kind::RenameRow | Kind::DeleteVariable => make_and_take_back(model, edit),

@@ -9,8 +9,9 @@
 //     row_set ROW SET, reset VARIABLE SET, free VARIABLE
 //     delete VARIABLE, delete_row ROW, rename OLD NEW, rename_row OLD NEW
 //
-// A set is `below NUMBER`, `above NUMBER`, `equal NUMBER`, `within NUMBER NUMBER`, or the word for a set of vectors and a
-// dimension. A function is `plain NAME`, `times NUMBER NAME`, `plains NAME ..` or `affines NAME ..`.
+// A set is `below NUMBER`, `above NUMBER`, `equal NUMBER`, `within NUMBER NUMBER`, or the word for
+// a set of vectors and a dimension. A function is `plain NAME`, `times NUMBER NAME`, `plains NAME
+// ..` or `affines NAME ..`.
 use crate::words::{Words, affines, name, names, number, set, times, whole, word};
 use anyhow::Result;
 use model_store::{Edit, NamedFunc, Sense};

@@ -1,4 +1,5 @@
-// Steps of many edits or names, up to the limits of a model. Variables are called x0, x1 and on, and rows r0, r1 and on.
+// Steps of many edits or names, up to the limits of a model. Variables are called x0, x1 and on,
+// and rows r0, r1 and on.
 //
 //     many groups FIRST COUNT SIZE      groups of variables, whose names go on from the first number
 //     many rows FIRST COUNT COMPONENTS  rows of components that are each x0

@@ -8,7 +8,8 @@ use crate::shown::{show, show_copies, text};
 use anyhow::Result;
 use model_store::UserModel;
 
-/// Makes one step, and prints what it gives. An empty line, or one that begins with `#`, is no step.
+/// Makes one step, and prints what it gives. An empty line, or one that begins with `#`, is no
+/// step.
 pub fn step(rt: &HostRuntime, model: &mut UserModel, line: &str) -> Result<()> {
     let (word, rest) = parted(line);
     match Command::named(word) {
@@ -48,7 +49,8 @@ fn make(rt: &HostRuntime, model: &mut UserModel, line: &str) -> Result<()> {
     Ok(())
 }
 
-// Makes the edits and takes them back, the last first. Whether each changes the model and leads back is printed.
+// Makes the edits and takes them back, the last first. Whether each changes the model and leads
+// back is printed.
 fn take_back(rt: &HostRuntime, model: &mut UserModel, edits: &[&str]) -> Result<()>
     ensures { OnOk result (model.new ≡ model.old) }
 {

@@ -6,7 +6,8 @@ use Rattle.simplex_form.specs.Basis.{State}
 use Rattle.simplex_form.specs.Form.{Form}
 use Rattle.simplex_form.specs.Readings.{Agrees, Readings, columns, pivoted_readings, readings}
 
--- the entries of each row and its right side; the two cost rows, the first while it is in use; and the basic column of each row
+-- the entries of each row and its right side; the two cost rows, the first while it is in use; and
+-- the basic column of each row
 pub record Tableau : Type 0 where
   pub reals : ℕ
   pub rows : List (List Rational)
@@ -38,8 +39,8 @@ width t = columns (readings_of t)
 abbrev pub prices_of : ℕ → Tableau → ℕ → Rational
 prices_of phase t = if nat_eq phase 1 then cell t.first else cell t.second
 
--- a pivot divides row r by its entry of column q, and subtracts from every other row, and from each cost row in use, its entry
--- times the new row r
+-- a pivot divides row r by its entry of column q, and subtracts from every other row, and from each
+-- cost row in use, its entry times the new row r
 pub record IsPivoted (r q : ℕ) (before after : Tableau) : Type 0 where
   pub in_first : after.in_first ≡ before.in_first
   pub readings :

@@ -9,8 +9,8 @@ use Rattle.user_model.specs.Edited.{group_number, row_number}
 abbrev pub variable_number : GroupVar → ℕ
 variable_number var = var.number
 
--- the lists stand in the order of their numbers, which are below the next ones; names are distinct; plain scalar rows are on
--- variables that stand in the model
+-- the lists stand in the order of their numbers, which are below the next ones; names are distinct;
+-- plain scalar rows are on variables that stand in the model
 pub record IsConsistent (model : ModelValue) : Type 0 where
   pub groups_rise : Rise group_number model.groups
   pub variables_rise : Rise variable_number (variables model)
@@ -20,7 +20,8 @@ pub record IsConsistent (model : ModelValue) : Type 0 where
   pub given_rows : All (λ r. r.id < model.next.row) model.rows
   pub variable_names : AllPairs (λ v w. v.name ≢ w.name) (variables model)
   pub row_names : AllPairs (λ r s. r.name ≢ s.name) model.rows
-  pub bounds : (n : ℕ) → All (λ r. is_variable n r.func ≡ true → IsSome (group_of model n)) model.rows
+  pub bounds : (n : ℕ)
+      → All (λ r. is_variable n r.func ≡ true → IsSome (group_of model n)) model.rows
 
 -- the model has no more than it may
 pub record IsWithinLimits (model : ModelValue) : Type 0 where

@@ -1,6 +1,6 @@
--- What stands of a model without a variable: affine functions lose its terms; its group and the plain vector rows that name it
--- shrink; plain scalar rows on it, and groups and rows that are left with no component, are deleted; a plain objective on it is
--- no objective.
+-- What stands of a model without a variable: affine functions lose its terms; its group and the
+-- plain vector rows that name it shrink; plain scalar rows on it, and groups and rows that are left
+-- with no component, are deleted; a plain objective on it is no objective.
 use Rattle.std.specs.Prelude.{ℕ, not, ◌==◌, if◌then◌else◌, List, [], ◌∷◌, length, map, filter, Option, Some, None}
 use Rattle.std.specs.List.{filter_map, list_any}
 use Rattle.ratio_core.specs.Rational.{zero_ℚ}
@@ -37,14 +37,18 @@ row_without at row = by_function row.func
     by_function (Plain var) = if address_eq at var then None else Some row
     by_function (Affine f) = Some (record row { func = Affine (without_term at f) })
     by_function (PlainVec vars) =
-        if list_any (address_eq at) vars then unless_empty (λ left set. record row { func = PlainVec left; set = set }) row.set (without_address at vars)
+        if list_any (address_eq at) vars
+        then unless_empty (λ left set. record row { func = PlainVec left; set = set }) row.set
+        (without_address at vars)
         else Some row
     by_function (AffineVec fs) = Some (record row { func = AffineVec (map (without_term at) fs) })
 
 -- the group without the variable, and nothing where it was the only one
 abbrev pub group_without : ℕ → Group → Option Group
 group_without n group =
-    if has_variable n group then unless_empty (λ left set. record group { vars = left; set = set }) group.set (filter (λ v. not (v.number == n)) group.vars)
+    if has_variable n group
+    then unless_empty (λ left set. record group { vars = left; set = set }) group.set
+    (filter (λ v. not (v.number == n)) group.vars)
     else Some group
 
 abbrev pub objective_without : Address → Objective → Objective

@@ -125,8 +125,13 @@ renamed n name var = if var.number == n then record var { name = name } else var
 
 abbrev pub add_group : ModelValue → List (List ℕ) → Set → ModelValue
 add_group model names set = record model {
-  groups = model.groups ++ record { id = model.next.group; vars = numbered_from model.next.variable names; set = set } ∷ [];
-  next = record model.next { group = model.next.group + 1; variable = model.next.variable + length names };
+  groups = model.groups
+      ++ record { id = model.next.group; vars = numbered_from model.next.variable names; set = set }
+      ∷ [];
+  next = record model.next {
+    group = model.next.group + 1;
+    variable = model.next.variable + length names;
+  };
 }
 
 abbrev pub add_row : ModelValue → List ℕ → UserFunc → Set → ModelValue
@@ -147,7 +152,8 @@ edited model (edit.VecCoef row output var value) =
     change_function model row
     (on_output output (λ f. with_coefficient f (address_named model var) value))
 edited model (edit.ObjCoef var value) = record model {
-  objective = on_objective (λ f. with_coefficient f (address_named model var) value) model.objective;
+  objective =
+      on_objective (λ f. with_coefficient f (address_named model var) value) model.objective;
 }
 edited model (edit.Constant row value) =
     change_function model row (on_affine (λ f. with_constant f value))

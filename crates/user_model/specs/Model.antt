@@ -1,4 +1,5 @@
--- The user's model: groups of variables and rows, each in the order of their numbers, an objective, and the next numbers.
+-- The user's model: groups of variables and rows, each in the order of their numbers, an objective,
+-- and the next numbers.
 use Rattle.std.specs.Prelude.{ℕ, ◌+◌, Bool, ◌&&◌, ◌||◌, ◌==◌, false, List, [], flat_map, find, sum_by, Option, unwrap_or}
 use Rattle.std.specs.List.{list_any}
 use Rattle.std.specs.Option.{option_map, option_map_or}

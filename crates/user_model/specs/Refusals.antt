@@ -176,7 +176,8 @@ new_bound _ = None
 abbrev pub meets_bound_already_set : (Set → Bool) → (ModelValue → ℕ → Bool) → ModelValue → Edit
     → Bool
 meets_bound_already_set sets has_bound model e =
-    option_map_or (λ bound. sets bound.1 && option_map_or (has_bound model) (variable_named model bound.0) false) (new_bound e) false
+    option_map_or (λ bound. sets bound.1
+    && option_map_or (has_bound model) (variable_named model bound.0) false) (new_bound e) false
 
 -- ---- 11: deleting
 
@@ -214,14 +215,18 @@ terms_of_objective objective.Feasibility = []
 terms_of_objective (objective.Plain sense var) = []
 terms_of_objective (objective.Affine sense f) = term_count f ∷ []
 
--- what the edit adds to, as it would be after the edit: components, terms of a function, variables, rows, all terms, numbers
+-- what the edit adds to, as it would be after the edit: components, terms of a function, variables,
+-- rows, all terms, numbers
 abbrev pub counts : ModelValue → Edit → List (ℕ × ℕ)
 counts model (edit.AddGroup names set) =
-    (length names, COMPONENTS) ∷ (length (variables model) + length names, VARIABLES) ∷ (model.next.group, LAST_NUMBER)
+    (length names, COMPONENTS) ∷ (length (variables model) + length names, VARIABLES)
+    ∷ (model.next.group, LAST_NUMBER)
     ∷ (model.next.variable + length names - 1, LAST_NUMBER) ∷ []
 counts model (edit.AddRow name func set) =
     (named_components func, COMPONENTS) ∷ (within TERMS (term_counts (located model func)) ++ (
-    (length model.rows + 1, ROWS) ∷ (total_terms (edited model (edit.AddRow name func set)), ALL_TERMS) ∷ (model.next.row, LAST_NUMBER) ∷ []))
+    (length model.rows + 1, ROWS)
+    ∷ (total_terms (edited model (edit.AddRow name func set)), ALL_TERMS)
+    ∷ (model.next.row, LAST_NUMBER) ∷ []))
 counts model (edit.Objective sense func) =
     within TERMS (terms_of_objective (edited model (edit.Objective sense func)).objective)
     ++ (total_terms (edited model (edit.Objective sense func)), ALL_TERMS) ∷ []

@@ -71,18 +71,21 @@ rows_by_position model = map (row_by_position model) model.rows
 pub record SameUpToNumbers (one other : ModelValue) : Type 0 where
   pub groups : groups_by_position one ≡ groups_by_position other
   pub rows : rows_by_position one ≡ rows_by_position other
-  pub objective : objective_by_position (variable_numbers one) one.objective ≡ objective_by_position (variable_numbers other) other.objective
+  pub objective : objective_by_position (variable_numbers one) one.objective
+      ≡ objective_by_position (variable_numbers other) other.objective
 
 -- ---- an example: a variable and a row that bounds it, with these numbers and any next ones
 
 example : ℕ → ℕ → ℕ → NextNumbers → List ℕ → List ℕ → ModelValue
 example g v r next x q = record {
   groups = record { id = g; vars = record { number = v; name = x } ∷ []; set = Reals 1 } ∷ [];
-  rows = record { id = r; name = q; func = Plain (variable_address v); set = GreaterThan zero_ℚ } ∷ [];
+  rows =
+      record { id = r; name = q; func = Plain (variable_address v); set = GreaterThan zero_ℚ } ∷ [];
   objective = objective.Feasibility;
   next = next;
 }
 
-example_same : (next later : NextNumbers) (x q : List ℕ) → SameUpToNumbers (example 0 0 0 next x q) (example 3 7 5 later x q)
+example_same : (next later : NextNumbers) (x q : List ℕ)
+    → SameUpToNumbers (example 0 0 0 next x q) (example 3 7 5 later x q)
 unfolding example
 example_same next later x q = record { groups = refl; rows = refl; objective = refl }

@@ -8,12 +8,15 @@ use Rattle.user_model.specs.declared.undo.Undo.{Undo}
 use Rattle.user_model.specs.Model.{ModelValue}
 use Rattle.user_model.specs.Edited.{group_number, row_number}
 
--- the changes list, in the order of numbers, exactly the numbers at which the lists differ, with the old content
-pub record AreDifferences {X : Type 0} (number_of : X → ℕ) (old new : List X) (changes : List (Change X)) : Type 0 where
+-- the changes list, in the order of numbers, exactly the numbers at which the lists differ, with
+-- the old content
+pub record AreDifferences {X : Type 0} (number_of : X → ℕ) (old new : List X)
+    (changes : List (Change X)) : Type 0 where
   pub rising : Rise changed_number changes
   pub contents : All (λ c. c.content ≡ find number_of c.number old) changes
   pub differ : All (λ c. find number_of c.number old ≢ find number_of c.number new) changes
-  pub all : (n : ℕ) → find changed_number n changes ≡ None → find number_of n old ≡ find number_of n new
+  pub all : (n : ℕ) → find changed_number n changes ≡ None
+      → find number_of n old ≡ find number_of n new
 
 -- the old objective where it changed
 abbrev pub IsOldObjective : Objective → Objective → Option Objective → Type 0

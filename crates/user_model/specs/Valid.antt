@@ -24,8 +24,9 @@ pub record IsValidGroup (group : Group) : Type 0 where
   pub limit : length group.vars ≤ COMPONENTS
   pub set : IsSetOf (length group.vars) group.set
 
--- the variables of the function stand, its components and terms are no more than they may be, and the set is one of numbers for
--- a scalar function and of vectors for another, and for its components
+-- the variables of the function stand, its components and terms are no more than they may be, and
+-- the set is one of numbers for a scalar function and of vectors for another, and for its
+-- components
 pub record IsValidRow (groups : List Group) (row : Row) : Type 0 where
   pub stand : (at : Address) → func_mentions at row.func ≡ true → Stands groups at
   pub limit : components row.func ≤ COMPONENTS
@@ -46,8 +47,10 @@ abbrev pub bound_count : (Set → Bool) → List Group → List Row → ℕ → 
 bound_count test groups rows n =
     count_by (λ r. is_variable n r.func && test r.set) rows + cond (is_created_by test groups n) 1 0
 
--- groups, rows and the objective are valid, and a variable has at most one lower and one upper bound
-pub record HasValidParts (groups : List Group) (rows : List Row) (objective : Objective) : Type 0 where
+-- groups, rows and the objective are valid, and a variable has at most one lower and one upper
+-- bound
+pub record HasValidParts (groups : List Group) (rows : List Row)
+    (objective : Objective) : Type 0 where
   pub valid_groups : All IsValidGroup groups
   pub valid_rows : All (IsValidRow groups) rows
   pub valid_objective : IsValidObjective groups objective

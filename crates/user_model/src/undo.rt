@@ -11,14 +11,15 @@ pub struct NextNumbers {
     pub row: u32,
 }
 
-/// Groups by number, in rising order, each with its old content, or with nothing where it was added.
+/// Groups by number, in rising order, each with its old content, or with nothing where it was
+/// added.
 pub type OldGroups = Sequence<Change<Group>>;
 
 /// Rows by number, in rising order, each with its old content, or with nothing where it was added.
 pub type OldRows = Sequence<Change<Row>>;
 
-/// All that an edit changed: the groups and rows that it added, removed or changed, the old objective where it changed, and
-/// the next numbers as they stood.
+/// All that an edit changed: the groups and rows that it added, removed or changed, the old
+/// objective where it changed, and the next numbers as they stood.
 #[derive(Debug, Drop)]
 pub struct Undo {
     pub groups: OldGroups,

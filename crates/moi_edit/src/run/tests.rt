@@ -5,108 +5,117 @@ ghost use Rattle.std.specs.Prelude.{◌≤◌};
 use super::*;
 use io_face::{Calls, MemSink, MemSource};
 use std::alloc::AllocError;
-use std::test::Fail;
 
 const SCRIPT: &str =
     "var x free\nrow c >= 2 : 1*x\nattach\nbridged\ndelrow c\nbridged\nquit\nvar y free\n";
 
 const TEXT: &str = "ok\nok\nok 2\nvar v:x free\nrow r:c.0 <= -2 : -1*v:x\nok 1\nvar v:x free\n";
 
-/// A script, how many bytes a call takes, and which read and which write fail, 0 being none.
-#[derive(Clone, Copy)]
-struct Case<'a> {
-    script: &'a [u8],
-    piece: usize,
-    failing_read: u64,
-    failing_write: u64,
+const COMMAND: [&str; 3] = ["run", "--target", "less"];
+
+fn words_of(alloc: Global, texts: &[&str]) -> Result<Vec<String>, AllocError> {
+    let mut words = Vec::new(alloc);
+    for text in texts {
+        words.push(String::from_str(alloc, text)?)?;
+    }
+    Ok(words)
 }
 
-/// The status that a run ends with, and what it wrote.
-fn outcome(alloc: Global, case: &Case) -> Result<(Status, MemSink), AllocError>
-    requires { 1 ≤ case.now.piece }
+/// A script of which a read gives so many bytes; the read of this number fails, 0 being none.
+fn input_of(
+    alloc: Global,
+    script: &[u8],
+    piece: usize,
+    failing: u64,
+) -> Result<MemSource, AllocError>
+    requires { 1 ≤ piece }
 {
-    let words = vec![in alloc;
-        String::from_str(alloc, "run")?,
-        String::from_str(alloc, "--target")?,
-        String::from_str(alloc, "less")?,
-    ]?;
-    let failing_reads = Calls::from_vec(vec![in alloc; case.failing_read]?);
-    let failing_writes = Calls::from_vec(vec![in alloc; case.failing_write]?);
-    let script = Vec::from_slice(alloc, case.script)?;
-    let mut input = MemSource::new(script, case.piece, failing_reads);
-    let mut output = MemSink::new(alloc, case.piece, failing_writes);
+    let fails = Calls::from_vec(vec![in alloc; failing]?);
+    Ok(MemSource::new(Vec::from_slice(alloc, script)?, piece, fails))
+}
+
+/// A sink of which a write takes so many bytes; the write of this number fails, 0 being none.
+fn output_of(alloc: Global, piece: usize, failing: u64) -> Result<MemSink, AllocError>
+    requires { 1 ≤ piece }
+{
+    let fails = Calls::from_vec(vec![in alloc; failing]?);
+    Ok(MemSink::new(alloc, piece, fails))
+}
+
+/// The status that a run of a script by single bytes ends with, which writes the text.
+fn status_by_single_bytes(alloc: Global) -> Result<Option<Status>, AllocError> {
+    let words = words_of(alloc, &COMMAND)?;
+    let mut input = input_of(alloc, SCRIPT.as_bytes(), 1, 0)?;
+    let mut output = output_of(alloc, 1, 0)?;
     let status = run(alloc, &words, &mut input, &mut output);
-    Ok((status, output))
+    Ok((output.written() == TEXT.as_bytes()).then_some(status))
 }
 
 #[test]
-fn answers_a_script_by_single_bytes(rt: HostRuntime) -> Result<(), Fail> {
-    let case = Case {
-        script: SCRIPT.as_bytes(),
-        piece: 1,
-        failing_read: 0,
-        failing_write: 0,
-    };
-    let (status, output) = outcome(rt.alloc(), &case)?;
-    assert_eq!(rt; status, Status::Done);
-    assert_eq!(rt; output.written(), TEXT.as_bytes());
-    Ok(())
+fn answers_a_script_by_single_bytes(rt: HostRuntime) {
+    assert!(rt; status_by_single_bytes(rt.alloc()) == Ok(Some(Status::Done)));
 }
 
-/// The status that the run ends with whose calls take eight bytes and fail at these, where it wrote a beginning of the text.
+/// The status that the run ends with whose calls take eight bytes and fail at these, where it
+/// wrote a beginning of the text.
 fn stopped(
     alloc: Global,
     failing_read: u64,
     failing_write: u64,
 ) -> Result<Option<Status>, AllocError> {
-    let case = Case {
-        script: SCRIPT.as_bytes(),
-        piece: 8,
-        failing_read,
-        failing_write,
-    };
-    let (status, output) = outcome(alloc, &case)?;
-    let is_beginning = TEXT.as_bytes().starts_with(output.written());
-    Ok(is_beginning.then_some(status))
+    let words = words_of(alloc, &COMMAND)?;
+    let mut input = input_of(alloc, SCRIPT.as_bytes(), 8, failing_read)?;
+    let mut output = output_of(alloc, 8, failing_write)?;
+    let status = run(alloc, &words, &mut input, &mut output);
+    Ok(
+        TEXT.as_bytes()
+            .starts_with(output.written())
+            .then_some(status),
+    )
 }
 
 /// The line `quit` is taken by the ninth read, and the text goes out in eleven writes.
 #[test]
-fn stops_at_each_fault(rt: HostRuntime) -> Result<(), Fail> {
+fn stops_at_each_fault(rt: HostRuntime) {
     for call in 1..10u64 {
-        assert_eq!(rt; stopped(rt.alloc(), call, 0)?, Some(Status::ReadFault));
+        assert!(rt;
+            stopped(rt.alloc(), call, 0) == Ok(Some(Status::ReadFault)),
+            "{call}"
+        );
     }
     for call in 1..12u64 {
-        assert_eq!(rt; stopped(rt.alloc(), 0, call)?, Some(Status::WriteFault));
+        assert!(rt;
+            stopped(rt.alloc(), 0, call) == Ok(Some(Status::WriteFault)),
+            "{call}"
+        );
     }
-    Ok(())
+}
+
+/// The status that a line with one byte too many ends a run with, which writes nothing.
+fn status_of_a_longer_line(alloc: Global) -> Result<Option<Status>, AllocError> {
+    let words = words_of(alloc, &COMMAND)?;
+    let script = vec![in alloc; b'a'; 65_537]?;
+    let mut input = input_of(alloc, &script, 4096, 0)?;
+    let mut output = output_of(alloc, 4096, 0)?;
+    let status = run(alloc, &words, &mut input, &mut output);
+    Ok(output.written().is_empty().then_some(status))
 }
 
 #[test]
-fn stops_at_a_longer_line(rt: HostRuntime) -> Result<(), Fail> {
-    let script = vec![in rt.alloc(); b'a'; 65_537]?;
-    let case = Case {
-        script: &script,
-        piece: 4096,
-        failing_read: 0,
-        failing_write: 0,
-    };
-    let (status, output) = outcome(rt.alloc(), &case)?;
-    assert_eq!(rt; status, Status::TooLong);
-    assert_eq!(rt; output.written(), b"".as_slice());
-    Ok(())
+fn stops_at_a_longer_line(rt: HostRuntime) {
+    assert!(rt; status_of_a_longer_line(rt.alloc()) == Ok(Some(Status::TooLong)));
+}
+
+/// The status that other words end a run with, which writes nothing.
+fn status_of_other_words(alloc: Global) -> Result<Option<Status>, AllocError> {
+    let words = words_of(alloc, &["solve"])?;
+    let mut input = input_of(alloc, SCRIPT.as_bytes(), 4096, 0)?;
+    let mut output = output_of(alloc, 4096, 0)?;
+    let status = run(alloc, &words, &mut input, &mut output);
+    Ok(output.written().is_empty().then_some(status))
 }
 
 #[test]
-fn takes_no_other_words(rt: HostRuntime) -> Result<(), Fail> {
-    let words = vec![in rt.alloc(); String::from_str(rt.alloc(), "solve")?]?;
-    let script = Vec::from_slice(rt.alloc(), SCRIPT.as_bytes())?;
-    let mut input = MemSource::new(script, 4096, Calls::new(rt.alloc()));
-    let mut output = MemSink::new(rt.alloc(), 4096, Calls::new(rt.alloc()));
-    assert_eq!(rt;
-        run(rt.alloc(), &words, &mut input, &mut output),
-        Status::Usage
-    );
-    assert_eq!(rt; output.written(), b"".as_slice());
-    Ok(())
+fn takes_no_other_words(rt: HostRuntime) {
+    assert!(rt; status_of_other_words(rt.alloc()) == Ok(Some(Status::Usage)));
 }

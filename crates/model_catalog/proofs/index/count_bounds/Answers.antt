@@ -1,30 +1,28 @@
-use Rattle.std.proofs.Common.{◌≡◌, ◌+◌, ℕ, Option, sym, ap, subst, refl}
+use Rattle.std.proofs.Common.{◌≡◌, ◌+◌, ℕ, Option, sym, ap, refl, subst}
 use Rattle.std.specs.Prelude.{slice_set, slice_index_or}
-use Rattle.std.specs.Option.{option_copied, option_map}
+use Rattle.std.specs.Option.{option_map}
 use Rattle.numbered.specs.Numbered.{find}
 use Rattle.user_model.specs.declared.row.Row.{Row}
 use Rattle.model_catalog.specs.declared.variable.Variable.{Variable}
 use Rattle.model_catalog.specs.Index.{counted, variable_number}
-use Rattle.model_catalog.proofs.Counts.{missing_counted, counted_at, Rise-at, byte_is}
-use Rattle.user_model.specs.Sets.{sets_lower, sets_upper}
+use Rattle.model_catalog.proofs.Counts.{Rise-at, counted_at, its_number}
 use Rattle.model_catalog.proofs.index.count_bounds.Goals as goal
 
-pub returns-in_default-place_of-clause-entries : goal.returns-in_default-place_of-clause-entries
-returns-in_default-place_of-clause-entries c =
-    subst (λ (o : Option Row). (n : ℕ) → find variable_number n c.args.kept.now ≡ option_map (counted o) (find variable_number n c.args.kept.now)) (sym (ap option_copied c.in-Some.is))
-    (λ n. sym (missing_counted c.in-Some.row.now c.in-Some-plain_variable.number c.args.kept.now c.in_default-place_of.field-0 c.in-Some-plain_variable.ensures c.in_default-place_of.ensures n))
+pub returns-in_default-clause-entries : goal.returns-in_default-clause-entries
+returns-in_default-clause-entries c = λ n. sym (c.in_default.ensures n)
 
 pub returns-clause-rising : goal.returns-clause-rising
 returns-clause-rising c =
     let d : Variable = record { number = 0; group = 0; lower = 0; upper = 0 } in
-    Rise-at c.in-Some.row.now c.in-Some-plain_variable.number c.args.kept.now c.in-Ok.place d c.in-Some-plain_variable.ensures c.in-Ok.ensures _ refl c.requires.rising
+    let s = c.in-Some.ensures in
+    let place = c.in-Some.bounds.place in
+    Rise-at s.own s.number c.args.kept.now place d s.variable s.found _ (its_number s.own s.number c.args.kept.now place d s.variable s.found) c.requires.rising
 
 pub returns-clause-entries : goal.returns-clause-entries
 returns-clause-entries c =
     let d : Variable = record { number = 0; group = 0; lower = 0; upper = 0 } in
-    let row = c.in-Some.row.now in
-    let x = slice_index_or c.args.kept.now c.in-Ok.place d in
-    let lower = byte_is c.sets_lower.result (sets_lower row.set) c.from.result c.from.ensures c.sets_lower.ensures in
-    let upper = byte_is c.sets_upper.result (sets_upper row.set) c.from-2.result c.from-2.ensures c.sets_upper.ensures in
-    subst (λ (o : Option Row). (n : ℕ) → find variable_number n (slice_set c.args.kept.now c.in-Ok.place (record { number = c.in-Some-plain_variable.number; group = x.group; lower = x.lower + c.from.result; upper = x.upper + c.from-2.result })) ≡ option_map (counted o) (find variable_number n c.args.kept.now)) (sym (ap option_copied c.in-Some.is))
-    (counted_at row c.in-Some-plain_variable.number c.args.kept.now c.in-Ok.place d c.in-Some-plain_variable.ensures c.in-Ok.ensures _ refl refl (ap (λ k. x.lower + k) lower) (ap (λ k. x.upper + k) upper))
+    let s = c.in-Some.ensures in
+    let bounds = c.in-Some.bounds in
+    let x = slice_index_or c.args.kept.now bounds.place d in
+    subst (λ (o : Option Row). (n : ℕ) → find variable_number n (slice_set c.args.kept.now bounds.place (record { number = x.number; group = x.group; lower = x.lower + bounds.lower; upper = x.upper + bounds.upper })) ≡ option_map (counted o) (find variable_number n c.args.kept.now)) (sym s.is)
+    (counted_at s.own s.number c.args.kept.now bounds.place d s.variable s.found _ (its_number s.own s.number c.args.kept.now bounds.place d s.variable s.found) refl (ap (λ k. x.lower + k) s.lower) (ap (λ k. x.upper + k) s.upper))

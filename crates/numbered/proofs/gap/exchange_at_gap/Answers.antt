@@ -4,8 +4,8 @@ use Rattle.std.proofs.lemmas.List.{length-append, length-reverse}
 use Rattle.numbered.specs.Gap.{with_gap}
 use Rattle.numbered.proofs.GapLemmas.{put_at_gap, room_at_gap}
 use Rattle.numbered.proofs.gap.exchange_at_gap.Goals as goal
-use Rattle.std.proofs.Common.{◌++◌, sym, ap, ◌∙◌}
-use Rattle.std.specs.Prelude.{IsSome, is_some, reverse}
+use Rattle.std.proofs.Common.{ap, ◌∙◌}
+use Rattle.std.specs.Prelude.{is_some, reverse}
 
 pub push_with_room-requires : goal.push_with_room-requires
 push_with_room-requires g c =
