@@ -20,43 +20,12 @@ use Rattle.aff_core.specs.Kept.{IsSpanOf}
 use Rattle.aff_core.specs.Terms.{HaveNoZero, is_nonzero}
 use Rattle.aff_core.specs.Rising.{RiseStrictly}
 use Rattle.map_laws.specs.EntryLaws.{ascending, key_less}
+use Rattle.map_laws.specs.PutLaws.{Within, put_gap, put_place}
 use Rattle.aff_core.specs.FunctionLaws.{entries_rise, filter_nonzero, filter_rises, function_of-filter, nonzero-filter, nonzero_test, zero_test}
 
 -- the items of a slice from a place on
 pub rest_of : {X : Type 0} (xs : List X) (i : ℕ) → take (length xs - i) (drop i xs) ≡ drop i xs
 rest_of xs i = ap (λ n. take n (drop i xs)) (sym (length-drop i xs)) ∙ take-length (drop i xs)
-
--- ---- lists of entries
-
--- each entry from one place up to another compares so with the key
-abbrev Within : {K X : Type 0} → (K → K → Ordering) → List (K × X) → K → Ordering → ℕ → ℕ → Type 0
-Within {K} {X} R es k o low high = (j : ℕ) (d : K × X) → low ≤ j → j < high → R (slice_index_or es j d).0 k ≡ o
-
-module _ {K : Type 0} {R : K → K → Ordering} (total : IsTotalOrder R) (k : K) where
-  turned : (x : K) (o : Ordering) → R x k ≡ o → R k x ≡ ordering_reverse o
-  turned x o e = total.antisymm k x ∙ ap ordering_reverse e
-
-module _ {K X : Type 0} {R : K → K → Ordering} (total : IsTotalOrder R) (k : K) where
-  -- the rest of a list has the same, one place earlier
-  rest : (e : K × X) (es : List (K × X)) (o : Ordering) (low high from : ℕ) → from ≤ suc low → Within R (e ∷ es) k o from (suc high) → Within R es k o low high
-  rest e es o low high from lt h j d after before = h (suc j) d (omega arith) (omega arith)
-
-  put_gap : (v : X) (es : List (K × X)) (i : ℕ) → i ≤ length es → Within R es k Less 0 i → Within R es k Greater i (length es) → put R k v es ≡ take i es ++ (k, v) ∷ drop i es
-  put_gap v [] zero lt below above = refl
-  put_gap v [] (suc i) lt below above = absurd (omega arith)
-  put_gap v (e ∷ es) zero lt below above =
-      ap (λ r. by_order r ((k, v) ∷ e ∷ es) ((e.0, v) ∷ es) (e ∷ put R k v es)) (turned total k e.0 Greater (above 0 e (omega arith) (omega arith)))
-  put_gap v (e ∷ es) (suc i) lt below above =
-      ap (λ r. by_order r ((k, v) ∷ e ∷ es) ((e.0, v) ∷ es) (e ∷ put R k v es)) (turned total k e.0 Less (below 0 e (omega arith) (omega arith)))
-      ∙ ap (λ l. e ∷ l) (put_gap v es i (omega arith) (rest e es Less 0 i 0 (omega arith) below) (rest e es Greater i (length es) (suc i) (omega arith) above))
-
-  put_place : IsAntisymmetric R → (v : X) (es : List (K × X)) (i : ℕ) → i < length es → Within R es k Less 0 i → ((d : K × X) → R (slice_index_or es i d).0 k ≡ Equal) → put R k v es ≡ take i es ++ (k, v) ∷ drop (suc i) es
-  put_place exact v [] i lt below here = absurd (omega arith)
-  put_place exact v (e ∷ es) zero lt below here =
-      ap (λ r. by_order r ((k, v) ∷ e ∷ es) ((e.0, v) ∷ es) (e ∷ put R k v es)) (turned total k e.0 Equal (here e)) ∙ ap (λ x. (x, v) ∷ es) (exact e.0 k (here e))
-  put_place exact v (e ∷ es) (suc i) lt below here =
-      ap (λ r. by_order r ((k, v) ∷ e ∷ es) ((e.0, v) ∷ es) (e ∷ put R k v es)) (turned total k e.0 Less (below 0 e (omega arith) (omega arith)))
-      ∙ ap (λ l. e ∷ l) (put_place exact v es i (omega arith) (rest e es Less 0 i 0 (omega arith) below) here)
 
 -- ---- what a binary search among the terms answers
 

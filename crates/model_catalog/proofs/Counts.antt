@@ -1,6 +1,5 @@
 -- The counts of the rows that bound a variable, as a row comes or goes.
 use Rattle.std.proofs.Common.{◌≡◌, ◌≢◌, ℕ, ◌+◌, ◌<◌, ◌≤◌, ◌^◌, ◌&&◌, Bool, true, false, cond, List, [], ◌∷◌, length, Option, Some, None, refl, sym, ap, subst, ◌∙◌, arith, inl, inr}
-use mir.Val.{bool_byte}
 use Rattle.std.specs.Prelude.{IfSome, IsSome, slice_index_or, count_by}
 use Rattle.std.specs.Option.{option_map}
 use Rattle.std.proofs.Math.ListN.{set}
@@ -73,14 +72,6 @@ count_nothing v = same_variable refl refl (zero_more v.lower) (zero_more v.upper
   where
     zero_more : (n : ℕ) → n + 0 ≡ n
     zero_more n = omega arith
-
--- a test as a number
-pub byte_is : (b c : Bool) (n : ℕ) → n ≡ bool_byte b → b ≡ c → n ≡ cond c 1 0
-byte_is b c n e is = e ∙ (as_cond b ∙ ap (λ x. cond x 1 0) is)
-  where
-    as_cond : (x : Bool) → bool_byte x ≡ cond x 1 0
-    as_cond true = refl
-    as_cond false = refl
 
 -- ---- the variables
 

@@ -35,8 +35,8 @@ others_stay n (g ∷ groups) h =
     (λ v off. other_number v.number n off) g.vars
     (All-left (λ v. v.number ≢ n) g.vars (vars_in groups) h)) in
     ap (λ o. cons_option o (filter_map (group_without n) groups)) (group_unmentioned n g lacks)
-    ∙ ap (λ gs. g
-    ∷ gs) (others_stay n groups (All-right (λ v. v.number ≢ n) g.vars (vars_in groups) h))
+    ∙ ap (λ gs. g ∷ gs)
+    (others_stay n groups (All-right (λ v. v.number ≢ n) g.vars (vars_in groups) h))
 
 first_or_none : {X : Type 0} (o : Option X) (xs : List X)
     → cons_option o xs ≡ option_to_list o ++ xs

@@ -7,7 +7,7 @@ use Rattle.user_model.specs.declared.refusal.Refusal.{Refusal}
 use Rattle.user_model.specs.declared.refusal.Refusal.TheVariants.{UnknownName, NameTaken, FunctionShape, BadDimension, OutputIndex, BadInterval, LowerBoundAlreadySet, UpperBoundAlreadySet, SetTypeMismatch, DeleteNotAllowed}
 use Rattle.user_model.specs.Sets.{sets_lower, sets_upper}
 use Rattle.user_model.specs.Model.{ModelValue, has_lower_bound, has_upper_bound}
-use Rattle.user_model.specs.Refusals.{first_of, first_refusal, full_at, counts, meets_unknown_name, meets_name_taken, meets_function_shape, meets_bad_dimension, meets_output_index, meets_bad_interval, meets_bound_already_set, meets_set_type_mismatch, meets_delete_not_allowed}
+use Rattle.user_model.specs.Refusals.{first_of, first_refusal, full_at, counts, refusal_tests, meets_unknown_name, meets_name_taken, meets_function_shape, meets_bad_dimension, meets_output_index, meets_bad_interval, meets_bound_already_set, meets_set_type_mismatch, meets_delete_not_allowed}
 
 -- each test of a refusal fails, and each count is at most its limit
 pub record IsPassed (model : ModelValue) (e : Edit) : Type 0 where
@@ -52,25 +52,11 @@ within_limits [] h = All-nil (λ c. c.0 ≤ c.1)
 within_limits (c ∷ counted) h =
     All-cons (λ c. c.0 ≤ c.1) c counted (ltb-false c.1 c.0 h.0) (within_limits counted h.1)
 
-abbrev tests : ModelValue → Edit → List (Bool × Refusal)
-tests model e =
-    (meets_unknown_name model e, UnknownName)
-    ∷ (meets_name_taken model e, NameTaken)
-    ∷ (meets_function_shape model e, FunctionShape)
-    ∷ (meets_bad_dimension model e, BadDimension)
-    ∷ (meets_output_index model e, OutputIndex)
-    ∷ (meets_bad_interval e, BadInterval)
-    ∷ (meets_bound_already_set sets_lower has_lower_bound model e, LowerBoundAlreadySet)
-    ∷ (meets_bound_already_set sets_upper has_upper_bound model e, UpperBoundAlreadySet)
-    ∷ (meets_set_type_mismatch model e, SetTypeMismatch)
-    ∷ (meets_delete_not_allowed model e, DeleteNotAllowed)
-    ∷ map full_at (counts model e)
-
 -- an edit that is not refused passes every test
 pub passed : (model : ModelValue) (e : Edit) → first_refusal model e ≡ None → IsPassed model e
 unfolding first_refusal
 passed model e none =
-    let h : AllFail (tests model e) = none_holds (tests model e) none in
+    let h : AllFail (refusal_tests model e) = none_holds (refusal_tests model e) none in
     record {
       known = h.0;
       free = h.1.0;

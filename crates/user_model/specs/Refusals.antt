@@ -252,8 +252,9 @@ first_of (test ∷ tests) = if test.0 then Some test.1 else first_of tests
 abbrev pub full_at : ℕ × ℕ → Bool × Refusal
 full_at count = (nat_lt count.1 count.0, Full count.0 count.1)
 
-unfoldable pub first_refusal : ModelValue → Edit → Option Refusal
-first_refusal model e = first_of (
+-- each test with its refusal, in the order of the refusals
+abbrev pub refusal_tests : ModelValue → Edit → List (Bool × Refusal)
+refusal_tests model e =
     (meets_unknown_name model e, UnknownName)
     ∷ (meets_name_taken model e, NameTaken)
     ∷ (meets_function_shape model e, FunctionShape)
@@ -264,4 +265,7 @@ first_refusal model e = first_of (
     ∷ (meets_bound_already_set sets_upper has_upper_bound model e, UpperBoundAlreadySet)
     ∷ (meets_set_type_mismatch model e, SetTypeMismatch)
     ∷ (meets_delete_not_allowed model e, DeleteNotAllowed)
-    ∷ map full_at (counts model e))
+    ∷ map full_at (counts model e)
+
+unfoldable pub first_refusal : ModelValue → Edit → Option Refusal
+first_refusal model e = first_of (refusal_tests model e)
