@@ -55,7 +55,7 @@ module _ {K X : Type 0} {R : K → K → Ordering} (total : IsTotalOrder R) (k :
       here)
 
   -- the entries but the key's
-  pub others : List (K × X) → List (K × X)
+  unfoldable pub others : List (K × X) → List (K × X)
   others es = filter (λ e. not (eq_by_cmp R k e.0)) es
 
   all_above : (es : List (K × X)) → Within R es k Greater 0 (length es) → others es ≡ es
