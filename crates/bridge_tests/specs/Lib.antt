@@ -1,0 +1,3 @@
+pub mod EqualLaws
+pub mod SampleLaws
+pub mod RoundLaws
