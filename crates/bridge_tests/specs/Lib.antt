@@ -1,3 +1,2 @@
-pub mod EqualLaws
 pub mod SampleLaws
 pub mod RoundLaws

@@ -1,6 +1,7 @@
 -- What a bridge keeps of an item that is taken through an edge.
-use Rattle.std.specs.Prelude.{None, Some, cond, false, ◌≡◌}
-use Rattle.std.proofs.Common.{ap, ◌∙◌}
+use denote.Enum.Bare.{same_true}
+use Rattle.std.specs.Prelude.{IsSomeAnd, None, Option, Some, cond, false, true, ◌≡◌}
+use Rattle.std.proofs.Common.{ap, subst, sym, ◌∙◌}
 use Rattle.aff_core.specs.Address.{Address, address_total}
 use Rattle.item_core.specs.declared.edge.Edge.{Edge}
 use Rattle.item_core.specs.declared.image.Image.{Image}
@@ -10,7 +11,10 @@ use Rattle.bridge_face.specs.declared.kept_item.KeptItem.{KeptItem}
 use Rattle.bridge_face.specs.State.{State, found, given, gone}
 use Rattle.aff_core.specs.KeyOrder.{address_order, same_key}
 use Rattle.bridge_face.specs.ImageOf.{image_of}
+use Rattle.item_core.specs.Edge.{family_eq}
 use Rattle.item_core.specs.Item.{is_group}
+use Rattle.item_core.specs.contracts.family.Family as contracts
+use Rattle.item_core.specs.declared.family.Family.{Family}
 use Rattle.bridge_tests.specs.SampleLaws.{here}
 use Rattle.std.specs.FinMap as finite
 
@@ -28,10 +32,34 @@ pub given_found : (s : State) (kept : KeptItem) → found (given s kept) kept.it
 given_found s kept =
     finite.get-insert address_total s.kept kept.item.at kept kept.item.at
     ∙ ap (λ b. cond b (Some kept) (finite.get s.kept kept.item.at))
-        (same_key address_order kept.item.at)
+    (same_key address_order kept.item.at)
+
+pub kept_here : (s : State) (edge : Edge) (item : Item) → item.at ≡ here
+    → found (given s (record { edge = edge; item = item })) here
+    ≡ Some (record { edge = edge; item = item })
+kept_here s edge item e =
+    let kept : KeptItem = record { edge = edge; item = item } in
+    subst (λ at. found (given s kept) at ≡ Some kept) e (given_found s kept)
+
+-- an item for the edge of what is kept can stand in its place
+pub suits_kept : (s : State) (edge : Edge) (item : Item) → IsItemFor edge item → item.at ≡ here
+    → IsSomeAnd (found s here) (λ kept. kept.edge ≡ edge)
+    → IsSomeAnd (found s item.at) (λ kept. IsItemFor kept.edge item)
+suits_kept s edge item suits e there =
+    subst (λ at. IsSomeAnd (found s at) (λ kept. IsItemFor kept.edge item)) (sym e)
+    (by (found s here) there)
+  where
+    by : (o : Option KeptItem) → IsSomeAnd o (λ kept. kept.edge ≡ edge)
+        → IsSomeAnd o (λ kept. IsItemFor kept.edge item)
+    by None h = absurd h
+    by (Some kept) h = subst (λ e. IsItemFor e item) (sym h) suits
 
 -- and nothing where one was let go
 pub gone_found : (s : State) (at : Address) → found (gone s at) at ≡ None
 gone_found s at =
     finite.get-remove address_total s.kept at at
     ∙ ap (λ b. cond b None (finite.get s.kept at)) (same_key address_order at)
+
+-- families that the test finds equal are one
+pub equal_family : (f g : Family) → family_eq f g ≡ true → f ≡ g
+equal_family f g e = same_true contracts.the_type tt f g e

@@ -1,5 +1,5 @@
 // Boxes of all families.
-use crate::round::round;
+use crate::round::pass;
 use anyhow::Result;
 use bridge_face::Bridge;
 use bridges_flip::{GreaterLess, NonposVar, ObjFlip, OrthantFlip};
@@ -46,7 +46,7 @@ fn edges<B: Bridge>(rt: &HostRuntime, bridge: &mut B) -> Result<()> {
     for row in EDGES {
         let edge = row.edge;
         if edge.entry().family == bridge.family() {
-            round(rt, bridge, edge)?;
+            pass(rt, bridge, edge)?;
         }
     }
     Ok(())

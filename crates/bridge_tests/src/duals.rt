@@ -1,6 +1,7 @@
 // Duals of child rows.
 ghost use Rattle.std.specs.Prelude.{◌≡◌, IfOk, length, map};
 ghost use Rattle.item_core.specs.Item.{functions_of};
+ghost use Rattle.bridge_face.specs.BackOf.{size};
 
 use anyhow::Result;
 use item_core::{Body, Family, Item};
@@ -9,21 +10,21 @@ use ratio_core::{Ratio, Ratios};
 use std::alloc::Global;
 
 /// A dual for each number of each row.
-pub fn duals(alloc: Global, family: Family, rows: &[Item]) -> Result<Vec<Ratios>>
+pub fn of_rows(alloc: Global, family: Family, rows: &[Item]) -> Result<Vec<Ratios>>
     ensures { IfOk result (λ duals.
-        map length duals.items ≡ map (λ row. length (functions_of row.body)) rows.now) }
+        map length duals.items ≡ map size rows.now) }
 {
     let mut duals = Vec::with_capacity(alloc, rows.len())?;
     let mut start = 0usize;
     for row in rows {
-        let size = size(&row.body);
-        duals.push(numbers(alloc, family, start, size)?)?;
-        start = start.wrapping_add(size);
+        let count = function_count(&row.body);
+        duals.push(numbers(alloc, family, start, count)?)?;
+        start = start.wrapping_add(count);
     }
     Ok(duals)
 }
 
-fn size(body: &Body) -> usize
+fn function_count(body: &Body) -> usize
     ensures { result ≡ length (functions_of body.now) }
 {
     match body {

@@ -1,11 +1,11 @@
-// Takes an item through each edge, by a list of boxes of all families: prints its image, what is
-// carried back of duals, and what altering it and letting it go give. Then come two images that
-// differ in whether a sum fits.
+// Takes an item through each edge, by a list of boxes of all families: prints the item, its image,
+// what is carried back of duals, and what altering it and letting it go give. Then come a row of
+// two numbers in `Reals`, and two images that differ in whether a sum fits.
 #![tactic(auto)]
 
 mod boxes;
+mod constants;
 mod duals;
-mod overflow;
 mod round;
 mod samples;
 mod shown;
@@ -14,5 +14,6 @@ use anyhow::Result;
 
 fn main(rt: HostRuntime) -> Result<()> {
     boxes::all(&rt)?;
-    overflow::greatest(&rt)
+    constants::reals(&rt)?;
+    constants::greatest(&rt)
 }

@@ -1,23 +1,23 @@
 // What becomes of an item that a bridge keeps.
-ghost use Rattle.std.specs.Prelude.{◌≡◌, IsSomeAnd, false, true};
+ghost use Rattle.std.specs.Prelude.{◌≡◌, IsSomeAnd, OnOk, false, true};
 ghost use Rattle.item_core.specs.Edge.{family_of};
 ghost use Rattle.item_core.specs.Item.{is_group};
-ghost use Rattle.bridge_face.specs.ImageOf.{image_of};
 ghost use Rattle.bridge_face.specs.Law.{IsItemFor, is_objective};
 ghost use Rattle.bridge_face.specs.State.{found};
 ghost use Rattle.bridge_tests.specs.RoundLaws.{KeepsRow};
+ghost use Rattle.bridge_tests.specs.SampleLaws.{here};
 
-use crate::duals::duals;
+use crate::duals;
 use crate::samples::{place, sample};
 use crate::shown::{show_image, show_item};
 use anyhow::Result;
 use bridge_face::Bridge;
-use item_core::{Body, Edge, Image};
+use item_core::{Body, Edge, Image, Item};
 use ratio_core::Ratio;
 
 /// Takes an item through the edge: its image, what is carried back of duals, another item in its
 /// place, and then none.
-pub fn round<B: Bridge>(rt: &HostRuntime, bridge: &mut B, edge: Edge) -> Result<()>
+pub fn pass<B: Bridge>(rt: &HostRuntime, bridge: &mut B, edge: Edge) -> Result<()>
     requires own { family_of edge ≡ (B.state bridge.old).family }
 {
     let alloc = rt.alloc();
@@ -28,16 +28,7 @@ pub fn round<B: Bridge>(rt: &HostRuntime, bridge: &mut B, edge: Edge) -> Result<
         return Ok(());
     };
     println!(rt; "{edge:?} {:?}", bridge.family())?;
-    let row = is_row(&first.body);
-    let image = bridge.image(edge, &first)?;
-    show_image(rt, &image)?;
-    drop(bridge.let_go(&place()));
-    if let Err((_, memory)) = bridge.keep(edge, first) {
-        return Err(memory.into());
-    }
-    if row {
-        back(rt, bridge, edge, &image)?;
-    }
+    keep(rt, bridge, edge, first)?;
     drop(bridge.alter(second));
     let altered = bridge.let_go(&place());
     if let Some(item) = &altered {
@@ -45,6 +36,29 @@ pub fn round<B: Bridge>(rt: &HostRuntime, bridge: &mut B, edge: Edge) -> Result<
     }
     let none = bridge.let_go(&place()).is_none();
     println!(rt; "  {none} {}", bridge.turns())?;
+    Ok(())
+}
+
+/// Prints the item and its image, has the bridge keep it in place of what stands there, and
+/// prints what is carried back of duals.
+pub fn keep<B: Bridge>(rt: &HostRuntime, bridge: &mut B, edge: Edge, item: Item) -> Result<()>
+    requires own { family_of edge ≡ (B.state bridge.old).family }
+    requires suits { IsItemFor edge item }
+    requires at { item.at ≡ here }
+    ensures { OnOk result
+        (IsSomeAnd (found (B.state bridge.new) here) (λ kept. kept.edge ≡ edge)) }
+{
+    show_item(rt, &item)?;
+    let row = is_row(&item.body);
+    let image = bridge.image(edge, &item)?;
+    show_image(rt, &image)?;
+    drop(bridge.let_go(&place()));
+    if let Err((_, memory)) = bridge.keep(edge, item) {
+        return Err(memory.into());
+    }
+    if row {
+        back(rt, bridge, edge, &image)?;
+    }
     Ok(())
 }
 
@@ -63,7 +77,7 @@ fn is_row(body: &Body) -> bool
 fn back<B: Bridge>(rt: &HostRuntime, bridge: &B, edge: Edge, image: &Image) -> Result<()>
     requires { KeepsRow edge image.now (B.state bridge.now) }
 {
-    let duals = duals(rt.alloc(), bridge.family(), image.rows.as_slice())?;
+    let duals = duals::of_rows(rt.alloc(), bridge.family(), image.rows.as_slice())?;
     let dual = bridge.back(&place(), &duals)?;
     println!(rt; "  dual {:?}", dual.as_slice())?;
     Ok(())

@@ -12,6 +12,8 @@ use Rattle.ratio_core.specs.Rational.{Rational, abs_ℚ, neg_ℚ, zero_ℚ, ◌*
 use Rattle.rational_laws.specs.Order.{abs_ℚ-+ℚ, abs_ℚ-neg_ℚ, abs_ℚ_at_most, abs_ℚ_nonneg, ≤ℚ-+ℚ, ≤ℚ_from_nonneg, ≤ℚ_from_≡, ≤ℚ_refl}
 use Rattle.rational_laws.specs.Ring.{as_expression, by_ring, ring₃, ring₅}
 use Rattle.bridge_face.specs.Images.{difference, first_in, rest_of}
+use Rattle.item_core.specs.Item.{functions_of}
+use Rattle.item_core.specs.declared.item.Body.{Body}
 use Rattle.rational_laws.specs.Dot.{dot, minus, plus}
 use Rattle.rational_laws.specs.DotLaws.{dot-append, minus-dot}
 use Rattle.set_laws.specs.Norms.{norm}
@@ -57,11 +59,11 @@ module _ (g : Function → Rational) (subtracts : Subtracts g) (adds : Adds g) (
   pub dot_both : (p q : List Rational) (fs : List Function) → length p ≡ length fs
       → length q ≡ length fs
       → dot (p ++ q) (map g (less_each t fs ++ more_each t fs))
-          ≡ (sum_ℚ p +ℚ sum_ℚ q) *ℚ g t +ℚ dot (minus q p) (map g fs)
+      ≡ (sum_ℚ p +ℚ sum_ℚ q) *ℚ g t +ℚ dot (minus q p) (map g fs)
   dot_both p q fs e k =
       ap (dot (p ++ q)) (map-append g (less_each t fs) (more_each t fs))
       ∙ dot-append p (map g (less_each t fs)) q (map g (more_each t fs))
-          (e ∙ sym (length-map (less_each t fs) g ∙ length-map fs (difference t)))
+      (e ∙ sym (length-map (less_each t fs) g ∙ length-map fs (difference t)))
       ∙ ap₂ ◌+ℚ◌ (dot_less p fs e) (dot_more q fs k)
       ∙ both_sums (sum_ℚ p) (g t) (dot p (map g fs)) (sum_ℚ q) (dot q (map g fs))
       ∙ ap (λ z. (sum_ℚ p +ℚ sum_ℚ q) *ℚ g t +ℚ z) (sym (minus-dot q p (map g fs) (k ∙ sym e)))
@@ -72,7 +74,7 @@ pub number-fold : (g : Function → Rational) → Subtracts g → (t : Function)
 number-fold g s t [] = sym (ap (λ q. g t +ℚ q) neg_ℚ-zero ∙ +ℚ-zero (g t))
 number-fold g s t (f ∷ fs) =
     number-fold g s (difference t f) fs ∙ ap (λ q. q -ℚ sum_ℚ (map g fs)) (s t f)
-        ∙ turned (g t) (g f) (sum_ℚ (map g fs))
+    ∙ turned (g t) (g f) (sum_ℚ (map g fs))
   where
     turned : (k x d : Rational) → (k -ℚ x) -ℚ d ≡ k -ℚ (x +ℚ d)
     turned = ring₃ _ (λ ρ. simp as_expression (by_ring ρ _ _ refl))
@@ -106,30 +108,30 @@ each_below e [] low high = All-nil (λ q. abs_ℚ q ≤ℚ e)
 each_below e (v ∷ vs) low high =
     All-cons (λ q. abs_ℚ q ≤ℚ e) v vs
     (magnitude_below e v (All-head (λ q. zero_ℚ ≤ℚ q) (e -ℚ v) (map (λ v. e -ℚ v) vs) low)
-        (All-head (λ q. zero_ℚ ≤ℚ q) (e +ℚ v) (map (λ v. e +ℚ v) vs) high))
+    (All-head (λ q. zero_ℚ ≤ℚ q) (e +ℚ v) (map (λ v. e +ℚ v) vs) high))
     (each_below e vs (All-tail (λ q. zero_ℚ ≤ℚ q) (e -ℚ v) (map (λ v. e -ℚ v) vs) low)
-        (All-tail (λ q. zero_ℚ ≤ℚ q) (e +ℚ v) (map (λ v. e +ℚ v) vs) high))
+    (All-tail (λ q. zero_ℚ ≤ℚ q) (e +ℚ v) (map (λ v. e +ℚ v) vs) high))
 
 -- where each is below its own bound, the norm is below the sum of the bounds
 pub norm_below : (es vs : List Rational) → length es ≡ length vs
     → All (λ q. zero_ℚ ≤ℚ q) (minus es vs) → All (λ q. zero_ℚ ≤ℚ q) (plus es vs)
-        → norm vs ≤ℚ sum_ℚ es
+    → norm vs ≤ℚ sum_ℚ es
 norm_below [] [] e low high = ≤ℚ_refl zero_ℚ
 norm_below [] (v ∷ vs) e low high = absurd (omega (arith, e))
 norm_below (b ∷ es) [] e low high = absurd (omega (arith, e))
 norm_below (b ∷ es) (v ∷ vs) e low high =
     ≤ℚ-+ℚ (abs_ℚ v) b (norm vs) (sum_ℚ es)
     (magnitude_below b v (All-head (λ q. zero_ℚ ≤ℚ q) (b -ℚ v) (minus es vs) low)
-        (All-head (λ q. zero_ℚ ≤ℚ q) (b +ℚ v) (plus es vs) high))
+    (All-head (λ q. zero_ℚ ≤ℚ q) (b +ℚ v) (plus es vs) high))
     (norm_below es vs (omega (arith, e)) (All-tail (λ q. zero_ℚ ≤ℚ q) (b -ℚ v) (minus es vs) low)
-        (All-tail (λ q. zero_ℚ ≤ℚ q) (b +ℚ v) (plus es vs) high))
+    (All-tail (λ q. zero_ℚ ≤ℚ q) (b +ℚ v) (plus es vs) high))
 
 -- the magnitude of a difference of two numbers that aren't negative is at most their sum
 pub across_below : (p q : Rational) → zero_ℚ ≤ℚ p → zero_ℚ ≤ℚ q → abs_ℚ (q -ℚ p) ≤ℚ (p +ℚ q)
 across_below p q h k =
     subst (λ z. abs_ℚ (q -ℚ p) ≤ℚ z)
     (ap₂ ◌+ℚ◌ (abs_ℚ_nonneg q k) (abs_ℚ-neg_ℚ p ∙ abs_ℚ_nonneg p h) ∙ +ℚ_comm q p)
-        (abs_ℚ-+ℚ q (neg_ℚ p))
+    (abs_ℚ-+ℚ q (neg_ℚ p))
 
 pub norm_across : (p q : List Rational) → length p ≡ length q
     → All (λ q. zero_ℚ ≤ℚ q) p → All (λ q. zero_ℚ ≤ℚ q) q → norm (minus q p) ≤ℚ (sum_ℚ p +ℚ sum_ℚ q)
@@ -141,12 +143,12 @@ norm_across (a ∷ p) (b ∷ q) e h k =
     (≤ℚ-+ℚ (abs_ℚ (b -ℚ a)) (a +ℚ b) (norm (minus q p)) (sum_ℚ p +ℚ sum_ℚ q)
     (across_below a b (All-head (λ q. zero_ℚ ≤ℚ q) a p h) (All-head (λ q. zero_ℚ ≤ℚ q) b q k))
     (norm_across p q (omega (arith, e)) (All-tail (λ q. zero_ℚ ≤ℚ q) a p h)
-        (All-tail (λ q. zero_ℚ ≤ℚ q) b q k)))
+    (All-tail (λ q. zero_ℚ ≤ℚ q) b q k)))
 
 -- where each two numbers have the sum r, each difference is at most r
 pub each_across : (n : ℕ) (r : Rational) (p q : List Rational) → length p ≡ n → length q ≡ n
     → All (λ q. zero_ℚ ≤ℚ q) p → All (λ q. zero_ℚ ≤ℚ q) q
-        → All (λ z. z ≡ zero_ℚ) (minus (plus p q) (replicate n r))
+    → All (λ z. z ≡ zero_ℚ) (minus (plus p q) (replicate n r))
     → All (λ z. abs_ℚ z ≤ℚ r) (minus q p)
 each_across zero r [] [] e k low high same = All-nil (λ z. abs_ℚ z ≤ℚ r)
 each_across zero r (a ∷ p) q e k low high same = absurd (omega (arith, e))
@@ -156,13 +158,17 @@ each_across (suc n) r (a ∷ p) [] e k low high same = absurd (omega (arith, k))
 each_across (suc n) r (a ∷ p) (b ∷ q) e k low high same =
     All-cons (λ z. abs_ℚ z ≤ℚ r) (b -ℚ a) (minus q p)
     (subst (λ z. abs_ℚ (b -ℚ a) ≤ℚ z) (same_from_difference (a +ℚ b) r
-        (All-head (λ z. z ≡ zero_ℚ) ((a +ℚ b) -ℚ r) (minus (plus p q) (replicate n r)) same))
+    (All-head (λ z. z ≡ zero_ℚ) ((a +ℚ b) -ℚ r) (minus (plus p q) (replicate n r)) same))
     (across_below a b (All-head (λ q. zero_ℚ ≤ℚ q) a p low) (All-head (λ q. zero_ℚ ≤ℚ q) b q high)))
     (each_across n r p q (omega (arith, e)) (omega (arith, k)) (All-tail (λ q. zero_ℚ ≤ℚ q) a p low)
-        (All-tail (λ q. zero_ℚ ≤ℚ q) b q high) (All-tail (λ z. z ≡ zero_ℚ) ((a +ℚ b) -ℚ r)
-        (minus (plus p q) (replicate n r)) same))
+    (All-tail (λ q. zero_ℚ ≤ℚ q) b q high) (All-tail (λ z. z ≡ zero_ℚ) ((a +ℚ b) -ℚ r)
+    (minus (plus p q) (replicate n r)) same))
 
 -- ---- a list of several functions begins with one
+
+-- all functions of a body but the first
+abbrev pub others_of : Body → List Function
+others_of b = rest_of (functions_of b)
 
 pub begins : (fs : List Function) → 1 ≤ length fs → fs ≡ first_in fs ∷ rest_of fs
 begins [] h = absurd (omega (arith, h))
@@ -175,5 +181,10 @@ none_left [] h = All-nil (λ q. q ≡ zero_ℚ)
 none_left (p ∷ v) h =
     All-cons (λ q. q ≡ zero_ℚ) p v
     (sym (neg_ℚ-neg_ℚ p) ∙ ap neg_ℚ (All-head (λ q. q ≡ zero_ℚ) (neg_ℚ p) (numbers.negated v) h)
-        ∙ neg_ℚ-zero)
+    ∙ neg_ℚ-zero)
     (none_left v (All-tail (λ q. q ≡ zero_ℚ) (neg_ℚ p) (numbers.negated v) h))
+
+-- the first size of several
+abbrev pub first_size : List ℕ → ℕ
+first_size [] = 0
+first_size (n ∷ ns) = n

@@ -28,7 +28,7 @@ use Rattle.aff_core.specs.Arithmetic.{PlusFits, sum_of, ExactWhere}
 use Rattle.ratio_core.specs.Rational.{Rational, zero_ℚ, ◌+ℚ◌, ◌-ℚ◌, ◌≤ℚ◌}
 use Rattle.aff_core.specs.KeyOrder.{address_order}
 use Rattle.bridge_face.specs.ComponentLaws.{all_unnamed_below}
-use Rattle.bridges_norm.specs.BothLaws.{begins, dot_both, each_below, in_first, in_second, less_each, more_each, norm_across}
+use Rattle.bridges_norm.specs.BothLaws.{begins, dot_both, each_below, first_size, in_first, in_second, less_each, more_each, norm_across, others_of}
 use Rattle.aff_core.specs.ArithmeticLaws.{coefficient-sum_of, constant-sum_of}
 use Rattle.bridge_face.specs.Images.{difference, function_of_body, rest_of, row_at, first_in}
 use Rattle.rational_laws.specs.Dot.{dot, minus}
@@ -53,15 +53,12 @@ pub data InNormInfinity : Body → Type 0 where
   in_norm_infinity : {fs : List Function} {n : ℕ}
       → InNormInfinity (AffineVec fs (NormInfinityCone n))
 
-abbrev pub others_of : Body → List Function
-others_of b = rest_of (functions_of b)
-
 -- what the edge makes of it
 abbrev pub made : Body → Body
 made b =
     AffineVec (less_each (function_of_body b) (others_of b)
-        ++ more_each (function_of_body b) (others_of b))
-        (Nonnegatives (length (others_of b) + length (others_of b)))
+    ++ more_each (function_of_body b) (others_of b))
+    (Nonnegatives (length (others_of b) + length (others_of b)))
 
 -- what must fit for it
 abbrev pub BothFit : Function → List Function → Type 0
@@ -83,7 +80,7 @@ made_of b s fs others both first n b_is first_is others_is both_is n_is =
     let there : others ≡ others_of b = others_is ∙ ap others_of (sym b_is) in
     ap₂ (λ gs m. AffineVec gs (Nonnegatives (m + m)))
     (both_is ∙ ap₂ (λ f gs. less_each f gs ++ more_each f gs)
-        (first_is ∙ ap function_of_body (sym b_is)) there)
+    (first_is ∙ ap function_of_body (sym b_is)) there)
     (n_is ∙ ap length there)
 
 sourced_only : {b : Body} → OfKind kind.VaffineNormInfinityCone b → InNormInfinity b
@@ -111,10 +108,6 @@ read : {b : Body} → InNormInfinity b → Read b
 read (in_norm_infinity {fs} {n}) =
     record { row = record { no_group = refl; no_objective = refl }; count = n; set = refl }
 
-first_size : List ℕ → ℕ
-first_size [] = 0
-first_size (n ∷ ns) = n
-
 -- ---- the law
 
 module _ (edge : Edge) (own : family_of edge ≡ NormInfinity) where
@@ -129,8 +122,7 @@ module _ (edge : Edge) (own : family_of edge ≡ NormInfinity) where
 
   pub image_fits : (item : Item)
       → ImageFits edge item
-      ≡ (All (λ x. PlusFits (function_of_body item.body) (negated x)) (others_of item.body)
-      × All (λ x. PlusFits (function_of_body item.body) x) (others_of item.body))
+      ≡ BothFit (function_of_body item.body) (others_of item.body)
   unfolding FitsBy
   image_fits item = ap (λ f. FitsBy f item) own
 
@@ -162,7 +154,7 @@ module _ (edge : Edge) (own : family_of edge ≡ NormInfinity) where
     some : 1 ≤ n
     some =
         let two : 2 ≤ length fs = subst (λ s. least_dimension s ≤ length fs) r.set valid.set.enough
-                in
+        in
         let e : length fs ≡ suc n = ap length parts in omega (arith, two, e)
 
     counted : size item - 1 ≡ n
@@ -182,14 +174,14 @@ module _ (edge : Edge) (own : family_of edge ≡ NormInfinity) where
 
     evaluations-less : (one : Rational) (x : Address → Rational) (gs : List Function)
         → evaluations one (less_each t gs) x
-            ≡ map (λ v. evaluated one t x -ℚ v) (evaluations one gs x)
+        ≡ map (λ v. evaluated one t x -ℚ v) (evaluations one gs x)
     evaluations-less one x [] = refl
     evaluations-less one x (f ∷ gs) =
         ap₂ ◌∷◌ (evaluated-difference one t f x) (evaluations-less one x gs)
 
     evaluations-more : (one : Rational) (x : Address → Rational) (gs : List Function)
         → evaluations one (more_each t gs) x
-            ≡ map (λ v. evaluated one t x +ℚ v) (evaluations one gs x)
+        ≡ map (λ v. evaluated one t x +ℚ v) (evaluations one gs x)
     evaluations-more one x [] = refl
     evaluations-more one x (f ∷ gs) = ap₂ ◌∷◌ (evaluated-sum one t f x) (evaluations-more one x gs)
 
@@ -200,9 +192,9 @@ module _ (edge : Edge) (own : family_of edge ≡ NormInfinity) where
         let e = evaluated one t x in
         let vs = evaluations one xs x in
         let parted : All (λ q. zero_ℚ ≤ℚ q) (map (λ v. e -ℚ v) vs ++ map (λ v. e +ℚ v) vs) = subst
-                (All (λ q. zero_ℚ ≤ℚ q)) (map-append (λ f. evaluated one f x) (less_each t xs)
-                (more_each t xs) ∙ ap₂ ◌++◌ (evaluations-less one x xs) (evaluations-more one x xs))
-                below in
+        (All (λ q. zero_ℚ ≤ℚ q)) (map-append (λ f. evaluated one f x) (less_each t xs)
+        (more_each t xs) ∙ ap₂ ◌++◌ (evaluations-less one x xs) (evaluations-more one x xs))
+        below in
         each_below e vs
         (in_first (λ q. zero_ℚ ≤ℚ q) (map (λ v. e -ℚ v) vs) (map (λ v. e +ℚ v) vs) parted)
         (in_second (λ q. zero_ℚ ≤ℚ q) (map (λ v. e -ℚ v) vs) (map (λ v. e +ℚ v) vs) parted)
@@ -253,7 +245,7 @@ module _ (edge : Edge) (own : family_of edge ≡ NormInfinity) where
       dominated =
           norm_dominated (sum_ℚ p +ℚ sum_ℚ q) (minus q p)
           (norm_across p q (p_long ∙ sym q_long) (in_first (λ q. zero_ℚ ≤ℚ q) p q nonneg)
-              (in_second (λ q. zero_ℚ ≤ℚ q) p q nonneg))
+          (in_second (λ q. zero_ℚ ≤ℚ q) p q nonneg))
 
       holds : IsHeld (held_of w (t ∷ xs) (NormInfinityCone r.count))
       holds = record {
@@ -276,9 +268,9 @@ module _ (edge : Edge) (own : family_of edge ≡ NormInfinity) where
         let others : All P xs = All-tail P t xs all in
         All-append P (less_each t xs) (more_each t xs)
         (All-map P (difference t) xs (All-weaker P (λ f. P (difference t f))
-            (λ f k. less t f first k) xs others))
+        (λ f k. less t f first k) xs others))
         (All-map P (sum_of t) xs (All-weaker P (λ f. P (sum_of t f)) (λ f k. more t f first k) xs
-            others))
+        others))
 
     one_row : OneRow edge item (made item.body)
     one_row = record {
@@ -289,7 +281,7 @@ module _ (edge : Edge) (own : family_of edge ≡ NormInfinity) where
       same = λ y h v.
           ap (λ k. adjoint_of k v) (carried y h)
           ∙ products y h (λ f. coefficient f v) (λ f g. coefficient-difference f g v)
-              (λ f g. coefficient-sum_of address_order f g v);
+          (λ f g. coefficient-sum_of address_order f g v);
       gaps = λ y h. ≤ℚ_from_≡ _ _ (gap_same y h ∙ sym (ap gap_of (carried y h)));
       valid = λ room few. record {
         function = refl;
@@ -300,7 +292,7 @@ module _ (edge : Edge) (own : family_of edge ≡ NormInfinity) where
             (omega (arith, room));
         others = λ _.
             all_both (NamesNothingBelow (child_of item.at 0))
-                (unnamed-difference (child_of item.at 0)) (unnamed-sum (child_of item.at 0))
+            (unnamed-difference (child_of item.at 0)) (unnamed-sum (child_of item.at 0))
             (all_unnamed_below item.at 0 (t ∷ xs) unnamed);
       };
       sizes = subst (λ m. length both ≤ m * length fs) (sym (ap growth own))
@@ -308,40 +300,42 @@ module _ (edge : Edge) (own : family_of edge ≡ NormInfinity) where
       leads = leads_to edge own (n + n) both;
       mentioned = λ v m.
           all_both (λ f. coefficient f v ≡ zero_ℚ) (missed-difference v) (missed-sum v)
-              (subst (λ gs. Miss gs v) parts m);
+          (subst (λ gs. Miss gs v) parts m);
     }
 
   -- the dual has two numbers for each other function
   pub dual_long : (item : Item) → IsItemFor edge item
       → (ys : List (List Rational)) (y : List Rational)
       → TakesDuals (kept_by edge item) ys → ys ≡ y ∷ []
-          → length y ≡ (size item - 1) + (size item - 1)
-  unfolding first_size
+      → length y ≡ (size item - 1) + (size item - 1)
   dual_long item suits ys y takes ys_are =
       let r = read (in_norm edge own item.body suits.valid.function suits.kind) in
-      let sizes : length y ∷ [] ≡ length (less_each (function_of_body item.body) (others_of item.body) ++ more_each (function_of_body item.body) (others_of item.body)) ∷ [] = ap (map length) (sym ys_are) ∙ dual_sizes edge item (row_at item (made item.body)) (image_is item) ys takes in
+      let sizes : length y ∷ [] ≡ length (functions_of (made item.body)) ∷ [] = ap (map length) (sym ys_are) ∙ dual_sizes edge item (row_at item (made item.body)) (image_is item) ys takes in
       ap first_size sizes ∙ long item suits.valid r
-          ∙ ap₂ ◌+◌ (sym (counted item suits.valid r)) (sym (counted item suits.valid r))
+      ∙ ap₂ ◌+◌ (sym (counted item suits.valid r)) (sym (counted item suits.valid r))
 
   -- what is carried back by the sum of the dual and the differences of its halves
   pub back_made : (item : Item) (ys : List (List Rational)) (y now : List Rational) (half : ℕ)
       (sum : Rational) (r : Result (List Rational) AffFault)
       → ys ≡ y ∷ [] → now ≡ y → half ≡ size item - 1 → FoldFits zero_ℚ now
-          → sum ≡ sum_from zero_ℚ now
+      → sum ≡ sum_from zero_ℚ now
       → ExactWhere r (AcrossFits half now) (λ d. d ≡ sum ∷ across half now)
       → ExactWhere r (BackFits edge item ys) (λ d. d ≡ back_of edge item ys)
   back_made item ys y now half sum r ys_are now_is half_is fold_fits sum_is said =
       let fits : BackFits edge item ys ≡ (FoldFits zero_ℚ y × AcrossFits (size item - 1) y) =
-              ap (BackFits edge item) ys_are ∙ back_fits item y in
+      ap (BackFits edge item) ys_are ∙ back_fits item y in
       let across_is : AcrossFits half now ≡ AcrossFits (size item - 1) y =
-              ap₂ AcrossFits half_is now_is in
+      ap₂ AcrossFits half_is now_is in
       exact_as r (AcrossFits half now) (BackFits edge item ys) (λ d. d ≡ sum ∷ across half now)
-          (λ d. d ≡ back_of edge item ys)
-      (λ h. subst (λ T. T) (sym fits) (subst (FoldFits zero_ℚ) now_is fold_fits, subst (λ T. T)
-          across_is h))
+      (λ d. d ≡ back_of edge item ys)
+      (λ h. subst (λ T. T) (sym fits) (
+        subst (FoldFits zero_ℚ) now_is fold_fits,
+        subst (λ T. T)
+            across_is h,
+      ))
       (λ h. subst (λ T. T) (sym across_is) (subst (λ T. T) fits h).1)
       (λ d e. e ∙ ap₂ (λ s ds. s ∷ ds) (sum_is ∙ ap (sum_from zero_ℚ) now_is)
-          (ap₂ across half_is now_is) ∙ sym (ap (back_of edge item) ys_are ∙ back_is item y))
+      (ap₂ across half_is now_is) ∙ sym (ap (back_of edge item) ys_are ∙ back_is item y))
       said
 
   -- where the sum doesn't fit, nothing is carried back
@@ -354,7 +348,7 @@ module _ (edge : Edge) (own : family_of edge ≡ NormInfinity) where
   law_at item suits =
       subst (EdgeLaw edge item) (sym (image_is item))
       (one_row_law edge item (made item.body) (one_row item suits.valid
-          (read (in_norm edge own item.body suits.valid.function suits.kind))))
+      (read (in_norm edge own item.body suits.valid.function suits.kind))))
 
 pub norm_infinity_lawful : IsLawful NormInfinity
 norm_infinity_lawful = lawful_family NormInfinity law_at

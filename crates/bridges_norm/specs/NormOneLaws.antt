@@ -3,7 +3,7 @@ use Rattle.std.specs.Prelude.{All, List, [], drop, fold, length, map, refl, repl
 use Rattle.std.proofs.lemmas.List.Elements.{All-append, All-cons, All-head, All-map, All-tail}
 use Rattle.std.proofs.Common.{ap, ap₂, arith, subst, sym, ◌∙◌}
 use Rattle.std.proofs.lemmas.List.{length-append, length-drop, length-map, length-replicate, length-take-le, map-append, take-append-drop}
-use Rattle.rational_laws.specs.Field.{+ℚ-zero, zero-+ℚ}
+use Rattle.rational_laws.specs.Field.{*ℚ--ℚ, +ℚ-zero, zero-+ℚ}
 use Rattle.bridge_face.specs.BackOf.{AcrossFits, BackFits, BackFitsBy, across, back_by, back_of, head_of, size, tail_of}
 use Rattle.aff_core.specs.Address.{Address, child_of}
 use Rattle.bridge_face.specs.DifferenceLaws.{Adds, Subtracts, all_differences, all_sums, coefficient-difference, constant-difference, dot-differences, evaluated-difference, evaluated-sum, length-differences, length-sums, less, missed-difference, missed-sum, numbers-differences, numbers-sums, unnamed-difference, unnamed-sum}
@@ -27,7 +27,7 @@ use Rattle.item_core.specs.declared.family.Family.TheVariants.{NormOne}
 use Rattle.bridge_face.specs.Sources.{OfKind, of_kind, vaffine_norm_one_cone}
 use Rattle.ratio_core.specs.Rational.{Rational, zero_ℚ, ◌*ℚ◌, ◌+ℚ◌, ◌-ℚ◌, ◌≤ℚ◌}
 use Rattle.aff_core.specs.KeyOrder.{address_order}
-use Rattle.bridges_norm.specs.BothLaws.{all_fold, begins, each_across, in_first, in_second, none_left, norm_below, number-fold}
+use Rattle.bridges_norm.specs.BothLaws.{all_fold, begins, each_across, first_size, in_first, in_second, none_left, norm_below, number-fold, others_of}
 use Rattle.bridge_face.specs.ComponentLaws.{all_unnamed_below, components_apart, constants-variables, dot_missed, length-components, misses_inner, not_contained, variables, variables_missed, weighed, weighed_components}
 use Rattle.rational_laws.specs.Ring.{as_expression, by_ring, ring₆}
 use Rattle.aff_core.specs.ArithmeticLaws.{coefficient-sum_of, constant-sum_of}
@@ -57,9 +57,6 @@ use Rattle.rational_laws.specs.Dot as numbers
 pub data InNormOne : Body → Type 0 where
   in_norm_one : {fs : List Function} {n : ℕ} → InNormOne (AffineVec fs (NormOneCone n))
 
-abbrev pub others_of : Body → List Function
-others_of b = rest_of (functions_of b)
-
 -- the bounds of the others, and the row that the edge makes
 abbrev pub bounds : Item → List Function
 bounds item = inner_functions item (length (others_of item.body))
@@ -72,13 +69,13 @@ made_functions item =
 abbrev pub made : Item → Body
 made item =
     AffineVec (made_functions item) (Nonnegatives
-        (length (others_of item.body) + length (others_of item.body) + 1))
+    (length (others_of item.body) + length (others_of item.body) + 1))
 
 -- the row, of any bounds, and what must fit for it
 abbrev pub bounded_row : Function → List Function → List Address → ℕ → Body
 bounded_row t xs vs n =
     AffineVec (fold difference t (variables vs)
-        ∷ (differences (variables vs) xs ++ sums (variables vs) xs)) (Nonnegatives (n + n + 1))
+    ∷ (differences (variables vs) xs ++ sums (variables vs) xs)) (Nonnegatives (n + n + 1))
 
 abbrev pub BoundsFit : Function → List Function → List Function → Type 0
 BoundsFit t xs ss = DifferencesFit t ss × EachSumFits ss (negations xs) × EachSumFits ss xs
@@ -88,10 +85,10 @@ pub fits_of : (b : Body) (s : Set) (fs others : List Function) (first : Function
     (vs : List Address)
     → b ≡ AffineVec fs s → first ≡ first_in fs → others ≡ rest_of fs
     → BoundsFit first others (variables vs)
-        ≡ BoundsFit (function_of_body b) (others_of b) (variables vs)
+    ≡ BoundsFit (function_of_body b) (others_of b) (variables vs)
 fits_of b s fs others first vs b_is first_is others_is =
     ap₂ (λ f gs. BoundsFit f gs (variables vs)) (first_is ∙ ap function_of_body (sym b_is))
-        (others_is ∙ ap others_of (sym b_is))
+    (others_is ∙ ap others_of (sym b_is))
 
 pub row_of : (b : Body) (s : Set) (fs others less both : List Function) (first rest : Function)
     (vs : List Address) (n : ℕ)
@@ -99,13 +96,13 @@ pub row_of : (b : Body) (s : Set) (fs others less both : List Function) (first r
     → rest ≡ fold difference first (variables vs) → less ≡ rest ∷ differences (variables vs) others
     → both ≡ less ++ sums (variables vs) others
     → AffineVec both (Nonnegatives (n + n + 1))
-        ≡ bounded_row (function_of_body b) (others_of b) vs n
+    ≡ bounded_row (function_of_body b) (others_of b) vs n
 row_of b s fs others less both first rest vs n b_is first_is others_is rest_is less_is both_is =
     ap (λ gs. AffineVec gs (Nonnegatives (n + n + 1)))
     (both_is ∙ ap (λ gs. gs ++ sums (variables vs) others)
-        (less_is ∙ ap (λ f. f ∷ differences (variables vs) others) rest_is))
+    (less_is ∙ ap (λ f. f ∷ differences (variables vs) others) rest_is))
     ∙ ap₂ (λ f gs. bounded_row f gs vs n) (first_is ∙ ap function_of_body (sym b_is))
-        (others_is ∙ ap others_of (sym b_is))
+    (others_is ∙ ap others_of (sym b_is))
 
 sourced_only : {b : Body} → OfKind kind.VaffineNormOneCone b → InNormOne b
 sourced_only vaffine_norm_one_cone = in_norm_one
@@ -155,10 +152,6 @@ parted_sums r k s a x b z =
     turned : (k s a x b z : Rational)
         → (k -ℚ s) +ℚ ((a -ℚ x) +ℚ (b +ℚ z)) ≡ (k +ℚ (z -ℚ x)) +ℚ ((a +ℚ b) -ℚ s)
     turned = ring₆ _ (λ ρ. simp as_expression (by_ring ρ _ _ refl))
-
-first_size : List ℕ → ℕ
-first_size [] = 0
-first_size (n ∷ ns) = n
 
 -- an image of a child group and a child row
 abbrev pub group_and_row_of : Item → Item → List Expression → Body → Image
@@ -215,7 +208,7 @@ module _ (edge : Edge) (own : family_of edge ≡ NormOne) where
     some : 1 ≤ n
     some =
         let two : 2 ≤ length fs = subst (λ s. least_dimension s ≤ length fs) r.set valid.set.enough
-                in
+        in
         let e : length fs ≡ suc n = ap length parts in omega (arith, two, e)
 
     counted : size item - 1 ≡ n
@@ -249,20 +242,20 @@ module _ (edge : Edge) (own : family_of edge ≡ NormOne) where
         let es = map g ss in
         let us = map g xs in
         let first : zero_ℚ ≤ℚ (g t -ℚ sum_ℚ es) = subst (λ q. zero_ℚ ≤ℚ q)
-                (number-fold g (λ f h. evaluated-difference one f h x) t ss)
-                (All-head (λ q. zero_ℚ ≤ℚ q) (g (fold difference t ss))
-                (map g (differences ss xs ++ sums ss xs)) below) in
+        (number-fold g (λ f h. evaluated-difference one f h x) t ss)
+        (All-head (λ q. zero_ℚ ≤ℚ q) (g (fold difference t ss))
+        (map g (differences ss xs ++ sums ss xs)) below) in
         let others : All (λ q. zero_ℚ ≤ℚ q) (minus es us ++ plus es us) = subst
-                (All (λ q. zero_ℚ ≤ℚ q)) (map-append g (differences ss xs) (sums ss xs)
-                ∙ ap₂ ◌++◌ (numbers-differences g (λ f h. evaluated-difference one f h x) ss xs)
-                (numbers-sums g (λ f h. evaluated-sum one f h x) ss xs))
-                (All-tail (λ q. zero_ℚ ≤ℚ q) (g (fold difference t ss))
-                (map g (differences ss xs ++ sums ss xs)) below) in
+        (All (λ q. zero_ℚ ≤ℚ q)) (map-append g (differences ss xs) (sums ss xs)
+        ∙ ap₂ ◌++◌ (numbers-differences g (λ f h. evaluated-difference one f h x) ss xs)
+        (numbers-sums g (λ f h. evaluated-sum one f h x) ss xs))
+        (All-tail (λ q. zero_ℚ ≤ℚ q) (g (fold difference t ss))
+        (map g (differences ss xs ++ sums ss xs)) below) in
         norm_dominated (g t) us
         (≤ℚ_trans (norm us) (sum_ℚ es) (g t)
         (norm_below es us (length-map ss g ∙ s_long ∙ sym (length-map xs g))
-            (in_first (λ q. zero_ℚ ≤ℚ q) (minus es us) (plus es us) others)
-            (in_second (λ q. zero_ℚ ≤ℚ q) (minus es us) (plus es us) others))
+        (in_first (λ q. zero_ℚ ≤ℚ q) (minus es us) (plus es us) others)
+        (in_second (λ q. zero_ℚ ≤ℚ q) (minus es us) (plus es us) others))
         (≤ℚ_from_nonneg (sum_ℚ es) (g t) first))
 
     -- ---- duals
@@ -338,14 +331,14 @@ module _ (edge : Edge) (own : family_of edge ≡ NormOne) where
           ∙ ap₂ (λ u v. a *ℚ u +ℚ v) (number-fold g s t ss)
           (ap (dot (p ++ q)) (map-append g (differences ss xs) (sums ss xs))
           ∙ dot-append p (map g (differences ss xs)) q (map g (sums ss xs))
-              (p_long ∙ sym (length-map (differences ss xs) g ∙ length-differences ss xs s_long
-              ∙ s_long))
+          (p_long ∙ sym (length-map (differences ss xs) g ∙ length-differences ss xs s_long
+          ∙ s_long))
           ∙ ap₂ ◌+ℚ◌ (dot-differences p ss xs s_long g s)
-              (ap (dot q) (numbers-sums g d ss xs)
-              ∙ dot-plus q gs gx (length-map ss g ∙ s_long ∙ sym (length-map xs g))))
+          (ap (dot q) (numbers-sums g d ss xs)
+          ∙ dot-plus q gs gx (length-map ss g ∙ s_long ∙ sym (length-map xs g))))
           ∙ parted_sums a (g t) (sum_ℚ gs) (dot p gs) (dot p gx) (dot q gs) (dot q gx)
           ∙ ap₂ ◌+ℚ◌ (ap (λ u. a *ℚ g t +ℚ u) (sym (minus-dot q p gx (q_long ∙ sym p_long))))
-              (left_product gs (length-map ss g ∙ s_long))
+          (left_product gs (length-map ss g ∙ s_long))
 
       -- where the bounds have no numbers
       products_bare : (g : Function → Rational) → Subtracts g → Adds g
@@ -353,7 +346,7 @@ module _ (edge : Edge) (own : family_of edge ≡ NormOne) where
           → dot w (map g (t ∷ xs)) ≡ dot y (map g rows)
       products_bare g s d none =
           sym (products g s d ∙ ap (λ u. dot w (map g (t ∷ xs)) +ℚ u) (dot_zeros z (map g ss) none)
-              ∙ +ℚ-zero (dot w (map g (t ∷ xs))))
+          ∙ +ℚ-zero (dot w (map g (t ∷ xs))))
 
       -- at the bounds' variables
       at_bounds : (us : List Address) → All (λ v. Miss (t ∷ xs) v) us
@@ -362,17 +355,17 @@ module _ (edge : Edge) (own : family_of edge ≡ NormOne) where
       at_bounds (v ∷ us) m =
           ap₂ ◌∷◌
           (products (λ f. coefficient f v) (λ f g. coefficient-difference f g v)
-              (λ f g. coefficient-sum_of address_order f g v)
+          (λ f g. coefficient-sum_of address_order f g v)
           ∙ ap (λ u. u
-              +ℚ dot z (coefficients ss v)) (dot_missed w (t ∷ xs) v
-              (All-head (λ v. Miss (t ∷ xs) v) v us m))
+          +ℚ dot z (coefficients ss v)) (dot_missed w (t ∷ xs) v
+          (All-head (λ v. Miss (t ∷ xs) v) v us m))
           ∙ zero-+ℚ (dot z (coefficients ss v)))
           (at_bounds us (All-tail (λ v. Miss (t ∷ xs) v) v us m))
 
       left_is : left_over y rows vs ≡ numbers.negated z
       left_is =
           ap numbers.negated (at_bounds vs misses
-              ∙ weighed_components (child_of item.at 0) n z z_long)
+          ∙ weighed_components (child_of item.at 0) n z z_long)
 
       nonneg : All (λ u. zero_ℚ ≤ℚ u) (p ++ q)
       nonneg =
@@ -395,8 +388,8 @@ module _ (edge : Edge) (own : family_of edge ≡ NormOne) where
       gap_same =
           zero-+ℚ (gap_of (row_held (made item) y))
           ∙ ap (λ u. zero_ℚ
-              -ℚ u) (sym (products_bare (λ f. f.constant) constant-difference
-              (constant-sum_of address_order) (constants-variables vs)))
+          -ℚ u) (sym (products_bare (λ f. f.constant) constant-difference
+          (constant-sum_of address_order) (constants-variables vs)))
 
     all_made : (P : Function → Type 0) → ((f g : Function) → P f → P g → P (difference f g))
         → ((f g : Function) → P f → P g → P (sum_of f g)) → All P (t ∷ xs) → All P ss → All P rows
@@ -405,7 +398,7 @@ module _ (edge : Edge) (own : family_of edge ≡ NormOne) where
         (all_fold P less t ss (All-head P t xs all) bounds)
         (All-append P (differences ss xs) (sums ss xs)
         (all_differences P less ss xs bounds (All-tail P t xs all))
-            (all_sums P more ss xs bounds (All-tail P t xs all)))
+        (all_sums P more ss xs bounds (All-tail P t xs all)))
 
     group_and_row : GroupAndRow edge item (Reals n) n (made item)
     group_and_row = record {
@@ -418,9 +411,9 @@ module _ (edge : Edge) (own : family_of edge ≡ NormOne) where
       same = λ y h v absent.
           ap (λ k. adjoint_of k v) (carried y h)
           ∙ products_bare y h (λ f. coefficient f v) (λ f g. coefficient-difference f g v)
-              (λ f g. coefficient-sum_of address_order f g v)
+          (λ f g. coefficient-sum_of address_order f g v)
           (All-map (λ u. u ≡ zero_ℚ) (λ f. coefficient f v) ss
-              (variables_missed vs v (not_contained vs v absent)));
+          (variables_missed vs v (not_contained vs v absent)));
       gaps = λ y h there. ≤ℚ_from_≡ _ _ (gap_same y h ∙ sym (ap gap_of (carried y h)));
       some = some;
       fits = record { dimension = refl; enough = some; uncrossed = refl };
@@ -433,15 +426,15 @@ module _ (edge : Edge) (own : family_of edge ≡ NormOne) where
           record { dimension = let e : length rows ≡ suc (n + n) = long in omega (arith, e); enough = omega (arith, long); uncrossed = refl };
       row_apart =
           all_made (NamesNothingBelow (child_of item.at 1))
-              (unnamed-difference (child_of item.at 1)) (unnamed-sum (child_of item.at 1))
+          (unnamed-difference (child_of item.at 1)) (unnamed-sum (child_of item.at 1))
           (all_unnamed_below item.at 1 (t ∷ xs) unnamed)
-              (components_apart item.at 1 n (omega arith));
+          (components_apart item.at 1 n (omega arith));
       row_grows = subst (λ m. length rows ≤ m * length fs) (sym (ap growth own))
           (let e : length fs ≡ suc n = ap length parts in omega (arith, long, e));
       row_leads = leads_to edge own (n + n + 1) rows;
       mentioned = λ v m absent.
           all_made (λ f. coefficient f v ≡ zero_ℚ) (missed-difference v) (missed-sum v)
-              (subst (λ gs. Miss gs v) parts m)
+          (subst (λ gs. Miss gs v) parts m)
           (variables_missed vs v (not_contained vs v absent));
     }
 
@@ -450,19 +443,18 @@ module _ (edge : Edge) (own : family_of edge ≡ NormOne) where
       → k - 1 ≡ length (others_of item.body)
   others_count item suits k e =
       ap (λ m. m - 1) e
-          ∙ counted item suits.valid (read (in_norm edge own item.body suits.valid.function
-          suits.kind))
+      ∙ counted item suits.valid (read (in_norm edge own item.body suits.valid.function
+      suits.kind))
 
   -- the dual has one number, and two for each other function
   pub dual_long : (item : Item) → IsItemFor edge item
       → (ys : List (List Rational)) (y : List Rational)
       → TakesDuals (kept_by edge item) ys → ys ≡ y ∷ []
-          → length y ≡ suc ((size item - 1) + (size item - 1))
-  unfolding first_size
+      → length y ≡ suc ((size item - 1) + (size item - 1))
   dual_long item suits ys y takes ys_are =
       let r = read (in_norm edge own item.body suits.valid.function suits.kind) in
       let sizes : length y ∷ [] ≡ length (made_functions item) ∷ [] = ap (map length) (sym ys_are)
-              ∙ dual_sizes edge item (norm_one item) (image_is item) ys takes in
+      ∙ dual_sizes edge item (norm_one item) (image_is item) ys takes in
       ap first_size sizes ∙ long item suits.valid r
       ∙ ap suc (ap₂ ◌+◌ (sym (counted item suits.valid r)) (sym (counted item suits.valid r)))
 
@@ -474,22 +466,22 @@ module _ (edge : Edge) (own : family_of edge ≡ NormOne) where
       → ExactWhere r (BackFits edge item ys) (λ d. d ≡ back_of edge item ys)
   back_made item ys y now rest half head r ys_are now_is head_is rest_is half_is said =
       let fits : BackFits edge item ys ≡ AcrossFits (size item - 1) (tail_of y) =
-              ap (BackFits edge item) ys_are ∙ back_fits item y in
+      ap (BackFits edge item) ys_are ∙ back_fits item y in
       let rest_of_y : rest ≡ tail_of y = rest_is ∙ ap tail_of now_is in
       let across_is : AcrossFits half rest ≡ AcrossFits (size item - 1) (tail_of y) =
-              ap₂ AcrossFits half_is rest_of_y in
+      ap₂ AcrossFits half_is rest_of_y in
       exact_as r (AcrossFits half rest) (BackFits edge item ys) (λ d. d ≡ head ∷ across half rest)
-          (λ d. d ≡ back_of edge item ys)
+      (λ d. d ≡ back_of edge item ys)
       (λ h. subst (λ T. T) (sym fits) (subst (λ T. T) across_is h))
       (λ h. subst (λ T. T) (sym across_is) (subst (λ T. T) fits h))
       (λ d e. e ∙ ap₂ (λ s ds. s ∷ ds) (head_is ∙ ap head_of now_is) (ap₂ across half_is rest_of_y)
-          ∙ sym (ap (back_of edge item) ys_are ∙ back_is item y))
+      ∙ sym (ap (back_of edge item) ys_are ∙ back_is item y))
       said
 
   -- so is an image that is made of these parts
   pub image_made : (item : Item) → IsItemFor edge item
       → (count : ℕ) (vars : List Address) (part : Set) (group : Item) (exprs : List Expression)
-          (row : Body) (image : Image)
+      (row : Body) (image : Image)
       → count ≡ size item - 1 → vars ≡ inner item count → part ≡ Reals count → exprs ≡ []
       → group ≡ child_at item 0 (Group part vars)
       → row ≡ bounded_row (function_of_body item.body) (others_of item.body) vars count
@@ -500,35 +492,35 @@ module _ (edge : Edge) (own : family_of edge ≡ NormOne) where
       let t = function_of_body item.body in
       let xs = others_of item.body in
       let same_count : count ≡ length xs = count_is
-              ∙ counted item suits.valid (read (in_norm edge own item.body suits.valid.function
-              suits.kind)) in
+      ∙ counted item suits.valid (read (in_norm edge own item.body suits.valid.function
+      suits.kind)) in
       group_and_row_made item part (Reals count) vars (inner item count) group exprs [] row
-          (bounded_row t xs (inner item count) count) image
+      (bounded_row t xs (inner item count) count) image
       part_is vars_are exprs_are (row_is ∙ ap (λ vs. bounded_row t xs vs count) vars_are) group_is
-          image_of_parts
+      image_of_parts
       ∙ ap (λ n. group_and_row_of item (child_at item 0 (Group (Reals n) (inner item n))) []
-          (bounded_row t xs (inner item n) n)) same_count
+      (bounded_row t xs (inner item n) n)) same_count
       ∙ sym (image_is item)
 
   -- and so it fits
   pub fits_made : (item : Item) → IsItemFor edge item → (count : ℕ) (vars : List Address)
       → count ≡ size item - 1 → vars ≡ inner item count
       → BoundsFit (function_of_body item.body) (others_of item.body) (variables vars)
-          ≡ ImageFits edge item
+      ≡ ImageFits edge item
   fits_made item suits count vars count_is vars_are =
       ap (λ vs. BoundsFit (function_of_body item.body) (others_of item.body) (variables vs))
       (vars_are ∙ ap (inner item) (count_is
-          ∙ counted item suits.valid (read (in_norm edge own item.body suits.valid.function
-          suits.kind))))
+      ∙ counted item suits.valid (read (in_norm edge own item.body suits.valid.function
+      suits.kind))))
       ∙ sym (image_fits item)
 
   law_at : Lawful edge
   law_at item suits =
       subst (EdgeLaw edge item) (sym (image_is item))
       (group_and_row_law edge item (Reals (length (others_of item.body)))
-          (length (others_of item.body)) (made item)
+      (length (others_of item.body)) (made item)
       (group_and_row item suits.valid (read (in_norm edge own item.body suits.valid.function
-          suits.kind))))
+      suits.kind))))
 
 pub norm_one_lawful : IsLawful NormOne
 norm_one_lawful = lawful_family NormOne law_at

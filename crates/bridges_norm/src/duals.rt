@@ -6,6 +6,7 @@ ghost use Rattle.ratio_core.specs.Rational.{zero_ℚ};
 ghost use Rattle.rational_laws.specs.Dot.{minus, negated};
 ghost use Rattle.bridge_face.specs.BackOf.{AcrossFits, SumsFit, across};
 
+use crate::differences::less_number;
 use bridge_face::ItemFault;
 use ratio_core::{Ratio, Ratios};
 use std::alloc::Global;
@@ -53,12 +54,7 @@ fn until(numbers: &[Ratio], n: usize) -> &[Ratio]
 }
 
 // A number, and behind it the differences of what stands at equal places.
-fn behind(
-    alloc: Global,
-    first: Ratio,
-    high: &[Ratio],
-    low: &[Ratio],
-) -> Result<Ratios, ItemFault>
+fn behind(alloc: Global, first: Ratio, high: &[Ratio], low: &[Ratio]) -> Result<Ratios, ItemFault>
     requires { length high.now ≡ length low.now }
     ensures { ExactWhere result (SumsFit high.now (negated low.now))
         (λ numbers. numbers ≡ first ∷ minus high.now low.now) }
@@ -66,8 +62,7 @@ fn behind(
     let mut numbers = Vec::with_capacity(alloc, high.len())?;
     numbers.push(first)?;
     for n in 0..high.len() {
-        let difference = high[n].add(&low[n].neg())?;
-        numbers.push(difference)?;
+        numbers.push(less_number(&high[n], &low[n])?)?;
     }
     Ok(Ratios::from_vec(numbers))
 }

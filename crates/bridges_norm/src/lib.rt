@@ -1,6 +1,7 @@
 //! Bridges of the norm cones, into rows of numbers that aren't negative.
 #![tactic(auto)]
 
+mod differences;
 mod duals;
 mod norm_infinity;
 mod norm_one;

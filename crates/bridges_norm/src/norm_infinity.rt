@@ -10,9 +10,10 @@ ghost use Rattle.aff_core.specs.Arithmetic.{ExactWhere, PlusFits};
 ghost use Rattle.aff_core.specs.Function.{negated};
 ghost use Rattle.item_core.specs.Item.{functions_of};
 ghost use Rattle.bridge_face.specs.Images.{function_of_body};
-ghost use Rattle.bridges_norm.specs.BothLaws.{less_each, more_each};
-ghost use Rattle.bridges_norm.specs.NormInfinityLaws.{InNormInfinity, made, others_of};
+ghost use Rattle.bridges_norm.specs.BothLaws.{less_each, more_each, others_of};
+ghost use Rattle.bridges_norm.specs.NormInfinityLaws.{BothFit, InNormInfinity, made};
 
+use crate::differences::less_function;
 use crate::duals::{across_behind, sum};
 use crate::parts::{first_function, other_functions};
 use aff_core::{Aff, VecAff};
@@ -67,9 +68,7 @@ fn bounded(alloc: Global, body: &Body) -> Result<Body, ItemFault>
     requires cone { InNormInfinity body.now }
     requires some { 1 ≤ length (functions_of body.now) }
     requires count { length (functions_of body.now) ≤ 32767 }
-    ensures { ExactWhere result
-        (All (λ x. PlusFits (function_of_body body.now) (negated x)) (others_of body.now)
-        × All (λ x. PlusFits (function_of_body body.now) x) (others_of body.now))
+    ensures { ExactWhere result (BothFit (function_of_body body.now) (others_of body.now))
         (λ row. row ≡ made body.now) }
 {
     let Body::AffineVec { func, .. } = body else {
@@ -95,9 +94,8 @@ fn less(alloc: Global, first: &Aff, others: &[Aff]) -> Result<Vec<Aff>, ItemFaul
         (λ less. less.items ≡ less_each first.now others.now) }
 {
     let mut less = Vec::with_capacity(alloc, others.len())?;
-    for n in 0..others.len() {
-        let difference = first.add(&others[n].neg()?)?;
-        less.push(difference)?;
+    for other in others {
+        less.push(less_function(first, other)?)?;
     }
     Ok(less)
 }
@@ -108,9 +106,8 @@ fn more(first: &Aff, others: &[Aff], less: Vec<Aff>) -> Result<Vec<Aff>, ItemFau
         (λ both. both.items ≡ less.items ++ more_each first.now others.now) }
 {
     let mut both = less;
-    for n in 0..others.len() {
-        let sum = first.add(&others[n])?;
-        both.push(sum)?;
+    for other in others {
+        both.push(first.add(other)?)?;
     }
     Ok(both)
 }

@@ -13,8 +13,10 @@ ghost use Rattle.set_core.specs.declared.set.Set.TheVariants.{Nonnegatives};
 ghost use Rattle.bridge_face.specs.ComponentLaws.{variables};
 ghost use Rattle.bridge_face.specs.ImageOf.{DifferencesFit, EachSumFits, differences, negations, sums};
 ghost use Rattle.bridge_face.specs.Images.{difference, function_of_body};
-ghost use Rattle.bridges_norm.specs.NormOneLaws.{BoundsFit, InNormOne, bounded_row, others_of};
+ghost use Rattle.bridges_norm.specs.BothLaws.{others_of};
+ghost use Rattle.bridges_norm.specs.NormOneLaws.{BoundsFit, InNormOne, bounded_row};
 
+use crate::differences::less_function;
 use crate::duals::across_behind;
 use crate::parts::{first_function, first_number, other_functions, other_numbers};
 use aff_core::{Address, Aff, VecAff};
@@ -107,8 +109,8 @@ fn left(alloc: Global, first: &Aff, vars: &[Address]) -> Result<Aff, ItemFault>
         (λ left. left ≡ fold difference first.now (variables vars.now)) }
 {
     let mut left = first.copy()?;
-    for n in 0..vars.len() {
-        left = left.add(&Aff::variable(alloc, &vars[n])?.neg()?)?;
+    for var in vars {
+        left = less_function(&left, &Aff::variable(alloc, var)?)?;
     }
     Ok(left)
 }
@@ -122,8 +124,8 @@ fn less(alloc: Global, rest: Aff, vars: &[Address], others: &[Aff]) -> Result<Ve
     let mut less = Vec::with_capacity(alloc, others.len())?;
     less.push(rest)?;
     for n in 0..vars.len() {
-        let difference = Aff::variable(alloc, &vars[n])?.add(&others[n].neg()?)?;
-        less.push(difference)?;
+        let var = Aff::variable(alloc, &vars[n])?;
+        less.push(less_function(&var, &others[n])?)?;
     }
     Ok(less)
 }
@@ -141,8 +143,7 @@ fn more(
 {
     let mut both = less;
     for n in 0..vars.len() {
-        let sum = Aff::variable(alloc, &vars[n])?.add(&others[n])?;
-        both.push(sum)?;
+        both.push(Aff::variable(alloc, &vars[n])?.add(&others[n])?)?;
     }
     Ok(both)
 }

@@ -3,8 +3,8 @@ use Rattle.std.specs.Prelude.{◌++◌}
 use Rattle.item_core.specs.Item.{functions_of}
 use Rattle.bridge_face.specs.AnsweredLaws.{passed_on}
 use Rattle.bridge_face.specs.Images.{first_in, function_of_body, rest_of}
-use Rattle.bridges_norm.specs.NormInfinityLaws.{BothFit, fits_of, made_of, others_of}
-use Rattle.bridges_norm.specs.BothLaws.{more_each}
+use Rattle.bridges_norm.specs.NormInfinityLaws.{BothFit, fits_of, made_of}
+use Rattle.bridges_norm.specs.BothLaws.{more_each, others_of}
 use Rattle.bridges_norm.proofs.norm_infinity.bounded.Goals as goal
 
 pub first_function-requires : goal.first_function-requires

@@ -3,7 +3,8 @@ use Rattle.item_core.specs.Item.{functions_of}
 use Rattle.bridge_face.specs.AnsweredLaws.{passed_on}
 use Rattle.bridge_face.specs.ComponentLaws.{variables}
 use Rattle.bridge_face.specs.Images.{first_in, function_of_body, rest_of}
-use Rattle.bridges_norm.specs.NormOneLaws.{BoundsFit, fits_of, others_of, row_of}
+use Rattle.bridges_norm.specs.BothLaws.{others_of}
+use Rattle.bridges_norm.specs.NormOneLaws.{BoundsFit, fits_of, row_of}
 use Rattle.bridges_norm.proofs.norm_one.bounded.Goals as goal
 
 pub first_function-requires : goal.first_function-requires

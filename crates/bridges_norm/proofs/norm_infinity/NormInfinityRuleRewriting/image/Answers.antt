@@ -1,10 +1,9 @@
-use Rattle.std.proofs.Common.{All, sym, ap, subst, ◌∙◌}
-use Rattle.aff_core.specs.Arithmetic.{PlusFits}
-use Rattle.aff_core.specs.Function.{negated}
+use Rattle.std.proofs.Common.{sym, ap, subst, ◌∙◌}
 use Rattle.bridge_face.specs.AnsweredLaws.{passed_on}
 use Rattle.bridge_face.specs.ImageOf.{ImageFits}
 use Rattle.bridge_face.specs.Images.{function_of_body, row_at}
-use Rattle.bridges_norm.specs.NormInfinityLaws.{in_norm, image_fits, image_is, others_of}
+use Rattle.bridges_norm.specs.BothLaws.{others_of}
+use Rattle.bridges_norm.specs.NormInfinityLaws.{BothFit, in_norm, image_fits, image_is}
 use Rattle.bridges_norm.proofs.norm_infinity.NormInfinityRuleRewriting.image.Goals as goal
 
 pub bounded-requires-clause-cone : goal.bounded-requires-clause-cone
@@ -20,6 +19,6 @@ returns c = (
 pub returns-in_err-body : goal.returns-in_err-body
 returns-in_err-body c =
     passed_on c.from_residual-in_err-body.result c.in_err-body.field-0.0
-    (All (λ x. PlusFits (function_of_body c.args.item.now.body) (negated x)) (others_of c.args.item.now.body) × All (λ x. PlusFits (function_of_body c.args.item.now.body) x) (others_of c.args.item.now.body))
+    (BothFit (function_of_body c.args.item.now.body) (others_of c.args.item.now.body))
     (ImageFits c.args._edge c.args.item.now) _ _ c.from_residual-in_err-body.ensures.1 c.in_err-body.ensures
     (λ h. subst (λ T. T) (image_fits c.args._edge c.requires.own c.args.item.now) h)

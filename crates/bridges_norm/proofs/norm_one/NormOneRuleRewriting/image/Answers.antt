@@ -5,7 +5,8 @@ use Rattle.bridge_face.specs.AnsweredLaws.{passed_on}
 use Rattle.bridge_face.specs.ComponentLaws.{length-components, variables}
 use Rattle.bridge_face.specs.ImageOf.{ImageFits}
 use Rattle.bridge_face.specs.Images.{function_of_body}
-use Rattle.bridges_norm.specs.NormOneLaws.{BoundsFit, bounded_row, fits_made, image_made, in_norm, others_count, others_of}
+use Rattle.bridges_norm.specs.BothLaws.{others_of}
+use Rattle.bridges_norm.specs.NormOneLaws.{BoundsFit, bounded_row, fits_made, image_made, in_norm, others_count}
 use Rattle.bridges_norm.proofs.norm_one.NormOneRuleRewriting.image.Goals as goal
 
 pub bounded-requires-clause-cone : goal.bounded-requires-clause-cone

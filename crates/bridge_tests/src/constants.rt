@@ -1,19 +1,28 @@
-// Images in which a sum may not fit.
-ghost use Rattle.std.specs.Prelude.{IfOk};
-ghost use Rattle.bridge_face.specs.Law.{IsItemFor};
-ghost use Rattle.item_core.specs.declared.edge.Edge.TheVariants as edges;
+// Rows of two constants: one in `Reals`, and two of which the sums may not fit.
+ghost use Rattle.std.specs.Prelude.{◌≡◌, IfOk};
+ghost use Rattle.bridge_tests.specs.SampleLaws.{item_of, two_constants};
 
+use crate::round::keep;
 use crate::samples::place;
 use crate::shown::show_image;
 use aff_core::{Aff, VecAff};
 use anyhow::Result;
 use bridge_face::Bridge;
 use bridges_norm::NormInfinity;
+use bridges_split::DropReals;
 use item_core::{Body, Edge, Item};
 use lists::Memory;
 use ratio_core::Ratio;
 use set_core::Set;
 use std::alloc::Global;
+
+/// Prints what is carried back to a row of two numbers in `Reals`.
+pub fn reals(rt: &HostRuntime) -> Result<()> {
+    let mut bridge = DropReals::new(rt.alloc());
+    let set = Set::Reals { dimension: 2 };
+    let item = constants(rt.alloc(), Ratio::one(), Ratio::zero(), set)?;
+    keep(rt, &mut bridge, Edge::E40, item)
+}
 
 /// Prints the images of two rows of constants: the greatest number over -1, and over 0.
 pub fn greatest(rt: &HostRuntime) -> Result<()> {
@@ -25,7 +34,8 @@ pub fn greatest(rt: &HostRuntime) -> Result<()> {
 // Prints the image of the row that the first constant is above the other's magnitude.
 fn norm(rt: &HostRuntime, first: Ratio, other: Ratio) -> Result<()> {
     let mut bridge = NormInfinity::new(rt.alloc());
-    let item = constants(rt.alloc(), first, other)?;
+    let set = Set::NormInfinityCone { dimension: 2 };
+    let item = constants(rt.alloc(), first, other, set)?;
     println!(rt; "{first} {other}")?;
     match bridge.image(Edge::E41, &item) {
         Ok(image) => show_image(rt, &image)?,
@@ -34,8 +44,9 @@ fn norm(rt: &HostRuntime, first: Ratio, other: Ratio) -> Result<()> {
     Ok(())
 }
 
-fn constants(alloc: Global, first: Ratio, other: Ratio) -> Result<Item, Memory>
-    ensures { IfOk result (IsItemFor edges.E41) }
+// The row that the two constants are in the set.
+fn constants(alloc: Global, first: Ratio, other: Ratio, set: Set) -> Result<Item, Memory>
+    ensures { IfOk result (λ item. item ≡ item_of (two_constants first other set)) }
 {
     let mut funcs = Vec::with_capacity(alloc, 2)?;
     funcs.push(Aff::constant_function(alloc, first))?;
@@ -44,7 +55,7 @@ fn constants(alloc: Global, first: Ratio, other: Ratio) -> Result<Item, Memory>
         at: place(),
         body: Body::AffineVec {
             func: VecAff::from_vec(funcs),
-            set: Set::NormInfinityCone { dimension: 2 },
+            set,
         },
     })
 }
