@@ -49,7 +49,7 @@ use Rattle.item_core.specs.declared.image.Image.{Image}
 use Rattle.set_core.specs.declared.set.Set.{Set}
 use Rattle.bridge_face.specs.State.{TakesDuals}
 use Rattle.bridge_face.specs.AnsweredLaws.{exact_as}
-use Rattle.bridge_face.specs.GroupAndRowLaws as parts
+use Rattle.bridge_face.specs.GroupAndRowLaws as images
 use Rattle.item_core.specs.declared.kind.Kind.TheVariants as kind
 use Rattle.rational_laws.specs.Dot as numbers
 
@@ -155,7 +155,7 @@ parted_sums r k s a x b z =
 
 -- an image of a child group and a child row
 abbrev pub group_and_row_of : Item → Item → List Expression → Body → Image
-group_and_row_of item group exprs row = parts.group_and_row item group exprs row
+group_and_row_of item group exprs row = images.group_and_row item group exprs row
 
 -- ---- the law
 

@@ -1,4 +1,6 @@
-use Rattle.std.proofs.Common.{◌∙◌, ◌≤◌, ap, subst, sym, length, refl}
+use Rattle.std.proofs.Common.{◌∙◌, ◌+◌, ap, subst, sym, length, refl}
+use Rattle.item_core.specs.declared.item.Body.TheVariants.{AffineVec}
+use Rattle.set_core.specs.declared.set.Set.TheVariants.{Nonnegatives}
 use Rattle.std.specs.Prelude.{◌++◌}
 use Rattle.item_core.specs.Item.{functions_of}
 use Rattle.bridge_face.specs.AnsweredLaws.{passed_on}
@@ -7,13 +9,9 @@ use Rattle.bridges_norm.specs.NormInfinityLaws.{BothFit, fits_of, made_of}
 use Rattle.bridges_norm.specs.BothLaws.{more_each, others_of}
 use Rattle.bridges_norm.proofs.norm_infinity.bounded.Goals as goal
 
-pub first_function-requires : goal.first_function-requires
-first_function-requires c =
-    subst (λ fs. 1 ≤ length fs) (sym c.as_slice-funcs.ensures) (subst (λ b. 1 ≤ length (functions_of b)) c.in-AffineVec.is c.requires.some)
-
 pub returns-in_err-less : goal.returns-in_err-less
 returns-in_err-less c =
-    passed_on c.from_residual-in_err-less.result c.in_err-less.field-0.0 _ (BothFit (function_of_body c.args.body.now) (others_of c.args.body.now)) _ _ c.from_residual-in_err-less.ensures.1 c.in_err-less.ensures
+    passed_on c.from_residual.result c.in_err-less.field-0.0 _ (BothFit (function_of_body c.args.body.now) (others_of c.args.body.now)) _ _ c.from_residual.ensures.1 c.in_err-less.ensures
     (λ h. (subst (λ T. T) (sym (fits_of c.args.body.now c.in-AffineVec.set c.in-AffineVec.func c.other_functions-others.result.now c.first_function-first.result.now c.in-AffineVec.is (c.first_function-first.ensures ∙ ap first_in c.as_slice-funcs.ensures) (c.other_functions-others.ensures ∙ ap rest_of c.as_slice-funcs.ensures))) h).0)
 
 pub returns-in_err-both : goal.returns-in_err-both
@@ -26,6 +24,7 @@ returns c =
     let first_is = c.first_function-first.ensures ∙ ap first_in c.as_slice-funcs.ensures in
     let others_are = c.other_functions-others.ensures ∙ ap rest_of c.as_slice-funcs.ensures in (
       subst (λ T. T) (fits_of c.args.body.now c.in-AffineVec.set c.in-AffineVec.func c.other_functions-others.result.now c.first_function-first.result.now c.in-AffineVec.is first_is others_are) (c.in_ok-less.ensures.0, c.in_ok-both.ensures.0),
-      made_of c.args.body.now c.in-AffineVec.set c.in-AffineVec.func c.other_functions-others.result.now c.in_ok-both.both.items c.first_function-first.result.now (length c.other_functions-others.result.now) c.in-AffineVec.is first_is others_are
+      ap (λ fs. AffineVec fs (Nonnegatives (length c.other_functions-others.result.now + length c.other_functions-others.result.now))) c.from_vec.ensures
+          ∙ made_of c.args.body.now c.in-AffineVec.set c.in-AffineVec.func c.other_functions-others.result.now c.in_ok-both.both.items c.first_function-first.result.now (length c.other_functions-others.result.now) c.in-AffineVec.is first_is others_are
           (c.in_ok-both.ensures.1 ∙ ap (λ fs. fs ++ more_each c.first_function-first.result.now c.other_functions-others.result.now) c.in_ok-less.ensures.1) refl,
     )

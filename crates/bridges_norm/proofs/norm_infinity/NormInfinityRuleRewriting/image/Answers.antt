@@ -18,7 +18,7 @@ returns c = (
 
 pub returns-in_err-body : goal.returns-in_err-body
 returns-in_err-body c =
-    passed_on c.from_residual-in_err-body.result c.in_err-body.field-0.0
+    passed_on c.from_residual.result c.in_err-body.field-0.0
     (BothFit (function_of_body c.args.item.now.body) (others_of c.args.item.now.body))
-    (ImageFits c.args._edge c.args.item.now) _ _ c.from_residual-in_err-body.ensures.1 c.in_err-body.ensures
+    (ImageFits c.args._edge c.args.item.now) _ _ c.from_residual.ensures.1 c.in_err-body.ensures
     (λ h. subst (λ T. T) (image_fits c.args._edge c.requires.own c.args.item.now) h)
