@@ -1,2 +1,0 @@
-pub mod SampleLaws
-pub mod RoundLaws
