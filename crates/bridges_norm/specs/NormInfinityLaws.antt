@@ -310,7 +310,9 @@ module _ (edge : Edge) (own : family_of edge ≡ NormInfinity) where
       → length y ≡ (size item - 1) + (size item - 1)
   dual_long item suits ys y takes ys_are =
       let r = read (in_norm edge own item.body suits.valid.function suits.kind) in
-      let sizes : length y ∷ [] ≡ length (functions_of (made item.body)) ∷ [] = ap (map length) (sym ys_are) ∙ dual_sizes edge item (row_at item (made item.body)) (image_is item) ys takes in
+      let sizes : length y ∷ [] ≡ length (functions_of (made item.body)) ∷ [] = ap (map length)
+      (sym ys_are)
+      ∙ dual_sizes edge item (row_at item (made item.body)) (image_is item) ys takes in
       ap first_size sizes ∙ long item suits.valid r
       ∙ ap₂ ◌+◌ (sym (counted item suits.valid r)) (sym (counted item suits.valid r))
 

@@ -422,8 +422,11 @@ module _ (edge : Edge) (own : family_of edge ≡ NormOne) where
       leads = group_leads_to edge own n vs;
       row_shaped = refl;
       row_some = omega (arith, long);
-      row_fits =
-          record { dimension = let e : length rows ≡ suc (n + n) = long in omega (arith, e); enough = omega (arith, long); uncrossed = refl };
+      row_fits = record {
+        dimension = let e : length rows ≡ suc (n + n) = long in omega (arith, e);
+        enough = omega (arith, long);
+        uncrossed = refl;
+      };
       row_apart =
           all_made (NamesNothingBelow (child_of item.at 1))
           (unnamed-difference (child_of item.at 1)) (unnamed-sum (child_of item.at 1))

@@ -1,15 +1,13 @@
 //! `t ≥ Σ |x_i|` is `t - Σ s_i ≥ 0`, `s_i - x_i ≥ 0` and `s_i + x_i ≥ 0`.
 //!
 //! - From: an affine vector row of `(t, x_1 .. x_n)` in `NormOneCone`, by edge 42.
-//! - To: at position 0 a group of n variables `s` in `Reals`, and at position 1 the affine vector row
-//!   of `t - s_1 - .. - s_n`, the `s_i - x_i` and then the `s_i + x_i` in `Nonnegatives`.
+//! - To: at position 0 a group of n variables `s` in `Reals`, and at position 1 the affine vector
+//!   row of `t - s_1 - .. - s_n`, the `s_i - x_i` and then the `s_i + x_i` in `Nonnegatives`.
 //! - Dual: of the child row's `(r, p, q)` first r, and then the `q_i - p_i`.
 //! - In MathOptInterface: `NormOneBridge`.
 ghost use Rattle.std.specs.Prelude.{◌≡◌, ◌≤◌, ◌++◌, ◌∷◌, [], fold, length};
 ghost use Rattle.aff_core.specs.Arithmetic.{ExactWhere};
 ghost use Rattle.item_core.specs.Item.{functions_of};
-ghost use Rattle.item_core.specs.declared.item.Body.TheVariants.{AffineVec};
-ghost use Rattle.set_core.specs.declared.set.Set.TheVariants.{Nonnegatives};
 ghost use Rattle.bridge_face.specs.ComponentLaws.{variables};
 ghost use Rattle.bridge_face.specs.ImageOf.{DifferencesFit, EachSumFits, differences, negations, sums};
 ghost use Rattle.bridge_face.specs.Images.{difference, function_of_body};

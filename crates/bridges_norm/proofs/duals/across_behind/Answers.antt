@@ -1,5 +1,4 @@
 use Rattle.std.proofs.Common.{◌∙◌, ◌∷◌, ◌/◌, ap, ap₂, subst, sym, arith, length}
-use Rattle.rational_laws.specs.Dot as numbers
 use Rattle.std.proofs.lemmas.List.{length-drop, length-take-le}
 use Rattle.std.specs.Prelude.{◌≡◌}
 use Rattle.rational_laws.specs.Dot.{minus, negated}

@@ -1,5 +1,4 @@
 use Rattle.std.proofs.Common.{◌∙◌}
-use Rattle.rational_laws.specs.Dot as numbers
 use Rattle.bridges_norm.proofs.Loops.{number_there}
 use Rattle.bridges_norm.proofs.parts.first_number.Goals as goal
 

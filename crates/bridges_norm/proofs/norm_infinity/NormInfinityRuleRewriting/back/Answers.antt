@@ -1,5 +1,4 @@
 use Rattle.std.proofs.Common.{◌∙◌, ◌-◌, ◌/◌, ap, arith, subst, sym, length}
-use Rattle.rational_laws.specs.Dot as numbers
 use Rattle.ratio_core.specs.Folds.{FoldFits}
 use Rattle.ratio_core.specs.Rational.{zero_ℚ}
 use Rattle.bridge_face.specs.AnsweredLaws.{passed_on}

@@ -1,5 +1,4 @@
 use Rattle.std.proofs.Common.{◌∙◌, ◌-◌, ◌/◌, ap, arith, length}
-use Rattle.rational_laws.specs.Dot as numbers
 use Rattle.std.specs.Prelude.{◌+◌}
 use Rattle.bridge_face.specs.BackOf.{size}
 use Rattle.bridge_face.specs.FamilyLaws.{dual_count, only}
