@@ -75,7 +75,7 @@ pub no_row : (edge : Edge) → family_of edge ≡ FreeVar → (item : Item) → 
     → is_group item.body ≡ false → ⊥
 no_row edge own item suits none =
     true≢false (sym (read (is_reals edge own item.body suits.valid.function suits.kind)).group
-        ∙ none)
+    ∙ none)
 
 -- ---- two halves
 
@@ -92,14 +92,14 @@ halved at d i = Bridged (difference (variable (child_of at i)) (variable (child_
 
 halved_from : (at : Address) (d k n : ℕ)
     → bridged (differences (variables (components_from at k n))
-        (variables (components_from at (d + k) n)))
+    (variables (components_from at (d + k) n)))
     ≡ map (halved at d) (range_with_len k n)
 halved_from at d k zero = refl
 halved_from at d k (suc n) =
     let next : (d + k) + 1 ≡ d + (k + 1) = omega arith in
     ap (λ es. halved at d k ∷ es)
     (ap (λ j. bridged (differences (variables (components_from at (k + 1) n))
-        (variables (components_from at j n)))) next
+    (variables (components_from at j n)))) next
     ∙ halved_from at d (k + 1) n)
 
 halves_append : (at : Address) (d : ℕ)
@@ -107,7 +107,7 @@ halves_append : (at : Address) (d : ℕ)
 halves_append at d =
     let start : 0 + d ≡ d = omega arith in
     ap variables (components-append at 0 d d
-        ∙ ap (λ j. components_from at 0 d ++ components_from at j d) start)
+    ∙ ap (λ j. components_from at 0 d ++ components_from at j d) start)
     ∙ map-append variable (components_from at 0 d) (components_from at d d)
 
 length_plus : (at : Address) (d : ℕ) → length (plus_half at d) ≡ d
@@ -136,12 +136,12 @@ split at d = differences (plus_half at d) (minus_half at d)
 
 split_is : (at : Address) (d : ℕ)
     → differences (take d (variables (components at (d + d))))
-        (drop d (variables (components at (d + d)))) ≡ split at d
+    (drop d (variables (components at (d + d)))) ≡ split at d
 split_is at d = ap₂ differences (first_half at d) (second_half at d)
 
 pub halved_are : (at : Address) (d : ℕ)
     → bridged (differences (take d (variables (components at (d + d))))
-        (drop d (variables (components at (d + d)))))
+    (drop d (variables (components at (d + d)))))
     ≡ map (halved at d) (range_with_len 0 d)
 halved_are at d =
     let start : d ≡ d + 0 = omega arith in
@@ -155,35 +155,35 @@ plus_misses at d =
     all_components_within (λ v. Miss (plus_half at d) v) at d d
     (λ i low high. variables_missed (components_from at 0 d) (child_of at i)
     (all_components_within (λ u. child_of at i ≢ u) at 0 d
-        (λ j _ below. other_child at i j (λ e. absurd (omega (arith, e, low, below))))))
+    (λ j _ below. other_child at i j (λ e. absurd (omega (arith, e, low, below))))))
 
 minus_misses : (at : Address) (d : ℕ) → All (λ v. Miss (minus_half at d) v) (components_from at 0 d)
 minus_misses at d =
     all_components_within (λ v. Miss (minus_half at d) v) at 0 d
     (λ i _ high. variables_missed (components_from at d d) (child_of at i)
     (all_components_within (λ u. child_of at i ≢ u) at d d
-        (λ j above _. other_child at i j (λ e. absurd (omega (arith, e, high, above))))))
+    (λ j above _. other_child at i j (λ e. absurd (omega (arith, e, high, above))))))
 
 module _ (at : Address) (d : ℕ) (w : List Rational) (long : length w ≡ d) where
   dot-split : (v : Address)
       → dot w (coefficients (split at d) v)
-          ≡ dot w (coefficients (plus_half at d) v) -ℚ dot w (coefficients (minus_half at d) v)
+      ≡ dot w (coefficients (plus_half at d) v) -ℚ dot w (coefficients (minus_half at d) v)
   dot-split v =
       dot-differences w (plus_half at d) (minus_half at d)
-          (length_plus at d ∙ sym (length_minus at d)) (λ f. coefficient f v)
-          (λ f g. coefficient-difference f g v)
+      (length_plus at d ∙ sym (length_minus at d)) (λ f. coefficient f v)
+      (λ f g. coefficient-difference f g v)
 
   on_plus : weighed w (split at d) (components_from at 0 d) ≡ w
   on_plus =
       map_same_on (λ v. dot w (coefficients (split at d) v))
-          (λ v. dot w (coefficients (plus_half at d) v)) (components_from at 0 d)
+      (λ v. dot w (coefficients (plus_half at d) v)) (components_from at 0 d)
       (All-weaker (λ v. Miss (minus_half at d) v) (λ v. dot w (coefficients (split at d) v)
-          ≡ dot w (coefficients (plus_half at d) v))
+      ≡ dot w (coefficients (plus_half at d) v))
       (λ v m. dot-split v
-          ∙ ap (λ q. dot w (coefficients (plus_half at d) v) -ℚ q)
-          (dot_missed w (minus_half at d) v m)
-          ∙ ap (λ q. dot w (coefficients (plus_half at d) v) +ℚ q) neg_ℚ-zero
-          ∙ +ℚ-zero (dot w (coefficients (plus_half at d) v)))
+      ∙ ap (λ q. dot w (coefficients (plus_half at d) v) -ℚ q)
+      (dot_missed w (minus_half at d) v m)
+      ∙ ap (λ q. dot w (coefficients (plus_half at d) v) +ℚ q) neg_ℚ-zero
+      ∙ +ℚ-zero (dot w (coefficients (plus_half at d) v)))
       (components_from at 0 d) (minus_misses at d))
       ∙ weighed_from at 0 d w long
 
@@ -193,24 +193,24 @@ module _ (at : Address) (d : ℕ) (w : List Rational) (long : length w ≡ d) wh
   negated_each (v ∷ vs) m =
       ap₂ ◌∷◌
       (dot-split v
-          ∙ ap (λ q. q -ℚ dot w (coefficients (minus_half at d) v))
-          (dot_missed w (plus_half at d) v (All-head (λ v. Miss (plus_half at d) v) v vs m))
+      ∙ ap (λ q. q -ℚ dot w (coefficients (minus_half at d) v))
+      (dot_missed w (plus_half at d) v (All-head (λ v. Miss (plus_half at d) v) v vs m))
       ∙ zero-+ℚ (neg_ℚ (dot w (coefficients (minus_half at d) v))))
       (negated_each vs (All-tail (λ v. Miss (plus_half at d) v) v vs m))
 
   on_minus : weighed w (split at d) (components_from at d d) ≡ numbers.negated w
   on_minus =
       negated_each (components_from at d d) (plus_misses at d)
-          ∙ ap numbers.negated (weighed_from at d d w long)
+      ∙ ap numbers.negated (weighed_from at d d w long)
 
   -- so the variables get the numbers and then their negations
   weighed-split : weighed w (split at d) (components at (d + d)) ≡ w ++ numbers.negated w
   weighed-split =
       let start : 0 + d ≡ d = omega arith in
       ap (weighed w (split at d)) (components-append at 0 d d
-          ∙ ap (λ j. components_from at 0 d ++ components_from at j d) start)
+      ∙ ap (λ j. components_from at 0 d ++ components_from at j d) start)
       ∙ map-append (λ v. dot w (coefficients (split at d) v)) (components_from at 0 d)
-          (components_from at d d)
+      (components_from at d d)
       ∙ ap₂ ◌++◌ on_plus on_minus
 
 -- numbers of both signs are 0
@@ -221,31 +221,31 @@ both_signs (p ∷ w) h k =
     All-cons (λ q. q ≡ zero_ℚ) p w
     (≤ℚ_antisymm p zero_ℚ
     (≤ℚ_from_nonneg p zero_ℚ (subst (λ q. zero_ℚ ≤ℚ q) (sym (zero-+ℚ (neg_ℚ p)))
-        (All-head (λ q. zero_ℚ ≤ℚ q) (neg_ℚ p) (numbers.negated w) k)))
+    (All-head (λ q. zero_ℚ ≤ℚ q) (neg_ℚ p) (numbers.negated w) k)))
     (All-head (λ q. zero_ℚ ≤ℚ q) p w h))
     (both_signs w (All-tail (λ q. zero_ℚ ≤ℚ q) p w h)
-        (All-tail (λ q. zero_ℚ ≤ℚ q) (neg_ℚ p) (numbers.negated w) k))
+    (All-tail (λ q. zero_ℚ ≤ℚ q) (neg_ℚ p) (numbers.negated w) k))
 
 all_zero : (w : List Rational) → All (λ q. zero_ℚ ≤ℚ q) (w ++ numbers.negated w)
     → All (λ q. q ≡ zero_ℚ) w
 all_zero w h =
     both_signs w
     (subst (All (λ q. zero_ℚ ≤ℚ q)) (take-append_seam w (numbers.negated w))
-        (All-take (λ q. zero_ℚ ≤ℚ q) (length w) (w ++ numbers.negated w) h))
+    (All-take (λ q. zero_ℚ ≤ℚ q) (length w) (w ++ numbers.negated w) h))
     (subst (All (λ q. zero_ℚ ≤ℚ q)) (drop-append_seam w (numbers.negated w))
-        (All-drop (λ q. zero_ℚ ≤ℚ q) (length w) (w ++ numbers.negated w) h))
+    (All-drop (λ q. zero_ℚ ≤ℚ q) (length w) (w ++ numbers.negated w) h))
 
 constants_split : (at : Address) (d : ℕ) → All (λ q. q ≡ zero_ℚ) (constants (split at d))
 constants_split at d =
     All-map (λ q. q ≡ zero_ℚ) (λ f. f.constant) (split at d)
     (all_differences (λ f. f.constant ≡ zero_ℚ) (λ f g p q. constant-difference f g ∙ ap₂ ◌-ℚ◌ p q
-        ∙ -ℚ-itself zero_ℚ) (plus_half at d) (minus_half at d)
+    ∙ -ℚ-itself zero_ℚ) (plus_half at d) (minus_half at d)
     (All-map (λ f. f.constant ≡ zero_ℚ) variable (components_from at 0 d)
-        (all_components (λ v. (variable {R = address_cmp} v).constant ≡ zero_ℚ) at 0 d
-        (λ i. constant-variable (child_of at i))))
+    (all_components (λ v. (variable {R = address_cmp} v).constant ≡ zero_ℚ) at 0 d
+    (λ i. constant-variable (child_of at i))))
     (All-map (λ f. f.constant ≡ zero_ℚ) variable (components_from at d d)
-        (all_components (λ v. (variable {R = address_cmp} v).constant ≡ zero_ℚ) at d d
-        (λ i. constant-variable (child_of at i)))))
+    (all_components (λ v. (variable {R = address_cmp} v).constant ≡ zero_ℚ) at d d
+    (λ i. constant-variable (child_of at i)))))
 
 -- ---- the law
 
@@ -264,19 +264,19 @@ module _ (edge : Edge) (own : family_of edge ≡ FreeVar) where
       → d ≡ size item → both ≡ d + d → vars ≡ inner item both
       → exprs ≡ map (halved (child_of item.at 0) d) (range_with_len 0 d)
       → group ≡ child_at item 0 (Group (Nonnegatives both) vars)
-          → image ≡ group_by (group ∷ []) exprs
+      → image ≡ group_by (group ∷ []) exprs
       → image ≡ image_of edge item
   image_made item d both vars exprs group image d_is both_is vars_are exprs_are group_is
       image_of_parts =
       image_of_parts ∙ ap₂ (λ g es. group_by (g ∷ []) es) group_is exprs_are
       ∙ ap (λ vs. group_by (child_at item 0 (Group (Nonnegatives both) vs) ∷ [])
-          (map (halved (child_of item.at 0) d) (range_with_len 0 d))) vars_are
+      (map (halved (child_of item.at 0) d) (range_with_len 0 d))) vars_are
       ∙ ap (λ n. group_by (group_at item (Nonnegatives n) n ∷ [])
-          (map (halved (child_of item.at 0) d) (range_with_len 0 d))) both_is
+      (map (halved (child_of item.at 0) d) (range_with_len 0 d))) both_is
       ∙ ap (λ n. group_by (group_at item (Nonnegatives (n + n)) (n + n) ∷ [])
-          (map (halved (child_of item.at 0) n) (range_with_len 0 n))) d_is
+      (map (halved (child_of item.at 0) n) (range_with_len 0 n))) d_is
       ∙ ap (λ es. group_by (group_at item (Nonnegatives (size item + size item))
-          (size item + size item) ∷ []) es) (sym (halved_are (child_of item.at 0) (size item)))
+      (size item + size item) ∷ []) es) (sym (halved_are (child_of item.at 0) (size item)))
       ∙ sym (image_is item)
 
   module _ (item : Item) (valid : IsValidItem item) (free : Unbounded item.body) where
@@ -293,11 +293,11 @@ module _ (edge : Edge) (own : family_of edge ≡ FreeVar) where
     missed : (v : Address) → Miss (variables (components at (d + d))) v → Miss (split at d) v
     missed v m =
         all_differences (λ f. coefficient f v ≡ zero_ℚ) (missed-difference v) (plus_half at d)
-            (minus_half at d)
+        (minus_half at d)
         (subst (λ fs. Miss fs v) (first_half at d) (All-take (λ f. coefficient f v ≡ zero_ℚ) d
-            (variables (components at (d + d))) m))
+        (variables (components at (d + d))) m))
         (subst (λ fs. Miss fs v) (second_half at d) (All-drop (λ f. coefficient f v ≡ zero_ℚ) d
-            (variables (components at (d + d))) m))
+        (variables (components at (d + d))) m))
 
     one_group : OneGroup edge item (Nonnegatives (d + d)) (d + d) (split at d)
     one_group = record {
@@ -313,11 +313,14 @@ module _ (edge : Edge) (own : family_of edge ≡ FreeVar) where
           (all_zero w (subst (All (λ q. zero_ℚ ≤ℚ q)) (weighed-split at d w (e ∙ long)) there));
       gaps = λ w e there.
           sym (ap₂ ◌-ℚ◌ (ap (λ s. low_of s w) free.set)
-              (dot_zeros w (constants (split at d)) (constants_split at d))
+          (dot_zeros w (constants (split at d)) (constants_split at d))
           ∙ -ℚ-itself zero_ℚ);
       some = let some : 1 ≤ d = valid.some in omega (arith, some);
-      fits = record { dimension = refl;
-          enough = let some : 1 ≤ d = valid.some in omega (arith, some); uncrossed = refl };
+      fits = record {
+        dimension = refl;
+        enough = let some : 1 ≤ d = valid.some in omega (arith, some);
+        uncrossed = refl;
+      };
       grows = subst (λ n. d + d ≤ n * d) (sym (ap growth own)) (omega arith);
       leads = leads_to edge own (d + d) (inner item (d + d));
     }
@@ -325,14 +328,14 @@ module _ (edge : Edge) (own : family_of edge ≡ FreeVar) where
     free_law : EdgeLaw edge item (free_var item)
     free_law =
         subst (λ fs. EdgeLaw edge item (group_by (group_at item (Nonnegatives (d + d)) (d + d) ∷ [])
-            (bridged fs))) (sym (split_is at d))
+        (bridged fs))) (sym (split_is at d))
         (one_group_law edge item (Nonnegatives (d + d)) (d + d) (split at d) one_group)
 
   law_at : Lawful edge
   law_at item suits =
       subst (EdgeLaw edge item) (sym (image_is item))
       (free_law item suits.valid (read (is_reals edge own item.body suits.valid.function
-          suits.kind)))
+      suits.kind)))
 
 pub free_var_lawful : IsLawful FreeVar
 free_var_lawful = lawful_family FreeVar law_at
