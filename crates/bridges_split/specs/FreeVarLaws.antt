@@ -18,7 +18,7 @@ use Rattle.item_core.specs.declared.image.Expression.{Expression}
 use Rattle.bridge_face.specs.ImageOf.{FitsBy, ImageFits, bridged, differences, free_var, group_at, image_by, image_of, inner}
 use Rattle.item_core.specs.Valid.{FitsItsFunction, IsValidItem}
 use Rattle.item_core.specs.declared.family.Family.TheVariants.{FreeVar}
-use Rattle.aff_core.specs.Function.{Function, coefficient, variable, with_coefficient}
+use Rattle.aff_core.specs.Function.{Function, coefficient, variable}
 use Rattle.item_core.specs.declared.item.Body.TheVariants.{Group}
 use Rattle.item_core.specs.declared.image.Image.{Image}
 use Rattle.item_core.specs.declared.item.Item.{Item}
@@ -26,9 +26,9 @@ use Rattle.bridge_face.specs.FamilyLaws.{Lawful, lawful_family, of_another}
 use Rattle.set_core.specs.declared.set.Set.TheVariants.{Nonnegatives, Reals}
 use Rattle.bridge_face.specs.Sources.{OfKind, group_reals, of_kind}
 use Rattle.bridge_face.specs.GroupLaws.{OneGroup, one_group_law}
-use Rattle.ratio_core.specs.Rational.{Rational, neg_ℚ, zero_ℚ, ◌+ℚ◌, ◌-ℚ◌, ◌≤ℚ◌, one_ℚ}
+use Rattle.ratio_core.specs.Rational.{Rational, neg_ℚ, zero_ℚ, ◌+ℚ◌, ◌-ℚ◌, ◌≤ℚ◌}
 use Rattle.bridge_face.specs.ComponentLaws.{all_components, all_components_within, components-append, components_from, constant-variable, dot_missed, map_same_on, not_contained, other_child, variables, variables_missed, weighed, weighed_from}
-use Rattle.bridge_face.specs.DifferenceLaws.{all_differences, coefficient-difference, constant-difference, dot-differences, length-differences, missed-difference, difference-variable}
+use Rattle.bridge_face.specs.DifferenceLaws.{all_differences, coefficient-difference, constant-difference, dot-differences, length-differences, missed-difference}
 use Rattle.bridge_face.specs.Images.{child_at, components, difference, group_by}
 use Rattle.aff_core.specs.FunctionLists.{coefficients, constants, evaluations}
 use Rattle.rational_laws.specs.Dot.{dot}
@@ -39,8 +39,6 @@ use Rattle.item_core.specs.KindOf.{kind_of_body}
 use Rattle.set_core.specs.Mirrored.{multiplied}
 use Rattle.bridge_face.specs.BackOf.{size}
 use Rattle.rational_laws.specs.Order.{≤ℚ_antisymm, ≤ℚ_from_nonneg}
-use Rattle.aff_core.specs.KeyOrder.{address_order}
-use Rattle.aff_core.specs.FunctionLaws.{coefficient-variable_other}
 use Rattle.item_core.specs.declared.kind.Kind.TheVariants as kind
 use Rattle.rational_laws.specs.Dot as numbers
 
@@ -91,12 +89,6 @@ minus_half at d = variables (components_from at d d)
 -- the i-th component is s_i - s_(d+i)
 abbrev pub halved : Address → ℕ → ℕ → Expression
 halved at d i = Bridged (difference (variable (child_of at i)) (variable (child_of at (d + i))))
-
-pub apart_by_coefficient : (var other : Address) → other ≢ var
-    → with_coefficient (variable var) other (neg_ℚ one_ℚ)
-    ≡ difference (variable var) (variable other)
-apart_by_coefficient var other n =
-    difference-variable (variable var) other (coefficient-variable_other address_order var other n)
 
 halved_from : (at : Address) (d k n : ℕ)
     → bridged (differences (variables (components_from at k n))

@@ -4,20 +4,18 @@
 //! - To: at position 0 a group `s` of 2 d variables in `Nonnegatives`; component i is
 //!   `s_i - s_(d+i)`.
 //! - In MathOptInterface: `FreeBridge` of variables.
-ghost use Rattle.std.specs.Prelude.{◌≡◌, ◌≢◌, ◌<◌, ◌≤◌, IfOk, length, map};
+ghost use Rattle.std.specs.Prelude.{◌≡◌, ◌<◌, ◌≤◌, IfOk, length, map};
 ghost use Rattle.std.specs.List.{range_with_len};
-ghost use Rattle.bridge_face.specs.Images.{difference};
-ghost use Rattle.aff_core.specs.Function.{variable};
 ghost use Rattle.bridges_split.specs.FreeVarLaws.{halved};
 
 use aff_core::{Address, Aff};
 use bridge_face::{
     ChildRows, ItemFault, KeptItems, Rewriting, child_group, component_count, group_image,
-    inner_variables,
+    inner_variables, less_variable,
 };
 use item_core::{Edge, Expression, Expressions, Family, Image, Item};
 use lists::Memory;
-use ratio_core::{Ratio, Ratios};
+use ratio_core::Ratios;
 use set_core::Set;
 use std::alloc::Global;
 
@@ -74,17 +72,9 @@ fn differences(alloc: Global, group: &Address, count: u16) -> Result<Expressions
 {
     let mut exprs = Vec::with_capacity(alloc, count as usize)?;
     for n in 0..count {
-        exprs.push(Expression::Bridged {
-            func: apart(alloc, &group.child(n), &group.child(count + n))?,
-        })?;
+        let plus = Aff::variable(alloc, &group.child(n))?;
+        let func = less_variable(&plus, &group.child(count + n))?;
+        exprs.push(Expression::Bridged { func })?;
     }
     Ok(Expressions::from_vec(exprs))
-}
-
-// A variable without another.
-fn apart(alloc: Global, var: &Address, other: &Address) -> Result<Aff, Memory>
-    requires { other.now ≢ var.now }
-    ensures { IfOk result (λ func. func ≡ difference (variable var.now) (variable other.now)) }
-{
-    Aff::variable(alloc, var)?.with_coef(other, Ratio::one().neg())
 }

@@ -1,0 +1,3 @@
+pub mod BothLaws
+pub mod NormInfinityLaws
+pub mod NormOneLaws

@@ -1,0 +1,356 @@
+-- The law of NormInfinity: t ≥ |x_i| for each i is t - x_i ≥ 0 and t + x_i ≥ 0.
+use Rattle.std.specs.Prelude.{All, List, [], drop, length, map, refl, suc, take, ℕ, ◌*◌, ◌++◌, ◌+◌, ◌-◌, ◌∷◌, ◌≡◌, ◌≤◌, Result}
+use Rattle.std.proofs.lemmas.List.Elements.{All-append, All-head, All-map, All-tail, All-weaker}
+use Rattle.std.proofs.Common.{ap, ap₂, arith, subst, sym, ◌∙◌}
+use Rattle.std.proofs.lemmas.List.{length-append, length-drop, length-map, length-take-le, map-append, take-append-drop}
+use Rattle.bridge_face.specs.BackOf.{AcrossFits, BackFits, BackFitsBy, across, back_by, back_of, size}
+use Rattle.aff_core.specs.Address.{Address, child_of}
+use Rattle.bridge_face.specs.DifferenceLaws.{Adds, Subtracts, coefficient-difference, constant-difference, evaluated-difference, evaluated-sum, less, missed-difference, missed-sum, unnamed-difference, unnamed-sum}
+use Rattle.item_core.specs.declared.item.Body.TheVariants.{AffineVec}
+use Rattle.item_core.specs.declared.item.Body.{Body}
+use Rattle.set_core.specs.Vectors.{DominatesEach, DominatesSum}
+use Rattle.item_core.specs.declared.edge.Edge.TheVariants.{E41}
+use Rattle.item_core.specs.declared.edge.Edge.{Edge}
+use Rattle.bridge_face.specs.Law.{EdgeLaw, IsLawful, LeadsTo, Miss, growth, IsItemFor}
+use Rattle.bridge_face.specs.ImageOf.{FitsBy, ImageFits, image_by, image_of}
+use Rattle.item_core.specs.Valid.{FitsItsFunction, IsValidItem, NamesNothingBelow}
+use Rattle.ratio_core.specs.Folds.{FoldFits, sum_from}
+use Rattle.aff_core.specs.Function.{Function, coefficient, evaluated, negated}
+use Rattle.dual_laws.specs.Held.{Holds, IsHeld, adjoint_of, gap_of}
+use Rattle.bridge_face.specs.OneRowLaws.{IsRow, OneRow, one_row_law, row_held}
+use Rattle.set_core.specs.Shapes.{IsSetOf, least_dimension}
+use Rattle.item_core.specs.declared.item.Item.{Item}
+use Rattle.bridge_face.specs.FamilyLaws.{Lawful, lawful_family, of_another, dual_sizes, kept_by}
+use Rattle.set_core.specs.declared.set.Set.TheVariants.{Nonnegatives, NormInfinityCone}
+use Rattle.item_core.specs.declared.family.Family.TheVariants.{NormInfinity}
+use Rattle.bridge_face.specs.Sources.{OfKind, of_kind, vaffine_norm_infinity_cone}
+use Rattle.aff_core.specs.Arithmetic.{PlusFits, sum_of, ExactWhere}
+use Rattle.ratio_core.specs.Rational.{Rational, zero_ℚ, ◌+ℚ◌, ◌-ℚ◌, ◌≤ℚ◌}
+use Rattle.aff_core.specs.KeyOrder.{address_order}
+use Rattle.bridge_face.specs.ComponentLaws.{all_unnamed_below}
+use Rattle.bridges_norm.specs.BothLaws.{begins, dot_both, each_below, first_size, in_first, in_second, less_each, more_each, norm_across, others_of}
+use Rattle.aff_core.specs.ArithmeticLaws.{coefficient-sum_of, constant-sum_of}
+use Rattle.bridge_face.specs.Images.{difference, function_of_body, rest_of, row_at, first_in}
+use Rattle.rational_laws.specs.Dot.{dot, minus}
+use Rattle.item_core.specs.Edge.{edge_entry, family_of, source_of}
+use Rattle.aff_core.specs.FunctionLists.{evaluations}
+use Rattle.rational_laws.specs.Sums.{fold_ℚ, sum_ℚ, sum_ℚ-append}
+use Rattle.item_core.specs.Item.{functions_of, set_of}
+use Rattle.bridge_face.specs.GroupLaws.{held_of}
+use Rattle.item_core.specs.KindOf.{kind_of_body}
+use Rattle.rational_laws.specs.DotLaws.{length-minus}
+use Rattle.set_laws.specs.Norms.{norm_dominated}
+use Rattle.rational_laws.specs.Field.{zero-+ℚ}
+use Rattle.rational_laws.specs.Order.{≤ℚ_from_≡}
+use Rattle.aff_core.specs.declared.fault.AffFault.{AffFault}
+use Rattle.bridge_face.specs.State.{TakesDuals}
+use Rattle.bridge_face.specs.AnsweredLaws.{exact_as}
+use Rattle.set_core.specs.declared.set.Set.{Set}
+use Rattle.item_core.specs.declared.kind.Kind.TheVariants as kind
+
+-- a row in the cone
+pub data InNormInfinity : Body → Type 0 where
+  in_norm_infinity : {fs : List Function} {n : ℕ}
+      → InNormInfinity (AffineVec fs (NormInfinityCone n))
+
+-- what the edge makes of it
+abbrev pub made : Body → Body
+made b =
+    AffineVec (less_each (function_of_body b) (others_of b)
+    ++ more_each (function_of_body b) (others_of b))
+    (Nonnegatives (length (others_of b) + length (others_of b)))
+
+-- what must fit for it
+abbrev pub BothFit : Function → List Function → Type 0
+BothFit first others =
+    All (λ x. PlusFits first (negated x)) others × All (λ x. PlusFits first x) others
+
+-- so it is of the row's functions
+pub fits_of : (b : Body) (s : Set) (fs others : List Function) (first : Function)
+    → b ≡ AffineVec fs s → first ≡ first_in fs → others ≡ rest_of fs
+    → BothFit first others ≡ BothFit (function_of_body b) (others_of b)
+fits_of b s fs others first b_is first_is others_is =
+    ap₂ BothFit (first_is ∙ ap function_of_body (sym b_is)) (others_is ∙ ap others_of (sym b_is))
+
+pub made_of : (b : Body) (s : Set) (fs others both : List Function) (first : Function) (n : ℕ)
+    → b ≡ AffineVec fs s → first ≡ first_in fs → others ≡ rest_of fs
+    → both ≡ less_each first others ++ more_each first others → n ≡ length others
+    → AffineVec both (Nonnegatives (n + n)) ≡ made b
+made_of b s fs others both first n b_is first_is others_is both_is n_is =
+    let there : others ≡ others_of b = others_is ∙ ap others_of (sym b_is) in
+    ap₂ (λ gs m. AffineVec gs (Nonnegatives (m + m)))
+    (both_is ∙ ap₂ (λ f gs. less_each f gs ++ more_each f gs)
+    (first_is ∙ ap function_of_body (sym b_is)) there)
+    (n_is ∙ ap length there)
+
+sourced_only : {b : Body} → OfKind kind.VaffineNormInfinityCone b → InNormInfinity b
+sourced_only vaffine_norm_infinity_cone = in_norm_infinity
+
+pub in_norm : (edge : Edge) → family_of edge ≡ NormInfinity
+    → (b : Body) → FitsItsFunction b → kind_of_body b ≡ source_of edge → InNormInfinity b
+unfolding edge_entry
+in_norm E41 own b h k = sourced_only (subst (λ k. OfKind k b) k (of_kind b h))
+in_norm _ own b h k = of_another own refl
+
+leads_to : (edge : Edge) → family_of edge ≡ NormInfinity → (n : ℕ) (fs : List Function)
+    → LeadsTo edge (AffineVec fs (Nonnegatives n))
+unfolding edge_entry kind_of_body
+leads_to E41 own n fs = refl
+leads_to _ own n fs = of_another own refl
+
+-- what is read of it
+record Read (b : Body) : Type 0 where
+  row : IsRow b
+  count : ℕ
+  set : set_of b ≡ NormInfinityCone count
+
+read : {b : Body} → InNormInfinity b → Read b
+read (in_norm_infinity {fs} {n}) =
+    record { row = record { no_group = refl; no_objective = refl }; count = n; set = refl }
+
+-- ---- the law
+
+module _ (edge : Edge) (own : family_of edge ≡ NormInfinity) where
+  pub image_is : (item : Item) → image_of edge item ≡ row_at item (made item.body)
+  unfolding image_by
+  image_is item = ap (λ f. image_by f edge item) own
+
+  pub back_is : (item : Item) (y : List Rational)
+      → back_of edge item (y ∷ []) ≡ sum_from zero_ℚ y ∷ across (size item - 1) y
+  unfolding back_by
+  back_is item y = ap (λ f. back_by f item (y ∷ [])) own
+
+  pub image_fits : (item : Item)
+      → ImageFits edge item
+      ≡ BothFit (function_of_body item.body) (others_of item.body)
+  unfolding FitsBy
+  image_fits item = ap (λ f. FitsBy f item) own
+
+  pub back_fits : (item : Item) (y : List Rational)
+      → BackFits edge item (y ∷ []) ≡ (FoldFits zero_ℚ y × AcrossFits (size item - 1) y)
+  unfolding BackFitsBy
+  back_fits item y = ap (λ f. BackFitsBy f item (y ∷ [])) own
+
+  module _ (item : Item) (valid : IsValidItem item) (r : Read item.body) where
+    abbrev fs : List Function
+    fs = functions_of item.body
+
+    abbrev t : Function
+    t = function_of_body item.body
+
+    abbrev xs : List Function
+    xs = others_of item.body
+
+    abbrev n : ℕ
+    n = length xs
+
+    abbrev both : List Function
+    both = less_each t xs ++ more_each t xs
+
+    parts : fs ≡ t ∷ xs
+    parts = begins fs valid.some
+
+    -- there are others beside the first
+    some : 1 ≤ n
+    some =
+        let two : 2 ≤ length fs = subst (λ s. least_dimension s ≤ length fs) r.set valid.set.enough
+        in
+        let e : length fs ≡ suc n = ap length parts in omega (arith, two, e)
+
+    counted : size item - 1 ≡ n
+    counted = let e : length fs ≡ suc n = ap length parts in omega (arith, e)
+
+    long : length both ≡ n + n
+    long =
+        length-append (less_each t xs) (more_each t xs)
+        ∙ ap₂ ◌+◌ (length-map xs (difference t)) (length-map xs (sum_of t))
+
+    item_is : (w : List Rational)
+        → row_held item.body w ≡ held_of w (t ∷ xs) (NormInfinityCone r.count)
+    item_is w = ap₂ (held_of w) parts r.set
+
+    unnamed : All (NamesNothingBelow item.at) (t ∷ xs)
+    unnamed = subst (All (NamesNothingBelow item.at)) parts (valid.others r.row.no_group)
+
+    evaluations-less : (one : Rational) (x : Address → Rational) (gs : List Function)
+        → evaluations one (less_each t gs) x
+        ≡ map (λ v. evaluated one t x -ℚ v) (evaluations one gs x)
+    evaluations-less one x [] = refl
+    evaluations-less one x (f ∷ gs) =
+        ap₂ ◌∷◌ (evaluated-difference one t f x) (evaluations-less one x gs)
+
+    evaluations-more : (one : Rational) (x : Address → Rational) (gs : List Function)
+        → evaluations one (more_each t gs) x
+        ≡ map (λ v. evaluated one t x +ℚ v) (evaluations one gs x)
+    evaluations-more one x [] = refl
+    evaluations-more one x (f ∷ gs) = ap₂ ◌∷◌ (evaluated-sum one t f x) (evaluations-more one x gs)
+
+    values : (one : Rational) (x : Address → Rational)
+        → All (λ q. zero_ℚ ≤ℚ q) (evaluations one both x)
+        → DominatesEach (evaluated one t x ∷ evaluations one xs x)
+    values one x below =
+        let e = evaluated one t x in
+        let vs = evaluations one xs x in
+        let parted : All (λ q. zero_ℚ ≤ℚ q) (map (λ v. e -ℚ v) vs ++ map (λ v. e +ℚ v) vs) = subst
+        (All (λ q. zero_ℚ ≤ℚ q)) (map-append (λ f. evaluated one f x) (less_each t xs)
+        (more_each t xs) ∙ ap₂ ◌++◌ (evaluations-less one x xs) (evaluations-more one x xs))
+        below in
+        each_below e vs
+        (in_first (λ q. zero_ℚ ≤ℚ q) (map (λ v. e -ℚ v) vs) (map (λ v. e +ℚ v) vs) parted)
+        (in_second (λ q. zero_ℚ ≤ℚ q) (map (λ v. e -ℚ v) vs) (map (λ v. e +ℚ v) vs) parted)
+
+    -- the dual's two halves
+    module _ (y : List Rational) (h : IsHeld (row_held (made item.body) y)) where
+      abbrev p : List Rational
+      p = take n y
+
+      abbrev q : List Rational
+      q = drop n y
+
+      whole : p ++ q ≡ y
+      whole = take-append-drop n y
+
+      y_long : length y ≡ n + n
+      y_long = h.size ∙ long
+
+      p_long : length p ≡ n
+      p_long = length-take-le n y (omega (arith, y_long))
+
+      q_long : length q ≡ n
+      q_long = length-drop n y ∙ (omega (arith, y_long))
+
+      abbrev w : List Rational
+      w = (sum_ℚ p +ℚ sum_ℚ q) ∷ minus q p
+
+      back_parts : back_of edge item (y ∷ []) ≡ w
+      back_parts =
+          back_is item y
+          ∙ ap₂ (λ s d. s ∷ d)
+          (fold_ℚ zero_ℚ y ∙ zero-+ℚ (sum_ℚ y) ∙ ap sum_ℚ (sym whole) ∙ sum_ℚ-append p q)
+          (ap (λ m. across m y) counted)
+
+      carried : row_held item.body (back_of edge item (y ∷ []))
+          ≡ held_of w (t ∷ xs) (NormInfinityCone r.count)
+      carried = ap (row_held item.body) back_parts ∙ item_is w
+
+      products : (g : Function → Rational) → Subtracts g → Adds g
+          → dot w (map g (t ∷ xs)) ≡ dot y (map g both)
+      products g s a =
+          sym (ap (λ z. dot z (map g both)) (sym whole) ∙ dot_both g s a t p q xs p_long q_long)
+
+      nonneg : All (λ q. zero_ℚ ≤ℚ q) (p ++ q)
+      nonneg = subst (All (λ q. zero_ℚ ≤ℚ q)) (sym whole) h.dual
+
+      dominated : DominatesSum w
+      dominated =
+          norm_dominated (sum_ℚ p +ℚ sum_ℚ q) (minus q p)
+          (norm_across p q (p_long ∙ sym q_long) (in_first (λ q. zero_ℚ ≤ℚ q) p q nonneg)
+          (in_second (λ q. zero_ℚ ≤ℚ q) p q nonneg))
+
+      holds : IsHeld (held_of w (t ∷ xs) (NormInfinityCone r.count))
+      holds = record {
+        set = subst (λ gs. IsSetOf (length gs) (NormInfinityCone r.count)) parts
+            (subst (IsSetOf (length fs)) r.set valid.set);
+        size = ap suc (length-minus q p (q_long ∙ sym p_long) ∙ p_long);
+        dual = dominated;
+      }
+
+      gap_same : gap_of (row_held (made item.body) y)
+          ≡ gap_of (held_of w (t ∷ xs) (NormInfinityCone r.count))
+      gap_same = ap (λ z. zero_ℚ
+          -ℚ z) (sym (products (λ f. f.constant) constant-difference
+          (constant-sum_of address_order)))
+
+    all_both : (P : Function → Type 0) → ((f g : Function) → P f → P g → P (difference f g))
+        → ((f g : Function) → P f → P g → P (sum_of f g)) → All P (t ∷ xs) → All P both
+    all_both P less more all =
+        let first : P t = All-head P t xs all in
+        let others : All P xs = All-tail P t xs all in
+        All-append P (less_each t xs) (more_each t xs)
+        (All-map P (difference t) xs (All-weaker P (λ f. P (difference t f))
+        (λ f k. less t f first k) xs others))
+        (All-map P (sum_of t) xs (All-weaker P (λ f. P (sum_of t f)) (λ f k. more t f first k) xs
+        others))
+
+    one_row : OneRow edge item (made item.body)
+    one_row = record {
+      source = r.row;
+      made = record { no_group = refl; no_objective = refl };
+      values = λ one x h below. subst (λ k. Holds one k x) (sym (item_is [])) (values one x below);
+      holds = λ y h. subst IsHeld (sym (carried y h)) (holds y h);
+      same = λ y h v.
+          ap (λ k. adjoint_of k v) (carried y h)
+          ∙ products y h (λ f. coefficient f v) (λ f g. coefficient-difference f g v)
+          (λ f g. coefficient-sum_of address_order f g v);
+      gaps = λ y h. ≤ℚ_from_≡ _ _ (gap_same y h ∙ sym (ap gap_of (carried y h)));
+      valid = λ room few. record {
+        function = refl;
+        some = omega (arith, long, some);
+        at_most = few;
+        set = record { dimension = sym long; enough = omega (arith, long, some); uncrossed = refl };
+        depth = subst (λ m. m ≤ 38) (sym (length-append item.at.positions (0 ∷ [])))
+            (omega (arith, room));
+        others = λ _.
+            all_both (NamesNothingBelow (child_of item.at 0))
+            (unnamed-difference (child_of item.at 0)) (unnamed-sum (child_of item.at 0))
+            (all_unnamed_below item.at 0 (t ∷ xs) unnamed);
+      };
+      sizes = subst (λ m. length both ≤ m * length fs) (sym (ap growth own))
+          (let e : length fs ≡ suc n = ap length parts in omega (arith, long, e));
+      leads = leads_to edge own (n + n) both;
+      mentioned = λ v m.
+          all_both (λ f. coefficient f v ≡ zero_ℚ) (missed-difference v) (missed-sum v)
+          (subst (λ gs. Miss gs v) parts m);
+    }
+
+  -- the dual has two numbers for each other function
+  pub dual_long : (item : Item) → IsItemFor edge item
+      → (ys : List (List Rational)) (y : List Rational)
+      → TakesDuals (kept_by edge item) ys → ys ≡ y ∷ []
+      → length y ≡ (size item - 1) + (size item - 1)
+  dual_long item suits ys y takes ys_are =
+      let r = read (in_norm edge own item.body suits.valid.function suits.kind) in
+      let sizes : length y ∷ [] ≡ length (functions_of (made item.body)) ∷ [] = ap (map length)
+      (sym ys_are)
+      ∙ dual_sizes edge item (row_at item (made item.body)) (image_is item) ys takes in
+      ap first_size sizes ∙ long item suits.valid r
+      ∙ ap₂ ◌+◌ (sym (counted item suits.valid r)) (sym (counted item suits.valid r))
+
+  -- what is carried back by the sum of the dual and the differences of its halves
+  pub back_made : (item : Item) (ys : List (List Rational)) (y now : List Rational) (half : ℕ)
+      (sum : Rational) (r : Result (List Rational) AffFault)
+      → ys ≡ y ∷ [] → now ≡ y → half ≡ size item - 1 → FoldFits zero_ℚ now
+      → sum ≡ sum_from zero_ℚ now
+      → ExactWhere r (AcrossFits half now) (λ d. d ≡ sum ∷ across half now)
+      → ExactWhere r (BackFits edge item ys) (λ d. d ≡ back_of edge item ys)
+  back_made item ys y now half sum r ys_are now_is half_is fold_fits sum_is said =
+      let fits : BackFits edge item ys ≡ (FoldFits zero_ℚ y × AcrossFits (size item - 1) y) =
+      ap (BackFits edge item) ys_are ∙ back_fits item y in
+      let across_is : AcrossFits half now ≡ AcrossFits (size item - 1) y =
+      ap₂ AcrossFits half_is now_is in
+      exact_as r (AcrossFits half now) (BackFits edge item ys) (λ d. d ≡ sum ∷ across half now)
+      (λ d. d ≡ back_of edge item ys)
+      (λ h. subst (λ T. T) (sym fits) (
+        subst (FoldFits zero_ℚ) now_is fold_fits,
+        subst (λ T. T)
+            across_is h,
+      ))
+      (λ h. subst (λ T. T) (sym across_is) (subst (λ T. T) fits h).1)
+      (λ d e. e ∙ ap₂ (λ s ds. s ∷ ds) (sum_is ∙ ap (sum_from zero_ℚ) now_is)
+      (ap₂ across half_is now_is) ∙ sym (ap (back_of edge item) ys_are ∙ back_is item y))
+      said
+
+  -- where the sum doesn't fit, nothing is carried back
+  pub fold_needed : (item : Item) (ys : List (List Rational)) (y : List Rational) → ys ≡ y ∷ []
+      → BackFits edge item ys → FoldFits zero_ℚ y
+  fold_needed item ys y ys_are h =
+      (subst (λ T. T) (ap (BackFits edge item) ys_are ∙ back_fits item y) h).0
+
+  law_at : Lawful edge
+  law_at item suits =
+      subst (EdgeLaw edge item) (sym (image_is item))
+      (one_row_law edge item (made item.body) (one_row item suits.valid
+      (read (in_norm edge own item.body suits.valid.function suits.kind))))
+
+pub norm_infinity_lawful : IsLawful NormInfinity
+norm_infinity_lawful = lawful_family NormInfinity law_at
