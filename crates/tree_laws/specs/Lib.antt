@@ -1,0 +1,10 @@
+pub mod Carried
+pub mod ThroughLaws
+pub mod PutLaws
+pub mod LookupLaws
+pub mod SeenLaws
+pub mod LevelLaws
+pub mod NodeLaws
+pub mod DownLaws
+pub mod TreeLaws
+pub mod StandLaws
