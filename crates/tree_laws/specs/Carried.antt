@@ -1,5 +1,5 @@
 -- What is carried along a bridging: from duals of the leaves to duals of the items.
-use Rattle.std.specs.Prelude.{◌≡◌, ◌≤◌, ℕ, cond, List, [], ◌∷◌, ◌++◌, All, drop, length, map, take}
+use Rattle.std.specs.Prelude.{◌≡◌, ◌≤◌, ℕ, cond, List, [], ◌∷◌, ◌++◌, All, length, map, take}
 use Rattle.ratio_core.specs.Rational.{Rational, ◌≤ℚ◌}
 use Rattle.aff_core.specs.Address.{Address}
 use Rattle.aff_core.specs.Arithmetic.{composed}
@@ -7,48 +7,48 @@ use Rattle.aff_core.specs.Function.{coefficient, slope}
 use Rattle.dual_laws.specs.Held.{DualsHold, Held, IsHeld, adjoint, adjoint_of, gap, gap_of}
 use Rattle.expansion.specs.Bridged.{Bridged, EachBridged, EachBridgedIn, by, each, each_in, natively, none, none_in}
 use Rattle.expansion.specs.Rules.{Rules}
-use Rattle.item_core.specs.declared.edge.Edge.{Edge}
 use Rattle.item_core.specs.declared.item.Item.{Item}
 use Rattle.item_core.specs.Item.{is_group, variables_of}
-use Rattle.bridge_face.specs.BackOf.{back_of, first_of}
+use Rattle.bridge_face.specs.BackOf.{back_of}
 use Rattle.bridge_face.specs.ImageOf.{image_of}
 use Rattle.bridge_face.specs.Law.{held_body, is_objective}
 use Rattle.fresh_bridging.specs.Entries.{Entry, function_in}
 use Rattle.fresh_bridging.specs.TheRules.{edge_at}
 
--- a bound on the objective's cost, the numbers of the leaf variables, and the duals of the leaf
--- rows and of the leaf objective
+-- a bound on the objective's cost with its dual, the numbers of the leaf variables, and the duals
+-- of the leaf rows
 pub record LeafDuals : Type 0 where
   pub bound : Rational
+  pub objective : List Rational
   pub numbers : Address → Rational
   pub duals : Address → List Rational
 
 -- ---- leaves with their duals
 
 module _ (d : LeafDuals) where
+  abbrev pub row_dual : Item → List Rational
+  row_dual leaf = cond (is_objective leaf.body) d.objective (d.duals leaf.at)
+
   abbrev pub leaf_held : Item → Held
   leaf_held leaf =
       held_body d.bound leaf.body
-      (cond (is_group leaf.body) (map d.numbers (variables_of leaf.body)) (d.duals leaf.at))
+      (cond (is_group leaf.body) (map d.numbers (variables_of leaf.body)) (row_dual leaf))
 
   abbrev pub leaf_helds : List Item → List Held
   leaf_helds leaves = map leaf_held leaves
 
 -- ---- duals carried back
 
--- the dual of an item by those of its edge's rows and objective: an objective has that of the
--- child objective, and a row what its edge's rule says
-abbrev pub carried : Edge → Item → List (List Rational) → List Rational
-carried edge item ys =
-    cond (is_objective item.body)
-    (first_of (drop (length (image_of edge item).rows) ys))
-    (back_of edge item (take (length (image_of edge item).rows) ys))
-
+-- an objective's dual is the leaf objective's, and a row's is what its edge's rule makes of its
+-- child rows' duals
 module _ {rules : Rules Item Entry} (d : LeafDuals) where
   unfoldable mutual
     pub back : {item : Item} {entries : List Entry} → Bridged rules item entries → List Rational
-    back (natively {item} c) = d.duals item.at
-    back (by {item} {edge} c groups others) = carried (edge_at edge) item (backs others)
+    back (natively {item} c) = row_dual d item
+    back (by {item} {edge} c groups others) =
+        cond (is_objective item.body) d.objective
+        (back_of (edge_at edge) item
+        (take (length (image_of (edge_at edge) item).rows) (backs others)))
 
     pub backs : {inner : List Entry} {items : List Item} → EachBridgedIn rules inner items
         → List (List Rational)

@@ -99,6 +99,10 @@ group_missed bound w g es v h each =
     (All-weaker (Contains (variables_of g.body)) (λ u. coefficient (function_in es u) v ≡ zero_ℚ)
     each (variables_of g.body) (All-contains_itself (variables_of g.body))))
 
+-- no entry is of one of the group's variables
+abbrev AvoidsVariables : List Entry → Item → Type 0
+AvoidsVariables es g = All (Avoids (components es)) (variables_of g.body)
+
 module _ (setting : Setting) (costly : IsCostly (graph_of setting)) (choice : ℕ → Choice)
     (chosen : AreChoices setting choice) (lawful : AreLawful setting) (d : LeafDuals) where
   abbrev Groups : List Item → Type 0
@@ -122,7 +126,7 @@ module _ (setting : Setting) (costly : IsCostly (graph_of setting)) (choice : �
     rest_components : components others ≡ inner_of items
     rest_components = components_of_each setting costly choice chosen lawful rest more
 
-    first_through : through (entries ++ others) (group_held d.bound w item)
+    pub first_through : through (entries ++ others) (group_held d.bound w item)
         ≡ through entries (group_held d.bound w item)
     first_through =
         through_alike d.bound w item (entries ++ others) entries one.group
@@ -132,22 +136,19 @@ module _ (setting : Setting) (costly : IsCostly (graph_of setting)) (choice : �
         (subst (λ l. Contains l v) (sym first_components) c))
         (variables_of item.body) (All-contains_itself (variables_of item.body)))
 
-    rest_through : Distinct (inner_of (item ∷ items))
+    pub rest_through : Distinct (inner_of (item ∷ items))
         → map (through (entries ++ others)) (group_helds d.bound w items)
         ≡ map (through others) (group_helds d.bound w items)
     rest_through distinct = each items more
         (distinct-across_rest items (λ v c. in_second (variables_of item.body) (inner_of items) v
         distinct c))
       where
-        abbrev Behind : Item → Type 0
-        Behind g = All (Avoids (components entries)) (variables_of g.body)
-
         distinct-across_rest : (gs : List Item)
             → ((v : Address) → Contains (inner_of gs) v → Avoids (variables_of item.body) v)
-            → All Behind gs
-        distinct-across_rest [] h = All-nil Behind
+            → All (AvoidsVariables entries) gs
+        distinct-across_rest [] h = All-nil (AvoidsVariables entries)
         distinct-across_rest (g ∷ gs) h =
-            All-cons Behind g gs
+            All-cons (AvoidsVariables entries) g gs
             (All-weaker (Contains (variables_of g.body)) (Avoids (components entries))
             (λ v c. subst (λ l. Avoids l v) (sym first_components)
             (h v (Contains-append_left (variables_of g.body) (inner_of gs) v c)))
@@ -155,7 +156,7 @@ module _ (setting : Setting) (costly : IsCostly (graph_of setting)) (choice : �
             (distinct-across_rest gs
             (λ v c. h v (Contains-append_right (variables_of g.body) (inner_of gs) v c)))
 
-        each : (gs : List Item) → Groups gs → All Behind gs
+        each : (gs : List Item) → Groups gs → All (AvoidsVariables entries) gs
             → map (through (entries ++ others)) (group_helds d.bound w gs)
             ≡ map (through others) (group_helds d.bound w gs)
         each [] here h = refl
@@ -166,9 +167,9 @@ module _ (setting : Setting) (costly : IsCostly (graph_of setting)) (choice : �
             (All-weaker (Avoids (components entries))
             (λ v. expression_in (entries ++ others) v ≡ expression_in others v)
             (λ v n. found_second entries others v n) (variables_of g.body)
-            (All-head Behind g gs h)))
+            (All-head (AvoidsVariables entries) g gs h)))
             (each gs (All-tail (IsGroupHere setting costly choice chosen lawful) g gs here)
-            (All-tail Behind g gs h))
+            (All-tail (AvoidsVariables entries) g gs h))
 
     -- no leaf variable of the one is mentioned by what stands for the other
     first_unseen : (v : Address) → Avoids (keys own no_keys first) v

@@ -7,4 +7,6 @@ pub mod LevelLaws
 pub mod NodeLaws
 pub mod DownLaws
 pub mod TreeLaws
+pub mod ShapeLaws
 pub mod StandLaws
+pub mod UpLaws

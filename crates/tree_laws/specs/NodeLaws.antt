@@ -1,6 +1,6 @@
 -- A bridged item and its children: what stands below the children stands for the item, by the law
 -- of its edge.
-use Rattle.std.specs.Prelude.{◌≡◌, ◌⊎◌, ◌+◌, ℕ, Bool, true, false, cond, List, [], ◌∷◌, ◌++◌, All, Contains, drop, length, map, take, refl}
+use Rattle.std.specs.Prelude.{◌≡◌, ◌⊎◌, ◌+◌, ℕ, suc, Bool, true, false, cond, List, [], ◌∷◌, ◌++◌, All, Contains, drop, length, map, take, refl}
 use Rattle.std.specs.List.{zip}
 use Rattle.std.proofs.Common.{arith, inl, inr, sym, ap, ap₂, subst, ◌∙◌, true≢false}
 use Rattle.std.proofs.lemmas.List.{length-append, length-drop, length-map, length-take}
@@ -36,7 +36,7 @@ use Rattle.address_laws.specs.ImageLaws.{Misses}
 use Rattle.address_laws.specs.KeyLaws.{IsHere, groups_apart, groups_here, groups_under, law_of, no_groups, once_in_tree, others_here, others_under, within_each, within_in}
 use Rattle.address_laws.specs.Keys.{Mine, keys, keys_in, keys_of_each, own}
 use Rattle.address_laws.specs.Regions.{AreApart}
-use Rattle.tree_laws.specs.Carried.{LeafDuals, StandFor, backs, carried, group_held, group_helds, leaf_helds, through}
+use Rattle.tree_laws.specs.Carried.{LeafDuals, StandFor, backs, group_held, group_helds, leaf_helds, through}
 use Rattle.tree_laws.specs.LevelLaws.{IsLevel, children, children_hold, level_stands, meets}
 use Rattle.tree_laws.specs.LookupLaws.{Missed, components, composed_misses}
 use Rattle.tree_laws.specs.PutLaws.{row_misses}
@@ -121,7 +121,7 @@ module _ (setting : Setting) (costly : IsCostly (graph_of setting)) (choice : �
         → length (backs d trees) ≡ length items
     unfolding backs
     length-backs none_in = refl
-    length-backs (each_in first rest) = ap (λ n. n + 1) (length-backs rest)
+    length-backs (each_in first rest) = ap suc (length-backs rest)
 
   module _ (item : Item) (here : IsHere setting costly choice chosen lawful item) (n : ℕ)
       (e : choice (kind_number (kind_of_body item.body)) ≡ By n) where
@@ -231,7 +231,7 @@ module _ (setting : Setting) (costly : IsCostly (graph_of setting)) (choice : �
           once_in_tree setting costly choice chosen lawful own no_keys variables_are (by e gs os)
           here
 
-      components_distinct : Distinct (inner_of groups)
+      pub components_distinct : Distinct (inner_of groups)
       components_distinct =
           inner_distinct groups
           (All-weaker (IsGroupHere setting costly choice chosen lawful)

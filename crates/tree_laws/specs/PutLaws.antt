@@ -39,8 +39,8 @@ negated_composed e f =
     (λ v. outer.coefficients v ∙ ap neg_ℚ (coefficient-composed address_order e f v)
     ∙ sym (slope_negated f (negated f) inner (λ u. coefficient (e u) v))
     ∙ sym (coefficient-composed address_order e (negated f) v))
-    (outer.constant ∙ ap neg_ℚ (constant-composed e f) ∙ sym values
-    ∙ sym (constant-composed e (negated f)))
+    (outer.constant ∙ ap neg_ℚ (constant-composed address_order e f) ∙ sym values
+    ∙ sym (constant-composed address_order e (negated f)))
   where
     outer : IsNegated (composed e f) (negated (composed e f))
     outer = is_negated address_order (composed e f) (negated (composed e f)) refl

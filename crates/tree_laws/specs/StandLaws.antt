@@ -23,12 +23,13 @@ use Rattle.address_laws.specs.Apart.{Distinct, distinct-first, distinct-second}
 use Rattle.address_laws.specs.DistinctLaws.{no_keys}
 use Rattle.address_laws.specs.ImageLaws.{Misses}
 use Rattle.address_laws.specs.Keys.{keys, keys_in, keys_of_each, own}
-use Rattle.tree_laws.specs.Carried.{LeafDuals, StandFor, back, backs, carried, group_held, group_helds, leaf_helds, through}
+use Rattle.tree_laws.specs.Carried.{LeafDuals, StandFor, back, backs, group_held, group_helds, leaf_helds, through}
 use Rattle.tree_laws.specs.DownLaws.{each_joined, first_balance, rest_balance, stand_itself}
 use Rattle.tree_laws.specs.LevelLaws.{IsLevel, duals_of_first, duals_of_second, group_duals, groups_balance, other_duals, others_zero, stand_leaves}
 use Rattle.tree_laws.specs.NodeLaws.{keys_under, left, left_rest, level, target, target_stands}
 use Rattle.tree_laws.specs.SeenLaws.{IsGroupHere, IsRowHere, groups_at, others_at}
-use Rattle.tree_laws.specs.TreeLaws.{first_zero, group_carries, native_group, native_row, outer_through, rest_missed, rest_zero, row_carries, row_quiet, row_through}
+use Rattle.tree_laws.specs.ShapeLaws.{last_back}
+use Rattle.tree_laws.specs.TreeLaws.{carried, first_zero, group_carries, native_group, native_row, outer_through, rest_missed, rest_zero, row_carries, row_quiet, row_through}
 
 module _ (setting : Setting) (costly : IsCostly (graph_of setting)) (choice : ℕ → Choice)
     (chosen : AreChoices setting choice) (lawful : AreLawful setting) (d : LeafDuals) where
@@ -180,38 +181,38 @@ module _ (setting : Setting) (costly : IsCostly (graph_of setting)) (choice : �
       (os : EachBridgedIn (rules_by choice) inner
       (others_at setting costly choice chosen lawful item is.here n e))
       (ready : RowReady (by e gs os)) where
-    abbrev row_dual : List Rational
-    row_dual = carried (edge_at n) item (backs d os)
+    abbrev carried_dual : List Rational
+    carried_dual = carried setting costly choice chosen lawful d item is n e (backs d os)
 
-    row_duals : DualsHold (leaf_helds d (leaves_of_each gs ++ leaves_in os))
+    carried_duals : DualsHold (leaf_helds d (leaves_of_each gs ++ leaves_in os))
     unfolding leaves
-    row_duals = ready.duals
+    carried_duals = ready.duals
 
     row_balance : (v : Address) → Contains (keys_of_each own no_keys gs ++ keys_in own no_keys os) v
         → adjoint (through inner (target setting costly choice chosen lawful d item is.here n e
-        inner gs os row_dual) ∷ []) v
+        inner gs os carried_dual) ∷ []) v
         ≡ adjoint (leaf_helds d (leaves_of_each gs ++ leaves_in os)) v
     unfolding leaves keys
     row_balance v c =
-        row_quiet setting costly choice chosen lawful d item is n e inner gs row_dual v
+        row_quiet setting costly choice chosen lawful d item is n e inner gs carried_dual v
         (keys_under setting costly choice chosen lawful d item is.here n e inner gs os v c)
         ∙ sym (ready.zero v c)
 
     abbrev row_level : IsLevel setting costly choice chosen lawful d
         (groups_at setting costly choice chosen lawful item is.here n e)
         (others_at setting costly choice chosen lawful item is.here n e) inner gs os
-        (target setting costly choice chosen lawful d item is.here n e inner gs os row_dual ∷ [])
-    row_level = level setting costly choice chosen lawful d item is.here n e inner gs os row_dual
-        row_duals row_balance
+        (target setting costly choice chosen lawful d item is.here n e inner gs os carried_dual ∷ [])
+    row_level = level setting costly choice chosen lawful d item is.here n e inner gs os carried_dual
+        carried_duals row_balance
 
     abbrev row_left : Address → Rational
-    row_left = left setting costly choice chosen lawful d item is.here n e inner gs os row_dual
-        row_duals row_balance
+    row_left = left setting costly choice chosen lawful d item is.here n e inner gs os carried_dual
+        carried_duals row_balance
 
     row_node_rows : RowsReady os
     row_node_rows = level_rows (groups_at setting costly choice chosen lawful item is.here n e)
         (others_at setting costly choice chosen lawful item is.here n e) inner gs os
-        (target setting costly choice chosen lawful d item is.here n e inner gs os row_dual ∷ [])
+        (target setting costly choice chosen lawful d item is.here n e inner gs os carried_dual ∷ [])
         row_level
 
     module _ (rows : StandFor (held d.bound (map (put_in inner)
@@ -221,10 +222,10 @@ module _ (setting : Setting) (costly : IsCostly (graph_of setting)) (choice : �
       row_node_groups = level_groups
           (groups_at setting costly choice chosen lawful item is.here n e)
           (others_at setting costly choice chosen lawful item is.here n e) inner gs os
-          (target setting costly choice chosen lawful d item is.here n e inner gs os row_dual ∷ [])
+          (target setting costly choice chosen lawful d item is.here n e inner gs os carried_dual ∷ [])
           row_level row_left
-          (left_rest setting costly choice chosen lawful d item is.here n e inner gs os row_dual
-          row_duals row_balance) rows
+          (left_rest setting costly choice chosen lawful d item is.here n e inner gs os carried_dual
+          carried_duals row_balance) rows
 
       row_node : StandFor (map (through inner) (group_helds d.bound row_left
           (groups_at setting costly choice chosen lawful item is.here n e)))
@@ -234,11 +235,11 @@ module _ (setting : Setting) (costly : IsCostly (graph_of setting)) (choice : �
       unfolding leaves back
       row_node below =
           subst (λ h. StandFor (h ∷ []) (leaf_helds d (leaves_of_each gs ++ leaves_in os)))
-          (row_through setting costly choice chosen lawful d item is n e inner gs row_dual)
-          (target_stands setting costly choice chosen lawful d item is.here n e inner gs os row_dual
-          row_duals row_balance
-          (λ duals rs o. row_carries setting costly choice chosen lawful d item is n e (backs d os)
-          duals rs o)
+          (row_through setting costly choice chosen lawful d item is n e inner gs carried_dual)
+          (target_stands setting costly choice chosen lawful d item is.here n e inner gs os carried_dual
+          carried_duals row_balance
+          (row_carries setting costly choice chosen lawful d item is n e (backs d os)
+          (last_back setting costly choice chosen lawful d item is n e inner gs os))
           rows below)
 
   module _ (item : Item) (is : GroupThere item) (n : ℕ)

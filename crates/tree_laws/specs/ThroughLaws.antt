@@ -134,7 +134,7 @@ module _ (entries : List Entry) where
       ∙ slope_agreeing f (seen_at entries v) (unit v)
       (λ u some. ap (λ g. coefficient g v) (h u some) ∙ coefficient_of_variable u v)
       ∙ coefficient_by_unit f v)
-      (constant-composed (function_in entries) f
+      (constant-composed address_order (function_in entries) f
       ∙ ap (λ q. f.constant +ℚ q)
       (slope_agreeing f (constants_in entries) (λ _. zero_ℚ)
       (λ u some. ap (λ (g : Function). g.constant) (h u some) ∙ variable_constant u)

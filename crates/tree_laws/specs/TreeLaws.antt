@@ -37,7 +37,7 @@ use Rattle.address_laws.specs.DistinctLaws.{no_keys, variables_are}
 use Rattle.address_laws.specs.ImageLaws.{Misses}
 use Rattle.address_laws.specs.KeyLaws.{IsHere, groups_apart, groups_here, groups_under, once_in_each, once_in_tree, within}
 use Rattle.address_laws.specs.Keys.{Mine, keys, keys_in, keys_of_each, own}
-use Rattle.tree_laws.specs.Carried.{LeafDuals, StandFor, back, backs, carried, group_held, group_helds, leaf_held, leaf_helds, through}
+use Rattle.tree_laws.specs.Carried.{LeafDuals, StandFor, back, backs, group_held, group_helds, leaf_held, leaf_helds, row_dual, through}
 use Rattle.tree_laws.specs.DownLaws.{each_joined, first_balance, group_through, rest_balance, stand_itself}
 use Rattle.tree_laws.specs.LevelLaws.{adjoint_of_leaves, duals_of_first, duals_of_second, groups_balance, group_duals, groups_weigh, leaf_missed, other_duals, others_zero, stand_leaves}
 use Rattle.tree_laws.specs.LookupLaws.{components, given_lookup, itself, own_lookup}
@@ -59,7 +59,7 @@ own_functions vars (v ∷ vs) =
     ap₂ ◌∷◌ (ap expressed (own_lookup vars v)) (own_functions vars vs)
 
 -- a native group's variables stand for themselves
-native_through : (bound : Rational) (w : Address → Rational) (g : Item) → is_group g.body ≡ true
+pub native_through : (bound : Rational) (w : Address → Rational) (g : Item) → is_group g.body ≡ true
     → through (own_entries g) (group_held bound w g) ≡ group_held bound w g
 native_through bound w g h =
     ap (λ b. through (cond b
@@ -75,13 +75,13 @@ leaf_group : (d : LeafDuals) (g : Item) → is_group g.body ≡ true
     → leaf_held d g ≡ group_held d.bound d.numbers g
 leaf_group d g h =
     ap (λ b. held_body d.bound g.body
-    (cond b (map d.numbers (variables_of g.body)) (d.duals g.at))) h
+    (cond b (map d.numbers (variables_of g.body)) (row_dual d g))) h
 
 leaf_row : (d : LeafDuals) (c : Item) → is_group c.body ≡ false
-    → leaf_held d c ≡ held_body d.bound c.body (d.duals c.at)
+    → leaf_held d c ≡ held_body d.bound c.body (row_dual d c)
 leaf_row d c h =
     ap (λ b. held_body d.bound c.body
-    (cond b (map d.numbers (variables_of c.body)) (d.duals c.at))) h
+    (cond b (map d.numbers (variables_of c.body)) (row_dual d c))) h
 
 same_numbers : (w z : Address → Rational) (vars : List Address) → All (λ v. w v ≡ z v) vars
     → map w vars ≡ map z vars
@@ -107,7 +107,7 @@ looked_up : (entries : List Entry) (vars : List Address)
 looked_up entries [] = refl
 looked_up entries (v ∷ vs) = ap (λ fs. function_in entries v ∷ fs) (looked_up entries vs)
 
-no_objective : (b : Body) → is_group b ≡ true → is_objective b ≡ false
+pub no_objective : (b : Body) → is_group b ≡ true → is_objective b ≡ false
 no_objective (Group set vars) h = refl
 no_objective (Free vars) h = refl
 no_objective (Plain var set) h = refl
@@ -165,7 +165,7 @@ module _ (setting : Setting) (costly : IsCostly (graph_of setting)) (choice : �
           (variables_of g.body) (All-contains_itself (variables_of g.body))
 
   pub native_row : (c : Item) → RowThere c → DualsHold (leaf_helds d (c ∷ []))
-      → StandFor (held_body d.bound c.body (d.duals c.at) ∷ []) (leaf_helds d (c ∷ []))
+      → StandFor (held_body d.bound c.body (row_dual d c) ∷ []) (leaf_helds d (c ∷ []))
   native_row c is duals =
       subst (λ h. StandFor (h ∷ []) (leaf_helds d (c ∷ []))) (leaf_row d c is.row)
       (stand_itself (leaf_helds d (c ∷ [])) duals)
@@ -233,7 +233,7 @@ module _ (setting : Setting) (costly : IsCostly (graph_of setting)) (choice : �
         (child_groups_here setting costly choice chosen lawful item is.here n e)
         (groups_under setting costly choice chosen lawful item is.here.can n e)
 
-    misses : (v : Address) → Below v → Miss (row_functions item.body) v
+    pub misses : (v : Address) → Below v → Miss (row_functions item.body) v
     misses v b =
         row_misses item.body v
         (row_misses_below setting costly choice chosen lawful item is b.0 v b.1)
@@ -248,7 +248,7 @@ module _ (setting : Setting) (costly : IsCostly (graph_of setting)) (choice : �
           components_of_each setting costly choice chosen lawful gs
           (child_groups_here setting costly choice chosen lawful item is.here n e)
 
-      all_untouched : (fs : List Function)
+      pub all_untouched : (fs : List Function)
           → ((v : Address) → Below v → Miss fs v) → map (composed (function_in inner)) fs ≡ fs
       all_untouched [] h = refl
       all_untouched (f ∷ fs) h =
@@ -286,21 +286,28 @@ module _ (setting : Setting) (costly : IsCostly (graph_of setting)) (choice : �
           (All-cons (HeldMisses v) (held_body d.bound item.body w) [] (misses v b)
           (All-nil (HeldMisses v)))
 
-    pub row_carries : (ys : List (List Rational)) (duals : ChildDuals)
+    -- what is carried to a row or an objective
+    abbrev pub carried : List (List Rational) → List Rational
+    carried ys =
+        cond (is_objective item.body) d.objective
+        (back_of (edge_at n) item (take (length (image_of (edge_at n) item).rows) ys))
+
+    pub row_carries : (ys : List (List Rational))
+        → (is_objective item.body ≡ true
+        → first_of (drop (length (image_of (edge_at n) item).rows) ys) ≡ d.objective)
+        → (duals : ChildDuals)
         → duals.rows ≡ take (length (image_of (edge_at n) item).rows) ys
         → duals.objective ≡ drop (length (image_of (edge_at n) item).rows) ys
-        → Carries (edge_at n) item duals (carried (edge_at n) item ys)
-    row_carries ys duals rows objective = record {
+        → Carries (edge_at n) item duals (carried ys)
+    row_carries ys last duals rows objective = record {
       by_rule = λ row o.
-          ap (λ b. cond b
-          (first_of (drop (length (image_of (edge_at n) item).rows) ys))
+          ap (λ b. cond b d.objective
           (back_of (edge_at n) item (take (length (image_of (edge_at n) item).rows) ys))) o
           ∙ ap (back_of (edge_at n) item) (sym rows);
       by_objective = λ o.
-          ap (λ b. cond b
-          (first_of (drop (length (image_of (edge_at n) item).rows) ys))
+          ap (λ b. cond b d.objective
           (back_of (edge_at n) item (take (length (image_of (edge_at n) item).rows) ys))) o
-          ∙ ap first_of (sym objective);
+          ∙ sym (ap first_of objective ∙ last o);
       by_component = λ g. absurd (true≢false (sym g ∙ is.row));
     }
 
