@@ -1,30 +1,26 @@
 -- In the fresh bridging of a valid model each leaf and each node stands at an address of its own.
-use Rattle.std.specs.Prelude.{◌≡◌, ◌≢◌, ◌⊎◌, ◌+◌, ◌<◌, ℕ, zero, suc, Bool, true, false, cond, List, [], ◌∷◌, ◌++◌, All, Contains, flat_map, length, map, refl}
+use Rattle.std.specs.Prelude.{◌≡◌, ◌⊎◌, ◌<◌, ℕ, zero, suc, List, [], ◌∷◌, ◌++◌, All, Contains, flat_map, map, refl}
 use Rattle.std.specs.Map.{keys_of}
 use Rattle.std.proofs.Common.{arith, inl, inr, sym, ap, ap₂, subst, ◌∙◌}
 use Rattle.std.proofs.lemmas.Grind.{flat_map-append}
 use Rattle.std.proofs.lemmas.List.{append-nil, map-append}
 use Rattle.std.proofs.lemmas.List.Elements.{All-append, All-cons, All-head, All-map, All-nil, All-contains_itself, All-tail, All-weaker, Contains-append_left, Contains-append_right}
 use Rattle.bridge_graph.specs.Hypergraph.{IsCostly}
-use Rattle.bridge_graph.specs.declared.Choice.{Choice}
 use Rattle.expansion.specs.Bridged.{Bridged, EachBridged, EachBridgedIn, by, each, each_in, natively, none, none_in}
 use Rattle.expansion.specs.Read.{leaves, leaves_in, leaves_of_each, model_leaves, model_nodes, nodes, nodes_in, nodes_of_each}
 use Rattle.expansion.specs.Rules.{Rules}
-use Rattle.set_core.specs.declared.set.Set.{Set}
-use Rattle.aff_core.specs.Address.{Address, root_address, root_number}
-use Rattle.aff_core.specs.declared.root.Root.{Root}
+use Rattle.aff_core.specs.Address.{Address, root_number}
 use Rattle.aff_core.specs.declared.root.Root.TheVariants as root
 use Rattle.item_core.specs.declared.item.Body.{Body}
 use Rattle.item_core.specs.declared.item.Body.TheVariants.{Group, Free, Plain, Affine, PlainVec, AffineVec, PlainObj, AffineObj}
 use Rattle.item_core.specs.declared.item.Item.{Item}
-use Rattle.item_core.specs.Item.{is_group, variables_of}
 use Rattle.numbered.specs.Laws.{Rise-head, Rise-tail}
 use Rattle.numbered.specs.Numbered.{Rise}
 use Rattle.solver_store.specs.declared.leaf.LeafVar.TheVariants as leaf
 use Rattle.user_model.specs.Consistent.{variable_number}
 use Rattle.user_model.specs.Edited.{group_number, row_number}
 use Rattle.user_model.specs.Model.{ModelValue, variable_address, variables}
-use Rattle.user_model.specs.Valid.{IsValid, IsValidGroup}
+use Rattle.user_model.specs.Valid.{IsValid}
 use Rattle.user_model.specs.declared.group.Group.{Group as UserGroup}
 use Rattle.user_model.specs.declared.group.GroupVar.{GroupVar}
 use Rattle.user_model.specs.declared.objective.Objective.{Objective}
@@ -34,12 +30,12 @@ use Rattle.fresh_bridging.specs.CanLaws.{AreLawful, Can}
 use Rattle.fresh_bridging.specs.EachLaws.{all_both}
 use Rattle.fresh_bridging.specs.Entries.{Entry, put_in}
 use Rattle.fresh_bridging.specs.ExistenceLaws.{groups_can_all, others_can_all, trees_of_bridged}
-use Rattle.fresh_bridging.specs.FreshBridging.{FreshBridging, HasTree, leaves_of, nodes_of}
+use Rattle.fresh_bridging.specs.FreshBridging.{FreshBridging, HasTree}
 use Rattle.fresh_bridging.specs.Leaves.{leaf_objectives, leaf_rows, leaf_variable, leaf_variables}
 use Rattle.fresh_bridging.specs.ModelImage.{group_item, model_image, objective_item, objective_items, row_item}
 use Rattle.fresh_bridging.specs.ModelLaws.{IsFurther, further, not_owned}
-use Rattle.fresh_bridging.specs.OmitLaws.{IsBelow, IsGroup, Owns}
-use Rattle.fresh_bridging.specs.TheRules.{Setting, graph_of, rules_by}
+use Rattle.fresh_bridging.specs.OmitLaws.{IsBelow, IsGroup}
+use Rattle.fresh_bridging.specs.TheRules.{Setting, graph_of}
 use Rattle.address_laws.specs.Apart.{Avoids, Distinct, avoids, distinct-append, distinct-first, distinct-second, in_first, not_in}
 use Rattle.address_laws.specs.Distinct.{EachApart}
 use Rattle.address_laws.specs.KeyLaws.{AreKeys, IsHere, avoid_in, itself_below, once_in_each, once_in_others, other_below, own_none, within_each}
@@ -75,7 +71,7 @@ split_vars g gs = map-append (λ v. variable_address v.number) g.vars (flat_map 
 
 -- ---- groups are apart
 
-numbered_root : (vars : List GroupVar) (v : Address) → Contains (numbered vars) v
+pub numbered_root : (vars : List GroupVar) (v : Address) → Contains (numbered vars) v
     → v.root ≡ root.Variable
 numbered_root [] v (place, inside, is) = absurd (omega (arith, inside))
 numbered_root (x ∷ xs) v (zero, inside, is) = ap (λ (u : Address). u.root) (sym is)

@@ -1,14 +1,14 @@
 -- The addresses of what stands below an item are the item's, and each stands once.
-use Rattle.std.specs.Prelude.{◌≡◌, ◌+◌, ◌<◌, ℕ, zero, suc, Bool, true, false, cond, List, [], ◌∷◌, ◌++◌, All, Contains, length, map, refl}
+use Rattle.std.specs.Prelude.{◌≡◌, ◌+◌, ◌<◌, ℕ, zero, suc, true, false, cond, List, [], ◌∷◌, ◌++◌, All, Contains, length, map, refl}
 use Rattle.std.specs.List.{range_with_len}
-use Rattle.std.proofs.Common.{arith, inl, inr, sym, ap, subst, ◌∙◌, true≢false}
+use Rattle.std.proofs.Common.{arith, inl, inr, sym, ap, subst, ◌∙◌}
 use Rattle.std.proofs.lemmas.List.{append-nil, length-append}
-use Rattle.std.proofs.lemmas.List.Elements.{All-append, All-cons, All-contains, All-head, All-nil, All-tail, All-weaker}
+use Rattle.std.proofs.lemmas.List.Elements.{All-append, All-cons, All-head, All-nil, All-tail, All-weaker}
 use Rattle.bridge_graph.specs.Hypergraph.{IsCostly}
 use Rattle.bridge_graph.specs.declared.Choice.{Choice}
 use Rattle.bridge_graph.specs.declared.Choice.TheVariants.{By}
 use Rattle.expansion.specs.Bridged.{Bridged, EachBridged, EachBridgedIn, by, each, each_in, natively, none, none_in}
-use Rattle.expansion.specs.Ranks.{IsRanked, RanksBelow}
+use Rattle.expansion.specs.Ranks.{RanksBelow}
 use Rattle.aff_core.specs.Address.{Address, child_of}
 use Rattle.item_core.specs.declared.item.Item.{Item}
 use Rattle.item_core.specs.Item.{is_group, variables_of}
@@ -17,12 +17,11 @@ use Rattle.item_core.specs.KindOf.{kind_of_body}
 use Rattle.item_core.specs.Valid.{below}
 use Rattle.bridge_face.specs.ImageOf.{image_of}
 use Rattle.bridge_face.specs.Law.{EdgeLaw, HasComponents, listed}
-use Rattle.fresh_bridging.specs.BodyLaws.{functions_put}
 use Rattle.fresh_bridging.specs.CanLaws.{AreLawful, Can, law, rank_of}
 use Rattle.fresh_bridging.specs.EachLaws.{StandsFrom, all_both, all_first, all_second, stand_from}
-use Rattle.fresh_bridging.specs.Entries.{Entry, put_in, put_in_body}
-use Rattle.fresh_bridging.specs.ExistenceLaws.{group_put, ranked}
-use Rattle.fresh_bridging.specs.OmitLaws.{IsBelow, IsBelowAt, IsGroup, apart, below_child, child_groups, groups_are}
+use Rattle.fresh_bridging.specs.Entries.{Entry, put_in}
+use Rattle.fresh_bridging.specs.ExistenceLaws.{ranked}
+use Rattle.fresh_bridging.specs.OmitLaws.{IsBelow, IsBelowAt, apart, groups_are}
 use Rattle.fresh_bridging.specs.TheRules.{AreChoices, Setting, edge_at, graph_of, rules_by}
 use Rattle.address_laws.specs.Apart.{Avoids, Distinct, distinct-append}
 use Rattle.address_laws.specs.ImageLaws.{others_alone}

@@ -1,11 +1,11 @@
 -- What is carried along a bridging: from duals of the leaves to duals of the items.
-use Rattle.std.specs.Prelude.{◌≡◌, ◌≤◌, ℕ, cond, List, [], ◌∷◌, ◌++◌, All, length, map, take}
+use Rattle.std.specs.Prelude.{◌≡◌, cond, List, [], ◌∷◌, length, map, take}
 use Rattle.ratio_core.specs.Rational.{Rational, ◌≤ℚ◌}
 use Rattle.aff_core.specs.Address.{Address}
 use Rattle.aff_core.specs.Arithmetic.{composed}
 use Rattle.aff_core.specs.Function.{coefficient, slope}
-use Rattle.dual_laws.specs.Held.{DualsHold, Held, IsHeld, adjoint, adjoint_of, gap, gap_of}
-use Rattle.expansion.specs.Bridged.{Bridged, EachBridged, EachBridgedIn, by, each, each_in, natively, none, none_in}
+use Rattle.dual_laws.specs.Held.{DualsHold, Held, adjoint, gap}
+use Rattle.expansion.specs.Bridged.{Bridged, EachBridgedIn, by, each_in, natively, none_in}
 use Rattle.expansion.specs.Rules.{Rules}
 use Rattle.item_core.specs.declared.item.Item.{Item}
 use Rattle.item_core.specs.Item.{is_group, variables_of}

@@ -1,50 +1,35 @@
 -- Duals down a bridging: what stands below an item stands for it, where the leaves' duals hold and
 -- balance at the leaf variables below.
-use Rattle.std.specs.Prelude.{◌≡◌, ◌+◌, ℕ, Bool, true, false, cond, List, [], ◌∷◌, ◌++◌, All, Contains, drop, length, map, take, refl}
-use Rattle.std.specs.List.{zip}
+use Rattle.std.specs.Prelude.{◌≡◌, ℕ, true, List, [], ◌∷◌, ◌++◌, All, Contains, map, refl}
 use Rattle.std.proofs.Common.{sym, ap, ap₂, subst, ◌∙◌, true≢false}
-use Rattle.std.proofs.lemmas.List.{length-map, map-append}
-use Rattle.std.proofs.lemmas.List.Elements.{All-append, All-cons, All-contains, All-contains_itself, All-head, All-map, All-nil, All-tail, All-weaker, Contains-append_left, Contains-append_right}
+use Rattle.std.proofs.lemmas.List.Elements.{All-cons, All-contains_itself, All-head, All-map, All-nil, All-tail, All-weaker, Contains-append_left, Contains-append_right}
 use Rattle.bridge_graph.specs.Hypergraph.{IsCostly}
 use Rattle.bridge_graph.specs.declared.Choice.{Choice}
-use Rattle.bridge_graph.specs.declared.Choice.TheVariants.{By}
-use Rattle.expansion.specs.Bridged.{Bridged, EachBridged, EachBridgedIn, by, each, each_in, natively, none, none_in}
-use Rattle.expansion.specs.Read.{leaves, leaves_in, leaves_of_each}
+use Rattle.expansion.specs.Bridged.{Bridged, EachBridged, each}
+use Rattle.expansion.specs.Read.{leaves, leaves_of_each}
 use Rattle.ratio_core.specs.Rational.{Rational, zero_ℚ, ◌+ℚ◌}
 use Rattle.rational_laws.specs.Field.{+ℚ-zero, zero-+ℚ}
 use Rattle.rational_laws.specs.Order.{≤ℚ_refl}
 use Rattle.aff_core.specs.Address.{Address, address_cmp}
 use Rattle.aff_core.specs.Arithmetic.{composed}
 use Rattle.aff_core.specs.Function.{Function, coefficient, variable}
-use Rattle.aff_core.specs.FunctionLaws.{coefficient-variable_other}
-use Rattle.aff_core.specs.KeyOrder.{address_order}
-use Rattle.linear_laws.specs.UnitLaws.{same_or_other}
-use Rattle.dual_laws.specs.Held.{DualsHold, Held, IsHeld, adjoint, adjoint_of, gap}
-use Rattle.item_core.specs.declared.image.Expression.{Expression}
-use Rattle.item_core.specs.declared.image.Expression.TheVariants.{Kept, Bridged as Made}
+use Rattle.dual_laws.specs.Held.{DualsHold, Held, adjoint, adjoint_of, gap}
 use Rattle.item_core.specs.declared.item.Item.{Item}
-use Rattle.item_core.specs.Item.{functions_of, is_group, variables_of}
-use Rattle.item_core.specs.Kind.{kind_number}
-use Rattle.item_core.specs.KindOf.{kind_of_body}
-use Rattle.bridge_face.specs.BackOf.{back_of, first_of}
-use Rattle.bridge_face.specs.ImageOf.{image_of}
-use Rattle.bridge_face.specs.Law.{Carries, ChildDuals, Miss, expressed, held, held_body, held_item, inner_of, is_objective, row_functions, row_set}
+use Rattle.item_core.specs.Item.{is_group, variables_of}
+use Rattle.bridge_face.specs.Law.{Miss, expressed, inner_of}
 use Rattle.fresh_bridging.specs.CanLaws.{AreLawful}
-use Rattle.fresh_bridging.specs.EachLaws.{all_first, all_second}
-use Rattle.fresh_bridging.specs.Entries.{Entry, expression_in, function_in, put_in, put_into}
+use Rattle.fresh_bridging.specs.Entries.{Entry, expression_in, function_in}
 use Rattle.fresh_bridging.specs.MentionLaws.{composed-variable}
-use Rattle.fresh_bridging.specs.TheRules.{AreChoices, Setting, edge_at, graph_of, outer_entries, own_entries, rules_by}
-use Rattle.address_laws.specs.Apart.{Avoids, Distinct, distinct-across, distinct-first, distinct-second, in_first, in_or_not, in_second}
+use Rattle.fresh_bridging.specs.TheRules.{AreChoices, Setting, graph_of, rules_by}
+use Rattle.address_laws.specs.Apart.{Avoids, Distinct, in_first, in_second}
 use Rattle.address_laws.specs.DistinctLaws.{no_keys}
-use Rattle.address_laws.specs.ImageLaws.{Misses}
-use Rattle.address_laws.specs.Keys.{keys, keys_in, keys_of_each, own}
-use Rattle.tree_laws.specs.Carried.{LeafDuals, StandFor, back, backs, carried, group_held, group_helds, leaf_held, leaf_helds, through}
-use Rattle.tree_laws.specs.LevelLaws.{GroupHere, RowHere, adjoint_of_leaves, duals_of_first, duals_of_second, groups_balance, group_duals, leaf_missed, other_duals, others_zero, stand_leaves}
-use Rattle.tree_laws.specs.LookupLaws.{Missed, components, composed_misses, found_first, found_omits, found_second, given, given_lookup, itself, own_lookup}
-use Rattle.tree_laws.specs.NodeLaws.{left, left_rest, level, one_stands, target, target_stands}
+use Rattle.address_laws.specs.Keys.{keys, keys_of_each, own}
+use Rattle.tree_laws.specs.Carried.{LeafDuals, StandFor, group_held, group_helds, leaf_helds, through}
+use Rattle.tree_laws.specs.LevelLaws.{adjoint_of_leaves, leaf_missed, stand_leaves}
+use Rattle.tree_laws.specs.LookupLaws.{components, found_first, found_omits, found_second}
 use Rattle.tree_laws.specs.PutLaws.{group_row_functions}
-use Rattle.tree_laws.specs.SeenLaws.{IsGroupHere, IsRowHere, child_groups_here, child_rows_here, components_of, components_of_each, exprs_count, leaves_in_miss, leaves_miss, leaves_of_each_miss, omit_each, omit_tree, own_is}
-use Rattle.tree_laws.specs.ThroughLaws.{HeldMisses, adjoints_missed, untouched}
+use Rattle.tree_laws.specs.SeenLaws.{IsGroupHere, components_of, components_of_each, leaves_miss, leaves_of_each_miss, omit_each, omit_tree}
+use Rattle.tree_laws.specs.ThroughLaws.{HeldMisses, adjoints_missed}
 
 -- ---- what stands for itself
 

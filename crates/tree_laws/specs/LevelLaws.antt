@@ -1,14 +1,14 @@
 -- One level of a bridging: groups, and further children with the groups' expressions put in. What
 -- stands below the children stands for them where it balances what is above.
-use Rattle.std.specs.Prelude.{◌≡◌, ◌⊎◌, ◌+◌, ℕ, Bool, true, false, cond, List, [], ◌∷◌, ◌++◌, All, Contains, length, map, refl}
+use Rattle.std.specs.Prelude.{◌≡◌, ◌⊎◌, ℕ, true, false, List, [], ◌∷◌, ◌++◌, All, Contains, map}
 use Rattle.std.proofs.Common.{inl, inr, sym, ap, ap₂, subst, ◌∙◌}
 use Rattle.std.proofs.lemmas.List.{map-append}
-use Rattle.std.proofs.lemmas.List.Elements.{All-append, All-cons, All-head, All-map, All-nil, All-tail, All-weaker, Contains-append_left, Contains-append_right}
+use Rattle.std.proofs.lemmas.List.Elements.{All-head, All-map, All-tail, All-weaker, Contains-append_left, Contains-append_right}
 use Rattle.bridge_graph.specs.Hypergraph.{IsCostly}
 use Rattle.bridge_graph.specs.declared.Choice.{Choice}
 use Rattle.expansion.specs.Bridged.{EachBridged, EachBridgedIn}
 use Rattle.expansion.specs.Read.{leaves_in, leaves_of_each}
-use Rattle.ratio_core.specs.Rational.{Rational, one_ℚ, zero_ℚ, ◌*ℚ◌, ◌+ℚ◌}
+use Rattle.ratio_core.specs.Rational.{Rational, zero_ℚ, ◌*ℚ◌, ◌+ℚ◌}
 use Rattle.rational_laws.specs.Dot.{dot}
 use Rattle.rational_laws.specs.Field.{*ℚ-zero, *ℚ_comm, +ℚ-*ℚ, +ℚ-zero, +ℚ_cancel, one-*ℚ, zero-*ℚ, zero-+ℚ}
 use Rattle.aff_core.specs.Address.{Address, address_cmp}
@@ -20,25 +20,25 @@ use Rattle.aff_core.specs.Points.{unit}
 use Rattle.linear_laws.specs.ListLaws.{slope_variable}
 use Rattle.linear_laws.specs.SlopeLaws.{coefficient_by_unit}
 use Rattle.linear_laws.specs.SupportLaws.{count}
-use Rattle.linear_laws.specs.UnitLaws.{same_or_other, unit_other, unit_same}
+use Rattle.linear_laws.specs.UnitLaws.{same_or_other, unit_other}
 use Rattle.rational_laws.specs.Sums.{sum_by_ℚ-append}
-use Rattle.dual_laws.specs.Held.{DualsHold, Held, IsHeld, adjoint, adjoint_of, pull}
+use Rattle.dual_laws.specs.Held.{DualsHold, Held, IsHeld, adjoint, adjoint_of}
 use Rattle.dual_laws.specs.PullLaws.{adjoint-append}
 use Rattle.item_core.specs.declared.item.Item.{Item}
-use Rattle.item_core.specs.Item.{functions_of, is_group, variables_of}
+use Rattle.item_core.specs.Item.{is_group, variables_of}
 use Rattle.bridge_face.specs.Law.{expressed, held, inner_of}
 use Rattle.fresh_bridging.specs.CanLaws.{AreLawful}
 use Rattle.fresh_bridging.specs.EachLaws.{all_first, all_second}
-use Rattle.fresh_bridging.specs.Entries.{Entry, expression_in, function_in, put_in}
+use Rattle.fresh_bridging.specs.Entries.{Entry, put_in}
 use Rattle.fresh_bridging.specs.TheRules.{AreChoices, Setting, graph_of, rules_by}
-use Rattle.address_laws.specs.Apart.{Avoids, Distinct, counted_never, counted_once, in_first, in_or_not, in_second}
+use Rattle.address_laws.specs.Apart.{Avoids, Distinct, counted_never, counted_once, in_or_not, in_second}
 use Rattle.address_laws.specs.DistinctLaws.{no_keys}
 use Rattle.address_laws.specs.ImageLaws.{Misses}
 use Rattle.address_laws.specs.Keys.{keys_in, keys_of_each, own}
 use Rattle.tree_laws.specs.Carried.{LeafDuals, StandFor, backs, group_held, group_helds, leaf_held, leaf_helds, seen_at, through}
 use Rattle.tree_laws.specs.LookupLaws.{components, itself}
 use Rattle.tree_laws.specs.PutLaws.{all_put, group_row_functions, row_misses}
-use Rattle.tree_laws.specs.SeenLaws.{IsGroupHere, IsRowHere, components_of_each, leaves_in_miss, leaves_of_each_miss}
+use Rattle.tree_laws.specs.SeenLaws.{IsGroupHere, IsRowHere, components_of_each, leaves_of_each_miss}
 use Rattle.tree_laws.specs.ThroughLaws.{HeldMisses, adjoints_missed, adjoints_through, duals_from_through, pull_alike, stand_both}
 
 -- ---- leaves
@@ -103,6 +103,13 @@ weighed_variables w (a ∷ vars) v =
     ap₂ ◌+ℚ◌ (weighed_variable w a v) (weighed_variables w vars v)
     ∙ sym (+ℚ-*ℚ (unit a v) (count vars v) (w v))
 
+pub weighed_group : (bound : Rational) (w : Address → Rational) (g : Item) (v : Address)
+    → is_group g.body ≡ true
+    → adjoint_of (group_held bound w g) v ≡ count (variables_of g.body) v *ℚ w v
+weighed_group bound w g v h =
+    ap (λ fs. dot (map w (variables_of g.body)) (coefficients fs v)) (group_row_functions g.body h)
+    ∙ weighed_variables w (variables_of g.body) v
+
 -- groups weigh a variable by its number, as often as it stands there
 pub groups_weigh : (bound : Rational) (w : Address → Rational) (groups : List Item) (v : Address)
     → All (λ g. is_group g.body ≡ true) groups
@@ -110,9 +117,7 @@ pub groups_weigh : (bound : Rational) (w : Address → Rational) (groups : List 
 groups_weigh bound w [] v h = sym (zero-*ℚ (w v))
 groups_weigh bound w (g ∷ groups) v h =
     ap₂ ◌+ℚ◌
-    (ap (λ fs. dot (map w (variables_of g.body)) (coefficients fs v))
-    (group_row_functions g.body (All-head (λ x. is_group x.body ≡ true) g groups h))
-    ∙ weighed_variables w (variables_of g.body) v)
+    (weighed_group bound w g v (All-head (λ x. is_group x.body ≡ true) g groups h))
     (groups_weigh bound w groups v (All-tail (λ x. is_group x.body ≡ true) g groups h))
     ∙ sym (+ℚ-*ℚ (count (variables_of g.body) v) (count (inner_of groups) v) (w v))
     ∙ ap (λ q. q *ℚ w v)

@@ -9,4 +9,12 @@ pub mod DownLaws
 pub mod TreeLaws
 pub mod ShapeLaws
 pub mod StandLaws
+pub mod ObjectiveLaws
 pub mod UpLaws
+pub mod LeafLaws
+pub mod UserLaws
+pub mod PrimalLaws
+pub mod Certificate
+pub mod OwnLaws
+pub mod ObjectivePart
+pub mod GoodLaws

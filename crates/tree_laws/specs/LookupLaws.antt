@@ -1,9 +1,9 @@
 -- What stands for a variable in lists of entries.
-use Rattle.std.specs.Prelude.{◌≡◌, ◌⊎◌, ◌+◌, ℕ, zero, suc, Bool, true, false, cond, List, [], ◌∷◌, ◌++◌, All, Contains, Some, find, length, map, refl}
+use Rattle.std.specs.Prelude.{◌≡◌, ◌⊎◌, zero, suc, Bool, true, false, cond, List, [], ◌∷◌, ◌++◌, Contains, Some, find, length, map, refl}
 use Rattle.std.specs.List.{zip}
 use Rattle.std.specs.Option.{option_map_or}
-use Rattle.std.proofs.Common.{arith, inl, inr, sym, ap, ap₂, subst, ◌∙◌, true≢false}
-use Rattle.std.proofs.lemmas.List.Elements.{All-cons, All-head, All-nil, All-tail, All-weaker}
+use Rattle.std.proofs.Common.{arith, inl, inr, sym, ap, ap₂, subst, ◌∙◌}
+use Rattle.std.proofs.lemmas.List.Elements.{All-head, All-tail}
 use Rattle.ratio_core.specs.Rational.{zero_ℚ}
 use Rattle.aff_core.specs.Address.{Address, address_cmp, address_eq, address_eq-Decides}
 use Rattle.aff_core.specs.Arithmetic.{composed}
@@ -15,7 +15,7 @@ use Rattle.linear_laws.specs.SlopeLaws.{slope_agreeing}
 use Rattle.linear_laws.specs.UnitLaws.{same_or_other}
 use Rattle.item_core.specs.declared.image.Expression.{Expression}
 use Rattle.item_core.specs.declared.image.Expression.TheVariants.{Kept, Bridged}
-use Rattle.bridge_face.specs.Law.{Miss, expressed}
+use Rattle.bridge_face.specs.Law.{expressed}
 use Rattle.fresh_bridging.specs.Entries.{Entry, expression_in, function_in, put_into}
 use Rattle.fresh_bridging.specs.MentionLaws.{AllOmit, Omits, composed-variable, slope_zero}
 use Rattle.address_laws.specs.Apart.{Avoids, Distinct, in_or_not, not_in}

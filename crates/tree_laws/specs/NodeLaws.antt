@@ -1,8 +1,7 @@
 -- A bridged item and its children: what stands below the children stands for the item, by the law
 -- of its edge.
 use Rattle.std.specs.Prelude.{◌≡◌, ◌⊎◌, ◌+◌, ℕ, suc, Bool, true, false, cond, List, [], ◌∷◌, ◌++◌, All, Contains, drop, length, map, take, refl}
-use Rattle.std.specs.List.{zip}
-use Rattle.std.proofs.Common.{arith, inl, inr, sym, ap, ap₂, subst, ◌∙◌, true≢false}
+use Rattle.std.proofs.Common.{arith, inl, inr, sym, ap, ap₂, subst, ◌∙◌}
 use Rattle.std.proofs.lemmas.List.{length-append, length-drop, length-map, length-take}
 use Rattle.std.proofs.lemmas.List.Elements.{All-append, All-cons, All-contains, All-contains_itself, All-head, All-map, All-nil, All-tail, All-weaker}
 use Rattle.bridge_graph.specs.Hypergraph.{IsCostly}
@@ -14,19 +13,16 @@ use Rattle.ratio_core.specs.Rational.{Rational, zero_ℚ, ◌+ℚ◌, ◌-ℚ◌
 use Rattle.rational_laws.specs.Field.{+ℚ-zero, -ℚ-+ℚ_cancel}
 use Rattle.aff_core.specs.Address.{Address}
 use Rattle.aff_core.specs.Arithmetic.{composed}
-use Rattle.aff_core.specs.Function.{Function, coefficient}
+use Rattle.aff_core.specs.Function.{coefficient}
 use Rattle.dual_laws.specs.Held.{DualsHold, Held, IsHeld, adjoint, adjoint_of, gap, gap_of}
-use Rattle.item_core.specs.declared.edge.Edge.{Edge}
 use Rattle.item_core.specs.declared.image.Image.{Image}
 use Rattle.item_core.specs.declared.item.Item.{Item}
 use Rattle.item_core.specs.Item.{functions_of, is_group, variables_of}
 use Rattle.item_core.specs.Kind.{kind_number}
 use Rattle.item_core.specs.KindOf.{kind_of_body}
-use Rattle.bridge_face.specs.BackOf.{back_of, first_of}
 use Rattle.bridge_face.specs.ImageOf.{image_of}
-use Rattle.bridge_face.specs.Law.{Carries, ChildDuals, IsCovered, Miss, expressed, held, held_body, held_children, held_item, inner_of, is_objective, listed, row_functions, standing}
+use Rattle.bridge_face.specs.Law.{Carries, ChildDuals, IsCovered, Miss, expressed, held, held_body, held_children, held_item, inner_of, listed, row_functions, standing}
 use Rattle.fresh_bridging.specs.CanLaws.{AreLawful}
-use Rattle.fresh_bridging.specs.EachLaws.{all_from_map}
 use Rattle.fresh_bridging.specs.Entries.{Entry, function_in, put_in}
 use Rattle.fresh_bridging.specs.OmitLaws.{IsBelowAt}
 use Rattle.fresh_bridging.specs.TheRules.{AreChoices, Setting, edge_at, graph_of, rules_by}
@@ -37,10 +33,10 @@ use Rattle.address_laws.specs.KeyLaws.{IsHere, groups_apart, groups_here, groups
 use Rattle.address_laws.specs.Keys.{Mine, keys, keys_in, keys_of_each, own}
 use Rattle.address_laws.specs.Regions.{AreApart}
 use Rattle.tree_laws.specs.Carried.{LeafDuals, StandFor, backs, group_held, group_helds, leaf_helds, through}
-use Rattle.tree_laws.specs.LevelLaws.{IsLevel, children, children_hold, level_stands, meets}
+use Rattle.tree_laws.specs.LevelLaws.{IsLevel, children_hold, level_stands, meets}
 use Rattle.tree_laws.specs.LookupLaws.{Missed, components, composed_misses}
 use Rattle.tree_laws.specs.PutLaws.{row_misses}
-use Rattle.tree_laws.specs.SeenLaws.{IsGroupHere, IsRowHere, child_groups_here, child_rows_here, children_miss, components_of_each, groups_at, omit_each, others_at, own_is, row_misses_below, rows_miss}
+use Rattle.tree_laws.specs.SeenLaws.{IsGroupHere, child_groups_here, child_rows_here, children_miss, components_of_each, groups_at, omit_each, others_at, own_is, row_misses_below, rows_miss}
 use Rattle.tree_laws.specs.ThroughLaws.{HeldMisses, adjoints_missed, stand_after, stand_through}
 
 -- ---- components are distinct
@@ -75,7 +71,7 @@ inner_distinct (g ∷ groups) h d a =
 
 -- ---- lists of children with their duals
 
-held_missed : (bound : Rational) (v : Address) (items : List Item) (ys : List (List Rational))
+pub held_missed : (bound : Rational) (v : Address) (items : List Item) (ys : List (List Rational))
     → All (Misses v) items → All (HeldMisses v) (held bound items ys)
 held_missed bound v [] ys m = All-nil (HeldMisses v)
 held_missed bound v (c ∷ cs) [] m = All-nil (HeldMisses v)

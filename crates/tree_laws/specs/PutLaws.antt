@@ -1,8 +1,8 @@
 -- An item with expressions put in is the item with its dual, in which they are put in.
-use Rattle.std.specs.Prelude.{◌≡◌, Bool, true, false, cond, List, [], ◌∷◌, ◌++◌, All, map, refl}
-use Rattle.std.specs.List.{list_all, zip}
-use Rattle.std.proofs.Common.{sym, ap, ap₂, subst, ◌∙◌, true≢false}
-use Rattle.std.proofs.lemmas.List.Elements.{All-cons, All-head, All-map, All-nil, All-tail, All-weaker}
+use Rattle.std.specs.Prelude.{◌≡◌, Bool, true, false, List, [], ◌∷◌, All, map, refl}
+use Rattle.std.specs.List.{list_all}
+use Rattle.std.proofs.Common.{sym, ap, ap₂, ◌∙◌, true≢false}
+use Rattle.std.proofs.lemmas.List.Elements.{All-cons, All-head, All-nil, All-tail}
 use Rattle.ratio_core.specs.Rational.{Rational, neg_ℚ, one_ℚ, zero_ℚ}
 use Rattle.rational_laws.specs.Field.{neg_ℚ-zero}
 use Rattle.set_core.specs.declared.set.Set.{Set}
@@ -17,15 +17,14 @@ use Rattle.aff_core.specs.declared.sense.Sense.{Sense}
 use Rattle.aff_core.specs.declared.sense.Sense.TheVariants.{Min, Max}
 use Rattle.linear_laws.specs.EvaluationLaws.{evaluated_value}
 use Rattle.linear_laws.specs.ListLaws.{evaluated_negated, slope_negated}
-use Rattle.dual_laws.specs.Held.{Held}
 use Rattle.item_core.specs.declared.image.Expression.{Expression}
 use Rattle.item_core.specs.declared.image.Expression.TheVariants.{Kept, Bridged}
 use Rattle.item_core.specs.declared.item.Body.{Body}
 use Rattle.item_core.specs.declared.item.Body.TheVariants.{Group, Free, Plain, Affine, PlainVec, AffineVec, PlainObj, AffineObj}
 use Rattle.item_core.specs.declared.item.Item.{Item}
-use Rattle.item_core.specs.Item.{functions_of, is_group, set_of, variables_of}
+use Rattle.item_core.specs.Item.{functions_of, is_group, variables_of}
 use Rattle.bridge_face.specs.Law.{Miss, cost_by, expressed, held, held_body, row_functions, row_set}
-use Rattle.fresh_bridging.specs.BodyLaws.{functions_put, set_put}
+use Rattle.fresh_bridging.specs.BodyLaws.{functions_put}
 use Rattle.fresh_bridging.specs.Entries.{Entry, expression_in, function_in, is_kept, objective_by, plain_or_affine, put_in, put_in_body, vector_by}
 use Rattle.fresh_bridging.specs.MentionLaws.{composed-variable}
 use Rattle.tree_laws.specs.Carried.{through}

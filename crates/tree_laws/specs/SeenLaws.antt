@@ -1,6 +1,6 @@
 -- What stands below an item mentions what the item mentions, and the leaf variables that stand
 -- there, alone.
-use Rattle.std.specs.Prelude.{◌≡◌, ◌⊎◌, ◌+◌, ℕ, Bool, true, false, cond, List, [], ◌∷◌, ◌++◌, All, Contains, length, map, refl}
+use Rattle.std.specs.Prelude.{◌≡◌, ◌⊎◌, ℕ, Bool, true, false, cond, List, [], ◌∷◌, ◌++◌, All, Contains, length, map, refl}
 use Rattle.std.specs.List.{zip}
 use Rattle.std.proofs.Common.{inl, inr, sym, ap, ap₂, subst, ◌∙◌, true≢false}
 use Rattle.std.proofs.lemmas.List.{length-map, map-append}
@@ -13,25 +13,24 @@ use Rattle.expansion.specs.Read.{leaves, leaves_in, leaves_of_each}
 use Rattle.ratio_core.specs.Rational.{zero_ℚ}
 use Rattle.aff_core.specs.Address.{Address, address_cmp}
 use Rattle.aff_core.specs.Arithmetic.{composed}
-use Rattle.aff_core.specs.Function.{Function, coefficient, variable}
+use Rattle.aff_core.specs.Function.{coefficient, variable}
 use Rattle.aff_core.specs.FunctionLaws.{coefficient-variable_other}
 use Rattle.aff_core.specs.KeyOrder.{address_order}
-use Rattle.item_core.specs.declared.image.Expression.{Expression}
 use Rattle.item_core.specs.declared.image.Expression.TheVariants.{Kept}
 use Rattle.item_core.specs.declared.item.Item.{Item}
 use Rattle.item_core.specs.Item.{functions_of, is_group, variables_of}
 use Rattle.item_core.specs.Kind.{kind_number}
 use Rattle.item_core.specs.KindOf.{kind_of_body}
-use Rattle.item_core.specs.Valid.{NamesNothingBelow, below}
+use Rattle.item_core.specs.Valid.{NamesNothingBelow}
 use Rattle.bridge_face.specs.ImageOf.{image_of}
-use Rattle.bridge_face.specs.Law.{Miss, MentionsKnown, expressed, inner_of, listed}
+use Rattle.bridge_face.specs.Law.{Miss, MentionsKnown, expressed, inner_of}
 use Rattle.fresh_bridging.specs.BodyLaws.{functions_put}
 use Rattle.fresh_bridging.specs.CanLaws.{AreLawful}
 use Rattle.fresh_bridging.specs.EachLaws.{all_both, all_from_map, all_first, all_second, all_seconds}
 use Rattle.fresh_bridging.specs.Entries.{Entry, function_in, put_in, put_into}
 use Rattle.fresh_bridging.specs.MentionLaws.{AllOmit, Omits}
 use Rattle.fresh_bridging.specs.OmitLaws.{IsBelowAt}
-use Rattle.fresh_bridging.specs.TheRules.{AreChoices, Setting, edge_at, graph_of, outer_entries, own_entries, rules_by}
+use Rattle.fresh_bridging.specs.TheRules.{AreChoices, Setting, edge_at, graph_of, outer_entries, rules_by}
 use Rattle.address_laws.specs.Apart.{Avoids, in_or_not, not_in}
 use Rattle.address_laws.specs.DistinctLaws.{no_keys}
 use Rattle.address_laws.specs.ImageLaws.{Misses, named_in_groups, variables_miss}

@@ -1,17 +1,14 @@
 -- What an edge makes of an objective and of other items, by families: an objective has one child
 -- objective, and another item has none.
-use Rattle.std.specs.Prelude.{◌≡◌, ◌+◌, ◌==◌, ℕ, zero, suc, Bool, true, false, ◌&&◌, not, cond, List, [], ◌∷◌, ◌++◌, All, Option, Some, None, drop, length, map, take, refl}
-use Rattle.std.proofs.Common.{sym, ap, ap₂, subst, ◌∙◌, true≢false}
+use Rattle.std.specs.Prelude.{◌≡◌, ◌+◌, ℕ, Bool, true, false, ◌&&◌, not, cond, List, [], ◌∷◌, ◌++◌, All, Option, Some, None, drop, length, map, take, refl}
+use Rattle.std.proofs.Common.{sym, ap, ap₂, ◌∙◌, true≢false}
 use Rattle.std.specs.List.{list_all, enumerate_from}
-use Rattle.std.proofs.lemmas.List.Elements.{All-append, All-cons, All-head, All-nil, All-tail, All-weaker}
+use Rattle.std.proofs.lemmas.List.Elements.{All-cons, All-head, All-nil, All-tail, All-weaker}
 use Rattle.std.proofs.lemmas.List.Sums.{AllPass-from_list_all}
 use Rattle.bridge_graph.specs.Hypergraph.{IsCostly}
 use Rattle.bridge_graph.specs.declared.Choice.{Choice}
 use Rattle.bridge_graph.specs.declared.Choice.TheVariants.{By}
-use Rattle.expansion.specs.Bridged.{Bridged, EachBridged, EachBridgedIn, by, each, each_in, natively, none, none_in}
-use Rattle.expansion.specs.Read.{leaves, leaves_in, leaves_of_each}
-use Rattle.expansion.specs.Rules.{Rules}
-use Rattle.ratio_core.specs.Rational.{Rational}
+use Rattle.expansion.specs.Bridged.{Bridged, EachBridged, EachBridgedIn, by, each_in, natively}
 use Rattle.set_core.specs.Shapes.{is_scalar}
 use Rattle.set_core.specs.declared.set.Set.{Set}
 use Rattle.set_core.specs.declared.set.Set.TheVariants as set
@@ -29,7 +26,7 @@ use Rattle.item_core.specs.declared.item.Item.{Item}
 use Rattle.item_core.specs.declared.kind.Kind.{Kind}
 use Rattle.item_core.specs.declared.kind.Kind.TheVariants as kind
 use Rattle.item_core.specs.Edge.{children_of, family_of}
-use Rattle.item_core.specs.Item.{functions_of, is_group, set_of}
+use Rattle.item_core.specs.Item.{functions_of, set_of}
 use Rattle.item_core.specs.Kind.{kind_number}
 use Rattle.item_core.specs.KindOf.{affine_kind_of, group_kind_of, kind_of_body, plain_kind_of}
 use Rattle.bridge_face.specs.BackOf.{back_of, first_of, size}
@@ -37,7 +34,7 @@ use Rattle.bridge_face.specs.ImageOf.{begins_free, image_by, image_of, inner, in
 use Rattle.bridge_face.specs.Images.{affine, child_at, component_of, each_component, first_in, lower_part, plain, upper_part, with_set}
 use Rattle.bridge_face.specs.Law.{is_objective, listed}
 use Rattle.fresh_bridging.specs.CanLaws.{AreLawful, Can, down, same_entry}
-use Rattle.fresh_bridging.specs.Entries.{Entry, put_in}
+use Rattle.fresh_bridging.specs.Entries.{Entry}
 use Rattle.fresh_bridging.specs.TableLaws.{at_all}
 use Rattle.fresh_bridging.specs.TheRules.{AreChoices, Setting, edge_at, graph_of, rules_by}
 use Rattle.address_laws.specs.PutLaws.{objective_stays}
@@ -334,7 +331,7 @@ module _ (setting : Setting) (costly : IsCostly (graph_of setting)) (choice : �
         (back_of (edge_at edge) item
         (take (length (image_of (edge_at edge) item).rows) (backs d others)))) h
 
-    last_of_rows : {inner : List Entry} (rows : List Item) (o : Item)
+    pub last_of_rows : {inner : List Entry} (rows : List Item) (o : Item)
         (trees : EachBridgedIn (rules_by choice) inner (rows ++ o ∷ []))
         → is_objective o.body ≡ true
         → first_of (drop (length rows) (backs d trees)) ≡ d.objective

@@ -1,5 +1,5 @@
 -- The induction along a bridging: what stands below an item stands for it.
-use Rattle.std.specs.Prelude.{◌≡◌, ◌+◌, ℕ, Bool, true, false, List, [], ◌∷◌, ◌++◌, All, Contains, map, refl}
+use Rattle.std.specs.Prelude.{◌≡◌, ℕ, List, [], ◌∷◌, ◌++◌, All, Contains, map}
 use Rattle.std.proofs.Common.{sym, ap, subst, ◌∙◌}
 use Rattle.std.proofs.lemmas.List.Elements.{All-head, All-tail, All-nil}
 use Rattle.bridge_graph.specs.Hypergraph.{IsCostly}
@@ -8,9 +8,8 @@ use Rattle.bridge_graph.specs.declared.Choice.TheVariants.{By, Native}
 use Rattle.expansion.specs.Bridged.{Bridged, EachBridged, EachBridgedIn, by, each, each_in, natively, none, none_in}
 use Rattle.expansion.specs.Read.{leaves, leaves_in, leaves_of_each}
 use Rattle.ratio_core.specs.Rational.{Rational, zero_ℚ, ◌+ℚ◌}
-use Rattle.rational_laws.specs.Order.{≤ℚ_refl}
 use Rattle.aff_core.specs.Address.{Address}
-use Rattle.dual_laws.specs.Held.{DualsHold, Held, IsHeld, adjoint, gap}
+use Rattle.dual_laws.specs.Held.{DualsHold, Held, IsHeld, adjoint}
 use Rattle.item_core.specs.declared.item.Item.{Item}
 use Rattle.item_core.specs.Item.{variables_of}
 use Rattle.item_core.specs.Kind.{kind_number}
@@ -18,7 +17,7 @@ use Rattle.item_core.specs.KindOf.{kind_of_body}
 use Rattle.bridge_face.specs.Law.{held, held_body, inner_of}
 use Rattle.fresh_bridging.specs.CanLaws.{AreLawful}
 use Rattle.fresh_bridging.specs.Entries.{Entry, put_in}
-use Rattle.fresh_bridging.specs.TheRules.{AreChoices, Setting, edge_at, graph_of, outer_entries, own_entries, rules_by}
+use Rattle.fresh_bridging.specs.TheRules.{AreChoices, Setting, graph_of, outer_entries, own_entries, rules_by}
 use Rattle.address_laws.specs.Apart.{Distinct, distinct-first, distinct-second}
 use Rattle.address_laws.specs.DistinctLaws.{no_keys}
 use Rattle.address_laws.specs.ImageLaws.{Misses}

@@ -1,21 +1,21 @@
 -- Rows with duals in which expressions are put in: pulls, adjoints and gaps.
-use Rattle.std.specs.Prelude.{◌≡◌, List, [], ◌∷◌, ◌++◌, All, length, map, refl}
+use Rattle.std.specs.Prelude.{◌≡◌, List, [], ◌∷◌, ◌++◌, All, map, refl}
 use Rattle.std.proofs.Common.{sym, ap, ap₂, subst, ◌∙◌}
 use Rattle.std.proofs.lemmas.List.{length-map}
-use Rattle.std.proofs.lemmas.List.Elements.{All-append, All-head, All-map, All-nil, All-tail, All-weaker}
-use Rattle.ratio_core.specs.Rational.{Rational, neg_ℚ, one_ℚ, zero_ℚ, ◌*ℚ◌, ◌+ℚ◌, ◌-ℚ◌, ◌≤ℚ◌}
+use Rattle.std.proofs.lemmas.List.Elements.{All-append, All-head, All-map, All-tail, All-weaker}
+use Rattle.ratio_core.specs.Rational.{Rational, neg_ℚ, zero_ℚ, ◌*ℚ◌, ◌+ℚ◌, ◌-ℚ◌, ◌≤ℚ◌}
 use Rattle.rational_laws.specs.Dot.{dot}
 use Rattle.rational_laws.specs.DotLaws.{dot_zeros}
-use Rattle.rational_laws.specs.Field.{*ℚ-zero, +ℚ-zero, -ℚ-itself, zero-+ℚ}
+use Rattle.rational_laws.specs.Field.{+ℚ-zero, -ℚ-itself}
 use Rattle.rational_laws.specs.Order.{≤ℚ-+ℚ, ≤ℚ-+ℚ_right, ≤ℚ_trans}
 use Rattle.rational_laws.specs.Ring.{as_expression, by_ring, ring₃, ring₄}
-use Rattle.rational_laws.specs.Sums.{sum_by_ℚ, sum_by_ℚ_same}
+use Rattle.rational_laws.specs.Sums.{sum_by_ℚ_same}
 use Rattle.set_core.specs.Membership.{low_of}
 use Rattle.set_core.specs.Shapes.{IsSetOf}
 use Rattle.aff_core.specs.Address.{Address, address_cmp}
 use Rattle.aff_core.specs.Arithmetic.{composed}
 use Rattle.aff_core.specs.ArithmeticLaws.{coefficient-composed, constant-composed}
-use Rattle.aff_core.specs.Function.{Function, coefficient, slope, value_of, variable}
+use Rattle.aff_core.specs.Function.{Function, coefficient, value_of, variable}
 use Rattle.aff_core.specs.FunctionLaws.{same_coefficients}
 use Rattle.aff_core.specs.FunctionLists.{coefficients, constants}
 use Rattle.aff_core.specs.KeyOrder.{address_order}

@@ -1,14 +1,14 @@
 -- Duals down a whole bridging, of groups and of rows: what stands below an item stands for it,
 -- where the leaves' duals hold and balance at the leaf variables below.
-use Rattle.std.specs.Prelude.{◌≡◌, ◌⊎◌, ◌+◌, ℕ, Bool, true, false, cond, List, [], ◌∷◌, ◌++◌, All, Contains, drop, length, map, take, refl}
+use Rattle.std.specs.Prelude.{◌≡◌, ◌⊎◌, ℕ, true, false, cond, List, [], ◌∷◌, ◌++◌, All, Contains, drop, length, map, take, refl}
 use Rattle.std.proofs.Common.{inl, inr, sym, ap, ap₂, subst, ◌∙◌, true≢false}
 use Rattle.std.proofs.lemmas.List.{append-nil, length-map}
 use Rattle.std.proofs.lemmas.List.Elements.{All-append, All-cons, All-contains, All-contains_itself, All-head, All-nil, All-tail, All-weaker, Contains-append_left, Contains-append_right}
 use Rattle.bridge_graph.specs.Hypergraph.{IsCostly}
 use Rattle.bridge_graph.specs.declared.Choice.{Choice}
 use Rattle.bridge_graph.specs.declared.Choice.TheVariants.{By}
-use Rattle.expansion.specs.Bridged.{Bridged, EachBridged, EachBridgedIn, by, each, each_in, natively, none, none_in}
-use Rattle.expansion.specs.Read.{leaves, leaves_in, leaves_of_each}
+use Rattle.expansion.specs.Bridged.{Bridged, EachBridged, EachBridgedIn, by}
+use Rattle.expansion.specs.Read.{leaves, leaves_in}
 use Rattle.ratio_core.specs.Rational.{Rational, one_ℚ, zero_ℚ, ◌*ℚ◌, ◌+ℚ◌}
 use Rattle.rational_laws.specs.Field.{+ℚ-zero, one-*ℚ, zero-+ℚ}
 use Rattle.aff_core.specs.Address.{Address, address_cmp}
@@ -21,29 +21,28 @@ use Rattle.item_core.specs.declared.image.Expression.TheVariants.{Kept, Bridged 
 use Rattle.item_core.specs.declared.item.Body.{Body}
 use Rattle.item_core.specs.declared.item.Body.TheVariants.{Group, Free, Plain, Affine, PlainVec, AffineVec, PlainObj, AffineObj}
 use Rattle.item_core.specs.declared.item.Item.{Item}
-use Rattle.item_core.specs.Item.{functions_of, is_group, variables_of}
+use Rattle.item_core.specs.Item.{is_group, variables_of}
 use Rattle.item_core.specs.Kind.{kind_number}
 use Rattle.item_core.specs.KindOf.{kind_of_body}
 use Rattle.bridge_face.specs.BackOf.{back_of, first_of}
 use Rattle.bridge_face.specs.ImageOf.{image_of}
-use Rattle.bridge_face.specs.Law.{Carries, ChildDuals, Miss, expressed, held, held_body, held_item, inner_of, is_objective, row_functions, row_set}
+use Rattle.bridge_face.specs.Law.{Carries, ChildDuals, Miss, expressed, held_body, held_item, inner_of, is_objective, row_functions, row_set}
 use Rattle.fresh_bridging.specs.CanLaws.{AreLawful}
 use Rattle.fresh_bridging.specs.Entries.{Entry, expression_in, function_in, put_in, put_into}
 use Rattle.fresh_bridging.specs.MentionLaws.{composed-variable}
 use Rattle.fresh_bridging.specs.OmitLaws.{IsBelowAt}
 use Rattle.fresh_bridging.specs.TheRules.{AreChoices, Setting, edge_at, graph_of, outer_entries, own_entries, rules_by}
-use Rattle.address_laws.specs.Apart.{Avoids, Distinct, counted_once, distinct-first, distinct-second, in_first, in_or_not, in_second}
-use Rattle.address_laws.specs.DistinctLaws.{no_keys, variables_are}
+use Rattle.address_laws.specs.Apart.{Avoids, Distinct, counted_once, in_first, in_or_not, in_second}
+use Rattle.address_laws.specs.DistinctLaws.{no_keys}
 use Rattle.address_laws.specs.ImageLaws.{Misses}
-use Rattle.address_laws.specs.KeyLaws.{IsHere, groups_apart, groups_here, groups_under, once_in_each, once_in_tree, within}
-use Rattle.address_laws.specs.Keys.{Mine, keys, keys_in, keys_of_each, own}
-use Rattle.tree_laws.specs.Carried.{LeafDuals, StandFor, back, backs, group_held, group_helds, leaf_held, leaf_helds, row_dual, through}
-use Rattle.tree_laws.specs.DownLaws.{each_joined, first_balance, group_through, rest_balance, stand_itself}
-use Rattle.tree_laws.specs.LevelLaws.{adjoint_of_leaves, duals_of_first, duals_of_second, groups_balance, group_duals, groups_weigh, leaf_missed, other_duals, others_zero, stand_leaves}
+use Rattle.address_laws.specs.KeyLaws.{groups_under}
+use Rattle.address_laws.specs.Keys.{Mine, keys, keys_in, own}
+use Rattle.tree_laws.specs.Carried.{LeafDuals, StandFor, group_held, leaf_held, leaf_helds, row_dual, through}
+use Rattle.tree_laws.specs.DownLaws.{group_through, stand_itself}
+use Rattle.tree_laws.specs.LevelLaws.{adjoint_of_leaves, groups_weigh, leaf_missed}
 use Rattle.tree_laws.specs.LookupLaws.{components, given_lookup, itself, own_lookup}
-use Rattle.tree_laws.specs.NodeLaws.{left, left_rest, level, target, target_stands}
 use Rattle.tree_laws.specs.PutLaws.{group_functions, group_row_functions, row_misses}
-use Rattle.tree_laws.specs.SeenLaws.{IsGroupHere, IsRowHere, child_groups_here, child_rows_here, components_of_each, exprs_count, groups_at, leaves_in_miss, leaves_miss, others_at, own_is, row_misses_below}
+use Rattle.tree_laws.specs.SeenLaws.{IsGroupHere, IsRowHere, child_groups_here, components_of_each, exprs_count, groups_at, leaves_in_miss, leaves_miss, own_is, row_misses_below}
 use Rattle.tree_laws.specs.ThroughLaws.{HeldMisses, adjoints_missed, untouched}
 
 -- ---- a native group, and one that an edge rewrites

@@ -1,11 +1,11 @@
 -- Values up a bridging: where the leaves hold at a point or along a ray, the items do, and no leaf
 -- objective costs less than the item's.
-use Rattle.std.specs.Prelude.{◌≡◌, ◌+◌, ℕ, Bool, true, false, List, [], ◌∷◌, ◌++◌, All, Option, Some, None, map, refl}
+use Rattle.std.specs.Prelude.{◌≡◌, ℕ, true, false, List, [], ◌∷◌, ◌++◌, All, map, refl}
 use Rattle.std.proofs.Common.{sym, ap, ap₂, subst, ◌∙◌, true≢false}
 use Rattle.std.proofs.lemmas.List.Elements.{All-append, All-cons, All-head, All-nil, All-tail, All-weaker}
 use Rattle.bridge_graph.specs.Hypergraph.{IsCostly}
 use Rattle.bridge_graph.specs.declared.Choice.{Choice}
-use Rattle.bridge_graph.specs.declared.Choice.TheVariants.{By, Native}
+use Rattle.bridge_graph.specs.declared.Choice.TheVariants.{By}
 use Rattle.expansion.specs.Bridged.{Bridged, EachBridged, EachBridgedIn, by, each, each_in, natively, none, none_in}
 use Rattle.expansion.specs.Read.{leaves, leaves_in, leaves_of_each}
 use Rattle.ratio_core.specs.Rational.{Rational, zero_ℚ, ◌≤ℚ◌}
@@ -13,7 +13,7 @@ use Rattle.rational_laws.specs.Order.{≤ℚ_refl, ≤ℚ_trans}
 use Rattle.set_core.specs.Membership.{In}
 use Rattle.set_core.specs.Mirrored.{multiplied}
 use Rattle.aff_core.specs.Address.{Address}
-use Rattle.aff_core.specs.Function.{Function, evaluated}
+use Rattle.aff_core.specs.Function.{evaluated}
 use Rattle.aff_core.specs.FunctionLists.{evaluations}
 use Rattle.linear_laws.specs.ListLaws.{evaluations-composed}
 use Rattle.dual_laws.specs.Held.{AllHold, Held, Holds}
@@ -36,14 +36,11 @@ use Rattle.address_laws.specs.PutLaws.{objective_stays}
 use Rattle.tree_laws.specs.Carried.{LeafDuals, group_held, group_helds, through}
 use Rattle.tree_laws.specs.DownLaws.{first_through, rest_through}
 use Rattle.tree_laws.specs.NodeLaws.{components_distinct}
+use Rattle.tree_laws.specs.ObjectiveLaws.{CostsNothing, by_case, none_below, none_below_each}
 use Rattle.tree_laws.specs.PutLaws.{held_put, row_functions_put}
 use Rattle.tree_laws.specs.SeenLaws.{IsGroupHere, IsRowHere, child_groups_here, child_rows_here, groups_at, others_at}
-use Rattle.tree_laws.specs.ShapeLaws.{no_child_objective, rows_alone}
+use Rattle.tree_laws.specs.ShapeLaws.{rows_alone}
 use Rattle.tree_laws.specs.TreeLaws.{all_untouched, misses, native_through, no_objective, outer_through, row_through}
-
-by_case : {C : Type 0} {t : Bool} (b : Bool) → t ≡ b → (t ≡ true → C) → (t ≡ false → C) → C
-by_case true e f g = f e
-by_case false e f g = g e
 
 -- values say nothing of duals, so any will do
 abbrev no_duals : LeafDuals
@@ -54,7 +51,7 @@ no_duals = record {
   duals = λ _. [];
 }
 
-abbrev no_numbers : Address → Rational
+abbrev pub no_numbers : Address → Rational
 no_numbers _ = zero_ℚ
 
 -- an objective's function is its cost
@@ -84,6 +81,19 @@ module _ (one : Rational) (a : zero_ℚ ≤ℚ one) (x : Address → Rational) w
   from_point entries h k =
       subst (In (multiplied one h.set))
       (sym (evaluations-composed (function_in entries) h.functions one x)) k
+
+  -- a child objective costs at the expressions what it costs with them put in
+  pub cost_put : (inner : List Entry) (c : Item) → is_group c.body ≡ false
+      → is_objective c.body ≡ true
+      → evaluated one (cost_of c.body) (point_in inner)
+      ≡ evaluated one (cost_of (put_in inner c).body) x
+  cost_put inner c row o =
+      ap head_of
+      (ap (λ fs. evaluations one fs (point_in inner)) (sym (cost_alone c.body o))
+      ∙ sym (evaluations-composed (function_in inner) (row_functions c.body) one x)
+      ∙ ap (λ fs. evaluations one fs x) (sym (row_functions_put inner c.body row))
+      ∙ ap (λ fs. evaluations one fs x)
+      (cost_alone (put_in_body inner c.body) (objective_stays inner c.body ∙ o)))
 
   -- leaves hold, but for objectives
   abbrev pub LeafHolds : Item → Type 0
@@ -175,17 +185,6 @@ module _ (one : Rational) (a : zero_ℚ ≤ℚ one) (x : Address → Rational) w
           (law_of setting costly choice chosen lawful item here.can n e).values.costs one
           (point_in inner) a (children_at_point g r)
 
-      child_cost : (c : Item) → is_group c.body ≡ false → is_objective c.body ≡ true
-          → evaluated one (cost_of c.body) (point_in inner)
-          ≡ evaluated one (cost_of (put_in inner c).body) x
-      child_cost c row o =
-          ap head_of
-          (ap (λ fs. evaluations one fs (point_in inner)) (sym (cost_alone c.body o))
-          ∙ sym (evaluations-composed (function_in inner) (row_functions c.body) one x)
-          ∙ ap (λ fs. evaluations one fs x) (sym (row_functions_put inner c.body row))
-          ∙ ap (λ fs. evaluations one fs x)
-          (cost_alone (put_in_body inner c.body) (objective_stays inner c.body ∙ o)))
-
     module _ (item : Item) (is : IsRowHere setting costly choice chosen lawful item) (n : ℕ)
         (e : choice (kind_number (kind_of_body item.body)) ≡ By n) (inner : List Entry)
         (gs : EachBridged (rules_by choice)
@@ -234,7 +233,7 @@ module _ (one : Rational) (a : zero_ℚ ≤ℚ one) (x : Address → Rational) w
           (λ c. CostsAtLeast (evaluated one (cost_of item.body) x) (put_in inner c))
           (λ c k t. subst (λ q. q ≤ℚ evaluated one (cost_of (put_in inner c).body) x) (item_cost o)
           (subst (λ q. evaluated one (cost_of item.body) (point_in inner) ≤ℚ q)
-          (child_cost item is.here n e inner c k.1 (sym (objective_stays inner c.body) ∙ t)) k.0))
+          (cost_put inner c k.1 (sym (objective_stays inner c.body) ∙ t)) k.0))
           (listed (image_of (edge_at n) item).objective)
           (all_both
           (λ c. evaluated one (cost_of item.body) (point_in inner)
@@ -341,54 +340,6 @@ module _ (one : Rational) (a : zero_ℚ ≤ℚ one) (x : Address → Rational) w
 
     -- ---- objectives
 
-    abbrev CostsNothing : Item → Type 0
-    CostsNothing leaf = is_objective leaf.body ≡ false
-
-    mutual
-      unfolding leaves
-
-      pub none_below : {item : Item} {entries : List Entry}
-          (tree : Bridged (rules_by choice) item entries)
-          → IsHere setting costly choice chosen lawful item
-          → is_objective item.body ≡ false → All CostsNothing (leaves tree)
-      none_below (natively {item} c) here h =
-          All-cons CostsNothing item [] h (All-nil CostsNothing)
-      none_below (by {item} {edge} {inner} c groups others) here h =
-          All-append CostsNothing (leaves_of_each groups) (leaves_in others)
-          (none_below_each groups
-          (child_groups_here setting costly choice chosen lawful item here edge c))
-          (none_below_in others
-          (child_rows_here setting costly choice chosen lawful item here edge c inner groups)
-          (All-append (λ c. is_objective c.body ≡ false) (image_of (edge_at edge) item).rows
-          (listed (image_of (edge_at edge) item).objective)
-          (rows_alone setting costly choice chosen lawful item here.can edge c)
-          (subst (λ o. All (λ x. is_objective x.body ≡ false) (listed o))
-          (sym (no_child_objective setting costly choice chosen lawful item here.can edge c h))
-          (All-nil (λ x. is_objective x.body ≡ false)))))
-
-      pub none_below_each : {groups : List Item} {entries : List Entry}
-          (trees : EachBridged (rules_by choice) groups entries) → All GroupThere groups
-          → All CostsNothing (leaves_of_each trees)
-      none_below_each none all = All-nil CostsNothing
-      none_below_each (each {item} {items} first rest) all =
-          All-append CostsNothing (leaves first) (leaves_of_each rest)
-          (none_below first (All-head GroupThere item items all).here
-          (no_objective item.body (All-head GroupThere item items all).group))
-          (none_below_each rest (All-tail GroupThere item items all))
-
-      pub none_below_in : {inner : List Entry} {items : List Item}
-          (trees : EachBridgedIn (rules_by choice) inner items)
-          → All (λ c. RowThere (put_in inner c)) items
-          → All (λ c. is_objective c.body ≡ false) items → All CostsNothing (leaves_in trees)
-      none_below_in none_in all h = All-nil CostsNothing
-      none_below_in (each_in {inner} {item} {items} first rest) all h =
-          All-append CostsNothing (leaves first) (leaves_in rest)
-          (none_below first (All-head (λ c. RowThere (put_in inner c)) item items all).here
-          (objective_stays inner item.body
-          ∙ All-head (λ c. is_objective c.body ≡ false) item items h))
-          (none_below_in rest (All-tail (λ c. RowThere (put_in inner c)) item items all)
-          (All-tail (λ c. is_objective c.body ≡ false) item items h))
-
     vacuous : (q : Rational) (items : List Item) → All CostsNothing items
         → All (CostsAtLeast q) items
     vacuous q items h =
@@ -420,7 +371,7 @@ module _ (one : Rational) (a : zero_ℚ ≤ℚ one) (x : Address → Rational) w
           All-append (CostsAtLeast (evaluated one (cost_of item.body) x)) (leaves_of_each groups)
           (leaves_in others)
           (vacuous (evaluated one (cost_of item.body) x) (leaves_of_each groups)
-          (none_below_each groups gs))
+          (none_below_each setting costly choice chosen lawful groups gs))
           (costs_in others (evaluated one (cost_of item.body) x) rs
           (others_cost item is edge c inner groups o
           (groups_hold groups gs (groups_apart_here item is.here edge c inner groups others)
@@ -441,7 +392,8 @@ module _ (one : Rational) (a : zero_ℚ ≤ℚ one) (x : Address → Rational) w
           (λ o. raised q (evaluated one (cost_of (put_in inner item).body) x) (leaves first)
           (All-head (λ c. CostsAtLeast q (put_in inner c)) item items k o)
           (costs first there o low))
-          (λ o. vacuous q (leaves first) (none_below first there.here o)))
+          (λ o. vacuous q (leaves first)
+          (none_below setting costly choice chosen lawful first there.here o)))
           (costs_in rest q (All-tail (λ c. RowThere (put_in inner c)) item items all)
           (All-tail (λ c. CostsAtLeast q (put_in inner c)) item items k)
           (all_second LeafHolds (leaves first) (leaves_in rest) h))
