@@ -39,7 +39,7 @@ stand_itself hs h = record { holds = h; same = λ v. refl; gaps = ≤ℚ_refl (g
 -- ---- groups with expressions put in
 
 -- a group's functions are its variables, so what stands for these is all that matters
-group_through : (bound : Rational) (w : Address → Rational) (g : Item) (es : List Entry)
+pub group_through : (bound : Rational) (w : Address → Rational) (g : Item) (es : List Entry)
     → is_group g.body ≡ true
     → (through es (group_held bound w g)).functions
     ≡ map (function_in es) (variables_of g.body)
@@ -78,11 +78,11 @@ group_missed : (bound : Rational) (w : Address → Rational) (g : Item) (es : Li
     (v : Address) → is_group g.body ≡ true
     → ((u : Address) → Contains (variables_of g.body) u → coefficient (function_in es u) v ≡ zero_ℚ)
     → HeldMisses v (through es (group_held bound w g))
-group_missed bound w g es v h each =
+group_missed bound w g es v h unseen =
     subst (λ fs. Miss fs v) (sym (group_through bound w g es h))
     (All-map (λ f. coefficient f v ≡ zero_ℚ) (function_in es) (variables_of g.body)
     (All-weaker (Contains (variables_of g.body)) (λ u. coefficient (function_in es u) v ≡ zero_ℚ)
-    each (variables_of g.body) (All-contains_itself (variables_of g.body))))
+    unseen (variables_of g.body) (All-contains_itself (variables_of g.body))))
 
 -- no entry is of one of the group's variables
 abbrev AvoidsVariables : List Entry → Item → Type 0

@@ -206,7 +206,7 @@ module _ (setting : Setting) (costly : IsCostly (graph_of setting)) (lawful : Ar
         subst (λ t. In t (values fs p)) (multiplied_one s)
         (subst (In (multiplied one_ℚ s)) (evaluations_values fs p) h)
 
-    pub feasible_point : IsFeasible model (point_of bridging x)
+    feasible_point : IsFeasible model (point_of bridging x)
     feasible_point =
         subst (IsFeasible model) (sym point_is)
         (record {
@@ -316,136 +316,136 @@ module _ (setting : Setting) (costly : IsCostly (graph_of setting)) (lawful : Ar
   module _ (o : Rational) (costs : Address → Rational) (y : Address → List Rational)
       (nonpos : o ≤ℚ zero_ℚ) (duals : AreLeafDuals (leaves_of bridging) costs y)
       (weighed : (v : Address) → costs v +ℚ o *ℚ coefficient (cost (leaves_of bridging)) v ≡ zero_ℚ)
-      where
-    abbrev d : LeafDuals
-    d = leaf_duals bridging o costs y
+    where
+      abbrev d : LeafDuals
+      d = leaf_duals bridging o costs y
 
-    leaf_part : Weighs o (cost (leaves_of bridging))
-        (map (objective_held d) (flat_map leaf_objectives leaves_here))
-    leaf_part = leaf_weighs setting costly lawful native model valid bridging d o refl refl
+      leaf_part : Weighs o (cost (leaves_of bridging))
+          (map (objective_held d) (flat_map leaf_objectives leaves_here))
+      leaf_part = leaf_weighs setting costly lawful native model valid bridging d o refl refl
 
-    weighs : (v : Address)
-        → costs v +ℚ sum_by_ℚ (λ e. adjoint_of (objective_held d e) v) (flat_map leaf_objectives leaves_here)
-        ≡ zero_ℚ
-    weighs v =
-        ap (λ q. costs v +ℚ q)
-        (sym (sum_by_ℚ-map (λ h. adjoint_of h v) (objective_held d) (flat_map leaf_objectives leaves_here))
-        ∙ leaf_part.adjoints v)
-        ∙ weighed v
+      weighs : (v : Address)
+          → costs v +ℚ sum_by_ℚ (λ e. adjoint_of (objective_held d e) v) (flat_map leaf_objectives leaves_here)
+          ≡ zero_ℚ
+      weighs v =
+          ap (λ q. costs v +ℚ q)
+          (sym (sum_by_ℚ-map (λ h. adjoint_of h v) (objective_held d) (flat_map leaf_objectives leaves_here))
+          ∙ leaf_part.adjoints v)
+          ∙ weighed v
 
-    abbrev rows_here : List (List Rational)
-    rows_here = rows_of bridging d
+      abbrev rows_here : List (List Rational)
+      rows_here = rows_of bridging d
 
-    abbrev objective_part : List Held
-    objective_part =
-        held d.bound (objective_items model.objective)
-        (drop (length (map row_item model.rows)) (backs d bridging.made.others))
+      abbrev objective_part : List Held
+      objective_part =
+          held d.bound (objective_items model.objective)
+          (drop (length (map row_item model.rows)) (backs d bridging.made.others))
 
-    user_part : Weighs o user_f objective_part
-    user_part = user_weighs setting costly lawful native model valid bridging d o refl refl
+      user_part : Weighs o user_f objective_part
+      user_part = user_weighs setting costly lawful native model valid bridging d o refl refl
 
-    abbrev row_helds : List Held
-    row_helds = rows_with rows_here model.rows
+      abbrev row_helds : List Held
+      row_helds = rows_with rows_here model.rows
 
-    abbrev numbers : Address → Rational
-    numbers = left setting costly lawful native model valid bridging o costs y nonpos duals weighs
+      abbrev numbers : Address → Rational
+      numbers = left setting costly lawful native model valid bridging o costs y nonpos duals weighs
 
-    abbrev group_part : List Held
-    group_part = group_helds zero_ℚ numbers (model_image model).groups
+      abbrev group_part : List Held
+      group_part = group_helds zero_ℚ numbers (model_image model).groups
 
-    -- the user's rows, and beside them the objective
-    parts : other_helds setting costly lawful native model valid bridging o costs y nonpos duals weighs
-        ≡ row_helds ++ objective_part
-    parts =
-        sym (held_split d.bound (map row_item model.rows) (objective_items model.objective)
-        (backs d bridging.made.others))
-        ∙ ap (λ n. held d.bound (map row_item model.rows) (take n (backs d bridging.made.others))
-        ++ objective_part) (length-map model.rows row_item)
-        ∙ ap (λ hs. hs ++ objective_part) (rows_are d.bound model.rows rows_here)
+      -- the user's rows, and beside them the objective
+      parts : other_helds setting costly lawful native model valid bridging o costs y nonpos duals weighs
+          ≡ row_helds ++ objective_part
+      parts =
+          sym (held_split d.bound (map row_item model.rows) (objective_items model.objective)
+          (backs d bridging.made.others))
+          ∙ ap (λ n. held d.bound (map row_item model.rows) (take n (backs d bridging.made.others))
+          ++ objective_part) (length-map model.rows row_item)
+          ∙ ap (λ hs. hs ++ objective_part) (rows_are d.bound model.rows rows_here)
 
-    all_parts : user_helds setting costly lawful native model valid bridging o costs y nonpos duals weighs
-        ≡ group_part ++ (row_helds ++ objective_part)
-    all_parts = ap (λ hs. group_part ++ hs) parts
+      all_parts : user_helds setting costly lawful native model valid bridging o costs y nonpos duals weighs
+          ≡ group_part ++ (row_helds ++ objective_part)
+      all_parts = ap (λ hs. group_part ++ hs) parts
 
-    parts_hold : DualsHold (group_part ++ (row_helds ++ objective_part))
-    parts_hold =
-        subst DualsHold all_parts
-        (user_duals_hold setting costly lawful native model valid bridging o costs y nonpos duals
-        weighs)
+      parts_hold : DualsHold (group_part ++ (row_helds ++ objective_part))
+      parts_hold =
+          subst DualsHold all_parts
+          (user_duals_hold setting costly lawful native model valid bridging o costs y nonpos duals
+          weighs)
 
-    groups_hold_here : DualsHold group_part
-    groups_hold_here = all_first IsHeld group_part (row_helds ++ objective_part) parts_hold
+      groups_hold_here : DualsHold group_part
+      groups_hold_here = all_first IsHeld group_part (row_helds ++ objective_part) parts_hold
 
-    rows_hold_here : DualsHold row_helds
-    rows_hold_here =
-        all_first IsHeld row_helds objective_part
-        (all_second IsHeld group_part (row_helds ++ objective_part) parts_hold)
+      rows_hold_here : DualsHold row_helds
+      rows_hold_here =
+          all_first IsHeld row_helds objective_part
+          (all_second IsHeld group_part (row_helds ++ objective_part) parts_hold)
 
-    -- the number of a variable is what the rows and the objective leave for it
-    numbers_are : (v : Address)
-        → numbers v ≡ neg_ℚ (adjoint_of_rows model rows_here v +ℚ o *ℚ coefficient user_f v)
-    numbers_are v =
-        ap (λ hs. neg_ℚ (adjoint hs v)) parts
-        ∙ ap neg_ℚ (adjoint-append row_helds objective_part v
-        ∙ ap (λ q. adjoint row_helds v +ℚ q) (user_part.adjoints v))
+      -- the number of a variable is what the rows and the objective leave for it
+      numbers_are : (v : Address)
+          → numbers v ≡ neg_ℚ (adjoint_of_rows model rows_here v +ℚ o *ℚ coefficient user_f v)
+      numbers_are v =
+          ap (λ hs. neg_ℚ (adjoint hs v)) parts
+          ∙ ap neg_ℚ (adjoint-append row_helds objective_part v
+          ∙ ap (λ q. adjoint row_helds v +ℚ q) (user_part.adjoints v))
 
-    balance : (v : Address)
-        → adjoint group_part v +ℚ (adjoint row_helds v +ℚ o *ℚ coefficient user_f v) ≡ zero_ℚ
-    balance v =
-        ap (λ q. adjoint group_part v +ℚ q)
-        (ap (λ q. adjoint row_helds v +ℚ q) (sym (user_part.adjoints v))
-        ∙ sym (adjoint-append row_helds objective_part v))
-        ∙ sym (adjoint-append group_part (row_helds ++ objective_part) v)
-        ∙ ap (λ hs. adjoint hs v) (sym all_parts)
-        ∙ user_balance setting costly lawful native model valid bridging o costs y nonpos duals
-        weighs v
+      balance : (v : Address)
+          → adjoint group_part v +ℚ (adjoint row_helds v +ℚ o *ℚ coefficient user_f v) ≡ zero_ℚ
+      balance v =
+          ap (λ q. adjoint group_part v +ℚ q)
+          (ap (λ q. adjoint row_helds v +ℚ q) (sym (user_part.adjoints v))
+          ∙ sym (adjoint-append row_helds objective_part v))
+          ∙ sym (adjoint-append group_part (row_helds ++ objective_part) v)
+          ∙ ap (λ hs. adjoint hs v) (sym all_parts)
+          ∙ user_balance setting costly lawful native model valid bridging o costs y nonpos duals
+          weighs v
 
-    -- the gap of the leaf model is at most that of the user's, each with the objective's
-    gaps : (gap (held_rows (leaves_of bridging) y)
-        +ℚ neg_ℚ (o *ℚ (cost (leaves_of bridging)).constant))
-        ≤ℚ (gap group_part +ℚ (gap row_helds +ℚ neg_ℚ (o *ℚ user_f.constant)))
-    gaps =
-        subst (λ q. q ≤ℚ (gap group_part +ℚ (gap row_helds +ℚ neg_ℚ (o *ℚ user_f.constant))))
-        (leaves_gap setting costly lawful native model valid bridging o costs y nonpos duals weighs
-        ∙ ap (λ q. gap (held_rows (leaves_of bridging) y) +ℚ q)
-        (sym (sum_by_ℚ-map gap_of (objective_held d) (flat_map leaf_objectives leaves_here))
-        ∙ leaf_part.gaps))
-        (subst (λ q. gap (leaf_helds d leaves_here) ≤ℚ q)
-        (ap gap all_parts ∙ gap-append group_part (row_helds ++ objective_part)
-        ∙ ap (λ q. gap group_part +ℚ q)
-        (gap-append row_helds objective_part ∙ ap (λ q. gap row_helds +ℚ q) user_part.gaps))
-        (gaps_grow setting costly lawful native model valid bridging o costs y nonpos duals
-        weighs))
+      -- the gap of the leaf model is at most that of the user's, each with the objective's
+      gaps : (gap (held_rows (leaves_of bridging) y)
+          +ℚ neg_ℚ (o *ℚ (cost (leaves_of bridging)).constant))
+          ≤ℚ (gap group_part +ℚ (gap row_helds +ℚ neg_ℚ (o *ℚ user_f.constant)))
+      gaps =
+          subst (λ q. q ≤ℚ (gap group_part +ℚ (gap row_helds +ℚ neg_ℚ (o *ℚ user_f.constant))))
+          (leaves_gap setting costly lawful native model valid bridging o costs y nonpos duals weighs
+          ∙ ap (λ q. gap (held_rows (leaves_of bridging) y) +ℚ q)
+          (sym (sum_by_ℚ-map gap_of (objective_held d) (flat_map leaf_objectives leaves_here))
+          ∙ leaf_part.gaps))
+          (subst (λ q. gap (leaf_helds d leaves_here) ≤ℚ q)
+          (ap gap all_parts ∙ gap-append group_part (row_helds ++ objective_part)
+          ∙ ap (λ q. gap group_part +ℚ q)
+          (gap-append row_helds objective_part ∙ ap (λ q. gap row_helds +ℚ q) user_part.gaps))
+          (gaps_grow setting costly lawful native model valid bridging o costs y nonpos duals
+          weighs))
 
-    -- ---- with duals for the variables
+      -- ---- with duals for the variables
 
-    module _ (vars : List Rational) (size : length vars ≡ length (variables model))
-        (vars_are : (v : Address) → Contains (all_addresses model.groups) v
-        → at_point model vars v ≡ numbers v) where
-      same_groups : groups_with (at_point model vars) model.groups ≡ group_part
-      same_groups = groups_are (at_point model vars) numbers model.groups vars_are
+      module _ (vars : List Rational) (size : length vars ≡ length (variables model))
+          (vars_are : (v : Address) → Contains (all_addresses model.groups) v
+          → at_point model vars v ≡ numbers v) where
+        same_groups : groups_with (at_point model vars) model.groups ≡ group_part
+        same_groups = groups_are (at_point model vars) numbers model.groups vars_are
 
-      pub are_duals : AreDuals model rows_here vars
-      are_duals = record {
-        each_row =
-            omega (
-              arith,
-              length-take (length model.rows) (backs d bridging.made.others),
-              length-backs setting costly bridging.choice bridging.chosen lawful d bridging.made.others,
-              length-append (map row_item model.rows) (objective_items model.objective),
-              length-map model.rows row_item,
-            );
-        each_variable = size;
-        duals =
-            All-append HasDuals row_helds (groups_with (at_point model vars) model.groups)
-            (held_duals row_helds rows_hold_here)
-            (subst (All HasDuals) (sym same_groups) (held_duals group_part groups_hold_here));
-      }
+        are_duals : AreDuals model rows_here vars
+        are_duals = record {
+          each_row =
+              omega (
+                arith,
+                length-take (length model.rows) (backs d bridging.made.others),
+                length-backs setting costly bridging.choice bridging.chosen lawful d bridging.made.others,
+                length-append (map row_item model.rows) (objective_items model.objective),
+                length-map model.rows row_item,
+              );
+          each_variable = size;
+          duals =
+              All-append HasDuals row_helds (groups_with (at_point model vars) model.groups)
+              (held_duals row_helds rows_hold_here)
+              (subst (All HasDuals) (sym same_groups) (held_duals group_part groups_hold_here));
+        }
 
-      pub gap_is : dual_gap model rows_here vars ≡ gap row_helds +ℚ gap group_part
-      gap_is =
-          gap-append row_helds (groups_with (at_point model vars) model.groups)
-          ∙ ap (λ hs. gap row_helds +ℚ gap hs) same_groups
+        gap_is : dual_gap model rows_here vars ≡ gap row_helds +ℚ gap group_part
+        gap_is =
+            gap-append row_helds (groups_with (at_point model vars) model.groups)
+            ∙ ap (λ hs. gap row_helds +ℚ gap hs) same_groups
 
   -- ---- the three kinds
 
@@ -582,7 +582,7 @@ module _ (setting : Setting) (costly : IsCostly (graph_of setting)) (lawful : Ar
         (user_groups_seen setting costly lawful native model valid bridging one_ℚ one_nonneg x
         right.feasible)))))
 
-    pub optimal_good : IsOptimal model (objective_value model (point_of bridging x))
+    optimal_good : IsOptimal model (objective_value model (point_of bridging x))
         (point_of bridging x) optimal_rows optimal_vars
     optimal_good = record {
       feasible = feasible_point x right.feasible;
@@ -659,7 +659,7 @@ module _ (setting : Setting) (costly : IsCostly (graph_of setting)) (lawful : Ar
             → g +ℚ (r +ℚ neg_ℚ (zero_ℚ *ℚ c)) ≡ r +ℚ g
         user_side = ring₃ _ (λ ρ. simp (as_expression, zero_as ρ) (by_ring ρ _ _ refl))
 
-    pub infeasible_good : IsInfeasible model gap_here infeasible_rows infeasible_vars
+    infeasible_good : IsInfeasible model gap_here infeasible_rows infeasible_vars
     infeasible_good = record {
       duals =
           are_duals zero_ℚ no_costs y (≤ℚ_refl zero_ℚ) right.duals nothing_weighed infeasible_vars

@@ -254,11 +254,11 @@ module _ (d : LeafDuals) where
 
   native_gap : (at : Address) (b : Body) → IsNativeGroup b
       → gap_of (leaf_held d (record { at = at; body = b })) ≡ zero_ℚ
-  native_gap at (Group s vars) (reals {n}) =
+  native_gap at b (reals {n} {vars}) =
       ap (λ q. zero_ℚ -ℚ q) (no_constants (map d.numbers vars) vars) ∙ -ℚ-itself zero_ℚ
-  native_gap at (Group s vars) (nonnegatives {n}) =
+  native_gap at b (nonnegatives {n} {vars}) =
       ap (λ q. zero_ℚ -ℚ q) (no_constants (map d.numbers vars) vars) ∙ -ℚ-itself zero_ℚ
-  native_gap at (Free vars) free =
+  native_gap at b (free {vars}) =
       ap (λ q. zero_ℚ -ℚ q) (no_constants (map d.numbers vars) vars) ∙ -ℚ-itself zero_ℚ
 
   pub groups_part_gap : (items : List Item) → All IsLeaf items
@@ -307,11 +307,11 @@ module _ (d : LeafDuals) where
   native_dual : (at : Address) (b : Body) → IsNativeGroup b
       → All MayBe (leaf_variables (record { at = at; body = b }))
       → Dual (set_of b) (map d.numbers (variables_of b))
-  native_dual at (Group s vars) (reals {n}) h =
+  native_dual at b (reals {n} {vars}) h =
       zero_numbers vars (leaf_variable (set.Reals n)) (λ v k. k) h
-  native_dual at (Group s vars) (nonnegatives {n}) h =
+  native_dual at b (nonnegatives {n} {vars}) h =
       nonneg_numbers vars (leaf_variable (set.Nonnegatives n)) (λ v k. k) h
-  native_dual at (Free vars) free h = zero_numbers vars leaf.Free (λ v k. k) h
+  native_dual at b (free {vars}) h = zero_numbers vars leaf.Free (λ v k. k) h
 
   leaf_size : (b : Body) → is_group b ≡ true
       → length (map d.numbers (variables_of b)) ≡ length (functions_of b)

@@ -84,7 +84,7 @@ held_none : (bound : Rational) (items : List Item) → held bound items [] ≡ [
 held_none bound [] = refl
 held_none bound (c ∷ cs) = refl
 
-held_split : (bound : Rational) (rows others : List Item) (ys : List (List Rational))
+pub held_split : (bound : Rational) (rows others : List Item) (ys : List (List Rational))
     → held bound rows (take (length rows) ys) ++ held bound others (drop (length rows) ys)
     ≡ held bound (rows ++ others) ys
 held_split bound [] others ys = refl
@@ -243,100 +243,100 @@ module _ (setting : Setting) (costly : IsCostly (graph_of setting)) (choice : �
       module _ (w : List Rational) (duals : DualsHold (leaf_helds d all_leaves))
           (balance : (v : Address) → Contains (group_keys ++ other_keys) v
           → adjoint (through inner (target w) ∷ []) v ≡ adjoint (leaf_helds d all_leaves) v)
-          where
-        pub level : IsLevel setting costly choice chosen lawful d groups others inner gs os
-            (target w ∷ [])
-        level = record {
-          groups_here = child_groups_here setting costly choice chosen lawful item here n e;
-          others_here = child_rows_here setting costly choice chosen lawful item here n e inner gs;
-          rows_only = no_groups setting costly choice chosen lawful item here.can n e;
-          distinct = keys_distinct;
-          distinct_inner = components_distinct;
-          duals = duals;
-          balance = balance;
-          quiet = λ v c. target_quiet w v c (in_second group_keys other_keys v keys_distinct c);
-          missed = λ v c.
-              rows_miss setting costly choice chosen lawful item here n e inner gs v
-              (item_misses v (All-contains IsUnder other_keys v others_stand_under c))
-              (in_second group_keys other_keys v keys_distinct c);
-          outside = λ v c h.
-              let b = All-contains IsUnder group_keys v groups_stand_under c in (
-                adjoints_missed (target w ∷ []) v
-                    (All-cons (HeldMisses v) (target w) [] (standing_misses v b h)
-                    (All-nil (HeldMisses v))),
-                adjoints_missed other_helds v
-                    (held_missed d.bound v others (backs d os)
-                    (children_miss setting costly choice chosen lawful item here n e v
-                    (item_misses v b) (not_in (inner_of groups) v h))),
-              );
-        }
-
-        -- the numbers that are left for the child groups' variables
-        pub left : Address → Rational
-        left v = adjoint (target w ∷ []) v -ℚ adjoint other_helds v
-
-        pub left_rest : (v : Address) → left v +ℚ adjoint other_helds v ≡ adjoint (target w ∷ []) v
-        unfolding left
-        left_rest v = -ℚ-+ℚ_cancel (adjoint (target w ∷ []) v) (adjoint other_helds v)
-
-        module _ (carries : (duals : ChildDuals)
-            → duals.rows ≡ take (length image.rows) (backs d os)
-            → duals.objective ≡ drop (length image.rows) (backs d os)
-            → Carries (edge_at n) item duals w)
-            (rows : StandFor (held d.bound (map (put_in inner) others) (backs d os))
-            (leaf_helds d (leaves_in os)))
-            (below : StandFor (map (through inner) (group_helds d.bound left groups))
-            (leaf_helds d (leaves_of_each gs))) where
-          abbrev child_duals : ChildDuals
-          child_duals = record {
-            groups = map (λ g. map left (variables_of g.body)) groups;
-            rows = take (length image.rows) (backs d os);
-            objective = drop (length image.rows) (backs d os);
+        where
+          pub level : IsLevel setting costly choice chosen lawful d groups others inner gs os
+              (target w ∷ [])
+          level = record {
+            groups_here = child_groups_here setting costly choice chosen lawful item here n e;
+            others_here = child_rows_here setting costly choice chosen lawful item here n e inner gs;
+            rows_only = no_groups setting costly choice chosen lawful item here.can n e;
+            distinct = keys_distinct;
+            distinct_inner = components_distinct;
+            duals = duals;
+            balance = balance;
+            quiet = λ v c. target_quiet w v c (in_second group_keys other_keys v keys_distinct c);
+            missed = λ v c.
+                rows_miss setting costly choice chosen lawful item here n e inner gs v
+                (item_misses v (All-contains IsUnder other_keys v others_stand_under c))
+                (in_second group_keys other_keys v keys_distinct c);
+            outside = λ v c h.
+                let b = All-contains IsUnder group_keys v groups_stand_under c in (
+                  adjoints_missed (target w ∷ []) v
+                      (All-cons (HeldMisses v) (target w) [] (standing_misses v b h)
+                      (All-nil (HeldMisses v))),
+                  adjoints_missed other_helds v
+                      (held_missed d.bound v others (backs d os)
+                      (children_miss setting costly choice chosen lawful item here n e v
+                      (item_misses v b) (not_in (inner_of groups) v h))),
+                );
           }
 
-          abbrev all_children : List Held
-          all_children = group_helds d.bound left groups ++ other_helds
+          -- the numbers that are left for the child groups' variables
+          pub left : Address → Rational
+          left v = adjoint (target w ∷ []) v -ℚ adjoint other_helds v
 
-          children_are : held_children d.bound image child_duals ≡ all_children
-          children_are =
-              ap₂ ◌++◌ (held_groups d.bound left groups)
-              (held_split d.bound image.rows (listed image.objective) (backs d os))
+          pub left_rest : (v : Address) → left v +ℚ adjoint other_helds v ≡ adjoint (target w ∷ []) v
+          unfolding left
+          left_rest v = -ℚ-+ℚ_cancel (adjoint (target w ∷ []) v) (adjoint other_helds v)
 
-          counted : length (backs d os) ≡ length image.rows + length (listed image.objective)
-          counted = length-backs os ∙ length-append image.rows (listed image.objective)
+          module _ (carries : (duals : ChildDuals)
+              → duals.rows ≡ take (length image.rows) (backs d os)
+              → duals.objective ≡ drop (length image.rows) (backs d os)
+              → Carries (edge_at n) item duals w)
+              (rows : StandFor (held d.bound (map (put_in inner) others) (backs d os))
+              (leaf_helds d (leaves_in os)))
+              (below : StandFor (map (through inner) (group_helds d.bound left groups))
+              (leaf_helds d (leaves_of_each gs))) where
+            abbrev child_duals : ChildDuals
+            child_duals = record {
+              groups = map (λ g. map left (variables_of g.body)) groups;
+              rows = take (length image.rows) (backs d os);
+              objective = drop (length image.rows) (backs d os);
+            }
 
-          covered : IsCovered d.bound item image child_duals w
-          covered =
-              (law_of setting costly choice chosen lawful item here.can n e).duals d.bound
-              child_duals w
-              (record {
-                each = record {
-                  groups = length-map groups (λ g. map left (variables_of g.body));
-                  rows = omega (arith, counted, length-take (length image.rows) (backs d os));
-                  objective = omega (arith, counted, length-drop (length image.rows) (backs d os));
-                };
-                carries = carries child_duals refl refl;
-                hold = subst DualsHold (sym children_are)
-                    (children_hold setting costly choice chosen lawful d groups others inner gs os
-                    (target w ∷ []) level left left_rest rows below);
-                inner =
-                    All-weaker (Contains (inner_of groups))
-                    (λ v. adjoint_of (target w) v
-                    ≡ adjoint (held_children d.bound image child_duals) v)
-                    (λ v c. sym (+ℚ-zero (adjoint_of (target w) v))
-                    ∙ sym (meets setting costly choice chosen lawful d groups others inner gs os
-                    (target w ∷ []) level left left_rest rows v c)
-                    ∙ ap (λ hs. adjoint hs v) (sym children_are))
-                    (inner_of groups) (All-contains_itself (inner_of groups));
-              })
+            abbrev all_children : List Held
+            all_children = group_helds d.bound left groups ++ other_helds
 
-          pub target_stands : StandFor (through inner (target w) ∷ []) (leaf_helds d all_leaves)
-          target_stands =
-              stand_after (through inner (target w) ∷ []) (map (through inner) all_children)
-              (leaf_helds d all_leaves)
-              (stand_through inner (target w ∷ []) all_children
-              (one_stands (target w) all_children covered.holds
-              (λ v. covered.same v ∙ ap (λ hs. adjoint hs v) children_are)
-              (subst (λ hs. gap hs ≤ℚ gap_of (target w)) children_are covered.gaps)))
-              (level_stands setting costly choice chosen lawful d groups others inner gs os
-              (target w ∷ []) level left left_rest rows below)
+            children_are : held_children d.bound image child_duals ≡ all_children
+            children_are =
+                ap₂ ◌++◌ (held_groups d.bound left groups)
+                (held_split d.bound image.rows (listed image.objective) (backs d os))
+
+            counted : length (backs d os) ≡ length image.rows + length (listed image.objective)
+            counted = length-backs os ∙ length-append image.rows (listed image.objective)
+
+            covered : IsCovered d.bound item image child_duals w
+            covered =
+                (law_of setting costly choice chosen lawful item here.can n e).duals d.bound
+                child_duals w
+                (record {
+                  each = record {
+                    groups = length-map groups (λ g. map left (variables_of g.body));
+                    rows = omega (arith, counted, length-take (length image.rows) (backs d os));
+                    objective = omega (arith, counted, length-drop (length image.rows) (backs d os));
+                  };
+                  carries = carries child_duals refl refl;
+                  hold = subst DualsHold (sym children_are)
+                      (children_hold setting costly choice chosen lawful d groups others inner gs os
+                      (target w ∷ []) level left left_rest rows below);
+                  inner =
+                      All-weaker (Contains (inner_of groups))
+                      (λ v. adjoint_of (target w) v
+                      ≡ adjoint (held_children d.bound image child_duals) v)
+                      (λ v c. sym (+ℚ-zero (adjoint_of (target w) v))
+                      ∙ sym (meets setting costly choice chosen lawful d groups others inner gs os
+                      (target w ∷ []) level left left_rest rows v c)
+                      ∙ ap (λ hs. adjoint hs v) (sym children_are))
+                      (inner_of groups) (All-contains_itself (inner_of groups));
+                })
+
+            pub target_stands : StandFor (through inner (target w) ∷ []) (leaf_helds d all_leaves)
+            target_stands =
+                stand_after (through inner (target w) ∷ []) (map (through inner) all_children)
+                (leaf_helds d all_leaves)
+                (stand_through inner (target w ∷ []) all_children
+                (one_stands (target w) all_children covered.holds
+                (λ v. covered.same v ∙ ap (λ hs. adjoint hs v) children_are)
+                (subst (λ hs. gap hs ≤ℚ gap_of (target w)) children_are covered.gaps)))
+                (level_stands setting costly choice chosen lawful d groups others inner gs os
+                (target w ∷ []) level left left_rest rows below)

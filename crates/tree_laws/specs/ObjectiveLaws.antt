@@ -51,8 +51,10 @@ pub one_last : (rows : List Item) (o : Item) → All (λ x. is_objective x.body 
     → is_objective o.body ≡ true → OneObjective (rows ++ o ∷ [])
 one_last [] o h k = inl (k, λ i d end. absurd (omega (arith, end)))
 one_last (r ∷ rows) o h k =
-    inr (All-head (λ x. is_objective x.body ≡ false) r rows h,
-    one_last rows o (All-tail (λ x. is_objective x.body ≡ false) r rows h) k)
+    inr (
+      All-head (λ x. is_objective x.body ≡ false) r rows h,
+      one_last rows o (All-tail (λ x. is_objective x.body ≡ false) r rows h) k,
+    )
 
 pub objective_no_group : (b : Body) → is_objective b ≡ true → is_group b ≡ false
 objective_no_group (Group s vars) h = absurd (true≢false (sym h))
@@ -101,7 +103,7 @@ none_at_all (i ∷ items) h =
     ap₂ ◌++◌ (not_one i (All-head (λ x. is_objective x.body ≡ false) i items h))
     (none_at_all items (All-tail (λ x. is_objective x.body ≡ false) i items h))
 
-one_behind : (xs ys : List Item) → All (λ x. is_objective x.body ≡ false) xs → HasOne ys
+pub one_behind : (xs ys : List Item) → All (λ x. is_objective x.body ≡ false) xs → HasOne ys
     → HasOne (xs ++ ys)
 one_behind xs ys h one = record {
   leaf = one.leaf;
@@ -123,7 +125,6 @@ module _ (setting : Setting) (costly : IsCostly (graph_of setting)) (choice : �
   abbrev GroupThere : Item → Type 0
   GroupThere g = IsGroupHere setting costly choice chosen lawful g
 
-  
   mutual
     unfolding leaves
 

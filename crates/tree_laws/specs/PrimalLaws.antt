@@ -79,9 +79,9 @@ module _ (one : Rational) (a : zero_ℚ ≤ℚ one) (x : Address → Rational) w
   group_in : (at : Address) (b : Body) → IsNativeGroup b
       → All Allows (leaf_variables (record { at = at; body = b }))
       → HoldsAt one x (record { at = at; body = b })
-  group_in at (Group s vars) (reals {n}) h = tt
-  group_in at (Group s vars) (nonnegatives {n}) h = nonneg_in vars leaf.Nonneg (λ v k. k) h
-  group_in at (Free vars) free h = tt
+  group_in at b (reals {n} {vars}) h = tt
+  group_in at b (nonnegatives {n} {vars}) h = nonneg_in vars leaf.Nonneg (λ v k. k) h
+  group_in at b (free {vars}) h = tt
 
   one_in_place : (i : Item) → IsLeaf i → All Allows (leaf_variables i) → All RowIn (leaf_rows i)
       → LeafHolds one a x i

@@ -179,7 +179,7 @@ module _ (setting : Setting) (costly : IsCostly (graph_of setting)) (choice : �
       (groups_at setting costly choice chosen lawful item is.here n e) inner)
       (os : EachBridgedIn (rules_by choice) inner
       (others_at setting costly choice chosen lawful item is.here n e))
-      (ready : RowReady (by e gs os)) where
+      (ready : RowReady (by {item = item} {edge = n} {inner = inner} e gs os)) where
     abbrev carried_dual : List Rational
     carried_dual = carried setting costly choice chosen lawful d item is n e (backs d os)
 
@@ -229,8 +229,8 @@ module _ (setting : Setting) (costly : IsCostly (graph_of setting)) (choice : �
       row_node : StandFor (map (through inner) (group_helds d.bound row_left
           (groups_at setting costly choice chosen lawful item is.here n e)))
           (leaf_helds d (leaves_of_each gs))
-          → StandFor (held_body d.bound item.body (back d (by e gs os)) ∷ [])
-          (leaf_helds d (leaves (by e gs os)))
+          → StandFor (held_body d.bound item.body (back d (by {item = item} {edge = n} {inner = inner} e gs os)) ∷ [])
+          (leaf_helds d (leaves (by {item = item} {edge = n} {inner = inner} e gs os)))
       unfolding leaves back
       row_node below =
           subst (λ h. StandFor (h ∷ []) (leaf_helds d (leaves_of_each gs ++ leaves_in os)))
@@ -247,7 +247,7 @@ module _ (setting : Setting) (costly : IsCostly (graph_of setting)) (choice : �
       (groups_at setting costly choice chosen lawful item is.here n e) inner)
       (os : EachBridgedIn (rules_by choice) inner
       (others_at setting costly choice chosen lawful item is.here n e))
-      (w : Address → Rational) (ready : GroupReady (by e gs os) w) where
+      (w : Address → Rational) (ready : GroupReady (by {item = item} {edge = n} {inner = inner} e gs os) w) where
     abbrev numbers : List Rational
     numbers = map w (variables_of item.body)
 
@@ -299,7 +299,7 @@ module _ (setting : Setting) (costly : IsCostly (graph_of setting)) (choice : �
           (groups_at setting costly choice chosen lawful item is.here n e)))
           (leaf_helds d (leaves_of_each gs))
           → StandFor (through (outer_entries n item inner) (group_held d.bound w item) ∷ [])
-          (leaf_helds d (leaves (by e gs os)))
+          (leaf_helds d (leaves (by {item = item} {edge = n} {inner = inner} e gs os)))
       unfolding leaves
       group_node below =
           subst (λ h. StandFor (h ∷ []) (leaf_helds d (leaves_of_each gs ++ leaves_in os)))
@@ -313,17 +313,17 @@ module _ (setting : Setting) (costly : IsCostly (graph_of setting)) (choice : �
   -- ---- natively
 
   native_row_stands : (item : Item) (c : (rules_by choice).choice item ≡ Native)
-      → RowReady (natively c)
-      → StandFor (held_body d.bound item.body (back d (natively c)) ∷ [])
-      (leaf_helds d (leaves (natively c)))
+      → RowReady (natively {item = item} c)
+      → StandFor (held_body d.bound item.body (back {rules = rules_by choice} d (natively {item = item} c)) ∷ [])
+      (leaf_helds d (leaves {Item = Item} {Entry = Entry} {rules = rules_by choice} (natively {item = item} c)))
   unfolding leaves back
   native_row_stands item c ready =
       native_row setting costly choice chosen lawful d item ready.here ready.duals
 
   native_group_stands : (item : Item) (c : (rules_by choice).choice item ≡ Native)
-      (w : Address → Rational) → GroupReady (natively c) w
+      (w : Address → Rational) → GroupReady (natively {item = item} c) w
       → StandFor (through (own_entries item) (group_held d.bound w item) ∷ [])
-      (leaf_helds d (leaves (natively c)))
+      (leaf_helds d (leaves {Item = Item} {Entry = Entry} {rules = rules_by choice} (natively {item = item} c)))
   unfolding leaves keys
   native_group_stands item c w ready =
       native_group setting costly choice chosen lawful d item ready.here ready.duals w

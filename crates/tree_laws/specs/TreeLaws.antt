@@ -82,7 +82,7 @@ leaf_row d c h =
     ap (λ b. held_body d.bound c.body
     (cond b (map d.numbers (variables_of c.body)) (row_dual d c))) h
 
-same_numbers : (w z : Address → Rational) (vars : List Address) → All (λ v. w v ≡ z v) vars
+pub same_numbers : (w z : Address → Rational) (vars : List Address) → All (λ v. w v ≡ z v) vars
     → map w vars ≡ map z vars
 same_numbers w z [] h = refl
 same_numbers w z (v ∷ vs) h =

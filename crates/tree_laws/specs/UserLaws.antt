@@ -46,32 +46,35 @@ inner_is (g ∷ gs) = ap (λ l. addresses_of g.vars ++ l) (inner_is gs) ∙ sym 
 in_vars : (vars : List GroupVar) (n : ℕ) → list_any (λ v. v.number == n) vars ≡ true
     → Contains (addresses_of vars) (variable_address n)
 in_vars [] n h = absurd (true≢false (sym h))
-in_vars (v ∷ vs) n h = by (v.number == n) refl h
+in_vars (v ∷ vs) n h = by (v.number == n) refl h (in_vars vs n)
   where
     by : (b : Bool) → (v.number == n) ≡ b → (b || list_any (λ w. w.number == n) vs) ≡ true
+        → (list_any (λ w. w.number == n) vs ≡ true
+        → Contains (addresses_of vs) (variable_address n))
         → Contains (addresses_of (v ∷ vs)) (variable_address n)
-    by true e k =
+    by true e k later =
         subst (λ m. Contains (addresses_of (v ∷ vs)) (variable_address m))
         ((Decides-eqb v.number n).0 e) (contains_here (address_of v) (addresses_of vs))
-    by false e k =
-        contains_later (address_of v) (variable_address n) (addresses_of vs) (in_vars vs n k)
+    by false e k later =
+        contains_later (address_of v) (variable_address n) (addresses_of vs) (later k)
 
 found_in : (groups : List Group) (n : ℕ) → IsSome (find (has_variable n) groups)
     → Contains (all_addresses groups) (variable_address n)
 found_in [] n h = absurd (not_some None refl h)
-found_in (g ∷ gs) n h = by (has_variable n g) refl h
+found_in (g ∷ gs) n h = by (has_variable n g) refl h (found_in gs n)
   where
     by : (b : Bool) → has_variable n g ≡ b
         → IsSome (cond b (Some g) (find (has_variable n) gs))
+        → (IsSome (find (has_variable n) gs) → Contains (all_addresses gs) (variable_address n))
         → Contains (all_addresses (g ∷ gs)) (variable_address n)
-    by true e k =
+    by true e k later =
         subst (λ l. Contains l (variable_address n)) (sym (split_addresses g gs))
         (Contains-append_left (addresses_of g.vars) (all_addresses gs) (variable_address n)
         (in_vars g.vars n e))
-    by false e k =
+    by false e k later =
         subst (λ l. Contains l (variable_address n)) (sym (split_addresses g gs))
         (Contains-append_right (addresses_of g.vars) (all_addresses gs) (variable_address n)
-        (found_in gs n k))
+        (later k))
 
 pub stands_in : (groups : List Group) (v : Address) → Stands groups v
     → Contains (all_addresses groups) v
