@@ -5,5 +5,6 @@ pub mod Keys
 pub mod Regions
 pub mod KeyLaws
 pub mod MadeLaws
+pub mod LeafKeys
 pub mod Distinct
 pub mod DistinctLaws

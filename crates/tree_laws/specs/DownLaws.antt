@@ -22,7 +22,7 @@ use Rattle.fresh_bridging.specs.Entries.{Entry, expression_in, function_in}
 use Rattle.fresh_bridging.specs.MentionLaws.{composed-variable}
 use Rattle.fresh_bridging.specs.TheRules.{AreChoices, Setting, graph_of, rules_by}
 use Rattle.address_laws.specs.Apart.{Avoids, Distinct, in_first, in_second}
-use Rattle.address_laws.specs.DistinctLaws.{no_keys}
+use Rattle.address_laws.specs.LeafKeys.{no_keys}
 use Rattle.address_laws.specs.Keys.{keys, keys_of_each, own}
 use Rattle.tree_laws.specs.Carried.{LeafDuals, StandFor, group_held, group_helds, leaf_helds, through}
 use Rattle.tree_laws.specs.LevelLaws.{adjoint_of_leaves, leaf_missed, stand_leaves}

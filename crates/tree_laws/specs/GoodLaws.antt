@@ -132,11 +132,11 @@ value_is : (sense : Sense) (f : Function) (x : Address → Rational) (g : Ration
 value_is Min f x g h = h
 value_is Max f x g h =
     sym (neg_ℚ-neg_ℚ (value_of f x))
-    ∙ ap neg_ℚ (sym (values f x) ∙ h ∙ ap (λ q. q +ℚ g) (negation f).constant)
+    ∙ ap neg_ℚ (sym (value_negated f x) ∙ h ∙ ap (λ q. q +ℚ g) (negation f).constant)
     ∙ turned f.constant g
   where
-    values : (k : Function) (p : Address → Rational) → value_of (negated k) p ≡ neg_ℚ (value_of k p)
-    values k p =
+    value_negated : (k : Function) (p : Address → Rational) → value_of (negated k) p ≡ neg_ℚ (value_of k p)
+    value_negated k p =
         sym (evaluated_value (negated k) p) ∙ evaluated_negated one_ℚ k (negated k) (negation k) p
         ∙ ap neg_ℚ (evaluated_value k p)
 
@@ -154,9 +154,6 @@ better_is Max f x h =
 
 one_nonneg : zero_ℚ ≤ℚ one_ℚ
 one_nonneg = ≤ℚ_from_‹ℚ zero_ℚ one_ℚ zero_‹ℚ_one
-
-minus_one : Rational
-minus_one = neg_ℚ one_ℚ
 
 minus_nonpos : neg_ℚ one_ℚ ≤ℚ zero_ℚ
 minus_nonpos = nonpos_neg one_ℚ one_nonneg

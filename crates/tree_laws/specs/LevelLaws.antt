@@ -32,7 +32,7 @@ use Rattle.fresh_bridging.specs.EachLaws.{all_first, all_second}
 use Rattle.fresh_bridging.specs.Entries.{Entry, put_in}
 use Rattle.fresh_bridging.specs.TheRules.{AreChoices, Setting, graph_of, rules_by}
 use Rattle.address_laws.specs.Apart.{Avoids, Distinct, counted_never, counted_once, in_or_not, in_second}
-use Rattle.address_laws.specs.DistinctLaws.{no_keys}
+use Rattle.address_laws.specs.LeafKeys.{no_keys}
 use Rattle.address_laws.specs.ImageLaws.{Misses}
 use Rattle.address_laws.specs.Keys.{keys_in, keys_of_each, own}
 use Rattle.tree_laws.specs.Carried.{LeafDuals, StandFor, backs, group_held, group_helds, leaf_held, leaf_helds, seen_at, through}

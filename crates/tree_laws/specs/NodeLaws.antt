@@ -27,7 +27,7 @@ use Rattle.fresh_bridging.specs.Entries.{Entry, function_in, put_in}
 use Rattle.fresh_bridging.specs.OmitLaws.{IsBelowAt}
 use Rattle.fresh_bridging.specs.TheRules.{AreChoices, Setting, edge_at, graph_of, rules_by}
 use Rattle.address_laws.specs.Apart.{Avoids, Distinct, avoids, distinct-append, in_or_not, in_second, not_in}
-use Rattle.address_laws.specs.DistinctLaws.{no_keys, variables_are}
+use Rattle.address_laws.specs.LeafKeys.{no_keys, variables_are}
 use Rattle.address_laws.specs.ImageLaws.{Misses}
 use Rattle.address_laws.specs.KeyLaws.{IsHere, groups_apart, groups_here, groups_under, law_of, no_groups, once_in_tree, others_here, others_under, within_each, within_in}
 use Rattle.address_laws.specs.Keys.{Mine, keys, keys_in, keys_of_each, own}

@@ -32,7 +32,7 @@ use Rattle.fresh_bridging.specs.MentionLaws.{AllOmit, Omits}
 use Rattle.fresh_bridging.specs.OmitLaws.{IsBelowAt}
 use Rattle.fresh_bridging.specs.TheRules.{AreChoices, Setting, edge_at, graph_of, outer_entries, rules_by}
 use Rattle.address_laws.specs.Apart.{Avoids, in_or_not, not_in}
-use Rattle.address_laws.specs.DistinctLaws.{no_keys}
+use Rattle.address_laws.specs.LeafKeys.{no_keys}
 use Rattle.address_laws.specs.ImageLaws.{Misses, named_in_groups, variables_miss}
 use Rattle.address_laws.specs.KeyLaws.{IsHere, child_groups_of, groups_here, groups_only, law_of, no_groups, others_here, others_of}
 use Rattle.address_laws.specs.Keys.{keys, keys_in, keys_of_each, own}

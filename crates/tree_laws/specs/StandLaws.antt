@@ -19,7 +19,7 @@ use Rattle.fresh_bridging.specs.CanLaws.{AreLawful}
 use Rattle.fresh_bridging.specs.Entries.{Entry, put_in}
 use Rattle.fresh_bridging.specs.TheRules.{AreChoices, Setting, graph_of, outer_entries, own_entries, rules_by}
 use Rattle.address_laws.specs.Apart.{Distinct, distinct-first, distinct-second}
-use Rattle.address_laws.specs.DistinctLaws.{no_keys}
+use Rattle.address_laws.specs.LeafKeys.{no_keys}
 use Rattle.address_laws.specs.ImageLaws.{Misses}
 use Rattle.address_laws.specs.Keys.{keys, keys_in, keys_of_each, own}
 use Rattle.tree_laws.specs.Carried.{LeafDuals, StandFor, back, backs, group_held, group_helds, leaf_helds, through}

@@ -33,7 +33,7 @@ use Rattle.fresh_bridging.specs.MentionLaws.{composed-variable}
 use Rattle.fresh_bridging.specs.OmitLaws.{IsBelowAt}
 use Rattle.fresh_bridging.specs.TheRules.{AreChoices, Setting, edge_at, graph_of, outer_entries, own_entries, rules_by}
 use Rattle.address_laws.specs.Apart.{Avoids, Distinct, counted_once, in_first, in_or_not, in_second}
-use Rattle.address_laws.specs.DistinctLaws.{no_keys}
+use Rattle.address_laws.specs.LeafKeys.{no_keys}
 use Rattle.address_laws.specs.ImageLaws.{Misses}
 use Rattle.address_laws.specs.KeyLaws.{groups_under}
 use Rattle.address_laws.specs.Keys.{Mine, keys, keys_in, own}

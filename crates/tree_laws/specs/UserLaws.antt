@@ -60,7 +60,7 @@ in_vars (v ∷ vs) n h = by (v.number == n) refl h (in_vars vs n)
 
 found_in : (groups : List Group) (n : ℕ) → IsSome (find (has_variable n) groups)
     → Contains (all_addresses groups) (variable_address n)
-found_in [] n h = absurd (not_some None refl h)
+found_in [] n h = absurd (not_some {X = Group} None refl h)
 found_in (g ∷ gs) n h = by (has_variable n g) refl h (found_in gs n)
   where
     by : (b : Bool) → has_variable n g ≡ b
