@@ -55,7 +55,8 @@ numbered_distinct : (vars : List GroupVar) → Rise variable_number vars → Dis
 numbered_distinct [] rise = tt
 numbered_distinct (v ∷ vars) rise = (
   All-map (λ k. ¬ (k ≡ variable_address v.number)) (λ w. variable_address w.number) vars
-      (All-weaker (λ w. v.number < w.number) (λ w. ¬ (variable_address w.number ≡ variable_address v.number))
+      (All-weaker (λ w. v.number < w.number) (λ w. ¬ (variable_address w.number ≡ variable_address
+      v.number))
       (λ w h e. let same : w.number ≡ v.number = ap number_of e in omega (arith, h, same)) vars
       (Rise-head variable_number v vars rise)),
   numbered_distinct vars (Rise-tail variable_number v vars rise),
@@ -111,7 +112,8 @@ groups_of_model_apart : (groups : List UserGroup) → Rise group_number groups
     → Distinct (all_numbered groups) → AreApart Mine (map group_item groups)
 groups_of_model_apart [] rise d = tt
 groups_of_model_apart (g ∷ gs) rise d =
-    let parts : Distinct (numbered g.vars ++ all_numbered gs) = subst Distinct (split_vars g gs) d in (
+    let parts : Distinct (numbered g.vars ++ all_numbered gs) = subst Distinct (split_vars g gs) d
+    in (
       λ v m. rest_apart g v m gs (Rise-head group_number g gs rise)
           (in_first (numbered g.vars) (all_numbered gs) v parts),
       groups_of_model_apart gs (Rise-tail group_number g gs rise)
@@ -122,7 +124,8 @@ each_group_distinct : (groups : List UserGroup) → Distinct (all_numbered group
     → All (λ g. Distinct (numbered g.vars)) groups
 each_group_distinct [] d = All-nil (λ g. Distinct (numbered g.vars))
 each_group_distinct (g ∷ gs) d =
-    let parts : Distinct (numbered g.vars ++ all_numbered gs) = subst Distinct (split_vars g gs) d in
+    let parts : Distinct (numbered g.vars ++ all_numbered gs) = subst Distinct (split_vars g gs) d
+    in
     All-cons (λ h. Distinct (numbered h.vars)) g gs
     (distinct-first (numbered g.vars) (all_numbered gs) parts)
     (each_group_distinct gs (distinct-second (numbered g.vars) (all_numbered gs) parts))
@@ -159,7 +162,8 @@ others_of_model_apart (r ∷ rows) o rise = (
   λ v b. All-append (λ y. ¬ (AtOrBelow y v)) (map row_item rows) (objective_items o)
       (All-map (λ y. ¬ (AtOrBelow y v)) row_item rows
       (All-weaker (λ s. r.id < s.id) (λ s. ¬ (AtOrBelow (row_item s) v))
-      (λ s less k. let same : r.id ≡ s.id = ap number_of (sym b.is ∙ k.is) in omega (arith, same, less))
+      (λ s less k. let same : r.id ≡ s.id = ap number_of (sym b.is ∙ k.is) in omega
+      (arith, same, less))
       rows (Rise-head row_number r rows rise)))
       (objective_below o v (ap (λ (u : Address). u.root) b.is)),
   others_of_model_apart rows o (Rise-tail row_number r rows rise),
@@ -195,7 +199,8 @@ module _ (setting : Setting) (costly : IsCostly (graph_of setting)) (lawful : Ar
       (All-map (λ g. Distinct (own g)) group_item model.groups
       (each_group_distinct model.groups vars_distinct)))
 
-  pub model_others_here : All (λ c. IsHereNow (put_in bridging.made.entries c)) (model_image model).others
+  pub model_others_here : All (λ c. IsHereNow (put_in bridging.made.entries c))
+      (model_image model).others
   model_others_here =
       All-weaker
       (λ c. Can setting costly bridging.choice bridging.chosen (put_in bridging.made.entries c)
@@ -293,7 +298,8 @@ module _ (setting : Setting) (costly : IsCostly (graph_of setting)) (lawful : Ar
       (leaf_keys_in (λ i. keys_of (f i)) bridging.made.others)
       ∙ sym (flat_map-append (λ i. keys_of (f i)) (leaves_of_each bridging.made.groups)
       (leaves_in bridging.made.others))
-      ∙ sym (keys_of-flat_map f (leaves_of_each bridging.made.groups ++ leaves_in bridging.made.others)))
+      ∙ sym (keys_of-flat_map f (leaves_of_each bridging.made.groups ++ leaves_in
+      bridging.made.others)))
       (model_keys_distinct (λ i. keys_of (f i)) no_keys are)
 
   leaf_variables_are : AreKeys (λ i. keys_of (leaf_variables i)) no_keys
@@ -321,14 +327,17 @@ module _ (setting : Setting) (costly : IsCostly (graph_of setting)) (lawful : Ar
   nodes_distinct =
       subst Distinct
       (ap₂ ◌++◌ (node_keys_of_each bridging.made.groups) (node_keys_in bridging.made.others)
-      ∙ sym (map-append (λ n. n.1.at) (nodes_of_each bridging.made.groups) (nodes_in bridging.made.others))
+      ∙ sym (map-append (λ n. n.1.at) (nodes_of_each bridging.made.groups)
+      (nodes_in bridging.made.others))
       ∙ sym (keys_of_nodes (nodes_of_each bridging.made.groups ++ nodes_in bridging.made.others)))
       (model_keys_distinct no_keys its_key nodes_are)
 
   pub each_apart : EachApart bridging
   each_apart = record {
-    variables = made_exactly (flat_map leaf_variables (model_leaves bridging.made)) variables_distinct;
+    variables = made_exactly (flat_map leaf_variables (model_leaves bridging.made))
+        variables_distinct;
     rows = made_exactly (flat_map leaf_rows (model_leaves bridging.made)) rows_distinct;
-    objective = made_exactly (flat_map leaf_objectives (model_leaves bridging.made)) objectives_distinct;
+    objective = made_exactly (flat_map leaf_objectives (model_leaves bridging.made))
+        objectives_distinct;
     nodes = made_exactly (map (λ n. (n.1.at, n)) (model_nodes bridging.made)) nodes_distinct;
   }

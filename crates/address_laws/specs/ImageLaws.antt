@@ -73,7 +73,8 @@ module _ (setting : Setting) (costly : IsCostly (graph_of setting)) (choice : �
 
   pub group_family : is_group item.body ≡ true → is_group_family (family_of (edge_at n)) ≡ true
   group_family h =
-      ap (λ x. is_group_family x.family) (same_entry setting costly choice chosen lawful item can n e)
+      ap (λ x. is_group_family x.family) (same_entry setting costly choice chosen lawful item can n
+      e)
       ∙ or_left (is_group_kind entry.source) (is_group_family entry.family)
       (at_all groups_by_theirs EDGES n entry all_by_theirs
       (down setting costly choice chosen lawful item can n e).is_entry.here)
@@ -112,7 +113,8 @@ plain_alone (v ∷ vs) set = by (is_scalar set)
     by true = refl
     by false = refl
 
-with_set_alone : (b : Body) (set : Set) → is_group b ≡ false → not (is_group (with_set b set)) ≡ true
+with_set_alone : (b : Body) (set : Set) → is_group b ≡ false → not (is_group (with_set b set))
+    ≡ true
 with_set_alone (Group s vars) set h = absurd (true≢false h)
 with_set_alone (Free vars) set h = absurd (true≢false h)
 with_set_alone (Plain var s) set h = refl

@@ -62,7 +62,8 @@ components_distinct at (suc n) low =
         All-cons (λ k. ¬ (k ≡ child_of at i)) (child_of at from)
         (map (child_of at) (range_with_len (from + 1) m))
         (λ e.
-        let same : from ≡ i = apart at from i (child_of at from) (record { rest = []; is = refl }) (record { rest = []; is = e })
+        let same : from ≡ i = apart at from i (child_of at from) (record { rest = []; is = refl })
+        (record { rest = []; is = e })
         in
         omega (arith, same, h))
         (later m (from + 1) i (omega (arith, h)))
@@ -249,12 +250,14 @@ module _ (setting : Setting) (costly : IsCostly (graph_of setting)) (choice : �
         unfolding keys
 
         -- what holds of all that is the item's holds of each address that stands there
-        pub within : {item : Item} {entries : List Entry} (tree : Bridged (rules_by choice) item entries)
+        pub within : {item : Item} {entries : List Entry}
+            (tree : Bridged (rules_by choice) item entries)
             → IsHere item → ((v : Address) → Mine item v → P v) → All P (keys of_leaf of_node tree)
         within (natively {item} c) here h =
             All-weaker (Mine item) P h (of_leaf item) (are.leaf_mine item)
         within (by {item} {edge} {inner} c groups others) here h =
-            All-append P (of_node item) (keys_of_each of_leaf of_node groups ++ keys_in of_leaf of_node others)
+            All-append P (of_node item) (keys_of_each of_leaf of_node groups ++ keys_in of_leaf
+            of_node others)
             (All-weaker (λ k. k ≡ item.at) P
             (λ k e. h k (inl (record { rest = []; is = e ∙ itself_below item.at })))
             (of_node item) (are.node_here item))
@@ -265,7 +268,8 @@ module _ (setting : Setting) (costly : IsCostly (graph_of setting)) (choice : �
             (λ g k v m. h v (under_mine item here.can edge c v (k v m)))
             (child_groups_of item here.can edge c) (groups_under item here.can edge c)))
             (within_in others (others_here item here.can edge c inner groups)
-            (All-weaker (λ x. (v : Address) → Mine (put_in inner x) v → (j : ℕ) × IsBelowAt item.at j v)
+            (All-weaker (λ x. (v : Address) → Mine (put_in inner x) v → (j : ℕ) × IsBelowAt item.at
+            j v)
             (λ x. (v : Address) → Mine (put_in inner x) v → P v)
             (λ x k v m. h v (under_mine item here.can edge c v (k v m)))
             (others_of item here.can edge c) (others_under item here.can edge c inner))))
@@ -361,7 +365,8 @@ module _ (setting : Setting) (costly : IsCostly (graph_of setting)) (choice : �
           (keys_of_each of_leaf of_node groups ++ keys_in of_leaf of_node others)
           (are.node_once item)
           (distinct-append (keys_of_each of_leaf of_node groups) (keys_in of_leaf of_node others)
-          (once_in_each groups (groups_here item here.can edge c) (groups_apart item here.can edge c))
+          (once_in_each groups (groups_here item here.can edge c)
+          (groups_apart item here.can edge c))
           (once_in_others others (others_here item here.can edge c inner groups)
           (others_apart item here.can edge c inner))
           (keys_beside item here edge c groups others))
@@ -380,7 +385,8 @@ module _ (setting : Setting) (costly : IsCostly (graph_of setting)) (choice : �
           distinct-append (keys of_leaf of_node first) (keys_of_each of_leaf of_node rest)
           (once_in_tree first (All-head IsHere item items here))
           (once_in_each rest (All-tail IsHere item items here) h.1)
-          (within (Avoids (keys_of_each of_leaf of_node rest)) first (All-head IsHere item items here)
+          (within (Avoids (keys_of_each of_leaf of_node rest)) first
+          (All-head IsHere item items here)
           (λ v m. avoid_each rest (All-tail IsHere item items here) v (h.0 v m)))
 
       pub once_in_others : {inner : List Entry} {items : List Item}
@@ -394,4 +400,5 @@ module _ (setting : Setting) (costly : IsCostly (graph_of setting)) (choice : �
           (once_in_others rest (All-tail (λ c. IsHere (put_in inner c)) item items here) h.1)
           (within (Avoids (keys_in of_leaf of_node rest)) first
           (All-head (λ c. IsHere (put_in inner c)) item items here)
-          (λ v m. avoid_in rest (All-tail (λ c. IsHere (put_in inner c)) item items here) v (h.0 v m)))
+          (λ v m. avoid_in rest (All-tail (λ c. IsHere (put_in inner c)) item items here) v
+          (h.0 v m)))

@@ -89,7 +89,8 @@ apart_children at (x ∷ xs) low e = (first, apart_children at xs (low + 1) rest
         (StandsFrom (λ c. c.at) (child_of at) (low + 1) ((low + 1) + length xs))
         (λ y. ¬ (AtOrBelow y v))
         (λ y s k.
-        let same : low ≡ s.place = apart at low s.place v (at_child at low x.at here v b) (at_child at s.place y.at s.is v k)
+        let same : low ≡ s.place = apart at low s.place v (at_child at low x.at here v b)
+        (at_child at s.place y.at s.is v k)
         in
         omega (arith, same, s.from))
         xs (stand_from (λ c. c.at) (child_of at) xs (low + 1) ((low + 1) + length xs) (omega arith)

@@ -195,7 +195,8 @@ module _ (setting : Setting) (costly : IsCostly (graph_of setting)) (choice : �
 
     module _ (distinct : Distinct (keys own no_keys first ++ keys_of_each own no_keys rest))
         (distinct_inner : Distinct (inner_of (item ∷ items)))
-        (balance : (v : Address) → Contains (keys own no_keys first ++ keys_of_each own no_keys rest) v
+        (balance : (v : Address) → Contains (keys own no_keys first ++ keys_of_each own no_keys
+        rest) v
         → adjoint (map (through (entries ++ others)) (group_helds d.bound w (item ∷ items))) v
         ≡ adjoint (leaf_helds d (leaves first ++ leaves_of_each rest)) v) where
       abbrev above : Address → Rational
@@ -206,9 +207,11 @@ module _ (setting : Setting) (costly : IsCostly (graph_of setting)) (choice : �
 
       parted : (v : Address) → Contains (keys own no_keys first ++ keys_of_each own no_keys rest) v
           → above v +ℚ beside v
-          ≡ adjoint (leaf_helds d (leaves first)) v +ℚ adjoint (leaf_helds d (leaves_of_each rest)) v
+          ≡ adjoint (leaf_helds d (leaves first)) v +ℚ adjoint (leaf_helds d (leaves_of_each rest))
+          v
       parted v c =
-          ap (λ q. q +ℚ beside v) (+ℚ-zero (adjoint_of (through entries (group_held d.bound w item)) v))
+          ap (λ q. q +ℚ beside v) (+ℚ-zero (adjoint_of (through entries (group_held d.bound w item))
+          v))
           ∙ sym (ap₂ (λ h hs. adjoint (h ∷ hs) v) first_through (rest_through distinct_inner))
           ∙ balance v c
           ∙ adjoint_of_leaves d (leaves first) (leaves_of_each rest) v
@@ -216,9 +219,11 @@ module _ (setting : Setting) (costly : IsCostly (graph_of setting)) (choice : �
       pub first_balance : (v : Address) → Contains (keys own no_keys first) v
           → above v ≡ adjoint (leaf_helds d (leaves first)) v
       first_balance v c =
-          let away = in_first (keys own no_keys first) (keys_of_each own no_keys rest) v distinct c in
+          let away = in_first (keys own no_keys first) (keys_of_each own no_keys rest) v distinct c
+          in
           sym (+ℚ-zero (above v)) ∙ ap (λ q. above v +ℚ q) (sym (rest_unseen v away))
-          ∙ parted v (Contains-append_left (keys own no_keys first) (keys_of_each own no_keys rest) v c)
+          ∙ parted v (Contains-append_left (keys own no_keys first) (keys_of_each own no_keys rest)
+          v c)
           ∙ ap (λ q. adjoint (leaf_helds d (leaves first)) v +ℚ q)
           (leaf_missed d v (leaves_of_each rest)
           (leaves_of_each_miss setting costly choice chosen lawful rest more v away))
@@ -227,9 +232,11 @@ module _ (setting : Setting) (costly : IsCostly (graph_of setting)) (choice : �
       pub rest_balance : (v : Address) → Contains (keys_of_each own no_keys rest) v
           → beside v ≡ adjoint (leaf_helds d (leaves_of_each rest)) v
       rest_balance v c =
-          let away = in_second (keys own no_keys first) (keys_of_each own no_keys rest) v distinct c in
+          let away = in_second (keys own no_keys first) (keys_of_each own no_keys rest) v distinct c
+          in
           sym (zero-+ℚ (beside v)) ∙ ap (λ q. q +ℚ beside v) (sym (first_unseen v away))
-          ∙ parted v (Contains-append_right (keys own no_keys first) (keys_of_each own no_keys rest) v c)
+          ∙ parted v (Contains-append_right (keys own no_keys first) (keys_of_each own no_keys rest)
+          v c)
           ∙ ap (λ q. q +ℚ adjoint (leaf_helds d (leaves_of_each rest)) v)
           (leaf_missed d v (leaves first)
           (leaves_miss setting costly choice chosen lawful first one.here v

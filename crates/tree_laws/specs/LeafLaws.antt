@@ -183,7 +183,8 @@ module _ (d : LeafDuals) where
             ≡ group_part (record { at = i.at; body = b })
             +ℚ (rows_part (record { at = i.at; body = b })
             +ℚ objectives_part (record { at = i.at; body = b }))
-        by (Group s vars) = first_alone (F (leaf_held d (record { at = i.at; body = Group s vars })))
+        by (Group s vars) = first_alone (F (leaf_held d (record
+            { at = i.at; body = Group s vars })))
         by (Free vars) = first_alone (F (leaf_held d (record { at = i.at; body = Free vars })))
         by (Plain var s) = second_alone (F (held d.duals (i.at, Plain var s)))
         by (Affine func s) = second_alone (F (held d.duals (i.at, Affine func s)))

@@ -49,7 +49,8 @@ module _ (d : LeafDuals) where
   leaf_missed v items m =
       adjoints_missed (leaf_helds d items) v
       (All-map (HeldMisses v) (leaf_held d) items
-      (All-weaker (Misses v) (λ i. HeldMisses v (leaf_held d i)) (λ i h. row_misses i.body v h) items
+      (All-weaker (Misses v) (λ i. HeldMisses v (leaf_held d i)) (λ i h. row_misses i.body v h)
+      items
       m))
 
   pub adjoint_of_leaves : (xs ys : List Item) (v : Address)

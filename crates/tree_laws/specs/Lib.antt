@@ -17,4 +17,8 @@ pub mod PrimalLaws
 pub mod Certificate
 pub mod OwnLaws
 pub mod ObjectivePart
+pub mod SenseLaws
+pub mod UserHelds
+pub mod UserPoints
+pub mod UserDuals
 pub mod GoodLaws

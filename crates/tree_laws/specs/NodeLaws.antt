@@ -248,7 +248,8 @@ module _ (setting : Setting) (costly : IsCostly (graph_of setting)) (choice : �
               (target w ∷ [])
           level = record {
             groups_here = child_groups_here setting costly choice chosen lawful item here n e;
-            others_here = child_rows_here setting costly choice chosen lawful item here n e inner gs;
+            others_here = child_rows_here setting costly choice chosen lawful item here n e inner
+                gs;
             rows_only = no_groups setting costly choice chosen lawful item here.can n e;
             distinct = keys_distinct;
             distinct_inner = components_distinct;
@@ -275,7 +276,8 @@ module _ (setting : Setting) (costly : IsCostly (graph_of setting)) (choice : �
           pub left : Address → Rational
           left v = adjoint (target w ∷ []) v -ℚ adjoint other_helds v
 
-          pub left_rest : (v : Address) → left v +ℚ adjoint other_helds v ≡ adjoint (target w ∷ []) v
+          pub left_rest : (v : Address) → left v +ℚ adjoint other_helds v ≡ adjoint (target w ∷ [])
+              v
           unfolding left
           left_rest v = -ℚ-+ℚ_cancel (adjoint (target w ∷ []) v) (adjoint other_helds v)
 
@@ -313,7 +315,12 @@ module _ (setting : Setting) (costly : IsCostly (graph_of setting)) (choice : �
                   each = record {
                     groups = length-map groups (λ g. map left (variables_of g.body));
                     rows = omega (arith, counted, length-take (length image.rows) (backs d os));
-                    objective = omega (arith, counted, length-drop (length image.rows) (backs d os));
+                    objective = omega (
+                      arith,
+                      counted,
+                      length-drop (length image.rows)
+                          (backs d os),
+                    );
                   };
                   carries = carries child_duals refl refl;
                   hold = subst DualsHold (sym children_are)

@@ -60,7 +60,8 @@ constant_of : (k : Rational) → (constant_function {R = address_cmp} k).constan
 unfolding constant_function
 constant_of k = constant-function_of address_cmp [] k
 
-pub constant_unseen : (v : Address) → coefficient (constant_function {R = address_cmp} zero_ℚ) v ≡ zero_ℚ
+pub constant_unseen : (v : Address) → coefficient (constant_function {R = address_cmp} zero_ℚ) v
+    ≡ zero_ℚ
 constant_unseen v =
     sym (coefficient_by_unit (constant_function zero_ℚ) v) ∙ slope_constant_function zero_ℚ (unit v)
 
@@ -69,7 +70,8 @@ none_weighed : (o : Rational) (v : Address)
     → zero_ℚ ≡ o *ℚ coefficient (constant_function {R = address_cmp} zero_ℚ) v
 none_weighed o v = sym (ap (λ q. o *ℚ q) (constant_unseen v) ∙ *ℚ-zero o)
 
-none_gap : (o : Rational) → zero_ℚ ≡ neg_ℚ (o *ℚ (constant_function {R = address_cmp} zero_ℚ).constant)
+none_gap : (o : Rational) → zero_ℚ ≡ neg_ℚ (o *ℚ (constant_function {R = address_cmp}
+    zero_ℚ).constant)
 none_gap o =
     sym (ap (λ q. neg_ℚ (o *ℚ q)) (constant_of zero_ℚ) ∙ ap neg_ℚ (*ℚ-zero o) ∙ neg_ℚ-zero)
 
@@ -167,8 +169,10 @@ module _ (setting : Setting) (costly : IsCostly (graph_of setting)) (lawful : Ar
       (each_apart setting costly lawful model valid bridging).objective.entries)))
 
   -- by whether there is an objective
-  by_objective : {C : Type 0} → (objective_items model.objective ≡ [] → user_cost model.objective ≡ constant_function zero_ℚ → C)
-      → ((b : Body) → is_objective b ≡ true → objective_items model.objective ≡ objective_item b ∷ []
+  by_objective : {C : Type 0} → (objective_items model.objective ≡ [] → user_cost model.objective
+      ≡ constant_function zero_ℚ → C)
+      → ((b : Body) → is_objective b ≡ true → objective_items model.objective ≡ objective_item b
+      ∷ []
       → user_cost model.objective ≡ cost_of b → C) → C
   by_objective {C} none one = by model.objective none one
     where
@@ -185,7 +189,8 @@ module _ (setting : Setting) (costly : IsCostly (graph_of setting)) (lawful : Ar
     pub leaf_weighs : Weighs o (cost (leaves_of bridging))
         (map (objective_held d) (flat_map leaf_objectives leaves_here))
     leaf_weighs = by_objective
-        (λ e k. subst (λ f. Weighs o f (map (objective_held d) (flat_map leaf_objectives leaves_here)))
+        (λ e k. subst (λ f. Weighs o f (map (objective_held d)
+        (flat_map leaf_objectives leaves_here)))
         (sym (no_cost e))
         (subst (λ l. Weighs o (constant_function zero_ℚ) (map (objective_held d) l))
         (sym (none_here e)) (none_weighs o)))

@@ -174,11 +174,13 @@ module _ (setting : Setting) (costly : IsCostly (graph_of setting)) (lawful : Ar
         → adjoint (leaf_helds d all_leaves) v ≡ zero_ℚ
     leaves_balance v c =
         parted d (λ h. adjoint_of h v) all_leaves
-        ∙ ap (λ q. q +ℚ (sum_by_ℚ (λ e. adjoint_of (entry_held y e) v) (flat_map leaf_rows all_leaves)
+        ∙ ap (λ q. q +ℚ (sum_by_ℚ (λ e. adjoint_of (entry_held y e) v)
+        (flat_map leaf_rows all_leaves)
         +ℚ sum_by_ℚ (λ e. adjoint_of (objective_held d e) v) (flat_map leaf_objectives all_leaves)))
         (groups_part_weighs d v all_leaves
         ∙ ap (λ n. n *ℚ d.numbers v)
-        (ap (λ l. count l v) (sym keys_are) ∙ counted_once (group_keys ++ other_keys) v keys_apart c)
+        (ap (λ l. count l v) (sym keys_are) ∙ counted_once (group_keys ++ other_keys) v keys_apart
+        c)
         ∙ one-*ℚ (d.numbers v))
         ∙ cancelled (d.numbers v) (costs v)
         (sum_by_ℚ (λ e. adjoint_of (entry_held y e) v) (flat_map leaf_rows all_leaves))
@@ -192,8 +194,10 @@ module _ (setting : Setting) (costly : IsCostly (graph_of setting)) (lawful : Ar
     leaves_gap =
         parted d gap_of all_leaves
         ∙ ap₂ ◌+ℚ◌
-        (groups_part_gap d all_leaves (native_leaves setting costly lawful native model valid bridging))
-        (ap (λ q. q +ℚ sum_by_ℚ (λ e. gap_of (objective_held d e)) (flat_map leaf_objectives all_leaves))
+        (groups_part_gap d all_leaves (native_leaves setting costly lawful native model valid
+        bridging))
+        (ap (λ q. q +ℚ sum_by_ℚ (λ e. gap_of (objective_held d e))
+        (flat_map leaf_objectives all_leaves))
         (sym (rows_summed gap_of)))
         ∙ zero-+ℚ (gap (held_rows (leaves_of bridging) y)
         +ℚ sum_by_ℚ (λ e. gap_of (objective_held d e)) (flat_map leaf_objectives all_leaves))

@@ -145,7 +145,8 @@ module _ (one : Rational) (a : zero_ℚ ≤ℚ one) (x : Address → Rational) w
 
 only_one : {X : Type 0} (e : X) (xs : List X) → IsPermutation (e ∷ []) xs → xs ≡ e ∷ []
 only_one e xs p = by xs (length_permutation (e ∷ []) xs p)
-    (All-permutation (λ k. k ≡ e) (e ∷ []) xs p (All-cons (λ k. k ≡ e) e [] refl (All-nil (λ k. k ≡ e))))
+    (All-permutation (λ k. k ≡ e) (e ∷ []) xs p (All-cons (λ k. k ≡ e) e [] refl
+    (All-nil (λ k. k ≡ e))))
   where
     by : (ys : List _) → length ys ≡ 1 → All (λ k. k ≡ e) ys → ys ≡ e ∷ []
     by [] n h = absurd (omega (arith, n))
@@ -232,7 +233,8 @@ module _ (setting : Setting) (costly : IsCostly (graph_of setting)) (lawful : Ar
   -- ---- what holds of the maps' entries holds of the leaves
 
   pub variables_from : (P : Address × LeafVar → Type 0)
-      → All P (finite.entries (leaves_of bridging).variables) → All P (flat_map leaf_variables all_leaves)
+      → All P (finite.entries (leaves_of bridging).variables) → All P
+      (flat_map leaf_variables all_leaves)
   unfolding model_leaves
   variables_from P h =
       let e = (each_apart setting costly lawful model valid bridging).variables.entries in
@@ -370,7 +372,8 @@ module _ (setting : Setting) (costly : IsCostly (graph_of setting)) (lawful : Ar
         (λ v n. variables_miss (addresses_of g.vars) v (h.1 v n)))) h.0)
         model.groups
         (all_both (GroupIn seen_point)
-        (λ g. (v : Address) → Avoids (all_addresses model.groups) v → Avoids (addresses_of g.vars) v)
+        (λ g. (v : Address) → Avoids (all_addresses model.groups) v → Avoids (addresses_of g.vars)
+        v)
         model.groups user_groups_seen (group_among model.groups))
 
     pub user_rows : All (UserRowIn user_point) model.rows
@@ -398,11 +401,13 @@ module _ (setting : Setting) (costly : IsCostly (graph_of setting)) (lawful : Ar
           (map row_item model.rows ++ l)) (sym here)
           (All-append (λ c. CostsAtLeast one a x q (put_in bridging.made.entries c))
           (map row_item model.rows) (objective_item b ∷ [])
-          (All-map (λ c. CostsAtLeast one a x q (put_in bridging.made.entries c)) row_item model.rows
+          (All-map (λ c. CostsAtLeast one a x q (put_in bridging.made.entries c)) row_item
+          model.rows
           (each_row model.rows))
           (All-cons (λ c. CostsAtLeast one a x q (put_in bridging.made.entries c))
           (objective_item b) []
-          (λ t. ≤ℚ_from_≡ q (evaluated one (cost_of (put_in bridging.made.entries (objective_item b)).body) x)
+          (λ t. ≤ℚ_from_≡ q (evaluated one (cost_of (put_in bridging.made.entries
+          (objective_item b)).body) x)
           (cost_put one a x bridging.made.entries (objective_item b) (objective_no_group b o) o))
           (All-nil (λ c. CostsAtLeast one a x q (put_in bridging.made.entries c)))))
         where
@@ -411,7 +416,8 @@ module _ (setting : Setting) (costly : IsCostly (graph_of setting)) (lawful : Ar
           each_row [] =
               All-nil (λ r. CostsAtLeast one a x q (put_in bridging.made.entries (row_item r)))
           each_row (r ∷ rs) =
-              All-cons (λ k. CostsAtLeast one a x q (put_in bridging.made.entries (row_item k))) r rs
+              All-cons (λ k. CostsAtLeast one a x q (put_in bridging.made.entries (row_item k))) r
+              rs
               (λ t. absurd (true≢false (sym t
               ∙ objective_stays bridging.made.entries (row_body r.func r.set)
               ∙ row_no_objective r.func r.set)))
@@ -433,7 +439,8 @@ module _ (setting : Setting) (costly : IsCostly (graph_of setting)) (lawful : Ar
       -- the user's objective costs no more than the leaf model's
       pub costs_less : q ≤ℚ evaluated one (cost (leaves_of bridging)) x
       costs_less =
-          subst (λ f. q ≤ℚ evaluated one f x) (sym (cost_of_one (has_leaf b o here).leaf (has_leaf b o here).alone))
+          subst (λ f. q ≤ℚ evaluated one f x) (sym (cost_of_one (has_leaf b o here).leaf
+          (has_leaf b o here).alone))
           (All-head (EntryCosts one a x q) (has_leaf b o here).leaf []
           (subst (All (EntryCosts one a x q)) (has_leaf b o here).alone
           (entries_cost one a x q all_leaves all_cost)))

@@ -213,7 +213,8 @@ module _ (setting : Setting) (costly : IsCostly (graph_of setting)) (choice : �
     child_rows_here =
         All-weaker (λ c. Here (put_in inner c) × (is_group c.body ≡ false))
         (λ c. IsRowHere (put_in inner c))
-        (λ c h. record { here = h.0; row = group_stays inner c.body ∙ h.1 }) (others_at item here n e)
+        (λ c h. record { here = h.0; row = group_stays inner c.body ∙ h.1 })
+        (others_at item here n e)
         (all_both (λ c. Here (put_in inner c)) (λ c. is_group c.body ≡ false)
         (others_at item here n e)
         (others_here setting costly choice chosen lawful item here.can n e inner groups)

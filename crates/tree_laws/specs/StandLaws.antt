@@ -200,8 +200,10 @@ module _ (setting : Setting) (costly : IsCostly (graph_of setting)) (choice : �
     abbrev row_level : IsLevel setting costly choice chosen lawful d
         (groups_at setting costly choice chosen lawful item is.here n e)
         (others_at setting costly choice chosen lawful item is.here n e) inner gs os
-        (target setting costly choice chosen lawful d item is.here n e inner gs os carried_dual ∷ [])
-    row_level = level setting costly choice chosen lawful d item is.here n e inner gs os carried_dual
+        (target setting costly choice chosen lawful d item is.here n e inner gs os carried_dual
+        ∷ [])
+    row_level = level setting costly choice chosen lawful d item is.here n e inner gs os
+        carried_dual
         carried_duals row_balance
 
     abbrev row_left : Address → Rational
@@ -211,7 +213,8 @@ module _ (setting : Setting) (costly : IsCostly (graph_of setting)) (choice : �
     row_node_rows : RowsReady os
     row_node_rows = level_rows (groups_at setting costly choice chosen lawful item is.here n e)
         (others_at setting costly choice chosen lawful item is.here n e) inner gs os
-        (target setting costly choice chosen lawful d item is.here n e inner gs os carried_dual ∷ [])
+        (target setting costly choice chosen lawful d item is.here n e inner gs os carried_dual
+        ∷ [])
         row_level
 
     module _ (rows : StandFor (held d.bound (map (put_in inner)
@@ -221,7 +224,8 @@ module _ (setting : Setting) (costly : IsCostly (graph_of setting)) (choice : �
       row_node_groups = level_groups
           (groups_at setting costly choice chosen lawful item is.here n e)
           (others_at setting costly choice chosen lawful item is.here n e) inner gs os
-          (target setting costly choice chosen lawful d item is.here n e inner gs os carried_dual ∷ [])
+          (target setting costly choice chosen lawful d item is.here n e inner gs os carried_dual
+          ∷ [])
           row_level row_left
           (left_rest setting costly choice chosen lawful d item is.here n e inner gs os carried_dual
           carried_duals row_balance) rows
@@ -229,13 +233,15 @@ module _ (setting : Setting) (costly : IsCostly (graph_of setting)) (choice : �
       row_node : StandFor (map (through inner) (group_helds d.bound row_left
           (groups_at setting costly choice chosen lawful item is.here n e)))
           (leaf_helds d (leaves_of_each gs))
-          → StandFor (held_body d.bound item.body (back d (by {item = item} {edge = n} {inner = inner} e gs os)) ∷ [])
+          → StandFor (held_body d.bound item.body (back d
+          (by {item = item} {edge = n} {inner = inner} e gs os)) ∷ [])
           (leaf_helds d (leaves (by {item = item} {edge = n} {inner = inner} e gs os)))
       unfolding leaves back
       row_node below =
           subst (λ h. StandFor (h ∷ []) (leaf_helds d (leaves_of_each gs ++ leaves_in os)))
           (row_through setting costly choice chosen lawful d item is n e inner gs carried_dual)
-          (target_stands setting costly choice chosen lawful d item is.here n e inner gs os carried_dual
+          (target_stands setting costly choice chosen lawful d item is.here n e inner gs os
+          carried_dual
           carried_duals row_balance
           (row_carries setting costly choice chosen lawful d item is n e (backs d os)
           (last_back setting costly choice chosen lawful d item is n e inner gs os))
@@ -247,7 +253,8 @@ module _ (setting : Setting) (costly : IsCostly (graph_of setting)) (choice : �
       (groups_at setting costly choice chosen lawful item is.here n e) inner)
       (os : EachBridgedIn (rules_by choice) inner
       (others_at setting costly choice chosen lawful item is.here n e))
-      (w : Address → Rational) (ready : GroupReady (by {item = item} {edge = n} {inner = inner} e gs os) w) where
+      (w : Address → Rational) (ready : GroupReady (by {item = item} {edge = n} {inner = inner} e gs
+      os) w) where
     abbrev numbers : List Rational
     numbers = map w (variables_of item.body)
 
@@ -314,8 +321,10 @@ module _ (setting : Setting) (costly : IsCostly (graph_of setting)) (choice : �
 
   native_row_stands : (item : Item) (c : (rules_by choice).choice item ≡ Native)
       → RowReady (natively {item = item} c)
-      → StandFor (held_body d.bound item.body (back {rules = rules_by choice} d (natively {item = item} c)) ∷ [])
-      (leaf_helds d (leaves {Item = Item} {Entry = Entry} {rules = rules_by choice} (natively {item = item} c)))
+      → StandFor (held_body d.bound item.body (back {rules = rules_by choice} d
+      (natively {item = item} c)) ∷ [])
+      (leaf_helds d (leaves {Item = Item} {Entry = Entry} {rules = rules_by choice}
+      (natively {item = item} c)))
   unfolding leaves back
   native_row_stands item c ready =
       native_row setting costly choice chosen lawful d item ready.here ready.duals
@@ -323,7 +332,8 @@ module _ (setting : Setting) (costly : IsCostly (graph_of setting)) (choice : �
   native_group_stands : (item : Item) (c : (rules_by choice).choice item ≡ Native)
       (w : Address → Rational) → GroupReady (natively {item = item} c) w
       → StandFor (through (own_entries item) (group_held d.bound w item) ∷ [])
-      (leaf_helds d (leaves {Item = Item} {Entry = Entry} {rules = rules_by choice} (natively {item = item} c)))
+      (leaf_helds d (leaves {Item = Item} {Entry = Entry} {rules = rules_by choice}
+      (natively {item = item} c)))
   unfolding leaves keys
   native_group_stands item c w ready =
       native_group setting costly choice chosen lawful d item ready.here ready.duals w

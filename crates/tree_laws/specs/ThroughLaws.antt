@@ -121,7 +121,8 @@ module _ (entries : List Entry) where
 
   -- ---- functions that mention no component
 
-  coefficient_of_variable : (u v : Address) → coefficient (variable {R = address_cmp} u) v ≡ unit v u
+  coefficient_of_variable : (u v : Address) → coefficient (variable {R = address_cmp} u) v ≡ unit v
+      u
   coefficient_of_variable u v = sym (coefficient_by_unit (variable u) v) ∙ slope_variable u (unit v)
 
   pub untouched : (f : Function)
@@ -147,7 +148,8 @@ pub stand_both : (hs ls gs ks : List Held) → StandFor hs ls → StandFor gs ks
     → StandFor (hs ++ gs) (ls ++ ks)
 stand_both hs ls gs ks s t = record {
   holds = All-append IsHeld hs gs s.holds t.holds;
-  same = λ v. adjoint-append hs gs v ∙ ap₂ ◌+ℚ◌ (s.same v) (t.same v) ∙ sym (adjoint-append ls ks v);
+  same = λ v. adjoint-append hs gs v ∙ ap₂ ◌+ℚ◌ (s.same v) (t.same v) ∙ sym
+      (adjoint-append ls ks v);
   gaps =
       subst (λ q. q ≤ℚ gap (hs ++ gs)) (sym (gap-append ls ks))
       (subst (λ q. (gap ls +ℚ gap ks) ≤ℚ q) (sym (gap-append hs gs))

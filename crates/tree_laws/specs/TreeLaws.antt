@@ -218,7 +218,8 @@ module _ (setting : Setting) (costly : IsCostly (graph_of setting)) (choice : �
         All-append Below (variables_of g.body) (inner_of groups)
         (All-weaker (Contains (variables_of g.body)) Below
         (λ v c. All-head (λ x. (u : Address) → Mine x u → Below u) g groups h v
-        (inr (subst (λ l. Contains l v) (sym (own_is g (All-head GroupThere g groups here).group)) c)))
+        (inr (subst (λ l. Contains l v) (sym (own_is g (All-head GroupThere g groups here).group))
+        c)))
         (variables_of g.body) (All-contains_itself (variables_of g.body)))
         (below_of_groups groups (All-tail GroupThere g groups here)
         (All-tail (λ x. (u : Address) → Mine x u → Below u) g groups h))
@@ -338,7 +339,8 @@ module _ (setting : Setting) (costly : IsCostly (graph_of setting)) (choice : �
     pub rest_zero : (v : Address) → Contains (keys_in own no_keys rest) v
         → adjoint (leaf_helds d (leaves_in rest)) v ≡ zero_ℚ
     rest_zero v c =
-        let inside = Contains-append_right (keys own no_keys first) (keys_in own no_keys rest) v c in
+        let inside = Contains-append_right (keys own no_keys first) (keys_in own no_keys rest) v c
+        in
         sym (zero-+ℚ (adjoint (leaf_helds d (leaves_in rest)) v))
         ∙ ap (λ q. q +ℚ adjoint (leaf_helds d (leaves_in rest)) v)
         (sym (leaf_missed d v (leaves first)

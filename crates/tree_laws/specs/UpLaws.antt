@@ -290,7 +290,8 @@ module _ (one : Rational) (a : zero_ℚ ≤ℚ one) (x : Address → Rational) w
       row_holds (natively {item} c) is o h = All-head LeafHolds item [] h o
       row_holds (by {item} {edge} {inner} c groups others) is o h =
           row_node_holds item is edge c inner groups o
-          (groups_hold groups (child_groups_here setting costly choice chosen lawful item is.here edge c)
+          (groups_hold groups (child_groups_here setting costly choice chosen lawful item is.here
+          edge c)
           (groups_apart_here item is.here edge c inner groups others)
           (all_first LeafHolds (leaves_of_each groups) (leaves_in others) h))
           (rows_hold others
@@ -318,7 +319,8 @@ module _ (one : Rational) (a : zero_ℚ ≤ℚ one) (x : Address → Rational) w
       group_holds (natively {item} c) is h = native_group_holds item is h
       group_holds (by {item} {edge} {inner} c groups others) is h =
           group_node_holds item is edge c inner
-          (groups_hold groups (child_groups_here setting costly choice chosen lawful item is.here edge c)
+          (groups_hold groups (child_groups_here setting costly choice chosen lawful item is.here
+          edge c)
           (groups_apart_here item is.here edge c inner groups others)
           (all_first LeafHolds (leaves_of_each groups) (leaves_in others) h))
           (rows_hold others
@@ -365,7 +367,8 @@ module _ (one : Rational) (a : zero_ℚ ≤ℚ one) (x : Address → Rational) w
           (All-nil (CostsAtLeast (evaluated one (cost_of item.body) x)))
       costs (by {item} {edge} {inner} c groups others) is o h =
           let gs = child_groups_here setting costly choice chosen lawful item is.here edge c in
-          let rs = child_rows_here setting costly choice chosen lawful item is.here edge c inner groups
+          let rs = child_rows_here setting costly choice chosen lawful item is.here edge c inner
+          groups
           in
           let low = all_second LeafHolds (leaves_of_each groups) (leaves_in others) h in
           All-append (CostsAtLeast (evaluated one (cost_of item.body) x)) (leaves_of_each groups)
