@@ -1,4 +1,5 @@
--- Costs by the sense: values, slopes and reduced costs of objectives that are to be least or greatest.
+-- Costs by the sense: values, slopes and reduced costs of objectives that are to be least, or
+-- greatest.
 use Rattle.std.specs.Prelude.{◌≡◌, refl}
 use Rattle.std.proofs.Common.{sym, ap, subst, ◌∙◌}
 use Rattle.ratio_core.specs.Rational.{Rational, neg_ℚ, one_ℚ, zero_ℚ, ◌*ℚ◌, ◌+ℚ◌, ◌-ℚ◌, ◌≤ℚ◌, ◌‹ℚ◌}
