@@ -119,7 +119,7 @@ module _ (setting : Setting) (costly : IsCostly (graph_of setting)) (choice : �
     down = leads_down setting costly choice chosen (kind_of_body item.body) n e
 
     -- the edge's entry in the table
-    same_entry : edge_entry (edge_at n) ≡ down.entry
+    pub same_entry : edge_entry (edge_at n) ≡ down.entry
     same_entry = ap edge_entry down.is_entry.edge ∙ down.is_entry.entry_is
 
     is_item : IsItemFor down.entry.edge item

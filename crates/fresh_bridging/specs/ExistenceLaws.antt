@@ -59,7 +59,7 @@ set_kind (set.Nonpositives n) = refl
 set_kind (set.NormInfinityCone n) = refl
 set_kind (set.NormOneCone n) = refl
 
-free_or_set : (b : Body) → is_group b ≡ true → is_group_kind (kind_of_body b) ≡ false
+pub free_or_set : (b : Body) → is_group b ≡ true → is_group_kind (kind_of_body b) ≡ false
     → kind_of_body b ≡ kind.Free
 unfolding kind_of_body
 free_or_set (Group s vars) h k = absurd (true≢false (sym (set_kind s) ∙ k))
@@ -71,7 +71,7 @@ free_or_set (AffineVec funcs s) h k = absurd (true≢false (sym h))
 free_or_set (PlainObj sense var) h k = absurd (true≢false (sym h))
 free_or_set (AffineObj sense func) h k = absurd (true≢false (sym h))
 
-group_put : (entries : List Entry) (b : Body) → is_group b ≡ true → put_in_body entries b ≡ b
+pub group_put : (entries : List Entry) (b : Body) → is_group b ≡ true → put_in_body entries b ≡ b
 unfolding put_in_body
 group_put entries (Group s vars) h = refl
 group_put entries (Free vars) h = refl
@@ -104,7 +104,7 @@ none_both true true h e = absurd (true≢false (sym h))
 none_both true false h e = refl
 none_both false b h e = absurd (true≢false (sym e))
 
-not_this : (b : Bool) → not b ≡ true → b ≡ true → ⊥
+pub not_this : (b : Bool) → not b ≡ true → b ≡ true → ⊥
 not_this true h e = true≢false (sym h)
 not_this false h e = true≢false (sym e)
 
@@ -325,7 +325,7 @@ module _ (setting : Setting) (costly : IsCostly (graph_of setting)) (choice : �
     abbrev HasTreeIn : List Entry → Item → Type 0
     HasTreeIn inner item = HasTree (graph_of setting) (put_in inner item)
 
-    group_can : (group : UserGroup) → IsValidGroup group
+    pub group_can : (group : UserGroup) → IsValidGroup group
         → HasTree (graph_of setting) (group_item group)
         → IsGroupHere (group_item group)
     group_can group h tree = record {
@@ -343,7 +343,7 @@ module _ (setting : Setting) (costly : IsCostly (graph_of setting)) (choice : �
       is_group = refl;
     }
 
-    groups_can_all : All (HasTree (graph_of setting)) (model_image model).groups
+    pub groups_can_all : All (HasTree (graph_of setting)) (model_image model).groups
         → All IsGroupHere (model_image model).groups
     groups_can_all trees =
         All-map IsGroupHere group_item model.groups
@@ -366,7 +366,7 @@ module _ (setting : Setting) (costly : IsCostly (graph_of setting)) (choice : �
           each_group (g ∷ gs) =
               All-cons (λ x. ¬ (Owns (group_item x) v)) g gs (not_owned g v which) (each_group gs)
 
-      further_can : (item : Item) → IsFurther item → HasTreeIn inner item
+      pub further_can : (item : Item) → IsFurther item → HasTreeIn inner item
           → Can setting costly choice chosen (put_in inner item)
       further_can item is tree =
           let valid_in = valid_put inner item is.no_group is.valid
@@ -387,7 +387,7 @@ module _ (setting : Setting) (costly : IsCostly (graph_of setting)) (choice : �
                 (omega (arith, length_put inner item.body is.no_group, is.count));
           }
 
-      others_can_all : All (HasTreeIn inner) (model_image model).others
+      pub others_can_all : All (HasTreeIn inner) (model_image model).others
           → All (λ item. Can setting costly choice chosen (put_in inner item))
           (model_image model).others
       others_can_all all =

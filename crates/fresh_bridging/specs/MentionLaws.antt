@@ -43,7 +43,7 @@ by_lookup P (e ∷ es) u all itself =
     here true found later = found
     here false found later = later
 
-slope_zero : (f : Function) → slope f (λ _. zero_ℚ) ≡ zero_ℚ
+pub slope_zero : (f : Function) → slope f (λ _. zero_ℚ) ≡ zero_ℚ
 unfolding linear
 slope_zero f = all_zero (terms_of f)
   where
@@ -73,7 +73,7 @@ put_into_omits entries (Bridged func) v all none = composed_omits entries func v
 
 -- ---- a variable's function, composed, is what stands for the variable
 
-variable_constant : (u : Address) → (variable {R = address_cmp} u).constant ≡ zero_ℚ
+pub variable_constant : (u : Address) → (variable {R = address_cmp} u).constant ≡ zero_ℚ
 unfolding variable
 variable_constant u = constant-function_of address_cmp ((u, one_ℚ) ∷ []) zero_ℚ
 

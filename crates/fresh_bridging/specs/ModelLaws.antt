@@ -88,7 +88,7 @@ unmentioned f v h = by (finite.get f.terms v) refl h
 stands_root : (groups : List Group) (v : Address) → Stands groups v → v.root ≡ root.Variable
 stands_root groups v h = ap (λ (a : Address). a.root) h.address
 
-not_mentioned : (b : Bool) → (b ≡ true → ⊥) → b ≡ false
+pub not_mentioned : (b : Bool) → (b ≡ true → ⊥) → b ≡ false
 not_mentioned true h = absurd (h refl)
 not_mentioned false h = refl
 
@@ -119,7 +119,7 @@ functions_omit (f ∷ fs) v h =
     All-cons (λ g. coefficient g v ≡ zero_ℚ) f fs (unmentioned f v parts.0)
     (functions_omit fs v parts.1)
 
-row_omits : (func : UserFunc) (s : Set) (v : Address) → func_mentions v func ≡ false
+pub row_omits : (func : UserFunc) (s : Set) (v : Address) → func_mentions v func ≡ false
     → All (λ f. coefficient f v ≡ zero_ℚ) (functions_of (row_body func s))
 row_omits (Plain var) s v h =
     All-cons (λ f. coefficient f v ≡ zero_ℚ) (variable var) []
@@ -165,7 +165,7 @@ row_count (Affine f) s = refl
 row_count (PlainVec vars) s = length-map vars variable
 row_count (AffineVec fs) s = refl
 
-row_set_is : (func : UserFunc) (s : Set) → set_of (row_body func s) ≡ s
+pub row_set_is : (func : UserFunc) (s : Set) → set_of (row_body func s) ≡ s
 row_set_is (Plain var) s = refl
 row_set_is (Affine f) s = refl
 row_set_is (PlainVec vars) s = refl
@@ -208,7 +208,7 @@ row_valid groups row h =
 
 -- ---- the objective
 
-objective_omits : (o : Objective) (v : Address) → objective_mentions v o ≡ false
+pub objective_omits : (o : Objective) (v : Address) → objective_mentions v o ≡ false
     → All (λ item. All (λ f. coefficient f v ≡ zero_ℚ) (functions_of item.body)) (objective_items o)
 objective_omits objective.Feasibility v h =
     All-nil (λ item. All (λ f. coefficient f v ≡ zero_ℚ) (functions_of item.body))

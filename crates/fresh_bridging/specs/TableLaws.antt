@@ -247,7 +247,7 @@ keeps_to_the_table e = plain_beside_free e && (leads_from_others e && grows_seld
 all_keep : list_all keeps_to_the_table EDGES ≡ true
 all_keep = refl
 
-at_all : {A : Type 0} (p : A → Bool) (xs : List A) (n : ℕ) (x : A) → list_all p xs ≡ true
+pub at_all : {A : Type 0} (p : A → Bool) (xs : List A) (n : ℕ) (x : A) → list_all p xs ≡ true
     → slice_get xs n ≡ Some x → p x ≡ true
 at_all p xs n x h e =
     same_Some _ _ (sym (mapped_at p xs n x e) ∙ all_true xs n (p x) h (mapped_at p xs n x e))

@@ -1,0 +1,10 @@
+pub mod Apart
+pub mod PutLaws
+pub mod ImageLaws
+pub mod Keys
+pub mod Regions
+pub mod KeyLaws
+pub mod MadeLaws
+pub mod LeafKeys
+pub mod Distinct
+pub mod DistinctLaws

@@ -1,0 +1,200 @@
+-- The user's point and ray, by those of the leaf model.
+use Rattle.std.specs.Prelude.{◌≡◌, List, [], ◌∷◌, map}
+use Rattle.std.proofs.Common.{sym, ap, subst, ◌∙◌}
+use Rattle.std.proofs.lemmas.List.{length-map}
+use Rattle.std.proofs.lemmas.List.Elements.{All-cons, All-head, All-nil, All-weaker}
+use Rattle.bridge_graph.specs.Hypergraph.{IsCostly}
+use Rattle.ratio_core.specs.Rational.{Rational, one_ℚ, zero_ℚ, ◌≤ℚ◌, ◌‹ℚ◌}
+use Rattle.rational_laws.specs.Order.{≤ℚ-‹ℚ_trans, ≤ℚ_refl}
+use Rattle.set_core.specs.Membership.{In, recession}
+use Rattle.set_core.specs.Mirrored.{multiplied}
+use Rattle.set_core.specs.declared.set.Set.{Set}
+use Rattle.set_laws.specs.Multiples.{multiplied_one, multiplied_zero}
+use Rattle.aff_core.specs.Address.{Address}
+use Rattle.aff_core.specs.Function.{Function, coefficient, constant_function, evaluated, slope, value_of}
+use Rattle.aff_core.specs.FunctionLists.{evaluations, slopes, values}
+use Rattle.linear_laws.specs.EvaluationLaws.{evaluated_slope, evaluated_value}
+use Rattle.linear_laws.specs.ListLaws.{evaluations_slopes, evaluations_values}
+use Rattle.certificates.specs.Feasible.{IsBetter, IsFeasible, IsRay}
+use Rattle.certificates.specs.Points.{address_of, addresses_of, at_point, functions_of, functions_of_group, objective_function, objective_slope, objective_value, sense_of}
+use Rattle.equality_form.specs.EqualityForm.{cost}
+use Rattle.equality_form.specs.Right.{IsFeasible as IsLeafFeasible}
+use Rattle.bridge_face.specs.BackOf.{head_of}
+use Rattle.bridge_face.specs.Law.{Miss}
+use Rattle.fresh_bridging.specs.CanLaws.{AreLawful}
+use Rattle.fresh_bridging.specs.Entries.{function_in}
+use Rattle.fresh_bridging.specs.FreshBridging.{FreshBridging, leaves_of}
+use Rattle.fresh_bridging.specs.ModelImage.{objective_item}
+use Rattle.fresh_bridging.specs.ModelLaws.{not_mentioned, objective_omits}
+use Rattle.fresh_bridging.specs.TheRules.{Setting, graph_of}
+use Rattle.item_core.specs.declared.item.Body.TheVariants.{PlainObj, AffineObj}
+use Rattle.item_core.specs.Item.{functions_of as item_functions}
+use Rattle.user_model.specs.Model.{ModelValue, objective_mentions, variables}
+use Rattle.user_model.specs.Valid.{IsValid, IsValidObjective}
+use Rattle.user_model.specs.declared.objective.Objective.{Objective}
+use Rattle.user_model.specs.declared.objective.Objective.TheVariants as objective
+use Rattle.address_laws.specs.Apart.{Avoids, not_in}
+use Rattle.tree_laws.specs.Certificate.{point_of, ray_of}
+use Rattle.tree_laws.specs.LeafLaws.{SupportsNativeKinds}
+use Rattle.tree_laws.specs.ObjectivePart.{constant_unseen, objective_up, user_cost}
+use Rattle.tree_laws.specs.PrimalLaws.{seen_point, user_groups, user_rows}
+use Rattle.tree_laws.specs.UserLaws.{all_addresses, evaluations_agree, listed_point, stands_in}
+use Rattle.tree_laws.specs.SenseLaws.{better_is, one_nonneg}
+
+module _ (setting : Setting) (costly : IsCostly (graph_of setting)) (lawful : AreLawful setting)
+    (native : SupportsNativeKinds setting) (model : ModelValue) (valid : IsValid model)
+    (bridging : FreshBridging setting model) where
+  abbrev user_f : Function
+  user_f = user_cost model.objective
+
+  -- the objective names the model's variables alone
+  objective_misses : (v : Address) → Avoids (all_addresses model.groups) v
+      → Miss (objective_function model.objective ∷ []) v
+  objective_misses v h = by model.objective (valid.parts.valid_objective)
+    where
+      by : (o : Objective) → IsValidObjective model.groups o → Miss (objective_function o ∷ []) v
+      by objective.Feasibility k =
+          All-cons (λ f. coefficient f v ≡ zero_ℚ) (constant_function zero_ℚ) []
+          (constant_unseen v) (All-nil (λ f. coefficient f v ≡ zero_ℚ))
+      by (objective.Plain sense var) k =
+          All-head (λ i. Miss (item_functions i.body) v) (objective_item (PlainObj sense var)) []
+          (objective_omits (objective.Plain sense var) v
+          (not_mentioned (objective_mentions v (objective.Plain sense var))
+          (λ t. not_in (all_addresses model.groups) v h (stands_in model.groups v (k.stand v t)))))
+      by (objective.Affine sense f) k =
+          All-head (λ i. Miss (item_functions i.body) v) (objective_item (AffineObj sense f)) []
+          (objective_omits (objective.Affine sense f) v
+          (not_mentioned (objective_mentions v (objective.Affine sense f))
+          (λ t. not_in (all_addresses model.groups) v h (stands_in model.groups v (k.stand v t)))))
+
+  -- ---- points and rays
+
+  module _ (x : Address → Rational) (feasible : IsLeafFeasible (leaves_of bridging) one_ℚ x) where
+    abbrev pub seen_x : Address → Rational
+    seen_x = seen_point setting costly lawful native model valid bridging one_ℚ one_nonneg x
+        feasible
+
+    point_is : point_of bridging x ≡ listed_point model seen_x
+    point_is = λ i. map (λ v. sym (evaluated_value (function_in bridging.made.entries v) x) i)
+        (addresses_of (variables model))
+
+    in_values : (s : Set) (fs : List Function) (p : Address → Rational)
+        → In (multiplied one_ℚ s) (evaluations one_ℚ fs p) → In s (values fs p)
+    in_values s fs p h =
+        subst (λ t. In t (values fs p)) (multiplied_one s)
+        (subst (In (multiplied one_ℚ s)) (evaluations_values fs p) h)
+
+    pub feasible_point : IsFeasible model (point_of bridging x)
+    feasible_point =
+        subst (IsFeasible model) (sym point_is)
+        (record {
+          size = length-map (addresses_of (variables model)) seen_x
+              ∙ length-map (variables model) address_of;
+          groups =
+              All-weaker
+              (λ g. In (multiplied one_ℚ g.set)
+              (evaluations one_ℚ (functions_of_group g) (at_point model
+              (listed_point model seen_x))))
+              (λ g. In g.set (values (functions_of_group g)
+              (at_point model (listed_point model seen_x))))
+              (λ g h. in_values g.set (functions_of_group g)
+              (at_point model (listed_point model seen_x)) h)
+              model.groups
+              (user_groups setting costly lawful native model valid bridging one_ℚ one_nonneg x
+              feasible);
+          rows =
+              All-weaker
+              (λ r. In (multiplied one_ℚ r.set)
+              (evaluations one_ℚ (functions_of r.func) (at_point model
+              (listed_point model seen_x))))
+              (λ r. In r.set (values (functions_of r.func)
+              (at_point model (listed_point model seen_x))))
+              (λ r h. in_values r.set (functions_of r.func)
+              (at_point model (listed_point model seen_x)) h)
+              model.rows
+              (user_rows setting costly lawful native model valid bridging one_ℚ one_nonneg x
+              feasible);
+        })
+
+    -- the objective at the point
+    pub objective_at : objective_value model (point_of bridging x)
+        ≡ value_of (objective_function model.objective) seen_x
+    objective_at =
+        ap (objective_value model) point_is
+        ∙ sym (evaluated_value (objective_function model.objective)
+        (at_point model (listed_point model seen_x)))
+        ∙ ap head_of
+        (evaluations_agree model seen_x one_ℚ (objective_function model.objective ∷ [])
+        objective_misses)
+        ∙ evaluated_value (objective_function model.objective) seen_x
+
+  module _ (x : Address → Rational) (ray : IsLeafFeasible (leaves_of bridging) zero_ℚ x) where
+    abbrev seen_d : Address → Rational
+    seen_d =
+        seen_point setting costly lawful native model valid bridging zero_ℚ (≤ℚ_refl zero_ℚ) x ray
+
+    ray_is : ray_of bridging x ≡ listed_point model seen_d
+    ray_is = λ i. map (λ v. sym (evaluated_slope (function_in bridging.made.entries v) x) i)
+        (addresses_of (variables model))
+
+    in_slopes : (s : Set) (fs : List Function) (p : Address → Rational)
+        → In (multiplied zero_ℚ s) (evaluations zero_ℚ fs p) → In (recession s) (slopes fs p)
+    in_slopes s fs p h =
+        subst (λ t. In t (slopes fs p)) (multiplied_zero s)
+        (subst (In (multiplied zero_ℚ s)) (evaluations_slopes fs p) h)
+
+    pub user_ray : IsRay model (ray_of bridging x)
+    user_ray =
+        subst (IsRay model) (sym ray_is)
+        (record {
+          size = length-map (addresses_of (variables model)) seen_d
+              ∙ length-map (variables model) address_of;
+          groups =
+              All-weaker
+              (λ g. In (multiplied zero_ℚ g.set)
+              (evaluations zero_ℚ (functions_of_group g)
+              (at_point model (listed_point model seen_d))))
+              (λ g. In (recession g.set)
+              (slopes (functions_of_group g) (at_point model (listed_point model seen_d))))
+              (λ g h. in_slopes g.set (functions_of_group g)
+              (at_point model (listed_point model seen_d)) h)
+              model.groups
+              (user_groups setting costly lawful native model valid bridging zero_ℚ
+              (≤ℚ_refl zero_ℚ) x ray);
+          rows =
+              All-weaker
+              (λ r. In (multiplied zero_ℚ r.set)
+              (evaluations zero_ℚ (functions_of r.func) (at_point model
+              (listed_point model seen_d))))
+              (λ r. In (recession r.set)
+              (slopes (functions_of r.func) (at_point model (listed_point model seen_d))))
+              (λ r h. in_slopes r.set (functions_of r.func)
+              (at_point model (listed_point model seen_d)) h)
+              model.rows
+              (user_rows setting costly lawful native model valid bridging zero_ℚ
+              (≤ℚ_refl zero_ℚ) x ray);
+        })
+
+    slope_at : objective_slope model (ray_of bridging x)
+        ≡ slope (objective_function model.objective) seen_d
+    slope_at =
+        ap (objective_slope model) ray_is
+        ∙ sym (evaluated_slope (objective_function model.objective)
+        (at_point model (listed_point model seen_d)))
+        ∙ ap head_of
+        (evaluations_agree model seen_d zero_ℚ (objective_function model.objective ∷ [])
+        objective_misses)
+        ∙ evaluated_slope (objective_function model.objective) seen_d
+
+    pub ray_improves : slope (cost (leaves_of bridging)) x ‹ℚ zero_ℚ
+        → IsBetter (sense_of model.objective) (objective_slope model (ray_of bridging x)) zero_ℚ
+    ray_improves falls =
+        subst (λ q. IsBetter (sense_of model.objective) q zero_ℚ) (sym slope_at)
+        (better_is (sense_of model.objective) (objective_function model.objective) seen_d
+        (≤ℚ-‹ℚ_trans (slope user_f seen_d) (slope (cost (leaves_of bridging)) x) zero_ℚ
+        (subst (λ q. q ≤ℚ slope (cost (leaves_of bridging)) x) (evaluated_slope user_f seen_d)
+        (subst (λ q. evaluated zero_ℚ user_f seen_d ≤ℚ q)
+        (evaluated_slope (cost (leaves_of bridging)) x)
+        (objective_up setting costly lawful native model valid bridging zero_ℚ (≤ℚ_refl zero_ℚ) x
+        ray)))
+        falls))
