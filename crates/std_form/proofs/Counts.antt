@@ -1,0 +1,58 @@
+-- Counts up to a greatest number.
+use Rattle.std.specs.Prelude.{◌≡◌, ℕ, zero, suc, ◌+◌, ◌*◌, ◌<◌, ◌≤◌, Bool, List, [], ◌∷◌, ◌++◌, flat_map, length, map, min, slice_index_or, take, refl}
+use Rattle.std.proofs.Common.{sym, ◌∙◌, ap, arith, mul-le-mul_right, mul-le-mul_left}
+use Rattle.std.proofs.lemmas.List.{append-nil, flat_map_more, length-append, length-map, take_all, take_more}
+use Rattle.equality_form.specs.Columns.{parts_among, parts_of, signs}
+use Rattle.solver_store.specs.declared.leaf.LeafVar.{LeafVar}
+
+sum_up : (a b m : ℕ) → min (min a m + b) m ≡ min (a + b) m
+sum_up a b m = omega arith
+
+length_more : (vars : List (ℕ × LeafVar)) (i : ℕ) (d : ℕ × LeafVar) → i < length vars → length (parts_among (take (i + 1) vars)) ≡ length (parts_among (take i vars)) + length (signs (slice_index_or vars i d).1)
+length_more vars i d h =
+    ap (λ vs. length (parts_among vs)) (take_more vars i d h)
+    ∙ ap length (sym (flat_map_more parts_of [] (take i vars) (slice_index_or vars i d)))
+    ∙ length-append (parts_among (take i vars)) (parts_of (slice_index_or vars i d))
+    ∙ ap (λ n. length (parts_among (take i vars)) + n) (length-map (signs (slice_index_or vars i d).1) (λ negated. ((slice_index_or vars i d).0, negated)))
+
+pub count_more : (vars : List (ℕ × LeafVar)) (i : ℕ) (d : ℕ × LeafVar) (m old new w : ℕ) → i < length vars → old ≡ min (length (parts_among (take i vars))) m → w ≡ length (signs (slice_index_or vars i d).1) → new ≡ min (old + w) m → new ≡ min (length (parts_among (take (i + 1) vars))) m
+count_more vars i d m old new w h so_far is added =
+    added ∙ (λ k. min (so_far k + is k) m) ∙ sum_up (length (parts_among (take i vars))) (length (signs (slice_index_or vars i d).1)) m
+    ∙ ap (λ n. min n m) (sym (length_more vars i d h))
+
+pub count_all : (vars : List (ℕ × LeafVar)) (i m old : ℕ) → length vars ≤ i → old ≡ min (length (parts_among (take i vars))) m → old ≡ min (length (parts_among vars)) m
+count_all vars i m old h so_far = so_far ∙ ap (λ vs. min (length (parts_among vs)) m) (take_all i vars h)
+
+-- a product with a number that is cut off
+product_up : (a b m : ℕ) → min (a * min b m) m ≡ min (a * b) m
+product_up zero b m = ap (λ n. min n m) (none (min b m) ∙ sym (none b))
+  where
+    none : (n : ℕ) → 0 * n ≡ 0
+    none n = omega arith
+product_up (suc k) b m = by_size (mul-le-mul_right b (one_at_most k)) (mul-le-mul_right m (one_at_most k))
+  where
+    one_at_most : (k : ℕ) → 1 ≤ suc k
+    one_at_most k = omega arith
+
+    by_size : 1 * b ≤ suc k * b → 1 * m ≤ suc k * m → min (suc k * min b m) m ≡ min (suc k * b) m
+    by_size p q = by_order (le_total b m)
+      where
+        by_order : (b ≤ m) ⊎ (m ≤ b) → min (suc k * min b m) m ≡ min (suc k * b) m
+        by_order (inl h) = ap (λ n. min (suc k * n) m) (less h)
+          where
+            less : b ≤ m → min b m ≡ b
+            less h = omega (arith, h)
+        by_order (inr h) = ap (λ n. min (suc k * n) m) (more h) ∙ both (suc k * m) (suc k * b) q p h
+          where
+            more : m ≤ b → min b m ≡ m
+            more h = omega (arith, h)
+
+            both : (u v : ℕ) → 1 * m ≤ u → 1 * b ≤ v → m ≤ b → min u m ≡ min v m
+            both u v q p h = omega (arith, q, p, h)
+
+pub cells_up : (p s e m count parts columns all one result : ℕ) → parts ≡ min p m → columns ≡ min (parts + s) m → all ≡ min (columns + e) m → one ≡ min (all + 1) m → result ≡ min (e * one) m → result ≡ min (e * (p + s + e + 1)) m
+cells_up p s e m count parts columns all one result a b c d f =
+    f ∙ ap (λ n. min (e * n) m) (cut p s e m parts columns all one a b c d) ∙ product_up e (p + s + e + 1) m
+  where
+    cut : (p s e m parts columns all one : ℕ) → parts ≡ min p m → columns ≡ min (parts + s) m → all ≡ min (columns + e) m → one ≡ min (all + 1) m → one ≡ min (p + s + e + 1) m
+    cut p s e m parts columns all one a b c d = omega (arith, a, b, c, d)

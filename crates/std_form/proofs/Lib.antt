@@ -1,0 +1,5 @@
+pub mod Coefficients
+pub mod Leaves
+pub mod Pushes
+pub mod Steps
+pub mod Counts

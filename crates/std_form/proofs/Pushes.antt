@@ -1,0 +1,40 @@
+-- What loops push for each item of a list.
+use Rattle.std.specs.Prelude.{◌≡◌, ℕ, ◌+◌, ◌<◌, ◌≤◌, Bool, true, false, List, [], ◌∷◌, ◌++◌, flat_map, length, map, slice_index_or, take, refl}
+use Rattle.std.proofs.Common.{sym, ◌∙◌, ap}
+use Rattle.std.proofs.lemmas.List.{append-nil, flat_map_more, take_all, take_more}
+use Rattle.ratio_core.specs.Rational.{Rational, neg_ℚ, zero_ℚ}
+use Rattle.equality_form.specs.Columns.{parts_among, parts_of, signs}
+use Rattle.equality_form.specs.EqualityForm.{numbers_at}
+use Rattle.equality_form.specs.Equations.{flipped}
+use Rattle.solver_store.specs.declared.leaf.LeafVar.{LeafVar}
+use Rattle.solver_store.specs.declared.leaf.LeafVar.TheVariants.{Free, Nonneg}
+
+module _ {X Y : Type 0} (f : X → List Y) where
+  pub pushed_none : (xs : List X) (old : List Y) → old ≡ old ++ flat_map f (take 0 xs)
+  pushed_none xs old = sym (append-nil old)
+
+  pub pushed_more : (xs : List X) (i : ℕ) (d : X) (start old new : List Y) → i < length xs → old ≡ start ++ flat_map f (take i xs) → new ≡ old ++ f (slice_index_or xs i d) → new ≡ start ++ flat_map f (take (i + 1) xs)
+  pushed_more xs i d start old new h so_far pushed =
+      pushed ∙ ap (λ ys. ys ++ f (slice_index_or xs i d)) so_far ∙ flat_map_more f start (take i xs) (slice_index_or xs i d)
+      ∙ ap (λ ys. start ++ flat_map f ys) (sym (take_more xs i d h))
+
+  pub pushed_all : (xs : List X) (i : ℕ) (start old : List Y) → length xs ≤ i → old ≡ start ++ flat_map f (take i xs) → old ≡ start ++ flat_map f xs
+  pushed_all xs i start old h so_far = so_far ∙ ap (λ ys. start ++ flat_map f ys) (take_all i xs h)
+
+-- ---- numbers at columns
+
+twice : (b c : Bool) (q : Rational) → flipped b (flipped c q) ≡ flipped c (flipped b q)
+twice true true q = refl
+twice true false q = refl
+twice false true q = refl
+twice false false q = refl
+
+-- a variable's numbers, negated or not
+abbrev pub chunk : Bool → (ℕ → Rational) → ℕ × LeafVar → List Rational
+chunk negated g var = map (λ b. flipped b (flipped negated (g var.0))) (signs var.1)
+
+pub chunks : (negated : Bool) (g : ℕ → Rational) (vars : List (ℕ × LeafVar)) → flat_map (chunk negated g) vars ≡ map (flipped negated) (numbers_at (parts_among vars) g)
+chunks negated g [] = refl
+chunks negated g ((i, Free) ∷ vars) =
+    λ k. twice false negated (g i) k ∷ twice true negated (g i) k ∷ chunks negated g vars k
+chunks negated g ((i, Nonneg) ∷ vars) = λ k. twice false negated (g i) k ∷ chunks negated g vars k

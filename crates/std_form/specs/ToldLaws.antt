@@ -1,0 +1,82 @@
+-- What is told of a model by index is told of the leaf model that is read through its map.
+use Rattle.std.specs.Prelude.{◌≡◌, ◌+◌, ◌*◌, ◌<◌, ◌≤◌, ◌-◌, ◌^◌, List, [], ◌∷◌, All, Result, Ok, Err, min, refl}
+use Rattle.std.specs.Prelude as prelude
+use Rattle.std.specs.FinMap as finite
+use Rattle.std.proofs.Common.{sym, ◌∙◌, ap, subst}
+use Rattle.std.proofs.lemmas.List.Elements.{All-cons, All-head, All-map, All-nil, All-tail, All-weaker}
+use Rattle.ratio_core.specs.Rational.{SumFits, neg_ℚ}
+use Rattle.address_map.specs.AddressMap.{AddressMap}
+use Rattle.address_map.specs.Places.{Indices, IsOneToOne}
+use Rattle.aff_core.specs.Address.{Address}
+use Rattle.equality_form.specs.EqualityForm.{cell_count, cells_of, form_of_leaves}
+use Rattle.equality_form.specs.Equations.{RightFits, equations, number_of}
+use Rattle.equality_form.specs.ReadBack.{AnswerFits}
+use Rattle.leaf_model.specs.ReadThrough.{read_through}
+use Rattle.simplex_core.specs.declared.answer.SolverAnswer.{SolverAnswer}
+use Rattle.simplex_core.specs.declared.form.StdForm.{StdForm}
+use Rattle.solver_store.specs.SolverModel.{Leaves}
+use Rattle.solver_store.specs.declared.answer.LeafAnswer.{LeafAnswer}
+use Rattle.std_form.specs.declared.fault.FormFault.{FormFault}
+use Rattle.std_form.specs.declared.fault.FormFault.TheVariants.{TooLarge, Overflow, Memory}
+use Rattle.std_form.specs.declared.fault.ReadFault.{ReadFault}
+use Rattle.std_form.specs.declared.fault.ReadFault.TheVariants as read
+use Rattle.std_form.specs.AnswerLaws.{answer_is, fit_is}
+use Rattle.std_form.specs.Answers.{FitByIndex, read_by_index}
+use Rattle.std_form.specs.FormLaws.{equations_through, form_is, named_equation}
+use Rattle.std_form.specs.Indexed.{SolverEquation, cost_in, equations_of, form_of, variables_of}
+use Rattle.std_form.specs.NameLaws.{constant_named}
+use Rattle.std_form.specs.Readable.{IsReadable}
+use Rattle.std_form.specs.Told.{Tells, TellsAnswer, TellsForm}
+
+fits_named : (indices : Indices) (e : SolverEquation)
+    → RightFits e ≡ RightFits (named_equation indices e)
+fits_named indices e =
+    ap (λ k. SumFits (number_of e.set) (neg_ℚ k)) (sym (constant_named indices e.function))
+
+all_map : {X Y : Type 0} (P : Y → Type 0) (Q : X → Type 0) (f : X → Y) → ((x : X) → P (f x) → Q x)
+    → (xs : List X) → All P (prelude.map f xs) → All Q xs
+all_map P Q f h [] k = All-nil Q
+all_map P Q f h (x ∷ xs) k = All-cons Q x xs (h x (All-head P (f x) (prelude.map f xs) k))
+    (all_map P Q f h xs (All-tail P (f x) (prelude.map f xs) k))
+
+module _ (map : AddressMap) (leaves : Leaves) (one : IsOneToOne map.vars.indices)
+    (readable : IsReadable map leaves) (at : Address) where
+  cells_through : cells_of (variables_of map leaves) (equations_of map leaves)
+      ≡ cell_count (read_through map leaves at)
+  cells_through = ap (λ form. form.m * (form.c + form.m + 1)) (form_is map leaves one readable at)
+
+  fits_through : All RightFits (equations_of map leaves)
+      → All RightFits (equations (read_through map leaves at))
+  fits_through h =
+      subst (All RightFits) (sym (equations_through map leaves at))
+      (All-map RightFits (named_equation map.vars.indices) (equations_of map leaves)
+      (All-weaker RightFits (λ e. RightFits (named_equation map.vars.indices e))
+          (λ e k. subst (λ P. P) (fits_named map.vars.indices e) k) (equations_of map leaves) h))
+
+  fits_back : All RightFits (equations (read_through map leaves at))
+      → All RightFits (equations_of map leaves)
+  fits_back h =
+      all_map RightFits RightFits (named_equation map.vars.indices)
+          (λ e k. subst (λ P. P) (sym (fits_named map.vars.indices e)) k) (equations_of map leaves)
+      (subst (All RightFits) (equations_through map leaves at) h)
+
+  pub tells_through : (r : Result StdForm FormFault)
+      → Tells (variables_of map leaves) (equations_of map leaves) (cost_in leaves.objective) r
+      → TellsForm (read_through map leaves at) r
+  tells_through (Ok form) h =
+      (h.0 ∙ form_is map leaves one readable at, subst (λ n. n ≤ 16777216) cells_through h.1,
+          fits_through h.2)
+  tells_through (Err (TooLarge cells)) h =
+      (subst (λ n. 16777216 < n) cells_through h.0, h.1
+          ∙ ap (λ n. min n (2 ^ 64 - 1)) cells_through)
+  tells_through (Err Overflow) h =
+      (subst (λ n. n ≤ 16777216) cells_through h.0, λ k. h.1 (fits_back k))
+  tells_through (Err Memory) h = tt
+
+-- what is told by index of reading back
+abbrev pub TellsByIndex : AddressMap → Leaves → StdForm → SolverAnswer → Result LeafAnswer ReadFault
+    → Type 0
+TellsByIndex map leaves form a (Ok answer) = (answer ≡ read_by_index map leaves form.flips a)
+    × FitByIndex map leaves a
+TellsByIndex map leaves form a (Err read.Overflow) = ¬ FitByIndex map leaves a
+TellsByIndex map leaves form a (Err read.Memory) = Unit {0}
