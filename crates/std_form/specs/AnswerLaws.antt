@@ -56,11 +56,11 @@ module _ (indices : Indices) (one : IsOneToOne indices) {V X : Type 0} (none : X
       by_test false false e f = refl
       by_test true false e f =
           absurd (true≢false (sym ((address_eq-Decides at l.0).1
-              (one at l.0 l.1.0 (h ∙ ap Some ((key_eq-Decides index_order i l.1.0).0 e)) k)) ∙ f))
+          (one at l.0 l.1.0 (h ∙ ap Some ((key_eq-Decides index_order i l.1.0).0 e)) k)) ∙ f))
       by_test false true e f =
           absurd (true≢false (sym ((key_eq-Decides index_order i l.1.0).1
-              (same_Some i l.1.0 (sym h ∙ ap (finite.get indices) ((address_eq-Decides at l.0).0 f)
-              ∙ k))) ∙ e))
+          (same_Some i l.1.0 (sym h ∙ ap (finite.get indices) ((address_eq-Decides at l.0).0 f)
+          ∙ k))) ∙ e))
 
   found_listed : (at : Address) (i : ℕ) → finite.get indices at ≡ Some i
       → (L : List (Address × (ℕ × V))) → All HasIndexOf L → (xs : List X)
@@ -71,7 +71,7 @@ module _ (indices : Indices) (one : IsOneToOne indices) {V X : Type 0} (none : X
   found_listed at i h (l ∷ L) k (x ∷ xs) =
       by_test (eq_by_cmp nat_cmp i l.1.0) (found_listed at i h L (All-tail HasIndexOf l L k) xs)
       ∙ ap (λ b. cond b x (listed_at none (prelude.map (λ l. l.0) L) xs at))
-          (same_test at i l h (All-head HasIndexOf l L k))
+      (same_test at i l h (All-head HasIndexOf l L k))
     where
       by_test : (b : Bool)
           → unwrap_or (find nat_cmp i (under (prelude.map (λ l. l.1) L) xs)) none
@@ -93,7 +93,7 @@ module _ (indices : Indices) (one : IsOneToOne indices) {V X : Type 0} (none : X
           → none ≡ cond b x (listed_at none (prelude.map (λ l. l.0) L) xs at)
       by_test true e rest =
           absurd (none-some l.1.0 (sym h ∙ ap (finite.get indices) ((address_eq-Decides at l.0).0 e)
-              ∙ All-head HasIndexOf l L k))
+          ∙ All-head HasIndexOf l L k))
       by_test false e rest = rest
 
   under_listed : (L : List (Address × (ℕ × V))) → All HasIndexOf L → (xs : List X) (at : Address)
@@ -108,7 +108,7 @@ module _ (indices : Indices) (one : IsOneToOne indices) {V X : Type 0} (none : X
       by_index None h = listed_nowhere at h L k xs
       by_index (Some i) h =
           ap (λ o. unwrap_or o none) (finite.get-from_entries nat_cmp_total
-              (under (prelude.map (λ l. l.1) L) xs) i) ∙ found_listed at i h L k xs
+          (under (prelude.map (λ l. l.1) L) xs) i) ∙ found_listed at i h L k xs
 
 -- ---- values and lists of duals are the same by address and by index
 
@@ -161,15 +161,15 @@ module _ (map : AddressMap) (leaves : Leaves) (one_var : IsOneToOne map.vars.ind
   unfolding vars_with
   point_same x v =
       ap (λ vars. at_address zero_ℚ map.vars.indices (finite.from_entries (points vars x)) v)
-          (leaves_at_is leaves.vars map.vars.indices)
+      (leaves_at_is leaves.vars map.vars.indices)
       ∙ under_listed map.vars.indices one_var zero_ℚ vars_with
       (All-weaker (HasItsIndex leaves.vars map.vars.indices)
-          (λ l. finite.get map.vars.indices l.0 ≡ Some l.1.0) (λ l h. h.0) vars_with
-          (each_index leaves.vars map.vars.indices))
+      (λ l. finite.get map.vars.indices l.0 ≡ Some l.1.0) (λ l h. h.0) vars_with
+      (each_index leaves.vars map.vars.indices))
       (values_in (prelude.map (λ l. l.1) vars_with) x) v
       ∙ ap₂ (λ keys vs. listed_at zero_ℚ keys vs v)
       (sym (map-map (λ e. e.0) (λ l. (l.0, l.1.1)) vars_with)
-          ∙ ap (prelude.map (λ e. e.0)) (sym vars_through))
+      ∙ ap (prelude.map (λ e. e.0)) (sym vars_through))
       (values_same vars_with x ∙ ap (λ es. values_in es x) (sym vars_through))
 
   duals_same : (y : List Rational) (v : Address)
@@ -179,23 +179,23 @@ module _ (map : AddressMap) (leaves : Leaves) (one_var : IsOneToOne map.vars.ind
   unfolding rows_with
   duals_same y v =
       ap (λ rows. at_address [] map.rows.indices (finite.from_entries
-          (dual_lists rows (unflipped (prelude.map is_flipped (equations_of map leaves)) y))) v)
-          (leaves_at_is leaves.rows map.rows.indices)
+      (dual_lists rows (unflipped (prelude.map is_flipped (equations_of map leaves)) y))) v)
+      (leaves_at_is leaves.rows map.rows.indices)
       ∙ under_listed map.rows.indices one_row [] rows_with
       (All-weaker (HasItsIndex leaves.rows map.rows.indices)
-          (λ l. finite.get map.rows.indices l.0 ≡ Some l.1.0) (λ l h. h.0) rows_with
-          (each_index leaves.rows map.rows.indices))
+      (λ l. finite.get map.rows.indices l.0 ≡ Some l.1.0) (λ l h. h.0) rows_with
+      (each_index leaves.rows map.rows.indices))
       (in_parts (row_lengths (prelude.map (λ l. l.1) rows_with))
-          (unflipped (prelude.map is_flipped (equations_of map leaves)) y)) v
+      (unflipped (prelude.map is_flipped (equations_of map leaves)) y)) v
       ∙ ap₂ (λ keys vs. listed_at [] keys vs v)
       (sym (map-map (λ e. e.0) (λ l. (l.0, read_row map.vars.indices l.1.1)) rows_with)
-          ∙ ap (prelude.map (λ e. e.0)) (sym rows_through))
+      ∙ ap (prelude.map (λ e. e.0)) (sym rows_through))
       (ap₂ in_parts
       (lengths_same map.vars.indices rows_with
-          ∙ ap (prelude.map {A = Address × Body} (λ r. length (functions_of r.1)))
-          (sym rows_through))
+      ∙ ap (prelude.map {A = Address × Body} (λ r. length (functions_of r.1)))
+      (sym rows_through))
       (ap (λ flips. unflipped flips y) (sym (flips_named map.vars.indices (equations_of map leaves))
-          ∙ ap (prelude.map is_flipped) (sym (equations_through map leaves at)))))
+      ∙ ap (prelude.map is_flipped) (sym (equations_through map leaves at)))))
 
   -- what is read back by index is the leaf model's answer by address
   pub answer_is : (a : SolverAnswer)
@@ -212,7 +212,7 @@ module _ (map : AddressMap) (leaves : Leaves) (one_var : IsOneToOne map.vars.ind
   unfolding vars_with
   point_fits x =
       ap (λ vars. ValuesFit vars x) (leaves_at_is leaves.vars map.vars.indices)
-          ∙ fit_same vars_with x ∙ ap (λ es. ValuesFit es x) (sym vars_through)
+      ∙ fit_same vars_with x ∙ ap (λ es. ValuesFit es x) (sym vars_through)
 
   pub fit_is : (a : SolverAnswer)
       → FitByIndex map leaves a ≡ AnswerFits (read_through map leaves at) a
@@ -229,4 +229,4 @@ module _ (map : AddressMap) (leaves : Leaves) (one_var : IsOneToOne map.vars.ind
       subst (IsRight (read_through map leaves at)) (sym (answer_is a))
       (right_read_back (read_through map leaves at) (is_native map leaves one_var readable at) a
       (subst (λ form. IsRightAnswer (equality_form form) a) (form_is map leaves one_var readable at)
-          h))
+      h))

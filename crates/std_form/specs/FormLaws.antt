@@ -60,10 +60,10 @@ numbers_same : (L : Variables) (f : Address → Rational) (g : ℕ → Rational)
 numbers_same [] f g h = refl
 numbers_same ((a, (i, Free)) ∷ L) f g h =
     ap₂ (λ q qs. q ∷ neg_ℚ q ∷ qs) (All-head (λ l. f l.0 ≡ g l.1.0) (a, (i, Free)) L h)
-        (numbers_same L f g (All-tail (λ l. f l.0 ≡ g l.1.0) (a, (i, Free)) L h))
+    (numbers_same L f g (All-tail (λ l. f l.0 ≡ g l.1.0) (a, (i, Free)) L h))
 numbers_same ((a, (i, Nonneg)) ∷ L) f g h =
     ap₂ (λ q qs. q ∷ qs) (All-head (λ l. f l.0 ≡ g l.1.0) (a, (i, Nonneg)) L h)
-        (numbers_same L f g (All-tail (λ l. f l.0 ≡ g l.1.0) (a, (i, Nonneg)) L h))
+    (numbers_same L f g (All-tail (λ l. f l.0 ≡ g l.1.0) (a, (i, Nonneg)) L h))
 
 length_same : (L : Variables)
     → length (parts_among (by_addresses L)) ≡ length (parts_among (by_indices L))
@@ -93,7 +93,7 @@ module _ (indices : Indices) where
   equations_of_rows (l ∷ L) =
       ap₂ ◌++◌ (equations_of_row l.1.1) (equations_of_rows L)
       ∙ sym (map-append named_equation (equations_in l.1.1)
-          (flat_map (λ r. equations_in r.1) (map (λ l. l.1) L)))
+      (flat_map (λ r. equations_in r.1) (map (λ l. l.1) L)))
 
   right_named : (e : SolverEquation) → right_of (named_equation e) ≡ right_of e
   right_named e = ap (λ k. number_of e.set -ℚ k) (constant_named indices e.function)
@@ -121,7 +121,7 @@ module _ (indices : Indices) where
         → All (λ l. coefficient (named indices f) l.0 ≡ coefficient f l.1.0) L
     coefficients_same f n =
         All-weaker (λ l. finite.get indices l.0 ≡ Some l.1.0)
-            (λ l. coefficient (named indices f) l.0 ≡ coefficient f l.1.0)
+        (λ l. coefficient (named indices f) l.0 ≡ coefficient f l.1.0)
         (λ l h. coefficient_named indices one f l.0 l.1.0 h n) L found
 
     cells_named : (ss : List (ℕ × Bool)) (i : ℕ) (es : List SolverEquation)
@@ -133,7 +133,7 @@ module _ (indices : Indices) where
         ap₂ ◌++◌
         (ap₂ (λ b numbers. map (flipped b) (numbers ++ unit_at ss i)) (flip_named e)
         (numbers_same L (coefficient (named indices e.function)) (coefficient e.function)
-            (coefficients_same e.function (All-head (λ e. NamesNamed indices e.function) e es n))))
+        (coefficients_same e.function (All-head (λ e. NamesNamed indices e.function) e es n))))
         (cells_named ss (suc i) es (All-tail (λ e. NamesNamed indices e.function) e es n))
 
     -- ---- costs
@@ -174,8 +174,8 @@ module _ (indices : Indices) where
         (λ x. (at, read_objective indices x) ∷ []) o [])) l.0 ≡ coefficient (cost_in o) l.1.0) L
     cost_named at o n =
         All-weaker (λ l. finite.get indices l.0 ≡ Some l.1.0)
-            (λ l. coefficient (cost_among (option_map_or (λ x. (at, read_objective indices x) ∷ [])
-            o [])) l.0 ≡ coefficient (cost_in o) l.1.0)
+        (λ l. coefficient (cost_among (option_map_or (λ x. (at, read_objective indices x) ∷ [])
+        o [])) l.0 ≡ coefficient (cost_in o) l.1.0)
         (cost_at at o n) L found
 
     -- ---- forms
@@ -190,12 +190,12 @@ module _ (indices : Indices) where
         let rows_are = sym (length-map es named_equation) in
         let columns_are = ap₂ ◌+◌ (sym (length_same L)) (ap length slacks_are) in
         let matrix_is = sym (cells_named (slacks_from 0 es) 0 es n)
-                ∙ ap (λ ss. cells_from (parts_among (by_addresses L)) ss 0 (map named_equation es))
-                slacks_are in
+        ∙ ap (λ ss. cells_from (parts_among (by_addresses L)) ss 0 (map named_equation es))
+        slacks_are in
         let costs_are = ap₂ (λ numbers ss. numbers ++ map (λ slack. zero_ℚ) ss)
-                (sym (numbers_same L (coefficient (cost_among
-                (option_map_or (λ x. (at, read_objective indices x) ∷ []) o [])))
-                (coefficient (cost_in o)) (cost_named at o k))) slacks_are in
+        (sym (numbers_same L (coefficient (cost_among
+        (option_map_or (λ x. (at, read_objective indices x) ∷ []) o [])))
+        (coefficient (cost_in o)) (cost_named at o k))) slacks_are in
         λ i. record {
           m = rows_are i;
           c = columns_are i;
@@ -215,7 +215,7 @@ module _ (map : AddressMap) (leaves : Leaves) where
       → IsNamedFunction f
   names_named readable f h =
       All-weaker (λ t. IsSome (finite.get leaves.vars t.0)) (IsNamedTerm map.vars.indices)
-          (λ t k. readable.vars.named t.0 k) (terms_of f) h
+      (λ t k. readable.vars.named t.0 k) (terms_of f) h
 
   -- what is so of each row's equations
   among_rows : (P : SolverEquation → Type 0) (L : List (Address × (ℕ × LeafRow)))
@@ -224,7 +224,7 @@ module _ (map : AddressMap) (leaves : Leaves) where
   among_rows P [] h = All-nil P
   among_rows P (l ∷ L) h =
       All-append P (equations_in l.1.1) (flat_map (λ r. equations_in r.1)
-          (prelude.map (λ l. l.1) L)) (All-head (λ l. All P (equations_in l.1.1)) l L h)
+      (prelude.map (λ l. l.1) L)) (All-head (λ l. All P (equations_in l.1.1)) l L h)
       (among_rows P L (All-tail (λ l. All P (equations_in l.1.1)) l L h))
 
   rows_with : List (Address × (ℕ × LeafRow))
@@ -242,10 +242,10 @@ module _ (map : AddressMap) (leaves : Leaves) where
       subst (All (λ e. IsNamedFunction e.function)) (sym equations_are)
       (among_rows (λ e. IsNamedFunction e.function) rows_with
       (All-weaker (HasItsIndex leaves.rows map.rows.indices)
-          (λ l. All (λ e. IsNamedFunction e.function) (equations_in l.1.1))
+      (λ l. All (λ e. IsNamedFunction e.function) (equations_in l.1.1))
       (λ l h. All-weaker (λ e. NamesUsed map leaves e.function) (λ e. IsNamedFunction e.function)
-          (λ e k. names_named readable e.function k) (equations_in l.1.1)
-          (readable.each_row l.1.0 l.1.1 h.1).names)
+      (λ e k. names_named readable e.function k) (equations_in l.1.1)
+      (readable.each_row l.1.0 l.1.1 h.1).names)
       rows_with (each_index leaves.rows map.rows.indices)))
 
   pub equations_through : (at : Address)
@@ -280,12 +280,12 @@ module _ (map : AddressMap) (leaves : Leaves) where
   unfolding vars_with
   form_is one readable at =
       ap (λ vars. form_from vars (equations_of map leaves) (cost_in leaves.objective))
-          (leaves_at_is leaves.vars map.vars.indices)
+      (leaves_at_is leaves.vars map.vars.indices)
       ∙ form_named map.vars.indices one vars_with
       (All-weaker (HasItsIndex leaves.vars map.vars.indices)
-          (λ l. finite.get map.vars.indices l.0 ≡ Some l.1.0) (λ l h. h.0) vars_with
-          (each_index leaves.vars map.vars.indices))
+      (λ l. finite.get map.vars.indices l.0 ≡ Some l.1.0) (λ l h. h.0) vars_with
+      (each_index leaves.vars map.vars.indices))
       (equations_of map leaves) (equations_named readable) at leaves.objective
-          (names_named readable (objective_in leaves.objective) readable.objective)
+      (names_named readable (objective_in leaves.objective) readable.objective)
       ∙ sym (λ i. form_from (entries_through leaves.vars (λ var. var) map.vars.indices i)
-          (equations_through at i) (cost_among (objective_through at i)))
+      (equations_through at i) (cost_among (objective_through at i)))

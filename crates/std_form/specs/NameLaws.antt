@@ -35,7 +35,7 @@ terms_of_variable : (var : ℕ) → terms_of (variable {R = nat_cmp} var) ≡ (v
 unfolding variable
 terms_of_variable var =
     terms-function_of ((var, one_ℚ) ∷ []) zero_ℚ (record { rising = refl })
-        ∙ ap (λ b. cond b ((var, one_ℚ) ∷ []) []) (nonzero_test one_ℚ one_not_zero)
+    ∙ ap (λ b. cond b ((var, one_ℚ) ∷ []) []) (nonzero_test one_ℚ one_not_zero)
 
 pub constant_of_variable : (var : ℕ) → (variable {R = nat_cmp} var).constant ≡ zero_ℚ
 unfolding variable
@@ -45,12 +45,12 @@ gathered_one : (a : Address) → gathered {R = address_cmp} ((a, one_ℚ) ∷ []
 unfolding gathered variable
 gathered_one a =
     same_coefficients address_order (gathered {R = address_cmp} ((a, one_ℚ) ∷ []) zero_ℚ)
-        (variable a)
+    (variable a)
     (λ v. coefficient-gathered address_order ((a, one_ℚ) ∷ []) zero_ℚ v
-        ∙ sym (coefficient-function_of address_order ((a, one_ℚ) ∷ []) zero_ℚ v
-        (record { rising = refl })))
+    ∙ sym (coefficient-function_of address_order ((a, one_ℚ) ∷ []) zero_ℚ v
+    (record { rising = refl })))
     (constant-function_of address_cmp _ zero_ℚ
-        ∙ sym (constant-function_of address_cmp ((a, one_ℚ) ∷ []) zero_ℚ))
+    ∙ sym (constant-function_of address_cmp ((a, one_ℚ) ∷ []) zero_ℚ))
 
 -- ---- entries and what is found at their keys
 
@@ -66,17 +66,17 @@ module _ {X : Type 0} where
           → cond b (Some e.1) (find address_cmp f.0 es) ≡ Some f.1
       by_test true t =
           absurd (none-some f.1 (sym (find_below address_cmp f.0 es
-              (subst (λ a. T (below_all address_cmp a es)) (sym ((address_eq-Decides f.0 e.0).0 t))
-              h)) ∙ found))
+          (subst (λ a. T (below_all address_cmp a es)) (sym ((address_eq-Decides f.0 e.0).0 t))
+          h)) ∙ found))
       by_test false t = found
 
   pub all_found : (es : List (Address × X)) → T (is_sorted address_cmp es) → All (IsFoundIn es) es
   all_found [] h = All-nil (IsFoundIn [])
   all_found (e ∷ es) h =
       All-cons (IsFoundIn (e ∷ es)) e es (ap (λ b. cond b (Some e.1) (find address_cmp e.0 es))
-          (same_key address_order e.0))
+      (same_key address_order e.0))
       (All-weaker (IsFoundIn es) (IsFoundIn (e ∷ es)) (later_found e es (first _ _ h)) es
-          (all_found es (second _ _ h)))
+      (all_found es (second _ _ h)))
 
   -- what is found stands at a place
   pub found_place : (es : List (Address × X)) (a : Address) (x : X) → find address_cmp a es ≡ Some x
@@ -107,7 +107,7 @@ module _ (indices : Indices) where
   pub entries_found : All IsEntry (finite.entries indices)
   entries_found =
       All-weaker (IsFoundIn (finite.entries indices)) IsEntry
-          (λ e h. finite.get-entries indices e.0 ∙ h) (finite.entries indices)
+      (λ e h. finite.get-entries indices e.0 ∙ h) (finite.entries indices)
       (all_found (finite.entries indices) (finite.entries_sorted indices))
 
   -- the address of an index
@@ -120,12 +120,12 @@ module _ (indices : Indices) where
       by_found (Some e) is =
           let place = place_of_found (λ e. e.1 == i) (finite.entries indices) e is in
           one e.0 at i (at_place IsEntry (finite.entries indices) place.1.0 e entries_found
-              place.1.1 ∙ ap Some (eqb-true e.1 i place.0)) h
+          place.1.1 ∙ ap Some (eqb-true e.1 i place.0)) h
       by_found None is =
           let place = found_place (finite.entries indices) at i
-                  (sym (finite.get-entries indices at) ∙ h) in
+          (sym (finite.get-entries indices at) ∙ h) in
           absurd (true≢false (sym (eq-eqb i i refl)
-              ∙ none_passes (λ e. e.1 == i) (finite.entries indices) place.0 (at, i) is place.1))
+          ∙ none_passes (λ e. e.1 == i) (finite.entries indices) place.0 (at, i) is place.1))
 
   -- some address has the index
   abbrev pub IsNamed : ℕ → Type 0
@@ -151,13 +151,13 @@ module _ (indices : Indices) where
         by_test false false e k = refl
         by_test true false e k =
             absurd (true≢false (sym ((address_eq-Decides at (address_in indices j)).1
-                (sym (address_in_is one at j (h ∙ ap Some ((key_eq-Decides index_order i j).0 e)))))
-                ∙ k))
+            (sym (address_in_is one at j (h ∙ ap Some ((key_eq-Decides index_order i j).0 e)))))
+            ∙ k))
         by_test false true e k =
             absurd (true≢false (sym ((key_eq-Decides index_order i j).1
-                (same_Some i j (sym h
-                ∙ ap (finite.get indices) ((address_eq-Decides at (address_in indices j)).0 k
-                ∙ address_in_is one n.0 j n.1) ∙ n.1))) ∙ e))
+            (same_Some i j (sym h
+            ∙ ap (finite.get indices) ((address_eq-Decides at (address_in indices j)).0 k
+            ∙ address_in_is one n.0 j n.1) ∙ n.1))) ∙ e))
 
     named_find : (at : Address) (i : ℕ) → finite.get indices at ≡ Some i
         → (ts : List (ℕ × Rational)) → All IsNamedTerm ts
@@ -165,14 +165,14 @@ module _ (indices : Indices) where
     named_find at i h [] n = refl
     named_find at i h (t ∷ ts) n =
         ap₂ (λ b o. cond b (Some t.1) o) (same_test at i t.0 h (All-head IsNamedTerm t ts n))
-            (named_find at i h ts (All-tail IsNamedTerm t ts n))
+        (named_find at i h ts (All-tail IsNamedTerm t ts n))
 
     pub coefficient_named : (f : SolverFunction) (at : Address) (i : ℕ)
         → finite.get indices at ≡ Some i → NamesNamed f
         → coefficient (named indices f) at ≡ coefficient f i
     coefficient_named f at i h n =
         coefficient-gathered address_order (map (λ t. (address_in indices t.0, t.1)) (terms_of f))
-            f.constant at
+        f.constant at
         ∙ ap (λ o. unwrap_or o zero_ℚ) (named_find at i h (terms_of f) n)
         ∙ coefficient_in-terms_of f i
 
@@ -183,5 +183,5 @@ module _ (indices : Indices) where
   pub variable_named : (var : ℕ) → named indices (variable var) ≡ variable (address_in indices var)
   variable_named var =
       ap₂ (λ ts k. gathered {R = address_cmp} (map (λ t. (address_in indices t.0, t.1)) ts) k)
-          (terms_of_variable var) (constant_of_variable var)
+      (terms_of_variable var) (constant_of_variable var)
       ∙ gathered_one (address_in indices var)

@@ -46,8 +46,8 @@ nonzero (t ∷ ts) h = by_test (not (rational_eq t.1 zero_ℚ)) refl h
         → All (λ t. t.1 ≢ zero_ℚ) (t ∷ ts)
     by_test true e h =
         All-cons (λ t. t.1
-            ≢ zero_ℚ) t ts (λ k. true≢false (sym e ∙ ap not (eq_rational_eq t.1 zero_ℚ k)))
-            (nonzero ts h)
+        ≢ zero_ℚ) t ts (λ k. true≢false (sym e ∙ ap not (eq_rational_eq t.1 zero_ℚ k)))
+        (nonzero ts h)
     by_test false e h = absurd (true≢false (sym h))
 
 module _ (map : AddressMap) (leaves : Leaves) (one : IsOneToOne map.vars.indices)
@@ -64,19 +64,25 @@ module _ (map : AddressMap) (leaves : Leaves) (one : IsOneToOne map.vars.indices
   renamed_have ts h =
       All-map (λ t. HasIndex t.0) (λ t. (address_in map.vars.indices t.0, t.1)) ts
       (All-weaker (IsNamedTerm map.vars.indices) (λ t. HasIndex (address_in map.vars.indices t.0))
-      (λ t n. (t.0, ap (finite.get map.vars.indices)
-          (address_in_is map.vars.indices one n.0 t.0 n.1) ∙ n.1)) ts h)
+      (λ t n. (
+        t.0,
+        ap (finite.get map.vars.indices)
+            (address_in_is map.vars.indices one n.0 t.0 n.1) ∙ n.1,
+      )) ts h)
 
   named_have : (f : SolverFunction) → IsNamedFunction map leaves f
       → All (λ t. HasIndex t.0) (terms_of (named map.vars.indices f))
   named_have f n =
       All-weaker (λ t. (t.1 ≢ zero_ℚ)
-          × (find address_cmp t.0 (terms_of (named map.vars.indices f)) ≡ Some t.1))
-          (λ t. HasIndex t.0)
+      × (find address_cmp t.0 (terms_of (named map.vars.indices f)) ≡ Some t.1))
+      (λ t. HasIndex t.0)
       each (terms_of (named map.vars.indices f))
-      (λ k d h. (nonzero (terms_of (named map.vars.indices f)) (named map.vars.indices f).nonzero k
-          d h, all_found (terms_of (named map.vars.indices f))
-          (finite.entries_sorted (named map.vars.indices f).terms) k d h))
+      (λ k d h. (
+        nonzero (terms_of (named map.vars.indices f)) (named map.vars.indices f).nonzero k
+            d h,
+        all_found (terms_of (named map.vars.indices f))
+            (finite.entries_sorted (named map.vars.indices f).terms) k d h,
+      ))
     where
       each : (t : Address × Rational)
           → (t.1 ≢ zero_ℚ) × (find address_cmp t.0 (terms_of (named map.vars.indices f)) ≡ Some t.1)
@@ -95,7 +101,7 @@ module _ (map : AddressMap) (leaves : Leaves) (one : IsOneToOne map.vars.indices
           by_found (Some q) e =
               let place = found_place (renamed (terms_of f)) t.0 q e in
               at_place (λ t. HasIndex t.0) (renamed (terms_of f)) place.0 (t.0, q)
-                  (renamed_have (terms_of f) n) place.1
+              (renamed_have (terms_of f) n) place.1
 
   module _ (at : Address) where
     through : LeafModel
@@ -105,7 +111,7 @@ module _ (map : AddressMap) (leaves : Leaves) (one : IsOneToOne map.vars.indices
     unfolding through
     stands a h =
         subst IsSome (sym (get_through leaves.vars (λ var. var) map.vars.indices a
-            ∙ ap (option_and_then (λ i. option_map (λ var. var) (finite.get leaves.vars i))) h.1))
+        ∙ ap (option_and_then (λ i. option_map (λ var. var) (finite.get leaves.vars i))) h.1))
         (some_mapped (finite.get leaves.vars h.0) (readable.vars.used a h.0 h.1))
       where
         some_mapped : (o : Option LeafVar) → IsSome o → IsSome (option_map (λ var. var) o)
@@ -116,7 +122,7 @@ module _ (map : AddressMap) (leaves : Leaves) (one : IsOneToOne map.vars.indices
         → NamesVariables through (named map.vars.indices f)
     names f n =
         All-weaker (λ t. HasIndex t.0) (λ t. IsSome (finite.get through.variables t.0))
-            (λ t h. stands t.0 h) (terms_of (named map.vars.indices f)) (named_have f n)
+        (λ t h. stands t.0 h) (terms_of (named map.vars.indices f)) (named_have f n)
 
     names_objective : (o : Option LeafObjective) → IsNamedFunction map leaves (objective_in o)
         → All {X = Address
@@ -126,16 +132,16 @@ module _ (map : AddressMap) (leaves : Leaves) (one : IsOneToOne map.vars.indices
         All-nil (λ objective. All (NamesVariables through) (functions_of objective.1))
     names_objective (Some (objective.Plain sense var)) n =
         All-cons (λ objective. All (NamesVariables through) (functions_of objective.1))
-            (at, read_objective map.vars.indices (objective.Plain sense var)) []
+        (at, read_objective map.vars.indices (objective.Plain sense var)) []
         (All-cons (NamesVariables through) (variable (address_in map.vars.indices var)) []
-            (subst (NamesVariables through) (variable_named map.vars.indices var)
-            (names (variable var) n)) (All-nil (NamesVariables through)))
+        (subst (NamesVariables through) (variable_named map.vars.indices var)
+        (names (variable var) n)) (All-nil (NamesVariables through)))
         (All-nil (λ objective. All (NamesVariables through) (functions_of objective.1)))
     names_objective (Some (objective.Affine sense func)) n =
         All-cons (λ objective. All (NamesVariables through) (functions_of objective.1))
-            (at, read_objective map.vars.indices (objective.Affine sense func)) []
+        (at, read_objective map.vars.indices (objective.Affine sense func)) []
         (All-cons (NamesVariables through) (named map.vars.indices func) [] (names func n)
-            (All-nil (NamesVariables through)))
+        (All-nil (NamesVariables through)))
         (All-nil (λ objective. All (NamesVariables through) (functions_of objective.1)))
 
     pub is_native : IsNativeModel (read_through map leaves at)
@@ -143,28 +149,28 @@ module _ (map : AddressMap) (leaves : Leaves) (one : IsOneToOne map.vars.indices
     is_native = record {
       rows =
           subst (All (λ row. IsNativeRow row.1)) (sym (entries_through leaves.rows
-              (read_row map.vars.indices) map.rows.indices))
+          (read_row map.vars.indices) map.rows.indices))
           (All-map (λ row. IsNativeRow row.1) (λ l. (l.0, read_row map.vars.indices l.1.1))
-              (leaves_with leaves.rows (finite.entries map.rows.indices))
-          (All-weaker (HasItsIndex leaves.rows map.rows.indices)
-              (λ l. IsNativeRow (read_row map.vars.indices l.1.1))
-              (λ l h. (readable.each_row l.1.0 l.1.1 h.1).native)
           (leaves_with leaves.rows (finite.entries map.rows.indices))
-              (each_index leaves.rows map.rows.indices)));
+          (All-weaker (HasItsIndex leaves.rows map.rows.indices)
+          (λ l. IsNativeRow (read_row map.vars.indices l.1.1))
+          (λ l h. (readable.each_row l.1.0 l.1.1 h.1).native)
+          (leaves_with leaves.rows (finite.entries map.rows.indices))
+          (each_index leaves.rows map.rows.indices)));
       row_names =
           by_row (λ e. NamesVariables (read_through map leaves at) e.function)
-              (finite.entries (read_through map leaves at).rows)
+          (finite.entries (read_through map leaves at).rows)
           (subst (All (λ e. NamesVariables (read_through map leaves at) e.function))
-              (sym (equations_through map leaves at))
+          (sym (equations_through map leaves at))
           (All-map (λ e. NamesVariables (read_through map leaves at) e.function)
-              (named_equation map.vars.indices) (equations_of map leaves)
+          (named_equation map.vars.indices) (equations_of map leaves)
           (All-weaker (λ e. IsNamedFunction map leaves e.function)
-              (λ e. NamesVariables (read_through map leaves at) (named map.vars.indices e.function))
-              (λ e n. names e.function n)
+          (λ e. NamesVariables (read_through map leaves at) (named map.vars.indices e.function))
+          (λ e n. names e.function n)
           (equations_of map leaves) (equations_named map leaves readable))));
       objective_names =
           subst (All (λ objective. All (NamesVariables (read_through map leaves at))
-              (functions_of objective.1))) (sym (objective_through map leaves at))
+          (functions_of objective.1))) (sym (objective_through map leaves at))
           (names_objective leaves.objective (names_named map leaves readable
-              (objective_in leaves.objective) readable.objective));
+          (objective_in leaves.objective) readable.objective));
     }

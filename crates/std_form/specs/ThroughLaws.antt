@@ -129,8 +129,8 @@ module _ {X : Type 0} (leaves : FinMap nat_cmp X) where
           ≡ map (λ l. (l.0, read l.1.1)) (leaves_with (finite.entries indices))
       entries_through =
           finite.entries-from_sorted address_cmp (flat_map (placed read leaves)
-              (finite.entries indices)) (sorted_placed (finite.entries indices)
-              (finite.entries_sorted indices))
+          (finite.entries indices)) (sorted_placed (finite.entries indices)
+          (finite.entries_sorted indices))
           ∙ addresses_of_leaves (finite.entries indices)
 
       -- what stands at an address
@@ -139,11 +139,11 @@ module _ {X : Type 0} (leaves : FinMap nat_cmp X) where
           ≡ option_and_then (λ i. option_map read (finite.get leaves i)) (finite.get indices a)
       get_through a =
           finite.get-from_sorted address_cmp (flat_map (placed read leaves)
-              (finite.entries indices)) a (sorted_placed (finite.entries indices)
-              (finite.entries_sorted indices))
+          (finite.entries indices)) a (sorted_placed (finite.entries indices)
+          (finite.entries_sorted indices))
           ∙ find_placed a (finite.entries indices) (finite.entries_sorted indices)
           ∙ ap (option_and_then (λ i. option_map read (finite.get leaves i)))
-              (sym (finite.get-entries indices a))
+          (sym (finite.get-entries indices a))
 
   pub leaves_at_is : (indices : Indices)
       → leaves_at indices leaves ≡ map (λ l. l.1) (leaves_with (finite.entries indices))

@@ -9,7 +9,7 @@ ghost use Rattle.leaf_model.specs.ReadThrough.{read_through};
 ghost use Rattle.simplex_core.specs.Answer.{IsRightAnswer};
 ghost use Rattle.simplex_core.specs.StdForm.{equality_form};
 ghost use Rattle.tableau_core.specs.Row.{cell};
-ghost use Rattle.std_form.specs.Answers.{answer_of, dual_lists, points};
+ghost use Rattle.std_form.specs.Answers.{answer_of, dual_lists, points, read_by_index};
 ghost use Rattle.std_form.specs.Borrowed.{row_in};
 ghost use Rattle.std_form.specs.Indexed.{form_of};
 ghost use Rattle.std_form.specs.Readable.{IsReadable};
@@ -29,7 +29,8 @@ use std::alloc::Global;
 /// The answer by the solver's indices: a number for each variable, and a dual for each component of
 /// each row. `Overflow` exactly where the difference of a free variable's two columns passes 128 bits.
 ///
-/// An answer that is right for the form is then right for the model.
+/// The form is the one that was built. An answer that is right for it is then right for the model
+/// that is read through the map.
 pub fn read_back(
     alloc: Global,
     solver: &SolverModel,
@@ -37,9 +38,14 @@ pub fn read_back(
     form: &StdForm,
     a: &SolverAnswer,
 ) -> Result<LeafAnswer, ReadFault>
-    requires { form.now.flips ≡ (form_of map.now solver.now.leaves).flips }
-    ensures told { (at : Address) → IsReadable map.now solver.now.leaves
+    requires { form.now ≡ form_of map.now solver.now.leaves }
+    ensures by_index { IfOk result (λ answer.
+        answer ≡ read_by_index map.now solver.now.leaves form.now.flips a.now) }
+    ensures told { (at : Address)
         → TellsAnswer map.now (read_through map.now solver.now.leaves at) a.now result }
+    ensures right { (at : Address) → IsReadable map.now solver.now.leaves
+        → IsRightAnswer (equality_form form.now) a.now → IfOk result (λ answer.
+        IsRight (read_through map.now solver.now.leaves at) (answer_of map.now answer)) }
 {
     read_by_index(alloc, solver, map, form, a)
 }
