@@ -1,6 +1,6 @@
-//! Models in the making: each leaf is put under the next number of its kind.
+//! Models as tables of rows, each put under the next index of its kind.
 use aff_core::{Address, Root};
-use lists::Sequence;
+use lists::Memory;
 use ratio_core::Ratio;
 use set_core::Set;
 use solver_store::{LeafObjective, LeafRow, LeafVar, Sense, SolverAff, SolverModel, SolverVec};
@@ -8,72 +8,134 @@ use std::alloc::Global;
 use std::test::Fail;
 use std_form::AddressMap;
 
+/// A function of the free variable x and the nonnegative variable y: their coefficients and the
+/// constant, as literals.
+pub(crate) type Terms = (&'static str, &'static str, &'static str);
+
+#[derive(Clone, Copy)]
+pub(crate) enum Row {
+    AtMost(Terms, &'static str),
+    AtLeast(Terms, &'static str),
+    /// y is the number.
+    Fixes(&'static str),
+    /// Both are at least 0.
+    Pair(Terms, Terms),
+    /// So many functions without terms are 0.
+    Zeros(u32),
+}
+
 #[derive(Drop)]
 pub(crate) struct Model {
     pub(crate) solver: SolverModel,
     pub(crate) map: AddressMap,
 }
 
-pub(crate) fn number(text: &str) -> Result<Ratio, Fail> {
+/// The model with the rows, each at the address of its number, and the objective.
+pub(crate) fn model(
+    alloc: Global,
+    rows: &[(u32, Row)],
+    objective: Option<(Sense, Terms)>,
+) -> Result<Model, Fail> {
+    let mut model = Model {
+        solver: SolverModel::new(alloc),
+        map: AddressMap::new(alloc),
+    };
+    // the other way round than their addresses
+    put_var(&mut model, 1, LeafVar::Nonneg)?;
+    put_var(&mut model, 0, LeafVar::Free)?;
+    for (number, row) in rows {
+        put_row(&mut model, *number, made(alloc, row)?)?;
+    }
+    if let Some((sense, terms)) = objective {
+        let func = function(alloc, &terms)?;
+        model
+            .solver
+            .set_objective(Some(LeafObjective::Affine { sense, func }));
+    }
+    Ok(model)
+}
+
+fn put_var(model: &mut Model, number: u32, var: LeafVar) -> Result<(), Fail> {
+    let i = model.solver.add_var(var)?;
+    let at = Address::root(Root::Variable, number);
+    if model.map.var_index(&at).is_some() || model.map.var_at(i).is_some() {
+        return Err(Fail::from("a variable is there"));
+    }
+    model.map.put_var(at, i)?;
+    Ok(())
+}
+
+fn put_row(model: &mut Model, number: u32, row: LeafRow) -> Result<(), Fail> {
+    let i = model.solver.add_row(row)?;
+    let at = Address::root(Root::Row, number);
+    if model.map.row_index(&at).is_some() || model.map.row_at(i).is_some() {
+        return Err(Fail::from("a row is there"));
+    }
+    model.map.put_row(at, i)?;
+    Ok(())
+}
+
+fn number(text: &str) -> Result<Ratio, Fail> {
     Ok(Ratio::read(text.as_bytes()).ok_or("a number")?)
 }
 
-// The function of two variables.
-pub(crate) fn func(alloc: Global, x: &str, y: &str, constant: &str) -> Result<SolverAff, Fail> {
+// x has the index 1, and y the index 0.
+fn function(alloc: Global, terms: &Terms) -> Result<SolverAff, Fail> {
+    let (x, y, constant) = terms;
     let terms = [(0usize, number(y)?), (1usize, number(x)?)];
     Ok(SolverAff::from_terms(alloc, &terms, number(constant)?)?)
 }
 
-// A free variable x under the index 1 and a nonnegative one y under the index 0.
-pub(crate) fn two_variables(alloc: Global) -> Result<Model, Fail> {
-    let mut solver = SolverModel::new(alloc);
-    let mut map = AddressMap::new(alloc);
-    let y = solver.add_var(LeafVar::Nonneg)?;
-    let x = solver.add_var(LeafVar::Free)?;
-    map.put_var(Address::root(Root::Variable, 0), x)?;
-    map.put_var(Address::root(Root::Variable, 1), y)?;
-    Ok(Model { solver, map })
-}
-
-impl Model {
-    pub(crate) fn row(&mut self, number: u32, row: LeafRow) -> Result<(), Fail> {
-        let i = self.solver.add_row(row)?;
-        self.map.put_row(Address::root(Root::Row, number), i)?;
-        Ok(())
-    }
-
-    pub(crate) fn objective(&mut self, sense: Sense, func: SolverAff) {
-        self.solver.set_objective(Some(LeafObjective::Affine { sense, func }));
+fn made(alloc: Global, row: &Row) -> Result<LeafRow, Fail> {
+    match row {
+        Row::AtMost(terms, upper) => at_most(alloc, terms, upper),
+        Row::AtLeast(terms, lower) => at_least(alloc, terms, lower),
+        Row::Fixes(value) => fixes(value),
+        Row::Pair(first, second) => pair(alloc, first, second),
+        Row::Zeros(count) => zeros(alloc, *count),
     }
 }
 
-pub(crate) fn at_most(func: SolverAff, upper: &str) -> Result<LeafRow, Fail> {
+fn at_most(alloc: Global, terms: &Terms, upper: &str) -> Result<LeafRow, Fail> {
+    let func = function(alloc, terms)?;
     let upper = number(upper)?;
-    Ok(LeafRow::Affine { func, set: Set::LessThan { upper } })
+    let set = Set::LessThan { upper };
+    Ok(LeafRow::Affine { func, set })
 }
 
-pub(crate) fn at_least(func: SolverAff, lower: &str) -> Result<LeafRow, Fail> {
+fn at_least(alloc: Global, terms: &Terms, lower: &str) -> Result<LeafRow, Fail> {
+    let func = function(alloc, terms)?;
     let lower = number(lower)?;
-    Ok(LeafRow::Affine { func, set: Set::GreaterThan { lower } })
+    let set = Set::GreaterThan { lower };
+    Ok(LeafRow::Affine { func, set })
 }
 
-pub(crate) fn pair(alloc: Global, first: SolverAff, second: SolverAff) -> Result<LeafRow, Fail> {
+fn fixes(value: &str) -> Result<LeafRow, Fail> {
+    let value = number(value)?;
+    let set = Set::EqualTo { value };
+    Ok(LeafRow::Plain { var: 0, set })
+}
+
+fn pair(alloc: Global, first: &Terms, second: &Terms) -> Result<LeafRow, Fail> {
     let mut func = SolverVec::new(alloc);
-    if func.push(first).is_err() || func.push(second).is_err() {
-        return Err(Fail::from("memory"));
-    }
+    push(&mut func, function(alloc, first)?)?;
+    push(&mut func, function(alloc, second)?)?;
     let set = Set::Nonnegatives { dimension: 2 };
     Ok(LeafRow::AffineVec { func, set })
 }
 
-// A row of so many functions that are 0.
-pub(crate) fn zeros(alloc: Global, count: usize) -> Result<LeafRow, Fail> {
+fn zeros(alloc: Global, count: u32) -> Result<LeafRow, Fail> {
     let mut func = SolverVec::new(alloc);
     for _ in 0..count {
-        if func.push(SolverAff::from_terms(alloc, &[], Ratio::zero())?).is_err() {
-            return Err(Fail::from("memory"));
-        }
+        push(&mut func, SolverAff::from_terms(alloc, &[], Ratio::zero())?)?;
     }
-    let set = Set::Zeros { dimension: 0 };
+    let set = Set::Zeros { dimension: count };
     Ok(LeafRow::AffineVec { func, set })
+}
+
+fn push(func: &mut SolverVec, component: SolverAff) -> Result<(), Memory> {
+    match func.push(component) {
+        Ok(()) => Ok(()),
+        Err((_, memory)) => Err(memory),
+    }
 }

@@ -1,21 +1,24 @@
 //! Small models, each with its form as a table worked by hand, and with its answer read back.
-use crate::models::{at_least, at_most, func, number, pair, two_variables, zeros, Model};
+use crate::models::{Model, Row, Terms, model};
 use crate::texts::{answer_text, form_text};
-use set_core::Set;
-use simplex_core::solve;
-use solver_store::{LeafRow, Sense};
+use simplex_core::{SolverAnswer, StdForm, solve};
+use solver_store::{LeafAnswer, Sense};
 use std::alloc::Global;
 use std::test::Fail;
-use std_form::{build, read_back, FormFault};
+use std_form::{FormFault, build, read_back};
 
-fn form_of(alloc: Global, model: &Model) -> Result<String, Fail> {
+fn form(alloc: Global, model: &Model) -> Result<String, Fail> {
     match build(alloc, &model.solver, &model.map) {
         Ok(form) => Ok(form_text(alloc, &form)?),
         Err(_) => Err(Fail::from("no form")),
     }
 }
 
-fn answer_of(alloc: Global, model: &Model) -> Result<String, Fail> {
+fn fault(alloc: Global, model: &Model) -> Option<FormFault> {
+    build(alloc, &model.solver, &model.map).err()
+}
+
+fn answer(alloc: Global, model: &Model) -> Result<String, Fail> {
     let Ok(form) = build(alloc, &model.solver, &model.map) else {
         return Err(Fail::from("no form"));
     };
@@ -28,81 +31,91 @@ fn answer_of(alloc: Global, model: &Model) -> Result<String, Fail> {
     Ok(answer_text(alloc, &leaf)?)
 }
 
+const EACH_KIND: [(u32, Row); 4] = [
+    (3, Row::Pair(("1", "1", "-4"), ("0", "2", "0"))),
+    (1, Row::AtLeast(("1", "-1/3", "0"), "-2")),
+    (0, Row::AtMost(("2", "3", "1"), "5")),
+    (2, Row::Fixes("3")),
+];
+
+// The columns: x and its negation, y, and the slacks of four of the five equations.
+const ITS_FORM: &str = "\
+    2 -2 3 1 0 0 0 = 4; \
+    -1 1 1/3 0 1 0 0 = 2 flipped; \
+    0 0 1 0 0 0 0 = 3; \
+    1 -1 1 0 0 -1 0 = 4; \
+    0 0 2 0 0 0 -1 = 0; \
+    costs -2 2 -5 0 0 0 0";
+
 #[test]
-fn builds_each_kind_of_row(rt: HostRuntime) -> Result<(), Fail> {
+fn each_kind_of_row_has_its_equations(rt: HostRuntime) -> Result<(), Fail> {
     let alloc = rt.alloc();
-    let mut model = two_variables(alloc)?;
-    let first = func(alloc, "1", "1", "-4")?;
-    let second = func(alloc, "0", "2", "0")?;
-    model.row(3, pair(alloc, first, second)?)?;
-    model.row(1, at_least(func(alloc, "1", "-1", "0")?, "-2")?)?;
-    model.row(0, at_most(func(alloc, "2", "3", "1")?, "5")?)?;
-    let set = Set::EqualTo { value: number("3")? };
-    model.row(2, LeafRow::Plain { var: 0, set })?;
-    model.objective(Sense::Max, func(alloc, "2", "5", "7")?);
-    let matrix = "matrix 2 -2 3 1 0 0 0 -1 1 1 0 1 0 0 0 0 1 0 0 0 0 \
-                  1 -1 1 0 0 -1 0 0 0 2 0 0 0 -1";
-    let text = form_of(alloc, &model)?;
-    assert!(rt; text.as_str().starts_with(matrix));
-    let rest = " right 4 2 3 4 0 costs -2 2 -5 0 0 0 0 flips no yes no no no";
-    assert!(rt; text.as_str().ends_with(rest));
+    let model = model(alloc, &EACH_KIND, Some((Sense::Max, ("2", "5", "7"))))?;
+    assert_eq!(rt; form(alloc, &model)?.as_str(), ITS_FORM);
     Ok(())
 }
 
-// x + 2 y is least where x is at least -1 and x + y at least 3.
+const OPTIMAL: [(u32, Row); 3] = [
+    (0, Row::AtLeast(("1", "0", "0"), "-1")),
+    (1, Row::AtLeast(("1", "1", "0"), "3")),
+    (2, Row::AtMost(("1", "0", "0"), "1")),
+];
+
+// x + 2 y is least at x = 1 and y = 2.
 #[test]
-fn reads_an_optimal_answer_back(rt: HostRuntime) -> Result<(), Fail> {
+fn an_optimal_answer_is_read_back(rt: HostRuntime) -> Result<(), Fail> {
     let alloc = rt.alloc();
-    let mut model = two_variables(alloc)?;
-    model.row(0, at_least(func(alloc, "1", "0", "0")?, "-1")?)?;
-    model.row(1, at_least(func(alloc, "1", "1", "0")?, "3")?)?;
-    model.row(2, at_most(func(alloc, "1", "0", "0")?, "1")?)?;
-    model.objective(Sense::Min, func(alloc, "1", "2", "5")?);
-    let text = answer_of(alloc, &model)?;
-    assert_eq!(rt; text.as_str(), "optimal 2 1 | 0 | 2 | -1");
+    let model = model(alloc, &OPTIMAL, Some((Sense::Min, ("1", "2", "5"))))?;
+    assert_eq!(rt; answer(alloc, &model)?.as_str(), "optimal 2 1 | 0 | 2 | -1");
     Ok(())
 }
 
 // y is to be at most -1.
+const INFEASIBLE: [(u32, Row); 1] = [(0, Row::AtMost(("0", "1", "0"), "-1"))];
+
 #[test]
-fn reads_an_infeasible_answer_back(rt: HostRuntime) -> Result<(), Fail> {
+fn a_certificate_of_infeasibility_is_read_back(rt: HostRuntime) -> Result<(), Fail> {
     let alloc = rt.alloc();
-    let mut model = two_variables(alloc)?;
-    model.row(0, at_most(func(alloc, "0", "1", "0")?, "-1")?)?;
-    let text = answer_of(alloc, &model)?;
-    assert_eq!(rt; text.as_str(), "infeasible | -1");
+    let model = model(alloc, &INFEASIBLE, None)?;
+    assert_eq!(rt; answer(alloc, &model)?.as_str(), "infeasible | -1");
     Ok(())
 }
+
+const UNBOUNDED: [(u32, Row); 1] = [(0, Row::AtMost(("1", "0", "0"), "-2"))];
 
 // x falls without end.
 #[test]
-fn reads_an_unbounded_answer_back(rt: HostRuntime) -> Result<(), Fail> {
+fn a_ray_is_read_back(rt: HostRuntime) -> Result<(), Fail> {
     let alloc = rt.alloc();
-    let mut model = two_variables(alloc)?;
-    model.row(0, at_most(func(alloc, "1", "0", "0")?, "-2")?)?;
-    model.objective(Sense::Max, func(alloc, "-3", "0", "0")?);
-    let text = answer_of(alloc, &model)?;
-    assert_eq!(rt; text.as_str(), "unbounded 0 -2 along 0 -1");
+    let model = model(alloc, &UNBOUNDED, Some((Sense::Max, ("-3", "0", "0"))))?;
+    assert_eq!(rt;
+        answer(alloc, &model)?.as_str(),
+        "unbounded 0 -2 along 0 -1"
+    );
     Ok(())
 }
 
+// 4095 equations of 3 columns, 4095 artificial ones and the right side.
+const TOO_LARGE: [(u32, Row); 1] = [(0, Row::Zeros(4095))];
+
 #[test]
-fn refuses_too_many_cells(rt: HostRuntime) -> Result<(), Fail> {
+fn too_many_cells_are_refused(rt: HostRuntime) -> Result<(), Fail> {
     let alloc = rt.alloc();
-    let mut model = two_variables(alloc)?;
-    model.row(0, zeros(alloc, 4095)?)?;
-    let fault = build(alloc, &model.solver, &model.map).err();
-    assert_eq!(rt; fault, Some(FormFault::TooLarge { cells: 16785405 }));
+    let model = model(alloc, &TOO_LARGE, None)?;
+    let cells = 16_785_405;
+    assert_eq!(rt; fault(alloc, &model), Some(FormFault::TooLarge { cells }));
     Ok(())
 }
 
+// 2^127 - 1 without the constant -1.
+const GREATEST: &str = "170141183460469231731687303715884105727";
+
+const TOO_GREAT: [(u32, Row); 1] = [(0, Row::AtMost(("1", "0", "-1"), GREATEST))];
+
 #[test]
-fn refuses_a_right_side_that_does_not_fit(rt: HostRuntime) -> Result<(), Fail> {
+fn a_right_side_that_does_not_fit_is_refused(rt: HostRuntime) -> Result<(), Fail> {
     let alloc = rt.alloc();
-    let mut model = two_variables(alloc)?;
-    let top = "170141183460469231731687303715884105727";
-    model.row(0, at_most(func(alloc, "1", "0", "-1")?, top)?)?;
-    let fault = build(alloc, &model.solver, &model.map).err();
-    assert_eq!(rt; fault, Some(FormFault::Overflow));
+    let model = model(alloc, &TOO_GREAT, None)?;
+    assert_eq!(rt; fault(alloc, &model), Some(FormFault::Overflow));
     Ok(())
 }

@@ -1,31 +1,43 @@
 //! Forms and answers as texts.
-use lists::Memory;
-use ratio_core::Ratios;
-use simplex_core::{SolverAnswer, StdForm};
+use ratio_core::{Ratio, Ratios};
+use simplex_core::StdForm;
 use solver_store::{LeafAnswer, LeafDuals, LeafPoint};
 use std::alloc::{AllocError, Global};
 
+/// The equations of a form, row by row, and its costs.
 pub(crate) fn form_text(alloc: Global, form: &StdForm) -> Result<String, AllocError> {
     let mut out = String::new(alloc);
-    put(&mut out, "matrix", &form.matrix)?;
-    put(&mut out, " right", &form.right)?;
-    put(&mut out, " costs", &form.costs)?;
-    out.push_str(" flips")?;
-    for is_flipped in form.flips.as_slice() {
-        out.push_str(if *is_flipped { " yes" } else { " no" })?;
+    let mut left = form.matrix.as_slice();
+    for (right, is_flipped) in form.right.as_slice().iter().zip(form.flips.as_slice()) {
+        let (row, others) = left.split_at(form.c.min(left.len()));
+        put_numbers(&mut out, row)?;
+        write!(
+            out,
+            "= {right}{}; ",
+            if *is_flipped { " flipped" } else { "" }
+        )?;
+        left = others;
     }
+    out.push_str("costs")?;
+    put(&mut out, &form.costs)?;
     Ok(out)
 }
 
-fn put(out: &mut String, word: &str, numbers: &Ratios) -> Result<(), AllocError> {
-    out.push_str(word)?;
+fn put_numbers(out: &mut String, numbers: &[Ratio]) -> Result<(), AllocError> {
+    for number in numbers {
+        write!(out, "{number} ")?;
+    }
+    Ok(())
+}
+
+fn put(out: &mut String, numbers: &Ratios) -> Result<(), AllocError> {
     for number in numbers.as_slice() {
         write!(out, " {number}")?;
     }
     Ok(())
 }
 
-// What stands at the first indices, up to the count.
+/// What stands at the first indices.
 pub(crate) fn answer_text(alloc: Global, a: &LeafAnswer) -> Result<String, AllocError> {
     let mut out = String::new(alloc);
     match a {
@@ -58,7 +70,8 @@ fn put_point(out: &mut String, word: &str, point: &LeafPoint) -> Result<(), Allo
 fn put_duals(out: &mut String, duals: &LeafDuals) -> Result<(), AllocError> {
     for i in 0..4usize {
         if let Some(numbers) = duals.get(i) {
-            put(out, " |", numbers)?;
+            out.push_str(" |")?;
+            put(out, numbers)?;
         }
     }
     Ok(())
