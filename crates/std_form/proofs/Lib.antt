@@ -1,8 +1,8 @@
 pub mod Coefficients
-pub mod Leaves
+pub mod PlaceSteps
 pub mod Pushes
 pub mod Steps
 pub mod Counts
 pub mod Building
-pub mod Reading
+pub mod ReadingSteps
 pub mod Telling
