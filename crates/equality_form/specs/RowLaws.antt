@@ -29,7 +29,8 @@ past_first c i j = omega arith
 pub from_none : (i : ℕ) → 0 + i ≡ i
 from_none i = omega arith
 
-module _ {K : Type 0} {R : K → K → Ordering} (parts : List (K × Bool)) (slacks : List (ℕ × Bool)) where
+module _ {K : Type 0} {R : K → K → Ordering} (parts : List (K × Bool))
+    (slacks : List (ℕ × Bool)) where
   pub length-row_cells : (i : ℕ) (e : EquationOver R)
       → length (row_cells parts slacks i e) ≡ length parts + length slacks
   length-row_cells i e =

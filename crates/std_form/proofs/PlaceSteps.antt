@@ -6,7 +6,7 @@ use Rattle.std.specs.List.{cons_option}
 use Rattle.std.specs.Option.{option_map}
 use Rattle.std.specs.Ordering.{nat_cmp}
 use Rattle.std.proofs.Common.{sym, ◌∙◌, ap, arith, subst}
-use Rattle.std.proofs.lemmas.List.{append-nil, length-map, take_all}
+use Rattle.std.proofs.lemmas.List.{map-append}
 use Rattle.std.proofs.lemmas.Option.{none-some, same_Some}
 use Rattle.address_map.specs.Places.{Indices, addresses}
 use Rattle.aff_core.specs.Address.{Address}
@@ -51,10 +51,21 @@ module _ {X Y : Type 0} (f : X → Option Y) where
       by_item None rest = rest
       by_item (Some y) rest = ap (λ ys. y ∷ ys) rest
 
+  one_more : (n : ℕ) → suc n ≡ n + 1
+  one_more n = omega arith
+
   -- one more is pushed where there is one
   pub filtered_more : (xs : List X) (n : ℕ) (o : Option Y) (old new : List Y) → old ≡ filter_map f (take n xs) → o ≡ option_and_then f (slice_get xs n) → new ≡ old ++ option_to_list o → new ≡ filter_map f (take (n + 1) xs)
   filtered_more xs n o old new so_far item pushed =
-      pushed ∙ (λ i. so_far i ++ option_to_list (item i)) ∙ sym (suc_more xs n) ∙ ap (λ k. filter_map f (take k xs)) (omega arith)
+      pushed ∙ (λ i. so_far i ++ option_to_list (item i)) ∙ sym (suc_more xs n) ∙ ap (λ k. filter_map f (take k xs)) (one_more n)
 
-  pub filtered_all : (xs : List X) (n : ℕ) (old : List Y) → old ≡ filter_map f (take n xs) → length xs ≤ n → old ≡ filter_map f xs
-  filtered_all xs n old so_far h = so_far ∙ ap (filter_map f) (take_all n xs h)
+  -- the same, where what is pushed is borrowed
+  module _ {Z : Type 0} (g : Z → Y) where
+    mapped_item : (o : Option Z) → map g (option_to_list o) ≡ option_to_list (option_map g o)
+    mapped_item None = refl
+    mapped_item (Some z) = refl
+
+    pub borrowed_more : (xs : List X) (n : ℕ) (o : Option Z) (old new : List Z) → map g old ≡ filter_map f (take n xs) → option_map g o ≡ option_and_then f (slice_get xs n) → new ≡ old ++ option_to_list o → map g new ≡ filter_map f (take (n + 1) xs)
+    borrowed_more xs n o old new so_far item pushed =
+        filtered_more xs n (option_map g o) (map g old) (map g new) so_far item
+        (ap (map g) pushed ∙ map-append g old (option_to_list o) ∙ ap (λ ys. map g old ++ ys) (mapped_item o))

@@ -1,9 +1,7 @@
 -- Loops over variables and rows that read numbers off a list, one after the other.
 use Rattle.std.specs.Prelude.{◌≡◌, ℕ, ◌+◌, ◌<◌, ◌≤◌, List, [], ◌∷◌, ◌++◌, Bool, drop, length, map, slice_index_or, take, refl}
-use Rattle.std.specs.FinMap.{FinMap, from_entries, insert}
-use Rattle.std.specs.Ordering.{nat_cmp}
 use Rattle.std.proofs.Common.{sym, ◌∙◌, ap, subst}
-use Rattle.std.proofs.lemmas.List.{append_assoc, drop_all, drop_more}
+use Rattle.std.proofs.lemmas.List.{drop_all, drop_more}
 use denote.Ref.{Bor}
 use Rattle.ratio_core.specs.Rational.{Rational}
 use Rattle.equality_form.specs.Equations.{flipped}
@@ -75,10 +73,3 @@ duals_more rows i d left next done more all e h so_far is pushed on =
 pub duals_all : (rows : List (ℕ × Bor LeafRow)) (i : ℕ) (left : List Rational) (done all : List (ℕ × List Rational)) → length rows ≤ i → done ++ duals_of (drop i rows) left ≡ all → done ≡ all
 duals_all rows i left done all h so_far =
     left_all duals_of own others (λ row rows s. refl) rows i left done all refl h so_far
-
--- ---- maps of entries, taken from the last one on
-
-module _ {V : Type 0} where
-  pub taken_more : (initial old new taken : List (ℕ × V)) (e : ℕ × V) → initial ≡ old ++ taken → old ≡ new ++ e ∷ [] → initial ≡ new ++ e ∷ taken
-  taken_more initial old new taken e so_far popped =
-      so_far ∙ ap (λ es. es ++ taken) popped ∙ append_assoc new (e ∷ []) taken

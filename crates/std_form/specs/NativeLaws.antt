@@ -40,15 +40,15 @@ use Rattle.std_form.specs.ThroughLaws.{HasItsIndex, each_index, entries_through,
 nonzero : (ts : List (Address × Rational)) → IsTrue (list_all is_nonzero ts)
     → All (λ t. t.1 ≢ zero_ℚ) ts
 nonzero [] h = All-nil (λ t. t.1 ≢ zero_ℚ)
-nonzero (t ∷ ts) h = by_test (not (rational_eq t.1 zero_ℚ)) refl h
+nonzero (t ∷ ts) h = by_test (not (rational_eq t.1 zero_ℚ)) refl (λ k. nonzero ts k) h
   where
-    by_test : (b : Bool) → not (rational_eq t.1 zero_ℚ) ≡ b → IsTrue (b && list_all is_nonzero ts)
-        → All (λ t. t.1 ≢ zero_ℚ) (t ∷ ts)
-    by_test true e h =
-        All-cons (λ t. t.1
-        ≢ zero_ℚ) t ts (λ k. true≢false (sym e ∙ ap not (eq_rational_eq t.1 zero_ℚ k)))
-        (nonzero ts h)
-    by_test false e h = absurd (true≢false (sym h))
+    by_test : (b : Bool) → not (rational_eq t.1 zero_ℚ) ≡ b
+        → (IsTrue (list_all is_nonzero ts) → All (λ t. t.1 ≢ zero_ℚ) ts)
+        → IsTrue (b && list_all is_nonzero ts) → All (λ t. t.1 ≢ zero_ℚ) (t ∷ ts)
+    by_test true e rest h =
+        All-cons (λ t. t.1 ≢ zero_ℚ) t ts
+        (λ k. true≢false (sym e ∙ ap not (eq_rational_eq t.1 zero_ℚ k))) (rest h)
+    by_test false e rest h = absurd (true≢false (sym h))
 
 module _ (map : AddressMap) (leaves : Leaves) (one : IsOneToOne map.vars.indices)
     (readable : IsReadable map leaves) where

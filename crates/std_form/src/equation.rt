@@ -1,5 +1,6 @@
 //! A component of a solver's row, which borrows the row.
 ghost use Rattle.std.specs.Prelude.{◌≡◌};
+ghost use Rattle.std.specs.Ordering.{nat_cmp};
 ghost use Rattle.aff_core.specs.Function.{coefficient, variable};
 ghost use Rattle.equality_form.specs.Equations.{number_of, slack_of};
 
@@ -48,7 +49,7 @@ impl<'a> Function<'a> {
 
 // 1 where the two are the same, and 0 elsewhere.
 fn unit(var: usize, i: usize) -> Ratio
-    ensures { result ≡ coefficient (variable var) i }
+    ensures { result ≡ coefficient {R = nat_cmp} (variable var) i }
 {
     if var == i {
         Ratio::one()

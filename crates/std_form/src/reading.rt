@@ -26,8 +26,9 @@ use simplex_core::{SolverAnswer, StdForm};
 use solver_store::{ByIndex, LeafAnswer, LeafDuals, LeafPoint, LeafVar, SolverModel};
 use std::alloc::Global;
 
-/// The answer by the solver's indices: a number for each variable, and a dual for each component of
-/// each row. `Overflow` exactly where the difference of a free variable's two columns passes 128 bits.
+/// The answer by the solver's indices: a number for each variable, and a dual for each component
+/// of each row. `Overflow` exactly where the difference of a free variable's two columns passes
+/// 128 bits.
 ///
 /// The form is the one that was built. An answer that is right for it is then right for the model
 /// that is read through the map.
