@@ -42,7 +42,7 @@ module _ (vars : List (ℕ × LeafVar)) (x : List Rational) where
   pub read_all : (i : ℕ) (left : List Rational) (values : List (ℕ × Rational)) → length vars ≤ i → AreReadTo i left values → (values ≡ points vars x) × ValuesFit vars x
   read_all i left values h so_far = (
     left_all points (λ v s. (v.0, value_in v.1 s)) (λ v s. after v.1 s) (λ v vs s. refl) vars i left values (points vars x) refl h so_far.all,
-    so_far.fit (subst (λ vs. ValuesFit vs left) (sym (drop_all vars i h)) tt),
+    so_far.fit (subst (λ vs. ValuesFit vs left) (sym (drop_all i vars h)) tt),
   )
 
 -- ---- multipliers

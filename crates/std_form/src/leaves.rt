@@ -2,7 +2,6 @@
 ghost use Rattle.std.specs.Prelude.{◌≡◌, ◌++◌, IfOk, OnOk, flat_map, length, map, option_and_then, option_to_list, slice_get};
 ghost use Rattle.std.specs.FinMap as finite;
 ghost use Rattle.std.specs.Option.{option_map};
-ghost use Rattle.address_map.specs.Places.{IsOneToOne};
 ghost use Rattle.equality_form.specs.Equations.{equations_for};
 ghost use Rattle.std_form.specs.Borrowed.{equation_in, row_in};
 ghost use Rattle.std_form.specs.Indexed.{equations_in, leaf_at, leaves_at};
@@ -57,12 +56,9 @@ pub(crate) fn variables(
     solver: &SolverModel,
     map: &AddressMap,
 ) -> Result<Vec<Variable>, Memory>
-    ensures all { IfOk result (λ variables.
+    ensures { IfOk result (λ variables.
         variables.items ≡ leaves_at map.now.vars.indices solver.now.leaves.vars) }
-    ensures one_to_one { IsOneToOne map.now.vars.indices }
 {
-    // what this ensures of the map
-    let _one_to_one = map.var_at(0);
     let mut variables = Vec::with_capacity(alloc, map.var_count())?;
     for n in 0..map.var_count() {
         push_some(&mut variables, nth_variable(solver, map, n))?;
@@ -75,12 +71,9 @@ pub(crate) fn rows<'a>(
     solver: &'a SolverModel,
     places: &AddressMap,
 ) -> Result<Vec<Row<'a>>, Memory>
-    ensures all { IfOk result (λ rows. map row_in rows.items
+    ensures { IfOk result (λ rows. map row_in rows.items
         ≡ leaves_at places.now.rows.indices solver.now.leaves.rows) }
-    ensures one_to_one { IsOneToOne places.now.rows.indices }
 {
-    // what this ensures of the map
-    let _one_to_one = places.row_at(0);
     let mut rows = Vec::with_capacity(alloc, places.row_count())?;
     for n in 0..places.row_count() {
         push_some(&mut rows, nth_row(solver, places, n))?;

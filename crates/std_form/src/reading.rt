@@ -2,7 +2,6 @@
 ghost use Rattle.std.specs.Prelude.{◌≡◌, IfOk, IsErrOf, OkIff, OnOk, drop, map};
 ghost use Rattle.std.specs.FinMap as finite;
 ghost use Rattle.aff_core.specs.Address.{Address};
-ghost use Rattle.address_map.specs.Places.{IsOneToOne};
 ghost use Rattle.equality_form.specs.ReadBack.{ValueFits, ValuesFit, after, unflipped, value_in};
 ghost use Rattle.equality_form.specs.Right.{IsRight};
 ghost use Rattle.leaf_model.specs.ReadThrough.{read_through};
@@ -48,6 +47,9 @@ pub fn read_back(
         → IsRightAnswer (equality_form form.now) a.now → IfOk result (λ answer.
         IsRight (read_through map.now solver.now.leaves at) (answer_of map.now answer)) }
 {
+    // what these ensure of the map
+    let _variables = map.var_at(0);
+    let _rows = map.row_at(0);
     read_by_index(alloc, solver, map, form, a)
 }
 
@@ -59,9 +61,7 @@ fn read_by_index(
     form: &StdForm,
     a: &SolverAnswer,
 ) -> Result<LeafAnswer, ReadFault>
-    ensures told { TellsByIndex map.now solver.now.leaves form.now a.now result }
-    ensures one_var { IsOneToOne map.now.vars.indices }
-    ensures one_row { IsOneToOne map.now.rows.indices }
+    ensures { TellsByIndex map.now solver.now.leaves form.now a.now result }
 {
     let variables = variables(alloc, solver, map)?;
     let rows = rows(alloc, solver, map)?;
@@ -193,9 +193,9 @@ fn by_index<V: Drop>(alloc: Global, entries: Vec<(usize, V)>) -> Result<ByIndex<
     let mut entries = entries;
     let mut values = ByIndex::new(alloc);
     while let Some((i, value)) = entries.pop() {
-        if values.put(i, value).is_err() {
+        let Ok(_before) = values.put(i, value) else {
             return Err(Memory);
-        }
+        };
     }
     Ok(values)
 }

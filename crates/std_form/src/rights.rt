@@ -1,5 +1,7 @@
 //! The right sides of equations.
 ghost use Rattle.std.specs.Prelude.{◌≡◌, ◌≢◌, ℕ, All, Err, IfOk, IsErrOf, OkIff, OnOk, map};
+ghost use Rattle.std.proofs.Common.{is_lt};
+ghost use Rattle.ratio_core.specs.Rational.{rational_cmp, zero_ℚ};
 ghost use Rattle.equality_form.specs.EqualityForm.{right_sides};
 ghost use Rattle.equality_form.specs.Equations.{RightFits, is_flipped, right_of};
 ghost use Rattle.std_form.specs.Borrowed.{equation_in};
@@ -25,6 +27,12 @@ fn right_of(equation: &Equation) -> Result<Ratio, RatioFault>
     number_of(equation.set).sub(&equation.function.constant())
 }
 
+fn is_negative(side: Ratio) -> bool
+    ensures { result ≡ is_lt (rational_cmp side zero_ℚ) }
+{
+    side < Ratio::zero()
+}
+
 pub(crate) fn sides_of(alloc: Global, equations: &[Equation]) -> Result<Sides, FormFault>
     ensures right { IfOk result (λ sides.
         sides.right.items ≡ right_sides (map equation_in equations.now)) }
@@ -39,7 +47,7 @@ pub(crate) fn sides_of(alloc: Global, equations: &[Equation]) -> Result<Sides, F
     let mut flips = Vec::with_capacity(alloc, equations.len())?;
     for equation in equations {
         let side = right_of(equation)?;
-        let is_flipped = side < Ratio::zero();
+        let is_flipped = is_negative(side);
         right.push(flipped(is_flipped, side))?;
         flips.push(is_flipped)?;
     }
