@@ -7,24 +7,6 @@ use Rattle.std.proofs.lemmas.List.{append-nil, flat_map_more, length-append, len
 use Rattle.equality_form.specs.Columns.{parts_among, parts_of, signs}
 use Rattle.solver_store.specs.declared.leaf.LeafVar.{LeafVar}
 
-sum_up : (a b m : ℕ) → min (min a m + b) m ≡ min (a + b) m
-sum_up a b m = omega arith
-
-length_more : (vars : List (ℕ × LeafVar)) (i : ℕ) (d : ℕ × LeafVar) → i < length vars → length (parts_among (take (i + 1) vars)) ≡ length (parts_among (take i vars)) + length (signs (slice_index_or vars i d).1)
-length_more vars i d h =
-    ap (λ vs. length (parts_among vs)) (take_more vars i d h)
-    ∙ ap length (sym (flat_map_more parts_of [] (take i vars) (slice_index_or vars i d)))
-    ∙ length-append (parts_among (take i vars)) (parts_of (slice_index_or vars i d))
-    ∙ ap (λ n. length (parts_among (take i vars)) + n) (length-map (signs (slice_index_or vars i d).1) (λ negated. ((slice_index_or vars i d).0, negated)))
-
-pub count_more : (vars : List (ℕ × LeafVar)) (i : ℕ) (d : ℕ × LeafVar) (m old new w : ℕ) → i < length vars → old ≡ min (length (parts_among (take i vars))) m → w ≡ length (signs (slice_index_or vars i d).1) → new ≡ min (old + w) m → new ≡ min (length (parts_among (take (i + 1) vars))) m
-count_more vars i d m old new w h so_far is added =
-    added ∙ (λ k. min (so_far k + is k) m) ∙ sum_up (length (parts_among (take i vars))) (length (signs (slice_index_or vars i d).1)) m
-    ∙ ap (λ n. min n m) (sym (length_more vars i d h))
-
-pub count_all : (vars : List (ℕ × LeafVar)) (i m old : ℕ) → length vars ≤ i → old ≡ min (length (parts_among (take i vars))) m → old ≡ min (length (parts_among vars)) m
-count_all vars i m old h so_far = so_far ∙ ap (λ vs. min (length (parts_among vs)) m) (take_all i vars h)
-
 -- a product with a number that is cut off
 product_up : (a b m : ℕ) → min (a * min b m) m ≡ min (a * b) m
 product_up zero b m = ap (λ n. min n m) (none (min b m) ∙ sym (none b))

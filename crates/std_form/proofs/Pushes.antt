@@ -16,14 +16,6 @@ use Rattle.std_form.specs.Indexed.{cost_in, is_greatest, objective_in}
 use Rattle.std_form.specs.NameLaws.{index_order}
 
 module _ {X Y : Type 0} (f : X → List Y) where
-  pub pushed_none : (xs : List X) (old : List Y) → old ≡ old ++ flat_map f (take 0 xs)
-  pushed_none xs old = sym (append-nil old)
-
-  pub pushed_more : (xs : List X) (i : ℕ) (d : X) (start old new : List Y) → i < length xs → old ≡ start ++ flat_map f (take i xs) → new ≡ old ++ f (slice_index_or xs i d) → new ≡ start ++ flat_map f (take (i + 1) xs)
-  pushed_more xs i d start old new h so_far pushed =
-      pushed ∙ ap (λ ys. ys ++ f (slice_index_or xs i d)) so_far ∙ flat_map_more f start (take i xs) (slice_index_or xs i d)
-      ∙ ap (λ ys. start ++ flat_map f ys) (sym (take_more xs i d h))
-
   pub pushed_all : (xs : List X) (i : ℕ) (start old : List Y) → length xs ≤ i → old ≡ start ++ flat_map f (take i xs) → old ≡ start ++ flat_map f xs
   pushed_all xs i start old h so_far = so_far ∙ ap (λ ys. start ++ flat_map f ys) (take_all i xs h)
 
@@ -48,9 +40,6 @@ chunks negated g ((i, Nonneg) ∷ vars) = λ k. twice false negated (g i) k ∷ 
 -- ---- one for each item
 
 module _ {X Y : Type 0} (f : X → Y) where
-  pub mapped_none : (xs : List X) (old : List Y) → old ≡ old ++ map f (take 0 xs)
-  mapped_none xs old = sym (append-nil old)
-
   pub mapped_more : (xs : List X) (i : ℕ) (d : X) (start old new : List Y) (y : Y) → i < length xs → old ≡ start ++ map f (take i xs) → y ≡ f (slice_index_or xs i d) → new ≡ old ++ y ∷ [] → new ≡ start ++ map f (take (i + 1) xs)
   mapped_more xs i d start old new y h so_far is pushed =
       pushed ∙ ap₂ (λ ys z. ys ++ z ∷ []) so_far is ∙ append_assoc start (map f (take i xs)) (f (slice_index_or xs i d) ∷ [])

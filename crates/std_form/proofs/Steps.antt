@@ -1,4 +1,4 @@
--- Steps of loops over equations, and of loops in which what is left, after what is done, is all.
+-- Steps of loops over equations.
 use Rattle.std.specs.Prelude.{◌≡◌, ℕ, suc, ◌+◌, ◌<◌, ◌≤◌, Bool, List, [], ◌∷◌, ◌++◌, Option, All, drop, length, map, slice_index_or, take, refl}
 use Rattle.std.proofs.Common.{sym, ◌∙◌, ap, ap₂, arith, is_lt, subst}
 use Rattle.std.proofs.lemmas.List.{append-nil, append_assoc, drop_all, drop_more, get_or-map, length-map, length-take-le, map-append, map_more, take_all}
@@ -82,22 +82,3 @@ module _ {E : Type 0} (f : E → SolverEquation) (xs : List E) (i : ℕ) (d : E)
       ap (λ bs. slice_index_or bs i b) is
       ∙ get_or-map is_flipped (map f xs) i (f d) b (subst (λ n. i < n) (sym (length-map xs f)) h)
       ∙ ap is_flipped (get_or-map f xs i d (f d) h)
-
-pub equations_all : {E Y : Type 0} (F : List SolverEquation → Y) (f : E → SolverEquation) (xs : List E) (i : ℕ) (old : Y) → length xs ≤ i → old ≡ F (map f (take i xs)) → old ≡ F (map f xs)
-equations_all F f xs i old h so_far = so_far ∙ ap (λ ys. F (map f ys)) (take_all i xs h)
-
--- ---- what is left, after what is done, is all
-
-module _ {A B S : Type 0} (F : List A → S → List B) (item : A → S → B) (next : A → S → S)
-    (clause : (x : A) (xs : List A) (s : S) → F (x ∷ xs) s ≡ item x s ∷ F xs (next x s)) where
-  pub left_more : (xs : List A) (i : ℕ) (d : A) (s t : S) (done new all : List B) (b : B) → i < length xs → done ++ F (drop i xs) s ≡ all → b ≡ item (slice_index_or xs i d) s → new ≡ done ++ b ∷ [] → t ≡ next (slice_index_or xs i d) s → new ++ F (drop (i + 1) xs) t ≡ all
-  left_more xs i d s t done new all b h so_far is pushed on =
-      ap (λ bs. bs ++ F (drop (i + 1) xs) t) pushed
-      ∙ append_assoc done (b ∷ []) (F (drop (i + 1) xs) t)
-      ∙ ap₂ (λ c u. done ++ c ∷ F (drop (i + 1) xs) u) is on
-      ∙ ap (λ bs. done ++ bs) (sym (clause (slice_index_or xs i d) (drop (i + 1) xs) s) ∙ ap (λ ys. F ys s) (sym (drop_more xs i d h)))
-      ∙ so_far
-
-  pub left_all : (xs : List A) (i : ℕ) (s : S) (done all : List B) → F [] s ≡ [] → length xs ≤ i → done ++ F (drop i xs) s ≡ all → done ≡ all
-  left_all xs i s done all none h so_far =
-      sym (ap (λ ys. done ++ F ys s) (drop_all i xs h) ∙ ap (λ bs. done ++ bs) none ∙ append-nil done) ∙ so_far

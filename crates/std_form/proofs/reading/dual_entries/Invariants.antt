@@ -1,5 +1,5 @@
 use Rattle.std.proofs.Common.{◌≡◌, ◌++◌, drop}
-use Rattle.std_form.proofs.ReadingSteps.{duals_of}
+use Rattle.std_form.proofs.ReadTo.{duals_of}
 use Rattle.std_form.proofs.reading.dual_entries.Given as goal
 
 -- what is left, after the entries so far, is all

@@ -1,4 +1,4 @@
-use Rattle.std_form.proofs.ReadingSteps.{AreReadTo}
+use Rattle.std_form.proofs.ReadTo.{AreReadTo}
 use Rattle.std_form.proofs.reading.values.Given as goal
 
 abbrev pub invariant-loop-i : goal.invariant-loop-i

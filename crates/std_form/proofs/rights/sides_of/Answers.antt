@@ -18,6 +18,6 @@ loop-equation-preserved c =
     let side = side_is equation_in c.args.equations.now i item inside c.in_ok-side.side c.flipped.result c.is_negative-is_flipped.result (c.in_ok-side.ensures.1 ∙ ap (λ (e : Equation). right_of (equation_in e)) c.equation-item.is) c.is_negative-is_flipped.ensures c.flipped.ensures in
     record {
       right = mapped_step equation_in c.args.equations.now i item inside (λ e. flipped (is_flipped e) (right_of e)) c.loop-equation.right.items c.push.new.self.items c.flipped.result c.loop-equation.invariant.right side.0 c.in_ok-push.ensures.items;
-      flips = mapped_step equation_in c.args.equations.now i item inside is_flipped c.loop-equation.flips.items c.push-2.new.self.items c.is_negative-is_flipped.result c.loop-equation.invariant.flips side.1 c.in_ok-push-2.ensures.items;
+      flips = mapped_step equation_in c.args.equations.now i item inside is_flipped c.loop-equation.flips.items c.push-in-loop-equation.new.self.items c.is_negative-is_flipped.result c.loop-equation.invariant.flips side.1 c.in_ok-push-2.ensures.items;
       fit = fits_step equation_in c.args.equations.now i item inside c.loop-equation.invariant.fit (subst (λ (e : Equation). RightFits (equation_in e)) c.equation-item.is c.in_ok-side.ensures.0);
     }
