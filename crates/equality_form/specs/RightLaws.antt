@@ -36,7 +36,7 @@ use Rattle.equality_form.specs.ReadBack.{by_rows, duals_in, point_in, read_back,
 use Rattle.equality_form.specs.Right.{AreDuals, HasDuals, IsRight, MayCost, held, held_rows}
 use Rattle.equality_form.specs.Right as right
 use Rattle.equality_form.specs.RowLaws.{from_none, right_at}
-use Rattle.equality_form.specs.ShapeLaws.{length-column_costs}
+use Rattle.equality_form.specs.ShapeLaws.{length-costs_at}
 use Rattle.equality_form.specs.SlackLaws.{IsNonneg}
 use Rattle.equality_form.specs.WeightLaws.{length-unflipped, part_weighed, slack_weighed, slacks_within, weighed_rights}
 
@@ -82,7 +82,8 @@ module _ (leaves : LeafModel) (native : IsNativeModel leaves) where
   cost_is x n =
       subst (λ c. sum_to c (λ j. cell (column_costs leaves) j *ℚ cell x j)
       ≡ dot (column_costs leaves) x) n
-      (sum_to_dot (column_costs leaves) x (length-column_costs leaves ∙ sym n))
+      (sum_to_dot (column_costs leaves) x
+      (length-costs_at (parts leaves) (slacks leaves) (cost leaves) ∙ sym n))
       ∙ columns_dot leaves (coefficient (cost leaves)) (map (λ slack. zero_ℚ) (slacks leaves)) x
       (omega (arith, n))
       ∙ ap (λ s. over_variables

@@ -1,5 +1,6 @@
 -- The rows of a leaf model's matrix, cell by cell and weighed.
 use Rattle.std.specs.Prelude.{◌≡◌, ℕ, zero, suc, ◌+◌, ◌*◌, ◌<◌, Bool, List, [], ◌∷◌, ◌++◌, length, slice_index_or}
+use Rattle.std.specs.declared.cmp.Ordering.{Ordering}
 use Rattle.std.proofs.Common.{sym, ◌∙◌, ap, ap₂, arith, subst}
 use Rattle.std.proofs.lemmas.List.{get_or-map, length-append, length-map}
 use Rattle.ratio_core.specs.Rational.{Rational, zero_ℚ, ◌*ℚ◌}
@@ -11,7 +12,7 @@ use Rattle.simplex_laws.specs.BoundedSumLaws.{sum_to_same}
 use Rattle.tableau_core.specs.Row.{cell}
 use Rattle.equality_form.specs.CellLaws.{cell_of_first, cell_of_rest, dot_flipped, sum_to_dot}
 use Rattle.equality_form.specs.EqualityForm.{cells_from, numbers_at, right_sides, row_cells, unit_at}
-use Rattle.equality_form.specs.Equations.{Equation, flipped, is_flipped, right_of}
+use Rattle.equality_form.specs.Equations.{Equation, EquationOver, flipped, is_flipped, right_of}
 
 no_rows : (c : ℕ) → 0 ≡ 0 * c
 no_rows c = omega arith
@@ -28,8 +29,9 @@ past_first c i j = omega arith
 pub from_none : (i : ℕ) → 0 + i ≡ i
 from_none i = omega arith
 
-module _ (parts : List (Address × Bool)) (slacks : List (ℕ × Bool)) where
-  pub length-row_cells : (i : ℕ) (e : Equation)
+module _ {K : Type 0} {R : K → K → Ordering} (parts : List (K × Bool))
+    (slacks : List (ℕ × Bool)) where
+  pub length-row_cells : (i : ℕ) (e : EquationOver R)
       → length (row_cells parts slacks i e) ≡ length parts + length slacks
   length-row_cells i e =
       length-map (numbers_at parts (coefficient e.function) ++ unit_at slacks i)
@@ -38,7 +40,7 @@ module _ (parts : List (Address × Bool)) (slacks : List (ℕ × Bool)) where
       ∙ ap₂ ◌+◌ (length-map parts (λ part. flipped part.1 (coefficient e.function part.0)))
       (length-map slacks (λ slack. flipped slack.1 _))
 
-  pub length-cells_from : (k : ℕ) (es : List Equation)
+  pub length-cells_from : (k : ℕ) (es : List (EquationOver R))
       → length (cells_from parts slacks k es) ≡ length es * (length parts + length slacks)
   length-cells_from k [] = no_rows (length parts + length slacks)
   length-cells_from k (e ∷ es) =
@@ -46,6 +48,7 @@ module _ (parts : List (Address × Bool)) (slacks : List (ℕ × Bool)) where
       ∙ ap₂ ◌+◌ (length-row_cells k e) (length-cells_from (suc k) es)
       ∙ row_more (length es) (length parts + length slacks)
 
+module _ (parts : List (Address × Bool)) (slacks : List (ℕ × Bool)) where
   -- the j-th cell of the i-th row
   pub cell_at : (es : List Equation) (k i j : ℕ) (d : Equation) → i < length es
       → j < length parts + length slacks
@@ -55,13 +58,13 @@ module _ (parts : List (Address × Bool)) (slacks : List (ℕ × Bool)) where
   cell_at (e ∷ es) k zero j d h b =
       ap (cell (cells_from parts slacks k (e ∷ es))) (in_first (length parts + length slacks) j)
       ∙ cell_of_first (row_cells parts slacks k e) (cells_from parts slacks (suc k) es) j
-      (subst (λ n. j < n) (sym (length-row_cells k e)) b)
+      (subst (λ n. j < n) (sym (length-row_cells parts slacks k e)) b)
       ∙ ap (λ n. cell (row_cells parts slacks n e) j) (omega arith)
   cell_at (e ∷ es) k (suc i) j d h b =
       ap (cell (cells_from parts slacks k (e ∷ es))) (past_first (length parts + length slacks) i j)
       ∙ cell_of_rest (row_cells parts slacks k e) (cells_from parts slacks (suc k) es)
       (length parts + length slacks) (i * (length parts + length slacks) + j)
-      (length-row_cells k e)
+      (length-row_cells parts slacks k e)
       ∙ cell_at es (suc k) i j d (omega (arith, h)) b
       ∙ ap (λ n. cell (row_cells parts slacks n (slice_index_or es i d)) j) (omega arith)
 
@@ -81,7 +84,7 @@ module _ (parts : List (Address × Bool)) (slacks : List (ℕ × Bool)) where
       ∙ subst (λ c. sum_to c (λ j. cell (row_cells parts slacks i (slice_index_or es i d)) j
       *ℚ cell x j) ≡ dot (row_cells parts slacks i (slice_index_or es i d)) x) n
       (sum_to_dot (row_cells parts slacks i (slice_index_or es i d)) x
-      (length-row_cells i (slice_index_or es i d) ∙ sym n))
+      (length-row_cells parts slacks i (slice_index_or es i d) ∙ sym n))
       ∙ dot_flipped (is_flipped (slice_index_or es i d))
       (numbers_at parts (coefficient (slice_index_or es i d).function) ++ unit_at slacks i) x
 

@@ -93,14 +93,55 @@ fn an_objective_is_set_and_cleared(rt: HostRuntime) {
     assert!(rt; solver.objective().is_none() && solver.calls() == 1);
 }
 
-/// Whether variables are added for which room was made.
-fn has_room(alloc: Global) -> Result<bool, Memory> {
-    let mut solver = SolverModel::new(alloc);
-    solver.reserve(2, 0)?;
-    Ok(solver.add_var(LeafVar::Free).is_ok() && solver.add_var(LeafVar::Nonneg).is_ok())
+/// Whether `calls` counts a variable that is added, changed and removed, and no reader.
+fn counts_variables(solver: &mut SolverModel) -> Result<bool, Memory> {
+    let i = solver.add_var(LeafVar::Free)?;
+    let added = solver.calls();
+    if solver.var(i).is_none() {
+        return Ok(false);
+    }
+    solver.change_var(i, LeafVar::Nonneg);
+    let changed = solver.calls();
+    if solver.var(i).is_none() {
+        return Ok(false);
+    }
+    solver.remove_var(i);
+    Ok((added, changed, solver.calls()) == (1, 2, 3))
+}
+
+/// The same of a row.
+fn counts_rows(solver: &mut SolverModel) -> Result<bool, Memory> {
+    let i = solver.add_row(zero_row(3))?;
+    let added = solver.calls();
+    if solver.row(i).is_none() {
+        return Ok(false);
+    }
+    drop(solver.change_row(i, zero_row(4)));
+    let changed = solver.calls();
+    if solver.row(i).is_none() {
+        return Ok(false);
+    }
+    drop(solver.remove_row(i));
+    Ok((added, changed, solver.calls()) == (1, 2, 3))
+}
+
+#[test]
+fn each_kind_of_call_is_counted(rt: HostRuntime) {
+    assert!(rt; counts_variables(&mut SolverModel::new(rt.alloc())) == Ok(true));
+    assert!(rt; counts_rows(&mut SolverModel::new(rt.alloc())) == Ok(true));
+}
+
+/// Whether three variables and three rows are added for which room was made.
+fn has_room(solver: &mut SolverModel) -> Result<bool, Memory> {
+    solver.reserve(3, 3)?;
+    for i in 0..3usize {
+        solver.add_var(LeafVar::Free)?;
+        solver.add_row(zero_row(i))?;
+    }
+    Ok(solver.calls() == 6)
 }
 
 #[test]
 fn room_is_made(rt: HostRuntime) {
-    assert!(rt; has_room(rt.alloc()) == Ok(true));
+    assert!(rt; has_room(&mut SolverModel::new(rt.alloc())) == Ok(true));
 }

@@ -1,0 +1,6 @@
+pub mod Coefficients
+pub mod PlaceSteps
+pub mod Pushes
+pub mod Steps
+pub mod Counts
+pub mod ReadTo

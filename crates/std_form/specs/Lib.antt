@@ -1,0 +1,11 @@
+pub mod Indexed
+pub mod Borrowed
+pub mod Readable
+pub mod Answers
+pub mod NameLaws
+pub mod ThroughLaws
+pub mod FormLaws
+pub mod NativeLaws
+pub mod AnswerLaws
+pub mod Told
+pub mod ToldLaws

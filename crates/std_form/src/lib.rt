@@ -1,0 +1,18 @@
+//! The equality form of the solver's model, and answers of the form read back.
+#![tactic(auto)]
+
+mod cells;
+mod equation;
+mod fault;
+mod form;
+mod leaves;
+mod numbers;
+mod reading;
+mod rights;
+
+pub use address_map::AddressMap;
+pub use fault::{FormFault, ReadFault};
+pub use form::{CELL_LIMIT, build};
+pub use reading::read_back;
+pub use simplex_core::{SolverAnswer, StdForm};
+pub use solver_store::{LeafAnswer, SolverModel};
