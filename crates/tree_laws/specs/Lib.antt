@@ -7,7 +7,7 @@ pub mod LevelLaws
 pub mod NodeLaws
 pub mod DownLaws
 pub mod TreeLaws
-pub mod ShapeLaws
+pub mod BackLaws
 pub mod StandLaws
 pub mod ObjectiveLaws
 pub mod UpLaws
@@ -16,6 +16,7 @@ pub mod UserLaws
 pub mod PrimalLaws
 pub mod Certificate
 pub mod OwnLaws
+pub mod NativeModel
 pub mod ObjectivePart
 pub mod SenseLaws
 pub mod UserHelds

@@ -46,12 +46,12 @@ use Rattle.user_model.specs.declared.objective.Objective.TheVariants as objectiv
 use Rattle.user_model.specs.declared.row.Row.{Row}
 use Rattle.address_laws.specs.Apart.{Avoids, Distinct}
 use Rattle.address_laws.specs.DistinctLaws.{each_apart, model_groups_here, model_others_here, vars_distinct}
-use Rattle.address_laws.specs.ImageLaws.{variables_miss}
+use Rattle.address_laws.specs.ImageLaws.{objective_no_group, variables_miss}
 use Rattle.address_laws.specs.KeyLaws.{IsHere}
 use Rattle.address_laws.specs.PutLaws.{group_stays, objective_stays}
 use Rattle.tree_laws.specs.Carried.{group_held, group_helds, through}
 use Rattle.tree_laws.specs.LeafLaws.{IsLeaf, IsNativeGroup, SupportsNativeKinds, each_are_leaves, free, nonnegatives, others_are_leaves, reals}
-use Rattle.tree_laws.specs.ObjectiveLaws.{CostsNothing, HasOne, OneObjective, none_below_each, objective_no_group, one_behind, one_in, one_last}
+use Rattle.tree_laws.specs.ObjectiveLaws.{CostsNothing, HasOne, OneObjective, none_below_each, one_behind, one_in, one_last}
 use Rattle.tree_laws.specs.PutLaws.{held_put}
 use Rattle.tree_laws.specs.SeenLaws.{IsGroupHere, IsRowHere}
 use Rattle.tree_laws.specs.UpLaws.{CostsAtLeast, GroupsHold, LeafHolds, cost_put, costs_in, groups_hold, no_numbers, point_in, rows_hold, to_point}
