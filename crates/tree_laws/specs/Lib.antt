@@ -15,7 +15,7 @@ pub mod LeafLaws
 pub mod UserLaws
 pub mod PrimalLaws
 pub mod Certificate
-pub mod OwnLaws
+pub mod CarriedLaws
 pub mod NativeModel
 pub mod ObjectivePart
 pub mod SenseLaws

@@ -45,7 +45,7 @@ use Rattle.address_laws.specs.Keys.{own}
 use Rattle.address_laws.specs.LeafKeys.{keys_of-flat_map, same_flat_map, variable_keys}
 use Rattle.tree_laws.specs.LeafLaws.{IsLeaf, SupportsNativeKinds}
 use Rattle.tree_laws.specs.LookupLaws.{Missed, components}
-use Rattle.tree_laws.specs.OwnLaws.{group_keys, keys_are, other_keys, others_miss, same_components}
+use Rattle.tree_laws.specs.CarriedLaws.{group_keys, keys_are, other_keys, others_miss, same_components}
 use Rattle.tree_laws.specs.PrimalLaws.{all_leaves, groups_there, native_leaves, others_there}
 use Rattle.tree_laws.specs.SeenLaws.{leaves_in_miss, leaves_of_each_miss, omit_each, put_in_misses}
 
