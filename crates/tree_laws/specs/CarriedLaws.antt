@@ -31,7 +31,6 @@ use Rattle.fresh_bridging.specs.OmitLaws.{IsBelow}
 use Rattle.fresh_bridging.specs.TheRules.{Setting, graph_of}
 use Rattle.user_model.specs.Model.{ModelValue, objective_mentions, variables}
 use Rattle.user_model.specs.Valid.{IsValid, IsValidRow}
-use Rattle.user_model.specs.declared.row.Row.{Row}
 use Rattle.address_laws.specs.Apart.{Avoids, Distinct, avoids, counted_never, counted_once, in_or_not, in_second, not_in}
 use Rattle.address_laws.specs.DistinctLaws.{model_keys_distinct, numbered_root, rows_distinct}
 use Rattle.address_laws.specs.LeafKeys.{leaf_keys_in, leaf_keys_of_each, no_keys, variables_are}

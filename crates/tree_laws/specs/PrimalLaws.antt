@@ -37,7 +37,7 @@ use Rattle.fresh_bridging.specs.ModelLaws.{IsFurther, further}
 use Rattle.fresh_bridging.specs.TheRules.{Setting, graph_of}
 use Rattle.solver_store.specs.declared.leaf.LeafVar.{LeafVar}
 use Rattle.solver_store.specs.declared.leaf.LeafVar.TheVariants as leaf
-use Rattle.user_model.specs.Model.{ModelValue, variables}
+use Rattle.user_model.specs.Model.{ModelValue}
 use Rattle.user_model.specs.Valid.{IsValid, IsValidRow}
 use Rattle.user_model.specs.declared.function.UserFunc.{UserFunc}
 use Rattle.user_model.specs.declared.function.UserFunc.TheVariants as func
