@@ -42,7 +42,6 @@ use Rattle.user_model.specs.Valid.{IsValid, IsValidRow}
 use Rattle.user_model.specs.declared.function.UserFunc.{UserFunc}
 use Rattle.user_model.specs.declared.function.UserFunc.TheVariants as func
 use Rattle.user_model.specs.declared.group.Group.{Group as UserGroup}
-use Rattle.user_model.specs.declared.objective.Objective.TheVariants as objective
 use Rattle.user_model.specs.declared.row.Row.{Row}
 use Rattle.address_laws.specs.Apart.{Avoids, Distinct}
 use Rattle.address_laws.specs.DistinctLaws.{each_apart, model_groups_here, model_others_here, vars_distinct}
