@@ -6,12 +6,11 @@ use Rattle.std.proofs.lemmas.Grind.{flat_map-append}
 use Rattle.std.proofs.lemmas.List.{map-append}
 use Rattle.std.proofs.lemmas.List.Elements.{All-append, All-cons, All-head, All-map, All-nil, All-tail, All-weaker, Contains-append_left, Contains-append_right}
 use Rattle.bridge_graph.specs.Hypergraph.{IsCostly}
-use Rattle.expansion.specs.Bridged.{by}
-use Rattle.expansion.specs.Read.{leaves_in, leaves_of_each, model_leaves, model_nodes, nodes, nodes_in, nodes_of_each}
+use Rattle.expansion.specs.Read.{leaves_in, leaves_of_each, model_leaves, model_nodes, nodes_in, nodes_of_each}
 use Rattle.aff_core.specs.Address.{Address, root_number}
 use Rattle.aff_core.specs.declared.root.Root.TheVariants as root
 use Rattle.item_core.specs.declared.item.Body.{Body}
-use Rattle.item_core.specs.declared.item.Body.TheVariants.{Plain, Affine, PlainObj, AffineObj}
+use Rattle.item_core.specs.declared.item.Body.TheVariants.{PlainObj, AffineObj}
 use Rattle.item_core.specs.declared.item.Item.{Item}
 use Rattle.numbered.specs.Laws.{Rise-head, Rise-tail}
 use Rattle.numbered.specs.Numbered.{Rise}

@@ -1,10 +1,10 @@
--- What an edge makes of an item, by families: beside the child groups there are rows and objectives
--- alone, and those of a group name the variables of the child groups alone.
-use Rattle.std.specs.Prelude.{◌≡◌, ◌+◌, ℕ, Bool, true, false, ◌&&◌, ◌||◌, not, cond, List, [], ◌∷◌, ◌++◌, All, Contains, map, refl}
+-- What an edge makes of an item, by families: rows, and of an objective one objective beside them;
+-- and what it makes of a group names the variables of the child groups alone.
+use Rattle.std.specs.Prelude.{◌≡◌, ◌+◌, ℕ, Bool, true, false, ◌&&◌, not, cond, List, [], ◌∷◌, ◌++◌, All, Contains, map, refl, Option, Some, None}
 use Rattle.std.proofs.Common.{sym, ap, ap₂, subst, ◌∙◌, true≢false}
 use Rattle.std.specs.List.{list_all, enumerate_from}
 use Rattle.std.proofs.lemmas.List.{append-nil}
-use Rattle.std.proofs.lemmas.List.Elements.{All-cons, All-head, All-nil, All-tail, All-weaker}
+use Rattle.std.proofs.lemmas.List.Elements.{All-append, All-cons, All-head, All-nil, All-tail, All-weaker}
 use Rattle.std.proofs.lemmas.List.Sums.{AllPass-from_list_all}
 use Rattle.bridge_graph.specs.Hypergraph.{IsCostly}
 use Rattle.bridge_graph.specs.declared.Choice.{Choice}
@@ -21,181 +21,179 @@ use Rattle.aff_core.specs.Points.{unit}
 use Rattle.linear_laws.specs.ListLaws.{slope_constant_function}
 use Rattle.linear_laws.specs.SlopeLaws.{coefficient_by_unit}
 use Rattle.item_core.specs.declared.edge.Edge.{Edge}
-use Rattle.item_core.specs.declared.edge.EdgeEntry.{EdgeEntry}
-use Rattle.item_core.specs.declared.edge.TheConstants.{EDGES}
 use Rattle.item_core.specs.declared.family.Family.{Family}
 use Rattle.item_core.specs.declared.family.Family.TheVariants as family
 use Rattle.item_core.specs.declared.item.Body.{Body}
 use Rattle.item_core.specs.declared.item.Body.TheVariants.{Group, Free, Plain, Affine, PlainVec, AffineVec, PlainObj, AffineObj}
+use Rattle.item_core.specs.declared.image.Image.{Image}
 use Rattle.item_core.specs.declared.item.Item.{Item}
-use Rattle.item_core.specs.declared.kind.Kind.TheVariants as kind
 use Rattle.item_core.specs.Edge.{children_of, family_of}
 use Rattle.item_core.specs.Item.{functions_of, is_group, set_of, variables_of}
-use Rattle.item_core.specs.Kind.{kind_eq, kind_number}
+use Rattle.item_core.specs.Kind.{kind_number}
 use Rattle.item_core.specs.KindOf.{kind_of_body}
 use Rattle.bridge_face.specs.BackOf.{size}
 use Rattle.bridge_face.specs.ImageOf.{begins_free, free_at, group_at, image_by, image_of, inner, inner_functions}
 use Rattle.bridge_face.specs.Images.{affine, child_at, component_of, each_component, first_in, lower_part, plain, upper_part, with_set}
-use Rattle.bridge_face.specs.Law.{Miss, inner_of, listed}
-use Rattle.fresh_bridging.specs.CanLaws.{AreLawful, Can, down, keeps, same_entry}
-use Rattle.fresh_bridging.specs.ExistenceLaws.{free_or_set, not_this}
-use Rattle.fresh_bridging.specs.TableLaws.{and_first, and_second, at_all, grows_seldom, is_group_kind, leads_from_others, plain_beside_free}
+use Rattle.bridge_face.specs.Law.{Miss, inner_of, listed, is_objective}
+use Rattle.fresh_bridging.specs.CanLaws.{AreLawful, Can}
+use Rattle.fresh_bridging.specs.TableLaws.{and_first, and_second}
 use Rattle.fresh_bridging.specs.TheRules.{AreChoices, Setting, edge_at, graph_of}
 use Rattle.address_laws.specs.Apart.{Avoids, avoids}
+use Rattle.address_laws.specs.ClassLaws.{class_of_family, item_class}
+use Rattle.address_laws.specs.PutLaws.{class_of}
 
--- ---- families that lead from groups
+-- ---- rows
 
-abbrev pub is_group_family : Family → Bool
-is_group_family family.NonposVar = true
-is_group_family family.VectorizeVar = true
-is_group_family family.ZerosVar = true
-is_group_family family.FreeVar = true
-is_group_family family.Later = true
-is_group_family _ = false
+-- neither a group nor an objective
+abbrev pub is_row : Body → Bool
+is_row b = not (is_group b) && not (is_objective b)
 
--- an edge that leads from a group is of such a family
-abbrev groups_by_theirs : EdgeEntry → Bool
-groups_by_theirs e = not (is_group_kind e.source) || is_group_family e.family
+abbrev IsRow : Body → Type 0
+IsRow b = is_row b ≡ true
 
-all_by_theirs : list_all groups_by_theirs EDGES ≡ true
-all_by_theirs = refl
-
-or_left : (a b : Bool) → (not a || b) ≡ true → a ≡ true → b ≡ true
-or_left true b h e = h
-or_left false b h e = absurd (true≢false (sym e))
-
-module _ (setting : Setting) (costly : IsCostly (graph_of setting)) (choice : ℕ → Choice)
-    (chosen : AreChoices setting choice) (lawful : AreLawful setting) (item : Item)
-    (can : Can setting costly choice chosen item) (n : ℕ)
-    (e : choice (kind_number (kind_of_body item.body)) ≡ By n) where
-  abbrev entry : EdgeEntry
-  entry = (down setting costly choice chosen lawful item can n e).entry
-
-  pub group_family : is_group item.body ≡ true → is_group_family (family_of (edge_at n)) ≡ true
-  group_family h =
-      ap (λ x. is_group_family x.family) (same_entry setting costly choice chosen lawful item can n
-      e)
-      ∙ or_left (is_group_kind entry.source) (is_group_family entry.family)
-      (at_all groups_by_theirs EDGES n entry all_by_theirs
-      (down setting costly choice chosen lawful item can n e).is_entry.here)
-      (sym (ap is_group_kind (down setting costly choice chosen lawful item can n e).source)
-      ∙ group_kind (is_group_kind (kind_of_body item.body)) refl)
-    where
-      group_kind : (b : Bool) → is_group_kind (kind_of_body item.body) ≡ b
-          → is_group_kind (kind_of_body item.body) ≡ true
-      group_kind true k = k
-      group_kind false k =
-          let free = free_or_set item.body h k in
-          let source : kind_eq entry.source kind.Free ≡ true = ap (λ x. kind_eq x kind.Free)
-          (sym (down setting costly choice chosen lawful item can n e).source ∙ free) in
-          absurd (not_this (kind_eq entry.source kind.Free)
-          (and_first (leads_from_others entry) (grows_seldom entry)
-          (and_second (plain_beside_free entry) (leads_from_others entry && grows_seldom entry)
-          (keeps setting costly choice chosen lawful item can n e))) source)
-
--- ---- rows and objectives alone
-
-abbrev pub none_groups : List Item → Bool
-none_groups items = list_all (λ c. not (is_group c.body)) items
-
-affine_alone : (fs : List Function) (set : Set) → not (is_group (affine fs set)) ≡ true
-affine_alone fs set = by (is_scalar set)
+affine_row : (fs : List Function) (set : Set) → IsRow (affine fs set)
+affine_row fs set = by (is_scalar set)
   where
-    by : (b : Bool) → not (is_group (cond b (Affine (first_in fs) set) (AffineVec fs set))) ≡ true
+    by : (b : Bool) → IsRow (cond b (Affine (first_in fs) set) (AffineVec fs set))
     by true = refl
     by false = refl
 
-plain_alone : (vs : List Address) (set : Set) → not (is_group (plain vs set)) ≡ true
-plain_alone [] set = refl
-plain_alone (v ∷ vs) set = by (is_scalar set)
+plain_row : (vs : List Address) (set : Set) → IsRow (plain vs set)
+plain_row [] set = refl
+plain_row (v ∷ vs) set = by (is_scalar set)
   where
-    by : (b : Bool) → not (is_group (cond b (Plain v set) (PlainVec (v ∷ vs) set))) ≡ true
+    by : (b : Bool) → IsRow (cond b (Plain v set) (PlainVec (v ∷ vs) set))
     by true = refl
     by false = refl
 
-with_set_alone : (b : Body) (set : Set) → is_group b ≡ false → not (is_group (with_set b set))
-    ≡ true
-with_set_alone (Group s vars) set h = absurd (true≢false h)
-with_set_alone (Free vars) set h = absurd (true≢false h)
-with_set_alone (Plain var s) set h = refl
-with_set_alone (Affine func s) set h = refl
-with_set_alone (PlainVec vars s) set h = refl
-with_set_alone (AffineVec funcs s) set h = refl
-with_set_alone (PlainObj sense var) set h = refl
-with_set_alone (AffineObj sense func) set h = refl
+with_set_row : (b : Body) (set : Set) → class_of b ≡ (false, false) → IsRow (with_set b set)
+with_set_row (Group s vars) set h = absurd (true≢false (ap (λ p. p.0) h))
+with_set_row (Free vars) set h = absurd (true≢false (ap (λ p. p.0) h))
+with_set_row (Plain var s) set h = refl
+with_set_row (Affine func s) set h = refl
+with_set_row (PlainVec vars s) set h = refl
+with_set_row (AffineVec funcs s) set h = refl
+with_set_row (PlainObj sense var) set h = absurd (true≢false (ap (λ p. p.1) h))
+with_set_row (AffineObj sense func) set h = absurd (true≢false (ap (λ p. p.1) h))
 
-abbrev Alone : Body → Type 0
-Alone b = not (is_group b) ≡ true
+abbrev are_rows : List Item → Bool
+are_rows items = list_all (λ c. is_row c.body) items
 
 -- one after another, at their positions
-from_alone : (item : Item) (first : ℕ) (bodies : List Body) → All Alone bodies
-    → none_groups (map (λ p. child_at item p.0 p.1) (enumerate_from first bodies) ++ []) ≡ true
-from_alone item first [] h = refl
-from_alone item first (b ∷ bs) h =
-    ap₂ ◌&&◌ (All-head Alone b bs h)
-    (from_alone item (first + 1) bs (All-tail Alone b bs h))
+from_rows : (item : Item) (first : ℕ) (bodies : List Body) → All IsRow bodies
+    → are_rows (map (λ p. child_at item p.0 p.1) (enumerate_from first bodies)) ≡ true
+from_rows item first [] h = refl
+from_rows item first (b ∷ bs) h =
+    ap₂ ◌&&◌ (All-head IsRow b bs h) (from_rows item (first + 1) bs (All-tail IsRow b bs h))
 
-components_alone : (b : Body) (set : Set) → All Alone (each_component b set)
-components_alone (Group s vars) set = All-nil Alone
-components_alone (Free vars) set = All-nil Alone
-components_alone (Plain var s) set = All-nil Alone
-components_alone (Affine func s) set = All-nil Alone
-components_alone (PlainVec vars s) set = each_plain vars
+components_rows : (b : Body) (set : Set) → All IsRow (each_component b set)
+components_rows (Group s vars) set = All-nil IsRow
+components_rows (Free vars) set = All-nil IsRow
+components_rows (Plain var s) set = All-nil IsRow
+components_rows (Affine func s) set = All-nil IsRow
+components_rows (PlainVec vars s) set = each_plain vars
   where
-    each_plain : (vs : List Address) → All Alone (map (λ v. Plain v set) vs)
-    each_plain [] = All-nil Alone
-    each_plain (v ∷ vs) =
-        All-cons Alone (Plain v set) (map (λ u. Plain u set) vs) refl (each_plain vs)
-components_alone (AffineVec funcs s) set = each_affine funcs
+    each_plain : (vs : List Address) → All IsRow (map (λ v. Plain v set) vs)
+    each_plain [] = All-nil IsRow
+    each_plain (v ∷ vs) = All-cons IsRow (Plain v set) (map (λ u. Plain u set) vs) refl
+        (each_plain vs)
+components_rows (AffineVec funcs s) set = each_affine funcs
   where
-    each_affine : (fs : List Function) → All Alone (map (λ f. Affine f set) fs)
-    each_affine [] = All-nil Alone
+    each_affine : (fs : List Function) → All IsRow (map (λ f. Affine f set) fs)
+    each_affine [] = All-nil IsRow
     each_affine (f ∷ fs) =
-        All-cons Alone (Affine f set) (map (λ g. Affine g set) fs) refl (each_affine fs)
-components_alone (PlainObj sense var) set = All-nil Alone
-components_alone (AffineObj sense func) set = All-nil Alone
+        All-cons IsRow (Affine f set) (map (λ g. Affine g set) fs) refl (each_affine fs)
+components_rows (PlainObj sense var) set = All-nil IsRow
+components_rows (AffineObj sense func) set = All-nil IsRow
 
-others_by : (f : Family) (edge : Edge) (item : Item)
-    → (is_group_family f ≡ false → is_group item.body ≡ false)
-    → none_groups ((image_by f edge item).rows ++ listed (image_by f edge item).objective) ≡ true
+rows_by : (f : Family) (edge : Edge) (item : Item)
+    → (class_of_family f ≡ (false, false) → class_of item.body ≡ (false, false))
+    → are_rows (image_by f edge item).rows ≡ true
 unfolding image_by
-others_by family.GreaterLess edge item h = refl
-others_by family.OrthantFlip edge item h = refl
-others_by family.NonposVar edge item h = refl
-others_by family.ObjFlip edge item h = refl
-others_by family.Vectorize edge item h = refl
-others_by family.Scalarize edge item h =
-    from_alone item 0 (each_component item.body (component_of (set_of item.body)))
-    (components_alone item.body (component_of (set_of item.body)))
-others_by family.ScalarFunctionize edge item h =
-    ap (λ b. b && true) (affine_alone (functions_of item.body) (set_of item.body))
-others_by family.VectorFunctionize edge item h =
-    ap (λ b. b && true) (affine_alone (functions_of item.body) (set_of item.body))
-others_by family.VectorizeVar edge item h = refl
-others_by family.ObjFunctionize edge item h = refl
-others_by family.SplitSet edge item h =
+rows_by family.GreaterLess edge item h = refl
+rows_by family.OrthantFlip edge item h = refl
+rows_by family.NonposVar edge item h = refl
+rows_by family.ObjFlip edge item h = refl
+rows_by family.Vectorize edge item h = refl
+rows_by family.Scalarize edge item h =
+    from_rows item 0 (each_component item.body (component_of (set_of item.body)))
+    (components_rows item.body (component_of (set_of item.body)))
+rows_by family.ScalarFunctionize edge item h =
+    ap (λ b. b && true) (affine_row (functions_of item.body) (set_of item.body))
+rows_by family.VectorFunctionize edge item h =
+    ap (λ b. b && true) (affine_row (functions_of item.body) (set_of item.body))
+rows_by family.VectorizeVar edge item h = refl
+rows_by family.ObjFunctionize edge item h = refl
+rows_by family.SplitSet edge item h =
     ap₂ (λ a b. a && (b && true))
-    (with_set_alone item.body (lower_part (set_of item.body)) (h refl))
-    (with_set_alone item.body (upper_part (set_of item.body)) (h refl))
-others_by family.DropReals edge item h = refl
-others_by family.ZerosVar edge item h = refl
-others_by family.FreeVar edge item h = refl
-others_by family.ScalarSlack edge item h = refl
-others_by family.VectorSlack edge item h = refl
-others_by family.Later edge item h = ap (λ b. b && true) (either (begins_free (children_of edge)))
+    (with_set_row item.body (lower_part (set_of item.body)) (h refl))
+    (with_set_row item.body (upper_part (set_of item.body)) (h refl))
+rows_by family.DropReals edge item h = refl
+rows_by family.ZerosVar edge item h = refl
+rows_by family.FreeVar edge item h = refl
+rows_by family.ScalarSlack edge item h = refl
+rows_by family.VectorSlack edge item h = refl
+rows_by family.Later edge item h = ap (λ b. b && true) (either (begins_free (children_of edge)))
   where
     either : (b : Bool)
-        → not (is_group (cond b (plain (inner item (size item)) (set_of item.body))
-        (affine (inner_functions item (size item)) (set_of item.body)))) ≡ true
-    either true = plain_alone (inner item (size item)) (set_of item.body)
-    either false = affine_alone (inner_functions item (size item)) (set_of item.body)
-others_by family.ObjSlack edge item h = refl
-others_by family.NormInfinity edge item h = refl
-others_by family.NormOne edge item h = refl
+        → IsRow (cond b (plain (inner item (size item)) (set_of item.body))
+        (affine (inner_functions item (size item)) (set_of item.body)))
+    either true = plain_row (inner item (size item)) (set_of item.body)
+    either false = affine_row (inner_functions item (size item)) (set_of item.body)
+rows_by family.ObjSlack edge item h = refl
+rows_by family.NormInfinity edge item h = refl
+rows_by family.NormOne edge item h = refl
 
-not_group : (b : Bool) → not b ≡ true → b ≡ false
-not_group true h = absurd (true≢false (sym h))
-not_group false h = refl
+-- ---- objectives
+
+-- a child objective
+pub record HasObjective (o : Option Item) : Type 0 where
+  pub child : Item
+  pub is : o ≡ Some child
+  pub objective : is_objective child.body ≡ true
+
+-- one where the family leads from objectives, and else none
+IsListedBy : Bool → Option Item → Type 0
+IsListedBy true o = HasObjective o
+IsListedBy false o = o ≡ None
+
+objective_by : (f : Family) (edge : Edge) (item : Item)
+    → IsListedBy (class_of_family f).1 (image_by f edge item).objective
+unfolding image_by IsListedBy
+objective_by family.GreaterLess edge item = refl
+objective_by family.OrthantFlip edge item = refl
+objective_by family.NonposVar edge item = refl
+objective_by family.ObjFlip edge item = record { child = _; is = refl; objective = refl }
+objective_by family.Vectorize edge item = refl
+objective_by family.Scalarize edge item = refl
+objective_by family.ScalarFunctionize edge item = refl
+objective_by family.VectorFunctionize edge item = refl
+objective_by family.VectorizeVar edge item = refl
+objective_by family.ObjFunctionize edge item = record { child = _; is = refl; objective = refl }
+objective_by family.SplitSet edge item = refl
+objective_by family.DropReals edge item = refl
+objective_by family.ZerosVar edge item = refl
+objective_by family.FreeVar edge item = refl
+objective_by family.ScalarSlack edge item = refl
+objective_by family.VectorSlack edge item = refl
+objective_by family.Later edge item = refl
+objective_by family.ObjSlack edge item = record { child = _; is = refl; objective = refl }
+objective_by family.NormInfinity edge item = refl
+objective_by family.NormOne edge item = refl
+
+pub objective_no_group : (b : Body) → is_objective b ≡ true → is_group b ≡ false
+objective_no_group (Group s vars) h = absurd (true≢false (sym h))
+objective_no_group (Free vars) h = absurd (true≢false (sym h))
+objective_no_group (Plain var s) h = refl
+objective_no_group (Affine func s) h = refl
+objective_no_group (PlainVec vars s) h = refl
+objective_no_group (AffineVec funcs s) h = refl
+objective_no_group (PlainObj sense var) h = refl
+objective_no_group (AffineObj sense func) h = refl
+
+not_so : (b : Bool) → not b ≡ true → b ≡ false
+not_so true h = absurd (true≢false (sym h))
+not_so false h = refl
 
 -- ---- rows of a group name the variables of its child groups alone
 
@@ -208,7 +206,7 @@ variables_miss (u ∷ us) v h =
     (λ same. All-head (λ w. ¬ (w ≡ v)) u us h (sym same)))
     (variables_miss us v (All-tail (λ w. ¬ (w ≡ v)) u us h))
 
-constant_misses : (v : Address)
+pub constant_misses : (v : Address)
     → coefficient (constant_function {R = address_cmp} zero_ℚ) v ≡ zero_ℚ
 constant_misses v =
     sym (coefficient_by_unit (constant_function zero_ℚ) v) ∙ slope_constant_function zero_ℚ (unit v)
@@ -257,7 +255,7 @@ later_misses item set d v false h =
     (avoids (inner item d) v (subst (λ vs. ¬ (Contains vs v)) (append-nil (inner item d)) h))))
     (All-nil (Misses v))
 
-named_by : (f : Family) (edge : Edge) (item : Item) (v : Address) → is_group_family f ≡ true
+named_by : (f : Family) (edge : Edge) (item : Item) (v : Address) → (class_of_family f).0 ≡ true
     → ¬ (Contains (inner_of (image_by f edge item).groups) v)
     → All (Misses v) ((image_by f edge item).rows ++ listed (image_by f edge item).objective)
 unfolding image_by
@@ -289,27 +287,61 @@ module _ (setting : Setting) (costly : IsCostly (graph_of setting)) (choice : �
     (chosen : AreChoices setting choice) (lawful : AreLawful setting) (item : Item)
     (can : Can setting costly choice chosen item) (n : ℕ)
     (e : choice (kind_number (kind_of_body item.body)) ≡ By n) where
-  abbrev others : List Item
-  others = (image_of (edge_at n) item).rows ++ listed (image_of (edge_at n) item).objective
+  abbrev image : Image
+  image = image_of (edge_at n) item
 
-  pub others_alone : All (λ c. is_group c.body ≡ false) others
+  its_class : class_of item.body ≡ class_of_family (family_of (edge_at n))
+  its_class = item_class setting costly choice chosen lawful item can n e
+
+  rows_are : All (λ c. IsRow c.body) image.rows
+  rows_are =
+      AllPass-from_list_all (λ c. is_row c.body) image.rows
+      (rows_by (family_of (edge_at n)) (edge_at n) item (λ h. its_class ∙ h))
+
+  pub rows_alone : All (λ c. is_objective c.body ≡ false) image.rows
+  rows_alone =
+      All-weaker (λ c. IsRow c.body) (λ c. is_objective c.body ≡ false)
+      (λ c h. not_so (is_objective c.body)
+      (and_second (not (is_group c.body)) (not (is_objective c.body)) h))
+      image.rows rows_are
+
+  pub child_objective : is_objective item.body ≡ true → HasObjective image.objective
+  unfolding IsListedBy
+  child_objective h =
+      subst (λ b. IsListedBy b image.objective) (sym (ap (λ p. p.1) its_class) ∙ h)
+      (objective_by (family_of (edge_at n)) (edge_at n) item)
+
+  pub no_child_objective : is_objective item.body ≡ false → image.objective ≡ None
+  unfolding IsListedBy
+  no_child_objective h =
+      subst (λ b. IsListedBy b image.objective) (sym (ap (λ p. p.1) its_class) ∙ h)
+      (objective_by (family_of (edge_at n)) (edge_at n) item)
+
+  -- beside the child groups there is no group
+  pub others_alone : All (λ c. is_group c.body ≡ false) (image.rows ++ listed image.objective)
   others_alone =
-      All-weaker (λ c. not (is_group c.body) ≡ true) (λ c. is_group c.body ≡ false)
-      (λ c. not_group (is_group c.body)) others
-      (AllPass-from_list_all (λ c. not (is_group c.body)) others
-      (others_by (family_of (edge_at n)) (edge_at n) item row))
+      All-append (λ c. is_group c.body ≡ false) image.rows (listed image.objective)
+      (All-weaker (λ c. IsRow c.body) (λ c. is_group c.body ≡ false)
+      (λ c h. not_so (is_group c.body)
+      (and_first (not (is_group c.body)) (not (is_objective c.body)) h))
+      image.rows rows_are)
+      (by (is_objective item.body) refl)
     where
-      row : is_group_family (family_of (edge_at n)) ≡ false → is_group item.body ≡ false
-      row h = by (is_group item.body) refl
-        where
-          by : (b : Bool) → is_group item.body ≡ b → b ≡ false
-          by true k =
-              absurd (true≢false (sym (group_family setting costly choice chosen lawful item can n e
-              k) ∙ h))
-          by false k = refl
+      by : (b : Bool) → is_objective item.body ≡ b
+          → All (λ c. is_group c.body ≡ false) (listed image.objective)
+      by true o =
+          let has = child_objective o in
+          subst (λ x. All (λ c. is_group c.body ≡ false) (listed x)) (sym has.is)
+          (All-cons (λ c. is_group c.body ≡ false) has.child []
+          (objective_no_group has.child.body has.objective)
+          (All-nil (λ c. is_group c.body ≡ false)))
+      by false o =
+          subst (λ x. All (λ c. is_group c.body ≡ false) (listed x)) (sym (no_child_objective o))
+          (All-nil (λ c. is_group c.body ≡ false))
 
   pub named_in_groups : is_group item.body ≡ true → (v : Address)
-      → ¬ (Contains (inner_of (image_of (edge_at n) item).groups) v) → All (Misses v) others
+      → ¬ (Contains (inner_of image.groups) v)
+      → All (Misses v) (image.rows ++ listed image.objective)
   named_in_groups g v h =
       named_by (family_of (edge_at n)) (edge_at n) item v
-      (group_family setting costly choice chosen lawful item can n e g) h
+      (sym (ap (λ p. p.0) its_class) ∙ g) h

@@ -190,7 +190,7 @@ keys_of-flat_map f (i ∷ items) =
     map-append (λ e. e.0) (f i) (flat_map f items)
     ∙ ap (λ l. keys_of (f i) ++ l) (keys_of-flat_map f items)
 
-same_flat_map : (f g : Item → List Address) (items : List Item) → ((i : Item) → f i ≡ g i)
+pub same_flat_map : (f g : Item → List Address) (items : List Item) → ((i : Item) → f i ≡ g i)
     → flat_map f items ≡ flat_map g items
 same_flat_map f g [] h = refl
 same_flat_map f g (i ∷ items) h = ap₂ ◌++◌ (h i) (same_flat_map f g items h)

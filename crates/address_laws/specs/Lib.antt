@@ -1,5 +1,6 @@
 pub mod Apart
 pub mod PutLaws
+pub mod ClassLaws
 pub mod ImageLaws
 pub mod Keys
 pub mod Regions

@@ -5,7 +5,7 @@ use Rattle.std.proofs.Common.{sym, ap, ap₂, subst, ◌∙◌, true≢false}
 use Rattle.std.proofs.lemmas.List.Elements.{All-cons, All-contains_itself, All-head, All-map, All-nil, All-tail, All-weaker, Contains-append_left, Contains-append_right}
 use Rattle.bridge_graph.specs.Hypergraph.{IsCostly}
 use Rattle.bridge_graph.specs.declared.Choice.{Choice}
-use Rattle.expansion.specs.Bridged.{Bridged, EachBridged, each}
+use Rattle.expansion.specs.Bridged.{Bridged, EachBridged}
 use Rattle.expansion.specs.Read.{leaves, leaves_of_each}
 use Rattle.ratio_core.specs.Rational.{Rational, zero_ℚ, ◌+ℚ◌}
 use Rattle.rational_laws.specs.Field.{+ℚ-zero, zero-+ℚ}

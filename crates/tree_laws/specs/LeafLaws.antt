@@ -87,6 +87,7 @@ native_group (AffineObj sense func) h k = absurd (true≢false (sym h))
 -- a native item that is valid
 pub record IsLeaf (leaf : Item) : Type 0 where
   pub valid : IsValidItem leaf
+  pub native : is_native (kind_of_body leaf.body) ≡ true
   pub group : is_group leaf.body ≡ true → IsNativeGroup leaf.body
 
 module _ (setting : Setting) (costly : IsCostly (graph_of setting)) (choice : ℕ → Choice)
@@ -96,11 +97,15 @@ module _ (setting : Setting) (costly : IsCostly (graph_of setting)) (choice : �
       → IsHere setting costly choice chosen lawful item → IsLeaf item
   native_leaf item c here = record {
     valid = here.can.valid;
-    group = λ g. native_group item.body g
-        (native (kind_of_body item.body)
-        (subst (IsChoice (graph_of setting) (kind_number (kind_of_body item.body))) c
-        (chosen (kind_number (kind_of_body item.body)))));
+    native = its;
+    group = λ g. native_group item.body g its;
   }
+    where
+      its : is_native (kind_of_body item.body) ≡ true
+      its =
+          native (kind_of_body item.body)
+          (subst (IsChoice (graph_of setting) (kind_number (kind_of_body item.body))) c
+          (chosen (kind_number (kind_of_body item.body))))
 
   mutual
     unfolding leaves

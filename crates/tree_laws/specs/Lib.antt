@@ -7,7 +7,7 @@ pub mod LevelLaws
 pub mod NodeLaws
 pub mod DownLaws
 pub mod TreeLaws
-pub mod ShapeLaws
+pub mod BackLaws
 pub mod StandLaws
 pub mod ObjectiveLaws
 pub mod UpLaws
@@ -15,7 +15,8 @@ pub mod LeafLaws
 pub mod UserLaws
 pub mod PrimalLaws
 pub mod Certificate
-pub mod OwnLaws
+pub mod CarriedLaws
+pub mod NativeModel
 pub mod ObjectivePart
 pub mod SenseLaws
 pub mod UserHelds

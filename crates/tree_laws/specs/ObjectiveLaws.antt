@@ -12,7 +12,6 @@ use Rattle.aff_core.specs.Address.{Address}
 use Rattle.item_core.specs.declared.item.Body.{Body}
 use Rattle.item_core.specs.declared.item.Body.TheVariants.{Group, Free, Plain, Affine, PlainVec, AffineVec, PlainObj, AffineObj}
 use Rattle.item_core.specs.declared.item.Item.{Item}
-use Rattle.item_core.specs.Item.{is_group}
 use Rattle.item_core.specs.Kind.{kind_number}
 use Rattle.item_core.specs.KindOf.{kind_of_body}
 use Rattle.bridge_face.specs.ImageOf.{image_of}
@@ -24,7 +23,7 @@ use Rattle.fresh_bridging.specs.TheRules.{AreChoices, Setting, edge_at, graph_of
 use Rattle.address_laws.specs.KeyLaws.{IsHere}
 use Rattle.address_laws.specs.PutLaws.{objective_stays}
 use Rattle.tree_laws.specs.SeenLaws.{IsGroupHere, IsRowHere, child_groups_here, child_rows_here}
-use Rattle.tree_laws.specs.ShapeLaws.{child_objective, no_child_objective, rows_alone}
+use Rattle.address_laws.specs.ImageLaws.{child_objective, no_child_objective, rows_alone}
 use Rattle.tree_laws.specs.TreeLaws.{no_objective}
 
 pub by_case : {C : Type 0} {t : Bool} (b : Bool) → t ≡ b → (t ≡ true → C) → (t ≡ false → C) → C
@@ -55,16 +54,6 @@ one_last (r ∷ rows) o h k =
       All-head (λ x. is_objective x.body ≡ false) r rows h,
       one_last rows o (All-tail (λ x. is_objective x.body ≡ false) r rows h) k,
     )
-
-pub objective_no_group : (b : Body) → is_objective b ≡ true → is_group b ≡ false
-objective_no_group (Group s vars) h = absurd (true≢false (sym h))
-objective_no_group (Free vars) h = absurd (true≢false (sym h))
-objective_no_group (Plain var s) h = refl
-objective_no_group (Affine func s) h = refl
-objective_no_group (PlainVec vars s) h = refl
-objective_no_group (AffineVec funcs s) h = refl
-objective_no_group (PlainObj sense var) h = refl
-objective_no_group (AffineObj sense func) h = refl
 
 not_one : (i : Item) → is_objective i.body ≡ false → leaf_objectives i ≡ []
 not_one i = by i.body

@@ -15,9 +15,7 @@ use Rattle.rational_laws.specs.Ring.{as_expression, by_ring, ring₂, zero_as}
 use Rattle.aff_core.specs.Address.{Address, address_cmp}
 use Rattle.aff_core.specs.Function.{Function, coefficient, constant_function, evaluated, variable}
 use Rattle.aff_core.specs.FunctionLaws.{constant-function_of}
-use Rattle.aff_core.specs.Points.{unit}
-use Rattle.linear_laws.specs.ListLaws.{evaluated_constant_function, slope_constant_function}
-use Rattle.linear_laws.specs.SlopeLaws.{coefficient_by_unit}
+use Rattle.linear_laws.specs.ListLaws.{evaluated_constant_function}
 use Rattle.dual_laws.specs.Held.{Held, adjoint, gap}
 use Rattle.certificates.specs.Points.{objective_function, sense_of}
 use Rattle.equality_form.specs.EqualityForm.{cost, cost_among}
@@ -38,11 +36,12 @@ use Rattle.user_model.specs.declared.objective.Objective.{Objective}
 use Rattle.user_model.specs.declared.objective.Objective.TheVariants as objective
 use Rattle.user_model.specs.declared.row.Row.{Row}
 use Rattle.address_laws.specs.DistinctLaws.{each_apart}
+use Rattle.address_laws.specs.ImageLaws.{constant_misses}
 use Rattle.tree_laws.specs.Carried.{LeafDuals, backs}
 use Rattle.tree_laws.specs.LeafLaws.{SupportsNativeKinds, objective_held}
 use Rattle.tree_laws.specs.ObjectiveLaws.{CostsNothing, HasOne, none_at_all, none_below_each, none_below_in}
 use Rattle.tree_laws.specs.PrimalLaws.{all_leaves, cost_of_one, costs_less, groups_there, has_leaf, others_there, row_no_objective, seen_point}
-use Rattle.tree_laws.specs.ShapeLaws.{last_of_rows}
+use Rattle.tree_laws.specs.BackLaws.{last_of_rows}
 
 -- what an objective costs: nothing, where there is none
 abbrev pub user_cost : Objective → Function
@@ -60,15 +59,10 @@ constant_of : (k : Rational) → (constant_function {R = address_cmp} k).constan
 unfolding constant_function
 constant_of k = constant-function_of address_cmp [] k
 
-pub constant_unseen : (v : Address) → coefficient (constant_function {R = address_cmp} zero_ℚ) v
-    ≡ zero_ℚ
-constant_unseen v =
-    sym (coefficient_by_unit (constant_function zero_ℚ) v) ∙ slope_constant_function zero_ℚ (unit v)
-
 -- without an objective nothing is weighed
 none_weighed : (o : Rational) (v : Address)
     → zero_ℚ ≡ o *ℚ coefficient (constant_function {R = address_cmp} zero_ℚ) v
-none_weighed o v = sym (ap (λ q. o *ℚ q) (constant_unseen v) ∙ *ℚ-zero o)
+none_weighed o v = sym (ap (λ q. o *ℚ q) (constant_misses v) ∙ *ℚ-zero o)
 
 none_gap : (o : Rational) → zero_ℚ ≡ neg_ℚ (o *ℚ (constant_function {R = address_cmp}
     zero_ℚ).constant)

@@ -37,21 +37,20 @@ use Rattle.fresh_bridging.specs.ModelLaws.{IsFurther, further}
 use Rattle.fresh_bridging.specs.TheRules.{Setting, graph_of}
 use Rattle.solver_store.specs.declared.leaf.LeafVar.{LeafVar}
 use Rattle.solver_store.specs.declared.leaf.LeafVar.TheVariants as leaf
-use Rattle.user_model.specs.Model.{ModelValue, variables}
+use Rattle.user_model.specs.Model.{ModelValue}
 use Rattle.user_model.specs.Valid.{IsValid, IsValidRow}
 use Rattle.user_model.specs.declared.function.UserFunc.{UserFunc}
 use Rattle.user_model.specs.declared.function.UserFunc.TheVariants as func
 use Rattle.user_model.specs.declared.group.Group.{Group as UserGroup}
-use Rattle.user_model.specs.declared.objective.Objective.TheVariants as objective
 use Rattle.user_model.specs.declared.row.Row.{Row}
 use Rattle.address_laws.specs.Apart.{Avoids, Distinct}
 use Rattle.address_laws.specs.DistinctLaws.{each_apart, model_groups_here, model_others_here, vars_distinct}
-use Rattle.address_laws.specs.ImageLaws.{variables_miss}
+use Rattle.address_laws.specs.ImageLaws.{objective_no_group, variables_miss}
 use Rattle.address_laws.specs.KeyLaws.{IsHere}
 use Rattle.address_laws.specs.PutLaws.{group_stays, objective_stays}
 use Rattle.tree_laws.specs.Carried.{group_held, group_helds, through}
 use Rattle.tree_laws.specs.LeafLaws.{IsLeaf, IsNativeGroup, SupportsNativeKinds, each_are_leaves, free, nonnegatives, others_are_leaves, reals}
-use Rattle.tree_laws.specs.ObjectiveLaws.{CostsNothing, HasOne, OneObjective, none_below_each, objective_no_group, one_behind, one_in, one_last}
+use Rattle.tree_laws.specs.ObjectiveLaws.{CostsNothing, HasOne, OneObjective, none_below_each, one_behind, one_in, one_last}
 use Rattle.tree_laws.specs.PutLaws.{held_put}
 use Rattle.tree_laws.specs.SeenLaws.{IsGroupHere, IsRowHere}
 use Rattle.tree_laws.specs.UpLaws.{CostsAtLeast, GroupsHold, LeafHolds, cost_put, costs_in, groups_hold, no_numbers, point_in, rows_hold, to_point}

@@ -9,7 +9,6 @@ use Rattle.rational_laws.specs.Ring.{as_expression, by_ring, ring₂, one_as}
 use Rattle.aff_core.specs.Address.{Address}
 use Rattle.aff_core.specs.Function.{Function, IsNegated, coefficient, negated, slope, value_of}
 use Rattle.aff_core.specs.FunctionLaws.{is_negated}
-use Rattle.aff_core.specs.FunctionLists.{coefficients}
 use Rattle.aff_core.specs.KeyOrder.{address_order}
 use Rattle.aff_core.specs.declared.sense.Sense.{Sense}
 use Rattle.aff_core.specs.declared.sense.Sense.TheVariants.{Min, Max}

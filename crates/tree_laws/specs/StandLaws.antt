@@ -27,7 +27,7 @@ use Rattle.tree_laws.specs.DownLaws.{each_joined, first_balance, rest_balance, s
 use Rattle.tree_laws.specs.LevelLaws.{IsLevel, duals_of_first, duals_of_second, group_duals, groups_balance, other_duals, others_zero, stand_leaves}
 use Rattle.tree_laws.specs.NodeLaws.{keys_under, left, left_rest, level, target, target_stands}
 use Rattle.tree_laws.specs.SeenLaws.{IsGroupHere, IsRowHere, groups_at, others_at}
-use Rattle.tree_laws.specs.ShapeLaws.{last_back}
+use Rattle.tree_laws.specs.BackLaws.{last_back}
 use Rattle.tree_laws.specs.TreeLaws.{carried, first_zero, group_carries, native_group, native_row, outer_through, rest_missed, rest_zero, row_carries, row_quiet, row_through}
 
 module _ (setting : Setting) (costly : IsCostly (graph_of setting)) (choice : ℕ → Choice)

@@ -7,7 +7,7 @@ use Rattle.std.proofs.lemmas.List.Elements.{All-append, All-cons, All-contains, 
 use Rattle.bridge_graph.specs.Hypergraph.{IsCostly}
 use Rattle.bridge_graph.specs.declared.Choice.{Choice}
 use Rattle.bridge_graph.specs.declared.Choice.TheVariants.{By}
-use Rattle.expansion.specs.Bridged.{Bridged, EachBridged, EachBridgedIn, by}
+use Rattle.expansion.specs.Bridged.{Bridged, EachBridged, EachBridgedIn}
 use Rattle.expansion.specs.Read.{leaves, leaves_in}
 use Rattle.ratio_core.specs.Rational.{Rational, one_ℚ, zero_ℚ, ◌*ℚ◌, ◌+ℚ◌}
 use Rattle.rational_laws.specs.Field.{+ℚ-zero, one-*ℚ, zero-+ℚ}

@@ -39,7 +39,7 @@ use Rattle.tree_laws.specs.NodeLaws.{components_distinct}
 use Rattle.tree_laws.specs.ObjectiveLaws.{CostsNothing, by_case, none_below, none_below_each}
 use Rattle.tree_laws.specs.PutLaws.{held_put, row_functions_put}
 use Rattle.tree_laws.specs.SeenLaws.{IsGroupHere, IsRowHere, child_groups_here, child_rows_here, groups_at, others_at}
-use Rattle.tree_laws.specs.ShapeLaws.{rows_alone}
+use Rattle.address_laws.specs.ImageLaws.{rows_alone}
 use Rattle.tree_laws.specs.TreeLaws.{all_untouched, misses, native_through, no_objective, outer_through, row_through}
 
 -- values say nothing of duals, so any will do

@@ -29,7 +29,7 @@ use Rattle.tree_laws.specs.Certificate.{leaf_duals, rows_of}
 use Rattle.tree_laws.specs.LeafLaws.{SupportsNativeKinds, objective_held}
 use Rattle.tree_laws.specs.NodeLaws.{held_split, length-backs}
 use Rattle.tree_laws.specs.ObjectivePart.{Weighs, leaf_weighs, user_cost, user_weighs}
-use Rattle.tree_laws.specs.OwnLaws.{gaps_grow, left, leaves_gap, other_helds, user_balance, user_duals_hold, user_helds}
+use Rattle.tree_laws.specs.CarriedLaws.{gaps_grow, left, leaves_gap, other_helds, user_balance, user_duals_hold, user_helds}
 use Rattle.tree_laws.specs.PrimalLaws.{all_leaves}
 use Rattle.tree_laws.specs.UserLaws.{all_addresses}
 use Rattle.tree_laws.specs.UserHelds.{groups_are, held_duals, rows_are}

@@ -34,9 +34,10 @@ use Rattle.user_model.specs.Valid.{IsValid, IsValidObjective}
 use Rattle.user_model.specs.declared.objective.Objective.{Objective}
 use Rattle.user_model.specs.declared.objective.Objective.TheVariants as objective
 use Rattle.address_laws.specs.Apart.{Avoids, not_in}
+use Rattle.address_laws.specs.ImageLaws.{constant_misses}
 use Rattle.tree_laws.specs.Certificate.{point_of, ray_of}
 use Rattle.tree_laws.specs.LeafLaws.{SupportsNativeKinds}
-use Rattle.tree_laws.specs.ObjectivePart.{constant_unseen, objective_up, user_cost}
+use Rattle.tree_laws.specs.ObjectivePart.{objective_up, user_cost}
 use Rattle.tree_laws.specs.PrimalLaws.{seen_point, user_groups, user_rows}
 use Rattle.tree_laws.specs.UserLaws.{all_addresses, evaluations_agree, listed_point, stands_in}
 use Rattle.tree_laws.specs.SenseLaws.{better_is, one_nonneg}
@@ -55,7 +56,7 @@ module _ (setting : Setting) (costly : IsCostly (graph_of setting)) (lawful : Ar
       by : (o : Objective) → IsValidObjective model.groups o → Miss (objective_function o ∷ []) v
       by objective.Feasibility k =
           All-cons (λ f. coefficient f v ≡ zero_ℚ) (constant_function zero_ℚ) []
-          (constant_unseen v) (All-nil (λ f. coefficient f v ≡ zero_ℚ))
+          (constant_misses v) (All-nil (λ f. coefficient f v ≡ zero_ℚ))
       by (objective.Plain sense var) k =
           All-head (λ i. Miss (item_functions i.body) v) (objective_item (PlainObj sense var)) []
           (objective_omits (objective.Plain sense var) v

@@ -31,7 +31,6 @@ use Rattle.fresh_bridging.specs.OmitLaws.{IsBelow}
 use Rattle.fresh_bridging.specs.TheRules.{Setting, graph_of}
 use Rattle.user_model.specs.Model.{ModelValue, objective_mentions, variables}
 use Rattle.user_model.specs.Valid.{IsValid, IsValidRow}
-use Rattle.user_model.specs.declared.row.Row.{Row}
 use Rattle.address_laws.specs.Apart.{Avoids, Distinct, avoids, counted_never, counted_once, in_or_not, in_second, not_in}
 use Rattle.address_laws.specs.DistinctLaws.{model_keys_distinct, numbered_root, rows_distinct}
 use Rattle.address_laws.specs.LeafKeys.{leaf_keys_in, leaf_keys_of_each, no_keys, variables_are}
@@ -75,7 +74,7 @@ module _ (setting : Setting) (costly : IsCostly (graph_of setting)) (lawful : Ar
 
   -- ---- the leaf variables
 
-  keys_are : group_keys ++ other_keys ≡ flat_map own all_leaves
+  pub keys_are : group_keys ++ other_keys ≡ flat_map own all_leaves
   keys_are =
       ap₂ ◌++◌ (leaf_keys_of_each own bridging.made.groups) (leaf_keys_in own bridging.made.others)
       ∙ sym (flat_map-append own (leaves_of_each bridging.made.groups)
@@ -125,6 +124,14 @@ module _ (setting : Setting) (costly : IsCostly (graph_of setting)) (lawful : Ar
               let n : 2 ≡ 0 = ap root_number (sym k ∙ same) in omega (arith, n)
           moved (inr k) =
               let n : 3 ≡ 0 = ap root_number (sym k ∙ same) in omega (arith, n)
+
+  -- ---- the components
+
+  pub same_components : components entries ≡ all_addresses model.groups
+  same_components =
+      components_of_each setting costly bridging.choice bridging.chosen lawful
+      bridging.made.groups (groups_there setting costly lawful native model valid bridging)
+      ∙ inner_is model.groups
 
   -- ---- right duals
 
@@ -203,12 +210,6 @@ module _ (setting : Setting) (costly : IsCostly (graph_of setting)) (lawful : Ar
         +ℚ sum_by_ℚ (λ e. gap_of (objective_held d e)) (flat_map leaf_objectives all_leaves))
 
     -- ---- the user's level
-
-    same_components : components entries ≡ all_addresses model.groups
-    same_components =
-        components_of_each setting costly bridging.choice bridging.chosen lawful
-        bridging.made.groups (groups_there setting costly lawful native model valid bridging)
-        ∙ inner_is model.groups
 
     others_missed : (v : Address) → Contains other_keys v
         → All (λ c. Misses v (put_in entries c)) others
