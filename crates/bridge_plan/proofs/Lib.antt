@@ -1,0 +1,12 @@
+mod Found
+mod Left
+mod Covers
+mod KeptLists
+mod Agreeing
+mod Alike
+mod Opened
+mod SoFar
+mod InTurn
+mod Nodes
+mod Outer
+mod Places

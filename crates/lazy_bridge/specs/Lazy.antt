@@ -1,0 +1,19 @@
+-- The public contract of `Lazy`, the lazy bridging of a user's model over boxed bridges.
+--
+-- Contracts see what it owns: the table, the state of each box (family, kept map, turns), the
+-- solver's model and the map of addresses. It names no family: an edge may be used exactly where
+-- its family is on in the table and among the boxes.
+--
+--     HoldsNothing lazy          no leaf, no node, no expression
+--     IsBridgingOf lazy model    the fresh bridging of the model stands in it: the solver's model,
+--                                read through the map, is its leaves; the kept map of each box is
+--                                the part of its nodes that is of the box's family; the map has the
+--                                expression of each of the user's variables
+--
+-- `fill`, `push` and `set_table` each have two steps. The planning step works the whole fresh
+-- bridging out by the boxes' images, an item at a time, and refuses there: `Unsupported` with the
+-- kind of the first of the user's items that has no tree, and then `Overflow` with the address of
+-- the first at which a number doesn't fit. Until then nothing but the boxes' turns has changed. The
+-- change step empties the solver's model, the map and the boxes and puts the plan in; memory alone
+-- can refuse it, and then it holds nothing. The answer is the number of addresses at which the
+-- leaves before and after differ.
