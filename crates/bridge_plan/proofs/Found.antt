@@ -6,7 +6,7 @@ use Rattle.std.specs.FinMap.{FinMap, get-empty, get-entries, get-insert}
 use Rattle.std.specs.FinMap.Entries.{find as first_at}
 use Rattle.std.specs.Cmp.{eq_by_cmp_equiv}
 use Rattle.std.specs.Option.{option_map_or}
-use Rattle.std.proofs.lemmas.Option.{same_Some}
+use Rattle.std.proofs.lemmas.Option.{none-some, same_Some}
 use Rattle.aff_core.specs.Address.{Address, address_cmp, address_eq, address_eq-Decides, address_total}
 use Rattle.aff_core.specs.Arithmetic.{expression_at}
 use Rattle.aff_core.specs.Function.{Function, constant_function}
@@ -96,3 +96,8 @@ made_for m es v h there = by (finite.get m v) refl there
         → unwrap_or (finite.get m v) (constant_function zero_ℚ) ≡ function_in es v
     by None e t = cc
     by (Some f) e t = ap (λ o. unwrap_or o (constant_function zero_ℚ)) e ∙ h v f e
+
+pub none_made : (m : FinMap address_cmp Function) (es : List Entry) → m ≡ finite.empty
+    → AreFunctions es m
+none_made m es e v f found =
+    absurd (none-some f (sym (get-empty address_cmp v) ∙ sym (ap (λ n. finite.get n v) e) ∙ found))

@@ -1,6 +1,6 @@
 -- Groups, and further children, planned in turn.
-use Rattle.std.specs.Prelude.{◌≡◌, ℕ, Bool, ◌&&◌, IsTrue, List, [], ◌∷◌, All}
-use Rattle.std.proofs.Common.{ap, ap₂, sym, subst, ◌∙◌}
+use Rattle.std.specs.Prelude.{◌≡◌, ℕ, Bool, ◌&&◌, IsTrue, List, [], ◌∷◌, All, length, refl}
+use Rattle.std.proofs.Common.{arith, ap, ap₂, sym, subst, ◌∙◌}
 use Rattle.std.proofs.lemmas.List.Elements.{All-head, All-tail}
 use Rattle.expansion.specs.Grown.{Held, joined, put_held}
 use Rattle.item_core.specs.declared.item.Item.{Item}
@@ -12,6 +12,10 @@ use Rattle.bridge_plan.specs.Means.{Means}
 use Rattle.bridge_plan.specs.Worked.{IsWithin, worked, worked_each, worked_in}
 use Rattle.bridge_plan.specs.declared.plan.Plan.{Plan}
 use Rattle.bridge_plan.proofs.SoFar.{SoFar, all_planned, needs_one, none_yet, one_more}
+
+pub nothing_left : {X : Type 0} (l : List X) → length l ≡ 0 → l ≡ []
+nothing_left [] h = refl
+nothing_left (x ∷ xs) h = absurd (omega arith)
 
 module _ (first : Means) (n : ℕ) where
   abbrev pub item_held : Item → Held Item Entry
@@ -138,11 +142,11 @@ module _ (first : Means) (n : ℕ) where
           (needs_child t)))
 
       pub in_step : (made : Item) → made ≡ put_in standing x → IsTrue (put_in_fits standing x)
-          → (after : Plan) (later : Means) (left_over : List Entry)
+          → (after : Plan) (later : Means) (none left_over : List Entry)
           → IsTrue (worked means.choice n made).fits
-          → Adds now after [] left_over (worked means.choice n made)
+          → Adds now after none left_over (worked means.choice n made)
           → later ≡ means → InSoFar all rest plan after later standing
-      in_step made is put after later left_over fits adds same = record {
+      in_step made is put after later none left_over fits adds same = record {
         so_far = one_more (in_held all) (child_held x) (in_held rest) plan now [] [] in_opened
             after [] (and_both (subst (λ s. IsTrue (put_in_fits s x)) h.stands put) here.0)
             (record { leaves = here.1.leaves; nodes = here.1.nodes; entries = λ i. [] });
@@ -153,7 +157,7 @@ module _ (first : Means) (n : ℕ) where
         where
           Made : Means → Item → Type 0
           Made m i =
-              IsTrue (worked m.choice n i).fits × Adds now after [] left_over
+              IsTrue (worked m.choice n i).fits × Adds now after none left_over
               (worked m.choice n i)
 
           here : Made first (put_in inner x)

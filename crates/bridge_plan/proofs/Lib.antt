@@ -7,6 +7,8 @@ mod Alike
 mod Opened
 mod SoFar
 mod InTurn
+mod ItemCases
 mod Nodes
 mod Outer
+mod NodeSteps
 mod Places

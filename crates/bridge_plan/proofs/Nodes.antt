@@ -35,12 +35,11 @@ module _ (choice : ℕ → Choice) (below : Item → Held Item Entry) (edge : �
   abbrev pub outer_fits : List Entry → Bool
   outer_fits inner = list_all (put_into_fits inner) (image_of (edge_at edge) item).exprs
 
-  pub image_refused : ¬ (IsTrue (image_fits edge item)) → ¬ (IsTrue node.fits)
-  image_refused not t = not (and_first (image_fits edge item) _ t)
+  pub needs_image : IsTrue node.fits → IsTrue (image_fits edge item)
+  needs_image t = and_first (image_fits edge item) _ t
 
-  pub groups_refused : ¬ (IsTrue groups_held.fits) → ¬ (IsTrue node.fits)
-  groups_refused not t =
-      not (and_first groups_held.fits _ (and_second (image_fits edge item) _ t))
+  pub needs_groups : IsTrue node.fits → IsTrue groups_held.fits
+  needs_groups t = and_first groups_held.fits _ (and_second (image_fits edge item) _ t)
 
   module _ (standing : List Entry)
       (same : expression_in standing ≡ expression_in groups_held.entries) where
@@ -64,17 +63,17 @@ module _ (choice : ℕ → Choice) (below : Item → Held Item Entry) (edge : �
         subst (λ f. All (λ child. P (f child)) (children_by edge item).others)
         (sym (put_alike standing groups_held.entries same)) h.others
 
-    pub others_refused : ¬ (IsTrue (others_held standing).fits) → ¬ (IsTrue node.fits)
-    others_refused not t =
-        not (ap (λ (h : Held Item Entry). h.fits) others_same
+    pub needs_others : IsTrue node.fits → IsTrue (others_held standing).fits
+    needs_others t =
+        ap (λ (h : Held Item Entry). h.fits) others_same
         ∙ and_second (outer_fits groups_held.entries) _ (and_second groups_held.fits _
-        (and_second (image_fits edge item) _ t)))
+        (and_second (image_fits edge item) _ t))
 
-    pub outer_refused : ¬ (IsTrue (outer_fits standing)) → ¬ (IsTrue node.fits)
-    outer_refused not t =
-        not (outer_fits_same
+    pub needs_outer : IsTrue node.fits → IsTrue (outer_fits standing)
+    needs_outer t =
+        outer_fits_same
         ∙ and_first (outer_fits groups_held.entries) _ (and_second groups_held.fits _
-        (and_second (image_fits edge item) _ t)))
+        (and_second (image_fits edge item) _ t))
 
     pub node_planned : {plan one two three : Plan} {inner entries more : List Entry}
         → IsTrue (image_fits edge item)

@@ -1,7 +1,7 @@
 -- A group's components with their expressions, one after another.
 use Rattle.std.specs.Prelude.{◌≡◌, ℕ, zero, suc, ◌+◌, ◌≤◌, List, [], ◌∷◌, ◌++◌, length, map, Some, None, slice_get, refl}
 use Rattle.std.proofs.Common.{ap, arith, sym, ◌∙◌, append_assoc, drop}
-use Rattle.std.proofs.lemmas.List.{drop_all}
+use Rattle.std.proofs.lemmas.List.{append-nil, drop_all}
 use Rattle.std.specs.List.{zip}
 use Rattle.aff_core.specs.Address.{Address}
 use Rattle.item_core.specs.declared.image.Expression.{Expression}
@@ -42,3 +42,16 @@ module _ (inner : List Entry) (vars : List Address) (exprs : List Expression)
       ∙ sym (ap (λ l. before ++ outer inner l (drop i exprs))
       (drop_all i vars (ends_by vars i none)))
       ∙ so_far
+
+pub all_outer : (inner : List Entry) (vars : List Address) (exprs : List Expression) (i : ℕ)
+    (made all : List Entry) → made ++ outer inner (drop i vars) (drop i exprs) ≡ all
+    → drop i exprs ≡ [] → made ≡ all
+all_outer inner vars exprs i made all so_far none =
+    sym (append-nil made)
+    ∙ sym (ap (λ l. made ++ l) (no_pairs (drop i vars))
+    ∙ refl)
+    ∙ sym (ap (λ l. made ++ outer inner (drop i vars) l) none) ∙ so_far
+  where
+    no_pairs : (vs : List Address) → outer inner vs [] ≡ []
+    no_pairs [] = refl
+    no_pairs (v ∷ vs) = refl

@@ -17,7 +17,7 @@ use crate::{Entry, Plan, Rewriter, Standing};
 use aff_core::{Address, AffFault};
 use bridge_face::KeptItem;
 use bridge_graph::Choice;
-use item_core::{Body, EDGES, Edge, Expression, Image, Item, Items, kind_of};
+use item_core::{Body, EDGES, Edge, EdgeEntry, Expression, Image, Item, Items, kind_of};
 use lists::Memory;
 use std::alloc::Global;
 
@@ -136,10 +136,16 @@ fn plan_in<R: Rewriter>(
 fn edge_of(edge: u8) -> Edge
     ensures { result ≡ edge_at edge }
 {
-    match EDGES.get(edge as usize) {
+    match entry_at(&EDGES, edge as usize) {
         Some(entry) => entry.edge,
         None => Edge::E1,
     }
+}
+
+fn entry_at(entries: &[EdgeEntry], n: usize) -> Option<EdgeEntry>
+    ensures { result ≡ slice_get entries.now n }
+{
+    entries.get(n).copied()
 }
 
 // Plans a native item: it is a leaf, and a group keeps its components.

@@ -1,5 +1,6 @@
 //! What stands for the variables of groups that were bridged.
-ghost use Rattle.std.specs.Prelude.{◌≡◌, IfOk, IsTrue, true, false, map, unwrap_or, MatchOption};
+ghost use Rattle.std.specs.Prelude.{◌≡◌, IfOk, OnOk, IsTrue, true, false, map, unwrap_or, MatchOption};
+ghost use Rattle.std.specs.FinMap as finite;
 ghost use Rattle.std.specs.List.{list_all};
 ghost use Rattle.std.specs.Option.{option_copied};
 ghost use Rattle.aff_core.specs.Arithmetic.{ExactWhere, composed};
@@ -56,10 +57,12 @@ impl Standing {
     pub fn of(alloc: Global, entries: Vec<Entry>) -> Result<Standing, Memory>
         ensures { IfOk result (λ s. expression_in s ≡ expression_in entries.items) }
     {
+        let expressions = by_component(alloc, entries)?;
+        let functions = Exprs::new(alloc);
         Ok(Standing {
             alloc,
-            expressions: by_component(alloc, entries)?,
-            functions: Exprs::new(alloc),
+            expressions,
+            functions,
         })
     }
 
@@ -275,10 +278,21 @@ fn by_component(alloc: Global, entries: Vec<Entry>) -> Result<ByAddress<Expressi
     let mut entries = entries;
     let mut expressions = ByAddress::new(alloc);
     while let Some(entry) = entries.pop() {
-        let Ok(before) = expressions.put(entry.component, entry.expression) else {
-            return Err(Memory);
-        };
-        drop(before);
+        put_entry(&mut expressions, entry)?;
     }
     Ok(expressions)
+}
+
+// Puts a component's expression in the place of any other of it.
+fn put_entry(expressions: &mut ByAddress<Expression>, entry: Entry) -> Result<(), Memory>
+    ensures { OnOk result (expressions.new
+        ≡ finite.insert expressions.old entry.component entry.expression) }
+{
+    match expressions.put(entry.component, entry.expression) {
+        Ok(before) => {
+            drop(before);
+            Ok(())
+        }
+        Err(_) => Err(Memory),
+    }
 }
