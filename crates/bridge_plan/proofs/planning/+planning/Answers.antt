@@ -5,11 +5,14 @@ use Rattle.bridge_graph.specs.declared.Choice.TheVariants.{By, Missing, Native}
 use Rattle.item_core.specs.Kind.{kind_number}
 use Rattle.item_core.specs.KindOf.{kind_of_body}
 use Rattle.fresh_bridging.specs.Entries.{put_in, put_in_fits}
-use Rattle.bridge_plan.specs.Adds.{Adds}
+use Rattle.bridge_face.specs.declared.kept_item.KeptItem.{KeptItem}
+use Rattle.bridge_plan.specs.Adds.{Adds, kept_of}
+use Rattle.bridge_plan.specs.declared.plan.Plan.{Plan}
 use Rattle.bridge_plan.specs.Worked.{IsWithin, worked, worked_in}
 use Rattle.bridge_plan.proofs.InTurn.{EachSoFar, InSoFar, each_end, each_needs, each_start, each_step, in_end, in_needs_made, in_needs_put, in_start, in_step, nothing_left}
 use Rattle.bridge_plan.proofs.ItemCases.{planned_by, planned_natively}
 use Rattle.bridge_plan.proofs.Left.{passed_on}
+use Rattle.bridge_plan.proofs.NodeSteps.{needs_further, node_answered, node_read, others_ready, pushed_node, stands_alike}
 use Rattle.bridge_plan.proofs.Opened.{never_missing, opened, some_level}
 use Rattle.bridge_plan.proofs.planning.+planning.Goals as goal
 
@@ -141,10 +144,51 @@ plan_item-returns-in-By-clause-answer g t c =
     planned_by choice c.args.levels item c.requires c.args.plan.now c.plan_node.new.plan c.args.entries.now.items c.plan_node.new.entries.items c.in-By.edge by c.plan_node.result c.plan_node.ensures.answer
 
 pub plan_node-plan_in-requires : goal.plan_node-plan_in-requires
-plan_node-plan_in-requires g t c = ?
+plan_node-plan_in-requires g t c =
+    let first = g.R.Rewriter.means c.args.rewriter.now in
+    let n = c.args.levels - 1 in
+    let image = c.in_ok-image.image in
+    let is = c.in_ok-image.ensures.answer.1 in
+    let one_same = c.image.ensures.means in
+    let two_same = c.plan_each.ensures.means ∙ one_same in
+    let one : Plan = record { leaves = c.args.plan.now.leaves; nodes = c.push.new.self } in
+    let alike = stands_alike first n c.args.edge c.args.item image is (g.R.Rewriter.means c.image.new.self) one_same one c.plan_each.new.plan c.new-inner.result.items c.plan_each.new.entries.items c.in_ok-standing.standing c.new-inner.ensures.items c.in_ok-plan_each.ensures.answer c.in_ok-standing.ensures in
+    let within = others_ready first n c.args.edge c.args.item (g.R.Rewriter.means c.plan_each.new.rewriter) two_same image is c.in_ok-others.others.items c.in_ok-others.ensures c.in_ok-standing.standing c.requires.splits alike in
+    λ κs h. (omega (arith, c.decreases, c.requires.some), (h, within))
 
 pub plan_node-returns-in_err-plan_in-clause-answer : goal.plan_node-returns-in_err-plan_in-clause-answer
-plan_node-returns-in_err-plan_in-clause-answer g t c = ?
+plan_node-returns-in_err-plan_in-clause-answer g t c =
+    let first = g.R.Rewriter.means c.args.rewriter.now in
+    let n = c.args.levels - 1 in
+    let image = c.in_ok-image.image in
+    let is = c.in_ok-image.ensures.answer.1 in
+    let one_same = c.image.ensures.means in
+    let two_means = g.R.Rewriter.means c.plan_each.new.rewriter in
+    let two_same = c.plan_each.ensures.means ∙ one_same in
+    let one : Plan = record { leaves = c.args.plan.now.leaves; nodes = c.push.new.self } in
+    passed_on c.from_residual-in_err-plan_in.result c.in_err-plan_in.field-0.0 (IsTrue (worked_in two_means.choice (worked two_means.choice n) c.in_ok-standing.standing c.in_ok-others.others.items).fits) _ _ _ c.from_residual-in_err-plan_in.ensures.1 c.in_err-plan_in.ensures.answer
+    (needs_further first n c.args.edge c.args.item image is (g.R.Rewriter.means c.image.new.self) one_same one c.plan_each.new.plan c.new-inner.result.items c.plan_each.new.entries.items c.in_ok-standing.standing c.new-inner.ensures.items c.in_ok-plan_each.ensures.answer c.in_ok-standing.ensures two_means two_same c.in_ok-others.others.items c.in_ok-others.ensures)
 
 pub plan_node-returns-clause-answer : goal.plan_node-returns-clause-answer
-plan_node-returns-clause-answer g t c = ?
+plan_node-returns-clause-answer g t c =
+    let first = g.R.Rewriter.means c.args.rewriter.now in
+    let n = c.args.levels - 1 in
+    let edge = c.args.edge in
+    let item = c.args.item in
+    let plan = c.args.plan.now in
+    let image = c.in_ok-image.image in
+    let is = c.in_ok-image.ensures.answer.1 in
+    let one_means = g.R.Rewriter.means c.image.new.self in
+    let one_same = c.image.ensures.means in
+    let two_means = g.R.Rewriter.means c.plan_each.new.rewriter in
+    let two_same = c.plan_each.ensures.means ∙ one_same in
+    let one : Plan = record { leaves = plan.leaves; nodes = c.push.new.self } in
+    let two = c.plan_each.new.plan in
+    let three = c.plan_in.new.plan in
+    let groups = c.in_ok-plan_each.ensures.answer in
+    let further = c.in_ok-plan_in.ensures.answer in
+    let pushed = pushed_node plan.nodes.items c.push.new.self.items c.edge_of.result edge item c.in_ok-push.ensures.items c.edge_of.ensures in
+    let read = node_read plan.nodes.items one.nodes.items two.nodes.items three.nodes.items (kept_of (edge, item)) c.index.result.now _ _ c.len-place.result pushed groups.1.nodes further.1.nodes (c.len-place.ensures ∙ plan.nodes.ok.0) c.index.ensures in
+    node_answered first n edge item image is one_means one_same one two c.new-inner.result.items c.plan_each.new.entries.items c.in_ok-standing.standing c.new-inner.ensures.items groups c.in_ok-standing.ensures two_means two_same c.in_ok-others.others.items c.in_ok-others.ensures
+    plan three c.args.entries.now.items c.outer_entries.new.entries.items c.in_ok-image.ensures.answer.0 (λ i. plan.leaves.items) pushed further
+    c.outer_entries.result c.plan_in.new.standing c.index.result.now.item.body c.plan_in.ensures.same (ap (λ (k : KeptItem). k.item.body) read) c.outer_entries.ensures.answer
