@@ -149,13 +149,13 @@ module _ (first : Means) (n edge : ℕ) (item : Item) (image : Image)
       by_answer (Err Memory) h = tt
 
       pub node_answered : {T : Type 0} (answer : Result T AffFault) (after : List Entry)
-          (body : Body) → after ≡ standing → body ≡ item.body
-          → Said answer after body image.exprs
+          (body : Body) (exprs : List Expression) → after ≡ standing → body ≡ item.body
+          → exprs ≡ image.exprs → Said answer after body exprs
           → ExactWhere answer
           (IsTrue (node first.choice (worked first.choice n) edge item).fits)
           (λ _. Adds plan three es fs (node first.choice (worked first.choice n) edge item))
-      node_answered answer after body kept body_is said =
+      node_answered answer after body exprs kept body_is exprs_are said =
           by_answer answer
           (subst (λ s. Said answer s item.body (image_of (edge_at edge) item).exprs) kept
           (subst (λ b. Said answer after b (image_of (edge_at edge) item).exprs) body_is
-          (subst (λ (i : Image). Said answer after body i.exprs) is said)))
+          (subst (Said answer after body) (exprs_are ∙ ap (λ (i : Image). i.exprs) is) said)))

@@ -10,15 +10,17 @@ use lists::Memory;
 // The boxes, and the choices by a table and their families.
 #[derive(Drop)]
 pub(crate) struct Boxes<B: Bridge> {
+    table: Table,
     bridges: Vec<B>,
     graph: Graph<KIND_COUNT, EDGE_COUNT>,
     choices: [Choice; KIND_COUNT],
 }
 
 impl<B: Bridge> Boxes<B> {
-    pub(crate) fn new(table: &Table, bridges: Vec<B>) -> Boxes<B> {
-        let graph = graph_of(table, &bridges);
+    pub(crate) fn new(table: Table, bridges: Vec<B>) -> Boxes<B> {
+        let graph = graph_of(&table, &bridges);
         Boxes {
+            table,
             choices: choices_of(&graph),
             graph,
             bridges,
@@ -26,9 +28,14 @@ impl<B: Bridge> Boxes<B> {
     }
 
     // Chooses by another table.
-    pub(crate) fn choose(&mut self, table: &Table) {
-        self.graph = graph_of(table, &self.bridges);
+    pub(crate) fn choose(&mut self, table: Table) {
+        self.graph = graph_of(&table, &self.bridges);
         self.choices = choices_of(&self.graph);
+        self.table = table;
+    }
+
+    pub(crate) fn table(&self) -> &Table {
+        &self.table
     }
 
     pub(crate) fn cost(&self, kind: Kind) -> Option<u128> {
@@ -62,6 +69,18 @@ impl<B: Bridge> Boxes<B> {
 }
 
 impl<B: Bridge> Rewriter for Boxes<B> {
+    ghost use Rattle.std.specs.Prelude.{map, slice_index_or};
+    ghost use Rattle.bridge_graph.specs.declared.Choice.TheVariants.{Missing};
+
+    ghost means = { λ b. record {
+      setting = record {
+        table = b.table;
+        families = map (λ x. (B.state x).family) b.bridges.items;
+      };
+      choice = λ kind. slice_index_or b.choices kind Missing;
+      kept = map (λ x. ((B.state x).family, (B.state x).kept)) b.bridges.items;
+    } };
+
     fn choice(&self, kind: Kind) -> Choice {
         self.choices[kind as usize]
     }

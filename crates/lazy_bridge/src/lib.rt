@@ -4,7 +4,6 @@
 
 mod boxes;
 mod change;
-mod changed;
 mod fault;
 mod kinds;
 mod lazy;

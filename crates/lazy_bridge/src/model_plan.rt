@@ -80,7 +80,7 @@ fn plan_objective<R: Rewriter>(
     let at = Address::root(Root::Objective, 0);
     let body = match objective {
         Objective::Feasibility => return Ok(()),
-        Objective::Plain { sense, var } => standing.plain_objective_body(*sense, var),
+        Objective::Plain { sense, var } => standing.plain_objective(*sense, var).map_err(AffFault::from),
         Objective::Affine { sense, func } => standing.objective_body(*sense, func),
     };
     plan_body(alloc, rewriter, plan, at, body)

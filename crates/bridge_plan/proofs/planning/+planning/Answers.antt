@@ -191,4 +191,4 @@ plan_node-returns-clause-answer g t c =
     let read = node_read plan.nodes.items one.nodes.items two.nodes.items three.nodes.items (kept_of (edge, item)) c.index.result.now _ _ c.len-place.result pushed groups.1.nodes further.1.nodes (c.len-place.ensures ∙ plan.nodes.ok.0) c.index.ensures in
     node_answered first n edge item image is one_means one_same one two c.new-inner.result.items c.plan_each.new.entries.items c.in_ok-standing.standing c.new-inner.ensures.items groups c.in_ok-standing.ensures two_means two_same c.in_ok-others.others.items c.in_ok-others.ensures
     plan three c.args.entries.now.items c.outer_entries.new.entries.items c.in_ok-image.ensures.answer.0 (λ i. plan.leaves.items) pushed further
-    c.outer_entries.result c.plan_in.new.standing c.index.result.now.item.body c.plan_in.ensures.same (ap (λ (k : KeptItem). k.item.body) read) c.outer_entries.ensures.answer
+    c.outer_entries.result c.plan_in.new.standing c.index.result.now.item.body c.as_slice.result.now c.plan_in.ensures.same (ap (λ (k : KeptItem). k.item.body) read) c.as_slice.ensures c.outer_entries.ensures.answer

@@ -1,0 +1,5 @@
+//! Tests of the lazy bridging.
+#![tactic(auto)]
+
+#[cfg(test)]
+mod fills;
