@@ -1,1 +1,3 @@
 pub mod Lazy
+pub mod Levels
+pub mod ModelHeld
