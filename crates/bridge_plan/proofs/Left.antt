@@ -1,0 +1,74 @@
+-- Loops by what is left of their items.
+use Rattle.std.specs.Prelude.{◌≡◌, ℕ, ◌+◌, ◌<◌, Bool, true, false, ◌&&◌, List, [], ◌∷◌, ◌++◌, length, map, Result, Ok, Err, IsErrAnd, refl}
+use Rattle.std.proofs.Common.{ap, sym, subst, ◌∙◌, append_assoc, drop, take, get_or}
+use Rattle.std.specs.List.{list_all}
+use Rattle.std.proofs.lemmas.List.{append-nil, drop_more, take_more}
+use Rattle.aff_core.specs.Arithmetic.{ExactWhere}
+use Rattle.aff_core.specs.declared.fault.AffFault.{AffFault}
+use Rattle.aff_core.specs.declared.fault.AffFault.TheVariants.{Memory, Overflow}
+
+-- what is left begins with the item that is read
+pub next_item : {X : Type 0} (all items : List X) (i : ℕ) (x : X) → items ≡ all
+    → x ≡ get_or items i x → i < length items → drop i all ≡ x ∷ drop (i + 1) all
+next_item all items i x e is lt =
+    drop_more all i x (subst (λ l. i < length l) e lt)
+    ∙ ap (λ y. y ∷ drop (i + 1) all) (ap (λ l. get_or l i x) (sym e) ∙ sym is)
+
+-- and is the last of those that were taken
+pub taken_item : {X : Type 0} (xs : List X) (i : ℕ) (x : X) → x ≡ get_or xs i x → i < length xs
+    → take (i + 1) xs ≡ take i xs ++ x ∷ []
+taken_item xs i x is lt =
+    take_more xs i x lt ∙ ap (λ y. take i xs ++ y ∷ []) (sym is)
+
+-- ---- a list that is made item by item
+
+pub pushed_next : {X Y : Type 0} (f : X → Y) (before after all : List Y) (left rest : List X) (x : X)
+    → before ++ map f left ≡ all → left ≡ x ∷ rest → after ≡ before ++ f x ∷ []
+    → after ++ map f rest ≡ all
+pushed_next f before after all left rest x so_far next is =
+    ap (λ l. l ++ map f rest) is ∙ append_assoc before (f x ∷ []) (map f rest)
+    ∙ sym (ap (λ l. before ++ map f l) next) ∙ so_far
+
+pub pushed_all : {X Y : Type 0} (f : X → Y) (made all : List Y) (left : List X)
+    → made ++ map f left ≡ all → left ≡ [] → made ≡ all
+pushed_all f made all left so_far none =
+    sym (append-nil made) ∙ sym (ap (λ l. made ++ map f l) none) ∙ so_far
+
+-- ---- a test of each item
+
+module _ {X : Type 0} (p : X → Bool) (all : Bool) (left rest : List X) (x : X)
+    (so_far : list_all p left ≡ all) (next : left ≡ x ∷ rest) where
+  pub passed_next : p x ≡ true → list_all p rest ≡ all
+  passed_next t =
+      sym (ap (λ b. b && list_all p rest) t) ∙ sym (ap (list_all p) next) ∙ so_far
+
+  pub failed_next : p x ≡ false → all ≡ false
+  failed_next t =
+      sym so_far ∙ ap (list_all p) next ∙ ap (λ b. b && list_all p rest) t
+
+  -- all pass only where this one does
+  pub needs_next : all ≡ true → p x ≡ true
+  needs_next t = both (p x) (list_all p rest) (sym (ap (list_all p) next) ∙ so_far ∙ t)
+    where
+      both : (a b : Bool) → (a && b) ≡ true → a ≡ true
+      both true b e = refl
+      both false b e = e
+
+pub passed_all : {X : Type 0} (p : X → Bool) (all : Bool) (left : List X)
+    → list_all p left ≡ all → left ≡ [] → all ≡ true
+passed_all p all left so_far none = sym so_far ∙ ap (list_all p) none
+
+-- ---- a fault that is handed on
+
+by_fault : (fault : AffFault) (P S : Type 0) {T U : Type 0} (A : T → Type 0) (B : U → Type 0)
+    → ExactWhere {T = U} (Err fault) P B → (S → P) → ExactWhere {T = T} (Err fault) S A
+by_fault Overflow P S A B said needs = λ s. said (needs s)
+by_fault Memory P S A B said needs = tt
+
+-- the fault of a step is that of the whole, which needs the step to fit
+pub passed_on : {T U : Type 0} (r : Result T AffFault) (fault : AffFault) (P S : Type 0)
+    (A : T → Type 0) (B : U → Type 0) → IsErrAnd r (λ x. x ≡ fault)
+    → ExactWhere {T = U} (Err fault) P B → (S → P) → ExactWhere r S A
+passed_on (Ok x) fault P S A B is said needs = absurd is
+passed_on (Err x) fault P S A B is said needs =
+    subst (λ y. ExactWhere (Err y) S A) (sym is) (by_fault fault P S A B said needs)

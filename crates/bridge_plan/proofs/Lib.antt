@@ -1,0 +1,14 @@
+mod Found
+mod Left
+mod Covers
+mod KeptLists
+mod Agreeing
+mod Alike
+mod Opened
+mod SoFar
+mod InTurn
+mod ItemCases
+mod Nodes
+mod Outer
+mod NodeSteps
+mod Places

@@ -1,0 +1,16 @@
+//! How an item is bridged: along the chosen edges down to what the solver supports, with the
+//! expressions of its components.
+#![tactic(auto)]
+
+mod entry;
+mod functions;
+mod plan;
+mod planning;
+mod rewriter;
+mod standing;
+
+pub use entry::Entry;
+pub use plan::Plan;
+pub use planning::plan_item;
+pub use rewriter::Rewriter;
+pub use standing::Standing;
