@@ -1,0 +1,4 @@
+mod Components
+mod Each
+mod Linear
+mod Said
