@@ -1,4 +1,5 @@
+mod Apart
 mod Components
 mod Each
+mod Keywords
 mod Linear
-mod Said

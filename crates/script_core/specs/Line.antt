@@ -17,7 +17,7 @@ use Rattle.script_core.specs.Reading.{◌>>=◌, Tokens, says, alone}
 use Rattle.script_core.specs.Rows.{bound_form, row_form, vector_bound_form, vector_row_form, objective_form, objective_variable_form}
 use Rattle.script_core.specs.Solver.{optimize_form, load_form}
 use Rattle.script_core.specs.Tables.{target_form, support_form, cost_form, switch_form}
-use Rattle.script_core.specs.Variables.{variable_form, variables_form}
+use Rattle.script_core.specs.Variables.{variable_form, group_form}
 use Rattle.script_words.specs.Tokens.{is_line_byte, tokens_of}
 
 -- a word alone
@@ -27,7 +27,7 @@ word_alone command tokens = alone (reading.Says command) tokens
 -- the form that a keyword names, of the tokens that follow it
 unfoldable pub form_of : Keyword → Tokens → Option Reading
 form_of word.Var tokens = variable_form tokens
-form_of word.Vars tokens = variables_form tokens
+form_of word.Vars tokens = group_form tokens
 form_of word.Bound tokens = bound_form tokens
 form_of word.Row tokens = row_form tokens
 form_of word.Vbound tokens = vector_bound_form tokens

@@ -24,9 +24,9 @@ variable_form (variable ∷ tokens) = do
 variable_form [] = None
 
 -- vars SET NAMES
-unfoldable pub variables_form : Tokens → Option Reading
-variables_form (word ∷ variables) = do
+unfoldable pub group_form : Tokens → Option Reading
+group_form (word ∷ variables) = do
   names ← names_of variables
   set ← vector_set_of word (length names)
   makes (AddGroup names set)
-variables_form [] = None
+group_form [] = None

@@ -22,12 +22,15 @@ struct Sum {
 }
 
 /// The function of each component, or none where a sum doesn't fit.
-pub fn functions(alloc: Global, components: Sequence<Terms>) -> Result<Option<NamedVec>, Memory>
+pub fn sum_components(
+    alloc: Global,
+    components: Sequence<Terms>,
+) -> Result<Option<NamedVec>, Memory>
     ensures { IfOk result (λ functions. functions ≡ functions_of components) }
 {
     let mut functions = Vec::new(alloc);
     for terms in components.into_vec() {
-        let Some(function) = function(alloc, terms)? else {
+        let Some(function) = sum_terms(alloc, terms)? else {
             return Ok(None);
         };
         functions.push(function)?;
@@ -36,7 +39,7 @@ pub fn functions(alloc: Global, components: Sequence<Terms>) -> Result<Option<Na
 }
 
 /// The sum of the terms from the left, or none where a sum doesn't fit.
-pub fn function(alloc: Global, terms: Terms) -> Result<Option<NamedAff>, Memory>
+pub fn sum_terms(alloc: Global, terms: Terms) -> Result<Option<NamedAff>, Memory>
     ensures { IfOk result (λ function. function ≡ function_of terms) }
 {
     let mut sum = Sum::new(alloc);
@@ -85,7 +88,7 @@ impl Sum {
 fn add_constant(constant: &mut Ratio, value: &Ratio) -> bool
     ensures { sum_of constant.old value.now ≡ (if result then Some constant.new else None) }
 {
-    match sum(constant, value) {
+    match added(constant, value) {
         Some(sum) => {
             *constant = sum;
             true
@@ -113,11 +116,11 @@ fn coefficient_with(coefficients: &IndexMap<Name, Ratio>, term: &NamedTerm) -> O
 {
     match coefficients.get(&term.variable) {
         None => Some(term.coefficient),
-        Some(coefficient) => sum(coefficient, &term.coefficient),
+        Some(coefficient) => added(coefficient, &term.coefficient),
     }
 }
 
-fn sum(first: &Ratio, second: &Ratio) -> Option<Ratio>
+fn added(first: &Ratio, second: &Ratio) -> Option<Ratio>
     ensures { result ≡ sum_of first.now second.now }
 {
     first.add(second).ok()

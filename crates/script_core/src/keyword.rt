@@ -1,5 +1,6 @@
 //! The first words of lines.
 ghost use Rattle.std.specs.Prelude.{◌≡◌, Some};
+ghost use Rattle.script_core.specs.declared.keyword.Keyword.{Keyword};
 ghost use Rattle.script_core.specs.Keyword.{keyword_of, keyword_text};
 
 use script_words::is;
@@ -61,10 +62,8 @@ pub const KEYWORDS: [Keyword; 38] = keywords! {
 };
 
 impl Keyword {
-    /// The word, which reads back.
     pub fn text(self) -> &'static str
-        ensures value { result.now ≡ keyword_text self }
-        ensures reads_back { keyword_of (keyword_text self) ≡ Some self }
+        ensures { result.now ≡ keyword_text self }
     {
         match self {
             Keyword::Var => "var",
@@ -108,9 +107,12 @@ impl Keyword {
         }
     }
 
-    /// The keyword that a token is.
+    /// The keyword that a token is. Each keyword is read.
+    #[tactic(auto, unfolding(crate::specs::Keyword::keyword_of))]
     pub fn read(token: &[u8]) -> Option<Keyword>
-        ensures { result ≡ keyword_of token.now }
+        ensures value { result ≡ keyword_of token.now }
+        ensures reads_back { (keyword : Keyword)
+            → keyword_of (keyword_text keyword) ≡ Some keyword }
     {
         KEYWORDS
             .iter()

@@ -12,6 +12,7 @@ use user_model::{Edit, Sense};
 
 /// What a line without its end says. It is `BadLine` exactly where the line isn't in the grammar,
 /// and `Overflow` exactly where it is and a sum of its terms, from the left, doesn't fit.
+#[tactic(auto, unfolding(crate::specs::Line::line_said))]
 pub fn parse_line(alloc: Global, line: &[u8]) -> Result<Command, LineFault>
     ensures { Answers (line_said line.now) result }
 {
@@ -23,6 +24,7 @@ pub fn parse_line(alloc: Global, line: &[u8]) -> Result<Command, LineFault>
 }
 
 // What the line is read as, if it is in the grammar.
+#[tactic(auto, unfolding(crate::specs::Line::reading_of))]
 fn reading(alloc: Global, line: &[u8]) -> Result<Option<Reading>, Memory>
     ensures { IfOk result (λ reading. reading ≡ reading_of line.now) }
 {
@@ -63,7 +65,7 @@ fn form(alloc: Global, keyword: Keyword, tokens: Tokens<'_>) -> Result<Option<Re
 {
     match keyword {
         Keyword::Var => variables::variable(alloc, tokens),
-        Keyword::Vars => variables::variables(alloc, tokens),
+        Keyword::Vars => variables::group(alloc, tokens),
         Keyword::Bound => rows::bound(alloc, tokens),
         Keyword::Row => rows::row(alloc, tokens),
         Keyword::Vbound => rows::vector_bound(alloc, tokens),

@@ -2,7 +2,7 @@
 ghost use Rattle.std.specs.Prelude.{◌≡◌, IfOk};
 ghost use Rattle.script_core.specs.Rows.{bound_form, objective_form, objective_variable_form, row_form, vector_bound_form, vector_row_form};
 
-use crate::function::{function, functions};
+use crate::function::{sum_components, sum_terms};
 use crate::names::{last_name, read_names};
 use crate::reading::{Reading, makes};
 use crate::sets::{dimension, last_relation, relation, vector_set};
@@ -52,7 +52,7 @@ pub fn row(alloc: Global, mut tokens: Tokens<'_>) -> Result<Option<Reading>, Mem
     let Some(terms) = function_terms(alloc, tokens)? else {
         return Ok(None);
     };
-    let Some(function) = function(alloc, terms)? else {
+    let Some(function) = sum_terms(alloc, terms)? else {
         return Ok(Some(Reading::Overflow));
     };
     let func = NamedFunc::Affine(function);
@@ -97,7 +97,7 @@ pub fn vector_row(alloc: Global, mut tokens: Tokens<'_>) -> Result<Option<Readin
     let Some(set) = vector_set(word, dimension(components.len())?) else {
         return Ok(None);
     };
-    let Some(functions) = functions(alloc, components)? else {
+    let Some(functions) = sum_components(alloc, components)? else {
         return Ok(Some(Reading::Overflow));
     };
     let func = NamedFunc::AffineVec(functions);
@@ -112,7 +112,7 @@ pub fn objective(alloc: Global, sense: Sense, tokens: Tokens<'_>) -> Result<Opti
     let Some(terms) = read_terms(alloc, tokens)? else {
         return Ok(None);
     };
-    let Some(function) = function(alloc, terms)? else {
+    let Some(function) = sum_terms(alloc, terms)? else {
         return Ok(Some(Reading::Overflow));
     };
     let func = NamedFunc::Affine(function);

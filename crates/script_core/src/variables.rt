@@ -1,6 +1,6 @@
 //! Lines that create variables.
 ghost use Rattle.std.specs.Prelude.{◌≡◌, ◌∷◌, [], IfOk};
-ghost use Rattle.script_core.specs.Variables.{creation_set_of, variable_form, variables_form};
+ghost use Rattle.script_core.specs.Variables.{creation_set_of, variable_form, group_form};
 
 use crate::names::{one_name, read_names};
 use crate::reading::{Reading, alone, makes};
@@ -31,9 +31,9 @@ pub fn variable(alloc: Global, mut tokens: Tokens<'_>) -> Result<Option<Reading>
 }
 
 /// `vars SET NAMES`
-#[tactic(auto, unfolding(crate::specs::Variables::variables_form))]
-pub fn variables(alloc: Global, mut tokens: Tokens<'_>) -> Result<Option<Reading>, Memory>
-    ensures { IfOk result (λ reading. reading ≡ variables_form tokens.entry) }
+#[tactic(auto, unfolding(crate::specs::Variables::group_form))]
+pub fn group(alloc: Global, mut tokens: Tokens<'_>) -> Result<Option<Reading>, Memory>
+    ensures { IfOk result (λ reading. reading ≡ group_form tokens.entry) }
 {
     let Some(word) = tokens.next() else {
         return Ok(None);

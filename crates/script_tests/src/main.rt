@@ -1,13 +1,20 @@
-// Reads lines of a script, and prints what each says.
+// Reads lines of a script, and prints what each says. The line `texts` prints texts of answers.
 #![tactic(auto)]
 
-use script_core::parse_line;
-use std::io;
+mod texts;
 
-fn main(rt: HostRuntime) -> io::Result<()> {
+use anyhow::Result;
+use script_core::parse_line;
+
+fn main(rt: HostRuntime) -> Result<()> {
     for line in rt.lines(rt.alloc()) {
         let line = line?;
-        println!(rt; "{:?}", parse_line(rt.alloc(), line.as_bytes()))?;
+        if line.as_str() == "texts" {
+            texts::print(&rt)?;
+        } else {
+            let said = parse_line(rt.alloc(), line.as_bytes());
+            println!(rt; "[{line}]\n    {said:?}")?;
+        }
     }
     Ok(())
 }

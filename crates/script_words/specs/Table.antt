@@ -1,13 +1,13 @@
 -- The words of lines on tables: targets, native kinds, and edges by number.
-use Rattle.std.specs.Prelude.{ℕ, zero, suc, ◌&&◌, List, Option, Some, None, bytes_eq, codes, map, slice_get, if◌then◌else◌}
-use Rattle.std.specs.List.{find}
+use Rattle.std.specs.Prelude.{ℕ, ◌-◌, ◌==◌, Bool, ◌&&◌, List, Option, Some, None, bytes_eq, codes, slice_get, option_map, if◌then◌else◌}
+use Rattle.std.specs.List.{find, before_first, after_first}
 use Rattle.item_core.specs.declared.edge.Edge.{Edge}
 use Rattle.item_core.specs.declared.edge.TheConstants.{EDGES}
 use Rattle.item_core.specs.declared.kind.Kind.{Kind}
 use Rattle.item_core.specs.declared.kind.TheConstants.{KINDS}
 use Rattle.item_core.specs.declared.table.Target.{Target}
 use Rattle.item_core.specs.declared.table.Target.TheVariants.{Standard, Rows, Cone, All, Less}
-use Rattle.item_core.specs.Kind.{is_native, name_of}
+use Rattle.item_core.specs.Kind.{first_of, first_text, is_native, second_of, second_text}
 
 unfoldable pub target_of : List ℕ → Option Target
 target_of token =
@@ -18,11 +18,20 @@ target_of token =
     else (if bytes_eq token (codes "less") then Some Less
     else None))))
 
--- the native kind with a name
+-- a native kind, by the two words of its name
+abbrev pub is_native_named : List ℕ → List ℕ → Kind → Bool
+is_native_named first second kind =
+    is_native kind && bytes_eq first (first_text (first_of kind))
+    && bytes_eq second (second_text (second_of kind))
+
+-- the native kind with a name, as `affine:LessThan`
 unfoldable pub native_kind_of : List ℕ → Option Kind
-native_kind_of token = find (λ kind. is_native kind && bytes_eq token (name_of kind)) KINDS.kinds
+native_kind_of token =
+    find
+    (is_native_named (before_first (λ b. b == 58) token) (after_first (λ b. b == 58) token))
+    KINDS.kinds
 
 -- the edge with a number, counted from 1
 unfoldable pub edge_numbered : ℕ → Option Edge
-edge_numbered zero = None
-edge_numbered (suc place) = slice_get (map (λ row. row.edge) EDGES) place
+edge_numbered number =
+    if number == 0 then None else option_map (λ row. row.edge) (slice_get EDGES (number - 1))

@@ -1,5 +1,6 @@
 //! The names of the families of bridges.
 ghost use Rattle.std.specs.Prelude.{◌≡◌, Some};
+ghost use Rattle.item_core.specs.declared.family.Family.{Family};
 ghost use Rattle.script_words.specs.Family.{family_of, family_text};
 
 use crate::is;
@@ -18,10 +19,9 @@ pub const FAMILIES: [Family; FAMILY_COUNT] = families! {
     VectorSlack Later ObjSlack NormInfinity NormOne
 };
 
-/// The name of a family, which reads back.
+/// The name of a family.
 pub fn family_text(family: Family) -> &'static str
-    ensures value { result.now ≡ family_text family }
-    ensures reads_back { family_of (family_text family) ≡ Some family }
+    ensures { result.now ≡ family_text family }
 {
     match family {
         Family::GreaterLess => "GreaterLess",
@@ -47,9 +47,11 @@ pub fn family_text(family: Family) -> &'static str
     }
 }
 
-/// The family with this name.
+/// The family with this name. The name of each family is read.
+#[tactic(auto, unfolding(crate::specs::Family::family_of))]
 pub fn read_family(token: &[u8]) -> Option<Family>
-    ensures { result ≡ family_of token.now }
+    ensures value { result ≡ family_of token.now }
+    ensures reads_back { (family : Family) → family_of (family_text family) ≡ Some family }
 {
     FAMILIES
         .iter()

@@ -1,8 +1,9 @@
 //! Whole numbers of a script.
-ghost use Rattle.std.specs.Prelude.{◌≡◌};
-ghost use Rattle.std.specs.List.{list_all};
+ghost use Rattle.std.specs.Prelude.{◌≡◌, true};
 ghost use Rattle.std.specs.Char.{is_ascii_digit};
-ghost use Rattle.script_words.specs.Number.{number_of};
+ghost use Rattle.std.specs.List.{list_all};
+ghost use Rattle.std.specs.Str.Parse.{digits_value};
+ghost use Rattle.script_words.specs.Number.{in_32_bits, is_numeral, number_of};
 
 use std::str;
 
@@ -14,14 +15,32 @@ const MOST_DIGITS: usize = 10;
 pub fn read_number(token: &[u8]) -> Option<u32>
     ensures { result ≡ number_of token.now }
 {
-    if token.is_empty() || token.len() > MOST_DIGITS || !are_digits(token) {
-        return None;
+    if is_numeral(token) {
+        value(token)
+    } else {
+        None
     }
-    str::from_utf8(token).ok()?.parse().ok()
+}
+
+fn is_numeral(token: &[u8]) -> bool
+    ensures { result ≡ is_numeral token.now }
+{
+    !token.is_empty() && token.len() <= MOST_DIGITS && are_digits(token)
 }
 
 fn are_digits(token: &[u8]) -> bool
     ensures { result ≡ list_all is_ascii_digit token.now }
 {
     token.iter().all(|b| b.is_ascii_digit())
+}
+
+// The number that a numeral writes, if 32 bits hold it.
+fn value(numeral: &[u8]) -> Option<u32>
+    requires { is_numeral numeral.now ≡ true }
+    ensures { result ≡ in_32_bits (digits_value 10 numeral.now) }
+{
+    match str::from_utf8(numeral) {
+        Ok(text) => text.parse().ok(),
+        Err(_) => None,
+    }
 }

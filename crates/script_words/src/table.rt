@@ -1,10 +1,11 @@
 //! The words of lines on tables: targets, native kinds, and edges by number.
-ghost use Rattle.std.specs.Prelude.{◌≡◌, bytes_eq, codes};
-ghost use Rattle.item_core.specs.Kind.{name_of};
-ghost use Rattle.script_words.specs.Table.{edge_numbered, native_kind_of, target_of};
+ghost use Rattle.std.specs.Prelude.{◌≡◌, Some, IsTrue, option_map, slice_get};
+ghost use Rattle.item_core.specs.declared.kind.Kind.{Kind};
+ghost use Rattle.item_core.specs.Kind.{is_native, name_of};
+ghost use Rattle.script_words.specs.Table.{edge_numbered, is_native_named, native_kind_of, target_of};
 
-use crate::is;
-use item_core::{EDGES, Edge, KINDS, Kind, Target};
+use crate::{is, parted_at};
+use item_core::{EDGES, Edge, EdgeEntry, KINDS, Kind, Target};
 
 /// The target with this name.
 #[tactic(auto, unfolding(crate::specs::Table::target_of))]
@@ -26,33 +27,43 @@ pub fn read_target(token: &[u8]) -> Option<Target>
     }
 }
 
-/// The kind with this name, as `affine:LessThan`, where a solver may support it as it is.
+/// The kind with this name, as `affine:LessThan`, where a solver may support it as it is. The name
+/// of each such kind is read.
+#[tactic(auto, unfolding(crate::specs::Table::native_kind_of))]
 pub fn read_native_kind(token: &[u8]) -> Option<Kind>
-    ensures { result ≡ native_kind_of token.now }
+    ensures value { result ≡ native_kind_of token.now }
+    ensures reads_back { (kind : Kind)
+        → IsTrue (is_native kind) → native_kind_of (name_of kind) ≡ Some kind }
 {
+    let (first, second) = parted_at(token, b':');
     KINDS
         .kinds
         .iter()
         .copied()
-        .find(|kind| kind.is_native() && is_named(*kind, token))
+        .find(|kind| is_native_named(first, second, *kind))
 }
 
-// Whether the kind has this name.
-fn is_named(kind: Kind, name: &[u8]) -> bool
-    ensures { result ≡ bytes_eq name.now (name_of kind) }
+// Whether a native kind's name has these words.
+fn is_native_named(first: &[u8], second: &[u8], kind: Kind) -> bool
+    ensures { result ≡ is_native_named first.now second.now kind }
 {
-    let (first, second) = (kind.first().text(), kind.second().text());
-    match name.strip_prefix(first.as_bytes()) {
-        Some([]) => second.is_empty(),
-        Some([b':', rest @ ..]) => !second.is_empty() && is(rest, second),
-        _ => false,
-    }
+    kind.is_native() && is(first, kind.first().text()) && is(second, kind.second().text())
 }
 
 /// The edge with this number, counted from 1.
+#[tactic(auto, unfolding(crate::specs::Table::edge_numbered))]
 pub fn edge_numbered(number: u32) -> Option<Edge>
     ensures { result ≡ edge_numbered number }
 {
-    let place = number.checked_sub(1)?;
-    EDGES.get(place as usize).map(|row| row.edge)
+    if number == 0 {
+        return None;
+    }
+    edge_at(&EDGES, (number - 1) as usize)
+}
+
+fn edge_at(rows: &[EdgeEntry], place: usize) -> Option<Edge>
+    ensures { result ≡ option_map (λ row. row.edge) (slice_get rows.now place) }
+{
+    let row = rows.get(place)?;
+    Some(row.edge)
 }
