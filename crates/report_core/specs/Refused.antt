@@ -6,6 +6,8 @@ use Rattle.report_core.specs.declared.refused.Place.{Place}
 use Rattle.report_core.specs.declared.refused.Place.TheVariants as place
 use Rattle.report_core.specs.declared.refused.Refused.{Refused}
 use Rattle.report_core.specs.declared.refused.Refused.TheVariants.{BadLine, UnknownName, NameTaken, FunctionShape, BadDimension, OutputIndex, BadInterval, LowerBoundAlreadySet, UpperBoundAlreadySet, SetTypeMismatch, DeleteNotAllowed, Full, NotAttached, AlreadyAttached, TooLarge, Unsupported, Overflow, Limit, NotEmpty, File}
+use Rattle.user_model.specs.declared.refusal.Refusal.{Refusal}
+use Rattle.user_model.specs.declared.refusal.Refusal.TheVariants as edit
 use Rattle.report_core.specs.Words.{newline, spaced}
 
 -- the number and the name
@@ -30,6 +32,20 @@ heading (Overflow place) = (17, codes "Overflow")
 heading (Limit pivots) = (18, codes "Limit")
 heading NotEmpty = (19, codes "NotEmpty")
 heading (File number place) = (20, codes "File")
+
+-- why an edit of the user's model is refused
+abbrev pub refused_of : Refusal → Refused
+refused_of edit.UnknownName = UnknownName
+refused_of edit.NameTaken = NameTaken
+refused_of edit.FunctionShape = FunctionShape
+refused_of edit.BadDimension = BadDimension
+refused_of edit.OutputIndex = OutputIndex
+refused_of edit.BadInterval = BadInterval
+refused_of edit.LowerBoundAlreadySet = LowerBoundAlreadySet
+refused_of edit.UpperBoundAlreadySet = UpperBoundAlreadySet
+refused_of edit.SetTypeMismatch = SetTypeMismatch
+refused_of edit.DeleteNotAllowed = DeleteNotAllowed
+refused_of (edit.Full count limit) = Full count limit
 
 -- where a number doesn't fit
 abbrev pub place_text : Place → List ℕ

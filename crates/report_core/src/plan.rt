@@ -1,5 +1,6 @@
 //! How each kind is bridged.
-ghost use Rattle.std.specs.Prelude.{◌≡◌, [], ◌++◌, OnOk, IfOk, decimal};
+ghost use Rattle.std.specs.Prelude.{◌≡◌, ◌≤◌, [], ◌++◌, OnOk, IfOk, decimal, flat_map, length};
+ghost use Rattle.std.specs.List.{zip};
 ghost use Rattle.std.specs.Option.{option_map_or};
 ghost use Rattle.report_core.specs.Plan.{choice_text, family_at, kind_line, plan_text};
 
@@ -13,14 +14,30 @@ use std::alloc::Global;
 
 /// A line for each kind, with its choice and what that costs. Edges are counted from 0, and
 /// printed from 1.
+#[tactic(auto, unfolding(crate::specs::Plan::plan_text))]
 pub fn plan(alloc: Global, choices: &[(Choice, Option<u128>); KIND_COUNT]) -> Result<Text, Memory>
     ensures { IfOk result (λ text. text ≡ plan_text choices.now) }
 {
     let mut draft = Draft::new(alloc);
-    for (kind, (choice, cost)) in KINDS.kinds.iter().zip(choices) {
-        push_line(&mut draft, *kind, *choice, *cost)?;
-    }
+    push_lines(&mut draft, &KINDS.kinds, choices)?;
     Ok(draft.into_text())
+}
+
+// A line for each kind with its choice.
+fn push_lines(
+    draft: &mut Draft,
+    kinds: &[Kind],
+    choices: &[(Choice, Option<u128>)],
+) -> Result<(), Memory>
+    requires { length kinds.now ≤ length choices.now }
+    ensures { OnOk result (draft.new
+        ≡ draft.old ++ flat_map kind_line (zip kinds.now choices.now)) }
+{
+    for (place, kind) in kinds.iter().enumerate() {
+        let (choice, cost) = choices[place];
+        push_line(draft, *kind, choice, cost)?;
+    }
+    Ok(())
 }
 
 fn push_line(

@@ -4,6 +4,7 @@ ghost use Rattle.report_core.specs.Refused as texts;
 
 use item_core::Kind;
 use name_index::{Name, Text};
+use user_model::Refusal;
 
 /// Where a number doesn't fit.
 #[derive(Debug, Drop)]
@@ -62,6 +63,28 @@ pub enum Refused {
     NotEmpty,
     /// 20: the file has this fault, 1 to 8, at this place.
     File { number: u8, place: Text },
+}
+
+impl From<Refusal> for Refused {
+    ghost use Rattle.report_core.specs.Refused.{refused_of};
+
+    ghost from_gives = { λ refusal refused. refused ≡ refused_of refusal };
+
+    fn from(refusal: Refusal) -> Refused {
+        match refusal {
+            Refusal::UnknownName => Refused::UnknownName,
+            Refusal::NameTaken => Refused::NameTaken,
+            Refusal::FunctionShape => Refused::FunctionShape,
+            Refusal::BadDimension => Refused::BadDimension,
+            Refusal::OutputIndex => Refused::OutputIndex,
+            Refusal::BadInterval => Refused::BadInterval,
+            Refusal::LowerBoundAlreadySet => Refused::LowerBoundAlreadySet,
+            Refusal::UpperBoundAlreadySet => Refused::UpperBoundAlreadySet,
+            Refusal::SetTypeMismatch => Refused::SetTypeMismatch,
+            Refusal::DeleteNotAllowed => Refused::DeleteNotAllowed,
+            Refusal::Full { count, limit } => Refused::Full { count, limit },
+        }
+    }
 }
 
 impl Refused {

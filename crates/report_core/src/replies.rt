@@ -25,6 +25,7 @@ pub fn done(alloc: Global, count: Option<u64>) -> Result<Answer, Memory>
 }
 
 /// The refusal's number, name and fields.
+#[tactic(auto, unfolding(crate::specs::Refused::refusal_text))]
 pub fn refusal(alloc: Global, refused: &Refused) -> Result<Answer, Memory>
     requires { HasFault refused.now }
     ensures { IfOk result (λ answer. answer ≡ Answer.Refused (refusal_text refused.now)) }

@@ -1,3 +1,4 @@
+mod Adding
 mod Apart
 mod Components
 mod Each

@@ -7,6 +7,7 @@ use item_core::{EDGE_COUNT, EDGE_ROWS, KIND_COUNT, Kind, Table, Target};
 use lists::Sequence;
 use name_index::Name;
 use report_core::{Answer, Place, Refused, done, plan, refusal};
+use user_model::Refusal;
 
 /// Prints a text of each kind.
 pub fn print<R: Print + AllocGlobal>(rt: &R) -> Result<()> {
@@ -14,6 +15,7 @@ pub fn print<R: Print + AllocGlobal>(rt: &R) -> Result<()> {
     shown(rt, &done(rt.alloc(), Some(2002))?)?;
     plain(rt)?;
     counted(rt)?;
+    of_edits(rt)?;
     placed(rt)?;
     faults(rt)?;
     plans(rt)
@@ -69,6 +71,18 @@ fn counted<R: Print + AllocGlobal>(rt: &R) -> Result<()> {
     let kind = Kind::VaffineNormOneCone;
     refused(rt, &Refused::Unsupported { kind })?;
     refused(rt, &Refused::Limit { pivots: 0 })
+}
+
+// Why an edit is refused, as a refusal of its line.
+fn of_edits<R: Print + AllocGlobal>(rt: &R) -> Result<()> {
+    refused(rt, &Refused::from(Refusal::UnknownName))?;
+    refused(
+        rt,
+        &Refused::from(Refusal::Full {
+            count: 65536,
+            limit: 65535,
+        }),
+    )
 }
 
 fn placed<R: Print + AllocGlobal>(rt: &R) -> Result<()> {
