@@ -1,4 +1,6 @@
 //! Why a line says nothing.
+ghost use Rattle.std.specs.Prelude.{◌≡◌};
+
 use ratio_core::Memory;
 use thiserror::Error;
 

@@ -39,6 +39,7 @@ pub fn sum_components(
 }
 
 /// The sum of the terms from the left, or none where a sum doesn't fit.
+#[tactic(auto, unfolding(crate::specs::Sums::function_of))]
 pub fn sum_terms(alloc: Global, terms: Terms) -> Result<Option<NamedAff>, Memory>
     ensures { IfOk result (λ function. function ≡ function_of terms) }
 {
