@@ -1,2 +1,2 @@
-mod Lines
-mod Texts
+pub mod Lines
+pub mod Texts

@@ -70,6 +70,7 @@ impl Draft {
     }
 
     /// As `affine:LessThan`, or `free`.
+    #[tactic(auto, using(crate::proofs::Texts::joined_alone, crate::proofs::Texts::joined_both))]
     pub fn push_kind(&mut self, kind: Kind) -> Result<(), Memory>
         ensures { OnOk result (self.new ≡ self.old ++ name_of kind) }
     {

@@ -24,6 +24,7 @@ pub fn plan(alloc: Global, choices: &[(Choice, Option<u128>); KIND_COUNT]) -> Re
 }
 
 // A line for each kind with its choice.
+#[tactic(auto, using(crate::proofs::Lines::lines_more, crate::proofs::Lines::lines_all))]
 fn push_lines(
     draft: &mut Draft,
     kinds: &[Kind],

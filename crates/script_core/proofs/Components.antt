@@ -30,7 +30,7 @@ with_first o rest = option_and_then (λ y. option_and_then (λ ys. Some (y ∷ y
 
 split_cases : {X : Type 0} (p : X → Bool) (xs : List X) → (run : List X) × (runs : List (List X)) × (slice_split p xs ≡ run ∷ runs)
 split_cases p [] = ([], [], refl)
-split_cases p (x ∷ xs) = at (p x) refl (split_cases p xs)
+split_cases {X = X} p (x ∷ xs) = at (p x) refl (split_cases p xs)
   where
     at : (b : Bool) → p x ≡ b → ((run : List X) × (runs : List (List X)) × (slice_split p xs ≡ run ∷ runs)) → (run : List X) × (runs : List (List X)) × (slice_split p (x ∷ xs) ≡ run ∷ runs)
     at true e split = ([], slice_split p xs, ap (λ b. cond b ([] ∷ slice_split p xs) (onto_first x (slice_split p xs))) e)

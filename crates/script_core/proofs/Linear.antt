@@ -36,17 +36,20 @@ pub with_linear_entries : (entries : Entries) (term : NamedTerm)
     (coefficient_with (lookup (bytes_eq term.variable) entries) term.coefficient)
 unfolding put
 with_linear_entries [] term = refl
-with_linear_entries (e ∷ entries) term = at (bytes_eq term.variable e.0) refl
+with_linear_entries (e ∷ entries) term =
+    at (bytes_eq term.variable e.0) refl (with_linear_entries entries term)
   where
     at : (b : Bool) → bytes_eq term.variable e.0 ≡ b
+        → with_linear (terms_in entries) term
+        ≡ option_map (λ q. terms_in (insert_entry bytes_eq entries term.variable q))
+        (coefficient_with (lookup (bytes_eq term.variable) entries) term.coefficient)
         → with_linear (terms_in (e ∷ entries)) term
         ≡ option_map (λ q. terms_in (insert_entry bytes_eq (e ∷ entries) term.variable q))
         (coefficient_with (lookup (bytes_eq term.variable) (e ∷ entries)) term.coefficient)
-    at true same = rw same (put_first e entries (sum_of e.1 term.coefficient))
-    at false other =
+    at true same rest = rw same (put_first e entries (sum_of e.1 term.coefficient))
+    at false other rest =
         rw other
-        (ap (option_and_then (λ ts. Some (record { variable = e.0; coefficient = e.1 } ∷ ts)))
-        (with_linear_entries entries term)
+        (ap (option_and_then (λ ts. Some (record { variable = e.0; coefficient = e.1 } ∷ ts))) rest
         ∙ put_later e entries term
         (coefficient_with (lookup (bytes_eq term.variable) entries) term.coefficient))
 
