@@ -1,7 +1,6 @@
 -- The name of a kind, word by word.
-use Rattle.std.proofs.Common.{◌≡◌, ℕ, Bool, true, false, List, [], ◌∷◌, ◌++◌, length, eqb, refl, sym, ap, ◌∙◌, append_assoc, arith}
+use Rattle.std.proofs.Common.{◌≡◌, ℕ, true, false, List, [], ◌∷◌, ◌++◌, length, eqb, refl, ◌∙◌, append_assoc, arith}
 use Rattle.std.proofs.lemmas.Bool.Decides.{nat_tests}
-use Rattle.std.proofs.lemmas.List.{append-nil}
 use Rattle.item_core.specs.Kind.{joined}
 
 pub joined_alone : (first second : List ℕ) → eqb (length second) 0 ≡ true → joined first second ≡ first

@@ -2,12 +2,12 @@
 #![tactic(auto)]
 
 mod answer;
+mod choices;
 mod draft;
-mod plan;
 mod refused;
 mod replies;
 
 pub use answer::Answer;
-pub use plan::plan;
+pub use choices::plan;
 pub use refused::{Place, Refused};
 pub use replies::{done, refusal};

@@ -1,6 +1,6 @@
 use Rattle.std.proofs.Common.{◌≡◌, ◌++◌}
 use Rattle.report_core.proofs.Lines.{lines_from}
-use Rattle.report_core.proofs.plan.push_lines.Given as goal
+use Rattle.report_core.proofs.choices.push_lines.Given as goal
 
 abbrev pub invariant-loop-place : goal.invariant-loop-place
 invariant-loop-place l =
