@@ -1,0 +1,4 @@
+pub mod Words
+pub mod Refused
+pub mod Replies
+pub mod Plan

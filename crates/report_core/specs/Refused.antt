@@ -1,0 +1,92 @@
+-- The refusals: one table of their numbers and names, and the fields of each.
+use Rattle.std.specs.Prelude.{ℕ, ◌≤◌, List, [], ◌∷◌, ◌++◌, codes, decimal, flat_map, slice_index_or, ◌-◌}
+use Rattle.item_core.specs.Kind.{name_of}
+use Rattle.name_index.specs.Escape.{escaped}
+use Rattle.report_core.specs.declared.refused.Place.{Place}
+use Rattle.report_core.specs.declared.refused.Place.TheVariants as place
+use Rattle.report_core.specs.declared.refused.Refused.{Refused}
+use Rattle.report_core.specs.declared.refused.Refused.TheVariants.{BadLine, UnknownName, NameTaken, FunctionShape, BadDimension, OutputIndex, BadInterval, LowerBoundAlreadySet, UpperBoundAlreadySet, SetTypeMismatch, DeleteNotAllowed, Full, NotAttached, AlreadyAttached, TooLarge, Unsupported, Overflow, Limit, NotEmpty, File}
+use Rattle.user_model.specs.declared.refusal.Refusal.{Refusal}
+use Rattle.user_model.specs.declared.refusal.Refusal.TheVariants as edit
+use Rattle.report_core.specs.Words.{newline, spaced}
+
+-- the number and the name
+abbrev pub heading : Refused → ℕ × List ℕ
+heading BadLine = (1, codes "BadLine")
+heading UnknownName = (2, codes "UnknownName")
+heading NameTaken = (3, codes "NameTaken")
+heading FunctionShape = (4, codes "FunctionShape")
+heading BadDimension = (5, codes "BadDimension")
+heading OutputIndex = (6, codes "OutputIndex")
+heading BadInterval = (7, codes "BadInterval")
+heading LowerBoundAlreadySet = (8, codes "LowerBoundAlreadySet")
+heading UpperBoundAlreadySet = (9, codes "UpperBoundAlreadySet")
+heading SetTypeMismatch = (10, codes "SetTypeMismatch")
+heading DeleteNotAllowed = (11, codes "DeleteNotAllowed")
+heading (Full count limit) = (12, codes "Full")
+heading NotAttached = (13, codes "NotAttached")
+heading AlreadyAttached = (14, codes "AlreadyAttached")
+heading (TooLarge cells) = (15, codes "TooLarge")
+heading (Unsupported kind) = (16, codes "Unsupported")
+heading (Overflow place) = (17, codes "Overflow")
+heading (Limit pivots) = (18, codes "Limit")
+heading NotEmpty = (19, codes "NotEmpty")
+heading (File number place) = (20, codes "File")
+
+-- why an edit of the user's model is refused
+abbrev pub refused_of : Refusal → Refused
+refused_of edit.UnknownName = UnknownName
+refused_of edit.NameTaken = NameTaken
+refused_of edit.FunctionShape = FunctionShape
+refused_of edit.BadDimension = BadDimension
+refused_of edit.OutputIndex = OutputIndex
+refused_of edit.BadInterval = BadInterval
+refused_of edit.LowerBoundAlreadySet = LowerBoundAlreadySet
+refused_of edit.UpperBoundAlreadySet = UpperBoundAlreadySet
+refused_of edit.SetTypeMismatch = SetTypeMismatch
+refused_of edit.DeleteNotAllowed = DeleteNotAllowed
+refused_of (edit.Full count limit) = Full count limit
+
+-- where a number doesn't fit
+abbrev pub place_text : Place → List ℕ
+place_text place.Line = codes "line"
+place_text (place.Var name) = codes "var " ++ escaped name
+place_text (place.Row name) = codes "row " ++ escaped name
+place_text place.Objective = codes "objective"
+place_text place.Solver = codes "solver"
+place_text place.Check = codes "check"
+
+-- the faults of files, numbered from 1
+abbrev pub fault_names : List (List ℕ)
+fault_names =
+    codes "NotJson" ∷ codes "Shape" ∷ codes "Version" ∷ codes "UnknownKind" ∷ codes "BadNumber"
+    ∷ codes "DuplicateName" ∷ codes "UnknownName" ∷ codes "Dimension" ∷ []
+
+abbrev pub fault_name : ℕ → List ℕ
+fault_name number = slice_index_or fault_names (number - 1) []
+
+-- the most cells of a standard form
+abbrev pub most_cells : ℕ
+most_cells = 16777216
+
+abbrev pub fields : Refused → List (List ℕ)
+fields (Full count limit) = decimal count ∷ decimal limit ∷ []
+fields (TooLarge cells) = decimal cells ∷ decimal most_cells ∷ []
+fields (Unsupported kind) = name_of kind ∷ []
+fields (Overflow place) = place_text place ∷ []
+fields (Limit pivots) = decimal pivots ∷ []
+fields (File number place) = decimal number ∷ fault_name number ∷ place ∷ []
+fields _ = []
+
+-- a fault of a file has a number from 1 to 8
+abbrev pub HasFault : Refused → Type 0
+HasFault (File number place) = (1 ≤ number) × (number ≤ 8)
+HasFault _ = Unit {0}
+
+abbrev pub heading_text : Refused → List ℕ
+heading_text refused =
+    codes "refused " ++ decimal (heading refused).0 ++ codes " " ++ (heading refused).1
+
+-- the number, the name and the fields
+unfoldable pub refusal_text : Refused → List ℕ
+refusal_text refused = heading_text refused ++ flat_map spaced (fields refused) ++ newline

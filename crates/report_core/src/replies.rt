@@ -1,0 +1,136 @@
+//! The replies to accepted lines and to refused ones.
+ghost use Rattle.std.specs.Prelude.{◌≡◌, ◌≤◌, [], ◌∷◌, ◌++◌, OnOk, IfOk, decimal, flat_map};
+ghost use Rattle.item_core.specs.Kind.{name_of};
+ghost use Rattle.report_core.specs.Refused.{HasFault, fault_name, fields, heading_text, place_text, refusal_text};
+ghost use Rattle.report_core.specs.Replies.{done_text};
+ghost use Rattle.report_core.specs.Words.{spaced};
+
+use crate::draft::Draft;
+use crate::refused::fault_name;
+use crate::{Answer, Place, Refused};
+use item_core::Kind;
+use ratio_core::Memory;
+use std::alloc::Global;
+
+/// The most cells of a standard form.
+const MOST_CELLS: u64 = 16_777_216;
+
+/// `ok`, and while a solver is attached at how many addresses its model changed.
+pub fn done(alloc: Global, count: Option<u64>) -> Result<Answer, Memory>
+    ensures { IfOk result (λ answer. answer ≡ Answer.Printed (done_text count)) }
+{
+    let mut draft = Draft::new(alloc);
+    push_done(&mut draft, count)?;
+    Ok(Answer::Printed(draft.into_text()))
+}
+
+/// The refusal's number, name and fields.
+#[tactic(auto, unfolding(crate::specs::Refused::refusal_text))]
+pub fn refusal(alloc: Global, refused: &Refused) -> Result<Answer, Memory>
+    requires { HasFault refused.now }
+    ensures { IfOk result (λ answer. answer ≡ Answer.Refused (refusal_text refused.now)) }
+{
+    let mut draft = Draft::new(alloc);
+    push_heading(&mut draft, refused)?;
+    push_fields(&mut draft, refused)?;
+    draft.push("\n")?;
+    Ok(Answer::Refused(draft.into_text()))
+}
+
+#[tactic(auto, unfolding(crate::specs::Replies::done_text))]
+fn push_done(draft: &mut Draft, count: Option<u64>) -> Result<(), Memory>
+    ensures { OnOk result (draft.new ≡ draft.old ++ done_text count) }
+{
+    match count {
+        None => draft.push("ok\n"),
+        Some(count) => {
+            draft.push("ok ")?;
+            draft.push_number(u128::from(count))?;
+            draft.push("\n")
+        }
+    }
+}
+
+fn push_heading(draft: &mut Draft, refused: &Refused) -> Result<(), Memory>
+    ensures { OnOk result (draft.new ≡ draft.old ++ heading_text refused.now) }
+{
+    let (number, name) = refused.heading();
+    draft.push("refused ")?;
+    draft.push_number(u128::from(number))?;
+    draft.push(" ")?;
+    draft.push(name)
+}
+
+// Each field after a space.
+fn push_fields(draft: &mut Draft, refused: &Refused) -> Result<(), Memory>
+    requires { HasFault refused.now }
+    ensures { OnOk result (draft.new ≡ draft.old ++ flat_map spaced (fields refused.now)) }
+{
+    match refused {
+        Refused::Full { count, limit } => push_two_numbers(draft, *count, *limit),
+        Refused::TooLarge { cells } => push_two_numbers(draft, *cells, MOST_CELLS),
+        Refused::Unsupported { kind } => push_kind(draft, *kind),
+        Refused::Overflow { place } => push_place(draft, place),
+        Refused::Limit { pivots } => push_one_number(draft, *pivots),
+        Refused::File { number, place } => push_fault(draft, *number, place.as_slice()),
+        Refused::BadLine | Refused::UnknownName | Refused::NameTaken => Ok(()),
+        Refused::FunctionShape | Refused::BadDimension | Refused::OutputIndex => Ok(()),
+        Refused::BadInterval | Refused::LowerBoundAlreadySet => Ok(()),
+        Refused::UpperBoundAlreadySet | Refused::SetTypeMismatch => Ok(()),
+        Refused::DeleteNotAllowed | Refused::NotAttached => Ok(()),
+        Refused::AlreadyAttached | Refused::NotEmpty => Ok(()),
+    }
+}
+
+fn push_one_number(draft: &mut Draft, number: u64) -> Result<(), Memory>
+    ensures { OnOk result (draft.new ≡ draft.old ++ flat_map spaced (decimal number ∷ [])) }
+{
+    draft.push(" ")?;
+    draft.push_number(u128::from(number))
+}
+
+fn push_two_numbers(draft: &mut Draft, first: u64, second: u64) -> Result<(), Memory>
+    ensures { OnOk result (draft.new
+        ≡ draft.old ++ flat_map spaced (decimal first ∷ decimal second ∷ [])) }
+{
+    push_one_number(draft, first)?;
+    push_one_number(draft, second)
+}
+
+fn push_kind(draft: &mut Draft, kind: Kind) -> Result<(), Memory>
+    ensures { OnOk result (draft.new ≡ draft.old ++ flat_map spaced (name_of kind ∷ [])) }
+{
+    draft.push(" ")?;
+    draft.push_kind(kind)
+}
+
+fn push_place(draft: &mut Draft, place: &Place) -> Result<(), Memory>
+    ensures { OnOk result (draft.new ≡ draft.old ++ flat_map spaced (place_text place.now ∷ [])) }
+{
+    match place {
+        Place::Line => draft.push(" line"),
+        Place::Var(name) => {
+            draft.push(" var ")?;
+            draft.push_name(name)
+        }
+        Place::Row(name) => {
+            draft.push(" row ")?;
+            draft.push_name(name)
+        }
+        Place::Objective => draft.push(" objective"),
+        Place::Solver => draft.push(" solver"),
+        Place::Check => draft.push(" check"),
+    }
+}
+
+fn push_fault(draft: &mut Draft, number: u8, place: &[u8]) -> Result<(), Memory>
+    requires { (1 ≤ number) × (number ≤ 8) }
+    ensures { OnOk result (draft.new ≡ draft.old
+        ++ flat_map spaced (decimal number ∷ fault_name number ∷ place.now ∷ [])) }
+{
+    push_one_number(draft, u64::from(number))?;
+    draft.push(" ")?;
+    draft.push(fault_name(number))?;
+    draft.push(" ")?;
+    draft.push_bytes(place)
+}

@@ -1,0 +1,107 @@
+-- Lines that change what stands, by the tokens that follow their first word.
+use Rattle.std.specs.Prelude.{ℕ, List, [], ◌∷◌, Option, Some, None, option_and_then}
+use Rattle.name_index.specs.Name.{name_of_token}
+use Rattle.ratio_core.specs.Text.{rational_of}
+use Rattle.user_model.specs.declared.edit.Edit.TheVariants.{Coef, VecCoef, Constant, VecConstant, ObjCoef, ObjConstant, RowSet, Reset, FreeGroup, DeleteVariable, DeleteRow, RenameVariable, RenameRow}
+use Rattle.script_core.specs.declared.reading.Reading.{Reading}
+use Rattle.script_core.specs.Names.{last_name_of, last_two_names_of}
+use Rattle.script_core.specs.Reading.{◌>>=◌, Tokens, makes}
+use Rattle.script_core.specs.Sets.{last_relation_of}
+use Rattle.script_words.specs.Number.{number_of}
+
+-- coef R X Q
+unfoldable pub coefficient_form : Tokens → Option Reading
+coefficient_form (row ∷ variable ∷ coefficient ∷ []) = do
+  name ← name_of_token row
+  var ← name_of_token variable
+  value ← rational_of coefficient
+  makes (Coef name var value)
+coefficient_form _ = None
+
+-- vcoef R I X Q
+unfoldable pub vector_coefficient_form : Tokens → Option Reading
+vector_coefficient_form (row ∷ number ∷ variable ∷ coefficient ∷ []) = do
+  name ← name_of_token row
+  output ← number_of number
+  var ← name_of_token variable
+  value ← rational_of coefficient
+  makes (VecCoef name output var value)
+vector_coefficient_form _ = None
+
+-- const R Q
+unfoldable pub constant_form : Tokens → Option Reading
+constant_form (row ∷ constant ∷ []) = do
+  name ← name_of_token row
+  value ← rational_of constant
+  makes (Constant name value)
+constant_form _ = None
+
+-- vconst R I Q
+unfoldable pub vector_constant_form : Tokens → Option Reading
+vector_constant_form (row ∷ number ∷ constant ∷ []) = do
+  name ← name_of_token row
+  output ← number_of number
+  value ← rational_of constant
+  makes (VecConstant name output value)
+vector_constant_form _ = None
+
+-- objcoef X Q
+unfoldable pub objective_coefficient_form : Tokens → Option Reading
+objective_coefficient_form (variable ∷ coefficient ∷ []) = do
+  var ← name_of_token variable
+  value ← rational_of coefficient
+  makes (ObjCoef var value)
+objective_coefficient_form _ = None
+
+-- objconst Q
+unfoldable pub objective_constant_form : Tokens → Option Reading
+objective_constant_form (constant ∷ []) = do
+  value ← rational_of constant
+  makes (ObjConstant value)
+objective_constant_form _ = None
+
+-- set R REL
+unfoldable pub row_set_form : Tokens → Option Reading
+row_set_form (row ∷ word ∷ tokens) = do
+  name ← name_of_token row
+  set ← last_relation_of word tokens
+  makes (RowSet name set)
+row_set_form _ = None
+
+-- reset X REL
+unfoldable pub reset_form : Tokens → Option Reading
+reset_form (variable ∷ word ∷ tokens) = do
+  var ← name_of_token variable
+  set ← last_relation_of word tokens
+  makes (Reset var set)
+reset_form _ = None
+
+-- free X
+unfoldable pub free_form : Tokens → Option Reading
+free_form tokens = do
+  var ← last_name_of tokens
+  makes (FreeGroup var)
+
+-- delvar X
+unfoldable pub delete_variable_form : Tokens → Option Reading
+delete_variable_form tokens = do
+  var ← last_name_of tokens
+  makes (DeleteVariable var)
+
+-- delrow R
+unfoldable pub delete_row_form : Tokens → Option Reading
+delete_row_form tokens = do
+  row ← last_name_of tokens
+  makes (DeleteRow row)
+
+-- renvar X Y
+unfoldable pub rename_variable_form : Tokens → Option Reading
+rename_variable_form tokens = do
+  names ← last_two_names_of tokens
+  makes (RenameVariable names.0 names.1)
+
+-- renrow R S
+unfoldable pub rename_row_form : Tokens → Option Reading
+rename_row_form tokens = do
+  names ← last_two_names_of tokens
+  makes (RenameRow names.0 names.1)

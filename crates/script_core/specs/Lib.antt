@@ -1,0 +1,14 @@
+-- What the contracts cite.
+pub mod Reading
+pub mod Names
+pub mod Terms
+pub mod Sums
+pub mod Summed
+pub mod Sets
+pub mod Variables
+pub mod Rows
+pub mod Changes
+pub mod Tables
+pub mod Solver
+pub mod Keyword
+pub mod Line

@@ -1,0 +1,20 @@
+-- Names of variables, rows and files.
+use Rattle.std.specs.Prelude.{ℕ, List, [], ◌∷◌, Option, Some, None, option_and_then}
+use Rattle.name_index.specs.Name.{name_of_token}
+use Rattle.script_core.specs.Reading.{◌>>=◌, Tokens, each}
+
+abbrev pub names_of : Tokens → Option (List (List ℕ))
+names_of tokens = each name_of_token tokens
+
+-- a name that nothing follows
+unfoldable pub last_name_of : Tokens → Option (List ℕ)
+last_name_of (token ∷ []) = name_of_token token
+last_name_of _ = None
+
+-- two names that nothing follows
+unfoldable pub last_two_names_of : Tokens → Option (List ℕ × List ℕ)
+last_two_names_of (token ∷ other ∷ []) = do
+  first ← name_of_token token
+  second ← name_of_token other
+  Some (first, second)
+last_two_names_of _ = None

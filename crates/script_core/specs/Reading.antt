@@ -1,0 +1,45 @@
+-- What a line is read as.
+use Rattle.std.specs.Prelude.{ℕ, Bool, List, [], ◌∷◌, Option, Some, None, option_and_then, bytes_eq, codes}
+use Prim.Native.String.{String}
+use Rattle.user_model.specs.declared.edit.Edit.{Edit}
+use Rattle.script_core.specs.declared.command.Command.{Command}
+use Rattle.script_core.specs.declared.command.Command.TheVariants as command
+use Rattle.script_core.specs.declared.reading.Reading.{Reading}
+use Rattle.script_core.specs.declared.reading.Reading.TheVariants.{Says, Overflow}
+
+infixl 10 ◌>>=◌
+abbrev pub ◌>>=◌ : {A B : Type 0} → Option A → (A → Option B) → Option B
+o >>= f = option_and_then f o
+
+-- the tokens of a line, or what is left of them
+abbrev pub Tokens : Type 0
+Tokens = List (List ℕ)
+
+-- whether a token is this word
+abbrev pub is : String → List ℕ → Bool
+is word token = bytes_eq token (codes word)
+
+abbrev pub says : Command → Option Reading
+says command = Some (Says command)
+
+-- an edit of the model
+abbrev pub makes : Edit → Option Reading
+makes edit = says (command.Edit edit)
+
+-- the edit with a function whose sums fit
+abbrev pub makes_with : {X : Type 0} → (X → Edit) → Option X → Option Reading
+makes_with edit (Some function) = makes (edit function)
+makes_with edit None = Some Overflow
+
+-- what nothing follows
+abbrev pub alone : {X : Type 0} → X → Tokens → Option X
+alone x [] = Some x
+alone x (_ ∷ _) = None
+
+-- what f gives of each, where it gives something of all
+abbrev pub each : {X Y : Type 0} → (X → Option Y) → List X → Option (List Y)
+each f [] = Some []
+each f (x ∷ xs) = do
+  y ← f x
+  ys ← each f xs
+  Some (y ∷ ys)

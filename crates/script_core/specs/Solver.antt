@@ -1,0 +1,21 @@
+-- Lines that ask the solver or name a file, by the tokens that follow their first word.
+use Rattle.std.specs.Prelude.{ℕ, List, [], ◌∷◌, Option, Some, None, option_and_then}
+use Rattle.script_core.specs.declared.command.Command.TheVariants.{Load, Optimize}
+use Rattle.script_core.specs.declared.reading.Reading.{Reading}
+use Rattle.script_core.specs.Names.{last_name_of}
+use Rattle.script_core.specs.Reading.{◌>>=◌, Tokens, says}
+use Rattle.script_words.specs.Number.{number_of}
+
+-- optimize, optimize N
+unfoldable pub optimize_form : Tokens → Option Reading
+optimize_form [] = says (Optimize None)
+optimize_form (number ∷ []) = do
+  pivots ← number_of number
+  says (Optimize (Some pivots))
+optimize_form _ = None
+
+-- load S
+unfoldable pub load_form : Tokens → Option Reading
+load_form tokens = do
+  file ← last_name_of tokens
+  says (Load file)

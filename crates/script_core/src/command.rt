@@ -1,0 +1,37 @@
+//! What a line says.
+use item_core::{Edge, Family, Kind, Target};
+use name_index::Name;
+use user_model::Edit;
+
+/// What a line of a script says.
+#[derive(Debug, Drop)]
+pub enum Command {
+    /// Nothing: a line without tokens, or a remark.
+    Silent,
+    /// An edit of the user's model.
+    Edit(Edit),
+    /// The solver supports the kinds of this target.
+    Target(Target),
+    /// Whether the solver supports a native kind.
+    Support { kind: Kind, value: bool },
+    /// What an edge costs, 1 to 1,000.
+    Cost { edge: Edge, cost: u32 },
+    /// Whether a family of bridges is on.
+    Switch { family: Family, value: bool },
+    /// Gives the solver the model.
+    Attach,
+    /// Empties the solver.
+    Detach,
+    /// Solves, with at most so many pivots where a number is given.
+    Optimize(Option<u32>),
+    /// Prints the solver's model.
+    Bridged,
+    /// Prints how each kind is bridged.
+    Plan,
+    /// Prints the user's model as a file.
+    Write,
+    /// Reads the user's model from the file with this name.
+    Load(Name),
+    /// Ends the work.
+    Quit,
+}

@@ -1,0 +1,5 @@
+use Rattle.script_words.proofs.Names.{kind_reads_back}
+use Rattle.script_words.proofs.table.read_native_kind.Goals as goal
+
+pub returns-clause-reads_back : goal.returns-clause-reads_back
+returns-clause-reads_back c = kind_reads_back

@@ -1,0 +1,4 @@
+pub mod Tokens
+pub mod Number
+pub mod Family
+pub mod Table

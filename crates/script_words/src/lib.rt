@@ -1,0 +1,14 @@
+//! The words of a script: the tokens of a line, and what a token stands for by itself.
+#![tactic(auto)]
+
+mod bytes;
+mod family;
+mod number;
+mod table;
+mod tokens;
+
+pub use bytes::{are_line_bytes, is};
+pub use family::{FAMILIES, family_text, read_family};
+pub use number::read_number;
+pub use table::{edge_numbered, read_native_kind, read_target};
+pub use tokens::{Tokens, parted_at};
