@@ -1,6 +1,11 @@
 -- What the check of a certificate answers.
 use Rattle.std.specs.Prelude.{◌≡◌, ◌↔◌, Bool, IsTrue, List, length, All, Result, Ok, Err}
 use Rattle.ratio_core.specs.Rational.{Rational}
+use Rattle.dual_laws.specs.Held.{Held}
+use Rattle.user_model.specs.declared.group.Group.{Group}
+use Rattle.user_model.specs.declared.objective.Objective.{Objective}
+use Rattle.user_model.specs.declared.row.Row.{Row}
+use Rattle.user_model.specs.declared.undo.NextNumbers.{NextNumbers}
 use Rattle.user_model.specs.Model.{ModelValue, variables}
 use Rattle.certificates.specs.declared.certificate.Certificate.{Certificate}
 use Rattle.certificates.specs.declared.certificate.Certificate.TheVariants.{Optimal, Infeasible, Unbounded}
@@ -10,26 +15,38 @@ use Rattle.cert_core.specs.declared.fault.CheckFault.{CheckFault}
 use Rattle.cert_core.specs.declared.fault.CheckFault.TheVariants.{CertOverflow, Memory}
 use Rattle.cert_core.specs.Folds.{CertificateFits}
 
--- a number for each variable
-abbrev pub HasPoint : ModelValue → List Rational → Type 0
-HasPoint model x = length x ≡ length (variables model)
+abbrev pub model_of : List Group → List Row → Objective → NextNumbers → ModelValue
+model_of groups rows objective next =
+    record { groups = groups; rows = rows; objective = objective; next = next }
 
--- a list for each row, of a number for each component, and a number for each variable
-pub record HasDualEntries (model : ModelValue)
-    (rows : List (List Rational)) (vars : List Rational) : Type 0 where
-  pub each_row : length rows ≡ length model.rows
-  pub components : All (λ h. length h.duals ≡ length h.functions) (rows_with rows model.rows)
-  pub each_variable : HasPoint model vars
+-- ---- the numbers of entries
 
-abbrev pub HasEntries : ModelValue → Certificate → Type 0
-HasEntries model (Optimal value x rows vars) = HasPoint model x × HasDualEntries model rows vars
-HasEntries model (Infeasible gap rows vars) = HasDualEntries model rows vars
-HasEntries model (Unbounded x d) = HasPoint model x × HasPoint model d
+-- a number for each component
+abbrev pub HasEachDual : Held → Type 0
+HasEachDual h = length h.duals ≡ length h.functions
 
--- yes exactly where the certificate is good; an overflow exactly where the numbers of entries are right and something of its kind
--- doesn't fit
-abbrev pub Checks : Result Bool CheckFault → ModelValue → Certificate → Type 0
-Checks (Ok yes) model c =
-    (IsTrue yes ↔ Good model c) × (HasEntries model c → CertificateFits model c)
-Checks (Err CertOverflow) model c = HasEntries model c × ¬ (CertificateFits model c)
-Checks (Err Memory) model c = Unit {0}
+-- a list for each row, of a number for each component
+pub record HasRowDuals (rows : List Row) (duals : List (List Rational)) : Type 0 where
+  pub each : length duals ≡ length rows
+  pub components : All HasEachDual (rows_with duals rows)
+
+module _ (model : ModelValue) where
+  -- a number for each variable
+  abbrev pub HasPoint : List Rational → Type 0
+  HasPoint x = length x ≡ length (variables model)
+
+  -- the numbers of entries are right
+  abbrev pub HasEntries : Certificate → Type 0
+  HasEntries (Optimal value x rows vars) =
+      HasPoint x × HasRowDuals model.rows rows × HasPoint vars
+  HasEntries (Infeasible gap rows vars) = HasRowDuals model.rows rows × HasPoint vars
+  HasEntries (Unbounded x d) = HasPoint x × HasPoint d
+
+  -- ---- the answer
+
+  -- yes exactly where the certificate is good; an overflow exactly where the numbers of entries
+  -- are right, and something of its kind doesn't fit
+  abbrev pub Checks : Result Bool CheckFault → Certificate → Type 0
+  Checks (Ok yes) c = (IsTrue yes ↔ Good model c) × (HasEntries c → CertificateFits model c)
+  Checks (Err CertOverflow) c = HasEntries c × ¬ (CertificateFits model c)
+  Checks (Err Memory) c = Unit {0}

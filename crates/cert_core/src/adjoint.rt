@@ -1,0 +1,118 @@
+//! The rows' adjoint of each variable, in one pass over the rows.
+ghost use Rattle.std.specs.Prelude.{◌≡◌, All, Contains, cond, length, map};
+ghost use Rattle.ratio_core.specs.Folds.{sum_from};
+ghost use Rattle.ratio_core.specs.Rational.{Fits, Rational, zero_ℚ, ◌+ℚ◌, ◌*ℚ◌};
+ghost use Rattle.aff_core.specs.Address.{Address, address_eq};
+ghost use Rattle.aff_core.specs.FunctionLists.{coefficients};
+ghost use Rattle.aff_core.specs.Rising.{RiseStrictly};
+ghost use Rattle.aff_core.specs.Terms.{StepFits};
+ghost use Rattle.certificates.specs.Duals.{rows_with};
+ghost use Rattle.certificates.specs.Points.{variables_at};
+ghost use Rattle.cert_core.specs.Answers.{ExactWhere};
+ghost use Rattle.cert_core.specs.Checked.{HasRowDuals};
+ghost use Rattle.cert_core.specs.Components.{functions_in};
+ghost use Rattle.cert_core.specs.Folds.{AddUp, adjoint_parts, products};
+ghost use Rattle.cert_core.specs.Adding.{AddsAt, coefficient_among};
+
+use crate::CheckFault;
+use crate::components::{Components, components};
+use crate::sums::plus_product;
+use crate::variables::Variables;
+use aff_core::{Address, Aff};
+use ratio_core::{Ratio, Ratios};
+use std::alloc::Global;
+use user_model::Row;
+
+/// For each variable its coefficients times the duals, added over rows and components.
+pub(crate) fn adjoint(
+    alloc: Global,
+    variables: &Variables,
+    rows: &[Row],
+    duals: &[Ratios],
+) -> Result<Vec<Ratio>, CheckFault>
+    requires { HasRowDuals rows.now duals.now }
+    ensures { let parts = adjoint_parts (rows_with duals.now rows.now) in
+        ExactWhere result (All (λ v. AddUp zero_ℚ (parts v)) variables.now)
+        (λ sums. sums.items ≡ map (λ v. sum_from zero_ℚ (parts v)) variables.now) }
+{
+    let count = variables.addresses().len();
+    let mut sums = vec![in alloc; Ratio::zero(); count]?;
+    for (i, row) in rows.iter().enumerate() {
+        let y = duals[i].as_slice();
+        match components(&row.func) {
+            Components::Variables(vars) => add_variables(variables, &mut sums, y, vars)?,
+            Components::Functions(fs) => add_functions(variables, &mut sums, y, fs)?,
+        }
+    }
+    Ok(sums)
+}
+
+// Adds each component's multiple: the sums have a number for each variable.
+fn add_variables(
+    variables: &Variables,
+    sums: &mut [Ratio],
+    duals: &[Ratio],
+    vars: &[Address],
+) -> Result<(), CheckFault>
+    requires { length duals.now ≡ length vars.now }
+    ensures { AddsAt result variables.now sums.old sums.new
+        (λ v. products duals.now (coefficients (variables_at vars.now) v)) }
+{
+    for (i, var) in vars.iter().enumerate() {
+        add_multiple(variables, sums, &duals[i], &[(*var, Ratio::one())])?;
+    }
+    Ok(())
+}
+
+fn add_functions(
+    variables: &Variables,
+    sums: &mut [Ratio],
+    duals: &[Ratio],
+    fs: &[Aff],
+) -> Result<(), CheckFault>
+    requires { length duals.now ≡ length fs.now }
+    ensures { AddsAt result variables.now sums.old sums.new
+        (λ v. products duals.now (coefficients fs.now v)) }
+{
+    for (i, f) in fs.iter().enumerate() {
+        add_multiple(variables, sums, &duals[i], f.terms())?;
+    }
+    Ok(())
+}
+
+// Adds the terms times a number.
+fn add_multiple(
+    variables: &Variables,
+    sums: &mut [Ratio],
+    by: &Ratio,
+    terms: &[(Address, Ratio)],
+) -> Result<(), CheckFault>
+    requires { RiseStrictly terms.now }
+    ensures { AddsAt result variables.now sums.old sums.new
+        (λ v. by.now *ℚ coefficient_among terms.now v ∷ []) }
+{
+    for (at, coefficient) in terms {
+        add_term(variables, sums, by, at, coefficient)?;
+    }
+    Ok(())
+}
+
+// Adds a term times a number, where a variable stands.
+fn add_term(
+    variables: &Variables,
+    sums: &mut [Ratio],
+    by: &Ratio,
+    at: &Address,
+    coefficient: &Ratio,
+) -> Result<(), CheckFault>
+    ensures { (x : Address → Rational) → sums.old ≡ map x variables.now
+        → ExactWhere result
+        (Contains variables.now at.now → StepFits (x at.now) by.now coefficient.now)
+        (λ _. sums.new ≡ map (λ v. cond (address_eq v at.now)
+        (x v +ℚ by.now *ℚ coefficient.now) (x v)) variables.now) }
+{
+    if let Some(place) = variables.place(at) {
+        sums[place] = plus_product(&sums[place], by, coefficient)?;
+    }
+    Ok(())
+}

@@ -1,0 +1,21 @@
+//! The check of certificates against a model: whether one is good, exactly where every product and
+//! every sum of its kind fits.
+#![tactic(auto)]
+
+mod adjoint;
+mod check;
+mod components;
+mod duals;
+mod entries;
+mod equations;
+mod fault;
+mod gap;
+mod objective;
+mod points;
+mod readings;
+mod sums;
+mod variables;
+
+pub use certificates::{Certificate, DualRows};
+pub use check::check;
+pub use fault::CheckFault;

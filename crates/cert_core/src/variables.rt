@@ -1,0 +1,105 @@
+//! The variables of a model, and the numbers that a point has of them.
+ghost use Rattle.std.specs.Prelude.{◌≡◌, IfOk, length};
+ghost use Rattle.numbered.specs.Numbered.{Rise};
+ghost use Rattle.user_model.specs.Consistent.{variable_number};
+ghost use Rattle.cert_core.specs.Variables.{Ascend, IsPlaceOf, all_addresses, variables_of};
+
+use aff_core::{Address, Root};
+use ratio_core::{Memory, Ratio};
+use std::alloc::Global;
+use std::marker::Model;
+use user_model::Group;
+
+/// The addresses of a model's variables, in their order.
+pub(crate) struct Variables {
+    addresses: Vec<Address>,
+}
+
+impl Model for Variables {
+    ghost use Rattle.std.specs.Prelude.{List};
+    ghost use Rattle.std.specs.Coded.{coded_list};
+    ghost use Rattle.aff_core.specs.Address.{Address, address_code};
+    ghost use Rattle.cert_core.specs.Variables.{Ascend};
+
+    ghost Value = { List Address };
+
+    ghost coded = { coded_list address_code };
+
+    ghost view = { λ a. a.addresses.items };
+
+    ghost invariant = { λ a. Ascend a.addresses.items };
+}
+
+impl Variables {
+    pub(crate) fn of(alloc: Global, groups: &[Group]) -> Result<Variables, Memory>
+        requires { Rise variable_number (variables_of groups.now) }
+        ensures { IfOk result (λ us. us ≡ all_addresses groups.now) }
+    {
+        Ok(Variables {
+            addresses: addresses(alloc, groups)?,
+        })
+    }
+
+    pub(crate) fn addresses(&self) -> &[Address]
+        ensures value { result.now ≡ self.now }
+        ensures ascending { Ascend self.now }
+    {
+        &self.addresses
+    }
+
+    /// The place of an address among them.
+    pub(crate) fn place(&self, at: &Address) -> Option<usize>
+        ensures { IsPlaceOf self.now at.now result }
+    {
+        self.addresses.binary_search(at).ok()
+    }
+}
+
+fn addresses(alloc: Global, groups: &[Group]) -> Result<Vec<Address>, Memory>
+    ensures { IfOk result (λ v. v.items ≡ all_addresses groups.now) }
+{
+    let mut addresses = Vec::new(alloc);
+    for group in groups {
+        for var in group.vars.as_slice() {
+            addresses.push(Address::root(Root::Variable, var.number))?;
+        }
+    }
+    Ok(addresses)
+}
+
+/// A point: numbers of a model's variables.
+#[derive(Clone, Copy)]
+pub(crate) struct Point<'a> {
+    variables: &'a Variables,
+    numbers: &'a [Ratio],
+}
+
+impl<'a> Model for Point<'a> {
+    ghost use Rattle.ratio_core.specs.Rational.{Rational};
+    ghost use Rattle.aff_core.specs.Address.{Address};
+    ghost use Rattle.aff_core.specs.Points.{spread};
+
+    ghost Value = { Address → Rational };
+
+    ghost view = { λ a. spread a.variables.now a.numbers.now };
+}
+
+impl<'a> Point<'a> {
+    ghost use Rattle.aff_core.specs.Points.{spread};
+
+    pub(crate) fn new(variables: &'a Variables, numbers: &'a [Ratio]) -> Point<'a>
+        ensures { result ≡ spread variables.now numbers.now }
+    {
+        Point { variables, numbers }
+    }
+
+    /// The number at an address, which is 0 where no variable stands.
+    pub(crate) fn number(&self, at: &Address) -> Ratio
+        ensures { result ≡ self.now at.now }
+    {
+        match self.variables.place(at) {
+            Some(place) if place < self.numbers.len() => self.numbers[place],
+            _ => Ratio::zero(),
+        }
+    }
+}
