@@ -1,14 +1,15 @@
 //! The variables of a model, and the numbers that a point has of them.
-ghost use Rattle.std.specs.Prelude.{◌≡◌, IfOk, length};
+ghost use Rattle.std.specs.Prelude.{◌≡◌, ◌++◌, IfOk, OnOk};
 ghost use Rattle.numbered.specs.Numbered.{Rise};
 ghost use Rattle.user_model.specs.Consistent.{variable_number};
+ghost use Rattle.certificates.specs.Points.{addresses_of};
 ghost use Rattle.cert_core.specs.Variables.{Ascend, IsPlaceOf, all_addresses, variables_of};
 
 use aff_core::{Address, Root};
 use ratio_core::{Memory, Ratio};
 use std::alloc::Global;
 use std::marker::Model;
-use user_model::Group;
+use user_model::{Group, GroupVar};
 
 /// The addresses of a model's variables, in their order.
 pub(crate) struct Variables {
@@ -60,11 +61,18 @@ fn addresses(alloc: Global, groups: &[Group]) -> Result<Vec<Address>, Memory>
 {
     let mut addresses = Vec::new(alloc);
     for group in groups {
-        for var in group.vars.as_slice() {
-            addresses.push(Address::root(Root::Variable, var.number))?;
-        }
+        push_addresses(&mut addresses, group.vars.as_slice())?;
     }
     Ok(addresses)
+}
+
+fn push_addresses(addresses: &mut Vec<Address>, vars: &[GroupVar]) -> Result<(), Memory>
+    ensures { OnOk result (addresses.new.items ≡ addresses.old.items ++ addresses_of vars.now) }
+{
+    for var in vars {
+        addresses.push(Address::root(Root::Variable, var.number))?;
+    }
+    Ok(())
 }
 
 /// A point: numbers of a model's variables.
