@@ -4,5 +4,8 @@ pub mod Tested
 pub mod Summed
 pub mod Places
 pub mod Made
+pub mod Evaluated
+pub mod Rows
+pub mod Parts
 pub mod Adding
 pub mod Groups

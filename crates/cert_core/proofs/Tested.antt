@@ -35,16 +35,17 @@ module _ {X : Type 0} (F P : X → Type 0) where
     each = λ h. (refl, h);
   }
 
-  pub tested_step : (so_far b : Bool) (xs left rest : List X) (x : X) → TestedAsAll so_far xs left
-      → left ≡ x ∷ rest → F x → (IsTrue b ↔ P x) → TestedAsAll (so_far && b) xs rest
-  tested_step so_far b xs left rest x h next fits tells = record {
+  pub tested_step : (so_far b now : Bool) (xs left rest : List X) (x : X)
+      → TestedAsAll so_far xs left → left ≡ x ∷ rest → F x → (IsTrue b ↔ P x)
+      → (IsTrue now ↔ (IsTrue so_far × IsTrue b)) → TestedAsAll now xs rest
+  tested_step so_far b now xs left rest x h next fits tells both = record {
     fits = λ k. h.fits (subst (All F) (sym next) (All-cons F x rest fits k));
     only = λ k. All-tail F x rest (subst (All F) next (h.only k));
-    holds = λ t k. let both = both_true so_far b t in
-        h.holds both.0 (subst (All P) (sym next) (All-cons P x rest (tells.0 both.1) k));
+    holds = λ t k. let t = both.0 t in
+        h.holds t.0 (subst (All P) (sym next) (All-cons P x rest (tells.0 t.1) k));
     each = λ k. let all = h.each k in
-        let now : All P (x ∷ rest) = subst (All P) next all.1 in
-        (true_both so_far b all.0 (tells.1 (All-head P x rest now)), All-tail P x rest now);
+        let here : All P (x ∷ rest) = subst (All P) next all.1 in
+        (both.1 (all.0, tells.1 (All-head P x rest here)), All-tail P x rest here);
   }
 
   pub tested_refused : (so_far : Bool) (xs left rest : List X) (x : X) → TestedAsAll so_far xs left

@@ -15,7 +15,7 @@ ghost use Rattle.cert_core.specs.Folds.{AddUp, adjoint_parts, products};
 ghost use Rattle.cert_core.specs.Adding.{AddsAt, coefficient_among};
 
 use crate::CheckFault;
-use crate::components::{Components, components};
+use crate::components::{Components, components_of};
 use crate::sums::plus_product;
 use crate::variables::Variables;
 use aff_core::{Address, Aff};
@@ -24,7 +24,7 @@ use std::alloc::Global;
 use user_model::Row;
 
 /// For each variable its coefficients times the duals, added over rows and components.
-pub(crate) fn adjoint(
+pub(crate) fn adjoint_of_rows(
     alloc: Global,
     variables: &Variables,
     rows: &[Row],
@@ -39,7 +39,7 @@ pub(crate) fn adjoint(
     let mut sums = vec![in alloc; Ratio::zero(); count]?;
     for (i, row) in rows.iter().enumerate() {
         let y = duals[i].as_slice();
-        match components(&row.func) {
+        match components_of(&row.func) {
             Components::Variables(vars) => add_variables(variables, &mut sums, y, vars)?,
             Components::Functions(fs) => add_functions(variables, &mut sums, y, fs)?,
         }

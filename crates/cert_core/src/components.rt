@@ -15,7 +15,7 @@ pub(crate) enum Components<'a> {
 }
 
 /// The components of a function of the user's.
-pub(crate) fn components(func: &UserFunc) -> Components<'_>
+pub(crate) fn components_of(func: &UserFunc) -> Components<'_>
     ensures { functions_in result ≡ functions_of func.now }
 {
     match func {
@@ -30,7 +30,7 @@ pub(crate) fn components(func: &UserFunc) -> Components<'_>
 pub(crate) fn component_count(func: &UserFunc) -> usize
     ensures { result ≡ length (functions_of func.now) }
 {
-    match components(func) {
+    match components_of(func) {
         Components::Variables(vars) => vars.len(),
         Components::Functions(fs) => fs.len(),
     }

@@ -16,7 +16,7 @@ ghost use Rattle.cert_core.specs.Holding.{HasGroupSet, HasRowSet};
 ghost use Rattle.cert_core.specs.Variables.{all_addresses};
 
 use crate::CheckFault;
-use crate::components::{Components, components};
+use crate::components::{Components, components_of};
 use aff_core::Aff;
 use ratio_core::{Ratio, Ratios};
 use user_model::{Group, Row};
@@ -43,7 +43,7 @@ fn plus_row(sum: &Ratio, row: &Row, duals: &[Ratio]) -> Result<Ratio, CheckFault
 {
     let low = row.set.low(duals)?;
     let with_low = sum.add(&low)?;
-    less_constants(&with_low, components(&row.func), duals)
+    less_constants(&with_low, components_of(&row.func), duals)
 }
 
 fn less_constants(sum: &Ratio, components: Components, duals: &[Ratio]) -> Result<Ratio, CheckFault>

@@ -3,7 +3,7 @@
 #![tactic(auto)]
 
 mod adjoint;
-mod check;
+mod checking;
 mod components;
 mod duals;
 mod entries;
@@ -17,5 +17,5 @@ mod sums;
 mod variables;
 
 pub use certificates::{Certificate, DualRows};
-pub use check::check;
+pub use checking::check;
 pub use fault::CheckFault;

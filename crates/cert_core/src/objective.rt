@@ -57,11 +57,11 @@ fn unit(var: &Address, at: &Address) -> Ratio
 pub(crate) fn reading_of(
     objective: &Objective,
     reading: Reading,
-    at: Point,
+    at: &Point,
 ) -> Result<Ratio, CheckFault>
     ensures { ExactWhere result
-        (EvaluationFits (one_of reading) (objective_function objective.now) at)
-        (λ q. q ≡ evaluated (one_of reading) (objective_function objective.now) at) }
+        (EvaluationFits (one_of reading) (objective_function objective.now) at.now)
+        (λ q. q ≡ evaluated (one_of reading) (objective_function objective.now) at.now) }
 {
     match objective {
         Objective::Feasibility => Ok(Ratio::zero()),

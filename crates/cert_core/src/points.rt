@@ -14,7 +14,7 @@ ghost use Rattle.cert_core.specs.Holding.{FunctionsHold, HasRowSet, HasGroupSet}
 ghost use Rattle.cert_core.specs.Variables.{all_addresses};
 
 use crate::CheckFault;
-use crate::components::{Components, components};
+use crate::components::{Components, components_of};
 use crate::readings::Reading;
 use crate::variables::Point;
 use aff_core::{Address, Aff};
@@ -27,12 +27,12 @@ pub(crate) fn rows_hold(
     alloc: Global,
     reading: Reading,
     rows: &[Row],
-    at: Point,
+    at: &Point,
 ) -> Result<bool, CheckFault>
     requires { All HasRowSet rows.now }
     ensures { TellsWhere result
-        (All (λ r. FitIn (one_of reading) r.set (functions_of r.func) at) rows.now)
-        (All (λ r. FunctionsHold (one_of reading) r.set (functions_of r.func) at) rows.now) }
+        (All (λ r. FitIn (one_of reading) r.set (functions_of r.func) at.now) rows.now)
+        (All (λ r. FunctionsHold (one_of reading) r.set (functions_of r.func) at.now) rows.now) }
 {
     let mut all = true;
     for row in rows {
@@ -42,13 +42,13 @@ pub(crate) fn rows_hold(
     Ok(all)
 }
 
-fn row_holds(alloc: Global, reading: Reading, row: &Row, at: Point) -> Result<bool, CheckFault>
+fn row_holds(alloc: Global, reading: Reading, row: &Row, at: &Point) -> Result<bool, CheckFault>
     requires { HasRowSet row.now }
     ensures { TellsWhere result
-        (FitIn (one_of reading) row.now.set (functions_of row.now.func) at)
-        (FunctionsHold (one_of reading) row.now.set (functions_of row.now.func) at) }
+        (FitIn (one_of reading) row.now.set (functions_of row.now.func) at.now)
+        (FunctionsHold (one_of reading) row.now.set (functions_of row.now.func) at.now) }
 {
-    let read = read_components(alloc, reading, components(&row.func), at)?;
+    let read = read_components(alloc, reading, components_of(&row.func), at)?;
     reading.holds(&row.set, &read)
 }
 
@@ -56,11 +56,11 @@ fn read_components(
     alloc: Global,
     reading: Reading,
     components: Components,
-    at: Point,
+    at: &Point,
 ) -> Result<Vec<Ratio>, CheckFault>
     ensures { ExactWhere result
-        (All (λ f. EvaluationFits (one_of reading) f at) (functions_in components))
-        (λ v. v.items ≡ evaluations (one_of reading) (functions_in components) at) }
+        (All (λ f. EvaluationFits (one_of reading) f at.now) (functions_in components))
+        (λ v. v.items ≡ evaluations (one_of reading) (functions_in components) at.now) }
 {
     match components {
         Components::Variables(vars) => read_variables(alloc, reading, vars, at),
@@ -72,11 +72,11 @@ fn read_variables(
     alloc: Global,
     reading: Reading,
     vars: &[Address],
-    at: Point,
+    at: &Point,
 ) -> Result<Vec<Ratio>, CheckFault>
     ensures { ExactWhere result
-        (All (λ f. EvaluationFits (one_of reading) f at) (variables_at vars.now))
-        (λ v. v.items ≡ evaluations (one_of reading) (variables_at vars.now) at) }
+        (All (λ f. EvaluationFits (one_of reading) f at.now) (variables_at vars.now))
+        (λ v. v.items ≡ evaluations (one_of reading) (variables_at vars.now) at.now) }
 {
     let mut read = Vec::with_capacity(alloc, vars.len())?;
     for var in vars {
@@ -89,11 +89,11 @@ fn read_functions(
     alloc: Global,
     reading: Reading,
     fs: &[Aff],
-    at: Point,
+    at: &Point,
 ) -> Result<Vec<Ratio>, CheckFault>
     ensures { ExactWhere result
-        (All (λ f. EvaluationFits (one_of reading) f at) fs.now)
-        (λ v. v.items ≡ evaluations (one_of reading) fs.now at) }
+        (All (λ f. EvaluationFits (one_of reading) f at.now) fs.now)
+        (λ v. v.items ≡ evaluations (one_of reading) fs.now at.now) }
 {
     let mut read = Vec::with_capacity(alloc, fs.len())?;
     for f in fs {

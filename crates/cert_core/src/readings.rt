@@ -24,21 +24,20 @@ pub(crate) enum Reading {
 
 impl Reading {
     /// The function's value or slope.
-    pub(crate) fn of_function(self, f: &Aff, at: Point) -> Result<Ratio, CheckFault>
-        ensures { ExactWhere result (EvaluationFits (one_of self) f.now at)
-            (λ q. q ≡ evaluated (one_of self) f.now at) }
+    pub(crate) fn of_function(self, f: &Aff, at: &Point) -> Result<Ratio, CheckFault>
+        ensures { ExactWhere result (EvaluationFits (one_of self) f.now at.now)
+            (λ q. q ≡ evaluated (one_of self) f.now at.now) }
     {
-        let start = match self {
-            Reading::Value => f.constant(),
-            Reading::Slope => Ratio::zero(),
-        };
-        plus_terms(&start, f.terms(), at)
+        match self {
+            Reading::Value => plus_terms(&f.constant(), f.terms(), at),
+            Reading::Slope => plus_terms(&Ratio::zero(), f.terms(), at),
+        }
     }
 
     /// The value or the slope of the function that is a variable.
-    pub(crate) fn of_variable(self, var: &Address, at: Point) -> Result<Ratio, CheckFault>
-        ensures { ExactWhere result (EvaluationFits (one_of self) (variable var.now) at)
-            (λ q. q ≡ evaluated (one_of self) (variable var.now) at) }
+    pub(crate) fn of_variable(self, var: &Address, at: &Point) -> Result<Ratio, CheckFault>
+        ensures { ExactWhere result (EvaluationFits (one_of self) (variable var.now) at.now)
+            (λ q. q ≡ evaluated (one_of self) (variable var.now) at.now) }
     {
         plus_terms(&Ratio::zero(), &[(*var, Ratio::one())], at)
     }
@@ -49,13 +48,9 @@ impl Reading {
         ensures { TellsWhere result (MembershipFits set.now v.now)
             (In (multiplied (one_of self) set.now) v.now) }
     {
-        let held = match self {
-            Reading::Value => set.holds(v),
-            Reading::Slope => set.recession_holds(v),
-        };
-        match held {
-            Ok(holds) => Ok(holds),
-            Err(_) => Err(CheckFault::CertOverflow),
+        match self {
+            Reading::Value => Ok(set.holds(v)?),
+            Reading::Slope => Ok(set.recession_holds(v)?),
         }
     }
 }

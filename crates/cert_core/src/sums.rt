@@ -22,10 +22,10 @@ pub(crate) fn plus_product(sum: &Ratio, a: &Ratio, b: &Ratio) -> Result<Ratio, C
 pub(crate) fn plus_terms(
     start: &Ratio,
     terms: &[(Address, Ratio)],
-    at: Point,
+    at: &Point,
 ) -> Result<Ratio, CheckFault>
-    ensures { ExactWhere result (ValueFits start.now terms.now at)
-        (λ q. q ≡ start.now +ℚ linear terms.now at) }
+    ensures { ExactWhere result (ValueFits start.now terms.now at.now)
+        (λ q. q ≡ start.now +ℚ linear terms.now at.now) }
 {
     let mut sum = *start;
     for (address, coefficient) in terms {

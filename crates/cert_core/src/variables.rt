@@ -12,6 +12,7 @@ use std::marker::Model;
 use user_model::{Group, GroupVar};
 
 /// The addresses of a model's variables, in their order.
+#[derive(Drop)]
 pub(crate) struct Variables {
     addresses: Vec<Address>,
 }
@@ -76,7 +77,7 @@ fn push_addresses(addresses: &mut Vec<Address>, vars: &[GroupVar]) -> Result<(),
 }
 
 /// A point: numbers of a model's variables.
-#[derive(Clone, Copy)]
+#[derive(Drop)]
 pub(crate) struct Point<'a> {
     variables: &'a Variables,
     numbers: &'a [Ratio],

@@ -2,7 +2,7 @@ use Rattle.std.proofs.Common.{drop}
 use Rattle.certificates.specs.Duals.{rows_with}
 use Rattle.cert_core.specs.Folds.{adjoint_parts}
 use Rattle.cert_core.proofs.Adding.{AddsAsAll}
-use Rattle.cert_core.proofs.adjoint.adjoint.Given as goal
+use Rattle.cert_core.proofs.adjoint.adjoint_of_rows.Given as goal
 
 abbrev pub invariant-loop-i : goal.invariant-loop-i
 invariant-loop-i l =

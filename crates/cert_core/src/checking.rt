@@ -18,7 +18,7 @@ ghost use Rattle.cert_core.specs.Readings.{one_of};
 ghost use Rattle.cert_core.specs.Variables.{all_addresses, variables_of};
 
 use crate::CheckFault;
-use crate::adjoint::adjoint;
+use crate::adjoint::adjoint_of_rows;
 use crate::duals::{group_duals_hold, row_duals_hold};
 use crate::entries::has_row_duals;
 use crate::equations::{are_reduced_costs, cancel, dual_value};
@@ -33,6 +33,7 @@ use std::alloc::Global;
 use user_model::{Group, Objective, Row, Sense};
 
 // The parts of a model.
+#[derive(Drop)]
 struct Parts<'a> {
     groups: &'a [Group],
     rows: &'a [Row],
@@ -131,7 +132,7 @@ impl<'a> Parts<'a> {
             (HoldsAt model (one_of reading) x.now) }
     {
         let at = Point::new(&self.variables, x);
-        let rows = rows_hold(alloc, reading, self.rows, at)?;
+        let rows = rows_hold(alloc, reading, self.rows, &at)?;
         let groups = groups_hold(reading, self.groups, x)?;
         Ok(rows && groups)
     }
@@ -184,9 +185,9 @@ impl<'a> Parts<'a> {
     {
         let feasible = self.holds_at(alloc, Reading::Value, x)?;
         let at = Point::new(&self.variables, x);
-        let primal = reading_of(self.objective, Reading::Value, at)?;
+        let primal = reading_of(self.objective, Reading::Value, &at)?;
         let in_sets = self.duals_hold(duals)?;
-        let sums = adjoint(alloc, &self.variables, self.rows, duals.rows)?;
+        let sums = adjoint_of_rows(alloc, &self.variables, self.rows, duals.rows)?;
         let us = self.variables.addresses();
         let equal = are_reduced_costs(self.objective, us, &sums, duals.vars)?;
         let gap = self.gap(duals)?;
@@ -204,7 +205,7 @@ impl<'a> Parts<'a> {
             (IsInfeasible model gap.now duals.rows.now duals.vars.now) }
     {
         let in_sets = self.duals_hold(duals)?;
-        let sums = adjoint(alloc, &self.variables, self.rows, duals.rows)?;
+        let sums = adjoint_of_rows(alloc, &self.variables, self.rows, duals.rows)?;
         let equal = cancel(self.variables.addresses(), &sums, duals.vars)?;
         let of_duals = self.gap(duals)?;
         Ok(in_sets && equal && *gap == of_duals && Ratio::zero() < *gap)
@@ -221,7 +222,7 @@ impl<'a> Parts<'a> {
         let feasible = self.holds_at(alloc, Reading::Value, x)?;
         let ray = self.holds_at(alloc, Reading::Slope, d)?;
         let along = Point::new(&self.variables, d);
-        let slope = reading_of(self.objective, Reading::Slope, along)?;
+        let slope = reading_of(self.objective, Reading::Slope, &along)?;
         Ok(feasible && ray && improves(sense(self.objective), &slope))
     }
 }

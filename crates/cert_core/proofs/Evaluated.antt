@@ -1,0 +1,100 @@
+-- Functions read at a point and along a ray: of variables, and from another start.
+use Rattle.std.specs.Prelude.{◌≡◌, cond, List, [], ◌∷◌, ◌↔◌, map, All, Bool, IsTrue, Result, length, refl}
+use Rattle.std.proofs.Common.{sym, ◌∙◌, ap, ap₂, subst}
+use Rattle.ratio_core.specs.Rational.{Rational, one_ℚ, zero_ℚ, ◌*ℚ◌, ◌+ℚ◌}
+use Rattle.rational_laws.specs.Field.{*ℚ-zero, one-*ℚ, one_not_zero, zero-*ℚ}
+use Rattle.aff_core.specs.Address.{Address, address_cmp}
+use Rattle.aff_core.specs.Function.{Function, evaluated, terms_of, variable}
+use Rattle.aff_core.specs.FunctionLaws.{constant-function_of, nonzero_test, terms-function_of}
+use Rattle.aff_core.specs.FunctionLists.{evaluations}
+use Rattle.aff_core.specs.Terms.{ValueFits, linear}
+use Rattle.linear_laws.specs.ListLaws.{evaluations_variables}
+use Rattle.set_core.specs.declared.set.Set.{Set}
+use Rattle.set_core.specs.Membership.{In, MembershipFits, recession}
+use Rattle.set_core.specs.Mirrored.{multiplied}
+use Rattle.set_laws.specs.Multiples.{multiplied_one, multiplied_zero}
+use Rattle.certificates.specs.Points.{variables_at}
+use Rattle.cert_core.specs.declared.fault.CheckFault.{CheckFault}
+use Rattle.cert_core.specs.Answers.{ExactWhere, TellsWhere}
+use Rattle.cert_core.specs.Folds.{EvaluationFits, FitIn}
+use Rattle.cert_core.specs.Holding.{FunctionsHold}
+use Rattle.cert_core.proofs.Answered.{answers_alike}
+
+-- ---- variables
+
+pub terms_of_variable : (v : Address) → terms_of (variable {R = address_cmp} v) ≡ (v, one_ℚ) ∷ []
+unfolding variable
+terms_of_variable v =
+    terms-function_of ((v, one_ℚ) ∷ []) zero_ℚ (record { rising = refl })
+    ∙ ap (λ b. cond b ((v, one_ℚ) ∷ []) []) (nonzero_test one_ℚ one_not_zero)
+
+pub constant_of_variable : (v : Address) → (variable {R = address_cmp} v).constant ≡ zero_ℚ
+unfolding variable
+constant_of_variable v = constant-function_of address_cmp ((v, one_ℚ) ∷ []) zero_ℚ
+
+-- ---- from a start
+
+abbrev Read : Result Rational CheckFault → Rational → List (Address × Rational)
+    → (Address → Rational) → Type 0
+Read r start ts x = ExactWhere r (ValueFits start ts x) (λ q. q ≡ start +ℚ linear ts x)
+
+-- a function's terms added to its constant, times `one`
+pub read_from : (r : Result Rational CheckFault) (one start : Rational) (f : Function)
+    (x : Address → Rational) → Read r start (terms_of f) x → start ≡ one *ℚ f.constant
+    → ExactWhere r (EvaluationFits one f x) (λ q. q ≡ evaluated one f x)
+read_from r one start f x h e = subst (λ s. Read r s (terms_of f) x) e h
+
+pub read_value : (r : Result Rational CheckFault) (f : Function) (x : Address → Rational)
+    → Read r f.constant (terms_of f) x
+    → ExactWhere r (EvaluationFits one_ℚ f x) (λ q. q ≡ evaluated one_ℚ f x)
+read_value r f x h = read_from r one_ℚ f.constant f x h (sym (one-*ℚ f.constant))
+
+pub read_slope : (r : Result Rational CheckFault) (f : Function) (x : Address → Rational)
+    → Read r zero_ℚ (terms_of f) x
+    → ExactWhere r (EvaluationFits zero_ℚ f x) (λ q. q ≡ evaluated zero_ℚ f x)
+read_slope r f x h = read_from r zero_ℚ zero_ℚ f x h (sym (zero-*ℚ f.constant))
+
+pub read_variable : (r : Result Rational CheckFault) (one : Rational) (v : Address)
+    (x : Address → Rational) → Read r zero_ℚ ((v, one_ℚ) ∷ []) x
+    → ExactWhere r (EvaluationFits one (variable v) x) (λ q. q ≡ evaluated one (variable v) x)
+read_variable r one v x h =
+    read_from r one zero_ℚ (variable v) x
+    (subst (λ ts. Read r zero_ℚ ts x) (sym (terms_of_variable v)) h)
+    (sym (ap (λ k. one *ℚ k) (constant_of_variable v) ∙ *ℚ-zero one))
+
+-- ---- in a set
+
+pub holds_value : (r : Result Bool CheckFault) (set : Set) (v : List Rational)
+    → TellsWhere r (MembershipFits set v) (In set v)
+    → TellsWhere r (MembershipFits set v) (In (multiplied one_ℚ set) v)
+holds_value r set v h =
+    subst (λ s. TellsWhere r (MembershipFits set v) (In s v)) (sym (multiplied_one set)) h
+
+pub holds_slope : (r : Result Bool CheckFault) (set : Set) (v : List Rational)
+    → TellsWhere r (MembershipFits set v) (In (recession set) v)
+    → TellsWhere r (MembershipFits set v) (In (multiplied zero_ℚ set) v)
+holds_slope r set v h =
+    subst (λ s. TellsWhere r (MembershipFits set v) (In s v)) (sym (multiplied_zero set)) h
+
+-- functions that were read, in their set
+pub hold_in : (r : Result Bool CheckFault) (one : Rational) (set : Set) (fs : List Function)
+    (x : Address → Rational) (v : List Rational) → All (λ f. EvaluationFits one f x) fs
+    → v ≡ evaluations one fs x → TellsWhere r (MembershipFits set v) (In (multiplied one set) v)
+    → TellsWhere r (FitIn one set fs x) (FunctionsHold one set fs x)
+hold_in r one set fs x v fit is said =
+    answers_alike r (MembershipFits set (evaluations one fs x)) (FitIn one set fs x)
+    (λ holds. IsTrue holds ↔ FunctionsHold one set fs x)
+    (λ holds. IsTrue holds ↔ FunctionsHold one set fs x)
+    (subst (λ l. TellsWhere r (MembershipFits set l) (In (multiplied one set) l)) is said)
+    (λ m. record { functions = fit; membership = m })
+    (λ f. f.membership) (λ _ h. h)
+
+-- a group's variables, in its set
+pub variables_in_set : (r : Result Bool CheckFault) (one : Rational) (set : Set)
+    (us : List Address) (x : Address → Rational) (v : List Rational) → v ≡ map x us
+    → TellsWhere r (MembershipFits set v) (In (multiplied one set) v)
+    → TellsWhere r (MembershipFits set (evaluations one (variables_at us) x))
+    (FunctionsHold one set (variables_at us) x)
+variables_in_set r one set us x v is said =
+    subst (λ l. TellsWhere r (MembershipFits set l) (In (multiplied one set) l))
+    (is ∙ sym (evaluations_variables one us x)) said
