@@ -1,7 +1,6 @@
 -- Numbers added to the sums of all variables, step by step.
-use Rattle.std.specs.Prelude.{◌≡◌, Bool, true, false, cond, List, [], ◌∷◌, ◌++◌, map, All, Contains, Some, None, Result, Ok, Err, unwrap_or, refl}
+use Rattle.std.specs.Prelude.{◌≡◌, T, Bool, true, false, cond, List, [], ◌∷◌, ◌++◌, map, All, Contains, Some, None, Result, Ok, Err, unwrap_or, refl}
 use Rattle.std.specs.FinMap.{find, is_sorted}
-use Rattle.std.specs.Bool.{T}
 use Rattle.std.proofs.Common.{sym, ◌∙◌, ap, ap₂, subst}
 use Rattle.std.proofs.lemmas.List.Elements.{All-contains, All-contains_itself, All-head, All-tail}
 use Rattle.ratio_core.specs.Folds.{sum_from}

@@ -3,11 +3,13 @@ use Rattle.std.specs.Prelude.{◌≡◌, cond, List, [], ◌∷◌, ◌↔◌, m
 use Rattle.std.proofs.Common.{sym, ◌∙◌, ap, ap₂, subst}
 use Rattle.ratio_core.specs.Rational.{Rational, one_ℚ, zero_ℚ, ◌*ℚ◌, ◌+ℚ◌}
 use Rattle.rational_laws.specs.Field.{*ℚ-zero, one-*ℚ, one_not_zero, zero-*ℚ}
+use Rattle.ratio_core.specs.Folds.{sum_from}
+use Rattle.rational_laws.specs.Sums.{fold_ℚ, sum_ℚ}
 use Rattle.aff_core.specs.Address.{Address, address_cmp}
 use Rattle.aff_core.specs.Function.{Function, evaluated, terms_of, variable}
 use Rattle.aff_core.specs.FunctionLaws.{constant-function_of, nonzero_test, terms-function_of}
 use Rattle.aff_core.specs.FunctionLists.{evaluations}
-use Rattle.aff_core.specs.Terms.{ValueFits, linear}
+use Rattle.aff_core.specs.Terms.{linear}
 use Rattle.linear_laws.specs.ListLaws.{evaluations_variables}
 use Rattle.set_core.specs.declared.set.Set.{Set}
 use Rattle.set_core.specs.Membership.{In, MembershipFits, recession}
@@ -16,7 +18,7 @@ use Rattle.set_laws.specs.Multiples.{multiplied_one, multiplied_zero}
 use Rattle.certificates.specs.Points.{variables_at}
 use Rattle.cert_core.specs.declared.fault.CheckFault.{CheckFault}
 use Rattle.cert_core.specs.Answers.{ExactWhere, TellsWhere}
-use Rattle.cert_core.specs.Folds.{EvaluationFits, FitIn}
+use Rattle.cert_core.specs.Folds.{AddUp, EvaluationFits, FitIn, products_at}
 use Rattle.cert_core.specs.Holding.{FunctionsHold}
 use Rattle.cert_core.proofs.Answered.{answers_alike}
 
@@ -34,9 +36,19 @@ constant_of_variable v = constant-function_of address_cmp ((v, one_ℚ) ∷ []) 
 
 -- ---- from a start
 
+-- a number and products added to it
+pub with_products : (start : Rational) (ts : List (Address × Rational)) (x : Address → Rational)
+    → sum_from start (products_at ts x) ≡ start +ℚ linear ts x
+with_products start ts x = fold_ℚ start (products_at ts x) ∙ ap (λ s. start +ℚ s) (sums ts)
+  where
+    sums : (ts : List (Address × Rational)) → sum_ℚ (products_at ts x) ≡ linear ts x
+    unfolding linear
+    sums [] = refl
+    sums (t ∷ ts) = ap (λ s. t.1 *ℚ x t.0 +ℚ s) (sums ts)
+
 abbrev Read : Result Rational CheckFault → Rational → List (Address × Rational)
     → (Address → Rational) → Type 0
-Read r start ts x = ExactWhere r (ValueFits start ts x) (λ q. q ≡ start +ℚ linear ts x)
+Read r start ts x = ExactWhere r (AddUp start (products_at ts x)) (λ q. q ≡ start +ℚ linear ts x)
 
 -- a function's terms added to its constant, times `one`
 pub read_from : (r : Result Rational CheckFault) (one start : Rational) (f : Function)
@@ -56,7 +68,8 @@ read_slope r f x h = read_from r zero_ℚ zero_ℚ f x h (sym (zero-*ℚ f.const
 
 pub read_variable : (r : Result Rational CheckFault) (one : Rational) (v : Address)
     (x : Address → Rational) → Read r zero_ℚ ((v, one_ℚ) ∷ []) x
-    → ExactWhere r (EvaluationFits one (variable v) x) (λ q. q ≡ evaluated one (variable v) x)
+    → ExactWhere r (EvaluationFits one (variable v) x)
+    (λ q. q ≡ evaluated {R = address_cmp} one (variable v) x)
 read_variable r one v x h =
     read_from r one zero_ℚ (variable v) x
     (subst (λ ts. Read r zero_ℚ ts x) (sym (terms_of_variable v)) h)

@@ -1,3 +1,4 @@
+pub mod Steps
 pub mod Answered
 pub mod ZeroSums
 pub mod Tested
@@ -8,4 +9,5 @@ pub mod Evaluated
 pub mod Rows
 pub mod Parts
 pub mod Adding
+pub mod Assembled
 pub mod Groups

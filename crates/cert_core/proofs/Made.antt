@@ -4,7 +4,7 @@ use Rattle.std.proofs.Common.{sym, ◌∙◌, ap, ap₂, subst, get_or}
 use Rattle.std.proofs.lemmas.List.{take_all}
 use Rattle.std.proofs.lemmas.List.Elements.{All-cons, All-get_or, All-head, All-more, All-nil, All-tail}
 use Rattle.ratio_core.specs.Rational.{Rational}
-use Rattle.aff_core.proofs.Values.{map-take_more}
+use Rattle.cert_core.proofs.Steps.{map-take_more}
 
 module _ {X : Type 0} (F : X → Type 0) (f : X → Rational) (xs : List X) where
   -- those before a place fit, and their numbers are made

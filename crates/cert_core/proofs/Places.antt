@@ -85,20 +85,20 @@ searched us at (Err i) up range parted =
     by_side : IsPartitionPoint (λ u. address_cmp u at ≡ Less) (λ u. address_cmp u at ≡ Greater) us i
         → (k : ℕ) → k < length us → get_or us k at ≡ at → (b : Bool) → nat_lt k i ≡ b → ⊥
     by_side parts k lt is true t =
-        apart Less (get_or us k at) (parts.0 k at lt (ltb-true k i t)) (λ e. cc) is
+        apart Less (get_or us k at) (parts.0 k at (omega arith) (ltb-true k i t)) (λ e. cc) is
     by_side parts k lt is false t =
         apart Greater (get_or us k at) (parts.1 k at (ltb-false k i t) lt) (λ e. cc) is
 
 -- ---- a point at a place
 
 -- an address that differs from all of a list differs from the one at a place
-other : {a v : Address} (us : List Address) (i : ℕ) → AllByRecursion (λ u. address_eq a u ≡ false) us
+other : (a v : Address) (us : List Address) (i : ℕ) → AllByRecursion (λ u. address_eq a u ≡ false) us
     → slice_get us i ≡ Some v → address_eq v a ≡ false
-other [] i apart is = cc
-other {a} {v} (u ∷ us) zero apart is =
+other a v [] i apart is = cc
+other a v (u ∷ us) zero apart is =
     let same : u ≡ v = cc in
     ap (λ w. address_eq w a) (sym same) ∙ (eq_by_cmp_equiv address_total).symm u a ∙ apart.0
-other (u ∷ us) (suc i) apart is = other us i apart.1 is
+other a v (u ∷ us) (suc i) apart is = other a v us i apart.1 is
 
 pub spread_place : (us : List Address) (x : List Rational) (i : ℕ) (v : Address)
     → IsDistinct address_eq us → slice_get us i ≡ Some v → spread us x v ≡ get_or x i zero_ℚ
@@ -111,7 +111,7 @@ spread_place (a ∷ us) (q ∷ x) zero v d is =
     a_is : a ≡ v
     a_is = cc
 spread_place (a ∷ us) (q ∷ x) (suc i) v d is =
-    ap (λ b. cond b q (spread us x v)) (other us i (IsDistinct-head address_eq a us d) is)
+    ap (λ b. cond b q (spread us x v)) (other a v us i (IsDistinct-head address_eq a us d) is)
     ∙ spread_place us x i v (IsDistinct-tail address_eq a us d) is
 
 first_differs : (a : Address) (us : List Address) (v : Address) → ¬ (Contains (a ∷ us) v) → ¬ (v ≡ a)
@@ -150,7 +150,7 @@ set_at_place (a ∷ us) y zero v q d is =
 set_at_place (a ∷ us) y (suc i) v q d is =
     ap₂ ◌∷◌
     (ap (λ b. cond b q (y a)) (sym ((eq_by_cmp_equiv address_total).symm a v
-    ∙ other us i (IsDistinct-head address_eq a us d) is)))
+    ∙ other a v us i (IsDistinct-head address_eq a us d) is)))
     (set_at_place us y i v q (IsDistinct-tail address_eq a us d) is)
 
 pub none_at_place : (us : List Address) (y : Address → Rational) (v : Address) (q : Rational)

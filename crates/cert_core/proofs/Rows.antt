@@ -2,7 +2,7 @@
 use Rattle.std.specs.Prelude.{◌≡◌, ℕ, zero, suc, ◌+◌, ◌<◌, List, [], ◌∷◌, length, refl}
 use Rattle.std.proofs.Common.{sym, ◌∙◌, ap, ap₂, subst, arith, drop, get_or}
 use Rattle.ratio_core.specs.Rational.{Rational}
-use Rattle.aff_core.proofs.Values.{next_term}
+use Rattle.cert_core.proofs.Steps.{next_item}
 use Rattle.dual_laws.specs.Held.{Held}
 use Rattle.user_model.specs.declared.row.Row.{Row}
 use Rattle.certificates.specs.Duals.{row_with, rows_with}
@@ -28,6 +28,6 @@ pub next_row : (ys : List (List Rational)) (rows : List Row) (i : ℕ) (y : List
     → length ys ≡ length rows → y ≡ get_or ys i y → r ≡ get_or rows i r → i < length rows
     → drop i (rows_with ys rows) ≡ row_with y r ∷ drop (i + 1) (rows_with ys rows)
 next_row ys rows i y r e y_is r_is lt =
-    next_term (rows_with ys rows) (rows_with ys rows) i (row_with y r) refl
+    next_item (rows_with ys rows) i (row_with y r)
     (ap₂ row_with y_is r_is ∙ sym (row_at ys rows i y r e))
     (subst (λ n. i < n) (sym (row_count ys rows e)) lt)

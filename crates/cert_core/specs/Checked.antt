@@ -47,6 +47,6 @@ module _ (model : ModelValue) where
   -- yes exactly where the certificate is good; an overflow exactly where the numbers of entries
   -- are right, and something of its kind doesn't fit
   abbrev pub Checks : Result Bool CheckFault → Certificate → Type 0
-  Checks (Ok yes) c = (IsTrue yes ↔ Good model c) × (HasEntries c → CertificateFits model c)
+  Checks (Ok is_good) c = (IsTrue is_good ↔ Good model c) × (HasEntries c → CertificateFits model c)
   Checks (Err CertOverflow) c = HasEntries c × ¬ (CertificateFits model c)
   Checks (Err Memory) c = Unit {0}

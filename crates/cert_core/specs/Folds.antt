@@ -4,7 +4,7 @@
 --     adjoint_parts    what rows add to the adjoint of a variable: its coefficients times the duals
 --     gap_parts        what rows and groups add to the gap: the least product, and less the duals
 --                      times the constants
-use Rattle.std.specs.Prelude.{List, [], ◌∷◌, flat_map, All}
+use Rattle.std.specs.Prelude.{List, [], ◌∷◌, flat_map, map, All}
 use Rattle.ratio_core.specs.Rational.{Rational, Fits, SumFits, neg_ℚ, one_ℚ, zero_ℚ, ◌*ℚ◌, ◌+ℚ◌}
 use Rattle.rational_laws.specs.Dot.{negated}
 use Rattle.aff_core.specs.Address.{Address}
@@ -12,7 +12,6 @@ use Rattle.aff_core.specs.declared.sense.Sense.{Sense}
 use Rattle.aff_core.specs.declared.sense.Sense.TheVariants.{Min, Max}
 use Rattle.aff_core.specs.Function.{Function, terms_of}
 use Rattle.aff_core.specs.FunctionLists.{coefficients, constants, evaluations}
-use Rattle.aff_core.specs.Terms.{ValueFits}
 use Rattle.dual_laws.specs.Held.{Held}
 use Rattle.set_core.specs.declared.set.Set.{Set}
 use Rattle.set_core.specs.Membership.{DualFits, MembershipFits, low_of}
@@ -49,9 +48,13 @@ gap_parts hs = flat_map gap_parts_of hs
 
 -- ---- functions in sets, at a point where `one` is 1, and along a ray where it is 0
 
--- from the constant on, each coefficient times its variable's number
+-- each coefficient times its variable's number
+abbrev pub products_at : List (Address × Rational) → (Address → Rational) → List Rational
+products_at ts x = map (λ t. t.1 *ℚ x t.0) ts
+
+-- these, added to the constant
 abbrev pub EvaluationFits : Rational → Function → (Address → Rational) → Type 0
-EvaluationFits one f x = ValueFits (one *ℚ f.constant) (terms_of f) x
+EvaluationFits one f x = AddUp (one *ℚ f.constant) (products_at (terms_of f) x)
 
 -- each of the functions, and the sum of a norm
 pub record FitIn (one : Rational) (set : Set) (fs : List Function)

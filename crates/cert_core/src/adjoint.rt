@@ -1,5 +1,5 @@
 //! The rows' adjoint of each variable, in one pass over the rows.
-ghost use Rattle.std.specs.Prelude.{◌≡◌, All, Contains, cond, length, map};
+ghost use Rattle.std.specs.Prelude.{◌≡◌, [], ◌∷◌, All, Contains, cond, length, map};
 ghost use Rattle.ratio_core.specs.Folds.{sum_from};
 ghost use Rattle.ratio_core.specs.Rational.{Fits, Rational, zero_ℚ, ◌+ℚ◌, ◌*ℚ◌};
 ghost use Rattle.aff_core.specs.Address.{Address, address_eq};

@@ -83,14 +83,14 @@ pub fn check(
                 rows: rows.as_slice(),
                 vars: vars.as_slice(),
             };
-            parts.is_optimal(alloc, value, x.as_slice(), duals)
+            parts.is_optimal(alloc, value, x.as_slice(), &duals)
         }
         Certificate::Infeasible { gap, rows, vars } => {
             let duals = Duals {
                 rows: rows.as_slice(),
                 vars: vars.as_slice(),
             };
-            parts.is_infeasible(alloc, gap, duals)
+            parts.is_infeasible(alloc, gap, &duals)
         }
         Certificate::Unbounded { x, d } => { parts.is_unbounded(alloc, x.as_slice(), d.as_slice()) }
     }
@@ -138,30 +138,30 @@ impl<'a> Parts<'a> {
     }
 
     // Whether the duals are in the dual sets.
-    fn duals_hold(&self, duals: Duals) -> Result<bool, CheckFault>
+    fn duals_hold(&self, duals: &Duals) -> Result<bool, CheckFault>
         requires ready { IsReady self.now.groups.now self.now.rows.now self.now.variables }
-        requires rows { HasRowDuals self.now.rows.now duals.rows.now }
-        requires vars { length duals.vars.now ≡ length self.now.variables }
+        requires rows { HasRowDuals self.now.rows.now duals.now.rows.now }
+        requires vars { length duals.now.vars.now ≡ length self.now.variables }
         ensures { (next : NextNumbers) → let model = model_of self.now.groups.now
             self.now.rows.now self.now.objective.now next in
+            let hs = with_duals model duals.now.rows.now duals.now.vars.now in
             TellsWhere result
-            (All (λ h. DualFits h.set h.duals) (with_duals model duals.rows.now duals.vars.now))
-            (All (λ h. Dual h.set h.duals) (with_duals model duals.rows.now duals.vars.now)) }
+            (All (λ h. DualFits h.set h.duals) hs) (All (λ h. Dual h.set h.duals) hs) }
     {
         let rows = row_duals_hold(self.rows, duals.rows)?;
         let groups = group_duals_hold(self.groups, duals.vars)?;
         Ok(rows && groups)
     }
 
-    fn gap(&self, duals: Duals) -> Result<Ratio, CheckFault>
+    fn gap(&self, duals: &Duals) -> Result<Ratio, CheckFault>
         requires ready { IsReady self.now.groups.now self.now.rows.now self.now.variables }
-        requires rows { HasRowDuals self.now.rows.now duals.rows.now }
-        requires vars { length duals.vars.now ≡ length self.now.variables }
+        requires rows { HasRowDuals self.now.rows.now duals.now.rows.now }
+        requires vars { length duals.now.vars.now ≡ length self.now.variables }
         ensures { (next : NextNumbers) → let model = model_of self.now.groups.now
             self.now.rows.now self.now.objective.now next in
             ExactWhere result
-            (AddUp zero_ℚ (gap_parts (with_duals model duals.rows.now duals.vars.now)))
-            (λ q. q ≡ dual_gap model duals.rows.now duals.vars.now) }
+            (AddUp zero_ℚ (gap_parts (with_duals model duals.now.rows.now duals.now.vars.now)))
+            (λ q. q ≡ dual_gap model duals.now.rows.now duals.now.vars.now) }
     {
         let of_rows = gap_of_rows(self.rows, duals.rows)?;
         plus_groups(&of_rows, self.groups, duals.vars)
@@ -172,16 +172,16 @@ impl<'a> Parts<'a> {
         alloc: Global,
         value: &Ratio,
         x: &[Ratio],
-        duals: Duals,
+        duals: &Duals,
     ) -> Result<bool, CheckFault>
         requires ready { IsReady self.now.groups.now self.now.rows.now self.now.variables }
         requires size { length x.now ≡ length self.now.variables }
-        requires rows { HasRowDuals self.now.rows.now duals.rows.now }
-        requires vars { length duals.vars.now ≡ length self.now.variables }
+        requires rows { HasRowDuals self.now.rows.now duals.now.rows.now }
+        requires vars { length duals.now.vars.now ≡ length self.now.variables }
         ensures { (next : NextNumbers) → let model = model_of self.now.groups.now
             self.now.rows.now self.now.objective.now next in
-            TellsWhere result (OptimalFits model x.now duals.rows.now duals.vars.now)
-            (IsOptimal model value.now x.now duals.rows.now duals.vars.now) }
+            TellsWhere result (OptimalFits model x.now duals.now.rows.now duals.now.vars.now)
+            (IsOptimal model value.now x.now duals.now.rows.now duals.now.vars.now) }
     {
         let feasible = self.holds_at(alloc, Reading::Value, x)?;
         let at = Point::new(&self.variables, x);
@@ -195,14 +195,14 @@ impl<'a> Parts<'a> {
         Ok(feasible && in_sets && equal && *value == primal && *value == dual)
     }
 
-    fn is_infeasible(&self, alloc: Global, gap: &Ratio, duals: Duals) -> Result<bool, CheckFault>
+    fn is_infeasible(&self, alloc: Global, gap: &Ratio, duals: &Duals) -> Result<bool, CheckFault>
         requires ready { IsReady self.now.groups.now self.now.rows.now self.now.variables }
-        requires rows { HasRowDuals self.now.rows.now duals.rows.now }
-        requires vars { length duals.vars.now ≡ length self.now.variables }
+        requires rows { HasRowDuals self.now.rows.now duals.now.rows.now }
+        requires vars { length duals.now.vars.now ≡ length self.now.variables }
         ensures { (next : NextNumbers) → let model = model_of self.now.groups.now
             self.now.rows.now self.now.objective.now next in
-            TellsWhere result (InfeasibleFits model duals.rows.now duals.vars.now)
-            (IsInfeasible model gap.now duals.rows.now duals.vars.now) }
+            TellsWhere result (InfeasibleFits model duals.now.rows.now duals.now.vars.now)
+            (IsInfeasible model gap.now duals.now.rows.now duals.now.vars.now) }
     {
         let in_sets = self.duals_hold(duals)?;
         let sums = adjoint_of_rows(alloc, &self.variables, self.rows, duals.rows)?;

@@ -1,5 +1,5 @@
 //! Whether the variables' duals are what the objective and the rows leave for them.
-ghost use Rattle.std.specs.Prelude.{◌≡◌, All, map};
+ghost use Rattle.std.specs.Prelude.{◌≡◌, All, length, map};
 ghost use Rattle.ratio_core.specs.Rational.{Rational, SumFits, zero_ℚ, ◌+ℚ◌};
 ghost use Rattle.aff_core.specs.Address.{Address};
 ghost use Rattle.aff_core.specs.Function.{coefficient};

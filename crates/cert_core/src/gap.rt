@@ -49,7 +49,8 @@ fn plus_row(sum: &Ratio, row: &Row, duals: &[Ratio]) -> Result<Ratio, CheckFault
 fn less_constants(sum: &Ratio, components: Components, duals: &[Ratio]) -> Result<Ratio, CheckFault>
     requires fits { Fits sum.now }
     requires size { length duals.now ≡ length (functions_in components) }
-    ensures { let parts = negated (products duals.now (constants (functions_in components))) in
+    ensures { let parts = negated (products duals.now
+        (constants (functions_in components.entry))) in
         ExactWhere result (AddUp sum.now parts) (λ q. q ≡ sum_from sum.now parts) }
 {
     match components {

@@ -1,10 +1,12 @@
 //! What is read of an objective. A model without one seeks the least value of 0.
 ghost use Rattle.std.specs.Prelude.{◌≡◌};
+ghost use Rattle.aff_core.specs.Address.{address_cmp};
 ghost use Rattle.aff_core.specs.Function.{coefficient, evaluated, variable};
 ghost use Rattle.certificates.specs.Points.{objective_function, sense_of};
 ghost use Rattle.cert_core.specs.Answers.{ExactWhere};
 ghost use Rattle.cert_core.specs.Folds.{EvaluationFits};
 ghost use Rattle.cert_core.specs.Readings.{one_of};
+ghost use Rattle.cert_core.specs.Variables.{numbers_in};
 
 use crate::CheckFault;
 use crate::readings::Reading;
@@ -44,7 +46,7 @@ pub(crate) fn cost(objective: &Objective, at: &Address) -> Ratio
 
 // 1 at a variable, and 0 elsewhere.
 fn unit(var: &Address, at: &Address) -> Ratio
-    ensures { result ≡ coefficient (variable var.now) at.now }
+    ensures { result ≡ coefficient {R = address_cmp} (variable var.now) at.now }
 {
     if at == var {
         Ratio::one()
@@ -59,9 +61,10 @@ pub(crate) fn reading_of(
     reading: Reading,
     at: &Point,
 ) -> Result<Ratio, CheckFault>
-    ensures { ExactWhere result
-        (EvaluationFits (one_of reading) (objective_function objective.now) at.now)
-        (λ q. q ≡ evaluated (one_of reading) (objective_function objective.now) at.now) }
+    ensures { let x = numbers_in at.now in
+        ExactWhere result
+        (EvaluationFits (one_of reading) (objective_function objective.now) x)
+        (λ q. q ≡ evaluated (one_of reading) (objective_function objective.now) x) }
 {
     match objective {
         Objective::Feasibility => Ok(Ratio::zero()),

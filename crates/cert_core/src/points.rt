@@ -11,7 +11,7 @@ ghost use Rattle.cert_core.specs.Folds.{EvaluationFits, FitIn};
 ghost use Rattle.cert_core.specs.Components.{functions_in};
 ghost use Rattle.cert_core.specs.Readings.{one_of};
 ghost use Rattle.cert_core.specs.Holding.{FunctionsHold, HasRowSet, HasGroupSet};
-ghost use Rattle.cert_core.specs.Variables.{all_addresses};
+ghost use Rattle.cert_core.specs.Variables.{numbers_in, all_addresses};
 
 use crate::CheckFault;
 use crate::components::{Components, components_of};
@@ -30,9 +30,10 @@ pub(crate) fn rows_hold(
     at: &Point,
 ) -> Result<bool, CheckFault>
     requires { All HasRowSet rows.now }
-    ensures { TellsWhere result
-        (All (λ r. FitIn (one_of reading) r.set (functions_of r.func) at.now) rows.now)
-        (All (λ r. FunctionsHold (one_of reading) r.set (functions_of r.func) at.now) rows.now) }
+    ensures { let x = numbers_in at.now in
+        TellsWhere result
+        (All (λ r. FitIn (one_of reading) r.set (functions_of r.func) x) rows.now)
+        (All (λ r. FunctionsHold (one_of reading) r.set (functions_of r.func) x) rows.now) }
 {
     let mut all = true;
     for row in rows {
@@ -44,9 +45,10 @@ pub(crate) fn rows_hold(
 
 fn row_holds(alloc: Global, reading: Reading, row: &Row, at: &Point) -> Result<bool, CheckFault>
     requires { HasRowSet row.now }
-    ensures { TellsWhere result
-        (FitIn (one_of reading) row.now.set (functions_of row.now.func) at.now)
-        (FunctionsHold (one_of reading) row.now.set (functions_of row.now.func) at.now) }
+    ensures { let x = numbers_in at.now in
+        TellsWhere result
+        (FitIn (one_of reading) row.now.set (functions_of row.now.func) x)
+        (FunctionsHold (one_of reading) row.now.set (functions_of row.now.func) x) }
 {
     let read = read_components(alloc, reading, components_of(&row.func), at)?;
     reading.holds(&row.set, &read)
@@ -58,9 +60,10 @@ fn read_components(
     components: Components,
     at: &Point,
 ) -> Result<Vec<Ratio>, CheckFault>
-    ensures { ExactWhere result
-        (All (λ f. EvaluationFits (one_of reading) f at.now) (functions_in components))
-        (λ v. v.items ≡ evaluations (one_of reading) (functions_in components) at.now) }
+    ensures { let x = numbers_in at.now in
+        ExactWhere result
+        (All (λ f. EvaluationFits (one_of reading) f x) (functions_in components.entry))
+        (λ v. v.items ≡ evaluations (one_of reading) (functions_in components.entry) x) }
 {
     match components {
         Components::Variables(vars) => read_variables(alloc, reading, vars, at),
@@ -74,9 +77,10 @@ fn read_variables(
     vars: &[Address],
     at: &Point,
 ) -> Result<Vec<Ratio>, CheckFault>
-    ensures { ExactWhere result
-        (All (λ f. EvaluationFits (one_of reading) f at.now) (variables_at vars.now))
-        (λ v. v.items ≡ evaluations (one_of reading) (variables_at vars.now) at.now) }
+    ensures { let x = numbers_in at.now in
+        ExactWhere result
+        (All (λ f. EvaluationFits (one_of reading) f x) (variables_at vars.now))
+        (λ v. v.items ≡ evaluations (one_of reading) (variables_at vars.now) x) }
 {
     let mut read = Vec::with_capacity(alloc, vars.len())?;
     for var in vars {
@@ -91,9 +95,10 @@ fn read_functions(
     fs: &[Aff],
     at: &Point,
 ) -> Result<Vec<Ratio>, CheckFault>
-    ensures { ExactWhere result
-        (All (λ f. EvaluationFits (one_of reading) f at.now) fs.now)
-        (λ v. v.items ≡ evaluations (one_of reading) fs.now at.now) }
+    ensures { let x = numbers_in at.now in
+        ExactWhere result
+        (All (λ f. EvaluationFits (one_of reading) f x) fs.now)
+        (λ v. v.items ≡ evaluations (one_of reading) fs.now x) }
 {
     let mut read = Vec::with_capacity(alloc, fs.len())?;
     for f in fs {

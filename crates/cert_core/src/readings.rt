@@ -7,6 +7,7 @@ ghost use Rattle.set_core.specs.Shapes.{dimension_of};
 ghost use Rattle.cert_core.specs.Answers.{ExactWhere, TellsWhere};
 ghost use Rattle.cert_core.specs.Folds.{EvaluationFits};
 ghost use Rattle.cert_core.specs.Readings.{one_of};
+ghost use Rattle.cert_core.specs.Variables.{numbers_in};
 
 use crate::CheckFault;
 use crate::sums::plus_terms;
@@ -25,8 +26,9 @@ pub(crate) enum Reading {
 impl Reading {
     /// The function's value or slope.
     pub(crate) fn of_function(self, f: &Aff, at: &Point) -> Result<Ratio, CheckFault>
-        ensures { ExactWhere result (EvaluationFits (one_of self) f.now at.now)
-            (λ q. q ≡ evaluated (one_of self) f.now at.now) }
+        ensures { let x = numbers_in at.now in
+            ExactWhere result (EvaluationFits (one_of self) f.now x)
+            (λ q. q ≡ evaluated (one_of self) f.now x) }
     {
         match self {
             Reading::Value => plus_terms(&f.constant(), f.terms(), at),
@@ -36,8 +38,9 @@ impl Reading {
 
     /// The value or the slope of the function that is a variable.
     pub(crate) fn of_variable(self, var: &Address, at: &Point) -> Result<Ratio, CheckFault>
-        ensures { ExactWhere result (EvaluationFits (one_of self) (variable var.now) at.now)
-            (λ q. q ≡ evaluated (one_of self) (variable var.now) at.now) }
+        ensures { let x = numbers_in at.now in
+            ExactWhere result (EvaluationFits (one_of self) (variable var.now) x)
+            (λ q. q ≡ evaluated (one_of self) (variable var.now) x) }
     {
         plus_terms(&Ratio::zero(), &[(*var, Ratio::one())], at)
     }

@@ -1,8 +1,10 @@
 //! Sums from the left.
 ghost use Rattle.std.specs.Prelude.{◌≡◌, OkIff, IsOkUnless};
 ghost use Rattle.ratio_core.specs.Rational.{◌+ℚ◌, ◌*ℚ◌};
-ghost use Rattle.aff_core.specs.Terms.{StepFits, ValueFits, linear};
+ghost use Rattle.aff_core.specs.Terms.{StepFits, linear};
 ghost use Rattle.cert_core.specs.Answers.{ExactWhere};
+ghost use Rattle.cert_core.specs.Folds.{AddUp, products_at};
+ghost use Rattle.cert_core.specs.Variables.{numbers_in};
 
 use crate::CheckFault;
 use crate::variables::Point;
@@ -24,8 +26,9 @@ pub(crate) fn plus_terms(
     terms: &[(Address, Ratio)],
     at: &Point,
 ) -> Result<Ratio, CheckFault>
-    ensures { ExactWhere result (ValueFits start.now terms.now at.now)
-        (λ q. q ≡ start.now +ℚ linear terms.now at.now) }
+    ensures { let x = numbers_in at.now in
+        ExactWhere result (AddUp start.now (products_at terms.now x))
+        (λ q. q ≡ start.now +ℚ linear terms.now x) }
 {
     let mut sum = *start;
     for (address, coefficient) in terms {

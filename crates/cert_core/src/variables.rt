@@ -1,9 +1,10 @@
 //! The variables of a model, and the numbers that a point has of them.
 ghost use Rattle.std.specs.Prelude.{◌≡◌, ◌++◌, IfOk, OnOk};
 ghost use Rattle.numbered.specs.Numbered.{Rise};
+ghost use Rattle.aff_core.specs.Points.{spread};
 ghost use Rattle.user_model.specs.Consistent.{variable_number};
 ghost use Rattle.certificates.specs.Points.{addresses_of};
-ghost use Rattle.cert_core.specs.Variables.{Ascend, IsPlaceOf, all_addresses, variables_of};
+ghost use Rattle.cert_core.specs.Variables.{Ascend, IsPlaceOf, all_addresses, numbers_in, variables_of};
 
 use aff_core::{Address, Root};
 use ratio_core::{Memory, Ratio};
@@ -77,34 +78,22 @@ fn push_addresses(addresses: &mut Vec<Address>, vars: &[GroupVar]) -> Result<(),
 }
 
 /// A point: numbers of a model's variables.
-#[derive(Drop)]
+#[derive(Clone, Copy)]
 pub(crate) struct Point<'a> {
     variables: &'a Variables,
     numbers: &'a [Ratio],
 }
 
-impl<'a> Model for Point<'a> {
-    ghost use Rattle.ratio_core.specs.Rational.{Rational};
-    ghost use Rattle.aff_core.specs.Address.{Address};
-    ghost use Rattle.aff_core.specs.Points.{spread};
-
-    ghost Value = { Address → Rational };
-
-    ghost view = { λ a. spread a.variables.now a.numbers.now };
-}
-
 impl<'a> Point<'a> {
-    ghost use Rattle.aff_core.specs.Points.{spread};
-
     pub(crate) fn new(variables: &'a Variables, numbers: &'a [Ratio]) -> Point<'a>
-        ensures { result ≡ spread variables.now numbers.now }
+        ensures { numbers_in result ≡ spread variables.now numbers.now }
     {
         Point { variables, numbers }
     }
 
     /// The number at an address, which is 0 where no variable stands.
     pub(crate) fn number(&self, at: &Address) -> Ratio
-        ensures { result ≡ self.now at.now }
+        ensures { result ≡ numbers_in self.now at.now }
     {
         match self.variables.place(at) {
             Some(place) if place < self.numbers.len() => self.numbers[place],

@@ -1,0 +1,144 @@
+-- From what the calls answer to what is said of the model.
+use Rattle.std.specs.Prelude.{◌≡◌, ◌↔◌, ◌++◌, Bool, IsTrue, List, length, All, map, Result, refl}
+use Rattle.std.proofs.Common.{sym, ◌∙◌, ap, subst, get_or}
+use Rattle.std.proofs.lemmas.List.{length-map}
+use Rattle.std.proofs.lemmas.List.Elements.{All-append, All-map, All-weaker}
+use Rattle.ratio_core.specs.Folds.{sum_from}
+use Rattle.ratio_core.specs.Rational.{Rational, one_ℚ, zero_ℚ}
+use Rattle.aff_core.specs.Address.{Address, address_cmp}
+use Rattle.aff_core.specs.Function.{Function, variable}
+use Rattle.aff_core.specs.FunctionLists.{evaluations, slopes, values}
+use Rattle.aff_core.specs.Points.{spread}
+use Rattle.dual_laws.specs.Held.{Held}
+use Rattle.linear_laws.specs.ListLaws.{evaluations_slopes, evaluations_values}
+use Rattle.linear_laws.specs.PointLaws.{spread_at}
+use Rattle.set_core.specs.declared.set.Set.{Set}
+use Rattle.set_core.specs.Membership.{Dual, DualFits, In, MembershipFits, recession}
+use Rattle.set_core.specs.Mirrored.{multiplied}
+use Rattle.set_laws.specs.Multiples.{multiplied_one, multiplied_zero}
+use Rattle.user_model.specs.declared.group.Group.{Group}
+use Rattle.user_model.specs.declared.objective.Objective.{Objective}
+use Rattle.user_model.specs.declared.row.Row.{Row}
+use Rattle.user_model.specs.declared.undo.NextNumbers.{NextNumbers}
+use Rattle.user_model.specs.Model.{ModelValue, variables}
+use Rattle.certificates.specs.Points.{address_of, addresses_of, at_point, functions_of, functions_of_group}
+use Rattle.certificates.specs.Duals.{AreDuals, HasDuals, group_with, groups_with, rows_with, with_duals}
+use Rattle.certificates.specs.Feasible.{IsFeasible, IsRay}
+use Rattle.cert_core.specs.Answers.{ExactWhere}
+use Rattle.cert_core.specs.Checked.{HasEachDual, HasRowDuals, model_of}
+use Rattle.cert_core.specs.Folds.{FitIn, PointFits}
+use Rattle.cert_core.specs.Holding.{FunctionsHold, HoldsAt}
+use Rattle.cert_core.specs.Variables.{Ascend, all_addresses, variables_of}
+use Rattle.cert_core.proofs.Places.{distinct}
+
+-- ---- values and slopes
+
+value_of_hold : (set : Set) (fs : List Function) (x : Address → Rational)
+    → FunctionsHold one_ℚ set fs x → In set (values fs x)
+value_of_hold set fs x h =
+    subst (λ v. In set v) (evaluations_values fs x)
+    (subst (λ s. In s (evaluations one_ℚ fs x)) (multiplied_one set) h)
+
+hold_of_value : (set : Set) (fs : List Function) (x : Address → Rational)
+    → In set (values fs x) → FunctionsHold one_ℚ set fs x
+hold_of_value set fs x h =
+    subst (λ s. In s (evaluations one_ℚ fs x)) (sym (multiplied_one set))
+    (subst (λ v. In set v) (sym (evaluations_values fs x)) h)
+
+slope_of_hold : (set : Set) (fs : List Function) (x : Address → Rational)
+    → FunctionsHold zero_ℚ set fs x → In (recession set) (slopes fs x)
+slope_of_hold set fs x h =
+    subst (λ v. In (recession set) v) (evaluations_slopes fs x)
+    (subst (λ s. In s (evaluations zero_ℚ fs x)) (multiplied_zero set) h)
+
+hold_of_slope : (set : Set) (fs : List Function) (x : Address → Rational)
+    → In (recession set) (slopes fs x) → FunctionsHold zero_ℚ set fs x
+hold_of_slope set fs x h =
+    subst (λ s. In s (evaluations zero_ℚ fs x)) (sym (multiplied_zero set))
+    (subst (λ v. In (recession set) v) (sym (evaluations_slopes fs x)) h)
+
+module _ (model : ModelValue) (x : List Rational) where
+  pub feasible : length x ≡ length (variables model) → HoldsAt model one_ℚ x → IsFeasible model x
+  feasible size h = record {
+    size = size;
+    groups = All-weaker (λ g. FunctionsHold one_ℚ g.set (functions_of_group g) (at_point model x))
+        (λ g. In g.set (values (functions_of_group g) (at_point model x)))
+        (λ g. value_of_hold g.set (functions_of_group g) (at_point model x)) model.groups h.groups;
+    rows = All-weaker (λ r. FunctionsHold one_ℚ r.set (functions_of r.func) (at_point model x))
+        (λ r. In r.set (values (functions_of r.func) (at_point model x)))
+        (λ r. value_of_hold r.set (functions_of r.func) (at_point model x)) model.rows h.rows;
+  }
+
+  pub from_feasible : IsFeasible model x → HoldsAt model one_ℚ x
+  from_feasible h = record {
+    groups = All-weaker (λ g. In g.set (values (functions_of_group g) (at_point model x)))
+        (λ g. FunctionsHold one_ℚ g.set (functions_of_group g) (at_point model x))
+        (λ g. hold_of_value g.set (functions_of_group g) (at_point model x)) model.groups h.groups;
+    rows = All-weaker (λ r. In r.set (values (functions_of r.func) (at_point model x)))
+        (λ r. FunctionsHold one_ℚ r.set (functions_of r.func) (at_point model x))
+        (λ r. hold_of_value r.set (functions_of r.func) (at_point model x)) model.rows h.rows;
+  }
+
+  pub ray : length x ≡ length (variables model) → HoldsAt model zero_ℚ x → IsRay model x
+  ray size h = record {
+    size = size;
+    groups = All-weaker (λ g. FunctionsHold zero_ℚ g.set (functions_of_group g) (at_point model x))
+        (λ g. In (recession g.set) (slopes (functions_of_group g) (at_point model x)))
+        (λ g. slope_of_hold g.set (functions_of_group g) (at_point model x)) model.groups h.groups;
+    rows = All-weaker (λ r. FunctionsHold zero_ℚ r.set (functions_of r.func) (at_point model x))
+        (λ r. In (recession r.set) (slopes (functions_of r.func) (at_point model x)))
+        (λ r. slope_of_hold r.set (functions_of r.func) (at_point model x)) model.rows h.rows;
+  }
+
+  pub from_ray : IsRay model x → HoldsAt model zero_ℚ x
+  from_ray h = record {
+    groups = All-weaker (λ g. In (recession g.set) (slopes (functions_of_group g) (at_point model x)))
+        (λ g. FunctionsHold zero_ℚ g.set (functions_of_group g) (at_point model x))
+        (λ g. hold_of_slope g.set (functions_of_group g) (at_point model x)) model.groups h.groups;
+    rows = All-weaker (λ r. In (recession r.set) (slopes (functions_of r.func) (at_point model x)))
+        (λ r. FunctionsHold zero_ℚ r.set (functions_of r.func) (at_point model x))
+        (λ r. hold_of_slope r.set (functions_of r.func) (at_point model x)) model.rows h.rows;
+  }
+
+-- ---- duals
+
+module _ (model : ModelValue) (rows : List (List Rational)) (vars : List Rational) where
+  abbrev InDual : Held → Type 0
+  InDual h = Dual h.set h.duals
+
+  pub are_duals : HasRowDuals model.rows rows → length vars ≡ length (variables model)
+      → All InDual (with_duals model rows vars) → AreDuals model rows vars
+  are_duals entries size h = record {
+    each_row = entries.each;
+    each_variable = size;
+    duals = λ k d end. record { size = sizes k d end; dual = h k d end };
+  }
+    where
+      group_sizes : (w : Address → Rational) (groups : List Group)
+          → All HasEachDual (groups_with w groups)
+      group_sizes w groups = All-map HasEachDual (group_with w) groups
+          (λ k d end. length-map (addresses_of (get_or groups k d).vars) w
+          ∙ sym (length-map (addresses_of (get_or groups k d).vars) (variable {R = address_cmp})))
+
+      sizes : All HasEachDual (with_duals model rows vars)
+      sizes = All-append HasEachDual (rows_with rows model.rows)
+          (groups_with (at_point model vars) model.groups) entries.components
+          (group_sizes (at_point model vars) model.groups)
+
+  pub from_duals : AreDuals model rows vars → All InDual (with_duals model rows vars)
+  from_duals h = All-weaker HasDuals InDual (λ _ k. k.dual) (with_duals model rows vars) h.duals
+
+-- ---- at the variables of the model
+
+module _ (groups : List Group) (us : List Address) (is : us ≡ all_addresses groups) where
+  pub variable_count : length us ≡ length (variables_of groups)
+  variable_count = ap length is ∙ length-map (variables_of groups) address_of
+
+  module _ (x : List Rational) where
+    pub numbers_at : Ascend us → length x ≡ length us → map (spread us x) us ≡ x
+    numbers_at up size = spread_at us x (distinct us up) (sym size)
+
+    -- at the model's own addresses
+    pub numbers_at_all : Ascend us → length x ≡ length us
+        → map (spread us x) (all_addresses groups) ≡ x
+    numbers_at_all up size = subst (λ vs. map (spread us x) vs ≡ x) is (numbers_at up size)
