@@ -1,16 +1,19 @@
 -- Functions read at a point and along a ray: of variables, and from another start.
 use Rattle.std.specs.Prelude.{◌≡◌, cond, List, [], ◌∷◌, ◌↔◌, map, All, Bool, IsTrue, Result, length, refl}
+use Rattle.std.specs.Ordering.{eq_by_cmp}
 use Rattle.std.proofs.Common.{sym, ◌∙◌, ap, ap₂, subst}
 use Rattle.ratio_core.specs.Rational.{Rational, one_ℚ, zero_ℚ, ◌*ℚ◌, ◌+ℚ◌}
 use Rattle.rational_laws.specs.Field.{*ℚ-zero, one-*ℚ, one_not_zero, zero-*ℚ}
 use Rattle.ratio_core.specs.Folds.{sum_from}
 use Rattle.rational_laws.specs.Sums.{fold_ℚ, sum_ℚ}
 use Rattle.aff_core.specs.Address.{Address, address_cmp}
-use Rattle.aff_core.specs.Function.{Function, evaluated, terms_of, variable}
+use Rattle.aff_core.specs.Function.{Function, coefficient, constant_function, evaluated, terms_of, variable}
 use Rattle.aff_core.specs.FunctionLaws.{constant-function_of, nonzero_test, terms-function_of}
 use Rattle.aff_core.specs.FunctionLists.{evaluations}
+use Rattle.aff_core.specs.Points.{unit}
 use Rattle.aff_core.specs.Terms.{linear}
-use Rattle.linear_laws.specs.ListLaws.{evaluations_variables}
+use Rattle.linear_laws.specs.ListLaws.{evaluated_constant_function, evaluations_variables, slope_constant_function, slope_variable}
+use Rattle.linear_laws.specs.SlopeLaws.{coefficient_by_unit}
 use Rattle.set_core.specs.declared.set.Set.{Set}
 use Rattle.set_core.specs.Membership.{In, MembershipFits, recession}
 use Rattle.set_core.specs.Mirrored.{multiplied}
@@ -34,15 +37,47 @@ pub constant_of_variable : (v : Address) → (variable {R = address_cmp} v).cons
 unfolding variable
 constant_of_variable v = constant-function_of address_cmp ((v, one_ℚ) ∷ []) zero_ℚ
 
+pub coefficient_of_variable : (v u : Address)
+    → coefficient (variable {R = address_cmp} v) u
+    ≡ cond (eq_by_cmp address_cmp u v) one_ℚ zero_ℚ
+coefficient_of_variable v u = sym (coefficient_by_unit (variable v) u) ∙ slope_variable v (unit u)
+
+-- ---- constant functions
+
+pub coefficient_of_constant : (k : Rational) (u : Address)
+    → coefficient (constant_function {R = address_cmp} k) u ≡ zero_ℚ
+coefficient_of_constant k u =
+    sym (coefficient_by_unit (constant_function k) u) ∙ slope_constant_function k (unit u)
+
+pub constant_of_constant : (k : Rational)
+    → (constant_function {R = address_cmp} k).constant ≡ k
+unfolding constant_function
+constant_of_constant k = constant-function_of address_cmp [] k
+
+terms_of_constant : (k : Rational) → terms_of (constant_function {R = address_cmp} k) ≡ []
+unfolding constant_function
+terms_of_constant k = terms-function_of [] k (record { rising = refl })
+
+-- of an objective that isn't there nothing is read
+pub nothing_read : (one : Rational) (x : Address → Rational)
+    → EvaluationFits one (constant_function zero_ℚ) x
+    × (zero_ℚ ≡ evaluated {R = address_cmp} one (constant_function zero_ℚ) x)
+unfolding AddUp
+nothing_read one x = (
+  subst (λ ts. AddUp (one *ℚ (constant_function {R = address_cmp} zero_ℚ).constant)
+      (products_at ts x)) (sym (terms_of_constant zero_ℚ)) tt,
+  sym (evaluated_constant_function one zero_ℚ x ∙ *ℚ-zero one),
+)
+
 -- ---- from a start
 
 -- a number and products added to it
 pub with_products : (start : Rational) (ts : List (Address × Rational)) (x : Address → Rational)
     → sum_from start (products_at ts x) ≡ start +ℚ linear ts x
+unfolding linear
 with_products start ts x = fold_ℚ start (products_at ts x) ∙ ap (λ s. start +ℚ s) (sums ts)
   where
     sums : (ts : List (Address × Rational)) → sum_ℚ (products_at ts x) ≡ linear ts x
-    unfolding linear
     sums [] = refl
     sums (t ∷ ts) = ap (λ s. t.1 *ℚ x t.0 +ℚ s) (sums ts)
 

@@ -8,6 +8,7 @@ pub mod Made
 pub mod Evaluated
 pub mod Rows
 pub mod Parts
+pub mod GroupSteps
 pub mod Adding
 pub mod Assembled
 pub mod Groups

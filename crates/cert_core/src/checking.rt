@@ -228,6 +228,7 @@ impl<'a> Parts<'a> {
 }
 
 // Whether a slope makes the objective better.
+#[tactic(auto, using(rational_laws::specs::Tests::rational_tests))]
 fn improves(sense: Sense, slope: &Ratio) -> bool
     ensures { IsTrue result ↔ IsBetter sense slope.now zero_ℚ }
 {

@@ -24,16 +24,19 @@ pub(crate) fn sense(objective: &Objective) -> Sense
     }
 }
 
+#[tactic(auto, using(crate::proofs::Evaluated::constant_of_constant, crate::proofs::Evaluated::constant_of_variable))]
 pub(crate) fn constant(objective: &Objective) -> Ratio
     ensures { result ≡ (objective_function objective.now).constant }
 {
     match objective {
-        Objective::Feasibility | Objective::Plain { .. } => Ratio::zero(),
+        Objective::Feasibility => Ratio::zero(),
+        Objective::Plain { .. } => Ratio::zero(),
         Objective::Affine { func, .. } => func.constant(),
     }
 }
 
 /// The coefficient of a variable.
+#[tactic(auto, using(crate::proofs::Evaluated::coefficient_of_constant))]
 pub(crate) fn cost(objective: &Objective, at: &Address) -> Ratio
     ensures { result ≡ coefficient (objective_function objective.now) at.now }
 {
@@ -45,6 +48,7 @@ pub(crate) fn cost(objective: &Objective, at: &Address) -> Ratio
 }
 
 // 1 at a variable, and 0 elsewhere.
+#[tactic(auto, using(crate::proofs::Evaluated::coefficient_of_variable))]
 fn unit(var: &Address, at: &Address) -> Ratio
     ensures { result ≡ coefficient {R = address_cmp} (variable var.now) at.now }
 {
