@@ -184,12 +184,12 @@ module _ (us : List Address) (before : List Rational) (by : Rational)
     taken : (x now : Address → Rational) (v : Address)
         → TermAsAll (x v) (now v) by (coefficient_among ts v) (coefficient_among left v)
         → (Contains us t.0 → StepFits (now t.0) by t.1) → Contains us v
-        → TermAsAll (x v) (cond (address_eq v t.0) (now v +ℚ by *ℚ t.1) (now v)) by
+        → TermAsAll (x v) (cond (address_eq v t.0) (now t.0 +ℚ by *ℚ t.1) (now v)) by
         (coefficient_among ts v) (coefficient_among rest v)
     taken x now v so_far steps stands = by_test (address_eq v t.0) refl
       where
         by_test : (b : Bool) → address_eq v t.0 ≡ b
-            → TermAsAll (x v) (cond b (now v +ℚ by *ℚ t.1) (now v)) by
+            → TermAsAll (x v) (cond b (now t.0 +ℚ by *ℚ t.1) (now v)) by
             (coefficient_among ts v) (coefficient_among rest v)
         by_test true e =
             let same : v ≡ t.0 = (address_eq-Decides v t.0).0 e in
@@ -201,10 +201,12 @@ module _ (us : List Address) (before : List Rational) (by : Rational)
             ∙ lacks_first t rest (subst (λ l. T (is_sorted address_cmp l)) next sorted) in
             let now_steps : StepFits (now v) by t.1 =
             subst (λ u. StepFits (now u) by t.1) (sym same) (steps (subst (Contains us) same stands)) in
-            subst (TermAsAll (x v) (now v +ℚ by *ℚ t.1) by (coefficient_among ts v)) (sym nothing)
+            subst (λ u. TermAsAll (x v) (now u +ℚ by *ℚ t.1) by (coefficient_among ts v)
+            (coefficient_among rest v)) same
+            (subst (TermAsAll (x v) (now v +ℚ by *ℚ t.1) by (coefficient_among ts v)) (sym nothing)
             (term_taken (x v) (now v) by (coefficient_among ts v) t.1
             (subst (TermAsAll (x v) (now v) by (coefficient_among ts v)) coefficient so_far)
-            now_steps)
+            now_steps))
         by_test false e =
             subst (TermAsAll (x v) (now v) by (coefficient_among ts v))
             (ap (λ l. coefficient_among l v) next ∙ other_coefficient t rest v e) so_far
@@ -212,13 +214,13 @@ module _ (us : List Address) (before : List Rational) (by : Rational)
     pub terms_step : (done : List Rational)
         → ((y : Address → Rational) → sums ≡ map y us
         → (Contains us t.0 → StepFits (y t.0) by t.1)
-        × (done ≡ map (λ v. cond (address_eq v t.0) (y v +ℚ by *ℚ t.1) (y v)) us))
+        × (done ≡ map (λ v. cond (address_eq v t.0) (y t.0 +ℚ by *ℚ t.1) (y v)) us))
         → TermsAsAll us before done by ts rest
     terms_step done said = λ x is fit.
         let from = h x is fit in
         let made = said from.now from.is in
         record {
-          now = λ v. cond (address_eq v t.0) (from.now v +ℚ by *ℚ t.1) (from.now v);
+          now = λ v. cond (address_eq v t.0) (from.now t.0 +ℚ by *ℚ t.1) (from.now v);
           is = made.1;
           each = λ k d lt. taken x from.now _ (from.each k d lt) made.0
               (All-contains_itself us k d lt);

@@ -146,3 +146,9 @@ pub variables_in_set : (r : Result Bool CheckFault) (one : Rational) (set : Set)
 variables_in_set r one set us x v is said =
     subst (λ l. TellsWhere r (MembershipFits set l) (In (multiplied one set) l))
     (is ∙ sym (evaluations_variables one us x)) said
+
+pub variables_membership : (one : Rational) (set : Set) (us : List Address)
+    (x : Address → Rational) (v : List Rational) → v ≡ map x us
+    → MembershipFits set (evaluations one (variables_at us) x) → MembershipFits set v
+variables_membership one set us x v is fits =
+    subst (MembershipFits set) (sym (is ∙ sym (evaluations_variables one us x))) fits

@@ -77,12 +77,13 @@ module _ (F P : (Address → Rational) → Group → Type 0) where
           told.1 both;
     }
 
-    pub groups_refused : ((x : Address → Rational)
-        → take (length g.vars) left ≡ map x (addresses_of g.vars) → ¬ (F x g))
-        → (x : Address → Rational) → map x (all_addresses groups) ≡ numbers → ¬ (All (F x) groups)
-    groups_refused bars x is all =
-        bars x (own_numbers x g rest left (at_first x is))
-        (tested_refused (F x) (P x) so_far groups left_groups rest g (h.tested x is) next all)
+    -- what must fit at a group
+    pub groups_fit : (x : Address → Rational) → map x (all_addresses groups) ≡ numbers
+        → All (F x) groups → (take (length g.vars) left ≡ map x (addresses_of g.vars)) × F x g
+    groups_fit x is all = (
+      own_numbers x g rest left (at_first x is),
+      tested_refused (F x) (P x) so_far groups left_groups rest g (h.tested x is) next all,
+    )
 
   pub groups_end : (so_far : Bool) (groups left_groups : List Group) (numbers left : List Rational)
       → GroupsTested so_far groups left_groups numbers left → left_groups ≡ []

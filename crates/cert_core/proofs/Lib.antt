@@ -11,4 +11,5 @@ pub mod Parts
 pub mod GroupSteps
 pub mod Adding
 pub mod Assembled
+pub mod Judged
 pub mod Groups

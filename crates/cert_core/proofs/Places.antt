@@ -1,10 +1,11 @@
 -- The places of addresses in a list that ascends, and the numbers that stand at them.
-use Rattle.std.specs.Prelude.{◌≡◌, ℕ, zero, suc, ◌+◌, ◌<◌, ◌≤◌, ◌==◌, nat_lt, Bool, true, false, cond, List, [], ◌∷◌, map, length, All, AllPairs, Contains, Some, None, Result, Ok, Err, MatchResult, slice_get, refl}
+use Rattle.std.specs.Prelude.{◌≡◌, ℕ, zero, suc, ◌+◌, ◌<◌, ◌≤◌, ◌==◌, nat_lt, Bool, true, false, cond, List, [], ◌∷◌, map, length, All, AllPairs, Contains, Some, None, Result, Ok, Err, slice_get, refl}
 use Rattle.std.specs.Bool.{Decides}
 use Rattle.std.specs.Cmp.{eq_by_cmp_equiv, tied_itself}
 use Rattle.std.specs.List.{AllByRecursion, IsDistinct}
 use Rattle.std.specs.List.Sorted.{IsBinarySearchResult, IsPartitionPoint, IsSearchInRange, IsSortedBy}
 use Rattle.std.specs.Ordering.{is_lt, nat_cmp, ordering_reverse, ordering_then}
+use Rattle.std.specs.Result.{result_ok}
 use Rattle.std.specs.declared.cmp.Ordering.{Ordering}
 use Rattle.std.specs.declared.cmp.Ordering.TheVariants.{Less, Equal, Greater}
 use Rattle.std.proofs.Common.{sym, ◌∙◌, ap, ap₂, subst, arith, get_or, set, true≢false}
@@ -14,7 +15,7 @@ use Rattle.std.proofs.lemmas.List.Kept.{AllPairs-cons}
 use Rattle.std.proofs.lemmas.List.Sorted.{searchable_from_sorted}
 use Rattle.std.proofs.lemmas.Map.Keys.{IsDistinct-head, IsDistinct-tail}
 use Rattle.std.proofs.lemmas.Map.Made.{IsDistinct-from_AllPairs}
-use Rattle.std.proofs.lemmas.Option.{slice_get-get_or}
+use Rattle.std.proofs.lemmas.Option.{get_or_from_slice_get, slice_get-get_or}
 use Rattle.ratio_core.specs.Rational.{Rational, zero_ℚ}
 use Rattle.numbered.specs.Numbered.{Rise}
 use Rattle.numbered.specs.Laws.{Rise-head, Rise-tail}
@@ -25,7 +26,7 @@ use Rattle.user_model.specs.declared.group.GroupVar.{GroupVar}
 use Rattle.user_model.specs.Consistent.{variable_number}
 use Rattle.user_model.specs.Model.{variable_address}
 use Rattle.certificates.specs.Points.{address_of, addresses_of}
-use Rattle.cert_core.specs.Variables.{Ascend}
+use Rattle.cert_core.specs.Variables.{Ascend, IsPlaceOf}
 
 -- ---- variables whose numbers rise have addresses that ascend
 
@@ -71,7 +72,7 @@ sorted us up = λ k d low lt.
 
 pub searched : (us : List Address) (at : Address) (r : Result ℕ ℕ) → Ascend us
     → IsSearchInRange r (length us) → IsBinarySearchResult (λ u. address_cmp u at) us r
-    → MatchResult r (λ i. slice_get us i ≡ Some at) (λ _. ¬ (Contains us at))
+    → IsPlaceOf us at (result_ok r)
 searched us at (Ok i) up range equal =
     slice_get-get_or us i at range
     ∙ ap Some (exact_addresses (get_or us i at) at (equal at))
@@ -160,3 +161,19 @@ none_at_place (a ∷ us) y v q none =
     ap₂ ◌∷◌
     (ap (λ b. cond b q (y a)) (sym (other_key address_order a v (λ e. first_differs a us v none (sym e)))))
     (none_at_place us y v q (rest_lacks a us v none))
+
+-- ---- places
+
+pub place_below : (us : List Address) (i : ℕ) (v : Address) → slice_get us i ≡ Some v
+    → i < length us
+place_below [] i v is = cc
+place_below (a ∷ us) zero v is = omega arith
+place_below (a ∷ us) (suc i) v is =
+    let rest : i < length us = place_below us i v is in omega (arith, rest)
+
+pub stands_there : (us : List Address) (i : ℕ) (v : Address) → slice_get us i ≡ Some v
+    → v ≡ get_or us i v
+stands_there us i v is = sym (get_or_from_slice_get us i v v is)
+
+pub stands : (us : List Address) (i : ℕ) (v : Address) → slice_get us i ≡ Some v → Contains us v
+stands us i v is = (i, place_below us i v is, get_or_from_slice_get us i v v is)

@@ -1,10 +1,16 @@
 -- Rows with their duals, one after the other.
-use Rattle.std.specs.Prelude.{◌≡◌, ℕ, zero, suc, ◌+◌, ◌<◌, List, [], ◌∷◌, length, refl}
+use Rattle.std.specs.Prelude.{◌≡◌, ℕ, zero, suc, ◌+◌, ◌<◌, ◌≤◌, List, [], ◌∷◌, All, length, refl}
 use Rattle.std.proofs.Common.{sym, ◌∙◌, ap, ap₂, subst, arith, drop, get_or}
+use Rattle.std.proofs.lemmas.List.Elements.{All-drop, All-get_or, All-head}
+use Rattle.std.proofs.Math.ListN.{drop_of_length-le}
 use Rattle.ratio_core.specs.Rational.{Rational}
 use Rattle.cert_core.proofs.Steps.{next_item}
 use Rattle.dual_laws.specs.Held.{Held}
 use Rattle.user_model.specs.declared.row.Row.{Row}
+use Rattle.set_core.specs.Shapes.{dimension_of}
+use Rattle.certificates.specs.Points.{functions_of}
+use Rattle.cert_core.specs.Checked.{HasEachDual, HasRowDuals}
+use Rattle.cert_core.specs.Holding.{HasRowSet}
 use Rattle.certificates.specs.Duals.{row_with, rows_with}
 
 pub row_count : (ys : List (List Rational)) (rows : List Row) → length ys ≡ length rows
@@ -31,3 +37,23 @@ next_row ys rows i y r e y_is r_is lt =
     next_item (rows_with ys rows) i (row_with y r)
     (ap₂ row_with y_is r_is ∙ sym (row_at ys rows i y r e))
     (subst (λ n. i < n) (sym (row_count ys rows e)) lt)
+
+pub rows_done : (ys : List (List Rational)) (rows : List Row) (i : ℕ) → length ys ≡ length rows
+    → length rows ≤ i → drop i (rows_with ys rows) ≡ []
+rows_done ys rows i e le =
+    drop_of_length-le (rows_with ys rows) (subst (λ n. n ≤ i) (sym (row_count ys rows e)) le)
+
+-- the row at a place has so many duals, and a set for them
+pub row_size : (ys : List (List Rational)) (rows : List Row) (i : ℕ) (y : List Rational) (r : Row)
+    → HasRowDuals rows ys → y ≡ get_or ys i y → r ≡ get_or rows i r → i < length rows
+    → length y ≡ length (functions_of r.func)
+row_size ys rows i y r entries y_is r_is lt =
+    All-head HasEachDual (row_with y r) (drop (i + 1) (rows_with ys rows))
+    (subst (All HasEachDual) (next_row ys rows i y r entries.each y_is r_is lt)
+    (All-drop HasEachDual i (rows_with ys rows) entries.components))
+
+pub row_set : (rows : List Row) (i : ℕ) (r : Row) → All HasRowSet rows → r ≡ get_or rows i r
+    → i < length rows → length (functions_of r.func) ≡ dimension_of r.set
+row_set rows i r sets r_is lt =
+    let here : HasRowSet r = subst HasRowSet (sym r_is) (All-get_or HasRowSet rows i r lt sets) in
+    here.dimension

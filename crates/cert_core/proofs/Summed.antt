@@ -6,13 +6,13 @@ use Rattle.std.proofs.lemmas.List.Elements.{All-head, All-tail}
 use Rattle.std.proofs.Math.Nat.{div-le_self}
 use Rattle.std.proofs.lemmas.List.Sums.{fold-append}
 use Rattle.ratio_core.specs.Folds.{sum_from}
-use Rattle.ratio_core.specs.Rational.{Fits, Rational, SumFits, common_divisor, neg_ℚ, signed, sum_of_terms, zero_ℚ, ◌*ℚ◌, ◌+ℚ◌}
+use Rattle.ratio_core.specs.Rational.{Fits, Rational, SumFits, common_divisor, neg_ℚ, signed, sum_of_terms, zero_ℚ, ◌*ℚ◌, ◌+ℚ◌, ◌-ℚ◌}
 use Rattle.ratio_core.specs.Gcd.{gcd}
 use Rattle.ratio_core.proofs.Products.{signed_itself}
 use Rattle.ratio_core.proofs.Kept.{unsigned_abs-signed}
 use Rattle.ratio_core.proofs.Sums.{sum_value}
-use Rattle.rational_laws.specs.Field.{+ℚ-zero}
-use Rattle.rational_laws.specs.Fitting.{Fits_zero}
+use Rattle.rational_laws.specs.Field.{+ℚ-zero, neg_ℚ-neg_ℚ}
+use Rattle.rational_laws.specs.Fitting.{Fits_neg_ℚ, Fits_zero}
 use Rattle.aff_core.specs.Terms.{StepFits}
 use Rattle.cert_core.specs.Folds.{AddUp}
 use Rattle.cert_core.proofs.ZeroSums.{SumFits-zero_right}
@@ -108,3 +108,32 @@ module _ (start sum : Rational) (qs left : List Rational) (h : SummedAsAll start
 
     pub summed_refused : AddUp start qs → AddUp sum now
     summed_refused k = (AddUp_parts sum now rest (subst (AddUp sum) next (h.only k))).0
+
+-- one product more
+module _ (start sum : Rational) (qs left rest : List Rational) (a b : Rational)
+    (h : SummedAsAll start sum qs left) (next : left ≡ a *ℚ b ∷ rest) where
+  pub product_step : (total : Rational) → StepFits sum a b → total ≡ sum +ℚ a *ℚ b
+      → SummedAsAll start total qs rest
+  product_step total step is =
+      subst (λ s. SummedAsAll start s qs rest) (sym is)
+      (summed_step start sum qs left h (a *ℚ b ∷ []) rest next (AddUp_one sum a b step))
+
+  pub product_refused : AddUp start qs → StepFits sum a b
+  product_refused all =
+      step_of_one sum a b (summed_refused start sum qs left h (a *ℚ b ∷ []) rest next all)
+
+-- one negated number more
+module _ (start sum : Rational) (qs left rest : List Rational) (p : Rational)
+    (h : SummedAsAll start sum qs left) (next : left ≡ neg_ℚ p ∷ rest) where
+  pub negated_step : (total : Rational) → Fits p → SumFits sum (neg_ℚ p) → total ≡ sum -ℚ p
+      → SummedAsAll start total qs rest
+  unfolding AddUp
+  negated_step total fits sums is =
+      subst (λ s. SummedAsAll start s qs rest) (sym is)
+      (summed_step start sum qs left h (neg_ℚ p ∷ []) rest next (Fits_neg_ℚ p fits, sums, tt))
+
+  pub negated_refused : AddUp start qs → Fits p × SumFits sum (neg_ℚ p)
+  unfolding AddUp
+  negated_refused all =
+      let now = summed_refused start sum qs left h (neg_ℚ p ∷ []) rest next all in
+      (subst Fits (neg_ℚ-neg_ℚ p) (Fits_neg_ℚ (neg_ℚ p) now.0), now.1)

@@ -1,6 +1,6 @@
 -- Things tested one after the other, each where what it takes fits.
 use Rattle.std.specs.Prelude.{◌≡◌, ◌↔◌, ◌&&◌, Bool, true, false, IsTrue, List, [], ◌∷◌, All, refl}
-use Rattle.std.proofs.Common.{sym, subst, true≢false}
+use Rattle.std.proofs.Common.{sym, ◌∙◌, subst, true≢false}
 use Rattle.std.proofs.lemmas.List.Elements.{All-cons, All-head, All-nil, All-tail}
 
 pub both_true : (a b : Bool) → IsTrue (a && b) → IsTrue a × IsTrue b
@@ -10,6 +10,16 @@ both_true false b h = absurd (true≢false (sym h))
 pub true_both : (a b : Bool) → IsTrue a → IsTrue b → IsTrue (a && b)
 true_both true b h k = k
 true_both false b h k = absurd (true≢false (sym h))
+
+-- what a `&&` leaves, by whether its first test passed
+pub and_taken : (a b now : Bool) → a ≡ true → now ≡ b → IsTrue now ↔ (IsTrue a × IsTrue b)
+and_taken a b now t is = (λ h. (t, sym is ∙ h), λ h. is ∙ h.1)
+
+pub and_passed : (a b now : Bool) → a ≡ false → now ≡ a → IsTrue now ↔ (IsTrue a × IsTrue b)
+and_passed a b now f is = (
+  λ h. absurd (true≢false (sym h ∙ is ∙ f)),
+  λ h. absurd (true≢false (sym h.0 ∙ f)),
+)
 
 -- two tests
 pub both_tell : (a b : Bool) (P Q : Type 0) → (IsTrue a ↔ P) → (IsTrue b ↔ Q)
@@ -59,3 +69,35 @@ module _ {X : Type 0} (F P : X → Type 0) where
     h.fits (subst (All F) (sym end) (All-nil F)),
     (λ t. h.holds t (subst (All P) (sym end) (All-nil P)), λ k. (h.each k).0),
   )
+
+-- ---- tests in a list
+
+pub all_two : (a b : Bool) → All IsTrue (a ∷ b ∷ []) ↔ (IsTrue a × IsTrue b)
+all_two a b = (
+  λ h. let k = All-tail IsTrue a (b ∷ []) h in
+      (All-head IsTrue a (b ∷ []) h, All-head IsTrue b [] k),
+  λ p. All-cons IsTrue a (b ∷ []) p.0 (All-cons IsTrue b [] p.1 (All-nil IsTrue)),
+)
+
+pub all_three : (a b c : Bool) → All IsTrue (a ∷ b ∷ c ∷ []) ↔ (IsTrue a × IsTrue b × IsTrue c)
+all_three a b c = (
+  λ h. let k = (all_two b c).0 (All-tail IsTrue a (b ∷ c ∷ []) h) in
+      (All-head IsTrue a (b ∷ c ∷ []) h, k.0, k.1),
+  λ p. All-cons IsTrue a (b ∷ c ∷ []) p.0 ((all_two b c).1 (p.1, p.2)),
+)
+
+pub all_four : (a b c d : Bool)
+    → All IsTrue (a ∷ b ∷ c ∷ d ∷ []) ↔ (IsTrue a × IsTrue b × IsTrue c × IsTrue d)
+all_four a b c d = (
+  λ h. let k = (all_three b c d).0 (All-tail IsTrue a (b ∷ c ∷ d ∷ []) h) in
+      (All-head IsTrue a (b ∷ c ∷ d ∷ []) h, k.0, k.1, k.2),
+  λ p. All-cons IsTrue a (b ∷ c ∷ d ∷ []) p.0 ((all_three b c d).1 (p.1, p.2, p.3)),
+)
+
+pub all_five : (a b c d e : Bool) → All IsTrue (a ∷ b ∷ c ∷ d ∷ e ∷ [])
+    ↔ (IsTrue a × IsTrue b × IsTrue c × IsTrue d × IsTrue e)
+all_five a b c d e = (
+  λ h. let k = (all_four b c d e).0 (All-tail IsTrue a (b ∷ c ∷ d ∷ e ∷ []) h) in
+      (All-head IsTrue a (b ∷ c ∷ d ∷ e ∷ []) h, k.0, k.1, k.2, k.3),
+  λ p. All-cons IsTrue a (b ∷ c ∷ d ∷ e ∷ []) p.0 ((all_four b c d e).1 (p.1, p.2, p.3, p.4)),
+)

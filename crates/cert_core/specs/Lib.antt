@@ -1,6 +1,7 @@
 -- What the check of a certificate answers.
 pub mod Answers
 pub mod Variables
+pub mod Points
 pub mod Components
 pub mod Readings
 pub mod Holding

@@ -54,7 +54,8 @@ fn add_variables(
     duals: &[Ratio],
     vars: &[Address],
 ) -> Result<(), CheckFault>
-    requires { length duals.now ≡ length vars.now }
+    requires duals { length duals.now ≡ length vars.now }
+    requires sums { length sums.old ≡ length variables.now }
     ensures { AddsAt result variables.now sums.old sums.new
         (λ v. products duals.now (coefficients (variables_at vars.now) v)) }
 {
@@ -70,7 +71,8 @@ fn add_functions(
     duals: &[Ratio],
     fs: &[Aff],
 ) -> Result<(), CheckFault>
-    requires { length duals.now ≡ length fs.now }
+    requires duals { length duals.now ≡ length fs.now }
+    requires sums { length sums.old ≡ length variables.now }
     ensures { AddsAt result variables.now sums.old sums.new
         (λ v. products duals.now (coefficients fs.now v)) }
 {
@@ -87,7 +89,8 @@ fn add_multiple(
     by: &Ratio,
     terms: &[(Address, Ratio)],
 ) -> Result<(), CheckFault>
-    requires { RiseStrictly terms.now }
+    requires terms { RiseStrictly terms.now }
+    requires sums { length sums.old ≡ length variables.now }
     ensures { AddsAt result variables.now sums.old sums.new
         (λ v. by.now *ℚ coefficient_among terms.now v ∷ []) }
 {
@@ -105,14 +108,18 @@ fn add_term(
     at: &Address,
     coefficient: &Ratio,
 ) -> Result<(), CheckFault>
+    requires { length sums.old ≡ length variables.now }
     ensures { (x : Address → Rational) → sums.old ≡ map x variables.now
         → ExactWhere result
         (Contains variables.now at.now → StepFits (x at.now) by.now coefficient.now)
         (λ _. sums.new ≡ map (λ v. cond (address_eq v at.now)
-        (x v +ℚ by.now *ℚ coefficient.now) (x v)) variables.now) }
+        (x at.now +ℚ by.now *ℚ coefficient.now) (x v)) variables.now) }
 {
-    if let Some(place) = variables.place(at) {
-        sums[place] = plus_product(&sums[place], by, coefficient)?;
+    match variables.place(at) {
+        Some(place) => {
+            sums[place] = plus_product(&sums[place], by, coefficient)?;
+            Ok(())
+        }
+        None => Ok(()),
     }
-    Ok(())
 }

@@ -24,9 +24,10 @@ use crate::entries::has_row_duals;
 use crate::equations::{are_reduced_costs, cancel, dual_value};
 use crate::gap::{gap_of_rows, plus_groups};
 use crate::objective::{constant, reading_of, sense};
+use crate::point::Point;
 use crate::points::{groups_hold, rows_hold};
 use crate::readings::Reading;
-use crate::variables::{Point, Variables};
+use crate::variables::Variables;
 use certificates::Certificate;
 use ratio_core::{Ratio, Ratios};
 use std::alloc::Global;
@@ -134,7 +135,7 @@ impl<'a> Parts<'a> {
         let at = Point::new(&self.variables, x);
         let rows = rows_hold(alloc, reading, self.rows, &at)?;
         let groups = groups_hold(reading, self.groups, x)?;
-        Ok(rows && groups)
+        Ok(all_true(&[rows, groups]))
     }
 
     // Whether the duals are in the dual sets.
@@ -150,7 +151,7 @@ impl<'a> Parts<'a> {
     {
         let rows = row_duals_hold(self.rows, duals.rows)?;
         let groups = group_duals_hold(self.groups, duals.vars)?;
-        Ok(rows && groups)
+        Ok(all_true(&[rows, groups]))
     }
 
     fn gap(&self, duals: &Duals) -> Result<Ratio, CheckFault>
@@ -192,7 +193,9 @@ impl<'a> Parts<'a> {
         let equal = are_reduced_costs(self.objective, us, &sums, duals.vars)?;
         let gap = self.gap(duals)?;
         let dual = dual_value(sense(self.objective), &constant(self.objective), &gap)?;
-        Ok(feasible && in_sets && equal && *value == primal && *value == dual)
+        let is_primal = *value == primal;
+        let is_dual = *value == dual;
+        Ok(all_true(&[feasible, in_sets, equal, is_primal, is_dual]))
     }
 
     fn is_infeasible(&self, alloc: Global, gap: &Ratio, duals: &Duals) -> Result<bool, CheckFault>
@@ -208,7 +211,9 @@ impl<'a> Parts<'a> {
         let sums = adjoint_of_rows(alloc, &self.variables, self.rows, duals.rows)?;
         let equal = cancel(self.variables.addresses(), &sums, duals.vars)?;
         let of_duals = self.gap(duals)?;
-        Ok(in_sets && equal && *gap == of_duals && Ratio::zero() < *gap)
+        let is_gap = *gap == of_duals;
+        let is_positive = Ratio::zero() < *gap;
+        Ok(all_true(&[in_sets, equal, is_gap, is_positive]))
     }
 
     fn is_unbounded(&self, alloc: Global, x: &[Ratio], d: &[Ratio]) -> Result<bool, CheckFault>
@@ -223,8 +228,15 @@ impl<'a> Parts<'a> {
         let ray = self.holds_at(alloc, Reading::Slope, d)?;
         let along = Point::new(&self.variables, d);
         let slope = reading_of(self.objective, Reading::Slope, &along)?;
-        Ok(feasible && ray && improves(sense(self.objective), &slope))
+        let is_better = improves(sense(self.objective), &slope);
+        Ok(all_true(&[feasible, ray, is_better]))
     }
+}
+
+fn all_true(tests: &[bool]) -> bool
+    ensures { IsTrue result ↔ All IsTrue tests.now }
+{
+    tests.iter().all(|test| *test)
 }
 
 // Whether a slope makes the objective better.

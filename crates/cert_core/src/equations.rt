@@ -34,7 +34,8 @@ pub(crate) fn are_reduced_costs(
     let mut all = true;
     for (i, variable) in variables.iter().enumerate() {
         let left = reduced_cost(sense(objective), &cost(objective, variable), &adjoint[i])?;
-        all = all && duals[i] == left;
+        let holds = duals[i] == left;
+        all = all && holds;
     }
     Ok(all)
 }
@@ -66,7 +67,8 @@ pub(crate) fn cancel(
     let mut all = true;
     for i in 0..variables.len() {
         let sum = adjoint[i].add(&duals[i])?;
-        all = all && sum.is_zero();
+        let holds = sum.is_zero();
+        all = all && holds;
     }
     Ok(all)
 }

@@ -11,6 +11,7 @@ mod equations;
 mod fault;
 mod gap;
 mod objective;
+mod point;
 mod points;
 mod readings;
 mod sums;

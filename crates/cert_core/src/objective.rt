@@ -6,11 +6,11 @@ ghost use Rattle.certificates.specs.Points.{objective_function, sense_of};
 ghost use Rattle.cert_core.specs.Answers.{ExactWhere};
 ghost use Rattle.cert_core.specs.Folds.{EvaluationFits};
 ghost use Rattle.cert_core.specs.Readings.{one_of};
-ghost use Rattle.cert_core.specs.Variables.{numbers_in};
+ghost use Rattle.cert_core.specs.Points.{numbers_in};
 
 use crate::CheckFault;
+use crate::point::Point;
 use crate::readings::Reading;
-use crate::variables::Point;
 use aff_core::Address;
 use ratio_core::Ratio;
 use user_model::{Objective, Sense};

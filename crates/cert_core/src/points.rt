@@ -11,12 +11,13 @@ ghost use Rattle.cert_core.specs.Folds.{EvaluationFits, FitIn};
 ghost use Rattle.cert_core.specs.Components.{functions_in};
 ghost use Rattle.cert_core.specs.Readings.{one_of};
 ghost use Rattle.cert_core.specs.Holding.{FunctionsHold, HasRowSet, HasGroupSet};
-ghost use Rattle.cert_core.specs.Variables.{numbers_in, all_addresses};
+ghost use Rattle.cert_core.specs.Points.{numbers_in};
+ghost use Rattle.cert_core.specs.Variables.{all_addresses};
 
 use crate::CheckFault;
 use crate::components::{Components, components_of};
+use crate::point::Point;
 use crate::readings::Reading;
-use crate::variables::Point;
 use aff_core::{Address, Aff};
 use ratio_core::Ratio;
 use std::alloc::Global;

@@ -1,5 +1,6 @@
 //! What is read of a function: its value at a point, or its slope along a ray.
 ghost use Rattle.std.specs.Prelude.{◌≡◌, length};
+ghost use Rattle.aff_core.specs.Address.{address_cmp};
 ghost use Rattle.aff_core.specs.Function.{evaluated, variable};
 ghost use Rattle.set_core.specs.Membership.{In, MembershipFits};
 ghost use Rattle.set_core.specs.Mirrored.{multiplied};
@@ -7,11 +8,11 @@ ghost use Rattle.set_core.specs.Shapes.{dimension_of};
 ghost use Rattle.cert_core.specs.Answers.{ExactWhere, TellsWhere};
 ghost use Rattle.cert_core.specs.Folds.{EvaluationFits};
 ghost use Rattle.cert_core.specs.Readings.{one_of};
-ghost use Rattle.cert_core.specs.Variables.{numbers_in};
+ghost use Rattle.cert_core.specs.Points.{numbers_in};
 
 use crate::CheckFault;
+use crate::point::Point;
 use crate::sums::plus_terms;
-use crate::variables::Point;
 use aff_core::{Address, Aff};
 use ratio_core::Ratio;
 use set_core::Set;
@@ -40,7 +41,7 @@ impl Reading {
     pub(crate) fn of_variable(self, var: &Address, at: &Point) -> Result<Ratio, CheckFault>
         ensures { let x = numbers_in at.now in
             ExactWhere result (EvaluationFits (one_of self) (variable var.now) x)
-            (λ q. q ≡ evaluated (one_of self) (variable var.now) x) }
+            (λ q. q ≡ evaluated {R = address_cmp} (one_of self) (variable var.now) x) }
     {
         plus_terms(&Ratio::zero(), &[(*var, Ratio::one())], at)
     }

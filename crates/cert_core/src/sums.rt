@@ -4,10 +4,10 @@ ghost use Rattle.ratio_core.specs.Rational.{◌+ℚ◌, ◌*ℚ◌};
 ghost use Rattle.aff_core.specs.Terms.{StepFits, linear};
 ghost use Rattle.cert_core.specs.Answers.{ExactWhere};
 ghost use Rattle.cert_core.specs.Folds.{AddUp, products_at};
-ghost use Rattle.cert_core.specs.Variables.{numbers_in};
+ghost use Rattle.cert_core.specs.Points.{numbers_in};
 
 use crate::CheckFault;
-use crate::variables::Point;
+use crate::point::Point;
 use aff_core::Address;
 use ratio_core::Ratio;
 

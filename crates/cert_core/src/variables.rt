@@ -1,13 +1,12 @@
-//! The variables of a model, and the numbers that a point has of them.
+//! The variables of a model.
 ghost use Rattle.std.specs.Prelude.{◌≡◌, ◌++◌, IfOk, OnOk};
 ghost use Rattle.numbered.specs.Numbered.{Rise};
-ghost use Rattle.aff_core.specs.Points.{spread};
 ghost use Rattle.user_model.specs.Consistent.{variable_number};
 ghost use Rattle.certificates.specs.Points.{addresses_of};
-ghost use Rattle.cert_core.specs.Variables.{Ascend, IsPlaceOf, all_addresses, numbers_in, variables_of};
+ghost use Rattle.cert_core.specs.Variables.{Ascend, IsPlaceOf, all_addresses, variables_of};
 
 use aff_core::{Address, Root};
-use ratio_core::{Memory, Ratio};
+use ratio_core::Memory;
 use std::alloc::Global;
 use std::marker::Model;
 use user_model::{Group, GroupVar};
@@ -75,29 +74,4 @@ fn push_addresses(addresses: &mut Vec<Address>, vars: &[GroupVar]) -> Result<(),
         addresses.push(Address::root(Root::Variable, var.number))?;
     }
     Ok(())
-}
-
-/// A point: numbers of a model's variables.
-#[derive(Clone, Copy)]
-pub(crate) struct Point<'a> {
-    variables: &'a Variables,
-    numbers: &'a [Ratio],
-}
-
-impl<'a> Point<'a> {
-    pub(crate) fn new(variables: &'a Variables, numbers: &'a [Ratio]) -> Point<'a>
-        ensures { numbers_in result ≡ spread variables.now numbers.now }
-    {
-        Point { variables, numbers }
-    }
-
-    /// The number at an address, which is 0 where no variable stands.
-    pub(crate) fn number(&self, at: &Address) -> Ratio
-        ensures { result ≡ numbers_in self.now at.now }
-    {
-        match self.variables.place(at) {
-            Some(place) if place < self.numbers.len() => self.numbers[place],
-            _ => Ratio::zero(),
-        }
-    }
 }

@@ -1,7 +1,7 @@
 use Rattle.aff_core.specs.Function.{evaluated}
 use Rattle.cert_core.specs.Folds.{EvaluationFits}
 use Rattle.cert_core.specs.Readings.{one_of}
-use Rattle.cert_core.specs.Variables.{numbers_in}
+use Rattle.cert_core.specs.Points.{numbers_in}
 use Rattle.cert_core.proofs.Made.{MadeSoFar}
 use Rattle.cert_core.proofs.points.read_functions.Given as goal
 

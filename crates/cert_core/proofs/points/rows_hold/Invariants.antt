@@ -3,7 +3,7 @@ use Rattle.certificates.specs.Points.{functions_of}
 use Rattle.cert_core.specs.Folds.{FitIn}
 use Rattle.cert_core.specs.Holding.{FunctionsHold}
 use Rattle.cert_core.specs.Readings.{one_of}
-use Rattle.cert_core.specs.Variables.{numbers_in}
+use Rattle.cert_core.specs.Points.{numbers_in}
 use Rattle.cert_core.proofs.Tested.{TestedAsAll}
 use Rattle.cert_core.proofs.points.rows_hold.Given as goal
 

@@ -1,6 +1,6 @@
 use Rattle.std.proofs.Common.{drop}
 use Rattle.cert_core.specs.Folds.{products_at}
-use Rattle.cert_core.specs.Variables.{numbers_in}
+use Rattle.cert_core.specs.Points.{numbers_in}
 use Rattle.cert_core.proofs.Summed.{SummedAsAll}
 use Rattle.cert_core.proofs.sums.plus_terms.Given as goal
 

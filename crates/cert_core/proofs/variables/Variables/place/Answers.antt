@@ -1,10 +1,13 @@
-use Rattle.std.proofs.Common.{rules, ◌≡◌, ◌++◌, IfOk, OnOk, ℕ, ◌+◌, ◌-◌, ◌*◌, ◌<◌, ◌≤◌, length, ◌/◌, ◌%◌, Bool, true, false, nat_eq, nat_lt, List, [], ◌∷◌, slice_index_or, slice_set, bit_and, bit_or, Fits, w8, w32, w64, Bor, MutBor}
-use Rattle.numbered.specs.Numbered.{Rise}
-use Rattle.user_model.specs.Consistent.{variable_number}
-use Rattle.certificates.specs.Points.{addresses_of}
-use Rattle.cert_core.specs.Variables.{Ascend, IsPlaceOf, all_addresses, variables_of}
+use Rattle.std.proofs.Common.{subst, sym}
+use Rattle.cert_core.specs.Variables.{Ascend, IsPlaceOf}
+use Rattle.cert_core.proofs.Places.{searched}
 use Rattle.cert_core.proofs.variables.Variables.place.Goals as goal
 
--- src/variables.rt:53:5
 pub returns : goal.returns
-returns c = ?
+returns c =
+    let found = searched c.deref.result.now c.args.at.now c.binary_search.result
+    (subst Ascend (sym c.deref.ensures.value) c.self.invariant) c.binary_search.ensures.bound
+    c.binary_search.ensures.position in
+    subst (λ us. IsPlaceOf us c.args.at.now c.ok.result) c.self.view_is
+    (subst (λ us. IsPlaceOf us c.args.at.now c.ok.result) c.deref.ensures.value
+    (subst (IsPlaceOf c.deref.result.now c.args.at.now) (sym c.ok.ensures.value) found))
