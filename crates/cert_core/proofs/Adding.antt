@@ -1,23 +1,29 @@
 -- Numbers added to the sums of all variables, step by step.
-use Rattle.std.specs.Prelude.{◌≡◌, T, Bool, true, false, cond, List, [], ◌∷◌, ◌++◌, map, All, Contains, Some, None, Result, Ok, Err, unwrap_or, refl}
-use Rattle.std.specs.FinMap.{find, is_sorted}
-use Rattle.std.proofs.Common.{sym, ◌∙◌, ap, ap₂, subst}
+use Rattle.std.specs.Prelude.{◌≡◌, ℕ, ◌+◌, ◌<◌, ◌≤◌, T, Bool, true, false, cond, List, [], ◌∷◌, ◌++◌, map, length, All, Contains, Some, None, Result, Ok, Err, IsErrAnd, unwrap_or, refl}
+use Rattle.std.specs.FinMap.{find, get-entries, is_sorted}
+use Rattle.std.proofs.Common.{sym, ◌∙◌, ap, ap₂, drop, get_or, subst}
+use Rattle.std.proofs.Math.ListN.{drop_of_length-le}
 use Rattle.std.proofs.lemmas.List.Elements.{All-contains, All-contains_itself, All-head, All-tail}
 use Rattle.ratio_core.specs.Folds.{sum_from}
-use Rattle.ratio_core.specs.Rational.{Fits, Rational, SumFits, zero_ℚ, ◌*ℚ◌, ◌+ℚ◌}
+use Rattle.ratio_core.specs.Rational.{Fits, Rational, SumFits, one_ℚ, zero_ℚ, ◌*ℚ◌, ◌+ℚ◌}
 use Rattle.rational_laws.specs.Field.{*ℚ-zero, +ℚ-zero}
 use Rattle.rational_laws.specs.Fitting.{Fits_zero}
 use Rattle.map_laws.specs.EntryLaws.{find_below}
 use Rattle.map_laws.specs.TestLaws.{first, second}
 use Rattle.aff_core.specs.Address.{Address, address_cmp, address_eq, address_eq-Decides}
+use Rattle.aff_core.specs.Function.{Function, coefficient, terms_of, variable}
+use Rattle.aff_core.specs.FunctionLists.{coefficients}
 use Rattle.aff_core.specs.KeyOrder.{address_order, other_key, same_key, same_or_other}
 use Rattle.aff_core.specs.Terms.{StepFits}
 use Rattle.cert_core.specs.declared.fault.CheckFault.{CheckFault}
 use Rattle.cert_core.specs.declared.fault.CheckFault.TheVariants.{CertOverflow, Memory}
 use Rattle.cert_core.specs.Adding.{AddsAt, coefficient_among}
 use Rattle.cert_core.specs.Answers.{ExactWhere}
-use Rattle.cert_core.specs.Folds.{AddUp}
-use Rattle.cert_core.proofs.Answered.{answers_alike}
+use Rattle.cert_core.specs.Folds.{AddUp, products}
+use Rattle.certificates.specs.Points.{variables_at}
+use Rattle.cert_core.proofs.Evaluated.{terms_of_variable}
+use Rattle.cert_core.proofs.Parts.{no_products}
+use Rattle.cert_core.proofs.Steps.{next_item}
 use Rattle.cert_core.proofs.ZeroSums.{SumFits-zero_right}
 use Rattle.cert_core.proofs.Summed.{AddUp_one, Fits_sum, Fits_sum_from, SummedAsAll, step_of_one, summed_end, summed_refused, summed_start, summed_step}
 
@@ -226,13 +232,13 @@ module _ (us : List Address) (before : List Rational) (by : Rational)
               (All-contains_itself us k d lt);
         }
 
-    pub terms_refused : (x : Address → Rational) → before ≡ map x us → All (λ v. Fits (x v)) us
-        → ((y : Address → Rational) → sums ≡ map y us
-        → ¬ (Contains us t.0 → StepFits (y t.0) by t.1))
-        → ¬ (All (λ v. AddUp (x v) (by *ℚ coefficient_among ts v ∷ [])) us)
-    terms_refused x is fit bars all =
+    -- what must fit at a term
+    pub terms_fit : (x : Address → Rational) (is : before ≡ map x us)
+        (fit : All (λ v. Fits (x v)) us)
+        → All (λ v. AddUp (x v) (by *ℚ coefficient_among ts v ∷ [])) us → Contains us t.0
+        → StepFits ((h x is fit).now t.0) by t.1
+    terms_fit x is fit all stands =
         let from = h x is fit in
-        bars from.now from.is (λ stands.
         let so_far : TermAsAll (x t.0) (from.now t.0) by (coefficient_among ts t.0)
         (coefficient_among left t.0) =
         All-contains (λ v. TermAsAll (x v) (from.now v) by (coefficient_among ts v)
@@ -241,4 +247,53 @@ module _ (us : List Address) (before : List Rational) (by : Rational)
         so_far.only (step_of_one (x t.0) by (coefficient_among ts t.0)
         (All-contains (λ v. AddUp (x v) (by *ℚ coefficient_among ts v ∷ [])) us t.0 all stands)) in
         subst (StepFits (from.now t.0) by) (ap (λ l. coefficient_among l t.0) next
-        ∙ first_coefficient t rest) step)
+        ∙ first_coefficient t rest) step
+
+-- ---- components, one after the other
+
+coefficient_is : (f : Function) (v : Address) → coefficient f v ≡ coefficient_among (terms_of f) v
+coefficient_is f v = ap (λ o. unwrap_or o zero_ℚ) (get-entries f.terms v)
+
+pub next_function : (w : List Rational) (fs : List Function) (i : ℕ) (p : Rational) (f : Function)
+    (ts : List (Address × Rational)) → length w ≡ length fs → p ≡ get_or w i p
+    → f ≡ get_or fs i f → i < length fs → ts ≡ terms_of f → (v : Address)
+    → products (drop i w) (coefficients (drop i fs) v)
+    ≡ (p *ℚ coefficient_among ts v ∷ [])
+    ++ products (drop (i + 1) w) (coefficients (drop (i + 1) fs) v)
+next_function w fs i p f ts e p_is f_is lt ts_is v =
+    ap₂ (λ ys gs. products ys (coefficients gs v))
+    (next_item w i p p_is (subst (λ n. i < n) (sym e) lt)) (next_item fs i f f_is lt)
+    ∙ ap (λ q. p *ℚ q ∷ products (drop (i + 1) w) (coefficients (drop (i + 1) fs) v))
+    (coefficient_is f v ∙ ap (λ l. coefficient_among l v) (sym ts_is))
+
+pub next_variable : (w : List Rational) (us : List Address) (i : ℕ) (p : Rational) (u : Address)
+    → length w ≡ length us → p ≡ get_or w i p → u ≡ get_or us i u → i < length us → (v : Address)
+    → products (drop i w) (coefficients (variables_at (drop i us)) v)
+    ≡ (p *ℚ coefficient_among ((u, one_ℚ) ∷ []) v ∷ [])
+    ++ products (drop (i + 1) w) (coefficients (variables_at (drop (i + 1) us)) v)
+next_variable w us i p u e p_is u_is lt v =
+    ap₂ (λ ys vs. products ys (coefficients (variables_at vs) v))
+    (next_item w i p p_is (subst (λ n. i < n) (sym e) lt)) (next_item us i u u_is lt)
+    ∙ ap (λ q. p *ℚ q ∷ products (drop (i + 1) w) (coefficients (variables_at (drop (i + 1) us)) v))
+    (coefficient_is (variable u) v ∙ ap (λ l. coefficient_among l v) (terms_of_variable u))
+
+-- past the last component
+pub no_function : (w : List Rational) (fs : List Function) (i : ℕ) → length fs ≤ i
+    → (v : Address) → products (drop i w) (coefficients (drop i fs) v) ≡ []
+no_function w fs i le v =
+    ap (λ gs. products (drop i w) (coefficients gs v)) (drop_of_length-le fs le)
+    ∙ no_products (drop i w)
+
+pub no_variable : (w : List Rational) (us : List Address) (i : ℕ) → length us ≤ i
+    → (v : Address) → products (drop i w) (coefficients (variables_at (drop i us)) v) ≡ []
+no_variable w us i le v =
+    ap (λ vs. products (drop i w) (coefficients (variables_at vs) v)) (drop_of_length-le us le)
+    ∙ no_products (drop i w)
+
+-- the fault of a step is that of the whole
+pub adds_passed : (r : Result (Unit {0}) CheckFault) (e : CheckFault) (us : List Address)
+    (before after : List Rational) (parts : Address → List Rational) → IsErrAnd r (λ x. x ≡ e)
+    → AddsAt (Err e) us before after parts → AddsAt r us before after parts
+adds_passed (Ok u) e us before after parts is said = absurd is
+adds_passed (Err x) e us before after parts is said =
+    subst (λ y. AddsAt (Err y) us before after parts) (sym is) said

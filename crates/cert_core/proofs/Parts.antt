@@ -97,6 +97,10 @@ with_constants r sum low with_low w set fs gs same fits low_is total with_is sai
     (λ q. q ≡ sum_from with_low (negated (products w (constants hs))))) same said))
     (λ k. (fits, subst (SumFits sum) low_is total, k)) (λ k. k.2) (λ _ e. e)
 
+pub no_products : (v : List Rational) → products v [] ≡ []
+no_products [] = refl
+no_products (p ∷ v) = refl
+
 -- what is left to take away
 pub next_less : (w : List Rational) (fs : List Function) (i : ℕ) (p : Rational) (f : Function)
     → length w ≡ length fs → p ≡ get_or w i p → f ≡ get_or fs i f → i < length fs
@@ -110,8 +114,4 @@ pub none_less : (w : List Rational) (fs : List Function) (i : ℕ) → length fs
     → negated (products (drop i w) (constants (drop i fs))) ≡ []
 none_less w fs i le =
     ap (λ gs. negated (products (drop i w) (constants gs))) (drop_of_length-le fs le)
-    ∙ ap negated (products_none (drop i w))
-  where
-    products_none : (v : List Rational) → products v [] ≡ []
-    products_none [] = refl
-    products_none (p ∷ v) = refl
+    ∙ ap negated (no_products (drop i w))

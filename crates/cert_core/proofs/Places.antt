@@ -1,5 +1,5 @@
 -- The places of addresses in a list that ascends, and the numbers that stand at them.
-use Rattle.std.specs.Prelude.{◌≡◌, ℕ, zero, suc, ◌+◌, ◌<◌, ◌≤◌, ◌==◌, nat_lt, Bool, true, false, cond, List, [], ◌∷◌, map, length, All, AllPairs, Contains, Some, None, Result, Ok, Err, slice_get, refl}
+use Rattle.std.specs.Prelude.{◌≡◌, ℕ, zero, suc, ◌+◌, ◌<◌, ◌≤◌, ◌==◌, nat_lt, Bool, true, false, cond, List, [], ◌∷◌, map, length, All, AllPairs, Contains, Option, Some, None, IfSome, Result, Ok, Err, slice_get, refl}
 use Rattle.std.specs.Bool.{Decides}
 use Rattle.std.specs.Cmp.{eq_by_cmp_equiv, tied_itself}
 use Rattle.std.specs.List.{AllByRecursion, IsDistinct}
@@ -177,3 +177,8 @@ stands_there us i v is = sym (get_or_from_slice_get us i v v is)
 
 pub stands : (us : List Address) (i : ℕ) (v : Address) → slice_get us i ≡ Some v → Contains us v
 stands us i v is = (i, place_below us i v is, get_or_from_slice_get us i v v is)
+
+pub places_below : (us : List Address) (at : Address) (place : Option ℕ)
+    → IsPlaceOf us at place → IfSome place (λ i. i < length us)
+places_below us at (Some i) is = place_below us i at is
+places_below us at None none = tt

@@ -38,16 +38,34 @@ pub(crate) fn adjoint_of_rows(
     let count = variables.addresses().len();
     let mut sums = vec![in alloc; Ratio::zero(); count]?;
     for (i, row) in rows.iter().enumerate() {
-        let y = duals[i].as_slice();
-        match components_of(&row.func) {
-            Components::Variables(vars) => add_variables(variables, &mut sums, y, vars)?,
-            Components::Functions(fs) => add_functions(variables, &mut sums, y, fs)?,
-        }
+        add_components(
+            variables,
+            &mut sums,
+            duals[i].as_slice(),
+            components_of(&row.func),
+        )?;
     }
     Ok(sums)
 }
 
-// Adds each component's multiple: the sums have a number for each variable.
+// Adds each component times its dual, to sums that have a number for each variable.
+fn add_components(
+    variables: &Variables,
+    sums: &mut [Ratio],
+    duals: &[Ratio],
+    components: Components,
+) -> Result<(), CheckFault>
+    requires duals { length duals.now ≡ length (functions_in components) }
+    requires sums { length sums.old ≡ length variables.now }
+    ensures { AddsAt result variables.now sums.old sums.new
+        (λ v. products duals.now (coefficients (functions_in components.entry) v)) }
+{
+    match components {
+        Components::Variables(vars) => add_variables(variables, sums, duals, vars),
+        Components::Functions(fs) => add_functions(variables, sums, duals, fs),
+    }
+}
+
 fn add_variables(
     variables: &Variables,
     sums: &mut [Ratio],

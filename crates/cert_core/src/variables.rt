@@ -1,5 +1,5 @@
 //! The variables of a model.
-ghost use Rattle.std.specs.Prelude.{◌≡◌, ◌++◌, IfOk, OnOk};
+ghost use Rattle.std.specs.Prelude.{◌≡◌, ◌<◌, ◌++◌, IfOk, IfSome, OnOk, length};
 ghost use Rattle.numbered.specs.Numbered.{Rise};
 ghost use Rattle.user_model.specs.Consistent.{variable_number};
 ghost use Rattle.certificates.specs.Points.{addresses_of};
@@ -51,7 +51,9 @@ impl Variables {
 
     /// The place of an address among them.
     pub(crate) fn place(&self, at: &Address) -> Option<usize>
-        ensures { IsPlaceOf self.now at.now result }
+        ensures at { IsPlaceOf self.now at.now result }
+        ensures ascending { Ascend self.now }
+        ensures below { IfSome result (λ place. place < length self.now) }
     {
         self.addresses.binary_search(at).ok()
     }
