@@ -1,8 +1,9 @@
 -- Numbers added to the sums of all variables, step by step.
-use Rattle.std.specs.Prelude.{◌≡◌, ℕ, ◌+◌, ◌<◌, ◌≤◌, T, Bool, true, false, cond, List, [], ◌∷◌, ◌++◌, map, length, All, Contains, Some, None, Result, Ok, Err, IsErrAnd, unwrap_or, refl}
+use Rattle.std.specs.Prelude.{◌≡◌, ℕ, ◌+◌, ◌<◌, ◌≤◌, T, Bool, true, false, cond, List, [], ◌∷◌, ◌++◌, map, length, All, Contains, Some, None, Result, Ok, Err, IsErrAnd, slice_get, unwrap_or, refl}
 use Rattle.std.specs.FinMap.{find, get-entries, is_sorted}
-use Rattle.std.proofs.Common.{sym, ◌∙◌, ap, ap₂, drop, get_or, subst}
+use Rattle.std.proofs.Common.{sym, ◌∙◌, ap, ap₂, drop, get_or, get_or_default, set, subst}
 use Rattle.std.proofs.Math.ListN.{drop_of_length-le}
+use Rattle.std.proofs.lemmas.List.{length-map}
 use Rattle.std.proofs.lemmas.List.Elements.{All-contains, All-contains_itself, All-head, All-tail}
 use Rattle.ratio_core.specs.Folds.{sum_from}
 use Rattle.ratio_core.specs.Rational.{Fits, Rational, SumFits, one_ℚ, zero_ℚ, ◌*ℚ◌, ◌+ℚ◌}
@@ -22,8 +23,11 @@ use Rattle.cert_core.specs.Answers.{ExactWhere}
 use Rattle.cert_core.specs.Folds.{AddUp, products}
 use Rattle.certificates.specs.Points.{variables_at}
 use Rattle.cert_core.proofs.Evaluated.{terms_of_variable}
+use Rattle.cert_core.specs.Variables.{Ascend}
+use Rattle.cert_core.proofs.Answered.{answers_alike}
 use Rattle.cert_core.proofs.Parts.{no_products}
-use Rattle.cert_core.proofs.Steps.{next_item}
+use Rattle.cert_core.proofs.Places.{distinct, place_below, set_at_place, stands, stands_there}
+use Rattle.cert_core.proofs.Steps.{made_there, next_item}
 use Rattle.cert_core.proofs.ZeroSums.{SumFits-zero_right}
 use Rattle.cert_core.proofs.Summed.{AddUp_one, Fits_sum, Fits_sum_from, SummedAsAll, step_of_one, summed_end, summed_refused, summed_start, summed_step}
 
@@ -249,6 +253,33 @@ module _ (us : List Address) (before : List Rational) (by : Rational)
         subst (StepFits (from.now t.0) by) (ap (λ l. coefficient_among l t.0) next
         ∙ first_coefficient t rest) step
 
+-- a term added where its variable stands
+pub term_added : (r : Result (Unit {0}) CheckFault) (us : List Address) (sums done : List Rational)
+    (i : ℕ) (at : Address) (by k : Rational) → Ascend us → slice_get us i ≡ Some at
+    → ExactWhere r (StepFits (get_or sums i zero_ℚ) by k)
+    (λ _. done ≡ set sums i (get_or sums i zero_ℚ +ℚ by *ℚ k))
+    → (x : Address → Rational) → sums ≡ map x us
+    → ExactWhere r (Contains us at → StepFits (x at) by k)
+    (λ _. done ≡ map (λ v. cond (address_eq v at) (x at +ℚ by *ℚ k) (x v)) us)
+term_added r us sums done i at by k up found said x is =
+    answers_alike r (StepFits (get_or sums i zero_ℚ) by k)
+    (Contains us at → StepFits (x at) by k)
+    (λ _. done ≡ set sums i (get_or sums i zero_ℚ +ℚ by *ℚ k))
+    (λ _. done ≡ map (λ v. cond (address_eq v at) (x at +ℚ by *ℚ k) (x v)) us) said
+    (λ step _. subst (λ q. StepFits q by k) here step)
+    (λ steps. subst (λ q. StepFits q by k) (sym here) (steps (stands us i at found)))
+    (λ _ e. e ∙ ap₂ (λ l q. set l i (q +ℚ by *ℚ k)) is here
+    ∙ set_at_place us x i at (x at +ℚ by *ℚ k) (distinct us up) found)
+  where
+    below : i < length sums
+    below = subst (λ l. i < length l) (sym is) (subst (λ n. i < n) (sym (length-map us x))
+        (place_below us i at found))
+
+    here : get_or sums i zero_ℚ ≡ x at
+    here = made_there x us sums i at (get_or sums i zero_ℚ) (sym is) (stands_there us i at found)
+        (place_below us i at found)
+        (get_or_default sums i zero_ℚ (get_or sums i zero_ℚ) below)
+
 -- ---- components, one after the other
 
 coefficient_is : (f : Function) (v : Address) → coefficient f v ≡ coefficient_among (terms_of f) v
@@ -267,15 +298,16 @@ next_function w fs i p f ts e p_is f_is lt ts_is v =
     (coefficient_is f v ∙ ap (λ l. coefficient_among l v) (sym ts_is))
 
 pub next_variable : (w : List Rational) (us : List Address) (i : ℕ) (p : Rational) (u : Address)
-    → length w ≡ length us → p ≡ get_or w i p → u ≡ get_or us i u → i < length us → (v : Address)
+    (one : Rational) → one ≡ one_ℚ → length w ≡ length us → p ≡ get_or w i p → u ≡ get_or us i u → i < length us → (v : Address)
     → products (drop i w) (coefficients (variables_at (drop i us)) v)
-    ≡ (p *ℚ coefficient_among ((u, one_ℚ) ∷ []) v ∷ [])
+    ≡ (p *ℚ coefficient_among ((u, one) ∷ []) v ∷ [])
     ++ products (drop (i + 1) w) (coefficients (variables_at (drop (i + 1) us)) v)
-next_variable w us i p u e p_is u_is lt v =
+next_variable w us i p u one one_is e p_is u_is lt v =
     ap₂ (λ ys vs. products ys (coefficients (variables_at vs) v))
     (next_item w i p p_is (subst (λ n. i < n) (sym e) lt)) (next_item us i u u_is lt)
     ∙ ap (λ q. p *ℚ q ∷ products (drop (i + 1) w) (coefficients (variables_at (drop (i + 1) us)) v))
-    (coefficient_is (variable u) v ∙ ap (λ l. coefficient_among l v) (terms_of_variable u))
+    (coefficient_is (variable u) v ∙ ap (λ l. coefficient_among l v) (terms_of_variable u)
+    ∙ ap (λ k. coefficient_among ((u, k) ∷ []) v) (sym one_is))
 
 -- past the last component
 pub no_function : (w : List Rational) (fs : List Function) (i : ℕ) → length fs ≤ i

@@ -6,7 +6,7 @@ use Rattle.std.proofs.lemmas.List.Elements.{All-append, All-map, All-weaker}
 use Rattle.ratio_core.specs.Folds.{sum_from}
 use Rattle.ratio_core.specs.Rational.{Rational, one_ℚ, zero_ℚ}
 use Rattle.aff_core.specs.Address.{Address, address_cmp}
-use Rattle.aff_core.specs.Function.{Function, variable}
+use Rattle.aff_core.specs.Function.{Function, evaluated, variable}
 use Rattle.aff_core.specs.FunctionLists.{evaluations, slopes, values}
 use Rattle.aff_core.specs.Points.{spread}
 use Rattle.dual_laws.specs.Held.{Held}
@@ -26,8 +26,9 @@ use Rattle.certificates.specs.Duals.{AreDuals, HasDuals, group_with, groups_with
 use Rattle.certificates.specs.Feasible.{IsFeasible, IsRay}
 use Rattle.cert_core.specs.Answers.{ExactWhere}
 use Rattle.cert_core.specs.Checked.{HasEachDual, HasRowDuals, model_of}
-use Rattle.cert_core.specs.Folds.{FitIn, PointFits}
-use Rattle.cert_core.specs.Holding.{FunctionsHold, HoldsAt}
+use Rattle.cert_core.specs.declared.fault.CheckFault.{CheckFault}
+use Rattle.cert_core.specs.Folds.{EvaluationFits, FitIn, PointFits}
+use Rattle.cert_core.specs.Holding.{FunctionsHold, HoldsAt, IsReady}
 use Rattle.cert_core.specs.Variables.{Ascend, all_addresses, variables_of}
 use Rattle.cert_core.proofs.Places.{distinct}
 
@@ -142,3 +143,70 @@ module _ (groups : List Group) (us : List Address) (is : us ≡ all_addresses gr
     pub numbers_at_all : Ascend us → length x ≡ length us
         → map (spread us x) (all_addresses groups) ≡ x
     numbers_at_all up size = subst (λ vs. map (spread us x) vs ≡ x) is (numbers_at up size)
+
+-- the model's own point has a vector's numbers at its variables
+pub numbers_of_model : (groups : List Group) (rows : List Row) (us : List Address)
+    (x : List Rational) → IsReady groups rows us → length x ≡ length us
+    → map (spread (all_addresses groups) x) (all_addresses groups) ≡ x
+numbers_of_model groups rows us x ready size =
+    subst (λ vs. map (spread vs x) vs ≡ x) ready.variables
+    (numbers_at groups us ready.variables x ready.ascend size)
+
+pub size_of_model : (groups : List Group) (rows : List Row) (us : List Address) (x : List Rational)
+    → IsReady groups rows us → length x ≡ length us → length x ≡ length (variables_of groups)
+size_of_model groups rows us x ready size = size ∙ variable_count groups us ready.variables
+
+-- ---- what is read of a model at its own point
+
+module _ (groups : List Group) (us : List Address) (is : us ≡ all_addresses groups)
+    (x : List Rational) (p : Address → Rational) (at : p ≡ spread us x) where
+  pub own_point : p ≡ spread (all_addresses groups) x
+  own_point = at ∙ ap (λ vs. spread vs x) is
+
+  pub rows_told : (r : Result Bool CheckFault) (rows : List Row) (one : Rational)
+      → ExactWhere r (All (λ r. FitIn one r.set (functions_of r.func) p) rows)
+      (λ holds. IsTrue holds ↔ All (λ r. FunctionsHold one r.set (functions_of r.func) p) rows)
+      → ExactWhere r (All (λ r. FitIn one r.set (functions_of r.func)
+      (spread (all_addresses groups) x)) rows)
+      (λ holds. IsTrue holds ↔ All (λ r. FunctionsHold one r.set (functions_of r.func)
+      (spread (all_addresses groups) x)) rows)
+  rows_told r rows one h =
+      subst (λ q. ExactWhere r (All (λ r. FitIn one r.set (functions_of r.func) q) rows)
+      (λ holds. IsTrue holds ↔ All (λ r. FunctionsHold one r.set (functions_of r.func) q) rows))
+      own_point h
+
+  pub objective_told : (r : Result Rational CheckFault) (f : Function) (one : Rational)
+      → ExactWhere r (EvaluationFits one f p) (λ q. q ≡ evaluated one f p)
+      → ExactWhere r (EvaluationFits one f (spread (all_addresses groups) x))
+      (λ q. q ≡ evaluated one f (spread (all_addresses groups) x))
+  objective_told r f one h =
+      subst (λ y. ExactWhere r (EvaluationFits one f y) (λ q. q ≡ evaluated one f y)) own_point h
+
+-- rows and groups together
+pub point_told : (model : ModelValue) (one : Rational) (x : List Rational) (a b now : Bool)
+    → All (λ r. FitIn one r.set (functions_of r.func) (at_point model x)) model.rows
+    × (IsTrue a
+    ↔ All (λ r. FunctionsHold one r.set (functions_of r.func) (at_point model x)) model.rows)
+    → All (λ g. MembershipFits g.set (evaluations one (functions_of_group g) (at_point model x)))
+    model.groups
+    × (IsTrue b
+    ↔ All (λ g. FunctionsHold one g.set (functions_of_group g) (at_point model x)) model.groups)
+    → (IsTrue now ↔ (IsTrue a × IsTrue b))
+    → PointFits model one x × (IsTrue now ↔ HoldsAt model one x)
+point_told model one x a b now rows groups both = (
+  record { rows = rows.0; groups = groups.0 },
+  (
+    λ t. let k = both.0 t in
+        record { rows = rows.1.0 k.0; groups = groups.1.0 k.1 },
+    λ h. both.1 (rows.1.1 h.rows, groups.1.1 h.groups),
+  ),
+)
+
+-- at the model's own addresses
+pub at_own : (groups : List Group) (us : List Address) → us ≡ all_addresses groups
+    → (r : Result Bool CheckFault) (F P : Address → Type 0)
+    → ExactWhere r (All F us) (λ holds. IsTrue holds ↔ All P us)
+    → ExactWhere r (All F (all_addresses groups))
+    (λ holds. IsTrue holds ↔ All P (all_addresses groups))
+at_own groups us is r F P h =
+    subst (λ vs. ExactWhere r (All F vs) (λ holds. IsTrue holds ↔ All P vs)) is h

@@ -87,28 +87,20 @@ Read r start ts x = ExactWhere r (AddUp start (products_at ts x)) (λ q. q ≡ s
 
 -- a function's terms added to its constant, times `one`
 pub read_from : (r : Result Rational CheckFault) (one start : Rational) (f : Function)
-    (x : Address → Rational) → Read r start (terms_of f) x → start ≡ one *ℚ f.constant
+    (ts : List (Address × Rational)) (x : Address → Rational) → ts ≡ terms_of f
+    → start ≡ one *ℚ f.constant → Read r start ts x
     → ExactWhere r (EvaluationFits one f x) (λ q. q ≡ evaluated one f x)
-read_from r one start f x h e = subst (λ s. Read r s (terms_of f) x) e h
+read_from r one start f ts x same e h =
+    subst (λ s. Read r s (terms_of f) x) e (subst (λ l. Read r start l x) same h)
 
-pub read_value : (r : Result Rational CheckFault) (f : Function) (x : Address → Rational)
-    → Read r f.constant (terms_of f) x
-    → ExactWhere r (EvaluationFits one_ℚ f x) (λ q. q ≡ evaluated one_ℚ f x)
-read_value r f x h = read_from r one_ℚ f.constant f x h (sym (one-*ℚ f.constant))
-
-pub read_slope : (r : Result Rational CheckFault) (f : Function) (x : Address → Rational)
-    → Read r zero_ℚ (terms_of f) x
-    → ExactWhere r (EvaluationFits zero_ℚ f x) (λ q. q ≡ evaluated zero_ℚ f x)
-read_slope r f x h = read_from r zero_ℚ zero_ℚ f x h (sym (zero-*ℚ f.constant))
-
-pub read_variable : (r : Result Rational CheckFault) (one : Rational) (v : Address)
-    (x : Address → Rational) → Read r zero_ℚ ((v, one_ℚ) ∷ []) x
+pub read_variable : (r : Result Rational CheckFault) (one start k : Rational) (v : Address)
+    (x : Address → Rational) → start ≡ zero_ℚ → k ≡ one_ℚ → Read r start ((v, k) ∷ []) x
     → ExactWhere r (EvaluationFits one (variable v) x)
     (λ q. q ≡ evaluated {R = address_cmp} one (variable v) x)
-read_variable r one v x h =
-    read_from r one zero_ℚ (variable v) x
-    (subst (λ ts. Read r zero_ℚ ts x) (sym (terms_of_variable v)) h)
-    (sym (ap (λ k. one *ℚ k) (constant_of_variable v) ∙ *ℚ-zero one))
+read_variable r one start k v x zero_is one_is h =
+    read_from r one start (variable v) ((v, k) ∷ []) x
+    (ap (λ q. (v, q) ∷ []) one_is ∙ sym (terms_of_variable v))
+    (zero_is ∙ sym (ap (λ q. one *ℚ q) (constant_of_variable v) ∙ *ℚ-zero one)) h
 
 -- ---- in a set
 

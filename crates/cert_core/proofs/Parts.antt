@@ -20,7 +20,9 @@ use Rattle.aff_core.specs.Function.{Function}
 use Rattle.cert_core.specs.declared.fault.CheckFault.{CheckFault}
 use Rattle.cert_core.specs.Answers.{ExactWhere}
 use Rattle.cert_core.proofs.Answered.{answers_alike}
-use Rattle.cert_core.proofs.Summed.{zeros_add_up}
+use Rattle.std.proofs.lemmas.Grind.{flat_map-append}
+use Rattle.std.proofs.lemmas.List.Sums.{fold-append}
+use Rattle.cert_core.proofs.Summed.{AddUp-append, AddUp_parts, zeros_add_up}
 use Rattle.cert_core.proofs.Evaluated.{constant_of_variable}
 
 from_zero : (qs : List Rational) → sum_from zero_ℚ qs ≡ sum_ℚ qs
@@ -115,3 +117,29 @@ pub none_less : (w : List Rational) (fs : List Function) (i : ℕ) → length fs
 none_less w fs i le =
     ap (λ gs. negated (products (drop i w) (constants gs))) (drop_of_length-le fs le)
     ∙ ap negated (no_products (drop i w))
+
+-- the gap of two lists together
+pub gap_told : (r : Result Rational CheckFault) (xs ys : List Held) (before : Rational)
+    → AddUp zero_ℚ (gap_parts xs) → before ≡ sum_from zero_ℚ (gap_parts xs)
+    → ExactWhere r (AddUp before (gap_parts ys)) (λ q. q ≡ sum_from before (gap_parts ys))
+    → ExactWhere r (AddUp zero_ℚ (gap_parts (xs ++ ys))) (λ q. q ≡ gap (xs ++ ys))
+gap_told r xs ys before fits is said =
+    answers_alike r (AddUp before (gap_parts ys)) (AddUp zero_ℚ (gap_parts (xs ++ ys)))
+    (λ q. q ≡ sum_from before (gap_parts ys)) (λ q. q ≡ gap (xs ++ ys)) said
+    (λ k. subst (AddUp zero_ℚ) (sym joined) (AddUp-append zero_ℚ (gap_parts xs) (gap_parts ys) fits
+    (subst (λ s. AddUp s (gap_parts ys)) is k)))
+    (λ k. subst (λ s. AddUp s (gap_parts ys)) (sym is)
+    (AddUp_parts zero_ℚ (gap_parts xs) (gap_parts ys) (subst (AddUp zero_ℚ) joined k)).1)
+    (λ q e. e ∙ ap (λ s. sum_from s (gap_parts ys)) is
+    ∙ sym (fold-append ◌+ℚ◌ zero_ℚ (gap_parts xs) (gap_parts ys))
+    ∙ ap (sum_from zero_ℚ) (sym joined) ∙ gap_is (xs ++ ys))
+  where
+    joined : gap_parts (xs ++ ys) ≡ gap_parts xs ++ gap_parts ys
+    joined = flat_map-append gap_parts_of xs ys
+
+-- what the first of them owes
+pub gap_of_first : (xs ys : List Held) → AddUp zero_ℚ (gap_parts (xs ++ ys))
+    → AddUp zero_ℚ (gap_parts xs)
+gap_of_first xs ys h =
+    (AddUp_parts zero_ℚ (gap_parts xs) (gap_parts ys)
+    (subst (AddUp zero_ℚ) (flat_map-append gap_parts_of xs ys) h)).0

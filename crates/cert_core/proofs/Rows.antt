@@ -1,5 +1,5 @@
 -- Rows with their duals, one after the other.
-use Rattle.std.specs.Prelude.{◌≡◌, ℕ, zero, suc, ◌+◌, ◌<◌, ◌≤◌, List, [], ◌∷◌, All, length, refl}
+use Rattle.std.specs.Prelude.{◌≡◌, ℕ, zero, suc, ◌+◌, ◌<◌, ◌≤◌, List, [], ◌∷◌, ◌++◌, All, length, refl}
 use Rattle.std.proofs.Common.{sym, ◌∙◌, ap, ap₂, subst, arith, drop, get_or}
 use Rattle.std.proofs.lemmas.List.Elements.{All-drop, All-get_or, All-head}
 use Rattle.std.proofs.Math.ListN.{drop_of_length-le}
@@ -7,6 +7,10 @@ use Rattle.ratio_core.specs.Rational.{Rational}
 use Rattle.cert_core.proofs.Steps.{next_item}
 use Rattle.dual_laws.specs.Held.{Held}
 use Rattle.user_model.specs.declared.row.Row.{Row}
+use Rattle.aff_core.specs.Address.{Address}
+use Rattle.aff_core.specs.Function.{Function}
+use Rattle.aff_core.specs.FunctionLists.{coefficients}
+use Rattle.cert_core.specs.Folds.{adjoint_parts, products}
 use Rattle.set_core.specs.Shapes.{dimension_of}
 use Rattle.certificates.specs.Points.{functions_of}
 use Rattle.cert_core.specs.Checked.{HasEachDual, HasRowDuals}
@@ -57,3 +61,14 @@ pub row_set : (rows : List Row) (i : ℕ) (r : Row) → All HasRowSet rows → r
 row_set rows i r sets r_is lt =
     let here : HasRowSet r = subst HasRowSet (sym r_is) (All-get_or HasRowSet rows i r lt sets) in
     here.dimension
+
+-- what is left to add to the adjoint begins with the row's parts
+pub next_parts : (ys : List (List Rational)) (rows : List Row) (i : ℕ) (y : List Rational) (r : Row)
+    (slice : List Rational) (fs : List Function) → length ys ≡ length rows → y ≡ get_or ys i y
+    → r ≡ get_or rows i r → i < length rows → slice ≡ y → fs ≡ functions_of r.func → (v : Address)
+    → adjoint_parts (drop i (rows_with ys rows)) v
+    ≡ products slice (coefficients fs v) ++ adjoint_parts (drop (i + 1) (rows_with ys rows)) v
+next_parts ys rows i y r slice fs e y_is r_is lt slice_is fs_is v =
+    ap (λ l. adjoint_parts l v) (next_row ys rows i y r e y_is r_is lt)
+    ∙ ap₂ (λ w gs. products w (coefficients gs v)
+    ++ adjoint_parts (drop (i + 1) (rows_with ys rows)) v) (sym slice_is) (sym fs_is)

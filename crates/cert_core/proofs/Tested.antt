@@ -1,7 +1,7 @@
 -- Things tested one after the other, each where what it takes fits.
-use Rattle.std.specs.Prelude.{◌≡◌, ◌↔◌, ◌&&◌, Bool, true, false, IsTrue, List, [], ◌∷◌, All, refl}
+use Rattle.std.specs.Prelude.{◌≡◌, ◌↔◌, ◌&&◌, Bool, true, false, IsTrue, List, [], ◌∷◌, ◌++◌, All, refl}
 use Rattle.std.proofs.Common.{sym, ◌∙◌, subst, true≢false}
-use Rattle.std.proofs.lemmas.List.Elements.{All-cons, All-head, All-nil, All-tail}
+use Rattle.std.proofs.lemmas.List.Elements.{All-append, All-cons, All-head, All-nil, All-tail}
 
 pub both_true : (a b : Bool) → IsTrue (a && b) → IsTrue a × IsTrue b
 both_true true b h = (refl, h)
@@ -27,6 +27,28 @@ pub both_tell : (a b : Bool) (P Q : Type 0) → (IsTrue a ↔ P) → (IsTrue b �
 both_tell a b P Q p q = (
   λ h. let t = both_true a b h in (p.0 t.0, q.0 t.1),
   λ h. true_both a b (p.1 h.0) (q.1 h.1),
+)
+
+pub iff_trans : (A B C : Type 0) → (A ↔ B) → (B ↔ C) → A ↔ C
+iff_trans A B C f g = (λ a. g.0 (f.0 a), λ c. f.1 (g.1 c))
+
+-- of two lists together
+pub all_parts : {X : Type 0} (P : X → Type 0) (xs ys : List X) → All P (xs ++ ys)
+    → All P xs × All P ys
+all_parts P [] ys h = (All-nil P, h)
+all_parts P (x ∷ xs) ys h =
+    let parts = all_parts P xs ys (All-tail P x (xs ++ ys) h) in
+    (All-cons P x xs (All-head P x (xs ++ ys) h) parts.0, parts.1)
+
+pub appended_tell : {X : Type 0} (F P : X → Type 0) (xs ys : List X) (a b now : Bool)
+    → All F xs × (IsTrue a ↔ All P xs) → All F ys × (IsTrue b ↔ All P ys)
+    → (IsTrue now ↔ (IsTrue a × IsTrue b)) → All F (xs ++ ys) × (IsTrue now ↔ All P (xs ++ ys))
+appended_tell F P xs ys a b now front back both = (
+  All-append F xs ys front.0 back.0,
+  (
+    λ t. let k = both.0 t in All-append P xs ys (front.1.0 k.0) (back.1.0 k.1),
+    λ h. let parts = all_parts P xs ys h in both.1 (front.1.1 parts.0, back.1.1 parts.1),
+  ),
 )
 
 module _ {X : Type 0} (F P : X → Type 0) where

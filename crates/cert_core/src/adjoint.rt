@@ -1,5 +1,5 @@
 //! The rows' adjoint of each variable, in one pass over the rows.
-ghost use Rattle.std.specs.Prelude.{◌≡◌, [], ◌∷◌, All, Contains, cond, length, map};
+ghost use Rattle.std.specs.Prelude.{◌≡◌, [], ◌∷◌, ◌<◌, All, Contains, cond, length, map, slice_index_or, slice_set};
 ghost use Rattle.ratio_core.specs.Folds.{sum_from};
 ghost use Rattle.ratio_core.specs.Rational.{Fits, Rational, zero_ℚ, ◌+ℚ◌, ◌*ℚ◌};
 ghost use Rattle.aff_core.specs.Address.{Address, address_eq};
@@ -37,18 +37,33 @@ pub(crate) fn adjoint_of_rows(
 {
     let count = variables.addresses().len();
     let mut sums = vec![in alloc; Ratio::zero(); count]?;
+    add_rows(variables, &mut sums, rows, duals)?;
+    Ok(sums)
+}
+
+// Adds each row's components times their duals, to sums that have a number for each variable.
+fn add_rows(
+    variables: &Variables,
+    sums: &mut [Ratio],
+    rows: &[Row],
+    duals: &[Ratios],
+) -> Result<(), CheckFault>
+    requires duals { HasRowDuals rows.now duals.now }
+    requires sums { length sums.old ≡ length variables.now }
+    ensures { AddsAt result variables.now sums.old sums.new
+        (adjoint_parts (rows_with duals.now rows.now)) }
+{
     for (i, row) in rows.iter().enumerate() {
         add_components(
             variables,
-            &mut sums,
+            sums,
             duals[i].as_slice(),
             components_of(&row.func),
         )?;
     }
-    Ok(sums)
+    Ok(())
 }
 
-// Adds each component times its dual, to sums that have a number for each variable.
 fn add_components(
     variables: &Variables,
     sums: &mut [Ratio],
@@ -134,10 +149,22 @@ fn add_term(
         (x at.now +ℚ by.now *ℚ coefficient.now) (x v)) variables.now) }
 {
     match variables.place(at) {
-        Some(place) => {
-            sums[place] = plus_product(&sums[place], by, coefficient)?;
-            Ok(())
-        }
+        Some(place) => add_at(sums, place, by, coefficient),
         None => Ok(()),
     }
+}
+
+fn add_at(
+    sums: &mut [Ratio],
+    place: usize,
+    by: &Ratio,
+    coefficient: &Ratio,
+) -> Result<(), CheckFault>
+    requires { place < length sums.old }
+    ensures { let sum = slice_index_or sums.old place zero_ℚ in
+        ExactWhere result (StepFits sum by.now coefficient.now)
+        (λ _. sums.new ≡ slice_set sums.old place (sum +ℚ by.now *ℚ coefficient.now)) }
+{
+    sums[place] = plus_product(&sums[place], by, coefficient)?;
+    Ok(())
 }

@@ -1,5 +1,6 @@
 //! Points of a model.
-ghost use Rattle.std.specs.Prelude.{◌≡◌};
+ghost use Rattle.std.specs.Prelude.{◌≡◌, slice_index_or};
+ghost use Rattle.ratio_core.specs.Rational.{zero_ℚ};
 ghost use Rattle.aff_core.specs.Points.{spread};
 ghost use Rattle.cert_core.specs.Points.{numbers_in};
 
@@ -26,8 +27,19 @@ impl<'a> Point<'a> {
         ensures { result ≡ numbers_in self.now at.now }
     {
         match self.variables.place(at) {
-            Some(place) if place < self.numbers.len() => self.numbers[place],
-            _ => Ratio::zero(),
+            Some(place) => number_at(self.numbers, place),
+            None => Ratio::zero(),
         }
+    }
+}
+
+// The number at a place, and 0 past the last.
+fn number_at(numbers: &[Ratio], place: usize) -> Ratio
+    ensures { result ≡ slice_index_or numbers.now place zero_ℚ }
+{
+    if place < numbers.len() {
+        numbers[place]
+    } else {
+        Ratio::zero()
     }
 }

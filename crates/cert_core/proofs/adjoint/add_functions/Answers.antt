@@ -1,8 +1,7 @@
 use Rattle.std.specs.Prelude.{◌≡◌, ◌+◌, [], ◌∷◌}
 use Rattle.std.proofs.Common.{drop}
-use Rattle.ratio_core.specs.Rational.{one_ℚ, ◌*ℚ◌}
+use Rattle.ratio_core.specs.Rational.{◌*ℚ◌}
 use Rattle.aff_core.specs.FunctionLists.{coefficients}
-use Rattle.certificates.specs.Points.{variables_at}
 use Rattle.cert_core.specs.Adding.{coefficient_among}
 use Rattle.cert_core.specs.Folds.{products}
 use Rattle.cert_core.proofs.Adding.{adds_end, adds_passed, adds_refused, adds_step, next_function, no_function}

@@ -5,7 +5,7 @@ use Rattle.std.proofs.Common.{◌∙◌, ap, drop, subst, sym}
 use Rattle.std.proofs.Math.ListN.{drop_of_length-le}
 use Rattle.ratio_core.specs.Rational.{◌*ℚ◌}
 use Rattle.map_laws.specs.EntryLaws.{is_sorted-drop}
-use Rattle.aff_core.specs.Address.{address_cmp, address_total}
+use Rattle.aff_core.specs.Address.{address_cmp}
 use Rattle.aff_core.specs.Terms.{StepFits}
 use Rattle.cert_core.specs.Adding.{coefficient_among}
 use Rattle.cert_core.specs.Folds.{AddUp}
@@ -21,7 +21,7 @@ returns-in_err-add_term c = λ x is fit.
     let i = c.loop-at.at-index in
     let t = c.loop-at-item.result in
     let next = next_item ts i t c.loop-at-item.is c.loop-at-test.true in
-    let sorted = is_sorted-drop address_total i ts (passes _ c.requires.terms.rising) in
+    let sorted = is_sorted-drop address_cmp i ts (passes _ c.requires.terms.rising) in
     let from = c.loop-at.invariant x is fit in
     passed_on c.from_residual.result c.in_err-add_term.field-0.0
     (Contains us t.0 → StepFits (from.now t.0) c.args.by.now t.1)
@@ -37,7 +37,7 @@ loop-at-preserved c =
     let i = c.loop-at.at-index in
     let t = c.loop-at-item.result in
     let next = next_item ts i t c.loop-at-item.is c.loop-at-test.true in
-    let sorted = is_sorted-drop address_total i ts (passes _ c.requires.terms.rising) in
+    let sorted = is_sorted-drop address_cmp i ts (passes _ c.requires.terms.rising) in
     terms_step us c.args.sums.now c.args.by.now ts c.loop-at.sums (drop i ts) (drop (i + 1) ts) t
     c.loop-at.invariant next sorted c.add_term.new.sums c.in_ok-add_term.ensures
 
