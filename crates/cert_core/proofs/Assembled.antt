@@ -28,9 +28,16 @@ use Rattle.cert_core.specs.Answers.{ExactWhere}
 use Rattle.cert_core.specs.Checked.{HasEachDual, HasRowDuals, model_of}
 use Rattle.cert_core.specs.declared.fault.CheckFault.{CheckFault}
 use Rattle.cert_core.specs.Folds.{EvaluationFits, FitIn, PointFits}
-use Rattle.cert_core.specs.Holding.{FunctionsHold, HoldsAt, IsReady}
+use Rattle.cert_core.specs.Holding.{FunctionsHold, HasGroupSet, HasRowSet, HoldsAt, IsReady}
 use Rattle.cert_core.specs.Variables.{Ascend, all_addresses, variables_of}
-use Rattle.cert_core.proofs.Places.{distinct}
+use Rattle.numbered.specs.Numbered.{Rise}
+use Rattle.user_model.specs.declared.function.UserFunc.{UserFunc}
+use Rattle.user_model.specs.declared.function.UserFunc.TheVariants.{Plain, Affine, PlainVec, AffineVec}
+use Rattle.user_model.specs.Consistent.{variable_number}
+use Rattle.user_model.specs.Functions.{components}
+use Rattle.user_model.specs.Valid.{HasValidParts, IsValidGroup, IsValidRow}
+use Rattle.cert_core.proofs.Places.{ascend, distinct}
+use Rattle.cert_core.proofs.Tested.{all_parts}
 
 -- ---- values and slopes
 
@@ -210,3 +217,33 @@ pub at_own : (groups : List Group) (us : List Address) → us ≡ all_addresses 
     (λ holds. IsTrue holds ↔ All P (all_addresses groups))
 at_own groups us is r F P h =
     subst (λ vs. ExactWhere r (All F vs) (λ holds. IsTrue holds ↔ All P vs)) is h
+
+pub row_duals : (model : ModelValue) (rows : List (List Rational)) (vars : List Rational)
+    → AreDuals model rows vars → HasRowDuals model.rows rows
+row_duals model rows vars h = record {
+  each = h.each_row;
+  components = All-weaker HasDuals HasEachDual (λ _ k. k.size) (rows_with rows model.rows)
+      (all_parts HasDuals (rows_with rows model.rows)
+      (groups_with (at_point model vars) model.groups) h.duals).0;
+}
+
+-- ---- of a valid model
+
+component_count : (func : UserFunc) → length (functions_of func) ≡ components func
+component_count (Plain var) = refl
+component_count (Affine f) = refl
+component_count (PlainVec vars) = length-map vars (variable {R = address_cmp})
+component_count (AffineVec fs) = refl
+
+pub ready : (groups : List Group) (rows : List Row) (objective : Objective) (us : List Address)
+    → HasValidParts groups rows objective → Rise variable_number (variables_of groups)
+    → us ≡ all_addresses groups → IsReady groups rows us
+ready groups rows objective us valid rise is = record {
+  variables = is;
+  ascend = subst Ascend (sym is) (ascend (variables_of groups) rise);
+  row_sets = All-weaker (IsValidRow groups) HasRowSet
+      (λ r v. record { dimension = component_count r.func ∙ sym v.set.dimension }) rows
+      valid.valid_rows;
+  group_sets = All-weaker IsValidGroup HasGroupSet
+      (λ g v. record { dimension = sym v.set.dimension }) groups valid.valid_groups;
+}

@@ -1,7 +1,7 @@
 //! The check of a certificate.
 ghost use Rattle.std.specs.Prelude.{◌≡◌, ◌↔◌, All, IsTrue, length};
 ghost use Rattle.ratio_core.specs.Folds.{sum_from};
-ghost use Rattle.ratio_core.specs.Rational.{zero_ℚ};
+ghost use Rattle.ratio_core.specs.Rational.{zero_ℚ, ◌‹ℚ◌};
 ghost use Rattle.set_core.specs.Membership.{Dual, DualFits};
 ghost use Rattle.numbered.specs.Numbered.{Rise};
 ghost use Rattle.user_model.specs.declared.undo.NextNumbers.{NextNumbers};
@@ -212,7 +212,7 @@ impl<'a> Parts<'a> {
         let equal = cancel(self.variables.addresses(), &sums, duals.vars)?;
         let of_duals = self.gap(duals)?;
         let is_gap = *gap == of_duals;
-        let is_positive = Ratio::zero() < *gap;
+        let is_positive = is_positive(gap);
         Ok(all_true(&[in_sets, equal, is_gap, is_positive]))
     }
 
@@ -237,6 +237,13 @@ fn all_true(tests: &[bool]) -> bool
     ensures { IsTrue result ↔ All IsTrue tests.now }
 {
     tests.iter().all(|test| *test)
+}
+
+#[tactic(auto, using(rational_laws::specs::Tests::rational_tests))]
+fn is_positive(q: &Ratio) -> bool
+    ensures { IsTrue result ↔ (zero_ℚ ‹ℚ q.now) }
+{
+    Ratio::zero() < *q
 }
 
 // Whether a slope makes the objective better.
