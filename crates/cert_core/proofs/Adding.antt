@@ -1,9 +1,9 @@
 -- Numbers added to the sums of all variables, step by step.
 use Rattle.std.specs.Prelude.{◌≡◌, ℕ, ◌+◌, ◌<◌, ◌≤◌, T, Bool, true, false, cond, List, [], ◌∷◌, ◌++◌, map, length, All, Contains, Some, None, Result, Ok, Err, IsErrAnd, slice_get, unwrap_or, refl}
 use Rattle.std.specs.FinMap.{find, get-entries, is_sorted}
-use Rattle.std.proofs.Common.{sym, ◌∙◌, ap, ap₂, drop, get_or, get_or_default, set, subst}
+use Rattle.std.proofs.Common.{sym, ◌∙◌, ap, ap₂, drop, get_or, set, subst}
 use Rattle.std.proofs.Math.ListN.{drop_of_length-le}
-use Rattle.std.proofs.lemmas.List.{length-map}
+use Rattle.std.proofs.lemmas.List.{get_or_default, length-map}
 use Rattle.std.proofs.lemmas.List.Elements.{All-contains, All-contains_itself, All-head, All-tail}
 use Rattle.ratio_core.specs.Folds.{sum_from}
 use Rattle.ratio_core.specs.Rational.{Fits, Rational, SumFits, one_ℚ, zero_ℚ, ◌*ℚ◌, ◌+ℚ◌}

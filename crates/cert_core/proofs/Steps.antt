@@ -1,7 +1,8 @@
 -- What is left of a list that is gone through.
 use Rattle.std.specs.Prelude.{◌≡◌, ℕ, zero, suc, ◌+◌, ◌<◌, List, [], ◌∷◌, ◌++◌, map, take, length, refl}
 use Rattle.std.proofs.Common.{arith, get_or, drop, subst, sym, ap, ◌∙◌}
-use Rattle.std.proofs.lemmas.List.{drop_more, map-append, take_more}
+use Rattle.std.proofs.Math.ListN.{drop_of_length-le}
+use Rattle.std.proofs.lemmas.List.{append-nil, drop_more, map-append, take_all, take_more}
 
 -- it begins with the item that is read
 pub next_item : {X : Type 0} (xs : List X) (i : ℕ) (x : X) → x ≡ get_or xs i x → i < length xs
@@ -33,3 +34,10 @@ pub made_there : {X Y : Type 0} (f : X → Y) (xs : List X) (ys : List Y) (i : �
     → map f xs ≡ ys → x ≡ get_or xs i x → i < length xs → y ≡ get_or ys i y → y ≡ f x
 made_there f xs ys i x y made x_is lt y_is =
     mapped_there f xs i x y x_is lt (subst (λ l. y ≡ get_or l i y) (sym made) y_is)
+
+-- a slice written back over all of a vector
+pub written_back : {X : Type 0} (n : ℕ) (items new : List X) → n ≡ length items
+    → length new ≡ length items → take n (new ++ drop (length new) items) ≡ new
+written_back n items new n_is same =
+    ap (λ l. take n (new ++ l)) (drop_of_length-le items (omega (arith, same)))
+    ∙ ap (take n) (append-nil new) ∙ take_all n new (omega (arith, n_is, same))

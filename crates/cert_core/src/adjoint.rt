@@ -1,5 +1,5 @@
 //! The rows' adjoint of each variable, in one pass over the rows.
-ghost use Rattle.std.specs.Prelude.{◌≡◌, [], ◌∷◌, ◌<◌, All, Contains, cond, length, map, slice_index_or, slice_set};
+ghost use Rattle.std.specs.Prelude.{◌≡◌, [], ◌∷◌, ◌<◌, All, Contains, IfOk, cond, length, map, slice_index_or, slice_set};
 ghost use Rattle.ratio_core.specs.Folds.{sum_from};
 ghost use Rattle.ratio_core.specs.Rational.{Fits, Rational, zero_ℚ, ◌+ℚ◌, ◌*ℚ◌};
 ghost use Rattle.aff_core.specs.Address.{Address, address_eq};
@@ -19,7 +19,7 @@ use crate::components::{Components, components_of};
 use crate::sums::plus_product;
 use crate::variables::Variables;
 use aff_core::{Address, Aff};
-use ratio_core::{Ratio, Ratios};
+use ratio_core::{Memory, Ratio, Ratios};
 use std::alloc::Global;
 use user_model::Row;
 
@@ -35,10 +35,15 @@ pub(crate) fn adjoint_of_rows(
         ExactWhere result (All (λ v. AddUp zero_ℚ (parts v)) variables.now)
         (λ sums. sums.items ≡ map (λ v. sum_from zero_ℚ (parts v)) variables.now) }
 {
-    let count = variables.addresses().len();
-    let mut sums = vec![in alloc; Ratio::zero(); count]?;
+    let mut sums = zeros(alloc, variables.addresses())?;
     add_rows(variables, &mut sums, rows, duals)?;
     Ok(sums)
+}
+
+fn zeros(alloc: Global, addresses: &[Address]) -> Result<Vec<Ratio>, Memory>
+    ensures { IfOk result (λ v. v.items ≡ map (λ _. zero_ℚ) addresses.now) }
+{
+    Ok(addresses.iter().map(|_| Ratio::zero()).collect(alloc)?)
 }
 
 // Adds each row's components times their duals, to sums that have a number for each variable.

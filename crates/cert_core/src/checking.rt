@@ -212,8 +212,8 @@ impl<'a> Parts<'a> {
         let equal = cancel(self.variables.addresses(), &sums, duals.vars)?;
         let of_duals = self.gap(duals)?;
         let is_gap = *gap == of_duals;
-        let is_positive = is_positive(gap);
-        Ok(all_true(&[in_sets, equal, is_gap, is_positive]))
+        let has_gap = is_positive(gap);
+        Ok(all_true(&[in_sets, equal, is_gap, has_gap]))
     }
 
     fn is_unbounded(&self, alloc: Global, x: &[Ratio], d: &[Ratio]) -> Result<bool, CheckFault>

@@ -92,10 +92,10 @@ returns c = λ next.
     is_infeasible model ys vs c.requires.rows
     (size_of_model groups rows us vs c.requires.ready c.requires.vars) c.args.gap.now
     c.in_ok-of_duals.of_duals c.in_ok-in_sets.in_sets c.in_ok-equal.equal c.eq-is_gap.result
-    c.is_positive.result c.all_true.result sets.0 sets.1
+    c.is_positive-has_gap.result c.all_true.result sets.0 sets.1
     (subst (All (λ v. AddUp zero_ℚ (adjoint_parts (rows_with ys rows) v)))
     c.requires.ready.variables c.in_ok-sums.ensures.0) equal.0 equal.1 gap.0 gap.1
     (equal_told c.eq-is_gap.result c.args.gap.now c.in_ok-of_duals.of_duals c.eq-is_gap.ensures)
-    c.is_positive.ensures
+    c.is_positive-has_gap.ensures
     (iff_trans _ _ _ c.all_true.ensures (all_four c.in_ok-in_sets.in_sets c.in_ok-equal.equal
-    c.eq-is_gap.result c.is_positive.result))
+    c.eq-is_gap.result c.is_positive-has_gap.result))
