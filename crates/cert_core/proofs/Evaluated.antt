@@ -1,0 +1,146 @@
+-- Functions read at a point and along a ray: of variables, and from another start.
+use Rattle.std.specs.Prelude.{◌≡◌, cond, List, [], ◌∷◌, ◌↔◌, map, All, Bool, IsTrue, Result, length, refl}
+use Rattle.std.specs.Ordering.{eq_by_cmp}
+use Rattle.std.proofs.Common.{sym, ◌∙◌, ap, ap₂, subst}
+use Rattle.ratio_core.specs.Rational.{Rational, one_ℚ, zero_ℚ, ◌*ℚ◌, ◌+ℚ◌}
+use Rattle.rational_laws.specs.Field.{*ℚ-zero, one-*ℚ, one_not_zero, zero-*ℚ}
+use Rattle.ratio_core.specs.Folds.{sum_from}
+use Rattle.rational_laws.specs.Sums.{fold_ℚ, sum_ℚ}
+use Rattle.aff_core.specs.Address.{Address, address_cmp}
+use Rattle.aff_core.specs.Function.{Function, coefficient, constant_function, evaluated, terms_of, variable}
+use Rattle.aff_core.specs.FunctionLaws.{constant-function_of, nonzero_test, terms-function_of}
+use Rattle.aff_core.specs.FunctionLists.{evaluations}
+use Rattle.aff_core.specs.Points.{unit}
+use Rattle.aff_core.specs.Terms.{linear}
+use Rattle.linear_laws.specs.ListLaws.{evaluated_constant_function, evaluations_variables, slope_constant_function, slope_variable}
+use Rattle.linear_laws.specs.SlopeLaws.{coefficient_by_unit}
+use Rattle.set_core.specs.declared.set.Set.{Set}
+use Rattle.set_core.specs.Membership.{In, MembershipFits, recession}
+use Rattle.set_core.specs.Mirrored.{multiplied}
+use Rattle.set_laws.specs.Multiples.{multiplied_one, multiplied_zero}
+use Rattle.certificates.specs.Points.{variables_at}
+use Rattle.cert_core.specs.declared.fault.CheckFault.{CheckFault}
+use Rattle.cert_core.specs.Answers.{ExactWhere, TellsWhere}
+use Rattle.cert_core.specs.Folds.{AddUp, EvaluationFits, FitIn, products_at}
+use Rattle.cert_core.specs.Holding.{FunctionsHold}
+use Rattle.cert_core.proofs.Answered.{answers_alike}
+
+-- ---- variables
+
+pub terms_of_variable : (v : Address) → terms_of (variable {R = address_cmp} v) ≡ (v, one_ℚ) ∷ []
+unfolding variable
+terms_of_variable v =
+    terms-function_of ((v, one_ℚ) ∷ []) zero_ℚ (record { rising = refl })
+    ∙ ap (λ b. cond b ((v, one_ℚ) ∷ []) []) (nonzero_test one_ℚ one_not_zero)
+
+pub constant_of_variable : (v : Address) → (variable {R = address_cmp} v).constant ≡ zero_ℚ
+unfolding variable
+constant_of_variable v = constant-function_of address_cmp ((v, one_ℚ) ∷ []) zero_ℚ
+
+pub coefficient_of_variable : (v u : Address)
+    → coefficient (variable {R = address_cmp} v) u
+    ≡ cond (eq_by_cmp address_cmp u v) one_ℚ zero_ℚ
+coefficient_of_variable v u = sym (coefficient_by_unit (variable v) u) ∙ slope_variable v (unit u)
+
+-- ---- constant functions
+
+pub coefficient_of_constant : (k : Rational) (u : Address)
+    → coefficient (constant_function {R = address_cmp} k) u ≡ zero_ℚ
+coefficient_of_constant k u =
+    sym (coefficient_by_unit (constant_function k) u) ∙ slope_constant_function k (unit u)
+
+pub constant_of_constant : (k : Rational)
+    → (constant_function {R = address_cmp} k).constant ≡ k
+unfolding constant_function
+constant_of_constant k = constant-function_of address_cmp [] k
+
+terms_of_constant : (k : Rational) → terms_of (constant_function {R = address_cmp} k) ≡ []
+unfolding constant_function
+terms_of_constant k = terms-function_of [] k (record { rising = refl })
+
+-- of an objective that isn't there nothing is read
+pub nothing_read : (one : Rational) (x : Address → Rational)
+    → EvaluationFits one (constant_function zero_ℚ) x
+    × (zero_ℚ ≡ evaluated {R = address_cmp} one (constant_function zero_ℚ) x)
+unfolding AddUp
+nothing_read one x = (
+  subst (λ ts. AddUp (one *ℚ (constant_function {R = address_cmp} zero_ℚ).constant)
+      (products_at ts x)) (sym (terms_of_constant zero_ℚ)) tt,
+  sym (evaluated_constant_function one zero_ℚ x ∙ *ℚ-zero one),
+)
+
+-- ---- from a start
+
+-- a number and products added to it
+pub with_products : (start : Rational) (ts : List (Address × Rational)) (x : Address → Rational)
+    → sum_from start (products_at ts x) ≡ start +ℚ linear ts x
+unfolding linear
+with_products start ts x = fold_ℚ start (products_at ts x) ∙ ap (λ s. start +ℚ s) (sums ts)
+  where
+    sums : (ts : List (Address × Rational)) → sum_ℚ (products_at ts x) ≡ linear ts x
+    sums [] = refl
+    sums (t ∷ ts) = ap (λ s. t.1 *ℚ x t.0 +ℚ s) (sums ts)
+
+abbrev Read : Result Rational CheckFault → Rational → List (Address × Rational)
+    → (Address → Rational) → Type 0
+Read r start ts x = ExactWhere r (AddUp start (products_at ts x)) (λ q. q ≡ start +ℚ linear ts x)
+
+-- a function's terms added to its constant, times `one`
+pub read_from : (r : Result Rational CheckFault) (one start : Rational) (f : Function)
+    (ts : List (Address × Rational)) (x : Address → Rational) → ts ≡ terms_of f
+    → start ≡ one *ℚ f.constant → Read r start ts x
+    → ExactWhere r (EvaluationFits one f x) (λ q. q ≡ evaluated one f x)
+read_from r one start f ts x same e h =
+    subst (λ s. Read r s (terms_of f) x) e (subst (λ l. Read r start l x) same h)
+
+pub read_variable : (r : Result Rational CheckFault) (one start k : Rational) (v : Address)
+    (x : Address → Rational) → start ≡ zero_ℚ → k ≡ one_ℚ → Read r start ((v, k) ∷ []) x
+    → ExactWhere r (EvaluationFits one (variable v) x)
+    (λ q. q ≡ evaluated {R = address_cmp} one (variable v) x)
+read_variable r one start k v x zero_is one_is h =
+    read_from r one start (variable v) ((v, k) ∷ []) x
+    (ap (λ q. (v, q) ∷ []) one_is ∙ sym (terms_of_variable v))
+    (zero_is ∙ sym (ap (λ q. one *ℚ q) (constant_of_variable v) ∙ *ℚ-zero one)) h
+
+-- ---- in a set
+
+pub holds_value : (r : Result Bool CheckFault) (set : Set) (v : List Rational)
+    → TellsWhere r (MembershipFits set v) (In set v)
+    → TellsWhere r (MembershipFits set v) (In (multiplied one_ℚ set) v)
+holds_value r set v h =
+    subst (λ s. TellsWhere r (MembershipFits set v) (In s v)) (sym (multiplied_one set)) h
+
+pub holds_slope : (r : Result Bool CheckFault) (set : Set) (v : List Rational)
+    → TellsWhere r (MembershipFits set v) (In (recession set) v)
+    → TellsWhere r (MembershipFits set v) (In (multiplied zero_ℚ set) v)
+holds_slope r set v h =
+    subst (λ s. TellsWhere r (MembershipFits set v) (In s v)) (sym (multiplied_zero set)) h
+
+-- functions that were read, in their set
+pub hold_in : (r : Result Bool CheckFault) (one : Rational) (set : Set) (fs : List Function)
+    (x : Address → Rational) (v : List Rational) → All (λ f. EvaluationFits one f x) fs
+    → v ≡ evaluations one fs x → TellsWhere r (MembershipFits set v) (In (multiplied one set) v)
+    → TellsWhere r (FitIn one set fs x) (FunctionsHold one set fs x)
+hold_in r one set fs x v fit is said =
+    answers_alike r (MembershipFits set (evaluations one fs x)) (FitIn one set fs x)
+    (λ holds. IsTrue holds ↔ FunctionsHold one set fs x)
+    (λ holds. IsTrue holds ↔ FunctionsHold one set fs x)
+    (subst (λ l. TellsWhere r (MembershipFits set l) (In (multiplied one set) l)) is said)
+    (λ m. record { functions = fit; membership = m })
+    (λ f. f.membership) (λ _ h. h)
+
+-- a group's variables, in its set
+pub variables_in_set : (r : Result Bool CheckFault) (one : Rational) (set : Set)
+    (us : List Address) (x : Address → Rational) (v : List Rational) → v ≡ map x us
+    → TellsWhere r (MembershipFits set v) (In (multiplied one set) v)
+    → TellsWhere r (MembershipFits set (evaluations one (variables_at us) x))
+    (FunctionsHold one set (variables_at us) x)
+variables_in_set r one set us x v is said =
+    subst (λ l. TellsWhere r (MembershipFits set l) (In (multiplied one set) l))
+    (is ∙ sym (evaluations_variables one us x)) said
+
+pub variables_membership : (one : Rational) (set : Set) (us : List Address)
+    (x : Address → Rational) (v : List Rational) → v ≡ map x us
+    → MembershipFits set (evaluations one (variables_at us) x) → MembershipFits set v
+variables_membership one set us x v is fits =
+    subst (MembershipFits set) (sym (is ∙ sym (evaluations_variables one us x))) fits

@@ -1,0 +1,15 @@
+pub mod Steps
+pub mod Answered
+pub mod ZeroSums
+pub mod Tested
+pub mod Summed
+pub mod Places
+pub mod Made
+pub mod Evaluated
+pub mod Rows
+pub mod Parts
+pub mod GroupSteps
+pub mod Adding
+pub mod Assembled
+pub mod Judged
+pub mod Groups

@@ -1,0 +1,125 @@
+use Rattle.std.specs.Prelude.{◌≡◌, length}
+use Rattle.std.proofs.Common.{◌∙◌, ap, subst, sym, true≢false}
+use Rattle.user_model.specs.declared.undo.NextNumbers.{NextNumbers}
+use Rattle.certificates.specs.declared.certificate.Certificate.TheVariants.{Optimal, Infeasible, Unbounded}
+use Rattle.cert_core.specs.Checked.{Checks, HasEntries, HasRowDuals, model_of}
+use Rattle.cert_core.proofs.Assembled.{ready, variable_count}
+use Rattle.cert_core.proofs.Judged.{checks_told, good_entries, infeasible_told, optimal_told, unbounded_told}
+use Rattle.cert_core.proofs.checking.check.Goals as goal
+
+-- whatever numbers are next
+none : NextNumbers
+none = record { group = 0; variable = 0; row = 0 }
+
+pub returns-then-not-has_entries : goal.returns-then-not-has_entries
+returns-then-not-has_entries c = λ next.
+    let model = model_of c.args.groups.now c.args.rows.now c.args.objective.now next in
+    let lacks = λ (h : HasEntries model c.args.certificate.now). true≢false
+    (sym ((c.has_entries.ensures next).1 h) ∙ c.if-not-has_entries.true) in (
+      (
+        λ t. absurd (true≢false (sym t)),
+        λ good. absurd (lacks (good_entries model c.args.certificate.now good)),
+      ),
+      λ h. absurd (lacks h),
+    )
+
+pub is_optimal-requires-clause-ready : goal.is_optimal-requires-clause-ready
+is_optimal-requires-clause-ready c =
+    ready c.args.groups.now c.args.rows.now c.args.objective.now c.in_ok-of.field-0 c.requires.valid
+    c.requires.numbers c.in_ok-of.ensures
+
+pub is_optimal-requires-clause-size : goal.is_optimal-requires-clause-size
+is_optimal-requires-clause-size c =
+    let entries = subst (HasEntries (model_of c.args.groups.now c.args.rows.now c.args.objective.now none))
+    c.in-Optimal.is ((c.has_entries.ensures none).0 c.if-not-has_entries.false) in
+    ap length c.as_slice-in-Optimal-2.ensures ∙ entries.0
+    ∙ sym (variable_count c.args.groups.now c.in_ok-of.field-0 c.in_ok-of.ensures)
+
+pub is_optimal-requires-clause-rows : goal.is_optimal-requires-clause-rows
+is_optimal-requires-clause-rows c =
+    let entries = subst (HasEntries (model_of c.args.groups.now c.args.rows.now c.args.objective.now none))
+    c.in-Optimal.is ((c.has_entries.ensures none).0 c.if-not-has_entries.false) in
+    subst (HasRowDuals c.args.rows.now) (sym c.as_slice.ensures) entries.1
+
+pub is_optimal-requires-clause-vars : goal.is_optimal-requires-clause-vars
+is_optimal-requires-clause-vars c =
+    let entries = subst (HasEntries (model_of c.args.groups.now c.args.rows.now c.args.objective.now none))
+    c.in-Optimal.is ((c.has_entries.ensures none).0 c.if-not-has_entries.false) in
+    ap length c.as_slice-in-Optimal.ensures ∙ entries.2
+    ∙ sym (variable_count c.args.groups.now c.in_ok-of.field-0 c.in_ok-of.ensures)
+
+pub returns-in-Optimal : goal.returns-in-Optimal
+returns-in-Optimal c = λ next.
+    let model = model_of c.args.groups.now c.args.rows.now c.args.objective.now next in
+    let r = c.is_optimal.result in
+    let entries = (c.has_entries.ensures next).0 c.if-not-has_entries.false in
+    subst (Checks model r) (sym c.in-Optimal.is)
+    (checks_told model r
+    (Optimal c.in-Optimal.value c.in-Optimal.x c.in-Optimal.rows c.in-Optimal.vars)
+    (subst (HasEntries model) c.in-Optimal.is entries)
+    (optimal_told model r c.in-Optimal.value c.in-Optimal.x c.as_slice-in-Optimal-2.result.now
+    c.in-Optimal.rows c.as_slice.result.now c.in-Optimal.vars c.as_slice-in-Optimal.result.now
+    c.as_slice-in-Optimal-2.ensures c.as_slice.ensures c.as_slice-in-Optimal.ensures
+    (c.is_optimal.ensures next)))
+
+pub is_infeasible-requires-clause-ready : goal.is_infeasible-requires-clause-ready
+is_infeasible-requires-clause-ready c =
+    ready c.args.groups.now c.args.rows.now c.args.objective.now c.in_ok-of.field-0 c.requires.valid
+    c.requires.numbers c.in_ok-of.ensures
+
+pub is_infeasible-requires-clause-rows : goal.is_infeasible-requires-clause-rows
+is_infeasible-requires-clause-rows c =
+    let entries = subst (HasEntries (model_of c.args.groups.now c.args.rows.now c.args.objective.now none))
+    c.in-Infeasible.is ((c.has_entries.ensures none).0 c.if-not-has_entries.false) in
+    subst (HasRowDuals c.args.rows.now) (sym c.as_slice-in-Infeasible.ensures) entries.0
+
+pub is_infeasible-requires-clause-vars : goal.is_infeasible-requires-clause-vars
+is_infeasible-requires-clause-vars c =
+    let entries = subst (HasEntries (model_of c.args.groups.now c.args.rows.now c.args.objective.now none))
+    c.in-Infeasible.is ((c.has_entries.ensures none).0 c.if-not-has_entries.false) in
+    ap length c.as_slice-in-Infeasible-2.ensures ∙ entries.1
+    ∙ sym (variable_count c.args.groups.now c.in_ok-of.field-0 c.in_ok-of.ensures)
+
+pub returns-in-Infeasible : goal.returns-in-Infeasible
+returns-in-Infeasible c = λ next.
+    let model = model_of c.args.groups.now c.args.rows.now c.args.objective.now next in
+    let r = c.is_infeasible.result in
+    let entries = (c.has_entries.ensures next).0 c.if-not-has_entries.false in
+    subst (Checks model r) (sym c.in-Infeasible.is)
+    (checks_told model r (Infeasible c.in-Infeasible.gap c.in-Infeasible.rows c.in-Infeasible.vars)
+    (subst (HasEntries model) c.in-Infeasible.is entries)
+    (infeasible_told model r c.in-Infeasible.gap c.in-Infeasible.rows
+    c.as_slice-in-Infeasible.result.now c.in-Infeasible.vars c.as_slice-in-Infeasible-2.result.now
+    c.as_slice-in-Infeasible.ensures c.as_slice-in-Infeasible-2.ensures
+    (c.is_infeasible.ensures next)))
+
+pub is_unbounded-requires-clause-ready : goal.is_unbounded-requires-clause-ready
+is_unbounded-requires-clause-ready c =
+    ready c.args.groups.now c.args.rows.now c.args.objective.now c.in_ok-of.field-0 c.requires.valid
+    c.requires.numbers c.in_ok-of.ensures
+
+pub is_unbounded-requires-clause-point : goal.is_unbounded-requires-clause-point
+is_unbounded-requires-clause-point c =
+    let entries = subst (HasEntries (model_of c.args.groups.now c.args.rows.now c.args.objective.now none))
+    c.in-Unbounded.is ((c.has_entries.ensures none).0 c.if-not-has_entries.false) in
+    ap length c.as_slice-in-Unbounded.ensures ∙ entries.0
+    ∙ sym (variable_count c.args.groups.now c.in_ok-of.field-0 c.in_ok-of.ensures)
+
+pub is_unbounded-requires-clause-ray : goal.is_unbounded-requires-clause-ray
+is_unbounded-requires-clause-ray c =
+    let entries = subst (HasEntries (model_of c.args.groups.now c.args.rows.now c.args.objective.now none))
+    c.in-Unbounded.is ((c.has_entries.ensures none).0 c.if-not-has_entries.false) in
+    ap length c.as_slice-in-Unbounded-2.ensures ∙ entries.1
+    ∙ sym (variable_count c.args.groups.now c.in_ok-of.field-0 c.in_ok-of.ensures)
+
+pub returns : goal.returns
+returns c = λ next.
+    let model = model_of c.args.groups.now c.args.rows.now c.args.objective.now next in
+    let r = c.is_unbounded.result in
+    let entries = (c.has_entries.ensures next).0 c.if-not-has_entries.false in
+    subst (Checks model r) (sym c.in-Unbounded.is)
+    (checks_told model r (Unbounded c.in-Unbounded.x c.in-Unbounded.d)
+    (subst (HasEntries model) c.in-Unbounded.is entries)
+    (unbounded_told model r c.in-Unbounded.x c.as_slice-in-Unbounded.result.now c.in-Unbounded.d
+    c.as_slice-in-Unbounded-2.result.now c.as_slice-in-Unbounded.ensures
+    c.as_slice-in-Unbounded-2.ensures (c.is_unbounded.ensures next)))

@@ -1,0 +1,82 @@
+use Rattle.std.specs.Prelude.{◌≡◌, ◌+◌, ◌↔◌, IsTrue, All, Err, Ok, length, map, take}
+use Rattle.std.proofs.Common.{◌∙◌, ap, drop, subst, sym}
+use Rattle.std.proofs.Math.ListN.{drop_of_length-le}
+use Rattle.ratio_core.specs.Rational.{Rational}
+use Rattle.aff_core.specs.Address.{Address}
+use Rattle.aff_core.specs.FunctionLists.{evaluations}
+use Rattle.set_core.specs.Membership.{Dual, DualFits, In, MembershipFits}
+use Rattle.set_core.specs.Mirrored.{multiplied}
+use Rattle.user_model.specs.declared.group.Group.{Group}
+use Rattle.certificates.specs.Duals.{group_with, groups_with}
+use Rattle.certificates.specs.Points.{addresses_of, functions_of_group}
+use Rattle.cert_core.specs.Answers.{ExactWhere}
+use Rattle.cert_core.specs.Holding.{FunctionsHold}
+use Rattle.cert_core.specs.Readings.{one_of}
+use Rattle.cert_core.specs.declared.readings.Reading.{Reading}
+use Rattle.cert_core.proofs.Answered.{overflowed, passed_on}
+use Rattle.cert_core.proofs.GroupSteps.{GroupsTested, groups_end, groups_fit, groups_step}
+use Rattle.cert_core.proofs.Made.{mapped_all}
+use Rattle.cert_core.proofs.Steps.{next_item}
+use Rattle.cert_core.proofs.Tested.{and_passed, and_taken}
+use Rattle.std.proofs.lemmas.List.Elements.{All-map}
+use Rattle.cert_core.proofs.duals.group_duals_hold.Goals as goal
+use Rattle.cert_core.proofs.duals.group_duals_hold.Goals.{else-all, then-all}
+
+abbrev F : (Address → Rational) → Group → Type 0
+F x g = DualFits g.set (map x (addresses_of g.vars))
+
+abbrev P : (Address → Rational) → Group → Type 0
+P x g = Dual g.set (map x (addresses_of g.vars))
+
+pub returns-in_err-holds : goal.returns-in_err-holds
+returns-in_err-holds c = λ x is.
+    let gs = c.args.groups.now in
+    let i = c.loop-group.group-index in
+    let g = c.group-item.result in
+    let next = next_item gs i g c.group-item.is c.loop-group-test.true in
+    let front = c.split_at.ensures.front ∙ ap (λ n. take n c.loop-group.left.now) c.len.ensures in
+    overflowed c.from_residual.result (All (λ h. DualFits h.set h.duals) (groups_with x gs))
+    (λ holds. IsTrue holds ↔ All (λ h. Dual h.set h.duals) (groups_with x gs))
+    c.from_residual.ensures.1
+    (λ all.
+    let owed = groups_fit F P c.loop-group.all gs (drop i gs) (drop (i + 1) gs) c.args.duals.now
+    c.loop-group.left.now g c.loop-group.invariant next x is
+    (mapped_all (λ h. DualFits h.set h.duals) (group_with x) gs all) in
+    c.in_err-holds.ensures (subst (DualFits g.set) (sym (front ∙ owed.0)) owed.1))
+
+pub loop-group-preserved : goal.loop-group-preserved
+loop-group-preserved c =
+    let gs = c.args.groups.now in
+    let i = c.loop-group.group-index in
+    let g = c.group-item.result in
+    let next = next_item gs i g c.group-item.is c.loop-group-test.true in
+    let front = c.split_at.ensures.front ∙ ap (λ n. take n c.loop-group.left.now) c.len.ensures in
+    let back = c.split_at.ensures.back ∙ ap (λ n. drop n c.loop-group.left.now) c.len.ensures in
+    let both : IsTrue c.if-all.all ↔ (IsTrue c.loop-group.all × IsTrue c.in_ok-holds.holds) =
+    elim c.if-all.branch [
+      | then-all w ↦ and_taken _ _ _ w.if-all.true w.all-is
+      | else-all w ↦ and_passed _ _ _ w.if-all.false w.all-is
+    ] in
+    let left_is : c.if-all.left.now ≡ drop (length g.vars) c.loop-group.left.now =
+    elim c.if-all.branch [
+      | then-all w ↦ ap (λ b. b.now) w.left-is ∙ back
+      | else-all w ↦ ap (λ b. b.now) w.left-is ∙ back
+    ] in
+    subst (GroupsTested F P c.if-all.all gs (drop (i + 1) gs) c.args.duals.now) (sym left_is)
+    (groups_step F P c.loop-group.all gs (drop i gs) (drop (i + 1) gs) c.args.duals.now
+    c.loop-group.left.now g c.loop-group.invariant next c.in_ok-holds.holds c.if-all.all
+    (λ x own. subst (λ v. DualFits g.set v × (IsTrue c.in_ok-holds.holds ↔ Dual g.set v))
+    (front ∙ own) c.in_ok-holds.ensures) both)
+
+pub returns : goal.returns
+returns c = λ x is.
+    let gs = c.args.groups.now in
+    let all = groups_end F P c.loop-group.all gs (drop c.loop-group.group-index gs)
+    c.args.duals.now c.loop-group.left.now c.loop-group.invariant
+    (drop_of_length-le gs c.loop-group-test.false) x is in (
+      All-map (λ h. DualFits h.set h.duals) (group_with x) gs all.0,
+      (
+        λ t. All-map (λ h. Dual h.set h.duals) (group_with x) gs (all.1.0 t),
+        λ k. all.1.1 (mapped_all (λ h. Dual h.set h.duals) (group_with x) gs k),
+      ),
+    )

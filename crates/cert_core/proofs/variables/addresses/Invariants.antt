@@ -1,0 +1,6 @@
+use Rattle.std.proofs.Common.{◌≡◌, take}
+use Rattle.cert_core.specs.Variables.{all_addresses}
+use Rattle.cert_core.proofs.variables.addresses.Given as goal
+
+abbrev pub invariant-loop-group : goal.invariant-loop-group
+invariant-loop-group l = l.addresses.items ≡ all_addresses (take l.group-index l.groups)

@@ -1,0 +1,51 @@
+//! Whether duals are in the dual sets.
+ghost use Rattle.std.specs.Prelude.{◌≡◌, All, length, map};
+ghost use Rattle.ratio_core.specs.Rational.{Rational};
+ghost use Rattle.aff_core.specs.Address.{Address};
+ghost use Rattle.set_core.specs.Membership.{Dual, DualFits};
+ghost use Rattle.certificates.specs.Duals.{groups_with, rows_with};
+ghost use Rattle.cert_core.specs.Answers.{TellsWhere};
+ghost use Rattle.cert_core.specs.Checked.{HasRowDuals};
+ghost use Rattle.cert_core.specs.Holding.{HasGroupSet, HasRowSet};
+ghost use Rattle.cert_core.specs.Variables.{all_addresses};
+
+use crate::CheckFault;
+use ratio_core::{Ratio, Ratios};
+use user_model::{Group, Row};
+
+/// Whether the duals of each row are in its set's dual.
+pub(crate) fn row_duals_hold(rows: &[Row], duals: &[Ratios]) -> Result<bool, CheckFault>
+    requires sets { All HasRowSet rows.now }
+    requires entries { HasRowDuals rows.now duals.now }
+    ensures { TellsWhere result
+        (All (λ h. DualFits h.set h.duals) (rows_with duals.now rows.now))
+        (All (λ h. Dual h.set h.duals) (rows_with duals.now rows.now)) }
+{
+    let mut all = true;
+    for (i, row) in rows.iter().enumerate() {
+        let holds = row.set.dual_holds(duals[i].as_slice())?;
+        all = all && holds;
+    }
+    Ok(all)
+}
+
+/// Whether the duals of each group's variables are in its set's dual, wherever these are the
+/// variables' duals.
+pub(crate) fn group_duals_hold(groups: &[Group], duals: &[Ratio]) -> Result<bool, CheckFault>
+    requires sets { All HasGroupSet groups.now }
+    requires size { length duals.now ≡ length (all_addresses groups.now) }
+    ensures { (w : Address → Rational) → map w (all_addresses groups.now) ≡ duals.now
+        → TellsWhere result
+        (All (λ h. DualFits h.set h.duals) (groups_with w groups.now))
+        (All (λ h. Dual h.set h.duals) (groups_with w groups.now)) }
+{
+    let mut all = true;
+    let mut left = duals;
+    for group in groups {
+        let (own, others) = left.split_at(group.vars.len());
+        let holds = group.set.dual_holds(own)?;
+        all = all && holds;
+        left = others;
+    }
+    Ok(all)
+}

@@ -1,0 +1,96 @@
+//! The gap of duals: over rows and then groups the least product with the set, and then less each
+//! dual times its constant.
+ghost use Rattle.std.specs.Prelude.{◌≡◌, ◌++◌, All, length, map};
+ghost use Rattle.ratio_core.specs.Folds.{sum_from};
+ghost use Rattle.ratio_core.specs.Rational.{Fits, Rational, zero_ℚ};
+ghost use Rattle.rational_laws.specs.Dot.{negated};
+ghost use Rattle.aff_core.specs.Address.{Address};
+ghost use Rattle.aff_core.specs.FunctionLists.{constants};
+ghost use Rattle.certificates.specs.Duals.{groups_with, row_with, rows_with};
+ghost use Rattle.certificates.specs.Points.{functions_of};
+ghost use Rattle.cert_core.specs.Answers.{ExactWhere};
+ghost use Rattle.cert_core.specs.Checked.{HasRowDuals};
+ghost use Rattle.cert_core.specs.Components.{functions_in};
+ghost use Rattle.cert_core.specs.Folds.{AddUp, gap_parts, gap_parts_of, products};
+ghost use Rattle.cert_core.specs.Holding.{HasGroupSet, HasRowSet};
+ghost use Rattle.cert_core.specs.Variables.{all_addresses};
+
+use crate::CheckFault;
+use crate::components::{Components, components_of};
+use aff_core::Aff;
+use ratio_core::{Ratio, Ratios};
+use user_model::{Group, Row};
+
+/// What the rows add to the gap.
+pub(crate) fn gap_of_rows(rows: &[Row], duals: &[Ratios]) -> Result<Ratio, CheckFault>
+    requires sets { All HasRowSet rows.now }
+    requires entries { HasRowDuals rows.now duals.now }
+    ensures { let parts = gap_parts (rows_with duals.now rows.now) in
+        ExactWhere result (AddUp zero_ℚ parts) (λ q. q ≡ sum_from zero_ℚ parts) }
+{
+    let mut sum = Ratio::zero();
+    for (i, row) in rows.iter().enumerate() {
+        sum = plus_row(&sum, row, duals[i].as_slice())?;
+    }
+    Ok(sum)
+}
+
+fn plus_row(sum: &Ratio, row: &Row, duals: &[Ratio]) -> Result<Ratio, CheckFault>
+    requires set { HasRowSet row.now }
+    requires size { length duals.now ≡ length (functions_of row.now.func) }
+    ensures { let parts = gap_parts_of (row_with duals.now row.now) in
+        ExactWhere result (AddUp sum.now parts) (λ q. q ≡ sum_from sum.now parts) }
+{
+    let low = row.set.low(duals)?;
+    let with_low = sum.add(&low)?;
+    less_constants(&with_low, components_of(&row.func), duals)
+}
+
+fn less_constants(sum: &Ratio, components: Components, duals: &[Ratio]) -> Result<Ratio, CheckFault>
+    requires fits { Fits sum.now }
+    requires size { length duals.now ≡ length (functions_in components) }
+    ensures { let parts = negated (products duals.now
+        (constants (functions_in components.entry))) in
+        ExactWhere result (AddUp sum.now parts) (λ q. q ≡ sum_from sum.now parts) }
+{
+    match components {
+        Components::Variables(_) => Ok(*sum),
+        Components::Functions(fs) => less_products(sum, fs, duals),
+    }
+}
+
+fn less_products(sum: &Ratio, fs: &[Aff], duals: &[Ratio]) -> Result<Ratio, CheckFault>
+    requires { length duals.now ≡ length fs.now }
+    ensures { let parts = negated (products duals.now (constants fs.now)) in
+        ExactWhere result (AddUp sum.now parts) (λ q. q ≡ sum_from sum.now parts) }
+{
+    let mut left = *sum;
+    for (i, f) in fs.iter().enumerate() {
+        let product = duals[i].mul(&f.constant())?;
+        left = left.sub(&product)?;
+    }
+    Ok(left)
+}
+
+/// The gap of the rows, with what the groups add to it wherever these are the variables' duals.
+pub(crate) fn plus_groups(
+    of_rows: &Ratio,
+    groups: &[Group],
+    duals: &[Ratio],
+) -> Result<Ratio, CheckFault>
+    requires sets { All HasGroupSet groups.now }
+    requires size { length duals.now ≡ length (all_addresses groups.now) }
+    ensures { (w : Address → Rational) → map w (all_addresses groups.now) ≡ duals.now
+        → ExactWhere result (AddUp of_rows.now (gap_parts (groups_with w groups.now)))
+        (λ q. q ≡ sum_from of_rows.now (gap_parts (groups_with w groups.now))) }
+{
+    let mut sum = *of_rows;
+    let mut left = duals;
+    for group in groups {
+        let (own, others) = left.split_at(group.vars.len());
+        let low = group.set.low(own)?;
+        sum = sum.add(&low)?;
+        left = others;
+    }
+    Ok(sum)
+}

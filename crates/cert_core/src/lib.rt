@@ -1,0 +1,22 @@
+//! The check of certificates against a model: whether one is good, exactly where every product and
+//! every sum of its kind fits.
+#![tactic(auto)]
+
+mod adjoint;
+mod checking;
+mod components;
+mod duals;
+mod entries;
+mod equations;
+mod fault;
+mod gap;
+mod objective;
+mod point;
+mod points;
+mod readings;
+mod sums;
+mod variables;
+
+pub use certificates::{Certificate, DualRows};
+pub use checking::check;
+pub use fault::CheckFault;

@@ -1,0 +1,78 @@
+//! What is read of an objective. A model without one seeks the least value of 0.
+ghost use Rattle.std.specs.Prelude.{◌≡◌};
+ghost use Rattle.aff_core.specs.Address.{address_cmp};
+ghost use Rattle.aff_core.specs.Function.{coefficient, evaluated, variable};
+ghost use Rattle.certificates.specs.Points.{objective_function, sense_of};
+ghost use Rattle.cert_core.specs.Answers.{ExactWhere};
+ghost use Rattle.cert_core.specs.Folds.{EvaluationFits};
+ghost use Rattle.cert_core.specs.Readings.{one_of};
+ghost use Rattle.cert_core.specs.Points.{numbers_in};
+
+use crate::CheckFault;
+use crate::point::Point;
+use crate::readings::Reading;
+use aff_core::Address;
+use ratio_core::Ratio;
+use user_model::{Objective, Sense};
+
+pub(crate) fn sense(objective: &Objective) -> Sense
+    ensures { result ≡ sense_of objective.now }
+{
+    match objective {
+        Objective::Feasibility => Sense::Min,
+        Objective::Plain { sense, .. } | Objective::Affine { sense, .. } => *sense,
+    }
+}
+
+#[tactic(auto, using(crate::proofs::Evaluated::constant_of_constant, crate::proofs::Evaluated::constant_of_variable))]
+pub(crate) fn constant(objective: &Objective) -> Ratio
+    ensures { result ≡ (objective_function objective.now).constant }
+{
+    match objective {
+        Objective::Feasibility => Ratio::zero(),
+        Objective::Plain { .. } => Ratio::zero(),
+        Objective::Affine { func, .. } => func.constant(),
+    }
+}
+
+/// The coefficient of a variable.
+#[tactic(auto, using(crate::proofs::Evaluated::coefficient_of_constant))]
+pub(crate) fn cost(objective: &Objective, at: &Address) -> Ratio
+    ensures { result ≡ coefficient (objective_function objective.now) at.now }
+{
+    match objective {
+        Objective::Feasibility => Ratio::zero(),
+        Objective::Plain { var, .. } => unit(var, at),
+        Objective::Affine { func, .. } => func.coef(at),
+    }
+}
+
+// 1 at a variable, and 0 elsewhere.
+#[tactic(auto, using(crate::proofs::Evaluated::coefficient_of_variable))]
+fn unit(var: &Address, at: &Address) -> Ratio
+    ensures { result ≡ coefficient {R = address_cmp} (variable var.now) at.now }
+{
+    if at == var {
+        Ratio::one()
+    } else {
+        Ratio::zero()
+    }
+}
+
+/// The objective's value at a point, or its slope along a ray.
+pub(crate) fn reading_of(
+    objective: &Objective,
+    reading: Reading,
+    at: &Point,
+) -> Result<Ratio, CheckFault>
+    ensures { let x = numbers_in at.now in
+        ExactWhere result
+        (EvaluationFits (one_of reading) (objective_function objective.now) x)
+        (λ q. q ≡ evaluated (one_of reading) (objective_function objective.now) x) }
+{
+    match objective {
+        Objective::Feasibility => Ok(Ratio::zero()),
+        Objective::Plain { var, .. } => reading.of_variable(var, at),
+        Objective::Affine { func, .. } => reading.of_function(func, at),
+    }
+}

@@ -1,0 +1,134 @@
+//! Whether a point is feasible, or a ray leads nowhere out of the model.
+ghost use Rattle.std.specs.Prelude.{◌≡◌, length, All, map};
+ghost use Rattle.aff_core.specs.Address.{Address};
+ghost use Rattle.aff_core.specs.FunctionLists.{evaluations};
+ghost use Rattle.ratio_core.specs.Rational.{Rational};
+ghost use Rattle.set_core.specs.Membership.{MembershipFits};
+ghost use Rattle.set_core.specs.Shapes.{dimension_of};
+ghost use Rattle.certificates.specs.Points.{functions_of, functions_of_group, variables_at};
+ghost use Rattle.cert_core.specs.Answers.{ExactWhere, TellsWhere};
+ghost use Rattle.cert_core.specs.Folds.{EvaluationFits, FitIn};
+ghost use Rattle.cert_core.specs.Components.{functions_in};
+ghost use Rattle.cert_core.specs.Readings.{one_of};
+ghost use Rattle.cert_core.specs.Holding.{FunctionsHold, HasRowSet, HasGroupSet};
+ghost use Rattle.cert_core.specs.Points.{numbers_in};
+ghost use Rattle.cert_core.specs.Variables.{all_addresses};
+
+use crate::CheckFault;
+use crate::components::{Components, components_of};
+use crate::point::Point;
+use crate::readings::Reading;
+use aff_core::{Address, Aff};
+use ratio_core::Ratio;
+use std::alloc::Global;
+use user_model::{Group, Row};
+
+/// Whether each row's functions hold.
+pub(crate) fn rows_hold(
+    alloc: Global,
+    reading: Reading,
+    rows: &[Row],
+    at: &Point,
+) -> Result<bool, CheckFault>
+    requires { All HasRowSet rows.now }
+    ensures { let x = numbers_in at.now in
+        TellsWhere result
+        (All (λ r. FitIn (one_of reading) r.set (functions_of r.func) x) rows.now)
+        (All (λ r. FunctionsHold (one_of reading) r.set (functions_of r.func) x) rows.now) }
+{
+    let mut all = true;
+    for row in rows {
+        let holds = row_holds(alloc, reading, row, at)?;
+        all = all && holds;
+    }
+    Ok(all)
+}
+
+fn row_holds(alloc: Global, reading: Reading, row: &Row, at: &Point) -> Result<bool, CheckFault>
+    requires { HasRowSet row.now }
+    ensures { let x = numbers_in at.now in
+        TellsWhere result
+        (FitIn (one_of reading) row.now.set (functions_of row.now.func) x)
+        (FunctionsHold (one_of reading) row.now.set (functions_of row.now.func) x) }
+{
+    let read = read_components(alloc, reading, components_of(&row.func), at)?;
+    reading.holds(&row.set, &read)
+}
+
+fn read_components(
+    alloc: Global,
+    reading: Reading,
+    components: Components,
+    at: &Point,
+) -> Result<Vec<Ratio>, CheckFault>
+    ensures { let x = numbers_in at.now in
+        ExactWhere result
+        (All (λ f. EvaluationFits (one_of reading) f x) (functions_in components.entry))
+        (λ v. v.items ≡ evaluations (one_of reading) (functions_in components.entry) x) }
+{
+    match components {
+        Components::Variables(vars) => read_variables(alloc, reading, vars, at),
+        Components::Functions(fs) => read_functions(alloc, reading, fs, at),
+    }
+}
+
+fn read_variables(
+    alloc: Global,
+    reading: Reading,
+    vars: &[Address],
+    at: &Point,
+) -> Result<Vec<Ratio>, CheckFault>
+    ensures { let x = numbers_in at.now in
+        ExactWhere result
+        (All (λ f. EvaluationFits (one_of reading) f x) (variables_at vars.now))
+        (λ v. v.items ≡ evaluations (one_of reading) (variables_at vars.now) x) }
+{
+    let mut read = Vec::with_capacity(alloc, vars.len())?;
+    for var in vars {
+        read.push(reading.of_variable(var, at)?)?;
+    }
+    Ok(read)
+}
+
+fn read_functions(
+    alloc: Global,
+    reading: Reading,
+    fs: &[Aff],
+    at: &Point,
+) -> Result<Vec<Ratio>, CheckFault>
+    ensures { let x = numbers_in at.now in
+        ExactWhere result
+        (All (λ f. EvaluationFits (one_of reading) f x) fs.now)
+        (λ v. v.items ≡ evaluations (one_of reading) fs.now x) }
+{
+    let mut read = Vec::with_capacity(alloc, fs.len())?;
+    for f in fs {
+        read.push(reading.of_function(f, at)?)?;
+    }
+    Ok(read)
+}
+
+/// Whether each group's variables hold, at any point that has these numbers of them.
+pub(crate) fn groups_hold(
+    reading: Reading,
+    groups: &[Group],
+    numbers: &[Ratio],
+) -> Result<bool, CheckFault>
+    requires sets { All HasGroupSet groups.now }
+    requires size { length numbers.now ≡ length (all_addresses groups.now) }
+    ensures { (x : Address → Rational) → map x (all_addresses groups.now) ≡ numbers.now
+        → TellsWhere result
+        (All (λ g. MembershipFits g.set (evaluations (one_of reading) (functions_of_group g) x))
+        groups.now)
+        (All (λ g. FunctionsHold (one_of reading) g.set (functions_of_group g) x) groups.now) }
+{
+    let mut all = true;
+    let mut left = numbers;
+    for group in groups {
+        let (own, others) = left.split_at(group.vars.len());
+        let holds = reading.holds(&group.set, own)?;
+        all = all && holds;
+        left = others;
+    }
+    Ok(all)
+}

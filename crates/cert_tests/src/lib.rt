@@ -1,0 +1,5 @@
+//! Tests of `cert_core`.
+#![tactic(auto)]
+
+#[cfg(test)]
+mod answers;
