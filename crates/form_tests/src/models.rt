@@ -31,7 +31,7 @@ pub(crate) struct Model {
 }
 
 /// The model with the rows, each at the address of its number, and the objective.
-pub(crate) fn model(
+pub(crate) fn model_of(
     alloc: Global,
     rows: &[(u32, Row)],
     objective: Option<(Sense, Terms)>,

@@ -1,8 +1,8 @@
 //! Small models, each with its form as a table worked by hand, and with its answer read back.
-use crate::models::{Model, Row, Terms, model};
+use crate::models::{Model, Row, model_of};
 use crate::texts::{answer_text, form_text};
-use simplex_core::{SolverAnswer, StdForm, solve};
-use solver_store::{LeafAnswer, Sense};
+use simplex_core::solve;
+use solver_store::Sense;
 use std::alloc::Global;
 use std::test::Fail;
 use std_form::{FormFault, build, read_back};
@@ -50,7 +50,7 @@ const ITS_FORM: &str = "\
 #[test]
 fn each_kind_of_row_has_its_equations(rt: HostRuntime) -> Result<(), Fail> {
     let alloc = rt.alloc();
-    let model = model(alloc, &EACH_KIND, Some((Sense::Max, ("2", "5", "7"))))?;
+    let model = model_of(alloc, &EACH_KIND, Some((Sense::Max, ("2", "5", "7"))))?;
     assert_eq!(rt; form(alloc, &model)?.as_str(), ITS_FORM);
     Ok(())
 }
@@ -65,7 +65,7 @@ const OPTIMAL: [(u32, Row); 3] = [
 #[test]
 fn an_optimal_answer_is_read_back(rt: HostRuntime) -> Result<(), Fail> {
     let alloc = rt.alloc();
-    let model = model(alloc, &OPTIMAL, Some((Sense::Min, ("1", "2", "5"))))?;
+    let model = model_of(alloc, &OPTIMAL, Some((Sense::Min, ("1", "2", "5"))))?;
     assert_eq!(rt; answer(alloc, &model)?.as_str(), "optimal 2 1 | 0 | 2 | -1");
     Ok(())
 }
@@ -76,7 +76,7 @@ const INFEASIBLE: [(u32, Row); 1] = [(0, Row::AtMost(("0", "1", "0"), "-1"))];
 #[test]
 fn a_certificate_of_infeasibility_is_read_back(rt: HostRuntime) -> Result<(), Fail> {
     let alloc = rt.alloc();
-    let model = model(alloc, &INFEASIBLE, None)?;
+    let model = model_of(alloc, &INFEASIBLE, None)?;
     assert_eq!(rt; answer(alloc, &model)?.as_str(), "infeasible | -1");
     Ok(())
 }
@@ -87,7 +87,7 @@ const UNBOUNDED: [(u32, Row); 1] = [(0, Row::AtMost(("1", "0", "0"), "-2"))];
 #[test]
 fn a_ray_is_read_back(rt: HostRuntime) -> Result<(), Fail> {
     let alloc = rt.alloc();
-    let model = model(alloc, &UNBOUNDED, Some((Sense::Max, ("-3", "0", "0"))))?;
+    let model = model_of(alloc, &UNBOUNDED, Some((Sense::Max, ("-3", "0", "0"))))?;
     assert_eq!(rt;
         answer(alloc, &model)?.as_str(),
         "unbounded 0 -2 along 0 -1"
@@ -101,7 +101,7 @@ const TOO_LARGE: [(u32, Row); 1] = [(0, Row::Zeros(4095))];
 #[test]
 fn too_many_cells_are_refused(rt: HostRuntime) -> Result<(), Fail> {
     let alloc = rt.alloc();
-    let model = model(alloc, &TOO_LARGE, None)?;
+    let model = model_of(alloc, &TOO_LARGE, None)?;
     let cells = 16_785_405;
     assert_eq!(rt; fault(alloc, &model), Some(FormFault::TooLarge { cells }));
     Ok(())
@@ -115,7 +115,7 @@ const TOO_GREAT: [(u32, Row); 1] = [(0, Row::AtMost(("1", "0", "-1"), GREATEST))
 #[test]
 fn a_right_side_that_does_not_fit_is_refused(rt: HostRuntime) -> Result<(), Fail> {
     let alloc = rt.alloc();
-    let model = model(alloc, &TOO_GREAT, None)?;
+    let model = model_of(alloc, &TOO_GREAT, None)?;
     assert_eq!(rt; fault(alloc, &model), Some(FormFault::Overflow));
     Ok(())
 }
