@@ -1,8 +1,7 @@
 -- Expressions that agree on the variables that a function mentions compose alike.
-use Rattle.std.specs.Prelude.{◌≡◌, Bool, true, ◌&&◌, IsTrue, List, [], ◌∷◌, ◌++◌, All, Ok, Err, Result, refl}
+use Rattle.std.specs.Prelude.{◌≡◌, true, ◌&&◌, IsTrue, List, [], ◌∷◌, ◌++◌, All, Ok, Err, Result, refl}
 use Rattle.std.proofs.Common.{ap, ap₂, sym, subst, ◌∙◌}
 use Rattle.std.specs.FinMap as finite
-use Rattle.std.specs.FinMap.{FinMap}
 use Rattle.std.specs.List.{list_all}
 use Rattle.std.proofs.lemmas.List.Elements.{All-head, All-tail}
 use Rattle.ratio_core.specs.Rational.{Rational, ◌+ℚ◌, ◌*ℚ◌}

@@ -1,9 +1,8 @@
 -- Entries that stand for variables alike are put in alike.
 use Rattle.std.specs.Prelude.{◌≡◌, Bool, ◌&&◌, List, [], ◌∷◌, map, refl}
 use Rattle.std.proofs.Common.{ap, ap₂}
-use Rattle.std.specs.List.{list_all, zip}
-use Rattle.bridge_graph.specs.declared.Choice.{Choice}
-use Rattle.expansion.specs.Grown.{Held, joined, put_held}
+use Rattle.std.specs.List.{list_all}
+use Rattle.expansion.specs.Grown.{Held, joined}
 use Rattle.aff_core.specs.Arithmetic.{composed}
 use Rattle.bridge_face.specs.Law.{expressed}
 use Rattle.item_core.specs.declared.image.Expression.{Expression}
@@ -13,7 +12,6 @@ use Rattle.item_core.specs.declared.item.Body.TheVariants.{Group, Free, Plain, A
 use Rattle.item_core.specs.declared.item.Item.{Item}
 use Rattle.fresh_bridging.specs.Entries.{Entry, expression_in, is_kept, objective_by, plain_or_affine, put_in, put_in_body, put_in_body_fits, put_in_fits, put_into, put_into_fits, vector_by}
 use Rattle.fresh_bridging.specs.FitTests.{substitution_fits}
-use Rattle.fresh_bridging.specs.TheRules.{rules_by}
 use Rattle.bridge_plan.specs.Worked.{worked_in}
 
 module _ (es fs : List Entry) (same : expression_in es ≡ expression_in fs) where

@@ -1,5 +1,5 @@
 -- Functions made for the variables of some terms.
-use Rattle.std.specs.Prelude.{◌≡◌, ℕ, ◌+◌, ◌<◌, Bool, true, false, not, cond, IsTrue, is_some, List, [], ◌∷◌, ◌++◌, All, length, take, Option, Some, None, refl}
+use Rattle.std.specs.Prelude.{◌≡◌, ℕ, ◌+◌, ◌<◌, Bool, true, false, not, cond, IsTrue, is_some, List, All, length, take, Option, Some, None, refl}
 use Rattle.std.proofs.Common.{ap, sym, subst, ◌∙◌, get_or, Bor}
 use Rattle.std.specs.FinMap as finite
 use Rattle.std.specs.FinMap.{FinMap, get-insert}

@@ -6,12 +6,12 @@ use Rattle.aff_core.specs.Arithmetic.{ExactWhere}
 use Rattle.aff_core.specs.declared.fault.AffFault.{AffFault}
 use Rattle.bridge_graph.specs.declared.Choice.{Choice}
 use Rattle.bridge_graph.specs.declared.Choice.TheVariants.{By, Native}
-use Rattle.expansion.specs.Grown.{Held, native_held}
+use Rattle.expansion.specs.Grown.{Held}
 use Rattle.item_core.specs.declared.item.Item.{Item}
 use Rattle.item_core.specs.Kind.{kind_number}
 use Rattle.item_core.specs.KindOf.{kind_of_body}
 use Rattle.fresh_bridging.specs.Entries.{Entry}
-use Rattle.fresh_bridging.specs.TheRules.{own_entries, rules_by}
+use Rattle.fresh_bridging.specs.TheRules.{own_entries}
 use Rattle.bridge_plan.specs.Adds.{Adds}
 use Rattle.bridge_plan.specs.Worked.{IsWithin, worked, worked_node}
 use Rattle.bridge_plan.specs.declared.plan.Plan.{Plan}

@@ -5,8 +5,6 @@ mod KeptLists
 mod Agreeing
 mod Alike
 mod Opened
-mod SoFar
-mod InTurn
 mod ItemCases
 mod Nodes
 mod Outer

@@ -1,6 +1,6 @@
 -- What stands within some levels, opened at its choice.
-use Rattle.std.specs.Prelude.{◌≡◌, ℕ, zero, suc, ◌-◌, ◌≤◌, refl}
-use Rattle.std.proofs.Common.{arith, ap, sym, subst, ◌∙◌}
+use Rattle.std.specs.Prelude.{◌≡◌, ℕ, zero, suc, ◌-◌, ◌≤◌}
+use Rattle.std.proofs.Common.{arith, ap, subst, ◌∙◌}
 use Rattle.bridge_graph.specs.declared.Choice.{Choice}
 use Rattle.bridge_graph.specs.declared.Choice.TheVariants.{By, Missing, Native}
 use Rattle.expansion.specs.Grown.{native_held}

@@ -1,12 +1,12 @@
 -- Whether a bridged group's variables are kept: where its kind is native, or is bridged later from
 -- a native group. So it is by the choices alone, before any number is worked out.
-use Rattle.std.specs.Prelude.{◌≡◌, ℕ, zero, suc, ◌+◌, drop, take, Bool, true, false, ◌&&◌, ◌||◌, not, cond, Contains, find, List, [], ◌∷◌, ◌++◌, ◌<◌, All, length, map, Some, slice_get, slice_index_or, refl}
-use Rattle.std.proofs.Common.{arith, ap, ap₂, sym, subst, ◌∙◌, true≢false}
+use Rattle.std.specs.Prelude.{◌≡◌, ℕ, zero, suc, ◌+◌, drop, take, Bool, true, false, ◌&&◌, ◌||◌, not, cond, Contains, find, List, [], ◌∷◌, ◌<◌, All, length, map, Some, slice_get, slice_index_or, refl}
+use Rattle.std.proofs.Common.{arith, ap, sym, subst, ◌∙◌, true≢false}
 use Rattle.std.specs.List.{list_all, zip}
 use Rattle.std.specs.Option.{option_map_or}
 use Rattle.std.proofs.lemmas.List.{append-nil, length-map}
 use Rattle.std.proofs.lemmas.Option.{none-some, same_Some}
-use Rattle.std.proofs.lemmas.List.Elements.{All-append, All-cons, All-contains_itself, All-head, All-map, All-nil, All-tail, All-weaker}
+use Rattle.std.proofs.lemmas.List.Elements.{All-cons, All-contains_itself, All-head, All-map, All-nil, All-tail, All-weaker}
 use Rattle.std.proofs.lemmas.List.Sums.{AllPass-from_list_all}
 use Rattle.bridge_graph.specs.Hypergraph.{IsCostly}
 use Rattle.bridge_graph.specs.declared.Choice.{Choice}
@@ -30,7 +30,7 @@ use Rattle.item_core.specs.declared.kind.Kind.TheVariants as kind
 use Rattle.item_core.specs.Edge.{children_of, edge_entry, family_eq, family_of}
 use Rattle.item_core.specs.Item.{functions_of, is_group, set_of, variables_of}
 use Rattle.item_core.specs.Kind.{kind_eq, kind_number}
-use Rattle.item_core.specs.KindOf.{group_kind_of, kind_of_body}
+use Rattle.item_core.specs.KindOf.{kind_of_body}
 use Rattle.bridge_face.specs.BackOf.{size}
 use Rattle.bridge_face.specs.ImageOf.{begins_free, bridged, differences, free_at, group_at, image_by, image_of, inner, inner_functions}
 use Rattle.bridge_face.specs.Images.{number_in, raised}
@@ -41,7 +41,6 @@ use Rattle.fresh_bridging.specs.TableLaws.{and_first, and_second}
 use Rattle.fresh_bridging.specs.MentionLaws.{by_lookup}
 use Rattle.fresh_bridging.specs.OmitLaws.{IsGroup, child_groups, edge_law}
 use Rattle.fresh_bridging.specs.CanLaws.{AreLawful, down}
-use Rattle.fresh_bridging.specs.RankingLaws.{LeadsDown}
 use Rattle.fresh_bridging.specs.TheRules.{AreChoices, Setting, edge_at, graph_of, own_entries, outer_entries, rules_by}
 
 -- ---- by the choices

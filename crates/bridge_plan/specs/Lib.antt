@@ -1,7 +1,9 @@
 pub mod Adds
 pub mod EntryCode
+pub mod InTurn
 pub mod KeptGroups
 pub mod Means
+pub mod SoFar
 pub mod Stands
 pub mod Trees
 pub mod Worked

@@ -1,15 +1,15 @@
 -- What is worked out within some levels is what a bridging holds; and items that are ranked stand
 -- within as many levels as there are ranks below.
 use Rattle.std.specs.Prelude.{◌≡◌, ℕ, zero, suc, ◌<◌, List, [], ◌∷◌, All, refl}
-use Rattle.std.proofs.Common.{arith, ap, ap₂, sym, subst}
+use Rattle.std.proofs.Common.{arith, ap, ap₂, subst}
 use Rattle.std.proofs.lemmas.List.Elements.{All-head, All-tail, All-weaker}
 use Rattle.bridge_graph.specs.declared.Choice.{Choice}
 use Rattle.bridge_graph.specs.declared.Choice.TheVariants.{By, Missing, Native}
 use Rattle.expansion.specs.Bridged.{Bridged, EachBridged, EachBridgedIn, by, each, each_in, natively, none, none_in}
-use Rattle.expansion.specs.Grown.{Held, joined, native_held, node_held, put_held}
+use Rattle.expansion.specs.Grown.{Held, joined, node_held, put_held}
 use Rattle.expansion.specs.GrownLaws.{held, held_each, held_in}
 use Rattle.expansion.specs.Ranks.{IsRanked, RanksBelow}
-use Rattle.expansion.specs.Read.{fits, fits_each, fits_in, leaves, leaves_in, leaves_of_each, nodes, nodes_in, nodes_of_each}
+use Rattle.expansion.specs.Read.{fits, leaves, nodes}
 use Rattle.item_core.specs.declared.item.Item.{Item}
 use Rattle.item_core.specs.Kind.{kind_number}
 use Rattle.item_core.specs.KindOf.{kind_of_body}

@@ -1,13 +1,11 @@
 -- What stands at and below an item, worked out by its choices down to a depth.
-use Rattle.std.specs.Prelude.{◌≡◌, ℕ, zero, suc, List, [], ◌∷◌, All}
+use Rattle.std.specs.Prelude.{ℕ, zero, suc, List, [], ◌∷◌, All}
 use Rattle.bridge_graph.specs.declared.Choice.{Choice}
 use Rattle.bridge_graph.specs.declared.Choice.TheVariants.{By, Missing, Native}
 use Rattle.expansion.specs.Grown.{Held, joined, native_held, node_held, nothing_held, put_held}
-use Rattle.expansion.specs.Rules.{Rules}
 use Rattle.item_core.specs.declared.item.Item.{Item}
 use Rattle.item_core.specs.Kind.{kind_number}
 use Rattle.item_core.specs.KindOf.{kind_of_body}
-use Rattle.item_core.specs.Valid.{IsValidItem}
 use Rattle.bridge_face.specs.Law.{IsItemFor}
 use Rattle.fresh_bridging.specs.Entries.{Entry, put_in}
 use Rattle.fresh_bridging.specs.TheRules.{children_by, edge_at, rules_by}

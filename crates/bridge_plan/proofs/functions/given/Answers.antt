@@ -1,4 +1,4 @@
-use Rattle.std.proofs.Common.{◌≡◌, ap, sym, ◌∙◌}
+use Rattle.std.proofs.Common.{ap, sym, ◌∙◌}
 use Rattle.std.specs.Prelude.{unwrap_or}
 use Rattle.item_core.specs.declared.image.Expression.TheVariants.{Kept}
 use Rattle.bridge_plan.proofs.Found.{found_in}

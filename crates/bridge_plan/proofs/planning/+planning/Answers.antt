@@ -1,15 +1,15 @@
-use Rattle.std.proofs.Common.{◌≡◌, ℕ, ◌-◌, ◌≤◌, List, [], ◌∷◌, ◌++◌, length, ap, sym, subst, ◌∙◌, arith, rules}
-use Rattle.std.specs.Prelude.{All, IsTrue}
+use Rattle.std.proofs.Common.{◌≡◌, ◌-◌, length, ap, sym, subst, ◌∙◌, arith, rules}
+use Rattle.std.specs.Prelude.{IsTrue}
 use Rattle.std.specs.Vec.Iter.{into_iter_items}
-use Rattle.bridge_graph.specs.declared.Choice.TheVariants.{By, Missing, Native}
+use Rattle.bridge_graph.specs.declared.Choice.TheVariants.{By}
 use Rattle.item_core.specs.Kind.{kind_number}
 use Rattle.item_core.specs.KindOf.{kind_of_body}
-use Rattle.fresh_bridging.specs.Entries.{put_in, put_in_fits}
+use Rattle.fresh_bridging.specs.Entries.{put_in_fits}
 use Rattle.bridge_face.specs.declared.kept_item.KeptItem.{KeptItem}
-use Rattle.bridge_plan.specs.Adds.{Adds, kept_of}
+use Rattle.bridge_plan.specs.Adds.{kept_of}
 use Rattle.bridge_plan.specs.declared.plan.Plan.{Plan}
-use Rattle.bridge_plan.specs.Worked.{IsWithin, worked, worked_in}
-use Rattle.bridge_plan.proofs.InTurn.{EachSoFar, InSoFar, each_end, each_needs, each_start, each_step, in_end, in_needs_made, in_needs_put, in_start, in_step, nothing_left}
+use Rattle.bridge_plan.specs.Worked.{worked, worked_in}
+use Rattle.bridge_plan.specs.InTurn.{EachSoFar, InSoFar, each_end, each_needs, each_start, each_step, in_end, in_needs_made, in_needs_put, in_start, in_step, nothing_left}
 use Rattle.bridge_plan.proofs.ItemCases.{planned_by, planned_natively}
 use Rattle.bridge_plan.proofs.Left.{passed_on}
 use Rattle.bridge_plan.proofs.NodeSteps.{needs_further, node_answered, node_read, others_ready, pushed_node, stands_alike}

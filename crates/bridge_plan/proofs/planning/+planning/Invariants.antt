@@ -1,6 +1,6 @@
-use Rattle.std.proofs.Common.{◌≡◌, ℕ, ◌+◌, ◌*◌, length}
+use Rattle.std.proofs.Common.{◌≡◌, ◌+◌, ◌*◌, length}
 use Rattle.std.specs.Vec.Iter.{into_iter_items, into_iter_len}
-use Rattle.bridge_plan.proofs.InTurn.{EachSoFar, InSoFar}
+use Rattle.bridge_plan.specs.InTurn.{EachSoFar, InSoFar}
 use Rattle.bridge_plan.proofs.planning.+planning.Given as goal
 
 abbrev pub decreases-plan_each : goal.decreases-plan_each

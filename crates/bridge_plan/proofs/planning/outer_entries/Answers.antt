@@ -1,7 +1,7 @@
 use Rattle.std.proofs.Common.{◌≡◌, ◌++◌, ◌+◌, ap, sym, subst, ◌∙◌, drop}
 use Rattle.std.specs.Prelude.{true}
-use Rattle.std.specs.List.{list_all, zip}
-use Rattle.std.proofs.lemmas.List.{append-nil, drop_all}
+use Rattle.std.specs.List.{list_all}
+use Rattle.std.proofs.lemmas.List.{drop_all}
 use Rattle.item_core.specs.Item.{variables_of}
 use Rattle.fresh_bridging.specs.Entries.{put_into, put_into_fits}
 use Rattle.bridge_plan.proofs.Left.{next_item, passed_all, passed_next}

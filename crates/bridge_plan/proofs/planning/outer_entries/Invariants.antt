@@ -1,7 +1,7 @@
-use Rattle.std.proofs.Common.{◌≡◌, ◌++◌, drop, map}
-use Rattle.std.specs.List.{list_all, zip}
+use Rattle.std.proofs.Common.{◌≡◌, ◌++◌, drop}
+use Rattle.std.specs.List.{list_all}
 use Rattle.item_core.specs.Item.{variables_of}
-use Rattle.fresh_bridging.specs.Entries.{put_into, put_into_fits}
+use Rattle.fresh_bridging.specs.Entries.{put_into_fits}
 use Rattle.bridge_plan.proofs.Outer.{outer}
 use Rattle.bridge_plan.proofs.planning.outer_entries.Given as goal
 

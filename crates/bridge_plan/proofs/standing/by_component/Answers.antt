@@ -1,5 +1,5 @@
-use Rattle.std.proofs.Common.{◌≡◌, [], ◌∷◌, ◌++◌, ap, sym, ◌∙◌, append-nil}
-use Rattle.fresh_bridging.specs.Entries.{Entry, expression_in}
+use Rattle.std.proofs.Common.{[], ◌∷◌, ap, sym, ◌∙◌, append-nil}
+use Rattle.fresh_bridging.specs.Entries.{expression_in}
 use Rattle.map_laws.specs.LoopLaws.{taken_more}
 use Rattle.bridge_plan.specs.Stands.{entries_of}
 use Rattle.bridge_plan.proofs.Found.{none_found, one_before}

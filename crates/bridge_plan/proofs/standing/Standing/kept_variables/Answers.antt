@@ -1,7 +1,5 @@
-use Rattle.std.proofs.Common.{◌≡◌, ◌++◌, [], ap, sym, subst, ◌∙◌, drop, map}
-use Rattle.std.specs.List.{list_all}
-use Rattle.std.proofs.lemmas.List.{append-nil, drop_all}
-use Rattle.fresh_bridging.specs.Entries.{expression_in, is_kept, kept_in}
+use Rattle.std.proofs.lemmas.List.{drop_all}
+use Rattle.fresh_bridging.specs.Entries.{expression_in}
 use Rattle.bridge_plan.proofs.Left.{next_item}
 use Rattle.bridge_plan.proofs.KeptLists.{kept_more, none_left}
 use Rattle.bridge_plan.proofs.standing.Standing.kept_variables.Goals as goal

@@ -1,5 +1,5 @@
 -- Items planned one after another: what is planned so far, and with what is left, is all.
-use Rattle.std.specs.Prelude.{◌≡◌, Bool, true, false, ◌&&◌, IsTrue, List, [], ◌∷◌, ◌++◌, map, refl}
+use Rattle.std.specs.Prelude.{◌≡◌, Bool, true, false, ◌&&◌, IsTrue, List, ◌++◌, map, refl}
 use Rattle.std.proofs.Common.{ap, ap₂, sym, subst, ◌∙◌, append_assoc}
 use Rattle.std.proofs.lemmas.List.{append-nil, map-append}
 use Rattle.expansion.specs.Grown.{Held, joined, nothing_held}

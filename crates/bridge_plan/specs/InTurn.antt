@@ -11,7 +11,7 @@ use Rattle.bridge_plan.specs.Adds.{Adds}
 use Rattle.bridge_plan.specs.Means.{Means}
 use Rattle.bridge_plan.specs.Worked.{IsWithin, worked, worked_each, worked_in}
 use Rattle.bridge_plan.specs.declared.plan.Plan.{Plan}
-use Rattle.bridge_plan.proofs.SoFar.{SoFar, all_planned, needs_one, none_yet, one_more}
+use Rattle.bridge_plan.specs.SoFar.{SoFar, all_planned, needs_one, none_yet, one_more}
 
 pub nothing_left : {X : Type 0} (l : List X) → length l ≡ 0 → l ≡ []
 nothing_left [] h = refl
