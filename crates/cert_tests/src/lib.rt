@@ -1,5 +1,0 @@
-//! Tests of `cert_core`.
-#![tactic(auto)]
-
-#[cfg(test)]
-mod answers;
