@@ -21,7 +21,7 @@ use Rattle.user_model.specs.Model.{ModelValue, objective_terms, row_named, total
 use Rattle.user_model.specs.Refusals.{counts, row_is, terms_of_objective, within}
 use Rattle.model_refusals.proofs.Counting.{not_above}
 use Rattle.model_refusals.proofs.Firsts.{first_found, first_full, first_later, first_within}
-use Rattle.model_refusals.specs.WellFormed.{with_change}
+use Rattle.model_refusals.specs.Changes.{with_change}
 use Rattle.model_refusals.proofs.Totals.{total-add_row, total-objective}
 
 -- where one of the first passes, it is the first of all

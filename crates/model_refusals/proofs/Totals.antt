@@ -30,7 +30,7 @@ use Rattle.model_laws.specs.Found.{found_stands}
 use Rattle.model_laws.specs.KeptRows.{row_terms}
 use Rattle.model_laws.specs.Located.{row_by_number}
 use Rattle.model_laws.specs.ByName.{affine_bounds, function_change, output_bounds}
-use Rattle.model_refusals.specs.WellFormed.{with_change}
+use Rattle.model_refusals.specs.Changes.{with_change}
 use Rattle.model_refusals.proofs.ChangedTerms.{sum-changed_at}
 
 module _ (model : ModelValue) (c : IsConsistent model) (name : List ℕ) (row : Row) (found : row_named model name ≡ Some row) where

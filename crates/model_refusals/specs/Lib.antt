@@ -1,4 +1,5 @@
 -- What the contracts cite.
+pub mod Accepted
+pub mod Changes
 pub mod Hash
 pub mod Marked
-pub mod WellFormed

@@ -1,7 +1,7 @@
 use Rattle.std.proofs.Common.{◌≡◌, map, drop, not}
 use Rattle.std.specs.List.{list_any}
 use Rattle.user_model.specs.Refusals.{has_variable_named}
-use Rattle.model_refusals.proofs.names_known.has_unknown_term.Given as goal
+use Rattle.model_refusals.proofs.lookups.has_unknown_term.Given as goal
 
 -- all variables so far stand in the model
 abbrev pub invariant-loop-term : goal.invariant-loop-term

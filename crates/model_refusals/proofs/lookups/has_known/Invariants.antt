@@ -1,7 +1,7 @@
 use Rattle.std.proofs.Common.{◌≡◌, drop}
 use Rattle.std.specs.List.{list_any}
 use Rattle.user_model.specs.Refusals.{has_variable_named}
-use Rattle.model_refusals.proofs.names_known.has_known.Given as goal
+use Rattle.model_refusals.proofs.lookups.has_known.Given as goal
 
 -- no name so far is a variable's
 abbrev pub invariant-loop-place : goal.invariant-loop-place

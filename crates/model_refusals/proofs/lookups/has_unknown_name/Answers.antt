@@ -2,8 +2,8 @@ use Rattle.std.proofs.Common.{arith, not, sym, ap, ◌∙◌}
 use Rattle.user_model.specs.Refusals.{has_variable_named}
 use Rattle.map_laws.specs.LoopLaws.{any_found, any_more}
 use Rattle.map_laws.specs.PlaceLaws.{none_past}
-use Rattle.model_refusals.proofs.names_known.has_unknown_name.Goals.{in-Some+else-not-has_variable, in_default}
-use Rattle.model_refusals.proofs.names_known.has_unknown_name.Goals as goal
+use Rattle.model_refusals.proofs.lookups.has_unknown_name.Goals.{in-Some+else-not-has_variable, in_default}
+use Rattle.model_refusals.proofs.lookups.has_unknown_name.Goals as goal
 
 pub returns-then-not-has_variable : goal.returns-then-not-has_variable
 returns-then-not-has_variable c =

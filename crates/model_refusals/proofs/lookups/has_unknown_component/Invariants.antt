@@ -2,7 +2,7 @@ use Rattle.std.proofs.Common.{◌≡◌, drop, not}
 use Rattle.std.specs.List.{flat_map, list_any}
 use Rattle.user_model.specs.Functions.{names_of}
 use Rattle.user_model.specs.Refusals.{has_variable_named}
-use Rattle.model_refusals.proofs.names_known.has_unknown_component.Given as goal
+use Rattle.model_refusals.proofs.lookups.has_unknown_component.Given as goal
 
 -- all variables of the components so far stand in the model
 abbrev pub invariant-loop-place : goal.invariant-loop-place

@@ -2,8 +2,8 @@ use Rattle.std.proofs.Common.{arith, sym, ◌∙◌}
 use Rattle.user_model.specs.Refusals.{has_variable_named}
 use Rattle.map_laws.specs.LoopLaws.{any_found, any_more}
 use Rattle.map_laws.specs.PlaceLaws.{none_past}
-use Rattle.model_refusals.proofs.names_known.has_known.Goals.{in-Some+else-has_variable, in_default}
-use Rattle.model_refusals.proofs.names_known.has_known.Goals as goal
+use Rattle.model_refusals.proofs.lookups.has_known.Goals.{in-Some+else-has_variable, in_default}
+use Rattle.model_refusals.proofs.lookups.has_known.Goals as goal
 
 pub returns-then-has_variable : goal.returns-then-has_variable
 returns-then-has_variable c =

@@ -4,8 +4,8 @@ use Rattle.user_model.specs.Functions.{names_of}
 use Rattle.user_model.specs.Refusals.{has_variable_named}
 use Rattle.map_laws.specs.LoopLaws.{each_found, each_more}
 use Rattle.map_laws.specs.PlaceLaws.{none_past}
-use Rattle.model_refusals.proofs.names_known.has_unknown_component.Goals.{in-Some+else-has_unknown_term, in_default}
-use Rattle.model_refusals.proofs.names_known.has_unknown_component.Goals as goal
+use Rattle.model_refusals.proofs.lookups.has_unknown_component.Goals.{in-Some+else-has_unknown_term, in_default}
+use Rattle.model_refusals.proofs.lookups.has_unknown_component.Goals as goal
 
 pub returns-then-has_unknown_term : goal.returns-then-has_unknown_term
 returns-then-has_unknown_term c =
