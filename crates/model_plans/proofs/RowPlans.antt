@@ -32,32 +32,9 @@ use Rattle.model_catalog.specs.Names.{listed_as}
 use Rattle.model_catalog.specs.Named.{row_name}
 use Rattle.numbered.specs.Numbered.{find}
 use Rattle.std.specs.Option.{option_map}
-use Rattle.model_plans.specs.Plans.{Accepts, HasAffineRow, HasOutput, HasParts, Leads}
+use Rattle.model_plans.specs.Plans.{Accepts, HasParts, Leads}
 use Rattle.model_plans.proofs.NamesListed.{one_renamed, row_listed}
 use Rattle.model_plans.proofs.Leading.{leads_changed_row, leads_renamed_row, leads_row, leads_same_row}
-
--- ---- what an accepted edit finds
-
-module _ (model : ModelValue) (e : Edit) (name : List ℕ) (needs : needed_row e ≡ Some name) (h : Accepts model e) where
-  pub row_there : (row : Row) × (row_named model name ≡ Some row)
-  row_there = needed_row_there model e name needs (passed model e h.accepted).known
-
-  pub affine_row : meets_function_shape model e ≡ row_is (λ r. not (is_scalar_affine r.func)) model name → HasAffineRow model name
-  affine_row shape =
-      let there = row_there in
-      let func = scalar_affine there.0.func (not-false (is_scalar_affine there.0.func) (row_fails (λ r. not (is_scalar_affine r.func)) model name there.0 there.1 (sym shape ∙ (passed model e h.accepted).shaped))) in
-      record { consistent = h.consistent; row = there.0; found = there.1; func = func.0; affine = func.1 }
-
-  pub output_row : (output : ℕ) → meets_function_shape model e ≡ row_is (λ r. not (is_vector_affine r.func)) model name → meets_output_index model e ≡ row_is (λ r. output == 0 || nat_lt (components r.func) output) model name → HasOutput model name output
-  output_row output shape outputs =
-      let there = row_there in
-      let func = vector_affine there.0.func (not-false (is_vector_affine there.0.func) (row_fails (λ r. not (is_vector_affine r.func)) model name there.0 there.1 (sym shape ∙ (passed model e h.accepted).shaped))) in
-      let fails : (output == 0 || nat_lt (length func.0) output) ≡ false = ap (λ f. output == 0 || nat_lt (components f) output) (sym func.1) ∙ row_fails (λ r. output == 0 || nat_lt (components r.func) output) model name there.0 there.1 (sym outputs ∙ (passed model e h.accepted).output) in
-      let parts = or_parts (output == 0) (nat_lt (length func.0) output) fails in
-      record { consistent = h.consistent; row = there.0; found = there.1; funcs = func.0; vector = func.1; first = positive output (eqb-false output 0 parts.0); component = output_there func.0 output fails }
-    where
-      positive : (m : ℕ) → (m ≡ 0 → ⊥) → 0 < m
-      positive m ne = omega (arith, ne)
 
 -- the next number of rows fits
 pub next_row : (model : ModelValue) (name : List ℕ) (func : NamedFunc) (set : Set) → Accepts model (edit.AddRow name func set) → model.next.row + 1 ≤ LAST_NUMBER + 1

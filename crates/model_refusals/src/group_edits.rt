@@ -7,6 +7,7 @@ use crate::AcceptedEdit;
 use crate::bounds::is_in_cone;
 use crate::full::full_by_group;
 use crate::lookups::{grouped_variable, has_known, has_variable};
+use crate::shapes::is_scalar_for_others;
 use crate::twins::has_twins;
 use model_catalog::Catalog;
 use name_index::{Name, Names};
@@ -14,6 +15,7 @@ use set_core::Set;
 use user_model::Refusal;
 
 /// A new group.
+#[tactic(auto, unfolding(user_model::specs::Refusals::first_refusal))]
 pub(crate) fn add<'a>(
     model: &'a Catalog,
     names: &'a Names,
@@ -25,7 +27,7 @@ pub(crate) fn add<'a>(
     if has_known(model, names) || has_twins(names) {
         return Err(Refusal::NameTaken);
     }
-    if set.is_scalar() && names.len() != 1 {
+    if is_scalar_for_others(set, names.len()) {
         return Err(Refusal::FunctionShape);
     }
     if set.has_bad_dimension(names.len()) {
@@ -41,6 +43,7 @@ pub(crate) fn add<'a>(
 }
 
 /// Another creation set of a group of one variable.
+#[tactic(auto, unfolding(user_model::specs::Refusals::first_refusal))]
 pub(crate) fn reset<'a>(
     model: &'a Catalog,
     var: &'a Name,
@@ -64,6 +67,7 @@ pub(crate) fn reset<'a>(
 }
 
 /// A group of one variable becomes free.
+#[tactic(auto, unfolding(user_model::specs::Refusals::first_refusal))]
 pub(crate) fn free<'a>(model: &'a Catalog, var: &'a Name) -> Result<AcceptedEdit<'a>, Refusal>
     ensures { IsAnswer model.now.model (edit.FreeGroup var.now) result }
 {
@@ -77,6 +81,7 @@ pub(crate) fn free<'a>(model: &'a Catalog, var: &'a Name) -> Result<AcceptedEdit
 }
 
 /// A variable goes.
+#[tactic(auto, unfolding(user_model::specs::Refusals::first_refusal))]
 pub(crate) fn delete_variable<'a>(
     model: &'a Catalog,
     var: &'a Name,
@@ -93,6 +98,7 @@ pub(crate) fn delete_variable<'a>(
 }
 
 /// Another name of a variable.
+#[tactic(auto, unfolding(user_model::specs::Refusals::first_refusal))]
 pub(crate) fn rename_variable<'a>(
     model: &'a Catalog,
     old: &'a Name,

@@ -13,6 +13,7 @@ use ratio_core::Ratio;
 use user_model::{NamedFunc, Objective, Refusal, Sense};
 
 /// The objective of a scalar function.
+#[tactic(auto, unfolding(user_model::specs::Refusals::first_refusal))]
 pub(crate) fn set<'a>(
     model: &'a Catalog,
     sense: Sense,
@@ -35,6 +36,7 @@ pub(crate) fn set<'a>(
 }
 
 /// Another coefficient of the affine objective.
+#[tactic(auto, unfolding(user_model::specs::Refusals::first_refusal))]
 pub(crate) fn coef<'a>(
     model: &'a Catalog,
     var: &'a Name,
@@ -61,6 +63,7 @@ pub(crate) fn coef<'a>(
 }
 
 /// Another constant of the affine objective.
+#[tactic(auto, unfolding(user_model::specs::Refusals::first_refusal))]
 pub(crate) fn constant<'a>(model: &'a Catalog, value: &Ratio) -> Result<AcceptedEdit<'a>, Refusal>
     ensures { IsAnswer model.now.model (edit.ObjConstant value.now) result }
 {

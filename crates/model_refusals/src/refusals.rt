@@ -14,6 +14,7 @@ use user_model::{Edit, Refusal};
 /// that they bring, `Coef` and `ObjCoef` search a function for the variable, and `VecCoef` also
 /// reads how many terms each component of its row has. `DeleteVariable` reads all rows, for norm
 /// cones; no other edit reads a row that it doesn't name.
+#[tactic(auto, unfolding(user_model::specs::Refusals::first_refusal))]
 pub fn accepted<'a>(model: &'a Catalog, edit: &'a Edit) -> Result<AcceptedEdit<'a>, Refusal>
     ensures { IsAnswer model.now.model edit.now result }
 {

@@ -17,6 +17,7 @@ use set_core::Set;
 use user_model::{NamedFunc, Refusal, UserFunc};
 
 /// A new row.
+#[tactic(auto, unfolding(user_model::specs::Refusals::first_refusal))]
 pub(crate) fn add<'a>(
     model: &'a Catalog,
     name: &'a Name,
@@ -52,6 +53,7 @@ pub(crate) fn add<'a>(
 }
 
 /// Another coefficient of a scalar affine row.
+#[tactic(auto, unfolding(user_model::specs::Refusals::first_refusal))]
 pub(crate) fn coef<'a>(
     model: &'a Catalog,
     row: &'a Name,
@@ -83,6 +85,7 @@ pub(crate) fn coef<'a>(
 }
 
 /// Another constant of a scalar affine row.
+#[tactic(auto, unfolding(user_model::specs::Refusals::first_refusal))]
 pub(crate) fn constant<'a>(
     model: &'a Catalog,
     row: &'a Name,
@@ -104,6 +107,7 @@ pub(crate) fn constant<'a>(
 }
 
 /// Another coefficient of a component of a vector affine row.
+#[tactic(auto, unfolding(user_model::specs::Refusals::first_refusal))]
 pub(crate) fn vec_coef<'a>(
     model: &'a Catalog,
     row: &'a Name,
@@ -140,6 +144,7 @@ pub(crate) fn vec_coef<'a>(
 }
 
 /// Another constant of a component of a vector affine row.
+#[tactic(auto, unfolding(user_model::specs::Refusals::first_refusal))]
 pub(crate) fn vec_constant<'a>(
     model: &'a Catalog,
     row: &'a Name,
@@ -166,6 +171,7 @@ pub(crate) fn vec_constant<'a>(
 }
 
 /// Another set of a row.
+#[tactic(auto, unfolding(user_model::specs::Refusals::first_refusal))]
 pub(crate) fn set<'a>(
     model: &'a Catalog,
     row: &'a Name,
@@ -192,6 +198,7 @@ pub(crate) fn set<'a>(
 }
 
 /// A row goes.
+#[tactic(auto, unfolding(user_model::specs::Refusals::first_refusal))]
 pub(crate) fn delete<'a>(model: &'a Catalog, row: &'a Name) -> Result<AcceptedEdit<'a>, Refusal>
     ensures { IsAnswer model.now.model (edit.DeleteRow row.now) result }
 {
@@ -202,6 +209,7 @@ pub(crate) fn delete<'a>(model: &'a Catalog, row: &'a Name) -> Result<AcceptedEd
 }
 
 /// Another name of a row.
+#[tactic(auto, unfolding(user_model::specs::Refusals::first_refusal))]
 pub(crate) fn rename<'a>(
     model: &'a Catalog,
     old: &'a Name,

@@ -1,11 +1,13 @@
 //! Whether functions suit their sets, and how many components they have.
-ghost use Rattle.std.specs.Prelude.{◌≡◌, ◌==◌, ◌||◌, MatchOption, false, length, nat_lt, true};
+ghost use Rattle.std.specs.Prelude.{◌≡◌, ◌==◌, ◌&&◌, ◌||◌, MatchOption, false, length, nat_lt, not, true};
+ghost use Rattle.set_core.specs.Shapes as tests;
 ghost use Rattle.user_model.specs.Functions as functions;
 ghost use Rattle.user_model.specs.Refusals.{differ};
 ghost use Rattle.model_refusals.specs.Accepted.{IsComponent};
 
 use crate::Component;
 use aff_core::VecAff;
+use set_core::Set;
 use user_model::{NamedFunc, UserFunc};
 
 /// Whether a scalar function meets a vector set, or a vector function a scalar one.
@@ -13,6 +15,13 @@ pub(crate) fn differ(scalar_function: bool, scalar_set: bool) -> bool
     ensures { result ≡ differ scalar_function scalar_set }
 {
     scalar_function != scalar_set
+}
+
+/// Whether a set of numbers is given to other than one variable.
+pub(crate) fn is_scalar_for_others(set: &Set, variables: usize) -> bool
+    ensures { result ≡ (tests.is_scalar set.now && not (variables == 1)) }
+{
+    set.is_scalar() && variables != 1
 }
 
 pub(crate) fn is_scalar_named(func: &NamedFunc) -> bool
