@@ -1,5 +1,5 @@
 //! Plans of the edits of one row.
-ghost use Rattle.std.specs.Prelude.{◌∷◌, [], IfOk, None};
+ghost use Rattle.std.specs.Prelude.{◌≡◌, ◌∷◌, [], IfOk, None};
 ghost use Rattle.user_model.specs.Edited.{edited, change_function, on_affine, on_output, row_number};
 ghost use Rattle.user_model.specs.declared.edit.Edit.TheVariants.{AddRow, Coef, VecCoef, Constant, VecConstant, RowSet, DeleteRow, RenameRow};
 ghost use Rattle.model_laws.specs.ItemChanges.{set_to};

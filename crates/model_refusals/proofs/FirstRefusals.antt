@@ -24,6 +24,7 @@ use Rattle.user_model.specs.Functions.{components, is_scalar_affine, is_scalar_f
 use Rattle.user_model.specs.Model.{ModelValue, address_named, group_of, has_lower_bound, has_upper_bound, row_named, total_terms, variable_address, variable_named}
 use Rattle.user_model.specs.Sets.{sets_lower, sets_upper}
 use Rattle.user_model.specs.Refusals.{counts, differ, first_of, first_refusal, full_at, has_row_named, has_twins, has_variable_named, is_affine_objective, is_in_cone, meets_bound_already_set}
+use Rattle.model_refusals.specs.Bounds.{bound_tests}
 use Rattle.model_refusals.specs.Changes.{with_change, with_change_at}
 use Rattle.model_refusals.proofs.Firsts.{first_full}
 use Rattle.model_refusals.proofs.Totals.{coef_counts, obj_coef_counts, vec_coef_counts}
@@ -115,10 +116,10 @@ module _ (model : ModelValue) where
         ∙ (first_past (has_bad_dimension set (named_components func)) BadDimension intervals dimension
         ∙ first_past (is_crossed set) BadInterval bounds interval)))
 
-    pub bounded_row : (r : Refusal) → Some r ≡ first_of ((lower, LowerBoundAlreadySet) ∷ (upper, UpperBoundAlreadySet) ∷ []) → first_refusal model (edit.AddRow name func set) ≡ Some r
+    pub bounded_row : (r : Refusal) → Some r ≡ first_of (bound_tests model (edit.AddRow name func set)) → first_refusal model (edit.AddRow name func set) ≡ Some r
     bounded_row r e = added_row ∙ first_of_two lower upper LowerBoundAlreadySet UpperBoundAlreadySet r limits e
 
-    pub full_row : None ≡ first_of ((lower, LowerBoundAlreadySet) ∷ (upper, UpperBoundAlreadySet) ∷ []) → first_refusal model (edit.AddRow name func set) ≡ first_full (counts model (edit.AddRow name func set))
+    pub full_row : None ≡ first_of (bound_tests model (edit.AddRow name func set)) → first_refusal model (edit.AddRow name func set) ≡ first_full (counts model (edit.AddRow name func set))
     full_row e = added_row ∙ none_of_two lower upper LowerBoundAlreadySet UpperBoundAlreadySet limits e
 
   -- ---- groups

@@ -1,12 +1,11 @@
 //! Bounds that are set already, and variables of norm cones.
-ghost use Rattle.std.specs.Prelude.{◌≡◌, ℕ, List, ◌∷◌, []};
+ghost use Rattle.std.specs.Prelude.{◌≡◌, ℕ, List};
 ghost use Rattle.std.specs.List.{list_any};
 ghost use Rattle.user_model.specs.declared.edit.Edit.TheVariants as edit;
-ghost use Rattle.user_model.specs.declared.refusal.Refusal.TheVariants as refusal;
 ghost use Rattle.user_model.specs.Model.{has_lower_bound, has_upper_bound};
-ghost use Rattle.user_model.specs.Refusals.{first_of, is_cone_row_of, is_in_cone, meets_bound_already_set};
-ghost use Rattle.user_model.specs.Sets as tests;
+ghost use Rattle.user_model.specs.Refusals.{first_of, is_cone_row_of, is_in_cone};
 ghost use Rattle.model_refusals.specs.Accepted.{IsGrouped};
+ghost use Rattle.model_refusals.specs.Bounds.{bound_tests};
 
 use crate::GroupedVariable;
 use aff_core::{Address, Root, has_address};
@@ -16,16 +15,8 @@ use user_model::{NamedFunc, Refusal, Row, UserFunc};
 
 /// The refusal of a new row where it bounds a variable that has such a bound.
 pub(crate) fn bound_already_set(model: &Catalog, func: &NamedFunc, set: &Set) -> Option<Refusal>
-    ensures { (name : List ℕ) → result ≡ first_of ((
-      meets_bound_already_set tests.sets_lower has_lower_bound model.now.model
-          (edit.AddRow name func.now set.now),
-      refusal.LowerBoundAlreadySet,
-    )
-        ∷ (
-          meets_bound_already_set tests.sets_upper has_upper_bound model.now.model
-              (edit.AddRow name func.now set.now),
-          refusal.UpperBoundAlreadySet,
-        ) ∷ []) }
+    ensures { (name : List ℕ) → result ≡ first_of
+        (bound_tests model.now.model (edit.AddRow name func.now set.now)) }
 {
     let NamedFunc::Plain(var) = func else {
         return None;

@@ -138,14 +138,14 @@ impl UserModel {
             ≡ refusals.first_refusal self.old.model edit) }
         ensures kept { OnErr result (self.new ≡ self.old) }
     {
-        let edit = match accepted(&self.catalog, &edit) {
-            Ok(edit) => edit,
+        let found = match accepted(&self.catalog, &edit) {
+            Ok(found) => found,
             Err(refusal) => return Err(ApplyFault::Refused(refusal)),
         };
         // The plan asks for a consistent model within its limits, and the reader says that the kept
         // one is. It costs nothing.
         let _ = self.catalog.groups();
-        let Ok(plan) = planned(self.alloc, &self.catalog, &edit) else {
+        let Ok(plan) = planned(self.alloc, &self.catalog, &found) else {
             return Err(ApplyFault::Memory);
         };
         let Ok(reserved) = reserve(&mut self.catalog, &mut self.parked, &plan, self.names) else {

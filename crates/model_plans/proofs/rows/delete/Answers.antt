@@ -4,7 +4,7 @@ use Rattle.std.proofs.lemmas.Result.{IfOk-weaker}
 use Rattle.user_model.specs.declared.edit.Edit.TheVariants as edit
 use Rattle.user_model.specs.Edited.{edited}
 use Rattle.model_plans.proofs.Leading.{parts_same}
-use Rattle.model_plans.proofs.RowPlans.{deleted_leads, row_there}
+use Rattle.model_plans.proofs.RowPlans.{deleted_leads}
 use Rattle.model_plans.proofs.rows.delete.Goals as goal
 
 pub returns : goal.returns

@@ -6,7 +6,7 @@ use Rattle.user_model.specs.Edited.{edited}
 use Rattle.model_catalog.specs.Names.{listed_as}
 use Rattle.model_plans.proofs.Leading.{parts_same}
 use Rattle.model_laws.specs.Passed.{passed}
-use Rattle.model_plans.proofs.RowPlans.{renamed_leads, row_there}
+use Rattle.model_plans.proofs.RowPlans.{renamed_leads}
 use Rattle.model_plans.proofs.rows.rename.Goals as goal
 
 pub returns : goal.returns

@@ -6,7 +6,7 @@ use Rattle.user_model.specs.Edited.{edited}
 use Rattle.model_plans.specs.Plans.{HasParts}
 use Rattle.model_plans.proofs.Leading.{parts_same}
 use Rattle.model_plans.proofs.Comparisons.{same_sets}
-use Rattle.model_plans.proofs.RowPlans.{row_there, set_new, set_same}
+use Rattle.model_plans.proofs.RowPlans.{set_new, set_same}
 use Rattle.model_plans.proofs.rows.set.Goals as goal
 
 pub returns-then-eq : goal.returns-then-eq
