@@ -1,32 +1,27 @@
 -- Plans of the edits of one row.
-use Rattle.std.proofs.Common.{◌≡◌, ◌≢◌, ℕ, zero, suc, add-one, ◌+◌, ◌-◌, ◌<◌, ◌≤◌, ◌==◌, false, List, [], ◌∷◌, ◌++◌, Some, None, refl, sym, ap, subst, ◌∙◌, arith, take, drop, length}
-use Rattle.std.specs.Prelude.{not, slice_get, nat_lt, ◌||◌}
-use Rattle.std.proofs.lemmas.Bool.{eqb-false, not-false, or_parts}
+use Rattle.std.proofs.Common.{◌≡◌, ◌≢◌, ℕ, zero, suc, add-one, ◌+◌, ◌-◌, ◌≤◌, false, List, [], ◌∷◌, ◌++◌, Some, None, refl, sym, ap, subst, ◌∙◌, take, drop}
+use Rattle.std.specs.Prelude.{slice_get}
 use Rattle.std.proofs.lemmas.List.Elements.{All-contains}
 use Rattle.std.proofs.lemmas.Option.{none-some}
 use Rattle.numbered.specs.Laws.{find-none_below}
 use Rattle.aff_core.specs.Function.{Function}
 use Rattle.set_core.specs.declared.set.Set.{Set}
-use Rattle.user_model.specs.declared.edit.Edit.{Edit}
 use Rattle.user_model.specs.declared.edit.Edit.TheVariants as edit
 use Rattle.user_model.specs.declared.edit.NamedFunc.{NamedFunc}
 use Rattle.user_model.specs.declared.function.UserFunc.{UserFunc}
 use Rattle.user_model.specs.declared.function.UserFunc.TheVariants.{Affine, AffineVec}
 use Rattle.user_model.specs.declared.row.Row.{Row}
-use Rattle.user_model.specs.Functions.{is_scalar_affine, is_vector_affine, components}
 use Rattle.user_model.specs.Model.{ModelValue, row_named}
 use Rattle.user_model.specs.Edited.{add_row, change_function, change_row, changed_at, delete_row, edited, on_affine, on_output, row_number}
 use Rattle.user_model.specs.Consistent.{IsConsistent}
 use Rattle.user_model.specs.Limits.{LAST_NUMBER}
-use Rattle.user_model.specs.Refusals.{has_row_named, meets_function_shape, meets_output_index, needed_row, row_is}
+use Rattle.user_model.specs.Refusals.{has_row_named}
 use Rattle.model_laws.specs.Changed.{delete_row-found}
 use Rattle.model_laws.specs.Found.{found_stands}
 use Rattle.model_laws.specs.KeptWithin.{kept_within}
 use Rattle.model_laws.specs.ItemChanges.{set_all_last, set_to}
 use Rattle.model_laws.specs.Located.{free_row, row_by_number}
-use Rattle.model_laws.specs.Needed.{needed_row_there}
-use Rattle.model_laws.specs.Passed.{passed}
-use Rattle.model_laws.specs.Shapes.{affine_row_other, affine_row_same, output_row_other, output_row_same, output_there, row_fails, row_name_other, row_set_other, row_set_same, scalar_affine, vector_affine}
+use Rattle.model_laws.specs.Shapes.{affine_row_other, affine_row_same, output_row_other, output_row_same, row_name_other, row_set_other, row_set_same}
 use Rattle.model_plans.specs.declared.plan.Plan.{Plan}
 use Rattle.model_catalog.specs.Names.{listed_as}
 use Rattle.model_catalog.specs.Named.{row_name}

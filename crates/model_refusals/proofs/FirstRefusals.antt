@@ -1,29 +1,24 @@
 -- The first refusal of an edit, by what stands at its names.
-use Rattle.std.specs.Prelude.{◌≡◌, ℕ, ◌-◌, Bool, true, false, ◌&&◌, ◌||◌, ◌==◌, nat_lt, if◌then◌else◌, not, List, [], ◌∷◌, ◌++◌, length, map, slice_get, Option, Some, None, unwrap_or, refl}
+use Rattle.std.specs.Prelude.{◌≡◌, ℕ, ◌-◌, Bool, true, false, ◌&&◌, ◌||◌, ◌==◌, nat_lt, if◌then◌else◌, not, List, [], ◌∷◌, length, map, slice_get, Some, None, unwrap_or, refl}
 use Rattle.std.specs.List.{list_any}
 use Rattle.std.proofs.Common.{sym, ap, ◌∙◌}
 use Rattle.ratio_core.specs.Rational.{Rational}
-use Rattle.aff_core.specs.Address.{Address}
 use Rattle.aff_core.specs.Function.{Function, with_coefficient}
 use Rattle.aff_core.specs.declared.sense.Sense.{Sense}
-use Rattle.set_core.specs.Shapes.{has_bad_dimension, is_crossed, is_norm_cone, is_scalar, same_type}
+use Rattle.set_core.specs.Shapes.{has_bad_dimension, is_crossed, is_scalar}
 use Rattle.set_core.specs.declared.set.Set.{Set}
-use Rattle.user_model.specs.declared.edit.Edit.{Edit}
 use Rattle.user_model.specs.declared.edit.Edit.TheVariants as edit
 use Rattle.user_model.specs.declared.edit.NamedFunc.{NamedFunc}
-use Rattle.user_model.specs.declared.function.UserFunc.{UserFunc}
-use Rattle.user_model.specs.declared.function.UserFunc.TheVariants.{Plain, Affine, PlainVec, AffineVec}
-use Rattle.user_model.specs.declared.group.Group.{Group}
-use Rattle.user_model.specs.declared.objective.Objective.{Objective}
+use Rattle.user_model.specs.declared.function.UserFunc.TheVariants.{Affine, AffineVec}
 use Rattle.user_model.specs.declared.objective.Objective.TheVariants as objective
 use Rattle.user_model.specs.declared.refusal.Refusal.{Refusal}
-use Rattle.user_model.specs.declared.refusal.Refusal.TheVariants.{UnknownName, NameTaken, FunctionShape, BadDimension, OutputIndex, BadInterval, LowerBoundAlreadySet, UpperBoundAlreadySet, SetTypeMismatch, DeleteNotAllowed}
+use Rattle.user_model.specs.declared.refusal.Refusal.TheVariants.{UnknownName, NameTaken, FunctionShape, BadDimension, OutputIndex, BadInterval, LowerBoundAlreadySet, UpperBoundAlreadySet}
 use Rattle.user_model.specs.declared.row.Row.{Row}
 use Rattle.user_model.specs.Consistent.{IsConsistent}
-use Rattle.user_model.specs.Functions.{components, is_scalar_affine, is_scalar_function, is_scalar_named, is_vector_affine, mentioned, named_components, term_count}
-use Rattle.user_model.specs.Model.{ModelValue, address_named, group_of, has_lower_bound, has_upper_bound, row_named, total_terms, variable_address, variable_named}
+use Rattle.user_model.specs.Functions.{components, is_scalar_affine, is_scalar_named, is_vector_affine, mentioned, named_components, term_count}
+use Rattle.user_model.specs.Model.{ModelValue, address_named, has_lower_bound, has_upper_bound, row_named, total_terms, variable_address, variable_named}
 use Rattle.user_model.specs.Sets.{sets_lower, sets_upper}
-use Rattle.user_model.specs.Refusals.{counts, differ, first_of, first_refusal, full_at, has_row_named, has_twins, has_variable_named, is_affine_objective, is_in_cone, meets_bound_already_set}
+use Rattle.user_model.specs.Refusals.{counts, differ, first_of, first_refusal, full_at, has_row_named, has_twins, has_variable_named, is_affine_objective, meets_bound_already_set}
 use Rattle.model_refusals.specs.Bounds.{bound_tests}
 use Rattle.model_refusals.specs.Changes.{with_change, with_change_at}
 use Rattle.model_refusals.proofs.Firsts.{first_full}

@@ -9,7 +9,6 @@ ghost use Rattle.user_model.specs.Refusals.{IsKnown, counts, first_of, full_at};
 ghost use Rattle.user_model.specs.declared.edit.Edit.TheVariants as edit;
 ghost use Rattle.aff_core.specs.declared.sense.Sense.{Sense};
 ghost use Rattle.set_core.specs.declared.set.Set.{Set};
-ghost use Rattle.model_refusals.specs.Accepted.{IsComponent};
 ghost use Rattle.model_refusals.specs.Changes.{with_change, with_change_at};
 
 use crate::Component;

@@ -1,14 +1,10 @@
-use Rattle.std.specs.Prelude.{is_some}
 use Rattle.std.proofs.Common.{◌≡◌, ◌∷◌, [], None, refl, ap, subst, ◌∙◌}
-use Rattle.user_model.specs.declared.edit.Edit.TheVariants as edit
 use Rattle.user_model.specs.Deletion.{group_without, objective_without, row_without}
 use Rattle.user_model.specs.Edited.{edited, row_number}
 use Rattle.user_model.specs.Model.{has_variable, row_mentions, variable_address}
 use Rattle.model_laws.specs.Found.{found_passes}
 use Rattle.model_laws.specs.ItemChanges.{edits_of}
-use Rattle.model_laws.specs.Needed.{needed_variable}
 use Rattle.model_laws.specs.DeletionChanges.{deletion_changes}
-use Rattle.model_laws.specs.Passed.{passed}
 use Rattle.model_plans.specs.Plans.{HasParts, IsChange, gone}
 use Rattle.model_plans.proofs.DeletionPlans.{deleted_leads}
 use Rattle.model_plans.proofs.deletion.delete.Goals as goal

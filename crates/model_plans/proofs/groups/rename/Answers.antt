@@ -1,9 +1,7 @@
-use Rattle.std.specs.Prelude.{is_some}
 use Rattle.std.proofs.Common.{◌≡◌, ◌∷◌, [], Some, map, refl, ap, ◌∙◌}
 use Rattle.std.proofs.lemmas.Result.{IfOk-weaker}
 use Rattle.user_model.specs.declared.edit.Edit.TheVariants as edit
 use Rattle.user_model.specs.Edited.{edited, renamed}
-use Rattle.model_laws.specs.Needed.{needed_variable}
 use Rattle.model_laws.specs.Passed.{passed}
 use Rattle.model_catalog.specs.Names.{listed_as}
 use Rattle.model_plans.proofs.Leading.{parts_same}

@@ -1,7 +1,5 @@
 use Rattle.std.proofs.Common.{◌∷◌, [], refl, ap}
-use Rattle.std.specs.Prelude.{is_some}
 use Rattle.std.proofs.lemmas.Result.{IfOk-weaker}
-use Rattle.user_model.specs.declared.edit.Edit.TheVariants as edit
 use Rattle.user_model.specs.Edited.{edited}
 use Rattle.model_plans.proofs.Leading.{parts_same}
 use Rattle.model_plans.proofs.RowPlans.{deleted_leads}

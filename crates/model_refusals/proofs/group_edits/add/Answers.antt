@@ -1,9 +1,6 @@
-use Rattle.std.proofs.Common.{◌≡◌, ◌==◌, false, length, refl, ap, ap₂, sym, ◌∙◌}
+use Rattle.std.proofs.Common.{◌==◌, false, refl, ap, ap₂, sym, ◌∙◌}
 use Rattle.std.specs.Prelude.{◌&&◌, ◌||◌, not}
 use Rattle.set_core.specs.Shapes.{has_bad_dimension, is_scalar}
-use Rattle.user_model.specs.declared.edit.Edit.TheVariants as edit
-use Rattle.user_model.specs.Refusals.{counts, first_refusal}
-use Rattle.model_refusals.proofs.Firsts.{first_full}
 use Rattle.model_refusals.proofs.FirstRefusals.{full_group}
 use Rattle.model_refusals.proofs.group_edits.add.Goals as goal
 

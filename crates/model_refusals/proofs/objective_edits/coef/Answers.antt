@@ -3,7 +3,6 @@ use Rattle.aff_core.specs.Function.{with_coefficient}
 use Rattle.user_model.specs.declared.edit.Edit.TheVariants as edit
 use Rattle.user_model.specs.Functions.{term_count}
 use Rattle.user_model.specs.Model.{total_terms, variable_named}
-use Rattle.user_model.specs.Refusals.{first_refusal}
 use Rattle.model_refusals.specs.Changes.{with_change}
 use Rattle.model_refusals.proofs.Firsts.{first_full}
 use Rattle.model_refusals.proofs.FirstRefusals.{obj_coef_full}

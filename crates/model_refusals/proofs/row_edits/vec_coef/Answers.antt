@@ -4,7 +4,6 @@ use Rattle.aff_core.specs.Function.{with_coefficient}
 use Rattle.user_model.specs.declared.edit.Edit.TheVariants as edit
 use Rattle.user_model.specs.declared.function.UserFunc.TheVariants.{AffineVec}
 use Rattle.user_model.specs.Model.{row_named, total_terms, variable_named}
-use Rattle.user_model.specs.Refusals.{first_refusal}
 use Rattle.model_refusals.specs.Changes.{with_change_at}
 use Rattle.model_refusals.proofs.Firsts.{first_full}
 use Rattle.model_refusals.proofs.FirstRefusals.{vec_coef_full}
