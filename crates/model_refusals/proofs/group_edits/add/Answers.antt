@@ -1,4 +1,4 @@
-use Rattle.std.proofs.Common.{◌==◌, false, refl, ap, ap₂, sym, ◌∙◌}
+use Rattle.std.proofs.Common.{◌==◌, refl, ap, ap₂, sym, ◌∙◌}
 use Rattle.std.specs.Prelude.{◌&&◌, ◌||◌, not}
 use Rattle.set_core.specs.Shapes.{has_bad_dimension, is_scalar}
 use Rattle.model_refusals.proofs.FirstRefusals.{full_group}

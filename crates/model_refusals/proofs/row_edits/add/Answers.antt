@@ -1,4 +1,4 @@
-use Rattle.std.proofs.Common.{false, refl, ap, ap₂, sym, ◌∙◌}
+use Rattle.std.proofs.Common.{refl, ap, ap₂, sym, ◌∙◌}
 use Rattle.set_core.specs.Shapes.{has_bad_dimension}
 use Rattle.user_model.specs.Refusals.{differ}
 use Rattle.model_refusals.proofs.FirstRefusals.{bounded_row, full_row}

@@ -1,4 +1,4 @@
-use Rattle.std.proofs.Common.{◌≡◌, ◌-◌, ◌==◌, false, length, Some, ap, ap₂, sym, ◌∙◌}
+use Rattle.std.proofs.Common.{◌≡◌, ◌==◌, false, length, Some, ap, ap₂, sym, ◌∙◌}
 use Rattle.std.specs.Prelude.{◌||◌, nat_lt, slice_get}
 use Rattle.aff_core.specs.Function.{with_coefficient}
 use Rattle.user_model.specs.declared.edit.Edit.TheVariants as edit
