@@ -1,63 +1,35 @@
 -- Plans of the edits of one row.
-use Rattle.std.proofs.Common.{◌≡◌, ◌≢◌, ℕ, zero, suc, add-one, ◌+◌, ◌-◌, ◌<◌, ◌≤◌, ◌==◌, false, List, [], ◌∷◌, ◌++◌, Some, None, refl, sym, ap, subst, ◌∙◌, arith, take, drop, length}
-use Rattle.std.specs.Prelude.{not, slice_get, nat_lt, ◌||◌}
-use Rattle.std.proofs.lemmas.Bool.{eqb-false, not-false, or_parts}
+use Rattle.std.proofs.Common.{◌≡◌, ◌≢◌, ℕ, zero, suc, add-one, ◌+◌, ◌-◌, ◌≤◌, false, List, [], ◌∷◌, ◌++◌, Some, None, refl, sym, ap, subst, ◌∙◌, take, drop}
+use Rattle.std.specs.Prelude.{slice_get}
 use Rattle.std.proofs.lemmas.List.Elements.{All-contains}
 use Rattle.std.proofs.lemmas.Option.{none-some}
 use Rattle.numbered.specs.Laws.{find-none_below}
 use Rattle.aff_core.specs.Function.{Function}
 use Rattle.set_core.specs.declared.set.Set.{Set}
-use Rattle.user_model.specs.declared.edit.Edit.{Edit}
 use Rattle.user_model.specs.declared.edit.Edit.TheVariants as edit
 use Rattle.user_model.specs.declared.edit.NamedFunc.{NamedFunc}
 use Rattle.user_model.specs.declared.function.UserFunc.{UserFunc}
 use Rattle.user_model.specs.declared.function.UserFunc.TheVariants.{Affine, AffineVec}
 use Rattle.user_model.specs.declared.row.Row.{Row}
-use Rattle.user_model.specs.Functions.{is_scalar_affine, is_vector_affine, components}
 use Rattle.user_model.specs.Model.{ModelValue, row_named}
 use Rattle.user_model.specs.Edited.{add_row, change_function, change_row, changed_at, delete_row, edited, on_affine, on_output, row_number}
 use Rattle.user_model.specs.Consistent.{IsConsistent}
 use Rattle.user_model.specs.Limits.{LAST_NUMBER}
-use Rattle.user_model.specs.Refusals.{has_row_named, meets_function_shape, meets_output_index, needed_row, row_is}
+use Rattle.user_model.specs.Refusals.{has_row_named}
 use Rattle.model_laws.specs.Changed.{delete_row-found}
 use Rattle.model_laws.specs.Found.{found_stands}
 use Rattle.model_laws.specs.KeptWithin.{kept_within}
 use Rattle.model_laws.specs.ItemChanges.{set_all_last, set_to}
 use Rattle.model_laws.specs.Located.{free_row, row_by_number}
-use Rattle.model_laws.specs.Needed.{needed_row_there}
-use Rattle.model_laws.specs.Passed.{passed}
-use Rattle.model_laws.specs.Shapes.{affine_row_other, affine_row_same, output_row_other, output_row_same, output_there, row_fails, row_name_other, row_set_other, row_set_same, scalar_affine, vector_affine}
+use Rattle.model_laws.specs.Shapes.{affine_row_other, affine_row_same, output_row_other, output_row_same, row_name_other, row_set_other, row_set_same}
 use Rattle.model_plans.specs.declared.plan.Plan.{Plan}
 use Rattle.model_catalog.specs.Names.{listed_as}
 use Rattle.model_catalog.specs.Named.{row_name}
 use Rattle.numbered.specs.Numbered.{find}
 use Rattle.std.specs.Option.{option_map}
-use Rattle.model_plans.specs.Plans.{Accepts, HasAffineRow, HasOutput, HasParts, Leads}
+use Rattle.model_plans.specs.Plans.{Accepts, HasParts, Leads}
 use Rattle.model_plans.proofs.NamesListed.{one_renamed, row_listed}
 use Rattle.model_plans.proofs.Leading.{leads_changed_row, leads_renamed_row, leads_row, leads_same_row}
-
--- ---- what an accepted edit finds
-
-module _ (model : ModelValue) (e : Edit) (name : List ℕ) (needs : needed_row e ≡ Some name) (h : Accepts model e) where
-  pub row_there : (row : Row) × (row_named model name ≡ Some row)
-  row_there = needed_row_there model e name needs (passed model e h.accepted).known
-
-  pub affine_row : meets_function_shape model e ≡ row_is (λ r. not (is_scalar_affine r.func)) model name → HasAffineRow model name
-  affine_row shape =
-      let there = row_there in
-      let func = scalar_affine there.0.func (not-false (is_scalar_affine there.0.func) (row_fails (λ r. not (is_scalar_affine r.func)) model name there.0 there.1 (sym shape ∙ (passed model e h.accepted).shaped))) in
-      record { consistent = h.consistent; row = there.0; found = there.1; func = func.0; affine = func.1 }
-
-  pub output_row : (output : ℕ) → meets_function_shape model e ≡ row_is (λ r. not (is_vector_affine r.func)) model name → meets_output_index model e ≡ row_is (λ r. output == 0 || nat_lt (components r.func) output) model name → HasOutput model name output
-  output_row output shape outputs =
-      let there = row_there in
-      let func = vector_affine there.0.func (not-false (is_vector_affine there.0.func) (row_fails (λ r. not (is_vector_affine r.func)) model name there.0 there.1 (sym shape ∙ (passed model e h.accepted).shaped))) in
-      let fails : (output == 0 || nat_lt (length func.0) output) ≡ false = ap (λ f. output == 0 || nat_lt (components f) output) (sym func.1) ∙ row_fails (λ r. output == 0 || nat_lt (components r.func) output) model name there.0 there.1 (sym outputs ∙ (passed model e h.accepted).output) in
-      let parts = or_parts (output == 0) (nat_lt (length func.0) output) fails in
-      record { consistent = h.consistent; row = there.0; found = there.1; funcs = func.0; vector = func.1; first = positive output (eqb-false output 0 parts.0); component = output_there func.0 output fails }
-    where
-      positive : (m : ℕ) → (m ≡ 0 → ⊥) → 0 < m
-      positive m ne = omega (arith, ne)
 
 -- the next number of rows fits
 pub next_row : (model : ModelValue) (name : List ℕ) (func : NamedFunc) (set : Set) → Accepts model (edit.AddRow name func set) → model.next.row + 1 ≤ LAST_NUMBER + 1

@@ -1,18 +1,17 @@
 -- What a plan of an edit holds: the contents that are to stand, each other than what stands, and
 -- the names that change.
-use Rattle.std.specs.Prelude.{◌≡◌, ◌≢◌, MatchOption, ℕ, List, All, Option, Some, None, map, filter, slice_get, ◌-◌, ◌<◌}
+use Rattle.std.specs.Prelude.{◌≡◌, ◌≢◌, MatchOption, ℕ, List, All, Option, Some, None, map, filter}
 use Rattle.std.specs.Option.{is_none}
 use Rattle.ratio_core.specs.Rational.{Rational}
 use Rattle.aff_core.specs.Function.{Function, with_coefficient}
 use Rattle.numbered.specs.declared.change.Change.{Change}
 use Rattle.user_model.specs.declared.edit.Edit.{Edit}
-use Rattle.user_model.specs.declared.function.UserFunc.TheVariants.{Affine, AffineVec}
 use Rattle.user_model.specs.declared.group.Group.{Group}
 use Rattle.user_model.specs.declared.group.GroupVar.{GroupVar}
 use Rattle.user_model.specs.declared.objective.Objective.{Objective}
 use Rattle.user_model.specs.declared.row.Row.{Row}
 use Rattle.user_model.specs.declared.undo.NextNumbers.{NextNumbers}
-use Rattle.user_model.specs.Model.{ModelValue, row_named}
+use Rattle.user_model.specs.Model.{ModelValue}
 use Rattle.user_model.specs.Edited.{group_number, row_number, with_constant}
 use Rattle.user_model.specs.Consistent.{IsConsistent, IsWithinLimits}
 use Rattle.user_model.specs.Refusals.{first_refusal}
@@ -74,21 +73,3 @@ gone changes = map (λ c. listed_as c.number None) (filter (λ c. is_none c.cont
 abbrev pub with_part : Part → Rational → Function → Function
 with_part (Coefficient at) value f = with_coefficient f at value
 with_part Constant value f = with_constant f value
-
--- the row with a name stands, and is scalar affine
-pub record HasAffineRow (model : ModelValue) (name : List ℕ) : Type 0 where
-  pub consistent : IsConsistent model
-  pub row : Row
-  pub found : row_named model name ≡ Some row
-  pub func : Function
-  pub affine : row.func ≡ Affine func
-
--- the row with a name stands, and is vector affine with this output, counted from 1
-pub record HasOutput (model : ModelValue) (name : List ℕ) (output : ℕ) : Type 0 where
-  pub consistent : IsConsistent model
-  pub row : Row
-  pub found : row_named model name ≡ Some row
-  pub funcs : List Function
-  pub vector : row.func ≡ AffineVec funcs
-  pub first : 0 < output
-  pub component : (func : Function) × (slice_get funcs (output - 1) ≡ Some func)

@@ -8,15 +8,16 @@ ghost use Rattle.set_core.specs.Shapes.{resized};
 ghost use Rattle.user_model.specs.declared.edit.Edit.TheVariants.{DeleteVariable};
 ghost use Rattle.model_laws.specs.ItemChanges.{edits_of};
 ghost use Rattle.user_model.specs.Functions.{func_mentions, has_term};
-ghost use Rattle.model_plans.specs.Plans.{Accepts, IsChange, Leads, gone};
+ghost use Rattle.user_model.specs.Consistent.{IsConsistent};
+ghost use Rattle.model_refusals.specs.Accepted.{IsGrouped};
+ghost use Rattle.model_plans.specs.Plans.{IsChange, Leads, gone};
 
-use crate::found;
 use crate::made_lists::only;
 use crate::plan::Plan;
 use aff_core::{Address, Aff, Root, VecAff, has_address, without_address};
 use lists::Duplicate;
 use model_catalog::{Catalog, NameChange};
-use name_index::Name;
+use model_refusals::GroupedVariable;
 use numbered::Change;
 use ratio_core::{Memory, Ratio};
 use set_core::Set;
@@ -25,18 +26,18 @@ use user_model::{Group, GroupVar, GroupVars, Objective, Row, UserFunc};
 
 /// The model without a variable. It goes once over the rows, and copies those that mention it, the
 /// variable's group, and the objective where it mentions it.
-pub(crate) fn delete(alloc: Global, model: &Catalog, var: &Name) -> Result<Plan, Memory>
-    requires { Accepts model.now.model (DeleteVariable var.now) }
+pub(crate) fn delete(alloc: Global, model: &Catalog, var: &GroupedVariable) -> Result<Plan, Memory>
+    requires consistent { IsConsistent model.now.model }
+    requires var { IsGrouped model.now.model var.now }
     ensures { IfOk result (Leads model.now.model
-        (edited model.now.model (DeleteVariable var.now))) }
+        (edited model.now.model (DeleteVariable var.now.name.now))) }
 {
-    let variable = found::variable(model, var);
-    let at = Address::root(Root::Variable, variable.number);
+    let at = Address::root(Root::Variable, var.number);
     let change = Change {
-        number: variable.group.id,
-        content: group_without(alloc, variable.group, variable.number)?,
+        number: var.group.id,
+        content: group_without(alloc, var.group, var.number)?,
     };
-    let listed = only(alloc, NameChange::new(variable.number, None))?;
+    let listed = only(alloc, NameChange::new(var.number, None))?;
     let mut plan = Plan::of_group_change(alloc, change, listed, model.next())?;
     plan.exchange.rows = rows_without(alloc, model.rows(), &at)?;
     plan.names.rows = gone_rows(alloc, &plan.exchange.rows)?;

@@ -1,16 +1,16 @@
 //! Plans of the edits of one group.
-ghost use Rattle.std.specs.Prelude.{◌≡◌, ◌+◌, ◌<◌, ◌^◌, IfOk, IsSome, length, map};
+ghost use Rattle.std.specs.Prelude.{◌≡◌, ◌+◌, ◌<◌, ◌^◌, IfOk, length, map};
 ghost use Rattle.user_model.specs.Edited.{change_group, edited, numbered_from, renamed, with_variable};
 ghost use Rattle.user_model.specs.Consistent.{IsConsistent};
-ghost use Rattle.user_model.specs.Model.{variable_named};
 ghost use Rattle.user_model.specs.declared.edit.Edit.TheVariants.{AddGroup, FreeGroup, RenameVariable, Reset};
+ghost use Rattle.model_refusals.specs.Accepted.{IsGrouped};
 ghost use Rattle.model_plans.specs.Plans.{Accepts, Leads, listed_variables};
 
-use crate::found;
 use crate::made_lists::only;
 use crate::plan::Plan;
 use lists::Duplicate;
 use model_catalog::{Catalog, NameChange};
+use model_refusals::GroupedVariable;
 use name_index::{Name, Names};
 use ratio_core::Memory;
 use set_core::Set;
@@ -18,10 +18,10 @@ use std::alloc::Global;
 use user_model::{Group, GroupVar, GroupVars, NextNumbers};
 
 /// A new group. Each name is copied into the group and into the listing.
-pub(crate) fn add(alloc: Global, model: &Catalog, names: &Names, set: Set) -> Result<Plan, Memory>
-    requires { Accepts model.now.model (AddGroup names.now set) }
+pub(crate) fn add(alloc: Global, model: &Catalog, names: &Names, set: &Set) -> Result<Plan, Memory>
+    requires { Accepts model.now.model (AddGroup names.now set.now) }
     ensures { IfOk result (Leads model.now.model
-        (edited model.now.model (AddGroup names.now set))) }
+        (edited model.now.model (AddGroup names.now set.now))) }
 {
     let next = model.next();
     let vars = numbered_vars(alloc, names, next.variable)?;
@@ -34,7 +34,7 @@ pub(crate) fn add(alloc: Global, model: &Catalog, names: &Names, set: Set) -> Re
     let group = Group {
         id: next.group,
         vars: GroupVars::from_vec(vars),
-        set,
+        set: set.copy(alloc)?,
     };
     Plan::of_group(alloc, group, listed, after)
 }
@@ -70,54 +70,72 @@ fn listed_vars(alloc: Global, vars: &[GroupVar]) -> Result<Vec<NameChange>, Memo
 /// Another creation set of a group of one variable. It copies the group, or nothing where the set
 /// stays.
 #[tactic(auto, unfolding(user_model::specs::Edited::edited))]
-pub(crate) fn reset(alloc: Global, model: &Catalog, var: &Name, set: Set) -> Result<Plan, Memory>
-    requires { Accepts model.now.model (Reset var.now set) }
-    ensures { IfOk result (Leads model.now.model (edited model.now.model (Reset var.now set))) }
+pub(crate) fn reset(
+    alloc: Global,
+    model: &Catalog,
+    var: &GroupedVariable,
+    set: &Set,
+) -> Result<Plan, Memory>
+    requires consistent { IsConsistent model.now.model }
+    requires var { IsGrouped model.now.model var.now }
+    ensures { IfOk result (Leads model.now.model
+        (edited model.now.model (Reset var.now.name.now set.now))) }
 {
     with_set(alloc, model, var, set)
 }
 
 /// A group of one variable becomes free. It copies the group, or nothing where it is free.
 #[tactic(auto, unfolding(user_model::specs::Edited::edited))]
-pub(crate) fn free(alloc: Global, model: &Catalog, var: &Name) -> Result<Plan, Memory>
-    requires { Accepts model.now.model (FreeGroup var.now) }
-    ensures { IfOk result (Leads model.now.model (edited model.now.model (FreeGroup var.now))) }
+pub(crate) fn free(alloc: Global, model: &Catalog, var: &GroupedVariable) -> Result<Plan, Memory>
+    requires consistent { IsConsistent model.now.model }
+    requires var { IsGrouped model.now.model var.now }
+    ensures { IfOk result (Leads model.now.model
+        (edited model.now.model (FreeGroup var.now.name.now))) }
 {
-    with_set(alloc, model, var, Set::Reals { dimension: 1 })
+    with_set(alloc, model, var, &Set::Reals { dimension: 1 })
 }
 
 // Another set of the group of a variable.
-fn with_set(alloc: Global, model: &Catalog, var: &Name, set: Set) -> Result<Plan, Memory>
+fn with_set(
+    alloc: Global,
+    model: &Catalog,
+    var: &GroupedVariable,
+    set: &Set,
+) -> Result<Plan, Memory>
     requires consistent { IsConsistent model.now.model }
-    requires there { IsSome (variable_named model.now.model var.now) }
+    requires var { IsGrouped model.now.model var.now }
     ensures { IfOk result (Leads model.now.model
-        (with_variable model.now.model var.now
-        (λ n. change_group model.now.model n (λ g. record g { set = set })))) }
+        (with_variable model.now.model var.now.name.now
+        (λ n. change_group model.now.model n (λ g. record g { set = set.now })))) }
 {
-    let variable = found::variable(model, var);
-    if variable.group.set == set {
+    if var.group.set == *set {
         return Ok(Plan::unchanged(alloc, model.next()));
     }
-    let mut group = variable.group.copy(alloc)?;
-    group.set = set;
+    let mut group = var.group.copy(alloc)?;
+    group.set = set.copy(alloc)?;
     Plan::of_group(alloc, group, Vec::new(alloc), model.next())
 }
 
 /// Another name of a variable. It copies the variable's group.
-pub(crate) fn rename(alloc: Global, model: &Catalog, old: &Name, new: Name) -> Result<Plan, Memory>
-    requires { Accepts model.now.model (RenameVariable old.now new) }
+pub(crate) fn rename(
+    alloc: Global,
+    model: &Catalog,
+    var: &GroupedVariable,
+    new: &Name,
+) -> Result<Plan, Memory>
+    requires accepts { Accepts model.now.model (RenameVariable var.now.name.now new.now) }
+    requires var { IsGrouped model.now.model var.now }
     ensures { IfOk result (Leads model.now.model
-        (edited model.now.model (RenameVariable old.now new))) }
+        (edited model.now.model (RenameVariable var.now.name.now new.now))) }
 {
-    let variable = found::variable(model, old);
-    let group = variable.group;
-    let vars = renamed_vars(alloc, group.vars.as_slice(), variable.number, &new)?;
+    let group = var.group;
+    let vars = renamed_vars(alloc, group.vars.as_slice(), var.number, new)?;
     let group = Group {
         id: group.id,
         vars: GroupVars::from_vec(vars),
         set: group.set.copy(alloc)?,
     };
-    let listed = only(alloc, NameChange::new(variable.number, Some(new)))?;
+    let listed = only(alloc, NameChange::new(var.number, Some(new.copy()?)))?;
     Plan::of_group(alloc, group, listed, model.next())
 }
 

@@ -2,7 +2,6 @@
 #![tactic(auto)]
 
 mod deletion;
-mod found;
 mod groups;
 mod located;
 mod made_lists;

@@ -1,16 +1,19 @@
 //! Plans of the edits of the objective.
-ghost use Rattle.std.specs.Prelude.{◌≡◌, ◌≢◌, IfOk, MatchBool, true};
+ghost use Rattle.std.specs.Prelude.{◌≡◌, ◌≢◌, IfOk, MatchBool};
 ghost use Rattle.user_model.specs.Edited.{edited, objective_of, on_objective};
 ghost use Rattle.user_model.specs.Consistent.{IsConsistent};
-ghost use Rattle.user_model.specs.Refusals.{IsKnown, is_affine_objective};
+ghost use Rattle.user_model.specs.Refusals.{IsKnown};
 ghost use Rattle.user_model.specs.declared.edit.Edit.TheVariants as edit;
+ghost use Rattle.user_model.specs.declared.objective.Objective.TheVariants as objective;
+ghost use Rattle.model_refusals.specs.Accepted.{IsVariable};
 ghost use Rattle.model_plans.specs.Plans.{Accepts, Leads, with_part};
 
 use crate::located::{address_named, affine};
 use crate::parts::{Part, replaced};
 use crate::plan::Plan;
+use aff_core::Aff;
 use model_catalog::Catalog;
-use name_index::Name;
+use model_refusals::NamedVariable;
 use ratio_core::{Memory, Ratio};
 use std::alloc::Global;
 use user_model::{NamedFunc, Objective, Sense};
@@ -89,39 +92,61 @@ fn same_objective(one: &Objective, other: &Objective) -> bool
 
 /// Another coefficient of the affine objective. It copies the function, or nothing where the
 /// coefficient stays.
-#[tactic(auto, unfolding(user_model::specs::Edited::edited))]
-pub(crate) fn coef(alloc: Global, model: &Catalog, var: &Name, value: Ratio) -> Result<Plan, Memory>
-    requires { Accepts model.now.model (edit.ObjCoef var.now value) }
+pub(crate) fn coef(
+    alloc: Global,
+    model: &Catalog,
+    sense: Sense,
+    func: &Aff,
+    var: &NamedVariable,
+    value: Ratio,
+) -> Result<Plan, Memory>
+    requires objective { model.now.model.objective ≡ objective.Affine sense func.now }
+    requires var { IsVariable model.now.model var.now }
     ensures { IfOk result (Leads model.now.model
-        (edited model.now.model (edit.ObjCoef var.now value))) }
+        (edited model.now.model (edit.ObjCoef var.now.name.now value))) }
 {
-    let part = Part::Coefficient(address_named(model, var));
-    with_part_of(alloc, model, &part, value)
+    with_part_of(
+        alloc,
+        model,
+        sense,
+        func,
+        &Part::Coefficient(var.address()),
+        value,
+    )
 }
 
 /// Another constant of the affine objective. It copies the function, or nothing where the constant
 /// stays.
 #[tactic(auto, unfolding(user_model::specs::Edited::edited))]
-pub(crate) fn constant(alloc: Global, model: &Catalog, value: Ratio) -> Result<Plan, Memory>
-    requires { Accepts model.now.model (edit.ObjConstant value) }
+pub(crate) fn constant(
+    alloc: Global,
+    model: &Catalog,
+    sense: Sense,
+    func: &Aff,
+    value: Ratio,
+) -> Result<Plan, Memory>
+    requires { model.now.model.objective ≡ objective.Affine sense func.now }
     ensures { IfOk result (Leads model.now.model
         (edited model.now.model (edit.ObjConstant value))) }
 {
-    with_part_of(alloc, model, &Part::Constant, value)
+    with_part_of(alloc, model, sense, func, &Part::Constant, value)
 }
 
-fn with_part_of(alloc: Global, model: &Catalog, part: &Part, value: Ratio) -> Result<Plan, Memory>
-    requires { is_affine_objective model.now.model.objective ≡ true }
+fn with_part_of(
+    alloc: Global,
+    model: &Catalog,
+    sense: Sense,
+    func: &Aff,
+    part: &Part,
+    value: Ratio,
+) -> Result<Plan, Memory>
+    requires { model.now.model.objective ≡ objective.Affine sense func.now }
     ensures { IfOk result (Leads model.now.model
         (record model.now.model {
           objective = on_objective
               (with_part part.now value) model.now.model.objective;
         })) }
 {
-    let Objective::Affine { sense, func } = model.objective() else {
-        unreachable!()
-    };
-    let sense = *sense;
     let objective = replaced(func, part, value)?.map(|func| Objective::Affine { sense, func });
     Ok(Plan::of_objective(alloc, objective, model.next()))
 }

@@ -3,15 +3,17 @@ ghost use Rattle.std.specs.Prelude.{◌≡◌, ◌∷◌, [], IfOk, None};
 ghost use Rattle.std.specs.Option.{option_to_list};
 ghost use Rattle.user_model.specs.Edited.{edited, group_number, row_number};
 ghost use Rattle.model_laws.specs.ItemChanges.{set_to};
+ghost use Rattle.model_refusals.specs.Accepted.{IsFound, edit_of};
 ghost use Rattle.model_plans.specs.Plans.{Accepts, HasParts, Leads};
 
 use crate::made_lists::only;
 use crate::{deletion, groups, objective, rows};
 use model_catalog::{Catalog, Exchange, NameChange, NameChanges};
+use model_refusals::AcceptedEdit;
 use numbered::Change;
 use ratio_core::Memory;
 use std::alloc::Global;
-use user_model::{Edit, Group, NextNumbers, Objective, Row};
+use user_model::{Group, NextNumbers, Objective, Row};
 
 /// What is to stand in the model, each content other than what stands there, and the names that
 /// change.
@@ -125,35 +127,56 @@ impl Plan {
 
 /// The plan of an edit that is not refused. It fails for want of memory alone. Only the row, the
 /// group or the objective that changes is copied, and the deletion of a variable goes once over the
-/// rows. What stays as it is, is in no plan.
-pub fn planned(alloc: Global, model: &Catalog, edit: Edit) -> Result<Plan, Memory>
-    requires { Accepts model.now.model edit }
-    ensures { IfOk result (Leads model.now.model (edited model.now.model edit)) }
+/// rows. What stays as it is, is in no plan. What the edit names was found; the variables of a new
+/// row or objective are looked up as its function is made.
+pub fn planned(alloc: Global, model: &Catalog, edit: &AcceptedEdit) -> Result<Plan, Memory>
+    requires accepts { Accepts model.now.model (edit_of edit.now) }
+    requires found { IsFound model.now.model edit.now }
+    ensures { IfOk result (Leads model.now.model
+        (edited model.now.model (edit_of edit.now))) }
 {
     match edit {
-        Edit::AddGroup { names, set } => groups::add(alloc, model, &names, set),
-        Edit::AddRow { name, func, set } => rows::add(alloc, model, name, &func, set),
-        Edit::Objective { sense, func } => objective::set(alloc, model, sense, &func),
-        Edit::Feasibility => Ok(objective::feasibility(alloc, model)),
-        Edit::Coef { row, var, value } => rows::coef(alloc, model, &row, &var, value),
-        Edit::VecCoef {
+        AcceptedEdit::AddGroup { names, set } => groups::add(alloc, model, names, set),
+        AcceptedEdit::AddRow { name, func, set } => rows::add(alloc, model, name, func, set),
+        AcceptedEdit::Objective { sense, func } => objective::set(alloc, model, *sense, func),
+        AcceptedEdit::Feasibility => Ok(objective::feasibility(alloc, model)),
+        AcceptedEdit::Coef {
             row,
-            output,
+            func,
             var,
             value,
-        } => { rows::vec_coef(alloc, model, &row, output, &var, value) }
-        Edit::ObjCoef { var, value } => objective::coef(alloc, model, &var, value),
-        Edit::Constant { row, value } => rows::constant(alloc, model, &row, value),
-        Edit::VecConstant { row, output, value } => {
-            rows::vec_constant(alloc, model, &row, output, value)
+        } => rows::coef(alloc, model, row, func, var, *value),
+        AcceptedEdit::VecCoef {
+            row,
+            output,
+            component,
+            var,
+            value,
+        } => rows::vec_coef(alloc, model, row, *output, component, var, *value),
+        AcceptedEdit::ObjCoef {
+            sense,
+            func,
+            var,
+            value,
+        } => objective::coef(alloc, model, *sense, func, var, *value),
+        AcceptedEdit::Constant { row, func, value } => {
+            rows::constant(alloc, model, row, func, *value)
         }
-        Edit::ObjConstant { value } => objective::constant(alloc, model, value),
-        Edit::RowSet { row, set } => rows::set(alloc, model, &row, set),
-        Edit::Reset { var, set } => groups::reset(alloc, model, &var, set),
-        Edit::FreeGroup { var } => groups::free(alloc, model, &var),
-        Edit::DeleteVariable { var } => deletion::delete(alloc, model, &var),
-        Edit::DeleteRow { row } => rows::delete(alloc, model, &row),
-        Edit::RenameVariable { old, new } => groups::rename(alloc, model, &old, new),
-        Edit::RenameRow { old, new } => rows::rename(alloc, model, &old, new),
+        AcceptedEdit::VecConstant {
+            row,
+            output,
+            component,
+            value,
+        } => rows::vec_constant(alloc, model, row, *output, component, *value),
+        AcceptedEdit::ObjConstant { sense, func, value } => {
+            objective::constant(alloc, model, *sense, func, *value)
+        }
+        AcceptedEdit::RowSet { row, set } => rows::set(alloc, model, row, set),
+        AcceptedEdit::Reset { var, set } => groups::reset(alloc, model, var, set),
+        AcceptedEdit::FreeGroup { var } => groups::free(alloc, model, var),
+        AcceptedEdit::DeleteVariable { var } => deletion::delete(alloc, model, var),
+        AcceptedEdit::DeleteRow { row } => rows::delete(alloc, model, row),
+        AcceptedEdit::RenameVariable { var, new } => groups::rename(alloc, model, var, new),
+        AcceptedEdit::RenameRow { row, new } => rows::rename(alloc, model, row, new),
     }
 }

@@ -1,17 +1,21 @@
 //! Plans of the edits of one row.
-ghost use Rattle.std.specs.Prelude.{◌∷◌, [], IfOk, None};
+ghost use Rattle.std.specs.Prelude.{◌≡◌, ◌∷◌, [], IfOk, None};
 ghost use Rattle.user_model.specs.Edited.{edited, change_function, on_affine, on_output, row_number};
 ghost use Rattle.user_model.specs.declared.edit.Edit.TheVariants.{AddRow, Coef, VecCoef, Constant, VecConstant, RowSet, DeleteRow, RenameRow};
 ghost use Rattle.model_laws.specs.ItemChanges.{set_to};
-ghost use Rattle.model_plans.specs.Plans.{Accepts, HasAffineRow, HasOutput, HasParts, Leads, with_part};
+ghost use Rattle.user_model.specs.Consistent.{IsConsistent};
+ghost use Rattle.user_model.specs.declared.function.UserFunc.TheVariants.{Affine, AffineVec};
+ghost use Rattle.model_refusals.specs.Accepted.{IsComponent, IsRow, IsVariable};
+ghost use Rattle.model_plans.specs.Plans.{Accepts, HasParts, Leads, with_part};
 
-use crate::found;
-use crate::located::{address_named, located};
+use crate::located::located;
 use crate::made_lists::with_component;
 use crate::parts::{Part, replaced};
 use crate::plan::Plan;
+use aff_core::Aff;
 use lists::Duplicate;
 use model_catalog::{Catalog, NameChange};
+use model_refusals::{Component, NamedRow, NamedVariable};
 use name_index::Name;
 use numbered::Change;
 use ratio_core::{Memory, Ratio};
@@ -20,25 +24,25 @@ use std::alloc::Global;
 use user_model::{NamedFunc, NextNumbers, Row, UserFunc};
 
 /// A new row. Its function is made anew over the addresses of its variables, and its name is copied
-/// into the listed names.
+/// into the row and into the listed names.
 pub(crate) fn add(
     alloc: Global,
     model: &Catalog,
-    name: Name,
+    name: &Name,
     func: &NamedFunc,
-    set: Set,
+    set: &Set,
 ) -> Result<Plan, Memory>
-    requires { Accepts model.now.model (AddRow name func.now set) }
+    requires { Accepts model.now.model (AddRow name.now func.now set.now) }
     ensures { IfOk result (Leads model.now.model
-        (edited model.now.model (AddRow name func.now set))) }
+        (edited model.now.model (AddRow name.now func.now set.now))) }
 {
     let next = model.next();
     let listed = NameChange::new(next.row, Some(name.copy()?));
     let row = Row {
         id: next.row,
-        name,
+        name: name.copy()?,
         func: located(alloc, model, func)?,
-        set,
+        set: set.copy(alloc)?,
     };
     let after = NextNumbers {
         group: next.group,
@@ -50,20 +54,29 @@ pub(crate) fn add(
 
 /// Another coefficient of a scalar affine row. It copies the row, or nothing where the coefficient
 /// stays.
-#[tactic(auto, unfolding(user_model::specs::Edited::edited))]
 pub(crate) fn coef(
     alloc: Global,
     model: &Catalog,
-    row: &Name,
-    var: &Name,
+    row: &NamedRow,
+    func: &Aff,
+    var: &NamedVariable,
     value: Ratio,
 ) -> Result<Plan, Memory>
-    requires { Accepts model.now.model (Coef row.now var.now value) }
+    requires consistent { IsConsistent model.now.model }
+    requires row { IsRow model.now.model row.now }
+    requires affine { row.now.row.now.func ≡ Affine func.now }
+    requires var { IsVariable model.now.model var.now }
     ensures { IfOk result (Leads model.now.model
-        (edited model.now.model (Coef row.now var.now value))) }
+        (edited model.now.model (Coef row.now.name.now var.now.name.now value))) }
 {
-    let part = Part::Coefficient(address_named(model, var));
-    scalar(alloc, model, row, &part, value)
+    scalar(
+        alloc,
+        model,
+        row,
+        func,
+        &Part::Coefficient(var.address()),
+        value,
+    )
 }
 
 /// Another constant of a scalar affine row. It copies the row, or nothing where the constant stays.
@@ -71,55 +84,69 @@ pub(crate) fn coef(
 pub(crate) fn constant(
     alloc: Global,
     model: &Catalog,
-    row: &Name,
+    row: &NamedRow,
+    func: &Aff,
     value: Ratio,
 ) -> Result<Plan, Memory>
-    requires { Accepts model.now.model (Constant row.now value) }
+    requires consistent { IsConsistent model.now.model }
+    requires row { IsRow model.now.model row.now }
+    requires affine { row.now.row.now.func ≡ Affine func.now }
     ensures { IfOk result (Leads model.now.model
-        (edited model.now.model (Constant row.now value))) }
+        (edited model.now.model (Constant row.now.name.now value))) }
 {
-    scalar(alloc, model, row, &Part::Constant, value)
+    scalar(alloc, model, row, func, &Part::Constant, value)
 }
 
 // Another coefficient or constant of a scalar affine row.
 fn scalar(
     alloc: Global,
     model: &Catalog,
-    row: &Name,
+    row: &NamedRow,
+    func: &Aff,
     part: &Part,
     value: Ratio,
 ) -> Result<Plan, Memory>
-    requires { HasAffineRow model.now.model row.now }
+    requires consistent { IsConsistent model.now.model }
+    requires row { IsRow model.now.model row.now }
+    requires affine { row.now.row.now.func ≡ Affine func.now }
     ensures { IfOk result (Leads model.now.model
-        (change_function model.now.model row.now (on_affine (with_part part.now value)))) }
+        (change_function model.now.model row.now.name.now
+        (on_affine (with_part part.now value)))) }
 {
-    let row = found::row(model, row);
-    let UserFunc::Affine(func) = &row.func else {
-        unreachable!()
-    };
     match replaced(func, part, value)? {
-        Some(func) => with_function(alloc, model, row, UserFunc::Affine(func)),
+        Some(func) => with_function(alloc, model, row.row, UserFunc::Affine(func)),
         None => Ok(Plan::unchanged(alloc, model.next())),
     }
 }
 
 /// Another coefficient of a component of a vector affine row. It copies the row, or nothing where
 /// the coefficient stays.
-#[tactic(auto, unfolding(user_model::specs::Edited::edited))]
 pub(crate) fn vec_coef(
     alloc: Global,
     model: &Catalog,
-    row: &Name,
+    row: &NamedRow,
     output: u32,
-    var: &Name,
+    component: &Component,
+    var: &NamedVariable,
     value: Ratio,
 ) -> Result<Plan, Memory>
-    requires { Accepts model.now.model (VecCoef row.now output var.now value) }
+    requires consistent { IsConsistent model.now.model }
+    requires row { IsRow model.now.model row.now }
+    requires vector { row.now.row.now.func ≡ AffineVec component.now.funcs.now }
+    requires component { IsComponent output component.now }
+    requires var { IsVariable model.now.model var.now }
     ensures { IfOk result (Leads model.now.model
-        (edited model.now.model (VecCoef row.now output var.now value))) }
+        (edited model.now.model (VecCoef row.now.name.now output var.now.name.now value))) }
 {
-    let part = Part::Coefficient(address_named(model, var));
-    vector(alloc, model, row, output, &part, value)
+    vector(
+        alloc,
+        model,
+        row,
+        output,
+        component,
+        &Part::Coefficient(var.address()),
+        value,
+    )
 }
 
 /// Another constant of a component of a vector affine row. It copies the row, or nothing where the
@@ -128,42 +155,44 @@ pub(crate) fn vec_coef(
 pub(crate) fn vec_constant(
     alloc: Global,
     model: &Catalog,
-    row: &Name,
+    row: &NamedRow,
     output: u32,
+    component: &Component,
     value: Ratio,
 ) -> Result<Plan, Memory>
-    requires { Accepts model.now.model (VecConstant row.now output value) }
+    requires consistent { IsConsistent model.now.model }
+    requires row { IsRow model.now.model row.now }
+    requires vector { row.now.row.now.func ≡ AffineVec component.now.funcs.now }
+    requires component { IsComponent output component.now }
     ensures { IfOk result (Leads model.now.model
-        (edited model.now.model (VecConstant row.now output value))) }
+        (edited model.now.model (VecConstant row.now.name.now output value))) }
 {
-    vector(alloc, model, row, output, &Part::Constant, value)
+    vector(alloc, model, row, output, component, &Part::Constant, value)
 }
 
 // Another coefficient or constant of a component of a vector affine row.
 fn vector(
     alloc: Global,
     model: &Catalog,
-    row: &Name,
+    row: &NamedRow,
     output: u32,
+    component: &Component,
     part: &Part,
     value: Ratio,
 ) -> Result<Plan, Memory>
-    requires { HasOutput model.now.model row.now output }
+    requires consistent { IsConsistent model.now.model }
+    requires row { IsRow model.now.model row.now }
+    requires vector { row.now.row.now.func ≡ AffineVec component.now.funcs.now }
+    requires component { IsComponent output component.now }
     ensures { IfOk result (Leads model.now.model
-        (change_function model.now.model row.now (on_output output (with_part part.now value)))) }
+        (change_function model.now.model row.now.name.now
+        (on_output output (with_part part.now value)))) }
 {
-    let row = found::row(model, row);
-    let UserFunc::AffineVec(funcs) = &row.func else {
-        unreachable!()
-    };
-    let place = output as usize - 1;
-    let Some(func) = funcs.get(place) else {
-        unreachable!()
-    };
-    match replaced(func, part, value)? {
+    match replaced(component.func, part, value)? {
         Some(func) => {
-            let funcs = with_component(alloc, funcs.as_slice(), place, func)?;
-            with_function(alloc, model, row, UserFunc::AffineVec(funcs))
+            let funcs = component.funcs.as_slice();
+            let funcs = with_component(alloc, funcs, component.place, func)?;
+            with_function(alloc, model, row.row, UserFunc::AffineVec(funcs))
         }
         None => Ok(Plan::unchanged(alloc, model.next())),
     }
@@ -184,51 +213,62 @@ fn with_function(alloc: Global, model: &Catalog, row: &Row, func: UserFunc) -> R
 }
 
 /// Another set of a row. It copies the row, or nothing where the set stays.
-pub(crate) fn set(alloc: Global, model: &Catalog, row: &Name, set: Set) -> Result<Plan, Memory>
-    requires { Accepts model.now.model (RowSet row.now set) }
-    ensures { IfOk result (Leads model.now.model (edited model.now.model (RowSet row.now set))) }
+pub(crate) fn set(alloc: Global, model: &Catalog, row: &NamedRow, set: &Set) -> Result<Plan, Memory>
+    requires consistent { IsConsistent model.now.model }
+    requires row { IsRow model.now.model row.now }
+    ensures { IfOk result (Leads model.now.model
+        (edited model.now.model (RowSet row.now.name.now set.now))) }
 {
-    let row = found::row(model, row);
-    if row.set == set {
+    let row = row.row;
+    if row.set == *set {
         return Ok(Plan::unchanged(alloc, model.next()));
     }
     let row = Row {
         id: row.id,
         name: row.name.copy()?,
         func: row.func.copy(alloc)?,
-        set,
+        set: set.copy(alloc)?,
     };
     Plan::of_row(alloc, row, None, model.next())
 }
 
 /// A row goes. Nothing is copied.
-pub(crate) fn delete(alloc: Global, model: &Catalog, row: &Name) -> Result<Plan, Memory>
-    requires { Accepts model.now.model (DeleteRow row.now) }
-    ensures { IfOk result (Leads model.now.model (edited model.now.model (DeleteRow row.now))) }
+pub(crate) fn delete(alloc: Global, model: &Catalog, row: &NamedRow) -> Result<Plan, Memory>
+    requires consistent { IsConsistent model.now.model }
+    requires row { IsRow model.now.model row.now }
+    ensures { IfOk result (Leads model.now.model
+        (edited model.now.model (DeleteRow row.now.name.now))) }
 {
-    let row = found::row(model, row);
+    let number = row.row.id;
     let change = Change {
-        number: row.id,
+        number,
         content: None,
     };
     Plan::of_row_change(
         alloc,
         change,
-        Some(NameChange::new(row.id, None)),
+        Some(NameChange::new(number, None)),
         model.next(),
     )
 }
 
 /// Another name of a row. It copies the row.
-pub(crate) fn rename(alloc: Global, model: &Catalog, old: &Name, new: Name) -> Result<Plan, Memory>
-    requires { Accepts model.now.model (RenameRow old.now new) }
-    ensures { IfOk result (Leads model.now.model (edited model.now.model (RenameRow old.now new))) }
+pub(crate) fn rename(
+    alloc: Global,
+    model: &Catalog,
+    row: &NamedRow,
+    new: &Name,
+) -> Result<Plan, Memory>
+    requires accepts { Accepts model.now.model (RenameRow row.now.name.now new.now) }
+    requires row { IsRow model.now.model row.now }
+    ensures { IfOk result (Leads model.now.model
+        (edited model.now.model (RenameRow row.now.name.now new.now))) }
 {
-    let row = found::row(model, old);
+    let row = row.row;
     let listed = NameChange::new(row.id, Some(new.copy()?));
     let row = Row {
         id: row.id,
-        name: new,
+        name: new.copy()?,
         func: row.func.copy(alloc)?,
         set: row.set.copy(alloc)?,
     };

@@ -1,9 +1,7 @@
 -- The counts of an edit that adds a function, and how its first refusal follows from those of its parts.
-use Rattle.std.specs.Prelude.{◌≡◌, ℕ, zero, suc, ◌+◌, ◌-◌, ◌≤◌, ◌<◌, ◌==◌, ◌||◌, nat_lt, true, false, List, [], ◌∷◌, ◌++◌, length, sum, Option, Some, None, is_some, refl}
-use Rattle.std.specs.Option.{option_map_or}
-use Rattle.std.proofs.Common.{arith, ltb-false, sym, ap, ◌∙◌}
-use Rattle.std.proofs.lemmas.Bool.{both_ways, false≢true, or_parts}
-use Rattle.aff_core.specs.Function.{Function}
+use Rattle.std.specs.Prelude.{◌≡◌, ℕ, ◌+◌, ◌-◌, ◌≤◌, true, false, List, [], ◌∷◌, ◌++◌, length, sum, Option, Some, None, is_some, refl}
+use Rattle.std.proofs.Common.{sym, ap, ◌∙◌}
+use Rattle.std.proofs.lemmas.Bool.{both_ways}
 use Rattle.named_aff.specs.declared.aff.NamedAff.{NamedAff}
 use Rattle.set_core.specs.declared.set.Set.{Set}
 use Rattle.user_model.specs.declared.edit.Edit.TheVariants as edit
@@ -11,17 +9,15 @@ use Rattle.user_model.specs.declared.edit.NamedFunc.{NamedFunc}
 use Rattle.user_model.specs.declared.edit.NamedFunc.TheVariants as named
 use Rattle.user_model.specs.declared.objective.Objective.TheVariants as objective
 use Rattle.aff_core.specs.declared.sense.Sense.{Sense}
-use Rattle.user_model.specs.declared.function.UserFunc.TheVariants.{AffineVec}
 use Rattle.user_model.specs.declared.refusal.Refusal.{Refusal}
-use Rattle.user_model.specs.declared.row.Row.{Row}
 use Rattle.user_model.specs.Edited.{affine, edited, located, objective_of}
-use Rattle.user_model.specs.Functions.{all_terms, components, named_components, term_count, term_counts}
+use Rattle.user_model.specs.Functions.{all_terms, named_components, term_count, term_counts}
 use Rattle.user_model.specs.Limits.{ALL_TERMS, COMPONENTS, LAST_NUMBER, ROWS, TERMS}
-use Rattle.user_model.specs.Model.{ModelValue, objective_terms, row_named, total_terms}
-use Rattle.user_model.specs.Refusals.{counts, row_is, terms_of_objective, within}
+use Rattle.user_model.specs.Model.{ModelValue, objective_terms, total_terms}
+use Rattle.user_model.specs.Refusals.{counts, terms_of_objective, within}
 use Rattle.model_refusals.proofs.Counting.{not_above}
 use Rattle.model_refusals.proofs.Firsts.{first_found, first_full, first_later, first_within}
-use Rattle.model_refusals.specs.WellFormed.{with_change}
+use Rattle.model_refusals.specs.Changes.{with_change}
 use Rattle.model_refusals.proofs.Totals.{total-add_row, total-objective}
 
 -- where one of the first passes, it is the first of all
@@ -35,18 +31,6 @@ first_some xs ys e = by (first_full xs) refl e
 pub first_none : {X : Type 0} (o : Option X) → is_some o ≡ false → o ≡ None
 first_none None e = refl
 first_none (Some x) e = cc
-
--- an output that is not refused is one of the row's
-in_range : (output n : ℕ) → ((output == 0) || nat_lt n output) ≡ false → output - 1 < n
-in_range zero n e = absurd (false≢true (sym e))
-in_range (suc k) n e =
-    let parts = or_parts (suc k == 0) (nat_lt n (suc k)) e in
-    let le = ltb-false n (suc k) parts.1 in
-    omega arith
-
-pub output_there : (model : ModelValue) (name : List ℕ) (row : Row) (fs : List Function) (output : ℕ) → row_named model name ≡ Some row → row.func ≡ AffineVec fs → row_is (λ r. (output == 0) || nat_lt (components r.func) output) model name ≡ false → output - 1 < length fs
-output_there model name row fs output found affine_row e =
-    in_range output (length fs) (sym (ap (λ func. (output == 0) || nat_lt (components func) output) affine_row) ∙ (sym (ap (λ o. option_map_or (λ r. (output == 0) || nat_lt (components r.func) output) o false) found) ∙ e))
 
 module _ (model : ModelValue) where
   module _ (name : List ℕ) (func : NamedFunc) (set : Set) (few : named_components func ≤ COMPONENTS) where

@@ -1,6 +1,7 @@
 -- Lemmas that proofs cite.
 pub mod SeenNames
 pub mod Firsts
+pub mod FirstRefusals
 pub mod MarkLemmas
 pub mod NamedTerms
 pub mod ChangedTerms

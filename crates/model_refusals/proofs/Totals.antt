@@ -5,7 +5,6 @@ use Rattle.std.specs.Str.{bytes_eq}
 use Rattle.std.proofs.Common.{arith, ap, ap₂, subst, ◌∙◌}
 use Rattle.std.proofs.lemmas.Option.{same_Some}
 use Rattle.std.proofs.lemmas.List.Sums.{get_or-le-sum_by, sum_by_push, sum_by-cons}
-use Rattle.numbered.specs.Numbered as numbered
 use Rattle.numbered.specs.Numbered.{put}
 use Rattle.ratio_core.specs.Rational.{Rational}
 use Rattle.aff_core.specs.Function.{Function, with_coefficient}
@@ -30,7 +29,7 @@ use Rattle.model_laws.specs.Found.{found_stands}
 use Rattle.model_laws.specs.KeptRows.{row_terms}
 use Rattle.model_laws.specs.Located.{row_by_number}
 use Rattle.model_laws.specs.ByName.{affine_bounds, function_change, output_bounds}
-use Rattle.model_refusals.specs.WellFormed.{with_change}
+use Rattle.model_refusals.specs.Changes.{with_change}
 use Rattle.model_refusals.proofs.ChangedTerms.{sum-changed_at}
 
 module _ (model : ModelValue) (c : IsConsistent model) (name : List ℕ) (row : Row) (found : row_named model name ≡ Some row) where
@@ -138,9 +137,6 @@ module _ (model : ModelValue) where
       let new : on_objective h model.objective ≡ objective.Affine sense (h f) = ap (on_objective h) is in
       let total : total_terms (record model { objective = on_objective h model.objective }) ≡ total_terms model - term_count f + term_count (h f) = total-objective (on_objective h model.objective) ∙ ap₂ (λ o n. total_terms model - objective_terms o + objective_terms n) is new in
       ap₂ (λ o n. within TERMS (terms_of_objective o) ++ (n, ALL_TERMS) ∷ []) new total
-
-  pub obj_coef_part : (sense : Sense) (f : Function) → model.objective ≡ objective.Affine sense f → term_count f ≤ total_terms model
-  obj_coef_part sense f is = subst (λ o. objective_terms o ≤ total_terms model) is objective_part
 
   -- a new row
   pub total-add_row : (name : List ℕ) (func : NamedFunc) (set : Set) → total_terms (edited model (edit.AddRow name func set)) ≡ total_terms model + all_terms (located model func)

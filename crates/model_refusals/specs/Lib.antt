@@ -1,4 +1,6 @@
 -- What the contracts cite.
+pub mod Accepted
+pub mod Bounds
+pub mod Changes
 pub mod Hash
 pub mod Marked
-pub mod WellFormed

@@ -1,14 +1,19 @@
-//! Which refusal an edit of the user's model meets.
+//! Which refusal an edit of the user's model meets, and what an edit finds that meets none.
 #![tactic(auto)]
 
+mod accepted_edit;
 mod bounds;
 mod counted;
 mod full;
+mod group_edits;
 mod limits;
+mod lookups;
 mod marks;
-mod names_known;
+mod objective_edits;
 mod refusals;
+mod row_edits;
 mod shapes;
 mod twins;
 
-pub use refusals::first_refusal;
+pub use accepted_edit::{AcceptedEdit, Component, GroupedVariable, NamedRow, NamedVariable};
+pub use refusals::accepted;

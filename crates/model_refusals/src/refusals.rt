@@ -1,61 +1,49 @@
 //! Which refusal an edit meets.
-ghost use Rattle.std.specs.Prelude.{◌≡◌};
-ghost use Rattle.user_model.specs.Refusals.{first_refusal};
+ghost use Rattle.model_refusals.specs.Accepted.{IsAnswer};
 
-use crate::bounds::{
-    meets_bad_interval, meets_delete_not_allowed, meets_lower_bound_already_set,
-    meets_upper_bound_already_set,
-};
-use crate::full::first_full;
-use crate::names_known::{meets_name_taken, meets_unknown_name};
-use crate::shapes::{
-    meets_bad_dimension, meets_function_shape, meets_output_index, meets_set_type_mismatch,
-};
+use crate::{AcceptedEdit, group_edits, objective_edits, row_edits};
 use model_catalog::Catalog;
 use user_model::{Edit, Refusal};
 
-/// The first refusal that the edit meets, if any, in the order of `Refusal`: names that it needs,
-/// new names, shapes, dimensions, outputs, intervals, lower bounds, upper bounds, types of sets,
-/// variables of norm cones, and last the limits.
+/// The edit with what its names name, or the first refusal that it meets, in the order of
+/// `Refusal`: names that it needs, new names, shapes, dimensions, outputs, intervals, lower bounds,
+/// upper bounds, types of sets, variables of norm cones, and last the limits.
 ///
-/// It takes no memory, and the edit is not made for it. Each name of the edit is looked up.
+/// It takes no memory, and the edit is not made for it. Each name of the edit is looked up once.
 /// `AddGroup` compares its names where their hashes agree, `AddRow` and `Objective` count the terms
 /// that they bring, `Coef` and `ObjCoef` search a function for the variable, and `VecCoef` also
 /// reads how many terms each component of its row has. `DeleteVariable` reads all rows, for norm
 /// cones; no other edit reads a row that it doesn't name.
 #[tactic(auto, unfolding(user_model::specs::Refusals::first_refusal))]
-pub fn first_refusal(model: &Catalog, edit: &Edit) -> Option<Refusal>
-    ensures { result ≡ first_refusal model.now.model edit.now }
+pub fn accepted<'a>(model: &'a Catalog, edit: &'a Edit) -> Result<AcceptedEdit<'a>, Refusal>
+    ensures { IsAnswer model.now.model edit.now result }
 {
-    if meets_unknown_name(model, edit) {
-        return Some(Refusal::UnknownName);
+    // read first, since the limits rest on what `rows` ensures of the model
+    let _ = model.rows();
+    match edit {
+        Edit::AddGroup { names, set } => group_edits::add(model, names, set),
+        Edit::AddRow { name, func, set } => row_edits::add(model, name, func, set),
+        Edit::Objective { sense, func } => objective_edits::set(model, *sense, func),
+        Edit::Feasibility => Ok(AcceptedEdit::Feasibility),
+        Edit::Coef { row, var, value } => row_edits::coef(model, row, var, value),
+        Edit::VecCoef {
+            row,
+            output,
+            var,
+            value,
+        } => row_edits::vec_coef(model, row, *output, var, value),
+        Edit::ObjCoef { var, value } => objective_edits::coef(model, var, value),
+        Edit::Constant { row, value } => row_edits::constant(model, row, value),
+        Edit::VecConstant { row, output, value } => {
+            row_edits::vec_constant(model, row, *output, value)
+        }
+        Edit::ObjConstant { value } => objective_edits::constant(model, value),
+        Edit::RowSet { row, set } => row_edits::set(model, row, set),
+        Edit::Reset { var, set } => group_edits::reset(model, var, set),
+        Edit::FreeGroup { var } => group_edits::free(model, var),
+        Edit::DeleteVariable { var } => group_edits::delete_variable(model, var),
+        Edit::DeleteRow { row } => row_edits::delete(model, row),
+        Edit::RenameVariable { old, new } => group_edits::rename_variable(model, old, new),
+        Edit::RenameRow { old, new } => row_edits::rename(model, old, new),
     }
-    if meets_name_taken(model, edit) {
-        return Some(Refusal::NameTaken);
-    }
-    if meets_function_shape(model, edit) {
-        return Some(Refusal::FunctionShape);
-    }
-    if meets_bad_dimension(model, edit) {
-        return Some(Refusal::BadDimension);
-    }
-    if meets_output_index(model, edit) {
-        return Some(Refusal::OutputIndex);
-    }
-    if meets_bad_interval(edit) {
-        return Some(Refusal::BadInterval);
-    }
-    if meets_lower_bound_already_set(model, edit) {
-        return Some(Refusal::LowerBoundAlreadySet);
-    }
-    if meets_upper_bound_already_set(model, edit) {
-        return Some(Refusal::UpperBoundAlreadySet);
-    }
-    if meets_set_type_mismatch(model, edit) {
-        return Some(Refusal::SetTypeMismatch);
-    }
-    if meets_delete_not_allowed(model, edit) {
-        return Some(Refusal::DeleteNotAllowed);
-    }
-    first_full(model, edit)
 }

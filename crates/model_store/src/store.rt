@@ -16,7 +16,7 @@ use crate::parking::{NameCounts, park, reserve, take_last};
 use aff_core::{Address, Root};
 use model_catalog::{Catalog, Exchange};
 use model_plans::planned;
-use model_refusals::first_refusal;
+use model_refusals::accepted;
 use name_index::Name;
 use std::alloc::Global;
 use std::marker::Model;
@@ -116,9 +116,9 @@ impl UserModel {
         ensures { MatchResult result (λ _. refusals.first_refusal self.now.model edit.now ≡ None)
             (λ refusal. refusals.first_refusal self.now.model edit.now ≡ Some refusal) }
     {
-        match first_refusal(&self.catalog, edit) {
-            Some(refusal) => Err(refusal),
-            None => Ok(()),
+        match accepted(&self.catalog, edit) {
+            Ok(_) => Ok(()),
+            Err(refusal) => Err(refusal),
         }
     }
 
@@ -138,13 +138,14 @@ impl UserModel {
             ≡ refusals.first_refusal self.old.model edit) }
         ensures kept { OnErr result (self.new ≡ self.old) }
     {
-        if let Some(refusal) = first_refusal(&self.catalog, &edit) {
-            return Err(ApplyFault::Refused(refusal));
-        }
+        let found = match accepted(&self.catalog, &edit) {
+            Ok(found) => found,
+            Err(refusal) => return Err(ApplyFault::Refused(refusal)),
+        };
         // The plan asks for a consistent model within its limits, and the reader says that the kept
         // one is. It costs nothing.
         let _ = self.catalog.groups();
-        let Ok(plan) = planned(self.alloc, &self.catalog, edit) else {
+        let Ok(plan) = planned(self.alloc, &self.catalog, &found) else {
             return Err(ApplyFault::Memory);
         };
         let Ok(reserved) = reserve(&mut self.catalog, &mut self.parked, &plan, self.names) else {

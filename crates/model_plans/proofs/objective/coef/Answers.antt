@@ -1,9 +1,13 @@
-use Rattle.std.proofs.lemmas.Bool.{not-false}
-use Rattle.user_model.specs.declared.edit.Edit.TheVariants as edit
-use Rattle.user_model.specs.Refusals.{is_affine_objective}
-use Rattle.model_laws.specs.Passed.{passed}
+use Rattle.std.specs.Prelude.{IfOk, unwrap_or}
+use Rattle.std.proofs.Common.{sym, ap, subst, ◌∙◌}
+use Rattle.aff_core.specs.Function.{with_coefficient}
+use Rattle.user_model.specs.Edited.{edited, on_objective}
+use Rattle.user_model.specs.Model.{variable_address}
+use Rattle.model_plans.specs.Plans.{Leads}
 use Rattle.model_plans.proofs.objective.coef.Goals as goal
 
-pub with_part_of-requires : goal.with_part_of-requires
-with_part_of-requires c =
-    not-false (is_affine_objective c.args.model.now.model.objective) (passed c.args.model.now.model (edit.ObjCoef c.args.var.now c.args.value) c.requires.accepted).shaped
+pub returns : goal.returns
+unfolding edited
+returns c =
+    let model = c.args.model.now.model in
+    subst (λ at. IfOk c.with_part_of.result (Leads model (record model { objective = on_objective (λ f. with_coefficient f at c.args.value) model.objective }))) (c.address.ensures ∙ sym (ap (λ o. variable_address (unwrap_or o 0)) c.requires.var)) c.with_part_of.ensures

@@ -1,17 +1,12 @@
 use Rattle.std.proofs.Common.{◌∷◌, [], refl, ap}
-use Rattle.std.specs.Prelude.{is_some}
 use Rattle.std.proofs.lemmas.Result.{IfOk-weaker}
-use Rattle.user_model.specs.declared.edit.Edit.TheVariants as edit
 use Rattle.user_model.specs.Edited.{edited}
 use Rattle.model_plans.proofs.Leading.{parts_same}
-use Rattle.model_plans.proofs.RowPlans.{deleted_leads, row_there}
+use Rattle.model_plans.proofs.RowPlans.{deleted_leads}
 use Rattle.model_plans.proofs.rows.delete.Goals as goal
-
-pub row-row-requires : goal.row-row-requires
-row-row-requires c = ap is_some (row_there c.args.model.now.model (edit.DeleteRow c.args.row.now) c.args.row.now refl c.requires).1
 
 pub returns : goal.returns
 unfolding edited
 returns c =
     let model = c.args.model.now.model in
-    IfOk-weaker c.of_row_change.result _ _ (λ plan p. deleted_leads model plan c.requires.consistent c.args.row.now c.row-row.result.now c.row-row.ensures (parts_same p [] _ _ [] _ refl refl c.next.ensures refl (ap (λ l. l ∷ []) c.new.ensures))) c.of_row_change.ensures
+    IfOk-weaker c.of_row_change.result _ _ (λ plan p. deleted_leads model plan c.requires.consistent c.args.row.now.name.now c.args.row.now.row.now c.requires.row (parts_same p [] _ _ [] _ refl refl c.next.ensures refl (ap (λ l. l ∷ []) c.new.ensures))) c.of_row_change.ensures

@@ -8,15 +8,15 @@ pub returns-in-Some : goal.returns-in-Some
 returns-in-Some c =
     let model = c.args.model.now.model in
     let g = with_part c.args.part.now c.args.value in
-    let f = c.in-Affine.func in
+    let f = c.args.func.now in
     let made = subst (IsChange f (g f)) c.in-Some.is c.in_ok-func.ensures in
-    IfOk-weaker c.with_function.result _ _ (λ plan p. scalar_new model plan c.requires.consistent c.args.row.now c.row-row.result.now c.row-row.ensures g f c.in-Some.func c.in-Affine.is made.0 made.1 p) c.with_function.ensures
+    IfOk-weaker c.with_function.result _ _ (λ plan p. scalar_new model plan c.requires.consistent c.args.row.now.name.now c.args.row.now.row.now c.requires.row g f c.in-Some.func c.requires.affine made.0 made.1 p) c.with_function.ensures
 
 pub returns-in-None : goal.returns-in-None
 returns-in-None c =
     let model = c.args.model.now.model in
     let g = with_part c.args.part.now c.args.value in
-    let f = c.in-Affine.func in
+    let f = c.args.func.now in
     let made = subst (IsChange f (g f)) c.in-None.is c.in_ok-func.ensures in
-    scalar_same model c.unchanged.result c.requires.consistent c.args.row.now c.row-row.result.now c.row-row.ensures g f c.in-Affine.is made
+    scalar_same model c.unchanged.result c.requires.consistent c.args.row.now.name.now c.args.row.now.row.now c.requires.row g f c.requires.affine made
     (subst (λ n. HasParts c.unchanged.result [] [] None n [] []) c.next.ensures c.unchanged.ensures)

@@ -4,7 +4,7 @@ use Rattle.user_model.specs.declared.edit.NamedFunc.TheVariants as named
 use Rattle.user_model.specs.Limits.{ALL_TERMS}
 use Rattle.user_model.specs.Model.{objective_terms, total_terms}
 use Rattle.user_model.specs.Refusals.{IsKnown, counts}
-use Rattle.model_refusals.specs.WellFormed.{with_change}
+use Rattle.model_refusals.specs.Changes.{with_change}
 use Rattle.model_refusals.proofs.EditCounts.{no_objective_counts, objective_counts, plain_objective_counts}
 use Rattle.model_refusals.proofs.Firsts.{first_full}
 use Rattle.model_refusals.proofs.full.full_by_objective.Goals as goal
