@@ -1,5 +1,5 @@
 -- Numbers added to the sums of all variables, step by step.
-use Rattle.std.specs.Prelude.{◌≡◌, ℕ, ◌+◌, ◌<◌, ◌≤◌, T, Bool, true, false, cond, List, [], ◌∷◌, ◌++◌, map, length, All, Contains, Some, None, Result, Ok, Err, IsErrAnd, slice_get, unwrap_or, refl}
+use Rattle.std.specs.Prelude.{◌≡◌, ℕ, ◌+◌, ◌<◌, ◌≤◌, T, Bool, true, false, cond, List, [], ◌∷◌, ◌++◌, map, length, All, Contains, Some, Result, Ok, Err, IsErrAnd, slice_get, unwrap_or, refl}
 use Rattle.std.specs.FinMap.{find, get-entries, is_sorted}
 use Rattle.std.proofs.Common.{sym, ◌∙◌, ap, ap₂, drop, get_or, set, subst}
 use Rattle.std.proofs.Math.ListN.{drop_of_length-le}
@@ -10,11 +10,11 @@ use Rattle.ratio_core.specs.Rational.{Fits, Rational, SumFits, one_ℚ, zero_ℚ
 use Rattle.rational_laws.specs.Field.{*ℚ-zero, +ℚ-zero}
 use Rattle.rational_laws.specs.Fitting.{Fits_zero}
 use Rattle.map_laws.specs.EntryLaws.{find_below}
-use Rattle.map_laws.specs.TestLaws.{first, second}
+use Rattle.map_laws.specs.TestLaws.{first}
 use Rattle.aff_core.specs.Address.{Address, address_cmp, address_eq, address_eq-Decides}
 use Rattle.aff_core.specs.Function.{Function, coefficient, terms_of, variable}
 use Rattle.aff_core.specs.FunctionLists.{coefficients}
-use Rattle.aff_core.specs.KeyOrder.{address_order, other_key, same_key, same_or_other}
+use Rattle.aff_core.specs.KeyOrder.{address_order, same_key}
 use Rattle.aff_core.specs.Terms.{StepFits}
 use Rattle.cert_core.specs.declared.fault.CheckFault.{CheckFault}
 use Rattle.cert_core.specs.declared.fault.CheckFault.TheVariants.{CertOverflow, Memory}

@@ -1,6 +1,6 @@
 -- What a refused step says of the whole.
 use Rattle.std.specs.Prelude.{◌≡◌, Result, Ok, Err, IsErrAnd}
-use Rattle.std.proofs.Common.{sym, subst, ◌∙◌}
+use Rattle.std.proofs.Common.{sym, subst}
 use Rattle.cert_core.specs.declared.fault.CheckFault.{CheckFault}
 use Rattle.cert_core.specs.declared.fault.CheckFault.TheVariants.{CertOverflow, Memory}
 use Rattle.cert_core.specs.Answers.{ExactWhere}

@@ -1,9 +1,8 @@
 -- From what the calls answer to what is said of the model.
-use Rattle.std.specs.Prelude.{◌≡◌, ◌↔◌, ◌++◌, Bool, IsTrue, List, length, All, map, Result, refl}
+use Rattle.std.specs.Prelude.{◌≡◌, ◌↔◌, Bool, IsTrue, List, length, All, map, Result, refl}
 use Rattle.std.proofs.Common.{sym, ◌∙◌, ap, subst, get_or}
 use Rattle.std.proofs.lemmas.List.{length-map}
 use Rattle.std.proofs.lemmas.List.Elements.{All-append, All-map, All-weaker}
-use Rattle.ratio_core.specs.Folds.{sum_from}
 use Rattle.ratio_core.specs.Rational.{Rational, one_ℚ, zero_ℚ}
 use Rattle.aff_core.specs.Address.{Address, address_cmp}
 use Rattle.aff_core.specs.Function.{Function, evaluated, variable}
@@ -13,19 +12,17 @@ use Rattle.dual_laws.specs.Held.{Held}
 use Rattle.linear_laws.specs.ListLaws.{evaluations_slopes, evaluations_values}
 use Rattle.linear_laws.specs.PointLaws.{spread_at}
 use Rattle.set_core.specs.declared.set.Set.{Set}
-use Rattle.set_core.specs.Membership.{Dual, DualFits, In, MembershipFits, recession}
-use Rattle.set_core.specs.Mirrored.{multiplied}
+use Rattle.set_core.specs.Membership.{Dual, In, MembershipFits, recession}
 use Rattle.set_laws.specs.Multiples.{multiplied_one, multiplied_zero}
 use Rattle.user_model.specs.declared.group.Group.{Group}
 use Rattle.user_model.specs.declared.objective.Objective.{Objective}
 use Rattle.user_model.specs.declared.row.Row.{Row}
-use Rattle.user_model.specs.declared.undo.NextNumbers.{NextNumbers}
 use Rattle.user_model.specs.Model.{ModelValue, variables}
 use Rattle.certificates.specs.Points.{address_of, addresses_of, at_point, functions_of, functions_of_group}
 use Rattle.certificates.specs.Duals.{AreDuals, HasDuals, group_with, groups_with, rows_with, with_duals}
 use Rattle.certificates.specs.Feasible.{IsFeasible, IsRay}
 use Rattle.cert_core.specs.Answers.{ExactWhere}
-use Rattle.cert_core.specs.Checked.{HasEachDual, HasRowDuals, model_of}
+use Rattle.cert_core.specs.Checked.{HasEachDual, HasRowDuals}
 use Rattle.cert_core.specs.declared.fault.CheckFault.{CheckFault}
 use Rattle.cert_core.specs.Folds.{EvaluationFits, FitIn, PointFits}
 use Rattle.cert_core.specs.Holding.{FunctionsHold, HasGroupSet, HasRowSet, HoldsAt, IsReady}

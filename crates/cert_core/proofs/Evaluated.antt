@@ -1,9 +1,9 @@
 -- Functions read at a point and along a ray: of variables, and from another start.
-use Rattle.std.specs.Prelude.{◌≡◌, cond, List, [], ◌∷◌, ◌↔◌, map, All, Bool, IsTrue, Result, length, refl}
+use Rattle.std.specs.Prelude.{◌≡◌, cond, List, [], ◌∷◌, ◌↔◌, map, All, Bool, IsTrue, Result, refl}
 use Rattle.std.specs.Ordering.{eq_by_cmp}
-use Rattle.std.proofs.Common.{sym, ◌∙◌, ap, ap₂, subst}
+use Rattle.std.proofs.Common.{sym, ◌∙◌, ap, subst}
 use Rattle.ratio_core.specs.Rational.{Rational, one_ℚ, zero_ℚ, ◌*ℚ◌, ◌+ℚ◌}
-use Rattle.rational_laws.specs.Field.{*ℚ-zero, one-*ℚ, one_not_zero, zero-*ℚ}
+use Rattle.rational_laws.specs.Field.{*ℚ-zero, one_not_zero}
 use Rattle.ratio_core.specs.Folds.{sum_from}
 use Rattle.rational_laws.specs.Sums.{fold_ℚ, sum_ℚ}
 use Rattle.aff_core.specs.Address.{Address, address_cmp}

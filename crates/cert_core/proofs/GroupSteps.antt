@@ -1,9 +1,9 @@
 -- Groups gone through with the numbers of their variables.
-use Rattle.std.specs.Prelude.{◌≡◌, ◌↔◌, ◌+◌, ◌≤◌, Bool, true, IsTrue, List, [], ◌∷◌, ◌++◌, All, map, length, take, drop, refl}
+use Rattle.std.specs.Prelude.{◌≡◌, ◌↔◌, ◌+◌, ◌≤◌, Bool, true, IsTrue, List, [], ◌∷◌, ◌++◌, All, map, length, take, drop}
 use Rattle.std.proofs.Common.{sym, ◌∙◌, ap, subst, arith}
 use Rattle.std.proofs.lemmas.List.{length-drop}
 use Rattle.ratio_core.specs.Folds.{sum_from}
-use Rattle.ratio_core.specs.Rational.{Fits, Rational, SumFits, ◌+ℚ◌}
+use Rattle.ratio_core.specs.Rational.{Rational, SumFits, ◌+ℚ◌}
 use Rattle.rational_laws.specs.Dot.{negated}
 use Rattle.aff_core.specs.Address.{Address}
 use Rattle.aff_core.specs.FunctionLists.{constants}

@@ -4,7 +4,7 @@ use Rattle.std.proofs.Common.{sym, ◌∙◌, ap, ap₂, subst}
 use Rattle.ratio_core.specs.Folds.{sum_from}
 use Rattle.ratio_core.specs.Rational.{Rational, SumFits, one_ℚ, zero_ℚ, ◌‹ℚ◌}
 use Rattle.aff_core.specs.Address.{Address}
-use Rattle.aff_core.specs.Function.{evaluated, slope, value_of}
+use Rattle.aff_core.specs.Function.{evaluated, slope}
 use Rattle.dual_laws.specs.Held.{Held, adjoint}
 use Rattle.linear_laws.specs.EvaluationLaws.{evaluated_slope, evaluated_value}
 use Rattle.set_core.specs.Membership.{Dual, DualFits}
@@ -22,7 +22,7 @@ use Rattle.cert_core.specs.declared.fault.CheckFault.{CheckFault}
 use Rattle.cert_core.specs.declared.fault.CheckFault.TheVariants.{CertOverflow, Memory}
 use Rattle.cert_core.specs.Answers.{TellsWhere}
 use Rattle.cert_core.specs.Checked.{Checks, HasEntries, HasRowDuals}
-use Rattle.cert_core.specs.Folds.{AddUp, CertificateFits, DualValueFits, DualsFit, InfeasibleFits, ObjectiveFits, OptimalFits, PointFits, ReducedCostFits, UnboundedFits, adjoint_parts, gap_parts}
+use Rattle.cert_core.specs.Folds.{AddUp, CertificateFits, DualValueFits, InfeasibleFits, ObjectiveFits, OptimalFits, PointFits, ReducedCostFits, UnboundedFits, adjoint_parts, gap_parts}
 use Rattle.cert_core.specs.Holding.{HoldsAt}
 use Rattle.cert_core.proofs.Assembled.{are_duals, feasible, row_duals, from_duals, from_feasible, from_ray, ray}
 use Rattle.cert_core.proofs.Parts.{adjoint_is}

@@ -1,17 +1,17 @@
 -- What parts add up to.
-use Rattle.std.specs.Prelude.{◌≡◌, ℕ, ◌+◌, ◌<◌, ◌≤◌, List, [], ◌∷◌, ◌++◌, All, length, Result, map, refl}
+use Rattle.std.specs.Prelude.{◌≡◌, ℕ, ◌+◌, ◌<◌, ◌≤◌, List, [], ◌∷◌, ◌++◌, All, length, Result, refl}
 use Rattle.std.proofs.Common.{sym, ◌∙◌, ap, ap₂, drop, get_or, subst}
 use Rattle.std.proofs.Math.ListN.{drop_of_length-le}
 use Rattle.cert_core.proofs.Steps.{next_item}
 use Rattle.std.proofs.lemmas.List.Elements.{All-cons, All-nil}
 use Rattle.ratio_core.specs.Folds.{sum_from}
-use Rattle.ratio_core.specs.Rational.{Fits, Rational, SumFits, neg_ℚ, zero_ℚ, ◌*ℚ◌, ◌+ℚ◌, ◌-ℚ◌}
+use Rattle.ratio_core.specs.Rational.{Fits, Rational, SumFits, neg_ℚ, zero_ℚ, ◌*ℚ◌, ◌+ℚ◌}
 use Rattle.rational_laws.specs.Dot.{dot, negated}
 use Rattle.rational_laws.specs.Field.{*ℚ-zero, neg_ℚ-sum, neg_ℚ-zero, zero-+ℚ}
-use Rattle.rational_laws.specs.Sums.{fold_ℚ, sum_by_ℚ, sum_ℚ, sum_ℚ-append}
-use Rattle.aff_core.specs.Address.{Address, address_cmp}
+use Rattle.rational_laws.specs.Sums.{fold_ℚ, sum_ℚ, sum_ℚ-append}
+use Rattle.aff_core.specs.Address.{Address}
 use Rattle.aff_core.specs.FunctionLists.{coefficients, constants}
-use Rattle.dual_laws.specs.Held.{Held, adjoint, adjoint_of, gap, gap_of}
+use Rattle.dual_laws.specs.Held.{Held, adjoint, gap, gap_of}
 use Rattle.set_core.specs.Membership.{LowFits, low_of}
 use Rattle.certificates.specs.Points.{variables_at}
 use Rattle.cert_core.specs.Folds.{AddUp, adjoint_parts, adjoint_parts_of, gap_parts, gap_parts_of, products}

@@ -5,7 +5,6 @@ use Rattle.std.proofs.lemmas.List.Elements.{All-drop, All-get_or, All-head}
 use Rattle.std.proofs.Math.ListN.{drop_of_length-le}
 use Rattle.ratio_core.specs.Rational.{Rational}
 use Rattle.cert_core.proofs.Steps.{next_item}
-use Rattle.dual_laws.specs.Held.{Held}
 use Rattle.user_model.specs.declared.row.Row.{Row}
 use Rattle.aff_core.specs.Address.{Address}
 use Rattle.aff_core.specs.Function.{Function}

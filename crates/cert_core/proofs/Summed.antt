@@ -1,12 +1,12 @@
 -- Numbers added up, step by step.
-use Rattle.std.specs.Prelude.{◌≡◌, ℕ, ℤ, ◌^◌, ◌<◌, ◌≤◌, ◌/◌, List, [], ◌∷◌, ◌++◌, All, unsigned_abs, refl}
+use Rattle.std.specs.Prelude.{◌≡◌, ℕ, ℤ, ◌^◌, ◌<◌, ◌/◌, List, [], ◌∷◌, ◌++◌, All, unsigned_abs, refl}
 use Rattle.std.specs.Int.{is_negative}
 use Rattle.std.proofs.Common.{sym, ◌∙◌, ap, subst, arith}
 use Rattle.std.proofs.lemmas.List.Elements.{All-head, All-tail}
 use Rattle.std.proofs.Math.Nat.{div-le_self}
 use Rattle.std.proofs.lemmas.List.Sums.{fold-append}
 use Rattle.ratio_core.specs.Folds.{sum_from}
-use Rattle.ratio_core.specs.Rational.{Fits, Rational, SumFits, common_divisor, neg_ℚ, signed, sum_of_terms, zero_ℚ, ◌*ℚ◌, ◌+ℚ◌, ◌-ℚ◌}
+use Rattle.ratio_core.specs.Rational.{Fits, Rational, SumFits, common_divisor, neg_ℚ, sum_of_terms, zero_ℚ, ◌*ℚ◌, ◌+ℚ◌, ◌-ℚ◌}
 use Rattle.ratio_core.specs.Gcd.{gcd}
 use Rattle.ratio_core.proofs.Products.{signed_itself}
 use Rattle.ratio_core.proofs.Kept.{unsigned_abs-signed}

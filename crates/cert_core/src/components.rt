@@ -27,7 +27,7 @@ pub(crate) fn components_of(func: &UserFunc) -> Components<'_>
 }
 
 /// How many components a function has.
-pub(crate) fn component_count(func: &UserFunc) -> usize
+pub fn component_count(func: &UserFunc) -> usize
     ensures { result ≡ length (functions_of func.now) }
 {
     match components_of(func) {

@@ -19,4 +19,5 @@ mod variables;
 
 pub use certificates::{Certificate, DualRows};
 pub use checking::check;
+pub use components::component_count;
 pub use fault::CheckFault;

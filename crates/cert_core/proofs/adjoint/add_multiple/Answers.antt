@@ -1,7 +1,6 @@
-use Rattle.std.specs.Prelude.{◌≡◌, ◌+◌, [], ◌∷◌, T, All, Contains, length}
+use Rattle.std.specs.Prelude.{◌+◌, [], ◌∷◌, All, Contains}
 use Rattle.std.specs.Bool.{passes}
-use Rattle.std.specs.FinMap.{is_sorted}
-use Rattle.std.proofs.Common.{◌∙◌, ap, drop, subst, sym}
+use Rattle.std.proofs.Common.{drop, subst}
 use Rattle.std.proofs.Math.ListN.{drop_of_length-le}
 use Rattle.ratio_core.specs.Rational.{◌*ℚ◌}
 use Rattle.map_laws.specs.EntryLaws.{is_sorted-drop}

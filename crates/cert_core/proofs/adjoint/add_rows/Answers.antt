@@ -1,11 +1,11 @@
-use Rattle.std.specs.Prelude.{◌≡◌, ◌+◌, length}
+use Rattle.std.specs.Prelude.{◌+◌, length}
 use Rattle.std.proofs.Common.{◌∙◌, ap, drop, sym}
 use Rattle.aff_core.specs.FunctionLists.{coefficients}
-use Rattle.certificates.specs.Duals.{row_with, rows_with}
+use Rattle.certificates.specs.Duals.{rows_with}
 use Rattle.cert_core.specs.Components.{functions_in}
-use Rattle.cert_core.specs.Folds.{adjoint_parts, adjoint_parts_of, products}
+use Rattle.cert_core.specs.Folds.{adjoint_parts, products}
 use Rattle.cert_core.proofs.Adding.{adds_end, adds_passed, adds_refused, adds_step}
-use Rattle.cert_core.proofs.Rows.{next_parts, next_row, row_size, rows_done}
+use Rattle.cert_core.proofs.Rows.{next_parts, row_size, rows_done}
 use Rattle.cert_core.proofs.adjoint.add_rows.Goals as goal
 
 pub add_components-requires-clause-duals : goal.add_components-requires-clause-duals

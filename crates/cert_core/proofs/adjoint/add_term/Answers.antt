@@ -1,7 +1,5 @@
-use Rattle.std.specs.Prelude.{◌≡◌, Contains, map}
-use Rattle.std.proofs.Common.{◌∙◌, ap, get_or, set, sym}
-use Rattle.ratio_core.specs.Rational.{zero_ℚ, ◌*ℚ◌, ◌+ℚ◌}
-use Rattle.aff_core.specs.Terms.{StepFits}
+use Rattle.std.proofs.Common.{◌∙◌}
+use Rattle.ratio_core.specs.Rational.{◌*ℚ◌, ◌+ℚ◌}
 use Rattle.cert_core.proofs.Adding.{term_added}
 use Rattle.cert_core.proofs.Places.{none_at_place}
 use Rattle.cert_core.proofs.adjoint.add_term.Goals as goal

@@ -1,4 +1,4 @@
-use Rattle.std.specs.Prelude.{◌≡◌, ◌+◌, [], ◌∷◌}
+use Rattle.std.specs.Prelude.{◌+◌, [], ◌∷◌}
 use Rattle.std.proofs.Common.{drop}
 use Rattle.ratio_core.specs.Rational.{◌*ℚ◌}
 use Rattle.aff_core.specs.FunctionLists.{coefficients}

@@ -1,4 +1,4 @@
-use Rattle.std.specs.Prelude.{◌≡◌, All, length, map}
+use Rattle.std.specs.Prelude.{All, length, map}
 use Rattle.std.proofs.Common.{◌∙◌, ap, sym}
 use Rattle.std.proofs.lemmas.List.{length-map}
 use Rattle.ratio_core.specs.Folds.{sum_from}

@@ -1,4 +1,4 @@
-use Rattle.std.specs.Prelude.{◌≡◌, length}
+use Rattle.std.specs.Prelude.{length}
 use Rattle.std.proofs.Common.{◌∙◌, ap, subst, sym, true≢false}
 use Rattle.user_model.specs.declared.undo.NextNumbers.{NextNumbers}
 use Rattle.certificates.specs.declared.certificate.Certificate.TheVariants.{Optimal, Infeasible, Unbounded}

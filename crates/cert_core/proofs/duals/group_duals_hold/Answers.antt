@@ -1,19 +1,13 @@
-use Rattle.std.specs.Prelude.{◌≡◌, ◌+◌, ◌↔◌, IsTrue, All, Err, Ok, length, map, take}
+use Rattle.std.specs.Prelude.{◌≡◌, ◌+◌, ◌↔◌, IsTrue, All, length, map, take}
 use Rattle.std.proofs.Common.{◌∙◌, ap, drop, subst, sym}
 use Rattle.std.proofs.Math.ListN.{drop_of_length-le}
 use Rattle.ratio_core.specs.Rational.{Rational}
 use Rattle.aff_core.specs.Address.{Address}
-use Rattle.aff_core.specs.FunctionLists.{evaluations}
-use Rattle.set_core.specs.Membership.{Dual, DualFits, In, MembershipFits}
-use Rattle.set_core.specs.Mirrored.{multiplied}
+use Rattle.set_core.specs.Membership.{Dual, DualFits}
 use Rattle.user_model.specs.declared.group.Group.{Group}
 use Rattle.certificates.specs.Duals.{group_with, groups_with}
-use Rattle.certificates.specs.Points.{addresses_of, functions_of_group}
-use Rattle.cert_core.specs.Answers.{ExactWhere}
-use Rattle.cert_core.specs.Holding.{FunctionsHold}
-use Rattle.cert_core.specs.Readings.{one_of}
-use Rattle.cert_core.specs.declared.readings.Reading.{Reading}
-use Rattle.cert_core.proofs.Answered.{overflowed, passed_on}
+use Rattle.certificates.specs.Points.{addresses_of}
+use Rattle.cert_core.proofs.Answered.{overflowed}
 use Rattle.cert_core.proofs.GroupSteps.{GroupsTested, groups_end, groups_fit, groups_step}
 use Rattle.cert_core.proofs.Made.{mapped_all}
 use Rattle.cert_core.proofs.Steps.{next_item}

@@ -1,10 +1,8 @@
-use Rattle.std.specs.Prelude.{◌≡◌, ◌+◌, ◌↔◌, IsTrue, All, length}
+use Rattle.std.specs.Prelude.{◌+◌, ◌↔◌, IsTrue, All, length}
 use Rattle.std.proofs.Common.{◌∙◌, ap, drop, subst, sym}
-use Rattle.std.proofs.lemmas.List.Elements.{All-get_or, All-head, All-rest}
 use Rattle.dual_laws.specs.Held.{Held}
 use Rattle.set_core.specs.Membership.{Dual, DualFits}
 use Rattle.certificates.specs.Duals.{row_with, rows_with}
-use Rattle.cert_core.specs.Holding.{HasRowSet}
 use Rattle.cert_core.proofs.Answered.{overflowed}
 use Rattle.cert_core.proofs.Rows.{next_row, row_set, row_size, rows_done}
 use Rattle.cert_core.proofs.Tested.{and_passed, and_taken, tested_end, tested_refused, tested_step}

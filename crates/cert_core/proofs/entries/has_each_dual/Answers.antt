@@ -1,4 +1,4 @@
-use Rattle.std.specs.Prelude.{◌≡◌, ◌+◌, All, refl}
+use Rattle.std.specs.Prelude.{◌+◌, All, refl}
 use Rattle.std.proofs.Common.{◌∙◌, drop, subst, sym, true≢false}
 use Rattle.std.proofs.lemmas.List.Elements.{All-cons, All-head, All-nil, All-tail}
 use Rattle.certificates.specs.Duals.{row_with, rows_with}

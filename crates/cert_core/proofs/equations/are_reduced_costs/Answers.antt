@@ -1,18 +1,16 @@
-use Rattle.std.specs.Prelude.{◌≡◌, ◌+◌, ◌↔◌, IsTrue, All}
-use Rattle.std.proofs.Common.{◌∙◌, ap, ap₂, drop, subst, sym}
+use Rattle.std.specs.Prelude.{◌≡◌, ◌+◌, ◌↔◌, IsTrue}
+use Rattle.std.proofs.Common.{◌∙◌, drop, subst, sym}
 use Rattle.std.proofs.Math.ListN.{drop_of_length-le}
 use Rattle.ratio_core.specs.Rational.{Rational}
 use Rattle.ratio_core.specs.RationalLaws.{rational_eq_Decides}
 use Rattle.aff_core.specs.Address.{Address}
 use Rattle.aff_core.specs.Function.{coefficient}
-use Rattle.aff_core.specs.declared.sense.Sense.{Sense}
 use Rattle.user_model.specs.declared.objective.Objective.{Objective}
 use Rattle.certificates.specs.Duals.{reduced_cost}
 use Rattle.certificates.specs.Points.{objective_function, sense_of}
 use Rattle.cert_core.specs.Folds.{CostFits}
-use Rattle.cert_core.proofs.Answered.{passed_on}
 use Rattle.cert_core.proofs.Steps.{made_there, next_item}
-use Rattle.cert_core.proofs.Tested.{and_passed, and_taken, tested_end, tested_refused, tested_step}
+use Rattle.cert_core.proofs.Tested.{and_passed, and_taken, tested_end, tested_step}
 use Rattle.cert_core.proofs.equations.are_reduced_costs.Goals as goal
 use Rattle.cert_core.proofs.equations.are_reduced_costs.Goals.{else-all, then-all}
 

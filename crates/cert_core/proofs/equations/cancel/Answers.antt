@@ -1,8 +1,7 @@
 use Rattle.std.specs.Prelude.{◌≡◌, ◌+◌, ◌↔◌, IsTrue, All}
 use Rattle.std.proofs.Common.{◌∙◌, ap₂, drop, subst, sym}
 use Rattle.std.proofs.Math.ListN.{drop_of_length-le}
-use Rattle.ratio_core.specs.Rational.{Rational, SumFits, zero_ℚ, ◌+ℚ◌}
-use Rattle.aff_core.specs.Address.{Address}
+use Rattle.ratio_core.specs.Rational.{SumFits, zero_ℚ, ◌+ℚ◌}
 use Rattle.cert_core.proofs.Answered.{overflowed}
 use Rattle.cert_core.proofs.Steps.{made_there, next_item, some_item}
 use Rattle.cert_core.proofs.Tested.{and_passed, and_taken, tested_end, tested_refused, tested_step}

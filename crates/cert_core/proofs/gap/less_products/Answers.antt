@@ -1,6 +1,5 @@
-use Rattle.std.specs.Prelude.{◌≡◌, ◌+◌, ◌<◌, length}
-use Rattle.std.proofs.Common.{◌∙◌, ap, ap₂, drop, subst, sym}
-use Rattle.std.proofs.Math.ListN.{drop_of_length-le}
+use Rattle.std.specs.Prelude.{◌≡◌, ◌+◌}
+use Rattle.std.proofs.Common.{◌∙◌, ap, drop, subst, sym}
 use Rattle.ratio_core.specs.Folds.{sum_from}
 use Rattle.ratio_core.specs.Rational.{Fits, SumFits, neg_ℚ, ◌*ℚ◌, ◌-ℚ◌}
 use Rattle.rational_laws.specs.Dot.{negated}

@@ -1,9 +1,8 @@
-use Rattle.std.specs.Prelude.{◌≡◌, All}
+use Rattle.std.specs.Prelude.{All}
 use Rattle.std.proofs.Common.{◌∙◌, sym}
 use Rattle.std.proofs.lemmas.List.Elements.{All-map}
-use Rattle.ratio_core.specs.Rational.{Rational}
-use Rattle.aff_core.specs.Address.{Address, address_cmp}
-use Rattle.aff_core.specs.Function.{Function, evaluated, variable}
+use Rattle.aff_core.specs.Address.{address_cmp}
+use Rattle.aff_core.specs.Function.{evaluated, variable}
 use Rattle.certificates.specs.Points.{variables_at}
 use Rattle.cert_core.specs.Folds.{EvaluationFits}
 use Rattle.cert_core.specs.Points.{numbers_in}

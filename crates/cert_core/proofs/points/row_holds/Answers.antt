@@ -2,7 +2,6 @@ use Rattle.std.specs.Prelude.{◌≡◌, All}
 use Rattle.std.proofs.Common.{◌∙◌, subst}
 use Rattle.aff_core.specs.FunctionLists.{evaluations}
 use Rattle.certificates.specs.Points.{functions_of}
-use Rattle.cert_core.specs.Components.{functions_in}
 use Rattle.cert_core.specs.Folds.{EvaluationFits}
 use Rattle.cert_core.specs.Points.{numbers_in}
 use Rattle.cert_core.specs.Readings.{one_of}

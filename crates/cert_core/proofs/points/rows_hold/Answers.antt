@@ -1,4 +1,4 @@
-use Rattle.std.specs.Prelude.{◌≡◌, ◌+◌, ◌↔◌, IsTrue, All}
+use Rattle.std.specs.Prelude.{◌+◌, ◌↔◌, IsTrue}
 use Rattle.std.proofs.Common.{drop}
 use Rattle.std.proofs.Math.ListN.{drop_of_length-le}
 use Rattle.ratio_core.specs.Rational.{Rational}

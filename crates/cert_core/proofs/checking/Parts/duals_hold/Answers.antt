@@ -1,5 +1,4 @@
-use Rattle.std.specs.Prelude.{◌≡◌, ◌++◌, ◌↔◌, All, IsTrue, List}
-use Rattle.ratio_core.specs.Rational.{Rational}
+use Rattle.std.specs.Prelude.{◌++◌, ◌↔◌, All, IsTrue}
 use Rattle.aff_core.specs.Points.{spread}
 use Rattle.dual_laws.specs.Held.{Held}
 use Rattle.set_core.specs.Membership.{Dual, DualFits}

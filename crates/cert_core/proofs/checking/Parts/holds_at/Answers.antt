@@ -1,11 +1,8 @@
-use Rattle.std.specs.Prelude.{◌≡◌, ◌↔◌, All, IsTrue, Ok, Err}
-use Rattle.aff_core.specs.FunctionLists.{evaluations}
+use Rattle.std.specs.Prelude.{◌↔◌, IsTrue, Ok, Err}
 use Rattle.aff_core.specs.Points.{spread}
-use Rattle.set_core.specs.Membership.{MembershipFits}
-use Rattle.certificates.specs.Points.{functions_of_group}
 use Rattle.cert_core.specs.Checked.{model_of}
 use Rattle.cert_core.specs.Folds.{PointFits}
-use Rattle.cert_core.specs.Holding.{FunctionsHold, HoldsAt}
+use Rattle.cert_core.specs.Holding.{HoldsAt}
 use Rattle.cert_core.specs.Points.{numbers_in}
 use Rattle.cert_core.specs.Readings.{one_of}
 use Rattle.cert_core.specs.Variables.{all_addresses}

@@ -1,22 +1,20 @@
-use Rattle.std.specs.Prelude.{◌≡◌, ◌↔◌, All, IsTrue, Ok, length, map}
+use Rattle.std.specs.Prelude.{◌≡◌, All, Ok, map}
 use Rattle.std.proofs.Common.{◌∙◌, ap, subst, sym}
-use Rattle.ratio_core.specs.Rational.{Rational, SumFits, one_ℚ, zero_ℚ, ◌+ℚ◌, ◌‹ℚ◌}
-use Rattle.aff_core.specs.Address.{Address}
+use Rattle.ratio_core.specs.Rational.{one_ℚ, zero_ℚ}
 use Rattle.aff_core.specs.Function.{coefficient}
 use Rattle.aff_core.specs.Points.{spread}
 use Rattle.dual_laws.specs.Held.{adjoint}
 use Rattle.set_core.specs.Membership.{DualFits}
 use Rattle.certificates.specs.Duals.{dual_value, reduced_cost, rows_with, with_duals}
-use Rattle.certificates.specs.Feasible.{IsBetter}
 use Rattle.certificates.specs.Points.{objective_constant, objective_function, sense_of}
 use Rattle.cert_core.specs.Checked.{model_of}
-use Rattle.cert_core.specs.Folds.{AddUp, CostFits, DualValueFits, InfeasibleFits, OptimalFits, adjoint_parts, gap_parts}
+use Rattle.cert_core.specs.Folds.{AddUp, CostFits, DualValueFits, OptimalFits, adjoint_parts, gap_parts}
 use Rattle.cert_core.specs.Points.{numbers_in}
 use Rattle.cert_core.specs.Variables.{all_addresses}
 use Rattle.cert_core.proofs.Answered.{passed_on}
 use Rattle.cert_core.proofs.Assembled.{at_own, numbers_of_model, objective_told, size_of_model}
-use Rattle.cert_core.proofs.Judged.{equal_told, is_infeasible, is_optimal, is_unbounded, sums_are}
-use Rattle.cert_core.proofs.Tested.{all_five, all_four, all_three, iff_trans}
+use Rattle.cert_core.proofs.Judged.{equal_told, is_optimal, sums_are}
+use Rattle.cert_core.proofs.Tested.{all_five, iff_trans}
 use Rattle.cert_core.proofs.checking.Parts.is_optimal.Goals as goal
 
 pub returns-in_err-in_sets : goal.returns-in_err-in_sets

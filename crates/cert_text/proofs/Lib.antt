@@ -1,0 +1,7 @@
+pub mod Bytes
+pub mod Cuts
+pub mod Each
+pub mod EachLine
+pub mod Entries
+pub mod Printed
+pub mod ReadBack

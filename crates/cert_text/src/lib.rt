@@ -1,0 +1,14 @@
+//! Certificates as text: a line for each number of a variable and for the duals of each row, in the
+//! user's names.
+#![tactic(auto)]
+
+mod heading;
+mod pieces;
+mod printing;
+mod reading;
+mod variables;
+
+pub use cert_core::{Certificate, DualRows};
+pub use name_index::Text;
+pub use printing::print;
+pub use reading::read;

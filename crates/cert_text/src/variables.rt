@@ -1,0 +1,41 @@
+//! The variables of a model, one after the other.
+ghost use Rattle.std.specs.Prelude.{◌≡◌};
+ghost use Rattle.std.specs.Iterator.{YieldsFirstRef, item_count};
+ghost use Rattle.cert_core.specs.Variables.{variables_of};
+ghost use Rattle.cert_text.specs.Left.{variables_left};
+
+use user_model::{Group, GroupVar};
+
+/// The variables that are left, in the order of the groups.
+#[derive(Drop)]
+pub(crate) struct Variables<'a> {
+    vars: &'a [GroupVar],
+    groups: &'a [Group],
+}
+
+impl<'a> Variables<'a> {
+    pub(crate) fn of(groups: &'a [Group]) -> Variables<'a>
+        ensures { variables_left result ≡ variables_of groups.now }
+    {
+        Variables { vars: &[], groups }
+    }
+}
+
+impl<'a> Iterator for Variables<'a> {
+    type Item = &'a GroupVar;
+
+    ghost next_gives = { YieldsFirstRef variables_left };
+
+    ghost remaining = { item_count variables_left };
+
+    fn next(&mut self) -> Option<&'a GroupVar> {
+        while self.vars.is_empty() {
+            let (group, groups) = self.groups.split_first()?;
+            self.vars = group.vars.as_slice();
+            self.groups = groups;
+        }
+        let (first, others) = self.vars.split_first()?;
+        self.vars = others;
+        Some(first)
+    }
+}

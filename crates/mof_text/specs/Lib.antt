@@ -1,0 +1,4 @@
+pub mod Numeral
+pub mod Rewritten
+pub mod Tenths
+pub mod Decimal
