@@ -1,5 +1,5 @@
 -- The number of a numeral, by the sign of its exponent, and where all its digits are zeros.
-use Rattle.std.proofs.Common.{◌≡◌, ℕ, zero, suc, ◌+◌, ◌*◌, ◌^◌, ◌<◌, Bool, true, false, cond, ◌&&◌, ◌==◌, not, List, ◌++◌, length, pos, neg_ℤ, refl, sym, ◌∙◌, ap, ap₂, arith, zero-mul, Option, Some, None, Decides, Result, Ok, Err, OkIff, ℤ, unsigned_abs, subst}
+use Rattle.std.proofs.Common.{◌≡◌, ℕ, ◌+◌, ◌*◌, ◌^◌, ◌<◌, Bool, true, false, cond, ◌&&◌, not, List, ◌++◌, length, pos, refl, sym, ◌∙◌, ap, ap₂, arith, zero-mul, Option, Some, None, Decides, Result, Ok, Err, OkIff, ℤ, unsigned_abs, subst}
 use Rattle.std.specs.Result.{result_ok}
 use Rattle.std.specs.Option.{SomeIff}
 use Rattle.std.specs.Str.Parse.{AllDigits, digits_value, starts_with_minus}
@@ -7,7 +7,7 @@ use Rattle.fast_float.specs.Text.{Parts, scan, tens_down, tens_up}
 use Rattle.ratio_core.specs.Rational.{Fits, Rational, fits, fraction, reduce, signed, whole_ℚ, zero_ℚ}
 use Rattle.ratio_core.specs.RationalLaws.{fits_Decides, reduce_itself}
 use Rattle.mof_text.specs.Decimal.{are_zeros, over_ten, times_ten}
-use Rattle.mof_text.specs.Numeral.{fitting, is_colon_next, is_json_number, is_long, is_replaced, magnitude_of, number_of, parts_of, printed, quoted, replaced, replacement_of}
+use Rattle.mof_text.specs.Numeral.{fitting, is_colon_next, is_json_number, is_long, is_replaced, magnitude_of, number_of, printed, quoted, replaced, replacement_of}
 use Rattle.mof_text.proofs.DecimalLaws.{power_pos}
 use Rattle.mof_text.proofs.DigitLaws.{product_pos, some_value, value-append, zeros_value}
 use Rattle.mof_text.proofs.Fractions.{same_over}

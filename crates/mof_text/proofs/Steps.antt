@@ -1,5 +1,5 @@
 -- Fractions below 1 in lowest terms, with a digit more before the others.
-use Rattle.std.proofs.Common.{◌≡◌, ℕ, zero, suc, ◌+◌, ◌-◌, ◌*◌, ◌/◌, ◌%◌, ◌^◌, ◌<◌, ◌≤◌, false, pos, List, ◌∷◌, length, take, drop, get_or, pow-suc, refl, sym, ◌∙◌, ap, ap₂, subst, arith}
+use Rattle.std.proofs.Common.{◌≡◌, ℕ, zero, suc, ◌+◌, ◌-◌, ◌*◌, ◌/◌, ◌%◌, ◌^◌, ◌<◌, ◌≤◌, false, pos, List, ◌∷◌, length, take, drop, get_or, pow-suc, sym, ◌∙◌, ap, ap₂, subst, arith}
 use Rattle.std.proofs.Math.Nat.{eq_of_mul-eq-mul_right, le_of_mul-le-mul_left, lt_of_mul-lt-mul_left, mul-le-mul_right, mul-lt-mul_of_pos_right, le_of_dvd, dvd-mul_left, dvd_trans, eq-one_of_dvd-one, dvd-add_iff_right, dvd-mul_right_of_dvd, div-mul_cancel, div-lt_iff_lt-mul, le-div_iff_mul-le, one-le-pow}
 use Rattle.std.proofs.lemmas.List.{drop_all, drop_more, length-drop, take-append-drop}
 use Rattle.std.proofs.lemmas.Nat.{pow-add}

@@ -1,12 +1,12 @@
 -- The pieces of a text outside strings, and what is rewritten of them.
-use Rattle.std.proofs.Common.{◌≡◌, ℕ, zero, suc, ◌+◌, ◌-◌, ◌<◌, ◌≤◌, Bool, true, false, cond, not, List, [], ◌∷◌, ◌++◌, length, take, drop, get_or, refl, sym, ◌∙◌, ap, ap₂, subst, arith, append-nil, append_assoc, eq-eqb, ne_eqb, ◌==◌, ◌⊎◌, inl, inr, drop-cons}
+use Rattle.std.proofs.Common.{◌≡◌, ℕ, suc, ◌+◌, ◌-◌, ◌<◌, ◌≤◌, Bool, true, false, cond, not, List, [], ◌∷◌, ◌++◌, length, take, drop, get_or, refl, sym, ◌∙◌, ap, ap₂, subst, arith, append-nil, append_assoc, eq-eqb, ne_eqb, ◌==◌, ◌⊎◌, inl, inr, drop-cons}
 use Rattle.std.proofs.Math.Seq.{take-add}
 use Rattle.std.proofs.lemmas.List.{drop-drop, drop_all, drop_more, length-drop, take_rest}
 use Rattle.std.specs.Bool.{MatchBool}
 use Rattle.std.specs.List.{position_or_len}
 use Rattle.fast_float.specs.Text.{scan}
 use Rattle.mof_text.specs.Numeral.{replaced}
-use Rattle.mof_text.specs.Rewritten.{after_in_string, after_other, is_run_byte, rewritten, rewritten_at}
+use Rattle.mof_text.specs.Rewritten.{after_other, is_run_byte, rewritten, rewritten_at}
 use Rattle.mof_text.specs.Rewritten.Place.{in_escape, in_string, outside}
 
 -- what is rewritten outside strings

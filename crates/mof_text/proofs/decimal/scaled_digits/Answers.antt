@@ -1,4 +1,4 @@
-use Rattle.std.proofs.Common.{◌≡◌, ◌+◌, ◌*◌, ◌<◌, ◌^◌, ◌++◌, ◌∙◌, ap, ap₂, arith, sym, subst}
+use Rattle.std.proofs.Common.{◌≡◌, ◌*◌, ◌<◌, ◌^◌, ◌++◌, ◌∙◌, ap, ap₂, arith, sym, subst}
 use Rattle.std.specs.Str.Parse.{digits_value, digits_value_after}
 use Rattle.ratio_core.specs.Rational.{reduce, signed}
 use Rattle.mof_text.proofs.DecimalLaws.{power_pos}

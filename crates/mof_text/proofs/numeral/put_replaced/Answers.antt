@@ -1,4 +1,4 @@
-use Rattle.std.proofs.Common.{◌≡◌, ◌++◌, ◌∙◌, ap, refl, sym}
+use Rattle.std.proofs.Common.{◌++◌, ◌∙◌, ap, refl, sym}
 use Rattle.mof_text.proofs.NumberLaws.{run_left, run_replaced}
 use Rattle.mof_text.proofs.numeral.put_replaced.Goals as goal
 

@@ -1,4 +1,4 @@
-use Rattle.std.proofs.Common.{◌≡◌, ◌+◌, ◌-◌, ◌*◌, ◌^◌, ◌<◌, ◌≤◌, None, arith, get_or, length}
+use Rattle.std.proofs.Common.{◌≡◌, ◌+◌, ◌-◌, ◌*◌, ◌^◌, ◌<◌, None, arith, get_or, length}
 use Rattle.std.specs.Str.Parse.{digits_value}
 use Rattle.mof_text.proofs.DigitLaws.{digit_low}
 use Rattle.mof_text.proofs.Parts.{fine_none}

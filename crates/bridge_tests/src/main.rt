@@ -1,0 +1,19 @@
+// Takes an item through each edge, by a list of boxes of all families: prints the item, its image,
+// what is carried back of duals, and what altering it and letting it go give. Then come a row of
+// two numbers in `Reals`, and two images that differ in whether a sum fits.
+#![tactic(auto)]
+
+mod boxes;
+mod constants;
+mod duals;
+mod round;
+mod samples;
+mod shown;
+
+use anyhow::Result;
+
+fn main(rt: HostRuntime) -> Result<()> {
+    boxes::all(&rt)?;
+    constants::reals(&rt)?;
+    constants::greatest(&rt)
+}

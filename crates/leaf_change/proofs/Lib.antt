@@ -1,0 +1,10 @@
+mod PutLaws
+mod ThroughPuts
+mod KeyLaws
+mod IndexLaws
+mod SameLaws
+mod CountLaws
+mod PutSteps
+mod ModelCounts
+mod SameRows
+mod CompareLaws
