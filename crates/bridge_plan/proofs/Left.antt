@@ -1,11 +1,8 @@
 -- Loops by what is left of their items.
-use Rattle.std.specs.Prelude.{◌≡◌, ℕ, ◌+◌, ◌<◌, Bool, true, false, ◌&&◌, List, [], ◌∷◌, ◌++◌, length, map, Result, Ok, Err, IsErrAnd, refl}
+use Rattle.std.specs.Prelude.{◌≡◌, ℕ, ◌+◌, ◌<◌, Bool, true, false, ◌&&◌, List, [], ◌∷◌, ◌++◌, length, map, refl}
 use Rattle.std.proofs.Common.{ap, sym, subst, ◌∙◌, append_assoc, drop, take, get_or}
 use Rattle.std.specs.List.{list_all}
 use Rattle.std.proofs.lemmas.List.{append-nil, drop_more, take_more}
-use Rattle.aff_core.specs.Arithmetic.{ExactWhere}
-use Rattle.aff_core.specs.declared.fault.AffFault.{AffFault}
-use Rattle.aff_core.specs.declared.fault.AffFault.TheVariants.{Memory, Overflow}
 
 -- what is left begins with the item that is read
 pub next_item : {X : Type 0} (all items : List X) (i : ℕ) (x : X) → items ≡ all
@@ -57,18 +54,3 @@ module _ {X : Type 0} (p : X → Bool) (all : Bool) (left rest : List X) (x : X)
 pub passed_all : {X : Type 0} (p : X → Bool) (all : Bool) (left : List X)
     → list_all p left ≡ all → left ≡ [] → all ≡ true
 passed_all p all left so_far none = sym so_far ∙ ap (list_all p) none
-
--- ---- a fault that is handed on
-
-by_fault : (fault : AffFault) (P S : Type 0) {T U : Type 0} (A : T → Type 0) (B : U → Type 0)
-    → ExactWhere {T = U} (Err fault) P B → (S → P) → ExactWhere {T = T} (Err fault) S A
-by_fault Overflow P S A B said needs = λ s. said (needs s)
-by_fault Memory P S A B said needs = tt
-
--- the fault of a step is that of the whole, which needs the step to fit
-pub passed_on : {T U : Type 0} (r : Result T AffFault) (fault : AffFault) (P S : Type 0)
-    (A : T → Type 0) (B : U → Type 0) → IsErrAnd r (λ x. x ≡ fault)
-    → ExactWhere {T = U} (Err fault) P B → (S → P) → ExactWhere r S A
-passed_on (Ok x) fault P S A B is said needs = absurd is
-passed_on (Err x) fault P S A B is said needs =
-    subst (λ y. ExactWhere (Err y) S A) (sym is) (by_fault fault P S A B said needs)

@@ -1,9 +1,8 @@
 mod Found
-mod Left
+pub mod Left
 mod Covers
 mod KeptLists
 mod Agreeing
-mod Alike
 mod Opened
 mod ItemCases
 mod Nodes

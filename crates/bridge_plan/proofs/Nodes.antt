@@ -15,7 +15,7 @@ use Rattle.fresh_bridging.specs.TheRules.{children_by, edge_at, image_fits}
 use Rattle.bridge_plan.specs.Adds.{Adds, kept_of}
 use Rattle.bridge_plan.specs.Worked.{Splits, worked_each, worked_in, worked_node}
 use Rattle.bridge_plan.specs.declared.plan.Plan.{Plan}
-use Rattle.bridge_plan.proofs.Alike.{into_alike, into_fits_alike, put_alike, worked_in_alike}
+use Rattle.bridge_plan.specs.Alike.{into_alike, into_fits_alike, put_alike, worked_in_alike}
 
 module _ (choice : ℕ → Choice) (below : Item → Held Item Entry) (edge : ℕ) (item : Item) where
   abbrev pub groups_held : Held Item Entry

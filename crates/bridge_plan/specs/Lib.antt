@@ -1,4 +1,5 @@
 pub mod Adds
+pub mod Alike
 pub mod EntryCode
 pub mod InTurn
 pub mod KeptGroups

@@ -11,6 +11,6 @@ mod standing;
 
 pub use entry::Entry;
 pub use plan::Plan;
-pub use planning::plan_item;
+pub use planning::{edge_of, plan_item};
 pub use rewriter::Rewriter;
 pub use standing::Standing;

@@ -132,8 +132,8 @@ fn plan_in<R: Rewriter>(
     Ok(())
 }
 
-// The edge of a number.
-fn edge_of(edge: u8) -> Edge
+/// The edge of a number in the graph of kinds.
+pub fn edge_of(edge: u8) -> Edge
     ensures { result ≡ edge_at edge }
 {
     match entry_at(&EDGES, edge as usize) {

@@ -11,7 +11,7 @@ use Rattle.bridge_plan.specs.declared.plan.Plan.{Plan}
 use Rattle.bridge_plan.specs.Worked.{worked, worked_in}
 use Rattle.bridge_plan.specs.InTurn.{EachSoFar, InSoFar, each_end, each_needs, each_start, each_step, in_end, in_needs_made, in_needs_put, in_start, in_step, nothing_left}
 use Rattle.bridge_plan.proofs.ItemCases.{planned_by, planned_natively}
-use Rattle.bridge_plan.proofs.Left.{passed_on}
+use Rattle.bridge_face.specs.AnsweredLaws.{passed_on}
 use Rattle.bridge_plan.proofs.NodeSteps.{needs_further, node_answered, node_read, others_ready, pushed_node, stands_alike}
 use Rattle.bridge_plan.proofs.Opened.{never_missing, opened, some_level}
 use Rattle.bridge_plan.proofs.planning.+planning.Goals as goal

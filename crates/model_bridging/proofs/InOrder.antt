@@ -1,0 +1,194 @@
+-- The user's items, planned in their order.
+use Rattle.std.specs.Prelude.{◌≡◌, ℕ, Bool, true, false, ◌&&◌, not, cond, find, IsTrue, List, [], ◌∷◌, All, Option, Some, None, Result, Ok, Err, refl}
+use Rattle.std.proofs.Common.{ap, ap₂, sym, subst, ◌∙◌}
+use Rattle.bridge_graph.specs.declared.Choice.{Choice}
+use Rattle.aff_core.specs.Arithmetic.{ExactWhere}
+use Rattle.aff_core.specs.declared.fault.AffFault.{AffFault}
+use Rattle.aff_core.specs.declared.fault.AffFault.TheVariants as fault
+use Rattle.expansion.specs.Grown.{Held, put_held}
+use Rattle.item_core.specs.declared.item.Item.{Item}
+use Rattle.fresh_bridging.specs.Entries.{Entry, put_in, put_in_fits}
+use Rattle.fresh_bridging.specs.TableLaws.{and_first, and_second}
+use Rattle.fresh_bridging.specs.TheRules.{rules_by}
+use Rattle.bridge_plan.specs.Adds.{Adds}
+use Rattle.bridge_plan.specs.InTurn.{EachSoFar, InSoFar, each_end, each_start, each_step, each_within, in_end, in_start, in_step, in_within}
+use Rattle.bridge_plan.specs.Means.{Means}
+use Rattle.bridge_plan.specs.SoFar.{joined_nothing}
+use Rattle.bridge_plan.specs.Worked.{IsWithin, worked, worked_in}
+use Rattle.bridge_plan.specs.declared.plan.Plan.{Plan}
+use Rattle.model_bridging.specs.ModelHeld.{child_fits, item_fits, unfit, unfit_put}
+use Rattle.model_bridging.specs.Whole.{groups_held, others_held}
+
+-- ---- the first of a list that fails a test
+
+abbrev pub first_failing : (Item → Bool) → List Item → Option Item
+first_failing p items = find (λ item. not (p item)) items
+
+passes_first : (p : Item → Bool) (x : Item) (rest : List Item) → p x ≡ true
+    → first_failing p (x ∷ rest) ≡ first_failing p rest
+passes_first p x rest e = ap (λ b. cond (not b) (Some x) (first_failing p rest)) e
+
+module _ (p : Item → Bool) (all left rest : List Item) (x : Item)
+    (so_far : first_failing p left ≡ first_failing p all) (next : left ≡ x ∷ rest) where
+  first_more : p x ≡ true → first_failing p rest ≡ first_failing p all
+  first_more e =
+      sym (passes_first p x rest e) ∙ (sym (ap (first_failing p) next) ∙ so_far)
+
+-- ---- the groups
+
+-- what is planned so far and what is left is all, and the first unfit of what is left that of all
+pub record GroupsSoFar (first : Means) (all left : List Item) (plan now : Plan)
+    (entries : List Entry) (means : Means) : Type 0 where
+  pub in_turn : EachSoFar first 35 all left plan now [] entries means
+  pub unfit_left : unfit first.choice 35 left ≡ unfit first.choice 35 all
+
+pub groups_start : (first : Means) (all : List Item) (plan : Plan) (entries : List Entry)
+    → entries ≡ [] → All (IsWithin first.choice 35) all
+    → GroupsSoFar first all all plan plan entries first
+groups_start first all plan entries none within = record {
+  in_turn = subst (λ es. EachSoFar first 35 all all plan plan [] es first) (sym none)
+      (each_start first 35 all plan [] within);
+  unfit_left = refl;
+}
+
+module _ (first : Means) (all left rest : List Item) (x : Item) (plan now : Plan)
+    (entries : List Entry) (means : Means) (h : GroupsSoFar first all left plan now entries means)
+    (next : left ≡ x ∷ rest) (item : Item) (is : item ≡ x) where
+  pub group_within : IsWithin means.choice 35 item
+  group_within =
+      subst (IsWithin means.choice 35) (sym is)
+      (each_within first 35 all left rest x plan now [] entries means h.in_turn next)
+
+  pub group_more : (after : Plan) (es : List Entry) (later : Means)
+      → IsTrue (worked means.choice 35 item).fits
+      → Adds now after entries es (worked means.choice 35 item) → later ≡ means
+      → GroupsSoFar first all rest plan after es later
+  group_more after es later fits adds same =
+      let said : IsTrue (worked means.choice 35 x).fits
+      × Adds now after entries es (worked means.choice 35 x) =
+      subst (λ i. IsTrue (worked means.choice 35 i).fits
+      × Adds now after entries es (worked means.choice 35 i)) is (fits, adds) in
+      record {
+        in_turn = each_step first 35 all left rest x plan now [] entries means h.in_turn next after
+            es later said.0 said.1 same;
+        unfit_left = first_more (item_fits first.choice 35) all left rest x h.unfit_left next
+            (subst (λ (m : Means). IsTrue (worked m.choice 35 x).fits) h.in_turn.same said.0);
+      }
+
+pub groups_end : (first : Means) (all left : List Item) (plan now : Plan) (entries : List Entry)
+    (means : Means) → GroupsSoFar first all left plan now entries means → left ≡ []
+    → (unfit first.choice 35 all ≡ None)
+    × Adds plan now [] entries (groups_held first.choice all)
+groups_end first all left plan now entries means h none = (
+  sym h.unfit_left ∙ ap (unfit first.choice 35) none,
+  (each_end first 35 all left plan now [] entries means h.in_turn none).1,
+)
+
+-- ---- the rows
+
+pub record RowsSoFar (first : Means) (inner : List Entry) (all left : List Item) (plan now : Plan)
+    (means : Means) (standing : List Entry) : Type 0 where
+  pub in_turn : InSoFar first 35 inner all left plan now means standing
+  pub unfit_left : unfit_put first.choice 35 inner left ≡ unfit_put first.choice 35 inner all
+
+pub rows_start : (first : Means) (inner : List Entry) (all : List Item) (plan : Plan)
+    → All (λ item. IsWithin first.choice 35 (put_in inner item)) all
+    → RowsSoFar first inner all all plan plan first inner
+rows_start first inner all plan within = record {
+  in_turn = in_start first 35 inner all plan within;
+  unfit_left = refl;
+}
+
+module _ (first : Means) (inner : List Entry) (all left rest : List Item) (x : Item)
+    (plan now : Plan) (means : Means) (standing : List Entry)
+    (h : RowsSoFar first inner all left plan now means standing) (next : left ≡ x ∷ rest) where
+  pub row_within : IsWithin means.choice 35 (put_in standing x)
+  row_within =
+      in_within first 35 inner all left rest x plan now means standing h.in_turn next
+      (put_in standing x) refl
+
+  -- by the means and the entries at the start
+  from_start : (P : (ℕ → Choice) → List Entry → Type 0) → P means.choice standing
+      → P first.choice inner
+  from_start P p =
+      subst (P first.choice) h.in_turn.stands
+      (subst (λ (m : Means). P m.choice standing) h.in_turn.same p)
+
+  pub row_more : (after : Plan) (later : Means) (stays : List Entry)
+      → IsTrue (child_fits means.choice 35 standing x)
+      → Adds now after [] [] (put_held (rules_by means.choice) standing x
+      (worked means.choice 35 (put_in standing x)))
+      → later ≡ means → stays ≡ standing
+      → RowsSoFar first inner all rest plan after later stays
+  row_more after later stays fits adds same stay =
+      let held = worked means.choice 35 (put_in standing x) in
+      record {
+        in_turn = subst (InSoFar first 35 inner all rest plan after later) (sym stay)
+            (in_step first 35 inner all left rest x plan now means standing h.in_turn next
+            (put_in standing x) refl (and_first (put_in_fits standing x) held.fits fits) after later
+            [] held.entries (and_second (put_in_fits standing x) held.fits fits)
+            (record { leaves = adds.leaves; nodes = adds.nodes; entries = refl }) same);
+        unfit_left = first_more (child_fits first.choice 35 inner) all left rest x h.unfit_left next
+            (from_start (λ choice es. child_fits choice 35 es x ≡ true) fits);
+      }
+
+pub rows_end : (first : Means) (inner : List Entry) (all left : List Item) (plan now : Plan)
+    (means : Means) (standing : List Entry)
+    → RowsSoFar first inner all left plan now means standing → left ≡ []
+    → (unfit_put first.choice 35 inner all ≡ None)
+    × Adds plan now [] [] (others_held first.choice inner all)
+rows_end first inner all left plan now means standing h none = (
+  sym h.unfit_left ∙ ap (unfit_put first.choice 35 inner) none,
+  (in_end first 35 inner all left plan now means standing h.in_turn none).1,
+)
+
+-- ---- a row or the objective
+
+module _ (choice : ℕ → Choice) (inner : List Entry) (item : Item) (plan after : Plan) where
+  abbrev held_here : Held Item Entry
+  held_here = worked choice 35 (put_in inner item)
+
+  pub child_answered : {T : Type 0} (r : Result T AffFault) (made : Item)
+      → IsTrue (put_in_fits inner item) → made ≡ put_in inner item
+      → ExactWhere r (IsTrue (worked choice 35 made).fits)
+      (λ _. Adds plan after [] [] (record (worked choice 35 made) { entries = [] }))
+      → ExactWhere r (IsTrue (child_fits choice 35 inner item))
+      (λ _. Adds plan after [] [] (put_held (rules_by choice) inner item held_here))
+  child_answered {T} r made put is said =
+      by r (subst (λ i. ExactWhere r (IsTrue (worked choice 35 i).fits)
+      (λ _. Adds plan after [] [] (record (worked choice 35 i) { entries = [] }))) is said)
+    where
+      by : (r : Result T AffFault)
+          → ExactWhere r (IsTrue held_here.fits)
+          (λ _. Adds plan after [] [] (record held_here { entries = [] }))
+          → ExactWhere r (IsTrue (put_in_fits inner item && held_here.fits))
+          (λ _. Adds plan after [] [] (put_held (rules_by choice) inner item held_here))
+      by (Ok x) h = (
+        ap₂ ◌&&◌ put h.0,
+        record { leaves = h.1.leaves; nodes = h.1.nodes; entries = refl },
+      )
+      by (Err fault.Overflow) h = λ t. h (and_second (put_in_fits inner item) held_here.fits t)
+      by (Err fault.Memory) h = tt
+
+  -- as the only one of a list
+  pub one_answered : {T : Type 0} (r : Result T AffFault)
+      → ExactWhere r (IsTrue (child_fits choice 35 inner item))
+      (λ _. Adds plan after [] [] (put_held (rules_by choice) inner item held_here))
+      → ExactWhere r (IsTrue (others_held choice inner (item ∷ [])).fits)
+      (λ _. Adds plan after [] [] (others_held choice inner (item ∷ [])))
+  unfolding worked_in
+  one_answered r h =
+      subst (λ held. ExactWhere r (IsTrue held.fits) (λ _. Adds plan after [] [] held))
+      (sym (joined_nothing (put_held (rules_by choice) inner item held_here))) h
+
+-- nothing is added to the entries of a row or the objective
+pub further_answered : {T : Type 0} (r : Result T AffFault) (held : Held Item Entry)
+    (plan after : Plan) (none es : List Entry)
+    → ExactWhere r (IsTrue held.fits) (λ _. Adds plan after none es held)
+    → ExactWhere r (IsTrue held.fits) (λ _. Adds plan after [] [] (record held { entries = [] }))
+further_answered (Ok x) held plan after none es h = (
+  h.0,
+  record { leaves = h.1.leaves; nodes = h.1.nodes; entries = refl },
+)
+further_answered (Err fault.Overflow) held plan after none es h = h
+further_answered (Err fault.Memory) held plan after none es h = tt

@@ -1,0 +1,5 @@
+mod InOrder
+mod KindSteps
+mod Telling
+mod Others
+mod ModelSteps

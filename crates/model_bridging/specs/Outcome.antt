@@ -1,0 +1,33 @@
+-- How a list of the user's items is planned: whole, or up to the first that doesn't fit.
+use Rattle.std.specs.Prelude.{◌≡◌, Option, Some, None, Result, Ok, Err}
+use Rattle.std.specs.Option.{option_map}
+use Rattle.aff_core.specs.Address.{Address}
+use Rattle.aff_core.specs.declared.fault.AffFault.{AffFault}
+use Rattle.aff_core.specs.declared.fault.AffFault.TheVariants as fault
+use Rattle.item_core.specs.declared.item.Item.{Item}
+use Rattle.item_core.specs.declared.kind.Kind.{Kind}
+use Rattle.model_bridging.specs.declared.fault.PushFault.{PushFault}
+use Rattle.model_bridging.specs.declared.fault.PushFault.TheVariants.{Unsupported, Overflow, Memory}
+
+-- the first item that doesn't fit, if any, stands at the address
+abbrev pub IsFirstAt : Option Item → Address → Type 0
+IsFirstAt unfit at = option_map (λ item. item.at) unfit ≡ Some at
+
+-- a value with Q where all fit, else the address of the first that doesn't; or want of memory
+abbrev pub Outcome : {T : Type 0} → Result T PushFault → Option Item → (T → Type 0) → Type 0
+Outcome (Ok x) unfit Q = (unfit ≡ None) × Q x
+Outcome (Err (Unsupported kind)) unfit Q = ⊥
+Outcome (Err (Overflow at)) unfit Q = IsFirstAt unfit at
+Outcome (Err Memory) unfit Q = Unit {0}
+
+-- why the item at an address isn't planned
+abbrev pub refused_at : AffFault → Address → PushFault
+refused_at fault.Overflow at = Overflow at
+refused_at fault.Memory at = Memory
+
+-- no item lacks a tree, or the first that does is of this kind; or want of memory
+abbrev pub KindsOutcome : {T : Type 0} → Result T PushFault → Option Kind → Type 0
+KindsOutcome (Ok x) missing = missing ≡ None
+KindsOutcome (Err (Unsupported kind)) missing = missing ≡ Some kind
+KindsOutcome (Err (Overflow at)) missing = ⊥
+KindsOutcome (Err Memory) missing = Unit {0}

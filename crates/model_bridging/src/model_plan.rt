@@ -1,0 +1,267 @@
+//! The fresh bridging of a user's model, worked out before anything is changed.
+ghost use Rattle.std.specs.Prelude.{◌≡◌, ◌++◌, [], All, IfOk, IsTrue, OnOk, flat_map, map};
+ghost use Rattle.std.specs.Option.{option_or};
+ghost use Rattle.aff_core.specs.Arithmetic.{ExactWhere};
+ghost use Rattle.expansion.specs.Grown.{put_held};
+ghost use Rattle.item_core.specs.declared.item.Item.{Item};
+ghost use Rattle.fresh_bridging.specs.Entries.{put_in};
+ghost use Rattle.fresh_bridging.specs.ModelImage.{group_item, objective_items, row_item};
+ghost use Rattle.fresh_bridging.specs.TheRules.{rules_by};
+ghost use Rattle.bridge_plan.specs.Adds.{Adds};
+ghost use Rattle.bridge_plan.specs.Means.{AreSound};
+ghost use Rattle.bridge_plan.specs.Worked.{IsWithin, worked, worked_each, worked_in};
+ghost use Rattle.model_bridging.specs.ModelHeld.{child_fits, unfit, unfit_put};
+ghost use Rattle.model_bridging.specs.Outcome.{Outcome, refused_at};
+ghost use Rattle.model_bridging.specs.Planned.{Planned};
+ghost use Rattle.model_bridging.specs.Whole.{IsReady, IsWhole, unfit_item, with_function};
+
+use crate::PushFault;
+use crate::kinds::check_kinds;
+use crate::model_items::item_of_group;
+use aff_core::{Address, Aff, AffFault, Root};
+use bridge_plan::{Entry, Plan, Rewriter, Standing, plan_item};
+use item_core::Item;
+use lists::Memory;
+use model_store::UserModel;
+use std::alloc::Global;
+use user_model::{Group, GroupVar, Objective, Row};
+
+/// How many items stand above one another at most.
+const LEVELS: u8 = 35;
+
+/// The plan of a model: its leaves and nodes, and each of its variables with its expression as a
+/// function, all in the order of the bridging.
+#[derive(Debug, Drop)]
+pub struct ModelPlan {
+    pub plan: Plan,
+    pub exprs: Vec<(Address, Aff)>,
+}
+
+/// The fresh bridging of a model. `Unsupported` where an item has no tree, with the kind of the
+/// first; else `Overflow` where a number that the bridging is made with doesn't fit, with the
+/// address of the first of the user's items at or below which it is.
+pub fn plan_model<R: Rewriter>(
+    alloc: Global,
+    rewriter: &mut R,
+    model: &UserModel,
+) -> Result<ModelPlan, PushFault>
+    requires { AreSound (R.means rewriter.old) }
+    ensures answer { Planned (R.means rewriter.old).setting model.now.model result }
+    ensures means { R.means rewriter.new ≡ R.means rewriter.old }
+{
+    let groups = model.groups();
+    let rows = model.rows();
+    let objective = model.objective();
+    check_kinds(alloc, rewriter, groups, rows, objective)?;
+    plan_items(alloc, rewriter, groups, rows, objective)
+}
+
+// Plans the groups, the rows and the objective, each of which has a tree.
+fn plan_items<R: Rewriter>(
+    alloc: Global,
+    rewriter: &mut R,
+    groups: &[Group],
+    rows: &[Row],
+    objective: &Objective,
+) -> Result<ModelPlan, PushFault>
+    requires { IsReady (R.means rewriter.old).choice (map group_item groups.now)
+        (map row_item rows.now ++ objective_items objective.now) }
+    ensures answer { let choice = (R.means rewriter.old).choice in
+        let items = map group_item groups.now in
+        let others = map row_item rows.now ++ objective_items objective.now in
+        Outcome result (unfit_item choice items others) (IsWhole choice groups.now others) }
+    ensures means { R.means rewriter.new ≡ R.means rewriter.old }
+{
+    let mut plan = Plan::new(alloc);
+    let entries = plan_groups(alloc, rewriter, &mut plan, groups)?;
+    let mut standing = Standing::of(alloc, entries)?;
+    let exprs = expressions(alloc, &standing, groups)?;
+    plan_others(alloc, rewriter, &mut plan, &mut standing, rows, objective)?;
+    Ok(ModelPlan { plan, exprs })
+}
+
+// Plans the groups one after another, and answers the expressions of their variables.
+fn plan_groups<R: Rewriter>(
+    alloc: Global,
+    rewriter: &mut R,
+    plan: &mut Plan,
+    groups: &[Group],
+) -> Result<Vec<Entry>, PushFault>
+    requires { All (IsWithin (R.means rewriter.old).choice 35) (map group_item groups.now) }
+    ensures answer { let choice = (R.means rewriter.old).choice in
+        let items = map group_item groups.now in
+        Outcome result (unfit choice 35 items) (λ entries. Adds plan.old plan.new [] entries.items
+        (worked_each choice (worked choice 35) items)) }
+    ensures means { R.means rewriter.new ≡ R.means rewriter.old }
+{
+    let mut entries = Vec::new(alloc);
+    for group in groups {
+        let item = item_of_group(alloc, group)?;
+        let at = item.at;
+        match plan_item(alloc, rewriter, plan, &mut entries, item, LEVELS) {
+            Ok(()) => {}
+            Err(fault) => return Err(refused(fault, at)),
+        }
+    }
+    Ok(entries)
+}
+
+// Plans the rows and then the objective, with what stands for their variables put in.
+fn plan_others<R: Rewriter>(
+    alloc: Global,
+    rewriter: &mut R,
+    plan: &mut Plan,
+    standing: &mut Standing,
+    rows: &[Row],
+    objective: &Objective,
+) -> Result<(), PushFault>
+    requires { All (λ item. IsWithin (R.means rewriter.old).choice 35 (put_in standing.old item))
+        (map row_item rows.now ++ objective_items objective.now) }
+    ensures answer { let choice = (R.means rewriter.old).choice in
+        let others = map row_item rows.now ++ objective_items objective.now in
+        Outcome result (unfit_put choice 35 standing.old others) (λ _. Adds plan.old plan.new [] []
+        (worked_in choice (worked choice 35) standing.old others)) }
+    ensures means { R.means rewriter.new ≡ R.means rewriter.old }
+{
+    plan_rows(alloc, rewriter, plan, standing, rows)?;
+    match plan_objective(alloc, rewriter, plan, standing, objective) {
+        Ok(()) => Ok(()),
+        Err(fault) => Err(refused(fault, Address::root(Root::Objective, 0))),
+    }
+}
+
+// Plans the rows one after another.
+fn plan_rows<R: Rewriter>(
+    alloc: Global,
+    rewriter: &mut R,
+    plan: &mut Plan,
+    standing: &mut Standing,
+    rows: &[Row],
+) -> Result<(), PushFault>
+    requires { All (λ item. IsWithin (R.means rewriter.old).choice 35 (put_in standing.old item))
+        (map row_item rows.now) }
+    ensures answer { let choice = (R.means rewriter.old).choice in
+        let items = map row_item rows.now in
+        Outcome result (unfit_put choice 35 standing.old items) (λ _. Adds plan.old plan.new [] []
+        (worked_in choice (worked choice 35) standing.old items)) }
+    ensures means { R.means rewriter.new ≡ R.means rewriter.old }
+    ensures same { standing.new ≡ standing.old }
+{
+    for row in rows {
+        match plan_row(alloc, rewriter, plan, standing, row) {
+            Ok(()) => {}
+            Err(fault) => return Err(refused(fault, Address::root(Root::Row, row.id))),
+        }
+    }
+    Ok(())
+}
+
+// Plans a row.
+fn plan_row<R: Rewriter>(
+    alloc: Global,
+    rewriter: &mut R,
+    plan: &mut Plan,
+    standing: &mut Standing,
+    row: &Row,
+) -> Result<(), AffFault>
+    requires { IsWithin (R.means rewriter.old).choice 35 (put_in standing.old (row_item row.now)) }
+    ensures answer { let choice = (R.means rewriter.old).choice in
+        let item = row_item row.now in
+        ExactWhere result (IsTrue (child_fits choice 35 standing.old item))
+        (λ _. Adds plan.old plan.new [] [] (put_held (rules_by choice) standing.old item
+        (worked choice 35 (put_in standing.old item)))) }
+    ensures means { R.means rewriter.new ≡ R.means rewriter.old }
+    ensures same { standing.new ≡ standing.old }
+{
+    let body = standing.row_body(&row.func, &row.set)?;
+    let at = Address::root(Root::Row, row.id);
+    plan_further(alloc, rewriter, plan, Item { at, body })
+}
+
+// Plans the objective, if there is one.
+fn plan_objective<R: Rewriter>(
+    alloc: Global,
+    rewriter: &mut R,
+    plan: &mut Plan,
+    standing: &mut Standing,
+    objective: &Objective,
+) -> Result<(), AffFault>
+    requires { All (λ item. IsWithin (R.means rewriter.old).choice 35 (put_in standing.old item))
+        (objective_items objective.now) }
+    ensures answer { let choice = (R.means rewriter.old).choice in
+        let items = objective_items objective.now in
+        let held = worked_in choice (worked choice 35) standing.old items in
+        ExactWhere result (IsTrue held.fits) (λ _. Adds plan.old plan.new [] [] held) }
+    ensures means { R.means rewriter.new ≡ R.means rewriter.old }
+{
+    let at = Address::root(Root::Objective, 0);
+    match objective {
+        Objective::Feasibility => Ok(()),
+        Objective::Plain { sense, var } => {
+            let body = standing.plain_objective(*sense, var)?;
+            plan_further(alloc, rewriter, plan, Item { at, body })
+        }
+        Objective::Affine { sense, func } => {
+            let body = standing.objective_body(*sense, func)?;
+            plan_further(alloc, rewriter, plan, Item { at, body })
+        }
+    }
+}
+
+// Plans a row or an objective that has what stands for its variables put in.
+fn plan_further<R: Rewriter>(
+    alloc: Global,
+    rewriter: &mut R,
+    plan: &mut Plan,
+    item: Item,
+) -> Result<(), AffFault>
+    requires { IsWithin (R.means rewriter.old).choice 35 item }
+    ensures answer { let held = worked (R.means rewriter.old).choice 35 item in
+        ExactWhere result (IsTrue held.fits)
+        (λ _. Adds plan.old plan.new [] [] (record held { entries = [] })) }
+    ensures means { R.means rewriter.new ≡ R.means rewriter.old }
+{
+    let mut none = Vec::new(alloc);
+    plan_item(alloc, rewriter, plan, &mut none, item, LEVELS)
+}
+
+// Why the user's item at an address isn't planned.
+fn refused(fault: AffFault, at: Address) -> PushFault
+    ensures { result ≡ refused_at fault at }
+{
+    match fault {
+        AffFault::Overflow => PushFault::Overflow { at },
+        AffFault::Memory => PushFault::Memory,
+    }
+}
+
+// Each variable with its expression as a function.
+fn expressions(
+    alloc: Global,
+    standing: &Standing,
+    groups: &[Group],
+) -> Result<Vec<(Address, Aff)>, Memory>
+    ensures { IfOk result (λ exprs. exprs.items
+        ≡ map (with_function standing.now) (flat_map (λ g. g.vars) groups.now)) }
+{
+    let mut exprs = Vec::new(alloc);
+    for group in groups {
+        push_expressions(&mut exprs, standing, group.vars.as_slice())?;
+    }
+    Ok(exprs)
+}
+
+fn push_expressions(
+    exprs: &mut Vec<(Address, Aff)>,
+    standing: &Standing,
+    vars: &[GroupVar],
+) -> Result<(), Memory>
+    ensures { OnOk result (exprs.new.items ≡ exprs.old.items
+        ++ map (with_function standing.now) vars.now) }
+{
+    for var in vars {
+        let at = Address::root(Root::Variable, var.number);
+        exprs.push((at, standing.function(&at)?))?;
+    }
+    Ok(())
+}
