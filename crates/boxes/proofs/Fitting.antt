@@ -1,0 +1,83 @@
+-- That an image fits, as the test of it says.
+use Rattle.std.specs.Prelude.{ℕ, ◌&&◌, List, [], ◌∷◌, Result, Ok, Err, length, refl}
+use Rattle.std.specs.Bool.{Decides}
+use Rattle.std.specs.List.{list_all, zip}
+use Rattle.std.proofs.lemmas.Bool.Decides.{Decides-and, Decides-like}
+use Rattle.ratio_core.specs.Rational.{neg_ℚ}
+use Rattle.ratio_core.specs.RationalLaws.{sum_fits_Decides}
+use Rattle.aff_core.specs.Arithmetic.{ExactWhere, PlusFits}
+use Rattle.aff_core.specs.declared.fault.AffFault.{AffFault}
+use Rattle.aff_core.specs.declared.fault.AffFault.TheVariants.{Memory, Overflow}
+use Rattle.aff_core.specs.Function.{Function, negated}
+use Rattle.item_core.specs.declared.family.Family.{Family}
+use Rattle.item_core.specs.declared.family.Family.TheVariants as family
+use Rattle.item_core.specs.declared.item.Item.{Item}
+use Rattle.item_core.specs.Edge.{family_of}
+use Rattle.item_core.specs.Item.{functions_of, set_of}
+use Rattle.bridge_face.specs.ImageOf.{DifferencesFit, EachSumFits, FitsBy, ImageFits, inner_functions, negations}
+use Rattle.bridge_face.specs.Images.{difference, function_of_body, number_in, rest_of}
+use Rattle.fresh_bridging.specs.FitTests.{Decides-all, plus_fits, plus_fits_Decides}
+use Rattle.fresh_bridging.specs.TheRules.{differences_fit, each_sum_fits, edge_at, fits_by, image_fits}
+
+differences_Decides : (t : Function) (ss : List Function)
+    → Decides (differences_fit t ss) (DifferencesFit t ss)
+unfolding differences_fit DifferencesFit
+differences_Decides t [] = (λ _. tt, λ _. refl)
+differences_Decides t (s ∷ ss) =
+    Decides-and (plus_fits t (negated s)) (differences_fit (difference t s) ss)
+    (plus_fits_Decides t (negated s)) (differences_Decides (difference t s) ss)
+
+each_Decides : (fs gs : List Function) → Decides (each_sum_fits fs gs) (EachSumFits fs gs)
+each_Decides fs gs =
+    Decides-all (λ p. plus_fits p.0 p.1) (λ p. PlusFits p.0 p.1) (λ p. plus_fits_Decides p.0 p.1)
+    (zip fs gs)
+
+by_Decides : (f : Family) (item : Item) → Decides (fits_by f item) (FitsBy f item)
+unfolding fits_by FitsBy
+by_Decides family.Vectorize item =
+    sum_fits_Decides (function_of_body item.body).constant (neg_ℚ (number_in (set_of item.body)))
+by_Decides family.NormInfinity item =
+    let t = function_of_body item.body in
+    let xs = rest_of (functions_of item.body) in
+    Decides-and (list_all (λ x. plus_fits t (negated x)) xs) (list_all (λ x. plus_fits t x) xs)
+    (Decides-all (λ x. plus_fits t (negated x)) (λ x. PlusFits t (negated x))
+    (λ x. plus_fits_Decides t (negated x)) xs)
+    (Decides-all (λ x. plus_fits t x) (λ x. PlusFits t x) (λ x. plus_fits_Decides t x) xs)
+by_Decides family.NormOne item =
+    let t = function_of_body item.body in
+    let xs = rest_of (functions_of item.body) in
+    let ss = inner_functions item (length xs) in
+    let sums = Decides-and (each_sum_fits ss (negations xs)) (each_sum_fits ss xs)
+    (each_Decides ss (negations xs)) (each_Decides ss xs) in
+    Decides-like (fits_by family.NormOne item) (λ h. (h.0, h.1.0, h.1.1))
+    (λ h. (h.0, (h.1, h.2)))
+    (Decides-and (differences_fit t ss) (each_sum_fits ss (negations xs) && each_sum_fits ss xs)
+    (differences_Decides t ss) sums)
+by_Decides family.GreaterLess item = (λ _. tt, λ _. refl)
+by_Decides family.OrthantFlip item = (λ _. tt, λ _. refl)
+by_Decides family.NonposVar item = (λ _. tt, λ _. refl)
+by_Decides family.ObjFlip item = (λ _. tt, λ _. refl)
+by_Decides family.Scalarize item = (λ _. tt, λ _. refl)
+by_Decides family.ScalarFunctionize item = (λ _. tt, λ _. refl)
+by_Decides family.VectorFunctionize item = (λ _. tt, λ _. refl)
+by_Decides family.VectorizeVar item = (λ _. tt, λ _. refl)
+by_Decides family.ObjFunctionize item = (λ _. tt, λ _. refl)
+by_Decides family.SplitSet item = (λ _. tt, λ _. refl)
+by_Decides family.DropReals item = (λ _. tt, λ _. refl)
+by_Decides family.ZerosVar item = (λ _. tt, λ _. refl)
+by_Decides family.FreeVar item = (λ _. tt, λ _. refl)
+by_Decides family.ScalarSlack item = (λ _. tt, λ _. refl)
+by_Decides family.VectorSlack item = (λ _. tt, λ _. refl)
+by_Decides family.Later item = (λ _. tt, λ _. refl)
+by_Decides family.ObjSlack item = (λ _. tt, λ _. refl)
+
+pub image_fits_Decides : (edge : ℕ) (item : Item)
+    → Decides (image_fits edge item) (ImageFits (edge_at edge) item)
+image_fits_Decides edge item = by_Decides (family_of (edge_at edge)) item
+
+-- what is exact where one fact holds is so where another does that says the same
+pub exact_like : {T : Type 0} (r : Result T AffFault) (P R : Type 0) (Q : T → Type 0)
+    → (P → R) → (R → P) → ExactWhere r P Q → ExactWhere r R Q
+exact_like (Ok x) P R Q there back h = (there h.0, h.1)
+exact_like (Err Overflow) P R Q there back h = λ k. h (back k)
+exact_like (Err Memory) P R Q there back h = tt

@@ -1,0 +1,6 @@
+mod Families
+mod Fitting
+mod Choices
+mod Stands
+mod Keeping
+mod Made

@@ -1,0 +1,9 @@
+//! Boxes of bridges, one a family, and how kinds are chosen for by a table and the families that
+//! there are.
+#![tactic(auto)]
+
+mod choosing;
+mod holding;
+mod places;
+
+pub use holding::Boxes;
