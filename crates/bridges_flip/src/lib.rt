@@ -6,8 +6,6 @@ mod greater_less;
 mod nonpos_var;
 mod obj_flip;
 mod orthant_flip;
-#[cfg(test)]
-mod tests;
 
 pub use greater_less::{GreaterLess, GreaterLessRule};
 pub use nonpos_var::{NonposVar, NonposVarRule};

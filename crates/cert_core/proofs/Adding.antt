@@ -28,7 +28,7 @@ use Rattle.cert_core.proofs.Answered.{answers_alike}
 use Rattle.cert_core.proofs.Parts.{no_products}
 use Rattle.cert_core.proofs.Places.{distinct, place_below, set_at_place, stands, stands_there}
 use Rattle.cert_core.proofs.Steps.{made_there, next_item}
-use Rattle.cert_core.proofs.ZeroSums.{SumFits-zero_right}
+use Rattle.rational_laws.specs.ZeroSums.{SumFits-zero_right}
 use Rattle.cert_core.proofs.Summed.{AddUp_one, Fits_sum, Fits_sum_from, SummedAsAll, step_of_one, summed_end, summed_refused, summed_start, summed_step}
 
 -- functions that agree on a list

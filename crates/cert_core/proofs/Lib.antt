@@ -1,6 +1,5 @@
 pub mod Steps
 pub mod Answered
-pub mod ZeroSums
 pub mod Tested
 pub mod Summed
 pub mod Places

@@ -15,7 +15,7 @@ use Rattle.rational_laws.specs.Field.{+ℚ-zero, neg_ℚ-neg_ℚ}
 use Rattle.rational_laws.specs.Fitting.{Fits_neg_ℚ, Fits_zero}
 use Rattle.aff_core.specs.Terms.{StepFits}
 use Rattle.cert_core.specs.Folds.{AddUp}
-use Rattle.cert_core.proofs.ZeroSums.{SumFits-zero_right}
+use Rattle.rational_laws.specs.ZeroSums.{SumFits-zero_right}
 
 -- ---- a sum whose steps fit fits
 

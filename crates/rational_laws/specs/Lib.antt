@@ -10,3 +10,4 @@ pub mod Ring
 pub mod Sums
 pub mod Tests
 pub mod Whole
+pub mod ZeroSums

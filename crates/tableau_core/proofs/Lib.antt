@@ -1,4 +1,3 @@
-pub mod ZeroSums
 pub mod RowSteps
 pub mod RowsSteps
 pub mod PivotSteps

@@ -8,7 +8,7 @@ use Rattle.rational_laws.specs.Field.{*ℚ-zero, +ℚ-zero, neg_ℚ-zero, zero-*
 use Rattle.rational_laws.specs.Fitting.{Fits_zero}
 use Rattle.tableau_core.specs.Row.{AllFit, IsLowered, cell, differences_fit, quotients_fit}
 use Rattle.tableau_core.specs.Places.{Covers}
-use Rattle.tableau_core.proofs.ZeroSums.{SumFits-zero_right}
+use Rattle.rational_laws.specs.ZeroSums.{SumFits-zero_right}
 use Rattle.simplex_laws.specs.SearchLaws.{all_below_all, all_below_failed, all_below_more}
 use Rattle.simplex_form.specs.Fit.{lowered_fits}
 use Rattle.simplex_form.specs.Search.{all_below}

@@ -1,6 +1,6 @@
 -- The leaves of a bridging with their duals, by kind: what is right for the leaf model holds of
 -- them.
-use Rattle.std.specs.Prelude.{◌≡◌, ℕ, true, false, cond, List, [], ◌∷◌, All, flat_map, length, map, refl}
+use Rattle.std.specs.Prelude.{◌≡◌, ◌||◌, ℕ, Bool, true, false, cond, List, [], ◌∷◌, All, flat_map, length, map, refl}
 use Rattle.std.proofs.Common.{arith, sym, ap, ap₂, subst, ◌∙◌, true≢false}
 use Rattle.std.proofs.lemmas.List.{length-map}
 use Rattle.std.proofs.lemmas.List.Elements.{All-append, All-cons, All-head, All-map, All-nil, All-tail, All-weaker}
@@ -29,8 +29,9 @@ use Rattle.item_core.specs.declared.item.Body.{Body}
 use Rattle.item_core.specs.declared.item.Body.TheVariants.{Group, Free, Plain, Affine, PlainVec, AffineVec, PlainObj, AffineObj}
 use Rattle.item_core.specs.declared.item.Item.{Item}
 use Rattle.item_core.specs.declared.kind.Kind.{Kind}
+use Rattle.item_core.specs.declared.kind.Kind.TheVariants as kinds
 use Rattle.item_core.specs.Item.{functions_of, is_group, set_of, variables_of}
-use Rattle.item_core.specs.Kind.{is_native, kind_number}
+use Rattle.item_core.specs.Kind.{is_native, kind_eq, kind_number}
 use Rattle.item_core.specs.KindOf.{kind_of_body}
 use Rattle.item_core.specs.Valid.{IsValidItem}
 use Rattle.bridge_face.specs.Law.{held_body}
@@ -51,9 +52,13 @@ use Rattle.tree_laws.specs.ObjectiveLaws.{by_case}
 
 -- ---- native kinds alone are supported
 
+-- a native kind, or free variables, which a solver takes where it takes a group of them
+abbrev pub is_leaf_kind : Kind → Bool
+is_leaf_kind kind = is_native kind || kind_eq kind kinds.Free
+
 abbrev pub SupportsNativeKinds : Setting → Type 0
 SupportsNativeKinds setting =
-    (kind : Kind) → IsSupported (graph_of setting) (kind_number kind) → is_native kind ≡ true
+    (kind : Kind) → IsSupported (graph_of setting) (kind_number kind) → is_leaf_kind kind ≡ true
 
 -- a native group is of free variables or of ones that are at least 0
 pub data IsNativeGroup : Body → Type 0 where
@@ -61,7 +66,7 @@ pub data IsNativeGroup : Body → Type 0 where
   nonnegatives : {n : ℕ} {vars : List Address} → IsNativeGroup (Group (set.Nonnegatives n) vars)
   free : {vars : List Address} → IsNativeGroup (Free vars)
 
-native_group : (b : Body) → is_group b ≡ true → is_native (kind_of_body b) ≡ true
+native_group : (b : Body) → is_group b ≡ true → is_leaf_kind (kind_of_body b) ≡ true
     → IsNativeGroup b
 unfolding kind_of_body is_native
 native_group (Group (set.LessThan u) vars) h k = absurd (true≢false (sym k))
@@ -87,7 +92,7 @@ native_group (AffineObj sense func) h k = absurd (true≢false (sym h))
 -- a native item that is valid
 pub record IsLeaf (leaf : Item) : Type 0 where
   pub valid : IsValidItem leaf
-  pub native : is_native (kind_of_body leaf.body) ≡ true
+  pub native : is_leaf_kind (kind_of_body leaf.body) ≡ true
   pub group : is_group leaf.body ≡ true → IsNativeGroup leaf.body
 
 module _ (setting : Setting) (costly : IsCostly (graph_of setting)) (choice : ℕ → Choice)
@@ -101,7 +106,7 @@ module _ (setting : Setting) (costly : IsCostly (graph_of setting)) (choice : �
     group = λ g. native_group item.body g its;
   }
     where
-      its : is_native (kind_of_body item.body) ≡ true
+      its : is_leaf_kind (kind_of_body item.body) ≡ true
       its =
           native (kind_of_body item.body)
           (subst (IsChoice (graph_of setting) (kind_number (kind_of_body item.body))) c

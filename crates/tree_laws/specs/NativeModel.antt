@@ -43,7 +43,7 @@ use Rattle.address_laws.specs.DistinctLaws.{each_apart}
 use Rattle.address_laws.specs.ImageLaws.{Misses}
 use Rattle.address_laws.specs.Keys.{own}
 use Rattle.address_laws.specs.LeafKeys.{keys_of-flat_map, same_flat_map, variable_keys}
-use Rattle.tree_laws.specs.LeafLaws.{IsLeaf, SupportsNativeKinds}
+use Rattle.tree_laws.specs.LeafLaws.{IsLeaf, SupportsNativeKinds, is_leaf_kind}
 use Rattle.tree_laws.specs.LookupLaws.{Missed, components}
 use Rattle.tree_laws.specs.CarriedLaws.{group_keys, keys_are, other_keys, others_miss, same_components}
 use Rattle.tree_laws.specs.PrimalLaws.{all_leaves, groups_there, native_leaves, others_there}
@@ -51,7 +51,7 @@ use Rattle.tree_laws.specs.SeenLaws.{leaves_in_miss, leaves_of_each_miss, omit_e
 
 -- ---- native rows
 
-plain_equations : (s : Set) → is_native (plain_kind_of s) ≡ true → HasEquations s
+plain_equations : (s : Set) → is_leaf_kind (plain_kind_of s) ≡ true → HasEquations s
 unfolding is_native
 plain_equations (set.LessThan u) k = tt
 plain_equations (set.GreaterThan l) k = tt
@@ -64,7 +64,7 @@ plain_equations (set.Nonpositives n) k = tt
 plain_equations (set.NormInfinityCone n) k = absurd (true≢false (sym k))
 plain_equations (set.NormOneCone n) k = absurd (true≢false (sym k))
 
-affine_equations : (s : Set) → is_native (affine_kind_of s) ≡ true → HasEquations s
+affine_equations : (s : Set) → is_leaf_kind (affine_kind_of s) ≡ true → HasEquations s
 unfolding is_native
 affine_equations (set.LessThan u) k = tt
 affine_equations (set.GreaterThan l) k = tt
@@ -141,7 +141,7 @@ terms_seen f keys h =
 module _ (setting : Setting) (costly : IsCostly (graph_of setting)) (lawful : AreLawful setting)
     (native : SupportsNativeKinds setting) (model : ModelValue) (valid : IsValid model)
     (bridging : FreshBridging setting model) where
-  abbrev leaves_here : List Item
+  abbrev pub leaves_here : List Item
   leaves_here = all_leaves setting costly lawful native model valid bridging
 
   abbrev first_keys : List Address
@@ -190,10 +190,10 @@ module _ (setting : Setting) (costly : IsCostly (graph_of setting)) (lawful : Ar
       (others_there setting costly lawful native model valid bridging) v (further_miss v h)
       (all_second (λ k. ¬ (k ≡ v)) first_keys second_keys h))
 
-  abbrev Names : Function → Type 0
+  abbrev pub Names : Function → Type 0
   Names f = NamesVariables (leaves_of bridging) f
 
-  abbrev LeafNames : Item → Type 0
+  abbrev pub LeafNames : Item → Type 0
   LeafNames leaf = All Names (functions_of leaf.body)
 
   -- a leaf variable stands in the leaf model
@@ -210,7 +210,7 @@ module _ (setting : Setting) (costly : IsCostly (graph_of setting)) (lawful : Ar
       (λ i. sym (variable_keys i))
       ∙ sym (keys_of-flat_map leaf_variables leaves_here)) c))
 
-  leaves_name : All LeafNames leaves_here
+  pub leaves_name : All LeafNames leaves_here
   leaves_name = λ k d end j g ends.
       All-weaker (λ t. Contains (first_keys ++ second_keys) t.0)
       (λ t. IsSome (finite.get (leaves_of bridging).variables t.0)) (λ t c. stands t.0 c)

@@ -128,11 +128,11 @@ no_entries (x ∷ xs) n = absurd (omega (arith, n))
 module _ (setting : Setting) (costly : IsCostly (graph_of setting)) (lawful : AreLawful setting)
     (native : SupportsNativeKinds setting) (model : ModelValue) (valid : IsValid model)
     (bridging : FreshBridging setting model) where
-  abbrev leaves_here : List Item
+  abbrev pub leaves_here : List Item
   leaves_here = all_leaves setting costly lawful native model valid bridging
 
   -- where the user has no objective, the leaf model has none
-  none_here : objective_items model.objective ≡ [] → flat_map leaf_objectives leaves_here ≡ []
+  pub none_here : objective_items model.objective ≡ [] → flat_map leaf_objectives leaves_here ≡ []
   none_here e =
       none_at_all leaves_here
       (All-append CostsNothing (leaves_of_each bridging.made.groups)
@@ -163,7 +163,7 @@ module _ (setting : Setting) (costly : IsCostly (graph_of setting)) (lawful : Ar
       (each_apart setting costly lawful model valid bridging).objective.entries)))
 
   -- by whether there is an objective
-  by_objective : {C : Type 0} → (objective_items model.objective ≡ [] → user_cost model.objective
+  pub by_objective : {C : Type 0} → (objective_items model.objective ≡ [] → user_cost model.objective
       ≡ constant_function zero_ℚ → C)
       → ((b : Body) → is_objective b ≡ true → objective_items model.objective ≡ objective_item b
       ∷ []

@@ -21,7 +21,10 @@ module _ (q : Rational) where
 
   whole_left : left_term q zero_ℚ ≡ q.num
   unfolding left_term
-  whole_left = ap (λ k. q.num *ℤ pos k) (ap (λ g. zero_ℚ.den / g) one_divisor ∙ div-one zero_ℚ.den ∙ one_den) ∙ *ℤ_pos_one q.num
+  whole_left =
+      ap (λ k. q.num *ℤ pos k) (ap (λ g. zero_ℚ.den / g) one_divisor ∙ div-one zero_ℚ.den
+      ∙ one_den)
+      ∙ *ℤ_pos_one q.num
 
   whole_sum : sum_of_terms q zero_ℚ ≡ q.num
   unfolding sum_of_terms
@@ -34,7 +37,8 @@ module _ (q : Rational) where
   unfolding sum_denominator
   whole_den =
       ap₂ ◌*◌ (ap (λ g. q.den / g) one_divisor ∙ div-one q.den)
-      (ap (λ k. zero_ℚ.den / k) (ap (gcd (unsigned_abs (sum_of_terms q zero_ℚ))) one_divisor ∙ gcd-one (unsigned_abs (sum_of_terms q zero_ℚ))) ∙ div-one zero_ℚ.den ∙ one_den)
+      (ap (λ k. zero_ℚ.den / k) (ap (gcd (unsigned_abs (sum_of_terms q zero_ℚ))) one_divisor
+      ∙ gcd-one (unsigned_abs (sum_of_terms q zero_ℚ))) ∙ div-one zero_ℚ.den ∙ one_den)
       ∙ one_lem q.den
     where
       one_lem : (k : ℕ) → k * 1 ≡ k
