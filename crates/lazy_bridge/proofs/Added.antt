@@ -1,0 +1,97 @@
+-- A family more, where it isn't among families.
+use Rattle.std.specs.Prelude.{◌≡◌, ◌+◌, ◌<◌, ◌≤◌, ℕ, Bool, true, false, ◌&&◌, ◌||◌, not, List, [], ◌∷◌, ◌++◌, Some, drop, length, map, slice_index_or, refl}
+use denote.Enum.Bare.{same_true}
+use Rattle.std.specs.List.{list_any}
+use Rattle.std.proofs.Common.{rules, sym, ap, ap₂, ◌∙◌, true≢false}
+use Rattle.std.proofs.lemmas.Bool.Decides.{Decides-eqb}
+use Rattle.std.proofs.lemmas.List.{drop_all, map-append}
+use Rattle.std.proofs.lemmas.Option.{slice_get-get_or}
+use Rattle.bridge_face.specs.State.{State}
+use Rattle.boxes.specs.Boxed.{families_of, occur_once}
+use Rattle.fresh_bridging.specs.TableLaws.{and_first, and_second}
+use Rattle.fresh_bridging.specs.TheRules.{family_number}
+use Rattle.item_core.specs.declared.family.Family.{Family}
+use Rattle.item_core.specs.contracts.family.Family.{the_type}
+use Rattle.item_core.specs.Edge.{family_eq}
+use Rattle.map_laws.specs.LoopLaws.{any_found}
+
+itself : (f : Family) → family_eq f f ≡ true
+itself f = (Decides-eqb (family_number f) (family_number f)).1 refl
+
+equal_family : (a b : Family) → family_eq a b ≡ true → a ≡ b
+equal_family a b e = same_true the_type (search rules) a b e
+
+two_false : (a b : Bool) → (a || b) ≡ false → (a ≡ false) × (b ≡ false)
+two_false true b e = absurd (true≢false e)
+two_false false b e = (refl, e)
+
+other_way : (f g : Family) → family_eq f g ≡ false → family_eq g f ≡ false
+other_way f g e = by (family_eq g f) refl
+  where
+    by : (b : Bool) → family_eq g f ≡ b → b ≡ false
+    by false h = refl
+    by true h =
+        absurd (true≢false (sym (itself f) ∙ ap (family_eq f) (sym (equal_family g f h)) ∙ e))
+
+still_none : (g f : Family) (fs : List Family) → list_any (family_eq g) fs ≡ false
+    → family_eq g f ≡ false → list_any (family_eq g) (fs ++ f ∷ []) ≡ false
+still_none g f [] h e = ap (λ b. b || false) e
+still_none g f (x ∷ fs) h e =
+    let both = two_false (family_eq g x) (list_any (family_eq g) fs) h in
+    ap₂ ◌||◌ both.0 (still_none g f fs both.1 e)
+
+pub one_more : (fs : List Family) (f : Family) → occur_once fs ≡ true
+    → list_any (family_eq f) fs ≡ false → occur_once (fs ++ f ∷ []) ≡ true
+one_more [] f h e = refl
+one_more (g ∷ fs) f h e =
+    let both = two_false (family_eq f g) (list_any (family_eq f) fs) e in
+    let first = and_first (not (list_any (family_eq g) fs)) (occur_once fs) h in
+    let rest = and_second (not (list_any (family_eq g) fs)) (occur_once fs) h in
+    ap₂ ◌&&◌
+    (ap not (still_none g f fs (was_not (list_any (family_eq g) fs) first) (other_way f g both.0)))
+    (one_more fs f rest both.1)
+  where
+    was_not : (b : Bool) → not b ≡ true → b ≡ false
+    was_not true k = absurd (true≢false (sym k))
+    was_not false k = refl
+
+-- ---- a search by family
+
+any_map : {A B : Type 0} (p : B → Bool) (f : A → B) (xs : List A)
+    → list_any p (map f xs) ≡ list_any (λ x. p (f x)) xs
+any_map p f [] = refl
+any_map p f (x ∷ xs) = ap (λ b. p (f x) || b) (any_map p f xs)
+
+module _ {B : Type 0} (state : B → State) where
+  abbrev pub is_of : Family → B → Bool
+  is_of f b = family_eq f (state b).family
+
+  among : (f : Family) (bs : List B)
+      → list_any (family_eq f) (families_of (map state bs)) ≡ list_any (is_of f) bs
+  among f bs =
+      any_map (family_eq f) (λ (s : State). s.family) (map state bs)
+      ∙ any_map (λ (s : State). family_eq f s.family) state bs
+
+  pub one_there : (bs : List B) (n : ℕ) (b d : B) (f : Family) → n < length bs
+      → b ≡ slice_index_or bs n d → family_eq f (state b).family ≡ true
+      → list_any (is_of f) (drop n bs) ≡ list_any (is_of f) bs
+      → true ≡ list_any (family_eq f) (families_of (map state bs))
+  one_there bs n b d f lt e same so_far =
+      any_found (is_of f) bs n b so_far (slice_get-get_or bs n d lt ∙ ap Some (sym e)) same
+      ∙ sym (among f bs)
+
+  pub none_there : (bs : List B) (n : ℕ) (f : Family) → length bs ≤ n
+      → list_any (is_of f) (drop n bs) ≡ list_any (is_of f) bs
+      → list_any (family_eq f) (families_of (map state bs)) ≡ false
+  none_there bs n f end so_far =
+      among f bs ∙ sym so_far ∙ ap (list_any (is_of f)) (drop_all n bs end)
+
+  pub once_more : (old new : List B) (b : B) → new ≡ old ++ b ∷ []
+      → occur_once (families_of (map state old)) ≡ true
+      → list_any (family_eq (state b).family) (families_of (map state old)) ≡ false
+      → occur_once (families_of (map state new)) ≡ true
+  once_more old new b is once other =
+      ap (λ bs. occur_once (families_of (map state bs))) is
+      ∙ ap (λ ss. occur_once (families_of ss)) (map-append state old (b ∷ []))
+      ∙ ap occur_once (map-append (λ (s : State). s.family) (map state old) (state b ∷ []))
+      ∙ one_more (families_of (map state old)) (state b).family once other

@@ -1,0 +1,134 @@
+-- Expressions put in one after another, each of a variable of its own; and the one objective.
+use Rattle.std.specs.Prelude.{◌≡◌, ◌≤◌, ◌+◌, ℕ, Bool, true, false, cond, List, [], ◌∷◌, ◌++◌, All, Some, None, drop, flat_map, length, map, refl}
+use Rattle.std.specs.FinMap as finite
+use Rattle.std.specs.FinMap.Entries.{find}
+use Rattle.std.specs.List.{AllByRecursion, IsDistinct}
+use Rattle.std.specs.Ordering.{eq_by_cmp}
+use Rattle.std.proofs.Common.{append_assoc, arith, sym, ap, subst, ◌∙◌, true≢false}
+use Rattle.std.proofs.lemmas.List.{append-nil}
+use Rattle.std.proofs.lemmas.List.Elements.{All-cons, All-nil}
+use Rattle.address_map.specs.AddressMap.{AddressMap}
+use Rattle.aff_core.specs.Address.{Address, address_cmp, address_eq, address_eq-Decides, address_total, exact_addresses}
+use Rattle.aff_core.specs.Function.{Function}
+use Rattle.aff_core.specs.Rising.{HasDistinctKeys}
+use Rattle.fresh_bridging.specs.Leaves.{leaf_objectives}
+use Rattle.item_core.specs.declared.item.Body.{Body}
+use Rattle.item_core.specs.declared.item.Body.TheVariants.{Group, Free, Plain, Affine, PlainVec, AffineVec, PlainObj, AffineObj}
+use Rattle.item_core.specs.declared.item.Item.{Item}
+use Rattle.bridge_face.specs.Law.{is_objective}
+use Rattle.tree_laws.specs.ObjectiveLaws.{itself_one}
+
+turned : (a b : Address) → address_eq a b ≡ false → address_eq b a ≡ false
+turned a b e = by (address_eq b a) refl
+  where
+    by : (t : Bool) → address_eq b a ≡ t → t ≡ false
+    by false k = refl
+    by true k = sym ((address_eq-Decides a b).1 (sym ((address_eq-Decides b a).0 k))) ∙ e
+
+-- a key that stands once isn't found before it
+pub not_before : {X : Type 0} (done rest : List (Address × X)) (e : Address × X)
+    → HasDistinctKeys address_cmp (done ++ e ∷ rest) → find address_cmp e.0 done ≡ None
+unfolding IsDistinct
+not_before [] rest e h = refl
+not_before {X} (d ∷ done) rest e h =
+    ap (λ b. cond b (Some d.1) (find address_cmp e.0 done)) (turned d.0 e.0 (last done h.0))
+    ∙ not_before done rest e h.1
+  where
+    last : (es : List (Address × X))
+        → AllByRecursion (λ y. eq_by_cmp address_cmp d.0 y ≡ false)
+        (map (λ f. f.0) (es ++ e ∷ rest))
+        → address_eq d.0 e.0 ≡ false
+    last [] k = k.0
+    last (f ∷ es) k = last es k.1
+
+pub record PutSoFar (old now : AddressMap) (all left : List (Address × Function)) : Type 0 where
+  pub done : List (Address × Function)
+  pub parts : all ≡ done ++ left
+  pub exprs : now.exprs ≡ finite.from_entries done
+  pub vars : now.vars ≡ old.vars
+  pub rows : now.rows ≡ old.rows
+
+pub put_start : (old : AddressMap) (all : List (Address × Function)) → old.exprs ≡ finite.empty
+    → PutSoFar old old all all
+put_start old all none = record {
+  done = [];
+  parts = refl;
+  exprs = none;
+  vars = refl;
+  rows = refl;
+}
+
+pub put_next : (old now after : AddressMap) (all left rest : List (Address × Function))
+    (at : Address) (f : Function) → PutSoFar old now all left → left ≡ (at, f) ∷ rest
+    → HasDistinctKeys address_cmp all → after.exprs ≡ finite.insert now.exprs at f
+    → after.vars ≡ now.vars → after.rows ≡ now.rows → PutSoFar old after all rest
+put_next old now after all left rest at f h next apart is vars rows =
+    let whole = h.parts ∙ ap (λ l. h.done ++ l) next in
+    record {
+      done = h.done ++ (at, f) ∷ [];
+      parts = whole ∙ sym (append_assoc h.done ((at, f) ∷ []) rest);
+      exprs =
+          is
+          ∙ ap (λ m. finite.insert m at f) h.exprs
+          ∙ sym (finite.from_entries_push address_total exact_addresses h.done at f
+          (not_before h.done rest (at, f) (subst (HasDistinctKeys address_cmp) whole apart)));
+      vars = vars ∙ h.vars;
+      rows = rows ∙ h.rows;
+    }
+
+pub put_end : (old now : AddressMap) (all left : List (Address × Function))
+    → PutSoFar old now all left → left ≡ [] → now.exprs ≡ finite.from_entries all
+put_end old now all left h none =
+    h.exprs
+    ∙ ap (finite.from_entries {R = address_cmp})
+    (sym (h.parts ∙ ap (λ l. h.done ++ l) none ∙ append-nil h.done))
+
+-- ---- the objective
+
+no_objective : (i : Item) → is_objective i.body ≡ false → leaf_objectives i ≡ []
+no_objective i = by i.body
+  where
+    by : (b : Body) → is_objective b ≡ false
+        → leaf_objectives (record { at = i.at; body = b }) ≡ []
+    by (Group s vars) h = refl
+    by (Free vars) h = refl
+    by (Plain var s) h = refl
+    by (Affine func s) h = refl
+    by (PlainVec vars s) h = refl
+    by (AffineVec funcs s) h = refl
+    by (PlainObj sense var) h = absurd (true≢false h)
+    by (AffineObj sense func) h = absurd (true≢false h)
+
+module _ (leaves : List Item) (i : ℕ) (leaf : Item) (next : drop i leaves ≡ leaf ∷ drop (i + 1) leaves)
+    (so_far : flat_map leaf_objectives (drop i leaves) ≡ flat_map leaf_objectives leaves) where
+  left : flat_map leaf_objectives leaves
+      ≡ leaf_objectives leaf ++ flat_map leaf_objectives (drop (i + 1) leaves)
+  left = sym so_far ∙ ap (flat_map leaf_objectives) next
+
+  pub passed_by : is_objective leaf.body ≡ false
+      → flat_map leaf_objectives (drop (i + 1) leaves) ≡ flat_map leaf_objectives leaves
+  passed_by other =
+      sym (left ∙ ap (λ es. es ++ flat_map leaf_objectives (drop (i + 1) leaves))
+      (no_objective leaf other))
+
+  pub there_it_is : length (flat_map leaf_objectives leaves) ≤ 1 → is_objective leaf.body ≡ true
+      → All (λ e. e.0 ≡ leaf.at) (flat_map leaf_objectives leaves)
+  there_it_is one found =
+      subst (All (λ e. e.0 ≡ leaf.at)) (sym whole)
+      (All-cons (λ e. e.0 ≡ leaf.at) (leaf.at, leaf.body) [] refl (All-nil (λ e. e.0 ≡ leaf.at)))
+    where
+      nothing : {X : Type 0} (es : List X) → length es ≡ 0 → es ≡ []
+      nothing [] e = refl
+      nothing (x ∷ xs) e = absurd (omega (arith, e))
+
+      first : flat_map leaf_objectives leaves
+          ≡ (leaf.at, leaf.body) ∷ flat_map leaf_objectives (drop (i + 1) leaves)
+      first = left ∙ ap (λ es. es ++ flat_map leaf_objectives (drop (i + 1) leaves))
+          (itself_one leaf found)
+
+      whole : flat_map leaf_objectives leaves ≡ (leaf.at, leaf.body) ∷ []
+      whole =
+          first
+          ∙ ap (λ es. (leaf.at, leaf.body) ∷ es)
+          (nothing (flat_map leaf_objectives (drop (i + 1) leaves))
+          (omega (arith, one, ap length first)))

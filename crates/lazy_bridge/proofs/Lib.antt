@@ -1,0 +1,9 @@
+mod Added
+mod Empty
+mod Nodes
+mod Puttable
+mod Standing
+mod NativeTables
+mod Expressions
+mod Putting
+mod Pushing

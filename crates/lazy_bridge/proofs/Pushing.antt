@@ -1,0 +1,164 @@
+-- What a call answers that bridges a model, by the plan's answer.
+use Rattle.std.specs.Prelude.{◌≡◌, ℕ, true, List, All, Ok, Err, Some, refl}
+use Rattle.std.specs.FinMap as finite
+use Rattle.std.proofs.Common.{sym, ap, subst, ◌∙◌}
+use Rattle.address_map.specs.AddressMap.{AddressMap}
+use Rattle.boxes.specs.Boxed.{Boxed, choice_in, families_of, kept_by, means_of, setting_by, setting_of}
+use Rattle.bridge_face.specs.State.{State}
+use Rattle.bridge_plan.specs.Means.{AreSound, Means}
+use Rattle.fresh_bridging.specs.ChoiceLaws.{one_choice}
+use Rattle.fresh_bridging.specs.FreshBridging.{FreshBridging, IsUnsupported, unfit_at}
+use Rattle.fresh_bridging.specs.TheRules.{AreChoices, Setting, graph_of}
+use Rattle.item_core.specs.declared.family.Family.{Family}
+use Rattle.item_core.specs.declared.table.Table.{Table}
+use Rattle.lazy_bridge.specs.Native.{supports_native}
+use Rattle.lazy_bridge.specs.Owned.{HoldsNothing, IsBridgingOf, Owned, leaf_model_in, setting_in}
+use Rattle.lazy_bridge.specs.Plans.{Holds, IsPuttable}
+use Rattle.lazy_bridge.specs.Pushed.{Counts, IsBridgedBy, IsTried}
+use Rattle.lazy_bridge.proofs.NativeTables.{supported}
+use Rattle.lazy_bridge.proofs.Puttable.{puttable}
+use Rattle.lazy_bridge.proofs.Standing.{stands}
+use Rattle.model_bridging.specs.Planned.{IsPlanOf, Planned}
+use Rattle.model_bridging.specs.declared.fault.PushFault.{PushFault}
+use Rattle.model_bridging.specs.declared.fault.PushFault.TheVariants.{Unsupported, Overflow, Memory}
+use Rattle.model_bridging.specs.declared.model_plan.ModelPlan.{ModelPlan}
+use Rattle.solver_store.specs.SolverModel.{Stored, no_leaves}
+use Rattle.user_model.specs.Model.{ModelValue}
+use Rattle.user_model.specs.Valid.{IsValid}
+
+-- a plan that was made can be put in
+pub can_be_put : (old : Owned) (tried : List Family) (model : ModelValue) (planned : ModelPlan)
+    → AreSound (means_of old.boxes) → supports_native old.boxes.table ≡ true → IsValid model
+    → IsPlanOf (setting_in old) model planned → tried ≡ families_of old.boxes.states
+    → IsPuttable tried planned
+can_be_put old tried model planned sound native valid plan same =
+    subst (λ fs. IsPuttable fs planned) (sym same)
+    (puttable (setting_in old) sound.costly sound.lawful (supported (setting_in old) native) model
+    valid planned plan)
+
+-- and is the model's bridging once it stands there
+pub bridged : (old tried new : Owned) (model : ModelValue) (planned : ModelPlan) (n : ℕ)
+    → IsPlanOf (setting_in old) model planned → IsTried old tried → Holds tried planned new
+    → setting_in new ≡ setting_in tried → Counts (leaf_model_in tried) (leaf_model_in new) n
+    → IsBridgedBy old old.boxes.table model (Ok n) new
+bridged old tried new model planned n plan as_it_was holds same counts =
+    let setting : setting_in new ≡ setting_in old = same ∙ ap (λ (m : Means). m.setting)
+    as_it_was.means in (
+      stands tried new (setting_in old) model planned plan holds setting,
+      setting,
+      subst (λ l. Counts l (leaf_model_in new) n) read_at counts,
+    )
+  where
+    read_at : leaf_model_in tried ≡ leaf_model_in old
+    read_at = λ i. leaf_model_in (record {
+      boxes = tried.boxes;
+      solver = as_it_was.solver i;
+      map = as_it_was.map i;
+      objective_at = as_it_was.objective_at i;
+    })
+
+-- a fault of the planning changes nothing but turns
+pub refused : (old new : Owned) (model : ModelValue) (fault : PushFault)
+    → (fault ≡ Memory → ⊥) → Planned (setting_in old) model (Err fault) → IsTried old new
+    → IsBridgedBy old old.boxes.table model (Err fault) new
+refused old new model (Unsupported kind) other plan same = (plan, same)
+refused old new model (Overflow at) other plan same = (plan, same)
+refused old new model Memory other plan same = absurd (other refl)
+
+-- want of memory leaves nothing
+pub emptied : (old tried new : Owned) (model : ModelValue) → IsTried old tried
+    → HoldsNothing new → setting_in new ≡ setting_in tried
+    → IsBridgedBy old old.boxes.table model (Err Memory) new
+emptied old tried new model as_it_was nothing same =
+    (nothing, same ∙ ap (λ (m : Means). m.setting) as_it_was.means)
+
+-- ---- by another table, and back
+
+-- another table was set, and nothing else
+pub record IsSet (old new : Owned) (table : Table) : Type 0 where
+  pub table_is : new.boxes.table ≡ table
+  pub states : new.boxes.states ≡ old.boxes.states
+  pub solver : new.solver ≡ old.solver
+  pub map : new.map ≡ old.map
+  pub objective_at : new.objective_at ≡ old.objective_at
+
+set_setting : (old new : Owned) (table : Table) → IsSet old new table
+    → setting_in new ≡ setting_by table old.boxes.states
+set_setting old new table h = λ i. setting_by (h.table_is i) (h.states i)
+
+set_leaves : (old new : Owned) (table : Table) → IsSet old new table
+    → leaf_model_in new ≡ leaf_model_in old
+set_leaves old new table h = λ i. leaf_model_in (record {
+  boxes = new.boxes;
+  solver = h.solver i;
+  map = h.map i;
+  objective_at = h.objective_at i;
+})
+
+-- sound choices by one setting are the same
+pub same_means : (a b : Boxed) → AreSound (means_of a) → AreSound (means_of b)
+    → setting_of a ≡ setting_of b → kept_by a.states ≡ kept_by b.states → means_of a ≡ means_of b
+same_means a b sound also e k = λ i. record {
+  setting = e i;
+  choice = λ kind. chosen kind i;
+  kept = k i;
+}
+  where
+    chosen : (kind : ℕ) → choice_in a.choices kind ≡ choice_in b.choices kind
+    chosen kind =
+        one_choice (graph_of (setting_of b)) also.costly kind (choice_in a.choices kind)
+        (choice_in b.choices kind)
+        (subst (λ s. AreChoices s (choice_in a.choices)) e sound.chosen kind) (also.chosen kind)
+
+module _ (old first second last : Owned) (table : Table) (model : ModelValue)
+    (set : IsSet old first table) (back : IsSet second last old.boxes.table)
+    (sound : AreSound (means_of old.boxes)) (also : AreSound (means_of last.boxes)) where
+  restored : IsTried first second → IsTried old last
+  restored h = record {
+    means =
+        same_means last.boxes old.boxes also sound
+        (set_setting second last old.boxes.table back
+        ∙ ap (λ fs. record { table = old.boxes.table; families = fs })
+        (ap (λ (m : Means). m.setting.families) h.means ∙ ap families_of set.states))
+        (ap kept_by back.states ∙ ap (λ (m : Means). m.kept) h.means ∙ ap kept_by set.states);
+    solver = back.solver ∙ h.solver ∙ set.solver;
+    map = back.map ∙ h.map ∙ set.map;
+    objective_at = back.objective_at ∙ h.objective_at ∙ set.objective_at;
+  }
+
+  still_nothing : HoldsNothing second → HoldsNothing last
+  still_nothing h = record {
+    leaves = subst (λ (s : Stored). s.leaves ≡ no_leaves s.leaves.calls) (sym back.solver) h.leaves;
+    vars = ap (λ (m : AddressMap). m.vars.indices) back.map ∙ h.vars;
+    rows = ap (λ (m : AddressMap). m.rows.indices) back.map ∙ h.rows;
+    exprs = ap (λ (m : AddressMap). m.exprs) back.map ∙ h.exprs;
+    kept = subst (All (λ (box : State). box.kept ≡ finite.empty)) (sym back.states) h.kept;
+  }
+
+  pub set_back : (fault : PushFault) → IsBridgedBy first first.boxes.table model (Err fault) second
+      → IsBridgedBy old table model (Err fault) last
+  set_back (Unsupported kind) h = (
+    subst (λ s. IsUnsupported s model kind) (set_setting old first table set) h.0,
+    restored h.1,
+  )
+  set_back (Overflow at) h = (
+    subst (λ s. (bridging : FreshBridging s model) × (unfit_at bridging ≡ Some at))
+        (set_setting old first table set) h.0,
+    restored h.1,
+  )
+  set_back Memory h = (
+    still_nothing h.0,
+    set_setting second last old.boxes.table back
+        ∙ ap (λ fs. record { table = old.boxes.table; families = fs })
+        (ap (λ (s : Setting). s.families) h.1 ∙ ap families_of set.states),
+  )
+
+-- where the model is bridged by the other table
+pub set_on : (old first second : Owned) (table : Table) (model : ModelValue) (n : ℕ)
+    → IsSet old first table → IsBridgedBy first first.boxes.table model (Ok n) second
+    → IsBridgedBy old table model (Ok n) second
+set_on old first second table model n set h = (
+  h.0,
+  h.1 ∙ set_setting old first table set,
+  subst (λ l. Counts l (leaf_model_in second) n) (set_leaves old first table set) h.2,
+)

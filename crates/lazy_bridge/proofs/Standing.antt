@@ -1,0 +1,57 @@
+-- A plan that stands in a bridging is the fresh bridging that it plans.
+use Rattle.std.specs.Prelude.{◌≡◌, List, [], ◌∷◌, All, map, refl}
+use Rattle.std.specs.FinMap as finite
+use Rattle.std.proofs.Common.{sym, ap, subst, ◌∙◌}
+use Rattle.std.proofs.lemmas.List.Elements.{All-map, All-nil, All-cons}
+use Rattle.aff_core.specs.Address.{address_cmp}
+use Rattle.boxes.specs.Boxed.{families_of, kept_among, kept_by, keeping}
+use Rattle.bridge_face.specs.State.{Kept, State}
+use Rattle.bridge_face.specs.declared.kept_item.KeptItem.{KeptItem}
+use Rattle.fresh_bridging.specs.EachLaws.{all_from_map}
+use Rattle.fresh_bridging.specs.FreshBridging.{FreshBridging}
+use Rattle.fresh_bridging.specs.Leaves.{leaf_model_of}
+use Rattle.fresh_bridging.specs.TheRules.{Setting}
+use Rattle.item_core.specs.declared.family.Family.{Family}
+use Rattle.lazy_bridge.specs.Owned.{IsBridgingOf, Owned, leaf_model_in, nodes_by, setting_in}
+use Rattle.lazy_bridge.specs.Plans.{Holds}
+use Rattle.model_bridging.specs.Planned.{IsPlanOf}
+use Rattle.model_bridging.specs.declared.model_plan.ModelPlan.{ModelPlan}
+use Rattle.user_model.specs.Model.{ModelValue}
+
+-- what each state keeps, by its family
+all_kept : (nodes : List KeptItem) (old : List State)
+    → All (λ (p : Family × Kept). p.1 ≡ kept_among nodes p.0) (map (keeping nodes) old)
+all_kept nodes [] = All-nil (λ (p : Family × Kept). p.1 ≡ kept_among nodes p.0)
+all_kept nodes (s ∷ ss) =
+    All-cons (λ (p : Family × Kept). p.1 ≡ kept_among nodes p.0) (keeping nodes s)
+    (map (keeping nodes) ss) refl (all_kept nodes ss)
+
+each_keeps : (nodes : List KeptItem) (old new : List State)
+    → kept_by new ≡ map (keeping nodes) old
+    → All (λ (s : State). s.kept ≡ kept_among nodes s.family) new
+each_keeps nodes old new e =
+    all_from_map (λ (p : Family × Kept). p.1 ≡ kept_among nodes p.0)
+    (λ (s : State). (s.family, s.kept)) new
+    (subst (All (λ (p : Family × Kept). p.1 ≡ kept_among nodes p.0)) (sym e) (all_kept nodes old))
+
+pub stands : (old new : Owned) (setting : Setting) (model : ModelValue) (planned : ModelPlan)
+    → IsPlanOf setting model planned → Holds old planned new → setting_in new ≡ setting
+    → IsBridgingOf new model
+stands old new setting model planned plan holds same =
+    subst_setting setting (sym same) plan
+  where
+    subst_setting : (s : Setting) → s ≡ setting_in new → IsPlanOf s model planned
+        → IsBridgingOf new model
+    subst_setting s e p = there (subst (λ t. IsPlanOf t model planned) e p)
+      where
+        there : IsPlanOf (setting_in new) model planned → IsBridgingOf new model
+        there q = record {
+          bridging = q.bridging;
+          made = q.made;
+          leaves = holds.leaves ∙ ap leaf_model_of q.leaves;
+          kept =
+              subst (λ ns. All (λ (s : State). s.kept ≡ kept_among ns s.family) new.boxes.states)
+              q.nodes
+              (each_keeps planned.plan.nodes.items old.boxes.states new.boxes.states holds.kept);
+          exprs = holds.exprs ∙ ap (finite.from_entries {R = address_cmp}) q.exprs;
+        }

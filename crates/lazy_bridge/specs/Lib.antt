@@ -1,0 +1,4 @@
+pub mod Owned
+pub mod Native
+pub mod Pushed
+pub mod Plans

@@ -1,0 +1,26 @@
+-- Plans, and what is put in of one.
+use Rattle.std.specs.Prelude.{◌≡◌, List, Result, Ok, Err, map}
+use Rattle.std.specs.FinMap as finite
+use Rattle.aff_core.specs.Address.{address_cmp}
+use Rattle.aff_core.specs.Rising.{HasDistinctKeys}
+use Rattle.boxes.specs.Boxed.{AreKeepable, kept_by, keeping}
+use Rattle.fresh_bridging.specs.Leaves.{leaf_model_of}
+use Rattle.fresh_bridging.specs.TheRules.{Setting}
+use Rattle.item_core.specs.declared.family.Family.{Family}
+use Rattle.lazy_bridge.specs.Owned.{HoldsNothing, Owned, leaf_model_in, setting_in}
+use Rattle.lazy_bridge.specs.Pushed.{Counts}
+use Rattle.leaf_change.specs.Leaves.{AreLeaves}
+use Rattle.model_bridging.specs.declared.model_plan.ModelPlan.{ModelPlan}
+
+-- a plan that can be put in where there are boxes of these families
+pub record IsPuttable (families : List Family) (planned : ModelPlan) : Type 0 where
+  pub leaves : AreLeaves planned.plan.leaves.items
+  pub nodes : AreKeepable families planned.plan.nodes.items
+  pub exprs : HasDistinctKeys address_cmp planned.exprs.items
+
+-- the plan stands in it
+pub record Holds (old : Owned) (planned : ModelPlan) (new : Owned) : Type 0 where
+  pub leaves : leaf_model_in new ≡ leaf_model_of planned.plan.leaves.items
+  pub kept :
+      kept_by new.boxes.states ≡ map (keeping planned.plan.nodes.items) old.boxes.states
+  pub exprs : new.map.exprs ≡ finite.from_entries planned.exprs.items

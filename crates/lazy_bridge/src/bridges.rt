@@ -1,0 +1,37 @@
+//! Lists of bridges that a lazy bridging begins with.
+ghost use Rattle.std.specs.Prelude.{◌≡◌, All, IsTrue, map};
+ghost use Rattle.std.specs.FinMap as finite;
+ghost use Rattle.std.specs.List.{list_any};
+ghost use Rattle.boxes.specs.Boxed.{families_of, occur_once};
+ghost use Rattle.item_core.specs.Edge.{family_eq};
+
+use bridge_face::Bridge;
+use item_core::Family;
+use lists::Memory;
+
+/// Adds a bridge that keeps nothing, unless there is one of its family.
+pub fn add_bridge<B: Bridge>(bridges: &mut Vec<B>, bridge: B) -> Result<(), Memory>
+    requires empty { (B.state bridge).kept ≡ finite.empty }
+    requires once { IsTrue (occur_once (families_of (map B.state bridges.old.items))) }
+    requires kept { All (λ s. s.kept ≡ finite.empty) (map B.state bridges.old.items) }
+    ensures once { IsTrue (occur_once (families_of (map B.state bridges.new.items))) }
+    ensures kept { All (λ s. s.kept ≡ finite.empty) (map B.state bridges.new.items) }
+{
+    if has_family(bridges, bridge.family()) {
+        return Ok(());
+    }
+    bridges.push(bridge)?;
+    Ok(())
+}
+
+// Whether there is a bridge of the family.
+fn has_family<B: Bridge>(bridges: &[B], family: Family) -> bool
+    ensures { result ≡ list_any (family_eq family) (families_of (map B.state bridges.now)) }
+{
+    for bridge in bridges {
+        if family == bridge.family() {
+            return true;
+        }
+    }
+    false
+}

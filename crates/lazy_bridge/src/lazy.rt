@@ -1,0 +1,263 @@
+//! The lazy bridging of a user's model.
+ghost use Rattle.std.specs.Prelude.{◌≡◌, ◌↔◌, All, IfOk, IfSome, IsNone, IsTrue, OnErr};
+ghost use Rattle.std.specs.Prelude as prelude;
+ghost use Rattle.std.specs.FinMap as finite;
+ghost use Rattle.std.specs.List.{list_all};
+ghost use Rattle.boxes.specs.Boxed.{families_of, means_of, occur_once};
+ghost use Rattle.bridge_graph.specs.Hypergraph.{is_edge_cost};
+ghost use Rattle.bridge_graph.specs.Tree.{IsLeastCost, IsTreeless};
+ghost use Rattle.bridge_plan.specs.Means.{AreSound};
+ghost use Rattle.fresh_bridging.specs.TheRules.{IsChoice, graph_of};
+ghost use Rattle.item_core.specs.Kind.{kind_number};
+ghost use Rattle.leaf_change.specs.Named.{NamesEach};
+ghost use Rattle.lazy_bridge.specs.Native.{supports_native};
+ghost use Rattle.lazy_bridge.specs.Owned.{HoldsNothing, leaf_model_in, setting_in};
+ghost use Rattle.lazy_bridge.specs.Plans.{Holds, IsPuttable};
+ghost use Rattle.lazy_bridge.specs.Pushed.{Counts, IsBridgedBy};
+ghost use Rattle.solver_store.specs.SolverModel.{no_leaves};
+
+use crate::change::{capped, let_all_go, objective_address, put_plan};
+use address_map::AddressMap;
+use aff_core::{Address, Root};
+use boxes::Boxes;
+use bridge_face::Bridge;
+use bridge_graph::Choice;
+use bridge_plan::Rewriter;
+use item_core::{Kind, Table};
+use leaf_change::count_changed;
+use lists::Memory;
+use model_bridging::{ModelPlan, PushFault, plan_model};
+use model_store::{Undo, UserModel};
+use solver_store::SolverModel;
+use std::alloc::Global;
+use std::marker::Model;
+
+/// The lazy bridging over boxed bridges.
+pub type Lazy = LazyOver<Box<dyn Bridge>>;
+
+/// Bridges, and the solver's model and map that are kept as the fresh bridging of a user's model.
+#[derive(Drop)]
+pub struct LazyOver<B: Bridge> {
+    alloc: Global,
+    boxes: Boxes<B>,
+    solver: SolverModel,
+    map: AddressMap,
+    objective_at: Address,
+}
+
+impl<B: Bridge> Model for LazyOver<B> {
+    ghost use Rattle.lazy_bridge.specs.Owned.{Owned, owned_code};
+
+    ghost Value = { Owned };
+
+    ghost coded = { owned_code };
+
+    ghost use Rattle.std.specs.Prelude.{IsTrue};
+    ghost use Rattle.leaf_change.specs.Named.{NamesEach};
+    ghost use Rattle.lazy_bridge.specs.Native.{supports_native};
+
+    ghost view = { λ l. record {
+      boxes = l.boxes;
+      solver = l.solver;
+      map = l.map;
+      objective_at = l.objective_at;
+    } };
+
+    ghost invariant = { λ l. IsTrue (supports_native l.boxes.table)
+        × NamesEach l.map l.solver.leaves };
+}
+
+impl<B: Bridge> LazyOver<B> {
+    /// A bridging that holds nothing. Costs are 1 to 1,000, native kinds and free variables alone
+    /// are supported, and no family occurs twice.
+    pub fn new(
+        alloc: Global,
+        table: Table,
+        bridges: Vec<B>,
+        solver: SolverModel,
+        map: AddressMap,
+    ) -> LazyOver<B>
+        requires costs { IsTrue (list_all is_edge_cost table.cost) }
+        requires native { IsTrue (supports_native table) }
+        requires once { IsTrue (occur_once (families_of (prelude.map B.state bridges.items))) }
+        requires kept { All (λ s. s.kept ≡ finite.empty) (prelude.map B.state bridges.items) }
+        requires solver { solver.leaves ≡ no_leaves solver.leaves.calls }
+        requires vars { map.vars.indices ≡ finite.empty }
+        requires rows { map.rows.indices ≡ finite.empty }
+        requires exprs { map.exprs ≡ finite.empty }
+        ensures nothing { HoldsNothing result }
+        ensures table { result.boxes.table ≡ table }
+        ensures states { result.boxes.states ≡ prelude.map B.state bridges.items }
+    {
+        LazyOver {
+            alloc,
+            boxes: Boxes::new(table, bridges),
+            solver,
+            map,
+            objective_at: Address::root(Root::Objective, 0),
+        }
+    }
+
+    /// Bridges a model, where nothing is held. The answer is the number of leaves.
+    pub fn fill(&mut self, model: &UserModel) -> Result<u64, PushFault>
+        ensures { IsBridgedBy self.old self.old.boxes.table model.now.model result self.new }
+    {
+        self.bridge(model)
+    }
+
+    /// Bridges a model anew in place of the one before. The answer is the number of addresses at
+    /// which the leaves differ.
+    pub fn push(&mut self, after: &UserModel, _undo: &[Undo]) -> Result<u64, PushFault>
+        ensures { IsBridgedBy self.old self.old.boxes.table after.now.model result self.new }
+    {
+        self.bridge(after)
+    }
+
+    /// Bridges the model by another table.
+    pub fn set_table(&mut self, model: &UserModel, table: Table) -> Result<u64, PushFault>
+        requires costs { IsTrue (list_all is_edge_cost table.cost) }
+        requires native { IsTrue (supports_native table) }
+        ensures { IsBridgedBy self.old table model.now.model result self.new }
+    {
+        let before = *self.table();
+        self.preset(table);
+        match self.bridge(model) {
+            Ok(count) => Ok(count),
+            Err(fault) => {
+                self.preset(before);
+                Err(fault)
+            }
+        }
+    }
+
+    /// Sets the table, where nothing is held.
+    pub fn preset(&mut self, table: Table)
+        requires costs { IsTrue (list_all is_edge_cost table.cost) }
+        requires native { IsTrue (supports_native table) }
+        ensures table { self.new.boxes.table ≡ table }
+        ensures states { self.new.boxes.states ≡ self.old.boxes.states }
+        ensures solver { self.new.solver ≡ self.old.solver }
+        ensures map { self.new.map ≡ self.old.map }
+        ensures objective_at { self.new.objective_at ≡ self.old.objective_at }
+        ensures sound { AreSound (means_of self.new.boxes) }
+    {
+        self.boxes.choose(table);
+    }
+
+    // Bridges a model by the table.
+    fn bridge(&mut self, model: &UserModel) -> Result<u64, PushFault>
+        ensures { IsBridgedBy self.old self.old.boxes.table model.now.model result self.new }
+    {
+        // what these ensure of the choices and of the model
+        let _sound = self.boxes.table();
+        let _valid = model.objective();
+        match plan_model(self.alloc, &mut self.boxes, model) {
+            Ok(planned) => Ok(self.put(planned)?),
+            Err(fault) => {
+                if let PushFault::Memory = fault {
+                    self.clear();
+                    return Err(PushFault::Memory);
+                }
+                Err(fault)
+            }
+        }
+    }
+
+    // Puts a plan in the place of what is held, or lets all go.
+    fn put(&mut self, planned: ModelPlan) -> Result<u64, Memory>
+        requires { IsPuttable (families_of self.old.boxes.states) planned }
+        ensures ok { IfOk result (λ n. Holds self.old planned self.new
+            × Counts (leaf_model_in self.old) (leaf_model_in self.new) n) }
+        ensures err { OnErr result (HoldsNothing self.new) }
+        ensures setting { setting_in self.new ≡ setting_in self.old }
+    {
+        let changed = count_changed(
+            &self.solver,
+            &self.map,
+            &self.objective_at,
+            &planned.plan.leaves,
+        );
+        let at = objective_address(&planned.plan.leaves);
+        let_all_go(&mut self.boxes, &mut self.solver, &mut self.map);
+        match put_plan(
+            self.alloc,
+            &mut self.boxes,
+            &mut self.solver,
+            &mut self.map,
+            planned,
+        ) {
+            Ok(()) => {
+                self.objective_at = at;
+                Ok(capped(changed))
+            }
+            Err(memory) => {
+                let_all_go(&mut self.boxes, &mut self.solver, &mut self.map);
+                Err(memory)
+            }
+        }
+    }
+
+    /// Lets all go.
+    pub fn clear(&mut self)
+        ensures nothing { HoldsNothing self.new }
+        ensures setting { setting_in self.new ≡ setting_in self.old }
+        ensures choices { self.new.boxes.choices ≡ self.old.boxes.choices }
+    {
+        let_all_go(&mut self.boxes, &mut self.solver, &mut self.map);
+    }
+
+    pub fn table(&self) -> &Table
+        ensures table { result.now ≡ self.now.boxes.table }
+        ensures costs { IsTrue (list_all is_edge_cost self.now.boxes.table.cost) }
+        ensures native { IsTrue (supports_native self.now.boxes.table) }
+        ensures sound { AreSound (means_of self.now.boxes) }
+        ensures once { IsTrue (occur_once (families_of self.now.boxes.states)) }
+    {
+        self.boxes.table()
+    }
+
+    pub fn solver(&self) -> &SolverModel
+        ensures { result.now ≡ self.now.solver }
+    {
+        &self.solver
+    }
+
+    /// The map of addresses, which names exactly what the solver's model has.
+    pub fn map(&self) -> &AddressMap
+        ensures map { result.now ≡ self.now.map }
+        ensures named { NamesEach self.now.map self.now.solver.leaves }
+    {
+        &self.map
+    }
+
+    pub fn objective_at(&self) -> &Address
+        ensures { result.now ≡ self.now.objective_at }
+    {
+        &self.objective_at
+    }
+
+    pub fn bridges(&self) -> &[B]
+        ensures { prelude.map B.state result.now ≡ self.now.boxes.states }
+    {
+        self.boxes.bridges()
+    }
+
+    /// How an item of the kind reaches the solver at least cost.
+    pub fn choice(&self, kind: Kind) -> Choice
+        ensures { IsChoice (graph_of (setting_in self.now)) (kind_number kind) result }
+    {
+        // what this ensures of the choices
+        let _sound = self.boxes.table();
+        self.boxes.choice(kind)
+    }
+
+    /// The least cost of a tree of the kind, if it has one.
+    pub fn cost(&self, kind: Kind) -> Option<u128>
+        ensures none { IsNone result
+            ↔ IsTreeless (graph_of (setting_in self.now)) (kind_number kind) }
+        ensures least { IfSome result
+            (IsLeastCost (graph_of (setting_in self.now)) (kind_number kind)) }
+    {
+        self.boxes.cost(kind)
+    }
+}

@@ -1,0 +1,11 @@
+//! Lazy bridging over boxed bridges: the solver's model is kept as the fresh bridging of the
+//! user's.
+#![tactic(auto)]
+
+mod bridges;
+mod change;
+mod lazy;
+
+pub use bridges::add_bridge;
+pub use lazy::{Lazy, LazyOver};
+pub use model_bridging::PushFault;
