@@ -9,5 +9,6 @@ mod replies;
 
 pub use answer::Answer;
 pub use choices::plan;
+pub use draft::Draft;
 pub use refused::{Place, Refused};
 pub use replies::{done, refusal};

@@ -1,0 +1,5 @@
+pub mod Naming
+pub mod Pushes
+pub mod PlaceSteps
+pub mod InOrder
+pub mod Reading

@@ -1,0 +1,16 @@
+//! The text of what an attached solver holds, in the names of the user's model.
+#![tactic(auto)]
+
+mod addresses;
+mod entries;
+mod functions;
+mod held;
+mod lines;
+mod places;
+mod sets;
+
+pub use address_map::AddressMap;
+pub use held::bridged;
+pub use model_store::UserModel;
+pub use places::place_at;
+pub use solver_store::SolverModel;
