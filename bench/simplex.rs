@@ -1,10 +1,14 @@
-//! The same benchmark as `simplex_bench`, written plainly in Rust: fractions of 128 bits, a dense board of rows, and Bland's rule
-//! in two phases with a sweep between them.
+//! The same benchmark as `simplex_bench`, written plainly in Rust: fractions of 128 bits, a dense
+//! and a sparse board, and Bland's rule in two phases with a sweep between them.
+mod dense_board;
 #[allow(dead_code)]
-#[path = "fraction.rs"]
 mod fraction;
+mod models;
+mod sparse_board;
 
+use dense_board::DenseBoard;
 use fraction::{ONE, Ratio, ZERO, cmp_quotients};
+use sparse_board::SparseBoard;
 
 struct Form {
     m: usize,
@@ -14,196 +18,133 @@ struct Form {
     costs: Vec<Ratio>,
 }
 
-struct Board {
-    m: usize,
-    c: usize,
-    rows: Vec<Vec<Ratio>>,
-    first: Option<Vec<Ratio>>,
-    second: Vec<Ratio>,
-    basis: Vec<usize>,
+const ALLOWANCE: u64 = 1_000_000;
+
+/// A board. The first cost row is in use where a call says so.
+trait Tableau: Sized {
+    fn start(form: &Form) -> Option<Self>;
+    fn pivot(&mut self, in_first: bool, r: usize, q: usize) -> Option<()>;
+    fn entry(&self, r: usize, q: usize) -> Ratio;
+    fn right(&self, r: usize) -> Ratio;
+    fn price(&self, in_first: bool, q: usize) -> Ratio;
+    fn entering(&self, in_first: bool) -> Option<usize>;
+    fn swept_column(&self, r: usize) -> Option<usize>;
+    fn basis(&self) -> &[usize];
 }
 
-impl Board {
-    fn start(form: &Form) -> Option<Board> {
-        let (m, c) = (form.m, form.c);
-        let mut rows = Vec::with_capacity(m);
-        let mut first = vec![ZERO; c + m];
-        for i in 0..m {
-            let mut row = vec![ZERO; c + m + 1];
-            row[..c].copy_from_slice(&form.matrix[i * c..(i + 1) * c]);
-            row[c + i] = ONE;
-            row[c + m] = form.right[i];
-            for j in 0..c {
-                first[j] = first[j].add(&row[j]).ok()?;
-            }
-            rows.push(row);
+fn leaving<T: Tableau>(board: &T, m: usize, q: usize) -> Option<usize> {
+    let mut best: Option<(usize, Ratio)> = None;
+    for i in 0..m {
+        let by = board.entry(i, q);
+        if by.num <= 0 {
+            continue;
         }
-        for price in &mut first[..c] {
-            *price = price.neg();
+        let before = best.as_ref().is_none_or(|(k, over)| {
+            cmp_quotients(&board.right(i), &by, &board.right(*k), over)
+                .then(board.basis()[i].cmp(&board.basis()[*k]))
+                .is_lt()
+        });
+        if before {
+            best = Some((i, by));
         }
-        let mut second = vec![ZERO; c + m];
-        second[..c].copy_from_slice(&form.costs);
-        Some(Board { m, c, rows, first: Some(first), second, basis: (c..c + m).collect() })
     }
-
-    fn pivot(&mut self, r: usize, q: usize) -> Option<()> {
-        let mut step = std::mem::take(&mut self.rows[r]);
-        let entry = step[q];
-        for number in &mut step {
-            if !number.is_zero() {
-                *number = number.div(&entry).ok()?;
-            }
-        }
-        for (i, row) in self.rows.iter_mut().enumerate() {
-            if i != r {
-                lower(row, q, &step)?;
-            }
-        }
-        if let Some(first) = &mut self.first {
-            lower(first, q, &step)?;
-        }
-        lower(&mut self.second, q, &step)?;
-        self.rows[r] = step;
-        self.basis[r] = q;
-        Some(())
-    }
-
-    fn entering(&self, prices: &[Ratio]) -> Option<usize> {
-        (0..self.c).find(|&j| prices[j].num < 0)
-    }
-
-    fn leaving(&self, q: usize) -> Option<usize> {
-        let mut best: Option<usize> = None;
-        for (i, row) in self.rows.iter().enumerate() {
-            if row[q].num <= 0 {
-                continue;
-            }
-            let before = best.is_none_or(|k| {
-                let (side, other) = (&row[self.c + self.m], &self.rows[k]);
-                cmp_quotients(side, &row[q], &other[self.c + self.m], &other[q])
-                    .then(self.basis[i].cmp(&self.basis[k]))
-                    .is_lt()
-            });
-            if before {
-                best = Some(i);
-            }
-        }
-        best
-    }
-
-    fn swept(&self) -> Option<(usize, usize)> {
-        (0..self.m)
-            .filter(|&i| self.basis[i] >= self.c)
-            .find_map(|i| Some((i, (0..self.c).find(|&j| !self.rows[i][j].is_zero())?)))
-    }
+    best.map(|(i, _)| i)
 }
 
-fn lower(row: &mut [Ratio], q: usize, step: &[Ratio]) -> Option<()> {
-    let by = row[q];
-    if by.is_zero() {
-        return Some(());
-    }
-    for (number, unit) in row.iter_mut().zip(step) {
-        if !unit.is_zero() {
-            *number = number.sub(&by.mul(unit).ok()?).ok()?;
-        }
-    }
-    Some(())
+#[derive(Clone, Copy, PartialEq)]
+enum Phase {
+    First,
+    Sweep,
+    Second,
 }
 
 enum Turn {
-    Pivot(usize, usize),
+    Pivot(Phase, usize, usize),
     Infeasible(Vec<Ratio>),
     Stuck,
     Unbounded(usize),
     Optimal,
 }
 
-fn turn(board: &mut Board, sweeps: &mut bool) -> Turn {
-    if let Some(first) = &board.first {
-        if let Some(q) = board.entering(first) {
-            return board.leaving(q).map_or(Turn::Unbounded(q), |r| Turn::Pivot(r, q));
+fn turn<T: Tableau>(board: &T, form: &Form, phase: Phase) -> Turn {
+    let enters = |phase: Phase, q: usize| {
+        leaving(board, form.m, q).map_or(Turn::Unbounded(q), |r| Turn::Pivot(phase, r, q))
+    };
+    if phase == Phase::First {
+        if let Some(q) = board.entering(true) {
+            return enters(phase, q);
         }
-        let above = |i: usize| board.basis[i] >= board.c && board.rows[i][board.c + board.m].num > 0;
-        if (0..board.m).any(above) {
-            let multiplier = |k: usize| ONE.sub(&first[board.c + k]).ok();
-            return (0..board.m).map(multiplier).collect::<Option<_>>().map_or(Turn::Stuck, Turn::Infeasible);
-        }
-    }
-    if *sweeps {
-        if let Some((r, q)) = board.swept() {
-            board.first = None;
-            return Turn::Pivot(r, q);
+        if (0..form.m).any(|i| board.basis()[i] >= form.c && board.right(i).num > 0) {
+            let multiplier = |k: usize| ONE.sub(&board.price(true, form.c + k)).ok();
+            return (0..form.m).map(multiplier).collect::<Option<_>>().map_or(Turn::Stuck, Turn::Infeasible);
         }
     }
-    match board.entering(&board.second) {
-        None => Turn::Optimal,
-        Some(q) => match board.leaving(q) {
-            None => Turn::Unbounded(q),
-            Some(r) => {
-                board.first = None;
-                *sweeps = false;
-                Turn::Pivot(r, q)
-            }
-        },
+    if phase != Phase::Second {
+        let swept = |i: usize| Some((i, board.swept_column(i)?));
+        let mut artificial = (0..form.m).filter(|&i| board.basis()[i] >= form.c);
+        if let Some((r, q)) = artificial.find_map(swept) {
+            return Turn::Pivot(Phase::Sweep, r, q);
+        }
     }
+    board.entering(false).map_or(Turn::Optimal, |q| enters(Phase::Second, q))
 }
 
 /// What the allowance leads to, mixed into one number.
-fn solve(form: &Form, pivots: u64) -> u64 {
-    let Some(mut board) = Board::start(form) else {
+fn solve<T: Tableau>(form: &Form, pivots: u64) -> u64 {
+    let Some(mut board) = T::start(form) else {
         return mixed_basis(3, &(form.c..form.c + form.m).collect::<Vec<_>>());
     };
-    let mut sweeps = true;
+    let mut phase = Phase::First;
     let mut left = pivots;
     loop {
-        match turn(&mut board, &mut sweeps) {
+        match turn(&board, form, phase) {
             Turn::Optimal => {
-                let sum = mixed(mixed(5, &point(&board)), &multipliers(&board));
-                return mixed_basis(sum, &board.basis);
+                let sum = mixed(mixed(5, &point(&board, form)), &multipliers(&board, form));
+                return mixed_basis(sum, board.basis());
             }
-            Turn::Infeasible(multipliers) => return mixed_basis(mixed(7, &multipliers), &board.basis),
+            Turn::Infeasible(multipliers) => return mixed_basis(mixed(7, &multipliers), board.basis()),
             Turn::Unbounded(q) => {
-                let sum = mixed(mixed(11, &point(&board)), &ray(&board, q));
-                return mixed_basis(sum, &board.basis);
+                let sum = mixed(mixed(11, &point(&board, form)), &ray(&board, form, q));
+                return mixed_basis(sum, board.basis());
             }
             Turn::Stuck | Turn::Pivot(..) if left == 0 => {
-                return mixed_basis(2, &board.basis).wrapping_mul(31).wrapping_add(pivots);
+                return mixed_basis(2, board.basis()).wrapping_mul(31).wrapping_add(pivots);
             }
-            Turn::Stuck => return mixed_basis(3, &board.basis),
-            Turn::Pivot(r, q) => {
+            Turn::Stuck => return mixed_basis(3, board.basis()),
+            Turn::Pivot(next, r, q) => {
                 left -= 1;
-                if board.pivot(r, q).is_none() {
-                    return mixed_basis(3, &board.basis);
+                phase = next;
+                if board.pivot(phase == Phase::First, r, q).is_none() {
+                    return mixed_basis(3, board.basis());
                 }
             }
         }
     }
 }
 
-fn point(board: &Board) -> Vec<Ratio> {
-    let mut x = vec![ZERO; board.c];
-    for (row, &column) in board.rows.iter().zip(&board.basis) {
-        if column < board.c {
-            x[column] = row[board.c + board.m];
+fn point<T: Tableau>(board: &T, form: &Form) -> Vec<Ratio> {
+    let mut x = vec![ZERO; form.c];
+    for (i, &column) in board.basis().iter().enumerate() {
+        if column < form.c {
+            x[column] = board.right(i);
         }
     }
     x
 }
 
-fn ray(board: &Board, q: usize) -> Vec<Ratio> {
-    let mut d = vec![ZERO; board.c];
-    for (row, &column) in board.rows.iter().zip(&board.basis) {
-        if column < board.c {
-            d[column] = row[q].neg();
+fn ray<T: Tableau>(board: &T, form: &Form, q: usize) -> Vec<Ratio> {
+    let mut d = vec![ZERO; form.c];
+    for (i, &column) in board.basis().iter().enumerate() {
+        if column < form.c {
+            d[column] = board.entry(i, q).neg();
         }
     }
     d[q] = ONE;
     d
 }
 
-fn multipliers(board: &Board) -> Vec<Ratio> {
-    board.second[board.c..].iter().map(Ratio::neg).collect()
+fn multipliers<T: Tableau>(board: &T, form: &Form) -> Vec<Ratio> {
+    (0..form.m).map(|k| board.price(false, form.c + k).neg()).collect()
 }
 
 /// The numbers mixed into a sum.
@@ -263,15 +204,42 @@ fn whole(n: i64) -> Ratio {
 }
 
 fn main() {
-    let words: Vec<u64> = std::env::args().skip(1).filter_map(|word| word.parse().ok()).collect();
-    let [m, c, sparse, greatest, forms] = words[..] else {
-        println!("usage: simplex_plain ROWS COLUMNS SPARSE GREATEST FORMS");
-        return;
+    let words: Vec<String> = std::env::args().skip(1).collect();
+    let words: Vec<&str> = words.iter().map(String::as_str).collect();
+    let sum = match words[..] {
+        [kind @ ("chain" | "transport" | "blend"), rows, columns, board, times] => {
+            of_model(kind, rows, columns, board, times)
+        }
+        [rows, columns, sparse, greatest, forms] => random(rows, columns, sparse, greatest, forms),
+        _ => None,
     };
-    let mut sum = 0u64;
-    for seed in 1..=forms {
-        let form = form(seed, m as usize, c as usize, sparse, greatest);
-        sum = sum.wrapping_mul(31).wrapping_add(solve(&form, 1_000_000));
+    match sum {
+        Some(sum) => println!("{sum}"),
+        None => println!(
+            "usage: simplex_plain ROWS COLUMNS SPARSE GREATEST FORMS, or simplex_plain \
+             chain|transport|blend ROWS COLUMNS dense|sparse TIMES"
+        ),
     }
-    println!("{sum}");
+}
+
+fn random(rows: &str, columns: &str, sparse: &str, greatest: &str, forms: &str) -> Option<u64> {
+    let (rows, columns) = (rows.parse().ok()?, columns.parse().ok()?);
+    let (sparse, greatest) = (sparse.parse().ok()?, greatest.parse().ok()?);
+    let mut sum = 0u64;
+    for seed in 1..=forms.parse().ok()? {
+        let form = form(seed, rows, columns, sparse, greatest);
+        sum = sum.wrapping_mul(31).wrapping_add(solve::<DenseBoard>(&form, ALLOWANCE));
+    }
+    Some(sum)
+}
+
+fn of_model(kind: &str, rows: &str, columns: &str, board: &str, times: &str) -> Option<u64> {
+    let form = models::model(kind, rows.parse().ok()?, columns.parse().ok()?)?;
+    let solve = match board {
+        "dense" => solve::<DenseBoard>,
+        "sparse" => solve::<SparseBoard>,
+        _ => return None,
+    };
+    let answers = (0..times.parse().ok()?).map(|_| solve(&form, ALLOWANCE));
+    Some(answers.fold(0u64, |sum, one| sum.wrapping_mul(31).wrapping_add(one)))
 }

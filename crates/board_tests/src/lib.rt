@@ -1,4 +1,5 @@
-//! Tests of `tableau_core`, in a crate above it, since a crate with tests in it is proved twice.
+//! Tests of `tableau_core` and `sparse_board`, in a crate above them, since a crate with tests in it
+//! is proved twice.
 #![tactic(auto)]
 
 #[cfg(test)]

@@ -1,10 +1,10 @@
 // What the forms lead to, mixed into one number.
-ghost use Rattle.simplex_core.specs.StdForm.{IsWellShaped};
 
 use crate::fault::BenchFault;
 use crate::forms::{Size, form};
+use crate::models::{Kind, model};
 use ratio_core::Ratio;
-use simplex_core::{Basis, SolveFault, SolverAnswer, StdForm, solve};
+use simplex_core::{Basis, SolveFault, SolverAnswer, solve, solve_dense};
 use std::alloc::Global;
 
 // No form needs as many pivots.
@@ -15,26 +15,64 @@ pub fn checksum(alloc: Global, size: &Size, count: u32) -> Result<u64, BenchFaul
     let mut sum = 0u64;
     for seed in 0..count {
         let form = form(alloc, seed.wrapping_add(1), size)?;
-        sum = sum.wrapping_mul(31).wrapping_add(solved(alloc, &form)?);
+        sum = sum
+            .wrapping_mul(31)
+            .wrapping_add(digest(&solve_dense(alloc, &form, ALLOWANCE))?);
     }
     Ok(sum)
 }
 
-fn solved(alloc: Global, form: &StdForm) -> Result<u64, BenchFault>
-    requires { IsWellShaped form.now }
-{
-    match solve(alloc, form, ALLOWANCE) {
-        Ok(SolverAnswer::Optimal { x, y, basis }) => {
-            Ok(with_basis(with(with(5, x.as_slice()), y.as_slice()), &basis))
+/// The board that is solved on.
+#[derive(Clone, Copy)]
+pub enum Board {
+    Dense,
+    Sparse,
+}
+
+impl Board {
+    pub fn named(word: &str) -> Option<Board> {
+        match word {
+            "dense" => Some(Board::Dense),
+            "sparse" => Some(Board::Sparse),
+            _ => None,
         }
-        Ok(SolverAnswer::Infeasible { y, basis }) => Ok(with_basis(with(7, y.as_slice()), &basis)),
+    }
+}
+
+/// The checksum of what a model leads to, which is solved so many times.
+pub fn of_model(
+    alloc: Global,
+    kind: Kind,
+    rows: u16,
+    columns: u16,
+    board: Board,
+    times: u32,
+) -> Result<u64, BenchFault> {
+    let form = model(alloc, kind, rows, columns)?;
+    let mut sum = 0u64;
+    for _ in 0..times {
+        let one = match board {
+            Board::Dense => digest(&solve_dense(alloc, &form, ALLOWANCE))?,
+            Board::Sparse => digest(&solve(alloc, &form, ALLOWANCE))?,
+        };
+        sum = sum.wrapping_mul(31).wrapping_add(one);
+    }
+    Ok(sum)
+}
+
+fn digest(answer: &Result<SolverAnswer, SolveFault>) -> Result<u64, BenchFault> {
+    match answer {
+        Ok(SolverAnswer::Optimal { x, y, basis }) => {
+            Ok(with_basis(with(with(5, x.as_slice()), y.as_slice()), basis))
+        }
+        Ok(SolverAnswer::Infeasible { y, basis }) => Ok(with_basis(with(7, y.as_slice()), basis)),
         Ok(SolverAnswer::Unbounded { x, d, basis }) => {
-            Ok(with_basis(with(with(11, x.as_slice()), d.as_slice()), &basis))
+            Ok(with_basis(with(with(11, x.as_slice()), d.as_slice()), basis))
         }
         Err(SolveFault::Limit { basis, pivots }) => {
-            Ok(with_basis(2, &basis).wrapping_mul(31).wrapping_add(pivots))
+            Ok(with_basis(2, basis).wrapping_mul(31).wrapping_add(*pivots))
         }
-        Err(SolveFault::Overflow { basis }) => Ok(with_basis(3, &basis)),
+        Err(SolveFault::Overflow { basis }) => Ok(with_basis(3, basis)),
         Err(SolveFault::Memory) => Err(BenchFault::Memory),
     }
 }

@@ -3,10 +3,11 @@ ghost use Rattle.std.specs.Prelude.{◌<◌, ◌↔◌, All, IfOk, IsTrue};
 ghost use Rattle.ratio_core.specs.Rational.{zero_ℚ, ◌≤ℚ◌};
 ghost use Rattle.simplex_core.specs.StdForm.{IsWellShaped};
 
+use crate::draft::whole;
 use crate::draw::Draw;
 use crate::fault::BenchFault;
 use lists::Sequence;
-use ratio_core::{Ratio, RatioFault};
+use ratio_core::Ratio;
 use simplex_core::StdForm;
 use std::alloc::{AllocError, Global};
 
@@ -43,8 +44,23 @@ pub fn form(alloc: Global, seed: u32, size: &Size) -> Result<StdForm, BenchFault
         }
         right.push(whole(if side < 0 { side.wrapping_neg() } else { side })?)?;
     }
+    checked(alloc, m, c, matrix, right, costs)
+}
+
+/// The form of these numbers, where each list has its length and no right side is below 0.
+pub fn checked(
+    alloc: Global,
+    m: usize,
+    c: usize,
+    matrix: Vec<Ratio>,
+    right: Vec<Ratio>,
+    costs: Vec<Ratio>,
+) -> Result<StdForm, BenchFault>
+    ensures { IfOk result IsWellShaped }
+{
     let flips = Vec::from_elem(alloc, false, m)?;
-    if matrix.len() != m * c || right.len() != m || costs.len() != c || !are_sides(&right) {
+    let cells = m.checked_mul(c).ok_or(BenchFault::Number)?;
+    if matrix.len() != cells || right.len() != m || costs.len() != c || !are_sides(&right) {
         return Err(BenchFault::Number);
     }
     Ok(StdForm {
@@ -102,14 +118,11 @@ fn side(row: &[i64], point: &[i64]) -> i64 {
     sum
 }
 
+// Whole numbers as fractions.
 fn fractions(alloc: Global, numbers: &[i64]) -> Result<Vec<Ratio>, BenchFault> {
     let mut made = Vec::with_capacity(alloc, numbers.len())?;
     for number in numbers {
         made.push(whole(*number)?)?;
     }
     Ok(made)
-}
-
-fn whole(n: i64) -> Result<Ratio, RatioFault> {
-    Ratio::new(i128::from(n), 1)
 }

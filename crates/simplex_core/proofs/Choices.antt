@@ -1,32 +1,16 @@
 -- The least and the best below a bound, found by a loop.
-use Rattle.std.specs.Prelude.{◌≡◌, ℕ, zero, suc, ◌+◌, ◌-◌, ◌<◌, ◌≤◌, Bool, true, false, ◌&&◌, ◌||◌, Option, Some, None, if◌then◌else◌, refl}
+use Rattle.std.specs.Prelude.{◌≡◌, ℕ, zero, suc, ◌+◌, ◌-◌, ◌<◌, ◌≤◌, Bool, true, false, ◌&&◌, ◌||◌, Option, Some, None, refl}
 use Rattle.std.proofs.Common.{sym, ◌∙◌, ap, arith, is_lt, Ordering}
 use Rattle.std.specs.Ordering.{is_eq}
 use Rattle.ratio_core.specs.Rational.{Rational, rational_cmp, rational_eq, ◌/ℚ◌}
 use Rattle.ratio_core.specs.RationalLaws.{rational_eq-is_eq}
 use Rattle.simplex_laws.specs.BoundedSumLaws.{same_or_other}
 use Rattle.simplex_laws.specs.SearchLaws.{all_below_at, all_below_failed, all_below_more}
-use Rattle.simplex_form.specs.Search.{all_below, best_below, better_of, least_below, least_row, or_else, row_or_else, some_below}
+use Rattle.simplex_form.specs.Search.{all_below, best_below, better_of, least_row, row_or_else, some_below}
 use Rattle.simplex_form.specs.Turns.{is_below}
 
 one_more : (n : ℕ) → n + 1 ≡ suc n
 one_more n = omega arith
-
--- ---- the least number
-
-pub least_more : (n : ℕ) (test : ℕ → Bool) → least_below n test ≡ None → test n ≡ false → least_below (n + 1) test ≡ None
-least_more n test e f =
-    ap (λ k. least_below k test) (one_more n) ∙ (λ i. or_else (e i) (if f i then Some n else None))
-
-least_here : (j : ℕ) (test : ℕ → Bool) → least_below j test ≡ None → test j ≡ true → least_below (suc j) test ≡ Some j
-least_here j test e f = λ i. or_else (e i) (if f i then Some j else None)
-
-pub least_found : (n j : ℕ) (test : ℕ → Bool) → j < n → least_below j test ≡ None → test j ≡ true → least_below n test ≡ Some j
-least_found zero j test b e f = absurd (omega (arith, b))
-least_found (suc n) j test b e f =
-    same_or_other (least_below (suc n) test ≡ Some j) j n
-    (λ q. ap (λ k. least_below (suc k) test) (sym q) ∙ least_here j test e f)
-    (λ m. ap (λ o. or_else o (if test n then Some n else None)) (least_found n j test (omega (arith, b, m)) e f))
 
 -- ---- the least row
 
@@ -48,11 +32,6 @@ row_found (suc n) r q column_of b e f =
 pub best_more : (n : ℕ) (test : ℕ → Bool) (before : ℕ → ℕ → Bool) (best next : Option ℕ) → best ≡ best_below n test before → next ≡ better_of test before best n → next ≡ best_below (n + 1) test before
 best_more n test before best next e f = f ∙ ap (λ o. better_of test before o n) e ∙ ap (λ k. best_below k test before) (sym (one_more n))
 
--- a number that fails the test changes nothing
-pub best_passed : (test : ℕ → Bool) (before : ℕ → ℕ → Bool) (best : Option ℕ) (n : ℕ) → test n ≡ false → best ≡ better_of test before best n
-best_passed test before None n e = λ i. if sym e i then Some n else None
-best_passed test before (Some k) n e = λ i. if sym e i && before n k then Some n else Some k
-
 -- ---- which row leaves first
 
 pub before_by : (p q : Rational) (w : Bool) (r : Ordering) → r ≡ rational_cmp p q → (is_lt r || is_eq r && w) ≡ (is_below p q || rational_eq p q && w)
@@ -61,21 +40,6 @@ before_by p q w r e =
 
 pub ratios_same : (a b c d x y z w : Rational) (r : Ordering) → r ≡ rational_cmp (a /ℚ b) (c /ℚ d) → a ≡ x → b ≡ y → c ≡ z → d ≡ w → r ≡ rational_cmp (x /ℚ y) (z /ℚ w)
 ratios_same a b c d x y z w r e f g h k = e ∙ (λ i. rational_cmp (f i /ℚ g i) (h i /ℚ k i))
-
--- the best stays, or the next number is better
-pub best_stays : (test : ℕ → Bool) (before : ℕ → ℕ → Bool) (best k n : ℕ) → before n k ≡ false → Some k ≡ better_of test before (Some k) n
-best_stays test before best k n e = by_test (test n)
-  where
-    by_test : (b : Bool) → Some k ≡ (if b && before n k then Some n else Some k)
-    by_test true = λ i. if sym e i then Some n else Some k
-    by_test false = refl
-
-pub better_next : (test : ℕ → Bool) (before : ℕ → ℕ → Bool) (o : Option ℕ) (k n : ℕ) → o ≡ Some k → test n ≡ true → before n k ≡ true → Some n ≡ better_of test before o n
-better_next test before o k n e f g =
-    (λ i. if sym f i && sym g i then Some n else Some k) ∙ ap (λ o. better_of test before o n) (sym e)
-
-pub better_first : (test : ℕ → Bool) (before : ℕ → ℕ → Bool) (o : Option ℕ) (n : ℕ) → o ≡ None → test n ≡ true → Some n ≡ better_of test before o n
-better_first test before o n e f = (λ i. if sym f i then Some n else None) ∙ ap (λ o. better_of test before o n) (sym e)
 
 -- ---- some number
 

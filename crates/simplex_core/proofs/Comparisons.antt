@@ -1,9 +1,9 @@
 -- What the code's tests say of the numbers that the board has.
-use Rattle.std.specs.Prelude.{◌≡◌, ℕ, ◌≤◌, Bool, true, false, not, nat_le, Option, None, if◌then◌else◌, IsTrue, Result, Ok, Err, IsOk, OkIff, is_err, refl}
-use Rattle.std.proofs.Common.{sym, ◌∙◌, ap, arith, true≢false, is_gt, is_lt}
+use Rattle.std.specs.Prelude.{◌≡◌, ℕ, ◌≤◌, Bool, true, false, not, nat_le, Option, None, if◌then◌else◌, Result, Ok, Err, IsOk, OkIff, is_err, refl}
+use Rattle.std.proofs.Common.{sym, ◌∙◌, arith, is_gt}
 use Rattle.std.proofs.lemmas.Bool.{cond-true, le-leb}
-use Rattle.ratio_core.specs.Rational.{Rational, SumFits, neg_ℚ, one_ℚ, rational_cmp, rational_eq, sum_fits, zero_ℚ, ◌≤ℚ◌, ◌‹ℚ◌}
-use Rattle.ratio_core.specs.RationalLaws.{eq_rational_eq, rational_eq-true, sum_fits_Decides}
+use Rattle.ratio_core.specs.Rational.{Rational, SumFits, neg_ℚ, one_ℚ, rational_cmp, sum_fits, zero_ℚ, ◌≤ℚ◌, ◌‹ℚ◌}
+use Rattle.ratio_core.specs.RationalLaws.{sum_fits_Decides}
 use Rattle.rational_laws.specs.Order.{not_‹ℚ_from_≤ℚ}
 use Rattle.rational_laws.specs.Tests.{gt_from_test, le_from_failed, lt_from_test, test_from_lt}
 use Rattle.simplex_form.specs.Turns.{is_below}
@@ -15,27 +15,12 @@ module _ (b : Bool) (x z v : Rational) (zero : z ≡ zero_ℚ) (is : x ≡ v) wh
   pub at_most_from : b ≡ is_gt (rational_cmp x z) → b ≡ false → v ≤ℚ zero_ℚ
   at_most_from e t = le_from_failed v zero_ℚ ((λ i. is_gt (rational_cmp (sym is i) (sym zero i))) ∙ sym e ∙ t)
 
-  pub below_is : b ≡ is_lt (rational_cmp x z) → is_below v zero_ℚ ≡ b
-  below_is e = (λ i. is_lt (rational_cmp (sym is i) (sym zero i))) ∙ sym e
-
 pub below_failed : (v : Rational) → v ≤ℚ zero_ℚ → is_below zero_ℚ v ≡ false
 below_failed v h = by_test (is_below zero_ℚ v) refl
   where
     by_test : (b : Bool) → is_below zero_ℚ v ≡ b → b ≡ false
     by_test true e = absurd (not_‹ℚ_from_≤ℚ v zero_ℚ h (lt_from_test zero_ℚ v e))
     by_test false e = refl
-
--- ---- a number that isn't 0
-
-pub other_test : (b : Bool) (x v : Rational) → x ≡ v → (x ≡ zero_ℚ → IsTrue b) → b ≡ false → not (rational_eq v zero_ℚ) ≡ true
-other_test b x v is back e = by_test (rational_eq v zero_ℚ) refl
-  where
-    by_test : (t : Bool) → rational_eq v zero_ℚ ≡ t → not t ≡ true
-    by_test true k = absurd (true≢false (sym (back (is ∙ rational_eq-true v zero_ℚ k)) ∙ e))
-    by_test false k = refl
-
-pub zero_test : (b : Bool) (x v : Rational) → x ≡ v → (IsTrue b → x ≡ zero_ℚ) → b ≡ true → not (rational_eq v zero_ℚ) ≡ false
-zero_test b x v is forth e = ap not (eq_rational_eq v zero_ℚ (sym is ∙ forth e))
 
 -- ---- a difference that fits
 

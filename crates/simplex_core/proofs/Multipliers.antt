@@ -9,10 +9,10 @@ use Rattle.simplex_form.specs.Basis.{IsBasis, State}
 use Rattle.simplex_form.specs.Board.{multiplier}
 use Rattle.simplex_laws.specs.TurnLaws.{column_artificial, first_cost_artificial, second_cost_artificial}
 use Rattle.simplex_laws.specs.ValueLaws.{multiplier_by_price}
-use Rattle.tableau_core.specs.Tableau.{IsBoardOf, Tableau, readings_of}
+use Rattle.tableau_core.specs.Contents.{IsBoardOf, Contents, readings_of}
 use Rattle.simplex_core.specs.Placed.{artificial}
 
-module _ (F : Form) (s : State) (t : Tableau) (basis : IsBasis F s) (h : IsBoardOf F s t) where
+module _ (F : Form) (s : State) (t : Contents) (basis : IsBasis F s) (h : IsBoardOf F s t) where
   past_reals : (c k : ℕ) → c ≤ c + k
   past_reals c k = omega arith
 

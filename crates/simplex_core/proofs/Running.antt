@@ -19,8 +19,8 @@ use Rattle.simplex_laws.specs.AgreementLaws.{agrees_less, turn_same}
 use Rattle.simplex_laws.specs.TurnLaws.{turn_says}
 use Rattle.simplex_laws.specs.StandingLaws.{after_stands}
 use Rattle.simplex_laws.specs.TrailLaws.{start_stands}
-use Rattle.tableau_core.specs.Tableau.{IsBoardOf, IsPivoted, Tableau, readings_of}
-use Rattle.tableau_core.specs.TableauLaws.{fits_same, next_board}
+use Rattle.tableau_core.specs.Contents.{IsBoardOf, IsPivoted, Contents, readings_of}
+use Rattle.tableau_core.specs.ContentsLaws.{fits_same, next_board}
 use Rattle.simplex_core.specs.declared.answer.SolverAnswer.{SolverAnswer}
 use Rattle.simplex_core.specs.declared.fault.SolveFault.TheVariants.{Limit, Overflow}
 use Rattle.simplex_core.specs.Answer.{IsReadOff, Tells}
@@ -67,7 +67,7 @@ made_and (Err x) P Q h e = absurd (true≢false e)
 -- ---- the loop
 
 -- the board is that of a basis with this phase, from which `left` steps more come out as n do from the start
-pub record IsAtStep (F : Form) (n left : ℕ) (phase : Phase) (t : Tableau) : Type 0 where
+pub record IsAtStep (F : Form) (n left : ℕ) (phase : Phase) (t : Contents) : Type 0 where
   pub state : State
   pub stands : Stands F state
   pub board : IsBoardOf F state t
@@ -82,14 +82,14 @@ phase-pivot : (F : Form) (s : State) (phase : Phase) (r q : ℕ) → (pivot F s 
 unfolding pivot
 phase-pivot F s phase r q = refl
 
-pub at_start : (F : Form) (n : ℕ) (t : Tableau) → IsStandard F → IsBoardOf F (start F) t → IsAtStep F n n First t
+pub at_start : (F : Form) (n : ℕ) (t : Contents) → IsStandard F → IsBoardOf F (start F) t → IsAtStep F n n First t
 at_start F n t h b = record { state = start F; stands = start_stands F h; board = b; told = phase-start F; rest = refl }
 
 -- the board with the first cost row as the phase has it
-board_in : (F : Form) (s : State) (t : Tableau) (phase : Phase) → (IsTrue (uses_first phase) → IsTrue t.in_first) → IsBoardOf F s t → IsBoardOf F s (in_phase phase t)
+board_in : (F : Form) (s : State) (t : Contents) (phase : Phase) → (IsTrue (uses_first phase) → IsTrue t.in_first) → IsBoardOf F s t → IsBoardOf F s (in_phase phase t)
 board_in F s t phase u h = agrees_less (uses_first phase) t.in_first (readings_of t) (readings F s) u h
 
-module _ (F : Form) (n left : ℕ) (phase : Phase) (t : Tableau) (a : IsAtStep F n left phase t) (kept : IsInPhase phase t) (turn : Turn) (by : turn ≡ bland.turn_in phase (readings_of t)) where
+module _ (F : Form) (n left : ℕ) (phase : Phase) (t : Contents) (a : IsAtStep F n left phase t) (kept : IsInPhase phase t) (turn : Turn) (by : turn ≡ bland.turn_in phase (readings_of t)) where
   pub is_due : IsDue F a.state t turn
   is_due = record {
     stands = a.stands;
@@ -126,14 +126,14 @@ module _ (F : Form) (n left : ℕ) (phase : Phase) (t : Tableau) (a : IsAtStep F
     pivot_fit made e =
         sym (e ∙ fits_same F a.state next_phase r q (in_phase next_phase t) before within.1 (column within.2))
 
-    pub tells_refused : (made : Bool) (basis : List ℕ) (u : Tableau) → 0 < left → made ≡ pivot_fits (uses_first next_phase) (readings_of t) r q → made ≡ false → u ≡ in_phase next_phase t → basis ≡ u.basis → Tells F n (outcome_from F n (start F)) (Err (Overflow basis))
+    pub tells_refused : (made : Bool) (basis : List ℕ) (u : Contents) → 0 < left → made ≡ pivot_fits (uses_first next_phase) (readings_of t) r q → made ≡ false → u ≡ in_phase next_phase t → basis ≡ u.basis → Tells F n (outcome_from F n (start F)) (Err (Overflow basis))
     tells_refused made basis u c e failed stays same =
         tells_overflow (Pivot next_phase r q) basis is refl c (pivot_fit made e ∙ failed) (same ∙ ap (λ x. x.basis) stays)
 
     next_is : next F a.state ≡ pivot F a.state next_phase r q
     next_is = ap (after F a.state) (sym is_due.due ∙ is)
 
-    pub at_next : (made : Bool) (u : Tableau) → 0 < left → made ≡ pivot_fits (uses_first next_phase) (readings_of t) r q → made ≡ true → IsPivoted r q (in_phase next_phase t) u → IsAtStep F n (left - 1) next_phase u
+    pub at_next : (made : Bool) (u : Contents) → 0 < left → made ≡ pivot_fits (uses_first next_phase) (readings_of t) r q → made ≡ true → IsPivoted r q (in_phase next_phase t) u → IsAtStep F n (left - 1) next_phase u
     at_next made u c e ok p = record {
       state = next F a.state;
       stands = after_stands F a.state a.stands (bland.turn F a.state) (turn_says F a.state a.stands);

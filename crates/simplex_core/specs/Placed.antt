@@ -6,15 +6,15 @@ use Rattle.simplex_form.specs.Basis.{IsBasis, State}
 use Rattle.simplex_form.specs.Board.{point, price, ray}
 use Rattle.simplex_form.specs.Readings.{Readings}
 use Rattle.tableau_core.specs.Start.{IsListOf}
-use Rattle.tableau_core.specs.Tableau.{IsBoardOf, Tableau}
+use Rattle.tableau_core.specs.Contents.{IsBoardOf, Contents}
 
 -- the point of each form and basis whose board it is
-abbrev pub GivesPoint : Tableau → List Rational → Type 0
+abbrev pub GivesPoint : Contents → List Rational → Type 0
 GivesPoint t x =
     (F : Form) (s : State) → IsBasis F s → IsBoardOf F s t → IsListOf F.reals (point F s) x
 
 -- and the ray of a column of negative price
-abbrev pub GivesRay : ℕ → Tableau → List Rational → Type 0
+abbrev pub GivesRay : ℕ → Contents → List Rational → Type 0
 GivesRay q t d =
     (F : Form) (s : State) → IsBasis F s → IsBoardOf F s t
     → price F s (second_cost F) q ‹ℚ zero_ℚ → IsListOf F.reals (ray F s q) d

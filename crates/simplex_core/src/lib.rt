@@ -13,4 +13,4 @@ mod simplex;
 pub use answer::{Basis, SolverAnswer};
 pub use fault::SolveFault;
 pub use form::{Flags, StdForm};
-pub use simplex::solve;
+pub use simplex::{solve, solve_dense};

@@ -4,7 +4,7 @@ ghost use Rattle.ratio_core.specs.Rational.{neg_ℚ, one_ℚ, zero_ℚ, ◌-ℚ�
 ghost use Rattle.simplex_form.specs.Turns.{multipliers_fit};
 ghost use Rattle.simplex_form.specs.declared.turn.Turn.TheVariants as turn;
 ghost use Rattle.tableau_core.specs.Start.{IsListOf};
-ghost use Rattle.tableau_core.specs.Tableau.{readings_of};
+ghost use Rattle.tableau_core.specs.Contents.{readings_of};
 ghost use Rattle.simplex_core.specs.Placed.{GivesPoint, GivesRay, artificial};
 ghost use Rattle.simplex_core.specs.Steps.{Reads};
 
@@ -12,21 +12,25 @@ use crate::answer::{Basis, SolverAnswer};
 use lists::{Memory, Sequence};
 use ratio_core::{Ratio, Ratios};
 use std::alloc::Global;
-use tableau_core::Board;
+use tableau_core::Tableau;
 
-pub(crate) fn infeasible(alloc: Global, board: &Board) -> Result<SolverAnswer, Memory>
-    requires first { IsTrue board.now.in_first }
-    requires fit { multipliers_fit (readings_of board.now) ≡ true }
-    ensures { IfOk result (Reads board.now turn.Infeasible) }
+pub(crate) fn infeasible<T: Tableau>(alloc: Global, board: &T) -> Result<SolverAnswer, Memory>
+    requires first { IsTrue (T.contents board.now).in_first }
+    requires fit { multipliers_fit (readings_of (T.contents board.now)) ≡ true }
+    ensures { IfOk result (Reads (T.contents board.now) turn.Infeasible) }
 {
     let y = first_multipliers(alloc, board)?;
     let basis = basis_of(alloc, board)?;
     Ok(SolverAnswer::Infeasible { y, basis })
 }
 
-pub(crate) fn unbounded(alloc: Global, board: &Board, q: usize) -> Result<SolverAnswer, Memory>
-    requires { q < board.now.reals }
-    ensures { IfOk result (Reads board.now (turn.Unbounded q)) }
+pub(crate) fn unbounded<T: Tableau>(
+    alloc: Global,
+    board: &T,
+    q: usize,
+) -> Result<SolverAnswer, Memory>
+    requires { q < (T.contents board.now).reals }
+    ensures { IfOk result (Reads (T.contents board.now) (turn.Unbounded q)) }
 {
     let x = point(alloc, board)?;
     let d = ray(alloc, board, q)?;
@@ -34,8 +38,8 @@ pub(crate) fn unbounded(alloc: Global, board: &Board, q: usize) -> Result<Solver
     Ok(SolverAnswer::Unbounded { x, d, basis })
 }
 
-pub(crate) fn optimal(alloc: Global, board: &Board) -> Result<SolverAnswer, Memory>
-    ensures { IfOk result (Reads board.now turn.Optimal) }
+pub(crate) fn optimal<T: Tableau>(alloc: Global, board: &T) -> Result<SolverAnswer, Memory>
+    ensures { IfOk result (Reads (T.contents board.now) turn.Optimal) }
 {
     let x = point(alloc, board)?;
     let y = second_multipliers(alloc, board)?;
@@ -43,8 +47,8 @@ pub(crate) fn optimal(alloc: Global, board: &Board) -> Result<SolverAnswer, Memo
     Ok(SolverAnswer::Optimal { x, y, basis })
 }
 
-pub(crate) fn basis_of(alloc: Global, board: &Board) -> Result<Basis, Memory>
-    ensures { IfOk result (λ basis. basis ≡ board.now.basis) }
+pub(crate) fn basis_of<T: Tableau>(alloc: Global, board: &T) -> Result<Basis, Memory>
+    ensures { IfOk result (λ basis. basis ≡ (T.contents board.now).basis) }
 {
     Ok(Sequence::from_vec(Vec::from_slice(alloc, board.basis())?))
 }
@@ -56,8 +60,8 @@ fn zeros(alloc: Global, n: usize) -> Result<Vec<Ratio>, Memory>
 }
 
 // A basic column has its row's right side, and any other is 0.
-fn point(alloc: Global, board: &Board) -> Result<Ratios, Memory>
-    ensures { IfOk result (GivesPoint board.now) }
+fn point<T: Tableau>(alloc: Global, board: &T) -> Result<Ratios, Memory>
+    ensures { IfOk result (GivesPoint (T.contents board.now)) }
 {
     let c = board.real_count();
     let mut x = zeros(alloc, c)?;
@@ -71,9 +75,9 @@ fn point(alloc: Global, board: &Board) -> Result<Ratios, Memory>
 }
 
 // 1 at the entering column, and at each basic column the negated entry.
-fn ray(alloc: Global, board: &Board, q: usize) -> Result<Ratios, Memory>
-    requires { q < board.now.reals }
-    ensures { IfOk result (GivesRay q board.now) }
+fn ray<T: Tableau>(alloc: Global, board: &T, q: usize) -> Result<Ratios, Memory>
+    requires { q < (T.contents board.now).reals }
+    ensures { IfOk result (GivesRay q (T.contents board.now)) }
 {
     let c = board.real_count();
     let mut d = zeros(alloc, c)?;
@@ -88,10 +92,10 @@ fn ray(alloc: Global, board: &Board, q: usize) -> Result<Ratios, Memory>
 }
 
 // The first phase's multipliers: 1 without the price of the row's artificial column.
-fn first_multipliers(alloc: Global, board: &Board) -> Result<Ratios, Memory>
-    requires first { IsTrue board.now.in_first }
-    requires fit { multipliers_fit (readings_of board.now) ≡ true }
-    ensures { let R = readings_of board.now in
+fn first_multipliers<T: Tableau>(alloc: Global, board: &T) -> Result<Ratios, Memory>
+    requires first { IsTrue (T.contents board.now).in_first }
+    requires fit { multipliers_fit (readings_of (T.contents board.now)) ≡ true }
+    ensures { let R = readings_of (T.contents board.now) in
         IfOk result (IsListOf R.rows (λ k. one_ℚ -ℚ artificial R.first_price R k)) }
 {
     let mut y = Vec::with_capacity(alloc, board.row_count())?;
@@ -102,8 +106,8 @@ fn first_multipliers(alloc: Global, board: &Board) -> Result<Ratios, Memory>
 }
 
 // The second phase's: the negated price of the row's artificial column.
-fn second_multipliers(alloc: Global, board: &Board) -> Result<Ratios, Memory>
-    ensures { let R = readings_of board.now in
+fn second_multipliers<T: Tableau>(alloc: Global, board: &T) -> Result<Ratios, Memory>
+    ensures { let R = readings_of (T.contents board.now) in
         IfOk result (IsListOf R.rows (λ k. neg_ℚ (artificial R.second_price R k))) }
 {
     let mut y = Vec::with_capacity(alloc, board.row_count())?;

@@ -5,7 +5,7 @@ ghost use Rattle.simplex_form.specs.Basis.{start};
 ghost use Rattle.simplex_form.specs.Fit.{pivot_fits, uses_first};
 ghost use Rattle.simplex_form.specs.Form.{Form, IsStandard};
 ghost use Rattle.simplex_form.specs.Outcome.{outcome_from};
-ghost use Rattle.tableau_core.specs.Tableau.{IsBoardOf, IsPivoted, readings_of};
+ghost use Rattle.tableau_core.specs.Contents.{IsBoardOf, IsPivoted, readings_of};
 ghost use Rattle.simplex_core.specs.Answer.{Tells};
 ghost use Rattle.simplex_core.specs.Phases.{in_phase};
 
@@ -15,12 +15,16 @@ use crate::read_off::{basis_of, infeasible, optimal, unbounded};
 use crate::rule::turn;
 use simplex_form::{Phase, Turn};
 use std::alloc::Global;
-use tableau_core::{Board, BoardOverflow};
+use tableau_core::{BoardOverflow, Tableau};
 
 // Goes on from the first board, with an allowance of pivots.
-pub(crate) fn run(alloc: Global, mut board: Board, pivots: u64) -> Result<SolverAnswer, SolveFault>
-    requires in_first { board.in_first ≡ true }
-    ensures { (F : Form) → IsStandard F → IsBoardOf F (start F) board
+pub(crate) fn run<T: Tableau + Drop>(
+    alloc: Global,
+    mut board: T,
+    pivots: u64,
+) -> Result<SolverAnswer, SolveFault>
+    requires in_first { (T.contents board).in_first ≡ true }
+    ensures { (F : Form) → IsStandard F → IsBoardOf F (start F) (T.contents board)
         → Tells F pivots (outcome_from F pivots (start F)) result }
 {
     let mut phase = Phase::First;
@@ -58,24 +62,30 @@ pub(crate) fn run(alloc: Global, mut board: Board, pivots: u64) -> Result<Solver
 }
 
 // Makes a pivot to a basis of the phase.
-fn step(board: &mut Board, next: Phase, row: usize, column: usize) -> Result<(), BoardOverflow>
-    requires first { IsTrue (uses_first next) → IsTrue board.old.in_first }
-    requires row { row < length board.old.rows }
-    requires column { column < board.old.reals }
-    requires nonzero { (readings_of board.old).entry column row ≢ zero_ℚ }
-    ensures fits { is_ok result ≡ pivot_fits (uses_first next) (readings_of board.old) row column }
-    ensures board { MatchResult result
-        (λ _. IsPivoted row column (in_phase next board.old) board.new)
-        (λ _. board.new ≡ in_phase next board.old) }
+fn step<T: Tableau>(
+    board: &mut T,
+    next: Phase,
+    row: usize,
+    column: usize,
+) -> Result<(), BoardOverflow>
+    requires first { IsTrue (uses_first next) → IsTrue (T.contents board.old).in_first }
+    requires row { row < length (T.contents board.old).rows }
+    requires column { column < (T.contents board.old).reals }
+    requires nonzero { (readings_of (T.contents board.old)).entry column row ≢ zero_ℚ }
+    ensures fits { let t = T.contents board.old in
+        is_ok result ≡ pivot_fits (uses_first next) (readings_of t) row column }
+    ensures board { let t = in_phase next (T.contents board.old) in MatchResult result
+        (λ _. IsPivoted row column t (T.contents board.new))
+        (λ _. T.contents board.new ≡ t) }
 {
     leave(board, next);
     board.pivot(row, column)
 }
 
 // The first cost row is left out from the sweep on.
-fn leave(board: &mut Board, next: Phase)
-    requires { IsTrue (uses_first next) → IsTrue board.old.in_first }
-    ensures { board.new ≡ in_phase next board.old }
+fn leave<T: Tableau>(board: &mut T, next: Phase)
+    requires { IsTrue (uses_first next) → IsTrue (T.contents board.old).in_first }
+    ensures { T.contents board.new ≡ in_phase next (T.contents board.old) }
 {
     match next {
         Phase::First => (),

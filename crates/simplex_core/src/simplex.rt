@@ -10,8 +10,9 @@ use crate::fault::SolveFault;
 use crate::form::StdForm;
 use crate::run::run;
 use lists::{Memory, Sequence};
+use sparse_board::Board;
 use std::alloc::Global;
-use tableau_core::{Board, BoardFault};
+use tableau_core::{BoardFault, DenseBoard, Tableau};
 
 /// Solves a form by Bland's rule in two phases, with an allowance of `pivots` pivots.
 ///
@@ -24,9 +25,33 @@ pub fn solve(alloc: Global, form: &StdForm, pivots: u64) -> Result<SolverAnswer,
     ensures meaning { let F = equality_form form.now in IsOutcome F pivots (outcome F pivots) }
     ensures right { IfOk result (IsRightAnswer (equality_form form.now)) }
 {
+    solve_on::<Board>(alloc, form, pivots)
+}
+
+/// Solves a form as `solve` does, on a board that keeps each number, those that are 0 too. The
+/// answer is the same.
+pub fn solve_dense(alloc: Global, form: &StdForm, pivots: u64) -> Result<SolverAnswer, SolveFault>
+    requires { IsWellShaped form.now }
+    ensures outcome { SaysOutcome (equality_form form.now) pivots result }
+    ensures meaning { let F = equality_form form.now in IsOutcome F pivots (outcome F pivots) }
+    ensures right { IfOk result (IsRightAnswer (equality_form form.now)) }
+{
+    solve_on::<DenseBoard>(alloc, form, pivots)
+}
+
+fn solve_on<T: Tableau + Drop>(
+    alloc: Global,
+    form: &StdForm,
+    pivots: u64,
+) -> Result<SolverAnswer, SolveFault>
+    requires { IsWellShaped form.now }
+    ensures outcome { SaysOutcome (equality_form form.now) pivots result }
+    ensures meaning { let F = equality_form form.now in IsOutcome F pivots (outcome F pivots) }
+    ensures right { IfOk result (IsRightAnswer (equality_form form.now)) }
+{
     let right = form.right.as_slice();
     let costs = form.costs.as_slice();
-    match Board::start(alloc, form.m, form.c, form.matrix.as_slice(), right, costs) {
+    match T::start(alloc, form.m, form.c, form.matrix.as_slice(), right, costs) {
         Ok(board) => run(alloc, board, pivots),
         Err(BoardFault::Overflow) => {
             let basis = first_basis(alloc, form.m, form.c)?;

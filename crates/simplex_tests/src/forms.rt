@@ -1,10 +1,11 @@
-//! Small forms, each with the answer that the rule leads to.
+//! Small forms, each with the answer that the rule leads to, on the sparse board and on the dense one.
 ghost use Rattle.std.specs.Prelude.{◌↔◌, All, IsTrue};
 ghost use Rattle.ratio_core.specs.Rational.{zero_ℚ, ◌≤ℚ◌};
+ghost use Rattle.simplex_core.specs.StdForm.{IsWellShaped};
 
 use lists::Sequence;
 use ratio_core::{Ratio, Ratios};
-use simplex_core::{Basis, SolveFault, SolverAnswer, StdForm, solve};
+use simplex_core::{Basis, SolveFault, SolverAnswer, StdForm, solve, solve_dense};
 use std::alloc::{AllocError, Global};
 use std::test::Fail;
 
@@ -56,7 +57,19 @@ fn told(
         costs,
         flips,
     };
-    Ok(text_of(alloc, &solve(alloc, &form, pivots))?)
+    told_by_both(alloc, &form, pivots)
+}
+
+// The answer on the sparse board, where that on the dense one is the same.
+fn told_by_both(alloc: Global, form: &StdForm, pivots: u64) -> Result<String, Fail>
+    requires { IsWellShaped form.now }
+{
+    let sparse = text_of(alloc, &solve(alloc, form, pivots))?;
+    let dense = text_of(alloc, &solve_dense(alloc, form, pivots))?;
+    if sparse != dense {
+        return Err(Fail::from("the boards differ"));
+    }
+    Ok(sparse)
 }
 
 fn text_of(

@@ -2,22 +2,24 @@
 use Rattle.std.specs.Prelude.{◌≡◌, ℕ, zero, suc, ◌+◌, ◌<◌, Bool, true, false, ◌&&◌, ◌||◌, not, nat_eq, List, [], ◌∷◌, length, map, take, slice_index_or, slice_set, Result, Ok, Err, IsErr, MatchResult, refl}
 use Rattle.std.proofs.Common.{sym, ◌∙◌, ap, ap₂, arith, subst, true≢false}
 use Rattle.std.proofs.lemmas.List.{length-map}
-use Rattle.ratio_core.specs.Rational.{Rational, fits, ◌*ℚ◌, ◌-ℚ◌, ◌/ℚ◌}
-use Rattle.tableau_core.specs.declared.board.Board.TheInside.{Inside}
+use Rattle.ratio_core.specs.Rational.{Rational, fits, rational_eq, zero_ℚ, ◌*ℚ◌, ◌-ℚ◌, ◌/ℚ◌}
+use Rattle.tableau_core.specs.declared.dense_board.DenseBoard.TheInside.{Inside}
 use Rattle.tableau_core.specs.declared.kept.Row.{Row}
 use Rattle.tableau_core.specs.Row.{AllFit, IsDivided, IsLowered, cell, quotients_fit}
-use Rattle.tableau_core.specs.Rows.{AreWide, now_at}
-use Rattle.tableau_core.specs.Tableau.{IsPivoted, Tableau, readings_of, width}
-use Rattle.tableau_core.specs.Kept.{IsKept, tableau_of, width_of}
+use Rattle.tableau_core.specs.Rows.{AreWide, now_at, numbers}
+use Rattle.tableau_core.proofs.RowsSteps.{read_at}
+use Rattle.tableau_core.specs.Contents.{IsPivoted, Contents, readings_of, width}
+use Rattle.tableau_core.specs.Kept.{IsKept, contents_of, width_of}
 use Rattle.tableau_core.specs.Pivoting.{IsSettled, numbers_fit, row_fits}
 use Rattle.simplex_form.specs.Basis.{pivoted}
 use Rattle.simplex_form.specs.Fit.{divided_row_fits, lowered_fits, lowered_prices_fit, lowered_row_fits, pivot_fits}
 use Rattle.simplex_form.specs.Readings.{Agrees, Readings, lowered_price, pivoted_readings}
-use Rattle.simplex_form.specs.Search.{all_below}
+use Rattle.simplex_form.specs.Search.{all_below, least_below}
+use Rattle.simplex_form.specs.Turns.{swept_column}
 use Rattle.simplex_laws.specs.AgreementLaws.{agrees_chain, pivot_fits_same, pivoted_agrees}
 use Rattle.simplex_laws.specs.BoundedSumLaws.{same_or_other}
 use Rattle.simplex_laws.specs.PivotLaws.{pivoted_at, pivoted_off}
-use Rattle.simplex_laws.specs.SearchLaws.{all_below_last, all_below_same}
+use Rattle.simplex_laws.specs.SearchLaws.{all_below_last, all_below_same, least_below_same}
 
 -- what is read of the rows, each of which ends with its right side
 abbrev pub kept_readings : Inside → Readings
@@ -53,7 +55,7 @@ pub count_is : (w : ℕ) (rows : List Row) → length (map (λ row. take w row.n
 count_is w rows = length-map rows (λ row. take w row.now.items)
 
 -- the same is read of the value
-pub kept_agrees : (in_first : Bool) (a : Inside) → Agrees in_first (kept_readings a) (readings_of (tableau_of a))
+pub kept_agrees : (in_first : Bool) (a : Inside) → Agrees in_first (kept_readings a) (readings_of (contents_of a))
 kept_agrees in_first a = record {
   rows = sym (count_is (width_of a) a.rows.items);
   reals = refl;
@@ -67,7 +69,7 @@ kept_agrees in_first a = record {
     within_lem : (j c n m : ℕ) → m ≡ n → j < c + m → j < c + n
     within_lem j c n m e b = omega (arith, e, b)
 
-pub value_agrees : (in_first : Bool) (a : Inside) → Agrees in_first (readings_of (tableau_of a)) (kept_readings a)
+pub value_agrees : (in_first : Bool) (a : Inside) → Agrees in_first (readings_of (contents_of a)) (kept_readings a)
 value_agrees in_first a = record {
   rows = count_is (width_of a) a.rows.items;
   reals = refl;
@@ -77,6 +79,12 @@ value_agrees in_first a = record {
   first = λ u j b. refl;
   second = λ j b. refl;
 }
+
+-- the least column of a row's numbers that aren't 0 is that of its entries
+pub swept_is : (a : Inside) (r : ℕ) (row : Row) (items : List Rational) (t : Contents) → contents_of a ≡ t → r < length a.rows.items → row ≡ slice_index_or a.rows.items r row → items ≡ row.now.items → least_below a.reals (λ j. not (rational_eq (cell items j) zero_ℚ)) ≡ swept_column (readings_of t) r
+swept_is a r row items t view b is e =
+    least_below_same a.reals (λ j. not (rational_eq (cell items j) zero_ℚ)) (λ j. not (rational_eq ((readings_of (contents_of a)).entry j r) zero_ℚ)) (λ j c. ap (λ x. not (rational_eq x zero_ℚ)) (ap (λ l. cell l j) (e ∙ ap (λ x. x.now.items) is ∙ sym (ap numbers (read_at a.rows.items r row b))) ∙ sym (kept_entry (width_of a) a.rows.items r j (omega (arith, c)))))
+    ∙ ap (λ t. swept_column (readings_of t) r) view
 
 -- ---- the tests of a pivot
 
@@ -104,19 +112,19 @@ module _ (a : Inside) (h : IsKept a) (r q : ℕ) (row : r < length a.rows.items)
       ∙ regrouped (divided_row_fits R r q) (all_below R.rows (λ i. nat_eq i r || lowered_row_fits R r q i)) (not a.in_first || lowered_prices_fit R R.first_price r q) (lowered_prices_fit R R.second_price r q)
 
 -- a row and a column of the value are within what is kept
-pub row_within : (a : Inside) (t : Tableau) (r : ℕ) → tableau_of a ≡ t → r < length t.rows → r < length a.rows.items
+pub row_within : (a : Inside) (t : Contents) (r : ℕ) → contents_of a ≡ t → r < length t.rows → r < length a.rows.items
 row_within a t r view row =
     subst (λ n. r < n) (count_is (width_of a) a.rows.items) (subst (λ t. r < length t.rows) (sym view) row)
 
-pub column_within : (a : Inside) (t : Tableau) (q : ℕ) → tableau_of a ≡ t → q < width t → q < width_of a
+pub column_within : (a : Inside) (t : Contents) (q : ℕ) → contents_of a ≡ t → q < width t → q < width_of a
 column_within a t q view column =
     subst (λ n. q < a.reals + n) (count_is (width_of a) a.rows.items) (subst (λ t. q < width t) (sym view) column)
 
 -- the tests that are made are those of what is read
-pub tests_same : (a : Inside) → IsKept a → (r q : ℕ) (t : Tableau) → tableau_of a ≡ t → r < length t.rows → q < width t → numbers_fit (length a.rows.items) (now_at a.rows.items) r q a.in_first a.first.now.items a.second.now.items ≡ pivot_fits t.in_first (readings_of t) r q
+pub tests_same : (a : Inside) → IsKept a → (r q : ℕ) (t : Contents) → contents_of a ≡ t → r < length t.rows → q < width t → numbers_fit (length a.rows.items) (now_at a.rows.items) r q a.in_first a.first.now.items a.second.now.items ≡ pivot_fits t.in_first (readings_of t) r q
 tests_same a h r q t view row column =
     kept_fits a h r q (row_within a t r view row)
-    ∙ pivot_fits_same a.in_first (kept_readings a) (readings_of (tableau_of a)) (kept_agrees a.in_first a) r q (subst (λ t. r < length t.rows) (sym view) row) (subst (λ t. q < width t) (sym view) column)
+    ∙ pivot_fits_same a.in_first (kept_readings a) (readings_of (contents_of a)) (kept_agrees a.in_first a) r q (subst (λ t. r < length t.rows) (sym view) row) (subst (λ t. q < width t) (sym view) column)
     ∙ ap (λ t. pivot_fits t.in_first (readings_of t) r q) view
 
 -- ---- nothing has changed
@@ -135,7 +143,7 @@ module _ (a b : Inside) (reals : b.reals ≡ a.reals) (in_first : b.in_first ≡
   width_is : width_of b ≡ width_of a
   width_is = ap₂ ◌+◌ reals count
 
-  pub view_same : ((i : ℕ) → now_at b.rows.items i ≡ now_at a.rows.items i) → b.first.now.items ≡ a.first.now.items → b.second.now.items ≡ a.second.now.items → tableau_of b ≡ tableau_of a
+  pub view_same : ((i : ℕ) → now_at b.rows.items i ≡ now_at a.rows.items i) → b.first.now.items ≡ a.first.now.items → b.second.now.items ≡ a.second.now.items → contents_of b ≡ contents_of a
   view_same rows first second = λ k. record {
     reals = reals k;
     rows = (ap (λ w. map (λ row. take w row.now.items) b.rows.items) width_is ∙ standing_same (take (width_of a)) b.rows.items a.rows.items count rows) k;
@@ -217,12 +225,12 @@ module _ (a b : Inside) (reals : b.reals ≡ a.reals) (count : length b.rows.ite
       second = new_prices a.second.now.items b.second.now.items h.second (subst (λ x. IsLowered (cell x q) (B r) x b.second.now.items) second_is s.second_lowered);
     }
 
-    pub pivoted_all : (t : Tableau) → tableau_of a ≡ t → q < width t → b.in_first ≡ a.in_first → b.basis.items ≡ slice_set a.basis.items r q → IsPivoted r q t (tableau_of b)
+    pub pivoted_all : (t : Contents) → contents_of a ≡ t → q < width t → b.in_first ≡ a.in_first → b.basis.items ≡ slice_set a.basis.items r q → IsPivoted r q t (contents_of b)
     pivoted_all t view column in_first basis =
-        subst (λ t. IsPivoted r q t (tableau_of b)) view
+        subst (λ t. IsPivoted r q t (contents_of b)) view
         (record {
           in_first = in_first;
-          readings = agrees_chain a.in_first (readings_of (tableau_of b)) (kept_readings b) (pivoted_readings r q (readings_of (tableau_of a))) (value_agrees a.in_first b)
-              (agrees_chain a.in_first (kept_readings b) (pivoted_readings r q (kept_readings a)) (pivoted_readings r q (readings_of (tableau_of a))) (inside_pivoted basis)
-              (pivoted_agrees a.in_first (kept_readings a) (readings_of (tableau_of a)) (kept_agrees a.in_first a) r q (subst (λ n. r < n) (sym (count_is (width_of a) a.rows.items)) row) (subst (λ t. q < width t) (sym view) column)));
+          readings = agrees_chain a.in_first (readings_of (contents_of b)) (kept_readings b) (pivoted_readings r q (readings_of (contents_of a))) (value_agrees a.in_first b)
+              (agrees_chain a.in_first (kept_readings b) (pivoted_readings r q (kept_readings a)) (pivoted_readings r q (readings_of (contents_of a))) (inside_pivoted basis)
+              (pivoted_agrees a.in_first (kept_readings a) (readings_of (contents_of a)) (kept_agrees a.in_first a) r q (subst (λ n. r < n) (sym (count_is (width_of a) a.rows.items)) row) (subst (λ t. q < width t) (sym view) column)));
         })

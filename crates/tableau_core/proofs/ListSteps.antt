@@ -54,9 +54,17 @@ fit-append (y ∷ row) x h f (suc k) = fit-append row x (λ i. h (suc i)) f k
 pub fit-more : (row next : List Rational) (x : Rational) → AllFit row → Fits x → next ≡ row ++ x ∷ [] → AllFit next
 fit-more row next x h f e = subst AllFit (sym e) (fit-append row x h f)
 
+-- a number is below c, or not
+pub below_or_past : (P : Type 0) (j c : ℕ) → (j < c → P) → (c ≤ j → P) → P
+below_or_past P j c below past = by_end (cases_lt j c)
+  where
+    by_end : (j < c) ⊎ (c ≤ j) → P
+    by_end (inl b) = below b
+    by_end (inr h) = past h
+
 -- ---- zeros at the end
 
-zeros-cell : (n k : ℕ) → cell (replicate n zero_ℚ) k ≡ zero_ℚ
+pub zeros-cell : (n k : ℕ) → cell (replicate n zero_ℚ) k ≡ zero_ℚ
 zeros-cell zero k = refl
 zeros-cell (suc n) zero = refl
 zeros-cell (suc n) (suc k) = zeros-cell n k
@@ -95,13 +103,6 @@ module _ (c m n : ℕ) (row next : List Rational) (z : Rational) (long : length 
     where
       cases_cell : (j : ℕ) → j < c + m → cell row j ≡ f j
       cases_cell j b = below_or_past (cell row j ≡ f j) j c (λ k. h.cells j k) (λ k. past-cell row j (omega (arith, h.long, k)) ∙ sym (z j k b))
-        where
-          below_or_past : (P : Type 0) (j c : ℕ) → (j < c → P) → (c ≤ j → P) → P
-          below_or_past P j c below past = by_end (cases_lt j c)
-            where
-              by_end : (j < c) ⊎ (c ≤ j) → P
-              by_end (inl b) = below b
-              by_end (inr h) = past h
 
 -- ---- rows
 

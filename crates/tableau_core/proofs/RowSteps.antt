@@ -1,14 +1,12 @@
 -- A row worked out up to its j-th number.
-use Rattle.std.specs.Prelude.{◌≡◌, ℕ, ◌+◌, ◌<◌, ◌≤◌, Bool, true, false, ◌&&◌, List, length, slice_index_or, slice_set, Result, Ok, Err, IsErr, is_ok, refl, ◌⊎◌, take, min, slice_index}
-use Rattle.std.proofs.Common.{sym, ◌∙◌, ap, ap₂, arith, subst, true≢false, inl, inr}
+use Rattle.std.specs.Prelude.{◌≡◌, ℕ, ◌+◌, ◌<◌, ◌≤◌, Bool, true, false, List, length, slice_index_or, slice_set, refl, ◌⊎◌, take, min, slice_index}
+use Rattle.std.proofs.Common.{sym, ◌∙◌, ap, arith, subst, inl, inr}
 use Rattle.std.proofs.lemmas.List.{get_or_default, get_or-set_other, get_or-set_same, length-set, get_or-take, length-take}
-use Rattle.ratio_core.specs.Rational.{Fits, Rational, SumFits, fits, neg_ℚ, sum_fits, zero_ℚ, ◌*ℚ◌, ◌+ℚ◌, ◌-ℚ◌, ◌/ℚ◌}
-use Rattle.ratio_core.specs.RationalLaws.{fits_Decides, sum_fits_Decides}
-use Rattle.rational_laws.specs.Field.{*ℚ-zero, +ℚ-zero, neg_ℚ-zero, zero-*ℚ}
-use Rattle.rational_laws.specs.Fitting.{Fits_zero}
+use Rattle.ratio_core.specs.Rational.{Fits, Rational, fits, zero_ℚ, ◌*ℚ◌, ◌-ℚ◌, ◌/ℚ◌}
+use Rattle.ratio_core.specs.RationalLaws.{fits_Decides}
 use Rattle.tableau_core.specs.Row.{AllFit, IsLowered, cell, differences_fit, quotients_fit}
 use Rattle.tableau_core.specs.Places.{Covers}
-use Rattle.rational_laws.specs.ZeroSums.{SumFits-zero_right}
+use Rattle.tableau_core.specs.LoweringLaws.{false_from_not, fits_from, lowered-zero, lowered_fits-zero, step-zero, zero-step}
 use Rattle.simplex_laws.specs.SearchLaws.{all_below_all, all_below_failed, all_below_more}
 use Rattle.simplex_form.specs.Fit.{lowered_fits}
 use Rattle.simplex_form.specs.Search.{all_below}
@@ -40,13 +38,6 @@ made_more n j test made next value h b e is f = record {
 
 -- ---- the code's tests
 
-fits_from : (q : Rational) → Fits q → fits q ≡ true
-fits_from q = (fits_Decides q).1
-
-false_from_not : (b : Bool) (P : Type 0) → (b ≡ true → P) → ¬ P → b ≡ false
-false_from_not true P h n = absurd (n (h refl))
-false_from_not false P h n = refl
-
 pub item_is : (row : List Rational) (j : ℕ) (item : Rational) → j < length row → item ≡ slice_index_or row j item → item ≡ cell row j
 item_is row j item b e = e ∙ get_or_default row j item zero_ℚ b
 
@@ -61,56 +52,10 @@ pub divide_made : (by item value : Rational) (row next : List Rational) (j : ℕ
 divide_made by item value row next j h b e f is =
     made_more (length row) j (λ k. fits (cell row k /ℚ by)) (λ k. cell row k /ℚ by) next value h b (fits_from (cell row j /ℚ by) (subst (λ x. Fits (x /ℚ by)) (item_is row j item b e) f)) (is ∙ ap (λ x. x /ℚ by) (item_is row j item b e)) (subst Fits (sym is) f)
 
--- ---- lowered numbers
-
-lowered_from : (a e t : Rational) → Fits (e *ℚ t) → SumFits a (neg_ℚ (e *ℚ t)) → lowered_fits a e t ≡ true
-lowered_from a e t f g = ap₂ ◌&&◌ ((fits_Decides (e *ℚ t)).1 f) ((sum_fits_Decides a (neg_ℚ (e *ℚ t))).1 g)
-
-lowered_parts : (a b : Bool) → (a && b) ≡ true → (a ≡ true) × (b ≡ true)
-lowered_parts true b e = (refl, e)
-lowered_parts false b e = absurd (true≢false (sym e))
-
-lowered_at : (a e t : Rational) → lowered_fits a e t ≡ true → Fits (e *ℚ t) × SumFits a (neg_ℚ (e *ℚ t))
-lowered_at a e t h =
-    let both : (fits (e *ℚ t) ≡ true) × (sum_fits a (neg_ℚ (e *ℚ t)) ≡ true) = lowered_parts (fits (e *ℚ t)) (sum_fits a (neg_ℚ (e *ℚ t))) h in
-    ((fits_Decides (e *ℚ t)).0 both.0, (sum_fits_Decides a (neg_ℚ (e *ℚ t))).0 both.1)
-
--- one number: a product or a difference that doesn't fit, and both that do
-pub product_refused : (a e t : Rational) → ¬ (Fits (e *ℚ t)) → lowered_fits a e t ≡ false
-product_refused a e t n = false_from_not (lowered_fits a e t) (Fits (e *ℚ t)) (λ h. (lowered_at a e t h).0) n
-
-pub difference_refused : (a e t m : Rational) → m ≡ e *ℚ t → ¬ (SumFits a (neg_ℚ m)) → lowered_fits a e t ≡ false
-difference_refused a e t m is n =
-    false_from_not (lowered_fits a e t) (SumFits a (neg_ℚ m)) (λ h. subst (λ x. SumFits a (neg_ℚ x)) (sym is) (lowered_at a e t h).1) n
-
-pub lowered_made : (a e t m : Rational) → m ≡ e *ℚ t → Fits (e *ℚ t) → SumFits a (neg_ℚ m) → lowered_fits a e t ≡ true
-lowered_made a e t m is f g = lowered_from a e t f (subst (λ x. SumFits a (neg_ℚ x)) is g)
-
--- a step of 0, or a multiple of 0, fits and changes nothing
-pub lowered_fits-zero : (a e t : Rational) → e *ℚ t ≡ zero_ℚ → Fits a → lowered_fits a e t ≡ true
-lowered_fits-zero a e t z f =
-    lowered_from a e t (subst Fits (sym z) Fits_zero) (subst (λ x. SumFits a (neg_ℚ x)) (sym z) (subst (SumFits a) (sym neg_ℚ-zero) (SumFits-zero_right a f)))
-
-pub lowered-zero : (a e t : Rational) → e *ℚ t ≡ zero_ℚ → a -ℚ e *ℚ t ≡ a
-lowered-zero a e t z = ap (λ x. a -ℚ x) z ∙ ap (λ x. a +ℚ x) neg_ℚ-zero ∙ +ℚ-zero a
-
-pub step-zero : (e t : Rational) → t ≡ zero_ℚ → e *ℚ t ≡ zero_ℚ
-step-zero e t z = ap (λ x. e *ℚ x) z ∙ *ℚ-zero e
-
-pub is_ok-ok : {T E : Type 0} (r : Result T E) (x : T) → r ≡ Ok x → is_ok r ≡ true
-is_ok-ok r x e = ap is_ok e
-
-pub is_ok-err : {T E : Type 0} (r : Result T E) → IsErr r → is_ok r ≡ false
-is_ok-err (Ok x) h = absurd (true≢false (sym h))
-is_ok-err (Err e) h = refl
-
 -- ---- a row whose entry is 0
 
 pub entry-zero : (row : List Rational) (q : ℕ) (item : Rational) → q < length row → item ≡ slice_index_or row q item → item ≡ zero_ℚ → cell row q ≡ zero_ℚ
 entry-zero row q item b e z = sym (item_is row q item b e) ∙ z
-
-zero-step : (e t : Rational) → e ≡ zero_ℚ → e *ℚ t ≡ zero_ℚ
-zero-step e t z = ap (λ x. x *ℚ t) z ∙ zero-*ℚ t
 
 pub lowered-itself : (by : Rational) (step row : List Rational) → by ≡ zero_ℚ → IsLowered by step row row
 lowered-itself by step row z = record { long = refl; cells = λ j b. sym (lowered-zero (cell row j) by (cell step j) (zero-step by (cell step j) z)) }

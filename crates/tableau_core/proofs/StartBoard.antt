@@ -2,12 +2,12 @@
 use Rattle.std.specs.Prelude.{◌≡◌, ℕ, ◌+◌, ◌<◌, length}
 use Rattle.std.specs.List.{range_with_len}
 use Rattle.std.proofs.Common.{sym, ◌∙◌, ap, ap₂}
-use Rattle.tableau_core.specs.declared.board.Board.TheInside.{Inside}
+use Rattle.tableau_core.specs.declared.dense_board.DenseBoard.TheInside.{Inside}
 use Rattle.tableau_core.specs.Row.{AllFit, cell}
 use Rattle.tableau_core.specs.Rows.{AreWide, now_at}
 use Rattle.tableau_core.specs.Start.{IsListOf}
-use Rattle.tableau_core.specs.Tableau.{IsBoardOf, readings_of}
-use Rattle.tableau_core.specs.Kept.{IsKept, tableau_of, width_of}
+use Rattle.tableau_core.specs.Contents.{IsBoardOf, readings_of}
+use Rattle.tableau_core.specs.Kept.{IsKept, contents_of, width_of}
 use Rattle.tableau_core.proofs.BoardSteps.{kept_readings, value_agrees}
 use Rattle.simplex_form.specs.Basis.{start}
 use Rattle.simplex_form.specs.Board.{entry, price}
@@ -35,9 +35,9 @@ module _ (F : Form) (a : Inside) (reals : a.reals ≡ F.reals) (count : length a
     basis = long ∙ sym count;
   }
 
-  pub start-board : ((i j : ℕ) → i < F.rows → j < F.reals + F.rows → cell (now_at a.rows.items i) j ≡ entry F (start F) j i) → ((i : ℕ) → i < F.rows → cell (now_at a.rows.items i) (F.reals + F.rows) ≡ F.right i) → IsListOf (F.reals + F.rows) (price F (start F) (first_cost F)) a.first.now.items → IsListOf (F.reals + F.rows) (second_cost F) a.second.now.items → IsBoardOf F (start F) (tableau_of a)
+  pub start-board : ((i j : ℕ) → i < F.rows → j < F.reals + F.rows → cell (now_at a.rows.items i) j ≡ entry F (start F) j i) → ((i : ℕ) → i < F.rows → cell (now_at a.rows.items i) (F.reals + F.rows) ≡ F.right i) → IsListOf (F.reals + F.rows) (price F (start F) (first_cost F)) a.first.now.items → IsListOf (F.reals + F.rows) (second_cost F) a.second.now.items → IsBoardOf F (start F) (contents_of a)
   start-board entries rights first second =
-      agrees_chain a.in_first (readings_of (tableau_of a)) (kept_readings a) (readings F (start F)) (value_agrees a.in_first a)
+      agrees_chain a.in_first (readings_of (contents_of a)) (kept_readings a) (readings F (start F)) (value_agrees a.in_first a)
       (record {
         rows = count;
         reals = reals;

@@ -1,17 +1,17 @@
 -- How a board is kept.
 use Rattle.std.specs.Prelude.{◌≡◌, ℕ, ◌+◌, length, map, take}
-use Rattle.tableau_core.specs.declared.board.Board.TheInside.{Inside}
+use Rattle.tableau_core.specs.declared.dense_board.DenseBoard.TheInside.{Inside}
 use Rattle.tableau_core.specs.Row.{AllFit, cell}
 use Rattle.tableau_core.specs.Rows.{AreWide}
-use Rattle.tableau_core.specs.Tableau.{Tableau}
+use Rattle.tableau_core.specs.Contents.{Contents}
 
 -- the real columns and an artificial one for each row
 abbrev pub width_of : Inside → ℕ
 width_of a = a.reals + length a.rows.items
 
 -- each row is kept with its right side behind its entries
-abbrev pub tableau_of : Inside → Tableau
-tableau_of a = record {
+abbrev pub contents_of : Inside → Contents
+contents_of a = record {
   reals = a.reals;
   rows = map (λ row. take (width_of a) row.now.items) a.rows.items;
   rights = map (λ row. cell row.now.items (width_of a)) a.rows.items;

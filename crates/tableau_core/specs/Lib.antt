@@ -2,8 +2,11 @@
 pub mod Row
 pub mod Places
 pub mod Rows
-pub mod Tableau
-pub mod TableauLaws
+pub mod Contents
+pub mod ContentsLaws
 pub mod Pivoting
 pub mod Kept
 pub mod Start
+pub mod LeastLaws
+pub mod LoweringLaws
+pub mod StartLaws

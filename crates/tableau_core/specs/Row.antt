@@ -1,5 +1,5 @@
 -- What a pivot makes of a row of numbers.
-use Rattle.std.specs.Prelude.{◌≡◌, ℕ, ◌<◌, Bool, List, length, slice_index_or}
+use Rattle.std.specs.Prelude.{◌≡◌, ℕ, ◌<◌, ◌≤◌, Bool, List, length, slice_index_or}
 use Rattle.ratio_core.specs.Rational.{Fits, Rational, fits, zero_ℚ, ◌*ℚ◌, ◌-ℚ◌, ◌/ℚ◌}
 use Rattle.simplex_form.specs.Fit.{lowered_fits}
 use Rattle.simplex_form.specs.Search.{all_below}
@@ -32,3 +32,9 @@ pub record IsLowered (by : Rational) (step row next : List Rational) : Type 0 wh
 -- the next row is worked out, unless the row's entry of column q is 0, so that it stays
 abbrev pub IsPrepared : ℕ → List Rational → List Rational → List Rational → Type 0
 IsPrepared q step row next = ¬ (cell row q ≡ zero_ℚ) → IsLowered (cell row q) step row next
+
+-- the j-th number x of the first n is now f j x, and each other is as it was
+pub record IsChanged (f : ℕ → Rational → Rational) (n : ℕ) (old new : List Rational) : Type 0 where
+  pub long : length new ≡ length old
+  pub changed : (j : ℕ) → j < n → cell new j ≡ f j (cell old j)
+  pub others : (j : ℕ) → n ≤ j → cell new j ≡ cell old j

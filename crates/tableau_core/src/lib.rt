@@ -2,14 +2,19 @@
 //! operations.
 #![tactic(auto)]
 
-mod board;
+mod dense_board;
 mod fault;
 mod kept;
 mod pivoting;
 mod places;
 mod row;
 mod rows;
+mod scan;
 mod start;
+mod tableau;
 
-pub use board::Board;
+pub use dense_board::DenseBoard;
 pub use fault::{BoardFault, BoardOverflow};
+pub use row::lowered;
+pub use start::{first_prices, second_prices, start_basis};
+pub use tableau::Tableau;

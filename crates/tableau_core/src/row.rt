@@ -57,21 +57,22 @@ pub(crate) fn lower(
     for i in 0..places.len() {
         let j = places[i];
         if j < row.len() {
-            next[j] = lower_number(&row[j], by, &step[j])?;
+            next[j] = lowered(&row[j], by, &step[j])?;
         }
     }
     Ok(())
 }
 
-// A number lowered by a multiple.
-fn lower_number(number: &Ratio, by: &Ratio, step: &Ratio) -> Result<Ratio, BoardOverflow>
+/// A number lowered by a multiple of the step's, where the product and the difference fit.
+#[inline]
+pub fn lowered(number: &Ratio, by: &Ratio, step: &Ratio) -> Result<Ratio, BoardOverflow>
     ensures fits { is_ok result ≡ lowered_fits number.now by.now step.now }
     ensures ok { IfOk result (λ x. (x ≡ number.now -ℚ by.now *ℚ step.now) × Fits x) }
 {
     let multiple = by.mul(step)?;
-    let lowered = difference(number, &multiple)?;
-    let _fits = lowered.num();
-    Ok(lowered)
+    let rest = difference(number, &multiple)?;
+    let _fits = rest.num();
+    Ok(rest)
 }
 
 // A difference, without arithmetic where the number is 0.

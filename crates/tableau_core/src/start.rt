@@ -1,13 +1,12 @@
 //! The numbers that a board starts with.
-ghost use Rattle.std.specs.Prelude.{◌≡◌, ◌+◌, ◌*◌, ◌^◌, ◌<◌, ℕ, List, length, false, true, is_ok, IfOk, IsErrOf, OnOk};
+ghost use Rattle.std.specs.Prelude.{◌≡◌, ◌+◌, ◌*◌, ◌^◌, ◌<◌, ℕ, List, length, false, true, ◌≤◌, is_ok, IfOk, IsErrOf, OnErr, OnOk};
 ghost use Rattle.std.specs.List.{range_with_len};
-ghost use Rattle.ratio_core.specs.Rational.{Rational, neg_ℚ};
-ghost use Rattle.simplex_form.specs.BoundedSums.{sum_to};
+ghost use Rattle.ratio_core.specs.Rational.{Fits, Rational, neg_ℚ, sum_fits, ◌+ℚ◌};
 ghost use Rattle.simplex_form.specs.Form.{first_cost, second_cost};
 ghost use Rattle.simplex_form.specs.Basis.{start};
 ghost use Rattle.simplex_form.specs.Board.{entry, price};
-ghost use Rattle.simplex_form.specs.Fit.{first_sum_fits, start_fits};
-ghost use Rattle.tableau_core.specs.Row.{AllFit, cell};
+ghost use Rattle.simplex_form.specs.Fit.{start_fits};
+ghost use Rattle.tableau_core.specs.Row.{AllFit, IsChanged, cell};
 ghost use Rattle.tableau_core.specs.Rows.{AreWide, now_at};
 ghost use Rattle.tableau_core.specs.Start.{AtEachStart, IsListOf, form_of};
 
@@ -84,8 +83,8 @@ fn start_entry(m: usize, c: usize, matrix: &[Ratio], i: usize, j: usize) -> Rati
     }
 }
 
-// The first cost row.
-pub(crate) fn first_prices(
+/// The first cost row at the start. Overflow where a sum of a column's entries doesn't fit.
+pub fn first_prices(
     alloc: Global,
     m: usize,
     c: usize,
@@ -100,38 +99,71 @@ pub(crate) fn first_prices(
     ensures overflow { IsErrOf result BoardFault.Overflow
         → AtEachStart m c matrix.now (λ F _. start_fits F ≡ false) }
 {
-    let mut prices = Vec::with_capacity(alloc, c + m)?;
-    for j in 0..c {
-        let price = first_price(m, c, matrix, j)?;
-        let _fits = price.num();
-        prices.push(price)?;
+    let mut prices = vec![in alloc; Ratio::zero(); c + m]?;
+    for i in 0..m {
+        add_row(matrix, i * c, c, &mut prices)?;
     }
-    prices.resize(c + m, Ratio::zero())?;
+    negate(&mut prices, c);
     Ok(prices)
 }
 
-// The first price of column j: minus the sum of its entries, added from the first row on.
-fn first_price(m: usize, c: usize, matrix: &[Ratio], j: usize) -> Result<Ratio, BoardOverflow>
-    requires long { length matrix.now ≡ m * c }
-    requires within { j < c }
-    ensures fits { AtEachStart m c matrix.now (λ F _. is_ok result ≡ first_sum_fits F j) }
-    ensures ok { IfOk result (λ x. AtEachStart m c matrix.now (λ F _.
-        x ≡ neg_ℚ (sum_to m (λ i. F.matrix i j)))) }
+// Adds c numbers of the matrix, from the one at `place` on, to the first sums.
+fn add_row(
+    matrix: &[Ratio],
+    place: usize,
+    c: usize,
+    sums: &mut [Ratio],
+) -> Result<(), BoardOverflow>
+    requires within { place + c ≤ length matrix.now }
+    requires long { c ≤ length sums.old }
+    requires all_fit { AllFit sums.old }
+    ensures added { OnOk result
+        (IsChanged (λ j x. x +ℚ cell matrix.now (place + j)) c sums.old sums.new) }
+    ensures all_fit { AllFit sums.new }
+    ensures fits { OnOk result ((j : ℕ) → j < c
+        → sum_fits (cell sums.old j) (cell matrix.now (place + j)) ≡ true) }
+    ensures refused { OnErr result ((j : ℕ) × (j < c)
+        × (sum_fits (cell sums.old j) (cell matrix.now (place + j)) ≡ false)) }
 {
-    let mut sum = Ratio::zero();
-    for i in 0..m {
-        let entry = &matrix[i * c + j];
-        sum = sum.add(entry)?;
+    for j in 0..c {
+        let sum = &mut sums[j];
+        add_entry(sum, &matrix[place + j])?;
     }
-    Ok(sum.neg())
+    Ok(())
 }
 
-// The second cost row: the costs, and 0 at each artificial column.
-pub(crate) fn second_prices(
-    alloc: Global,
-    m: usize,
-    costs: &[Ratio],
-) -> Result<Vec<Ratio>, AllocError>
+// Adds an entry to a sum, without arithmetic where it is 0.
+#[inline]
+fn add_entry(sum: &mut Ratio, entry: &Ratio) -> Result<(), BoardOverflow>
+    ensures fits { is_ok result ≡ sum_fits sum.old entry.now }
+    ensures ok { OnOk result (sum.new ≡ sum.old +ℚ entry.now) }
+    ensures all_fit { Fits sum.old → Fits sum.new }
+{
+    let _fits = sum.num();
+    if entry.is_zero() {
+        return Ok(());
+    }
+    *sum = sum.add(entry)?;
+    let _fits = sum.num();
+    Ok(())
+}
+
+// Negates the first c numbers.
+fn negate(numbers: &mut [Ratio], c: usize)
+    requires long { c ≤ length numbers.old }
+    requires all_fit { AllFit numbers.old }
+    ensures negated { IsChanged (λ _ x. neg_ℚ x) c numbers.old numbers.new }
+    ensures all_fit { AllFit numbers.new }
+{
+    for j in 0..c {
+        let negated = numbers[j].neg();
+        let _fits = negated.num();
+        numbers[j] = negated;
+    }
+}
+
+/// The second cost row at the start: the costs, and 0 at each artificial column.
+pub fn second_prices(alloc: Global, m: usize, costs: &[Ratio]) -> Result<Vec<Ratio>, AllocError>
     requires room { length costs.now + m + 1 < 2 ^ 64 }
     ensures prices { IfOk result (λ prices. (matrix right : List Rational) →
         let F = form_of m (length costs.now) matrix right costs.now in
@@ -147,8 +179,8 @@ pub(crate) fn second_prices(
     Ok(prices)
 }
 
-// The artificial columns.
-pub(crate) fn start_basis(alloc: Global, m: usize, c: usize) -> Result<Vec<usize>, AllocError>
+/// The artificial columns, in order.
+pub fn start_basis(alloc: Global, m: usize, c: usize) -> Result<Vec<usize>, AllocError>
     requires room { c + m + 1 < 2 ^ 64 }
     ensures { IfOk result (λ basis. basis.items ≡ range_with_len c m) }
 {

@@ -2,15 +2,15 @@ use Rattle.std.proofs.Common.{◌∙◌, ◌<◌, refl, subst}
 use Rattle.ratio_core.specs.Rational.{neg_ℚ}
 use Rattle.simplex_form.specs.Board.{multiplier}
 use Rattle.simplex_form.specs.Form.{second_cost}
-use Rattle.tableau_core.specs.Tableau.{readings_of}
+use Rattle.tableau_core.specs.Contents.{readings_of}
 use Rattle.simplex_core.specs.Placed.{artificial}
 use Rattle.simplex_core.proofs.Multipliers.{second_multiplier}
 use Rattle.simplex_core.proofs.Placing.{lists_same}
 use Rattle.simplex_core.proofs.read_off.optimal.Goals as goal
 
 pub returns : goal.returns
-returns c = λ F s d.
-    let t = c.args.board.now in
+returns g c = λ F s d.
+    let t = g.T.Tableau.contents c.args.board.now in
     let R = readings_of t in (
       refl,
       c.in_ok-x.ensures F s d.stands.basis d.board,

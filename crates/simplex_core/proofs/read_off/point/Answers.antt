@@ -7,7 +7,7 @@ use Rattle.simplex_core.proofs.read_off.point.Goals as goal
 use Rattle.simplex_core.proofs.read_off.point.Goals.{then-column-c, else-column-c}
 
 pub loop-i-preserved : goal.loop-i-preserved
-loop-i-preserved c =
+loop-i-preserved g c =
     let i = c.loop-i.i in
     let reals = c.real_count-c.result in
     let j = slice_index_or c.basis.result.now i 0 in
@@ -26,6 +26,6 @@ loop-i-preserved c =
     ]
 
 pub returns : goal.returns
-returns c = λ F s k h.
+returns g c = λ F s k h.
     let rows : c.loop-i.i ≡ F.rows = omega (arith, h.rows) in
     subst (IsListOf F.reals (point F s)) (sym c.from_vec.ensures) (point_from F s k c.real_count-c.result c.loop-i.i c.loop-i.x.items (c.real_count-c.ensures ∙ h.reals) rows (c.loop-i.invariant.placed F s k h))

@@ -8,7 +8,7 @@ use Rattle.simplex_core.proofs.read_off.ray.Goals as goal
 use Rattle.simplex_core.proofs.read_off.ray.Goals.{then-column-c, else-column-c}
 
 pub loop-i-preserved : goal.loop-i-preserved
-loop-i-preserved c =
+loop-i-preserved g c =
     let i = c.loop-i.i in
     let q = c.args.q in
     let reals = c.real_count-c.result in
@@ -29,7 +29,7 @@ loop-i-preserved c =
     ]
 
 pub returns : goal.returns
-returns c = λ F s k h low.
+returns g c = λ F s k h low.
     let rows : c.loop-i.i ≡ F.rows = omega (arith, h.rows) in
     let real : c.args.q < c.real_count-c.result = omega arith in
     ray_from F s k c.real_count-c.result c.loop-i.i c.args.q c.loop-i.d.items c.from_vec.result (c.real_count-c.ensures ∙ h.reals) rows real low (c.loop-i.invariant.placed F s k h) (c.from_vec.ensures ∙ ap (λ x. slice_set c.loop-i.d.items c.args.q x) c.one.ensures)

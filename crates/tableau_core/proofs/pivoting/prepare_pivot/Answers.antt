@@ -1,6 +1,6 @@
 use Rattle.std.proofs.Common.{◌≤◌, length, subst, sym, ◌∙◌}
 use Rattle.tableau_core.specs.Rows.{AreWide}
-use Rattle.tableau_core.proofs.RowSteps.{is_ok-err}
+use Rattle.tableau_core.specs.LoweringLaws.{is_ok-err}
 use Rattle.tableau_core.proofs.PivotSteps.{first-refused, others-refused, second-decides}
 use Rattle.tableau_core.proofs.pivoting.prepare_pivot.Goals as goal
 

@@ -1,5 +1,5 @@
 use Rattle.std.proofs.Common.{slice_set, ◌+◌, subst, sym, ◌∙◌}
-use Rattle.tableau_core.proofs.RowSteps.{IsNotedTo, item_is, noted_all, noted_here, noted_none, noted_past}
+use Rattle.tableau_core.proofs.RowSteps.{IsNotedTo, item_is, noted_here, noted_none, noted_past}
 use Rattle.tableau_core.proofs.places.note_places.Goals as goal
 use Rattle.tableau_core.proofs.places.note_places.Goals.{then-not-is_zero, else-not-is_zero}
 

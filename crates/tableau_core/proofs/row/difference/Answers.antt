@@ -1,5 +1,5 @@
 use Rattle.std.proofs.Common.{◌≡◌, sym, ◌∙◌, ap, subst}
-use Rattle.ratio_core.specs.Rational.{SumFits, neg_ℚ, zero_ℚ, ◌-ℚ◌, ◌+ℚ◌}
+use Rattle.ratio_core.specs.Rational.{SumFits, neg_ℚ, zero_ℚ, ◌+ℚ◌}
 use Rattle.rational_laws.specs.Field.{zero-+ℚ}
 use Rattle.rational_laws.specs.Fitting.{Fits_neg_ℚ, SumFits_zero}
 use Rattle.tableau_core.proofs.row.difference.Goals as goal

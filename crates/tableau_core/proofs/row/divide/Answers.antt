@@ -1,5 +1,6 @@
 use Rattle.std.proofs.Common.{sym, ◌∙◌}
-use Rattle.tableau_core.proofs.RowSteps.{divide_made, divide_refused, is_ok-err}
+use Rattle.tableau_core.specs.LoweringLaws.{is_ok-err}
+use Rattle.tableau_core.proofs.RowSteps.{divide_made, divide_refused}
 use Rattle.tableau_core.proofs.row.divide.Goals as goal
 
 pub returns-in_err-next-clause-fits : goal.returns-in_err-next-clause-fits

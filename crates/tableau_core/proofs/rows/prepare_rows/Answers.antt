@@ -1,5 +1,5 @@
 use Rattle.std.proofs.Common.{◌+◌, subst, sym, ◌∙◌}
-use Rattle.tableau_core.proofs.RowSteps.{is_ok-err}
+use Rattle.tableau_core.specs.LoweringLaws.{is_ok-err}
 use Rattle.tableau_core.proofs.RowsSteps.{ArePreparedTo, prepared-more, prepared-pivot, rows-refused}
 use Rattle.tableau_core.proofs.rows.prepare_rows.Goals as goal
 use Rattle.tableau_core.proofs.rows.prepare_rows.Goals.{then-i-r+in_ok-prepare, else-i-r}

@@ -1,0 +1,10 @@
+pub mod NumberLemmas
+pub mod HeldLemmas
+pub mod RowSteps
+pub mod LoweringSteps
+pub mod RowsSteps
+pub mod PivotSteps
+pub mod BoardSteps
+pub mod StartSteps
+pub mod ScanSteps
+pub mod MarkSteps

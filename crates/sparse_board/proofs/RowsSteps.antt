@@ -1,0 +1,236 @@
+-- The rows worked out, or put in place, up to the i-th.
+use Rattle.std.specs.Prelude.{◌≡◌, ℕ, zero, suc, ◌+◌, ◌<◌, ◌≤◌, Bool, true, false, ◌&&◌, ◌||◌, ◌⊎◌, not, nat_eq, List, [], ◌∷◌, ◌++◌, length, slice_index_or, Option, Some, None, slice_get, slice_set, refl}
+use Rattle.std.proofs.Common.{inl, inr, sym, ◌∙◌, ap, ap₂, arith, subst, true≢false}
+use Rattle.std.proofs.lemmas.Bool.{cases_lt, eq-eqb, eqb-true, ne_eqb}
+use Rattle.std.proofs.lemmas.List.{get_or-set_other, get_or-set_same, length-append, length-set}
+use Rattle.std.proofs.lemmas.Option.{slice_get-get_or, slice_get_past}
+use Rattle.ratio_core.specs.Rational.{Fits, Rational, zero_ℚ, ◌*ℚ◌, ◌-ℚ◌}
+use Rattle.rational_laws.specs.Fitting.{Fits_zero}
+use Rattle.simplex_form.specs.Fit.{lowered_fits}
+use Rattle.tableau_core.specs.LoweringLaws.{lowered-zero, lowered_fits-zero, zero-step}
+use Rattle.simplex_form.specs.Search.{all_below}
+use Rattle.simplex_laws.specs.BoundedSumLaws.{same_or_other}
+use Rattle.simplex_laws.specs.SearchLaws.{all_below_all, all_below_failed, all_below_more}
+use Rattle.sparse_board.specs.declared.row.Row.{Row}
+use Rattle.sparse_board.specs.declared.sparse_row.SparseRow.{SparseRow}
+use Rattle.sparse_board.specs.Numbers.{number_of, width_of}
+use Rattle.sparse_board.specs.Lowering.{IsLowered, IsPrepared, differences_fit}
+use Rattle.sparse_board.specs.Rows.{AreWide, IsPreparedAt, now_at, now_of, number_in_row, numbers, rows_fit, width_at}
+use Rattle.sparse_board.specs.Marks.{AreMarked, ArePrepared, is_marked}
+use Rattle.sparse_board.proofs.NumberLemmas.{number_fits}
+
+-- the rows below i are worked out, and all stand
+pub record ArePreparedTo (w r q : ℕ) (units : ℕ → Rational) (marks : List Bool) (before rows : List Row) (i : ℕ) : Type 0 where
+  pub within : i ≤ length before
+  pub long : length rows ≡ length before
+  pub stays : (k : ℕ) → now_at rows k ≡ now_at before k
+  pub fit : all_below i (λ k. nat_eq k r || differences_fit w (number_in_row before k) (number_in_row before k q) units) ≡ true
+  pub prepared : (k : ℕ) → k < i → ¬ (k ≡ r) → is_marked marks (length before) q k ≡ true → IsPreparedAt q units (slice_get rows k)
+
+-- what stands is lowered
+abbrev pub IsLoweredNow : ℕ → (ℕ → Rational) → Option SparseRow → Option SparseRow → Type 0
+IsLoweredNow q units old new =
+    (j : ℕ) → j < width_at old → numbers new j ≡ numbers old j -ℚ numbers old q *ℚ units j
+
+-- the rows below i are put in place
+pub record AreSettledTo (r q : ℕ) (marks : List Bool) (before rows : List Row) (i : ℕ) : Type 0 where
+  pub within : i ≤ length before
+  pub long : length rows ≡ length before
+  pub later : (k : ℕ) → i ≤ k → slice_get rows k ≡ slice_get before k
+  pub pivot_stays : now_at rows r ≡ now_at before r
+  pub widths : (k : ℕ) → width_at (now_at rows k) ≡ width_at (now_at before k)
+  pub lowered : (w : ℕ) (units : ℕ → Rational) → q < w → AreMarked w marks before → ArePrepared r q units marks before → (k : ℕ) → k < i → ¬ (k ≡ r) → IsLoweredNow q units (now_at before k) (now_at rows k)
+
+-- ---- a row that is written
+
+pub written_at : (rows : List Row) (i : ℕ) (row : Row) → i < length rows → slice_get (slice_set rows i row) i ≡ Some row
+written_at rows i row b =
+    slice_get-get_or (slice_set rows i row) i row (subst (λ n. i < n) (sym (length-set rows i row)) b) ∙ ap Some (get_or-set_same rows i row row b)
+
+pub written_off : (rows : List Row) (i k : ℕ) (row : Row) → ¬ (k ≡ i) → slice_get (slice_set rows i row) k ≡ slice_get rows k
+written_off rows i k row n = by_end (cases_lt k (length rows))
+  where
+    by_end : (k < length rows) ⊎ (length rows ≤ k) → slice_get (slice_set rows i row) k ≡ slice_get rows k
+    by_end (inl b) =
+        slice_get-get_or (slice_set rows i row) k row (subst (λ m. k < m) (sym (length-set rows i row)) b)
+        ∙ ap Some (get_or-set_other rows i k row row n) ∙ sym (slice_get-get_or rows k row b)
+    by_end (inr h) = slice_get_past (slice_set rows i row) k (subst (λ m. m ≤ k) (sym (length-set rows i row)) h) ∙ sym (slice_get_past rows k h)
+
+pub read_at : (rows : List Row) (i : ℕ) (d : Row) → i < length rows → slice_get rows i ≡ Some (slice_index_or rows i d)
+read_at rows i d b = slice_get-get_or rows i d b
+
+-- what stands in the row that is read
+pub row_is : (rows : List Row) (i : ℕ) (d : Row) → i < length rows → now_at rows i ≡ Some (slice_index_or rows i d).now
+row_is rows i d b = ap now_of (read_at rows i d b)
+
+pub row_wide : (w : ℕ) (rows : List Row) (i : ℕ) (d : Row) → AreWide w rows → i < length rows → width_of (slice_index_or rows i d).now ≡ w
+row_wide w rows i d wide b = sym (ap width_at (row_is rows i d b)) ∙ wide i b
+
+or_true : (a b : Bool) → b ≡ true → (a || b) ≡ true
+or_true true b e = refl
+or_true false b e = e
+
+true_or : (a b : Bool) → a ≡ true → (a || b) ≡ true
+true_or a b e = ap (λ x. x || b) e
+
+-- ---- a row that is touched, and one that is passed over
+
+pub touched_is : (i r : ℕ) (m : Bool) → (not (nat_eq i r) && m) ≡ true → (¬ (i ≡ r)) × (m ≡ true)
+touched_is i r m e = by_test (nat_eq i r) m refl e
+  where
+    by_test : (t n : Bool) → nat_eq i r ≡ t → (not t && n) ≡ true → (¬ (i ≡ r)) × (n ≡ true)
+    by_test true n f h = absurd (true≢false (sym h))
+    by_test false n f h = ((λ q. true≢false (sym (eq-eqb i r q) ∙ f)), h)
+
+pub passed_is : (P : Type 0) (i r : ℕ) (m : Bool) → (not (nat_eq i r) && m) ≡ false → (i ≡ r → P) → (m ≡ false → P) → P
+passed_is P i r m e same other = by_test (nat_eq i r) refl e
+  where
+    by_test : (t : Bool) → nat_eq i r ≡ t → (not t && m) ≡ false → P
+    by_test true f h = same (eqb-true i r f)
+    by_test false f h = other h
+
+numbers_fit : (o : Option SparseRow) (j : ℕ) → Fits (numbers o j)
+numbers_fit None j = Fits_zero
+numbers_fit (Some row) j = number_fits row.columns.items row.values.items row.sparse.fit j
+
+-- a row whose number of column q is 0 stays, and all fits
+zero_fits : (w q : ℕ) (o : Option SparseRow) (units : ℕ → Rational) → numbers o q ≡ zero_ℚ → differences_fit w (numbers o) (numbers o q) units ≡ true
+zero_fits w q o units z =
+    all_below_all w (λ j. lowered_fits (numbers o j) (numbers o q) (units j)) (λ j b. lowered_fits-zero (numbers o j) (numbers o q) (units j) (zero-step (numbers o q) (units j) z) (numbers_fit o j))
+
+zero_stays : (q : ℕ) (o : Option SparseRow) (units : ℕ → Rational) → numbers o q ≡ zero_ℚ → IsLoweredNow q units o o
+zero_stays q o units z j b = sym (lowered-zero (numbers o j) (numbers o q) (units j) (zero-step (numbers o q) (units j) z))
+
+-- the test of a row, where there are as many rows as before
+pub touched_of : (n m i r q : ℕ) (marks : List Bool) (t : Bool) → n ≡ m → t ≡ (not (nat_eq i r) && is_marked marks n q i) → (u : Bool) → t ≡ u → (not (nat_eq i r) && is_marked marks m q i) ≡ u
+touched_of n m i r q marks t long is u e = sym (is ∙ ap (λ k. not (nat_eq i r) && is_marked marks k q i) long) ∙ e
+
+-- ---- the rows worked out
+
+pub prepared-none : (w r q : ℕ) (units : ℕ → Rational) (marks : List Bool) (before : List Row) → ArePreparedTo w r q units marks before before 0
+prepared-none w r q units marks before = record {
+  within = omega arith;
+  long = refl;
+  stays = λ k. refl;
+  fit = refl;
+  prepared = λ k b. absurd (omega (arith, b));
+}
+
+pub settled-none : (r q : ℕ) (marks : List Bool) (before : List Row) → AreSettledTo r q marks before before 0
+settled-none r q marks before = record {
+  within = omega arith;
+  long = refl;
+  later = λ k b. refl;
+  pivot_stays = refl;
+  widths = λ k. refl;
+  lowered = λ w units column marked p k b. absurd (omega (arith, b));
+}
+
+module _ (w r q : ℕ) (units : ℕ → Rational) (marks : List Bool) (before rows : List Row) (i : ℕ) where
+  abbrev pub row_fits : ℕ → Bool
+  row_fits k = nat_eq k r || differences_fit w (number_in_row before k) (number_in_row before k q) units
+
+  pub row_stands : (d : Row) → ArePreparedTo w r q units marks before rows i → i < length before → Some (slice_index_or rows i d).now ≡ now_at before i
+  row_stands d h b = sym (row_is rows i d (subst (λ n. i < n) (sym h.long) b)) ∙ h.stays i
+
+  pub prepared_wide : (d : Row) → ArePreparedTo w r q units marks before rows i → AreWide w before → i < length before → width_of (slice_index_or rows i d).now ≡ w
+  prepared_wide d h wide b = ap width_at (row_stands d h b) ∙ wide i b
+
+  fits_here : (d : Row) (t : Bool) → ArePreparedTo w r q units marks before rows i → AreWide w before → i < length before → t ≡ differences_fit (width_of (slice_index_or rows i d).now) (number_of (slice_index_or rows i d).now) (number_of (slice_index_or rows i d).now q) units → differences_fit w (number_in_row before i) (number_in_row before i q) units ≡ t
+  fits_here d t h wide b fits =
+      subst (λ o. differences_fit w (numbers o) (numbers o q) units ≡ t) (row_stands d h b)
+      (subst (λ n. differences_fit n (number_of (slice_index_or rows i d).now) (number_of (slice_index_or rows i d).now q) units ≡ t) (prepared_wide d h wide b) (sym fits))
+
+  pub prepared-more : (d new : Row) → ArePreparedTo w r q units marks before rows i → AreWide w before → i < length before → new.now ≡ (slice_index_or rows i d).now → true ≡ differences_fit (width_of (slice_index_or rows i d).now) (number_of (slice_index_or rows i d).now) (number_of (slice_index_or rows i d).now q) units → IsPrepared q units new → ArePreparedTo w r q units marks before (slice_set rows i new) (i + 1)
+  prepared-more d new h wide b same fits made =
+      let at : i < length rows = subst (λ n. i < n) (sym h.long) b in
+      let here : slice_get (slice_set rows i new) i ≡ Some new = written_at rows i new at in
+      record {
+        within = omega (arith, b);
+        long = length-set rows i new ∙ h.long;
+        stays = λ k. same_or_other (now_at (slice_set rows i new) k ≡ now_at before k) k i (λ e. subst (λ j. now_at (slice_set rows i new) j ≡ now_at before j) (sym e) (ap now_of here ∙ ap Some same ∙ row_stands d h b)) (λ m. ap now_of (written_off rows i k new m) ∙ h.stays k);
+        fit = all_below_more i row_fits h.fit (or_true (nat_eq i r) (differences_fit w (number_in_row before i) (number_in_row before i q) units) (fits_here d true h wide b fits));
+        prepared = λ k c n marked. same_or_other (IsPreparedAt q units (slice_get (slice_set rows i new) k)) k i (λ e. subst (λ j. IsPreparedAt q units (slice_get (slice_set rows i new) j)) (sym e) (subst (IsPreparedAt q units) (sym here) made)) (λ m. subst (IsPreparedAt q units) (sym (written_off rows i k new m)) (h.prepared k (omega (arith, c, m)) n marked));
+      }
+
+  -- the pivot's row, or one that isn't marked, is passed over
+  pub prepared-passed : ArePreparedTo w r q units marks before rows i → i < length before → q < w → AreMarked w marks before → (not (nat_eq i r) && is_marked marks (length before) q i) ≡ false → ArePreparedTo w r q units marks before rows (i + 1)
+  prepared-passed h b column marked e = record {
+    within = omega (arith, b);
+    long = h.long;
+    stays = h.stays;
+    fit = all_below_more i row_fits h.fit
+        (passed_is (row_fits i ≡ true) i r (is_marked marks (length before) q i) e
+        (λ p. true_or (nat_eq i r) (differences_fit w (number_in_row before i) (number_in_row before i q) units) (eq-eqb i r p))
+        (λ p. or_true (nat_eq i r) (differences_fit w (number_in_row before i) (number_in_row before i q) units) (zero_fits w q (now_at before i) units (marked i b q column p))));
+    prepared = λ k c n m. same_or_other (IsPreparedAt q units (slice_get rows k)) k i
+        (λ p. passed_is (IsPreparedAt q units (slice_get rows k)) i r (is_marked marks (length before) q i) e
+        (λ f. absurd (n (p ∙ f)))
+        (λ f. absurd (true≢false (sym (subst (λ l. is_marked marks (length before) q l ≡ true) p m) ∙ f))))
+        (λ p. h.prepared k (omega (arith, c, p)) n m);
+  }
+
+  -- a row that is refused
+  pub rows-refused : (d : Row) → ArePreparedTo w r q units marks before rows i → AreWide w before → i < length before → ¬ (i ≡ r) → false ≡ differences_fit (width_of (slice_index_or rows i d).now) (number_of (slice_index_or rows i d).now) (number_of (slice_index_or rows i d).now q) units → rows_fit w r q units before ≡ false
+  rows-refused d h wide b n fits =
+      all_below_failed (length before) i row_fits b (ap₂ ◌||◌ (ne_eqb i r n) (fits_here d false h wide b fits))
+
+-- ---- the rows put in place
+
+module _ (r q : ℕ) (marks : List Bool) (before rows : List Row) (i : ℕ) where
+  pub settled-more : (d new : Row) → AreSettledTo r q marks before rows i → i < length before → (not (nat_eq i r) && is_marked marks (length before) q i) ≡ true → width_of new.now ≡ width_of (slice_index_or rows i d).now → ((p : ℕ) (units : ℕ → Rational) → IsPrepared p units (slice_index_or rows i d) → IsLowered (number_of (slice_index_or rows i d).now p) units (slice_index_or rows i d).now new.now) → AreSettledTo r q marks before (slice_set rows i new) (i + 1)
+  settled-more d new h b touched wide low =
+      let at : i < length rows = subst (λ n. i < n) (sym h.long) b in
+      let here : slice_get (slice_set rows i new) i ≡ Some new = written_at rows i new at in
+      let old : Some (slice_index_or rows i d) ≡ slice_get before i = sym (read_at rows i d at) ∙ h.later i (omega arith) in
+      let is = touched_is i r (is_marked marks (length before) q i) touched in
+      record {
+        within = omega (arith, b);
+        long = length-set rows i new ∙ h.long;
+        later = λ k c. written_off rows i k new (λ e. above_lem k i c e) ∙ h.later k (omega (arith, c));
+        pivot_stays = ap now_of (written_off rows i r new (λ e. is.0 (sym e))) ∙ h.pivot_stays;
+        widths = λ k. same_or_other (width_at (now_at (slice_set rows i new) k) ≡ width_at (now_at before k)) k i (λ e. subst (λ j. width_at (now_at (slice_set rows i new) j) ≡ width_at (now_at before j)) (sym e) (ap (λ o. width_at (now_of o)) here ∙ wide ∙ ap (λ o. width_at (now_of o)) old)) (λ m. ap (λ o. width_at (now_of o)) (written_off rows i k new m) ∙ h.widths k);
+        lowered = λ w units column marked p k c m. same_or_other (IsLoweredNow q units (now_at before k) (now_at (slice_set rows i new) k)) k i (λ e. subst (λ j. IsLoweredNow q units (now_at before j) (now_at (slice_set rows i new) j)) (sym e) (subst (λ o. IsLoweredNow q units (now_at before i) (now_of o)) (sym here) (lowered_here old (low q units) (p i b is.0 is.1)))) (λ f. subst (λ o. IsLoweredNow q units (now_at before k) (now_of o)) (sym (written_off rows i k new f)) (h.lowered w units column marked p k (omega (arith, c, f)) m));
+      }
+    where
+      above_lem : (k i : ℕ) → i + 1 ≤ k → k ≡ i → ⊥
+      above_lem k i c e = absurd (omega (arith, c, e))
+
+      lowered_here : {row : Row} {units : ℕ → Rational} → Some row ≡ slice_get before i → (IsPrepared q units row → IsLowered (number_of row.now q) units row.now new.now) → IsPreparedAt q units (slice_get before i) → IsLoweredNow q units (now_at before i) (Some new.now)
+      lowered_here {row} {units} e low p =
+          subst (λ o. IsLoweredNow q units (now_of o) (Some new.now)) e (low (subst (IsPreparedAt q units) (sym e) p)).numbers
+
+  pub settled-passed : AreSettledTo r q marks before rows i → i < length before → (not (nat_eq i r) && is_marked marks (length before) q i) ≡ false → AreSettledTo r q marks before rows (i + 1)
+  settled-passed h b e = record {
+    within = omega (arith, b);
+    long = h.long;
+    later = λ k c. h.later k (omega (arith, c));
+    pivot_stays = h.pivot_stays;
+    widths = h.widths;
+    lowered = λ w units column marked p k c m. same_or_other (IsLoweredNow q units (now_at before k) (now_at rows k)) k i
+        (λ f. passed_is (IsLoweredNow q units (now_at before k) (now_at rows k)) i r (is_marked marks (length before) q i) e
+        (λ g. absurd (m (f ∙ g)))
+        (λ g. subst (λ l. IsLoweredNow q units (now_at before l) (now_at rows l)) (sym f)
+        (subst (IsLoweredNow q units (now_at before i)) (sym (ap now_of (h.later i (omega arith)))) (zero_stays q (now_at before i) units (marked i b q column g)))))
+        (λ f. h.lowered w units column marked p k (omega (arith, c, f)) m);
+  }
+
+-- ---- one row more that meets P
+
+now-before : (rows : List Row) (new : Row) (k : ℕ) → k < length rows → now_at (rows ++ new ∷ []) k ≡ now_at rows k
+now-before [] new k b = absurd (omega (arith, b))
+now-before (row ∷ rows) new zero b = refl
+now-before (row ∷ rows) new (suc k) b = now-before rows new k (omega (arith, b))
+
+now-last : (rows : List Row) (new : Row) → now_at (rows ++ new ∷ []) (length rows) ≡ Some new.now
+now-last [] new = refl
+now-last (row ∷ rows) new = now-last rows new
+
+pub rows-more : (P : ℕ → Option SparseRow → Type 0) (i : ℕ) (rows next : List Row) (new : Row) → length rows ≡ i → ((k : ℕ) → k < i → P k (now_at rows k)) → P i (Some new.now) → next ≡ rows ++ new ∷ [] → (k : ℕ) → k < i + 1 → P k (now_at next k)
+rows-more P i rows next new long h p e k b =
+    same_or_other (P k (now_at next k)) k i
+    (λ q. subst (λ j. P j (now_at next j)) (sym q) (subst (P i) (sym (ap (λ l. now_at l i) e ∙ ap (now_at (rows ++ new ∷ [])) (sym long) ∙ now-last rows new)) p))
+    (λ n. subst (P k) (sym (ap (λ l. now_at l k) e ∙ now-before rows new k (subst (λ m. k < m) (sym long) (omega (arith, b, n))))) (h k (omega (arith, b, n))))
+
+pub count-more : (i : ℕ) (rows next : List Row) (new : Row) → length rows ≡ i → next ≡ rows ++ new ∷ [] → length next ≡ i + 1
+count-more i rows next new long e = ap length e ∙ length-append rows (new ∷ []) ∙ ap (λ n. n + 1) long

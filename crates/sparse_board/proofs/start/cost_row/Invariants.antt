@@ -1,0 +1,10 @@
+use Rattle.std.proofs.Common.{◌≡◌, length}
+use Rattle.tableau_core.specs.Row.{cell}
+use Rattle.sparse_board.specs.Numbers.{HoldsBelow, width_of}
+use Rattle.sparse_board.proofs.start.cost_row.Given as goal
+
+abbrev pub invariant-loop-j : goal.invariant-loop-j
+invariant-loop-j l = record {
+  width : width_of l.row ≡ length l.numbers;
+  held : HoldsBelow l.j (cell l.numbers) l.row;
+}

@@ -1,0 +1,40 @@
+-- How a board is kept.
+use Rattle.std.specs.Prelude.{◌≡◌, ℕ, ◌+◌, ◌*◌, ◌<◌, ◌^◌, List, length, map}
+use Rattle.std.specs.List.{range_with_len}
+use Rattle.ratio_core.specs.Rational.{Rational}
+use Rattle.tableau_core.specs.Contents.{Contents}
+use Rattle.sparse_board.specs.declared.board.Board.TheInside.{Inside}
+use Rattle.sparse_board.specs.Numbers.{number_of, width_of}
+use Rattle.sparse_board.specs.Rows.{AreWide}
+use Rattle.sparse_board.specs.Marks.{AreMarked}
+
+-- the first w numbers
+abbrev pub listed : ℕ → (ℕ → Rational) → List Rational
+listed w numbers = map numbers (range_with_len 0 w)
+
+-- the real columns and an artificial one for each row
+abbrev pub columns_of : Inside → ℕ
+columns_of a = a.reals + length a.rows.items
+
+-- each row is kept with its right side behind its entries
+abbrev pub contents_of : Inside → Contents
+contents_of a = record {
+  reals = a.reals;
+  rows = map (λ row. listed (columns_of a) (number_of row.now)) a.rows.items;
+  rights = map (λ row. number_of row.now (columns_of a)) a.rows.items;
+  in_first = a.in_first;
+  first = listed (columns_of a) (number_of a.first.now);
+  second = listed (columns_of a) (number_of a.second.now);
+  basis = a.basis.items;
+}
+
+-- each row has its columns, and so has the spare one, and each number is marked or 0
+pub record IsKept (a : Inside) : Type 0 where
+  pub few : columns_of a + 1 < 2 ^ 32
+  pub wide : AreWide (columns_of a + 1) a.rows.items
+  pub spare : width_of a.step ≡ columns_of a + 1
+  pub first : width_of a.first.now ≡ columns_of a
+  pub second : width_of a.second.now ≡ columns_of a
+  pub basis : length a.basis.items ≡ length a.rows.items
+  pub marks : length a.marks.items ≡ (columns_of a + 1) * length a.rows.items
+  pub marked : AreMarked (columns_of a + 1) a.marks.items a.rows.items

@@ -1,0 +1,54 @@
+-- The rows of a board: what stands, and what is worked out for the next.
+use Rattle.std.specs.Prelude.{◌≡◌, ℕ, ◌<◌, Bool, ◌||◌, nat_eq, List, length, Option, Some, None, slice_get}
+use Rattle.ratio_core.specs.Rational.{Rational, zero_ℚ, ◌*ℚ◌, ◌-ℚ◌}
+use Rattle.simplex_form.specs.Search.{all_below}
+use Rattle.sparse_board.specs.declared.row.Row.{Row}
+use Rattle.sparse_board.specs.declared.sparse_row.SparseRow.{SparseRow}
+use Rattle.sparse_board.specs.Numbers.{number_of, width_of}
+use Rattle.sparse_board.specs.Lowering.{IsPrepared, differences_fit}
+
+abbrev pub now_of : Option Row → Option SparseRow
+now_of None = None
+now_of (Some row) = Some row.now
+
+-- what stands in row i
+abbrev pub now_at : List Row → ℕ → Option SparseRow
+now_at rows i = now_of (slice_get rows i)
+
+abbrev pub numbers : Option SparseRow → ℕ → Rational
+numbers None j = zero_ℚ
+numbers (Some row) j = number_of row j
+
+abbrev pub width_at : Option SparseRow → ℕ
+width_at None = 0
+width_at (Some row) = width_of row
+
+-- the number of column j in row i
+abbrev pub number_in_row : List Row → ℕ → ℕ → Rational
+number_in_row rows i j = numbers (now_at rows i) j
+
+-- each row has w columns
+abbrev pub AreWide : ℕ → List Row → Type 0
+AreWide w rows = (i : ℕ) → i < length rows → width_at (now_at rows i) ≡ w
+
+abbrev pub SameNow : List Row → List Row → Type 0
+SameNow old new = (i : ℕ) → now_at new i ≡ now_at old i
+
+-- each product and difference of the rows other than r fits
+abbrev pub rows_fit : ℕ → ℕ → ℕ → (ℕ → Rational) → List Row → Bool
+rows_fit w r q units rows =
+    all_below (length rows)
+    (λ i. nat_eq i r || differences_fit w (number_in_row rows i) (number_in_row rows i q) units)
+
+abbrev pub IsPreparedAt : ℕ → (ℕ → Rational) → Option Row → Type 0
+IsPreparedAt q units None = Unit {0}
+IsPreparedAt q units (Some row) = IsPrepared q units row
+
+-- the rows other than r are lowered
+abbrev pub AreLowered : ℕ → ℕ → (ℕ → Rational) → List Row → List Row → Type 0
+AreLowered r q units before after =
+    (i : ℕ) → i < length before → ¬ (i ≡ r) → (j : ℕ) → j < width_at (now_at before i) →
+    number_in_row after i j ≡ number_in_row before i j -ℚ number_in_row before i q *ℚ units j
+
+abbrev pub SameWidths : List Row → List Row → Type 0
+SameWidths old new = (i : ℕ) → width_at (now_at new i) ≡ width_at (now_at old i)

@@ -1,0 +1,151 @@
+//! The sparse board.
+use crate::marks::marks_of;
+use crate::pivoting::{prepare_pivot, settle_pivot};
+use crate::row::Row;
+use crate::scan::{first_negative, first_nonzero};
+use crate::sparse_row::SparseRow;
+use crate::start::{cost_row, start_rows};
+use ratio_core::Ratio;
+use std::alloc::Global;
+use std::marker::Model;
+use tableau_core::{BoardFault, BoardOverflow, Tableau, first_prices, second_prices, start_basis};
+
+/// A board that keeps the numbers that aren't 0.
+#[derive(Drop)]
+pub struct Board {
+    reals: usize,
+    rows: Vec<Row>,
+    in_first: bool,
+    first: Row,
+    second: Row,
+    // room for a pivot's new row
+    step: SparseRow,
+    // where a row may have a number other than 0, column by column
+    marks: Vec<bool>,
+    basis: Vec<usize>,
+}
+
+impl Model for Board {
+    ghost use Rattle.tableau_core.specs.Contents.{Contents};
+
+    ghost Value = { Contents };
+
+    ghost use Rattle.sparse_board.specs.Kept.{IsKept, contents_of};
+
+    ghost view = { contents_of };
+
+    ghost invariant = { IsKept };
+}
+
+impl Tableau for Board {
+    ghost contents = { λ board. board };
+
+    // A board of 2^32 columns finds no memory for their costs.
+    fn start(
+        alloc: Global,
+        m: usize,
+        c: usize,
+        matrix: &[Ratio],
+        right: &[Ratio],
+        costs: &[Ratio],
+    ) -> Result<Board, BoardFault> {
+        if c + m >= u32::MAX as usize {
+            return Err(BoardFault::Memory);
+        }
+        let first = cost_row(alloc, &first_prices(alloc, m, c, matrix)?)?;
+        let second = cost_row(alloc, &second_prices(alloc, m, costs)?)?;
+        let rows = start_rows(alloc, m, c, matrix, right)?;
+        let step = SparseRow::zeros(alloc, c + m + 1)?;
+        let marks = marks_of(alloc, &rows, c + m + 1)?;
+        let basis = start_basis(alloc, m, c)?;
+        Ok(Board {
+            reals: c,
+            rows,
+            in_first: true,
+            first,
+            second,
+            step,
+            marks,
+            basis,
+        })
+    }
+
+    fn row_count(&self) -> usize {
+        self.rows.len()
+    }
+
+    fn real_count(&self) -> usize {
+        self.reals
+    }
+
+    fn column_count(&self) -> usize {
+        self.reals + self.rows.len()
+    }
+
+    fn entry(&self, r: usize, q: usize) -> Ratio {
+        if !self.marks[q * self.rows.len() + r] {
+            return Ratio::zero();
+        }
+        self.rows[r].now.number(q as u32)
+    }
+
+    fn right(&self, r: usize) -> Ratio {
+        let width = self.reals + self.rows.len();
+        self.rows[r].now.number(width as u32)
+    }
+
+    fn price(&self, phase: u8, q: usize) -> Ratio {
+        if phase == 1 {
+            self.first.now.number(q as u32)
+        } else {
+            self.second.now.number(q as u32)
+        }
+    }
+
+    fn basis(&self) -> &[usize] {
+        &self.basis
+    }
+
+    fn entering(&self, phase: u8) -> Option<usize> {
+        if phase == 1 {
+            first_negative(&self.first.now, self.reals)
+        } else {
+            first_negative(&self.second.now, self.reals)
+        }
+    }
+
+    fn swept_column(&self, r: usize) -> Option<usize> {
+        first_nonzero(&self.rows[r].now, self.reals)
+    }
+
+    fn pivot(&mut self, r: usize, q: usize) -> Result<(), BoardOverflow> {
+        let width = (self.reals + self.rows.len()) as u32;
+        prepare_pivot(
+            &mut self.rows,
+            self.in_first,
+            &mut self.first,
+            &mut self.second,
+            &mut self.step,
+            &self.marks,
+            width,
+            r,
+            q as u32,
+        )?;
+        settle_pivot(
+            &mut self.rows,
+            self.in_first,
+            &mut self.first,
+            &mut self.second,
+            &mut self.step,
+            &mut self.marks,
+            r,
+            q as u32,
+        );
+        self.basis[r] = q;
+        Ok(())
+    }
+
+    fn end_phase_one(&mut self) {
+        self.in_first = false;
+    }
+}

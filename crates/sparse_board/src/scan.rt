@@ -1,0 +1,39 @@
+//! What the rule looks for among a row's real columns.
+ghost use Rattle.std.specs.Prelude.{◌≡◌, ◌<◌, ◌≤◌, ◌^◌, not, IfSome};
+ghost use Rattle.ratio_core.specs.Rational.{rational_eq, zero_ℚ};
+ghost use Rattle.simplex_form.specs.Search.{least_below};
+ghost use Rattle.simplex_form.specs.Turns.{is_below};
+ghost use Rattle.sparse_board.specs.Numbers.{number_of};
+
+use crate::sparse_row::SparseRow;
+use ratio_core::Ratio;
+
+// The first of so many columns whose number is below 0.
+pub(crate) fn first_negative(row: &SparseRow, count: usize) -> Option<usize>
+    ensures value { result ≡ least_below count (λ j. is_below (number_of row.now j) zero_ℚ) }
+    ensures within { IfSome result (λ j. j < count) }
+{
+    for k in 0..row.columns.len() {
+        let column = row.columns[k] as usize;
+        if column >= count {
+            return None;
+        }
+        if row.values[k] < Ratio::zero() {
+            return Some(column);
+        }
+    }
+    None
+}
+
+// The first of so many columns whose number isn't 0.
+pub(crate) fn first_nonzero(row: &SparseRow, count: usize) -> Option<usize>
+    ensures value { result
+        ≡ least_below count (λ j. not (rational_eq (number_of row.now j) zero_ℚ)) }
+    ensures within { IfSome result (λ j. (j < count) × ¬ (number_of row.now j ≡ zero_ℚ)) }
+{
+    if row.columns.is_empty() {
+        return None;
+    }
+    let column = row.columns[0] as usize;
+    if column < count { Some(column) } else { None }
+}

@@ -1,0 +1,82 @@
+//! The rows that a board starts with.
+ghost use Rattle.std.specs.Prelude.{◌≡◌, ◌+◌, ◌*◌, ◌<◌, ◌≤◌, ◌^◌, ℕ, [], length, IfOk};
+ghost use Rattle.simplex_form.specs.Board.{entry};
+ghost use Rattle.tableau_core.specs.Row.{AllFit, cell};
+ghost use Rattle.tableau_core.specs.Start.{AtEachStart};
+ghost use Rattle.sparse_board.specs.Numbers.{HoldsBelow, number_of, width_of};
+ghost use Rattle.sparse_board.specs.Rows.{AreWide, number_in_row};
+
+use crate::row::Row;
+use crate::sparse_row::SparseRow;
+use ratio_core::Ratio;
+use std::alloc::{AllocError, Global};
+
+// The rows, whose basis matrix is the unit matrix, each with its right side behind its columns.
+pub(crate) fn start_rows(
+    alloc: Global,
+    m: usize,
+    c: usize,
+    matrix: &[Ratio],
+    right: &[Ratio],
+) -> Result<Vec<Row>, AllocError>
+    requires matrix { length matrix.now ≡ m * c }
+    requires right { length right.now ≡ m }
+    requires few { c + m + 1 < 2 ^ 32 }
+    ensures count { IfOk result (λ rows. length rows.items ≡ m) }
+    ensures wide { IfOk result (λ rows. AreWide (c + m + 1) rows.items) }
+    ensures entries { IfOk result (λ rows. AtEachStart m c matrix.now (λ F s.
+        (i j : ℕ) → i < m → j < c + m → number_in_row rows.items i j ≡ entry F s j i)) }
+    ensures sides { IfOk result (λ rows.
+        (i : ℕ) → i < m → number_in_row rows.items i (c + m) ≡ cell right.now i) }
+{
+    let mut rows = Vec::with_capacity(alloc, m)?;
+    for (i, side) in right.iter().enumerate() {
+        rows.push(start_row(alloc, m, c, matrix, i, side)?)?;
+    }
+    Ok(rows)
+}
+
+// Row i: its entries, the unit number of its artificial column, and its right side.
+fn start_row(
+    alloc: Global,
+    m: usize,
+    c: usize,
+    matrix: &[Ratio],
+    i: usize,
+    side: &Ratio,
+) -> Result<Row, AllocError>
+    requires long { length matrix.now ≡ m * c }
+    requires within { i < m }
+    requires few { c + m + 1 < 2 ^ 32 }
+    ensures wide { IfOk result (λ row. width_of row.now ≡ c + m + 1) }
+    ensures entries { IfOk result (λ row. AtEachStart m c matrix.now (λ F s.
+        (j : ℕ) → j < c + m → number_of row.now j ≡ entry F s j i)) }
+    ensures side { IfOk result (λ row. number_of row.now (c + m) ≡ side.now) }
+{
+    let width = c + m + 1;
+    let mut row = SparseRow::zeros(alloc, width)?;
+    for j in 0..c {
+        let number = matrix[i * c + j];
+        let _fits = number.num();
+        row.push_any(j as u32, number);
+    }
+    row.push_any((c + i) as u32, Ratio::one());
+    let _fits = side.num();
+    row.push_any((c + m) as u32, *side);
+    Row::new(alloc, row, width)
+}
+
+// A cost row of these numbers.
+pub(crate) fn cost_row(alloc: Global, numbers: &[Ratio]) -> Result<Row, AllocError>
+    requires few { length numbers.now < 2 ^ 32 }
+    requires all_fit { AllFit numbers.now }
+    ensures wide { IfOk result (λ row. width_of row.now ≡ length numbers.now) }
+    ensures numbers { IfOk result (λ row.
+        HoldsBelow (length numbers.now) (cell numbers.now) row.now) }
+{
+    let mut row = SparseRow::zeros(alloc, numbers.len())?;
+    for j in 0..numbers.len() {
+        row.push_any(j as u32, numbers[j]);
+    }
+    Row::new(alloc, row, numbers.len())
+}

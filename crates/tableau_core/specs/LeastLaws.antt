@@ -1,0 +1,64 @@
+-- The least number below a bound that passes a test, and what tests of numbers against 0 say.
+use Rattle.std.specs.Prelude.{◌≡◌, ℕ, zero, suc, ◌+◌, ◌<◌, ◌≤◌, Bool, true, false, not, Some, None, if◌then◌else◌, IsTrue, refl}
+use Rattle.std.proofs.Common.{sym, ◌∙◌, ap, arith, true≢false, is_lt}
+use Rattle.ratio_core.specs.Rational.{Rational, rational_cmp, rational_eq, zero_ℚ}
+use Rattle.ratio_core.specs.RationalLaws.{eq_rational_eq, rational_eq-true}
+use Rattle.simplex_laws.specs.BoundedSumLaws.{same_or_other}
+use Rattle.simplex_form.specs.Search.{least_below, or_else}
+use Rattle.simplex_form.specs.Turns.{is_below}
+
+pub least_more : (n : ℕ) (test : ℕ → Bool) → least_below n test ≡ None → test n ≡ false
+    → least_below (n + 1) test ≡ None
+least_more n test e f =
+    ap (λ k. least_below k test) (one_more n) ∙ (λ i. or_else (e i) (if f i then Some n else None))
+  where
+    one_more : (n : ℕ) → n + 1 ≡ suc n
+    one_more n = omega arith
+
+least_here : (j : ℕ) (test : ℕ → Bool) → least_below j test ≡ None → test j ≡ true → least_below (suc j) test ≡ Some j
+least_here j test e f = λ i. or_else (e i) (if f i then Some j else None)
+
+pub least_found : (n j : ℕ) (test : ℕ → Bool) → j < n → least_below j test ≡ None → test j ≡ true
+    → least_below n test ≡ Some j
+least_found zero j test b e f = absurd (omega (arith, b))
+least_found (suc n) j test b e f =
+    same_or_other (least_below (suc n) test ≡ Some j) j n
+    (λ q. ap (λ k. least_below (suc k) test) (sym q) ∙ least_here j test e f)
+    (λ m. ap (λ o. or_else o (if test n then Some n else None)) (least_found n j test (omega (arith, b, m)) e f))
+
+-- none below n, and none from n to m
+pub least_past : (m n : ℕ) (test : ℕ → Bool) → least_below n test ≡ None → n ≤ m
+    → ((j : ℕ) → n ≤ j → j < m → test j ≡ false) → least_below m test ≡ None
+least_past zero n test e b f = ap (λ k. least_below k test) (none_lem n b) ∙ e
+  where
+    none_lem : (n : ℕ) → n ≤ 0 → 0 ≡ n
+    none_lem n b = omega (arith, b)
+least_past (suc m) n test e b f =
+    same_or_other (least_below (suc m) test ≡ None) n (suc m)
+    (λ q. ap (λ k. least_below k test) (sym q) ∙ e)
+    (λ o. let few : n ≤ m = omega (arith, b, o) in
+    λ i. or_else (least_past m n test e few (λ j c d. f j c (omega (arith, d))) i) (if f m few (omega arith) i then Some m else None))
+
+-- ---- tests against 0
+
+pub below_is : (b : Bool) (x z v : Rational) → z ≡ zero_ℚ → x ≡ v → b ≡ is_lt (rational_cmp x z)
+    → is_below v zero_ℚ ≡ b
+below_is b x z v none is e = (λ i. is_lt (rational_cmp (sym is i) (sym none i))) ∙ sym e
+
+pub other_is : (v : Rational) → ¬ (v ≡ zero_ℚ) → not (rational_eq v zero_ℚ) ≡ true
+other_is v n = by_test (rational_eq v zero_ℚ) refl
+  where
+    by_test : (t : Bool) → rational_eq v zero_ℚ ≡ t → not t ≡ true
+    by_test true k = absurd (n (rational_eq-true v zero_ℚ k))
+    by_test false k = refl
+
+pub zero_is : (v : Rational) → v ≡ zero_ℚ → not (rational_eq v zero_ℚ) ≡ false
+zero_is v e = ap not (eq_rational_eq v zero_ℚ e)
+
+pub other_test : (b : Bool) (x v : Rational) → x ≡ v → (x ≡ zero_ℚ → IsTrue b) → b ≡ false
+    → not (rational_eq v zero_ℚ) ≡ true
+other_test b x v is back e = other_is v (λ z. true≢false (sym (back (is ∙ z)) ∙ e))
+
+pub zero_test : (b : Bool) (x v : Rational) → x ≡ v → (IsTrue b → x ≡ zero_ℚ) → b ≡ true
+    → not (rational_eq v zero_ℚ) ≡ false
+zero_test b x v is forth e = zero_is v (sym is ∙ forth e)

@@ -1,0 +1,143 @@
+//! The dense board: each row is kept whole.
+ghost use Rattle.std.specs.Prelude.{◌≡◌};
+
+use crate::fault::{BoardFault, BoardOverflow};
+use crate::kept::{Row, zeros};
+use crate::pivoting::{prepare_pivot, settle_pivot};
+use crate::places::room_for_places;
+use crate::scan::{first_negative, first_nonzero};
+use crate::start::{first_prices, second_prices, start_basis, start_rows};
+use crate::tableau::Tableau;
+use ratio_core::Ratio;
+use std::alloc::Global;
+use std::marker::Model;
+
+/// A board that keeps each number, those that are 0 too.
+#[derive(Drop)]
+pub struct DenseBoard {
+    reals: usize,
+    rows: Vec<Row>,
+    in_first: bool,
+    first: Row,
+    second: Row,
+    // room for a pivot's new row
+    step: Vec<Ratio>,
+    // and for the places where it isn't 0
+    places: Vec<usize>,
+    basis: Vec<usize>,
+}
+
+impl Model for DenseBoard {
+    ghost use Rattle.tableau_core.specs.Contents.{Contents};
+
+    ghost Value = { Contents };
+
+    ghost use Rattle.tableau_core.specs.Kept.{IsKept, contents_of};
+
+    ghost view = { contents_of };
+
+    ghost invariant = { IsKept };
+}
+
+impl Tableau for DenseBoard {
+    ghost contents = { λ board. board };
+
+    fn start(
+        alloc: Global,
+        m: usize,
+        c: usize,
+        matrix: &[Ratio],
+        right: &[Ratio],
+        costs: &[Ratio],
+    ) -> Result<DenseBoard, BoardFault> {
+        let first = Row::new(alloc, first_prices(alloc, m, c, matrix)?)?;
+        let second = Row::new(alloc, second_prices(alloc, m, costs)?)?;
+        let rows = start_rows(alloc, m, c, matrix, right)?;
+        let step = zeros(alloc, c + m + 1)?;
+        let places = room_for_places(alloc, c + m + 1)?;
+        let basis = start_basis(alloc, m, c)?;
+        Ok(DenseBoard {
+            reals: c,
+            rows,
+            in_first: true,
+            first,
+            second,
+            step,
+            places,
+            basis,
+        })
+    }
+
+    fn row_count(&self) -> usize {
+        self.rows.len()
+    }
+
+    fn real_count(&self) -> usize {
+        self.reals
+    }
+
+    fn column_count(&self) -> usize {
+        self.second.now.len()
+    }
+
+    fn entry(&self, r: usize, q: usize) -> Ratio {
+        self.rows[r].now[q]
+    }
+
+    fn right(&self, r: usize) -> Ratio {
+        let row = &self.rows[r].now;
+        row[row.len() - 1]
+    }
+
+    fn price(&self, phase: u8, q: usize) -> Ratio {
+        if phase == 1 {
+            self.first.now[q]
+        } else {
+            self.second.now[q]
+        }
+    }
+
+    fn basis(&self) -> &[usize] {
+        &self.basis
+    }
+
+    fn entering(&self, phase: u8) -> Option<usize> {
+        if phase == 1 {
+            first_negative(&self.first.now, self.reals)
+        } else {
+            first_negative(&self.second.now, self.reals)
+        }
+    }
+
+    fn swept_column(&self, r: usize) -> Option<usize> {
+        first_nonzero(&self.rows[r].now, self.reals)
+    }
+
+    fn pivot(&mut self, r: usize, q: usize) -> Result<(), BoardOverflow> {
+        prepare_pivot(
+            &mut self.rows,
+            self.in_first,
+            &mut self.first,
+            &mut self.second,
+            &mut self.step,
+            &mut self.places,
+            r,
+            q,
+        )?;
+        settle_pivot(
+            &mut self.rows,
+            self.in_first,
+            &mut self.first,
+            &mut self.second,
+            &mut self.step,
+            r,
+            q,
+        );
+        self.basis[r] = q;
+        Ok(())
+    }
+
+    fn end_phase_one(&mut self) {
+        self.in_first = false;
+    }
+}
