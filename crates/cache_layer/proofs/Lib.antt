@@ -1,0 +1,4 @@
+mod PlaceLemmas
+mod Standing
+mod Editing
+mod Stepping

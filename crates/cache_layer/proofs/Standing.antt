@@ -1,0 +1,106 @@
+-- What stands in a bridging hangs on its parts alone, and not on the boxes' turns.
+use Rattle.std.specs.Prelude.{◌≡◌, true, List, All, map}
+use Rattle.std.proofs.Common.{ap, sym, subst, ◌∙◌}
+use Rattle.std.proofs.lemmas.List.Elements.{All-map}
+use Rattle.std.specs.FinMap as finite
+use Rattle.std.specs.FinMap.{FinMap}
+use Rattle.address_map.specs.AddressMap.{AddressMap}
+use Rattle.aff_core.specs.Address.{Address, address_cmp}
+use Rattle.aff_core.specs.Function.{Function}
+use Rattle.boxes.specs.Boxed.{kept_by, means_of}
+use Rattle.bridge_face.specs.State.{Kept, State}
+use Rattle.bridge_plan.specs.Means.{Means}
+use Rattle.fresh_bridging.specs.EachLaws.{all_from_map}
+use Rattle.fresh_bridging.specs.FreshBridging.{FreshBridging, is_made, leaves_of}
+use Rattle.fresh_bridging.specs.TheRules.{Setting}
+use Rattle.item_core.specs.declared.family.Family.{Family}
+use Rattle.lazy_bridge.specs.Owned.{HoldsNothing, IsBridgingOf, Owned, expressions_by, leaf_model_in, nodes_by, setting_in}
+use Rattle.lazy_bridge.specs.Pushed.{IsTried}
+use Rattle.leaf_model.specs.LeafModel.{LeafModel}
+use Rattle.leaf_model.specs.ReadThrough.{read_through}
+use Rattle.solver_store.specs.SolverModel.{Stored, no_leaves}
+use Rattle.user_model.specs.Model.{ModelValue}
+
+-- ---- the fresh bridging
+
+record Parts : Type 0 where
+  setting : Setting
+  kept : List (Family × Kept)
+  leaves : LeafModel
+  exprs : FinMap address_cmp Function
+
+record AreOf (parts : Parts) (model : ModelValue) : Type 0 where
+  bridging : FreshBridging parts.setting model
+  made : is_made bridging ≡ true
+  leaves : parts.leaves ≡ leaves_of bridging
+  kept : All (λ (k : Family × Kept). k.1 ≡ nodes_by bridging k.0) parts.kept
+  exprs : parts.exprs ≡ expressions_by bridging
+
+abbrev parts_by : Means → Stored → AddressMap → Address → Parts
+parts_by means solver at_map at = record {
+  setting = means.setting;
+  kept = means.kept;
+  leaves = read_through at_map solver.leaves at;
+  exprs = at_map.exprs;
+}
+
+abbrev parts_in : Owned → Parts
+parts_in lazy = parts_by (means_of lazy.boxes) lazy.solver lazy.map lazy.objective_at
+
+parts_of : (lazy : Owned) (model : ModelValue) → IsBridgingOf lazy model → AreOf (parts_in lazy) model
+parts_of lazy model h = record {
+  bridging = h.bridging;
+  made = h.made;
+  leaves = h.leaves;
+  kept =
+      All-map (λ (k : Family × Kept). k.1 ≡ nodes_by h.bridging k.0) (λ (s : State). (s.family, s.kept))
+      lazy.boxes.states h.kept;
+  exprs = h.exprs;
+}
+
+from_parts : (lazy : Owned) (model : ModelValue) → AreOf (parts_in lazy) model
+    → IsBridgingOf lazy model
+from_parts lazy model h = record {
+  bridging = h.bridging;
+  made = h.made;
+  leaves = h.leaves;
+  kept =
+      all_from_map (λ (k : Family × Kept). k.1 ≡ nodes_by h.bridging k.0) (λ (s : State). (s.family, s.kept))
+      lazy.boxes.states h.kept;
+  exprs = h.exprs;
+}
+
+same_parts : (old new : Owned) → IsTried old new → parts_in new ≡ parts_in old
+same_parts old new t =
+    ap (λ m. parts_by m new.solver new.map new.objective_at) t.means
+    ∙ (ap (λ s. parts_by (means_of old.boxes) s new.map new.objective_at) t.solver
+    ∙ (ap (λ m. parts_by (means_of old.boxes) old.solver m new.objective_at) t.map
+    ∙ ap (parts_by (means_of old.boxes) old.solver old.map) t.objective_at))
+
+pub still_bridging : (old new : Owned) (model : ModelValue) → IsTried old new
+    → IsBridgingOf old model → IsBridgingOf new model
+still_bridging old new model t h =
+    from_parts new model
+    (subst (λ p. AreOf p model) (sym (same_parts old new t)) (parts_of old model h))
+
+-- ---- nothing
+
+pub still_nothing : (old new : Owned) → new.solver ≡ old.solver → new.map ≡ old.map
+    → kept_by new.boxes.states ≡ kept_by old.boxes.states → HoldsNothing old → HoldsNothing new
+still_nothing old new solver at_map kept h =
+    let Empty : Family × Kept → Type 0 = λ (k : Family × Kept). k.1 ≡ finite.empty in
+    let part : State → Family × Kept = λ (s : State). (s.family, s.kept) in record {
+      leaves = subst (λ (s : Stored). s.leaves ≡ no_leaves s.leaves.calls) (sym solver) h.leaves;
+      vars = ap (λ (m : AddressMap). m.vars.indices) at_map ∙ h.vars;
+      rows = ap (λ (m : AddressMap). m.rows.indices) at_map ∙ h.rows;
+      exprs = ap (λ (m : AddressMap). m.exprs) at_map ∙ h.exprs;
+      kept =
+          all_from_map Empty part new.boxes.states
+          (subst (All Empty) (sym kept) (All-map Empty part old.boxes.states h.kept));
+    }
+
+pub nothing_tried : (old new : Owned) → IsTried old new → HoldsNothing old → HoldsNothing new
+nothing_tried old new t h = still_nothing old new t.solver t.map (ap (λ (m : Means). m.kept) t.means) h
+
+pub setting_tried : (old new : Owned) → IsTried old new → setting_in new ≡ setting_in old
+setting_tried old new t = ap (λ (m : Means). m.setting) t.means

@@ -1,0 +1,12 @@
+use Rattle.std.proofs.Common.{reverse, vec_len}
+use Rattle.model_store.specs.Store.{Stored}
+use Rattle.cache_layer.specs.Loads.{LeadBack}
+use Rattle.cache_layer.proofs.loading.take_back_all.Given as goal
+
+abbrev pub invariant-loop-undo : goal.invariant-loop-undo
+invariant-loop-undo l =
+    (start : Stored) → LeadBack start (reverse l.initial.undos.items) l.initial.model
+    → LeadBack start (reverse l.undos.items) l.model
+
+abbrev pub decreases-loop-undo : goal.decreases-loop-undo
+decreases-loop-undo l = vec_len l.undos

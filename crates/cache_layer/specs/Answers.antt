@@ -1,0 +1,80 @@
+-- What the calls of a cache answer, and the state that they leave. After a refusal it is the one
+-- before, and without memory it is that one without its solver.
+use Rattle.std.specs.Prelude.{◌≡◌, ℕ, true, false, List, [], ◌∷◌, Option, Some, None, Result, Ok, Err}
+use Rattle.std.specs.Option.{option_map_or}
+use Rattle.cache_layer.specs.Cached.{Cached}
+use Rattle.cache_layer.specs.State.{Changes, HasLeaves, OverflowsAt, State, attached, detached, with_model}
+use Rattle.cache_layer.specs.declared.fault.AttachFault.{AttachFault}
+use Rattle.cache_layer.specs.declared.fault.AttachFault.TheVariants as attach
+use Rattle.cache_layer.specs.declared.fault.EditFault.{EditFault}
+use Rattle.cache_layer.specs.declared.fault.EditFault.TheVariants.{Memory, Overflow, Refused, Unsupported}
+use Rattle.fresh_bridging.specs.FreshBridging.{IsUnsupported}
+use Rattle.lazy_bridge.specs.Pushed.{IsTried}
+use Rattle.user_model.specs.declared.edit.Edit.{Edit}
+use Rattle.user_model.specs.declared.refusal.Refusal.{Refusal}
+use Rattle.user_model.specs.Edited.{edited}
+use Rattle.user_model.specs.Model.{ModelValue}
+use Rattle.user_model.specs.Refusals.{first_refusal}
+
+-- the next state is reached; but while a solver is attached not where an item of its model has no
+-- tree, nor where a number of the bridging doesn't fit
+abbrev pub Becomes : State → State → Result (Option ℕ) EditFault → State → Type 0
+Becomes old next (Ok None) new = (old.attached ≡ false) × (new ≡ next)
+Becomes old next (Ok (Some n)) new = (old.attached ≡ true) × Changes old next n × (new ≡ next)
+Becomes old next (Err (Unsupported kind)) new =
+    (old.attached ≡ true) × IsUnsupported next.setting next.model kind × (new ≡ old)
+Becomes old next (Err (Overflow place)) new =
+    (old.attached ≡ true) × OverflowsAt next place × (new ≡ old)
+Becomes old next (Err Memory) new = new ≡ detached old
+Becomes old next (Err (Refused refusal)) new = ⊥
+
+-- an edit is refused first for itself, and then for its model's bridging
+abbrev pub IsEdited : State → Edit → Result (Option ℕ) EditFault → State → Type 0
+IsEdited old edit (Err (Refused refusal)) new =
+    (first_refusal old.model edit ≡ Some refusal) × (new ≡ old)
+IsEdited old edit (Err Memory) new = new ≡ detached old
+IsEdited old edit answer new =
+    (first_refusal old.model edit ≡ None)
+    × Becomes old (with_model old (edited old.model edit)) answer new
+
+-- edits one after another, or why the first that is refused is
+unfoldable pub after_edits : ModelValue → List Edit → Result ModelValue Refusal
+after_edits model [] = Ok model
+after_edits model (edit ∷ edits) =
+    option_map_or Err (first_refusal model edit) (after_edits (edited model edit) edits)
+
+-- all edits are made, or none
+abbrev pub IsLoaded : State → List Edit → Result Unit EditFault → State → Type 0
+IsLoaded old edits (Ok done) new =
+    (after_edits old.model edits ≡ Ok new.model) × (new ≡ with_model old new.model)
+IsLoaded old edits (Err (Refused refusal)) new =
+    (after_edits old.model edits ≡ Err refusal) × (new ≡ old)
+IsLoaded old edits (Err Memory) new = new ≡ old
+IsLoaded old edits (Err (Unsupported kind)) new = ⊥
+IsLoaded old edits (Err (Overflow place)) new = ⊥
+
+-- a solver is attached, and has so many leaves
+abbrev pub IsAttached : State → Result ℕ AttachFault → State → Type 0
+IsAttached old (Ok n) new =
+    (old.attached ≡ false) × HasLeaves old n × (new ≡ attached old)
+IsAttached old (Err attach.AlreadyAttached) new = (old.attached ≡ true) × (new ≡ old)
+IsAttached old (Err (attach.Unsupported kind)) new =
+    (old.attached ≡ false) × IsUnsupported old.setting old.model kind × (new ≡ old)
+IsAttached old (Err (attach.Overflow place)) new =
+    (old.attached ≡ false) × OverflowsAt old place × (new ≡ old)
+IsAttached old (Err attach.Memory) new = (old.attached ≡ false) × (new ≡ old)
+
+-- a refusal leaves all but the boxes' turns
+abbrev pub IsUntouched : Cached → Cached → Type 0
+IsUntouched old new = (new.user ≡ old.user) × IsTried old.lazy new.lazy
+
+abbrev pub UnlessRefused : {A : Type 0} → Result A EditFault → Cached → Cached → Type 0
+UnlessRefused (Ok a) old new = Unit {0}
+UnlessRefused (Err Memory) old new = Unit {0}
+UnlessRefused (Err fault) old new = IsUntouched old new
+
+-- the same where a solver is to be attached
+abbrev pub UnlessAttached : Result ℕ AttachFault → Cached → Cached → Type 0
+UnlessAttached (Ok n) old new = Unit {0}
+UnlessAttached (Err attach.Memory) old new = Unit {0}
+UnlessAttached (Err fault) old new = IsUntouched old new

@@ -1,0 +1,6 @@
+pub mod State
+pub mod Cached
+pub mod Faults
+pub mod Answers
+pub mod Bridging
+pub mod Loads

@@ -1,0 +1,59 @@
+-- Edits made one after another, and what leads back from them.
+use Rattle.std.specs.Prelude.{◌≡◌, List, [], ◌∷◌, ◌++◌, None, Result, Ok, Err}
+use Rattle.cache_layer.specs.Answers.{after_edits}
+use Rattle.model_store.specs.Store.{HasParked, Stored, refusal_of}
+use Rattle.model_store.specs.declared.parked.Parked.{Parked}
+use Rattle.user_model.specs.Accepted.{LeadsTo}
+use Rattle.user_model.specs.Edited.{edited}
+use Rattle.user_model.specs.Model.{ModelValue}
+use Rattle.user_model.specs.Refusals.{first_refusal}
+use Rattle.user_model.specs.Undone.{before}
+use Rattle.user_model.specs.declared.edit.Edit.{Edit}
+use Rattle.user_model.specs.declared.refusal.ApplyFault.{ApplyFault}
+use Rattle.user_model.specs.declared.refusal.ApplyFault.TheVariants.{Memory, Refused}
+use Rattle.user_model.specs.declared.undo.Undo.{Undo}
+
+-- an edit is made for good, or nothing changed
+abbrev pub IsMadeBy : Stored → Edit → Result Unit ApplyFault → Stored → Type 0
+IsMadeBy old edit (Ok done) new =
+    (first_refusal old.model edit ≡ None) × (new ≡ record old { model = edited old.model edit })
+IsMadeBy old edit (Err fault) new =
+    (refusal_of fault ≡ first_refusal old.model edit) × (new ≡ old)
+
+-- all edits are made for good, or nothing changed
+abbrev pub AreMadeBy : Stored → List Edit → Result Unit ApplyFault → Stored → Type 0
+AreMadeBy old edits (Ok done) new =
+    (after_edits old.model edits ≡ Ok new.model) × (new.parked ≡ old.parked)
+AreMadeBy old edits (Err (Refused refusal)) new =
+    (after_edits old.model edits ≡ Err refusal) × (new ≡ old)
+AreMadeBy old edits (Err Memory) new = new ≡ old
+
+-- ---- what leads back
+
+-- the undo leads back from an edit, and is the last that waits
+pub record IsLastStep (old : Stored) (undo : Undo) (new : Stored) : Type 0 where
+  pub edit : LeadsTo old.model new.model
+  pub back : before new.model undo ≡ old.model
+  pub parked : HasParked old.parked new.parked new.model undo
+
+-- the undos, the last first, lead back to where they began
+abbrev pub LeadBack : Stored → List Undo → Stored → Type 0
+LeadBack start [] new = new ≡ start
+LeadBack start (undo ∷ undos) new =
+    (old : Stored) × LeadBack start undos old × IsLastStep old undo new
+
+-- the edit is made, and its undo comes last
+pub record IsNextStep (old : Stored) (edit : Edit) (new : Stored)
+    (shorter longer : List Undo) : Type 0 where
+  pub undo : Undo
+  pub accepted : first_refusal old.model edit ≡ None
+  pub after : new.model ≡ edited old.model edit
+  pub step : IsLastStep old undo new
+  pub put : longer ≡ shorter ++ undo ∷ []
+
+-- the undos, the last first, are those of the entries by which the longer list is longer
+abbrev pub AreParkedFor : List Parked → List Undo → List Parked → Type 0
+AreParkedFor shorter [] longer = longer ≡ shorter
+AreParkedFor shorter (undo ∷ undos) longer =
+    (others : List Parked) × AreParkedFor shorter undos others
+    × ((model : ModelValue) × HasParked others longer model undo)

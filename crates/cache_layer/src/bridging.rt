@@ -1,0 +1,74 @@
+//! Bridging, with its faults in the user's names.
+ghost use Rattle.std.specs.Prelude.{◌≡◌, IsTrue};
+ghost use Rattle.std.specs.List.{list_all};
+ghost use Rattle.bridge_graph.specs.Hypergraph.{is_edge_cost};
+ghost use Rattle.lazy_bridge.specs.Native.{supports_native};
+ghost use Rattle.cache_layer.specs.Bridging.{IsBridgedInNames, IsFaultOf, IsToldAs};
+
+use crate::fault::BridgeFault;
+use bridge_face::Bridge;
+use bridged_report::place_at;
+use item_core::Table;
+use lazy_bridge::{LazyOver, PushFault};
+use model_store::{Undo, UserModel};
+
+/// Bridges a model where nothing is held. The answer is the number of leaves.
+pub(crate) fn fill<B: Bridge>(lazy: &mut LazyOver<B>, model: &UserModel) -> Result<u64, BridgeFault>
+    ensures { IsBridgedInNames lazy.old lazy.old.boxes.table model.now.model result lazy.new }
+{
+    match lazy.fill(model) {
+        Ok(leaves) => Ok(leaves),
+        Err(fault) => Err(in_names(lazy, model, fault)),
+    }
+}
+
+/// Bridges a model after edits in place of the one before. The answer is the number of addresses
+/// at which leaves differ.
+pub(crate) fn push<B: Bridge>(
+    lazy: &mut LazyOver<B>,
+    model: &UserModel,
+    undos: &[Undo],
+) -> Result<u64, BridgeFault>
+    ensures { IsBridgedInNames lazy.old lazy.old.boxes.table model.now.model result lazy.new }
+{
+    match lazy.push(model, undos) {
+        Ok(changed) => Ok(changed),
+        Err(fault) => Err(in_names(lazy, model, fault)),
+    }
+}
+
+/// Bridges a model by another table, with the same answer.
+pub(crate) fn set_table<B: Bridge>(
+    lazy: &mut LazyOver<B>,
+    model: &UserModel,
+    table: Table,
+) -> Result<u64, BridgeFault>
+    requires costs { IsTrue (list_all is_edge_cost table.cost) }
+    requires native { IsTrue (supports_native table) }
+    ensures { IsBridgedInNames lazy.old table model.now.model result lazy.new }
+{
+    match lazy.set_table(model, table) {
+        Ok(changed) => Ok(changed),
+        Err(fault) => Err(in_names(lazy, model, fault)),
+    }
+}
+
+// The fault in the user's names. Where memory is wanting for these, nothing is held any more.
+fn in_names<B: Bridge>(lazy: &mut LazyOver<B>, model: &UserModel, fault: PushFault) -> BridgeFault
+    requires { IsFaultOf model.now.model fault }
+    ensures { IsToldAs model.now.model lazy.old fault result lazy.new }
+{
+    let _valid = model.objective();
+    match fault {
+        PushFault::Unsupported { kind } => BridgeFault::Unsupported { kind },
+        PushFault::Memory => BridgeFault::Memory,
+        PushFault::Overflow { at } => match place_at(model, &at) {
+            Ok(Some(place)) => BridgeFault::Overflow { place },
+            Ok(None) => unreachable!(),
+            Err(_) => {
+                lazy.clear();
+                BridgeFault::Memory
+            }
+        },
+    }
+}

@@ -1,0 +1,163 @@
+//! The cache.
+ghost use Rattle.std.specs.Prelude.{◌≡◌, [], IfErr, IfOk, IsTrue, false, true};
+ghost use Rattle.std.specs.List.{list_all};
+ghost use Rattle.bridge_graph.specs.Hypergraph.{is_edge_cost};
+ghost use Rattle.lazy_bridge.specs.Native.{supports_native};
+ghost use Rattle.lazy_bridge.specs.Owned.{HoldsNothing};
+ghost use Rattle.cache_layer.specs.Answers.{Becomes, IsAttached, IsEdited, IsLoaded, UnlessAttached, UnlessRefused};
+ghost use Rattle.cache_layer.specs.Bridging.{stays};
+ghost use Rattle.cache_layer.specs.Cached.{Stands, model_in, state_of};
+ghost use Rattle.cache_layer.specs.State.{detached, with_table};
+
+use crate::bridging::fill;
+use crate::edits::{edit_alone, edit_bridged, table_bridged};
+use crate::loading::make_all;
+use crate::{AttachFault, EditFault, NotAttached};
+use bridge_face::Bridge;
+use item_core::Table;
+use lazy_bridge::LazyOver;
+use model_store::UserModel;
+use std::marker::Model;
+use user_model::Edit;
+
+/// The cache over boxed bridges.
+pub type Cache = CacheOver<Box<dyn Bridge>>;
+
+/// The user's model, and a lazy bridging that is kept as its fresh bridging while a solver is
+/// attached, and holds nothing while none is.
+#[derive(Drop)]
+pub struct CacheOver<B: Bridge> {
+    user: UserModel,
+    lazy: LazyOver<B>,
+    attached: bool,
+}
+
+impl<B: Bridge> Model for CacheOver<B> {
+    ghost use Rattle.cache_layer.specs.Cached.{Cached, IsInStep, cached, cached_code};
+
+    ghost Value = { Cached };
+
+    ghost coded = { cached_code };
+
+    ghost view = { λ c. cached c.user c.lazy c.attached };
+
+    ghost invariant = { λ c. IsInStep (cached c.user c.lazy c.attached) };
+}
+
+impl<B: Bridge> CacheOver<B> {
+    /// The model, of which no edit waits, and no solver attached.
+    pub fn new(model: UserModel, lazy: LazyOver<B>) -> CacheOver<B>
+        requires settled { model.parked ≡ [] }
+        requires lazy { HoldsNothing lazy }
+        ensures model { result.user ≡ model }
+        ensures lazy { result.lazy ≡ lazy }
+        ensures detached { result.attached ≡ false }
+    {
+        CacheOver {
+            user: model,
+            lazy,
+            attached: false,
+        }
+    }
+
+    /// Makes an edit. While a solver is attached, the answer is the number of addresses at which
+    /// its model changes.
+    pub fn edit(&mut self, edit: Edit) -> Result<Option<u64>, EditFault>
+        ensures answer { IsEdited (state_of self.old) edit result (state_of self.new) }
+        ensures untouched { UnlessRefused result self.old self.new }
+    {
+        if !self.attached {
+            edit_alone(&mut self.user, edit)?;
+            return Ok(None);
+        }
+        let answer = edit_bridged(&mut self.user, &mut self.lazy, edit);
+        self.attached = stays(&answer);
+        answer
+    }
+
+    /// Makes edits one after another while no solver is attached, or none of them: the refusal of
+    /// the first that is refused is the answer.
+    pub fn load(&mut self, edits: Vec<Edit>) -> Result<(), EditFault>
+        requires { self.old.attached ≡ false }
+        ensures answer { IsLoaded (state_of self.old) edits.items result (state_of self.new) }
+        ensures lazy { self.new.lazy ≡ self.old.lazy }
+    {
+        make_all(&mut self.user, edits)?;
+        Ok(())
+    }
+
+    /// Bridges by another table. While a solver is attached, the answer is the number of addresses
+    /// at which its model changes.
+    pub fn table(&mut self, table: Table) -> Result<Option<u64>, EditFault>
+        requires costs { IsTrue (list_all is_edge_cost table.cost) }
+        requires native { IsTrue (supports_native table) }
+        ensures answer { Becomes (state_of self.old) (with_table (state_of self.old) table) result
+            (state_of self.new) }
+        ensures untouched { UnlessRefused result self.old self.new }
+    {
+        if !self.attached {
+            self.lazy.preset(table);
+            return Ok(None);
+        }
+        let answer = table_bridged(&self.user, &mut self.lazy, table);
+        self.attached = stays(&answer);
+        answer
+    }
+
+    /// Attaches a solver. The answer is the number of its leaves.
+    pub fn attach(&mut self) -> Result<u64, AttachFault>
+        ensures answer { IsAttached (state_of self.old) result (state_of self.new) }
+        ensures untouched { UnlessAttached result self.old self.new }
+    {
+        if self.attached {
+            return Err(AttachFault::AlreadyAttached);
+        }
+        let leaves = fill(&mut self.lazy, &self.user)?;
+        self.attached = true;
+        Ok(leaves)
+    }
+
+    /// Detaches the solver, whose model is empty afterwards. Refused exactly where none is attached.
+    pub fn detach(&mut self) -> Result<(), NotAttached>
+        ensures ok { IfOk result (λ _. (self.old.attached ≡ true)
+            × (state_of self.new ≡ detached (state_of self.old))) }
+        ensures refused { IfErr result (λ _. (self.old.attached ≡ false) × (self.new ≡ self.old)) }
+    {
+        if !self.attached {
+            return Err(NotAttached);
+        }
+        self.lazy.clear();
+        self.attached = false;
+        Ok(())
+    }
+
+    /// Whether a solver is attached. While one is, the fresh bridging of the model stands.
+    pub fn attached(&self) -> bool
+        ensures value { result ≡ self.now.attached }
+        ensures stands { Stands self.now.attached self.now.lazy (model_in self.now) }
+    {
+        self.attached
+    }
+
+    /// The user's model, of which no edit waits.
+    pub fn model(&self) -> &UserModel
+        ensures value { result.now ≡ self.now.user }
+        ensures settled { self.now.user.parked ≡ [] }
+    {
+        &self.user
+    }
+
+    /// The bridging.
+    pub fn lazy(&self) -> &LazyOver<B>
+        ensures { result.now ≡ self.now.lazy }
+    {
+        &self.lazy
+    }
+}
+
+// Whether a solver that was attached still is after an answer.
+fn stays(answer: &Result<Option<u64>, EditFault>) -> bool
+    ensures { result ≡ stays answer.now }
+{
+    !matches!(answer, Err(EditFault::Memory))
+}

@@ -1,0 +1,77 @@
+//! Why a call of the cache is refused.
+ghost use Rattle.std.specs.Prelude.{◌≡◌};
+ghost use Rattle.cache_layer.specs.Faults.{attach_fault, bridge_fault, edit_fault};
+
+use item_core::Kind;
+use report_core::Place;
+use user_model::{ApplyFault, Refusal};
+
+/// Why an edit, many edits or a table isn't taken. The model and the table are as before.
+#[derive(Debug, Drop)]
+pub enum EditFault {
+    Refused(Refusal),
+    /// The first of the user's items without a tree is of this kind.
+    Unsupported { kind: Kind },
+    /// Where the first number of the bridging doesn't fit.
+    Overflow { place: Place },
+    /// Memory ran out, and no solver is attached.
+    Memory,
+}
+
+/// Why no solver is attached.
+#[derive(Debug, Drop)]
+pub enum AttachFault {
+    AlreadyAttached,
+    /// The first of the user's items without a tree is of this kind.
+    Unsupported { kind: Kind },
+    /// Where the first number of the bridging doesn't fit.
+    Overflow { place: Place },
+    Memory,
+}
+
+/// No solver is attached.
+#[derive(Clone, Copy, Debug, PartialEq, Eq)]
+pub struct NotAttached;
+
+/// Why a model isn't bridged, in the user's names.
+#[derive(Debug, Drop)]
+pub(crate) enum BridgeFault {
+    Unsupported { kind: Kind },
+    Overflow { place: Place },
+    Memory,
+}
+
+impl From<ApplyFault> for EditFault {
+    ghost from_gives = { λ fault result. result ≡ edit_fault fault };
+
+    fn from(fault: ApplyFault) -> EditFault {
+        match fault {
+            ApplyFault::Refused(refusal) => EditFault::Refused(refusal),
+            ApplyFault::Memory => EditFault::Memory,
+        }
+    }
+}
+
+impl From<BridgeFault> for EditFault {
+    ghost from_gives = { λ fault result. result ≡ bridge_fault fault };
+
+    fn from(fault: BridgeFault) -> EditFault {
+        match fault {
+            BridgeFault::Unsupported { kind } => EditFault::Unsupported { kind },
+            BridgeFault::Overflow { place } => EditFault::Overflow { place },
+            BridgeFault::Memory => EditFault::Memory,
+        }
+    }
+}
+
+impl From<BridgeFault> for AttachFault {
+    ghost from_gives = { λ fault result. result ≡ attach_fault fault };
+
+    fn from(fault: BridgeFault) -> AttachFault {
+        match fault {
+            BridgeFault::Unsupported { kind } => AttachFault::Unsupported { kind },
+            BridgeFault::Overflow { place } => AttachFault::Overflow { place },
+            BridgeFault::Memory => AttachFault::Memory,
+        }
+    }
+}

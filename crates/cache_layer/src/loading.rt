@@ -1,0 +1,67 @@
+//! Many edits, all or none.
+ghost use Rattle.std.specs.Prelude.{◌≡◌, List, IfErr, OnErr, OnOk, reverse};
+ghost use Rattle.model_store.specs.Store.{Stored, refusal_of};
+ghost use Rattle.model_store.specs.declared.parked.Parked.{Parked};
+ghost use Rattle.user_model.specs.Refusals.{first_refusal};
+ghost use Rattle.cache_layer.specs.Loads.{AreMadeBy, AreParkedFor, IsNextStep, LeadBack};
+
+use model_store::{Undo, UserModel};
+use user_model::{ApplyFault, Edit};
+
+/// Makes edits one after another for good, or none of them where one is refused.
+pub(crate) fn make_all(model: &mut UserModel, edits: Vec<Edit>) -> Result<(), ApplyFault>
+    ensures { AreMadeBy model.old edits.items result model.new }
+{
+    let mut undos = Vec::new(*edits.allocator());
+    for edit in edits {
+        if let Err(fault) = make(model, &mut undos, edit) {
+            take_back_all(model, undos);
+            return Err(fault);
+        }
+    }
+    settle_all(model, undos);
+    Ok(())
+}
+
+// Makes an edit, and puts what leads back from it last.
+fn make(model: &mut UserModel, undos: &mut Vec<Undo>, edit: Edit) -> Result<(), ApplyFault>
+    ensures ok { OnOk result (IsNextStep model.old edit model.new undos.old.items undos.new.items) }
+    ensures refused { IfErr result (λ fault.
+        refusal_of fault ≡ first_refusal model.old.model edit) }
+    ensures kept { OnErr result (model.new ≡ model.old) }
+    ensures undos { OnErr result (undos.new.items ≡ undos.old.items) }
+{
+    let undo = model.apply(edit)?;
+    match undos.push(undo) {
+        Ok(()) => Ok(()),
+        Err(full) => {
+            model.take_back(full.value);
+            Err(ApplyFault::Memory)
+        }
+    }
+}
+
+// Takes all edits back, the last one first.
+fn take_back_all(model: &mut UserModel, mut undos: Vec<Undo>)
+    requires { (start : Stored) × LeadBack start (reverse undos.items) model.old }
+    ensures { (start : Stored) → LeadBack start (reverse undos.items) model.old
+        → model.new ≡ start }
+{
+    while let Some(undo) = undos.pop() {
+        model.take_back(undo);
+    }
+}
+
+// Lets all edits stand for good.
+fn settle_all(model: &mut UserModel, mut undos: Vec<Undo>)
+    requires { (shorter : List Parked)
+        × AreParkedFor shorter (reverse undos.items) model.old.parked }
+    ensures model { model.new.model ≡ model.old.model }
+    ensures parked { (shorter : List Parked)
+        → AreParkedFor shorter (reverse undos.items) model.old.parked
+        → model.new.parked ≡ shorter }
+{
+    while let Some(undo) = undos.pop() {
+        model.settle(undo);
+    }
+}

@@ -1,0 +1,2 @@
+mod NativeTargets
+mod RefusedEdits

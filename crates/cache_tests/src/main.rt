@@ -1,0 +1,20 @@
+// Runs a script on a cache with a box of each family, and prints what each line is answered.
+//
+//     LINE              an edit, `target`, `on`, `off`, `attach` or `detach`, as in any script
+//     rows M N FORM     adds the rows `row rM FORM` to `row rN FORM`, and prints the last answer
+//     + EDIT            keeps an edit
+//     load              makes the edits that are kept, while no solver is attached
+//     state             prints whether a solver is attached, and how much stands
+//     # ..              a remark, which is printed
+#![tactic(auto)]
+
+mod boxes;
+mod session;
+mod shown;
+mod tables;
+
+use anyhow::Result;
+
+fn main(rt: HostRuntime) -> Result<()> {
+    boxes::run(&rt)
+}

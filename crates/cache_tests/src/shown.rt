@@ -1,0 +1,63 @@
+// What is printed.
+ghost use Rattle.report_core.specs.Refused.{HasFault};
+
+use anyhow::{Result, bail};
+use bridge_face::Bridge;
+use cache_layer::{AttachFault, CacheOver, EditFault};
+use report_core::{Answer, Refused, done, refusal};
+use user_model::Refusal;
+
+pub fn accepted(rt: &HostRuntime, count: Option<u64>) -> Result<()> {
+    answer(rt, &done(rt.alloc(), count)?)
+}
+
+pub fn refused(rt: &HostRuntime, refused: &Refused) -> Result<()>
+    requires { HasFault refused.now }
+{
+    answer(rt, &refusal(rt.alloc(), refused)?)
+}
+
+pub fn edit_fault(rt: &HostRuntime, fault: EditFault) -> Result<()> {
+    match fault {
+        EditFault::Refused(refusal) => refused(rt, &refused_edit(refusal)),
+        EditFault::Unsupported { kind } => refused(rt, &Refused::Unsupported { kind }),
+        EditFault::Overflow { place } => refused(rt, &Refused::Overflow { place }),
+        EditFault::Memory => bail!("out of memory"),
+    }
+}
+
+fn refused_edit(refusal: Refusal) -> Refused
+    ensures { HasFault result }
+{
+    Refused::from(refusal)
+}
+
+pub fn attach_fault(rt: &HostRuntime, fault: AttachFault) -> Result<()> {
+    match fault {
+        AttachFault::AlreadyAttached => refused(rt, &Refused::AlreadyAttached),
+        AttachFault::Unsupported { kind } => refused(rt, &Refused::Unsupported { kind }),
+        AttachFault::Overflow { place } => refused(rt, &Refused::Overflow { place }),
+        AttachFault::Memory => bail!("out of memory"),
+    }
+}
+
+fn answer(rt: &HostRuntime, answer: &Answer) -> Result<()> {
+    match answer {
+        Answer::Printed(text) | Answer::Refused(text) => {
+            let text = std::str::from_utf8(text.as_slice())?;
+            print!(rt; "{text}")?;
+            Ok(())
+        }
+        _ => bail!("no text"),
+    }
+}
+
+/// Prints whether a solver is attached, and how much stands in the user's model.
+pub fn state<B: Bridge>(rt: &HostRuntime, cache: &CacheOver<B>) -> Result<()> {
+    let attached = cache.attached();
+    let groups = cache.model().groups().len();
+    let rows = cache.model().rows().len();
+    let calls = cache.lazy().solver().calls();
+    println!(rt; "attached {attached}, {groups} groups, {rows} rows, {calls} calls")?;
+    Ok(())
+}
