@@ -1,6 +1,8 @@
 //! What a line says.
-use item_core::{Edge, Family, Kind, Target};
+use crate::EdgeCost;
+use item_core::{Edge, Family, Target};
 use name_index::Name;
+use script_words::NativeKind;
 use user_model::Edit;
 
 /// What a line of a script says.
@@ -13,9 +15,9 @@ pub enum Command {
     /// The solver supports the kinds of this target.
     Target(Target),
     /// Whether the solver supports a native kind.
-    Support { kind: Kind, value: bool },
-    /// What an edge costs, 1 to 1,000.
-    Cost { edge: Edge, cost: u32 },
+    Support { kind: NativeKind, value: bool },
+    /// What an edge costs.
+    Cost { edge: Edge, cost: EdgeCost },
     /// Whether a family of bridges is on.
     Switch { family: Family, value: bool },
     /// Gives the solver the model.

@@ -3,6 +3,7 @@
 
 mod changes;
 mod command;
+mod edge_cost;
 mod fault;
 mod function;
 mod keyword;
@@ -17,5 +18,6 @@ mod terms;
 mod variables;
 
 pub use command::Command;
+pub use edge_cost::EdgeCost;
 pub use fault::LineFault;
 pub use line::parse_line;

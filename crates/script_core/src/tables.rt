@@ -2,8 +2,8 @@
 ghost use Rattle.std.specs.Prelude.{◌≡◌};
 ghost use Rattle.script_core.specs.Tables.{cost_form, cost_of, support_form, switch_form, target_form};
 
-use crate::Command;
 use crate::reading::{Reading, says};
+use crate::{Command, EdgeCost};
 use script_words::{
     Tokens, edge_numbered, read_family, read_native_kind, read_number, read_target,
 };
@@ -46,13 +46,13 @@ pub fn cost(mut tokens: Tokens<'_>) -> Option<Reading>
     says(Command::Cost { edge, cost })
 }
 
-// What an edge may cost, 1 to 1,000.
+// What an edge may cost.
 #[tactic(auto, unfolding(crate::specs::Tables::cost_of))]
-fn read_cost(token: &[u8]) -> Option<u32>
+fn read_cost(token: &[u8]) -> Option<EdgeCost>
     ensures { result ≡ cost_of token.now }
 {
     let cost = read_number(token)?;
-    (1 <= cost && cost <= 1000).then_some(cost)
+    EdgeCost::new(cost)
 }
 
 /// `on F`, `off F`

@@ -1,10 +1,12 @@
 //! The words of lines on tables: targets, native kinds, and edges by number.
-ghost use Rattle.std.specs.Prelude.{◌≡◌, Some, IsTrue, option_map, slice_get};
+ghost use Rattle.std.specs.Prelude.{◌≡◌, IfSome, IsTrue, Some, option_map, slice_get};
+ghost use Rattle.std.specs.List.{find};
 ghost use Rattle.item_core.specs.declared.kind.Kind.{Kind};
+ghost use Rattle.item_core.specs.declared.kind.TheConstants.{KINDS};
 ghost use Rattle.item_core.specs.Kind.{is_native, name_of};
 ghost use Rattle.script_words.specs.Table.{edge_numbered, is_native_named, native_kind_of, target_of};
 
-use crate::{is, parted_at};
+use crate::{NativeKind, is, parted_at};
 use item_core::{EDGES, Edge, EdgeEntry, KINDS, Kind, Target};
 
 /// The target with this name.
@@ -30,12 +32,21 @@ pub fn read_target(token: &[u8]) -> Option<Target>
 /// The kind with this name, as `affine:LessThan`, where a solver may support it as it is. The name
 /// of each such kind is read.
 #[tactic(auto, unfolding(crate::specs::Table::native_kind_of))]
-pub fn read_native_kind(token: &[u8]) -> Option<Kind>
+pub fn read_native_kind(token: &[u8]) -> Option<NativeKind>
     ensures value { result ≡ native_kind_of token.now }
     ensures reads_back { (kind : Kind)
         → IsTrue (is_native kind) → native_kind_of (name_of kind) ≡ Some kind }
 {
     let (first, second) = parted_at(token, b':');
+    let kind = native_named(first, second)?;
+    NativeKind::new(kind)
+}
+
+// The native kind whose name has these words.
+fn native_named(first: &[u8], second: &[u8]) -> Option<Kind>
+    ensures value { result ≡ find (is_native_named first.now second.now) KINDS.kinds }
+    ensures native { IfSome result (λ kind. IsTrue (is_native kind)) }
+{
     KINDS
         .kinds
         .iter()
