@@ -2,10 +2,12 @@
 use aff_core::{Address, Root};
 use anyhow::{Result, bail};
 use bridged_report::{AddressMap, SolverModel, UserModel, bridged, place_at};
-use ratio_core::Ratio;
 use script_core::{Command, parse_line};
-use solver_store::{LeafObjective, LeafRow, LeafVar, SolverAff, SolverVec};
+use solver_store::{LeafObjective, LeafRow, LeafVar};
 use std::alloc::Global;
+
+/// A root, its number and positions.
+pub type At<'a> = (Root, u32, &'a [u16]);
 
 #[derive(Drop)]
 pub struct Held {
@@ -33,16 +35,18 @@ impl Held {
         Ok(())
     }
 
-    pub fn put_var(&mut self, at: Address, var: LeafVar) -> Result<usize> {
+    pub fn put_var(&mut self, at: At, var: LeafVar) -> Result<()> {
+        let at = address(at)?;
         let i = self.solver.add_var(var)?;
         if self.map.var_index(&at).is_some() || self.map.var_at(i).is_some() {
             bail!("a variable is there")
         }
         self.map.put_var(at, i)?;
-        Ok(i)
+        Ok(())
     }
 
-    pub fn put_row(&mut self, at: Address, row: LeafRow) -> Result<()> {
+    pub fn put_row(&mut self, at: At, row: LeafRow) -> Result<()> {
+        let at = address(at)?;
         let i = self.solver.add_row(row)?;
         if self.map.row_index(&at).is_some() || self.map.row_at(i).is_some() {
             bail!("a row is there")
@@ -64,48 +68,22 @@ impl Held {
     }
 
     /// Prints where in the user's model an address is.
-    pub fn show_place<R: Print + AllocGlobal>(&self, rt: &R, at: Address) -> Result<()> {
+    pub fn show_place<R: Print + AllocGlobal>(&self, rt: &R, at: At) -> Result<()> {
+        let at = address(at)?;
         let place = place_at(&self.model, &at)?;
         println!(rt; "{at}: {place:?}")?;
         Ok(())
     }
 }
 
-/// The address with these positions.
-pub fn at(root: Root, number: u32, positions: &[u16]) -> Result<Address> {
-    let mut at = Address::root(root, number);
+fn address(at: At) -> Result<Address> {
+    let (root, number, positions) = at;
+    let mut address = Address::root(root, number);
     for position in positions {
-        if at.depth() >= 40 {
+        if address.depth() >= 40 {
             bail!("too deep")
         }
-        at = at.child(*position);
+        address = address.child(*position);
     }
-    Ok(at)
-}
-
-pub fn number(text: &str) -> Result<Ratio> {
-    match Ratio::read(text.as_bytes()) {
-        Some(number) => Ok(number),
-        None => bail!("no number"),
-    }
-}
-
-/// The function with these coefficients of the first indices.
-pub fn function(alloc: Global, coefficients: &[&str], constant: &str) -> Result<SolverAff> {
-    let mut terms = Vec::new(alloc);
-    for (i, coefficient) in coefficients.iter().enumerate() {
-        terms.push((i, number(coefficient)?))?;
-    }
-    if !aff_core::rise_strictly(&terms) {
-        bail!("out of order")
-    }
-    Ok(SolverAff::from_terms(alloc, &terms, number(constant)?)?)
-}
-
-/// One component more.
-pub fn with_component(mut func: SolverVec, component: SolverAff) -> Result<SolverVec> {
-    match func.push(component) {
-        Ok(()) => Ok(func),
-        Err(_) => bail!("out of memory"),
-    }
+    Ok(address)
 }

@@ -3,6 +3,7 @@
 
 mod held;
 mod models;
+mod rows;
 
 use anyhow::Result;
 

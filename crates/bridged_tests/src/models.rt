@@ -1,89 +1,104 @@
 //! The models.
-use crate::held::{Held, at, function, number, with_component};
+use crate::held::Held;
+use crate::rows::{function, put_at_least, put_at_most, put_between, put_equal, put_vector};
 use aff_core::Root;
 use anyhow::Result;
 use set_core::Set;
-use solver_store::{LeafObjective, LeafRow, LeafVar, Sense, SolverVec};
+use solver_store::{LeafObjective, LeafVar, Sense};
 use std::alloc::Global;
 
 /// A row that is an equation with a slack, which is a leaf below it.
 pub fn slack<R: Print + AllocGlobal>(rt: &R) -> Result<()> {
-    let alloc = rt.alloc();
-    let mut held = Held::new(alloc);
-    held.edit(alloc, "var x >= 0")?;
-    held.put_var(at(Root::Group, 0, &[0, 0])?, LeafVar::Nonneg)?;
+    show_slack(rt, &mut Held::new(rt.alloc()))
+}
+
+fn show_slack<R: Print + AllocGlobal>(rt: &R, held: &mut Held) -> Result<()> {
+    held.edit(rt.alloc(), "var x >= 0")?;
+    held.put_var((Root::Group, 0, &[0, 0]), LeafVar::Nonneg)?;
     held.show(rt)?;
-    held.edit(alloc, "row c <= -1 : 1*x")?;
-    held.put_var(at(Root::Row, 0, &[0, 0, 0, 0])?, LeafVar::Nonneg)?;
-    let func = with_component(SolverVec::new(alloc), function(alloc, &["-1", "-1"], "-1")?)?;
-    let set = Set::Zeros { dimension: 1 };
-    held.put_row(
-        at(Root::Row, 0, &[0, 0, 1])?,
-        LeafRow::AffineVec { func, set },
-    )?;
+    held.edit(rt.alloc(), "row c <= -1 : 1*x")?;
+    held.put_var((Root::Row, 0, &[0, 0, 0, 0]), LeafVar::Nonneg)?;
+    put_slack_row(rt.alloc(), held)?;
     held.show(rt)
 }
 
-/// A row that is turned, and then deleted.
+fn put_slack_row(alloc: Global, held: &mut Held) -> Result<()> {
+    let set = Set::Zeros { dimension: 1 };
+    put_vector(
+        alloc,
+        held,
+        (Root::Row, 0, &[0, 0, 1]),
+        &[(&["-1", "-1"], "-1")],
+        set,
+    )
+}
+
+/// A row that is turned.
 pub fn flipped<R: Print + AllocGlobal>(rt: &R) -> Result<()> {
-    let alloc = rt.alloc();
-    let mut held = Held::new(alloc);
-    held.edit(alloc, "var x free")?;
-    held.edit(alloc, "row c >= 2 : 1*x")?;
-    held.put_var(at(Root::Variable, 0, &[])?, LeafVar::Free)?;
+    show_flipped(rt, &mut Held::new(rt.alloc()))
+}
+
+fn show_flipped<R: Print + AllocGlobal>(rt: &R, held: &mut Held) -> Result<()> {
+    held.edit(rt.alloc(), "var x free")?;
+    held.edit(rt.alloc(), "row c >= 2 : 1*x")?;
+    held.put_var((Root::Variable, 0, &[]), LeafVar::Free)?;
     held.show(rt)?;
-    let func = function(alloc, &["-1"], "0")?;
-    let set = Set::LessThan {
-        upper: number("-2")?,
-    };
-    held.put_row(at(Root::Row, 0, &[0])?, LeafRow::Affine { func, set })?;
+    put_at_most(rt.alloc(), held, (Root::Row, 0, &[0]), (&["-1"], "0"), "-2")?;
     held.show(rt)
 }
 
 /// Names as they are written, after they changed.
 pub fn renamed<R: Print + AllocGlobal>(rt: &R) -> Result<()> {
-    let alloc = rt.alloc();
-    let mut held = Held::new(alloc);
+    show_renamed(rt, &mut Held::new(rt.alloc()))
+}
+
+fn show_renamed<R: Print + AllocGlobal>(rt: &R, held: &mut Held) -> Result<()> {
     held.show(rt)?;
-    held.edit(alloc, "var x%201 free")?;
-    held.put_var(at(Root::Variable, 0, &[])?, LeafVar::Free)?;
+    held.edit(rt.alloc(), "var x%201 free")?;
+    held.put_var((Root::Variable, 0, &[]), LeafVar::Free)?;
     held.show(rt)?;
-    held.edit(alloc, "renvar x%201 50%25")?;
+    held.edit(rt.alloc(), "renvar x%201 50%25")?;
     held.show(rt)?;
-    held.edit(alloc, "renvar 50%25 a\"1.0")?;
+    held.edit(rt.alloc(), "renvar 50%25 a\"1.0")?;
     held.show(rt)
 }
 
 /// Where addresses are, of items that stand and of others.
 pub fn places<R: Print + AllocGlobal>(rt: &R) -> Result<()> {
-    let mut held = Held::new(rt.alloc());
-    edit_each(rt.alloc(), &mut held)?;
-    held.show_place(rt, at(Root::Variable, 2, &[])?)?;
-    held.show_place(rt, at(Root::Group, 1, &[])?)?;
-    held.show_place(rt, at(Root::Row, 2, &[0, 1])?)?;
-    held.show_place(rt, at(Root::Objective, 0, &[])?)?;
-    held.show_place(rt, at(Root::Variable, 3, &[])?)?;
-    held.show_place(rt, at(Root::Group, 2, &[])?)?;
-    held.show_place(rt, at(Root::Row, 3, &[])?)
+    show_places(rt, &mut Held::new(rt.alloc()))
+}
+
+fn show_places<R: Print + AllocGlobal>(rt: &R, held: &mut Held) -> Result<()> {
+    edit_each(rt.alloc(), held)?;
+    held.show_place(rt, (Root::Variable, 2, &[]))?;
+    held.show_place(rt, (Root::Group, 1, &[]))?;
+    held.show_place(rt, (Root::Row, 2, &[0, 1]))?;
+    held.show_place(rt, (Root::Objective, 0, &[]))?;
+    held.show_place(rt, (Root::Variable, 3, &[]))?;
+    held.show_place(rt, (Root::Group, 2, &[]))?;
+    held.show_place(rt, (Root::Row, 3, &[]))
 }
 
 /// A leaf of each kind.
 pub fn each_kind<R: Print + AllocGlobal>(rt: &R) -> Result<()> {
-    let mut held = Held::new(rt.alloc());
-    edit_each(rt.alloc(), &mut held)?;
+    show_each_kind(rt, &mut Held::new(rt.alloc()))
+}
+
+fn show_each_kind<R: Print + AllocGlobal>(rt: &R, held: &mut Held) -> Result<()> {
+    edit_each(rt.alloc(), held)?;
     // the index 0 at the greater address
-    held.put_var(at(Root::Group, 1, &[10])?, LeafVar::Nonneg)?;
-    held.put_var(at(Root::Variable, 0, &[])?, LeafVar::Free)?;
+    held.put_var((Root::Group, 1, &[10]), LeafVar::Nonneg)?;
+    held.put_var((Root::Variable, 0, &[]), LeafVar::Free)?;
     held.show(rt)?;
-    put_numbers(rt.alloc(), &mut held)?;
-    put_vectors(rt.alloc(), &mut held)?;
+    put_numbers(rt.alloc(), held)?;
+    put_vectors(rt.alloc(), held)?;
     held.show(rt)?;
-    let sense = Sense::Max;
-    held.set_objective(LeafObjective::Plain { sense, var: 1 });
+    held.set_objective(LeafObjective::Plain {
+        sense: Sense::Max,
+        var: 1,
+    });
     held.show(rt)?;
-    let func = function(rt.alloc(), &["1/2", "-3"], "-7/2")?;
-    let sense = Sense::Min;
-    held.set_objective(LeafObjective::Affine { sense, func });
+    set_cost(rt.alloc(), held)?;
     held.show(rt)
 }
 
@@ -96,29 +111,47 @@ fn edit_each(alloc: Global, held: &mut Held) -> Result<()> {
 }
 
 fn put_numbers(alloc: Global, held: &mut Held) -> Result<()> {
-    let set = Set::EqualTo {
-        value: number("1/3")?,
-    };
-    held.put_row(at(Root::Row, 1, &[2])?, LeafRow::Plain { var: 1, set })?;
-    let func = function(alloc, &["2", "-3/4"], "5")?;
-    let set = Set::GreaterThan {
-        lower: number("-2")?,
-    };
-    held.put_row(at(Root::Row, 0, &[])?, LeafRow::Affine { func, set })?;
-    let (lower, upper) = (number("-1")?, number("1")?);
-    let func = function(alloc, &["0", "0"], "0")?;
-    let set = Set::Interval { lower, upper };
-    held.put_row(at(Root::Row, 1, &[10])?, LeafRow::Affine { func, set })
+    put_equal(held, (Root::Row, 1, &[2]), 1, "1/3")?;
+    put_at_least(
+        alloc,
+        held,
+        (Root::Row, 0, &[]),
+        (&["2", "-3/4"], "5"),
+        "-2",
+    )?;
+    put_between(alloc, held, (Root::Row, 1, &[10]), (&["0", "0"], "0"))
 }
 
 fn put_vectors(alloc: Global, held: &mut Held) -> Result<()> {
-    let func = with_component(SolverVec::new(alloc), function(alloc, &["0", "1"], "0")?)?;
-    let func = with_component(func, function(alloc, &[], "-4")?)?;
-    let func = with_component(func, function(alloc, &["1", "0"], "1/2")?)?;
+    put_three(alloc, held)?;
+    put_two(alloc, held)
+}
+
+fn put_three(alloc: Global, held: &mut Held) -> Result<()> {
     let set = Set::Nonnegatives { dimension: 3 };
-    held.put_row(at(Root::Row, 2, &[1])?, LeafRow::AffineVec { func, set })?;
-    let func = with_component(SolverVec::new(alloc), function(alloc, &[], "0")?)?;
-    let func = with_component(func, function(alloc, &["0", "-1"], "0")?)?;
+    put_vector(
+        alloc,
+        held,
+        (Root::Row, 2, &[1]),
+        &[(&["0", "1"], "0"), (&[], "-4"), (&["1"], "1/2")],
+        set,
+    )
+}
+
+fn put_two(alloc: Global, held: &mut Held) -> Result<()> {
     let set = Set::NormOneCone { dimension: 2 };
-    held.put_row(at(Root::Row, 2, &[0])?, LeafRow::AffineVec { func, set })
+    put_vector(
+        alloc,
+        held,
+        (Root::Row, 2, &[0]),
+        &[(&[], "0"), (&["0", "-1"], "0")],
+        set,
+    )
+}
+
+fn set_cost(alloc: Global, held: &mut Held) -> Result<()> {
+    let func = function(alloc, (&["1/2", "-3"], "-7/2"))?;
+    let sense = Sense::Min;
+    held.set_objective(LeafObjective::Affine { sense, func });
+    Ok(())
 }

@@ -1,9 +1,5 @@
-mod Counts
-mod Forms
-mod Located
-mod Names
-mod Pushes
-mod RowTerms
-mod Splits
+mod PlanSteps
+mod Shown
 mod Steps
-mod Unrefused
+mod TableSteps
+mod Untouched

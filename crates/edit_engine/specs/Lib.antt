@@ -1,9 +1,6 @@
-pub mod Leaves
-pub mod Model
-pub mod Name
-pub mod Numbered
-pub mod Printed
-pub mod Refusals
+pub mod Tables
 pub mod Script
-pub mod Line
-pub mod Tokens
+pub mod Lines
+pub mod LinesLaws
+pub mod Held
+pub mod ReadableLaws

@@ -1,172 +1,150 @@
--- The script machine: the state of a session, and what each line answers and leaves.
-use Rattle.std.specs.Prelude.{◌≡◌, ℕ, Bool, true, false, ◌||◌, List, [], ◌∷◌, ◌++◌, Option, Some, None, is_some, unwrap_or, IfSome, Result, IfOk, OnOk, OnErr, ◌⊎◌, if◌then◌else◌, refl}
-use Rattle.std.specs.Option.{option_map, option_map_or}
-use Rattle.lists.specs.declared.memory.Memory.{Memory}
-use Rattle.std.specs.Coded.{Coded, code_by, coded×, coded_option}
-use Rattle.std.specs.FinMap.{get, contains_key}
-use Rattle.edit_engine.specs.declared.answer.Answer.{Answer}
-use Rattle.edit_engine.specs.declared.answer.Answer.TheVariants as answer
-use Rattle.edit_engine.specs.declared.command.Command.{Command}
-use Rattle.edit_engine.specs.declared.command.Command.TheVariants.{Silent, AddVariable, AddRow, DeleteRow, Attach, Bridged, Quit}
-use Rattle.edit_engine.specs.declared.row.Domain.TheVariants.{Free}
-use Rattle.edit_engine.specs.declared.refusal.Refusal.{Refusal}
-use Rattle.edit_engine.specs.declared.refusal.Refusal.TheVariants.{BadLine, UnknownName, NotAttached, AlreadyAttached}
-use Rattle.edit_engine.specs.Leaves.{Leaves, leaves_code, no_leaves, fresh, changed}
-use Rattle.edit_engine.specs.Line.{command_of}
-use Rattle.edit_engine.specs.Model.{UserModel, model_code, empty_model, row_function}
-use Rattle.edit_engine.specs.Numbered.{with_item, without_item}
-use Rattle.edit_engine.specs.Printed.{done_text, bridged_text, refusal_text}
-use Rattle.edit_engine.specs.Refusals.{variable_refusal, row_refusal}
+-- The script machine: what each line answers in a state, and the state that it leaves. A state is
+-- the user's model, the table, and whether a solver is attached; what an attached solver holds is
+-- the fresh bridging of the model by the table, a function of these.
+--
+--     Does state command answer new       a line that says the command
+--     Steps state line answer new         a line
+--     Answered state line answer new      a line, where memory may run out
+use Rattle.std.specs.Prelude.{◌≡◌, ℕ, Bool, true, false, List, All, Option, Some, None, Result, Ok, Err, ◌⊎◌, length}
+use Rattle.std.specs.List.{zip}
+use Rattle.lists.specs.declared.memory.Memory.{Memory as NoMemory}
+use Rattle.bridge_graph.specs.Hypergraph.{Hypergraph}
+use Rattle.bridge_graph.specs.Tree.{IsLeastCost, IsTreeless}
+use Rattle.bridge_graph.specs.declared.Choice.{Choice}
+use Rattle.bridged_report.specs.Lines.{bridged_text}
+use Rattle.cache_layer.specs.Answers.{Becomes, IsAttached, IsEdited}
+use Rattle.cache_layer.specs.State.{Bridging, State, detached, leaves, with_table}
+use Rattle.cache_layer.specs.declared.fault.AttachFault.{AttachFault}
+use Rattle.cache_layer.specs.declared.fault.AttachFault.TheVariants as attach
+use Rattle.cache_layer.specs.declared.fault.EditFault.{EditFault}
+use Rattle.cache_layer.specs.declared.fault.EditFault.TheVariants as edit
+use Rattle.fresh_bridging.specs.TheRules.{IsChoice, graph_of}
+use Rattle.item_core.specs.declared.kind.Kind.{Kind}
+use Rattle.item_core.specs.declared.kind.TheConstants.{KINDS}
+use Rattle.item_core.specs.declared.table.Table.{Table}
+use Rattle.item_core.specs.Kind.{kind_number}
+use Rattle.report_core.specs.Plan.{plan_text}
+use Rattle.report_core.specs.Refused.{refusal_text, refused_of}
+use Rattle.report_core.specs.Replies.{done_text}
+use Rattle.report_core.specs.declared.answer.Answer.{Answer}
+use Rattle.report_core.specs.declared.answer.Answer.TheVariants.{Memory, Printed, Quit, Refused, Silent}
+use Rattle.report_core.specs.declared.refused.Place.TheVariants.{Line}
+use Rattle.report_core.specs.declared.refused.Refused as refusal
+use Rattle.report_core.specs.declared.refused.Refused.TheVariants.{AlreadyAttached, BadLine, NotAttached, Overflow, Unsupported}
+use Rattle.script_core.specs.declared.command.Command.{Command}
+use Rattle.script_core.specs.declared.command.Command.TheVariants as line
+use Rattle.script_core.specs.declared.fault.LineFault.{LineFault}
+use Rattle.script_core.specs.declared.fault.LineFault.TheVariants as fault
+use Rattle.script_core.specs.Line.{line_said}
+use Rattle.edit_engine.specs.Tables.{costing, supporting, switched, targeted}
 
--- the user's model, and while a solver is attached the model that it holds
-pub record State : Type 0 where
-  pub model : UserModel
-  pub solver : Option Leaves
+-- ---- what is printed
 
-abbrev pub state_code : Coded State
-state_code =
-    code_by (UserModel × Option Leaves) (coded× model_code (coded_option leaves_code))
-    (λ s. (s.model, s.solver)) (λ p. record { model = p.0; solver = p.1 }) (λ _. refl)
+abbrev pub refused : refusal.Refused → Answer
+refused r = Refused (refusal_text r)
 
--- nothing is there, and no solver is attached
-abbrev pub start : State
-start = record { model = empty_model; solver = None }
+abbrev pub done : Option ℕ → Answer
+done count = Printed (done_text count)
 
--- what an attached solver holds is the fresh bridging of the user's model
-abbrev pub IsBridged : State → Type 0
-IsBridged s = IfSome s.solver (λ leaves. leaves ≡ fresh s.model)
+abbrev pub edit_answer : Result (Option ℕ) EditFault → Answer
+edit_answer (Ok count) = done count
+edit_answer (Err (edit.Refused r)) = refused (refused_of r)
+edit_answer (Err (edit.Unsupported kind)) = refused (Unsupported kind)
+edit_answer (Err (edit.Overflow place)) = refused (Overflow place)
+edit_answer (Err edit.Memory) = Memory
+
+abbrev pub attach_answer : Result ℕ AttachFault → Answer
+attach_answer (Ok count) = done (Some count)
+attach_answer (Err attach.AlreadyAttached) = refused AlreadyAttached
+attach_answer (Err (attach.Unsupported kind)) = refused (Unsupported kind)
+attach_answer (Err (attach.Overflow place)) = refused (Overflow place)
+attach_answer (Err attach.Memory) = Memory
 
 -- ---- one line
 
--- the refusal that a line of the grammar meets, if any
-abbrev pub refusal_of : State → Command → Option Refusal
-refusal_of s (AddVariable name) = variable_refusal s.model name
-refusal_of s (AddRow row) = row_refusal s.model row
-refusal_of s (DeleteRow name) =
-    if contains_key s.model.rows.numbers name then None else Some UnknownName
-refusal_of s Attach = if is_some s.solver then Some AlreadyAttached else None
-refusal_of s Bridged = if is_some s.solver then None else Some NotAttached
-refusal_of s Silent = None
-refusal_of s Quit = None
+-- what may be answered in a state, and the state that is left
+abbrev pub Step : Type 1
+Step = Answer → State → Type 0
 
--- the model after an accepted line
-abbrev pub edited : UserModel → Command → UserModel
-edited model (AddVariable name) = record model { variables = with_item model.variables name Free }
-edited model (AddRow row) = record model {
-  rows = with_item model.rows row.name
-      (record { function = row_function model.variables row.terms; lower = row.lower });
-}
-edited model (DeleteRow name) =
-    record model { rows = without_item model.rows name (unwrap_or (get model.rows.numbers name) 0) }
-edited model Attach = model
-edited model Bridged = model
-edited model Silent = model
-edited model Quit = model
+-- what a call may give, as it is printed
+abbrev pub Tells : {A : Type 0} → (A → Answer) → (A → State → Type 0) → Step
+Tells {A} text gives answer new = (given : A) × gives given new × (answer ≡ text given)
 
--- a solver that is attached, or becomes so, holds the fresh bridging of the model
-abbrev pub with_model : Bool → UserModel → State
-with_model attached model =
-    record { model = model; solver = if attached then Some (fresh model) else None }
+-- nothing but the answer
+abbrev pub Says : State → Answer → Step
+Says s said answer new = (answer ≡ said) × (new ≡ s)
 
--- the state after an accepted line
-unfoldable pub accepted_state : State → Command → State
-accepted_state s Attach = with_model true s.model
-accepted_state s Bridged = s
-accepted_state s Silent = s
-accepted_state s Quit = s
-accepted_state s command = with_model (is_some s.solver) (edited s.model command)
+-- the table is changed
+abbrev pub Tabled : State → (Table → Table) → Step
+Tabled s change = Tells edit_answer (Becomes s (with_table s (change s.setting.table)))
 
--- at how many addresses the solver's model changed, where one is attached afterwards
-abbrev pub changes : State → State → Option ℕ
-changes old new = option_map (changed (unwrap_or old.solver no_leaves)) new.solver
+-- the solver is let go, where one is attached
+abbrev pub Detaches : Bool → State → Step
+Detaches true s answer new = (answer ≡ done None) × (new ≡ detached s)
+Detaches false s answer new = Says s (refused NotAttached) answer new
 
-abbrev pub done_answer : Option ℕ → Answer
-done_answer changes = answer.Printed (done_text changes)
+-- what the solver holds, where one is attached
+abbrev pub Shows : Bool → State → Step
+Shows true s answer new =
+    (b : Bridging s) × Says s (Printed (bridged_text s.model (leaves b))) answer new
+Shows false s answer new = Says s (refused NotAttached) answer new
 
-unfoldable pub accepted_answer : State → Command → Answer
-accepted_answer s Silent = answer.Silent
-accepted_answer s Quit = answer.Quit
-accepted_answer s Bridged = answer.Printed (bridged_text s.model (unwrap_or s.solver no_leaves))
-accepted_answer s command = done_answer (changes s (accepted_state s command))
+-- the least cost of the kind's trees, if it has any
+abbrev pub IsCost : Hypergraph → ℕ → Option ℕ → Type 0
+IsCost graph kind None = IsTreeless graph kind
+IsCost graph kind (Some cost) = IsLeastCost graph kind cost
 
--- a refused line is answered by its refusal, and leaves the state
-abbrev pub refused_answer : Refusal → Answer
-refused_answer refusal = answer.Refused (refusal_text refusal)
+-- how the kind is bridged at least cost
+abbrev pub IsChosen : Hypergraph → Kind × (Choice × Option ℕ) → Type 0
+IsChosen graph (kind, (choice, cost)) =
+    IsChoice graph (kind_number kind) choice × IsCost graph (kind_number kind) cost
 
-abbrev pub answer_to_command : State → Option Command → Answer
-answer_to_command s None = refused_answer BadLine
-answer_to_command s (Some command) =
-    option_map_or refused_answer (refusal_of s command) (accepted_answer s command)
+-- so each kind
+pub record IsPlan (graph : Hypergraph) (choices : List (Choice × Option ℕ)) : Type 0 where
+  pub count : length choices ≡ length KINDS.kinds
+  pub each : All (IsChosen graph) (zip KINDS.kinds choices)
 
-abbrev pub state_after_command : State → Option Command → State
-state_after_command s None = s
-state_after_command s (Some command) =
-    if is_some (refusal_of s command) then s else accepted_state s command
+abbrev pub Plans : State → Step
+Plans s answer new =
+    (choices : List (Choice × Option ℕ)) × IsPlan (graph_of s.setting) choices
+    × Says s (Printed (plan_text choices)) answer new
 
-unfoldable pub answer_to : State → List ℕ → Answer
-answer_to s line = answer_to_command s (command_of line)
+abbrev pub Does : State → Command → Step
+Does s line.Silent = Says s Silent
+Does s line.Quit = Says s Quit
+Does s (line.Edit e) = Tells edit_answer (IsEdited s e)
+Does s (line.Target target) = Tabled s (targeted target)
+Does s (line.Support kind value) = Tabled s (supporting kind value)
+Does s (line.Cost edge cost) = Tabled s (costing edge cost)
+Does s (line.Switch family value) = Tabled s (switched family value)
+Does s line.Attach = Tells attach_answer (IsAttached s)
+Does s line.Detach = Detaches s.attached s
+Does s line.Bridged = Shows s.attached s
+Does s line.Plan = Plans s
+Does s (line.Optimize pivots) = Says s (refused BadLine)
+Does s line.Write = Says s (refused BadLine)
+Does s (line.Load name) = Says s (refused BadLine)
 
-unfoldable pub state_after : State → List ℕ → State
-state_after s line = state_after_command s (command_of line)
+abbrev pub DoesSaid : State → Result Command LineFault → Step
+DoesSaid s (Ok command) = Does s command
+DoesSaid s (Err fault.BadLine) = Says s (refused BadLine)
+DoesSaid s (Err fault.Overflow) = Says s (refused (Overflow Line))
+DoesSaid s (Err fault.Memory) = Says s Memory
 
--- ---- a list of lines
-
--- what an answer prints
-abbrev pub printed : Answer → List ℕ
-printed (answer.Printed text) = text
-printed (answer.Refused text) = text
-printed answer.Silent = []
-printed answer.Quit = []
-printed answer.Memory = []
-
-abbrev pub is_quit : Answer → Bool
-is_quit answer.Quit = true
-is_quit a = false
-
-abbrev pub is_refusal : Answer → Bool
-is_refusal (answer.Refused text) = true
-is_refusal a = false
-
--- what is printed for the lines, up to their end or the first that ends the work
-abbrev pub answers : State → List (List ℕ) → List ℕ
-answers s [] = []
-answers s (line ∷ lines) = printed (answer_to s line)
-    ++ (if is_quit (answer_to s line) then [] else answers (state_after s line) lines)
-
--- whether one of those lines is refused
-abbrev pub any_refused : State → List (List ℕ) → Bool
-any_refused s [] = false
-any_refused s (line ∷ lines) = is_refusal (answer_to s line)
-    || (if is_quit (answer_to s line) then false else any_refused (state_after s line) lines)
-
--- whether one of the lines ends the work
-abbrev pub quits : State → List (List ℕ) → Bool
-quits s [] = false
-quits s (line ∷ lines) = is_quit (answer_to s line) || quits (state_after s line) lines
+abbrev pub Steps : State → List ℕ → Step
+Steps s line = DoesSaid s (line_said line)
 
 -- ---- want of memory
 
-abbrev pub OnAnswered : Answer → Type 0 → Type 0
-OnAnswered answer.Memory P = Unit {0}
-OnAnswered a P = P
+-- the state is the one before, that one without its solver, or one that the step leaves
+abbrev pub IsLeftBy : Step → State → State → Type 0
+IsLeftBy step old new = (new ≡ old) ⊎ (new ≡ detached old) ⊎ ((answer : Answer) × step answer new)
 
-abbrev pub OnMemory : Answer → Type 0 → Type 0
-OnMemory answer.Memory P = P
-OnMemory a P = Unit {0}
+-- a step is made, or memory runs out on the way
+abbrev pub Makes : Step → State → Result Answer NoMemory → State → Type 0
+Makes step old (Ok answer) new = step answer new
+Makes step old (Err memory) new = IsLeftBy step old new
 
--- the state is the one before the line, or the model is the one after it and no solver is attached
-abbrev pub IsBetween : State → State → State → Type 0
-IsBetween old after new = (new ≡ old) ⊎ ((new.model ≡ after.model) × (new.solver ≡ None))
-
--- one step of the machine, for what a line says
-pub record Steps (old : State) (command : Option Command) (result : Result Answer Memory)
-    (new : State) : Type 0 where
-  pub answer : IfOk result (λ a. a ≡ answer_to_command old command)
-  pub state : OnOk result (new ≡ state_after_command old command)
-  pub memory : OnErr result (IsBetween old (state_after_command old command) new)
-
--- an attached solver got the fresh bridging of the model, and what changed there was told
-pub record IsBridgedAnew (old : State) (attached : Bool) (result : Result Answer Memory)
-    (new : State) : Type 0 where
-  pub state : OnOk result (new ≡ with_model attached old.model)
-  pub answer : IfOk result (λ a. a ≡ done_answer (changes old (with_model attached old.model)))
+abbrev pub Answered : State → List ℕ → Answer → State → Type 0
+Answered old line Memory new = IsLeftBy (Steps old line) old new
+Answered old line answer new = Steps old line answer new

@@ -1,24 +1,12 @@
-//! The script machine: a user's model, the model of an attached solver, and one step for each line.
+//! The session of a script: each line is a step of the script machine.
 #![tactic(auto)]
 
-mod answer;
-pub mod command;
-pub mod grammar;
-mod leaf_row;
-mod leaves;
-mod limits;
-mod line;
-mod model;
-pub mod name;
-mod numbered;
-mod printed;
-mod refusal;
-mod row;
-mod row_function;
+mod held;
+mod lines;
+mod plan;
 mod session;
-pub mod terms;
-mod tokens;
+mod tables;
 
-pub use answer::Answer;
-pub use line::Line;
-pub use session::Session;
+pub use cache_layer::Cache;
+pub use report_core::Answer;
+pub use session::{Session, SessionOver};

@@ -1,5 +1,6 @@
 -- Where lines begin and end in a text.
 use Rattle.std.proofs.Common.{◌≡◌, ℕ, ◌+◌, ◌-◌, ◌<◌, ◌≤◌, Bool, false, List, [], ◌∷◌, ◌++◌, length, take, drop, get_or, refl, sym, ◌∙◌, ap, subst, inl, inr, arith, eqb}
+use Rattle.std.specs.Prelude.{map}
 use Rattle.std.specs.List.{slice_split, onto_first}
 use Rattle.std.specs.Str.Lines.{strip_carriage_return, lines, lines_of_parts}
 use Rattle.std.proofs.lemmas.List.{length-take, get_or-take, take-append-drop, drop_more, drop-take, drop-drop}
@@ -7,7 +8,7 @@ use Rattle.std.proofs.lemmas.List.Elements.{All-from_get_or}
 use Rattle.std.proofs.lemmas.List.Splits.{slice_split_none, slice_split_at}
 use Rattle.std.proofs.lemmas.Bool.{false_from_ne_true, cases_Bool, eqb-true, ne_eqb, cond-false, cond-true}
 use Rattle.memchr.specs.Find.{Nowhere, NoneBefore, Passes, is_byte}
-use Rattle.moi_edit.specs.Lines.{ended_parts, ended_lines, IsUnended}
+use Rattle.moi_edit.specs.Lines.{ended_parts, ended_lines, stripped_parts, IsUnended}
 
 -- what stands before the first newline has none
 pub unended_front : (held : List ℕ) (n : ℕ) → NoneBefore (Passes (is_byte 10) held) 0 (length held) n → IsUnended (take n held)
@@ -50,6 +51,13 @@ ended_lines-ended raw text none =
     let more = parts-some (λ b. eqb b 10) text in
     ap ended_parts (slice_split_at (λ b. eqb b 10) raw 10 text none refl ∙ ap (λ parts. raw ∷ parts) more.2)
     ∙ ap (λ parts. strip_carriage_return raw ∷ ended_parts parts) (sym more.2)
+
+-- the same of the parts
+pub stripped_parts-unended : (text : List ℕ) → IsUnended text → stripped_parts text ≡ strip_carriage_return text ∷ []
+stripped_parts-unended text none = ap (map strip_carriage_return) (slice_split_none (λ b. eqb b 10) text none)
+
+pub stripped_parts-ended : (raw text : List ℕ) → IsUnended raw → stripped_parts (raw ++ 10 ∷ text) ≡ strip_carriage_return raw ∷ stripped_parts text
+stripped_parts-ended raw text none = ap (map strip_carriage_return) (slice_split_at (λ b. eqb b 10) raw 10 text none refl)
 
 -- the range of a buffer, as its beginning less what was given
 pub range_held : (start end : ℕ) (items : List ℕ) → start ≤ end → take (end - start) (drop start items) ≡ drop start (take end items)

@@ -8,13 +8,15 @@ use Rattle.std.proofs.Math.Seq.{take-append-add}
 use Rattle.std.proofs.lemmas.List.Elements.{All-push, All-nil, All-append}
 use Rattle.std.proofs.lemmas.List.Sums.{take_while-cons}
 use Rattle.std.proofs.lemmas.Bool.{cases_Bool, eqb-true, eqb-false, leb-true, leb-false, lt-leb, cond-false, cond-true, cond_both}
+use Rattle.io_face.specs.Source.{Takes}
+use Rattle.io_face.specs.SourceLaws.{Takes-append, Takes-empty}
 use Rattle.moi_edit.specs.declared.line_reader.Next.{Next}
 use Rattle.moi_edit.specs.declared.line_reader.Next.TheVariants.{End, LastLine}
 use Rattle.moi_edit.specs.declared.line_reader.ReadStop.{ReadStop}
 use Rattle.moi_edit.specs.declared.line_reader.ReadStop.TheVariants.{TooLong}
 use Rattle.moi_edit.specs.Limits.{line_limit}
 use Rattle.moi_edit.specs.Lines.{ended_lines, IsUnended, is_short}
-use Rattle.moi_edit.specs.Reading.{Held, allowance, rest_of, HasLongLine, IsTooLong}
+use Rattle.moi_edit.specs.Reading.{Held, allowance, rest_of, HasLongLine, IsTooLong, TakesAtMost}
 use Rattle.moi_edit.proofs.LineLemmas.{ended_lines-unended, ended_lines-ended, lines-unended, lines-ended}
 
 -- bytes before known bytes
@@ -219,3 +221,35 @@ last_line_is_long n answer is too_long = elim (cases_Bool (n == 0)) [
     | inr long ↦ leb-false n line_limit long
   ]
 ]
+
+-- ---- how much was taken
+
+-- what was taken, by how much may still be read
+pub record TookSoFar (left left' : Option (List ℕ)) (room room' : ℕ) : Type 0 where
+  pub taken : List ℕ
+  pub takes : Takes left left' taken
+  pub counted : length taken + room' ≡ room
+
+pub took_nothing : (left : Option (List ℕ)) (room : ℕ) → TookSoFar left left room room
+took_nothing left room = record { taken = []; takes = Takes-empty left; counted = omega arith }
+
+pub took_more : (left mid left' : Option (List ℕ)) (room : ℕ) (reader reader' : Held) → TookSoFar left mid room reader.room
+    → reader.held ≡ [] → Takes mid left' reader'.held → allowance reader' ≡ allowance reader → TookSoFar left left' room reader'.room
+took_more left mid left' room reader reader' so_far none takes same = record {
+  taken = so_far.taken ++ reader'.held;
+  takes = Takes-append left mid left' so_far.taken reader'.held so_far.takes takes;
+  counted = omega (arith, so_far.counted, same, ap length none, length-append so_far.taken reader'.held);
+}
+
+pub took_at_most : (left mid left' : Option (List ℕ)) (room room' : ℕ) → TookSoFar left mid room room' → TakesAtMost (room' + 1) mid left' → TakesAtMost (room + 1) left left'
+took_at_most left mid left' room room' so_far last = record {
+  taken = so_far.taken ++ last.taken;
+  takes = Takes-append left mid left' so_far.taken last.taken so_far.takes last.takes;
+  few = omega (arith, so_far.counted, last.few, length-append so_far.taken last.taken);
+}
+
+pub takes_nothing : (most : ℕ) (left left' : Option (List ℕ)) → left' ≡ left → TakesAtMost most left left'
+takes_nothing most left left' same = record { taken = []; takes = subst (λ l. Takes left l []) (sym same) (Takes-empty left); few = omega arith }
+
+pub takes_more : (most more : ℕ) (left left' : Option (List ℕ)) → most ≤ more → TakesAtMost most left left' → TakesAtMost more left left'
+takes_more most more left left' fits takes = record { taken = takes.taken; takes = takes.takes; few = omega (arith, fits, takes.few) }

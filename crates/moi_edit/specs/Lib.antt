@@ -2,4 +2,5 @@ pub mod Limits
 pub mod Lines
 pub mod Reading
 pub mod Status
+pub mod Words
 pub mod Run

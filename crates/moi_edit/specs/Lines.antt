@@ -1,8 +1,12 @@
 -- The lines of a script, and how long they may be.
-use Rattle.std.specs.Prelude.{◌≡◌, ℕ, ◌==◌, Bool, false, List, [], ◌∷◌, length, nat_le, All}
+use Rattle.std.specs.Prelude.{◌≡◌, ℕ, ◌==◌, Bool, false, List, [], ◌∷◌, length, map, nat_le, All}
 use Rattle.std.specs.List.{slice_split}
 use Rattle.std.specs.Str.Lines.{strip_carriage_return}
 use Rattle.moi_edit.specs.Limits.{line_limit}
+
+-- the parts of a text between newlines, each without the one carriage return at its end
+abbrev pub stripped_parts : List ℕ → List (List ℕ)
+stripped_parts text = map strip_carriage_return (slice_split (λ byte. byte == 10) text)
 
 -- all parts between newlines but the last, each without the one carriage return at its end
 abbrev pub ended_parts : List (List ℕ) → List (List ℕ)

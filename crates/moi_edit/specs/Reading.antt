@@ -2,6 +2,7 @@
 use Rattle.std.specs.Prelude.{◌≡◌, ℕ, ◌+◌, ◌<◌, ◌≤◌, ◌⊎◌, List, [], ◌∷◌, ◌++◌, length, take, take_while, Option}
 use Rattle.std.specs.Str.Lines.{strip_carriage_return, lines}
 use Rattle.std.specs.Io.KnownBytes.{prepend_known, IsAtEnd}
+use Rattle.io_face.specs.Source.{Takes}
 use Rattle.moi_edit.specs.Limits.{line_limit}
 use Rattle.moi_edit.specs.Lines.{ended_lines, IsUnended, is_short}
 
@@ -41,11 +42,18 @@ pub record GivesLastLine (old : Held) (left left' : Option (List ℕ)) (line : L
 abbrev pub GivesNothing : Held → Option (List ℕ) → Option (List ℕ) → Type 0
 GivesNothing old left left' = IsAtEnd (rest_of old left) × (rest_of old left ≡ left')
 
--- no newline stands in what was taken and not given
+-- no newline stands in what was taken and not given, and it is no longer than a line may be
 pub record LosesPart (old : Held) (left left' : Option (List ℕ)) : Type 0 where
   pub part : List ℕ
   pub unended : IsUnended part
+  pub short : length (strip_carriage_return part) ≤ line_limit
   pub kept : rest_of old left ≡ prepend_known part left'
+
+-- so many bytes were taken, or fewer
+pub record TakesAtMost (most : ℕ) (left left' : Option (List ℕ)) : Type 0 where
+  pub taken : List ℕ
+  pub takes : Takes left left' taken
+  pub few : length taken ≤ most
 
 -- the first line is too long
 pub record HasLongLine (text : List ℕ) : Type 0 where

@@ -6,6 +6,7 @@ ghost use Rattle.io_face.specs.Fault.{HasFaulted};
 ghost use Rattle.io_face.specs.Source.{Takes};
 ghost use Rattle.moi_edit.specs.Limits.{line_limit, input_limit};
 ghost use Rattle.moi_edit.specs.Lines.{IsUnended};
+ghost use Rattle.moi_edit.specs.Reading.{TakesAtMost};
 
 use io_face::Source;
 use memchr::memchr;
@@ -124,6 +125,7 @@ impl LineReader {
         ensures too_long { result ≡ Err ReadStop.TooLong → (self.old.room ≡ 0)
             × IfSome (I.left input.old) (λ left. 0 < length left) }
         ensures no_memory { result ≢ Err ReadStop.Memory }
+        ensures taken { TakesAtMost (self.old.room + 1) (I.left input.old) (I.left input.new) }
         ensures count { I.faults input.old ≤ I.faults input.new }
     {
         if self.room == 0 {
@@ -156,6 +158,7 @@ impl LineReader {
             × HasFaulted (I.faults input.old) (I.faults input.new) }
         ensures too_long { result ≡ Err ReadStop.TooLong
             → IfSome (rest_of self.old (I.left input.old)) (IsTooLong (allowance self.old)) }
+        ensures taken { TakesAtMost (self.old.room + 1) (I.left input.old) (I.left input.new) }
         ensures count { I.faults input.old ≤ I.faults input.new }
     {
         line.clear();
@@ -188,6 +191,7 @@ fn read_front<I: Source>(input: &mut I, buffer: &mut [u8], most: usize) -> Resul
     ensures read_fault { OnErr result ((I.left input.new ≡ I.left input.old)
         × HasFaulted (I.faults input.old) (I.faults input.new)) }
     ensures only_read_fault { IfErr result (λ stop. stop ≡ ReadStop.ReadFault) }
+    ensures few { TakesAtMost most (I.left input.old) (I.left input.new) }
     ensures count { I.faults input.old ≤ I.faults input.new }
 {
     match input.read(&mut buffer[..most]) {
@@ -205,6 +209,7 @@ fn probe<I: Source>(input: &mut I) -> Result<bool, ReadStop>
     ensures too_long { result ≡ Err ReadStop.TooLong
         → IfSome (I.left input.old) (λ left. 0 < length left) }
     ensures no_memory { result ≢ Err ReadStop.Memory }
+    ensures few { TakesAtMost 1 (I.left input.old) (I.left input.new) }
     ensures count { I.faults input.old ≤ I.faults input.new }
 {
     let mut byte = [0u8; 1];

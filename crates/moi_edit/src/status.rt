@@ -1,11 +1,11 @@
 //! How a run ends.
 ghost use Rattle.std.specs.Prelude.{◌≡◌};
-ghost use Rattle.moi_edit.specs.Status.{status_of_stop, status_of_fault};
+ghost use Rattle.moi_edit.specs.Status.{exit_number, status_of_stop, status_of_fault};
 
 use crate::line_reader::ReadStop;
 use io_face::SinkFault;
 
-/// How a run ended; its number is the exit status of the program.
+/// How a run ended.
 #[derive(Clone, Copy, Debug, PartialEq, Eq)]
 pub enum Status {
     /// The work ended, and no line was refused.
@@ -20,6 +20,15 @@ pub enum Status {
     Memory = 5,
     /// A line or the input is too long.
     TooLong = 6,
+}
+
+impl Status {
+    /// The exit status of the program.
+    pub fn number(self) -> u8
+        ensures { result ≡ exit_number self }
+    {
+        self as u8
+    }
 }
 
 impl From<ReadStop> for Status {

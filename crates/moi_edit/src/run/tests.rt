@@ -1,8 +1,10 @@
 //! Runs over sources and sinks that give and take single bytes, or fail at one call.
 
-ghost use Rattle.std.specs.Prelude.{◌≤◌};
+ghost use Rattle.std.specs.Prelude.{◌≡◌, ◌≤◌, IfOk, false};
+ghost use Rattle.edit_engine.specs.Held.{state_of};
 
 use super::*;
+use bridges_flip::GreaterLess;
 use io_face::{Calls, MemSink, MemSource};
 use std::alloc::AllocError;
 
@@ -19,6 +21,15 @@ fn words_of(alloc: Global, texts: &[&str]) -> Result<Vec<String>, AllocError> {
         words.push(String::from_str(alloc, text)?)?;
     }
     Ok(words)
+}
+
+/// A new session with one bridge, which turns rows that are at least a number round.
+fn session_of(alloc: Global) -> Result<SessionOver<GreaterLess>, AllocError>
+    ensures { IfOk result (λ session. (state_of session).attached ≡ false) }
+{
+    let mut bridges = Vec::new(alloc);
+    bridges.push(GreaterLess::new(alloc))?;
+    Ok(SessionOver::new(alloc, bridges))
 }
 
 /// A script of which a read gives so many bytes; the read of this number fails, 0 being none.
@@ -47,7 +58,8 @@ fn status_by_single_bytes(alloc: Global) -> Result<Option<Status>, AllocError> {
     let words = words_of(alloc, &COMMAND)?;
     let mut input = input_of(alloc, SCRIPT.as_bytes(), 1, 0)?;
     let mut output = output_of(alloc, 1, 0)?;
-    let status = run(alloc, &words, &mut input, &mut output);
+    let mut session = session_of(alloc)?;
+    let status = run(alloc, &words, &mut input, &mut output, &mut session);
     Ok((output.written() == TEXT.as_bytes()).then_some(status))
 }
 
@@ -66,7 +78,8 @@ fn stopped(
     let words = words_of(alloc, &COMMAND)?;
     let mut input = input_of(alloc, SCRIPT.as_bytes(), 8, failing_read)?;
     let mut output = output_of(alloc, 8, failing_write)?;
-    let status = run(alloc, &words, &mut input, &mut output);
+    let mut session = session_of(alloc)?;
+    let status = run(alloc, &words, &mut input, &mut output, &mut session);
     Ok(
         TEXT.as_bytes()
             .starts_with(output.written())
@@ -97,7 +110,8 @@ fn status_of_a_longer_line(alloc: Global) -> Result<Option<Status>, AllocError> 
     let script = vec![in alloc; b'a'; 65_537]?;
     let mut input = input_of(alloc, &script, 4096, 0)?;
     let mut output = output_of(alloc, 4096, 0)?;
-    let status = run(alloc, &words, &mut input, &mut output);
+    let mut session = session_of(alloc)?;
+    let status = run(alloc, &words, &mut input, &mut output, &mut session);
     Ok(output.written().is_empty().then_some(status))
 }
 
@@ -108,10 +122,11 @@ fn stops_at_a_longer_line(rt: HostRuntime) {
 
 /// The status that other words end a run with, which writes nothing.
 fn status_of_other_words(alloc: Global) -> Result<Option<Status>, AllocError> {
-    let words = words_of(alloc, &["solve"])?;
+    let words = words_of(alloc, &["run", "--target", "less", "--target=rows"])?;
     let mut input = input_of(alloc, SCRIPT.as_bytes(), 4096, 0)?;
     let mut output = output_of(alloc, 4096, 0)?;
-    let status = run(alloc, &words, &mut input, &mut output);
+    let mut session = session_of(alloc)?;
+    let status = run(alloc, &words, &mut input, &mut output, &mut session);
     Ok(output.written().is_empty().then_some(status))
 }
 

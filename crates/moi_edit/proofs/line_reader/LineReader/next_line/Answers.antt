@@ -6,7 +6,7 @@ use Rattle.std.proofs.lemmas.Bool.{cases_Bool}
 use Rattle.std.proofs.lemmas.Result.{err_from_is_err_and}
 use Rattle.io_face.specs.FaultLaws.{HasFaulted-within}
 use Rattle.moi_edit.specs.Limits.{line_limit}
-use Rattle.moi_edit.proofs.ReadingLemmas.{ended_turn, unended_turn, more_read, line_too_long, part_too_long, end_too_long, input_too_long, strip-front, last_line_fits, last_line_is_long}
+use Rattle.moi_edit.proofs.ReadingLemmas.{ended_turn, unended_turn, more_read, line_too_long, part_too_long, end_too_long, input_too_long, strip-front, last_line_fits, last_line_is_long, TookSoFar, took_at_most, took_more}
 use Rattle.moi_edit.proofs.line_reader.LineReader.next_line.Goals as goal
 
 pub returns-then-len-gt-LINE_LIMIT-clause-too_long : goal.returns-then-len-gt-LINE_LIMIT-clause-too_long
@@ -38,8 +38,9 @@ returns-in_err-fill-clause-read_fault g c is =
     let exit = err_from_is_err_and c.from_residual-in_err-fill.result c.from_residual-in_err-fill.ensures.1 in
     let same : exit.0 ≡ c.in_err-fill.field-0.0 = exit.2 in
     let fault = c.in_err-fill.ensures.read_fault cc in
+    let len : c.stripped_len-len.result ≡ length (strip_carriage_return line) = c.stripped_len-len.ensures ∙ ap (λ t. length (strip_carriage_return t)) c.deref.ensures.value in
     let moved = unended_turn _ _ _ _ c.reading.self c.move_held.new.self _ c.reading.invariant.so_far (c.in_ok-is_ended.ensures.unended (ap Ok c.if-is_ended.false)) c.in_ok-is_ended.ensures.room in (
-      record { part = line; unended = moved.unended; kept = moved.kept ∙ ap (prepend_known line) (sym fault.0) },
+      record { part = line; unended = moved.unended; short = omega (arith, len, c.if-len-gt-LINE_LIMIT.false); kept = moved.kept ∙ ap (prepend_known line) (sym fault.0) },
       HasFaulted-within _ _ _ _ c.reading.invariant.faults (omega arith) fault.1,
     )
 
@@ -59,6 +60,7 @@ reading-preserved g c =
     let more = c.in_ok-fill.ensures.more (ap Ok c.if-not-branch.false) in
     record {
       so_far = more_read _ _ _ c.move_held.new.self c.fill.new.self _ _ moved nothing more.0 more.2;
+      taken = took_more _ _ _ _ c.move_held.new.self c.fill.new.self (subst (TookSoFar _ _ _) (sym c.in_ok-is_ended.ensures.room) c.reading.invariant.taken) nothing more.0 more.2;
       faults = omega (arith, c.reading.invariant.faults, c.in_ok-fill.ensures.count);
     }
 
@@ -86,3 +88,7 @@ returns-then-not-branch-clause-too_long g c is =
     let size : length c.deref-then-not-branch.result.now ≡ length line = ap length c.deref-then-not-branch.ensures.value in
     let long = last_line_is_long (length c.deref-then-not-branch.result.now) c.last_line.result c.last_line.ensures is in
     end_too_long _ _ line c.move_held.new.self.room (g.I.Source.left c.reading.input) moved end.0 (omega (arith, size, long))
+
+pub returns-in_err-fill-clause-taken : goal.returns-in_err-fill-clause-taken
+returns-in_err-fill-clause-taken g c =
+    took_at_most _ _ _ _ c.move_held.new.self.room (subst (TookSoFar _ _ _) (sym c.in_ok-is_ended.ensures.room) c.reading.invariant.taken) c.in_err-fill.ensures.taken

@@ -1,0 +1,28 @@
+-- What contracts see of a session: its cache, and how many pivots a solve may take where its line
+-- names no number.
+use Rattle.std.specs.Prelude.{ℕ, refl}
+use Rattle.std.specs.Coded.{Coded, code_by, coded×, coded_ℕ}
+use Rattle.cache_layer.specs.Cached.{Cached, cached_code}
+use Rattle.cache_layer.specs.Cached as cached
+use Rattle.cache_layer.specs.Answers.{IsUntouched}
+use Rattle.cache_layer.specs.State.{State}
+use Rattle.report_core.specs.declared.answer.Answer.{Answer}
+use Rattle.report_core.specs.declared.answer.Answer.TheVariants.{Refused}
+
+pub record Held : Type 0 where
+  pub cache : Cached
+  pub pivots : ℕ
+
+abbrev pub held_code : Coded Held
+held_code =
+    code_by (Cached × ℕ) (coded× cached_code coded_ℕ) (λ s. (s.cache, s.pivots))
+    (λ p. record { cache = p.0; pivots = p.1 }) (λ _. refl)
+
+-- the state that lines step over
+abbrev pub state_of : Held → State
+state_of session = cached.state_of session.cache
+
+-- a refused line leaves all of the cache but its boxes' turns
+abbrev pub KeepsRefused : Answer → Cached → Cached → Type 0
+KeepsRefused (Refused text) old new = IsUntouched old new
+KeepsRefused answer old new = Unit {0}

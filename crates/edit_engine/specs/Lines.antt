@@ -1,0 +1,40 @@
+-- Lines, one after another: which of them are heard, what they are answered, and the state that
+-- they leave.
+use Rattle.std.specs.Prelude.{ℕ, Bool, true, false, ◌||◌, List, [], ◌∷◌, ◌++◌, Result, Ok, if◌then◌else◌}
+use Rattle.cache_layer.specs.State.{State}
+use Rattle.edit_engine.specs.Script.{Steps}
+use Rattle.report_core.specs.declared.answer.Answer.{Answer}
+use Rattle.report_core.specs.declared.answer.Answer.TheVariants.{Printed, Quit, Refused, Silent}
+use Rattle.script_core.specs.Line.{line_said}
+use Rattle.script_core.specs.declared.command.Command.{Command}
+use Rattle.script_core.specs.declared.command.Command.TheVariants as line
+use Rattle.script_core.specs.declared.fault.LineFault.{LineFault}
+
+abbrev pub is_quit : Result Command LineFault → Bool
+is_quit (Ok line.Quit) = true
+is_quit said = false
+
+-- the line ends the work
+unfoldable pub says_quit : List ℕ → Bool
+says_quit line = is_quit (line_said line)
+
+-- the lines up to their end, or through the first that ends the work
+abbrev pub heard : List (List ℕ) → List (List ℕ)
+heard [] = []
+heard (line ∷ lines) = line ∷ (if says_quit line then [] else heard lines)
+
+-- what an answer prints, and whether it is a refusal; the other answers stop the work
+pub data Prints : Answer → List ℕ → Bool → Type 0 where
+  silent : Prints Silent [] false
+  accepted : {text : List ℕ} → Prints (Printed text) text false
+  refusal : {text : List ℕ} → Prints (Refused text) text true
+  quit : Prints Quit [] false
+
+-- from a state the lines, one after another, are answered by a text; whether one of them was
+-- refused; and the state that they leave
+pub data Answers : State → List (List ℕ) → List ℕ → Bool → State → Type 0 where
+  none : {s : State} → Answers s [] [] false s
+  next : {s middle new : State} {line text more : List ℕ} {lines : List (List ℕ)}
+      {answer : Answer} {was any : Bool} → Steps s line answer middle → Prints answer text was
+      → Answers middle lines more any new
+      → Answers s (line ∷ lines) (text ++ more) (was || any) new

@@ -1,0 +1,25 @@
+-- What lines do to a table.
+use Rattle.std.specs.Prelude.{ℕ, Bool, slice_set}
+use Rattle.fresh_bridging.specs.TheRules.{family_number}
+use Rattle.item_core.specs.declared.edge.Edge.{Edge}
+use Rattle.item_core.specs.declared.family.Family.{Family}
+use Rattle.item_core.specs.declared.kind.Kind.{Kind}
+use Rattle.item_core.specs.declared.table.Table.{Table}
+use Rattle.item_core.specs.declared.table.Target.{Target}
+use Rattle.item_core.specs.Edge.{edge_number}
+use Rattle.item_core.specs.Kind.{kind_number}
+use Rattle.item_core.specs.Table.{supported_by}
+
+-- the target's kinds alone are supported; switches and costs stay
+abbrev pub targeted : Target → Table → Table
+targeted target table = record table { supported = supported_by target }
+
+abbrev pub supporting : Kind → Bool → Table → Table
+supporting kind value table =
+    record table { supported = slice_set table.supported (kind_number kind) value }
+
+abbrev pub costing : Edge → ℕ → Table → Table
+costing edge cost table = record table { cost = slice_set table.cost (edge_number edge) cost }
+
+abbrev pub switched : Family → Bool → Table → Table
+switched family value table = record table { on = slice_set table.on (family_number family) value }

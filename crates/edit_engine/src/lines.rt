@@ -1,0 +1,201 @@
+//! What lines do to a cache: for each a step of the script machine.
+ghost use Rattle.std.specs.Prelude.{◌≡◌, IfOk, IsTrue, OnErr, OnOk, false};
+ghost use Rattle.std.specs.List.{list_all};
+ghost use Rattle.bridge_graph.specs.Hypergraph.{is_edge_cost};
+ghost use Rattle.cache_layer.specs.Answers.{Becomes, IsAttached, IsEdited};
+ghost use Rattle.cache_layer.specs.Cached.{state_of};
+ghost use Rattle.cache_layer.specs.State.{with_table};
+ghost use Rattle.lazy_bridge.specs.Native.{supports_native};
+ghost use Rattle.report_core.specs.Refused.{HasFault};
+ghost use Rattle.edit_engine.specs.Held.{KeepsRefused};
+ghost use Rattle.edit_engine.specs.Script.{Detaches, Does, Makes, Plans, Shows, Steps, Tells, attach_answer, edit_answer, refused};
+
+use crate::held::held;
+use crate::plan::choices_of;
+use crate::tables::{costing, supporting, switched, targeted};
+use bridge_face::Bridge;
+use cache_layer::{AttachFault, CacheOver, EditFault, NotAttached};
+use item_core::Table;
+use lists::Memory;
+use report_core::{Answer, Place, Refused, done, plan, refusal};
+use script_core::{Command, LineFault, parse_line};
+use std::alloc::Global;
+use user_model::Edit;
+
+// Answers a line.
+pub(crate) fn step<B: Bridge>(
+    alloc: Global,
+    cache: &mut CacheOver<B>,
+    line: &[u8],
+) -> Result<Answer, Memory>
+    ensures step { Makes (Steps (state_of cache.old) line.now) (state_of cache.old) result
+        (state_of cache.new) }
+    ensures untouched { IfOk result (λ answer.
+        KeepsRefused answer cache.old cache.new) }
+{
+    match parse_line(alloc, line) {
+        Ok(command) => obey(alloc, cache, command),
+        Err(LineFault::BadLine) => refuse(alloc, &Refused::BadLine),
+        Err(LineFault::Overflow) => refuse(alloc, &Refused::Overflow { place: Place::Line }),
+        Err(LineFault::Memory) => Err(Memory),
+    }
+}
+
+fn obey<B: Bridge>(
+    alloc: Global,
+    cache: &mut CacheOver<B>,
+    command: Command,
+) -> Result<Answer, Memory>
+    ensures step { Makes (Does (state_of cache.old) command) (state_of cache.old) result
+        (state_of cache.new) }
+    ensures untouched { IfOk result (λ answer.
+        KeepsRefused answer cache.old cache.new) }
+{
+    match command {
+        Command::Silent => Ok(Answer::Silent),
+        Command::Quit => Ok(Answer::Quit),
+        Command::Edit(edit) => make(alloc, cache, edit),
+        Command::Target(target) => {
+            let table = targeted(target, cache.lazy().table());
+            set_table(alloc, cache, table)
+        }
+        Command::Support { kind, value } => {
+            let table = supporting(kind, value, cache.lazy().table());
+            set_table(alloc, cache, table)
+        }
+        Command::Cost { edge, cost } => {
+            let table = costing(edge, cost, cache.lazy().table());
+            set_table(alloc, cache, table)
+        }
+        Command::Switch { family, value } => {
+            let table = switched(family, value, cache.lazy().table());
+            set_table(alloc, cache, table)
+        }
+        Command::Attach => attach(alloc, cache),
+        Command::Detach => detach(alloc, cache),
+        Command::Bridged => bridged(alloc, cache),
+        Command::Plan => show_plan(alloc, cache),
+        Command::Optimize(_) | Command::Write | Command::Load(_) => {
+            refuse(alloc, &Refused::BadLine)
+        }
+    }
+}
+
+fn refuse(alloc: Global, fault: &Refused) -> Result<Answer, Memory>
+    requires { HasFault fault.now }
+    ensures { IfOk result (λ answer. answer ≡ refused fault.now) }
+{
+    refusal(alloc, fault)
+}
+
+// Makes an edit.
+fn make<B: Bridge>(alloc: Global, cache: &mut CacheOver<B>, edit: Edit) -> Result<Answer, Memory>
+    ensures step { let old = state_of cache.old in
+        Makes (Tells edit_answer (IsEdited old edit)) old result (state_of cache.new) }
+    ensures untouched { IfOk result (λ answer.
+        KeepsRefused answer cache.old cache.new) }
+{
+    let made = cache.edit(edit);
+    tell(alloc, made)
+}
+
+// Bridges by another table.
+fn set_table<B: Bridge>(
+    alloc: Global,
+    cache: &mut CacheOver<B>,
+    table: Table,
+) -> Result<Answer, Memory>
+    requires costs { IsTrue (list_all is_edge_cost table.cost) }
+    requires native { IsTrue (supports_native table) }
+    ensures step { let old = state_of cache.old in
+        Makes (Tells edit_answer (Becomes old (with_table old table))) old result
+        (state_of cache.new) }
+    ensures untouched { IfOk result (λ answer.
+        KeepsRefused answer cache.old cache.new) }
+{
+    let made = cache.table(table);
+    tell(alloc, made)
+}
+
+// What an edit or another table was answered.
+fn tell(alloc: Global, made: Result<Option<u64>, EditFault>) -> Result<Answer, Memory>
+    ensures { IfOk result (λ answer. answer ≡ edit_answer made) }
+{
+    match made {
+        Ok(count) => done(alloc, count),
+        Err(EditFault::Refused(refusal)) => refuse(alloc, &Refused::from(refusal)),
+        Err(EditFault::Unsupported { kind }) => refuse(alloc, &Refused::Unsupported { kind }),
+        Err(EditFault::Overflow { place }) => refuse(alloc, &Refused::Overflow { place }),
+        Err(EditFault::Memory) => Err(Memory),
+    }
+}
+
+fn attach<B: Bridge>(alloc: Global, cache: &mut CacheOver<B>) -> Result<Answer, Memory>
+    ensures step { let old = state_of cache.old in
+        Makes (Tells attach_answer (IsAttached old)) old result (state_of cache.new) }
+    ensures untouched { IfOk result (λ answer.
+        KeepsRefused answer cache.old cache.new) }
+{
+    let made = cache.attach();
+    tell_attached(alloc, made)
+}
+
+// What attaching a solver was answered.
+fn tell_attached(alloc: Global, made: Result<u64, AttachFault>) -> Result<Answer, Memory>
+    ensures { IfOk result (λ answer. answer ≡ attach_answer made) }
+{
+    match made {
+        Ok(count) => done(alloc, Some(count)),
+        Err(AttachFault::AlreadyAttached) => refuse(alloc, &Refused::AlreadyAttached),
+        Err(AttachFault::Unsupported { kind }) => refuse(alloc, &Refused::Unsupported { kind }),
+        Err(AttachFault::Overflow { place }) => refuse(alloc, &Refused::Overflow { place }),
+        Err(AttachFault::Memory) => Err(Memory),
+    }
+}
+
+fn detach<B: Bridge>(alloc: Global, cache: &mut CacheOver<B>) -> Result<Answer, Memory>
+    ensures step { let old = state_of cache.old in
+        Makes (Detaches old.attached old) old result (state_of cache.new) }
+    ensures untouched { IfOk result (λ answer.
+        KeepsRefused answer cache.old cache.new) }
+{
+    match cache.detach() {
+        Ok(()) => done(alloc, None),
+        Err(NotAttached) => refuse(alloc, &Refused::NotAttached),
+    }
+}
+
+// What an attached solver holds.
+fn bridged<B: Bridge>(alloc: Global, cache: &CacheOver<B>) -> Result<Answer, Memory>
+    ensures { let state = state_of cache.now in
+        Makes (Shows state.attached state) state result state }
+{
+    if !cache.attached() {
+        return refuse(alloc, &Refused::NotAttached);
+    }
+    let text = held(alloc, cache.lazy(), cache.model())?;
+    Ok(Answer::Printed(text))
+}
+
+// How each kind is bridged.
+fn show_plan<B: Bridge>(alloc: Global, cache: &CacheOver<B>) -> Result<Answer, Memory>
+    ensures { let state = state_of cache.now in Makes (Plans state) state result state }
+{
+    let choices = choices_of(cache.lazy());
+    let text = plan(alloc, &choices)?;
+    Ok(Answer::Printed(text))
+}
+
+// Sets the table, where no solver is attached.
+pub(crate) fn preset<B: Bridge>(cache: &mut CacheOver<B>, table: Table) -> Result<(), Memory>
+    requires detached { cache.old.attached ≡ false }
+    requires costs { IsTrue (list_all is_edge_cost table.cost) }
+    requires native { IsTrue (supports_native table) }
+    ensures ok { OnOk result (state_of cache.new ≡ with_table (state_of cache.old) table) }
+    ensures err { OnErr result (state_of cache.new ≡ state_of cache.old) }
+{
+    match cache.table(table) {
+        Ok(_) => Ok(()),
+        Err(_) => Err(Memory),
+    }
+}

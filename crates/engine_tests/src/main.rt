@@ -1,0 +1,26 @@
+// Answers lines by a session with a box of each family, and prints each line and its answer.
+//
+//     anew        an empty model, which no solver is attached to, for the target `standard`
+//     set_up T    sets the table to that of the target T
+//     state       prints whether a solver is attached
+//     LINE        a line of the script
+#![tactic(auto)]
+
+mod boxes;
+mod session;
+
+use anyhow::Result;
+
+fn main(rt: HostRuntime) -> Result<()> {
+    let mut lines = Vec::new(rt.alloc());
+    for line in rt.lines(rt.alloc()) {
+        let line = line?;
+        if line.as_str() == "anew" {
+            boxes::all(&rt, &lines)?;
+            lines = Vec::new(rt.alloc());
+        } else {
+            lines.push(line)?;
+        }
+    }
+    boxes::all(&rt, &lines)
+}
