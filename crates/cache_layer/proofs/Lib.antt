@@ -1,4 +1,4 @@
 mod PlaceLemmas
 mod Standing
 mod Editing
-mod Stepping
+pub mod Stepping

@@ -1,5 +1,5 @@
 -- Each address at which a bridging says that a number doesn't fit is that of an item of the model.
-use Rattle.std.specs.Prelude.{◌≡◌, ℕ, ◌≤◌, Bool, true, false, ◌&&◌, List, [], ◌∷◌, ◌++◌, All, IsSome, is_some, Option, Some, None, cond, if◌then◌else◌, length, map, slice_get, refl}
+use Rattle.std.specs.Prelude.{◌≡◌, ℕ, ◌≤◌, Bool, true, false, ◌&&◌, List, [], ◌∷◌, All, IsSome, is_some, Option, Some, None, cond, if◌then◌else◌, length, map, slice_get, refl}
 use Rattle.std.specs.Option.{option_map, option_or}
 use Rattle.std.proofs.Common.{arith, ap, get_or, subst, sym, true≢false, ◌∙◌}
 use Rattle.std.proofs.lemmas.List.Elements.{All-append, All-cons, All-head, All-map, All-nil, All-tail}

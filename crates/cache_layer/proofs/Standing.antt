@@ -14,7 +14,7 @@ use Rattle.fresh_bridging.specs.EachLaws.{all_from_map}
 use Rattle.fresh_bridging.specs.FreshBridging.{FreshBridging, is_made, leaves_of}
 use Rattle.fresh_bridging.specs.TheRules.{Setting}
 use Rattle.item_core.specs.declared.family.Family.{Family}
-use Rattle.lazy_bridge.specs.Owned.{HoldsNothing, IsBridgingOf, Owned, expressions_by, leaf_model_in, nodes_by, setting_in}
+use Rattle.lazy_bridge.specs.Owned.{HoldsNothing, IsBridgingOf, Owned, expressions_by, nodes_by, setting_in}
 use Rattle.lazy_bridge.specs.Pushed.{IsTried}
 use Rattle.leaf_model.specs.LeafModel.{LeafModel}
 use Rattle.leaf_model.specs.ReadThrough.{read_through}

@@ -6,7 +6,6 @@ use Rattle.std.proofs.lemmas.List.{reverse-append}
 use Rattle.model_store.specs.Store.{HasParked, IsButLast, IsLastOf, Stored, refusal_of}
 use Rattle.model_store.specs.StoreLaws.{left_front}
 use Rattle.model_store.specs.declared.parked.Parked.{Parked}
-use Rattle.user_model.specs.Accepted.{LeadsTo}
 use Rattle.user_model.specs.Edited.{edited}
 use Rattle.user_model.specs.Model.{ModelValue}
 use Rattle.user_model.specs.Refusals.{first_refusal}

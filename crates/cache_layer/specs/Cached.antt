@@ -1,7 +1,7 @@
 -- What contracts see of a cache: the user's model, the lazy bridging, and whether a solver is
 -- attached. While one is, the fresh bridging of the user's model stands in the lazy bridging, and
 -- while none is, nothing does.
-use Rattle.std.specs.Prelude.{◌≡◌, Bool, true, false, List, [], refl}
+use Rattle.std.specs.Prelude.{◌≡◌, Bool, true, false, [], refl}
 use Rattle.std.specs.Coded.{Coded, code_by, coded×, coded_bool}
 use Rattle.lazy_bridge.specs.Owned.{HoldsNothing, IsBridgingOf, Owned, owned_code, setting_in}
 use Rattle.model_store.specs.Store.{Stored, stored_code}

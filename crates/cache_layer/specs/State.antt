@@ -1,11 +1,10 @@
 -- What a cache is to its user: the user's model; the table, with the families of which there is a
 -- box; and whether a solver is attached. What an attached solver holds is a function of these: the
 -- fresh bridging of the model by the table.
-use Rattle.std.specs.Prelude.{◌≡◌, ℕ, Bool, true, false, List, [], Option, Some}
+use Rattle.std.specs.Prelude.{◌≡◌, ℕ, Bool, true, false, Some}
 use Rattle.aff_core.specs.Address.{Address}
 use Rattle.fresh_bridging.specs.FreshBridging.{FreshBridging, is_made, leaves_of, unfit_at}
 use Rattle.fresh_bridging.specs.TheRules.{Setting}
-use Rattle.item_core.specs.declared.family.Family.{Family}
 use Rattle.item_core.specs.declared.table.Table.{Table}
 use Rattle.lazy_bridge.specs.Pushed.{Counts}
 use Rattle.leaf_model.specs.LeafModel.{LeafModel, no_leaves}

@@ -4,10 +4,11 @@ ghost use Rattle.std.specs.List.{list_all};
 ghost use Rattle.bridge_graph.specs.Hypergraph.{is_edge_cost};
 ghost use Rattle.lazy_bridge.specs.Native.{supports_native};
 ghost use Rattle.lazy_bridge.specs.Owned.{IsBridgingOf};
+ghost use Rattle.model_store.specs.Store.{Stored};
 ghost use Rattle.cache_layer.specs.Answers.{Becomes, IsEdited, UnlessRefused};
 ghost use Rattle.cache_layer.specs.Bridging.{state_by, stays};
 ghost use Rattle.cache_layer.specs.Cached.{IsInStep, cached, state_of};
-ghost use Rattle.cache_layer.specs.Loads.{IsMadeBy};
+ghost use Rattle.cache_layer.specs.Loads.{IsLastStep, IsMadeBy};
 
 use crate::EditFault;
 use crate::bridging::{push, set_table};
@@ -16,7 +17,7 @@ use item_core::Table;
 use lazy_bridge::LazyOver;
 use model_store::UserModel;
 use std::slice;
-use user_model::{ApplyFault, Edit};
+use user_model::{ApplyFault, Edit, Undo};
 
 /// Makes an edit for good.
 pub(crate) fn edit_alone(model: &mut UserModel, edit: Edit) -> Result<(), ApplyFault>
@@ -25,6 +26,15 @@ pub(crate) fn edit_alone(model: &mut UserModel, edit: Edit) -> Result<(), ApplyF
     let undo = model.apply(edit)?;
     model.settle(undo);
     Ok(())
+}
+
+/// Takes the last edit back that waits, so that the model is as it was before.
+#[tactic(auto, using(crate::proofs::Stepping::taken_back))]
+pub(crate) fn take_back(model: &mut UserModel, undo: Undo)
+    requires { (start : Stored) × IsLastStep start undo model.old }
+    ensures { (start : Stored) → IsLastStep start undo model.old → model.new ≡ start }
+{
+    model.take_back(undo);
 }
 
 /// Makes an edit and bridges the model anew, or leaves both as they were. Where memory is wanting
@@ -56,7 +66,7 @@ pub(crate) fn edit_bridged<B: Bridge>(
             Ok(Some(changed))
         }
         Err(fault) => {
-            model.take_back(undo);
+            take_back(model, undo);
             Err(EditFault::from(fault))
         }
     }

@@ -5,6 +5,7 @@ ghost use Rattle.model_store.specs.declared.parked.Parked.{Parked};
 ghost use Rattle.user_model.specs.Refusals.{first_refusal};
 ghost use Rattle.cache_layer.specs.Loads.{AreMadeBy, AreParkedFor, IsNextStep, LeadBack};
 
+use crate::edits::take_back;
 use model_store::{Undo, UserModel};
 use user_model::{ApplyFault, Edit};
 
@@ -35,7 +36,7 @@ fn make(model: &mut UserModel, undos: &mut Vec<Undo>, edit: Edit) -> Result<(), 
     match undos.push(undo) {
         Ok(()) => Ok(()),
         Err(full) => {
-            model.take_back(full.value);
+            take_back(model, full.value);
             Err(ApplyFault::Memory)
         }
     }
@@ -48,7 +49,7 @@ fn take_back_all(model: &mut UserModel, mut undos: Vec<Undo>)
         → model.new ≡ start }
 {
     while let Some(undo) = undos.pop() {
-        model.take_back(undo);
+        take_back(model, undo);
     }
 }
 

@@ -1,2 +1,1 @@
-mod NativeTargets
 mod RefusedEdits

@@ -9,31 +9,30 @@ use bridges_shape::{
 };
 use bridges_slack::{Later, ObjSlack, ScalarSlack, VectorSlack};
 use bridges_split::{DropReals, FreeVar, SplitSet, ZerosVar};
-use lazy_bridge::add_bridge;
 
 /// Runs the script over a box of each family.
 pub fn run(rt: &HostRuntime) -> Result<()> {
     let alloc = rt.alloc();
-    let mut boxes: Vec<Box<dyn Bridge>> = Vec::new(alloc);
-    add_bridge(&mut boxes, Box::new(alloc, GreaterLess::new(alloc))?)?;
-    add_bridge(&mut boxes, Box::new(alloc, OrthantFlip::new(alloc))?)?;
-    add_bridge(&mut boxes, Box::new(alloc, NonposVar::new(alloc))?)?;
-    add_bridge(&mut boxes, Box::new(alloc, ObjFlip::new(alloc))?)?;
-    add_bridge(&mut boxes, Box::new(alloc, Vectorize::new(alloc))?)?;
-    add_bridge(&mut boxes, Box::new(alloc, Scalarize::new(alloc))?)?;
-    add_bridge(&mut boxes, Box::new(alloc, ScalarFunctionize::new(alloc))?)?;
-    add_bridge(&mut boxes, Box::new(alloc, VectorFunctionize::new(alloc))?)?;
-    add_bridge(&mut boxes, Box::new(alloc, VectorizeVar::new(alloc))?)?;
-    add_bridge(&mut boxes, Box::new(alloc, ObjFunctionize::new(alloc))?)?;
-    add_bridge(&mut boxes, Box::new(alloc, SplitSet::new(alloc))?)?;
-    add_bridge(&mut boxes, Box::new(alloc, DropReals::new(alloc))?)?;
-    add_bridge(&mut boxes, Box::new(alloc, ZerosVar::new(alloc))?)?;
-    add_bridge(&mut boxes, Box::new(alloc, FreeVar::new(alloc))?)?;
-    add_bridge(&mut boxes, Box::new(alloc, ScalarSlack::new(alloc))?)?;
-    add_bridge(&mut boxes, Box::new(alloc, VectorSlack::new(alloc))?)?;
-    add_bridge(&mut boxes, Box::new(alloc, Later::new(alloc))?)?;
-    add_bridge(&mut boxes, Box::new(alloc, ObjSlack::new(alloc))?)?;
-    add_bridge(&mut boxes, Box::new(alloc, NormInfinity::new(alloc))?)?;
-    add_bridge(&mut boxes, Box::new(alloc, NormOne::new(alloc))?)?;
+    let mut boxes: Vec<Box<dyn Bridge>> = Vec::with_capacity(alloc, 20)?;
+    boxes.push(Box::new(alloc, GreaterLess::new(alloc))?)?;
+    boxes.push(Box::new(alloc, OrthantFlip::new(alloc))?)?;
+    boxes.push(Box::new(alloc, NonposVar::new(alloc))?)?;
+    boxes.push(Box::new(alloc, ObjFlip::new(alloc))?)?;
+    boxes.push(Box::new(alloc, Vectorize::new(alloc))?)?;
+    boxes.push(Box::new(alloc, Scalarize::new(alloc))?)?;
+    boxes.push(Box::new(alloc, ScalarFunctionize::new(alloc))?)?;
+    boxes.push(Box::new(alloc, VectorFunctionize::new(alloc))?)?;
+    boxes.push(Box::new(alloc, VectorizeVar::new(alloc))?)?;
+    boxes.push(Box::new(alloc, ObjFunctionize::new(alloc))?)?;
+    boxes.push(Box::new(alloc, SplitSet::new(alloc))?)?;
+    boxes.push(Box::new(alloc, DropReals::new(alloc))?)?;
+    boxes.push(Box::new(alloc, ZerosVar::new(alloc))?)?;
+    boxes.push(Box::new(alloc, FreeVar::new(alloc))?)?;
+    boxes.push(Box::new(alloc, ScalarSlack::new(alloc))?)?;
+    boxes.push(Box::new(alloc, VectorSlack::new(alloc))?)?;
+    boxes.push(Box::new(alloc, Later::new(alloc))?)?;
+    boxes.push(Box::new(alloc, ObjSlack::new(alloc))?)?;
+    boxes.push(Box::new(alloc, NormInfinity::new(alloc))?)?;
+    boxes.push(Box::new(alloc, NormOne::new(alloc))?)?;
     run_script(rt, boxes)
 }

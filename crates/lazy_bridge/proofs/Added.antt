@@ -1,10 +1,12 @@
 -- A family more, where it isn't among families.
-use Rattle.std.specs.Prelude.{◌≡◌, ◌+◌, ◌<◌, ◌≤◌, ℕ, Bool, true, false, ◌&&◌, ◌||◌, not, List, [], ◌∷◌, ◌++◌, Some, drop, length, map, slice_index_or, refl}
+use Rattle.std.specs.Prelude.{◌≡◌, ◌<◌, ◌≤◌, ℕ, Bool, true, false, ◌&&◌, ◌||◌, not, List, [], ◌∷◌, ◌++◌, All, Some, drop, length, map, slice_index_or, refl}
 use denote.Enum.Bare.{same_true}
+use Rattle.std.specs.FinMap as finite
 use Rattle.std.specs.List.{list_any}
-use Rattle.std.proofs.Common.{rules, sym, ap, ap₂, ◌∙◌, true≢false}
+use Rattle.std.proofs.Common.{rules, sym, ap, ap₂, subst, ◌∙◌, true≢false}
 use Rattle.std.proofs.lemmas.Bool.Decides.{Decides-eqb}
 use Rattle.std.proofs.lemmas.List.{drop_all, map-append}
+use Rattle.std.proofs.lemmas.List.Elements.{All-append, All-cons, All-nil}
 use Rattle.std.proofs.lemmas.Option.{slice_get-get_or}
 use Rattle.bridge_face.specs.State.{State}
 use Rattle.boxes.specs.Boxed.{families_of, occur_once}
@@ -95,3 +97,13 @@ module _ {B : Type 0} (state : B → State) where
       ∙ ap (λ ss. occur_once (families_of ss)) (map-append state old (b ∷ []))
       ∙ ap occur_once (map-append (λ (s : State). s.family) (map state old) (state b ∷ []))
       ∙ one_more (families_of (map state old)) (state b).family once other
+
+  pub none_kept_more : (old new : List B) (b : B) → new ≡ old ++ b ∷ []
+      → All (λ (s : State). s.kept ≡ finite.empty) (map state old)
+      → (state b).kept ≡ finite.empty → All (λ (s : State). s.kept ≡ finite.empty) (map state new)
+  none_kept_more old new b is all here =
+      subst (λ bs. All (λ (s : State). s.kept ≡ finite.empty) (map state bs)) (sym is)
+      (subst (All (λ (s : State). s.kept ≡ finite.empty)) (sym (map-append state old (b ∷ [])))
+      (All-append (λ (s : State). s.kept ≡ finite.empty) (map state old) (state b ∷ []) all
+      (All-cons (λ (s : State). s.kept ≡ finite.empty) (state b) [] here
+      (All-nil (λ (s : State). s.kept ≡ finite.empty)))))

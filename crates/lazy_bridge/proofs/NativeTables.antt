@@ -1,7 +1,6 @@
 -- A table that passes the test supports what a solver takes, and nothing else.
-use Rattle.std.specs.Prelude.{◌≡◌, ◌||◌, ℕ, zero, suc, Bool, true, false, not, List, [], ◌∷◌, Some, None, slice_get, refl}
-use Rattle.std.specs.List.{list_all, zip}
-use Rattle.std.proofs.Common.{sym, ap, ◌∙◌, true≢false}
+use Rattle.std.specs.Prelude.{◌≡◌, ◌||◌, ℕ, zero, suc, Bool, true, not, List, [], ◌∷◌, Some, slice_get}
+use Rattle.std.specs.List.{zip}
 use Rattle.std.proofs.lemmas.Option.{none-some, same_Some}
 use Rattle.fresh_bridging.specs.TableLaws.{at_all, kind_stands}
 use Rattle.fresh_bridging.specs.TheRules.{Setting}

@@ -1,14 +1,14 @@
 -- The nodes of a fresh bridging: items for their edges, whose families may be used.
-use Rattle.std.specs.Prelude.{◌≡◌, ℕ, true, List, [], ◌∷◌, ◌++◌, All, map, refl}
+use Rattle.std.specs.Prelude.{◌≡◌, ℕ, true, List, ◌++◌, All}
 use Rattle.std.proofs.Common.{sym, ap, ◌∙◌}
-use Rattle.std.proofs.lemmas.List.Elements.{All-append, All-cons, All-head, All-map, All-nil, All-tail, All-weaker}
+use Rattle.std.proofs.lemmas.List.Elements.{All-append, All-cons, All-head, All-nil, All-tail}
 use Rattle.bridge_graph.specs.Hypergraph.{IsCostly}
 use Rattle.bridge_graph.specs.declared.Choice.{Choice}
 use Rattle.bridge_graph.specs.declared.Choice.TheVariants.{By}
 use Rattle.expansion.specs.Bridged.{Bridged, EachBridged, EachBridgedIn, by, each, each_in, natively, none, none_in}
 use Rattle.expansion.specs.Read.{model_nodes, nodes, nodes_in, nodes_of_each}
 use Rattle.item_core.specs.declared.item.Item.{Item}
-use Rattle.item_core.specs.Edge.{edge_entry, family_of}
+use Rattle.item_core.specs.Edge.{family_of}
 use Rattle.item_core.specs.Kind.{kind_number}
 use Rattle.item_core.specs.KindOf.{kind_of_body}
 use Rattle.bridge_face.specs.Law.{IsItemFor}

@@ -12,7 +12,7 @@ use Rattle.fresh_bridging.specs.TheRules.{AreChoices, Setting, graph_of}
 use Rattle.item_core.specs.declared.family.Family.{Family}
 use Rattle.item_core.specs.declared.table.Table.{Table}
 use Rattle.lazy_bridge.specs.Native.{supports_native}
-use Rattle.lazy_bridge.specs.Owned.{HoldsNothing, IsBridgingOf, Owned, leaf_model_in, setting_in}
+use Rattle.lazy_bridge.specs.Owned.{HoldsNothing, Owned, leaf_model_in, setting_in}
 use Rattle.lazy_bridge.specs.Plans.{Holds, IsPuttable}
 use Rattle.lazy_bridge.specs.Pushed.{Counts, IsBridgedBy, IsTried}
 use Rattle.lazy_bridge.proofs.NativeTables.{supported}

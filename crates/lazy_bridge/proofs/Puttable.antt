@@ -1,12 +1,12 @@
 -- The plan of a fresh bridging can be put in.
-use Rattle.std.specs.Prelude.{◌≡◌, ◌≤◌, ℕ, Bool, true, false, List, [], ◌∷◌, All, flat_map, length, map, slice_index_or, refl}
+use Rattle.std.specs.Prelude.{◌≡◌, ◌≤◌, true, false, List, [], ◌∷◌, flat_map, length, map, slice_index_or, refl}
 use Rattle.std.specs.List.{IsDistinct, list_any}
 use Rattle.std.specs.Map.{keys_of}
 use Rattle.std.proofs.Common.{arith, sym, ap, subst, ◌∙◌, true≢false}
 use Rattle.std.proofs.lemmas.List.Elements.{All-map, All-weaker}
 use Rattle.aff_core.specs.Address.{Address, address_cmp, address_eq}
 use Rattle.aff_core.specs.Rising.{HasDistinctKeys}
-use Rattle.address_laws.specs.Apart.{Distinct, is_distinct}
+use Rattle.address_laws.specs.Apart.{is_distinct}
 use Rattle.address_laws.specs.DistinctLaws.{each_apart, rows_distinct, variables_distinct, vars_distinct}
 use Rattle.boxes.specs.Boxed.{AreKeepable}
 use Rattle.bridge_face.specs.Law.{IsItemFor, expressed}
@@ -14,7 +14,7 @@ use Rattle.bridge_graph.specs.Hypergraph.{IsCostly}
 use Rattle.bridge_plan.specs.Adds.{kept_of}
 use Rattle.expansion.specs.Read.{model_leaves, model_nodes}
 use Rattle.fresh_bridging.specs.CanLaws.{AreLawful}
-use Rattle.fresh_bridging.specs.FreshBridging.{FreshBridging, expression_of, leaves_of}
+use Rattle.fresh_bridging.specs.FreshBridging.{FreshBridging, expression_of}
 use Rattle.fresh_bridging.specs.Leaves.{leaf_objectives, leaf_rows, leaf_variables}
 use Rattle.fresh_bridging.specs.TableLaws.{and_second}
 use Rattle.fresh_bridging.specs.TheRules.{Setting, edge_at, family_number, graph_of}
@@ -34,7 +34,6 @@ use Rattle.set_core.specs.declared.set.Set.TheVariants as set
 use Rattle.set_core.specs.Shapes.{is_scalar}
 use Rattle.tree_laws.specs.LeafLaws.{IsLeaf, SupportsNativeKinds, is_leaf_kind}
 use Rattle.tree_laws.specs.NativeModel.{leaves_name}
-use Rattle.tree_laws.specs.ObjectiveLaws.{HasOne}
 use Rattle.tree_laws.specs.ObjectivePart.{by_objective, none_here}
 use Rattle.tree_laws.specs.PrimalLaws.{all_leaves, has_leaf, native_leaves}
 use Rattle.user_model.specs.Model.{ModelValue}

@@ -2,17 +2,16 @@
 use Rattle.std.specs.Prelude.{◌≡◌, List, [], ◌∷◌, All, map, refl}
 use Rattle.std.specs.FinMap as finite
 use Rattle.std.proofs.Common.{sym, ap, subst, ◌∙◌}
-use Rattle.std.proofs.lemmas.List.Elements.{All-map, All-nil, All-cons}
+use Rattle.std.proofs.lemmas.List.Elements.{All-nil, All-cons}
 use Rattle.aff_core.specs.Address.{address_cmp}
-use Rattle.boxes.specs.Boxed.{families_of, kept_among, kept_by, keeping}
+use Rattle.boxes.specs.Boxed.{kept_among, kept_by, keeping}
 use Rattle.bridge_face.specs.State.{Kept, State}
 use Rattle.bridge_face.specs.declared.kept_item.KeptItem.{KeptItem}
 use Rattle.fresh_bridging.specs.EachLaws.{all_from_map}
-use Rattle.fresh_bridging.specs.FreshBridging.{FreshBridging}
 use Rattle.fresh_bridging.specs.Leaves.{leaf_model_of}
 use Rattle.fresh_bridging.specs.TheRules.{Setting}
 use Rattle.item_core.specs.declared.family.Family.{Family}
-use Rattle.lazy_bridge.specs.Owned.{IsBridgingOf, Owned, leaf_model_in, nodes_by, setting_in}
+use Rattle.lazy_bridge.specs.Owned.{IsBridgingOf, Owned, setting_in}
 use Rattle.lazy_bridge.specs.Plans.{Holds}
 use Rattle.model_bridging.specs.Planned.{IsPlanOf}
 use Rattle.model_bridging.specs.declared.model_plan.ModelPlan.{ModelPlan}

@@ -1,4 +1,5 @@
 pub mod Owned
 pub mod Native
+pub mod NativeLaws
 pub mod Pushed
 pub mod Plans

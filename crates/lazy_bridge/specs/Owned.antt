@@ -10,7 +10,7 @@
 --                                read through the map, is its leaves; each box keeps the part of its
 --                                nodes that is of the box's family; and the map has the expression
 --                                of each of the user's variables
-use Rattle.std.specs.Prelude.{◌≡◌, true, List, All, map, refl}
+use Rattle.std.specs.Prelude.{◌≡◌, true, All, map, refl}
 use Rattle.std.specs.Coded.{Coded, code_by, coded×}
 use Rattle.std.specs.FinMap as finite
 use Rattle.std.specs.FinMap.{FinMap}

@@ -1,14 +1,12 @@
 -- Plans, and what is put in of one.
-use Rattle.std.specs.Prelude.{◌≡◌, List, Result, Ok, Err, map}
+use Rattle.std.specs.Prelude.{◌≡◌, List, map}
 use Rattle.std.specs.FinMap as finite
 use Rattle.aff_core.specs.Address.{address_cmp}
 use Rattle.aff_core.specs.Rising.{HasDistinctKeys}
 use Rattle.boxes.specs.Boxed.{AreKeepable, kept_by, keeping}
 use Rattle.fresh_bridging.specs.Leaves.{leaf_model_of}
-use Rattle.fresh_bridging.specs.TheRules.{Setting}
 use Rattle.item_core.specs.declared.family.Family.{Family}
-use Rattle.lazy_bridge.specs.Owned.{HoldsNothing, Owned, leaf_model_in, setting_in}
-use Rattle.lazy_bridge.specs.Pushed.{Counts}
+use Rattle.lazy_bridge.specs.Owned.{Owned, leaf_model_in}
 use Rattle.leaf_change.specs.Leaves.{AreLeaves}
 use Rattle.model_bridging.specs.declared.model_plan.ModelPlan.{ModelPlan}
 

@@ -6,10 +6,8 @@
 -- but the boxes' turns has changed. The change step empties the solver's model, the map and the
 -- boxes and puts the plan in; memory alone can refuse it, and then it holds nothing.
 use Rattle.std.specs.Prelude.{◌≡◌, ◌-◌, ◌^◌, ℕ, min, Some, Result, Ok, Err}
-use Rattle.aff_core.specs.Address.{Address}
 use Rattle.boxes.specs.Boxed.{means_of, setting_by}
 use Rattle.fresh_bridging.specs.FreshBridging.{FreshBridging, IsUnsupported, unfit_at}
-use Rattle.fresh_bridging.specs.TheRules.{Setting}
 use Rattle.item_core.specs.declared.table.Table.{Table}
 use Rattle.leaf_model.specs.LeafModel.{IsChanged, LeafModel}
 use Rattle.lazy_bridge.specs.Owned.{HoldsNothing, IsBridgingOf, Owned, leaf_model_in, setting_in}

@@ -9,9 +9,8 @@ use bridge_face::Bridge;
 use item_core::Family;
 use lists::Memory;
 
-/// Adds a bridge that keeps nothing, unless there is one of its family.
-pub fn add_bridge<B: Bridge>(bridges: &mut Vec<B>, bridge: B) -> Result<(), Memory>
-    requires empty { (B.state bridge).kept ≡ finite.empty }
+/// Adds a bridge, which lets go of all that it keeps, unless there is one of its family.
+pub fn add_bridge<B: Bridge>(bridges: &mut Vec<B>, mut bridge: B) -> Result<(), Memory>
     requires once { IsTrue (occur_once (families_of (map B.state bridges.old.items))) }
     requires kept { All (λ s. s.kept ≡ finite.empty) (map B.state bridges.old.items) }
     ensures once { IsTrue (occur_once (families_of (map B.state bridges.new.items))) }
@@ -20,6 +19,7 @@ pub fn add_bridge<B: Bridge>(bridges: &mut Vec<B>, bridge: B) -> Result<(), Memo
     if has_family(bridges, bridge.family()) {
         return Ok(());
     }
+    bridge.let_all_go();
     bridges.push(bridge)?;
     Ok(())
 }

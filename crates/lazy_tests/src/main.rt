@@ -1,4 +1,4 @@
-// Bridges models by lists of boxes: of all families, of all in reverse order, and of those alone
+// Bridges models by lists of boxes: of all families, of nine in reverse order, and of those alone
 // that reshape functions, each with the same lines. It prints what each call answers.
 //
 //     EDIT                     a line of a script, whose edit is made for good
@@ -23,7 +23,7 @@ fn main(rt: HostRuntime) -> Result<()> {
     }
     println!(rt; "all families")?;
     boxes::all(&rt, &lines)?;
-    println!(rt; "all families, in reverse")?;
+    println!(rt; "nine families, the last one first")?;
     boxes::reversed(&rt, &lines)?;
     println!(rt; "families that reshape functions")?;
     boxes::few(&rt, &lines)

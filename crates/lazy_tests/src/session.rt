@@ -1,7 +1,10 @@
 // A model, and a lazy bridging of it.
 ghost use Rattle.std.specs.Prelude.{◌≡◌, All, IsTrue, map};
 ghost use Rattle.std.specs.FinMap as finite;
+ghost use Rattle.std.specs.List.{list_all};
 ghost use Rattle.boxes.specs.Boxed.{families_of, occur_once};
+ghost use Rattle.bridge_graph.specs.Hypergraph.{is_edge_cost};
+ghost use Rattle.lazy_bridge.specs.Native.{supports_native};
 
 use crate::shown::{show_answer, show_held, show_plan};
 use address_map::AddressMap;
@@ -28,10 +31,7 @@ pub fn run<B: Bridge>(rt: &HostRuntime, lines: &[String], bridges: Vec<B>) -> Re
     requires kept { All (λ s. s.kept ≡ finite.empty) (map B.state bridges.items) }
 {
     let mut session = Session::new(rt.alloc(), bridges);
-    for line in lines {
-        session.step(rt, line.as_str())?;
-    }
-    Ok(())
+    session.steps(rt, lines)
 }
 
 impl<B: Bridge> Session<B> {
@@ -52,6 +52,13 @@ impl<B: Bridge> Session<B> {
             ),
             attached: false,
         }
+    }
+
+    fn steps(&mut self, rt: &HostRuntime, lines: &[String]) -> Result<()> {
+        for line in lines {
+            self.step(rt, line.as_str())?;
+        }
+        Ok(())
     }
 
     fn step(&mut self, rt: &HostRuntime, line: &str) -> Result<()> {
@@ -106,7 +113,10 @@ impl<B: Bridge> Session<B> {
         self.table(rt, table)
     }
 
-    fn table(&mut self, rt: &HostRuntime, table: Table) -> Result<()> {
+    fn table(&mut self, rt: &HostRuntime, table: Table) -> Result<()>
+        requires costs { IsTrue (list_all is_edge_cost table.cost) }
+        requires native { IsTrue (supports_native table) }
+    {
         if self.attached {
             return show_answer(rt, self.lazy.set_table(&self.model, table));
         }

@@ -1,6 +1,4 @@
-use Rattle.std.proofs.Common.{◌≡◌}
 use Rattle.cache_layer.proofs.Editing.{edit_answer, edit_bridged, step_answer}
-use Rattle.cache_layer.proofs.Stepping.{taken_back}
 use Rattle.cache_layer.proofs.edits.edit_bridged.Goals as goal
 
 pub returns-in-Ok-push-clause-answer : goal.returns-in-Ok-push-clause-answer
@@ -9,14 +7,18 @@ returns-in-Ok-push-clause-answer g c =
     c.apply.new.self.model c.in-Ok-push.changed c.in-Ok.ensures.ok c.in-Ok.ensures.model
     c.settle.ensures.model c.requires.stands c.in-Ok-push.ensures
 
+pub take_back-requires : goal.take_back-requires
+take_back-requires g c =
+    let was = c.in-Ok.ensures in
+    (c.args.model.now, record { edit = was.edit; back = was.before; parked = was.parked })
+
 pub returns-in-Err-clause-answer : goal.returns-in-Err-clause-answer
 returns-in-Err-clause-answer g c =
     let was = c.in-Ok.ensures in
     let back =
-    taken_back c.args.model.now c.apply.new.self c.take_back.new.self c.in-Ok.undo
-    (record { edit = was.edit; back = was.before; parked = was.parked })
-    c.take_back.ensures.model c.take_back.ensures.parked in
-    edit_answer c.args.model.now c.take_back.new.self c.args.lazy.now c.push.new.lazy c.args.edit
+        c.take_back.ensures c.args.model.now
+        (record { edit = was.edit; back = was.before; parked = was.parked }) in
+    edit_answer c.args.model.now c.take_back.new.model c.args.lazy.now c.push.new.lazy c.args.edit
     c.apply.new.self.model c.in-Err.fault c.from.result c.from.ensures was.ok was.model back
     c.in-Err.ensures
 
@@ -24,9 +26,8 @@ pub returns-in-Err-clause-in_step : goal.returns-in-Err-clause-in_step
 returns-in-Err-clause-in_step g c =
     let was = c.in-Ok.ensures in
     let back =
-    taken_back c.args.model.now c.apply.new.self c.take_back.new.self c.in-Ok.undo
-    (record { edit = was.edit; back = was.before; parked = was.parked })
-    c.take_back.ensures.model c.take_back.ensures.parked in
-    step_answer c.args.model.now c.take_back.new.self c.args.lazy.now c.push.new.lazy
+        c.take_back.ensures c.args.model.now
+        (record { edit = was.edit; back = was.before; parked = was.parked }) in
+    step_answer c.args.model.now c.take_back.new.model c.args.lazy.now c.push.new.lazy
     c.args.lazy.now.boxes.table c.apply.new.self.model c.in-Err.fault c.from.result c.from.ensures
     back c.in-Err.ensures c.requires.stands c.requires.settled

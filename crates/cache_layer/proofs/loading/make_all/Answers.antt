@@ -1,4 +1,4 @@
-use Rattle.std.proofs.Common.{◌≡◌, length, reverse, ap, sym, arith, ◌∙◌}
+use Rattle.std.proofs.Common.{length, reverse, ap, sym, arith, ◌∙◌}
 use Rattle.std.specs.Vec.Iter.{into_iter_items}
 use Rattle.std.proofs.lemmas.List.{nil_from_length}
 use Rattle.cache_layer.proofs.Stepping.{all_made, kept_back, one_made, one_refused, waits}

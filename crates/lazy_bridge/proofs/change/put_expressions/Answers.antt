@@ -1,6 +1,6 @@
 use Rattle.std.proofs.Common.{arith, rules, sym, ap, subst, length}
 use Rattle.std.specs.Vec.Iter.{into_iter_items}
-use Rattle.lazy_bridge.proofs.Expressions.{PutSoFar, put_end, put_next, put_start}
+use Rattle.lazy_bridge.proofs.Expressions.{PutSoFar, put_next, put_start}
 use Rattle.lazy_bridge.proofs.change.put_expressions.Goals as goal
 
 pub loop-at-init : goal.loop-at-init

@@ -1,4 +1,3 @@
-use Rattle.std.proofs.Common.{◌≡◌}
 use Rattle.cache_layer.proofs.Editing.{attach_answer, attach_done, still_in_step}
 use Rattle.cache_layer.proofs.cache.CacheOver.attach.Goals as goal
 

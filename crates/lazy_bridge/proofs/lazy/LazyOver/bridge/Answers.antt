@@ -1,4 +1,4 @@
-use Rattle.std.proofs.Common.{◌≡◌, ap, refl, subst, ◌∙◌}
+use Rattle.std.proofs.Common.{ap, refl, subst}
 use Rattle.std.specs.Prelude.{Ok, Err}
 use Rattle.boxes.specs.Boxed.{families_of}
 use Rattle.bridge_plan.specs.Means.{Means}

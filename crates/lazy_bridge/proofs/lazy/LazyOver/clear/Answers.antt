@@ -1,7 +1,7 @@
 use Rattle.std.proofs.Common.{ap, subst, sym, ◌∙◌}
 use Rattle.std.specs.Prelude.{IsTrue}
 use Rattle.lazy_bridge.specs.Native.{supports_native}
-use Rattle.lazy_bridge.specs.Owned.{Owned, setting_in}
+use Rattle.lazy_bridge.specs.Owned.{setting_in}
 use Rattle.lazy_bridge.proofs.lazy.LazyOver.clear.Goals as goal
 
 pub invariant_of-self : goal.invariant_of-self

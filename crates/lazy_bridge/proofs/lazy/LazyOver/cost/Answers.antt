@@ -1,4 +1,4 @@
-use Rattle.std.proofs.Common.{◌↔◌, IfSome, IsNone, ap, subst, ◌∙◌}
+use Rattle.std.proofs.Common.{◌↔◌, IfSome, IsNone, ap, subst}
 use Rattle.bridge_graph.specs.Hypergraph.{Hypergraph}
 use Rattle.bridge_graph.specs.Tree.{IsLeastCost, IsTreeless}
 use Rattle.item_core.specs.Kind.{kind_number}
