@@ -41,7 +41,8 @@ use Rattle.cache_layer.proofs.Standing.{nothing_tried, setting_tried, still_brid
 pub fault_of : (old mid : Owned) (table : Table) (model : ModelValue) (fault : PushFault)
     → IsBridgedBy old table model (Err fault) mid → IsFaultOf model fault
 fault_of old mid table model (push.Unsupported kind) h = tt
-fault_of old mid table model (push.Overflow at) h = (setting_by table old.boxes.states, h.0.0, h.0.1)
+fault_of old mid table model (push.Overflow at) h =
+    (setting_by table old.boxes.states, h.0.0, h.0.1)
 fault_of old mid table model push.Memory h = tt
 
 along : (old mid new : Owned) (table : Table) (model : ModelValue) (fault : PushFault)
@@ -220,7 +221,9 @@ read_by lazy vars rows objective = record {
 nothing_read : {X Y : Type 0} (read : X → Y) (leaves : FinMap nat_cmp X)
     → by_address read finite.empty leaves ≡ finite.empty
 nothing_read read leaves =
-    ap (λ (es : List (Address × ℕ)). finite.from_sorted {R = address_cmp} (flat_map (placed read leaves) es))
+    ap
+    (λ (es : List (Address × ℕ)).
+    finite.from_sorted {R = address_cmp} (flat_map (placed read leaves) es))
     (entries_empty address_cmp)
     ∙ (ap (finite.from_sorted {R = address_cmp}) (sym (entries_empty address_cmp))
     ∙ from_sorted-entries address_total finite.empty)
@@ -230,7 +233,8 @@ empty_leaves lazy h =
     let o = lazy.solver.leaves.objective in
     ap (λ v. read_by lazy v lazy.map.rows.indices o) h.vars
     ∙ (ap (λ r. read_by lazy finite.empty r o) h.rows
-    ∙ (ap (λ p. read_by lazy finite.empty finite.empty p) (ap (λ (l : Leaves). l.objective) h.leaves)
+    ∙ (ap (read_by lazy finite.empty finite.empty)
+    (ap (λ (l : Leaves). l.objective) h.leaves)
     ∙ λ i. record {
       variables = nothing_read (λ var. var) lazy.solver.leaves.vars i;
       rows = nothing_read (read_row finite.empty) lazy.solver.leaves.rows i;

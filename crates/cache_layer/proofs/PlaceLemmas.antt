@@ -111,7 +111,8 @@ objective_told : (model : ModelValue) (objective : Objective)
     → All (IsTold model) (objective_items objective)
 objective_told model objective.Feasibility = All-nil (IsTold model)
 objective_told model (objective.Plain sense var) =
-    All-cons (IsTold model) (objective_item (body.PlainObj sense var)) [] refl (All-nil (IsTold model))
+    All-cons (IsTold model) (objective_item (body.PlainObj sense var)) [] refl
+    (All-nil (IsTold model))
 objective_told model (objective.Affine sense func) =
     All-cons (IsTold model) (objective_item (body.AffineObj sense func)) [] refl
     (All-nil (IsTold model))

@@ -47,14 +47,15 @@ parts_by means solver at_map at = record {
 abbrev parts_in : Owned → Parts
 parts_in lazy = parts_by (means_of lazy.boxes) lazy.solver lazy.map lazy.objective_at
 
-parts_of : (lazy : Owned) (model : ModelValue) → IsBridgingOf lazy model → AreOf (parts_in lazy) model
+parts_of : (lazy : Owned) (model : ModelValue) → IsBridgingOf lazy model
+    → AreOf (parts_in lazy) model
 parts_of lazy model h = record {
   bridging = h.bridging;
   made = h.made;
   leaves = h.leaves;
   kept =
-      All-map (λ (k : Family × Kept). k.1 ≡ nodes_by h.bridging k.0) (λ (s : State). (s.family, s.kept))
-      lazy.boxes.states h.kept;
+      All-map (λ (k : Family × Kept). k.1 ≡ nodes_by h.bridging k.0)
+      (λ (s : State). (s.family, s.kept)) lazy.boxes.states h.kept;
   exprs = h.exprs;
 }
 
@@ -65,8 +66,8 @@ from_parts lazy model h = record {
   made = h.made;
   leaves = h.leaves;
   kept =
-      all_from_map (λ (k : Family × Kept). k.1 ≡ nodes_by h.bridging k.0) (λ (s : State). (s.family, s.kept))
-      lazy.boxes.states h.kept;
+      all_from_map (λ (k : Family × Kept). k.1 ≡ nodes_by h.bridging k.0)
+      (λ (s : State). (s.family, s.kept)) lazy.boxes.states h.kept;
   exprs = h.exprs;
 }
 
@@ -100,7 +101,8 @@ still_nothing old new solver at_map kept h =
     }
 
 pub nothing_tried : (old new : Owned) → IsTried old new → HoldsNothing old → HoldsNothing new
-nothing_tried old new t h = still_nothing old new t.solver t.map (ap (λ (m : Means). m.kept) t.means) h
+nothing_tried old new t h =
+    still_nothing old new t.solver t.map (ap (λ (m : Means). m.kept) t.means) h
 
 pub setting_tried : (old new : Owned) → IsTried old new → setting_in new ≡ setting_in old
 setting_tried old new t = ap (λ (m : Means). m.setting) t.means

@@ -41,7 +41,8 @@ settled shorter mid new undo parked model but =
 
 -- ---- undos, the last first
 
-pub last_first : (undos : List Undo) (undo : Undo) → reverse (undos ++ undo ∷ []) ≡ undo ∷ reverse undos
+pub last_first : (undos : List Undo) (undo : Undo)
+    → reverse (undos ++ undo ∷ []) ≡ undo ∷ reverse undos
 last_first undos undo = reverse-append undos (undo ∷ [])
 
 -- the last undo is that of the last step
@@ -176,4 +177,5 @@ pub not_edited : (user new_user : Stored) (lazy : Owned) (edit : Edit) (fault : 
     (state_of (cached new_user lazy false))
 not_edited user new_user lazy edit (Refused refusal) h =
     (sym h.0, ap (λ (u : Stored). state_of (cached u lazy false)) h.1)
-not_edited user new_user lazy edit Memory h = ap (λ (u : Stored). state_of (cached u lazy false)) h.1
+not_edited user new_user lazy edit Memory h =
+    ap (λ (u : Stored). state_of (cached u lazy false)) h.1

@@ -29,7 +29,8 @@ IsBridgedInNames old table model (Err (Unsupported kind)) new =
     IsBridgedBy old table model (Err (push.Unsupported kind)) new
 IsBridgedInNames old table model (Err (Overflow place)) new =
     OverflowsAt (state_by old table model) place × IsTried old new
-IsBridgedInNames old table model (Err Memory) new = IsBridgedBy old table model (Err push.Memory) new
+IsBridgedInNames old table model (Err Memory) new =
+    IsBridgedBy old table model (Err push.Memory) new
 
 -- without memory the solver is let go
 abbrev pub stays : Result (Option ℕ) EditFault → Bool

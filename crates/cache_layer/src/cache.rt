@@ -117,7 +117,8 @@ impl<B: Bridge> CacheOver<B> {
         Ok(leaves)
     }
 
-    /// Detaches the solver, whose model is empty afterwards. Refused exactly where none is attached.
+    /// Detaches the solver, whose model is empty afterwards. Refused exactly where none is
+    /// attached.
     pub fn detach(&mut self) -> Result<(), NotAttached>
         ensures ok { IfOk result (λ _. (self.old.attached ≡ true)
             × (state_of self.new ≡ detached (state_of self.old))) }

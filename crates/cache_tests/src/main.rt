@@ -8,7 +8,7 @@
 //     # ..              a remark, which is printed
 #![tactic(auto)]
 
-mod boxes;
+mod families;
 mod session;
 mod shown;
 mod tables;
@@ -16,5 +16,5 @@ mod tables;
 use anyhow::Result;
 
 fn main(rt: HostRuntime) -> Result<()> {
-    boxes::run(&rt)
+    families::run(&rt)
 }

@@ -6,7 +6,7 @@
 //     LINE        a line of the script
 #![tactic(auto)]
 
-mod boxes;
+mod families;
 mod session;
 
 use anyhow::Result;
@@ -16,11 +16,11 @@ fn main(rt: HostRuntime) -> Result<()> {
     for line in rt.lines(rt.alloc()) {
         let line = line?;
         if line.as_str() == "anew" {
-            boxes::all(&rt, &lines)?;
+            families::all(&rt, &lines)?;
             lines = Vec::new(rt.alloc());
         } else {
             lines.push(line)?;
         }
     }
-    boxes::all(&rt, &lines)
+    families::all(&rt, &lines)
 }

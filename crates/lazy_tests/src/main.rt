@@ -10,7 +10,7 @@
 //     # ..                     a remark, which is printed
 #![tactic(auto)]
 
-mod boxes;
+mod families;
 mod session;
 mod shown;
 
@@ -22,9 +22,9 @@ fn main(rt: HostRuntime) -> Result<()> {
         lines.push(line?)?;
     }
     println!(rt; "all families")?;
-    boxes::all(&rt, &lines)?;
+    families::all(&rt, &lines)?;
     println!(rt; "nine families, the last one first")?;
-    boxes::reversed(&rt, &lines)?;
+    families::reversed(&rt, &lines)?;
     println!(rt; "families that reshape functions")?;
-    boxes::few(&rt, &lines)
+    families::few(&rt, &lines)
 }

@@ -16,8 +16,8 @@ pub returns-in-Err-clause-answer : goal.returns-in-Err-clause-answer
 returns-in-Err-clause-answer g c =
     let was = c.in-Ok.ensures in
     let back =
-        c.take_back.ensures c.args.model.now
-        (record { edit = was.edit; back = was.before; parked = was.parked }) in
+    c.take_back.ensures c.args.model.now
+    (record { edit = was.edit; back = was.before; parked = was.parked }) in
     edit_answer c.args.model.now c.take_back.new.model c.args.lazy.now c.push.new.lazy c.args.edit
     c.apply.new.self.model c.in-Err.fault c.from.result c.from.ensures was.ok was.model back
     c.in-Err.ensures
@@ -26,8 +26,8 @@ pub returns-in-Err-clause-in_step : goal.returns-in-Err-clause-in_step
 returns-in-Err-clause-in_step g c =
     let was = c.in-Ok.ensures in
     let back =
-        c.take_back.ensures c.args.model.now
-        (record { edit = was.edit; back = was.before; parked = was.parked }) in
+    c.take_back.ensures c.args.model.now
+    (record { edit = was.edit; back = was.before; parked = was.parked }) in
     step_answer c.args.model.now c.take_back.new.model c.args.lazy.now c.push.new.lazy
     c.args.lazy.now.boxes.table c.apply.new.self.model c.in-Err.fault c.from.result c.from.ensures
     back c.in-Err.ensures c.requires.stands c.requires.settled

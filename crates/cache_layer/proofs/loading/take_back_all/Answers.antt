@@ -6,7 +6,7 @@ use Rattle.cache_layer.proofs.loading.take_back_all.Goals as goal
 pub loop-undo-preserved : goal.loop-undo-preserved
 loop-undo-preserved c = λ start h.
     let last =
-        last_step start c.loop-undo.model c.loop-undo.undos.items c.pop.new.self.items
-        c.in-Some.undo c.in-Some.ensures.items (c.loop-undo.invariant start h) in
+    last_step start c.loop-undo.model c.loop-undo.undos.items c.pop.new.self.items
+    c.in-Some.undo c.in-Some.ensures.items (c.loop-undo.invariant start h) in
     subst (LeadBack start (reverse c.pop.new.self.items))
     (sym (c.take_back.ensures last.0 last.2)) last.1
