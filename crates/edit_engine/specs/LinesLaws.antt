@@ -69,6 +69,7 @@ heard-append (line ∷ done) more h =
     first_of : (a b : Bool) → (a || b) ≡ false → a ≡ false
     first_of true b e = absurd (true≢false e)
     first_of false b e = refl
+
     others_of : (a b : Bool) → (a || b) ≡ false → b ≡ false
     others_of true b e = absurd (true≢false e)
     others_of false b e = e
