@@ -1,0 +1,175 @@
+//! Functions by their types.
+ghost use Rattle.std.specs.Prelude.{[]};
+ghost use Rattle.serde_json.specs.View.{items_view, view};
+ghost use Rattle.user_model.specs.declared.edit.NamedFunc.TheVariants as named;
+ghost use Rattle.mof_file.specs.Functions.{add_variable, affine_of, function_of_any, objective_function_of, scalar_function_of, typed_function_of, variable_of, variables_of, vector_affine_of};
+ghost use Rattle.mof_values.specs.Values.{field, walk_at};
+ghost use Rattle.mof_values.specs.Walked.{Meets, each, mapped};
+
+use crate::scalar::affine;
+use crate::terms::{variable, variable_field};
+use crate::vectors::vector_affine;
+use indexmap::IndexSet;
+use mof_values::{MofFault, array, field, is, require_object, text_field, unknown_kind};
+use name_index::{Name, Names};
+use serde_json::Value;
+use std::alloc::Global;
+use user_model::NamedFunc;
+
+/// A function of any type.
+#[tactic(auto, unfolding(crate::specs::Functions::function_of_any))]
+pub(crate) fn function(
+    alloc: Global,
+    known: &IndexSet<Name>,
+    value: &Value,
+) -> Result<NamedFunc, MofFault>
+    ensures { Meets (λ func. func) result (function_of_any known.now.keys (view value.now)) }
+{
+    require_object(alloc, value)?;
+    let kind = text_field(alloc, "type", value)?;
+    typed_function(alloc, known, kind, value)
+}
+
+/// A function of numbers.
+#[tactic(auto, unfolding(crate::specs::Functions::objective_function_of))]
+pub(crate) fn objective_function(
+    alloc: Global,
+    known: &IndexSet<Name>,
+    value: &Value,
+) -> Result<NamedFunc, MofFault>
+    ensures { Meets (λ func. func) result (objective_function_of known.now.keys (view value.now)) }
+{
+    require_object(alloc, value)?;
+    let kind = text_field(alloc, "type", value)?;
+    scalar_function(alloc, known, kind, value)
+}
+
+#[tactic(auto, unfolding(crate::specs::Functions::typed_function_of))]
+fn typed_function(
+    alloc: Global,
+    known: &IndexSet<Name>,
+    kind: &str,
+    value: &Value,
+) -> Result<NamedFunc, MofFault>
+    ensures { Meets (λ func. func) result
+        (typed_function_of known.now.keys kind.now (view value.now)) }
+{
+    if is(kind, "VectorOfVariables") {
+        plain_vec(alloc, known, value)
+    } else if is(kind, "VectorAffineFunction") {
+        affine_vec(alloc, known, value)
+    } else {
+        scalar_function(alloc, known, kind, value)
+    }
+}
+
+#[tactic(auto, unfolding(crate::specs::Functions::scalar_function_of))]
+fn scalar_function(
+    alloc: Global,
+    known: &IndexSet<Name>,
+    kind: &str,
+    value: &Value,
+) -> Result<NamedFunc, MofFault>
+    ensures { Meets (λ func. func) result
+        (scalar_function_of known.now.keys kind.now (view value.now)) }
+{
+    if is(kind, "Variable") {
+        plain(alloc, known, value)
+    } else if is(kind, "ScalarAffineFunction") {
+        scalar_affine(alloc, known, value)
+    } else {
+        Err(unknown_kind(alloc))
+    }
+}
+
+fn plain(alloc: Global, known: &IndexSet<Name>, value: &Value) -> Result<NamedFunc, MofFault>
+    ensures { Meets (λ func. func) result
+        (mapped named.Plain (field (variable_of known.now.keys) "name" (view value.now))) }
+{
+    let variable = variable_field(alloc, known, "name", value)?;
+    Ok(NamedFunc::Plain(variable))
+}
+
+fn scalar_affine(
+    alloc: Global,
+    known: &IndexSet<Name>,
+    value: &Value,
+) -> Result<NamedFunc, MofFault>
+    ensures { Meets (λ func. func) result
+        (mapped named.Affine (affine_of known.now.keys (view value.now))) }
+{
+    let func = affine(alloc, known, value)?;
+    Ok(NamedFunc::Affine(func))
+}
+
+fn plain_vec(alloc: Global, known: &IndexSet<Name>, value: &Value) -> Result<NamedFunc, MofFault>
+    ensures { Meets (λ func. func) result
+        (mapped named.PlainVec (field (variables_of known.now.keys) "variables" (view value.now))) }
+{
+    let variables = variables_field(alloc, known, "variables", value)?;
+    Ok(NamedFunc::PlainVec(variables))
+}
+
+fn affine_vec(alloc: Global, known: &IndexSet<Name>, value: &Value) -> Result<NamedFunc, MofFault>
+    ensures { Meets (λ func. func) result
+        (mapped named.AffineVec (vector_affine_of known.now.keys (view value.now))) }
+{
+    let functions = vector_affine(alloc, known, value)?;
+    Ok(NamedFunc::AffineVec(functions))
+}
+
+#[tactic(auto, unfolding(mof_values::specs::Values::walk_at))]
+fn variables_field(
+    alloc: Global,
+    known: &IndexSet<Name>,
+    name: &str,
+    value: &Value,
+) -> Result<Names, MofFault>
+    ensures { Meets (λ names. names) result
+        (walk_at (variables_of known.now.keys) name.now (view value.now)) }
+{
+    let found = field(alloc, name, value)?;
+    match variable_list(alloc, known, found) {
+        Ok(variables) => Ok(variables),
+        Err(fault) => Err(fault.under_key(alloc, name)),
+    }
+}
+
+#[tactic(auto, unfolding(crate::specs::Functions::variables_of))]
+fn variable_list(alloc: Global, known: &IndexSet<Name>, value: &Value) -> Result<Names, MofFault>
+    ensures { Meets (λ names. names) result (variables_of known.now.keys (view value.now)) }
+{
+    let items = array(alloc, value)?;
+    names(alloc, known, items)
+}
+
+#[tactic(auto, using(mof_values::specs::WalkLaws::each_steps))]
+fn names(alloc: Global, known: &IndexSet<Name>, items: &[Value]) -> Result<Names, MofFault>
+    ensures { Meets (λ names. names) result
+        (each (add_variable known.now.keys) 0 [] (items_view items.now)) }
+{
+    let mut names = Names::new(alloc);
+    for (place, item) in items.iter().enumerate() {
+        match add_variable(alloc, known, &mut names, item) {
+            Ok(()) => (),
+            Err(fault) => return Err(fault.under_index(alloc, place)),
+        }
+    }
+    Ok(names)
+}
+
+#[tactic(auto, unfolding(crate::specs::Functions::add_variable))]
+fn add_variable(
+    alloc: Global,
+    known: &IndexSet<Name>,
+    names: &mut Names,
+    item: &Value,
+) -> Result<(), MofFault>
+    ensures { Meets (λ _. names.new) result (add_variable known.now.keys names.old (view item.now)) }
+{
+    let name = variable(alloc, known, item)?;
+    match names.push(name) {
+        Ok(()) => Ok(()),
+        Err(_) => Err(MofFault::Memory),
+    }
+}

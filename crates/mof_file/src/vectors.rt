@@ -1,0 +1,311 @@
+//! Affine functions of vectors.
+ghost use Rattle.std.specs.Prelude.{◌≡◌, ◌<◌, Some, None, IfOk, [], ◌∷◌, ◌++◌, if◌then◌else◌, length, map};
+ghost use Rattle.serde_json.specs.View.{items_view, view};
+ghost use Rattle.mof_file.specs.Functions.{add_component, add_scalar_term, add_to_output, add_vector_term, components_of, constants_of, function_of, output_of, term_of, vector_affine_of, vector_terms_of, with_term_at, with_term_in};
+ghost use Rattle.mof_values.specs.Values.{field, walk_at};
+ghost use Rattle.mof_values.specs.Walked.{Meets, each};
+
+use crate::terms::term;
+use indexmap::IndexSet;
+use lists::Memory;
+use mof_values::{MofFault, array, field, here, integer, number, require_object};
+use name_index::Name;
+use named_aff::{NamedAff, NamedTerm, NamedVec};
+use named_sums::TermSum;
+use ratio_core::Ratio;
+use serde_json::Value;
+use std::alloc::Global;
+
+/// A component in the making: its terms so far, and its constant.
+#[derive(Drop)]
+pub(crate) struct Component {
+    terms: TermSum,
+    constant: Ratio,
+}
+
+/// The function that a value says.
+#[tactic(auto, unfolding(crate::specs::Functions::vector_affine_of))]
+pub(crate) fn vector_affine(
+    alloc: Global,
+    known: &IndexSet<Name>,
+    value: &Value,
+) -> Result<NamedVec, MofFault>
+    ensures { Meets (λ funcs. funcs) result (vector_affine_of known.now.keys (view value.now)) }
+{
+    let components = components(alloc, known, value)?;
+    let functions = functions(alloc, components)?;
+    Ok(functions)
+}
+
+#[tactic(auto, unfolding(crate::specs::Functions::components_of))]
+fn components(
+    alloc: Global,
+    known: &IndexSet<Name>,
+    value: &Value,
+) -> Result<Vec<Component>, MofFault>
+    ensures { Meets (λ components. components.items) result
+        (components_of known.now.keys (view value.now)) }
+{
+    let constants = constants_field(alloc, "constants", value)?;
+    vector_terms_field(alloc, known, constants, "terms", value)
+}
+
+#[tactic(auto, unfolding(mof_values::specs::Values::walk_at))]
+fn constants_field(alloc: Global, name: &str, value: &Value) -> Result<Vec<Component>, MofFault>
+    ensures { Meets (λ constants. constants.items) result
+        (walk_at constants_of name.now (view value.now)) }
+{
+    let found = field(alloc, name, value)?;
+    match constants(alloc, found) {
+        Ok(constants) => Ok(constants),
+        Err(fault) => Err(fault.under_key(alloc, name)),
+    }
+}
+
+#[tactic(auto, unfolding(crate::specs::Functions::constants_of))]
+fn constants(alloc: Global, value: &Value) -> Result<Vec<Component>, MofFault>
+    ensures { Meets (λ constants. constants.items) result (constants_of (view value.now)) }
+{
+    let items = array(alloc, value)?;
+    constant_components(alloc, items)
+}
+
+// A component a constant.
+#[tactic(auto, using(mof_values::specs::WalkLaws::each_steps))]
+fn constant_components(alloc: Global, items: &[Value]) -> Result<Vec<Component>, MofFault>
+    ensures { Meets (λ components. components.items) result
+        (each add_component 0 [] (items_view items.now)) }
+{
+    let mut components = Vec::new(alloc);
+    for (place, item) in items.iter().enumerate() {
+        match add_component(alloc, &mut components, item) {
+            Ok(()) => (),
+            Err(fault) => return Err(fault.under_index(alloc, place)),
+        }
+    }
+    Ok(components)
+}
+
+#[tactic(auto, unfolding(crate::specs::Functions::add_component))]
+fn add_component(
+    alloc: Global,
+    components: &mut Vec<Component>,
+    item: &Value,
+) -> Result<(), MofFault>
+    ensures { Meets (λ _. components.new.items) result
+        (add_component components.old.items (view item.now)) }
+{
+    let constant = number(alloc, item)?;
+    components.push(Component {
+        terms: TermSum::new(alloc),
+        constant,
+    })?;
+    Ok(())
+}
+
+#[tactic(auto, unfolding(mof_values::specs::Values::walk_at))]
+fn vector_terms_field(
+    alloc: Global,
+    known: &IndexSet<Name>,
+    components: Vec<Component>,
+    name: &str,
+    value: &Value,
+) -> Result<Vec<Component>, MofFault>
+    ensures { Meets (λ components. components.items) result
+        (walk_at (vector_terms_of known.now.keys components.items) name.now (view value.now)) }
+{
+    let found = field(alloc, name, value)?;
+    match vector_terms(alloc, known, components, found) {
+        Ok(components) => Ok(components),
+        Err(fault) => Err(fault.under_key(alloc, name)),
+    }
+}
+
+#[tactic(auto, unfolding(crate::specs::Functions::vector_terms_of))]
+fn vector_terms(
+    alloc: Global,
+    known: &IndexSet<Name>,
+    components: Vec<Component>,
+    value: &Value,
+) -> Result<Vec<Component>, MofFault>
+    ensures { Meets (λ components. components.items) result
+        (vector_terms_of known.now.keys components.items (view value.now)) }
+{
+    let items = array(alloc, value)?;
+    summed_components(alloc, known, components, items)
+}
+
+#[tactic(auto, using(mof_values::specs::WalkLaws::each_steps))]
+fn summed_components(
+    alloc: Global,
+    known: &IndexSet<Name>,
+    components: Vec<Component>,
+    items: &[Value],
+) -> Result<Vec<Component>, MofFault>
+    ensures { Meets (λ components. components.items) result
+        (each (add_vector_term known.now.keys) 0 components.items (items_view items.now)) }
+{
+    let mut components = components;
+    for (place, item) in items.iter().enumerate() {
+        match add_vector_term(alloc, known, &mut components, item) {
+            Ok(()) => (),
+            Err(fault) => return Err(fault.under_index(alloc, place)),
+        }
+    }
+    Ok(components)
+}
+
+// Adds a term of the file to its component.
+#[tactic(auto, unfolding(crate::specs::Functions::add_vector_term))]
+fn add_vector_term(
+    alloc: Global,
+    known: &IndexSet<Name>,
+    components: &mut Vec<Component>,
+    item: &Value,
+) -> Result<(), MofFault>
+    ensures { Meets (λ _. components.new.items) result
+        (add_vector_term known.now.keys components.old.items (view item.now)) }
+{
+    require_object(alloc, item)?;
+    add_to_output(alloc, known, components, item)
+}
+
+#[tactic(auto, unfolding(crate::specs::Functions::add_to_output))]
+fn add_to_output(
+    alloc: Global,
+    known: &IndexSet<Name>,
+    components: &mut Vec<Component>,
+    item: &Value,
+) -> Result<(), MofFault>
+    ensures { Meets (λ _. components.new.items) result
+        (add_to_output known.now.keys components.old.items (view item.now)) }
+{
+    let output = output_index(alloc, components, item)?;
+    add_scalar_term(alloc, known, components, output, item)
+}
+
+// Adds a term to the component at a place.
+#[tactic(auto, unfolding(crate::specs::Functions::add_scalar_term))]
+fn add_scalar_term(
+    alloc: Global,
+    known: &IndexSet<Name>,
+    components: &mut Vec<Component>,
+    output: usize,
+    item: &Value,
+) -> Result<(), MofFault>
+    ensures { Meets (λ _. components.new.items) result
+        (add_scalar_term known.now.keys components.old.items output (view item.now)) }
+{
+    let term = scalar_term(alloc, known, item)?;
+    if add_to_component(components, output, term)? {
+        Ok(())
+    } else {
+        Err(MofFault::BadNumber { place: here(alloc) })
+    }
+}
+
+fn output_index(
+    alloc: Global,
+    components: &Vec<Component>,
+    value: &Value,
+) -> Result<usize, MofFault>
+    ensures { Meets (λ output. output) result
+        (field (output_of components.now.items) "output_index" (view value.now)) }
+{
+    output_field(alloc, components, "output_index", value)
+}
+
+#[tactic(auto, unfolding(mof_values::specs::Values::walk_at))]
+fn output_field(
+    alloc: Global,
+    components: &Vec<Component>,
+    name: &str,
+    value: &Value,
+) -> Result<usize, MofFault>
+    ensures { Meets (λ output. output) result
+        (walk_at (output_of components.now.items) name.now (view value.now)) }
+{
+    let found = field(alloc, name, value)?;
+    match output(alloc, components, found) {
+        Ok(output) => Ok(output),
+        Err(fault) => Err(fault.under_key(alloc, name)),
+    }
+}
+
+// The place of an output, which are counted from 1.
+#[tactic(auto, unfolding(crate::specs::Functions::output_of))]
+fn output(alloc: Global, components: &Vec<Component>, value: &Value) -> Result<usize, MofFault>
+    ensures { Meets (λ output. output) result (output_of components.now.items (view value.now)) }
+{
+    let output = integer(alloc, value)? as usize;
+    if output > 0 && output <= components.len() {
+        Ok(output - 1)
+    } else {
+        Err(MofFault::Shape { place: here(alloc) })
+    }
+}
+
+fn scalar_term(alloc: Global, known: &IndexSet<Name>, value: &Value) -> Result<NamedTerm, MofFault>
+    ensures { Meets (λ term. term) result
+        (field (term_of known.now.keys) "scalar_term" (view value.now)) }
+{
+    term_field(alloc, known, "scalar_term", value)
+}
+
+#[tactic(auto, unfolding(mof_values::specs::Values::walk_at))]
+fn term_field(
+    alloc: Global,
+    known: &IndexSet<Name>,
+    name: &str,
+    value: &Value,
+) -> Result<NamedTerm, MofFault>
+    ensures { Meets (λ term. term) result
+        (walk_at (term_of known.now.keys) name.now (view value.now)) }
+{
+    let found = field(alloc, name, value)?;
+    match term(alloc, known, found) {
+        Ok(term) => Ok(term),
+        Err(fault) => Err(fault.under_key(alloc, name)),
+    }
+}
+
+// Adds a term to the component at a place, and says whether there is one and the sum fits.
+fn add_to_component(
+    components: &mut Vec<Component>,
+    output: usize,
+    term: NamedTerm,
+) -> Result<bool, Memory>
+    ensures { IfOk result (λ fits. with_term_at components.old.items output term
+        ≡ (if fits then Some components.new.items else None)) }
+{
+    if output >= components.len() {
+        return Ok(false);
+    }
+    components[output].add(term)
+}
+
+impl Component {
+    ghost use Rattle.std.specs.Prelude.{◌≡◌, Some, None, IfOk, if◌then◌else◌};
+    ghost use Rattle.mof_file.specs.Functions.{with_term_in};
+
+    fn add(&mut self, term: NamedTerm) -> Result<bool, Memory>
+        ensures { IfOk result (λ fits. with_term_in term self.old
+            ≡ (if fits then Some self.new else None)) }
+    {
+        self.terms.add(term)
+    }
+}
+
+fn functions(alloc: Global, components: Vec<Component>) -> Result<NamedVec, Memory>
+    ensures { IfOk result (λ functions. functions ≡ map function_of components.items) }
+{
+    let mut functions = Vec::new(alloc);
+    for component in components {
+        let terms = component.terms.into_terms(alloc)?;
+        functions.push(NamedAff {
+            terms,
+            constant: component.constant,
+        })?;
+    }
+    Ok(NamedVec::from_vec(functions))
+}

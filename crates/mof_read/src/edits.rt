@@ -1,0 +1,67 @@
+//! The edits of a file.
+ghost use Rattle.std.specs.Prelude.{◌≡◌, ◌++◌, IfOk, OnOk};
+ghost use Rattle.mof_file.specs.File.{seen};
+ghost use Rattle.mof_read.specs.Edits.{edits_in, edits_of, objective_edits};
+ghost use Rattle.mof_values.specs.Walked.{Meets};
+
+use crate::groups::in_order;
+use crate::sorting::{Sorting, sorted};
+use lists::{Memory, Sequence};
+use mof_file::{FileObjective, MofFault, MofFile, read_file};
+use std::alloc::Global;
+use user_model::Edit;
+
+/// Edits in their order.
+pub type Edits = Sequence<Edit>;
+
+/// The edits that make a file's model from an empty one: its groups, rows and objective; or the
+/// first fault of the file, in the order of the walk, with its place.
+#[tactic(auto, unfolding(crate::specs::Edits::edits_in))]
+pub fn read(alloc: Global, text: &[u8]) -> Result<Edits, MofFault>
+    ensures { Meets (λ edits. edits) result (edits_in text.now) }
+{
+    let file = read_file(alloc, text)?;
+    let edits = edits_of(alloc, file)?;
+    Ok(edits)
+}
+
+#[tactic(auto, unfolding(crate::specs::Edits::edits_of))]
+fn edits_of(alloc: Global, file: MofFile) -> Result<Edits, Memory>
+    ensures { IfOk result (λ edits. edits ≡ edits_of (seen file)) }
+{
+    let MofFile {
+        variables,
+        objective,
+        constraints,
+    } = file;
+    let Sorting {
+        groups,
+        owners,
+        rows,
+    } = sorted(alloc, constraints)?;
+    let mut edits = in_order(alloc, &owners, groups, variables)?;
+    put_rows(&mut edits, rows)?;
+    put_objective(&mut edits, objective)?;
+    Ok(Sequence::from_vec(edits))
+}
+
+fn put_rows(edits: &mut Vec<Edit>, rows: Vec<Edit>) -> Result<(), Memory>
+    ensures { OnOk result (edits.new.items ≡ edits.old.items ++ rows.items) }
+{
+    for row in rows {
+        edits.push(row)?;
+    }
+    Ok(())
+}
+
+fn put_objective(edits: &mut Vec<Edit>, objective: FileObjective) -> Result<(), Memory>
+    ensures { OnOk result (edits.new.items ≡ edits.old.items ++ objective_edits objective) }
+{
+    match objective {
+        FileObjective::Feasibility => Ok(()),
+        FileObjective::Optimize { sense, func } => {
+            edits.push(Edit::Objective { sense, func })?;
+            Ok(())
+        }
+    }
+}

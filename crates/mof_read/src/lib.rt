@@ -1,0 +1,10 @@
+//! The edits that make a MathOptFormat file's model from an empty one.
+#![tactic(auto)]
+
+mod edits;
+mod groups;
+mod names;
+mod sorting;
+
+pub use edits::{Edits, read};
+pub use mof_file::MofFault;

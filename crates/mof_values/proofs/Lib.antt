@@ -1,0 +1,2 @@
+mod NameTexts
+mod NumberLaws

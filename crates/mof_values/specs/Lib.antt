@@ -1,0 +1,4 @@
+pub mod Walked
+pub mod Values
+pub mod Sets
+pub mod WalkLaws

@@ -1,0 +1,15 @@
+//! Values at the places of a MathOptFormat file, read from its JSON value, or the first fault with
+//! its place.
+#![tactic(auto)]
+
+mod fault;
+mod fields;
+mod numbers;
+mod sets;
+mod texts;
+
+pub use fault::{MofFault, here};
+pub use fields::{array, field, require_object};
+pub use numbers::{integer, integer_field, number, number_field};
+pub use sets::read_set;
+pub use texts::{given_name, is, name, text, text_field, unknown_kind};
