@@ -24,7 +24,7 @@ use std::alloc::Global;
 use user_model::Row;
 
 /// For each variable its coefficients times the duals, added over rows and components.
-pub(crate) fn adjoint_of_rows(
+pub fn adjoint_of_rows(
     alloc: Global,
     variables: &Variables,
     rows: &[Row],

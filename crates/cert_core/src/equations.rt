@@ -40,7 +40,8 @@ pub(crate) fn are_reduced_costs(
     Ok(all)
 }
 
-fn reduced_cost(sense: Sense, cost: &Ratio, adjoint: &Ratio) -> Result<Ratio, CheckFault>
+/// What the objective's coefficient and the rows' adjoint leave for a variable's dual.
+pub fn reduced_cost(sense: Sense, cost: &Ratio, adjoint: &Ratio) -> Result<Ratio, CheckFault>
     ensures { ExactWhere result (CostFits sense cost.now adjoint.now)
         (λ q. q ≡ dual.reduced_cost sense cost.now adjoint.now) }
 {

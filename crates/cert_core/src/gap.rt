@@ -35,7 +35,8 @@ pub(crate) fn gap_of_rows(rows: &[Row], duals: &[Ratios]) -> Result<Ratio, Check
     Ok(sum)
 }
 
-fn plus_row(sum: &Ratio, row: &Row, duals: &[Ratio]) -> Result<Ratio, CheckFault>
+/// What a row adds to the gap, added to a number.
+pub fn plus_row(sum: &Ratio, row: &Row, duals: &[Ratio]) -> Result<Ratio, CheckFault>
     requires set { HasRowSet row.now }
     requires size { length duals.now ≡ length (functions_of row.now.func) }
     ensures { let parts = gap_parts_of (row_with duals.now row.now) in
@@ -73,11 +74,7 @@ fn less_products(sum: &Ratio, fs: &[Aff], duals: &[Ratio]) -> Result<Ratio, Chec
 }
 
 /// The gap of the rows, with what the groups add to it wherever these are the variables' duals.
-pub(crate) fn plus_groups(
-    of_rows: &Ratio,
-    groups: &[Group],
-    duals: &[Ratio],
-) -> Result<Ratio, CheckFault>
+pub fn plus_groups(of_rows: &Ratio, groups: &[Group], duals: &[Ratio]) -> Result<Ratio, CheckFault>
     requires sets { All HasGroupSet groups.now }
     requires size { length duals.now ≡ length (all_addresses groups.now) }
     ensures { (w : Address → Rational) → map w (all_addresses groups.now) ≡ duals.now

@@ -17,7 +17,14 @@ mod readings;
 mod sums;
 mod variables;
 
+pub use adjoint::adjoint_of_rows;
 pub use certificates::{Certificate, DualRows};
 pub use checking::check;
 pub use components::component_count;
+pub use equations::reduced_cost;
 pub use fault::CheckFault;
+pub use gap::{plus_groups, plus_row};
+pub use objective::{cost, reading_of, sense};
+pub use point::Point;
+pub use readings::Reading;
+pub use variables::Variables;

@@ -15,7 +15,8 @@ use aff_core::Address;
 use ratio_core::Ratio;
 use user_model::{Objective, Sense};
 
-pub(crate) fn sense(objective: &Objective) -> Sense
+/// The objective's sense.
+pub fn sense(objective: &Objective) -> Sense
     ensures { result ≡ sense_of objective.now }
 {
     match objective {
@@ -37,7 +38,7 @@ pub(crate) fn constant(objective: &Objective) -> Ratio
 
 /// The coefficient of a variable.
 #[tactic(auto, using(crate::proofs::Evaluated::coefficient_of_constant))]
-pub(crate) fn cost(objective: &Objective, at: &Address) -> Ratio
+pub fn cost(objective: &Objective, at: &Address) -> Ratio
     ensures { result ≡ coefficient (objective_function objective.now) at.now }
 {
     match objective {
@@ -60,11 +61,7 @@ fn unit(var: &Address, at: &Address) -> Ratio
 }
 
 /// The objective's value at a point, or its slope along a ray.
-pub(crate) fn reading_of(
-    objective: &Objective,
-    reading: Reading,
-    at: &Point,
-) -> Result<Ratio, CheckFault>
+pub fn reading_of(objective: &Objective, reading: Reading, at: &Point) -> Result<Ratio, CheckFault>
     ensures { let x = numbers_in at.now in
         ExactWhere result
         (EvaluationFits (one_of reading) (objective_function objective.now) x)

@@ -10,20 +10,20 @@ use ratio_core::Ratio;
 
 /// A point: numbers of a model's variables.
 #[derive(Clone, Copy)]
-pub(crate) struct Point<'a> {
+pub struct Point<'a> {
     variables: &'a Variables,
     numbers: &'a [Ratio],
 }
 
 impl<'a> Point<'a> {
-    pub(crate) fn new(variables: &'a Variables, numbers: &'a [Ratio]) -> Point<'a>
+    pub fn new(variables: &'a Variables, numbers: &'a [Ratio]) -> Point<'a>
         ensures { numbers_in result ≡ spread variables.now numbers.now }
     {
         Point { variables, numbers }
     }
 
     /// The number at an address, which is 0 where no variable stands.
-    pub(crate) fn number(&self, at: &Address) -> Ratio
+    pub fn number(&self, at: &Address) -> Ratio
         ensures { result ≡ numbers_in self.now at.now }
     {
         match self.variables.place(at) {

@@ -19,14 +19,14 @@ use set_core::Set;
 
 /// The value at a point, or the slope along a ray.
 #[derive(Clone, Copy)]
-pub(crate) enum Reading {
+pub enum Reading {
     Value,
     Slope,
 }
 
 impl Reading {
     /// The function's value or slope.
-    pub(crate) fn of_function(self, f: &Aff, at: &Point) -> Result<Ratio, CheckFault>
+    pub fn of_function(self, f: &Aff, at: &Point) -> Result<Ratio, CheckFault>
         ensures { let x = numbers_in at.now in
             ExactWhere result (EvaluationFits (one_of self) f.now x)
             (λ q. q ≡ evaluated (one_of self) f.now x) }
@@ -38,7 +38,7 @@ impl Reading {
     }
 
     /// The value or the slope of the function that is a variable.
-    pub(crate) fn of_variable(self, var: &Address, at: &Point) -> Result<Ratio, CheckFault>
+    pub fn of_variable(self, var: &Address, at: &Point) -> Result<Ratio, CheckFault>
         ensures { let x = numbers_in at.now in
             ExactWhere result (EvaluationFits (one_of self) (variable var.now) x)
             (λ q. q ≡ evaluated {R = address_cmp} (one_of self) (variable var.now) x) }
@@ -47,7 +47,7 @@ impl Reading {
     }
 
     /// Whether values are in a set, or slopes in its recession set.
-    pub(crate) fn holds(self, set: &Set, v: &[Ratio]) -> Result<bool, CheckFault>
+    pub fn holds(self, set: &Set, v: &[Ratio]) -> Result<bool, CheckFault>
         requires { length v.now ≡ dimension_of set.now }
         ensures { TellsWhere result (MembershipFits set.now v.now)
             (In (multiplied (one_of self) set.now) v.now) }

@@ -13,7 +13,7 @@ use user_model::{Group, GroupVar};
 
 /// The addresses of a model's variables, in their order.
 #[derive(Drop)]
-pub(crate) struct Variables {
+pub struct Variables {
     addresses: Vec<Address>,
 }
 
@@ -33,7 +33,8 @@ impl Model for Variables {
 }
 
 impl Variables {
-    pub(crate) fn of(alloc: Global, groups: &[Group]) -> Result<Variables, Memory>
+    /// The variables of groups.
+    pub fn of(alloc: Global, groups: &[Group]) -> Result<Variables, Memory>
         requires { Rise variable_number (variables_of groups.now) }
         ensures { IfOk result (λ us. us ≡ all_addresses groups.now) }
     {
@@ -42,7 +43,15 @@ impl Variables {
         })
     }
 
-    pub(crate) fn addresses(&self) -> &[Address]
+    /// Addresses in their order, which need not be those of a model.
+    pub fn ascending(addresses: Vec<Address>) -> Variables
+        requires { Ascend addresses.items }
+        ensures { result ≡ addresses.items }
+    {
+        Variables { addresses }
+    }
+
+    pub fn addresses(&self) -> &[Address]
         ensures value { result.now ≡ self.now }
         ensures ascending { Ascend self.now }
     {
@@ -50,7 +59,7 @@ impl Variables {
     }
 
     /// The place of an address among them.
-    pub(crate) fn place(&self, at: &Address) -> Option<usize>
+    pub fn place(&self, at: &Address) -> Option<usize>
         ensures at { IsPlaceOf self.now at.now result }
         ensures ascending { Ascend self.now }
         ensures below { IfSome result (λ place. place < length self.now) }

@@ -1,0 +1,123 @@
+-- One thing after another: what is made so far, and the first that doesn't fit.
+use Rattle.std.specs.Prelude.{◌≡◌, ◌+◌, ◌<◌, ◌≤◌, ℕ, List, [], ◌∷◌, ◌++◌, All, Result, Ok, Err, IsErrAnd, length, map, take, refl}
+use Rattle.std.proofs.Common.{ap, drop, get_or, inl, inr, subst, sym, ◌∙◌}
+use Rattle.std.proofs.Math.ListN.{drop_of_length-le}
+use Rattle.std.proofs.lemmas.List.{take_all}
+use Rattle.std.proofs.lemmas.List.Elements.{All-cons, All-nil}
+use Rattle.aff_core.specs.Address.{Address}
+use Rattle.aff_core.specs.Arithmetic.{ExactWhere as SumExactWhere}
+use Rattle.aff_core.specs.declared.fault.AffFault.{AffFault}
+use Rattle.aff_core.specs.declared.fault.AffFault.TheVariants as sum
+use Rattle.cert_core.specs.Answers.{ExactWhere}
+use Rattle.cert_core.specs.declared.fault.CheckFault.{CheckFault}
+use Rattle.cert_core.specs.declared.fault.CheckFault.TheVariants as check
+use Rattle.cert_core.proofs.Steps.{map-take_more, next_item}
+use Rattle.adjoint_core.specs.Told.{FirstNot, Tells, TellsAt, check_told, sum_told}
+use Rattle.adjoint_core.specs.declared.fault.BackFault.{BackFault}
+use Rattle.adjoint_core.specs.declared.fault.BackFault.TheVariants.{Memory, Overflow}
+
+-- ---- what is left, as all of it
+
+module _ {X : Type 0} (P : X → Type 0) (place : X → Address) where
+  pub record InOrder (all left : List X) : Type 0 where
+    pub fits : All P left → All P all
+    pub unfit : (at : Address) → FirstNot P place left at → FirstNot P place all at
+
+  pub order_start : (all : List X) → InOrder all all
+  order_start all = record { fits = λ h. h; unfit = λ at h. h }
+
+  module _ (all left rest : List X) (x : X) (h : InOrder all left) (next : left ≡ x ∷ rest) where
+    pub order_step : P x → InOrder all rest
+    unfolding FirstNot
+    order_step p = record {
+      fits = λ k. h.fits (subst (All P) (sym next) (All-cons P x rest p k));
+      unfit = λ at k.
+          h.unfit at (subst (λ l. FirstNot P place l at) (sym next) (inr (p, k)));
+    }
+
+    pub order_refused : (at : Address) → ¬ (P x) × (place x ≡ at) → FirstNot P place all at
+    unfolding FirstNot
+    order_refused at n = h.unfit at (subst (λ l. FirstNot P place l at) (sym next) (inl n))
+
+  pub order_end : (all left : List X) → InOrder all left → left ≡ [] → All P all
+  order_end all left h none = h.fits (subst (All P) (sym none) (All-nil P))
+
+  -- ---- with what is made of those that were gone through
+
+  module _ {Y : Type 0} (f : X → Y) (all : List X) where
+    pub record MadeInOrder (i : ℕ) (made : List Y) : Type 0 where
+      pub order : InOrder all (drop i all)
+      pub is : made ≡ map f (take i all)
+
+    pub made_start : MadeInOrder 0 []
+    made_start = record { order = order_start all; is = refl }
+
+    module _ (i : ℕ) (made : List Y) (h : MadeInOrder i made) (x : X) (here : x ≡ get_or all i x)
+        (lt : i < length all) where
+      pub made_step : (y : Y) (more : List Y) → P x → y ≡ f x → more ≡ made ++ y ∷ []
+          → MadeInOrder (i + 1) more
+      made_step y more p is pushed = record {
+        order = order_step all (drop i all) (drop (i + 1) all) x h.order
+            (next_item all i x here lt) p;
+        is =
+            pushed
+            ∙ ap (λ l. l ++ y ∷ []) h.is
+            ∙ ap (λ z. map f (take i all) ++ z ∷ []) is
+            ∙ sym (map-take_more f all i x here lt);
+      }
+
+      pub made_refused : (at : Address) → ¬ (P x) × (place x ≡ at) → FirstNot P place all at
+      made_refused at n =
+          order_refused all (drop i all) (drop (i + 1) all) x h.order
+          (next_item all i x here lt) at n
+
+    pub made_end : (i : ℕ) (made : List Y) → MadeInOrder i made → length all ≤ i
+        → All P all × (made ≡ map f all)
+    made_end i made h le = (
+      order_end all (drop i all) h.order (drop_of_length-le all le),
+      h.is ∙ ap (map f) (take_all i all le),
+    )
+
+-- ---- answers handed on
+
+by_fault : {T U : Type 0} (e : BackFault) (P Q : Type 0) (A : T → Type 0) (B : U → Type 0)
+    (Told Other : Address → Type 0) → Tells {T = U} (Err e) P B Told
+    → ((at : Address) → Told at → Other at) → Tells {T = T} (Err e) Q A Other
+by_fault (Overflow at) P Q A B Told Other said leads = leads at said
+by_fault Memory P Q A B Told Other said leads = tt
+
+-- the fault of a step is that of the whole
+pub told_on : {T U : Type 0} (r : Result T BackFault) (e : BackFault) (P Q : Type 0)
+    (A : T → Type 0) (B : U → Type 0) (Told Other : Address → Type 0) → IsErrAnd r (λ x. x ≡ e)
+    → Tells {T = U} (Err e) P B Told → ((at : Address) → Told at → Other at) → Tells r Q A Other
+told_on (Ok x) e P Q A B Told Other is said leads = absurd is
+told_on (Err x) e P Q A B Told Other is said leads =
+    subst (λ y. Tells (Err y) Q A Other) (sym is) (by_fault e P Q A B Told Other said leads)
+
+-- the same answer for the same things
+pub told_alike : {T : Type 0} (r : Result T BackFault) (P Q : Type 0) (A B : T → Type 0)
+    (Told Other : Address → Type 0) → Tells r P A Told → (P → Q) → ((x : T) → A x → B x)
+    → ((at : Address) → Told at → Other at) → Tells r Q B Other
+told_alike (Ok x) P Q A B Told Other h fits each leads = (fits h.0, each x h.1)
+told_alike (Err (Overflow at)) P Q A B Told Other h fits each leads = leads at h
+told_alike (Err Memory) P Q A B Told Other h fits each leads = tt
+
+-- ---- faults of the layers below
+
+pub check_ok : {T : Type 0} (x : T) (P : Type 0) (A : T → Type 0) (place : Address)
+    → ExactWhere (Ok x) P A → TellsAt (Ok x) P A place
+check_ok x P A place h = h
+
+pub check_err : {T U : Type 0} (e : CheckFault) (P : Type 0) (A : T → Type 0) (B : U → Type 0)
+    (place : Address) (f : BackFault) → ExactWhere {T = U} (Err e) P B → f ≡ check_told place e
+    → TellsAt {T = T} (Err f) P A place
+check_err check.CertOverflow P A B place f h is =
+    subst (λ g. TellsAt (Err g) P A place) (sym is) (h, refl)
+check_err check.Memory P A B place f h is = subst (λ g. TellsAt (Err g) P A place) (sym is) tt
+
+pub sum_err : {T U : Type 0} (e : AffFault) (P : Type 0) (A : T → Type 0) (B : U → Type 0)
+    (place : Address) (f : BackFault) → SumExactWhere {T = U} (Err e) P B → f ≡ sum_told place e
+    → TellsAt {T = T} (Err f) P A place
+sum_err sum.Overflow P A B place f h is =
+    subst (λ g. TellsAt (Err g) P A place) (sym is) (h, refl)
+sum_err sum.Memory P A B place f h is = subst (λ g. TellsAt (Err g) P A place) (sym is) tt

@@ -1,0 +1,14 @@
+mod BackSizes
+mod InOrder
+mod Beside
+mod Found
+mod Halving
+mod GapSteps
+mod ModelGap
+mod Spread
+mod Walks
+mod WalkSteps
+mod RowDuals
+mod Moved
+mod OptimalSteps
+mod CarriedOver

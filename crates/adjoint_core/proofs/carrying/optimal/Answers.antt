@@ -1,0 +1,132 @@
+use Rattle.std.specs.Prelude.{◌≡◌, List, All, map}
+use Rattle.std.proofs.Common.{◌∙◌, ap, rules}
+use Rattle.ratio_core.specs.Rational.{Rational, one_ℚ, zero_ℚ}
+use Rattle.aff_core.specs.Address.{Address}
+use Rattle.aff_core.specs.Function.{coefficient, evaluated}
+use Rattle.cert_core.specs.Folds.{AddUp, CostFits, EvaluationFits, ObjectiveFits, adjoint_parts}
+use Rattle.certificates.specs.Duals.{reduced_cost, rows_with}
+use Rattle.certificates.specs.Points.{objective_function, objective_value, sense_of}
+use Rattle.dual_laws.specs.Held.{adjoint}
+use Rattle.user_model.specs.declared.objective.Objective.{Objective}
+use Rattle.user_model.specs.declared.row.Row.{Row}
+use Rattle.adjoint_core.specs.CarriedBack.{IsUnfitOptimal, OptimalFits, point, reduced}
+use Rattle.adjoint_core.specs.Read.{duals_by, expression_at, numbers_by}
+use Rattle.adjoint_core.specs.Told.{FirstNot}
+use Rattle.adjoint_core.specs.Walk.{IsUnfitAmong, RowDualFits, row_dual}
+use Rattle.adjoint_core.proofs.InOrder.{told_on}
+use Rattle.adjoint_core.proofs.Moved.{move1, move2, move4, point_is}
+use Rattle.adjoint_core.proofs.OptimalSteps.{first_step, last_step, third_step}
+use Rattle.adjoint_core.proofs.carrying.optimal.Goals as goal
+
+pub returns-in_err-x : goal.returns-in_err-x
+returns-in_err-x g c =
+    let m = c.args.model.now.model in
+    let f = expression_at c.args.places.now.exprs in
+    let x = numbers_by c.args.places.now c.args.x.now in
+    let states = map g.B.Bridge.state c.args.bridges.now in
+    let leaf = duals_by c.args.places.now c.args.y.now in
+    let duals = map (row_dual states leaf) m.rows in
+    let Fit = All (RowDualFits states leaf) m.rows in
+    let Unfit = IsUnfitAmong states leaf m.rows in
+    told_on c.from_residual-in_err-x.result c.in_err-x.field-0.0 _
+    (OptimalFits m duals Fit Unfit f x) _ _ _ (IsUnfitOptimal m duals Fit Unfit f x)
+    c.from_residual-in_err-x.ensures.1 c.in_err-x.ensures
+    (λ at h. first_step m duals Fit Unfit f x at
+    (move2 (λ (us : List Address) (p : Address → Rational).
+    FirstNot (λ v. EvaluationFits one_ℚ (f v) p) (λ v. v) us at)
+    h (search rules) (c.point.ensures ∙ c.in_ok-leaf.ensures)))
+
+pub returns-in_err-vars : goal.returns-in_err-vars
+returns-in_err-vars g c =
+    let m = c.args.model.now.model in
+    let f = expression_at c.args.places.now.exprs in
+    let x = numbers_by c.args.places.now c.args.x.now in
+    let states = map g.B.Bridge.state c.args.bridges.now in
+    let leaf = duals_by c.args.places.now c.args.y.now in
+    let duals = map (row_dual states leaf) m.rows in
+    let Fit = All (RowDualFits states leaf) m.rows in
+    let Unfit = IsUnfitAmong states leaf m.rows in
+    let here = move2 (λ (us : List Address) (p : Address → Rational).
+    All (λ v. EvaluationFits one_ℚ (f v) p) us
+    × (c.in_ok-x.x.items ≡ map (λ v. evaluated one_ℚ (f v) p) us)) c.in_ok-x.ensures
+    (search rules) (c.point.ensures ∙ c.in_ok-leaf.ensures) in
+    let fit = move1 (λ (rs : List Row). All (RowDualFits states leaf) rs) c.in_ok-rows.ensures.0
+    c.rows.ensures.value in
+    let duals_here : c.in_ok-rows.rows.items ≡ duals =
+    c.in_ok-rows.ensures.1 ∙ ap (map (row_dual states leaf)) c.rows.ensures.value in
+    told_on c.from_residual-in_err-vars.result c.in_err-vars.field-0.0 _
+    (OptimalFits m duals Fit Unfit f x) _ _ _ (IsUnfitOptimal m duals Fit Unfit f x)
+    c.from_residual-in_err-vars.ensures.1 c.in_err-vars.ensures
+    (λ at h. third_step m duals Fit Unfit f x at here.0 fit
+    (move4 (λ (us : List Address) (rs : List Row) (ys : List (List Rational)) (o : Objective).
+    FirstNot (λ v. AddUp zero_ℚ (adjoint_parts (rows_with ys rs) v)
+    × CostFits (sense_of o) (coefficient (objective_function o) v) (adjoint (rows_with ys rs) v))
+    (λ v. v) us at) h (search rules) c.rows-2.ensures.value (c.deref.ensures.value ∙ duals_here)
+    c.objective.ensures.value))
+
+pub returns-in_err-value : goal.returns-in_err-value
+returns-in_err-value g c =
+    let m = c.args.model.now.model in
+    let f = expression_at c.args.places.now.exprs in
+    let x = numbers_by c.args.places.now c.args.x.now in
+    let states = map g.B.Bridge.state c.args.bridges.now in
+    let leaf = duals_by c.args.places.now c.args.y.now in
+    let duals = map (row_dual states leaf) m.rows in
+    let Fit = All (RowDualFits states leaf) m.rows in
+    let Unfit = IsUnfitAmong states leaf m.rows in
+    let here = move2 (λ (us : List Address) (p : Address → Rational).
+    All (λ v. EvaluationFits one_ℚ (f v) p) us
+    × (c.in_ok-x.x.items ≡ map (λ v. evaluated one_ℚ (f v) p) us)) c.in_ok-x.ensures
+    (search rules) (c.point.ensures ∙ c.in_ok-leaf.ensures) in
+    let fit = move1 (λ (rs : List Row). All (RowDualFits states leaf) rs) c.in_ok-rows.ensures.0
+    c.rows.ensures.value in
+    let duals_here : c.in_ok-rows.rows.items ≡ duals =
+    c.in_ok-rows.ensures.1 ∙ ap (map (row_dual states leaf)) c.rows.ensures.value in
+    let costs = move4 (λ (us : List Address) (rs : List Row) (ys : List (List Rational))
+    (o : Objective). All (λ v. AddUp zero_ℚ (adjoint_parts (rows_with ys rs) v)
+    × CostFits (sense_of o) (coefficient (objective_function o) v) (adjoint (rows_with ys rs) v)) us
+    × (c.in_ok-vars.vars.items ≡ map (λ v. reduced_cost (sense_of o)
+    (coefficient (objective_function o) v) (adjoint (rows_with ys rs) v)) us)) c.in_ok-vars.ensures
+    (search rules) c.rows-2.ensures.value (c.deref.ensures.value ∙ duals_here) c.objective.ensures.value in
+    let point_here : c.in_ok-x.x.items ≡ point m f x = here.1 ∙ point_is m f x in
+    told_on c.from_residual-in_err-value.result c.in_err-value.field-0.0 _
+    (OptimalFits m duals Fit Unfit f x) _ _ _ (IsUnfitOptimal m duals Fit Unfit f x)
+    c.from_residual-in_err-value.ensures.1 c.in_err-value.ensures
+    (λ at h. last_step m duals Fit Unfit f x at here.0 fit costs.0 (
+      move1 (λ (xs : List Rational). ¬ (ObjectiveFits m one_ℚ xs)) h.0
+          (c.deref-2.ensures.value ∙ point_here),
+      h.1,
+    ))
+
+pub returns : goal.returns
+returns g c =
+    let m = c.args.model.now.model in
+    let f = expression_at c.args.places.now.exprs in
+    let x = numbers_by c.args.places.now c.args.x.now in
+    let states = map g.B.Bridge.state c.args.bridges.now in
+    let leaf = duals_by c.args.places.now c.args.y.now in
+    let duals = map (row_dual states leaf) m.rows in
+    let Fit = All (RowDualFits states leaf) m.rows in
+    let Unfit = IsUnfitAmong states leaf m.rows in
+    let here = move2 (λ (us : List Address) (p : Address → Rational).
+    All (λ v. EvaluationFits one_ℚ (f v) p) us
+    × (c.in_ok-x.x.items ≡ map (λ v. evaluated one_ℚ (f v) p) us)) c.in_ok-x.ensures
+    (search rules) (c.point.ensures ∙ c.in_ok-leaf.ensures) in
+    let fit = move1 (λ (rs : List Row). All (RowDualFits states leaf) rs) c.in_ok-rows.ensures.0
+    c.rows.ensures.value in
+    let duals_here : c.in_ok-rows.rows.items ≡ duals =
+    c.in_ok-rows.ensures.1 ∙ ap (map (row_dual states leaf)) c.rows.ensures.value in
+    let costs = move4 (λ (us : List Address) (rs : List Row) (ys : List (List Rational))
+    (o : Objective). All (λ v. AddUp zero_ℚ (adjoint_parts (rows_with ys rs) v)
+    × CostFits (sense_of o) (coefficient (objective_function o) v) (adjoint (rows_with ys rs) v)) us
+    × (c.in_ok-vars.vars.items ≡ map (λ v. reduced_cost (sense_of o)
+    (coefficient (objective_function o) v) (adjoint (rows_with ys rs) v)) us)) c.in_ok-vars.ensures
+    (search rules) c.rows-2.ensures.value (c.deref.ensures.value ∙ duals_here) c.objective.ensures.value in
+    let point_here : c.in_ok-x.x.items ≡ point m f x = here.1 ∙ point_is m f x in
+    let whole : c.deref-2.result.now ≡ point m f x = c.deref-2.ensures.value ∙ point_here in
+    let value : c.in_ok-value.value ≡ objective_value m (point m f x) =
+    c.in_ok-value.ensures.1 ∙ ap (objective_value m) whole in
+    let vars : c.in_ok-vars.vars.items ≡ reduced m duals = costs.1 in (
+      (here.0, (fit, (costs.0, move1 (ObjectiveFits m one_ℚ) c.in_ok-value.ensures.0 whole))),
+      (cc (value, point_here, duals_here, vars)),
+    )

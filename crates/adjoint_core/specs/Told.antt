@@ -1,0 +1,37 @@
+-- Answers that may be an overflow at an address.
+use Rattle.std.specs.Prelude.{◌≡◌, ◌⊎◌, List, [], ◌∷◌, Result, Ok, Err}
+use Rattle.aff_core.specs.Address.{Address}
+use Rattle.aff_core.specs.declared.fault.AffFault.{AffFault}
+use Rattle.aff_core.specs.declared.fault.AffFault.TheVariants as sum
+use Rattle.cert_core.specs.declared.fault.CheckFault.{CheckFault}
+use Rattle.cert_core.specs.declared.fault.CheckFault.TheVariants as check
+use Rattle.adjoint_core.specs.declared.fault.BackFault.{BackFault}
+use Rattle.adjoint_core.specs.declared.fault.BackFault.TheVariants.{Memory, Overflow}
+
+-- a value with Q exactly where P holds, and else an overflow at the address that is told; of want
+-- of memory nothing is said
+abbrev pub Tells : {T : Type 0} → Result T BackFault → Type 0 → (T → Type 0) → (Address → Type 0)
+    → Type 0
+Tells (Ok x) P Q Told = P × Q x
+Tells (Err (Overflow at)) P Q Told = Told at
+Tells (Err Memory) P Q Told = Unit {0}
+
+-- the overflow is at this address
+abbrev pub TellsAt : {T : Type 0} → Result T BackFault → Type 0 → (T → Type 0) → Address → Type 0
+TellsAt result P Q place = Tells result P Q (λ at. ¬ P × (place ≡ at))
+
+-- the first of the things that isn't P is at the address
+unfoldable pub FirstNot : {X : Type 0} → (X → Type 0) → (X → Address) → List X → Address → Type 0
+FirstNot P place [] at = ⊥
+FirstNot P place (x ∷ xs) at =
+    (¬ (P x) × (place x ≡ at)) ⊎ (P x × FirstNot P place xs at)
+
+-- ---- faults of the layers below, told at an address
+
+abbrev pub check_told : Address → CheckFault → BackFault
+check_told at check.CertOverflow = Overflow at
+check_told at check.Memory = Memory
+
+abbrev pub sum_told : Address → AffFault → BackFault
+sum_told at sum.Overflow = Overflow at
+sum_told at sum.Memory = Memory

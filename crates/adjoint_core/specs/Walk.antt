@@ -1,0 +1,91 @@
+-- The dual of a row by what boxes keep: that of a leaf row is told, and that of a kept one is what
+-- its edge makes of its child rows' duals, down to a number of levels.
+use Rattle.std.specs.Prelude.{◌+◌, ◌<◌, ◌≤◌, ◌^◌, ℕ, zero, suc, List, [], ◌∷◌, All, Option, Some, None, length, map}
+use Rattle.std.specs.List.{range_with_len}
+use Rattle.std.specs.Option.{option_or}
+use Rattle.ratio_core.specs.Rational.{Rational}
+use Rattle.aff_core.specs.Address.{Address, child_of, root_address}
+use Rattle.aff_core.specs.declared.root.Root.TheVariants as root
+use Rattle.bridge_face.specs.BackOf.{BackFits, back_of}
+use Rattle.bridge_face.specs.State.{State, TakesDuals, child_rows_of, found}
+use Rattle.bridge_face.specs.declared.child_rows.ChildRows.{ChildRows}
+use Rattle.bridge_face.specs.declared.kept_item.KeptItem.{KeptItem}
+use Rattle.cert_core.specs.Checked.{HasRowDuals}
+use Rattle.user_model.specs.declared.row.Row.{Row}
+use Rattle.adjoint_core.specs.Told.{FirstNot}
+
+-- what the first of the boxes keeps that keeps something at the address
+unfoldable pub kept_at : List State → Address → Option KeptItem
+kept_at [] at = None
+kept_at (s ∷ ss) at = option_or (found s at) (kept_at ss at)
+
+-- where the child rows stand
+abbrev pub places_of : Address → ChildRows → List Address
+places_of at rows = map (child_of at) (range_with_len rows.first rows.count)
+
+abbrev pub row_places : Address → KeptItem → List Address
+row_places at kept = places_of at (child_rows_of kept.edge kept.item)
+
+-- a kept row that takes these duals of its child rows
+pub record Takes (below : Address → List Rational) (at : Address) (kept : KeptItem) : Type 0 where
+  pub duals : TakesDuals kept (map below (row_places at kept))
+  pub depth : length at.positions < 40
+  pub places : (child_rows_of kept.edge kept.item).first
+      + (child_rows_of kept.edge kept.item).count ≤ 2 ^ 16
+
+-- below an item there stand fewer levels than there are kinds, of which there are 35
+abbrev pub levels : ℕ
+levels = 36
+
+abbrev pub row_place : Row → Address
+row_place r = root_address root.Row r.id
+
+module _ (states : List State) (leaf : Address → List Rational) where
+  -- ---- by what is told of the rows below
+
+  unfoldable pub dual_by : (Address → List Rational) → Address → Option KeptItem → List Rational
+  dual_by below at None = leaf at
+  dual_by below at (Some kept) = back_of kept.edge kept.item (map below (row_places at kept))
+
+  unfoldable pub FitsBy : (Address → List Rational) → (Address → Type 0) → Address
+      → Option KeptItem → Type 0
+  FitsBy below Fits at None = Unit {0}
+  FitsBy below Fits at (Some kept) =
+      All Fits (row_places at kept) × BackFits kept.edge kept.item (map below (row_places at kept))
+
+  unfoldable pub TakesBy : (Address → List Rational) → (Address → Type 0) → Address
+      → Option KeptItem → Type 0
+  TakesBy below Within at None = Unit {0}
+  TakesBy below Within at (Some kept) = Takes below at kept × All Within (row_places at kept)
+
+  -- ---- down to a number of levels
+
+  unfoldable pub dual_at : ℕ → Address → List Rational
+  dual_at zero at = []
+  dual_at (suc n) at = dual_by (dual_at n) at (kept_at states at)
+
+  -- what is added up
+  unfoldable pub DualFits : ℕ → Address → Type 0
+  DualFits zero at = Unit {0}
+  DualFits (suc n) at = FitsBy (dual_at n) (DualFits n) at (kept_at states at)
+
+  -- the row and each below it that is kept takes its child rows' duals, and the levels are enough
+  unfoldable pub IsWithin : ℕ → Address → Type 0
+  IsWithin zero at = ⊥
+  IsWithin (suc n) at = TakesBy (dual_at n) (IsWithin n) at (kept_at states at)
+
+  -- ---- the user's rows
+
+  abbrev pub row_dual : Row → List Rational
+  row_dual r = dual_at levels (row_place r)
+
+  abbrev pub RowDualFits : Row → Type 0
+  RowDualFits r = DualFits levels (row_place r)
+
+  -- the first whose dual doesn't fit
+  abbrev pub IsUnfitAmong : List Row → Address → Type 0
+  IsUnfitAmong rows at = FirstNot RowDualFits row_place rows at
+
+  pub record AreWithin (rows : List Row) : Type 0 where
+    pub each : All (λ r. IsWithin levels (row_place r)) rows
+    pub sizes : HasRowDuals rows (map row_dual rows)
