@@ -1,3 +1,6 @@
+mod Adding
+mod Apart
 mod Components
 mod Each
 mod Keywords
+mod Linear
