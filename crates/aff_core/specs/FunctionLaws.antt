@@ -17,7 +17,7 @@ use Rattle.std.specs.FinMap.{FinMap, find, is_sorted}
 use Rattle.std.specs.FinMap.Entries.{below_all}
 use Rattle.ratio_core.specs.Rational.{Rational, zero_ℚ, one_ℚ, neg_ℚ, rational_eq}
 use Rattle.ratio_core.specs.RationalLaws.{rational_eq-true, eq_rational_eq}
-use Rattle.rational_laws.specs.Field.{neg_ℚ-neg_ℚ, neg_ℚ-zero}
+use Rattle.rational_laws.specs.Field.{neg_ℚ-neg_ℚ, neg_ℚ-zero, one_not_zero}
 use Rattle.aff_core.specs.Function.{FunctionOver, HasCoefficient, HasEachTerm, IsNegated, coefficient, constant_function, function_of, gathered, if_rising, negated, same_parts, terms_of, variable, with_coefficient}
 use Rattle.aff_core.specs.KeyOrder.{IsKeyOrder, key_eq-Decides, other_key, same_key}
 use Rattle.aff_core.specs.Rising.{HasDistinctKeys, RiseBy}
@@ -134,6 +134,29 @@ module _ {K : Type 0} {R : K → K → Ordering} where
       (terms_kept (filter is_nonzero ts) k (filter_rises ts h) (filter_nonzero ts)
       ∙ sym (terms-function_of ts k h))
       (constant-function_of R (filter is_nonzero ts) k ∙ sym (constant-function_of R ts k))
+
+-- variables and constant functions, in any order of keys
+pub terms-variable : {K : Type 0} (R : K → K → Ordering) (v : K)
+    → terms_of (variable {R = R} v) ≡ (v, one_ℚ) ∷ []
+unfolding variable
+terms-variable R v =
+    terms-function_of ((v, one_ℚ) ∷ []) zero_ℚ (record { rising = refl })
+    ∙ ap (λ b. cond b ((v, one_ℚ) ∷ []) []) (nonzero_test one_ℚ one_not_zero)
+
+pub constant-variable : {K : Type 0} (R : K → K → Ordering) (v : K)
+    → (variable {R = R} v).constant ≡ zero_ℚ
+unfolding variable
+constant-variable R v = constant-function_of R ((v, one_ℚ) ∷ []) zero_ℚ
+
+pub terms-constant_function : {K : Type 0} (R : K → K → Ordering) (k : Rational)
+    → terms_of (constant_function {R = R} k) ≡ []
+unfolding constant_function
+terms-constant_function R k = terms-function_of [] k (record { rising = refl })
+
+pub constant-constant_function : {K : Type 0} (R : K → K → Ordering) (k : Rational)
+    → (constant_function {R = R} k).constant ≡ k
+unfolding constant_function
+constant-constant_function R k = constant-function_of R [] k
 
 -- ---- coefficients
 

@@ -7,3 +7,4 @@ mod holding;
 mod places;
 
 pub use holding::Boxes;
+pub use places::has_family;

@@ -12,8 +12,8 @@ use bridge_face::{Bridge, ItemFault, KeptItem};
 use item_core::{Edge, Family, Image, Item};
 use lists::Memory;
 
-// Whether there is a bridge of the family.
-pub(crate) fn has_family<B: Bridge>(bridges: &[B], family: Family) -> bool
+/// Whether there is a bridge of the family.
+pub fn has_family<B: Bridge>(bridges: &[B], family: Family) -> bool
     ensures { result ≡ list_any (family_eq family) (families_of (map B.state bridges.now)) }
 {
     for bridge in bridges {

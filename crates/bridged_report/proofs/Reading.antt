@@ -10,13 +10,12 @@ use Rattle.std.proofs.Common.{sym, ◌∙◌, ap, ap₂, subst, true≢false}
 use Rattle.std.proofs.lemmas.List.{append-nil}
 use Rattle.std.proofs.lemmas.List.Elements.{All-cons, All-head, All-nil, All-tail, All-weaker}
 use Rattle.ratio_core.specs.Rational.{Rational, one_ℚ, zero_ℚ}
-use Rattle.rational_laws.specs.Field.{one_not_zero}
 use Rattle.address_map.specs.AddressMap.{AddressMap}
 use Rattle.address_map.specs.Places.{Indices}
 use Rattle.aff_core.specs.Address.{Address, root_address}
 use Rattle.aff_core.specs.declared.root.Root.TheVariants.{Variable}
 use Rattle.aff_core.specs.Function.{gathered, terms_of, variable}
-use Rattle.aff_core.specs.FunctionLaws.{nonzero_test, terms-function_of}
+use Rattle.aff_core.specs.FunctionLaws.{terms-variable}
 use Rattle.equality_form.specs.Equations.{equations_for}
 use Rattle.leaf_model.specs.ReadThrough.{address_in, named, read_objective, read_row, read_through}
 use Rattle.report_core.specs.Words.{newline}
@@ -70,12 +69,6 @@ module _ (indices : Indices) where
 
 -- ---- what is readable has names
 
-terms_of_variable : (var : ℕ) → terms_of (variable {R = nat_cmp} var) ≡ (var, one_ℚ) ∷ []
-unfolding variable
-terms_of_variable var =
-    terms-function_of ((var, one_ℚ) ∷ []) zero_ℚ (record { rising = refl })
-    ∙ ap (λ b. cond b ((var, one_ℚ) ∷ []) []) (nonzero_test one_ℚ one_not_zero)
-
 module _ (map : AddressMap) (leaves : Leaves) (readable : IsReadable map leaves) where
   abbrev vars : Indices
   vars = map.vars.indices
@@ -83,7 +76,7 @@ module _ (map : AddressMap) (leaves : Leaves) (readable : IsReadable map leaves)
   variable_named : (var : ℕ) → NamesUsed map leaves (variable var) → IsNamed vars var
   variable_named var h =
       All-head (IsNamedTerm vars) (var, one_ℚ) []
-      (subst (All (IsNamedTerm vars)) (terms_of_variable var) (names_named map leaves readable (variable var) h))
+      (subst (All (IsNamedTerm vars)) (terms-variable nat_cmp var) (names_named map leaves readable (variable var) h))
 
   components_named : (set : Set) (fs : List SolverFunction) → All (λ e. NamesUsed map leaves e.function) (equations_for set fs) → All (NamesNamed vars) fs
   components_named set [] h = All-nil (NamesNamed vars)

@@ -22,7 +22,7 @@ use Rattle.cert_core.specs.Adding.{AddsAt, coefficient_among}
 use Rattle.cert_core.specs.Answers.{ExactWhere}
 use Rattle.cert_core.specs.Folds.{AddUp, products}
 use Rattle.certificates.specs.Points.{variables_at}
-use Rattle.cert_core.proofs.Evaluated.{terms_of_variable}
+use Rattle.aff_core.specs.FunctionLaws.{terms-variable}
 use Rattle.cert_core.specs.Variables.{Ascend}
 use Rattle.cert_core.proofs.Answered.{answers_alike}
 use Rattle.cert_core.proofs.Parts.{no_products}
@@ -306,7 +306,7 @@ next_variable w us i p u one one_is e p_is u_is lt v =
     ap₂ (λ ys vs. products ys (coefficients (variables_at vs) v))
     (next_item w i p p_is (subst (λ n. i < n) (sym e) lt)) (next_item us i u u_is lt)
     ∙ ap (λ q. p *ℚ q ∷ products (drop (i + 1) w) (coefficients (variables_at (drop (i + 1) us)) v))
-    (coefficient_is (variable u) v ∙ ap (λ l. coefficient_among l v) (terms_of_variable u)
+    (coefficient_is (variable u) v ∙ ap (λ l. coefficient_among l v) (terms-variable address_cmp u)
     ∙ ap (λ k. coefficient_among ((u, k) ∷ []) v) (sym one_is))
 
 -- past the last component

@@ -3,12 +3,12 @@ use Rattle.std.specs.Prelude.{◌≡◌, cond, List, [], ◌∷◌, ◌↔◌, m
 use Rattle.std.specs.Ordering.{eq_by_cmp}
 use Rattle.std.proofs.Common.{sym, ◌∙◌, ap, subst}
 use Rattle.ratio_core.specs.Rational.{Rational, one_ℚ, zero_ℚ, ◌*ℚ◌, ◌+ℚ◌}
-use Rattle.rational_laws.specs.Field.{*ℚ-zero, one_not_zero}
+use Rattle.rational_laws.specs.Field.{*ℚ-zero}
 use Rattle.ratio_core.specs.Folds.{sum_from}
 use Rattle.rational_laws.specs.Sums.{fold_ℚ, sum_ℚ}
 use Rattle.aff_core.specs.Address.{Address, address_cmp}
 use Rattle.aff_core.specs.Function.{Function, coefficient, constant_function, evaluated, terms_of, variable}
-use Rattle.aff_core.specs.FunctionLaws.{constant-function_of, nonzero_test, terms-function_of}
+use Rattle.aff_core.specs.FunctionLaws.{constant-constant_function, constant-variable, terms-constant_function, terms-variable}
 use Rattle.aff_core.specs.FunctionLists.{evaluations}
 use Rattle.aff_core.specs.Points.{unit}
 use Rattle.aff_core.specs.Terms.{linear}
@@ -27,15 +27,8 @@ use Rattle.cert_core.proofs.Answered.{answers_alike}
 
 -- ---- variables
 
-pub terms_of_variable : (v : Address) → terms_of (variable {R = address_cmp} v) ≡ (v, one_ℚ) ∷ []
-unfolding variable
-terms_of_variable v =
-    terms-function_of ((v, one_ℚ) ∷ []) zero_ℚ (record { rising = refl })
-    ∙ ap (λ b. cond b ((v, one_ℚ) ∷ []) []) (nonzero_test one_ℚ one_not_zero)
-
 pub constant_of_variable : (v : Address) → (variable {R = address_cmp} v).constant ≡ zero_ℚ
-unfolding variable
-constant_of_variable v = constant-function_of address_cmp ((v, one_ℚ) ∷ []) zero_ℚ
+constant_of_variable v = constant-variable address_cmp v
 
 pub coefficient_of_variable : (v u : Address)
     → coefficient (variable {R = address_cmp} v) u
@@ -44,19 +37,14 @@ coefficient_of_variable v u = sym (coefficient_by_unit (variable v) u) ∙ slope
 
 -- ---- constant functions
 
+pub constant_of_constant : (k : Rational)
+    → (constant_function {R = address_cmp} k).constant ≡ k
+constant_of_constant k = constant-constant_function address_cmp k
+
 pub coefficient_of_constant : (k : Rational) (u : Address)
     → coefficient (constant_function {R = address_cmp} k) u ≡ zero_ℚ
 coefficient_of_constant k u =
     sym (coefficient_by_unit (constant_function k) u) ∙ slope_constant_function k (unit u)
-
-pub constant_of_constant : (k : Rational)
-    → (constant_function {R = address_cmp} k).constant ≡ k
-unfolding constant_function
-constant_of_constant k = constant-function_of address_cmp [] k
-
-terms_of_constant : (k : Rational) → terms_of (constant_function {R = address_cmp} k) ≡ []
-unfolding constant_function
-terms_of_constant k = terms-function_of [] k (record { rising = refl })
 
 -- of an objective that isn't there nothing is read
 pub nothing_read : (one : Rational) (x : Address → Rational)
@@ -65,7 +53,7 @@ pub nothing_read : (one : Rational) (x : Address → Rational)
 unfolding AddUp
 nothing_read one x = (
   subst (λ ts. AddUp (one *ℚ (constant_function {R = address_cmp} zero_ℚ).constant)
-      (products_at ts x)) (sym (terms_of_constant zero_ℚ)) tt,
+      (products_at ts x)) (sym (terms-constant_function address_cmp zero_ℚ)) tt,
   sym (evaluated_constant_function one zero_ℚ x ∙ *ℚ-zero one),
 )
 
@@ -99,8 +87,8 @@ pub read_variable : (r : Result Rational CheckFault) (one start k : Rational) (v
     (λ q. q ≡ evaluated {R = address_cmp} one (variable v) x)
 read_variable r one start k v x zero_is one_is h =
     read_from r one start (variable v) ((v, k) ∷ []) x
-    (ap (λ q. (v, q) ∷ []) one_is ∙ sym (terms_of_variable v))
-    (zero_is ∙ sym (ap (λ q. one *ℚ q) (constant_of_variable v) ∙ *ℚ-zero one)) h
+    (ap (λ q. (v, q) ∷ []) one_is ∙ sym (terms-variable address_cmp v))
+    (zero_is ∙ sym (ap (λ q. one *ℚ q) (constant-variable address_cmp v) ∙ *ℚ-zero one)) h
 
 -- ---- in a set
 

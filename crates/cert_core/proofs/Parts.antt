@@ -9,7 +9,8 @@ use Rattle.ratio_core.specs.Rational.{Fits, Rational, SumFits, neg_ℚ, zero_ℚ
 use Rattle.rational_laws.specs.Dot.{dot, negated}
 use Rattle.rational_laws.specs.Field.{*ℚ-zero, neg_ℚ-sum, neg_ℚ-zero, zero-+ℚ}
 use Rattle.rational_laws.specs.Sums.{fold_ℚ, sum_ℚ, sum_ℚ-append}
-use Rattle.aff_core.specs.Address.{Address}
+use Rattle.aff_core.specs.Address.{Address, address_cmp}
+use Rattle.aff_core.specs.FunctionLaws.{constant-variable}
 use Rattle.aff_core.specs.FunctionLists.{coefficients, constants}
 use Rattle.dual_laws.specs.Held.{Held, adjoint, gap, gap_of}
 use Rattle.set_core.specs.Membership.{LowFits, low_of}
@@ -23,7 +24,6 @@ use Rattle.cert_core.proofs.Answered.{answers_alike}
 use Rattle.std.proofs.lemmas.Grind.{flat_map-append}
 use Rattle.std.proofs.lemmas.List.Sums.{fold-append}
 use Rattle.cert_core.proofs.Summed.{AddUp-append, AddUp_parts, zeros_add_up}
-use Rattle.cert_core.proofs.Evaluated.{constant_of_variable}
 
 from_zero : (qs : List Rational) → sum_from zero_ℚ qs ≡ sum_ℚ qs
 from_zero qs = fold_ℚ zero_ℚ qs ∙ zero-+ℚ (sum_ℚ qs)
@@ -68,7 +68,7 @@ no_constants [] us = All-nil (λ q. q ≡ zero_ℚ)
 no_constants (p ∷ w) [] = All-nil (λ q. q ≡ zero_ℚ)
 no_constants (p ∷ w) (u ∷ us) =
     All-cons (λ q. q ≡ zero_ℚ) _ (negated (products w (constants (variables_at us))))
-    (ap (λ k. neg_ℚ (p *ℚ k)) (constant_of_variable u) ∙ ap neg_ℚ (*ℚ-zero p) ∙ neg_ℚ-zero)
+    (ap (λ k. neg_ℚ (p *ℚ k)) (constant-variable address_cmp u) ∙ ap neg_ℚ (*ℚ-zero p) ∙ neg_ℚ-zero)
     (no_constants w us)
 
 -- variables have nothing to take away

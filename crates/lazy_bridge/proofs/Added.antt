@@ -1,13 +1,12 @@
 -- A family more, where it isn't among families.
-use Rattle.std.specs.Prelude.{◌≡◌, ◌<◌, ◌≤◌, ℕ, Bool, true, false, ◌&&◌, ◌||◌, not, List, [], ◌∷◌, ◌++◌, All, Some, drop, length, map, slice_index_or, refl}
+use Rattle.std.specs.Prelude.{◌≡◌, Bool, true, false, ◌&&◌, ◌||◌, not, List, [], ◌∷◌, ◌++◌, All, map, refl}
 use denote.Enum.Bare.{same_true}
 use Rattle.std.specs.FinMap as finite
 use Rattle.std.specs.List.{list_any}
 use Rattle.std.proofs.Common.{rules, sym, ap, ap₂, subst, ◌∙◌, true≢false}
 use Rattle.std.proofs.lemmas.Bool.Decides.{Decides-eqb}
-use Rattle.std.proofs.lemmas.List.{drop_all, map-append}
+use Rattle.std.proofs.lemmas.List.{map-append}
 use Rattle.std.proofs.lemmas.List.Elements.{All-append, All-cons, All-nil}
-use Rattle.std.proofs.lemmas.Option.{slice_get-get_or}
 use Rattle.bridge_face.specs.State.{State}
 use Rattle.boxes.specs.Boxed.{families_of, occur_once}
 use Rattle.fresh_bridging.specs.TableLaws.{and_first, and_second}
@@ -15,7 +14,6 @@ use Rattle.fresh_bridging.specs.TheRules.{family_number}
 use Rattle.item_core.specs.declared.family.Family.{Family}
 use Rattle.item_core.specs.contracts.family.Family.{the_type}
 use Rattle.item_core.specs.Edge.{family_eq}
-use Rattle.map_laws.specs.LoopLaws.{any_found}
 
 itself : (f : Family) → family_eq f f ≡ true
 itself f = (Decides-eqb (family_number f) (family_number f)).1 refl
@@ -57,37 +55,9 @@ one_more (g ∷ fs) f h e =
     was_not true k = absurd (true≢false (sym k))
     was_not false k = refl
 
--- ---- a search by family
-
-any_map : {A B : Type 0} (p : B → Bool) (f : A → B) (xs : List A)
-    → list_any p (map f xs) ≡ list_any (λ x. p (f x)) xs
-any_map p f [] = refl
-any_map p f (x ∷ xs) = ap (λ b. p (f x) || b) (any_map p f xs)
+-- ---- a bridge more
 
 module _ {B : Type 0} (state : B → State) where
-  abbrev pub is_of : Family → B → Bool
-  is_of f b = family_eq f (state b).family
-
-  among : (f : Family) (bs : List B)
-      → list_any (family_eq f) (families_of (map state bs)) ≡ list_any (is_of f) bs
-  among f bs =
-      any_map (family_eq f) (λ (s : State). s.family) (map state bs)
-      ∙ any_map (λ (s : State). family_eq f s.family) state bs
-
-  pub one_there : (bs : List B) (n : ℕ) (b d : B) (f : Family) → n < length bs
-      → b ≡ slice_index_or bs n d → family_eq f (state b).family ≡ true
-      → list_any (is_of f) (drop n bs) ≡ list_any (is_of f) bs
-      → true ≡ list_any (family_eq f) (families_of (map state bs))
-  one_there bs n b d f lt e same so_far =
-      any_found (is_of f) bs n b so_far (slice_get-get_or bs n d lt ∙ ap Some (sym e)) same
-      ∙ sym (among f bs)
-
-  pub none_there : (bs : List B) (n : ℕ) (f : Family) → length bs ≤ n
-      → list_any (is_of f) (drop n bs) ≡ list_any (is_of f) bs
-      → list_any (family_eq f) (families_of (map state bs)) ≡ false
-  none_there bs n f end so_far =
-      among f bs ∙ sym so_far ∙ ap (list_any (is_of f)) (drop_all n bs end)
-
   pub once_more : (old new : List B) (b : B) → new ≡ old ++ b ∷ []
       → occur_once (families_of (map state old)) ≡ true
       → list_any (family_eq (state b).family) (families_of (map state old)) ≡ false

@@ -1,12 +1,10 @@
 //! Lists of bridges that a lazy bridging begins with.
 ghost use Rattle.std.specs.Prelude.{◌≡◌, All, IsTrue, map};
 ghost use Rattle.std.specs.FinMap as finite;
-ghost use Rattle.std.specs.List.{list_any};
 ghost use Rattle.boxes.specs.Boxed.{families_of, occur_once};
-ghost use Rattle.item_core.specs.Edge.{family_eq};
 
+use boxes::has_family;
 use bridge_face::Bridge;
-use item_core::Family;
 use lists::Memory;
 
 /// Adds a bridge, which lets go of all that it keeps, unless there is one of its family.
@@ -22,16 +20,4 @@ pub fn add_bridge<B: Bridge>(bridges: &mut Vec<B>, mut bridge: B) -> Result<(), 
     bridge.let_all_go();
     bridges.push(bridge)?;
     Ok(())
-}
-
-// Whether there is a bridge of the family.
-fn has_family<B: Bridge>(bridges: &[B], family: Family) -> bool
-    ensures { result ≡ list_any (family_eq family) (families_of (map B.state bridges.now)) }
-{
-    for bridge in bridges {
-        if family == bridge.family() {
-            return true;
-        }
-    }
-    false
 }

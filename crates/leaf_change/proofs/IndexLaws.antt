@@ -1,6 +1,6 @@
 -- Terms by the indices of their addresses: in the order of the indices they make a function that
 -- is read as the one that they are of.
-use Rattle.std.specs.Prelude.{◌≡◌, ℕ, ◌+◌, ◌≤◌, ◌<◌, true, false, T, cond, List, [], ◌∷◌, All, IsSome, Option, Some, None, length, map, slice_index_or, unwrap_or, refl}
+use Rattle.std.specs.Prelude.{◌≡◌, ℕ, ◌+◌, ◌≤◌, ◌<◌, true, false, T, List, [], ◌∷◌, All, IsSome, Option, Some, None, length, map, slice_index_or, unwrap_or, refl}
 use Rattle.std.specs.Cmp.{nat_cmp_total, tied_itself}
 use Rattle.std.specs.FinMap as finite
 use Rattle.std.specs.FinMap.{is_sorted}
@@ -15,12 +15,11 @@ use Rattle.std.proofs.lemmas.List.Elements.{All-head, All-map, All-tail, All-wea
 use Rattle.std.proofs.lemmas.List.Sorted.{All-permutation, IsPermutation-map}
 use Rattle.std.proofs.lemmas.List.Sums.{AllPass-from_list_all, list_all-from_AllPass}
 use Rattle.std.proofs.lemmas.Map.Keys.{IsDistinct-cons, apart_from_distinct}
-use Rattle.ratio_core.specs.Rational.{Rational, one_ℚ, zero_ℚ}
-use Rattle.rational_laws.specs.Field.{one_not_zero}
+use Rattle.ratio_core.specs.Rational.{Rational, one_ℚ}
 use Rattle.address_map.specs.Places.{Indices, IsOneToOne}
 use Rattle.aff_core.specs.Address.{Address, address_cmp, address_total}
 use Rattle.aff_core.specs.Function.{Function, function_of, gathered, terms_of, variable}
-use Rattle.aff_core.specs.FunctionLaws.{constant-function_of, function_of-terms, nonzero-filter, nonzero_test, terms-function_of, tested}
+use Rattle.aff_core.specs.FunctionLaws.{constant-function_of, function_of-terms, nonzero-filter, terms-function_of, terms-variable, tested}
 use Rattle.aff_core.specs.KeyOrder.{address_order, other_key}
 use Rattle.aff_core.specs.Rising.{HasDistinctKeys}
 use Rattle.aff_core.specs.Terms.{HaveNoZero, is_nonzero}
@@ -139,12 +138,6 @@ module _ (indices : Indices) where
 
 -- ---- what an item's functions mention has an index
 
-terms_of_variable : (var : Address) → terms_of (variable {R = address_cmp} var) ≡ (var, one_ℚ) ∷ []
-unfolding variable
-terms_of_variable var =
-    terms-function_of ((var, one_ℚ) ∷ []) zero_ℚ (record { rising = refl })
-    ∙ ap (λ b. cond b ((var, one_ℚ) ∷ []) []) (nonzero_test one_ℚ one_not_zero)
-
 pub affine_indexed : (indices : Indices) (item : Item) (body : Body) (f : Function) → item.body ≡ body → functions_of body ≡ f ∷ [] → HasIndices indices item → IsIndexed indices f
 affine_indexed indices item body f is one h =
     All-head (IsIndexed indices) f [] (subst (All (IsIndexed indices)) one (subst (λ b. All (IsIndexed indices) (functions_of b)) is h))
@@ -152,4 +145,4 @@ affine_indexed indices item body f is one h =
 pub plain_indexed : (indices : Indices) (item : Item) (body : Body) (var : Address) → item.body ≡ body → functions_of body ≡ variable var ∷ [] → HasIndices indices item → IsSome (finite.get indices var)
 plain_indexed indices item body var is one h =
     All-head (HasIndex indices) (var, one_ℚ) []
-    (subst (All (HasIndex indices)) (terms_of_variable var) (affine_indexed indices item body (variable var) is one h))
+    (subst (All (HasIndex indices)) (terms-variable address_cmp var) (affine_indexed indices item body (variable var) is one h))

@@ -8,11 +8,10 @@ use Rattle.std.proofs.Common.{sym, ◌∙◌, ap, subst}
 use Rattle.std.proofs.lemmas.List.Elements.{All-cons, All-head, All-map, All-nil, All-tail, All-weaker}
 use Rattle.std.proofs.lemmas.Option.{none-some, same_Some}
 use Rattle.ratio_core.specs.Rational.{one_ℚ, zero_ℚ}
-use Rattle.rational_laws.specs.Field.{one_not_zero}
 use Rattle.address_map.specs.AddressMap.{AddressMap}
 use Rattle.aff_core.specs.Address.{Address, address_cmp, address_eq, address_eq-Decides}
-use Rattle.aff_core.specs.Function.{constant_function, terms_of, variable}
-use Rattle.aff_core.specs.FunctionLaws.{nonzero_test, terms-function_of}
+use Rattle.aff_core.specs.Function.{terms_of, variable}
+use Rattle.aff_core.specs.FunctionLaws.{terms-constant_function, terms-variable}
 use Rattle.equality_form.specs.Native.{IsNativeModel, IsNativeRow}
 use Rattle.leaf_change.specs.Named.{NamesEach, ObjectiveNames, RowNames}
 use Rattle.leaf_model.specs.ReadThrough.{read_row, read_through}
@@ -42,16 +41,6 @@ found_passes P (f ∷ es) v x h e =
         (All-head P f es h)
     by false other is later = later is
 
-terms_of_variable : (var : ℕ) → terms_of (variable {R = nat_cmp} var) ≡ (var, one_ℚ) ∷ []
-unfolding variable
-terms_of_variable var =
-    terms-function_of ((var, one_ℚ) ∷ []) zero_ℚ (record { rising = refl })
-    ∙ ap (λ b. cond b ((var, one_ℚ) ∷ []) []) (nonzero_test one_ℚ one_not_zero)
-
-terms_of_zero : terms_of (constant_function {R = nat_cmp} zero_ℚ) ≡ []
-unfolding constant_function
-terms_of_zero = terms-function_of [] zero_ℚ (record { rising = refl })
-
 module _ (places : AddressMap) (leaves : Leaves) (names : NamesEach places leaves) where
   used_term : (i : ℕ) → IsNamed places.vars.indices i → IsSome (finite.get leaves.vars i)
   used_term i n = names.vars.used n.0 i n.1
@@ -65,7 +54,7 @@ module _ (places : AddressMap) (leaves : Leaves) (names : NamesEach places leave
   used_variable : (var : ℕ) → IsNamed places.vars.indices var
       → NamesUsed places leaves (variable var)
   used_variable var n =
-      subst (All (λ t. IsSome (finite.get leaves.vars t.0))) (sym (terms_of_variable var))
+      subst (All (λ t. IsSome (finite.get leaves.vars t.0))) (sym (terms-variable nat_cmp var))
       (All-cons (λ t. IsSome (finite.get leaves.vars t.0)) (var, one_ℚ) [] (used_term var n)
       (All-nil (λ t. IsSome (finite.get leaves.vars t.0))))
 
@@ -87,7 +76,7 @@ module _ (places : AddressMap) (leaves : Leaves) (names : NamesEach places leave
   used_objective : (o : Option LeafObjective) → IfSome o (ObjectiveNames places.vars.indices)
       → NamesUsed places leaves (objective_in o)
   used_objective None n =
-      subst (All (λ t. IsSome (finite.get leaves.vars t.0))) (sym terms_of_zero)
+      subst (All (λ t. IsSome (finite.get leaves.vars t.0))) (sym (terms-constant_function nat_cmp zero_ℚ))
       (All-nil (λ t. IsSome (finite.get leaves.vars t.0)))
   used_objective (Some (objective.Plain sense var)) n = used_variable var n
   used_objective (Some (objective.Affine sense func)) n = used_function func n

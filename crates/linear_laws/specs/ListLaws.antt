@@ -11,7 +11,7 @@ use Rattle.aff_core.specs.Address.{Address, address_cmp}
 use Rattle.aff_core.specs.Arithmetic.{composed}
 use Rattle.aff_core.specs.ArithmeticLaws.{coefficient-composed, constant-composed, is_composition}
 use Rattle.aff_core.specs.Function.{Function, IsNegated, coefficient, constant_function, evaluated, negated, slope, value_of, variable}
-use Rattle.aff_core.specs.FunctionLaws.{constant-function_of, is_negated, nonzero_test, terms-function_of}
+use Rattle.aff_core.specs.FunctionLaws.{constant-constant_function, constant-variable, is_negated, terms-constant_function, terms-variable}
 use Rattle.aff_core.specs.FunctionLists.{coefficients, constants, evaluations, slopes, values}
 use Rattle.aff_core.specs.KeyOrder.{address_order}
 use Rattle.aff_core.specs.Terms.{linear}
@@ -70,21 +70,15 @@ linear_none x = refl
 
 pub slope_variable : (v : Address) (x : Address → Rational)
     → slope (variable {R = address_cmp} v) x ≡ x v
-unfolding variable
 slope_variable v x =
-    ap (λ ts. linear ts x) (terms-function_of ((v, one_ℚ) ∷ []) zero_ℚ (record { rising = refl })
-    ∙ ap (λ b. cond b ((v, one_ℚ) ∷ []) []) (nonzero_test one_ℚ one_not_zero))
+    ap (λ ts. linear ts x) (terms-variable address_cmp v)
     ∙ linear_alone v one_ℚ x ∙ one-*ℚ (x v)
-
-constant_of_variable : (v : Address) → (variable {R = address_cmp} v).constant ≡ zero_ℚ
-unfolding variable
-constant_of_variable v = constant-function_of address_cmp ((v, one_ℚ) ∷ []) zero_ℚ
 
 -- a variable is its own number, at a point and along a ray
 pub evaluated_variable : (one : Rational) (v : Address) (x : Address → Rational)
     → evaluated one (variable {R = address_cmp} v) x ≡ x v
 evaluated_variable one v x =
-    (λ i. one *ℚ constant_of_variable v i +ℚ slope_variable v x i)
+    (λ i. one *ℚ constant-variable address_cmp v i +ℚ slope_variable v x i)
     ∙ ap (λ q. q +ℚ x v) (*ℚ-zero one) ∙ zero-+ℚ (x v)
 
 pub evaluations_variables : (one : Rational) (vs : List Address) (x : Address → Rational)
@@ -94,18 +88,12 @@ evaluations_variables one vs x = map_both (λ f. evaluated one f x)
 
 pub slope_constant_function : (k : Rational) (x : Address → Rational)
     → slope (constant_function {R = address_cmp} k) x ≡ zero_ℚ
-unfolding constant_function
-slope_constant_function k x =
-    ap (λ ts. linear ts x) (terms-function_of [] k (record { rising = refl })) ∙ linear_none x
-
-constant_of_constant : (k : Rational) → (constant_function {R = address_cmp} k).constant ≡ k
-unfolding constant_function
-constant_of_constant k = constant-function_of address_cmp [] k
+slope_constant_function k x = ap (λ ts. linear ts x) (terms-constant_function address_cmp k) ∙ linear_none x
 
 pub evaluated_constant_function : (one k : Rational) (x : Address → Rational)
     → evaluated one (constant_function {R = address_cmp} k) x ≡ one *ℚ k
 evaluated_constant_function one k x =
-    (λ i. one *ℚ constant_of_constant k i +ℚ slope_constant_function k x i) ∙ +ℚ-zero (one *ℚ k)
+    (λ i. one *ℚ constant-constant_function address_cmp k i +ℚ slope_constant_function k x i) ∙ +ℚ-zero (one *ℚ k)
 
 -- ---- negated functions
 

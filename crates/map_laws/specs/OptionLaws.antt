@@ -1,7 +1,8 @@
 -- What stands in an option, from the test of whether anything does.
-use Rattle.std.specs.Prelude.{◌≡◌, true, false, Option, Some, None, IsSome, is_some, refl}
+use Rattle.std.specs.Prelude.{◌≡◌, ℕ, ◌≤◌, true, false, cond, Option, Some, None, IsSome, is_some, unwrap_or, refl}
 use Rattle.std.specs.Option.{option_or}
-use Rattle.std.proofs.Common.{ap, sym, ◌∙◌}
+use Rattle.std.proofs.Common.{ap, arith, ltb, sym, ◌∙◌}
+use Rattle.std.proofs.lemmas.Bool.Decides.{nat_tests}
 
 pub none_of : {X : Type 0} (o : Option X) → is_some o ≡ false → o ≡ None
 none_of None e = refl
@@ -16,3 +17,11 @@ some_is o x e = ap is_some e
 pub option_or-none : {X : Type 0} (o : Option X) → option_or o None ≡ o
 option_or-none None = refl
 option_or-none (Some x) = refl
+
+-- a place that is found, or the length in its stead
+pub place_or_length : (o : Option ℕ) (n m : ℕ) → o ≡ cond (ltb n m) (Some n) None → n ≤ m
+    → unwrap_or o m ≡ n
+place_or_length o n m e h = ap (λ x. unwrap_or x m) e ∙ within n m h
+  where
+    within : (n m : ℕ) → n ≤ m → unwrap_or (cond (ltb n m) (Some n) None) m ≡ n
+    within n m h = grind (arith, nat_tests)

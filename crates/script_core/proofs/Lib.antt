@@ -1,6 +1,3 @@
-mod Adding
-mod Apart
 mod Components
 mod Each
 mod Keywords
-mod Linear

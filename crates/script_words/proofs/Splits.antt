@@ -54,10 +54,3 @@ pub tokens_of_none : (bs : List ℕ) → eqb (length bs) 0 ≡ true → tokens_o
 unfolding tokens_of
 tokens_of_none [] h = refl
 tokens_of_none (b ∷ bs) h = absurd (grind (arith, nat_tests))
-
--- the place, or the length in its stead
-pub place_or_len : (o : Option ℕ) (n m : ℕ) → o ≡ cond (ltb n m) (Some n) None → n ≤ m → unwrap_or o m ≡ n
-place_or_len o n m e h = ap (λ x. unwrap_or x m) e ∙ within n m h
-  where
-    within : (n m : ℕ) → n ≤ m → unwrap_or (cond (ltb n m) (Some n) None) m ≡ n
-    within n m h = grind (arith, nat_tests)

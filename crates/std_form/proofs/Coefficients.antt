@@ -7,8 +7,8 @@ use Rattle.std.specs.List.Sorted.{IsBinarySearchResult, IsSearchInRange}
 use Rattle.std.specs.Ordering.{nat_cmp}
 use Rattle.std.proofs.Common.{sym, ◌∙◌, ap, subst}
 use Rattle.ratio_core.specs.Rational.{Rational, one_ℚ, zero_ℚ}
-use Rattle.aff_core.specs.Function.{coefficient, constant_function, terms_of, variable}
-use Rattle.aff_core.specs.FunctionLaws.{coefficient-variable_other, coefficient-variable_same, coefficient_in-terms_of, constant-function_of}
+use Rattle.aff_core.specs.Function.{coefficient, terms_of, variable}
+use Rattle.aff_core.specs.FunctionLaws.{coefficient-variable_other, coefficient-variable_same, coefficient_in-terms_of}
 use Rattle.map_laws.specs.EntryLaws.{searched}
 use Rattle.simplex_form.specs.BoundedSums.{delta}
 use Rattle.simplex_laws.specs.BoundedSumLaws.{delta_other, delta_same}
@@ -26,10 +26,6 @@ delta_one k i e = sym (delta_same k) ∙ ap (delta k) e
 
 pub delta_zero : (k i : ℕ) → ¬ (k ≡ i) → zero_ℚ ≡ delta k i
 delta_zero k i n = sym (delta_other k i n)
-
-pub constant_of_constant : (k : Rational) → (constant_function {R = nat_cmp} k).constant ≡ k
-unfolding constant_function
-constant_of_constant k = constant-function_of nat_cmp [] k
 
 -- what a search among the terms finds
 pub coefficient_found : (f : SolverFunction) (i n : ℕ) (d : ℕ × Rational) → IsSearchInRange (Ok n) (length (terms_of f)) → IsBinarySearchResult (λ t. nat_cmp t.0 i) (terms_of f) (Ok n) → (slice_index_or (terms_of f) n d).1 ≡ coefficient f i

@@ -11,28 +11,11 @@ use Rattle.std.proofs.lemmas.Option.{none-some, same_Some}
 use Rattle.address_map.specs.Places.{Indices, addresses}
 use Rattle.aff_core.specs.Address.{Address}
 use Rattle.std_form.specs.Indexed.{leaf_at}
-use Rattle.std_form.specs.NameLaws.{IsEntry, at_place, entries_found}
+use Rattle.std_form.specs.EntryPlaces.{entry_read}
 
-entry_of_key : (es : List (Address × ℕ)) (n : ℕ) (at : Address) → slice_get (map (λ e. e.0) es) n ≡ Some at → (i : ℕ) × (slice_get es n ≡ Some (at, i))
-entry_of_key [] n at h = absurd (none-some at h)
-entry_of_key (e ∷ es) zero at h = (e.1, λ i. Some (same_Some e.0 at h i, e.1))
-entry_of_key (e ∷ es) (suc n) at h = entry_of_key es n at h
-
-module _ (indices : Indices) (n : ℕ) (at : Address) (h : slice_get (addresses indices) n ≡ Some at) where
-  -- an address that is listed has an index
-  pub index_read : (i : ℕ) × (slice_get (finite.entries indices) n ≡ Some (at, i)) × (finite.get indices at ≡ Some i)
-  index_read =
-      let entry = entry_of_key (finite.entries indices) n at h in
-      (entry.0, entry.1, at_place (IsEntry indices) (finite.entries indices) n (at, entry.0) (entries_found indices) entry.1)
-
-  pub no_index : finite.get indices at ≡ None → ⊥
-  no_index e = none-some index_read.0 (sym e ∙ index_read.2)
-
-  -- and its leaf is that at the index
-  pub leaf_read : {X : Type 0} (leaves : FinMap nat_cmp X) (i : ℕ) → finite.get indices at ≡ Some i → option_map (λ x. (i, x)) (finite.get leaves i) ≡ option_and_then (leaf_at leaves) (slice_get (finite.entries indices) n)
-  leaf_read leaves i e =
-      sym (ap (option_and_then (leaf_at leaves)) index_read.1
-      ∙ ap (λ j. option_map (λ x. (j, x)) (finite.get leaves j)) (same_Some index_read.0 i (sym index_read.2 ∙ e)))
+-- an address that is listed has the leaf at its index
+pub leaf_read : {X : Type 0} (indices : Indices) (n : ℕ) (at : Address) (h : slice_get (addresses indices) n ≡ Some at) (leaves : FinMap nat_cmp X) (i : ℕ) → finite.get indices at ≡ Some i → option_map (λ x. (i, x)) (finite.get leaves i) ≡ option_and_then (leaf_at leaves) (slice_get (finite.entries indices) n)
+leaf_read indices n at h leaves i e = ap (option_and_then (leaf_at leaves)) (entry_read indices n at h i e)
 
 -- ---- loops over the entries
 

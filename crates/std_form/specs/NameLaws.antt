@@ -13,12 +13,11 @@ use Rattle.std.proofs.lemmas.Bool.{eq-eqb, eqb-true}
 use Rattle.std.proofs.lemmas.List.Elements.{All-cons, All-head, All-nil, All-tail, All-weaker}
 use Rattle.std.proofs.lemmas.Option.{none-some, same_Some}
 use Rattle.ratio_core.specs.Rational.{Rational, one_ℚ, zero_ℚ}
-use Rattle.rational_laws.specs.Field.{one_not_zero}
 use Rattle.address_map.specs.Places.{Indices, IsOneToOne}
 use Rattle.aff_core.specs.Address.{Address, address_cmp, address_eq, address_eq-Decides, root_address}
 use Rattle.aff_core.specs.declared.root.Root.TheVariants.{Variable}
 use Rattle.aff_core.specs.Function.{coefficient, constant_function, function_of, gathered, negated, terms_of, variable}
-use Rattle.aff_core.specs.FunctionLaws.{coefficient-function_of, coefficient-gathered, coefficient_in, coefficient_in-terms_of, constant-function_of, nonzero_test, same_coefficients, terms-function_of}
+use Rattle.aff_core.specs.FunctionLaws.{coefficient-function_of, coefficient-gathered, coefficient_in, coefficient_in-terms_of, constant-function_of, constant-variable, same_coefficients, terms-variable}
 use Rattle.aff_core.specs.KeyOrder.{IsKeyOrder, address_order, key_eq-Decides, same_key}
 use Rattle.leaf_model.specs.ReadThrough.{address_in, named}
 use Rattle.map_laws.specs.EntryLaws.{find_below}
@@ -30,16 +29,6 @@ pub index_order : IsKeyOrder nat_cmp
 index_order = record { total = nat_cmp_total; exact = nat_cmp-IsAntisymmetric }
 
 -- ---- variables and constant functions
-
-terms_of_variable : (var : ℕ) → terms_of (variable {R = nat_cmp} var) ≡ (var, one_ℚ) ∷ []
-unfolding variable
-terms_of_variable var =
-    terms-function_of ((var, one_ℚ) ∷ []) zero_ℚ (record { rising = refl })
-    ∙ ap (λ b. cond b ((var, one_ℚ) ∷ []) []) (nonzero_test one_ℚ one_not_zero)
-
-pub constant_of_variable : (var : ℕ) → (variable {R = nat_cmp} var).constant ≡ zero_ℚ
-unfolding variable
-constant_of_variable var = constant-function_of nat_cmp ((var, one_ℚ) ∷ []) zero_ℚ
 
 gathered_one : (a : Address) → gathered {R = address_cmp} ((a, one_ℚ) ∷ []) zero_ℚ ≡ variable a
 unfolding gathered variable
@@ -183,5 +172,5 @@ module _ (indices : Indices) where
   pub variable_named : (var : ℕ) → named indices (variable var) ≡ variable (address_in indices var)
   variable_named var =
       ap₂ (λ ts k. gathered {R = address_cmp} (map (λ t. (address_in indices t.0, t.1)) ts) k)
-      (terms_of_variable var) (constant_of_variable var)
+      (terms-variable nat_cmp var) (constant-variable nat_cmp var)
       ∙ gathered_one (address_in indices var)

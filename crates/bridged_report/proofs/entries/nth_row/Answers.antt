@@ -1,5 +1,5 @@
 use Rattle.std.proofs.Common.{sym}
-use Rattle.bridged_report.proofs.PlaceSteps.{entry_read, no_index}
+use Rattle.std_form.specs.EntryPlaces.{entry_read, no_index}
 use Rattle.bridged_report.proofs.entries.nth_row.Goals as goal
 
 pub returns-in_err-i : goal.returns-in_err-i

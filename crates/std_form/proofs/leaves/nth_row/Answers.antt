@@ -1,7 +1,8 @@
 use Rattle.std.proofs.Common.{◌∙◌, ap, sym}
 use Rattle.std.specs.Option.{option_map}
 use Rattle.std_form.specs.Borrowed.{row_in}
-use Rattle.std_form.proofs.PlaceSteps.{leaf_read, no_index}
+use Rattle.std_form.specs.EntryPlaces.{no_index}
+use Rattle.std_form.proofs.PlaceSteps.{leaf_read}
 use Rattle.std_form.proofs.leaves.nth_row.Goals as goal
 
 pub returns-in_err-i : goal.returns-in_err-i
