@@ -5,13 +5,13 @@ use Rattle.std.proofs.lemmas.Bool.{cases_lt}
 use Rattle.ratio_core.specs.Rational.{Rational, zero_ℚ}
 use Rattle.simplex_laws.specs.BoundedSumLaws.{same_or_other}
 use Rattle.sparse_board.specs.declared.sparse_row.SparseRow.{SparseRow}
-use Rattle.sparse_board.specs.Sparse.{IsBelow}
-use Rattle.sparse_board.specs.Numbers.{Adds, Copies, CopiesTo, HoldsBelow, number_of}
+use Rattle.sparse_board.specs.Sparse.{IsBelow, columns_in}
+use Rattle.sparse_board.specs.Numbers.{Adds, Copies, CopiesTo, HoldsBelow, number_of, row_columns, row_values}
 use Rattle.sparse_board.proofs.NumberLemmas.{number_past}
 
-pub held_none : (h : ℕ → Rational) (row : SparseRow) → row.columns.items ≡ [] → HoldsBelow 0 h row
+pub held_none : (h : ℕ → Rational) (row : SparseRow) → row.entries.items ≡ [] → HoldsBelow 0 h row
 held_none h row e = record {
-  below = λ k b. absurd (omega (arith, subst (λ columns. k < length columns) e b));
+  below = λ k b. absurd (omega (arith, subst (λ entries. k < length (columns_in entries)) e b));
   numbers = λ j b. absurd (omega (arith, b));
 }
 
@@ -24,7 +24,7 @@ held_past b c h row held few zeros = record {
   where
     by_side : (j : ℕ) → j < c → (j < b) ⊎ (b ≤ j) → number_of row j ≡ h j
     by_side j d (inl e) = held.numbers j e
-    by_side j d (inr e) = number_past row.columns.items row.values.items b j held.below e ∙ sym (zeros j e d)
+    by_side j d (inr e) = number_past (row_columns row) (row_values row) b j held.below e ∙ sym (zeros j e d)
 
 -- and one number more
 pub held_more : (b : ℕ) (h : ℕ → Rational) (value : Rational) (old new : SparseRow) → HoldsBelow b h old → Adds b value old new → value ≡ h b → HoldsBelow (b + 1) h new

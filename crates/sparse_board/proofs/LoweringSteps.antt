@@ -13,7 +13,7 @@ use Rattle.tableau_core.specs.LoweringLaws.{false_from_not, fits_from, lowered-z
 use Rattle.tableau_core.specs.Row.{cell}
 use Rattle.sparse_board.specs.declared.sparse_row.SparseRow.{SparseRow}
 use Rattle.sparse_board.specs.Sparse.{IsBelow, IsSparse, IsSplit, number_in}
-use Rattle.sparse_board.specs.Numbers.{Adds, Copies, CopiesTo, HoldsBelow, IsReadyAt, number_of, width_of}
+use Rattle.sparse_board.specs.Numbers.{Adds, Copies, CopiesTo, HoldsBelow, IsReadyAt, number_of, row_columns, row_values, width_of}
 use Rattle.sparse_board.specs.Lowering.{IsDivided, IsLowered, differences_fit, quotients_fit}
 use Rattle.sparse_board.proofs.NumberLemmas.{number_at_place, number_between, number_fits}
 use Rattle.sparse_board.proofs.HeldLemmas.{below_less, held_next, held_none, held_past}
@@ -83,13 +83,13 @@ split_other columns i c split other rising = record {
 
 pub record IsCopiedTo (row : SparseRow) (i column : ℕ) (old next : SparseRow) (end : ℕ) : Type 0 where
   pub width : width_of next ≡ width_of old
-  pub reached : (d : ℕ) × (d ≤ column) × IsSplit d end row.columns.items × IsBelow d next.columns.items
-  pub copied : (b : ℕ) (h : ℕ → Rational) → b ≤ column → IsSplit b i row.columns.items → HoldsBelow b h old →
+  pub reached : (d : ℕ) × (d ≤ column) × IsSplit d end (row_columns row) × IsBelow d (row_columns next)
+  pub copied : (b : ℕ) (h : ℕ → Rational) → b ≤ column → IsSplit b i (row_columns row) → HoldsBelow b h old →
       ((j : ℕ) → b ≤ j → j < column → h j ≡ number_of row j) →
-      (d : ℕ) × (d ≤ column) × (b ≤ d) × IsSplit d end row.columns.items × HoldsBelow d h next
+      (d : ℕ) × (d ≤ column) × (b ≤ d) × IsSplit d end (row_columns row) × HoldsBelow d h next
 
 module _ (row : SparseRow) (i column : ℕ) (old : SparseRow) where
-  pub copied_none : (b : ℕ) → b ≤ column → IsSplit b i row.columns.items → IsBelow b old.columns.items → IsCopiedTo row i column old old i
+  pub copied_none : (b : ℕ) → b ≤ column → IsSplit b i (row_columns row) → IsBelow b (row_columns old) → IsCopiedTo row i column old old i
   copied_none b few split below = record {
     width = refl;
     reached = (b, few, split, below);
@@ -98,27 +98,27 @@ module _ (row : SparseRow) (i column : ℕ) (old : SparseRow) where
 
   module _ (next : SparseRow) (end : ℕ) (c : IsCopiedTo row i column old next end) where
     -- the next number's column is before the column
-    module _ (b : end < length row.columns.items) (low : slice_index row.columns.items end < column) where
+    module _ (b : end < length (row_columns row)) (low : slice_index (row_columns row) end < column) where
       abbrev at : ℕ
-      at = slice_index row.columns.items end
+      at = slice_index (row_columns row) end
 
-      pub copy_above : IsBelow at next.columns.items
-      copy_above = below_less c.reached.0 at next.columns.items c.reached.3 (c.reached.2.after end (omega arith) b)
+      pub copy_above : IsBelow at (row_columns next)
+      copy_above = below_less c.reached.0 at (row_columns next) c.reached.3 (c.reached.2.after end (omega arith) b)
 
-      pub copied_more : (value : Rational) (new : SparseRow) → value ≡ cell row.values.items end → Adds at value next new → IsCopiedTo row i column old new (end + 1)
+      pub copied_more : (value : Rational) (new : SparseRow) → value ≡ cell (row_values row) end → Adds at value next new → IsCopiedTo row i column old new (end + 1)
       copied_more value new is adds = record {
         width = adds.width ∙ c.width;
-        reached = (at + 1, omega (arith, low), split_more row.columns.items row.values.items row.sparse end at b refl, adds.below);
+        reached = (at + 1, omega (arith, low), split_more (row_columns row) (row_values row) row.sparse end at b refl, adds.below);
         copied = λ d h less place held same.
             let so_far = c.copied d h less place held same in
             let first : d ≤ at = least_lem d so_far.0 at so_far.2 (so_far.3.after end (omega arith) b) in (
               at + 1,
               omega (arith, low),
               omega (arith, first),
-              split_more row.columns.items row.values.items row.sparse end at b refl,
+              split_more (row_columns row) (row_values row) row.sparse end at b refl,
               held_next so_far.0 at h value next new so_far.4 (so_far.3.after end (omega arith) b)
-                  (λ j low_j high. same j (up_lem d so_far.0 j so_far.2 low_j) (below_lem j at column high low) ∙ number_between row.columns.items row.values.items row.sparse so_far.0 end j so_far.3 low_j (λ _. high))
-                  adds (is ∙ sym (number_at_place row.columns.items row.values.items row.sparse end at b refl) ∙ sym (same at first low)),
+                  (λ j low_j high. same j (up_lem d so_far.0 j so_far.2 low_j) (below_lem j at column high low) ∙ number_between (row_columns row) (row_values row) row.sparse so_far.0 end j so_far.3 low_j (λ _. high))
+                  adds (is ∙ sym (number_at_place (row_columns row) (row_values row) row.sparse end at b refl) ∙ sym (same at first low)),
             );
       }
         where
@@ -132,27 +132,27 @@ module _ (row : SparseRow) (i column : ℕ) (old : SparseRow) where
           below_lem j a c p q = omega (arith, p, q)
 
     -- no number is left before the column
-    module _ (past_end : end < length row.columns.items → column ≤ slice_index row.columns.items end) where
-      pub copied_split : IsSplit column end row.columns.items
+    module _ (past_end : end < length (row_columns row) → column ≤ slice_index (row_columns row) end) where
+      pub copied_split : IsSplit column end (row_columns row)
       copied_split = record {
         within = c.reached.2.within;
         before = λ k d. omega (arith, c.reached.2.before k d, c.reached.1);
-        after = λ k d e. same_or_other (column ≤ slice_index row.columns.items k) end k
-            (λ f. subst (λ l. column ≤ slice_index row.columns.items l) f (past_end (subst (λ l. l < length row.columns.items) (sym f) e)))
-            (λ m. rest_lem column (slice_index row.columns.items end) (slice_index row.columns.items k) (past_end (omega (arith, d, e))) (row.sparse.rising end k (omega (arith, d, m)) e));
+        after = λ k d e. same_or_other (column ≤ slice_index (row_columns row) k) end k
+            (λ f. subst (λ l. column ≤ slice_index (row_columns row) l) f (past_end (subst (λ l. l < length (row_columns row)) (sym f) e)))
+            (λ m. rest_lem column (slice_index (row_columns row) end) (slice_index (row_columns row) k) (past_end (omega (arith, d, e))) (row.sparse.rising end k (omega (arith, d, m)) e));
       }
         where
           rest_lem : (c x y : ℕ) → c ≤ x → x < y → c ≤ y
           rest_lem c x y p q = omega (arith, p, q)
 
-      pub copied_below : IsBelow column next.columns.items
-      copied_below = below_less c.reached.0 column next.columns.items c.reached.3 c.reached.1
+      pub copied_below : IsBelow column (row_columns next)
+      copied_below = below_less c.reached.0 column (row_columns next) c.reached.3 c.reached.1
 
       pub copied_all : Copies row i column old next
       copied_all = λ b h less place held same.
           let so_far = c.copied b h less place held same in
           held_past so_far.0 column h next so_far.4 so_far.1
-          (λ j low high. same j (up_lem b so_far.0 j so_far.2 low) high ∙ number_between row.columns.items row.values.items row.sparse so_far.0 end j so_far.3 low (λ e. high_lem j column (slice_index row.columns.items end) high (past_end e)))
+          (λ j low high. same j (up_lem b so_far.0 j so_far.2 low) high ∙ number_between (row_columns row) (row_values row) row.sparse so_far.0 end j so_far.3 low (λ e. high_lem j column (slice_index (row_columns row) end) high (past_end e)))
         where
           up_lem : (b d j : ℕ) → b ≤ d → d ≤ j → b ≤ j
           up_lem b d j p q = omega (arith, p, q)
@@ -164,7 +164,7 @@ module _ (row : SparseRow) (i column : ℕ) (old : SparseRow) where
 
 pub record IsLoweredTo (row : SparseRow) (by : Rational) (columns : List ℕ) (units : List Rational) (next : SparseRow) (k i : ℕ) : Type 0 where
   pub width : width_of next ≡ width_of row
-  pub split : IsSplit (past columns k) i row.columns.items
+  pub split : IsSplit (past columns k) i (row_columns row)
   pub held : HoldsBelow (past columns k) (λ j. number_of row j -ℚ by *ℚ number_in columns units j) next
   pub fit : (j : ℕ) → j < past columns k → lowered_fits (number_of row j) by (number_in columns units j) ≡ true
 
@@ -185,12 +185,12 @@ module _ (row : SparseRow) (by : Rational) (columns : List ℕ) (units : List Ra
 
     between_fits : lowered_fits (number_of row j) by (unit j) ≡ true
     between_fits =
-        lowered_fits-zero (number_of row j) by (unit j) no_product (number_fits row.columns.items row.values.items row.sparse.fit j)
+        lowered_fits-zero (number_of row j) by (unit j) no_product (number_fits (row_columns row) (row_values row) row.sparse.fit j)
 
-  pub lowered_none : (next : SparseRow) → next.columns.items ≡ [] → width_of next ≡ width_of row → IsLoweredTo row by columns units next 0 0
+  pub lowered_none : (next : SparseRow) → next.entries.items ≡ [] → width_of next ≡ width_of row → IsLoweredTo row by columns units next 0 0
   lowered_none next e width = record {
     width = width;
-    split = past_split row.columns.items row.values.items row.sparse 0 (omega arith);
+    split = past_split (row_columns row) (row_values row) row.sparse 0 (omega arith);
     held = held_none less next e;
     fit = λ j b. absurd (omega (arith, b));
   }
@@ -210,10 +210,10 @@ module _ (row : SparseRow) (by : Rational) (columns : List ℕ) (units : List Ra
       lowered_refused e =
           all_below_failed (width_of row) unit_at (λ j. lowered_fits (number_of row j) by (unit j)) (within k b) (ap (lowered_fits (number_of row unit_at) by) here ∙ e)
 
-      pub lowered_more : (new : SparseRow) (end : ℕ) → width_of new ≡ width_of next → lowered_fits (number_of row unit_at) by item ≡ true → IsSplit (unit_at + 1) end row.columns.items → CopiesTo row i unit_at (number_of row unit_at -ℚ by *ℚ item) next new → IsLoweredTo row by columns units new (k + 1) end
+      pub lowered_more : (new : SparseRow) (end : ℕ) → width_of new ≡ width_of next → lowered_fits (number_of row unit_at) by item ≡ true → IsSplit (unit_at + 1) end (row_columns row) → CopiesTo row i unit_at (number_of row unit_at -ℚ by *ℚ item) next new → IsLoweredTo row by columns units new (k + 1) end
       lowered_more new end width fits split copied = record {
         width = width ∙ l.width;
-        split = subst (λ c. IsSplit c end row.columns.items) (sym (past_more columns k)) split;
+        split = subst (λ c. IsSplit c end (row_columns row)) (sym (past_more columns k)) split;
         held = subst (λ c. HoldsBelow c less new) (sym (past_more columns k))
             (copied (past columns k) less (past_least columns units sparse k b) l.split l.held
             (λ j low high. between_same k j (omega (arith, b)) low (λ _. high))
@@ -261,22 +261,22 @@ module _ (row : SparseRow) (by : Rational) (columns : List ℕ) (units : List Ra
 
 pub record IsDividedTo (row : SparseRow) (by : Rational) (next : SparseRow) (k : ℕ) : Type 0 where
   pub width : width_of next ≡ width_of row
-  pub held : HoldsBelow (past row.columns.items k) (λ j. number_of row j /ℚ by) next
-  pub fit : (j : ℕ) → j < past row.columns.items k → fits (number_of row j /ℚ by) ≡ true
+  pub held : HoldsBelow (past (row_columns row) k) (λ j. number_of row j /ℚ by) next
+  pub fit : (j : ℕ) → j < past (row_columns row) k → fits (number_of row j /ℚ by) ≡ true
 
 module _ (row : SparseRow) (by : Rational) where
   abbrev quotient : ℕ → Rational
   quotient j = number_of row j /ℚ by
 
-  module _ (k j : ℕ) (few : k ≤ length row.columns.items) (low : past row.columns.items k ≤ j) (high : k < length row.columns.items → j < slice_index row.columns.items k) where
+  module _ (k j : ℕ) (few : k ≤ length (row_columns row)) (low : past (row_columns row) k ≤ j) (high : k < length (row_columns row) → j < slice_index (row_columns row) k) where
     quotient_zero : quotient j ≡ zero_ℚ
     quotient_zero =
-        ap (λ x. x /ℚ by) (between_zero row.columns.items row.values.items row.sparse k j few low high) ∙ zero-*ℚ (inverse_ℚ by)
+        ap (λ x. x /ℚ by) (between_zero (row_columns row) (row_values row) row.sparse k j few low high) ∙ zero-*ℚ (inverse_ℚ by)
 
     quotient_fits : fits (quotient j) ≡ true
     quotient_fits = fits_from (quotient j) (subst Fits (sym quotient_zero) Fits_zero)
 
-  pub divided_none : (next : SparseRow) → next.columns.items ≡ [] → width_of next ≡ width_of row → IsDividedTo row by next 0
+  pub divided_none : (next : SparseRow) → next.entries.items ≡ [] → width_of next ≡ width_of row → IsDividedTo row by next 0
   divided_none next e width = record {
     width = width;
     held = held_none quotient next e;
@@ -284,15 +284,15 @@ module _ (row : SparseRow) (by : Rational) where
   }
 
   module _ (next : SparseRow) (k : ℕ) (d : IsDividedTo row by next k) where
-    module _ (b : k < length row.columns.items) (item : Rational) (is : item ≡ cell row.values.items k) where
+    module _ (b : k < length (row_columns row)) (item : Rational) (is : item ≡ cell (row_values row) k) where
       abbrev at_place : ℕ
-      at_place = slice_index row.columns.items k
+      at_place = slice_index (row_columns row) k
 
       here_is : number_of row at_place ≡ item
-      here_is = number_at_place row.columns.items row.values.items row.sparse k at_place b refl ∙ sym is
+      here_is = number_at_place (row_columns row) (row_values row) row.sparse k at_place b refl ∙ sym is
 
-      pub divided_above : IsBelow at_place next.columns.items
-      divided_above = below_less (past row.columns.items k) at_place next.columns.items d.held.below (past_least row.columns.items row.values.items row.sparse k b)
+      pub divided_above : IsBelow at_place (row_columns next)
+      divided_above = below_less (past (row_columns row) k) at_place (row_columns next) d.held.below (past_least (row_columns row) (row_values row) row.sparse k b)
 
       pub divided_refused : ¬ (Fits (item /ℚ by)) → quotients_fit (width_of row) (number_of row) by ≡ false
       divided_refused n =
@@ -302,13 +302,13 @@ module _ (row : SparseRow) (by : Rational) where
       pub divided_more : (value : Rational) (new : SparseRow) → Fits (item /ℚ by) → value ≡ item /ℚ by → Adds at_place value next new → IsDividedTo row by new (k + 1)
       divided_more value new f e adds = record {
         width = adds.width ∙ d.width;
-        held = subst (λ c. HoldsBelow c quotient new) (sym (past_more row.columns.items k))
-            (held_next (past row.columns.items k) at_place quotient value next new d.held (past_least row.columns.items row.values.items row.sparse k b)
+        held = subst (λ c. HoldsBelow c quotient new) (sym (past_more (row_columns row) k))
+            (held_next (past (row_columns row) k) at_place quotient value next new d.held (past_least (row_columns row) (row_values row) row.sparse k b)
             (λ j low high. quotient_zero k j (omega (arith, b)) low (λ _. high)) adds (e ∙ ap (λ x. x /ℚ by) (sym here_is)));
-        fit = λ j c. up_to j (subst (λ n. j < n) (past_more row.columns.items k) c) (cases_lt j (past row.columns.items k));
+        fit = λ j c. up_to j (subst (λ n. j < n) (past_more (row_columns row) k) c) (cases_lt j (past (row_columns row) k));
       }
         where
-          up_to : (j : ℕ) → j < at_place + 1 → (j < past row.columns.items k) ⊎ (past row.columns.items k ≤ j) → fits (quotient j) ≡ true
+          up_to : (j : ℕ) → j < at_place + 1 → (j < past (row_columns row) k) ⊎ (past (row_columns row) k ≤ j) → fits (quotient j) ≡ true
           up_to j c (inl b) = d.fit j b
           up_to j c (inr low) =
               same_or_other (fits (quotient j) ≡ true) j at_place
@@ -318,14 +318,14 @@ module _ (row : SparseRow) (by : Rational) where
               less_lem : (j a : ℕ) → j < a + 1 → ¬ (j ≡ a) → j < a
               less_lem j a p q = omega (arith, p, q)
 
-    module _ (all : k ≡ length row.columns.items) where
-      none_after : (j : ℕ) → k < length row.columns.items → j < slice_index row.columns.items k
+    module _ (all : k ≡ length (row_columns row)) where
+      none_after : (j : ℕ) → k < length (row_columns row) → j < slice_index (row_columns row) k
       none_after j b = absurd (omega (arith, all, b))
 
-      by_past : (P : Type 0) (j : ℕ) → (j < past row.columns.items k → P) → (past row.columns.items k ≤ j → P) → P
-      by_past P j low high = by_end (cases_lt j (past row.columns.items k))
+      by_past : (P : Type 0) (j : ℕ) → (j < past (row_columns row) k → P) → (past (row_columns row) k ≤ j → P) → P
+      by_past P j low high = by_end (cases_lt j (past (row_columns row) k))
         where
-          by_end : (j < past row.columns.items k) ⊎ (past row.columns.items k ≤ j) → P
+          by_end : (j < past (row_columns row) k) ⊎ (past (row_columns row) k ≤ j) → P
           by_end (inl b) = low b
           by_end (inr b) = high b
 
@@ -333,12 +333,12 @@ module _ (row : SparseRow) (by : Rational) where
       divided_fit =
           all_below_all (width_of row) (λ j. fits (quotient j)) (λ j b. by_past (fits (quotient j) ≡ true) j (d.fit j) (λ low. quotient_fits k j (omega (arith, all)) low (none_after j)))
 
-      past_few : (n : ℕ) → n ≤ length row.columns.items → past row.columns.items n ≤ width_of row
+      past_few : (n : ℕ) → n ≤ length (row_columns row) → past (row_columns row) n ≤ width_of row
       past_few zero b = omega arith
       past_few (suc n) b = omega (arith, row.within n (omega (arith, b)))
 
       pub divided_all : IsDivided by row next
       divided_all = record {
         width = d.width;
-        numbers = (held_past (past row.columns.items k) (width_of row) quotient next d.held (past_few k (omega (arith, all))) (λ j low high. quotient_zero k j (omega (arith, all)) low (none_after j))).numbers;
+        numbers = (held_past (past (row_columns row) k) (width_of row) quotient next d.held (past_few k (omega (arith, all))) (λ j low high. quotient_zero k j (omega (arith, all)) low (none_after j))).numbers;
       }

@@ -9,7 +9,7 @@ use Rattle.simplex_laws.specs.BoundedSumLaws.{same_or_other}
 use Rattle.tableau_core.specs.LoweringLaws.{lowered-zero, step-zero, zero-step}
 use Rattle.sparse_board.specs.declared.row.Row.{Row}
 use Rattle.sparse_board.specs.declared.sparse_row.SparseRow.{SparseRow}
-use Rattle.sparse_board.specs.Numbers.{number_of, width_of}
+use Rattle.sparse_board.specs.Numbers.{number_of, row_columns, row_values, width_of}
 use Rattle.sparse_board.specs.Rows.{AreLowered, AreWide, now_at, now_of, number_in_row, numbers}
 use Rattle.sparse_board.specs.Marks.{AreMarked, KeepMarks, MarksRow, MarksUnits, is_marked}
 use Rattle.sparse_board.specs.Pivoting.{quotient_at}
@@ -65,12 +65,12 @@ marked_more columns i m old marks k h b =
           (λ n. set_keeps marks p b (slice_index columns l * m + i) (h.marked l (omega (arith, c, n))));
     }
 
-pub marked_all : (row : SparseRow) (i m : ℕ) (old marks : List Bool) (k : ℕ) → k ≡ length row.columns.items → IsMarkedTo row.columns.items i m old marks k → MarksRow row i m marks
-marked_all row i m old marks k all h j b e = by_place (sought row.columns.items j k)
+pub marked_all : (row : SparseRow) (i m : ℕ) (old marks : List Bool) (k : ℕ) → k ≡ length (row_columns row) → IsMarkedTo (row_columns row) i m old marks k → MarksRow row i m marks
+marked_all row i m old marks k all h j b e = by_place (sought (row_columns row) j k)
   where
-    by_place : ((l : ℕ) × (l < k) × (slice_index row.columns.items l ≡ j)) ⊎ ((l : ℕ) → l < k → ¬ (slice_index row.columns.items l ≡ j)) → number_of row j ≡ zero_ℚ
+    by_place : ((l : ℕ) × (l < k) × (slice_index (row_columns row) l ≡ j)) ⊎ ((l : ℕ) → l < k → ¬ (slice_index (row_columns row) l ≡ j)) → number_of row j ≡ zero_ℚ
     by_place (inl f) = absurd (true≢false (sym (subst (λ c. is_marked marks m c i ≡ true) f.2 (h.marked f.0 f.1)) ∙ e))
-    by_place (inr none) = number_missing row.columns.items row.values.items j (λ l c. none l (subst (λ n. l < n) (sym all) c))
+    by_place (inr none) = number_missing (row_columns row) (row_values row) j (λ l c. none l (subst (λ n. l < n) (sym all) c))
 
 -- ---- the rows below i marked
 
@@ -147,12 +147,12 @@ step_marked_more columns q m old marks new k h long kept made = record {
       (λ n. kept (slice_index columns l * m + i) (h.marked l (omega (arith, b, n)) i c e));
 }
 
-pub step_marked_all : (step : SparseRow) (w q m : ℕ) (old marks : List Bool) (k : ℕ) → k ≡ length step.columns.items → IsStepMarkedTo step.columns.items q m old marks k → MarksUnits w q m (number_of step) old marks
-step_marked_all step w q m old marks k all h i b p j c e = by_place (sought step.columns.items j k)
+pub step_marked_all : (step : SparseRow) (w q m : ℕ) (old marks : List Bool) (k : ℕ) → k ≡ length (row_columns step) → IsStepMarkedTo (row_columns step) q m old marks k → MarksUnits w q m (number_of step) old marks
+step_marked_all step w q m old marks k all h i b p j c e = by_place (sought (row_columns step) j k)
   where
-    by_place : ((l : ℕ) × (l < k) × (slice_index step.columns.items l ≡ j)) ⊎ ((l : ℕ) → l < k → ¬ (slice_index step.columns.items l ≡ j)) → number_of step j ≡ zero_ℚ
+    by_place : ((l : ℕ) × (l < k) × (slice_index (row_columns step) l ≡ j)) ⊎ ((l : ℕ) → l < k → ¬ (slice_index (row_columns step) l ≡ j)) → number_of step j ≡ zero_ℚ
     by_place (inl f) = absurd (true≢false (sym (subst (λ n. is_marked marks m n i ≡ true) f.2 (h.marked f.0 f.1 i b p)) ∙ e))
-    by_place (inr none) = number_missing step.columns.items step.values.items j (λ l d. none l (subst (λ n. l < n) (sym all) d))
+    by_place (inr none) = number_missing (row_columns step) (row_values step) j (λ l d. none l (subst (λ n. l < n) (sym all) d))
 
 -- ---- after a pivot
 

@@ -13,7 +13,7 @@ use Rattle.simplex_laws.specs.BoundedSumLaws.{same_or_other}
 use Rattle.simplex_laws.specs.SearchLaws.{all_below_all, all_below_failed, all_below_more}
 use Rattle.sparse_board.specs.declared.row.Row.{Row}
 use Rattle.sparse_board.specs.declared.sparse_row.SparseRow.{SparseRow}
-use Rattle.sparse_board.specs.Numbers.{number_of, width_of}
+use Rattle.sparse_board.specs.Numbers.{number_of, row_columns, row_values, width_of}
 use Rattle.sparse_board.specs.Lowering.{IsLowered, IsPrepared, differences_fit}
 use Rattle.sparse_board.specs.Rows.{AreWide, IsPreparedAt, now_at, now_of, number_in_row, numbers, rows_fit, width_at}
 use Rattle.sparse_board.specs.Marks.{AreMarked, ArePrepared, is_marked}
@@ -91,7 +91,7 @@ passed_is P i r m e same other = by_test (nat_eq i r) refl e
 
 numbers_fit : (o : Option SparseRow) (j : ℕ) → Fits (numbers o j)
 numbers_fit None j = Fits_zero
-numbers_fit (Some row) j = number_fits row.columns.items row.values.items row.sparse.fit j
+numbers_fit (Some row) j = number_fits (row_columns row) (row_values row) row.sparse.fit j
 
 -- a row whose number of column q is 0 stays, and all fits
 zero_fits : (w q : ℕ) (o : Option SparseRow) (units : ℕ → Rational) → numbers o q ≡ zero_ℚ → differences_fit w (numbers o) (numbers o q) units ≡ true

@@ -1,7 +1,14 @@
 -- What numbers by column stand for, where only those that aren't 0 are kept.
-use Rattle.std.specs.Prelude.{◌≡◌, ℕ, zero, suc, ◌<◌, ◌≤◌, nat_eq, List, length, slice_index, if◌then◌else◌}
+use Rattle.std.specs.Prelude.{◌≡◌, ℕ, zero, suc, ◌<◌, ◌≤◌, nat_eq, List, length, map, slice_index, if◌then◌else◌}
 use Rattle.ratio_core.specs.Rational.{Rational, zero_ℚ}
 use Rattle.tableau_core.specs.Row.{AllFit, cell}
+use Rattle.sparse_board.specs.declared.entry.Entry.{Entry}
+
+abbrev pub columns_in : List Entry → List ℕ
+columns_in entries = map (λ entry. entry.column) entries
+
+abbrev pub values_in : List Entry → List Rational
+values_in entries = map (λ entry. entry.value) entries
 
 -- the number of column j, which stands beside it among the first n, or else 0
 abbrev pub number_at : List ℕ → List Rational → ℕ → ℕ → Rational
@@ -29,3 +36,12 @@ pub record IsSplit (b i : ℕ) (columns : List ℕ) : Type 0 where
   pub within : i ≤ length columns
   pub before : (k : ℕ) → k < i → slice_index columns k < b
   pub after : (k : ℕ) → i ≤ k → k < length columns → b ≤ slice_index columns k
+
+-- the number of column j
+abbrev pub number_among : List Entry → ℕ → Rational
+number_among entries = number_in (columns_in entries) (values_in entries)
+
+-- numbers by column, in w columns
+pub record AreUnits (w : ℕ) (units : List Entry) : Type 0 where
+  pub sparse : IsSparse (columns_in units) (values_in units)
+  pub within : IsBelow w (columns_in units)

@@ -1,12 +1,12 @@
 //! The first cost row, which a pivot leaves out where it isn't in use.
 ghost use Rattle.std.specs.Prelude.{◌≡◌, ◌||◌, ℕ, IsTrue, not, is_ok, OnOk};
 ghost use Rattle.ratio_core.specs.Rational.{Rational};
-ghost use Rattle.sparse_board.specs.Sparse.{IsBelow, IsSparse, number_in};
+ghost use Rattle.sparse_board.specs.Sparse.{AreUnits, number_among};
 ghost use Rattle.sparse_board.specs.Numbers.{number_of, width_of};
 ghost use Rattle.sparse_board.specs.Lowering.{IsLowered, IsPrepared, differences_fit};
 
+use crate::entry::Entry;
 use crate::row::Row;
-use ratio_core::Ratio;
 use tableau_core::BoardOverflow;
 
 // Works out what a pivot on column q makes of a row that is in use.
@@ -14,22 +14,16 @@ pub(crate) fn prepare_if(
     used: bool,
     row: &mut Row,
     q: u32,
-    columns: &[u32],
-    units: &[Ratio],
+    units: &[Entry],
 ) -> Result<(), BoardOverflow>
-    requires units { IsSparse columns.now units.now }
-    requires within { IsBelow (width_of row.old.now) columns.now }
+    requires units { AreUnits (width_of row.old.now) units.now }
     ensures stays { row.new.now ≡ row.old.now }
     ensures fits { is_ok result ≡ (not used || differences_fit (width_of row.old.now)
-        (number_of row.old.now) (number_of row.old.now q) (number_in columns.now units.now)) }
+        (number_of row.old.now) (number_of row.old.now q) (number_among units.now)) }
     ensures ok { OnOk result
-        (IsTrue used → IsPrepared q (number_in columns.now units.now) row.new) }
+        (IsTrue used → IsPrepared q (number_among units.now) row.new) }
 {
-    if used {
-        row.prepare(q, columns, units)
-    } else {
-        Ok(())
-    }
+    if used { row.prepare(q, units) } else { Ok(()) }
 }
 
 // Puts in place what was worked out of it.

@@ -3,6 +3,7 @@
 #![tactic(auto)]
 
 mod board;
+mod entry;
 mod first_costs;
 mod lowering;
 mod marks;

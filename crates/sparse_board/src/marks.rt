@@ -30,8 +30,8 @@ pub(crate) fn mark(row: &SparseRow, i: usize, count: usize, marks: &mut [bool])
     ensures marked { MarksRow row.now i count marks.new }
     ensures kept { KeepMarks marks.old marks.new }
 {
-    for k in 0..row.columns.len() {
-        marks[row.columns[k] as usize * count + i] = true;
+    for k in 0..row.entries.len() {
+        marks[row.entries[k].column as usize * count + i] = true;
     }
 }
 
@@ -43,8 +43,8 @@ pub(crate) fn mark_step(step: &SparseRow, q: u32, count: usize, marks: &mut [boo
     ensures kept { KeepMarks marks.old marks.new }
     ensures marked { MarksUnits (width_of step.now) q count (number_of step.now) marks.old marks.new }
 {
-    for k in 0..step.columns.len() {
-        mark_alike(q, step.columns[k], count, marks);
+    for k in 0..step.entries.len() {
+        mark_alike(q, step.entries[k].column, count, marks);
     }
 }
 

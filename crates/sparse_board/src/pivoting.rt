@@ -72,10 +72,9 @@ fn prepare_costs(
     ensures second_ready { OnOk result (IsPrepared q (number_of step.now) second.new) }
 {
     let inner = step.count_below(width);
-    let columns = &step.columns[..inner];
-    let units = &step.values[..inner];
-    prepare_if(in_first, first, q, columns, units)?;
-    second.prepare(q, columns, units)
+    let units = &step.entries[..inner];
+    prepare_if(in_first, first, q, units)?;
+    second.prepare(q, units)
 }
 
 // Row r divided by its number in column q.

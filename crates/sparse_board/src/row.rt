@@ -1,12 +1,12 @@
 //! A row of the board, with room for the row that comes after it.
 ghost use Rattle.std.specs.Prelude.{◌≡◌, ◌<◌, ◌^◌, ℕ, is_ok, IfOk, OnOk, vec_capacity};
 ghost use Rattle.ratio_core.specs.Rational.{Rational};
-ghost use Rattle.sparse_board.specs.Sparse.{IsBelow, IsSparse, number_in};
+ghost use Rattle.sparse_board.specs.Sparse.{AreUnits, number_among};
 ghost use Rattle.sparse_board.specs.Numbers.{number_of, width_of};
 
+use crate::entry::Entry;
 use crate::lowering::lower;
 use crate::sparse_row::SparseRow;
-use ratio_core::Ratio;
 use std::alloc::{AllocError, Global};
 use std::mem;
 use tableau_core::BoardOverflow;
@@ -17,8 +17,8 @@ pub(crate) struct Row {
     pub(crate) next: SparseRow,
     // whether a pivot that was worked out changes it
     changes: bool,
-    ghost wide: { vec_capacity next.columns ≡ vec_capacity now.columns },
-    ghost few: { vec_capacity now.columns < 2 ^ 32 },
+    ghost wide: { vec_capacity next.entries ≡ vec_capacity now.entries },
+    ghost few: { vec_capacity now.entries < 2 ^ 32 },
 }
 
 impl Row {
@@ -38,20 +38,13 @@ impl Row {
     }
 
     // Works out what a pivot on column q makes of the row, where the pivot's new row has the
-    // numbers `units` in these columns.
-    pub(crate) fn prepare(
-        &mut self,
-        q: u32,
-        columns: &[u32],
-        units: &[Ratio],
-    ) -> Result<(), BoardOverflow>
-        requires units { IsSparse columns.now units.now }
-        requires within { IsBelow (width_of self.old.now) columns.now }
+    // numbers `units`.
+    pub(crate) fn prepare(&mut self, q: u32, units: &[Entry]) -> Result<(), BoardOverflow>
+        requires units { AreUnits (width_of self.old.now) units.now }
         ensures stays { self.new.now ≡ self.old.now }
         ensures fits { is_ok result ≡ differences_fit (width_of self.old.now)
-            (number_of self.old.now) (number_of self.old.now q)
-            (number_in columns.now units.now) }
-        ensures ok { OnOk result (IsPrepared q (number_in columns.now units.now) self.new) }
+            (number_of self.old.now) (number_of self.old.now q) (number_among units.now) }
+        ensures ok { OnOk result (IsPrepared q (number_among units.now) self.new) }
     {
         let by = self.now.number(q);
         if by.is_zero() {
@@ -59,7 +52,7 @@ impl Row {
             return Ok(());
         }
         self.changes = true;
-        lower(&self.now, &by, columns, units, &mut self.next)
+        lower(&self.now, &by, units, &mut self.next)
     }
 
     // Puts in place what was worked out.

@@ -29,7 +29,7 @@ pub(crate) fn prepare_rows(
     for i in 0..rows.len() {
         if is_touched(marks, rows.len(), q, r, i) {
             let row = &mut rows[i];
-            row.prepare(q, &step.columns, &step.values)?;
+            row.prepare(q, &step.entries)?;
         }
     }
     Ok(())

@@ -13,12 +13,12 @@ pub(crate) fn first_negative(row: &SparseRow, count: usize) -> Option<usize>
     ensures value { result ≡ least_below count (λ j. is_below (number_of row.now j) zero_ℚ) }
     ensures within { IfSome result (λ j. j < count) }
 {
-    for k in 0..row.columns.len() {
-        let column = row.columns[k] as usize;
+    for k in 0..row.entries.len() {
+        let column = row.entries[k].column as usize;
         if column >= count {
             return None;
         }
-        if row.values[k] < Ratio::zero() {
+        if row.entries[k].value < Ratio::zero() {
             return Some(column);
         }
     }
@@ -31,9 +31,9 @@ pub(crate) fn first_nonzero(row: &SparseRow, count: usize) -> Option<usize>
         ≡ least_below count (λ j. not (rational_eq (number_of row.now j) zero_ℚ)) }
     ensures within { IfSome result (λ j. (j < count) × ¬ (number_of row.now j ≡ zero_ℚ)) }
 {
-    if row.columns.is_empty() {
+    if row.entries.is_empty() {
         return None;
     }
-    let column = row.columns[0] as usize;
+    let column = row.entries[0].column as usize;
     if column < count { Some(column) } else { None }
 }

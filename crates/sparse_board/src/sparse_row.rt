@@ -1,49 +1,60 @@
 //! Numbers by column: those that aren't 0, in the order of their columns.
-ghost use Rattle.std.specs.Prelude.{◌≡◌, ◌≢◌, ◌+◌, ◌<◌, ◌≤◌, ℕ, [], IfOk, vec_capacity};
+ghost use Rattle.std.specs.Prelude.{◌≡◌, ◌≢◌, ◌+◌, ◌<◌, ◌≤◌, ℕ, [], length, IfOk, vec_capacity};
+ghost use Rattle.std.specs.List.Sorted.{IsBinarySearchResult, IsSearchInRange};
+ghost use Rattle.std.specs.Ordering.{nat_cmp};
 ghost use Rattle.ratio_core.specs.Rational.{Fits, zero_ℚ};
-ghost use Rattle.sparse_board.specs.Sparse.{IsBelow, IsSparse, IsSplit};
+ghost use Rattle.sparse_board.specs.Sparse.{IsBelow, IsSparse, IsSplit, columns_in, values_in};
 
+use crate::entry::Entry;
 use ratio_core::Ratio;
 use std::alloc::{AllocError, Global};
 
-// There is room for a number in each column, so a row takes no memory once it is made.
+// There is room for a number in each column, so a row takes no memory once it is made. A number
+// stands beside its column: apart, they would touch two pages of memory for each row.
 #[derive(Drop)]
 pub(crate) struct SparseRow {
-    pub(crate) columns: Vec<u32>,
-    pub(crate) values: Vec<Ratio>,
-    ghost sparse: { IsSparse columns.items values.items },
-    ghost room: { vec_capacity values ≡ vec_capacity columns },
-    ghost within: { IsBelow (vec_capacity columns) columns.items },
+    pub(crate) entries: Vec<Entry>,
+    ghost sparse: { IsSparse (columns_in entries.items) (values_in entries.items) },
+    ghost within: { IsBelow (vec_capacity entries) (columns_in entries.items) },
 }
 
 impl SparseRow {
-    ghost use Rattle.sparse_board.specs.Numbers.{Adds, number_of, width_of};
+    ghost use Rattle.sparse_board.specs.Numbers.{Adds, number_of, row_columns, width_of};
 
     // Zeros in so many columns.
     pub(crate) fn zeros(alloc: Global, width: usize) -> Result<SparseRow, AllocError>
-        ensures empty { IfOk result (λ row. row.columns.items ≡ []) }
+        ensures empty { IfOk result (λ row. row.entries.items ≡ []) }
         ensures width { IfOk result (λ row. width_of row ≡ width) }
     {
-        let columns = Vec::with_capacity(alloc, width)?;
-        let values = Vec::with_capacity(alloc, width)?;
-        Ok(SparseRow { columns, values })
+        let entries = Vec::with_capacity(alloc, width)?;
+        Ok(SparseRow { entries })
     }
 
     // The number of a column.
     pub(crate) fn number(&self, column: u32) -> Ratio
         ensures { result ≡ number_of self.now column }
     {
-        match self.columns.binary_search(&column) {
-            Ok(place) => self.values[place],
+        match self.place_of(column) {
+            Ok(place) => self.entries[place].value,
             Err(_) => Ratio::zero(),
         }
     }
 
+    // Where the number of a column stands, or would stand.
+    fn place_of(&self, column: u32) -> Result<usize, usize>
+        ensures bound { IsSearchInRange result (length self.now.entries.items) }
+        ensures position { IsBinarySearchResult (λ c. nat_cmp c column) (row_columns self.now) result }
+    {
+        self.entries
+            .binary_search_by_key(&column, |entry| entry.column)
+    }
+
     // How many of the numbers that aren't 0 are of columns below this one.
     pub(crate) fn count_below(&self, column: u32) -> usize
-        ensures { IsSplit column result self.now.columns.items }
+        ensures within { result ≤ length self.now.entries.items }
+        ensures split { IsSplit column result (row_columns self.now) }
     {
-        match self.columns.binary_search(&column) {
+        match self.place_of(column) {
             Ok(place) => place,
             Err(place) => place,
         }
@@ -52,20 +63,19 @@ impl SparseRow {
     // A number that isn't 0, of a column past those of the others.
     #[inline]
     pub(crate) fn push(&mut self, column: u32, value: Ratio)
-        requires above { IsBelow column self.old.columns.items }
+        requires above { IsBelow column (row_columns self.old) }
         requires within { column < width_of self.old }
         requires other { value ≢ zero_ℚ }
         requires fits { Fits value }
         ensures { Adds column value self.old self.new }
     {
-        self.columns.push_reserved(column);
-        self.values.push_reserved(value);
+        self.entries.push_reserved(Entry { column, value });
     }
 
     // The same of any number.
     #[inline]
     pub(crate) fn push_any(&mut self, column: u32, value: Ratio)
-        requires above { IsBelow column self.old.columns.items }
+        requires above { IsBelow column (row_columns self.old) }
         requires within { column < width_of self.old }
         requires fits { Fits value }
         ensures { Adds column value self.old self.new }
@@ -77,10 +87,9 @@ impl SparseRow {
 
     // Zeros in all columns.
     pub(crate) fn clear(&mut self)
-        ensures empty { self.new.columns.items ≡ [] }
+        ensures empty { self.new.entries.items ≡ [] }
         ensures width { width_of self.new ≡ width_of self.old }
     {
-        self.columns.clear();
-        self.values.clear();
+        self.entries.clear();
     }
 }

@@ -2,7 +2,7 @@ use Rattle.std.proofs.Common.{◌≡◌, ◌+◌, arith, length, slice_index_or,
 use Rattle.simplex_form.specs.Search.{all_below}
 use Rattle.tableau_core.specs.LoweringLaws.{is_ok-err}
 use Rattle.sparse_board.specs.Numbers.{number_of, width_of}
-use Rattle.sparse_board.specs.Sparse.{number_in}
+use Rattle.sparse_board.specs.Sparse.{number_among}
 use Rattle.sparse_board.specs.Lowering.{IsPrepared, differences_fit}
 use Rattle.sparse_board.specs.Marks.{is_marked}
 use Rattle.sparse_board.proofs.RowsSteps.{ArePreparedTo, prepared-more, prepared-none, prepared-passed, row_fits, rows-refused, touched_is, touched_of}
@@ -22,8 +22,8 @@ loop-i-preserved c =
           let old = (slice_index_or c.loop-i.rows c.loop-i.i row).now in
           subst (λ rows. ArePreparedTo w c.args.r c.args.q units c.args.marks.now c.args.rows.now rows (c.loop-i.i + 1)) (sym k.rows-is)
           (prepared-more w c.args.r c.args.q units c.args.marks.now c.args.rows.now c.loop-i.rows c.loop-i.i row k.prepare.new.self c.loop-i.invariant c.requires.wide c.loop-i-test.true k.in_ok-prepare.ensures.stays
-          (k.in_ok-prepare.ensures.fits ∙ (λ i. differences_fit (width_of old) (number_of old) (number_of old c.args.q) (number_in (k.deref.ensures.value i) (k.deref-then-is_touched.ensures.value i))))
-          (subst (λ f. IsPrepared c.args.q f k.prepare.new.self) (λ i. number_in (k.deref.ensures.value i) (k.deref-then-is_touched.ensures.value i)) k.in_ok-prepare.ensures.ok))
+          (k.in_ok-prepare.ensures.fits ∙ (λ i. differences_fit (width_of old) (number_of old) (number_of old c.args.q) (number_among (k.deref.ensures.value i))))
+          (subst (λ f. IsPrepared c.args.q f k.prepare.new.self) (λ i. number_among (k.deref.ensures.value i)) k.in_ok-prepare.ensures.ok))
       | else-is_touched k ↦
           subst (λ rows. ArePreparedTo w c.args.r c.args.q units c.args.marks.now c.args.rows.now rows (c.loop-i.i + 1)) (sym k.rows-is)
           (prepared-passed w c.args.r c.args.q units c.args.marks.now c.args.rows.now c.loop-i.rows c.loop-i.i c.loop-i.invariant c.loop-i-test.true c.requires.column c.requires.marked (touched_of _ _ c.loop-i.i c.args.r c.args.q c.args.marks.now _ c.loop-i.invariant.long c.is_touched.ensures _ k.if-is_touched.false))
@@ -36,7 +36,7 @@ returns-in_err-prepare-clause-fits c =
     let old = (slice_index_or c.loop-i.rows c.loop-i.i c.index-rows-i.result).now in
     is_ok-err c.from_residual.result c.from_residual.ensures.0
     ∙ sym (rows-refused w c.args.r c.args.q units c.args.marks.now c.args.rows.now c.loop-i.rows c.loop-i.i c.index-rows-i.result c.loop-i.invariant c.requires.wide c.loop-i-test.true (touched_is c.loop-i.i c.args.r _ (sym c.is_touched.ensures ∙ c.if-is_touched.true)).0
-    (c.in_err-prepare.ensures.fits ∙ (λ i. differences_fit (width_of old) (number_of old) (number_of old c.args.q) (number_in (c.deref.ensures.value i) (c.deref-then-is_touched.ensures.value i)))))
+    (c.in_err-prepare.ensures.fits ∙ (λ i. differences_fit (width_of old) (number_of old) (number_of old c.args.q) (number_among (c.deref.ensures.value i)))))
 
 pub returns-clause-fits : goal.returns-clause-fits
 returns-clause-fits c =

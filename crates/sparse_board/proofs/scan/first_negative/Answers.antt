@@ -3,9 +3,9 @@ use Rattle.ratio_core.specs.Rational.{zero_ℚ}
 use Rattle.simplex_form.specs.Turns.{is_below}
 use Rattle.tableau_core.specs.LeastLaws.{below_is}
 use Rattle.sparse_board.specs.declared.sparse_row.SparseRow.{SparseRow}
-use Rattle.sparse_board.specs.Numbers.{number_of}
+use Rattle.sparse_board.specs.Numbers.{number_of, row_columns}
 use Rattle.sparse_board.proofs.LoweringSteps.{past_more}
-use Rattle.sparse_board.proofs.RowSteps.{column_is, row_place, value_is}
+use Rattle.sparse_board.proofs.RowSteps.{column_is, columns_long, row_place, value_is}
 use Rattle.sparse_board.proofs.ScanSteps.{found_at, none_more, none_to, value_at, zero_not_below}
 use Rattle.sparse_board.proofs.scan.first_negative.Goals as goal
 
@@ -19,26 +19,26 @@ pub returns-then-column-count-clause-value : goal.returns-then-column-count-clau
 returns-then-column-count-clause-value c =
     let row = c.args.row.now in
     let b = row_place row c.len-k-end.result c.loop-k.k c.len-k-end.ensures c.loop-k-test.true in
-    let is = column_is row.columns.items c.loop-k.k c.index.result.now b c.index.ensures in
+    let is = column_is row c.loop-k.k c.index.result.now b c.index.ensures in
     sym (none_to row (test row) (zeros row) c.loop-k.k (omega (arith, b)) c.loop-k.invariant.none c.args.count c.loop-k.invariant.few (λ _. subst (λ x. c.args.count ≤ x) is c.if-column-count.true))
 
 pub returns-then-lt-clause-value : goal.returns-then-lt-clause-value
 returns-then-lt-clause-value c =
     let row = c.args.row.now in
     let b = row_place row c.len-k-end.result c.loop-k.k c.len-k-end.ensures c.loop-k-test.true in
-    let is = column_is row.columns.items c.loop-k.k c.index.result.now b c.index.ensures in
+    let is = column_is row c.loop-k.k c.index.result.now b c.index.ensures in
     ap Some is
     ∙ sym (found_at row (test row) (zeros row) c.loop-k.k (omega (arith, b)) c.loop-k.invariant.none b c.args.count (subst (λ x. x < c.args.count) is c.if-column-count.false)
-    (below_is c.lt.result c.index-in-loop-k.result.now c.zero.result (number_of row (slice_index row.columns.items c.loop-k.k)) c.zero.ensures (value_at row c.loop-k.k c.index-in-loop-k.result.now b (value_is row c.loop-k.k c.index-in-loop-k.result.now b c.index-in-loop-k.ensures)) c.lt.ensures ∙ c.if-lt.true))
+    (below_is c.lt.result c.index-in-loop-k.result.now.value c.zero.result (number_of row (slice_index (row_columns row) c.loop-k.k)) c.zero.ensures (value_at row c.loop-k.k c.index-in-loop-k.result.now.value b (value_is row c.loop-k.k c.index-in-loop-k.result.now b c.index-in-loop-k.ensures)) c.lt.ensures ∙ c.if-lt.true))
 
 pub loop-k-preserved : goal.loop-k-preserved
 loop-k-preserved c =
     let row = c.args.row.now in
     let b = row_place row c.len-k-end.result c.loop-k.k c.len-k-end.ensures c.loop-k-test.true in
-    let is = column_is row.columns.items c.loop-k.k c.index.result.now b c.index.ensures in
+    let is = column_is row c.loop-k.k c.index.result.now b c.index.ensures in
     record {
-      none = none_more row (test row) (zeros row) c.loop-k.k (omega (arith, b)) c.loop-k.invariant.none b (below_is c.lt.result c.index-in-loop-k.result.now c.zero.result (number_of row (slice_index row.columns.items c.loop-k.k)) c.zero.ensures (value_at row c.loop-k.k c.index-in-loop-k.result.now b (value_is row c.loop-k.k c.index-in-loop-k.result.now b c.index-in-loop-k.ensures)) c.lt.ensures ∙ c.if-lt.false);
-      few = subst (λ n. n ≤ c.args.count) (sym (past_more row.columns.items c.loop-k.k)) (next_lem (slice_index row.columns.items c.loop-k.k) c.args.count (subst (λ x. x < c.args.count) is c.if-column-count.false));
+      none = none_more row (test row) (zeros row) c.loop-k.k (omega (arith, b)) c.loop-k.invariant.none b (below_is c.lt.result c.index-in-loop-k.result.now.value c.zero.result (number_of row (slice_index (row_columns row) c.loop-k.k)) c.zero.ensures (value_at row c.loop-k.k c.index-in-loop-k.result.now.value b (value_is row c.loop-k.k c.index-in-loop-k.result.now b c.index-in-loop-k.ensures)) c.lt.ensures ∙ c.if-lt.false);
+      few = subst (λ n. n ≤ c.args.count) (sym (past_more (row_columns row) c.loop-k.k)) (next_lem (slice_index (row_columns row) c.loop-k.k) c.args.count (subst (λ x. x < c.args.count) is c.if-column-count.false));
     }
   where
     next_lem : (x n : ℕ) → x < n → x + 1 ≤ n
@@ -47,4 +47,4 @@ loop-k-preserved c =
 pub returns-clause-value : goal.returns-clause-value
 returns-clause-value c =
     let row = c.args.row.now in
-    sym (none_to row (test row) (zeros row) c.loop-k.k (omega (arith, c.loop-k.auto.k-end, c.len-k-end.ensures, row.columns.ok.0)) c.loop-k.invariant.none c.args.count c.loop-k.invariant.few (λ b. absurd (omega (arith, b, c.loop-k-test.false, c.len-k-end.ensures, row.columns.ok.0))))
+    sym (none_to row (test row) (zeros row) c.loop-k.k (omega (arith, c.loop-k.auto.k-end, c.len-k-end.ensures, row.entries.ok.0, columns_long row)) c.loop-k.invariant.none c.args.count c.loop-k.invariant.few (λ b. absurd (omega (arith, b, c.loop-k-test.false, c.len-k-end.ensures, row.entries.ok.0, columns_long row))))

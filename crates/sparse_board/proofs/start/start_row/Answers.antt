@@ -4,7 +4,7 @@ use Rattle.simplex_form.specs.Basis.{start}
 use Rattle.simplex_form.specs.Board.{entry}
 use Rattle.simplex_form.specs.Form.{Form}
 use Rattle.tableau_core.specs.Start.{form_of}
-use Rattle.sparse_board.specs.Numbers.{HoldsBelow, number_of}
+use Rattle.sparse_board.specs.Numbers.{HoldsBelow, number_of, row_columns}
 use Rattle.sparse_board.proofs.HeldLemmas.{below_less}
 use Rattle.sparse_board.proofs.RowSteps.{number_item}
 use Rattle.sparse_board.proofs.StartSteps.{place_within, real_added, side_entries, unit_added}
@@ -24,7 +24,7 @@ loop-j-preserved c = record {
 
 pub push_any-requires-2-clause-above : goal.push_any-requires-2-clause-above
 push_any-requires-2-clause-above c =
-    below_less c.loop-j.j (c.args.c + c.args.i) c.loop-j.row.columns.items (c.loop-j.invariant.held [] []).below (omega (arith, c.loop-j.auto.j-end))
+    below_less c.loop-j.j (c.args.c + c.args.i) (row_columns c.loop-j.row) (c.loop-j.invariant.held [] []).below (omega (arith, c.loop-j.auto.j-end))
 
 pub returns-clause-entries : goal.returns-clause-entries
 returns-clause-entries c =
