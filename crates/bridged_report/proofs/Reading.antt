@@ -9,7 +9,7 @@ use Rattle.std.specs.Ordering.{nat_cmp}
 use Rattle.std.proofs.Common.{sym, ◌∙◌, ap, ap₂, subst, true≢false}
 use Rattle.std.proofs.lemmas.List.{append-nil}
 use Rattle.std.proofs.lemmas.List.Elements.{All-cons, All-head, All-nil, All-tail, All-weaker}
-use Rattle.ratio_core.specs.Rational.{Rational, one_ℚ, zero_ℚ}
+use Rattle.ratio_core.specs.Rational.{Rational, one_ℚ}
 use Rattle.address_map.specs.AddressMap.{AddressMap}
 use Rattle.address_map.specs.Places.{Indices}
 use Rattle.aff_core.specs.Address.{Address, root_address}

@@ -1,11 +1,10 @@
 -- The coefficients that are read off a function.
-use Rattle.std.specs.Prelude.{◌≡◌, ℕ, ◌∷◌, [], length, Result, Ok, Err, slice_index_or, unwrap_or, refl}
+use Rattle.std.specs.Prelude.{◌≡◌, ℕ, length, Ok, Err, slice_index_or, unwrap_or}
 use Rattle.std.specs.Cmp.{nat_cmp_total}
 use Rattle.std.specs.FinMap.{entries_sorted}
-use Rattle.std.specs.FinMap.Entries.{find}
 use Rattle.std.specs.List.Sorted.{IsBinarySearchResult, IsSearchInRange}
 use Rattle.std.specs.Ordering.{nat_cmp}
-use Rattle.std.proofs.Common.{sym, ◌∙◌, ap, subst}
+use Rattle.std.proofs.Common.{sym, ◌∙◌, ap}
 use Rattle.ratio_core.specs.Rational.{Rational, one_ℚ, zero_ℚ}
 use Rattle.aff_core.specs.Function.{coefficient, terms_of, variable}
 use Rattle.aff_core.specs.FunctionLaws.{coefficient-variable_other, coefficient-variable_same, coefficient_in-terms_of}

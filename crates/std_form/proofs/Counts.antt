@@ -1,11 +1,8 @@
 -- Counts up to a greatest number.
-use Rattle.std.specs.Prelude.{◌≡◌, ℕ, zero, suc, ◌+◌, ◌*◌, ◌<◌, ◌≤◌, Bool, List, [], ◌∷◌, ◌++◌, flat_map, length, map, min, slice_index_or, take, refl}
+use Rattle.std.specs.Prelude.{◌≡◌, ℕ, zero, suc, ◌+◌, ◌*◌, ◌<◌, ◌≤◌, min}
 use Rattle.std.proofs.Common.{◌⊎◌, inl, inr, sym, ◌∙◌, ap, arith}
 use Rattle.std.proofs.Math.Nat.{mul-le-mul_right}
 use Rattle.std.proofs.lemmas.Bool.{cases_lt}
-use Rattle.std.proofs.lemmas.List.{append-nil, flat_map_more, length-append, length-map, take_all, take_more}
-use Rattle.equality_form.specs.Columns.{parts_among, parts_of, signs}
-use Rattle.solver_store.specs.declared.leaf.LeafVar.{LeafVar}
 
 -- a product with a number that is cut off
 product_up : (a b m : ℕ) → min (a * min b m) m ≡ min (a * b) m

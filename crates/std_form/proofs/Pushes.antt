@@ -1,11 +1,11 @@
 -- What loops push for each item of a list.
 use Rattle.std.specs.Prelude.{◌≡◌, ℕ, ◌+◌, ◌<◌, ◌≤◌, Bool, true, false, cond, List, [], ◌∷◌, ◌++◌, Option, flat_map, length, map, slice_index_or, take, refl}
 use Rattle.std.proofs.Common.{sym, ◌∙◌, ap, ap₂}
-use Rattle.std.proofs.lemmas.List.{append-nil, append_assoc, flat_map_more, map-id, map_more, take_all, take_more}
-use Rattle.ratio_core.specs.Rational.{Rational, neg_ℚ, zero_ℚ}
+use Rattle.std.proofs.lemmas.List.{append_assoc, map-id, map_more, take_all}
+use Rattle.ratio_core.specs.Rational.{Rational, neg_ℚ}
 use Rattle.aff_core.specs.Function.{coefficient, negated}
 use Rattle.aff_core.specs.FunctionLaws.{coefficient-negated}
-use Rattle.equality_form.specs.Columns.{parts_among, parts_of, signs}
+use Rattle.equality_form.specs.Columns.{parts_among, signs}
 use Rattle.equality_form.specs.EqualityForm.{numbers_at}
 use Rattle.equality_form.specs.Equations.{flipped}
 use Rattle.solver_store.specs.SolverFunction.{SolverFunction}

@@ -1,12 +1,12 @@
 -- Steps of loops over equations.
-use Rattle.std.specs.Prelude.{◌≡◌, ℕ, suc, ◌+◌, ◌<◌, ◌≤◌, Bool, List, [], ◌∷◌, ◌++◌, Option, All, drop, length, map, slice_index_or, take, refl}
+use Rattle.std.specs.Prelude.{◌≡◌, ℕ, suc, ◌+◌, ◌<◌, Bool, List, [], ◌∷◌, ◌++◌, All, length, map, slice_index_or, take}
 use Rattle.std.proofs.Common.{sym, ◌∙◌, ap, ap₂, arith, is_lt, subst}
-use Rattle.std.proofs.lemmas.List.{append-nil, append_assoc, drop_all, drop_more, get_or-map, length-map, length-take-le, map-append, map_more, take_all}
+use Rattle.std.proofs.lemmas.List.{append-nil, append_assoc, get_or-map, length-map, length-take-le, map-append, map_more}
 use Rattle.std.proofs.lemmas.List.Elements.{All-push}
 use Rattle.aff_core.specs.Function.{coefficient}
 use Rattle.ratio_core.specs.Rational.{Rational, rational_cmp, zero_ℚ}
 use Rattle.equality_form.specs.Columns.{slack_at, slacks_from}
-use Rattle.equality_form.specs.EqualityForm.{cells_from, numbers_at, right_sides, row_cells, unit_at}
+use Rattle.equality_form.specs.EqualityForm.{cells_from, numbers_at, row_cells, unit_at}
 use Rattle.equality_form.specs.Equations.{RightFits, flipped, is_flipped, right_of, slack_of}
 use Rattle.std_form.specs.Indexed.{SolverEquation}
 

@@ -11,13 +11,13 @@ use Rattle.std.proofs.lemmas.List.{length-map}
 use Rattle.std.proofs.lemmas.List.Elements.{All-head, All-tail, All-weaker}
 use Rattle.std.proofs.lemmas.Option.{none-some, same_Some}
 use Rattle.std.proofs.lemmas.Simd.{map-map}
-use Rattle.ratio_core.specs.Rational.{Rational, zero_ℚ, ◌-ℚ◌}
+use Rattle.ratio_core.specs.Rational.{Rational, zero_ℚ}
 use Rattle.address_map.specs.AddressMap.{AddressMap}
 use Rattle.address_map.specs.Places.{Indices, IsOneToOne}
 use Rattle.aff_core.specs.Address.{Address, address_eq, address_eq-Decides}
 use Rattle.aff_core.specs.KeyOrder.{key_eq-Decides}
-use Rattle.equality_form.specs.Equations.{equations, is_flipped}
-use Rattle.equality_form.specs.ReadBack.{AnswerFits, PointFits, ValueFits, ValuesFit, after, by_rows, duals_in, in_parts, listed_at, point_in, read_back, unflipped, value_in, values_in, optimal, infeasible, unbounded}
+use Rattle.equality_form.specs.Equations.{is_flipped}
+use Rattle.equality_form.specs.ReadBack.{AnswerFits, PointFits, ValueFits, ValuesFit, after, duals_in, in_parts, listed_at, point_in, read_back, unflipped, value_in, values_in, optimal, infeasible, unbounded}
 use Rattle.equality_form.specs.Right.{IsRight}
 use Rattle.equality_form.specs.RightLaws.{right_read_back}
 use Rattle.item_core.specs.declared.item.Body.{Body}
@@ -28,8 +28,6 @@ use Rattle.simplex_core.specs.StdForm.{equality_form}
 use Rattle.simplex_core.specs.declared.answer.SolverAnswer.{SolverAnswer}
 use Rattle.simplex_core.specs.declared.answer.SolverAnswer.TheVariants as solver
 use Rattle.solver_store.specs.SolverModel.{Leaves}
-use Rattle.solver_store.specs.declared.answer.LeafAnswer.{LeafAnswer}
-use Rattle.solver_store.specs.declared.answer.LeafAnswer.TheVariants as leaf
 use Rattle.solver_store.specs.declared.leaf.LeafRow.{LeafRow}
 use Rattle.solver_store.specs.declared.leaf.LeafRow.TheVariants as row
 use Rattle.solver_store.specs.declared.leaf.LeafVar.{LeafVar}

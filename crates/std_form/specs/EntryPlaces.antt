@@ -19,8 +19,7 @@ module _ (indices : Indices) (n : ℕ) (at : Address)
   pub index_read : (i : ℕ) × (slice_get (finite.entries indices) n ≡ Some (at, i))
       × (finite.get indices at ≡ Some i)
   index_read =
-      let entry = entry_of_key (finite.entries indices) n at h in
-      (
+      let entry = entry_of_key (finite.entries indices) n at h in (
         entry.0,
         entry.1,
         at_place (IsEntry indices) (finite.entries indices) n (at, entry.0) (entries_found indices)

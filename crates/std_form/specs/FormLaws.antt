@@ -3,33 +3,27 @@
 use Rattle.std.specs.Prelude.{◌≡◌, ℕ, suc, ◌+◌, Bool, true, false, cond, List, [], ◌∷◌, ◌++◌, All, IsSome, Option, Some, None, filter_map, flat_map, length, map, refl}
 use Rattle.std.specs.Prelude as prelude
 use Rattle.std.specs.FinMap as finite
-use Rattle.std.specs.FinMap.{FinMap}
 use Rattle.std.specs.FinMap.Entries.{put}
 use Rattle.std.specs.Option.{option_map_or}
-use Rattle.std.specs.Cmp.{IsTotalOrder}
 use Rattle.std.specs.Ordering.{nat_cmp}
 use Rattle.std.proofs.Common.{sym, ◌∙◌, ap, ap₂, is_lt, subst}
 use Rattle.std.proofs.lemmas.List.{length-map, map-append}
-use Rattle.std.proofs.lemmas.List.Elements.{All-append, All-head, All-map, All-nil, All-tail, All-weaker}
+use Rattle.std.proofs.lemmas.List.Elements.{All-append, All-head, All-nil, All-tail, All-weaker}
 use Rattle.std.proofs.lemmas.Simd.{map-map}
 use Rattle.ratio_core.specs.Rational.{Rational, neg_ℚ, rational_cmp, zero_ℚ, ◌-ℚ◌}
 use Rattle.address_map.specs.AddressMap.{AddressMap}
 use Rattle.address_map.specs.Places.{Indices, IsOneToOne}
 use Rattle.aff_core.specs.Address.{Address, address_cmp, address_total}
-use Rattle.aff_core.specs.Function.{Function, coefficient, constant_function, negated, terms_of, variable}
+use Rattle.aff_core.specs.Function.{Function, coefficient, negated, terms_of, variable}
 use Rattle.aff_core.specs.FunctionLaws.{coefficient-constant_function, coefficient-negated}
 use Rattle.aff_core.specs.KeyOrder.{address_order}
-use Rattle.aff_core.specs.declared.sense.Sense.{Sense}
 use Rattle.aff_core.specs.declared.sense.Sense.TheVariants.{Min, Max}
 use Rattle.equality_form.specs.Columns.{parts_among, slack_at, slacks_from}
-use Rattle.equality_form.specs.EqualityForm.{cells_from, cost_among, costs_at, form_from, form_of_leaves, numbers_at, right_sides, row_cells, unit_at}
+use Rattle.equality_form.specs.EqualityForm.{cells_from, cost_among, form_from, form_of_leaves, numbers_at, right_sides, unit_at}
 use Rattle.equality_form.specs.Equations as address
 use Rattle.equality_form.specs.Equations.{Equation, equations, equations_among, equations_for, flipped, is_flipped, number_of, right_of, slack_of}
-use Rattle.item_core.specs.declared.item.Body.{Body}
-use Rattle.leaf_model.specs.LeafModel.{LeafModel}
 use Rattle.leaf_model.specs.ReadThrough.{address_in, named, read_objective, read_row, read_through}
 use Rattle.map_laws.specs.MadeLaws.{entries_empty}
-use Rattle.simplex_core.specs.declared.form.StdForm.{StdForm}
 use Rattle.solver_store.specs.SolverFunction.{SolverFunction}
 use Rattle.solver_store.specs.SolverModel.{Leaves}
 use Rattle.solver_store.specs.declared.leaf.LeafObjective.{LeafObjective}
@@ -38,7 +32,7 @@ use Rattle.solver_store.specs.declared.leaf.LeafRow.{LeafRow}
 use Rattle.solver_store.specs.declared.leaf.LeafRow.TheVariants as row
 use Rattle.solver_store.specs.declared.leaf.LeafVar.{LeafVar}
 use Rattle.solver_store.specs.declared.leaf.LeafVar.TheVariants.{Free, Nonneg}
-use Rattle.std_form.specs.Indexed.{SolverEquation, cost_in, equations_in, equations_of, form_of, is_max, objective_in, rows_of, variables_of}
+use Rattle.std_form.specs.Indexed.{SolverEquation, cost_in, equations_in, equations_of, form_of, objective_in}
 use Rattle.std_form.specs.NameLaws.{IsNamedTerm, NamesNamed, coefficient_named, constant_named, index_order, variable_named}
 use Rattle.std_form.specs.Readable.{IsReadable, NamesUsed}
 use Rattle.std_form.specs.ThroughLaws.{HasItsIndex, each_index, entries_through, leaves_at_is, leaves_with}

@@ -16,8 +16,8 @@ use Rattle.ratio_core.specs.Rational.{Rational, one_ℚ, zero_ℚ}
 use Rattle.address_map.specs.Places.{Indices, IsOneToOne}
 use Rattle.aff_core.specs.Address.{Address, address_cmp, address_eq, address_eq-Decides, root_address}
 use Rattle.aff_core.specs.declared.root.Root.TheVariants.{Variable}
-use Rattle.aff_core.specs.Function.{coefficient, constant_function, function_of, gathered, negated, terms_of, variable}
-use Rattle.aff_core.specs.FunctionLaws.{coefficient-function_of, coefficient-gathered, coefficient_in, coefficient_in-terms_of, constant-function_of, constant-variable, same_coefficients, terms-variable}
+use Rattle.aff_core.specs.Function.{coefficient, gathered, terms_of, variable}
+use Rattle.aff_core.specs.FunctionLaws.{coefficient-function_of, coefficient-gathered, coefficient_in-terms_of, constant-function_of, constant-variable, same_coefficients, terms-variable}
 use Rattle.aff_core.specs.KeyOrder.{IsKeyOrder, address_order, key_eq-Decides, same_key}
 use Rattle.leaf_model.specs.ReadThrough.{address_in, named}
 use Rattle.map_laws.specs.EntryLaws.{find_below}

@@ -7,17 +7,16 @@ use Rattle.std.specs.FinMap.Entries.{find}
 use Rattle.std.specs.List.{list_all}
 use Rattle.std.specs.Option.{option_map, option_map_or}
 use Rattle.std.proofs.Common.{sym, ◌∙◌, ap, subst, true≢false}
-use Rattle.std.proofs.lemmas.List.Elements.{All-cons, All-head, All-map, All-nil, All-tail, All-weaker}
+use Rattle.std.proofs.lemmas.List.Elements.{All-cons, All-map, All-nil, All-weaker}
 use Rattle.ratio_core.specs.Rational.{Rational, rational_eq, zero_ℚ}
 use Rattle.ratio_core.specs.RationalLaws.{eq_rational_eq}
 use Rattle.address_map.specs.AddressMap.{AddressMap}
 use Rattle.address_map.specs.Places.{IsOneToOne}
 use Rattle.aff_core.specs.Address.{Address, address_cmp}
-use Rattle.aff_core.specs.Function.{Function, coefficient, terms_of, variable}
+use Rattle.aff_core.specs.Function.{terms_of, variable}
 use Rattle.aff_core.specs.FunctionLaws.{coefficient-gathered, coefficient_in-terms_of}
 use Rattle.aff_core.specs.KeyOrder.{address_order}
 use Rattle.aff_core.specs.Terms.{is_nonzero}
-use Rattle.equality_form.specs.Equations.{Equation, equations}
 use Rattle.equality_form.specs.FeasibleLaws.{by_row}
 use Rattle.equality_form.specs.Native.{IsNativeModel, IsNativeRow, NamesVariables}
 use Rattle.item_core.specs.declared.item.Body.{Body}
@@ -30,7 +29,7 @@ use Rattle.solver_store.specs.declared.leaf.LeafObjective.{LeafObjective}
 use Rattle.solver_store.specs.declared.leaf.LeafObjective.TheVariants as objective
 use Rattle.solver_store.specs.declared.leaf.LeafVar.{LeafVar}
 use Rattle.std_form.specs.FormLaws.{IsNamedFunction, equations_named, equations_through, names_named, named_equation, objective_through}
-use Rattle.std_form.specs.Indexed.{SolverEquation, equations_of, objective_in}
+use Rattle.std_form.specs.Indexed.{equations_of, objective_in}
 use Rattle.std_form.specs.NameLaws.{IsNamedTerm, address_in_is, all_found, at_place, found_place, variable_named}
 use Rattle.std_form.specs.Readable.{IsReadable}
 use Rattle.std_form.specs.ThroughLaws.{HasItsIndex, each_index, entries_through, get_through, leaves_with}

@@ -1,5 +1,5 @@
 -- When a map and a solver's model belong together.
-use Rattle.std.specs.Prelude.{◌≡◌, ℕ, List, All, IsSome, Option, Some, None, map}
+use Rattle.std.specs.Prelude.{◌≡◌, ℕ, All, IsSome, Some}
 use Rattle.std.specs.FinMap as finite
 use Rattle.std.specs.FinMap.{FinMap}
 use Rattle.std.specs.Ordering.{nat_cmp}

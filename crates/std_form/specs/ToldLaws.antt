@@ -1,16 +1,14 @@
 -- What is told of a model by index is told of the leaf model that is read through its map.
 use Rattle.std.specs.Prelude.{◌≡◌, ◌+◌, ◌*◌, ◌<◌, ◌≤◌, ◌-◌, ◌^◌, List, [], ◌∷◌, All, IfOk, Result, Ok, Err, min, refl}
 use Rattle.std.specs.Prelude as prelude
-use Rattle.std.specs.FinMap as finite
 use Rattle.std.proofs.Common.{sym, ◌∙◌, ap, subst}
 use Rattle.std.proofs.lemmas.List.Elements.{All-cons, All-head, All-map, All-nil, All-tail, All-weaker}
 use Rattle.ratio_core.specs.Rational.{SumFits, neg_ℚ}
 use Rattle.address_map.specs.AddressMap.{AddressMap}
 use Rattle.address_map.specs.Places.{Indices, IsOneToOne}
 use Rattle.aff_core.specs.Address.{Address}
-use Rattle.equality_form.specs.EqualityForm.{cell_count, cells_of, form_of_leaves}
+use Rattle.equality_form.specs.EqualityForm.{cell_count, cells_of}
 use Rattle.equality_form.specs.Equations.{RightFits, equations, number_of}
-use Rattle.equality_form.specs.ReadBack.{AnswerFits}
 use Rattle.equality_form.specs.Right.{IsRight}
 use Rattle.equality_form.specs.ShapeLaws.{well_shaped}
 use Rattle.leaf_model.specs.ReadThrough.{read_through}
