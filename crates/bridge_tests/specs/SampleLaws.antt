@@ -1,6 +1,6 @@
 -- Items of the user's that are used as samples: rows and groups of the variables 0, 1 and 2.
 use denote.Enum.Bare.{same_true}
-use Rattle.std.specs.Prelude.{All, Bool, List, [], false, refl, true, ℕ, ◌∷◌, ◌≡◌, ◌≤◌}
+use Rattle.std.specs.Prelude.{All, Bool, List, [], false, length, refl, true, ℕ, ◌∷◌, ◌≡◌, ◌≤◌}
 use Rattle.std.proofs.lemmas.List.Elements.{All-cons, All-nil}
 use Rattle.std.proofs.Common.{ap, arith, is_lt, subst, sym, true≢false, ◌∙◌}
 use Rattle.aff_core.specs.Address.{Address, address_cmp, root_address, root_number}
@@ -9,7 +9,8 @@ use Rattle.item_core.specs.declared.item.Body.{Body}
 use Rattle.set_core.specs.declared.set.Set.TheVariants.{Interval, NormInfinityCone, Reals}
 use Rattle.aff_core.specs.Function.{Function, variable, constant_function}
 use Rattle.set_core.specs.Shapes.{IsSetOf, dimension_of, is_crossed, is_scalar, least_dimension}
-use Rattle.item_core.specs.Valid.{IsValidItem, NamesNothingBelow, below}
+use Rattle.item_core.specs.Item.{functions_of, is_group, set_of}
+use Rattle.item_core.specs.Valid.{FitsItsFunction, IsValidItem, NamesNothingBelow, below}
 use Rattle.item_core.specs.declared.item.Item.{Item}
 use Rattle.ratio_core.specs.Rational.{Rational, rational_cmp, one_ℚ, zero_ℚ}
 use Rattle.aff_core.specs.declared.root.Root.TheVariants.{Row, Variable}
@@ -108,91 +109,66 @@ sample_of_three set vector long enough uncrossed = record {
 
 -- ---- bodies
 
+-- from a body's functions and set alone
+sound : (body : Body) → FitsItsFunction body → 1 ≤ length (functions_of body)
+    → length (functions_of body) ≤ 32767 → IsSetOf (length (functions_of body)) (set_of body)
+    → (is_group body ≡ false → All (NamesNothingBelow here) (functions_of body)) → IsSound body
+sound body function some at_most set others = record {
+  function = function;
+  some = some;
+  at_most = at_most;
+  set = set;
+  depth = omega arith;
+  others = others;
+}
+
 pub sound_plain : (set : Set) → is_scalar set ≡ true → IsSampleSet set
     → IsSound (Plain (at_variable 0) set)
-sound_plain set s k = record {
-  function = s;
-  some = omega arith;
-  at_most = omega arith;
-  set = k.one s;
-  depth = omega arith;
-  others = λ _. one_unnamed (variable (at_variable 0)) (unnamed 0);
-}
+sound_plain set s k =
+    sound (Plain (at_variable 0) set) s (omega arith) (omega arith) (k.one s)
+    (λ _. one_unnamed (variable (at_variable 0)) (unnamed 0))
 
 pub sound_affine : (q : Rational) (set : Set) → is_scalar set ≡ true → IsSampleSet set
     → IsSound (Affine (shifted 0 q) set)
-sound_affine q set s k = record {
-  function = s;
-  some = omega arith;
-  at_most = omega arith;
-  set = k.one s;
-  depth = omega arith;
-  others = λ _. one_unnamed (shifted 0 q) (unnamed_shifted 0 q);
-}
+sound_affine q set s k =
+    sound (Affine (shifted 0 q) set) s (omega arith) (omega arith) (k.one s)
+    (λ _. one_unnamed (shifted 0 q) (unnamed_shifted 0 q))
 
 pub sound_plain_vec : (set : Set) → is_scalar set ≡ false → IsSampleSet set
     → IsSound (PlainVec three_variables set)
-sound_plain_vec set s k = record {
-  function = s;
-  some = omega arith;
-  at_most = omega arith;
-  set = k.three s;
-  depth = omega arith;
-  others = λ _. three_unnamed;
-}
+sound_plain_vec set s k =
+    sound (PlainVec three_variables set) s (omega arith) (omega arith) (k.three s)
+    (λ _. three_unnamed)
 
 pub sound_affine_vec : (q : Rational) (set : Set) → is_scalar set ≡ false → IsSampleSet set
     → IsSound (AffineVec (three_functions q) set)
-sound_affine_vec q set s k = record {
-  function = s;
-  some = omega arith;
-  at_most = omega arith;
-  set = k.three s;
-  depth = omega arith;
-  others = λ _. three_shifted q;
-}
+sound_affine_vec q set s k =
+    sound (AffineVec (three_functions q) set) s (omega arith) (omega arith) (k.three s)
+    (λ _. three_shifted q)
 
 pub sound_group_one : (set : Set) → is_scalar set ≡ true → IsSampleSet set
     → IsSound (Group set (at_variable 0 ∷ []))
-sound_group_one set s k = record {
-  function = tt;
-  some = omega arith;
-  at_most = omega arith;
-  set = k.one s;
-  depth = omega arith;
-  others = λ none. absurd (true≢false none);
-}
+sound_group_one set s k =
+    sound (Group set (at_variable 0 ∷ [])) tt (omega arith) (omega arith) (k.one s)
+    (λ none. absurd (true≢false none))
 
 pub sound_group_three : (set : Set) → is_scalar set ≡ false → IsSampleSet set
     → IsSound (Group set three_variables)
-sound_group_three set s k = record {
-  function = tt;
-  some = omega arith;
-  at_most = omega arith;
-  set = k.three s;
-  depth = omega arith;
-  others = λ none. absurd (true≢false none);
-}
+sound_group_three set s k =
+    sound (Group set three_variables) tt (omega arith) (omega arith) (k.three s)
+    (λ none. absurd (true≢false none))
 
 pub sound_plain_obj : (sense : Sense) → IsSound (PlainObj sense (at_variable 0))
-sound_plain_obj sense = record {
-  function = tt;
-  some = omega arith;
-  at_most = omega arith;
-  set = record { dimension = refl; enough = omega arith; uncrossed = refl };
-  depth = omega arith;
-  others = λ _. one_unnamed (variable (at_variable 0)) (unnamed 0);
-}
+sound_plain_obj sense =
+    sound (PlainObj sense (at_variable 0)) tt (omega arith) (omega arith)
+    (record { dimension = refl; enough = omega arith; uncrossed = refl })
+    (λ _. one_unnamed (variable (at_variable 0)) (unnamed 0))
 
 pub sound_affine_obj : (sense : Sense) (q : Rational) → IsSound (AffineObj sense (shifted 0 q))
-sound_affine_obj sense q = record {
-  function = tt;
-  some = omega arith;
-  at_most = omega arith;
-  set = record { dimension = refl; enough = omega arith; uncrossed = refl };
-  depth = omega arith;
-  others = λ _. one_unnamed (shifted 0 q) (unnamed_shifted 0 q);
-}
+sound_affine_obj sense q =
+    sound (AffineObj sense (shifted 0 q)) tt (omega arith) (omega arith)
+    (record { dimension = refl; enough = omega arith; uncrossed = refl })
+    (λ _. one_unnamed (shifted 0 q) (unnamed_shifted 0 q))
 
 -- the numbers from 0 to 1 are some
 unit_interval : is_crossed (Interval zero_ℚ one_ℚ) ≡ false
@@ -229,18 +205,12 @@ two_constants p q set = AffineVec (constant_function p ∷ constant_function q �
 
 sound_constants : (p q : Rational) (set : Set) → is_scalar set ≡ false → IsSetOf 2 set
     → IsSound (two_constants p q set)
-sound_constants p q set vector two = record {
-  function = vector;
-  some = omega arith;
-  at_most = omega arith;
-  set = two;
-  depth = omega arith;
-  others = λ _.
-      All-cons (NamesNothingBelow here) (constant_function p) (constant_function q ∷ [])
-      (λ rest. coefficient-constant_function address_order p (below here rest))
-      (one_unnamed (constant_function q) (λ rest. coefficient-constant_function address_order q
-      (below here rest)));
-}
+sound_constants p q set vector two =
+    sound (two_constants p q set) vector (omega arith) (omega arith) two (λ _.
+    All-cons (NamesNothingBelow here) (constant_function p) (constant_function q ∷ [])
+    (λ rest. coefficient-constant_function address_order p (below here rest))
+    (one_unnamed (constant_function q) (λ rest. coefficient-constant_function address_order q
+    (below here rest))))
 
 pub suits_norm : (p q : Rational) → IsItemFor E41 (item_of (two_constants p q (NormInfinityCone 2)))
 unfolding edge_entry kind_of_body

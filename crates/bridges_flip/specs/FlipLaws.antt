@@ -25,12 +25,17 @@ use Rattle.dual_laws.specs.Held.{Held, Holds, IsHeld, adjoint_of, gap_of}
 use Rattle.item_core.specs.declared.edge.Edge.{Edge}
 use Rattle.item_core.specs.declared.item.Body.{Body}
 use Rattle.item_core.specs.declared.item.Item.{Item}
-use Rattle.item_core.specs.Edge.{family_of}
-use Rattle.item_core.specs.Item.{functions_of, set_of}
+use Rattle.item_core.specs.declared.family.Family.{Family}
+use Rattle.item_core.specs.Edge.{family_of, source_of}
+use Rattle.item_core.specs.KindOf.{kind_of_body}
+use Rattle.item_core.specs.Item.{functions_of, is_group, set_of}
 use Rattle.item_core.specs.Valid.{FitsItsFunction, IsValidItem, NamesNothingBelow, below}
-use Rattle.bridge_face.specs.BackOf.{back_of}
+use Rattle.bridge_face.specs.BackOf.{BackFits, BackFitsBy, back_by, back_of}
+use Rattle.bridge_face.specs.FamilyLaws.{Lawful, lawful_family}
+use Rattle.bridge_face.specs.ImageOf.{FitsBy, ImageFits, image_by, image_of}
+use Rattle.bridge_face.specs.Sources.{OfKind, of_kind}
 use Rattle.bridge_face.specs.Images.{row_at}
-use Rattle.bridge_face.specs.Law.{EdgeLaw, LeadsTo, Miss, growth}
+use Rattle.bridge_face.specs.Law.{EdgeLaw, IsLawful, LeadsTo, Miss, growth, is_objective}
 use Rattle.bridge_face.specs.OneRowLaws.{IsRow, OneRow, one_row_law, row_held}
 
 -- two rows of which one is the other's flip
@@ -41,6 +46,21 @@ pub record FlipsTo (b child : Body) : Type 0 where
   pub functions : functions_of child ≡ map negated (functions_of b)
   pub set : set_of child ≡ mirrored (set_of b)
   pub no_norm_cone : is_norm_cone (set_of b) ≡ false
+
+pub row : {b : Body} → is_group b ≡ false → is_objective b ≡ false → IsRow b
+row no_group no_objective = record { no_group = no_group; no_objective = no_objective }
+
+pub flips_to : {b child : Body} → IsRow b → IsRow child → FitsItsFunction child
+    → functions_of child ≡ map negated (functions_of b) → set_of child ≡ mirrored (set_of b)
+    → is_norm_cone (set_of b) ≡ false → FlipsTo b child
+flips_to source made shaped functions set no_norm_cone = record {
+  source = source;
+  made = made;
+  shaped = shaped;
+  functions = functions;
+  set = set;
+  no_norm_cone = no_norm_cone;
+}
 
 -- an edge that flips an item
 pub record IsFlip (edge : Edge) (item : Item) (child : Body) : Type 0 where
@@ -185,3 +205,60 @@ module _ (edge : Edge) (item : Item) (child : Body) (f : IsFlip edge item child)
 
   pub flip_law : EdgeLaw edge item (row_at item child)
   flip_law = one_row_law edge item child is_one_row
+
+-- ---- families
+
+-- such a row, of which the edge makes one of the kind that it leads to
+pub record Sourced (Source : Body → Type 0) (made : Body → Body) (edge : Edge) (b : Body)
+    : Type 0 where
+  pub source : Source b
+  pub leads : LeadsTo edge (made b)
+
+-- a family that flips such rows
+pub record Flips (f : Family) (Source : Body → Type 0) (made : Body → Body) : Type 0 where
+  pub image : (edge : Edge) (item : Item) → image_by f edge item ≡ row_at item (made item.body)
+  pub back : (item : Item) (y : List Rational) → back_by f item (y ∷ []) ≡ numbers.negated y
+  pub image_fits : (item : Item) → FitsBy f item
+  pub back_fits : (item : Item) (ys : List (List Rational)) → BackFitsBy f item ys
+  pub no_growth : growth f ≡ 1
+  pub flips : (b : Body) → Source b → FlipsTo b (made b)
+  pub sourced :
+      (edge : Edge) → family_of edge ≡ f → {b : Body} → OfKind (source_of edge) b
+      → Sourced Source made edge b
+
+module _ {f : Family} {Source : Body → Type 0} {made : Body → Body} (is : Flips f Source made)
+    (edge : Edge) (own : family_of edge ≡ f) where
+  pub image_is : (item : Item) → image_of edge item ≡ row_at item (made item.body)
+  image_is item = ap (λ f. image_by f edge item) own ∙ is.image edge item
+
+  pub back_is : (item : Item) (y : List Rational) → back_of edge item (y ∷ []) ≡ numbers.negated y
+  back_is item y = ap (λ f. back_by f item (y ∷ [])) own ∙ is.back item y
+
+  pub image_fits : (item : Item) → ImageFits edge item
+  image_fits item = subst (λ f. FitsBy f item) (sym own) (is.image_fits item)
+
+  pub back_fits : (item : Item) (ys : List (List Rational)) → BackFits edge item ys
+  back_fits item ys = subst (λ f. BackFitsBy f item ys) (sym own) (is.back_fits item ys)
+
+  source_at : (b : Body) → FitsItsFunction b → kind_of_body b ≡ source_of edge
+      → Sourced Source made edge b
+  source_at b h k = is.sourced edge own (subst (λ k. OfKind k b) k (of_kind b h))
+
+  pub is_source : (b : Body) → FitsItsFunction b → kind_of_body b ≡ source_of edge → Source b
+  is_source b h k = (source_at b h k).source
+
+  law_at : Lawful edge
+  law_at item suits =
+      let sourced = source_at item.body suits.valid.function suits.kind in
+      subst (EdgeLaw edge item) (sym (image_is item))
+      (flip_law edge item (made item.body) (record {
+        item_valid = suits.valid;
+        flips = is.flips item.body sourced.source;
+        back = back_is item;
+        no_growth = ap growth own ∙ is.no_growth;
+        leads = sourced.leads;
+      }))
+
+pub flip_lawful : {f : Family} {Source : Body → Type 0} {made : Body → Body}
+    → Flips f Source made → IsLawful f
+flip_lawful {f} is = lawful_family f (law_at is)

@@ -26,7 +26,6 @@ use Rattle.item_core.specs.KindOf.{kind_of_body}
 use Rattle.bridge_face.specs.DifferenceLaws.{missed-negated}
 use Rattle.bridge_face.specs.ObjectiveLaws.{objective_no_group, one_objective_law}
 use Rattle.aff_core.specs.FunctionLaws.{negated-negated}
-use Rattle.item_core.specs.declared.kind.Kind.TheVariants as kind
 
 -- an affine objective
 pub data IsAffineObjective : Body → Type 0 where
@@ -41,21 +40,13 @@ record Sourced (edge : Edge) (b : Body) : Type 0 where
   leads : LeadsTo edge (made b)
   same : cost_of (made b) ≡ cost_of b
 
-sourced_first : {b : Body} → OfKind kind.MinAffine b → Sourced E58 b
+sourced : (edge : Edge) → family_of edge ≡ ObjFlip → {b : Body} → OfKind (source_of edge) b
+    → Sourced edge b
 unfolding edge_entry kind_of_body
-sourced_first (min_affine {func}) =
+sourced E58 own (min_affine {func}) =
     record { objective = affine_objective; leads = refl; same = negated-negated address_order func }
-
-sourced_second : {b : Body} → OfKind kind.MaxAffine b → Sourced E59 b
-unfolding edge_entry kind_of_body
-sourced_second max_affine = record { objective = affine_objective; leads = refl; same = refl }
-
-sourced : (edge : Edge) → family_of edge ≡ ObjFlip
-    → (b : Body) → FitsItsFunction b → kind_of_body b ≡ source_of edge → Sourced edge b
-unfolding edge_entry
-sourced E58 own b h k = sourced_first (subst (λ k. OfKind k b) k (of_kind b h))
-sourced E59 own b h k = sourced_second (subst (λ k. OfKind k b) k (of_kind b h))
-sourced _ own b h k = of_another own refl
+sourced E59 own max_affine = record { objective = affine_objective; leads = refl; same = refl }
+sourced _ own k = of_another own refl
 
 record Read (b : Body) : Type 0 where
   source : is_objective b ≡ true
@@ -93,9 +84,12 @@ module _ (edge : Edge) (own : family_of edge ≡ ObjFlip) where
   unfolding BackFitsBy
   back_fits item ys = subst (λ f. BackFitsBy f item ys) (sym own) tt
 
+  source_at : (b : Body) → FitsItsFunction b → kind_of_body b ≡ source_of edge → Sourced edge b
+  source_at b h k = sourced edge own (subst (λ k. OfKind k b) k (of_kind b h))
+
   pub is_affine : (b : Body) → FitsItsFunction b → kind_of_body b ≡ source_of edge
       → IsAffineObjective b
-  is_affine b h k = (sourced edge own b h k).objective
+  is_affine b h k = (source_at b h k).objective
 
   -- it is no row, to which duals would be carried
   pub no_row : (item : Item) → IsItemFor edge item → is_objective item.body ≡ false → ⊥
@@ -104,7 +98,7 @@ module _ (edge : Edge) (own : family_of edge ≡ ObjFlip) where
 
   law_at : Lawful edge
   law_at item suits =
-      let source = sourced edge own item.body suits.valid.function suits.kind in
+      let source = source_at item.body suits.valid.function suits.kind in
       let facts = read source.objective in
       subst (EdgeLaw edge item) (sym (image_is item))
       (one_objective_law edge item (made item.body) (record {

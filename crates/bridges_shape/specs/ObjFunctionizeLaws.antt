@@ -21,7 +21,6 @@ use Rattle.bridge_face.specs.Images.{function_of_body}
 use Rattle.item_core.specs.Item.{functions_of}
 use Rattle.item_core.specs.KindOf.{kind_of_body}
 use Rattle.bridge_face.specs.ObjectiveLaws.{objective_no_group, one_objective_law}
-use Rattle.item_core.specs.declared.kind.Kind.TheVariants as kind
 
 -- a plain objective
 pub data IsPlainObjective : Body → Type 0 where
@@ -36,20 +35,12 @@ record Sourced (edge : Edge) (b : Body) : Type 0 where
   leads : LeadsTo edge (made b)
   same : cost_of (made b) ≡ cost_of b
 
-sourced_first : {b : Body} → OfKind kind.MinPlain b → Sourced E60 b
+sourced : (edge : Edge) → family_of edge ≡ ObjFunctionize → {b : Body} → OfKind (source_of edge) b
+    → Sourced edge b
 unfolding edge_entry kind_of_body
-sourced_first min_plain = record { objective = plain_objective; leads = refl; same = refl }
-
-sourced_second : {b : Body} → OfKind kind.MaxPlain b → Sourced E61 b
-unfolding edge_entry kind_of_body
-sourced_second max_plain = record { objective = plain_objective; leads = refl; same = refl }
-
-sourced : (edge : Edge) → family_of edge ≡ ObjFunctionize
-    → (b : Body) → FitsItsFunction b → kind_of_body b ≡ source_of edge → Sourced edge b
-unfolding edge_entry
-sourced E60 own b h k = sourced_first (subst (λ k. OfKind k b) k (of_kind b h))
-sourced E61 own b h k = sourced_second (subst (λ k. OfKind k b) k (of_kind b h))
-sourced _ own b h k = of_another own refl
+sourced E60 own min_plain = record { objective = plain_objective; leads = refl; same = refl }
+sourced E61 own max_plain = record { objective = plain_objective; leads = refl; same = refl }
+sourced _ own k = of_another own refl
 
 record Read (b : Body) : Type 0 where
   source : is_objective b ≡ true
@@ -73,9 +64,12 @@ module _ (edge : Edge) (own : family_of edge ≡ ObjFunctionize) where
   unfolding BackFitsBy
   back_fits item ys = subst (λ f. BackFitsBy f item ys) (sym own) tt
 
+  source_at : (b : Body) → FitsItsFunction b → kind_of_body b ≡ source_of edge → Sourced edge b
+  source_at b h k = sourced edge own (subst (λ k. OfKind k b) k (of_kind b h))
+
   pub is_plain : (b : Body) → FitsItsFunction b → kind_of_body b ≡ source_of edge
       → IsPlainObjective b
-  is_plain b h k = (sourced edge own b h k).objective
+  is_plain b h k = (source_at b h k).objective
 
   -- it is no row, to which duals would be carried
   pub no_row : (item : Item) → IsItemFor edge item → is_objective item.body ≡ false → ⊥
@@ -84,7 +78,7 @@ module _ (edge : Edge) (own : family_of edge ≡ ObjFunctionize) where
 
   law_at : Lawful edge
   law_at item suits =
-      let source = sourced edge own item.body suits.valid.function suits.kind in
+      let source = source_at item.body suits.valid.function suits.kind in
       let facts = read source.objective in
       subst (EdgeLaw edge item) (sym (image_is item))
       (one_objective_law edge item (made item.body) (record {

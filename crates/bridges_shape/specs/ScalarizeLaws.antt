@@ -25,7 +25,6 @@ use Rattle.item_core.specs.declared.item.Body.{Body}
 use Rattle.item_core.specs.declared.item.Body.TheVariants.{Plain, Affine, PlainVec, AffineVec}
 use Rattle.item_core.specs.declared.item.Item.{Item}
 use Rattle.item_core.specs.declared.image.Image.{Image}
-use Rattle.item_core.specs.declared.kind.Kind.TheVariants as kind
 use Rattle.item_core.specs.Edge.{edge_entry, family_of, source_of}
 use Rattle.item_core.specs.Item.{functions_of, set_of}
 use Rattle.item_core.specs.KindOf.{kind_of_body}
@@ -216,44 +215,20 @@ record Sourced (edge : Edge) (b : Body) : Type 0 where
   row : IsConeRow b
   leads : LeadsToEach edge b
 
-sourced_first : {b : Body} → OfKind kind.VaffineZeros b → Sourced E15 b
+sourced : (edge : Edge) → family_of edge ≡ Scalarize → {b : Body} → OfKind (source_of edge) b
+    → Sourced edge b
 unfolding edge_entry kind_of_body
-sourced_first vaffine_zeros = record { row = affine of_zeros; leads = affine_each (λ f. refl) }
-
-sourced_second : {b : Body} → OfKind kind.VaffineNonnegatives b → Sourced E16 b
-unfolding edge_entry kind_of_body
-sourced_second vaffine_nonnegatives =
+sourced E15 own vaffine_zeros = record { row = affine of_zeros; leads = affine_each (λ f. refl) }
+sourced E16 own vaffine_nonnegatives =
     record { row = affine of_nonnegatives; leads = affine_each (λ f. refl) }
-
-sourced_third : {b : Body} → OfKind kind.VaffineNonpositives b → Sourced E17 b
-unfolding edge_entry kind_of_body
-sourced_third vaffine_nonpositives =
+sourced E17 own vaffine_nonpositives =
     record { row = affine of_nonpositives; leads = affine_each (λ f. refl) }
-
-sourced_fourth : {b : Body} → OfKind kind.VplainZeros b → Sourced E18 b
-unfolding edge_entry kind_of_body
-sourced_fourth vplain_zeros = record { row = plain of_zeros; leads = plain_each (λ v. refl) }
-
-sourced_fifth : {b : Body} → OfKind kind.VplainNonnegatives b → Sourced E19 b
-unfolding edge_entry kind_of_body
-sourced_fifth vplain_nonnegatives =
+sourced E18 own vplain_zeros = record { row = plain of_zeros; leads = plain_each (λ v. refl) }
+sourced E19 own vplain_nonnegatives =
     record { row = plain of_nonnegatives; leads = plain_each (λ v. refl) }
-
-sourced_sixth : {b : Body} → OfKind kind.VplainNonpositives b → Sourced E20 b
-unfolding edge_entry kind_of_body
-sourced_sixth vplain_nonpositives =
+sourced E20 own vplain_nonpositives =
     record { row = plain of_nonpositives; leads = plain_each (λ v. refl) }
-
-sourced : (edge : Edge) → family_of edge ≡ Scalarize
-    → (b : Body) → FitsItsFunction b → kind_of_body b ≡ source_of edge → Sourced edge b
-unfolding edge_entry
-sourced E15 own b h k = sourced_first (subst (λ k. OfKind k b) k (of_kind b h))
-sourced E16 own b h k = sourced_second (subst (λ k. OfKind k b) k (of_kind b h))
-sourced E17 own b h k = sourced_third (subst (λ k. OfKind k b) k (of_kind b h))
-sourced E18 own b h k = sourced_fourth (subst (λ k. OfKind k b) k (of_kind b h))
-sourced E19 own b h k = sourced_fifth (subst (λ k. OfKind k b) k (of_kind b h))
-sourced E20 own b h k = sourced_sixth (subst (λ k. OfKind k b) k (of_kind b h))
-sourced _ own b h k = of_another own refl
+sourced _ own k = of_another own refl
 
 -- ---- the parts
 
@@ -326,8 +301,11 @@ module _ (edge : Edge) (own : family_of edge ≡ Scalarize) where
   unfolding BackFitsBy
   back_fits item ys = subst (λ f. BackFitsBy f item ys) (sym own) tt
 
+  source_at : (b : Body) → FitsItsFunction b → kind_of_body b ≡ source_of edge → Sourced edge b
+  source_at b h k = sourced edge own (subst (λ k. OfKind k b) k (of_kind b h))
+
   pub is_cone_row : (b : Body) → FitsItsFunction b → kind_of_body b ≡ source_of edge → IsConeRow b
-  is_cone_row b h k = (sourced edge own b h k).row
+  is_cone_row b h k = (source_at b h k).row
 
   module _ (item : Item) (valid : IsValidItem item) (r : Read item.body) where
     -- a component of the item
@@ -372,8 +350,8 @@ module _ (edge : Edge) (own : family_of edge ≡ Scalarize) where
             All-cons IsComponent f fs (
               All-head (NamesNothingBelow item.at) f fs h,
               All-head
-                  (λ g. (v : Address) → Miss (functions_of item.body) v → coefficient g v ≡ zero_ℚ) f
-                  fs k,
+                  (λ g. (v : Address) → Miss (functions_of item.body) v
+                  → coefficient g v ≡ zero_ℚ) f fs k,
             )
             (both fs (All-tail (NamesNothingBelow item.at) f fs h)
             (All-tail (λ g. (v : Address) → Miss (functions_of item.body) v
@@ -439,7 +417,7 @@ module _ (edge : Edge) (own : family_of edge ≡ Scalarize) where
 
   law_at : Lawful edge
   law_at item suits =
-      let source = sourced edge own item.body suits.valid.function suits.kind in
+      let source = source_at item.body suits.valid.function suits.kind in
       subst (EdgeLaw edge item) (sym (image_is item))
       (rows_law edge item (made item.body) (scalarize_rows item suits.valid (read source.row)
       source.leads))

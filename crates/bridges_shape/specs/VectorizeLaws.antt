@@ -19,7 +19,6 @@ use Rattle.item_core.specs.declared.family.Family.TheVariants.{Vectorize}
 use Rattle.item_core.specs.declared.item.Body.{Body}
 use Rattle.item_core.specs.declared.item.Body.TheVariants.{Plain, Affine, AffineVec}
 use Rattle.item_core.specs.declared.item.Item.{Item}
-use Rattle.item_core.specs.declared.kind.Kind.TheVariants as kind
 use Rattle.item_core.specs.Edge.{edge_entry, family_of, source_of}
 use Rattle.item_core.specs.Item.{functions_of, set_of}
 use Rattle.item_core.specs.KindOf.{kind_of_body}
@@ -70,40 +69,16 @@ record Sourced (edge : Edge) (b : Body) : Type 0 where
   row : IsNumberRow b
   leads : LeadsTo edge (made b)
 
-sourced_first : {b : Body} → OfKind kind.AffineLessThan b → Sourced E5 b
+sourced : (edge : Edge) → family_of edge ≡ Vectorize → {b : Body} → OfKind (source_of edge) b
+    → Sourced edge b
 unfolding edge_entry kind_of_body
-sourced_first affine_less_than = record { row = affine at_most; leads = refl }
-
-sourced_second : {b : Body} → OfKind kind.AffineGreaterThan b → Sourced E6 b
-unfolding edge_entry kind_of_body
-sourced_second affine_greater_than = record { row = affine at_least; leads = refl }
-
-sourced_third : {b : Body} → OfKind kind.AffineEqualTo b → Sourced E7 b
-unfolding edge_entry kind_of_body
-sourced_third affine_equal_to = record { row = affine equal; leads = refl }
-
-sourced_fourth : {b : Body} → OfKind kind.PlainLessThan b → Sourced E8 b
-unfolding edge_entry kind_of_body
-sourced_fourth plain_less_than = record { row = plain at_most; leads = refl }
-
-sourced_fifth : {b : Body} → OfKind kind.PlainGreaterThan b → Sourced E9 b
-unfolding edge_entry kind_of_body
-sourced_fifth plain_greater_than = record { row = plain at_least; leads = refl }
-
-sourced_sixth : {b : Body} → OfKind kind.PlainEqualTo b → Sourced E10 b
-unfolding edge_entry kind_of_body
-sourced_sixth plain_equal_to = record { row = plain equal; leads = refl }
-
-sourced : (edge : Edge) → family_of edge ≡ Vectorize
-    → (b : Body) → FitsItsFunction b → kind_of_body b ≡ source_of edge → Sourced edge b
-unfolding edge_entry
-sourced E5 own b h k = sourced_first (subst (λ k. OfKind k b) k (of_kind b h))
-sourced E6 own b h k = sourced_second (subst (λ k. OfKind k b) k (of_kind b h))
-sourced E7 own b h k = sourced_third (subst (λ k. OfKind k b) k (of_kind b h))
-sourced E8 own b h k = sourced_fourth (subst (λ k. OfKind k b) k (of_kind b h))
-sourced E9 own b h k = sourced_fifth (subst (λ k. OfKind k b) k (of_kind b h))
-sourced E10 own b h k = sourced_sixth (subst (λ k. OfKind k b) k (of_kind b h))
-sourced _ own b h k = of_another own refl
+sourced E5 own affine_less_than = record { row = affine at_most; leads = refl }
+sourced E6 own affine_greater_than = record { row = affine at_least; leads = refl }
+sourced E7 own affine_equal_to = record { row = affine equal; leads = refl }
+sourced E8 own plain_less_than = record { row = plain at_most; leads = refl }
+sourced E9 own plain_greater_than = record { row = plain at_least; leads = refl }
+sourced E10 own plain_equal_to = record { row = plain equal; leads = refl }
+sourced _ own k = of_another own refl
 
 -- ---- on numbers
 
@@ -162,9 +137,12 @@ module _ (edge : Edge) (own : family_of edge ≡ Vectorize) where
   unfolding BackFitsBy
   back_fits item ys = subst (λ f. BackFitsBy f item ys) (sym own) tt
 
+  source_at : (b : Body) → FitsItsFunction b → kind_of_body b ≡ source_of edge → Sourced edge b
+  source_at b h k = sourced edge own (subst (λ k. OfKind k b) k (of_kind b h))
+
   pub is_number_row : (b : Body) → FitsItsFunction b → kind_of_body b ≡ source_of edge
       → IsNumberRow b
-  is_number_row b h k = (sourced edge own b h k).row
+  is_number_row b h k = (source_at b h k).row
 
   module _ (item : Item) (valid : IsValidItem item) (r : Read item.body)
       (leads : LeadsTo edge (made item.body)) where
@@ -219,7 +197,7 @@ module _ (edge : Edge) (own : family_of edge ≡ Vectorize) where
 
   law_at : Lawful edge
   law_at item suits =
-      let source = sourced edge own item.body suits.valid.function suits.kind in
+      let source = source_at item.body suits.valid.function suits.kind in
       subst (EdgeLaw edge item) (sym (image_is item))
       (one_row_law edge item (made item.body) (is_one_row item suits.valid (read source.row)
       source.leads))

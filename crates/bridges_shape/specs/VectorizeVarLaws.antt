@@ -23,7 +23,6 @@ use Rattle.item_core.specs.declared.image.Image.{Image}
 use Rattle.item_core.specs.declared.item.Body.{Body}
 use Rattle.item_core.specs.declared.item.Body.TheVariants.{Group}
 use Rattle.item_core.specs.declared.item.Item.{Item}
-use Rattle.item_core.specs.declared.kind.Kind.TheVariants as kind
 use Rattle.item_core.specs.Edge.{edge_entry, family_of, source_of}
 use Rattle.item_core.specs.Item.{functions_of, is_group, set_of}
 use Rattle.item_core.specs.KindOf.{kind_of_body}
@@ -55,25 +54,13 @@ record Sourced (edge : Edge) (b : Body) : Type 0 where
   group : IsNumberGroup b
   leads : (vars : List Address) → LeadsTo edge (Group (cone_of (set_of b)) vars)
 
-sourced_first : {b : Body} → OfKind kind.GroupLessThan b → Sourced E46 b
+sourced : (edge : Edge) → family_of edge ≡ VectorizeVar → {b : Body} → OfKind (source_of edge) b
+    → Sourced edge b
 unfolding edge_entry kind_of_body
-sourced_first group_less_than = record { group = group at_most; leads = λ vars. refl }
-
-sourced_second : {b : Body} → OfKind kind.GroupGreaterThan b → Sourced E47 b
-unfolding edge_entry kind_of_body
-sourced_second group_greater_than = record { group = group at_least; leads = λ vars. refl }
-
-sourced_third : {b : Body} → OfKind kind.GroupEqualTo b → Sourced E48 b
-unfolding edge_entry kind_of_body
-sourced_third group_equal_to = record { group = group equal; leads = λ vars. refl }
-
-sourced : (edge : Edge) → family_of edge ≡ VectorizeVar
-    → (b : Body) → FitsItsFunction b → kind_of_body b ≡ source_of edge → Sourced edge b
-unfolding edge_entry
-sourced E46 own b h k = sourced_first (subst (λ k. OfKind k b) k (of_kind b h))
-sourced E47 own b h k = sourced_second (subst (λ k. OfKind k b) k (of_kind b h))
-sourced E48 own b h k = sourced_third (subst (λ k. OfKind k b) k (of_kind b h))
-sourced _ own b h k = of_another own refl
+sourced E46 own group_less_than = record { group = group at_most; leads = λ vars. refl }
+sourced E47 own group_greater_than = record { group = group at_least; leads = λ vars. refl }
+sourced E48 own group_equal_to = record { group = group equal; leads = λ vars. refl }
+sourced _ own k = of_another own refl
 
 -- ---- on numbers
 
@@ -106,9 +93,12 @@ module _ (edge : Edge) (own : family_of edge ≡ VectorizeVar) where
   unfolding BackFitsBy
   back_fits item ys = subst (λ f. BackFitsBy f item ys) (sym own) tt
 
+  source_at : (b : Body) → FitsItsFunction b → kind_of_body b ≡ source_of edge → Sourced edge b
+  source_at b h k = sourced edge own (subst (λ k. OfKind k b) k (of_kind b h))
+
   pub is_number_group : (b : Body) → FitsItsFunction b → kind_of_body b ≡ source_of edge
       → IsNumberGroup b
-  is_number_group b h k = (sourced edge own b h k).group
+  is_number_group b h k = (source_at b h k).group
 
   -- it is no row, to which duals would be carried
   pub no_row : (item : Item) → IsItemFor edge item → is_group item.body ≡ false → ⊥
@@ -203,7 +193,7 @@ module _ (edge : Edge) (own : family_of edge ≡ VectorizeVar) where
 
   law_at : Lawful edge
   law_at item suits =
-      let source = sourced edge own item.body suits.valid.function suits.kind in
+      let source = source_at item.body suits.valid.function suits.kind in
       subst (EdgeLaw edge item) (sym (image_is item))
       (one_group_law edge item (cone_of (set_of item.body)) 1
       (raised (variable (child_of (child_of item.at 0) 0)) (number_in (set_of item.body)) ∷ [])

@@ -6,12 +6,12 @@ use Rattle.std.proofs.lemmas.List.{append-nil, length-append, length-map}
 use Rattle.std.specs.List.{range_with_len}
 use Rattle.rational_laws.specs.Field.{+ℚ-zero, zero-+ℚ, -ℚ-itself}
 use Rattle.aff_core.specs.Address.{Address, child_of}
-use Rattle.item_core.specs.declared.item.Body.TheVariants.{Affine, AffineObj, AffineVec, Free, Group, Plain, PlainObj, PlainVec}
+use Rattle.item_core.specs.declared.item.Body.TheVariants.{Affine, AffineVec, Free, Group, Plain, PlainVec}
 use Rattle.bridge_face.specs.Law.{Balances, CarriesValues, ChildDuals, EdgeLaw, GrowsBy, HasComponents, HoldsAt, IsCovered, IsItemFor, IsLawful, IsValidWithin, LeadsTo, MentionsKnown, Miss, expressed, growth, held_body, held_children, held_item, inner_of}
 use Rattle.item_core.specs.declared.item.Body.{Body}
 use Rattle.item_core.specs.declared.edge.Edge.TheVariants.{E49, E50, E51, E52, E53, E54, E55, E56, E57}
 use Rattle.item_core.specs.declared.edge.Edge.{Edge}
-use Rattle.set_core.specs.declared.set.Set.TheVariants.{EqualTo, GreaterThan, Interval, LessThan, Nonnegatives, Nonpositives, NormInfinityCone, NormOneCone, Reals, Zeros}
+use Rattle.set_core.specs.declared.set.Set.TheVariants.{EqualTo, GreaterThan, Interval, LessThan, Reals}
 use Rattle.bridge_face.specs.ImageOf.{FitsBy, ImageFits, begins_free, free_at, group_at, image_by, image_of, inner, inner_functions, later}
 use Rattle.item_core.specs.Valid.{FitsItsFunction, IsValidItem, NamesNothingBelow}
 use Rattle.dual_laws.specs.Held.{Holds, IsHeld, adjoint, adjoint_of, gap, gap_of}
@@ -39,7 +39,6 @@ use Rattle.bridge_face.specs.BackOf.{size}
 use Rattle.aff_core.specs.Function.{variable}
 use Rattle.rational_laws.specs.Order.{≤ℚ_from_≡}
 use Rattle.item_core.specs.declared.image.Expression.{Expression}
-use Rattle.item_core.specs.declared.kind.Kind.TheVariants as kind
 
 -- ---- the child group and the row
 
@@ -75,36 +74,23 @@ record IsOfRow (b : Body) (ss : List Address) (set : Set) : Type 0 where
   functions : functions_of b ≡ variables ss
   same_set : set_of b ≡ set
 
+is_of_row : {b : Body} {ss : List Address} {set : Set} → IsRow b → FitsItsFunction b
+    → functions_of b ≡ variables ss → set_of b ≡ set → IsOfRow b ss set
+is_of_row row shaped functions same_set =
+    record { row = row; shaped = shaped; functions = functions; same_set = same_set }
+
 of_row : (free scalar : Bool) (v : Address) (ss : List Address) (set : Set) → is_scalar set ≡ scalar
     → (scalar ≡ true → ss ≡ v ∷ []) → IsOfRow (second_child free scalar v ss set) ss set
 of_row true true v ss set s one =
-    record {
-      row = record { no_group = refl; no_objective = refl };
-      shaped = s;
-      functions = ap variables (sym (one refl));
-      same_set = refl;
-    }
+    is_of_row (record { no_group = refl; no_objective = refl }) s (ap variables (sym (one refl)))
+    refl
 of_row true false v ss set s one =
-    record {
-      row = record { no_group = refl; no_objective = refl };
-      shaped = s;
-      functions = refl;
-      same_set = refl;
-    }
+    is_of_row (record { no_group = refl; no_objective = refl }) s refl refl
 of_row false true v ss set s one =
-    record {
-      row = record { no_group = refl; no_objective = refl };
-      shaped = s;
-      functions = ap variables (sym (one refl));
-      same_set = refl;
-    }
+    is_of_row (record { no_group = refl; no_objective = refl }) s (ap variables (sym (one refl)))
+    refl
 of_row false false v ss set s one =
-    record {
-      row = record { no_group = refl; no_objective = refl };
-      shaped = s;
-      functions = refl;
-      same_set = refl;
-    }
+    is_of_row (record { no_group = refl; no_objective = refl }) s refl refl
 
 -- ---- the law, over the two
 
@@ -125,12 +111,7 @@ group_body_held : (bound : Rational) (b : Body) (w : List Rational) → is_group
     → held_body bound b w ≡ held_of w (functions_of b) (set_of b)
 group_body_held bound (Group set vars) w g = refl
 group_body_held bound (Free vars) w g = refl
-group_body_held bound (Plain var set) w g = absurd (true≢false (sym g))
-group_body_held bound (Affine func set) w g = absurd (true≢false (sym g))
-group_body_held bound (PlainVec vars set) w g = absurd (true≢false (sym g))
-group_body_held bound (AffineVec funcs set) w g = absurd (true≢false (sym g))
-group_body_held bound (PlainObj sense var) w g = absurd (true≢false (sym g))
-group_body_held bound (AffineObj sense func) w g = absurd (true≢false (sym g))
+group_body_held bound _ w g = absurd (true≢false (sym g))
 
 module _ (edge : Edge) (item : Item) (group row : Body) (l : IsLater edge item group row) where
   abbrev n : ℕ
@@ -344,142 +325,47 @@ record Sourced (edge : Edge) (b : Body) : Type 0 where
   row_leads : (v : Address) (ss : List Address)
       → LeadsTo edge (second_child free scalar v ss (set_of b))
 
-from_less_than : {b : Body} → OfKind kind.GroupLessThan b → Sourced E49 b
-unfolding edge_entry kind_of_body
-from_less_than group_less_than =
-    record {
-      group = refl;
-      scalar = true;
-      scalar_is = refl;
-      free = true;
-      free_is = refl;
-      group_leads = λ d ss. refl;
-      row_leads = λ v ss. refl;
-    }
+from : {edge : Edge} {b : Body} (free scalar : Bool) → is_group b ≡ true
+    → begins_free (children_of edge) ≡ free → is_scalar (set_of b) ≡ scalar
+    → ((d : ℕ) (ss : List Address) → LeadsTo edge (first_child free d ss))
+    → ((v : Address) (ss : List Address) → LeadsTo edge (second_child free scalar v ss (set_of b)))
+    → Sourced edge b
+from free scalar group free_is scalar_is group_leads row_leads = record {
+  group = group;
+  scalar = scalar;
+  scalar_is = scalar_is;
+  free = free;
+  free_is = free_is;
+  group_leads = group_leads;
+  row_leads = row_leads;
+}
 
-from_greater_than : {b : Body} → OfKind kind.GroupGreaterThan b → Sourced E50 b
+sourced : (edge : Edge) → family_of edge ≡ Later → {b : Body} → OfKind (source_of edge) b
+    → Sourced edge b
 unfolding edge_entry kind_of_body
-from_greater_than group_greater_than =
-    record {
-      group = refl;
-      scalar = true;
-      scalar_is = refl;
-      free = true;
-      free_is = refl;
-      group_leads = λ d ss. refl;
-      row_leads = λ v ss. refl;
-    }
+sourced E49 own group_less_than = from true true refl refl refl (λ d ss. refl) (λ v ss. refl)
+sourced E50 own group_greater_than = from true true refl refl refl (λ d ss. refl) (λ v ss. refl)
+sourced E51 own group_equal_to = from true true refl refl refl (λ d ss. refl) (λ v ss. refl)
+sourced E52 own group_interval = from true true refl refl refl (λ d ss. refl) (λ v ss. refl)
+sourced E53 own group_nonnegatives = from true false refl refl refl (λ d ss. refl) (λ v ss. refl)
+sourced E54 own group_interval = from false true refl refl refl (λ d ss. refl) (λ v ss. refl)
+sourced E55 own group_nonnegatives = from false false refl refl refl (λ d ss. refl) (λ v ss. refl)
+sourced E56 own group_norm_infinity_cone =
+    from false false refl refl refl (λ d ss. refl) (λ v ss. refl)
+sourced E57 own group_norm_one_cone = from false false refl refl refl (λ d ss. refl) (λ v ss. refl)
+sourced _ own k = of_another own refl
 
-from_equal_to : {b : Body} → OfKind kind.GroupEqualTo b → Sourced E51 b
-unfolding edge_entry kind_of_body
-from_equal_to group_equal_to =
-    record {
-      group = refl;
-      scalar = true;
-      scalar_is = refl;
-      free = true;
-      free_is = refl;
-      group_leads = λ d ss. refl;
-      row_leads = λ v ss. refl;
-    }
-
-from_interval : {b : Body} → OfKind kind.GroupInterval b → Sourced E52 b
-unfolding edge_entry kind_of_body
-from_interval group_interval =
-    record {
-      group = refl;
-      scalar = true;
-      scalar_is = refl;
-      free = true;
-      free_is = refl;
-      group_leads = λ d ss. refl;
-      row_leads = λ v ss. refl;
-    }
-
-from_nonnegatives : {b : Body} → OfKind kind.GroupNonnegatives b → Sourced E53 b
-unfolding edge_entry kind_of_body
-from_nonnegatives group_nonnegatives =
-    record {
-      group = refl;
-      scalar = false;
-      scalar_is = refl;
-      free = true;
-      free_is = refl;
-      group_leads = λ d ss. refl;
-      row_leads = λ v ss. refl;
-    }
-
-affine_interval_row : {b : Body} → OfKind kind.GroupInterval b → Sourced E54 b
-unfolding edge_entry kind_of_body
-affine_interval_row group_interval =
-    record {
-      group = refl;
-      scalar = true;
-      scalar_is = refl;
-      free = false;
-      free_is = refl;
-      group_leads = λ d ss. refl;
-      row_leads = λ v ss. refl;
-    }
-
-affine_nonnegatives_row : {b : Body} → OfKind kind.GroupNonnegatives b → Sourced E55 b
-unfolding edge_entry kind_of_body
-affine_nonnegatives_row group_nonnegatives =
-    record {
-      group = refl;
-      scalar = false;
-      scalar_is = refl;
-      free = false;
-      free_is = refl;
-      group_leads = λ d ss. refl;
-      row_leads = λ v ss. refl;
-    }
-
-affine_norm_infinity_row : {b : Body} → OfKind kind.GroupNormInfinityCone b → Sourced E56 b
-unfolding edge_entry kind_of_body
-affine_norm_infinity_row group_norm_infinity_cone =
-    record {
-      group = refl;
-      scalar = false;
-      scalar_is = refl;
-      free = false;
-      free_is = refl;
-      group_leads = λ d ss. refl;
-      row_leads = λ v ss. refl;
-    }
-
-affine_norm_one_row : {b : Body} → OfKind kind.GroupNormOneCone b → Sourced E57 b
-unfolding edge_entry kind_of_body
-affine_norm_one_row group_norm_one_cone =
-    record {
-      group = refl;
-      scalar = false;
-      scalar_is = refl;
-      free = false;
-      free_is = refl;
-      group_leads = λ d ss. refl;
-      row_leads = λ v ss. refl;
-    }
-
-sourced : (edge : Edge) → family_of edge ≡ Later
-    → (b : Body) → FitsItsFunction b → kind_of_body b ≡ source_of edge → Sourced edge b
-unfolding edge_entry
-sourced E49 own b h k = from_less_than (subst (λ k. OfKind k b) k (of_kind b h))
-sourced E50 own b h k = from_greater_than (subst (λ k. OfKind k b) k (of_kind b h))
-sourced E51 own b h k = from_equal_to (subst (λ k. OfKind k b) k (of_kind b h))
-sourced E52 own b h k = from_interval (subst (λ k. OfKind k b) k (of_kind b h))
-sourced E53 own b h k = from_nonnegatives (subst (λ k. OfKind k b) k (of_kind b h))
-sourced E54 own b h k = affine_interval_row (subst (λ k. OfKind k b) k (of_kind b h))
-sourced E55 own b h k = affine_nonnegatives_row (subst (λ k. OfKind k b) k (of_kind b h))
-sourced E56 own b h k = affine_norm_infinity_row (subst (λ k. OfKind k b) k (of_kind b h))
-sourced E57 own b h k = affine_norm_one_row (subst (λ k. OfKind k b) k (of_kind b h))
-sourced _ own b h k = of_another own refl
+source_at : (edge : Edge) → family_of edge ≡ Later → (item : Item) → IsItemFor edge item
+    → Sourced edge item.body
+source_at edge own item suits =
+    sourced edge own (subst (λ k. OfKind k item.body) suits.kind
+    (of_kind item.body suits.valid.function))
 
 -- it is no row, to which duals would be carried
 pub no_row : (edge : Edge) → family_of edge ≡ Later → (item : Item) → IsItemFor edge item
     → is_group item.body ≡ false → ⊥
 no_row edge own item suits none =
-    true≢false (sym (sourced edge own item.body suits.valid.function suits.kind).group ∙ none)
+    true≢false (sym (source_at edge own item suits).group ∙ none)
 
 -- ---- the children that the table names
 
@@ -516,12 +402,7 @@ scalar_one (LessThan u) s = refl
 scalar_one (GreaterThan l) s = refl
 scalar_one (EqualTo a) s = refl
 scalar_one (Interval l u) s = refl
-scalar_one (Reals n) s = absurd (true≢false (sym s))
-scalar_one (Zeros n) s = absurd (true≢false (sym s))
-scalar_one (Nonnegatives n) s = absurd (true≢false (sym s))
-scalar_one (Nonpositives n) s = absurd (true≢false (sym s))
-scalar_one (NormInfinityCone n) s = absurd (true≢false (sym s))
-scalar_one (NormOneCone n) s = absurd (true≢false (sym s))
+scalar_one _ s = absurd (true≢false (sym s))
 
 one_inner : (item : Item) → IsValidItem item → (scalar : Bool)
     → is_scalar (set_of item.body) ≡ scalar
@@ -611,7 +492,7 @@ module _ (edge : Edge) (own : family_of edge ≡ Later) where
 
   law_at : Lawful edge
   law_at item suits =
-      let s = sourced edge own item.body suits.valid.function suits.kind in
+      let s = source_at edge own item suits in
       let one = one_inner item suits.valid s.scalar s.scalar_is in
       let group : Body = first_child s.free (size item) (inner item (size item)) in
       let row : Body = second_child s.free s.scalar (head_of item) (inner item (size item))

@@ -46,7 +46,6 @@ use Rattle.bridge_face.specs.ObjectiveLaws.{objective_held, objective_no_group, 
 use Rattle.bridge_face.specs.GroupAndRowLaws.{second_row_valid}
 use Rattle.set_laws.specs.Least.{single₂}
 use Rattle.item_core.specs.declared.image.Expression.{Expression}
-use Rattle.item_core.specs.declared.kind.Kind.TheVariants as kind
 
 -- an affine objective
 pub data IsAffineObjective : Body → Type 0 where
@@ -66,32 +65,22 @@ record Sourced (edge : Edge) (b : Body) : Type 0 where
   row_leads : (f : Function) → LeadsTo edge (Affine f (beyond (sense_of b)))
   objective_leads : (s : Address) → LeadsTo edge (PlainObj (sense_of b) s)
 
-sourced_first : {b : Body} → OfKind kind.MinAffine b → Sourced E62 b
+sourced : (edge : Edge) → family_of edge ≡ ObjSlack → {b : Body} → OfKind (source_of edge) b
+    → Sourced edge b
 unfolding edge_entry kind_of_body
-sourced_first min_affine =
-    record {
-      objective = affine_objective;
-      group_leads = λ ss. refl;
-      row_leads = λ f. refl;
-      objective_leads = λ s. refl;
-    }
-
-sourced_second : {b : Body} → OfKind kind.MaxAffine b → Sourced E63 b
-unfolding edge_entry kind_of_body
-sourced_second max_affine =
-    record {
-      objective = affine_objective;
-      group_leads = λ ss. refl;
-      row_leads = λ f. refl;
-      objective_leads = λ s. refl;
-    }
-
-sourced : (edge : Edge) → family_of edge ≡ ObjSlack
-    → (b : Body) → FitsItsFunction b → kind_of_body b ≡ source_of edge → Sourced edge b
-unfolding edge_entry
-sourced E62 own b h k = sourced_first (subst (λ k. OfKind k b) k (of_kind b h))
-sourced E63 own b h k = sourced_second (subst (λ k. OfKind k b) k (of_kind b h))
-sourced _ own b h k = of_another own refl
+sourced E62 own min_affine = record {
+  objective = affine_objective;
+  group_leads = λ ss. refl;
+  row_leads = λ f. refl;
+  objective_leads = λ s. refl;
+}
+sourced E63 own max_affine = record {
+  objective = affine_objective;
+  group_leads = λ ss. refl;
+  row_leads = λ f. refl;
+  objective_leads = λ s. refl;
+}
+sourced _ own k = of_another own refl
 
 record Read (b : Body) : Type 0 where
   source : is_objective b ≡ true
@@ -491,9 +480,12 @@ module _ (edge : Edge) (own : family_of edge ≡ ObjSlack) where
   unfolding image_by
   slack_is item = ap (λ f. image_by f edge item) own
 
+  source_at : (b : Body) → FitsItsFunction b → kind_of_body b ≡ source_of edge → Sourced edge b
+  source_at b h k = sourced edge own (subst (λ k. OfKind k b) k (of_kind b h))
+
   pub is_affine : (b : Body) → FitsItsFunction b → kind_of_body b ≡ source_of edge
       → IsAffineObjective b
-  is_affine b h k = (sourced edge own b h k).objective
+  is_affine b h k = (source_at b h k).objective
 
   pub image_is : (item : Item) → IsItemFor edge item
       → image_of edge item ≡ slack_image item (sense_of item.body) (function_of_body item.body)
@@ -554,7 +546,7 @@ module _ (edge : Edge) (own : family_of edge ≡ ObjSlack) where
 
   law_at : Lawful edge
   law_at item suits =
-      let source = sourced edge own item.body suits.valid.function suits.kind in
+      let source = source_at item.body suits.valid.function suits.kind in
       let facts = read source.objective in
       subst (EdgeLaw edge item) (sym (image_is item suits))
       (slack_objective_law edge item (sense_of item.body) (function_of_body item.body) (record {

@@ -29,7 +29,6 @@ use Rattle.item_core.specs.KindOf.{kind_of_body}
 use Rattle.set_laws.specs.Least.{single}
 use Rattle.bridge_face.specs.ComponentLaws.{unnamed_below, variables}
 use Rattle.bridge_face.specs.GroupAndRowLaws.{group_and_row}
-use Rattle.item_core.specs.declared.kind.Kind.TheVariants as kind
 
 -- an affine row with bounds
 pub data IsBounded : Body → Type 0 where
@@ -48,28 +47,16 @@ record Sourced (edge : Edge) (b : Body) : Type 0 where
   leads : (vars : List Address) → LeadsTo edge (Group (set_of b) vars)
   row_leads : (f : Function) → LeadsTo edge (Affine f (EqualTo zero_ℚ))
 
-sourced_first : {b : Body} → OfKind kind.AffineLessThan b → Sourced E31 b
+sourced : (edge : Edge) → family_of edge ≡ ScalarSlack → {b : Body} → OfKind (source_of edge) b
+    → Sourced edge b
 unfolding edge_entry kind_of_body
-sourced_first affine_less_than =
+sourced E31 own affine_less_than =
     record { bounded = below_bound; leads = λ vars. refl; row_leads = λ f. refl }
-
-sourced_second : {b : Body} → OfKind kind.AffineGreaterThan b → Sourced E32 b
-unfolding edge_entry kind_of_body
-sourced_second affine_greater_than =
+sourced E32 own affine_greater_than =
     record { bounded = above_bound; leads = λ vars. refl; row_leads = λ f. refl }
-
-sourced_third : {b : Body} → OfKind kind.AffineInterval b → Sourced E33 b
-unfolding edge_entry kind_of_body
-sourced_third affine_interval =
+sourced E33 own affine_interval =
     record { bounded = between; leads = λ vars. refl; row_leads = λ f. refl }
-
-sourced : (edge : Edge) → family_of edge ≡ ScalarSlack
-    → (b : Body) → FitsItsFunction b → kind_of_body b ≡ source_of edge → Sourced edge b
-unfolding edge_entry
-sourced E31 own b h k = sourced_first (subst (λ k. OfKind k b) k (of_kind b h))
-sourced E32 own b h k = sourced_second (subst (λ k. OfKind k b) k (of_kind b h))
-sourced E33 own b h k = sourced_third (subst (λ k. OfKind k b) k (of_kind b h))
-sourced _ own b h k = of_another own refl
+sourced _ own k = of_another own refl
 
 -- what is read of it
 record Bounded (b : Body) : Type 0 where
@@ -115,8 +102,11 @@ module _ (edge : Edge) (own : family_of edge ≡ ScalarSlack) where
   unfolding BackFitsBy
   back_fits item ys = subst (λ f. BackFitsBy f item ys) (sym own) tt
 
+  source_at : (b : Body) → FitsItsFunction b → kind_of_body b ≡ source_of edge → Sourced edge b
+  source_at b h k = sourced edge own (subst (λ k. OfKind k b) k (of_kind b h))
+
   pub is_bounded : (b : Body) → FitsItsFunction b → kind_of_body b ≡ source_of edge → IsBounded b
-  is_bounded b h k = (sourced edge own b h k).bounded
+  is_bounded b h k = (source_at b h k).bounded
 
   -- the row names none of the components, and has one function
   pub one_function : (item : Item) → IsItemFor edge item
@@ -147,7 +137,7 @@ module _ (edge : Edge) (own : family_of edge ≡ ScalarSlack) where
 
   law_at : Lawful edge
   law_at item suits =
-      let source = sourced edge own item.body suits.valid.function suits.kind in
+      let source = source_at item.body suits.valid.function suits.kind in
       let facts = read source.bounded in
       let one : size item ≡ 1 = ap length facts.functions in
       let slack : IsSlack edge item (made item) = record {

@@ -106,7 +106,11 @@ module _ (edge : Edge) (item : Item) (child : Body) (s : IsSlack edge item child
       let zeros : All (λ q. q ≡ zero_ℚ) (evaluations one rest x) = s.equal one
       (evaluations one rest x) (length-map rest (λ f. evaluated one f x)
       ∙ length-differences fs (variables ss) same_length) row in
-      let apart : All (λ q. q ≡ zero_ℚ) (minus (evaluations one fs x) (evaluations one (variables ss) x)) = subst (All (λ q. q ≡ zero_ℚ)) (numbers-differences (λ f. evaluated one f x) (λ f g. evaluated-difference one f g x) fs (variables ss)) zeros in
+      let apart : All (λ q. q ≡ zero_ℚ)
+      (minus (evaluations one fs x) (evaluations one (variables ss) x)) =
+      subst (All (λ q. q ≡ zero_ℚ))
+      (numbers-differences (λ f. evaluated one f x) (λ f g. evaluated-difference one f g x) fs
+      (variables ss)) zeros in
       let alike : evaluations one fs x ≡ evaluations one (variables ss) x = same_from_differences
       (evaluations one fs x) (evaluations one (variables ss) x)
       (length-map fs (λ f. evaluated one f x) ∙ same_length

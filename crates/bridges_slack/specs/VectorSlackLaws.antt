@@ -23,7 +23,6 @@ use Rattle.item_core.specs.Item.{functions_of, set_of}
 use Rattle.item_core.specs.KindOf.{kind_of_body}
 use Rattle.bridge_face.specs.ComponentLaws.{misses_inner}
 use Rattle.bridges_slack.specs.SlackLaws.{slack_law}
-use Rattle.item_core.specs.declared.kind.Kind.TheVariants as kind
 
 -- an affine row in a cone
 pub data InCone : Body → Type 0 where
@@ -43,34 +42,18 @@ record Sourced (edge : Edge) (b : Body) : Type 0 where
   leads : (vars : List Address) → LeadsTo edge (Group (set_of b) vars)
   row_leads : (fs : List Function) (n : ℕ) → LeadsTo edge (AffineVec fs (Zeros n))
 
-sourced_first : {b : Body} → OfKind kind.VaffineNonnegatives b → Sourced E27 b
+sourced : (edge : Edge) → family_of edge ≡ VectorSlack → {b : Body} → OfKind (source_of edge) b
+    → Sourced edge b
 unfolding edge_entry kind_of_body
-sourced_first vaffine_nonnegatives =
+sourced E27 own vaffine_nonnegatives =
     record { cone = nonnegative; leads = λ vars. refl; row_leads = λ fs n. refl }
-
-sourced_second : {b : Body} → OfKind kind.VaffineNonpositives b → Sourced E28 b
-unfolding edge_entry kind_of_body
-sourced_second vaffine_nonpositives =
+sourced E28 own vaffine_nonpositives =
     record { cone = nonpositive; leads = λ vars. refl; row_leads = λ fs n. refl }
-
-sourced_third : {b : Body} → OfKind kind.VaffineNormInfinityCone b → Sourced E29 b
-unfolding edge_entry kind_of_body
-sourced_third vaffine_norm_infinity_cone =
+sourced E29 own vaffine_norm_infinity_cone =
     record { cone = norm_infinity; leads = λ vars. refl; row_leads = λ fs n. refl }
-
-sourced_fourth : {b : Body} → OfKind kind.VaffineNormOneCone b → Sourced E30 b
-unfolding edge_entry kind_of_body
-sourced_fourth vaffine_norm_one_cone =
+sourced E30 own vaffine_norm_one_cone =
     record { cone = norm_one; leads = λ vars. refl; row_leads = λ fs n. refl }
-
-sourced : (edge : Edge) → family_of edge ≡ VectorSlack
-    → (b : Body) → FitsItsFunction b → kind_of_body b ≡ source_of edge → Sourced edge b
-unfolding edge_entry
-sourced E27 own b h k = sourced_first (subst (λ k. OfKind k b) k (of_kind b h))
-sourced E28 own b h k = sourced_second (subst (λ k. OfKind k b) k (of_kind b h))
-sourced E29 own b h k = sourced_third (subst (λ k. OfKind k b) k (of_kind b h))
-sourced E30 own b h k = sourced_fourth (subst (λ k. OfKind k b) k (of_kind b h))
-sourced _ own b h k = of_another own refl
+sourced _ own k = of_another own refl
 
 row : {b : Body} → InCone b → IsRow b
 row nonnegative = record { no_group = refl; no_objective = refl }
@@ -97,8 +80,11 @@ module _ (edge : Edge) (own : family_of edge ≡ VectorSlack) where
   unfolding BackFitsBy
   back_fits item ys = subst (λ f. BackFitsBy f item ys) (sym own) tt
 
+  source_at : (b : Body) → FitsItsFunction b → kind_of_body b ≡ source_of edge → Sourced edge b
+  source_at b h k = sourced edge own (subst (λ k. OfKind k b) k (of_kind b h))
+
   pub in_cone : (b : Body) → FitsItsFunction b → kind_of_body b ≡ source_of edge → InCone b
-  in_cone b h k = (sourced edge own b h k).cone
+  in_cone b h k = (source_at b h k).cone
 
   -- the row names none of the components
   pub absent : (item : Item) → IsItemFor edge item
@@ -109,7 +95,7 @@ module _ (edge : Edge) (own : family_of edge ≡ VectorSlack) where
 
   law_at : Lawful edge
   law_at item suits =
-      let source = sourced edge own item.body suits.valid.function suits.kind in
+      let source = source_at item.body suits.valid.function suits.kind in
       subst (EdgeLaw edge item) (sym (image_is item))
       (slack_law edge item (made item) (record {
         item_valid = suits.valid;

@@ -14,7 +14,7 @@ use Rattle.item_core.specs.declared.edge.Edge.TheVariants.{E39, E40}
 use Rattle.item_core.specs.declared.edge.Edge.{Edge}
 use Rattle.bridge_face.specs.Law.{EdgeLaw, IsLawful}
 use Rattle.bridge_face.specs.ImageOf.{FitsBy, ImageFits, image_by, image_of}
-use Rattle.item_core.specs.Valid.{FitsItsFunction, IsValidItem}
+use Rattle.item_core.specs.Valid.{IsValidItem}
 use Rattle.aff_core.specs.Function.{Function}
 use Rattle.dual_laws.specs.Held.{IsHeld, adjoint_of, gap_of}
 use Rattle.bridge_face.specs.OneRowLaws.{IsRow, row_held}
@@ -27,31 +27,23 @@ use Rattle.set_core.specs.declared.set.Set.TheVariants.{Reals}
 use Rattle.aff_core.specs.FunctionLists.{coefficients, constants, evaluations}
 use Rattle.item_core.specs.Edge.{edge_entry, family_of, source_of}
 use Rattle.item_core.specs.Item.{functions_of, set_of}
-use Rattle.item_core.specs.KindOf.{kind_of_body}
 use Rattle.set_core.specs.Mirrored.{multiplied}
 use Rattle.bridge_face.specs.Images.{rows_at}
 use Rattle.rational_laws.specs.DotLaws.{zeros_dot}
 use Rattle.rational_laws.specs.Order.{≤ℚ_from_≡}
 use Rattle.item_core.specs.declared.image.Image.{Image}
-use Rattle.item_core.specs.declared.kind.Kind.TheVariants as kind
 
 -- a row in all vectors
 pub data IsAny : Body → Type 0 where
   any_plain : {vars : List Address} {n : ℕ} → IsAny (PlainVec vars (Reals n))
   any_affine : {fs : List Function} {n : ℕ} → IsAny (AffineVec fs (Reals n))
 
-sourced_first : {b : Body} → OfKind kind.VplainReals b → IsAny b
-sourced_first vplain_reals = any_plain
-
-sourced_second : {b : Body} → OfKind kind.VaffineReals b → IsAny b
-sourced_second vaffine_reals = any_affine
-
-is_any : (edge : Edge) → family_of edge ≡ DropReals
-    → (b : Body) → FitsItsFunction b → kind_of_body b ≡ source_of edge → IsAny b
+is_any : (edge : Edge) → family_of edge ≡ DropReals → {b : Body} → OfKind (source_of edge) b
+    → IsAny b
 unfolding edge_entry
-is_any E39 own b h k = sourced_first (subst (λ k. OfKind k b) k (of_kind b h))
-is_any E40 own b h k = sourced_second (subst (λ k. OfKind k b) k (of_kind b h))
-is_any _ own b h k = of_another own refl
+is_any E39 own vplain_reals = any_plain
+is_any E40 own vaffine_reals = any_affine
+is_any _ own k = of_another own refl
 
 -- what is read of it
 record Any (b : Body) : Type 0 where
@@ -125,8 +117,8 @@ module _ (edge : Edge) (own : family_of edge ≡ DropReals) where
   law_at : Lawful edge
   law_at item suits =
       subst (EdgeLaw edge item) (sym (image_is item))
-      (rows_law edge item [] (no_rows item suits.valid
-      (read (is_any edge own item.body suits.valid.function suits.kind))))
+      (rows_law edge item [] (no_rows item suits.valid (read (is_any edge own
+      (subst (λ k. OfKind k item.body) suits.kind (of_kind item.body suits.valid.function))))))
 
 pub drop_reals_lawful : IsLawful DropReals
 drop_reals_lawful = lawful_family DropReals law_at

@@ -13,7 +13,7 @@ use Rattle.set_core.specs.Membership.{Dual, In, low_of}
 use Rattle.dual_laws.specs.Held.{DualsHold, Held, Holds, IsHeld, adjoint, adjoint_of, gap, gap_of}
 use Rattle.item_core.specs.declared.edge.Edge.TheVariants.{E11, E12, E13, E14}
 use Rattle.item_core.specs.declared.edge.Edge.{Edge}
-use Rattle.bridge_face.specs.Law.{EdgeLaw, IsLawful, LeadsTo, Miss, growth, IsItemFor}
+use Rattle.bridge_face.specs.Law.{EdgeLaw, IsLawful, LeadsTo, Miss, growth, is_objective, IsItemFor}
 use Rattle.set_core.specs.declared.set.Set.TheVariants.{EqualTo, GreaterThan, Interval, LessThan, Nonnegatives, Nonpositives, Zeros}
 use Rattle.bridge_face.specs.ImageOf.{FitsBy, ImageFits, image_by, image_of}
 use Rattle.item_core.specs.Valid.{FitsItsFunction, IsValidItem, NamesNothingBelow}
@@ -31,7 +31,7 @@ use Rattle.aff_core.specs.FunctionLists.{constants, evaluations}
 use Rattle.rational_laws.specs.Dot.{dot, plus}
 use Rattle.item_core.specs.Edge.{edge_entry, family_of, source_of}
 use Rattle.set_core.specs.Vectors.{first_of}
-use Rattle.item_core.specs.Item.{functions_of, set_of}
+use Rattle.item_core.specs.Item.{functions_of, is_group, set_of}
 use Rattle.item_core.specs.KindOf.{kind_of_body}
 use Rattle.rational_laws.specs.DotLaws.{length-plus, plus-dot}
 use Rattle.bridge_face.specs.Images.{lower_part, rows_at, upper_part, with_set}
@@ -44,7 +44,6 @@ use Rattle.aff_core.specs.Arithmetic.{ExactWhere}
 use Rattle.item_core.specs.declared.image.Image.{Image}
 use Rattle.bridge_face.specs.State.{TakesDuals}
 use Rattle.bridge_face.specs.AnsweredLaws.{exact_as}
-use Rattle.item_core.specs.declared.kind.Kind.TheVariants as kind
 use Rattle.bridge_face.specs.Sources as kinds
 
 -- a row in a set that two others have in common
@@ -85,34 +84,18 @@ record Sourced (edge : Edge) (b : Body) : Type 0 where
   lower_leads : LeadsTo edge (lower b)
   upper_leads : LeadsTo edge (upper b)
 
-sourced_first : {b : Body} → OfKind kind.AffineInterval b → Sourced E11 b
+sourced : (edge : Edge) → family_of edge ≡ SplitSet → {b : Body} → OfKind (source_of edge) b
+    → Sourced edge b
 unfolding edge_entry kind_of_body
-sourced_first kinds.affine_interval =
+sourced E11 own kinds.affine_interval =
     record { split = affine_interval; lower_leads = refl; upper_leads = refl }
-
-sourced_second : {b : Body} → OfKind kind.PlainInterval b → Sourced E12 b
-unfolding edge_entry kind_of_body
-sourced_second kinds.plain_interval =
+sourced E12 own kinds.plain_interval =
     record { split = plain_interval; lower_leads = refl; upper_leads = refl }
-
-sourced_third : {b : Body} → OfKind kind.AffineEqualTo b → Sourced E13 b
-unfolding edge_entry kind_of_body
-sourced_third affine_equal_to =
+sourced E13 own affine_equal_to =
     record { split = affine_equal; lower_leads = refl; upper_leads = refl }
-
-sourced_fourth : {b : Body} → OfKind kind.VaffineZeros b → Sourced E14 b
-unfolding edge_entry kind_of_body
-sourced_fourth vaffine_zeros =
+sourced E14 own vaffine_zeros =
     record { split = affine_zeros; lower_leads = refl; upper_leads = refl }
-
-sourced : (edge : Edge) → family_of edge ≡ SplitSet
-    → (b : Body) → FitsItsFunction b → kind_of_body b ≡ source_of edge → Sourced edge b
-unfolding edge_entry
-sourced E11 own b h k = sourced_first (subst (λ k. OfKind k b) k (of_kind b h))
-sourced E12 own b h k = sourced_second (subst (λ k. OfKind k b) k (of_kind b h))
-sourced E13 own b h k = sourced_third (subst (λ k. OfKind k b) k (of_kind b h))
-sourced E14 own b h k = sourced_fourth (subst (λ k. OfKind k b) k (of_kind b h))
-sourced _ own b h k = of_another own refl
+sourced _ own k = of_another own refl
 
 -- ---- a set and the two that have its vectors in common
 
@@ -191,66 +174,51 @@ zeros_split n m fits = record {
 
 -- ---- what is read of the row and its two
 
+-- the row in one of the two sets
+record IsPart (b : Body) (part : Set) : Type 0 where
+  row : IsRow (with_set b part)
+  shaped : FitsItsFunction (with_set b part)
+  same : functions_of (with_set b part) ≡ functions_of b
+  set : set_of (with_set b part) ≡ part
+
 record Parted (b : Body) : Type 0 where
   source : IsRow b
-  lower_row : IsRow (lower b)
-  upper_row : IsRow (upper b)
-  lower_shaped : FitsItsFunction (lower b)
-  upper_shaped : FitsItsFunction (upper b)
-  lower_same : functions_of (lower b) ≡ functions_of b
-  upper_same : functions_of (upper b) ≡ functions_of b
-  lower_set : set_of (lower b) ≡ lower_part (set_of b)
-  upper_set : set_of (upper b) ≡ upper_part (set_of b)
+  lower : IsPart b (lower_part (set_of b))
+  upper : IsPart b (upper_part (set_of b))
   splits : Splits (length (functions_of b)) (set_of b) (lower_part (set_of b))
       (upper_part (set_of b))
 
+row : {b : Body} → is_group b ≡ false → is_objective b ≡ false → IsRow b
+row no_group no_objective = record { no_group = no_group; no_objective = no_objective }
+
+part : {b : Body} {part : Set} → IsRow (with_set b part) → FitsItsFunction (with_set b part)
+    → functions_of (with_set b part) ≡ functions_of b → set_of (with_set b part) ≡ part
+    → IsPart b part
+part row shaped same set = record { row = row; shaped = shaped; same = same; set = set }
+
 parted : {b : Body} → IsSplit b → IsSetOf (length (functions_of b)) (set_of b) → Parted b
 parted (affine_interval {f} {l} {u}) fits = record {
-  source = record { no_group = refl; no_objective = refl };
-  lower_row = record { no_group = refl; no_objective = refl };
-  upper_row = record { no_group = refl; no_objective = refl };
-  lower_shaped = refl;
-  upper_shaped = refl;
-  lower_same = refl;
-  upper_same = refl;
-  lower_set = refl;
-  upper_set = refl;
+  source = row refl refl;
+  lower = part (row refl refl) refl refl refl;
+  upper = part (row refl refl) refl refl refl;
   splits = interval_splits l u fits;
 }
 parted (plain_interval {v} {l} {u}) fits = record {
-  source = record { no_group = refl; no_objective = refl };
-  lower_row = record { no_group = refl; no_objective = refl };
-  upper_row = record { no_group = refl; no_objective = refl };
-  lower_shaped = refl;
-  upper_shaped = refl;
-  lower_same = refl;
-  upper_same = refl;
-  lower_set = refl;
-  upper_set = refl;
+  source = row refl refl;
+  lower = part (row refl refl) refl refl refl;
+  upper = part (row refl refl) refl refl refl;
   splits = interval_splits l u fits;
 }
 parted (affine_equal {f} {a}) fits = record {
-  source = record { no_group = refl; no_objective = refl };
-  lower_row = record { no_group = refl; no_objective = refl };
-  upper_row = record { no_group = refl; no_objective = refl };
-  lower_shaped = refl;
-  upper_shaped = refl;
-  lower_same = refl;
-  upper_same = refl;
-  lower_set = refl;
-  upper_set = refl;
+  source = row refl refl;
+  lower = part (row refl refl) refl refl refl;
+  upper = part (row refl refl) refl refl refl;
   splits = equal_splits a;
 }
 parted (affine_zeros {fs} {n}) fits = record {
-  source = record { no_group = refl; no_objective = refl };
-  lower_row = record { no_group = refl; no_objective = refl };
-  upper_row = record { no_group = refl; no_objective = refl };
-  lower_shaped = refl;
-  upper_shaped = refl;
-  lower_same = refl;
-  upper_same = refl;
-  lower_set = refl;
-  upper_set = refl;
+  source = row refl refl;
+  lower = part (row refl refl) refl refl refl;
+  upper = part (row refl refl) refl refl refl;
   splits = zeros_split n (length fs) fits;
 }
 
@@ -300,8 +268,11 @@ module _ (edge : Edge) (own : family_of edge ≡ SplitSet) where
       (subst (λ u. ExactWhere r (SumsFit u q) (λ x. x ≡ plus u q)) a_is
       (subst (λ v. ExactWhere r (SumsFit a v) (λ x. x ≡ plus a v)) b_is said))))
 
+  source_at : (b : Body) → FitsItsFunction b → kind_of_body b ≡ source_of edge → Sourced edge b
+  source_at b h k = sourced edge own (subst (λ k. OfKind k b) k (of_kind b h))
+
   pub is_split : (b : Body) → FitsItsFunction b → kind_of_body b ≡ source_of edge → IsSplit b
-  is_split b h k = (sourced edge own b h k).split
+  is_split b h k = (source_at b h k).split
 
   module _ (item : Item) (valid : IsValidItem item) (p : Parted item.body) where
     abbrev fs : List Function
@@ -311,30 +282,36 @@ module _ (edge : Edge) (own : family_of edge ≡ SplitSet) where
     s = set_of item.body
 
     -- one of the two rows
-    row_of : (child : Body) (part : Set) → IsRow child → FitsItsFunction child
-        → functions_of child ≡ fs → set_of child ≡ part
-        → IsSetOf (length fs) part → LeadsTo edge child → IsRowOf edge item child
-    row_of child part row shaped same set fits leads = record {
-      made = row;
-      shaped = shaped;
-      some = subst (λ gs. 1 ≤ length gs) (sym same) valid.some;
-      fits = subst (λ gs. IsSetOf (length gs) (set_of child)) (sym same)
-          (subst (IsSetOf (length fs)) (sym set) fits);
-      unnamed = subst (All (NamesNothingBelow item.at)) (sym same) (valid.others p.source.no_group);
-      grows = subst (λ n. length (functions_of child) ≤ n * length fs) (sym (ap growth own))
-          (let e : length (functions_of child) ≡ length fs = ap length same in omega (arith, e));
+    row_of : (part : Set) → IsPart item.body part → IsSetOf (length fs) part
+        → LeadsTo edge (with_set item.body part) → IsRowOf edge item (with_set item.body part)
+    row_of part is fits leads = record {
+      made = is.row;
+      shaped = is.shaped;
+      some = subst (λ gs. 1 ≤ length gs) (sym is.same) valid.some;
+      fits = subst (λ gs. IsSetOf (length gs) (set_of (with_set item.body part))) (sym is.same)
+          (subst (IsSetOf (length fs)) (sym is.set) fits);
+      unnamed = subst (All (NamesNothingBelow item.at)) (sym is.same)
+          (valid.others p.source.no_group);
+      grows = subst (λ n. length (functions_of (with_set item.body part)) ≤ n * length fs)
+          (sym (ap growth own))
+          (let e : length (functions_of (with_set item.body part)) ≡ length fs = ap length is.same
+          in omega (arith, e));
       leads = leads;
-      mentioned = λ v m. subst (λ gs. Miss gs v) (sym same) m;
+      mentioned = λ v m. subst (λ gs. Miss gs v) (sym is.same) m;
     }
 
     abbrev held_by : List Rational → Set → Held
     held_by w part = record { duals = w; functions = fs; set = part }
 
+    part_is : (part : Set) → IsPart item.body part → (w : List Rational)
+        → row_held (with_set item.body part) w ≡ held_by w part
+    part_is part is w = λ i. record { duals = w; functions = is.same i; set = is.set i }
+
     lower_is : (w : List Rational) → row_held (lower item.body) w ≡ held_by w (lower_part s)
-    lower_is w = λ i. record { duals = w; functions = p.lower_same i; set = p.lower_set i }
+    lower_is = part_is (lower_part s) p.lower
 
     upper_is : (w : List Rational) → row_held (upper item.body) w ≡ held_by w (upper_part s)
-    upper_is w = λ i. record { duals = w; functions = p.upper_same i; set = p.upper_set i }
+    upper_is = part_is (upper_part s) p.upper
 
     abbrev bodies : List Body
     bodies = lower item.body ∷ upper item.body ∷ []
@@ -406,11 +383,10 @@ module _ (edge : Edge) (own : family_of edge ≡ SplitSet) where
       source = p.source;
       each =
           All-cons (IsRowOf edge item) (lower item.body) (upper item.body ∷ [])
-          (row_of (lower item.body) (lower_part s) p.lower_row p.lower_shaped p.lower_same
-          p.lower_set p.splits.lower_fits lower_leads)
+          (row_of (lower_part s) p.lower p.splits.lower_fits lower_leads)
           (All-cons (IsRowOf edge item) (upper item.body) []
-          (row_of (upper item.body) (upper_part s) p.upper_row p.upper_shaped p.upper_same
-          p.upper_set p.splits.upper_fits upper_leads) (All-nil (IsRowOf edge item)));
+          (row_of (upper_part s) p.upper p.splits.upper_fits upper_leads)
+          (All-nil (IsRowOf edge item)));
       values = λ one x h below.
           p.splits.values one (evaluations one fs x)
           (subst (λ k. Holds one k x) (lower_is []) (All-head (λ b. Holds one (row_held b []) x)
@@ -440,13 +416,17 @@ module _ (edge : Edge) (own : family_of edge ≡ SplitSet) where
   unfolding first_size second_size
   same_sizes item suits ys p q takes ys_are =
       let parts = parted (is_split item.body suits.valid.function suits.kind) suits.valid.set in
-      let sizes : map length (p ∷ q ∷ []) ≡ length (functions_of (lower item.body)) ∷ length (functions_of (upper item.body)) ∷ [] = ap (map length) (sym ys_are) ∙ dual_sizes edge item (rows_at item (lower item.body ∷ upper item.body ∷ [])) (image_is item) ys takes in
-      ap first_size sizes ∙ ap length (parts.lower_same ∙ sym parts.upper_same)
+      let low = lower item.body in
+      let high = upper item.body in
+      let sizes : map length (p ∷ q ∷ []) ≡ map (λ b. length (functions_of b)) (low ∷ high ∷ []) =
+      ap (map length) (sym ys_are)
+      ∙ dual_sizes edge item (rows_at item (low ∷ high ∷ [])) (image_is item) ys takes in
+      ap first_size sizes ∙ ap length (parts.lower.same ∙ sym parts.upper.same)
       ∙ sym (ap second_size sizes)
 
   law_at : Lawful edge
   law_at item suits =
-      let source = sourced edge own item.body suits.valid.function suits.kind in
+      let source = source_at item.body suits.valid.function suits.kind in
       subst (EdgeLaw edge item) (sym (image_is item))
       (rows_law edge item (lower item.body ∷ upper item.body ∷ [])
       (two_rows item suits.valid (parted source.split suits.valid.set) source.lower_leads
