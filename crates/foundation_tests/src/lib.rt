@@ -1,4 +1,4 @@
-//! Tests of what all crates stand on: lists, sources and sinks, names, sets and named functions.
+//! Tests of what all crates stand on: lists, sources, sinks and shelves, names, sets and named functions.
 #![tactic(auto)]
 
 #[cfg(test)]
@@ -9,6 +9,8 @@ mod names;
 mod sequences;
 #[cfg(test)]
 mod sets;
+#[cfg(test)]
+mod shelves;
 #[cfg(test)]
 mod sinks;
 #[cfg(test)]

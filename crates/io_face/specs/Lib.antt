@@ -5,6 +5,10 @@ pub mod Plan
 pub mod MemSource
 pub mod MemSink
 pub mod Adapter
+pub mod Shelf
+pub mod MemShelf
+pub mod NamedFile
+pub mod Whole
 pub mod FaultLaws
 pub mod SinkLaws
 pub mod SourceLaws

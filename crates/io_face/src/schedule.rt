@@ -1,5 +1,6 @@
 //! Which calls of an object in memory fail.
 ghost use Rattle.std.specs.Prelude.{◌≡◌, ◌↔◌, ◌≤◌, IsTrue, if◌then◌else◌};
+ghost use Rattle.io_face.specs.Fault.{next_count};
 ghost use Rattle.io_face.specs.Plan.{Plan, IsFailing, after_success, after_failure};
 
 use crate::Calls;
@@ -42,6 +43,14 @@ impl Schedule {
             self.faults = self.faults.saturating_add(1);
         }
         fails
+    }
+
+    /// Counts a fault of a call that was counted and wasn't to fail.
+    pub fn count_fault(&mut self)
+        ensures after { self.new ≡ record self.old { faults = next_count self.old.faults } }
+        ensures count { self.old.faults ≤ self.new.faults }
+    {
+        self.faults = self.faults.saturating_add(1);
     }
 
     pub fn faults(&self) -> u64
