@@ -123,7 +123,7 @@ fn leaves_first<T: Tableau>(
         ≡ (if result then Some i else best) }
     ensures positive { IsTrue result → zero_ℚ ‹ℚ by.now }
 {
-    if *by <= Ratio::zero() {
+    if !is_positive(by) {
         return false;
     }
     match best {
@@ -189,7 +189,15 @@ fn is_above<T: Tableau>(board: &T, i: usize) -> bool
     requires { i < length (T.contents board.now).rows }
     ensures { result ≡ bland.is_above (readings_of (T.contents board.now)) i }
 {
-    board.basis()[i] >= board.real_count() && board.right(i) > Ratio::zero()
+    board.basis()[i] >= board.real_count() && is_positive(&board.right(i))
+}
+
+// Whether a number is above 0, as its numerator is.
+#[inline(always)]
+fn is_positive(value: &Ratio) -> bool
+    ensures { result ≡ bland.is_below zero_ℚ value.now }
+{
+    value.num() > 0
 }
 
 // Whether the multipliers fit that are to show that the rows can't be met.

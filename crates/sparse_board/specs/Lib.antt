@@ -6,3 +6,4 @@ pub mod Rows
 pub mod Marks
 pub mod Pivoting
 pub mod Kept
+pub mod SignLaws

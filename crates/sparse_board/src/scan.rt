@@ -18,11 +18,19 @@ pub(crate) fn first_negative(row: &SparseRow, count: usize) -> Option<usize>
         if column >= count {
             return None;
         }
-        if row.entries[k].value < Ratio::zero() {
+        if is_negative(&row.entries[k].value) {
             return Some(column);
         }
     }
     None
+}
+
+// Whether a number is below 0, as its numerator is.
+#[inline(always)]
+fn is_negative(value: &Ratio) -> bool
+    ensures { result ≡ is_below value.now zero_ℚ }
+{
+    value.num() < 0
 }
 
 // The first of so many columns whose number isn't 0.
