@@ -88,7 +88,7 @@ row_found : (model : ModelValue) (row : Row) → find row_number row.id model.ro
     → IsSome (place_from model root.Row row.id)
 row_found model row found = rw found refl
 
-groups_told : (model : ModelValue) → IsValid model
+pub groups_told : (model : ModelValue) → IsValid model
     → All (λ (g : Group). IsSome (place_from model root.Group g.id)) model.groups
 groups_told model valid k d within =
     let group = get_or model.groups k d in
@@ -96,7 +96,7 @@ groups_told model valid k d within =
     (find-at group_number model.groups k group valid.consistent.groups_rise
     (slice_get-get_or model.groups k d within))
 
-rows_told : (model : ModelValue) → IsValid model
+pub rows_told : (model : ModelValue) → IsValid model
     → All (λ (r : Row). IsSome (place_from model root.Row r.id)) model.rows
 rows_told model valid k d within =
     let row = get_or model.rows k d in
@@ -104,10 +104,10 @@ rows_told model valid k d within =
     (find-at row_number model.rows k row valid.consistent.rows_rise
     (slice_get-get_or model.rows k d within))
 
-abbrev IsTold : ModelValue → Item → Type 0
+abbrev pub IsTold : ModelValue → Item → Type 0
 IsTold model item = IsSome (place_at model item.at)
 
-objective_told : (model : ModelValue) (objective : Objective)
+pub objective_told : (model : ModelValue) (objective : Objective)
     → All (IsTold model) (objective_items objective)
 objective_told model objective.Feasibility = All-nil (IsTold model)
 objective_told model (objective.Plain sense var) =

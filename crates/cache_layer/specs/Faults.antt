@@ -5,6 +5,15 @@ use Rattle.cache_layer.specs.declared.fault.BridgeFault.{BridgeFault}
 use Rattle.cache_layer.specs.declared.fault.BridgeFault.TheVariants as bridge
 use Rattle.cache_layer.specs.declared.fault.EditFault.{EditFault}
 use Rattle.cache_layer.specs.declared.fault.EditFault.TheVariants.{Memory, Overflow, Refused, Unsupported}
+use Rattle.cache_layer.specs.declared.fault.OptFault.{OptFault}
+use Rattle.cache_layer.specs.declared.fault.OptFault.TheVariants as opt
+use Rattle.report_core.specs.declared.refused.Place.TheVariants.{Solver}
+use Rattle.simplex_core.specs.declared.fault.SolveFault.{SolveFault}
+use Rattle.simplex_core.specs.declared.fault.SolveFault.TheVariants as solve
+use Rattle.std_form.specs.declared.fault.FormFault.{FormFault}
+use Rattle.std_form.specs.declared.fault.FormFault.TheVariants as form
+use Rattle.std_form.specs.declared.fault.ReadFault.{ReadFault}
+use Rattle.std_form.specs.declared.fault.ReadFault.TheVariants as read
 use Rattle.user_model.specs.declared.refusal.ApplyFault.{ApplyFault}
 use Rattle.user_model.specs.declared.refusal.ApplyFault.TheVariants as apply
 
@@ -21,3 +30,17 @@ abbrev pub attach_fault : BridgeFault → AttachFault
 attach_fault (bridge.Unsupported kind) = attach.Unsupported kind
 attach_fault (bridge.Overflow place) = attach.Overflow place
 attach_fault bridge.Memory = attach.Memory
+
+abbrev pub form_fault : FormFault → OptFault
+form_fault (form.TooLarge cells) = opt.TooLarge cells
+form_fault form.Overflow = opt.Overflow Solver
+form_fault form.Memory = opt.Memory
+
+abbrev pub solve_fault : SolveFault → OptFault
+solve_fault (solve.Limit basis pivots) = opt.Limit pivots
+solve_fault (solve.Overflow basis) = opt.Overflow Solver
+solve_fault solve.Memory = opt.Memory
+
+abbrev pub read_fault : ReadFault → OptFault
+read_fault read.Overflow = opt.Overflow Solver
+read_fault read.Memory = opt.Memory

@@ -4,3 +4,6 @@ pub mod Faults
 pub mod Answers
 pub mod Bridging
 pub mod Loads
+pub mod Outcome
+pub mod Optimizing
+pub mod ReadableLaws

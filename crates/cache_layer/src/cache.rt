@@ -7,16 +7,20 @@ ghost use Rattle.lazy_bridge.specs.Owned.{HoldsNothing};
 ghost use Rattle.cache_layer.specs.Answers.{Becomes, IsAttached, IsEdited, IsLoaded, UnlessAttached, UnlessRefused};
 ghost use Rattle.cache_layer.specs.Bridging.{stays};
 ghost use Rattle.cache_layer.specs.Cached.{Stands, model_in, state_of};
+ghost use Rattle.cache_layer.specs.Outcome.{IsOptimized};
 ghost use Rattle.cache_layer.specs.State.{detached, with_table};
+ghost use Rattle.certificates.specs.Good.{Good};
 
 use crate::bridging::fill;
 use crate::edits::{edit_alone, edit_bridged, table_bridged};
 use crate::loading::make_all;
-use crate::{AttachFault, EditFault, NotAttached};
+use crate::optimize::optimize;
+use crate::{AttachFault, Certificate, EditFault, NotAttached, OptFault};
 use bridge_face::Bridge;
 use item_core::Table;
 use lazy_bridge::LazyOver;
 use model_store::UserModel;
+use std::alloc::Global;
 use std::marker::Model;
 use user_model::Edit;
 
@@ -27,6 +31,7 @@ pub type Cache = CacheOver<Box<dyn Bridge>>;
 /// attached, and holds nothing while none is.
 #[derive(Drop)]
 pub struct CacheOver<B: Bridge> {
+    alloc: Global,
     user: UserModel,
     lazy: LazyOver<B>,
     attached: bool,
@@ -46,7 +51,7 @@ impl<B: Bridge> Model for CacheOver<B> {
 
 impl<B: Bridge> CacheOver<B> {
     /// The model, of which no edit waits, and no solver attached.
-    pub fn new(model: UserModel, lazy: LazyOver<B>) -> CacheOver<B>
+    pub fn new(alloc: Global, model: UserModel, lazy: LazyOver<B>) -> CacheOver<B>
         requires settled { model.parked ≡ [] }
         requires lazy { HoldsNothing lazy }
         ensures model { result.user ≡ model }
@@ -54,6 +59,7 @@ impl<B: Bridge> CacheOver<B> {
         ensures detached { result.attached ≡ false }
     {
         CacheOver {
+            alloc,
             user: model,
             lazy,
             attached: false,
@@ -130,6 +136,18 @@ impl<B: Bridge> CacheOver<B> {
         self.lazy.clear();
         self.attached = false;
         Ok(())
+    }
+
+    /// Solves the solver's model with at most so many pivots. The certificate is in the user's rows,
+    /// and good for the user's model.
+    pub fn optimize(&self, pivots: u64) -> Result<Certificate, OptFault>
+        ensures outcome { IsOptimized (state_of self.now) pivots result }
+        ensures good { IfOk result (Good (model_in self.now)) }
+    {
+        if !self.attached {
+            return Err(OptFault::NotAttached);
+        }
+        optimize(self.alloc, &self.lazy, &self.user, pivots)
     }
 
     /// Whether a solver is attached. While one is, the fresh bridging of the model stands.

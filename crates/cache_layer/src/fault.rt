@@ -1,9 +1,11 @@
 //! Why a call of the cache is refused.
 ghost use Rattle.std.specs.Prelude.{◌≡◌};
-ghost use Rattle.cache_layer.specs.Faults.{attach_fault, bridge_fault, edit_fault};
+ghost use Rattle.cache_layer.specs.Faults.{attach_fault, bridge_fault, edit_fault, form_fault, read_fault, solve_fault};
 
 use item_core::Kind;
 use report_core::Place;
+use simplex_core::SolveFault;
+use std_form::{FormFault, ReadFault};
 use user_model::{ApplyFault, Refusal};
 
 /// Why an edit, many edits or a table isn't taken. The model and the table are as before.
@@ -32,6 +34,20 @@ pub enum AttachFault {
 /// No solver is attached.
 #[derive(Clone, Copy, Debug, PartialEq, Eq)]
 pub struct NotAttached;
+
+/// Why an optimise gives no certificate.
+#[derive(Debug, Drop)]
+pub enum OptFault {
+    NotAttached,
+    /// The equality form would have so many cells, which are more than 16,777,216; or more where
+    /// they are the greatest `u64`.
+    TooLarge { cells: u64 },
+    /// Where the first number doesn't fit.
+    Overflow { place: Place },
+    /// So many pivots lead to no answer.
+    Limit { pivots: u64 },
+    Memory,
+}
 
 /// Why a model isn't bridged, in the user's names.
 #[derive(Debug, Drop)]
@@ -72,6 +88,47 @@ impl From<BridgeFault> for AttachFault {
             BridgeFault::Unsupported { kind } => AttachFault::Unsupported { kind },
             BridgeFault::Overflow { place } => AttachFault::Overflow { place },
             BridgeFault::Memory => AttachFault::Memory,
+        }
+    }
+}
+
+impl From<FormFault> for OptFault {
+    ghost from_gives = { λ fault result. result ≡ form_fault fault };
+
+    fn from(fault: FormFault) -> OptFault {
+        match fault {
+            FormFault::TooLarge { cells } => OptFault::TooLarge { cells },
+            FormFault::Overflow => OptFault::Overflow {
+                place: Place::Solver,
+            },
+            FormFault::Memory => OptFault::Memory,
+        }
+    }
+}
+
+impl From<SolveFault> for OptFault {
+    ghost from_gives = { λ fault result. result ≡ solve_fault fault };
+
+    fn from(fault: SolveFault) -> OptFault {
+        match fault {
+            SolveFault::Limit { pivots, .. } => OptFault::Limit { pivots },
+            SolveFault::Overflow { .. } => OptFault::Overflow {
+                place: Place::Solver,
+            },
+            SolveFault::Memory => OptFault::Memory,
+        }
+    }
+}
+
+impl From<ReadFault> for OptFault {
+    ghost from_gives = { λ fault result. result ≡ read_fault fault };
+
+    fn from(fault: ReadFault) -> OptFault {
+        match fault {
+            ReadFault::Overflow => OptFault::Overflow {
+                place: Place::Solver,
+            },
+            ReadFault::Memory => OptFault::Memory,
         }
     }
 }

@@ -7,7 +7,10 @@ mod cache;
 mod edits;
 mod fault;
 mod loading;
+mod optimize;
+mod solving;
 
 pub use cache::{Cache, CacheOver};
-pub use fault::{AttachFault, EditFault, NotAttached};
+pub use cert_core::Certificate;
+pub use fault::{AttachFault, EditFault, NotAttached, OptFault};
 pub use report_core::Place;

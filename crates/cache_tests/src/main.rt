@@ -1,6 +1,7 @@
 // Runs a script on a cache with a box of each family, and prints what each line is answered.
 //
-//     LINE              an edit, `target`, `on`, `off`, `attach` or `detach`, as in any script
+//     LINE              an edit, `target`, `on`, `off`, `attach`, `detach` or `optimize`, as in any
+//                       script; without a number 1,000 pivots are allowed
 //     rows M N FORM     adds the rows `row rM FORM` to `row rN FORM`, and prints the last answer
 //     + EDIT            keeps an edit
 //     load              makes the edits that are kept, while no solver is attached

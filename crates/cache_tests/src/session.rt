@@ -28,7 +28,7 @@ use user_model::Edit;
 pub fn run_script<B: Bridge>(rt: &HostRuntime, bridges: Vec<B>) -> Result<()> {
     let alloc = rt.alloc();
     let bridges = one_of_each(alloc, bridges)?;
-    let mut cache = CacheOver::new(UserModel::new(alloc), nothing(alloc, bridges));
+    let mut cache = CacheOver::new(alloc, UserModel::new(alloc), nothing(alloc, bridges));
     let mut kept = Vec::new(alloc);
     for line in rt.lines(alloc) {
         let line = line?;
@@ -114,6 +114,7 @@ fn answer<B: Bridge>(rt: &HostRuntime, cache: &mut CacheOver<B>, line: &str) -> 
         Command::Switch { family, value } => switch(rt, cache, family, value),
         Command::Attach => attach(rt, cache),
         Command::Detach => detach(rt, cache),
+        Command::Optimize(pivots) => optimize(rt, cache, pivots.unwrap_or(1000)),
         _ => Err(anyhow!("no such line")),
     }
 }
@@ -156,6 +157,13 @@ fn detach<B: Bridge>(rt: &HostRuntime, cache: &mut CacheOver<B>) -> Result<()> {
     match cache.detach() {
         Ok(()) => shown::accepted(rt, None),
         Err(NotAttached) => shown::refused(rt, &Refused::NotAttached),
+    }
+}
+
+fn optimize<B: Bridge>(rt: &HostRuntime, cache: &CacheOver<B>, pivots: u32) -> Result<()> {
+    match cache.optimize(u64::from(pivots)) {
+        Ok(certificate) => shown::certificate(rt, cache.model(), &certificate),
+        Err(fault) => shown::opt_fault(rt, fault),
     }
 }
 

@@ -3,7 +3,9 @@ ghost use Rattle.report_core.specs.Refused.{HasFault};
 
 use anyhow::{Result, bail};
 use bridge_face::Bridge;
-use cache_layer::{AttachFault, CacheOver, EditFault};
+use cache_layer::{AttachFault, CacheOver, Certificate, EditFault, OptFault};
+use cert_text::print;
+use model_store::UserModel;
 use report_core::{Answer, Refused, done, refusal};
 use user_model::Refusal;
 
@@ -39,6 +41,21 @@ pub fn attach_fault(rt: &HostRuntime, fault: AttachFault) -> Result<()> {
         AttachFault::Overflow { place } => refused(rt, &Refused::Overflow { place }),
         AttachFault::Memory => bail!("out of memory"),
     }
+}
+
+pub fn opt_fault(rt: &HostRuntime, fault: OptFault) -> Result<()> {
+    match fault {
+        OptFault::NotAttached => refused(rt, &Refused::NotAttached),
+        OptFault::TooLarge { cells } => refused(rt, &Refused::TooLarge { cells }),
+        OptFault::Overflow { place } => refused(rt, &Refused::Overflow { place }),
+        OptFault::Limit { pivots } => refused(rt, &Refused::Limit { pivots }),
+        OptFault::Memory => bail!("out of memory"),
+    }
+}
+
+pub fn certificate(rt: &HostRuntime, model: &UserModel, certificate: &Certificate) -> Result<()> {
+    let text = print(rt.alloc(), model.groups(), model.rows(), certificate)?;
+    answer(rt, &Answer::Printed(text))
 }
 
 fn answer(rt: &HostRuntime, answer: &Answer) -> Result<()> {

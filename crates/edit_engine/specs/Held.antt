@@ -5,7 +5,9 @@ use Rattle.std.specs.Coded.{Coded, code_by, coded×, coded_ℕ}
 use Rattle.cache_layer.specs.Cached.{Cached, cached_code}
 use Rattle.cache_layer.specs.Cached as cached
 use Rattle.cache_layer.specs.Answers.{IsUntouched}
-use Rattle.cache_layer.specs.State.{State}
+use Rattle.cache_layer.specs.State.{with_table}
+use Rattle.edit_engine.specs.Script.{Machine}
+use Rattle.item_core.specs.declared.table.Table.{Table}
 use Rattle.report_core.specs.declared.answer.Answer.{Answer}
 use Rattle.report_core.specs.declared.answer.Answer.TheVariants.{Refused}
 
@@ -19,8 +21,14 @@ held_code =
     (λ p. record { cache = p.0; pivots = p.1 }) (λ _. refl)
 
 -- the state that lines step over
-abbrev pub state_of : Held → State
-state_of session = cached.state_of session.cache
+abbrev pub state_of : Held → Machine
+state_of session =
+    record { state = cached.state_of session.cache; pivots = session.pivots }
+
+-- by another table and another allowance
+abbrev pub set_up : Machine → Table → ℕ → Machine
+set_up machine table pivots =
+    record { state = with_table machine.state table; pivots = pivots }
 
 -- a refused line leaves all of the cache but its boxes' turns
 abbrev pub KeepsRefused : Answer → Cached → Cached → Type 0

@@ -3,4 +3,3 @@ pub mod Script
 pub mod Lines
 pub mod LinesLaws
 pub mod Held
-pub mod ReadableLaws

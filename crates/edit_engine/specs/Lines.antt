@@ -1,8 +1,7 @@
 -- Lines, one after another: which of them are heard, what they are answered, and the state that
 -- they leave.
 use Rattle.std.specs.Prelude.{ℕ, Bool, true, false, ◌||◌, List, [], ◌∷◌, ◌++◌, Result, Ok, if◌then◌else◌}
-use Rattle.cache_layer.specs.State.{State}
-use Rattle.edit_engine.specs.Script.{Steps}
+use Rattle.edit_engine.specs.Script.{Machine, Steps}
 use Rattle.report_core.specs.declared.answer.Answer.{Answer}
 use Rattle.report_core.specs.declared.answer.Answer.TheVariants.{Printed, Quit, Refused, Silent}
 use Rattle.script_core.specs.Line.{line_said}
@@ -32,9 +31,9 @@ pub data Prints : Answer → List ℕ → Bool → Type 0 where
 
 -- from a state the lines, one after another, are answered by a text; whether one of them was
 -- refused; and the state that they leave
-pub data Answers : State → List (List ℕ) → List ℕ → Bool → State → Type 0 where
-  none : {s : State} → Answers s [] [] false s
-  next : {s middle new : State} {line text more : List ℕ} {lines : List (List ℕ)}
+pub data Answers : Machine → List (List ℕ) → List ℕ → Bool → Machine → Type 0 where
+  none : {s : Machine} → Answers s [] [] false s
+  next : {s middle new : Machine} {line text more : List ℕ} {lines : List (List ℕ)}
       {answer : Answer} {was any : Bool} → Steps s line answer middle → Prints answer text was
       → Answers middle lines more any new
       → Answers s (line ∷ lines) (text ++ more) (was || any) new

@@ -8,8 +8,11 @@ use Rattle.cache_layer.specs.declared.fault.AttachFault.{AttachFault}
 use Rattle.cache_layer.specs.declared.fault.AttachFault.TheVariants as attach
 use Rattle.cache_layer.specs.declared.fault.EditFault.{EditFault}
 use Rattle.cache_layer.specs.declared.fault.EditFault.TheVariants as edit
+use Rattle.cache_layer.specs.declared.fault.OptFault.{OptFault}
+use Rattle.cache_layer.specs.declared.fault.OptFault.TheVariants as opt
+use Rattle.certificates.specs.declared.certificate.Certificate.{Certificate}
 use Rattle.edit_engine.specs.Lines.{Answers, Prints, heard, is_quit, next, none, says_quit}
-use Rattle.edit_engine.specs.Script.{Detaches, DoesSaid, Shows, Steps, attach_answer, edit_answer}
+use Rattle.edit_engine.specs.Script.{Detaches, DoesSaid, Machine, Shows, Steps, attach_answer, edit_answer, optimize_answer}
 use Rattle.report_core.specs.declared.answer.Answer.{Answer}
 use Rattle.report_core.specs.declared.answer.Answer.TheVariants.{Quit, ReadFault, TooLong}
 use Rattle.script_core.specs.Line.{line_said}
@@ -17,6 +20,7 @@ use Rattle.script_core.specs.declared.command.Command.{Command}
 use Rattle.script_core.specs.declared.command.Command.TheVariants as line
 use Rattle.script_core.specs.declared.fault.LineFault.{LineFault}
 use Rattle.script_core.specs.declared.fault.LineFault.TheVariants as fault
+use Rattle.user_model.specs.Model.{ModelValue}
 
 or_regrouped : (a b c : Bool) → (a || (b || c)) ≡ ((a || b) || c)
 or_regrouped true b c = refl
@@ -32,17 +36,17 @@ if_same false x = refl
 
 -- ---- answers to no line, to one, and to some lines and then to others
 
-pub Answers-none : {s : State} → Answers s [] [] false s
+pub Answers-none : {s : Machine} → Answers s [] [] false s
 Answers-none = none
 
-pub Answers-one : {s new : State} {line text : List ℕ} {answer : Answer} {was : Bool}
+pub Answers-one : {s new : Machine} {line text : List ℕ} {answer : Answer} {was : Bool}
     → Steps s line answer new → Prints answer text was → Answers s (line ∷ []) text was new
 Answers-one {s} {new} {line} {text} {answer} {was} steps prints =
     subst (λ t. Answers s (line ∷ []) t was new) (append-nil text)
     (subst (λ b. Answers s (line ∷ []) (text ++ []) b new) (or_nothing was)
     (next steps prints none))
 
-pub Answers-append : {s middle new : State} {lines more : List (List ℕ)} {text rest : List ℕ}
+pub Answers-append : {s middle new : Machine} {lines more : List (List ℕ)} {text rest : List ℕ}
     {any other : Bool} → Answers s lines text any middle → Answers middle more rest other new
     → Answers s (lines ++ more) (text ++ rest) (any || other) new
 Answers-append none after = after
@@ -123,40 +127,52 @@ show_plain : (attached : Bool) (s new : State) (answer : Answer) → Shows attac
 show_plain true s new answer does = ap ends_or_fetches does.1.0
 show_plain false s new answer does = ap ends_or_fetches does.0
 
-does_what : (said : Result Command LineFault) (s new : State) (answer : Answer)
-    → DoesSaid s said answer new → ends_or_fetches answer ≡ (is_quit said, false)
-does_what (Ok line.Silent) s new answer does = ap ends_or_fetches does.0
-does_what (Ok line.Quit) s new answer does = ap ends_or_fetches does.0
-does_what (Ok (line.Edit e)) s new answer does =
+optimize_plain : (model : ModelValue) (made : Result Certificate OptFault)
+    → ends_or_fetches (optimize_answer model made) ≡ (false, false)
+optimize_plain model (Ok certificate) = refl
+optimize_plain model (Err opt.NotAttached) = refl
+optimize_plain model (Err (opt.TooLarge cells)) = refl
+optimize_plain model (Err (opt.Overflow place)) = refl
+optimize_plain model (Err (opt.Limit pivots)) = refl
+optimize_plain model (Err opt.Memory) = refl
+
+does_what : (said : Result Command LineFault) (s : State) (pivots : ℕ) (new : State)
+    (answer : Answer) → DoesSaid s pivots said answer new
+    → ends_or_fetches answer ≡ (is_quit said, false)
+does_what (Ok line.Silent) s pivots new answer does = ap ends_or_fetches does.0
+does_what (Ok line.Quit) s pivots new answer does = ap ends_or_fetches does.0
+does_what (Ok (line.Edit e)) s pivots new answer does =
     ap ends_or_fetches does.2 ∙ edit_plain does.0
-does_what (Ok (line.Target target)) s new answer does =
+does_what (Ok (line.Target target)) s pivots new answer does =
     ap ends_or_fetches does.2 ∙ edit_plain does.0
-does_what (Ok (line.Support kind value)) s new answer does =
+does_what (Ok (line.Support kind value)) s pivots new answer does =
     ap ends_or_fetches does.2 ∙ edit_plain does.0
-does_what (Ok (line.Cost edge cost)) s new answer does =
+does_what (Ok (line.Cost edge cost)) s pivots new answer does =
     ap ends_or_fetches does.2 ∙ edit_plain does.0
-does_what (Ok (line.Switch family value)) s new answer does =
+does_what (Ok (line.Switch family value)) s pivots new answer does =
     ap ends_or_fetches does.2 ∙ edit_plain does.0
-does_what (Ok line.Attach) s new answer does = ap ends_or_fetches does.2 ∙ attach_plain does.0
-does_what (Ok line.Detach) s new answer does = detach_plain s.attached s new answer does
-does_what (Ok line.Bridged) s new answer does = show_plain s.attached s new answer does
-does_what (Ok line.Plan) s new answer does = ap ends_or_fetches does.2.0
-does_what (Ok (line.Optimize pivots)) s new answer does = ap ends_or_fetches does.0
-does_what (Ok line.Write) s new answer does = ap ends_or_fetches does.0
-does_what (Ok (line.Load name)) s new answer does = ap ends_or_fetches does.0
-does_what (Err fault.BadLine) s new answer does = ap ends_or_fetches does.0
-does_what (Err fault.Overflow) s new answer does = ap ends_or_fetches does.0
-does_what (Err fault.Memory) s new answer does = ap ends_or_fetches does.0
+does_what (Ok line.Attach) s pivots new answer does =
+    ap ends_or_fetches does.2 ∙ attach_plain does.0
+does_what (Ok line.Detach) s pivots new answer does = detach_plain s.attached s new answer does
+does_what (Ok line.Bridged) s pivots new answer does = show_plain s.attached s new answer does
+does_what (Ok line.Plan) s pivots new answer does = ap ends_or_fetches does.2.0
+does_what (Ok (line.Optimize own)) s pivots new answer does =
+    ap ends_or_fetches does.2 ∙ optimize_plain s.model does.0
+does_what (Ok line.Write) s pivots new answer does = ap ends_or_fetches does.0
+does_what (Ok (line.Load name)) s pivots new answer does = ap ends_or_fetches does.0
+does_what (Err fault.BadLine) s pivots new answer does = ap ends_or_fetches does.0
+does_what (Err fault.Overflow) s pivots new answer does = ap ends_or_fetches does.0
+does_what (Err fault.Memory) s pivots new answer does = ap ends_or_fetches does.0
 
 -- the answer says whether the line ends the work
-pub quit_is_said : (s new : State) (line : List ℕ) (answer : Answer) → Steps s line answer new
+pub quit_is_said : (s new : Machine) (line : List ℕ) (answer : Answer) → Steps s line answer new
     → says_quit line ≡ answers_quit answer
 unfolding says_quit
 quit_is_said s new line answer steps =
-    sym (ap (λ p. p.0) (does_what (line_said line) s new answer steps))
+    sym (ap (λ p. p.0) (does_what (line_said line) s.state s.pivots new.state answer steps.0))
 
 -- no line fetches a file yet
-pub fetches_nothing : (s new : State) (line : List ℕ) (answer : Answer) → Steps s line answer new
+pub fetches_nothing : (s new : Machine) (line : List ℕ) (answer : Answer) → Steps s line answer new
     → fetches answer ≡ false
 fetches_nothing s new line answer steps =
-    ap (λ p. p.1) (does_what (line_said line) s new answer steps)
+    ap (λ p. p.1) (does_what (line_said line) s.state s.pivots new.state answer steps.0)

@@ -1,11 +1,12 @@
 -- The script machine: what each line answers in a state, and the state that it leaves. A state is
 -- the user's model, the table, and whether a solver is attached; what an attached solver holds is
--- the fresh bridging of the model by the table, a function of these.
+-- the fresh bridging of the model by the table, a function of these. Beside it stands how many
+-- pivots an optimise may take whose line names no number, which no line changes.
 --
---     Does state command answer new       a line that says the command
---     Steps state line answer new         a line
---     Answered state line answer new      a line, where memory may run out
-use Rattle.std.specs.Prelude.{◌≡◌, ℕ, Bool, true, false, List, All, Option, Some, None, Result, Ok, Err, ◌⊎◌, length}
+--     Does state pivots command answer new    a line that says the command
+--     Steps machine line answer new           a line
+--     Answered machine line answer new        a line, where memory may run out
+use Rattle.std.specs.Prelude.{◌≡◌, ℕ, Bool, true, false, List, All, IfOk, Option, Some, None, Result, Ok, Err, ◌⊎◌, length, unwrap_or}
 use Rattle.std.specs.List.{zip}
 use Rattle.lists.specs.declared.memory.Memory.{Memory as NoMemory}
 use Rattle.bridge_graph.specs.Hypergraph.{Hypergraph}
@@ -13,11 +14,18 @@ use Rattle.bridge_graph.specs.Tree.{IsLeastCost, IsTreeless}
 use Rattle.bridge_graph.specs.declared.Choice.{Choice}
 use Rattle.bridged_report.specs.Lines.{bridged_text}
 use Rattle.cache_layer.specs.Answers.{Becomes, IsAttached, IsEdited}
+use Rattle.cache_layer.specs.Outcome.{IsOptimized}
 use Rattle.cache_layer.specs.State.{Bridging, State, detached, leaves, with_table}
 use Rattle.cache_layer.specs.declared.fault.AttachFault.{AttachFault}
 use Rattle.cache_layer.specs.declared.fault.AttachFault.TheVariants as attach
 use Rattle.cache_layer.specs.declared.fault.EditFault.{EditFault}
 use Rattle.cache_layer.specs.declared.fault.EditFault.TheVariants as edit
+use Rattle.cache_layer.specs.declared.fault.OptFault.{OptFault}
+use Rattle.cache_layer.specs.declared.fault.OptFault.TheVariants as opt
+use Rattle.cert_core.specs.Variables.{variables_of}
+use Rattle.cert_text.specs.Text.{certificate_text}
+use Rattle.certificates.specs.Good.{Good}
+use Rattle.certificates.specs.declared.certificate.Certificate.{Certificate}
 use Rattle.fresh_bridging.specs.TheRules.{IsChoice, graph_of}
 use Rattle.item_core.specs.declared.kind.Kind.{Kind}
 use Rattle.item_core.specs.declared.kind.TheConstants.{KINDS}
@@ -30,13 +38,19 @@ use Rattle.report_core.specs.declared.answer.Answer.{Answer}
 use Rattle.report_core.specs.declared.answer.Answer.TheVariants.{Memory, Printed, Quit, Refused, Silent}
 use Rattle.report_core.specs.declared.refused.Place.TheVariants.{Line}
 use Rattle.report_core.specs.declared.refused.Refused as refusal
-use Rattle.report_core.specs.declared.refused.Refused.TheVariants.{AlreadyAttached, BadLine, NotAttached, Overflow, Unsupported}
+use Rattle.report_core.specs.declared.refused.Refused.TheVariants.{AlreadyAttached, BadLine, Limit, NotAttached, Overflow, TooLarge, Unsupported}
 use Rattle.script_core.specs.declared.command.Command.{Command}
 use Rattle.script_core.specs.declared.command.Command.TheVariants as line
 use Rattle.script_core.specs.declared.fault.LineFault.{LineFault}
 use Rattle.script_core.specs.declared.fault.LineFault.TheVariants as fault
 use Rattle.script_core.specs.Line.{line_said}
+use Rattle.user_model.specs.Model.{ModelValue}
 use Rattle.edit_engine.specs.Tables.{costing, supporting, switched, targeted}
+
+-- a state, and how many pivots an optimise may take whose line names no number
+pub record Machine : Type 0 where
+  pub state : State
+  pub pivots : ℕ
 
 -- ---- what is printed
 
@@ -59,6 +73,16 @@ attach_answer (Err attach.AlreadyAttached) = refused AlreadyAttached
 attach_answer (Err (attach.Unsupported kind)) = refused (Unsupported kind)
 attach_answer (Err (attach.Overflow place)) = refused (Overflow place)
 attach_answer (Err attach.Memory) = Memory
+
+-- a certificate in the names of the model
+abbrev pub optimize_answer : ModelValue → Result Certificate OptFault → Answer
+optimize_answer model (Ok certificate) =
+    Printed (certificate_text (variables_of model.groups) model.rows certificate)
+optimize_answer model (Err opt.NotAttached) = refused NotAttached
+optimize_answer model (Err (opt.TooLarge cells)) = refused (TooLarge cells)
+optimize_answer model (Err (opt.Overflow place)) = refused (Overflow place)
+optimize_answer model (Err (opt.Limit pivots)) = refused (Limit pivots)
+optimize_answer model (Err opt.Memory) = Memory
 
 -- ---- one line
 
@@ -109,30 +133,40 @@ Plans s answer new =
     (choices : List (Choice × Option ℕ)) × IsPlan (graph_of s.setting) choices
     × Says s (Printed (plan_text choices)) answer new
 
-abbrev pub Does : State → Command → Step
-Does s line.Silent = Says s Silent
-Does s line.Quit = Says s Quit
-Does s (line.Edit e) = Tells edit_answer (IsEdited s e)
-Does s (line.Target target) = Tabled s (targeted target)
-Does s (line.Support kind value) = Tabled s (supporting kind value)
-Does s (line.Cost edge cost) = Tabled s (costing edge cost)
-Does s (line.Switch family value) = Tabled s (switched family value)
-Does s line.Attach = Tells attach_answer (IsAttached s)
-Does s line.Detach = Detaches s.attached s
-Does s line.Bridged = Shows s.attached s
-Does s line.Plan = Plans s
-Does s (line.Optimize pivots) = Says s (refused BadLine)
-Does s line.Write = Says s (refused BadLine)
-Does s (line.Load name) = Says s (refused BadLine)
+-- the first of the outcomes that holds; a certificate is good for the user's model
+abbrev pub Optimizes : State → ℕ → Step
+Optimizes s pivots =
+    Tells (optimize_answer s.model)
+    (λ given new. IsOptimized s pivots given × IfOk given (Good s.model) × (new ≡ s))
 
-abbrev pub DoesSaid : State → Result Command LineFault → Step
-DoesSaid s (Ok command) = Does s command
-DoesSaid s (Err fault.BadLine) = Says s (refused BadLine)
-DoesSaid s (Err fault.Overflow) = Says s (refused (Overflow Line))
-DoesSaid s (Err fault.Memory) = Says s Memory
+abbrev pub Does : State → ℕ → Command → Step
+Does s pivots line.Silent = Says s Silent
+Does s pivots line.Quit = Says s Quit
+Does s pivots (line.Edit e) = Tells edit_answer (IsEdited s e)
+Does s pivots (line.Target target) = Tabled s (targeted target)
+Does s pivots (line.Support kind value) = Tabled s (supporting kind value)
+Does s pivots (line.Cost edge cost) = Tabled s (costing edge cost)
+Does s pivots (line.Switch family value) = Tabled s (switched family value)
+Does s pivots line.Attach = Tells attach_answer (IsAttached s)
+Does s pivots line.Detach = Detaches s.attached s
+Does s pivots line.Bridged = Shows s.attached s
+Does s pivots line.Plan = Plans s
+Does s pivots (line.Optimize own) = Optimizes s (unwrap_or own pivots)
+Does s pivots line.Write = Says s (refused BadLine)
+Does s pivots (line.Load name) = Says s (refused BadLine)
 
-abbrev pub Steps : State → List ℕ → Step
-Steps s line = DoesSaid s (line_said line)
+abbrev pub DoesSaid : State → ℕ → Result Command LineFault → Step
+DoesSaid s pivots (Ok command) = Does s pivots command
+DoesSaid s pivots (Err fault.BadLine) = Says s (refused BadLine)
+DoesSaid s pivots (Err fault.Overflow) = Says s (refused (Overflow Line))
+DoesSaid s pivots (Err fault.Memory) = Says s Memory
+
+abbrev pub DoesLine : State → ℕ → List ℕ → Step
+DoesLine s pivots line = DoesSaid s pivots (line_said line)
+
+abbrev pub Steps : Machine → List ℕ → Answer → Machine → Type 0
+Steps old line answer new =
+    DoesLine old.state old.pivots line answer new.state × (new.pivots ≡ old.pivots)
 
 -- ---- want of memory
 
@@ -145,6 +179,7 @@ abbrev pub Makes : Step → State → Result Answer NoMemory → State → Type 
 Makes step old (Ok answer) new = step answer new
 Makes step old (Err memory) new = IsLeftBy step old new
 
-abbrev pub Answered : State → List ℕ → Answer → State → Type 0
-Answered old line Memory new = IsLeftBy (Steps old line) old new
+abbrev pub Answered : Machine → List ℕ → Answer → Machine → Type 0
+Answered old line Memory new =
+    IsLeftBy (DoesLine old.state old.pivots line) old.state new.state × (new.pivots ≡ old.pivots)
 Answered old line answer new = Steps old line answer new

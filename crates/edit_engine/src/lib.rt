@@ -3,6 +3,7 @@
 
 mod held;
 mod lines;
+mod optimizing;
 mod plan;
 mod session;
 mod tables;

@@ -8,9 +8,10 @@ ghost use Rattle.cache_layer.specs.State.{with_table};
 ghost use Rattle.lazy_bridge.specs.Native.{supports_native};
 ghost use Rattle.report_core.specs.Refused.{HasFault};
 ghost use Rattle.edit_engine.specs.Held.{KeepsRefused};
-ghost use Rattle.edit_engine.specs.Script.{Detaches, Does, Makes, Plans, Shows, Steps, Tells, attach_answer, edit_answer, refused};
+ghost use Rattle.edit_engine.specs.Script.{Detaches, Does, DoesLine, Makes, Plans, Shows, Tells, attach_answer, edit_answer, refused};
 
 use crate::held::held;
+use crate::optimizing::optimize;
 use crate::plan::choices_of;
 use crate::tables::{costing, supporting, switched, targeted};
 use bridge_face::Bridge;
@@ -22,19 +23,20 @@ use script_core::{Command, LineFault, parse_line};
 use std::alloc::Global;
 use user_model::Edit;
 
-// Answers a line.
+// Answers a line, with an allowance of pivots for an optimise that names none.
 pub(crate) fn step<B: Bridge>(
     alloc: Global,
     cache: &mut CacheOver<B>,
+    pivots: u32,
     line: &[u8],
 ) -> Result<Answer, Memory>
-    ensures step { Makes (Steps (state_of cache.old) line.now) (state_of cache.old) result
+    ensures step { Makes (DoesLine (state_of cache.old) pivots line.now) (state_of cache.old) result
         (state_of cache.new) }
     ensures untouched { IfOk result (λ answer.
         KeepsRefused answer cache.old cache.new) }
 {
     match parse_line(alloc, line) {
-        Ok(command) => obey(alloc, cache, command),
+        Ok(command) => obey(alloc, cache, pivots, command),
         Err(LineFault::BadLine) => refuse(alloc, &Refused::BadLine),
         Err(LineFault::Overflow) => refuse(alloc, &Refused::Overflow { place: Place::Line }),
         Err(LineFault::Memory) => Err(Memory),
@@ -44,9 +46,10 @@ pub(crate) fn step<B: Bridge>(
 fn obey<B: Bridge>(
     alloc: Global,
     cache: &mut CacheOver<B>,
+    pivots: u32,
     command: Command,
 ) -> Result<Answer, Memory>
-    ensures step { Makes (Does (state_of cache.old) command) (state_of cache.old) result
+    ensures step { Makes (Does (state_of cache.old) pivots command) (state_of cache.old) result
         (state_of cache.new) }
     ensures untouched { IfOk result (λ answer.
         KeepsRefused answer cache.old cache.new) }
@@ -75,13 +78,13 @@ fn obey<B: Bridge>(
         Command::Detach => detach(alloc, cache),
         Command::Bridged => bridged(alloc, cache),
         Command::Plan => show_plan(alloc, cache),
-        Command::Optimize(_) | Command::Write | Command::Load(_) => {
-            refuse(alloc, &Refused::BadLine)
-        }
+        Command::Optimize(own) => optimize(alloc, cache, u64::from(own.unwrap_or(pivots))),
+        Command::Write | Command::Load(_) => refuse(alloc, &Refused::BadLine),
     }
 }
 
-fn refuse(alloc: Global, fault: &Refused) -> Result<Answer, Memory>
+/// A refusal, as it is printed.
+pub(crate) fn refuse(alloc: Global, fault: &Refused) -> Result<Answer, Memory>
     requires { HasFault fault.now }
     ensures { IfOk result (λ answer. answer ≡ refused fault.now) }
 {

@@ -4,10 +4,10 @@ ghost use Rattle.std.specs.Prelude as prelude;
 ghost use Rattle.std.specs.FinMap as finite;
 ghost use Rattle.boxes.specs.Boxed.{families_of, occur_once, setting_by};
 ghost use Rattle.cache_layer.specs.Cached.{Stands, model_in};
-ghost use Rattle.cache_layer.specs.State.{start, with_table};
+ghost use Rattle.cache_layer.specs.State.{start};
 ghost use Rattle.item_core.specs.Table.{target_table};
 ghost use Rattle.item_core.specs.declared.table.Target.TheVariants.{Standard};
-ghost use Rattle.edit_engine.specs.Held.{KeepsRefused, state_of};
+ghost use Rattle.edit_engine.specs.Held.{KeepsRefused, set_up, state_of};
 ghost use Rattle.edit_engine.specs.Script.{Answered};
 
 use crate::lines::{preset, step};
@@ -51,7 +51,7 @@ impl<B: Bridge> SessionOver<B> {
     pub fn new(alloc: Global, bridges: Vec<B>) -> SessionOver<B>
         requires once { IsTrue (occur_once (families_of (prelude.map B.state bridges.items))) }
         requires kept { All (λ s. s.kept ≡ finite.empty) (prelude.map B.state bridges.items) }
-        ensures state { state_of result
+        ensures state { (state_of result).state
             ≡ start (setting_by (target_table Standard) (prelude.map B.state bridges.items)) }
         ensures pivots { result.pivots ≡ 100000 }
     {
@@ -64,7 +64,7 @@ impl<B: Bridge> SessionOver<B> {
         );
         SessionOver {
             alloc,
-            cache: CacheOver::new(UserModel::new(alloc), lazy),
+            cache: CacheOver::new(alloc, UserModel::new(alloc), lazy),
             pivots: 100_000,
         }
     }
@@ -72,9 +72,9 @@ impl<B: Bridge> SessionOver<B> {
     /// Sets the table to a target's, and how many pivots a solve may take where its line names no
     /// number. No solver is attached.
     pub fn set_up(&mut self, target: Target, pivots: u32) -> Result<(), Memory>
-        requires detached { (state_of self.old).attached ≡ false }
+        requires detached { (state_of self.old).state.attached ≡ false }
         ensures ok { OnOk result
-            (state_of self.new ≡ with_table (state_of self.old) (target_table target)) }
+            (state_of self.new ≡ set_up (state_of self.old) (target_table target) pivots) }
         ensures allowance { OnOk result (self.new.pivots ≡ pivots) }
         ensures err { OnErr result (state_of self.new ≡ state_of self.old) }
     {
@@ -92,7 +92,7 @@ impl<B: Bridge> SessionOver<B> {
             Stands cache.attached cache.lazy (model_in cache) }
         ensures pivots { self.new.pivots ≡ self.old.pivots }
     {
-        let made = step(self.alloc, &mut self.cache, line);
+        let made = step(self.alloc, &mut self.cache, self.pivots, line);
         // what this ensures: what stands in the cache
         let _stands = self.cache.attached();
         made.unwrap_or(Answer::Memory)

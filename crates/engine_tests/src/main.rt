@@ -3,9 +3,11 @@
 //     anew        an empty model, which no solver is attached to, for the target `standard`
 //     set_up T    sets the table to that of the target T
 //     state       prints whether a solver is attached
+//     example N   answers the script N.txt, and says whether its answers are those of N.out
 //     LINE        a line of the script
 #![tactic(auto)]
 
+mod example;
 mod families;
 mod session;
 

@@ -3,6 +3,7 @@ ghost use Rattle.std.specs.Prelude.{◌≡◌, All, IsTrue, map};
 ghost use Rattle.std.specs.FinMap as finite;
 ghost use Rattle.boxes.specs.Boxed.{families_of, occur_once};
 
+use crate::example::compare;
 use anyhow::{Result, bail};
 use bridge_face::Bridge;
 use edit_engine::{Answer, SessionOver};
@@ -34,6 +35,9 @@ fn show_line(rt: &HostRuntime, line: &str) -> Result<()> {
 fn step<B: Bridge>(rt: &HostRuntime, session: &mut SessionOver<B>, line: &str) -> Result<()> {
     if let Some(target) = line.strip_prefix("set_up ") {
         return set_up(session, target);
+    }
+    if let Some(name) = line.strip_prefix("example ") {
+        return compare(rt, session, name);
     }
     if line == "state" {
         println!(rt; "attached: {}", session.cache().attached())?;

@@ -2,10 +2,10 @@
 use Rattle.std.proofs.Common.{◌≡◌, ◌≢◌, ℕ, ◌⊎◌, Bool, true, false, List, [], ◌∷◌, ◌++◌, refl, sym, ap, ◌∙◌, subst, inl, inr, Option, Some, None, IfSome, arith, true≢false}
 use Rattle.std.specs.Prelude.{codes, option_map, if◌then◌else◌, is_err, OnOk, Result, Ok, Err}
 use Rattle.std.specs.Str.Lines.{lines}
-use Rattle.cache_layer.specs.State.{State, with_table}
-use Rattle.edit_engine.specs.Held.{Held, state_of}
+use Rattle.edit_engine.specs.Held.{Held, set_up, state_of}
 use Rattle.edit_engine.specs.Lines.{heard}
 use Rattle.edit_engine.specs.LinesLaws.{Answers-none, Answers-one}
+use Rattle.edit_engine.specs.Script.{Machine}
 use Rattle.io_face.specs.Sink.{Adds, AddsPrefix}
 use Rattle.io_face.specs.SinkLaws.{Adds-empty}
 use Rattle.io_face.specs.declared.sink.SinkFault.{SinkFault}
@@ -24,7 +24,7 @@ use Rattle.moi_edit.proofs.RunLemmas.{answers_begun, answers_nothing}
 
 -- ---- what the outcome says, by the status
 
-ends_by : (end : Status) (bytes : List ℕ) (left : Option (List ℕ)) (s new : State) (wrote : List ℕ → Type 0) → IsEnded end → Outcome end bytes left s new wrote → Ends bytes left (has_refused end) s new wrote
+ends_by : (end : Status) (bytes : List ℕ) (left : Option (List ℕ)) (s new : Machine) (wrote : List ℕ → Type 0) → IsEnded end → Outcome end bytes left s new wrote → Ends bytes left (has_refused end) s new wrote
 ends_by status.Done bytes left s new wrote ended outcome = outcome
 ends_by status.SomeRefused bytes left s new wrote ended outcome = outcome
 ends_by status.Usage bytes left s new wrote ended outcome = absurd ended
@@ -40,13 +40,13 @@ told_lines Q (Some bytes) told = told
 
 -- ---- `run`
 
-runs_input : (setup : Setup) (end : Status) (left left' : Option (List ℕ)) (s middle : State) (new : Held) (wrote begun : List ℕ → Type 0)
+runs_input : (setup : Setup) (end : Status) (left left' : Option (List ℕ)) (s middle : Machine) (new : Held) (wrote begun : List ℕ → Type 0)
     → middle ≡ start_for (Some (Run setup)) s → new.pivots ≡ setup.pivots
     → IfSome left (λ bytes. Outcome end bytes left' middle (state_of new) wrote)
     → IfSome left (λ bytes. BeginsAnswers middle (heard (lines bytes)) end (state_of new) begun)
     → Runs (Some (Run setup)) end left left' s new wrote begun
 runs_input setup end left left' s middle new wrote begun is pivots outcome begins =
-    let start : State = start_for (Some (Run setup)) s in
+    let start : Machine = start_for (Some (Run setup)) s in
     let by : IfSome left (λ bytes. Outcome end bytes left' start (state_of new) wrote) = subst (λ m. IfSome left (λ bytes. Outcome end bytes left' m (state_of new) wrote)) is outcome in
     let at : (how : Status) → end ≡ how → IfSome left (λ bytes. Outcome how bytes left' start (state_of new) wrote) =
     λ (how : Status) (e : end ≡ how). subst (λ t. IfSome left (λ bytes. Outcome t bytes left' start (state_of new) wrote)) e by in
@@ -63,7 +63,7 @@ runs_input setup end left left' s middle new wrote begun is pivots outcome begin
 
 -- ---- `plan`
 
-runs_plan : (setup : Setup) (end : Status) (left left' : Option (List ℕ)) (s middle : State) (new : Held) (wrote begun : List ℕ → Type 0)
+runs_plan : (setup : Setup) (end : Status) (left left' : Option (List ℕ)) (s middle : Machine) (new : Held) (wrote begun : List ℕ → Type 0)
     → middle ≡ start_for (Some (Plan setup)) s → new.pivots ≡ setup.pivots
     → (IsEnded end → WritesAnswers middle (codes "plan" ∷ []) (has_refused end) (state_of new) wrote)
     → BeginsAnswers middle (codes "plan" ∷ []) end (state_of new) begun
@@ -86,12 +86,12 @@ pub when_ok : {A E : Type 0} (r : Result A E) (P : Type 0) → is_err r ≡ fals
 when_ok (Ok x) P e h = h
 when_ok (Err x) P e h = absurd (true≢false e)
 
-begins_in : (command : Command) (setup given : Setup) (s middle : State) → setup_of command ≡ setup → given ≡ setup_of command → middle ≡ with_table s (target_table given.target)
-    → middle ≡ with_table s (target_table setup.target)
-begins_in command setup given s middle same told begun = begun ∙ ap (λ (g : Setup). with_table s (target_table g.target)) (told ∙ same)
+begins_in : (command : Command) (setup given : Setup) (s middle : Machine) → setup_of command ≡ setup → given ≡ setup_of command → middle ≡ set_up s (target_table given.target) given.pivots
+    → middle ≡ set_up s (target_table setup.target) setup.pivots
+begins_in command setup given s middle same told begun = begun ∙ ap (λ (g : Setup). set_up s (target_table g.target) g.pivots) (told ∙ same)
 
-pub obeys_input : (command : Command) (setup given : Setup) (end : Status) (left left' : Option (List ℕ)) (s middle : State) (new : Held) (wrote begun : List ℕ → Type 0)
-    → command ≡ Run setup → given ≡ setup_of command → middle ≡ with_table s (target_table given.target) → new.pivots ≡ given.pivots
+pub obeys_input : (command : Command) (setup given : Setup) (end : Status) (left left' : Option (List ℕ)) (s middle : Machine) (new : Held) (wrote begun : List ℕ → Type 0)
+    → command ≡ Run setup → given ≡ setup_of command → middle ≡ set_up s (target_table given.target) given.pivots → new.pivots ≡ given.pivots
     → IfSome left (λ bytes. Outcome end bytes left' middle (state_of new) wrote)
     → IfSome left (λ bytes. BeginsAnswers middle (heard (lines bytes)) end (state_of new) begun)
     → Runs (Some command) end left left' s new wrote begun
@@ -100,8 +100,8 @@ obeys_input command setup given end left left' s middle new wrote begun is told 
     (runs_input setup end left left' s middle new wrote begun (begins_in command setup given s middle (ap setup_of is) told from)
     (pivots ∙ ap (λ (g : Setup). g.pivots) (told ∙ ap setup_of is)) outcome begins)
 
-pub obeys_plan : (command : Command) (setup given : Setup) (end : Status) (left left' : Option (List ℕ)) (s middle : State) (new : Held) (wrote begun : List ℕ → Type 0)
-    → command ≡ Plan setup → given ≡ setup_of command → middle ≡ with_table s (target_table given.target) → new.pivots ≡ given.pivots
+pub obeys_plan : (command : Command) (setup given : Setup) (end : Status) (left left' : Option (List ℕ)) (s middle : Machine) (new : Held) (wrote begun : List ℕ → Type 0)
+    → command ≡ Plan setup → given ≡ setup_of command → middle ≡ set_up s (target_table given.target) given.pivots → new.pivots ≡ given.pivots
     → (IsEnded end → WritesAnswers middle (codes "plan" ∷ []) (has_refused end) (state_of new) wrote)
     → BeginsAnswers middle (codes "plan" ∷ []) end (state_of new) begun
     → Runs (Some command) end left left' s new wrote begun
@@ -111,17 +111,17 @@ obeys_plan command setup given end left left' s middle new wrote begun is told f
     (pivots ∙ ap (λ (g : Setup). g.pivots) (told ∙ ap setup_of is)) answered begins)
 
 -- one line was answered
-pub answers_line : {s new : State} {line : List ℕ} {was : Bool} {wrote : List ℕ → Type 0} → Hears s line was new wrote → WritesAnswers s (line ∷ []) was new wrote
+pub answers_line : {s new : Machine} {line : List ℕ} {was : Bool} {wrote : List ℕ → Type 0} → Hears s line was new wrote → WritesAnswers s (line ∷ []) was new wrote
 answers_line hears = record { text = hears.text; answers = Answers-one hears.steps hears.prints; written = hears.written }
 
-pub begins_line : {s after new : State} {line : List ℕ} {was : Bool} {wrote : List ℕ → Type 0} (end : Status) → Hears s line was after wrote → (end ≢ status.Memory → new ≡ after)
+pub begins_line : {s after new : Machine} {line : List ℕ} {was : Bool} {wrote : List ℕ → Type 0} (end : Status) → Hears s line was after wrote → (end ≢ status.Memory → new ≡ after)
     → BeginsAnswers s (line ∷ []) end new wrote
 begins_line {s} {after} {new} {line} {was} {wrote} end hears stands =
     record { done = line ∷ []; more = []; front = refl; refused = was; after = after; answered = answers_line hears; stands = stands }
 
 -- ---- memory ran out before the first line
 
-pub begins_with_none : (lines : List (List ℕ)) (s new : State) (old : Option (List ℕ)) → BeginsAnswers s lines status.Memory new (AddsPrefix old old)
+pub begins_with_none : (lines : List (List ℕ)) (s new : Machine) (old : Option (List ℕ)) → BeginsAnswers s lines status.Memory new (AddsPrefix old old)
 begins_with_none lines s new old = record { done = []; more = lines; front = refl; refused = false; after = s; answered = answers_begun old old (answers_nothing s old); stands = λ ne. absurd (ne refl) }
 
 -- what is always so is told of what is told
@@ -129,7 +129,7 @@ always_lines : (Q : List (List ℕ) → Type 0) (told : Option (List (List ℕ))
 always_lines Q None h = tt
 always_lines Q (Some lines) h = h lines
 
-pub runs_without_memory : (said : Option Command) (left left' : Option (List ℕ)) (s : State) (new : Held) (old : Option (List ℕ)) → Runs said status.Memory left left' s new (Adds old old) (AddsPrefix old old)
+pub runs_without_memory : (said : Option Command) (left left' : Option (List ℕ)) (s : Machine) (new : Held) (old : Option (List ℕ)) → Runs said status.Memory left left' s new (Adds old old) (AddsPrefix old old)
 runs_without_memory said left left' s new old = record {
   text = λ ended. absurd ended;
   pivots = λ ended. absurd ended;
@@ -143,9 +143,9 @@ runs_without_memory said left left' s new old = record {
 
 -- ---- `plan`, by what its line was answered
 
-pub begins_plan_at_fault : (reason : SinkFault) (answer : Status) (s new : State) (line : List ℕ) (old written : Option (List ℕ)) → answer ≡ status_of_fault reason
+pub begins_plan_at_fault : (reason : SinkFault) (answer : Status) (s new : Machine) (line : List ℕ) (old written : Option (List ℕ)) → answer ≡ status_of_fault reason
     → (reason ≡ fault.Failed → (was : Bool) × Hears s line was new (AddsPrefix old written))
-    → (reason ≡ fault.Memory → (written ≡ old) ⊎ ((was : Bool) × (after : State) × Hears s line was after (AddsPrefix old written)))
+    → (reason ≡ fault.Memory → (written ≡ old) ⊎ ((was : Bool) × (after : Machine) × Hears s line was after (AddsPrefix old written)))
     → BeginsAnswers s (line ∷ []) answer new (AddsPrefix old written)
 begins_plan_at_fault fault.Failed answer s new line old written is failed memory = let hears = failed refl in begins_line answer hears.1 (λ _. refl)
 begins_plan_at_fault fault.Memory answer s new line old written is failed memory = elim (memory refl) [
@@ -154,7 +154,7 @@ begins_plan_at_fault fault.Memory answer s new line old written is failed memory
   | inr hears ↦ begins_line answer hears.2 (λ ne. absurd (ne is))
 ]
 
-pub plan_ended : {s new : State} {line : List ℕ} {wrote : List ℕ → Type 0} (refused was : Bool) (end : Status) → end ≡ (if refused then status.SomeRefused else status.Done) → refused ≡ was
+pub plan_ended : {s new : Machine} {line : List ℕ} {wrote : List ℕ → Type 0} (refused was : Bool) (end : Status) → end ≡ (if refused then status.SomeRefused else status.Done) → refused ≡ was
     → Hears s line was new wrote → WritesAnswers s (line ∷ []) (has_refused end) new wrote
 plan_ended {s} {new} {line} {wrote} refused was end is same hears =
     subst (λ b. WritesAnswers s (line ∷ []) b new wrote) (sym (ap has_refused is ∙ told refused ∙ same)) (answers_line hears)
@@ -166,6 +166,6 @@ plan_ended {s} {new} {line} {wrote} refused was end is same hears =
 -- ---- by the words
 
 -- what holds of the command that the words say
-pub said_runs : {said : Option Command} {command : Command} {end : Status} {left left' : Option (List ℕ)} {s : State} {new : Held} {wrote begun : List ℕ → Type 0}
+pub said_runs : {said : Option Command} {command : Command} {end : Status} {left left' : Option (List ℕ)} {s : Machine} {new : Held} {wrote begun : List ℕ → Type 0}
     → Some command ≡ said → Runs (Some command) end left left' s new wrote begun → Runs said end left left' s new wrote begun
 said_runs {said} {command} {end} {left} {left'} {s} {new} {wrote} {begun} is runs = subst (λ which. Runs which end left left' s new wrote begun) is runs

@@ -2,8 +2,8 @@
 use Rattle.std.proofs.Common.{◌≡◌, ◌≢◌, ℕ, ◌⊎◌, Bool, true, false, List, [], ◌∷◌, refl, sym, ap, subst, inl, inr, Option, Some, None, IfSome}
 use Rattle.std.specs.Prelude.{if◌then◌else◌}
 use Rattle.std.specs.Str.Lines.{lines}
-use Rattle.cache_layer.specs.State.{State}
 use Rattle.edit_engine.specs.Lines.{heard}
+use Rattle.edit_engine.specs.Script.{Machine}
 use Rattle.io_face.specs.Fault.{HasFaulted}
 use Rattle.io_face.specs.Sink.{Adds, AddsPrefix}
 use Rattle.io_face.specs.declared.sink.SinkFault.{SinkFault}
@@ -23,7 +23,7 @@ use Rattle.moi_edit.proofs.RunLemmas.{Gives, Standing, begins_in_turn, begins_so
 
 -- ---- the work ended
 
-pub outcome_at_end : (refused : Bool) (answer : Status) (all left : Option (List ℕ)) (start s : State) (wrote : List ℕ → Type 0) → answer ≡ (if refused then SomeRefused else Done)
+pub outcome_at_end : (refused : Bool) (answer : Status) (all left : Option (List ℕ)) (start s : Machine) (wrote : List ℕ → Type 0) → answer ≡ (if refused then SomeRefused else Done)
     → IfSome all (λ bytes. Ends bytes left refused start s wrote) → IfSome all (λ bytes. Outcome answer bytes left start s wrote)
 outcome_at_end true answer all left start s wrote is ends = subst (λ a. IfSome all (λ bytes. Outcome a bytes left start s wrote)) (sym is) ends
 outcome_at_end false answer all left start s wrote is ends = subst (λ a. IfSome all (λ bytes. Outcome a bytes left start s wrote)) (sym is) ends
@@ -38,7 +38,7 @@ no_usage_at_end false answer is usage = cc
 
 -- ---- reading stopped
 
-pub outcome_at_stop : (reason : ReadStop) (answer : Status) (all left : Option (List ℕ)) (start s : State) (wrote : List ℕ → Type 0) → answer ≡ status_of_stop reason
+pub outcome_at_stop : (reason : ReadStop) (answer : Status) (all left : Option (List ℕ)) (start s : Machine) (wrote : List ℕ → Type 0) → answer ≡ status_of_stop reason
     → (reason ≡ stop.ReadFault → IfSome all (λ bytes. AnswersTaken bytes left start s wrote))
     → (reason ≡ stop.TooLong → IfSome all (λ bytes. PassesLimit bytes × AnswersWithinLimits bytes start s wrote))
     → IfSome all (λ bytes. Outcome answer bytes left start s wrote)
@@ -48,7 +48,7 @@ outcome_at_stop stop.Memory answer all left start s wrote is fault long = subst 
 
 -- ---- writing stopped, or memory ran out
 
-pub outcome_at_fault : (reason : SinkFault) (answer : Status) (all left : Option (List ℕ)) (start s : State) (wrote : List ℕ → Type 0) → answer ≡ status_of_fault reason
+pub outcome_at_fault : (reason : SinkFault) (answer : Status) (all left : Option (List ℕ)) (start s : Machine) (wrote : List ℕ → Type 0) → answer ≡ status_of_fault reason
     → IfSome all (λ bytes. Outcome answer bytes left start s wrote)
 outcome_at_fault fault.Failed answer all left start s wrote is = subst (λ a. IfSome all (λ bytes. Outcome a bytes left start s wrote)) (sym is) (told_always _ all (λ bytes. tt))
 outcome_at_fault fault.Memory answer all left start s wrote is = subst (λ a. IfSome all (λ bytes. Outcome a bytes left start s wrote)) (sym is) (told_always _ all (λ bytes. tt))
@@ -62,10 +62,10 @@ no_usage_at_fault fault.Failed answer is usage = cc
 no_usage_at_fault fault.Memory answer is usage = cc
 
 -- within the answer to a line, or before it
-pub begins_at_fault : (reason : SinkFault) (answer : Status) (next : Next) (all : Option (List ℕ)) (start : State) (reader reader' : Held) (left left' : Option (List ℕ)) (s s' : State)
+pub begins_at_fault : (reason : SinkFault) (answer : Status) (next : Next) (all : Option (List ℕ)) (start : Machine) (reader reader' : Held) (left left' : Option (List ℕ)) (s s' : Machine)
     (refused : Bool) (old mid written : Option (List ℕ)) (line seen : List ℕ) → answer ≡ status_of_fault reason
     → (reason ≡ fault.Failed → (was : Bool) × Hears s seen was s' (AddsPrefix mid written))
-    → (reason ≡ fault.Memory → (written ≡ mid) ⊎ ((was : Bool) × (after : State) × Hears s seen was after (AddsPrefix mid written)))
+    → (reason ≡ fault.Memory → (written ≡ mid) ⊎ ((was : Bool) × (after : Machine) × Hears s seen was after (AddsPrefix mid written)))
     → Gives next reader left reader' left' line seen → Standing all start reader left s refused old mid
     → IfSome all (λ bytes. BeginsAnswers start (heard (lines bytes)) answer s' (AddsPrefix old written))
 begins_at_fault fault.Failed answer next all start reader reader' left left' s s' refused old mid written line seen is failed memory gives standing =

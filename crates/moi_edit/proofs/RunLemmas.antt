@@ -10,9 +10,9 @@ use Rattle.std.proofs.lemmas.List.Folds.{list_any-append}
 use Rattle.std.proofs.lemmas.List.Sums.{take_while-cons}
 use Rattle.std.proofs.lemmas.Bool.{cond-true, cond-false, le-leb}
 use Rattle.std.proofs.Math.Seq.{take-append-add, take-append_seam, get_or-append_seam}
-use Rattle.cache_layer.specs.State.{State}
 use Rattle.edit_engine.specs.Lines.{heard, says_quit}
 use Rattle.edit_engine.specs.LinesLaws.{Answers-append, Answers-none, Answers-one, heard-append, heard_at_last, heard_at_quit}
+use Rattle.edit_engine.specs.Script.{Machine}
 use Rattle.io_face.specs.Sink.{Adds, AddsPrefix}
 use Rattle.io_face.specs.SinkLaws.{Adds-empty, Adds-append}
 use Rattle.io_face.specs.SourceLaws.{Takes-append}
@@ -48,7 +48,7 @@ begun_more old mid new text part adds begun = (
 )
 
 -- the answer to a line behind those to others
-answered_more : {start s s' : State} {done : List (List ℕ)} {refused was : Bool} {line : List ℕ} (first second both : List ℕ → Type 0)
+answered_more : {start s s' : Machine} {done : List (List ℕ)} {refused was : Bool} {line : List ℕ} (first second both : List ℕ → Type 0)
     → ((text part : List ℕ) → first text → second part → both (text ++ part))
     → WritesAnswers start done refused s first → Hears s line was s' second → WritesAnswers start (done ++ line ∷ []) (refused || was) s' both
 answered_more first second both join answered hears = record {
@@ -57,25 +57,25 @@ answered_more first second both join answered hears = record {
   written = join answered.text hears.text answered.written hears.written;
 }
 
-pub whole_more : {start s s' : State} {done : List (List ℕ)} {refused was : Bool} {line : List ℕ} (old mid new : Option (List ℕ))
+pub whole_more : {start s s' : Machine} {done : List (List ℕ)} {refused was : Bool} {line : List ℕ} (old mid new : Option (List ℕ))
     → WritesAnswers start done refused s (Adds old mid) → Hears s line was s' (Adds mid new) → WritesAnswers start (done ++ line ∷ []) (refused || was) s' (Adds old new)
 whole_more old mid new = answered_more (Adds old mid) (Adds mid new) (Adds old new) (Adds-append old mid new)
 
-part_more : {start s s' : State} {done : List (List ℕ)} {refused was : Bool} {line : List ℕ} (old mid new : Option (List ℕ))
+part_more : {start s s' : Machine} {done : List (List ℕ)} {refused was : Bool} {line : List ℕ} (old mid new : Option (List ℕ))
     → WritesAnswers start done refused s (Adds old mid) → Hears s line was s' (AddsPrefix mid new) → WritesAnswers start (done ++ line ∷ []) (refused || was) s' (AddsPrefix old new)
 part_more old mid new = answered_more (Adds old mid) (AddsPrefix mid new) (AddsPrefix old new) (begun_more old mid new)
 
-pub answers_begun : {start s : State} {done : List (List ℕ)} {refused : Bool} (old new : Option (List ℕ)) → WritesAnswers start done refused s (Adds old new) → WritesAnswers start done refused s (AddsPrefix old new)
+pub answers_begun : {start s : Machine} {done : List (List ℕ)} {refused : Bool} (old new : Option (List ℕ)) → WritesAnswers start done refused s (Adds old new) → WritesAnswers start done refused s (AddsPrefix old new)
 answers_begun old new answered = record { text = answered.text; answers = answered.answers; written = begun_whole old new answered.text answered.written }
 
-pub hears_begun : {s s' : State} {line : List ℕ} {was : Bool} (old new : Option (List ℕ)) → Hears s line was s' (Adds old new) → Hears s line was s' (AddsPrefix old new)
+pub hears_begun : {s s' : Machine} {line : List ℕ} {was : Bool} (old new : Option (List ℕ)) → Hears s line was s' (Adds old new) → Hears s line was s' (AddsPrefix old new)
 hears_begun old new hears = record { answer = hears.answer; text = hears.text; steps = hears.steps; prints = hears.prints; written = begun_whole old new hears.text hears.written }
 
-pub answers_nothing : (s : State) (old : Option (List ℕ)) → WritesAnswers s [] false s (Adds old old)
+pub answers_nothing : (s : Machine) (old : Option (List ℕ)) → WritesAnswers s [] false s (Adds old old)
 answers_nothing s old = record { text = []; answers = Answers-none; written = Adds-empty old }
 
 -- the answers to these lines are those to lines that are the same
-same_lines : {start s : State} {refused : Bool} {wrote : List ℕ → Type 0} (done done' : List (List ℕ)) → done' ≡ done → WritesAnswers start done refused s wrote → WritesAnswers start done' refused s wrote
+same_lines : {start s : Machine} {refused : Bool} {wrote : List ℕ → Type 0} (done done' : List (List ℕ)) → done' ≡ done → WritesAnswers start done refused s wrote → WritesAnswers start done' refused s wrote
 same_lines {start} {s} {refused} {wrote} done done' same = subst (λ ls. WritesAnswers start ls refused s wrote) (sym same)
 
 -- ---- which lines are done
@@ -105,7 +105,7 @@ no_quit_more : (done : List (List ℕ)) (line : List ℕ) → list_any says_quit
 no_quit_more done line before goes_on = list_any-append says_quit done (line ∷ []) ∙ ap (λ b. b || (says_quit line || false)) before ∙ ap (λ b. b || false) goes_on
 
 -- the lines done are some of the input's, none is too long or ends the work, and their answers are written
-pub record Standing (all : Option (List ℕ)) (start : State) (reader : Held) (left : Option (List ℕ)) (s : State) (refused : Bool) (old new : Option (List ℕ)) : Type 0 where
+pub record Standing (all : Option (List ℕ)) (start : Machine) (reader : Held) (left : Option (List ℕ)) (s : Machine) (refused : Bool) (old new : Option (List ℕ)) : Type 0 where
   pub given : List ℕ
   pub done : List (List ℕ)
   pub kept : all ≡ prepend_known given (rest_of reader left)
@@ -115,7 +115,7 @@ pub record Standing (all : Option (List ℕ)) (start : State) (reader : Held) (l
   pub short : All (λ line. length line ≤ line_limit) done
   pub answered : WritesAnswers start done refused s (Adds old new)
 
-pub standing_at_start : (start : State) (reader : Held) (left old : Option (List ℕ)) → reader.held ≡ [] → reader.room ≡ input_limit → Standing left start reader left start false old old
+pub standing_at_start : (start : Machine) (reader : Held) (left old : Option (List ℕ)) → reader.held ≡ [] → reader.room ≡ input_limit → Standing left start reader left start false old old
 standing_at_start start reader left old none whole = record {
   given = [];
   done = [];
@@ -128,7 +128,7 @@ standing_at_start start reader left old none whole = record {
 }
 
 -- a line was answered that doesn't end the work
-standing_after_line : (all : Option (List ℕ)) (start : State) (reader reader' : Held) (left left' : Option (List ℕ)) (s s' : State) (refused was : Bool) (old mid new : Option (List ℕ)) (line : List ℕ)
+standing_after_line : (all : Option (List ℕ)) (start : Machine) (reader reader' : Held) (left left' : Option (List ℕ)) (s s' : Machine) (refused was : Bool) (old mid new : Option (List ℕ)) (line : List ℕ)
     → Standing all start reader left s refused old mid → GivesLine reader left reader' left' line → says_quit line ≡ false → Hears s line was s' (Adds mid new)
     → Standing all start reader' left' s' (refused || was) old new
 standing_after_line all start reader reader' left left' s s' refused was old mid new line standing gives goes_on hears =
@@ -158,7 +158,7 @@ at_end_nothing (Some bytes) rest end is = let e : bytes ≡ [] = end in cc
 -- ---- the work ends
 
 -- at the end of the input, after whole lines
-pub ends_at_end : (all : Option (List ℕ)) (start : State) (reader : Held) (left left' : Option (List ℕ)) (s : State) (refused : Bool) (old new : Option (List ℕ))
+pub ends_at_end : (all : Option (List ℕ)) (start : Machine) (reader : Held) (left left' : Option (List ℕ)) (s : Machine) (refused : Bool) (old new : Option (List ℕ))
     → Standing all start reader left s refused old new → GivesNothing reader left left' → IfSome all (λ bytes. Ends bytes left' refused start s (Adds old new))
 ends_at_end all start reader left left' s refused old new standing gives =
     told_left _ all (rest_of reader left) standing.given standing.kept (λ rest told.
@@ -176,7 +176,7 @@ ends_at_end all start reader left left' s refused old new standing gives =
     })
 
 -- at a last line that no newline ends
-ends_at_last_line : (all : Option (List ℕ)) (start : State) (reader : Held) (left left' : Option (List ℕ)) (s s' : State) (refused was : Bool) (old mid new : Option (List ℕ)) (line : List ℕ)
+ends_at_last_line : (all : Option (List ℕ)) (start : Machine) (reader : Held) (left left' : Option (List ℕ)) (s s' : Machine) (refused was : Bool) (old mid new : Option (List ℕ)) (line : List ℕ)
     → Standing all start reader left s refused old mid → GivesLastLine reader left left' line → Hears s line was s' (Adds mid new)
     → IfSome all (λ bytes. Ends bytes left' (refused || was) start s' (Adds old new))
 ends_at_last_line all start reader left left' s s' refused was old mid new line standing gives hears =
@@ -209,7 +209,7 @@ has_quit_behind given raw done line more parted none is quit =
     or_true false = refl
 
 -- at the line that ends the work
-ends_at_quit : (all : Option (List ℕ)) (start : State) (reader reader' : Held) (left left' : Option (List ℕ)) (s s' : State) (refused was : Bool) (old mid new : Option (List ℕ)) (line : List ℕ)
+ends_at_quit : (all : Option (List ℕ)) (start : Machine) (reader reader' : Held) (left left' : Option (List ℕ)) (s s' : Machine) (refused was : Bool) (old mid new : Option (List ℕ)) (line : List ℕ)
     → Standing all start reader left s refused old mid → GivesLine reader left reader' left' line → says_quit line ≡ true → Hears s line was s' (Adds mid new)
     → IfSome all (λ bytes. Ends bytes left' (refused || was) start s' (Adds old new))
 ends_at_quit all start reader reader' left left' s s' refused was old mid new line standing gives quit hears =
@@ -244,7 +244,7 @@ ends_at_quit all start reader reader' left left' s s' refused was old mid new li
 -- ---- the work stops
 
 -- reading failed
-pub stops_at_fault : (all : Option (List ℕ)) (start : State) (reader : Held) (left left' : Option (List ℕ)) (s : State) (refused : Bool) (old new : Option (List ℕ))
+pub stops_at_fault : (all : Option (List ℕ)) (start : Machine) (reader : Held) (left left' : Option (List ℕ)) (s : Machine) (refused : Bool) (old new : Option (List ℕ))
     → Standing all start reader left s refused old new → LosesPart reader left left' → IfSome all (λ bytes. AnswersTaken bytes left' start s (Adds old new))
 stops_at_fault all start reader left left' s refused old new standing loses =
     let given = standing.given in
@@ -274,7 +274,7 @@ take_while_short (line ∷ done) more short =
     ∙ ap (λ ls. line ∷ ls) (take_while_short done more (All-tail (λ l. length l ≤ line_limit) line done short))
 
 -- a line or the input is too long
-pub stops_at_limit : (all : Option (List ℕ)) (start : State) (reader : Held) (left : Option (List ℕ)) (s : State) (refused : Bool) (old new : Option (List ℕ))
+pub stops_at_limit : (all : Option (List ℕ)) (start : Machine) (reader : Held) (left : Option (List ℕ)) (s : Machine) (refused : Bool) (old new : Option (List ℕ))
     → Standing all start reader left s refused old new → IfSome (rest_of reader left) (IsTooLong (allowance reader)) → IfSome all (λ bytes. PassesLimit bytes × AnswersWithinLimits bytes start s (Adds old new))
 stops_at_limit all start reader left s refused old new standing too_long =
     let given = standing.given in
@@ -303,7 +303,7 @@ stops_at_limit all start reader left s refused old new standing too_long =
 -- ---- however it ends
 
 -- at most one byte past the limit of the input was taken
-pub taken_in_all : (all : Option (List ℕ)) (start : State) (reader : Held) (left left' : Option (List ℕ)) (s : State) (refused : Bool) (old new : Option (List ℕ))
+pub taken_in_all : (all : Option (List ℕ)) (start : Machine) (reader : Held) (left left' : Option (List ℕ)) (s : Machine) (refused : Bool) (old new : Option (List ℕ))
     → Standing all start reader left s refused old new → TakesAtMost (reader.room + 1) left left' → TakesAtMost (input_limit + 1) all left'
 taken_in_all all start reader left left' s refused old new standing takes =
     let given : List ℕ = standing.given in
@@ -319,13 +319,13 @@ Fronted : List (List ℕ) → List ℕ → Type 0
 Fronted done bytes = (more : List (List ℕ)) × (heard (lines bytes) ≡ done ++ more)
 
 -- the first lines were answered, and what was written begins their text
-begins_with : {start after new : State} {done : List (List ℕ)} {refused : Bool} {wrote : List ℕ → Type 0} (end : Status) (all : Option (List ℕ)) → IfSome all (Fronted done)
+begins_with : {start after new : Machine} {done : List (List ℕ)} {refused : Bool} {wrote : List ℕ → Type 0} (end : Status) (all : Option (List ℕ)) → IfSome all (Fronted done)
     → WritesAnswers start done refused after wrote → (end ≢ Memory → new ≡ after) → IfSome all (λ bytes. BeginsAnswers start (heard (lines bytes)) end new wrote)
 unfolding Fronted
 begins_with {start} {after} {new} {done} {refused} {wrote} end all fronted answered stands = told_weaker _ _ all
     (λ bytes front. record { done = done; more = front.0; front = front.1; refused = refused; after = after; answered = answered; stands = stands }) fronted
 
-front_so_far : (all : Option (List ℕ)) (start : State) (reader : Held) (left : Option (List ℕ)) (s : State) (refused : Bool) (old new : Option (List ℕ))
+front_so_far : (all : Option (List ℕ)) (start : Machine) (reader : Held) (left : Option (List ℕ)) (s : Machine) (refused : Bool) (old new : Option (List ℕ))
     → (standing : Standing all start reader left s refused old new) → IfSome all (Fronted standing.done)
 unfolding Fronted
 front_so_far all start reader left s refused old new standing =
@@ -335,7 +335,7 @@ front_so_far all start reader left s refused old new standing =
     ))
 
 -- between two lines
-pub begins_so_far : (all : Option (List ℕ)) (start : State) (reader : Held) (left : Option (List ℕ)) (s new : State) (refused : Bool) (old written : Option (List ℕ)) (end : Status)
+pub begins_so_far : (all : Option (List ℕ)) (start : Machine) (reader : Held) (left : Option (List ℕ)) (s new : Machine) (refused : Bool) (old written : Option (List ℕ)) (end : Status)
     → Standing all start reader left s refused old written → (end ≢ Memory → new ≡ s) → IfSome all (λ bytes. BeginsAnswers start (heard (lines bytes)) end new (AddsPrefix old written))
 begins_so_far all start reader left s new refused old written end standing stands =
     begins_with end all (front_so_far all start reader left s refused old written standing) (answers_begun old written standing.answered) stands
@@ -347,7 +347,7 @@ front_by_one done line more bytes no_quit is =
     let behind : List (List ℕ) = cond (says_quit line) [] (heard more) in
     (behind, ap heard is ∙ heard-append done (line ∷ more) no_quit ∙ sym (append_assoc done (line ∷ []) behind))
 
-front_in_line : (all : Option (List ℕ)) (start : State) (reader reader' : Held) (left left' : Option (List ℕ)) (s : State) (refused : Bool) (old mid : Option (List ℕ)) (line : List ℕ)
+front_in_line : (all : Option (List ℕ)) (start : Machine) (reader reader' : Held) (left left' : Option (List ℕ)) (s : Machine) (refused : Bool) (old mid : Option (List ℕ)) (line : List ℕ)
     → (standing : Standing all start reader left s refused old mid) → GivesLine reader left reader' left' line → IfSome all (Fronted (standing.done ++ line ∷ []))
 front_in_line all start reader reader' left left' s refused old mid line standing gives =
     let given = standing.given in
@@ -358,7 +358,7 @@ front_in_line all start reader reader' left left' s refused old mid line standin
     ((parted_more given gives.raw standing.done standing.parted gives.unended).lines_on rest
     ∙ append_assoc standing.done (strip_carriage_return gives.raw ∷ []) (lines rest) ∙ ap (λ l. standing.done ++ l ∷ lines rest) (sym gives.stripped)))
 
-front_in_last_line : (all : Option (List ℕ)) (start : State) (reader : Held) (left left' : Option (List ℕ)) (s : State) (refused : Bool) (old mid : Option (List ℕ)) (line : List ℕ)
+front_in_last_line : (all : Option (List ℕ)) (start : Machine) (reader : Held) (left left' : Option (List ℕ)) (s : Machine) (refused : Bool) (old mid : Option (List ℕ)) (line : List ℕ)
     → (standing : Standing all start reader left s refused old mid) → GivesLastLine reader left left' line → IfSome all (Fronted (standing.done ++ line ∷ []))
 front_in_last_line all start reader left left' s refused old mid line standing gives =
     let given = standing.given in
@@ -376,7 +376,7 @@ pub record Gives (next : Next) (reader : Held) (left : Option (List ℕ)) (reade
   pub last : next ≡ came.LastLine → GivesLastLine reader left left' line
   pub same : seen ≡ line
 
-front_in_turn : (next : Next) (all : Option (List ℕ)) (start : State) (reader reader' : Held) (left left' : Option (List ℕ)) (s : State) (refused : Bool) (old mid : Option (List ℕ)) (line seen : List ℕ)
+front_in_turn : (next : Next) (all : Option (List ℕ)) (start : Machine) (reader reader' : Held) (left left' : Option (List ℕ)) (s : Machine) (refused : Bool) (old mid : Option (List ℕ)) (line seen : List ℕ)
     → Gives next reader left reader' left' line seen → (standing : Standing all start reader left s refused old mid) → IfSome all (Fronted (standing.done ++ seen ∷ []))
 front_in_turn came.End all start reader reader' left left' s refused old mid line seen gives standing = absurd (gives.not_end refl)
 front_in_turn came.Line all start reader reader' left left' s refused old mid line seen gives standing =
@@ -385,19 +385,19 @@ front_in_turn came.LastLine all start reader reader' left left' s refused old mi
     front_in_last_line all start reader left left' s refused old mid seen standing (subst (GivesLastLine reader left left') (sym gives.same) (gives.last refl))
 
 -- within the answer to a line, or after it
-pub begins_in_turn : (next : Next) (all : Option (List ℕ)) (start : State) (reader reader' : Held) (left left' : Option (List ℕ)) (s after new : State) (refused was : Bool) (old mid written : Option (List ℕ)) (line seen : List ℕ) (end : Status)
+pub begins_in_turn : (next : Next) (all : Option (List ℕ)) (start : Machine) (reader reader' : Held) (left left' : Option (List ℕ)) (s after new : Machine) (refused was : Bool) (old mid written : Option (List ℕ)) (line seen : List ℕ) (end : Status)
     → Gives next reader left reader' left' line seen → Standing all start reader left s refused old mid → Hears s seen was after (AddsPrefix mid written) → (end ≢ Memory → new ≡ after)
     → IfSome all (λ bytes. BeginsAnswers start (heard (lines bytes)) end new (AddsPrefix old written))
 begins_in_turn next all start reader reader' left left' s after new refused was old mid written line seen end gives standing hears stands =
     begins_with end all (front_in_turn next all start reader reader' left left' s refused old mid line seen gives standing) (part_more old mid written standing.answered hears) stands
 
-pub ends_at_last : (all : Option (List ℕ)) (start : State) (reader : Held) (left left' : Option (List ℕ)) (s s' : State) (refused was : Bool) (old mid new : Option (List ℕ)) (line seen : List ℕ)
+pub ends_at_last : (all : Option (List ℕ)) (start : Machine) (reader : Held) (left left' : Option (List ℕ)) (s s' : Machine) (refused was : Bool) (old mid new : Option (List ℕ)) (line seen : List ℕ)
     → GivesLastLine reader left left' line → seen ≡ line → Standing all start reader left s refused old mid → Hears s seen was s' (Adds mid new)
     → IfSome all (λ bytes. Ends bytes left' (refused || was) start s' (Adds old new))
 ends_at_last all start reader left left' s s' refused was old mid new line seen gives same standing hears =
     ends_at_last_line all start reader left left' s s' refused was old mid new seen standing (subst (GivesLastLine reader left left') (sym same) gives) hears
 
-pub ends_in_turn : (next : Next) (all : Option (List ℕ)) (start : State) (reader reader' : Held) (left left' : Option (List ℕ)) (s s' : State) (refused was : Bool) (old mid new : Option (List ℕ)) (line seen : List ℕ)
+pub ends_in_turn : (next : Next) (all : Option (List ℕ)) (start : Machine) (reader reader' : Held) (left left' : Option (List ℕ)) (s s' : Machine) (refused was : Bool) (old mid new : Option (List ℕ)) (line seen : List ℕ)
     → Gives next reader left reader' left' line seen → Standing all start reader left s refused old mid → says_quit seen ≡ true → Hears s seen was s' (Adds mid new)
     → IfSome all (λ bytes. Ends bytes left' (refused || was) start s' (Adds old new))
 ends_in_turn came.End all start reader reader' left left' s s' refused was old mid new line seen gives standing quit hears = absurd (gives.not_end refl)
@@ -406,7 +406,7 @@ ends_in_turn came.Line all start reader reader' left left' s s' refused was old 
 ends_in_turn came.LastLine all start reader reader' left left' s s' refused was old mid new line seen gives standing quit hears =
     ends_at_last all start reader left left' s s' refused was old mid new line seen (gives.last refl) gives.same standing hears
 
-pub standing_after_turn : (next : Next) (all : Option (List ℕ)) (start : State) (reader reader' : Held) (left left' : Option (List ℕ)) (s s' : State) (refused was : Bool) (old mid new : Option (List ℕ)) (line seen : List ℕ)
+pub standing_after_turn : (next : Next) (all : Option (List ℕ)) (start : Machine) (reader reader' : Held) (left left' : Option (List ℕ)) (s s' : Machine) (refused was : Bool) (old mid new : Option (List ℕ)) (line seen : List ℕ)
     → Gives next reader left reader' left' line seen → (next ≡ came.LastLine → ⊥) → Standing all start reader left s refused old mid → says_quit seen ≡ false → Hears s seen was s' (Adds mid new)
     → Standing all start reader' left' s' (refused || was) old new
 standing_after_turn came.End all start reader reader' left left' s s' refused was old mid new line seen gives goes_on standing quit hears = absurd (gives.not_end refl)

@@ -10,10 +10,9 @@ use Rattle.std.specs.declared.alloc.Global.{Global}
 use Rattle.std.specs.List.{list_any}
 use Rattle.std.specs.Str.Lines.{lines}
 use Rattle.std.specs.Io.KnownBytes.{IsAtEnd}
-use Rattle.cache_layer.specs.State.{State, with_table}
-use Rattle.edit_engine.specs.Held.{Held, state_of}
+use Rattle.edit_engine.specs.Held.{Held, set_up, state_of}
 use Rattle.edit_engine.specs.Lines.{Answers, Prints, heard, says_quit}
-use Rattle.edit_engine.specs.Script.{Steps}
+use Rattle.edit_engine.specs.Script.{Machine, Steps}
 use Rattle.io_face.specs.Fault.{HasFaulted}
 use Rattle.io_face.specs.Source.{Takes}
 use Rattle.io_face.specs.Sink.{Adds, AddsPrefix}
@@ -49,9 +48,9 @@ lines_for (Some (Plan setup)) left = Some (codes "plan" ∷ [])
 lines_for None left = None
 
 -- the state in which the command begins, by that of its session
-abbrev pub start_for : Option Command → State → State
+abbrev pub start_for : Option Command → Machine → Machine
 start_for None s = s
-start_for (Some command) s = with_table s (target_table (setup_of command).target)
+start_for (Some command) s = set_up s (target_table (setup_of command).target) (setup_of command).pivots
 
 abbrev pub IsPlan : Option Command → Type 0
 IsPlan (Some (Plan setup)) = Unit {0}
@@ -62,7 +61,7 @@ IsPlan None = ⊥
 
 -- from a state the lines were answered, one of them was refused or not, and this state is left;
 -- and their text was written
-pub record WritesAnswers (s : State) (lines : List (List ℕ)) (refused : Bool) (new : State)
+pub record WritesAnswers (s : Machine) (lines : List (List ℕ)) (refused : Bool) (new : Machine)
     (wrote : List ℕ → Type 0) : Type 0 where
   pub text : List ℕ
   pub answers : Answers s lines text refused new
@@ -70,13 +69,13 @@ pub record WritesAnswers (s : State) (lines : List (List ℕ)) (refused : Bool) 
 
 -- some of the first lines were answered, and what was written begins their text. They left the
 -- session's state, unless memory ran out
-pub record BeginsAnswers (s : State) (lines : List (List ℕ)) (end : Status) (new : State)
+pub record BeginsAnswers (s : Machine) (lines : List (List ℕ)) (end : Status) (new : Machine)
     (wrote : List ℕ → Type 0) : Type 0 where
   pub done : List (List ℕ)
   pub more : List (List ℕ)
   pub front : lines ≡ done ++ more
   pub refused : Bool
-  pub after : State
+  pub after : Machine
   pub answered : WritesAnswers s done refused after wrote
   pub stands : end ≢ status.Memory → new ≡ after
 
@@ -104,7 +103,7 @@ PassesLimit bytes = Any (λ line. line_limit < length line) (heard (lines bytes)
 
 -- the answers of all lines whose newline was taken were written, none of them ended the work, and
 -- neither these nor what was taken of the next are too long
-pub record AnswersTaken (bytes : List ℕ) (left : Option (List ℕ)) (s new : State)
+pub record AnswersTaken (bytes : List ℕ) (left : Option (List ℕ)) (s new : Machine)
     (wrote : List ℕ → Type 0) : Type 0 where
   pub taken : List ℕ
   pub takes : Takes (Some bytes) left taken
@@ -114,7 +113,7 @@ pub record AnswersTaken (bytes : List ℕ) (left : Option (List ℕ)) (s new : S
   pub answered : WritesAnswers s (ended_lines taken) refused new wrote
 
 -- the answers of all lines that end within the limit were written, up to the first that is too long
-abbrev pub AnswersWithinLimits : List ℕ → State → State → (List ℕ → Type 0) → Type 0
+abbrev pub AnswersWithinLimits : List ℕ → Machine → Machine → (List ℕ → Type 0) → Type 0
 AnswersWithinLimits bytes s new wrote = (refused : Bool)
     × WritesAnswers s (take_while is_short (ended_lines (take input_limit bytes))) refused new wrote
 
@@ -145,7 +144,7 @@ is_quit Accepted = false
 is_quit Refused = false
 
 -- a line was answered, it was refused or not, and a state is left; and what is said of its text
-pub record Hears (s : State) (line : List ℕ) (refused : Bool) (new : State)
+pub record Hears (s : Machine) (line : List ℕ) (refused : Bool) (new : Machine)
     (wrote : List ℕ → Type 0) : Type 0 where
   pub answer : Answer
   pub text : List ℕ
@@ -156,14 +155,14 @@ pub record Hears (s : State) (line : List ℕ) (refused : Bool) (new : State)
 -- ---- the outcome of a run of lines
 
 -- the work ended
-pub record Ends (bytes : List ℕ) (left : Option (List ℕ)) (refused : Bool) (s new : State)
+pub record Ends (bytes : List ℕ) (left : Option (List ℕ)) (refused : Bool) (s new : Machine)
     (wrote : List ℕ → Type 0) : Type 0 where
   pub answered : WritesAnswers s (heard (lines bytes)) refused new wrote
   pub to_the_end : IsReadToEnd bytes left
   pub within_limits : IsWithinLimits bytes
 
 -- how the run of the bytes ended, by its status
-abbrev pub Outcome : Status → List ℕ → Option (List ℕ) → State → State → (List ℕ → Type 0) → Type 0
+abbrev pub Outcome : Status → List ℕ → Option (List ℕ) → Machine → Machine → (List ℕ → Type 0) → Type 0
 Outcome status.Done bytes left s new wrote = Ends bytes left false s new wrote
 Outcome status.SomeRefused bytes left s new wrote = Ends bytes left true s new wrote
 Outcome status.Usage bytes left s new wrote = ⊥
@@ -180,7 +179,7 @@ HasCause status.WriteFault read read' written written' = HasFaulted written writ
 HasCause s read read' written written' = Unit {0}
 
 -- how a command ran, in the terms of the clauses of `run`
-pub record Runs (said : Option Command) (end : Status) (left left' : Option (List ℕ)) (s : State)
+pub record Runs (said : Option Command) (end : Status) (left left' : Option (List ℕ)) (s : Machine)
     (new : Held) (wrote begun : List ℕ → Type 0) : Type 0 where
   pub text : IsEnded end → IfSome (lines_for said left)
       (λ lines. WritesAnswers (start_for said s) lines (has_refused end) (state_of new) wrote)

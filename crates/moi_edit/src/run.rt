@@ -1,8 +1,8 @@
 //! The commands: lines of a script are read and answered, one after another.
 ghost use Rattle.std.specs.Prelude.{◌≡◌, ◌≢◌, ℕ, Bool, ◌+◌, ◌<◌, ◌≤◌, ◌↔◌, ◌⊎◌, ◌||◌, [], ◌∷◌, None, Some, codes, false, IsTrue, IsSome, IfOk, OnOk, OnErr, IsErrOf, IfSome, if◌then◌else◌};
 ghost use Rattle.std.specs.Str.Lines.{lines};
-ghost use Rattle.cache_layer.specs.State.{State};
 ghost use Rattle.edit_engine.specs.Held.{state_of};
+ghost use Rattle.edit_engine.specs.Script.{Machine};
 ghost use Rattle.edit_engine.specs.Lines.{heard, says_quit};
 ghost use Rattle.io_face.specs.Fault.{HasFaulted};
 ghost use Rattle.io_face.specs.Sink.{Adds, AddsPrefix};
@@ -53,7 +53,7 @@ fn answer_line<B: Bridge, O: Sink>(
         × Hears (state_of session.old) line.now refused (state_of session.new)
         (AddsPrefix (O.written output.old) (O.written output.new)) }
     ensures memory { IsErrOf result SinkFault.Memory
-        → (O.written output.new ≡ O.written output.old) ⊎ ((refused : Bool) × (new : State)
+        → (O.written output.new ≡ O.written output.old) ⊎ ((refused : Bool) × (new : Machine)
         × Hears (state_of session.old) line.now refused new
         (AddsPrefix (O.written output.old) (O.written output.new))) }
     ensures pivots { session.new.pivots ≡ session.old.pivots }
@@ -185,7 +185,7 @@ fn obey<B: Bridge, I: Source, O: Sink>(
     output: &mut O,
     session: &mut SessionOver<B>,
 ) -> Status
-    requires detached { (state_of session.old).attached ≡ false }
+    requires detached { (state_of session.old).state.attached ≡ false }
     ensures runs { Runs (Some command) result (I.left input.old) (I.left input.new)
         (state_of session.old) session.new (Adds (O.written output.old) (O.written output.new))
         (AddsPrefix (O.written output.old) (O.written output.new)) }
@@ -215,7 +215,7 @@ pub fn run<B: Bridge, I: Source, O: Sink>(
     output: &mut O,
     session: &mut SessionOver<B>,
 ) -> Status
-    requires detached { (state_of session.old).attached ≡ false }
+    requires detached { (state_of session.old).state.attached ≡ false }
 
     // Nothing is read or written, and the session stays, at words of no command.
     ensures usage { (result ≡ Status.Usage) ↔ (said_by words.now ≡ None) }

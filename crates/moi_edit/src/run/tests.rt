@@ -1,4 +1,4 @@
-//! Runs over sources and sinks that give and take single bytes, or fail at one call.
+//! Runs over sources and sinks that give and take a few bytes a call, or fail at one call.
 
 ghost use Rattle.std.specs.Prelude.{◌≡◌, ◌≤◌, IfOk, false};
 ghost use Rattle.edit_engine.specs.Held.{state_of};
@@ -11,9 +11,37 @@ use std::alloc::AllocError;
 const SCRIPT: &str =
     "var x free\nrow c >= 2 : 1*x\nattach\nbridged\ndelrow c\nbridged\nquit\nvar y free\n";
 
+/// What the script is answered.
 const TEXT: &str = "ok\nok\nok 2\nvar v:x free\nrow r:c.0 <= -2 : -1*v:x\nok 1\nvar v:x free\n";
 
-const COMMAND: [&str; 3] = ["run", "--target", "less"];
+/// A run, and how it is to end.
+#[derive(Clone, Copy)]
+struct Case {
+    words: &'static [&'static str],
+    script: &'static str,
+    /// How many bytes of a line stand after the script.
+    more: usize,
+    /// How many bytes a read gives and a write takes.
+    piece: usize,
+    /// The numbers of the read and of the write that fail; 0 is none.
+    failing_read: u64,
+    failing_write: u64,
+    status: Status,
+    /// How many bytes of the text are to be written.
+    written: usize,
+}
+
+/// The script by single bytes.
+const WHOLE: Case = Case {
+    words: &["run", "--target", "less"],
+    script: SCRIPT,
+    more: 0,
+    piece: 1,
+    failing_read: 0,
+    failing_write: 0,
+    status: Status::Done,
+    written: 67,
+};
 
 fn words_of(alloc: Global, texts: &[&str]) -> Result<Vec<String>, AllocError> {
     let mut words = Vec::new(alloc);
@@ -25,112 +53,134 @@ fn words_of(alloc: Global, texts: &[&str]) -> Result<Vec<String>, AllocError> {
 
 /// A new session with one bridge, which turns rows that are at least a number round.
 fn session_of(alloc: Global) -> Result<SessionOver<GreaterLess>, AllocError>
-    ensures { IfOk result (λ session. (state_of session).attached ≡ false) }
+    ensures { IfOk result (λ session. (state_of session).state.attached ≡ false) }
 {
     let mut bridges = Vec::new(alloc);
     bridges.push(GreaterLess::new(alloc))?;
     Ok(SessionOver::new(alloc, bridges))
 }
 
-/// A script of which a read gives so many bytes; the read of this number fails, 0 being none.
-fn input_of(
-    alloc: Global,
-    script: &[u8],
-    piece: usize,
-    failing: u64,
-) -> Result<MemSource, AllocError>
-    requires { 1 ≤ piece }
-{
-    let fails = Calls::from_vec(vec![in alloc; failing]?);
-    Ok(MemSource::new(Vec::from_slice(alloc, script)?, piece, fails))
-}
+impl Case {
+    fn input(&self, alloc: Global) -> Result<MemSource, AllocError>
+        requires { 1 ≤ self.now.piece }
+    {
+        let mut bytes = Vec::from_slice(alloc, self.script.as_bytes())?;
+        for _ in 0..self.more {
+            bytes.push(b'a')?;
+        }
+        let fails = Calls::from_vec(vec![in alloc; self.failing_read]?);
+        Ok(MemSource::new(bytes, self.piece, fails))
+    }
 
-/// A sink of which a write takes so many bytes; the write of this number fails, 0 being none.
-fn output_of(alloc: Global, piece: usize, failing: u64) -> Result<MemSink, AllocError>
-    requires { 1 ≤ piece }
-{
-    let fails = Calls::from_vec(vec![in alloc; failing]?);
-    Ok(MemSink::new(alloc, piece, fails))
-}
+    fn output(&self, alloc: Global) -> Result<MemSink, AllocError>
+        requires { 1 ≤ self.now.piece }
+    {
+        let fails = Calls::from_vec(vec![in alloc; self.failing_write]?);
+        Ok(MemSink::new(alloc, self.piece, fails))
+    }
 
-/// The status that a run of a script by single bytes ends with, which writes the text.
-fn status_by_single_bytes(alloc: Global) -> Result<Option<Status>, AllocError> {
-    let words = words_of(alloc, &COMMAND)?;
-    let mut input = input_of(alloc, SCRIPT.as_bytes(), 1, 0)?;
-    let mut output = output_of(alloc, 1, 0)?;
-    let mut session = session_of(alloc)?;
-    let status = run(alloc, &words, &mut input, &mut output, &mut session);
-    Ok((output.written() == TEXT.as_bytes()).then_some(status))
+    fn status(
+        &self,
+        alloc: Global,
+        input: &mut MemSource,
+        output: &mut MemSink,
+    ) -> Result<Status, AllocError> {
+        let words = words_of(alloc, self.words)?;
+        let mut session = session_of(alloc)?;
+        Ok(run(alloc, &words, input, output, &mut session))
+    }
+
+    /// Whether the run ends as it is to.
+    fn holds(&self, alloc: Global) -> Result<bool, AllocError>
+        requires { 1 ≤ self.now.piece }
+    {
+        let mut input = self.input(alloc)?;
+        let mut output = self.output(alloc)?;
+        let status = self.status(alloc, &mut input, &mut output)?;
+        Ok(status == self.status && self.is_written(output.written()))
+    }
+
+    fn is_written(&self, written: &[u8]) -> bool {
+        written.len() == self.written && TEXT.as_bytes().starts_with(written)
+    }
 }
 
 #[test]
-fn answers_a_script_by_single_bytes(rt: HostRuntime) {
-    assert!(rt; status_by_single_bytes(rt.alloc()) == Ok(Some(Status::Done)));
-}
-
-/// The status that the run ends with whose calls take eight bytes and fail at these, where it
-/// wrote a beginning of the text.
-fn stopped(
-    alloc: Global,
-    failing_read: u64,
-    failing_write: u64,
-) -> Result<Option<Status>, AllocError> {
-    let words = words_of(alloc, &COMMAND)?;
-    let mut input = input_of(alloc, SCRIPT.as_bytes(), 8, failing_read)?;
-    let mut output = output_of(alloc, 8, failing_write)?;
-    let mut session = session_of(alloc)?;
-    let status = run(alloc, &words, &mut input, &mut output, &mut session);
-    Ok(
-        TEXT.as_bytes()
-            .starts_with(output.written())
-            .then_some(status),
-    )
+fn answers_a_script_by_single_bytes(rt: HostRuntime) -> Result<(), AllocError> {
+    assert!(rt; WHOLE.holds(rt.alloc())?);
+    Ok(())
 }
 
 /// The line `quit` is taken by the ninth read, and the text goes out in eleven writes.
 #[test]
-fn stops_at_each_fault(rt: HostRuntime) {
-    for call in 1..10u64 {
-        assert!(rt;
-            stopped(rt.alloc(), call, 0) == Ok(Some(Status::ReadFault)),
-            "{call}"
-        );
+fn stops_at_each_fault(rt: HostRuntime) -> Result<(), AllocError> {
+    for (call, written) in [
+        (1, 0),
+        (2, 0),
+        (3, 3),
+        (4, 3),
+        (5, 6),
+        (6, 11),
+        (7, 49),
+        (8, 54),
+        (9, 67),
+    ] {
+        let case = Case {
+            piece: 8,
+            failing_read: call,
+            status: Status::ReadFault,
+            written,
+            ..WHOLE
+        };
+        assert!(rt; case.holds(rt.alloc())?, "read {call}");
     }
-    for call in 1..12u64 {
-        assert!(rt;
-            stopped(rt.alloc(), 0, call) == Ok(Some(Status::WriteFault)),
-            "{call}"
-        );
+    for (call, written) in [
+        (1, 0),
+        (2, 3),
+        (3, 6),
+        (4, 11),
+        (5, 19),
+        (6, 27),
+        (7, 35),
+        (8, 43),
+        (9, 49),
+        (10, 54),
+        (11, 62),
+    ] {
+        let case = Case {
+            piece: 8,
+            failing_write: call,
+            status: Status::WriteFault,
+            written,
+            ..WHOLE
+        };
+        assert!(rt; case.holds(rt.alloc())?, "write {call}");
     }
-}
-
-/// The status that a line with one byte too many ends a run with, which writes nothing.
-fn status_of_a_longer_line(alloc: Global) -> Result<Option<Status>, AllocError> {
-    let words = words_of(alloc, &COMMAND)?;
-    let script = vec![in alloc; b'a'; 65_537]?;
-    let mut input = input_of(alloc, &script, 4096, 0)?;
-    let mut output = output_of(alloc, 4096, 0)?;
-    let mut session = session_of(alloc)?;
-    let status = run(alloc, &words, &mut input, &mut output, &mut session);
-    Ok(output.written().is_empty().then_some(status))
+    Ok(())
 }
 
 #[test]
-fn stops_at_a_longer_line(rt: HostRuntime) {
-    assert!(rt; status_of_a_longer_line(rt.alloc()) == Ok(Some(Status::TooLong)));
-}
-
-/// The status that other words end a run with, which writes nothing.
-fn status_of_other_words(alloc: Global) -> Result<Option<Status>, AllocError> {
-    let words = words_of(alloc, &["run", "--target", "less", "--target=rows"])?;
-    let mut input = input_of(alloc, SCRIPT.as_bytes(), 4096, 0)?;
-    let mut output = output_of(alloc, 4096, 0)?;
-    let mut session = session_of(alloc)?;
-    let status = run(alloc, &words, &mut input, &mut output, &mut session);
-    Ok(output.written().is_empty().then_some(status))
+fn stops_at_a_longer_line(rt: HostRuntime) -> Result<(), AllocError> {
+    let case = Case {
+        script: "var x free\n",
+        more: 65_537,
+        piece: 4096,
+        status: Status::TooLong,
+        written: 3,
+        ..WHOLE
+    };
+    assert!(rt; case.holds(rt.alloc())?);
+    Ok(())
 }
 
 #[test]
-fn takes_no_other_words(rt: HostRuntime) {
-    assert!(rt; status_of_other_words(rt.alloc()) == Ok(Some(Status::Usage)));
+fn takes_no_other_words(rt: HostRuntime) -> Result<(), AllocError> {
+    let case = Case {
+        words: &["run", "--pivots", "-1"],
+        status: Status::Usage,
+        written: 0,
+        ..WHOLE
+    };
+    assert!(rt; case.holds(rt.alloc())?);
+    Ok(())
 }

@@ -29,7 +29,7 @@ both_at (a ∷ xs) [] n x y e k = absurd (none-some y k)
 both_at (a ∷ xs) (b ∷ ys) zero x y e k = λ i. Some (same_Some a x e i, same_Some b y k i)
 both_at (a ∷ xs) (b ∷ ys) (suc n) x y e k = both_at xs ys n x y e k
 
-supported : (setting : Setting) → IsTrue (supports_native setting.table)
+pub supported : (setting : Setting) → IsTrue (supports_native setting.table)
     → SupportsNativeKinds setting
 supported setting h kind e =
     at_all (λ (p : Kind × Bool). not p.1 || is_leaf_kind p.0)

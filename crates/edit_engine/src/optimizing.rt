@@ -1,0 +1,52 @@
+//! What an optimise prints.
+ghost use Rattle.std.specs.Prelude.{◌≡◌, IfOk, Ok};
+ghost use Rattle.cache_layer.specs.Cached.{state_of};
+ghost use Rattle.edit_engine.specs.Script.{Makes, Optimizes, optimize_answer};
+
+use crate::lines::refuse;
+use bridge_face::Bridge;
+use cache_layer::{CacheOver, Certificate, OptFault};
+use cert_text::print;
+use lists::Memory;
+use model_store::UserModel;
+use report_core::{Answer, Refused};
+use std::alloc::Global;
+
+/// Solves the solver's model with at most so many pivots.
+pub(crate) fn optimize<B: Bridge>(
+    alloc: Global,
+    cache: &CacheOver<B>,
+    pivots: u64,
+) -> Result<Answer, Memory>
+    ensures { let state = state_of cache.now in
+        Makes (Optimizes state pivots) state result state }
+{
+    let made = cache.optimize(pivots);
+    tell(alloc, cache.model(), made)
+}
+
+// What an optimise was answered.
+fn tell(
+    alloc: Global,
+    model: &UserModel,
+    made: Result<Certificate, OptFault>,
+) -> Result<Answer, Memory>
+    ensures { IfOk result (λ answer. answer ≡ optimize_answer model.now.model made) }
+{
+    match made {
+        Ok(certificate) => printed(alloc, model, &certificate),
+        Err(OptFault::NotAttached) => refuse(alloc, &Refused::NotAttached),
+        Err(OptFault::TooLarge { cells }) => refuse(alloc, &Refused::TooLarge { cells }),
+        Err(OptFault::Overflow { place }) => refuse(alloc, &Refused::Overflow { place }),
+        Err(OptFault::Limit { pivots }) => refuse(alloc, &Refused::Limit { pivots }),
+        Err(OptFault::Memory) => Err(Memory),
+    }
+}
+
+fn printed(alloc: Global, model: &UserModel, certificate: &Certificate) -> Result<Answer, Memory>
+    ensures { IfOk result (λ answer.
+        answer ≡ optimize_answer model.now.model (Ok certificate.now)) }
+{
+    let text = print(alloc, model.groups(), model.rows(), certificate)?;
+    Ok(Answer::Printed(text))
+}
