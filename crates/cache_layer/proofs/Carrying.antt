@@ -1,6 +1,6 @@
 -- An answer for the leaves can be carried back from the bridging that stands, and each address that
 -- is told then has a place.
-use Rattle.std.specs.Prelude.{◌≡◌, ℕ, ◌<◌, zero, suc, Bool, true, false, ◌⊎◌, List, [], ◌∷◌, ◌++◌, All, IfOk, IsSome, IsTrue, Option, Some, None, Result, Err, find, length, map, refl}
+use Rattle.std.specs.Prelude.{◌≡◌, ℕ, ◌<◌, zero, suc, Bool, true, false, List, [], ◌∷◌, ◌++◌, All, IfOk, IsSome, IsTrue, Option, Some, None, Result, Err, find, length, map, refl}
 use Rattle.std.specs.List.{zip}
 use Rattle.std.specs.Option.{option_map}
 use Rattle.std.proofs.Common.{ap, arith, get_or, inl, inr, subst, sym, true≢false, ◌∙◌}

@@ -22,7 +22,7 @@ use Rattle.user_model.specs.Model.{ModelValue}
 use Rattle.cache_layer.specs.Bridging.{state_by}
 use Rattle.cache_layer.specs.Optimizing.{CanTell, TellsCertificate, TellsFault, TellsLeaf}
 use Rattle.cache_layer.specs.Outcome.{IsAnswered, IsOptimized, Outcome, Stops, answered, at_carrying_back, stopped}
-use Rattle.cache_layer.specs.State.{Bridging, leaves}
+use Rattle.cache_layer.specs.State.{Bridging}
 use Rattle.cache_layer.specs.declared.fault.OptFault.{OptFault}
 use Rattle.cache_layer.specs.declared.fault.OptFault.TheVariants.{Limit, Memory, NotAttached, Overflow, TooLarge}
 

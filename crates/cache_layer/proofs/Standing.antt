@@ -1,5 +1,5 @@
 -- What stands in a bridging hangs on its parts alone, and not on the boxes' turns.
-use Rattle.std.specs.Prelude.{◌≡◌, true, List, All, map}
+use Rattle.std.specs.Prelude.{◌≡◌, true, List, All}
 use Rattle.std.proofs.Common.{ap, sym, subst, ◌∙◌}
 use Rattle.std.proofs.lemmas.List.Elements.{All-map}
 use Rattle.std.specs.FinMap as finite
