@@ -1,0 +1,14 @@
+pub mod Whole
+pub mod SmallNumbers
+pub mod WholeLaws
+pub mod WeightLaws
+pub mod WithinLaws
+pub mod BodyLaws
+pub mod SetLaws
+pub mod ListLaws
+pub mod ShapeLaws
+pub mod FamilyLaws
+pub mod LevelLaws
+pub mod EntryLaws
+pub mod FitLaws
+pub mod ModelLaws
