@@ -1,10 +1,13 @@
-//! Reads MathOptFormat files, with an empty line after each, and prints the edits or the fault of
-//! each.
+//! Reads MathOptFormat files, with an empty line after each, and prints the edits of each and what
+//! is written of the model that they make, or the fault.
 #![tactic(auto)]
+
+mod writing;
 
 use anyhow::Result;
 use mof_read::{Edits, MofFault, read};
 use name_index::Text;
+use writing::print_written;
 
 fn main(rt: HostRuntime) -> Result<()> {
     let mut file = Vec::new(rt.alloc());
@@ -23,7 +26,10 @@ fn main(rt: HostRuntime) -> Result<()> {
 
 fn print<R: Print + AllocGlobal>(rt: &R, file: &[u8]) -> Result<()> {
     match read(rt.alloc(), file) {
-        Ok(edits) => print_edits(rt, &edits),
+        Ok(edits) => {
+            print_edits(rt, &edits)?;
+            print_written(rt, edits)
+        }
         Err(fault) => print_fault(rt, fault),
     }
 }

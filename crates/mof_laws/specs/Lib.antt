@@ -1,0 +1,14 @@
+pub mod ReadBack
+pub mod WalkLaws
+pub mod ValueLaws
+pub mod FunctionLaws
+pub mod VectorLaws
+pub mod FileLaws
+pub mod VariableLaws
+pub mod ModelLaws
+pub mod WrittenLaws
+pub mod OwnerLaws
+pub mod EditLaws
+pub mod BackLaws
+pub mod SameTokens
+pub mod LineEnd

@@ -1,0 +1,293 @@
+-- The groups of a valid model, added one after another, are accepted and renumbered.
+use Rattle.std.specs.Prelude.{◌≡◌, ◌≢◌, ℕ, suc, ◌+◌, ◌≤◌, ◌==◌, Bool, true, false, ◌&&◌, not, List, [], ◌∷◌, ◌++◌, All, AllPairs, bytes_eq, find, length, map, slice_index_or, refl}
+use Rattle.std.specs.List.{list_any}
+use Rattle.std.proofs.Common.{ap, ap₂, append-nil, append_assoc, arith, subst, sym, ◌∙◌}
+use Rattle.std.proofs.lemmas.Bool.{le-ltb, and_right, eq-eqb, false_from_ne_true, or_from}
+use Rattle.std.proofs.lemmas.List.{length-append, length-map, map-append}
+use Rattle.std.proofs.lemmas.List.Kept.{AllPairs-cons}
+use Rattle.std.proofs.lemmas.List.Concat.{flat_map-append}
+use Rattle.std.proofs.lemmas.List.Elements.{All-cons, All-head, All-tail}
+use Rattle.std.proofs.lemmas.Slice.Eq.{bytes_eq-Decides}
+use Rattle.numbered.specs.Numbered.{Rise}
+use Rattle.set_core.specs.declared.set.Set.{Set}
+use Rattle.set_core.specs.Shapes.{IsSetOf, dimension_of, has_bad_dimension, is_scalar, least_dimension}
+use Rattle.user_model.specs.declared.edit.Edit.{Edit}
+use Rattle.user_model.specs.declared.group.Group.{Group}
+use Rattle.user_model.specs.declared.group.GroupVar.{GroupVar}
+use Rattle.user_model.specs.declared.objective.Objective.TheVariants as objective
+use Rattle.user_model.specs.Consistent.{variable_number}
+use Rattle.user_model.specs.Edited.{edited, group_number, numbered_from}
+use Rattle.user_model.specs.Model.{ModelValue, variables}
+use Rattle.user_model.specs.Refusals.{counts, has_twins, has_variable_named}
+use Rattle.user_model.specs.SameUpToNumbers.{group_by_position, position}
+use Rattle.user_model.specs.Valid.{IsValid, IsValidGroup}
+use Rattle.model_laws.specs.Found.{is_some-find, is_some-option_map}
+use Rattle.model_laws.specs.Pairs.{AllPairs-head, AllPairs-tail, All-left, All-right}
+use Rattle.model_laws.specs.Passed.{IsPassed}
+use Rattle.mof_laws.specs.EditLaws.{group_edit, some_components}
+use Rattle.mof_laws.specs.OwnerLaws.{vars_in}
+use Rattle.mof_laws.specs.ReadBack.{var_names}
+use Rattle.mof_laws.specs.WrittenLaws.{scalar_one}
+use Rattle.mof_round_trip.specs.Accepted.{AreWithin, LeadTo, each_within, lead_on}
+use Rattle.mof_round_trip.specs.Positions.{placed_here}
+use Rattle.mof_round_trip.specs.Renumbered.{any_made, made_variable, made_variables, numbers}
+
+-- ---- sets of so many components
+
+-- a set of numbers has one component
+pub one_component : (set : Set) (n : ℕ) → IsSetOf n set → (is_scalar set && not (n == 1)) ≡ false
+one_component set n h = by (is_scalar set) refl
+  where
+    by : (b : Bool) → is_scalar set ≡ b → (b && not (n == 1)) ≡ false
+    by true e = ap (λ b. not b) (eq-eqb n 1 (sym h.dimension ∙ scalar_one set e))
+    by false e = refl
+
+pub right_dimension : (set : Set) (n : ℕ) → IsSetOf n set → has_bad_dimension set n ≡ false
+right_dimension set n h =
+    and_right (not (is_scalar set)) _
+    (or_from _ _ (ap (λ b. not b) (eq-eqb (dimension_of set) n h.dimension))
+    (le-ltb (dimension_of set) (least_dimension set)
+    (subst (λ k. least_dimension set ≤ k) (sym h.dimension) h.enough)))
+
+-- ---- names that are apart
+
+-- items of one list, and those of another behind it
+pub across : {X : Type 0} (R : X → X → Type 0) (xs ys : List X) → AllPairs R (xs ++ ys)
+    → All {X = X} (λ y. All {X = X} (λ x. R x y) xs) ys
+across R [] ys h = λ k d within. λ i e inside. absurd (omega arith)
+across R (x ∷ xs) ys h = λ k d within.
+    All-cons (λ z. R z (slice_index_or ys k d)) x xs
+    (All-right (R x) xs ys (AllPairs-head R x (xs ++ ys) h) k d within)
+    (across R xs ys (AllPairs-tail R x (xs ++ ys) h) k d within)
+
+-- no item of the list has the name
+pub none_named : {X : Type 0} (name_of : X → List ℕ) (name : List ℕ) (xs : List X)
+    → All (λ x. name_of x ≢ name) xs → list_any (λ x. bytes_eq (name_of x) name) xs ≡ false
+none_named name_of name [] h = refl
+none_named name_of name (x ∷ xs) h =
+    or_from _ _
+    (false_from_ne_true _ (λ e. All-head (λ x. name_of x ≢ name) x xs h
+    ((bytes_eq-Decides (name_of x) name).0 e)))
+    (none_named name_of name xs (All-tail (λ x. name_of x ≢ name) x xs h))
+
+no_twins : (vs : List GroupVar) → AllPairs {X = GroupVar} (λ v w. v.name ≢ w.name) vs
+    → has_twins (var_names vs) ≡ false
+no_twins [] h = refl
+no_twins (v ∷ vs) h =
+    or_from _ _ (none vs (AllPairs-head (λ v w. v.name ≢ w.name) v vs h))
+    (no_twins vs (AllPairs-tail (λ v w. v.name ≢ w.name) v vs h))
+  where
+    none : (ws : List GroupVar) → All {X = GroupVar} (λ w. v.name ≢ w.name) ws
+        → list_any (bytes_eq v.name) (var_names ws) ≡ false
+    none [] h = refl
+    none (w ∷ ws) h =
+        or_from _ _
+        (false_from_ne_true _ (λ e. All-head {X = GroupVar} (λ w. v.name ≢ w.name) w ws h
+        ((bytes_eq-Decides v.name w.name).0 e)))
+        (none ws (All-tail {X = GroupVar} (λ w. v.name ≢ w.name) w ws h))
+
+pairs_left : {X : Type 0} (R : X → X → Type 0) (xs ys : List X) → AllPairs R (xs ++ ys)
+    → AllPairs R xs
+pairs_left R [] ys h = λ i j d lt end. absurd (omega arith)
+pairs_left R (x ∷ xs) ys h =
+    AllPairs-cons R x xs (All-left (R x) xs ys (AllPairs-head R x (xs ++ ys) h))
+    (pairs_left R xs ys (AllPairs-tail R x (xs ++ ys) h))
+
+pairs_right : {X : Type 0} (R : X → X → Type 0) (xs ys : List X) → AllPairs R (xs ++ ys)
+    → AllPairs R ys
+pairs_right R [] ys h = h
+pairs_right R (x ∷ xs) ys h = pairs_right R xs ys (AllPairs-tail R x (xs ++ ys) h)
+
+-- ---- a model with the first groups alone
+
+-- a later variable has another name
+abbrev OtherName : GroupVar → GroupVar → Type 0
+OtherName v w = v.name ≢ w.name
+
+-- a variable with a name that none of the groups has
+abbrev NewName : List Group → GroupVar → Type 0
+NewName gs v = All {X = GroupVar} (λ u. OtherName u v) (vars_in gs)
+
+abbrev variable_with : ℕ → List ℕ → GroupVar
+variable_with n name = record { number = n; name = name }
+
+abbrev group_with : ℕ → List GroupVar → Set → Group
+group_with n vars set = record { id = n; vars = vars; set = set }
+
+-- groups alone, and how many groups and variables there are
+abbrev groups_alone : List Group → ℕ → ℕ → ModelValue
+groups_alone gs n m = record {
+  groups = gs;
+  rows = [];
+  objective = objective.Feasibility;
+  next = record { group = n; variable = m; row = 0 };
+}
+
+module _ (model : ModelValue) where
+  -- the first groups, renumbered
+  abbrev pub with_groups : List Group → ModelValue
+  with_groups done =
+      groups_alone (map (group_by_position model) done) (length done) (length (vars_in done))
+
+  -- a name that no variable of the groups has
+  unnamed : (done : List Group) (name : List ℕ)
+      → list_any (λ v. bytes_eq v.name name) (vars_in done) ≡ false
+      → has_variable_named (with_groups done) name ≡ false
+  unnamed done name h =
+      is_some-option_map (λ v. v.number)
+      (find (λ v. bytes_eq v.name name) (variables (with_groups done)))
+      ∙ is_some-find (λ v. bytes_eq v.name name) (variables (with_groups done))
+      ∙ ap (list_any (λ v. bytes_eq v.name name)) (made_variables model done)
+      ∙ any_made (made_variable model) (λ v. bytes_eq v.name name) (vars_in done)
+      ∙ h
+
+module _ (model : ModelValue) (valid : IsValid model) where
+  -- variables between others are numbered from their place on
+  numbered_on : (before vs after : List GroupVar) → variables model ≡ before ++ (vs ++ after)
+      → numbered_from (length before) (var_names vs) ≡ map (made_variable model) vs
+  numbered_on before [] after e = refl
+  numbered_on before (v ∷ vs) after e =
+      ap₂ (λ n ws. variable_with n v.name ∷ ws)
+      (sym place)
+      (ap (λ n. numbered_from n (var_names vs)) (longer before)
+      ∙ numbered_on (before ++ v ∷ []) vs after
+      (e ∙ sym (append_assoc before (v ∷ []) (vs ++ after))))
+    where
+      place : position (numbers model) v.number ≡ length before
+      place =
+          ap (λ ws. position (map variable_number ws) v.number) e
+          ∙ placed_here variable_number before v (vs ++ after)
+          (subst (Rise variable_number) e valid.consistent.variables_rise)
+
+      longer : (xs : List GroupVar) → suc (length xs) ≡ length (xs ++ v ∷ [])
+      longer xs = omega (arith, length-append xs (v ∷ []))
+
+  -- so many groups have as many variables
+  no_more_groups : (gs : List Group) → All IsValidGroup gs → length gs ≤ length (vars_in gs)
+  no_more_groups [] h = omega arith
+  no_more_groups (g ∷ gs) h =
+      let one = some_components g.set (length g.vars) (All-head IsValidGroup g gs h).set in
+      let more = no_more_groups gs (All-tail IsValidGroup g gs h) in
+      omega (arith, one, more, length-append g.vars (vars_in gs))
+
+  module _ (done : List Group) (g : Group) (rest : List Group)
+      (whole : model.groups ≡ done ++ g ∷ rest) where
+    all_variables : variables model ≡ vars_in done ++ (g.vars ++ vars_in rest)
+    all_variables = ap vars_in whole ∙ flat_map-append (λ g. g.vars) done (g ∷ rest)
+
+    all_valid : All IsValidGroup (done ++ g ∷ rest)
+    all_valid = subst (All IsValidGroup) whole valid.parts.valid_groups
+
+    this_valid : IsValidGroup g
+    this_valid = All-head IsValidGroup g rest (All-right IsValidGroup done (g ∷ rest) all_valid)
+
+    names_apart : AllPairs OtherName (vars_in done ++ (g.vars ++ vars_in rest))
+    names_apart = subst (AllPairs OtherName) all_variables valid.consistent.variable_names
+
+    free_names : list_any (has_variable_named (with_groups model done)) (var_names g.vars) ≡ false
+    free_names =
+        each g.vars (All-left (NewName done) g.vars (vars_in rest)
+        (across OtherName (vars_in done) (g.vars ++ vars_in rest) names_apart))
+      where
+        each : (ws : List GroupVar) → All (NewName done) ws
+            → list_any (has_variable_named (with_groups model done)) (var_names ws) ≡ false
+        each [] h = refl
+        each (w ∷ ws) h =
+            or_from _ _
+            (unnamed model done w.name
+            (none_named (λ v. v.name) w.name (vars_in done) (All-head (NewName done) w ws h)))
+            (each ws (All-tail (NewName done) w ws h))
+
+    single_names : has_twins (var_names g.vars) ≡ false
+    single_names =
+        no_twins g.vars (pairs_left OtherName g.vars (vars_in rest)
+        (pairs_right OtherName (vars_in done) (g.vars ++ vars_in rest) names_apart))
+
+    names_count : length (var_names g.vars) ≡ length g.vars
+    names_count = length-map g.vars (λ v. v.name)
+
+    within_counts : AreWithin (counts (with_groups model done) (group_edit g))
+    within_counts =
+        let limit = this_valid.limit in
+        let all = valid.within.variables in
+        let total : length (variables model)
+        ≡ length (vars_in done) + (length g.vars + length (vars_in rest)) =
+        ap length all_variables
+        ∙ (length-append (vars_in done) (g.vars ++ vars_in rest)
+        ∙ ap (λ n. length (vars_in done) + n) (length-append g.vars (vars_in rest))) in
+        let before : length (variables (with_groups model done)) ≡ length (vars_in done) =
+        ap length (made_variables model done)
+        ∙ length-map (vars_in done) (made_variable model) in
+        let groups = no_more_groups done (All-left IsValidGroup done (g ∷ rest) all_valid) in (
+          omega (arith, limit, names_count),
+          (
+            omega (arith, all, total, before, names_count),
+            (omega (arith, all, total, groups), (omega (arith, all, total, names_count), tt)),
+          ),
+        )
+
+    group_passes : IsPassed (with_groups model done) (group_edit g)
+    group_passes = record {
+      known = refl;
+      free = or_from _ _ free_names single_names;
+      shaped = ap (λ n. is_scalar g.set && not (n == 1)) names_count
+          ∙ one_component g.set (length g.vars) this_valid.set;
+      dimension = ap (has_bad_dimension g.set) names_count
+          ∙ right_dimension g.set (length g.vars) this_valid.set;
+      output = refl;
+      interval = this_valid.set.uncrossed;
+      lower = refl;
+      upper = refl;
+      of_type = refl;
+      deletable = refl;
+      counted = each_within (counts (with_groups model done) (group_edit g)) within_counts;
+    }
+
+    made_group : group_with (length done)
+        (numbered_from (length (vars_in done)) (var_names g.vars)) g.set
+        ≡ group_by_position model g
+    made_group =
+        ap₂ (λ n vs. group_with n vs g.set) (sym place)
+        (numbered_on (vars_in done) g.vars (vars_in rest) all_variables)
+      where
+        place : position (map group_number model.groups) g.id ≡ length done
+        place =
+            ap (λ gs. position (map group_number gs) g.id) whole
+            ∙ placed_here group_number done g rest
+            (subst (Rise group_number) whole valid.consistent.groups_rise)
+
+    group_added : edited (with_groups model done) (group_edit g)
+        ≡ with_groups model (done ++ g ∷ [])
+    unfolding edited
+    group_added = λ i. groups_alone (group_list i) (group_count i) (variable_count i)
+      where
+        group_list : map (group_by_position model) done ++ group_with (length done)
+            (numbered_from (length (vars_in done)) (var_names g.vars)) g.set ∷ []
+            ≡ map (group_by_position model) (done ++ g ∷ [])
+        group_list =
+            ap (λ h. map (group_by_position model) done ++ h ∷ []) made_group
+            ∙ sym (map-append (group_by_position model) done (g ∷ []))
+
+        group_count : length done + 1 ≡ length (done ++ g ∷ [])
+        group_count = omega (arith, length-append done (g ∷ []))
+
+        variable_count : length (vars_in done) + length (var_names g.vars)
+            ≡ length (vars_in (done ++ g ∷ []))
+        variable_count =
+            ap (λ n. length (vars_in done) + n)
+            (names_count ∙ ap length (sym (append-nil g.vars)))
+            ∙ sym (length-append (vars_in done) (vars_in (g ∷ [])))
+            ∙ ap length (sym (flat_map-append (λ g. g.vars) done (g ∷ [])))
+
+  -- the groups that are left lead to all groups
+  pub groups_lead : (done rest : List Group) → model.groups ≡ done ++ rest → (es : List Edit)
+      (new : ModelValue) → LeadTo (with_groups model model.groups) es new
+      → LeadTo (with_groups model done) (map group_edit rest ++ es) new
+  groups_lead done [] whole es new next =
+      subst (λ gs. LeadTo (with_groups model gs) es new) (whole ∙ append-nil done) next
+  groups_lead done (g ∷ rest) whole es new next =
+      lead_on (with_groups model done) (with_groups model (done ++ g ∷ [])) new (group_edit g)
+      (map group_edit rest ++ es) (group_passes done g rest whole)
+      (group_added done g rest whole)
+      (groups_lead (done ++ g ∷ []) rest (whole ∙ sym (append_assoc done (g ∷ []) rest)) es new
+      next)

@@ -1,0 +1,135 @@
+-- A model with each number replaced by its position.
+use Rattle.std.specs.Prelude.{◌≡◌, ℕ, Bool, true, false, ◌||◌, cond, List, [], ◌∷◌, ◌++◌, All, Contains, Some, find, flat_map, length, map, unwrap_or, bytes_eq, refl}
+use Rattle.std.specs.List.{list_any}
+use Rattle.std.specs.Option.{option_map}
+use Rattle.std.proofs.Common.{ap, ap₂, subst, sym, ◌∙◌}
+use Rattle.std.proofs.lemmas.List.{map-append}
+use Rattle.std.proofs.lemmas.List.Elements.{All-head, All-tail}
+use Rattle.std.proofs.lemmas.Slice.Eq.{bytes_eq-Decides}
+use Rattle.numbered.specs.Numbered.{Rise}
+use Rattle.aff_core.specs.Address.{Address}
+use Rattle.user_model.specs.declared.group.Group.{Group}
+use Rattle.user_model.specs.declared.group.GroupVar.{GroupVar}
+use Rattle.user_model.specs.Consistent.{IsConsistent, variable_number}
+use Rattle.user_model.specs.Model.{ModelValue, address_named, variable_address, variable_named, variables}
+use Rattle.user_model.specs.SameUpToNumbers.{address_by_position, group_by_position, groups_by_position, objective_by_position, position, rows_by_position, variable_by_position, variable_numbers}
+use Rattle.model_laws.specs.Found.{found_passes, found_stands, is_some-find, one_passes, something}
+use Rattle.mof_write.specs.Written.{naming}
+use Rattle.mof_laws.specs.VariableLaws.{HasVariableAt, one_variable}
+use Rattle.mof_round_trip.specs.Positions.{placed_again}
+
+-- the model with each number replaced by its position
+abbrev pub renumbered : ModelValue → ModelValue
+renumbered model = record {
+  groups = groups_by_position model;
+  rows = rows_by_position model;
+  objective = objective_by_position (variable_numbers model) model.objective;
+  next = record {
+    group = length model.groups;
+    variable = length (variables model);
+    row = length model.rows;
+  };
+}
+
+-- what is found among items that are made of others
+pub find_made : {X Y : Type 0} (f : X → Y) (test : Y → Bool) (xs : List X)
+    → find test (map f xs) ≡ option_map f (find (λ x. test (f x)) xs)
+find_made f test [] = refl
+find_made f test (x ∷ xs) =
+    elim (test (f x)) as (λ b. cond b (Some (f x)) (find test (map f xs))
+    ≡ option_map f (cond b (Some x) (find (λ x. test (f x)) xs)))
+    [ true ↦ refl | false ↦ find_made f test xs ]
+
+-- what passes among items that are made of others
+pub any_made : {X Y : Type 0} (f : X → Y) (test : Y → Bool) (xs : List X)
+    → list_any test (map f xs) ≡ list_any (λ x. test (f x)) xs
+any_made f test [] = refl
+any_made f test (x ∷ xs) = ap (λ b. test (f x) || b) (any_made f test xs)
+
+-- items that a second making leaves as the first made them
+pub map_again : {X : Type 0} (f h : X → X) (xs : List X) → All (λ x. h (f x) ≡ f x) xs
+    → map h (map f xs) ≡ map f xs
+map_again f h [] same = refl
+map_again f h (x ∷ xs) same =
+    ap₂ (λ y ys. y ∷ ys) (All-head (λ x. h (f x) ≡ f x) x xs same)
+    (map_again f h xs (All-tail (λ x. h (f x) ≡ f x) x xs same))
+
+module _ (model : ModelValue) where
+  abbrev pub numbers : List ℕ
+  numbers = variable_numbers model
+
+  abbrev pub made_variable : GroupVar → GroupVar
+  made_variable v = variable_by_position numbers v
+
+  -- the variables of groups that are renumbered
+  pub made_variables : (gs : List Group)
+      → flat_map (λ g. g.vars) (map (group_by_position model) gs)
+      ≡ map made_variable (flat_map (λ g. g.vars) gs)
+  made_variables [] = refl
+  made_variables (g ∷ gs) =
+      ap (λ vs. map made_variable g.vars ++ vs) (made_variables gs)
+      ∙ sym (map-append made_variable g.vars (flat_map (λ g. g.vars) gs))
+
+  -- a variable's address is replaced by that of its position
+  pub placed_address : (at : Address) (h : HasVariableAt model at)
+      → address_by_position numbers at ≡ variable_address (position numbers h.var.number)
+  placed_address at h = ap (λ a. variable_address (position numbers a.number)) (sym h.address)
+
+  -- the other model has these variables, renumbered
+  pub record HasVariables (other : ModelValue) : Type 0 where
+    pub made : variables other ≡ map made_variable (variables model)
+
+module _ (model : ModelValue) (c : IsConsistent model) where
+  -- a variable is found by its name
+  found_variable : (v : GroupVar) → Contains (variables model) v
+      → find (λ w. bytes_eq w.name v.name) (variables model) ≡ Some v
+  found_variable v there =
+      let test : GroupVar → Bool = λ w. bytes_eq w.name v.name in
+      let some = something (find test (variables model))
+      (is_some-find test (variables model)
+      ∙ one_passes test (variables model) v there ((bytes_eq-Decides v.name v.name).1 refl)) in
+      some.1 ∙ ap Some (one_variable (variables model) c.variable_names some.0 v
+      (found_stands test (variables model) some.0 some.1) there
+      ((bytes_eq-Decides some.0.name v.name).0
+      (found_passes test (variables model) some.0 some.1)))
+
+  module _ (other : ModelValue) (has : HasVariables model other) where
+    number_found : (v : GroupVar) → Contains (variables model) v
+        → variable_named other v.name ≡ Some (position (numbers model) v.number)
+    number_found v there =
+        ap (λ vs. option_map (λ w. w.number) (find (λ w. bytes_eq w.name v.name) vs)) has.made
+        ∙ ap (option_map (λ w. w.number))
+        (find_made (made_variable model) (λ w. bytes_eq w.name v.name) (variables model))
+        ∙ ap (λ o. option_map (λ w. w.number) (option_map (made_variable model) o))
+        (found_variable v there)
+
+    -- the name at an address has the position there as its number
+    pub number_of_name : (at : Address) (h : HasVariableAt model at)
+        → variable_named other (naming model at) ≡ Some (position (numbers model) h.var.number)
+    number_of_name at h = ap (variable_named other) h.name ∙ number_found h.var h.there
+
+    -- so it names the address with that number
+    pub address_of_name : (at : Address) (h : HasVariableAt model at)
+        → address_named other (naming model at) ≡ address_by_position (numbers model) at
+    address_of_name at h =
+        ap (λ o. variable_address (unwrap_or o 0)) (number_of_name at h)
+        ∙ sym (placed_address model at h)
+
+  module _ (other : ModelValue) (d : IsConsistent other) (has : HasVariables model other) where
+    -- renumbered once more, a variable stays
+    pub number_again : (v : GroupVar) → Contains (variables model) v
+        → position (variable_numbers other) (position (numbers model) v.number)
+        ≡ position (numbers model) v.number
+    number_again v there =
+        ap (λ vs. position (map variable_number vs) (position (numbers model) v.number)) has.made
+        ∙ placed_again variable_number (made_variable model) (variables model) c.variables_rise
+        (subst (Rise variable_number) has.made d.variables_rise) v there
+
+    -- and so does an address
+    pub address_again : (at : Address) (h : HasVariableAt model at)
+        → address_by_position (variable_numbers other) (address_by_position (numbers model) at)
+        ≡ address_by_position (numbers model) at
+    address_again at h =
+        ap (address_by_position (variable_numbers other)) (placed_address model at h)
+        ∙ ap variable_address (number_again h.var h.there)
+        ∙ sym (placed_address model at h)

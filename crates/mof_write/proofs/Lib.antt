@@ -1,0 +1,4 @@
+pub mod ShortTexts
+pub mod ShortModel
+mod WrittenText
+mod EachItem

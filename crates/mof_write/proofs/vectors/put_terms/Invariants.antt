@@ -1,0 +1,15 @@
+use Rattle.std.proofs.Common.{◌≡◌, ◌++◌, drop, map, take}
+use Rattle.std.specs.Prelude.{All}
+use Rattle.serde_json.specs.View.{view}
+use Rattle.mof_write.specs.Written.{naming, vector_term_data}
+use Rattle.mof_write.specs.Sayable.{TermFits}
+use Rattle.mof_write.proofs.vectors.put_terms.Given as goal
+
+abbrev pub invariant-loop-var : goal.invariant-loop-var
+invariant-loop-var l = record {
+  made : map view l.values.items
+      ++ map (vector_term_data (naming l.model.model) l.output) (drop l.var-index l.terms)
+      ≡ map view l.initial.values.items
+      ++ map (vector_term_data (naming l.model.model) l.output) l.terms;
+  fits : All TermFits (take l.var-index l.terms);
+}

@@ -1,0 +1,3 @@
+pub mod Sayable
+pub mod Values
+pub mod Written
