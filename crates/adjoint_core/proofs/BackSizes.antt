@@ -193,7 +193,8 @@ few_components (PlainObj sense var) s = omega arith
 few_components (AffineObj sense func) s = omega arith
 
 ones : (b : Body) (s : Set) → (item : Item) (low : ℕ)
-    → map (λ (row : Item). length (functions_of row.body)) (children_from item low (each_component b s))
+    → map (λ (row : Item). length (functions_of row.body))
+    (children_from item low (each_component b s))
     ≡ map (λ c. 1) (each_component b s)
 ones (Group t vars) s item low = refl
 ones (Free vars) s item low = refl
@@ -342,7 +343,8 @@ back_size family.Scalarize edge item h ys e =
     (sym (scalar_set item.body h.row) ∙ h.vectors refl)
 back_size family.DropReals edge item h ys e = length-replicate (size item) zero_ℚ
 back_size family.NormInfinity edge item h ys e = norm_infinity_size item ys _ h.valid.some e
-back_size family.NormOne edge item h ys e = norm_one_size item ys (variable {R = address_cmp} item.at) h.valid.some e
+back_size family.NormOne edge item h ys e =
+    norm_one_size item ys (variable {R = address_cmp} item.at) h.valid.some e
 back_size family.NonposVar edge item h ys e = not_here h.class
 back_size family.VectorizeVar edge item h ys e = not_here h.class
 back_size family.ZerosVar edge item h ys e = not_here h.class

@@ -129,13 +129,9 @@ module _ (states : List State) (places : AddressMap) (model : ModelValue) (answe
       (λ at k. first_same read meant (λ g. EvaluationFits one_ℚ g x × EvaluationFits zero_ℚ g d)
       (users model) at same_expressions k)
 
-  -- ---- a least value
+  -- ---- the duals of rows
 
-  module _ (x : Address → Rational) (y : Address → List Rational)
-      (sizes : HasLeafDuals (leaves_of bridging) y) where
-    abbrev rows : RowsCarried states places model answer can valid (optimal_duals bridging y) sizes
-    rows = rows_carried states places model answer can valid (optimal_duals bridging y) sizes
-
+  module _ (y : Address → List Rational) (sizes : HasLeafDuals (leaves_of bridging) y) where
     abbrev duals : List (List Rational)
     duals = map (row_dual states y) model.rows
 
@@ -145,89 +141,87 @@ module _ (states : List State) (places : AddressMap) (model : ModelValue) (answe
     abbrev Unfit : Address → Type 0
     Unfit = IsUnfitAmong states y model.rows
 
-    optimal_fits : OptimalFits model duals Fit Unfit read x → AllFits bridging (optimal x y)
-    optimal_fits h = (
-      all_same read meant (λ g. EvaluationFits one_ℚ g x) (users model) same_expressions h.0,
-      (
-        rows.only h.1.0,
+    -- ---- a least value
+
+    module _ (x : Address → Rational) where
+      abbrev rows : RowsCarried states places model answer can valid (optimal_duals bridging y)
+          sizes
+      rows = rows_carried states places model answer can valid (optimal_duals bridging y) sizes
+
+      optimal_fits : OptimalFits model duals Fit Unfit read x → AllFits bridging (optimal x y)
+      optimal_fits h = (
+        all_same read meant (λ g. EvaluationFits one_ℚ g x) (users model) same_expressions h.0,
         (
-          subst (λ l. All (DualFits model l) (users model)) rows.same h.1.1.0,
-          subst (ObjectiveFits model one_ℚ) (same_point x) h.1.1.1,
+          rows.only h.1.0,
+          (
+            subst (λ l. All (DualFits model l) (users model)) rows.same h.1.1.0,
+            subst (ObjectiveFits model one_ℚ) (same_point x) h.1.1.1,
+          ),
         ),
-      ),
-    )
+      )
 
-    optimal_is : (c : Certificate)
-        → c ≡ Optimal (objective_value model (point model read x)) (point model read x) duals
-        (reduced model duals)
-        → c ≡ certificate_of bridging (optimal x y)
-    optimal_is c is =
-        is
-        ∙ ap₂ (λ p l. Optimal (objective_value model p) p l (reduced model l)) (same_point x)
-        rows.same
+      optimal_is : (c : Certificate)
+          → c ≡ Optimal (objective_value model (point model read x)) (point model read x) duals
+          (reduced model duals)
+          → c ≡ certificate_of bridging (optimal x y)
+      optimal_is c is =
+          is
+          ∙ ap₂ (λ p l. Optimal (objective_value model p) p l (reduced model l)) (same_point x)
+          rows.same
 
-    optimal_unfit : (at : Address) → IsUnfitOptimal model duals Fit Unfit read x at
-        → IsFirstUnfit bridging (optimal x y) at
-    optimal_unfit at (inl h) =
-        inl (first_same read meant (λ g. EvaluationFits one_ℚ g x) (users model) at
-        same_expressions h)
-    optimal_unfit at (inr (v, inl h)) =
-        inr (
-          all_same read meant (λ g. EvaluationFits one_ℚ g x) (users model) same_expressions v,
-          inl (rows.unfit at h),
-        )
-    optimal_unfit at (inr (v, inr (f, inl h))) =
-        inr (
-          all_same read meant (λ g. EvaluationFits one_ℚ g x) (users model) same_expressions v,
+      optimal_unfit : (at : Address) → IsUnfitOptimal model duals Fit Unfit read x at
+          → IsFirstUnfit bridging (optimal x y) at
+      optimal_unfit at (inl h) =
+          inl (first_same read meant (λ g. EvaluationFits one_ℚ g x) (users model) at
+          same_expressions h)
+      optimal_unfit at (inr (v, inl h)) =
           inr (
-            rows.only f,
-            inl (subst (λ l. FirstNot (DualFits model l) (λ v. v) (users model) at)
-                rows.same h),
-          ),
-        )
-    optimal_unfit at (inr (v, inr (f, inr (q, h)))) =
-        inr (
-          all_same read meant (λ g. EvaluationFits one_ℚ g x) (users model) same_expressions v,
+            all_same read meant (λ g. EvaluationFits one_ℚ g x) (users model) same_expressions v,
+            inl (rows.unfit at h),
+          )
+      optimal_unfit at (inr (v, inr (f, inl h))) =
           inr (
-            rows.only f,
+            all_same read meant (λ g. EvaluationFits one_ℚ g x) (users model) same_expressions v,
             inr (
-              subst (λ l. All (DualFits model l) (users model)) rows.same q,
-              ((λ o. h.0 (subst (ObjectiveFits model one_ℚ) (sym (same_point x)) o)), h.1),
+              rows.only f,
+              inl (subst (λ l. FirstNot (DualFits model l) (λ v. v) (users model) at)
+                  rows.same h),
             ),
-          ),
-        )
+          )
+      optimal_unfit at (inr (v, inr (f, inr (q, h)))) =
+          inr (
+            all_same read meant (λ g. EvaluationFits one_ℚ g x) (users model) same_expressions v,
+            inr (
+              rows.only f,
+              inr (
+                subst (λ l. All (DualFits model l) (users model)) rows.same q,
+                ((λ o. h.0 (subst (ObjectiveFits model one_ℚ) (sym (same_point x)) o)), h.1),
+              ),
+            ),
+          )
 
-    pub optimal_told : (r : Result Certificate BackFault)
-        → Tells r (OptimalFits model duals Fit Unfit read x)
-        (λ c. c ≡ Optimal (objective_value model (point model read x)) (point model read x) duals
-        (reduced model duals))
-        (IsUnfitOptimal model duals Fit Unfit read x)
-        → CarriesBack bridging (optimal x y) r
-    optimal_told r h =
-        told_alike r (OptimalFits model duals Fit Unfit read x) (AllFits bridging (optimal x y))
-        (λ c. c ≡ Optimal (objective_value model (point model read x)) (point model read x) duals
-        (reduced model duals))
-        (λ c. c ≡ certificate_of bridging (optimal x y))
-        (IsUnfitOptimal model duals Fit Unfit read x) (IsFirstUnfit bridging (optimal x y)) h
-        optimal_fits optimal_is optimal_unfit
+      pub optimal_told : (r : Result Certificate BackFault)
+          → Tells r (OptimalFits model duals Fit Unfit read x)
+          (λ c. c ≡ Optimal (objective_value model (point model read x)) (point model read x) duals
+          (reduced model duals))
+          (IsUnfitOptimal model duals Fit Unfit read x)
+          → CarriesBack bridging (optimal x y) r
+      optimal_told r h =
+          told_alike r (OptimalFits model duals Fit Unfit read x) (AllFits bridging (optimal x y))
+          (λ c. c ≡ Optimal (objective_value model (point model read x)) (point model read x) duals
+          (reduced model duals))
+          (λ c. c ≡ certificate_of bridging (optimal x y))
+          (IsUnfitOptimal model duals Fit Unfit read x) (IsFirstUnfit bridging (optimal x y)) h
+          optimal_fits optimal_is optimal_unfit
 
-  -- ---- no feasible point
+    -- ---- no feasible point
 
-  module _ (y : Address → List Rational) (sizes : HasLeafDuals (leaves_of bridging) y) where
     abbrev none_rows : RowsCarried states places model answer can valid
         (infeasible_duals bridging y) sizes
-    none_rows = rows_carried states places model answer can valid (infeasible_duals bridging y) sizes
+    none_rows =
+        rows_carried states places model answer can valid (infeasible_duals bridging y) sizes
 
-    abbrev none_duals : List (List Rational)
-    none_duals = map (row_dual states y) model.rows
-
-    abbrev NoneFit : Type 0
-    NoneFit = All (RowDualFits states y) model.rows
-
-    abbrev NoneUnfit : Address → Type 0
-    NoneUnfit = IsUnfitAmong states y model.rows
-
-    infeasible_fits : InfeasibleFits model none_duals NoneFit NoneUnfit
+    infeasible_fits : InfeasibleFits model duals Fit Unfit
         → AllFits bridging (infeasible y)
     infeasible_fits h = (
       none_rows.only h.0,
@@ -238,21 +232,22 @@ module _ (states : List State) (places : AddressMap) (model : ModelValue) (answe
     )
 
     infeasible_is : (c : Certificate)
-        → c ≡ Infeasible (dual_gap model none_duals (cancelled model none_duals)) none_duals
-        (cancelled model none_duals)
+        → c ≡ Infeasible (dual_gap model duals (cancelled model duals)) duals
+        (cancelled model duals)
         → c ≡ certificate_of bridging (infeasible y)
     infeasible_is c is =
         is
         ∙ ap (λ l. Infeasible (dual_gap model l (cancelled model l)) l (cancelled model l))
         none_rows.same
 
-    infeasible_unfit : (at : Address) → IsUnfitInfeasible model none_duals NoneFit NoneUnfit at
+    infeasible_unfit : (at : Address) → IsUnfitInfeasible model duals Fit Unfit at
         → IsFirstUnfit bridging (infeasible y) at
     infeasible_unfit at (inl h) = inl (none_rows.unfit at h)
     infeasible_unfit at (inr (f, inl h)) =
         inr (
           none_rows.only f,
-          inl (subst (λ l. FirstNot (AdjointFits model l) (λ v. v) (users model) at) none_rows.same h),
+          inl (subst (λ l. FirstNot (AdjointFits model l) (λ v. v) (users model) at)
+              none_rows.same h),
         )
     infeasible_unfit at (inr (f, inr (q, h))) =
         inr (
@@ -264,18 +259,18 @@ module _ (states : List State) (places : AddressMap) (model : ModelValue) (answe
         )
 
     pub infeasible_told : (r : Result Certificate BackFault)
-        → Tells r (InfeasibleFits model none_duals NoneFit NoneUnfit)
-        (λ c. c ≡ Infeasible (dual_gap model none_duals (cancelled model none_duals)) none_duals
-        (cancelled model none_duals))
-        (IsUnfitInfeasible model none_duals NoneFit NoneUnfit)
+        → Tells r (InfeasibleFits model duals Fit Unfit)
+        (λ c. c ≡ Infeasible (dual_gap model duals (cancelled model duals)) duals
+        (cancelled model duals))
+        (IsUnfitInfeasible model duals Fit Unfit)
         → CarriesBack bridging (infeasible y) r
     infeasible_told r h =
-        told_alike r (InfeasibleFits model none_duals NoneFit NoneUnfit)
+        told_alike r (InfeasibleFits model duals Fit Unfit)
         (AllFits bridging (infeasible y))
-        (λ c. c ≡ Infeasible (dual_gap model none_duals (cancelled model none_duals)) none_duals
-        (cancelled model none_duals))
+        (λ c. c ≡ Infeasible (dual_gap model duals (cancelled model duals)) duals
+        (cancelled model duals))
         (λ c. c ≡ certificate_of bridging (infeasible y))
-        (IsUnfitInfeasible model none_duals NoneFit NoneUnfit)
+        (IsUnfitInfeasible model duals Fit Unfit)
         (IsFirstUnfit bridging (infeasible y)) h
         infeasible_fits infeasible_is infeasible_unfit
 

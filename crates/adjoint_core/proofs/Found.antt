@@ -97,7 +97,8 @@ KeepsIts nodes box = box.kept ≡ kept_among nodes box.family
 
 found_by : (nodes : List KeptItem) (box : State) (v : Address) → KeepsIts nodes box
     → found box v
-    ≡ find address_cmp v (map entry_of (filter (λ n. family_eq (family_of n.edge) box.family) nodes))
+    ≡ find address_cmp v
+    (map entry_of (filter (λ n. family_eq (family_of n.edge) box.family) nodes))
 unfolding kept_among
 found_by nodes box v h =
     ap (λ m. finite.get m v) h

@@ -47,7 +47,8 @@ use Rattle.adjoint_core.proofs.Walks.{IsFreeRow, Known, RowsWalk, walk_rows}
 
 -- ---- lists
 
-pub all_in : {X : Type 0} (P : X → Type 0) (xs : List X) → ((x : X) → Contains xs x → P x) → All P xs
+pub all_in : {X : Type 0} (P : X → Type 0) (xs : List X) → ((x : X) → Contains xs x → P x)
+    → All P xs
 all_in P [] h = All-nil P
 all_in P (x ∷ xs) h =
     All-cons P x xs (h x (0, omega arith, refl))
@@ -74,7 +75,8 @@ ats_are : (rows : List Row) → map (λ (c : Item). c.at) (map row_item rows) �
 ats_are [] = refl
 ats_are (r ∷ rows) = ap (λ l. row_place r ∷ l) (ats_are rows)
 
-no_objectives : (rows : List Row) → All (λ (c : Item). is_objective c.body ≡ false) (map row_item rows)
+no_objectives : (rows : List Row)
+    → All (λ (c : Item). is_objective c.body ≡ false) (map row_item rows)
 no_objectives [] = All-nil (λ (c : Item). is_objective c.body ≡ false)
 no_objectives (r ∷ rows) =
     All-cons (λ (c : Item). is_objective c.body ≡ false) (row_item r) (map row_item rows)
@@ -188,7 +190,8 @@ module _ (states : List State) (places : AddressMap) (model : ModelValue) (answe
   module _ (d : LeafDuals) (sizes : HasLeafDuals (leaves_of bridging) d.duals) where
     abbrev KnownHere : ℕ × Item → Type 0
     KnownHere =
-        Known can.setting can.costly bridging.choice bridging.chosen can.lawful states can.families d
+        Known can.setting can.costly bridging.choice bridging.chosen can.lawful states
+        can.families d
 
     abbrev FreeHere : Address × Body → Type 0
     FreeHere =

@@ -1,39 +1,23 @@
 -- What is asked where an answer is carried back: boxes and a map of addresses hold the fresh
 -- bridging of the user's model, and the answer has a dual for each component of each leaf row.
-use Rattle.std.specs.Prelude.{◌≡◌, List, All, length, map}
+use Rattle.std.specs.Prelude.{◌≡◌, List, All, length}
 use Rattle.std.specs.FinMap as finite
-use Rattle.std.specs.FinMap.{FinMap}
 use Rattle.address_map.specs.AddressMap.{AddressMap}
-use Rattle.aff_core.specs.Address.{Address, address_cmp}
-use Rattle.aff_core.specs.Function.{Function}
-use Rattle.boxes.specs.Boxed.{families_of, kept_among}
-use Rattle.bridge_face.specs.Law.{expressed}
-use Rattle.bridge_face.specs.State.{Kept, State}
+use Rattle.aff_core.specs.Address.{Address}
+use Rattle.boxes.specs.Boxed.{families_of}
+use Rattle.boxes.specs.Nodes.{nodes_by}
+use Rattle.bridge_face.specs.State.{State}
 use Rattle.bridge_graph.specs.Hypergraph.{IsCostly}
-use Rattle.bridge_plan.specs.Adds.{kept_of}
 use Rattle.equality_form.specs.ReadBack.{Answer, infeasible, optimal, unbounded}
-use Rattle.expansion.specs.Read.{model_nodes}
 use Rattle.fresh_bridging.specs.CanLaws.{AreLawful}
-use Rattle.fresh_bridging.specs.FreshBridging.{FreshBridging, expression_of, leaves_of}
+use Rattle.fresh_bridging.specs.FreshBridging.{FreshBridging, leaves_of}
 use Rattle.fresh_bridging.specs.TheRules.{Setting, graph_of}
-use Rattle.item_core.specs.declared.family.Family.{Family}
 use Rattle.item_core.specs.Item.{functions_of}
 use Rattle.leaf_model.specs.LeafModel.{LeafModel}
-use Rattle.model_bridging.specs.Planned.{variables_of_the_model}
+use Rattle.model_bridging.specs.Expressions.{expressions_by}
 use Rattle.ratio_core.specs.Rational.{Rational}
 use Rattle.tree_laws.specs.LeafLaws.{SupportsNativeKinds}
 use Rattle.user_model.specs.Model.{ModelValue}
-
-module _ {setting : Setting} {model : ModelValue} (bridging : FreshBridging setting model) where
-  -- the nodes of a family, as its box keeps them
-  abbrev pub nodes_by : Family → Kept
-  nodes_by family = kept_among (map kept_of (model_nodes bridging.made)) family
-
-  -- the expression of each of the user's variables, as a function
-  abbrev pub expressions_by : FinMap address_cmp Function
-  expressions_by =
-      finite.from_entries (map (λ v. (v, expressed (expression_of bridging v)))
-      (variables_of_the_model model))
 
 -- a dual for each component of each row
 abbrev pub HasLeafDuals : LeafModel → (Address → List Rational) → Type 0

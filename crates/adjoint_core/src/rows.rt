@@ -97,7 +97,8 @@ struct Keeper<'a, B: Bridge> {
 // The bridge that keeps an item at an address.
 fn find_keeper<'a, B: Bridge>(bridges: &'a [B], at: &Address) -> Option<Keeper<'a, B>>
     ensures { MatchOption result (IsNone (kept_at (map B.state bridges.now) at.now))
-        (λ keeper. (kept_at (map B.state bridges.now) at.now ≡ found (B.state keeper.bridge.now) at.now)
+        (λ keeper. (kept_at (map B.state bridges.now) at.now
+        ≡ found (B.state keeper.bridge.now) at.now)
         × (option_map (λ kept. child_rows_of kept.edge kept.item)
         (found (B.state keeper.bridge.now) at.now) ≡ Some keeper.rows)) }
 {

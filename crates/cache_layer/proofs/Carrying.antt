@@ -14,12 +14,12 @@ use Rattle.adjoint_core.specs.declared.fault.BackFault.TheVariants as back
 use Rattle.address_map.specs.AddressMap.{AddressMap}
 use Rattle.aff_core.specs.Address.{Address, address_eq, address_eq-Decides}
 use Rattle.boxes.specs.Boxed.{families_of, means_of}
+use Rattle.boxes.specs.Nodes.{nodes_by}
 use Rattle.bridge_face.specs.State.{State}
 use Rattle.bridge_plan.specs.Means.{AreSound}
 use Rattle.bridged_report.specs.Places.{place_at}
 use Rattle.cache_layer.proofs.PlaceLemmas.{IsTold, groups_told, objective_told, rows_told}
 use Rattle.cache_layer.specs.Optimizing.{CanTell}
-use Rattle.cache_layer.specs.ReadableLaws.{supported}
 use Rattle.cert_core.specs.Folds.{gap_parts_of}
 use Rattle.certificates.specs.Good.{Good}
 use Rattle.certificates.specs.Points.{address_of}
@@ -36,7 +36,8 @@ use Rattle.fresh_bridging.specs.ModelImage.{objective_items, row_item}
 use Rattle.fresh_bridging.specs.TheRules.{Setting}
 use Rattle.item_core.specs.declared.item.Item.{Item}
 use Rattle.lazy_bridge.specs.Native.{supports_native}
-use Rattle.lazy_bridge.specs.Owned.{IsBridgingOf, Owned, leaf_model_in, nodes_by, setting_in}
+use Rattle.lazy_bridge.specs.NativeLaws.{supported}
+use Rattle.lazy_bridge.specs.Owned.{IsBridgingOf, Owned, leaf_model_in, setting_in}
 use Rattle.leaf_model.specs.LeafModel.{LeafModel}
 use Rattle.ratio_core.specs.Folds.{sum_from}
 use Rattle.ratio_core.specs.Rational.{Rational, zero_ℚ}

@@ -1,5 +1,5 @@
 -- What an edit, another table and a solver leave, by what the bridging answers.
-use Rattle.std.specs.Prelude.{◌≡◌, ℕ, Bool, true, false, List, [], flat_map, Option, Some, None, Result, Ok, Err, IsErrAnd, refl}
+use Rattle.std.specs.Prelude.{◌≡◌, ◌≢◌, ℕ, Bool, true, false, List, [], flat_map, Option, Some, None, Result, Ok, Err, IsErrAnd, refl}
 use Rattle.std.proofs.Common.{ap, sym, subst, ◌∙◌}
 use Rattle.aff_core.specs.Address.{Address, address_cmp, address_total}
 use Rattle.boxes.specs.Boxed.{setting_by}
@@ -21,6 +21,7 @@ use Rattle.std.specs.Option.{option_map_or}
 use Rattle.model_bridging.specs.declared.fault.PushFault.{PushFault}
 use Rattle.model_bridging.specs.declared.fault.PushFault.TheVariants as push
 use Rattle.model_store.specs.Store.{Stored}
+use Rattle.report_core.specs.declared.refused.Place.{Place}
 use Rattle.user_model.specs.Edited.{edited}
 use Rattle.user_model.specs.Model.{ModelValue}
 use Rattle.user_model.specs.Refusals.{first_refusal}
@@ -31,9 +32,11 @@ use Rattle.cache_layer.specs.Cached.{Cached, IsInStep, Stands, cached, state_of}
 use Rattle.cache_layer.specs.Faults.{attach_fault, bridge_fault}
 use Rattle.cache_layer.specs.State.{Bridging, Changes, State, leaves}
 use Rattle.cache_layer.specs.declared.fault.AttachFault.{AttachFault}
+use Rattle.cache_layer.specs.declared.fault.AttachFault.TheVariants as attach
 use Rattle.cache_layer.specs.declared.fault.BridgeFault.{BridgeFault}
 use Rattle.cache_layer.specs.declared.fault.BridgeFault.TheVariants as bridge
 use Rattle.cache_layer.specs.declared.fault.EditFault.{EditFault}
+use Rattle.cache_layer.specs.declared.fault.EditFault.TheVariants as edit
 use Rattle.cache_layer.proofs.Standing.{nothing_tried, setting_tried, still_bridging}
 
 -- ---- a fault in the user's names
@@ -72,6 +75,38 @@ told_as old mid new table model (push.Overflow at) told h t =
 told_as old mid new table model push.Memory told h t =
     subst (λ f. IsBridgedInNames old table model (Err f) new) (sym t.0)
     (along old mid new table model push.Memory h t.1)
+
+-- ---- what is never told
+
+abbrev NeverAt : Result ℕ PushFault → Type 0
+NeverAt r = (at : Address) → r ≢ Err (push.Overflow at)
+
+abbrev NeverOverflows : Result ℕ BridgeFault → Type 0
+NeverOverflows r = (place : Place) → r ≢ Err (bridge.Overflow place)
+
+-- where no address is, no place is
+pub never_told : (model : ModelValue) (mid new : Owned) (fault : PushFault) (told : BridgeFault)
+    → IsToldAs model mid fault told new → NeverAt (Err fault) → NeverOverflows (Err told)
+never_told model mid new (push.Unsupported kind) told h never place e =
+    let is : told ≡ bridge.Unsupported kind = h.0 in cc
+never_told model mid new (push.Overflow at) told h never place e = absurd (never at refl)
+never_told model mid new push.Memory told h never place e =
+    let is : told ≡ bridge.Memory = h.0 in cc
+
+pub never_given : (fault : BridgeFault) (given : EditFault) (r : Result (Option ℕ) EditFault)
+    → r ≡ Err given → given ≡ bridge_fault fault → NeverOverflows (Err fault) → (place : Place)
+    → r ≢ Err (edit.Overflow place)
+never_given (bridge.Unsupported kind) given r same is never place e = cc
+never_given (bridge.Overflow at) given r same is never place e = absurd (never at refl)
+never_given bridge.Memory given r same is never place e = cc
+
+pub never_attached : (fault : BridgeFault) (r : Result ℕ AttachFault)
+    → IsErrAnd r (λ e. e ≡ attach_fault fault) → NeverOverflows (Err fault) → (place : Place)
+    → r ≢ Err (attach.Overflow place)
+never_attached fault (Ok n) h never place e = absurd h
+never_attached (bridge.Unsupported kind) (Err given) h never place e = cc
+never_attached (bridge.Overflow at) (Err given) h never place e = absurd (never at refl)
+never_attached bridge.Memory (Err given) h never place e = cc
 
 -- ---- the fresh bridging that stands
 

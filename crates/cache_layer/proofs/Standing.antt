@@ -8,16 +8,18 @@ use Rattle.address_map.specs.AddressMap.{AddressMap}
 use Rattle.aff_core.specs.Address.{Address, address_cmp}
 use Rattle.aff_core.specs.Function.{Function}
 use Rattle.boxes.specs.Boxed.{kept_by, means_of}
+use Rattle.boxes.specs.Nodes.{nodes_by}
 use Rattle.bridge_face.specs.State.{Kept, State}
 use Rattle.bridge_plan.specs.Means.{Means}
 use Rattle.fresh_bridging.specs.EachLaws.{all_from_map}
 use Rattle.fresh_bridging.specs.FreshBridging.{FreshBridging, is_made, leaves_of}
 use Rattle.fresh_bridging.specs.TheRules.{Setting}
 use Rattle.item_core.specs.declared.family.Family.{Family}
-use Rattle.lazy_bridge.specs.Owned.{HoldsNothing, IsBridgingOf, Owned, expressions_by, nodes_by, setting_in}
+use Rattle.lazy_bridge.specs.Owned.{HoldsNothing, IsBridgingOf, Owned, setting_in}
 use Rattle.lazy_bridge.specs.Pushed.{IsTried}
 use Rattle.leaf_model.specs.LeafModel.{LeafModel}
 use Rattle.leaf_model.specs.ReadThrough.{read_through}
+use Rattle.model_bridging.specs.Expressions.{expressions_by}
 use Rattle.solver_store.specs.SolverModel.{Stored, no_leaves}
 use Rattle.user_model.specs.Model.{ModelValue}
 

@@ -6,4 +6,3 @@ pub mod Bridging
 pub mod Loads
 pub mod Outcome
 pub mod Optimizing
-pub mod ReadableLaws

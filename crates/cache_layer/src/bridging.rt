@@ -1,9 +1,11 @@
 //! Bridging, with its faults in the user's names.
-ghost use Rattle.std.specs.Prelude.{IsTrue};
+ghost use Rattle.std.specs.Prelude.{◌≢◌, Err, IsTrue};
 ghost use Rattle.std.specs.List.{list_all};
 ghost use Rattle.bridge_graph.specs.Hypergraph.{is_edge_cost};
 ghost use Rattle.lazy_bridge.specs.Native.{supports_native};
 ghost use Rattle.cache_layer.specs.Bridging.{IsBridgedInNames, IsFaultOf, IsToldAs};
+ghost use Rattle.report_core.specs.declared.refused.Place.{Place};
+ghost use Rattle.small_numbers.specs.SmallNumbers.{HasSmallNumbers};
 
 use crate::fault::BridgeFault;
 use bridge_face::Bridge;
@@ -14,7 +16,9 @@ use model_store::{Undo, UserModel};
 
 /// Bridges a model where nothing is held. The answer is the number of leaves.
 pub(crate) fn fill<B: Bridge>(lazy: &mut LazyOver<B>, model: &UserModel) -> Result<u64, BridgeFault>
-    ensures { IsBridgedInNames lazy.old lazy.old.boxes.table model.now.model result lazy.new }
+    ensures bridged { IsBridgedInNames lazy.old lazy.old.boxes.table model.now.model result lazy.new }
+    ensures small { HasSmallNumbers model.now.model
+        → (place : Place) → result ≢ Err (BridgeFault.Overflow place) }
 {
     match lazy.fill(model) {
         Ok(leaves) => Ok(leaves),
@@ -29,7 +33,9 @@ pub(crate) fn push<B: Bridge>(
     model: &UserModel,
     undos: &[Undo],
 ) -> Result<u64, BridgeFault>
-    ensures { IsBridgedInNames lazy.old lazy.old.boxes.table model.now.model result lazy.new }
+    ensures bridged { IsBridgedInNames lazy.old lazy.old.boxes.table model.now.model result lazy.new }
+    ensures small { HasSmallNumbers model.now.model
+        → (place : Place) → result ≢ Err (BridgeFault.Overflow place) }
 {
     match lazy.push(model, undos) {
         Ok(changed) => Ok(changed),
@@ -45,7 +51,9 @@ pub(crate) fn set_table<B: Bridge>(
 ) -> Result<u64, BridgeFault>
     requires costs { IsTrue (list_all is_edge_cost table.cost) }
     requires native { IsTrue (supports_native table) }
-    ensures { IsBridgedInNames lazy.old table model.now.model result lazy.new }
+    ensures bridged { IsBridgedInNames lazy.old table model.now.model result lazy.new }
+    ensures small { HasSmallNumbers model.now.model
+        → (place : Place) → result ≢ Err (BridgeFault.Overflow place) }
 {
     match lazy.set_table(model, table) {
         Ok(changed) => Ok(changed),

@@ -1,5 +1,5 @@
 //! The cache.
-ghost use Rattle.std.specs.Prelude.{◌≡◌, [], IfErr, IfOk, IsTrue, false, true};
+ghost use Rattle.std.specs.Prelude.{◌≡◌, ◌≢◌, [], Err, IfErr, IfOk, IsTrue, false, true};
 ghost use Rattle.std.specs.List.{list_all};
 ghost use Rattle.bridge_graph.specs.Hypergraph.{is_edge_cost};
 ghost use Rattle.lazy_bridge.specs.Native.{supports_native};
@@ -10,10 +10,13 @@ ghost use Rattle.cache_layer.specs.Cached.{Stands, model_in, state_of};
 ghost use Rattle.cache_layer.specs.Outcome.{IsOptimized};
 ghost use Rattle.cache_layer.specs.State.{detached, with_table};
 ghost use Rattle.certificates.specs.Good.{Good};
+ghost use Rattle.report_core.specs.declared.refused.Place.{Place};
+ghost use Rattle.small_numbers.specs.SmallNumbers.{HasSmallNumbers};
+ghost use Rattle.user_model.specs.Edited.{edited};
 
 use crate::bridging::fill;
 use crate::edits::{edit_alone, edit_bridged, table_bridged};
-use crate::loading::make_all;
+use crate::loading::load_all;
 use crate::optimize::optimize;
 use crate::{AttachFault, Certificate, EditFault, NotAttached, OptFault};
 use bridge_face::Bridge;
@@ -67,10 +70,13 @@ impl<B: Bridge> CacheOver<B> {
     }
 
     /// Makes an edit. While a solver is attached, the answer is the number of addresses at which
-    /// its model changes.
+    /// its model changes. Where each number of the edited model is whole and at most 2^40 in size,
+    /// it is never `Overflow`, whatever the table.
     pub fn edit(&mut self, edit: Edit) -> Result<Option<u64>, EditFault>
         ensures answer { IsEdited (state_of self.old) edit result (state_of self.new) }
         ensures untouched { UnlessRefused result self.old self.new }
+        ensures small { HasSmallNumbers (edited (model_in self.old) edit)
+            → (place : Place) → result ≢ Err (EditFault.Overflow place) }
     {
         if !self.attached {
             edit_alone(&mut self.user, edit)?;
@@ -87,8 +93,9 @@ impl<B: Bridge> CacheOver<B> {
         requires { self.old.attached ≡ false }
         ensures answer { IsLoaded (state_of self.old) edits.items result (state_of self.new) }
         ensures lazy { self.new.lazy ≡ self.old.lazy }
+        ensures untouched { UnlessRefused result self.old self.new }
     {
-        make_all(&mut self.user, edits)?;
+        load_all(&mut self.user, edits)?;
         Ok(())
     }
 
@@ -100,6 +107,8 @@ impl<B: Bridge> CacheOver<B> {
         ensures answer { Becomes (state_of self.old) (with_table (state_of self.old) table) result
             (state_of self.new) }
         ensures untouched { UnlessRefused result self.old self.new }
+        ensures small { HasSmallNumbers (model_in self.old)
+            → (place : Place) → result ≢ Err (EditFault.Overflow place) }
     {
         if !self.attached {
             self.lazy.preset(table);
@@ -114,6 +123,8 @@ impl<B: Bridge> CacheOver<B> {
     pub fn attach(&mut self) -> Result<u64, AttachFault>
         ensures answer { IsAttached (state_of self.old) result (state_of self.new) }
         ensures untouched { UnlessAttached result self.old self.new }
+        ensures small { HasSmallNumbers (model_in self.old)
+            → (place : Place) → result ≢ Err (AttachFault.Overflow place) }
     {
         if self.attached {
             return Err(AttachFault::AlreadyAttached);

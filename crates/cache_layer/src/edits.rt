@@ -1,5 +1,5 @@
 //! An edit of the user's model, or another table, alone or with the bridging.
-ghost use Rattle.std.specs.Prelude.{◌≡◌, [], IsTrue, true};
+ghost use Rattle.std.specs.Prelude.{◌≡◌, ◌≢◌, [], Err, IsTrue, true};
 ghost use Rattle.std.specs.List.{list_all};
 ghost use Rattle.bridge_graph.specs.Hypergraph.{is_edge_cost};
 ghost use Rattle.lazy_bridge.specs.Native.{supports_native};
@@ -9,6 +9,9 @@ ghost use Rattle.cache_layer.specs.Answers.{Becomes, IsEdited, UnlessRefused};
 ghost use Rattle.cache_layer.specs.Bridging.{state_by, stays};
 ghost use Rattle.cache_layer.specs.Cached.{IsInStep, cached, state_of};
 ghost use Rattle.cache_layer.specs.Loads.{IsLastStep, IsMadeBy};
+ghost use Rattle.report_core.specs.declared.refused.Place.{Place};
+ghost use Rattle.small_numbers.specs.SmallNumbers.{HasSmallNumbers};
+ghost use Rattle.user_model.specs.Edited.{edited};
 
 use crate::EditFault;
 use crate::bridging::{push, set_table};
@@ -51,6 +54,8 @@ pub(crate) fn edit_bridged<B: Bridge>(
     ensures untouched { UnlessRefused result (cached model.old lazy.old true)
         (cached model.new lazy.new (stays result)) }
     ensures in_step { IsInStep (cached model.new lazy.new (stays result)) }
+    ensures small { HasSmallNumbers (edited model.old.model edit)
+        → (place : Place) → result ≢ Err (EditFault.Overflow place) }
 {
     let undo = match model.apply(edit) {
         Ok(undo) => undo,
@@ -88,6 +93,8 @@ pub(crate) fn table_bridged<B: Bridge>(
     ensures untouched { UnlessRefused result (cached model.now lazy.old true)
         (cached model.now lazy.new (stays result)) }
     ensures in_step { IsInStep (cached model.now lazy.new (stays result)) }
+    ensures small { HasSmallNumbers model.now.model
+        → (place : Place) → result ≢ Err (EditFault.Overflow place) }
 {
     match set_table(lazy, model, table) {
         Ok(changed) => Ok(Some(changed)),

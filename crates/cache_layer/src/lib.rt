@@ -13,4 +13,5 @@ mod solving;
 pub use cache::{Cache, CacheOver};
 pub use cert_core::Certificate;
 pub use fault::{AttachFault, EditFault, NotAttached, OptFault};
+pub use loading::load_all;
 pub use report_core::Place;

@@ -3,7 +3,6 @@ mod Empty
 mod Nodes
 mod Puttable
 mod Standing
-mod NativeTables
 mod Expressions
 mod Putting
 mod Pushing

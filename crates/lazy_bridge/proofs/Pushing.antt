@@ -1,8 +1,10 @@
 -- What a call answers that bridges a model, by the plan's answer.
-use Rattle.std.specs.Prelude.{◌≡◌, ℕ, true, List, All, Ok, Err, Some, refl}
+use Rattle.std.specs.Prelude.{◌≡◌, ◌≢◌, ℕ, true, List, All, Result, Ok, Err, Some, refl}
 use Rattle.std.specs.FinMap as finite
 use Rattle.std.proofs.Common.{sym, ap, subst, ◌∙◌}
+use Rattle.std.proofs.lemmas.Option.{none-some}
 use Rattle.address_map.specs.AddressMap.{AddressMap}
+use Rattle.aff_core.specs.Address.{Address}
 use Rattle.boxes.specs.Boxed.{Boxed, choice_in, families_of, kept_by, means_of, setting_by, setting_of}
 use Rattle.bridge_face.specs.State.{State}
 use Rattle.bridge_plan.specs.Means.{AreSound, Means}
@@ -12,16 +14,18 @@ use Rattle.fresh_bridging.specs.TheRules.{AreChoices, Setting, graph_of}
 use Rattle.item_core.specs.declared.family.Family.{Family}
 use Rattle.item_core.specs.declared.table.Table.{Table}
 use Rattle.lazy_bridge.specs.Native.{supports_native}
+use Rattle.lazy_bridge.specs.NativeLaws.{supported}
 use Rattle.lazy_bridge.specs.Owned.{HoldsNothing, Owned, leaf_model_in, setting_in}
 use Rattle.lazy_bridge.specs.Plans.{Holds, IsPuttable}
 use Rattle.lazy_bridge.specs.Pushed.{Counts, IsBridgedBy, IsTried}
-use Rattle.lazy_bridge.proofs.NativeTables.{supported}
 use Rattle.lazy_bridge.proofs.Puttable.{puttable}
 use Rattle.lazy_bridge.proofs.Standing.{stands}
 use Rattle.model_bridging.specs.Planned.{IsPlanOf, Planned}
 use Rattle.model_bridging.specs.declared.fault.PushFault.{PushFault}
 use Rattle.model_bridging.specs.declared.fault.PushFault.TheVariants.{Unsupported, Overflow, Memory}
 use Rattle.model_bridging.specs.declared.model_plan.ModelPlan.{ModelPlan}
+use Rattle.small_numbers.specs.ModelLaws.{small_numbers_fit}
+use Rattle.small_numbers.specs.SmallNumbers.{HasSmallNumbers}
 use Rattle.solver_store.specs.SolverModel.{Stored, no_leaves}
 use Rattle.user_model.specs.Model.{ModelValue}
 use Rattle.user_model.specs.Valid.{IsValid}
@@ -64,6 +68,18 @@ pub refused : (old new : Owned) (model : ModelValue) (fault : PushFault)
 refused old new model (Unsupported kind) other plan same = (plan, same)
 refused old new model (Overflow at) other plan same = (plan, same)
 refused old new model Memory other plan same = absurd (other refl)
+
+-- where the model's numbers are small, each fits
+pub no_overflow : (old : Owned) (model : ModelValue) (fault : PushFault) (r : Result ℕ PushFault)
+    → r ≡ Err fault → AreSound (means_of old.boxes) → IsValid model
+    → Planned (setting_in old) model (Err fault) → HasSmallNumbers model → (at : Address)
+    → r ≢ Err (Overflow at)
+no_overflow old model fault r is sound valid plan small at e =
+    let same : fault ≡ Overflow at = cc in
+    let unfit = subst (λ f. Planned (setting_in old) model (Err f)) same plan in
+    none-some at
+    (sym (small_numbers_fit (setting_in old) sound.costly sound.lawful model valid small unfit.0).unfit
+    ∙ unfit.1)
 
 -- want of memory leaves nothing
 pub emptied : (old tried new : Owned) (model : ModelValue) → IsTried old tried

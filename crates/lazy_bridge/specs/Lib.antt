@@ -3,3 +3,4 @@ pub mod Native
 pub mod NativeLaws
 pub mod Pushed
 pub mod Plans
+pub mod ReadableLaws

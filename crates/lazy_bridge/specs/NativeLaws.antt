@@ -1,10 +1,18 @@
--- The targets' tables are ones by which a solver is given what it takes.
-use Rattle.std.specs.Prelude.{◌≡◌, true, refl}
+-- What tables that support nothing but what a solver takes say, and that the targets' tables are
+-- such.
+use Rattle.std.specs.Prelude.{◌≡◌, ◌||◌, ℕ, zero, suc, Bool, true, not, List, [], ◌∷◌, Some, slice_get, refl}
+use Rattle.std.specs.List.{zip}
+use Rattle.std.proofs.lemmas.Option.{none-some, same_Some}
+use Rattle.fresh_bridging.specs.TableLaws.{at_all, kind_stands}
+use Rattle.fresh_bridging.specs.TheRules.{Setting}
+use Rattle.item_core.specs.declared.kind.Kind.{Kind}
+use Rattle.item_core.specs.declared.kind.TheConstants.{KINDS}
 use Rattle.item_core.specs.declared.table.Target.{Target}
 use Rattle.item_core.specs.declared.table.Target.TheVariants.{Standard, Rows, Cone, All, Less}
-use Rattle.item_core.specs.Kind.{is_native}
+use Rattle.item_core.specs.Kind.{is_native, kind_number}
 use Rattle.item_core.specs.Table.{target_table}
 use Rattle.lazy_bridge.specs.Native.{supports_native}
+use Rattle.tree_laws.specs.LeafLaws.{SupportsNativeKinds, is_leaf_kind}
 
 pub targets_native : (target : Target) → supports_native (target_table target) ≡ true
 unfolding target_table is_native
@@ -13,3 +21,17 @@ targets_native Rows = refl
 targets_native Cone = refl
 targets_native All = refl
 targets_native Less = refl
+
+both_at : {A B : Type 0} (xs : List A) (ys : List B) (n : ℕ) (x : A) (y : B)
+    → slice_get xs n ≡ Some x → slice_get ys n ≡ Some y → slice_get (zip xs ys) n ≡ Some (x, y)
+both_at [] ys n x y e k = absurd (none-some x e)
+both_at (a ∷ xs) [] n x y e k = absurd (none-some y k)
+both_at (a ∷ xs) (b ∷ ys) zero x y e k = λ i. Some (same_Some a x e i, same_Some b y k i)
+both_at (a ∷ xs) (b ∷ ys) (suc n) x y e k = both_at xs ys n x y e k
+
+pub supported : (setting : Setting) → supports_native setting.table ≡ true
+    → SupportsNativeKinds setting
+supported setting h kind e =
+    at_all (λ (p : Kind × Bool). not p.1 || is_leaf_kind p.0)
+    (zip KINDS.kinds setting.table.supported) (kind_number kind) (kind, true) h
+    (both_at KINDS.kinds setting.table.supported (kind_number kind) kind true (kind_stands kind) e)

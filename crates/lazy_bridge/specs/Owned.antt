@@ -10,24 +10,19 @@
 --                                read through the map, is its leaves; each box keeps the part of its
 --                                nodes that is of the box's family; and the map has the expression
 --                                of each of the user's variables
-use Rattle.std.specs.Prelude.{◌≡◌, true, All, map, refl}
+use Rattle.std.specs.Prelude.{◌≡◌, true, All, refl}
 use Rattle.std.specs.Coded.{Coded, code_by, coded×}
 use Rattle.std.specs.FinMap as finite
-use Rattle.std.specs.FinMap.{FinMap}
 use Rattle.address_map.specs.AddressMap.{AddressMap, address_map_code}
-use Rattle.aff_core.specs.Address.{Address, address_cmp, address_code}
-use Rattle.aff_core.specs.Function.{Function}
-use Rattle.boxes.specs.Boxed.{Boxed, boxed_code, kept_among, setting_of}
-use Rattle.bridge_face.specs.Law.{expressed}
-use Rattle.bridge_face.specs.State.{Kept, State}
-use Rattle.bridge_plan.specs.Adds.{kept_of}
-use Rattle.expansion.specs.Read.{model_nodes}
-use Rattle.fresh_bridging.specs.FreshBridging.{FreshBridging, expression_of, is_made, leaves_of}
+use Rattle.aff_core.specs.Address.{Address, address_code}
+use Rattle.boxes.specs.Boxed.{Boxed, boxed_code, setting_of}
+use Rattle.boxes.specs.Nodes.{nodes_by}
+use Rattle.bridge_face.specs.State.{State}
+use Rattle.fresh_bridging.specs.FreshBridging.{FreshBridging, is_made, leaves_of}
 use Rattle.fresh_bridging.specs.TheRules.{Setting}
-use Rattle.item_core.specs.declared.family.Family.{Family}
 use Rattle.leaf_model.specs.LeafModel.{LeafModel}
 use Rattle.leaf_model.specs.ReadThrough.{read_through}
-use Rattle.model_bridging.specs.Planned.{variables_of_the_model}
+use Rattle.model_bridging.specs.Expressions.{expressions_by}
 use Rattle.solver_store.specs.SolverModel.{Stored, no_leaves, stored_code}
 use Rattle.user_model.specs.Model.{ModelValue}
 
@@ -61,17 +56,6 @@ pub record HoldsNothing (lazy : Owned) : Type 0 where
   pub rows : lazy.map.rows.indices ≡ finite.empty
   pub exprs : lazy.map.exprs ≡ finite.empty
   pub kept : All (λ (box : State). box.kept ≡ finite.empty) lazy.boxes.states
-
-module _ {setting : Setting} {model : ModelValue} (bridging : FreshBridging setting model) where
-  -- the nodes of a family, as its box keeps them
-  abbrev pub nodes_by : Family → Kept
-  nodes_by family = kept_among (map kept_of (model_nodes bridging.made)) family
-
-  -- the expression of each of the user's variables, as a function
-  abbrev pub expressions_by : FinMap address_cmp Function
-  expressions_by =
-      finite.from_entries (map (λ v. (v, expressed (expression_of bridging v)))
-      (variables_of_the_model model))
 
 -- the fresh bridging of the model, in which each number fits
 pub record IsBridgingOf (lazy : Owned) (model : ModelValue) : Type 0 where

@@ -1,8 +1,9 @@
 //! The lazy bridging of a user's model.
-ghost use Rattle.std.specs.Prelude.{◌≡◌, ◌↔◌, All, IfOk, IfSome, IsNone, IsTrue, OnErr};
+ghost use Rattle.std.specs.Prelude.{◌≡◌, ◌≢◌, ◌↔◌, All, Err, IfOk, IfSome, IsNone, IsTrue, OnErr};
 ghost use Rattle.std.specs.Prelude as prelude;
 ghost use Rattle.std.specs.FinMap as finite;
 ghost use Rattle.std.specs.List.{list_all};
+ghost use Rattle.aff_core.specs.Address.{Address};
 ghost use Rattle.boxes.specs.Boxed.{families_of, means_of, occur_once};
 ghost use Rattle.bridge_graph.specs.Hypergraph.{is_edge_cost};
 ghost use Rattle.bridge_graph.specs.Tree.{IsLeastCost, IsTreeless};
@@ -14,6 +15,7 @@ ghost use Rattle.lazy_bridge.specs.Native.{supports_native};
 ghost use Rattle.lazy_bridge.specs.Owned.{HoldsNothing, leaf_model_in, setting_in};
 ghost use Rattle.lazy_bridge.specs.Plans.{Holds, IsPuttable};
 ghost use Rattle.lazy_bridge.specs.Pushed.{Counts, IsBridgedBy};
+ghost use Rattle.small_numbers.specs.SmallNumbers.{HasSmallNumbers};
 ghost use Rattle.solver_store.specs.SolverModel.{no_leaves};
 
 use crate::change::{capped, let_all_go, objective_address, put_plan};
@@ -98,9 +100,12 @@ impl<B: Bridge> LazyOver<B> {
         }
     }
 
-    /// Bridges a model, where nothing is held. The answer is the number of leaves.
+    /// Bridges a model, where nothing is held. The answer is the number of leaves. Where each number
+    /// of the model is whole and at most 2^40 in size, it is never `Overflow`, whatever the table.
     pub fn fill(&mut self, model: &UserModel) -> Result<u64, PushFault>
-        ensures { IsBridgedBy self.old self.old.boxes.table model.now.model result self.new }
+        ensures bridged { IsBridgedBy self.old self.old.boxes.table model.now.model result self.new }
+        ensures small { HasSmallNumbers model.now.model
+            → (at : Address) → result ≢ Err (PushFault.Overflow at) }
     {
         self.bridge(model)
     }
@@ -108,7 +113,9 @@ impl<B: Bridge> LazyOver<B> {
     /// Bridges a model anew in place of the one before. The answer is the number of addresses at
     /// which the leaves differ.
     pub fn push(&mut self, after: &UserModel, _undo: &[Undo]) -> Result<u64, PushFault>
-        ensures { IsBridgedBy self.old self.old.boxes.table after.now.model result self.new }
+        ensures bridged { IsBridgedBy self.old self.old.boxes.table after.now.model result self.new }
+        ensures small { HasSmallNumbers after.now.model
+            → (at : Address) → result ≢ Err (PushFault.Overflow at) }
     {
         self.bridge(after)
     }
@@ -117,7 +124,9 @@ impl<B: Bridge> LazyOver<B> {
     pub fn set_table(&mut self, model: &UserModel, table: Table) -> Result<u64, PushFault>
         requires costs { IsTrue (list_all is_edge_cost table.cost) }
         requires native { IsTrue (supports_native table) }
-        ensures { IsBridgedBy self.old table model.now.model result self.new }
+        ensures bridged { IsBridgedBy self.old table model.now.model result self.new }
+        ensures small { HasSmallNumbers model.now.model
+            → (at : Address) → result ≢ Err (PushFault.Overflow at) }
     {
         let before = *self.table();
         self.preset(table);
@@ -146,7 +155,9 @@ impl<B: Bridge> LazyOver<B> {
 
     // Bridges a model by the table.
     fn bridge(&mut self, model: &UserModel) -> Result<u64, PushFault>
-        ensures { IsBridgedBy self.old self.old.boxes.table model.now.model result self.new }
+        ensures bridged { IsBridgedBy self.old self.old.boxes.table model.now.model result self.new }
+        ensures small { HasSmallNumbers model.now.model
+            → (at : Address) → result ≢ Err (PushFault.Overflow at) }
     {
         // what these ensure of the choices and of the model
         let _sound = self.boxes.table();

@@ -1,4 +1,5 @@
 pub mod Assembly
+pub mod Expressions
 pub mod Kinds
 pub mod Levels
 pub mod ModelHeld

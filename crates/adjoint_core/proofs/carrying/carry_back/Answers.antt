@@ -51,8 +51,8 @@ returns-in-Optimal-clause-carried g c =
     let y = duals_by places c.in-Optimal.y in
     subst (λ (a : LeafAnswer). (can : CanCarry states places m (answer_of places a))
     → CarriesBack can.bridging (answer_of places a) r) (sym c.in-Optimal.is)
-    (λ can. optimal_told states places m (optimal x y) can c.objective-valid.ensures.valid x y
-    can.duals r c.optimal.ensures)
+    (λ can. optimal_told states places m (optimal x y) can c.objective-valid.ensures.valid y
+    can.duals x r c.optimal.ensures)
 
 pub returns-in-Optimal-clause-right : goal.returns-in-Optimal-clause-right
 returns-in-Optimal-clause-right g c =
@@ -66,8 +66,8 @@ returns-in-Optimal-clause-right g c =
     → IsRight (leaves_of can.bridging) (answer_of places a) → IfOk r (Good m))
     (sym c.in-Optimal.is)
     (λ can right. good_if_ok states places m (optimal x y) can c.objective-valid.ensures.valid r
-    (optimal_told states places m (optimal x y) can c.objective-valid.ensures.valid x y
-    can.duals r c.optimal.ensures) right)
+    (optimal_told states places m (optimal x y) can c.objective-valid.ensures.valid y
+    can.duals x r c.optimal.ensures) right)
 
 pub returns-in-Infeasible-clause-carried : goal.returns-in-Infeasible-clause-carried
 returns-in-Infeasible-clause-carried g c =

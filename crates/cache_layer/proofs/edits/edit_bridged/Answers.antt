@@ -1,11 +1,14 @@
-use Rattle.cache_layer.proofs.Editing.{edit_answer, edit_bridged, step_answer}
+use Rattle.std.proofs.Common.{refl, subst, sym}
+use Rattle.std.specs.Prelude.{Err}
+use Rattle.small_numbers.specs.SmallNumbers.{HasSmallNumbers}
+use Rattle.cache_layer.proofs.Editing.{edit_answer, edit_bridged, never_given, step_answer}
 use Rattle.cache_layer.proofs.edits.edit_bridged.Goals as goal
 
 pub returns-in-Ok-push-clause-answer : goal.returns-in-Ok-push-clause-answer
 returns-in-Ok-push-clause-answer g c =
     edit_bridged c.args.model.now c.settle.new.self c.args.lazy.now c.push.new.lazy c.args.edit
     c.apply.new.self.model c.in-Ok-push.changed c.in-Ok.ensures.ok c.in-Ok.ensures.model
-    c.settle.ensures.model c.requires.stands c.in-Ok-push.ensures
+    c.settle.ensures.model c.requires.stands c.in-Ok-push.ensures.bridged
 
 pub take_back-requires : goal.take_back-requires
 take_back-requires g c =
@@ -20,7 +23,7 @@ returns-in-Err-clause-answer g c =
     (record { edit = was.edit; back = was.before; parked = was.parked }) in
     edit_answer c.args.model.now c.take_back.new.model c.args.lazy.now c.push.new.lazy c.args.edit
     c.apply.new.self.model c.in-Err.fault c.from.result c.from.ensures was.ok was.model back
-    c.in-Err.ensures
+    c.in-Err.ensures.bridged
 
 pub returns-in-Err-clause-in_step : goal.returns-in-Err-clause-in_step
 returns-in-Err-clause-in_step g c =
@@ -30,4 +33,9 @@ returns-in-Err-clause-in_step g c =
     (record { edit = was.edit; back = was.before; parked = was.parked }) in
     step_answer c.args.model.now c.take_back.new.model c.args.lazy.now c.push.new.lazy
     c.args.lazy.now.boxes.table c.apply.new.self.model c.in-Err.fault c.from.result c.from.ensures
-    back c.in-Err.ensures c.requires.stands c.requires.settled
+    back c.in-Err.ensures.bridged c.requires.stands c.requires.settled
+
+pub returns-in-Err-clause-small : goal.returns-in-Err-clause-small
+returns-in-Err-clause-small g c = λ small.
+    never_given c.in-Err.fault c.from.result (Err c.from.result) refl c.from.ensures
+    (c.in-Err.ensures.small (subst HasSmallNumbers (sym c.in-Ok.ensures.model) small))

@@ -4,7 +4,7 @@ use Rattle.cache_layer.proofs.Optimized.{is_carried, is_stopped, told_here}
 use Rattle.cache_layer.proofs.Solved.{handed_on}
 use Rattle.cache_layer.specs.Bridging.{state_by}
 use Rattle.cache_layer.specs.Outcome.{IsOptimized}
-use Rattle.cache_layer.specs.ReadableLaws.{readable_here}
+use Rattle.lazy_bridge.specs.ReadableLaws.{readable_here}
 use Rattle.cache_layer.proofs.optimize.optimize.Goals as goal
 
 pub returns-in_err-answer-clause-outcome : goal.returns-in_err-answer-clause-outcome

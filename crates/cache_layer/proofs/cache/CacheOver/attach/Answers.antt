@@ -1,19 +1,28 @@
-use Rattle.cache_layer.proofs.Editing.{attach_answer, attach_done, still_in_step}
+use Rattle.std.proofs.Common.{subst, sym}
+use Rattle.small_numbers.specs.SmallNumbers.{HasSmallNumbers}
+use Rattle.cache_layer.specs.Cached.{Cached, model_in}
+use Rattle.cache_layer.proofs.Editing.{attach_answer, attach_done, never_attached, still_in_step}
 use Rattle.cache_layer.proofs.cache.CacheOver.attach.Goals as goal
 
 pub invariant_of-self : goal.invariant_of-self
 invariant_of-self g c =
     still_in_step c.self.inside.user c.self.inside.lazy c.fill.new.lazy c.self.inside.attached
-    c.in_err-leaves.field-0.0 c.if-self.false c.self.invariant c.in_err-leaves.ensures
+    c.in_err-leaves.field-0.0 c.if-self.false c.self.invariant c.in_err-leaves.ensures.bridged
 
 pub returns-in_err-leaves-clause-answer : goal.returns-in_err-leaves-clause-answer
 returns-in_err-leaves-clause-answer g c =
     attach_answer c.args.self.now c.self.inside.user c.self.inside.lazy c.fill.new.lazy
     c.self.inside.attached c.in_err-leaves.field-0.0 c.from_residual.result c.self.view_is
-    c.if-self.false c.in_err-leaves.ensures c.from_residual.ensures.1
+    c.if-self.false c.in_err-leaves.ensures.bridged c.from_residual.ensures.1
 
 pub returns-clause-answer : goal.returns-clause-answer
 returns-clause-answer g c =
     attach_done c.args.self.now c.self.inside.user c.self.inside.lazy c.fill.new.lazy
     c.self.inside.attached c.in_ok-leaves.leaves c.self.view_is c.if-self.false c.self.invariant
-    c.in_ok-leaves.ensures
+    c.in_ok-leaves.ensures.bridged
+
+pub returns-in_err-leaves-clause-small : goal.returns-in_err-leaves-clause-small
+returns-in_err-leaves-clause-small g c = λ small.
+    never_attached c.in_err-leaves.field-0.0 c.from_residual.result c.from_residual.ensures.1
+    (c.in_err-leaves.ensures.small
+    (subst (λ (h : Cached). HasSmallNumbers (model_in h)) (sym c.self.view_is) small))

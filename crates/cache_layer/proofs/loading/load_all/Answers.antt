@@ -2,7 +2,7 @@ use Rattle.std.proofs.Common.{length, reverse, ap, sym, arith, ◌∙◌}
 use Rattle.std.specs.Vec.Iter.{into_iter_items}
 use Rattle.std.proofs.lemmas.List.{nil_from_length}
 use Rattle.cache_layer.proofs.Stepping.{all_made, kept_back, one_made, one_refused, waits}
-use Rattle.cache_layer.proofs.loading.make_all.Goals as goal
+use Rattle.cache_layer.proofs.loading.load_all.Goals as goal
 
 pub returns-in-Err : goal.returns-in-Err
 returns-in-Err c =

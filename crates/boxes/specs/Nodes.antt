@@ -1,0 +1,15 @@
+-- The nodes of a fresh bridging, as boxes keep them.
+use Rattle.std.specs.Prelude.{map}
+use Rattle.boxes.specs.Boxed.{kept_among}
+use Rattle.bridge_face.specs.State.{Kept}
+use Rattle.bridge_plan.specs.Adds.{kept_of}
+use Rattle.expansion.specs.Read.{model_nodes}
+use Rattle.fresh_bridging.specs.FreshBridging.{FreshBridging}
+use Rattle.fresh_bridging.specs.TheRules.{Setting}
+use Rattle.item_core.specs.declared.family.Family.{Family}
+use Rattle.user_model.specs.Model.{ModelValue}
+
+-- those of a family, as its box keeps them
+abbrev pub nodes_by : {setting : Setting} {model : ModelValue} → FreshBridging setting model
+    → Family → Kept
+nodes_by bridging family = kept_among (map kept_of (model_nodes bridging.made)) family
