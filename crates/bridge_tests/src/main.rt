@@ -1,11 +1,11 @@
-// Takes an item through each edge, by a list of boxes of all families: prints the item, its image,
+// Takes an item through each edge, by a list of bridges of all families: prints the item, its image,
 // what is carried back of duals, and what altering it and letting it go give. Then come a row of
 // two numbers in `Reals`, and two images that differ in whether a sum fits.
 #![tactic(auto)]
 
-mod boxes;
 mod constants;
 mod duals;
+mod edges;
 mod round;
 mod samples;
 mod shown;
@@ -13,7 +13,7 @@ mod shown;
 use anyhow::Result;
 
 fn main(rt: HostRuntime) -> Result<()> {
-    boxes::all(&rt)?;
+    edges::all(&rt)?;
     constants::reals(&rt)?;
     constants::greatest(&rt)
 }

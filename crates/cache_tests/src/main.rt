@@ -1,4 +1,4 @@
-// Runs a script on a cache with a box of each family, and prints what each line is answered.
+// Runs a script on a cache with a bridge of each family, and prints what each line is answered.
 //
 //     LINE              an edit, `target`, `on`, `off`, `attach`, `detach` or `optimize`, as in any
 //                       script; without a number 1,000 pivots are allowed
@@ -9,13 +9,13 @@
 //     # ..              a remark, which is printed
 #![tactic(auto)]
 
-mod families;
 mod session;
 mod shown;
 mod tables;
 
+use any_bridge::all_bridges;
 use anyhow::Result;
 
 fn main(rt: HostRuntime) -> Result<()> {
-    families::run(&rt)
+    session::run_script(&rt, all_bridges(rt.alloc())?)
 }

@@ -1,5 +1,5 @@
 // A cache, and edits that are kept.
-ghost use Rattle.std.specs.Prelude.{◌≡◌, All, IfOk, IsTrue, map};
+ghost use Rattle.std.specs.Prelude.{◌≡◌, All, IsTrue, map};
 ghost use Rattle.std.specs.FinMap as finite;
 ghost use Rattle.std.specs.List.{list_all};
 ghost use Rattle.boxes.specs.Boxed.{families_of, occur_once};
@@ -14,8 +14,7 @@ use anyhow::{Result, anyhow, bail};
 use bridge_face::Bridge;
 use cache_layer::{CacheOver, NotAttached};
 use item_core::{Family, Table, Target};
-use lazy_bridge::{LazyOver, add_bridge};
-use lists::Memory;
+use lazy_bridge::LazyOver;
 use model_store::UserModel;
 use report_core::Refused;
 use script_core::{Command, parse_line};
@@ -25,9 +24,11 @@ use std::mem;
 use user_model::Edit;
 
 /// Runs the script over these bridges.
-pub fn run_script<B: Bridge>(rt: &HostRuntime, bridges: Vec<B>) -> Result<()> {
+pub fn run_script<B: Bridge>(rt: &HostRuntime, bridges: Vec<B>) -> Result<()>
+    requires once { IsTrue (occur_once (families_of (map B.state bridges.items))) }
+    requires kept { All (λ s. s.kept ≡ finite.empty) (map B.state bridges.items) }
+{
     let alloc = rt.alloc();
-    let bridges = one_of_each(alloc, bridges)?;
     let mut cache = CacheOver::new(alloc, UserModel::new(alloc), nothing(alloc, bridges));
     let mut kept = Vec::new(alloc);
     for line in rt.lines(alloc) {
@@ -35,19 +36,6 @@ pub fn run_script<B: Bridge>(rt: &HostRuntime, bridges: Vec<B>) -> Result<()> {
         step(rt, &mut cache, &mut kept, line.as_str())?;
     }
     Ok(())
-}
-
-// One bridge of each family, which keeps nothing.
-fn one_of_each<B: Bridge>(alloc: Global, bridges: Vec<B>) -> Result<Vec<B>, Memory>
-    ensures once { IfOk result (λ all. IsTrue (occur_once (families_of (map B.state all.items)))) }
-    ensures kept { IfOk result (λ all. All (λ s. s.kept ≡ finite.empty) (map B.state all.items)) }
-{
-    let mut all = Vec::new(alloc);
-    for mut bridge in bridges {
-        bridge.let_all_go();
-        add_bridge(&mut all, bridge)?;
-    }
-    Ok(all)
 }
 
 // Nothing, to be bridged for a solver of the target `Standard`.

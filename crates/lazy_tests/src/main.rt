@@ -1,4 +1,4 @@
-// Bridges models by lists of boxes: of all families, of nine in reverse order, and of those alone
+// Bridges models by lists of bridges: of all families, of nine in reverse order, and of those alone
 // that reshape functions, each with the same lines. It prints what each call answers.
 //
 //     EDIT                     a line of a script, whose edit is made for good

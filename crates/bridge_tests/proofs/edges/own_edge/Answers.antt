@@ -1,6 +1,6 @@
 use Rattle.std.proofs.Common.{sym, ◌∙◌}
 use Rattle.bridge_tests.specs.RoundLaws.{own_family}
-use Rattle.bridge_tests.proofs.boxes.own_edge.Goals as goal
+use Rattle.bridge_tests.proofs.edges.own_edge.Goals as goal
 
 pub pass-requires : goal.pass-requires
 pass-requires g c = record {
