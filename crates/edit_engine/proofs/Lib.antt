@@ -1,3 +1,4 @@
+mod Asking
 mod PlanSteps
 mod Shown
 mod Steps

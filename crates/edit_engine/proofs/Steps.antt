@@ -12,7 +12,7 @@ use Rattle.fresh_bridging.specs.TheRules.{graph_of}
 use Rattle.report_core.specs.Plan.{plan_text}
 use Rattle.report_core.specs.declared.answer.Answer.{Answer}
 use Rattle.report_core.specs.declared.answer.Answer.TheVariants.{Memory, Printed, Quit, ReadFault, Refused, Silent, TooLong}
-use Rattle.edit_engine.specs.Script.{Answered, DoesLine, IsCost, IsPlan, Machine, Makes, Plans, Shows, Steps, Tells}
+use Rattle.edit_engine.specs.Script.{Answered, DoesLine, IsCost, IsPlan, Machine, Makes, Plans, Shows, Steps, Tells, with_state}
 
 -- what a call gave is told
 pub told : {A : Type 0} (text : A → Answer) (gives : A → State → Type 0) (old new : State)
@@ -43,13 +43,12 @@ answered old new line Memory h = (inr (inr (Memory, h.0)), h.1)
 -- and where memory ran out, that is answered
 pub answered_or : (old new : Machine) (line : List ℕ) (made : Result Answer NoMemory)
     (result : Answer) → result ≡ result_unwrap_or made Memory
-    → Makes (DoesLine old.state old.pivots line) old.state made new.state
-    → new.pivots ≡ old.pivots → Answered old line result new
+    → Makes (DoesLine old line) old.state made new.state → new ≡ with_state old new.state
+    → Answered old line result new
 answered_or old new line made result is h kept =
     subst (λ (a : Answer). Answered old line a new) (sym is) (by made h)
   where
-    by : (made : Result Answer NoMemory)
-        → Makes (DoesLine old.state old.pivots line) old.state made new.state
+    by : (made : Result Answer NoMemory) → Makes (DoesLine old line) old.state made new.state
         → Answered old line (result_unwrap_or made Memory) new
     by (Ok answer) h = answered old new line answer (h, kept)
     by (Err memory) h = (h, kept)

@@ -5,8 +5,9 @@ use Rattle.std.specs.Coded.{Coded, code_by, coded×, coded_ℕ}
 use Rattle.cache_layer.specs.Cached.{Cached, cached_code}
 use Rattle.cache_layer.specs.Cached as cached
 use Rattle.cache_layer.specs.Answers.{IsUntouched}
-use Rattle.cache_layer.specs.State.{with_table}
-use Rattle.edit_engine.specs.Script.{Machine}
+use Rattle.cache_layer.specs.State.{State, with_table}
+use Rattle.edit_engine.specs.Script.{Machine, machine_by}
+use Rattle.io_face.specs.Told.{Told}
 use Rattle.item_core.specs.declared.table.Table.{Table}
 use Rattle.report_core.specs.declared.answer.Answer.{Answer}
 use Rattle.report_core.specs.declared.answer.Answer.TheVariants.{Refused}
@@ -20,15 +21,17 @@ held_code =
     code_by (Cached × ℕ) (coded× cached_code coded_ℕ) (λ s. (s.cache, s.pivots))
     (λ p. record { cache = p.0; pivots = p.1 }) (λ _. refl)
 
--- the state that lines step over
-abbrev pub state_of : Held → Machine
-state_of session =
-    record { state = cached.state_of session.cache; pivots = session.pivots }
+abbrev pub state_of : Held → State
+state_of session = cached.state_of session.cache
+
+-- the machine that lines step over, beside what the shelf tells
+abbrev pub machine_of : Held → Told → Machine
+machine_of session shelf = machine_by (state_of session) session.pivots shelf
 
 -- by another table and another allowance
 abbrev pub set_up : Machine → Table → ℕ → Machine
 set_up machine table pivots =
-    record { state = with_table machine.state table; pivots = pivots }
+    record machine { state = with_table machine.state table; pivots = pivots }
 
 -- a refused line leaves all of the cache but its boxes' turns
 abbrev pub KeepsRefused : Answer → Cached → Cached → Type 0

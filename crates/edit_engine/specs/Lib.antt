@@ -1,4 +1,5 @@
 pub mod Tables
+pub mod Bare
 pub mod Script
 pub mod Lines
 pub mod LinesLaws

@@ -17,6 +17,14 @@ is_quit said = false
 unfoldable pub says_quit : List ℕ → Bool
 says_quit line = is_quit (line_said line)
 
+abbrev pub is_load : Result Command LineFault → Bool
+is_load (Ok (line.Load name)) = true
+is_load said = false
+
+-- the line asks for a file
+unfoldable pub says_load : List ℕ → Bool
+says_load line = is_load (line_said line)
+
 -- the lines up to their end, or through the first that ends the work
 abbrev pub heard : List (List ℕ) → List (List ℕ)
 heard [] = []

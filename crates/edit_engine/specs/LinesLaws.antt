@@ -1,7 +1,7 @@
 -- Lines that are answered one after another, and which of them ends the work.
-use Rattle.std.specs.Prelude.{◌≡◌, ℕ, Bool, true, false, ◌||◌, List, [], ◌∷◌, ◌++◌, Option, Result, Ok, Err, cond, refl}
+use Rattle.std.specs.Prelude.{◌≡◌, ◌⊎◌, ℕ, Bool, true, false, ◌||◌, List, [], ◌∷◌, ◌++◌, Option, Result, Ok, Err, cond, refl}
 use Rattle.std.specs.List.{list_any}
-use Rattle.std.proofs.Common.{sym, ap, ◌∙◌, subst, append_assoc, append-nil, true≢false}
+use Rattle.std.proofs.Common.{inl, inr, sym, ap, ◌∙◌, subst, append_assoc, append-nil, true≢false}
 use Rattle.std.proofs.lemmas.Bool.{cond-false, cond-true}
 use Rattle.cache_layer.specs.State.{State}
 use Rattle.cache_layer.specs.declared.fault.AttachFault.{AttachFault}
@@ -11,16 +11,25 @@ use Rattle.cache_layer.specs.declared.fault.EditFault.TheVariants as edit
 use Rattle.cache_layer.specs.declared.fault.OptFault.{OptFault}
 use Rattle.cache_layer.specs.declared.fault.OptFault.TheVariants as opt
 use Rattle.certificates.specs.declared.certificate.Certificate.{Certificate}
+use Rattle.edit_engine.specs.Bare.{is_bare}
 use Rattle.edit_engine.specs.Lines.{Answers, Prints, heard, is_quit, next, none, says_quit}
-use Rattle.edit_engine.specs.Script.{Detaches, DoesSaid, Machine, Shows, Steps, attach_answer, edit_answer, optimize_answer}
+use Rattle.edit_engine.specs.Script.{Detaches, DoesSaid, LoadsEdits, LoadsWhere, Machine, Shows, Steps, attach_answer, edit_answer, load_answer, optimize_answer}
+use Rattle.io_face.specs.Told.{MayGive}
+use Rattle.io_face.specs.declared.shelf.FetchFault.{FetchFault}
+use Rattle.io_face.specs.declared.shelf.FetchFault.TheVariants as fetch
+use Rattle.mof_fetch.specs.Fetched.{IsReadOf}
+use Rattle.mof_fetch.specs.FetchedLaws.{may_fail}
+use Rattle.mof_fetch.specs.declared.fault.FileFault.{FileFault}
+use Rattle.mof_fetch.specs.declared.fault.FileFault.TheVariants as file
 use Rattle.report_core.specs.declared.answer.Answer.{Answer}
-use Rattle.report_core.specs.declared.answer.Answer.TheVariants.{Quit, ReadFault, TooLong}
+use Rattle.report_core.specs.declared.answer.Answer.TheVariants.{Memory, Printed, Quit, ReadFault, Refused, Silent, TooLong}
 use Rattle.script_core.specs.Line.{line_said}
 use Rattle.script_core.specs.declared.command.Command.{Command}
 use Rattle.script_core.specs.declared.command.Command.TheVariants as line
 use Rattle.script_core.specs.declared.fault.LineFault.{LineFault}
 use Rattle.script_core.specs.declared.fault.LineFault.TheVariants as fault
 use Rattle.user_model.specs.Model.{ModelValue}
+use Rattle.user_model.specs.declared.edit.Edit.{Edit}
 
 or_regrouped : (a b c : Bool) → (a || (b || c)) ≡ ((a || b) || c)
 or_regrouped true b c = refl
@@ -102,6 +111,39 @@ fetches answer = false
 abbrev pub ends_or_fetches : Answer → Bool × Bool
 ends_or_fetches answer = (answers_quit answer, fetches answer)
 
+-- a line asked for a file and the shelf had this fault, which left the machine
+pub record IsStopped (m : Machine) (said : Result Command LineFault) (reason : FetchFault)
+    (new : State) : Type 0 where
+  pub name : List ℕ
+  pub said_so : said ≡ Ok (line.Load name)
+  pub gave : MayGive m.shelf name (Err reason)
+  pub kept : new ≡ m.state
+
+-- by the answer: the shelf's fault, where the answer is one
+abbrev pub StopsBy : Machine → Result Command LineFault → Answer → State → Type 0
+StopsBy m said ReadFault new = IsStopped m said fetch.Failed new
+StopsBy m said TooLong new = IsStopped m said fetch.TooLong new
+StopsBy m said answer new = Unit {0}
+
+-- whether the answer ends the work as the line says, and that none but a shelf's fault is a file's
+abbrev pub Fits : Machine → Result Command LineFault → Answer → State → Type 0
+Fits m said answer new = (answers_quit answer ≡ is_quit said) × StopsBy m said answer new
+
+-- the answer is no file's, or fits
+abbrev IsPlainly : Machine → Result Command LineFault → Answer → State → Type 0
+IsPlainly m said answer new =
+    (ends_or_fetches answer ≡ (is_quit said, false)) ⊎ Fits m said answer new
+
+fits_plainly : (m : Machine) (said : Result Command LineFault) (answer : Answer) (new : State)
+    → ends_or_fetches answer ≡ (is_quit said, false) → Fits m said answer new
+fits_plainly m said Silent new is = (ap (λ p. p.0) is, tt)
+fits_plainly m said (Printed text) new is = (ap (λ p. p.0) is, tt)
+fits_plainly m said (Refused text) new is = (ap (λ p. p.0) is, tt)
+fits_plainly m said Quit new is = (ap (λ p. p.0) is, tt)
+fits_plainly m said ReadFault new is = absurd (true≢false (ap (λ p. p.1) is))
+fits_plainly m said TooLong new is = absurd (true≢false (ap (λ p. p.1) is))
+fits_plainly m said Memory new is = (ap (λ p. p.0) is, tt)
+
 edit_plain : (made : Result (Option ℕ) EditFault)
     → ends_or_fetches (edit_answer made) ≡ (false, false)
 edit_plain (Ok count) = refl
@@ -109,6 +151,14 @@ edit_plain (Err (edit.Refused refusal)) = refl
 edit_plain (Err (edit.Unsupported kind)) = refl
 edit_plain (Err (edit.Overflow place)) = refl
 edit_plain (Err edit.Memory) = refl
+
+load_plain : (made : Result Unit EditFault)
+    → ends_or_fetches (load_answer made) ≡ (false, false)
+load_plain (Ok loaded) = refl
+load_plain (Err (edit.Refused refusal)) = refl
+load_plain (Err (edit.Unsupported kind)) = refl
+load_plain (Err (edit.Overflow place)) = refl
+load_plain (Err edit.Memory) = refl
 
 attach_plain : (made : Result ℕ AttachFault) → ends_or_fetches (attach_answer made) ≡ (false, false)
 attach_plain (Ok count) = refl
@@ -136,43 +186,92 @@ optimize_plain model (Err (opt.Overflow place)) = refl
 optimize_plain model (Err (opt.Limit pivots)) = refl
 optimize_plain model (Err opt.Memory) = refl
 
-does_what : (said : Result Command LineFault) (s : State) (pivots : ℕ) (new : State)
-    (answer : Answer) → DoesSaid s pivots said answer new
-    → ends_or_fetches answer ≡ (is_quit said, false)
-does_what (Ok line.Silent) s pivots new answer does = ap ends_or_fetches does.0
-does_what (Ok line.Quit) s pivots new answer does = ap ends_or_fetches does.0
-does_what (Ok (line.Edit e)) s pivots new answer does =
-    ap ends_or_fetches does.2 ∙ edit_plain does.0
-does_what (Ok (line.Target target)) s pivots new answer does =
-    ap ends_or_fetches does.2 ∙ edit_plain does.0
-does_what (Ok (line.Support kind value)) s pivots new answer does =
-    ap ends_or_fetches does.2 ∙ edit_plain does.0
-does_what (Ok (line.Cost edge cost)) s pivots new answer does =
-    ap ends_or_fetches does.2 ∙ edit_plain does.0
-does_what (Ok (line.Switch family value)) s pivots new answer does =
-    ap ends_or_fetches does.2 ∙ edit_plain does.0
-does_what (Ok line.Attach) s pivots new answer does =
-    ap ends_or_fetches does.2 ∙ attach_plain does.0
-does_what (Ok line.Detach) s pivots new answer does = detach_plain s.attached s new answer does
-does_what (Ok line.Bridged) s pivots new answer does = show_plain s.attached s new answer does
-does_what (Ok line.Plan) s pivots new answer does = ap ends_or_fetches does.2.0
-does_what (Ok (line.Optimize own)) s pivots new answer does =
-    ap ends_or_fetches does.2 ∙ optimize_plain s.model does.0
-does_what (Ok line.Write) s pivots new answer does = ap ends_or_fetches does.0
-does_what (Ok (line.Load name)) s pivots new answer does = ap ends_or_fetches does.0
-does_what (Err fault.BadLine) s pivots new answer does = ap ends_or_fetches does.0
-does_what (Err fault.Overflow) s pivots new answer does = ap ends_or_fetches does.0
-does_what (Err fault.Memory) s pivots new answer does = ap ends_or_fetches does.0
+-- what was read of the file, or why there is none
+load_fits : (m : Machine) (name : List ℕ) (read : Result (List Edit) FileFault) (new : State)
+    (answer : Answer) → IsReadOf m.shelf name read → LoadsEdits m.state read answer new
+    → IsPlainly m (Ok (line.Load name)) answer new
+load_fits m name (Ok edits) new answer read_so does =
+    inl (ap ends_or_fetches does.2 ∙ load_plain does.0)
+load_fits m name (Err (file.Unread number place)) new answer read_so does =
+    inl (ap ends_or_fetches does.0)
+load_fits m name (Err file.Memory) new answer read_so does =
+    inl (ap ends_or_fetches does.0)
+load_fits m name (Err file.Failed) new answer read_so does =
+    inr (subst (λ (a : Answer). Fits m (Ok (line.Load name)) a new) (sym does.0) (
+      refl,
+      record {
+        name = name;
+        said_so = refl;
+        gave = may_fail m.shelf name (Err file.Failed) fetch.Failed refl read_so;
+        kept = does.1;
+      },
+    ))
+load_fits m name (Err file.TooLong) new answer read_so does =
+    inr (subst (λ (a : Answer). Fits m (Ok (line.Load name)) a new) (sym does.0) (
+      refl,
+      record {
+        name = name;
+        said_so = refl;
+        gave = may_fail m.shelf name (Err file.TooLong) fetch.TooLong refl read_so;
+        kept = does.1;
+      },
+    ))
+
+loads_fit : (m : Machine) (name : List ℕ) (attached bare : Bool) (new : State) (answer : Answer)
+    → LoadsWhere attached bare m.shelf m.state name answer new
+    → IsPlainly m (Ok (line.Load name)) answer new
+loads_fit m name true bare new answer does = inl (ap ends_or_fetches does.0)
+loads_fit m name false false new answer does = inl (ap ends_or_fetches does.0)
+loads_fit m name false true new answer (read, read_so, does) =
+    load_fits m name read new answer read_so does
+
+does_what : (m : Machine) (said : Result Command LineFault) (new : State) (answer : Answer)
+    → DoesSaid m said answer new → IsPlainly m said answer new
+does_what m (Ok line.Silent) new answer does = inl (ap ends_or_fetches does.0)
+does_what m (Ok line.Quit) new answer does = inl (ap ends_or_fetches does.0)
+does_what m (Ok (line.Edit e)) new answer does =
+    inl (ap ends_or_fetches does.2 ∙ edit_plain does.0)
+does_what m (Ok (line.Target target)) new answer does =
+    inl (ap ends_or_fetches does.2 ∙ edit_plain does.0)
+does_what m (Ok (line.Support kind value)) new answer does =
+    inl (ap ends_or_fetches does.2 ∙ edit_plain does.0)
+does_what m (Ok (line.Cost edge cost)) new answer does =
+    inl (ap ends_or_fetches does.2 ∙ edit_plain does.0)
+does_what m (Ok (line.Switch family value)) new answer does =
+    inl (ap ends_or_fetches does.2 ∙ edit_plain does.0)
+does_what m (Ok line.Attach) new answer does =
+    inl (ap ends_or_fetches does.2 ∙ attach_plain does.0)
+does_what m (Ok line.Detach) new answer does =
+    inl (detach_plain m.state.attached m.state new answer does)
+does_what m (Ok line.Bridged) new answer does =
+    inl (show_plain m.state.attached m.state new answer does)
+does_what m (Ok line.Plan) new answer does = inl (ap ends_or_fetches does.2.0)
+does_what m (Ok (line.Optimize own)) new answer does =
+    inl (ap ends_or_fetches does.2 ∙ optimize_plain m.state.model does.0)
+does_what m (Ok line.Write) new answer does = inl (ap ends_or_fetches does.0)
+does_what m (Ok (line.Load name)) new answer does =
+    loads_fit m name m.state.attached (is_bare m.state.model) new answer does
+does_what m (Err fault.BadLine) new answer does = inl (ap ends_or_fetches does.0)
+does_what m (Err fault.Overflow) new answer does = inl (ap ends_or_fetches does.0)
+does_what m (Err fault.Memory) new answer does = inl (ap ends_or_fetches does.0)
+
+pub does_fit : (m : Machine) (said : Result Command LineFault) (new : State) (answer : Answer)
+    → DoesSaid m said answer new → Fits m said answer new
+does_fit m said new answer does = by (does_what m said new answer does)
+  where
+    by : IsPlainly m said answer new → Fits m said answer new
+    by (inl is) = fits_plainly m said answer new is
+    by (inr h) = h
 
 -- the answer says whether the line ends the work
 pub quit_is_said : (s new : Machine) (line : List ℕ) (answer : Answer) → Steps s line answer new
     → says_quit line ≡ answers_quit answer
 unfolding says_quit
 quit_is_said s new line answer steps =
-    sym (ap (λ p. p.0) (does_what (line_said line) s.state s.pivots new.state answer steps.0))
+    sym (does_fit s (line_said line) new.state answer steps.0).0
 
--- no line fetches a file yet
-pub fetches_nothing : (s new : Machine) (line : List ℕ) (answer : Answer) → Steps s line answer new
-    → fetches answer ≡ false
-fetches_nothing s new line answer steps =
-    ap (λ p. p.1) (does_what (line_said line) s.state s.pivots new.state answer steps.0)
+-- where the shelf stops the work, the line asks for a file, which the shelf may fail to give, and
+-- the machine is as it was
+pub stops_by : (s new : Machine) (line : List ℕ) (answer : Answer) → Steps s line answer new
+    → StopsBy s (line_said line) answer new.state
+stops_by s new line answer steps = (does_fit s (line_said line) new.state answer steps.0).1

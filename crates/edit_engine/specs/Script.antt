@@ -1,19 +1,21 @@
 -- The script machine: what each line answers in a state, and the state that it leaves. A state is
 -- the user's model, the table, and whether a solver is attached; what an attached solver holds is
--- the fresh bridging of the model by the table, a function of these. Beside it stands how many
--- pivots an optimise may take whose line names no number, which no line changes.
+-- the fresh bridging of the model by the table, a function of these. The machine has beside its
+-- state what no line changes: how many pivots an optimise may take whose line names no number, and
+-- what the shelf tells from which a line `load` fetches its file.
 --
---     Does state pivots command answer new    a line that says the command
---     Steps machine line answer new           a line
+--     Does machine command answer new         a line that says the command
+--     DoesLine machine line answer new        a line, by the state that it leaves
+--     Steps machine line answer new           a line, by the machine that it leaves
 --     Answered machine line answer new        a line, where memory may run out
-use Rattle.std.specs.Prelude.{◌≡◌, ℕ, Bool, true, false, List, All, IfOk, Option, Some, None, Result, Ok, Err, ◌⊎◌, length, unwrap_or}
+use Rattle.std.specs.Prelude.{◌≡◌, ℕ, Bool, true, false, List, ◌++◌, All, IfOk, Option, Some, None, Result, Ok, Err, ◌⊎◌, length, unwrap_or}
 use Rattle.std.specs.List.{zip}
 use Rattle.lists.specs.declared.memory.Memory.{Memory as NoMemory}
 use Rattle.bridge_graph.specs.Hypergraph.{Hypergraph}
 use Rattle.bridge_graph.specs.Tree.{IsLeastCost, IsTreeless}
 use Rattle.bridge_graph.specs.declared.Choice.{Choice}
 use Rattle.bridged_report.specs.Lines.{bridged_text}
-use Rattle.cache_layer.specs.Answers.{Becomes, IsAttached, IsEdited}
+use Rattle.cache_layer.specs.Answers.{Becomes, IsAttached, IsEdited, IsLoaded}
 use Rattle.cache_layer.specs.Outcome.{IsOptimized}
 use Rattle.cache_layer.specs.State.{Bridging, State, detached, leaves, with_table}
 use Rattle.cache_layer.specs.declared.fault.AttachFault.{AttachFault}
@@ -27,30 +29,44 @@ use Rattle.cert_text.specs.Text.{certificate_text}
 use Rattle.certificates.specs.Good.{Good}
 use Rattle.certificates.specs.declared.certificate.Certificate.{Certificate}
 use Rattle.fresh_bridging.specs.TheRules.{IsChoice, graph_of}
+use Rattle.io_face.specs.Told.{Told}
 use Rattle.item_core.specs.declared.kind.Kind.{Kind}
 use Rattle.item_core.specs.declared.kind.TheConstants.{KINDS}
 use Rattle.item_core.specs.declared.table.Table.{Table}
 use Rattle.item_core.specs.Kind.{kind_number}
+use Rattle.mof_fetch.specs.Fetched.{IsReadOf}
+use Rattle.mof_fetch.specs.declared.fault.FileFault.{FileFault}
+use Rattle.mof_fetch.specs.declared.fault.FileFault.TheVariants as file
+use Rattle.mof_write.specs.Written.{written}
 use Rattle.report_core.specs.Plan.{plan_text}
 use Rattle.report_core.specs.Refused.{refusal_text, refused_of}
 use Rattle.report_core.specs.Replies.{done_text}
+use Rattle.report_core.specs.Words.{newline}
 use Rattle.report_core.specs.declared.answer.Answer.{Answer}
-use Rattle.report_core.specs.declared.answer.Answer.TheVariants.{Memory, Printed, Quit, Refused, Silent}
+use Rattle.report_core.specs.declared.answer.Answer.TheVariants.{Memory, Printed, Quit, ReadFault, Refused, Silent, TooLong}
 use Rattle.report_core.specs.declared.refused.Place.TheVariants.{Line}
 use Rattle.report_core.specs.declared.refused.Refused as refusal
-use Rattle.report_core.specs.declared.refused.Refused.TheVariants.{AlreadyAttached, BadLine, Limit, NotAttached, Overflow, TooLarge, Unsupported}
+use Rattle.report_core.specs.declared.refused.Refused.TheVariants.{AlreadyAttached, BadLine, File, Limit, NotAttached, NotEmpty, Overflow, TooLarge, Unsupported}
 use Rattle.script_core.specs.declared.command.Command.{Command}
 use Rattle.script_core.specs.declared.command.Command.TheVariants as line
 use Rattle.script_core.specs.declared.fault.LineFault.{LineFault}
 use Rattle.script_core.specs.declared.fault.LineFault.TheVariants as fault
 use Rattle.script_core.specs.Line.{line_said}
 use Rattle.user_model.specs.Model.{ModelValue}
+use Rattle.user_model.specs.declared.edit.Edit.{Edit}
+use Rattle.edit_engine.specs.Bare.{is_bare}
 use Rattle.edit_engine.specs.Tables.{costing, supporting, switched, targeted}
 
--- a state, and how many pivots an optimise may take whose line names no number
 pub record Machine : Type 0 where
   pub state : State
   pub pivots : ℕ
+  pub shelf : Told
+
+abbrev pub machine_by : State → ℕ → Told → Machine
+machine_by s pivots shelf = record { state = s; pivots = pivots; shelf = shelf }
+
+abbrev pub with_state : Machine → State → Machine
+with_state machine s = record machine { state = s }
 
 -- ---- what is printed
 
@@ -83,6 +99,21 @@ optimize_answer model (Err (opt.TooLarge cells)) = refused (TooLarge cells)
 optimize_answer model (Err (opt.Overflow place)) = refused (Overflow place)
 optimize_answer model (Err (opt.Limit pivots)) = refused (Limit pivots)
 optimize_answer model (Err opt.Memory) = Memory
+
+-- a file's edits were made, or none of them
+abbrev pub load_answer : Result Unit EditFault → Answer
+load_answer (Ok loaded) = done None
+load_answer (Err (edit.Refused r)) = refused (refused_of r)
+load_answer (Err (edit.Unsupported kind)) = refused (Unsupported kind)
+load_answer (Err (edit.Overflow place)) = refused (Overflow place)
+load_answer (Err edit.Memory) = Memory
+
+-- why no edits were read of a file
+abbrev pub fault_answer : FileFault → Answer
+fault_answer file.Failed = ReadFault
+fault_answer file.TooLong = TooLong
+fault_answer (file.Unread number place) = refused (File number place)
+fault_answer file.Memory = Memory
 
 -- ---- one line
 
@@ -139,34 +170,52 @@ Optimizes s pivots =
     Tells (optimize_answer s.model)
     (λ given new. IsOptimized s pivots given × IfOk given (Good s.model) × (new ≡ s))
 
-abbrev pub Does : State → ℕ → Command → Step
-Does s pivots line.Silent = Says s Silent
-Does s pivots line.Quit = Says s Quit
-Does s pivots (line.Edit e) = Tells edit_answer (IsEdited s e)
-Does s pivots (line.Target target) = Tabled s (targeted target)
-Does s pivots (line.Support kind value) = Tabled s (supporting kind value)
-Does s pivots (line.Cost edge cost) = Tabled s (costing edge cost)
-Does s pivots (line.Switch family value) = Tabled s (switched family value)
-Does s pivots line.Attach = Tells attach_answer (IsAttached s)
-Does s pivots line.Detach = Detaches s.attached s
-Does s pivots line.Bridged = Shows s.attached s
-Does s pivots line.Plan = Plans s
-Does s pivots (line.Optimize own) = Optimizes s (unwrap_or own pivots)
-Does s pivots line.Write = Says s (refused BadLine)
-Does s pivots (line.Load name) = Says s (refused BadLine)
+-- the user's model as a file, in one line
+abbrev pub file_line : ModelValue → List ℕ
+file_line model = written model ++ newline
 
-abbrev pub DoesSaid : State → ℕ → Result Command LineFault → Step
-DoesSaid s pivots (Ok command) = Does s pivots command
-DoesSaid s pivots (Err fault.BadLine) = Says s (refused BadLine)
-DoesSaid s pivots (Err fault.Overflow) = Says s (refused (Overflow Line))
-DoesSaid s pivots (Err fault.Memory) = Says s Memory
+-- the edits of a file are made, or it is told why there are none
+abbrev pub LoadsEdits : State → Result (List Edit) FileFault → Step
+LoadsEdits s (Ok edits) = Tells load_answer (IsLoaded s edits)
+LoadsEdits s (Err fault) = Says s (fault_answer fault)
 
-abbrev pub DoesLine : State → ℕ → List ℕ → Step
-DoesLine s pivots line = DoesSaid s pivots (line_said line)
+-- a file is fetched only while no solver is attached and nothing stands in the model
+abbrev pub LoadsWhere : Bool → Bool → Told → State → List ℕ → Step
+LoadsWhere true bare shelf s name answer new = Says s (refused AlreadyAttached) answer new
+LoadsWhere false false shelf s name answer new = Says s (refused NotEmpty) answer new
+LoadsWhere false true shelf s name answer new =
+    (read : Result (List Edit) FileFault) × IsReadOf shelf name read × LoadsEdits s read answer new
+
+abbrev pub Loads : Told → State → List ℕ → Step
+Loads shelf s = LoadsWhere s.attached (is_bare s.model) shelf s
+
+abbrev pub Does : Machine → Command → Step
+Does m line.Silent = Says m.state Silent
+Does m line.Quit = Says m.state Quit
+Does m (line.Edit e) = Tells edit_answer (IsEdited m.state e)
+Does m (line.Target target) = Tabled m.state (targeted target)
+Does m (line.Support kind value) = Tabled m.state (supporting kind value)
+Does m (line.Cost edge cost) = Tabled m.state (costing edge cost)
+Does m (line.Switch family value) = Tabled m.state (switched family value)
+Does m line.Attach = Tells attach_answer (IsAttached m.state)
+Does m line.Detach = Detaches m.state.attached m.state
+Does m line.Bridged = Shows m.state.attached m.state
+Does m line.Plan = Plans m.state
+Does m (line.Optimize own) = Optimizes m.state (unwrap_or own m.pivots)
+Does m line.Write = Says m.state (Printed (file_line m.state.model))
+Does m (line.Load name) = Loads m.shelf m.state name
+
+abbrev pub DoesSaid : Machine → Result Command LineFault → Step
+DoesSaid m (Ok command) = Does m command
+DoesSaid m (Err fault.BadLine) = Says m.state (refused BadLine)
+DoesSaid m (Err fault.Overflow) = Says m.state (refused (Overflow Line))
+DoesSaid m (Err fault.Memory) = Says m.state Memory
+
+abbrev pub DoesLine : Machine → List ℕ → Step
+DoesLine m line = DoesSaid m (line_said line)
 
 abbrev pub Steps : Machine → List ℕ → Answer → Machine → Type 0
-Steps old line answer new =
-    DoesLine old.state old.pivots line answer new.state × (new.pivots ≡ old.pivots)
+Steps old line answer new = DoesLine old line answer new.state × (new ≡ with_state old new.state)
 
 -- ---- want of memory
 
@@ -181,5 +230,5 @@ Makes step old (Err memory) new = IsLeftBy step old new
 
 abbrev pub Answered : Machine → List ℕ → Answer → Machine → Type 0
 Answered old line Memory new =
-    IsLeftBy (DoesLine old.state old.pivots line) old.state new.state × (new.pivots ≡ old.pivots)
+    IsLeftBy (DoesLine old line) old.state new.state × (new ≡ with_state old new.state)
 Answered old line answer new = Steps old line answer new

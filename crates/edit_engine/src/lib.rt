@@ -3,11 +3,13 @@
 
 mod held;
 mod lines;
+mod loading;
 mod optimizing;
 mod plan;
 mod session;
 mod tables;
 
 pub use cache_layer::Cache;
+pub use loading::tell_fault;
 pub use report_core::Answer;
 pub use session::{Session, SessionOver};

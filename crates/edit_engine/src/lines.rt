@@ -1,5 +1,5 @@
 //! What lines do to a cache: for each a step of the script machine.
-ghost use Rattle.std.specs.Prelude.{◌≡◌, IfOk, IsTrue, OnErr, OnOk, false};
+ghost use Rattle.std.specs.Prelude.{◌≡◌, ◌≤◌, IfOk, IsTrue, Ok, OnErr, OnOk, false, true};
 ghost use Rattle.std.specs.List.{list_all};
 ghost use Rattle.bridge_graph.specs.Hypergraph.{is_edge_cost};
 ghost use Rattle.cache_layer.specs.Answers.{Becomes, IsAttached, IsEdited};
@@ -8,51 +8,75 @@ ghost use Rattle.cache_layer.specs.State.{with_table};
 ghost use Rattle.lazy_bridge.specs.Native.{supports_native};
 ghost use Rattle.report_core.specs.Refused.{HasFault};
 ghost use Rattle.edit_engine.specs.Held.{KeepsRefused};
-ghost use Rattle.edit_engine.specs.Script.{Detaches, Does, DoesLine, Makes, Plans, Shows, Tells, attach_answer, edit_answer, refused};
+ghost use Rattle.edit_engine.specs.Lines.{is_load, says_load};
+ghost use Rattle.edit_engine.specs.Script.{Detaches, Does, DoesLine, Makes, Plans, Says, Shows, Tells, attach_answer, edit_answer, file_line, machine_by, refused};
+ghost use Rattle.io_face.specs.Fault.{HasFaulted};
+ghost use Rattle.io_face.specs.Told.{told_by};
+ghost use Rattle.report_core.specs.declared.answer.Answer.TheVariants.{Printed};
 
 use crate::held::held;
+use crate::loading::load;
 use crate::optimizing::optimize;
 use crate::plan::choices_of;
 use crate::tables::{costing, supporting, switched, targeted};
 use bridge_face::Bridge;
 use cache_layer::{AttachFault, CacheOver, EditFault, NotAttached};
+use io_face::Shelf;
 use item_core::Table;
 use lists::Memory;
+use name_index::Text;
 use report_core::{Answer, Place, Refused, done, plan, refusal};
 use script_core::{Command, LineFault, parse_line};
 use std::alloc::Global;
 use user_model::Edit;
 
-// Answers a line, with an allowance of pivots for an optimise that names none.
-pub(crate) fn step<B: Bridge>(
+// Answers a line, with an allowance of pivots for an optimise that names none, and a shelf for a
+// line `load`.
+pub(crate) fn step<B: Bridge, H: Shelf>(
     alloc: Global,
     cache: &mut CacheOver<B>,
     pivots: u32,
+    shelf: &mut H,
     line: &[u8],
 ) -> Result<Answer, Memory>
-    ensures step { Makes (DoesLine (state_of cache.old) pivots line.now) (state_of cache.old) result
-        (state_of cache.new) }
+    ensures step { let old = state_of cache.old in
+        let told = told_by (H.files shelf.old) (H.sure shelf.old) in
+        Makes (DoesLine (machine_by old pivots told) line.now) old result (state_of cache.new) }
     ensures untouched { IfOk result (λ answer.
         KeepsRefused answer cache.old cache.new) }
+    ensures files { H.files shelf.new ≡ H.files shelf.old }
+    ensures sure { H.sure shelf.new ≡ H.sure shelf.old }
+    ensures count { H.faults shelf.old ≤ H.faults shelf.new }
+    ensures cause { result ≡ Ok Answer.ReadFault
+        → HasFaulted (H.faults shelf.old) (H.faults shelf.new) }
+    ensures unasked { says_load line.now ≡ false → shelf.new ≡ shelf.old }
 {
     match parse_line(alloc, line) {
-        Ok(command) => obey(alloc, cache, pivots, command),
+        Ok(command) => obey(alloc, cache, pivots, shelf, command),
         Err(LineFault::BadLine) => refuse(alloc, &Refused::BadLine),
         Err(LineFault::Overflow) => refuse(alloc, &Refused::Overflow { place: Place::Line }),
         Err(LineFault::Memory) => Err(Memory),
     }
 }
 
-fn obey<B: Bridge>(
+fn obey<B: Bridge, H: Shelf>(
     alloc: Global,
     cache: &mut CacheOver<B>,
     pivots: u32,
+    shelf: &mut H,
     command: Command,
 ) -> Result<Answer, Memory>
-    ensures step { Makes (Does (state_of cache.old) pivots command) (state_of cache.old) result
-        (state_of cache.new) }
+    ensures step { let old = state_of cache.old in
+        let told = told_by (H.files shelf.old) (H.sure shelf.old) in
+        Makes (Does (machine_by old pivots told) command) old result (state_of cache.new) }
     ensures untouched { IfOk result (λ answer.
         KeepsRefused answer cache.old cache.new) }
+    ensures files { H.files shelf.new ≡ H.files shelf.old }
+    ensures sure { H.sure shelf.new ≡ H.sure shelf.old }
+    ensures count { H.faults shelf.old ≤ H.faults shelf.new }
+    ensures cause { is_load (Ok command) ≡ true → result ≡ Ok Answer.ReadFault
+        → HasFaulted (H.faults shelf.old) (H.faults shelf.new) }
+    ensures unasked { is_load (Ok command) ≡ false → shelf.new ≡ shelf.old }
 {
     match command {
         Command::Silent => Ok(Answer::Silent),
@@ -79,7 +103,8 @@ fn obey<B: Bridge>(
         Command::Bridged => bridged(alloc, cache),
         Command::Plan => show_plan(alloc, cache),
         Command::Optimize(own) => optimize(alloc, cache, u64::from(own.unwrap_or(pivots))),
-        Command::Write | Command::Load(_) => refuse(alloc, &Refused::BadLine),
+        Command::Write => write(alloc, cache),
+        Command::Load(name) => load(alloc, cache, shelf, &name),
     }
 }
 
@@ -187,6 +212,16 @@ fn show_plan<B: Bridge>(alloc: Global, cache: &CacheOver<B>) -> Result<Answer, M
     let choices = choices_of(cache.lazy());
     let text = plan(alloc, &choices)?;
     Ok(Answer::Printed(text))
+}
+
+// The user's model as a file.
+fn write<B: Bridge>(alloc: Global, cache: &CacheOver<B>) -> Result<Answer, Memory>
+    ensures { let state = state_of cache.now in
+        Makes (Says state (Printed (file_line state.model))) state result state }
+{
+    let mut text = mof_write::write(alloc, cache.model())?.into_vec();
+    text.push(b'\n')?;
+    Ok(Answer::Printed(Text::from_vec(text)))
 }
 
 // Sets the table, where no solver is attached.

@@ -1,20 +1,24 @@
 //! The session of a script.
-ghost use Rattle.std.specs.Prelude.{◌≡◌, All, IsTrue, OnErr, OnOk, false};
+ghost use Rattle.std.specs.Prelude.{◌≡◌, ◌≤◌, All, IsTrue, OnErr, OnOk, false};
 ghost use Rattle.std.specs.Prelude as prelude;
 ghost use Rattle.std.specs.FinMap as finite;
 ghost use Rattle.boxes.specs.Boxed.{families_of, occur_once, setting_by};
 ghost use Rattle.cache_layer.specs.Cached.{Stands, model_in};
-ghost use Rattle.cache_layer.specs.State.{start};
+ghost use Rattle.cache_layer.specs.State.{start, with_table};
 ghost use Rattle.item_core.specs.Table.{target_table};
 ghost use Rattle.item_core.specs.declared.table.Target.TheVariants.{Standard};
-ghost use Rattle.edit_engine.specs.Held.{KeepsRefused, set_up, state_of};
+ghost use Rattle.edit_engine.specs.Held.{KeepsRefused, machine_of, state_of};
+ghost use Rattle.edit_engine.specs.Lines.{says_load};
 ghost use Rattle.edit_engine.specs.Script.{Answered};
+ghost use Rattle.io_face.specs.Fault.{HasFaulted};
+ghost use Rattle.io_face.specs.Told.{told_by};
 
 use crate::lines::{preset, step};
 use crate::tables::target_table;
 use address_map::AddressMap;
 use bridge_face::Bridge;
 use cache_layer::CacheOver;
+use io_face::Shelf;
 use item_core::Target;
 use lazy_bridge::LazyOver;
 use lists::Memory;
@@ -51,7 +55,7 @@ impl<B: Bridge> SessionOver<B> {
     pub fn new(alloc: Global, bridges: Vec<B>) -> SessionOver<B>
         requires once { IsTrue (occur_once (families_of (prelude.map B.state bridges.items))) }
         requires kept { All (λ s. s.kept ≡ finite.empty) (prelude.map B.state bridges.items) }
-        ensures state { (state_of result).state
+        ensures state { state_of result
             ≡ start (setting_by (target_table Standard) (prelude.map B.state bridges.items)) }
         ensures pivots { result.pivots ≡ 100000 }
     {
@@ -72,27 +76,39 @@ impl<B: Bridge> SessionOver<B> {
     /// Sets the table to a target's, and how many pivots a solve may take where its line names no
     /// number. No solver is attached.
     pub fn set_up(&mut self, target: Target, pivots: u32) -> Result<(), Memory>
-        requires detached { (state_of self.old).state.attached ≡ false }
+        requires detached { (state_of self.old).attached ≡ false }
         ensures ok { OnOk result
-            (state_of self.new ≡ set_up (state_of self.old) (target_table target) pivots) }
+            (state_of self.new ≡ with_table (state_of self.old) (target_table target)) }
         ensures allowance { OnOk result (self.new.pivots ≡ pivots) }
         ensures err { OnErr result (state_of self.new ≡ state_of self.old) }
+        ensures kept { OnErr result (self.new.pivots ≡ self.old.pivots) }
     {
         preset(&mut self.cache, target_table(target))?;
         self.pivots = pivots;
         Ok(())
     }
 
-    /// Answers a line, by one step of the script machine.
-    pub fn line(&mut self, line: &[u8]) -> Answer
-        ensures step { Answered (state_of self.old) line.now result (state_of self.new) }
+    /// Answers a line, by one step of the script machine. The shelf is asked for a file by a line
+    /// `load` alone.
+    pub fn line<H: Shelf>(&mut self, line: &[u8], shelf: &mut H) -> Answer
+        ensures step { let told = told_by (H.files shelf.old) (H.sure shelf.old) in
+            Answered (machine_of self.old told) line.now result (machine_of self.new told) }
         ensures untouched { KeepsRefused result self.old.cache self.new.cache }
         // While a solver is attached, the fresh bridging of the model stands.
         ensures stands { let cache = self.new.cache in
             Stands cache.attached cache.lazy (model_in cache) }
         ensures pivots { self.new.pivots ≡ self.old.pivots }
+
+        // What the shelf tells stays.
+        ensures files { H.files shelf.new ≡ H.files shelf.old }
+        ensures sure { H.sure shelf.new ≡ H.sure shelf.old }
+        ensures count { H.faults shelf.old ≤ H.faults shelf.new }
+        // A fault of the shelf was counted.
+        ensures cause { result ≡ Answer.ReadFault
+            → HasFaulted (H.faults shelf.old) (H.faults shelf.new) }
+        ensures unasked { says_load line.now ≡ false → shelf.new ≡ shelf.old }
     {
-        let made = step(self.alloc, &mut self.cache, self.pivots, line);
+        let made = step(self.alloc, &mut self.cache, self.pivots, shelf, line);
         // what this ensures: what stands in the cache
         let _stands = self.cache.attached();
         made.unwrap_or(Answer::Memory)

@@ -1,4 +1,4 @@
-// Answers lines by a session with a box of each family, and prints each line and its answer.
+// Answers lines by a session with a bridge of each family, and prints each line and its answer.
 //
 //     anew        an empty model, which no solver is attached to, for the target `standard`
 //     set_up T    sets the table to that of the target T
@@ -8,9 +8,9 @@
 #![tactic(auto)]
 
 mod example;
-mod families;
 mod session;
 
+use any_bridge::all_bridges;
 use anyhow::Result;
 
 fn main(rt: HostRuntime) -> Result<()> {
@@ -18,11 +18,16 @@ fn main(rt: HostRuntime) -> Result<()> {
     for line in rt.lines(rt.alloc()) {
         let line = line?;
         if line.as_str() == "anew" {
-            families::all(&rt, &lines)?;
+            answer(&rt, &lines)?;
             lines = Vec::new(rt.alloc());
         } else {
             lines.push(line)?;
         }
     }
-    families::all(&rt, &lines)
+    answer(&rt, &lines)
+}
+
+// Answers the lines by a new session.
+fn answer(rt: &HostRuntime, lines: &[String]) -> Result<()> {
+    session::run(rt, lines, all_bridges(rt.alloc())?)
 }

@@ -7,6 +7,7 @@ use crate::example::compare;
 use anyhow::{Result, bail};
 use bridge_face::Bridge;
 use edit_engine::{Answer, SessionOver};
+use io_face::{Files, Shelf};
 use script_words::read_target;
 
 /// Answers the lines by a new session with these bridges.
@@ -15,9 +16,10 @@ pub fn run<B: Bridge>(rt: &HostRuntime, lines: &[String], bridges: Vec<B>) -> Re
     requires kept { All (λ s. s.kept ≡ finite.empty) (map B.state bridges.items) }
 {
     let mut session = SessionOver::new(rt.alloc(), bridges);
+    let mut shelf = Files::new(rt);
     for line in lines {
         show_line(rt, line.as_str())?;
-        step(rt, &mut session, line.as_str())?;
+        step(rt, &mut session, &mut shelf, line.as_str())?;
     }
     Ok(())
 }
@@ -32,18 +34,23 @@ fn show_line(rt: &HostRuntime, line: &str) -> Result<()> {
     Ok(())
 }
 
-fn step<B: Bridge>(rt: &HostRuntime, session: &mut SessionOver<B>, line: &str) -> Result<()> {
+fn step<B: Bridge, H: Shelf>(
+    rt: &HostRuntime,
+    session: &mut SessionOver<B>,
+    shelf: &mut H,
+    line: &str,
+) -> Result<()> {
     if let Some(target) = line.strip_prefix("set_up ") {
         return set_up(session, target);
     }
     if let Some(name) = line.strip_prefix("example ") {
-        return compare(rt, session, name);
+        return compare(rt, session, shelf, name);
     }
     if line == "state" {
         println!(rt; "attached: {}", session.cache().attached())?;
         return Ok(());
     }
-    show(rt, &session.line(line.as_bytes()))
+    show(rt, &session.line(line.as_bytes(), shelf))
 }
 
 fn set_up<B: Bridge>(session: &mut SessionOver<B>, target: &str) -> Result<()> {
@@ -64,7 +71,9 @@ fn show(rt: &HostRuntime, answer: &Answer) -> Result<()> {
         }
         Answer::Silent => println!(rt; "silent")?,
         Answer::Quit => println!(rt; "quit")?,
-        Answer::ReadFault | Answer::TooLong | Answer::Memory => bail!("no answer"),
+        Answer::ReadFault => println!(rt; "no file")?,
+        Answer::TooLong => println!(rt; "too long a file")?,
+        Answer::Memory => bail!("no answer"),
     }
     Ok(())
 }

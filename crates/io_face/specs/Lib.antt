@@ -6,9 +6,11 @@ pub mod MemSource
 pub mod MemSink
 pub mod Adapter
 pub mod Shelf
+pub mod Told
 pub mod MemShelf
 pub mod NamedFile
 pub mod Whole
 pub mod FaultLaws
 pub mod SinkLaws
 pub mod SourceLaws
+pub mod ToldLaws

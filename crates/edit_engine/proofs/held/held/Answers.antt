@@ -1,4 +1,4 @@
-use Rattle.cache_layer.specs.ReadableLaws.{readable_here}
+use Rattle.lazy_bridge.specs.ReadableLaws.{readable_here}
 use Rattle.edit_engine.proofs.Shown.{read_here}
 use Rattle.edit_engine.proofs.held.held.Goals as goal
 

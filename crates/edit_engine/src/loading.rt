@@ -1,0 +1,107 @@
+//! What a line `load` does to a cache.
+ghost use Rattle.std.specs.Prelude.{◌≡◌, ◌≤◌, IfOk, Ok, false};
+ghost use Rattle.cache_layer.specs.Answers.{IsLoaded};
+ghost use Rattle.cache_layer.specs.Cached.{state_of};
+ghost use Rattle.edit_engine.specs.Bare as bare;
+ghost use Rattle.edit_engine.specs.Held.{KeepsRefused};
+ghost use Rattle.edit_engine.specs.Script.{Loads, Makes, Tells, fault_answer, load_answer};
+ghost use Rattle.io_face.specs.Fault.{HasFaulted};
+ghost use Rattle.io_face.specs.Told.{told_by};
+ghost use Rattle.mof_fetch.specs.Fetched.{HasNumber};
+
+use crate::lines::refuse;
+use bridge_face::Bridge;
+use cache_layer::{CacheOver, EditFault};
+use io_face::Shelf;
+use lists::Memory;
+use model_store::UserModel;
+use mof_fetch::{FileFault, fetch_edits};
+use mof_read::Edits;
+use name_index::Name;
+use report_core::{Answer, Refused, done};
+use std::alloc::Global;
+use user_model::Objective;
+
+/// Makes the edits of the file of a name, where no solver is attached and nothing stands in the
+/// model.
+pub(crate) fn load<B: Bridge, H: Shelf>(
+    alloc: Global,
+    cache: &mut CacheOver<B>,
+    shelf: &mut H,
+    name: &Name,
+) -> Result<Answer, Memory>
+    ensures step { let old = state_of cache.old in
+        Makes (Loads (told_by (H.files shelf.old) (H.sure shelf.old)) old name.now) old result
+        (state_of cache.new) }
+    ensures untouched { IfOk result (λ answer. KeepsRefused answer cache.old cache.new) }
+    ensures files { H.files shelf.new ≡ H.files shelf.old }
+    ensures sure { H.sure shelf.new ≡ H.sure shelf.old }
+    ensures count { H.faults shelf.old ≤ H.faults shelf.new }
+    ensures cause { result ≡ Ok Answer.ReadFault
+        → HasFaulted (H.faults shelf.old) (H.faults shelf.new) }
+{
+    if cache.attached() {
+        return refuse(alloc, &Refused::AlreadyAttached);
+    }
+    if !is_bare(cache.model()) {
+        return refuse(alloc, &Refused::NotEmpty);
+    }
+    match fetch_edits(alloc, shelf, name) {
+        Ok(edits) => make_all(alloc, cache, edits),
+        Err(fault) => tell_fault(alloc, fault),
+    }
+}
+
+// Whether nothing stands in a model.
+fn is_bare(model: &UserModel) -> bool
+    ensures { result ≡ bare.is_bare model.now.model }
+{
+    model.groups().is_empty() && model.rows().is_empty() && is_feasibility(model.objective())
+}
+
+fn is_feasibility(objective: &Objective) -> bool
+    ensures { result ≡ bare.is_feasibility objective.now }
+{
+    matches!(objective, Objective::Feasibility)
+}
+
+// Makes edits one after another, or none of them.
+fn make_all<B: Bridge>(
+    alloc: Global,
+    cache: &mut CacheOver<B>,
+    edits: Edits,
+) -> Result<Answer, Memory>
+    requires detached { cache.old.attached ≡ false }
+    ensures step { let old = state_of cache.old in
+        Makes (Tells load_answer (IsLoaded old edits)) old result (state_of cache.new) }
+    ensures untouched { IfOk result (λ answer. KeepsRefused answer cache.old cache.new) }
+{
+    let made = cache.load(edits.into_vec());
+    tell_loaded(alloc, made)
+}
+
+// What the edits of a file were answered.
+fn tell_loaded(alloc: Global, made: Result<(), EditFault>) -> Result<Answer, Memory>
+    ensures { IfOk result (λ answer. answer ≡ load_answer made) }
+{
+    match made {
+        Ok(()) => done(alloc, None),
+        Err(EditFault::Refused(refusal)) => refuse(alloc, &Refused::from(refusal)),
+        Err(EditFault::Unsupported { kind }) => refuse(alloc, &Refused::Unsupported { kind }),
+        Err(EditFault::Overflow { place }) => refuse(alloc, &Refused::Overflow { place }),
+        Err(EditFault::Memory) => Err(Memory),
+    }
+}
+
+/// Why no edits were read of a file, as it is answered.
+pub fn tell_fault(alloc: Global, fault: FileFault) -> Result<Answer, Memory>
+    requires { HasNumber fault }
+    ensures { IfOk result (λ answer. answer ≡ fault_answer fault) }
+{
+    match fault {
+        FileFault::Failed => Ok(Answer::ReadFault),
+        FileFault::TooLong => Ok(Answer::TooLong),
+        FileFault::Unread { number, place } => refuse(alloc, &Refused::File { number, place }),
+        FileFault::Memory => Err(Memory),
+    }
+}
