@@ -1,0 +1,4 @@
+pub mod Texts
+pub mod Options
+pub mod Files
+pub mod Words

@@ -1,0 +1,8 @@
+//! The words of a command line, without the program's name.
+#![tactic(auto)]
+
+mod files;
+mod options;
+pub mod words;
+
+pub use words::{Command, Setup, read_words};

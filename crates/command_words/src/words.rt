@@ -1,0 +1,144 @@
+//! What the words of a command say.
+ghost use Rattle.std.specs.Prelude.{◌≡◌, IfOk, IsSome, OnErr};
+ghost use Rattle.command_words.specs.Files.{files_from, files_of};
+ghost use Rattle.command_words.specs.Texts.{texts};
+ghost use Rattle.command_words.specs.Words.{command_named, command_of, with_both, with_model, without_files};
+
+use crate::files::FileWord;
+use crate::options::Options;
+use item_core::Target;
+use lists::Memory;
+use name_index::Name;
+use script_words::is;
+use std::alloc::Global;
+
+/// What the program is to do.
+#[derive(Debug, Drop)]
+pub enum Command {
+    /// Answers each line of the input.
+    Run(Setup),
+    /// Answers the one line `plan`.
+    Plan(Setup),
+    /// Loads the model of a file, attaches a solver and optimises.
+    Solve { setup: Setup, model: Name },
+    /// Says whether the certificate of a file proves what it says of a file's model.
+    Check { model: Name, certificate: Name },
+}
+
+/// What the session is told before its first line.
+#[derive(Clone, Copy, Debug, PartialEq, Eq)]
+pub struct Setup {
+    pub target: Target,
+    /// How many pivots a solve may take where its line names no number.
+    pub pivots: u32,
+}
+
+/// What the words after the program's name say; `None` exactly where they are of no command.
+/// Memory runs out only where they are of one.
+#[tactic(auto, unfolding(crate::specs::Words::command_of))]
+pub fn read_words(alloc: Global, words: &[String]) -> Result<Option<Command>, Memory>
+    ensures said { IfOk result (λ said. said ≡ command_of (texts words.now)) }
+    ensures of_one { OnErr result (IsSome (command_of (texts words.now))) }
+{
+    match words {
+        [] => Ok(None),
+        [name, words @ ..] => match Options::none().read(words) {
+            None => Ok(None),
+            Some(options) => command_for(alloc, options, name.as_bytes(), words),
+        },
+    }
+}
+
+// What the command of this name is to do, with these options and the words' files.
+#[tactic(auto, unfolding(crate::specs::Words::command_named))]
+fn command_for(
+    alloc: Global,
+    options: Options,
+    name: &[u8],
+    words: &[String],
+) -> Result<Option<Command>, Memory>
+    ensures said { IfOk result (λ said.
+        said ≡ command_named name.now options (files_of (texts words.now))) }
+    ensures of_one { OnErr result
+        (IsSome (command_named name.now options (files_of (texts words.now)))) }
+{
+    let Some(first) = FileWord::first(words) else {
+        return Ok(without_files(options, name));
+    };
+    let Some(second) = FileWord::first(first.after) else {
+        return with_model(alloc, options, name, &first);
+    };
+    if FileWord::first(second.after).is_some() {
+        return Ok(None);
+    }
+    with_both(alloc, options, name, &first, &second)
+}
+
+// `run` and `plan`.
+fn without_files(options: Options, name: &[u8]) -> Option<Command>
+    ensures { result ≡ without_files options name.now }
+{
+    if is(name, "run") {
+        Some(Command::Run(options.setup()))
+    } else if is(name, "plan") && options.pivots.is_none() {
+        Some(Command::Plan(options.setup()))
+    } else {
+        None
+    }
+}
+
+// `solve`.
+fn with_model(
+    alloc: Global,
+    options: Options,
+    name: &[u8],
+    model: &FileWord<'_>,
+) -> Result<Option<Command>, Memory>
+    ensures said { IfOk result (λ said.
+        said ≡ with_model options name.now model.now.word.now) }
+    ensures of_one { OnErr result
+        (IsSome (with_model options name.now model.now.word.now)) }
+{
+    if !is(name, "solve") || !model.is_name() {
+        return Ok(None);
+    }
+    Ok(Some(Command::Solve {
+        setup: options.setup(),
+        model: file_name(alloc, model.word)?,
+    }))
+}
+
+// `check`.
+fn with_both(
+    alloc: Global,
+    options: Options,
+    name: &[u8],
+    model: &FileWord<'_>,
+    certificate: &FileWord<'_>,
+) -> Result<Option<Command>, Memory>
+    ensures said { IfOk result (λ said. said ≡ with_both options name.now
+        model.now.word.now certificate.now.word.now) }
+    ensures of_one { OnErr result (IsSome (with_both options name.now
+        model.now.word.now certificate.now.word.now)) }
+{
+    if !is(name, "check") || options.target.is_some() || options.pivots.is_some() {
+        return Ok(None);
+    }
+    if !model.is_name() || !certificate.is_name() {
+        return Ok(None);
+    }
+    Ok(Some(Command::Check {
+        model: file_name(alloc, model.word)?,
+        certificate: file_name(alloc, certificate.word)?,
+    }))
+}
+
+// The name of a file by its word.
+fn file_name(alloc: Global, word: &str) -> Result<Name, Memory>
+    ensures { IfOk result (λ name. name ≡ word.now) }
+{
+    match Name::new(alloc, word) {
+        Ok(name) => Ok(name),
+        Err(_) => Err(Memory),
+    }
+}

@@ -1,0 +1,85 @@
+-- What an answer that was written says of its line.
+use Rattle.std.proofs.Common.{◌≡◌, ◌⊎◌, ℕ, Bool, true, false, List, [], refl, sym, ap, ◌∙◌, subst, inl, inr, Option, Result, Ok, Err}
+use Rattle.edit_engine.specs.Lines.{Prints, accepted, quit, refusal, silent}
+use Rattle.edit_engine.specs.LinesLaws.{answers_quit, quit_is_said}
+use Rattle.edit_engine.specs.Script.{Answered, Machine, Steps}
+use Rattle.io_face.specs.Sink.{Adds, AddsPrefix}
+use Rattle.io_face.specs.SinkLaws.{Adds-empty}
+use Rattle.io_face.specs.declared.sink.SinkFault.{SinkFault}
+use Rattle.io_face.specs.declared.sink.SinkFault.TheVariants as fault
+use Rattle.moi_run.specs.Answering.{Hears, HearsBy, PrintsText, WritesBy, is_refused}
+use Rattle.moi_run.specs.declared.reply.Reply.{Reply}
+use Rattle.moi_run.specs.Status.{stop_of_sink}
+use Rattle.moi_run.specs.declared.stop.Stop.{Stop}
+use Rattle.moi_run.specs.declared.stop.Stop.TheVariants as stop
+use Rattle.report_core.specs.declared.answer.Answer.{Answer}
+use Rattle.report_core.specs.declared.answer.Answer.TheVariants.{Memory, Printed, Quit, ReadFault, Refused, Silent, TooLong}
+
+-- an answer that prints was found by a step
+prints_step : (s new : Machine) (line : List ℕ) (answer : Answer) (text : List ℕ) (refused : Bool) → Prints answer text refused → Answered s line answer new → Steps s line answer new
+prints_step s new line Silent text refused silent answered = answered
+prints_step s new line (Printed said) text refused accepted answered = answered
+prints_step s new line (Refused said) text refused refusal answered = answered
+prints_step s new line Quit text refused quit answered = answered
+prints_step s new line ReadFault text refused prints answered = elim prints [ ]
+prints_step s new line TooLong text refused prints answered = elim prints [ ]
+prints_step s new line Memory text refused prints answered = elim prints [ ]
+
+hears_of : (s new : Machine) (line : List ℕ) (answer : Answer) (refused : Bool) (wrote : List ℕ → Type 0) → Answered s line answer new → PrintsText answer refused wrote → Hears s line refused new wrote
+hears_of s new line answer refused wrote answered printed = record {
+  answer = answer;
+  text = printed.text;
+  steps = prints_step s new line answer printed.text refused printed.prints answered;
+  prints = printed.prints;
+  written = printed.written;
+}
+
+-- what became of the line, from its answer and what became of that
+pub line_heard : (result : Result Reply Stop) (s new : Machine) (line : List ℕ) (answer : Answer) (old written : Option (List ℕ)) → Answered s line answer new → WritesBy result answer old written
+    → HearsBy result s line new old written
+line_heard (Ok given) s new line answer old written answered wrote = (
+  hears_of s new line answer (is_refused given) (Adds old written) answered wrote.0,
+  wrote.1 ∙ sym (quit_is_said s new line answer (prints_step s new line answer wrote.0.text (is_refused given) wrote.0.prints answered)),
+)
+line_heard (Err stop.WriteFault) s new line answer old written answered wrote =
+    (wrote.0, hears_of s new line answer wrote.0 (AddsPrefix old written) answered wrote.1)
+line_heard (Err stop.ReadFault) s new line answer old written answered wrote =
+    (subst (λ a. Answered s line a new) wrote.0 answered, wrote.1)
+line_heard (Err stop.TooLong) s new line answer old written answered wrote =
+    (subst (λ a. Answered s line a new) wrote.0 answered, wrote.1)
+line_heard (Err stop.Memory) s new line answer old written answered (inl same) = inl same
+line_heard (Err stop.Memory) s new line answer old written answered (inr begun) =
+    inr (begun.0, new, hears_of s new line answer begun.0 (AddsPrefix old written) answered begun.1)
+
+-- ---- one answer
+
+pub wrote_silent : (answer : Answer) (old : Option (List ℕ)) → answer ≡ Silent → PrintsText answer false (Adds old old) × (false ≡ answers_quit answer)
+wrote_silent answer old is = subst (λ a. PrintsText a false (Adds old old) × (false ≡ answers_quit a)) (sym is) (record { text = []; prints = silent; written = Adds-empty old }, refl)
+
+pub wrote_quit : (answer : Answer) (old : Option (List ℕ)) → answer ≡ Quit → PrintsText answer false (Adds old old) × (true ≡ answers_quit answer)
+wrote_quit answer old is = subst (λ a. PrintsText a false (Adds old old) × (true ≡ answers_quit a)) (sym is) (record { text = []; prints = quit; written = Adds-empty old }, refl)
+
+prints_printed : (answer : Answer) (text seen : List ℕ) (wrote : List ℕ → Type 0) → answer ≡ Printed text → seen ≡ text → wrote seen → PrintsText answer false wrote
+prints_printed answer text seen wrote is same written = subst (λ a. PrintsText a false wrote) (sym is) record { text = text; prints = accepted; written = subst wrote same written }
+
+prints_refused : (answer : Answer) (text seen : List ℕ) (wrote : List ℕ → Type 0) → answer ≡ Refused text → seen ≡ text → wrote seen → PrintsText answer true wrote
+prints_refused answer text seen wrote is same written = subst (λ a. PrintsText a true wrote) (sym is) record { text = text; prints = refusal; written = subst wrote same written }
+
+pub wrote_printed : (answer : Answer) (text seen : List ℕ) (old new : Option (List ℕ)) → answer ≡ Printed text → seen ≡ text → Adds old new seen → PrintsText answer false (Adds old new) × (false ≡ answers_quit answer)
+wrote_printed answer text seen old new is same written = (prints_printed answer text seen (Adds old new) is same written, sym (ap answers_quit is))
+
+pub wrote_refused : (answer : Answer) (text seen : List ℕ) (old new : Option (List ℕ)) → answer ≡ Refused text → seen ≡ text → Adds old new seen → PrintsText answer true (Adds old new) × (false ≡ answers_quit answer)
+wrote_refused answer text seen old new is same written = (prints_refused answer text seen (Adds old new) is same written, sym (ap answers_quit is))
+
+-- a part of the text was written
+cut_short : (reason : SinkFault) (given : Stop) (answer : Answer) (refused : Bool) (old new : Option (List ℕ)) → given ≡ stop_of_sink reason → PrintsText answer refused (AddsPrefix old new) → WritesBy (Err given) answer old new
+cut_short fault.Failed given answer refused old new is printed = subst (λ e. WritesBy (Err e) answer old new) (sym is) (refused, printed)
+cut_short fault.Memory given answer refused old new is printed = subst (λ e. WritesBy (Err e) answer old new) (sym is) (inr (refused, printed))
+
+pub cut_printed : (reason : SinkFault) (given : Stop) (answer : Answer) (text seen : List ℕ) (old new : Option (List ℕ)) → given ≡ stop_of_sink reason → answer ≡ Printed text → seen ≡ text → AddsPrefix old new seen
+    → WritesBy (Err given) answer old new
+cut_printed reason given answer text seen old new from is same written = cut_short reason given answer false old new from (prints_printed answer text seen (AddsPrefix old new) is same written)
+
+pub cut_refused : (reason : SinkFault) (given : Stop) (answer : Answer) (text seen : List ℕ) (old new : Option (List ℕ)) → given ≡ stop_of_sink reason → answer ≡ Refused text → seen ≡ text → AddsPrefix old new seen
+    → WritesBy (Err given) answer old new
+cut_refused reason given answer text seen old new from is same written = cut_short reason given answer true old new from (prints_refused answer text seen (AddsPrefix old new) is same written)

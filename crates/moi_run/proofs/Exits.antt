@@ -1,0 +1,156 @@
+-- What is said where the work stops, by the reason.
+use Rattle.std.proofs.Common.{◌≡◌, ◌≢◌, ℕ, ◌≤◌, ◌⊎◌, Bool, true, false, List, [], ◌∷◌, ◌++◌, refl, sym, ◌∙◌, ap, subst, inl, inr, Option, Some, None, IfSome, Result, Ok, Err, arith}
+use Rattle.std.specs.Prelude.{if◌then◌else◌, IsTrue}
+use Rattle.std.specs.Str.Lines.{lines}
+use Rattle.edit_engine.specs.Held.{Held as Session, machine_of}
+use Rattle.edit_engine.specs.Lines.{heard}
+use Rattle.edit_engine.specs.LinesLaws.{stops_by}
+use Rattle.edit_engine.specs.Script.{Answered, Machine, Steps, with_state}
+use Rattle.io_face.specs.Fault.{HasFaulted}
+use Rattle.io_face.specs.FaultLaws.{HasFaulted-within}
+use Rattle.io_face.specs.Shelf.{FilesByName}
+use Rattle.io_face.specs.Sink.{Adds, AddsPrefix}
+use Rattle.io_face.specs.Told.{Told, told_by}
+use Rattle.moi_run.specs.Answering.{BeginsAnswers, HearsBy, StopsAtFile, WritesAnswers, WritesBy, is_quit}
+use Rattle.moi_run.specs.Input.{AnswersTaken, AnswersWithinLimits, Ends, PassesLimit}
+use Rattle.moi_run.specs.Run.{EachOutcome, FetchFails, HasCause, Outcome}
+use Rattle.moi_run.specs.Status.{status_of, stop_of_read}
+use Rattle.moi_run.specs.declared.reply.Reply.{Reply}
+use Rattle.moi_run.specs.declared.reply.Reply.TheVariants as reply
+use Rattle.moi_run.specs.declared.status.Status.{Status}
+use Rattle.moi_run.specs.declared.status.Status.TheVariants.{Done, Memory, SomeRefused, Usage}
+use Rattle.moi_run.specs.declared.status.Status.TheVariants as status
+use Rattle.moi_run.specs.declared.stop.Stop.{Stop}
+use Rattle.moi_run.specs.declared.stop.Stop.TheVariants as stop
+use Rattle.report_core.specs.declared.answer.Answer.{Answer}
+use Rattle.report_core.specs.declared.answer.Answer.TheVariants.{ReadFault, TooLong}
+use Rattle.script_lines.specs.ReadingLaws.{told_always, told_weaker}
+use Rattle.script_lines.specs.declared.line_reader.ReadStop.{ReadStop}
+use Rattle.script_lines.specs.declared.line_reader.ReadStop.TheVariants as read
+
+-- ---- the shelf
+
+pub told_same : (files files' : Option FilesByName) (sure sure' : Bool) → files' ≡ files → sure' ≡ sure → told_by files' sure' ≡ told_by files sure
+told_same files files' sure sure' f s = ap (λ (o : Option FilesByName). told_by o sure') f ∙ ap (told_by files) s
+
+pub fails_within : (told told' : Told) (first old new : ℕ) → told' ≡ told → first ≤ old → FetchFails told' old new → FetchFails told first new
+fails_within told told' first old new same low fails = subst (λ t. FetchFails t first new) same
+    record { counted = HasFaulted-within first old new new low (omega arith) fails.counted; name = fails.name; missing = fails.missing }
+
+pub heard_told : (result : Result Reply Stop) (told told' : Told) (s new : Session) (line : List ℕ) (old written : Option (List ℕ)) → told' ≡ told
+    → HearsBy result (machine_of s told') line (machine_of new told') old written → HearsBy result (machine_of s told) line (machine_of new told) old written
+heard_told result told told' s new line old written same heard = subst (λ t. HearsBy result (machine_of s t) line (machine_of new t) old written) same heard
+
+-- the machine is as it was where the shelf stopped the work
+pub stays_at_fault : (s new : Machine) (line : List ℕ) → Steps s line ReadFault new → new ≡ s
+stays_at_fault s new line steps = steps.1 ∙ ap (with_state s) (stops_by s new line ReadFault steps).kept
+
+pub stays_at_limit : (s new : Machine) (line : List ℕ) → Steps s line TooLong new → new ≡ s
+stays_at_limit s new line steps = steps.1 ∙ ap (with_state s) (stops_by s new line TooLong steps).kept
+
+-- a line whose answer is a fault of the shelf
+pub line_fails : (result : Result Reply Stop) (s new : Machine) (line : List ℕ) (answer : Answer) (old written : Option (List ℕ)) (faults faults' : ℕ)
+    → Answered s line answer new → WritesBy result answer old written → (answer ≡ ReadFault → HasFaulted faults faults') → result ≡ Err stop.ReadFault → FetchFails s.shelf faults faults'
+line_fails result s new line answer old written faults faults' answered wrote cause is =
+    let by : WritesBy (Err stop.ReadFault) answer old written = subst (λ r. WritesBy r answer old written) is wrote in
+    let stopped = stops_by s new line ReadFault (subst (λ a. Answered s line a new) by.0 answered) in
+    record { counted = cause by.0; name = stopped.name; missing = stopped.gave }
+
+-- the work stopped at a fault of reading
+pub fault_of : (reason : Stop) → status_of reason ≡ status.ReadFault → reason ≡ stop.ReadFault
+fault_of stop.ReadFault is = refl
+fault_of stop.WriteFault is = cc
+fault_of stop.Memory is = cc
+fault_of stop.TooLong is = cc
+
+-- ---- the work ended
+
+pub outcome_at_end : (source shelf : Type 0) (refused : Bool) (answer : Status) (all left : Option (List ℕ)) (start s : Machine) (wrote : List ℕ → Type 0) → answer ≡ (if refused then SomeRefused else Done)
+    → IfSome all (λ bytes. Ends bytes left refused start s wrote) → IfSome all (λ bytes. Outcome source shelf answer bytes left start s wrote)
+outcome_at_end source shelf true answer all left start s wrote is ends = subst (λ a. IfSome all (λ bytes. Outcome source shelf a bytes left start s wrote)) (sym is) ends
+outcome_at_end source shelf false answer all left start s wrote is ends = subst (λ a. IfSome all (λ bytes. Outcome source shelf a bytes left start s wrote)) (sym is) ends
+
+pub no_cause_at_end : (source shelf sink : Type 0) (refused : Bool) (answer : Status) → answer ≡ (if refused then SomeRefused else Done) → HasCause source shelf sink answer
+no_cause_at_end source shelf sink true answer is = subst (HasCause source shelf sink) (sym is) tt
+no_cause_at_end source shelf sink false answer is = subst (HasCause source shelf sink) (sym is) tt
+
+pub no_usage_at_end : (refused : Bool) (answer : Status) → answer ≡ (if refused then SomeRefused else Done) → answer ≡ Usage → ⊥
+no_usage_at_end true answer is usage = cc
+no_usage_at_end false answer is usage = cc
+
+pub no_fault_at_end : (refused : Bool) (answer end : Status) → answer ≡ (if refused then SomeRefused else Done) → answer ≡ end → (end ≡ SomeRefused → ⊥) → (end ≡ Done → ⊥) → ⊥
+no_fault_at_end true answer end is same not_refused not_done = not_refused (sym same ∙ is)
+no_fault_at_end false answer end is same not_refused not_done = not_done (sym same ∙ is)
+
+-- ---- reading stopped
+
+pub outcome_at_read : (source shelf : Type 0) (reason : ReadStop) (answer : Status) (all left : Option (List ℕ)) (start s : Machine) (wrote : List ℕ → Type 0) → answer ≡ status_of (stop_of_read reason)
+    → (reason ≡ read.ReadFault → source) → (reason ≡ read.ReadFault → IfSome all (λ bytes. AnswersTaken bytes left start s wrote))
+    → (reason ≡ read.TooLong → IfSome all (λ bytes. PassesLimit bytes × AnswersWithinLimits bytes start s wrote))
+    → IfSome all (λ bytes. Outcome source shelf answer bytes left start s wrote)
+outcome_at_read source shelf read.ReadFault answer all left start s wrote is cause fault long = subst (λ a. IfSome all (λ bytes. Outcome source shelf a bytes left start s wrote)) (sym is)
+    (told_weaker _ _ all (λ bytes taken. inl (cause refl, taken)) (fault refl))
+outcome_at_read source shelf read.TooLong answer all left start s wrote is cause fault long = subst (λ a. IfSome all (λ bytes. Outcome source shelf a bytes left start s wrote)) (sym is)
+    (told_weaker _ _ all (λ bytes passes. inl passes) (long refl))
+outcome_at_read source shelf read.Memory answer all left start s wrote is cause fault long = subst (λ a. IfSome all (λ bytes. Outcome source shelf a bytes left start s wrote)) (sym is) (told_always _ all (λ bytes. tt))
+
+pub cause_at_read : (source shelf sink : Type 0) (reason : ReadStop) (answer : Status) → answer ≡ status_of (stop_of_read reason) → (reason ≡ read.ReadFault → source) → HasCause source shelf sink answer
+cause_at_read source shelf sink read.ReadFault answer is cause = subst (HasCause source shelf sink) (sym is) (inl (cause refl))
+cause_at_read source shelf sink read.TooLong answer is cause = subst (HasCause source shelf sink) (sym is) tt
+cause_at_read source shelf sink read.Memory answer is cause = subst (HasCause source shelf sink) (sym is) tt
+
+pub no_usage_at_read : (reason : ReadStop) (answer : Status) → answer ≡ status_of (stop_of_read reason) → answer ≡ Usage → ⊥
+no_usage_at_read read.ReadFault answer is usage = cc
+no_usage_at_read read.TooLong answer is usage = cc
+no_usage_at_read read.Memory answer is usage = cc
+
+-- ---- the answer to a line stopped it
+
+pub outcome_at_stop : (source shelf : Type 0) (reason : Stop) (answer : Status) (all left : Option (List ℕ)) (start s : Machine) (wrote : List ℕ → Type 0) → answer ≡ status_of reason
+    → (reason ≡ stop.ReadFault → shelf) → (reason ≡ stop.ReadFault → IfSome all (λ bytes. StopsAtFile start (heard (lines bytes)) ReadFault s wrote))
+    → (reason ≡ stop.TooLong → IfSome all (λ bytes. StopsAtFile start (heard (lines bytes)) TooLong s wrote))
+    → IfSome all (λ bytes. Outcome source shelf answer bytes left start s wrote)
+outcome_at_stop source shelf stop.ReadFault answer all left start s wrote is cause fault long = subst (λ a. IfSome all (λ bytes. Outcome source shelf a bytes left start s wrote)) (sym is)
+    (told_weaker _ _ all (λ bytes stops. inr (cause refl, stops)) (fault refl))
+outcome_at_stop source shelf stop.TooLong answer all left start s wrote is cause fault long = subst (λ a. IfSome all (λ bytes. Outcome source shelf a bytes left start s wrote)) (sym is)
+    (told_weaker _ _ all (λ bytes stops. inr stops) (long refl))
+outcome_at_stop source shelf stop.WriteFault answer all left start s wrote is cause fault long = subst (λ a. IfSome all (λ bytes. Outcome source shelf a bytes left start s wrote)) (sym is) (told_always _ all (λ bytes. tt))
+outcome_at_stop source shelf stop.Memory answer all left start s wrote is cause fault long = subst (λ a. IfSome all (λ bytes. Outcome source shelf a bytes left start s wrote)) (sym is) (told_always _ all (λ bytes. tt))
+
+pub cause_at_stop : (source shelf sink : Type 0) (reason : Stop) (answer : Status) → answer ≡ status_of reason → (reason ≡ stop.ReadFault → shelf) → (reason ≡ stop.WriteFault → sink) → HasCause source shelf sink answer
+cause_at_stop source shelf sink stop.ReadFault answer is fetch write = subst (HasCause source shelf sink) (sym is) (inr (fetch refl))
+cause_at_stop source shelf sink stop.WriteFault answer is fetch write = subst (HasCause source shelf sink) (sym is) (write refl)
+cause_at_stop source shelf sink stop.Memory answer is fetch write = subst (HasCause source shelf sink) (sym is) tt
+cause_at_stop source shelf sink stop.TooLong answer is fetch write = subst (HasCause source shelf sink) (sym is) tt
+
+pub no_usage_at_stop : (reason : Stop) (answer : Status) → answer ≡ status_of reason → answer ≡ Usage → ⊥
+no_usage_at_stop stop.ReadFault answer is usage = cc
+no_usage_at_stop stop.WriteFault answer is usage = cc
+no_usage_at_stop stop.Memory answer is usage = cc
+no_usage_at_stop stop.TooLong answer is usage = cc
+
+-- which reason a status tells
+pub reason_by : (reason : Stop) (answer : Status) → answer ≡ status_of reason → (told : Stop) → answer ≡ status_of told → reason ≡ told
+reason_by stop.ReadFault answer is stop.ReadFault same = refl
+reason_by stop.ReadFault answer is stop.WriteFault same = cc
+reason_by stop.ReadFault answer is stop.Memory same = cc
+reason_by stop.ReadFault answer is stop.TooLong same = cc
+reason_by stop.WriteFault answer is stop.ReadFault same = cc
+reason_by stop.WriteFault answer is stop.WriteFault same = refl
+reason_by stop.WriteFault answer is stop.Memory same = cc
+reason_by stop.WriteFault answer is stop.TooLong same = cc
+reason_by stop.Memory answer is stop.ReadFault same = cc
+reason_by stop.Memory answer is stop.WriteFault same = cc
+reason_by stop.Memory answer is stop.Memory same = refl
+reason_by stop.Memory answer is stop.TooLong same = cc
+reason_by stop.TooLong answer is stop.ReadFault same = cc
+reason_by stop.TooLong answer is stop.WriteFault same = cc
+reason_by stop.TooLong answer is stop.Memory same = cc
+reason_by stop.TooLong answer is stop.TooLong same = refl
+
+-- ---- the work goes on
+
+pub goes_on : (given : Reply) → (given ≡ reply.Quit → ⊥) → is_quit given ≡ false
+goes_on reply.Accepted goes = refl
+goes_on reply.Refused goes = refl
+goes_on reply.Quit goes = absurd (goes refl)

@@ -1,0 +1,42 @@
+-- Each clause is a part of how the command ran.
+use Rattle.io_face.specs.Told.{told_by}
+use Rattle.edit_engine.specs.Held.{machine_of}
+use Rattle.moi_run.proofs.Completing.{completes}
+use Rattle.moi_run.proofs.commands.run.Goals as goal
+
+pub returns-clause-text : goal.returns-clause-text
+returns-clause-text g c = c.obey_words.ensures.runs.text
+
+pub returns-clause-pivots : goal.returns-clause-pivots
+returns-clause-pivots g c = c.obey_words.ensures.runs.pivots
+
+pub returns-clause-to_the_end : goal.returns-clause-to_the_end
+returns-clause-to_the_end g c = c.obey_words.ensures.runs.to_the_end
+
+pub returns-clause-within_limits : goal.returns-clause-within_limits
+returns-clause-within_limits g c = c.obey_words.ensures.runs.within_limits
+
+pub returns-clause-verdict : goal.returns-clause-verdict
+returns-clause-verdict g c = c.obey_words.ensures.runs.verdict
+
+pub returns-clause-prefix : goal.returns-clause-prefix
+returns-clause-prefix g c = c.obey_words.ensures.runs.prefix
+
+pub returns-clause-verdict_prefix : goal.returns-clause-verdict_prefix
+returns-clause-verdict_prefix g c = c.obey_words.ensures.runs.verdict_prefix
+
+pub returns-clause-read_fault : goal.returns-clause-read_fault
+returns-clause-read_fault g c = c.obey_words.ensures.runs.read_fault
+
+pub returns-clause-at_read_fault : goal.returns-clause-at_read_fault
+returns-clause-at_read_fault g c = c.obey_words.ensures.runs.at_read_fault
+
+pub returns-clause-too_long : goal.returns-clause-too_long
+returns-clause-too_long g c = c.obey_words.ensures.runs.too_long
+
+pub returns-clause-at_limit : goal.returns-clause-at_limit
+returns-clause-at_limit g c = c.obey_words.ensures.runs.at_limit
+
+pub returns-clause-complete : goal.returns-clause-complete
+returns-clause-complete g c =
+    completes _ _ _ _ _ _ _ _ _ _ _ _ _ _ _ c.obey_words.ensures.runs (c.obey_words.ensures.usage).0 c.obey_words.ensures.write_fault

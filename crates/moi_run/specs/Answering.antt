@@ -1,0 +1,107 @@
+-- What is written for lines and for answers.
+--
+--     WritesAnswers    lines were answered, and their text was written
+--     BeginsAnswers    some of the first were, and what was written begins their text
+--     StopsAtFile      some of the first were, and at the next the shelf stopped the work
+use Rattle.std.specs.Prelude.{◌≡◌, ◌≢◌, ℕ, ◌⊎◌, Bool, true, false, List, ◌∷◌, ◌++◌, Option, Result, Ok, Err}
+use Rattle.edit_engine.specs.Lines.{Answers, Prints, says_quit}
+use Rattle.edit_engine.specs.LinesLaws.{answers_quit}
+use Rattle.edit_engine.specs.Script.{Machine, Steps}
+use Rattle.io_face.specs.Sink.{Adds, AddsPrefix}
+use Rattle.moi_run.specs.declared.reply.Reply.{Reply}
+use Rattle.moi_run.specs.declared.reply.Reply.TheVariants as reply
+use Rattle.moi_run.specs.declared.status.Status.{Status}
+use Rattle.moi_run.specs.declared.status.Status.TheVariants as status
+use Rattle.moi_run.specs.declared.stop.Stop.{Stop}
+use Rattle.moi_run.specs.declared.stop.Stop.TheVariants as stop
+use Rattle.report_core.specs.declared.answer.Answer.{Answer}
+use Rattle.report_core.specs.declared.answer.Answer.TheVariants.{ReadFault, TooLong}
+
+-- ---- lines
+
+-- from a machine the lines were answered, one of them was refused or not, and this machine is left;
+-- and their text was written
+pub record WritesAnswers (s : Machine) (lines : List (List ℕ)) (refused : Bool) (new : Machine)
+    (wrote : List ℕ → Type 0) : Type 0 where
+  pub text : List ℕ
+  pub answers : Answers s lines text refused new
+  pub written : wrote text
+
+-- some of the first lines were answered, and what was written begins their text. They left the
+-- session's machine, unless memory ran out
+pub record BeginsAnswers (s : Machine) (lines : List (List ℕ)) (end : Status) (new : Machine)
+    (wrote : List ℕ → Type 0) : Type 0 where
+  pub done : List (List ℕ)
+  pub more : List (List ℕ)
+  pub front : lines ≡ done ++ more
+  pub refused : Bool
+  pub after : Machine
+  pub answered : WritesAnswers s done refused after wrote
+  pub stands : end ≢ status.Memory → new ≡ after
+
+-- the lines before one were answered, and at that one, which asks for a file, the shelf stopped the
+-- work: its answer is this
+pub record StopsAtFile (s : Machine) (lines : List (List ℕ)) (stopped : Answer) (new : Machine)
+    (wrote : List ℕ → Type 0) : Type 0 where
+  pub done : List (List ℕ)
+  pub line : List ℕ
+  pub more : List (List ℕ)
+  pub front : lines ≡ done ++ line ∷ more
+  pub refused : Bool
+  pub after : Machine
+  pub answered : WritesAnswers s done refused after wrote
+  pub steps : Steps after line stopped new
+
+-- ---- one line
+
+-- a line was answered, it was refused or not, and a machine is left; and what is said of its text
+pub record Hears (s : Machine) (line : List ℕ) (refused : Bool) (new : Machine)
+    (wrote : List ℕ → Type 0) : Type 0 where
+  pub answer : Answer
+  pub text : List ℕ
+  pub steps : Steps s line answer new
+  pub prints : Prints answer text refused
+  pub written : wrote text
+
+abbrev pub is_refused : Reply → Bool
+is_refused reply.Refused = true
+is_refused reply.Accepted = false
+is_refused reply.Quit = false
+
+abbrev pub is_quit : Reply → Bool
+is_quit reply.Quit = true
+is_quit reply.Accepted = false
+is_quit reply.Refused = false
+
+-- what became of a line, by how its answer came out
+abbrev pub HearsBy : Result Reply Stop → Machine → List ℕ → Machine → Option (List ℕ)
+    → Option (List ℕ) → Type 0
+HearsBy (Ok reply) s line new old written =
+    Hears s line (is_refused reply) new (Adds old written) × (is_quit reply ≡ says_quit line)
+HearsBy (Err stop.WriteFault) s line new old written =
+    (refused : Bool) × Hears s line refused new (AddsPrefix old written)
+HearsBy (Err stop.ReadFault) s line new old written =
+    Steps s line ReadFault new × (written ≡ old)
+HearsBy (Err stop.TooLong) s line new old written = Steps s line TooLong new × (written ≡ old)
+HearsBy (Err stop.Memory) s line new old written = (written ≡ old)
+    ⊎ ((refused : Bool) × (after : Machine) × Hears s line refused after (AddsPrefix old written))
+
+-- ---- one answer
+
+-- the answer is a text, a refusal or not, and what is said of the text
+pub record PrintsText (answer : Answer) (refused : Bool) (wrote : List ℕ → Type 0) : Type 0 where
+  pub text : List ℕ
+  pub prints : Prints answer text refused
+  pub written : wrote text
+
+-- what became of an answer, by how writing it came out
+abbrev pub WritesBy : Result Reply Stop → Answer → Option (List ℕ) → Option (List ℕ) → Type 0
+WritesBy (Ok reply) answer old written =
+    PrintsText answer (is_refused reply) (Adds old written)
+    × (is_quit reply ≡ answers_quit answer)
+WritesBy (Err stop.WriteFault) answer old written =
+    (refused : Bool) × PrintsText answer refused (AddsPrefix old written)
+WritesBy (Err stop.ReadFault) answer old written = (answer ≡ ReadFault) × (written ≡ old)
+WritesBy (Err stop.TooLong) answer old written = (answer ≡ TooLong) × (written ≡ old)
+WritesBy (Err stop.Memory) answer old written = (written ≡ old)
+    ⊎ ((refused : Bool) × PrintsText answer refused (AddsPrefix old written))

@@ -1,0 +1,220 @@
+//! The commands, by the words.
+ghost use Rattle.std.specs.Prelude.{◌≡◌, ◌≢◌, ℕ, Bool, ◌+◌, ◌↔◌, ◌⊎◌, [], ◌∷◌, None, Some, codes, false, IfSome, IsTrue};
+ghost use Rattle.edit_engine.specs.Held.{machine_of, state_of};
+ghost use Rattle.io_face.specs.Fault.{HasFaulted};
+ghost use Rattle.io_face.specs.Sink.{Adds, AddsPrefix};
+ghost use Rattle.io_face.specs.Told.{told_by};
+ghost use Rattle.moi_run.specs.Answering.{BeginsAnswers, WritesAnswers};
+ghost use Rattle.moi_run.specs.Commands.{AsksInVain, CanBeFetched, CanBeRead, HasReadFault, IfCheck, IsPlan, IsSound, ReadsNothing, input_for, lines_for, said_by, setup_for, start_for};
+ghost use Rattle.moi_run.specs.Input.{IsReadToEnd, IsWithinLimits};
+ghost use Rattle.moi_run.specs.Run.{AtLimit, AtReadFault, HasTooLong, Runs, RunsEach, WritesVerdict};
+ghost use Rattle.moi_run.specs.Status.{IsEnded, has_refused};
+ghost use Rattle.script_lines.specs.Limits.{input_limit};
+ghost use Rattle.script_lines.specs.Reading.{TakesAtMost};
+
+use crate::answers::answer_with;
+use crate::check::answer_check;
+use crate::input::answer_script;
+use crate::solve::answer_solve;
+use crate::status::Status;
+use bridge_face::Bridge;
+use command_words::{Command, Setup, read_words};
+use edit_engine::SessionOver;
+use io_face::{Shelf, Sink, Source};
+use std::alloc::Global;
+
+/// Does what the words say, over the files of `shelf`: `run` reads a script from `input` and writes
+/// the answer of each line to `output`, up to the end of the input or the line `quit`; `plan`
+/// answers that line alone; `solve` answers the lines that load the model of a file, attach a
+/// solver and optimise; `check` answers whether the certificate of a file proves what it says of a
+/// file's model.
+pub fn run<B: Bridge, H: Shelf, I: Source, O: Sink>(
+    alloc: Global,
+    words: &[String],
+    shelf: &mut H,
+    input: &mut I,
+    output: &mut O,
+    session: &mut SessionOver<B>,
+) -> Status
+    requires detached { (state_of session.old).attached ≡ false }
+
+    // Nothing is read or written, and the session stays, at words of no command.
+    ensures usage { (result ≡ Status.Usage) ↔ (said_by words.now ≡ None) }
+    ensures untouched { result ≡ Status.Usage → (shelf.new ≡ shelf.old)
+        × (input.new ≡ input.old) × (output.new ≡ output.old) × (session.new ≡ session.old) }
+
+    // Once the work ended, the lines were answered one after another and their text was written,
+    // and the session is in the state that they leave.
+    ensures text { let said = said_by words.now in
+        let told = told_by (H.files shelf.old) (H.sure shelf.old) in
+        IsEnded result → IfSome (lines_for said (I.left input.old)) (λ lines.
+        WritesAnswers (start_for said (machine_of session.old told)) lines (has_refused result)
+        (machine_of session.new told) (Adds (O.written output.old) (O.written output.new))) }
+    ensures pivots { IsEnded result → IfSome (setup_for (said_by words.now)) (λ setup.
+        session.new.pivots ≡ setup.pivots) }
+    ensures to_the_end { IsEnded result
+        → IfSome (input_for (said_by words.now) (I.left input.old)) (λ bytes.
+        IsReadToEnd bytes (I.left input.new)) }
+    ensures within_limits { IsEnded result
+        → IfSome (input_for (said_by words.now) (I.left input.old)) IsWithinLimits }
+
+    // Or the verdict on the two files was given, and the session is as it was.
+    ensures verdict { let told = told_by (H.files shelf.old) (H.sure shelf.old) in
+        IsEnded result → IfCheck (said_by words.now) (λ model certificate.
+        WritesVerdict told model certificate (has_refused result)
+        (Adds (O.written output.old) (O.written output.new))) }
+    ensures idle { IfCheck (said_by words.now) (λ _ _. session.new ≡ session.old) }
+
+    // However it ended, some of the first lines were answered, and what was written begins their
+    // text, or that of the verdict. At most one byte past the limit of the input was taken.
+    ensures prefix { let said = said_by words.now in
+        let told = told_by (H.files shelf.old) (H.sure shelf.old) in
+        IfSome (lines_for said (I.left input.old)) (λ lines.
+        BeginsAnswers (start_for said (machine_of session.old told)) lines result
+        (machine_of session.new told)
+        (AddsPrefix (O.written output.old) (O.written output.new))) }
+    ensures verdict_prefix { let told = told_by (H.files shelf.old) (H.sure shelf.old) in
+        let begun = AddsPrefix (O.written output.old) (O.written output.new) in
+        IfCheck (said_by words.now) (λ model certificate. begun []
+        ⊎ ((refused : Bool) × WritesVerdict told model certificate refused begun)) }
+    ensures taken { TakesAtMost (input_limit + 1) (I.left input.old) (I.left input.new) }
+
+    // A fault of the source or of the shelf was counted; a sure shelf lacks a file that the command
+    // asks for. What was taken, or the lines before the one that asks for a file, was answered.
+    ensures read_fault { let said = said_by words.now in
+        let told = told_by (H.files shelf.old) (H.sure shelf.old) in
+        result ≡ Status.ReadFault → HasReadFault said
+        (HasFaulted (I.faults input.old) (I.faults input.new))
+        (HasFaulted (H.faults shelf.old) (H.faults shelf.new)
+        × (IsTrue (H.sure shelf.old) → AsksInVain said (I.left input.old) told)) }
+    ensures at_read_fault { let said = said_by words.now in
+        let told = told_by (H.files shelf.old) (H.sure shelf.old) in
+        result ≡ Status.ReadFault → AtReadFault said
+        (HasFaulted (I.faults input.old) (I.faults input.new))
+        (HasFaulted (H.faults shelf.old) (H.faults shelf.new)) (I.left input.old)
+        (I.left input.new) (start_for said (machine_of session.old told))
+        (machine_of session.new told) (Adds (O.written output.old) (O.written output.new)) }
+    ensures write_fault { result ≡ Status.WriteFault
+        → HasFaulted (O.faults output.old) (O.faults output.new) }
+
+    // A line, the input or a file is too long. The lines before that were answered.
+    ensures too_long { result ≡ Status.TooLong
+        → HasTooLong (said_by words.now) (I.left input.old)
+        (told_by (H.files shelf.old) (H.sure shelf.old)) }
+    ensures at_limit { let said = said_by words.now in
+        let told = told_by (H.files shelf.old) (H.sure shelf.old) in
+        result ≡ Status.TooLong → AtLimit said (I.left input.old)
+        (start_for said (machine_of session.old told)) (machine_of session.new told)
+        (Adds (O.written output.old) (O.written output.new)) }
+
+    // Only `run` reads the input, and `plan` asks for no file.
+    ensures unread { ReadsNothing (said_by words.now) → input.new ≡ input.old }
+    ensures unasked { IsPlan (said_by words.now) → (shelf.new ≡ shelf.old)
+        × (result ≢ Status.ReadFault) × (result ≢ Status.TooLong) }
+
+    // With nothing against it, the work ends, unless memory runs out.
+    ensures complete { let said = said_by words.now in
+        let told = told_by (H.files shelf.old) (H.sure shelf.old) in
+        CanBeRead said (I.left input.old) (I.faults input.old) (I.faults input.new)
+        → CanBeFetched said (I.left input.old) told (H.faults shelf.old) (H.faults shelf.new)
+        → IsSound (O.faults output.old) (O.faults output.new)
+        → IsEnded result ⊎ (result ≡ Status.Memory) }
+{
+    obey_words(alloc, words, shelf, input, output, session)
+}
+
+// The same, in terms of how the command ran.
+fn obey_words<B: Bridge, H: Shelf, I: Source, O: Sink>(
+    alloc: Global,
+    words: &[String],
+    shelf: &mut H,
+    input: &mut I,
+    output: &mut O,
+    session: &mut SessionOver<B>,
+) -> Status
+    requires detached { (state_of session.old).attached ≡ false }
+    ensures usage { (result ≡ Status.Usage) ↔ (said_by words.now ≡ None) }
+    ensures untouched { result ≡ Status.Usage → (shelf.new ≡ shelf.old)
+        × (input.new ≡ input.old) × (output.new ≡ output.old) × (session.new ≡ session.old) }
+    ensures runs { let told = told_by (H.files shelf.old) (H.sure shelf.old) in
+        Runs (said_by words.now) result (I.left input.old) (I.left input.new) told
+        (HasFaulted (I.faults input.old) (I.faults input.new))
+        (HasFaulted (H.faults shelf.old) (H.faults shelf.new)) (machine_of session.old told)
+        (machine_of session.new told) (Adds (O.written output.old) (O.written output.new))
+        (AddsPrefix (O.written output.old) (O.written output.new)) }
+    ensures idle { IfCheck (said_by words.now) (λ _ _. session.new ≡ session.old) }
+    ensures taken { TakesAtMost (input_limit + 1) (I.left input.old) (I.left input.new) }
+    ensures write_fault { result ≡ Status.WriteFault
+        → HasFaulted (O.faults output.old) (O.faults output.new) }
+    ensures unread { ReadsNothing (said_by words.now) → input.new ≡ input.old }
+    ensures unasked { IsPlan (said_by words.now) → (shelf.new ≡ shelf.old)
+        × (result ≢ Status.ReadFault) × (result ≢ Status.TooLong) }
+{
+    let said = match read_words(alloc, words) {
+        Ok(said) => said,
+        Err(_) => return Status::Memory,
+    };
+    match said {
+        Some(command) => obey(alloc, command, shelf, input, output, session),
+        None => Status::Usage,
+    }
+}
+
+// Does what a command says.
+fn obey<B: Bridge, H: Shelf, I: Source, O: Sink>(
+    alloc: Global,
+    command: Command,
+    shelf: &mut H,
+    input: &mut I,
+    output: &mut O,
+    session: &mut SessionOver<B>,
+) -> Status
+    requires detached { (state_of session.old).attached ≡ false }
+    ensures runs { let told = told_by (H.files shelf.old) (H.sure shelf.old) in
+        Runs (Some command) result (I.left input.old) (I.left input.new) told
+        (HasFaulted (I.faults input.old) (I.faults input.new))
+        (HasFaulted (H.faults shelf.old) (H.faults shelf.new)) (machine_of session.old told)
+        (machine_of session.new told) (Adds (O.written output.old) (O.written output.new))
+        (AddsPrefix (O.written output.old) (O.written output.new)) }
+    ensures idle { IfCheck (Some command) (λ _ _. session.new ≡ session.old) }
+    ensures taken { TakesAtMost (input_limit + 1) (I.left input.old) (I.left input.new) }
+    ensures write_fault { result ≡ Status.WriteFault
+        → HasFaulted (O.faults output.old) (O.faults output.new) }
+    ensures unread { ReadsNothing (Some command) → input.new ≡ input.old }
+    ensures unasked { IsPlan (Some command) → (shelf.new ≡ shelf.old)
+        × (result ≢ Status.ReadFault) × (result ≢ Status.TooLong) }
+    ensures not_usage { result ≢ Status.Usage }
+{
+    match command {
+        Command::Run(setup) => answer_script(alloc, setup, shelf, input, output, session),
+        Command::Plan(setup) => answer_plan(setup, shelf, output, session),
+        Command::Solve { setup, model } => {
+            answer_solve(alloc, setup, &model, shelf, output, session)
+        }
+        Command::Check { model, certificate } => {
+            answer_check(alloc, &model, &certificate, shelf, output)
+        }
+    }
+}
+
+// Answers the line `plan`.
+fn answer_plan<B: Bridge, H: Shelf, O: Sink>(
+    setup: Setup,
+    shelf: &mut H,
+    output: &mut O,
+    session: &mut SessionOver<B>,
+) -> Status
+    requires detached { (state_of session.old).attached ≡ false }
+    ensures runs { let told = told_by (H.files shelf.old) (H.sure shelf.old) in
+        RunsEach (codes "plan" ∷ []) setup result (machine_of session.old told)
+        (machine_of session.new told) (Adds (O.written output.old) (O.written output.new))
+        (AddsPrefix (O.written output.old) (O.written output.new)) }
+    ensures unasked { (shelf.new ≡ shelf.old) × (result ≢ Status.ReadFault)
+        × (result ≢ Status.TooLong) }
+    ensures write_fault { result ≡ Status.WriteFault
+        → HasFaulted (O.faults output.old) (O.faults output.new) }
+    ensures not_usage { result ≢ Status.Usage }
+{
+    let lines: [&[u8]; 1] = [b"plan"];
+    answer_with(setup, &lines, shelf, output, session)
+}

@@ -1,0 +1,134 @@
+//! Lines of an input that are answered, up to its end or the line that ends the work.
+ghost use Rattle.std.specs.Prelude.{◌≡◌, ◌≢◌, ◌+◌, [], Some, IfSome, false};
+ghost use Rattle.std.specs.Str.Lines.{lines};
+ghost use Rattle.command_words.specs.declared.words.Command.TheVariants.{Run};
+ghost use Rattle.edit_engine.specs.Held.{machine_of, state_of};
+ghost use Rattle.edit_engine.specs.Lines.{heard};
+ghost use Rattle.io_face.specs.Fault.{HasFaulted};
+ghost use Rattle.io_face.specs.Sink.{Adds, AddsPrefix};
+ghost use Rattle.io_face.specs.Told.{told_by};
+ghost use Rattle.moi_run.specs.Answering.{BeginsAnswers};
+ghost use Rattle.moi_run.specs.Run.{FetchFails, HasCause, Outcome, Runs};
+ghost use Rattle.script_lines.specs.Limits.{input_limit};
+ghost use Rattle.script_lines.specs.Reading.{TakesAtMost};
+
+use crate::answers::answer_line;
+use crate::reply::Reply;
+use crate::status::Status;
+use crate::stop::Stop;
+use bridge_face::Bridge;
+use command_words::Setup;
+use edit_engine::SessionOver;
+use io_face::{Shelf, Sink, Source};
+use script_lines::{LineReader, Next};
+use std::alloc::Global;
+
+/// Tells the session the options, and then answers the lines of the input.
+pub(crate) fn answer_script<B: Bridge, H: Shelf, I: Source, O: Sink>(
+    alloc: Global,
+    setup: Setup,
+    shelf: &mut H,
+    input: &mut I,
+    output: &mut O,
+    session: &mut SessionOver<B>,
+) -> Status
+    requires detached { (state_of session.old).attached ≡ false }
+    ensures runs { let told = told_by (H.files shelf.old) (H.sure shelf.old) in
+        Runs (Some (Run setup)) result (I.left input.old) (I.left input.new) told
+        (HasFaulted (I.faults input.old) (I.faults input.new))
+        (HasFaulted (H.faults shelf.old) (H.faults shelf.new)) (machine_of session.old told)
+        (machine_of session.new told) (Adds (O.written output.old) (O.written output.new))
+        (AddsPrefix (O.written output.old) (O.written output.new)) }
+    ensures taken { TakesAtMost (input_limit + 1) (I.left input.old) (I.left input.new) }
+    ensures write_fault { result ≡ Status.WriteFault
+        → HasFaulted (O.faults output.old) (O.faults output.new) }
+    ensures not_usage { result ≢ Status.Usage }
+{
+    match session.set_up(setup.target, setup.pivots) {
+        Ok(()) => answer_input(alloc, shelf, input, output, session),
+        Err(_) => Status::Memory,
+    }
+}
+
+// Answers the lines of the input.
+fn answer_input<B: Bridge, H: Shelf, I: Source, O: Sink>(
+    alloc: Global,
+    shelf: &mut H,
+    input: &mut I,
+    output: &mut O,
+    session: &mut SessionOver<B>,
+) -> Status
+    ensures outcome { let told = told_by (H.files shelf.old) (H.sure shelf.old) in
+        IfSome (I.left input.old) (λ bytes. Outcome
+        (HasFaulted (I.faults input.old) (I.faults input.new))
+        (FetchFails told (H.faults shelf.old) (H.faults shelf.new)) result bytes
+        (I.left input.new) (machine_of session.old told) (machine_of session.new told)
+        (Adds (O.written output.old) (O.written output.new))) }
+    ensures prefix { let told = told_by (H.files shelf.old) (H.sure shelf.old) in
+        IfSome (I.left input.old) (λ bytes. BeginsAnswers (machine_of session.old told)
+        (heard (lines bytes)) result (machine_of session.new told)
+        (AddsPrefix (O.written output.old) (O.written output.new))) }
+    ensures taken { TakesAtMost (input_limit + 1) (I.left input.old) (I.left input.new) }
+    ensures pivots { session.new.pivots ≡ session.old.pivots }
+    ensures cause { HasCause (HasFaulted (I.faults input.old) (I.faults input.new))
+        (FetchFails (told_by (H.files shelf.old) (H.sure shelf.old)) (H.faults shelf.old)
+        (H.faults shelf.new)) (HasFaulted (O.faults output.old) (O.faults output.new)) result }
+    ensures not_usage { result ≢ Status.Usage }
+{
+    match LineReader::new(alloc) {
+        Ok(mut reader) => answer_lines(alloc, &mut reader, shelf, input, output, session),
+        Err(_) => Status::Memory,
+    }
+}
+
+// Answers line after line, up to the end of the input or the line that ends the work.
+fn answer_lines<B: Bridge, H: Shelf, I: Source, O: Sink>(
+    alloc: Global,
+    reader: &mut LineReader,
+    shelf: &mut H,
+    input: &mut I,
+    output: &mut O,
+    session: &mut SessionOver<B>,
+) -> Status
+    requires held { reader.old.held ≡ [] }
+    requires room { reader.old.room ≡ input_limit }
+    ensures outcome { let told = told_by (H.files shelf.old) (H.sure shelf.old) in
+        IfSome (I.left input.old) (λ bytes. Outcome
+        (HasFaulted (I.faults input.old) (I.faults input.new))
+        (FetchFails told (H.faults shelf.old) (H.faults shelf.new)) result bytes
+        (I.left input.new) (machine_of session.old told) (machine_of session.new told)
+        (Adds (O.written output.old) (O.written output.new))) }
+    ensures prefix { let told = told_by (H.files shelf.old) (H.sure shelf.old) in
+        IfSome (I.left input.old) (λ bytes. BeginsAnswers (machine_of session.old told)
+        (heard (lines bytes)) result (machine_of session.new told)
+        (AddsPrefix (O.written output.old) (O.written output.new))) }
+    ensures taken { TakesAtMost (input_limit + 1) (I.left input.old) (I.left input.new) }
+    ensures pivots { session.new.pivots ≡ session.old.pivots }
+    ensures cause { HasCause (HasFaulted (I.faults input.old) (I.faults input.new))
+        (FetchFails (told_by (H.files shelf.old) (H.sure shelf.old)) (H.faults shelf.old)
+        (H.faults shelf.new)) (HasFaulted (O.faults output.old) (O.faults output.new)) result }
+    ensures not_usage { result ≢ Status.Usage }
+{
+    let mut line = Vec::new(alloc);
+    let mut any_refused = false;
+    'answering: loop {
+        let next = match reader.next_line(input, &mut line) {
+            Ok(next) => next,
+            Err(reason) => return Status::from(Stop::from(reason)),
+        };
+        if let Next::End = next {
+            return Status::ended(any_refused);
+        }
+        let reply = match answer_line(session, &line, shelf, output) {
+            Ok(reply) => reply,
+            Err(stop) => return Status::from(stop),
+        };
+        any_refused |= reply.is_refused();
+        if let Reply::Quit = reply {
+            return Status::ended(any_refused);
+        }
+        if let Next::LastLine = next {
+            return Status::ended(any_refused);
+        }
+    }
+}
