@@ -1,0 +1,10 @@
+pub mod OneTreeLaws
+pub mod OneBridgingLaws
+pub mod OneUnfitLaws
+pub mod OneSolutionLaws
+pub mod OneOutcomeLaws
+pub mod RenumberedFitLaws
+pub mod RenumberedTextLaws
+pub mod RenumberedOutcomeLaws
+pub mod AlikeLaws
+pub mod OneAnswer

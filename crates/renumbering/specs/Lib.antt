@@ -1,0 +1,16 @@
+pub mod RenamedMaps
+pub mod RenamedFunctions
+pub mod RenamedItems
+pub mod RenamedPieceLaws
+pub mod RenamedImageLaws
+pub mod RenamedFitLaws
+pub mod RenamedEntries
+pub mod RenamedTrees
+pub mod RenamedRuleLaws
+pub mod RenamedLeaves
+pub mod RenamedForm
+pub mod RenamedDuals
+pub mod RenumberedModel
+pub mod RenumberedCertificateLaws
+pub mod CommonNumbers
+pub mod SameModelLaws
