@@ -1,14 +1,72 @@
-//! The dense board: each row is kept whole, and lowered in place, without a way back.
+//! The dense board: each row is kept whole, beside room for the row that comes after it. A pivot is
+//! worked out in these rooms and then put in place, as the proved program does it: so a pivot that
+//! doesn't fit leaves the board as it was.
 use crate::fraction::{ONE, Ratio, ZERO};
 use crate::{Form, Tableau};
+
+struct Row {
+    now: Vec<Ratio>,
+    next: Vec<Ratio>,
+}
+
+impl Row {
+    fn new(now: Vec<Ratio>) -> Row {
+        Row { next: vec![ZERO; now.len()], now }
+    }
+
+    fn prepare(&mut self, q: usize, step: &[Ratio], places: &[usize]) -> Option<()> {
+        let by = self.now[q];
+        if by.is_zero() {
+            return Some(());
+        }
+        self.next.copy_from_slice(&self.now);
+        // The cost rows have no right side.
+        for &j in places.iter().take_while(|&&j| j < self.now.len()) {
+            self.next[j] = self.now[j].sub(&by.mul(&step[j]).ok()?).ok()?;
+        }
+        Some(())
+    }
+
+    fn settle(&mut self, q: usize) {
+        if !self.now[q].is_zero() {
+            std::mem::swap(&mut self.now, &mut self.next);
+        }
+    }
+}
 
 pub struct DenseBoard {
     m: usize,
     c: usize,
-    rows: Vec<Vec<Ratio>>,
-    first: Vec<Ratio>,
-    second: Vec<Ratio>,
+    rows: Vec<Row>,
+    first: Row,
+    second: Row,
+    step: Vec<Ratio>,
+    places: Vec<usize>,
     basis: Vec<usize>,
+}
+
+impl DenseBoard {
+    fn prepare(&mut self, in_first: bool, r: usize, q: usize) -> Option<()> {
+        let entry = self.rows[r].now[q];
+        self.places.clear();
+        for (j, (number, unit)) in self.rows[r].now.iter().zip(&mut self.step).enumerate() {
+            if number.is_zero() {
+                *unit = ZERO;
+            } else {
+                *unit = number.div(&entry).ok()?;
+                self.places.push(j);
+            }
+        }
+        for (i, row) in self.rows.iter_mut().enumerate() {
+            if i != r {
+                row.prepare(q, &self.step, &self.places)?;
+            }
+        }
+        if in_first {
+            self.first.prepare(q, &self.step, &self.places)?;
+        }
+        self.second.prepare(q, &self.step, &self.places)
+    }
 }
 
 impl Tableau for DenseBoard {
@@ -24,73 +82,63 @@ impl Tableau for DenseBoard {
             for j in 0..c {
                 first[j] = first[j].add(&row[j]).ok()?;
             }
-            rows.push(row);
+            rows.push(Row::new(row));
         }
         for price in &mut first[..c] {
             *price = price.neg();
         }
         let mut second = vec![ZERO; c + m];
         second[..c].copy_from_slice(&form.costs);
-        Some(DenseBoard { m, c, rows, first, second, basis: (c..c + m).collect() })
+        Some(DenseBoard {
+            m,
+            c,
+            rows,
+            first: Row::new(first),
+            second: Row::new(second),
+            step: vec![ZERO; c + m + 1],
+            places: Vec::with_capacity(c + m + 1),
+            basis: (c..c + m).collect(),
+        })
     }
 
     fn pivot(&mut self, in_first: bool, r: usize, q: usize) -> Option<()> {
-        let mut step = std::mem::take(&mut self.rows[r]);
-        let entry = step[q];
-        for number in &mut step {
-            if !number.is_zero() {
-                *number = number.div(&entry).ok()?;
-            }
-        }
+        self.prepare(in_first, r, q)?;
         for (i, row) in self.rows.iter_mut().enumerate() {
             if i != r {
-                lower(row, q, &step)?;
+                row.settle(q);
             }
         }
         if in_first {
-            lower(&mut self.first, q, &step)?;
+            self.first.settle(q);
         }
-        lower(&mut self.second, q, &step)?;
-        self.rows[r] = step;
+        self.second.settle(q);
+        std::mem::swap(&mut self.rows[r].now, &mut self.step);
         self.basis[r] = q;
         Some(())
     }
 
     fn entry(&self, r: usize, q: usize) -> Ratio {
-        self.rows[r][q]
+        self.rows[r].now[q]
     }
 
     fn right(&self, r: usize) -> Ratio {
-        self.rows[r][self.c + self.m]
+        self.rows[r].now[self.c + self.m]
     }
 
     fn price(&self, in_first: bool, q: usize) -> Ratio {
-        if in_first { self.first[q] } else { self.second[q] }
+        if in_first { self.first.now[q] } else { self.second.now[q] }
     }
 
     fn entering(&self, in_first: bool) -> Option<usize> {
-        let prices = if in_first { &self.first } else { &self.second };
+        let prices = if in_first { &self.first.now } else { &self.second.now };
         (0..self.c).find(|&j| prices[j].num < 0)
     }
 
     fn swept_column(&self, r: usize) -> Option<usize> {
-        (0..self.c).find(|&j| !self.rows[r][j].is_zero())
+        (0..self.c).find(|&j| !self.rows[r].now[j].is_zero())
     }
 
     fn basis(&self) -> &[usize] {
         &self.basis
     }
-}
-
-fn lower(row: &mut [Ratio], q: usize, step: &[Ratio]) -> Option<()> {
-    let by = row[q];
-    if by.is_zero() {
-        return Some(());
-    }
-    for (number, unit) in row.iter_mut().zip(step) {
-        if !unit.is_zero() {
-            *number = number.sub(&by.mul(unit).ok()?).ok()?;
-        }
-    }
-    Some(())
 }
