@@ -1,11 +1,13 @@
 //! Small models, each with its form as a table worked by hand, and with its answer read back.
 use crate::models::{Model, Row, model_of};
 use crate::texts::{answer_text, form_text};
-use simplex_core::solve;
+use lists::Sequence;
+use ratio_core::Ratio;
+use simplex_core::{SolverAnswer, solve};
 use solver_store::Sense;
 use std::alloc::Global;
 use std::test::Fail;
-use std_form::{FormFault, build, read_back};
+use std_form::{FormFault, ReadFault, build, read_back};
 
 fn form(alloc: Global, model: &Model) -> Result<String, Fail> {
     match build(alloc, &model.solver, &model.map) {
@@ -117,5 +119,38 @@ fn a_right_side_that_does_not_fit_is_refused(rt: HostRuntime) -> Result<(), Fail
     let alloc = rt.alloc();
     let model = model_of(alloc, &TOO_GREAT, None)?;
     assert_eq!(rt; fault(alloc, &model), Some(FormFault::Overflow));
+    Ok(())
+}
+
+// An answer in which the free variable x is the difference of two such numbers. No pivot leads to
+// one: at most one of the two columns is in a basis.
+fn far_apart(alloc: Global) -> Result<SolverAnswer, Fail> {
+    let greatest = Ratio::read(GREATEST.as_bytes()).ok_or("a number")?;
+    let x = vec![in alloc; greatest, greatest.neg()]?;
+    let x = Sequence::from_vec(x);
+    Ok(SolverAnswer::Optimal {
+        x,
+        y: Sequence::new(alloc),
+        basis: Sequence::new(alloc),
+    })
+}
+
+fn reading_fault(
+    alloc: Global,
+    model: &Model,
+    answer: &SolverAnswer,
+) -> Result<Option<ReadFault>, Fail> {
+    let Ok(form) = build(alloc, &model.solver, &model.map) else {
+        return Err(Fail::from("no form"));
+    };
+    Ok(read_back(alloc, &model.solver, &model.map, &form, answer).err())
+}
+
+#[test]
+fn a_difference_that_does_not_fit_is_refused(rt: HostRuntime) -> Result<(), Fail> {
+    let alloc = rt.alloc();
+    let model = model_of(alloc, &UNBOUNDED, None)?;
+    let fault = reading_fault(alloc, &model, &far_apart(alloc)?)?;
+    assert_eq!(rt; fault, Some(ReadFault::Overflow));
     Ok(())
 }
