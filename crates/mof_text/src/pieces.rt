@@ -57,7 +57,7 @@ fn string_len(text: &[u8]) -> usize
     place
 }
 
-// How many bytes the escape or the other byte has with which the rest of a string begins.
+// How many bytes the escape, or the run of other bytes, has with which the rest of a string begins.
 fn step_len(text: &[u8]) -> usize
     requires some { 0 < length text.now }
     requires no_quote { slice_index text.now 0 ≢ 34 }
@@ -67,8 +67,11 @@ fn step_len(text: &[u8]) -> usize
         ≡ take result text.now ++ rewritten_at in_string (drop result text.now) }
 {
     if text.len() > 1 && text[0] == b'\\' {
-        2
-    } else {
-        1
+        return 2;
     }
+    let mut place = 1;
+    while place < text.len() && text[place] != b'"' && text[place] != b'\\' {
+        place += 1;
+    }
+    place
 }

@@ -1,5 +1,5 @@
 -- Terms kept as entries, and one more.
-use Rattle.std.proofs.Common.{◌≡◌, ℕ, Bool, true, false, cond, Option, Some, None, List, [], ◌∷◌, refl, sym, ap, ◌∙◌}
+use Rattle.std.proofs.Common.{◌≡◌, ℕ, Bool, true, false, cond, Option, Some, None, List, [], ◌∷◌, ◌++◌, refl, sym, ap, ◌∙◌}
 use Rattle.std.specs.Map.{lookup}
 use Rattle.std.specs.Option.{option_and_then, option_map}
 use Rattle.std.specs.Prelude.{Result, Ok, Err}
@@ -9,7 +9,7 @@ use Rattle.indexmap.specs.IndexMap.{insert_entry}
 use Rattle.named_aff.specs.declared.terms.NamedTerm.{NamedTerm}
 use Rattle.ratio_core.specs.Rational.{Rational, ◌+ℚ◌, SumFits, sum_fits}
 use Rattle.ratio_core.specs.RationalLaws.{sum_fits_Decides}
-use Rattle.named_sums.specs.Entries.{Entries, terms_in, coefficient_with}
+use Rattle.named_sums.specs.Entries.{Entries, coefficient_with, has_variable, terms_in}
 use Rattle.named_sums.specs.Sums.{sum_of, with_term}
 
 -- the entries with another coefficient of the term's variable
@@ -52,6 +52,16 @@ with_term_entries (e ∷ entries) term =
         (ap (option_and_then (λ ts. Some (record { variable = e.0; coefficient = e.1 } ∷ ts))) rest
         ∙ put_later e entries term
         (coefficient_with (lookup (bytes_eq term.variable) entries) term.coefficient))
+
+-- a term of a variable that has none yet
+pub with_term_last : (ts : List NamedTerm) (term : NamedTerm) → has_variable ts term.variable ≡ false → with_term ts term ≡ Some (ts ++ term ∷ [])
+with_term_last [] term absent = refl
+with_term_last (t ∷ ts) term absent = at (bytes_eq term.variable t.variable) refl (with_term_last ts term)
+  where
+    at : (b : Bool) → bytes_eq term.variable t.variable ≡ b → (has_variable ts term.variable ≡ false → with_term ts term ≡ Some (ts ++ term ∷ []))
+        → with_term (t ∷ ts) term ≡ Some (t ∷ ts ++ term ∷ [])
+    at true same rest = let bad : true ≡ false = rw same at absent in cc
+    at false other rest = rw other (ap (option_and_then (λ others. Some (t ∷ others))) (rest (rw other at absent)))
 
 pub sum_of_is : {E : Type 0} (p q : Rational) (r : Result Rational E) → OkIff r (SumFits p q) (p +ℚ q) → result_ok r ≡ sum_of p q
 unfolding sum_of

@@ -1,33 +1,45 @@
 //! Terms that are added up by the names of their variables.
-ghost use Rattle.std.specs.Prelude.{◌≡◌, [], IfOk, Some, None, if◌then◌else◌};
+ghost use Rattle.std.specs.Prelude.{◌≡◌, [], IfOk, Some, None, false, if◌then◌else◌};
 ghost use Rattle.std.specs.Str.{bytes_eq};
 ghost use Rattle.indexmap.specs.IndexMap.{get_by};
-ghost use Rattle.named_sums.specs.Entries.{coefficient_with, terms_in};
+ghost use Rattle.named_aff.specs.Distinct.{HasDistinctNames};
+ghost use Rattle.named_sums.specs.Entries.{coefficient_with, has_variable, terms_in, terms_kept};
 ghost use Rattle.named_sums.specs.Sums.{sum_of, with_term};
 
 use indexmap::IndexMap;
-use lists::Memory;
+use lists::{Duplicate, Memory};
 use name_index::Name;
 use named_aff::{NamedTerm, NamedTerms};
 use ratio_core::Ratio;
 use std::alloc::Global;
 use std::marker::Model;
 
+/// The most terms that are searched one by one, without a table of their variables.
+const FEW: usize = 16;
+
+// Few terms, or any with a table of their variables.
+#[derive(Drop)]
+pub(crate) enum Kept {
+    Few(NamedTerms),
+    Many(IndexMap<Name, Ratio>),
+}
+
 /// Terms of distinct variables in the making, in the order of first mention, which contracts see
 /// as the list of them. Adding a term costs the same however many there are.
 #[derive(Drop)]
 pub struct TermSum {
-    coefficients: IndexMap<Name, Ratio>,
+    alloc: Global,
+    kept: Kept,
 }
 
 impl Model for TermSum {
     ghost use Rattle.std.specs.Prelude.{List};
     ghost use Rattle.named_aff.specs.declared.terms.NamedTerm.{NamedTerm};
-    ghost use Rattle.named_sums.specs.Entries.{terms_in};
+    ghost use Rattle.named_sums.specs.Entries.{terms_kept};
 
     ghost Value = { List NamedTerm };
 
-    ghost view = { λ sum. terms_in sum.coefficients.entries };
+    ghost view = { λ sum. terms_kept sum.kept };
 }
 
 impl TermSum {
@@ -36,7 +48,8 @@ impl TermSum {
         ensures { result ≡ [] }
     {
         TermSum {
-            coefficients: IndexMap::new(alloc),
+            alloc,
+            kept: Kept::Few(NamedTerms::new(alloc)),
         }
     }
 
@@ -45,15 +58,77 @@ impl TermSum {
         ensures { IfOk result (λ fits. with_term self.old term
             ≡ (if fits then Some self.new else None)) }
     {
-        add_term(&mut self.coefficients, term)
+        add_kept(self.alloc, &mut self.kept, term)
     }
 
     /// The terms in their order.
     pub fn into_terms(self, alloc: Global) -> Result<NamedTerms, Memory>
         ensures { IfOk result (λ terms. terms ≡ self) }
     {
-        named_terms(alloc, self.coefficients)
+        match self.kept {
+            Kept::Few(terms) => Ok(terms),
+            Kept::Many(coefficients) => named_terms(alloc, coefficients),
+        }
     }
+}
+
+// Adds a term to that of its variable, or puts it last, and says whether the sum fits. A table is
+// made as soon as there are many terms, or two of one variable.
+fn add_kept(alloc: Global, kept: &mut Kept, term: NamedTerm) -> Result<bool, Memory>
+    ensures { IfOk result (λ fits. with_term (terms_kept kept.old) term
+        ≡ (if fits then Some (terms_kept kept.new) else None)) }
+{
+    match kept {
+        Kept::Few(terms) => {
+            let listed = terms.as_slice();
+            if listed.len() < FEW && !has_variable(listed, &term.variable) {
+                return put_last(terms, term);
+            }
+            let mut coefficients = coefficients_of(alloc, listed)?;
+            let fits = add_term(&mut coefficients, term)?;
+            *kept = Kept::Many(coefficients);
+            Ok(fits)
+        }
+        Kept::Many(coefficients) => add_term(coefficients, term),
+    }
+}
+
+// Whether one of the terms is of this variable.
+fn has_variable(terms: &[NamedTerm], name: &Name) -> bool
+    ensures { result ≡ has_variable terms.now name.now }
+{
+    for term in terms {
+        if *name == term.variable {
+            return true;
+        }
+    }
+    false
+}
+
+// Puts a term last, of a variable that has none yet, and says that it fits.
+#[tactic(auto, using(crate::proofs::Linear::with_term_last))]
+fn put_last(terms: &mut NamedTerms, term: NamedTerm) -> Result<bool, Memory>
+    requires distinct { HasDistinctNames terms.old }
+    requires none { has_variable terms.old term.variable ≡ false }
+    ensures { IfOk result (λ fits. with_term terms.old term
+        ≡ (if fits then Some terms.new else None)) }
+{
+    if terms.push(term).is_err() {
+        return Err(Memory);
+    }
+    Ok(true)
+}
+
+// The coefficients of terms of distinct variables.
+fn coefficients_of(alloc: Global, terms: &[NamedTerm]) -> Result<IndexMap<Name, Ratio>, Memory>
+    requires { HasDistinctNames terms.now }
+    ensures { IfOk result (λ coefficients. terms_in coefficients.entries ≡ terms.now) }
+{
+    let mut coefficients = IndexMap::new(alloc);
+    for term in terms {
+        coefficients.insert(term.variable.copy()?, term.coefficient)?;
+    }
+    Ok(coefficients)
 }
 
 // Adds a term to that of its variable, or puts it last, and says whether the sum fits.
