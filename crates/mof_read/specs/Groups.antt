@@ -30,7 +30,8 @@ are_new seen (name ∷ names) =
 abbrev pub becomes_group : Owners → NamedFunc → Set → Bool
 becomes_group owners (Plain var) set = is_scalar set && is_free owners var
 becomes_group owners (PlainVec vars) set =
-    not (is_scalar set) && nat_lt 0 (length vars) && list_all (is_free owners) vars && are_new [] vars
+    not (is_scalar set) && nat_lt 0 (length vars)
+    && list_all (is_free owners) vars && are_new [] vars
 becomes_group owners _ set = false
 
 -- the variables of a function without coefficients

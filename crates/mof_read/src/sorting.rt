@@ -82,7 +82,8 @@ impl Sorting {
     }
 
     fn add_group(&mut self, alloc: Global, constraint: FileConstraint) -> Result<(), Memory>
-        ensures { OnOk result (sorted_so_far self.new ≡ with_group (sorted_so_far self.old) constraint) }
+        ensures { OnOk result (sorted_so_far self.new
+            ≡ with_group (sorted_so_far self.old) constraint) }
     {
         let names = plain_names(alloc, constraint.func)?;
         put_owners(&mut self.owners, names.as_slice(), self.groups.len())?;
