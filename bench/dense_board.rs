@@ -19,7 +19,6 @@ impl Row {
         if by.is_zero() {
             return Some(());
         }
-        self.next.copy_from_slice(&self.now);
         // The cost rows have no right side.
         for &j in places.iter().take_while(|&&j| j < self.now.len()) {
             self.next[j] = self.now[j].sub(&by.mul(&step[j]).ok()?).ok()?;
@@ -27,9 +26,13 @@ impl Row {
         Some(())
     }
 
-    fn settle(&mut self, q: usize) {
-        if !self.now[q].is_zero() {
-            std::mem::swap(&mut self.now, &mut self.next);
+    fn settle(&mut self, q: usize, places: &[usize]) {
+        if self.now[q].is_zero() {
+            return;
+        }
+        let length = self.now.len();
+        for &j in places.iter().take_while(|&&j| j < length) {
+            self.now[j] = self.next[j];
         }
     }
 }
@@ -105,13 +108,13 @@ impl Tableau for DenseBoard {
         self.prepare(in_first, r, q)?;
         for (i, row) in self.rows.iter_mut().enumerate() {
             if i != r {
-                row.settle(q);
+                row.settle(q, &self.places);
             }
         }
         if in_first {
-            self.first.settle(q);
+            self.first.settle(q, &self.places);
         }
-        self.second.settle(q);
+        self.second.settle(q, &self.places);
         std::mem::swap(&mut self.rows[r].now, &mut self.step);
         self.basis[r] = q;
         Some(())

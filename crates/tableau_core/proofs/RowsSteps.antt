@@ -6,8 +6,9 @@ use Rattle.std.proofs.lemmas.List.{get_or-set_other, get_or-set_same, length-set
 use Rattle.std.proofs.lemmas.Option.{slice_get-get_or, slice_get_past}
 use Rattle.ratio_core.specs.Rational.{Rational}
 use Rattle.tableau_core.specs.declared.kept.Row.{Row}
+use Rattle.tableau_core.specs.Places.{Covers}
 use Rattle.tableau_core.specs.Row.{IsLowered, IsPrepared, cell, differences_fit}
-use Rattle.tableau_core.specs.Rows.{ArePrepared, next_at, next_numbers, now_at, numbers, rows_fit}
+use Rattle.tableau_core.specs.Rows.{ArePrepared, AreWide, next_at, next_numbers, now_at, numbers, rows_fit}
 use Rattle.simplex_laws.specs.SearchLaws.{all_below_failed, all_below_more}
 use Rattle.simplex_form.specs.Search.{all_below}
 use Rattle.simplex_laws.specs.BoundedSumLaws.{same_or_other}
@@ -21,12 +22,12 @@ pub record ArePreparedTo (r q : ℕ) (step : List Rational) (before rows : List 
   pub prepared : (k : ℕ) → k < i → ¬ (k ≡ r) → IsPrepared q step (now_at rows k) (next_at rows k)
 
 -- the rows below i are put in place
-pub record AreSettledTo (r q : ℕ) (before rows : List Row) (i : ℕ) : Type 0 where
+pub record AreSettledTo (r q : ℕ) (places : List ℕ) (before rows : List Row) (i : ℕ) : Type 0 where
   pub within : i ≤ length before
   pub long : length rows ≡ length before
   pub later : (k : ℕ) → i ≤ k → slice_get rows k ≡ slice_get before k
   pub pivot_stays : now_at rows r ≡ now_at before r
-  pub lowered : (step : List Rational) → ArePrepared r q step before → (k : ℕ) → k < i → ¬ (k ≡ r) → IsLowered (cell (now_at before k) q) step (now_at before k) (now_at rows k)
+  pub lowered : (step : List Rational) → AreWide (length step) before → Covers places step → ArePrepared r q step before → (k : ℕ) → k < i → ¬ (k ≡ r) → IsLowered (cell (now_at before k) q) step (now_at before k) (now_at rows k)
 
 -- ---- a row that is written
 
@@ -100,8 +101,8 @@ module _ (r q : ℕ) (step : List Rational) (before rows : List Row) (i : ℕ) w
 
 -- ---- the rows put in place
 
-module _ (r q : ℕ) (before rows : List Row) (i : ℕ) where
-  pub settled-more : (d new : Row) → AreSettledTo r q before rows i → i < length before → ¬ (i ≡ r) → ((step : List Rational) → IsPrepared q step (slice_index_or rows i d).now.items (slice_index_or rows i d).next.items → IsLowered (cell (slice_index_or rows i d).now.items q) step (slice_index_or rows i d).now.items new.now.items) → AreSettledTo r q before (slice_set rows i new) (i + 1)
+module _ (r q : ℕ) (places : List ℕ) (before rows : List Row) (i : ℕ) where
+  pub settled-more : (d new : Row) → AreSettledTo r q places before rows i → i < length before → ¬ (i ≡ r) → ((step : List Rational) → length (slice_index_or rows i d).now.items ≤ length step → Covers places step → IsPrepared q step (slice_index_or rows i d).now.items (slice_index_or rows i d).next.items → IsLowered (cell (slice_index_or rows i d).now.items q) step (slice_index_or rows i d).now.items new.now.items) → AreSettledTo r q places before (slice_set rows i new) (i + 1)
   settled-more d new h b n low =
       let at : i < length rows = subst (λ n. i < n) (sym h.long) b in
       let here : slice_get (slice_set rows i new) i ≡ Some new = written_at rows i new at in
@@ -111,9 +112,12 @@ module _ (r q : ℕ) (before rows : List Row) (i : ℕ) where
         long = length-set rows i new ∙ h.long;
         later = λ k c. written_off rows i k new (λ e. above_lem k i c e) ∙ h.later k (omega (arith, c));
         pivot_stays = ap numbers (written_off rows i r new (λ e. n (sym e))) ∙ h.pivot_stays;
-        lowered = λ step p k c m. same_or_other (IsLowered (cell (now_at before k) q) step (now_at before k) (now_at (slice_set rows i new) k)) k i (λ e. subst (λ j. IsLowered (cell (now_at before j) q) step (now_at before j) (now_at (slice_set rows i new) j)) (sym e) (subst (λ o. IsLowered (cell (now_at before i) q) step (now_at before i) (numbers o)) (sym here) (lowered_here old (low step) (p i b n)))) (λ f. subst (λ o. IsLowered (cell (now_at before k) q) step (now_at before k) (numbers o)) (sym (written_off rows i k new f)) (h.lowered step p k (omega (arith, c, f)) m));
+        lowered = λ step wide covers p k c m. same_or_other (IsLowered (cell (now_at before k) q) step (now_at before k) (now_at (slice_set rows i new) k)) k i (λ e. subst (λ j. IsLowered (cell (now_at before j) q) step (now_at before j) (now_at (slice_set rows i new) j)) (sym e) (subst (λ o. IsLowered (cell (now_at before i) q) step (now_at before i) (numbers o)) (sym here) (lowered_here old (low step (at_most (ap (λ o. length (numbers o)) old ∙ wide i b)) covers) (p i b n)))) (λ f. subst (λ o. IsLowered (cell (now_at before k) q) step (now_at before k) (numbers o)) (sym (written_off rows i k new f)) (h.lowered step wide covers p k (omega (arith, c, f)) m));
       }
     where
+      at_most : {a b : ℕ} → a ≡ b → a ≤ b
+      at_most e = omega (arith, e)
+
       above_lem : (k i : ℕ) → i + 1 ≤ k → k ≡ i → ⊥
       above_lem k i c e = absurd (omega (arith, c, e))
 
@@ -121,13 +125,13 @@ module _ (r q : ℕ) (before rows : List Row) (i : ℕ) where
       lowered_here {row} {step} e low p =
           subst (λ o. IsLowered (cell (numbers o) q) step (numbers o) new.now.items) e (low (subst (λ o. IsPrepared q step (numbers o) (next_numbers o)) (sym e) p))
 
-  pub settled-pivot : AreSettledTo r q before rows i → i < length before → i ≡ r → AreSettledTo r q before rows (i + 1)
+  pub settled-pivot : AreSettledTo r q places before rows i → i < length before → i ≡ r → AreSettledTo r q places before rows (i + 1)
   settled-pivot h b e = record {
     within = omega (arith, b);
     long = h.long;
     later = λ k c. h.later k (omega (arith, c));
     pivot_stays = h.pivot_stays;
-    lowered = λ step p k c n. h.lowered step p k (omega (arith, c, below_lem k i r n e)) n;
+    lowered = λ step wide covers p k c n. h.lowered step wide covers p k (omega (arith, c, below_lem k i r n e)) n;
   }
     where
       below_lem : (k i r : ℕ) → ¬ (k ≡ r) → i ≡ r → ¬ (k ≡ i)
