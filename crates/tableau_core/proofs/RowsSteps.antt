@@ -3,12 +3,14 @@ use Rattle.std.specs.Prelude.{◌≡◌, ℕ, ◌+◌, ◌<◌, ◌≤◌, Bool,
 use Rattle.std.proofs.Common.{inl, inr, sym, ◌∙◌, ap, ap₂, arith, subst}
 use Rattle.std.proofs.lemmas.Bool.{cases_lt, eq-eqb, eqb-true}
 use Rattle.std.proofs.lemmas.List.{get_or-set_other, get_or-set_same, length-set}
-use Rattle.std.proofs.lemmas.Option.{slice_get-get_or, slice_get_past}
+use Rattle.std.proofs.Math.Bool.{or-true}
+use Rattle.std.proofs.lemmas.Option.{slice_get-get_or}
 use Rattle.ratio_core.specs.Rational.{Rational}
 use Rattle.tableau_core.specs.declared.kept.Row.{Row}
 use Rattle.tableau_core.specs.Places.{Covers}
 use Rattle.tableau_core.specs.Row.{IsLowered, IsPrepared, cell, differences_fit}
 use Rattle.tableau_core.specs.Rows.{ArePrepared, AreWide, next_at, next_numbers, now_at, numbers, rows_fit}
+use Rattle.tableau_core.specs.WrittenLaws.{written_at, written_off}
 use Rattle.simplex_laws.specs.SearchLaws.{all_below_failed, all_below_more}
 use Rattle.simplex_form.specs.Search.{all_below}
 use Rattle.simplex_laws.specs.BoundedSumLaws.{same_or_other}
@@ -29,30 +31,10 @@ pub record AreSettledTo (r q : ℕ) (places : List ℕ) (before rows : List Row)
   pub pivot_stays : now_at rows r ≡ now_at before r
   pub lowered : (step : List Rational) → AreWide (length step) before → Covers places step → ArePrepared r q step before → (k : ℕ) → k < i → ¬ (k ≡ r) → IsLowered (cell (now_at before k) q) step (now_at before k) (now_at rows k)
 
--- ---- a row that is written
-
-pub written_at : (rows : List Row) (i : ℕ) (row : Row) → i < length rows → slice_get (slice_set rows i row) i ≡ Some row
-written_at rows i row b =
-    slice_get-get_or (slice_set rows i row) i row (subst (λ n. i < n) (sym (length-set rows i row)) b) ∙ ap Some (get_or-set_same rows i row row b)
-
-pub written_off : (rows : List Row) (i k : ℕ) (row : Row) → ¬ (k ≡ i) → slice_get (slice_set rows i row) k ≡ slice_get rows k
-written_off rows i k row n = by_end (cases_lt k (length rows))
-  where
-    by_end : (k < length rows) ⊎ (length rows ≤ k) → slice_get (slice_set rows i row) k ≡ slice_get rows k
-    by_end (inl b) =
-        slice_get-get_or (slice_set rows i row) k row (subst (λ m. k < m) (sym (length-set rows i row)) b)
-        ∙ ap Some (get_or-set_other rows i k row row n) ∙ sym (slice_get-get_or rows k row b)
-    by_end (inr h) = slice_get_past (slice_set rows i row) k (subst (λ m. m ≤ k) (sym (length-set rows i row)) h) ∙ sym (slice_get_past rows k h)
+-- ---- a row that is read
 
 pub read_at : (rows : List Row) (i : ℕ) (d : Row) → i < length rows → slice_get rows i ≡ Some (slice_index_or rows i d)
 read_at rows i d b = slice_get-get_or rows i d b
-
-or_true : (a b : Bool) → b ≡ true → (a || b) ≡ true
-or_true true b e = refl
-or_true false b e = e
-
-true_or : (a b : Bool) → a ≡ true → (a || b) ≡ true
-true_or a b e = ap (λ x. x || b) e
 
 -- ---- the rows worked out
 
@@ -72,7 +54,7 @@ module _ (r q : ℕ) (step : List Rational) (before rows : List Row) (i : ℕ) w
         within = omega (arith, b);
         long = length-set rows i new ∙ h.long;
         stays = λ k. same_or_other (now_at (slice_set rows i new) k ≡ now_at before k) k i (λ e. subst (λ j. now_at (slice_set rows i new) j ≡ now_at before j) (sym e) (ap numbers here ∙ same ∙ old)) (λ m. ap numbers (written_off rows i k new m) ∙ h.stays k);
-        fit = all_below_more i row_fits h.fit (or_true (nat_eq i r) (differences_fit (cell (now_at before i) q) step (now_at before i)) (subst (λ row. differences_fit (cell row q) step row ≡ true) old (sym fits)));
+        fit = all_below_more i row_fits h.fit (ap (λ x. nat_eq i r || x) (subst (λ row. differences_fit (cell row q) step row ≡ true) old (sym fits)) ∙ or-true (nat_eq i r));
         prepared = λ k c n. same_or_other (IsPrepared q step (now_at (slice_set rows i new) k) (next_at (slice_set rows i new) k)) k i (λ e. subst (λ j. IsPrepared q step (now_at (slice_set rows i new) j) (next_at (slice_set rows i new) j)) (sym e) (subst (λ o. IsPrepared q step (numbers o) (next_numbers o)) (sym here) (subst (λ row. IsPrepared q step row new.next.items) (sym same) made))) (λ m. subst (λ o. IsPrepared q step (numbers o) (next_numbers o)) (sym (written_off rows i k new m)) (h.prepared k (omega (arith, c, m)) n));
       }
 
@@ -82,7 +64,7 @@ module _ (r q : ℕ) (step : List Rational) (before rows : List Row) (i : ℕ) w
     within = omega (arith, b);
     long = h.long;
     stays = h.stays;
-    fit = all_below_more i row_fits h.fit (true_or (nat_eq i r) (differences_fit (cell (now_at before i) q) step (now_at before i)) (eq-eqb i r e));
+    fit = all_below_more i row_fits h.fit (ap (λ x. x || differences_fit (cell (now_at before i) q) step (now_at before i)) (eq-eqb i r e));
     prepared = λ k c n. h.prepared k (omega (arith, c, below_lem k i r n e)) n;
   }
     where

@@ -8,7 +8,8 @@ use Rattle.tableau_core.specs.Row.{AllFit}
 use Rattle.tableau_core.specs.Rows.{AreWide, now_at}
 use Rattle.tableau_core.specs.Pivoting.{IsReady, IsSettled, numbers_fit}
 use Rattle.tableau_core.specs.LoweringLaws.{is_ok-err}
-use Rattle.tableau_core.proofs.BoardSteps.{kept_after, kept_same, pivoted_all, refused, row_within, tests_same, view_same, wide_after}
+use Rattle.tableau_core.specs.KeptLaws.{refused}
+use Rattle.tableau_core.proofs.BoardSteps.{kept_after, kept_same, pivoted_all, row_within, tests_same, view_same, wide_after}
 use Rattle.tableau_core.proofs.dense_board.DenseBoardTableau.pivot.Goals as goal
 
 pub returns-in_err-used-clause-fits : goal.returns-in_err-used-clause-fits
