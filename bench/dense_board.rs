@@ -1,5 +1,5 @@
-//! The dense board: each row is kept whole, beside room for the row that comes after it. A pivot is
-//! worked out in these rooms and then put in place, as the proved program does it: so a pivot that
+//! The dense board: each row is kept whole, beside room for the numbers of it that a pivot changes.
+//! They are worked out there and then put in place, as the proved program does it: so a pivot that
 //! doesn't fit leaves the board as it was.
 use crate::fraction::{ONE, Ratio, ZERO};
 use crate::{Form, Tableau};

@@ -1,5 +1,5 @@
 use Rattle.std.specs.Prelude.{slice_index}
-use Rattle.std.proofs.Common.{arith, length, subst, sym, ◌+◌, ◌∙◌, ◌<◌, ◌≤◌}
+use Rattle.std.proofs.Common.{arith, length, subst, sym, ◌+◌, ◌<◌, ◌≤◌}
 use Rattle.ratio_core.specs.Rational.{Fits}
 use Rattle.tableau_core.specs.Row.{AllFit, IsPutAt, cell}
 use Rattle.tableau_core.proofs.RowSteps.{item_is, put_here, put_past, set_fits}

@@ -1,7 +1,7 @@
 use Rattle.std.proofs.Common.{ap, arith, sym, ◌∙◌}
 use Rattle.ratio_core.specs.Rational.{zero_ℚ}
 use Rattle.simplex_form.specs.Turns.{is_below}
-use Rattle.tableau_core.specs.LeastLaws.{least_found, least_more}
+use Rattle.tableau_core.specs.LeastLaws.{least_found}
 use Rattle.tableau_core.specs.Row.{cell}
 use Rattle.tableau_core.proofs.RowSteps.{item_is}
 use Rattle.tableau_core.proofs.scan.first_negative.Goals as goal
