@@ -1,5 +1,5 @@
-//! The dense board: each row is kept whole, beside room for the row that comes after it. A pivot is
-//! worked out in these rooms and then put in place, as the proved program does it: so a pivot that
+//! The dense board: each row is kept whole, beside room for the numbers of it that a pivot changes.
+//! They are worked out there and then put in place, as the proved program does it: so a pivot that
 //! doesn't fit leaves the board as it was.
 use crate::fraction::{ONE, Ratio, ZERO};
 use crate::{Form, Tableau};
@@ -19,7 +19,6 @@ impl Row {
         if by.is_zero() {
             return Some(());
         }
-        self.next.copy_from_slice(&self.now);
         // The cost rows have no right side.
         for &j in places.iter().take_while(|&&j| j < self.now.len()) {
             self.next[j] = self.now[j].sub(&by.mul(&step[j]).ok()?).ok()?;
@@ -27,9 +26,13 @@ impl Row {
         Some(())
     }
 
-    fn settle(&mut self, q: usize) {
-        if !self.now[q].is_zero() {
-            std::mem::swap(&mut self.now, &mut self.next);
+    fn settle(&mut self, q: usize, places: &[usize]) {
+        if self.now[q].is_zero() {
+            return;
+        }
+        let length = self.now.len();
+        for &j in places.iter().take_while(|&&j| j < length) {
+            self.now[j] = self.next[j];
         }
     }
 }
@@ -105,13 +108,13 @@ impl Tableau for DenseBoard {
         self.prepare(in_first, r, q)?;
         for (i, row) in self.rows.iter_mut().enumerate() {
             if i != r {
-                row.settle(q);
+                row.settle(q, &self.places);
             }
         }
         if in_first {
-            self.first.settle(q);
+            self.first.settle(q, &self.places);
         }
-        self.second.settle(q);
+        self.second.settle(q, &self.places);
         std::mem::swap(&mut self.rows[r].now, &mut self.step);
         self.basis[r] = q;
         Some(())

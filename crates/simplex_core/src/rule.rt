@@ -10,7 +10,7 @@ ghost use Rattle.simplex_core.specs.Phases.{IsInPhase, IsWithin};
 use ratio_core::Ratio;
 use simplex_form::{Phase, Turn};
 use std::cmp::Ordering;
-use tableau_core::Tableau;
+use tableau_core::{Tableau, is_positive};
 
 // What is done at the board's basis.
 pub(crate) fn turn<T: Tableau>(board: &T, phase: Phase) -> Turn
@@ -190,14 +190,6 @@ fn is_above<T: Tableau>(board: &T, i: usize) -> bool
     ensures { result ≡ bland.is_above (readings_of (T.contents board.now)) i }
 {
     board.basis()[i] >= board.real_count() && is_positive(&board.right(i))
-}
-
-// Whether a number is above 0, as its numerator is.
-#[inline(always)]
-fn is_positive(value: &Ratio) -> bool
-    ensures { result ≡ bland.is_below zero_ℚ value.now }
-{
-    value.num() > 0
 }
 
 // Whether the multipliers fit that are to show that the rows can't be met.

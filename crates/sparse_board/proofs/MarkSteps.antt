@@ -14,7 +14,7 @@ use Rattle.sparse_board.specs.Rows.{AreLowered, AreWide, now_at, now_of, number_
 use Rattle.sparse_board.specs.Marks.{AreMarked, KeepMarks, MarksRow, MarksUnits, is_marked}
 use Rattle.sparse_board.specs.Pivoting.{quotient_at}
 use Rattle.sparse_board.proofs.NumberLemmas.{number_missing, sought}
-use Rattle.sparse_board.proofs.RowsSteps.{written_at, written_off}
+use Rattle.tableau_core.specs.WrittenLaws.{written_at, written_off}
 
 -- the place of column j and row i
 pub place_below : (w m j i n : ℕ) → n ≡ w * m → j < w → i < m → j * m + i < n

@@ -13,7 +13,7 @@ use Rattle.sparse_board.specs.Numbers.{number_of, width_of}
 use Rattle.sparse_board.specs.Lowering.{IsLowered, IsPrepared, differences_fit, quotients_fit}
 use Rattle.sparse_board.specs.Rows.{AreLowered, AreWide, SameWidths, now_at, now_of, number_in_row, numbers, width_at}
 use Rattle.sparse_board.specs.Pivoting.{IsReady, IsSettled, costs_fit, numbers_fit, quotient_at}
-use Rattle.sparse_board.proofs.RowsSteps.{written_at, written_off}
+use Rattle.tableau_core.specs.WrittenLaws.{written_at, written_off}
 
 -- ---- the tests
 

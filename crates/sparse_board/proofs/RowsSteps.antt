@@ -1,15 +1,17 @@
 -- The rows worked out, or put in place, up to the i-th.
-use Rattle.std.specs.Prelude.{◌≡◌, ℕ, zero, suc, ◌+◌, ◌<◌, ◌≤◌, Bool, true, false, ◌&&◌, ◌||◌, ◌⊎◌, not, nat_eq, List, [], ◌∷◌, ◌++◌, length, slice_index_or, Option, Some, None, slice_get, slice_set, refl}
-use Rattle.std.proofs.Common.{inl, inr, sym, ◌∙◌, ap, ap₂, arith, subst, true≢false}
-use Rattle.std.proofs.lemmas.Bool.{cases_lt, eq-eqb, eqb-true, ne_eqb}
-use Rattle.std.proofs.lemmas.List.{get_or-set_other, get_or-set_same, length-append, length-set}
-use Rattle.std.proofs.lemmas.Option.{slice_get-get_or, slice_get_past}
+use Rattle.std.specs.Prelude.{◌≡◌, ℕ, zero, suc, ◌+◌, ◌<◌, ◌≤◌, Bool, true, false, ◌&&◌, ◌||◌, not, nat_eq, List, [], ◌∷◌, ◌++◌, length, slice_index_or, Option, Some, None, slice_get, slice_set, refl}
+use Rattle.std.proofs.Common.{sym, ◌∙◌, ap, ap₂, arith, subst, true≢false}
+use Rattle.std.proofs.lemmas.Bool.{eq-eqb, eqb-true, ne_eqb}
+use Rattle.std.proofs.lemmas.List.{length-append, length-set}
+use Rattle.std.proofs.Math.Bool.{or-true}
+use Rattle.std.proofs.lemmas.Option.{slice_get-get_or}
 use Rattle.ratio_core.specs.Rational.{Fits, Rational, zero_ℚ, ◌*ℚ◌, ◌-ℚ◌}
 use Rattle.rational_laws.specs.Fitting.{Fits_zero}
 use Rattle.simplex_form.specs.Fit.{lowered_fits}
 use Rattle.tableau_core.specs.LoweringLaws.{lowered-zero, lowered_fits-zero, zero-step}
 use Rattle.simplex_form.specs.Search.{all_below}
 use Rattle.simplex_laws.specs.BoundedSumLaws.{same_or_other}
+use Rattle.tableau_core.specs.WrittenLaws.{written_at, written_off}
 use Rattle.simplex_laws.specs.SearchLaws.{all_below_all, all_below_failed, all_below_more}
 use Rattle.sparse_board.specs.declared.row.Row.{Row}
 use Rattle.sparse_board.specs.declared.sparse_row.SparseRow.{SparseRow}
@@ -41,20 +43,7 @@ pub record AreSettledTo (r q : ℕ) (marks : List Bool) (before rows : List Row)
   pub widths : (k : ℕ) → width_at (now_at rows k) ≡ width_at (now_at before k)
   pub lowered : (w : ℕ) (units : ℕ → Rational) → q < w → AreMarked w marks before → ArePrepared r q units marks before → (k : ℕ) → k < i → ¬ (k ≡ r) → IsLoweredNow q units (now_at before k) (now_at rows k)
 
--- ---- a row that is written
-
-pub written_at : (rows : List Row) (i : ℕ) (row : Row) → i < length rows → slice_get (slice_set rows i row) i ≡ Some row
-written_at rows i row b =
-    slice_get-get_or (slice_set rows i row) i row (subst (λ n. i < n) (sym (length-set rows i row)) b) ∙ ap Some (get_or-set_same rows i row row b)
-
-pub written_off : (rows : List Row) (i k : ℕ) (row : Row) → ¬ (k ≡ i) → slice_get (slice_set rows i row) k ≡ slice_get rows k
-written_off rows i k row n = by_end (cases_lt k (length rows))
-  where
-    by_end : (k < length rows) ⊎ (length rows ≤ k) → slice_get (slice_set rows i row) k ≡ slice_get rows k
-    by_end (inl b) =
-        slice_get-get_or (slice_set rows i row) k row (subst (λ m. k < m) (sym (length-set rows i row)) b)
-        ∙ ap Some (get_or-set_other rows i k row row n) ∙ sym (slice_get-get_or rows k row b)
-    by_end (inr h) = slice_get_past (slice_set rows i row) k (subst (λ m. m ≤ k) (sym (length-set rows i row)) h) ∙ sym (slice_get_past rows k h)
+-- ---- a row that is read
 
 pub read_at : (rows : List Row) (i : ℕ) (d : Row) → i < length rows → slice_get rows i ≡ Some (slice_index_or rows i d)
 read_at rows i d b = slice_get-get_or rows i d b
@@ -65,13 +54,6 @@ row_is rows i d b = ap now_of (read_at rows i d b)
 
 pub row_wide : (w : ℕ) (rows : List Row) (i : ℕ) (d : Row) → AreWide w rows → i < length rows → width_of (slice_index_or rows i d).now ≡ w
 row_wide w rows i d wide b = sym (ap width_at (row_is rows i d b)) ∙ wide i b
-
-or_true : (a b : Bool) → b ≡ true → (a || b) ≡ true
-or_true true b e = refl
-or_true false b e = e
-
-true_or : (a b : Bool) → a ≡ true → (a || b) ≡ true
-true_or a b e = ap (λ x. x || b) e
 
 -- ---- a row that is touched, and one that is passed over
 
@@ -149,7 +131,7 @@ module _ (w r q : ℕ) (units : ℕ → Rational) (marks : List Bool) (before ro
         within = omega (arith, b);
         long = length-set rows i new ∙ h.long;
         stays = λ k. same_or_other (now_at (slice_set rows i new) k ≡ now_at before k) k i (λ e. subst (λ j. now_at (slice_set rows i new) j ≡ now_at before j) (sym e) (ap now_of here ∙ ap Some same ∙ row_stands d h b)) (λ m. ap now_of (written_off rows i k new m) ∙ h.stays k);
-        fit = all_below_more i row_fits h.fit (or_true (nat_eq i r) (differences_fit w (number_in_row before i) (number_in_row before i q) units) (fits_here d true h wide b fits));
+        fit = all_below_more i row_fits h.fit (ap (λ x. nat_eq i r || x) (fits_here d true h wide b fits) ∙ or-true (nat_eq i r));
         prepared = λ k c n marked. same_or_other (IsPreparedAt q units (slice_get (slice_set rows i new) k)) k i (λ e. subst (λ j. IsPreparedAt q units (slice_get (slice_set rows i new) j)) (sym e) (subst (IsPreparedAt q units) (sym here) made)) (λ m. subst (IsPreparedAt q units) (sym (written_off rows i k new m)) (h.prepared k (omega (arith, c, m)) n marked));
       }
 
@@ -161,8 +143,8 @@ module _ (w r q : ℕ) (units : ℕ → Rational) (marks : List Bool) (before ro
     stays = h.stays;
     fit = all_below_more i row_fits h.fit
         (passed_is (row_fits i ≡ true) i r (is_marked marks (length before) q i) e
-        (λ p. true_or (nat_eq i r) (differences_fit w (number_in_row before i) (number_in_row before i q) units) (eq-eqb i r p))
-        (λ p. or_true (nat_eq i r) (differences_fit w (number_in_row before i) (number_in_row before i q) units) (zero_fits w q (now_at before i) units (marked i b q column p))));
+        (λ p. ap (λ x. x || differences_fit w (number_in_row before i) (number_in_row before i q) units) (eq-eqb i r p))
+        (λ p. ap (λ x. nat_eq i r || x) (zero_fits w q (now_at before i) units (marked i b q column p)) ∙ or-true (nat_eq i r)));
     prepared = λ k c n m. same_or_other (IsPreparedAt q units (slice_get rows k)) k i
         (λ p. passed_is (IsPreparedAt q units (slice_get rows k)) i r (is_marked marks (length before) q i) e
         (λ f. absurd (n (p ∙ f)))

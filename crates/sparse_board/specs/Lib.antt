@@ -6,4 +6,3 @@ pub mod Rows
 pub mod Marks
 pub mod Pivoting
 pub mod Kept
-pub mod SignLaws

@@ -23,7 +23,8 @@ number_in columns values j = number_at columns values (length columns) j
 -- each column has a number that isn't 0 and fits, and the columns rise
 pub record IsSparse (columns : List ℕ) (values : List Rational) : Type 0 where
   pub long : length values ≡ length columns
-  pub rising : (i k : ℕ) → i < k → k < length columns → slice_index columns i < slice_index columns k
+  pub rising : (i k : ℕ) → i < k → k < length columns →
+      slice_index columns i < slice_index columns k
   pub others : (k : ℕ) → k < length columns → ¬ (cell values k ≡ zero_ℚ)
   pub fit : AllFit values
 

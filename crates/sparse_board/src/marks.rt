@@ -41,7 +41,8 @@ pub(crate) fn mark_step(step: &SparseRow, q: u32, count: usize, marks: &mut [boo
     requires column { q < width_of step.now }
     requires long { length marks.old ≡ width_of step.now * count }
     ensures kept { KeepMarks marks.old marks.new }
-    ensures marked { MarksUnits (width_of step.now) q count (number_of step.now) marks.old marks.new }
+    ensures marked { MarksUnits (width_of step.now) q count (number_of step.now)
+        marks.old marks.new }
 {
     for k in 0..step.entries.len() {
         mark_alike(q, step.entries[k].column, count, marks);

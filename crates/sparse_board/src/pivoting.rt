@@ -45,7 +45,8 @@ pub(crate) fn prepare_pivot(
     ensures fits { is_ok result
         ≡ numbers_fit width (length rows.old) (number_in_row rows.old) r q in_first
         (number_of first.old.now) (number_of second.old.now) }
-    ensures ok { OnOk result (IsReady rows.new r q marks.now in_first first.new second.new step.new) }
+    ensures ok { OnOk result
+        (IsReady rows.new r q marks.now in_first first.new second.new step.new) }
 {
     divide_row(rows, r, q, step)?;
     prepare_rows(rows, r, q, step, marks)?;

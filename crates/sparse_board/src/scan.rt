@@ -6,7 +6,7 @@ ghost use Rattle.simplex_form.specs.Turns.{is_below};
 ghost use Rattle.sparse_board.specs.Numbers.{number_of};
 
 use crate::sparse_row::SparseRow;
-use ratio_core::Ratio;
+use tableau_core::is_negative;
 
 // The first of so many columns whose number is below 0.
 pub(crate) fn first_negative(row: &SparseRow, count: usize) -> Option<usize>
@@ -23,14 +23,6 @@ pub(crate) fn first_negative(row: &SparseRow, count: usize) -> Option<usize>
         }
     }
     None
-}
-
-// Whether a number is below 0, as its numerator is.
-#[inline(always)]
-fn is_negative(value: &Ratio) -> bool
-    ensures { result ≡ is_below value.now zero_ℚ }
-{
-    value.num() < 0
 }
 
 // The first of so many columns whose number isn't 0.

@@ -43,7 +43,8 @@ impl SparseRow {
     // Where the number of a column stands, or would stand.
     fn place_of(&self, column: u32) -> Result<usize, usize>
         ensures bound { IsSearchInRange result (length self.now.entries.items) }
-        ensures position { IsBinarySearchResult (λ c. nat_cmp c column) (row_columns self.now) result }
+        ensures position { IsBinarySearchResult (λ c. nat_cmp c column) (row_columns self.now)
+            result }
     {
         self.entries
             .binary_search_by_key(&column, |entry| entry.column)

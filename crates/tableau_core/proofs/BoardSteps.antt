@@ -1,6 +1,6 @@
 -- What is read of a board as it is kept, before and after a pivot.
-use Rattle.std.specs.Prelude.{◌≡◌, ℕ, zero, suc, ◌+◌, ◌<◌, Bool, true, false, ◌&&◌, ◌||◌, not, nat_eq, List, [], ◌∷◌, length, map, take, slice_index_or, slice_set, Result, Ok, Err, IsErr, MatchResult, refl}
-use Rattle.std.proofs.Common.{sym, ◌∙◌, ap, ap₂, arith, subst, true≢false}
+use Rattle.std.specs.Prelude.{◌≡◌, ℕ, zero, suc, ◌+◌, ◌<◌, Bool, ◌&&◌, ◌||◌, not, nat_eq, List, [], ◌∷◌, length, map, take, slice_index_or, slice_set, refl}
+use Rattle.std.proofs.Common.{sym, ◌∙◌, ap, ap₂, arith, subst}
 use Rattle.std.proofs.lemmas.List.{length-map}
 use Rattle.ratio_core.specs.Rational.{Rational, fits, rational_eq, zero_ℚ, ◌*ℚ◌, ◌-ℚ◌, ◌/ℚ◌}
 use Rattle.tableau_core.specs.declared.dense_board.DenseBoard.TheInside.{Inside}
@@ -9,6 +9,7 @@ use Rattle.tableau_core.specs.Row.{AllFit, IsDivided, IsLowered, cell, quotients
 use Rattle.tableau_core.specs.Rows.{AreWide, now_at, numbers}
 use Rattle.tableau_core.proofs.RowsSteps.{read_at}
 use Rattle.tableau_core.specs.Contents.{IsPivoted, Contents, readings_of, width}
+use Rattle.tableau_core.specs.KeptLaws.{pivoted_read, regrouped, tests_read}
 use Rattle.tableau_core.specs.Kept.{IsKept, contents_of, width_of}
 use Rattle.tableau_core.specs.Pivoting.{IsSettled, numbers_fit, row_fits}
 use Rattle.simplex_form.specs.Basis.{pivoted}
@@ -16,7 +17,6 @@ use Rattle.simplex_form.specs.Fit.{divided_row_fits, lowered_fits, lowered_price
 use Rattle.simplex_form.specs.Readings.{Agrees, Readings, lowered_price, pivoted_readings}
 use Rattle.simplex_form.specs.Search.{all_below, least_below}
 use Rattle.simplex_form.specs.Turns.{swept_column}
-use Rattle.simplex_laws.specs.AgreementLaws.{agrees_chain, pivot_fits_same, pivoted_agrees}
 use Rattle.simplex_laws.specs.BoundedSumLaws.{same_or_other}
 use Rattle.simplex_laws.specs.PivotLaws.{pivoted_at, pivoted_off}
 use Rattle.simplex_laws.specs.SearchLaws.{all_below_last, all_below_same, least_below_same}
@@ -88,11 +88,6 @@ swept_is a r row items t view b is e =
 
 -- ---- the tests of a pivot
 
-regrouped : (a b c d : Bool) → (a && (b && (c && d))) ≡ (a && b && c && d)
-regrouped true true c d = refl
-regrouped true false c d = refl
-regrouped false b c d = refl
-
 module _ (a : Inside) (h : IsKept a) (r q : ℕ) (row : r < length a.rows.items) where
   abbrev R : Readings
   R = kept_readings a
@@ -124,8 +119,7 @@ column_within a t q view column =
 pub tests_same : (a : Inside) → IsKept a → (r q : ℕ) (t : Contents) → contents_of a ≡ t → r < length t.rows → q < width t → numbers_fit (length a.rows.items) (now_at a.rows.items) r q a.in_first a.first.now.items a.second.now.items ≡ pivot_fits t.in_first (readings_of t) r q
 tests_same a h r q t view row column =
     kept_fits a h r q (row_within a t r view row)
-    ∙ pivot_fits_same a.in_first (kept_readings a) (readings_of (contents_of a)) (kept_agrees a.in_first a) r q (subst (λ t. r < length t.rows) (sym view) row) (subst (λ t. q < width t) (sym view) column)
-    ∙ ap (λ t. pivot_fits t.in_first (readings_of t) r q) view
+    ∙ tests_read (kept_readings a) (contents_of a) t view (kept_agrees a.in_first a) r q (subst (λ t. r < length t.rows) (sym view) row) (subst (λ t. q < width t) (sym view) column)
 
 -- ---- nothing has changed
 
@@ -134,10 +128,6 @@ standing_same f [] [] e h = refl
 standing_same f [] (x ∷ xs) e h = absurd (omega (arith, e))
 standing_same f (x ∷ xs) [] e h = absurd (omega (arith, e))
 standing_same f (x ∷ xs) (y ∷ ys) e h = ap₂ (λ a b. a ∷ b) (ap f (h 0)) (standing_same f xs ys (omega (arith, e)) (λ i. h (suc i)))
-
-pub refused : {T E : Type 0} (r : Result T E) (P Q : Type 0) → IsErr r → Q → MatchResult r (λ _. P) (λ _. Q)
-refused (Ok x) P Q e h = absurd (true≢false (sym e))
-refused (Err x) P Q e h = h
 
 module _ (a b : Inside) (reals : b.reals ≡ a.reals) (in_first : b.in_first ≡ a.in_first) (count : length b.rows.items ≡ length a.rows.items) (basis : b.basis.items ≡ a.basis.items) where
   width_is : width_of b ≡ width_of a
@@ -227,10 +217,5 @@ module _ (a b : Inside) (reals : b.reals ≡ a.reals) (count : length b.rows.ite
 
     pub pivoted_all : (t : Contents) → contents_of a ≡ t → q < width t → b.in_first ≡ a.in_first → b.basis.items ≡ slice_set a.basis.items r q → IsPivoted r q t (contents_of b)
     pivoted_all t view column in_first basis =
-        subst (λ t. IsPivoted r q t (contents_of b)) view
-        (record {
-          in_first = in_first;
-          readings = agrees_chain a.in_first (readings_of (contents_of b)) (kept_readings b) (pivoted_readings r q (readings_of (contents_of a))) (value_agrees a.in_first b)
-              (agrees_chain a.in_first (kept_readings b) (pivoted_readings r q (kept_readings a)) (pivoted_readings r q (readings_of (contents_of a))) (inside_pivoted basis)
-              (pivoted_agrees a.in_first (kept_readings a) (readings_of (contents_of a)) (kept_agrees a.in_first a) r q (subst (λ n. r < n) (sym (count_is (width_of a) a.rows.items)) row) (subst (λ t. q < width t) (sym view) column)));
-        })
+        pivoted_read (kept_readings a) (contents_of a) t view (kept_agrees a.in_first a) r q (subst (λ n. r < n) (sym (count_is (width_of a) a.rows.items)) row) (subst (λ t. q < width t) (sym view) column)
+        (kept_readings b) (contents_of b) (value_agrees a.in_first b) (inside_pivoted basis) in_first

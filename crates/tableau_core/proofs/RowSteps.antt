@@ -4,7 +4,7 @@ use Rattle.std.proofs.Common.{sym, ◌∙◌, ap, arith, subst, inl, inr}
 use Rattle.std.proofs.lemmas.List.{get_or_default, get_or-set_other, get_or-set_same, length-set, get_or-take, length-take}
 use Rattle.ratio_core.specs.Rational.{Fits, Rational, fits, zero_ℚ, ◌*ℚ◌, ◌-ℚ◌, ◌/ℚ◌}
 use Rattle.ratio_core.specs.RationalLaws.{fits_Decides}
-use Rattle.tableau_core.specs.Row.{AllFit, IsLowered, cell, differences_fit, quotients_fit}
+use Rattle.tableau_core.specs.Row.{AllFit, IsLowered, IsLoweredBeside, IsPutAt, cell, differences_fit, quotients_fit}
 use Rattle.tableau_core.specs.Places.{Covers}
 use Rattle.tableau_core.specs.LoweringLaws.{false_from_not, fits_from, lowered-zero, lowered_fits-zero, step-zero, zero-step}
 use Rattle.simplex_laws.specs.SearchLaws.{all_below_all, all_below_failed, all_below_more}
@@ -21,7 +21,7 @@ pub record IsMadeTo (n j : ℕ) (test : ℕ → Bool) (made : ℕ → Rational) 
   pub all_fit : AllFit next
 
 -- a number more that fits
-set_fits : (row : List Rational) (j : ℕ) (value : Rational) → AllFit row → j < length row → Fits value → AllFit (slice_set row j value)
+pub set_fits : (row : List Rational) (j : ℕ) (value : Rational) → AllFit row → j < length row → Fits value → AllFit (slice_set row j value)
 set_fits row j value h b f k =
     same_or_other (Fits (cell (slice_set row j value) k)) k j
     (λ q. subst (λ i. Fits (cell (slice_set row j value) i)) (sym q) (subst Fits (sym (get_or-set_same row j value zero_ℚ b)) f))
@@ -72,6 +72,7 @@ pub record IsNotedTo (row : List Rational) (places : List ℕ) (used j : ℕ) : 
   pub row_end : j ≤ length row
   pub room : length row ≤ length places
   pub within : (k : ℕ) → k < used → slice_index places k < j
+  pub nonzero : (k : ℕ) → k < used → ¬ (cell row (slice_index places k) ≡ zero_ℚ)
   pub found : (i : ℕ) → i < j → (cell row i ≡ zero_ℚ) ⊎ ((k : ℕ) × (k < used) × (slice_index places k ≡ i))
 
 pub noted_none : (row : List Rational) (places : List ℕ) → length row ≤ length places → IsNotedTo row places 0 0
@@ -80,6 +81,7 @@ noted_none row places h = record {
   row_end = omega arith;
   room = h;
   within = λ k b. absurd (omega (arith, b));
+  nonzero = λ k b. absurd (omega (arith, b));
   found = λ i b. absurd (omega (arith, b));
 }
 
@@ -89,15 +91,17 @@ noted_past row places used j h b z = record {
   row_end = omega (arith, b);
   room = h.room;
   within = λ k c. omega (arith, h.within k c);
+  nonzero = h.nonzero;
   found = λ i c. same_or_other ((cell row i ≡ zero_ℚ) ⊎ ((k : ℕ) × (k < used) × (slice_index places k ≡ i))) i j (λ q. inl (ap (cell row) q ∙ z)) (λ m. h.found i (omega (arith, c, m)));
 }
 
-pub noted_here : (row : List Rational) (places : List ℕ) (used j : ℕ) → IsNotedTo row places used j → j < length row → IsNotedTo row (slice_set places used j) (used + 1) (j + 1)
-noted_here row places used j h b = record {
+pub noted_here : (row : List Rational) (places : List ℕ) (used j : ℕ) → IsNotedTo row places used j → j < length row → ¬ (cell row j ≡ zero_ℚ) → IsNotedTo row (slice_set places used j) (used + 1) (j + 1)
+noted_here row places used j h b nonzero = record {
   few = omega (arith, h.few);
   row_end = omega (arith, b);
   room = subst (λ n. length row ≤ n) (sym (length-set places used j)) h.room;
   within = λ k c. same_or_other (slice_index (slice_set places used j) k < j + 1) k used (λ q. subst (λ n. slice_index (slice_set places used j) n < j + 1) (sym q) (subst (λ n. n < j + 1) (sym at) (omega arith))) (λ m. subst (λ n. n < j + 1) (sym (off k m)) (omega (arith, h.within k (omega (arith, c, m)))));
+  nonzero = λ k c. same_or_other (¬ (cell row (slice_index (slice_set places used j) k) ≡ zero_ℚ)) k used (λ q. subst (λ n. ¬ (cell row n ≡ zero_ℚ)) (sym (ap (slice_index (slice_set places used j)) q ∙ at)) nonzero) (λ m. subst (λ n. ¬ (cell row n ≡ zero_ℚ)) (sym (off k m)) (h.nonzero k (omega (arith, c, m))));
   found = λ i c. same_or_other ((cell row i ≡ zero_ℚ) ⊎ ((k : ℕ) × (k < used + 1) × (slice_index (slice_set places used j) k ≡ i))) i j (λ q. inr (used, omega arith, at ∙ sym q)) (λ m. by_old i (h.found i (omega (arith, c, m))));
 }
   where
@@ -114,6 +118,7 @@ noted_here row places used j h b = record {
 pub noted_all : (row : List Rational) (places : List ℕ) (used j : ℕ) → IsNotedTo row places used j → j ≡ length row → Covers (take used places) row
 noted_all row places used j h e = record {
   within = λ k b. subst (λ n. n < length row) (sym (same k (less k b))) (omega (arith, h.within k (less k b), e));
+  nonzero = λ k b. subst (λ n. ¬ (cell row n ≡ zero_ℚ)) (sym (same k (less k b))) (h.nonzero k (less k b));
   found = λ i b. by_old i (h.found i (omega (arith, b, e)));
 }
   where
@@ -136,36 +141,75 @@ noted_all row places used j h e = record {
     by_old i (inl z) = inl z
     by_old i (inr f) = inr (f.0, subst (λ n. f.0 < n) (sym long) f.1, same f.0 f.1 ∙ f.2)
 
--- ---- a row that is lowered at these places
+-- ---- numbers that are put at these places
 
--- the numbers at the first i places are lowered, and each other is as it was, or lowered
-pub record IsLoweredAt (by : Rational) (step row : List Rational) (places : List ℕ) (next : List Rational) (i : ℕ) : Type 0 where
-  pub long : length next ≡ length row
-  pub fit : (k : ℕ) → k < i → slice_index places k < length row → lowered_fits (cell row (slice_index places k)) by (cell step (slice_index places k)) ≡ true
-  pub done : (k : ℕ) → k < i → slice_index places k < length row → cell next (slice_index places k) ≡ cell row (slice_index places k) -ℚ by *ℚ cell step (slice_index places k)
-  pub kept : (j : ℕ) → (cell next j ≡ cell row j) ⊎ (cell next j ≡ cell row j -ℚ by *ℚ cell step j)
-  pub all_fit : AllFit next
-
-pub lowered_none : (by : Rational) (step row : List Rational) (places : List ℕ) (next : List Rational) → next ≡ row → AllFit row → IsLoweredAt by step row places next 0
-lowered_none by step row places next e fit = record {
-  long = ap length e;
-  fit = λ k b. absurd (omega (arith, b));
-  done = λ k b. absurd (omega (arith, b));
-  kept = λ j. inl (ap (λ l. cell l j) e);
-  all_fit = subst AllFit (sym e) fit;
+pub put_none : (places : List ℕ) (made : ℕ → Rational) (row : List Rational) → IsPutAt places 0 made row row
+put_none places made row = record {
+  long = refl;
+  put = λ k b. absurd (omega (arith, b));
+  others = λ j n. refl;
 }
 
-module _ (by : Rational) (step row : List Rational) (places : List ℕ) (next : List Rational) (i : ℕ) (h : IsLoweredAt by step row places next i) where
+module _ (places : List ℕ) (i : ℕ) (made : ℕ → Rational) (old new : List Rational) (h : IsPutAt places i made old new) where
+  -- a place past the row's end
+  pub put_past : length old ≤ slice_index places i → IsPutAt places (i + 1) made old new
+  put_past b = record {
+    long = h.long;
+    put = λ k c d. h.put k (below k c d) d;
+    others = λ j n. h.others j (λ k c. n k (omega (arith, c)));
+  }
+    where
+      below : (k : ℕ) → k < i + 1 → slice_index places k < length old → k < i
+      below k c d = same_or_other (k < i) k i (λ e. absurd (past_lem (slice_index places k) (slice_index places i) (length old) (ap (slice_index places) e) d b)) (λ m. omega (arith, c, m))
+        where
+          past_lem : (a b n : ℕ) → a ≡ b → a < n → n ≤ b → ⊥
+          past_lem a b n e d f = omega (arith, e, d, f)
+
+  pub put_here : (value : Rational) → slice_index places i < length old → value ≡ made (slice_index places i) → IsPutAt places (i + 1) made old (slice_set new (slice_index places i) value)
+  put_here value b is = record {
+    long = length-set new at value ∙ h.long;
+    put = λ k c d. same_or_other (cell (slice_set new at value) (slice_index places k) ≡ made (slice_index places k)) (slice_index places k) at (λ q. subst (λ n. cell (slice_set new at value) n ≡ made n) (sym q) written) (λ m. off (slice_index places k) m ∙ h.put k (earlier k c m) d);
+    others = λ j n. off j (λ e. n i (omega arith) (sym e)) ∙ h.others j (λ k c. n k (omega (arith, c)));
+  }
+    where
+      at : ℕ
+      at = slice_index places i
+
+      written : cell (slice_set new at value) at ≡ made at
+      written = get_or-set_same new at value zero_ℚ (subst (λ n. at < n) (sym h.long) b) ∙ is
+
+      off : (j : ℕ) → ¬ (j ≡ at) → cell (slice_set new at value) j ≡ cell new j
+      off j m = get_or-set_other new at j value zero_ℚ m
+
+      earlier : (k : ℕ) → k < i + 1 → ¬ (slice_index places k ≡ at) → k < i
+      earlier k c m = same_or_other (k < i) k i (λ e. absurd (m (ap (slice_index places) e))) (λ n. omega (arith, c, n))
+
+-- ---- a row that is lowered at these places
+
+-- the numbers at the first i places are lowered, and fit
+pub record IsLoweredAt (by : Rational) (step row : List Rational) (places : List ℕ) (before next : List Rational) (i : ℕ) : Type 0 where
+  pub long : length before ≡ length row
+  pub put : IsPutAt places i (λ j. cell row j -ℚ by *ℚ cell step j) before next
+  pub fit : (k : ℕ) → k < i → slice_index places k < length row → lowered_fits (cell row (slice_index places k)) by (cell step (slice_index places k)) ≡ true
+  pub all_fit : AllFit next
+
+pub lowered_none : (by : Rational) (step row : List Rational) (places : List ℕ) (next : List Rational) → length next ≡ length row → AllFit next → IsLoweredAt by step row places next next 0
+lowered_none by step row places next long fit = record {
+  long = long;
+  put = put_none places (λ j. cell row j -ℚ by *ℚ cell step j) next;
+  fit = λ k b. absurd (omega (arith, b));
+  all_fit = fit;
+}
+
+module _ (by : Rational) (step row : List Rational) (places : List ℕ) (before next : List Rational) (i : ℕ) (h : IsLoweredAt by step row places before next i) where
   abbrev lowered : ℕ → Rational
   lowered j = cell row j -ℚ by *ℚ cell step j
 
-  -- a place past the row's end
-  pub lowered_past : length row ≤ slice_index places i → IsLoweredAt by step row places next (i + 1)
+  pub lowered_past : length row ≤ slice_index places i → IsLoweredAt by step row places before next (i + 1)
   lowered_past b = record {
     long = h.long;
+    put = put_past places i lowered before next h.put (subst (λ n. n ≤ slice_index places i) (sym h.long) b);
     fit = λ k c d. h.fit k (below k c d) d;
-    done = λ k c d. h.done k (below k c d) d;
-    kept = h.kept;
     all_fit = h.all_fit;
   }
     where
@@ -176,30 +220,13 @@ module _ (by : Rational) (step row : List Rational) (places : List ℕ) (next : 
           past_lem a b n e d f = omega (arith, e, d, f)
 
   -- a number is written
-  pub lowered_here : (value : Rational) → slice_index places i < length row → lowered_fits (cell row (slice_index places i)) by (cell step (slice_index places i)) ≡ true → value ≡ lowered (slice_index places i) → Fits value → IsLoweredAt by step row places (slice_set next (slice_index places i) value) (i + 1)
+  pub lowered_here : (value : Rational) → slice_index places i < length row → lowered_fits (cell row (slice_index places i)) by (cell step (slice_index places i)) ≡ true → value ≡ lowered (slice_index places i) → Fits value → IsLoweredAt by step row places before (slice_set next (slice_index places i) value) (i + 1)
   lowered_here value b e is f = record {
-    long = length-set next at value ∙ h.long;
+    long = h.long;
+    put = put_here places i lowered before next h.put value (subst (λ n. slice_index places i < n) (sym h.long) b) is;
     fit = λ k c d. same_or_other (lowered_fits (cell row (slice_index places k)) by (cell step (slice_index places k)) ≡ true) k i (λ q. subst (λ n. lowered_fits (cell row (slice_index places n)) by (cell step (slice_index places n)) ≡ true) (sym q) e) (λ m. h.fit k (omega (arith, c, m)) d);
-    done = λ k c d. same_or_other (cell (slice_set next at value) (slice_index places k) ≡ lowered (slice_index places k)) (slice_index places k) at (λ q. subst (λ n. cell (slice_set next at value) n ≡ lowered n) (sym q) written) (λ m. off (slice_index places k) m ∙ h.done k (earlier k c m) d);
-    kept = λ j. same_or_other ((cell (slice_set next at value) j ≡ cell row j) ⊎ (cell (slice_set next at value) j ≡ lowered j)) j at (λ q. inr (subst (λ n. cell (slice_set next at value) n ≡ lowered n) (sym q) written)) (λ m. by_old j (off j m) (h.kept j));
-    all_fit = set_fits next at value h.all_fit (subst (λ n. at < n) (sym h.long) b) f;
+    all_fit = set_fits next (slice_index places i) value h.all_fit (subst (λ n. slice_index places i < n) (sym (h.put.long ∙ h.long)) b) f;
   }
-    where
-      at : ℕ
-      at = slice_index places i
-
-      written : cell (slice_set next at value) at ≡ lowered at
-      written = get_or-set_same next at value zero_ℚ (subst (λ n. at < n) (sym h.long) b) ∙ is
-
-      off : (j : ℕ) → ¬ (j ≡ at) → cell (slice_set next at value) j ≡ cell next j
-      off j m = get_or-set_other next at j value zero_ℚ m
-
-      earlier : (k : ℕ) → k < i + 1 → ¬ (slice_index places k ≡ at) → k < i
-      earlier k c m = same_or_other (k < i) k i (λ e. absurd (m (ap (slice_index places) e))) (λ n. omega (arith, c, n))
-
-      by_old : (j : ℕ) → cell (slice_set next at value) j ≡ cell next j → (cell next j ≡ cell row j) ⊎ (cell next j ≡ lowered j) → (cell (slice_set next at value) j ≡ cell row j) ⊎ (cell (slice_set next at value) j ≡ lowered j)
-      by_old j same (inl k) = inl (same ∙ k)
-      by_old j same (inr k) = inr (same ∙ k)
 
   pub lowered_refused : slice_index places i < length row → lowered_fits (cell row (slice_index places i)) by (cell step (slice_index places i)) ≡ false → differences_fit by step row ≡ false
   lowered_refused b e = all_below_failed (length row) (slice_index places i) (λ k. lowered_fits (cell row k) by (cell step k)) b e
@@ -217,12 +244,24 @@ module _ (by : Rational) (step row : List Rational) (places : List ℕ) (next : 
     lowered_fit =
         all_below_all (length row) (λ j. lowered_fits (cell row j) by (cell step j)) (λ j b. by_place (λ j. lowered_fits (cell row j) by (cell step j) ≡ true) j b (λ z. lowered_fits-zero (cell row j) by (cell step j) (step-zero by (cell step j) z) (fits j)) h.fit)
 
-    pub lowered_all : IsLowered by step row next
-    lowered_all = record {
-      long = h.long;
-      cells = λ j b. by_place (λ j. cell next j ≡ lowered j) j b (λ z. by_kept j (sym (lowered-zero (cell row j) by (cell step j) (step-zero by (cell step j) z))) (h.kept j)) h.done;
+    pub lowered_beside : IsLoweredBeside by step row next
+    lowered_beside = record {
+      long = h.put.long ∙ h.long;
+      cells = λ j b n. by_place (λ j. cell next j ≡ lowered j) j b (λ z. absurd (n z)) (λ k c d. h.put.put k c (subst (λ m. slice_index places k < m) (sym h.long) d));
     }
-      where
-        by_kept : (j : ℕ) → cell row j ≡ lowered j → (cell next j ≡ cell row j) ⊎ (cell next j ≡ lowered j) → cell next j ≡ lowered j
-        by_kept j e (inl k) = k ∙ e
-        by_kept j e (inr k) = k
+
+-- what was worked out beside a row is put in place
+pub lowered_put : (by : Rational) (step row next new : List Rational) (places : List ℕ) → length row ≤ length step → Covers places step → IsLoweredBeside by step row next → IsPutAt places (length places) (cell next) row new → IsLowered by step row new
+lowered_put by step row next new places long covers h p = record {
+  long = p.long;
+  cells = λ j b. by_found j b (covers.found j (omega (arith, b, long)));
+}
+  where
+    by_found : (j : ℕ) → j < length row → (cell step j ≡ zero_ℚ) ⊎ ((k : ℕ) × (k < length places) × (slice_index places k ≡ j)) → cell new j ≡ cell row j -ℚ by *ℚ cell step j
+    by_found j b (inl z) =
+        p.others j (λ k d e. covers.nonzero k d (ap (cell step) e ∙ z))
+        ∙ sym (lowered-zero (cell row j) by (cell step j) (step-zero by (cell step j) z))
+    by_found j b (inr f) =
+        let within : slice_index places f.0 < length row = subst (λ n. n < length row) (sym f.2) b in
+        subst (λ n. cell new n ≡ cell row n -ℚ by *ℚ cell step n) f.2
+        (p.put f.0 f.1 within ∙ h.cells (slice_index places f.0) within (covers.nonzero f.0 f.1))

@@ -1,13 +1,16 @@
 -- The rows worked out, or put in place, up to the i-th.
-use Rattle.std.specs.Prelude.{◌≡◌, ℕ, ◌+◌, ◌<◌, ◌≤◌, Bool, true, false, ◌||◌, ◌⊎◌, nat_eq, List, length, slice_index_or, Some, slice_get, slice_set, refl}
-use Rattle.std.proofs.Common.{inl, inr, sym, ◌∙◌, ap, ap₂, arith, subst}
-use Rattle.std.proofs.lemmas.Bool.{cases_lt, eq-eqb, eqb-true}
-use Rattle.std.proofs.lemmas.List.{get_or-set_other, get_or-set_same, length-set}
-use Rattle.std.proofs.lemmas.Option.{slice_get-get_or, slice_get_past}
+use Rattle.std.specs.Prelude.{◌≡◌, ℕ, ◌+◌, ◌<◌, ◌≤◌, Bool, true, false, ◌||◌, nat_eq, List, length, slice_index_or, Some, slice_get, slice_set, refl}
+use Rattle.std.proofs.Common.{sym, ◌∙◌, ap, ap₂, arith, subst}
+use Rattle.std.proofs.lemmas.Bool.{eq-eqb, eqb-true}
+use Rattle.std.proofs.lemmas.List.{length-set}
+use Rattle.std.proofs.Math.Bool.{or-true}
+use Rattle.std.proofs.lemmas.Option.{slice_get-get_or}
 use Rattle.ratio_core.specs.Rational.{Rational}
 use Rattle.tableau_core.specs.declared.kept.Row.{Row}
+use Rattle.tableau_core.specs.Places.{Covers}
 use Rattle.tableau_core.specs.Row.{IsLowered, IsPrepared, cell, differences_fit}
-use Rattle.tableau_core.specs.Rows.{ArePrepared, next_at, next_numbers, now_at, numbers, rows_fit}
+use Rattle.tableau_core.specs.Rows.{ArePrepared, AreWide, next_at, next_numbers, now_at, numbers, rows_fit}
+use Rattle.tableau_core.specs.WrittenLaws.{written_at, written_off}
 use Rattle.simplex_laws.specs.SearchLaws.{all_below_failed, all_below_more}
 use Rattle.simplex_form.specs.Search.{all_below}
 use Rattle.simplex_laws.specs.BoundedSumLaws.{same_or_other}
@@ -21,37 +24,17 @@ pub record ArePreparedTo (r q : ℕ) (step : List Rational) (before rows : List 
   pub prepared : (k : ℕ) → k < i → ¬ (k ≡ r) → IsPrepared q step (now_at rows k) (next_at rows k)
 
 -- the rows below i are put in place
-pub record AreSettledTo (r q : ℕ) (before rows : List Row) (i : ℕ) : Type 0 where
+pub record AreSettledTo (r q : ℕ) (places : List ℕ) (before rows : List Row) (i : ℕ) : Type 0 where
   pub within : i ≤ length before
   pub long : length rows ≡ length before
   pub later : (k : ℕ) → i ≤ k → slice_get rows k ≡ slice_get before k
   pub pivot_stays : now_at rows r ≡ now_at before r
-  pub lowered : (step : List Rational) → ArePrepared r q step before → (k : ℕ) → k < i → ¬ (k ≡ r) → IsLowered (cell (now_at before k) q) step (now_at before k) (now_at rows k)
+  pub lowered : (step : List Rational) → AreWide (length step) before → Covers places step → ArePrepared r q step before → (k : ℕ) → k < i → ¬ (k ≡ r) → IsLowered (cell (now_at before k) q) step (now_at before k) (now_at rows k)
 
--- ---- a row that is written
-
-pub written_at : (rows : List Row) (i : ℕ) (row : Row) → i < length rows → slice_get (slice_set rows i row) i ≡ Some row
-written_at rows i row b =
-    slice_get-get_or (slice_set rows i row) i row (subst (λ n. i < n) (sym (length-set rows i row)) b) ∙ ap Some (get_or-set_same rows i row row b)
-
-pub written_off : (rows : List Row) (i k : ℕ) (row : Row) → ¬ (k ≡ i) → slice_get (slice_set rows i row) k ≡ slice_get rows k
-written_off rows i k row n = by_end (cases_lt k (length rows))
-  where
-    by_end : (k < length rows) ⊎ (length rows ≤ k) → slice_get (slice_set rows i row) k ≡ slice_get rows k
-    by_end (inl b) =
-        slice_get-get_or (slice_set rows i row) k row (subst (λ m. k < m) (sym (length-set rows i row)) b)
-        ∙ ap Some (get_or-set_other rows i k row row n) ∙ sym (slice_get-get_or rows k row b)
-    by_end (inr h) = slice_get_past (slice_set rows i row) k (subst (λ m. m ≤ k) (sym (length-set rows i row)) h) ∙ sym (slice_get_past rows k h)
+-- ---- a row that is read
 
 pub read_at : (rows : List Row) (i : ℕ) (d : Row) → i < length rows → slice_get rows i ≡ Some (slice_index_or rows i d)
 read_at rows i d b = slice_get-get_or rows i d b
-
-or_true : (a b : Bool) → b ≡ true → (a || b) ≡ true
-or_true true b e = refl
-or_true false b e = e
-
-true_or : (a b : Bool) → a ≡ true → (a || b) ≡ true
-true_or a b e = ap (λ x. x || b) e
 
 -- ---- the rows worked out
 
@@ -71,7 +54,7 @@ module _ (r q : ℕ) (step : List Rational) (before rows : List Row) (i : ℕ) w
         within = omega (arith, b);
         long = length-set rows i new ∙ h.long;
         stays = λ k. same_or_other (now_at (slice_set rows i new) k ≡ now_at before k) k i (λ e. subst (λ j. now_at (slice_set rows i new) j ≡ now_at before j) (sym e) (ap numbers here ∙ same ∙ old)) (λ m. ap numbers (written_off rows i k new m) ∙ h.stays k);
-        fit = all_below_more i row_fits h.fit (or_true (nat_eq i r) (differences_fit (cell (now_at before i) q) step (now_at before i)) (subst (λ row. differences_fit (cell row q) step row ≡ true) old (sym fits)));
+        fit = all_below_more i row_fits h.fit (ap (λ x. nat_eq i r || x) (subst (λ row. differences_fit (cell row q) step row ≡ true) old (sym fits)) ∙ or-true (nat_eq i r));
         prepared = λ k c n. same_or_other (IsPrepared q step (now_at (slice_set rows i new) k) (next_at (slice_set rows i new) k)) k i (λ e. subst (λ j. IsPrepared q step (now_at (slice_set rows i new) j) (next_at (slice_set rows i new) j)) (sym e) (subst (λ o. IsPrepared q step (numbers o) (next_numbers o)) (sym here) (subst (λ row. IsPrepared q step row new.next.items) (sym same) made))) (λ m. subst (λ o. IsPrepared q step (numbers o) (next_numbers o)) (sym (written_off rows i k new m)) (h.prepared k (omega (arith, c, m)) n));
       }
 
@@ -81,7 +64,7 @@ module _ (r q : ℕ) (step : List Rational) (before rows : List Row) (i : ℕ) w
     within = omega (arith, b);
     long = h.long;
     stays = h.stays;
-    fit = all_below_more i row_fits h.fit (true_or (nat_eq i r) (differences_fit (cell (now_at before i) q) step (now_at before i)) (eq-eqb i r e));
+    fit = all_below_more i row_fits h.fit (ap (λ x. x || differences_fit (cell (now_at before i) q) step (now_at before i)) (eq-eqb i r e));
     prepared = λ k c n. h.prepared k (omega (arith, c, below_lem k i r n e)) n;
   }
     where
@@ -100,8 +83,8 @@ module _ (r q : ℕ) (step : List Rational) (before rows : List Row) (i : ℕ) w
 
 -- ---- the rows put in place
 
-module _ (r q : ℕ) (before rows : List Row) (i : ℕ) where
-  pub settled-more : (d new : Row) → AreSettledTo r q before rows i → i < length before → ¬ (i ≡ r) → ((step : List Rational) → IsPrepared q step (slice_index_or rows i d).now.items (slice_index_or rows i d).next.items → IsLowered (cell (slice_index_or rows i d).now.items q) step (slice_index_or rows i d).now.items new.now.items) → AreSettledTo r q before (slice_set rows i new) (i + 1)
+module _ (r q : ℕ) (places : List ℕ) (before rows : List Row) (i : ℕ) where
+  pub settled-more : (d new : Row) → AreSettledTo r q places before rows i → i < length before → ¬ (i ≡ r) → ((step : List Rational) → length (slice_index_or rows i d).now.items ≤ length step → Covers places step → IsPrepared q step (slice_index_or rows i d).now.items (slice_index_or rows i d).next.items → IsLowered (cell (slice_index_or rows i d).now.items q) step (slice_index_or rows i d).now.items new.now.items) → AreSettledTo r q places before (slice_set rows i new) (i + 1)
   settled-more d new h b n low =
       let at : i < length rows = subst (λ n. i < n) (sym h.long) b in
       let here : slice_get (slice_set rows i new) i ≡ Some new = written_at rows i new at in
@@ -111,9 +94,12 @@ module _ (r q : ℕ) (before rows : List Row) (i : ℕ) where
         long = length-set rows i new ∙ h.long;
         later = λ k c. written_off rows i k new (λ e. above_lem k i c e) ∙ h.later k (omega (arith, c));
         pivot_stays = ap numbers (written_off rows i r new (λ e. n (sym e))) ∙ h.pivot_stays;
-        lowered = λ step p k c m. same_or_other (IsLowered (cell (now_at before k) q) step (now_at before k) (now_at (slice_set rows i new) k)) k i (λ e. subst (λ j. IsLowered (cell (now_at before j) q) step (now_at before j) (now_at (slice_set rows i new) j)) (sym e) (subst (λ o. IsLowered (cell (now_at before i) q) step (now_at before i) (numbers o)) (sym here) (lowered_here old (low step) (p i b n)))) (λ f. subst (λ o. IsLowered (cell (now_at before k) q) step (now_at before k) (numbers o)) (sym (written_off rows i k new f)) (h.lowered step p k (omega (arith, c, f)) m));
+        lowered = λ step wide covers p k c m. same_or_other (IsLowered (cell (now_at before k) q) step (now_at before k) (now_at (slice_set rows i new) k)) k i (λ e. subst (λ j. IsLowered (cell (now_at before j) q) step (now_at before j) (now_at (slice_set rows i new) j)) (sym e) (subst (λ o. IsLowered (cell (now_at before i) q) step (now_at before i) (numbers o)) (sym here) (lowered_here old (low step (at_most (ap (λ o. length (numbers o)) old ∙ wide i b)) covers) (p i b n)))) (λ f. subst (λ o. IsLowered (cell (now_at before k) q) step (now_at before k) (numbers o)) (sym (written_off rows i k new f)) (h.lowered step wide covers p k (omega (arith, c, f)) m));
       }
     where
+      at_most : {a b : ℕ} → a ≡ b → a ≤ b
+      at_most e = omega (arith, e)
+
       above_lem : (k i : ℕ) → i + 1 ≤ k → k ≡ i → ⊥
       above_lem k i c e = absurd (omega (arith, c, e))
 
@@ -121,13 +107,13 @@ module _ (r q : ℕ) (before rows : List Row) (i : ℕ) where
       lowered_here {row} {step} e low p =
           subst (λ o. IsLowered (cell (numbers o) q) step (numbers o) new.now.items) e (low (subst (λ o. IsPrepared q step (numbers o) (next_numbers o)) (sym e) p))
 
-  pub settled-pivot : AreSettledTo r q before rows i → i < length before → i ≡ r → AreSettledTo r q before rows (i + 1)
+  pub settled-pivot : AreSettledTo r q places before rows i → i < length before → i ≡ r → AreSettledTo r q places before rows (i + 1)
   settled-pivot h b e = record {
     within = omega (arith, b);
     long = h.long;
     later = λ k c. h.later k (omega (arith, c));
     pivot_stays = h.pivot_stays;
-    lowered = λ step p k c n. h.lowered step p k (omega (arith, c, below_lem k i r n e)) n;
+    lowered = λ step wide covers p k c n. h.lowered step wide covers p k (omega (arith, c, below_lem k i r n e)) n;
   }
     where
       below_lem : (k i r : ℕ) → ¬ (k ≡ r) → i ≡ r → ¬ (k ≡ i)

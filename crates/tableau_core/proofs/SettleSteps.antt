@@ -7,7 +7,8 @@ use Rattle.tableau_core.specs.declared.kept.Row.{Row}
 use Rattle.tableau_core.specs.Row.{IsDivided, IsLowered, cell}
 use Rattle.tableau_core.specs.Rows.{AreLowered, AreWide, now_at, numbers}
 use Rattle.tableau_core.specs.Pivoting.{IsReady, IsSettled}
-use Rattle.tableau_core.proofs.RowsSteps.{read_at, written_at, written_off}
+use Rattle.tableau_core.specs.WrittenLaws.{written_at, written_off}
+use Rattle.tableau_core.proofs.RowsSteps.{read_at}
 use Rattle.simplex_laws.specs.BoundedSumLaws.{same_or_other}
 
 module _ (before middle : List Row) (r q : ℕ) (step : List Rational) (new : Row) (count : length middle ≡ length before) (row : r < length before) (is : new.now.items ≡ step) where

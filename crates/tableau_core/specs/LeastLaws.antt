@@ -1,11 +1,10 @@
 -- The least number below a bound that passes a test, and what tests of numbers against 0 say.
 use Rattle.std.specs.Prelude.{◌≡◌, ℕ, zero, suc, ◌+◌, ◌<◌, ◌≤◌, Bool, true, false, not, Some, None, if◌then◌else◌, IsTrue, refl}
-use Rattle.std.proofs.Common.{sym, ◌∙◌, ap, arith, true≢false, is_lt}
-use Rattle.ratio_core.specs.Rational.{Rational, rational_cmp, rational_eq, zero_ℚ}
+use Rattle.std.proofs.Common.{sym, ◌∙◌, ap, arith, true≢false}
+use Rattle.ratio_core.specs.Rational.{Rational, rational_eq, zero_ℚ}
 use Rattle.ratio_core.specs.RationalLaws.{eq_rational_eq, rational_eq-true}
 use Rattle.simplex_laws.specs.BoundedSumLaws.{same_or_other}
 use Rattle.simplex_form.specs.Search.{least_below, or_else}
-use Rattle.simplex_form.specs.Turns.{is_below}
 
 pub least_more : (n : ℕ) (test : ℕ → Bool) → least_below n test ≡ None → test n ≡ false
     → least_below (n + 1) test ≡ None
@@ -15,7 +14,8 @@ least_more n test e f =
     one_more : (n : ℕ) → n + 1 ≡ suc n
     one_more n = omega arith
 
-least_here : (j : ℕ) (test : ℕ → Bool) → least_below j test ≡ None → test j ≡ true → least_below (suc j) test ≡ Some j
+least_here : (j : ℕ) (test : ℕ → Bool) → least_below j test ≡ None → test j ≡ true
+    → least_below (suc j) test ≡ Some j
 least_here j test e f = λ i. or_else (e i) (if f i then Some j else None)
 
 pub least_found : (n j : ℕ) (test : ℕ → Bool) → j < n → least_below j test ≡ None → test j ≡ true
@@ -40,10 +40,6 @@ least_past (suc m) n test e b f =
     λ i. or_else (least_past m n test e few (λ j c d. f j c (omega (arith, d))) i) (if f m few (omega arith) i then Some m else None))
 
 -- ---- tests against 0
-
-pub below_is : (b : Bool) (x z v : Rational) → z ≡ zero_ℚ → x ≡ v → b ≡ is_lt (rational_cmp x z)
-    → is_below v zero_ℚ ≡ b
-below_is b x z v none is e = (λ i. is_lt (rational_cmp (sym is i) (sym none i))) ∙ sym e
 
 pub other_is : (v : Rational) → ¬ (v ≡ zero_ℚ) → not (rational_eq v zero_ℚ) ≡ true
 other_is v n = by_test (rational_eq v zero_ℚ) refl

@@ -4,9 +4,12 @@ pub mod Places
 pub mod Rows
 pub mod Contents
 pub mod ContentsLaws
+pub mod KeptLaws
 pub mod Pivoting
 pub mod Kept
 pub mod Start
+pub mod SignLaws
 pub mod LeastLaws
+pub mod WrittenLaws
 pub mod LoweringLaws
 pub mod StartLaws

@@ -15,14 +15,16 @@ pub false_from_not : (b : Bool) (P : Type 0) → (b ≡ true → P) → ¬ P →
 false_from_not true P h n = absurd (n (h refl))
 false_from_not false P h n = refl
 
-lowered_from : (a e t : Rational) → Fits (e *ℚ t) → SumFits a (neg_ℚ (e *ℚ t)) → lowered_fits a e t ≡ true
+lowered_from : (a e t : Rational) → Fits (e *ℚ t) → SumFits a (neg_ℚ (e *ℚ t))
+    → lowered_fits a e t ≡ true
 lowered_from a e t f g = ap₂ ◌&&◌ ((fits_Decides (e *ℚ t)).1 f) ((sum_fits_Decides a (neg_ℚ (e *ℚ t))).1 g)
 
 lowered_parts : (a b : Bool) → (a && b) ≡ true → (a ≡ true) × (b ≡ true)
 lowered_parts true b e = (refl, e)
 lowered_parts false b e = absurd (true≢false (sym e))
 
-lowered_at : (a e t : Rational) → lowered_fits a e t ≡ true → Fits (e *ℚ t) × SumFits a (neg_ℚ (e *ℚ t))
+lowered_at : (a e t : Rational) → lowered_fits a e t ≡ true
+    → Fits (e *ℚ t) × SumFits a (neg_ℚ (e *ℚ t))
 lowered_at a e t h =
     let both : (fits (e *ℚ t) ≡ true) × (sum_fits a (neg_ℚ (e *ℚ t)) ≡ true) = lowered_parts (fits (e *ℚ t)) (sum_fits a (neg_ℚ (e *ℚ t))) h in
     ((fits_Decides (e *ℚ t)).0 both.0, (sum_fits_Decides a (neg_ℚ (e *ℚ t))).0 both.1)
@@ -31,11 +33,13 @@ lowered_at a e t h =
 pub product_refused : (a e t : Rational) → ¬ (Fits (e *ℚ t)) → lowered_fits a e t ≡ false
 product_refused a e t n = false_from_not (lowered_fits a e t) (Fits (e *ℚ t)) (λ h. (lowered_at a e t h).0) n
 
-pub difference_refused : (a e t m : Rational) → m ≡ e *ℚ t → ¬ (SumFits a (neg_ℚ m)) → lowered_fits a e t ≡ false
+pub difference_refused : (a e t m : Rational) → m ≡ e *ℚ t → ¬ (SumFits a (neg_ℚ m))
+    → lowered_fits a e t ≡ false
 difference_refused a e t m is n =
     false_from_not (lowered_fits a e t) (SumFits a (neg_ℚ m)) (λ h. subst (λ x. SumFits a (neg_ℚ x)) (sym is) (lowered_at a e t h).1) n
 
-pub lowered_made : (a e t m : Rational) → m ≡ e *ℚ t → Fits (e *ℚ t) → SumFits a (neg_ℚ m) → lowered_fits a e t ≡ true
+pub lowered_made : (a e t m : Rational) → m ≡ e *ℚ t → Fits (e *ℚ t) → SumFits a (neg_ℚ m)
+    → lowered_fits a e t ≡ true
 lowered_made a e t m is f g = lowered_from a e t f (subst (λ x. SumFits a (neg_ℚ x)) is g)
 
 -- a step of 0, or a multiple of 0, fits and changes nothing

@@ -1,5 +1,5 @@
 -- What a pivot makes of a row of numbers.
-use Rattle.std.specs.Prelude.{◌≡◌, ℕ, ◌<◌, ◌≤◌, Bool, List, length, slice_index_or}
+use Rattle.std.specs.Prelude.{◌≡◌, ℕ, ◌<◌, ◌≤◌, Bool, List, length, slice_index, slice_index_or}
 use Rattle.ratio_core.specs.Rational.{Fits, Rational, fits, zero_ℚ, ◌*ℚ◌, ◌-ℚ◌, ◌/ℚ◌}
 use Rattle.simplex_form.specs.Fit.{lowered_fits}
 use Rattle.simplex_form.specs.Search.{all_below}
@@ -29,9 +29,24 @@ pub record IsLowered (by : Rational) (step row next : List Rational) : Type 0 wh
   pub long : length next ≡ length row
   pub cells : (j : ℕ) → j < length row → cell next j ≡ cell row j -ℚ by *ℚ cell step j
 
--- the next row is worked out, unless the row's entry of column q is 0, so that it stays
+-- where the step isn't 0, the next number is the row's lowered by a multiple of the step's
+pub record IsLoweredBeside (by : Rational) (step row next : List Rational) : Type 0 where
+  pub long : length next ≡ length row
+  pub cells : (j : ℕ) → j < length row → ¬ (cell step j ≡ zero_ℚ) →
+      cell next j ≡ cell row j -ℚ by *ℚ cell step j
+
+-- what changes is worked out, unless the row's entry of column q is 0, so that all stays
 abbrev pub IsPrepared : ℕ → List Rational → List Rational → List Rational → Type 0
-IsPrepared q step row next = ¬ (cell row q ≡ zero_ℚ) → IsLowered (cell row q) step row next
+IsPrepared q step row next = ¬ (cell row q ≡ zero_ℚ) → IsLoweredBeside (cell row q) step row next
+
+-- the numbers at the first n places are those made for them, and each other is as it was
+pub record IsPutAt (places : List ℕ) (n : ℕ) (made : ℕ → Rational) (old new : List Rational) :
+    Type 0 where
+  pub long : length new ≡ length old
+  pub put : (k : ℕ) → k < n → slice_index places k < length old →
+      cell new (slice_index places k) ≡ made (slice_index places k)
+  pub others : (j : ℕ) → ((k : ℕ) → k < n → ¬ (slice_index places k ≡ j)) →
+      cell new j ≡ cell old j
 
 -- the j-th number x of the first n is now f j x, and each other is as it was
 pub record IsChanged (f : ℕ → Rational → Rational) (n : ℕ) (old new : List Rational) : Type 0 where

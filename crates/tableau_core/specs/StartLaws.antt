@@ -21,10 +21,12 @@ module _ (F : Form) (j i : ℕ) (x : Rational) (row : i < F.rows) where
   zero-entry b n e = e ∙ sym (entry-start F j i row ∙ column_artificial F j i b ∙ delta_other (j - F.reals) i n)
 
 module _ (F : Form) (j : ℕ) where
-  pub first-real : (x : Rational) → j < F.reals → x ≡ neg_ℚ (sum_to F.rows (λ i. F.matrix i j)) → x ≡ price F (start F) (first_cost F) j
+  pub first-real : (x : Rational) → j < F.reals → x ≡ neg_ℚ (sum_to F.rows (λ i. F.matrix i j))
+      → x ≡ price F (start F) (first_cost F) j
   first-real x b e = e ∙ sym (first_price-start_real F j b)
 
-  pub first-artificial : F.reals ≤ j → j < F.reals + F.rows → price F (start F) (first_cost F) j ≡ zero_ℚ
+  pub first-artificial : F.reals ≤ j → j < F.reals + F.rows
+      → price F (start F) (first_cost F) j ≡ zero_ℚ
   first-artificial b c =
       ap (price F (start F) (first_cost F)) (back_lem F.reals j b) ∙ first_price-start_artificial F (j - F.reals) (within_lem F.reals j F.rows b c)
     where

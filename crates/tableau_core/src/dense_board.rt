@@ -114,7 +114,7 @@ impl Tableau for DenseBoard {
     }
 
     fn pivot(&mut self, r: usize, q: usize) -> Result<(), BoardOverflow> {
-        prepare_pivot(
+        let used = prepare_pivot(
             &mut self.rows,
             self.in_first,
             &mut self.first,
@@ -130,6 +130,7 @@ impl Tableau for DenseBoard {
             &mut self.first,
             &mut self.second,
             &mut self.step,
+            &self.places[..used],
             r,
             q,
         );

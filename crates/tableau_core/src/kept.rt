@@ -5,7 +5,7 @@ ghost use Rattle.tableau_core.specs.Places.{Covers};
 ghost use Rattle.tableau_core.specs.Row.{AllFit, IsLowered, IsPrepared, cell, differences_fit};
 
 use crate::fault::BoardOverflow;
-use crate::row::lower;
+use crate::row::{lower, put_at};
 use ratio_core::Ratio;
 use std::alloc::{AllocError, Global};
 use std::mem;
@@ -59,17 +59,18 @@ impl Row {
         lower(&self.now, &by, step, places, &mut self.next)
     }
 
-    // Puts in place what was worked out.
-    pub(crate) fn settle(&mut self, q: usize)
+    // Puts in place what was worked out, at the places of the step.
+    pub(crate) fn settle(&mut self, q: usize, places: &[usize])
         requires { q < length self.old.now.items }
         ensures long { length self.new.now.items ≡ length self.old.now.items }
-        ensures lowered { (step : List Rational)
+        ensures lowered { (step : List Rational) → length self.old.now.items ≤ length step
+            → Covers places.now step
             → IsPrepared q step self.old.now.items self.old.next.items
             → IsLowered (cell self.old.now.items q) step self.old.now.items self.new.now.items }
     {
         let by = self.now[q];
         if !by.is_zero() {
-            mem::swap(&mut self.now, &mut self.next);
+            put_at(places, &self.next, &mut self.now);
         }
     }
 
@@ -109,14 +110,15 @@ pub(crate) fn prepare_if(
     }
 }
 
-pub(crate) fn settle_if(used: bool, row: &mut Row, q: usize)
+pub(crate) fn settle_if(used: bool, row: &mut Row, q: usize, places: &[usize])
     requires { q < length row.old.now.items }
     ensures lowered { IsTrue used → (step : List Rational)
+        → length row.old.now.items ≤ length step → Covers places.now step
         → IsPrepared q step row.old.now.items row.old.next.items
         → IsLowered (cell row.old.now.items q) step row.old.now.items row.new.now.items }
     ensures long { length row.new.now.items ≡ length row.old.now.items }
 {
     if used {
-        row.settle(q);
+        row.settle(q, places);
     }
 }

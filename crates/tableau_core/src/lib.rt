@@ -10,11 +10,13 @@ mod places;
 mod row;
 mod rows;
 mod scan;
+mod sign;
 mod start;
 mod tableau;
 
 pub use dense_board::DenseBoard;
 pub use fault::{BoardFault, BoardOverflow};
 pub use row::lowered;
+pub use sign::{is_negative, is_positive};
 pub use start::{first_prices, second_prices, start_basis};
 pub use tableau::Tableau;

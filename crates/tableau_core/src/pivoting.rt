@@ -1,6 +1,7 @@
 //! A pivot worked out beside what stands.
-ghost use Rattle.std.specs.Prelude.{◌≡◌, ◌≢◌, ◌+◌, ◌<◌, ◌≤◌, ℕ, length, is_ok, OnOk};
+ghost use Rattle.std.specs.Prelude.{◌≡◌, ◌≢◌, ◌+◌, ◌<◌, ◌≤◌, ℕ, length, take, is_ok, IfOk, OnOk};
 ghost use Rattle.ratio_core.specs.Rational.{zero_ℚ};
+ghost use Rattle.tableau_core.specs.Places.{Covers};
 ghost use Rattle.tableau_core.specs.Row.{AllFit, IsDivided, cell, quotients_fit};
 ghost use Rattle.tableau_core.specs.Rows.{AreWide, now_at};
 ghost use Rattle.tableau_core.specs.Pivoting.{IsReady, IsSettled, numbers_fit};
@@ -13,7 +14,8 @@ use crate::rows::{prepare_rows, settle_rows};
 use ratio_core::Ratio;
 
 // Works out what a pivot makes of the rows and of the cost rows in use, and changes nothing that
-// stands. The pivot's new row goes into `step`.
+// stands. The pivot's new row goes into `step`, and where it isn't 0 into `places`: tells how many
+// places there are.
 pub(crate) fn prepare_pivot(
     rows: &mut [Row],
     in_first: bool,
@@ -23,7 +25,7 @@ pub(crate) fn prepare_pivot(
     places: &mut [usize],
     r: usize,
     q: usize,
-) -> Result<(), BoardOverflow>
+) -> Result<usize, BoardOverflow>
     requires places_long { length step.old ≤ length places.old }
     requires row { r < length rows.old }
     requires wide { AreWide (length step.old) rows.old }
@@ -40,6 +42,8 @@ pub(crate) fn prepare_pivot(
     ensures fits { is_ok result
         ≡ numbers_fit (length rows.old) (now_at rows.old) r q in_first
         first.old.now.items second.old.now.items }
+    ensures used { IfOk result (λ used. used ≤ length places.new) }
+    ensures covers { IfOk result (λ used. Covers (take used places.new) step.new) }
     ensures ok { OnOk result (IsReady rows.new r q in_first first.new second.new step.new) }
 {
     divide_row(rows, r, q, step)?;
@@ -47,7 +51,8 @@ pub(crate) fn prepare_pivot(
     let places = &places[..used];
     prepare_rows(rows, r, q, step, places)?;
     prepare_if(in_first, first, q, step, places)?;
-    second.prepare(q, step, places)
+    second.prepare(q, step, places)?;
+    Ok(used)
 }
 
 // Row r divided by its number in column q.
@@ -73,6 +78,7 @@ pub(crate) fn settle_pivot(
     first: &mut Row,
     second: &mut Row,
     step: &mut Vec<Ratio>,
+    places: &[usize],
     r: usize,
     q: usize,
 )
@@ -80,8 +86,11 @@ pub(crate) fn settle_pivot(
     requires wide { AreWide (length step.old.items) rows.old }
     requires within { q < length step.old.items }
     requires first_within { q < length first.old.now.items }
+    requires first_long { length first.old.now.items ≤ length step.old.items }
     requires second_within { q < length second.old.now.items }
+    requires second_long { length second.old.now.items ≤ length step.old.items }
     requires step_fits { AllFit step.old.items }
+    requires covers { Covers places.now step.old.items }
     requires ready { IsReady rows.old r q in_first first.old second.old step.old.items }
     ensures settled { IsSettled rows.old rows.new r q in_first
         first.old.now.items first.new.now.items second.old.now.items second.new.now.items }
@@ -91,9 +100,9 @@ pub(crate) fn settle_pivot(
     ensures step_long { length step.new.items ≡ length step.old.items }
     ensures step_fits { AllFit step.new.items }
 {
-    settle_rows(rows, r, q);
+    settle_rows(rows, r, q, places);
     let row = &mut rows[r];
     row.exchange(step);
-    settle_if(in_first, first, q);
-    second.settle(q);
+    settle_if(in_first, first, q, places);
+    second.settle(q, places);
 }

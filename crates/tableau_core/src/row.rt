@@ -3,7 +3,7 @@ ghost use Rattle.std.specs.Prelude.{◌≡◌, ◌≢◌, ◌≤◌, length, is_
 ghost use Rattle.ratio_core.specs.Rational.{Fits, SumFits, neg_ℚ, zero_ℚ, ◌*ℚ◌, ◌-ℚ◌, ◌/ℚ◌};
 ghost use Rattle.simplex_form.specs.Fit.{lowered_fits};
 ghost use Rattle.tableau_core.specs.Places.{Covers};
-ghost use Rattle.tableau_core.specs.Row.{AllFit, IsDivided, IsLowered, differences_fit, quotients_fit};
+ghost use Rattle.tableau_core.specs.Row.{AllFit, IsDivided, IsLoweredBeside, IsPutAt, cell, differences_fit, quotients_fit};
 
 use crate::fault::BoardOverflow;
 use ratio_core::{Ratio, RatioFault};
@@ -37,7 +37,8 @@ fn divide_number(number: &Ratio, by: &Ratio) -> Result<Ratio, RatioFault>
     number.div(by)
 }
 
-// Each number lowered by a multiple of the step's, at the places where the step isn't 0.
+// Each number lowered by a multiple of the step's, at the places where the step isn't 0. The other
+// numbers of `next` stay as they are.
 pub(crate) fn lower(
     row: &[Ratio],
     by: &Ratio,
@@ -49,11 +50,11 @@ pub(crate) fn lower(
     requires step_long { length row.now ≤ length step.now }
     requires covers { Covers places.now step.now }
     requires row_fits { AllFit row.now }
+    requires next_fits { AllFit next.old }
     ensures fits { is_ok result ≡ differences_fit by.now step.now row.now }
-    ensures ok { OnOk result (IsLowered by.now step.now row.now next.new) }
+    ensures ok { OnOk result (IsLoweredBeside by.now step.now row.now next.new) }
     ensures all_fit { AllFit next.new }
 {
-    next.copy_from_slice(row);
     for i in 0..places.len() {
         let j = places[i];
         if j < row.len() {
@@ -61,6 +62,22 @@ pub(crate) fn lower(
         }
     }
     Ok(())
+}
+
+// Puts the numbers of `next` at these places into the row.
+pub(crate) fn put_at(places: &[usize], next: &[Ratio], row: &mut [Ratio])
+    requires long { length next.now ≡ length row.old }
+    requires row_fits { AllFit row.old }
+    requires next_fits { AllFit next.now }
+    ensures put { IsPutAt places.now (length places.now) (cell next.now) row.old row.new }
+    ensures all_fit { AllFit row.new }
+{
+    for i in 0..places.len() {
+        let j = places[i];
+        if j < row.len() {
+            row[j] = next[j];
+        }
+    }
 }
 
 /// A number lowered by a multiple of the step's, where the product and the difference fit.

@@ -33,16 +33,17 @@ pub(crate) fn prepare_rows(
 }
 
 // Puts each row other than r in place.
-pub(crate) fn settle_rows(rows: &mut [Row], r: usize, q: usize)
+pub(crate) fn settle_rows(rows: &mut [Row], r: usize, q: usize, places: &[usize])
     requires within { (i : ℕ) → i < length rows.old → q < length (now_at rows.old i) }
-    ensures lowered { (step : List Rational)
+    ensures lowered { (step : List Rational) → AreWide (length step) rows.old
+        → Covers places.now step
         → ArePrepared r q step rows.old → AreLowered r q step rows.old rows.new }
     ensures stays { now_at rows.new r ≡ now_at rows.old r }
 {
     for i in 0..rows.len() {
         if i != r {
             let row = &mut rows[i];
-            row.settle(q);
+            row.settle(q, places);
         }
     }
 }

@@ -5,6 +5,7 @@ ghost use Rattle.simplex_form.specs.Search.{least_below};
 ghost use Rattle.simplex_form.specs.Turns.{is_below};
 ghost use Rattle.tableau_core.specs.Row.{cell};
 
+use crate::sign::is_negative;
 use ratio_core::Ratio;
 
 // The first of so many numbers that is below 0.
@@ -14,7 +15,7 @@ pub(crate) fn first_negative(row: &[Ratio], count: usize) -> Option<usize>
     ensures within { IfSome result (λ j. j < count) }
 {
     for j in 0..count {
-        if row[j] < Ratio::zero() {
+        if is_negative(&row[j]) {
             return Some(j);
         }
     }

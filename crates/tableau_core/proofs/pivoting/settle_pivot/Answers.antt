@@ -5,13 +5,13 @@ use Rattle.tableau_core.proofs.pivoting.settle_pivot.Goals as goal
 pub returns-clause-settled : goal.returns-clause-settled
 returns-clause-settled c =
     settled-all c.args.rows.now c.settle_rows.new.rows c.args.r c.args.q c.args.step.now.items c.exchange.new.self c.settle_rows.auto.rows c.requires.row c.exchange.ensures.now c.args.in_first c.args.first.now c.args.second.now c.settle_if.new.row.now.items c.settle.new.self.now.items c.requires.ready
-    (c.settle_rows.ensures.lowered c.args.step.now.items c.requires.ready.others)
-    (λ u. c.settle_if.ensures.lowered u c.args.step.now.items (c.requires.ready.first_ready u))
-    (c.settle.ensures.lowered c.args.step.now.items c.requires.ready.second_ready)
+    (c.settle_rows.ensures.lowered c.args.step.now.items c.requires.wide c.requires.covers c.requires.ready.others)
+    (λ u. c.settle_if.ensures.lowered u c.args.step.now.items c.requires.first_long c.requires.covers (c.requires.ready.first_ready u))
+    (c.settle.ensures.lowered c.args.step.now.items c.requires.second_long c.requires.covers c.requires.ready.second_ready)
 
 pub returns-clause-wide : goal.returns-clause-wide
 returns-clause-wide c =
-    settled-wide c.args.rows.now c.settle_rows.new.rows c.args.r c.args.q c.args.step.now.items c.exchange.new.self c.settle_rows.auto.rows c.requires.row c.exchange.ensures.now _ refl c.requires.wide (c.settle_rows.ensures.lowered c.args.step.now.items c.requires.ready.others)
+    settled-wide c.args.rows.now c.settle_rows.new.rows c.args.r c.args.q c.args.step.now.items c.exchange.new.self c.settle_rows.auto.rows c.requires.row c.exchange.ensures.now _ refl c.requires.wide (c.settle_rows.ensures.lowered c.args.step.now.items c.requires.wide c.requires.covers c.requires.ready.others)
 
 pub returns-clause-step_long : goal.returns-clause-step_long
 returns-clause-step_long c =

@@ -1,4 +1,4 @@
-use Rattle.std.proofs.Common.{slice_set, ◌+◌, subst, sym, ◌∙◌}
+use Rattle.std.proofs.Common.{slice_set, ◌+◌, subst, sym, true≢false, ◌∙◌}
 use Rattle.tableau_core.proofs.RowSteps.{IsNotedTo, item_is, noted_here, noted_none, noted_past}
 use Rattle.tableau_core.proofs.places.note_places.Goals as goal
 use Rattle.tableau_core.proofs.places.note_places.Goals.{then-not-is_zero, else-not-is_zero}
@@ -12,7 +12,8 @@ loop-j-preserved c =
       | then-not-is_zero w ↦
           subst (λ places. IsNotedTo c.args.row.now places c.if-not-is_zero.used (c.loop-j.j + 1)) (sym w.places-is)
           (subst (λ used. IsNotedTo c.args.row.now (slice_set c.loop-j.places c.loop-j.used c.loop-j.j) used (c.loop-j.j + 1)) (sym w.used-is)
-          (noted_here c.args.row.now c.loop-j.places c.loop-j.used c.loop-j.j c.loop-j.invariant c.loop-j-test.true))
+          (noted_here c.args.row.now c.loop-j.places c.loop-j.used c.loop-j.j c.loop-j.invariant c.loop-j-test.true
+          (λ z. true≢false (sym (c.is_zero.ensures.1 (item_is c.args.row.now c.loop-j.j c.index-row-j.result c.loop-j-test.true c.index-row-j.is ∙ z)) ∙ w.if-not-is_zero.true))))
       | else-not-is_zero w ↦
           subst (λ places. IsNotedTo c.args.row.now places c.if-not-is_zero.used (c.loop-j.j + 1)) (sym w.places-is)
           (subst (λ used. IsNotedTo c.args.row.now c.loop-j.places used (c.loop-j.j + 1)) (sym w.used-is)

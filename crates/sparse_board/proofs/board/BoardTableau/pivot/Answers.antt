@@ -7,7 +7,8 @@ use Rattle.sparse_board.specs.Rows.{AreWide, now_at, number_in_row}
 use Rattle.sparse_board.specs.Marks.{AreMarked}
 use Rattle.sparse_board.specs.Pivoting.{IsSettled, numbers_fit}
 use Rattle.sparse_board.specs.Kept.{columns_of}
-use Rattle.sparse_board.proofs.BoardSteps.{kept_after, marked_same, pivoted_all, read_entry, ready_same, refused, row_within, tests_same, vec_count, view_same, wide_after}
+use Rattle.tableau_core.specs.KeptLaws.{refused}
+use Rattle.sparse_board.proofs.BoardSteps.{kept_after, marked_same, pivoted_all, read_entry, ready_same, row_within, tests_same, vec_count, view_same, wide_after}
 use Rattle.sparse_board.proofs.board.BoardTableau.pivot.Goals as goal
 
 pub prepare_pivot-requires-clause-nonzero : goal.prepare_pivot-requires-clause-nonzero

@@ -1,8 +1,8 @@
 use Rattle.std.proofs.Common.{ap, pos, to_z-of_z, ◌∙◌}
 use Rattle.std.specs.Prelude.{int_lt}
 use mir.Syntax.{w128}
-use Rattle.sparse_board.specs.SignLaws.{above_by_num}
-use Rattle.simplex_core.proofs.rule.is_positive.Goals as goal
+use Rattle.tableau_core.specs.SignLaws.{above_by_num}
+use Rattle.tableau_core.proofs.sign.is_positive.Goals as goal
 
 pub returns : goal.returns
 returns c =

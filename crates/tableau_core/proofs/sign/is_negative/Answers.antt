@@ -1,8 +1,8 @@
 use Rattle.std.proofs.Common.{ap, pos, to_z-of_z, ◌∙◌}
 use Rattle.std.specs.Prelude.{int_lt}
 use mir.Syntax.{w128}
-use Rattle.sparse_board.specs.SignLaws.{below_by_num}
-use Rattle.sparse_board.proofs.scan.is_negative.Goals as goal
+use Rattle.tableau_core.specs.SignLaws.{below_by_num}
+use Rattle.tableau_core.proofs.sign.is_negative.Goals as goal
 
 pub returns : goal.returns
 returns c =
