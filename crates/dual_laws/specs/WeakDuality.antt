@@ -73,13 +73,6 @@ value_above_duals hs f x d e i =
     ≤ℚ-+ℚ_left (gap hs) (slope f x) f.constant
     (subst (λ q. q ≤ℚ slope f x) (one-*ℚ (gap hs)) (weak_duality one_ℚ one_nonneg x hs f d e i))
 
--- along a ray the slope is at least 0
-pub slope_above_zero : (hs : List Held) (f : Function) (r : Address → Rational) → DualsHold hs
-    → ((v : Address) → adjoint hs v ≡ coefficient f v) → AllHold zero_ℚ hs r → zero_ℚ ≤ℚ slope f r
-slope_above_zero hs f r d e i =
-    subst (λ q. q ≤ℚ slope f r) (zero-*ℚ (gap hs))
-    (weak_duality zero_ℚ (≤ℚ_refl zero_ℚ) r hs f d e i)
-
 -- a gap above 0 where every adjoint is 0 is a proof that no point is in all sets
 pub no_point : (hs : List Held) (x : Address → Rational) → DualsHold hs
     → ((v : Address) → adjoint hs v ≡ zero_ℚ) → zero_ℚ ‹ℚ gap hs → ¬ (AllHold one_ℚ hs x)

@@ -30,10 +30,3 @@ spread_at (a ∷ us) (q ∷ v) d n =
     ap₂ (λ p ps. p ∷ ps) (ap (λ b. cond b q (spread us v a)) (same_key address_order a))
     (past_first a q us us v (IsDistinct-head address_eq a us d)
     ∙ spread_at us v (IsDistinct-tail address_eq a us d) (omega arith))
-
--- a function that mentions only addresses that pass doesn't see the cut
-pub evaluated_cut : (one : Rational) (p : Address → Bool) (f : Function) (x : Address → Rational)
-    → ((v : Address) → ¬ (coefficient f v ≡ zero_ℚ) → p v ≡ true)
-    → evaluated one f (cut p x) ≡ evaluated one f x
-evaluated_cut one p f x h =
-    evaluated_agreeing one f (cut p x) x (λ v n. ap (λ b. cond b (x v) zero_ℚ) (h v n))
