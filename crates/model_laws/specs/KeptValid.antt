@@ -3,7 +3,7 @@ use Rattle.std.specs.Prelude.{◌≡◌, ◌≢◌, ◌⊎◌, ℕ, ◌≤◌, �
 use Rattle.std.specs.List.{filter_map, list_any}
 use Rattle.std.specs.Option.{option_map_or, option_to_list}
 use Rattle.std.proofs.Common.{arith, sym, ap, subst, inl, inr, ◌∙◌}
-use Rattle.std.proofs.lemmas.Bool.{both_ways, eqb-true, not-false, or_left, or_parts}
+use Rattle.std.proofs.lemmas.Bool.{and_parts, both_ways, eqb-true, not-false, or_left, or_parts}
 use Rattle.std.proofs.lemmas.List.{length-map}
 use Rattle.std.proofs.lemmas.List.Elements.{All-append, All-head, All-nil, All-cons, All-tail}
 use Rattle.std.proofs.lemmas.List.Folds.{list_any-append}
@@ -64,10 +64,6 @@ Parts model = HasValidParts model.groups model.rows model.objective
 same_shape : (function set : Bool) → differ function set ≡ false → set ≡ function
 same_shape true set e = not-false set e
 same_shape false set e = e
-
-both : (a b : Bool) → (a && b) ≡ true → (a ≡ true) × (b ≡ true)
-both true b e = (refl, e)
-both false b e = absurd (both_ways false refl e)
 
 not_both : (a b : Bool) → (a && b) ≡ false → a ≡ true → b ≡ false
 not_both true b e is = e
@@ -144,7 +140,7 @@ module _ (model : ModelValue) (c : IsConsistent model)
         → (list_any (λ r. is_variable n r.func && test r.set) model.rows
         || is_created_by test model.groups n) ≡ false
     no_bound (named.Plain var) known e n on =
-        let parts = both (address_eq (variable_address n) (address_named model var)) (test set) on
+        let parts = and_parts (address_eq (variable_address n) (address_named model var)) (test set) on
         in
         let at = something (variable_named model var)
         (not-false (is_some (variable_named model var))

@@ -110,13 +110,9 @@ module _ (allowed : Address → Type 0) (h : Function → Function)
           | inl may ↦ inl may
           | inr was ↦ inr (ap (λ b. b || list_any (has_term q) fs) was)
         ]
-        | inr lacks ↦ inr (later (has_term q f) (sym (ap (λ b. b || list_any (has_term q) fs) lacks)
-            ∙ e))
+        | inr lacks ↦ inr (or_right (has_term q f) (list_any (has_term q) fs)
+            (sym (ap (λ b. b || list_any (has_term q) fs) lacks) ∙ e))
       ]
-    where
-      later : (b : Bool) → list_any (has_term q) fs ≡ true → (b || list_any (has_term q) fs) ≡ true
-      later true e = refl
-      later false e = e
   changed_terms_only (suc i) (f ∷ fs) q e =
       elim (cases_Bool (has_term q f)) [
         | inl has ↦ inr (ap (λ b. b || list_any (has_term q) fs) has)
