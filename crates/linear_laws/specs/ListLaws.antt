@@ -1,17 +1,17 @@
 -- Lists of affine functions: their values and slopes by one notion, weighed, negated and composed;
 -- variables and constant functions.
-use Rattle.std.specs.Prelude.{◌≡◌, cond, List, [], ◌∷◌, map, refl}
+use Rattle.std.specs.Prelude.{◌≡◌, List, [], ◌∷◌, map, refl}
 use Rattle.std.proofs.Common.{sym, ◌∙◌, ap, ap₂}
 use Rattle.ratio_core.specs.Rational.{Rational, neg_ℚ, one_ℚ, zero_ℚ, ◌*ℚ◌, ◌+ℚ◌}
-use Rattle.rational_laws.specs.Dot.{dot, negated as negated_numbers}
+use Rattle.rational_laws.specs.Dot.{dot}
 use Rattle.rational_laws.specs.DotLaws.{dot_map-*ℚ, dot_map-+ℚ}
-use Rattle.rational_laws.specs.Field.{*ℚ-zero, +ℚ-zero, neg_ℚ-*ℚ, *ℚ-neg_ℚ, neg_ℚ-sum, one-*ℚ, one_not_zero, zero-+ℚ}
+use Rattle.rational_laws.specs.Field.{*ℚ-zero, +ℚ-zero, neg_ℚ-*ℚ, *ℚ-neg_ℚ, neg_ℚ-sum, one-*ℚ, zero-+ℚ}
 use Rattle.rational_laws.specs.Sums.{sum_by_ℚ-neg_ℚ, sum_by_ℚ_same}
 use Rattle.aff_core.specs.Address.{Address, address_cmp}
 use Rattle.aff_core.specs.Arithmetic.{composed}
 use Rattle.aff_core.specs.ArithmeticLaws.{coefficient-composed, constant-composed, is_composition}
-use Rattle.aff_core.specs.Function.{Function, IsNegated, coefficient, constant_function, evaluated, negated, slope, value_of, variable}
-use Rattle.aff_core.specs.FunctionLaws.{constant-constant_function, constant-variable, is_negated, terms-constant_function, terms-variable}
+use Rattle.aff_core.specs.Function.{Function, IsNegated, coefficient, constant_function, evaluated, slope, value_of, variable}
+use Rattle.aff_core.specs.FunctionLaws.{constant-constant_function, constant-variable, terms-constant_function, terms-variable}
 use Rattle.aff_core.specs.FunctionLists.{coefficients, constants, evaluations, slopes, values}
 use Rattle.aff_core.specs.KeyOrder.{address_order}
 use Rattle.aff_core.specs.Terms.{linear}

@@ -2,11 +2,11 @@
 -- of their numbers.
 use Rattle.std.specs.Prelude.{◌≡◌, ℕ, suc, List, [], ◌∷◌, ◌++◌, length, map, replicate, All, refl}
 use Rattle.std.proofs.Common.{sym, ◌∙◌, ap, ap₂, arith}
-use Rattle.std.proofs.lemmas.List.{length-map, length-replicate}
+use Rattle.std.proofs.lemmas.List.{length-map}
 use Rattle.std.proofs.lemmas.List.Elements.{All-head, All-replicate, All-tail}
-use Rattle.ratio_core.specs.Rational.{Rational, neg_ℚ, one_ℚ, zero_ℚ, ◌*ℚ◌, ◌+ℚ◌, ◌-ℚ◌, ◌≤ℚ◌}
+use Rattle.ratio_core.specs.Rational.{Rational, neg_ℚ, zero_ℚ, ◌*ℚ◌, ◌+ℚ◌, ◌-ℚ◌, ◌≤ℚ◌}
 use Rattle.rational_laws.specs.Dot.{dot, minus, negated, plus, times}
-use Rattle.rational_laws.specs.Field.{*ℚ-+ℚ, *ℚ-neg_ℚ, *ℚ-one, *ℚ-zero, *ℚ_comm, +ℚ-zero, +ℚ_assoc, +ℚ_inner_comm, neg_ℚ-sum, neg_ℚ-zero, zero-*ℚ, zero-+ℚ}
+use Rattle.rational_laws.specs.Field.{*ℚ-+ℚ, *ℚ-neg_ℚ, *ℚ-zero, *ℚ_comm, +ℚ-zero, +ℚ_assoc, +ℚ_inner_comm, neg_ℚ-sum, neg_ℚ-zero, zero-*ℚ, zero-+ℚ}
 use Rattle.rational_laws.specs.Order.{nonneg_add, nonneg_mul, nonneg_mul_nonpos, ≤ℚ_refl}
 use Rattle.rational_laws.specs.Ring.{as_expression, by_ring, ring₃}
 use Rattle.rational_laws.specs.Sums.{sum_by_ℚ, sum_ℚ}

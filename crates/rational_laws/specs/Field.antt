@@ -1,12 +1,12 @@
 -- The field of the rational numbers. Each law is an equality of numbers, and but for the inverse it
 -- holds unconditionally.
-use Rattle.std.specs.Prelude.{◌≡◌, ℕ, zero, suc, ◌*◌, ◌<◌, ℤ, pos, negsuc, ◌+ℤ◌, ◌*ℤ◌, neg_ℤ, Bool, true, false, ◌⊎◌, refl}
-use Rattle.std.proofs.Common.{inl, inr, sym, ◌∙◌, ap, ap₂, arith, mul-pos, mul_comm, mul_assoc}
+use Rattle.std.specs.Prelude.{◌≡◌, ℕ, zero, suc, ◌*◌, ◌<◌, ℤ, pos, negsuc, ◌+ℤ◌, ◌*ℤ◌, neg_ℤ, refl}
+use Rattle.std.proofs.Common.{sym, ◌∙◌, ap, ap₂, arith, mul-pos, mul_comm, mul_assoc}
 use Rattle.std.proofs.Math.IntN.{+ℤ_assoc, +ℤ_comm, +ℤ_invr, *ℤ_comm}
 use Rattle.std.proofs.lemmas.Int.{ints}
 use borrow.Author.Differences.{same_in, product_is, neg_is}
-use Rattle.ratio_core.specs.Rational.{Rational, reduce, fraction, whole_ℚ, zero_ℚ, one_ℚ, ◌+ℚ◌, ◌-ℚ◌, ◌*ℚ◌, neg_ℚ, inverse_ℚ, rational_eq}
-use Rattle.ratio_core.specs.RationalLaws.{reduce_is, reduce_itself, rational_eq-false, rational_eq-true}
+use Rattle.ratio_core.specs.Rational.{Rational, reduce, fraction, whole_ℚ, zero_ℚ, one_ℚ, ◌+ℚ◌, ◌-ℚ◌, ◌*ℚ◌, neg_ℚ, inverse_ℚ}
+use Rattle.ratio_core.specs.RationalLaws.{reduce_is, reduce_itself}
 use Rattle.rational_laws.specs.Over.{over-+ℚ, over-neg_ℚ, over-zero_ℚ, over₁, over₂, over₃, reduce-*ℚ}
 use Rattle.rational_laws.specs.Whole.{*ℤ_assoc, *ℤ-+ℤ, *ℤ_pos_one}
 

@@ -3,7 +3,7 @@ use Rattle.std.specs.Prelude.{◌≡◌, ℕ, zero, suc, ◌*◌, ◌/◌, ◌^�
 use Rattle.std.proofs.Common.{sym, ◌∙◌, ap, ap₂, arith, subst, div-one, zero-mul}
 use Rattle.std.proofs.lemmas.Int.{ints}
 use Rattle.ratio_core.specs.Gcd.{gcd, gcd-one, gcd_swap}
-use Rattle.ratio_core.specs.Rational.{Fits, Rational, SumFits, abs_ℚ, common_divisor, left_term, neg_ℚ, one_ℚ, right_term, sum_denominator, sum_of_terms, whole_ℚ, zero_ℚ}
+use Rattle.ratio_core.specs.Rational.{Fits, Rational, SumFits, common_divisor, left_term, neg_ℚ, right_term, sum_denominator, sum_of_terms, whole_ℚ, zero_ℚ}
 use Rattle.ratio_core.specs.RationalLaws.{reduce_reduced}
 use Rattle.rational_laws.specs.Whole.{*ℤ_pos_one}
 

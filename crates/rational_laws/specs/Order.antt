@@ -2,10 +2,9 @@
 use Rattle.std.specs.Prelude.{◌≡◌, ℕ, zero, suc, ◌*◌, ◌<◌, ◌⊎◌, ℤ, pos, negsuc, ◌+ℤ◌, ◌*ℤ◌, neg_ℤ, ◌≤ℤ◌, ◌<ℤ◌, unsigned_abs, refl}
 use Rattle.std.proofs.Common.{sym, ◌∙◌, ap, ap₂, arith, mul-pos, subst, subst₂, inl, inr, Ordering, Less, Equal, Greater}
 use Rattle.std.proofs.lemmas.Int.{ints}
-use Rattle.std.specs.Int.{int_signum}
 use Rattle.std.specs.Ordering.{MatchOrdering}
 use borrow.Author.Differences.{at_most_in, below_in, le_out, lt_out}
-use Rattle.ratio_core.specs.Rational.{Rational, abs_ℚ, fraction, inverse_ℚ, neg_ℚ, one_ℚ, rational_cmp, reduce, sign_ℚ, whole_ℚ, zero_ℚ, ◌*ℚ◌, ◌+ℚ◌, ◌-ℚ◌, ◌≤ℚ◌, ◌‹ℚ◌}
+use Rattle.ratio_core.specs.Rational.{Rational, abs_ℚ, fraction, inverse_ℚ, neg_ℚ, one_ℚ, rational_cmp, reduce, whole_ℚ, zero_ℚ, ◌*ℚ◌, ◌+ℚ◌, ◌-ℚ◌, ◌≤ℚ◌, ◌‹ℚ◌}
 use Rattle.ratio_core.specs.RationalLaws.{rational_ranks, reduce_itself, same_from_cross, times_is}
 use Rattle.rational_laws.specs.Field.{*ℚ--ℚ, *ℚ_comm, *ℚ-neg_ℚ, +ℚ-neg_ℚ, neg_ℚ-*ℚ, neg_ℚ-neg_ℚ, neg_ℚ-sum, neg_ℚ-zero, zero-*ℚ, zero-+ℚ}
 use Rattle.rational_laws.specs.Over.{over-+ℚ, over-neg_ℚ, over-zero_ℚ, over-‹ℚ_in, over-‹ℚ_out, over-≤ℚ_in, over-≤ℚ_out, over₂, over₃, over₄}

@@ -1,11 +1,8 @@
 -- Sums over lists, and their linearity.
-use Rattle.std.specs.Prelude.{◌≡◌, ℕ, ◌+◌, ◌<◌, List, [], ◌∷◌, ◌++◌, length, take, map, fold, All, slice_index_or, refl}
+use Rattle.std.specs.Prelude.{◌≡◌, ◌+◌, List, [], ◌∷◌, ◌++◌, map, fold, refl}
 use Rattle.std.proofs.Common.{sym, ◌∙◌, ap, ap₂}
-use Rattle.std.proofs.lemmas.List.{take_more}
-use Rattle.std.proofs.lemmas.List.Elements.{All-head, All-tail}
-use Rattle.ratio_core.specs.Rational.{Rational, neg_ℚ, zero_ℚ, ◌*ℚ◌, ◌+ℚ◌, ◌≤ℚ◌}
+use Rattle.ratio_core.specs.Rational.{Rational, neg_ℚ, zero_ℚ, ◌*ℚ◌, ◌+ℚ◌}
 use Rattle.rational_laws.specs.Field.{*ℚ-+ℚ, *ℚ-zero, *ℚ_comm, +ℚ-zero, +ℚ_assoc, +ℚ_inner_comm, neg_ℚ-sum, neg_ℚ-zero, zero-+ℚ}
-use Rattle.rational_laws.specs.Order.{nonneg_add, ≤ℚ-+ℚ, ≤ℚ_refl}
 
 -- the sum of f over the list
 abbrev pub sum_by_ℚ : {X : Type 0} → (X → Rational) → List X → Rational
