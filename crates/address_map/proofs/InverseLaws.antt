@@ -8,7 +8,7 @@ use Rattle.std.specs.Ordering.{eq_by_cmp}
 use Rattle.aff_core.specs.Address.{Address, address_cmp, address_total}
 use Rattle.aff_core.specs.KeyOrder.{address_order, other_key, same_key, same_or_other}
 use Rattle.address_map.specs.KeptPlaces.{AreInverse}
-use Rattle.address_map.specs.Places.{Indices, IsAddressAt, IsFree, IsOneToOne}
+use Rattle.address_map.specs.Places.{Indices, IsFree, IsOneToOne}
 
 same_index : (i j : ℕ) → nat_eq i j ≡ true → i ≡ j
 same_index i j e = grind (arith, nat_tests)
@@ -22,9 +22,6 @@ other_index i j n = grind (arith, nat_tests)
 module _ (m : Indices) (back : ℕ → Option Address) (inverse : AreInverse (finite.get m) back) where
   pub one_to_one : IsOneToOne m
   one_to_one one other i e k = same_Some one other (sym (inverse.leads one i e) ∙ inverse.leads other i k)
-
-  pub address_at : (i : ℕ) → IsAddressAt m i (back i)
-  address_at i at = (inverse.returns at i, inverse.leads at i)
 
   -- an index that no address has leads nowhere
   pub leads_nowhere : (i : ℕ) → IsFree m i → back i ≡ None

@@ -38,11 +38,6 @@ map_same_on f g [] h = refl
 map_same_on f g (x ∷ xs) h = ap₂ (λ y ys. y ∷ ys) (All-head (λ x. f x ≡ g x) x xs h)
     (map_same_on f g xs (All-tail (λ x. f x ≡ g x) x xs h))
 
--- a fact of each, from two facts of each
-each_from : {X : Type 0} (P Q R : X → Type 0) (xs : List X) → ((x : X) → P x → Q x → R x)
-    → All P xs → All Q xs → All R xs
-each_from P Q R xs h p q = λ k d end. h _ (p k d end) (q k d end)
-
 -- ---- parts of each variable, one after the other
 
 -- the sums so far, from which what is left is as all
@@ -60,14 +55,6 @@ AddsAsAll us before sums parts left =
     → AddedFrom us sums x parts left
 
 module _ (us : List Address) (before : List Rational) (parts : Address → List Rational) where
-  pub adds_start : AddsAsAll us before before parts parts
-  adds_start = λ x is fit. record {
-    now = x;
-    is = is;
-    fit = fit;
-    each = λ k d end. summed_start (x _) (parts _);
-  }
-
   pub adds_end : (sums : List Rational) (left : Address → List Rational)
       → AddsAsAll us before sums parts left → ((v : Address) → left v ≡ [])
       → AddsAt (Ok tt) us before sums parts
@@ -117,10 +104,6 @@ no_step now by fit = record {
   total = subst (SumFits now) (sym (*ℚ-zero by)) (SumFits-zero_right now fit);
 }
 
-pub term_start : (start by all : Rational) → Fits start → TermAsAll start start by all all
-term_start start by all fit =
-    record { fit = fit; value = refl; settles = λ h. h; only = λ h. h }
-
 term_taken : (start now by all left : Rational) → TermAsAll start now by all left
     → StepFits now by left → TermAsAll start (now +ℚ by *ℚ left) by all zero_ℚ
 term_taken start now by all left h step = record {
@@ -169,13 +152,6 @@ other_coefficient t ts v e =
 
 module _ (us : List Address) (before : List Rational) (by : Rational)
     (ts : List (Address × Rational)) where
-  pub terms_start : TermsAsAll us before before by ts ts
-  terms_start = λ x is fit. record {
-    now = x;
-    is = is;
-    each = λ k d lt. term_start (x _) by (coefficient_among ts _) (fit k d lt);
-  }
-
   pub terms_end : (sums : List Rational) → TermsAsAll us before sums by ts []
       → AddsAt (Ok tt) us before sums (λ v. by *ℚ coefficient_among ts v ∷ [])
   terms_end sums h = λ x is fit.

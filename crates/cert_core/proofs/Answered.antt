@@ -24,12 +24,6 @@ pub overflowed : {T : Type 0} (r : Result T CheckFault) (Q : Type 0) (A : T → 
 overflowed (Ok x) Q A is bars = absurd is
 overflowed (Err x) Q A is bars = subst (λ y. ExactWhere (Err y) Q A) (sym is) bars
 
--- want of memory
-pub out_of_memory : {T : Type 0} (r : Result T CheckFault) (Q : Type 0) (A : T → Type 0)
-    → IsErrAnd r (λ x. x ≡ Memory) → ExactWhere r Q A
-out_of_memory (Ok x) Q A is = absurd is
-out_of_memory (Err x) Q A is = subst (λ y. ExactWhere (Err y) Q A) (sym is) tt
-
 -- the same answer for the same things
 pub answers_alike : {T : Type 0} (r : Result T CheckFault) (P Q : Type 0) (A B : T → Type 0)
     → ExactWhere r P A → (P → Q) → (Q → P) → ((x : T) → A x → B x) → ExactWhere r Q B

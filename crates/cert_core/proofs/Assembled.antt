@@ -20,6 +20,7 @@ use Rattle.user_model.specs.declared.row.Row.{Row}
 use Rattle.user_model.specs.Model.{ModelValue, variables}
 use Rattle.certificates.specs.Points.{address_of, addresses_of, at_point, functions_of, functions_of_group}
 use Rattle.certificates.specs.Duals.{AreDuals, HasDuals, group_with, groups_with, rows_with, with_duals}
+use Rattle.certificates.specs.DualPointLaws.{component_count}
 use Rattle.certificates.specs.Feasible.{IsFeasible, IsRay}
 use Rattle.cert_core.specs.Answers.{ExactWhere}
 use Rattle.cert_core.specs.Checked.{HasEachDual, HasRowDuals}
@@ -143,11 +144,6 @@ module _ (groups : List Group) (us : List Address) (is : us ≡ all_addresses gr
     pub numbers_at : Ascend us → length x ≡ length us → map (spread us x) us ≡ x
     numbers_at up size = spread_at us x (distinct us up) (sym size)
 
-    -- at the model's own addresses
-    pub numbers_at_all : Ascend us → length x ≡ length us
-        → map (spread us x) (all_addresses groups) ≡ x
-    numbers_at_all up size = subst (λ vs. map (spread us x) vs ≡ x) is (numbers_at up size)
-
 -- the model's own point has a vector's numbers at its variables
 pub numbers_of_model : (groups : List Group) (rows : List Row) (us : List Address)
     (x : List Rational) → IsReady groups rows us → length x ≡ length us
@@ -225,12 +221,6 @@ row_duals model rows vars h = record {
 }
 
 -- ---- of a valid model
-
-component_count : (func : UserFunc) → length (functions_of func) ≡ components func
-component_count (Plain var) = refl
-component_count (Affine f) = refl
-component_count (PlainVec vars) = length-map vars (variable {R = address_cmp})
-component_count (AffineVec fs) = refl
 
 pub ready : (groups : List Group) (rows : List Row) (objective : Objective) (us : List Address)
     → HasValidParts groups rows objective → Rise variable_number (variables_of groups)

@@ -27,14 +27,6 @@ others_left g rest groups numbers next size =
     size ∙ ap (λ gs. length (all_addresses gs)) next ∙ count_split g rest in
     length-drop (length g.vars) numbers ∙ (omega (arith, whole))
 
-pub own_left : (g : Group) (rest groups : List Group) (numbers : List Rational)
-    → groups ≡ g ∷ rest → length numbers ≡ length (all_addresses groups)
-    → length g.vars ≤ length numbers
-own_left g rest groups numbers next size =
-    let whole : length numbers ≡ length g.vars + length (all_addresses rest) =
-    size ∙ ap (λ gs. length (all_addresses gs)) next ∙ count_split g rest in
-    omega (arith, whole)
-
 -- ---- tests
 
 module _ (F P : (Address → Rational) → Group → Type 0) where
@@ -125,15 +117,6 @@ pub record GroupsSummed (start sum : Rational) (groups left_groups : List Group)
   pub summed : (w : Address → Rational) → map w (all_addresses groups) ≡ numbers
       → SummedAsAll start sum (gap_parts (groups_with w groups))
       (gap_parts (groups_with w left_groups))
-
-pub sums_start : (start : Rational) (groups : List Group) (numbers : List Rational)
-    → length numbers ≡ length (all_addresses groups)
-    → GroupsSummed start start groups groups numbers numbers
-sums_start start groups numbers size = record {
-  size = size;
-  at_left = λ w is. is;
-  summed = λ w is. summed_start start (gap_parts (groups_with w groups));
-}
 
 module _ (start sum : Rational) (groups left_groups rest : List Group)
     (numbers left : List Rational) (g : Group)

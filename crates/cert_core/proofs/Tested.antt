@@ -7,10 +7,6 @@ pub both_true : (a b : Bool) → IsTrue (a && b) → IsTrue a × IsTrue b
 both_true true b h = (refl, h)
 both_true false b h = absurd (true≢false (sym h))
 
-pub true_both : (a b : Bool) → IsTrue a → IsTrue b → IsTrue (a && b)
-true_both true b h k = k
-true_both false b h k = absurd (true≢false (sym h))
-
 -- what a `&&` leaves, by whether its first test passed
 pub and_taken : (a b now : Bool) → a ≡ true → now ≡ b → IsTrue now ↔ (IsTrue a × IsTrue b)
 and_taken a b now t is = (λ h. (t, sym is ∙ h), λ h. is ∙ h.1)
@@ -19,14 +15,6 @@ pub and_passed : (a b now : Bool) → a ≡ false → now ≡ a → IsTrue now �
 and_passed a b now f is = (
   λ h. absurd (true≢false (sym h ∙ is ∙ f)),
   λ h. absurd (true≢false (sym h.0 ∙ f)),
-)
-
--- two tests
-pub both_tell : (a b : Bool) (P Q : Type 0) → (IsTrue a ↔ P) → (IsTrue b ↔ Q)
-    → IsTrue (a && b) ↔ (P × Q)
-both_tell a b P Q p q = (
-  λ h. let t = both_true a b h in (p.0 t.0, q.0 t.1),
-  λ h. true_both a b (p.1 h.0) (q.1 h.1),
 )
 
 pub iff_trans : (A B C : Type 0) → (A ↔ B) → (B ↔ C) → A ↔ C

@@ -144,11 +144,9 @@ no_pull_at hs x h =
 abbrev HasSet : Held → Type 0
 HasSet h = IsSetOf (length h.functions) h.set
 
-component_count : (func : UserFunc) → length (functions_of func) ≡ components func
-component_count (Plain var) = refl
-component_count (Affine f) = refl
+pub component_count : (func : UserFunc) → length (functions_of func) ≡ components func
 component_count (PlainVec vars) = length-map vars (variable {R = address_cmp})
-component_count (AffineVec fs) = refl
+component_count _ = refl
 
 row_sets : (groups : List Group) (ys : List (List Rational)) (rows : List Row)
     → All (IsValidRow groups) rows → All HasSet (rows_with ys rows)

@@ -7,7 +7,7 @@ use Rattle.std.proofs.lemmas.List.{length-map}
 use Rattle.std.proofs.lemmas.List.Elements.{All-head, All-tail}
 use Rattle.ratio_core.specs.Rational.{Rational, neg_ℚ, one_ℚ, zero_ℚ, ◌*ℚ◌, ◌+ℚ◌, ◌-ℚ◌, ◌≤ℚ◌, ◌‹ℚ◌}
 use Rattle.rational_laws.specs.Dot.{dot}
-use Rattle.rational_laws.specs.Field.{*ℚ-+ℚ, *ℚ-zero, one-*ℚ, zero-*ℚ}
+use Rattle.rational_laws.specs.Field.{*ℚ-+ℚ, *ℚ-zero, one-*ℚ}
 use Rattle.rational_laws.specs.Order.{not_‹ℚ_from_≤ℚ, zero_‹ℚ_one, ≤ℚ-+ℚ, ≤ℚ-+ℚ_left, ≤ℚ-+ℚ_right, ≤ℚ_from_‹ℚ, ≤ℚ_refl}
 use Rattle.rational_laws.specs.Ring.{as_expression, by_ring, ring₄}
 use Rattle.aff_core.specs.Address.{Address}
@@ -72,13 +72,6 @@ unfolding value_of
 value_above_duals hs f x d e i =
     ≤ℚ-+ℚ_left (gap hs) (slope f x) f.constant
     (subst (λ q. q ≤ℚ slope f x) (one-*ℚ (gap hs)) (weak_duality one_ℚ one_nonneg x hs f d e i))
-
--- along a ray the slope is at least 0
-pub slope_above_zero : (hs : List Held) (f : Function) (r : Address → Rational) → DualsHold hs
-    → ((v : Address) → adjoint hs v ≡ coefficient f v) → AllHold zero_ℚ hs r → zero_ℚ ≤ℚ slope f r
-slope_above_zero hs f r d e i =
-    subst (λ q. q ≤ℚ slope f r) (zero-*ℚ (gap hs))
-    (weak_duality zero_ℚ (≤ℚ_refl zero_ℚ) r hs f d e i)
 
 -- a gap above 0 where every adjoint is 0 is a proof that no point is in all sets
 pub no_point : (hs : List Held) (x : Address → Rational) → DualsHold hs

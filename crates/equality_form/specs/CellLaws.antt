@@ -7,7 +7,7 @@ use Rattle.std.proofs.lemmas.List.Elements.{All-cons, All-head, All-nil, All-tai
 use Rattle.ratio_core.specs.Rational.{Rational, zero_ℚ, ◌*ℚ◌, ◌+ℚ◌}
 use Rattle.rational_laws.specs.Dot.{dot}
 use Rattle.rational_laws.specs.DotLaws.{negated-dot}
-use Rattle.rational_laws.specs.Field.{*ℚ-neg_ℚ, +ℚ_assoc, +ℚ_comm, neg_ℚ-*ℚ, neg_ℚ-neg_ℚ, neg_ℚ-sum, neg_ℚ-zero}
+use Rattle.rational_laws.specs.Field.{*ℚ-neg_ℚ, +ℚ_assoc, +ℚ_comm, neg_ℚ-*ℚ, neg_ℚ-neg_ℚ, neg_ℚ-zero}
 use Rattle.rational_laws.specs.Sums.{sum_by_ℚ}
 use Rattle.simplex_form.specs.BoundedSums.{sum_to}
 use Rattle.tableau_core.specs.Row.{cell}
@@ -41,10 +41,6 @@ dot_of_maps f g (x ∷ xs) = ap (λ s. f x *ℚ g x +ℚ s) (dot_of_maps f g xs)
 pub flipped-zero : (b : Bool) → flipped b zero_ℚ ≡ zero_ℚ
 flipped-zero true = neg_ℚ-zero
 flipped-zero false = refl
-
-pub flipped-+ℚ : (b : Bool) (p q : Rational) → flipped b (p +ℚ q) ≡ flipped b p +ℚ flipped b q
-flipped-+ℚ true p q = neg_ℚ-sum p q
-flipped-+ℚ false p q = refl
 
 pub flipped-flipped : (b : Bool) (q : Rational) → flipped b (flipped b q) ≡ q
 flipped-flipped true q = neg_ℚ-neg_ℚ q

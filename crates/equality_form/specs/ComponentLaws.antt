@@ -82,10 +82,7 @@ in_set one (Nonnegatives n) vs h e k = All-weaker (Meets (Some true) (one *ℚ z
     (λ q. zero_ℚ ≤ℚ q) (λ q p. subst (λ z. z ≤ℚ q) (*ℚ-zero one) p) vs k
 in_set one (Nonpositives n) vs h e k = All-weaker (Meets (Some false) (one *ℚ zero_ℚ))
     (λ q. q ≤ℚ zero_ℚ) (λ q p. subst (λ z. q ≤ℚ z) (*ℚ-zero one) p) vs k
-in_set one (Interval l u) vs h e k = absurd h
-in_set one (Reals n) vs h e k = absurd h
-in_set one (NormInfinityCone n) vs h e k = absurd h
-in_set one (NormOneCone n) vs h e k = absurd h
+in_set one _ vs h e k = absurd h
 
 -- ---- duals
 
@@ -106,10 +103,7 @@ in_dual (EqualTo a) ws h n k = tt
 in_dual (Zeros n) ws h e k = tt
 in_dual (Nonnegatives n) ws h e k = k
 in_dual (Nonpositives n) ws h e k = k
-in_dual (Interval l u) vs h e k = absurd h
-in_dual (Reals n) vs h e k = absurd h
-in_dual (NormInfinityCone n) vs h e k = absurd h
-in_dual (NormOneCone n) vs h e k = absurd h
+in_dual _ vs h e k = absurd h
 
 -- ---- gaps
 

@@ -12,7 +12,7 @@ use Rattle.aff_core.specs.FunctionLaws.{coefficient-constant_function, coefficie
 use Rattle.aff_core.specs.KeyOrder.{address_order}
 use Rattle.aff_core.specs.declared.sense.Sense.TheVariants.{Min, Max}
 use Rattle.item_core.specs.declared.item.Body.{Body}
-use Rattle.item_core.specs.declared.item.Body.TheVariants.{Group, Free, Plain, Affine, PlainVec, AffineVec, PlainObj, AffineObj}
+use Rattle.item_core.specs.declared.item.Body.TheVariants.{PlainObj, AffineObj}
 use Rattle.item_core.specs.Item.{functions_of}
 use Rattle.leaf_model.specs.LeafModel.{LeafModel}
 use Rattle.linear_laws.specs.ListLaws.{slope_constant_function, slope_negated}
@@ -54,12 +54,7 @@ module _ (leaves : LeafModel) where
   over_cost_of (PlainObj Max var) h = over_negated (variable var) (over (variable var) h)
   over_cost_of (AffineObj Min func) h = over func h
   over_cost_of (AffineObj Max func) h = over_negated func (over func h)
-  over_cost_of (Group set vars) h = over_nothing
-  over_cost_of (Free vars) h = over_nothing
-  over_cost_of (Plain var set) h = over_nothing
-  over_cost_of (Affine func set) h = over_nothing
-  over_cost_of (PlainVec vars set) h = over_nothing
-  over_cost_of (AffineVec func set) h = over_nothing
+  over_cost_of _ h = over_nothing
 
   over_cost : (objectives : List (Address × Body))
       → All (λ objective. All (NamesVariables leaves) (functions_of objective.1)) objectives

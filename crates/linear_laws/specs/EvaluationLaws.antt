@@ -6,10 +6,10 @@ use Rattle.ratio_core.specs.Rational.{Rational, one_ℚ, zero_ℚ, ◌*ℚ◌, �
 use Rattle.rational_laws.specs.Field.{*ℚ-+ℚ, *ℚ-zero, one-*ℚ, zero-*ℚ, zero-+ℚ, +ℚ-zero, +ℚ_inner_comm}
 use Rattle.rational_laws.specs.Ring.{as_expression, by_ring, ring₄, ring₅}
 use Rattle.aff_core.specs.Address.{Address}
-use Rattle.aff_core.specs.Arithmetic.{IsComposition, IsMultiple, IsSum}
+use Rattle.aff_core.specs.Arithmetic.{IsComposition, IsSum}
 use Rattle.aff_core.specs.Function.{Function, coefficient, evaluated, slope, terms_of, value_of}
 use Rattle.aff_core.specs.Terms.{linear}
-use Rattle.linear_laws.specs.SlopeLaws.{slope_agreeing, slope_composed, slope_multiple, slope_same, slope_sum}
+use Rattle.linear_laws.specs.SlopeLaws.{slope_agreeing, slope_composed, slope_sum}
 
 pub evaluated_value : (f : Function) (x : Address → Rational) → evaluated one_ℚ f x ≡ value_of f x
 unfolding value_of
@@ -41,10 +41,6 @@ linear-*ℚ c (t ∷ ts) x = ap (λ q. t.1 *ℚ (c *ℚ x t.0) +ℚ q) (linear-*
 -- ---- the laws
 
 module _ (one : Rational) where
-  pub evaluated_same : (f g : Function) → ((v : Address) → coefficient f v ≡ coefficient g v)
-      → f.constant ≡ g.constant → (x : Address → Rational) → evaluated one f x ≡ evaluated one g x
-  evaluated_same f g h k x = ap₂ ◌+ℚ◌ (ap (λ q. one *ℚ q) k) (slope_same f g h x)
-
   pub evaluated_agreeing : (f : Function) (x y : Address → Rational)
       → ((v : Address) → ¬ (coefficient f v ≡ zero_ℚ) → x v ≡ y v)
       → evaluated one f x ≡ evaluated one f y
@@ -59,15 +55,6 @@ module _ (one : Rational) where
   evaluated_sum f g h s x =
       ap₂ ◌+ℚ◌ (ap (λ q. one *ℚ q) s.constant) (slope_sum f g h s x)
       ∙ regrouped_sum one f.constant g.constant (slope f x) (slope g x)
-
-  regrouped_multiple : (o c a s : Rational) → o *ℚ (c *ℚ a) +ℚ c *ℚ s ≡ c *ℚ (o *ℚ a +ℚ s)
-  regrouped_multiple = ring₄ _ (λ ρ. simp as_expression (by_ring ρ _ _ refl))
-
-  pub evaluated_multiple : (c : Rational) (f h : Function) → IsMultiple c f h
-      → (x : Address → Rational) → evaluated one h x ≡ c *ℚ evaluated one f x
-  evaluated_multiple c f h s x =
-      ap₂ ◌+ℚ◌ (ap (λ q. one *ℚ q) s.constant) (slope_multiple c f h s x)
-      ∙ regrouped_multiple one c f.constant (slope f x)
 
   regrouped_composed : (o a b s : Rational) → o *ℚ (a +ℚ b) +ℚ s ≡ o *ℚ a +ℚ (o *ℚ b +ℚ s)
   regrouped_composed = ring₄ _ (λ ρ. simp as_expression (by_ring ρ _ _ refl))

@@ -1,17 +1,17 @@
 -- Lists of affine functions: their values and slopes by one notion, weighed, negated and composed;
 -- variables and constant functions.
-use Rattle.std.specs.Prelude.{◌≡◌, cond, List, [], ◌∷◌, map, refl}
+use Rattle.std.specs.Prelude.{◌≡◌, List, [], ◌∷◌, map, refl}
 use Rattle.std.proofs.Common.{sym, ◌∙◌, ap, ap₂}
 use Rattle.ratio_core.specs.Rational.{Rational, neg_ℚ, one_ℚ, zero_ℚ, ◌*ℚ◌, ◌+ℚ◌}
-use Rattle.rational_laws.specs.Dot.{dot, negated as negated_numbers}
+use Rattle.rational_laws.specs.Dot.{dot}
 use Rattle.rational_laws.specs.DotLaws.{dot_map-*ℚ, dot_map-+ℚ}
-use Rattle.rational_laws.specs.Field.{*ℚ-zero, +ℚ-zero, neg_ℚ-*ℚ, *ℚ-neg_ℚ, neg_ℚ-sum, one-*ℚ, one_not_zero, zero-+ℚ}
+use Rattle.rational_laws.specs.Field.{*ℚ-zero, +ℚ-zero, neg_ℚ-*ℚ, *ℚ-neg_ℚ, neg_ℚ-sum, one-*ℚ, zero-+ℚ}
 use Rattle.rational_laws.specs.Sums.{sum_by_ℚ-neg_ℚ, sum_by_ℚ_same}
 use Rattle.aff_core.specs.Address.{Address, address_cmp}
 use Rattle.aff_core.specs.Arithmetic.{composed}
 use Rattle.aff_core.specs.ArithmeticLaws.{coefficient-composed, constant-composed, is_composition}
-use Rattle.aff_core.specs.Function.{Function, IsNegated, coefficient, constant_function, evaluated, negated, slope, value_of, variable}
-use Rattle.aff_core.specs.FunctionLaws.{constant-constant_function, constant-variable, is_negated, terms-constant_function, terms-variable}
+use Rattle.aff_core.specs.Function.{Function, IsNegated, coefficient, constant_function, evaluated, slope, value_of, variable}
+use Rattle.aff_core.specs.FunctionLaws.{constant-constant_function, constant-variable, terms-constant_function, terms-variable}
 use Rattle.aff_core.specs.FunctionLists.{coefficients, constants, evaluations, slopes, values}
 use Rattle.aff_core.specs.KeyOrder.{address_order}
 use Rattle.aff_core.specs.Terms.{linear}
@@ -88,12 +88,14 @@ evaluations_variables one vs x = map_both (λ f. evaluated one f x)
 
 pub slope_constant_function : (k : Rational) (x : Address → Rational)
     → slope (constant_function {R = address_cmp} k) x ≡ zero_ℚ
-slope_constant_function k x = ap (λ ts. linear ts x) (terms-constant_function address_cmp k) ∙ linear_none x
+slope_constant_function k x =
+    ap (λ ts. linear ts x) (terms-constant_function address_cmp k) ∙ linear_none x
 
 pub evaluated_constant_function : (one k : Rational) (x : Address → Rational)
     → evaluated one (constant_function {R = address_cmp} k) x ≡ one *ℚ k
 evaluated_constant_function one k x =
-    (λ i. one *ℚ constant-constant_function address_cmp k i +ℚ slope_constant_function k x i) ∙ +ℚ-zero (one *ℚ k)
+    (λ i. one *ℚ constant-constant_function address_cmp k i +ℚ slope_constant_function k x i)
+    ∙ +ℚ-zero (one *ℚ k)
 
 -- ---- negated functions
 
@@ -117,13 +119,6 @@ pub evaluated_negated : (one : Rational) (f h : Function) → IsNegated f h → 
 evaluated_negated one f h n x =
     ap₂ ◌+ℚ◌ (ap (λ q. one *ℚ q) n.constant ∙ *ℚ-neg_ℚ one f.constant) (slope_negated f h n x)
     ∙ sym (neg_ℚ-sum (one *ℚ f.constant) (slope f x))
-
-pub evaluations-negated : (one : Rational) (fs : List Function) (x : Address → Rational)
-    → evaluations one (map negated fs) x ≡ negated_numbers (evaluations one fs x)
-evaluations-negated one fs x =
-    map_both (λ f. evaluated one f x) negated (λ f. neg_ℚ (evaluated one f x)) fs
-    (λ f. evaluated_negated one f (negated f) (is_negated address_order f (negated f) refl) x)
-    ∙ sym (map_both neg_ℚ (λ f. evaluated one f x) (λ f. neg_ℚ (evaluated one f x)) fs (λ f. refl))
 
 -- ---- composed functions
 

@@ -1,15 +1,13 @@
 -- Points spread over a list of addresses, and points cut to some addresses.
-use Rattle.std.specs.Prelude.{◌≡◌, Bool, true, false, cond, List, [], ◌∷◌, length, map, refl}
+use Rattle.std.specs.Prelude.{◌≡◌, false, cond, List, [], ◌∷◌, length, map, refl}
 use Rattle.std.proofs.Common.{◌∙◌, ap, ap₂, arith}
 use Rattle.std.proofs.lemmas.Map.Keys.{IsDistinct-head, IsDistinct-tail}
 use Rattle.std.specs.List.{AllByRecursion, IsDistinct}
-use Rattle.ratio_core.specs.Rational.{Rational, zero_ℚ}
+use Rattle.ratio_core.specs.Rational.{Rational}
 use Rattle.aff_core.specs.Address.{Address, address_eq, address_total}
-use Rattle.aff_core.specs.Function.{Function, coefficient, evaluated}
 use Rattle.aff_core.specs.KeyOrder.{address_order, same_key}
-use Rattle.aff_core.specs.Points.{cut, spread}
+use Rattle.aff_core.specs.Points.{spread}
 use Rattle.std.specs.Cmp.{eq_by_cmp_equiv}
-use Rattle.linear_laws.specs.EvaluationLaws.{evaluated_agreeing}
 
 past_first : (a : Address) (q : Rational) (us vs : List Address) (v : List Rational)
     → AllByRecursion (λ u. address_eq a u ≡ false) us
@@ -30,10 +28,3 @@ spread_at (a ∷ us) (q ∷ v) d n =
     ap₂ (λ p ps. p ∷ ps) (ap (λ b. cond b q (spread us v a)) (same_key address_order a))
     (past_first a q us us v (IsDistinct-head address_eq a us d)
     ∙ spread_at us v (IsDistinct-tail address_eq a us d) (omega arith))
-
--- a function that mentions only addresses that pass doesn't see the cut
-pub evaluated_cut : (one : Rational) (p : Address → Bool) (f : Function) (x : Address → Rational)
-    → ((v : Address) → ¬ (coefficient f v ≡ zero_ℚ) → p v ≡ true)
-    → evaluated one f (cut p x) ≡ evaluated one f x
-evaluated_cut one p f x h =
-    evaluated_agreeing one f (cut p x) x (λ v n. ap (λ b. cond b (x v) zero_ℚ) (h v n))

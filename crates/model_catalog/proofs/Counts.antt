@@ -3,7 +3,7 @@ use Rattle.std.proofs.Common.{◌≡◌, ◌≢◌, ℕ, ◌+◌, ◌<◌, ◌�
 use Rattle.std.specs.Prelude.{IfSome, IsSome, slice_index_or, count_by}
 use Rattle.std.specs.Option.{option_map}
 use Rattle.std.proofs.Math.ListN.{set}
-use Rattle.std.proofs.lemmas.Bool.{cases_eq}
+use Rattle.std.proofs.lemmas.Bool.{cases_eq, false_from_ne_true}
 use Rattle.std.proofs.lemmas.List.Sums.{count_by-le-length}
 use Rattle.std.proofs.lemmas.Option.{same_Some, slice_get-get_or}
 use Rattle.aff_core.specs.Address.{Address, address_eq, address_eq-Decides}
@@ -24,15 +24,11 @@ use Rattle.model_catalog.proofs.Weights.{sum_set_at}
 
 -- ---- the variable of an address
 
-false_of : (b : Bool) → (b ≡ true → ⊥) → b ≡ false
-false_of true never = absurd (never refl)
-false_of false never = refl
-
 pub variable_at_root : (a : Address) (m : ℕ) → a.root ≡ AtVariable → length a.positions ≡ 0 → m ≡ a.number → (n : ℕ) → address_eq (variable_address n) a ≡ is_number (Some m) n
 variable_at_root a m root short number n =
     elim (cases_eq m n) [
       | inl same ↦ (address_eq-Decides (variable_address n) a).1 (is same) ∙ sym (same_number m n same)
-      | inr other ↦ false_of (address_eq (variable_address n) a) (λ e. other (number ∙ sym (ap (λ x. x.number) ((address_eq-Decides (variable_address n) a).0 e)))) ∙ sym (other_number m n other)
+      | inr other ↦ false_from_ne_true (address_eq (variable_address n) a) (λ e. other (number ∙ sym (ap (λ x. x.number) ((address_eq-Decides (variable_address n) a).0 e)))) ∙ sym (other_number m n other)
     ]
   where
     nothing : (xs : List ℕ) → length xs ≡ 0 → [] ≡ xs
@@ -43,10 +39,10 @@ variable_at_root a m root short number n =
     is same = λ i. record { root = sym root i; number = (sym same ∙ number) i; positions = nothing a.positions short i }
 
 pub other_root : (a : Address) → a.root ≢ AtVariable → (n : ℕ) → address_eq (variable_address n) a ≡ false
-other_root a never n = false_of (address_eq (variable_address n) a) (λ e. never (sym (ap (λ x. x.root) ((address_eq-Decides (variable_address n) a).0 e))))
+other_root a never n = false_from_ne_true (address_eq (variable_address n) a) (λ e. never (sym (ap (λ x. x.root) ((address_eq-Decides (variable_address n) a).0 e))))
 
 pub below_root : (a : Address) → length a.positions ≢ 0 → (n : ℕ) → address_eq (variable_address n) a ≡ false
-below_root a never n = false_of (address_eq (variable_address n) a) (λ e. never (sym (ap (λ x. length x.positions) ((address_eq-Decides (variable_address n) a).0 e))))
+below_root a never n = false_from_ne_true (address_eq (variable_address n) a) (λ e. never (sym (ap (λ x. length x.positions) ((address_eq-Decides (variable_address n) a).0 e))))
 
 -- ---- one variable
 
@@ -67,12 +63,6 @@ not_counted_at : (row : Row) (n : ℕ) (o : Option Variable) → IsAt variable_n
 not_counted_at row n None at none = refl
 not_counted_at row n (Some v) at none = ap Some (not_counted row v (ap (λ m. is_variable m row.func) at ∙ none))
 
-pub count_nothing : (v : Variable) → counted None v ≡ v
-count_nothing v = same_variable refl refl (zero_more v.lower) (zero_more v.upper)
-  where
-    zero_more : (n : ℕ) → n + 0 ≡ n
-    zero_more n = omega arith
-
 -- ---- the variables
 
 -- a row that is none of the variables that are kept
@@ -85,13 +75,6 @@ none_counted row kept none n = by_place (find variable_number n kept) refl
       where
         ap_some : find variable_number n kept ≡ Some v → IsSome (find variable_number n kept)
         ap_some e = subst IsSome (sym e) refl
-
-pub no_row_counted : (kept : List Variable) (n : ℕ) → option_map (counted None) (find variable_number n kept) ≡ find variable_number n kept
-no_row_counted kept n = by_place (find variable_number n kept)
-  where
-    by_place : (o : Option Variable) → option_map (counted None) o ≡ o
-    by_place None = refl
-    by_place (Some v) = ap Some (count_nothing v)
 
 -- the variable of a row is not kept
 pub missing_counted : (row : Row) (m : ℕ) (kept : List Variable) (i : ℕ) → ((n : ℕ) → is_variable n row.func ≡ is_number (Some m) n) → IsMissingAt variable_number m kept i → (n : ℕ) → option_map (counted (Some row)) (find variable_number n kept) ≡ find variable_number n kept

@@ -100,14 +100,6 @@ length_of (Some x) = refl
 some_given : (group : ℕ) (l : NameChange) (o : Option Variable) → is_some (given_variable group l o) ≡ is_some l.name
 some_given group l o = elim (is_some l.name) as (λ b. is_some (cond b (Some (unwrap_or o (unbounded_in group l.number))) None) ≡ b) [ true ↦ refl | false ↦ refl ]
 
-pub room_for_next : (group : ℕ) (start now : List Variable) (listed : List NameChange) (i first capacity : ℕ) (d : NameChange) → ListedSoFar group start now listed i first capacity → i < length listed → IsSome (slice_index_or listed i d).name → length now < capacity
-room_for_next group start now listed i first capacity d h lt some =
-    let x = slice_index_or listed i d in
-    let split = ap put_count (drop_more listed i d lt) in
-    let count = count_first (λ l. is_some l.name) x (drop (i + 1) listed) in
-    let named = ap (λ b. cond {A = ℕ} b 1 0) some in
-    omega (arith, h.fits, split, count, named)
-
 pub listed_more : (group : ℕ) (start now after : List Variable) (listed : List NameChange) (i first capacity more : ℕ) (d : NameChange) → ListedSoFar group start now listed i first capacity → i < length listed → after ≡ set_at variable_number (slice_index_or listed i d).number (given_variable group (slice_index_or listed i d) (find variable_number (slice_index_or listed i d).number now)) now → Rise variable_number after → capacity ≤ more → ListedSoFar group start after listed (i + 1) first more
 listed_more group start now after listed i first capacity more d h lt is rise grows =
     let x = slice_index_or listed i d in
@@ -130,16 +122,4 @@ listed_more group start now after listed i first capacity more d h lt is rise gr
       count = omega (arith, h.count, lengths, was, gives, puts, keeps, long);
       fits = omega (arith, h.fits, lengths, was, gives, puts, keeps, long);
       grown = omega (arith, h.grown);
-    }
-
-pub record AllListed (group : ℕ) (start now : List Variable) (listed : List NameChange) : Type 0 where
-  pub entries : (n : ℕ) → find variable_number n now ≡ listed_in group listed (λ n. find variable_number n start) n
-  pub count : length now + kept_count start listed ≡ length start + put_count listed
-
-pub listed_all : (group : ℕ) (start now : List Variable) (listed : List NameChange) (i first capacity : ℕ) → ListedSoFar group start now listed i first capacity → length listed ≤ i → AllListed group start now listed
-listed_all group start now listed i first capacity h end =
-    let nothing = drop_all i listed end in
-    record {
-      entries = λ n. sym (ap (λ xs. listed_in group xs (λ n. find variable_number n now) n) nothing) ∙ h.rest n;
-      count = omega (arith, h.count, ap put_count nothing, ap (kept_count start) nothing);
     }

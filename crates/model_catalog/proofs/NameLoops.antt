@@ -70,9 +70,6 @@ module _ (given : NameChange → Option (List ℕ)) where
   still_next start now listed i d x lt h read =
       h.still x.number (subst (λ xs. IsSome (find listed_number x.number xs)) (sym (drop_more listed i d lt ∙ ap (λ y. y ∷ drop (i + 1) listed) (sym read))) (some_is (find listed_number x.number (x ∷ drop (i + 1) listed)) x (find-first listed_number x.number x (drop (i + 1) listed) refl)))
 
-  pub given_all : (start now : Naming) (listed : List NameChange) (i : ℕ) → length listed ≤ i → GivenSoFar start now listed (drop i listed) → (n : ℕ) → now n ≡ given_by given listed start n
-  given_all start now listed i end h n = sym (ap (λ xs. given_by given xs now n) (drop_all i listed end)) ∙ h.rest n
-
 -- ---- the names taken out
 
 pub record TakenSoFar (start now : Numbers) (listed left : List NameChange) (i first spare_now : ℕ) : Type 0 where
@@ -80,9 +77,6 @@ pub record TakenSoFar (start now : Numbers) (listed left : List NameChange) (i f
   pub past : IsPast (put_aside (name_of start)) listed left i
   pub one_to_one : IsOneToOne now
   pub spare : first ≤ spare_now
-
-pub taken_none : (start : Numbers) (listed : List NameChange) (spare : ℕ) → Rise listed_number listed → IsOneToOne start → TakenSoFar start start listed listed 0 spare spare
-taken_none start listed spare rise one = record { names = given_none (λ l. None) (name_of start) listed rise; past = past_none (put_aside (name_of start)) listed; one_to_one = one; spare = omega arith }
 
 pub taken_more : (start now after : Numbers) (listed left : List NameChange) (i spare spare_now spare_after : ℕ) (d : NameChange) (was : Option (List ℕ)) → TakenSoFar start now listed left i spare spare_now → i < length listed → was ≡ name_of now (slice_index_or left i d).number → ((n : ℕ) → name_of after n ≡ cond ((slice_index_or left i d).number == n) None (name_of now n)) → spare_now ≤ spare_after → IsOneToOne after
     → TakenSoFar start after listed (let given : NameChange = record { number = (slice_index_or left i d).number; name = (slice_index_or left i d).name; aside = was } in set left i given) (i + 1) spare spare_after
@@ -217,10 +211,6 @@ module _ (naming : Naming) where
       by_place : (o : Option NameChange) → option_map_or (λ (l : NameChange). l.name) (option_map (put_aside naming) o) (option_map_or (λ (l : NameChange). None) o (naming n)) ≡ option_map_or (λ (l : NameChange). l.name) o (naming n)
       by_place None = refl
       by_place (Some l) = refl
-
-  pub put_count-aside : (listed : List NameChange) → put_count (map (put_aside naming) listed) ≡ put_count listed
-  put_count-aside [] = refl
-  put_count-aside (x ∷ xs) = put_count-first (put_aside naming x) (map (put_aside naming) xs) ∙ (ap (λ m. cond (is_some x.name) 1 0 + m) (put_count-aside xs) ∙ sym (put_count-first x xs))
 
   pub settled_aside : (listed : List NameChange) → map settled (map (put_aside naming) listed) ≡ standing_names naming listed
   settled_aside [] = refl

@@ -92,74 +92,24 @@ pub(crate) fn exchange_rows(
     ensures aside { aside.new.items ≡ [] }
 {
     if changes.len() > 1 && rows.len() <= aside.capacity() {
-        exchange_in_one_pass(rows, aside, kept, changes);
-    } else {
-        exchange_in_turn(rows, kept, changes);
+        // the rows behind the next change stand aside
+        open_gap(rows, aside);
+        for change in changes.iter_mut() {
+            change.content = exchange_row_at_gap(
+                rows,
+                aside,
+                kept,
+                change.number,
+                change.content.take(),
+            );
+        }
+        close_gap(rows, aside);
+        return;
     }
-}
-
-// Row by row, each found and moved for itself.
-fn exchange_in_turn(rows: &mut Vec<Row>, kept: &mut [Variable], changes: &mut [Change<Row>])
-    requires rising { Rise row_number rows.old.items }
-    requires changes { AreChanges row_number changes.old }
-    requires room { vec_len rows.old + added row_number changes.old rows.old.items
-        ≤ vec_capacity rows.old }
-    requires kept { Rise variable_number kept.old }
-    requires counts { CountsBounds rows.old.items kept.old }
-    ensures after { rows.new.items ≡ set_all row_number changes.old rows.old.items }
-    ensures before { changes.new ≡ olds row_number changes.old rows.old.items }
-    ensures rising { Rise row_number rows.new.items }
-    ensures changes { AreChanges row_number changes.new }
-    ensures capacity { vec_capacity rows.old ≤ vec_capacity rows.new }
-    ensures room { vec_len rows.new + added row_number changes.new rows.new.items
-        ≤ vec_capacity rows.new }
-    ensures kept { Rise variable_number kept.new }
-    ensures entries { (n : ℕ) → find variable_number n kept.new
-        ≡ option_map (recounted rows.new.items) (find variable_number n kept.old) }
-{
+    // each is found and moved for itself
     for change in changes.iter_mut() {
         change.content = exchange_row(rows, kept, change.number, change.content.take());
     }
-}
-
-// The rows behind the next change stand aside.
-fn exchange_in_one_pass(
-    rows: &mut Vec<Row>,
-    aside: &mut Vec<Row>,
-    kept: &mut [Variable],
-    changes: &mut [Change<Row>],
-)
-    requires aside { aside.old.items ≡ [] }
-    requires aside_room { vec_len rows.old ≤ vec_capacity aside.old }
-    requires rising { Rise row_number rows.old.items }
-    requires changes { AreChanges row_number changes.old }
-    requires room { vec_len rows.old + added row_number changes.old rows.old.items
-        ≤ vec_capacity rows.old }
-    requires kept { Rise variable_number kept.old }
-    requires counts { CountsBounds rows.old.items kept.old }
-    ensures after { rows.new.items ≡ set_all row_number changes.old rows.old.items }
-    ensures before { changes.new ≡ olds row_number changes.old rows.old.items }
-    ensures rising { Rise row_number rows.new.items }
-    ensures changes { AreChanges row_number changes.new }
-    ensures capacity { vec_capacity rows.old ≤ vec_capacity rows.new }
-    ensures room { vec_len rows.new + added row_number changes.new rows.new.items
-        ≤ vec_capacity rows.new }
-    ensures kept { Rise variable_number kept.new }
-    ensures entries { (n : ℕ) → find variable_number n kept.new
-        ≡ option_map (recounted rows.new.items) (find variable_number n kept.old) }
-    ensures aside { aside.new.items ≡ [] }
-{
-    open_gap(rows, aside);
-    for change in changes.iter_mut() {
-        change.content = exchange_row_at_gap(
-            rows,
-            aside,
-            kept,
-            change.number,
-            change.content.take(),
-        );
-    }
-    close_gap(rows, aside);
 }
 
 // One row, where the gap comes before all changes that are left.

@@ -18,20 +18,6 @@ use Rattle.model_laws.specs.KeptRows.{IsRowChange, kept_row, row_terms, row_with
 use Rattle.model_laws.specs.KeptGroups.{kept_group, group_within}
 use Rattle.model_laws.specs.Found.{something}
 
-pub affine_bounds : (h : Function → Function) (n : ℕ) (func : UserFunc)
-    → is_variable n (on_affine h func) ≡ is_variable n func
-affine_bounds h n (Plain var) = refl
-affine_bounds h n (Affine f) = refl
-affine_bounds h n (PlainVec vars) = refl
-affine_bounds h n (AffineVec fs) = refl
-
-pub output_bounds : (output : ℕ) (h : Function → Function) (n : ℕ) (func : UserFunc)
-    → is_variable n (on_output output h func) ≡ is_variable n func
-output_bounds output h n (Plain var) = refl
-output_bounds output h n (Affine f) = refl
-output_bounds output h n (PlainVec vars) = refl
-output_bounds output h n (AffineVec fs) = refl
-
 module _ (model : ModelValue) (c : IsConsistent model) where
   -- a row that is found by name
   module _ (name : List ℕ) (row : Row) (found : row_named model name ≡ Some row) where

@@ -57,7 +57,9 @@ group_deleted n group groups rise vars_rise found v there at =
         → before ++ (option_to_list (group_without n group) ++ after)
         ≡ filter_map (group_without n) (before ++ (group ∷ after))
     one before after h =
-        let up : AllPairs (λ x y. variable_number x < variable_number y) (vars_in before ++ (group.vars ++ vars_in after)) = (subst (Rise variable_number) (vars_around before after group) h).rising in
+        let up : AllPairs (λ x y. variable_number x < variable_number y)
+        (vars_in before ++ (group.vars ++ vars_in after)) =
+        (subst (Rise variable_number) (vars_around before after group) h).rising in
         let low = others_below variable_number (vars_in before) group.vars (vars_in after) v there
         up in
         let high = others_above variable_number (vars_in before) group.vars (vars_in after) v there

@@ -43,7 +43,9 @@ module _ (model : ModelValue) (c : IsConsistent model) where
       let w = something (variable_named model y) too in
       elim (cases_Bool (address_eq (address_named model x) (address_named model y))) [
         | inl same ↦
-            let number : unwrap_or (variable_named model x) 0 ≡ unwrap_or (variable_named model y) 0 = ap (λ a. a.number) ((address_eq-Decides (address_named model x) (address_named model y)).0 same) in
+            let decides = address_eq-Decides (address_named model x) (address_named model y) in
+            let number : unwrap_or (variable_named model x) 0
+            ≡ unwrap_or (variable_named model y) 0 = ap (λ a. a.number) (decides.0 same) in
             let numbers : v.0 ≡ w.0 = sym (ap (λ o. unwrap_or o 0) v.1)
             ∙ (number ∙ ap (λ o. unwrap_or o 0) w.1) in
             absurd (both_ways (bytes_eq x y) other ((bytes_eq-Decides x y).1

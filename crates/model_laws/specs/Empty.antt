@@ -24,13 +24,3 @@ empty_consistent = record {
   bounds =
       λ n. All-nil {X = Row} (λ r. is_variable n r.func ≡ true → IsSome (group_of empty_model n));
 }
-
-pub empty_within : IsWithinLimits empty_model
-empty_within = record {
-  variables = omega arith;
-  rows = omega arith;
-  terms = omega arith;
-  group_numbers = omega arith;
-  variable_numbers = omega arith;
-  row_numbers = omega arith;
-}

@@ -30,7 +30,10 @@ module _ {X : Type 0} (p : X → Bool) where
   found_passes [] x e = cc
   found_passes (y ∷ xs) x e =
       elim (cases_Bool (p y)) [
-        | inl passing ↦ let is : Some y ≡ Some x = sym (find_here y xs passing) ∙ e in let same : y ≡ x = cc in subst (λ z. p z ≡ true) same passing
+        | inl passing ↦
+            let is : Some y ≡ Some x = sym (find_here y xs passing) ∙ e in
+            let same : y ≡ x = cc in
+            subst (λ z. p z ≡ true) same passing
         | inr failing ↦ found_passes xs x (sym (find_later y xs failing) ∙ e)
       ]
 
@@ -38,8 +41,12 @@ module _ {X : Type 0} (p : X → Bool) where
   found_stands [] x e = cc
   found_stands (y ∷ xs) x e =
       elim (cases_Bool (p y)) [
-        | inl passing ↦ let is : Some y ≡ Some x = sym (find_here y xs passing) ∙ e in (0, omega arith, cc)
-        | inr failing ↦ let rest = found_stands xs x (sym (find_later y xs failing) ∙ e) in (suc rest.0, omega (arith, rest.1), rest.2)
+        | inl passing ↦
+            let is : Some y ≡ Some x = sym (find_here y xs passing) ∙ e in
+            (0, omega arith, cc)
+        | inr failing ↦
+            let rest = found_stands xs x (sym (find_later y xs failing) ∙ e) in
+            (suc rest.0, omega (arith, rest.1), rest.2)
       ]
 
   -- where no item passes, each fails

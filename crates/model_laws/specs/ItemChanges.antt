@@ -27,27 +27,6 @@ module _ {X : Type 0} (number_of : X → ℕ) where
   abbrev pub edits_of : (X → Option X) → (X → Bool) → List X → List (Change X)
   edits_of f touched xs = map (edit_of f) (filter touched xs)
 
-  -- the edits of one item more, as a loop over the items makes them
-  pub edits_more : (f : X → Option X) (touched : X → Bool) (xs : List X) (i : ℕ) (d : X)
-      → i < length xs
-      → edits_of f touched (take (i + 1) xs)
-      ≡ edits_of f touched (take i xs)
-      ++ cond (touched (get_or xs i d)) (edit_of f (get_or xs i d) ∷ []) []
-  edits_more f touched xs i d lt =
-      ap (map (edit_of f)) (filter_more touched xs i d lt)
-      ∙ by_test (filter touched (take i xs)) (get_or xs i d) (touched (get_or xs i d))
-    where
-      joined : (ys zs : List X)
-          → map (edit_of f) (ys ++ zs) ≡ map (edit_of f) ys ++ map (edit_of f) zs
-      joined [] zs = refl
-      joined (y ∷ ys) zs = ap (λ cs. edit_of f y ∷ cs) (joined ys zs)
-
-      by_test : (ys : List X) (x : X) (b : Bool)
-          → map (edit_of f) (ys ++ cond b (x ∷ []) [])
-          ≡ map (edit_of f) ys ++ cond b (edit_of f x ∷ []) []
-      by_test ys x true = joined ys (x ∷ [])
-      by_test ys x false = joined ys []
-
   -- one change
   pub one_change : (n : ℕ) (new : Option X) → IsAt number_of n new
       → AreChanges number_of (record { number = n; content = new } ∷ [])

@@ -37,9 +37,7 @@ pub record HasShapeOf (old new : UserFunc) : Type 0 where
 
 pub affine_shape : (h : Function → Function) (func : UserFunc) → HasShapeOf func (on_affine h func)
 affine_shape h (Plain var) = record { scalar = refl; components = refl; variable = λ n. refl }
-affine_shape h (Affine f) = record { scalar = refl; components = refl; variable = λ n. refl }
-affine_shape h (PlainVec vars) = record { scalar = refl; components = refl; variable = λ n. refl }
-affine_shape h (AffineVec fs) = record { scalar = refl; components = refl; variable = λ n. refl }
+affine_shape h _ = record { scalar = refl; components = refl; variable = λ n. refl }
 
 changed_length : (i : ℕ) (h : Function → Function) (fs : List Function)
     → length (changed_at i h fs) ≡ length fs
@@ -49,33 +47,25 @@ changed_length (suc i) h (f ∷ fs) = ap suc (changed_length i h fs)
 
 pub output_shape : (output : ℕ) (h : Function → Function) (func : UserFunc)
     → HasShapeOf func (on_output output h func)
-output_shape output h (Plain var) =
-    record { scalar = refl; components = refl; variable = λ n. refl }
-output_shape output h (Affine f) = record { scalar = refl; components = refl; variable = λ n. refl }
-output_shape output h (PlainVec vars) =
-    record { scalar = refl; components = refl; variable = λ n. refl }
 output_shape output h (AffineVec fs) =
     record { scalar = refl; components = changed_length (output - 1) h fs; variable = λ n. refl }
+output_shape output h _ = record { scalar = refl; components = refl; variable = λ n. refl }
 
 pub located_scalar : (model : ModelValue) (func : NamedFunc)
     → is_scalar_function (located model func) ≡ is_scalar_named func
 located_scalar model (named.Plain var) = refl
-located_scalar model (named.Affine f) = refl
-located_scalar model (named.PlainVec vars) = refl
-located_scalar model (named.AffineVec fs) = refl
+located_scalar model _ = refl
 
 pub scalar_components : (func : UserFunc) → is_scalar_function func ≡ true → components func ≡ 1
-scalar_components (Plain var) e = refl
-scalar_components (Affine f) e = refl
 scalar_components (PlainVec vars) e = absurd (both_ways false refl e)
 scalar_components (AffineVec fs) e = absurd (both_ways false refl e)
+scalar_components _ e = refl
 
 pub located_components : (model : ModelValue) (func : NamedFunc)
     → components (located model func) ≡ named_components func
-located_components model (named.Plain var) = refl
-located_components model (named.Affine f) = refl
 located_components model (named.PlainVec vars) = length-map vars _
 located_components model (named.AffineVec fs) = length-map fs _
+located_components model _ = refl
 
 -- ---- constants have no part in the number of terms
 
@@ -88,16 +78,12 @@ counts_at (suc i) value (f ∷ fs) = ap (λ ns. term_count f ∷ ns) (counts_at 
 pub constant_counts : (value : Rational) (func : UserFunc)
     → term_counts (on_affine (λ f. with_constant f value) func) ≡ term_counts func
 constant_counts value (Plain var) = refl
-constant_counts value (Affine f) = refl
-constant_counts value (PlainVec vars) = refl
-constant_counts value (AffineVec fs) = refl
+constant_counts value _ = refl
 
 pub output_counts : (output : ℕ) (value : Rational) (func : UserFunc)
     → term_counts (on_output output (λ f. with_constant f value) func) ≡ term_counts func
-output_counts output value (Plain var) = refl
-output_counts output value (Affine f) = refl
-output_counts output value (PlainVec vars) = refl
 output_counts output value (AffineVec fs) = counts_at (output - 1) value fs
+output_counts output value _ = refl
 
 -- ---- changes of functions that mention variables that stand
 
@@ -154,60 +140,27 @@ module _ (groups : List Group) (row : Row) where
 
 -- ---- sets of one type set the same bounds
 
-by_lower : SetType → Bool
-by_lower types.GreaterThan = true
-by_lower types.EqualTo = true
-by_lower types.Interval = true
-by_lower _ = false
+-- whether sets of the type set a lower bound, and an upper one
+bounds_of : SetType → Bool × Bool
+bounds_of types.LessThan = (false, true)
+bounds_of types.GreaterThan = (true, false)
+bounds_of types.EqualTo = (true, true)
+bounds_of types.Interval = (true, true)
+bounds_of _ = (false, false)
 
-by_upper : SetType → Bool
-by_upper types.LessThan = true
-by_upper types.EqualTo = true
-by_upper types.Interval = true
-by_upper _ = false
+abbrev pub set_bounds : Set → Bool × Bool
+set_bounds set = (sets_lower set, sets_upper set)
 
-type_lower : (set : Set) → sets_lower set ≡ by_lower (type_of set)
-unfolding by_lower
-type_lower (LessThan u) = refl
-type_lower (GreaterThan l) = refl
-type_lower (EqualTo a) = refl
-type_lower (Interval l u) = refl
-type_lower (Reals n) = refl
-type_lower (Zeros n) = refl
-type_lower (Nonnegatives n) = refl
-type_lower (Nonpositives n) = refl
-type_lower (NormInfinityCone n) = refl
-type_lower (NormOneCone n) = refl
+type_bounds : (set : Set) → set_bounds set ≡ bounds_of (type_of set)
+unfolding bounds_of
+type_bounds (LessThan u) = refl
+type_bounds _ = refl
 
-type_upper : (set : Set) → sets_upper set ≡ by_upper (type_of set)
-unfolding by_upper
-type_upper (LessThan u) = refl
-type_upper (GreaterThan l) = refl
-type_upper (EqualTo a) = refl
-type_upper (Interval l u) = refl
-type_upper (Reals n) = refl
-type_upper (Zeros n) = refl
-type_upper (Nonnegatives n) = refl
-type_upper (Nonpositives n) = refl
-type_upper (NormInfinityCone n) = refl
-type_upper (NormOneCone n) = refl
-
-types_same : (old new : Set) → same_type old new ≡ true → type_of old ≡ type_of new
-types_same old new e = same_true the_type (search rules) (type_of old) (type_of new) e
-
-pub same_lower : (old new : Set) → same_type old new ≡ true → sets_lower new ≡ true
-    → sets_lower old ≡ true
-same_lower old new same e = type_lower old
-    ∙ (ap by_lower (types_same old new same) ∙ (sym (type_lower new) ∙ e))
-
-pub same_upper : (old new : Set) → same_type old new ≡ true → sets_upper new ≡ true
-    → sets_upper old ≡ true
-same_upper old new same e = type_upper old
-    ∙ (ap by_upper (types_same old new same) ∙ (sym (type_upper new) ∙ e))
-
-and_more : (a b c : Bool) → (b ≡ true → c ≡ true) → (a && b) ≡ true → (a && c) ≡ true
-and_more true b c h e = h e
-and_more false b c h e = e
+pub same_bounds : (old new : Set) → same_type old new ≡ true
+    → set_bounds old ≡ set_bounds new
+same_bounds old new same = type_bounds old
+    ∙ (ap bounds_of (same_true the_type (search rules) (type_of old) (type_of new) same)
+    ∙ sym (type_bounds new))
 
 pub set_in_place : (groups : List Group) (row : Row) (set : Set)
     → is_scalar set ≡ is_scalar_function row.func → IsSetOf (components row.func) set
@@ -221,8 +174,6 @@ set_in_place groups row set shape is same = record {
     shape = shape;
     set = is;
   });
-  lower = λ n e. and_more (is_variable n row.func) (sets_lower set) (sets_lower row.set)
-      (same_lower row.set set same) e;
-  upper = λ n e. and_more (is_variable n row.func) (sets_upper set) (sets_upper row.set)
-      (same_upper row.set set same) e;
+  lower = λ n e. ap (λ b. is_variable n row.func && b.0) (same_bounds row.set set same) ∙ e;
+  upper = λ n e. ap (λ b. is_variable n row.func && b.1) (same_bounds row.set set same) ∙ e;
 }

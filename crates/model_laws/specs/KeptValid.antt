@@ -3,7 +3,7 @@ use Rattle.std.specs.Prelude.{◌≡◌, ◌≢◌, ◌⊎◌, ℕ, ◌≤◌, �
 use Rattle.std.specs.List.{filter_map, list_any}
 use Rattle.std.specs.Option.{option_map_or, option_to_list}
 use Rattle.std.proofs.Common.{arith, sym, ap, subst, inl, inr, ◌∙◌}
-use Rattle.std.proofs.lemmas.Bool.{both_ways, eqb-true, not-false, or_left, or_parts}
+use Rattle.std.proofs.lemmas.Bool.{and_parts, both_ways, eqb-true, not-false, or_left, or_parts}
 use Rattle.std.proofs.lemmas.List.{length-map}
 use Rattle.std.proofs.lemmas.List.Elements.{All-append, All-head, All-nil, All-cons, All-tail}
 use Rattle.std.proofs.lemmas.List.Folds.{list_any-append}
@@ -41,7 +41,7 @@ use Rattle.model_laws.specs.KeptAdditions.{new_group, new_row, vars_added}
 use Rattle.model_laws.specs.KeptConsistent.{kept_consistent}
 use Rattle.model_laws.specs.KeptDeletion.{sum_filter_map}
 use Rattle.model_laws.specs.KeptParts.{IsGroupInPlace, IsRowInPlace, parts_of_group, parts_of_objective, parts_of_row, parts_with_group, parts_with_row, parts_without_row}
-use Rattle.model_laws.specs.KeptShapes.{affine_shape, constant_counts, function_in_place, HasShapeOf, located_components, located_scalar, name_in_place, output_counts, output_shape, scalar_components, same_lower, same_upper, set_in_place, standing_coefficient}
+use Rattle.model_laws.specs.KeptShapes.{affine_shape, constant_counts, function_in_place, HasShapeOf, located_components, located_scalar, name_in_place, output_counts, output_shape, scalar_components, same_bounds, set_in_place, standing_coefficient}
 use Rattle.model_laws.specs.KeptWithin.{kept_within}
 use Rattle.model_laws.specs.Located.{group_by_number, row_by_number, variable_found, variable_located}
 use Rattle.model_laws.specs.Needed.{needed_row_there, needed_variable, unknown}
@@ -64,10 +64,6 @@ Parts model = HasValidParts model.groups model.rows model.objective
 same_shape : (function set : Bool) → differ function set ≡ false → set ≡ function
 same_shape true set e = not-false set e
 same_shape false set e = e
-
-both : (a b : Bool) → (a && b) ≡ true → (a ≡ true) × (b ≡ true)
-both true b e = (refl, e)
-both false b e = absurd (both_ways false refl e)
 
 not_both : (a b : Bool) → (a && b) ≡ false → a ≡ true → b ≡ false
 not_both true b e is = e
@@ -144,7 +140,7 @@ module _ (model : ModelValue) (c : IsConsistent model)
         → (list_any (λ r. is_variable n r.func && test r.set) model.rows
         || is_created_by test model.groups n) ≡ false
     no_bound (named.Plain var) known e n on =
-        let parts = both (address_eq (variable_address n) (address_named model var)) (test set) on
+        let parts = and_parts (address_eq (variable_address n) (address_named model var)) (test set) on
         in
         let at = something (variable_named model var)
         (not-false (is_some (variable_named model var))
@@ -158,9 +154,7 @@ module _ (model : ModelValue) (c : IsConsistent model)
         ap bound number
         ∙ (sym (ap (λ o. option_map_or bound o false) at.1)
         ∙ not_both (test set) (option_map_or bound (variable_named model var) false) e parts.1)
-    no_bound (named.Affine f) known e n on = absurd (both_ways false refl on)
-    no_bound (named.PlainVec vars) known e n on = absurd (both_ways false refl on)
-    no_bound (named.AffineVec fs) known e n on = absurd (both_ways false refl on)
+    no_bound _ known e n on = absurd (both_ways false refl on)
 
   row_made : (name : List ℕ) (func : NamedFunc) (set : Set)
       → IsPassed model (edit.AddRow name func set)
@@ -247,8 +241,8 @@ module _ (model : ModelValue) (c : IsConsistent model)
           || nat_lt (dimension_of set) (least_dimension set))) scalar) ordered;
     });
     same = λ m. refl;
-    lower = same_lower group.set set same;
-    upper = same_upper group.set set same;
+    lower = λ e. ap (λ b. b.0) (same_bounds group.set set same) ∙ e;
+    upper = λ e. ap (λ b. b.1) (same_bounds group.set set same) ∙ e;
   }
 
   set_free : (group : Group) → is_scalar group.set ≡ true

@@ -23,7 +23,8 @@ use Rattle.model_laws.specs.KeptDeletion.{without_variable_within}
 use Rattle.model_laws.specs.KeptAdditions.{add_group_within, add_row_within}
 use Rattle.model_laws.specs.Needed.{needed_row_there, needed_variable}
 use Rattle.model_laws.specs.Terms.{affine_terms, constant_adds_none, objective_change_terms, output_terms}
-use Rattle.model_laws.specs.ByName.{affine_bounds, function_change, of_group, of_number, output_bounds, within_delete, within_group, within_less, within_objective, within_row}
+use Rattle.model_laws.specs.KeptShapes.{affine_shape, output_shape}
+use Rattle.model_laws.specs.ByName.{function_change, of_group, of_number, within_delete, within_group, within_less, within_objective, within_row}
 
 abbrev IsLimited : ℕ × ℕ → Type 0
 IsLimited c = c.0 ≤ c.1
@@ -66,15 +67,15 @@ module _ (model : ModelValue) (c : IsConsistent model) (w : IsWithinLimits model
       let at = needed_row_there model (edit.Coef row var value) row refl known in
       let h = on_affine (λ f. with_coefficient f (address_named model var) value) in
       within_row model c row at.0 at.1 (λ r. record r { func = h r.func })
-      (function_change model c row at.0 at.1 h (λ n. affine_bounds
-      (λ f. with_coefficient f (address_named model var) value) n at.0.func)) w
+      (function_change model c row at.0 at.1 h (affine_shape
+      (λ f. with_coefficient f (address_named model var) value) at.0.func).variable) w
       (after_terms (terms_of_row (edited model (edit.Coef row var value)) row) _ [] counted)
   within_by (edit.VecCoef row output var value) known free counted =
       let at = needed_row_there model (edit.VecCoef row output var value) row refl known in
       let h = on_output output (λ f. with_coefficient f (address_named model var) value) in
       within_row model c row at.0 at.1 (λ r. record r { func = h r.func })
-      (function_change model c row at.0 at.1 h (λ n. output_bounds output
-      (λ f. with_coefficient f (address_named model var) value) n at.0.func)) w
+      (function_change model c row at.0 at.1 h (output_shape output
+      (λ f. with_coefficient f (address_named model var) value) at.0.func).variable) w
       (after_terms (terms_of_row (edited model (edit.VecCoef row output var value)) row) _ []
       counted)
   within_by (edit.ObjCoef var value) known free counted =
@@ -85,15 +86,15 @@ module _ (model : ModelValue) (c : IsConsistent model) (w : IsWithinLimits model
       let at = needed_row_there model (edit.Constant row value) row refl known in
       let h = on_affine (λ f. with_constant f value) in
       within_less model c row at.0 at.1 (λ r. record r { func = h r.func })
-      (function_change model c row at.0 at.1 h (λ n. affine_bounds (λ f. with_constant f value)
-      n at.0.func)) w (affine_terms (λ f. with_constant f value) (constant_adds_none value)
+      (function_change model c row at.0 at.1 h (affine_shape (λ f. with_constant f value)
+      at.0.func).variable) w (affine_terms (λ f. with_constant f value) (constant_adds_none value)
       at.0.func)
   within_by (edit.VecConstant row output value) known free counted =
       let at = needed_row_there model (edit.VecConstant row output value) row refl known in
       let h = on_output output (λ f. with_constant f value) in
       within_less model c row at.0 at.1 (λ r. record r { func = h r.func })
-      (function_change model c row at.0 at.1 h (λ n. output_bounds output
-      (λ f. with_constant f value) n at.0.func)) w (output_terms (λ f. with_constant f value)
+      (function_change model c row at.0 at.1 h (output_shape output
+      (λ f. with_constant f value) at.0.func).variable) w (output_terms (λ f. with_constant f value)
       (constant_adds_none value) output at.0.func)
   within_by (edit.ObjConstant value) known free counted =
       within_objective model (on_objective (λ f. with_constant f value) model.objective) w

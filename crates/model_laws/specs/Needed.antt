@@ -52,9 +52,7 @@ module _ (model : ModelValue) where
       → is_variable n (located model func) ≡ true → IsSome (group_of model n)
   located_stands (named.Plain var) known n e =
       let at = first_known var [] known in address_stands model var at.0 n at.1 e
-  located_stands (named.Affine f) known n e = absurd (both_ways false refl e)
-  located_stands (named.PlainVec vars) known n e = absurd (both_ways false refl e)
-  located_stands (named.AffineVec fs) known n e = absurd (both_ways false refl e)
+  located_stands _ known n e = absurd (both_ways false refl e)
 
   -- the function of an edit that isn't refused is of names that stand
   pub known_function : (e : Edit) (func : NamedFunc) → needed_variables e ≡ mentioned func
@@ -66,6 +64,15 @@ module _ (model : ModelValue) where
             (option_map_or (λ name. not (has_row_named model name)) (needed_row e) false) known).0;
       }
 
+  -- so are the first component, and the others
+  known_parts : (g : NamedAff) (fs : List NamedAff)
+      → list_any unknown (mentioned (named.AffineVec (g ∷ fs))) ≡ false
+      → (list_any unknown (names_of g) ≡ false)
+      × (list_any unknown (mentioned (named.AffineVec fs)) ≡ false)
+  known_parts g fs known =
+      or_parts (list_any unknown (names_of g)) (list_any unknown (mentioned (named.AffineVec fs)))
+      (sym (list_any-append unknown (names_of g) (mentioned (named.AffineVec fs))) ∙ known)
+
   -- so is each component
   pub known_component : (fs : List NamedAff) (i : ℕ) (f : NamedAff)
       → IsKnown model (named.AffineVec fs) → slice_get fs i ≡ Some f
@@ -74,14 +81,7 @@ module _ (model : ModelValue) where
   known_component (g ∷ fs) zero f h e =
       let same : g ≡ f = same_Some g f e in
       record {
-        known = subst (λ f. list_any unknown (names_of f) ≡ false) same
-            (or_parts (list_any unknown (names_of g)) (list_any unknown
-            (mentioned (named.AffineVec fs))) (sym (list_any-append unknown (names_of g)
-            (mentioned (named.AffineVec fs))) ∙ h.known)).0;
+        known = subst (λ f. list_any unknown (names_of f) ≡ false) same (known_parts g fs h.known).0;
       }
   known_component (g ∷ fs) (suc i) f h e =
-      known_component fs i f (record {
-        known = (or_parts (list_any unknown (names_of g))
-            (list_any unknown (mentioned (named.AffineVec fs)))
-            (sym (list_any-append unknown (names_of g) (mentioned (named.AffineVec fs))) ∙ h.known)).1;
-      }) e
+      known_component fs i f (record { known = (known_parts g fs h.known).1 }) e

@@ -44,16 +44,8 @@ pub record IsResized (set left : Set) : Type 0 where
   pub upper : sets_upper left ≡ sets_upper set
 
 pub resized_is : (n : ℕ) (set : Set) → IsResized set (resized n set)
-resized_is n (LessThan u) = record { shape = refl; lower = refl; upper = refl }
-resized_is n (GreaterThan l) = record { shape = refl; lower = refl; upper = refl }
-resized_is n (EqualTo a) = record { shape = refl; lower = refl; upper = refl }
-resized_is n (Interval l u) = record { shape = refl; lower = refl; upper = refl }
 resized_is n (Reals d) = record { shape = refl; lower = refl; upper = refl }
-resized_is n (Zeros d) = record { shape = refl; lower = refl; upper = refl }
-resized_is n (Nonnegatives d) = record { shape = refl; lower = refl; upper = refl }
-resized_is n (Nonpositives d) = record { shape = refl; lower = refl; upper = refl }
-resized_is n (NormInfinityCone d) = record { shape = refl; lower = refl; upper = refl }
-resized_is n (NormOneCone d) = record { shape = refl; lower = refl; upper = refl }
+resized_is n _ = record { shape = refl; lower = refl; upper = refl }
 
 -- ---- groups
 

@@ -32,17 +32,6 @@ module _ {X : Type 0} (number_of : X → ℕ) where
   around n y xs rise found =
       subst (λ o. set_at number_of n o xs ≡ xs) found (set_at_found number_of n xs rise)
 
-  pub put_around : (x : X) (xs : List X)
-      → put number_of x xs
-      ≡ below number_of (number_of x) xs ++ (x ∷ above number_of (number_of x) xs)
-  unfolding set_at
-  put_around x xs = refl
-
-  pub without_around : (n : ℕ) (xs : List X)
-      → without number_of n xs ≡ below number_of n xs ++ above number_of n xs
-  unfolding set_at
-  without_around n xs = refl
-
   -- a fact of two lists that differ in one item, at a list and the same with another item in the
   -- place of its number
   pub replaced : (P : List X → List X → Type 0) (x y : X) (xs : List X) → Rise number_of xs

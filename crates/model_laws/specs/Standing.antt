@@ -94,10 +94,6 @@ pub record MentionsOnly (allowed : Address → Type 0) (h : Function → Functio
   pub only : (f : Function) (q : Address) → has_term q (h f) ≡ true
       → allowed q ⊎ (has_term q f ≡ true)
 
-pub coefficient_only : (at : Address) (value : Rational)
-    → MentionsOnly (λ q. q ≡ at) (λ f. with_coefficient f at value)
-coefficient_only at value = record { only = λ f q e. with_term f at value q e }
-
 pub constant_only : (allowed : Address → Type 0) (value : Rational)
     → MentionsOnly allowed (λ f. record f { constant = value })
 constant_only allowed value = record { only = λ f q e. inr e }
@@ -114,18 +110,15 @@ module _ (allowed : Address → Type 0) (h : Function → Function)
           | inl may ↦ inl may
           | inr was ↦ inr (ap (λ b. b || list_any (has_term q) fs) was)
         ]
-        | inr lacks ↦ inr (later (has_term q f) (sym (ap (λ b. b || list_any (has_term q) fs) lacks)
-            ∙ e))
+        | inr lacks ↦ inr (or_right (has_term q f) (list_any (has_term q) fs)
+            (sym (ap (λ b. b || list_any (has_term q) fs) lacks) ∙ e))
       ]
-    where
-      later : (b : Bool) → list_any (has_term q) fs ≡ true → (b || list_any (has_term q) fs) ≡ true
-      later true e = refl
-      later false e = e
   changed_terms_only (suc i) (f ∷ fs) q e =
       elim (cases_Bool (has_term q f)) [
         | inl has ↦ inr (ap (λ b. b || list_any (has_term q) fs) has)
         | inr lacks ↦
-            elim (changed_terms_only i fs q (sym (ap (λ b. b || list_any (has_term q) (changed_at i h fs)) lacks) ∙ e)) [
+            elim (changed_terms_only i fs q
+            (sym (ap (λ b. b || list_any (has_term q) (changed_at i h fs)) lacks) ∙ e)) [
               | inl may ↦ inl may
               | inr was ↦ inr (ap (λ b. b || list_any (has_term q) fs) lacks ∙ was)
             ]
@@ -133,17 +126,13 @@ module _ (allowed : Address → Type 0) (h : Function → Function)
 
   pub affine_only : (func : UserFunc) (q : Address) → func_mentions q (on_affine h func) ≡ true
       → allowed q ⊎ (func_mentions q func ≡ true)
-  affine_only (Plain var) q e = inr e
   affine_only (Affine f) q e = only.only f q e
-  affine_only (PlainVec vars) q e = inr e
-  affine_only (AffineVec fs) q e = inr e
+  affine_only _ q e = inr e
 
   pub output_only : (output : ℕ) (func : UserFunc) (q : Address)
       → func_mentions q (on_output output h func) ≡ true → allowed q ⊎ (func_mentions q func ≡ true)
-  output_only output (Plain var) q e = inr e
-  output_only output (Affine f) q e = inr e
-  output_only output (PlainVec vars) q e = inr e
   output_only output (AffineVec fs) q e = changed_terms_only (output - 1) fs q e
+  output_only output _ q e = inr e
 
   pub objective_only : (o : Objective) (q : Address)
       → objective_mentions q (on_objective h o) ≡ true → allowed q ⊎ (objective_mentions q o ≡ true)
@@ -267,7 +256,9 @@ pub without_terms_mention : (at : Address) (fs : List Function) (q : Address)
 without_terms_mention at [] q e = absurd (both_ways false refl e)
 without_terms_mention at (f ∷ fs) q e =
     elim (cases_Bool (has_term q (without_term at f))) [
-      | inl here ↦ let is = without_term_mentions at f q here in (is.0, ap (λ b. b || list_any (has_term q) fs) is.1)
+      | inl here ↦
+          let is = without_term_mentions at f q here in
+          (is.0, ap (λ b. b || list_any (has_term q) fs) is.1)
       | inr other ↦
           let is = without_terms_mention at fs q (sym (ap
           (λ b. b || list_any (has_term q) (map (without_term at) fs)) other) ∙ e) in
@@ -279,7 +270,9 @@ pub without_vars_mention : (at : Address) (vars : List Address) (q : Address)
     → (q ≢ at) × (list_any (address_eq q) vars ≡ true)
 without_vars_mention at [] q e = absurd (both_ways false refl e)
 without_vars_mention at (var ∷ vars) q e =
-    by_kept (λ e. let is = without_vars_mention at vars q e in (is.0, or_right (address_eq q var) (list_any (address_eq q) vars) is.1)) (address_eq at var) refl e
+    by_kept (λ e. let is = without_vars_mention at vars q e in
+    (is.0, or_right (address_eq q var) (list_any (address_eq q) vars) is.1)) (address_eq at var)
+    refl e
   where
     by_kept : (list_any (address_eq q) (without_address at vars) ≡ true
         → (q ≢ at) × ((address_eq q var || list_any (address_eq q) vars) ≡ true)) → (b : Bool)

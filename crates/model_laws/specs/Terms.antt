@@ -99,10 +99,8 @@ module _ (h : Function → Function) (less : AddsNone h) where
 
   pub output_terms : (output : ℕ) (func : UserFunc)
       → all_terms (on_output output h func) ≤ all_terms func
-  output_terms output (Plain var) = omega arith
-  output_terms output (Affine f) = omega arith
-  output_terms output (PlainVec vars) = omega arith
   output_terms output (AffineVec fs) = changed_terms (output - 1) fs
+  output_terms output _ = omega arith
 
   pub objective_change_terms : (o : Objective)
       → objective_terms (on_objective h o) ≤ objective_terms o

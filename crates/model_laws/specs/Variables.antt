@@ -101,7 +101,10 @@ vars_renamed n name y groups rise vars_rise found v there at =
     one before after us ws first last h =
         let all : vars_in (before ++ (y ∷ after)) ≡ us ++ (y.vars ++ ws) =
         vars_around before after y ∙ ap₂ (λ us ws. us ++ (y.vars ++ ws)) first last in
-        let new : vars_in (before ++ (record y { vars = map (renamed n name) y.vars } ∷ after)) ≡ us ++ (map (renamed n name) y.vars ++ ws) = vars_around before after (record y { vars = map (renamed n name) y.vars }) ∙ ap₂ (λ us ws. us ++ (map (renamed n name) y.vars ++ ws)) first last in
+        let vars = map (renamed n name) y.vars in
+        let new : vars_in (before ++ (record y { vars = vars } ∷ after)) ≡ us ++ (vars ++ ws) =
+        vars_around before after (record y { vars = vars })
+        ∙ ap₂ (λ us ws. us ++ (vars ++ ws)) first last in
         let up : AllPairs (λ x y. variable_number x < variable_number y) (us ++ (y.vars ++ ws)) =
         (subst (Rise variable_number) all h).rising in
         let low = others_below variable_number us y.vars ws v there up in

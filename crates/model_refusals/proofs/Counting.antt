@@ -19,6 +19,7 @@ use Rattle.user_model.specs.Model.{ModelValue}
 use Rattle.user_model.specs.Refusals.{IsKnown, has_variable_named, within}
 use Rattle.user_model.specs.declared.edit.NamedFunc.TheVariants as named
 use Rattle.map_laws.specs.PlaceLaws.{drop_at}
+use Rattle.model_laws.specs.Needed.{known_component}
 use Rattle.model_refusals.proofs.ChangedTerms.{changed_elsewhere, changed_here}
 use Rattle.model_refusals.proofs.Firsts.{first_above, first_found, first_full, first_within}
 
@@ -60,20 +61,6 @@ module _ (counts : List ℕ) (i n : ℕ) (here : slice_get counts i ≡ Some n) 
 pub within_all : (counts : List ℕ) (i : ℕ) → i ≡ length counts → first_full (within TERMS (drop i counts)) ≡ first_full (within TERMS counts) → None ≡ first_full (within TERMS counts)
 within_all counts i end so_far = sym (ap (λ cs. first_full (within TERMS cs)) (ap (λ k. drop k counts) end ∙ drop-length counts)) ∙ so_far
 
-pub sum_none : (counts : List ℕ) (i : ℕ) → i ≡ length counts → sum (drop i counts) ≡ 0
-sum_none counts i end = ap sum (ap (λ k. drop k counts) end ∙ drop-length counts)
-
--- the names of a component are known where those of all are
-known_at : (unknown : List ℕ → Bool) (i : ℕ) (fs : List NamedAff) (f : NamedAff) → slice_get fs i ≡ Some f → list_any unknown (flat_map names_of fs) ≡ false → list_any unknown (names_of f) ≡ false
-known_at unknown i [] f here known = cc
-known_at unknown zero (g ∷ fs) f here known =
-    let parts = or_parts (list_any unknown (names_of g)) (list_any unknown (flat_map names_of fs)) (sym (list_any-append unknown (names_of g) (flat_map names_of fs)) ∙ known) in
-    let same : g ≡ f = same_Some g f here in
-    subst (λ f. list_any unknown (names_of f) ≡ false) same parts.0
-known_at unknown (suc i) (g ∷ fs) f here known =
-    let parts = or_parts (list_any unknown (names_of g)) (list_any unknown (flat_map names_of fs)) (sym (list_any-append unknown (names_of g) (flat_map names_of fs)) ∙ known) in
-    known_at unknown i fs f here parts.1
-
 -- the number of terms of a component by name
 named_count_at : (model : ModelValue) (i : ℕ) (fs : List NamedAff) (f : NamedAff) → slice_get fs i ≡ Some f → slice_get (map term_count (map (affine model) fs)) i ≡ Some (term_count (affine model f))
 named_count_at model i fs f here =
@@ -81,7 +68,7 @@ named_count_at model i fs f here =
 
 pub known_count_at : (model : ModelValue) (i : ℕ) (fs : List NamedAff) (f : NamedAff) (n : ℕ) → slice_get fs i ≡ Some f → IsKnown model (named.AffineVec fs) → (IsKnown model (named.Affine f) → n ≡ term_count (affine model f)) → slice_get (map term_count (map (affine model) fs)) i ≡ Some n
 known_count_at model i fs f n here known value =
-    named_count_at model i fs f here ∙ ap Some (sym (value (record { known = known_at (λ name. not (has_variable_named model name)) i fs f here known.known })))
+    named_count_at model i fs f here ∙ ap Some (sym (value (known_component model fs i f known here)))
 
 -- a refused step refuses all
 pub refused_by : (r : Result ℕ Refusal) (e : Refusal) (P : ℕ → Type 0) (Q : Refusal → Type 0) → IsErrAnd r (λ x. x ≡ e) → Q e → MatchResult r P Q

@@ -1,7 +1,7 @@
 -- Marks as bits of words.
 use Rattle.std.specs.Prelude.{◌≡◌, ◌≢◌, ℕ, ◌*◌, ◌/◌, ◌%◌, ◌^◌, ◌<◌, Bool, true, false, ◌||◌, ◌&&◌, ◌==◌, bit_or, List, length, refl}
 use Rattle.std.proofs.Common.{arith, eq-eqb, get_or, get_or-set_other, get_or-set_same, inl, inr, ne_eqb, set, sym, ap, w64, ◌∙◌}
-use Rattle.std.proofs.lemmas.Bool.{cases_eq, false≢true}
+use Rattle.std.proofs.lemmas.Bool.{cases_eq, false≢true, or_right}
 use Rattle.std.proofs.lemmas.Nat.Bits.{bit_at_set_other, bit_at_set_same}
 use Rattle.std.specs.Int.{bit_at}
 use Rattle.model_refusals.specs.declared.marks.Marks.{Marks}
@@ -43,22 +43,18 @@ module _ (old one two three : Marks) (a b c : ℕ) (first : (n : ℕ) → has_bi
   all_true : (p q r : Bool) → p ≡ true → q ≡ true → r ≡ true → (p && (q && r)) ≡ true
   all_true p q r d e f = cc
 
-  right_true : (x y : Bool) → y ≡ true → (x || y) ≡ true
-  right_true true y e = refl
-  right_true false y e = e
-
   from_one : (n : ℕ) → has_bit one n ≡ true → has_bit three n ≡ true
-  from_one n e = third n ∙ right_true (n == c) (has_bit two n) (second n ∙ right_true (n == b) (has_bit one n) e)
+  from_one n e = third n ∙ or_right (n == c) (has_bit two n) (second n ∙ or_right (n == b) (has_bit one n) e)
 
   -- bits that were set stay
   from_old : (n : ℕ) → has_bit old n ≡ true → has_bit three n ≡ true
-  from_old n e = from_one n (first n ∙ right_true (n == a) (has_bit old n) e)
+  from_old n e = from_one n (first n ∙ or_right (n == a) (has_bit old n) e)
 
   pub three_set : (has_bit three a && (has_bit three b && has_bit three c)) ≡ true
   three_set =
       all_true (has_bit three a) (has_bit three b) (has_bit three c)
       (from_one a (first a ∙ itself a (has_bit old a)))
-      (third b ∙ right_true (b == c) (has_bit two b) (second b ∙ itself b (has_bit one b)))
+      (third b ∙ or_right (b == c) (has_bit two b) (second b ∙ itself b (has_bit one b)))
       (third c ∙ itself c (has_bit two c))
     where
       itself : (n : ℕ) (y : Bool) → ((n == n) || y) ≡ true

@@ -1,7 +1,7 @@
 -- Names that stand twice, as they are found by going over the names, with marks for the hashes of those that were seen.
 use Rattle.std.specs.Prelude.{◌≡◌, ℕ, zero, suc, ◌+◌, ◌%◌, ◌==◌, ◌<◌, ◌≤◌, Bool, true, false, ◌||◌, List, [], ◌∷◌, length, slice_get, Some, refl}
 use Rattle.std.proofs.Common.{arith, eq-eqb, inl, inr, sym, ap, ◌∙◌}
-use Rattle.std.proofs.lemmas.Bool.{cases_Bool, cases_eq, false≢true}
+use Rattle.std.proofs.lemmas.Bool.{cases_Bool, cases_eq, false≢true, or_from, or_parts, or_right}
 use Rattle.std.proofs.lemmas.List.Folds.{list_any_more}
 use Rattle.std.proofs.lemmas.Option.{get_or_from_slice_get, same_Some, slice_get_within}
 use Rattle.std.proofs.lemmas.Slice.Eq.{bytes_eq-Decides}
@@ -23,18 +23,11 @@ either : (a b : Bool) → (a || b) ≡ true → (a ≡ true → ⊥) → b ≡ t
 either true b e not = absurd (not refl)
 either false b e not = e
 
-right_true : (a b : Bool) → b ≡ true → (a || b) ≡ true
-right_true true b e = refl
-right_true false b e = e
-
-both_false : (a b : Bool) → a ≡ false → b ≡ false → (a || b) ≡ false
-both_false a b e f = cc
-
 -- some name passes a test that a name passes
 passes_at : (p : List ℕ → Bool) (names : List (List ℕ)) (place : ℕ) (name : List ℕ) → slice_get names place ≡ Some name → p name ≡ true → list_any p names ≡ true
 passes_at p [] place name at e = cc
 passes_at p (q ∷ qs) zero name at e = ap (λ b. b || list_any p qs) (ap p (same_Some q name at) ∙ e)
-passes_at p (q ∷ qs) (suc place) name at e = right_true (p q) (list_any p qs) (passes_at p qs place name at e)
+passes_at p (q ∷ qs) (suc place) name at e = or_right (p q) (list_any p qs) (passes_at p qs place name at e)
 
 -- a name that stands before stands twice
 pub twin_at : (names : List (List ℕ)) (place : ℕ) (name : List ℕ) → slice_get names place ≡ Some name → is_seen names place name ≡ true → has_twins names ≡ true
@@ -43,29 +36,21 @@ twin_at (q ∷ qs) zero name at seen = absurd (false≢true seen)
 twin_at (q ∷ qs) (suc place) name at seen =
     elim (cases_Bool (bytes_eq name q)) [
       | inl same ↦ ap (λ b. b || has_twins qs) (passes_at (bytes_eq q) qs place name at (nat_list_eq_equiv.symm q name ∙ same))
-      | inr other ↦ right_true (list_any (bytes_eq q) qs) (has_twins qs) (twin_at qs place name at (either (bytes_eq name q) (is_seen qs place name) seen (λ e. false≢true (sym other ∙ e))))
+      | inr other ↦ or_right (list_any (bytes_eq q) qs) (has_twins qs) (twin_at qs place name at (either (bytes_eq name q) (is_seen qs place name) seen (λ e. false≢true (sym other ∙ e))))
     ]
 
 -- no name passes a test that none at a place passes
 passes_nowhere : (p : List ℕ → Bool) (names : List (List ℕ)) → ((place : ℕ) (name : List ℕ) → slice_get names place ≡ Some name → p name ≡ false) → list_any p names ≡ false
 passes_nowhere p [] none = refl
-passes_nowhere p (q ∷ qs) none = both_false (p q) (list_any p qs) (none zero q refl) (passes_nowhere p qs (λ place. none (suc place)))
-
-left_false : (a b : Bool) → (a || b) ≡ false → a ≡ false
-left_false true b e = e
-left_false false b e = refl
-
-right_false : (a b : Bool) → (a || b) ≡ false → b ≡ false
-right_false true b e = absurd (false≢true (sym e))
-right_false false b e = e
+passes_nowhere p (q ∷ qs) none = or_from (p q) (list_any p qs) (none zero q refl) (passes_nowhere p qs (λ place. none (suc place)))
 
 -- names none of which stands before are no twins
 pub all_new : (names : List (List ℕ)) → ((place : ℕ) (name : List ℕ) → slice_get names place ≡ Some name → is_seen names place name ≡ false) → has_twins names ≡ false
 all_new [] new = refl
 all_new (q ∷ qs) new =
-    both_false (list_any (bytes_eq q) qs) (has_twins qs)
-    (passes_nowhere (bytes_eq q) qs (λ place name at. nat_list_eq_equiv.symm q name ∙ left_false (bytes_eq name q) (is_seen qs place name) (new (suc place) name at)))
-    (all_new qs (λ place name at. right_false (bytes_eq name q) (is_seen qs place name) (new (suc place) name at)))
+    or_from (list_any (bytes_eq q) qs) (has_twins qs)
+    (passes_nowhere (bytes_eq q) qs (λ place name at. nat_list_eq_equiv.symm q name ∙ (or_parts (bytes_eq name q) (is_seen qs place name) (new (suc place) name at)).0))
+    (all_new qs (λ place name at. (or_parts (bytes_eq name q) (is_seen qs place name) (new (suc place) name at)).1))
 
 -- ---- the names of one part
 
@@ -128,9 +113,6 @@ module _ (names : List (List ℕ)) (of_part : ℕ → Bool) where
 -- the names of the parts so far are new
 abbrev pub AreNewBelow : List (List ℕ) → ℕ → ℕ → Type 0
 AreNewBelow names parts part = (place : ℕ) (name : List ℕ) → slice_get names place ≡ Some name → hash_of name % parts < part → is_seen names place name ≡ false
-
-pub no_part : (names : List (List ℕ)) (parts : ℕ) → AreNewBelow names parts 0
-no_part names parts = λ place name here lt. absurd (omega (arith, lt))
 
 pub part_more : (names : List (List ℕ)) (parts part : ℕ) → AreNewBelow names parts part → AreNew names (λ hash. hash % parts == part) → AreNewBelow names parts (part + 1)
 part_more names parts part below this = λ place name here lt.

@@ -28,7 +28,8 @@ use Rattle.model_laws.specs.ChangedRow.{row_named-put}
 use Rattle.model_laws.specs.Found.{found_stands}
 use Rattle.model_laws.specs.KeptRows.{row_terms}
 use Rattle.model_laws.specs.Located.{row_by_number}
-use Rattle.model_laws.specs.ByName.{affine_bounds, function_change, output_bounds}
+use Rattle.model_laws.specs.ByName.{function_change}
+use Rattle.model_laws.specs.KeptShapes.{affine_shape, output_shape}
 use Rattle.model_refusals.specs.Changes.{with_change}
 use Rattle.model_refusals.proofs.ChangedTerms.{sum-changed_at}
 
@@ -83,7 +84,7 @@ module _ (model : ModelValue) (c : IsConsistent model) (name : List ℕ) (row : 
     pub coef_counts : counts model (edit.Coef name var value) ≡ with_change (total_terms model) (term_count f) (term_count (h f))
     unfolding edited
     coef_counts =
-        let same = λ (n : ℕ). affine_bounds h n row.func in
+        let same = (affine_shape h row.func).variable in
         let terms : terms_of_row (change_function model name (on_affine h)) name ≡ term_count (h f) ∷ [] = terms_of_row-changed model c name row found (on_affine h) same ∙ ap (λ func. term_counts (on_affine h func)) affine_row in
         let old : all_terms row.func ≡ term_count f = ap all_terms affine_row ∙ one_term (term_count f) in
         let new : all_terms (on_affine h row.func) ≡ term_count (h f) = ap (λ func. all_terms (on_affine h func)) affine_row ∙ one_term (term_count (h f)) in
@@ -110,7 +111,7 @@ module _ (model : ModelValue) (c : IsConsistent model) (name : List ℕ) (row : 
     pub vec_coef_counts : counts model (edit.VecCoef name output var value) ≡ within TERMS (map term_count gs) ++ (total_terms model - term_count f + term_count (g f), ALL_TERMS) ∷ []
     unfolding edited
     vec_coef_counts =
-        let same = λ (n : ℕ). output_bounds output g n row.func in
+        let same = (output_shape output g row.func).variable in
         let terms : terms_of_row (change_function model name (on_output output g)) name ≡ map term_count gs = terms_of_row-changed model c name row found (on_output output g) same ∙ ap (λ func. term_counts (on_output output g func)) affine_row in
         let old : all_terms row.func ≡ sum (map term_count fs) = ap all_terms affine_row in
         let new : all_terms (on_output output g row.func) ≡ sum (map term_count gs) = ap (λ func. all_terms (on_output output g func)) affine_row in

@@ -15,10 +15,6 @@ use Rattle.numbered.specs.SetLaws.{above-all, above-none, below-all, below-none,
 pub gap_next : {X : Type 0} (items aside : List X) (x : X) → with_gap items (aside ++ x ∷ []) ≡ items ++ (x ∷ reverse aside)
 gap_next items aside x = ap (λ ys. items ++ ys) (reverse-append aside (x ∷ []))
 
--- an item that passes the gap
-pub gap_passed : {X : Type 0} (items aside : List X) (x : X) → with_gap (items ++ x ∷ []) aside ≡ with_gap items (aside ++ x ∷ [])
-gap_passed items aside x = append_assoc items (x ∷ []) (reverse aside) ∙ sym (gap_next items aside x)
-
 module _ {X : Type 0} (number_of : X → ℕ) (n : ℕ) where
   behind_rises : (front rest : List X) → Rise number_of (front ++ rest) → Rise number_of rest
   behind_rises [] rest h = h

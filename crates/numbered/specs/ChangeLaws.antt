@@ -28,15 +28,6 @@ module _ {X : Type 0} (number_of : X → ℕ) where
     own = All-cons (λ d. IsAt number_of d.number d.content) c cs own are.own;
   }
 
-  pub AreChanges-push : (cs : List (Change X)) (c : Change X) → AreChanges number_of cs
-      → IsAt number_of c.number c.content → All (λ d. d.number < c.number) cs
-      → AreChanges number_of (cs ++ c ∷ [])
-  AreChanges-push cs c are own lower = record {
-    rising = Rise-push changed_number cs c are.rising
-        lower;
-    own = All-push (λ d. IsAt number_of d.number d.content) cs c are.own own;
-  }
-
   pub AreChanges-rest : (c : Change X) (cs : List (Change X)) → AreChanges number_of (c ∷ cs)
       → AreChanges number_of cs
   AreChanges-rest c cs h = record {
@@ -158,23 +149,6 @@ module _ {X : Type 0} (number_of : X → ℕ) where
       ∙ ap (λ o. option_map_or (λ c. c.content) o (find number_of c.number xs))
       (find-at changed_number cs k c h.rising (slice_get-get_or cs k d end))
 
-  -- taking back twice is the changes again
-  pub olds_back : (cs : List (Change X)) (xs : List X) → AreChanges number_of cs
-      → olds number_of (olds number_of cs xs) (set_all number_of cs xs) ≡ cs
-  olds_back cs xs h = each cs (set_all number_of cs xs) (find-changed cs xs h)
-    where
-      each : (ds : List (Change X)) (ys : List X)
-          → All (λ c. find number_of c.number ys ≡ c.content) ds
-          → olds number_of (olds number_of ds xs) ys ≡ ds
-      each [] ys content = refl
-      each (d ∷ ds) ys content =
-          let first : old number_of ys (old number_of xs d) ≡ d = ap
-          (λ o. record { number = d.number; content = o })
-          (All-head (λ c. find number_of c.number ys ≡ c.content) d ds content) in
-          let rest = each ds ys (All-tail (λ c. find number_of c.number ys ≡ c.content) d ds
-          content) in
-          cc
-
   -- the first change, and the others
   pub added-cons : (c : Change X) (cs : List (Change X)) (xs : List X)
       → added number_of (c ∷ cs) xs
@@ -229,7 +203,11 @@ module _ {X : Type 0} (number_of : X → ℕ) where
       let one = room_of_one c.content (find number_of c.number xs) (length xs) (length ys)
       (length-set_at number_of c.number c.content xs rise) in
       let all = added-cons c cs xs in
-      let back : added number_of (olds number_of (c ∷ cs) xs) zs ≡ cond (is_some (find number_of c.number xs) && is_none c.content) 1 0 + added number_of (olds number_of cs xs) zs = first ∙ ap (λ o. cond (is_some (find number_of c.number xs) && is_none o) 1 0 + added number_of (olds number_of cs xs) zs) content in
+      let there = is_some (find number_of c.number xs) in
+      let left = added number_of (olds number_of cs xs) zs in
+      let back : added number_of (olds number_of (c ∷ cs) xs) zs
+      ≡ cond (there && is_none c.content) 1 0 + left =
+      first ∙ ap (λ o. cond (there && is_none o) 1 0 + left) content in
       omega (arith, rw same_olds at rest, same_added, back, one, all)
 
   -- the room for as many more as there are changes is enough

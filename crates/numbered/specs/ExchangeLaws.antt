@@ -157,7 +157,8 @@ module _ {X : Type 0} (number_of : X → ℕ) where
         still = ap (olds number_of (drop (i + 1) changes)) became ∙ step.still;
         past = past_more (old number_of start) changes left i d
             (record { number = x.number; content = was }) lt so_far.past
-            (ap (λ o. let given : Change X = record { number = x.number; content = o } in given) found);
+            (ap (λ o. let given : Change X = record { number = x.number; content = o } in given)
+            found);
         rising = subst (Rise number_of) (sym became) step.rising;
         are = step.are;
         fits = omega (

@@ -111,8 +111,12 @@ module _ {X : Type 0} (number_of : X → ℕ) where
   Contains-found n x [] e = cc
   Contains-found n x (y ∷ xs) e =
       elim (cases_eq (number_of y) n) [
-        | inl same ↦ let is : Some y ≡ Some x = sym (find-first n y xs same) ∙ e in (0, omega arith, cc)
-        | inr other ↦ let rest = Contains-found n x xs (sym (find-rest n y xs other) ∙ e) in (suc rest.0, omega (arith, rest.1), rest.2)
+        | inl same ↦
+            let is : Some y ≡ Some x = sym (find-first n y xs same) ∙ e in
+            (0, omega arith, cc)
+        | inr other ↦
+            let rest = Contains-found n x xs (sym (find-rest n y xs other) ∙ e) in
+            (suc rest.0, omega (arith, rest.1), rest.2)
       ]
 
   -- the item at a place is found by its number
@@ -159,8 +163,14 @@ module _ {X : Type 0} (number_of : X → ℕ) where
             same_lists xs ys (Rise-tail x xs up) (Rise-tail y ys rise) (rest heads e) in
             cc
         | inr apart ↦ absurd (elim apart [
-          | inl lt ↦ let e : Some x ≡ None = sym (find-first (number_of x) x xs refl) ∙ (same (number_of x) ∙ find-below y ys (number_of x) lt rise) in cc
-          | inr lt ↦ let e : None ≡ Some y = sym (find-below x xs (number_of y) lt up) ∙ (same (number_of y) ∙ find-first (number_of y) y ys refl) in cc
+          | inl lt ↦
+              let e : Some x ≡ None = sym (find-first (number_of x) x xs refl)
+              ∙ (same (number_of x) ∙ find-below y ys (number_of x) lt rise) in
+              cc
+          | inr lt ↦
+              let e : None ≡ Some y = sym (find-below x xs (number_of y) lt up)
+              ∙ (same (number_of y) ∙ find-first (number_of y) y ys refl) in
+              cc
         ])
       ]
     where

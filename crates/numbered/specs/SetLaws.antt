@@ -92,7 +92,9 @@ module _ {X : Type 0} (number_of : X → ℕ) where
   parted m n [] ne = refl
   parted m n (x ∷ xs) ne =
       elim (cases_order (number_of x) n) [
-        | inl e ↦ let le : n ≤ number_of x = omega arith in let ge : number_of x ≤ n = omega arith in
+        | inl e ↦
+            let le : n ≤ number_of x = omega arith in
+            let ge : number_of x ≤ n = omega arith in
             rw (below-rest n x xs le, above-rest n x xs ge)
             (parted m n xs ne ∙ sym (find-rest number_of m x xs (λ at. ne (sym at ∙ e))))
         | inr apart ↦ elim apart [
@@ -208,13 +210,6 @@ module _ {X : Type 0} (number_of : X → ℕ) where
             ∙ (find-set_at_other m n first xs ne was ∙ sym (find-set_at_other m n last xs ne at))
       ])
 
-  -- setting what stood there takes a change back
-  pub set_at_back : (n : ℕ) (new : Option X) (xs : List X) → IsAt number_of n new
-      → Rise number_of xs
-      → set_at number_of n (find number_of n xs) (set_at number_of n new xs) ≡ xs
-  set_at_back n new xs at rise = set_at-set_at n (find number_of n xs) new xs
-      (IsAt-find number_of n xs) at rise ∙ set_at_found n xs rise
-
   -- how many items there are
   pub length-set_at : (n : ℕ) (new : Option X) (xs : List X) → Rise number_of xs
       → length (set_at number_of n new xs) + length (option_to_list (find number_of n xs))
@@ -251,7 +246,9 @@ module _ {X : Type 0} (number_of : X → ℕ) where
   without-filter n (x ∷ xs) rise =
       let rest = without-filter n xs (Rise-tail number_of x xs rise) in
       elim (cases_order (number_of x) n) [
-        | inl e ↦ let le : n ≤ number_of x = omega arith in let ge : number_of x ≤ n = omega arith in
+        | inl e ↦
+            let le : n ≤ number_of x = omega arith in
+            let ge : number_of x ≤ n = omega arith in
             rw (below-rest n x xs le, above-rest n x xs ge, same_number (number_of x) n e) rest
         | inr apart ↦ elim apart [
           | inl lt ↦ let le : number_of x ≤ n = omega arith in
@@ -272,59 +269,5 @@ module _ {X : Type 0} (number_of : X → ℕ) where
                     (λ e. omega arith),
                 none,
               ) (ap (λ zs. x ∷ zs) (rw none at rest))
-        ]
-      ]
-
-  map_apart : (n : ℕ) (x : X) (ys : List X) → All (λ y. n < number_of y) ys
-      → map (λ y. cond (number_of y == n) x y) ys ≡ ys
-  map_apart n x [] h = refl
-  map_apart n x (y ∷ ys) h =
-      let lt = All-head (λ y. n < number_of y) y ys h in
-      let off : nat_eq (number_of y) n ≡ false =
-      other_number (number_of y) n (λ e. omega (arith, lt)) in
-      let rest = map_apart n x ys (All-tail (λ y. n < number_of y) y ys h) in
-      rw off (ap (λ zs. y ∷ zs) rest)
-
-  -- an item whose number is there takes the place of what stands there
-  pub put_there : (x y : X) (xs : List X) → Rise number_of xs
-      → find number_of (number_of x) xs ≡ Some y
-      → put number_of x xs ≡ map (λ z. cond (number_of z == number_of x) x z) xs
-  unfolding set_at
-  put_there x y [] rise found = cc
-  put_there x y (z ∷ zs) rise found =
-      let later = Rise-head number_of z zs rise in
-      elim (cases_order (number_of z) (number_of x)) [
-        | inl e ↦
-            let le : number_of x ≤ number_of z = omega arith in
-            let ge : number_of z ≤ number_of x = omega arith in
-            let past : All (λ w. number_of x < number_of w) zs =
-            subst (λ n. All (λ w. n < number_of w) zs) e later in
-            let none = below-none (number_of x) zs (All-weaker (λ w. number_of x < number_of w)
-            (λ w. number_of x ≤ number_of w) (λ w lt. omega arith) zs past) in
-            let all = above-all (number_of x) zs past in
-            let same = map_apart (number_of x) x zs past in
-            rw (
-              below-rest (number_of x) z zs le,
-              above-rest (number_of x) z zs ge,
-              same_number
-                  (number_of z) (number_of x) e,
-              none,
-              all,
-              same,
-            ) refl
-        | inr apart ↦ elim apart [
-          | inl lt ↦
-              let le : number_of z ≤ number_of x = omega arith in
-              let off : number_of z ≢ number_of x = λ e. omega arith in
-              let rest = put_there x y zs (Rise-tail number_of z zs rise)
-              (sym (find-rest number_of (number_of x) z zs off) ∙ found) in
-              rw (
-                below-first (number_of x) z zs lt,
-                above-rest (number_of x) z zs le,
-                other_number
-                    (number_of z) (number_of x) off,
-              ) (ap (λ ws. z ∷ ws) rest)
-          | inr lt ↦ absurd (let none : None
-              ≡ Some y = sym (find-below number_of z zs (number_of x) lt rise) ∙ found in cc)
         ]
       ]

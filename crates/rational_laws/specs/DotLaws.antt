@@ -2,11 +2,11 @@
 -- of their numbers.
 use Rattle.std.specs.Prelude.{◌≡◌, ℕ, suc, List, [], ◌∷◌, ◌++◌, length, map, replicate, All, refl}
 use Rattle.std.proofs.Common.{sym, ◌∙◌, ap, ap₂, arith}
-use Rattle.std.proofs.lemmas.List.{length-map, length-replicate}
+use Rattle.std.proofs.lemmas.List.{length-map}
 use Rattle.std.proofs.lemmas.List.Elements.{All-head, All-replicate, All-tail}
-use Rattle.ratio_core.specs.Rational.{Rational, neg_ℚ, one_ℚ, zero_ℚ, ◌*ℚ◌, ◌+ℚ◌, ◌-ℚ◌, ◌≤ℚ◌}
+use Rattle.ratio_core.specs.Rational.{Rational, neg_ℚ, zero_ℚ, ◌*ℚ◌, ◌+ℚ◌, ◌-ℚ◌, ◌≤ℚ◌}
 use Rattle.rational_laws.specs.Dot.{dot, minus, negated, plus, times}
-use Rattle.rational_laws.specs.Field.{*ℚ-+ℚ, *ℚ-neg_ℚ, *ℚ-one, *ℚ-zero, *ℚ_comm, +ℚ-zero, +ℚ_assoc, +ℚ_inner_comm, neg_ℚ-sum, neg_ℚ-zero, zero-*ℚ, zero-+ℚ}
+use Rattle.rational_laws.specs.Field.{*ℚ-+ℚ, *ℚ-neg_ℚ, *ℚ-zero, *ℚ_comm, +ℚ-zero, +ℚ_assoc, +ℚ_inner_comm, neg_ℚ-sum, neg_ℚ-zero, zero-*ℚ, zero-+ℚ}
 use Rattle.rational_laws.specs.Order.{nonneg_add, nonneg_mul, nonneg_mul_nonpos, ≤ℚ_refl}
 use Rattle.rational_laws.specs.Ring.{as_expression, by_ring, ring₃}
 use Rattle.rational_laws.specs.Sums.{sum_by_ℚ, sum_ℚ}
@@ -16,10 +16,6 @@ dot_comm [] [] = refl
 dot_comm [] (q ∷ v) = refl
 dot_comm (p ∷ w) [] = refl
 dot_comm (p ∷ w) (q ∷ v) = ap₂ ◌+ℚ◌ (*ℚ_comm p q) (dot_comm w v)
-
-pub dot-nil : (w : List Rational) → dot w [] ≡ zero_ℚ
-dot-nil [] = refl
-dot-nil (p ∷ w) = refl
 
 -- ---- lengths
 
@@ -55,13 +51,6 @@ dot-plus (r ∷ w) (p ∷ u) (q ∷ v) e =
     ap₂ ◌+ℚ◌ (*ℚ-+ℚ r p q) (dot-plus w u v (omega (arith, e)))
     ∙ +ℚ_inner_comm (r *ℚ p) (r *ℚ q) (dot w u) (dot w v)
 
-pub dot-times : (w : List Rational) (t : Rational) (v : List Rational)
-    → dot w (times t v) ≡ t *ℚ dot w v
-dot-times [] t v = sym (*ℚ-zero t)
-dot-times (p ∷ w) t [] = sym (*ℚ-zero t)
-dot-times (p ∷ w) t (q ∷ v) = ap (λ s. p *ℚ (t *ℚ q) +ℚ s) (dot-times w t v)
-    ∙ turned t p q (dot w v)
-
 pub dot-negated : (w v : List Rational) → dot w (negated v) ≡ neg_ℚ (dot w v)
 dot-negated [] v = sym neg_ℚ-zero
 dot-negated (p ∷ w) [] = sym neg_ℚ-zero
@@ -75,9 +64,6 @@ dot-minus w u v e = dot-plus w u (negated v) (e ∙ sym (length-negated v))
 
 pub plus-dot : (u v w : List Rational) → length u ≡ length v → dot (plus u v) w ≡ dot u w +ℚ dot v w
 plus-dot u v w e = dot_comm (plus u v) w ∙ dot-plus w u v e ∙ ap₂ ◌+ℚ◌ (dot_comm w u) (dot_comm w v)
-
-pub times-dot : (t : Rational) (u w : List Rational) → dot (times t u) w ≡ t *ℚ dot u w
-times-dot t u w = dot_comm (times t u) w ∙ dot-times w t u ∙ ap (λ s. t *ℚ s) (dot_comm w u)
 
 pub negated-dot : (u w : List Rational) → dot (negated u) w ≡ neg_ℚ (dot u w)
 negated-dot u w = dot_comm (negated u) w ∙ dot-negated w u ∙ ap neg_ℚ (dot_comm w u)
@@ -129,24 +115,6 @@ dot_front p q w n = ap (λ s. p *ℚ q +ℚ s) (dot-zeros w n) ∙ +ℚ-zero (p 
 pub dot_behind : (p : Rational) (w v : List Rational) → dot (p ∷ w) (zero_ℚ ∷ v) ≡ dot w v
 dot_behind p w v = ap (λ s. s +ℚ dot w v) (*ℚ-zero p) ∙ zero-+ℚ (dot w v)
 
--- lists of one length that give every list the same product are one list
-pub same_from_products : (u v : List Rational) → length u ≡ length v
-    → ((w : List Rational) → length w ≡ length u → dot u w ≡ dot v w) → u ≡ v
-same_from_products [] [] e h = refl
-same_from_products [] (q ∷ v) e h = absurd (omega (arith, e))
-same_from_products (p ∷ u) [] e h = absurd (omega (arith, e))
-same_from_products (p ∷ u) (q ∷ v) e h =
-    ap₂ ◌∷◌
-    (sym (first p u)
-    ∙ h (one_ℚ ∷ replicate (length u) zero_ℚ) (ap suc (length-replicate (length u) zero_ℚ))
-    ∙ first q v)
-    (same_from_products u v (omega (arith, e)) (λ w k. sym (dot_behind p u w)
-    ∙ h (zero_ℚ ∷ w) (ap suc k) ∙ dot_behind q v w))
-  where
-    first : (r : Rational) (w : List Rational)
-        → dot (r ∷ w) (one_ℚ ∷ replicate (length u) zero_ℚ) ≡ r
-    first r w = dot_front r one_ℚ w (length u) ∙ *ℚ-one r
-
 -- ---- lists made by a function
 
 module _ {X : Type 0} where
@@ -155,15 +123,6 @@ module _ {X : Type 0} where
   dot_map_same [] f g xs h = refl
   dot_map_same (p ∷ w) f g [] h = refl
   dot_map_same (p ∷ w) f g (x ∷ xs) h = ap₂ (λ s t. p *ℚ s +ℚ t) (h x) (dot_map_same w f g xs h)
-
-  -- the same, where the two agree on the list's elements
-  pub dot_map_same_on : (w : List Rational) (f g : X → Rational) (xs : List X)
-      → All (λ x. f x ≡ g x) xs → dot w (map f xs) ≡ dot w (map g xs)
-  dot_map_same_on [] f g xs h = refl
-  dot_map_same_on (p ∷ w) f g [] h = refl
-  dot_map_same_on (p ∷ w) f g (x ∷ xs) h =
-      ap₂ (λ s t. p *ℚ s +ℚ t) (All-head (λ x. f x ≡ g x) x xs h)
-      (dot_map_same_on w f g xs (All-tail (λ x. f x ≡ g x) x xs h))
 
   pub dot_map_zero : (w : List Rational) (xs : List X) → dot w (map (λ _. zero_ℚ) xs) ≡ zero_ℚ
   dot_map_zero [] xs = refl

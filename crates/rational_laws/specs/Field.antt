@@ -1,12 +1,12 @@
 -- The field of the rational numbers. Each law is an equality of numbers, and but for the inverse it
 -- holds unconditionally.
-use Rattle.std.specs.Prelude.{◌≡◌, ℕ, zero, suc, ◌*◌, ◌<◌, ℤ, pos, negsuc, ◌+ℤ◌, ◌*ℤ◌, neg_ℤ, Bool, true, false, ◌⊎◌, refl}
-use Rattle.std.proofs.Common.{inl, inr, sym, ◌∙◌, ap, ap₂, arith, mul-pos, mul_comm, mul_assoc}
+use Rattle.std.specs.Prelude.{◌≡◌, ℕ, zero, suc, ◌*◌, ◌<◌, ℤ, pos, negsuc, ◌+ℤ◌, ◌*ℤ◌, neg_ℤ, refl}
+use Rattle.std.proofs.Common.{sym, ◌∙◌, ap, ap₂, arith, mul-pos, mul_comm, mul_assoc}
 use Rattle.std.proofs.Math.IntN.{+ℤ_assoc, +ℤ_comm, +ℤ_invr, *ℤ_comm}
 use Rattle.std.proofs.lemmas.Int.{ints}
 use borrow.Author.Differences.{same_in, product_is, neg_is}
-use Rattle.ratio_core.specs.Rational.{Rational, reduce, fraction, whole_ℚ, zero_ℚ, one_ℚ, ◌+ℚ◌, ◌-ℚ◌, ◌*ℚ◌, neg_ℚ, inverse_ℚ, rational_eq}
-use Rattle.ratio_core.specs.RationalLaws.{reduce_is, reduce_itself, rational_eq-false, rational_eq-true}
+use Rattle.ratio_core.specs.Rational.{Rational, reduce, fraction, whole_ℚ, zero_ℚ, one_ℚ, ◌+ℚ◌, ◌-ℚ◌, ◌*ℚ◌, neg_ℚ, inverse_ℚ}
+use Rattle.ratio_core.specs.RationalLaws.{reduce_is, reduce_itself}
 use Rattle.rational_laws.specs.Over.{over-+ℚ, over-neg_ℚ, over-zero_ℚ, over₁, over₂, over₃, reduce-*ℚ}
 use Rattle.rational_laws.specs.Whole.{*ℤ_assoc, *ℤ-+ℤ, *ℤ_pos_one}
 
@@ -200,51 +200,11 @@ unfolding inverse_ℚ
 pub inverse_ℚ-*ℚ : (q : Rational) → ¬ (q ≡ zero_ℚ) → inverse_ℚ q *ℚ q ≡ one_ℚ
 inverse_ℚ-*ℚ q n = *ℚ_comm (inverse_ℚ q) q ∙ *ℚ-inverse_ℚ q n
 
-pub inverse_ℚ-zero : inverse_ℚ zero_ℚ ≡ zero_ℚ
-unfolding inverse_ℚ fraction zero_ℚ whole_ℚ reduce
-inverse_ℚ-zero = refl
-
-pub *ℚ_cancel : (p q r : Rational) → ¬ (r ≡ zero_ℚ) → p *ℚ r ≡ q *ℚ r → p ≡ q
-*ℚ_cancel p q r n e =
-    sym (whole p) ∙ ap (λ x. x *ℚ inverse_ℚ r) e ∙ whole q
-  where
-    whole_lem : (p : Rational) → r *ℚ inverse_ℚ r ≡ one_ℚ → (p *ℚ r) *ℚ inverse_ℚ r ≡ p
-    whole_lem p e = *ℚ_assoc p r (inverse_ℚ r) ∙ ap (λ x. p *ℚ x) e ∙ *ℚ-one p
-
-    whole : (p : Rational) → (p *ℚ r) *ℚ inverse_ℚ r ≡ p
-    whole p = whole_lem p (*ℚ-inverse_ℚ r n)
-
 -- ---- numbers that aren't 0
 
 pub one_not_zero : ¬ (one_ℚ ≡ zero_ℚ)
 unfolding one_ℚ zero_ℚ whole_ℚ
 one_not_zero e = absurd (omega (arith, ints, ap (λ q. q.num) e))
-
-pub product_not_zero : (p q : Rational) → ¬ (p ≡ zero_ℚ) → ¬ (q ≡ zero_ℚ) → ¬ (p *ℚ q ≡ zero_ℚ)
-product_not_zero p q n m e = n (*ℚ_cancel p zero_ℚ q m (e ∙ sym (zero-*ℚ q)))
-
-pub negation_not_zero : (q : Rational) → ¬ (q ≡ zero_ℚ) → ¬ (neg_ℚ q ≡ zero_ℚ)
-negation_not_zero q n e = n (sym (neg_ℚ-neg_ℚ q) ∙ ap neg_ℚ e ∙ neg_ℚ-zero)
-
-pub inverse_not_zero : (q : Rational) → ¬ (q ≡ zero_ℚ) → ¬ (inverse_ℚ q ≡ zero_ℚ)
-inverse_not_zero q n e = one_not_zero (sym (*ℚ-inverse_ℚ q n) ∙ ap (λ x. q *ℚ x) e ∙ *ℚ-zero q)
-
--- a product is 0 where a factor is
-pub factor_zero : (p q : Rational) → p *ℚ q ≡ zero_ℚ → (p ≡ zero_ℚ) ⊎ (q ≡ zero_ℚ)
-factor_zero p q e = by_test (rational_eq q zero_ℚ) refl
-  where
-    by_test : (b : Bool) → rational_eq q zero_ℚ ≡ b → (p ≡ zero_ℚ) ⊎ (q ≡ zero_ℚ)
-    by_test true f = inr (rational_eq-true q zero_ℚ f)
-    by_test false f =
-        inl (*ℚ_cancel p zero_ℚ q (rational_eq-false q zero_ℚ f) (e ∙ sym (zero-*ℚ q)))
-
--- two numbers are equal or not
-pub rational_same_or_not : (p q : Rational) → (p ≡ q) ⊎ (¬ (p ≡ q))
-rational_same_or_not p q = by_test (rational_eq p q) refl
-  where
-    by_test : (b : Bool) → rational_eq p q ≡ b → (p ≡ q) ⊎ (¬ (p ≡ q))
-    by_test true f = inl (rational_eq-true p q f)
-    by_test false f = inr (rational_eq-false p q f)
 
 -- ---- for `simp`: small equations of the ring
 

@@ -3,17 +3,13 @@ use Rattle.std.specs.Prelude.{◌≡◌, ℕ, zero, suc, ◌*◌, ◌/◌, ◌^�
 use Rattle.std.proofs.Common.{sym, ◌∙◌, ap, ap₂, arith, subst, div-one, zero-mul}
 use Rattle.std.proofs.lemmas.Int.{ints}
 use Rattle.ratio_core.specs.Gcd.{gcd, gcd-one, gcd_swap}
-use Rattle.ratio_core.specs.Rational.{Fits, Rational, SumFits, abs_ℚ, common_divisor, left_term, neg_ℚ, one_ℚ, right_term, sum_denominator, sum_of_terms, whole_ℚ, zero_ℚ}
+use Rattle.ratio_core.specs.Rational.{Fits, Rational, SumFits, common_divisor, left_term, neg_ℚ, right_term, sum_denominator, sum_of_terms, whole_ℚ, zero_ℚ}
 use Rattle.ratio_core.specs.RationalLaws.{reduce_reduced}
 use Rattle.rational_laws.specs.Whole.{*ℤ_pos_one}
 
 pub Fits_zero : Fits zero_ℚ
 unfolding zero_ℚ whole_ℚ
 Fits_zero = record { num = omega arith; den = omega arith }
-
-pub Fits_one : Fits one_ℚ
-unfolding one_ℚ whole_ℚ
-Fits_one = record { num = omega arith; den = omega arith }
 
 size_neg : (z : ℤ) → unsigned_abs (neg_ℤ z) ≡ unsigned_abs z
 size_neg (pos zero) = refl
@@ -28,26 +24,12 @@ neg_ℚ_parts q =
     (q.reduced.0, ap (λ n. gcd n q.den) (size_neg q.num) ∙ q.reduced.1) in
     (ap (λ e. e.0) parts, ap (λ e. e.1) parts)
 
-pub abs_ℚ_parts : (q : Rational)
-    → ((abs_ℚ q).num ≡ pos (unsigned_abs q.num)) × ((abs_ℚ q).den ≡ q.den)
-unfolding abs_ℚ
-abs_ℚ_parts q =
-    let parts = reduce_reduced (pos (unsigned_abs q.num)) q.den q.reduced in
-    (ap (λ e. e.0) parts, ap (λ e. e.1) parts)
-
 pub Fits_neg_ℚ : (q : Rational) → Fits q → Fits (neg_ℚ q)
 Fits_neg_ℚ q f =
     record {
       num =
           subst (λ n. n < 2 ^ 127) (sym (ap unsigned_abs (neg_ℚ_parts q).0 ∙ size_neg q.num)) f.num;
       den = subst (λ n. n < 2 ^ 127) (sym (neg_ℚ_parts q).1) f.den;
-    }
-
-pub Fits_abs_ℚ : (q : Rational) → Fits q → Fits (abs_ℚ q)
-Fits_abs_ℚ q f =
-    record {
-      num = subst (λ n. n < 2 ^ 127) (sym (ap unsigned_abs (abs_ℚ_parts q).0)) f.num;
-      den = subst (λ n. n < 2 ^ 127) (sym (abs_ℚ_parts q).1) f.den;
     }
 
 -- ---- sums with 0

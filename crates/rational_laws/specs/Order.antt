@@ -2,10 +2,9 @@
 use Rattle.std.specs.Prelude.{◌≡◌, ℕ, zero, suc, ◌*◌, ◌<◌, ◌⊎◌, ℤ, pos, negsuc, ◌+ℤ◌, ◌*ℤ◌, neg_ℤ, ◌≤ℤ◌, ◌<ℤ◌, unsigned_abs, refl}
 use Rattle.std.proofs.Common.{sym, ◌∙◌, ap, ap₂, arith, mul-pos, subst, subst₂, inl, inr, Ordering, Less, Equal, Greater}
 use Rattle.std.proofs.lemmas.Int.{ints}
-use Rattle.std.specs.Int.{int_signum}
 use Rattle.std.specs.Ordering.{MatchOrdering}
 use borrow.Author.Differences.{at_most_in, below_in, le_out, lt_out}
-use Rattle.ratio_core.specs.Rational.{Rational, abs_ℚ, fraction, inverse_ℚ, neg_ℚ, one_ℚ, rational_cmp, reduce, sign_ℚ, whole_ℚ, zero_ℚ, ◌*ℚ◌, ◌+ℚ◌, ◌-ℚ◌, ◌≤ℚ◌, ◌‹ℚ◌}
+use Rattle.ratio_core.specs.Rational.{Rational, abs_ℚ, fraction, inverse_ℚ, neg_ℚ, one_ℚ, rational_cmp, reduce, whole_ℚ, zero_ℚ, ◌*ℚ◌, ◌+ℚ◌, ◌-ℚ◌, ◌≤ℚ◌, ◌‹ℚ◌}
 use Rattle.ratio_core.specs.RationalLaws.{rational_ranks, reduce_itself, same_from_cross, times_is}
 use Rattle.rational_laws.specs.Field.{*ℚ--ℚ, *ℚ_comm, *ℚ-neg_ℚ, +ℚ-neg_ℚ, neg_ℚ-*ℚ, neg_ℚ-neg_ℚ, neg_ℚ-sum, neg_ℚ-zero, zero-*ℚ, zero-+ℚ}
 use Rattle.rational_laws.specs.Over.{over-+ℚ, over-neg_ℚ, over-zero_ℚ, over-‹ℚ_in, over-‹ℚ_out, over-≤ℚ_in, over-≤ℚ_out, over₂, over₃, over₄}
@@ -195,13 +194,6 @@ nonneg_mul p q h k =
     (over-≤ℚ_in (pos 0) (p.num *ℤ q.num) (p.den * q.den) (mul-pos p.reduced.0 q.reduced.0)
     (nonneg_lem p.num q.num (zero_cross p h) (zero_cross q k)))
 
-pub above_mul : (p q : Rational) → zero_ℚ ‹ℚ p → zero_ℚ ‹ℚ q → zero_ℚ ‹ℚ (p *ℚ q)
-unfolding ◌*ℚ◌
-above_mul p q h k =
-    subst (λ x. x ‹ℚ (p *ℚ q)) (sym (over-zero_ℚ (p.den * q.den) (mul-pos p.reduced.0 q.reduced.0)))
-    (over-‹ℚ_in (pos 0) (p.num *ℤ q.num) (p.den * q.den) (mul-pos p.reduced.0 q.reduced.0)
-    (above_lem p.num q.num (above_cross p h) (above_cross q k)))
-
 difference_times : (p q r : Rational) → r *ℚ (q -ℚ p) ≡ (q *ℚ r) -ℚ (p *ℚ r)
 difference_times p q r = *ℚ--ℚ r q p ∙ ap₂ (λ x y. x -ℚ y) (*ℚ_comm r q) (*ℚ_comm r p)
 
@@ -230,20 +222,9 @@ nonneg_mul_nonpos p q h k = subst (λ x. x ≤ℚ (p *ℚ q)) (zero-*ℚ q) (≤
 pub nonpos_mul : (p q : Rational) → zero_ℚ ≤ℚ p → q ≤ℚ zero_ℚ → (p *ℚ q) ≤ℚ zero_ℚ
 nonpos_mul p q h k = subst (λ x. (p *ℚ q) ≤ℚ x) (zero-*ℚ q) (≤ℚ-*ℚ_nonpos zero_ℚ p q h k)
 
-pub square_nonneg : (p : Rational) → zero_ℚ ≤ℚ (p *ℚ p)
-square_nonneg p = by_sign (≤ℚ_total zero_ℚ p)
-  where
-    by_sign : (zero_ℚ ≤ℚ p) ⊎ (p ≤ℚ zero_ℚ) → zero_ℚ ≤ℚ (p *ℚ p)
-    by_sign (inl h) = nonneg_mul p p h h
-    by_sign (inr h) = nonneg_mul_nonpos p p h h
-
 pub zero_‹ℚ_one : zero_ℚ ‹ℚ one_ℚ
 unfolding zero_ℚ one_ℚ whole_ℚ
 zero_‹ℚ_one = record { cross = below_in _ _ (omega arith) }
-
-pub whole_nonneg : (n : ℕ) → zero_ℚ ≤ℚ whole_ℚ (pos n)
-unfolding whole_ℚ
-whole_nonneg n = from_num (whole_ℚ (pos n)) (omega (arith, ints))
 
 -- ---- the inverse of a positive number
 
@@ -345,30 +326,3 @@ abs_ℚ-*ℚ p q = by_signs (≤ℚ_total zero_ℚ p) (≤ℚ_total zero_ℚ q)
         abs_ℚ_nonneg (p *ℚ q) (nonneg_mul_nonpos p q h k)
         ∙ sym (ap₂ ◌*ℚ◌ (abs_ℚ_nonpos p h) (abs_ℚ_nonpos q k) ∙ *ℚ-neg_ℚ (neg_ℚ p) q
         ∙ ap neg_ℚ (neg_ℚ-*ℚ p q) ∙ neg_ℚ-neg_ℚ (p *ℚ q))
-
--- ---- the sign
-
-pub sign_ℚ_above : (q : Rational) → zero_ℚ ‹ℚ q → sign_ℚ q ≡ pos 1
-unfolding sign_ℚ
-sign_ℚ_above q h = sign_lem q.num (above_cross q h)
-  where
-    sign_lem : (z : ℤ) → pos 0 <ℤ z → int_signum z ≡ pos 1
-    sign_lem (pos zero) h = absurd (omega (arith, ints))
-    sign_lem (pos (suc n)) h = ap pos (omega arith)
-    sign_lem (negsuc n) h = absurd (omega (arith, ints))
-
-pub sign_ℚ_zero : sign_ℚ zero_ℚ ≡ pos 0
-unfolding sign_ℚ zero_ℚ whole_ℚ
-sign_ℚ_zero = refl
-
-below_cross : (q : Rational) → q ‹ℚ zero_ℚ → q.num <ℤ pos 0
-unfolding zero_ℚ whole_ℚ
-below_cross q h = omega (arith, ints, lt_out _ _ h.cross, times_is q.num 1)
-
-pub sign_ℚ_below : (q : Rational) → q ‹ℚ zero_ℚ → sign_ℚ q ≡ negsuc 0
-unfolding sign_ℚ
-sign_ℚ_below q h = sign_lem q.num (below_cross q h)
-  where
-    sign_lem : (z : ℤ) → z <ℤ pos 0 → int_signum z ≡ negsuc 0
-    sign_lem (pos n) h = absurd (omega (arith, ints))
-    sign_lem (negsuc n) h = refl

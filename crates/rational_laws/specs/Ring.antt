@@ -2,7 +2,8 @@
 --
 -- A polynomial with whole coefficients is kept as a list of terms in one order, so two expressions
 -- that are equal by the laws of the ring have the same list. How to use it:
---     square : (a b : Rational) → (a +ℚ b) *ℚ (a +ℚ b) ≡ a *ℚ a +ℚ (whole_ℚ (pos 2) *ℚ a *ℚ b +ℚ b *ℚ b)
+--     square : (a b : Rational) → (a +ℚ b) *ℚ (a +ℚ b)
+--         ≡ a *ℚ a +ℚ (whole_ℚ (pos 2) *ℚ a *ℚ b +ℚ b *ℚ b)
 --     square = ring₂ _ (λ ρ. simp (as_expression, whole_as ρ) (by_ring ρ _ _ refl))
 use Rattle.std.specs.Prelude.{◌≡◌, ℕ, zero, suc, Bool, true, false, cond, nat_le, List, [], ◌∷◌, ℤ, pos, negsuc, ◌+ℤ◌, ◌*ℤ◌, neg_ℤ, refl}
 use Rattle.std.proofs.Common.{sym, ◌∙◌, ap, ap₂, arith, Ordering, Less, Equal, Greater, nat_cmp}

@@ -5,8 +5,10 @@ use borrow.Author.Differences.{up, down, same_in, product_is, sum_is_lem, neg_is
 
 pub *ℤ_assoc : (x y z : ℤ) → (x *ℤ y) *ℤ z ≡ x *ℤ (y *ℤ z)
 *ℤ_assoc x y z =
-    let left : (up (x *ℤ y) ≡ up x * up y + down x * down y) × (down (x *ℤ y) ≡ up x * down y + down x * up y) = product_is x y in
-    let right : (up (y *ℤ z) ≡ up y * up z + down y * down z) × (down (y *ℤ z) ≡ up y * down z + down y * up z) = product_is y z in
+    let left : (up (x *ℤ y) ≡ up x * up y + down x * down y)
+    × (down (x *ℤ y) ≡ up x * down y + down x * up y) = product_is x y in
+    let right : (up (y *ℤ z) ≡ up y * up z + down y * down z)
+    × (down (y *ℤ z) ≡ up y * down z + down y * up z) = product_is y z in
     same_in _ _ (omega (
       arith,
       product_is (x *ℤ y) z,

@@ -43,13 +43,6 @@ module _ {X : Type 0} where
       finite.get-from_entries nat_cmp_total (entries_from 0 s.slots) k
       ∙ (ap (λ q. find nat_cmp q (entries_from 0 s.slots)) (sym start) ∙ find_slot 0 k s.slots)
 
-  -- slabs with the same at each key
-  pub same_by_key : (s t : Slab X) → ((k : ℕ) → get s k ≡ get t k) → by_key s ≡ by_key t
-  same_by_key s t h = finite.same_map nat_cmp_total nat_cmp-IsAntisymmetric _ _ (λ k. get-by_key s k ∙ h k ∙ sym (get-by_key t k))
-
-  pub by_key-empty : (s : Slab X) → s.slots ≡ [] → by_key s ≡ finite.empty
-  by_key-empty s e = ap (λ slots. finite.from_entries (entries_from 0 slots)) e
-
   -- a value that is put in, or takes another's place
   pub by_key-put : (s t : Slab X) (k : ℕ) (x : X) → get t k ≡ Some x → ((q : ℕ) → q ≢ k → get t q ≡ get s q) → by_key t ≡ finite.insert (by_key s) k x
   by_key-put s t k x here others =

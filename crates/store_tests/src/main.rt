@@ -1,7 +1,8 @@
 // Runs a script of edits of the user's model, a step a line, and prints what each gives.
 //
 //     EDIT                  makes the edit for good
-//     back EDIT; EDIT ..    makes edits, each after the one before, and takes them back, the last first
+//     back EDIT; EDIT ..    makes edits, each after the one before, and takes them back, the last
+//                           first
 //     settle EDIT; EDIT ..  makes edits, and settles them, the last first
 //     first EDIT; EDIT ..   makes edits, takes all but the first back, and settles that
 //     show, copies          prints the model, or copies of all that stands in it

@@ -1,10 +1,13 @@
 // Steps of many edits or names, up to the limits of a model. Variables are called x0, x1 and on,
 // and rows r0, r1 and on.
 //
-//     many groups FIRST COUNT SIZE      groups of variables, whose names go on from the first number
+//     many groups FIRST COUNT SIZE      groups of variables, whose names go on from the first
+//                                       number
 //     many rows FIRST COUNT COMPONENTS  rows of components that are each x0
-//     many coefs FIRST COUNT            the coefficients of so many variables in the first component of r0
-//     many twins COUNT                  a group of so many variables, and of one more that is the first again
+//     many coefs FIRST COUNT            the coefficients of so many variables in the first component
+//                                       of r0
+//     many twins COUNT                  a group of so many variables, and of one more that is the
+//                                       first again
 use crate::words::{Words, times, whole, word};
 use anyhow::Result;
 use model_store::{Edit, NamedFunc, UserModel};
