@@ -23,6 +23,14 @@ use Rattle.bridge_face.specs.Law.{Miss}
 abbrev pub variables : List Address → List Function
 variables vs = map variable vs
 
+-- a fact of each element, at each index at which all have it
+pub each_at : {A B : Type 0} (P : B → A → Type 0) (xs : List A) → ((b : B) → All (P b) xs)
+    → All (λ x. (b : B) → P b x) xs
+each_at P [] h = All-nil (λ x. (b : _) → P b x)
+each_at P (x ∷ xs) h =
+    All-cons (λ y. (b : _) → P b y) x xs (λ b. All-head (P b) x xs (h b))
+    (each_at P xs (λ b. All-tail (P b) x xs (h b)))
+
 -- ---- addresses below an item's children
 
 head_or : List ℕ → ℕ

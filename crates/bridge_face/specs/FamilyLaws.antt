@@ -1,7 +1,7 @@
 -- What the proofs of all families share.
-use Rattle.std.specs.Prelude.{◌≡◌, ◌==◌, false, ℕ, slice_index_or, List, [], ◌∷◌, map, All, length, refl}
+use Rattle.std.specs.Prelude.{◌≡◌, ◌==◌, Bool, true, false, ℕ, slice_index_or, List, [], ◌∷◌, map, All, length, refl}
 use Rattle.std.specs.Cmp.{unsigned_Decides}
-use Rattle.std.proofs.Common.{sym, ap, ap₂, ◌∙◌, arith, true≢false}
+use Rattle.std.proofs.Common.{sym, ap, ap₂, subst, ◌∙◌, arith, true≢false}
 use denote.Enum.Declared.{tag_of}
 use Rattle.std.proofs.lemmas.List.{length-map}
 use Rattle.std.proofs.lemmas.List.Elements.{All-from_recursion, All-weaker}
@@ -10,13 +10,16 @@ use Rattle.item_core.specs.declared.edge.Edge.{Edge}
 use Rattle.item_core.specs.declared.family.Family.{Family}
 use Rattle.item_core.specs.declared.family.Family.TheVariants as family
 use Rattle.item_core.specs.contracts.family.Family as contracts
+use Rattle.item_core.specs.declared.item.Body.{Body}
 use Rattle.item_core.specs.declared.item.Item.{Item}
 use Rattle.item_core.specs.declared.image.Image.{Image}
-use Rattle.item_core.specs.Edge.{edge_entry, edges_of, family_of}
+use Rattle.item_core.specs.Edge.{edge_entry, edges_of, family_of, source_of}
 use Rattle.item_core.specs.Item.{functions_of}
-use Rattle.bridge_face.specs.BackOf.{back_of}
-use Rattle.bridge_face.specs.ImageOf.{image_of}
-use Rattle.bridge_face.specs.Law.{EdgeLaw, IsItemFor, IsLawful}
+use Rattle.item_core.specs.Valid.{IsValidItem}
+use Rattle.bridge_face.specs.BackOf.{BackFits, BackFitsBy, back_by, back_of}
+use Rattle.bridge_face.specs.ImageOf.{FitsBy, ImageFits, image_by, image_of}
+use Rattle.bridge_face.specs.Law.{EdgeLaw, IsItemFor, IsLawful, LeadsTo}
+use Rattle.bridge_face.specs.Sources.{OfKind, of_kind}
 use Rattle.bridge_face.specs.State.{TakesDuals, child_rows_of}
 use Rattle.bridge_face.specs.declared.child_rows.ChildRows.{ChildRows}
 use Rattle.bridge_face.specs.declared.kept_item.KeptItem.{KeptItem}
@@ -86,6 +89,83 @@ Lawful edge = (item : Item) → IsItemFor edge item → EdgeLaw edge item (image
 
 pub lawful_family : (f : Family) → ((edge : Edge) → family_of edge ≡ f → Lawful edge) → IsLawful f
 lawful_family f h = All-weaker (OfFamily f) Lawful h (edges_of f) (own_edges f)
+
+-- of which bodies the family's edges make images, which, and what is carried back
+pub record Rule (f : Family) (Source : Edge → Body → Type 0) (make : Edge → Item → Image)
+    (carry : Item → List (List Rational) → List Rational) : Type 0 where
+  pub image : (edge : Edge) (item : Item) → image_by f edge item ≡ make edge item
+  pub back : (item : Item) (ys : List (List Rational)) → back_by f item ys ≡ carry item ys
+  pub sourced :
+      (edge : Edge) → family_of edge ≡ f → {b : Body} → OfKind (source_of edge) b
+      → Source edge b
+
+module _ {f : Family} {Source : Edge → Body → Type 0} {make : Edge → Item → Image}
+    {carry : Item → List (List Rational) → List Rational} (rule : Rule f Source make carry) where
+  pub image_is : (edge : Edge) → family_of edge ≡ f → (item : Item)
+      → image_of edge item ≡ make edge item
+  image_is edge own item = ap (λ f. image_by f edge item) own ∙ rule.image edge item
+
+  pub back_is : (edge : Edge) → family_of edge ≡ f → (item : Item) (ys : List (List Rational))
+      → back_of edge item ys ≡ carry item ys
+  back_is edge own item ys = ap (λ f. back_by f item ys) own ∙ rule.back item ys
+
+  pub source_is : (edge : Edge) → family_of edge ≡ f → (item : Item) → IsItemFor edge item
+      → Source edge item.body
+  source_is edge own item suits =
+      rule.sourced edge own (subst (λ k. OfKind k item.body) suits.kind
+      (of_kind item.body suits.valid.function))
+
+  pub lawful_by :
+      ((edge : Edge) → family_of edge ≡ f → (item : Item) → IsValidItem item
+      → Source edge item.body → EdgeLaw edge item (make edge item))
+      → IsLawful f
+  lawful_by law =
+      lawful_family f (λ edge own item suits.
+      subst (EdgeLaw edge item) (sym (image_is edge own item))
+      (law edge own item suits.valid (source_is edge own item suits)))
+
+-- such a body, of which the edge makes one of a kind that it leads to
+pub record Sourced (Source : Body → Type 0) (made : Body → Body) (edge : Edge) (b : Body)
+    : Type 0 where
+  pub source : Source b
+  pub leads : LeadsTo edge (made b)
+
+-- ---- where nothing is summed, nothing has to fit
+
+abbrev pub sums_in_images : Family → Bool
+sums_in_images family.Vectorize = true
+sums_in_images family.NormInfinity = true
+sums_in_images family.NormOne = true
+sums_in_images _ = false
+
+abbrev pub sums_of_duals : Family → Bool
+sums_of_duals family.SplitSet = true
+sums_of_duals family.NormInfinity = true
+sums_of_duals family.NormOne = true
+sums_of_duals _ = false
+
+fits_by : (f : Family) → sums_in_images f ≡ false → (item : Item) → FitsBy f item
+unfolding FitsBy
+fits_by family.Vectorize none item = absurd (true≢false none)
+fits_by family.NormInfinity none item = absurd (true≢false none)
+fits_by family.NormOne none item = absurd (true≢false none)
+fits_by _ none item = tt
+
+fits_back_by : (f : Family) → sums_of_duals f ≡ false → (item : Item) (ys : List (List Rational))
+    → BackFitsBy f item ys
+unfolding BackFitsBy
+fits_back_by family.SplitSet none item ys = absurd (true≢false none)
+fits_back_by family.NormInfinity none item ys = absurd (true≢false none)
+fits_back_by family.NormOne none item ys = absurd (true≢false none)
+fits_back_by _ none item ys = tt
+
+module _ {f : Family} (edge : Edge) (own : family_of edge ≡ f) where
+  pub image_fits : sums_in_images f ≡ false → (item : Item) → ImageFits edge item
+  image_fits none item = fits_by (family_of edge) (ap sums_in_images own ∙ none) item
+
+  pub back_fits : sums_of_duals f ≡ false → (item : Item) (ys : List (List Rational))
+      → BackFits edge item ys
+  back_fits none item ys = fits_back_by (family_of edge) (ap sums_of_duals own ∙ none) item ys
 
 -- ---- an edge of one family is of no other
 

@@ -4,6 +4,7 @@ pub mod ImageOf
 pub mod Law
 pub mod State
 pub mod Sources
+pub mod FamilyLaws
 pub mod AnsweredLaws
 pub mod ZippedLaws
 pub mod ComponentLaws
@@ -14,4 +15,3 @@ pub mod GroupAndRowLaws
 pub mod SameRowLaws
 pub mod RowsLaws
 pub mod ObjectiveLaws
-pub mod FamilyLaws

@@ -1,7 +1,7 @@
 -- The law of an edge that makes an objective of an objective with the same cost.
 use Rattle.std.specs.Prelude.{◌≡◌, ◌*◌, ◌≤◌, ◌<◌, true, false, List, ◌∷◌, map, cond, length, refl, All, ℕ, []}
 use Rattle.std.proofs.Common.{sym, ap, subst, ◌∙◌, arith, true≢false}
-use Rattle.std.proofs.lemmas.List.Elements.{All-cons, All-head, All-nil}
+use Rattle.std.proofs.lemmas.List.Elements.{All-cons, All-head, All-nil, All-weaker}
 use Rattle.std.proofs.lemmas.List.{length-append}
 use Rattle.ratio_core.specs.Rational.{Rational, zero_ℚ, ◌≤ℚ◌}
 use Rattle.rational_laws.specs.Field.{+ℚ-zero}
@@ -11,85 +11,57 @@ use Rattle.aff_core.specs.Function.{Function, coefficient, evaluated}
 use Rattle.dual_laws.specs.Held.{IsHeld, adjoint_of, gap_of}
 use Rattle.set_core.specs.declared.set.Set.TheVariants.{LessThan}
 use Rattle.item_core.specs.declared.edge.Edge.{Edge}
+use Rattle.item_core.specs.declared.family.Family.{Family}
 use Rattle.item_core.specs.declared.item.Body.{Body}
 use Rattle.item_core.specs.declared.item.Item.{Item}
 use Rattle.item_core.specs.declared.image.Image.{Image}
 use Rattle.item_core.specs.Edge.{family_of}
 use Rattle.item_core.specs.Item.{functions_of, is_group, set_of}
-use Rattle.item_core.specs.Valid.{FitsItsFunction, NamesNothingBelow}
+use Rattle.item_core.specs.Valid.{FitsItsFunction, IsValidItem, NamesNothingBelow, below}
+use Rattle.bridge_face.specs.FamilyLaws.{Rule, Sourced, lawful_by}
 use Rattle.bridge_face.specs.GroupLaws.{held_of}
 use Rattle.bridge_face.specs.ImageOf.{objective_at}
 use Rattle.bridge_face.specs.Images.{child_at}
-use Rattle.bridge_face.specs.Law.{Balances, CarriesValues, EdgeLaw, GrowsBy, HasComponents, IsCovered, IsValidWithin, LeadsTo, MentionsKnown, Miss, cost_of, expressed, growth, held_body, held_item, is_objective, row_functions, row_set}
+use Rattle.bridge_face.specs.Law.{Balances, CarriesValues, EdgeLaw, GrowsBy, HasComponents, IsCovered, IsLawful, IsValidWithin, LeadsTo, MentionsKnown, Miss, cost_of, expressed, growth, held_body, held_item, is_objective, row_functions, row_set}
 use Rattle.set_core.specs.Shapes.{IsSetOf}
-use Rattle.bridge_face.specs.ComponentLaws.{all_unnamed_below}
+use Rattle.bridge_face.specs.ComponentLaws.{all_unnamed_below, each_at}
 use Rattle.item_core.specs.declared.item.Body.TheVariants as body
 
 -- ---- objectives as rows
 
 pub objective_held : (bound : Rational) (b : Body) (w : List Rational) → is_objective b ≡ true
     → held_body bound b w ≡ held_of w (cost_of b ∷ []) (LessThan bound)
-objective_held bound (body.Group set vars) w o = absurd (true≢false (sym o))
-objective_held bound (body.Free vars) w o = absurd (true≢false (sym o))
-objective_held bound (body.Plain var set) w o = absurd (true≢false (sym o))
-objective_held bound (body.Affine func set) w o = absurd (true≢false (sym o))
-objective_held bound (body.PlainVec vars set) w o = absurd (true≢false (sym o))
-objective_held bound (body.AffineVec funcs set) w o = absurd (true≢false (sym o))
 objective_held bound (body.PlainObj sense var) w o = refl
 objective_held bound (body.AffineObj sense func) w o = refl
+objective_held bound _ w o = absurd (true≢false (sym o))
 
 pub objective_stands : (b : Body) (fs : List Function) → is_objective b ≡ true
     → cond (is_group b) fs (row_functions b) ≡ row_functions b
 objective_stands (body.Group set vars) fs o = absurd (true≢false (sym o))
 objective_stands (body.Free vars) fs o = absurd (true≢false (sym o))
-objective_stands (body.Plain var set) fs o = refl
-objective_stands (body.Affine func set) fs o = refl
-objective_stands (body.PlainVec vars set) fs o = refl
-objective_stands (body.AffineVec funcs set) fs o = refl
-objective_stands (body.PlainObj sense var) fs o = refl
-objective_stands (body.AffineObj sense func) fs o = refl
+objective_stands _ fs o = refl
 
 pub objective_no_group : (b : Body) → is_objective b ≡ true → is_group b ≡ false
 objective_no_group (body.Group set vars) o = absurd (true≢false (sym o))
 objective_no_group (body.Free vars) o = absurd (true≢false (sym o))
-objective_no_group (body.Plain var set) o = refl
-objective_no_group (body.Affine func set) o = refl
-objective_no_group (body.PlainVec vars set) o = refl
-objective_no_group (body.AffineVec funcs set) o = refl
-objective_no_group (body.PlainObj sense var) o = refl
-objective_no_group (body.AffineObj sense func) o = refl
+objective_no_group _ o = refl
 
 pub objective_alone : (b : Body) → is_objective b ≡ true → length (functions_of b) ≡ 1
-objective_alone (body.Group set vars) o = absurd (true≢false (sym o))
-objective_alone (body.Free vars) o = absurd (true≢false (sym o))
-objective_alone (body.Plain var set) o = refl
-objective_alone (body.Affine func set) o = refl
-objective_alone (body.PlainVec vars set) o = absurd (true≢false (sym o))
-objective_alone (body.AffineVec funcs set) o = absurd (true≢false (sym o))
 objective_alone (body.PlainObj sense var) o = refl
 objective_alone (body.AffineObj sense func) o = refl
+objective_alone _ o = absurd (true≢false (sym o))
 
 shaped : (b : Body) → is_objective b ≡ true → FitsItsFunction b
-shaped (body.Group set vars) o = tt
-shaped (body.Free vars) o = tt
-shaped (body.Plain var set) o = absurd (true≢false (sym o))
-shaped (body.Affine func set) o = absurd (true≢false (sym o))
-shaped (body.PlainVec vars set) o = absurd (true≢false (sym o))
-shaped (body.AffineVec funcs set) o = absurd (true≢false (sym o))
 shaped (body.PlainObj sense var) o = tt
 shaped (body.AffineObj sense func) o = tt
+shaped _ o = absurd (true≢false (sym o))
 
 any_number : (b : Body) → is_objective b ≡ true → IsSetOf 1 (set_of b)
-any_number (body.Group set vars) o = absurd (true≢false (sym o))
-any_number (body.Free vars) o = absurd (true≢false (sym o))
-any_number (body.Plain var set) o = absurd (true≢false (sym o))
-any_number (body.Affine func set) o = absurd (true≢false (sym o))
-any_number (body.PlainVec vars set) o = absurd (true≢false (sym o))
-any_number (body.AffineVec funcs set) o = absurd (true≢false (sym o))
 any_number (body.PlainObj sense var) o =
     record { dimension = refl; enough = omega arith; uncrossed = refl }
 any_number (body.AffineObj sense func) o =
     record { dimension = refl; enough = omega arith; uncrossed = refl }
+any_number _ o = absurd (true≢false (sym o))
 
 -- a child objective at a position
 pub objective_valid : (item : Item) (n : ℕ) (child : Body) → is_objective child ≡ true
@@ -109,17 +81,16 @@ objective_valid item n child o unnamed room few =
 
 -- ---- one objective
 
--- what an edge owes that makes this objective of the item
-pub record OneObjective (edge : Edge) (item : Item) (child : Body) : Type 0 where
-  pub source : is_objective item.body ≡ true
+-- an objective that stands for such an objective
+pub record Replaces (b child : Body) : Type 0 where
+  pub source : is_objective b ≡ true
   pub made : is_objective child ≡ true
-  pub cost : cost_of child ≡ cost_of item.body
-  pub unnamed : All (NamesNothingBelow item.at) (functions_of child)
-  pub no_growth : growth (family_of edge) ≡ 1
-  pub leads : LeadsTo edge child
-  pub mentioned : (v : Address) → Miss (functions_of item.body) v → Miss (functions_of child) v
+  pub cost : cost_of child ≡ cost_of b
+  pub mentioned : (v : Address) → Miss (functions_of b) v → Miss (functions_of child) v
 
-module _ (edge : Edge) (item : Item) (child : Body) (o : OneObjective edge item child) where
+module _ (edge : Edge) (item : Item) (child : Body) (valid : IsValidItem item)
+    (no_growth : growth (family_of edge) ≡ 1) (leads : LeadsTo edge child)
+    (o : Replaces item.body child) where
   abbrev image : Image
   image = objective_at item child
 
@@ -169,22 +140,29 @@ module _ (edge : Edge) (item : Item) (child : Body) (o : OneObjective edge item 
   no_more : GrowsBy (growth (family_of edge)) item (child_at item 0 child)
   no_more =
       subst (λ n. length (functions_of child) ≤ n * length (functions_of item.body))
-      (sym o.no_growth)
+      (sym no_growth)
       (let here : length (functions_of child) ≡ 1 = objective_alone child o.made in
       let there : length (functions_of item.body) ≡ 1 = objective_alone item.body o.source
       in omega (arith, here, there))
 
-  pub one_objective_law : EdgeLaw edge item image
+  unnamed : All (NamesNothingBelow item.at) (functions_of child)
+  unnamed =
+      each_at (λ rest f. coefficient f (below item.at rest) ≡ zero_ℚ) (functions_of child)
+      (λ rest. o.mentioned (below item.at rest) (All-weaker (NamesNothingBelow item.at)
+      (λ f. coefficient f (below item.at rest) ≡ zero_ℚ) (λ f none. none rest)
+      (functions_of item.body) (valid.others (objective_no_group item.body o.source))))
+
+  one_objective_law : EdgeLaw edge item image
   one_objective_law = record {
     values = values;
     duals = λ bound duals w b. covered bound duals.groups duals.rows duals.objective w b;
     positions = refl;
     valid = λ room. All-cons IsValidWithin (child_at item 0 child) []
         (objective_valid item 0 child o.made (all_unnamed_below item.at 0 (functions_of child)
-        o.unnamed) room) (All-nil IsValidWithin);
+        unnamed) room) (All-nil IsValidWithin);
     sizes = All-cons (GrowsBy (growth (family_of edge)) item) (child_at item 0 child) [] no_more
         (All-nil (GrowsBy (growth (family_of edge)) item));
-    kinds = All-cons (λ child. LeadsTo edge child.body) (child_at item 0 child) [] o.leads
+    kinds = All-cons (λ child. LeadsTo edge child.body) (child_at item 0 child) [] leads
         (All-nil (λ child. LeadsTo edge child.body));
     components = All-nil HasComponents;
     mentioned = All-cons (MentionsKnown item image) (child_at item 0 child) []
@@ -192,3 +170,17 @@ module _ (edge : Edge) (item : Item) (child : Body) (o : OneObjective edge item 
     exprs = λ group. absurd (true≢false (sym group ∙ objective_no_group item.body o.source));
     expressed = λ v n. All-nil (λ f. coefficient f v ≡ zero_ℚ);
   }
+
+-- ---- families whose edges make one objective of an objective
+
+abbrev pub ObjectiveRule : Family → (Body → Type 0) → (Body → Body) → Type 0
+ObjectiveRule f Source made =
+    Rule f (Sourced Source made) (λ edge item. objective_at item (made item.body)) (λ item ys. [])
+
+pub objective_lawful : {f : Family} {Source : Body → Type 0} {made : Body → Body}
+    → ObjectiveRule f Source made → growth f ≡ 1
+    → ((b : Body) → Source b → Replaces b (made b)) → IsLawful f
+objective_lawful {f} {Source} {made} rule no_growth replaces =
+    lawful_by rule (λ edge own item valid source.
+    one_objective_law edge item (made item.body) valid (ap growth own ∙ no_growth) source.leads
+    (replaces item.body source.source))

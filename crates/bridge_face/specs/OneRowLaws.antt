@@ -9,6 +9,7 @@ use Rattle.aff_core.specs.Function.{Function, coefficient}
 use Rattle.dual_laws.specs.Held.{Held, Holds, IsHeld, adjoint_of, gap_of}
 use Rattle.set_core.specs.declared.set.Set.{Set}
 use Rattle.item_core.specs.declared.edge.Edge.{Edge}
+use Rattle.item_core.specs.declared.family.Family.{Family}
 use Rattle.item_core.specs.declared.item.Body.{Body}
 use Rattle.item_core.specs.declared.item.Body.TheVariants as body
 use Rattle.item_core.specs.declared.item.Item.{Item}
@@ -16,7 +17,8 @@ use Rattle.item_core.specs.declared.image.Image.{Image}
 use Rattle.item_core.specs.Edge.{family_of}
 use Rattle.item_core.specs.Item.{functions_of, is_group, set_of}
 use Rattle.item_core.specs.Valid.{IsValidItem}
-use Rattle.bridge_face.specs.BackOf.{back_of}
+use Rattle.bridge_face.specs.BackOf.{back_of, first_of}
+use Rattle.bridge_face.specs.FamilyLaws.{Rule, Sourced}
 use Rattle.bridge_face.specs.Images.{child_at, row_at}
 use Rattle.bridge_face.specs.Law.{Balances, CarriesValues, EdgeLaw, GrowsBy, HasComponents, HoldsAt, IsCovered, IsValidWithin, LeadsTo, MentionsKnown, Miss, expressed, growth, held_body, held_item, is_objective, row_functions, row_set}
 
@@ -141,3 +143,11 @@ module _ (edge : Edge) (item : Item) (child : Body) (o : OneRow edge item child)
     exprs = λ group. absurd (true≢false (sym group ∙ o.source.no_group));
     expressed = λ v n. All-nil (λ f. coefficient f v ≡ zero_ℚ);
   }
+
+-- ---- families whose edges make one row of a row
+
+abbrev pub RowRule : Family → (Body → Type 0) → (Body → Body) → (List Rational → List Rational)
+    → Type 0
+RowRule f Source made carry =
+    Rule f (Sourced Source made) (λ edge item. row_at item (made item.body))
+    (λ item ys. carry (first_of ys))

@@ -26,17 +26,14 @@ use Rattle.item_core.specs.declared.edge.Edge.{Edge}
 use Rattle.item_core.specs.declared.item.Body.{Body}
 use Rattle.item_core.specs.declared.item.Item.{Item}
 use Rattle.item_core.specs.declared.family.Family.{Family}
-use Rattle.item_core.specs.Edge.{family_of, source_of}
-use Rattle.item_core.specs.KindOf.{kind_of_body}
+use Rattle.item_core.specs.Edge.{family_of}
 use Rattle.item_core.specs.Item.{functions_of, is_group, set_of}
 use Rattle.item_core.specs.Valid.{FitsItsFunction, IsValidItem, NamesNothingBelow, below}
-use Rattle.bridge_face.specs.BackOf.{BackFits, BackFitsBy, back_by, back_of}
-use Rattle.bridge_face.specs.FamilyLaws.{Lawful, lawful_family}
-use Rattle.bridge_face.specs.ImageOf.{FitsBy, ImageFits, image_by, image_of}
-use Rattle.bridge_face.specs.Sources.{OfKind, of_kind}
+use Rattle.bridge_face.specs.BackOf.{back_of}
+use Rattle.bridge_face.specs.FamilyLaws.{back_is, lawful_by}
 use Rattle.bridge_face.specs.Images.{row_at}
 use Rattle.bridge_face.specs.Law.{EdgeLaw, IsLawful, LeadsTo, Miss, growth, is_objective}
-use Rattle.bridge_face.specs.OneRowLaws.{IsRow, OneRow, one_row_law, row_held}
+use Rattle.bridge_face.specs.OneRowLaws.{IsRow, OneRow, RowRule, one_row_law, row_held}
 
 -- two rows of which one is the other's flip
 pub record FlipsTo (b child : Body) : Type 0 where
@@ -208,57 +205,16 @@ module _ (edge : Edge) (item : Item) (child : Body) (f : IsFlip edge item child)
 
 -- ---- families
 
--- such a row, of which the edge makes one of the kind that it leads to
-pub record Sourced (Source : Body → Type 0) (made : Body → Body) (edge : Edge) (b : Body)
-    : Type 0 where
-  pub source : Source b
-  pub leads : LeadsTo edge (made b)
-
 -- a family that flips such rows
-pub record Flips (f : Family) (Source : Body → Type 0) (made : Body → Body) : Type 0 where
-  pub image : (edge : Edge) (item : Item) → image_by f edge item ≡ row_at item (made item.body)
-  pub back : (item : Item) (y : List Rational) → back_by f item (y ∷ []) ≡ numbers.negated y
-  pub image_fits : (item : Item) → FitsBy f item
-  pub back_fits : (item : Item) (ys : List (List Rational)) → BackFitsBy f item ys
-  pub no_growth : growth f ≡ 1
-  pub flips : (b : Body) → Source b → FlipsTo b (made b)
-  pub sourced :
-      (edge : Edge) → family_of edge ≡ f → {b : Body} → OfKind (source_of edge) b
-      → Sourced Source made edge b
-
-module _ {f : Family} {Source : Body → Type 0} {made : Body → Body} (is : Flips f Source made)
-    (edge : Edge) (own : family_of edge ≡ f) where
-  pub image_is : (item : Item) → image_of edge item ≡ row_at item (made item.body)
-  image_is item = ap (λ f. image_by f edge item) own ∙ is.image edge item
-
-  pub back_is : (item : Item) (y : List Rational) → back_of edge item (y ∷ []) ≡ numbers.negated y
-  back_is item y = ap (λ f. back_by f item (y ∷ [])) own ∙ is.back item y
-
-  pub image_fits : (item : Item) → ImageFits edge item
-  image_fits item = subst (λ f. FitsBy f item) (sym own) (is.image_fits item)
-
-  pub back_fits : (item : Item) (ys : List (List Rational)) → BackFits edge item ys
-  back_fits item ys = subst (λ f. BackFitsBy f item ys) (sym own) (is.back_fits item ys)
-
-  source_at : (b : Body) → FitsItsFunction b → kind_of_body b ≡ source_of edge
-      → Sourced Source made edge b
-  source_at b h k = is.sourced edge own (subst (λ k. OfKind k b) k (of_kind b h))
-
-  pub is_source : (b : Body) → FitsItsFunction b → kind_of_body b ≡ source_of edge → Source b
-  is_source b h k = (source_at b h k).source
-
-  law_at : Lawful edge
-  law_at item suits =
-      let sourced = source_at item.body suits.valid.function suits.kind in
-      subst (EdgeLaw edge item) (sym (image_is item))
-      (flip_law edge item (made item.body) (record {
-        item_valid = suits.valid;
-        flips = is.flips item.body sourced.source;
-        back = back_is item;
-        no_growth = ap growth own ∙ is.no_growth;
-        leads = sourced.leads;
-      }))
-
 pub flip_lawful : {f : Family} {Source : Body → Type 0} {made : Body → Body}
-    → Flips f Source made → IsLawful f
-flip_lawful {f} is = lawful_family f (law_at is)
+    → RowRule f Source made numbers.negated → growth f ≡ 1
+    → ((b : Body) → Source b → FlipsTo b (made b)) → IsLawful f
+flip_lawful {f} {Source} {made} rule no_growth flips =
+    lawful_by rule (λ edge own item valid source.
+    flip_law edge item (made item.body) (record {
+      item_valid = valid;
+      flips = flips item.body source.source;
+      back = λ y. back_is rule edge own item (y ∷ []);
+      no_growth = ap growth own ∙ no_growth;
+      leads = source.leads;
+    }))

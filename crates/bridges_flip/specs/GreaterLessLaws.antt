@@ -13,13 +13,15 @@ use Rattle.item_core.specs.declared.item.Body.TheVariants.{Affine, Plain}
 use Rattle.item_core.specs.Edge.{edge_entry, family_of, source_of}
 use Rattle.item_core.specs.Item.{set_of}
 use Rattle.item_core.specs.KindOf.{kind_of_body}
-use Rattle.bridge_face.specs.BackOf.{BackFitsBy, back_by}
-use Rattle.bridge_face.specs.FamilyLaws.{of_another}
-use Rattle.bridge_face.specs.ImageOf.{FitsBy, image_by}
+use Rattle.rational_laws.specs.Dot as numbers
+use Rattle.bridge_face.specs.BackOf.{back_by}
+use Rattle.bridge_face.specs.FamilyLaws.{Sourced, of_another}
+use Rattle.bridge_face.specs.ImageOf.{image_by}
+use Rattle.bridge_face.specs.OneRowLaws.{RowRule}
 use Rattle.bridge_face.specs.Images.{function_of_body}
 use Rattle.bridge_face.specs.Law.{IsLawful}
 use Rattle.bridge_face.specs.Sources.{OfKind, affine_greater_than, affine_less_than, plain_greater_than, plain_less_than}
-use Rattle.bridges_flip.specs.FlipLaws.{Flips, FlipsTo, Sourced, flip_lawful, flips_to, row}
+use Rattle.bridges_flip.specs.FlipLaws.{FlipsTo, flip_lawful, flips_to, row}
 
 -- a row with one bound
 pub data IsBound : Body → Type 0 where
@@ -49,17 +51,9 @@ sourced E3 own plain_greater_than = record { source = plain_above; leads = refl 
 sourced E4 own affine_greater_than = record { source = affine_above; leads = refl }
 sourced _ own k = of_another own refl
 
-pub flips_bounds : Flips GreaterLess IsBound made
-unfolding image_by back_by FitsBy BackFitsBy
-flips_bounds = record {
-  image = λ edge item. refl;
-  back = λ item y. refl;
-  image_fits = λ item. tt;
-  back_fits = λ item ys. tt;
-  no_growth = refl;
-  flips = λ b source. flips source;
-  sourced = sourced;
-}
+pub rule : RowRule GreaterLess IsBound made numbers.negated
+unfolding image_by back_by
+rule = record { image = λ edge item. refl; back = λ item ys. refl; sourced = sourced }
 
 pub greater_less_lawful : IsLawful GreaterLess
-greater_less_lawful = flip_lawful flips_bounds
+greater_less_lawful = flip_lawful rule refl (λ b. flips)

@@ -1,15 +1,17 @@
 -- The law of OrthantFlip: f ≥ 0 is -f ≤ 0, and f ≤ 0 is -f ≥ 0.
 use Rattle.std.specs.Prelude.{List, map, refl, ℕ, ◌≡◌}
 use Rattle.item_core.specs.declared.item.Body.TheVariants.{AffineVec}
-use Rattle.bridge_face.specs.BackOf.{BackFitsBy, back_by}
+use Rattle.rational_laws.specs.Dot as numbers
+use Rattle.bridge_face.specs.BackOf.{back_by}
 use Rattle.item_core.specs.declared.item.Body.{Body}
 use Rattle.item_core.specs.declared.edge.Edge.TheVariants.{E21, E22}
 use Rattle.item_core.specs.declared.edge.Edge.{Edge}
 use Rattle.bridge_face.specs.Law.{IsLawful}
-use Rattle.bridge_face.specs.ImageOf.{FitsBy, image_by}
-use Rattle.bridges_flip.specs.FlipLaws.{Flips, FlipsTo, Sourced, flip_lawful, flips_to, row}
+use Rattle.bridge_face.specs.ImageOf.{image_by}
+use Rattle.bridge_face.specs.OneRowLaws.{RowRule}
+use Rattle.bridges_flip.specs.FlipLaws.{FlipsTo, flip_lawful, flips_to, row}
 use Rattle.aff_core.specs.Function.{Function, negated}
-use Rattle.bridge_face.specs.FamilyLaws.{of_another}
+use Rattle.bridge_face.specs.FamilyLaws.{Sourced, of_another}
 use Rattle.set_core.specs.declared.set.Set.TheVariants.{Nonnegatives, Nonpositives}
 use Rattle.bridge_face.specs.Sources.{OfKind, vaffine_nonnegatives, vaffine_nonpositives}
 use Rattle.item_core.specs.declared.family.Family.TheVariants.{OrthantFlip}
@@ -40,17 +42,9 @@ sourced E21 own vaffine_nonnegatives = record { source = above; leads = refl }
 sourced E22 own vaffine_nonpositives = record { source = beneath; leads = refl }
 sourced _ own k = of_another own refl
 
-pub flips_orthants : Flips OrthantFlip IsOrthant made
-unfolding image_by back_by FitsBy BackFitsBy
-flips_orthants = record {
-  image = λ edge item. refl;
-  back = λ item y. refl;
-  image_fits = λ item. tt;
-  back_fits = λ item ys. tt;
-  no_growth = refl;
-  flips = λ b source. flips source;
-  sourced = sourced;
-}
+pub rule : RowRule OrthantFlip IsOrthant made numbers.negated
+unfolding image_by back_by
+rule = record { image = λ edge item. refl; back = λ item ys. refl; sourced = sourced }
 
 pub orthant_flip_lawful : IsLawful OrthantFlip
-orthant_flip_lawful = flip_lawful flips_orthants
+orthant_flip_lawful = flip_lawful rule refl (λ b. flips)

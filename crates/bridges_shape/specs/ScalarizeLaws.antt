@@ -29,14 +29,15 @@ use Rattle.item_core.specs.Edge.{edge_entry, family_of, source_of}
 use Rattle.item_core.specs.Item.{functions_of, set_of}
 use Rattle.item_core.specs.KindOf.{kind_of_body}
 use Rattle.item_core.specs.Valid.{FitsItsFunction, IsValidItem, NamesNothingBelow}
-use Rattle.bridge_face.specs.BackOf.{BackFits, BackFitsBy, back_by, back_of, joined}
-use Rattle.bridge_face.specs.FamilyLaws.{Lawful, lawful_family, of_another}
-use Rattle.bridge_face.specs.ImageOf.{FitsBy, ImageFits, image_by, image_of}
+use Rattle.bridge_face.specs.BackOf.{back_by, back_of, joined}
+use Rattle.bridge_face.specs.ComponentLaws.{each_at}
+use Rattle.bridge_face.specs.FamilyLaws.{Rule, back_is, lawful_by, of_another}
+use Rattle.bridge_face.specs.ImageOf.{image_by}
 use Rattle.bridge_face.specs.Images.{child_at, children_from, component_of, each_component, rows_at}
-use Rattle.bridge_face.specs.Law.{EdgeLaw, IsLawful, LeadsTo, Miss, growth}
+use Rattle.bridge_face.specs.Law.{IsLawful, LeadsTo, Miss, growth}
 use Rattle.bridge_face.specs.OneRowLaws.{IsRow, row_held}
 use Rattle.bridge_face.specs.RowsLaws.{IsRowOf, MadeOfRows, length-children_from, rows_held, rows_law}
-use Rattle.bridge_face.specs.Sources.{OfKind, of_kind, vaffine_nonnegatives, vaffine_nonpositives, vaffine_zeros, vplain_nonnegatives, vplain_nonpositives, vplain_zeros}
+use Rattle.bridge_face.specs.Sources.{OfKind, vaffine_nonnegatives, vaffine_nonpositives, vaffine_zeros, vplain_nonnegatives, vplain_nonpositives, vplain_zeros}
 
 -- a cone, and the set of numbers that a component may be
 pub data HasParts : Set → Set → Type 0 where
@@ -211,9 +212,9 @@ pub data LeadsToEach (edge : Edge) : Body → Type 0 where
       → ((v : Address) → LeadsTo edge (Plain v (component_of set)))
       → LeadsToEach edge (PlainVec vars set)
 
-record Sourced (edge : Edge) (b : Body) : Type 0 where
-  row : IsConeRow b
-  leads : LeadsToEach edge b
+pub record Sourced (edge : Edge) (b : Body) : Type 0 where
+  pub row : IsConeRow b
+  pub leads : LeadsToEach edge b
 
 sourced : (edge : Edge) → family_of edge ≡ Scalarize → {b : Body} → OfKind (source_of edge) b
     → Sourced edge b
@@ -229,6 +230,10 @@ sourced E19 own vplain_nonnegatives =
 sourced E20 own vplain_nonpositives =
     record { row = plain of_nonpositives; leads = plain_each (λ v. refl) }
 sourced _ own k = of_another own refl
+
+pub rule : Rule Scalarize Sourced (λ edge item. rows_at item (made item.body)) (λ item. joined)
+unfolding image_by back_by
+rule = record { image = λ edge item. refl; back = λ item ys. refl; sourced = sourced }
 
 -- ---- the parts
 
@@ -273,45 +278,17 @@ read (plain {vars} {set} has) =
       parts = plain_parts (component_of set) vars;
     }
 
--- a fact of each element, at each index at which all have it
-each_at : {A B : Type 0} (P : B → A → Type 0) (Q : B → Type 0) (xs : List A)
-    → ((b : B) → Q b → All (P b) xs)
-    → All (λ x. (b : B) → Q b → P b x) xs
-each_at P Q [] h = All-nil (λ x. (b : _) → Q b → P b x)
-each_at P Q (x ∷ xs) h =
-    All-cons (λ y. (b : _) → Q b → P b y) x xs (λ b q. All-head (P b) x xs (h b q))
-    (each_at P Q xs (λ b q. All-tail (P b) x xs (h b q)))
-
 -- ---- the law
 
 module _ (edge : Edge) (own : family_of edge ≡ Scalarize) where
-  pub image_is : (item : Item) → image_of edge item ≡ rows_at item (made item.body)
-  unfolding image_by
-  image_is item = ap (λ f. image_by f edge item) own
-
-  pub back_is : (item : Item) (ys : List (List Rational)) → back_of edge item ys ≡ joined ys
-  unfolding back_by
-  back_is item ys = ap (λ f. back_by f item ys) own
-
-  pub image_fits : (item : Item) → ImageFits edge item
-  unfolding FitsBy
-  image_fits item = subst (λ f. FitsBy f item) (sym own) tt
-
-  pub back_fits : (item : Item) (ys : List (List Rational)) → BackFits edge item ys
-  unfolding BackFitsBy
-  back_fits item ys = subst (λ f. BackFitsBy f item ys) (sym own) tt
-
-  source_at : (b : Body) → FitsItsFunction b → kind_of_body b ≡ source_of edge → Sourced edge b
-  source_at b h k = sourced edge own (subst (λ k. OfKind k b) k (of_kind b h))
-
-  pub is_cone_row : (b : Body) → FitsItsFunction b → kind_of_body b ≡ source_of edge → IsConeRow b
-  is_cone_row b h k = (source_at b h k).row
-
   module _ (item : Item) (valid : IsValidItem item) (r : Read item.body) where
+    -- an address that none of the item's functions names
+    abbrev Missed : Type 0
+    Missed = (v : Address) × Miss (functions_of item.body) v
+
     -- a component of the item
     abbrev IsComponent : Function → Type 0
-    IsComponent f = NamesNothingBelow item.at f
-        × ((v : Address) → Miss (functions_of item.body) v → coefficient f v ≡ zero_ℚ)
+    IsComponent f = NamesNothingBelow item.at f × ((m : Missed) → coefficient f m.0 ≡ zero_ℚ)
 
     row_of : (b : Body) (f : Function) → IsRow b → FitsItsFunction b → functions_of b ≡ f ∷ []
         → set_of b ≡ component_of (set_of item.body) → LeadsTo edge b → IsComponent f
@@ -331,31 +308,25 @@ module _ (edge : Edge) (own : family_of edge ≡ Scalarize) where
           (omega (arith, valid.some)));
       leads = leads;
       mentioned = λ v m. subst (λ fs. Miss fs v) (sym functions)
-          (All-cons (λ g. coefficient g v ≡ zero_ℚ) f [] (component.1 v m)
+          (All-cons (λ g. coefficient g v ≡ zero_ℚ) f [] (component.1 (v, m))
           (All-nil (λ g. coefficient g v ≡ zero_ℚ)));
     }
 
     components : All IsComponent (functions_of item.body)
     components =
         both (functions_of item.body) (valid.others r.source.no_group)
-        (each_at (λ v f. coefficient f v ≡ zero_ℚ) (λ v. Miss (functions_of item.body) v)
-        (functions_of item.body) (λ v m. m))
+        (each_at (λ m f. coefficient f m.0 ≡ zero_ℚ) (functions_of item.body) (λ m. m.1))
       where
         both : (fs : List Function) → All (NamesNothingBelow item.at) fs
-            → All (λ f. (v : Address) → Miss (functions_of item.body) v → coefficient f v ≡ zero_ℚ)
-            fs
-            → All IsComponent fs
+            → All (λ f. (m : Missed) → coefficient f m.0 ≡ zero_ℚ) fs → All IsComponent fs
         both [] h k = All-nil IsComponent
         both (f ∷ fs) h k =
             All-cons IsComponent f fs (
               All-head (NamesNothingBelow item.at) f fs h,
-              All-head
-                  (λ g. (v : Address) → Miss (functions_of item.body) v
-                  → coefficient g v ≡ zero_ℚ) f fs k,
+              All-head (λ g. (m : Missed) → coefficient g m.0 ≡ zero_ℚ) f fs k,
             )
             (both fs (All-tail (NamesNothingBelow item.at) f fs h)
-            (All-tail (λ g. (v : Address) → Miss (functions_of item.body) v
-            → coefficient g v ≡ zero_ℚ) f fs k))
+            (All-tail (λ g. (m : Missed) → coefficient g m.0 ≡ zero_ℚ) f fs k))
 
     affine_rows : (c : Set) → is_scalar c ≡ true → c ≡ component_of (set_of item.body)
         → ((f : Function) → LeadsTo edge (Affine f c)) → (fs : List Function) → All IsComponent fs
@@ -392,7 +363,7 @@ module _ (edge : Edge) (own : family_of edge ≡ Scalarize) where
 
     back_held : (ys : List (List Rational))
         → row_held item.body (back_of edge item ys) ≡ row_held item.body (joined ys)
-    back_held ys = ap (row_held item.body) (back_is item ys)
+    back_held ys = ap (row_held item.body) (back_is rule edge own item ys)
 
     scalarize_rows : LeadsToEach edge item.body → MadeOfRows edge item (made item.body)
     scalarize_rows leads = record {
@@ -415,15 +386,10 @@ module _ (edge : Edge) (own : family_of edge ≡ Scalarize) where
           ∙ sym (ap gap_of (back_held ys)));
     }
 
-  law_at : Lawful edge
-  law_at item suits =
-      let source = source_at item.body suits.valid.function suits.kind in
-      subst (EdgeLaw edge item) (sym (image_is item))
-      (rows_law edge item (made item.body) (scalarize_rows item suits.valid (read source.row)
-      source.leads))
-
 pub scalarize_lawful : IsLawful Scalarize
-scalarize_lawful = lawful_family Scalarize law_at
+scalarize_lawful =
+    lawful_by rule (λ edge own item valid source. rows_law edge item (made item.body)
+    (scalarize_rows edge own item valid (read source.row) source.leads))
 
 -- ---- one more
 
@@ -469,13 +435,10 @@ parts_length no_parts = refl
 parts_length (part row functions set rest) = ap suc (parts_length rest)
 
 -- as many rows as components
-pub row_count : (edge : Edge) (own : family_of edge ≡ Scalarize) (item : Item)
-    → FitsItsFunction item.body
-    → kind_of_body item.body ≡ source_of edge
-    → length (functions_of item.body) ≡ length (children_from item 0 (made item.body))
-row_count edge own item h k =
-    sym (length-children_from item 0 (made item.body)
-    ∙ parts_length (read (is_cone_row edge own item.body h k)).parts)
+pub row_count : (b : Body) (item : Item) → IsConeRow b
+    → length (functions_of b) ≡ length (children_from item 0 (made b))
+row_count b item cone =
+    sym (length-children_from item 0 (made b) ∙ parts_length (read cone).parts)
 
 abbrev pub record_at : Address → Body → Item
 record_at at b = record { at = at; body = b }

@@ -6,33 +6,27 @@ use Rattle.item_core.specs.declared.family.Family.TheVariants.{VectorFunctionize
 use Rattle.item_core.specs.declared.item.Body.{Body}
 use Rattle.item_core.specs.Edge.{edge_entry, family_of, source_of}
 use Rattle.item_core.specs.KindOf.{kind_of_body}
-use Rattle.bridge_face.specs.BackOf.{BackFitsBy, back_by}
-use Rattle.bridge_face.specs.FamilyLaws.{of_another}
-use Rattle.bridge_face.specs.ImageOf.{FitsBy, image_by}
+use Rattle.bridge_face.specs.BackOf.{back_by}
+use Rattle.bridge_face.specs.FamilyLaws.{Sourced, of_another}
+use Rattle.bridge_face.specs.ImageOf.{image_by}
 use Rattle.bridge_face.specs.Law.{IsLawful}
+use Rattle.bridge_face.specs.OneRowLaws.{RowRule}
 use Rattle.bridge_face.specs.Sources.{OfKind, vplain_nonnegatives, vplain_nonpositives, vplain_norm_infinity_cone, vplain_norm_one_cone, vplain_zeros}
-use Rattle.bridges_shape.specs.FunctionizeLaws.{Functionizes, Sourced, functionize_lawful, vector}
+use Rattle.bridges_shape.specs.FunctionizeLaws.{IsPlain, functionize_lawful, made, vector}
 
 sourced : (edge : Edge) → family_of edge ≡ VectorFunctionize
-    → {b : Body} → OfKind (source_of edge) b → Sourced edge b
+    → {b : Body} → OfKind (source_of edge) b → Sourced IsPlain made edge b
 unfolding edge_entry kind_of_body
-sourced E34 own vplain_zeros = record { plain = vector refl; leads = refl }
-sourced E35 own vplain_nonnegatives = record { plain = vector refl; leads = refl }
-sourced E36 own vplain_nonpositives = record { plain = vector refl; leads = refl }
-sourced E37 own vplain_norm_infinity_cone = record { plain = vector refl; leads = refl }
-sourced E38 own vplain_norm_one_cone = record { plain = vector refl; leads = refl }
+sourced E34 own vplain_zeros = record { source = vector refl; leads = refl }
+sourced E35 own vplain_nonnegatives = record { source = vector refl; leads = refl }
+sourced E36 own vplain_nonpositives = record { source = vector refl; leads = refl }
+sourced E37 own vplain_norm_infinity_cone = record { source = vector refl; leads = refl }
+sourced E38 own vplain_norm_one_cone = record { source = vector refl; leads = refl }
 sourced _ own k = of_another own refl
 
-pub functionizes : Functionizes VectorFunctionize
-unfolding image_by back_by FitsBy BackFitsBy
-functionizes = record {
-  image = λ edge item. refl;
-  back = λ item y. refl;
-  image_fits = λ item. tt;
-  back_fits = λ item ys. tt;
-  no_growth = refl;
-  sourced = sourced;
-}
+pub rule : RowRule VectorFunctionize IsPlain made (λ y. y)
+unfolding image_by back_by
+rule = record { image = λ edge item. refl; back = λ item ys. refl; sourced = sourced }
 
 pub vector_functionize_lawful : IsLawful VectorFunctionize
-vector_functionize_lawful = functionize_lawful functionizes
+vector_functionize_lawful = functionize_lawful rule refl

@@ -22,15 +22,15 @@ use Rattle.item_core.specs.declared.item.Item.{Item}
 use Rattle.item_core.specs.Edge.{edge_entry, family_of, source_of}
 use Rattle.item_core.specs.Item.{functions_of, set_of}
 use Rattle.item_core.specs.KindOf.{kind_of_body}
-use Rattle.item_core.specs.Valid.{FitsItsFunction, IsValidItem, NamesNothingBelow}
-use Rattle.bridge_face.specs.BackOf.{BackFits, BackFitsBy, back_by, back_of}
+use Rattle.item_core.specs.Valid.{IsValidItem, NamesNothingBelow}
+use Rattle.bridge_face.specs.BackOf.{back_by, back_of}
 use Rattle.bridge_face.specs.ComponentLaws.{all_unnamed_below}
-use Rattle.bridge_face.specs.FamilyLaws.{Lawful, lawful_family, of_another}
-use Rattle.bridge_face.specs.ImageOf.{FitsBy, ImageFits, image_by, image_of}
-use Rattle.bridge_face.specs.Images.{cone_of, function_of_body, number_in, raised, row_at}
-use Rattle.bridge_face.specs.Law.{EdgeLaw, IsLawful, LeadsTo, Miss, growth}
-use Rattle.bridge_face.specs.OneRowLaws.{IsRow, OneRow, one_row_law, row_held}
-use Rattle.bridge_face.specs.Sources.{OfKind, affine_equal_to, affine_greater_than, affine_less_than, of_kind, plain_equal_to, plain_greater_than, plain_less_than}
+use Rattle.bridge_face.specs.FamilyLaws.{Sourced, back_is, lawful_by, of_another}
+use Rattle.bridge_face.specs.ImageOf.{FitsBy, ImageFits, image_by}
+use Rattle.bridge_face.specs.Images.{cone_of, function_of_body, number_in, raised}
+use Rattle.bridge_face.specs.Law.{IsLawful, LeadsTo, Miss, growth}
+use Rattle.bridge_face.specs.OneRowLaws.{IsRow, OneRow, RowRule, one_row_law, row_held}
+use Rattle.bridge_face.specs.Sources.{OfKind, affine_equal_to, affine_greater_than, affine_less_than, plain_equal_to, plain_greater_than, plain_less_than}
 use Rattle.bridges_shape.specs.RaisedLaws.{HasNumber, at_least, at_most, cone_of_one, cone_of_vectors, equal, evaluated-lowered, in_dual, in_set, low_cone, low_first, low_none, set_of_one}
 
 -- a plain or an affine row in a set with one number
@@ -64,21 +64,20 @@ read (plain has) =
 read (affine has) =
     record { source = record { no_group = refl; no_objective = refl }; functions = refl; has = has }
 
--- of which the edge makes a row of the kind that it leads to
-record Sourced (edge : Edge) (b : Body) : Type 0 where
-  row : IsNumberRow b
-  leads : LeadsTo edge (made b)
-
 sourced : (edge : Edge) → family_of edge ≡ Vectorize → {b : Body} → OfKind (source_of edge) b
-    → Sourced edge b
+    → Sourced IsNumberRow made edge b
 unfolding edge_entry kind_of_body
-sourced E5 own affine_less_than = record { row = affine at_most; leads = refl }
-sourced E6 own affine_greater_than = record { row = affine at_least; leads = refl }
-sourced E7 own affine_equal_to = record { row = affine equal; leads = refl }
-sourced E8 own plain_less_than = record { row = plain at_most; leads = refl }
-sourced E9 own plain_greater_than = record { row = plain at_least; leads = refl }
-sourced E10 own plain_equal_to = record { row = plain equal; leads = refl }
+sourced E5 own affine_less_than = record { source = affine at_most; leads = refl }
+sourced E6 own affine_greater_than = record { source = affine at_least; leads = refl }
+sourced E7 own affine_equal_to = record { source = affine equal; leads = refl }
+sourced E8 own plain_less_than = record { source = plain at_most; leads = refl }
+sourced E9 own plain_greater_than = record { source = plain at_least; leads = refl }
+sourced E10 own plain_equal_to = record { source = plain equal; leads = refl }
 sourced _ own k = of_another own refl
+
+pub rule : RowRule Vectorize IsNumberRow made (λ y. y)
+unfolding image_by back_by
+rule = record { image = λ edge item. refl; back = λ item ys. refl; sourced = sourced }
 
 -- ---- on numbers
 
@@ -117,14 +116,6 @@ module _ (f : Function) {S C : Set} {a : Rational} (has : HasNumber S a C) where
 -- ---- the law
 
 module _ (edge : Edge) (own : family_of edge ≡ Vectorize) where
-  pub image_is : (item : Item) → image_of edge item ≡ row_at item (made item.body)
-  unfolding image_by
-  image_is item = ap (λ f. image_by f edge item) own
-
-  pub back_is : (item : Item) (y : List Rational) → back_of edge item (y ∷ []) ≡ y
-  unfolding back_by
-  back_is item y = ap (λ f. back_by f item (y ∷ [])) own
-
   pub fits_there : (item : Item) → ImageFits edge item → FitsLowered item.body
   unfolding FitsBy
   fits_there item h = subst (λ f. FitsBy f item) own h
@@ -132,17 +123,6 @@ module _ (edge : Edge) (own : family_of edge ≡ Vectorize) where
   pub fits_back : (item : Item) → FitsLowered item.body → ImageFits edge item
   unfolding FitsBy
   fits_back item h = subst (λ f. FitsBy f item) (sym own) h
-
-  pub back_fits : (item : Item) (ys : List (List Rational)) → BackFits edge item ys
-  unfolding BackFitsBy
-  back_fits item ys = subst (λ f. BackFitsBy f item ys) (sym own) tt
-
-  source_at : (b : Body) → FitsItsFunction b → kind_of_body b ≡ source_of edge → Sourced edge b
-  source_at b h k = sourced edge own (subst (λ k. OfKind k b) k (of_kind b h))
-
-  pub is_number_row : (b : Body) → FitsItsFunction b → kind_of_body b ≡ source_of edge
-      → IsNumberRow b
-  is_number_row b h k = (source_at b h k).row
 
   module _ (item : Item) (valid : IsValidItem item) (r : Read item.body)
       (leads : LeadsTo edge (made item.body)) where
@@ -157,7 +137,7 @@ module _ (edge : Edge) (own : family_of edge ≡ Vectorize) where
     back_held : (y : List Rational)
         → row_held item.body (back_of edge item (y ∷ []))
         ≡ one_held y (function_of_body item.body) (set_of item.body)
-    back_held y = ap (row_held item.body) (back_is item y) ∙ item_is y
+    back_held y = ap (row_held item.body) (back_is rule edge own item (y ∷ [])) ∙ item_is y
 
     is_one_row : OneRow edge item (made item.body)
     is_one_row = record {
@@ -195,12 +175,7 @@ module _ (edge : Edge) (own : family_of edge ≡ Vectorize) where
           (All-nil (λ g. coefficient g v ≡ zero_ℚ));
     }
 
-  law_at : Lawful edge
-  law_at item suits =
-      let source = source_at item.body suits.valid.function suits.kind in
-      subst (EdgeLaw edge item) (sym (image_is item))
-      (one_row_law edge item (made item.body) (is_one_row item suits.valid (read source.row)
-      source.leads))
-
 pub vectorize_lawful : IsLawful Vectorize
-vectorize_lawful = lawful_family Vectorize law_at
+vectorize_lawful =
+    lawful_by rule (λ edge own item valid source. one_row_law edge item (made item.body)
+    (is_one_row edge own item valid (read source.source) source.leads))

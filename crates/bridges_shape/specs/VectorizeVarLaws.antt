@@ -1,11 +1,11 @@
 -- The law of VectorizeVar: x ≤ u is u + s with s ≤ 0, and so for ≥ and =.
-use Rattle.std.specs.Prelude.{◌≡◌, ◌≤◌, ◌*◌, true, false, List, [], ◌∷◌, length, refl}
-use Rattle.std.proofs.Common.{arith, sym, ap, ap₂, subst, ◌∙◌, true≢false}
+use Rattle.std.specs.Prelude.{◌≡◌, ◌≤◌, ◌*◌, true, List, [], ◌∷◌, length, refl}
+use Rattle.std.proofs.Common.{arith, sym, ap, ap₂, subst, ◌∙◌}
 use Rattle.std.proofs.lemmas.List.Elements.{All-cons, All-head, All-nil}
 use Rattle.ratio_core.specs.Rational.{Rational, zero_ℚ, ◌*ℚ◌, ◌+ℚ◌, ◌-ℚ◌}
 use Rattle.rational_laws.specs.Dot.{dot}
 use Rattle.rational_laws.specs.Field.{zero-+ℚ}
-use Rattle.rational_laws.specs.Ring.{as_expression, by_ring, ring₂, ring₃, ring₄, zero_as}
+use Rattle.rational_laws.specs.Ring.{as_expression, by_ring, ring₂, ring₃, zero_as}
 use Rattle.aff_core.specs.Address.{Address, address_cmp, child_of}
 use Rattle.aff_core.specs.Function.{Function, coefficient, evaluated, slope, variable}
 use Rattle.aff_core.specs.FunctionLists.{constants}
@@ -26,15 +26,15 @@ use Rattle.item_core.specs.declared.item.Item.{Item}
 use Rattle.item_core.specs.Edge.{edge_entry, family_of, source_of}
 use Rattle.item_core.specs.Item.{functions_of, is_group, set_of}
 use Rattle.item_core.specs.KindOf.{kind_of_body}
-use Rattle.item_core.specs.Valid.{FitsItsFunction, IsValidItem}
-use Rattle.bridge_face.specs.BackOf.{BackFits, BackFitsBy}
+use Rattle.item_core.specs.Valid.{IsValidItem}
+use Rattle.bridge_face.specs.BackOf.{back_by}
 use Rattle.bridge_face.specs.ComponentLaws.{constant-variable, not_contained, variables_missed, weighed, weighed_components}
-use Rattle.bridge_face.specs.FamilyLaws.{Lawful, lawful_family, of_another}
+use Rattle.bridge_face.specs.FamilyLaws.{Rule, image_is, lawful_by, of_another}
 use Rattle.bridge_face.specs.GroupLaws.{OneGroup, one_group_law}
-use Rattle.bridge_face.specs.ImageOf.{FitsBy, ImageFits, image_by, image_of, inner, vectorize_var}
+use Rattle.bridge_face.specs.ImageOf.{image_by, image_of, inner, vectorize_var}
 use Rattle.bridge_face.specs.Images.{child_at, cone_of, group_by, number_in, raised}
-use Rattle.bridge_face.specs.Law.{EdgeLaw, IsItemFor, IsLawful, LeadsTo, growth}
-use Rattle.bridge_face.specs.Sources.{OfKind, group_equal_to, group_greater_than, group_less_than, of_kind}
+use Rattle.bridge_face.specs.Law.{IsLawful, LeadsTo, growth}
+use Rattle.bridge_face.specs.Sources.{OfKind, group_equal_to, group_greater_than, group_less_than}
 use Rattle.bridges_shape.specs.RaisedLaws.{HasNumber, at_least, at_most, cone_of_one, equal, in_dual, in_set, low_cone, low_first, set_of_one}
 
 -- a group in a set with one number
@@ -43,16 +43,16 @@ pub data IsNumberGroup : Body → Type 0 where
       → IsNumberGroup (Group set vars)
 
 -- what is read of it
-record Read (b : Body) : Type 0 where
-  source : is_group b ≡ true
-  has : HasNumber (set_of b) (number_in (set_of b)) (cone_of (set_of b))
+pub record Read (b : Body) : Type 0 where
+  pub source : is_group b ≡ true
+  pub has : HasNumber (set_of b) (number_in (set_of b)) (cone_of (set_of b))
 
-read : {b : Body} → IsNumberGroup b → Read b
+pub read : {b : Body} → IsNumberGroup b → Read b
 read (group has) = record { source = refl; has = has }
 
-record Sourced (edge : Edge) (b : Body) : Type 0 where
-  group : IsNumberGroup b
-  leads : (vars : List Address) → LeadsTo edge (Group (cone_of (set_of b)) vars)
+pub record Sourced (edge : Edge) (b : Body) : Type 0 where
+  pub group : IsNumberGroup b
+  pub leads : (vars : List Address) → LeadsTo edge (Group (cone_of (set_of b)) vars)
 
 sourced : (edge : Edge) → family_of edge ≡ VectorizeVar → {b : Body} → OfKind (source_of edge) b
     → Sourced edge b
@@ -62,10 +62,11 @@ sourced E47 own group_greater_than = record { group = group at_least; leads = λ
 sourced E48 own group_equal_to = record { group = group equal; leads = λ vars. refl }
 sourced _ own k = of_another own refl
 
--- ---- on numbers
+pub rule : Rule VectorizeVar Sourced (λ edge. vectorize_var) (λ item ys. [])
+unfolding image_by back_by
+rule = record { image = λ edge item. refl; back = λ item ys. refl; sourced = sourced }
 
-unraised : (one c a s : Rational) → s ≡ (one *ℚ (c +ℚ a) +ℚ s) -ℚ one *ℚ (c +ℚ a)
-unraised = ring₄ _ (λ ρ. simp as_expression (by_ring ρ _ _ refl))
+-- ---- on numbers
 
 no_gap : (a q : Rational) → zero_ℚ ≡ a *ℚ q -ℚ (q *ℚ (zero_ℚ +ℚ a) +ℚ zero_ℚ)
 no_gap = ring₂ _ (λ ρ. simp (as_expression, zero_as ρ) (by_ring ρ _ _ refl))
@@ -81,32 +82,7 @@ raised-variable v q =
 -- ---- the law
 
 module _ (edge : Edge) (own : family_of edge ≡ VectorizeVar) where
-  pub image_is : (item : Item) → image_of edge item ≡ vectorize_var item
-  unfolding image_by
-  image_is item = ap (λ f. image_by f edge item) own
-
-  pub image_fits : (item : Item) → ImageFits edge item
-  unfolding FitsBy
-  image_fits item = subst (λ f. FitsBy f item) (sym own) tt
-
-  pub back_fits : (item : Item) (ys : List (List Rational)) → BackFits edge item ys
-  unfolding BackFitsBy
-  back_fits item ys = subst (λ f. BackFitsBy f item ys) (sym own) tt
-
-  source_at : (b : Body) → FitsItsFunction b → kind_of_body b ≡ source_of edge → Sourced edge b
-  source_at b h k = sourced edge own (subst (λ k. OfKind k b) k (of_kind b h))
-
-  pub is_number_group : (b : Body) → FitsItsFunction b → kind_of_body b ≡ source_of edge
-      → IsNumberGroup b
-  is_number_group b h k = (source_at b h k).group
-
-  -- it is no row, to which duals would be carried
-  pub no_row : (item : Item) → IsItemFor edge item → is_group item.body ≡ false → ⊥
-  no_row item suits none =
-      true≢false (sym (read (is_number_group item.body suits.valid.function suits.kind)).source
-      ∙ none)
-
-  -- so is an image that is made of these parts
+  -- so an image that is made of these parts is the item's
   pub image_made : (item : Item) (set : Set) (cone : Set) (number : Rational) (vars : List Address)
       (exprs : List Expression) (child : Item) (image : Image)
       → set ≡ set_of item.body → cone ≡ cone_of set → number ≡ number_in set → vars ≡ inner item 1
@@ -121,7 +97,7 @@ module _ (edge : Edge) (own : family_of edge ≡ VectorizeVar) where
       ∙ ap₂ (λ k n. group_by (child_at item 0 (Group k (inner item 1)) ∷ [])
       (Bridged (raised (variable (child_of (child_of item.at 0) 0)) n) ∷ []))
       (cone_is ∙ ap cone_of set_is) (number_is ∙ ap number_in set_is)
-      ∙ sym (image_is item)
+      ∙ sym (image_is rule edge own item)
 
   module _ (item : Item) (valid : IsValidItem item) (r : Read item.body)
       (leads : (vars : List Address) → LeadsTo edge (Group (cone_of (set_of item.body)) vars)) where
@@ -191,13 +167,9 @@ module _ (edge : Edge) (own : family_of edge ≡ VectorizeVar) where
       leads = leads (inner item 1);
     }
 
-  law_at : Lawful edge
-  law_at item suits =
-      let source = source_at item.body suits.valid.function suits.kind in
-      subst (EdgeLaw edge item) (sym (image_is item))
-      (one_group_law edge item (cone_of (set_of item.body)) 1
-      (raised (variable (child_of (child_of item.at 0) 0)) (number_in (set_of item.body)) ∷ [])
-      (one_group item suits.valid (read source.group) source.leads))
-
 pub vectorize_var_lawful : IsLawful VectorizeVar
-vectorize_var_lawful = lawful_family VectorizeVar law_at
+vectorize_var_lawful =
+    lawful_by rule (λ edge own item valid source.
+    one_group_law edge item (cone_of (set_of item.body)) 1
+    (raised (variable (child_of (child_of item.at 0) 0)) (number_in (set_of item.body)) ∷ [])
+    (one_group edge own item valid (read source.group) source.leads))

@@ -1,7 +1,7 @@
 //! `f ≤ u` is `(f - u) ≤ 0` with one component, and so for `≥` and `=`.
 //!
-//! - From: a plain or an affine row in `LessThan(u)`, `GreaterThan(l)` or `EqualTo(v)`, by the edges
-//!   5 to 10.
+//! - From: a plain or an affine row in `LessThan(u)`, `GreaterThan(l)` or `EqualTo(v)`, by the
+//!   edges 5 to 10.
 //! - To: at position 0 the affine vector row of `f - u`, `f - l` or `f - v` in `Nonpositives(1)`,
 //!   `Nonnegatives(1)` or `Zeros(1)`.
 //! - Dual: the child row's.

@@ -13,14 +13,14 @@ use Rattle.set_core.specs.Membership.{Dual, In, low_of}
 use Rattle.item_core.specs.declared.edge.Edge.TheVariants.{E39, E40}
 use Rattle.item_core.specs.declared.edge.Edge.{Edge}
 use Rattle.bridge_face.specs.Law.{EdgeLaw, IsLawful}
-use Rattle.bridge_face.specs.ImageOf.{FitsBy, ImageFits, image_by, image_of}
+use Rattle.bridge_face.specs.ImageOf.{image_by}
 use Rattle.item_core.specs.Valid.{IsValidItem}
 use Rattle.aff_core.specs.Function.{Function}
 use Rattle.dual_laws.specs.Held.{IsHeld, adjoint_of, gap_of}
 use Rattle.bridge_face.specs.OneRowLaws.{IsRow, row_held}
 use Rattle.bridge_face.specs.RowsLaws.{IsRowOf, MadeOfRows, rows_law}
 use Rattle.item_core.specs.declared.item.Item.{Item}
-use Rattle.bridge_face.specs.FamilyLaws.{Lawful, lawful_family, of_another}
+use Rattle.bridge_face.specs.FamilyLaws.{Rule, back_is, lawful_by, of_another}
 use Rattle.bridge_face.specs.Sources.{OfKind, of_kind, vaffine_reals, vplain_reals}
 use Rattle.ratio_core.specs.Rational.{Rational, zero_ℚ, ◌-ℚ◌}
 use Rattle.set_core.specs.declared.set.Set.TheVariants.{Reals}
@@ -45,6 +45,11 @@ is_any E39 own vplain_reals = any_plain
 is_any E40 own vaffine_reals = any_affine
 is_any _ own k = of_another own refl
 
+pub rule : Rule DropReals (λ edge. IsAny) (λ edge item. rows_at item [])
+    (λ item ys. replicate (size item) zero_ℚ)
+unfolding image_by back_by
+rule = record { image = λ edge item. refl; back = λ item ys. refl; sourced = is_any }
+
 -- what is read of it
 record Any (b : Body) : Type 0 where
   row : IsRow b
@@ -64,23 +69,6 @@ rows_alone rows = record { groups = []; exprs = []; rows = rows; objective = Non
 -- ---- the law
 
 module _ (edge : Edge) (own : family_of edge ≡ DropReals) where
-  pub image_is : (item : Item) → image_of edge item ≡ rows_at item []
-  unfolding image_by
-  image_is item = ap (λ f. image_by f edge item) own
-
-  pub back_is : (item : Item) (ys : List (List Rational))
-      → back_of edge item ys ≡ replicate (size item) zero_ℚ
-  unfolding back_by
-  back_is item ys = ap (λ f. back_by f item ys) own
-
-  pub image_fits : (item : Item) → ImageFits edge item
-  unfolding FitsBy
-  image_fits item = subst (λ f. FitsBy f item) (sym own) tt
-
-  pub back_fits : (item : Item) (ys : List (List Rational)) → BackFits edge item ys
-  unfolding BackFitsBy
-  back_fits item ys = subst (λ f. BackFitsBy f item ys) (sym own) tt
-
   module _ (item : Item) (valid : IsValidItem item) (any : Any item.body) where
     abbrev zeros : List Rational
     zeros = replicate (size item) zero_ℚ
@@ -101,24 +89,20 @@ module _ (edge : Edge) (own : family_of edge ≡ DropReals) where
       values = λ one x h below. subst (λ s. In (multiplied one s)
           (evaluations one (functions_of item.body) x)) (sym any.set) tt;
       holds = λ ys none hold.
-          subst (λ w. IsHeld (row_held item.body w)) (sym (back_is item ys)) (record {
+          subst (λ w. IsHeld (row_held item.body w)) (sym (back_is rule edge own item ys)) (record {
             set = valid.set;
             size = length-replicate (size item) zero_ℚ;
             dual = subst (λ s. Dual s zeros) (sym any.set) all_zero;
           });
       same = λ ys none hold v.
-          ap (λ w. adjoint_of (row_held item.body w) v) (back_is item ys)
+          ap (λ w. adjoint_of (row_held item.body w) v) (back_is rule edge own item ys)
           ∙ zeros_dot zeros (coefficients (functions_of item.body) v) all_zero;
       gaps = λ ys none hold.
-          ≤ℚ_from_≡ _ _ (sym (ap (λ w. gap_of (row_held item.body w)) (back_is item ys)
-          ∙ gap_none));
+          ≤ℚ_from_≡ _ _ (sym (ap (λ w. gap_of (row_held item.body w))
+          (back_is rule edge own item ys) ∙ gap_none));
     }
 
-  law_at : Lawful edge
-  law_at item suits =
-      subst (EdgeLaw edge item) (sym (image_is item))
-      (rows_law edge item [] (no_rows item suits.valid (read (is_any edge own
-      (subst (λ k. OfKind k item.body) suits.kind (of_kind item.body suits.valid.function))))))
-
 pub drop_reals_lawful : IsLawful DropReals
-drop_reals_lawful = lawful_family DropReals law_at
+drop_reals_lawful =
+    lawful_by rule (λ edge own item valid any.
+    rows_law edge item [] (no_rows edge own item valid (read any)))

@@ -15,16 +15,16 @@ use Rattle.item_core.specs.declared.edge.Edge.TheVariants.{E43}
 use Rattle.item_core.specs.declared.edge.Edge.{Edge}
 use Rattle.bridge_face.specs.Law.{EdgeLaw, IsItemFor, IsLawful, LeadsTo, Miss, growth}
 use Rattle.item_core.specs.declared.image.Expression.{Expression}
-use Rattle.bridge_face.specs.ImageOf.{FitsBy, ImageFits, bridged, differences, free_var, group_at, image_by, image_of, inner}
+use Rattle.bridge_face.specs.ImageOf.{bridged, differences, free_var, group_at, image_by, image_of, inner}
 use Rattle.item_core.specs.Valid.{FitsItsFunction, IsValidItem}
 use Rattle.item_core.specs.declared.family.Family.TheVariants.{FreeVar}
 use Rattle.aff_core.specs.Function.{Function, coefficient, variable}
 use Rattle.item_core.specs.declared.item.Body.TheVariants.{Group}
 use Rattle.item_core.specs.declared.image.Image.{Image}
 use Rattle.item_core.specs.declared.item.Item.{Item}
-use Rattle.bridge_face.specs.FamilyLaws.{Lawful, lawful_family, of_another}
+use Rattle.bridge_face.specs.FamilyLaws.{Rule, image_is, lawful_by, of_another}
 use Rattle.set_core.specs.declared.set.Set.TheVariants.{Nonnegatives, Reals}
-use Rattle.bridge_face.specs.Sources.{OfKind, group_reals, of_kind}
+use Rattle.bridge_face.specs.Sources.{OfKind, group_reals}
 use Rattle.bridge_face.specs.GroupLaws.{OneGroup, one_group_law}
 use Rattle.ratio_core.specs.Rational.{Rational, neg_ℚ, zero_ℚ, ◌+ℚ◌, ◌-ℚ◌, ◌≤ℚ◌}
 use Rattle.bridge_face.specs.ComponentLaws.{all_components, all_components_within, components-append, components_from, constant-variable, dot_missed, map_same_on, not_contained, other_child, variables, variables_missed, weighed, weighed_from}
@@ -37,45 +37,28 @@ use Rattle.item_core.specs.Edge.{edge_entry, family_of, source_of}
 use Rattle.item_core.specs.Item.{is_group, set_of}
 use Rattle.item_core.specs.KindOf.{kind_of_body}
 use Rattle.set_core.specs.Mirrored.{multiplied}
-use Rattle.bridge_face.specs.BackOf.{size}
+use Rattle.bridge_face.specs.BackOf.{back_by, size}
 use Rattle.rational_laws.specs.Order.{≤ℚ_antisymm, ≤ℚ_from_nonneg}
 use Rattle.item_core.specs.declared.kind.Kind.TheVariants as kind
 use Rattle.rational_laws.specs.Dot as numbers
 
--- a group of variables without bounds
-pub data IsReals : Body → Type 0 where
-  reals : {vars : List Address} {n : ℕ} → IsReals (Group (Reals n) vars)
+-- a group of variables without bounds, of which the edge makes one of its kind
+pub record Sourced (edge : Edge) (b : Body) : Type 0 where
+  pub count : ℕ
+  pub set : set_of b ≡ Reals count
+  pub group : is_group b ≡ true
+  pub leads : (n : ℕ) (vars : List Address) → LeadsTo edge (Group (Nonnegatives n) vars)
 
-sourced_only : {b : Body} → OfKind kind.GroupReals b → IsReals b
-sourced_only group_reals = reals
-
-is_reals : (edge : Edge) → family_of edge ≡ FreeVar
-    → (b : Body) → FitsItsFunction b → kind_of_body b ≡ source_of edge → IsReals b
-unfolding edge_entry
-is_reals E43 own b h k = sourced_only (subst (λ k. OfKind k b) k (of_kind b h))
-is_reals _ own b h k = of_another own refl
-
-leads_to : (edge : Edge) → family_of edge ≡ FreeVar → (n : ℕ) (vars : List Address)
-    → LeadsTo edge (Group (Nonnegatives n) vars)
+sourced : (edge : Edge) → family_of edge ≡ FreeVar → {b : Body} → OfKind (source_of edge) b
+    → Sourced edge b
 unfolding edge_entry kind_of_body
-leads_to E43 own n vars = refl
-leads_to _ own n vars = of_another own refl
+sourced E43 own (group_reals {vars} {n}) =
+    record { count = n; set = refl; group = refl; leads = λ n vars. refl }
+sourced _ own k = of_another own refl
 
--- what is read of it
-record Unbounded (b : Body) : Type 0 where
-  count : ℕ
-  set : set_of b ≡ Reals count
-  group : is_group b ≡ true
-
-read : {b : Body} → IsReals b → Unbounded b
-read (reals {vars} {n}) = record { count = n; set = refl; group = refl }
-
--- it is no row, to which duals would be carried
-pub no_row : (edge : Edge) → family_of edge ≡ FreeVar → (item : Item) → IsItemFor edge item
-    → is_group item.body ≡ false → ⊥
-no_row edge own item suits none =
-    true≢false (sym (read (is_reals edge own item.body suits.valid.function suits.kind)).group
-    ∙ none)
+pub rule : Rule FreeVar Sourced (λ edge. free_var) (λ item ys. [])
+unfolding image_by back_by
+rule = record { image = λ edge item. refl; back = λ item ys. refl; sourced = sourced }
 
 -- ---- two halves
 
@@ -250,15 +233,7 @@ constants_split at d =
 -- ---- the law
 
 module _ (edge : Edge) (own : family_of edge ≡ FreeVar) where
-  pub image_is : (item : Item) → image_of edge item ≡ free_var item
-  unfolding image_by
-  image_is item = ap (λ f. image_by f edge item) own
-
-  pub image_fits : (item : Item) → ImageFits edge item
-  unfolding FitsBy
-  image_fits item = subst (λ f. FitsBy f item) (sym own) tt
-
-  -- so is an image that is made of these parts
+  -- so an image that is made of these parts is the item's
   pub image_made : (item : Item) (d both : ℕ) (vars : List Address) (exprs : List Expression)
       (group : Item) (image : Image)
       → d ≡ size item → both ≡ d + d → vars ≡ inner item both
@@ -277,9 +252,9 @@ module _ (edge : Edge) (own : family_of edge ≡ FreeVar) where
       (map (halved (child_of item.at 0) n) (range_with_len 0 n))) d_is
       ∙ ap (λ es. group_by (group_at item (Nonnegatives (size item + size item))
       (size item + size item) ∷ []) es) (sym (halved_are (child_of item.at 0) (size item)))
-      ∙ sym (image_is item)
+      ∙ sym (image_is rule edge own item)
 
-  module _ (item : Item) (valid : IsValidItem item) (free : Unbounded item.body) where
+  module _ (item : Item) (valid : IsValidItem item) (free : Sourced edge item.body) where
     abbrev d : ℕ
     d = size item
 
@@ -322,7 +297,7 @@ module _ (edge : Edge) (own : family_of edge ≡ FreeVar) where
         uncrossed = refl;
       };
       grows = subst (λ n. d + d ≤ n * d) (sym (ap growth own)) (omega arith);
-      leads = leads_to edge own (d + d) (inner item (d + d));
+      leads = free.leads (d + d) (inner item (d + d));
     }
 
     free_law : EdgeLaw edge item (free_var item)
@@ -331,11 +306,5 @@ module _ (edge : Edge) (own : family_of edge ≡ FreeVar) where
         (bridged fs))) (sym (split_is at d))
         (one_group_law edge item (Nonnegatives (d + d)) (d + d) (split at d) one_group)
 
-  law_at : Lawful edge
-  law_at item suits =
-      subst (EdgeLaw edge item) (sym (image_is item))
-      (free_law item suits.valid (read (is_reals edge own item.body suits.valid.function
-      suits.kind)))
-
 pub free_var_lawful : IsLawful FreeVar
-free_var_lawful = lawful_family FreeVar law_at
+free_var_lawful = lawful_by rule free_law

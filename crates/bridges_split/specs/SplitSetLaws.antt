@@ -13,17 +13,18 @@ use Rattle.set_core.specs.Membership.{Dual, In, low_of}
 use Rattle.dual_laws.specs.Held.{DualsHold, Held, Holds, IsHeld, adjoint, adjoint_of, gap, gap_of}
 use Rattle.item_core.specs.declared.edge.Edge.TheVariants.{E11, E12, E13, E14}
 use Rattle.item_core.specs.declared.edge.Edge.{Edge}
-use Rattle.bridge_face.specs.Law.{EdgeLaw, IsLawful, LeadsTo, Miss, growth, is_objective, IsItemFor}
+use Rattle.bridge_face.specs.Law.{IsLawful, LeadsTo, Miss, growth, is_objective, IsItemFor}
 use Rattle.set_core.specs.declared.set.Set.TheVariants.{EqualTo, GreaterThan, Interval, LessThan, Nonnegatives, Nonpositives, Zeros}
-use Rattle.bridge_face.specs.ImageOf.{FitsBy, ImageFits, image_by, image_of}
+use Rattle.bridge_face.specs.ImageOf.{image_by}
 use Rattle.item_core.specs.Valid.{FitsItsFunction, IsValidItem, NamesNothingBelow}
 use Rattle.aff_core.specs.Function.{Function, coefficient}
 use Rattle.bridge_face.specs.OneRowLaws.{IsRow, row_held}
 use Rattle.bridge_face.specs.RowsLaws.{IsRowOf, MadeOfRows, rows_held, rows_law}
 use Rattle.set_core.specs.Shapes.{IsSetOf, is_crossed}
 use Rattle.item_core.specs.declared.item.Item.{Item}
-use Rattle.bridge_face.specs.FamilyLaws.{Lawful, lawful_family, of_another, dual_sizes, kept_by}
-use Rattle.bridge_face.specs.Sources.{OfKind, affine_equal_to, of_kind, vaffine_zeros}
+use Rattle.bridge_face.specs.FamilyLaws.{Rule, back_is, dual_sizes, image_is, kept_by, lawful_by, of_another, source_is}
+use Rattle.bridge_face.specs.BackOf as backs
+use Rattle.bridge_face.specs.Sources.{OfKind, affine_equal_to, vaffine_zeros}
 use Rattle.ratio_core.specs.Rational.{Rational, fits, neg_ℚ, rational_cmp, zero_ℚ, ◌*ℚ◌, ◌+ℚ◌, ◌-ℚ◌, ◌≤ℚ◌}
 use Rattle.set_core.specs.declared.set.Set.{Set}
 use Rattle.item_core.specs.declared.family.Family.TheVariants.{SplitSet}
@@ -79,10 +80,10 @@ lower b = with_set b (lower_part (set_of b))
 abbrev pub upper : Body → Body
 upper b = with_set b (upper_part (set_of b))
 
-record Sourced (edge : Edge) (b : Body) : Type 0 where
-  split : IsSplit b
-  lower_leads : LeadsTo edge (lower b)
-  upper_leads : LeadsTo edge (upper b)
+pub record Sourced (edge : Edge) (b : Body) : Type 0 where
+  pub split : IsSplit b
+  pub lower_leads : LeadsTo edge (lower b)
+  pub upper_leads : LeadsTo edge (upper b)
 
 sourced : (edge : Edge) → family_of edge ≡ SplitSet → {b : Body} → OfKind (source_of edge) b
     → Sourced edge b
@@ -96,6 +97,12 @@ sourced E13 own affine_equal_to =
 sourced E14 own vaffine_zeros =
     record { split = affine_zeros; lower_leads = refl; upper_leads = refl }
 sourced _ own k = of_another own refl
+
+pub rule : Rule SplitSet Sourced
+    (λ edge item. rows_at item (lower item.body ∷ upper item.body ∷ []))
+    (λ item ys. plus (backs.first_of ys) (backs.second_of ys))
+unfolding image_by back_by
+rule = record { image = λ edge item. refl; back = λ item ys. refl; sourced = sourced }
 
 -- ---- a set and the two that have its vectors in common
 
@@ -234,19 +241,6 @@ second_size (n ∷ (m ∷ ms)) = m
 -- ---- the law
 
 module _ (edge : Edge) (own : family_of edge ≡ SplitSet) where
-  pub image_is : (item : Item)
-      → image_of edge item ≡ rows_at item (lower item.body ∷ upper item.body ∷ [])
-  unfolding image_by
-  image_is item = ap (λ f. image_by f edge item) own
-
-  pub back_is : (item : Item) (p q : List Rational) → back_of edge item (p ∷ q ∷ []) ≡ plus p q
-  unfolding back_by
-  back_is item p q = ap (λ f. back_by f item (p ∷ q ∷ [])) own
-
-  pub image_fits : (item : Item) → ImageFits edge item
-  unfolding FitsBy
-  image_fits item = subst (λ f. FitsBy f item) (sym own) tt
-
   pub back_fits : (item : Item) (p q : List Rational)
       → BackFits edge item (p ∷ q ∷ []) ≡ SumsFit p q
   unfolding BackFitsBy
@@ -261,18 +255,12 @@ module _ (edge : Edge) (own : family_of edge ≡ SplitSet) where
       subst (λ zs. ExactWhere r (BackFits edge item zs) (λ x. x ≡ back_of edge item zs))
       (sym ys_are)
       (subst (λ v. ExactWhere r (BackFits edge item (p ∷ q ∷ [])) (λ x. x ≡ v))
-      (sym (back_is item p q))
+      (sym (back_is rule edge own item (p ∷ q ∷ [])))
       (exact_as r (SumsFit p q) (BackFits edge item (p ∷ q ∷ [])) (λ x. x ≡ plus p q)
       (λ x. x ≡ plus p q)
       (subst (λ T. T) (sym (back_fits item p q))) (subst (λ T. T) (back_fits item p q)) (λ x e. e)
       (subst (λ u. ExactWhere r (SumsFit u q) (λ x. x ≡ plus u q)) a_is
       (subst (λ v. ExactWhere r (SumsFit a v) (λ x. x ≡ plus a v)) b_is said))))
-
-  source_at : (b : Body) → FitsItsFunction b → kind_of_body b ≡ source_of edge → Sourced edge b
-  source_at b h k = sourced edge own (subst (λ k. OfKind k b) k (of_kind b h))
-
-  pub is_split : (b : Body) → FitsItsFunction b → kind_of_body b ≡ source_of edge → IsSplit b
-  is_split b h k = (source_at b h k).split
 
   module _ (item : Item) (valid : IsValidItem item) (p : Parted item.body) where
     abbrev fs : List Function
@@ -368,6 +356,9 @@ module _ (edge : Edge) (own : family_of edge ≡ SplitSet) where
           (neg_ℚ (dot (plus u w) (constants fs)))
           (p.splits.lows u w first.size second.size first.dual second.dual))
 
+    back_of_two : (u w : List Rational) → back_of edge item (u ∷ w ∷ []) ≡ plus u w
+    back_of_two u w = back_is rule edge own item (u ∷ w ∷ [])
+
     -- what is said of the only two duals
     of_two : (P : List (List Rational) → Type 0)
         → ((u w : List Rational) → P (u ∷ w ∷ [])) → (ys : List (List Rational)) → length ys ≡ 2
@@ -396,17 +387,17 @@ module _ (edge : Edge) (own : family_of edge ≡ SplitSet) where
           (upper item.body ∷ []) below)));
       holds = of_two (λ ys. DualsHold (rows_held bodies ys)
           → IsHeld (row_held item.body (back_of edge item ys)))
-          (λ u w hold. subst (λ z. IsHeld (row_held item.body z)) (sym (back_is item u w))
+          (λ u w hold. subst (λ z. IsHeld (row_held item.body z)) (sym (back_of_two u w))
           (two_hold u w hold));
       same = of_two (λ ys. DualsHold (rows_held bodies ys) → (v : Address)
           → adjoint_of (row_held item.body (back_of edge item ys)) v
           ≡ adjoint (rows_held bodies ys) v)
-          (λ u w hold v. ap (λ z. adjoint_of (row_held item.body z) v) (back_is item u w)
+          (λ u w hold v. ap (λ z. adjoint_of (row_held item.body z) v) (back_of_two u w)
           ∙ two_same u w hold v);
       gaps = of_two (λ ys. DualsHold (rows_held bodies ys)
           → gap (rows_held bodies ys) ≤ℚ gap_of (row_held item.body (back_of edge item ys)))
           (λ u w hold. subst (λ z. gap (rows_held bodies (u ∷ w ∷ [])) ≤ℚ gap_of
-          (row_held item.body z)) (sym (back_is item u w)) (two_gaps u w hold));
+          (row_held item.body z)) (sym (back_of_two u w)) (two_gaps u w hold));
     }
 
   -- the two duals are of one length
@@ -415,22 +406,19 @@ module _ (edge : Edge) (own : family_of edge ≡ SplitSet) where
       → TakesDuals (kept_by edge item) ys → ys ≡ p ∷ q ∷ [] → length p ≡ length q
   unfolding first_size second_size
   same_sizes item suits ys p q takes ys_are =
-      let parts = parted (is_split item.body suits.valid.function suits.kind) suits.valid.set in
+      let parts = parted (source_is rule edge own item suits).split suits.valid.set in
       let low = lower item.body in
       let high = upper item.body in
       let sizes : map length (p ∷ q ∷ []) ≡ map (λ b. length (functions_of b)) (low ∷ high ∷ []) =
       ap (map length) (sym ys_are)
-      ∙ dual_sizes edge item (rows_at item (low ∷ high ∷ [])) (image_is item) ys takes in
+      ∙ dual_sizes edge item (rows_at item (low ∷ high ∷ [])) (image_is rule edge own item) ys
+      takes in
       ap first_size sizes ∙ ap length (parts.lower.same ∙ sym parts.upper.same)
       ∙ sym (ap second_size sizes)
 
-  law_at : Lawful edge
-  law_at item suits =
-      let source = source_at item.body suits.valid.function suits.kind in
-      subst (EdgeLaw edge item) (sym (image_is item))
-      (rows_law edge item (lower item.body ∷ upper item.body ∷ [])
-      (two_rows item suits.valid (parted source.split suits.valid.set) source.lower_leads
-      source.upper_leads))
-
 pub split_set_lawful : IsLawful SplitSet
-split_set_lawful = lawful_family SplitSet law_at
+split_set_lawful =
+    lawful_by rule (λ edge own item valid source.
+    rows_law edge item (lower item.body ∷ upper item.body ∷ [])
+    (two_rows edge own item valid (parted source.split valid.set) source.lower_leads
+    source.upper_leads))

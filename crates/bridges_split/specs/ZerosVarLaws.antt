@@ -1,26 +1,25 @@
 -- The law of ZerosVar: variables that are 0 need no variables.
-use Rattle.std.specs.Prelude.{All, List, [], false, length, map, refl, replicate, true, ℕ, ◌∷◌, ◌≡◌, None}
+use Rattle.std.specs.Prelude.{All, List, [], length, map, refl, replicate, true, ℕ, ◌∷◌, ◌≡◌, None}
 use Rattle.std.proofs.lemmas.List.Elements.{All-cons, All-map, All-nil}
-use Rattle.std.proofs.Common.{ap, ap₂, arith, subst, sym, true≢false, ◌∙◌}
+use Rattle.std.proofs.Common.{ap, ap₂, arith, subst, sym, ◌∙◌}
 use Rattle.std.proofs.lemmas.List.{length-map}
 use Rattle.rational_laws.specs.Field.{*ℚ-zero, -ℚ-itself}
 use Rattle.aff_core.specs.Address.{Address, address_cmp}
-use Rattle.bridge_face.specs.Law.{Balances, EdgeLaw, GrowsBy, HasComponents, IsCovered, IsItemFor, IsLawful, IsValidWithin, LeadsTo, MentionsKnown, Miss, expressed, growth, held_item}
+use Rattle.bridge_face.specs.Law.{Balances, EdgeLaw, GrowsBy, HasComponents, IsCovered, IsLawful, IsValidWithin, LeadsTo, MentionsKnown, Miss, expressed, growth, held_item}
 use Rattle.item_core.specs.declared.item.Body.{Body}
 use Rattle.item_core.specs.declared.image.Expression.TheVariants.{Bridged}
 use Rattle.item_core.specs.declared.edge.Edge.TheVariants.{E45}
 use Rattle.item_core.specs.declared.edge.Edge.{Edge}
 use Rattle.item_core.specs.declared.image.Expression.{Expression}
-use Rattle.bridge_face.specs.ImageOf.{FitsBy, ImageFits, bridged, image_by, image_of, zeros_var}
-use Rattle.item_core.specs.Valid.{FitsItsFunction, IsValidItem}
+use Rattle.bridge_face.specs.ImageOf.{bridged, image_by, zeros_var}
+use Rattle.item_core.specs.Valid.{IsValidItem}
 use Rattle.aff_core.specs.Function.{Function, coefficient, constant_function, evaluated}
-use Rattle.item_core.specs.declared.item.Body.TheVariants.{Group}
 use Rattle.dual_laws.specs.Held.{Holds, IsHeld, adjoint_of, gap_of}
 use Rattle.item_core.specs.declared.image.Image.{Image}
 use Rattle.set_core.specs.Shapes.{IsSetOf}
 use Rattle.item_core.specs.declared.item.Item.{Item}
-use Rattle.bridge_face.specs.FamilyLaws.{Lawful, lawful_family, of_another}
-use Rattle.bridge_face.specs.Sources.{OfKind, group_zeros, of_kind}
+use Rattle.bridge_face.specs.FamilyLaws.{Rule, lawful_by, of_another}
+use Rattle.bridge_face.specs.Sources.{OfKind, group_zeros}
 use Rattle.ratio_core.specs.Rational.{Rational, zero_ℚ, ◌-ℚ◌}
 use Rattle.set_core.specs.declared.set.Set.TheVariants.{Zeros}
 use Rattle.item_core.specs.declared.family.Family.TheVariants.{ZerosVar}
@@ -33,39 +32,24 @@ use Rattle.item_core.specs.Edge.{edge_entry, family_of, source_of}
 use Rattle.linear_laws.specs.ListLaws.{evaluated_constant_function}
 use Rattle.bridge_face.specs.GroupLaws.{expressed-bridged, group_held, held_of}
 use Rattle.item_core.specs.Item.{functions_of, is_group, set_of}
-use Rattle.item_core.specs.KindOf.{kind_of_body}
-use Rattle.bridge_face.specs.BackOf.{size}
+use Rattle.bridge_face.specs.BackOf.{back_by, size}
 use Rattle.rational_laws.specs.Order.{≤ℚ_from_≡}
-use Rattle.item_core.specs.declared.kind.Kind.TheVariants as kind
 
 -- a group of variables that are 0
-pub data IsZeros : Body → Type 0 where
-  zeros : {vars : List Address} {n : ℕ} → IsZeros (Group (Zeros n) vars)
+pub record AtZero (b : Body) : Type 0 where
+  pub count : ℕ
+  pub set : set_of b ≡ Zeros count
+  pub group : is_group b ≡ true
 
-sourced_only : {b : Body} → OfKind kind.GroupZeros b → IsZeros b
-sourced_only group_zeros = zeros
-
-is_zeros : (edge : Edge) → family_of edge ≡ ZerosVar
-    → (b : Body) → FitsItsFunction b → kind_of_body b ≡ source_of edge → IsZeros b
+sourced : (edge : Edge) → family_of edge ≡ ZerosVar → {b : Body} → OfKind (source_of edge) b
+    → AtZero b
 unfolding edge_entry
-is_zeros E45 own b h k = sourced_only (subst (λ k. OfKind k b) k (of_kind b h))
-is_zeros _ own b h k = of_another own refl
+sourced E45 own (group_zeros {vars} {n}) = record { count = n; set = refl; group = refl }
+sourced _ own k = of_another own refl
 
--- what is read of it
-record AtZero (b : Body) : Type 0 where
-  count : ℕ
-  set : set_of b ≡ Zeros count
-  group : is_group b ≡ true
-
-read : {b : Body} → IsZeros b → AtZero b
-read (zeros {vars} {n}) = record { count = n; set = refl; group = refl }
-
--- it is no row, to which duals would be carried
-pub no_row : (edge : Edge) → family_of edge ≡ ZerosVar → (item : Item) → IsItemFor edge item
-    → is_group item.body ≡ false → ⊥
-no_row edge own item suits none =
-    true≢false (sym (read (is_zeros edge own item.body suits.valid.function suits.kind)).group
-    ∙ none)
+pub rule : Rule ZerosVar (λ edge. AtZero) (λ edge. zeros_var) (λ item ys. [])
+unfolding image_by back_by
+rule = record { image = λ edge item. refl; back = λ item ys. refl; sourced = sourced }
 
 -- ---- functions that are 0
 
@@ -102,81 +86,66 @@ image_of_parts groups exprs rows =
 
 -- ---- the law
 
-module _ (edge : Edge) (own : family_of edge ≡ ZerosVar) where
-  pub image_is : (item : Item) → image_of edge item ≡ zeros_var item
-  unfolding image_by
-  image_is item = ap (λ f. image_by f edge item) own
+module _ (edge : Edge) (item : Item) (valid : IsValidItem item) (at_zero : AtZero item.body) where
+  abbrev fs : List Function
+  fs = nothings (functions_of item.body)
 
-  pub image_fits : (item : Item) → ImageFits edge item
-  unfolding FitsBy
-  image_fits item = subst (λ f. FitsBy f item) (sym own) tt
+  abbrev image : Image
+  image = zeros_var item
 
-  module _ (item : Item) (valid : IsValidItem item) (at_zero : AtZero item.body) where
-    abbrev fs : List Function
-    fs = nothings (functions_of item.body)
+  item_is : (bound : Rational) (w : List Rational)
+      → held_item bound item image w ≡ held_of w fs (Zeros at_zero.count)
+  item_is bound w =
+      group_held bound item.body w (map expressed image.exprs) at_zero.group
+      ∙ ap₂ (held_of w) (expressed-bridged fs) at_zero.set
 
-    abbrev image : Image
-    image = zeros_var item
+  long : length fs ≡ length (functions_of item.body)
+  long = length-map (functions_of item.body) (λ _. nothing)
 
-    item_is : (bound : Rational) (w : List Rational)
-        → held_item bound item image w ≡ held_of w fs (Zeros at_zero.count)
-    item_is bound w =
-        group_held bound item.body w (map expressed image.exprs) at_zero.group
-        ∙ ap₂ (held_of w) (expressed-bridged fs) at_zero.set
+  covered : (bound : Rational) (gs ys os : List (List Rational)) (w : List Rational)
+      → Balances bound edge item image (record { groups = gs; rows = ys; objective = os }) w
+      → IsCovered bound item image (record { groups = gs; rows = ys; objective = os }) w
+  covered bound (g ∷ gs) ys os w b = absurd (omega (arith, b.each.groups))
+  covered bound [] (y ∷ ys) os w b = absurd (omega (arith, b.each.rows))
+  covered bound [] [] (u ∷ us) w b = absurd (omega (arith, b.each.objective))
+  covered bound [] [] [] w b = record {
+    holds = subst IsHeld (sym (item_is bound w)) (record {
+      set = subst (λ m. IsSetOf m (Zeros at_zero.count)) (sym long)
+          (subst (IsSetOf (size item)) at_zero.set valid.set);
+      size = b.carries.by_component at_zero.group ∙ sym long;
+      dual = tt;
+    });
+    same = λ v. ap (λ k. adjoint_of k v) (item_is bound w)
+        ∙ dot_missed w fs v (missed (functions_of item.body) v);
+    gaps = ≤ℚ_from_≡ _ _ (sym
+        (ap gap_of (item_is bound w)
+        ∙ ap (λ q. zero_ℚ
+        -ℚ q) (dot_zeros w (constants fs) (All-map (λ q. q ≡ zero_ℚ) (λ f. f.constant) fs
+        (all_nothing (λ f. f.constant ≡ zero_ℚ) constant-nothing (functions_of item.body))))
+        ∙ -ℚ-itself zero_ℚ));
+  }
 
-    long : length fs ≡ length (functions_of item.body)
-    long = length-map (functions_of item.body) (λ _. nothing)
-
-    covered : (bound : Rational) (gs ys os : List (List Rational)) (w : List Rational)
-        → Balances bound edge item image (record { groups = gs; rows = ys; objective = os }) w
-        → IsCovered bound item image (record { groups = gs; rows = ys; objective = os }) w
-    covered bound (g ∷ gs) ys os w b = absurd (omega (arith, b.each.groups))
-    covered bound [] (y ∷ ys) os w b = absurd (omega (arith, b.each.rows))
-    covered bound [] [] (u ∷ us) w b = absurd (omega (arith, b.each.objective))
-    covered bound [] [] [] w b = record {
-      holds = subst IsHeld (sym (item_is bound w)) (record {
-        set = subst (λ m. IsSetOf m (Zeros at_zero.count)) (sym long)
-            (subst (IsSetOf (size item)) at_zero.set valid.set);
-        size = b.carries.by_component at_zero.group ∙ sym long;
-        dual = tt;
-      });
-      same = λ v. ap (λ k. adjoint_of k v) (item_is bound w)
-          ∙ dot_missed w fs v (missed (functions_of item.body) v);
-      gaps = ≤ℚ_from_≡ _ _ (sym
-          (ap gap_of (item_is bound w)
-          ∙ ap (λ q. zero_ℚ
-          -ℚ q) (dot_zeros w (constants fs) (All-map (λ q. q ≡ zero_ℚ) (λ f. f.constant) fs
-          (all_nothing (λ f. f.constant ≡ zero_ℚ) constant-nothing (functions_of item.body))))
-          ∙ -ℚ-itself zero_ℚ));
-    }
-
-    zeros_law : EdgeLaw edge item image
-    zeros_law = record {
-      values = record {
-        holds = λ no_objective one x h below.
-            subst (λ k. Holds one k x) (sym (item_is zero_ℚ []))
-            (All-map (λ q. q ≡ zero_ℚ) (λ f. evaluated one f x) fs
-            (all_nothing (λ f. evaluated one f x ≡ zero_ℚ)
-            (evaluated_constant_function one zero_ℚ x ∙ *ℚ-zero one) (functions_of item.body)));
-        costs = λ one x h below. All-nil _;
-      };
-      duals = λ bound duals w b. covered bound duals.groups duals.rows duals.objective w b;
-      positions = refl;
-      valid = λ room. All-nil IsValidWithin;
-      sizes = All-nil (GrowsBy (growth (family_of edge)) item);
-      kinds = All-nil (λ child. LeadsTo edge child.body);
-      components = All-nil HasComponents;
-      mentioned = All-nil (MentionsKnown item image);
-      exprs = λ _. length-map fs Bridged ∙ long;
-      expressed = λ v absent. subst (λ gs. Miss gs v) (sym (expressed-bridged fs))
-          (missed (functions_of item.body) v);
-    }
-
-  law_at : Lawful edge
-  law_at item suits =
-      subst (EdgeLaw edge item) (sym (image_is item))
-      (zeros_law item suits.valid (read (is_zeros edge own item.body suits.valid.function
-      suits.kind)))
+  zeros_law : EdgeLaw edge item image
+  zeros_law = record {
+    values = record {
+      holds = λ no_objective one x h below.
+          subst (λ k. Holds one k x) (sym (item_is zero_ℚ []))
+          (All-map (λ q. q ≡ zero_ℚ) (λ f. evaluated one f x) fs
+          (all_nothing (λ f. evaluated one f x ≡ zero_ℚ)
+          (evaluated_constant_function one zero_ℚ x ∙ *ℚ-zero one) (functions_of item.body)));
+      costs = λ one x h below. All-nil _;
+    };
+    duals = λ bound duals w b. covered bound duals.groups duals.rows duals.objective w b;
+    positions = refl;
+    valid = λ room. All-nil IsValidWithin;
+    sizes = All-nil (GrowsBy (growth (family_of edge)) item);
+    kinds = All-nil (λ child. LeadsTo edge child.body);
+    components = All-nil HasComponents;
+    mentioned = All-nil (MentionsKnown item image);
+    exprs = λ _. length-map fs Bridged ∙ long;
+    expressed = λ v absent. subst (λ gs. Miss gs v) (sym (expressed-bridged fs))
+        (missed (functions_of item.body) v);
+  }
 
 pub zeros_var_lawful : IsLawful ZerosVar
-zeros_var_lawful = lawful_family ZerosVar law_at
+zeros_var_lawful = lawful_by rule (λ edge own item valid at_zero. zeros_law edge item valid at_zero)

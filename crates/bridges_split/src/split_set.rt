@@ -1,7 +1,7 @@
 //! A row in a set that is what two others have in common is a row in each of them.
 //!
-//! - From: a plain or an affine row in `Interval(l, u)`, an affine row in `EqualTo(v)`, or an affine
-//!   vector row in `Zeros`, by the edges 11 to 14.
+//! - From: a plain or an affine row in `Interval(l, u)`, an affine row in `EqualTo(v)`, or an
+//!   affine vector row in `Zeros`, by the edges 11 to 14.
 //! - To: at position 0 the row in `GreaterThan(l)`, `GreaterThan(v)` or `Nonnegatives`, and at
 //!   position 1 the row in `LessThan(u)`, `LessThan(v)` or `Nonpositives`.
 //! - Dual: the first child's numbers plus the second's.

@@ -1,6 +1,8 @@
-use Rattle.bridges_flip.specs.NonposVarLaws.{no_row}
+use Rattle.std.proofs.Common.{sym, ◌∙◌, true≢false}
+use Rattle.bridge_face.specs.FamilyLaws.{source_is}
+use Rattle.bridges_flip.specs.NonposVarLaws.{rule}
 use Rattle.bridges_flip.proofs.nonpos_var.NonposVarRuleRewriting.back.Goals as goal
 
 pub unreachable-requires : goal.unreachable-requires
 unreachable-requires c =
-    no_row c.args._edge c.requires.own c.args._item.now c.requires.suits c.requires.duals.no_group
+    true≢false (sym (source_is rule c.args._edge c.requires.own c.args._item.now c.requires.suits).group ∙ c.requires.duals.no_group)

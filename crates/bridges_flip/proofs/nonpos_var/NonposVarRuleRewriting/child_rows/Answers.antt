@@ -1,8 +1,8 @@
-use Rattle.bridge_face.specs.FamilyLaws.{child_rows_are}
+use Rattle.bridge_face.specs.FamilyLaws.{child_rows_are, image_is}
 use Rattle.bridge_face.specs.ImageOf.{nonpos_var}
-use Rattle.bridges_flip.specs.NonposVarLaws.{image_is}
+use Rattle.bridges_flip.specs.NonposVarLaws.{rule}
 use Rattle.bridges_flip.proofs.nonpos_var.NonposVarRuleRewriting.child_rows.Goals as goal
 
 pub returns : goal.returns
 returns c =
-    child_rows_are c.args._edge c.args._item.now (nonpos_var c.args._item.now) (image_is c.args._edge c.requires.own c.args._item.now)
+    child_rows_are c.args._edge c.args._item.now (nonpos_var c.args._item.now) (image_is rule c.args._edge c.requires.own c.args._item.now)

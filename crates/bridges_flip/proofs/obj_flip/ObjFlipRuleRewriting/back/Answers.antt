@@ -1,6 +1,8 @@
-use Rattle.bridges_flip.specs.ObjFlipLaws.{no_row}
+use Rattle.std.proofs.Common.{sym, ◌∙◌, true≢false}
+use Rattle.bridge_face.specs.FamilyLaws.{source_is}
+use Rattle.bridges_flip.specs.ObjFlipLaws.{replaces, rule}
 use Rattle.bridges_flip.proofs.obj_flip.ObjFlipRuleRewriting.back.Goals as goal
 
 pub unreachable-requires : goal.unreachable-requires
 unreachable-requires c =
-    no_row c.args._edge c.requires.own c.args._item.now c.requires.suits c.requires.duals.no_objective
+    true≢false (sym (replaces (source_is rule c.args._edge c.requires.own c.args._item.now c.requires.suits).source).source ∙ c.requires.duals.no_objective)

@@ -1,9 +1,9 @@
-use Rattle.bridge_face.specs.FamilyLaws.{child_rows_are}
+use Rattle.bridge_face.specs.FamilyLaws.{child_rows_are, image_is}
 use Rattle.bridge_face.specs.Images.{row_at}
-use Rattle.bridges_shape.specs.FunctionizeLaws.{image_is, made}
-use Rattle.bridges_shape.specs.ScalarFunctionizeLaws.{functionizes}
+use Rattle.bridges_shape.specs.FunctionizeLaws.{made}
+use Rattle.bridges_shape.specs.ScalarFunctionizeLaws.{rule}
 use Rattle.bridges_shape.proofs.scalar_functionize.ScalarFunctionizeRuleRewriting.child_rows.Goals as goal
 
 pub returns : goal.returns
 returns c =
-    child_rows_are c.args._edge c.args._item.now (row_at c.args._item.now (made c.args._item.now.body)) (image_is functionizes c.args._edge c.requires.own c.args._item.now)
+    child_rows_are c.args._edge c.args._item.now (row_at c.args._item.now (made c.args._item.now.body)) (image_is rule c.args._edge c.requires.own c.args._item.now)

@@ -1,12 +1,13 @@
+use Rattle.bridge_face.specs.FamilyLaws.{image_is, source_is}
 use Rattle.std.proofs.Common.{sym, ap, ◌∙◌}
 use Rattle.bridge_face.specs.AnsweredLaws.{passed_on}
 use Rattle.bridge_face.specs.Images.{row_at}
-use Rattle.bridges_shape.specs.VectorizeLaws.{FitsLowered, fits_back, fits_there, image_is, is_number_row}
+use Rattle.bridges_shape.specs.VectorizeLaws.{FitsLowered, fits_back, fits_there, rule}
 use Rattle.bridges_shape.proofs.vectorize.VectorizeRuleRewriting.image.Goals as goal
 
 pub vectorized-requires : goal.vectorized-requires
 vectorized-requires c =
-    is_number_row c.args._edge c.requires.own c.args.item.now.body c.requires.suits.valid.function c.requires.suits.kind
+    (source_is rule c.args._edge c.requires.own c.args.item.now c.requires.suits).source
 
 pub returns-in_err-body : goal.returns-in_err-body
 returns-in_err-body c =
@@ -17,5 +18,5 @@ pub returns : goal.returns
 returns c = (
   fits_back c.args._edge c.requires.own c.args.item.now c.in_ok-body.ensures.0,
   c.in_ok-row_image.ensures ∙ ap (row_at c.args.item.now) c.in_ok-body.ensures.1
-      ∙ sym (image_is c.args._edge c.requires.own c.args.item.now),
+      ∙ sym (image_is rule c.args._edge c.requires.own c.args.item.now),
 )

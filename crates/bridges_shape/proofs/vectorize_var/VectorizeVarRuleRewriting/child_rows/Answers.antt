@@ -1,8 +1,8 @@
-use Rattle.bridge_face.specs.FamilyLaws.{child_rows_are}
+use Rattle.bridge_face.specs.FamilyLaws.{child_rows_are, image_is}
 use Rattle.bridge_face.specs.ImageOf.{vectorize_var}
-use Rattle.bridges_shape.specs.VectorizeVarLaws.{image_is}
+use Rattle.bridges_shape.specs.VectorizeVarLaws.{rule}
 use Rattle.bridges_shape.proofs.vectorize_var.VectorizeVarRuleRewriting.child_rows.Goals as goal
 
 pub returns : goal.returns
 returns c =
-    child_rows_are c.args._edge c.args._item.now (vectorize_var c.args._item.now) (image_is c.args._edge c.requires.own c.args._item.now)
+    child_rows_are c.args._edge c.args._item.now (vectorize_var c.args._item.now) (image_is rule c.args._edge c.requires.own c.args._item.now)

@@ -1,9 +1,9 @@
 use Rattle.std.specs.Prelude.{[]}
-use Rattle.bridge_face.specs.FamilyLaws.{child_rows_are}
+use Rattle.bridge_face.specs.FamilyLaws.{child_rows_are, image_is}
 use Rattle.bridge_face.specs.Images.{rows_at}
-use Rattle.bridges_split.specs.DropRealsLaws.{image_is}
+use Rattle.bridges_split.specs.DropRealsLaws.{rule}
 use Rattle.bridges_split.proofs.drop_reals.DropRealsRuleRewriting.child_rows.Goals as goal
 
 pub returns : goal.returns
 returns c =
-    child_rows_are c.args._edge c.args._item.now (rows_at c.args._item.now []) (image_is c.args._edge c.requires.own c.args._item.now)
+    child_rows_are c.args._edge c.args._item.now (rows_at c.args._item.now []) (image_is rule c.args._edge c.requires.own c.args._item.now)

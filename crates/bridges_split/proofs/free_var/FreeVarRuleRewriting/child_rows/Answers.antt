@@ -1,8 +1,8 @@
-use Rattle.bridge_face.specs.FamilyLaws.{child_rows_are}
+use Rattle.bridge_face.specs.FamilyLaws.{child_rows_are, image_is}
 use Rattle.bridge_face.specs.ImageOf.{free_var}
-use Rattle.bridges_split.specs.FreeVarLaws.{image_is}
+use Rattle.bridges_split.specs.FreeVarLaws.{rule}
 use Rattle.bridges_split.proofs.free_var.FreeVarRuleRewriting.child_rows.Goals as goal
 
 pub returns : goal.returns
 returns c =
-    child_rows_are c.args._edge c.args._item.now (free_var c.args._item.now) (image_is c.args._edge c.requires.own c.args._item.now)
+    child_rows_are c.args._edge c.args._item.now (free_var c.args._item.now) (image_is rule c.args._edge c.requires.own c.args._item.now)

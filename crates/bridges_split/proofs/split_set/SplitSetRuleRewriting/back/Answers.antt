@@ -1,29 +1,29 @@
 use Rattle.std.proofs.Common.{sym, ap, ◌∙◌, arith, length, [], ◌∷◌}
-use Rattle.bridge_face.specs.FamilyLaws.{dual_count, only_two}
+use Rattle.bridge_face.specs.FamilyLaws.{dual_count, image_is, only_two}
 use Rattle.bridge_face.specs.Images.{rows_at}
-use Rattle.bridges_split.specs.SplitSetLaws.{back_two, image_is, lower, upper, same_sizes}
+use Rattle.bridges_split.specs.SplitSetLaws.{back_two, lower, rule, same_sizes, upper}
 use Rattle.bridges_split.proofs.split_set.SplitSetRuleRewriting.back.Goals as goal
 
 pub bounds-duals-0 : goal.bounds-duals-0
 bounds-duals-0 c =
-    let two = dual_count c.args._edge c.args._item.now (rows_at c.args._item.now (lower c.args._item.now.body ∷ upper c.args._item.now.body ∷ [])) (image_is c.args._edge c.requires.own c.args._item.now) c.args.duals.now c.requires.duals in
+    let two = dual_count c.args._edge c.args._item.now (rows_at c.args._item.now (lower c.args._item.now.body ∷ upper c.args._item.now.body ∷ [])) (image_is rule c.args._edge c.requires.own c.args._item.now) c.args.duals.now c.requires.duals in
     omega (arith, two)
 
 pub bounds-duals-1 : goal.bounds-duals-1
 bounds-duals-1 c =
-    let two = dual_count c.args._edge c.args._item.now (rows_at c.args._item.now (lower c.args._item.now.body ∷ upper c.args._item.now.body ∷ [])) (image_is c.args._edge c.requires.own c.args._item.now) c.args.duals.now c.requires.duals in
+    let two = dual_count c.args._edge c.args._item.now (rows_at c.args._item.now (lower c.args._item.now.body ∷ upper c.args._item.now.body ∷ [])) (image_is rule c.args._edge c.requires.own c.args._item.now) c.args.duals.now c.requires.duals in
     omega (arith, two)
 
 pub place_sums-requires : goal.place_sums-requires
 place_sums-requires c =
-    let two = dual_count c.args._edge c.args._item.now (rows_at c.args._item.now (lower c.args._item.now.body ∷ upper c.args._item.now.body ∷ [])) (image_is c.args._edge c.requires.own c.args._item.now) c.args.duals.now c.requires.duals in
+    let two = dual_count c.args._edge c.args._item.now (rows_at c.args._item.now (lower c.args._item.now.body ∷ upper c.args._item.now.body ∷ [])) (image_is rule c.args._edge c.requires.own c.args._item.now) c.args.duals.now c.requires.duals in
     ap length c.as_slice.ensures
     ∙ same_sizes c.args._edge c.requires.own c.args._item.now c.requires.suits c.args.duals.now c.index-duals-0.result c.index-duals-1.result c.requires.duals (only_two c.args.duals.now c.index-duals-0.result c.index-duals-1.result two c.index-duals-0.is c.index-duals-1.is)
     ∙ sym (ap length c.as_slice-2.ensures)
 
 pub returns : goal.returns
 returns c =
-    let two = dual_count c.args._edge c.args._item.now (rows_at c.args._item.now (lower c.args._item.now.body ∷ upper c.args._item.now.body ∷ [])) (image_is c.args._edge c.requires.own c.args._item.now) c.args.duals.now c.requires.duals in
+    let two = dual_count c.args._edge c.args._item.now (rows_at c.args._item.now (lower c.args._item.now.body ∷ upper c.args._item.now.body ∷ [])) (image_is rule c.args._edge c.requires.own c.args._item.now) c.args.duals.now c.requires.duals in
     back_two c.args._edge c.requires.own c.args._item.now c.args.duals.now c.as_slice.result.now c.as_slice-2.result.now c.index-duals-0.result c.index-duals-1.result c.place_sums.result
     (only_two c.args.duals.now c.index-duals-0.result c.index-duals-1.result two c.index-duals-0.is c.index-duals-1.is)
     c.as_slice.ensures c.as_slice-2.ensures c.place_sums.ensures
