@@ -4,37 +4,33 @@ use Rattle.name_index.specs.Name.{name_of_token}
 use Rattle.ratio_core.specs.Text.{rational_of}
 use Rattle.user_model.specs.declared.edit.Edit.TheVariants.{Coef, VecCoef, Constant, VecConstant, ObjCoef, ObjConstant, RowSet, Reset, FreeGroup, DeleteVariable, DeleteRow, RenameVariable, RenameRow}
 use Rattle.script_core.specs.declared.reading.Reading.{Reading}
-use Rattle.script_core.specs.Names.{last_name_of, last_two_names_of}
+use Rattle.script_core.specs.Names.{last_name_of, last_named_number_of, last_two_names_of}
 use Rattle.script_core.specs.Reading.{◌>>=◌, Tokens, makes}
-use Rattle.script_core.specs.Sets.{last_relation_of}
+use Rattle.script_core.specs.Sets.{last_named_relation_of}
 use Rattle.script_words.specs.Number.{number_of}
 
 -- coef R X Q
 unfoldable pub coefficient_form : Tokens → Option Reading
-coefficient_form (row ∷ variable ∷ coefficient ∷ []) = do
+coefficient_form (row ∷ tokens) = do
   name ← name_of_token row
-  var ← name_of_token variable
-  value ← rational_of coefficient
-  makes (Coef name var value)
-coefficient_form _ = None
+  term ← last_named_number_of tokens
+  makes (Coef name term.0 term.1)
+coefficient_form [] = None
 
 -- vcoef R I X Q
 unfoldable pub vector_coefficient_form : Tokens → Option Reading
-vector_coefficient_form (row ∷ number ∷ variable ∷ coefficient ∷ []) = do
+vector_coefficient_form (row ∷ number ∷ tokens) = do
   name ← name_of_token row
   output ← number_of number
-  var ← name_of_token variable
-  value ← rational_of coefficient
-  makes (VecCoef name output var value)
+  term ← last_named_number_of tokens
+  makes (VecCoef name output term.0 term.1)
 vector_coefficient_form _ = None
 
 -- const R Q
 unfoldable pub constant_form : Tokens → Option Reading
-constant_form (row ∷ constant ∷ []) = do
-  name ← name_of_token row
-  value ← rational_of constant
-  makes (Constant name value)
-constant_form _ = None
+constant_form tokens = do
+  constant ← last_named_number_of tokens
+  makes (Constant constant.0 constant.1)
 
 -- vconst R I Q
 unfoldable pub vector_constant_form : Tokens → Option Reading
@@ -47,11 +43,9 @@ vector_constant_form _ = None
 
 -- objcoef X Q
 unfoldable pub objective_coefficient_form : Tokens → Option Reading
-objective_coefficient_form (variable ∷ coefficient ∷ []) = do
-  var ← name_of_token variable
-  value ← rational_of coefficient
-  makes (ObjCoef var value)
-objective_coefficient_form _ = None
+objective_coefficient_form tokens = do
+  term ← last_named_number_of tokens
+  makes (ObjCoef term.0 term.1)
 
 -- objconst Q
 unfoldable pub objective_constant_form : Tokens → Option Reading
@@ -62,19 +56,15 @@ objective_constant_form _ = None
 
 -- set R REL
 unfoldable pub row_set_form : Tokens → Option Reading
-row_set_form (row ∷ word ∷ tokens) = do
-  name ← name_of_token row
-  set ← last_relation_of word tokens
-  makes (RowSet name set)
-row_set_form _ = None
+row_set_form tokens = do
+  row ← last_named_relation_of tokens
+  makes (RowSet row.0 row.1)
 
 -- reset X REL
 unfoldable pub reset_form : Tokens → Option Reading
-reset_form (variable ∷ word ∷ tokens) = do
-  var ← name_of_token variable
-  set ← last_relation_of word tokens
-  makes (Reset var set)
-reset_form _ = None
+reset_form tokens = do
+  variable ← last_named_relation_of tokens
+  makes (Reset variable.0 variable.1)
 
 -- free X
 unfoldable pub free_form : Tokens → Option Reading

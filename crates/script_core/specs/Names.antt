@@ -1,6 +1,8 @@
--- Names of variables, rows and files.
+-- Names of variables, rows and files, alone and with a number.
 use Rattle.std.specs.Prelude.{ℕ, List, [], ◌∷◌, Option, Some, None, option_and_then}
 use Rattle.name_index.specs.Name.{name_of_token}
+use Rattle.ratio_core.specs.Rational.{Rational}
+use Rattle.ratio_core.specs.Text.{rational_of}
 use Rattle.script_core.specs.Reading.{◌>>=◌, Tokens, each}
 
 abbrev pub names_of : Tokens → Option (List (List ℕ))
@@ -18,3 +20,11 @@ last_two_names_of (token ∷ other ∷ []) = do
   second ← name_of_token other
   Some (first, second)
 last_two_names_of _ = None
+
+-- a name and a number that nothing follows
+unfoldable pub last_named_number_of : Tokens → Option (List ℕ × Rational)
+last_named_number_of (token ∷ number ∷ []) = do
+  name ← name_of_token token
+  value ← rational_of number
+  Some (name, value)
+last_named_number_of _ = None

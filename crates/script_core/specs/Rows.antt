@@ -7,18 +7,17 @@ use Rattle.user_model.specs.declared.edit.Edit.TheVariants.{AddRow, Objective}
 use Rattle.script_core.specs.declared.reading.Reading.{Reading}
 use Rattle.script_core.specs.Names.{names_of, last_name_of}
 use Rattle.script_core.specs.Reading.{◌>>=◌, Tokens, makes, makes_with}
-use Rattle.script_core.specs.Sets.{relation_of, last_relation_of, vector_set_of}
+use Rattle.script_core.specs.Sets.{relation_of, last_named_relation_of, vector_set_of}
 use Rattle.script_core.specs.Sums.{function_of, functions_of}
 use Rattle.script_core.specs.Terms.{terms_of, function_terms_of, component_terms_of}
 
 -- bound R X REL
 unfoldable pub bound_form : Tokens → Option Reading
-bound_form (row ∷ variable ∷ word ∷ tokens) = do
+bound_form (row ∷ tokens) = do
   name ← name_of_token row
-  var ← name_of_token variable
-  set ← last_relation_of word tokens
-  makes (AddRow name (Plain var) set)
-bound_form _ = None
+  variable ← last_named_relation_of tokens
+  makes (AddRow name (Plain variable.0) variable.1)
+bound_form [] = None
 
 -- row R REL : TERMS
 unfoldable pub row_form : Tokens → Option Reading

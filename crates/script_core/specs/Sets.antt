@@ -1,5 +1,6 @@
 -- Sets of numbers and of vectors.
 use Rattle.std.specs.Prelude.{ℕ, List, [], ◌∷◌, Option, Some, None, option_and_then, bytes_eq, codes, if◌then◌else◌}
+use Rattle.name_index.specs.Name.{name_of_token}
 use Rattle.ratio_core.specs.Rational.{Rational}
 use Rattle.ratio_core.specs.Text.{rational_of}
 use Rattle.set_core.specs.declared.set.Set.{Set}
@@ -40,6 +41,14 @@ unfoldable pub last_relation_of : List ℕ → Tokens → Option Set
 last_relation_of word tokens = do
   relation ← relation_of word tokens
   alone relation.0 relation.1
+
+-- a name and a relation that nothing follows
+unfoldable pub last_named_relation_of : Tokens → Option (List ℕ × Set)
+last_named_relation_of (token ∷ word ∷ tokens) = do
+  name ← name_of_token token
+  set ← last_relation_of word tokens
+  Some (name, set)
+last_named_relation_of _ = None
 
 -- the set of vectors of so many components
 unfoldable pub vector_set_of : List ℕ → ℕ → Option Set

@@ -2,9 +2,9 @@
 ghost use Rattle.std.specs.Prelude.{◌≡◌, IfOk};
 ghost use Rattle.script_core.specs.Changes.{coefficient_form, constant_form, delete_row_form, delete_variable_form, free_form, objective_coefficient_form, objective_constant_form, rename_row_form, rename_variable_form, reset_form, row_set_form, vector_coefficient_form, vector_constant_form};
 
-use crate::names::{last_name, last_two_names};
+use crate::names::{last_name, last_named_number, last_two_names};
 use crate::reading::{Reading, makes};
-use crate::sets::last_relation;
+use crate::sets::last_named_relation;
 use name_index::Name;
 use ratio_core::{Memory, Ratio};
 use script_words::{Tokens, read_number};
@@ -16,28 +16,16 @@ use user_model::Edit;
 pub fn coefficient(alloc: Global, mut tokens: Tokens<'_>) -> Result<Option<Reading>, Memory>
     ensures { IfOk result (λ reading. reading ≡ coefficient_form tokens.entry) }
 {
-    let (Some(row), Some(variable), Some(value), None) = (
-        tokens.next(),
-        tokens.next(),
-        tokens.next(),
-        tokens.next(),
-    ) else {
+    let Some(row) = tokens.next() else {
         return Ok(None);
     };
     let Some(row) = Name::unescape(alloc, row)? else {
         return Ok(None);
     };
-    let Some(variable) = Name::unescape(alloc, variable)? else {
+    let Some((var, value)) = last_named_number(alloc, tokens)? else {
         return Ok(None);
     };
-    let Some(value) = Ratio::read(value) else {
-        return Ok(None);
-    };
-    Ok(makes(Edit::Coef {
-        row,
-        var: variable,
-        value,
-    }))
+    Ok(makes(Edit::Coef { row, var, value }))
 }
 
 /// `vcoef R I X Q`
@@ -45,13 +33,7 @@ pub fn coefficient(alloc: Global, mut tokens: Tokens<'_>) -> Result<Option<Readi
 pub fn vector_coefficient(alloc: Global, mut tokens: Tokens<'_>) -> Result<Option<Reading>, Memory>
     ensures { IfOk result (λ reading. reading ≡ vector_coefficient_form tokens.entry) }
 {
-    let (Some(row), Some(output), Some(variable), Some(value), None) = (
-        tokens.next(),
-        tokens.next(),
-        tokens.next(),
-        tokens.next(),
-        tokens.next(),
-    ) else {
+    let (Some(row), Some(output)) = (tokens.next(), tokens.next()) else {
         return Ok(None);
     };
     let Some(row) = Name::unescape(alloc, row)? else {
@@ -60,32 +42,23 @@ pub fn vector_coefficient(alloc: Global, mut tokens: Tokens<'_>) -> Result<Optio
     let Some(output) = read_number(output) else {
         return Ok(None);
     };
-    let Some(variable) = Name::unescape(alloc, variable)? else {
-        return Ok(None);
-    };
-    let Some(value) = Ratio::read(value) else {
+    let Some((var, value)) = last_named_number(alloc, tokens)? else {
         return Ok(None);
     };
     Ok(makes(Edit::VecCoef {
         row,
         output,
-        var: variable,
+        var,
         value,
     }))
 }
 
 /// `const R Q`
 #[tactic(auto, unfolding(crate::specs::Changes::constant_form))]
-pub fn constant(alloc: Global, mut tokens: Tokens<'_>) -> Result<Option<Reading>, Memory>
+pub fn constant(alloc: Global, tokens: Tokens<'_>) -> Result<Option<Reading>, Memory>
     ensures { IfOk result (λ reading. reading ≡ constant_form tokens.entry) }
 {
-    let (Some(row), Some(value), None) = (tokens.next(), tokens.next(), tokens.next()) else {
-        return Ok(None);
-    };
-    let Some(row) = Name::unescape(alloc, row)? else {
-        return Ok(None);
-    };
-    let Some(value) = Ratio::read(value) else {
+    let Some((row, value)) = last_named_number(alloc, tokens)? else {
         return Ok(None);
     };
     Ok(makes(Edit::Constant { row, value }))
@@ -118,25 +91,13 @@ pub fn vector_constant(alloc: Global, mut tokens: Tokens<'_>) -> Result<Option<R
 
 /// `objcoef X Q`
 #[tactic(auto, unfolding(crate::specs::Changes::objective_coefficient_form))]
-pub fn objective_coefficient(
-    alloc: Global,
-    mut tokens: Tokens<'_>,
-) -> Result<Option<Reading>, Memory>
+pub fn objective_coefficient(alloc: Global, tokens: Tokens<'_>) -> Result<Option<Reading>, Memory>
     ensures { IfOk result (λ reading. reading ≡ objective_coefficient_form tokens.entry) }
 {
-    let (Some(variable), Some(value), None) = (tokens.next(), tokens.next(), tokens.next()) else {
+    let Some((var, value)) = last_named_number(alloc, tokens)? else {
         return Ok(None);
     };
-    let Some(variable) = Name::unescape(alloc, variable)? else {
-        return Ok(None);
-    };
-    let Some(value) = Ratio::read(value) else {
-        return Ok(None);
-    };
-    Ok(makes(Edit::ObjCoef {
-        var: variable,
-        value,
-    }))
+    Ok(makes(Edit::ObjCoef { var, value }))
 }
 
 /// `objconst Q`
@@ -153,16 +114,10 @@ pub fn objective_constant(mut tokens: Tokens<'_>) -> Option<Reading>
 
 /// `set R REL`
 #[tactic(auto, unfolding(crate::specs::Changes::row_set_form))]
-pub fn row_set(alloc: Global, mut tokens: Tokens<'_>) -> Result<Option<Reading>, Memory>
+pub fn row_set(alloc: Global, tokens: Tokens<'_>) -> Result<Option<Reading>, Memory>
     ensures { IfOk result (λ reading. reading ≡ row_set_form tokens.entry) }
 {
-    let (Some(name), Some(word)) = (tokens.next(), tokens.next()) else {
-        return Ok(None);
-    };
-    let Some(row) = Name::unescape(alloc, name)? else {
-        return Ok(None);
-    };
-    let Some(set) = last_relation(word, tokens) else {
+    let Some((row, set)) = last_named_relation(alloc, tokens)? else {
         return Ok(None);
     };
     Ok(makes(Edit::RowSet { row, set }))
@@ -170,16 +125,10 @@ pub fn row_set(alloc: Global, mut tokens: Tokens<'_>) -> Result<Option<Reading>,
 
 /// `reset X REL`
 #[tactic(auto, unfolding(crate::specs::Changes::reset_form))]
-pub fn reset(alloc: Global, mut tokens: Tokens<'_>) -> Result<Option<Reading>, Memory>
+pub fn reset(alloc: Global, tokens: Tokens<'_>) -> Result<Option<Reading>, Memory>
     ensures { IfOk result (λ reading. reading ≡ reset_form tokens.entry) }
 {
-    let (Some(name), Some(word)) = (tokens.next(), tokens.next()) else {
-        return Ok(None);
-    };
-    let Some(var) = Name::unescape(alloc, name)? else {
-        return Ok(None);
-    };
-    let Some(set) = last_relation(word, tokens) else {
+    let Some((var, set)) = last_named_relation(alloc, tokens)? else {
         return Ok(None);
     };
     Ok(makes(Edit::Reset { var, set }))

@@ -1,10 +1,10 @@
-//! Names of variables, rows and files.
+//! Names of variables, rows and files, alone and with a number.
 ghost use Rattle.std.specs.Prelude.{◌≡◌, ◌∷◌, [], IfOk};
-ghost use Rattle.script_core.specs.Names.{last_name_of, last_two_names_of, names_of};
+ghost use Rattle.script_core.specs.Names.{last_name_of, last_named_number_of, last_two_names_of, names_of};
 
 use lists::Sequence;
 use name_index::{Name, Names};
-use ratio_core::Memory;
+use ratio_core::{Memory, Ratio};
 use script_words::Tokens;
 use std::alloc::Global;
 
@@ -48,6 +48,26 @@ pub fn last_two_names(alloc: Global, mut tokens: Tokens<'_>) -> Result<Option<(N
         return Ok(None);
     };
     Ok(Some((first, second)))
+}
+
+/// A name and a number that nothing follows.
+#[tactic(auto, unfolding(crate::specs::Names::last_named_number_of))]
+pub fn last_named_number(
+    alloc: Global,
+    mut tokens: Tokens<'_>,
+) -> Result<Option<(Name, Ratio)>, Memory>
+    ensures { IfOk result (λ named. named ≡ last_named_number_of tokens.entry) }
+{
+    let (Some(token), Some(number), None) = (tokens.next(), tokens.next(), tokens.next()) else {
+        return Ok(None);
+    };
+    let Some(name) = Name::unescape(alloc, token)? else {
+        return Ok(None);
+    };
+    let Some(value) = Ratio::read(number) else {
+        return Ok(None);
+    };
+    Ok(Some((name, value)))
 }
 
 /// A list of one name.

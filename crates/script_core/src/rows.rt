@@ -5,7 +5,7 @@ ghost use Rattle.script_core.specs.Rows.{bound_form, objective_form, objective_v
 use crate::function::{sum_components, sum_terms};
 use crate::names::{last_name, read_names};
 use crate::reading::{Reading, makes};
-use crate::sets::{dimension, last_relation, relation, vector_set};
+use crate::sets::{dimension, last_named_relation, relation, vector_set};
 use crate::terms::{component_terms, function_terms, read_terms};
 use name_index::Name;
 use ratio_core::Memory;
@@ -18,17 +18,13 @@ use user_model::{Edit, NamedFunc, Sense};
 pub fn bound(alloc: Global, mut tokens: Tokens<'_>) -> Result<Option<Reading>, Memory>
     ensures { IfOk result (λ reading. reading ≡ bound_form tokens.entry) }
 {
-    let (Some(row), Some(variable), Some(word)) = (tokens.next(), tokens.next(), tokens.next())
-    else {
+    let Some(name) = tokens.next() else {
         return Ok(None);
     };
-    let Some(name) = Name::unescape(alloc, row)? else {
+    let Some(name) = Name::unescape(alloc, name)? else {
         return Ok(None);
     };
-    let Some(variable) = Name::unescape(alloc, variable)? else {
-        return Ok(None);
-    };
-    let Some(set) = last_relation(word, tokens) else {
+    let Some((variable, set)) = last_named_relation(alloc, tokens)? else {
         return Ok(None);
     };
     let func = NamedFunc::Plain(variable);

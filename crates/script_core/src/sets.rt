@@ -1,11 +1,33 @@
 //! Sets of numbers and of vectors.
 ghost use Rattle.std.specs.Prelude.{◌≡◌, ◌∷◌, [], IfOk, option_map};
-ghost use Rattle.script_core.specs.Sets.{first_number, last_relation_of, relation_of, vector_set_of};
+ghost use Rattle.script_core.specs.Sets.{first_number, last_named_relation_of, last_relation_of, relation_of, vector_set_of};
 
 use crate::reading::alone;
+use name_index::Name;
 use ratio_core::{Memory, Ratio};
 use script_words::{Tokens, is};
 use set_core::Set;
+use std::alloc::Global;
+
+/// A name and a relation that nothing follows.
+#[tactic(auto, unfolding(crate::specs::Sets::last_named_relation_of))]
+pub fn last_named_relation(
+    alloc: Global,
+    mut tokens: Tokens<'_>,
+) -> Result<Option<(Name, Set)>, Memory>
+    ensures { IfOk result (λ named. named ≡ last_named_relation_of tokens.entry) }
+{
+    let (Some(token), Some(word)) = (tokens.next(), tokens.next()) else {
+        return Ok(None);
+    };
+    let Some(name) = Name::unescape(alloc, token)? else {
+        return Ok(None);
+    };
+    let Some(set) = last_relation(word, tokens) else {
+        return Ok(None);
+    };
+    Ok(Some((name, set)))
+}
 
 /// A relation that nothing follows.
 #[tactic(auto, unfolding(crate::specs::Sets::last_relation_of))]

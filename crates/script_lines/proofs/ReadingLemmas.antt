@@ -102,10 +102,6 @@ pub record LineMoved (all : Option (List ℕ)) (allowed : ℕ) (line : List ℕ)
   pub unended : IsUnended line
   pub counted : allowed ≡ length (line ++ 10 ∷ []) + allowance reader
 
-pub at_start : (reader : Held) (left : Option (List ℕ)) (line : List ℕ) → line ≡ [] → SoFar (rest_of reader left) (allowance reader) line reader left
-at_start reader left line is = subst (λ xs. SoFar (rest_of reader left) (allowance reader) xs reader left) (sym is)
-    record { kept = sym (prepend-nil _); unended = All-nil _; counted = omega arith }
-
 pub piece_moved : (all : Option (List ℕ)) (allowed : ℕ) (line line' piece : List ℕ) (reader reader' : Held) (left : Option (List ℕ)) → SoFar all allowed line reader left
     → IsUnended piece → reader.held ≡ piece ++ 10 ∷ reader'.held → line' ≡ line ++ piece → reader'.room ≡ reader.room → LineMoved all allowed line' reader' left
 piece_moved all allowed line line' piece reader reader' left so_far none held is room =
@@ -158,12 +154,6 @@ pub input_too_long : (all : Option (List ℕ)) (allowed : ℕ) (line : List ℕ)
 input_too_long all allowed line room left moved none some = told_behind (IsTooLong allowed) all left line moved.kept
     (told_weaker _ _ left (λ more l. too_long_input line more allowed moved.unended (omega (arith, moved.counted, none)) l) some)
 
-pub nothing_left : (all : Option (List ℕ)) (allowed : ℕ) (line : List ℕ) (room : ℕ) (left : Option (List ℕ)) → AllMoved all allowed line room left
-    → IsAtEnd left → length line ≡ 0 → IsAtEnd all × (all ≡ left)
-nothing_left all allowed [] room left moved end none =
-    let same : all ≡ left = moved.kept ∙ prepend-nil left in (subst IsAtEnd (sym same) end, same)
-nothing_left all allowed (byte ∷ line) room left moved end none = absurd (omega arith)
-
 -- a line without its carriage return is its front
 pub strip-front : (text : List ℕ) (n : ℕ) → n ≡ length (strip_carriage_return text) → take n text ≡ strip_carriage_return text
 strip-front text n is = cond_both (eqb (get_or text (length text - 1) 0) 13) (take (length text - 1) text) text (λ t. n ≡ length t → take n text ≡ t)
@@ -208,9 +198,6 @@ pub record TookSoFar (left left' : Option (List ℕ)) (room room' : ℕ) : Type 
   pub takes : Takes left left' taken
   pub counted : length taken + room' ≡ room
 
-pub took_nothing : (left : Option (List ℕ)) (room : ℕ) → TookSoFar left left room room
-took_nothing left room = record { taken = []; takes = Takes-empty left; counted = omega arith }
-
 pub took_more : (left mid left' : Option (List ℕ)) (room : ℕ) (reader reader' : Held) → TookSoFar left mid room reader.room
     → reader.held ≡ [] → Takes mid left' reader'.held → allowance reader' ≡ allowance reader → TookSoFar left left' room reader'.room
 took_more left mid left' room reader reader' so_far none takes same = record {
@@ -225,9 +212,3 @@ took_at_most left mid left' room room' so_far last = record {
   takes = Takes-append left mid left' so_far.taken last.taken so_far.takes last.takes;
   few = omega (arith, so_far.counted, last.few, length-append so_far.taken last.taken);
 }
-
-pub takes_nothing : (most : ℕ) (left left' : Option (List ℕ)) → left' ≡ left → TakesAtMost most left left'
-takes_nothing most left left' same = record { taken = []; takes = subst (λ l. Takes left l []) (sym same) (Takes-empty left); few = omega arith }
-
-pub takes_more : (most more : ℕ) (left left' : Option (List ℕ)) → most ≤ more → TakesAtMost most left left' → TakesAtMost more left left'
-takes_more most more left left' fits takes = record { taken = takes.taken; takes = takes.takes; few = omega (arith, fits, takes.few) }
