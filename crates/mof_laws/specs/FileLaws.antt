@@ -1,5 +1,5 @@
 -- A written file reads back as what its model says.
-use Rattle.std.specs.Prelude.{◌≡◌, ℕ, ◌^◌, ◌<◌, All, ⊤, true, ◌&&◌, not, cond, List, [], ◌∷◌, ◌++◌, length, map, Some, None, Ok, Err, codes, is_some, refl}
+use Rattle.std.specs.Prelude.{◌≡◌, ℕ, ◌^◌, ◌<◌, All, ⊤, true, ◌&&◌, not, cond, List, [], ◌∷◌, ◌++◌, length, map, Option, Some, None, Ok, Err, codes, is_some, refl}
 use Rattle.std.proofs.Common.{ap, ◌∙◌}
 use Rattle.std.proofs.lemmas.Bool.{and_right, cond-false, cond-true, eq-eqb}
 use Rattle.aff_core.specs.Function.{Function}
@@ -17,19 +17,19 @@ use Rattle.user_model.specs.Functions.{is_scalar_named, named_components}
 use Rattle.serde_json.specs.Data.{Data, string}
 use Rattle.serde_json.specs.Find.{as_object, get}
 use Rattle.mof_values.specs.declared.fault.MofFault.TheVariants.{Dimension}
-use Rattle.mof_values.specs.Values.{a_text, an_array, an_object}
+use Rattle.mof_values.specs.Values.{a_text, an_array, field}
 use Rattle.mof_values.specs.Walked.{◌>>=◌, at, here, key, mapped}
 use Rattle.mof_file.specs.declared.objectives.FileObjective.TheVariants as file
 use Rattle.mof_file.specs.File.{is_unequal, objective_of, sense_named, sense_of, sensed_of, set_for}
 use Rattle.mof_file.specs.Functions.{Known, add_variable, function_of_any, is_known, objective_function_of, scalar_function_of, typed_function_of, variable_of, variables_of}
-use Rattle.mof_write.specs.Values.{list_of, set_data}
+use Rattle.mof_write.specs.Values.{list_of, set_data, word}
 use Rattle.mof_write.specs.Written.{Naming, affine_data, function_data, objective_data, sense_data, sought_data, variable_data, variables_data, vector_affine_data}
 use Rattle.mof_laws.specs.FunctionLaws.{IsNamed, IsReadable, affine_back}
 use Rattle.mof_write.specs.Sayable.{SetFits}
 use Rattle.mof_laws.specs.ReadBack.{named_affine, named_function, said_objective}
 use Rattle.mof_laws.specs.ValueLaws.{set_back}
 use Rattle.mof_laws.specs.VectorLaws.{vector_affine_back}
-use Rattle.mof_laws.specs.WalkLaws.{always_good, by_type, each_appends, field_back}
+use Rattle.mof_laws.specs.WalkLaws.{always_good, by_type, each_appends, field_back, object_then}
 
 -- ---- functions
 
@@ -68,14 +68,20 @@ names_back known g xs h =
     (names_step known g) 0 [] xs (always_good g (λ x. is_known known (g x) ≡ true) [] xs h)
 
 -- one variable, and several, as functions
+plain_back : (known : Known) (n : List ℕ) → is_known known n ≡ true
+    → scalar_function_of known (codes "Variable") (variable_data n) ≡ Ok (named.Plain n)
+unfolding scalar_function_of
+plain_back known n h =
+    ap (mapped named.Plain)
+    (field_back (variable_of known) (codes "name") (variable_data n) (string n) n refl
+    (named_back known n h))
+
 pub one_back : (known : Known) (n : List ℕ) → is_known known n ≡ true
     → function_of_any known (variable_data n) ≡ Ok (named.Plain n)
-unfolding typed_function_of scalar_function_of
+unfolding typed_function_of
 one_back known n h =
     function_from known (variable_data n) (codes "Variable") (named.Plain n) refl refl
-    (ap (mapped named.Plain)
-    (field_back (variable_of known) (codes "name") (variable_data n) (string n) n refl
-    (named_back known n h)))
+    (plain_back known n h)
 
 pub several_back : {X : Type 0} (known : Known) (g : X → List ℕ) (xs : List X)
     → All (λ x. is_known known (g x) ≡ true) xs
@@ -120,40 +126,42 @@ module _ (name : Naming) (known : Known) where
   IsReadableObjective (objective.Plain sense var) = IsNamed name known var
   IsReadableObjective (objective.Affine sense f) = IsReadable name known f
 
+  -- an objective by its sense
+  objective_from : (d said : Data) (sense : Option Sense) → is_some (as_object d) ≡ true
+      → get (codes "sense") d ≡ Some said → sense_of said ≡ Ok sense
+      → objective_of known d ≡ sensed_of known sense d
+  unfolding objective_of
+  objective_from d said sense object there is =
+      object_then d (field sense_of "sense" d >>= (λ s. sensed_of known s d)) object
+      ∙ ap (λ w. w >>= (λ s. sensed_of known s d))
+      (field_back sense_of (codes "sense") d said sense there is)
+
+  sense_back : (sense : Sense) → sense_of (sense_data sense) ≡ Ok (Some sense)
+  unfolding sense_of sense_named a_text
+  sense_back Min = refl
+  sense_back Max = refl
+
   sought_back : (sense : Sense) (func : Data) (r : NamedFunc)
       → objective_function_of known func ≡ Ok r
       → objective_of known (sought_data func sense) ≡ Ok (file.Optimize sense r)
-  unfolding objective_of sensed_of sense_of sense_named an_object a_text
-  sought_back Min func r is =
-      ap (λ w. w >>= (λ s. sensed_of known s (sought_data func Min)))
-      (field_back sense_of (codes "sense") (sought_data func Min) (sense_data Min)
-      (Some Min) refl refl)
-      ∙ ap (λ w. w >>= (λ f. Ok (file.Optimize Min f)))
-      (field_back (objective_function_of known) (codes "function")
-      (sought_data func Min) func r refl is)
-  sought_back Max func r is =
-      ap (λ w. w >>= (λ s. sensed_of known s (sought_data func Max)))
-      (field_back sense_of (codes "sense") (sought_data func Max) (sense_data Max)
-      (Some Max) refl refl)
-      ∙ ap (λ w. w >>= (λ f. Ok (file.Optimize Max f)))
-      (field_back (objective_function_of known) (codes "function")
-      (sought_data func Max) func r refl is)
+  unfolding sensed_of
+  sought_back sense func r is =
+      objective_from (sought_data func sense) (sense_data sense) (Some sense) refl refl
+      (sense_back sense)
+      ∙ ap (λ w. w >>= (λ f. Ok (file.Optimize sense f)))
+      (field_back (objective_function_of known) (codes "function") (sought_data func sense) func r
+      refl is)
 
   pub objective_back : (o : Objective) → IsReadableObjective o
       → objective_of known (objective_data name o) ≡ Ok (said_objective name o)
-  unfolding objective_data objective_of sensed_of sense_of sense_named an_object a_text scalar_function_of affine_data
+  unfolding objective_data sensed_of sense_of sense_named a_text scalar_function_of affine_data
   objective_back objective.Feasibility h =
-      ap (λ w. w >>= (λ s. sensed_of known s (objective_data name objective.Feasibility)))
-      (field_back sense_of (codes "sense") (objective_data name objective.Feasibility)
-      (string (codes "feasibility")) None refl refl)
+      objective_from (objective_data name objective.Feasibility) (word "feasibility") None refl refl
+      refl
   objective_back (objective.Plain sense var) h =
       sought_back sense (variable_data (name var)) (named.Plain (name var))
       (scalar_from known (variable_data (name var)) (codes "Variable")
-      (named.Plain (name var)) refl refl
-      (ap (mapped named.Plain)
-      (field_back (variable_of known) (codes "name") (variable_data (name var)) (string (name var))
-      (name var) refl
-      (named_back known (name var) h))))
+      (named.Plain (name var)) refl refl (plain_back known (name var) h))
   objective_back (objective.Affine sense f) h =
       sought_back sense (affine_data name f) (named.Affine (named_affine name f))
       (scalar_from known (affine_data name f) (codes "ScalarAffineFunction")

@@ -28,63 +28,47 @@ digits_same (c ∷ cs) = ap (λ n. cond (is_ascii_digit c) (1 + n) 0) (digits_sa
 abbrev more : Option (List ℕ) → Option (List ℕ)
 more left = option_map as_line left
 
+-- the choice between two that have something behind them
+either : {A B : Type 0} (f : A → B) (b : Bool) (x y : A) → cond b (f x) (f y) ≡ f (cond b x y)
+either f true x y = refl
+either f false x y = refl
+
 after_digits_same : (t : List ℕ) → after_digits (as_line t) ≡ more (after_digits t)
 after_digits_same t =
+    let count = prefix_len is_ascii_digit t in
     ap (λ n. cond (n == 0) None (Some (drop n (as_line t)))) (digits_same t)
     ∙ ap (λ left. cond (count == 0) None (Some left))
     (drop-append-le count t (10 ∷ []) (prefix_len-le-length is_ascii_digit t))
-    ∙ over (count == 0)
-  where
-    count : ℕ
-    count = prefix_len is_ascii_digit t
-
-    over : (b : Bool) → cond b None (Some (as_line (drop count t)))
-        ≡ more (cond b None (Some (drop count t)))
-    over true = refl
-    over false = refl
+    ∙ either more (count == 0) None (Some (drop count t))
 
 after_minus_same : (t : List ℕ) → after_minus (as_line t) ≡ as_line (after_minus t)
 after_minus_same [] = refl
-after_minus_same (c ∷ cs) = over (c == ascii.minus)
-  where
-    over : (b : Bool) → cond b (as_line cs) (as_line (c ∷ cs)) ≡ as_line (cond b cs (c ∷ cs))
-    over true = refl
-    over false = refl
+after_minus_same (c ∷ cs) = either as_line (c == ascii.minus) cs (c ∷ cs)
 
 after_sign_same : (t : List ℕ) → after_sign (as_line t) ≡ as_line (after_sign t)
 after_sign_same [] = refl
-after_sign_same (c ∷ cs) = over ((c == ascii.minus) || (c == ascii.plus))
-  where
-    over : (b : Bool) → cond b (as_line cs) (as_line (c ∷ cs)) ≡ as_line (cond b cs (c ∷ cs))
-    over true = refl
-    over false = refl
+after_sign_same (c ∷ cs) =
+    either as_line ((c == ascii.minus) || (c == ascii.plus)) cs (c ∷ cs)
 
 after_whole_same : (t : List ℕ) → after_whole (as_line t) ≡ more (after_whole t)
 after_whole_same [] = refl
-after_whole_same (c ∷ cs) = over (c == ascii.zero)
-  where
-    over : (b : Bool) → cond b (Some (as_line cs)) (after_digits (as_line (c ∷ cs)))
-        ≡ more (cond b (Some cs) (after_digits (c ∷ cs)))
-    over true = refl
-    over false = after_digits_same (c ∷ cs)
+after_whole_same (c ∷ cs) =
+    ap (cond (c == ascii.zero) (Some (as_line cs))) (after_digits_same (c ∷ cs))
+    ∙ either more (c == ascii.zero) (Some cs) (after_digits (c ∷ cs))
 
 after_fraction_same : (t : List ℕ) → after_fraction (as_line t) ≡ more (after_fraction t)
 after_fraction_same [] = refl
-after_fraction_same (c ∷ cs) = over (c == ascii.dot)
-  where
-    over : (b : Bool) → cond b (after_digits (as_line cs)) (Some (as_line (c ∷ cs)))
-        ≡ more (cond b (after_digits cs) (Some (c ∷ cs)))
-    over true = after_digits_same cs
-    over false = refl
+after_fraction_same (c ∷ cs) =
+    ap (λ left. cond (c == ascii.dot) left (Some (as_line (c ∷ cs)))) (after_digits_same cs)
+    ∙ either more (c == ascii.dot) (after_digits cs) (Some (c ∷ cs))
 
 after_exponent_same : (t : List ℕ) → after_exponent (as_line t) ≡ more (after_exponent t)
 after_exponent_same [] = refl
-after_exponent_same (c ∷ cs) = over ((c == ascii.lower_e) || (c == ascii.upper_e))
-  where
-    over : (b : Bool) → cond b (after_digits (after_sign (as_line cs))) (Some (as_line (c ∷ cs)))
-        ≡ more (cond b (after_digits (after_sign cs)) (Some (c ∷ cs)))
-    over true = ap after_digits (after_sign_same cs) ∙ after_digits_same (after_sign cs)
-    over false = refl
+after_exponent_same (c ∷ cs) =
+    let here = (c == ascii.lower_e) || (c == ascii.upper_e) in
+    ap (λ left. cond here left (Some (as_line (c ∷ cs))))
+    (ap after_digits (after_sign_same cs) ∙ after_digits_same (after_sign cs))
+    ∙ either more here (after_digits (after_sign cs)) (Some (c ∷ cs))
 
 then_same : (f : List ℕ → Option (List ℕ)) → ((t : List ℕ) → f (as_line t) ≡ more (f t))
     → (left : Option (List ℕ)) → option_and_then f (more left) ≡ more (option_and_then f left)
@@ -164,13 +148,6 @@ unfolding code_unit
 no_unit a b c =
     cond-false _ _ _ (and_right (is_digit a 16 && is_digit b 16 && is_digit c 16) false refl)
 
-abbrev nothing : Option (List ℕ)
-nothing = None
-
-either : (b : Bool) → cond b nothing nothing ≡ nothing
-either true = refl
-either false = refl
-
 content_same : (m : Within) (xs : List ℕ) → content m (as_line xs) ≡ content m xs
 unfolding content short_escape
 content_same plain [] = refl
@@ -203,7 +180,7 @@ content_same (after_high h) (s ∷ u ∷ a ∷ b ∷ c ∷ []) =
     (option_and_then (λ l. cond (is_low_surrogate l)
     (prepend (encode_utf8 (surrogate_pair h l)) (content plain [])) None) o) None)
     (no_unit a b c)
-    ∙ either ((s == ascii.backslash) && (u == ascii.lower_u))
+    ∙ either {A = List ℕ} (λ rest. None) ((s == ascii.backslash) && (u == ascii.lower_u)) [] []
 content_same (after_high h) (s ∷ u ∷ a ∷ b ∷ c ∷ d ∷ xs) = λ i.
     cond ((s == ascii.backslash) && (u == ascii.lower_u))
     (option_and_then (λ l. cond (is_low_surrogate l)

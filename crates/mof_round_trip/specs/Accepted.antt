@@ -1,6 +1,6 @@
 -- Edits that pass each test are accepted, and edits one after another.
 use Rattle.std.specs.Prelude.{◌≡◌, ℕ, ◌≤◌, Bool, false, if◌then◌else◌, List, [], ◌∷◌, ◌++◌, map, Some, None, All, refl}
-use Rattle.std.proofs.Common.{ap, subst, sym, ◌∙◌}
+use Rattle.std.proofs.Common.{ap, append-nil, append_assoc, subst, sym, ◌∙◌}
 use Rattle.std.proofs.lemmas.Bool.{le-ltb}
 use Rattle.std.proofs.lemmas.List.Elements.{All-cons, All-head, All-nil, All-tail}
 use Rattle.user_model.specs.declared.edit.Edit.{Edit}
@@ -93,6 +93,22 @@ pub lead_on : (old next new : ModelValue) (e : Edit) (es : List Edit) → IsPass
     → edited old e ≡ next → LeadTo next es new → LeadTo old (e ∷ es) new
 lead_on old next new e es h is rest =
     (accepted old e h, subst (λ m. LeadTo m es new) (sym is) rest)
+
+-- an edit for each item, and those after them: each leads from the items before it to one more
+pub each_leads : {X : Type 0} (behind : List X → ModelValue) (edit_of : X → Edit) (all : List X)
+    → ((done : List X) (x : X) (rest : List X) → all ≡ done ++ x ∷ rest
+    → IsPassed (behind done) (edit_of x))
+    → ((done : List X) (x : X) (rest : List X) → all ≡ done ++ x ∷ rest
+    → edited (behind done) (edit_of x) ≡ behind (done ++ x ∷ []))
+    → (done rest : List X) → all ≡ done ++ rest → (es : List Edit) (new : ModelValue)
+    → LeadTo (behind all) es new → LeadTo (behind done) (map edit_of rest ++ es) new
+each_leads behind edit_of all passes adds done [] whole es new next =
+    subst (λ xs. LeadTo (behind xs) es new) (whole ∙ append-nil done) next
+each_leads behind edit_of all passes adds done (x ∷ rest) whole es new next =
+    lead_on (behind done) (behind (done ++ x ∷ [])) new (edit_of x) (map edit_of rest ++ es)
+    (passes done x rest whole) (adds done x rest whole)
+    (each_leads behind edit_of all passes adds (done ++ x ∷ []) rest
+    (whole ∙ sym (append_assoc done (x ∷ []) rest)) es new next)
 
 -- what they lead to is consistent
 pub stays_consistent : (es : List Edit) (old new : ModelValue) → IsConsistent old

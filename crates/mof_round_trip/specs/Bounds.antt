@@ -1,12 +1,13 @@
 -- The bounds of a variable among rows and groups that are renumbered.
-use Rattle.std.specs.Prelude.{◌≡◌, ℕ, ◌+◌, ◌≤◌, ◌==◌, Bool, true, false, ◌&&◌, ◌||◌, cond, List, [], ◌∷◌, ◌++◌, All, Contains, Option, Some, None, count_by, find, map, slice_index_or, refl}
+use Rattle.std.specs.Prelude.{◌≡◌, ℕ, ◌+◌, ◌≤◌, ◌==◌, Bool, true, false, ◌&&◌, ◌||◌, cond, List, [], ◌∷◌, ◌++◌, All, Contains, Option, Some, None, count_by, find, map, refl}
 use Rattle.std.specs.List.{list_any}
 use Rattle.std.specs.Option.{option_map, option_map_or}
-use Rattle.std.proofs.Common.{ap, ap₂, arith, subst, sym, true≢false, ◌∙◌}
-use Rattle.std.proofs.lemmas.Bool.{false_from_ne_true, or_from}
-use Rattle.std.proofs.lemmas.List.Elements.{All-head, All-tail, Contains-get_or}
+use Rattle.std.specs.Ordering.{is_eq}
+use Rattle.std.proofs.Common.{ap, arith, subst, sym, ◌∙◌}
+use Rattle.std.proofs.lemmas.Bool.{or_from}
+use Rattle.std.proofs.lemmas.List.Elements.{All-contains_itself}
 use Rattle.std.proofs.lemmas.List.Sums.{sum_by-append, sum_by-cons}
-use Rattle.aff_core.specs.Address.{Address, address_eq, address_eq-Decides}
+use Rattle.aff_core.specs.Address.{address_eq}
 use Rattle.set_core.specs.declared.set.Set.{Set}
 use Rattle.user_model.specs.declared.function.UserFunc.{UserFunc}
 use Rattle.user_model.specs.declared.function.UserFunc.TheVariants.{Plain, Affine, PlainVec, AffineVec}
@@ -18,34 +19,9 @@ use Rattle.user_model.specs.Model.{ModelValue, has_variable, is_created, is_vari
 use Rattle.user_model.specs.SameUpToNumbers.{function_by_position, group_by_position, groups_by_position, position, row_by_position}
 use Rattle.user_model.specs.Valid.{bound_count, is_created_by}
 use Rattle.model_laws.specs.Located.{stands_in_joined}
-use Rattle.mof_round_trip.specs.Functions.{IsPlaced}
-use Rattle.mof_round_trip.specs.Positions.{position_same, position_test}
+use Rattle.mof_round_trip.specs.Functions.{IsPlaced, placed_order}
+use Rattle.mof_round_trip.specs.Positions.{position_test}
 use Rattle.mof_round_trip.specs.Renumbered.{any_made, find_made, made_variable, numbers, placed_address}
-
--- ---- tests that agree
-
-any_same : {X : Type 0} (p q : X → Bool) (xs : List X) → All (λ x. p x ≡ q x) xs
-    → list_any p xs ≡ list_any q xs
-any_same p q [] h = refl
-any_same p q (x ∷ xs) h =
-    ap₂ (λ a b. a || b) (All-head (λ x. p x ≡ q x) x xs h)
-    (any_same p q xs (All-tail (λ x. p x ≡ q x) x xs h))
-
-find_same : {X : Type 0} (p q : X → Bool) (xs : List X) → All (λ x. p x ≡ q x) xs
-    → find p xs ≡ find q xs
-find_same p q [] h = refl
-find_same p q (x ∷ xs) h =
-    ap₂ (λ b o. cond b (Some x) o) (All-head (λ x. p x ≡ q x) x xs h)
-    (find_same p q xs (All-tail (λ x. p x ≡ q x) x xs h))
-
-addresses_alike : (a b c d : Address) → (a ≡ b → c ≡ d) → (c ≡ d → a ≡ b)
-    → address_eq a b ≡ address_eq c d
-addresses_alike a b c d one other = by (address_eq c d) refl
-  where
-    by : (t : Bool) → address_eq c d ≡ t → address_eq a b ≡ t
-    by true e = (address_eq-Decides a b).1 (other ((address_eq-Decides c d).0 e))
-    by false e = false_from_ne_true _ (λ same. absurd (true≢false
-        (sym ((address_eq-Decides c d).1 (one ((address_eq-Decides a b).0 same))) ∙ e)))
 
 -- ---- counts
 
@@ -77,13 +53,7 @@ module _ (model : ModelValue) (c : IsConsistent model) where
         ≡ is_variable v.number func
     variable_kept (Plain at) h =
         ap (address_eq (variable_address (place v.number))) (placed_address model at h)
-        ∙ addresses_alike (variable_address (place v.number))
-        (variable_address (place h.var.number))
-        (variable_address v.number) (variable_address h.var.number)
-        (λ e. ap variable_address (position_same variable_number
-        (variables model) c.variables_rise v h.var
-        there h.there (ap (λ a. a.number) e)))
-        (λ e. ap (λ a. variable_address (place a.number)) e)
+        ∙ ap is_eq (placed_order model c v h.var there h.there)
         ∙ ap (address_eq (variable_address v.number)) h.address
     variable_kept (Affine f) h = refl
     variable_kept (PlainVec vars) h = refl
@@ -94,25 +64,19 @@ module _ (model : ModelValue) (c : IsConsistent model) where
         (map (row_by_position model) rs)
         ≡ list_any (λ r. is_variable v.number r.func && test r.set) rs
     rows_kept test rs h =
-        any_made (row_by_position model)
-        (λ r. is_variable (place v.number) r.func && test r.set) rs
-        ∙ any_same
-        (λ r. is_variable (place v.number) (function_by_position (numbers model) r.func)
-        && test r.set)
-        (λ r. is_variable v.number r.func && test r.set) rs
-        (λ k d within. ap (λ b. b && test (slice_index_or rs k d).set)
-        (variable_kept (slice_index_or rs k d).func (h k d within)))
+        any_made (row_by_position model) (λ r. IsPlaced model r.func)
+        (λ r. is_variable (place v.number) r.func && test r.set)
+        (λ r. is_variable v.number r.func && test r.set)
+        (λ r placed. ap (λ b. b && test r.set) (variable_kept r.func placed)) rs h
 
     group_kept : (g : Group) → Contains model.groups g
         → has_variable (place v.number) (group_by_position model g) ≡ has_variable v.number g
     group_kept g inside =
-        any_made (made_variable model) (λ w. w.number == place v.number) g.vars
-        ∙ any_same (λ w. place w.number == place v.number) (λ w. w.number == v.number) g.vars
-        (λ k d within. position_test variable_number (variables model) c.variables_rise
-        (slice_index_or g.vars k d) v
-        (stands_in_joined (λ g. g.vars) model.groups g (slice_index_or g.vars k d) inside
-        (Contains-get_or g.vars k d within))
-        there)
+        any_made (made_variable model) (Contains g.vars) (λ w. w.number == place v.number)
+        (λ w. w.number == v.number)
+        (λ w own. position_test variable_number (variables model) c.variables_rise w v
+        (stands_in_joined (λ g. g.vars) model.groups g w inside own) there)
+        g.vars (All-contains_itself g.vars)
 
     created_kept : (test : Set → Bool) (other : ModelValue)
         → other.groups ≡ groups_by_position model
@@ -120,12 +84,9 @@ module _ (model : ModelValue) (c : IsConsistent model) where
     created_kept test other e =
         ap (λ gs. option_map_or (λ g. test g.set) (find (has_variable (place v.number)) gs) false) e
         ∙ ap (λ o. option_map_or (λ g. test g.set) o false)
-        (find_made (group_by_position model) (has_variable (place v.number)) model.groups
-        ∙ ap (option_map (group_by_position model))
-        (find_same (λ g. has_variable (place v.number) (group_by_position model g))
-        (has_variable v.number) model.groups
-        (λ k d within. group_kept (slice_index_or model.groups k d)
-        (Contains-get_or model.groups k d within))))
+        (find_made (group_by_position model) (Contains model.groups)
+        (has_variable (place v.number)) (has_variable v.number) group_kept model.groups
+        (All-contains_itself model.groups))
         ∙ set_kept (find (has_variable v.number) model.groups)
       where
         set_kept : (o : Option Group)

@@ -1,23 +1,23 @@
 -- Functions of a model by name, located in a model with its variables renumbered.
-use Rattle.std.specs.Prelude.{◌≡◌, ◌⊎◌, ℕ, ◌<◌, ◌==◌, true, ◌&&◌, cond, List, [], ◌∷◌, All, length, map, refl}
+use Rattle.std.specs.Prelude.{◌≡◌, ℕ, ◌&&◌, List, [], ◌∷◌, All, Contains, length, map, refl}
 use Rattle.std.specs.FinMap.{is_sorted}
 use Rattle.std.specs.FinMap.Entries.{below_all}
-use Rattle.std.specs.List.{list_all}
-use Rattle.std.specs.Cmp.{tied_itself}
-use Rattle.std.specs.Ordering.{is_lt, ordering_reverse, ordering_then}
+use Rattle.std.specs.Ordering.{is_lt, nat_cmp, ordering_then}
+use Rattle.std.specs.declared.cmp.Ordering.{Ordering}
 use Rattle.std.specs.declared.cmp.Ordering.TheVariants.{Less, Equal, Greater}
-use Rattle.std.proofs.Common.{ap, ap₂, inl, inr, sym, ◌∙◌}
-use Rattle.std.proofs.lemmas.Bool.{and_from, and_parts, cases_order, false≢true, lt-ltb}
+use Rattle.std.proofs.Common.{ap, ap₂, sym, ◌∙◌}
 use Rattle.std.proofs.lemmas.List.{length-map}
 use Rattle.std.proofs.lemmas.List.Elements.{All-head, All-tail}
+use Rattle.std.proofs.lemmas.List.Folds.{list_all-map}
 use Rattle.ratio_core.specs.Rational.{Rational}
-use Rattle.aff_core.specs.Address.{Address, address_cmp, address_total}
+use Rattle.aff_core.specs.Address.{Address, address_cmp}
 use Rattle.aff_core.specs.Function.{Function, function_of, gathered, terms_of}
 use Rattle.aff_core.specs.FunctionLaws.{coefficient-function_of, coefficient-gathered, constant-function_of, same_coefficients, terms_kept, terms_rise}
 use Rattle.aff_core.specs.KeyOrder.{address_order}
 use Rattle.aff_core.specs.Rising.{RiseStrictly}
 use Rattle.aff_core.specs.Terms.{HaveNoZero, is_nonzero}
 use Rattle.user_model.specs.declared.function.UserFunc.{UserFunc}
+use Rattle.user_model.specs.declared.group.GroupVar.{GroupVar}
 use Rattle.user_model.specs.declared.function.UserFunc.TheVariants.{Plain, Affine, PlainVec, AffineVec}
 use Rattle.user_model.specs.Consistent.{IsConsistent, variable_number}
 use Rattle.user_model.specs.Edited.{affine, located}
@@ -27,29 +27,32 @@ use Rattle.user_model.specs.SameUpToNumbers.{address_by_position, affine_by_posi
 use Rattle.mof_write.specs.Written.{naming}
 use Rattle.mof_laws.specs.ReadBack.{named_affine, named_function, named_term}
 use Rattle.mof_laws.specs.VariableLaws.{HasVariableAt}
-use Rattle.mof_round_trip.specs.Positions.{position_rises}
-use Rattle.mof_round_trip.specs.Renumbered.{HasVariables, address_again, address_of_name, numbers, placed_address}
+use Rattle.mof_round_trip.specs.Positions.{position_order}
+use Rattle.mof_round_trip.specs.Renumbered.{HasVariables, address_again, address_of_name, made_as, numbers, placed_address}
 
--- ---- addresses of variables in the order of their numbers
+-- ---- addresses of variables
 
-less_address : (m n : ℕ) → m < n → address_cmp (variable_address m) (variable_address n) ≡ Less
+then_equal : (o : Ordering) → ordering_then o Equal ≡ o
+then_equal Less = refl
+then_equal Equal = refl
+then_equal Greater = refl
+
+-- they compare as their numbers do
+variables_order : (m n : ℕ)
+    → address_cmp (variable_address m) (variable_address n) ≡ nat_cmp m n
 unfolding address_cmp
-less_address m n h =
-    ap (λ b. ordering_then (cond b Less (cond (m == n) Equal Greater)) Equal) (lt-ltb m n h)
+variables_order m n = then_equal (nat_cmp m n)
 
-lesser_number : (m n : ℕ) → is_lt (address_cmp (variable_address m) (variable_address n)) ≡ true
-    → m < n
-lesser_number m n e = by (cases_order m n)
-  where
-    by : (m ≡ n) ⊎ ((m < n) ⊎ (n < m)) → m < n
-    by (inl same) = absurd (false≢true
-        (sym (ap is_lt (tied_itself address_total (variable_address m)))
-        ∙ ap (λ k. is_lt (address_cmp (variable_address m) (variable_address k))) same ∙ e))
-    by (inr (inl below)) = below
-    by (inr (inr above)) = absurd (false≢true
-        (sym (ap is_lt (address_total.antisymm (variable_address m) (variable_address n)
-        ∙ ap ordering_reverse (less_address n m above)))
-        ∙ e))
+-- and positions as the numbers
+pub placed_order : (model : ModelValue) → IsConsistent model → (v w : GroupVar)
+    → Contains (variables model) v → Contains (variables model) w
+    → address_cmp (variable_address (position (numbers model) v.number))
+    (variable_address (position (numbers model) w.number))
+    ≡ address_cmp (variable_address v.number) (variable_address w.number)
+placed_order model c v w here there =
+    variables_order (position (numbers model) v.number) (position (numbers model) w.number)
+    ∙ position_order variable_number (variables model) c.variables_rise v w here there
+    ∙ sym (variables_order v.number w.number)
 
 -- ---- terms that rise
 
@@ -96,50 +99,38 @@ module _ (model : ModelValue) (c : IsConsistent model) where
 
   -- positions keep the order of addresses
   order_kept : (one other : Address) → HasVariableAt model one → HasVariableAt model other
-      → is_lt (address_cmp one other) ≡ true
-      → is_lt (address_cmp (address_by_position ns one) (address_by_position ns other)) ≡ true
-  order_kept one other h g less =
-      ap₂ (λ a b. is_lt (address_cmp a b)) (placed_address model one h)
-      (placed_address model other g)
-      ∙ ap is_lt (less_address (position ns h.var.number) (position ns g.var.number)
-      (position_rises variable_number (variables model) c.variables_rise h.var g.var h.there g.there
-      (lesser_number h.var.number g.var.number
-      (ap₂ (λ a b. is_lt (address_cmp a b)) h.address g.address ∙ less))))
+      → address_cmp (address_by_position ns one) (address_by_position ns other)
+      ≡ address_cmp one other
+  order_kept one other h g =
+      ap₂ address_cmp (placed_address model one h) (placed_address model other g)
+      ∙ placed_order model c h.var g.var h.there g.there
+      ∙ ap₂ address_cmp h.address g.address
 
   below_kept : (t : Address × Rational) (ts : List (Address × Rational)) → HasVariableAt model t.0
-      → HaveVariables model ts → below_all address_cmp t.0 ts ≡ true
-      → below_all address_cmp (address_by_position ns t.0) (map (placed_term model) ts) ≡ true
-  below_kept t [] h there below = refl
-  below_kept t (u ∷ us) h there below =
-      let parts = and_parts (is_lt (address_cmp t.0 u.0)) (below_all address_cmp t.0 us) below in
-      and_from _ _
-      (order_kept t.0 u.0 h (All-head (HasVariable model) u us there) parts.0)
-      (below_kept t us h (All-tail (HasVariable model) u us there) parts.1)
+      → HaveVariables model ts
+      → below_all address_cmp (address_by_position ns t.0) (map (placed_term model) ts)
+      ≡ below_all address_cmp t.0 ts
+  below_kept t [] h there = refl
+  below_kept t (u ∷ us) h there =
+      ap₂ (λ o b. is_lt o && b) (order_kept t.0 u.0 h (All-head (HasVariable model) u us there))
+      (below_kept t us h (All-tail (HasVariable model) u us there))
 
   sorted_kept : (ts : List (Address × Rational)) → HaveVariables model ts
-      → is_sorted address_cmp ts ≡ true
-      → is_sorted address_cmp (map (placed_term model) ts) ≡ true
-  sorted_kept [] there sorted = refl
-  sorted_kept (t ∷ ts) there sorted =
-      let parts = and_parts (below_all address_cmp t.0 ts) (is_sorted address_cmp ts) sorted in
-      and_from _ _
-      (below_kept t ts (All-head (HasVariable model) t ts there)
-      (All-tail (HasVariable model) t ts there) parts.0)
-      (sorted_kept ts (All-tail (HasVariable model) t ts there) parts.1)
+      → is_sorted address_cmp (map (placed_term model) ts) ≡ is_sorted address_cmp ts
+  sorted_kept [] there = refl
+  sorted_kept (t ∷ ts) there =
+      let later = All-tail (HasVariable model) t ts there in
+      ap₂ ◌&&◌ (below_kept t ts (All-head (HasVariable model) t ts there) later)
+      (sorted_kept ts later)
 
   placed_rise : (f : Function) → HasTerms model f
       → RiseStrictly (map (placed_term model) (terms_of f))
   placed_rise f there =
-      record { rising = sorted_kept (terms_of f) there ((terms_rise f).rising) }
+      record { rising = sorted_kept (terms_of f) there ∙ (terms_rise f).rising }
 
   placed_nonzero : (ts : List (Address × Rational)) → HaveNoZero ts
       → HaveNoZero (map (placed_term model) ts)
-  placed_nonzero ts h = same ts ∙ h
-    where
-      same : (ts : List (Address × Rational))
-          → list_all is_nonzero (map (placed_term model) ts) ≡ list_all is_nonzero ts
-      same [] = refl
-      same (t ∷ ts) = ap (λ b. is_nonzero t && b) (same ts)
+  placed_nonzero ts h = list_all-map is_nonzero (placed_term model) ts ∙ h
 
   -- its terms are those of the function, each at the address of its variable's position
   pub placed_terms : (f : Function) → HasTerms model f
@@ -158,14 +149,8 @@ module _ (model : ModelValue) (c : IsConsistent model) where
   placed_counts (Plain var) h = refl
   placed_counts (Affine f) h = ap (λ n. n ∷ []) (placed_count f h)
   placed_counts (PlainVec vars) h = refl
-  placed_counts (AffineVec fs) h = each fs h
-    where
-      each : (fs : List Function) → All {X = Function} (HasTerms model) fs
-          → map term_count (map (affine_by_position ns) fs) ≡ map term_count fs
-      each [] h = refl
-      each (f ∷ fs) h =
-          ap₂ (λ n ms. n ∷ ms) (placed_count f (All-head {X = Function} (HasTerms model) f fs h))
-          (each fs (All-tail {X = Function} (HasTerms model) f fs h))
+  placed_counts (AffineVec fs) h =
+      made_as (affine_by_position ns) (HasTerms model) term_count term_count placed_count fs h
 
   -- ---- found by name
 
@@ -174,11 +159,10 @@ module _ (model : ModelValue) (c : IsConsistent model) where
         → map (λ t. (address_named other t.variable, t.coefficient))
         (map (named_term (naming model)) ts)
         ≡ map (placed_term model) ts
-    located_terms [] there = refl
-    located_terms (t ∷ ts) there =
-        ap₂ (λ at us. (at, t.1) ∷ us)
-        (address_of_name model c other has t.0 (All-head (HasVariable model) t ts there))
-        (located_terms ts (All-tail (HasVariable model) t ts there))
+    located_terms ts there =
+        made_as (named_term (naming model)) (HasVariable model)
+        (λ t. (address_named other t.variable, t.coefficient)) (placed_term model)
+        (λ t h. ap (λ at. (at, t.1)) (address_of_name model c other has t.0 h)) ts there
 
     pub located_affine : (f : Function) → HasTerms model f
         → affine other (named_affine (naming model) f) ≡ affine_by_position ns f
@@ -190,40 +174,21 @@ module _ (model : ModelValue) (c : IsConsistent model) where
         → located other (named_function (naming model) func) ≡ function_by_position ns func
     located_is (Plain var) h = ap Plain (address_of_name model c other has var h)
     located_is (Affine f) h = ap Affine (located_affine f h)
-    located_is (PlainVec vars) h = ap PlainVec (each vars h)
-      where
-        each : (vars : List Address) → All (HasVariableAt model) vars
-            → map (address_named other) (map (naming model) vars)
-            ≡ map (address_by_position ns) vars
-        each [] h = refl
-        each (at ∷ vars) h =
-            ap₂ (λ a us. a ∷ us)
-            (address_of_name model c other has at (All-head (HasVariableAt model) at vars h))
-            (each vars (All-tail (HasVariableAt model) at vars h))
-    located_is (AffineVec fs) h = ap AffineVec (each fs h)
-      where
-        each : (fs : List Function) → All {X = Function} (HasTerms model) fs
-            → map (affine other) (map (named_affine (naming model)) fs)
-            ≡ map (affine_by_position ns) fs
-        each [] h = refl
-        each (f ∷ fs) h =
-            ap₂ (λ g gs. g ∷ gs)
-            (located_affine f (All-head {X = Function} (HasTerms model) f fs h))
-            (each fs (All-tail {X = Function} (HasTerms model) f fs h))
+    located_is (PlainVec vars) h =
+        ap PlainVec (made_as (naming model) (HasVariableAt model) (address_named other)
+        (address_by_position ns) (address_of_name model c other has) vars h)
+    located_is (AffineVec fs) h =
+        ap AffineVec (made_as (named_affine (naming model)) (HasTerms model) (affine other)
+        (affine_by_position ns) located_affine fs h)
 
   -- ---- renumbered once more
 
   module _ (other : ModelValue) (d : IsConsistent other) (has : HasVariables model other) where
-    abbrev once_more : Address → Address
-    once_more at = address_by_position (variable_numbers other) at
-
     terms_again : (ts : List (Address × Rational)) → HaveVariables model ts
         → map (placed_term other) (map (placed_term model) ts) ≡ map (placed_term model) ts
-    terms_again [] there = refl
-    terms_again (t ∷ ts) there =
-        ap₂ (λ at us. (at, t.1) ∷ us)
-        (address_again model c other d has t.0 (All-head (HasVariable model) t ts there))
-        (terms_again ts (All-tail (HasVariable model) t ts there))
+    terms_again ts there =
+        made_as (placed_term model) (HasVariable model) (placed_term other) (placed_term model)
+        (λ t h. ap (λ at. (at, t.1)) (address_again model c other d has t.0 h)) ts there
 
     pub affine_again : (f : Function) → HasTerms model f
         → affine_by_position (variable_numbers other) (affine_by_position ns f)
@@ -240,22 +205,10 @@ module _ (model : ModelValue) (c : IsConsistent model) where
         ≡ function_by_position ns func
     function_again (Plain var) h = ap Plain (address_again model c other d has var h)
     function_again (Affine f) h = ap Affine (affine_again f h)
-    function_again (PlainVec vars) h = ap PlainVec (each vars h)
-      where
-        each : (vars : List Address) → All (HasVariableAt model) vars
-            → map once_more (map (address_by_position ns) vars) ≡ map (address_by_position ns) vars
-        each [] h = refl
-        each (at ∷ vars) h =
-            ap₂ (λ a us. a ∷ us)
-            (address_again model c other d has at (All-head (HasVariableAt model) at vars h))
-            (each vars (All-tail (HasVariableAt model) at vars h))
-    function_again (AffineVec fs) h = ap AffineVec (each fs h)
-      where
-        each : (fs : List Function) → All {X = Function} (HasTerms model) fs
-            → map (affine_by_position (variable_numbers other)) (map (affine_by_position ns) fs)
-            ≡ map (affine_by_position ns) fs
-        each [] h = refl
-        each (f ∷ fs) h =
-            ap₂ (λ g gs. g ∷ gs)
-            (affine_again f (All-head {X = Function} (HasTerms model) f fs h))
-            (each fs (All-tail {X = Function} (HasTerms model) f fs h))
+    function_again (PlainVec vars) h =
+        ap PlainVec (made_as (address_by_position ns) (HasVariableAt model)
+        (address_by_position (variable_numbers other)) (address_by_position ns)
+        (address_again model c other d has) vars h)
+    function_again (AffineVec fs) h =
+        ap AffineVec (made_as (affine_by_position ns) (HasTerms model)
+        (affine_by_position (variable_numbers other)) (affine_by_position ns) affine_again fs h)

@@ -3,12 +3,11 @@ use Rattle.std.specs.Prelude.{◌≡◌, ◌≢◌, ℕ, suc, ◌+◌, ◌≤◌
 use Rattle.std.specs.List.{list_any}
 use Rattle.std.proofs.Common.{ap, ap₂, append-nil, append_assoc, arith, subst, sym, ◌∙◌}
 use Rattle.std.proofs.lemmas.Bool.{le-ltb, and_right, eq-eqb, false_from_ne_true, or_from}
-use Rattle.std.proofs.lemmas.List.{length-append, length-map, map-append}
+use Rattle.std.proofs.lemmas.List.{length-append, length-map, map_push}
 use Rattle.std.proofs.lemmas.List.Kept.{AllPairs-cons}
 use Rattle.std.proofs.lemmas.List.Concat.{flat_map-append}
 use Rattle.std.proofs.lemmas.List.Elements.{All-cons, All-head, All-tail}
 use Rattle.std.proofs.lemmas.Slice.Eq.{bytes_eq-Decides}
-use Rattle.numbered.specs.Numbered.{Rise}
 use Rattle.set_core.specs.declared.set.Set.{Set}
 use Rattle.set_core.specs.Shapes.{IsSetOf, dimension_of, has_bad_dimension, is_scalar, least_dimension}
 use Rattle.user_model.specs.declared.edit.Edit.{Edit}
@@ -19,7 +18,7 @@ use Rattle.user_model.specs.Consistent.{variable_number}
 use Rattle.user_model.specs.Edited.{edited, group_number, numbered_from}
 use Rattle.user_model.specs.Model.{ModelValue, variables}
 use Rattle.user_model.specs.Refusals.{counts, has_twins, has_variable_named}
-use Rattle.user_model.specs.SameUpToNumbers.{group_by_position, position}
+use Rattle.user_model.specs.SameUpToNumbers.{group_by_position}
 use Rattle.user_model.specs.Valid.{IsValid, IsValidGroup}
 use Rattle.model_laws.specs.Found.{is_some-find, is_some-option_map}
 use Rattle.model_laws.specs.Pairs.{AllPairs-head, AllPairs-tail, All-left, All-right}
@@ -28,9 +27,9 @@ use Rattle.mof_laws.specs.EditLaws.{group_edit, some_components}
 use Rattle.mof_laws.specs.OwnerLaws.{vars_in}
 use Rattle.mof_laws.specs.ReadBack.{var_names}
 use Rattle.mof_laws.specs.WrittenLaws.{scalar_one}
-use Rattle.mof_round_trip.specs.Accepted.{AreWithin, LeadTo, each_within, lead_on}
+use Rattle.mof_round_trip.specs.Accepted.{AreWithin, LeadTo, each_leads, each_within}
 use Rattle.mof_round_trip.specs.Positions.{placed_here}
-use Rattle.mof_round_trip.specs.Renumbered.{any_made, made_variable, made_variables, numbers}
+use Rattle.mof_round_trip.specs.Renumbered.{made_variable, made_variables, none_made}
 
 -- ---- sets of so many components
 
@@ -60,31 +59,18 @@ across R (x ∷ xs) ys h = λ k d within.
     (All-right (R x) xs ys (AllPairs-head R x (xs ++ ys) h) k d within)
     (across R xs ys (AllPairs-tail R x (xs ++ ys) h) k d within)
 
--- no item of the list has the name
-pub none_named : {X : Type 0} (name_of : X → List ℕ) (name : List ℕ) (xs : List X)
-    → All (λ x. name_of x ≢ name) xs → list_any (λ x. bytes_eq (name_of x) name) xs ≡ false
-none_named name_of name [] h = refl
-none_named name_of name (x ∷ xs) h =
-    or_from _ _
-    (false_from_ne_true _ (λ e. All-head (λ x. name_of x ≢ name) x xs h
-    ((bytes_eq-Decides (name_of x) name).0 e)))
-    (none_named name_of name xs (All-tail (λ x. name_of x ≢ name) x xs h))
+pub other_name : (name other : List ℕ) → name ≢ other → bytes_eq name other ≡ false
+other_name name other apart =
+    false_from_ne_true _ (λ e. apart ((bytes_eq-Decides name other).0 e))
 
 no_twins : (vs : List GroupVar) → AllPairs {X = GroupVar} (λ v w. v.name ≢ w.name) vs
     → has_twins (var_names vs) ≡ false
 no_twins [] h = refl
 no_twins (v ∷ vs) h =
-    or_from _ _ (none vs (AllPairs-head (λ v w. v.name ≢ w.name) v vs h))
+    or_from _ _
+    (none_made (λ w. w.name) (λ w. v.name ≢ w.name) (bytes_eq v.name)
+    (λ w. other_name v.name w.name) vs (AllPairs-head (λ v w. v.name ≢ w.name) v vs h))
     (no_twins vs (AllPairs-tail (λ v w. v.name ≢ w.name) v vs h))
-  where
-    none : (ws : List GroupVar) → All {X = GroupVar} (λ w. v.name ≢ w.name) ws
-        → list_any (bytes_eq v.name) (var_names ws) ≡ false
-    none [] h = refl
-    none (w ∷ ws) h =
-        or_from _ _
-        (false_from_ne_true _ (λ e. All-head {X = GroupVar} (λ w. v.name ≢ w.name) w ws h
-        ((bytes_eq-Decides v.name w.name).0 e)))
-        (none ws (All-tail {X = GroupVar} (λ w. v.name ≢ w.name) w ws h))
 
 pairs_left : {X : Type 0} (R : X → X → Type 0) (xs ys : List X) → AllPairs R (xs ++ ys)
     → AllPairs R xs
@@ -131,15 +117,15 @@ module _ (model : ModelValue) where
 
   -- a name that no variable of the groups has
   unnamed : (done : List Group) (name : List ℕ)
-      → list_any (λ v. bytes_eq v.name name) (vars_in done) ≡ false
+      → All {X = GroupVar} (λ v. v.name ≢ name) (vars_in done)
       → has_variable_named (with_groups done) name ≡ false
   unnamed done name h =
       is_some-option_map (λ v. v.number)
       (find (λ v. bytes_eq v.name name) (variables (with_groups done)))
       ∙ is_some-find (λ v. bytes_eq v.name name) (variables (with_groups done))
       ∙ ap (list_any (λ v. bytes_eq v.name name)) (made_variables model done)
-      ∙ any_made (made_variable model) (λ v. bytes_eq v.name name) (vars_in done)
-      ∙ h
+      ∙ none_made (made_variable model) (λ v. v.name ≢ name) (λ v. bytes_eq v.name name)
+      (λ v. other_name v.name name) (vars_in done) h
 
 module _ (model : ModelValue) (valid : IsValid model) where
   -- variables between others are numbered from their place on
@@ -148,17 +134,12 @@ module _ (model : ModelValue) (valid : IsValid model) where
   numbered_on before [] after e = refl
   numbered_on before (v ∷ vs) after e =
       ap₂ (λ n ws. variable_with n v.name ∷ ws)
-      (sym place)
+      (sym (placed_here variable_number (variables model) valid.consistent.variables_rise before v
+      (vs ++ after) e))
       (ap (λ n. numbered_from n (var_names vs)) (longer before)
       ∙ numbered_on (before ++ v ∷ []) vs after
       (e ∙ sym (append_assoc before (v ∷ []) (vs ++ after))))
     where
-      place : position (numbers model) v.number ≡ length before
-      place =
-          ap (λ ws. position (map variable_number ws) v.number) e
-          ∙ placed_here variable_number before v (vs ++ after)
-          (subst (Rise variable_number) e valid.consistent.variables_rise)
-
       longer : (xs : List GroupVar) → suc (length xs) ≡ length (xs ++ v ∷ [])
       longer xs = omega (arith, length-append xs (v ∷ []))
 
@@ -186,17 +167,10 @@ module _ (model : ModelValue) (valid : IsValid model) where
 
     free_names : list_any (has_variable_named (with_groups model done)) (var_names g.vars) ≡ false
     free_names =
-        each g.vars (All-left (NewName done) g.vars (vars_in rest)
+        none_made (λ v. v.name) (NewName done) (has_variable_named (with_groups model done))
+        (λ w. unnamed model done w.name) g.vars
+        (All-left (NewName done) g.vars (vars_in rest)
         (across OtherName (vars_in done) (g.vars ++ vars_in rest) names_apart))
-      where
-        each : (ws : List GroupVar) → All (NewName done) ws
-            → list_any (has_variable_named (with_groups model done)) (var_names ws) ≡ false
-        each [] h = refl
-        each (w ∷ ws) h =
-            or_from _ _
-            (unnamed model done w.name
-            (none_named (λ v. v.name) w.name (vars_in done) (All-head (NewName done) w ws h)))
-            (each ws (All-tail (NewName done) w ws h))
 
     single_names : has_twins (var_names g.vars) ≡ false
     single_names =
@@ -247,14 +221,9 @@ module _ (model : ModelValue) (valid : IsValid model) where
         (numbered_from (length (vars_in done)) (var_names g.vars)) g.set
         ≡ group_by_position model g
     made_group =
-        ap₂ (λ n vs. group_with n vs g.set) (sym place)
+        ap₂ (λ n vs. group_with n vs g.set)
+        (sym (placed_here group_number model.groups valid.consistent.groups_rise done g rest whole))
         (numbered_on (vars_in done) g.vars (vars_in rest) all_variables)
-      where
-        place : position (map group_number model.groups) g.id ≡ length done
-        place =
-            ap (λ gs. position (map group_number gs) g.id) whole
-            ∙ placed_here group_number done g rest
-            (subst (Rise group_number) whole valid.consistent.groups_rise)
 
     group_added : edited (with_groups model done) (group_edit g)
         ≡ with_groups model (done ++ g ∷ [])
@@ -266,7 +235,7 @@ module _ (model : ModelValue) (valid : IsValid model) where
             ≡ map (group_by_position model) (done ++ g ∷ [])
         group_list =
             ap (λ h. map (group_by_position model) done ++ h ∷ []) made_group
-            ∙ sym (map-append (group_by_position model) done (g ∷ []))
+            ∙ sym (map_push (group_by_position model) done g)
 
         group_count : length done + 1 ≡ length (done ++ g ∷ [])
         group_count = omega (arith, length-append done (g ∷ []))
@@ -279,15 +248,10 @@ module _ (model : ModelValue) (valid : IsValid model) where
             ∙ sym (length-append (vars_in done) (vars_in (g ∷ [])))
             ∙ ap length (sym (flat_map-append (λ g. g.vars) done (g ∷ [])))
 
-  -- the groups that are left lead to all groups
-  pub groups_lead : (done rest : List Group) → model.groups ≡ done ++ rest → (es : List Edit)
-      (new : ModelValue) → LeadTo (with_groups model model.groups) es new
-      → LeadTo (with_groups model done) (map group_edit rest ++ es) new
-  groups_lead done [] whole es new next =
-      subst (λ gs. LeadTo (with_groups model gs) es new) (whole ∙ append-nil done) next
-  groups_lead done (g ∷ rest) whole es new next =
-      lead_on (with_groups model done) (with_groups model (done ++ g ∷ [])) new (group_edit g)
-      (map group_edit rest ++ es) (group_passes done g rest whole)
-      (group_added done g rest whole)
-      (groups_lead (done ++ g ∷ []) rest (whole ∙ sym (append_assoc done (g ∷ []) rest)) es new
-      next)
+  -- the groups' edits lead to all groups
+  pub groups_lead : (es : List Edit) (new : ModelValue)
+      → LeadTo (with_groups model model.groups) es new
+      → LeadTo (with_groups model []) (map group_edit model.groups ++ es) new
+  groups_lead =
+      each_leads (with_groups model) group_edit model.groups group_passes group_added []
+      model.groups refl

@@ -62,26 +62,6 @@ module _ (model : ModelValue) (valid : IsValid model) where
       terms_kept model valid model.rows (placed_rows model model.rows valid.parts.valid_rows)
 
   -- behind all rows, an objective whose names are known, and that fits
-  objective_passes : (sense : Sense) (func : NamedFunc) (o : Objective)
-      → edited all_rows (edit.Objective sense func) ≡ with_objective o
-      → list_any (unknown all_rows) (mentioned func) ≡ false
-      → is_scalar_named func ≡ true
-      → AreWithin (counts_after (with_objective o))
-      → IsPassed all_rows (edit.Objective sense func)
-  objective_passes sense func o is known scalar fits = record {
-    known = or_from _ _ known refl;
-    free = refl;
-    shaped = ap (λ b. not b) scalar;
-    dimension = refl;
-    output = refl;
-    interval = refl;
-    lower = refl;
-    upper = refl;
-    of_type = refl;
-    deletable = refl;
-    counted = each_within _ (subst (λ m. AreWithin (counts_after m)) (sym is) fits);
-  }
-
   objective_leads : (sense : Sense) (func : NamedFunc) (o : Objective)
       → edited all_rows (edit.Objective sense func) ≡ with_objective o
       → list_any (unknown all_rows) (mentioned func) ≡ false
@@ -89,8 +69,21 @@ module _ (model : ModelValue) (valid : IsValid model) where
       → AreWithin (counts_after (with_objective o))
       → LeadTo all_rows (edit.Objective sense func ∷ []) (with_objective o)
   objective_leads sense func o is known scalar fits =
-      lead_on all_rows (with_objective o) (with_objective o) (edit.Objective sense func) []
-      (objective_passes sense func o is known scalar fits) is refl
+      let passes : IsPassed all_rows (edit.Objective sense func) = record {
+        known = or_from _ _ known refl;
+        free = refl;
+        shaped = ap (λ b. not b) scalar;
+        dimension = refl;
+        output = refl;
+        interval = refl;
+        lower = refl;
+        upper = refl;
+        of_type = refl;
+        deletable = refl;
+        counted = each_within _ (subst (λ m. AreWithin (counts_after m)) (sym is) fits);
+      } in
+      lead_on all_rows (with_objective o) (with_objective o) (edit.Objective sense func) [] passes
+      is refl
 
   plain_is : (sense : Sense) (var : Address) → HasVariableAt model var
       → edited all_rows (edit.Objective sense (named.Plain (naming model var)))

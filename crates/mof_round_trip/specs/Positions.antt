@@ -1,12 +1,14 @@
 -- Positions of numbers in a list whose numbers rise.
-use Rattle.std.specs.Prelude.{◌≡◌, ◌≢◌, ◌⊎◌, ℕ, zero, suc, ◌+◌, ◌<◌, ◌≤◌, ◌==◌, nat_lt, cond, List, [], ◌∷◌, ◌++◌, All, Contains, map, length, slice_index_or, refl}
+use Rattle.std.specs.Prelude.{◌≡◌, ◌⊎◌, ℕ, zero, suc, ◌+◌, ◌<◌, ◌≤◌, ◌==◌, nat_lt, cond, List, [], ◌∷◌, ◌++◌, All, Contains, map, length, slice_index_or, refl}
+use Rattle.std.specs.Ordering.{nat_cmp}
 use Rattle.std.proofs.Common.{ap, arith, inl, inr, sym, ◌∙◌}
-use Rattle.std.proofs.lemmas.Bool.{cases_eq, cases_order, le-ltb, lt-ltb}
+use Rattle.std.proofs.lemmas.Bool.{cases_order, le-ltb, lt-ltb}
+use Rattle.std.proofs.lemmas.Bool.Decides.{nat_tests}
 use Rattle.std.proofs.lemmas.List.{get_or-map, get_or_at, get_or_default, length-append, length-map}
 use Rattle.std.proofs.lemmas.List.Sums.{sum_by-cons}
 use Rattle.std.proofs.lemmas.List.Elements.{All-head, All-tail}
 use Rattle.numbered.specs.Numbered.{Rise}
-use Rattle.numbered.specs.Laws.{Rise-head, Rise-tail, other_number, same_number}
+use Rattle.numbered.specs.Laws.{Rise-head, Rise-tail}
 use Rattle.user_model.specs.SameUpToNumbers.{position}
 
 step : (m : ℕ) (ms : List ℕ) (n : ℕ) → position (m ∷ ms) n ≡ cond (nat_lt m n) 1 0 + position ms n
@@ -19,6 +21,15 @@ counted m ms n h =
 uncounted : (m : ℕ) (ms : List ℕ) (n : ℕ) → n ≤ m → position (m ∷ ms) n ≡ position ms n
 uncounted m ms n h =
     step m ms n ∙ ap (λ b. cond b 1 0 + position ms n) (le-ltb m n h) ∙ omega arith
+
+-- numbers in the order of two others
+cmp_alike : (m n p q : ℕ) → (m < n → p < q) → (n < m → q < p) → (m ≡ n → p ≡ q)
+    → nat_cmp p q ≡ nat_cmp m n
+cmp_alike m n p q less more same = grind (arith, nat_tests)
+
+test_alike : (m n p q : ℕ) → (m < n → p < q) → (n < m → q < p) → (m ≡ n → p ≡ q)
+    → (p == q) ≡ (m == n)
+test_alike m n p q less more same = grind (arith, nat_tests)
 
 module _ {X : Type 0} (number_of : X → ℕ) where
   none_counted : (xs : List X) (n : ℕ) → All (λ x. n < number_of x) xs
@@ -47,14 +58,15 @@ module _ {X : Type 0} (number_of : X → ℕ) where
       ap (λ y. position (map number_of xs) (number_of y)) (sym there.2)
       ∙ at_place xs rise there.0 x there.1
 
-  pub placed_here : (done : List X) (x : X) (rest : List X) → Rise number_of (done ++ x ∷ rest)
-      → position (map number_of (done ++ x ∷ rest)) (number_of x) ≡ length done
-  placed_here done x rest rise =
-      placed (done ++ x ∷ rest) rise x (
+  -- and so is that of the item behind some
+  pub placed_here : (all : List X) → Rise number_of all → (done : List X) (x : X) (rest : List X)
+      → all ≡ done ++ x ∷ rest → position (map number_of all) (number_of x) ≡ length done
+  placed_here all rise done x rest whole =
+      placed all rise x (
         length done,
-        omega (arith, length-append done (x ∷ rest)),
-        get_or_at done x rest x
-            (length done) refl,
+        omega (arith, ap length whole, length-append done (x ∷ rest)),
+        ap (λ ys. slice_index_or ys (length done) x) whole
+            ∙ get_or_at done x rest x (length done) refl,
       )
 
   -- an item that is made of another stands at its place
@@ -88,7 +100,7 @@ module _ {X : Type 0} (number_of : X → ℕ) where
   module _ (xs : List X) (rise : Rise number_of xs) (x y : X) (here : Contains xs x)
       (there : Contains xs y) where
     -- a lesser number stands at a lesser position
-    pub position_rises : number_of x < number_of y
+    position_rises : number_of x < number_of y
         → position (map number_of xs) (number_of x) < position (map number_of xs) (number_of y)
     position_rises less =
         let first = placed xs rise x here in
@@ -105,26 +117,20 @@ module _ {X : Type 0} (number_of : X → ℕ) where
             let more = less_number xs rise y x there here above in absurd
             (omega (arith, less, more))
 
-  -- items at one position have one number
-  pub position_same : (xs : List X) → Rise number_of xs → (x y : X) → Contains xs x → Contains xs y
-      → position (map number_of xs) (number_of x) ≡ position (map number_of xs) (number_of y)
-      → number_of x ≡ number_of y
-  position_same xs rise x y here there e =
-      ap number_of (same_item xs rise x y here there
-      (sym (placed xs rise x here) ∙ e ∙ placed xs rise y there))
+  -- positions compare as the numbers do
+  pub position_order : (xs : List X) → Rise number_of xs → (x y : X) → Contains xs x
+      → Contains xs y
+      → nat_cmp (position (map number_of xs) (number_of x))
+      (position (map number_of xs) (number_of y))
+      ≡ nat_cmp (number_of x) (number_of y)
+  position_order xs rise x y here there =
+      cmp_alike (number_of x) (number_of y) _ _ (position_rises xs rise x y here there)
+      (position_rises xs rise y x there here) (ap (position (map number_of xs)))
 
-  -- positions are one where the numbers are
+  -- and they are one where the numbers are
   pub position_test : (xs : List X) → Rise number_of xs → (x y : X) → Contains xs x → Contains xs y
       → (position (map number_of xs) (number_of x) == position (map number_of xs) (number_of y))
       ≡ (number_of x == number_of y)
-  position_test xs rise x y here there = by (cases_eq (number_of x) (number_of y))
-    where
-      by : (number_of x ≡ number_of y) ⊎ (number_of x ≢ number_of y)
-          → (position (map number_of xs) (number_of x) == position (map number_of xs) (number_of y))
-          ≡ (number_of x == number_of y)
-      by (inl e) =
-          same_number _ _ (ap (position (map number_of xs)) e)
-          ∙ sym (same_number (number_of x) (number_of y) e)
-      by (inr apart) =
-          other_number _ _ (λ e. apart (position_same xs rise x y here there e))
-          ∙ sym (other_number (number_of x) (number_of y) apart)
+  position_test xs rise x y here there =
+      test_alike (number_of x) (number_of y) _ _ (position_rises xs rise x y here there)
+      (position_rises xs rise y x there here) (ap (position (map number_of xs)))

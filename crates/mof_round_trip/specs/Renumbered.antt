@@ -3,6 +3,7 @@ use Rattle.std.specs.Prelude.{◌≡◌, ℕ, Bool, true, false, ◌||◌, cond,
 use Rattle.std.specs.List.{list_any}
 use Rattle.std.specs.Option.{option_map}
 use Rattle.std.proofs.Common.{ap, ap₂, subst, sym, ◌∙◌}
+use Rattle.std.proofs.lemmas.Bool.{or_from}
 use Rattle.std.proofs.lemmas.List.{map-append}
 use Rattle.std.proofs.lemmas.List.Elements.{All-head, All-tail}
 use Rattle.std.proofs.lemmas.Slice.Eq.{bytes_eq-Decides}
@@ -31,28 +32,44 @@ renumbered model = record {
   };
 }
 
--- what is found among items that are made of others
-pub find_made : {X Y : Type 0} (f : X → Y) (test : Y → Bool) (xs : List X)
-    → find test (map f xs) ≡ option_map f (find (λ x. test (f x)) xs)
-find_made f test [] = refl
-find_made f test (x ∷ xs) =
-    elim (test (f x)) as (λ b. cond b (Some (f x)) (find test (map f xs))
-    ≡ option_map f (cond b (Some x) (find (λ x. test (f x)) xs)))
-    [ true ↦ refl | false ↦ find_made f test xs ]
+-- ---- items that are made of others
 
--- what passes among items that are made of others
-pub any_made : {X Y : Type 0} (f : X → Y) (test : Y → Bool) (xs : List X)
-    → list_any test (map f xs) ≡ list_any (λ x. test (f x)) xs
-any_made f test [] = refl
-any_made f test (x ∷ xs) = ap (λ b. test (f x) || b) (any_made f test xs)
+module _ {X Y : Type 0} (f : X → Y) (P : X → Type 0) where
+  -- made of what was made, where each is as h makes it at once
+  pub made_as : {Z : Type 0} (g : Y → Z) (h : X → Z) → ((x : X) → P x → g (f x) ≡ h x)
+      → (xs : List X) → All P xs → map g (map f xs) ≡ map h xs
+  made_as g h same [] all = refl
+  made_as g h same (x ∷ xs) all =
+      ap₂ ◌∷◌ (same x (All-head P x xs all)) (made_as g h same xs (All-tail P x xs all))
 
--- items that a second making leaves as the first made them
-pub map_again : {X : Type 0} (f h : X → X) (xs : List X) → All (λ x. h (f x) ≡ f x) xs
-    → map h (map f xs) ≡ map f xs
-map_again f h [] same = refl
-map_again f h (x ∷ xs) same =
-    ap₂ (λ y ys. y ∷ ys) (All-head (λ x. h (f x) ≡ f x) x xs same)
-    (map_again f h xs (All-tail (λ x. h (f x) ≡ f x) x xs same))
+  module _ (test : Y → Bool) (passes : X → Bool)
+      (same : (x : X) → P x → test (f x) ≡ passes x) where
+    -- whether one passes
+    pub any_made : (xs : List X) → All P xs → list_any test (map f xs) ≡ list_any passes xs
+    any_made [] all = refl
+    any_made (x ∷ xs) all =
+        ap₂ ◌||◌ (same x (All-head P x xs all)) (any_made xs (All-tail P x xs all))
+
+    -- the first that passes
+    pub find_made : (xs : List X) → All P xs
+        → find test (map f xs) ≡ option_map f (find passes xs)
+    find_made [] all = refl
+    find_made (x ∷ xs) all =
+        ap₂ (λ b o. cond b (Some (f x)) o) (same x (All-head P x xs all))
+        (find_made xs (All-tail P x xs all))
+        ∙ over (passes x)
+      where
+        over : (b : Bool) → cond b (Some (f x)) (option_map f (find passes xs))
+            ≡ option_map f (cond b (Some x) (find passes xs))
+        over true = refl
+        over false = refl
+
+  -- none passes
+  pub none_made : (test : Y → Bool) → ((x : X) → P x → test (f x) ≡ false) → (xs : List X)
+      → All P xs → list_any test (map f xs) ≡ false
+  none_made test fails [] all = refl
+  none_made test fails (x ∷ xs) all =
+      or_from _ _ (fails x (All-head P x xs all)) (none_made test fails xs (All-tail P x xs all))
 
 module _ (model : ModelValue) where
   abbrev pub numbers : List ℕ
@@ -99,7 +116,8 @@ module _ (model : ModelValue) (c : IsConsistent model) where
     number_found v there =
         ap (λ vs. option_map (λ w. w.number) (find (λ w. bytes_eq w.name v.name) vs)) has.made
         ∙ ap (option_map (λ w. w.number))
-        (find_made (made_variable model) (λ w. bytes_eq w.name v.name) (variables model))
+        (find_made (made_variable model) (λ w. Unit {0}) (λ w. bytes_eq w.name v.name)
+        (λ w. bytes_eq w.name v.name) (λ w all. refl) (variables model) (λ k d within. tt))
         ∙ ap (λ o. option_map (λ w. w.number) (option_map (made_variable model) o))
         (found_variable v there)
 

@@ -1,8 +1,8 @@
 -- What is written of a valid model makes it again: the edits that are read of the text, made one
 -- after another on an empty model, are accepted and give a model that is the same up to numbers.
-use Rattle.std.specs.Prelude.{◌≡◌, ℕ, List, [], ◌++◌, Contains, Ok, map, slice_index_or, refl}
+use Rattle.std.specs.Prelude.{◌≡◌, ℕ, List, [], ◌++◌, Contains, Ok, map, refl}
 use Rattle.std.proofs.Common.{ap, ap₂, append_assoc, subst, sym}
-use Rattle.std.proofs.lemmas.List.Elements.{Contains-get_or}
+use Rattle.std.proofs.lemmas.List.Elements.{All-contains_itself, Contains-get_or}
 use Rattle.user_model.specs.declared.edit.Edit.{Edit}
 use Rattle.user_model.specs.declared.function.UserFunc.{UserFunc}
 use Rattle.user_model.specs.declared.group.Group.{Group}
@@ -30,8 +30,8 @@ use Rattle.mof_round_trip.specs.Functions.{affine_again, function_again}
 use Rattle.mof_round_trip.specs.Groups.{groups_lead}
 use Rattle.mof_round_trip.specs.Objectives.{IsPlacedObjective, objective_lead, placed_objective}
 use Rattle.mof_round_trip.specs.Positions.{placed_again}
-use Rattle.mof_round_trip.specs.Renumbered.{HasVariables, address_again, made_variable, made_variables, map_again, number_again, numbers, renumbered}
-use Rattle.mof_round_trip.specs.Rows.{placed_rows, rows_lead}
+use Rattle.mof_round_trip.specs.Renumbered.{HasVariables, address_again, made_variable, made_variables, made_as, number_again, numbers, renumbered}
+use Rattle.mof_round_trip.specs.Rows.{IsPlacedRow, placed_rows, rows_lead}
 
 -- edits read of the text lead from an empty model to one that is the same up to numbers
 pub record MakesAgain (model : ModelValue) (text : List ℕ) : Type 0 where
@@ -59,8 +59,8 @@ module _ (model : ModelValue) (valid : IsValid model) where
       let goal = objective_edits (said_objective (naming model) model.objective) in
       subst (λ es. LeadTo empty_model es (renumbered model))
       (sym (append_assoc (map group_edit model.groups) rows goal))
-      (groups_lead model valid [] model.groups refl (rows ++ goal) (renumbered model)
-      (rows_lead model valid [] model.rows refl goal (renumbered model)
+      (groups_lead model valid (rows ++ goal) (renumbered model)
+      (rows_lead model valid goal (renumbered model)
       (objective_lead model valid model.objective
       (placed_objective model model.objective valid.parts.valid_objective.stand)
       valid.parts.valid_objective.terms valid.within.terms)))
@@ -74,23 +74,21 @@ module _ (model : ModelValue) (valid : IsValid model) where
 
   groups_again : groups_by_position (renumbered model) ≡ groups_by_position model
   groups_again =
-      map_again (group_by_position model) (group_by_position (renumbered model)) model.groups
-      (λ k d within. once (slice_index_or model.groups k d)
-      (Contains-get_or model.groups k d within))
+      made_as (group_by_position model) (Contains model.groups)
+      (group_by_position (renumbered model)) (group_by_position model) once model.groups
+      (All-contains_itself model.groups)
     where
       variables_again : (g : Group) → Contains model.groups g
           → map (variable_by_position (variable_numbers (renumbered model)))
           (map (made_variable model) g.vars)
           ≡ map (made_variable model) g.vars
       variables_again g there =
-          map_again (made_variable model)
-          (variable_by_position (variable_numbers (renumbered model))) g.vars
-          (λ k d within. ap (λ n. variable_at n (slice_index_or g.vars k d))
-          (number_again model valid.consistent
-          (renumbered model) renumbered_consistent has_variables
-          (slice_index_or g.vars k d)
-          (stands_in_joined (λ g. g.vars) model.groups g (slice_index_or g.vars k d) there
-          (Contains-get_or g.vars k d within))))
+          made_as (made_variable model) (Contains g.vars)
+          (variable_by_position (variable_numbers (renumbered model))) (made_variable model)
+          (λ v own. ap (λ n. variable_at n v) (number_again model valid.consistent
+          (renumbered model) renumbered_consistent has_variables v
+          (stands_in_joined (λ g. g.vars) model.groups g v there own))) g.vars
+          (All-contains_itself g.vars)
 
       once : (g : Group) → Contains model.groups g
           → group_by_position (renumbered model) (group_by_position model g)
@@ -103,14 +101,17 @@ module _ (model : ModelValue) (valid : IsValid model) where
 
   rows_again : rows_by_position (renumbered model) ≡ rows_by_position model
   rows_again =
-      map_again (row_by_position model) (row_by_position (renumbered model)) model.rows
-      (λ k d within.
-      let r = slice_index_or model.rows k d in
-      ap₂ (λ n f. row_at n f r)
+      made_as (row_by_position model) (λ r. Contains model.rows r × IsPlacedRow model r)
+      (row_by_position (renumbered model)) (row_by_position model)
+      (λ r h. ap₂ (λ n f. row_at n f r)
       (placed_again row_number (row_by_position model) model.rows valid.consistent.rows_rise
-      renumbered_consistent.rows_rise r (Contains-get_or model.rows k d within))
+      renumbered_consistent.rows_rise r h.0)
       (function_again model valid.consistent (renumbered model) renumbered_consistent has_variables
-      r.func (placed_rows model model.rows valid.parts.valid_rows k d within)))
+      r.func h.1)) model.rows
+      (λ k d within. (
+        Contains-get_or model.rows k d within,
+        placed_rows model model.rows valid.parts.valid_rows k d within,
+      ))
 
   objective_again : (o : Objective) → IsPlacedObjective model o
       → objective_by_position (variable_numbers (renumbered model))

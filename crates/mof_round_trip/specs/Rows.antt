@@ -3,14 +3,12 @@
 use Rattle.std.specs.Prelude.{◌≡◌, ◌≢◌, ℕ, ◌+◌, ◌≤◌, Bool, true, false, ◌&&◌, not, List, [], ◌∷◌, ◌++◌, All, AllPairs, flat_map, is_some, length, map, slice_index_or, sum, sum_by, bytes_eq, refl}
 use Rattle.std.specs.List.{list_any}
 use Rattle.std.specs.Option.{option_map_or}
-use Rattle.std.proofs.Common.{ap, ap₂, append-nil, append_assoc, arith, subst, sym, ◌∙◌}
+use Rattle.std.proofs.Common.{ap, ap₂, arith, subst, sym, ◌∙◌}
 use Rattle.std.proofs.lemmas.Bool.{and_from, or_from}
-use Rattle.std.proofs.lemmas.List.{length-append, length-map, map-append}
+use Rattle.std.proofs.lemmas.List.{length-append, length-map, map_push}
 use Rattle.std.proofs.lemmas.List.Elements.{All-append, All-cons, All-head, All-nil, All-tail, Contains-get_or}
-use Rattle.std.proofs.lemmas.List.Folds.{list_any-append}
 use Rattle.std.proofs.lemmas.List.Sums.{sum_by-append, sum_by-cons}
-use Rattle.numbered.specs.Numbered.{Rise}
-use Rattle.ratio_core.specs.Rational.{Rational}
+use mathlib.Core.List.{map-map}
 use Rattle.aff_core.specs.Address.{Address, address_eq, address_eq-Decides}
 use Rattle.aff_core.specs.Function.{Function, terms_of}
 use Rattle.set_core.specs.declared.set.Set.{Set}
@@ -26,10 +24,10 @@ use Rattle.user_model.specs.Functions.{all_terms, components, func_mentions, has
 use Rattle.user_model.specs.Limits.{ALL_TERMS, TERMS}
 use Rattle.user_model.specs.Model.{ModelValue, is_variable, total_terms, variable_address, variables}
 use Rattle.user_model.specs.Refusals.{counts, differ, has_row_named, meets_bound_already_set}
-use Rattle.user_model.specs.SameUpToNumbers.{groups_by_position, position, row_by_position}
+use Rattle.user_model.specs.SameUpToNumbers.{groups_by_position, row_by_position}
 use Rattle.user_model.specs.Sets.{sets_lower, sets_upper}
 use Rattle.user_model.specs.Valid.{IsValid, IsValidRow, Stands, bound_count}
-use Rattle.model_laws.specs.Found.{is_some-find, one_passes}
+use Rattle.model_laws.specs.Found.{is_some-find, list_any-flat_map, one_passes}
 use Rattle.model_laws.specs.Pairs.{AllPairs-before, All-left, All-right}
 use Rattle.model_laws.specs.Needed.{unknown}
 use Rattle.model_laws.specs.Passed.{IsPassed}
@@ -39,12 +37,12 @@ use Rattle.mof_laws.specs.ModelLaws.{terms_mentioned}
 use Rattle.mof_laws.specs.ReadBack.{named_affine, named_function, named_term}
 use Rattle.mof_laws.specs.VariableLaws.{HasVariableAt, variable_there}
 use Rattle.mof_laws.specs.WrittenLaws.{function_size}
-use Rattle.mof_round_trip.specs.Accepted.{AreWithin, LeadTo, each_within, lead_on, terms_within}
+use Rattle.mof_round_trip.specs.Accepted.{AreWithin, LeadTo, each_leads, each_within, terms_within}
 use Rattle.mof_round_trip.specs.Bounds.{has_bound, no_row_before, not_created, unbound}
-use Rattle.mof_round_trip.specs.Functions.{HasTerms, HasVariable, HaveVariables, IsPlaced, located_is, placed_counts}
-use Rattle.mof_round_trip.specs.Groups.{none_named, right_dimension}
+use Rattle.mof_round_trip.specs.Functions.{HasTerms, HasVariable, IsPlaced, located_is, placed_counts}
+use Rattle.mof_round_trip.specs.Groups.{other_name, right_dimension}
 use Rattle.mof_round_trip.specs.Positions.{placed_here}
-use Rattle.mof_round_trip.specs.Renumbered.{HasVariables, any_made, made_variables, number_of_name}
+use Rattle.mof_round_trip.specs.Renumbered.{HasVariables, made_variables, none_made, number_of_name}
 
 -- ---- functions whose variables stand
 
@@ -76,38 +74,25 @@ module _ (model : ModelValue) (valid : IsValid model) (other : ModelValue)
   name_known at h =
       ap (λ o. not (is_some o)) (number_of_name model valid.consistent other has at h)
 
-  terms_known : (ts : List (Address × Rational)) → HaveVariables model ts
-      → list_any (unknown other) (map (λ t. t.variable) (map (named_term (naming model)) ts))
-      ≡ false
-  terms_known [] h = refl
-  terms_known (t ∷ ts) h =
-      or_from _ _ (name_known t.0 (All-head (HasVariable model) t ts h))
-      (terms_known ts (All-tail (HasVariable model) t ts h))
+  terms_known : (f : Function) → HasTerms model f
+      → list_any (unknown other) (names_of (named_affine (naming model) f)) ≡ false
+  terms_known f h =
+      ap (list_any (unknown other))
+      (map-map (λ t. t.variable) (named_term (naming model)) (terms_of f))
+      ∙ none_made (λ t. naming model t.0) (HasVariable model) (unknown other)
+      (λ t there. name_known t.0 there) (terms_of f) h
 
   -- its names are known
   pub names_known : (func : UserFunc) → IsPlaced model func
       → list_any (unknown other) (mentioned (named_function (naming model) func)) ≡ false
   names_known (Plain var) h = or_from _ _ (name_known var h) refl
-  names_known (Affine f) h = terms_known (terms_of f) h
-  names_known (PlainVec vars) h = each vars h
-    where
-      each : (vars : List Address) → All (HasVariableAt model) vars
-          → list_any (unknown other) (map (naming model) vars) ≡ false
-      each [] h = refl
-      each (at ∷ vars) h =
-          or_from _ _ (name_known at (All-head (HasVariableAt model) at vars h))
-          (each vars (All-tail (HasVariableAt model) at vars h))
-  names_known (AffineVec fs) h = each fs h
-    where
-      each : (fs : List Function) → All {X = Function} (HasTerms model) fs
-          → list_any (unknown other)
-          (flat_map names_of (map (named_affine (naming model)) fs)) ≡ false
-      each [] h = refl
-      each (f ∷ fs) h =
-          list_any-append (unknown other) (names_of (named_affine (naming model) f))
-          (flat_map names_of (map (named_affine (naming model)) fs))
-          ∙ or_from _ _ (terms_known (terms_of f) (All-head {X = Function} (HasTerms model) f fs h))
-          (each fs (All-tail {X = Function} (HasTerms model) f fs h))
+  names_known (Affine f) h = terms_known f h
+  names_known (PlainVec vars) h =
+      none_made (naming model) (HasVariableAt model) (unknown other) name_known vars h
+  names_known (AffineVec fs) h =
+      list_any-flat_map (unknown other) names_of (map (named_affine (naming model)) fs)
+      ∙ none_made (named_affine (naming model)) (HasTerms model)
+      (λ f. list_any (unknown other) (names_of f)) terms_known fs h
 
 -- ---- shapes
 
@@ -194,8 +179,8 @@ module _ (model : ModelValue) (valid : IsValid model) where
     name_free : has_row_named (with_rows model done) r.name ≡ false
     name_free =
         is_some-find (λ s. bytes_eq s.name r.name) (map (row_by_position model) done)
-        ∙ any_made (row_by_position model) (λ s. bytes_eq s.name r.name) done
-        ∙ none_named (λ s. s.name) r.name done
+        ∙ none_made (row_by_position model) (λ s. s.name ≢ r.name) (λ s. bytes_eq s.name r.name)
+        (λ s. other_name s.name r.name) done
         (AllPairs-before (λ r s. r.name ≢ s.name) done r rest
         (subst (AllPairs {X = Row} (λ r s. r.name ≢ s.name)) whole valid.consistent.row_names))
 
@@ -234,15 +219,10 @@ module _ (model : ModelValue) (valid : IsValid model) where
         (located (with_rows model done) (named_function (naming model) r.func)) r.set
         ≡ row_by_position model r
     made_row =
-        ap₂ (λ n f. row_with n r.name f r.set) (sym place)
+        ap₂ (λ n f. row_with n r.name f r.set)
+        (sym (placed_here row_number model.rows valid.consistent.rows_rise done r rest whole))
         (located_is model valid.consistent (with_rows model done) (rows_have model done) r.func
         this_placed)
-      where
-        place : position (map row_number model.rows) r.id ≡ length done
-        place =
-            ap (λ rs. position (map row_number rs) r.id) whole
-            ∙ placed_here row_number done r rest
-            (subst (Rise row_number) whole valid.consistent.rows_rise)
 
     row_added : edited (with_rows model done) (row_edit (naming model) r)
         ≡ with_rows model (done ++ r ∷ [])
@@ -254,7 +234,7 @@ module _ (model : ModelValue) (valid : IsValid model) where
             ≡ map (row_by_position model) (done ++ r ∷ [])
         row_list =
             ap (λ s. map (row_by_position model) done ++ s ∷ []) made_row
-            ∙ sym (map-append (row_by_position model) done (r ∷ []))
+            ∙ sym (map_push (row_by_position model) done r)
 
         row_count : length done + 1 ≡ length (done ++ r ∷ [])
         row_count = omega (arith, length-append done (r ∷ []))
@@ -316,14 +296,10 @@ module _ (model : ModelValue) (valid : IsValid model) where
           within_counts;
     }
 
-  -- the rows that are left lead to all rows
-  pub rows_lead : (done rest : List Row) → model.rows ≡ done ++ rest → (es : List Edit)
-      (new : ModelValue) → LeadTo (with_rows model model.rows) es new
-      → LeadTo (with_rows model done) (map (row_edit (naming model)) rest ++ es) new
-  rows_lead done [] whole es new next =
-      subst (λ rs. LeadTo (with_rows model rs) es new) (whole ∙ append-nil done) next
-  rows_lead done (r ∷ rest) whole es new next =
-      lead_on (with_rows model done) (with_rows model (done ++ r ∷ [])) new
-      (row_edit (naming model) r) (map (row_edit (naming model)) rest ++ es)
-      (row_passes done r rest whole) (row_added done r rest whole)
-      (rows_lead (done ++ r ∷ []) rest (whole ∙ sym (append_assoc done (r ∷ []) rest)) es new next)
+  -- the rows' edits lead to all rows
+  pub rows_lead : (es : List Edit) (new : ModelValue)
+      → LeadTo (with_rows model model.rows) es new
+      → LeadTo (with_rows model []) (map (row_edit (naming model)) model.rows ++ es) new
+  rows_lead =
+      each_leads (with_rows model) (row_edit (naming model)) model.rows row_passes row_added []
+      model.rows refl
