@@ -1,4 +1,3 @@
-use Rattle.std.proofs.Common.{ap, sym, ◌∙◌}
 use Rattle.named_sums.proofs.Apart.{distinct_last}
 use Rattle.named_sums.proofs.sum.put_last.Goals as goal
 
