@@ -39,11 +39,6 @@ module _ (first : Means) (n edge : ℕ) (item : Item) where
         ap (λ (m : Means). worked_each m.choice (worked m.choice n) image.groups) same
         ∙ ap (λ (i : Image). worked_each first.choice (worked first.choice n) i.groups) is
 
-    pub groups_ready : SplitsHere → All (IsWithin means.choice n) image.groups
-    groups_ready h =
-        subst (λ (m : Means). All (IsWithin m.choice n) image.groups) (sym same)
-        (subst (λ (i : Image). All (IsWithin first.choice n) i.groups) (sym is) h.groups)
-
     module _ (others : List Item) (others_are : others ≡ image.rows ++ listed image.objective)
         (standing : List Entry) where
       listed_children : others

@@ -35,12 +35,6 @@ module _ (choice : ℕ → Choice) (below : Item → Held Item Entry) (edge : �
   abbrev pub outer_fits : List Entry → Bool
   outer_fits inner = list_all (put_into_fits inner) (image_of (edge_at edge) item).exprs
 
-  pub needs_image : IsTrue node.fits → IsTrue (image_fits edge item)
-  needs_image t = and_first (image_fits edge item) _ t
-
-  pub needs_groups : IsTrue node.fits → IsTrue groups_held.fits
-  needs_groups t = and_first groups_held.fits _ (and_second (image_fits edge item) _ t)
-
   module _ (standing : List Entry)
       (same : expression_in standing ≡ expression_in groups_held.entries) where
     others_same : others_held standing ≡ others_held groups_held.entries

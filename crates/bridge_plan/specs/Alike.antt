@@ -30,16 +30,12 @@ module _ (es fs : List Entry) (same : expression_in es ≡ expression_in fs) whe
       ap (λ e. AffineObj sense (composed (λ v. expressed (e v)) func)) same
 
   body_fits_alike : (b : Body) → put_in_body_fits es b ≡ put_in_body_fits fs b
-  body_fits_alike (Group set vars) = refl
-  body_fits_alike (Free vars) = refl
-  body_fits_alike (Plain var set) = refl
   body_fits_alike (Affine func set) = ap (λ e. substitution_fits (λ v. expressed (e v)) func) same
-  body_fits_alike (PlainVec vars set) = refl
   body_fits_alike (AffineVec funcs set) =
       ap (λ e. list_all (substitution_fits (λ v. expressed (e v))) funcs) same
-  body_fits_alike (PlainObj sense var) = refl
   body_fits_alike (AffineObj sense func) =
       ap (λ e. substitution_fits (λ v. expressed (e v)) func) same
+  body_fits_alike _ = refl
 
   pub put_alike : put_in es ≡ put_in fs
   put_alike = λ i item. record item { body = body_alike item.body i }

@@ -4,6 +4,7 @@ use Rattle.std.specs.Prelude.{◌≡◌, ℕ, zero, suc, ◌+◌, drop, take, Bo
 use Rattle.std.proofs.Common.{arith, ap, sym, subst, ◌∙◌, true≢false}
 use Rattle.std.specs.List.{list_all, zip}
 use Rattle.std.specs.Option.{option_map_or}
+use Rattle.std.proofs.lemmas.Bool.{not-true}
 use Rattle.std.proofs.lemmas.List.{append-nil, length-map}
 use Rattle.std.proofs.lemmas.Option.{none-some, same_Some}
 use Rattle.std.proofs.lemmas.List.Elements.{All-cons, All-contains_itself, All-head, All-map, All-nil, All-tail, All-weaker}
@@ -23,7 +24,7 @@ use Rattle.item_core.specs.declared.family.Family.TheVariants as family
 use Rattle.item_core.specs.declared.image.Expression.{Expression}
 use Rattle.item_core.specs.declared.image.Expression.TheVariants.{Kept, Bridged as Rewritten}
 use Rattle.item_core.specs.declared.item.Body.{Body}
-use Rattle.item_core.specs.declared.item.Body.TheVariants.{Group, Free, Plain, Affine, PlainVec, AffineVec, PlainObj, AffineObj}
+use Rattle.item_core.specs.declared.item.Body.TheVariants.{Group, Free}
 use Rattle.item_core.specs.declared.item.Item.{Item}
 use Rattle.item_core.specs.declared.kind.Kind.{Kind}
 use Rattle.item_core.specs.declared.kind.Kind.TheVariants as kind
@@ -68,9 +69,6 @@ keeps choice kind = keeps_by choice (choice (kind_number kind))
 
 -- ---- the expressions of images
 
-abbrev IsKeptAs : Bool → Expression → Type 0
-IsKeptAs b e = is_kept e ≡ b
-
 rewritten : (fs : List Function) → list_all (λ e. not (is_kept e)) (bridged fs) ≡ true
 rewritten [] = refl
 rewritten (f ∷ fs) = rewritten fs
@@ -78,35 +76,17 @@ rewritten (f ∷ fs) = rewritten fs
 rewritten_by : (f : Family) (edge : Edge) (item : Item) → family_eq f family.Later ≡ false
     → list_all (λ e. not (is_kept e)) (image_by f edge item).exprs ≡ true
 unfolding image_by
-rewritten_by family.GreaterLess edge item h = refl
-rewritten_by family.OrthantFlip edge item h = refl
 rewritten_by family.NonposVar edge item h =
     rewritten (map negated (inner_functions item (size item)))
-rewritten_by family.ObjFlip edge item h = refl
-rewritten_by family.Vectorize edge item h = refl
-rewritten_by family.Scalarize edge item h = refl
-rewritten_by family.ScalarFunctionize edge item h = refl
-rewritten_by family.VectorFunctionize edge item h = refl
 rewritten_by family.VectorizeVar edge item h =
     rewritten (map (λ s. raised s (number_in (set_of item.body))) (inner_functions item 1))
-rewritten_by family.ObjFunctionize edge item h = refl
-rewritten_by family.SplitSet edge item h = refl
-rewritten_by family.DropReals edge item h = refl
 rewritten_by family.ZerosVar edge item h =
     rewritten (map (λ _. constant_function zero_ℚ) (functions_of item.body))
 rewritten_by family.FreeVar edge item h =
     let ss = inner_functions item (size item + size item) in
     rewritten (differences (take (size item) ss) (drop (size item) ss))
-rewritten_by family.ScalarSlack edge item h = refl
-rewritten_by family.VectorSlack edge item h = refl
 rewritten_by family.Later edge item h = absurd (true≢false h)
-rewritten_by family.ObjSlack edge item h = refl
-rewritten_by family.NormInfinity edge item h = refl
-rewritten_by family.NormOne edge item h = refl
-
-not_kept : (b : Bool) → not b ≡ true → b ≡ false
-not_kept true h = absurd (true≢false (sym h))
-not_kept false h = refl
+rewritten_by _ edge item h = refl
 
 -- ---- with expressions put in
 
@@ -133,7 +113,7 @@ rewritten_outer edge item entries h =
     let exprs = (image_of (edge_at edge) item).exprs in
     outer_kept false (variables_of item.body) exprs entries
     (All-weaker (λ e. not (is_kept e) ≡ true) (λ e. is_kept (put_into entries e) ≡ false)
-    (λ e k. still_rewritten entries e (not_kept (is_kept e) k)) exprs
+    (λ e k. still_rewritten entries e (not-true (is_kept e) k)) exprs
     (AllPass-from_list_all (λ e. not (is_kept e)) exprs
     (rewritten_by (family_of (edge_at edge)) (edge_at edge) item h)))
 
@@ -256,12 +236,7 @@ found_among P (e ∷ es) v (place, inside, is) all =
 group_length : (b : Body) → is_group b ≡ true → length (functions_of b) ≡ length (variables_of b)
 group_length (Group s vars) h = length-map vars variable
 group_length (Free vars) h = length-map vars variable
-group_length (Plain var s) h = absurd (true≢false (sym h))
-group_length (Affine func s) h = absurd (true≢false (sym h))
-group_length (PlainVec vars s) h = absurd (true≢false (sym h))
-group_length (AffineVec funcs s) h = absurd (true≢false (sym h))
-group_length (PlainObj sense var) h = absurd (true≢false (sym h))
-group_length (AffineObj sense func) h = absurd (true≢false (sym h))
+group_length _ h = absurd (true≢false (sym h))
 
 own_all : (vars : List Address)
     → AllKeptAs true (map (λ u. record { component = u; expression = Kept u }) vars)
@@ -380,8 +355,8 @@ module _ (setting : Setting) (costly : IsCostly (graph_of setting)) (choice : �
   group_components (natively {item} c) is = own_components item.body is.is_group
     where
       own : (vars : List Address)
-          → map (λ (e : Entry). e.component) (map (λ u. record { component = u; expression = Kept u }) vars)
-          ≡ vars
+          → map (λ (e : Entry). e.component)
+          (map (λ u. record { component = u; expression = Kept u }) vars) ≡ vars
       own [] = refl
       own (u ∷ us) = ap (λ l. u ∷ l) (own us)
 

@@ -87,5 +87,7 @@ pub all_planned : (all : Held Item Entry) (plan now : Plan) (entries more : List
     → SoFar all nothing_held plan now entries more
     → IsTrue all.fits × Adds plan now entries more all
 all_planned all plan now entries more h =
-    let same : h.done ≡ all = sym (h.whole ∙ joined_nothing h.done) in
-    (sym (ap (λ (x : Held Item Entry). x.fits) same) ∙ h.good, subst (Adds plan now entries more) same h.adds)
+    let same : h.done ≡ all = sym (h.whole ∙ joined_nothing h.done) in (
+      sym (ap (λ (x : Held Item Entry). x.fits) same) ∙ h.good,
+      subst (Adds plan now entries more) same h.adds,
+    )

@@ -29,7 +29,7 @@ use Rattle.cert_core.proofs.Parts.{no_products}
 use Rattle.cert_core.proofs.Places.{distinct, place_below, set_at_place, stands, stands_there}
 use Rattle.cert_core.proofs.Steps.{made_there, next_item}
 use Rattle.rational_laws.specs.ZeroSums.{SumFits-zero_right}
-use Rattle.cert_core.proofs.Summed.{AddUp_one, Fits_sum, Fits_sum_from, SummedAsAll, step_of_one, summed_end, summed_refused, summed_start, summed_step}
+use Rattle.cert_core.proofs.Summed.{AddUp_one, Fits_sum, Fits_sum_from, SummedAsAll, step_of_one, summed_end, summed_refused, summed_step}
 
 -- functions that agree on a list
 map_same_on : {X Y : Type 0} (f g : X → Y) (xs : List X) → All (λ x. f x ≡ g x) xs

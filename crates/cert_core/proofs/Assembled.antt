@@ -1,5 +1,5 @@
 -- From what the calls answer to what is said of the model.
-use Rattle.std.specs.Prelude.{◌≡◌, ◌↔◌, Bool, IsTrue, List, length, All, map, Result, refl}
+use Rattle.std.specs.Prelude.{◌≡◌, ◌↔◌, Bool, IsTrue, List, length, All, map, Result}
 use Rattle.std.proofs.Common.{sym, ◌∙◌, ap, subst, get_or}
 use Rattle.std.proofs.lemmas.List.{length-map}
 use Rattle.std.proofs.lemmas.List.Elements.{All-append, All-map, All-weaker}
@@ -29,8 +29,6 @@ use Rattle.cert_core.specs.Folds.{EvaluationFits, FitIn, PointFits}
 use Rattle.cert_core.specs.Holding.{FunctionsHold, HasGroupSet, HasRowSet, HoldsAt, IsReady}
 use Rattle.cert_core.specs.Variables.{Ascend, all_addresses, variables_of}
 use Rattle.numbered.specs.Numbered.{Rise}
-use Rattle.user_model.specs.declared.function.UserFunc.{UserFunc}
-use Rattle.user_model.specs.declared.function.UserFunc.TheVariants.{Plain, Affine, PlainVec, AffineVec}
 use Rattle.user_model.specs.Consistent.{variable_number}
 use Rattle.user_model.specs.Functions.{components}
 use Rattle.user_model.specs.Valid.{HasValidParts, IsValidGroup, IsValidRow}

@@ -41,6 +41,8 @@ pub constant_of_constant : (k : Rational)
     → (constant_function {R = address_cmp} k).constant ≡ k
 constant_of_constant k = constant-constant_function address_cmp k
 
+pub ruleset constants_of = (constant_of_constant, constant_of_variable)
+
 pub coefficient_of_constant : (k : Rational) (u : Address)
     → coefficient (constant_function {R = address_cmp} k) u ≡ zero_ℚ
 coefficient_of_constant k u =

@@ -1,5 +1,5 @@
 -- Groups gone through with the numbers of their variables.
-use Rattle.std.specs.Prelude.{◌≡◌, ◌↔◌, ◌+◌, ◌≤◌, Bool, true, IsTrue, List, [], ◌∷◌, ◌++◌, All, map, length, take, drop}
+use Rattle.std.specs.Prelude.{◌≡◌, ◌↔◌, ◌+◌, Bool, true, IsTrue, List, [], ◌∷◌, ◌++◌, All, map, length, take, drop}
 use Rattle.std.proofs.Common.{sym, ◌∙◌, ap, subst, arith}
 use Rattle.std.proofs.lemmas.List.{length-drop}
 use Rattle.ratio_core.specs.Folds.{sum_from}
@@ -15,7 +15,7 @@ use Rattle.cert_core.specs.Folds.{AddUp, gap_parts, gap_parts_of, products}
 use Rattle.cert_core.specs.Variables.{all_addresses}
 use Rattle.cert_core.proofs.Groups.{count_split, other_numbers, own_numbers}
 use Rattle.cert_core.proofs.Parts.{no_constants}
-use Rattle.cert_core.proofs.Summed.{Fits_sum, SummedAsAll, summed_end, summed_refused, summed_start, summed_step, zeros_add_up}
+use Rattle.cert_core.proofs.Summed.{Fits_sum, SummedAsAll, summed_end, summed_refused, summed_step, zeros_add_up}
 use Rattle.cert_core.proofs.Tested.{TestedAsAll, tested_end, tested_refused, tested_start, tested_step}
 
 -- the numbers left are those of the groups left

@@ -25,7 +25,7 @@ pub fn sense(objective: &Objective) -> Sense
     }
 }
 
-#[tactic(auto, using(crate::proofs::Evaluated::constant_of_constant, crate::proofs::Evaluated::constant_of_variable))]
+#[tactic(auto, using(crate::proofs::Evaluated::constants_of))]
 pub(crate) fn constant(objective: &Objective) -> Ratio
     ensures { result ≡ (objective_function objective.now).constant }
 {

@@ -12,13 +12,6 @@ module _ {X Y : Type 0} (f : X → Line → Option Y) where
   abbrev pub line_left : List Y → List X → Lines → Option (List Y × Lines)
   line_left made xs lines = lined made (each_line f xs lines)
 
-  pub line_start : (xs : List X) (lines : Lines) → line_left [] xs lines ≡ each_line f xs lines
-  line_start xs lines = same (each_line f xs lines)
-    where
-      same : (o : Option (List Y × Lines)) → lined [] o ≡ o
-      same None = refl
-      same (Some p) = refl
-
   pub line_missing : (made : List Y) (x : X) (xs : List X) → line_left made (x ∷ xs) [] ≡ None
   unfolding each_line
   line_missing made x xs = refl

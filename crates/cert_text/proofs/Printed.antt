@@ -100,12 +100,6 @@ module _ {all : List Rational} {start : List ℕ} where
     reads = λ rest. h.reads (subst (λ qs. All Reads qs) (sym is) (All-cons Reads q others reads rest));
   }
 
-  pub numbers_all : (left : List Rational) (text : List ℕ) → NumbersPrinted all start left text → left ≡ [] → (text ≡ start ++ numbers_text all) × All Reads all
-  numbers_all left text h e = (
-    sym (append-nil text) ∙ sym (ap (λ qs. text ++ numbers_text qs) e) ∙ h.written,
-    h.reads (subst (λ qs. All Reads qs) (sym e) (All-nil Reads)),
-  )
-
 -- ---- certificates
 
 pub both_ok : {T E : Type 0} (r : Result T E) (P Q R : Type 0) → (P → Q → R) → OnOk r P → OnOk r Q → OnOk r R

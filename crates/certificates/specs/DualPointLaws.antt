@@ -24,7 +24,7 @@ use Rattle.set_laws.specs.Multiples.{multiplied_one}
 use Rattle.dual_laws.specs.Held.{AllHold, DualsHold, Held, Holds, adjoint, pull}
 use Rattle.dual_laws.specs.PullLaws.{adjoint-append, mentioned_in, pull_is, pull_over, variables_in}
 use Rattle.user_model.specs.declared.function.UserFunc.{UserFunc}
-use Rattle.user_model.specs.declared.function.UserFunc.TheVariants.{Plain, Affine, PlainVec, AffineVec}
+use Rattle.user_model.specs.declared.function.UserFunc.TheVariants.{PlainVec}
 use Rattle.user_model.specs.declared.group.Group.{Group}
 use Rattle.user_model.specs.declared.row.Row.{Row}
 use Rattle.user_model.specs.Functions.{components}

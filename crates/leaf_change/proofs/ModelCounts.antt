@@ -48,60 +48,33 @@ use Rattle.std_form.specs.ThroughLaws.{get_through}
 
 -- ---- a leaf of each sort
 
+-- no entry is put
+unmoved : {X : Type 0} (m : FinMap address_cmp X) (es : List (Address × X)) → es ≡ [] → MovesOver m es (counted Changed)
+unmoved m es none = λ after new n is. (n, subst (λ es. IsCountOf (Differ m (put_all after es)) n) (sym none) is, omega arith)
+
 module _ (held : LeafModel) (c : Compared) (item : Item) where
+  -- the entries of each sort
+  sorts_move : (a b d : Compared) → c.added ≡ a.added + b.added + d.added → c.same ≡ a.same + b.same + d.same → MovesOver held.variables (leaf_variables item) a → MovesOver held.rows (leaf_rows item) b → MovesOver held.objective (leaf_objectives item) d → MovesWith held item c
+  sorts_move a b d added same variables rows objective after n new changed =
+      let v = variables after.variables new.variables changed.variables changed.variables_are in
+      let r = rows after.rows new.rows changed.rows changed.rows_are in
+      let o = objective after.objective new.objective changed.objective changed.objective_is in (
+        v.0 + r.0 + o.0,
+        record { variables = v.0; rows = r.0; objective = o.0; variables_are = v.1; rows_are = r.1; objective_is = o.1; all = refl },
+        omega (arith, v.2, r.2, o.2, changed.all, added, same),
+      )
+
   variables_move : leaf_rows item ≡ [] → leaf_objectives item ≡ [] → MovesOver held.variables (leaf_variables item) c → MovesWith held item c
-  variables_move no_rows no_objectives moves after n new changed = (
-    moved.0 + changed.rows + changed.objective,
-    record {
-      variables = moved.0;
-      rows = changed.rows;
-      objective = changed.objective;
-      variables_are = moved.1;
-      rows_are = subst (λ es. IsCountOf (Differ held.rows (put_all after.rows es)) changed.rows) (sym no_rows) changed.rows_are;
-      objective_is = subst (λ es. IsCountOf (Differ held.objective (put_all after.objective es)) changed.objective) (sym no_objectives) changed.objective_is;
-      all = refl;
-    },
-    omega (arith, moved.2, changed.all),
-  )
-    where
-      moved : (m : ℕ) × IsCountOf (Differ held.variables (put_all after.variables (leaf_variables item))) m × (m + c.same ≡ changed.variables + c.added)
-      moved = moves after.variables new.variables changed.variables changed.variables_are
+  variables_move no_rows no_objectives moves =
+      sorts_move c (counted Changed) (counted Changed) (omega arith) (omega arith) moves (unmoved held.rows (leaf_rows item) no_rows) (unmoved held.objective (leaf_objectives item) no_objectives)
 
   row_moves : leaf_variables item ≡ [] → leaf_objectives item ≡ [] → MovesOver held.rows (leaf_rows item) c → MovesWith held item c
-  row_moves no_variables no_objectives moves after n new changed = (
-    changed.variables + moved.0 + changed.objective,
-    record {
-      variables = changed.variables;
-      rows = moved.0;
-      objective = changed.objective;
-      variables_are = subst (λ es. IsCountOf (Differ held.variables (put_all after.variables es)) changed.variables) (sym no_variables) changed.variables_are;
-      rows_are = moved.1;
-      objective_is = subst (λ es. IsCountOf (Differ held.objective (put_all after.objective es)) changed.objective) (sym no_objectives) changed.objective_is;
-      all = refl;
-    },
-    omega (arith, moved.2, changed.all),
-  )
-    where
-      moved : (m : ℕ) × IsCountOf (Differ held.rows (put_all after.rows (leaf_rows item))) m × (m + c.same ≡ changed.rows + c.added)
-      moved = moves after.rows new.rows changed.rows changed.rows_are
+  row_moves no_variables no_objectives moves =
+      sorts_move (counted Changed) c (counted Changed) (omega arith) (omega arith) (unmoved held.variables (leaf_variables item) no_variables) moves (unmoved held.objective (leaf_objectives item) no_objectives)
 
   objective_moves : leaf_variables item ≡ [] → leaf_rows item ≡ [] → MovesOver held.objective (leaf_objectives item) c → MovesWith held item c
-  objective_moves no_variables no_rows moves after n new changed = (
-    changed.variables + changed.rows + moved.0,
-    record {
-      variables = changed.variables;
-      rows = changed.rows;
-      objective = moved.0;
-      variables_are = subst (λ es. IsCountOf (Differ held.variables (put_all after.variables es)) changed.variables) (sym no_variables) changed.variables_are;
-      rows_are = subst (λ es. IsCountOf (Differ held.rows (put_all after.rows es)) changed.rows) (sym no_rows) changed.rows_are;
-      objective_is = moved.1;
-      all = refl;
-    },
-    omega (arith, moved.2, changed.all),
-  )
-    where
-      moved : (m : ℕ) × IsCountOf (Differ held.objective (put_all after.objective (leaf_objectives item))) m × (m + c.same ≡ changed.objective + c.added)
-      moved = moves after.objective new.objective changed.objective changed.objective_is
+  objective_moves no_variables no_rows moves =
+      sorts_move (counted Changed) (counted Changed) c (omega arith) (omega arith) (unmoved held.variables (leaf_variables item) no_variables) (unmoved held.rows (leaf_rows item) no_rows) moves
 
 module _ (held : LeafModel) (c : Compared) (at : Address) where
   abbrev item_at : Body → Item

@@ -65,9 +65,6 @@ module _ (old new : AddressMap) (leaves after : Leaves) (at : Address) (var : Le
       ap₂ (by_address (λ v. v)) put (ap (λ (l : Leaves). l.vars) added)
       ∙ through_more old.vars.indices leaves.vars exact at i var (absent_index old.vars.indices leaves.vars exact (λ v. v) at free) unused (λ v. v)
 
-pub variable_beside : (old new : AddressMap) (leaves after : Leaves) (i : ℕ) (var : LeafVar) → after ≡ with_var leaves i var → new.rows ≡ old.rows → new.exprs ≡ old.exprs → beside_variables new after ≡ beside_variables old leaves
-variable_beside old new leaves after i var added rows exprs = λ j. (rows j, exprs j, record (added j) { vars = finite.empty; calls = 0 })
-
 -- ---- a row
 
 module _ (old new : AddressMap) (leaves after : Leaves) (at : Address) (row : LeafRow) (i : ℕ) (names : NamesEach old leaves) (free : finite.get (rows_in old leaves) at ≡ None) (unused : finite.get leaves.rows i ≡ None) (added : after ≡ with_row leaves i row) (put : new.rows.indices ≡ finite.insert old.rows.indices at i) (vars : new.vars ≡ old.vars) where

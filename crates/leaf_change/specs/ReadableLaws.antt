@@ -76,7 +76,8 @@ module _ (places : AddressMap) (leaves : Leaves) (names : NamesEach places leave
   used_objective : (o : Option LeafObjective) → IfSome o (ObjectiveNames places.vars.indices)
       → NamesUsed places leaves (objective_in o)
   used_objective None n =
-      subst (All (λ t. IsSome (finite.get leaves.vars t.0))) (sym (terms-constant_function nat_cmp zero_ℚ))
+      subst (All (λ t. IsSome (finite.get leaves.vars t.0)))
+      (sym (terms-constant_function nat_cmp zero_ℚ))
       (All-nil (λ t. IsSome (finite.get leaves.vars t.0)))
   used_objective (Some (objective.Plain sense var)) n = used_variable var n
   used_objective (Some (objective.Affine sense func)) n = used_function func n

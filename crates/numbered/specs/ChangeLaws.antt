@@ -1,16 +1,16 @@
 -- Laws of changes: what is found after them, that their olds take them back, and that the room for
 -- them is room for that.
-use Rattle.std.specs.Prelude.{◌≡◌, ℕ, ◌+◌, ◌<◌, ◌≤◌, ◌==◌, ◌&&◌, true, false, cond, List, [], ◌∷◌, ◌++◌, Option, Some, None, All, is_some, length, slice_index_or, refl}
+use Rattle.std.specs.Prelude.{◌≡◌, ℕ, ◌+◌, ◌<◌, ◌≤◌, ◌==◌, ◌&&◌, true, false, cond, List, [], ◌∷◌, Option, Some, None, All, is_some, length, slice_index_or, refl}
 use Rattle.std.specs.Option.{is_none, option_map, option_map_or, option_to_list}
 use Rattle.std.proofs.Common.{arith, sym, ap, subst, inl, inr, ◌∙◌}
 use Rattle.std.proofs.lemmas.Bool.{cases_eq}
-use Rattle.std.proofs.lemmas.List.Elements.{All-nil, All-cons, All-head, All-tail, All-push}
+use Rattle.std.proofs.lemmas.List.Elements.{All-nil, All-cons, All-head, All-tail}
 use Rattle.std.proofs.lemmas.List.Sums.{sum_by-cons, count_by-le-length}
 use Rattle.std.proofs.lemmas.Option.{slice_get-get_or}
 use Rattle.numbered.specs.declared.change.Change.{Change}
 use Rattle.numbered.specs.Numbered.{Rise, IsAt, find, set_at}
 use Rattle.numbered.specs.Changes.{changed_number, AreChanges, set_all, old, olds, added}
-use Rattle.numbered.specs.Laws.{Rise-nil, Rise-cons, Rise-push, Rise-head, Rise-tail, find-first, find-rest, find-none_above, find-at, IsAt-find, number_of_found, same_lists}
+use Rattle.numbered.specs.Laws.{Rise-nil, Rise-cons, Rise-head, Rise-tail, find-first, find-rest, find-none_above, find-at, IsAt-find, number_of_found, same_lists}
 use Rattle.numbered.specs.SetLaws.{find-set_at_same, find-set_at_other, Rise-set_at, length-set_at}
 
 module _ {X : Type 0} (number_of : X → ℕ) where

@@ -1,15 +1,15 @@
 -- Laws of what stands at a number after it is set: what is found, and that setting what stood there
 -- takes it back.
-use Rattle.std.specs.Prelude.{◌≡◌, ◌≢◌, ℕ, ◌+◌, ◌<◌, ◌≤◌, ◌==◌, nat_eq, nat_lt, true, false, not, cond, List, [], ◌∷◌, ◌++◌, Option, Some, None, All, filter, map, length, refl}
+use Rattle.std.specs.Prelude.{◌≡◌, ◌≢◌, ℕ, ◌+◌, ◌<◌, ◌≤◌, ◌==◌, nat_lt, true, false, not, cond, List, [], ◌∷◌, ◌++◌, Option, Some, None, All, filter, length, refl}
 use Rattle.std.specs.Option.{option_or, option_to_list}
 use Rattle.std.proofs.Common.{arith, sym, ap, subst, inl, inr, ◌∙◌}
 use Rattle.std.proofs.lemmas.Bool.{cases_eq, cases_order, ltb-true, lt-ltb, le-ltb}
 use Rattle.std.proofs.lemmas.List.{length-append}
-use Rattle.std.proofs.lemmas.List.Elements.{All-cons, All-head, All-tail, All-weaker, filter_passes}
+use Rattle.std.proofs.lemmas.List.Elements.{All-cons, All-weaker, filter_passes}
 use Rattle.std.proofs.lemmas.List.Folds.{find-append}
 use Rattle.map_laws.specs.PlaceLaws.{filter_all, filter_nothing}
 use Rattle.numbered.specs.Numbered.{Rise, find, below, above, IsAt, set_at, put, without}
-use Rattle.numbered.specs.Laws.{same_number, other_number, Rise-cons, Rise-head, Rise-tail, Rise-filter, Rise-append, find-first, find-rest, find-none_below, find-none_above, find-below, IsAt-find, same_lists}
+use Rattle.numbered.specs.Laws.{same_number, other_number, Rise-cons, Rise-head, Rise-tail, Rise-filter, Rise-append, find-first, find-rest, find-none_below, find-none_above, IsAt-find, same_lists}
 
 module _ {X : Type 0} (number_of : X → ℕ) where
   All-below : (n : ℕ) (xs : List X) → All (λ x. number_of x < n) (below number_of n xs)
