@@ -35,6 +35,7 @@ use Rattle.bridge_face.specs.BackOf.{size}
 use Rattle.bridge_face.specs.ImageOf.{begins_free, free_at, group_at, image_by, image_of, inner, inner_functions}
 use Rattle.bridge_face.specs.Images.{affine, child_at, component_of, each_component, first_in, lower_part, plain, upper_part, with_set}
 use Rattle.bridge_face.specs.Law.{Miss, inner_of, listed, is_objective}
+use Rattle.bridge_face.specs.ObjectiveLaws.{objective_no_group}
 use Rattle.fresh_bridging.specs.CanLaws.{AreLawful, Can}
 use Rattle.fresh_bridging.specs.TableLaws.{and_first, and_second}
 use Rattle.fresh_bridging.specs.TheRules.{AreChoices, Setting, edge_at, graph_of}
@@ -180,16 +181,6 @@ objective_by family.Later edge item = refl
 objective_by family.ObjSlack edge item = record { child = _; is = refl; objective = refl }
 objective_by family.NormInfinity edge item = refl
 objective_by family.NormOne edge item = refl
-
-pub objective_no_group : (b : Body) → is_objective b ≡ true → is_group b ≡ false
-objective_no_group (Group s vars) h = absurd (true≢false (sym h))
-objective_no_group (Free vars) h = absurd (true≢false (sym h))
-objective_no_group (Plain var s) h = refl
-objective_no_group (Affine func s) h = refl
-objective_no_group (PlainVec vars s) h = refl
-objective_no_group (AffineVec funcs s) h = refl
-objective_no_group (PlainObj sense var) h = refl
-objective_no_group (AffineObj sense func) h = refl
 
 not_so : (b : Bool) → not b ≡ true → b ≡ false
 not_so true h = absurd (true≢false (sym h))

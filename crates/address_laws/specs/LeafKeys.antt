@@ -34,12 +34,7 @@ variable_keys item = by item.body
         ≡ own (record { at = item.at; body = b })
     by (Group set vars) = first_of_pairs (leaf_variable set) vars
     by (Free vars) = first_of_pairs leaf.Free vars
-    by (Plain var set) = refl
-    by (Affine func set) = refl
-    by (PlainVec vars set) = refl
-    by (AffineVec funcs set) = refl
-    by (PlainObj sense var) = refl
-    by (AffineObj sense func) = refl
+    by _ = refl
 
 abbrev pub no_keys : Item → List Address
 no_keys item = []
@@ -85,27 +80,19 @@ pub rows_alone : (item : Item) → IsAlone item (row_keys item)
 rows_alone item = by item.body
   where
     by : (b : Body) → IsAlone item (row_keys (record { at = item.at; body = b }))
-    by (Group set vars) = alone_none item
-    by (Free vars) = alone_none item
     by (Plain var set) = alone_itself item
     by (Affine func set) = alone_itself item
     by (PlainVec vars set) = alone_itself item
     by (AffineVec funcs set) = alone_itself item
-    by (PlainObj sense var) = alone_none item
-    by (AffineObj sense func) = alone_none item
+    by _ = alone_none item
 
 pub objectives_alone : (item : Item) → IsAlone item (objective_keys item)
 objectives_alone item = by item.body
   where
     by : (b : Body) → IsAlone item (objective_keys (record { at = item.at; body = b }))
-    by (Group set vars) = alone_none item
-    by (Free vars) = alone_none item
-    by (Plain var set) = alone_none item
-    by (Affine func set) = alone_none item
-    by (PlainVec vars set) = alone_none item
-    by (AffineVec funcs set) = alone_none item
     by (PlainObj sense var) = alone_itself item
     by (AffineObj sense func) = alone_itself item
+    by _ = alone_none item
 
 pub alone_are : (of_leaf : Item → List Address) → ((item : Item) → IsAlone item (of_leaf item))
     → AreKeys of_leaf no_keys

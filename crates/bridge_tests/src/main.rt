@@ -1,6 +1,6 @@
-// Takes an item through each edge, by a list of bridges of all families: prints the item, its image,
-// what is carried back of duals, and what altering it and letting it go give. Then come a row of
-// two numbers in `Reals`, and two images that differ in whether a sum fits.
+// Takes an item through each edge, by a list of bridges of all families: prints the item, its
+// image, what is carried back of duals, and what altering it and letting it go give. Then come a
+// row of two numbers in `Reals`, and two images that differ in whether a sum fits.
 #![tactic(auto)]
 
 mod constants;

@@ -11,7 +11,7 @@ use Rattle.item_core.specs.declared.item.Body.{Body}
 use Rattle.set_core.specs.Vectors.{DominatesEach, DominatesSum}
 use Rattle.item_core.specs.declared.edge.Edge.TheVariants.{E41}
 use Rattle.item_core.specs.declared.edge.Edge.{Edge}
-use Rattle.bridge_face.specs.Law.{EdgeLaw, IsLawful, LeadsTo, Miss, growth, IsItemFor}
+use Rattle.bridge_face.specs.Law.{IsLawful, LeadsTo, Miss, growth, IsItemFor}
 use Rattle.bridge_face.specs.ImageOf.{FitsBy, ImageFits, image_by, image_of}
 use Rattle.item_core.specs.Valid.{FitsItsFunction, IsValidItem, NamesNothingBelow}
 use Rattle.ratio_core.specs.Folds.{FoldFits, sum_from}
@@ -20,10 +20,11 @@ use Rattle.dual_laws.specs.Held.{Holds, IsHeld, adjoint_of, gap_of}
 use Rattle.bridge_face.specs.OneRowLaws.{IsRow, OneRow, one_row_law, row_held}
 use Rattle.set_core.specs.Shapes.{IsSetOf, least_dimension}
 use Rattle.item_core.specs.declared.item.Item.{Item}
-use Rattle.bridge_face.specs.FamilyLaws.{Lawful, lawful_family, of_another, dual_sizes, kept_by}
+use Rattle.bridge_face.specs.FamilyLaws.{Rule, back_is, dual_sizes, image_is, kept_by, lawful_by, of_another, source_is}
+use Rattle.bridge_face.specs.BackOf as backs
 use Rattle.set_core.specs.declared.set.Set.TheVariants.{Nonnegatives, NormInfinityCone}
 use Rattle.item_core.specs.declared.family.Family.TheVariants.{NormInfinity}
-use Rattle.bridge_face.specs.Sources.{OfKind, of_kind, vaffine_norm_infinity_cone}
+use Rattle.bridge_face.specs.Sources.{OfKind, vaffine_norm_infinity_cone}
 use Rattle.aff_core.specs.Arithmetic.{PlusFits, sum_of, ExactWhere}
 use Rattle.ratio_core.specs.Rational.{Rational, zero_ℚ, ◌+ℚ◌, ◌-ℚ◌, ◌≤ℚ◌}
 use Rattle.aff_core.specs.KeyOrder.{address_order}
@@ -83,43 +84,34 @@ made_of b s fs others both first n b_is first_is others_is both_is n_is =
     (first_is ∙ ap function_of_body (sym b_is)) there)
     (n_is ∙ ap length there)
 
-sourced_only : {b : Body} → OfKind kind.VaffineNormInfinityCone b → InNormInfinity b
-sourced_only vaffine_norm_infinity_cone = in_norm_infinity
+-- what is read of it, and what the edge leads to
+pub record Sourced (edge : Edge) (b : Body) : Type 0 where
+  pub cone : InNormInfinity b
+  pub row : IsRow b
+  pub count : ℕ
+  pub set : set_of b ≡ NormInfinityCone count
+  pub leads : (n : ℕ) (fs : List Function) → LeadsTo edge (AffineVec fs (Nonnegatives n))
 
-pub in_norm : (edge : Edge) → family_of edge ≡ NormInfinity
-    → (b : Body) → FitsItsFunction b → kind_of_body b ≡ source_of edge → InNormInfinity b
-unfolding edge_entry
-in_norm E41 own b h k = sourced_only (subst (λ k. OfKind k b) k (of_kind b h))
-in_norm _ own b h k = of_another own refl
-
-leads_to : (edge : Edge) → family_of edge ≡ NormInfinity → (n : ℕ) (fs : List Function)
-    → LeadsTo edge (AffineVec fs (Nonnegatives n))
+sourced : (edge : Edge) → family_of edge ≡ NormInfinity → {b : Body} → OfKind (source_of edge) b
+    → Sourced edge b
 unfolding edge_entry kind_of_body
-leads_to E41 own n fs = refl
-leads_to _ own n fs = of_another own refl
+sourced E41 own (vaffine_norm_infinity_cone {n}) = record {
+  cone = in_norm_infinity;
+  row = record { no_group = refl; no_objective = refl };
+  count = n;
+  set = refl;
+  leads = λ n fs. refl;
+}
+sourced _ own k = of_another own refl
 
--- what is read of it
-record Read (b : Body) : Type 0 where
-  row : IsRow b
-  count : ℕ
-  set : set_of b ≡ NormInfinityCone count
-
-read : {b : Body} → InNormInfinity b → Read b
-read (in_norm_infinity {fs} {n}) =
-    record { row = record { no_group = refl; no_objective = refl }; count = n; set = refl }
+pub rule : Rule NormInfinity Sourced (λ edge item. row_at item (made item.body))
+    (λ item ys. sum_from zero_ℚ (backs.first_of ys) ∷ across (size item - 1) (backs.first_of ys))
+unfolding image_by back_by
+rule = record { image = λ edge item. refl; back = λ item ys. refl; sourced = sourced }
 
 -- ---- the law
 
 module _ (edge : Edge) (own : family_of edge ≡ NormInfinity) where
-  pub image_is : (item : Item) → image_of edge item ≡ row_at item (made item.body)
-  unfolding image_by
-  image_is item = ap (λ f. image_by f edge item) own
-
-  pub back_is : (item : Item) (y : List Rational)
-      → back_of edge item (y ∷ []) ≡ sum_from zero_ℚ y ∷ across (size item - 1) y
-  unfolding back_by
-  back_is item y = ap (λ f. back_by f item (y ∷ [])) own
-
   pub image_fits : (item : Item)
       → ImageFits edge item
       ≡ BothFit (function_of_body item.body) (others_of item.body)
@@ -131,7 +123,7 @@ module _ (edge : Edge) (own : family_of edge ≡ NormInfinity) where
   unfolding BackFitsBy
   back_fits item y = ap (λ f. BackFitsBy f item (y ∷ [])) own
 
-  module _ (item : Item) (valid : IsValidItem item) (r : Read item.body) where
+  module _ (item : Item) (valid : IsValidItem item) (r : Sourced edge item.body) where
     abbrev fs : List Function
     fs = functions_of item.body
 
@@ -224,7 +216,7 @@ module _ (edge : Edge) (own : family_of edge ≡ NormInfinity) where
 
       back_parts : back_of edge item (y ∷ []) ≡ w
       back_parts =
-          back_is item y
+          back_is rule edge own item (y ∷ [])
           ∙ ap₂ (λ s d. s ∷ d)
           (fold_ℚ zero_ℚ y ∙ zero-+ℚ (sum_ℚ y) ∙ ap sum_ℚ (sym whole) ∙ sum_ℚ-append p q)
           (ap (λ m. across m y) counted)
@@ -297,7 +289,7 @@ module _ (edge : Edge) (own : family_of edge ≡ NormInfinity) where
       };
       sizes = subst (λ m. length both ≤ m * length fs) (sym (ap growth own))
           (let e : length fs ≡ suc n = ap length parts in omega (arith, long, e));
-      leads = leads_to edge own (n + n) both;
+      leads = r.leads (n + n) both;
       mentioned = λ v m.
           all_both (λ f. coefficient f v ≡ zero_ℚ) (missed-difference v) (missed-sum v)
           (subst (λ gs. Miss gs v) parts m);
@@ -309,10 +301,11 @@ module _ (edge : Edge) (own : family_of edge ≡ NormInfinity) where
       → TakesDuals (kept_by edge item) ys → ys ≡ y ∷ []
       → length y ≡ (size item - 1) + (size item - 1)
   dual_long item suits ys y takes ys_are =
-      let r = read (in_norm edge own item.body suits.valid.function suits.kind) in
+      let r = source_is rule edge own item suits in
       let sizes : length y ∷ [] ≡ length (functions_of (made item.body)) ∷ [] = ap (map length)
       (sym ys_are)
-      ∙ dual_sizes edge item (row_at item (made item.body)) (image_is item) ys takes in
+      ∙ dual_sizes edge item (row_at item (made item.body)) (image_is rule edge own item) ys
+      takes in
       ap first_size sizes ∙ long item suits.valid r
       ∙ ap₂ ◌+◌ (sym (counted item suits.valid r)) (sym (counted item suits.valid r))
 
@@ -337,7 +330,8 @@ module _ (edge : Edge) (own : family_of edge ≡ NormInfinity) where
       ))
       (λ h. subst (λ T. T) (sym across_is) (subst (λ T. T) fits h).1)
       (λ d e. e ∙ ap₂ (λ s ds. s ∷ ds) (sum_is ∙ ap (sum_from zero_ℚ) now_is)
-      (ap₂ across half_is now_is) ∙ sym (ap (back_of edge item) ys_are ∙ back_is item y))
+      (ap₂ across half_is now_is) ∙ sym (ap (back_of edge item) ys_are
+      ∙ back_is rule edge own item (y ∷ [])))
       said
 
   -- where the sum doesn't fit, nothing is carried back
@@ -346,11 +340,7 @@ module _ (edge : Edge) (own : family_of edge ≡ NormInfinity) where
   fold_needed item ys y ys_are h =
       (subst (λ T. T) (ap (BackFits edge item) ys_are ∙ back_fits item y) h).0
 
-  law_at : Lawful edge
-  law_at item suits =
-      subst (EdgeLaw edge item) (sym (image_is item))
-      (one_row_law edge item (made item.body) (one_row item suits.valid
-      (read (in_norm edge own item.body suits.valid.function suits.kind))))
-
 pub norm_infinity_lawful : IsLawful NormInfinity
-norm_infinity_lawful = lawful_family NormInfinity law_at
+norm_infinity_lawful =
+    lawful_by rule (λ edge own item valid r.
+    one_row_law edge item (made item.body) (one_row edge own item valid r))

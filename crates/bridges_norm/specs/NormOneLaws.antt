@@ -13,7 +13,7 @@ use Rattle.bridge_face.specs.ImageOf.{DifferencesFit, EachSumFits, FitsBy, Image
 use Rattle.set_core.specs.Vectors.{DominatesSum}
 use Rattle.item_core.specs.declared.edge.Edge.TheVariants.{E42}
 use Rattle.item_core.specs.declared.edge.Edge.{Edge}
-use Rattle.bridge_face.specs.Law.{EdgeLaw, IsLawful, LeadsTo, Miss, growth, IsItemFor}
+use Rattle.bridge_face.specs.Law.{IsLawful, LeadsTo, Miss, growth, IsItemFor}
 use Rattle.item_core.specs.Valid.{FitsItsFunction, IsValidItem, NamesNothingBelow}
 use Rattle.aff_core.specs.Function.{Function, coefficient, evaluated, variable}
 use Rattle.bridge_face.specs.GroupAndRowLaws.{GroupAndRow, group_and_row_law, left_over, group_and_row_made}
@@ -21,10 +21,11 @@ use Rattle.dual_laws.specs.Held.{Holds, IsHeld, adjoint_of, gap_of}
 use Rattle.bridge_face.specs.OneRowLaws.{IsRow, row_held}
 use Rattle.set_core.specs.Shapes.{IsSetOf, least_dimension}
 use Rattle.item_core.specs.declared.item.Item.{Item}
-use Rattle.bridge_face.specs.FamilyLaws.{Lawful, lawful_family, of_another, dual_sizes, kept_by}
+use Rattle.bridge_face.specs.FamilyLaws.{Rule, back_is, dual_sizes, image_is, kept_by, lawful_by, of_another, source_is}
+use Rattle.bridge_face.specs.BackOf as backs
 use Rattle.set_core.specs.declared.set.Set.TheVariants.{Nonnegatives, NormOneCone, Reals}
 use Rattle.item_core.specs.declared.family.Family.TheVariants.{NormOne}
-use Rattle.bridge_face.specs.Sources.{OfKind, of_kind, vaffine_norm_one_cone}
+use Rattle.bridge_face.specs.Sources.{OfKind, vaffine_norm_one_cone}
 use Rattle.ratio_core.specs.Rational.{Rational, zero_ℚ, ◌*ℚ◌, ◌+ℚ◌, ◌-ℚ◌, ◌≤ℚ◌}
 use Rattle.aff_core.specs.KeyOrder.{address_order}
 use Rattle.bridges_norm.specs.BothLaws.{all_fold, begins, each_across, first_size, in_first, in_second, none_left, norm_below, number-fold, others_of}
@@ -104,36 +105,32 @@ row_of b s fs others less both first rest vs n b_is first_is others_is rest_is l
     ∙ ap₂ (λ f gs. bounded_row f gs vs n) (first_is ∙ ap function_of_body (sym b_is))
     (others_is ∙ ap others_of (sym b_is))
 
-sourced_only : {b : Body} → OfKind kind.VaffineNormOneCone b → InNormOne b
-sourced_only vaffine_norm_one_cone = in_norm_one
+-- what is read of it, and what the edge leads to
+pub record Sourced (edge : Edge) (b : Body) : Type 0 where
+  pub cone : InNormOne b
+  pub row : IsRow b
+  pub count : ℕ
+  pub set : set_of b ≡ NormOneCone count
+  pub leads : (n : ℕ) (fs : List Function) → LeadsTo edge (AffineVec fs (Nonnegatives n))
+  pub group_leads : (n : ℕ) (vars : List Address) → LeadsTo edge (Group (Reals n) vars)
 
-pub in_norm : (edge : Edge) → family_of edge ≡ NormOne
-    → (b : Body) → FitsItsFunction b → kind_of_body b ≡ source_of edge → InNormOne b
-unfolding edge_entry
-in_norm E42 own b h k = sourced_only (subst (λ k. OfKind k b) k (of_kind b h))
-in_norm _ own b h k = of_another own refl
-
-leads_to : (edge : Edge) → family_of edge ≡ NormOne → (n : ℕ) (fs : List Function)
-    → LeadsTo edge (AffineVec fs (Nonnegatives n))
+sourced : (edge : Edge) → family_of edge ≡ NormOne → {b : Body} → OfKind (source_of edge) b
+    → Sourced edge b
 unfolding edge_entry kind_of_body
-leads_to E42 own n fs = refl
-leads_to _ own n fs = of_another own refl
+sourced E42 own (vaffine_norm_one_cone {n}) = record {
+  cone = in_norm_one;
+  row = record { no_group = refl; no_objective = refl };
+  count = n;
+  set = refl;
+  leads = λ n fs. refl;
+  group_leads = λ n vars. refl;
+}
+sourced _ own k = of_another own refl
 
-group_leads_to : (edge : Edge) → family_of edge ≡ NormOne → (n : ℕ) (vars : List Address)
-    → LeadsTo edge (Group (Reals n) vars)
-unfolding edge_entry kind_of_body
-group_leads_to E42 own n vars = refl
-group_leads_to _ own n vars = of_another own refl
-
--- what is read of it
-record Read (b : Body) : Type 0 where
-  row : IsRow b
-  count : ℕ
-  set : set_of b ≡ NormOneCone count
-
-read : {b : Body} → InNormOne b → Read b
-read (in_norm_one {fs} {n}) =
-    record { row = record { no_group = refl; no_objective = refl }; count = n; set = refl }
+pub rule : Rule NormOne Sourced (λ edge. norm_one)
+    (λ item ys. head_of (backs.first_of ys) ∷ across (size item - 1) (tail_of (backs.first_of ys)))
+unfolding image_by back_by
+rule = record { image = λ edge item. refl; back = λ item ys. refl; sourced = sourced }
 
 -- a list of several numbers
 starts : (y : List Rational) → 1 ≤ length y → y ≡ head_of y ∷ tail_of y
@@ -160,15 +157,6 @@ group_and_row_of item group exprs row = images.group_and_row item group exprs ro
 -- ---- the law
 
 module _ (edge : Edge) (own : family_of edge ≡ NormOne) where
-  pub image_is : (item : Item) → image_of edge item ≡ norm_one item
-  unfolding image_by
-  image_is item = ap (λ f. image_by f edge item) own
-
-  pub back_is : (item : Item) (y : List Rational)
-      → back_of edge item (y ∷ []) ≡ head_of y ∷ across (size item - 1) (tail_of y)
-  unfolding back_by
-  back_is item y = ap (λ f. back_by f item (y ∷ [])) own
-
   pub image_fits : (item : Item)
       → ImageFits edge item
       ≡ BoundsFit (function_of_body item.body) (others_of item.body) (bounds item)
@@ -180,7 +168,7 @@ module _ (edge : Edge) (own : family_of edge ≡ NormOne) where
   unfolding BackFitsBy
   back_fits item y = ap (λ f. BackFitsBy f item (y ∷ [])) own
 
-  module _ (item : Item) (valid : IsValidItem item) (r : Read item.body) where
+  module _ (item : Item) (valid : IsValidItem item) (r : Sourced edge item.body) where
     abbrev fs : List Function
     fs = functions_of item.body
 
@@ -298,7 +286,7 @@ module _ (edge : Edge) (own : family_of edge ≡ NormOne) where
       w = a ∷ minus q p
 
       back_parts : back_of edge item (y ∷ []) ≡ w
-      back_parts = back_is item y ∙ ap (λ m. a ∷ across m rest) counted
+      back_parts = back_is rule edge own item (y ∷ []) ∙ ap (λ m. a ∷ across m rest) counted
 
       carried : row_held item.body (back_of edge item (y ∷ []))
           ≡ held_of w (t ∷ xs) (NormOneCone r.count)
@@ -419,7 +407,7 @@ module _ (edge : Edge) (own : family_of edge ≡ NormOne) where
       fits = record { dimension = refl; enough = some; uncrossed = refl };
       grows = subst (λ m. n ≤ m * length fs) (sym (ap growth own))
           (let e : length fs ≡ suc n = ap length parts in omega (arith, e));
-      leads = group_leads_to edge own n vs;
+      leads = r.group_leads n vs;
       row_shaped = refl;
       row_some = omega (arith, long);
       row_fits = record {
@@ -434,7 +422,7 @@ module _ (edge : Edge) (own : family_of edge ≡ NormOne) where
           (components_apart item.at 1 n (omega arith));
       row_grows = subst (λ m. length rows ≤ m * length fs) (sym (ap growth own))
           (let e : length fs ≡ suc n = ap length parts in omega (arith, long, e));
-      row_leads = leads_to edge own (n + n + 1) rows;
+      row_leads = r.leads (n + n + 1) rows;
       mentioned = λ v m absent.
           all_made (λ f. coefficient f v ≡ zero_ℚ) (missed-difference v) (missed-sum v)
           (subst (λ gs. Miss gs v) parts m)
@@ -446,8 +434,7 @@ module _ (edge : Edge) (own : family_of edge ≡ NormOne) where
       → k - 1 ≡ length (others_of item.body)
   others_count item suits k e =
       ap (λ m. m - 1) e
-      ∙ counted item suits.valid (read (in_norm edge own item.body suits.valid.function
-      suits.kind))
+      ∙ counted item suits.valid (source_is rule edge own item suits)
 
   -- the dual has one number, and two for each other function
   pub dual_long : (item : Item) → IsItemFor edge item
@@ -455,9 +442,9 @@ module _ (edge : Edge) (own : family_of edge ≡ NormOne) where
       → TakesDuals (kept_by edge item) ys → ys ≡ y ∷ []
       → length y ≡ suc ((size item - 1) + (size item - 1))
   dual_long item suits ys y takes ys_are =
-      let r = read (in_norm edge own item.body suits.valid.function suits.kind) in
+      let r = source_is rule edge own item suits in
       let sizes : length y ∷ [] ≡ length (made_functions item) ∷ [] = ap (map length) (sym ys_are)
-      ∙ dual_sizes edge item (norm_one item) (image_is item) ys takes in
+      ∙ dual_sizes edge item (norm_one item) (image_is rule edge own item) ys takes in
       ap first_size sizes ∙ long item suits.valid r
       ∙ ap suc (ap₂ ◌+◌ (sym (counted item suits.valid r)) (sym (counted item suits.valid r)))
 
@@ -478,7 +465,7 @@ module _ (edge : Edge) (own : family_of edge ≡ NormOne) where
       (λ h. subst (λ T. T) (sym fits) (subst (λ T. T) across_is h))
       (λ h. subst (λ T. T) (sym across_is) (subst (λ T. T) fits h))
       (λ d e. e ∙ ap₂ (λ s ds. s ∷ ds) (head_is ∙ ap head_of now_is) (ap₂ across half_is rest_of_y)
-      ∙ sym (ap (back_of edge item) ys_are ∙ back_is item y))
+      ∙ sym (ap (back_of edge item) ys_are ∙ back_is rule edge own item (y ∷ [])))
       said
 
   -- so is an image that is made of these parts
@@ -495,15 +482,14 @@ module _ (edge : Edge) (own : family_of edge ≡ NormOne) where
       let t = function_of_body item.body in
       let xs = others_of item.body in
       let same_count : count ≡ length xs = count_is
-      ∙ counted item suits.valid (read (in_norm edge own item.body suits.valid.function
-      suits.kind)) in
+      ∙ counted item suits.valid (source_is rule edge own item suits) in
       group_and_row_made item part (Reals count) vars (inner item count) group exprs [] row
       (bounded_row t xs (inner item count) count) image
       part_is vars_are exprs_are (row_is ∙ ap (λ vs. bounded_row t xs vs count) vars_are) group_is
       image_of_parts
       ∙ ap (λ n. group_and_row_of item (child_at item 0 (Group (Reals n) (inner item n))) []
       (bounded_row t xs (inner item n) n)) same_count
-      ∙ sym (image_is item)
+      ∙ sym (image_is rule edge own item)
 
   -- and so it fits
   pub fits_made : (item : Item) → IsItemFor edge item → (count : ℕ) (vars : List Address)
@@ -513,17 +499,11 @@ module _ (edge : Edge) (own : family_of edge ≡ NormOne) where
   fits_made item suits count vars count_is vars_are =
       ap (λ vs. BoundsFit (function_of_body item.body) (others_of item.body) (variables vs))
       (vars_are ∙ ap (inner item) (count_is
-      ∙ counted item suits.valid (read (in_norm edge own item.body suits.valid.function
-      suits.kind))))
+      ∙ counted item suits.valid (source_is rule edge own item suits)))
       ∙ sym (image_fits item)
 
-  law_at : Lawful edge
-  law_at item suits =
-      subst (EdgeLaw edge item) (sym (image_is item))
-      (group_and_row_law edge item (Reals (length (others_of item.body)))
-      (length (others_of item.body)) (made item)
-      (group_and_row item suits.valid (read (in_norm edge own item.body suits.valid.function
-      suits.kind))))
-
 pub norm_one_lawful : IsLawful NormOne
-norm_one_lawful = lawful_family NormOne law_at
+norm_one_lawful =
+    lawful_by rule (λ edge own item valid r.
+    group_and_row_law edge item (Reals (length (others_of item.body)))
+    (length (others_of item.body)) (made item) (group_and_row edge own item valid r))

@@ -12,7 +12,7 @@ use Rattle.item_core.specs.declared.item.Body.{Body}
 use Rattle.item_core.specs.declared.edge.Edge.TheVariants.{E49, E50, E51, E52, E53, E54, E55, E56, E57}
 use Rattle.item_core.specs.declared.edge.Edge.{Edge}
 use Rattle.set_core.specs.declared.set.Set.TheVariants.{EqualTo, GreaterThan, Interval, LessThan, Reals}
-use Rattle.bridge_face.specs.ImageOf.{FitsBy, ImageFits, begins_free, free_at, group_at, image_by, image_of, inner, inner_functions, later}
+use Rattle.bridge_face.specs.ImageOf.{begins_free, free_at, group_at, image_by, image_of, inner, inner_functions, later}
 use Rattle.item_core.specs.Valid.{FitsItsFunction, IsValidItem, NamesNothingBelow}
 use Rattle.dual_laws.specs.Held.{Holds, IsHeld, adjoint, adjoint_of, gap, gap_of}
 use Rattle.item_core.specs.declared.image.Image.{Image}
@@ -21,7 +21,7 @@ use Rattle.set_core.specs.Shapes.{IsSetOf, dimension_of, is_scalar}
 use Rattle.item_core.specs.declared.item.Item.{Item}
 use Rattle.item_core.specs.declared.image.Expression.TheVariants.{Kept}
 use Rattle.item_core.specs.declared.family.Family.TheVariants.{Later}
-use Rattle.bridge_face.specs.FamilyLaws.{Lawful, lawful_family, of_another}
+use Rattle.bridge_face.specs.FamilyLaws.{Rule, image_is, lawful_by, of_another}
 use Rattle.bridge_face.specs.Sources.{OfKind, group_equal_to, group_greater_than, group_interval, group_less_than, group_nonnegatives, group_norm_infinity_cone, group_norm_one_cone, of_kind}
 use Rattle.ratio_core.specs.Rational.{Rational, zero_ℚ, ◌+ℚ◌, ◌-ℚ◌}
 use Rattle.set_core.specs.declared.set.Set.{Set}
@@ -35,7 +35,7 @@ use Rattle.item_core.specs.Item.{functions_of, is_group, set_of, variables_of}
 use Rattle.bridge_face.specs.GroupLaws.{group_held, held_of}
 use Rattle.item_core.specs.KindOf.{kind_of_body}
 use Rattle.bridge_face.specs.GroupAndRowLaws.{second_row_valid, group_and_row}
-use Rattle.bridge_face.specs.BackOf.{size}
+use Rattle.bridge_face.specs.BackOf.{back_by, size}
 use Rattle.aff_core.specs.Function.{variable}
 use Rattle.rational_laws.specs.Order.{≤ℚ_from_≡}
 use Rattle.item_core.specs.declared.image.Expression.{Expression}
@@ -315,8 +315,8 @@ module _ (edge : Edge) (item : Item) (group row : Body) (l : IsLater edge item g
 
 -- ---- what an edge of the family leads from
 
-record Sourced (edge : Edge) (b : Body) : Type 0 where
-  group : is_group b ≡ true
+pub record Sourced (edge : Edge) (b : Body) : Type 0 where
+  pub group : is_group b ≡ true
   scalar : Bool
   scalar_is : is_scalar (set_of b) ≡ scalar
   free : Bool
@@ -355,17 +355,9 @@ sourced E56 own group_norm_infinity_cone =
 sourced E57 own group_norm_one_cone = from false false refl refl refl (λ d ss. refl) (λ v ss. refl)
 sourced _ own k = of_another own refl
 
-source_at : (edge : Edge) → family_of edge ≡ Later → (item : Item) → IsItemFor edge item
-    → Sourced edge item.body
-source_at edge own item suits =
-    sourced edge own (subst (λ k. OfKind k item.body) suits.kind
-    (of_kind item.body suits.valid.function))
-
--- it is no row, to which duals would be carried
-pub no_row : (edge : Edge) → family_of edge ≡ Later → (item : Item) → IsItemFor edge item
-    → is_group item.body ≡ false → ⊥
-no_row edge own item suits none =
-    true≢false (sym (source_at edge own item suits).group ∙ none)
+pub rule : Rule Later Sourced later (λ item ys. [])
+unfolding image_by back_by
+rule = record { image = λ edge item. refl; back = λ item ys. refl; sourced = sourced }
 
 -- ---- the children that the table names
 
@@ -428,37 +420,28 @@ free_child : (free : Bool) (item : Item)
 free_child true item = refl
 free_child false item = refl
 
+later_is : (edge : Edge) (item : Item) (free : Bool) → begins_free (children_of edge) ≡ free
+    → later edge item
+    ≡ later_parts item (first_child free (size item) (inner item (size item)))
+    (row_of free (inner item (size item)) (set_of item.body)) (inner item (size item))
+later_is edge item free e =
+    ap (λ b. record {
+      groups =
+          cond b (free_at item (size item)) (group_at item (Reals (size item)) (size item)) ∷ [];
+      exprs = map Kept (inner item (size item));
+      rows = child_at item 1 (cond b (plain (inner item (size item)) (set_of item.body))
+          (affine (inner_functions item (size item)) (set_of item.body))) ∷ [];
+      objective = None;
+    }) e
+    ∙ ap (λ g. record {
+      groups = g ∷ [];
+      exprs = map Kept (inner item (size item));
+      rows = child_at item 1 (row_of free (inner item (size item)) (set_of item.body)) ∷ [];
+      objective = None;
+    }) (free_child free item)
+
 module _ (edge : Edge) (own : family_of edge ≡ Later) where
-  pub image_fits : (item : Item) → ImageFits edge item
-  unfolding FitsBy
-  image_fits item = subst (λ f. FitsBy f item) (sym own) tt
-
-  pub later_is : (item : Item) → image_of edge item ≡ later edge item
-  unfolding image_by
-  later_is item = ap (λ f. image_by f edge item) own
-
-  pub image_is : (item : Item) (free : Bool) → begins_free (children_of edge) ≡ free
-      → image_of edge item
-      ≡ later_parts item (first_child free (size item) (inner item (size item)))
-      (row_of free (inner item (size item)) (set_of item.body)) (inner item (size item))
-  image_is item free e =
-      later_is item
-      ∙ ap (λ b. record {
-        groups =
-            cond b (free_at item (size item)) (group_at item (Reals (size item)) (size item)) ∷ [];
-        exprs = map Kept (inner item (size item));
-        rows = child_at item 1 (cond b (plain (inner item (size item)) (set_of item.body))
-            (affine (inner_functions item (size item)) (set_of item.body))) ∷ [];
-        objective = None;
-      }) e
-      ∙ ap (λ g. record {
-        groups = g ∷ [];
-        exprs = map Kept (inner item (size item));
-        rows = child_at item 1 (row_of free (inner item (size item)) (set_of item.body)) ∷ [];
-        objective = None;
-      }) (free_child free item)
-
-  -- so is an image that is made of these parts
+  -- an image that is made of these parts is the item's
   pub parts_made : (item : Item) → IsItemFor edge item
       → (at first : Address) (free : Bool) (count : ℕ) (vars : List Address)
       (exprs : List Expression) (part : Set) (group row : Body) (made : Image)
@@ -485,34 +468,31 @@ module _ (edge : Edge) (own : family_of edge ≡ Later) where
       ∙ ap (λ v. group_and_row item (child_at item 0 (first_child free (size item) all))
       (map Kept all) (second_child free (is_scalar whole) v all whole))
       (first_is ∙ ap (λ a. child_of a 0) at_is)
-      ∙ sym (image_is item free (sym free_is)
+      ∙ sym (image_is rule edge own item ∙ later_is edge item free (sym free_is)
       ∙ ap (λ r. later_parts item (first_child free (size item) all) r all)
       (row_is_second free (is_scalar whole) (head_of item) all whole refl
       (one_inner item suits.valid (is_scalar whole) refl)))
 
-  law_at : Lawful edge
-  law_at item suits =
-      let s = source_at edge own item suits in
-      let one = one_inner item suits.valid s.scalar s.scalar_is in
-      let group : Body = first_child s.free (size item) (inner item (size item)) in
-      let row : Body = second_child s.free s.scalar (head_of item) (inner item (size item))
-      (set_of item.body) in
-      subst (EdgeLaw edge item)
-      (sym (image_is item s.free s.free_is
-      ∙ ap (λ r. later_parts item group r (inner item (size item)))
-      (row_is_second s.free s.scalar (head_of item) (inner item (size item)) (set_of item.body)
-      s.scalar_is one)))
-      (later_law edge item group row (record {
-        item_valid = suits.valid;
-        source = s.group;
-        of_group = of_free s.free (size item) (inner item (size item))
-            (length-components (child_of item.at 0) (size item));
-        of_row = of_row s.free s.scalar (head_of item) (inner item (size item)) (set_of item.body)
-            s.scalar_is one;
-        no_growth = ap growth own;
-        group_leads = s.group_leads (size item) (inner item (size item));
-        row_leads = s.row_leads (head_of item) (inner item (size item));
-      }))
-
 pub later_lawful : IsLawful Later
-later_lawful = lawful_family Later law_at
+later_lawful =
+    lawful_by rule (λ edge own item valid s.
+    let one = one_inner item valid s.scalar s.scalar_is in
+    let group : Body = first_child s.free (size item) (inner item (size item)) in
+    let row : Body = second_child s.free s.scalar (head_of item) (inner item (size item))
+    (set_of item.body) in
+    subst (EdgeLaw edge item)
+    (sym (later_is edge item s.free s.free_is
+    ∙ ap (λ r. later_parts item group r (inner item (size item)))
+    (row_is_second s.free s.scalar (head_of item) (inner item (size item)) (set_of item.body)
+    s.scalar_is one)))
+    (later_law edge item group row (record {
+      item_valid = valid;
+      source = s.group;
+      of_group = of_free s.free (size item) (inner item (size item))
+          (length-components (child_of item.at 0) (size item));
+      of_row = of_row s.free s.scalar (head_of item) (inner item (size item)) (set_of item.body)
+          s.scalar_is one;
+      no_growth = ap growth own;
+      group_leads = s.group_leads (size item) (inner item (size item));
+      row_leads = s.row_leads (head_of item) (inner item (size item));
+    })))

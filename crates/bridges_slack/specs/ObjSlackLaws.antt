@@ -11,20 +11,20 @@ use Rattle.bridge_face.specs.Law.{Balances, CarriesValues, ChildDuals, EdgeLaw, 
 use Rattle.item_core.specs.declared.item.Body.{Body}
 use Rattle.item_core.specs.declared.edge.Edge.TheVariants.{E62, E63}
 use Rattle.item_core.specs.declared.edge.Edge.{Edge}
-use Rattle.bridge_face.specs.ImageOf.{FitsBy, ImageFits, beyond, differences, free_at, image_by, image_of, inner, inner_functions, obj_slack, sense_of}
+use Rattle.bridge_face.specs.ImageOf.{beyond, differences, free_at, image_by, image_of, inner, inner_functions, obj_slack, sense_of}
 use Rattle.item_core.specs.Valid.{FitsItsFunction, IsValidItem, NamesNothingBelow}
 use Rattle.aff_core.specs.Function.{Function, coefficient, evaluated, variable}
 use Rattle.dual_laws.specs.Held.{Held, IsHeld, adjoint, adjoint_of, gap, gap_of}
 use Rattle.item_core.specs.declared.image.Image.{Image}
 use Rattle.set_core.specs.Membership.{In, low_of}
-use Rattle.bridge_face.specs.OneRowLaws.{IsRow}
 use Rattle.set_core.specs.Shapes.{IsSetOf, is_scalar}
 use Rattle.item_core.specs.declared.item.Item.{Item}
-use Rattle.bridge_face.specs.FamilyLaws.{Lawful, lawful_family, of_another}
+use Rattle.bridge_face.specs.FamilyLaws.{Rule, image_is, lawful_by, of_another, source_is}
+use Rattle.bridge_face.specs.BackOf.{back_by}
 use Rattle.set_core.specs.declared.set.Set.TheVariants.{LessThan, Reals}
 use Rattle.aff_core.specs.declared.sense.Sense.TheVariants.{Max, Min}
 use Rattle.item_core.specs.declared.family.Family.TheVariants.{ObjSlack}
-use Rattle.bridge_face.specs.Sources.{OfKind, max_affine, min_affine, of_kind}
+use Rattle.bridge_face.specs.Sources.{OfKind, max_affine, min_affine}
 use Rattle.ratio_core.specs.Rational.{Rational, neg_ℚ, one_ℚ, zero_ℚ, ◌*ℚ◌, ◌+ℚ◌, ◌-ℚ◌, ◌≤ℚ◌}
 use Rattle.aff_core.specs.declared.sense.Sense.{Sense}
 use Rattle.aff_core.specs.KeyOrder.{address_order}
@@ -59,8 +59,8 @@ is_one b (affine_objective {sense} {func}) none = none sense func refl
 abbrev pub row_of : Sense → Function → Address → Body
 row_of sense f s = Affine (difference (variable s) f) (beyond sense)
 
-record Sourced (edge : Edge) (b : Body) : Type 0 where
-  objective : IsAffineObjective b
+pub record Sourced (edge : Edge) (b : Body) : Type 0 where
+  pub objective : IsAffineObjective b
   group_leads : (ss : List Address) → LeadsTo edge (Free ss)
   row_leads : (f : Function) → LeadsTo edge (Affine f (beyond (sense_of b)))
   objective_leads : (s : Address) → LeadsTo edge (PlainObj (sense_of b) s)
@@ -82,12 +82,16 @@ sourced E63 own max_affine = record {
 }
 sourced _ own k = of_another own refl
 
-record Read (b : Body) : Type 0 where
-  source : is_objective b ≡ true
+pub rule : Rule ObjSlack Sourced (λ edge. obj_slack) (λ item ys. [])
+unfolding image_by back_by
+rule = record { image = λ edge item. refl; back = λ item ys. refl; sourced = sourced }
+
+pub record Read (b : Body) : Type 0 where
+  pub source : is_objective b ≡ true
   functions : functions_of b ≡ function_of_body b ∷ []
   cost : cost_of b ≡ cost_by (sense_of b) (function_of_body b)
 
-read : {b : Body} → IsAffineObjective b → Read b
+pub read : {b : Body} → IsAffineObjective b → Read b
 read affine_objective = record { source = refl; functions = refl; cost = refl }
 
 -- ---- the numbers of a cost
@@ -161,9 +165,6 @@ beyond_fits Max = record { dimension = refl; enough = omega arith; uncrossed = r
 beyond_scalar : (sense : Sense) → is_scalar (beyond sense) ≡ true
 beyond_scalar Min = refl
 beyond_scalar Max = refl
-
-row_is_row : (sense : Sense) (f : Function) (s : Address) → IsRow (row_of sense f s)
-row_is_row sense f s = record { no_group = refl; no_objective = refl }
 
 -- where the row holds, the cost of the variable is no less
 costs_less : (sense : Sense) (one p q : Rational)
@@ -471,40 +472,24 @@ slack_image item sense f = record {
   objective = Some (child_at item 2 (PlainObj sense (child_of (child_of item.at 0) 0)));
 }
 
+slack_image_is : (item : Item) → functions_of item.body ≡ function_of_body item.body ∷ []
+    → obj_slack item ≡ slack_image item (sense_of item.body) (function_of_body item.body)
+slack_image_is item alone =
+    ap (λ fs. record {
+      groups = free_at item 1 ∷ [];
+      exprs = [];
+      rows = child_at item 1 (Affine (first_in (differences (inner_functions item 1) fs))
+          (beyond (sense_of item.body))) ∷ [];
+      objective = Some (child_at item 2 (PlainObj (sense_of item.body)
+          (child_of (child_of item.at 0) 0)));
+    }) alone
+
 module _ (edge : Edge) (own : family_of edge ≡ ObjSlack) where
-  pub image_fits : (item : Item) → ImageFits edge item
-  unfolding FitsBy
-  image_fits item = subst (λ f. FitsBy f item) (sym own) tt
-
-  pub slack_is : (item : Item) → image_of edge item ≡ obj_slack item
-  unfolding image_by
-  slack_is item = ap (λ f. image_by f edge item) own
-
-  source_at : (b : Body) → FitsItsFunction b → kind_of_body b ≡ source_of edge → Sourced edge b
-  source_at b h k = sourced edge own (subst (λ k. OfKind k b) k (of_kind b h))
-
-  pub is_affine : (b : Body) → FitsItsFunction b → kind_of_body b ≡ source_of edge
-      → IsAffineObjective b
-  is_affine b h k = (source_at b h k).objective
-
-  pub image_is : (item : Item) → IsItemFor edge item
-      → image_of edge item ≡ slack_image item (sense_of item.body) (function_of_body item.body)
-  image_is item suits =
-      slack_is item
-      ∙ ap (λ fs. record {
-        groups = free_at item 1 ∷ [];
-        exprs = [];
-        rows = child_at item 1 (Affine (first_in (differences (inner_functions item 1) fs))
-            (beyond (sense_of item.body))) ∷ [];
-        objective = Some (child_at item 2 (PlainObj (sense_of item.body)
-            (child_of (child_of item.at 0) 0)));
-      }) (read (is_affine item.body suits.valid.function suits.kind)).functions
-
   -- f names no component
   pub unnamed_there : (item : Item) → IsItemFor edge item
       → coefficient (function_of_body item.body) (child_of (child_of item.at 0) 0) ≡ zero_ℚ
   unnamed_there item suits =
-      let facts = read (is_affine item.body suits.valid.function suits.kind) in
+      let facts = read (source_is rule edge own item suits).objective in
       unnamed_below item.at 0 (function_of_body item.body)
       (All-head (NamesNothingBelow item.at) (function_of_body item.body) []
       (subst (All (NamesNothingBelow item.at)) facts.functions
@@ -537,29 +522,22 @@ module _ (edge : Edge) (own : family_of edge ≡ ObjSlack) where
       (child_at item 1 (row_of sense f var) ∷ []) (item_of a b)) at_objective_is objective_is
       ∙ ap (λ v. objective_parts (free_at item 1 ∷ []) [] (child_at item 1 (row_of sense f v) ∷ [])
       (child_at item 2 (PlainObj sense v))) (var_is ∙ ap (λ a. child_of a 0) at_is)
-      ∙ sym (image_is item suits)
-
-  -- it is no row, to which duals would be carried
-  pub no_row : (item : Item) → IsItemFor edge item → is_objective item.body ≡ false → ⊥
-  no_row item suits none =
-      true≢false (sym (read (is_affine item.body suits.valid.function suits.kind)).source ∙ none)
-
-  law_at : Lawful edge
-  law_at item suits =
-      let source = source_at item.body suits.valid.function suits.kind in
-      let facts = read source.objective in
-      subst (EdgeLaw edge item) (sym (image_is item suits))
-      (slack_objective_law edge item (sense_of item.body) (function_of_body item.body) (record {
-        item_valid = suits.valid;
-        source = facts.source;
-        functions = facts.functions;
-        cost = facts.cost;
-        no_growth = ap growth own;
-        group_leads = source.group_leads (inner item 1);
-        row_leads = source.row_leads (difference (variable (child_of (child_of item.at 0) 0))
-            (function_of_body item.body));
-        objective_leads = source.objective_leads (child_of (child_of item.at 0) 0);
-      }))
+      ∙ sym (image_is rule edge own item
+      ∙ slack_image_is item (read (source_is rule edge own item suits).objective).functions)
 
 pub obj_slack_lawful : IsLawful ObjSlack
-obj_slack_lawful = lawful_family ObjSlack law_at
+obj_slack_lawful =
+    lawful_by rule (λ edge own item valid source.
+    let facts = read source.objective in
+    subst (EdgeLaw edge item) (sym (slack_image_is item facts.functions))
+    (slack_objective_law edge item (sense_of item.body) (function_of_body item.body) (record {
+      item_valid = valid;
+      source = facts.source;
+      functions = facts.functions;
+      cost = facts.cost;
+      no_growth = ap growth own;
+      group_leads = source.group_leads (inner item 1);
+      row_leads = source.row_leads (difference (variable (child_of (child_of item.at 0) 0))
+          (function_of_body item.body));
+      objective_leads = source.objective_leads (child_of (child_of item.at 0) 0);
+    })))

@@ -5,20 +5,21 @@ use Rattle.std.proofs.Common.{ap, arith, subst, sym, ◌∙◌}
 use Rattle.rational_laws.specs.Field.{*ℚ-zero, zero-*ℚ}
 use Rattle.aff_core.specs.Address.{Address, child_of}
 use Rattle.item_core.specs.declared.item.Body.TheVariants.{Affine, Group}
-use Rattle.bridge_face.specs.BackOf.{BackFits, BackFitsBy, back_by, back_of, size}
+use Rattle.bridge_face.specs.BackOf.{back_by, size}
+use Rattle.bridge_face.specs.BackOf as backs
 use Rattle.item_core.specs.declared.item.Body.{Body}
 use Rattle.item_core.specs.declared.edge.Edge.TheVariants.{E31, E32, E33}
 use Rattle.item_core.specs.declared.edge.Edge.{Edge}
 use Rattle.bridge_face.specs.Law.{EdgeLaw, IsItemFor, IsLawful, LeadsTo, growth}
 use Rattle.set_core.specs.declared.set.Set.TheVariants.{EqualTo, GreaterThan, Interval, LessThan}
-use Rattle.bridge_face.specs.ImageOf.{FitsBy, ImageFits, differences, group_at, image_by, image_of, inner, inner_functions, scalar_slack}
-use Rattle.item_core.specs.Valid.{FitsItsFunction, NamesNothingBelow}
+use Rattle.bridge_face.specs.ImageOf.{differences, group_at, image_by, image_of, inner, inner_functions, scalar_slack}
+use Rattle.item_core.specs.Valid.{NamesNothingBelow}
 use Rattle.aff_core.specs.Function.{Function, coefficient, variable}
 use Rattle.bridge_face.specs.OneRowLaws.{IsRow}
 use Rattle.bridges_slack.specs.SlackLaws.{IsSlack, slack_law}
 use Rattle.item_core.specs.declared.item.Item.{Item}
-use Rattle.bridge_face.specs.FamilyLaws.{Lawful, lawful_family, of_another}
-use Rattle.bridge_face.specs.Sources.{OfKind, affine_greater_than, affine_interval, affine_less_than, of_kind}
+use Rattle.bridge_face.specs.FamilyLaws.{Rule, back_is, image_is, lawful_by, of_another, source_is}
+use Rattle.bridge_face.specs.Sources.{OfKind, affine_greater_than, affine_interval, affine_less_than}
 use Rattle.ratio_core.specs.Rational.{Rational, zero_ℚ, ◌*ℚ◌}
 use Rattle.item_core.specs.declared.family.Family.TheVariants.{ScalarSlack}
 use Rattle.bridge_face.specs.Images.{child_at, first_in, function_of_body, difference}
@@ -42,8 +43,8 @@ made item =
     Affine (first_in (differences (functions_of item.body) (inner_functions item 1)))
     (EqualTo zero_ℚ)
 
-record Sourced (edge : Edge) (b : Body) : Type 0 where
-  bounded : IsBounded b
+pub record Sourced (edge : Edge) (b : Body) : Type 0 where
+  pub bounded : IsBounded b
   leads : (vars : List Address) → LeadsTo edge (Group (set_of b) vars)
   row_leads : (f : Function) → LeadsTo edge (Affine f (EqualTo zero_ℚ))
 
@@ -57,6 +58,10 @@ sourced E32 own affine_greater_than =
 sourced E33 own affine_interval =
     record { bounded = between; leads = λ vars. refl; row_leads = λ f. refl }
 sourced _ own k = of_another own refl
+
+pub rule : Rule ScalarSlack Sourced (λ edge. scalar_slack) (λ item. backs.first_of)
+unfolding image_by back_by
+rule = record { image = λ edge item. refl; back = λ item ys. refl; sourced = sourced }
 
 -- what is read of it
 record Bounded (b : Body) : Type 0 where
@@ -86,37 +91,15 @@ zero_alone one v e h =
 -- ---- the law
 
 module _ (edge : Edge) (own : family_of edge ≡ ScalarSlack) where
-  pub image_is : (item : Item) → image_of edge item ≡ scalar_slack item
-  unfolding image_by
-  image_is item = ap (λ f. image_by f edge item) own
-
-  pub back_is : (item : Item) (y : List Rational) → back_of edge item (y ∷ []) ≡ y
-  unfolding back_by
-  back_is item y = ap (λ f. back_by f item (y ∷ [])) own
-
-  pub image_fits : (item : Item) → ImageFits edge item
-  unfolding FitsBy
-  image_fits item = subst (λ f. FitsBy f item) (sym own) tt
-
-  pub back_fits : (item : Item) (ys : List (List Rational)) → BackFits edge item ys
-  unfolding BackFitsBy
-  back_fits item ys = subst (λ f. BackFitsBy f item ys) (sym own) tt
-
-  source_at : (b : Body) → FitsItsFunction b → kind_of_body b ≡ source_of edge → Sourced edge b
-  source_at b h k = sourced edge own (subst (λ k. OfKind k b) k (of_kind b h))
-
-  pub is_bounded : (b : Body) → FitsItsFunction b → kind_of_body b ≡ source_of edge → IsBounded b
-  is_bounded b h k = (source_at b h k).bounded
-
   -- the row names none of the components, and has one function
   pub one_function : (item : Item) → IsItemFor edge item
       → functions_of item.body ≡ function_of_body item.body ∷ []
-  one_function item suits = (read (is_bounded item.body suits.valid.function suits.kind)).functions
+  one_function item suits = (read (source_is rule edge own item suits).bounded).functions
 
   pub absent : (item : Item) → IsItemFor edge item
       → coefficient (function_of_body item.body) (child_of (child_of item.at 0) 0) ≡ zero_ℚ
   absent item suits =
-      let facts = read (is_bounded item.body suits.valid.function suits.kind) in
+      let facts = read (source_is rule edge own item suits).bounded in
       let unnamed : All (NamesNothingBelow item.at) (function_of_body item.body ∷ []) = subst
       (All (NamesNothingBelow item.at)) facts.functions
       (suits.valid.others facts.row.no_group) in
@@ -133,38 +116,35 @@ module _ (edge : Edge) (own : family_of edge ≡ ScalarSlack) where
       ap (λ fs. group_and_row item (group_at item (set_of item.body) 1) []
       (Affine (first_in (differences fs (inner_functions item 1))) (EqualTo zero_ℚ)))
       (sym (one_function item suits))
-      ∙ sym (image_is item)
-
-  law_at : Lawful edge
-  law_at item suits =
-      let source = source_at item.body suits.valid.function suits.kind in
-      let facts = read source.bounded in
-      let one : size item ≡ 1 = ap length facts.functions in
-      let slack : IsSlack edge item (made item) = record {
-        item_valid = suits.valid;
-        source = facts.row;
-        made = record { no_group = refl; no_objective = refl };
-        functions =
-            alone_is (functions_of item.body) (function_of_body item.body)
-            (child_of (child_of item.at 0) 0) facts.functions
-            ∙ ap (λ n. differences (functions_of item.body) (variables (inner item n))) (sym one);
-        equal = λ t v long h. zero_alone t v (long ∙ one) h;
-        low = λ y. zero-*ℚ (first_of y);
-        shaped = refl;
-        fits = record { dimension = sym one; enough = omega (arith, one); uncrossed = refl };
-        back = back_is item;
-        no_growth = ap growth own;
-        group_leads = source.leads (inner item (size item));
-        row_leads = source.row_leads (first_in (differences (functions_of item.body)
-            (inner_functions item 1)));
-      } in
-      subst (EdgeLaw edge item) (ap (λ n. record {
-        groups = group_at item (set_of item.body) n ∷ [];
-        exprs = [];
-        rows = child_at item 1 (made item) ∷ [];
-        objective = None;
-      }) one ∙ sym (image_is item))
-      (slack_law edge item (made item) slack)
+      ∙ sym (image_is rule edge own item)
 
 pub scalar_slack_lawful : IsLawful ScalarSlack
-scalar_slack_lawful = lawful_family ScalarSlack law_at
+scalar_slack_lawful =
+    lawful_by rule (λ edge own item valid source.
+    let facts = read source.bounded in
+    let one : size item ≡ 1 = ap length facts.functions in
+    let slack : IsSlack edge item (made item) = record {
+      item_valid = valid;
+      source = facts.row;
+      made = record { no_group = refl; no_objective = refl };
+      functions =
+          alone_is (functions_of item.body) (function_of_body item.body)
+          (child_of (child_of item.at 0) 0) facts.functions
+          ∙ ap (λ n. differences (functions_of item.body) (variables (inner item n))) (sym one);
+      equal = λ t v long h. zero_alone t v (long ∙ one) h;
+      low = λ y. zero-*ℚ (first_of y);
+      shaped = refl;
+      fits = record { dimension = sym one; enough = omega (arith, one); uncrossed = refl };
+      back = λ y. back_is rule edge own item (y ∷ []);
+      no_growth = ap growth own;
+      group_leads = source.leads (inner item (size item));
+      row_leads = source.row_leads (first_in (differences (functions_of item.body)
+          (inner_functions item 1)));
+    } in
+    subst (EdgeLaw edge item) (ap (λ n. record {
+      groups = group_at item (set_of item.body) n ∷ [];
+      exprs = [];
+      rows = child_at item 1 (made item) ∷ [];
+      objective = None;
+    }) one)
+    (slack_law edge item (made item) slack))

@@ -1,22 +1,21 @@
 -- The law of VectorSlack: f in S is s in S and f - s = 0.
 use Rattle.std.specs.Prelude.{All, List, [], refl, ℕ, ◌∷◌, ◌≡◌}
-use Rattle.std.proofs.Common.{ap, subst, sym}
+use Rattle.std.proofs.Common.{ap}
 use Rattle.aff_core.specs.Address.{Address}
 use Rattle.item_core.specs.declared.item.Body.TheVariants.{AffineVec, Group}
-use Rattle.bridge_face.specs.BackOf.{BackFits, BackFitsBy, back_by, back_of, size}
+use Rattle.bridge_face.specs.BackOf.{back_by, first_of, size}
 use Rattle.item_core.specs.declared.item.Body.{Body}
 use Rattle.item_core.specs.declared.edge.Edge.TheVariants.{E27, E28, E29, E30}
 use Rattle.item_core.specs.declared.edge.Edge.{Edge}
-use Rattle.bridge_face.specs.Law.{EdgeLaw, IsItemFor, IsLawful, LeadsTo, Miss, growth}
-use Rattle.bridge_face.specs.ImageOf.{FitsBy, ImageFits, differences, image_by, image_of, inner, inner_functions, vector_slack}
-use Rattle.item_core.specs.Valid.{FitsItsFunction}
+use Rattle.bridge_face.specs.Law.{IsLawful, LeadsTo, Miss, growth}
+use Rattle.bridge_face.specs.ImageOf.{differences, image_by, inner, inner_functions, vector_slack}
+use Rattle.item_core.specs.Valid.{IsValidItem}
 use Rattle.aff_core.specs.Function.{Function}
 use Rattle.bridge_face.specs.OneRowLaws.{IsRow}
 use Rattle.item_core.specs.declared.item.Item.{Item}
-use Rattle.bridge_face.specs.FamilyLaws.{Lawful, lawful_family, of_another}
+use Rattle.bridge_face.specs.FamilyLaws.{Rule, back_is, lawful_by, of_another}
 use Rattle.set_core.specs.declared.set.Set.TheVariants.{Nonnegatives, Nonpositives, NormInfinityCone, NormOneCone, Zeros}
-use Rattle.bridge_face.specs.Sources.{OfKind, of_kind, vaffine_nonnegatives, vaffine_nonpositives, vaffine_norm_infinity_cone, vaffine_norm_one_cone}
-use Rattle.ratio_core.specs.Rational.{Rational}
+use Rattle.bridge_face.specs.Sources.{OfKind, vaffine_nonnegatives, vaffine_nonpositives, vaffine_norm_infinity_cone, vaffine_norm_one_cone}
 use Rattle.item_core.specs.declared.family.Family.TheVariants.{VectorSlack}
 use Rattle.item_core.specs.Edge.{edge_entry, family_of, source_of}
 use Rattle.item_core.specs.Item.{functions_of, set_of}
@@ -37,8 +36,8 @@ made item =
     AffineVec (differences (functions_of item.body) (inner_functions item (size item)))
     (Zeros (size item))
 
-record Sourced (edge : Edge) (b : Body) : Type 0 where
-  cone : InCone b
+pub record Sourced (edge : Edge) (b : Body) : Type 0 where
+  pub cone : InCone b
   leads : (vars : List Address) → LeadsTo edge (Group (set_of b) vars)
   row_leads : (fs : List Function) (n : ℕ) → LeadsTo edge (AffineVec fs (Zeros n))
 
@@ -55,6 +54,10 @@ sourced E30 own vaffine_norm_one_cone =
     record { cone = norm_one; leads = λ vars. refl; row_leads = λ fs n. refl }
 sourced _ own k = of_another own refl
 
+pub rule : Rule VectorSlack Sourced (λ edge. vector_slack) (λ item. first_of)
+unfolding image_by back_by
+rule = record { image = λ edge item. refl; back = λ item ys. refl; sourced = sourced }
+
 row : {b : Body} → InCone b → IsRow b
 row nonnegative = record { no_group = refl; no_objective = refl }
 row nonpositive = record { no_group = refl; no_objective = refl }
@@ -63,55 +66,27 @@ row norm_one = record { no_group = refl; no_objective = refl }
 
 -- ---- the law
 
-module _ (edge : Edge) (own : family_of edge ≡ VectorSlack) where
-  pub image_is : (item : Item) → image_of edge item ≡ vector_slack item
-  unfolding image_by
-  image_is item = ap (λ f. image_by f edge item) own
-
-  pub back_is : (item : Item) (y : List Rational) → back_of edge item (y ∷ []) ≡ y
-  unfolding back_by
-  back_is item y = ap (λ f. back_by f item (y ∷ [])) own
-
-  pub image_fits : (item : Item) → ImageFits edge item
-  unfolding FitsBy
-  image_fits item = subst (λ f. FitsBy f item) (sym own) tt
-
-  pub back_fits : (item : Item) (ys : List (List Rational)) → BackFits edge item ys
-  unfolding BackFitsBy
-  back_fits item ys = subst (λ f. BackFitsBy f item ys) (sym own) tt
-
-  source_at : (b : Body) → FitsItsFunction b → kind_of_body b ≡ source_of edge → Sourced edge b
-  source_at b h k = sourced edge own (subst (λ k. OfKind k b) k (of_kind b h))
-
-  pub in_cone : (b : Body) → FitsItsFunction b → kind_of_body b ≡ source_of edge → InCone b
-  in_cone b h k = (source_at b h k).cone
-
-  -- the row names none of the components
-  pub absent : (item : Item) → IsItemFor edge item
-      → All (λ v. Miss (functions_of item.body) v) (inner item (size item))
-  absent item suits =
-      misses_inner item.at (size item) (functions_of item.body)
-      (suits.valid.others (row (in_cone item.body suits.valid.function suits.kind)).no_group)
-
-  law_at : Lawful edge
-  law_at item suits =
-      let source = source_at item.body suits.valid.function suits.kind in
-      subst (EdgeLaw edge item) (sym (image_is item))
-      (slack_law edge item (made item) (record {
-        item_valid = suits.valid;
-        source = row source.cone;
-        made = record { no_group = refl; no_objective = refl };
-        functions = refl;
-        equal = λ one v long h. h;
-        low = λ y. refl;
-        shaped = refl;
-        fits = record { dimension = refl; enough = suits.valid.some; uncrossed = refl };
-        back = back_is item;
-        no_growth = ap growth own;
-        group_leads = source.leads (inner item (size item));
-        row_leads = source.row_leads (differences (functions_of item.body)
-            (inner_functions item (size item))) (size item);
-      }))
+-- the row names none of the components
+pub absent : (item : Item) → IsValidItem item → InCone item.body
+    → All (λ v. Miss (functions_of item.body) v) (inner item (size item))
+absent item valid cone =
+    misses_inner item.at (size item) (functions_of item.body) (valid.others (row cone).no_group)
 
 pub vector_slack_lawful : IsLawful VectorSlack
-vector_slack_lawful = lawful_family VectorSlack law_at
+vector_slack_lawful =
+    lawful_by rule (λ edge own item valid source.
+    slack_law edge item (made item) (record {
+      item_valid = valid;
+      source = row source.cone;
+      made = record { no_group = refl; no_objective = refl };
+      functions = refl;
+      equal = λ one v long h. h;
+      low = λ y. refl;
+      shaped = refl;
+      fits = record { dimension = refl; enough = valid.some; uncrossed = refl };
+      back = λ y. back_is rule edge own item (y ∷ []);
+      no_growth = ap growth own;
+      group_leads = source.leads (inner item (size item));
+      row_leads = source.row_leads (differences (functions_of item.body)
+          (inner_functions item (size item))) (size item);
+    }))

@@ -258,7 +258,8 @@ module _ (setting : Setting) (costly : IsCostly (graph_of setting)) (choice : �
               ap (λ k. rank_in (kind_number k)) free in
               let here : nat_le (rank_in (kind_number GroupReals)) (rank_of item) ≡ true =
               grind (arith, nat_tests, same) in
-              let below : nat_le (rank_in (kind_number GroupReals)) (rank_in (kind_number kind)) ≡ false = grind (arith, nat_tests, same, lower) in
+              let below : nat_le (rank_in (kind_number GroupReals)) (rank_in (kind_number kind))
+              ≡ false = grind (arith, nat_tests, same, lower) in
               omega (arith, norms, ap counted here, ap counted below)
 
       -- so the components are within what they may be
@@ -284,7 +285,11 @@ module _ (setting : Setting) (costly : IsCostly (graph_of setting)) (choice : �
           let other : growth down.entry.family ≢ 1 = λ one. absurd (omega (arith, one, g)) in
           let first = doubled_more (doublings kind) (doublings kind) lc
           (2 * length (functions_of item.body)) (omega arith) within in
-          let next : doubled (suc (doublings kind)) (length (functions_of item.body)) ≤ doubled (doublings (kind_of_body item.body)) (length (functions_of item.body)) = doubled_more (suc (doublings kind)) (doublings (kind_of_body item.body)) (length (functions_of item.body)) (length (functions_of item.body)) (omega (arith, one_fewer other)) (omega arith) in
+          let count = length (functions_of item.body) in
+          let next : doubled (suc (doublings kind)) count
+          ≤ doubled (doublings (kind_of_body item.body)) count =
+          doubled_more (suc (doublings kind)) (doublings (kind_of_body item.body)) count count
+          (omega (arith, one_fewer other)) (omega arith) in
           omega (
             arith,
             first,
@@ -310,8 +315,16 @@ module _ (setting : Setting) (costly : IsCostly (graph_of setting)) (choice : �
         → (IsValidItem child → IsValidItem after)
         → RanksBelow Can rank_of (rank_of item) after
     child_can child is after at kind count carried =
-        let listed : list_any (kind_eq (kind_of_body after.body)) (kinds_in down.entry.children) ≡ true = subst (λ k. list_any (kind_eq k) (kinds_in down.entry.children) ≡ true) (sym kind) (lists child is.leads) in
-        let grown : length (functions_of after.body) ≤ growth down.entry.family * length (functions_of item.body) = subst (λ x. length (functions_of after.body) ≤ growth x.family * length (functions_of item.body)) same_entry (subst (λ c. c ≤ growth (family_of (edge_at n)) * length (functions_of item.body)) (sym count) is.grows) in
+        let listed : list_any (kind_eq (kind_of_body after.body)) (kinds_in down.entry.children)
+        ≡ true =
+        subst (λ k. list_any (kind_eq k) (kinds_in down.entry.children) ≡ true) (sym kind)
+        (lists child is.leads) in
+        let grown : length (functions_of after.body)
+        ≤ growth down.entry.family * length (functions_of item.body) =
+        subst (λ x. length (functions_of after.body)
+        ≤ growth x.family * length (functions_of item.body)) same_entry
+        (subst (λ c. c ≤ growth (family_of (edge_at n)) * length (functions_of item.body))
+        (sym count) is.grows) in
         let size = sized (kind_of_body after.body) listed (length (functions_of after.body)) grown
         in
         let lower = (down.below (kind_of_body after.body) listed).1 in

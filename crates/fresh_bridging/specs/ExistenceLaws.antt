@@ -230,7 +230,9 @@ module _ (setting : Setting) (costly : IsCostly (graph_of setting)) (choice : 鈩
           (child_groups setting costly choice chosen lawful item can n e) (below c.at rest)
           (All-weaker (位 g. StandsAsGroup setting costly choice chosen lawful item can n e g
           脳 HasComponents g) (位 g. 卢 (Owns g (below c.at rest)))
-          (位 g h o. let at_group = owned setting costly choice chosen lawful item can n e g h.0 h.1 (below c.at rest) o in
+          (位 g h o.
+          let at_group = owned setting costly choice chosen lawful item can n e g h.0 h.1
+          (below c.at rest) o in
           let same = apart item.at h.0.place stands.place (below c.at rest) at_group
           (record {
             rest = rest;

@@ -229,7 +229,9 @@ module _ (setting : Setting) (costly : IsCostly (graph_of setting)) (choice : �
     pub unowned : (v : Address) → ¬ (Owns group v) → All (λ g. ¬ (Owns g v)) groups_in
     unowned v h =
         All-weaker (λ g. StandsAsGroup g × HasComponents g) (λ g. ¬ (Owns g v))
-        (λ g k o. let b = owned g k.0 k.1 v o in h (inl (record { rest = k.0.place ∷ b.rest; is = b.is }))) groups_in standing_groups
+        (λ g k o.
+        let b = owned g k.0 k.1 v o in h (inl (record { rest = k.0.place ∷ b.rest; is = b.is })))
+        groups_in standing_groups
 
     -- the expressions of the image
     pub exprs_omit : (v : Address) → ¬ (Owns group v)

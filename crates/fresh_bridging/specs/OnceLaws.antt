@@ -109,19 +109,3 @@ module _ (setting : Setting) (model : ModelValue) (costly : IsCostly (graph_of s
   unfolding model_leaves
   same_leaves one other =
       ap (λ h. leaf_model_of (h.groups.leaves ++ h.others.leaves)) (one_bridging one other)
-
-  pub same_nodes : (one other : FreshBridging setting model) → nodes_of one ≡ nodes_of other
-  unfolding model_nodes
-  same_nodes one other =
-      ap (λ h. finite.from_entries (map (λ n. (n.1.at, n)) (h.groups.nodes ++ h.others.nodes)))
-      (one_bridging one other)
-
-  pub same_entries : (one other : FreshBridging setting model)
-      → one.made.entries ≡ other.made.entries
-  same_entries one other = ap (λ h. h.groups.entries) (one_bridging one other)
-
-  pub made_alike : (one other : FreshBridging setting model) → is_made one ≡ is_made other
-  made_alike one other = ap (λ h. h.groups.fits && h.others.fits) (one_bridging one other)
-
-  pub unfit_alike : (one other : FreshBridging setting model) → unfit_at one ≡ unfit_at other
-  unfit_alike one other = ap (λ h. option_map (λ item. item.at) h.unfit) (one_bridging one other)

@@ -28,13 +28,7 @@ use Rattle.renumbering.specs.RenamedTrees.{Alike, InAlike, alike_by, alike_each_
 is_objective-renamed : (σ : Address → Address) (b : Body)
     → is_objective (renamed_body σ b) ≡ is_objective b
 is_objective-renamed σ (Group set vars) = refl
-is_objective-renamed σ (Free vars) = refl
-is_objective-renamed σ (Plain var set) = refl
-is_objective-renamed σ (Affine func set) = refl
-is_objective-renamed σ (PlainVec vars set) = refl
-is_objective-renamed σ (AffineVec funcs set) = refl
-is_objective-renamed σ (PlainObj sense var) = refl
-is_objective-renamed σ (AffineObj sense func) = refl
+is_objective-renamed σ _ = refl
 
 -- what is carried back: the objective's dual, and those of the leaf rows at their addresses
 pub record DualsAgree (σ : Address → Address) (d e : LeafDuals) : Type 0 where

@@ -194,11 +194,7 @@ module _ (σ : Address → Address) (r : IsRenaming σ) where
     put_in_body_fits-renamed (Affine func set) = function_fits func
     put_in_body_fits-renamed (AffineVec funcs set) = functions_fit funcs
     put_in_body_fits-renamed (AffineObj sense func) = function_fits func
-    put_in_body_fits-renamed (Group set vars) = refl
-    put_in_body_fits-renamed (Free vars) = refl
-    put_in_body_fits-renamed (Plain var set) = refl
-    put_in_body_fits-renamed (PlainVec vars set) = refl
-    put_in_body_fits-renamed (PlainObj sense var) = refl
+    put_in_body_fits-renamed _ = refl
 
     pub put_in_fits-renamed : (item : Item)
         → put_in_fits fs (renamed_item σ item) ≡ put_in_fits es item

@@ -8,7 +8,6 @@ use Rattle.std.specs.List.{list_all}
 use Rattle.std.specs.declared.cmp.Ordering.{Ordering}
 use Rattle.ratio_core.specs.Rational.{Rational, neg_ℚ, zero_ℚ, ◌*ℚ◌, ◌+ℚ◌}
 use Rattle.aff_core.specs.Arithmetic.{added_at, added_terms, composed, met, scaled, substituted, sum_of}
-use Rattle.aff_core.specs.ArithmeticLaws.{times_rise}
 use Rattle.aff_core.specs.Function.{FunctionOver, coefficient, constant_function, function_of, negated, slope, terms_of, value_of, variable}
 use Rattle.aff_core.specs.FunctionLaws.{constant-function_of, constant-variable, entries_rise, negated_rise, same_function, terms-constant_function, terms-function_of, terms-variable, terms_kept, terms_rise}
 use Rattle.aff_core.specs.KeyOrder.{IsKeyOrder}
@@ -111,15 +110,6 @@ module _ {K : Type 0} {R : K → K → Ordering} (σ : K → K) (keeps : KeepsOr
       ∙ ap (λ ts. function_of ts (neg_ℚ f.constant)) (values-renamed σ neg_ℚ (terms_of f))
       ∙ function_of-renamed (negated_terms (terms_of f)) (neg_ℚ f.constant)
       (negated_rise (terms_of f) (terms_rise f))
-
-  pub scaled-renamed : (q : Rational) (f : FunctionOver R)
-      → scaled q (renamed_function σ f) ≡ renamed_function σ (scaled q f)
-  unfolding scaled
-  scaled-renamed q f =
-      ap₂ (λ ts c. function_of (times q ts) (q *ℚ c)) (terms-renamed f) (constant-renamed f)
-      ∙ ap (λ ts. function_of ts (q *ℚ f.constant)) (values-renamed σ (λ p. q *ℚ p) (terms_of f))
-      ∙ function_of-renamed (times q (terms_of f)) (q *ℚ f.constant)
-      (times_rise q (terms_of f) (terms_rise f))
 
   -- ---- values
 

@@ -72,11 +72,9 @@ module _ (σ : Address → Address) (r : IsRenaming σ) where
   functions-renamed (Group set vars) = variables_listed vars
   functions-renamed (Free vars) = variables_listed vars
   functions-renamed (Plain var set) = ap (λ f. f ∷ []) (variable-renamed σ r.order var)
-  functions-renamed (Affine func set) = refl
   functions-renamed (PlainVec vars set) = variables_listed vars
-  functions-renamed (AffineVec funcs set) = refl
   functions-renamed (PlainObj sense var) = ap (λ f. f ∷ []) (variable-renamed σ r.order var)
-  functions-renamed (AffineObj sense func) = refl
+  functions-renamed _ = refl
 
   pub size-renamed : (b : Body)
       → length (functions_of (renamed_body σ b)) ≡ length (functions_of b)
@@ -85,33 +83,15 @@ module _ (σ : Address → Address) (r : IsRenaming σ) where
 module _ (σ : Address → Address) where
   pub variables-renamed : (b : Body) → variables_of (renamed_body σ b) ≡ map σ (variables_of b)
   variables-renamed (Group set vars) = refl
-  variables-renamed (Free vars) = refl
-  variables-renamed (Plain var set) = refl
-  variables-renamed (Affine func set) = refl
-  variables-renamed (PlainVec vars set) = refl
-  variables-renamed (AffineVec funcs set) = refl
-  variables-renamed (PlainObj sense var) = refl
-  variables-renamed (AffineObj sense func) = refl
+  variables-renamed _ = refl
 
   pub set-renamed : (b : Body) → set_of (renamed_body σ b) ≡ set_of b
-  set-renamed (Group set vars) = refl
   set-renamed (Free vars) = ap Reals (length-map vars σ)
-  set-renamed (Plain var set) = refl
-  set-renamed (Affine func set) = refl
-  set-renamed (PlainVec vars set) = refl
-  set-renamed (AffineVec funcs set) = refl
-  set-renamed (PlainObj sense var) = refl
-  set-renamed (AffineObj sense func) = refl
+  set-renamed _ = refl
 
   pub is_group-renamed : (b : Body) → is_group (renamed_body σ b) ≡ is_group b
   is_group-renamed (Group set vars) = refl
-  is_group-renamed (Free vars) = refl
-  is_group-renamed (Plain var set) = refl
-  is_group-renamed (Affine func set) = refl
-  is_group-renamed (PlainVec vars set) = refl
-  is_group-renamed (AffineVec funcs set) = refl
-  is_group-renamed (PlainObj sense var) = refl
-  is_group-renamed (AffineObj sense func) = refl
+  is_group-renamed _ = refl
 
   pub kind-renamed : (b : Body) → kind_of_body (renamed_body σ b) ≡ kind_of_body b
   unfolding kind_of_body

@@ -49,25 +49,13 @@ module _ (σ : Address → Address) where
       → leaf_rows (record { at = σ at; body = renamed_body σ b })
       ≡ moved_entries σ (renamed_body σ) (leaf_rows (record { at = at; body = b }))
   rows_of_leaf at (Group set vars) = refl
-  rows_of_leaf at (Free vars) = refl
-  rows_of_leaf at (Plain var set) = refl
-  rows_of_leaf at (Affine func set) = refl
-  rows_of_leaf at (PlainVec vars set) = refl
-  rows_of_leaf at (AffineVec funcs set) = refl
-  rows_of_leaf at (PlainObj sense var) = refl
-  rows_of_leaf at (AffineObj sense func) = refl
+  rows_of_leaf at _ = refl
 
   objectives_of_leaf : (at : Address) (b : Body)
       → leaf_objectives (record { at = σ at; body = renamed_body σ b })
       ≡ moved_entries σ (renamed_body σ) (leaf_objectives (record { at = at; body = b }))
   objectives_of_leaf at (Group set vars) = refl
-  objectives_of_leaf at (Free vars) = refl
-  objectives_of_leaf at (Plain var set) = refl
-  objectives_of_leaf at (Affine func set) = refl
-  objectives_of_leaf at (PlainVec vars set) = refl
-  objectives_of_leaf at (AffineVec funcs set) = refl
-  objectives_of_leaf at (PlainObj sense var) = refl
-  objectives_of_leaf at (AffineObj sense func) = refl
+  objectives_of_leaf at _ = refl
 
   pub leaves-renamed : IsRenaming σ → (items : List Item)
       → AreRenamedLeaves σ (leaf_model_of items) (leaf_model_of (map (renamed_item σ) items))

@@ -28,13 +28,7 @@ module _ (σ : Address → Address) where
   pub with_set-renamed : (b : Body) (set : Set)
       → with_set (renamed_body σ b) set ≡ renamed_body σ (with_set b set)
   with_set-renamed (Plain var s) set = refl
-  with_set-renamed (Affine func s) set = refl
-  with_set-renamed (PlainVec vars s) set = refl
-  with_set-renamed (AffineVec funcs s) set = refl
-  with_set-renamed (Group s vars) set = refl
-  with_set-renamed (Free vars) set = refl
-  with_set-renamed (PlainObj sense var) set = refl
-  with_set-renamed (AffineObj sense func) set = refl
+  with_set-renamed _ set = refl
 
   pub plain-renamed : (vars : List Address) (set : Set)
       → plain (map σ vars) set ≡ renamed_body σ (plain vars set)
@@ -62,13 +56,7 @@ module _ (σ : Address → Address) where
 
   pub sense-renamed : (b : Body) → sense_of (renamed_body σ b) ≡ sense_of b
   sense-renamed (PlainObj sense var) = refl
-  sense-renamed (AffineObj sense func) = refl
-  sense-renamed (Plain var s) = refl
-  sense-renamed (Affine func s) = refl
-  sense-renamed (PlainVec vars s) = refl
-  sense-renamed (AffineVec funcs s) = refl
-  sense-renamed (Group s vars) = refl
-  sense-renamed (Free vars) = refl
+  sense-renamed _ = refl
 
   pub bridged-renamed : (fs : List Function)
       → bridged (map (renamed σ) fs) ≡ map (renamed_expression σ) (bridged fs)

@@ -165,7 +165,9 @@ module _ (setting : Setting) (costly : IsCostly (graph_of setting)) (lawful : Ar
       (model_image model).others (by (in_or_not (components bridging.made.entries) v))
       (further model valid))
     where
-      by : Contains (components bridging.made.entries) v ⊎ Avoids (components bridging.made.entries) v
+      by :
+          Contains (components bridging.made.entries) v
+          ⊎ Avoids (components bridging.made.entries) v
           → All (λ c. All (Missed bridging.made.entries v) (functions_of c.body))
           (model_image model).others
       by (inl c) = λ k d end. λ j g ends. inr c

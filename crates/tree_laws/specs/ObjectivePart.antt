@@ -163,11 +163,13 @@ module _ (setting : Setting) (costly : IsCostly (graph_of setting)) (lawful : Ar
       (each_apart setting costly lawful model valid bridging).objective.entries)))
 
   -- by whether there is an objective
-  pub by_objective : {C : Type 0} → (objective_items model.objective ≡ [] → user_cost model.objective
-      ≡ constant_function zero_ℚ → C)
-      → ((b : Body) → is_objective b ≡ true → objective_items model.objective ≡ objective_item b
-      ∷ []
-      → user_cost model.objective ≡ cost_of b → C) → C
+  pub by_objective : {C : Type 0}
+      → (objective_items model.objective ≡ []
+      → user_cost model.objective ≡ constant_function zero_ℚ → C)
+      → ((b : Body) → is_objective b ≡ true
+      → objective_items model.objective ≡ objective_item b ∷ []
+      → user_cost model.objective ≡ cost_of b → C)
+      → C
   by_objective {C} none one = by model.objective none one
     where
       by : (o : Objective)

@@ -45,7 +45,8 @@ use Rattle.user_model.specs.declared.group.Group.{Group as UserGroup}
 use Rattle.user_model.specs.declared.row.Row.{Row}
 use Rattle.address_laws.specs.Apart.{Avoids, Distinct}
 use Rattle.address_laws.specs.DistinctLaws.{each_apart, model_groups_here, model_others_here, vars_distinct}
-use Rattle.address_laws.specs.ImageLaws.{objective_no_group, variables_miss}
+use Rattle.bridge_face.specs.ObjectiveLaws.{objective_no_group}
+use Rattle.address_laws.specs.ImageLaws.{variables_miss}
 use Rattle.address_laws.specs.KeyLaws.{IsHere}
 use Rattle.address_laws.specs.PutLaws.{group_stays, objective_stays}
 use Rattle.tree_laws.specs.Carried.{group_held, group_helds, through}

@@ -89,23 +89,13 @@ pub group_functions : (b : Body) → is_group b ≡ true
     → functions_of b ≡ map (variable {R = address_cmp}) (variables_of b)
 group_functions (Group set vars) h = refl
 group_functions (Free vars) h = refl
-group_functions (Plain var set) h = absurd (true≢false (sym h))
-group_functions (Affine func set) h = absurd (true≢false (sym h))
-group_functions (PlainVec vars set) h = absurd (true≢false (sym h))
-group_functions (AffineVec funcs set) h = absurd (true≢false (sym h))
-group_functions (PlainObj sense var) h = absurd (true≢false (sym h))
-group_functions (AffineObj sense func) h = absurd (true≢false (sym h))
+group_functions _ h = absurd (true≢false (sym h))
 
 pub group_row_functions : (b : Body) → is_group b ≡ true
     → row_functions b ≡ map (variable {R = address_cmp}) (variables_of b)
 group_row_functions (Group set vars) h = refl
 group_row_functions (Free vars) h = refl
-group_row_functions (Plain var set) h = absurd (true≢false (sym h))
-group_row_functions (Affine func set) h = absurd (true≢false (sym h))
-group_row_functions (PlainVec vars set) h = absurd (true≢false (sym h))
-group_row_functions (AffineVec funcs set) h = absurd (true≢false (sym h))
-group_row_functions (PlainObj sense var) h = absurd (true≢false (sym h))
-group_row_functions (AffineObj sense func) h = absurd (true≢false (sym h))
+group_row_functions _ h = absurd (true≢false (sym h))
 
 -- ---- put in
 

@@ -34,10 +34,6 @@ use Rattle.tree_laws.specs.Carried.{StandFor, constants_in, seen, seen_at, throu
 module _ (entries : List Entry) where
   -- ---- of one
 
-  pub pull_through : (h : Held) (x : Address → Rational)
-      → pull_of (through entries h) x ≡ pull_of h (seen entries x)
-  pull_through h x = ap (dot h.duals) (slopes-composed (function_in entries) h.functions x)
-
   pub adjoint_through : (h : Held) (v : Address)
       → adjoint_of (through entries h) v ≡ pull_of h (seen_at entries v)
   adjoint_through h v =

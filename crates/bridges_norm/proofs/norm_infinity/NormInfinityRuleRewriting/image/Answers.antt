@@ -3,17 +3,18 @@ use Rattle.bridge_face.specs.AnsweredLaws.{passed_on}
 use Rattle.bridge_face.specs.ImageOf.{ImageFits}
 use Rattle.bridge_face.specs.Images.{function_of_body, row_at}
 use Rattle.bridges_norm.specs.BothLaws.{others_of}
-use Rattle.bridges_norm.specs.NormInfinityLaws.{BothFit, in_norm, image_fits, image_is}
+use Rattle.bridge_face.specs.FamilyLaws.{image_is, source_is}
+use Rattle.bridges_norm.specs.NormInfinityLaws.{BothFit, image_fits, rule}
 use Rattle.bridges_norm.proofs.norm_infinity.NormInfinityRuleRewriting.image.Goals as goal
 
 pub bounded-requires-clause-cone : goal.bounded-requires-clause-cone
 bounded-requires-clause-cone c =
-    in_norm c.args._edge c.requires.own c.args.item.now.body c.requires.suits.valid.function c.requires.suits.kind
+    (source_is rule c.args._edge c.requires.own c.args.item.now c.requires.suits).cone
 
 pub returns : goal.returns
 returns c = (
   subst (λ T. T) (sym (image_fits c.args._edge c.requires.own c.args.item.now)) c.in_ok-body.ensures.0,
-  c.in_ok-row_image.ensures ∙ ap (row_at c.args.item.now) c.in_ok-body.ensures.1 ∙ sym (image_is c.args._edge c.requires.own c.args.item.now),
+  c.in_ok-row_image.ensures ∙ ap (row_at c.args.item.now) c.in_ok-body.ensures.1 ∙ sym (image_is rule c.args._edge c.requires.own c.args.item.now),
 )
 
 pub returns-in_err-body : goal.returns-in_err-body

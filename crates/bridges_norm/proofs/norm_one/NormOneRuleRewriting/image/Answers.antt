@@ -6,12 +6,13 @@ use Rattle.bridge_face.specs.ComponentLaws.{length-components, variables}
 use Rattle.bridge_face.specs.ImageOf.{ImageFits}
 use Rattle.bridge_face.specs.Images.{function_of_body}
 use Rattle.bridges_norm.specs.BothLaws.{others_of}
-use Rattle.bridges_norm.specs.NormOneLaws.{BoundsFit, bounded_row, fits_made, image_made, in_norm, others_count}
+use Rattle.bridge_face.specs.FamilyLaws.{source_is}
+use Rattle.bridges_norm.specs.NormOneLaws.{BoundsFit, bounded_row, fits_made, image_made, others_count, rule}
 use Rattle.bridges_norm.proofs.norm_one.NormOneRuleRewriting.image.Goals as goal
 
 pub bounded-requires-clause-cone : goal.bounded-requires-clause-cone
 bounded-requires-clause-cone c =
-    in_norm c.args._edge c.requires.own c.args.item.now.body c.requires.suits.valid.function c.requires.suits.kind
+    (source_is rule c.args._edge c.requires.own c.args.item.now c.requires.suits).cone
 
 pub bounded-requires-clause-vars : goal.bounded-requires-clause-vars
 bounded-requires-clause-vars c =

@@ -1,12 +1,14 @@
+use Rattle.std.specs.Prelude.{refl}
+use Rattle.bridge_face.specs.FamilyLaws.{image_fits}
 use Rattle.std.proofs.Common.{ap, ◌∙◌, map}
 use Rattle.item_core.specs.declared.image.Expression.TheVariants.{Kept}
 use Rattle.set_core.specs.Shapes.{is_scalar}
-use Rattle.bridges_slack.specs.LaterLaws.{image_fits, parts_made, second_child}
+use Rattle.bridges_slack.specs.LaterLaws.{parts_made, rule, second_child}
 use Rattle.bridges_slack.proofs.later.LaterRuleRewriting.image.Goals as goal
 
 pub returns : goal.returns
 returns c = (
-  image_fits c.args.edge c.requires.own c.args.item.now,
+  image_fits c.args.edge c.requires.own refl c.args.item.now,
   parts_made c.args.edge c.requires.own c.args.item.now c.requires.suits c.child-at.result c.child.result c.begins_free-free.result c.component_count-count.result c.in_ok-vars.vars c.in_ok-exprs.exprs c.in_ok-set.set c.group_body.result c.in_ok-row.row c.in_ok-group_row_image.field-0
       c.child-at.ensures c.child.ensures c.begins_free-free.ensures c.component_count-count.ensures c.in_ok-vars.ensures
       (c.in_ok-exprs.ensures ∙ ap (map Kept) c.as_slice.ensures) c.in_ok-set.ensures c.group_body.ensures

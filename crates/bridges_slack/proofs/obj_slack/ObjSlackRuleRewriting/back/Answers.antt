@@ -1,6 +1,8 @@
-use Rattle.bridges_slack.specs.ObjSlackLaws.{no_row}
+use Rattle.bridge_face.specs.FamilyLaws.{source_is}
+use Rattle.std.proofs.Common.{sym, ◌∙◌, true≢false}
+use Rattle.bridges_slack.specs.ObjSlackLaws.{read, rule}
 use Rattle.bridges_slack.proofs.obj_slack.ObjSlackRuleRewriting.back.Goals as goal
 
 pub unreachable-requires : goal.unreachable-requires
 unreachable-requires c =
-    no_row c.args._edge c.requires.own c.args._item.now c.requires.suits c.requires.duals.no_objective
+    true≢false (sym (read (source_is rule c.args._edge c.requires.own c.args._item.now c.requires.suits).objective).source ∙ c.requires.duals.no_objective)

@@ -1,8 +1,8 @@
-use Rattle.bridge_face.specs.FamilyLaws.{child_rows_are}
+use Rattle.bridge_face.specs.FamilyLaws.{child_rows_are, image_is}
 use Rattle.bridge_face.specs.ImageOf.{obj_slack}
-use Rattle.bridges_slack.specs.ObjSlackLaws.{slack_is}
+use Rattle.bridges_slack.specs.ObjSlackLaws.{rule}
 use Rattle.bridges_slack.proofs.obj_slack.ObjSlackRuleRewriting.child_rows.Goals as goal
 
 pub returns : goal.returns
 returns c =
-    child_rows_are c.args._edge c.args._item.now (obj_slack c.args._item.now) (slack_is c.args._edge c.requires.own c.args._item.now)
+    child_rows_are c.args._edge c.args._item.now (obj_slack c.args._item.now) (image_is rule c.args._edge c.requires.own c.args._item.now)

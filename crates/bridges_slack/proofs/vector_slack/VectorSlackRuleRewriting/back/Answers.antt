@@ -1,19 +1,19 @@
+use Rattle.std.specs.Prelude.{[], refl, ◌∷◌}
 use Rattle.std.proofs.Common.{◌∙◌, arith}
 use Rattle.bridge_face.specs.ImageOf.{vector_slack}
-use Rattle.bridges_slack.specs.VectorSlackLaws.{image_is}
-use Rattle.bridge_face.specs.FamilyLaws.{back_one, dual_count}
-use Rattle.bridges_slack.specs.VectorSlackLaws.{back_fits, back_is}
+use Rattle.bridges_slack.specs.VectorSlackLaws.{rule}
+use Rattle.bridge_face.specs.FamilyLaws.{back_fits, back_is, back_one, dual_count, image_is}
 use Rattle.bridges_slack.proofs.vector_slack.VectorSlackRuleRewriting.back.Goals as goal
 
 pub bounds-duals-0 : goal.bounds-duals-0
 bounds-duals-0 c =
-    let one = dual_count c.args._edge c.args._item.now (vector_slack c.args._item.now) (image_is c.args._edge c.requires.own c.args._item.now) c.args.duals.now c.requires.duals in
+    let one = dual_count c.args._edge c.args._item.now (vector_slack c.args._item.now) (image_is rule c.args._edge c.requires.own c.args._item.now) c.args.duals.now c.requires.duals in
     omega (arith, one)
 
 pub returns : goal.returns
 returns c =
-    let one = dual_count c.args._edge c.args._item.now (vector_slack c.args._item.now) (image_is c.args._edge c.requires.own c.args._item.now) c.args.duals.now c.requires.duals in (
-      back_fits c.args._edge c.requires.own c.args._item.now c.args.duals.now,
+    let one = dual_count c.args._edge c.args._item.now (vector_slack c.args._item.now) (image_is rule c.args._edge c.requires.own c.args._item.now) c.args.duals.now c.requires.duals in (
+      back_fits c.args._edge c.requires.own refl c.args._item.now c.args.duals.now,
       c.in_ok-copy.ensures
-          ∙ back_one c.args._edge c.args._item.now (λ y. y) (back_is c.args._edge c.requires.own c.args._item.now) c.args.duals.now c.index-duals-0.result one c.index-duals-0.is,
+          ∙ back_one c.args._edge c.args._item.now (λ y. y) (λ y. back_is rule c.args._edge c.requires.own c.args._item.now (y ∷ [])) c.args.duals.now c.index-duals-0.result one c.index-duals-0.is,
     )
