@@ -13,7 +13,7 @@ use Rattle.aff_core.specs.Function.{Function}
 use Rattle.aff_core.specs.Rising.{HasDistinctKeys}
 use Rattle.fresh_bridging.specs.Leaves.{leaf_objectives}
 use Rattle.item_core.specs.declared.item.Body.{Body}
-use Rattle.item_core.specs.declared.item.Body.TheVariants.{Group, Free, Plain, Affine, PlainVec, AffineVec, PlainObj, AffineObj}
+use Rattle.item_core.specs.declared.item.Body.TheVariants.{PlainObj, AffineObj}
 use Rattle.item_core.specs.declared.item.Item.{Item}
 use Rattle.bridge_face.specs.Law.{is_objective}
 use Rattle.tree_laws.specs.ObjectiveLaws.{itself_one}
@@ -76,13 +76,6 @@ put_next old now after all left rest at f h next apart is vars rows =
       rows = rows ∙ h.rows;
     }
 
-pub put_end : (old now : AddressMap) (all left : List (Address × Function))
-    → PutSoFar old now all left → left ≡ [] → now.exprs ≡ finite.from_entries all
-put_end old now all left h none =
-    h.exprs
-    ∙ ap (finite.from_entries {R = address_cmp})
-    (sym (h.parts ∙ ap (λ l. h.done ++ l) none ∙ append-nil h.done))
-
 -- ---- the objective
 
 no_objective : (i : Item) → is_objective i.body ≡ false → leaf_objectives i ≡ []
@@ -90,14 +83,9 @@ no_objective i = by i.body
   where
     by : (b : Body) → is_objective b ≡ false
         → leaf_objectives (record { at = i.at; body = b }) ≡ []
-    by (Group s vars) h = refl
-    by (Free vars) h = refl
-    by (Plain var s) h = refl
-    by (Affine func s) h = refl
-    by (PlainVec vars s) h = refl
-    by (AffineVec funcs s) h = refl
     by (PlainObj sense var) h = absurd (true≢false h)
     by (AffineObj sense func) h = absurd (true≢false h)
+    by _ h = refl
 
 module _ (leaves : List Item) (i : ℕ) (leaf : Item) (next : drop i leaves ≡ leaf ∷ drop (i + 1) leaves)
     (so_far : flat_map leaf_objectives (drop i leaves) ≡ flat_map leaf_objectives leaves) where

@@ -81,13 +81,6 @@ no_overflow old model fault r is sound valid plan small at e =
     (sym (small_numbers_fit (setting_in old) sound.costly sound.lawful model valid small unfit.0).unfit
     ∙ unfit.1)
 
--- want of memory leaves nothing
-pub emptied : (old tried new : Owned) (model : ModelValue) → IsTried old tried
-    → HoldsNothing new → setting_in new ≡ setting_in tried
-    → IsBridgedBy old old.boxes.table model (Err Memory) new
-emptied old tried new model as_it_was nothing same =
-    (nothing, same ∙ ap (λ (m : Means). m.setting) as_it_was.means)
-
 -- ---- by another table, and back
 
 -- another table was set, and nothing else

@@ -43,10 +43,6 @@ same_keeping nodes old new e =
 -- a plan put in once all was let go, which leaves the families
 module _ (old new : Owned) (states : List State) (planned : ModelPlan)
     (families : families_of states ≡ families_of old.boxes.states) where
-  pub still_puttable : IsPuttable (families_of old.boxes.states) planned
-      → IsPuttable (families_of states) planned
-  still_puttable h = subst (λ fs. IsPuttable fs planned) (sym families) h
-
   pub holds : leaf_model_in new ≡ leaf_model_of planned.plan.leaves.items
       → kept_by new.boxes.states ≡ map (keeping planned.plan.nodes.items) states
       → new.map.exprs ≡ finite.from_entries planned.exprs.items → Holds old planned new

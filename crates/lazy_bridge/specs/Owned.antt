@@ -7,9 +7,9 @@
 --
 --     HoldsNothing lazy          no leaf, no node, no expression
 --     IsBridgingOf lazy model    the fresh bridging of the model stands in it: the solver's model,
---                                read through the map, is its leaves; each box keeps the part of its
---                                nodes that is of the box's family; and the map has the expression
---                                of each of the user's variables
+--                                read through the map, is its leaves; each box keeps the part of
+--                                its nodes that is of the box's family; and the map has the
+--                                expression of each of the user's variables
 use Rattle.std.specs.Prelude.{◌≡◌, true, All, refl}
 use Rattle.std.specs.Coded.{Coded, code_by, coded×}
 use Rattle.std.specs.FinMap as finite

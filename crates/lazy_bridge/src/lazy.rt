@@ -100,10 +100,12 @@ impl<B: Bridge> LazyOver<B> {
         }
     }
 
-    /// Bridges a model, where nothing is held. The answer is the number of leaves. Where each number
-    /// of the model is whole and at most 2^40 in size, it is never `Overflow`, whatever the table.
+    /// Bridges a model, where nothing is held. The answer is the number of leaves. Where each
+    /// number of the model is whole and at most 2^40 in size, it is never `Overflow`, whatever the
+    /// table.
     pub fn fill(&mut self, model: &UserModel) -> Result<u64, PushFault>
-        ensures bridged { IsBridgedBy self.old self.old.boxes.table model.now.model result self.new }
+        ensures bridged { IsBridgedBy self.old self.old.boxes.table model.now.model
+            result self.new }
         ensures small { HasSmallNumbers model.now.model
             → (at : Address) → result ≢ Err (PushFault.Overflow at) }
     {
@@ -113,7 +115,8 @@ impl<B: Bridge> LazyOver<B> {
     /// Bridges a model anew in place of the one before. The answer is the number of addresses at
     /// which the leaves differ.
     pub fn push(&mut self, after: &UserModel, _undo: &[Undo]) -> Result<u64, PushFault>
-        ensures bridged { IsBridgedBy self.old self.old.boxes.table after.now.model result self.new }
+        ensures bridged { IsBridgedBy self.old self.old.boxes.table after.now.model
+            result self.new }
         ensures small { HasSmallNumbers after.now.model
             → (at : Address) → result ≢ Err (PushFault.Overflow at) }
     {
@@ -155,7 +158,8 @@ impl<B: Bridge> LazyOver<B> {
 
     // Bridges a model by the table.
     fn bridge(&mut self, model: &UserModel) -> Result<u64, PushFault>
-        ensures bridged { IsBridgedBy self.old self.old.boxes.table model.now.model result self.new }
+        ensures bridged { IsBridgedBy self.old self.old.boxes.table model.now.model
+            result self.new }
         ensures small { HasSmallNumbers model.now.model
             → (at : Address) → result ≢ Err (PushFault.Overflow at) }
     {
