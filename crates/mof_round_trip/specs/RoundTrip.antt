@@ -1,6 +1,6 @@
 -- What is written of a valid model makes it again: the edits that are read of the text, made one
 -- after another on an empty model, are accepted and give a model that is the same up to numbers.
-use Rattle.std.specs.Prelude.{◌≡◌, ℕ, List, [], ◌++◌, Contains, Ok, map, refl}
+use Rattle.std.specs.Prelude.{◌≡◌, ℕ, List, ◌++◌, Contains, Ok, map, refl}
 use Rattle.std.proofs.Common.{ap, ap₂, append_assoc, subst, sym}
 use Rattle.std.proofs.lemmas.List.Elements.{All-contains_itself, Contains-get_or}
 use Rattle.user_model.specs.declared.edit.Edit.{Edit}
