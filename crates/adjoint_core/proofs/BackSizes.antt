@@ -1,7 +1,7 @@
 -- What is carried back to a row has a number for each of its components, and a row has few enough
 -- child rows.
 use Rattle.std.specs.Prelude.{◌≡◌, ◌+◌, ◌-◌, ◌≤◌, ◌^◌, ℕ, zero, suc, Bool, true, false, cond, List, [], ◌∷◌, ◌++◌, drop, length, map, take, refl}
-use Rattle.std.proofs.Common.{arith, ap, sym, ◌∙◌, true≢false}
+use Rattle.std.proofs.Common.{arith, ap, ap₂, sym, ◌∙◌, true≢false}
 use Rattle.std.proofs.lemmas.List.{length-append, length-drop, length-map, length-replicate, length-take-le}
 use Rattle.ratio_core.specs.Folds.{sum_from}
 use Rattle.ratio_core.specs.Rational.{Rational, neg_ℚ, zero_ℚ}
@@ -51,15 +51,7 @@ record OfSet (s : Set) : Type 0 where
 
 of_set : (s : Set) → OfSet s
 of_set (set.LessThan u) = record { plain = refl; affine = refl }
-of_set (set.GreaterThan l) = record { plain = refl; affine = refl }
-of_set (set.EqualTo a) = record { plain = refl; affine = refl }
-of_set (set.Interval l u) = record { plain = refl; affine = refl }
-of_set (set.Reals n) = record { plain = refl; affine = refl }
-of_set (set.Zeros n) = record { plain = refl; affine = refl }
-of_set (set.Nonnegatives n) = record { plain = refl; affine = refl }
-of_set (set.Nonpositives n) = record { plain = refl; affine = refl }
-of_set (set.NormInfinityCone n) = record { plain = refl; affine = refl }
-of_set (set.NormOneCone n) = record { plain = refl; affine = refl }
+of_set _ = record { plain = refl; affine = refl }
 
 -- a row, neither a group nor an objective
 pub record IsRowBody (b : Body) : Type 0 where
@@ -150,12 +142,9 @@ with_set_functions : (b : Body) (s : Set) → IsRowBody b
     → functions_of (with_set b s) ≡ functions_of b
 with_set_functions (Group t vars) s h = absurd (true≢false h.no_group)
 with_set_functions (Free vars) s h = absurd (true≢false h.no_group)
-with_set_functions (Plain var t) s h = refl
-with_set_functions (Affine func t) s h = refl
-with_set_functions (PlainVec vars t) s h = refl
-with_set_functions (AffineVec funcs t) s h = refl
 with_set_functions (PlainObj sense var) s h = absurd (true≢false h.no_objective)
 with_set_functions (AffineObj sense func) s h = absurd (true≢false h.no_objective)
+with_set_functions _ s h = refl
 
 affine_size : (b : Body) → IsRowBody b → FitsItsFunction b
     → length (functions_of (affine (functions_of b) (set_of b))) ≡ length (functions_of b)
@@ -182,42 +171,26 @@ component_count (PlainObj sense var) s h f e = absurd (true≢false h.no_objecti
 component_count (AffineObj sense func) s h f e = absurd (true≢false h.no_objective)
 
 few_components : (b : Body) (s : Set) → length (each_component b s) ≤ length (functions_of b)
-few_components (Group t vars) s = omega arith
-few_components (Free vars) s = omega arith
-few_components (Plain var t) s = omega arith
-few_components (Affine func t) s = omega arith
 few_components (PlainVec vars t) s =
     omega (arith, length-map vars (λ v. Plain v s), length-map vars (variable {R = address_cmp}))
 few_components (AffineVec funcs t) s = omega (arith, length-map funcs (λ f. Affine f s))
-few_components (PlainObj sense var) s = omega arith
-few_components (AffineObj sense func) s = omega arith
+few_components _ s = omega arith
+
+-- rows of one number each
+ones_of : {X : Type 0} (f : X → Body) → ((x : X) → length (functions_of (f x)) ≡ 1)
+    → (item : Item) (low : ℕ) (xs : List X)
+    → map (λ (row : Item). length (functions_of row.body)) (children_from item low (map f xs))
+    ≡ map (λ c. 1) (map f xs)
+ones_of f one item low [] = refl
+ones_of f one item low (x ∷ xs) = ap₂ ◌∷◌ (one x) (ones_of f one item (low + 1) xs)
 
 ones : (b : Body) (s : Set) → (item : Item) (low : ℕ)
     → map (λ (row : Item). length (functions_of row.body))
     (children_from item low (each_component b s))
     ≡ map (λ c. 1) (each_component b s)
-ones (Group t vars) s item low = refl
-ones (Free vars) s item low = refl
-ones (Plain var t) s item low = refl
-ones (Affine func t) s item low = refl
-ones (PlainVec vars t) s item low = plain vars low
-  where
-    plain : (vs : List Address) (from : ℕ)
-        → map (λ (row : Item). length (functions_of row.body))
-        (children_from item from (map (λ v. Plain v s) vs))
-        ≡ map (λ c. 1) (map (λ v. Plain v s) vs)
-    plain [] from = refl
-    plain (v ∷ vs) from = ap (λ l. 1 ∷ l) (plain vs (from + 1))
-ones (AffineVec funcs t) s item low = affines funcs low
-  where
-    affines : (fs : List Function) (from : ℕ)
-        → map (λ (row : Item). length (functions_of row.body))
-        (children_from item from (map (λ f. Affine f s) fs))
-        ≡ map (λ c. 1) (map (λ f. Affine f s) fs)
-    affines [] from = refl
-    affines (f ∷ fs) from = ap (λ l. 1 ∷ l) (affines fs (from + 1))
-ones (PlainObj sense var) s item low = refl
-ones (AffineObj sense func) s item low = refl
+ones (PlainVec vars t) s item low = ones_of (λ v. Plain v s) (λ v. refl) item low vars
+ones (AffineVec funcs t) s item low = ones_of (λ f. Affine f s) (λ f. refl) item low funcs
+ones _ s item low = refl
 
 -- ---- by family
 

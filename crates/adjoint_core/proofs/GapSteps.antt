@@ -31,10 +31,6 @@ pub record GapSoFar (start sum : Rational) (ps left_ps : List Address)
       → UnfitGap start (zip ps hs) at
   pub value : sum_from sum (gap_parts left_hs) ≡ sum_from start (gap_parts hs)
 
-pub gap_start : (start : Rational) (ps : List Address) (hs : List Held)
-    → GapSoFar start start ps ps hs hs
-gap_start start ps hs = record { fits = λ h. h; unfit = λ at h. h; value = refl }
-
 module _ (start sum : Rational) (ps left_ps rest_ps : List Address) (hs left_hs rest_hs : List Held)
     (p : Address) (held : Held) (h : GapSoFar start sum ps left_ps hs left_hs)
     (next_p : left_ps ≡ p ∷ rest_ps) (next_h : left_hs ≡ held ∷ rest_hs) where
@@ -81,15 +77,6 @@ pub record GroupsGap (start sum : Rational) (groups left_groups : List Group)
       → GapSoFar start sum (map group_place groups) (map group_place left_groups)
       (groups_with w groups) (groups_with w left_groups)
 
-pub groups_gap_start : (start : Rational) (groups : List Group) (numbers : List Rational)
-    → length numbers ≡ length (all_addresses groups)
-    → GroupsGap start start groups groups numbers numbers
-groups_gap_start start groups numbers size = record {
-  size = size;
-  at_left = λ w is. is;
-  so_far = λ w is. gap_start start (map group_place groups) (groups_with w groups);
-}
-
 module _ (start sum : Rational) (groups left_groups rest : List Group)
     (numbers left : List Rational) (g : Group)
     (h : GroupsGap start sum groups left_groups numbers left) (next : left_groups ≡ g ∷ rest) where
@@ -99,9 +86,6 @@ module _ (start sum : Rational) (groups left_groups rest : List Group)
 
   whole : length left ≡ length g.vars + length (all_addresses rest)
   whole = h.size ∙ ap (λ gs. length (all_addresses gs)) next ∙ count_split g rest
-
-  pub own_size : length g.vars ≤ length left
-  own_size = omega (arith, whole)
 
   pub own_is : (w : Address → Rational) → map w (all_addresses groups) ≡ numbers
       → map w (addresses_of g.vars) ≡ take (length g.vars) left
@@ -244,8 +228,3 @@ module _ (w : Address → Rational) (g : Group) where
   alone_told r sum groups is h =
       subst (λ ps. ExactWhere r (AddUp sum ps) (λ q. q ≡ sum_from sum ps))
       (ap (λ gs. gap_parts (groups_with w gs)) is ∙ alone_parts) h
-
-pub alone_size : (g : Group) (groups : List Group) → groups ≡ g ∷ []
-    → length (all_addresses groups) ≡ length g.vars
-alone_size g groups is =
-    ap (λ gs. length (all_addresses gs)) is ∙ count_split g [] ∙ omega arith

@@ -14,22 +14,6 @@ got (w ∷ ws) zero z k lt = ap Some (sym k)
 got (w ∷ ws) (suc m) z k lt = got ws m z k (omega (arith, lt))
 
 module _ {X Y : Type 0} (P : X → Type 0) (f : X → Y) (xs : List X) where
-  -- all of them
-  pub all_of_them : (made : List Y) → All P xs → made ≡ map f xs → IsAsFarAs P f xs made
-  all_of_them made fits is =
-      let size : length made ≡ length xs = ap length is ∙ length-map xs f in
-      let whole : take (length made) xs ≡ xs = take_all (length made) xs (omega (arith, size)) in
-      record {
-        fits = subst (All P) (sym whole) fits;
-        values = is ∙ ap (map f) (sym whole);
-        stops = λ x there. absurd (past xs (length made) x (omega (arith, size)) there);
-      }
-    where
-      past : (ys : List X) (n : ℕ) (x : X) → length ys ≤ n → slice_get ys n ≡ Some x → ⊥
-      past [] n x le there = none-some x there
-      past (y ∷ ys) zero x le there = absurd (omega (arith, le))
-      past (y ∷ ys) (suc n) x le there = past ys n x (omega (arith, le)) there
-
   -- the sums so far fit, and not all before an end do
   pub record Between (made : List Y) (end : ℕ) : Type 0 where
     pub fits : All P (take (length made) xs)
@@ -56,35 +40,6 @@ module _ {X Y : Type 0} (P : X → Type 0) (f : X → Y) (xs : List X) where
   between_begin made end none whole n =
       subst (λ e. Between made e) (sym whole)
       (subst (λ l. Between l (length xs)) (sym none) (between_start n))
-
-  pub between_more : (made more : List Y) (end middle : ℕ) → Between made end
-      → middle < end → All P (take middle xs) → more ≡ map f (take middle xs) → Between more end
-  between_more made more end middle h lt fits is =
-      let size : length more ≡ middle =
-      ap length is ∙ length-map (take middle xs) f
-      ∙ length_front middle xs (omega (arith, lt, h.within)) in
-      record {
-        fits = subst (λ n. All P (take n xs)) (sym size) fits;
-        values = is ∙ ap (λ n. map f (take n xs)) (sym size);
-        before = omega (arith, size, lt);
-        within = h.within;
-        unfit = h.unfit;
-      }
-    where
-      length_front : (n : ℕ) (ys : List X) → n ≤ length ys → length (take n ys) ≡ n
-      length_front zero ys le = refl
-      length_front (suc n) [] le = absurd (omega (arith, le))
-      length_front (suc n) (y ∷ ys) le = ap suc (length_front n ys (omega (arith, le)))
-
-  pub between_less : (made : List Y) (end middle : ℕ) → Between made end → length made < middle
-      → middle < end → ¬ (All P (take middle xs)) → Between made middle
-  between_less made end middle h gt lt n = record {
-    fits = h.fits;
-    values = h.values;
-    before = gt;
-    within = omega (arith, lt, h.within);
-    unfit = n;
-  }
 
   pub between_end : (made : List Y) (end : ℕ) → Between made end → end ≤ length made + 1
       → IsAsFarAs P f xs made

@@ -104,20 +104,9 @@ told_alike (Err Memory) P Q A B Told Other h fits each leads = tt
 
 -- ---- faults of the layers below
 
-pub check_ok : {T : Type 0} (x : T) (P : Type 0) (A : T → Type 0) (place : Address)
-    → ExactWhere (Ok x) P A → TellsAt (Ok x) P A place
-check_ok x P A place h = h
-
 pub check_err : {T U : Type 0} (e : CheckFault) (P : Type 0) (A : T → Type 0) (B : U → Type 0)
     (place : Address) (f : BackFault) → ExactWhere {T = U} (Err e) P B → f ≡ check_told place e
     → TellsAt {T = T} (Err f) P A place
 check_err check.CertOverflow P A B place f h is =
     subst (λ g. TellsAt (Err g) P A place) (sym is) (h, refl)
 check_err check.Memory P A B place f h is = subst (λ g. TellsAt (Err g) P A place) (sym is) tt
-
-pub sum_err : {T U : Type 0} (e : AffFault) (P : Type 0) (A : T → Type 0) (B : U → Type 0)
-    (place : Address) (f : BackFault) → SumExactWhere {T = U} (Err e) P B → f ≡ sum_told place e
-    → TellsAt {T = T} (Err f) P A place
-sum_err sum.Overflow P A B place f h is =
-    subst (λ g. TellsAt (Err g) P A place) (sym is) (h, refl)
-sum_err sum.Memory P A B place f h is = subst (λ g. TellsAt (Err g) P A place) (sym is) tt

@@ -163,15 +163,6 @@ unbridged user new_user old new table model (bridge.Overflow place) e h =
 unbridged user new_user old new table model bridge.Memory e h =
     same_state user new_user old new false e h.1
 
-pub untouched : (user new_user : Stored) (old new : Owned) (table : Table)
-    (model : ModelValue) (fault : BridgeFault) (attached : Bool) → new_user ≡ user
-    → IsBridgedInNames old table model (Err fault) new
-    → UnlessRefused {A = Option ℕ} (Err (bridge_fault fault)) (cached user old true)
-    (cached new_user new attached)
-untouched user new_user old new table model (bridge.Unsupported kind) attached e h = (e, h.1)
-untouched user new_user old new table model (bridge.Overflow place) attached e h = (e, h.1)
-untouched user new_user old new table model bridge.Memory attached e h = tt
-
 pub in_step_still : (user new_user : Stored) (old new : Owned) (table : Table) (model : ModelValue)
     (fault : BridgeFault) → new_user ≡ user → IsBridgedInNames old table model (Err fault) new
     → IsBridgingOf old user.model → user.parked ≡ []
@@ -200,12 +191,6 @@ bridged user new_user old new table model n e stands h = (
       h.1 h.2,
   ap (λ m. state_with m (setting_in new) true) e ∙ ap (λ s. state_with model s true) h.1,
 )
-
-pub in_step_again : (new_user : Stored) (old new : Owned) (table : Table) (model : ModelValue)
-    (n : ℕ) → new_user.model ≡ model → new_user.parked ≡ []
-    → IsBridgedBy old table model (Ok n) new → IsInStep (cached new_user new true)
-in_step_again new_user old new table model n e settled h =
-    record { stands = subst (IsBridgingOf new) (sym e) h.0; settled = settled }
 
 -- ---- an edit
 
@@ -303,13 +288,6 @@ unattached user old new (bridge.Overflow place) h = (
   same_state user user old new false refl (setting_tried old new h.1),
 )
 unattached user old new bridge.Memory h = (refl, same_state user user old new false refl h.1)
-
-pub unattached_untouched : (user : Stored) (old new : Owned) (fault : BridgeFault)
-    → IsBridgedInNames old old.boxes.table user.model (Err fault) new
-    → UnlessAttached (Err (attach_fault fault)) (cached user old false) (cached user new false)
-unattached_untouched user old new (bridge.Unsupported kind) h = (refl, h.1)
-unattached_untouched user old new (bridge.Overflow place) h = (refl, h.1)
-unattached_untouched user old new bridge.Memory h = tt
 
 pub still_detached : (user : Stored) (old new : Owned) (fault : BridgeFault)
     → IsBridgedInNames old old.boxes.table user.model (Err fault) new → HoldsNothing old

@@ -30,15 +30,6 @@ taken_back old mid new undo step model but =
     let front = left_front old.parked mid.parked new.parked mid.model undo step.parked but in
     λ i. record { model = same i; parked = front i }
 
--- what is settled stands
-pub settled : (shorter : List Parked) (mid new : Stored) (undo : Undo)
-    → HasParked shorter mid.parked mid.model undo
-    → new.model ≡ mid.model → IsButLast new.parked mid.parked
-    → new ≡ record { model = mid.model; parked = shorter }
-settled shorter mid new undo parked model but =
-    let front = left_front shorter mid.parked new.parked mid.model undo parked but in
-    λ i. record { model = model i; parked = front i }
-
 -- ---- undos, the last first
 
 pub last_first : (undos : List Undo) (undo : Undo)
@@ -74,40 +65,12 @@ waits start now [] h = ap (λ (s : Stored). s.parked) h
 waits start now (undo ∷ undos) h =
     (h.0.parked, waits start h.0 undos h.1, (now.model, h.2.parked))
 
-pub last_parked : (all now : List Parked) (longer shorter : List Undo) (undo : Undo)
-    → longer ≡ shorter ++ undo ∷ [] → AreParkedFor all (reverse longer) now
-    → (others : List Parked) × AreParkedFor all (reverse shorter) others
-    × ((model : ModelValue) × HasParked others now model undo)
-last_parked all now longer shorter undo e h =
-    subst (λ us. AreParkedFor all us now) (ap reverse e ∙ last_first shorter undo) h
-
-pub one_parked : (all now left : List Parked) (longer shorter : List Undo) (undo : Undo)
-    → longer ≡ shorter ++ undo ∷ [] → IsButLast left now → AreParkedFor all (reverse longer) now
-    → AreParkedFor all (reverse shorter) left
-one_parked all now left longer shorter undo e but h =
-    let last = last_parked all now longer shorter undo e h in
-    let same = left_front last.0 now left last.2.0 undo last.2.1 but in
-    subst (AreParkedFor all (reverse shorter)) (sym same) last.1
-
-pub is_last : (all now : List Parked) (longer shorter : List Undo) (undo : Undo)
-    → longer ≡ shorter ++ undo ∷ [] → AreParkedFor all (reverse longer) now → IsLastOf now undo
-is_last all now longer shorter undo e h =
-    let last = last_parked all now longer shorter undo e h in
-    record { others = last.0; model = last.2.0; entry = last.2.1 }
-
 -- ---- all edits
 
 pub record MadeSoFar (start : Stored) (edits : List Edit) (undos : List Undo) (now : Stored)
     (left : List Edit) : Type 0 where
   pub back : LeadBack start (reverse undos) now
   pub after : after_edits start.model edits ≡ after_edits now.model left
-
-pub none_made : (start : Stored) (edits left : List Edit) (undos : List Undo) → left ≡ edits
-    → undos ≡ [] → MadeSoFar start edits undos start left
-none_made start edits left undos e none = record {
-  back = subst (λ us. LeadBack start (reverse us) start) (sym none) refl;
-  after = ap (after_edits start.model) (sym e);
-}
 
 after_first : (model : ModelValue) (edit : Edit) (edits : List Edit)
     → after_edits model (edit ∷ edits)
@@ -146,36 +109,3 @@ pub all_made : (start now new : Stored) (edits left : List Edit) (undos : List U
     → new.parked ≡ start.parked → AreMadeBy start edits (Ok tt) new
 all_made start now new edits left undos e h model parked =
     (h.after ∙ (ap (after_edits now.model) e ∙ (after_none now.model ∙ ap Ok (sym model))), parked)
-
--- what is left of a cache is as its model is
-pub loaded : (user new_user : Stored) (lazy : Owned) (edits : List Edit)
-    → AreMadeBy user edits (Ok tt) new_user
-    → IsLoaded (state_of (cached user lazy false)) edits (Ok tt)
-    (state_of (cached new_user lazy false))
-loaded user new_user lazy edits h = (h.0, refl)
-
-pub not_loaded : (user new_user : Stored) (lazy : Owned) (edits : List Edit) (fault : ApplyFault)
-    → AreMadeBy user edits (Err fault) new_user
-    → IsLoaded (state_of (cached user lazy false)) edits (Err (edit_fault fault))
-    (state_of (cached new_user lazy false))
-not_loaded user new_user lazy edits (Refused refusal) h =
-    (h.0, ap (λ (u : Stored). state_of (cached u lazy false)) h.1)
-not_loaded user new_user lazy edits Memory h = ap (λ (u : Stored). state_of (cached u lazy false)) h
-
--- ---- one edit of a cache without a solver
-
-pub edited_alone : (user new_user : Stored) (lazy : Owned) (edit : Edit)
-    → IsMadeBy user edit (Ok tt) new_user
-    → IsEdited (state_of (cached user lazy false)) edit (Ok None)
-    (state_of (cached new_user lazy false))
-edited_alone user new_user lazy edit h =
-    (h.0, (refl, ap (λ (u : Stored). state_of (cached u lazy false)) h.1))
-
-pub not_edited : (user new_user : Stored) (lazy : Owned) (edit : Edit) (fault : ApplyFault)
-    → IsMadeBy user edit (Err fault) new_user
-    → IsEdited (state_of (cached user lazy false)) edit (Err (edit_fault fault))
-    (state_of (cached new_user lazy false))
-not_edited user new_user lazy edit (Refused refusal) h =
-    (sym h.0, ap (λ (u : Stored). state_of (cached u lazy false)) h.1)
-not_edited user new_user lazy edit Memory h =
-    ap (λ (u : Stored). state_of (cached u lazy false)) h.1

@@ -16,7 +16,8 @@ use model_store::{Undo, UserModel};
 
 /// Bridges a model where nothing is held. The answer is the number of leaves.
 pub(crate) fn fill<B: Bridge>(lazy: &mut LazyOver<B>, model: &UserModel) -> Result<u64, BridgeFault>
-    ensures bridged { IsBridgedInNames lazy.old lazy.old.boxes.table model.now.model result lazy.new }
+    ensures bridged { IsBridgedInNames lazy.old lazy.old.boxes.table model.now.model
+        result lazy.new }
     ensures small { HasSmallNumbers model.now.model
         → (place : Place) → result ≢ Err (BridgeFault.Overflow place) }
 {
@@ -33,7 +34,8 @@ pub(crate) fn push<B: Bridge>(
     model: &UserModel,
     undos: &[Undo],
 ) -> Result<u64, BridgeFault>
-    ensures bridged { IsBridgedInNames lazy.old lazy.old.boxes.table model.now.model result lazy.new }
+    ensures bridged { IsBridgedInNames lazy.old lazy.old.boxes.table model.now.model
+        result lazy.new }
     ensures small { HasSmallNumbers model.now.model
         → (place : Place) → result ≢ Err (BridgeFault.Overflow place) }
 {

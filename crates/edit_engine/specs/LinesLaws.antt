@@ -1,5 +1,5 @@
 -- Lines that are answered one after another, and which of them ends the work.
-use Rattle.std.specs.Prelude.{◌≡◌, ◌⊎◌, ℕ, Bool, true, false, ◌||◌, List, [], ◌∷◌, ◌++◌, Option, Result, Ok, Err, cond, refl}
+use Rattle.std.specs.Prelude.{◌≡◌, ◌⊎◌, ℕ, Bool, true, false, ◌||◌, List, [], ◌∷◌, ◌++◌, Option, Some, Result, Ok, Err, cond, refl}
 use Rattle.std.specs.List.{list_any}
 use Rattle.std.proofs.Common.{inl, inr, sym, ap, ◌∙◌, subst, append_assoc, append-nil, true≢false}
 use Rattle.std.proofs.lemmas.Bool.{cond-false, cond-true}
@@ -18,11 +18,11 @@ use Rattle.io_face.specs.Told.{MayGive}
 use Rattle.io_face.specs.declared.shelf.FetchFault.{FetchFault}
 use Rattle.io_face.specs.declared.shelf.FetchFault.TheVariants as fetch
 use Rattle.mof_fetch.specs.Fetched.{IsReadOf}
-use Rattle.mof_fetch.specs.FetchedLaws.{may_fail}
+use Rattle.mof_fetch.specs.FetchedLaws.{may_fail, shelf_fault}
 use Rattle.mof_fetch.specs.declared.fault.FileFault.{FileFault}
 use Rattle.mof_fetch.specs.declared.fault.FileFault.TheVariants as file
 use Rattle.report_core.specs.declared.answer.Answer.{Answer}
-use Rattle.report_core.specs.declared.answer.Answer.TheVariants.{Memory, Printed, Quit, ReadFault, Refused, Silent, TooLong}
+use Rattle.report_core.specs.declared.answer.Answer.TheVariants.{Quit, ReadFault, TooLong}
 use Rattle.script_core.specs.Line.{line_said}
 use Rattle.script_core.specs.declared.command.Command.{Command}
 use Rattle.script_core.specs.declared.command.Command.TheVariants as line
@@ -136,36 +136,26 @@ IsPlainly m said answer new =
 
 fits_plainly : (m : Machine) (said : Result Command LineFault) (answer : Answer) (new : State)
     → ends_or_fetches answer ≡ (is_quit said, false) → Fits m said answer new
-fits_plainly m said Silent new is = (ap (λ p. p.0) is, tt)
-fits_plainly m said (Printed text) new is = (ap (λ p. p.0) is, tt)
-fits_plainly m said (Refused text) new is = (ap (λ p. p.0) is, tt)
-fits_plainly m said Quit new is = (ap (λ p. p.0) is, tt)
 fits_plainly m said ReadFault new is = absurd (true≢false (ap (λ p. p.1) is))
 fits_plainly m said TooLong new is = absurd (true≢false (ap (λ p. p.1) is))
-fits_plainly m said Memory new is = (ap (λ p. p.0) is, tt)
+fits_plainly m said _ new is = (ap (λ p. p.0) is, tt)
 
 edit_plain : (made : Result (Option ℕ) EditFault)
     → ends_or_fetches (edit_answer made) ≡ (false, false)
 edit_plain (Ok count) = refl
-edit_plain (Err (edit.Refused refusal)) = refl
-edit_plain (Err (edit.Unsupported kind)) = refl
-edit_plain (Err (edit.Overflow place)) = refl
 edit_plain (Err edit.Memory) = refl
+edit_plain (Err _) = refl
 
 load_plain : (made : Result Unit EditFault)
     → ends_or_fetches (load_answer made) ≡ (false, false)
 load_plain (Ok loaded) = refl
-load_plain (Err (edit.Refused refusal)) = refl
-load_plain (Err (edit.Unsupported kind)) = refl
-load_plain (Err (edit.Overflow place)) = refl
 load_plain (Err edit.Memory) = refl
+load_plain (Err _) = refl
 
 attach_plain : (made : Result ℕ AttachFault) → ends_or_fetches (attach_answer made) ≡ (false, false)
 attach_plain (Ok count) = refl
-attach_plain (Err attach.AlreadyAttached) = refl
-attach_plain (Err (attach.Unsupported kind)) = refl
-attach_plain (Err (attach.Overflow place)) = refl
 attach_plain (Err attach.Memory) = refl
+attach_plain (Err _) = refl
 
 detach_plain : (attached : Bool) (s new : State) (answer : Answer) → Detaches attached s answer new
     → ends_or_fetches answer ≡ (false, false)
@@ -180,11 +170,20 @@ show_plain false s new answer does = ap ends_or_fetches does.0
 optimize_plain : (model : ModelValue) (made : Result Certificate OptFault)
     → ends_or_fetches (optimize_answer model made) ≡ (false, false)
 optimize_plain model (Ok certificate) = refl
-optimize_plain model (Err opt.NotAttached) = refl
-optimize_plain model (Err (opt.TooLarge cells)) = refl
-optimize_plain model (Err (opt.Overflow place)) = refl
-optimize_plain model (Err (opt.Limit pivots)) = refl
 optimize_plain model (Err opt.Memory) = refl
+optimize_plain model (Err _) = refl
+
+-- the shelf had this fault
+is_stopped : (m : Machine) (name : List ℕ) (read : Result (List Edit) FileFault)
+    (reason : FetchFault) (new : State) → shelf_fault read ≡ Some reason
+    → IsReadOf m.shelf name read → new ≡ m.state
+    → IsStopped m (Ok (line.Load name)) reason new
+is_stopped m name read reason new is read_so kept = record {
+  name = name;
+  said_so = refl;
+  gave = may_fail m.shelf name read reason is read_so;
+  kept = kept;
+}
 
 -- what was read of the file, or why there is none
 load_fits : (m : Machine) (name : List ℕ) (read : Result (List Edit) FileFault) (new : State)
@@ -197,25 +196,11 @@ load_fits m name (Err (file.Unread number place)) new answer read_so does =
 load_fits m name (Err file.Memory) new answer read_so does =
     inl (ap ends_or_fetches does.0)
 load_fits m name (Err file.Failed) new answer read_so does =
-    inr (subst (λ (a : Answer). Fits m (Ok (line.Load name)) a new) (sym does.0) (
-      refl,
-      record {
-        name = name;
-        said_so = refl;
-        gave = may_fail m.shelf name (Err file.Failed) fetch.Failed refl read_so;
-        kept = does.1;
-      },
-    ))
+    inr (subst (λ (a : Answer). Fits m (Ok (line.Load name)) a new) (sym does.0)
+    (refl, is_stopped m name (Err file.Failed) fetch.Failed new refl read_so does.1))
 load_fits m name (Err file.TooLong) new answer read_so does =
-    inr (subst (λ (a : Answer). Fits m (Ok (line.Load name)) a new) (sym does.0) (
-      refl,
-      record {
-        name = name;
-        said_so = refl;
-        gave = may_fail m.shelf name (Err file.TooLong) fetch.TooLong refl read_so;
-        kept = does.1;
-      },
-    ))
+    inr (subst (λ (a : Answer). Fits m (Ok (line.Load name)) a new) (sym does.0)
+    (refl, is_stopped m name (Err file.TooLong) fetch.TooLong new refl read_so does.1))
 
 loads_fit : (m : Machine) (name : List ℕ) (attached bare : Bool) (new : State) (answer : Answer)
     → LoadsWhere attached bare m.shelf m.state name answer new

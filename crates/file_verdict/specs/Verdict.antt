@@ -32,7 +32,8 @@ no = Printed (codes "no" ++ newline)
 -- where all fits and it isn't, and a refusal where something doesn't fit
 abbrev pub Judges : ModelValue → Certificate → Answer → Type 0
 Judges model c answer =
-    (CertificateFits model c × ((Good model c × (answer ≡ yes)) ⊎ (¬ (Good model c) × (answer ≡ no))))
+    (CertificateFits model c
+    × ((Good model c × (answer ≡ yes)) ⊎ (¬ (Good model c) × (answer ≡ no))))
     ⊎ (¬ (CertificateFits model c) × (answer ≡ refused (Overflow Check)))
 
 abbrev pub IsAnswer : Answer → Answer → Type 0

@@ -1,4 +1,5 @@
-//! Tests of what all crates stand on: lists, sources, sinks and shelves, names, sets and named functions.
+//! Tests of what all crates stand on: lists, sources, sinks and shelves, names, sets and named
+//! functions.
 #![tactic(auto)]
 
 #[cfg(test)]

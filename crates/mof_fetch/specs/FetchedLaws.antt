@@ -22,14 +22,7 @@ shelf_fault read = None
 walked_within : (walk : Walked (List Edit)) → shelf_fault (walked walk) ≡ None
 walked_within (Ok edits) = refl
 walked_within (Err (file.NotJson place)) = refl
-walked_within (Err (file.Shape place)) = refl
-walked_within (Err (file.Version place)) = refl
-walked_within (Err (file.UnknownKind place)) = refl
-walked_within (Err (file.BadNumber place)) = refl
-walked_within (Err (file.DuplicateName place)) = refl
-walked_within (Err (file.UnknownName place)) = refl
-walked_within (Err (file.Dimension place)) = refl
-walked_within (Err file.Memory) = refl
+walked_within (Err _) = refl
 
 pub may_fail : (shelf : Told) (name : List ℕ) (read : Result (List Edit) FileFault)
     (reason : FetchFault) → shelf_fault read ≡ Some reason → IsReadOf shelf name read
@@ -41,7 +34,9 @@ may_fail shelf name read reason is (given, may, from) =
         → shelf_fault (read_of given) ≡ Some reason → MayGive shelf name (Err reason)
     by (Ok bytes) may e = absurd (none-some reason (sym (walked_within (edits_in bytes)) ∙ e))
     by (Err fetch.Failed) may e =
-        subst (λ (r : FetchFault). MayGive shelf name (Err r)) (same_Some fetch.Failed reason e) may
+        subst (λ (r : FetchFault). MayGive shelf name (Err r))
+        (same_Some fetch.Failed reason e) may
     by (Err fetch.TooLong) may e =
-        subst (λ (r : FetchFault). MayGive shelf name (Err r)) (same_Some fetch.TooLong reason e) may
+        subst (λ (r : FetchFault). MayGive shelf name (Err r))
+        (same_Some fetch.TooLong reason e) may
     by (Err fetch.Memory) may e = absurd (none-some reason e)
