@@ -140,7 +140,8 @@ module _ (model : ModelValue) (c : IsConsistent model)
         → (list_any (λ r. is_variable n r.func && test r.set) model.rows
         || is_created_by test model.groups n) ≡ false
     no_bound (named.Plain var) known e n on =
-        let parts = and_parts (address_eq (variable_address n) (address_named model var)) (test set) on
+        let parts = and_parts (address_eq (variable_address n) (address_named model var))
+        (test set) on
         in
         let at = something (variable_named model var)
         (not-false (is_some (variable_named model var))
