@@ -3,6 +3,7 @@ use Rattle.std.specs.Prelude.{◌≡◌, ℕ, zero, suc, Bool, true, false, ◌|
 use denote.Enum.Bare.{same_true}
 use Rattle.std.specs.List.{list_any}
 use Rattle.std.proofs.Common.{rules, sym, ap, subst, ◌∙◌, true≢false}
+use Rattle.std.proofs.lemmas.Bool.{not-true, or_parts}
 use Rattle.std.proofs.lemmas.Bool.Decides.{Decides-eqb}
 use Rattle.std.proofs.lemmas.List.Elements.{All-head, All-tail}
 use Rattle.std.proofs.lemmas.Option.{none-some, same_Some}
@@ -34,18 +35,6 @@ any_at f (g ∷ fs) zero e =
 any_at f (g ∷ fs) (suc n) e =
     or_second (family_eq f g) (list_any (family_eq f) fs) (any_at f fs n e)
 
-first_false : (a b : Bool) → (a || b) ≡ false → a ≡ false
-first_false true b e = absurd (true≢false e)
-first_false false b e = refl
-
-second_false : (a b : Bool) → (a || b) ≡ false → b ≡ false
-second_false true b e = absurd (true≢false e)
-second_false false b e = e
-
-not_true : (b : Bool) → not b ≡ true → b ≡ false
-not_true true h = absurd (true≢false (sym h))
-not_true false h = refl
-
 -- ---- where no family occurs twice
 
 -- none of the others is of the family
@@ -53,10 +42,9 @@ untouched : (f : Family) (change : State → State) (ss : List State)
     → list_any (family_eq f) (families_of ss) ≡ false → map (at_family f change) ss ≡ ss
 untouched f change [] e = refl
 untouched f change (s ∷ ss) e =
-    let other = first_false (family_eq f s.family) (list_any (family_eq f) (families_of ss)) e in
-    let rest = untouched f change ss
-    (second_false (family_eq f s.family) (list_any (family_eq f) (families_of ss)) e) in
-    ap (λ b. cond b (change s) s ∷ map (at_family f change) ss) other ∙ ap (λ ts. s ∷ ts) rest
+    let others = or_parts (family_eq f s.family) (list_any (family_eq f) (families_of ss)) e in
+    let rest = untouched f change ss others.1 in
+    ap (λ b. cond b (change s) s ∷ map (at_family f change) ss) others.0 ∙ ap (λ ts. s ∷ ts) rest
 
 -- one that isn't among families is none of them
 apart : (t : Family) (fs : List Family) (n : ℕ) (f : Family) → list_any (family_eq t) fs ≡ false
@@ -82,14 +70,14 @@ pub at_place : (change : State → State) (ss : List State) (n : ℕ) (s : State
 at_place change [] n s once e = absurd (none-some s e)
 at_place change (t ∷ ss) zero s once e =
     let same = same_Some t s e in
-    let others = not_true (list_any (family_eq t.family) (families_of ss))
+    let others = not-true (list_any (family_eq t.family) (families_of ss))
     (and_first (not (list_any (family_eq t.family) (families_of ss)))
     (occur_once (families_of ss)) once) in
     subst (λ (x : State). change x ∷ ss ≡ map (at_family x.family change) (t ∷ ss)) same
     (sym (ap (λ b. cond b (change t) t ∷ map (at_family t.family change) ss) (itself t.family)
     ∙ ap (λ ts. change t ∷ ts) (untouched t.family change ss others)))
 at_place change (t ∷ ss) (suc n) s once e =
-    let others = not_true (list_any (family_eq t.family) (families_of ss))
+    let others = not-true (list_any (family_eq t.family) (families_of ss))
     (and_first (not (list_any (family_eq t.family) (families_of ss)))
     (occur_once (families_of ss)) once) in
     let other = apart t.family (families_of ss) n s.family others (family_at ss n s e) in

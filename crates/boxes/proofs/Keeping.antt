@@ -11,7 +11,6 @@ use Rattle.aff_core.specs.Address.{Address, address_cmp, address_eq, address_eq-
 use Rattle.aff_core.specs.Rising.{HasDistinctKeys}
 use Rattle.item_core.specs.declared.family.Family.{Family}
 use Rattle.item_core.specs.Edge.{family_eq, family_of}
-use Rattle.bridge_face.specs.Law.{IsItemFor}
 use Rattle.bridge_face.specs.State.{Kept, State, given}
 use Rattle.bridge_face.specs.declared.kept_item.KeptItem.{KeptItem}
 use Rattle.fresh_bridging.specs.EachLaws.{all_from_map}
@@ -188,9 +187,6 @@ module _ (old now : Boxed) (all left rest : List KeptItem) (n : KeptItem)
       ∙ of_next (λ (m : KeptItem). list_any (family_eq (family_of m.edge)) (families_of old.states)
       ≡ true) keepable.own
 
-  pub next_suits : IsItemFor n.edge n.item
-  next_suits = of_next (λ (m : KeptItem). IsItemFor m.edge m.item) keepable.suits
-
   pub next_free : IsFree n.item.at now.states
   next_free =
       all_from_map (λ p. finite.get p.1 n.item.at ≡ None) its
@@ -232,10 +228,3 @@ module _ (old now : Boxed) (all left rest : List KeptItem) (n : KeptItem)
     table = table ∙ h.table;
     choices = choices ∙ h.choices;
   }
-
-pub kept_all : (old now : Boxed) (all left : List KeptItem) → KeptSoFar old now all left → left ≡ []
-    → kept_by now.states ≡ map (keeping all) old.states
-kept_all old now all left h none =
-    h.kept
-    ∙ ap (λ ns. map (keeping ns) old.states)
-    (sym (h.parts ∙ ap (λ l. h.done ++ l) none ∙ append-nil h.done))

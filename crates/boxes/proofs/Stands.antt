@@ -9,7 +9,7 @@ use Rattle.item_core.specs.declared.family.Family.{Family}
 use Rattle.item_core.specs.Edge.{family_eq}
 use Rattle.bridge_face.specs.Law.{IsLawful}
 use Rattle.bridge_face.specs.State.{State, all_gone}
-use Rattle.map_laws.specs.LoopLaws.{IsPast, any_found, any_more, past_all, past_more}
+use Rattle.map_laws.specs.LoopLaws.{IsPast, any_found, past_more}
 use Rattle.boxes.specs.Boxed.{IsChangedFor, families_of}
 use Rattle.boxes.proofs.Families.{any_map, equal_family}
 
@@ -49,13 +49,6 @@ module _ {B : Type 0} (state : B → State) where
 
   abbrev pub is_of : Family → B → Bool
   is_of f b = family_eq f (state b).family
-
-  pub none_so_far : (bs : List B) (n : ℕ) (b d : B) (f : Family) → n < length bs
-      → b ≡ slice_index_or bs n d → family_eq f (state b).family ≡ false
-      → list_any (is_of f) (drop n bs) ≡ list_any (is_of f) bs
-      → list_any (is_of f) (drop (n + 1) bs) ≡ list_any (is_of f) bs
-  none_so_far bs n b d f lt e other so_far =
-      any_more (is_of f) bs n b so_far (slice_get-get_or bs n d lt ∙ ap Some (sym e)) other
 
   -- a bridge of the family is one of its family
   pub one_there : (bs : List B) (n : ℕ) (b d : B) (f : Family) → n < length bs
@@ -110,10 +103,3 @@ module _ {B : Type 0} (state : B → State) where
       subst (λ ss. IsPast all_gone (map state old) ss (n + 1)) (sym (map-set state now n after))
       (past_more all_gone (map state old) (map state now) n (state b) (state after) here so_far
       (gone ∙ ap all_gone (sym there)))
-
-  pub all_cleared : (old now : List B) (n : ℕ) → length old ≤ n
-      → IsPast all_gone (map state old) (map state now) n
-      → map state now ≡ map all_gone (map state old)
-  all_cleared old now n end so_far =
-      past_all all_gone (map state old) (map state now) n
-      (omega (arith, end, length-map old state)) so_far

@@ -101,7 +101,8 @@ pub record AreKeepable (families : List Family) (nodes : List KeptItem) : Type 0
   pub apart : HasDistinctKeys address_cmp (map (λ n. (n.item.at, n)) nodes)
 
 -- the state of a bridge of the family was changed
-pub record IsChangedFor (family : Family) (change : State → State) (old new : List State) : Type 0 where
+pub record IsChangedFor (family : Family) (change : State → State)
+    (old new : List State) : Type 0 where
   pub place : ℕ
   pub was : State
   pub at : slice_get old place ≡ Some was

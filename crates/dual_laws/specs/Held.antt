@@ -3,8 +3,8 @@
 --     pull hs x        the sum of the duals times the slopes at x
 --     adjoint hs v     the sum of the duals times the coefficients of v
 --     gap hs           the sum of the least products, less the duals times the constants
---     AllHold one hs x the functions are in the sets: at a point where `one` is 1, along a ray where
---                      it is 0
+--     AllHold one hs x the functions are in the sets: at a point where `one` is 1, along a ray
+--                      where it is 0
 use Rattle.std.specs.Prelude.{◌≡◌, List, length, All}
 use Rattle.ratio_core.specs.Rational.{Rational, ◌-ℚ◌, ◌≤ℚ◌}
 use Rattle.rational_laws.specs.Dot.{dot}

@@ -1,5 +1,5 @@
 -- The user's items, planned in their order.
-use Rattle.std.specs.Prelude.{◌≡◌, ℕ, Bool, true, false, ◌&&◌, not, cond, find, IsTrue, List, [], ◌∷◌, All, Option, Some, None, Result, Ok, Err, refl}
+use Rattle.std.specs.Prelude.{◌≡◌, ℕ, Bool, true, ◌&&◌, not, cond, find, IsTrue, List, [], ◌∷◌, All, Option, Some, None, Result, Ok, Err, refl}
 use Rattle.std.proofs.Common.{ap, ap₂, sym, subst, ◌∙◌}
 use Rattle.bridge_graph.specs.declared.Choice.{Choice}
 use Rattle.aff_core.specs.Arithmetic.{ExactWhere}
@@ -180,15 +180,3 @@ module _ (choice : ℕ → Choice) (inner : List Entry) (item : Item) (plan afte
   one_answered r h =
       subst (λ held. ExactWhere r (IsTrue held.fits) (λ _. Adds plan after [] [] held))
       (sym (joined_nothing (put_held (rules_by choice) inner item held_here))) h
-
--- nothing is added to the entries of a row or the objective
-pub further_answered : {T : Type 0} (r : Result T AffFault) (held : Held Item Entry)
-    (plan after : Plan) (none es : List Entry)
-    → ExactWhere r (IsTrue held.fits) (λ _. Adds plan after none es held)
-    → ExactWhere r (IsTrue held.fits) (λ _. Adds plan after [] [] (record held { entries = [] }))
-further_answered (Ok x) held plan after none es h = (
-  h.0,
-  record { leaves = h.1.leaves; nodes = h.1.nodes; entries = refl },
-)
-further_answered (Err fault.Overflow) held plan after none es h = h
-further_answered (Err fault.Memory) held plan after none es h = tt

@@ -1,7 +1,7 @@
 -- The kinds that the user's items have once the groups' expressions are put in: by which variables
 -- are kept, which the kinds of their groups tell.
 use Rattle.std.specs.Prelude.{◌≡◌, ℕ, Bool, true, false, ◌&&◌, ◌||◌, cond, find, List, [], ◌∷◌, ◌++◌, All, map, Option, Some, unwrap_or, refl}
-use Rattle.std.proofs.Common.{ap, ap₂, sym, subst, ◌∙◌, true≢false}
+use Rattle.std.proofs.Common.{ap, ap₂, sym, ◌∙◌, true≢false}
 use Rattle.std.specs.FinMap as finite
 use Rattle.std.specs.FinMap.{FinMap}
 use Rattle.std.specs.List.{list_all, list_any}
@@ -9,7 +9,7 @@ use Rattle.std.specs.Option.{option_map_or}
 use Rattle.std.proofs.lemmas.List.Elements.{All-head, All-tail}
 use Rattle.bridge_graph.specs.Hypergraph.{IsCostly}
 use Rattle.bridge_graph.specs.declared.Choice.{Choice}
-use Rattle.bridge_graph.specs.declared.Choice.TheVariants.{By, Missing, Native}
+use Rattle.bridge_graph.specs.declared.Choice.TheVariants.{Missing}
 use Rattle.expansion.specs.Bridged.{EachBridged, each, none}
 use Rattle.aff_core.specs.Address.{Address, address_cmp, address_eq}
 use Rattle.aff_core.specs.Arithmetic.{composed}
@@ -30,7 +30,6 @@ use Rattle.user_model.specs.declared.function.UserFunc.{UserFunc}
 use Rattle.user_model.specs.declared.function.UserFunc.TheVariants as user
 use Rattle.fresh_bridging.specs.CanLaws.{AreLawful}
 use Rattle.fresh_bridging.specs.Entries.{Entry, expression_in, function_in, is_kept, objective_by, plain_or_affine, put_in_body, vector_by}
-use Rattle.fresh_bridging.specs.ModelImage.{row_body}
 use Rattle.fresh_bridging.specs.OmitLaws.{IsGroup}
 use Rattle.fresh_bridging.specs.TheRules.{AreChoices, Setting, graph_of, rules_by}
 use Rattle.bridge_plan.specs.KeptGroups.{AllKeptAs, group_components, group_kept, keeps}
@@ -61,14 +60,6 @@ is_plain_by kept (user.Plain var) = kept var
 is_plain_by kept (user.Affine func) = false
 is_plain_by kept (user.PlainVec vars) = list_all kept vars
 is_plain_by kept (user.AffineVec funcs) = false
-
-pub row_kind_is : (kept : Address → Bool) (func : UserFunc) (set : Set)
-    → kind_by kept (row_body func set)
-    ≡ cond (is_plain_by kept func) (plain_kind_of set) (affine_kind_of set)
-row_kind_is kept (user.Plain var) set = refl
-row_kind_is kept (user.Affine func) set = refl
-row_kind_is kept (user.PlainVec vars) set = refl
-row_kind_is kept (user.AffineVec funcs) set = refl
 
 plain_kind : (e : Expression) (set : Set)
     → kind_of_body (plain_or_affine e set)

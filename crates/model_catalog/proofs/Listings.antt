@@ -4,7 +4,7 @@ use Rattle.std.specs.Prelude.{IsSome, is_some, unwrap_or, slice_index_or, count_
 use Rattle.std.specs.Result.{is_err}
 use Rattle.std.specs.Option.{option_map_or, option_to_list}
 use Rattle.std.proofs.lemmas.Bool.{cases_eq}
-use Rattle.std.proofs.lemmas.List.{drop_more, drop_all}
+use Rattle.std.proofs.lemmas.List.{drop_more}
 use Rattle.std.proofs.lemmas.List.Sums.{sum_by-drop_more}
 use Rattle.numbered.specs.Numbered.{Rise, IsAt, find, set_at}
 use Rattle.numbered.specs.Places.{IsPlaceOf}

@@ -1,16 +1,14 @@
 -- Changes by name that keep a model consistent and within its limits.
 use Rattle.std.specs.Prelude.{◌≡◌, ℕ, ◌≤◌, List, Some, refl}
 use Rattle.std.proofs.Common.{arith, sym, subst, inl, ◌∙◌}
-use Rattle.aff_core.specs.Function.{Function}
 use Rattle.user_model.specs.declared.function.UserFunc.{UserFunc}
-use Rattle.user_model.specs.declared.function.UserFunc.TheVariants.{Plain, Affine, PlainVec, AffineVec}
 use Rattle.user_model.specs.declared.group.Group.{Group}
 use Rattle.user_model.specs.declared.objective.Objective.{Objective}
 use Rattle.user_model.specs.declared.row.Row.{Row}
 use Rattle.user_model.specs.Functions.{all_terms}
 use Rattle.user_model.specs.Limits.{ALL_TERMS}
 use Rattle.user_model.specs.Model.{ModelValue, group_of, is_variable, row_named, total_terms, variable_named}
-use Rattle.user_model.specs.Edited.{change_group, change_row, delete_row, on_affine, on_output, with_variable}
+use Rattle.user_model.specs.Edited.{change_group, change_row, delete_row, with_variable}
 use Rattle.user_model.specs.Consistent.{IsConsistent, IsWithinLimits}
 use Rattle.model_laws.specs.Changed.{change_group-found, change_row-found, delete_row-found, with_variable-found}
 use Rattle.model_laws.specs.Located.{group_by_number, named_stands, row_by_number}

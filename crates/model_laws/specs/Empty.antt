@@ -1,6 +1,5 @@
 -- The empty model is consistent and within its limits.
 use Rattle.std.specs.Prelude.{◌≡◌, ◌≢◌, ◌<◌, true, IsSome}
-use Rattle.std.proofs.Common.{arith}
 use Rattle.std.proofs.lemmas.List.Elements.{All-nil}
 use Rattle.numbered.specs.Laws.{Rise-nil}
 use Rattle.user_model.specs.declared.group.GroupVar.{GroupVar}
@@ -8,7 +7,7 @@ use Rattle.user_model.specs.declared.group.Group.{Group}
 use Rattle.user_model.specs.declared.row.Row.{Row}
 use Rattle.user_model.specs.Model.{empty_model, group_of, is_variable}
 use Rattle.user_model.specs.Edited.{group_number, row_number}
-use Rattle.user_model.specs.Consistent.{IsConsistent, IsWithinLimits, variable_number}
+use Rattle.user_model.specs.Consistent.{IsConsistent, variable_number}
 use Rattle.model_laws.specs.Pairs.{AllPairs-nil}
 
 pub empty_consistent : IsConsistent empty_model

@@ -1,10 +1,10 @@
 -- Changes that set an item in its place, take one out, or edit each item that is touched; and what
 -- differs after changes.
-use Rattle.std.specs.Prelude.{◌≡◌, ◌≢◌, ℕ, ◌+◌, ◌<◌, ◌==◌, Bool, true, false, cond, List, [], ◌∷◌, ◌++◌, Option, Some, None, All, filter, get_or, length, map, slice_index_or, take, refl}
+use Rattle.std.specs.Prelude.{◌≡◌, ◌≢◌, ℕ, ◌+◌, ◌<◌, ◌==◌, Bool, true, false, cond, List, [], ◌∷◌, ◌++◌, Option, Some, None, All, filter, map, slice_index_or, refl}
 use Rattle.std.specs.List.{filter_map, cons_option}
 use Rattle.std.specs.Option.{option_and_then, option_map, option_map_or}
 use Rattle.std.proofs.Common.{sym, ap, ◌∙◌}
-use Rattle.std.proofs.lemmas.List.Elements.{All-nil, All-map, filter_more}
+use Rattle.std.proofs.lemmas.List.Elements.{All-nil, All-map}
 use Rattle.numbered.specs.declared.change.Change.{Change}
 use Rattle.numbered.specs.Numbered.{Rise, IsAt, find}
 use Rattle.numbered.specs.Changes.{AreChanges, changed_number, old, olds, set_all}

@@ -53,7 +53,8 @@ module _ (model : ModelValue) (c : IsConsistent model) where
   set_kept name at set =
       of_number model c name at.0 at.1 IsConsistent
       (λ n. change_group model n (λ g. record g { set = set }))
-      (consistent_group model c name at.0 at.1 (λ g. record g { set = set }) (λ g. refl) (λ g. refl))
+      (consistent_group model c name at.0 at.1 (λ g. record g { set = set }) (λ g. refl)
+      (λ g. refl))
 
   kept_by : (e : Edit) → meets_unknown_name model e ≡ false → meets_name_taken model e ≡ false
       → IsConsistent (edited model e)

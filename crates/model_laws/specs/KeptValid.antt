@@ -140,7 +140,8 @@ module _ (model : ModelValue) (c : IsConsistent model)
         → (list_any (λ r. is_variable n r.func && test r.set) model.rows
         || is_created_by test model.groups n) ≡ false
     no_bound (named.Plain var) known e n on =
-        let parts = and_parts (address_eq (variable_address n) (address_named model var)) (test set) on
+        let parts = and_parts (address_eq (variable_address n) (address_named model var))
+        (test set) on
         in
         let at = something (variable_named model var)
         (not-false (is_some (variable_named model var))
@@ -360,6 +361,12 @@ module _ (model : ModelValue) (c : IsConsistent model)
 
   -- ---- the edits
 
+  -- what a changed objective may mention stands
+  stood : {q : Address} → Stands model.groups q ⊎ (objective_mentions q model.objective ≡ true)
+      → Stands model.groups q
+  stood (inl s) = s
+  stood {q = q} (inr was) = h.valid_objective.stand q was
+
   parts_by : (e : Edit) → IsPassed model e → Parts (edited model e)
   unfolding edited
   parts_by (edit.AddGroup names set) p = parts_with_group model c h (new_group model names set)
@@ -410,11 +417,6 @@ module _ (model : ModelValue) (c : IsConsistent model)
         terms = objective_limited (on_objective (λ f. with_coefficient f (address_named model var)
             value) model.objective) _ p.counted;
       })
-    where
-      stood : {q : Address} → Stands model.groups q ⊎ (objective_mentions q model.objective ≡ true)
-          → Stands model.groups q
-      stood (inl s) = s
-      stood {q = q} (inr was) = h.valid_objective.stand q was
   parts_by (edit.Constant row value) p =
       let at = needed_row_there model (edit.Constant row value) row refl p.known in
       of_function row at.0 at.1 (on_affine (λ f. with_constant f value))
@@ -443,11 +445,6 @@ module _ (model : ModelValue) (c : IsConsistent model)
                   (constant_adds_none value) model.objective,
             );
       })
-    where
-      stood : {q : Address} → Stands model.groups q ⊎ (objective_mentions q model.objective ≡ true)
-          → Stands model.groups q
-      stood (inl s) = s
-      stood {q = q} (inr was) = h.valid_objective.stand q was
   parts_by (edit.RowSet row set) p =
       let at = needed_row_there model (edit.RowSet row set) row refl p.known in
       let shape : is_scalar set ≡ is_scalar_function at.0.func = same_shape

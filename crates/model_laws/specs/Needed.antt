@@ -81,7 +81,8 @@ module _ (model : ModelValue) where
   known_component (g ∷ fs) zero f h e =
       let same : g ≡ f = same_Some g f e in
       record {
-        known = subst (λ f. list_any unknown (names_of f) ≡ false) same (known_parts g fs h.known).0;
+        known = subst (λ f. list_any unknown (names_of f) ≡ false) same
+            (known_parts g fs h.known).0;
       }
   known_component (g ∷ fs) (suc i) f h e =
       known_component fs i f (record { known = (known_parts g fs h.known).1 }) e

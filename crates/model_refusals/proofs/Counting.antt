@@ -1,22 +1,20 @@
 -- Going over counts of terms: those that are left are as all are.
-use Rattle.std.specs.Prelude.{◌≡◌, ◌≢◌, ℕ, zero, suc, ◌+◌, ◌≤◌, ◌<◌, nat_lt, Bool, true, false, List, [], ◌∷◌, drop, length, map, slice_get, sum, Some, None, Result, Ok, Err, MatchResult, IsErrAnd, not}
-use Rattle.std.specs.List.{flat_map, list_any}
+use Rattle.std.specs.Prelude.{◌≡◌, ◌≢◌, ℕ, ◌+◌, ◌≤◌, ◌<◌, nat_lt, true, false, List, [], ◌∷◌, drop, length, map, slice_get, sum, Some, None, Result, Ok, Err, MatchResult, IsErrAnd}
 use Rattle.std.specs.Option.{option_map}
 use Rattle.std.proofs.Common.{arith, ltb-false, ltb-true, sym, ap, subst, inl, inr, ◌∙◌}
 use Rattle.std.proofs.Math.Seq.{drop-length}
-use Rattle.std.proofs.lemmas.Bool.{cases_Bool, or_parts}
-use Rattle.std.proofs.lemmas.Option.{same_Some, slice_get-map}
-use Rattle.std.proofs.lemmas.List.Folds.{list_any-append}
+use Rattle.std.proofs.lemmas.Bool.{cases_Bool}
+use Rattle.std.proofs.lemmas.Option.{slice_get-map}
 use Rattle.std.proofs.lemmas.List.Sums.{sum_by-cons}
 use Rattle.aff_core.specs.Function.{Function}
 use Rattle.named_aff.specs.declared.aff.NamedAff.{NamedAff}
 use Rattle.user_model.specs.declared.refusal.Refusal.{Refusal}
 use Rattle.user_model.specs.declared.refusal.Refusal.TheVariants.{Full}
 use Rattle.user_model.specs.Edited.{affine, changed_at}
-use Rattle.user_model.specs.Functions.{names_of, term_count}
+use Rattle.user_model.specs.Functions.{term_count}
 use Rattle.user_model.specs.Limits.{TERMS}
 use Rattle.user_model.specs.Model.{ModelValue}
-use Rattle.user_model.specs.Refusals.{IsKnown, has_variable_named, within}
+use Rattle.user_model.specs.Refusals.{IsKnown, within}
 use Rattle.user_model.specs.declared.edit.NamedFunc.TheVariants as named
 use Rattle.map_laws.specs.PlaceLaws.{drop_at}
 use Rattle.model_laws.specs.Needed.{known_component}

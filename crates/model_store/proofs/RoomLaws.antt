@@ -18,7 +18,7 @@ use Rattle.model_store.specs.declared.parking.NameCounts.{NameCounts}
 use Rattle.model_store.specs.declared.parking.Reserved.{Reserved}
 use Rattle.model_plans.specs.declared.plan.Plan.{Plan}
 use Rattle.model_catalog.specs.Catalog.{Catalog, Room}
-use Rattle.model_catalog.specs.Exchange.{HasRoomFor, HasSpare, IsExchange, IsNoLess, KeepsRoom, contents, exchanged, standing}
+use Rattle.model_catalog.specs.Exchange.{HasRoomFor, IsExchange, IsNoLess, KeepsRoom, contents, exchanged, standing}
 use Rattle.model_catalog.specs.Names.{put_count}
 use Rattle.model_catalog.specs.Named.{AreNameChanges, HasStandingNames}
 use Rattle.model_laws.specs.Pairs.{All-left, All-right}
@@ -43,22 +43,6 @@ last_count count parked entry =
     let all = sum_by-append count parked (entry ∷ []) in
     let one = sum_by-cons count entry [] in
     omega (arith, all, one)
-
--- the room that is reserved is room for the exchange
-pub reserved_room : (plan : Plan) (names : NameCounts) (reserved : Reserved) (catalog : Catalog) → IsReserved plan names reserved catalog → HasRoomFor plan.exchange plan.names catalog
-reserved_room plan names reserved catalog h =
-    let groups = added-le group_number plan.exchange.groups.items catalog.model.groups in
-    let rows = added-le row_number plan.exchange.rows.items catalog.model.rows in
-    let vars = put-le plan.names.variables.items in
-    let a = h.groups in let b = h.group_room in let c = h.rows in let d = h.row_room in let e = h.variable_room in
-    record { groups = omega (arith, groups, a, b); rows = omega (arith, rows, c, d); variables = omega (arith, vars, e) }
-
-pub reserved_spare : (plan : Plan) (names : NameCounts) (reserved : Reserved) (catalog : Catalog) → IsReserved plan names reserved catalog → HasSpare plan.names catalog.room
-reserved_spare plan names reserved catalog h =
-    let vars = put-le plan.names.variables.items in
-    let rows = put-le plan.names.rows.items in
-    let a = h.variable_name_room in let b = h.row_name_room in
-    record { variable_names = omega (arith, vars, a); row_names = omega (arith, rows, b) }
 
 -- ---- one entry more
 
@@ -104,13 +88,6 @@ entry_of plan names reserved old new entry undo h c are after is back lists grou
 -- ---- one entry less
 
 module _ (others : List Parked) (entry : Parked) (names left : NameCounts) where
-  pub counted_less : IsCounted (others ++ entry ∷ []) names → left.variables + variable_count entry ≡ names.variables → left.rows + row_count entry ≡ names.rows → IsCounted others left
-  counted_less h vs rs =
-      let all_vs = last_count variable_count others entry in
-      let all_rs = last_count row_count others entry in
-      let a = h.variables in let b = h.rows in
-      record { variables = omega (arith, all_vs, a, vs); rows = omega (arith, all_rs, b, rs) }
-
   pub counts_fit : IsCounted (others ++ entry ∷ []) names → (variable_count entry ≤ names.variables) × (row_count entry ≤ names.rows)
   counts_fit h =
       let all_vs = last_count variable_count others entry in
@@ -121,15 +98,6 @@ module _ (others : List Parked) (entry : Parked) (names left : NameCounts) where
   module _ (room : Room) (h : IsParked (others ++ entry ∷ []) names room) (c : IsCounted others left) where
     entry_lengths : HasLengths room entry
     entry_lengths = All-head (HasLengths room) entry [] (All-right (HasLengths room) others (entry ∷ []) h.lengths)
-
-    pub entry_spare : HasSpare entry.names room
-    entry_spare =
-        let fit = counts_fit h.counted in
-        let vs = fit.0 in let rs = fit.1 in
-        let put_vs = put-le entry.names.variables.items in
-        let put_rs = put-le entry.names.rows.items in
-        let a = h.variables in let b = h.rows in
-        record { variable_names = omega (arith, vs, put_vs, a); row_names = omega (arith, rs, put_rs, b) }
 
     pub entry_room : (catalog : Catalog) (with : Exchange) (undo : Undo) → catalog.room ≡ room → contents with ≡ undo → IsEntryOf entry catalog.model undo → HasRoomFor with entry.names catalog
     entry_room catalog with undo same is e =
@@ -175,6 +143,3 @@ entry_taken others left parked entry model undo h is = subst (λ p. IsEntryOf p 
 
 pub exchange_of : (with : Exchange) (undo : Undo) (entry : Parked) (model : ModelValue) → contents with ≡ undo → IsEntryOf entry model undo → IsExchange with
 exchange_of with undo entry model is e = record { groups = subst (λ u. AreChanges group_number u.groups) (sym is) e.group_changes; rows = subst (λ u. AreChanges row_number u.rows) (sym is) e.row_changes }
-
-pub names_taken : (with : Exchange) (undo : Undo) (entry : Parked) (model : ModelValue) → contents with ≡ undo → IsEntryOf entry model undo → AreNameChanges entry.names model (exchanged with model)
-names_taken with undo entry model is e = subst (λ u. AreNameChanges entry.names model (before model u)) (sym is) e.names

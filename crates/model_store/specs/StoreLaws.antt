@@ -1,10 +1,10 @@
 -- The entries that are left where the last is taken out.
 use Rattle.std.specs.Prelude.{◌≡◌, List, [], ◌∷◌, ◌++◌, length, refl}
-use Rattle.std.proofs.Common.{arith, sym, ap, subst, length-append, ◌∙◌}
+use Rattle.std.proofs.Common.{arith, sym, ap, length-append, ◌∙◌}
 use Rattle.user_model.specs.declared.undo.Undo.{Undo}
 use Rattle.user_model.specs.Model.{ModelValue}
 use Rattle.model_store.specs.declared.parked.Parked.{Parked}
-use Rattle.model_store.specs.Store.{HasParked, IsButLast, IsLastOf}
+use Rattle.model_store.specs.Store.{HasParked, IsButLast}
 
 same_front : (xs ys : List Parked) (x y : Parked) → xs ++ x ∷ [] ≡ ys ++ y ∷ [] → xs ≡ ys
 same_front [] [] x y e = refl
@@ -21,10 +21,3 @@ pub left_front : (shorter longer left : List Parked) (model : ModelValue) (undo 
     → HasParked shorter longer model undo → IsButLast left longer → left ≡ shorter
 left_front shorter longer left model undo h but =
     same_front left shorter but.0 h.entry (sym but.1 ∙ h.last)
-
--- an entry is last again where the one parked after it is taken out
-pub last_again : (others shorter longer left : List Parked) (old new : ModelValue)
-    (undo later : Undo) → HasParked others shorter old undo → HasParked shorter longer new later
-    → IsButLast left longer → HasParked others left old undo
-last_again others shorter longer left old new undo later h next but = subst
-    (λ ps. HasParked others ps old undo) (sym (left_front shorter longer left new later next but)) h

@@ -4,8 +4,8 @@
 //     many groups FIRST COUNT SIZE      groups of variables, whose names go on from the first
 //                                       number
 //     many rows FIRST COUNT COMPONENTS  rows of components that are each x0
-//     many coefs FIRST COUNT            the coefficients of so many variables in the first component
-//                                       of r0
+//     many coefs FIRST COUNT            the coefficients of so many variables in the first
+//                                       component of r0
 //     many twins COUNT                  a group of so many variables, and of one more that is the
 //                                       first again
 use crate::words::{Words, times, whole, word};
