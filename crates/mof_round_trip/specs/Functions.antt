@@ -2,9 +2,8 @@
 use Rattle.std.specs.Prelude.{◌≡◌, ℕ, ◌&&◌, List, [], ◌∷◌, All, Contains, length, map, refl}
 use Rattle.std.specs.FinMap.{is_sorted}
 use Rattle.std.specs.FinMap.Entries.{below_all}
-use Rattle.std.specs.Ordering.{is_lt, nat_cmp, ordering_then}
-use Rattle.std.specs.declared.cmp.Ordering.{Ordering}
-use Rattle.std.specs.declared.cmp.Ordering.TheVariants.{Less, Equal, Greater}
+use Rattle.std.specs.Ordering.{is_lt, ordering_then}
+use Rattle.std.specs.declared.cmp.Ordering.TheVariants.{Equal}
 use Rattle.std.proofs.Common.{ap, ap₂, sym, ◌∙◌}
 use Rattle.std.proofs.lemmas.List.{length-map}
 use Rattle.std.proofs.lemmas.List.Elements.{All-head, All-tail}
@@ -32,27 +31,16 @@ use Rattle.mof_round_trip.specs.Renumbered.{HasVariables, address_again, address
 
 -- ---- addresses of variables
 
-then_equal : (o : Ordering) → ordering_then o Equal ≡ o
-then_equal Less = refl
-then_equal Equal = refl
-then_equal Greater = refl
-
--- they compare as their numbers do
-variables_order : (m n : ℕ)
-    → address_cmp (variable_address m) (variable_address n) ≡ nat_cmp m n
-unfolding address_cmp
-variables_order m n = then_equal (nat_cmp m n)
-
--- and positions as the numbers
+-- positions of variables compare as their numbers do
 pub placed_order : (model : ModelValue) → IsConsistent model → (v w : GroupVar)
     → Contains (variables model) v → Contains (variables model) w
     → address_cmp (variable_address (position (numbers model) v.number))
     (variable_address (position (numbers model) w.number))
     ≡ address_cmp (variable_address v.number) (variable_address w.number)
+unfolding address_cmp
 placed_order model c v w here there =
-    variables_order (position (numbers model) v.number) (position (numbers model) w.number)
-    ∙ position_order variable_number (variables model) c.variables_rise v w here there
-    ∙ sym (variables_order v.number w.number)
+    ap (λ o. ordering_then o Equal)
+    (position_order variable_number (variables model) c.variables_rise v w here there)
 
 -- ---- terms that rise
 
