@@ -106,7 +106,8 @@ objective_of known d = do
 -- a vector function has as many components as its vector set's dimension
 abbrev pub is_unequal : NamedFunc → Set → Bool
 is_unequal func set =
-    not (is_scalar_named func) && not (is_scalar set) && not (named_components func == dimension_of set)
+    not (is_scalar_named func) && not (is_scalar set)
+    && not (named_components func == dimension_of set)
 
 unfoldable pub set_for : NamedFunc → Data → Walked Set
 set_for func d = do

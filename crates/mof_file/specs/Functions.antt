@@ -88,7 +88,8 @@ with_term_in term f = option_map (λ terms. record f { terms = terms }) (with_te
 -- the components with one term more in that at this place
 abbrev pub with_term_at : List Component → ℕ → NamedTerm → Option (List Component)
 with_term_at fs n term =
-    option_and_then (λ f. option_map (λ sum. slice_set fs n sum) (with_term_in term f)) (slice_get fs n)
+    option_and_then (λ f. option_map (λ sum. slice_set fs n sum) (with_term_in term f))
+    (slice_get fs n)
 
 -- the place of the output, which are counted from 1
 unfoldable pub output_of : List Component → Data → Walked ℕ

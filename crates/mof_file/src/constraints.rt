@@ -9,7 +9,9 @@ ghost use Rattle.mof_values.specs.Walked.{Meets, each};
 
 use crate::functions::function;
 use indexmap::IndexSet;
-use mof_values::{MofFault, array, field, given_name, here, read_set, require_object, text};
+use mof_values::{
+    MofFault, array, at_key, field, given_name, here, read_set, require_object, text,
+};
 use name_index::Name;
 use serde_json::Value;
 use set_core::Set;
@@ -25,6 +27,7 @@ pub struct FileConstraint {
 }
 
 /// The constraints of a file, which may be missing.
+#[tactic(auto, using(mof_values::specs::WalkLaws::at_met))]
 pub(crate) fn optional_constraints(
     alloc: Global,
     known: &IndexSet<Name>,
@@ -34,10 +37,7 @@ pub(crate) fn optional_constraints(
         (optional [] (constraints_of known.now.keys) "constraints" (view value.now)) }
 {
     match value.get("constraints") {
-        Some(found) => match constraint_list(alloc, known, found) {
-            Ok(constraints) => Ok(constraints),
-            Err(fault) => Err(fault.under_key(alloc, "constraints")),
-        },
+        Some(found) => at_key(alloc, "constraints", constraint_list(alloc, known, found)),
         None => Ok(Vec::new(alloc)),
     }
 }
@@ -116,7 +116,7 @@ fn function_in_set(
     named_constraint(alloc, func, set, value)
 }
 
-#[tactic(auto, unfolding(mof_values::specs::Values::walk_at))]
+#[tactic(auto, using(mof_values::specs::WalkLaws::walk_at_steps))]
 fn function_field(
     alloc: Global,
     known: &IndexSet<Name>,
@@ -127,21 +127,15 @@ fn function_field(
         (walk_at (function_of_any known.now.keys) name.now (view value.now)) }
 {
     let found = field(alloc, name, value)?;
-    match function(alloc, known, found) {
-        Ok(func) => Ok(func),
-        Err(fault) => Err(fault.under_key(alloc, name)),
-    }
+    at_key(alloc, name, function(alloc, known, found))
 }
 
-#[tactic(auto, unfolding(mof_values::specs::Values::walk_at))]
+#[tactic(auto, using(mof_values::specs::WalkLaws::walk_at_steps))]
 fn set_field(alloc: Global, func: &NamedFunc, name: &str, value: &Value) -> Result<Set, MofFault>
     ensures { Meets (λ set. set) result (walk_at (set_for func.now) name.now (view value.now)) }
 {
     let found = field(alloc, name, value)?;
-    match set_for(alloc, func, found) {
-        Ok(set) => Ok(set),
-        Err(fault) => Err(fault.under_key(alloc, name)),
-    }
+    at_key(alloc, name, set_for(alloc, func, found))
 }
 
 // A set that a function's values can be in.
@@ -189,14 +183,12 @@ fn named_constraint(
 }
 
 // The name of a constraint, which may be missing.
+#[tactic(auto, using(mof_values::specs::WalkLaws::at_met))]
 fn optional_name(alloc: Global, value: &Value) -> Result<Option<Name>, MofFault>
     ensures { Meets (λ name. name) result (optional None row_name_of "name" (view value.now)) }
 {
     match value.get("name") {
-        Some(found) => match row_name(alloc, found) {
-            Ok(name) => Ok(name),
-            Err(fault) => Err(fault.under_key(alloc, "name")),
-        },
+        Some(found) => at_key(alloc, "name", row_name(alloc, found)),
         None => Ok(None),
     }
 }

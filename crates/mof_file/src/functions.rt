@@ -10,7 +10,7 @@ use crate::scalar::affine;
 use crate::terms::{variable, variable_field};
 use crate::vectors::vector_affine;
 use indexmap::IndexSet;
-use mof_values::{MofFault, array, field, is, require_object, text_field, unknown_kind};
+use mof_values::{MofFault, array, at_key, field, is, require_object, text_field, unknown_kind};
 use name_index::{Name, Names};
 use serde_json::Value;
 use std::alloc::Global;
@@ -118,7 +118,7 @@ fn affine_vec(alloc: Global, known: &IndexSet<Name>, value: &Value) -> Result<Na
     Ok(NamedFunc::AffineVec(functions))
 }
 
-#[tactic(auto, unfolding(mof_values::specs::Values::walk_at))]
+#[tactic(auto, using(mof_values::specs::WalkLaws::walk_at_steps))]
 fn variables_field(
     alloc: Global,
     known: &IndexSet<Name>,
@@ -129,10 +129,7 @@ fn variables_field(
         (walk_at (variables_of known.now.keys) name.now (view value.now)) }
 {
     let found = field(alloc, name, value)?;
-    match variable_list(alloc, known, found) {
-        Ok(variables) => Ok(variables),
-        Err(fault) => Err(fault.under_key(alloc, name)),
-    }
+    at_key(alloc, name, variable_list(alloc, known, found))
 }
 
 #[tactic(auto, unfolding(crate::specs::Functions::variables_of))]
@@ -165,7 +162,8 @@ fn add_variable(
     names: &mut Names,
     item: &Value,
 ) -> Result<(), MofFault>
-    ensures { Meets (λ _. names.new) result (add_variable known.now.keys names.old (view item.now)) }
+    ensures { Meets (λ _. names.new) result
+        (add_variable known.now.keys names.old (view item.now)) }
 {
     let name = variable(alloc, known, item)?;
     match names.push(name) {

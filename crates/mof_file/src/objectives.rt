@@ -9,7 +9,7 @@ ghost use Rattle.mof_values.specs.Walked.{Meets};
 
 use crate::functions::objective_function;
 use indexmap::IndexSet;
-use mof_values::{MofFault, field, here, is, require_object, text};
+use mof_values::{MofFault, at_key, field, here, is, require_object, text};
 use name_index::Name;
 use serde_json::Value;
 use std::alloc::Global;
@@ -24,6 +24,7 @@ pub enum FileObjective {
 }
 
 /// The objective of a file, which may be missing.
+#[tactic(auto, using(mof_values::specs::WalkLaws::at_met))]
 pub(crate) fn optional_objective(
     alloc: Global,
     known: &IndexSet<Name>,
@@ -33,10 +34,7 @@ pub(crate) fn optional_objective(
         (optional told.Feasibility (objective_of known.now.keys) "objective" (view value.now)) }
 {
     match value.get("objective") {
-        Some(found) => match objective(alloc, known, found) {
-            Ok(objective) => Ok(objective),
-            Err(fault) => Err(fault.under_key(alloc, "objective")),
-        },
+        Some(found) => at_key(alloc, "objective", objective(alloc, known, found)),
         None => Ok(FileObjective::Feasibility),
     }
 }
@@ -71,7 +69,7 @@ fn sensed(
     Ok(FileObjective::Optimize { sense, func })
 }
 
-#[tactic(auto, unfolding(mof_values::specs::Values::walk_at))]
+#[tactic(auto, using(mof_values::specs::WalkLaws::walk_at_steps))]
 fn function_field(
     alloc: Global,
     known: &IndexSet<Name>,
@@ -82,21 +80,15 @@ fn function_field(
         (walk_at (objective_function_of known.now.keys) name.now (view value.now)) }
 {
     let found = field(alloc, name, value)?;
-    match objective_function(alloc, known, found) {
-        Ok(func) => Ok(func),
-        Err(fault) => Err(fault.under_key(alloc, name)),
-    }
+    at_key(alloc, name, objective_function(alloc, known, found))
 }
 
-#[tactic(auto, unfolding(mof_values::specs::Values::walk_at))]
+#[tactic(auto, using(mof_values::specs::WalkLaws::walk_at_steps))]
 fn sense_field(alloc: Global, name: &str, value: &Value) -> Result<Option<Sense>, MofFault>
     ensures { Meets (λ sense. sense) result (walk_at sense_of name.now (view value.now)) }
 {
     let found = field(alloc, name, value)?;
-    match sense(alloc, found) {
-        Ok(sense) => Ok(sense),
-        Err(fault) => Err(fault.under_key(alloc, name)),
-    }
+    at_key(alloc, name, sense(alloc, found))
 }
 
 // A sense, and none for feasibility.

@@ -7,7 +7,7 @@ ghost use Rattle.mof_values.specs.Walked.{Meets, each};
 
 use crate::terms::term;
 use indexmap::IndexSet;
-use mof_values::{MofFault, array, field, here, number_field};
+use mof_values::{MofFault, array, at_key, field, here, number_field};
 use name_index::Name;
 use named_aff::{NamedAff, NamedTerms};
 use named_sums::TermSum;
@@ -28,7 +28,7 @@ pub(crate) fn affine(
     Ok(NamedAff { terms, constant })
 }
 
-#[tactic(auto, unfolding(mof_values::specs::Values::walk_at))]
+#[tactic(auto, using(mof_values::specs::WalkLaws::walk_at_steps))]
 fn terms_field(
     alloc: Global,
     known: &IndexSet<Name>,
@@ -39,10 +39,7 @@ fn terms_field(
         (walk_at (terms_of known.now.keys) name.now (view value.now)) }
 {
     let found = field(alloc, name, value)?;
-    match term_list(alloc, known, found) {
-        Ok(terms) => Ok(terms),
-        Err(fault) => Err(fault.under_key(alloc, name)),
-    }
+    at_key(alloc, name, term_list(alloc, known, found))
 }
 
 #[tactic(auto, unfolding(crate::specs::Functions::terms_of))]
@@ -57,7 +54,8 @@ fn term_list(alloc: Global, known: &IndexSet<Name>, value: &Value) -> Result<Nam
 
 #[tactic(auto, using(mof_values::specs::WalkLaws::each_steps))]
 fn sum_of_terms(alloc: Global, known: &IndexSet<Name>, items: &[Value]) -> Result<TermSum, MofFault>
-    ensures { Meets (λ sum. sum) result (each (add_term known.now.keys) 0 [] (items_view items.now)) }
+    ensures { Meets (λ sum. sum) result
+        (each (add_term known.now.keys) 0 [] (items_view items.now)) }
 {
     let mut sum = TermSum::new(alloc);
     for (place, item) in items.iter().enumerate() {

@@ -7,7 +7,7 @@ ghost use Rattle.mof_values.specs.Walked.{Meets};
 
 use indexmap::IndexSet;
 use lists::Memory;
-use mof_values::{MofFault, field, given_name, here, number_field, require_object, text};
+use mof_values::{MofFault, at_key, field, given_name, here, number_field, require_object, text};
 use name_index::Name;
 use named_aff::NamedTerm;
 use ratio_core::Ratio;
@@ -42,7 +42,7 @@ fn known_name(alloc: Global, known: &IndexSet<Name>, text: &str) -> Result<Optio
 }
 
 /// The variable at a key.
-#[tactic(auto, unfolding(mof_values::specs::Values::walk_at))]
+#[tactic(auto, using(mof_values::specs::WalkLaws::walk_at_steps))]
 pub(crate) fn variable_field(
     alloc: Global,
     known: &IndexSet<Name>,
@@ -53,10 +53,7 @@ pub(crate) fn variable_field(
         (walk_at (variable_of known.now.keys) name.now (view value.now)) }
 {
     let found = field(alloc, name, value)?;
-    match variable(alloc, known, found) {
-        Ok(variable) => Ok(variable),
-        Err(fault) => Err(fault.under_key(alloc, name)),
-    }
+    at_key(alloc, name, variable(alloc, known, found))
 }
 
 /// A coefficient and its variable.

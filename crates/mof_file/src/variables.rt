@@ -6,13 +6,13 @@ ghost use Rattle.mof_values.specs.Values.{a_name, walk_at};
 ghost use Rattle.mof_values.specs.Walked.{Meets, each};
 
 use indexmap::IndexSet;
-use mof_values::{MofFault, array, field, here, name, require_object};
+use mof_values::{MofFault, array, at_key, field, here, name, require_object};
 use name_index::Name;
 use serde_json::Value;
 use std::alloc::Global;
 
 /// The names of the variables at a key, in their order.
-#[tactic(auto, unfolding(mof_values::specs::Values::walk_at))]
+#[tactic(auto, using(mof_values::specs::WalkLaws::walk_at_steps))]
 pub(crate) fn variables_field(
     alloc: Global,
     key: &str,
@@ -21,10 +21,7 @@ pub(crate) fn variables_field(
     ensures { Meets (λ names. names.keys) result (walk_at variables_of key.now (view value.now)) }
 {
     let found = field(alloc, key, value)?;
-    match variable_list(alloc, found) {
-        Ok(names) => Ok(names),
-        Err(fault) => Err(fault.under_key(alloc, key)),
-    }
+    at_key(alloc, key, variable_list(alloc, found))
 }
 
 #[tactic(auto, unfolding(crate::specs::File::variables_of))]
@@ -76,13 +73,10 @@ fn put_name(alloc: Global, names: &mut IndexSet<Name>, name: Name) -> Result<(),
     Ok(())
 }
 
-#[tactic(auto, unfolding(mof_values::specs::Values::walk_at))]
+#[tactic(auto, using(mof_values::specs::WalkLaws::walk_at_steps))]
 fn name_field(alloc: Global, key: &str, value: &Value) -> Result<Name, MofFault>
     ensures { Meets (λ name. name) result (walk_at a_name key.now (view value.now)) }
 {
     let found = field(alloc, key, value)?;
-    match name(alloc, found) {
-        Ok(name) => Ok(name),
-        Err(fault) => Err(fault.under_key(alloc, key)),
-    }
+    at_key(alloc, key, name(alloc, found))
 }

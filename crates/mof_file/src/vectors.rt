@@ -8,7 +8,7 @@ ghost use Rattle.mof_values.specs.Walked.{Meets, each};
 use crate::terms::term;
 use indexmap::IndexSet;
 use lists::Memory;
-use mof_values::{MofFault, array, field, here, integer, number, require_object};
+use mof_values::{MofFault, array, at_key, field, here, integer, number, require_object};
 use name_index::Name;
 use named_aff::{NamedAff, NamedTerm, NamedVec};
 use named_sums::TermSum;
@@ -50,16 +50,13 @@ fn components(
     vector_terms_field(alloc, known, constants, "terms", value)
 }
 
-#[tactic(auto, unfolding(mof_values::specs::Values::walk_at))]
+#[tactic(auto, using(mof_values::specs::WalkLaws::walk_at_steps))]
 fn constants_field(alloc: Global, name: &str, value: &Value) -> Result<Vec<Component>, MofFault>
     ensures { Meets (λ constants. constants.items) result
         (walk_at constants_of name.now (view value.now)) }
 {
     let found = field(alloc, name, value)?;
-    match constants(alloc, found) {
-        Ok(constants) => Ok(constants),
-        Err(fault) => Err(fault.under_key(alloc, name)),
-    }
+    at_key(alloc, name, constants(alloc, found))
 }
 
 #[tactic(auto, unfolding(crate::specs::Functions::constants_of))]
@@ -103,7 +100,7 @@ fn add_component(
     Ok(())
 }
 
-#[tactic(auto, unfolding(mof_values::specs::Values::walk_at))]
+#[tactic(auto, using(mof_values::specs::WalkLaws::walk_at_steps))]
 fn vector_terms_field(
     alloc: Global,
     known: &IndexSet<Name>,
@@ -115,10 +112,7 @@ fn vector_terms_field(
         (walk_at (vector_terms_of known.now.keys components.items) name.now (view value.now)) }
 {
     let found = field(alloc, name, value)?;
-    match vector_terms(alloc, known, components, found) {
-        Ok(components) => Ok(components),
-        Err(fault) => Err(fault.under_key(alloc, name)),
-    }
+    at_key(alloc, name, vector_terms(alloc, known, components, found))
 }
 
 #[tactic(auto, unfolding(crate::specs::Functions::vector_terms_of))]
@@ -215,7 +209,7 @@ fn output_index(
     output_field(alloc, components, "output_index", value)
 }
 
-#[tactic(auto, unfolding(mof_values::specs::Values::walk_at))]
+#[tactic(auto, using(mof_values::specs::WalkLaws::walk_at_steps))]
 fn output_field(
     alloc: Global,
     components: &Vec<Component>,
@@ -226,10 +220,7 @@ fn output_field(
         (walk_at (output_of components.now.items) name.now (view value.now)) }
 {
     let found = field(alloc, name, value)?;
-    match output(alloc, components, found) {
-        Ok(output) => Ok(output),
-        Err(fault) => Err(fault.under_key(alloc, name)),
-    }
+    at_key(alloc, name, output(alloc, components, found))
 }
 
 // The place of an output, which are counted from 1.
@@ -252,7 +243,7 @@ fn scalar_term(alloc: Global, known: &IndexSet<Name>, value: &Value) -> Result<N
     term_field(alloc, known, "scalar_term", value)
 }
 
-#[tactic(auto, unfolding(mof_values::specs::Values::walk_at))]
+#[tactic(auto, using(mof_values::specs::WalkLaws::walk_at_steps))]
 fn term_field(
     alloc: Global,
     known: &IndexSet<Name>,
@@ -263,10 +254,7 @@ fn term_field(
         (walk_at (term_of known.now.keys) name.now (view value.now)) }
 {
     let found = field(alloc, name, value)?;
-    match term(alloc, known, found) {
-        Ok(term) => Ok(term),
-        Err(fault) => Err(fault.under_key(alloc, name)),
-    }
+    at_key(alloc, name, term(alloc, known, found))
 }
 
 // Adds a term to the component at a place, and says whether there is one and the sum fits.

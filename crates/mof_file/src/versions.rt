@@ -5,20 +5,17 @@ ghost use Rattle.mof_file.specs.File.{major_of, version_of};
 ghost use Rattle.mof_values.specs.Values.{walk_at};
 ghost use Rattle.mof_values.specs.Walked.{Meets};
 
-use mof_values::{MofFault, field, here, integer, integer_field, require_object};
+use mof_values::{MofFault, at_key, field, here, integer, integer_field, require_object};
 use serde_json::Value;
 use std::alloc::Global;
 
 /// The version at a key, whose major number has to be 1.
-#[tactic(auto, unfolding(mof_values::specs::Values::walk_at))]
+#[tactic(auto, using(mof_values::specs::WalkLaws::walk_at_steps))]
 pub(crate) fn version_field(alloc: Global, name: &str, value: &Value) -> Result<(), MofFault>
     ensures { Meets (λ _. tt) result (walk_at version_of name.now (view value.now)) }
 {
     let found = field(alloc, name, value)?;
-    match version(alloc, found) {
-        Ok(()) => Ok(()),
-        Err(fault) => Err(fault.under_key(alloc, name)),
-    }
+    at_key(alloc, name, version(alloc, found))
 }
 
 #[tactic(auto, unfolding(crate::specs::File::version_of))]
@@ -31,15 +28,12 @@ fn version(alloc: Global, value: &Value) -> Result<(), MofFault>
     Ok(())
 }
 
-#[tactic(auto, unfolding(mof_values::specs::Values::walk_at))]
+#[tactic(auto, using(mof_values::specs::WalkLaws::walk_at_steps))]
 fn major_field(alloc: Global, name: &str, value: &Value) -> Result<(), MofFault>
     ensures { Meets (λ _. tt) result (walk_at major_of name.now (view value.now)) }
 {
     let found = field(alloc, name, value)?;
-    match major(alloc, found) {
-        Ok(()) => Ok(()),
-        Err(fault) => Err(fault.under_key(alloc, name)),
-    }
+    at_key(alloc, name, major(alloc, found))
 }
 
 #[tactic(auto, unfolding(crate::specs::File::major_of))]

@@ -1,6 +1,6 @@
 -- Walks step by step: each lemma is what one way out of a function shows.
-use Rattle.std.specs.Prelude.{◌≡◌, ◌≢◌, ℕ, suc, ◌+◌, ◌<◌, ◌≤◌, List, drop, length, Ok, Err}
-use Rattle.std.proofs.Common.{add-one, ap, get_or, sym, ◌∙◌}
+use Rattle.std.specs.Prelude.{◌≡◌, ◌≢◌, ℕ, suc, ◌+◌, ◌<◌, ◌≤◌, List, drop, length, Result, Ok, Err}
+use Rattle.std.proofs.Common.{add-one, ap, get_or, subst, sym, ◌∙◌}
 use Rattle.std.proofs.lemmas.List.{drop_all, drop_more}
 use Rattle.serde_json.specs.Data.{Data}
 use Rattle.serde_json.specs.View.{items_view, view}
@@ -8,7 +8,7 @@ use Rattle.serde_json.specs.declared.value.Value.{Value}
 use Rattle.mof_values.specs.declared.fault.MofFault.{MofFault}
 use Rattle.mof_values.specs.declared.fault.MofFault.TheVariants.{Memory}
 use Rattle.mof_values.specs.Values.{field_at, walk_at}
-use Rattle.mof_values.specs.Walked.{Tells, Walked, at, each, index, key_part, under, ◌>>=◌}
+use Rattle.mof_values.specs.Walked.{Meets, Tells, TellsAt, Walked, at, each, index, key_part, under, ◌>>=◌}
 
 -- a fault that is told at a part of a pointer
 pub at_fault : {A : Type 0} (part : List ℕ) (walked : Walked A) (fault told : MofFault)
@@ -17,27 +17,38 @@ pub at_fault : {A : Type 0} (part : List ℕ) (walked : Walked A) (fault told : 
 at_fault part walked fault told failed tells not =
     ap (at part) (failed (λ is. not (tells not ∙ ap (under part) is))) ∙ ap Err (sym (tells not))
 
+-- what is told at a part of a pointer of what was read there
+pub at_met : {T A : Type 0} (seen : T → A) (part : List ℕ) (walked : Walked A)
+    (read told : Result T MofFault) → Meets seen read walked → TellsAt part read told
+    → Meets seen told (at part walked)
+at_met seen part walked (Ok x) told met same =
+    subst (λ t. Meets seen t (at part walked)) (sym same) (ap (at part) met)
+at_met seen part walked (Err fault) (Ok x) met none = elim none [ ]
+at_met seen part walked (Err fault) (Err told) met tells = at_fault part walked fault told met tells
+
 -- ---- what stands at a key
 
-module _ {A : Type 0} (walk : Data → Walked A) (name : List ℕ) (d e : Data)
-    (found : field_at name d ≡ Ok e) where
-  there : walk_at walk name d ≡ at (key_part name) (walk e)
+module _ {T A : Type 0} (seen : T → A) (walk : Data → Walked A) (name : List ℕ) (d : Data)
+    (told : Result T MofFault) where
+  there : (w : Walked Data) → field_at name d ≡ w
+      → walk_at walk name d ≡ (w >>= (λ e. at (key_part name) (walk e)))
   unfolding walk_at
-  there = ap (λ w. w >>= (λ e. at (key_part name) (walk e))) found
+  there w found = ap (λ w. w >>= (λ e. at (key_part name) (walk e))) found
 
-  pub walk_at_ok : (x : A) → walk e ≡ Ok x → walk_at walk name d ≡ Ok x
-  walk_at_ok x walked = there ∙ ap (at (key_part name)) walked
+  pub walk_at_missing : (fault : MofFault) → (fault ≢ Memory → field_at name d ≡ Err fault)
+      → told ≡ Err fault → Meets seen told (walk_at walk name d)
+  walk_at_missing fault missing same =
+      subst (λ t. Meets seen t (walk_at walk name d)) (sym same)
+      (λ not. there (Err fault) (missing not))
 
-  pub walk_at_fault : (fault told : MofFault) → (fault ≢ Memory → walk e ≡ Err fault)
-      → Tells told (under (key_part name) fault) → told ≢ Memory → walk_at walk name d ≡ Err told
-  walk_at_fault fault told failed tells not =
-      there ∙ at_fault (key_part name) (walk e) fault told failed tells not
+  pub walk_at_met : (read : Result T MofFault) (e : Data) → field_at name d ≡ Ok e
+      → Meets seen read (walk e) → TellsAt (key_part name) read told
+      → Meets seen told (walk_at walk name d)
+  walk_at_met read e found met tells =
+      subst (Meets seen told) (sym (there (Ok e) found))
+      (at_met seen (key_part name) (walk e) read told met tells)
 
-pub walk_at_missing : {A : Type 0} (walk : Data → Walked A) (name : List ℕ) (d : Data)
-    (fault : MofFault) → field_at name d ≡ Err fault → walk_at walk name d ≡ Err fault
-unfolding walk_at
-walk_at_missing walk name d fault missing =
-    ap (λ w. w >>= (λ e. at (key_part name) (walk e))) missing
+pub ruleset walk_at_steps = (walk_at_missing, walk_at_met)
 
 -- ---- the items of an array, of which this one is next
 

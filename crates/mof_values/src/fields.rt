@@ -2,7 +2,7 @@
 ghost use Rattle.std.specs.Prelude.{⊤};
 ghost use Rattle.serde_json.specs.View.{items_view, view};
 ghost use Rattle.mof_values.specs.Values.{an_array, an_object, field_at};
-ghost use Rattle.mof_values.specs.Walked.{Meets};
+ghost use Rattle.mof_values.specs.Walked.{Meets, TellsAt, key_part};
 
 use crate::fault::{MofFault, here};
 use serde_json::Value;
@@ -28,6 +28,16 @@ pub fn field<'v>(alloc: Global, name: &str, value: &'v Value) -> Result<&'v Valu
     match value.get(name) {
         Some(found) => Ok(found),
         None => Err(MofFault::Shape { place: here(alloc) }.under_key(alloc, name)),
+    }
+}
+
+/// What was read at a key, seen from the object.
+pub fn at_key<T>(alloc: Global, name: &str, read: Result<T, MofFault>) -> Result<T, MofFault>
+    ensures { TellsAt (key_part name.now) read result }
+{
+    match read {
+        Ok(value) => Ok(value),
+        Err(fault) => Err(fault.under_key(alloc, name)),
     }
 }
 

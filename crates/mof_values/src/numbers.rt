@@ -7,7 +7,7 @@ ghost use Rattle.mof_values.specs.Values.{a_number, an_integer, index_in, number
 ghost use Rattle.mof_values.specs.Walked.{Meets};
 
 use crate::fault::{MofFault, here};
-use crate::fields::field;
+use crate::fields::{at_key, field};
 use ratio_core::Ratio;
 use serde_json::{Number, Value};
 use std::alloc::Global;
@@ -55,15 +55,12 @@ pub fn number(alloc: Global, value: &Value) -> Result<Ratio, MofFault>
 }
 
 /// The number at a key.
-#[tactic(auto, unfolding(crate::specs::Values::walk_at))]
+#[tactic(auto, using(crate::specs::WalkLaws::walk_at_steps))]
 pub fn number_field(alloc: Global, name: &str, value: &Value) -> Result<Ratio, MofFault>
     ensures { Meets (λ number. number) result (walk_at a_number name.now (view value.now)) }
 {
     let found = field(alloc, name, value)?;
-    match number(alloc, found) {
-        Ok(number) => Ok(number),
-        Err(fault) => Err(fault.under_key(alloc, name)),
-    }
+    at_key(alloc, name, number(alloc, found))
 }
 
 // A whole number from 0 to 4,294,967,295.
@@ -106,13 +103,10 @@ fn integer_of(value: &Value) -> Option<u32>
 }
 
 /// The whole number at a key, from 0 to 4,294,967,295.
-#[tactic(auto, unfolding(crate::specs::Values::walk_at))]
+#[tactic(auto, using(crate::specs::WalkLaws::walk_at_steps))]
 pub fn integer_field(alloc: Global, name: &str, value: &Value) -> Result<u32, MofFault>
     ensures { Meets (λ number. number) result (walk_at an_integer name.now (view value.now)) }
 {
     let found = field(alloc, name, value)?;
-    match integer(alloc, found) {
-        Ok(number) => Ok(number),
-        Err(fault) => Err(fault.under_key(alloc, name)),
-    }
+    at_key(alloc, name, integer(alloc, found))
 }

@@ -6,7 +6,7 @@ ghost use Rattle.mof_values.specs.Values.{a_name, a_text, name_of, walk_at};
 ghost use Rattle.mof_values.specs.Walked.{Meets, Tells};
 
 use crate::fault::{MofFault, here};
-use crate::fields::field;
+use crate::fields::{at_key, field};
 use lists::Memory;
 use name_index::{Name, NameFault};
 use serde_json::Value;
@@ -31,15 +31,12 @@ pub fn text<'v>(alloc: Global, value: &'v Value) -> Result<&'v str, MofFault>
 }
 
 /// The text at a key.
-#[tactic(auto, unfolding(crate::specs::Values::walk_at))]
+#[tactic(auto, using(crate::specs::WalkLaws::walk_at_steps))]
 pub fn text_field<'v>(alloc: Global, name: &str, value: &'v Value) -> Result<&'v str, MofFault>
     ensures { Meets (λ text. text.now) result (walk_at a_text name.now (view value.now)) }
 {
     let found = field(alloc, name, value)?;
-    match text(alloc, found) {
-        Ok(text) => Ok(text),
-        Err(fault) => Err(fault.under_key(alloc, name)),
-    }
+    at_key(alloc, name, text(alloc, found))
 }
 
 /// The text as a name, where a variable or a row can have it.
