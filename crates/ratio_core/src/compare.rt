@@ -64,11 +64,31 @@ impl Ratio {
     }
 }
 
-#[inline]
+// Without a branch: `a.cmp(&b)`, where it is inlined among other orders, becomes one on whether the
+// two are equal.
+#[inline(always)]
 fn cmp_numerators(a: i128, b: i128) -> Ordering
     ensures { result ≡ int_cmp a b }
 {
-    a.cmp(&b)
+    match i8::from(a > b) - i8::from(a < b) {
+        -1 => Ordering::Less,
+        0 => Ordering::Equal,
+        1 => Ordering::Greater,
+        _ => unreachable!(),
+    }
+}
+
+// The same of products that fit.
+#[inline(always)]
+fn cmp_narrow_products(a: u128, b: u128) -> Ordering
+    ensures { result ≡ nat_cmp a b }
+{
+    match i8::from(a > b) - i8::from(a < b) {
+        -1 => Ordering::Less,
+        0 => Ordering::Equal,
+        1 => Ordering::Greater,
+        _ => unreachable!(),
+    }
 }
 
 // `a * b` against `c * d`, which may pass 128 bits.
@@ -82,7 +102,7 @@ pub(crate) fn cmp_products(a: u128, b: u128, c: u128, d: u128) -> Ordering
         return a.cmp(&c);
     }
     if a <= NARROW && b <= NARROW && c <= NARROW && d <= NARROW {
-        return (a * b).cmp(&(c * d));
+        return cmp_narrow_products(a * b, c * d);
     }
     cmp_long_products(a, b, c, d)
 }
