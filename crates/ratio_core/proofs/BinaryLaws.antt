@@ -5,7 +5,7 @@ use Rattle.std.proofs.lemmas.Bool.{cases_lt}
 use Rattle.std.proofs.lemmas.Nat.{mod-pow-add, pow_pos, div-add-mod', pow-add}
 use Rattle.std.proofs.lemmas.Nat.Bits.{bit_at-trailing_zeros}
 use Rattle.std.proofs.lemmas.Nat.Gcd.{IsGcd-from_sub, same_from_IsGcd, le_of_dvd}
-use Rattle.std.specs.Int.{◌∣◌, Width, abs_diff, bit_at, trailing_zeros}
+use Rattle.std.specs.Int.{◌∣◌, Width, abs_diff, bit_at, trailing_zeros, w64, w128}
 use mir.Val.{bits}
 use Rattle.ratio_core.specs.Gcd.{IsOddPart, gcd, gcd_is, gcd_swap, gcd-one, gcd-zero, gcd-rem, gcd-scaled, dvd_from_coprime}
 use Rattle.ratio_core.proofs.Coprime.{coprime_product, coprime_within}
@@ -165,3 +165,56 @@ difference_part w a b fits_a fits_b apart = by_order (cases_lt a b)
       where
         wrap_lem : (n m : ℕ) → n < m → (n + m) % m ≡ n
         wrap_lem n m h = add-mod_right n m ∙ mod-eq_of_lt h
+
+-- ---- the same by the zeros of the low halves' difference
+
+part_lem : (t m d : ℕ) → m % 2 ≡ 1 → d ≡ m * 2 ^ t → IsOddPart d (d / 2 ^ t)
+part_lem t m d odd d_is =
+    let quotient : d / 2 ^ t ≡ m = ap (λ x. x / 2 ^ t) d_is ∙ mul-div_cancel m (pow_pos t) in
+    record {
+      zeros = t;
+      whole = d_is ∙ ap (λ x. x * 2 ^ t) (sym quotient);
+      is_odd = ap (λ x. x % 2) quotient ∙ odd;
+    }
+
+difference_by : (w : Width) (a b t m : ℕ) → a < 2 ^ bits w → b < 2 ^ bits w → t < bits w → m % 2 ≡ 1 → (a + (2 ^ bits w - b)) % 2 ^ bits w ≡ m * 2 ^ t → IsOddPart (abs_diff a b) (abs_diff a b / 2 ^ t)
+difference_by w a b t m fits_a fits_b within odd n_is = by_order (cases_lt a b)
+  where
+    by_order : (a < b) ⊎ (b ≤ a) → IsOddPart (abs_diff a b) (abs_diff a b / 2 ^ t)
+    by_order (inl h) =
+        let n : ℕ = (a + (2 ^ bits w - b)) % 2 ^ bits w in
+        let whole : n ≡ a + (2 ^ bits w - b) = mod-eq_of_lt (omega arith) in
+        rest_lem (bits w) t m n (abs_diff a b) within n_is odd (omega arith)
+    by_order (inr h) =
+        let sum : a + (2 ^ bits w - b) ≡ (a - b) + 2 ^ bits w = omega arith in
+        let same : (a + (2 ^ bits w - b)) % 2 ^ bits w ≡ abs_diff a b = ap (λ x. x % 2 ^ bits w) sum ∙ wrap_lem (a - b) (2 ^ bits w) (omega arith) ∙ omega arith in
+        part_lem t m (abs_diff a b) odd (sym same ∙ n_is)
+      where
+        wrap_lem : (n m : ℕ) → n < m → (n + m) % m ≡ n
+        wrap_lem n m h = add-mod_right n m ∙ mod-eq_of_lt h
+
+halves_lem : (a b : ℕ) → a < 2 ^ 128 → b < 2 ^ 128 → (a + (2 ^ 128 - b)) % 2 ^ 128 % 2 ^ 64 ≡ (a % 2 ^ 64 + (2 ^ 64 - b % 2 ^ 64)) % 2 ^ 64
+halves_lem a b h l = omega arith
+
+more_lem : (q h m p : ℕ) → q * ((h * 2) * p) + m * p ≡ (q * h * 2 + m) * p
+more_lem q h m p = omega arith
+
+still_odd : (n m : ℕ) → m % 2 ≡ 1 → (n * 2 + m) % 2 ≡ 1
+still_odd n m odd = omega arith
+
+pub difference_part_by_halves : (a b x y : ℕ) → a < 2 ^ 128 → b < 2 ^ 128 → x ≡ a % 2 ^ 64 → y ≡ b % 2 ^ 64 → ¬ ((x + (2 ^ 64 - y)) % 2 ^ 64 ≡ 0) → IsOddPart (abs_diff a b) (abs_diff a b / 2 ^ trailing_zeros w64 ((x + (2 ^ 64 - y)) % 2 ^ 64))
+difference_part_by_halves a b x y fits_a fits_b x_is y_is some =
+    let low : ℕ = (x + (2 ^ 64 - y)) % 2 ^ 64 in
+    let n : ℕ = (a + (2 ^ 128 - b)) % 2 ^ 128 in
+    let t : ℕ = trailing_zeros w64 low in
+    let m : ℕ = low / 2 ^ t in
+    let h : ℕ = 2 ^ (64 - suc t) in
+    let fits : low < 2 ^ 64 = omega arith in
+    let above : 0 < low = omega arith in
+    let bit = bit_at-trailing_zeros w64 low above fits in
+    let low_is : n % 2 ^ 64 ≡ low = halves_lem a b fits_a fits_b ∙ ap₂ (λ u v. (u + (2 ^ 64 - v)) % 2 ^ 64) (sym x_is) (sym y_is) in
+    let exponent : suc (64 - suc t) + t ≡ 64 = omega (arith, bit.0) in
+    let power : 2 ^ 64 ≡ (h * 2) * 2 ^ t = ap (λ j. 2 ^ j) (sym exponent) ∙ pow-add 2 (suc (64 - suc t)) t ∙ ap (λ x. x * 2 ^ t) (pow-suc 2 (64 - suc t)) in
+    let split : n ≡ n / 2 ^ 64 * 2 ^ 64 + n % 2 ^ 64 = omega arith in
+    let n_is : n ≡ (n / 2 ^ 64 * h * 2 + m) * 2 ^ t = split ∙ ap₂ (λ u v. n / 2 ^ 64 * u + v) power (low_is ∙ zeros_whole w64 low above fits) ∙ more_lem (n / 2 ^ 64) h m (2 ^ t) in
+    difference_by w128 a b t (n / 2 ^ 64 * h * 2 + m) fits_a fits_b (omega (arith, bit.0)) (still_odd (n / 2 ^ 64 * h) m bit.1) n_is

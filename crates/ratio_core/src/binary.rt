@@ -1,9 +1,12 @@
 // Greatest common divisors in 64 bits, by halves and differences (Stein's rule).
-ghost use Rattle.std.specs.Prelude.{◌≡◌, ◌≢◌, ◌%◌, ◌<◌, min};
+ghost use Rattle.std.specs.Prelude.{◌≡◌, ◌≢◌, ◌%◌, ◌<◌, ◌^◌, min};
 ghost use Rattle.std.specs.Int.{abs_diff};
 ghost use Rattle.ratio_core.specs.Gcd.{IsOddPart, gcd};
 
 use crate::divisor::NARROW;
+
+// 2^64.
+const HALF: u128 = 18446744073709551616;
 
 pub(crate) fn narrow_divisor(a: u64, b: u64) -> u64
     requires { 0 < b }
@@ -98,8 +101,28 @@ fn lesser_wide(a: u128, b: u128) -> u128
     if a < b { a } else { b }
 }
 
+// By the zeros of the low halves' difference, where it has them: a shift below 64 takes fewer steps.
 #[inline]
 fn wide_difference_without_twos(a: u128, b: u128) -> u128
+    requires { a ≢ b }
+    ensures { IsOddPart (abs_diff a b) result }
+{
+    let low = low_half(a).wrapping_sub(low_half(b));
+    if low == 0 {
+        return long_difference_without_twos(a, b);
+    }
+    a.abs_diff(b) >> low.trailing_zeros()
+}
+
+#[inline]
+fn low_half(n: u128) -> u64
+    ensures { result ≡ n % 2 ^ 64 }
+{
+    (n % HALF) as u64
+}
+
+#[inline]
+fn long_difference_without_twos(a: u128, b: u128) -> u128
     requires { a ≢ b }
     ensures { IsOddPart (abs_diff a b) result }
 {

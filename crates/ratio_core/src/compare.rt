@@ -1,5 +1,5 @@
 // Equality and order.
-ghost use Rattle.std.specs.Prelude.{◌≡◌, ◌<◌, ◌*◌, refl};
+ghost use Rattle.std.specs.Prelude.{◌≡◌, ◌<◌, ◌*◌, cond, false, refl, true};
 ghost use Rattle.std.specs.Ordering.{as_partial_cmp, int_cmp, nat_cmp};
 ghost use Rattle.ratio_core.specs.Rational.{rational_cmp, rational_eq};
 ghost use Rattle.ratio_core.specs.RationalLaws.{rational_cmp_total, rational_eq-is_eq, rational_eq_equiv, rational_eq_partial_equiv, rational_partial_order};
@@ -64,11 +64,33 @@ impl Ratio {
     }
 }
 
-#[inline]
+#[inline(always)]
 fn cmp_numerators(a: i128, b: i128) -> Ordering
     ensures { result ≡ int_cmp a b }
 {
-    a.cmp(&b)
+    order_by_tests(a < b, a > b)
+}
+
+#[inline(always)]
+fn cmp_narrow_products(a: u128, b: u128) -> Ordering
+    ensures { result ≡ nat_cmp a b }
+{
+    order_by_tests(a < b, a > b)
+}
+
+// Without a branch: `a.cmp(&b)`, where it is inlined among other orders, becomes one on whether the
+// two are equal.
+#[inline(always)]
+fn order_by_tests(is_less: bool, is_greater: bool) -> Ordering
+    requires { is_less ≡ true → is_greater ≡ false }
+    ensures { result ≡ cond is_less Ordering.Less (cond is_greater Ordering.Greater Ordering.Equal) }
+{
+    match i8::from(is_greater) - i8::from(is_less) {
+        -1 => Ordering::Less,
+        0 => Ordering::Equal,
+        1 => Ordering::Greater,
+        _ => unreachable!(),
+    }
 }
 
 // `a * b` against `c * d`, which may pass 128 bits.
@@ -82,7 +104,7 @@ pub(crate) fn cmp_products(a: u128, b: u128, c: u128, d: u128) -> Ordering
         return a.cmp(&c);
     }
     if a <= NARROW && b <= NARROW && c <= NARROW && d <= NARROW {
-        return (a * b).cmp(&(c * d));
+        return cmp_narrow_products(a * b, c * d);
     }
     cmp_long_products(a, b, c, d)
 }
