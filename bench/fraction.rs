@@ -67,10 +67,11 @@ fn wide_gcd(x: u128, y: u128) -> u128 {
         if x == y {
             return x << zeros;
         }
-        let ends = x.wrapping_sub(y).trailing_zeros();
-        let apart = x.abs_diff(y);
-        x = x.min(y);
-        y = apart >> ends;
+        let (least, apart) = (x.min(y), x.abs_diff(y));
+        // A shift below 64 takes fewer steps.
+        let low = (x as u64).wrapping_sub(y as u64);
+        y = if low == 0 { apart >> apart.trailing_zeros() } else { apart >> low.trailing_zeros() };
+        x = least;
     }
     (odd_gcd(x as u64, y as u64) as u128) << zeros
 }

@@ -1,6 +1,6 @@
 -- The greatest common divisor by halves and differences.
 use Rattle.std.proofs.Common.{◌≡◌, ◌≢◌, ℕ, zero, suc, ◌+◌, ◌-◌, ◌*◌, ◌/◌, ◌%◌, ◌^◌, ◌<◌, ◌≤◌, ◌⊎◌, inl, inr, sym, ◌∙◌, ap, ap₂, subst, arith, min, pow-suc, mul-div_cancel}
-use Rattle.std.proofs.Math.Nat.{dvd_antisymm, dvd_trans, dvd-mul_right, dvd_refl, le_of_mul-le-mul_right, mod-eq_of_lt, add-mod_right}
+use Rattle.std.proofs.Math.Nat.{dvd_antisymm, dvd_trans, dvd-mul_right, dvd_refl, le_of_mul-le-mul_right, mod-eq_of_lt, mod-lt, add-mod_right}
 use Rattle.std.proofs.lemmas.Bool.{cases_lt}
 use Rattle.std.proofs.lemmas.Nat.{mod-pow-add, pow_pos, div-add-mod', pow-add}
 use Rattle.std.proofs.lemmas.Nat.Bits.{bit_at-trailing_zeros}
@@ -119,6 +119,15 @@ gcd_at_most a b h = le_of_dvd h (gcd_is a b).1
 
 -- ---- a number and what is left to a power of 2 end in as many zeros
 
+part_lem : (t m d : ℕ) → m % 2 ≡ 1 → d ≡ m * 2 ^ t → IsOddPart d (d / 2 ^ t)
+part_lem t m d odd d_is =
+    let quotient : d / 2 ^ t ≡ m = ap (λ x. x / 2 ^ t) d_is ∙ mul-div_cancel m (pow_pos t) in
+    record {
+      zeros = t;
+      whole = d_is ∙ ap (λ x. x * 2 ^ t) (sym quotient);
+      is_odd = ap (λ x. x % 2) quotient ∙ odd;
+    }
+
 rest_lem : (k t m n d : ℕ) → t < k → n ≡ m * 2 ^ t → m % 2 ≡ 1 → n + d ≡ 2 ^ k → IsOddPart d (d / 2 ^ t)
 rest_lem k t m n d within n_is odd whole =
     let h : ℕ = 2 ^ (k - suc t) in
@@ -128,12 +137,7 @@ rest_lem k t m n d within n_is odd whole =
     let below : m ≤ h * 2 = le_of_mul-le-mul_right scaled (pow_pos t) in
     let parts : (h * 2 - m) + m ≡ h * 2 = omega arith in
     let d_is : d ≡ (h * 2 - m) * 2 ^ t = cancel_lem (h * 2 - m) m (h * 2) (2 ^ t) d parts (ap (λ x. x + d) (sym n_is) ∙ whole ∙ power) in
-    let quotient : d / 2 ^ t ≡ h * 2 - m = ap (λ x. x / 2 ^ t) d_is ∙ mul-div_cancel (h * 2 - m) (pow_pos t) in
-    record {
-      zeros = t;
-      whole = d_is ∙ ap (λ x. x * 2 ^ t) (sym quotient);
-      is_odd = ap (λ x. x % 2) quotient ∙ odd_lem h m odd below;
-    }
+    part_lem t (h * 2 - m) d (odd_lem h m odd below) d_is
   where
     cancel_lem : (e m w p d : ℕ) → e + m ≡ w → m * p + d ≡ w * p → d ≡ e * p
     cancel_lem e m w p d f g = omega (arith, ap (λ x. x * p) f, g)
@@ -147,37 +151,14 @@ twice_divisor w a b odd k h l fits_a fits_b odd_is k_is =
     let whole : odd * 2 ^ k ≡ gcd a b = ap₂ (λ g j. g * 2 ^ j) odd_is k_is ∙ gcd_of_odd_parts a b _ _ (odd_part_of w a h fits_a) (odd_part_of w b l fits_b) in
     mod-eq_of_lt (omega (arith, whole, gcd_at_most a b l)) ∙ whole
 
--- the difference by the zeros of the wrapped one
-pub difference_part : (w : Width) (a b : ℕ) → a < 2 ^ bits w → b < 2 ^ bits w → a ≢ b → IsOddPart (abs_diff a b) (abs_diff a b / 2 ^ trailing_zeros w ((a + (2 ^ bits w - b)) % 2 ^ bits w))
-difference_part w a b fits_a fits_b apart = by_order (cases_lt a b)
-  where
-    by_order : (a < b) ⊎ (b ≤ a) → IsOddPart (abs_diff a b) (abs_diff a b / 2 ^ trailing_zeros w ((a + (2 ^ bits w - b)) % 2 ^ bits w))
-    by_order (inl h) =
-        let n : ℕ = (a + (2 ^ bits w - b)) % 2 ^ bits w in
-        let n_is : n ≡ a + (2 ^ bits w - b) = mod-eq_of_lt (omega arith) in
-        let low = bit_at-trailing_zeros w n (omega arith) (omega arith) in
-        rest_lem (bits w) (trailing_zeros w n) (n / 2 ^ trailing_zeros w n) n (abs_diff a b) low.0 (zeros_whole w n (omega arith) (omega arith)) low.1 (omega arith)
-    by_order (inr h) =
-        let some : ¬ (a - b ≡ 0) = λ e. apart (omega arith) in
-        let sum : a + (2 ^ bits w - b) ≡ (a - b) + 2 ^ bits w = omega arith in
-        let n_is : (a + (2 ^ bits w - b)) % 2 ^ bits w ≡ abs_diff a b = ap (λ x. x % 2 ^ bits w) sum ∙ wrap_lem (a - b) (2 ^ bits w) (omega arith) ∙ omega arith in
-        subst (λ n. IsOddPart (abs_diff a b) (abs_diff a b / 2 ^ trailing_zeros w n)) (sym n_is) (odd_part_of w (abs_diff a b) (omega arith) (omega arith))
-      where
-        wrap_lem : (n m : ℕ) → n < m → (n + m) % m ≡ n
-        wrap_lem n m h = add-mod_right n m ∙ mod-eq_of_lt h
+-- ---- a difference by the zeros of the wrapped one
 
--- ---- the same by the zeros of the low halves' difference
+wrap_lem : (n m : ℕ) → n < m → (n + m) % m ≡ n
+wrap_lem n m h = add-mod_right n m ∙ mod-eq_of_lt h
 
-part_lem : (t m d : ℕ) → m % 2 ≡ 1 → d ≡ m * 2 ^ t → IsOddPart d (d / 2 ^ t)
-part_lem t m d odd d_is =
-    let quotient : d / 2 ^ t ≡ m = ap (λ x. x / 2 ^ t) d_is ∙ mul-div_cancel m (pow_pos t) in
-    record {
-      zeros = t;
-      whole = d_is ∙ ap (λ x. x * 2 ^ t) (sym quotient);
-      is_odd = ap (λ x. x % 2) quotient ∙ odd;
-    }
-
-difference_by : (w : Width) (a b t m : ℕ) → a < 2 ^ bits w → b < 2 ^ bits w → t < bits w → m % 2 ≡ 1 → (a + (2 ^ bits w - b)) % 2 ^ bits w ≡ m * 2 ^ t → IsOddPart (abs_diff a b) (abs_diff a b / 2 ^ t)
+difference_by : (w : Width) (a b t m : ℕ) → a < 2 ^ bits w → b < 2 ^ bits w → t < bits w
+    → m % 2 ≡ 1 → (a + (2 ^ bits w - b)) % 2 ^ bits w ≡ m * 2 ^ t
+    → IsOddPart (abs_diff a b) (abs_diff a b / 2 ^ t)
 difference_by w a b t m fits_a fits_b within odd n_is = by_order (cases_lt a b)
   where
     by_order : (a < b) ⊎ (b ≤ a) → IsOddPart (abs_diff a b) (abs_diff a b / 2 ^ t)
@@ -189,11 +170,34 @@ difference_by w a b t m fits_a fits_b within odd n_is = by_order (cases_lt a b)
         let sum : a + (2 ^ bits w - b) ≡ (a - b) + 2 ^ bits w = omega arith in
         let same : (a + (2 ^ bits w - b)) % 2 ^ bits w ≡ abs_diff a b = ap (λ x. x % 2 ^ bits w) sum ∙ wrap_lem (a - b) (2 ^ bits w) (omega arith) ∙ omega arith in
         part_lem t m (abs_diff a b) odd (sym same ∙ n_is)
-      where
-        wrap_lem : (n m : ℕ) → n < m → (n + m) % m ≡ n
-        wrap_lem n m h = add-mod_right n m ∙ mod-eq_of_lt h
 
-halves_lem : (a b : ℕ) → a < 2 ^ 128 → b < 2 ^ 128 → (a + (2 ^ 128 - b)) % 2 ^ 128 % 2 ^ 64 ≡ (a % 2 ^ 64 + (2 ^ 64 - b % 2 ^ 64)) % 2 ^ 64
+wrapped_above : (m a b : ℕ) → a < m → b < m → a ≢ b → 0 < (a + (m - b)) % m
+wrapped_above m a b fits_a fits_b apart = by_order (cases_lt a b)
+  where
+    by_order : (a < b) ⊎ (b ≤ a) → 0 < (a + (m - b)) % m
+    by_order (inl h) = subst (λ n. 0 < n) (sym (mod-eq_of_lt (omega arith))) (omega arith)
+    by_order (inr h) =
+        let some : ¬ (a - b ≡ 0) = λ e. apart (omega arith) in
+        let sum : a + (m - b) ≡ (a - b) + m = omega arith in
+        let same : (a + (m - b)) % m ≡ a - b =
+        ap (λ x. x % m) sum ∙ wrap_lem (a - b) m (omega arith) in
+        subst (λ n. 0 < n) (sym same) (omega arith)
+
+pub difference_part : (w : Width) (a b : ℕ) → a < 2 ^ bits w → b < 2 ^ bits w → a ≢ b
+    → IsOddPart (abs_diff a b)
+    (abs_diff a b / 2 ^ trailing_zeros w ((a + (2 ^ bits w - b)) % 2 ^ bits w))
+difference_part w a b fits_a fits_b apart =
+    let n : ℕ = (a + (2 ^ bits w - b)) % 2 ^ bits w in
+    let above : 0 < n = wrapped_above (2 ^ bits w) a b fits_a fits_b apart in
+    let fits : n < 2 ^ bits w = mod-lt (a + (2 ^ bits w - b)) (pow_pos (bits w)) in
+    let bit = bit_at-trailing_zeros w n above fits in
+    difference_by w a b (trailing_zeros w n) (n / 2 ^ trailing_zeros w n) fits_a fits_b bit.0 bit.1
+    (zeros_whole w n above fits)
+
+-- ---- the same by the zeros of the low halves' difference
+
+halves_lem : (a b : ℕ) → a < 2 ^ 128 → b < 2 ^ 128
+    → (a + (2 ^ 128 - b)) % 2 ^ 128 % 2 ^ 64 ≡ (a % 2 ^ 64 + (2 ^ 64 - b % 2 ^ 64)) % 2 ^ 64
 halves_lem a b h l = omega arith
 
 more_lem : (q h m p : ℕ) → q * ((h * 2) * p) + m * p ≡ (q * h * 2 + m) * p
@@ -202,7 +206,10 @@ more_lem q h m p = omega arith
 still_odd : (n m : ℕ) → m % 2 ≡ 1 → (n * 2 + m) % 2 ≡ 1
 still_odd n m odd = omega arith
 
-pub difference_part_by_halves : (a b x y : ℕ) → a < 2 ^ 128 → b < 2 ^ 128 → x ≡ a % 2 ^ 64 → y ≡ b % 2 ^ 64 → ¬ ((x + (2 ^ 64 - y)) % 2 ^ 64 ≡ 0) → IsOddPart (abs_diff a b) (abs_diff a b / 2 ^ trailing_zeros w64 ((x + (2 ^ 64 - y)) % 2 ^ 64))
+pub difference_part_by_halves : (a b x y : ℕ) → a < 2 ^ 128 → b < 2 ^ 128 → x ≡ a % 2 ^ 64
+    → y ≡ b % 2 ^ 64 → ¬ ((x + (2 ^ 64 - y)) % 2 ^ 64 ≡ 0)
+    → IsOddPart (abs_diff a b)
+    (abs_diff a b / 2 ^ trailing_zeros w64 ((x + (2 ^ 64 - y)) % 2 ^ 64))
 difference_part_by_halves a b x y fits_a fits_b x_is y_is some =
     let low : ℕ = (x + (2 ^ 64 - y)) % 2 ^ 64 in
     let n : ℕ = (a + (2 ^ 128 - b)) % 2 ^ 128 in
