@@ -10,7 +10,7 @@ use Rattle.aff_core.specs.Address.{Address, address_eq, address_eq-Decides}
 use Rattle.aff_core.specs.Points.{unit}
 use Rattle.linear_laws.specs.SupportLaws.{count}
 use Rattle.linear_laws.specs.UnitLaws.{same_or_other, unit_other, unit_same}
-use Rattle.fresh_bridging.specs.EachLaws.{all_first, all_second}
+use Rattle.map_laws.specs.EachLaws.{all_first, all_second, contains_here, contains_later}
 
 -- the address isn't in the list
 abbrev pub Avoids : List Address → Address → Type 0
@@ -22,13 +22,6 @@ Distinct [] = Unit {0}
 Distinct (k ∷ keys) = Avoids keys k × Distinct keys
 
 -- ---- in the list or not
-
-pub contains_here : (v : Address) (keys : List Address) → Contains (v ∷ keys) v
-contains_here v keys = (0, omega arith, refl)
-
-pub contains_later : (k v : Address) (keys : List Address) → Contains keys v
-    → Contains (k ∷ keys) v
-contains_later k v keys c = (suc c.0, omega (arith, c.1), c.2)
 
 pub in_or_not : (keys : List Address) (v : Address) → Contains keys v ⊎ Avoids keys v
 in_or_not [] v = inr (All-nil (λ k. ¬ (k ≡ v)))

@@ -3,6 +3,7 @@
 use Rattle.std.specs.Prelude.{◌≡◌, ℕ, Bool, true, false, ◌&&◌, not, refl}
 use Rattle.std.proofs.Common.{sym, ap, ◌∙◌, true≢false}
 use Rattle.std.specs.List.{list_all}
+use Rattle.map_laws.specs.EachLaws.{all_at}
 use Rattle.bridge_graph.specs.Hypergraph.{IsCostly}
 use Rattle.bridge_graph.specs.declared.Choice.{Choice}
 use Rattle.bridge_graph.specs.declared.Choice.TheVariants.{By}
@@ -19,7 +20,7 @@ use Rattle.item_core.specs.Edge.{family_of}
 use Rattle.item_core.specs.Kind.{kind_number}
 use Rattle.item_core.specs.KindOf.{kind_of_body, affine_kind_of, group_kind_of, plain_kind_of}
 use Rattle.fresh_bridging.specs.CanLaws.{AreLawful, Can, down, same_entry}
-use Rattle.fresh_bridging.specs.TableLaws.{and_first, and_second, at_all}
+use Rattle.fresh_bridging.specs.TableLaws.{and_first, and_second}
 use Rattle.fresh_bridging.specs.TheRules.{AreChoices, Setting, edge_at, graph_of}
 use Rattle.address_laws.specs.PutLaws.{class_of}
 use Rattle.set_core.specs.declared.set.Set.TheVariants as set
@@ -132,7 +133,7 @@ module _ (setting : Setting) (costly : IsCostly (graph_of setting)) (choice : �
       sym (class_by_kind item.body)
       ∙ ap class_of_kind (down setting costly choice chosen lawful item can n e).source
       ∙ same_class_is (class_of_kind entry.source) (class_of_family entry.family)
-      (at_all leads_from_its_own EDGES n entry all_lead
+      (all_at leads_from_its_own EDGES n entry all_lead
       (down setting costly choice chosen lawful item can n e).is_entry.here)
       ∙ sym (ap (λ x. class_of_family x.family)
       (same_entry setting costly choice chosen lawful item can n e))

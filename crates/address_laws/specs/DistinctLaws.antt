@@ -24,7 +24,7 @@ use Rattle.user_model.specs.declared.objective.Objective.{Objective}
 use Rattle.user_model.specs.declared.objective.Objective.TheVariants as objective
 use Rattle.user_model.specs.declared.row.Row.{Row}
 use Rattle.fresh_bridging.specs.CanLaws.{AreLawful, Can}
-use Rattle.fresh_bridging.specs.EachLaws.{all_both}
+use Rattle.map_laws.specs.EachLaws.{all_both}
 use Rattle.fresh_bridging.specs.Entries.{put_in}
 use Rattle.fresh_bridging.specs.ExistenceLaws.{groups_can_all, others_can_all, trees_of_bridged}
 use Rattle.fresh_bridging.specs.FreshBridging.{FreshBridging, HasTree}

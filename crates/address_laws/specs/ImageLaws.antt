@@ -6,6 +6,7 @@ use Rattle.std.specs.List.{list_all, enumerate_from}
 use Rattle.std.proofs.lemmas.List.{append-nil}
 use Rattle.std.proofs.lemmas.List.Elements.{All-append, All-cons, All-head, All-nil, All-tail, All-weaker}
 use Rattle.std.proofs.lemmas.List.Sums.{AllPass-from_list_all}
+use Rattle.std.proofs.lemmas.Bool.{not-true}
 use Rattle.bridge_graph.specs.Hypergraph.{IsCostly}
 use Rattle.bridge_graph.specs.declared.Choice.{Choice}
 use Rattle.bridge_graph.specs.declared.Choice.TheVariants.{By}
@@ -182,10 +183,6 @@ objective_by family.ObjSlack edge item = record { child = _; is = refl; objectiv
 objective_by family.NormInfinity edge item = refl
 objective_by family.NormOne edge item = refl
 
-not_so : (b : Bool) → not b ≡ true → b ≡ false
-not_so true h = absurd (true≢false (sym h))
-not_so false h = refl
-
 -- ---- rows of a group name the variables of its child groups alone
 
 pub variables_miss : (vars : List Address) (v : Address) → Avoids vars v
@@ -292,7 +289,7 @@ module _ (setting : Setting) (costly : IsCostly (graph_of setting)) (choice : �
   pub rows_alone : All (λ c. is_objective c.body ≡ false) image.rows
   rows_alone =
       All-weaker (λ c. IsRow c.body) (λ c. is_objective c.body ≡ false)
-      (λ c h. not_so (is_objective c.body)
+      (λ c h. not-true (is_objective c.body)
       (and_second (not (is_group c.body)) (not (is_objective c.body)) h))
       image.rows rows_are
 
@@ -313,7 +310,7 @@ module _ (setting : Setting) (costly : IsCostly (graph_of setting)) (choice : �
   others_alone =
       All-append (λ c. is_group c.body ≡ false) image.rows (listed image.objective)
       (All-weaker (λ c. IsRow c.body) (λ c. is_group c.body ≡ false)
-      (λ c h. not_so (is_group c.body)
+      (λ c h. not-true (is_group c.body)
       (and_first (not (is_group c.body)) (not (is_objective c.body)) h))
       image.rows rows_are)
       (by (is_objective item.body) refl)

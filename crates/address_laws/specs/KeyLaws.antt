@@ -18,7 +18,7 @@ use Rattle.item_core.specs.Valid.{below}
 use Rattle.bridge_face.specs.ImageOf.{image_of}
 use Rattle.bridge_face.specs.Law.{EdgeLaw, HasComponents, listed}
 use Rattle.fresh_bridging.specs.CanLaws.{AreLawful, Can, law, rank_of}
-use Rattle.fresh_bridging.specs.EachLaws.{StandsFrom, all_both, all_first, all_second, stand_from}
+use Rattle.map_laws.specs.EachLaws.{StandsFrom, all_both, all_first, all_second, stand_from}
 use Rattle.fresh_bridging.specs.Entries.{Entry, put_in}
 use Rattle.fresh_bridging.specs.ExistenceLaws.{ranked}
 use Rattle.fresh_bridging.specs.OmitLaws.{IsBelow, IsBelowAt, apart, groups_are}

@@ -3,11 +3,12 @@ use Rattle.std.specs.Prelude.{◌≡◌, ◌+◌, ℕ, List, [], ◌∷◌, ◌+
 use Rattle.std.specs.List.{range_with_len}
 use Rattle.std.proofs.Common.{arith, ap, ◌∙◌}
 use Rattle.std.proofs.lemmas.List.Elements.{All-cons, All-head, All-nil, All-tail, All-weaker}
+use Rattle.bridge_face.specs.ComponentLaws.{below_child}
 use Rattle.aff_core.specs.Address.{Address, child_of}
 use Rattle.item_core.specs.declared.item.Item.{Item}
 use Rattle.item_core.specs.Valid.{below}
-use Rattle.fresh_bridging.specs.EachLaws.{StandsFrom, all_both, all_first, all_second, stand_from}
-use Rattle.fresh_bridging.specs.OmitLaws.{IsBelow, IsBelowAt, apart, below_child}
+use Rattle.map_laws.specs.EachLaws.{StandsFrom, all_both, all_first, all_second, stand_from}
+use Rattle.fresh_bridging.specs.OmitLaws.{IsBelow, IsBelowAt, apart}
 
 abbrev pub AreApart : (Item → Address → Type 0) → List Item → Type 0
 AreApart Of [] = Unit {0}

@@ -3,6 +3,7 @@ use Rattle.std.specs.Prelude.{◌≡◌, ◌≢◌, ℕ, Bool, true, false, cond
 use Rattle.std.proofs.Common.{arith, sym, ap, ◌∙◌}
 use Rattle.std.proofs.lemmas.Bool.Decides.{nat_tests}
 use Rattle.std.proofs.lemmas.Option.{none-some, same_Some}
+use Rattle.std.proofs.lemmas.Bool.{eqb-true, ne_eqb}
 use Rattle.std.specs.FinMap as finite
 use Rattle.std.specs.Ordering.{eq_by_cmp}
 use Rattle.aff_core.specs.Address.{Address, address_cmp, address_total}
@@ -10,14 +11,8 @@ use Rattle.aff_core.specs.KeyOrder.{address_order, other_key, same_key, same_or_
 use Rattle.address_map.specs.KeptPlaces.{AreInverse}
 use Rattle.address_map.specs.Places.{Indices, IsFree, IsOneToOne}
 
-same_index : (i j : ℕ) → nat_eq i j ≡ true → i ≡ j
-same_index i j e = grind (arith, nat_tests)
-
 index_itself : (i : ℕ) → nat_eq i i ≡ true
 index_itself i = grind (arith, nat_tests)
-
-other_index : (i j : ℕ) → i ≢ j → nat_eq i j ≡ false
-other_index i j n = grind (arith, nat_tests)
 
 module _ (m : Indices) (back : ℕ → Option Address) (inverse : AreInverse (finite.get m) back) where
   pub one_to_one : IsOneToOne m
@@ -51,7 +46,7 @@ module _ (m : Indices) (back : ℕ → Option Address) (inverse : AreInverse (fi
           there n =
               let old : finite.get m q ≡ Some j = sym (ap (λ b. cond b (Some i) (finite.get m q)) (other_key address_order q at n)) ∙ got in
               let apart : i ≢ j = λ s. i_free q (old ∙ ap Some (sym s)) in
-              put j ∙ ap (λ b. cond b (Some at) (back j)) (other_index i j apart) ∙ inverse.leads q j old
+              put j ∙ ap (λ b. cond b (Some at) (back j)) (ne_eqb i j apart) ∙ inverse.leads q j old
 
       returns : (q : Address) (j : ℕ) → after j ≡ Some q → finite.get (finite.insert m at i) q ≡ Some j
       returns q j e = by (nat_eq i j) refl
@@ -61,7 +56,7 @@ module _ (m : Indices) (back : ℕ → Option Address) (inverse : AreInverse (fi
               let key : at ≡ q = same_Some at q (sym (put j ∙ ap (λ b. cond b (Some at) (back j)) t) ∙ e) in
               finite.get-insert address_total m at i q
               ∙ ap (λ b. cond b (Some i) (finite.get m q)) (ap (λ x. eq_by_cmp address_cmp x at) (sym key) ∙ same_key address_order at)
-              ∙ ap Some (same_index i j t)
+              ∙ ap Some (eqb-true i j t)
           by false t =
               let old : finite.get m q ≡ Some j = inverse.returns q j (sym (put j ∙ ap (λ b. cond b (Some at) (back j)) t) ∙ e) in
               let apart : ¬ (q ≡ at) = λ s. none-some j (sym at_free ∙ (ap (finite.get m) (sym s) ∙ old)) in
@@ -86,7 +81,7 @@ module _ (m : Indices) (back : ℕ → Option Address) (inverse : AreInverse (fi
           there n =
               let old : finite.get m q ≡ Some j = sym (ap (λ b. cond b None (finite.get m q)) (other_key address_order q at n)) ∙ got in
               let apart : i ≢ j = λ s. n (one_to_one q at j old (has ∙ ap Some s)) in
-              taken j ∙ ap (λ b. cond b None (back j)) (other_index i j apart) ∙ inverse.leads q j old
+              taken j ∙ ap (λ b. cond b None (back j)) (ne_eqb i j apart) ∙ inverse.leads q j old
 
       returns : (q : Address) (j : ℕ) → after j ≡ Some q → finite.get (finite.remove m at) q ≡ Some j
       returns q j e = by (nat_eq i j) refl

@@ -6,6 +6,7 @@ use Rattle.std.proofs.lemmas.List.{length-append, length-drop, length-map, lengt
 use Rattle.ratio_core.specs.Folds.{sum_from}
 use Rattle.ratio_core.specs.Rational.{Rational, neg_ℚ, zero_ℚ}
 use Rattle.rational_laws.specs.Dot.{negated, plus}
+use Rattle.rational_laws.specs.DotLaws.{length-negated, length-plus}
 use Rattle.aff_core.specs.Address.{Address, address_cmp, child_of}
 use Rattle.aff_core.specs.Arithmetic.{sum_of}
 use Rattle.aff_core.specs.Function.{Function, negated as negated_function, variable}
@@ -30,6 +31,7 @@ use Rattle.bridge_face.specs.ImageOf.{differences, image_by, inner, inner_functi
 use Rattle.bridge_face.specs.Images.{affine, children_from, component_of, difference, each_component, first_in, lower_part, rest_of, upper_part, with_set}
 use Rattle.bridge_face.specs.Law.{is_objective}
 use Rattle.bridge_face.specs.RowsLaws.{length-children_from}
+use Rattle.bridge_face.specs.FamilyLaws.{length-tail}
 use Rattle.address_laws.specs.ClassLaws.{class_of_family}
 
 -- ---- rows of numbers alone, by their kinds
@@ -84,22 +86,11 @@ one_component (AffineObj sense func) h f e = absurd (true≢false h.no_objective
 
 -- ---- lengths
 
-length-negated : (v : List Rational) → length (negated v) ≡ length v
-length-negated v = length-map v neg_ℚ
-
-length-plus : (u v : List Rational) (n : ℕ) → length u ≡ n → length v ≡ n → length (plus u v) ≡ n
-length-plus [] v n a b = a
-length-plus (p ∷ u) [] n a b = absurd (omega (arith, a, b))
-length-plus (p ∷ u) (q ∷ v) (suc n) a b =
-    ap suc (length-plus u v n (omega (arith, a)) (omega (arith, b)))
-length-plus (p ∷ u) (q ∷ v) zero a b = absurd (omega (arith, a))
-
 -- of a list of 2 n numbers
 length-across : (n : ℕ) (y : List Rational) → length y ≡ n + n → length (across n y) ≡ n
 length-across n y e =
-    length-plus (drop n y) (negated (take n y)) n
-    (omega (arith, length-drop n y, e))
-    (length-negated (take n y) ∙ length-take-le n y (omega (arith, e)))
+    let long = length-negated (take n y) ∙ length-take-le n y (omega (arith, e)) in
+    length-plus (drop n y) (negated (take n y)) (omega (arith, length-drop n y, e, long)) ∙ long
 
 nothing_there : {A : Type 0} {x : A} {xs : List A} → [] ≡ x ∷ xs → ⊥
 nothing_there e = cc
@@ -116,10 +107,6 @@ both_sizes (y ∷ []) n m e = absurd (nothing_there (second e))
     second : length y ∷ [] ≡ n ∷ (m ∷ []) → [] ≡ m ∷ []
     second k = cc
 both_sizes (y ∷ (z ∷ zs)) n m e = (cc, cc)
-
-length-tail : (y : List Rational) (n : ℕ) → length y ≡ suc n → length (tail_of y) ≡ n
-length-tail [] n e = absurd (omega (arith, e))
-length-tail (r ∷ y) n e = omega (arith, e)
 
 length-rest : (fs : List Function) → 1 ≤ length fs → suc (length (rest_of fs)) ≡ length fs
 length-rest [] h = absurd (omega (arith, h))
@@ -306,9 +293,10 @@ back_size family.VectorSlack edge item h ys e =
     (sym (inner_size item (size item)))
 back_size family.SplitSet edge item h ys e =
     let sizes = both_sizes ys _ _ e in
-    length-plus (first_of ys) (second_of ys) (size item)
-    (sizes.0 ∙ ap length (with_set_functions item.body (lower_part (set_of item.body)) h.row))
-    (sizes.1 ∙ ap length (with_set_functions item.body (upper_part (set_of item.body)) h.row))
+    let first = ap length (with_set_functions item.body (lower_part (set_of item.body)) h.row) in
+    let second = ap length (with_set_functions item.body (upper_part (set_of item.body)) h.row) in
+    length-plus (first_of ys) (second_of ys) (sizes.0 ∙ first ∙ sym (sizes.1 ∙ second))
+    ∙ sizes.1 ∙ second
 back_size family.Scalarize edge item h ys e =
     let part = component_of (set_of item.body) in
     length-joined ys (each_component item.body part) (e ∙ ones item.body part item 0)

@@ -6,7 +6,7 @@ use Rattle.aff_core.specs.Address.{Address}
 use Rattle.expansion.specs.Bridged.{Bridged, EachBridged, EachBridgedIn, by, each, each_in, natively, none, none_in}
 use Rattle.expansion.specs.Rules.{Rules}
 use Rattle.item_core.specs.declared.item.Item.{Item}
-use Rattle.fresh_bridging.specs.EachLaws.{all_both}
+use Rattle.map_laws.specs.EachLaws.{all_both}
 use Rattle.fresh_bridging.specs.Entries.{Entry}
 use Rattle.address_laws.specs.Apart.{Avoids, Distinct}
 use Rattle.address_laws.specs.Keys.{keys, keys_in, keys_of_each}

@@ -4,6 +4,7 @@ use Rattle.std.proofs.Common.{ap, drop, get_or, inl, inr, subst, sym, ◌∙◌}
 use Rattle.std.proofs.Math.ListN.{drop_of_length-le}
 use Rattle.std.proofs.lemmas.List.{take_all}
 use Rattle.std.proofs.lemmas.List.Elements.{All-cons, All-nil}
+use Rattle.map_laws.specs.LoopLaws.{map-take_more}
 use Rattle.aff_core.specs.Address.{Address}
 use Rattle.aff_core.specs.Arithmetic.{ExactWhere as SumExactWhere}
 use Rattle.aff_core.specs.declared.fault.AffFault.{AffFault}
@@ -11,7 +12,7 @@ use Rattle.aff_core.specs.declared.fault.AffFault.TheVariants as sum
 use Rattle.cert_core.specs.Answers.{ExactWhere}
 use Rattle.cert_core.specs.declared.fault.CheckFault.{CheckFault}
 use Rattle.cert_core.specs.declared.fault.CheckFault.TheVariants as check
-use Rattle.cert_core.proofs.Steps.{map-take_more, next_item}
+use Rattle.cert_core.proofs.Steps.{next_item}
 use Rattle.adjoint_core.specs.Told.{FirstNot, Tells, TellsAt, check_told, sum_told}
 use Rattle.adjoint_core.specs.declared.fault.BackFault.{BackFault}
 use Rattle.adjoint_core.specs.declared.fault.BackFault.TheVariants.{Memory, Overflow}

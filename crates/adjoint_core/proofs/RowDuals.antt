@@ -18,7 +18,7 @@ use Rattle.bridge_plan.specs.Adds.{kept_of}
 use Rattle.cert_core.specs.Checked.{HasEachDual, HasRowDuals}
 use Rattle.certificates.specs.Duals.{rows_with}
 use Rattle.equality_form.specs.ReadBack.{Answer}
-use Rattle.fresh_bridging.specs.EachLaws.{all_both, all_first, all_from_map, all_second}
+use Rattle.map_laws.specs.EachLaws.{all_both, all_first, all_from_map, all_second}
 use Rattle.fresh_bridging.specs.FreshBridging.{FreshBridging, leaves_of}
 use Rattle.fresh_bridging.specs.Leaves.{leaf_rows}
 use Rattle.fresh_bridging.specs.ModelImage.{objective_items, row_item}

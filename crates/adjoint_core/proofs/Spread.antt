@@ -11,6 +11,7 @@ use Rattle.std.proofs.Common.{arith, ap, sym, ◌∙◌}
 use Rattle.std.proofs.lemmas.List.Elements.{All-cons, All-nil}
 use Rattle.std.proofs.lemmas.List.Kept.{AllPairs-cons}
 use Rattle.std.proofs.lemmas.Option.{none-some, same_Some}
+use Rattle.map_laws.specs.TestLaws.{first, is_less, second}
 use Rattle.ratio_core.specs.Rational.{Rational, zero_ℚ}
 use Rattle.address_map.specs.AddressMap.{AddressMap}
 use Rattle.address_map.specs.Places.{Indices}
@@ -66,19 +67,6 @@ not_past [] n is lt = omega (arith, lt)
 not_past (y ∷ xs) zero is lt = none-some y (sym is)
 not_past (y ∷ xs) (suc n) is lt = not_past xs n is (omega (arith, lt))
 
-first_of_both : (a b : Bool) → T (a && b) → T a
-first_of_both true b h = tt
-first_of_both false b h = h
-
-second_of_both : (a b : Bool) → T (a && b) → T b
-second_of_both true b h = h
-second_of_both false b h = absurd h
-
-less_of : (o : Ordering) → T (is_lt o) → o ≡ Less
-less_of Less h = refl
-less_of Equal h = absurd h
-less_of Greater h = absurd h
-
 abbrev IsBelow : Address → Address → Type 0
 IsBelow u w = address_cmp u w ≡ Less
 
@@ -87,9 +75,9 @@ all_above : {X : Type 0} (k : Address) (es : List (Address × X)) → T (below_a
 all_above k [] h = All-nil (IsBelow k)
 all_above k (e ∷ es) h =
     All-cons (IsBelow k) e.0 (map (λ e. e.0) es)
-    (less_of (address_cmp k e.0)
-    (first_of_both (is_lt (address_cmp k e.0)) (below_all address_cmp k es) h))
-    (all_above k es (second_of_both (is_lt (address_cmp k e.0)) (below_all address_cmp k es) h))
+    (is_less (address_cmp k e.0)
+    (first (is_lt (address_cmp k e.0)) (below_all address_cmp k es) h))
+    (all_above k es (second (is_lt (address_cmp k e.0)) (below_all address_cmp k es) h))
 
 all_pairs : {X : Type 0} (es : List (Address × X)) → T (is_sorted address_cmp es)
     → AllPairs IsBelow (map (λ e. e.0) es)
@@ -97,8 +85,8 @@ all_pairs [] h = λ i j d a b. absurd (omega (arith, b))
 all_pairs (e ∷ es) h =
     AllPairs-cons IsBelow e.0 (map (λ e. e.0) es)
     (all_above e.0 es
-    (first_of_both (below_all address_cmp e.0 es) (is_sorted address_cmp es) h))
-    (all_pairs es (second_of_both (below_all address_cmp e.0 es) (is_sorted address_cmp es) h))
+    (first (below_all address_cmp e.0 es) (is_sorted address_cmp es) h))
+    (all_pairs es (second (below_all address_cmp e.0 es) (is_sorted address_cmp es) h))
 
 pub keys_ascend : (m : Indices) → Ascend (finite.keys m)
 keys_ascend m =

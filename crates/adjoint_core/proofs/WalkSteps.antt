@@ -10,7 +10,7 @@ use Rattle.ratio_core.specs.Rational.{Rational}
 use Rattle.aff_core.specs.Address.{Address, child_of}
 use Rattle.aff_core.specs.Arithmetic.{ExactWhere}
 use Rattle.aff_core.specs.declared.fault.AffFault.{AffFault}
-use Rattle.bridge_face.specs.AnsweredLaws.{exact_as, passed_on}
+use Rattle.aff_core.specs.AnsweredLaws.{exact_as, passed_on}
 use Rattle.bridge_face.specs.BackOf.{BackFits, back_of}
 use Rattle.bridge_face.specs.State.{IsDualOf, State, TakesDuals, child_rows_of}
 use Rattle.bridge_face.specs.declared.child_rows.ChildRows.{ChildRows}

@@ -31,10 +31,11 @@ use Rattle.boxes.specs.Boxed.{families_of}
 use Rattle.bridge_plan.specs.Adds.{kept_of}
 use Rattle.fresh_bridging.specs.BodyLaws.{length_put}
 use Rattle.fresh_bridging.specs.CanLaws.{AreLawful, down, same_entry}
-use Rattle.fresh_bridging.specs.EachLaws.{all_first, all_from_map, all_second}
+use Rattle.map_laws.specs.EachLaws.{all_at, all_first, all_from_map, all_second, cons_head, cons_tail}
+use Rattle.map_laws.specs.TestLaws.{implied}
 use Rattle.fresh_bridging.specs.Entries.{Entry, put_in}
 use Rattle.fresh_bridging.specs.Leaves.{leaf_rows}
-use Rattle.fresh_bridging.specs.TableLaws.{and_second, at_all}
+use Rattle.fresh_bridging.specs.TableLaws.{and_second}
 use Rattle.fresh_bridging.specs.RankingLaws.{LeadsDown}
 use Rattle.fresh_bridging.specs.TheRules.{AreChoices, Setting, edge_at, family_number, graph_of, is_usable, rules_by}
 use Rattle.address_laws.specs.ClassLaws.{item_class}
@@ -62,10 +63,6 @@ all_tell_numbers = refl
 all_tell_vectors : list_all tells_vectors EDGES ≡ true
 all_tell_vectors = refl
 
-implied : (a b : Bool) → (not a || b) ≡ true → a ≡ true → b ≡ true
-implied true b h e = h
-implied false b h e = absurd (true≢false (sym e))
-
 barred : (a b : Bool) → (not a || not b) ≡ true → a ≡ true → b ≡ false
 barred true true h e = absurd (true≢false (sym h))
 barred true false h e = refl
@@ -73,20 +70,14 @@ barred false b h e = absurd (true≢false (sym e))
 
 -- ---- places
 
-first_same : {B : Type 0} (a b : B) (xs ys : List B) → a ∷ xs ≡ b ∷ ys → a ≡ b
-first_same a b xs ys e = cc
-
-rest_same : {B : Type 0} (a b : B) (xs ys : List B) → a ∷ xs ≡ b ∷ ys → xs ≡ ys
-rest_same a b xs ys e = cc
-
 first_places : {A B : Type 0} (f : A → B) (g : ℕ → B) (ys zs : List A) (low : ℕ)
     → map f (ys ++ zs) ≡ map g (range_with_len low (length (ys ++ zs)))
     → map f ys ≡ map g (range_with_len low (length ys))
 first_places f g [] zs low e = refl
 first_places f g (y ∷ ys) zs low e =
-    ap₂ ◌∷◌ (first_same (f y) (g low) (map f (ys ++ zs))
+    ap₂ ◌∷◌ (cons_head (f y) (g low) (map f (ys ++ zs))
     (map g (range_with_len (low + 1) (length (ys ++ zs)))) e)
-    (first_places f g ys zs (low + 1) (rest_same (f y) (g low) (map f (ys ++ zs))
+    (first_places f g ys zs (low + 1) (cons_tail (f y) (g low) (map f (ys ++ zs))
     (map g (range_with_len (low + 1) (length (ys ++ zs)))) e))
 
 -- the middle of three lists that stand at numbers from one on
@@ -99,7 +90,7 @@ middle_places f g [] ys zs low from is e =
     first_places f g ys zs low e ∙ ap (λ n. map g (range_with_len n (length ys))) start
 middle_places f g (x ∷ xs) ys zs low from is e =
     middle_places f g xs ys zs (low + 1) from (omega (arith, is))
-    (rest_same (f x) (g low) (map f (xs ++ (ys ++ zs)))
+    (cons_tail (f x) (g low) (map f (xs ++ (ys ++ zs)))
     (map g (range_with_len (low + 1) (length (xs ++ (ys ++ zs))))) e)
 
 child_depth : (at : Address) (i : ℕ)
@@ -316,12 +307,12 @@ module _ (setting : Setting) (costly : IsCostly (graph_of setting)) (choice : �
       numbers = λ f.
           ap is_scalar_kind leads.source
           ∙ implied (is_of_numbers leads.entry.family) (is_scalar_kind leads.entry.source)
-          (at_all tells_numbers EDGES n leads.entry all_tell_numbers leads.is_entry.here)
+          (all_at tells_numbers EDGES n leads.entry all_tell_numbers leads.is_entry.here)
           (sym (ap (λ (x : EdgeEntry). is_of_numbers x.family) same) ∙ f);
       vectors = λ f.
           ap is_scalar_kind leads.source
           ∙ barred (is_of_vectors leads.entry.family) (is_scalar_kind leads.entry.source)
-          (at_all tells_vectors EDGES n leads.entry all_tell_vectors leads.is_entry.here)
+          (all_at tells_vectors EDGES n leads.entry all_tell_vectors leads.is_entry.here)
           (sym (ap (λ (x : EdgeEntry). is_of_vectors x.family) same) ∙ f);
     }
 

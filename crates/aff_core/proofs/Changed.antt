@@ -1,18 +1,15 @@
 -- A term put among others or taken from them, at its place.
-use Rattle.std.specs.Prelude.{◌≡◌, ◌≢◌, ℕ, zero, suc, ◌+◌, ◌-◌, ◌<◌, ◌≤◌, true, cond, List, [], ◌∷◌, ◌++◌, take, drop, length, filter, slice_index_or, Result, Ok, Err, MatchResult, refl}
+use Rattle.std.specs.Prelude.{◌≡◌, ◌≢◌, ℕ, ◌+◌, ◌-◌, ◌<◌, ◌≤◌, true, cond, List, [], ◌∷◌, ◌++◌, take, drop, length, filter, slice_index_or, Result, Ok, Err, MatchResult}
 use Rattle.std.proofs.Common.{arith, add-one, sym, ap, subst, ◌∙◌}
 use Rattle.std.proofs.lemmas.List.{length-drop}
 use Rattle.std.proofs.Math.Seq.{take-length}
 use Rattle.std.proofs.lemmas.List.Elements.{All-take, All-drop, filter-append}
 use Rattle.std.proofs.lemmas.List.Sums.{AllPass-from_list_all, list_all-from_AllPass}
-use Rattle.std.specs.Ordering.{ordering_reverse}
-use Rattle.std.specs.declared.cmp.Ordering.{Ordering}
 use Rattle.std.specs.declared.cmp.Ordering.TheVariants.{Less, Equal, Greater}
-use Rattle.std.specs.Cmp.{IsTotalOrder}
-use Rattle.std.specs.FinMap.{IsAntisymmetric, entries, entries_sorted, insert, entries-insert}
-use Rattle.std.specs.FinMap.Entries.{put, by_order}
+use Rattle.std.specs.FinMap.{entries, entries_sorted, insert, entries-insert}
 use Rattle.std.specs.List.Sorted.{IsBinarySearchResult, IsSearchInRange}
 use Rattle.std.proofs.lemmas.List.Sorted.{searchable_from_sorted}
+use Rattle.rational_laws.specs.Tests.{nonzero_test, zero_test}
 use Rattle.ratio_core.specs.Rational.{Rational, zero_ℚ}
 use Rattle.aff_core.specs.Address.{Address, address_cmp, address_total, exact_addresses}
 use Rattle.aff_core.specs.Function.{Function, function_of, terms_of, with_coefficient}
@@ -21,7 +18,7 @@ use Rattle.aff_core.specs.Terms.{HaveNoZero, is_nonzero}
 use Rattle.aff_core.specs.Rising.{RiseStrictly}
 use Rattle.map_laws.specs.EntryLaws.{ascending, key_less}
 use Rattle.map_laws.specs.PutLaws.{Within, put_gap, put_place}
-use Rattle.aff_core.specs.FunctionLaws.{entries_rise, filter_nonzero, filter_rises, function_of-filter, nonzero-filter, nonzero_test, zero_test}
+use Rattle.aff_core.specs.FunctionLaws.{entries_rise, filter_nonzero, filter_rises, function_of-filter, nonzero-filter}
 
 -- the items of a slice from a place on
 pub rest_of : {X : Type 0} (xs : List X) (i : ℕ) → take (length xs - i) (drop i xs) ≡ drop i xs

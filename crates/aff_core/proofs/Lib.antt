@@ -1,4 +1,3 @@
-mod Answered
 mod Changed
 mod Padding
 mod Rising

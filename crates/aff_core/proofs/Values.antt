@@ -1,22 +1,12 @@
 -- The value of a function, step by step.
-use Rattle.std.specs.Prelude.{◌≡◌, ℕ, ◌+◌, ◌<◌, List, [], ◌∷◌, ◌++◌, map, take, length, Option, Some, unwrap_or, refl}
+use Rattle.std.specs.Prelude.{◌≡◌, List, [], ◌∷◌, Option, Some, unwrap_or, refl}
 use Rattle.std.specs.Borrow.{Bor}
 use Rattle.std.specs.Option.{option_copied}
 use Rattle.std.specs.FinMap.{FinMap, get}
-use Rattle.std.proofs.Common.{get_or, drop, sym, ap, subst, ◌∙◌}
-use Rattle.std.proofs.lemmas.List.{drop_more, take_more, map-append}
+use Rattle.std.proofs.Common.{sym, ap, subst, ◌∙◌}
 use Rattle.ratio_core.specs.Rational.{Rational, ◌+ℚ◌, ◌*ℚ◌}
 use Rattle.aff_core.specs.Address.{Address, address_cmp}
 use Rattle.aff_core.specs.Terms.{StepFits, ValueFits, value_from}
-
--- what is left begins with the item that is read
-pub next_term : {X : Type 0} (ts es : List X) (i : ℕ) (t : X) → es ≡ ts → t ≡ get_or es i t → i < length es → drop i ts ≡ t ∷ drop (i + 1) ts
-next_term ts es i t e is lt =
-    drop_more ts i t (subst (λ l. i < length l) e lt) ∙ ap (λ u. u ∷ drop (i + 1) ts) (ap (λ l. get_or l i t) (sym e) ∙ sym is)
-
--- one more of a list that is gone through
-pub map-take_more : {X Y : Type 0} (f : X → Y) (xs : List X) (i : ℕ) (x : X) → x ≡ get_or xs i x → i < length xs → map f (take (i + 1) xs) ≡ map f (take i xs) ++ f x ∷ []
-map-take_more f xs i x is lt = ap (map f) (take_more xs i x lt) ∙ map-append f (take i xs) (get_or xs i x ∷ []) ∙ ap (λ y. map f (take i xs) ++ f y ∷ []) (sym is)
 
 -- what stands at a key that was looked up
 pub found_is : {V : Type 0} (m : FinMap address_cmp V) (at : Address) (o : Option (Bor V)) (n : Bor V) (d : V) → option_copied o ≡ get m at → o ≡ Some n → n.now ≡ unwrap_or (get m at) d

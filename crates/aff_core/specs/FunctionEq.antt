@@ -3,9 +3,10 @@ use Rattle.std.specs.Prelude.{◌≡◌, Bool, ◌&&◌}
 use Rattle.std.proofs.Common.{ap}
 use Rattle.std.specs.Bool.{Decides}
 use Rattle.std.specs.Ordering.{eq_by_cmp}
-use Rattle.std.specs.Cmp.{IsEquivalence, IsPartialEquivalence, decided, partial_equiv_from_equiv, first_so, second_so}
+use Rattle.std.specs.Cmp.{IsEquivalence, IsPartialEquivalence, decided, partial_equiv_from_equiv}
 use Rattle.std.specs.Cmp.Lexicographic.{pointwise, pointwise_decides}
 use Rattle.std.specs.FinMap.{same_entries_map}
+use Rattle.std.proofs.lemmas.Bool.Decides.{Decides-and}
 use Rattle.ratio_core.specs.Rational.{Rational, rational_eq}
 use Rattle.ratio_core.specs.RationalLaws.{rational_eq_Decides}
 use Rattle.aff_core.specs.Address.{Address, address_cmp, address_eq-Decides}
@@ -19,13 +20,9 @@ term_eq s t = eq_by_cmp address_cmp s.0 t.0 && rational_eq s.1 t.1
 unfoldable pub function_eq : Function → Function → Bool
 function_eq f g = rational_eq f.constant g.constant && pointwise term_eq (terms_of f) (terms_of g)
 
-both_true : {P Q : Type 0} (a b : Bool) → Decides a P → Decides b Q → Decides (a && b) (P × Q)
-both_true a b h k =
-    (λ e. (h.0 (first_so a b e), k.0 (second_so a b e)), λ p. λ i. h.1 p.0 i && k.1 p.1 i)
-
 pub term_eq-Decides : (s t : Address × Rational) → Decides (term_eq s t) (s ≡ t)
 term_eq-Decides s t =
-    let parts = both_true (eq_by_cmp address_cmp s.0 t.0) (rational_eq s.1 t.1)
+    let parts = Decides-and (eq_by_cmp address_cmp s.0 t.0) (rational_eq s.1 t.1)
     (address_eq-Decides s.0 t.0) (rational_eq_Decides s.1 t.1) in
     (λ e. λ i. ((parts.0 e).0 i, (parts.0 e).1 i), λ e. parts.1 (ap (λ u. u.0) e, ap (λ u. u.1) e))
 
@@ -36,7 +33,7 @@ same_function f g e k = same_parts f g (λ i. (same_entries_map f.terms g.terms 
 pub function_eq-Decides : (f g : Function) → Decides (function_eq f g) (f ≡ g)
 unfolding function_eq
 function_eq-Decides f g =
-    let parts = both_true (rational_eq f.constant g.constant)
+    let parts = Decides-and (rational_eq f.constant g.constant)
     (pointwise term_eq (terms_of f) (terms_of g))
     (rational_eq_Decides f.constant g.constant) (pointwise_decides term_eq-Decides
     (terms_of f) (terms_of g)) in (

@@ -18,6 +18,7 @@ use Rattle.std.specs.FinMap.Entries.{below_all}
 use Rattle.ratio_core.specs.Rational.{Rational, zero_ℚ, one_ℚ, neg_ℚ, rational_eq}
 use Rattle.ratio_core.specs.RationalLaws.{rational_eq-true, eq_rational_eq}
 use Rattle.rational_laws.specs.Field.{neg_ℚ-neg_ℚ, neg_ℚ-zero, one_not_zero}
+use Rattle.rational_laws.specs.Tests.{nonzero_from_test, nonzero_test, zero_from_test}
 use Rattle.aff_core.specs.Function.{FunctionOver, HasCoefficient, HasEachTerm, IsNegated, coefficient, constant_function, function_of, gathered, if_rising, negated, same_parts, terms_of, variable, with_coefficient}
 use Rattle.aff_core.specs.KeyOrder.{IsKeyOrder, key_eq-Decides, other_key, same_key}
 use Rattle.aff_core.specs.Rising.{HasDistinctKeys, RiseBy}
@@ -32,26 +33,6 @@ tested false t = absurd t
 
 -- ---- terms that are not 0
 
-nonzero_from : (q : Rational) → not (rational_eq q zero_ℚ) ≡ true → q ≢ zero_ℚ
-nonzero_from q h e = absurd (subst T (sym h ∙ ap not (eq_rational_eq q zero_ℚ e)) tt)
-
-zero_of : (q : Rational) → not (rational_eq q zero_ℚ) ≡ false → q ≡ zero_ℚ
-zero_of q e = by (rational_eq q zero_ℚ) refl e
-  where
-    by : (b : Bool) → rational_eq q zero_ℚ ≡ b → not b ≡ false → q ≡ zero_ℚ
-    by true is none = rational_eq-true q zero_ℚ is
-    by false is none = absurd (subst T none tt)
-
-pub nonzero_test : (q : Rational) → q ≢ zero_ℚ → not (rational_eq q zero_ℚ) ≡ true
-nonzero_test q n = by (rational_eq q zero_ℚ) refl
-  where
-    by : (b : Bool) → rational_eq q zero_ℚ ≡ b → not b ≡ true
-    by true e = absurd (n (rational_eq-true q zero_ℚ e))
-    by false e = refl
-
-pub zero_test : (q : Rational) → q ≡ zero_ℚ → not (rational_eq q zero_ℚ) ≡ false
-zero_test q e = ap not (eq_rational_eq q zero_ℚ e)
-
 -- where no coefficient is 0, none is left out
 pub nonzero-filter : {K : Type 0} (ts : List (K × Rational)) → HaveNoZero ts
     → filter is_nonzero ts ≡ ts
@@ -60,7 +41,8 @@ nonzero-filter ts h = filter_all is_nonzero ts (AllPass-from_list_all is_nonzero
 negation_nonzero : (q : Rational) → not (rational_eq q zero_ℚ) ≡ true
     → not (rational_eq (neg_ℚ q) zero_ℚ) ≡ true
 negation_nonzero q h =
-    nonzero_test (neg_ℚ q) (λ e. nonzero_from q h (sym (neg_ℚ-neg_ℚ q) ∙ ap neg_ℚ e ∙ neg_ℚ-zero))
+    nonzero_test (neg_ℚ q)
+    (λ e. nonzero_from_test q h (sym (neg_ℚ-neg_ℚ q) ∙ ap neg_ℚ e ∙ neg_ℚ-zero))
 
 pub negated_nonzero : {K : Type 0} (ts : List (K × Rational)) → HaveNoZero ts
     → HaveNoZero (negated_terms ts)
@@ -188,7 +170,7 @@ found_nonzero R v q (t ∷ ts) h e =
     by : (find R v ts ≡ Some q → q ≢ zero_ℚ) → (b : Bool) → cond b (Some t.1) (find R v ts) ≡ Some q
         → q ≢ zero_ℚ
     by rest true is = subst (λ r. r ≢ zero_ℚ) (same_Some t.1 q is)
-        (nonzero_from t.1 (All-head (λ t. is_nonzero t ≡ true) t ts h))
+        (nonzero_from_test t.1 (All-head (λ t. is_nonzero t ≡ true) t ts h))
     by rest false is = rest is
 
 module _ {K : Type 0} {R : K → K → Ordering} where
@@ -238,7 +220,7 @@ module _ {K : Type 0} {R : K → K → Ordering} (o : IsKeyOrder R) where
           let none : find R v (filter is_nonzero ts) ≡ None = find_below R v (filter is_nonzero ts)
           (below_all-filter R is_nonzero v ts (subst (λ u. T (below_all R u ts)) (sym at)
           (first _ _ s))) in
-          ap (λ o. unwrap_or o zero_ℚ) none ∙ sym (zero_of t.1 is)
+          ap (λ o. unwrap_or o zero_ℚ) none ∙ sym (zero_from_test t.1 is)
 
   -- the coefficients of a function made of terms in order are theirs
   pub coefficient-function_of : (ts : List (K × Rational)) (k : Rational) (v : K) → RiseBy R ts

@@ -7,6 +7,7 @@ use Rattle.std.specs.FinMap.{IsAntisymmetric}
 use Rattle.std.specs.Ordering.{eq_by_cmp, is_eq}
 use Rattle.std.specs.declared.cmp.Ordering.{Ordering}
 use Rattle.std.specs.declared.cmp.Ordering.TheVariants.{Equal}
+use Rattle.std.proofs.lemmas.Bool.{false_from_ne_true}
 use Rattle.aff_core.specs.Address.{address_cmp, address_total, exact_addresses}
 
 pub record IsKeyOrder {K : Type 0} (R : K → K → Ordering) : Type 0 where
@@ -34,6 +35,11 @@ module _ {K : Type 0} {R : K → K → Ordering} (o : IsKeyOrder R) where
       by : (t : Bool) → eq_by_cmp R a b ≡ t → t ≡ false
       by true e = absurd (n ((key_eq-Decides a b).0 e))
       by false e = λ i. false
+
+  -- keys that are apart are so either way
+  pub either_way : (a b : K) → eq_by_cmp R a b ≡ false → eq_by_cmp R b a ≡ false
+  either_way a b e = false_from_ne_true (eq_by_cmp R b a)
+      (λ k. true≢false (sym ((key_eq-Decides a b).1 (sym ((key_eq-Decides b a).0 k))) ∙ e))
 
   -- a fact by whether two keys are equal
   pub same_or_other : (C : Type 0) (a b : K) → (a ≡ b → C) → (¬ (a ≡ b) → C) → C

@@ -1,4 +1,5 @@
 pub mod Address
+pub mod AnsweredLaws
 pub mod Arithmetic
 pub mod ArithmeticLaws
 pub mod Function

@@ -4,13 +4,14 @@ use Rattle.std.specs.List.{list_all}
 use Rattle.std.proofs.Common.{arith, sym, ◌∙◌}
 use Rattle.std.proofs.lemmas.Bool.Decides.{nat_tests}
 use Rattle.std.proofs.lemmas.Option.{none-some, slice_get_past}
+use Rattle.map_laws.specs.EachLaws.{all_at}
 use Rattle.bridge_graph.specs.Hypergraph.{Hypergraph, IsSupported, children_of, has_kinds_below, is_edge_cost}
 use Rattle.bridge_graph.specs.Tree.{IsFirstEdge, IsTreeless, Tree, TreeBy, by, native, via}
 use Rattle.bridge_graph.specs.declared.Choice.{Choice}
 use Rattle.bridge_graph.specs.declared.Choice.TheVariants.{By, Missing, Native}
 use Rattle.bridge_graph.specs.declared.EdgeRow.{EdgeRow}
 use Rattle.item_core.specs.declared.edge.TheConstants.{EDGE_ROWS}
-use Rattle.fresh_bridging.specs.TableLaws.{and_first, at_all}
+use Rattle.fresh_bridging.specs.TableLaws.{and_first}
 use Rattle.fresh_bridging.specs.TheRules.{IsChoice, Setting, graph_of}
 
 -- a choice of a graph tells what the kind has
@@ -29,7 +30,7 @@ rows_below = refl
 
 source_below : (n : ℕ) (row : EdgeRow) → slice_get EDGE_ROWS n ≡ Some row → row.source < 35
 source_below n row e =
-    let all = at_all (has_kinds_below 35) EDGE_ROWS n row rows_below e in
+    let all = all_at (has_kinds_below 35) EDGE_ROWS n row rows_below e in
     let first = and_first (nat_lt row.source 35) (nat_le row.count 3)
     (and_first (nat_lt row.source 35 && nat_le row.count 3)
     (list_all (λ kind. nat_lt kind 35) (children_of row)) all) in
@@ -48,7 +49,7 @@ module _ (setting : Setting) (long : length setting.table.supported ≡ 35) wher
 pub costs_some : (costs : List ℕ) → IsTrue (list_all is_edge_cost costs) → (edge cost : ℕ)
     → slice_get costs edge ≡ Some cost → 1 ≤ cost
 costs_some costs h edge cost e =
-    let all = at_all is_edge_cost costs edge cost h e in
+    let all = all_at is_edge_cost costs edge cost h e in
     let first = and_first (nat_le 1 cost) (nat_le cost 1000) all in
     grind (arith, nat_tests, first)
 

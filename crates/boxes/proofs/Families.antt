@@ -3,7 +3,7 @@ use Rattle.std.specs.Prelude.{◌≡◌, ℕ, zero, suc, Bool, true, false, ◌|
 use denote.Enum.Bare.{same_true}
 use Rattle.std.specs.List.{list_any}
 use Rattle.std.proofs.Common.{rules, sym, ap, subst, ◌∙◌, true≢false}
-use Rattle.std.proofs.lemmas.Bool.{not-true, or_parts}
+use Rattle.std.proofs.lemmas.Bool.{not-true, or_parts, or_right}
 use Rattle.std.proofs.lemmas.Bool.Decides.{Decides-eqb}
 use Rattle.std.proofs.lemmas.List.Elements.{All-head, All-tail}
 use Rattle.std.proofs.lemmas.Option.{none-some, same_Some}
@@ -11,15 +11,9 @@ use Rattle.item_core.specs.declared.family.Family.{Family}
 use Rattle.item_core.specs.contracts.family.Family.{the_type}
 use Rattle.item_core.specs.Edge.{family_eq}
 use Rattle.bridge_face.specs.State.{State}
-use Rattle.fresh_bridging.specs.TableLaws.{and_first, and_second, or_second}
+use Rattle.fresh_bridging.specs.TableLaws.{and_first, and_second, equal_family, family_itself}
 use Rattle.fresh_bridging.specs.TheRules.{family_number}
 use Rattle.boxes.specs.Boxed.{IsChangedFor, at_family, families_of, occur_once}
-
-pub itself : (f : Family) → family_eq f f ≡ true
-itself f = (Decides-eqb (family_number f) (family_number f)).1 refl
-
-pub equal_family : (a b : Family) → family_eq a b ≡ true → a ≡ b
-equal_family a b e = same_true the_type (search rules) a b e
 
 -- of whatever has families
 pub any_map : {A B : Type 0} (p : B → Bool) (f : A → B) (xs : List A)
@@ -31,9 +25,9 @@ pub any_at : (f : Family) (fs : List Family) (n : ℕ) → slice_get fs n ≡ So
     → list_any (family_eq f) fs ≡ true
 any_at f [] n e = absurd (none-some f e)
 any_at f (g ∷ fs) zero e =
-    ap (λ b. b || list_any (family_eq f) fs) (ap (family_eq f) (same_Some g f e) ∙ itself f)
+    ap (λ b. b || list_any (family_eq f) fs) (ap (family_eq f) (same_Some g f e) ∙ family_itself f)
 any_at f (g ∷ fs) (suc n) e =
-    or_second (family_eq f g) (list_any (family_eq f) fs) (any_at f fs n e)
+    or_right (family_eq f g) (list_any (family_eq f) fs) (any_at f fs n e)
 
 -- ---- where no family occurs twice
 
@@ -74,7 +68,7 @@ at_place change (t ∷ ss) zero s once e =
     (and_first (not (list_any (family_eq t.family) (families_of ss)))
     (occur_once (families_of ss)) once) in
     subst (λ (x : State). change x ∷ ss ≡ map (at_family x.family change) (t ∷ ss)) same
-    (sym (ap (λ b. cond b (change t) t ∷ map (at_family t.family change) ss) (itself t.family)
+    (sym (ap (λ b. cond b (change t) t ∷ map (at_family t.family change) ss) (family_itself t.family)
     ∙ ap (λ ts. change t ∷ ts) (untouched t.family change ss others)))
 at_place change (t ∷ ss) (suc n) s once e =
     let others = not-true (list_any (family_eq t.family) (families_of ss))

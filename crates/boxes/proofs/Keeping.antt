@@ -7,13 +7,15 @@ use Rattle.std.specs.Ordering.{eq_by_cmp}
 use Rattle.std.proofs.Common.{append_assoc, sym, ap, subst, ◌∙◌}
 use Rattle.std.proofs.lemmas.List.{append-nil, map-append}
 use Rattle.std.proofs.lemmas.List.Elements.{All-cons, All-head, All-map, All-nil, All-tail, filter-append}
+use mathlib.Core.List.{map-map}
 use Rattle.aff_core.specs.Address.{Address, address_cmp, address_eq, address_eq-Decides, address_total, exact_addresses}
 use Rattle.aff_core.specs.Rising.{HasDistinctKeys}
+use Rattle.aff_core.specs.KeyOrder.{address_order, either_way}
 use Rattle.item_core.specs.declared.family.Family.{Family}
 use Rattle.item_core.specs.Edge.{family_eq, family_of}
 use Rattle.bridge_face.specs.State.{Kept, State, given}
 use Rattle.bridge_face.specs.declared.kept_item.KeptItem.{KeptItem}
-use Rattle.fresh_bridging.specs.EachLaws.{all_from_map}
+use Rattle.map_laws.specs.EachLaws.{all_from_map}
 use Rattle.boxes.specs.Boxed.{AreKeepable, Boxed, IsFree, at_family, families_of, kept_among, kept_by, keeping}
 
 -- nothing of the list is at the address
@@ -90,7 +92,7 @@ unfolding IsDistinct
 earlier [] rest n h = All-nil (λ (m : KeptItem). address_eq n.item.at m.item.at ≡ false)
 earlier (d ∷ done) rest n h =
     All-cons (λ (m : KeptItem). address_eq n.item.at m.item.at ≡ false) d done
-    (turned d.item.at n.item.at (last done h.0)) (earlier done rest n h.1)
+    (either_way address_order d.item.at n.item.at (last done h.0)) (earlier done rest n h.1)
   where
     last : (ns : List KeptItem)
         → AllByRecursion (λ y. eq_by_cmp address_cmp d.item.at y ≡ false)
@@ -100,18 +102,7 @@ earlier (d ∷ done) rest n h =
     last [] k = k.0
     last (m ∷ ns) k = last ns k.1
 
-    turned : (a b : Address) → address_eq a b ≡ false → address_eq b a ≡ false
-    turned a b e = by (address_eq b a) refl
-      where
-        by : (t : Bool) → address_eq b a ≡ t → t ≡ false
-        by false k = refl
-        by true k = sym ((address_eq-Decides a b).1 (sym ((address_eq-Decides b a).0 k))) ∙ e
-
 -- ---- the loop
-
-map_map : {A B C : Type 0} (f : A → B) (g : B → C) (xs : List A) → map g (map f xs) ≡ map (λ x. g (f x)) xs
-map_map f g [] = refl
-map_map f g (x ∷ xs) = ap (λ ys. g (f x) ∷ ys) (map_map f g xs)
 
 same_map : {A B : Type 0} (f g : A → B) → ((x : A) → f x ≡ g x) → (xs : List A) → map f xs ≡ map g xs
 same_map f g h [] = refl
@@ -158,9 +149,9 @@ kept_start old all empty = record {
 pub families_so_far : (old now : Boxed) (all left : List KeptItem) → KeptSoFar old now all left
     → families_of now.states ≡ families_of old.states
 families_so_far old now all left h =
-    sym (map_map its first_of now.states)
+    sym (map-map first_of its now.states)
     ∙ ap (map first_of) h.kept
-    ∙ map_map (keeping h.done) first_of old.states
+    ∙ map-map first_of (keeping h.done) old.states
 
 module _ (old now : Boxed) (all left rest : List KeptItem) (n : KeptItem)
     (h : KeptSoFar old now all left) (next : left ≡ n ∷ rest)
@@ -217,12 +208,12 @@ module _ (old now : Boxed) (all left rest : List KeptItem) (n : KeptItem)
     parts = whole ∙ sym (append_assoc h.done (n ∷ []) rest);
     kept =
         ap kept_by is
-        ∙ map_map (at_family (family_of n.edge) (λ s. given s n)) its now.states
+        ∙ map-map its (at_family (family_of n.edge) (λ s. given s n)) now.states
         ∙ same_map (λ (s : State). its (at_family (family_of n.edge) (λ t. given t n) s))
         (λ (s : State). with_it (its s)) one_kept now.states
-        ∙ sym (map_map its with_it now.states)
+        ∙ sym (map-map with_it its now.states)
         ∙ ap (map with_it) h.kept
-        ∙ map_map (keeping h.done) with_it old.states
+        ∙ map-map with_it (keeping h.done) old.states
         ∙ same_map (λ (s : State). with_it (keeping h.done s)) (keeping (h.done ++ n ∷ []))
         (λ s. ap (pair s.family) (sym (kept_more s.family h.done n misses))) old.states;
     table = table ∙ h.table;

@@ -3,6 +3,7 @@ use Rattle.std.specs.Prelude.{◌≡◌, ◌⊎◌, ◌<◌, ◌≤◌, ℕ, tru
 use Rattle.std.specs.List.{list_all, list_any}
 use Rattle.std.proofs.Common.{arith, inl, inr, sym, ap, subst, ◌∙◌}
 use Rattle.std.proofs.lemmas.List.{append-nil, drop_all, get_or_past, take_all}
+use Rattle.std.proofs.lemmas.Bool.{cases_lt}
 use Rattle.bridge_graph.specs.Hypergraph.{Hypergraph, IsCostly, is_edge_cost}
 use Rattle.bridge_graph.specs.declared.Choice.{Choice}
 use Rattle.bridge_graph.specs.declared.Choice.TheVariants.{By, Missing}
@@ -25,9 +26,6 @@ use Rattle.boxes.proofs.Families.{among}
 
 -- ---- made
 
-below_or_past : (n k : ℕ) → (k < n) ⊎ (n ≤ k)
-below_or_past n k = grind arith
-
 pub sound_made : (table : Table) (choices : List Choice) (states : List State) (graph : Hypergraph)
     → graph ≡ graph_of (setting_by table states)
     → IsTrue (list_all is_edge_cost table.cost)
@@ -41,7 +39,7 @@ sound_made table choices states graph is costs long many chosen lawful once = re
   costs = costs;
   sound = record {
     costly = costs_some table.cost costs;
-    chosen = λ kind. each kind (below_or_past 35 kind);
+    chosen = λ kind. each kind (cases_lt kind 35);
     lawful = λ family usable. among IsLawful family (families_of states) lawful
         (and_second (slice_index_or table.on (family_number family) false)
         (list_any (family_eq family) (families_of states)) usable);

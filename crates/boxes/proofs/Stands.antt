@@ -5,16 +5,15 @@ use Rattle.std.proofs.Common.{arith, inl, inr, sym, ap, subst, ◌∙◌}
 use Rattle.std.proofs.Math.Seq.{map-set_same}
 use Rattle.std.proofs.lemmas.List.{drop_all, length-map, map-set}
 use Rattle.std.proofs.lemmas.Option.{get_or_from_slice_get, slice_get-get_or, slice_get-map}
+use Rattle.std.proofs.lemmas.Bool.{cases_lt}
+use Rattle.fresh_bridging.specs.TableLaws.{equal_family}
 use Rattle.item_core.specs.declared.family.Family.{Family}
 use Rattle.item_core.specs.Edge.{family_eq}
 use Rattle.bridge_face.specs.Law.{IsLawful}
 use Rattle.bridge_face.specs.State.{State, all_gone}
 use Rattle.map_laws.specs.LoopLaws.{IsPast, any_found, past_more}
 use Rattle.boxes.specs.Boxed.{IsChangedFor, families_of}
-use Rattle.boxes.proofs.Families.{any_map, equal_family}
-
-below_or_past : (n k : ℕ) → (k < n) ⊎ (n ≤ k)
-below_or_past n k = grind arith
+use Rattle.boxes.proofs.Families.{any_map}
 
 -- what f doesn't tell from what was there stays
 pub same_after : {A : Type 0} (f : State → A) (family : Family) (change : State → State)
@@ -76,7 +75,7 @@ module _ {B : Type 0} (state : B → State) where
       → ((k : ℕ) (d : Family) → k < n → IsLawful (slice_index_or (families_of (map state bs)) k d))
       → (k : ℕ) (d : Family) → k < n + 1
       → IsLawful (slice_index_or (families_of (map state bs)) k d)
-  next_lawful bs n b lt e law so_far k d below = by (below_or_past n k)
+  next_lawful bs n b lt e law so_far k d below = by (cases_lt k n)
     where
       there : k ≡ n → slice_index_or (families_of (map state bs)) k d ≡ (state b).family
       there same =

@@ -6,13 +6,14 @@ use Rattle.std.proofs.Common.{sym, ap, ap₂, subst, ◌∙◌, arith, append_as
 use Rattle.std.proofs.lemmas.List.Elements.{All-cons, All-contains_itself, All-head, All-map, All-nil, All-tail, All-weaker}
 use Rattle.std.proofs.lemmas.List.FromFn.{length-map-range_with_len}
 use Rattle.std.proofs.lemmas.Map.Made.{is_member-Decides}
+use Rattle.map_laws.specs.EachLaws.{map_same_on}
 use Rattle.ratio_core.specs.Rational.{Rational, one_ℚ, zero_ℚ, ◌+ℚ◌, ◌*ℚ◌}
 use Rattle.rational_laws.specs.Dot.{dot}
 use Rattle.rational_laws.specs.DotLaws.{dot_behind, dot_zeros}
 use Rattle.rational_laws.specs.Field.{*ℚ-one, +ℚ-zero}
 use Rattle.aff_core.specs.Address.{Address, address_cmp, address_eq-Decides, child_of}
 use Rattle.aff_core.specs.Function.{Function, coefficient, variable}
-use Rattle.aff_core.specs.FunctionLaws.{coefficient-variable_other, coefficient-variable_same, constant-function_of}
+use Rattle.aff_core.specs.FunctionLaws.{coefficient-variable_other, coefficient-variable_same, constant-function_of, constant-variable}
 use Rattle.aff_core.specs.FunctionLists.{coefficients, constants}
 use Rattle.aff_core.specs.KeyOrder.{address_order}
 use Rattle.item_core.specs.Valid.{NamesNothingBelow, below}
@@ -42,7 +43,7 @@ after_head [] = []
 after_head (p ∷ ps) = ps
 
 -- where two lists part
-same_place : (ps : List ℕ) (a b : ℕ) (r s : List ℕ) → ps ++ (a ∷ r) ≡ ps ++ (b ∷ s) → a ≡ b
+pub same_place : (ps : List ℕ) (a b : ℕ) (r s : List ℕ) → ps ++ (a ∷ r) ≡ ps ++ (b ∷ s) → a ≡ b
 unfolding head_or after_head
 same_place [] a b r s e = ap head_or e
 same_place (p ∷ ps) a b r s e = same_place ps a b r s (ap after_head e)
@@ -156,13 +157,6 @@ pub dot_missed : (w : List Rational) (fs : List Function) (v : Address)
 dot_missed w fs v m =
     dot_zeros w (coefficients fs v) (All-map (λ q. q ≡ zero_ℚ) (λ f. coefficient f v) fs m)
 
-pub map_same_on : {X Y : Type 0} (f g : X → Y) (xs : List X) → All (λ x. f x ≡ g x) xs
-    → map f xs ≡ map g xs
-map_same_on f g [] h = refl
-map_same_on f g (x ∷ xs) h =
-    ap₂ ◌∷◌ (All-head (λ x. f x ≡ g x) x xs h) (map_same_on f g xs
-    (All-tail (λ x. f x ≡ g x) x xs h))
-
 pub variables_missed : (vs : List Address) (v : Address)
     → All (λ u. v ≢ u) vs → Miss (variables vs) v
 variables_missed vs v h =
@@ -215,14 +209,9 @@ pub weighed_components : (at : Address) (n : ℕ) (w : List Rational) → length
 weighed_components at n w e = weighed_from at 0 n w e
 
 -- ---- constants
-
-pub constant-variable : (v : Address) → (variable {R = address_cmp} v).constant ≡ zero_ℚ
-unfolding variable
-constant-variable v = constant-function_of address_cmp ((v, one_ℚ) ∷ []) zero_ℚ
-
 pub constants-variables : (vs : List Address)
     → All (λ q. q ≡ zero_ℚ) (constants (variables vs))
 constants-variables [] = All-nil (λ q. q ≡ zero_ℚ)
 constants-variables (v ∷ vs) =
     All-cons (λ q. q ≡ zero_ℚ) (variable {R = address_cmp} v).constant (constants (variables vs))
-    (constant-variable v) (constants-variables vs)
+    (constant-variable address_cmp v) (constants-variables vs)

@@ -8,18 +8,18 @@ use Rattle.ratio_core.specs.Rational.{Rational, neg_ℚ, zero_ℚ, ◌+ℚ◌, �
 use Rattle.rational_laws.specs.Dot.{dot, minus, plus}
 use Rattle.rational_laws.specs.DotLaws.{dot-minus}
 use Rattle.rational_laws.specs.Field.{neg_ℚ-zero, zero-+ℚ, +ℚ-zero}
-use Rattle.aff_core.specs.Address.{Address, address_eq}
+use Rattle.aff_core.specs.Address.{Address, address_cmp, address_eq}
 use Rattle.aff_core.specs.Arithmetic.{sum_of}
 use Rattle.aff_core.specs.ArithmeticLaws.{coefficient-sum_of, constant-sum_of, is_sum}
 use Rattle.aff_core.specs.Function.{Function, coefficient, evaluated, negated, variable, with_coefficient}
-use Rattle.aff_core.specs.FunctionLaws.{coefficient-negated, constant-negated, is_negated, coefficient-variable_other, coefficient-variable_same, coefficient-with, constant-with, same_coefficients}
+use Rattle.aff_core.specs.FunctionLaws.{coefficient-negated, constant-negated, is_negated, coefficient-variable_other, coefficient-variable_same, coefficient-with, constant-with, same_coefficients, constant-variable}
 use Rattle.aff_core.specs.KeyOrder.{address_order, other_key, same_key, same_or_other}
 use Rattle.item_core.specs.Valid.{NamesNothingBelow, below}
 use Rattle.linear_laws.specs.EvaluationLaws.{evaluated_sum}
 use Rattle.linear_laws.specs.ListLaws.{evaluated_negated}
 use Rattle.bridge_face.specs.ImageOf.{differences, sums}
 use Rattle.bridge_face.specs.Images.{difference}
-use Rattle.bridge_face.specs.ComponentLaws.{constant-variable, dot_missed, variables, weighed}
+use Rattle.bridge_face.specs.ComponentLaws.{dot_missed, variables, weighed}
 use Rattle.bridge_face.specs.Law.{Miss}
 use Rattle.aff_core.specs.FunctionLists.{coefficients}
 use Rattle.rational_laws.specs.Dot as numbers
@@ -61,7 +61,8 @@ difference-variable f v absent =
     same_coefficients address_order (with_coefficient f v (neg_ℚ one_ℚ)) (difference f (variable v))
     each
     (constant-with address_order f v (neg_ℚ one_ℚ)
-    ∙ sym (constant-difference f (variable v) ∙ ap (λ q. f.constant -ℚ q) (constant-variable v)
+    ∙ sym (constant-difference f (variable v)
+    ∙ ap (λ q. f.constant -ℚ q) (constant-variable address_cmp v)
     ∙ ap (λ q. f.constant +ℚ q) neg_ℚ-zero ∙ +ℚ-zero f.constant))
   where
     each : (u : Address)
@@ -92,7 +93,8 @@ variable-difference v f absent =
     same_coefficients address_order (with_coefficient (negated f) v one_ℚ)
     (difference (variable v) f) each
     (constant-with address_order (negated f) v one_ℚ ∙ constant-negated address_order f
-    ∙ sym (constant-difference (variable v) f ∙ ap (λ q. q -ℚ f.constant) (constant-variable v)
+    ∙ sym (constant-difference (variable v) f
+    ∙ ap (λ q. q -ℚ f.constant) (constant-variable address_cmp v)
     ∙ zero-+ℚ (neg_ℚ f.constant)))
   where
     each : (u : Address)

@@ -1,5 +1,5 @@
 -- What the proofs of all families share.
-use Rattle.std.specs.Prelude.{◌≡◌, ◌==◌, Bool, true, false, ℕ, slice_index_or, List, [], ◌∷◌, map, All, length, refl}
+use Rattle.std.specs.Prelude.{◌≡◌, ◌==◌, Bool, true, false, ℕ, suc, slice_index_or, List, [], ◌∷◌, map, All, length, refl}
 use Rattle.std.specs.Cmp.{unsigned_Decides}
 use Rattle.std.proofs.Common.{sym, ap, ap₂, subst, ◌∙◌, arith, true≢false}
 use denote.Enum.Declared.{tag_of}
@@ -16,7 +16,7 @@ use Rattle.item_core.specs.declared.image.Image.{Image}
 use Rattle.item_core.specs.Edge.{edge_entry, edges_of, family_of, source_of}
 use Rattle.item_core.specs.Item.{functions_of}
 use Rattle.item_core.specs.Valid.{IsValidItem}
-use Rattle.bridge_face.specs.BackOf.{BackFits, BackFitsBy, back_by, back_of}
+use Rattle.bridge_face.specs.BackOf.{BackFits, BackFitsBy, back_by, back_of, tail_of}
 use Rattle.bridge_face.specs.ImageOf.{FitsBy, ImageFits, image_by, image_of}
 use Rattle.bridge_face.specs.Law.{EdgeLaw, IsItemFor, IsLawful, LeadsTo}
 use Rattle.bridge_face.specs.Sources.{OfKind, of_kind}
@@ -226,3 +226,9 @@ only_two [] p q two first second = absurd (omega (arith, two))
 only_two (u ∷ []) p q two first second = absurd (omega (arith, two))
 only_two (u ∷ (v ∷ [])) p q two first second = ap₂ (λ a b. a ∷ b ∷ []) (sym first) (sym second)
 only_two (u ∷ (v ∷ (w ∷ ws))) p q two first second = absurd (omega (arith, two))
+
+-- ---- a list of several numbers
+
+pub length-tail : (y : List Rational) (n : ℕ) → length y ≡ suc n → length (tail_of y) ≡ n
+length-tail [] n e = absurd (omega (arith, e))
+length-tail (r ∷ y) n e = omega (arith, e)

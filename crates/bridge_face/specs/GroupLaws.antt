@@ -4,6 +4,7 @@ use Rattle.std.specs.List.{range_with_len}
 use Rattle.std.proofs.Common.{sym, ap, subst, ◌∙◌, arith, true≢false}
 use Rattle.std.proofs.lemmas.List.{append-nil, length-append, length-map}
 use Rattle.std.proofs.lemmas.List.Elements.{All-contains, All-cons, All-head, All-nil, All-weaker}
+use Rattle.map_laws.specs.EachLaws.{map_same_on}
 use Rattle.ratio_core.specs.Rational.{Rational, zero_ℚ, ◌≤ℚ◌, ◌+ℚ◌, ◌-ℚ◌}
 use Rattle.rational_laws.specs.Dot.{dot}
 use Rattle.rational_laws.specs.DotLaws.{dot_zeros}
@@ -18,6 +19,7 @@ use Rattle.set_core.specs.Membership.{Dual, In, low_of}
 use Rattle.set_core.specs.Mirrored.{multiplied}
 use Rattle.set_core.specs.Shapes.{IsSetOf}
 use Rattle.set_core.specs.declared.set.Set.{Set}
+use Rattle.set_core.specs.declared.set.Set.TheVariants.{Nonnegatives}
 use Rattle.item_core.specs.declared.edge.Edge.{Edge}
 use Rattle.item_core.specs.declared.item.Body.{Body}
 use Rattle.item_core.specs.declared.item.Body.TheVariants as body
@@ -28,10 +30,17 @@ use Rattle.item_core.specs.declared.image.Image.{Image}
 use Rattle.item_core.specs.Edge.{family_of}
 use Rattle.item_core.specs.Item.{functions_of, is_group, set_of}
 use Rattle.item_core.specs.Valid.{IsValidItem}
-use Rattle.bridge_face.specs.ComponentLaws.{constants-variables, contained_or_not, dot_missed, length-components, map_same_on, not_contained, variables, variables_missed, weighed, weighed_components}
+use Rattle.bridge_face.specs.ComponentLaws.{constants-variables, contained_or_not, dot_missed, length-components, not_contained, variables, variables_missed, weighed, weighed_components}
 use Rattle.bridge_face.specs.ImageOf.{bridged, group_at, inner}
 use Rattle.bridge_face.specs.Images.{group_by}
 use Rattle.bridge_face.specs.Law.{Balances, CarriesValues, ChildDuals, EdgeLaw, GrowsBy, HasComponents, HoldsAt, IsCovered, IsValidWithin, LeadsTo, MentionsKnown, Miss, expressed, growth, held_children, held_item, inner_of, row_functions, row_set}
+
+-- a group in a set of such a shape, of which the edge makes one of numbers at least 0
+pub record GroupSourced (shape : ℕ → Set) (edge : Edge) (b : Body) : Type 0 where
+  pub count : ℕ
+  pub set : set_of b ≡ shape count
+  pub group : is_group b ≡ true
+  pub leads : (n : ℕ) (vars : List Address) → LeadsTo edge (Group (Nonnegatives n) vars)
 
 -- ---- of groups
 

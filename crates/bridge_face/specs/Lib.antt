@@ -5,7 +5,6 @@ pub mod Law
 pub mod State
 pub mod Sources
 pub mod FamilyLaws
-pub mod AnsweredLaws
 pub mod ZippedLaws
 pub mod ComponentLaws
 pub mod DifferenceLaws

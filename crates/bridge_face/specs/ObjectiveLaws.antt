@@ -3,6 +3,7 @@ use Rattle.std.specs.Prelude.{◌≡◌, ◌*◌, ◌≤◌, ◌<◌, true, fals
 use Rattle.std.proofs.Common.{sym, ap, subst, ◌∙◌, arith, true≢false}
 use Rattle.std.proofs.lemmas.List.Elements.{All-cons, All-head, All-nil, All-weaker}
 use Rattle.std.proofs.lemmas.List.{length-append}
+use Rattle.aff_core.specs.declared.sense.Sense.{Sense}
 use Rattle.ratio_core.specs.Rational.{Rational, zero_ℚ, ◌≤ℚ◌}
 use Rattle.rational_laws.specs.Field.{+ℚ-zero}
 use Rattle.rational_laws.specs.Order.{≤ℚ_from_≡}
@@ -26,6 +27,11 @@ use Rattle.bridge_face.specs.Law.{Balances, CarriesValues, EdgeLaw, GrowsBy, Has
 use Rattle.set_core.specs.Shapes.{IsSetOf}
 use Rattle.bridge_face.specs.ComponentLaws.{all_unnamed_below, each_at}
 use Rattle.item_core.specs.declared.item.Body.TheVariants as body
+
+-- an affine objective
+pub data IsAffineObjective : Body → Type 0 where
+  affine_objective : {sense : Sense} {func : Function}
+      → IsAffineObjective (body.AffineObj sense func)
 
 -- ---- objectives as rows
 

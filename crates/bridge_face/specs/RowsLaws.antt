@@ -1,5 +1,5 @@
 -- The law of an edge that makes rows of a row, from what is said of numbers alone.
-use Rattle.std.specs.Prelude.{◌≡◌, ◌*◌, ◌+◌, ◌≤◌, ◌<◌, ℕ, List, [], ◌∷◌, map, All, length, refl}
+use Rattle.std.specs.Prelude.{◌≡◌, ◌*◌, ◌+◌, ◌≤◌, ◌<◌, ℕ, List, [], ◌∷◌, map, All, length, refl, None}
 use Rattle.std.specs.List.{enumerate_from, range_with_len, zip}
 use Rattle.std.proofs.Common.{sym, ap, ap₂, subst, ◌∙◌, arith, true≢false}
 use Rattle.std.proofs.lemmas.List.{append-nil, length-append, length-map}
@@ -56,6 +56,10 @@ pub record MadeOfRows (edge : Edge) (item : Item) (bodies : List Body) : Type 0 
   pub gaps :
       (ys : List (List Rational)) → length ys ≡ length bodies → DualsHold (rows_held bodies ys)
       → gap (rows_held bodies ys) ≤ℚ gap_of (row_held item.body (back_of edge item ys))
+
+-- an image of rows alone
+abbrev pub rows_alone : List Item → Image
+rows_alone rows = record { groups = []; exprs = []; rows = rows; objective = None }
 
 -- ---- bodies at the positions from one on
 

@@ -4,13 +4,6 @@ use Rattle.std.proofs.Common.{ap, sym, subst, ◌∙◌, append_assoc, drop, tak
 use Rattle.std.specs.List.{list_all}
 use Rattle.std.proofs.lemmas.List.{append-nil, drop_more, take_more}
 
--- what is left begins with the item that is read
-pub next_item : {X : Type 0} (all items : List X) (i : ℕ) (x : X) → items ≡ all
-    → x ≡ get_or items i x → i < length items → drop i all ≡ x ∷ drop (i + 1) all
-next_item all items i x e is lt =
-    drop_more all i x (subst (λ l. i < length l) e lt)
-    ∙ ap (λ y. y ∷ drop (i + 1) all) (ap (λ l. get_or l i x) (sym e) ∙ sym is)
-
 -- and is the last of those that were taken
 pub taken_item : {X : Type 0} (xs : List X) (i : ℕ) (x : X) → x ≡ get_or xs i x → i < length xs
     → take (i + 1) xs ≡ take i xs ++ x ∷ []

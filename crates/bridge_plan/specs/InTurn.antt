@@ -13,10 +13,6 @@ use Rattle.bridge_plan.specs.Worked.{IsWithin, worked, worked_each, worked_in}
 use Rattle.bridge_plan.specs.declared.plan.Plan.{Plan}
 use Rattle.bridge_plan.specs.SoFar.{SoFar, all_planned, needs_one, none_yet, one_more}
 
-pub nothing_left : {X : Type 0} (l : List X) → length l ≡ 0 → l ≡ []
-nothing_left [] h = refl
-nothing_left (x ∷ xs) h = absurd (omega arith)
-
 module _ (first : Means) (n : ℕ) where
   abbrev pub item_held : Item → Held Item Entry
   item_held item = worked first.choice n item

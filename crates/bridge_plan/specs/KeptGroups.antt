@@ -37,7 +37,7 @@ use Rattle.bridge_face.specs.ImageOf.{begins_free, bridged, differences, free_at
 use Rattle.bridge_face.specs.Images.{number_in, raised}
 use Rattle.ratio_core.specs.Rational.{zero_ℚ}
 use Rattle.fresh_bridging.specs.Entries.{Entry, expression_in, is_kept, put_into}
-use Rattle.fresh_bridging.specs.EachLaws.{all_seconds}
+use Rattle.map_laws.specs.EachLaws.{all_at, all_seconds}
 use Rattle.fresh_bridging.specs.TableLaws.{and_first, and_second}
 use Rattle.fresh_bridging.specs.MentionLaws.{by_lookup}
 use Rattle.fresh_bridging.specs.OmitLaws.{IsGroup, child_groups, edge_law}
@@ -179,14 +179,6 @@ begins_others r =
 
 all_begin_others : list_all begins_others EDGES ≡ true
 all_begin_others = refl
-
-all_at : {A : Type 0} (p : A → Bool) (xs : List A) (n : ℕ) (x : A) → list_all p xs ≡ true
-    → slice_get xs n ≡ Some x
-    → p x ≡ true
-all_at p [] n x h e = absurd (none-some x e)
-all_at p (y ∷ ys) zero x h e =
-    ap p (sym (same_Some y x e)) ∙ and_first (p y) (list_all p ys) h
-all_at p (y ∷ ys) (suc n) x h e = all_at p ys n x (and_second (p y) (list_all p ys) h) e
 
 begun_source : (b : Bool) (source : Kind) → source ≡ cond b kind.Free kind.GroupReals
     → (kind_eq source kind.Free || kind_eq source kind.GroupReals) ≡ true

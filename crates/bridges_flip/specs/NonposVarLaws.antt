@@ -4,7 +4,7 @@ use Rattle.std.proofs.lemmas.List.Elements.{All-nil, All-weaker, All-cons, All-m
 use Rattle.std.proofs.Common.{ap, ap₂, arith, ◌∙◌, subst, sym}
 use Rattle.std.proofs.lemmas.List.{length-map}
 use Rattle.rational_laws.specs.Field.{neg_ℚ-zero, -ℚ-itself}
-use Rattle.aff_core.specs.Address.{Address, child_of}
+use Rattle.aff_core.specs.Address.{Address, address_cmp, child_of}
 use Rattle.bridge_face.specs.BackOf.{back_by, size}
 use Rattle.item_core.specs.declared.item.Body.{Body}
 use Rattle.item_core.specs.declared.image.Expression.TheVariants.{Bridged}
@@ -22,12 +22,12 @@ use Rattle.bridge_face.specs.FamilyLaws.{Rule, image_is, lawful_by, of_another}
 use Rattle.set_core.specs.declared.set.Set.TheVariants.{Nonnegatives, Nonpositives}
 use Rattle.item_core.specs.declared.family.Family.TheVariants.{NonposVar}
 use Rattle.bridge_face.specs.Sources.{OfKind, group_nonpositives}
-use Rattle.bridge_face.specs.GroupLaws.{OneGroup, one_group_law}
+use Rattle.bridge_face.specs.GroupLaws.{GroupSourced, OneGroup, one_group_law}
 use Rattle.ratio_core.specs.Rational.{Rational, neg_ℚ, zero_ℚ, ◌-ℚ◌}
 use Rattle.aff_core.specs.KeyOrder.{address_order}
-use Rattle.aff_core.specs.FunctionLaws.{coefficient-negated, constant-negated}
+use Rattle.aff_core.specs.FunctionLaws.{coefficient-negated, constant-negated, constant-variable}
 use Rattle.aff_core.specs.FunctionLists.{coefficients, constants, evaluations}
-use Rattle.bridge_face.specs.ComponentLaws.{constant-variable, length-components, not_contained, variables, variables_missed, weighed, weighed_components}
+use Rattle.bridge_face.specs.ComponentLaws.{length-components, not_contained, variables, variables_missed, weighed, weighed_components}
 use Rattle.rational_laws.specs.Dot.{dot}
 use Rattle.rational_laws.specs.DotLaws.{dot-negated, dot_zeros}
 use Rattle.item_core.specs.Edge.{edge_entry, family_of, source_of}
@@ -42,11 +42,8 @@ use Rattle.bridge_face.specs.Images.{child_at, group_by}
 use Rattle.rational_laws.specs.Dot as numbers
 
 -- a group of variables at most 0, of which the edge makes one of its kind
-pub record Sourced (edge : Edge) (b : Body) : Type 0 where
-  pub count : ℕ
-  pub set : set_of b ≡ Nonpositives count
-  pub group : is_group b ≡ true
-  pub leads : (n : ℕ) (vars : List Address) → LeadsTo edge (Group (Nonnegatives n) vars)
+abbrev pub Sourced : Edge → Body → Type 0
+Sourced = GroupSourced Nonpositives
 
 sourced : (edge : Edge) → family_of edge ≡ NonposVar → {b : Body} → OfKind (source_of edge) b
     → Sourced edge b
@@ -76,7 +73,8 @@ constants-negatives : (vs : List Address) → All (λ q. q ≡ zero_ℚ) (consta
 constants-negatives [] = All-nil (λ q. q ≡ zero_ℚ)
 constants-negatives (v ∷ vs) =
     All-cons (λ q. q ≡ zero_ℚ) (negated (variable v)).constant (constants (negatives vs))
-    (constant-negated address_order (variable v) ∙ ap neg_ℚ (constant-variable v) ∙ neg_ℚ-zero)
+    (constant-negated address_order (variable v) ∙ ap neg_ℚ (constant-variable address_cmp v)
+    ∙ neg_ℚ-zero)
     (constants-negatives vs)
 
 evaluations-negatives : (one : Rational) (vs : List Address) (x : Address → Rational)

@@ -21,12 +21,9 @@ use Rattle.bridge_face.specs.FamilyLaws.{Sourced, of_another}
 use Rattle.bridge_face.specs.ImageOf.{image_by, opposite, sense_of}
 use Rattle.bridge_face.specs.Images.{function_of_body}
 use Rattle.bridge_face.specs.Law.{IsLawful, Miss, cost_by}
-use Rattle.bridge_face.specs.ObjectiveLaws.{ObjectiveRule, Replaces, objective_lawful}
+use Rattle.bridge_face.specs.ObjectiveLaws.{ObjectiveRule, Replaces, affine_objective, objective_lawful}
+pub use Rattle.bridge_face.specs.ObjectiveLaws.{IsAffineObjective}
 use Rattle.bridge_face.specs.Sources.{OfKind, max_affine, min_affine}
-
--- an affine objective
-pub data IsAffineObjective : Body → Type 0 where
-  affine_objective : {sense : Sense} {func : Function} → IsAffineObjective (AffineObj sense func)
 
 -- what the edges make of it
 abbrev pub made : Body → Body

@@ -4,6 +4,7 @@ use Rattle.std.specs.List.{zip}
 use Rattle.std.proofs.Common.{sym, ap, ap₂, subst, ◌∙◌, arith, append_assoc, ◌/◌}
 use Rattle.std.proofs.lemmas.List.{append-nil, drop_more, map-append, take_all, take_more}
 use Rattle.std.proofs.lemmas.List.Elements.{All-cons, All-get_or, All-head, All-map, All-more, All-nil, All-tail}
+use Rattle.map_laws.specs.EachLaws.{all_from_map}
 use Rattle.ratio_core.specs.Folds.{FoldFits, sum_from}
 use Rattle.ratio_core.specs.Rational.{Rational, SumFits, neg_ℚ, zero_ℚ, ◌+ℚ◌}
 use Rattle.rational_laws.specs.Dot.{minus, negated}
@@ -56,19 +57,6 @@ module _ {X Y : Type 0} (front : List Y) (F : X → Y) (Fits : X → Type 0) whe
 
 -- ---- of two lists
 
-pub map-pairs : {X Y Z W : Type 0} (f : X → Z) (g : Y → W) (u : List X) (v : List Y)
-    → zip (map f u) (map g v) ≡ map (λ p. (f p.0, g p.1)) (zip u v)
-map-pairs f g [] v = refl
-map-pairs f g (x ∷ u) [] = refl
-map-pairs f g (x ∷ u) (y ∷ v) = ap (λ ps. (f x, g y) ∷ ps) (map-pairs f g u v)
-
-of_mapped : {X Y : Type 0} (P : Y → Type 0) (f : X → Y) (xs : List X) → All P (map f xs)
-    → All (λ x. P (f x)) xs
-of_mapped P f [] h = All-nil (λ x. P (f x))
-of_mapped P f (x ∷ xs) h =
-    All-cons (λ x. P (f x)) x xs (All-head P (f x) (map f xs) h)
-    (of_mapped P f xs (All-tail P (f x) (map f xs) h))
-
 -- the numbers of two lists, less each other
 abbrev pub lowered : Rational × Rational → Rational
 lowered p = p.0 +ℚ neg_ℚ p.1
@@ -93,7 +81,7 @@ lowered_fit u v h =
 
 pub fit_lowered : (u v : List Rational) → SumsFit u (negated v) → All LoweredFits (zip u v)
 fit_lowered u v h =
-    of_mapped (λ r. SumFits r.0 r.1) (λ p. (p.0, neg_ℚ p.1)) (zip u v)
+    all_from_map (λ r. SumFits r.0 r.1) (λ p. (p.0, neg_ℚ p.1)) (zip u v)
     (subst (All (λ r. SumFits r.0 r.1)) (zip-negated u v) h)
 
 -- variables less functions, and with them
@@ -147,7 +135,7 @@ less_fit vs fs h =
 pub fit_less : (vs : List Address) (fs : List Function) → EachSumFits (variables vs) (negations fs)
     → All LessFits (zip vs fs)
 fit_less vs fs h =
-    of_mapped PairFits (λ p. (variable p.0, function.negated p.1)) (zip vs fs)
+    all_from_map PairFits (λ p. (variable p.0, function.negated p.1)) (zip vs fs)
     (subst (All PairFits) (zip-negations vs fs) h)
 
 pub more_fit : (vs : List Address) (fs : List Function) → All MoreFits (zip vs fs)
@@ -159,7 +147,7 @@ more_fit vs fs h =
 pub fit_more : (vs : List Address) (fs : List Function) → EachSumFits (variables vs) fs
     → All MoreFits (zip vs fs)
 fit_more vs fs h =
-    of_mapped PairFits (λ p. (variable p.0, p.1)) (zip vs fs)
+    all_from_map PairFits (λ p. (variable p.0, p.1)) (zip vs fs)
     (subst (All PairFits) (zip-variables vs fs) h)
 
 -- ---- a sum from the left

@@ -45,7 +45,7 @@ use Rattle.rational_laws.specs.Field.{zero-+ℚ}
 use Rattle.rational_laws.specs.Order.{≤ℚ_from_≡}
 use Rattle.aff_core.specs.declared.fault.AffFault.{AffFault}
 use Rattle.bridge_face.specs.State.{TakesDuals}
-use Rattle.bridge_face.specs.AnsweredLaws.{exact_as}
+use Rattle.aff_core.specs.AnsweredLaws.{exact_as}
 use Rattle.set_core.specs.declared.set.Set.{Set}
 use Rattle.item_core.specs.declared.kind.Kind.TheVariants as kind
 

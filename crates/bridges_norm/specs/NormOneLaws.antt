@@ -21,7 +21,7 @@ use Rattle.dual_laws.specs.Held.{Holds, IsHeld, adjoint_of, gap_of}
 use Rattle.bridge_face.specs.OneRowLaws.{IsRow, row_held}
 use Rattle.set_core.specs.Shapes.{IsSetOf, least_dimension}
 use Rattle.item_core.specs.declared.item.Item.{Item}
-use Rattle.bridge_face.specs.FamilyLaws.{Rule, back_is, dual_sizes, image_is, kept_by, lawful_by, of_another, source_is}
+use Rattle.bridge_face.specs.FamilyLaws.{Rule, back_is, dual_sizes, image_is, kept_by, lawful_by, length-tail, of_another, source_is}
 use Rattle.bridge_face.specs.BackOf as backs
 use Rattle.set_core.specs.declared.set.Set.TheVariants.{Nonnegatives, NormOneCone, Reals}
 use Rattle.item_core.specs.declared.family.Family.TheVariants.{NormOne}
@@ -49,7 +49,7 @@ use Rattle.item_core.specs.declared.image.Expression.{Expression}
 use Rattle.item_core.specs.declared.image.Image.{Image}
 use Rattle.set_core.specs.declared.set.Set.{Set}
 use Rattle.bridge_face.specs.State.{TakesDuals}
-use Rattle.bridge_face.specs.AnsweredLaws.{exact_as}
+use Rattle.aff_core.specs.AnsweredLaws.{exact_as}
 use Rattle.bridge_face.specs.GroupAndRowLaws as images
 use Rattle.item_core.specs.declared.kind.Kind.TheVariants as kind
 use Rattle.rational_laws.specs.Dot as numbers
@@ -136,10 +136,6 @@ rule = record { image = λ edge item. refl; back = λ item ys. refl; sourced = s
 starts : (y : List Rational) → 1 ≤ length y → y ≡ head_of y ∷ tail_of y
 starts [] h = absurd (omega (arith, h))
 starts (r ∷ y) h = refl
-
-pub length-tail : (y : List Rational) (n : ℕ) → length y ≡ suc n → length (tail_of y) ≡ n
-length-tail [] n e = absurd (omega (arith, e))
-length-tail (r ∷ y) n e = omega (arith, e)
 
 parted_sums : (r k s a x b z : Rational)
     → r *ℚ (k -ℚ s) +ℚ ((a -ℚ x) +ℚ (b +ℚ z)) ≡ (r *ℚ k +ℚ (z -ℚ x)) +ℚ ((a +ℚ b) -ℚ r *ℚ s)

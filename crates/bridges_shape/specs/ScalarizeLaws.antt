@@ -446,7 +446,3 @@ record_at at b = record { at = at; body = b }
 pub row_made : {at place : Address} {b body : Body} → at ≡ place → b ≡ body
     → record_at at b ≡ record_at place body
 row_made at_is body_is = ap₂ record_at at_is body_is
-
--- an image of rows alone
-abbrev pub rows_alone : List Item → Image
-rows_alone rows = record { groups = []; exprs = []; rows = rows; objective = None }

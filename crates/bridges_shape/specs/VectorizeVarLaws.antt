@@ -9,6 +9,7 @@ use Rattle.rational_laws.specs.Ring.{as_expression, by_ring, ring₂, ring₃, z
 use Rattle.aff_core.specs.Address.{Address, address_cmp, child_of}
 use Rattle.aff_core.specs.Function.{Function, coefficient, evaluated, slope, variable}
 use Rattle.aff_core.specs.FunctionLists.{constants}
+use Rattle.aff_core.specs.FunctionLaws.{constant-variable}
 use Rattle.linear_laws.specs.ListLaws.{slope_variable}
 use Rattle.set_core.specs.Membership.{Dual, In, low_of}
 use Rattle.set_core.specs.Mirrored.{multiplied}
@@ -28,7 +29,7 @@ use Rattle.item_core.specs.Item.{functions_of, is_group, set_of}
 use Rattle.item_core.specs.KindOf.{kind_of_body}
 use Rattle.item_core.specs.Valid.{IsValidItem}
 use Rattle.bridge_face.specs.BackOf.{back_by}
-use Rattle.bridge_face.specs.ComponentLaws.{constant-variable, not_contained, variables_missed, weighed, weighed_components}
+use Rattle.bridge_face.specs.ComponentLaws.{not_contained, variables_missed, weighed, weighed_components}
 use Rattle.bridge_face.specs.FamilyLaws.{Rule, image_is, lawful_by, of_another}
 use Rattle.bridge_face.specs.GroupLaws.{OneGroup, one_group_law}
 use Rattle.bridge_face.specs.ImageOf.{image_by, image_of, inner, vectorize_var}
@@ -77,7 +78,7 @@ pub raised-variable : (v : Address) (q : Rational)
     ≡ raised (variable {R = address_cmp} v) q
 raised-variable v q =
     ap (λ k. record (variable {R = address_cmp} v) { constant = k })
-    (sym (zero-+ℚ q) ∙ ap (λ z. z +ℚ q) (sym (constant-variable v)))
+    (sym (zero-+ℚ q) ∙ ap (λ z. z +ℚ q) (sym (constant-variable address_cmp v)))
 
 -- ---- the law
 
@@ -121,7 +122,7 @@ module _ (edge : Edge) (own : family_of edge ≡ VectorizeVar) where
         → evaluated one (raised (variable s) a) x -ℚ one *ℚ a ≡ x s
     value_is one x =
         ap (λ k. (one *ℚ (k +ℚ a) +ℚ slope {R = address_cmp} (variable {R = address_cmp} s) x)
-        -ℚ one *ℚ a) (constant-variable s)
+        -ℚ one *ℚ a) (constant-variable address_cmp s)
         ∙ ap (λ k. (one *ℚ (zero_ℚ +ℚ a) +ℚ k) -ℚ one *ℚ a) (slope_variable s x)
         ∙ shed one a (x s)
       where
@@ -142,7 +143,7 @@ module _ (edge : Edge) (own : family_of edge ≡ VectorizeVar) where
     gap_one [] e = absurd (omega (arith, e))
     gap_one (q ∷ []) e =
         no_gap a q ∙ ap₂ (λ l k. l -ℚ (q *ℚ (k +ℚ a) +ℚ zero_ℚ)) (sym (low_first r.has q []))
-        (sym (constant-variable s))
+        (sym (constant-variable address_cmp s))
     gap_one (q ∷ (p ∷ w)) e = absurd (omega (arith, e))
 
     one_group : OneGroup edge item (cone_of (set_of item.body)) 1 fs

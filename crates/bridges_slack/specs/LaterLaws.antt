@@ -4,6 +4,7 @@ use Rattle.std.proofs.lemmas.List.Elements.{All-cons, All-head, All-nil, All-tai
 use Rattle.std.proofs.Common.{ap, ap₂, arith, subst, sym, true≢false, ◌∙◌}
 use Rattle.std.proofs.lemmas.List.{append-nil, length-append, length-map}
 use Rattle.std.specs.List.{range_with_len}
+use Rattle.map_laws.specs.EachLaws.{map_same_on}
 use Rattle.rational_laws.specs.Field.{+ℚ-zero, zero-+ℚ, -ℚ-itself}
 use Rattle.aff_core.specs.Address.{Address, child_of}
 use Rattle.item_core.specs.declared.item.Body.TheVariants.{Affine, AffineVec, Free, Group, Plain, PlainVec}
@@ -25,10 +26,11 @@ use Rattle.bridge_face.specs.FamilyLaws.{Rule, image_is, lawful_by, of_another}
 use Rattle.bridge_face.specs.Sources.{OfKind, group_equal_to, group_greater_than, group_interval, group_less_than, group_nonnegatives, group_norm_infinity_cone, group_norm_one_cone, of_kind}
 use Rattle.ratio_core.specs.Rational.{Rational, zero_ℚ, ◌+ℚ◌, ◌-ℚ◌}
 use Rattle.set_core.specs.declared.set.Set.{Set}
+use Rattle.set_core.specs.ShapeLaws.{scalar_one}
 use Rattle.bridge_face.specs.Images.{affine, child_at, first_in, plain}
 use Rattle.item_core.specs.Edge.{children_of, edge_entry, family_of, source_of}
 use Rattle.aff_core.specs.FunctionLists.{coefficients, constants}
-use Rattle.bridge_face.specs.ComponentLaws.{components_apart, constants-variables, length-components, map_same_on, not_contained, variables, variables_missed, weighed_components}
+use Rattle.bridge_face.specs.ComponentLaws.{components_apart, constants-variables, length-components, not_contained, variables, variables_missed, weighed_components}
 use Rattle.rational_laws.specs.Dot.{dot}
 use Rattle.rational_laws.specs.DotLaws.{dot_zeros, zeros_dot}
 use Rattle.item_core.specs.Item.{functions_of, is_group, set_of, variables_of}
@@ -387,14 +389,6 @@ pub row_is_second : (free scalar : Bool) (v : Address) (ss : List Address) (set 
     → (scalar ≡ true → ss ≡ v ∷ []) → row_of free ss set ≡ second_child free scalar v ss set
 row_is_second true scalar v us t s one = plain_is scalar v us t s one
 row_is_second false scalar v us t s one = affine_is scalar v us t s one
-
--- a set of numbers has one
-scalar_one : (set : Set) → is_scalar set ≡ true → dimension_of set ≡ 1
-scalar_one (LessThan u) s = refl
-scalar_one (GreaterThan l) s = refl
-scalar_one (EqualTo a) s = refl
-scalar_one (Interval l u) s = refl
-scalar_one _ s = absurd (true≢false (sym s))
 
 one_inner : (item : Item) → IsValidItem item → (scalar : Bool)
     → is_scalar (set_of item.body) ≡ scalar

@@ -42,14 +42,11 @@ use Rattle.bridge_face.specs.GroupLaws.{held_of}
 use Rattle.item_core.specs.KindOf.{kind_of_body}
 use Rattle.set_core.specs.Mirrored.{multiplied}
 use Rattle.rational_laws.specs.Order.{neg_ℚ-≤ℚ, nonneg_neg, ≤ℚ_from_nonneg, ≤ℚ_from_≡}
-use Rattle.bridge_face.specs.ObjectiveLaws.{objective_held, objective_no_group, objective_stands, objective_valid}
+use Rattle.bridge_face.specs.ObjectiveLaws.{affine_objective, objective_held, objective_no_group, objective_stands, objective_valid}
+pub use Rattle.bridge_face.specs.ObjectiveLaws.{IsAffineObjective}
 use Rattle.bridge_face.specs.GroupAndRowLaws.{second_row_valid}
 use Rattle.set_laws.specs.Least.{single₂}
 use Rattle.item_core.specs.declared.image.Expression.{Expression}
-
--- an affine objective
-pub data IsAffineObjective : Body → Type 0 where
-  affine_objective : {sense : Sense} {func : Function} → IsAffineObjective (AffineObj sense func)
 
 pub is_one : (b : Body) → IsAffineObjective b
     → ((sense : Sense) (func : Function) → b ≡ AffineObj sense func → ⊥) → ⊥

@@ -62,10 +62,6 @@ read (any_plain {vars} {n}) =
 read (any_affine {fs} {n}) =
     record { row = record { no_group = refl; no_objective = refl }; count = n; set = refl }
 
--- an image of rows alone
-abbrev pub rows_alone : List Item → Image
-rows_alone rows = record { groups = []; exprs = []; rows = rows; objective = None }
-
 -- ---- the law
 
 module _ (edge : Edge) (own : family_of edge ≡ DropReals) where

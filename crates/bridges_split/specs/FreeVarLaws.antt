@@ -6,6 +6,7 @@ use Rattle.std.proofs.Common.{ap, ap₂, arith, subst, sym, true≢false, ◌∙
 use Rattle.std.proofs.lemmas.List.{length-map, map-append}
 use Rattle.std.proofs.lemmas.List.FromFn.{length-map-range_with_len}
 use Rattle.std.specs.List.{range_with_len}
+use Rattle.map_laws.specs.EachLaws.{map_same_on}
 use Rattle.rational_laws.specs.Field.{+ℚ-zero, neg_ℚ-zero, zero-+ℚ, -ℚ-itself}
 use Rattle.aff_core.specs.Address.{Address, address_cmp, child_of}
 use Rattle.item_core.specs.declared.item.Body.{Body}
@@ -25,12 +26,13 @@ use Rattle.item_core.specs.declared.item.Item.{Item}
 use Rattle.bridge_face.specs.FamilyLaws.{Rule, image_is, lawful_by, of_another}
 use Rattle.set_core.specs.declared.set.Set.TheVariants.{Nonnegatives, Reals}
 use Rattle.bridge_face.specs.Sources.{OfKind, group_reals}
-use Rattle.bridge_face.specs.GroupLaws.{OneGroup, one_group_law}
+use Rattle.bridge_face.specs.GroupLaws.{GroupSourced, OneGroup, one_group_law}
 use Rattle.ratio_core.specs.Rational.{Rational, neg_ℚ, zero_ℚ, ◌+ℚ◌, ◌-ℚ◌, ◌≤ℚ◌}
-use Rattle.bridge_face.specs.ComponentLaws.{all_components, all_components_within, components-append, components_from, constant-variable, dot_missed, map_same_on, not_contained, other_child, variables, variables_missed, weighed, weighed_from}
+use Rattle.bridge_face.specs.ComponentLaws.{all_components, all_components_within, components-append, components_from, dot_missed, not_contained, other_child, variables, variables_missed, weighed, weighed_from}
 use Rattle.bridge_face.specs.DifferenceLaws.{all_differences, coefficient-difference, constant-difference, dot-differences, length-differences, missed-difference}
 use Rattle.bridge_face.specs.Images.{child_at, components, difference, group_by}
 use Rattle.aff_core.specs.FunctionLists.{coefficients, constants, evaluations}
+use Rattle.aff_core.specs.FunctionLaws.{constant-variable}
 use Rattle.rational_laws.specs.Dot.{dot}
 use Rattle.rational_laws.specs.DotLaws.{dot_zeros}
 use Rattle.item_core.specs.Edge.{edge_entry, family_of, source_of}
@@ -43,11 +45,8 @@ use Rattle.item_core.specs.declared.kind.Kind.TheVariants as kind
 use Rattle.rational_laws.specs.Dot as numbers
 
 -- a group of variables without bounds, of which the edge makes one of its kind
-pub record Sourced (edge : Edge) (b : Body) : Type 0 where
-  pub count : ℕ
-  pub set : set_of b ≡ Reals count
-  pub group : is_group b ≡ true
-  pub leads : (n : ℕ) (vars : List Address) → LeadsTo edge (Group (Nonnegatives n) vars)
+abbrev pub Sourced : Edge → Body → Type 0
+Sourced = GroupSourced Reals
 
 sourced : (edge : Edge) → family_of edge ≡ FreeVar → {b : Body} → OfKind (source_of edge) b
     → Sourced edge b
@@ -225,10 +224,10 @@ constants_split at d =
     ∙ -ℚ-itself zero_ℚ) (plus_half at d) (minus_half at d)
     (All-map (λ f. f.constant ≡ zero_ℚ) variable (components_from at 0 d)
     (all_components (λ v. (variable {R = address_cmp} v).constant ≡ zero_ℚ) at 0 d
-    (λ i. constant-variable (child_of at i))))
+    (λ i. constant-variable address_cmp (child_of at i))))
     (All-map (λ f. f.constant ≡ zero_ℚ) variable (components_from at d d)
     (all_components (λ v. (variable {R = address_cmp} v).constant ≡ zero_ℚ) at d d
-    (λ i. constant-variable (child_of at i)))))
+    (λ i. constant-variable address_cmp (child_of at i)))))
 
 -- ---- the law
 

@@ -37,6 +37,7 @@ use Rattle.item_core.specs.KindOf.{kind_of_body}
 use Rattle.rational_laws.specs.DotLaws.{length-plus, plus-dot}
 use Rattle.bridge_face.specs.Images.{lower_part, rows_at, upper_part, with_set}
 use Rattle.set_core.specs.Mirrored.{multiplied}
+use Rattle.set_core.specs.ShapeLaws.{in_order}
 use Rattle.set_laws.specs.Least.{single₂}
 use Rattle.rational_laws.specs.Tests.{is_lt_Decides}
 use Rattle.rational_laws.specs.Order.{≤ℚ-*ℚ, ≤ℚ-*ℚ_nonpos, ≤ℚ-+ℚ_left, ≤ℚ-+ℚ_right, ≤ℚ_antisymm, ≤ℚ_from_not_‹ℚ, ≤ℚ_from_≡}
@@ -44,7 +45,7 @@ use Rattle.aff_core.specs.declared.fault.AffFault.{AffFault}
 use Rattle.aff_core.specs.Arithmetic.{ExactWhere}
 use Rattle.item_core.specs.declared.image.Image.{Image}
 use Rattle.bridge_face.specs.State.{TakesDuals}
-use Rattle.bridge_face.specs.AnsweredLaws.{exact_as}
+use Rattle.aff_core.specs.AnsweredLaws.{exact_as}
 use Rattle.bridge_face.specs.Sources as kinds
 
 -- a row in a set that two others have in common
@@ -57,9 +58,6 @@ pub data IsSplit : Body → Type 0 where
 -- an item at an address, and an image of rows alone
 abbrev pub item_of : Address → Body → Item
 item_of at body = record { at = at; body = body }
-
-abbrev pub rows_alone : List Item → Image
-rows_alone rows = record { groups = []; exprs = []; rows = rows; objective = None }
 
 -- such a set
 pub data IsSplitSet : Set → Type 0 where
@@ -130,11 +128,6 @@ interval_low l u p q order above beneath = by (is_le (rational_cmp zero_ℚ (p +
         subst (λ r. ((l *ℚ p) +ℚ (u *ℚ q)) ≤ℚ r) (sym (*ℚ-+ℚ u p q))
         (≤ℚ-+ℚ_right (l *ℚ p) (u *ℚ p) (u *ℚ q) (≤ℚ-*ℚ l u p order above))
 
--- the bounds of an interval that isn't crossed
-uncrossed_order : (l u : Rational) → is_crossed (Interval l u) ≡ false → l ≤ℚ u
-uncrossed_order l u e =
-    ≤ℚ_from_not_‹ℚ l u (λ below. true≢false (sym ((is_lt_Decides u l).1 below) ∙ e))
-
 interval_splits : (l u : Rational) → IsSetOf 1 (Interval l u)
     → Splits 1 (Interval l u) (GreaterThan l) (LessThan u)
 interval_splits l u fits = record {
@@ -143,7 +136,7 @@ interval_splits l u fits = record {
   lows = λ p q long same_long.
       single₂ (λ p q. Dual (GreaterThan l) p → Dual (LessThan u) q
       → (low_of (GreaterThan l) p +ℚ low_of (LessThan u) q) ≤ℚ low_of (Interval l u) (plus p q))
-      (λ p q above beneath. interval_low l u p q (uncrossed_order l u fits.uncrossed) above beneath)
+      (λ p q above beneath. interval_low l u p q (in_order l u fits.uncrossed) above beneath)
       p q long same_long;
   lower_fits = record { dimension = refl; enough = omega arith; uncrossed = refl };
   upper_fits = record { dimension = refl; enough = omega arith; uncrossed = refl };

@@ -29,7 +29,7 @@ use Rattle.equality_form.specs.ReadBack.{Answer, infeasible, optimal, unbounded}
 use Rattle.equality_form.specs.Right.{AreDuals, HasDuals, IsRight, held}
 use Rattle.expansion.specs.Bridged.{EachBridgedIn, each_in, none_in}
 use Rattle.expansion.specs.Rules.{Rules}
-use Rattle.fresh_bridging.specs.EachLaws.{all_from_map}
+use Rattle.map_laws.specs.EachLaws.{all_from_map}
 use Rattle.fresh_bridging.specs.Entries.{Entry}
 use Rattle.fresh_bridging.specs.FreshBridging.{FreshBridging, leaves_of}
 use Rattle.fresh_bridging.specs.ModelImage.{objective_items, row_item}

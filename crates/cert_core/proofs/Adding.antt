@@ -11,6 +11,7 @@ use Rattle.rational_laws.specs.Field.{*ℚ-zero, +ℚ-zero}
 use Rattle.rational_laws.specs.Fitting.{Fits_zero}
 use Rattle.map_laws.specs.EntryLaws.{find_below}
 use Rattle.map_laws.specs.TestLaws.{first}
+use Rattle.map_laws.specs.EachLaws.{map_same_on}
 use Rattle.aff_core.specs.Address.{Address, address_cmp, address_eq, address_eq-Decides}
 use Rattle.aff_core.specs.Function.{Function, coefficient, terms_of, variable}
 use Rattle.aff_core.specs.FunctionLists.{coefficients}
@@ -30,13 +31,6 @@ use Rattle.cert_core.proofs.Places.{distinct, place_below, set_at_place, stands,
 use Rattle.cert_core.proofs.Steps.{made_there, next_item}
 use Rattle.rational_laws.specs.ZeroSums.{SumFits-zero_right}
 use Rattle.cert_core.proofs.Summed.{AddUp_one, Fits_sum, Fits_sum_from, SummedAsAll, step_of_one, summed_end, summed_refused, summed_step}
-
--- functions that agree on a list
-map_same_on : {X Y : Type 0} (f g : X → Y) (xs : List X) → All (λ x. f x ≡ g x) xs
-    → map f xs ≡ map g xs
-map_same_on f g [] h = refl
-map_same_on f g (x ∷ xs) h = ap₂ (λ y ys. y ∷ ys) (All-head (λ x. f x ≡ g x) x xs h)
-    (map_same_on f g xs (All-tail (λ x. f x ≡ g x) x xs h))
 
 -- ---- parts of each variable, one after the other
 

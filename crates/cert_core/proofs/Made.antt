@@ -3,8 +3,8 @@ use Rattle.std.specs.Prelude.{◌≡◌, ℕ, ◌+◌, ◌<◌, ◌≤◌, List,
 use Rattle.std.proofs.Common.{sym, ◌∙◌, ap, ap₂, subst, get_or}
 use Rattle.std.proofs.lemmas.List.{take_all}
 use Rattle.std.proofs.lemmas.List.Elements.{All-cons, All-get_or, All-head, All-more, All-nil, All-tail}
+use Rattle.map_laws.specs.LoopLaws.{map-take_more}
 use Rattle.ratio_core.specs.Rational.{Rational}
-use Rattle.cert_core.proofs.Steps.{map-take_more}
 
 module _ {X : Type 0} (F : X → Type 0) (f : X → Rational) (xs : List X) where
   -- those before a place fit, and their numbers are made
@@ -32,13 +32,6 @@ module _ {X : Type 0} (F : X → Type 0) (f : X → Rational) (xs : List X) wher
     subst (All F) (take_all i xs le) h.fits,
     h.is ∙ ap (map f) (take_all i xs le),
   )
-
--- the same of things and of what is made of them
-pub mapped_all : {X Y : Type 0} (P : Y → Type 0) (g : X → Y) (xs : List X) → All P (map g xs)
-    → All (λ x. P (g x)) xs
-mapped_all P g [] h = All-nil (λ x. P (g x))
-mapped_all P g (x ∷ xs) h = All-cons (λ x. P (g x)) x xs (All-head P (g x) (map g xs) h)
-    (mapped_all P g xs (All-tail P (g x) (map g xs) h))
 
 pub mapped_twice : {X Y Z : Type 0} (f : Y → Z) (g : X → Y) (xs : List X)
     → map f (map g xs) ≡ map (λ x. f (g x)) xs

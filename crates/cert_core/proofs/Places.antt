@@ -15,6 +15,7 @@ use Rattle.std.proofs.lemmas.List.Sorted.{searchable_from_sorted}
 use Rattle.std.proofs.lemmas.Map.Keys.{IsDistinct-head, IsDistinct-tail}
 use Rattle.std.proofs.lemmas.Map.Made.{IsDistinct-from_AllPairs}
 use Rattle.std.proofs.lemmas.Option.{get_or_from_slice_get, slice_get-get_or}
+use Rattle.map_laws.specs.TestLaws.{less_number}
 use Rattle.ratio_core.specs.Rational.{Rational, zero_ℚ}
 use Rattle.numbered.specs.Numbered.{Rise}
 use Rattle.numbered.specs.Laws.{Rise-head, Rise-tail}
@@ -28,9 +29,6 @@ use Rattle.certificates.specs.Points.{address_of, addresses_of}
 use Rattle.cert_core.specs.Variables.{Ascend, IsPlaceOf}
 
 -- ---- variables whose numbers rise have addresses that ascend
-
-less_number : (m n : ℕ) → m < n → nat_cmp m n ≡ Less
-less_number m n h = ap (λ b. cond b Less (cond (m == n) Equal Greater)) (lt-ltb m n h)
 
 less_address : (m n : ℕ) → m < n → address_cmp (variable_address m) (variable_address n) ≡ Less
 unfolding address_cmp

@@ -9,13 +9,6 @@ pub next_item : {X : Type 0} (xs : List X) (i : ℕ) (x : X) → x ≡ get_or xs
     → drop i xs ≡ x ∷ drop (i + 1) xs
 next_item xs i x is lt = drop_more xs i x lt ∙ ap (λ y. y ∷ drop (i + 1) xs) (sym is)
 
--- one more of a list that is gone through
-pub map-take_more : {X Y : Type 0} (f : X → Y) (xs : List X) (i : ℕ) (x : X) → x ≡ get_or xs i x
-    → i < length xs → map f (take (i + 1) xs) ≡ map f (take i xs) ++ f x ∷ []
-map-take_more f xs i x is lt =
-    ap (map f) (take_more xs i x lt) ∙ map-append f (take i xs) (get_or xs i x ∷ [])
-    ∙ ap (λ y. map f (take i xs) ++ f y ∷ []) (sym is)
-
 -- the item at a place
 pub some_item : {X : Type 0} (xs : List X) (i : ℕ) → i < length xs
     → (x : X) × (x ≡ get_or xs i x)

@@ -8,8 +8,8 @@ use Rattle.std.proofs.lemmas.List.Sums.{fold-append}
 use Rattle.ratio_core.specs.Folds.{sum_from}
 use Rattle.ratio_core.specs.Rational.{Fits, Rational, SumFits, common_divisor, neg_ℚ, sum_of_terms, zero_ℚ, ◌*ℚ◌, ◌+ℚ◌, ◌-ℚ◌}
 use Rattle.ratio_core.specs.Gcd.{gcd}
+use Rattle.ratio_core.specs.RationalLaws.{unsigned_abs-signed}
 use Rattle.ratio_core.proofs.Products.{signed_itself}
-use Rattle.ratio_core.proofs.Kept.{unsigned_abs-signed}
 use Rattle.ratio_core.proofs.Sums.{sum_value}
 use Rattle.rational_laws.specs.Field.{+ℚ-zero, neg_ℚ-neg_ℚ}
 use Rattle.rational_laws.specs.Fitting.{Fits_neg_ℚ, Fits_zero}

@@ -70,15 +70,3 @@ pub cell_of_rest : (row rest : List Rational) (c j : ℕ) → length row ≡ c
     → cell (row ++ rest) (c + j) ≡ cell rest j
 cell_of_rest row rest c j e = ap (λ n. cell (row ++ rest) (n + j)) (sym e)
     ∙ get_or-append-add row rest j zero_ℚ
-
--- ---- all of a list that is joined
-
-module _ {X : Type 0} (P : X → Type 0) where
-  pub All-first : (xs ys : List X) → All P (xs ++ ys) → All P xs
-  All-first [] ys h = All-nil P
-  All-first (x ∷ xs) ys h =
-      All-cons P x xs (All-head P x (xs ++ ys) h) (All-first xs ys (All-tail P x (xs ++ ys) h))
-
-  pub All-second : (xs ys : List X) → All P (xs ++ ys) → All P ys
-  All-second [] ys h = h
-  All-second (x ∷ xs) ys h = All-second xs ys (All-tail P x (xs ++ ys) h)

@@ -6,6 +6,7 @@ use Rattle.std.proofs.Common.{sym, ◌∙◌, ap, arith, subst}
 use Rattle.std.proofs.lemmas.List.{length-drop, length-map}
 use Rattle.std.proofs.lemmas.List.Elements.{All-append, All-cons, All-drop, All-head, All-map, All-nil, All-tail, All-weaker}
 use Rattle.std.proofs.lemmas.Simd.{map-map}
+use Rattle.map_laws.specs.EachLaws.{all_first, all_second}
 use Rattle.ratio_core.specs.Rational.{Rational, one_ℚ, zero_ℚ, ◌*ℚ◌, ◌+ℚ◌}
 use Rattle.rational_laws.specs.Dot.{dot}
 use Rattle.rational_laws.specs.Sums.{sum_by_ℚ, sum_by_ℚ-map}
@@ -23,7 +24,7 @@ use Rattle.simplex_core.specs.StdForm.{equality_form}
 use Rattle.simplex_form.specs.Form.{left_side}
 use Rattle.solver_store.specs.declared.leaf.LeafVar.{LeafVar}
 use Rattle.tableau_core.specs.Row.{cell}
-use Rattle.equality_form.specs.CellLaws.{All-first, All-second, dot_of_maps, flipped-flipped}
+use Rattle.equality_form.specs.CellLaws.{dot_of_maps, flipped-flipped}
 use Rattle.equality_form.specs.Columns.{parts, slacks}
 use Rattle.equality_form.specs.ComponentLaws.{Meets, in_set, meets}
 use Rattle.equality_form.specs.EqualityForm.{column_count, form_of_leaves, numbers_at, unit_at}
@@ -46,8 +47,8 @@ pub by_row : (P : Equation → Type 0) (rows : List (Address × Body)) → All P
 by_row P [] h = All-nil (EachComponent P)
 by_row P (row ∷ rows) h =
     All-cons (EachComponent P) row rows
-    (components (functions_of row.1) (All-first P (equations_of row.1) (equations_among rows) h))
-    (by_row P rows (All-second P (equations_of row.1) (equations_among rows) h))
+    (components (functions_of row.1) (all_first P (equations_of row.1) (equations_among rows) h))
+    (by_row P rows (all_second P (equations_of row.1) (equations_among rows) h))
   where
     components : (fs : List Function)
         → All P (map (λ f. record { function = f; set = set_of row.1 }) fs)

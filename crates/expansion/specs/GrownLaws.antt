@@ -3,13 +3,11 @@
 use Rattle.std.specs.Prelude.{◌≡◌, ℕ, zero, suc, ◌+◌, ◌≤◌, List, [], Option, Some, refl}
 use Rattle.std.proofs.Common.{sym, ap, ◌∙◌, arith}
 use Rattle.std.specs.Option.{option_and_then}
+use Rattle.std.proofs.lemmas.Option.{same_Some}
 use Rattle.expansion.specs.Rules.{Rules}
 use Rattle.expansion.specs.Bridged.{Bridged, EachBridged, EachBridgedIn, by, each, each_in, natively, none, none_in}
 use Rattle.expansion.specs.Read.{fits, fits_each, fits_in, leaves, leaves_in, leaves_of_each, nodes, nodes_in, nodes_of_each}
 use Rattle.expansion.specs.Grown.{Held, grown, grown_by, grown_each, grown_in, joined, node_held, put_held}
-
-inside : {A : Type 0} {x y : A} → Some x ≡ Some y → x ≡ y
-inside e = cc
 
 -- two that are there, put together
 paired : {A B C : Type 0} (make : A → B → C) (a : Option A) (b : A → Option B) (x : A) (y : B)
@@ -97,11 +95,11 @@ module _ {Item Entry : Type 0} {rules : Rules Item Entry} where
       (other : Bridged rules item fs)
       → held tree ≡ held other
   held_once tree other =
-      inside (sym (grown_is (depth tree + depth other) tree (omega arith))
+      same_Some _ _ (sym (grown_is (depth tree + depth other) tree (omega arith))
       ∙ grown_is (depth tree + depth other) other (omega arith))
 
   pub held_each_once : {items : List Item} {es fs : List Entry} (trees : EachBridged rules items es)
       (others : EachBridged rules items fs) → held_each trees ≡ held_each others
   held_each_once trees others =
-      inside (sym (grown_each_is (depth_each trees + depth_each others) trees (omega arith))
+      same_Some _ _ (sym (grown_each_is (depth_each trees + depth_each others) trees (omega arith))
       ∙ grown_each_is (depth_each trees + depth_each others) others (omega arith))

@@ -40,7 +40,8 @@ module _ {Item Entry : Type 0} (rules : Rules Item Entry) where
         make (ranked.groups item edge can c) in (
           _,
           by c groups.1 (each_bridged_in (RanksBelow Can rank (rank item)) groups.0
-              (rules.image edge item).others make (ranked.others item edge groups.0 can c groups.1)),
+              (rules.image edge item).others make
+              (ranked.others item edge groups.0 can c groups.1)),
         )
     by_choice item can make Missing c = absurd (ranked.chosen item can c)
 

@@ -7,6 +7,7 @@ use Rattle.std.specs.List.{list_any}
 use Rattle.std.proofs.lemmas.Bool.Decides.{Decides-eqb, nat_tests}
 use Rattle.std.proofs.lemmas.List.{length-append}
 use Rattle.std.proofs.lemmas.List.Elements.{All-weaker}
+use Rattle.std.proofs.lemmas.Bool.{not-true, or_right}
 use Rattle.bridge_graph.specs.Hypergraph.{IsCostly}
 use Rattle.bridge_graph.specs.declared.Choice.{Choice}
 use Rattle.bridge_graph.specs.declared.Choice.TheVariants.{By}
@@ -23,10 +24,10 @@ use Rattle.item_core.specs.Valid.{IsValidItem}
 use Rattle.bridge_face.specs.ImageOf.{image_of}
 use Rattle.aff_core.specs.Address.{Address, child_of}
 use Rattle.bridge_face.specs.Law.{EdgeLaw, GrowsBy, IsItemFor, IsLawful, IsValidWithin, LeadsTo, children, growth}
-use Rattle.fresh_bridging.specs.EachLaws.{StandsFrom, all_both, stand_from}
+use Rattle.map_laws.specs.EachLaws.{StandsFrom, all_both, stand_from}
 use Rattle.fresh_bridging.specs.FreshBridging.{HasTree}
 use Rattle.fresh_bridging.specs.RankingLaws.{LeadsDown, fewer_below, leads_down, rank, ranked_below}
-use Rattle.fresh_bridging.specs.TableLaws.{all_keep_at, and_first, and_second, comes_of_norms, doubles_seldom, ends_norms, equal_kind, grows_once, grows_seldom, splits_reals, is_norm_kind, keeps_to_the_table, leads_from_others, of_family, or_second, plain_beside_free}
+use Rattle.fresh_bridging.specs.TableLaws.{all_keep_at, and_first, and_second, comes_of_norms, doubles_seldom, ends_norms, equal_kind, grows_once, grows_seldom, splits_reals, is_norm_kind, keeps_to_the_table, leads_from_others, of_family, plain_beside_free}
 use Rattle.fresh_bridging.specs.TheRules.{AreChoices, Setting, edge_at, graph_of, is_usable}
 
 -- every family of which there is a box keeps the law of its edges
@@ -46,10 +47,6 @@ left_if false false h e = absurd (true≢false (sym e))
 either : (C : Type 0) (a b : Bool) → (a || b) ≡ true → (a ≡ true → C) → (b ≡ true → C) → C
 either C true b h first second = first refl
 either C false b h first second = second h
-
-not_true : (b : Bool) → not b ≡ true → b ≡ false
-not_true true h = absurd (true≢false (sym h))
-not_true false h = refl
 
 module _ (setting : Setting) (costly : IsCostly (graph_of setting)) (choice : ℕ → Choice)
     (chosen : AreChoices setting choice) where
@@ -164,7 +161,7 @@ module _ (setting : Setting) (costly : IsCostly (graph_of setting)) (choice : �
             ap (λ b. b || list_any is_norm_kind ks) (sym (ap is_norm_kind (equal_kind kind k same))
             ∙ norm)
         by false other rest later =
-            or_second (is_norm_kind k) (list_any is_norm_kind ks) (later rest norm)
+            or_right (is_norm_kind k) (list_any is_norm_kind ks) (later rest norm)
 
     grown_once : grows_once down.entry ≡ true
     grown_once =
@@ -236,7 +233,7 @@ module _ (setting : Setting) (costly : IsCostly (graph_of setting)) (choice : �
               let source : is_norm_kind (kind_of_body item.body) ≡ true = ap is_norm_kind
               down.source ∙ and_first (is_norm_kind down.entry.source)
               (not (list_any is_norm_kind (kinds_in down.entry.children))) h in
-              let none = not_true (list_any is_norm_kind (kinds_in down.entry.children))
+              let none = not-true (list_any is_norm_kind (kinds_in down.entry.children))
               (and_second (is_norm_kind down.entry.source) (not
               (list_any is_norm_kind (kinds_in down.entry.children))) h) in
               let child : is_norm_kind kind ≡ false = no_norm (is_norm_kind kind) refl none in

@@ -17,7 +17,7 @@ use Rattle.user_model.specs.Model.{ModelValue}
 use Rattle.user_model.specs.Valid.{IsValid}
 use Rattle.fresh_bridging.specs.CanLaws.{AreLawful}
 use Rattle.fresh_bridging.specs.ChoiceLaws.{one_choice}
-use Rattle.fresh_bridging.specs.EachLaws.{all_from_map, all_second}
+use Rattle.map_laws.specs.EachLaws.{all_from_map, all_second}
 use Rattle.fresh_bridging.specs.Entries.{Entry, put_in}
 use Rattle.fresh_bridging.specs.ExistenceLaws.{bridged_by_trees, groups_bridged, trees_of_bridged}
 use Rattle.fresh_bridging.specs.FreshBridging.{FreshBridging, HasTree, IsFirstTreeless, IsUnsupported, by_group, by_other}

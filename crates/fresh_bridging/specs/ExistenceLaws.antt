@@ -27,6 +27,7 @@ use Rattle.item_core.specs.Kind.{kind_eq, kind_number}
 use Rattle.item_core.specs.KindOf.{group_kind_of, kind_of_body}
 use Rattle.item_core.specs.Valid.{IsValidItem, below}
 use Rattle.bridge_face.specs.Law.{HasComponents}
+use Rattle.bridge_face.specs.ComponentLaws.{below_child}
 use Rattle.expansion.specs.Rules.{Image}
 use Rattle.aff_core.specs.declared.root.Root.TheVariants as root
 use Rattle.user_model.specs.Model.{ModelValue}
@@ -34,14 +35,14 @@ use Rattle.user_model.specs.Valid.{IsValid, IsValidGroup}
 use Rattle.user_model.specs.declared.group.Group.{Group as UserGroup}
 use Rattle.fresh_bridging.specs.BodyLaws.{KeepsNamed, kind_put, length_put, valid_put}
 use Rattle.fresh_bridging.specs.CanLaws.{AreLawful, Can, IsChild, are_children, child_can, down, keeps, lists, rank_of, start_size}
-use Rattle.fresh_bridging.specs.EachLaws.{StandsFrom, all_both, all_first, all_from_map, all_second, stand_second}
+use Rattle.map_laws.specs.EachLaws.{StandsFrom, all_both, all_first, all_from_map, all_second, stand_second}
 use Rattle.fresh_bridging.specs.Entries.{Entry, is_kept, put_in, put_in_body}
 use Rattle.fresh_bridging.specs.FreshBridging.{FreshBridging, HasTree}
 use Rattle.fresh_bridging.specs.MentionLaws.{AllOmit, by_lookup}
 use Rattle.fresh_bridging.specs.ModelImage.{group_item, model_image}
 use Rattle.fresh_bridging.specs.ModelLaws.{IsFurther, further, group_size, group_valid, not_owned}
 use Rattle.fresh_bridging.specs.RankingLaws.{at_most_34}
-use Rattle.fresh_bridging.specs.OmitLaws.{IsGroup, Owns, StandsAsGroup, apart, below_child, child_groups, edge_law, groups_in, omits_each, others_in, owned, standing_groups}
+use Rattle.fresh_bridging.specs.OmitLaws.{IsGroup, Owns, StandsAsGroup, apart, child_groups, edge_law, groups_in, omits_each, others_in, owned, standing_groups}
 use Rattle.fresh_bridging.specs.TableLaws.{and_first, and_second, is_group_kind, is_plain_kind, leads_from_others, grows_seldom, plain_beside_free, equal_kind}
 use Rattle.fresh_bridging.specs.TheRules.{AreChoices, IsChoice, Setting, graph_of, rules_by}
 

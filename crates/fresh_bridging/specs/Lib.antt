@@ -12,7 +12,6 @@ pub mod RankingLaws
 pub mod MentionLaws
 pub mod BodyLaws
 pub mod CanLaws
-pub mod EachLaws
 pub mod OmitLaws
 pub mod ModelLaws
 pub mod ExistenceLaws

@@ -9,7 +9,7 @@ use Rattle.aff_core.specs.Address.{Address, address_cmp, address_eq}
 use Rattle.aff_core.specs.Arithmetic.{composed}
 use Rattle.aff_core.specs.ArithmeticLaws.{coefficient-composed, constant-composed}
 use Rattle.aff_core.specs.Function.{Function, coefficient, slope, terms_of, value_of, variable}
-use Rattle.aff_core.specs.FunctionLaws.{coefficient-variable_other, constant-function_of, same_coefficients}
+use Rattle.aff_core.specs.FunctionLaws.{coefficient-variable_other, constant-function_of, constant-variable, same_coefficients}
 use Rattle.aff_core.specs.KeyOrder.{address_order}
 use Rattle.aff_core.specs.Terms.{linear}
 use Rattle.linear_laws.specs.ListLaws.{slope_variable}
@@ -72,11 +72,6 @@ put_into_omits entries (Kept var) v all none = by_lookup (Omits v) entries var a
 put_into_omits entries (Bridged func) v all none = composed_omits entries func v all none
 
 -- ---- a variable's function, composed, is what stands for the variable
-
-pub variable_constant : (u : Address) → (variable {R = address_cmp} u).constant ≡ zero_ℚ
-unfolding variable
-variable_constant u = constant-function_of address_cmp ((u, one_ℚ) ∷ []) zero_ℚ
-
 pub composed-variable : (e : Address → Function) (u : Address)
     → composed e (variable {R = address_cmp} u) ≡ e u
 unfolding value_of
@@ -88,5 +83,5 @@ composed-variable e u =
   where
     value : value_of (variable {R = address_cmp} u) (λ w. (e w).constant) ≡ (e u).constant
     value =
-        ap₂ ◌+ℚ◌ (variable_constant u) (slope_variable u (λ w. (e w).constant))
+        ap₂ ◌+ℚ◌ (constant-variable address_cmp u) (slope_variable u (λ w. (e w).constant))
         ∙ zero-+ℚ (e u).constant

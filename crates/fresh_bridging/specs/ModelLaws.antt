@@ -6,6 +6,7 @@ use Rattle.std.specs.FinMap as finite
 use Rattle.std.specs.List.{list_any}
 use Rattle.std.proofs.lemmas.List.{length-map}
 use Rattle.std.proofs.lemmas.List.Elements.{All-append, All-cons, All-head, All-map, All-nil, All-tail, All-weaker}
+use Rattle.std.proofs.lemmas.Bool.{false_from_ne_true}
 use Rattle.ratio_core.specs.Rational.{zero_ℚ}
 use Rattle.set_core.specs.Shapes.{IsSetOf, is_norm_cone, is_scalar, least_dimension}
 use Rattle.set_core.specs.declared.set.Set.{Set}
@@ -88,10 +89,6 @@ unmentioned f v h = by (finite.get f.terms v) refl h
 stands_root : (groups : List Group) (v : Address) → Stands groups v → v.root ≡ root.Variable
 stands_root groups v h = ap (λ (a : Address). a.root) h.address
 
-pub not_mentioned : (b : Bool) → (b ≡ true → ⊥) → b ≡ false
-not_mentioned true h = absurd (h refl)
-not_mentioned false h = refl
-
 none_of : {A : Type 0} (p : A → Bool) (x : A) (xs : List A) → list_any p (x ∷ xs) ≡ false
     → (p x ≡ false) × (list_any p xs ≡ false)
 none_of p x xs h = by (p x) refl h
@@ -146,7 +143,7 @@ pub row_variables : (groups : List Group) (row : Row) → IsValidRow groups row
 row_variables groups row h =
     each_at (λ v f. coefficient f v ≡ zero_ℚ) (λ v. v.root ≢ root.Variable)
     (functions_of (row_item row).body)
-    (λ v other. row_omits row.func row.set v (not_mentioned (func_mentions v row.func)
+    (λ v other. row_omits row.func row.set v (false_from_ne_true (func_mentions v row.func)
     (λ t. other (stands_root groups v (h.stand v t)))))
 
 -- ---- rows
@@ -171,11 +168,11 @@ row_set_is (Affine f) s = refl
 row_set_is (PlainVec vars) s = refl
 row_set_is (AffineVec fs) s = refl
 
-row_is_row : (func : UserFunc) (s : Set) → is_group (row_body func s) ≡ false
-row_is_row (Plain var) s = refl
-row_is_row (Affine f) s = refl
-row_is_row (PlainVec vars) s = refl
-row_is_row (AffineVec fs) s = refl
+pub row_no_group : (func : UserFunc) (s : Set) → is_group (row_body func s) ≡ false
+row_no_group (Plain var) s = refl
+row_no_group (Affine f) s = refl
+row_no_group (PlainVec vars) s = refl
+row_no_group (AffineVec fs) s = refl
 
 -- what names variables alone names nothing below an address of another root
 pub names_nothing : (at : Address) → at.root ≢ root.Variable → (fs : List Function) → OfVariables fs
@@ -255,7 +252,7 @@ pub row_further : (groups : List Group) (row : Row) → IsValidRow groups row
     → IsFurther (row_item row)
 row_further groups row h = record {
   valid = row_valid groups row h;
-  no_group = row_is_row row.func row.set;
+  no_group = row_no_group row.func row.set;
   count = omega (arith, row_count row.func row.set, h.limit);
   root = inl refl;
   top = refl;
@@ -264,7 +261,7 @@ row_further groups row h = record {
 pub objective_further : (groups : List Group) (o : Objective) → IsValidObjective groups o
     → All IsFurther (objective_items o)
 objective_further groups o h = by o (λ v other. objective_omits o v
-    (not_mentioned (objective_mentions v o) (λ t. other (stands_root groups v (h.stand v t)))))
+    (false_from_ne_true (objective_mentions v o) (λ t. other (stands_root groups v (h.stand v t)))))
   where
     by : (o : Objective) → ((v : Address) → v.root ≢ root.Variable
         → All (λ item. All (λ f. coefficient f v ≡ zero_ℚ) (functions_of item.body))

@@ -29,8 +29,9 @@ use Rattle.bridge_face.specs.BackOf.{size}
 use Rattle.bridge_face.specs.ImageOf.{begins_free, free_at, group_at, image_by, image_of}
 use Rattle.set_core.specs.declared.set.Set.TheVariants.{Reals}
 use Rattle.bridge_face.specs.Law.{EdgeLaw, HasComponents, expressed, inner_of, listed}
+use Rattle.bridge_face.specs.ComponentLaws.{below_child, same_place}
 use Rattle.fresh_bridging.specs.CanLaws.{AreLawful, Can, IsChild, are_children, child_can, law, rank_of}
-use Rattle.fresh_bridging.specs.EachLaws.{StandsFrom, all_both, all_first, all_from_map, all_seconds, stand_first}
+use Rattle.map_laws.specs.EachLaws.{StandsFrom, all_both, all_first, all_from_map, all_seconds, stand_first}
 use Rattle.fresh_bridging.specs.Entries.{Entry, put_into}
 use Rattle.fresh_bridging.specs.MentionLaws.{AllOmit, Omits, put_into_omits}
 use Rattle.fresh_bridging.specs.TheRules.{AreChoices, Setting, edge_at, graph_of, outer_entries, own_entries, rules_by}
@@ -46,21 +47,10 @@ pub record IsBelowAt (at : Address) (position : ℕ) (v : Address) : Type 0 wher
   pub rest : List ℕ
   pub is : v ≡ below at (position ∷ rest)
 
-same_position : (xs : List ℕ) (i j : ℕ) (r s : List ℕ) → xs ++ (i ∷ r) ≡ xs ++ (j ∷ s) → i ≡ j
-same_position [] i j r s e = first i j r s e
-  where
-    first : (a b : ℕ) (l m : List ℕ) → a ∷ l ≡ b ∷ m → a ≡ b
-    first a b l m k = cc
-same_position (x ∷ xs) i j r s e =
-    same_position xs i j r s (rest x (xs ++ (i ∷ r)) (xs ++ (j ∷ s)) e)
-  where
-    rest : (a : ℕ) (l m : List ℕ) → a ∷ l ≡ a ∷ m → l ≡ m
-    rest a l m k = cc
-
 -- nothing stands at or below two children
 pub apart : (at : Address) (i j : ℕ) (v : Address) → IsBelowAt at i v → IsBelowAt at j v → i ≡ j
 apart at i j v a b =
-    same_position at.positions i j a.rest b.rest (ap (λ (x : Address). x.positions)
+    same_place at.positions i j a.rest b.rest (ap (λ (x : Address). x.positions)
     (sym a.is ∙ b.is))
 
 -- a variable of the group, or an address at or below the group's
@@ -70,11 +60,6 @@ Owns group v = IsBelow group.at v ⊎ Contains (variables_of group.body) v
 appended : (xs ys zs : List ℕ) → (xs ++ ys) ++ zs ≡ xs ++ (ys ++ zs)
 appended [] ys zs = refl
 appended (x ∷ xs) ys zs = ap (λ l. x ∷ l) (appended xs ys zs)
-
-pub below_child : (at : Address) (j : ℕ) (rest : List ℕ)
-    → below (child_of at j) rest ≡ below at (j ∷ rest)
-below_child at j rest =
-    ap (λ l. record at { positions = l }) (appended at.positions (j ∷ []) rest)
 
 -- ---- groups in images
 

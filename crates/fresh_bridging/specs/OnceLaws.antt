@@ -3,6 +3,7 @@ use Rattle.std.specs.Prelude.{◌≡◌, ◌+◌, ◌&&◌, ◌++◌, List, map,
 use Rattle.std.proofs.Common.{arith, ap, ap₂, sym, subst, ◌∙◌}
 use Rattle.std.specs.FinMap as finite
 use Rattle.std.specs.Option.{option_map, option_or}
+use Rattle.std.proofs.lemmas.Option.{same_Some}
 use Rattle.bridge_graph.specs.Hypergraph.{IsCostly}
 use Rattle.expansion.specs.Bridged.{EachBridged, EachBridgedIn, Fresh, each, each_in, none, none_in}
 use Rattle.expansion.specs.Grown.{Held}
@@ -15,9 +16,6 @@ use Rattle.fresh_bridging.specs.FreshBridging.{FreshBridging, is_made, leaves_of
 use Rattle.fresh_bridging.specs.Leaves.{leaf_model_of}
 use Rattle.fresh_bridging.specs.ModelImage.{model_image}
 use Rattle.fresh_bridging.specs.TheRules.{Setting, graph_of, rules_by}
-
-inside : {A : Type 0} {x y : A} → Some x ≡ Some y → x ≡ y
-inside e = cc
 
 -- what is read of a bridging of a model
 pub record ModelHeld (Item Entry : Type 0) : Type 0 where
@@ -40,7 +38,7 @@ module _ {Item Entry : Type 0} {rules : Rules Item Entry} where
       (trees others : EachBridgedIn rules inner items)
       → held_in trees ≡ held_in others
   held_in_once trees others =
-      inside (sym (grown_in_is (depth_in trees + depth_in others) trees (omega arith))
+      same_Some _ _ (sym (grown_in_is (depth_in trees + depth_in others) trees (omega arith))
       ∙ grown_in_is (depth_in trees + depth_in others) others (omega arith))
 
   unfit_in_once : {inner : List Entry} {items : List Item}
@@ -91,7 +89,7 @@ module _ {Item Entry : Type 0} {rules : Rules Item Entry} where
 -- ---- the user's model
 
 module _ (setting : Setting) (model : ModelValue) (costly : IsCostly (graph_of setting)) where
-  same_choices : (one other : FreshBridging setting model) → one.choice ≡ other.choice
+  pub same_choices : (one other : FreshBridging setting model) → one.choice ≡ other.choice
   same_choices one other =
       λ i kind. one_choice (graph_of setting) costly kind (one.choice kind) (other.choice kind)
       (one.chosen kind) (other.chosen kind) i

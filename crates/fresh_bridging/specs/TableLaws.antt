@@ -6,6 +6,9 @@ use Rattle.std.specs.Option.{option_map}
 use Rattle.std.proofs.lemmas.Bool.Decides.{Decides-eqb}
 use Rattle.std.proofs.lemmas.List.Elements.{All-head, All-tail}
 use Rattle.std.proofs.lemmas.Option.{none-some, same_Some, slice_get-map}
+use denote.Enum.Bare.{same_true}
+use Rattle.item_core.specs.contracts.family.Family.{the_type}
+use Rattle.map_laws.specs.EachLaws.{all_at}
 use Rattle.bridge_graph.specs.Hypergraph.{children_of as children_in}
 use Rattle.bridge_graph.specs.declared.EdgeRow.{EdgeRow}
 use Rattle.item_core.specs.declared.edge.Edge.{Edge}
@@ -13,14 +16,13 @@ use Rattle.item_core.specs.declared.edge.EdgeEntry.{EdgeEntry}
 use Rattle.item_core.specs.declared.edge.TheConstants.{EDGES, EDGE_ROWS}
 use Rattle.item_core.specs.declared.edge.Edge.TheVariants.{E1}
 use Rattle.item_core.specs.declared.family.Family.{Family}
-use Rattle.item_core.specs.declared.family.Family.TheVariants as family
 use Rattle.item_core.specs.declared.kind.Kind.{Kind}
 use Rattle.item_core.specs.declared.kind.Kind.TheVariants.{PlainLessThan, PlainGreaterThan, PlainEqualTo, PlainInterval, AffineLessThan, AffineGreaterThan, AffineEqualTo, AffineInterval, VplainReals, VplainZeros, VplainNonnegatives, VplainNonpositives, VplainNormInfinityCone, VplainNormOneCone, VaffineReals, VaffineZeros, VaffineNonnegatives, VaffineNonpositives, VaffineNormInfinityCone, VaffineNormOneCone, GroupLessThan, GroupGreaterThan, GroupEqualTo, GroupInterval, GroupReals, GroupZeros, GroupNonnegatives, GroupNonpositives, GroupNormInfinityCone, GroupNormOneCone, Free, MinPlain, MinAffine, MaxPlain, MaxAffine}
 use Rattle.item_core.specs.declared.kind.TheConstants.{KINDS}
 use Rattle.item_core.specs.Edge.{edge_entry, edges_of, family_eq, kinds_in}
 use Rattle.item_core.specs.Kind.{kind_eq, kind_number}
 use Rattle.bridge_face.specs.Law.{growth}
-use Rattle.fresh_bridging.specs.TheRules.{Setting, edge_at, edges_on, is_usable}
+use Rattle.fresh_bridging.specs.TheRules.{Setting, edge_at, edges_on, family_number, is_usable}
 
 -- ---- kinds
 
@@ -160,27 +162,11 @@ of_filtered P g p (y ∷ ys) (suc n) x e passes h = of_filtered P g p ys n x e p
     rest true k = All-tail P (g y) (map g (filter p ys)) k
     rest false k = k
 
-family_itself : (family : Family) → family_eq family family ≡ true
-family_itself family.GreaterLess = refl
-family_itself family.OrthantFlip = refl
-family_itself family.NonposVar = refl
-family_itself family.ObjFlip = refl
-family_itself family.Vectorize = refl
-family_itself family.Scalarize = refl
-family_itself family.ScalarFunctionize = refl
-family_itself family.VectorFunctionize = refl
-family_itself family.VectorizeVar = refl
-family_itself family.ObjFunctionize = refl
-family_itself family.SplitSet = refl
-family_itself family.DropReals = refl
-family_itself family.ZerosVar = refl
-family_itself family.FreeVar = refl
-family_itself family.ScalarSlack = refl
-family_itself family.VectorSlack = refl
-family_itself family.Later = refl
-family_itself family.ObjSlack = refl
-family_itself family.NormInfinity = refl
-family_itself family.NormOne = refl
+pub family_itself : (family : Family) → family_eq family family ≡ true
+family_itself family = (Decides-eqb (family_number family) (family_number family)).1 refl
+
+pub equal_family : (a b : Family) → family_eq a b ≡ true → a ≡ b
+equal_family a b e = same_true the_type tt a b e
 
 pub of_family : (P : Edge → Type 0) (n : ℕ) (entry : EdgeEntry) → slice_get EDGES n ≡ Some entry
     → All P (edges_of entry.family) → P entry.edge
@@ -247,26 +233,10 @@ keeps_to_the_table e = plain_beside_free e && (leads_from_others e && grows_seld
 all_keep : list_all keeps_to_the_table EDGES ≡ true
 all_keep = refl
 
-pub at_all : {A : Type 0} (p : A → Bool) (xs : List A) (n : ℕ) (x : A) → list_all p xs ≡ true
-    → slice_get xs n ≡ Some x → p x ≡ true
-at_all p xs n x h e =
-    same_Some _ _ (sym (mapped_at p xs n x e) ∙ all_true xs n (p x) h (mapped_at p xs n x e))
-  where
-    all_true : (ys : List _) (m : ℕ) (b : Bool) → list_all p ys ≡ true
-        → slice_get (map p ys) m ≡ Some b
-        → slice_get (map p ys) m ≡ Some true
-    all_true [] m b k f = absurd (none-some b f)
-    all_true (y ∷ ys) zero b k f = ap Some (and_first (p y) (list_all p ys) k)
-    all_true (y ∷ ys) (suc m) b k f = all_true ys m b (and_second (p y) (list_all p ys) k) f
-
 pub all_keep_at : (n : ℕ) (entry : EdgeEntry) → slice_get EDGES n ≡ Some entry
     → keeps_to_the_table entry ≡ true
-all_keep_at n entry e = at_all keeps_to_the_table EDGES n entry all_keep e
+all_keep_at n entry e = all_at keeps_to_the_table EDGES n entry all_keep e
 
 pub equal_kind : (a b : Kind) → kind_eq a b ≡ true → a ≡ b
 equal_kind a b e =
     same_kind a b ((Decides-eqb (kind_number a) (kind_number b)).0 (sym (equal_kinds a b) ∙ e))
-
-pub or_second : (a b : Bool) → b ≡ true → (a || b) ≡ true
-or_second true b h = refl
-or_second false b h = h

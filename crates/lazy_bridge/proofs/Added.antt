@@ -7,23 +7,14 @@ use Rattle.std.proofs.Common.{rules, sym, ap, ap₂, subst, ◌∙◌, true≢fa
 use Rattle.std.proofs.lemmas.Bool.Decides.{Decides-eqb}
 use Rattle.std.proofs.lemmas.List.{map-append}
 use Rattle.std.proofs.lemmas.List.Elements.{All-append, All-cons, All-nil}
+use Rattle.std.proofs.lemmas.Bool.{or_parts}
 use Rattle.bridge_face.specs.State.{State}
 use Rattle.boxes.specs.Boxed.{families_of, occur_once}
-use Rattle.fresh_bridging.specs.TableLaws.{and_first, and_second}
+use Rattle.fresh_bridging.specs.TableLaws.{and_first, and_second, equal_family, family_itself}
 use Rattle.fresh_bridging.specs.TheRules.{family_number}
 use Rattle.item_core.specs.declared.family.Family.{Family}
 use Rattle.item_core.specs.contracts.family.Family.{the_type}
 use Rattle.item_core.specs.Edge.{family_eq}
-
-itself : (f : Family) → family_eq f f ≡ true
-itself f = (Decides-eqb (family_number f) (family_number f)).1 refl
-
-equal_family : (a b : Family) → family_eq a b ≡ true → a ≡ b
-equal_family a b e = same_true the_type (search rules) a b e
-
-two_false : (a b : Bool) → (a || b) ≡ false → (a ≡ false) × (b ≡ false)
-two_false true b e = absurd (true≢false e)
-two_false false b e = (refl, e)
 
 other_way : (f g : Family) → family_eq f g ≡ false → family_eq g f ≡ false
 other_way f g e = by (family_eq g f) refl
@@ -31,20 +22,20 @@ other_way f g e = by (family_eq g f) refl
     by : (b : Bool) → family_eq g f ≡ b → b ≡ false
     by false h = refl
     by true h =
-        absurd (true≢false (sym (itself f) ∙ ap (family_eq f) (sym (equal_family g f h)) ∙ e))
+        absurd (true≢false (sym (family_itself f) ∙ ap (family_eq f) (sym (equal_family g f h)) ∙ e))
 
 still_none : (g f : Family) (fs : List Family) → list_any (family_eq g) fs ≡ false
     → family_eq g f ≡ false → list_any (family_eq g) (fs ++ f ∷ []) ≡ false
 still_none g f [] h e = ap (λ b. b || false) e
 still_none g f (x ∷ fs) h e =
-    let both = two_false (family_eq g x) (list_any (family_eq g) fs) h in
+    let both = or_parts (family_eq g x) (list_any (family_eq g) fs) h in
     ap₂ ◌||◌ both.0 (still_none g f fs both.1 e)
 
 pub one_more : (fs : List Family) (f : Family) → occur_once fs ≡ true
     → list_any (family_eq f) fs ≡ false → occur_once (fs ++ f ∷ []) ≡ true
 one_more [] f h e = refl
 one_more (g ∷ fs) f h e =
-    let both = two_false (family_eq f g) (list_any (family_eq f) fs) e in
+    let both = or_parts (family_eq f g) (list_any (family_eq f) fs) e in
     let first = and_first (not (list_any (family_eq g) fs)) (occur_once fs) h in
     let rest = and_second (not (list_any (family_eq g) fs)) (occur_once fs) h in
     ap₂ ◌&&◌

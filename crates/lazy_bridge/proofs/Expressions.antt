@@ -11,19 +11,13 @@ use Rattle.address_map.specs.AddressMap.{AddressMap}
 use Rattle.aff_core.specs.Address.{Address, address_cmp, address_eq, address_eq-Decides, address_total, exact_addresses}
 use Rattle.aff_core.specs.Function.{Function}
 use Rattle.aff_core.specs.Rising.{HasDistinctKeys}
+use Rattle.aff_core.specs.KeyOrder.{address_order, either_way}
 use Rattle.fresh_bridging.specs.Leaves.{leaf_objectives}
 use Rattle.item_core.specs.declared.item.Body.{Body}
 use Rattle.item_core.specs.declared.item.Body.TheVariants.{PlainObj, AffineObj}
 use Rattle.item_core.specs.declared.item.Item.{Item}
 use Rattle.bridge_face.specs.Law.{is_objective}
-use Rattle.tree_laws.specs.ObjectiveLaws.{itself_one}
-
-turned : (a b : Address) → address_eq a b ≡ false → address_eq b a ≡ false
-turned a b e = by (address_eq b a) refl
-  where
-    by : (t : Bool) → address_eq b a ≡ t → t ≡ false
-    by false k = refl
-    by true k = sym ((address_eq-Decides a b).1 (sym ((address_eq-Decides b a).0 k))) ∙ e
+use Rattle.tree_laws.specs.ObjectiveLaws.{itself_one, no_leaf_objective}
 
 -- a key that stands once isn't found before it
 pub not_before : {X : Type 0} (done rest : List (Address × X)) (e : Address × X)
@@ -31,7 +25,7 @@ pub not_before : {X : Type 0} (done rest : List (Address × X)) (e : Address × 
 unfolding IsDistinct
 not_before [] rest e h = refl
 not_before {X} (d ∷ done) rest e h =
-    ap (λ b. cond b (Some d.1) (find address_cmp e.0 done)) (turned d.0 e.0 (last done h.0))
+    ap (λ b. cond b (Some d.1) (find address_cmp e.0 done)) (either_way address_order d.0 e.0 (last done h.0))
     ∙ not_before done rest e h.1
   where
     last : (es : List (Address × X))
@@ -78,15 +72,6 @@ put_next old now after all left rest at f h next apart is vars rows =
 
 -- ---- the objective
 
-no_objective : (i : Item) → is_objective i.body ≡ false → leaf_objectives i ≡ []
-no_objective i = by i.body
-  where
-    by : (b : Body) → is_objective b ≡ false
-        → leaf_objectives (record { at = i.at; body = b }) ≡ []
-    by (PlainObj sense var) h = absurd (true≢false h)
-    by (AffineObj sense func) h = absurd (true≢false h)
-    by _ h = refl
-
 module _ (leaves : List Item) (i : ℕ) (leaf : Item) (next : drop i leaves ≡ leaf ∷ drop (i + 1) leaves)
     (so_far : flat_map leaf_objectives (drop i leaves) ≡ flat_map leaf_objectives leaves) where
   left : flat_map leaf_objectives leaves
@@ -97,7 +82,7 @@ module _ (leaves : List Item) (i : ℕ) (leaf : Item) (next : drop i leaves ≡ 
       → flat_map leaf_objectives (drop (i + 1) leaves) ≡ flat_map leaf_objectives leaves
   passed_by other =
       sym (left ∙ ap (λ es. es ++ flat_map leaf_objectives (drop (i + 1) leaves))
-      (no_objective leaf other))
+      (no_leaf_objective leaf other))
 
   pub there_it_is : length (flat_map leaf_objectives leaves) ≤ 1 → is_objective leaf.body ≡ true
       → All (λ e. e.0 ≡ leaf.at) (flat_map leaf_objectives leaves)

@@ -4,6 +4,7 @@ use Rattle.std.specs.List.{IsDistinct, list_any}
 use Rattle.std.specs.Map.{keys_of}
 use Rattle.std.proofs.Common.{arith, sym, ap, subst, ◌∙◌, true≢false}
 use Rattle.std.proofs.lemmas.List.Elements.{All-map, All-weaker}
+use mathlib.Core.List.{map-map}
 use Rattle.aff_core.specs.Address.{Address, address_cmp, address_eq}
 use Rattle.aff_core.specs.Rising.{HasDistinctKeys}
 use Rattle.address_laws.specs.Apart.{is_distinct}
@@ -76,11 +77,6 @@ keys_mapped : {A X Y : Type 0} (f : A → Address × X) (g : A → Address × Y)
 keys_mapped f g h [] = refl
 keys_mapped f g h (x ∷ xs) = λ i. h x i ∷ keys_mapped f g h xs i
 
-map_map : {A B C : Type 0} (f : A → B) (g : B → C) (xs : List A)
-    → map g (map f xs) ≡ map (λ x. g (f x)) xs
-map_map f g [] = refl
-map_map f g (x ∷ xs) = ap (λ ys. g (f x) ∷ ys) (map_map f g xs)
-
 themselves : {X : Type 0} (f : Address → X) (vs : List Address)
     → map (λ (e : Address × X). e.0) (map (λ v. (v, f v)) vs) ≡ vs
 themselves f [] = refl
@@ -136,7 +132,7 @@ module _ (setting : Setting) (costly : IsCostly (graph_of setting)) (lawful : Ar
             subst (IsDistinct address_eq)
             (keys_mapped (λ n. (n.1.at, n)) (λ n. ((kept_of n).item.at, kept_of n))
             (λ n. refl) (model_nodes bridging.made)
-            ∙ sym (ap (map (λ e. e.0)) (map_map kept_of (λ n. (n.item.at, n))
+            ∙ sym (ap (map (λ e. e.0)) (map-map (λ n. (n.item.at, n)) kept_of
             (model_nodes bridging.made))))
             (each_apart setting costly lawful model valid bridging).nodes.keys;
       }

@@ -3,7 +3,8 @@
 use Rattle.std.specs.Prelude.{◌≡◌, ◌||◌, ℕ, zero, suc, Bool, true, not, List, [], ◌∷◌, Some, slice_get, refl}
 use Rattle.std.specs.List.{zip}
 use Rattle.std.proofs.lemmas.Option.{none-some, same_Some}
-use Rattle.fresh_bridging.specs.TableLaws.{at_all, kind_stands}
+use Rattle.map_laws.specs.EachLaws.{all_at}
+use Rattle.fresh_bridging.specs.TableLaws.{kind_stands}
 use Rattle.fresh_bridging.specs.TheRules.{Setting}
 use Rattle.item_core.specs.declared.kind.Kind.{Kind}
 use Rattle.item_core.specs.declared.kind.TheConstants.{KINDS}
@@ -32,6 +33,6 @@ both_at (a ∷ xs) (b ∷ ys) (suc n) x y e k = both_at xs ys n x y e k
 pub supported : (setting : Setting) → supports_native setting.table ≡ true
     → SupportsNativeKinds setting
 supported setting h kind e =
-    at_all (λ (p : Kind × Bool). not p.1 || is_leaf_kind p.0)
+    all_at (λ (p : Kind × Bool). not p.1 || is_leaf_kind p.0)
     (zip KINDS.kinds setting.table.supported) (kind_number kind) (kind, true) h
     (both_at KINDS.kinds setting.table.supported (kind_number kind) kind true (kind_stands kind) e)

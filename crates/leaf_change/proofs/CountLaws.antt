@@ -10,6 +10,7 @@ use Rattle.std.proofs.lemmas.List.Sorted.{Contains-permutation, IsPermutation-re
 use Rattle.std.proofs.lemmas.Map.Keys.{IsDistinct-IsPermutation, IsDistinct-cons, IsDistinct-head, IsDistinct-tail}
 use Rattle.std.proofs.lemmas.Map.Made.{Contains-tail}
 use Rattle.std.proofs.lemmas.Option.{none-some}
+use Rattle.map_laws.specs.EachLaws.{contains_here, contains_later}
 use Rattle.aff_core.specs.Address.{Address, address_cmp, address_eq, address_eq-Decides, address_total}
 use Rattle.aff_core.specs.KeyOrder.{address_order, other_key, same_or_other}
 use Rattle.leaf_change.specs.Compared.{Compares, Moves, MovesOver, counted}
@@ -19,12 +20,6 @@ use Rattle.leaf_change.proofs.ThroughPuts.{get_past, get_put}
 use Rattle.leaf_model.specs.LeafModel.{Differ, IsCountOf}
 
 -- ---- lists of addresses
-
-pub contains_here : (v : Address) (ks : List Address) → Contains (v ∷ ks) v
-contains_here v ks = (0, omega arith, refl)
-
-contains_later : (k v : Address) (ks : List Address) → Contains ks v → Contains (k ∷ ks) v
-contains_later k v ks c = (suc c.0, omega (arith, c.1), c.2)
 
 contains_first : (k v : Address) (ks : List Address) → Contains (k ∷ ks) v → (v ≡ k) ⊎ Contains ks v
 contains_first k v ks (zero, inside, is) = inl (sym is)

@@ -16,11 +16,12 @@ use Rattle.std.proofs.lemmas.List.Sums.{AllPass-from_list_all, list_all-from_All
 use Rattle.std.proofs.lemmas.Map.Keys.{IsDistinct-cons}
 use Rattle.std.proofs.lemmas.Map.Made.{length-le_from_is_member}
 use Rattle.std.proofs.lemmas.Option.{same_Some}
+use Rattle.rational_laws.specs.Tests.{zero_test}
 use Rattle.ratio_core.specs.Rational.{Rational, zero_ℚ}
 use Rattle.address_map.specs.Places.{Indices, IsOneToOne}
 use Rattle.aff_core.specs.Address.{Address, address_cmp, address_eq, address_eq-Decides, address_total}
 use Rattle.aff_core.specs.Function.{Function, coefficient, terms_of}
-use Rattle.aff_core.specs.FunctionLaws.{coefficient-gathered, coefficient_in, coefficient_in-terms_of, same_coefficients, zero_test}
+use Rattle.aff_core.specs.FunctionLaws.{coefficient-gathered, coefficient_in, coefficient_in-terms_of, same_coefficients}
 use Rattle.aff_core.specs.KeyOrder.{address_order, other_key}
 use Rattle.aff_core.specs.Rising.{HasDistinctKeys}
 use Rattle.aff_core.specs.Terms.{HaveNoZero, is_nonzero}

@@ -12,7 +12,7 @@ use Rattle.address_map.specs.Places.{Indices, IsFree}
 use Rattle.aff_core.specs.Address.{Address, address_cmp, address_total, exact_addresses}
 use Rattle.aff_core.specs.KeyOrder.{IsKeyOrder, address_order, other_key, same_key, same_or_other}
 use Rattle.leaf_model.specs.ReadThrough.{by_address}
-use Rattle.map_laws.specs.OptionLaws.{not_some, some_is}
+use Rattle.map_laws.specs.OptionLaws.{none_mapped, not_some, some_is}
 use Rattle.std_form.specs.NameLaws.{index_order}
 use Rattle.std_form.specs.Readable.{NamesExactly}
 use Rattle.std_form.specs.ThroughLaws.{get_through}
@@ -24,10 +24,6 @@ module _ {K X : Type 0} {R : K → K → Ordering} (o : IsKeyOrder R) where
   pub get_past : (m : FinMap R X) (k : K) (v : X) (q : K) → ¬ (q ≡ k) → finite.get (finite.insert m k v) q ≡ finite.get m q
   get_past m k v q n = finite.get-insert o.total m k v q ∙ ap (λ b. cond b (Some v) (finite.get m q)) (other_key o q k n)
 
-unread : {X Y : Type 0} (read : X → Y) (o : Option X) → option_map read o ≡ None → o ≡ None
-unread read None e = refl
-unread read (Some x) e = absurd (none-some (read x) (sym e))
-
 module _ {X : Type 0} (indices : Indices) (leaves : FinMap nat_cmp X) (exact : NamesExactly indices leaves) where
   -- where nothing is read, no index stands
   pub absent_index : {Y : Type 0} (read : X → Y) (at : Address) → finite.get (by_address read indices leaves) at ≡ None → finite.get indices at ≡ None
@@ -37,7 +33,7 @@ module _ {X : Type 0} (indices : Indices) (leaves : FinMap nat_cmp X) (exact : N
       by None e = refl
       by (Some i) e =
           absurd (not_some (finite.get leaves i)
-          (unread read (finite.get leaves i)
+          (none_mapped read (finite.get leaves i)
           (sym (get_through leaves read indices at
           ∙ ap (option_and_then (λ j. option_map read (finite.get leaves j))) e) ∙ h))
           (exact.used at i e))

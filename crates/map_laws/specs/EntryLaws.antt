@@ -1,6 +1,6 @@
 -- Lists of entries whose keys strictly rise: what a search among them finds, and what keeps them
 -- so.
-use Rattle.std.specs.Prelude.{◌≡◌, ℕ, zero, suc, ◌<◌, Bool, true, false, ◌&&◌, cond, T, List, [], ◌∷◌, ◌++◌, take, drop, length, slice_index_or, Some, None, Result, Ok, Err, MatchResult, filter, map, nat_lt, ◌+◌, refl}
+use Rattle.std.specs.Prelude.{◌≡◌, ℕ, zero, suc, ◌<◌, Bool, true, false, ◌&&◌, cond, T, List, [], ◌∷◌, drop, length, slice_index_or, Some, None, Result, Ok, Err, MatchResult, filter, map, nat_lt, ◌+◌, refl}
 use Rattle.std.specs.Option.{option_map}
 use Rattle.std.proofs.Common.{arith, sym, ap, subst, ◌∙◌}
 use Rattle.std.specs.Ordering.{is_eq, is_lt, ordering_reverse}
@@ -130,35 +130,6 @@ module _ {K X : Type 0} (R : K → K → Ordering) where
   is_sorted-drop zero es h = h
   is_sorted-drop (suc n) [] h = tt
   is_sorted-drop (suc n) (e ∷ es) h = is_sorted-drop n es (second _ _ h)
-
-  below_all_push : (k : K) (es : List (K × X)) (e : K × X) → T (below_all R k es) → R k e.0 ≡ Less
-      → T (below_all R k (es ++ e ∷ []))
-  below_all_push k [] e h lt = both _ _ (subst (λ r. T (is_lt r)) (sym lt) tt) tt
-  below_all_push k (f ∷ es) e h lt =
-      both _ _ (first _ _ h) (below_all_push k es e (second _ _ h) lt)
-
-  -- a key above all earlier ones goes last
-  pub is_sorted_push : (es : List (K × X)) (e : K × X) → T (is_sorted R es)
-      → ((k : ℕ) (d : K × X) → k < length es → R (slice_index_or es k d).0 e.0 ≡ Less)
-      → T (is_sorted R (es ++ e ∷ []))
-  is_sorted_push [] e h above = tt
-  is_sorted_push (f ∷ es) e h above =
-      both _ _ (below_all_push f.0 es e (first _ _ h) (above 0 f (omega arith)))
-      (is_sorted_push es e (second _ _ h) (λ k d lt. above (suc k) d (omega arith)))
-
-  below_all-take : (k : K) (n : ℕ) (es : List (K × X)) → T (below_all R k es)
-      → T (below_all R k (take n es))
-  below_all-take k zero es h = tt
-  below_all-take k (suc n) [] h = tt
-  below_all-take k (suc n) (e ∷ es) h =
-      both _ _ (first _ _ h) (below_all-take k n es (second _ _ h))
-
-  pub is_sorted-take : (n : ℕ) (es : List (K × X)) → T (is_sorted R es)
-      → T (is_sorted R (take n es))
-  is_sorted-take zero es h = tt
-  is_sorted-take (suc n) [] h = tt
-  is_sorted-take (suc n) (e ∷ es) h =
-      both _ _ (below_all-take e.0 n es (first _ _ h)) (is_sorted-take n es (second _ _ h))
 
   -- new values leave the order as it is
   pub below_all-map : {Y : Type 0} (f : X → Y) (k : K) (es : List (K × X))

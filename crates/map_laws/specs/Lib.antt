@@ -1,3 +1,4 @@
+pub mod EachLaws
 pub mod EntryLaws
 pub mod LoopLaws
 pub mod MadeLaws

@@ -1,29 +1,27 @@
 -- Loops over a list: what they have made of the items so far, and what is left of them.
-use Rattle.std.specs.Prelude.{◌≡◌, ℕ, zero, suc, ◌+◌, ◌<◌, ◌≤◌, Bool, true, false, ◌||◌, List, [], ◌∷◌, ◌++◌, Some, map, length, take, drop, slice_get, slice_index_or, refl}
+use Rattle.std.specs.Prelude.{◌≡◌, ℕ, ◌+◌, ◌<◌, ◌≤◌, Bool, true, false, ◌||◌, List, [], ◌∷◌, ◌++◌, Some, map, length, take, drop, get_or, slice_get, slice_index_or, refl}
 use Rattle.std.specs.List.{list_any, flat_map}
 use Rattle.std.proofs.Math.ListN.{set}
-use Rattle.std.proofs.Common.{add-one, arith, sym, ap, ◌∙◌, append_assoc}
-use Rattle.std.proofs.lemmas.List.{drop_more, drop_all, take_all, get_or_at, get_or_default, append-nil, length-append, length-map, length-take-le, length-drop}
+use Rattle.std.proofs.Common.{arith, subst, sym, ap, ◌∙◌, append_assoc}
+use Rattle.std.proofs.lemmas.List.{drop_more, drop_all, map-append, take_all, take_more, get_or_at, get_or_default, append-nil, length-append, length-map, length-take-le, length-drop}
 use Rattle.std.proofs.lemmas.List.Edits.{map_over_more}
 use Rattle.std.proofs.lemmas.List.Folds.{list_any-append}
 use Rattle.map_laws.specs.PlaceLaws.{drop_at}
 
 -- ---- from the first to the last, pushing what is made of each item
 
-next_taken : {X Y : Type 0} (f : X → Y) (xs : List X) (i : ℕ) (x : X) → slice_get xs i ≡ Some x
-    → map f (take (suc i) xs) ≡ map f (take i xs) ++ f x ∷ []
-next_taken f [] i x e = cc
-next_taken f (y ∷ xs) zero x e = let same : y ≡ x = cc in ap (λ z. f z ∷ []) same
-next_taken f (y ∷ xs) (suc i) x e = ap (λ zs. f y ∷ zs) (next_taken f xs i x e)
+pub map-take_more : {X Y : Type 0} (f : X → Y) (xs : List X) (i : ℕ) (x : X) → x ≡ get_or xs i x
+    → i < length xs → map f (take (i + 1) xs) ≡ map f (take i xs) ++ f x ∷ []
+map-take_more f xs i x is lt =
+    ap (map f) (take_more xs i x lt) ∙ map-append f (take i xs) (get_or xs i x ∷ [])
+    ∙ ap (λ y. map f (take i xs) ++ f y ∷ []) (sym is)
 
--- one more item
-pub taken_pushed : {X Y : Type 0} (f : X → Y) (xs : List X) (i : ℕ) (x : X) (y : Y)
-    (done after : List Y) → Some x ≡ slice_get xs i → done ≡ map f (take i xs) → y ≡ f x
-    → after ≡ done ++ y ∷ [] → after ≡ map f (take (i + 1) xs)
-taken_pushed f xs i x y done after at so_far is pushed =
-    let more : map f (take (i + 1) xs) ≡ map f (take i xs) ++ f x ∷ [] =
-    rw add-one (next_taken f xs i x (sym at)) in
-    cc
+-- what is left begins with the next item
+pub next_item : {X : Type 0} (all items : List X) (i : ℕ) (x : X) → items ≡ all
+    → x ≡ get_or items i x → i < length items → drop i all ≡ x ∷ drop (i + 1) all
+next_item all items i x e is lt =
+    drop_more all i x (subst (λ l. i < length l) e lt)
+    ∙ ap (λ y. y ∷ drop (i + 1) all) (ap (λ l. get_or l i x) (sym e) ∙ sym is)
 
 -- ---- from the first to the last, where a test of the items that are left is a test of all
 

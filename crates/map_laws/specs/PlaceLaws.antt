@@ -40,7 +40,8 @@ module _ {X : Type 0} (p : X → Bool) where
       elim (p y) as (λ b. p y ≡ b → cond b (Some y) (list.find p xs) ≡ Some x
       → (p x ≡ true) × ((i : ℕ) × (slice_get (y ∷ xs) i ≡ Some x))) [
         | true ↦ λ passes is. (ap p (sym (same_Some y x is)) ∙ passes, (0, is))
-        | false ↦ λ passes is. let rest = place_of_found xs x is in (rest.0, (suc rest.1.0, rest.1.1))
+        | false ↦ λ passes is.
+            let rest = place_of_found xs x is in (rest.0, (suc rest.1.0, rest.1.1))
       ] refl e
 
   -- where nothing is found, no item passes

@@ -22,7 +22,7 @@ use Rattle.user_model.specs.declared.group.Group.{Group}
 use Rattle.user_model.specs.declared.group.GroupVar.{GroupVar}
 use Rattle.user_model.specs.declared.objective.Objective.{Objective}
 use Rattle.user_model.specs.declared.objective.Objective.TheVariants as objective
-use Rattle.fresh_bridging.specs.EachLaws.{all_second}
+use Rattle.map_laws.specs.EachLaws.{all_second}
 use Rattle.fresh_bridging.specs.Entries.{Entry, expression_in, put_in, put_in_fits}
 use Rattle.fresh_bridging.specs.ModelImage.{group_item, objective_item, objective_items}
 use Rattle.fresh_bridging.specs.TableLaws.{and_first}

@@ -17,7 +17,7 @@ use Rattle.item_core.specs.KindOf.{kind_of_body}
 use Rattle.user_model.specs.Model.{ModelValue}
 use Rattle.user_model.specs.Valid.{IsValid}
 use Rattle.fresh_bridging.specs.CanLaws.{AreLawful}
-use Rattle.fresh_bridging.specs.EachLaws.{all_from_map}
+use Rattle.map_laws.specs.EachLaws.{all_from_map}
 use Rattle.fresh_bridging.specs.Entries.{Entry, put_in}
 use Rattle.fresh_bridging.specs.ExistenceLaws.{groups_bridged, groups_can_all}
 use Rattle.fresh_bridging.specs.FreshBridging.{HasTree, IsFirstTreeless, IsUnsupported, by_group, by_other}

@@ -3,14 +3,14 @@ use Rattle.std.proofs.Common.{◌≡◌, ◌≢◌, ℕ, ◌+◌, ◌<◌, ◌�
 use Rattle.std.specs.Prelude.{IfSome, IsSome, slice_index_or, count_by}
 use Rattle.std.specs.Option.{option_map}
 use Rattle.std.proofs.Math.ListN.{set}
-use Rattle.std.proofs.lemmas.Bool.{cases_eq, false_from_ne_true}
+use Rattle.std.proofs.lemmas.Bool.{cases_eq, eq-eqb, false_from_ne_true, ne_eqb}
 use Rattle.std.proofs.lemmas.List.Sums.{count_by-le-length}
 use Rattle.std.proofs.lemmas.Option.{same_Some, slice_get-get_or}
 use Rattle.aff_core.specs.Address.{Address, address_eq, address_eq-Decides}
 use Rattle.aff_core.specs.declared.root.Root.TheVariants.{Variable as AtVariable}
 use Rattle.numbered.specs.Numbered.{Rise, IsAt, find, set_at}
 use Rattle.numbered.specs.Places.{IsFoundAt, IsMissingAt}
-use Rattle.numbered.specs.Laws.{IsAt-find, same_number, other_number}
+use Rattle.numbered.specs.Laws.{IsAt-find}
 use Rattle.numbered.specs.SetLaws.{Rise-set_at, find-set_at_same, find-set_at_other}
 use Rattle.numbered.specs.PlaceLaws.{replaced}
 use Rattle.user_model.specs.declared.row.Row.{Row}
@@ -27,8 +27,8 @@ use Rattle.model_catalog.proofs.Weights.{sum_set_at}
 pub variable_at_root : (a : Address) (m : ℕ) → a.root ≡ AtVariable → length a.positions ≡ 0 → m ≡ a.number → (n : ℕ) → address_eq (variable_address n) a ≡ is_number (Some m) n
 variable_at_root a m root short number n =
     elim (cases_eq m n) [
-      | inl same ↦ (address_eq-Decides (variable_address n) a).1 (is same) ∙ sym (same_number m n same)
-      | inr other ↦ false_from_ne_true (address_eq (variable_address n) a) (λ e. other (number ∙ sym (ap (λ x. x.number) ((address_eq-Decides (variable_address n) a).0 e)))) ∙ sym (other_number m n other)
+      | inl same ↦ (address_eq-Decides (variable_address n) a).1 (is same) ∙ sym (eq-eqb m n same)
+      | inr other ↦ false_from_ne_true (address_eq (variable_address n) a) (λ e. other (number ∙ sym (ap (λ x. x.number) ((address_eq-Decides (variable_address n) a).0 e)))) ∙ sym (ne_eqb m n other)
     ]
   where
     nothing : (xs : List ℕ) → length xs ≡ 0 → [] ≡ xs
@@ -79,7 +79,7 @@ none_counted row kept none n = by_place (find variable_number n kept) refl
 -- the variable of a row is not kept
 pub missing_counted : (row : Row) (m : ℕ) (kept : List Variable) (i : ℕ) → ((n : ℕ) → is_variable n row.func ≡ is_number (Some m) n) → IsMissingAt variable_number m kept i → (n : ℕ) → option_map (counted (Some row)) (find variable_number n kept) ≡ find variable_number n kept
 missing_counted row m kept i is at =
-    none_counted row kept (λ n some. is n ∙ other_number m n (λ same. not_there (find variable_number n kept) (ap (λ k. find variable_number k kept) (sym same) ∙ at.absent) some))
+    none_counted row kept (λ n some. is n ∙ ne_eqb m n (λ same. not_there (find variable_number n kept) (ap (λ k. find variable_number k kept) (sym same) ∙ at.absent) some))
   where
     not_there : (o : Option Variable) → o ≡ None → IsSome o → ⊥
     not_there None e some = let both : false ≡ true = some in cc
@@ -94,7 +94,7 @@ module _ (row : Row) (m : ℕ) (kept : List Variable) (i : ℕ) (d : Variable) (
   its_number = let has = subst (IsAt variable_number m) read (IsAt-find variable_number m kept) in has
 
   itself : is_variable m row.func ≡ true
-  itself = is m ∙ same_number m m refl
+  itself = is m ∙ eq-eqb m m refl
 
   one : (v : Variable) (b : Bool) → v.number ≡ m → cond {A = ℕ} (is_variable v.number row.func && b) 1 0 ≡ cond b 1 0
   one v b number = ap (λ k. cond {A = ℕ} (is_variable k row.func && b) 1 0) number ∙ ap (λ x. cond {A = ℕ} (x && b) 1 0) itself
@@ -117,7 +117,7 @@ module _ (row : Row) (m : ℕ) (kept : List Variable) (i : ℕ) (d : Variable) (
             (here v number
             ∙ (ap Some (same_variable {v = v} {w = counted (Some row) x} (number ∙ sym its_number) group (lower ∙ sym (ap (λ k. x.lower + k) (one x (sets_lower row.set) its_number))) (upper ∙ sym (ap (λ k. x.upper + k) (one x (sets_upper row.set) its_number))))
             ∙ sym (ap (option_map (counted (Some row))) read)))
-        | inr other ↦ beside v n number other ∙ sym (not_counted_at row n (find variable_number n kept) (IsAt-find variable_number n kept) (is n ∙ other_number m n other))
+        | inr other ↦ beside v n number other ∙ sym (not_counted_at row n (find variable_number n kept) (IsAt-find variable_number n kept) (is n ∙ ne_eqb m n other))
       ]
 
   pub discounted_at : (v : Variable) → v.number ≡ m → v.group ≡ (slice_index_or kept i d).group → v.lower + cond (sets_lower row.set) 1 0 ≡ (slice_index_or kept i d).lower → v.upper + cond (sets_upper row.set) 1 0 ≡ (slice_index_or kept i d).upper → (n : ℕ) → option_map (counted (Some row)) (find variable_number n (set kept i v)) ≡ find variable_number n kept
@@ -131,7 +131,7 @@ module _ (row : Row) (m : ℕ) (kept : List Variable) (i : ℕ) (d : Variable) (
             ∙ sym read))
         | inr other ↦
             ap (option_map (counted (Some row))) (beside v n number other)
-            ∙ not_counted_at row n (find variable_number n kept) (IsAt-find variable_number n kept) (is n ∙ other_number m n other)
+            ∙ not_counted_at row n (find variable_number n kept) (IsAt-find variable_number n kept) (is n ∙ ne_eqb m n other)
       ]
 
   -- the counts at the place, by what is known of every variable

@@ -30,11 +30,11 @@ use Rattle.model_catalog.specs.Terms.{changed_terms}
 use Rattle.model_catalog.specs.Named.{IsInGroup, AreNameChanges, ChangesNames, HasStandingNames, row_name, variable_name}
 use Rattle.model_catalog.specs.Kept.{HasNames, Keeps}
 use Rattle.model_catalog.specs.Exchange.{standing}
-use Rattle.map_laws.specs.OptionLaws.{some_is}
+use Rattle.map_laws.specs.OptionLaws.{is_some-option_map, none_of, some_is}
 use Rattle.model_catalog.proofs.Weights.{sum_set_at, sum_set_all}
 use Rattle.model_catalog.proofs.Found.{distinct_names}
 use Rattle.model_catalog.proofs.Counts.{same_variable}
-use Rattle.model_catalog.proofs.Models.{kept_number, named_in_group, no_lower_count, no_upper_count, none_of, some_mapped}
+use Rattle.model_catalog.proofs.Models.{kept_number, named_in_group, no_lower_count, no_upper_count}
 
 -- ---- names
 
@@ -75,7 +75,7 @@ module _ (naming : Naming) where
   Rise-listing (x ∷ xs) rise = Rise-cons listed_number _ (standing_names naming xs) (All-listing x.number xs (Rise-head listed_number x xs rise)) (Rise-listing xs (Rise-tail listed_number x xs rise))
 
   pub some_listing : (n : ℕ) (listed : List NameChange) → is_some (find listed_number n (standing_names naming listed)) ≡ is_some (find listed_number n listed)
-  some_listing n listed = ap is_some (find-standing n listed) ∙ some_mapped _ (find listed_number n listed)
+  some_listing n listed = ap is_some (find-standing n listed) ∙ is_some-option_map _ (find listed_number n listed)
 
 -- the old names listed lead back
 pub names_back : (listed : List NameChange) (old new : Naming) → ChangesNames listed old new → ChangesNames (standing_names old listed) new old

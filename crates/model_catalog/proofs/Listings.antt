@@ -1,11 +1,10 @@
 -- The variables that are kept, as those that are listed come and go.
 use Rattle.std.proofs.Common.{◌≡◌, ℕ, ◌+◌, ◌<◌, ◌≤◌, Bool, true, false, cond, List, ◌∷◌, length, drop, Option, Some, None, Result, Ok, Err, refl, sym, ap, subst, ◌∙◌, arith, inl, inr}
-use Rattle.std.specs.Prelude.{IsSome, is_some, unwrap_or, slice_index_or, count_by}
+use Rattle.std.specs.Prelude.{IsSome, is_some, unwrap_or, slice_index_or}
 use Rattle.std.specs.Result.{is_err}
 use Rattle.std.specs.Option.{option_map_or, option_to_list}
 use Rattle.std.proofs.lemmas.Bool.{cases_eq}
 use Rattle.std.proofs.lemmas.List.{drop_more}
-use Rattle.std.proofs.lemmas.List.Sums.{sum_by-drop_more}
 use Rattle.numbered.specs.Numbered.{Rise, IsAt, find, set_at}
 use Rattle.numbered.specs.Places.{IsPlaceOf}
 use Rattle.numbered.specs.Laws.{IsAt-find, Rise-head, Rise-tail, find-first, find-rest, find-none_above}
@@ -15,6 +14,7 @@ use Rattle.model_catalog.specs.declared.variable.Variable.{Variable}
 use Rattle.model_catalog.specs.Names.{listed_number, put_count}
 use Rattle.model_catalog.specs.Index.{given_variable, kept_count, listed_in, unbounded_in, variable_number}
 use Rattle.map_laws.specs.OptionLaws.{not_some, some_is}
+use Rattle.map_laws.specs.SumLaws.{count_first}
 
 -- what is given stands at its number
 pub IsAt-given : (group : ℕ) (l : NameChange) (kept : List Variable) → IsAt variable_number l.number (given_variable group l (find variable_number l.number kept))
@@ -89,9 +89,6 @@ step group start now x left all rise rest still = record {
 
     absent : (n : ℕ) → x.number ≡ n → find listed_number n left ≡ None
     absent n same = find-none_above listed_number n left (subst (λ m. (k : ℕ) (d : NameChange) → k < length left → m < (slice_index_or left k d).number) same (Rise-head listed_number x left rise))
-
-count_first : {X : Type 0} (p : X → Bool) (x : X) (xs : List X) → count_by p (x ∷ xs) ≡ cond (p x) 1 0 + count_by p xs
-count_first p x xs = sum_by-drop_more (λ y. cond (p y) 1 0) (x ∷ xs) 0 x (omega arith)
 
 length_of : {X : Type 0} (o : Option X) → length (option_to_list o) ≡ cond (is_some o) 1 0
 length_of None = refl

@@ -26,32 +26,22 @@ use Rattle.model_catalog.specs.Kept.{HasNames}
 use Rattle.model_catalog.proofs.TableNames.{get-name_of, name_of-get}
 use Rattle.model_catalog.proofs.Found.{IsNumberOf, any_counted, found_by_name, same_numbers, some_found_in}
 use Rattle.map_laws.specs.PlaceLaws.{place_of_found}
-
-pub some_mapped : {X Y : Type 0} (f : X → Y) (o : Option X) → is_some (option_map f o) ≡ is_some o
-some_mapped f None = refl
-some_mapped f (Some x) = refl
-
-pub none_of : {X : Type 0} (o : Option X) → is_some o ≡ false → o ≡ None
-none_of None e = refl
-none_of (Some x) e = let both : true ≡ false = e in cc
-
-pub none_mapped : {X Y : Type 0} (f : X → Y) (o : Option X) → option_map f o ≡ None → o ≡ None
-none_mapped f o e = none_of o (sym (some_mapped f o) ∙ ap is_some e)
+use Rattle.map_laws.specs.OptionLaws.{is_some-option_map, none_mapped, none_of}
 
 -- a variable has a name exactly where it has a group
 pub named_in_group : (model : ModelValue) (n : ℕ) → is_some (variable_name model n) ≡ is_some (group_number_of model n)
 named_in_group model n =
-    some_mapped (λ (v : GroupVar). v.name) (find consistent.variable_number n (variables model))
-    ∙ (some_found_in (λ (g : Group). g.vars) (λ v. consistent.variable_number v == n) model.groups ∙ sym (some_mapped (λ (g : Group). g.id) (group_of model n)))
+    is_some-option_map (λ (v : GroupVar). v.name) (find consistent.variable_number n (variables model))
+    ∙ (some_found_in (λ (g : Group). g.vars) (λ v. consistent.variable_number v == n) model.groups ∙ sym (is_some-option_map (λ (g : Group). g.id) (group_of model n)))
 
 module _ (model : ModelValue) (kept : List Variable) (ok : IsConsistent model) (index : IsIndexOf model kept) where
   pub kept_number : (n : ℕ) → is_some (find variable_number n kept) ≡ is_some (group_number_of model n)
-  kept_number n = ap is_some (index.entries n) ∙ some_mapped _ (group_number_of model n)
+  kept_number n = ap is_some (index.entries n) ∙ is_some-option_map _ (group_number_of model n)
 
   -- as many are kept as there are variables
   pub kept_length : length kept ≡ length (variables model)
   kept_length =
-      let numbers = same_numbers variable_number consistent.variable_number kept (variables model) index.rising ok.variables_rise (λ n. kept_number n ∙ (sym (named_in_group model n) ∙ some_mapped (λ (v : GroupVar). v.name) (find consistent.variable_number n (variables model)))) in
+      let numbers = same_numbers variable_number consistent.variable_number kept (variables model) index.rising ok.variables_rise (λ n. kept_number n ∙ (sym (named_in_group model n) ∙ is_some-option_map (λ (v : GroupVar). v.name) (find consistent.variable_number n (variables model)))) in
       sym (length-map kept variable_number) ∙ (ap length numbers ∙ length-map (variables model) consistent.variable_number)
 
   pub found_group : (n : ℕ) (g : Group) → group_of model n ≡ Some g → find group_number g.id model.groups ≡ Some g

@@ -5,14 +5,14 @@ use Rattle.std.specs.Option.{option_map, option_map_or}
 use Rattle.std.proofs.lemmas.List.Elements.{All-nil, All-cons, All-head, All-tail}
 use Rattle.std.specs.FinMap.{get}
 use Rattle.std.proofs.Math.ListN.{set}
-use Rattle.std.proofs.lemmas.Bool.{cases_eq}
+use Rattle.std.proofs.lemmas.Bool.{cases_eq, eq-eqb, ne_eqb}
 use Rattle.std.proofs.lemmas.List.{drop_more}
 use Rattle.std.proofs.lemmas.List.Sums.{sum_by-drop_more}
 use Rattle.std.proofs.lemmas.Option.{none-some, slice_get-get_or}
 use Rattle.map_laws.specs.LoopLaws.{IsPast, as_it_was, past_more, past_none}
 use Rattle.map_laws.specs.OptionLaws.{not_some, some_is}
 use Rattle.numbered.specs.Numbered.{Rise, find}
-use Rattle.numbered.specs.Laws.{Rise-nil, Rise-cons, Rise-head, Rise-tail, find-at, find-first, find-rest, find-none_above, same_number, other_number}
+use Rattle.numbered.specs.Laws.{Rise-nil, Rise-cons, Rise-head, Rise-tail, find-at, find-first, find-rest, find-none_above}
 use Rattle.name_index.specs.NameTable.{Numbers, IsOneToOne}
 use Rattle.model_catalog.specs.declared.names.NameChange.{NameChange}
 use Rattle.model_catalog.specs.Names.{AreDistinct, given_by, listed_number, standing_names, name_of, put_aside, put_count, renamed_by, settled, without_names}
@@ -42,16 +42,16 @@ module _ (given : NameChange → Option (List ℕ)) where
     rest = λ n. elim (cases_eq x.number n) [
       | inl same ↦
           ap (λ o. option_map_or given o (after n)) (absent x rest n h.rising same)
-          ∙ (is n ∙ (ap (λ b. cond b (given x) (now n)) (same_number x.number n same)
+          ∙ (is n ∙ (ap (λ b. cond b (given x) (now n)) (eq-eqb x.number n same)
           ∙ (sym (ap (λ o. option_map_or given o (now n)) (find-first listed_number n x rest same)) ∙ h.rest n)))
       | inr other ↦
-          ap (option_map_or given (find listed_number n rest)) (is n ∙ ap (λ b. cond b (given x) (now n)) (other_number x.number n other))
+          ap (option_map_or given (find listed_number n rest)) (is n ∙ ap (λ b. cond b (given x) (now n)) (ne_eqb x.number n other))
           ∙ (sym (ap (λ o. option_map_or given o (now n)) (find-rest listed_number n x rest other)) ∙ h.rest n)
     ];
     still = λ n some. elim (cases_eq x.number n) [
       | inl same ↦ absurd (not_some _ (absent x rest n h.rising same) some)
       | inr other ↦
-          is n ∙ (ap (λ b. cond b (given x) (now n)) (other_number x.number n other)
+          is n ∙ (ap (λ b. cond b (given x) (now n)) (ne_eqb x.number n other)
           ∙ h.still n (subst IsSome (sym (find-rest listed_number n x rest other)) some))
     ];
     among = λ n some. elim (cases_eq x.number n) [

@@ -6,10 +6,9 @@ use Rattle.std.specs.Option.{option_map, IfSome, IfNone}
 use Rattle.std.specs.Ordering.{nat_cmp, eq_by_cmp}
 use Rattle.std.specs.Cmp.{tied_itself}
 use Rattle.std.specs.Cmp.Lexicographic.{slice_cmp, texts_ties, nat_list_cmp_total, bytes_decides}
-use Rattle.std.proofs.lemmas.Bool.{cases_eq}
+use Rattle.std.proofs.lemmas.Bool.{cases_eq, eq-eqb, ne_eqb}
 use Rattle.std.proofs.lemmas.Option.{none-some, same_Some, slice_get_within, get_or_from_slice_get}
 use Rattle.map_laws.specs.EntryLaws.{find_at}
-use Rattle.numbered.specs.Laws.{same_number, other_number}
 use Rattle.name_index.specs.NameTable.{Numbers, IsFree, IsOneToOne, IsNameAt}
 use Rattle.model_catalog.specs.Names.{name_of}
 
@@ -21,10 +20,10 @@ abbrev name_in : ℕ → Entries → Option (List ℕ)
 name_in n es = option_map (λ e. e.0) (find (λ e. e.1 == n) es)
 
 name_in-first : (e : List ℕ × ℕ) (es : Entries) (n : ℕ) → e.1 ≡ n → name_in n (e ∷ es) ≡ Some e.0
-name_in-first e es n same = ap (λ b. option_map (λ (x : List ℕ × ℕ). x.0) (cond b (Some e) (find (λ x. x.1 == n) es))) (same_number e.1 n same)
+name_in-first e es n same = ap (λ b. option_map (λ (x : List ℕ × ℕ). x.0) (cond b (Some e) (find (λ x. x.1 == n) es))) (eq-eqb e.1 n same)
 
 name_in-rest : (e : List ℕ × ℕ) (es : Entries) (n : ℕ) → e.1 ≢ n → name_in n (e ∷ es) ≡ name_in n es
-name_in-rest e es n other = ap (λ b. option_map (λ (x : List ℕ × ℕ). x.0) (cond b (Some e) (find (λ x. x.1 == n) es))) (other_number e.1 n other)
+name_in-rest e es n other = ap (λ b. option_map (λ (x : List ℕ × ℕ). x.0) (cond b (Some e) (find (λ x. x.1 == n) es))) (ne_eqb e.1 n other)
 
 place_of_name : (es : Entries) (n : ℕ) (name : List ℕ) → name_in n es ≡ Some name → (i : ℕ) × (slice_get es i ≡ Some (name, n))
 place_of_name [] n name e = absurd (none-some name e)
@@ -106,8 +105,8 @@ name_of_is m one n o at = same_answers o (name_of m n) (λ name e. name_of-get m
 pub name_of-insert : (m more : Numbers) (name : List ℕ) (k : ℕ) → IsOneToOne more → more ≡ map.insert m name k → map.get m name ≡ None → name_of m k ≡ None → IsOneToOne m → (n : ℕ) → name_of more n ≡ cond (k == n) (Some name) (name_of m n)
 name_of-insert m more name k one is free none old_one n =
     elim (cases_eq k n) [
-      | inl same ↦ name_of-get more one n name (at_itself ∙ ap Some same) ∙ sym (ap (λ b. cond b (Some name) (name_of m n)) (same_number k n same))
-      | inr other ↦ same_answers (name_of more n) (name_of m n) (to other) from ∙ sym (ap (λ b. cond b (Some name) (name_of m n)) (other_number k n other))
+      | inl same ↦ name_of-get more one n name (at_itself ∙ ap Some same) ∙ sym (ap (λ b. cond b (Some name) (name_of m n)) (eq-eqb k n same))
+      | inr other ↦ same_answers (name_of more n) (name_of m n) (to other) from ∙ sym (ap (λ b. cond b (Some name) (name_of m n)) (ne_eqb k n other))
     ]
   where
     at : (q : List ℕ) → map.get more q ≡ cond (eq_by_cmp (slice_cmp nat_cmp) q name) (Some k) (map.get m q)
@@ -134,8 +133,8 @@ name_of-insert m more name k one is free none old_one n =
 pub name_of-remove : (m fewer : Numbers) (name : List ℕ) (k : ℕ) → IsOneToOne fewer → fewer ≡ map.remove m name → map.get m name ≡ Some k → IsOneToOne m → (n : ℕ) → name_of fewer n ≡ cond (k == n) None (name_of m n)
 name_of-remove m fewer name k one is got old_one n =
     elim (cases_eq k n) [
-      | inl same ↦ same_answers (name_of fewer n) None (λ q e. absurd (gone same q (get-name_of fewer n q e))) (λ q e. absurd (none-some q e)) ∙ sym (ap (λ b. cond b None (name_of m n)) (same_number k n same))
-      | inr other ↦ same_answers (name_of fewer n) (name_of m n) to (from other) ∙ sym (ap (λ b. cond b None (name_of m n)) (other_number k n other))
+      | inl same ↦ same_answers (name_of fewer n) None (λ q e. absurd (gone same q (get-name_of fewer n q e))) (λ q e. absurd (none-some q e)) ∙ sym (ap (λ b. cond b None (name_of m n)) (eq-eqb k n same))
+      | inr other ↦ same_answers (name_of fewer n) (name_of m n) to (from other) ∙ sym (ap (λ b. cond b None (name_of m n)) (ne_eqb k n other))
     ]
   where
     at : (q : List ℕ) → map.get fewer q ≡ cond (eq_by_cmp (slice_cmp nat_cmp) q name) None (map.get m q)
@@ -170,6 +169,6 @@ pub taken_names : (m fewer : Numbers) (k : ℕ) (o : Option (List ℕ)) → IsOn
 taken_names m fewer k (Some name) one old_one at removed absent n = name_of-remove m fewer name k one removed (get-name_of m k name (sym at)) old_one n
 taken_names m fewer k None one old_one at removed absent n =
     elim (cases_eq k n) [
-      | inl same ↦ ap (λ x. name_of x n) absent ∙ (ap (name_of m) (sym same) ∙ (sym at ∙ sym (ap (λ b. cond b None (name_of m n)) (same_number k n same))))
-      | inr other ↦ ap (λ x. name_of x n) absent ∙ sym (ap (λ b. cond b None (name_of m n)) (other_number k n other))
+      | inl same ↦ ap (λ x. name_of x n) absent ∙ (ap (name_of m) (sym same) ∙ (sym at ∙ sym (ap (λ b. cond b None (name_of m n)) (eq-eqb k n same))))
+      | inr other ↦ ap (λ x. name_of x n) absent ∙ sym (ap (λ b. cond b None (name_of m n)) (ne_eqb k n other))
     ]

@@ -5,15 +5,15 @@ use Rattle.std.specs.Option.{option_to_list}
 use Rattle.std.proofs.Common.{arith, sym, ap, ap₂, subst, ◌∙◌}
 use Rattle.std.proofs.lemmas.List.Elements.{All-weaker, filter_map-append}
 use Rattle.std.proofs.lemmas.List.Folds.{list_any_none}
+use Rattle.std.proofs.lemmas.Bool.{ne_eqb}
+use Rattle.map_laws.specs.EachLaws.{all_first, all_second}
 use Rattle.numbered.specs.Numbered.{Rise, find, set_at}
-use Rattle.numbered.specs.Laws.{other_number}
 use Rattle.user_model.specs.declared.group.Group.{Group}
 use Rattle.user_model.specs.declared.group.GroupVar.{GroupVar}
 use Rattle.user_model.specs.Model.{has_variable}
 use Rattle.user_model.specs.Edited.{group_number}
 use Rattle.user_model.specs.Deletion.{group_without, unless_empty}
 use Rattle.user_model.specs.Consistent.{variable_number}
-use Rattle.model_laws.specs.Pairs.{All-left, All-right}
 use Rattle.model_laws.specs.Replaced.{set_at_around}
 use Rattle.model_laws.specs.Variables.{others_above, others_below, vars_around, vars_in}
 use Rattle.model_laws.specs.GroupWithout.{others}
@@ -32,11 +32,11 @@ others_stay n [] h = refl
 others_stay n (g ∷ groups) h =
     let lacks : has_variable n g ≡ false = list_any_none (λ v. v.number == n) g.vars
     (All-weaker (λ v. v.number ≢ n) (λ v. (v.number == n) ≡ false)
-    (λ v off. other_number v.number n off) g.vars
-    (All-left (λ v. v.number ≢ n) g.vars (vars_in groups) h)) in
+    (λ v off. ne_eqb v.number n off) g.vars
+    (all_first (λ v. v.number ≢ n) g.vars (vars_in groups) h)) in
     ap (λ o. cons_option o (filter_map (group_without n) groups)) (group_unmentioned n g lacks)
     ∙ ap (λ gs. g ∷ gs)
-    (others_stay n groups (All-right (λ v. v.number ≢ n) g.vars (vars_in groups) h))
+    (others_stay n groups (all_second (λ v. v.number ≢ n) g.vars (vars_in groups) h))
 
 first_or_none : {X : Type 0} (o : Option X) (xs : List X)
     → cons_option o xs ≡ option_to_list o ++ xs

@@ -1,7 +1,6 @@
 -- What a search by a test finds, and names that no item has.
 use Rattle.std.specs.Prelude.{◌≡◌, ◌≢◌, ℕ, suc, Bool, true, false, ◌||◌, cond, List, [], ◌∷◌, Option, Some, None, All, Contains, find, flat_map, is_some, refl}
 use Rattle.std.specs.List.{list_any}
-use Rattle.std.specs.Option.{option_map}
 use Rattle.std.specs.Str.{bytes_eq}
 use Rattle.std.proofs.Common.{arith, sym, ap, subst, inl, inr, ◌∙◌}
 use Rattle.std.proofs.lemmas.Bool.{cases_Bool, or_parts, both_ways}
@@ -65,11 +64,6 @@ module _ {X : Type 0} (p : X → Bool) where
   list_any-flat_map f [] = refl
   list_any-flat_map f (y ∷ ys) = list_any-append p (f y) (flat_map f ys)
       ∙ ap (λ b. list_any p (f y) || b) (list_any-flat_map f ys)
-
-pub is_some-option_map : {X Y : Type 0} (f : X → Y) (o : Option X)
-    → is_some (option_map f o) ≡ is_some o
-is_some-option_map f None = refl
-is_some-option_map f (Some x) = refl
 
 -- what is there is something
 pub something : {X : Type 0} (o : Option X) → is_some o ≡ true → (x : X) × (o ≡ Some x)

@@ -3,11 +3,11 @@ use Rattle.std.specs.Prelude.{◌≡◌, ◌≢◌, ℕ, ◌==◌, true, false, 
 use Rattle.std.specs.List.{filter_map, cons_option, list_any}
 use Rattle.std.specs.Option.{option_map_or}
 use Rattle.std.proofs.Common.{sym, ap, ap₂, inl, inr, ◌∙◌}
-use Rattle.std.proofs.lemmas.Bool.{cases_Bool, cases_eq}
+use Rattle.std.proofs.lemmas.Bool.{cases_Bool, cases_eq, eq-eqb, ne_eqb}
 use Rattle.std.proofs.lemmas.List.Elements.{All-head, All-tail, filter-append}
 use Rattle.set_core.specs.declared.set.Set.{Set}
 use Rattle.numbered.specs.Numbered.{IsAt}
-use Rattle.numbered.specs.Laws.{KeepsNumbers, same_number, other_number}
+use Rattle.numbered.specs.Laws.{KeepsNumbers}
 use Rattle.user_model.specs.declared.group.Group.{Group}
 use Rattle.user_model.specs.declared.group.GroupVar.{GroupVar}
 use Rattle.user_model.specs.Model.{has_variable}
@@ -86,12 +86,12 @@ others_stand m n (v ∷ vars) ne =
     elim (cases_eq v.number n) [
       | inl e ↦
           ap (λ b. list_any (λ v. v.number == m) (cond (not b) (v ∷ others n vars) (others n vars)))
-          (same_number v.number n e)
+          (eq-eqb v.number n e)
           ∙ (others_stand m n vars ne
           ∙ sym (ap (λ b. b || list_any (λ v. v.number == m) vars)
-          (other_number v.number m (λ at. ne (sym at ∙ e)))))
+          (ne_eqb v.number m (λ at. ne (sym at ∙ e)))))
       | inr off ↦
           ap (λ b. list_any (λ v. v.number == m) (cond (not b) (v ∷ others n vars) (others n vars)))
-          (other_number v.number n off)
+          (ne_eqb v.number n off)
           ∙ ap (λ b. (v.number == m) || b) (others_stand m n vars ne)
     ]

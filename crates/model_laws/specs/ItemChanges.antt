@@ -1,6 +1,6 @@
 -- Changes that set an item in its place, take one out, or edit each item that is touched; and what
 -- differs after changes.
-use Rattle.std.specs.Prelude.{◌≡◌, ◌≢◌, ℕ, ◌+◌, ◌<◌, ◌==◌, Bool, true, false, cond, List, [], ◌∷◌, ◌++◌, Option, Some, None, All, filter, map, slice_index_or, refl}
+use Rattle.std.specs.Prelude.{◌≡◌, ◌≢◌, ℕ, ◌<◌, ◌==◌, Bool, true, false, cond, List, [], ◌∷◌, ◌++◌, Option, Some, None, All, filter, map, slice_index_or, refl}
 use Rattle.std.specs.List.{filter_map, cons_option}
 use Rattle.std.specs.Option.{option_and_then, option_map, option_map_or}
 use Rattle.std.proofs.Common.{sym, ap, ◌∙◌}
@@ -10,7 +10,7 @@ use Rattle.numbered.specs.Numbered.{Rise, IsAt, find}
 use Rattle.numbered.specs.Changes.{AreChanges, changed_number, old, olds, set_all}
 use Rattle.numbered.specs.Laws.{KeepsNumbers, Rise-filter, find-filter_map, same_lists, Rise-filter_map}
 use Rattle.numbered.specs.SetLaws.{put_last}
-use Rattle.numbered.specs.ChangeLaws.{AreChanges-cons, AreChanges-nil, AreChanges-olds, Rise-set_all, find-changed, find-set_all}
+use Rattle.numbered.specs.ChangeLaws.{AreChanges-cons, AreChanges-nil, AreChanges-olds, Rise-set_all, find-changed, find-olds, find-set_all}
 use Rattle.user_model.specs.Undone.{AreDifferences}
 use Rattle.model_laws.specs.Pairs.{AllPairs-map}
 
@@ -116,17 +116,6 @@ module _ {X : Type 0} (number_of : X → ℕ) where
             test true e = refl
             test false e = sym (stays x e)
 
-  found_old : (n : ℕ) (cs : List (Change X)) (xs : List X)
-      → find changed_number n (olds number_of cs xs)
-      ≡ option_map (old number_of xs) (find changed_number n cs)
-  found_old n [] xs = refl
-  found_old n (c ∷ cs) xs =
-      elim (c.number
-      == n) as (λ b. cond b (Some (old number_of xs c))
-      (find changed_number n (olds number_of cs xs))
-      ≡ option_map (old number_of xs) (cond b (Some c) (find changed_number n cs)))
-      [ true ↦ refl | false ↦ found_old n cs xs ]
-
   -- changes that each put other content than stood there list, with the old content, exactly what
   -- differs
   pub differences : (xs : List X) (cs : List (Change X)) → AreChanges number_of cs
@@ -140,7 +129,7 @@ module _ {X : Type 0} (number_of : X → ℕ) where
         ≢ find number_of c.number (set_all number_of cs xs)) (old number_of xs) cs
         (λ k d end same. differ k d end (same ∙ find-changed number_of cs xs are k d end));
     all = λ n none. sym (find-set_all number_of n cs xs are
-        ∙ unlisted n (find changed_number n cs) (sym (found_old n cs xs) ∙ none));
+        ∙ unlisted n (find changed_number n cs) (sym (find-olds number_of n cs xs) ∙ none));
   }
     where
       unlisted : (n : ℕ) (o : Option (Change X)) → option_map (old number_of xs) o ≡ None

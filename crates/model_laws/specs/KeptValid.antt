@@ -7,6 +7,7 @@ use Rattle.std.proofs.lemmas.Bool.{and_parts, both_ways, eqb-true, not-false, or
 use Rattle.std.proofs.lemmas.List.{length-map}
 use Rattle.std.proofs.lemmas.List.Elements.{All-append, All-head, All-nil, All-cons, All-tail}
 use Rattle.std.proofs.lemmas.List.Folds.{list_any-append}
+use Rattle.map_laws.specs.EachLaws.{all_first, all_second}
 use Rattle.numbered.specs.Numbered.{put}
 use Rattle.aff_core.specs.Address.{Address, address_eq, address_eq-Decides}
 use Rattle.aff_core.specs.Function.{with_coefficient}
@@ -46,7 +47,7 @@ use Rattle.model_laws.specs.KeptWithin.{kept_within}
 use Rattle.model_laws.specs.Located.{group_by_number, row_by_number, variable_found, variable_located}
 use Rattle.model_laws.specs.Needed.{needed_row_there, needed_variable, unknown}
 use Rattle.model_laws.specs.Numbering.{numbered_length}
-use Rattle.model_laws.specs.Pairs.{All-filter_map, All-left, All-right}
+use Rattle.model_laws.specs.Pairs.{All-filter_map}
 use Rattle.model_laws.specs.PartsLeft.{created_left, group_left_valid, objective_left_valid, resized_is, row_left_bounds, row_left_valid, stands_left}
 use Rattle.model_laws.specs.Passed.{IsPassed, passed}
 use Rattle.model_laws.specs.Renamed.{renamed_stands}
@@ -125,7 +126,7 @@ module _ (model : ModelValue) (c : IsConsistent model)
     counted_terms change rest counted =
         subst (All (λ count. count ≤ TERMS)) (terms_after model c name row found change)
         (limited TERMS (terms_of_row (change_function model name change) name)
-        (All-left (λ c. c.0
+        (all_first (λ c. c.0
         ≤ c.1) (within TERMS (terms_of_row (change_function model name change) name)) rest
         counted))
 
@@ -165,7 +166,7 @@ module _ (model : ModelValue) (c : IsConsistent model)
         p.known).0;
     limit = omega (arith, p.counted 0 (0, 0) (omega arith), located_components model func);
     terms = limited TERMS (term_counts (located model func))
-        (All-left (λ c. c.0 ≤ c.1) (within TERMS (term_counts (located model func))) _
+        (all_first (λ c. c.0 ≤ c.1) (within TERMS (term_counts (located model func))) _
         (All-tail (λ c. c.0 ≤ c.1) (named_components func, COMPONENTS) _ p.counted));
     shape = shape;
     set = set_of_from_tests (components (located model func)) set
@@ -311,9 +312,9 @@ module _ (model : ModelValue) (c : IsConsistent model)
         (set_at_around group_number (λ xs ys. All IsValidGroup xs → All IsValidGroup ys) group.id
         (group_without n group) group model.groups c.groups_rise var.by_number
         (λ before after all.
-        let old = All-right IsValidGroup before (group ∷ after) all in
+        let old = all_second IsValidGroup before (group ∷ after) all in
         All-append IsValidGroup before (option_to_list (group_without n group) ++ after)
-        (All-left IsValidGroup before (group ∷ after) all)
+        (all_first IsValidGroup before (group ∷ after) all)
         (All-append IsValidGroup (option_to_list (group_without n group)) after
         (listed (group_without n group) (group_left_valid n group
         (All-head IsValidGroup group after old) (λ has. plain)))

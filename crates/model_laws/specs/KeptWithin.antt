@@ -2,6 +2,7 @@
 use Rattle.std.specs.Prelude.{◌≡◌, ℕ, ◌≤◌, false, List, [], ◌∷◌, ◌++◌, Some, None, All, map, refl}
 use Rattle.std.proofs.Common.{arith, sym, subst, inl, inr}
 use Rattle.std.proofs.lemmas.List.Elements.{All-head, All-tail}
+use Rattle.map_laws.specs.EachLaws.{all_second}
 use Rattle.aff_core.specs.Function.{with_coefficient}
 use Rattle.set_core.specs.declared.set.Set.TheVariants.{Reals}
 use Rattle.user_model.specs.declared.edit.Edit.{Edit}
@@ -14,7 +15,6 @@ use Rattle.user_model.specs.Deletion.{without_variable}
 use Rattle.user_model.specs.Edited.{change_group, edited, located, objective_of, on_affine, on_objective, on_output, renamed, with_constant}
 use Rattle.user_model.specs.Refusals.{counts, first_refusal, meets_unknown_name, meets_name_taken, terms_of_objective, terms_of_row, within}
 use Rattle.user_model.specs.Consistent.{IsConsistent, IsWithinLimits}
-use Rattle.model_laws.specs.Pairs.{All-right}
 use Rattle.model_laws.specs.Passed.{passed}
 use Rattle.model_laws.specs.Located.{free_row, variable_located}
 use Rattle.model_laws.specs.Changed.{change_group-found}
@@ -33,7 +33,7 @@ IsLimited c = c.0 ≤ c.1
 after_terms : (terms : List ℕ) (count : ℕ × ℕ) (others : List (ℕ × ℕ))
     → All IsLimited (within TERMS terms ++ count ∷ others) → IsLimited count
 after_terms terms count others h =
-    All-head IsLimited count others (All-right IsLimited (within TERMS terms) (count ∷ others) h)
+    All-head IsLimited count others (all_second IsLimited (within TERMS terms) (count ∷ others) h)
 
 module _ (model : ModelValue) (c : IsConsistent model) (w : IsWithinLimits model) where
   within_rename : (name new : List ℕ) (n : ℕ) → variable_named model name ≡ Some n
@@ -53,7 +53,7 @@ module _ (model : ModelValue) (c : IsConsistent model) (w : IsWithinLimits model
       add_group_within model names set w (counted 1 (0, 0) (omega arith))
       (counted 2 (0, 0) (omega arith)) (counted 3 (0, 0) (omega arith))
   within_by (edit.AddRow name func set) known free counted =
-      let rest = All-right IsLimited (within TERMS (term_counts (located model func))) _
+      let rest = all_second IsLimited (within TERMS (term_counts (located model func))) _
       (All-tail IsLimited (named_components func, _) _ counted) in
       add_row_within model name (located model func) set w (rest 0 (0, 0) (omega arith))
       (rest 1 (0, 0) (omega arith)) (rest 2 (0, 0) (omega arith))

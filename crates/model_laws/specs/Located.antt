@@ -3,13 +3,13 @@ use Rattle.std.specs.Prelude.{◌≡◌, ◌≢◌, ℕ, zero, suc, ◌<◌, ◌
 use Rattle.std.specs.Option.{option_map}
 use Rattle.std.specs.Str.{bytes_eq}
 use Rattle.std.proofs.Common.{arith, sym, ap, subst, ◌∙◌}
-use Rattle.std.proofs.lemmas.Bool.{eqb-true}
+use Rattle.std.proofs.lemmas.Bool.{eq-eqb, eqb-true}
 use Rattle.std.proofs.lemmas.Option.{same_Some}
 use Rattle.std.proofs.lemmas.List.Elements.{Contains-append_left, Contains-append_right}
 use Rattle.std.proofs.lemmas.List.Folds.{Any-from_list_any}
 use Rattle.std.proofs.lemmas.Slice.Eq.{bytes_eq-Decides}
+use Rattle.map_laws.specs.OptionLaws.{is_some-option_map}
 use Rattle.numbered.specs.Numbered as numbered
-use Rattle.numbered.specs.Laws.{same_number}
 use Rattle.aff_core.specs.Address.{address_eq, address_eq-Decides}
 use Rattle.user_model.specs.declared.group.Group.{Group}
 use Rattle.user_model.specs.declared.group.GroupVar.{GroupVar}
@@ -18,7 +18,7 @@ use Rattle.user_model.specs.Model.{ModelValue, address_named, group_of, has_vari
 use Rattle.user_model.specs.Edited.{group_number, row_number}
 use Rattle.user_model.specs.Consistent.{IsConsistent, variable_number}
 use Rattle.user_model.specs.Refusals.{has_row_named, has_variable_named}
-use Rattle.model_laws.specs.Found.{found_passes, found_stands, is_some-find, is_some-option_map, one_passes, other_names, something, stands_found}
+use Rattle.model_laws.specs.Found.{found_passes, found_stands, is_some-find, one_passes, other_names, something, stands_found}
 use Rattle.model_laws.specs.Variables.{group_found}
 
 -- the variable with a number and a name, in its group
@@ -98,7 +98,7 @@ module _ (model : ModelValue) where
       let at = variable_of_name name n e in
       group_found n model.groups
       ∙ one_passes (λ v. v.number == n) (variables model) at.0 at.1
-      (same_number at.0.number n at.2)
+      (eq-eqb at.0.number n at.2)
 
   -- a plain function of a name is on a variable that stands
   pub address_stands : (name : List ℕ) (n m : ℕ) → variable_named model name ≡ Some n

@@ -1,12 +1,13 @@
 -- A row, a group and an objective without a variable differ from what they were exactly where they
 -- mention it.
-use Rattle.std.specs.Prelude.{◌≡◌, ◌≢◌, ℕ, ◌==◌, Bool, true, false, ◌||◌, not, cond, List, [], ◌∷◌, Option, Some, None, IfSome, filter, is_some, map, unwrap_or, refl}
+use Rattle.std.specs.Prelude.{◌≡◌, ◌≢◌, ℕ, ◌==◌, Bool, true, false, ◌||◌, not, cond, List, [], ◌∷◌, Some, None, IfSome, filter, is_some, map, unwrap_or, refl}
 use Rattle.std.specs.List.{list_any}
 use Rattle.std.specs.FinMap as finite
 use Rattle.std.proofs.Common.{sym, ap, ap₂, subst, inl, inr, ◌∙◌}
 use Rattle.std.proofs.lemmas.Bool.{both_ways, cases_Bool, not-true, or_parts}
 use Rattle.std.proofs.lemmas.List.Elements.{filter_passes, All-weaker}
 use Rattle.std.proofs.lemmas.List.Folds.{list_any_none}
+use Rattle.map_laws.specs.OptionLaws.{none_of}
 use Rattle.ratio_core.specs.Rational.{zero_ℚ}
 use Rattle.aff_core.specs.Address.{Address, address_eq, address_eq-Decides, address_total}
 use Rattle.aff_core.specs.Function.{Function}
@@ -29,14 +30,10 @@ use Rattle.model_laws.specs.Terms.{terms_left}
 
 -- ---- a function without a term
 
-nothing : {X : Type 0} (o : Option X) → is_some o ≡ false → o ≡ None
-nothing None e = refl
-nothing (Some x) e = absurd (both_ways true e refl)
-
 pub without_unmentioned : (at : Address) (f : Function) → has_term at f ≡ false
     → without_term at f ≡ f
 without_unmentioned at f e = same_coefficient address_order f at zero_ℚ
-    (ap (λ o. unwrap_or o zero_ℚ) (nothing (finite.get f.terms at) e))
+    (ap (λ o. unwrap_or o zero_ℚ) (none_of (finite.get f.terms at) e))
 
 pub without_mentions_none : (at : Address) (f : Function) → has_term at (without_term at f) ≡ false
 without_mentions_none at f =

@@ -4,18 +4,9 @@ use Rattle.std.specs.List.{filter_map, cons_option}
 use Rattle.std.proofs.Common.{arith, sym, inl, inr, ◌∙◌}
 use Rattle.std.proofs.lemmas.List.Elements.{All-nil, All-cons, All-head, All-tail, All-append}
 use Rattle.std.proofs.lemmas.List.Kept.{AllPairs-cons}
+use Rattle.map_laws.specs.EachLaws.{all_first, all_second}
 
 module _ {X : Type 0} (P : X → Type 0) where
-  -- what holds of all items of two lists
-  pub All-left : (xs ys : List X) → All P (xs ++ ys) → All P xs
-  All-left [] ys h = All-nil P
-  All-left (x ∷ xs) ys h =
-      All-cons P x xs (All-head P x (xs ++ ys) h) (All-left xs ys (All-tail P x (xs ++ ys) h))
-
-  pub All-right : (xs ys : List X) → All P (xs ++ ys) → All P ys
-  All-right [] ys h = h
-  All-right (x ∷ xs) ys h = All-right xs ys (All-tail P x (xs ++ ys) h)
-
   -- what holds of every item that an edit keeps
   pub All-filter_map : (Q : X → Type 0) (f : X → Option X) (xs : List X)
       → ((x : X) → Q x → IfSome (f x) P) → All Q xs → All P (filter_map f xs)
@@ -53,7 +44,7 @@ module _ {X : Type 0} (R : X → X → Type 0) where
   AllPairs-before [] y ys h = All-nil (λ x. R x y)
   AllPairs-before (x ∷ xs) y ys h =
       All-cons (λ x. R x y) x xs (All-head (R x) y ys
-      (All-right (R x) xs (y ∷ ys) (AllPairs-head x (xs ++ (y ∷ ys)) h)))
+      (all_second (R x) xs (y ∷ ys) (AllPairs-head x (xs ++ (y ∷ ys)) h)))
       (AllPairs-before xs y ys (AllPairs-tail x (xs ++ (y ∷ ys)) h))
 
   pub AllPairs-after : (xs : List X) (y : X) (ys : List X) → AllPairs R (xs ++ (y ∷ ys))
@@ -67,9 +58,9 @@ module _ {X : Type 0} (R : X → X → Type 0) where
   AllPairs-replaced [] y z ys h before after = AllPairs-cons R z ys after (AllPairs-tail y ys h)
   AllPairs-replaced (x ∷ xs) y z ys h before after =
       let first = AllPairs-head x (xs ++ (y ∷ ys)) h in
-      let later = All-tail (R x) y ys (All-right (R x) xs (y ∷ ys) first) in
+      let later = All-tail (R x) y ys (all_second (R x) xs (y ∷ ys) first) in
       AllPairs-cons R x (xs
-      ++ (z ∷ ys)) (All-append (R x) xs (z ∷ ys) (All-left (R x) xs (y ∷ ys) first)
+      ++ (z ∷ ys)) (All-append (R x) xs (z ∷ ys) (all_first (R x) xs (y ∷ ys) first)
       (All-cons (R x) z ys (All-head (λ x. R x z) x xs before) later))
       (AllPairs-replaced xs y z ys (AllPairs-tail x (xs ++ (y ∷ ys)) h)
       (All-tail (λ x. R x z) x xs before) after)
@@ -128,7 +119,7 @@ module _ {X K : Type 0} (name_of : X → K) where
             k d end (sym e ∙ same))
         | inr free ↦
             AllPairs-replaced (λ x y. name_of x ≢ name_of y) xs y z ys h
-            (All-left (λ x. name_of x ≢ name_of z) xs (y ∷ ys) free)
+            (all_first (λ x. name_of x ≢ name_of z) xs (y ∷ ys) free)
             (λ k d end same. All-tail (λ x. name_of x ≢ name_of z) y ys
-            (All-right (λ x. name_of x ≢ name_of z) xs (y ∷ ys) free) k d end (sym same))
+            (all_second (λ x. name_of x ≢ name_of z) xs (y ∷ ys) free) k d end (sym same))
       ]

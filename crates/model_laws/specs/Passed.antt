@@ -4,7 +4,6 @@ use Rattle.std.proofs.Common.{ltb-false}
 use Rattle.std.proofs.lemmas.List.Elements.{All-nil, All-cons}
 use Rattle.user_model.specs.declared.edit.Edit.{Edit}
 use Rattle.user_model.specs.declared.refusal.Refusal.{Refusal}
-use Rattle.user_model.specs.declared.refusal.Refusal.TheVariants.{UnknownName, NameTaken, FunctionShape, BadDimension, OutputIndex, BadInterval, LowerBoundAlreadySet, UpperBoundAlreadySet, SetTypeMismatch, DeleteNotAllowed}
 use Rattle.user_model.specs.Sets.{sets_lower, sets_upper}
 use Rattle.user_model.specs.Model.{ModelValue, has_lower_bound, has_upper_bound}
 use Rattle.user_model.specs.Refusals.{first_of, first_refusal, full_at, counts, refusal_tests, meets_unknown_name, meets_name_taken, meets_function_shape, meets_bad_dimension, meets_output_index, meets_bad_interval, meets_bound_already_set, meets_set_type_mismatch, meets_delete_not_allowed}

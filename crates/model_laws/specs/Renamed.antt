@@ -3,10 +3,9 @@
 use Rattle.std.specs.Prelude.{◌≡◌, ◌≢◌, ℕ, ◌<◌, ◌==◌, true, false, ◌||◌, cond, List, [], ◌∷◌, All, AllPairs, map, refl}
 use Rattle.std.specs.List.{list_any}
 use Rattle.std.proofs.Common.{arith, sym, ap, ap₂, inl, inr, ◌∙◌}
-use Rattle.std.proofs.lemmas.Bool.{cases_eq}
+use Rattle.std.proofs.lemmas.Bool.{cases_eq, eq-eqb, ne_eqb}
 use Rattle.std.proofs.lemmas.List.Elements.{All-map, All-weaker}
 use Rattle.numbered.specs.Numbered.{Rise}
-use Rattle.numbered.specs.Laws.{same_number, other_number}
 use Rattle.user_model.specs.declared.group.GroupVar.{GroupVar}
 use Rattle.user_model.specs.Edited.{renamed}
 use Rattle.user_model.specs.Consistent.{variable_number}
@@ -19,11 +18,11 @@ module _ (n : ℕ) (name : List ℕ) where
 
   pub renamed_there : (v : GroupVar) → v.number ≡ n → (renamed n name v).name ≡ name
   renamed_there v e =
-      ap (λ b. (cond b (record v { name = name }) v).name) (same_number v.number n e)
+      ap (λ b. (cond b (record v { name = name }) v).name) (eq-eqb v.number n e)
 
   renamed_other : (v : GroupVar) → v.number ≢ n → (renamed n name v).name ≡ v.name
   renamed_other v ne =
-      ap (λ b. (cond b (record v { name = name }) v).name) (other_number v.number n ne)
+      ap (λ b. (cond b (record v { name = name }) v).name) (ne_eqb v.number n ne)
 
   apart : (v w : GroupVar)
       → (v.number < w.number) × (v.name ≢ w.name) × (v.name ≢ name) × (w.name ≢ name)

@@ -18,7 +18,7 @@ use Rattle.named_aff.specs.declared.terms.NamedTerm.{NamedTerm}
 use Rattle.user_model.specs.declared.edit.NamedFunc.{NamedFunc}
 use Rattle.user_model.specs.declared.edit.NamedFunc.TheVariants as named
 use Rattle.user_model.specs.declared.function.UserFunc.{UserFunc}
-use Rattle.user_model.specs.declared.function.UserFunc.TheVariants.{Plain, Affine, PlainVec, AffineVec}
+use Rattle.user_model.specs.declared.function.UserFunc.TheVariants.{Affine, AffineVec}
 use Rattle.user_model.specs.declared.group.Group.{Group}
 use Rattle.user_model.specs.declared.objective.Objective.{Objective}
 use Rattle.user_model.specs.declared.objective.Objective.TheVariants as objective

@@ -5,15 +5,17 @@ use Rattle.std.proofs.Common.{arith, sym, ap, ap₂, subst, ◌∙◌}
 use Rattle.std.proofs.lemmas.List.Concat.{flat_map-append}
 use Rattle.std.proofs.lemmas.List.Folds.{map_fixed}
 use Rattle.std.proofs.lemmas.List.Elements.{All-nil, All-cons, All-contains, All-weaker, Contains-append_left}
+use Rattle.std.proofs.lemmas.Bool.{ne_eqb}
+use Rattle.std.proofs.lemmas.List.{map-append}
+use Rattle.map_laws.specs.EachLaws.{all_second}
 use Rattle.numbered.specs.Numbered.{Rise, put}
 use Rattle.numbered.specs.Numbered as numbered
-use Rattle.numbered.specs.Laws.{other_number}
 use Rattle.user_model.specs.declared.group.Group.{Group}
 use Rattle.user_model.specs.declared.group.GroupVar.{GroupVar}
 use Rattle.user_model.specs.Model.{has_variable}
 use Rattle.user_model.specs.Edited.{group_number, renamed}
 use Rattle.user_model.specs.Consistent.{variable_number}
-use Rattle.model_laws.specs.Pairs.{AllPairs-head, AllPairs-tail, All-right}
+use Rattle.model_laws.specs.Pairs.{AllPairs-head, AllPairs-tail}
 use Rattle.model_laws.specs.Replaced.{replaced}
 use Rattle.model_laws.specs.Found.{is_some-find, list_any-flat_map}
 
@@ -41,17 +43,13 @@ vars_replaced x y groups rise found same =
     ∙ (ap (λ vs. vars_in before ++ (vs ++ vars_in after)) same
     ∙ sym (vars_around before after y)))
 
-map-append : {X Y : Type 0} (f : X → Y) (xs ys : List X) → map f (xs ++ ys) ≡ map f xs ++ map f ys
-map-append f [] ys = refl
-map-append f (x ∷ xs) ys = ap (λ zs. f x ∷ zs) (map-append f xs ys)
-
 module _ {X : Type 0} (number_of : X → ℕ) where
   Rise-across : (xs ys : List X) → AllPairs (λ x y. number_of x < number_of y) (xs ++ ys)
       → All (λ x. All (λ y. number_of x < number_of y) ys) xs
   Rise-across [] ys h = All-nil (λ x. All (λ y. number_of x < number_of y) ys)
   Rise-across (x ∷ xs) ys h =
       All-cons (λ x. All (λ y. number_of x < number_of y) ys) x xs
-      (All-right (λ y. number_of x < number_of y) xs ys
+      (all_second (λ y. number_of x < number_of y) xs ys
       (AllPairs-head (λ x y. number_of x < number_of y) x (xs ++ ys) h))
       (Rise-across xs ys (AllPairs-tail (λ x y. number_of x < number_of y) x (xs ++ ys) h))
 
@@ -79,7 +77,7 @@ renamed_others : (n : ℕ) (name : List ℕ) (vs : List GroupVar) → All (λ v.
     → map (renamed n name) vs ≡ vs
 renamed_others n name vs h =
     map_fixed (renamed n name) vs (All-weaker (λ v. v.number ≢ n) (λ v. renamed n name v ≡ v)
-    (λ v off. ap (λ b. cond b (record v { name = name }) v) (other_number v.number n off)) vs h)
+    (λ v off. ap (λ b. cond b (record v { name = name }) v) (ne_eqb v.number n off)) vs h)
 
 -- the variable's new name in its group is its new name among all variables
 pub vars_renamed : (n : ℕ) (name : List ℕ) (y : Group) (groups : List Group)

@@ -4,13 +4,14 @@ use Rattle.std.specs.Prelude.{All, IfSome, filter, is_some, not, slice_index_or,
 use Rattle.std.specs.List as list
 use Rattle.std.specs.List.{cons_option, filter_map, list_any}
 use Rattle.std.specs.Option.{is_none, option_and_then, option_map, option_map_or}
-use Rattle.std.proofs.lemmas.Bool.{both_ways, cases_Bool, cases_eq}
+use Rattle.std.proofs.lemmas.Bool.{both_ways, cases_Bool, cases_eq, eq-eqb, ne_eqb}
 use Rattle.std.proofs.lemmas.List.Elements.{All-filter, All-map, filter_passes}
 use Rattle.std.proofs.lemmas.Option.{none-some}
+use Rattle.map_laws.specs.OptionLaws.{none_of}
 use Rattle.numbered.specs.declared.change.Change.{Change}
 use Rattle.numbered.specs.Numbered.{Rise, find}
 use Rattle.numbered.specs.Changes.{changed_number, set_all}
-use Rattle.numbered.specs.Laws.{Rise-filter, find-filter_map, number_of_found, other_number, same_number}
+use Rattle.numbered.specs.Laws.{Rise-filter, find-filter_map, number_of_found}
 use Rattle.aff_core.specs.Address.{Address}
 use Rattle.user_model.specs.declared.group.Group.{Group}
 use Rattle.user_model.specs.declared.group.GroupVar.{GroupVar}
@@ -38,7 +39,7 @@ use Rattle.model_plans.specs.declared.plan.Plan.{Plan}
 use Rattle.model_catalog.specs.Names.{listed_as, listed_number}
 use Rattle.model_catalog.specs.Named.{IsInGroup, AreNameChanges, ChangesNames, variable_name}
 use Rattle.model_plans.specs.Plans.{HasParts, IsChange, IsRenamed, Leads, gone}
-use Rattle.model_plans.proofs.Finding.{find-mapped, found_by_number, nothing}
+use Rattle.model_plans.proofs.Finding.{find-mapped, found_by_number}
 use Rattle.model_plans.proofs.NamesListed.{one_listed, one_renamed, row_names_in}
 use Rattle.model_plans.proofs.Leading.{leads, made}
 
@@ -76,7 +77,7 @@ module _ (m n : ℕ) (ne : m ≢ n) where
 -- the variable has no group any more
 pub none_in_group : (n : ℕ) (groups : List Group) → list.find (has_variable n) (filter_map (group_without n) groups) ≡ None
 none_in_group n groups =
-    nothing (list.find (has_variable n) (filter_map (group_without n) groups)) (group_found n (filter_map (group_without n) groups) ∙ (ap (list_any (λ v. v.number == n)) (vars_without n groups) ∙ failing_none (λ v. v.number == n) (vars_in groups)))
+    none_of (list.find (has_variable n) (filter_map (group_without n) groups)) (group_found n (filter_map (group_without n) groups) ∙ (ap (list_any (λ v. v.number == n)) (vars_without n groups) ∙ failing_none (λ v. v.number == n) (vars_in groups)))
 
 -- ---- names of variables
 
@@ -88,7 +89,7 @@ name_gone n groups rise = ap (option_map (λ v. v.name)) (found_others n n group
   where
     by : (o : Option GroupVar) → find variable_number n (vars_in groups) ≡ o → option_map (λ v. v.name) (option_and_then (λ v. cond (not (v.number == n)) (Some v) None) o) ≡ None
     by None e = refl
-    by (Some v) e = ap (λ b. option_map (λ v. v.name) (cond (not b) (Some v) None)) (same_number v.number n (number_of_found variable_number n v (vars_in groups) e))
+    by (Some v) e = ap (λ b. option_map (λ v. v.name) (cond (not b) (Some v) None)) (eq-eqb v.number n (number_of_found variable_number n v (vars_in groups) e))
 
 name_left : (m n : ℕ) (groups : List Group) → m ≢ n → Rise variable_number (vars_in groups) → option_map (λ v. v.name) (find variable_number m (vars_in (filter_map (group_without n) groups))) ≡ option_map (λ v. v.name) (find variable_number m (vars_in groups))
 name_left m n groups ne rise = ap (option_map (λ v. v.name)) (found_others m n groups rise) ∙ by (find variable_number m (vars_in groups)) refl
@@ -96,7 +97,7 @@ name_left m n groups ne rise = ap (option_map (λ v. v.name)) (found_others m n 
     by : (o : Option GroupVar) → find variable_number m (vars_in groups) ≡ o → option_map (λ v. v.name) (option_and_then (λ v. cond (not (v.number == n)) (Some v) None) o) ≡ option_map (λ v. v.name) o
     by None e = refl
     by (Some v) e =
-        ap (λ b. option_map (λ v. v.name) (cond (not b) (Some v) None)) (other_number v.number n (λ same. ne (sym (number_of_found variable_number m v (vars_in groups) e) ∙ same)))
+        ap (λ b. option_map (λ v. v.name) (cond (not b) (Some v) None)) (ne_eqb v.number n (λ same. ne (sym (number_of_found variable_number m v (vars_in groups) e) ∙ same)))
 
 -- ---- names of rows
 
@@ -179,10 +180,10 @@ module _ (model : ModelValue) (plan : Plan) (c : IsConsistent model) (name : Lis
             subst (λ o. IfSome (option_map (λ g. g.id) o) (λ id. id ≡ plan.names.group)) (sym found) (sym in_group),
             subst (λ o. IfSome (option_map (λ g. g.id) o) (λ id. id ≡ plan.names.group)) (sym (none_in_group n model.groups)) tt,
           )
-      | inr other ↦ absurd (both_ways (is_some (find listed_number m plan.names.variables.items)) (ap (λ ls. is_some (find listed_number m ls)) vs ∙ ap (λ b. is_some (cond b (Some (listed_as n None)) None)) (other_number n m other)) some)
+      | inr other ↦ absurd (both_ways (is_some (find listed_number m plan.names.variables.items)) (ap (λ ls. is_some (find listed_number m ls)) vs ∙ ap (λ b. is_some (cond b (Some (listed_as n None)) None)) (ne_eqb n m other)) some)
     ];
     others = λ m absent. elim (cases_eq n m) [
-      | inl same ↦ absurd (both_ways (is_some (find listed_number m plan.names.variables.items)) (ap is_some absent) (ap (λ ls. is_some (find listed_number m ls)) vs ∙ ap (λ b. is_some (cond b (Some (listed_as n None)) None)) (same_number n m same)))
+      | inl same ↦ absurd (both_ways (is_some (find listed_number m plan.names.variables.items)) (ap is_some absent) (ap (λ ls. is_some (find listed_number m ls)) vs ∙ ap (λ b. is_some (cond b (Some (listed_as n None)) None)) (eq-eqb n m same)))
       | inr other ↦ ids_without m n (λ e. other (sym e)) model.groups
     ];
   }

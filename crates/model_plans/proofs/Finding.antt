@@ -1,10 +1,10 @@
--- What is found by number in a list, and what is there if nothing is found.
+-- What is found by number in a list, and what is there if none_of is found.
 use Rattle.std.proofs.Common.{◌≡◌, ℕ, ◌==◌, true, false, cond, List, [], ◌∷◌, Option, Some, None, refl, ap, ◌∙◌, map}
 use Rattle.std.specs.Prelude.{Contains, IsSome, is_some}
 use Rattle.std.specs.Option.{option_map, option_or}
-use Rattle.std.proofs.lemmas.Bool.{both_ways}
+use Rattle.std.proofs.lemmas.Bool.{both_ways, eq-eqb}
+use Rattle.map_laws.specs.OptionLaws.{none_of}
 use Rattle.numbered.specs.Numbered.{find}
-use Rattle.numbered.specs.Laws.{same_number}
 use Rattle.model_laws.specs.Found.{is_some-find, one_passes}
 
 -- each item is made something of the same number
@@ -14,14 +14,6 @@ find-mapped number_of other_number_of f same n (x ∷ xs) =
     ap (λ m. cond (m == n) (Some (f x)) (find other_number_of n (map f xs))) (same x)
     ∙ elim (number_of x == n) as (λ b. cond b (Some (f x)) (find other_number_of n (map f xs)) ≡ option_map f (cond b (Some x) (find number_of n xs))) [ true ↦ refl | false ↦ find-mapped number_of other_number_of f same n xs ]
 
-pub nothing : {X : Type 0} (o : Option X) → is_some o ≡ false → o ≡ None
-nothing None e = refl
-nothing (Some x) e = absurd (both_ways true e refl)
-
-pub option_or-none : {X : Type 0} (o : Option X) → option_or o None ≡ o
-option_or-none None = refl
-option_or-none (Some x) = refl
-
 -- what stands in the list is found by its number
 pub found_by_number : {X : Type 0} (number_of : X → ℕ) (n : ℕ) (x : X) (xs : List X) → Contains xs x → number_of x ≡ n → IsSome (find number_of n xs)
-found_by_number number_of n x xs there number = is_some-find (λ y. number_of y == n) xs ∙ one_passes (λ y. number_of y == n) xs x there (same_number (number_of x) n number)
+found_by_number number_of n x xs there number = is_some-find (λ y. number_of y == n) xs ∙ one_passes (λ y. number_of y == n) xs x there (eq-eqb (number_of x) n number)

@@ -4,14 +4,15 @@ use Rattle.std.specs.Prelude.{All, IfSome, IsSome, is_some}
 use Rattle.std.specs.List as list
 use Rattle.std.specs.List.{list_any}
 use Rattle.std.specs.Option.{option_map, option_map_or, option_or}
-use Rattle.std.proofs.lemmas.Bool.{both_ways, cases_eq}
+use Rattle.std.proofs.lemmas.Bool.{both_ways, cases_eq, ne_eqb}
 use Rattle.std.proofs.lemmas.List.{append-nil}
 use Rattle.std.proofs.lemmas.List.Elements.{All-map, All-nil, All-contains, All-weaker}
 use Rattle.std.proofs.lemmas.List.Folds.{find-append, list_any_none}
 use Rattle.std.proofs.lemmas.List.Concat.{flat_map-append}
 use Rattle.std.proofs.lemmas.Option.{none-some, same_Some}
+use Rattle.map_laws.specs.OptionLaws.{none_of, not_some, option_or-none}
 use Rattle.numbered.specs.Numbered.{Rise, find, put}
-use Rattle.numbered.specs.Laws.{Contains-found, find-none_below, number_of_found, other_number}
+use Rattle.numbered.specs.Laws.{Contains-found, find-none_below, number_of_found}
 use Rattle.set_core.specs.declared.set.Set.{Set}
 use Rattle.user_model.specs.declared.edit.Edit.TheVariants as edit
 use Rattle.user_model.specs.declared.group.Group.{Group}
@@ -40,8 +41,8 @@ use Rattle.model_catalog.specs.Names.{listed_as, listed_number}
 use Rattle.model_catalog.specs.Index.{group_number_of}
 use Rattle.model_catalog.specs.Named.{IsInGroup, AreNameChanges, ChangesNames, variable_name}
 use Rattle.model_plans.specs.Plans.{Accepts, HasParts, IsRenamed, Leads, listed_variables}
-use Rattle.model_plans.proofs.Finding.{find-mapped, found_by_number, nothing, option_or-none}
-use Rattle.model_plans.proofs.NamesListed.{AreNameChanges-groups, none_listed, one_listed, one_renamed, unlisted}
+use Rattle.model_plans.proofs.Finding.{find-mapped, found_by_number}
+use Rattle.model_plans.proofs.NamesListed.{AreNameChanges-groups, one_listed, one_renamed, unlisted}
 use Rattle.model_plans.proofs.Leading.{leads_group, leads_nowhere}
 
 -- ---- the groups of variables, as one group changes
@@ -69,7 +70,7 @@ module _ (n : ℕ) (name : List ℕ) where
       by : (o : Option GroupVar) → find variable_number m vs ≡ o → option_map (λ v. v.name) (option_map (renamed n name) o) ≡ option_map (λ v. v.name) o
       by None e = refl
       by (Some v) e =
-          ap (λ b. Some (cond b (record v { name = name }) v).name) (other_number v.number n (λ same. ne (sym (number_of_found variable_number m v vs e) ∙ same)))
+          ap (λ b. Some (cond b (record v { name = name }) v).name) (ne_eqb v.number n (λ same. ne (sym (number_of_found variable_number m v vs e) ∙ same)))
 
   name-renamed_there : (vs : List GroupVar) → IsSome (find variable_number n vs) → option_map (λ v. v.name) (find variable_number n (map (renamed n name) vs)) ≡ Some name
   name-renamed_there vs some =
@@ -99,7 +100,7 @@ module _ (model : ModelValue) (plan : Plan) (c : IsConsistent model) (name : Lis
   group_set_new_leads set ne p =
       let x : Group = record group { set = set } in
       subst (λ after. Leads model after plan) (sym (with_variable-found model name (λ n. change_group model n (λ g. record g { set = set })) n named))
-      (leads_changed_group (λ g. record g { set = set }) [] refl (group_set_other group set ne) p (unlisted (variable_name model) (variable_name (record model { groups = put group_number x model.groups })) (λ m. ap (λ vs. option_map (λ v. v.name) (find variable_number m vs)) (vars_replaced x group model.groups c.groups_rise there refl))) (All-nil (IsRenamed (variable_name model))) (λ m. refl) (λ m some. absurd (none_listed (find listed_number m []) refl some)))
+      (leads_changed_group (λ g. record g { set = set }) [] refl (group_set_other group set ne) p (unlisted (variable_name model) (variable_name (record model { groups = put group_number x model.groups })) (λ m. ap (λ vs. option_map (λ v. v.name) (find variable_number m vs)) (vars_replaced x group model.groups c.groups_rise there refl))) (All-nil (IsRenamed (variable_name model))) (λ m. refl) (λ m some. absurd (not_some (find listed_number m []) refl some)))
 
   -- no variable has the new name, and so not the one that is renamed
   found_renamed : (new : List ℕ) → All (λ v. v.name ≢ new) (variables model) → ((v : GroupVar) × (find variable_number n (variables model) ≡ Some v)) → IsRenamed (variable_name model) (listed_as n (Some new))
@@ -122,7 +123,7 @@ module _ (model : ModelValue) (plan : Plan) (c : IsConsistent model) (name : Lis
       (λ m. renamed_stands n new m group.vars)
       (λ m some. elim (cases_eq n m) [
         | inl same ↦ subst (λ k. IsInGroup plan.names.group model k) same (subst (λ o. IfSome (option_map (λ g. g.id) o) (λ id. id ≡ plan.names.group)) (sym found) (sym in_group))
-        | inr other ↦ absurd (both_ways (is_some (cond (n == m) (Some (listed_as n (Some new))) None)) (ap (λ b. is_some (cond b (Some (listed_as n (Some new))) None)) (other_number n m other)) some)
+        | inr other ↦ absurd (both_ways (is_some (cond (n == m) (Some (listed_as n (Some new))) None)) (ap (λ b. is_some (cond b (Some (listed_as n (Some new))) None)) (ne_eqb n m other)) some)
       ]))
 
 -- ---- a new group
@@ -160,7 +161,7 @@ module _ (first : ℕ) (vars : List GroupVar) (old : List GroupVar) (below : All
   listed_new n some = by (find variable_number n vars) refl
     where
       by : (o : Option GroupVar) → find variable_number n vars ≡ o → (v : GroupVar) × (find variable_number n vars ≡ Some v)
-      by None e = absurd (none_listed (find listed_number n (listed_variables vars)) (found_listed n ∙ ap (option_map as_listed) e) some)
+      by None e = absurd (not_some (find listed_number n (listed_variables vars)) (found_listed n ∙ ap (option_map as_listed) e) some)
       by (Some v) e = (v, e)
 
   pub unlisted_absent : (n : ℕ) → find listed_number n (listed_variables vars) ≡ None → list_any (λ v. v.number == n) vars ≡ false
@@ -203,7 +204,7 @@ added_leads model plan names set c in_group p =
   where
     no_group : (n : ℕ) → All (λ v. v.number < n) (variables model) → group_of model n ≡ None
     no_group n below =
-        nothing (group_of model n) (group_found n model.groups ∙ list_any_none (λ v. v.number == n) (variables model) (All-weaker (λ v. v.number < n) (λ v. (v.number == n) ≡ false) (λ v lt. other_number v.number n (λ e. omega arith)) (variables model) below))
+        none_of (group_of model n) (group_found n model.groups ∙ list_any_none (λ v. v.number == n) (variables model) (All-weaker (λ v. v.number < n) (λ v. (v.number == n) ≡ false) (λ v lt. ne_eqb v.number n (λ e. omega arith)) (variables model) below))
 
     alone : (b : Bool) (g : Group) → g.id ≡ plan.names.group → IfSome (option_map (λ g. g.id) (cond b (Some g) None)) (λ id. id ≡ plan.names.group)
     alone true g e = e

@@ -4,6 +4,7 @@ use Rattle.std.specs.Prelude.{All, IsSome, is_some}
 use Rattle.std.specs.Option.{option_map, option_map_or}
 use Rattle.std.proofs.lemmas.Bool.{cases_eq}
 use Rattle.std.proofs.lemmas.List.Elements.{All-cons, All-nil}
+use Rattle.map_laws.specs.OptionLaws.{not_some}
 use Rattle.numbered.specs.Numbered.{IsAt, find, set_at}
 use Rattle.numbered.specs.Laws.{Rise-cons, Rise-nil, find-first, find-rest}
 use Rattle.numbered.specs.SetLaws.{find-set_at_other, find-set_at_same}
@@ -19,9 +20,6 @@ use Rattle.model_catalog.specs.Names.{listed_number}
 use Rattle.model_catalog.specs.Index.{group_number_of}
 use Rattle.model_plans.specs.Plans.{IsRenamed}
 use Rattle.model_catalog.specs.Named.{IsInGroup, AreNameChanges, ChangesNames, variable_name}
-
-pub none_listed : {X : Type 0} (o : Option X) → o ≡ None → IsSome o → ⊥
-none_listed o e some = let both : false ≡ true = sym (ap is_some e) ∙ some in cc
 
 -- no name changes
 pub unlisted : (old new : ℕ → Option (List ℕ)) → ((n : ℕ) → new n ≡ old n) → ChangesNames [] old new
@@ -76,7 +74,7 @@ pub AreNameChanges-rows : (names : NameChanges) (listed : List NameChange) (mode
 AreNameChanges-rows names listed model rows o k none is h = record {
   variables = subst (λ ls. ChangesNames ls (variable_name model) (variable_name model)) (sym none) (unlisted (variable_name model) (variable_name model) (λ n. refl));
   rows = subst (λ ls. ChangesNames ls (row_names_in model.rows) (row_names_in rows)) (sym is) h;
-  in_group = λ n some. absurd (none_listed (find listed_number n names.variables.items) (ap (find listed_number n) none) some);
+  in_group = λ n some. absurd (not_some (find listed_number n names.variables.items) (ap (find listed_number n) none) some);
   others = λ n absent. refl;
 }
 

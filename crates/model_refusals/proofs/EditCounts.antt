@@ -28,10 +28,6 @@ first_some xs ys e = by (first_full xs) refl e
     by None is e = absurd (both_ways (is_some {T = Refusal} None) refl e)
     by (Some r) is e = is ∙ sym (first_found xs ys r is)
 
-pub first_none : {X : Type 0} (o : Option X) → is_some o ≡ false → o ≡ None
-first_none None e = refl
-first_none (Some x) e = cc
-
 module _ (model : ModelValue) where
   module _ (name : List ℕ) (func : NamedFunc) (set : Set) (few : named_components func ≤ COMPONENTS) where
     abbrev others : ℕ → List (ℕ × ℕ)

@@ -2,9 +2,8 @@
 use Rattle.std.proofs.Common.{◌≡◌, ◌≢◌, ℕ, ◌==◌, false, cond, List, [], ◌∷◌, length, Some, None, refl, sym, ap, ◌∙◌, arith, inl, inr}
 use Rattle.std.specs.List as list
 use Rattle.std.specs.Option.{option_map}
-use Rattle.std.proofs.lemmas.Bool.{cases_Bool, cases_eq}
+use Rattle.std.proofs.lemmas.Bool.{cases_Bool, cases_eq, eq-eqb, ne_eqb}
 use Rattle.numbered.specs.Numbered.{find}
-use Rattle.numbered.specs.Laws.{other_number, same_number}
 use Rattle.aff_core.specs.Address.{Address, address_eq, address_eq-Decides}
 use Rattle.aff_core.specs.declared.root.Root.TheVariants.{Variable}
 use Rattle.user_model.specs.declared.group.GroupVar.{GroupVar}
@@ -37,8 +36,8 @@ variable_at model at root depth = ap (option_map (λ v. v.name)) (same (variable
 
     test : (n : ℕ) → (n == at.number) ≡ address_eq (variable_address n) at
     test n = elim (cases_eq n at.number) [
-      | inl e ↦ same_number n at.number e ∙ sym ((address_eq-Decides (variable_address n) at).1 (ap variable_address e ∙ sym is))
-      | inr ne ↦ other_number n at.number ne ∙ sym (not_equal at n (λ e. ne (ap (λ a. a.number) e)))
+      | inl e ↦ eq-eqb n at.number e ∙ sym ((address_eq-Decides (variable_address n) at).1 (ap variable_address e ∙ sym is))
+      | inr ne ↦ ne_eqb n at.number ne ∙ sym (not_equal at n (λ e. ne (ap (λ a. a.number) e)))
     ]
 
     same : (vars : List GroupVar) → find variable_number at.number vars ≡ list.find (λ v. address_eq (variable_address v.number) at) vars

@@ -4,6 +4,7 @@ use Rattle.std.specs.Prelude.{All, is_some, sum_by}
 use Rattle.std.proofs.lemmas.List.{length-map}
 use Rattle.std.proofs.lemmas.List.Elements.{All-head, All-push, All-weaker}
 use Rattle.std.proofs.lemmas.List.Sums.{count_by-le-length, sum_by-append, sum_by-cons}
+use Rattle.map_laws.specs.EachLaws.{all_first, all_second}
 use Rattle.numbered.specs.Changes.{AreChanges, added}
 use Rattle.numbered.specs.ChangeLaws.{AreChanges-olds, added-le, room_back}
 use Rattle.user_model.specs.declared.undo.Undo.{Undo}
@@ -21,7 +22,6 @@ use Rattle.model_catalog.specs.Catalog.{Catalog, Room}
 use Rattle.model_catalog.specs.Exchange.{HasRoomFor, IsExchange, IsNoLess, KeepsRoom, contents, exchanged, standing}
 use Rattle.model_catalog.specs.Names.{put_count}
 use Rattle.model_catalog.specs.Named.{AreNameChanges, HasStandingNames}
-use Rattle.model_laws.specs.Pairs.{All-left, All-right}
 use Rattle.model_store.specs.Rooms.{HasLengths, IsCounted, IsParked, IsReserved, row_count, variable_count}
 use Rattle.model_store.specs.Store.{HasParked, IsEntryOf}
 
@@ -97,7 +97,7 @@ module _ (others : List Parked) (entry : Parked) (names left : NameCounts) where
 
   module _ (room : Room) (h : IsParked (others ++ entry ∷ []) names room) (c : IsCounted others left) where
     entry_lengths : HasLengths room entry
-    entry_lengths = All-head (HasLengths room) entry [] (All-right (HasLengths room) others (entry ∷ []) h.lengths)
+    entry_lengths = All-head (HasLengths room) entry [] (all_second (HasLengths room) others (entry ∷ []) h.lengths)
 
     pub entry_room : (catalog : Catalog) (with : Exchange) (undo : Undo) → catalog.room ≡ room → contents with ≡ undo → IsEntryOf entry catalog.model undo → HasRoomFor with entry.names catalog
     entry_room catalog with undo same is e =
@@ -119,7 +119,7 @@ module _ (others : List Parked) (entry : Parked) (names left : NameCounts) where
         let hv = h.variables in let hr = h.rows in
         let kv = keeps.variable_names in let kr = keeps.row_names in
         record {
-          lengths = more_lengths others room new keeps.groups keeps.rows keeps.variables (All-left (HasLengths room) others (entry ∷ []) h.lengths);
+          lengths = more_lengths others room new keeps.groups keeps.rows keeps.variables (all_first (HasLengths room) others (entry ∷ []) h.lengths);
           counted = c;
           variables = omega (arith, all_vs, a, cv, put_vs, hv, kv);
           rows = omega (arith, all_rs, b, cr, put_rs, hr, kr);

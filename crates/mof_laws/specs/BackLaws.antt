@@ -3,6 +3,7 @@ use Rattle.std.specs.Prelude.{◌≡◌, ◌≢◌, ℕ, suc, All, AllPairs, fal
 use Rattle.std.proofs.Common.{ap, arith, sym, ◌∙◌}
 use Rattle.std.proofs.lemmas.Bool.{and_parts, false_from_ne_true}
 use Rattle.std.proofs.lemmas.Slice.Eq.{bytes_eq-Decides}
+use Rattle.set_core.specs.ShapeLaws.{scalar_one}
 use Rattle.aff_core.specs.Address.{Address}
 use Rattle.user_model.specs.declared.function.UserFunc.{UserFunc}
 use Rattle.user_model.specs.declared.function.UserFunc.TheVariants.{Plain, Affine, PlainVec, AffineVec}
@@ -24,7 +25,7 @@ use Rattle.mof_laws.specs.OwnerLaws.{Other, all_owned, known_owned, owned}
 use Rattle.mof_laws.specs.VariableLaws.{names_in}
 use Rattle.mof_write.specs.Sayable.{IsSayable}
 use Rattle.mof_laws.specs.ReadBack.{group_constraint, row_constraint, said_objective, said_of, var_names}
-use Rattle.mof_laws.specs.WrittenLaws.{found_in, scalar_one, text_back}
+use Rattle.mof_laws.specs.WrittenLaws.{found_in, text_back}
 
 -- items with distinct names
 from_pairs : {X : Type 0} (name_of : X → List ℕ) (xs : List X)

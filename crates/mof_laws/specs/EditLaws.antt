@@ -6,6 +6,7 @@ use Rattle.std.proofs.lemmas.Bool.{and_from, and_left, and_right, cond-false, co
 use Rattle.std.proofs.lemmas.List.{set_at}
 use Rattle.std.proofs.lemmas.List.Elements.{All-head, All-tail}
 use Rattle.std.proofs.lemmas.List.Folds.{list_any-append}
+use Rattle.map_laws.specs.EachLaws.{all_first}
 use Rattle.aff_core.specs.Address.{Address}
 use Rattle.set_core.specs.Shapes.{IsSetOf, is_norm_cone, is_scalar}
 use Rattle.set_core.specs.declared.set.Set.{Set}
@@ -18,7 +19,6 @@ use Rattle.user_model.specs.declared.group.GroupVar.{GroupVar}
 use Rattle.user_model.specs.declared.row.Row.{Row}
 use Rattle.user_model.specs.Model.{ModelValue}
 use Rattle.user_model.specs.Valid.{IsValidGroup}
-use Rattle.model_laws.specs.Pairs.{All-left}
 use Rattle.mof_file.specs.declared.constraints.FileConstraint.{FileConstraint}
 use Rattle.mof_read.specs.Edits.{Sorted, objective_edits, with_constraint, with_constraints}
 use Rattle.mof_read.specs.Groups.{Owners, becomes_group, group_at, in_order, left_after, plain_names, with_owners}
@@ -140,7 +140,7 @@ module _ (taken : List (List ℕ)) (count : ℕ) where
       ap (λ s. with_constraints taken count (k + 1) s (map group_constraint gs ++ cs))
       (one_group (k + 1) made es g (All-head IsValidGroup g gs valid)
       (All-head (λ g. is_scalar g.set ≡ true → length g.vars ≡ 1) g gs one)
-      (All-left (IsNew es) g.vars (vars_in gs) new) parts.one)
+      (all_first (IsNew es) g.vars (vars_in gs) new) parts.one)
       ∙ all_groups cs r (k + 1) (made ++ some_edit g ∷ []) (es ++ pairs (length made) g.vars) gs
       (All-tail IsValidGroup g gs valid)
       (All-tail (λ g. is_scalar g.set ≡ true → length g.vars ≡ 1) g gs one)

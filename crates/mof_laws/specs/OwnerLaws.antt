@@ -7,10 +7,10 @@ use Rattle.std.proofs.lemmas.Bool.{and_from, cond-false, cond-true, false≢true
 use Rattle.std.proofs.lemmas.List.Elements.{All-cons, All-head, All-tail}
 use Rattle.std.proofs.lemmas.List.Folds.{list_any-append}
 use Rattle.std.proofs.lemmas.Slice.Eq.{bytes_eq-Decides}
+use Rattle.map_laws.specs.EachLaws.{all_first, all_second}
 use Rattle.indexmap.specs.IndexMap.{insert_entry}
 use Rattle.user_model.specs.declared.group.Group.{Group}
 use Rattle.user_model.specs.declared.group.GroupVar.{GroupVar}
-use Rattle.model_laws.specs.Pairs.{All-left, All-right}
 use Rattle.mof_read.specs.Groups.{Owners, are_new, is_free, with_owners}
 use Rattle.mof_laws.specs.FunctionLaws.{ApartBy}
 use Rattle.mof_laws.specs.ReadBack.{var_names}
@@ -167,10 +167,10 @@ parted R [] ys h =
 parted R (x ∷ xs) ys h =
     let rest = parted R xs ys h.1 in
     record {
-      one = (All-left (R x) xs ys h.0, rest.one);
+      one = (all_first (R x) xs ys h.0, rest.one);
       other = rest.other;
       both = λ k d within. All-cons (λ z. R z (slice_index_or ys k d)) x xs
-          (All-right (R x) xs ys h.0 k d within) (rest.both k d within);
+          (all_second (R x) xs ys h.0 k d within) (rest.both k d within);
     }
 
 -- the variables of later groups are new to this one's owners
@@ -178,7 +178,7 @@ pub later_new : (es : Owners) (k : ℕ) (vars later : List GroupVar) → All (Is
     → ApartBy Other (vars ++ later) → All (IsNew (es ++ pairs k vars)) later
 later_new es k vars later new apart = λ i d within.
     found_later (slice_index_or later i d).name es (pairs k vars)
-    (All-right (IsNew es) vars later new i d within)
+    (all_second (IsNew es) vars later new i d within)
     ∙ missing (slice_index_or later i d).name k vars
     ((parted Other vars later apart).both i d within)
 
@@ -197,7 +197,7 @@ all_owned es k (g ∷ gs) new apart =
     let parts = parted Other g.vars (vars_in gs) apart in (
       (λ i d within.
           found_later (slice_index_or g.vars i d).name es (pairs k g.vars ++ owned (suc k) gs)
-          (All-left (IsNew es) g.vars (vars_in gs) new i d within)
+          (all_first (IsNew es) g.vars (vars_in gs) new i d within)
           ∙ found_first (slice_index_or g.vars i d).name k (pairs k g.vars) (owned (suc k) gs)
           (there (slice_index_or g.vars i d).name k g.vars (list_there g.vars i d within))),
       subst (λ o. AllOwned o (suc k) gs) (append_assoc es (pairs k g.vars) (owned (suc k) gs))

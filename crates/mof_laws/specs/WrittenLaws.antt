@@ -13,6 +13,7 @@ use Rattle.name_index.specs.Name.{IsName, is_name}
 use Rattle.set_core.specs.Shapes.{dimension_of, is_scalar}
 use Rattle.set_core.specs.declared.set.Set.{Set}
 use Rattle.set_core.specs.declared.set.Set.TheVariants.{LessThan, GreaterThan, EqualTo, Interval, Reals, Zeros, Nonnegatives, Nonpositives, NormInfinityCone, NormOneCone}
+use Rattle.set_core.specs.ShapeLaws.{scalar_one}
 use Rattle.user_model.specs.declared.edit.NamedFunc.{NamedFunc}
 use Rattle.user_model.specs.declared.function.UserFunc.{UserFunc}
 use Rattle.user_model.specs.declared.function.UserFunc.TheVariants.{Plain, Affine, PlainVec, AffineVec}
@@ -143,18 +144,6 @@ unfolding row_data row_name_of a_text
 named_back row name is =
     found_back row_name_of (codes "name") (row_data name row) (string row.name) (Some row.name) refl
     (ap Ok (name_is row.name is)) None
-
-pub scalar_one : (set : Set) → is_scalar set ≡ true → dimension_of set ≡ 1
-scalar_one (LessThan u) e = refl
-scalar_one (GreaterThan l) e = refl
-scalar_one (EqualTo a) e = refl
-scalar_one (Interval l u) e = refl
-scalar_one (Reals n) e = absurd (false≢true e)
-scalar_one (Zeros n) e = absurd (false≢true e)
-scalar_one (Nonnegatives n) e = absurd (false≢true e)
-scalar_one (Nonpositives n) e = absurd (false≢true e)
-scalar_one (NormInfinityCone n) e = absurd (false≢true e)
-scalar_one (NormOneCone n) e = absurd (false≢true e)
 
 module _ (known : Known) where
   -- the variables of a group

@@ -20,7 +20,7 @@ use Rattle.user_model.specs.SameUpToNumbers.{function_by_position, group_by_posi
 use Rattle.user_model.specs.Valid.{bound_count, is_created_by}
 use Rattle.model_laws.specs.Located.{stands_in_joined}
 use Rattle.mof_round_trip.specs.Functions.{IsPlaced, placed_order}
-use Rattle.mof_round_trip.specs.Positions.{position_test}
+use Rattle.user_model.specs.PositionLaws.{position_test}
 use Rattle.mof_round_trip.specs.Renumbered.{any_made, find_made, made_variable, numbers, placed_address}
 
 -- ---- counts

@@ -26,7 +26,7 @@ use Rattle.user_model.specs.SameUpToNumbers.{address_by_position, affine_by_posi
 use Rattle.mof_write.specs.Written.{naming}
 use Rattle.mof_laws.specs.ReadBack.{named_affine, named_function, named_term}
 use Rattle.mof_laws.specs.VariableLaws.{HasVariableAt}
-use Rattle.mof_round_trip.specs.Positions.{position_order}
+use Rattle.user_model.specs.PositionLaws.{position_order}
 use Rattle.mof_round_trip.specs.Renumbered.{HasVariables, address_again, address_of_name, made_as, numbers, placed_address}
 
 -- ---- addresses of variables

@@ -8,8 +8,11 @@ use Rattle.std.proofs.lemmas.List.Kept.{AllPairs-cons}
 use Rattle.std.proofs.lemmas.List.Concat.{flat_map-append}
 use Rattle.std.proofs.lemmas.List.Elements.{All-cons, All-head, All-tail}
 use Rattle.std.proofs.lemmas.Slice.Eq.{bytes_eq-Decides}
+use Rattle.map_laws.specs.OptionLaws.{is_some-option_map}
+use Rattle.map_laws.specs.EachLaws.{all_first, all_second}
 use Rattle.set_core.specs.declared.set.Set.{Set}
 use Rattle.set_core.specs.Shapes.{IsSetOf, dimension_of, has_bad_dimension, is_scalar, least_dimension}
+use Rattle.set_core.specs.ShapeLaws.{scalar_one}
 use Rattle.user_model.specs.declared.edit.Edit.{Edit}
 use Rattle.user_model.specs.declared.group.Group.{Group}
 use Rattle.user_model.specs.declared.group.GroupVar.{GroupVar}
@@ -20,15 +23,14 @@ use Rattle.user_model.specs.Model.{ModelValue, variables}
 use Rattle.user_model.specs.Refusals.{counts, has_twins, has_variable_named}
 use Rattle.user_model.specs.SameUpToNumbers.{group_by_position}
 use Rattle.user_model.specs.Valid.{IsValid, IsValidGroup}
-use Rattle.model_laws.specs.Found.{is_some-find, is_some-option_map}
-use Rattle.model_laws.specs.Pairs.{AllPairs-head, AllPairs-tail, All-left, All-right}
+use Rattle.model_laws.specs.Found.{is_some-find}
+use Rattle.model_laws.specs.Pairs.{AllPairs-head, AllPairs-tail}
 use Rattle.model_laws.specs.Passed.{IsPassed}
 use Rattle.mof_laws.specs.EditLaws.{group_edit, some_components}
 use Rattle.mof_laws.specs.OwnerLaws.{vars_in}
 use Rattle.mof_laws.specs.ReadBack.{var_names}
-use Rattle.mof_laws.specs.WrittenLaws.{scalar_one}
 use Rattle.mof_round_trip.specs.Accepted.{AreWithin, LeadTo, each_leads, each_within}
-use Rattle.mof_round_trip.specs.Positions.{placed_here}
+use Rattle.user_model.specs.PositionLaws.{placed_here}
 use Rattle.mof_round_trip.specs.Renumbered.{made_variable, made_variables, none_made}
 
 -- ---- sets of so many components
@@ -56,7 +58,7 @@ pub across : {X : Type 0} (R : X → X → Type 0) (xs ys : List X) → AllPairs
 across R [] ys h = λ k d within. λ i e inside. absurd (omega arith)
 across R (x ∷ xs) ys h = λ k d within.
     All-cons (λ z. R z (slice_index_or ys k d)) x xs
-    (All-right (R x) xs ys (AllPairs-head R x (xs ++ ys) h) k d within)
+    (all_second (R x) xs ys (AllPairs-head R x (xs ++ ys) h) k d within)
     (across R xs ys (AllPairs-tail R x (xs ++ ys) h) k d within)
 
 pub other_name : (name other : List ℕ) → name ≢ other → bytes_eq name other ≡ false
@@ -76,7 +78,7 @@ pairs_left : {X : Type 0} (R : X → X → Type 0) (xs ys : List X) → AllPairs
     → AllPairs R xs
 pairs_left R [] ys h = λ i j d lt end. absurd (omega arith)
 pairs_left R (x ∷ xs) ys h =
-    AllPairs-cons R x xs (All-left (R x) xs ys (AllPairs-head R x (xs ++ ys) h))
+    AllPairs-cons R x xs (all_first (R x) xs ys (AllPairs-head R x (xs ++ ys) h))
     (pairs_left R xs ys (AllPairs-tail R x (xs ++ ys) h))
 
 pairs_right : {X : Type 0} (R : X → X → Type 0) (xs ys : List X) → AllPairs R (xs ++ ys)
@@ -160,7 +162,7 @@ module _ (model : ModelValue) (valid : IsValid model) where
     all_valid = subst (All IsValidGroup) whole valid.parts.valid_groups
 
     this_valid : IsValidGroup g
-    this_valid = All-head IsValidGroup g rest (All-right IsValidGroup done (g ∷ rest) all_valid)
+    this_valid = All-head IsValidGroup g rest (all_second IsValidGroup done (g ∷ rest) all_valid)
 
     names_apart : AllPairs OtherName (vars_in done ++ (g.vars ++ vars_in rest))
     names_apart = subst (AllPairs OtherName) all_variables valid.consistent.variable_names
@@ -169,7 +171,7 @@ module _ (model : ModelValue) (valid : IsValid model) where
     free_names =
         none_made (λ v. v.name) (NewName done) (has_variable_named (with_groups model done))
         (λ w. unnamed model done w.name) g.vars
-        (All-left (NewName done) g.vars (vars_in rest)
+        (all_first (NewName done) g.vars (vars_in rest)
         (across OtherName (vars_in done) (g.vars ++ vars_in rest) names_apart))
 
     single_names : has_twins (var_names g.vars) ≡ false
@@ -192,7 +194,7 @@ module _ (model : ModelValue) (valid : IsValid model) where
         let before : length (variables (with_groups model done)) ≡ length (vars_in done) =
         ap length (made_variables model done)
         ∙ length-map (vars_in done) (made_variable model) in
-        let groups = no_more_groups done (All-left IsValidGroup done (g ∷ rest) all_valid) in (
+        let groups = no_more_groups done (all_first IsValidGroup done (g ∷ rest) all_valid) in (
           omega (arith, limit, names_count),
           (
             omega (arith, all, total, before, names_count),

@@ -1,4 +1,3 @@
-pub mod Positions
 pub mod Renumbered
 pub mod Functions
 pub mod Accepted

@@ -17,7 +17,7 @@ use Rattle.user_model.specs.SameUpToNumbers.{address_by_position, group_by_posit
 use Rattle.model_laws.specs.Found.{found_passes, found_stands, is_some-find, one_passes, something}
 use Rattle.mof_write.specs.Written.{naming}
 use Rattle.mof_laws.specs.VariableLaws.{HasVariableAt, one_variable}
-use Rattle.mof_round_trip.specs.Positions.{placed_again}
+use Rattle.user_model.specs.PositionLaws.{placed_again}
 
 -- the model with each number replaced by its position
 abbrev pub renumbered : ModelValue → ModelValue

@@ -29,7 +29,7 @@ use Rattle.mof_round_trip.specs.Accepted.{LeadTo, stays_consistent}
 use Rattle.mof_round_trip.specs.Functions.{affine_again, function_again}
 use Rattle.mof_round_trip.specs.Groups.{groups_lead}
 use Rattle.mof_round_trip.specs.Objectives.{IsPlacedObjective, objective_lead, placed_objective}
-use Rattle.mof_round_trip.specs.Positions.{placed_again}
+use Rattle.user_model.specs.PositionLaws.{placed_again}
 use Rattle.mof_round_trip.specs.Renumbered.{HasVariables, address_again, made_variable, made_variables, made_as, number_again, numbers, renumbered}
 use Rattle.mof_round_trip.specs.Rows.{IsPlacedRow, placed_rows, rows_lead}
 

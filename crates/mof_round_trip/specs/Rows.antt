@@ -8,6 +8,7 @@ use Rattle.std.proofs.lemmas.Bool.{and_from, or_from}
 use Rattle.std.proofs.lemmas.List.{length-append, length-map, map_push}
 use Rattle.std.proofs.lemmas.List.Elements.{All-append, All-cons, All-head, All-nil, All-tail, Contains-get_or}
 use Rattle.std.proofs.lemmas.List.Sums.{sum_by-append, sum_by-cons}
+use Rattle.map_laws.specs.EachLaws.{all_first, all_second}
 use mathlib.Core.List.{map-map}
 use Rattle.aff_core.specs.Address.{Address, address_eq, address_eq-Decides}
 use Rattle.aff_core.specs.Function.{Function, terms_of}
@@ -28,7 +29,7 @@ use Rattle.user_model.specs.SameUpToNumbers.{groups_by_position, row_by_position
 use Rattle.user_model.specs.Sets.{sets_lower, sets_upper}
 use Rattle.user_model.specs.Valid.{IsValid, IsValidRow, Stands, bound_count}
 use Rattle.model_laws.specs.Found.{is_some-find, list_any-flat_map, one_passes}
-use Rattle.model_laws.specs.Pairs.{AllPairs-before, All-left, All-right}
+use Rattle.model_laws.specs.Pairs.{AllPairs-before}
 use Rattle.model_laws.specs.Needed.{unknown}
 use Rattle.model_laws.specs.Passed.{IsPassed}
 use Rattle.mof_write.specs.Written.{naming}
@@ -41,7 +42,7 @@ use Rattle.mof_round_trip.specs.Accepted.{AreWithin, LeadTo, each_leads, each_wi
 use Rattle.mof_round_trip.specs.Bounds.{has_bound, no_row_before, not_created, unbound}
 use Rattle.mof_round_trip.specs.Functions.{HasTerms, HasVariable, IsPlaced, located_is, placed_counts}
 use Rattle.mof_round_trip.specs.Groups.{other_name, right_dimension}
-use Rattle.mof_round_trip.specs.Positions.{placed_here}
+use Rattle.user_model.specs.PositionLaws.{placed_here}
 use Rattle.mof_round_trip.specs.Renumbered.{HasVariables, made_variables, none_made, number_of_name}
 
 -- ---- functions whose variables stand
@@ -167,11 +168,11 @@ module _ (model : ModelValue) (valid : IsValid model) where
     this_valid : IsValidRow model.groups r
     this_valid =
         All-head (IsValidRow model.groups) r rest
-        (All-right (IsValidRow model.groups) done (r ∷ rest) all_valid)
+        (all_second (IsValidRow model.groups) done (r ∷ rest) all_valid)
 
     done_placed : All (IsPlacedRow model) done
     done_placed =
-        placed_rows model done (All-left (IsValidRow model.groups) done (r ∷ rest) all_valid)
+        placed_rows model done (all_first (IsValidRow model.groups) done (r ∷ rest) all_valid)
 
     this_placed : IsPlaced model r.func
     this_placed = placed_function model r.func this_valid.stand

@@ -6,16 +6,7 @@ use Rattle.std.specs.Int.{◌∣◌}
 use Rattle.mof_text.proofs.DigitLaws.{product_pos}
 use Rattle.ratio_core.specs.Gcd.{gcd, dvd_from_coprime, gcd-rem_first}
 use Rattle.ratio_core.specs.Rational.{Fits, Rational, reduce, signed}
-use Rattle.ratio_core.specs.RationalLaws.{cancel_times, neg_times, reduce_cross, reduce_is, reduce_reduced, swap_times}
-
-unsigned_abs-signed : (s : Bool) (n : ℕ) → unsigned_abs (signed s n) ≡ n
-unsigned_abs-signed false n = refl
-unsigned_abs-signed true zero = refl
-unsigned_abs-signed true (suc n) = refl
-
-signed_times : (s : Bool) (n d : ℕ) → signed s n *ℤ pos d ≡ signed s (n * d)
-signed_times false n d = refl
-signed_times true n d = neg_times n d
+use Rattle.ratio_core.specs.RationalLaws.{cancel_times, neg_times, reduce_cross, reduce_is, reduce_reduced, signed_times, swap_times, unsigned_abs-signed}
 
 -- equal cross products make one number
 pub same_over : (s : Bool) (a b c d : ℕ) → 0 < b → 0 < d → a * d ≡ c * b → reduce (signed s a) b ≡ reduce (signed s c) d

@@ -3,6 +3,7 @@ use Rattle.std.proofs.Common.{◌≡◌, ℕ, ◌+◌, ◌*◌, ◌^◌, ◌<◌
 use Rattle.std.specs.Result.{result_ok}
 use Rattle.std.specs.Option.{SomeIff}
 use Rattle.std.specs.Str.Parse.{AllDigits, digits_value, starts_with_minus}
+use Rattle.std.proofs.lemmas.Bool.{and_parts}
 use Rattle.fast_float.specs.Text.{Parts, scan, tens_down, tens_up}
 use Rattle.ratio_core.specs.Rational.{Fits, Rational, fits, fraction, reduce, signed, whole_ℚ, zero_ℚ}
 use Rattle.ratio_core.specs.RationalLaws.{fits_Decides, reduce_itself}
@@ -138,14 +139,10 @@ zero_fits : Fits zero_ℚ
 unfolding zero_ℚ whole_ℚ
 zero_fits = record { num = omega arith; den = omega arith }
 
-both_true : (a b : Bool) → (a && b) ≡ true → (a ≡ true) × (b ≡ true)
-both_true true b e = (refl, e)
-both_true false b e = cc
-
 pub zero_some : (s : Bool) (p : Parts) (xs ys : List ℕ) (q : Rational) → xs ≡ p.whole → ys ≡ p.fraction → (are_zeros xs && are_zeros ys) ≡ true → q ≡ zero_ℚ
     → Fits (number_of s p) × (q ≡ number_of s p)
 zero_some s p xs ys q e f zeros is =
-    let parts : (are_zeros xs ≡ true) × (are_zeros ys ≡ true) = both_true (are_zeros xs) (are_zeros ys) zeros in
+    let parts : (are_zeros xs ≡ true) × (are_zeros ys ≡ true) = and_parts (are_zeros xs) (are_zeros ys) zeros in
     let number : number_of s p ≡ zero_ℚ = number_zero s p (sym (ap are_zeros e) ∙ parts.0) (sym (ap are_zeros f) ∙ parts.1) in
     (subst (λ (t : Rational). Fits t) (sym number) zero_fits, is ∙ sym number)
 

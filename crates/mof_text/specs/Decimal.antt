@@ -17,7 +17,8 @@ pub record MovesBy (len power moved zeros : ℕ) : Type 0 where
 -- `whole.fraction` times a power of ten
 abbrev pub times_ten : Bool → List ℕ → List ℕ → ℕ → Rational
 times_ten negative whole fraction power =
-    reduce (signed negative (digits_value 10 (whole ++ fraction) * 10 ^ power)) (10 ^ length fraction)
+    reduce (signed negative (digits_value 10 (whole ++ fraction) * 10 ^ power))
+    (10 ^ length fraction)
 
 -- `whole.fraction` over a power of ten
 abbrev pub over_ten : Bool → List ℕ → List ℕ → ℕ → Rational

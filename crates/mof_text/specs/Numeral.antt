@@ -31,7 +31,8 @@ is_json_number p len =
 -- it is `-0`, or it has a point, an exponent or more than 18 digits
 abbrev pub is_long : List ℕ → Parts → Bool
 is_long run p =
-    bytes_eq run (codes "-0") || p.point || nat_lt 0 (length p.exponent) || nat_lt 18 (length p.whole)
+    bytes_eq run (codes "-0") || p.point || nat_lt 0 (length p.exponent)
+    || nat_lt 18 (length p.whole)
 
 abbrev pub is_white : ℕ → Bool
 is_white c = c == 32 || c == 9 || c == 10 || c == 13

@@ -10,6 +10,7 @@ use Rattle.std.proofs.lemmas.List.Folds.{list_any-append}
 use Rattle.std.proofs.lemmas.List.Sums.{take_while-cons}
 use Rattle.std.proofs.lemmas.Bool.{cond-true, cond-false, le-leb}
 use Rattle.std.proofs.Math.Seq.{take-append-add, take-append_seam, get_or-append_seam}
+use Rattle.std.proofs.KnownBytes.{prepend_known-nil}
 use Rattle.edit_engine.specs.Lines.{heard, says_quit}
 use Rattle.edit_engine.specs.LinesLaws.{Answers-append, Answers-none, Answers-one, heard-append, heard_at_last, heard_at_quit}
 use Rattle.edit_engine.specs.Script.{Machine, Steps}
@@ -27,7 +28,7 @@ use Rattle.script_lines.specs.Reading.{Held, allowance, rest_of, GivesLine, Give
 use Rattle.moi_run.specs.Answering.{BeginsAnswers, Hears, StopsAtFile, WritesAnswers}
 use Rattle.moi_run.specs.Input.{AnswersTaken, AnswersWithinLimits, Ends, PassesLimit, has_quit}
 use Rattle.script_lines.specs.LinesLaws.{lines-ended, lines-unended, ended_lines-ended, ended_lines-unended, stripped_parts-ended, stripped_parts-unended}
-use Rattle.script_lines.specs.ReadingLaws.{prepend-nil, prepend-append, told_weaker}
+use Rattle.script_lines.specs.ReadingLaws.{prepend-append, told_weaker}
 
 -- a cut behind a front that it leaves whole
 take_over : (front rest : List ℕ) (n : ℕ) → length front ≤ n → take n (front ++ rest) ≡ front ++ take (n - length front) rest
@@ -121,7 +122,7 @@ pub standing_at_start : (start : Machine) (reader : Held) (left old : Option (Li
 standing_at_start start reader left old none whole = record {
   given = [];
   done = [];
-  kept = sym (prepend-nil _ ∙ ap (λ held. prepend_known held left) none ∙ prepend-nil left);
+  kept = sym (prepend_known-nil _ ∙ ap (λ held. prepend_known held left) none ∙ prepend_known-nil left);
   counted = omega (arith, ap length none, whole);
   parted = parted_nothing;
   no_quit = refl;

@@ -15,6 +15,7 @@ use Rattle.std.proofs.Math.ListN.{get_or-map}
 use Rattle.std.proofs.lemmas.List.Quantifiers.{position-Some}
 use Rattle.std.proofs.lemmas.Map.Entries.{place_from_lookup, lookup_from_place}
 use Rattle.std.proofs.lemmas.Option.{slice_get-map, same_Some, none-some, slice_get-get_or}
+use Rattle.std.proofs.lemmas.Bool.{eqb-true}
 use Rattle.indexmap.specs.IndexSet.{insert_key, swap_remove_by}
 use Rattle.indexmap.proofs.MapLemmas.{swap_remove-default}
 use Rattle.name_index.specs.InStep.{InStep}
@@ -44,9 +45,6 @@ get-numbers_of es name = map.get-from_entries nat_list_cmp_total es name ∙ fin
 value_at : (es : Entries) (i : ℕ) (name : List ℕ) (id : ℕ) → slice_get es i ≡ Some (name, id) → slice_get (values_of es) i ≡ Some id
 value_at es i name id at = slice_get-map (λ e. e.1) es i ∙ ap (option_map (λ e. e.1)) at
 
-same_number : (x y : ℕ) → nat_eq x y ≡ true → x ≡ y
-same_number x y e = grind (arith, nat_tests)
-
 stands_nowhere : (ids : List ℕ) (id : ℕ) → list_any (nat_eq id) ids ≡ false → (i : ℕ) → slice_get ids i ≢ Some id
 stands_nowhere [] id absent i at = none-some id at
 stands_nowhere (x ∷ xs) id absent zero at = grind (arith, nat_tests)
@@ -56,7 +54,7 @@ place_of_number : (es : Entries) (id : ℕ) → list_any (nat_eq id) (values_of 
 place_of_number [] id stands = absurd (true≢false (sym stands))
 place_of_number (e ∷ es) id stands =
     elim (nat_eq id e.1) as (λ b. nat_eq id e.1 ≡ b → (b || list_any (nat_eq id) (values_of es)) ≡ true → (i : ℕ) × (name : List ℕ) × (slice_get (e ∷ es) i ≡ Some (name, id))) [
-      | true ↦ λ same later. (0, e.0, ap (λ (k : ℕ). Some (e.0, k)) (sym (same_number id e.1 same)))
+      | true ↦ λ same later. (0, e.0, ap (λ (k : ℕ). Some (e.0, k)) (sym (eqb-true id e.1 same)))
       | false ↦ λ same later. let place = place_of_number es id later in (suc place.0, place.1, place.2)
     ] refl stands
 
@@ -130,7 +128,7 @@ module _ (es : Entries) (ids : List ℕ) (step : InStep es ids) where
   get_at_position : (i : ℕ) (name : List ℕ) (other id : ℕ) → position (nat_eq id) ids ≡ Some i → slice_get es i ≡ Some (name, other) → map.get (numbers_of es) name ≡ Some id
   get_at_position i name other id found at =
       let fact = position-Some (nat_eq id) ids i 0 found in
-      let stands : slice_get ids i ≡ Some id = slice_get-get_or ids i 0 fact.0 ∙ ap Some (sym (same_number id (get_or ids i 0) fact.1)) in
+      let stands : slice_get ids i ≡ Some id = slice_get-get_or ids i 0 fact.0 ∙ ap Some (sym (eqb-true id (get_or ids i 0) fact.1)) in
       let same : other ≡ id = same_Some other id (sym (value_at es i name other at) ∙ ap (λ l. slice_get l i) step.in_step ∙ stands) in
       get_at i name other at ∙ ap Some same
 
@@ -160,7 +158,7 @@ module _ (es : Entries) (ids : List ℕ) (step : InStep es ids) where
   pub entry_at : (i id : ℕ) → position (nat_eq id) ids ≡ Some i → (name : List ℕ) × (slice_get es i ≡ Some (name, id))
   entry_at i id found =
       let fact = position-Some (nat_eq id) ids i 0 found in
-      let stands : slice_get ids i ≡ Some id = slice_get-get_or ids i 0 fact.0 ∙ ap Some (sym (same_number id (get_or ids i 0) fact.1)) in
+      let stands : slice_get ids i ≡ Some id = slice_get-get_or ids i 0 fact.0 ∙ ap Some (sym (eqb-true id (get_or ids i 0) fact.1)) in
       with_value es i id (ap (λ l. slice_get l i) step.in_step ∙ stands)
 
   -- a new name and a new number, put last

@@ -72,7 +72,7 @@ module _ {X : Type 0} (number_of : X → ℕ) where
             (find-rest changed_number n c cs ne))
       ]
 
-  find-olds : (n : ℕ) (cs : List (Change X)) (xs : List X)
+  pub find-olds : (n : ℕ) (cs : List (Change X)) (xs : List X)
       → find changed_number n (olds number_of cs xs)
       ≡ option_map (old number_of xs) (find changed_number n cs)
   find-olds n [] xs = refl

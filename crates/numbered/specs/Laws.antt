@@ -1,20 +1,13 @@
 -- Laws of lists in the order of their numbers: what is found in them, and what keeps the order.
-use Rattle.std.specs.Prelude.{◌≡◌, ◌≢◌, ℕ, zero, suc, ◌<◌, ◌≤◌, nat_eq, Bool, true, false, cond, List, [], ◌∷◌, ◌++◌, Option, Some, None, All, Contains, filter, slice_get, refl}
+use Rattle.std.specs.Prelude.{◌≡◌, ◌≢◌, ℕ, zero, suc, ◌<◌, ◌≤◌, Bool, cond, List, [], ◌∷◌, ◌++◌, Option, Some, None, All, Contains, filter, slice_get, refl}
 use Rattle.std.specs.List.{filter_map, cons_option}
 use Rattle.std.specs.Option.{option_and_then}
 use Rattle.std.proofs.Common.{arith, sym, ap, subst, inl, inr, ◌∙◌}
-use Rattle.std.proofs.lemmas.Bool.{cases_eq, cases_order}
-use Rattle.std.proofs.lemmas.Bool.Decides.{nat_tests}
+use Rattle.std.proofs.lemmas.Bool.{cases_eq, cases_order, eq-eqb, ne_eqb}
 use Rattle.std.proofs.lemmas.Option.{slice_get_within, get_or_from_slice_get}
 use Rattle.std.proofs.lemmas.List.Elements.{All-nil, All-cons, All-head, All-tail, All-weaker}
 use Rattle.std.proofs.lemmas.List.Kept.{AllPairs-cons, AllPairs-filter}
 use Rattle.numbered.specs.Numbered.{Rise, find, IsAt}
-
-pub same_number : (a b : ℕ) → a ≡ b → nat_eq a b ≡ true
-same_number a b e = grind (arith, nat_tests)
-
-pub other_number : (a b : ℕ) → a ≢ b → nat_eq a b ≡ false
-other_number a b e = grind (arith, nat_tests)
 
 module _ {X : Type 0} (number_of : X → ℕ) where
   pub Rise-nil : Rise number_of []
@@ -70,13 +63,13 @@ module _ {X : Type 0} (number_of : X → ℕ) where
   pub find-first : (n : ℕ) (x : X) (xs : List X) → number_of x ≡ n
       → find number_of n (x ∷ xs) ≡ Some x
   find-first n x xs e =
-      ap (λ b. cond b (Some x) (find number_of n xs)) (same_number (number_of x) n e)
+      ap (λ b. cond b (Some x) (find number_of n xs)) (eq-eqb (number_of x) n e)
 
   -- an item of another number stands first
   pub find-rest : (n : ℕ) (x : X) (xs : List X) → number_of x ≢ n
       → find number_of n (x ∷ xs) ≡ find number_of n xs
   find-rest n x xs e =
-      ap (λ b. cond b (Some x) (find number_of n xs)) (other_number (number_of x) n e)
+      ap (λ b. cond b (Some x) (find number_of n xs)) (ne_eqb (number_of x) n e)
 
   -- no item of the number stands there
   pub find-none : (n : ℕ) (xs : List X) → All (λ x. number_of x ≢ n) xs → find number_of n xs ≡ None

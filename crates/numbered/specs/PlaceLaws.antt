@@ -4,7 +4,6 @@ use Rattle.std.specs.Option.{is_some}
 use Rattle.std.proofs.Math.ListN.{set}
 use Rattle.std.specs.Cmp.{nat_cmp_total}
 use Rattle.std.specs.Ordering.{nat_cmp, is_lt}
-use Rattle.std.specs.declared.cmp.Ordering.TheVariants.{Less, Equal, Greater}
 use Rattle.std.specs.List.Sorted.{IsBinarySearchResult, IsSearchInRange, IsSortedBy}
 use Rattle.std.proofs.Common.{arith, sym, ap, subst, inl, inr, add-one, ◌∙◌}
 use Rattle.std.proofs.lemmas.Bool.{cases_eq, cases_lt}
@@ -13,19 +12,11 @@ use Rattle.std.proofs.lemmas.List.{append-nil, take-append-drop, length-take, le
 use Rattle.std.proofs.lemmas.List.Elements.{filter-append}
 use Rattle.std.proofs.lemmas.List.Sorted.{searchable_from_sorted}
 use Rattle.std.proofs.lemmas.Option.{slice_get-get_or, slice_get_read, get_or_from_slice_get}
+use Rattle.map_laws.specs.TestLaws.{equal_to, greater_than, less_than}
 use Rattle.numbered.specs.Numbered.{Rise, find, below, above, IsAt, set_at}
 use Rattle.numbered.specs.Places.{IsFoundAt, IsMissingAt, IsPlaceOf}
 use Rattle.numbered.specs.Laws.{find-at, find-none}
 use Rattle.numbered.specs.SetLaws.{below-all, below-none, above-all, above-none, Rise-set_at}
-
-less_than : (a b : ℕ) → nat_cmp a b ≡ Less → a < b
-less_than a b e = grind (arith, nat_tests)
-
-equal_to : (a b : ℕ) → nat_cmp a b ≡ Equal → a ≡ b
-equal_to a b e = grind (arith, nat_tests)
-
-greater_than : (a b : ℕ) → nat_cmp a b ≡ Greater → b < a
-greater_than a b e = grind (arith, nat_tests)
 
 no_less : (a b : ℕ) → a < b → is_lt (nat_cmp b a) ≡ false
 no_less a b lt = grind (arith, nat_tests)

@@ -3,13 +3,13 @@
 use Rattle.std.specs.Prelude.{◌≡◌, ◌≢◌, ℕ, ◌+◌, ◌<◌, ◌≤◌, ◌==◌, nat_lt, true, false, not, cond, List, [], ◌∷◌, ◌++◌, Option, Some, None, All, filter, length, refl}
 use Rattle.std.specs.Option.{option_or, option_to_list}
 use Rattle.std.proofs.Common.{arith, sym, ap, subst, inl, inr, ◌∙◌}
-use Rattle.std.proofs.lemmas.Bool.{cases_eq, cases_order, ltb-true, lt-ltb, le-ltb}
+use Rattle.std.proofs.lemmas.Bool.{cases_eq, cases_order, ltb-true, lt-ltb, le-ltb, eq-eqb, ne_eqb}
 use Rattle.std.proofs.lemmas.List.{length-append}
 use Rattle.std.proofs.lemmas.List.Elements.{All-cons, All-weaker, filter_passes}
 use Rattle.std.proofs.lemmas.List.Folds.{find-append}
 use Rattle.map_laws.specs.PlaceLaws.{filter_all, filter_nothing}
 use Rattle.numbered.specs.Numbered.{Rise, find, below, above, IsAt, set_at, put, without}
-use Rattle.numbered.specs.Laws.{same_number, other_number, Rise-cons, Rise-head, Rise-tail, Rise-filter, Rise-append, find-first, find-rest, find-none_below, find-none_above, IsAt-find, same_lists}
+use Rattle.numbered.specs.Laws.{Rise-cons, Rise-head, Rise-tail, Rise-filter, Rise-append, find-first, find-rest, find-none_below, find-none_above, IsAt-find, same_lists}
 
 module _ {X : Type 0} (number_of : X → ℕ) where
   All-below : (n : ℕ) (xs : List X) → All (λ x. number_of x < n) (below number_of n xs)
@@ -249,13 +249,13 @@ module _ {X : Type 0} (number_of : X → ℕ) where
         | inl e ↦
             let le : n ≤ number_of x = omega arith in
             let ge : number_of x ≤ n = omega arith in
-            rw (below-rest n x xs le, above-rest n x xs ge, same_number (number_of x) n e) rest
+            rw (below-rest n x xs le, above-rest n x xs ge, eq-eqb (number_of x) n e) rest
         | inr apart ↦ elim apart [
           | inl lt ↦ let le : number_of x ≤ n = omega arith in
               rw (
                 below-first n x xs lt,
                 above-rest n x xs le,
-                other_number (number_of x) n
+                ne_eqb (number_of x) n
                     (λ e. omega arith),
               ) (ap (λ zs. x ∷ zs) rest)
           | inr lt ↦ let le : n ≤ number_of x = omega arith in
@@ -265,7 +265,7 @@ module _ {X : Type 0} (number_of : X → ℕ) where
               rw (
                 below-rest n x xs le,
                 above-first n x xs lt,
-                other_number (number_of x) n
+                ne_eqb (number_of x) n
                     (λ e. omega arith),
                 none,
               ) (ap (λ zs. x ∷ zs) (rw none at rest))

@@ -7,6 +7,7 @@ use Rattle.fresh_bridging.specs.ChoiceLaws.{one_choice}
 use Rattle.fresh_bridging.specs.FreshBridging.{FreshBridging}
 use Rattle.fresh_bridging.specs.ModelImage.{model_image}
 use Rattle.fresh_bridging.specs.TheRules.{AreChoices, Setting, graph_of, rules_by}
+use Rattle.fresh_bridging.specs.OnceLaws.{same_choices}
 use Rattle.user_model.specs.Model.{ModelValue}
 use Rattle.one_answer.specs.OneTreeLaws.{fresh_once}
 
@@ -17,11 +18,6 @@ module _ {setting : Setting} {model : ModelValue} where
   by_reasons b chosen = record { choice = b.choice; chosen = chosen; made = b.made }
 
   module _ (costly : IsCostly (graph_of setting)) where
-    same_choices : (one other : FreshBridging setting model) → one.choice ≡ other.choice
-    same_choices one other =
-        λ i kind. one_choice (graph_of setting) costly kind (one.choice kind) (other.choice kind)
-        (one.chosen kind) (other.chosen kind) i
-
     pub one_bridging : (one other : FreshBridging setting model)
         → (chosen : AreChoices setting other.choice) × (one ≡ by_reasons other chosen)
     one_bridging one other =
@@ -29,7 +25,7 @@ module _ {setting : Setting} {model : ModelValue} where
         (λ choice. (made : Fresh (rules_by choice) (model_image model))
         → (chosen : AreChoices setting choice)
         × (one ≡ record { choice = choice; chosen = chosen; made = made }))
-        (same_choices one other)
+        (same_choices setting model costly one other)
         (λ made. (
           one.chosen,
           ap (λ m. record { choice = one.choice; chosen = one.chosen; made = m })

@@ -2,6 +2,7 @@
 use Rattle.std.specs.Prelude.{◌≡◌, ◌≢◌, ◌⊎◌, ℕ, true, false, Some, Result, Ok, Err, refl}
 use Rattle.std.proofs.Math.Bool.{Bool-set}
 use Rattle.std.proofs.Common.{ap, inl, inr, subst, sym, true≢false, ◌∙◌}
+use Rattle.std.proofs.lemmas.Option.{same_Some}
 use Rattle.adjoint_core.specs.CarriedBack.{IsFirstUnfit}
 use Rattle.bridge_graph.specs.Hypergraph.{IsCostly}
 use Rattle.bridged_report.specs.Places.{place_at}
@@ -16,9 +17,6 @@ use Rattle.tree_laws.specs.Certificate.{certificate_of}
 use Rattle.one_answer.specs.OneBridgingLaws.{by_reasons, of_any_bridging}
 use Rattle.one_answer.specs.OneSolutionLaws.{answered_once, never_stopped, stopped_once}
 use Rattle.one_answer.specs.OneUnfitLaws.{first_unfit_told}
-
-inside : {A : Type 0} {x y : A} → Some x ≡ Some y → x ≡ y
-inside e = cc
 
 -- ---- of one bridging
 
@@ -39,7 +37,7 @@ module _ {s : State} (b : Bridging s) (pivots : ℕ) where
       let here = (first_unfit_told b.bridging other).once at there
       (subst (λ a. IsFirstUnfit b.bridging a at) same unfit) misfit in
       ap (λ p. Err (Overflow p))
-      (inside (sym place ∙ ap (place_at s.model) here ∙ other_place))
+      (same_Some _ _ (sym place ∙ ap (place_at s.model) here ∙ other_place))
   outcome_once x y (at_carrying_back answer at is unfit place) (answered other was fits) =
       absurd ((first_unfit_told b.bridging other).unfit at
       (subst (λ a. IsFirstUnfit b.bridging a at)

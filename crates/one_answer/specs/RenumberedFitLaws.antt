@@ -2,7 +2,7 @@
 -- the first that doesn't is told at its new address.
 use Rattle.std.specs.Prelude.{◌≡◌, ◌-◌, ℕ, zero, suc, List, [], ◌∷◌, ◌++◌, All, length, map, take, refl}
 use Rattle.std.proofs.Common.{ap, ap₂, inl, inr, subst, sym, ◌∙◌}
-use Rattle.std.proofs.lemmas.List.{length-map}
+use Rattle.std.proofs.lemmas.List.{length-map, map-append}
 use Rattle.std.proofs.lemmas.List.Elements.{All-map, All-weaker}
 use Rattle.std.specs.List.{zip}
 use Rattle.adjoint_core.specs.CarriedBack.{AdjointFits, AllFits, BothFit, DualFits, GapFits, IsFirstUnfit, RowFits, RowsFit, Then, UnfitGap, UnfitRow, ValueFits, gap_parts_placed, group_place, placed, placed_groups, placed_rows, users}
@@ -34,12 +34,11 @@ use Rattle.set_core.specs.Membership.{low_of}
 use Rattle.tree_laws.specs.Carried.{LeafDuals, backs}
 use Rattle.tree_laws.specs.Certificate.{cancelling, infeasible_duals, optimal_duals, point_of, rows_of}
 use Rattle.user_model.specs.Model.{ModelValue}
-use Rattle.fresh_bridging.specs.EachLaws.{all_from_map}
+use Rattle.map_laws.specs.EachLaws.{all_from_map, zip_of_maps}
 use Rattle.renumbering.specs.RenamedDuals.{DualsAgree, backs_alike, row_count-renamed}
 use Rattle.renumbering.specs.RenamedEntries.{renamed_entry}
 use Rattle.renumbering.specs.RenamedForm.{Agree, AnswersAgree, map_kept}
 use Rattle.renumbering.specs.RenamedFunctions.{constant-renamed, terms-renamed}
-use Rattle.renumbering.specs.RenamedImageLaws.{map_append}
 use Rattle.renumbering.specs.RenamedItems.{IsRenaming, map_either, renamed, renamed_item, size-renamed}
 use Rattle.renumbering.specs.RenamedTrees.{Alike, InAlike, alike_by, alike_each_in, alike_native, alike_none_in}
 use Rattle.renumbering.specs.RenumberedCertificateLaws.{adjoint_of_rows-renumbered, at_point-renumbered, cancelling-renumbered, coefficients-renamed, constants-renamed, expression-renumbered, groups_with-renumbered, objective_coefficient-renumbered, objective_function-renumbered, point-renumbered, renamed_held, rows-renumbered, rows_with-renumbered, sense-renumbered, user_addresses}
@@ -218,12 +217,6 @@ module _ (σ : Address → Address) (r : IsRenaming σ) where
 
 -- ---- of a model
 
-pub zip_moved : {A B C D : Type 0} (f : A → C) (g : B → D) (xs : List A) (ys : List B)
-    → zip (map f xs) (map g ys) ≡ map (λ p. (f p.0, g p.1)) (zip xs ys)
-zip_moved f g [] ys = refl
-zip_moved f g (x ∷ xs) [] = refl
-zip_moved f g (x ∷ xs) (y ∷ ys) = ap (λ l. (f x, g y) ∷ l) (zip_moved f g xs ys)
-
 module _ (ν : Renumbering) (rising : IsRising ν) (model : ModelValue) where
   abbrev σ : Address → Address
   σ = renumbered ν
@@ -270,14 +263,14 @@ module _ (ν : Renumbering) (rising : IsRising ν) (model : ModelValue) where
         ap₂ (λ a b. a ++ b)
         (ap₂ zip (map_either (renumbered_row ν) row_place row_place σ (λ row. refl) model.rows)
         (rows_with-renumbered ν rising rows model.rows)
-        ∙ zip_moved σ (renamed_held σ) (map row_place model.rows) (rows_with rows model.rows))
+        ∙ zip_of_maps σ (renamed_held σ) (map row_place model.rows) (rows_with rows model.rows))
         (ap₂ zip (map_either (renumbered_group ν) group_place group_place σ
         (λ group. refl) model.groups)
         (groups_with-renumbered ν rising (at_point model x) (at_point renewed x)
         (at_point-renumbered ν rising model x) model.groups)
-        ∙ zip_moved σ (renamed_held σ) (map group_place model.groups)
+        ∙ zip_of_maps σ (renamed_held σ) (map group_place model.groups)
         (groups_with (at_point model x) model.groups))
-        ∙ sym (map_append (placed_held σ r) (placed_rows model rows) (placed_groups model x))
+        ∙ sym (map-append (placed_held σ r) (placed_rows model rows) (placed_groups model x))
 
 -- ---- of an answer
 

@@ -5,6 +5,7 @@ use Rattle.std.specs.FinMap.{entries}
 use Rattle.std.specs.List.{zip}
 use Rattle.std.specs.Option.{option_map}
 use Rattle.std.specs.Ordering.{is_eq, is_le}
+use Rattle.std.proofs.lemmas.List.{map-append}
 use Rattle.aff_core.specs.Address.{Address, address_cmp, address_eq}
 use Rattle.aff_core.specs.Function.{Function, terms_of}
 use Rattle.aff_core.specs.declared.root.Root.{Root}
@@ -34,7 +35,6 @@ use Rattle.user_model.specs.declared.group.GroupVar.{GroupVar}
 use Rattle.user_model.specs.declared.row.Row as rows
 use Rattle.renumbering.specs.RenamedForm.{map_kept}
 use Rattle.renumbering.specs.RenamedFunctions.{constant-renamed, terms-renamed}
-use Rattle.renumbering.specs.RenamedImageLaws.{map_append}
 use Rattle.renumbering.specs.RenamedItems.{map_either, renamed, renamed_body}
 use Rattle.renumbering.specs.RenamedLeaves.{AreRenamedLeaves}
 use Rattle.renumbering.specs.RenumberedCertificateLaws.{variables-renumbered}
@@ -244,7 +244,7 @@ module _ (ν : Renumbering) (rising : IsRising ν) (model : ModelValue) where
       ++ map_either move (row_line renewed) (row_line model) moved_line row_line-renumbered rows i))
       ++ joined (map_either move (objective_line renewed) (objective_line model) moved_line
       objective_line-renumbered goals i))
-      ∙ (λ i. joined (in_order (sym (map_append moved_line (map (variable_line model) vars)
+      ∙ (λ i. joined (in_order (sym (map-append moved_line (map (variable_line model) vars)
       (map (row_line model) rows)) i))
       ++ joined-moved (map (objective_line model) goals) i)
       ∙ ap (λ t. t ++ joined (map (objective_line model) goals))

@@ -1,10 +1,11 @@
 -- Equality and order, as the code tests them.
-use Rattle.std.proofs.Common.{◌≡◌, ℕ, zero, suc, ◌*◌, ◌<◌, Bool, true, false, ℤ, pos, negsuc, neg_ℤ, ◌*ℤ◌, ◌<ℤ◌, unsigned_abs, nat_eq, refl, sym, ◌∙◌, ap, arith, le-ltb, zero-le, true≢false, Ordering, Less, Equal, Greater, mul-lt-mul_of_pos_right}
+use Rattle.std.proofs.Common.{◌≡◌, ℕ, zero, suc, ◌*◌, ◌<◌, Bool, true, false, ℤ, pos, negsuc, neg_ℤ, ◌*ℤ◌, ◌<ℤ◌, unsigned_abs, nat_eq, refl, sym, ◌∙◌, ap, arith, true≢false, Ordering, Less, Equal, Greater, mul-lt-mul_of_pos_right}
 use Rattle.std.proofs.lemmas.Bool.Decides.{Decides-like, Decides-eqb, same_from_decides}
 use Rattle.std.proofs.lemmas.Int.{ints}
 use Rattle.std.specs.Cmp.{ranked, int_cmp_is, nat_cmp_is}
 use Rattle.std.specs.Int.{is_negative}
 use Rattle.std.specs.Ordering.{MatchOrdering, nat_cmp, int_cmp}
+use Rattle.ratio_core.proofs.Products.{not_below_zero}
 use Rattle.ratio_core.specs.Rational.{Rational, same_parts, rational_cmp, rational_eq}
 use Rattle.ratio_core.specs.RationalLaws.{rational_eq_Decides}
 
@@ -23,9 +24,6 @@ not_eq_by_num p q n = decided (rational_eq p q) refl
     decided true e = absurd (n (ap (λ r. r.num) ((rational_eq_Decides p q).0 e)))
 
 -- ---- the order, by the signs
-
-not_below_zero : (a : ℕ) → is_negative (pos a) ≡ false
-not_below_zero a = le-ltb a 0 zero-le
 
 up_lem : (a b : ℕ) (r : Ordering) → MatchOrdering r (a < b) (a ≡ b) (b < a) → MatchOrdering r (pos a <ℤ pos b) (pos a ≡ pos b) (pos b <ℤ pos a)
 up_lem a b Less h = omega (arith, ints)

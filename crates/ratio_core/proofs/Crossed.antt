@@ -1,29 +1,24 @@
 -- The order of two quotients by positive numbers, as one of four-fold products.
-use Rattle.std.proofs.Common.{◌≡◌, ℕ, ◌+◌, ◌*◌, ◌<◌, true, false, ℤ, pos, negsuc, ◌*ℤ◌, ◌<ℤ◌, unsigned_abs, refl, sym, ◌∙◌, ap, ap₂, arith, zero-mul, Ordering, Less, Equal, Greater, mul-lt-mul_of_pos_right, mul-pos}
+use Rattle.std.proofs.Common.{◌≡◌, ℕ, ◌+◌, ◌*◌, ◌<◌, true, false, ℤ, pos, negsuc, ◌*ℤ◌, ◌<ℤ◌, unsigned_abs, refl, sym, ◌∙◌, ap, ap₂, arith, zero-mul, Ordering, Less, Equal, Greater, mul-pos}
 use Rattle.std.proofs.lemmas.Int.{ints}
 use Rattle.std.specs.Cmp.{int_cmp_is, int_ranked}
 use Rattle.std.specs.Int.{is_negative}
 use Rattle.std.specs.Ordering.{MatchOrdering, nat_cmp, int_cmp}
-use borrow.Author.Differences.{up, down, below_in, lt_out}
+use borrow.Author.Differences.{up}
 use Rattle.ratio_core.specs.Gcd.{gcd_swap}
 use Rattle.ratio_core.specs.Rational.{Rational, fraction, inverse_ℚ, rational_cmp, reduce, whole_ℚ, zero_ℚ, ◌*ℚ◌, ◌/ℚ◌, ◌‹ℚ◌}
-use Rattle.ratio_core.specs.RationalLaws.{reduce_cross, reduce_reduced, times_is, times_times}
+use Rattle.ratio_core.specs.RationalLaws.{reduce_cross, reduce_reduced, times_<, times_times}
 use Rattle.ratio_core.proofs.Compared.{above_lem, apart_lem, below_lem}
 
 -- ---- a common factor does not change an order
-
-below_scaled : (x y : ℤ) (k : ℕ) → 0 < k → x <ℤ y → (x *ℤ pos k) <ℤ (y *ℤ pos k)
-below_scaled x y k h l =
-    let wide : (up x + down y) * k < (up y + down x) * k = mul-lt-mul_of_pos_right (lt_out _ _ l) h in
-    below_in _ _ (omega (arith, wide, times_is x k, times_is y k))
 
 int_cmp_scaled : (x y : ℤ) (k : ℕ) → 0 < k → int_cmp (x *ℤ pos k) (y *ℤ pos k) ≡ int_cmp x y
 int_cmp_scaled x y k h = sym (int_cmp_is (x *ℤ pos k) (y *ℤ pos k) (int_cmp x y) (by_order (int_cmp x y) (int_ranked x y (int_cmp x y) refl)))
   where
     by_order : (r : Ordering) → MatchOrdering r (x <ℤ y) (x ≡ y) (y <ℤ x) → MatchOrdering r ((x *ℤ pos k) <ℤ (y *ℤ pos k)) ((x *ℤ pos k) ≡ (y *ℤ pos k)) ((y *ℤ pos k) <ℤ (x *ℤ pos k))
-    by_order Less l = below_scaled x y k h l
+    by_order Less l = times_< x y k h l
     by_order Equal e = ap (λ n. n *ℤ pos k) e
-    by_order Greater l = below_scaled y x k h l
+    by_order Greater l = times_< y x k h l
 
 -- numbers over one denominator are ordered as their numerators
 pub cmp_of_numerators : (p q : Rational) → p.den ≡ q.den → int_cmp p.num q.num ≡ rational_cmp p q

@@ -1,6 +1,7 @@
 -- The part of a literal, read digit by digit.
 use Rattle.std.proofs.Common.{◌≡◌, ℕ, suc, ◌*◌, ◌+◌, ◌-◌, ◌^◌, ◌<◌, ◌≤◌, Bool, true, false, cond, ◌&&◌, List, [], ◌∷◌, length, drop, get_or, Option, Some, None, refl, sym, ◌∙◌, ap, arith, lt-ltb, le-ltb, ltb-true, ltb-false, nat_lt, drop-cons, drop_of_length-le, ◌⊎◌, inl, inr}
 use Rattle.std.proofs.lemmas.Bool.Decides.{nat_tests}
+use Rattle.std.proofs.lemmas.Bool.{and_right}
 use Rattle.std.specs.Char.{digit_value, is_ascii_digit}
 use Rattle.std.specs.List.{list_all}
 use Rattle.std.specs.Str.Parse.{digits_value_after}
@@ -22,14 +23,10 @@ grows : (value : ℕ) (ds : List ℕ) → value ≤ digits_value_after 10 value 
 grows value [] = omega arith
 grows value (c ∷ cs) = omega (arith, grows (value * 10 + digit_value c) cs)
 
-false_and : (a b : Bool) → b ≡ false → (a && b) ≡ false
-false_and true b e = e
-false_and false b e = refl
-
 past : (value : ℕ) (ds : List ℕ) → 2 ^ 127 ≤ value → written value ds ≡ None
 past value ds h =
     let below : 2 ^ 127 ≤ digits_value_after 10 value ds = omega (arith, grows value ds) in
-    ap (λ t. cond t (Some (digits_value_after 10 value ds)) None) (false_and (list_all is_ascii_digit ds) _ (le-ltb _ _ below))
+    ap (λ t. cond t (Some (digits_value_after 10 value ds)) None) (and_right (list_all is_ascii_digit ds) _ (le-ltb _ _ below))
 
 step_lem : (value c : ℕ) (cs : List ℕ) (b t : Bool) → ((v : ℕ) → v < 2 ^ 127 → part_after v cs ≡ written v cs) → is_ascii_digit c ≡ b → nat_lt (value * 10 + (c - 48)) (2 ^ 127) ≡ t → part_after value (c ∷ cs) ≡ written value (c ∷ cs)
 step_lem value c cs false t rest e f = rw (e) refl
@@ -56,7 +53,7 @@ part_of_empty (c ∷ cs) h = absurd (omega arith)
 
 refused_lem : (value c : ℕ) (cs : List ℕ) → (is_ascii_digit c ≡ false) ⊎ (2 ^ 127 ≤ value * 10 + (c - 48)) → part_after value (c ∷ cs) ≡ None
 refused_lem value c cs (inl e) = rw (e) refl
-refused_lem value c cs (inr h) = ap (λ t. cond t (part_after (value * 10 + (c - 48)) cs) None) (false_and (is_ascii_digit c) _ (le-ltb _ _ h))
+refused_lem value c cs (inr h) = ap (λ t. cond t (part_after (value * 10 + (c - 48)) cs) None) (and_right (is_ascii_digit c) _ (le-ltb _ _ h))
 
 module _ (text : List ℕ) (value i : ℕ) (some : ¬ (length text ≡ 0)) (same : part_after value (drop i text) ≡ part_after 0 text) where
   whole_lem : part_after value (drop i text) ≡ part_of text

@@ -10,7 +10,7 @@ use mathlib.Core.Bool.{beq}
 use borrow.Author.Differences.{same_in}
 use Rattle.ratio_core.specs.Gcd.{gcd, gcd_pos}
 use Rattle.ratio_core.specs.Rational.{Rational, IsStored, IsReduced, Fits, reduce, fraction, signed, whole_ℚ, zero_ℚ, neg_ℚ, whole_reduced}
-use Rattle.ratio_core.specs.RationalLaws.{reduce_reduced, reduce_itself, reduce-num, reduce-den, same_from_cross, times_is}
+use Rattle.ratio_core.specs.RationalLaws.{reduce_reduced, reduce_itself, reduce-num, reduce-den, same_from_cross, times_is, unsigned_abs-signed}
 
 module _ (n : ℤ) (d : ℕ) (q : Rational) (view : reduce n d ≡ q) (kept : IsStored n d) where
   pub kept_num : n ≡ q.num
@@ -87,11 +87,6 @@ unfolding zero_ℚ whole_ℚ
 zero_num q e = ap (λ r. unsigned_abs r.num) e
 
 -- ---- lowest terms of a sign, a size and a denominator
-
-pub unsigned_abs-signed : (s : Bool) (n : ℕ) → unsigned_abs (signed s n) ≡ n
-unsigned_abs-signed false n = refl
-unsigned_abs-signed true zero = refl
-unsigned_abs-signed true (suc n) = refl
 
 int_div-signed : (s : Bool) (n g : ℕ) → int_div (signed s n) (pos g) ≡ signed s (n / g)
 int_div-signed false n g = refl

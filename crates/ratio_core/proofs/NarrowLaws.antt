@@ -8,8 +8,8 @@ use borrow.Author.Differences.{same_in}
 use Rattle.ratio_core.specs.Gcd.{gcd, gcd-one}
 use Rattle.ratio_core.specs.Narrow.{IsNarrow}
 use Rattle.ratio_core.specs.Rational.{Fits, IsStored, Rational, SumFits, reduce, signed, ◌*ℚ◌, ◌+ℚ◌}
-use Rattle.ratio_core.specs.RationalLaws.{times_is}
-use Rattle.ratio_core.proofs.Products.{signed_itself, signed_product, signed_times}
+use Rattle.ratio_core.specs.RationalLaws.{signed_times, times_is}
+use Rattle.ratio_core.proofs.Products.{signed_itself, signed_product}
 use Rattle.ratio_core.proofs.Products as product
 use Rattle.ratio_core.proofs.Sums.{made_fits, made_stored, made_value}
 

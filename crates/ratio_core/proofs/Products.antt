@@ -5,17 +5,13 @@ use Rattle.std.specs.Int.{◌∣◌, is_negative}
 use mathlib.Core.Bool.{beq}
 use Rattle.ratio_core.specs.Gcd.{gcd, gcd_is, gcd_swap, coprime_parts, part_pos}
 use Rattle.ratio_core.specs.Rational.{Fits, IsReduced, IsStored, Rational, abs_ℚ, fraction, inverse_ℚ, reduce, signed, zero_ℚ, ◌*ℚ◌}
-use Rattle.ratio_core.specs.RationalLaws.{neg_times, reduce_is, reduce_itself}
+use Rattle.ratio_core.specs.RationalLaws.{reduce_is, reduce_itself, signed_times, unsigned_abs-signed}
 use Rattle.ratio_core.proofs.Coprime.{coprime_product, coprime_product_right, coprime_within, quotient_divides}
-use Rattle.ratio_core.proofs.Kept.{is_zero_lem, unsigned_abs-signed}
+use Rattle.ratio_core.proofs.Kept.{is_zero_lem}
 
 -- ---- signs
 
-pub signed_times : (s : Bool) (x y : ℕ) → signed s x *ℤ pos y ≡ signed s (x * y)
-signed_times false x y = refl
-signed_times true x y = neg_times x y
-
-not_below_zero : (a : ℕ) → is_negative (pos a) ≡ false
+pub not_below_zero : (a : ℕ) → is_negative (pos a) ≡ false
 not_below_zero a = le-ltb a 0 zero-le
 
 -- a number is its sign and its size

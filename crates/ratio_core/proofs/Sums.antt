@@ -1,25 +1,14 @@
 -- A sum in lowest terms, by the greatest common divisor of the denominators.
-use Rattle.std.proofs.Common.{◌≡◌, ℕ, ◌+◌, ◌*◌, ◌/◌, ◌^◌, ◌<◌, Bool, ℤ, pos, ◌+ℤ◌, ◌*ℤ◌, unsigned_abs, sym, ◌∙◌, ap, ap₂, subst, arith, mul-pos, mul-div_cancel, div-le_self, ◌≤◌}
+use Rattle.std.proofs.Common.{◌≡◌, ℕ, ◌*◌, ◌/◌, ◌^◌, ◌<◌, Bool, ℤ, pos, ◌+ℤ◌, ◌*ℤ◌, unsigned_abs, sym, ◌∙◌, ap, ap₂, subst, arith, mul-pos, mul-div_cancel, div-le_self, ◌≤◌}
 use Rattle.std.proofs.Math.Nat.{div-mul_cancel, dvd-mul_left, dvd_refl, dvd_trans}
 use Rattle.std.proofs.lemmas.Int.{unsigned_abs-mul}
 use Rattle.std.specs.Int.{◌∣◌, is_negative}
 use Rattle.std.proofs.Math.IntN.{+ℤ_comm}
-use borrow.Author.Differences.{down, same_in, sum_is_lem, up}
 use Rattle.ratio_core.specs.Gcd.{gcd, gcd_is, gcd_pos, gcd_swap, coprime_parts, dvd_from_coprime, part_pos}
 use Rattle.ratio_core.specs.Rational.{IsReduced, IsStored, Rational, SumFits, common_divisor, left_term, reduce, right_term, signed, sum_denominator, sum_of_terms, ◌+ℚ◌}
-use Rattle.ratio_core.specs.RationalLaws.{reduce_is, reduce_itself, times_is, times_times}
+use Rattle.ratio_core.specs.RationalLaws.{reduce_is, reduce_itself, signed_times, times_add, times_times, unsigned_abs-signed}
 use Rattle.ratio_core.proofs.Coprime.{coprime_at, coprime_by, coprime_product_right, coprime_within, divides_term, quotient_divides}
-use Rattle.ratio_core.proofs.Kept.{unsigned_abs-signed}
-use Rattle.ratio_core.proofs.Products.{signed_itself, signed_times}
-
-times_add : (x y : ℤ) (k : ℕ) → (x +ℤ y) *ℤ pos k ≡ (x *ℤ pos k) +ℤ (y *ℤ pos k)
-times_add x y k =
-    same_in _ _ (parts_lem (up x) (down x) (up y) (down y) (up (x +ℤ y)) (down (x +ℤ y)) k _ _ _ _ _ _ _ _ (sum_is_lem x y) (sum_is_lem (x *ℤ pos k) (y *ℤ pos k)) (times_is (x +ℤ y) k).0 (times_is (x +ℤ y) k).1 (times_is x k).0 (times_is x k).1 (times_is y k).0 (times_is y k).1)
-  where
-    parts_lem : (a b c d e f k : ℕ) (u v ek fk ak bk ck dk : ℕ) → e + b + d ≡ f + a + c → u + bk + dk ≡ v + ak + ck → ek ≡ e * k → fk ≡ f * k → ak ≡ a * k → bk ≡ b * k → ck ≡ c * k → dk ≡ d * k → ek + v ≡ u + fk
-    parts_lem a b c d e f k u v ek fk ak bk ck dk h m i j l n o r =
-        let scaled : (e + b + d) * k ≡ (f + a + c) * k = ap (λ w. w * k) h in
-        omega (arith, scaled)
+use Rattle.ratio_core.proofs.Products.{signed_itself}
 
 -- a sum of multiples has no divisor in common with a factor of one, where neither the other factor nor the other multiple has
 apart_lem : (x y : ℤ) (a c d b whole : ℕ) → unsigned_abs x ≡ a * d → unsigned_abs y ≡ c * b → gcd a whole ≡ 1 → b ∣ whole → gcd d b ≡ 1 → gcd (unsigned_abs (x +ℤ y)) b ≡ 1

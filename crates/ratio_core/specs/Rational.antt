@@ -65,7 +65,7 @@ one_ℚ = whole_ℚ (pos 1)
 
 -- ---- lowest terms
 
-unsigned_abs-neg : (n : ℕ) → unsigned_abs (neg_ℤ (pos n)) ≡ n
+pub unsigned_abs-neg : (n : ℕ) → unsigned_abs (neg_ℤ (pos n)) ≡ n
 unsigned_abs-neg zero = refl
 unsigned_abs-neg (suc n) = refl
 

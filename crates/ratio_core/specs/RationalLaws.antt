@@ -1,6 +1,6 @@
 -- The laws of the rational numbers that every user needs: equal parts and equal cross products make
 -- equal numbers, and the order is total.
-use Rattle.std.specs.Prelude.{◌≡◌, ℕ, zero, suc, ◌+◌, ◌*◌, ◌/◌, ◌^◌, ◌<◌, true, false, ℤ, pos, negsuc, ◌*ℤ◌, neg_ℤ, ◌<ℤ◌, int_div, unsigned_abs, Decides, refl}
+use Rattle.std.specs.Prelude.{◌≡◌, ℕ, zero, suc, ◌+◌, ◌*◌, ◌/◌, ◌^◌, ◌<◌, Bool, true, false, ℤ, pos, negsuc, ◌+ℤ◌, ◌*ℤ◌, neg_ℤ, ◌<ℤ◌, int_div, unsigned_abs, Decides, refl}
 use Rattle.std.specs.Cmp.{int_ranks, IsTotalOrder, one_rank, strict, eq_by_cmp_equiv, IsEquivalence, IsPartialEquivalence, partial_equiv_from_equiv, IsPartialOrder, partial_order_from_total}
 use Rattle.std.specs.FinMap.{IsAntisymmetric}
 use Rattle.std.specs.Int.{◌∣◌}
@@ -10,10 +10,10 @@ use Rattle.std.specs.declared.cmp.Ordering.TheVariants.{Less, Equal, Greater}
 use Rattle.std.proofs.Common.{sym, ◌∙◌, ap, subst, arith, true≢false, mul-lt-mul_of_pos_right, lt_of_mul-lt-mul_right, zero-mul}
 use Rattle.std.proofs.Math.Nat.{div-mul_cancel, dvd_antisymm, dvd-mul_left, mul-div_cancel}
 use Rattle.std.proofs.lemmas.Int.{unsigned_abs-mul}
-use borrow.Author.Differences.{up, down, same_in, same_out, product_is, below_in, lt_out}
+use borrow.Author.Differences.{up, down, same_in, same_out, product_is, sum_is_lem, below_in, lt_out}
 use Rattle.ratio_core.specs.Gcd.{gcd, gcd_is, dvd_from_coprime}
 use Rattle.std.proofs.lemmas.Bool.Decides.{Decides-like, Decides-and, Decides-ltb}
-use Rattle.ratio_core.specs.Rational.{Rational, IsReduced, rational_parts, same_parts, reduce, ◌‹ℚ◌, rational_cmp, rational_eq, Fits, fits, left_term, right_term, sum_of_terms, sum_denominator, SumFits, sum_fits}
+use Rattle.ratio_core.specs.Rational.{Rational, IsReduced, rational_parts, same_parts, signed, unsigned_abs-neg, reduce, ◌‹ℚ◌, rational_cmp, rational_eq, Fits, fits, left_term, right_term, sum_of_terms, sum_denominator, SumFits, sum_fits}
 
 -- ---- integers times naturals
 
@@ -42,6 +42,25 @@ cancel_times y z d h e =
         let products : (a + e) * d ≡ (c + b) * d = omega (arith, k) in
         sym (mul-div_cancel (a + e) h) ∙ ap (λ x. x / d) products ∙ mul-div_cancel (c + b) h
 
+pub times_add : (x y : ℤ) (k : ℕ) → (x +ℤ y) *ℤ pos k ≡ (x *ℤ pos k) +ℤ (y *ℤ pos k)
+times_add x y k =
+    let scaled : (up (x +ℤ y) + down x + down y) * k ≡ (down (x +ℤ y) + up x + up y) * k =
+    ap (λ w. w * k) (sum_is_lem x y) in
+    same_in _ _ (omega (
+      arith,
+      scaled,
+      sum_is_lem (x *ℤ pos k) (y *ℤ pos k),
+      times_is (x +ℤ y) k,
+      times_is x k,
+      times_is y k,
+    ))
+
+pub times_< : (x y : ℤ) (k : ℕ) → 0 < k → x <ℤ y → (x *ℤ pos k) <ℤ (y *ℤ pos k)
+times_< x y k above h =
+    let scaled : (up x + down y) * k < (up y + down x) * k =
+    mul-lt-mul_of_pos_right (lt_out x y h) above in
+    below_in _ _ (omega (arith, scaled, times_is x k, times_is y k))
+
 -- ---- equality
 
 -- equal cross products make equal numbers
@@ -69,6 +88,15 @@ same_from_cross p q e =
 pub neg_times : (x g : ℕ) → neg_ℤ (pos x) *ℤ pos g ≡ neg_ℤ (pos (x * g))
 neg_times zero g = simp zero-mul
 neg_times (suc x) g = refl
+
+-- a sign and a size
+pub signed_times : (s : Bool) (x y : ℕ) → signed s x *ℤ pos y ≡ signed s (x * y)
+signed_times false x y = refl
+signed_times true x y = neg_times x y
+
+pub unsigned_abs-signed : (s : Bool) (n : ℕ) → unsigned_abs (signed s n) ≡ n
+unsigned_abs-signed false n = refl
+unsigned_abs-signed true n = unsigned_abs-neg n
 
 int_div-exact : (n : ℤ) (g : ℕ) → g ∣ unsigned_abs n → int_div n (pos g) *ℤ pos g ≡ n
 int_div-exact (pos n) g h = ap pos (div-mul_cancel g h)
@@ -131,8 +159,8 @@ reduce_reduced n d h = ap rational_parts (reduce_itself (record { num = n; den =
 
 -- ---- the order
 
-irrefl_lem : (p : Rational) → ¬ (p ‹ℚ p)
-irrefl_lem p h = omega (arith, lt_out _ _ h.cross)
+pub ‹ℚ_irrefl : (p : Rational) → ¬ (p ‹ℚ p)
+‹ℚ_irrefl p h = omega (arith, lt_out _ _ h.cross)
 
 -- a/b below c/d and c/d below e/f, by cross products of differences of naturals
 chain_lem : (a a' b c c' d e e' f : ℕ) → 0 < b → 0 < f → a * d + c' * b < c * b + a' * d
@@ -155,9 +183,6 @@ pub ‹ℚ_trans : (p q r : Rational) → p ‹ℚ q → q ‹ℚ r → p ‹ℚ
     record {
       cross = below_in _ _ (omega (arith, third, times_is p.num r.den, times_is r.num p.den));
     }
-
-pub ‹ℚ_irrefl : (p : Rational) → ¬ (p ‹ℚ p)
-‹ℚ_irrefl = irrefl_lem
 
 rank_lem : (p q : Rational) (r : Ordering)
     → MatchOrdering r ((p.num *ℤ pos q.den) <ℤ (q.num *ℤ pos p.den))

@@ -11,7 +11,7 @@ pub Fits_zero : Fits zero_ℚ
 unfolding zero_ℚ whole_ℚ
 Fits_zero = record { num = omega arith; den = omega arith }
 
-size_neg : (z : ℤ) → unsigned_abs (neg_ℤ z) ≡ unsigned_abs z
+pub size_neg : (z : ℤ) → unsigned_abs (neg_ℤ z) ≡ unsigned_abs z
 size_neg (pos zero) = refl
 size_neg (pos (suc n)) = refl
 size_neg (negsuc n) = refl

@@ -1,11 +1,11 @@
 -- Fractions over one denominator: sums, products, negation and order are those of the numerators.
 use Rattle.std.specs.Prelude.{◌≡◌, ℕ, ◌+◌, ◌*◌, ◌<◌, ◌≤◌, ℤ, pos, ◌+ℤ◌, ◌*ℤ◌, neg_ℤ, ◌≤ℤ◌, ◌<ℤ◌}
-use Rattle.std.proofs.Common.{sym, ◌∙◌, ap, ap₂, arith, mul-pos, subst, subst₂, mul_comm, zero-mul, mul-le-mul_right, le_of_mul-le-mul_right, mul-lt-mul_of_pos_right, lt_of_mul-lt-mul_right}
+use Rattle.std.proofs.Common.{sym, ◌∙◌, ap, ap₂, arith, mul-pos, subst, subst₂, mul_comm, zero-mul, mul-le-mul_right, le_of_mul-le-mul_right, lt_of_mul-lt-mul_right}
 use Rattle.std.proofs.Math.IntN.{*ℤ_comm}
 use borrow.Author.Differences.{up, down, at_most_in, below_in, le_out, lt_out}
 use Rattle.ratio_core.specs.Rational.{Rational, reduce, whole_ℚ, zero_ℚ, ◌+ℚ◌, ◌*ℚ◌, neg_ℚ, ◌≤ℚ◌, ◌‹ℚ◌}
-use Rattle.ratio_core.specs.RationalLaws.{reduce_is, reduce_itself, reduce_cross, times_is, times_times, swap_times, cancel_times}
-use Rattle.rational_laws.specs.Whole.{*ℤ_assoc, *ℤ-+ℤ, neg_ℤ-*ℤ, *ℤ_pos_one}
+use Rattle.ratio_core.specs.RationalLaws.{reduce_is, reduce_itself, reduce_cross, times_is, times_times, swap_times, cancel_times, times_add, times_<}
+use Rattle.rational_laws.specs.Whole.{*ℤ_assoc, neg_ℤ-*ℤ, *ℤ_pos_one}
 
 -- equal cross products make equal fractions
 pub reduce_same : (m n : ℤ) (e d : ℕ) → 0 < e → 0 < d → m *ℤ pos d ≡ n *ℤ pos e
@@ -25,10 +25,6 @@ reduce_scaled n d k above more =
     reduce_same (n *ℤ pos k) n (d * k) d (mul-pos above more) above
     (times_times n k d ∙ ap (λ m. n *ℤ pos m) (mul_comm k d))
 
-pub times_add : (x y : ℤ) (k : ℕ) → (x +ℤ y) *ℤ pos k ≡ (x *ℤ pos k) +ℤ (y *ℤ pos k)
-times_add x y k = *ℤ_comm (x +ℤ y) (pos k) ∙ *ℤ-+ℤ (pos k) x y
-    ∙ ap₂ ◌+ℤ◌ (*ℤ_comm (pos k) x) (*ℤ_comm (pos k) y)
-
 -- ---- the order of whole numbers, times a positive one
 
 times_≤ : (x y : ℤ) (k : ℕ) → x ≤ℤ y → (x *ℤ pos k) ≤ℤ (y *ℤ pos k)
@@ -41,12 +37,6 @@ untimes_≤ x y k above h =
     let scaled : (up x + down y) * k ≤ (up y + down x) * k =
     omega (arith, le_out _ _ h, times_is x k, times_is y k) in
     at_most_in _ _ (le_of_mul-le-mul_right scaled above)
-
-times_< : (x y : ℤ) (k : ℕ) → 0 < k → x <ℤ y → (x *ℤ pos k) <ℤ (y *ℤ pos k)
-times_< x y k above h =
-    let scaled : (up x + down y) * k < (up y + down x) * k =
-    mul-lt-mul_of_pos_right (lt_out x y h) above in
-    below_in _ _ (omega (arith, scaled, times_is x k, times_is y k))
 
 untimes_< : (x y : ℤ) (k : ℕ) → (x *ℤ pos k) <ℤ (y *ℤ pos k) → x <ℤ y
 untimes_< x y k h =

@@ -1,10 +1,11 @@
 -- What the code's `<`, `<=`, `>`, `>=` and `==` at fractions say of the numbers.
 -- A function that compares fractions names the set once:
 --     #[tactic(auto, using(rational_laws::specs::Tests::rational_tests))]
-use Rattle.std.specs.Prelude.{◌≡◌, true, false, Decides, refl}
-use Rattle.std.proofs.Common.{sym, true≢false, is_ge, is_gt, is_le, is_lt, Ordering, Less, Equal, Greater}
+use Rattle.std.specs.Prelude.{◌≡◌, ◌≢◌, Bool, true, false, not, Decides, refl}
+use Rattle.std.proofs.Common.{sym, ◌∙◌, ap, true≢false, is_ge, is_gt, is_le, is_lt, Ordering, Less, Equal, Greater}
+use Rattle.std.proofs.lemmas.Bool.{true_from_ne_false}
 use Rattle.std.specs.Ordering.{MatchOrdering}
-use Rattle.ratio_core.specs.Rational.{Rational, rational_cmp, ◌≤ℚ◌, ◌‹ℚ◌}
+use Rattle.ratio_core.specs.Rational.{Rational, rational_cmp, rational_eq, zero_ℚ, ◌≤ℚ◌, ◌‹ℚ◌}
 use Rattle.ratio_core.specs.RationalLaws.{eq_rational_eq, rational_eq-false, rational_eq-true, rational_ranks}
 use Rattle.rational_laws.specs.Order.{not_‹ℚ_from_≤ℚ, ≤ℚ_from_≡, ≤ℚ_from_‹ℚ}
 
@@ -114,3 +115,21 @@ pub ruleset rational_tests = (
   ≤ℚ_from_‹ℚ,
   ≤ℚ_from_≡,
 )
+
+-- ---- whether a number is 0
+
+pub zero_test : (q : Rational) → q ≡ zero_ℚ → not (rational_eq q zero_ℚ) ≡ false
+zero_test q e = ap not (eq_rational_eq q zero_ℚ e)
+
+pub zero_from_test : (q : Rational) → not (rational_eq q zero_ℚ) ≡ false → q ≡ zero_ℚ
+zero_from_test q = by_test (rational_eq q zero_ℚ) refl
+  where
+    by_test : (b : Bool) → rational_eq q zero_ℚ ≡ b → not b ≡ false → q ≡ zero_ℚ
+    by_test true e h = rational_eq-true q zero_ℚ e
+    by_test false e h = absurd (true≢false h)
+
+pub nonzero_test : (q : Rational) → q ≢ zero_ℚ → not (rational_eq q zero_ℚ) ≡ true
+nonzero_test q n = true_from_ne_false (not (rational_eq q zero_ℚ)) (λ e. n (zero_from_test q e))
+
+pub nonzero_from_test : (q : Rational) → not (rational_eq q zero_ℚ) ≡ true → q ≢ zero_ℚ
+nonzero_from_test q h e = true≢false (sym h ∙ zero_test q e)

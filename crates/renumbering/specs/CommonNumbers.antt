@@ -7,6 +7,7 @@ use borrow.Author.Tests.{le-ltb, lt-ltb, ltb-false, ltb-true}
 use Rattle.numbered.specs.Laws.{Rise-head, Rise-tail}
 use Rattle.numbered.specs.Numbered.{Rise}
 use Rattle.user_model.specs.SameUpToNumbers.{position}
+use Rattle.user_model.specs.PositionLaws.{position_above, position_low}
 use Rattle.renumbering.specs.RenumberedModel.{Rising}
 
 -- ---- elements
@@ -69,39 +70,6 @@ module _ {X : Type 0} (number_of : X → ℕ) where
   )
 
 -- ---- positions
-
-counted : (f : ℕ → ℕ) (k : ℕ) (xs : List ℕ)
-    → fold (λ a x. a + f x) k xs ≡ k + fold (λ a x. a + f x) 0 xs
-counted f k [] = omega arith
-counted f k (x ∷ xs) =
-    counted f (k + f x) xs ∙ regrouped k (f x) (fold (λ a y. a + f y) 0 xs)
-    ∙ ap (λ s. k + s) (sym (counted f (0 + f x) xs))
-  where
-    regrouped : (a b c : ℕ) → a + b + c ≡ a + (0 + b + c)
-    regrouped a b c = omega arith
-
-pub position_more : (a : ℕ) (us : List ℕ) (n : ℕ)
-    → position (a ∷ us) n ≡ cond (nat_lt a n) 1 0 + position us n
-position_more a us n = counted (λ m. cond (nat_lt m n) 1 0) (0 + cond (nat_lt a n) 1 0) us
-    ∙ ap (λ k. k + position us n) (zero_lem (cond (nat_lt a n) 1 0))
-  where
-    zero_lem : (k : ℕ) → 0 + k ≡ k
-    zero_lem k = omega arith
-
-position_above : (a : ℕ) (us : List ℕ) (n : ℕ) → a < n
-    → position (a ∷ us) n ≡ suc (position us n)
-position_above a us n h = position_more a us n ∙ ap (λ b. cond b 1 0 + position us n) (lt-ltb a n h)
-    ∙ one_more (position us n)
-  where
-    one_more : (k : ℕ) → 1 + k ≡ suc k
-    one_more k = omega arith
-
-position_low : (a : ℕ) (us : List ℕ) (n : ℕ) → n ≤ a → position (a ∷ us) n ≡ position us n
-position_low a us n h = position_more a us n ∙ ap (λ b. cond b 1 0 + position us n) (le-ltb a n h)
-    ∙ none_more (position us n)
-  where
-    none_more : (k : ℕ) → 0 + k ≡ k
-    none_more k = omega arith
 
 position_first : (us : List ℕ) (n : ℕ) → ((m : ℕ) → In m us → n < m) → position us n ≡ 0
 position_first [] n above = refl

@@ -15,7 +15,7 @@ use Rattle.equality_form.specs.Columns.{parts_among, parts_of, slack_at, slacks_
 use Rattle.equality_form.specs.EqualityForm.{cell_count, cells_from, cells_of, cost, cost_among, cost_of, costs_at, form_from, form_of_leaves, numbers_at, right_sides, row_cells, unit_at}
 use Rattle.equality_form.specs.Equations.{Equation, RightFits, equations, equations_among, equations_for, equations_of, flipped, is_flipped, number_of, right_of, slack_of}
 use Rattle.equality_form.specs.ReadBack.{Answer, AnswerFits, PointFits, ValuesFit, after, by_rows, duals_in, in_parts, infeasible, listed_at, optimal, point_in, read_back, unbounded, unflipped, value_in, values_in}
-use Rattle.fresh_bridging.specs.EachLaws.{all_from_map}
+use Rattle.map_laws.specs.EachLaws.{all_from_map}
 use Rattle.item_core.specs.declared.item.Body.{Body}
 use Rattle.item_core.specs.declared.item.Body.TheVariants.{Group, Free, Plain, Affine, PlainVec, AffineVec, PlainObj, AffineObj}
 use Rattle.item_core.specs.Item.{functions_of, set_of}

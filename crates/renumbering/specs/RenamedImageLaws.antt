@@ -1,7 +1,7 @@
 -- The image of an item under another address is the image of the item, under other addresses.
 use Rattle.std.specs.Prelude.{◌≡◌, ℕ, ◌+◌, ◌-◌, Bool, true, false, cond, List, [], ◌∷◌, ◌++◌, Some, None, drop, fold, length, map, take, refl}
 use Rattle.std.proofs.Common.{ap, ap₂, sym, ◌∙◌}
-use Rattle.std.proofs.lemmas.List.{drop-map, length-map, take-map}
+use Rattle.std.proofs.lemmas.List.{drop-map, length-map, map-append, take-map}
 use Rattle.ratio_core.specs.Rational.{neg_ℚ, zero_ℚ}
 use Rattle.set_core.specs.Mirrored.{mirrored}
 use Rattle.set_core.specs.declared.set.Set.{Set}
@@ -26,11 +26,6 @@ use Rattle.item_core.specs.Item.{functions_of, set_of}
 use Rattle.renumbering.specs.RenamedFunctions.{constant_function-renamed, negated-renamed, sum-renamed}
 use Rattle.renumbering.specs.RenamedItems.{IsRenaming, functions-renamed, map_either, renamed, renamed_body, renamed_expression, renamed_image, renamed_item, set-renamed, size-renamed}
 use Rattle.renumbering.specs.RenamedPieceLaws.{affine-renamed, bridged-renamed, child-renamed, difference-renamed, differences-renamed, each_component-renamed, first-renamed, free_at-renamed, function-renamed, group_at-renamed, inner-renamed, inner_functions-renamed, kept-renamed, less-renamed, negations-renamed, plain-renamed, raised-renamed, rest-renamed, row-renamed, rows-renamed, sense-renamed, sums-renamed, with_set-renamed}
-
-pub map_append : {A B : Type 0} (f : A → B) (xs ys : List A)
-    → map f (xs ++ ys) ≡ map f xs ++ map f ys
-map_append f [] ys = refl
-map_append f (x ∷ xs) ys = ap (λ l. f x ∷ l) (map_append f xs ys)
 
 module _ (σ : Address → Address) (r : IsRenaming σ) where
   -- ---- rows of the item's own functions
@@ -115,7 +110,7 @@ module _ (σ : Address → Address) (r : IsRenaming σ) where
       let n = length-map xs (renamed σ) in
       (λ i. AffineVec (less i ++ more i) (Nonnegatives (n i + n i)))
       ∙ ap (λ fs. AffineVec fs (Nonnegatives (length xs + length xs)))
-      (sym (map_append (renamed σ) (map (difference t) xs) (map (sum_of t) xs)))
+      (sym (map-append (renamed σ) (map (difference t) xs) (map (sum_of t) xs)))
 
   norm_infinity-renamed : (item : Item)
       → norm_infinity (renamed_item σ item) ≡ renamed_image σ (norm_infinity item)
@@ -205,7 +200,7 @@ module _ (σ : Address → Address) (r : IsRenaming σ) where
       (Nonnegatives (n i + n i + 1)))
       ∙ ap (λ fs. AffineVec (renamed σ (fold difference t ss) ∷ fs)
       (Nonnegatives (length xs + length xs + 1)))
-      (sym (map_append (renamed σ) (differences ss xs) (sums ss xs)))
+      (sym (map-append (renamed σ) (differences ss xs) (sums ss xs)))
 
   abbrev one_image : Item → Function → List Function → ℕ → Image
   one_image item t xs n =

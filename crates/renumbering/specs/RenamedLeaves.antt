@@ -1,6 +1,7 @@
 -- A solver's model under other addresses in the same order.
 use Rattle.std.specs.Prelude.{◌≡◌, List, [], ◌∷◌, ◌++◌, flat_map, map, refl}
 use Rattle.std.proofs.Common.{ap, ap₂, sym, ◌∙◌}
+use Rattle.std.proofs.lemmas.List.{map-append}
 use Rattle.std.specs.FinMap as finite
 use Rattle.aff_core.specs.Address.{Address, address_cmp, address_total}
 use Rattle.fresh_bridging.specs.Leaves.{leaf_model_of, leaf_objectives, leaf_rows, leaf_variable, leaf_variables}
@@ -9,7 +10,6 @@ use Rattle.item_core.specs.declared.item.Body.TheVariants.{Group, Free, Plain, A
 use Rattle.item_core.specs.declared.item.Item.{Item}
 use Rattle.leaf_model.specs.LeafModel.{LeafModel}
 use Rattle.solver_store.specs.declared.leaf.LeafVar.TheVariants as leaf
-use Rattle.renumbering.specs.RenamedImageLaws.{map_append}
 use Rattle.renumbering.specs.RenamedItems.{IsRenaming, map_either, renamed_body, renamed_item}
 use Rattle.renumbering.specs.RenamedMaps.{made-moved, moved_entries, renamed_entries}
 
@@ -19,7 +19,7 @@ pub flat_map_either : {A B C D : Type 0} (h : A → List C) (k : B → List D) (
 flat_map_either h k f g same [] = refl
 flat_map_either h k f g same (x ∷ xs) =
     ap₂ (λ a b. a ++ b) (same x) (flat_map_either h k f g same xs)
-    ∙ sym (map_append g (h x) (flat_map h xs))
+    ∙ sym (map-append g (h x) (flat_map h xs))
 
 -- the same leaves, at the new addresses
 pub record AreRenamedLeaves (σ : Address → Address) (one other : LeafModel) : Type 0 where

@@ -1,7 +1,7 @@
 -- The rules of a bridging, at items under other addresses in the same order.
 use Rattle.std.specs.Prelude.{◌≡◌, ℕ, Bool, true, false, ◌&&◌, cond, List, [], ◌∷◌, ◌++◌, length, map, refl}
 use Rattle.std.proofs.Common.{ap, ap₂, sym, ◌∙◌}
-use Rattle.std.proofs.lemmas.List.{length-map}
+use Rattle.std.proofs.lemmas.List.{length-map, map-append}
 use Rattle.std.specs.List.{list_all, zip}
 use Rattle.ratio_core.specs.Rational.{neg_ℚ, sum_fits}
 use Rattle.aff_core.specs.Address.{Address}
@@ -25,7 +25,7 @@ use Rattle.item_core.specs.Kind.{kind_number}
 use Rattle.renumbering.specs.RenamedEntries.{all_put_into_fits, listed-renamed, put_in-renamed, put_in_fits-renamed, put_into-renamed, renamed_children, renamed_entry}
 use Rattle.renumbering.specs.RenamedFitLaws.{plus_fits-renamed}
 use Rattle.renumbering.specs.RenamedFunctions.{constant-renamed, negated-renamed}
-use Rattle.renumbering.specs.RenamedImageLaws.{image-renamed, map_append}
+use Rattle.renumbering.specs.RenamedImageLaws.{image-renamed}
 use Rattle.renumbering.specs.RenamedItems.{IsRenaming, functions-renamed, is_group-renamed, kind-renamed, map_either, renamed, renamed_expression, renamed_item, set-renamed, variables-renamed}
 use Rattle.renumbering.specs.RenamedPieceLaws.{difference-renamed, function-renamed, inner_functions-renamed, negations-renamed, rest-renamed}
 use Rattle.renumbering.specs.RenamedTrees.{IsRewriting}
@@ -89,7 +89,7 @@ module _ (σ : Address → Address) (r : IsRenaming σ) where
         others = map (renamed_item σ) image.rows ++ l;
       }) (listed-renamed σ image.objective)
       ∙ ap (λ l. record { groups = map (renamed_item σ) image.groups; others = l })
-      (sym (map_append (renamed_item σ) image.rows (listed image.objective)))
+      (sym (map-append (renamed_item σ) image.rows (listed image.objective)))
 
   -- ---- what of an image fits
 

@@ -2,11 +2,11 @@
 -- bridging of the items holds, rewritten.
 use Rattle.std.specs.Prelude.{◌≡◌, ℕ, ◌&&◌, List, [], ◌∷◌, ◌++◌, map, refl}
 use Rattle.std.proofs.Common.{ap, ap₂, subst, sym, ◌∙◌}
+use Rattle.std.proofs.lemmas.List.{map-append}
 use Rattle.bridge_graph.specs.declared.Choice.TheVariants.{By, Native}
 use Rattle.expansion.specs.Bridged.{Bridged, EachBridged, EachBridgedIn, by, each, each_in, natively, none, none_in}
 use Rattle.expansion.specs.Read.{fits, fits_each, fits_in, leaves, leaves_in, leaves_of_each}
 use Rattle.expansion.specs.Rules.{Rules}
-use Rattle.renumbering.specs.RenamedImageLaws.{map_append}
 
 -- what is done to an item and to what is made of it is one
 pub record IsRewriting {Item Entry : Type 0} (rules : Rules Item Entry) (f : Item → Item)
@@ -87,7 +87,7 @@ module _ {Item Entry : Type 0} (rules : Rules Item Entry) (f : Item → Item)
       each_entries_alike alike_none = refl
       each_entries_alike (alike_each {es = es} {es' = es'} first rest) =
           ap₂ (λ a b. a ++ b) (entries_alike first) (each_entries_alike rest)
-          ∙ sym (map_append g es es')
+          ∙ sym (map-append g es es')
 
     -- ---- there is one of the rewritten items
 
@@ -152,7 +152,7 @@ module _ {Item Entry : Type 0} (rules : Rules Item Entry) (f : Item → Item)
       leaves_alike (alike_native same c d) = ap (λ item. item ∷ []) same
       leaves_alike (alike_by same c d {gs = gs} {os = os} groups others) =
           ap₂ (λ a b. a ++ b) (each_leaves_alike groups) (in_leaves_alike others)
-          ∙ sym (map_append f (leaves_of_each gs) (leaves_in os))
+          ∙ sym (map-append f (leaves_of_each gs) (leaves_in os))
 
       pub each_leaves_alike : {items others : List Item} {es fs : List Entry}
           {trees : EachBridged rules items es} {second : EachBridged rules others fs}
@@ -161,7 +161,7 @@ module _ {Item Entry : Type 0} (rules : Rules Item Entry) (f : Item → Item)
       each_leaves_alike alike_none = refl
       each_leaves_alike (alike_each {first = one} {rest = others} first rest) =
           ap₂ (λ a b. a ++ b) (leaves_alike first) (each_leaves_alike rest)
-          ∙ sym (map_append f (leaves one) (leaves_of_each others))
+          ∙ sym (map-append f (leaves one) (leaves_of_each others))
 
       pub in_leaves_alike : {inner after : List Entry} {items others : List Item}
           {trees : EachBridgedIn rules inner items} {second : EachBridgedIn rules after others}
@@ -170,7 +170,7 @@ module _ {Item Entry : Type 0} (rules : Rules Item Entry) (f : Item → Item)
       in_leaves_alike alike_none_in = refl
       in_leaves_alike (alike_each_in after same {first = one} {rest = others} first rest) =
           ap₂ (λ a b. a ++ b) (leaves_alike first) (in_leaves_alike rest)
-          ∙ sym (map_append f (leaves one) (leaves_in others))
+          ∙ sym (map-append f (leaves one) (leaves_in others))
 
     mutual
       unfolding fits

@@ -1,7 +1,7 @@
 -- The certificate that an answer is carried to says the same of the renumbered model.
 use Rattle.std.specs.Prelude.{◌≡◌, List, [], ◌∷◌, ◌++◌, cond, flat_map, map, take, refl}
 use Rattle.std.proofs.Common.{ap, ap₂, sym, ◌∙◌}
-use Rattle.std.proofs.lemmas.List.{length-map}
+use Rattle.std.proofs.lemmas.List.{length-map, map-append}
 use Rattle.std.specs.Ordering.{is_eq}
 use Rattle.ratio_core.specs.Rational.{Rational, neg_ℚ, zero_ℚ, ◌+ℚ◌, ◌-ℚ◌}
 use Rattle.rational_laws.specs.Dot.{dot}
@@ -32,7 +32,6 @@ use Rattle.renumbering.specs.RenamedDuals.{DualsAgree, backs_alike}
 use Rattle.renumbering.specs.RenamedEntries.{function_in-renamed, renamed_entry}
 use Rattle.renumbering.specs.RenamedForm.{Agree, AnswersAgree, map_kept}
 use Rattle.renumbering.specs.RenamedFunctions.{coefficient-renamed, constant-renamed, constant_function-renamed, slope-renamed, value-renamed, variable-renamed}
-use Rattle.renumbering.specs.RenamedImageLaws.{map_append}
 use Rattle.renumbering.specs.RenamedItems.{IsRenaming, map_either, renamed, variables_listed}
 use Rattle.renumbering.specs.RenamedLeaves.{flat_map_either}
 use Rattle.renumbering.specs.RenumberedModel.{IsRising, Renumbered, Renumbering, entries-renumbered, over, renumbered, renumbered_function, renumbered_group, renumbered_model, renumbered_objective, renumbered_row, renumbered_variable, renumbers}
@@ -190,7 +189,7 @@ module _ (ν : Renumbering) (rising : IsRising ν) where
           ap₂ (λ a b. a ++ b) (rows_with-renumbered rows model.rows)
           (groups_with-renumbered (at_point model x) (at_point renewed x) (at_point-renumbered x)
           model.groups)
-          ∙ sym (map_append (renamed_held (renumbered ν)) (rows_with rows model.rows)
+          ∙ sym (map-append (renamed_held (renumbered ν)) (rows_with rows model.rows)
           (groups_with (at_point model x) model.groups))
 
       pub dual_gap-renumbered : (x : List Rational)

@@ -2,6 +2,7 @@
 use Rattle.std.specs.Prelude.{◌≡◌, ◌<◌, ◌==◌, ◌&&◌, ℕ, nat_lt, cond, List, ◌++◌, map, refl}
 use Rattle.std.proofs.Common.{arith, ap, ap₂, subst, sym, ◌∙◌}
 use Rattle.std.proofs.lemmas.Bool.Decides.{nat_tests}
+use Rattle.std.proofs.lemmas.List.{map-append}
 use Rattle.std.specs.Cmp.Lexicographic.{slice_cmp}
 use Rattle.std.specs.Ordering.{nat_cmp, ordering_then}
 use Rattle.std.specs.declared.cmp.Ordering.TheVariants.{Less, Equal, Greater}
@@ -23,11 +24,11 @@ use Rattle.user_model.specs.declared.function.UserFunc.{UserFunc}
 use Rattle.user_model.specs.declared.function.UserFunc.TheVariants as func
 use Rattle.user_model.specs.declared.group.Group as groups
 use Rattle.user_model.specs.declared.group.GroupVar.{GroupVar}
+use Rattle.user_model.specs.PositionLaws.{cmp_alike, test_alike}
 use Rattle.user_model.specs.declared.objective.Objective as objectives
 use Rattle.user_model.specs.declared.objective.Objective.TheVariants as objective
 use Rattle.user_model.specs.declared.row.Row as rows
 use Rattle.renumbering.specs.RenamedEntries.{renamed_children, renamed_entry}
-use Rattle.renumbering.specs.RenamedImageLaws.{map_append}
 use Rattle.renumbering.specs.RenamedItems.{IsRenaming, map_either, renamed, renamed_body, renamed_item}
 use Rattle.renumbering.specs.RenamedLeaves.{AreRenamedLeaves, leaves-renamed}
 use Rattle.renumbering.specs.RenamedRuleLaws.{rules-renamed}
@@ -49,22 +50,12 @@ pub record IsRising (ν : Renumbering) : Type 0 where
   pub group : Rising ν.group
   pub row : Rising ν.row
 
-less_alike : (m n p q : ℕ) → (m < n → p < q) → (n < m → q < p) → (m ≡ n → p ≡ q)
-    → nat_lt p q ≡ nat_lt m n
-less_alike m n p q a b c = grind (arith, nat_tests)
-
-same_alike : (m n p q : ℕ) → (m < n → p < q) → (n < m → q < p) → (m ≡ n → p ≡ q)
-    → (p == q) ≡ (m == n)
-same_alike m n p q a b c = grind (arith, nat_tests)
-
 module _ (f : ℕ → ℕ) (rising : Rising f) where
   pub number_same : (m n : ℕ) → (f m == f n) ≡ (m == n)
-  number_same m n = same_alike m n (f m) (f n) (rising m n) (rising n m) (ap f)
+  number_same m n = test_alike m n (f m) (f n) (rising m n) (rising n m) (ap f)
 
   number_order : (m n : ℕ) → nat_cmp (f m) (f n) ≡ nat_cmp m n
-  number_order m n =
-      λ i. cond (less_alike m n (f m) (f n) (rising m n) (rising n m) (ap f) i) Less
-      (cond (number_same m n i) Equal Greater)
+  number_order m n = cmp_alike m n (f m) (f n) (rising m n) (rising n m) (ap f)
 
 -- ---- addresses
 
@@ -186,7 +177,7 @@ module _ (ν : Renumbering) where
             ++ objective_items-renumbered model.objective i;
       })
       ∙ ap (λ l. record { groups = map item (map group_item model.groups); others = l })
-      (sym (map_append item (map row_item model.rows) (objective_items model.objective)))
+      (sym (map-append item (map row_item model.rows) (objective_items model.objective)))
 
 -- ---- its fresh bridging
 
@@ -257,6 +248,6 @@ module _ (ν : Renumbering) (rising : IsRising ν) {setting : Setting} {model : 
         ap₂ (λ x y. x ++ y)
         (each_leaves_alike (rules_by b.choice) item entry law m.groups)
         (in_leaves_alike (rules_by b.choice) item entry law m.others)
-        ∙ sym (map_append item (leaves_of_each b.made.groups) (leaves_in b.made.others)) in
+        ∙ sym (map-append item (leaves_of_each b.made.groups) (leaves_in b.made.others)) in
         subst (λ l. AreRenamedLeaves (renumbered ν) (leaves_of b) (leaf_model_of l)) (sym listed)
         (leaves-renamed (renumbered ν) (renumbers ν rising) (model_leaves b.made))

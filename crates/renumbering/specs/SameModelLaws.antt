@@ -2,7 +2,7 @@
 use Rattle.std.specs.Prelude.{◌≡◌, ◌⊎◌, ◌<◌, ◌||◌, ◌==◌, ℕ, Bool, true, false, cond, nat_lt, T, List, [], ◌∷◌, ◌++◌, IsSome, Some, find, flat_map, length, map, refl}
 use Rattle.std.proofs.Common.{ap, ap₂, arith, inl, inr, subst, sym, ◌∙◌}
 use Rattle.std.proofs.lemmas.Bool.Decides.{nat_tests}
-use Rattle.std.proofs.lemmas.List.{length-map}
+use Rattle.std.proofs.lemmas.List.{length-map, map-append}
 use Rattle.std.specs.FinMap as finite
 use Rattle.std.specs.FinMap.{is_sorted}
 use Rattle.std.specs.FinMap.Entries.{below_all}
@@ -12,7 +12,7 @@ use Rattle.std.specs.declared.cmp.Ordering.{Ordering}
 use Rattle.std.specs.declared.cmp.Ordering.TheVariants.{Less, Equal, Greater}
 use borrow.Author.Tests.{lt-ltb, ltb-true}
 use mathlib.Core.List.{map-map}
-use Rattle.map_laws.specs.TestLaws.{both, first, is_less, second}
+use Rattle.map_laws.specs.TestLaws.{both, first, is_less, less_number, less_than, second}
 use Rattle.ratio_core.specs.Rational.{Rational}
 use Rattle.aff_core.specs.Address.{Address, address_cmp, address_eq}
 use Rattle.aff_core.specs.Function.{Function, function_of, terms_of}
@@ -65,16 +65,12 @@ any_in n (v ∷ vs) h = by (any_in n vs) (v.number == n) refl h
     by rest true e k = inl (sym (test_same v.number n e))
     by rest false e k = inr (rest k)
 
-map_both : {A B : Type 0} (f : A → B) (xs ys : List A) → map f (xs ++ ys) ≡ map f xs ++ map f ys
-map_both f [] ys = refl
-map_both f (x ∷ xs) ys = ap (λ l. f x ∷ l) (map_both f xs ys)
-
 -- the variable of a number that stands
 number_in : (n : ℕ) (groups : List Group) → IsSome (find (has_variable n) groups)
     → In n (map variable_number (flat_map (λ g. g.vars) groups))
 number_in n [] h = absurd (subst T (sym h) tt)
 number_in n (g ∷ gs) h =
-    subst (In n) (sym (map_both variable_number g.vars (flat_map (λ g. g.vars) gs)))
+    subst (In n) (sym (map-append variable_number g.vars (flat_map (λ g. g.vars) gs)))
     (by (number_in n gs) (has_variable n g) refl h)
   where
     by : (IsSome (find (has_variable n) gs)
@@ -95,20 +91,6 @@ variables_order : (m n : ℕ)
     → address_cmp (variable_address m) (variable_address n) ≡ nat_cmp m n
 unfolding address_cmp
 variables_order m n = then_equal (nat_cmp m n)
-
-below_of : (m n : ℕ) → nat_cmp m n ≡ Less → m < n
-below_of m n e = by (nat_lt m n) refl e
-  where
-    other : (b : Bool) → cond b Equal Greater ≡ Less → ⊥
-    other true k = cc
-    other false k = cc
-
-    by : (b : Bool) → nat_lt m n ≡ b → cond b Less (cond (m == n) Equal Greater) ≡ Less → m < n
-    by true h k = ltb-true m n h
-    by false h k = absurd (other (m == n) k)
-
-less_of : (m n : ℕ) → m < n → nat_cmp m n ≡ Less
-less_of m n h = ap (λ b. cond b Less (cond (m == n) Equal Greater)) (lt-ltb m n h)
 
 -- ---- one model, and the numbers of another
 
@@ -208,11 +190,11 @@ module _ (model : ModelValue) (valid : IsValid model) (vs gs rs : List ℕ) wher
     place_less k e h j less =
         let one = standing k h in
         let two = standing e j in
-        let below = below_of one.0 two.0 (sym (variables_order one.0 two.0)
+        let below = less_than one.0 two.0 (sym (variables_order one.0 two.0)
         ∙ sym (ap₂ address_cmp one.1 two.1) ∙ less) in
         ap₂ (λ a b. address_cmp (place a) (place b)) one.1 two.1
         ∙ variables_order (position own one.0) (position own two.0)
-        ∙ less_of (position own one.0) (position own two.0)
+        ∙ less_number (position own one.0) (position own two.0)
         (position_less own own_climb one.0 two.0 one.2 two.2 below)
 
     abbrev EachStands : List (Address × Rational) → Type 0

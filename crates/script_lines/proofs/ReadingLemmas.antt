@@ -8,6 +8,7 @@ use Rattle.std.proofs.Math.Seq.{take-append-add}
 use Rattle.std.proofs.lemmas.List.Elements.{All-push, All-nil, All-append}
 use Rattle.std.proofs.lemmas.List.Sums.{take_while-cons}
 use Rattle.std.proofs.lemmas.Bool.{cases_Bool, eqb-true, eqb-false, leb-true, leb-false, lt-leb, cond-false, cond-true, cond_both}
+use Rattle.std.proofs.KnownBytes.{prepend_known-nil}
 use Rattle.io_face.specs.Source.{Takes}
 use Rattle.io_face.specs.SourceLaws.{Takes-append, Takes-empty}
 use Rattle.script_lines.specs.declared.line_reader.Next.{Next}
@@ -18,7 +19,7 @@ use Rattle.script_lines.specs.Limits.{line_limit}
 use Rattle.script_lines.specs.Lines.{ended_lines, IsUnended, is_short}
 use Rattle.script_lines.specs.Reading.{Held, allowance, rest_of, HasLongLine, IsTooLong, TakesAtMost}
 use Rattle.script_lines.specs.LinesLaws.{ended_lines-unended, ended_lines-ended, lines-unended, lines-ended}
-use Rattle.script_lines.specs.ReadingLaws.{prepend-nil, prepend-append, told_always, told_behind, told_weaker}
+use Rattle.script_lines.specs.ReadingLaws.{prepend-append, told_always, told_behind, told_weaker}
 
 -- a line loses at most one byte to its carriage return
 pub length-strip : (text : List ℕ) → (length (strip_carriage_return text) ≤ length text) × (length text ≤ length (strip_carriage_return text) + 1)

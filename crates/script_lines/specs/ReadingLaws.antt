@@ -4,10 +4,6 @@ use Rattle.std.specs.Io.KnownBytes.{prepend_known}
 
 -- ---- bytes before known bytes
 
-pub prepend-nil : (known : Option (List ℕ)) → prepend_known [] known ≡ known
-prepend-nil None = refl
-prepend-nil (Some bytes) = refl
-
 pub prepend-append : (front more : List ℕ) (known : Option (List ℕ))
     → prepend_known (front ++ more) known ≡ prepend_known front (prepend_known more known)
 prepend-append front more None = refl

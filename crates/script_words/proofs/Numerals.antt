@@ -1,6 +1,6 @@
 -- Numerals are ASCII, and what `parse` makes of them.
 use Rattle.std.proofs.Common.{◌≡◌, ℕ, zero, suc, ◌<◌, ◌≤◌, ◌^◌, Bool, true, false, cond, ◌&&◌, Option, Some, None, List, [], ◌∷◌, length, get_or, refl, sym, ap, ◌∙◌, arith, rules, inl, inr, lt-ltb, le-ltb, nat_lt, nat_le, lit<}
-use Rattle.std.proofs.lemmas.Bool.{cases_lt}
+use Rattle.std.proofs.lemmas.Bool.{and_parts, cases_lt}
 use Rattle.std.proofs.lemmas.Bool.Decides.{nat_tests}
 use Rattle.std.proofs.lemmas.Str.{IsUtf8-from_ascii}
 use Rattle.std.proofs.lemmas.Str.Parse.{IsNumeralModel, numerals_by_value, parse_digits}
@@ -12,12 +12,8 @@ use Rattle.std.specs.Str.{IsUtf8, IsAscii}
 use Rattle.std.specs.Str.Parse.{ParsesUnsigned, digits_value}
 use Rattle.script_words.specs.Number.{in_32_bits, is_numeral}
 
-both : (a b : Bool) → (a && b) ≡ true → (a ≡ true) × (b ≡ true)
-both true b h = (refl, h)
-both false b h = cc
-
 digits : (ds : List ℕ) → is_numeral ds ≡ true → list_all is_ascii_digit ds ≡ true
-digits ds h = (both (nat_le 1 (length ds) && nat_le (length ds) 10) (list_all is_ascii_digit ds) h).1
+digits ds h = (and_parts (nat_le 1 (length ds) && nat_le (length ds) 10) (list_all is_ascii_digit ds) h).1
 
 some_digit : (ds : List ℕ) → is_numeral ds ≡ true → 0 < length ds
 some_digit ds h = grind (arith, nat_tests)
@@ -25,10 +21,10 @@ some_digit ds h = grind (arith, nat_tests)
 IsAscii-digits : (ds : List ℕ) → list_all is_ascii_digit ds ≡ true → IsAscii ds
 IsAscii-digits [] h i = lit< tt
 IsAscii-digits (c ∷ cs) h zero =
-    let digit : is_ascii_digit c ≡ true = (both (is_ascii_digit c) (list_all is_ascii_digit cs) h).0 in
+    let digit : is_ascii_digit c ≡ true = (and_parts (is_ascii_digit c) (list_all is_ascii_digit cs) h).0 in
     grind (arith, nat_tests)
 IsAscii-digits (c ∷ cs) h (suc i) =
-    IsAscii-digits cs ((both (is_ascii_digit c) (list_all is_ascii_digit cs) h).1) i
+    IsAscii-digits cs ((and_parts (is_ascii_digit c) (list_all is_ascii_digit cs) h).1) i
 
 pub IsUtf8-numeral : (ds : List ℕ) → is_numeral ds ≡ true → IsUtf8 ds
 IsUtf8-numeral ds h = IsUtf8-from_ascii ds (IsAscii-digits ds (digits ds h))

@@ -23,6 +23,13 @@ not_crossed l u h =
     test_fails true h = absurd (h refl)
     test_fails false h = refl
 
+pub scalar_one : (set : Set) → is_scalar set ≡ true → dimension_of set ≡ 1
+scalar_one (LessThan u) s = refl
+scalar_one (GreaterThan l) s = refl
+scalar_one (EqualTo a) s = refl
+scalar_one (Interval l u) s = refl
+scalar_one _ s = absurd (true≢false (sym s))
+
 -- ---- the refusals
 
 good : (d n least : ℕ) → (not (d == n) || nat_lt d least) ≡ false → (d ≡ n) × (least ≤ n)

@@ -2,6 +2,7 @@
 use Rattle.std.specs.Prelude.{◌≡◌, ℕ, zero, suc, ◌+◌, ◌-◌, ◌<◌, ◌≤◌, Bool, true, false, ◌&&◌, ◌||◌, Option, Some, None, refl}
 use Rattle.std.proofs.Common.{sym, ◌∙◌, ap, arith, is_lt, Ordering}
 use Rattle.std.specs.Ordering.{is_eq}
+use Rattle.std.proofs.lemmas.Bool.{or_right}
 use Rattle.ratio_core.specs.Rational.{Rational, rational_cmp, rational_eq, ◌/ℚ◌}
 use Rattle.ratio_core.specs.RationalLaws.{rational_eq-is_eq}
 use Rattle.simplex_laws.specs.BoundedSumLaws.{same_or_other}
@@ -46,15 +47,11 @@ ratios_same a b c d x y z w r e f g h k = e ∙ (λ i. rational_cmp (f i /ℚ g 
 pub some_more : (n : ℕ) (test : ℕ → Bool) → some_below n test ≡ false → test n ≡ false → some_below (n + 1) test ≡ false
 some_more n test e f = ap (λ k. some_below k test) (one_more n) ∙ (λ i. e i || f i)
 
-or_true : (a b : Bool) → b ≡ true → (a || b) ≡ true
-or_true true b e = refl
-or_true false b e = e
-
 pub some_found : (n k : ℕ) (test : ℕ → Bool) → k < n → test k ≡ true → some_below n test ≡ true
 some_found zero k test b e = absurd (omega (arith, b))
 some_found (suc n) k test b e =
     same_or_other (some_below (suc n) test ≡ true) k n
-    (λ q. or_true (some_below n test) (test n) (ap test (sym q) ∙ e))
+    (λ q. or_right (some_below n test) (test n) (ap test (sym q) ∙ e))
     (λ m. ap (λ x. x || test n) (some_found n k test (omega (arith, b, m)) e))
 
 -- ---- tests of the numbers from a on

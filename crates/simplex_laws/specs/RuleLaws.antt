@@ -6,7 +6,7 @@ use Rattle.std.proofs.lemmas.Option.{none-some}
 use Rattle.ratio_core.specs.Rational.{Rational, rational_eq, zero_ℚ, ◌≤ℚ◌}
 use Rattle.ratio_core.specs.RationalLaws.{rational_eq-false, rational_eq-true}
 use Rattle.rational_laws.specs.Order.{‹ℚ-≤ℚ_trans, ‹ℚ_from_≤ℚ_and_not, ≤ℚ_from_‹ℚ, ≤ℚ_from_≡, ≤ℚ-‹ℚ_trans}
-use Rattle.rational_laws.specs.Tests.{ge_from_failed, lt_from_test, test_from_lt}
+use Rattle.rational_laws.specs.Tests.{ge_from_failed, lt_from_test, nonzero_from_test, test_from_lt, zero_from_test}
 use Rattle.simplex_form.specs.Board.{price}
 use Rattle.simplex_form.specs.Readings.{Readings, basic_at}
 use Rattle.simplex_form.specs.Standing.{ComesFirst, Enters, HasNoNegativePrice, HasNoPositiveEntry, IsSwept, Leaves, Sweeps}
@@ -100,20 +100,6 @@ abbrev pub IsSweep : Readings → Option (ℕ × ℕ) → Type 0
 IsSweep R None = IsSwept R
 IsSweep R (Some found) = Sweeps R found.0 found.1
 
-zero_from_test : (p : Rational) → not (rational_eq p zero_ℚ) ≡ false → p ≡ zero_ℚ
-zero_from_test p = by_test (rational_eq p zero_ℚ) refl
-  where
-    by_test : (b : Bool) → rational_eq p zero_ℚ ≡ b → not b ≡ false → p ≡ zero_ℚ
-    by_test true e h = rational_eq-true p zero_ℚ e
-    by_test false e h = absurd (true≢false h)
-
-other_from_test : (p : Rational) → not (rational_eq p zero_ℚ) ≡ true → ¬ (p ≡ zero_ℚ)
-other_from_test p = by_test (rational_eq p zero_ℚ) refl
-  where
-    by_test : (b : Bool) → rational_eq p zero_ℚ ≡ b → not b ≡ true → ¬ (p ≡ zero_ℚ)
-    by_test true e h = absurd (true≢false (sym h))
-    by_test false e h = rational_eq-false p zero_ℚ e
-
 module _ (R : Readings) where
   abbrev ColumnMeans : ℕ → Option ℕ → Type 0
   ColumnMeans i o = IsLeast R.reals (λ j. not (rational_eq (R.entry j i) zero_ℚ)) o
@@ -144,7 +130,7 @@ module _ (R : Readings) where
             row = b;
             artificial = a;
             real = subst (λ j. j < R.reals) same h.0;
-            other = other_from_test (R.entry q r) (subst (λ j. not
+            other = nonzero_from_test (R.entry q r) (subst (λ j. not
                 (rational_eq (R.entry j r) zero_ℚ) ≡ true) same h.1);
             least_column =
                 λ j c. zero_from_test (R.entry j r) (h.2 j (subst (λ n. j < n) (sym same) c));

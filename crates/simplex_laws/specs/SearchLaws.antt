@@ -1,6 +1,7 @@
 -- What the least and the best below a bound are, and tests of the numbers below one.
 use Rattle.std.specs.Prelude.{◌≡◌, ℕ, zero, suc, ◌+◌, ◌<◌, ◌≤◌, Bool, true, false, ◌&&◌, ◌||◌, Option, Some, None, IfSome, if◌then◌else◌, refl}
 use Rattle.std.proofs.Common.{sym, ◌∙◌, ap, ap₂, arith, subst, true≢false}
+use Rattle.std.proofs.lemmas.Bool.{and_left, and_right, or_parts}
 use Rattle.simplex_form.specs.Search.{all_below, best_below, better_of, least_below, least_row, or_else, row_or_else, some_below}
 use Rattle.simplex_laws.specs.BoundedSumLaws.{same_or_other}
 
@@ -103,20 +104,13 @@ all_below_same zero f g e = refl
 all_below_same (suc n) f g e =
     ap₂ ◌&&◌ (all_below_same n f g (λ k b. e k (omega arith))) (e n (omega arith))
 
-and_false : (a b : Bool) → b ≡ false → (a && b) ≡ false
-and_false true b e = e
-and_false false b e = refl
-
-false_and : (a b : Bool) → a ≡ false → (a && b) ≡ false
-false_and a b e = ap (λ x. x && b) e
-
 -- one that fails
 pub all_below_failed : (n k : ℕ) (f : ℕ → Bool) → k < n → f k ≡ false → all_below n f ≡ false
 all_below_failed zero k f b e = absurd (omega arith)
 all_below_failed (suc n) k f b e =
     same_or_other (all_below (suc n) f ≡ false) k n
-    (λ q. and_false (all_below n f) (f n) (ap f (sym q) ∙ e))
-    (λ m. false_and (all_below n f) (f n) (all_below_failed n k f (omega (arith, m)) e))
+    (λ q. and_right (all_below n f) (f n) (ap f (sym q) ∙ e))
+    (λ m. and_left (all_below n f) (f n) (all_below_failed n k f (omega (arith, m)) e))
 
 -- one more that passes
 pub all_below_more : (n : ℕ) (f : ℕ → Bool) → all_below n f ≡ true → f n ≡ true
@@ -163,15 +157,11 @@ some_below_true (suc n) f e = by_test (some_below n f) refl (some_below_true n f
         in (found.0, omega (arith, found.1), found.2)
     by_test false g before h = (n, omega arith, h)
 
-or_false : (a b : Bool) → (a || b) ≡ false → (a ≡ false) × (b ≡ false)
-or_false true b e = absurd (true≢false e)
-or_false false b e = (refl, e)
-
 pub some_below_false : (n : ℕ) (f : ℕ → Bool) → some_below n f ≡ false → (k : ℕ) → k < n
     → f k ≡ false
 some_below_false zero f e = λ k b. absurd (omega (arith, b))
 some_below_false (suc n) f e =
-    let both : (some_below n f ≡ false) × (f n ≡ false) = or_false (some_below n f) (f n) e in
+    let both : (some_below n f ≡ false) × (f n ≡ false) = or_parts (some_below n f) (f n) e in
     below_or_at n (λ i. f i ≡ false) (some_below_false n f both.0) both.1
 
 pub some_below_same : (n : ℕ) (f g : ℕ → Bool) → ((k : ℕ) → k < n → f k ≡ g k)

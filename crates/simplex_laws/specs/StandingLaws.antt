@@ -20,12 +20,10 @@ use Rattle.simplex_laws.specs.BoundedSumLaws.{same_or_other}
 use Rattle.simplex_laws.specs.InverseLaws.{pivoted_unmoved, pivoted_zero}
 use Rattle.simplex_laws.specs.PivotLaws.{pivoted_at, pivoted_off, quotient_back}
 use Rattle.simplex_laws.specs.RuleLaws.{at_most_from_first}
+use Rattle.simplex_laws.specs.AgreementLaws.{real_column}
 
 pub above_not_zero : (p : Rational) → zero_ℚ ‹ℚ p → ¬ (p ≡ zero_ℚ)
 above_not_zero p h e = not_‹ℚ_from_≤ℚ zero_ℚ zero_ℚ (≤ℚ_refl zero_ℚ) (subst (λ x. zero_ℚ ‹ℚ x) e h)
-
-real_column : (q c m : ℕ) → q < c → q < c + m
-real_column q c m h = omega (arith, h)
 
 -- ---- right sides
 

@@ -14,7 +14,7 @@ use Rattle.bridge_graph.specs.declared.Choice.TheVariants.{By}
 use Rattle.expansion.specs.Bridged.{Bridged, EachBridged, by, each, natively, none}
 use Rattle.expansion.specs.Ranks.{RanksBelow}
 use Rattle.fresh_bridging.specs.CanLaws.{AreLawful, Can, down, rank_of, same_entry}
-use Rattle.fresh_bridging.specs.EachLaws.{all_both, all_first, all_seconds}
+use Rattle.map_laws.specs.EachLaws.{all_both, all_first, all_seconds}
 use Rattle.fresh_bridging.specs.Entries.{Entry, put_into}
 use Rattle.fresh_bridging.specs.ExistenceLaws.{ranked}
 use Rattle.fresh_bridging.specs.OmitLaws.{IsGroup, child_groups, edge_law, others_in}

@@ -19,7 +19,7 @@ use Rattle.bridge_face.specs.ComponentLaws.{length-components}
 use Rattle.bridge_face.specs.ImageOf.{begins_free, beyond, differences, free_at, group_at, image_by, inner, inner_functions, negations, opposite, sense_of, sums}
 use Rattle.bridge_face.specs.Images.{affine, child_at, component_of, cone_of, difference, each_component, first_in, function_of_body, lower_part, number_in, plain, raised, rest_of, upper_part, with_set}
 use Rattle.bridge_face.specs.Law.{expressed, listed}
-use Rattle.fresh_bridging.specs.EachLaws.{all_from_map}
+use Rattle.map_laws.specs.EachLaws.{all_from_map}
 use Rattle.fresh_bridging.specs.FitTests.{plus_fits}
 use Rattle.fresh_bridging.specs.TheRules.{fits_by}
 use Rattle.item_core.specs.declared.edge.Edge.{Edge}

@@ -13,7 +13,7 @@ use Rattle.bridge_graph.specs.declared.Choice.TheVariants.{By}
 use Rattle.expansion.specs.Bridged.{Bridged, EachBridged, EachBridgedIn, by, each, each_in, natively, none, none_in}
 use Rattle.expansion.specs.Read.{fits, fits_each, fits_in}
 use Rattle.fresh_bridging.specs.CanLaws.{AreLawful, Can}
-use Rattle.fresh_bridging.specs.EachLaws.{all_both}
+use Rattle.map_laws.specs.EachLaws.{all_both}
 use Rattle.fresh_bridging.specs.Entries.{Entry, put_in, put_in_fits, put_into_fits}
 use Rattle.fresh_bridging.specs.ExistenceLaws.{ranked}
 use Rattle.fresh_bridging.specs.OmitLaws.{IsGroup, child_groups}

@@ -5,10 +5,13 @@ use Rattle.std.specs.Prelude.{◌≡◌, ℕ, zero, suc, ◌+◌, ◌*◌, ◌^�
 use Rattle.std.proofs.Common.{sym, ap, ap₂, ◌∙◌, arith, true≢false}
 use Rattle.std.specs.List.{list_all, list_any}
 use Rattle.std.proofs.lemmas.Bool.Decides.{nat_tests}
+use Rattle.std.proofs.lemmas.Bool.{not-true}
+use Rattle.map_laws.specs.EachLaws.{all_at}
+use Rattle.map_laws.specs.TestLaws.{implied}
 use Rattle.bridge_graph.specs.Hypergraph.{IsCostly}
 use Rattle.bridge_graph.specs.declared.Choice.{Choice}
 use Rattle.fresh_bridging.specs.RankingLaws.{fewer_by_one, fewer_pass, rank}
-use Rattle.fresh_bridging.specs.TableLaws.{and_first, and_second, at_all, equal_kind, kind_stands}
+use Rattle.fresh_bridging.specs.TableLaws.{and_first, and_second, equal_kind, kind_stands}
 use Rattle.fresh_bridging.specs.TheRules.{AreChoices, Setting, graph_of}
 use Rattle.item_core.specs.declared.edge.EdgeEntry.{EdgeEntry}
 use Rattle.item_core.specs.declared.edge.TheConstants.{EDGES}
@@ -72,14 +75,6 @@ keeps_levels e =
 all_levels : list_all keeps_levels EDGES ≡ true
 all_levels = refl
 
-implied : (a b : Bool) → (not a || b) ≡ true → a ≡ true → b ≡ true
-implied true b h e = h
-implied false b h e = absurd (true≢false (sym e))
-
-denied : (b : Bool) → not b ≡ true → b ≡ false
-denied true h = absurd (true≢false (sym h))
-denied false h = refl
-
 -- the same of the edge at a number
 pub record KeepsLevels (e : EdgeEntry) : Type 0 where
   pub grows : making_of e.family ≡ summed → grows_at e.source ≡ true
@@ -94,7 +89,7 @@ levels_kept n e here =
     let third = not (is_lifting e.family) || lifts_at e.source in
     let fourth = not (has_exprs e.family) || not (list_any lifts_at (kinds_in e.children)) in
     let all : (first && (second && (third && fourth))) ≡ true =
-    at_all keeps_levels EDGES n e all_levels here in
+    all_at keeps_levels EDGES n e all_levels here in
     let others = and_second first (second && (third && fourth)) all in
     let last = and_second second (third && fourth) others in
     record {
@@ -104,7 +99,7 @@ levels_kept n e here =
           (and_first second (third && fourth) others) (ap is_splitting is);
       lifts = λ is. implied (is_lifting e.family) (lifts_at e.source)
           (and_first third fourth last) (ap is_lifting is);
-      unlifted = λ is. denied (list_any lifts_at (kinds_in e.children))
+      unlifted = λ is. not-true (list_any lifts_at (kinds_in e.children))
           (implied (has_exprs e.family) (not (list_any lifts_at (kinds_in e.children)))
           (and_second third fourth last) is);
     }

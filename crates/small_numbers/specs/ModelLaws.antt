@@ -12,7 +12,7 @@ use Rattle.expansion.specs.Bridged.{EachBridged, EachBridgedIn, each, each_in, n
 use Rattle.expansion.specs.Read.{fits, fits_each, fits_in, unfit_each, unfit_in}
 use Rattle.expansion.specs.Rules.{Rules}
 use Rattle.fresh_bridging.specs.CanLaws.{AreLawful, Can}
-use Rattle.fresh_bridging.specs.EachLaws.{all_both, all_first, all_second}
+use Rattle.map_laws.specs.EachLaws.{all_both, all_first, all_second}
 use Rattle.fresh_bridging.specs.Entries.{Entry, put_in}
 use Rattle.fresh_bridging.specs.ExistenceLaws.{groups_can_all, others_can_all, trees_of_bridged}
 use Rattle.fresh_bridging.specs.FreshBridging.{FreshBridging, HasTree}

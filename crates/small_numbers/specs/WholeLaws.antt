@@ -5,7 +5,7 @@ use Rattle.std.proofs.Math.Nat.{mul-le-mul}
 use Rattle.std.proofs.lemmas.Int.{ints, unsigned_abs-mul}
 use Rattle.ratio_core.specs.Gcd.{gcd, gcd-one}
 use Rattle.ratio_core.specs.Rational.{Fits, Rational, SumFits, common_divisor, left_term, neg_ℚ, one_ℚ, right_term, same_parts, sum_denominator, sum_of_terms, whole_ℚ, zero_ℚ, ◌*ℚ◌, ◌+ℚ◌}
-use Rattle.rational_laws.specs.Fitting.{neg_ℚ_parts}
+use Rattle.rational_laws.specs.Fitting.{neg_ℚ_parts, size_neg}
 use Rattle.rational_laws.specs.Ring.{whole_ℚ-*ℤ, whole_ℚ-+ℤ}
 use Rattle.rational_laws.specs.Whole.{*ℤ_pos_one}
 use Rattle.small_numbers.specs.Whole.{IsWholeWithin}
@@ -14,11 +14,6 @@ use Rattle.small_numbers.specs.Whole.{IsWholeWithin}
 
 size_sum : (m n : ℤ) → unsigned_abs (m +ℤ n) ≤ unsigned_abs m + unsigned_abs n
 size_sum m n = omega (arith, ints)
-
-size_neg : (z : ℤ) → unsigned_abs (neg_ℤ z) ≡ unsigned_abs z
-size_neg (pos zero) = refl
-size_neg (pos (suc n)) = refl
-size_neg (negsuc n) = refl
 
 -- ---- whole numbers
 

@@ -3,6 +3,7 @@ use Rattle.std.specs.Prelude.{◌≡◌, ℕ, ◌+◌, ◌*◌, ◌<◌, ◌≤�
 use Rattle.std.proofs.Common.{sym, ◌∙◌, ap, arith, subst, inl, inr, true≢false}
 use Rattle.std.proofs.lemmas.List.{get_or-set_other, get_or-set_same, length-set}
 use Rattle.std.proofs.lemmas.Nat.{mul-add-lt, mul-le}
+use Rattle.std.proofs.lemmas.Bool.{or_left, or_right}
 use Rattle.ratio_core.specs.Rational.{inverse_ℚ, zero_ℚ, ◌*ℚ◌, ◌/ℚ◌}
 use Rattle.rational_laws.specs.Field.{zero-*ℚ}
 use Rattle.simplex_laws.specs.BoundedSumLaws.{same_or_other}
@@ -95,14 +96,6 @@ pub record IsAlikeTo (q column m : ℕ) (old marks : List Bool) (i : ℕ) : Type
 
 pub alike_none : (q column m : ℕ) (old : List Bool) → IsAlikeTo q column m old old 0
 alike_none q column m old = record { long = refl; kept = keep_none old; marked = λ k b. absurd (omega (arith, b)) }
-
-or_left : (a b : Bool) → a ≡ true → (a || b) ≡ true
-or_left true b e = refl
-or_left false b e = absurd (true≢false (sym e))
-
-or_right : (a b : Bool) → b ≡ true → (a || b) ≡ true
-or_right true b e = refl
-or_right false b e = e
 
 -- a write that keeps a mark that stands
 write_keeps : (marks : List Bool) (p : ℕ) (t : Bool) → p < length marks → (slice_index_or marks p false ≡ true → t ≡ true) → KeepMarks marks (slice_set marks p t)

@@ -1,8 +1,8 @@
 -- The least number below a bound that passes a test, and what tests of numbers against 0 say.
-use Rattle.std.specs.Prelude.{◌≡◌, ℕ, zero, suc, ◌+◌, ◌<◌, ◌≤◌, Bool, true, false, not, Some, None, if◌then◌else◌, IsTrue, refl}
+use Rattle.std.specs.Prelude.{◌≡◌, ℕ, zero, suc, ◌+◌, ◌<◌, ◌≤◌, Bool, true, false, not, Some, None, if◌then◌else◌, IsTrue}
 use Rattle.std.proofs.Common.{sym, ◌∙◌, ap, arith, true≢false}
+use Rattle.rational_laws.specs.Tests.{nonzero_test, zero_test}
 use Rattle.ratio_core.specs.Rational.{Rational, rational_eq, zero_ℚ}
-use Rattle.ratio_core.specs.RationalLaws.{eq_rational_eq, rational_eq-true}
 use Rattle.simplex_laws.specs.BoundedSumLaws.{same_or_other}
 use Rattle.simplex_form.specs.Search.{least_below, or_else}
 
@@ -41,20 +41,10 @@ least_past (suc m) n test e b f =
 
 -- ---- tests against 0
 
-pub other_is : (v : Rational) → ¬ (v ≡ zero_ℚ) → not (rational_eq v zero_ℚ) ≡ true
-other_is v n = by_test (rational_eq v zero_ℚ) refl
-  where
-    by_test : (t : Bool) → rational_eq v zero_ℚ ≡ t → not t ≡ true
-    by_test true k = absurd (n (rational_eq-true v zero_ℚ k))
-    by_test false k = refl
-
-pub zero_is : (v : Rational) → v ≡ zero_ℚ → not (rational_eq v zero_ℚ) ≡ false
-zero_is v e = ap not (eq_rational_eq v zero_ℚ e)
-
-pub other_test : (b : Bool) (x v : Rational) → x ≡ v → (x ≡ zero_ℚ → IsTrue b) → b ≡ false
+pub nonzero_told : (b : Bool) (x v : Rational) → x ≡ v → (x ≡ zero_ℚ → IsTrue b) → b ≡ false
     → not (rational_eq v zero_ℚ) ≡ true
-other_test b x v is back e = other_is v (λ z. true≢false (sym (back (is ∙ z)) ∙ e))
+nonzero_told b x v is back e = nonzero_test v (λ z. true≢false (sym (back (is ∙ z)) ∙ e))
 
-pub zero_test : (b : Bool) (x v : Rational) → x ≡ v → (IsTrue b → x ≡ zero_ℚ) → b ≡ true
+pub zero_told : (b : Bool) (x v : Rational) → x ≡ v → (IsTrue b → x ≡ zero_ℚ) → b ≡ true
     → not (rational_eq v zero_ℚ) ≡ false
-zero_test b x v is forth e = zero_is v (sym is ∙ forth e)
+zero_told b x v is forth e = zero_test v (sym is ∙ forth e)

@@ -1,6 +1,7 @@
 -- A number lowered by a multiple: what of it must fit, and where it changes nothing.
 use Rattle.std.specs.Prelude.{◌≡◌, Bool, true, false, ◌&&◌, Result, Ok, Err, IsErr, is_ok, refl}
 use Rattle.std.proofs.Common.{sym, ◌∙◌, ap, ap₂, subst, true≢false}
+use Rattle.std.proofs.lemmas.Bool.{and_parts}
 use Rattle.ratio_core.specs.Rational.{Fits, Rational, SumFits, fits, neg_ℚ, sum_fits, zero_ℚ, ◌*ℚ◌, ◌+ℚ◌, ◌-ℚ◌}
 use Rattle.ratio_core.specs.RationalLaws.{fits_Decides, sum_fits_Decides}
 use Rattle.rational_laws.specs.Field.{*ℚ-zero, +ℚ-zero, neg_ℚ-zero, zero-*ℚ}
@@ -19,14 +20,10 @@ lowered_from : (a e t : Rational) → Fits (e *ℚ t) → SumFits a (neg_ℚ (e 
     → lowered_fits a e t ≡ true
 lowered_from a e t f g = ap₂ ◌&&◌ ((fits_Decides (e *ℚ t)).1 f) ((sum_fits_Decides a (neg_ℚ (e *ℚ t))).1 g)
 
-lowered_parts : (a b : Bool) → (a && b) ≡ true → (a ≡ true) × (b ≡ true)
-lowered_parts true b e = (refl, e)
-lowered_parts false b e = absurd (true≢false (sym e))
-
 lowered_at : (a e t : Rational) → lowered_fits a e t ≡ true
     → Fits (e *ℚ t) × SumFits a (neg_ℚ (e *ℚ t))
 lowered_at a e t h =
-    let both : (fits (e *ℚ t) ≡ true) × (sum_fits a (neg_ℚ (e *ℚ t)) ≡ true) = lowered_parts (fits (e *ℚ t)) (sum_fits a (neg_ℚ (e *ℚ t))) h in
+    let both : (fits (e *ℚ t) ≡ true) × (sum_fits a (neg_ℚ (e *ℚ t)) ≡ true) = and_parts (fits (e *ℚ t)) (sum_fits a (neg_ℚ (e *ℚ t))) h in
     ((fits_Decides (e *ℚ t)).0 both.0, (sum_fits_Decides a (neg_ℚ (e *ℚ t))).0 both.1)
 
 -- one number: a product or a difference that doesn't fit, and both that do

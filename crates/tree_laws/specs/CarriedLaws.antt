@@ -4,6 +4,7 @@ use Rattle.std.specs.FinMap as finite
 use Rattle.std.proofs.Common.{arith, inl, inr, sym, ap, ap₂, subst, ◌∙◌}
 use Rattle.std.proofs.lemmas.Grind.{flat_map-append}
 use Rattle.std.proofs.lemmas.List.Elements.{All-append, All-contains, All-map, All-weaker}
+use Rattle.std.proofs.lemmas.Bool.{false_from_ne_true}
 use Rattle.bridge_graph.specs.Hypergraph.{IsCostly}
 use Rattle.expansion.specs.Read.{leaves_in, leaves_of_each, model_leaves}
 use Rattle.ratio_core.specs.Rational.{Rational, neg_ℚ, zero_ℚ, ◌*ℚ◌, ◌+ℚ◌, ◌-ℚ◌, ◌≤ℚ◌}
@@ -21,12 +22,12 @@ use Rattle.item_core.specs.declared.item.Item.{Item}
 use Rattle.item_core.specs.Item.{functions_of, is_group}
 use Rattle.bridge_face.specs.Law.{held, inner_of}
 use Rattle.fresh_bridging.specs.CanLaws.{AreLawful}
-use Rattle.fresh_bridging.specs.EachLaws.{all_both, all_from_map}
+use Rattle.map_laws.specs.EachLaws.{all_both, all_from_map}
 use Rattle.fresh_bridging.specs.Entries.{Entry, function_in, put_in}
 use Rattle.fresh_bridging.specs.FreshBridging.{FreshBridging, leaves_of}
 use Rattle.fresh_bridging.specs.Leaves.{leaf_objectives, leaf_rows}
 use Rattle.fresh_bridging.specs.ModelImage.{model_image, objective_items, row_item}
-use Rattle.fresh_bridging.specs.ModelLaws.{IsFurther, further, not_mentioned, objective_omits}
+use Rattle.fresh_bridging.specs.ModelLaws.{IsFurther, further, objective_omits}
 use Rattle.fresh_bridging.specs.OmitLaws.{IsBelow}
 use Rattle.fresh_bridging.specs.TheRules.{Setting, graph_of}
 use Rattle.user_model.specs.Model.{ModelValue, objective_mentions, variables}
@@ -92,7 +93,7 @@ module _ (setting : Setting) (costly : IsCostly (graph_of setting)) (lawful : Ar
       (All-weaker (IsValidRow model.groups) (λ r. Misses v (row_item r))
       (λ r k. user_row_misses model.groups r k v h) model.rows valid.parts.valid_rows))
       (objective_omits model.objective v
-      (not_mentioned (objective_mentions v model.objective)
+      (false_from_ne_true (objective_mentions v model.objective)
       (λ t. not_in (all_addresses model.groups) v h
       (stands_in model.groups v (valid.parts.valid_objective.stand v t)))))
 

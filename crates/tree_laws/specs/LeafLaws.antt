@@ -23,6 +23,7 @@ use Rattle.aff_core.specs.Function.{variable}
 use Rattle.aff_core.specs.FunctionLists.{constants}
 use Rattle.linear_laws.specs.SupportLaws.{count}
 use Rattle.aff_core.specs.Points.{unit}
+use Rattle.aff_core.specs.FunctionLaws.{constant-variable}
 use Rattle.dual_laws.specs.Held.{DualsHold, Held, IsHeld, adjoint_of, gap_of}
 use Rattle.equality_form.specs.Right.{HasDuals, MayCost, held}
 use Rattle.item_core.specs.declared.item.Body.{Body}
@@ -36,10 +37,9 @@ use Rattle.item_core.specs.KindOf.{kind_of_body}
 use Rattle.item_core.specs.Valid.{IsValidItem}
 use Rattle.bridge_face.specs.Law.{held_body}
 use Rattle.fresh_bridging.specs.CanLaws.{AreLawful}
-use Rattle.fresh_bridging.specs.EachLaws.{all_from_map, all_first, all_second}
+use Rattle.map_laws.specs.EachLaws.{all_from_map, all_first, all_second}
 use Rattle.fresh_bridging.specs.Entries.{Entry, put_in}
 use Rattle.fresh_bridging.specs.Leaves.{leaf_objectives, leaf_rows, leaf_variable, leaf_variables}
-use Rattle.fresh_bridging.specs.MentionLaws.{variable_constant}
 use Rattle.fresh_bridging.specs.TheRules.{AreChoices, IsChoice, Setting, graph_of, rules_by}
 use Rattle.solver_store.specs.declared.leaf.LeafVar.{LeafVar}
 use Rattle.solver_store.specs.declared.leaf.LeafVar.TheVariants as leaf
@@ -261,7 +261,8 @@ module _ (d : LeafDuals) where
       each [] = All-nil (λ q. q ≡ zero_ℚ)
       each (v ∷ vs) =
           All-cons (λ q. q ≡ zero_ℚ) (variable {R = address_cmp} v).constant
-          (constants (map (variable {R = address_cmp}) vs)) (variable_constant v) (each vs)
+          (constants (map (variable {R = address_cmp}) vs)) (constant-variable address_cmp v)
+          (each vs)
 
   native_gap : (at : Address) (b : Body) → IsNativeGroup b
       → gap_of (leaf_held d (record { at = at; body = b })) ≡ zero_ℚ

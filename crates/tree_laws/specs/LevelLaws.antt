@@ -28,7 +28,7 @@ use Rattle.item_core.specs.declared.item.Item.{Item}
 use Rattle.item_core.specs.Item.{is_group, variables_of}
 use Rattle.bridge_face.specs.Law.{expressed, held, inner_of}
 use Rattle.fresh_bridging.specs.CanLaws.{AreLawful}
-use Rattle.fresh_bridging.specs.EachLaws.{all_first, all_second}
+use Rattle.map_laws.specs.EachLaws.{all_first, all_second}
 use Rattle.fresh_bridging.specs.Entries.{Entry, put_in}
 use Rattle.fresh_bridging.specs.TheRules.{AreChoices, Setting, graph_of, rules_by}
 use Rattle.address_laws.specs.Apart.{Avoids, Distinct, counted_never, counted_once, in_or_not, in_second}

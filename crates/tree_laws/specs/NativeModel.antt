@@ -10,6 +10,7 @@ use Rattle.std.proofs.lemmas.List.Elements.{All-append, All-cons, All-head, All-
 use Rattle.std.proofs.lemmas.List.Sorted.{All-permutation}
 use Rattle.std.proofs.lemmas.List.Sums.{AllPass-from_list_all}
 use Rattle.std.proofs.lemmas.Map.Views.{IsSome-lookup_from_Contains}
+use Rattle.rational_laws.specs.Tests.{zero_test}
 use Rattle.bridge_graph.specs.Hypergraph.{IsCostly}
 use Rattle.expansion.specs.Read.{leaves_in, leaves_of_each, model_leaves}
 use Rattle.map_laws.specs.EntryLaws.{find_at}
@@ -19,7 +20,6 @@ use Rattle.set_core.specs.declared.set.Set.{Set}
 use Rattle.set_core.specs.declared.set.Set.TheVariants as set
 use Rattle.aff_core.specs.Address.{Address, address_total}
 use Rattle.aff_core.specs.Function.{Function, coefficient, terms_of}
-use Rattle.aff_core.specs.FunctionLaws.{zero_test}
 use Rattle.aff_core.specs.Terms.{is_nonzero}
 use Rattle.equality_form.specs.Native.{HasEquations, IsNativeModel, IsNativeRow, NamesVariables}
 use Rattle.item_core.specs.declared.item.Body.{Body}
@@ -29,7 +29,7 @@ use Rattle.item_core.specs.Item.{functions_of}
 use Rattle.item_core.specs.Kind.{is_native}
 use Rattle.item_core.specs.KindOf.{affine_kind_of, kind_of_body, plain_kind_of}
 use Rattle.fresh_bridging.specs.CanLaws.{AreLawful}
-use Rattle.fresh_bridging.specs.EachLaws.{all_both, all_first, all_second}
+use Rattle.map_laws.specs.EachLaws.{all_both, all_first, all_second}
 use Rattle.fresh_bridging.specs.Entries.{put_in}
 use Rattle.fresh_bridging.specs.FreshBridging.{FreshBridging, leaves_of}
 use Rattle.fresh_bridging.specs.Leaves.{leaf_objectives, leaf_rows, leaf_variables}

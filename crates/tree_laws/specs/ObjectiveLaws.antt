@@ -55,19 +55,14 @@ one_last (r ∷ rows) o h k =
       one_last rows o (All-tail (λ x. is_objective x.body ≡ false) r rows h) k,
     )
 
-not_one : (i : Item) → is_objective i.body ≡ false → leaf_objectives i ≡ []
-not_one i = by i.body
+pub no_leaf_objective : (i : Item) → is_objective i.body ≡ false → leaf_objectives i ≡ []
+no_leaf_objective i = by i.body
   where
     by : (b : Body) → is_objective b ≡ false
         → leaf_objectives (record { at = i.at; body = b }) ≡ []
-    by (Group s vars) h = refl
-    by (Free vars) h = refl
-    by (Plain var s) h = refl
-    by (Affine func s) h = refl
-    by (PlainVec vars s) h = refl
-    by (AffineVec funcs s) h = refl
     by (PlainObj sense var) h = absurd (true≢false h)
     by (AffineObj sense func) h = absurd (true≢false h)
+    by _ h = refl
 
 -- an objective is one
 pub itself_one : (i : Item) → is_objective i.body ≡ true
@@ -89,7 +84,7 @@ pub none_at_all : (items : List Item) → All (λ x. is_objective x.body ≡ fal
     → flat_map leaf_objectives items ≡ []
 none_at_all [] h = refl
 none_at_all (i ∷ items) h =
-    ap₂ ◌++◌ (not_one i (All-head (λ x. is_objective x.body ≡ false) i items h))
+    ap₂ ◌++◌ (no_leaf_objective i (All-head (λ x. is_objective x.body ≡ false) i items h))
     (none_at_all items (All-tail (λ x. is_objective x.body ≡ false) i items h))
 
 pub one_behind : (xs ys : List Item) → All (λ x. is_objective x.body ≡ false) xs → HasOne ys

@@ -5,6 +5,7 @@ use Rattle.std.specs.List.Sorted.{IsPermutation}
 use Rattle.std.proofs.Common.{arith, sym, ap, ap₂, subst, ◌∙◌, true≢false}
 use Rattle.std.proofs.lemmas.List.Elements.{All-append, All-cons, All-head, All-map, All-nil}
 use Rattle.std.proofs.lemmas.List.Sorted.{length_permutation}
+use Rattle.std.proofs.lemmas.List.{nil_from_length}
 use Rattle.bridge_graph.specs.Hypergraph.{IsCostly}
 use Rattle.expansion.specs.Bridged.{EachBridgedIn}
 use Rattle.expansion.specs.Read.{leaves_in, leaves_of_each, model_leaves}
@@ -14,7 +15,7 @@ use Rattle.rational_laws.specs.Order.{≤ℚ_from_≡}
 use Rattle.rational_laws.specs.Ring.{as_expression, by_ring, ring₂, zero_as}
 use Rattle.aff_core.specs.Address.{Address, address_cmp}
 use Rattle.aff_core.specs.Function.{Function, coefficient, constant_function, evaluated, variable}
-use Rattle.aff_core.specs.FunctionLaws.{constant-function_of}
+use Rattle.aff_core.specs.FunctionLaws.{constant-constant_function, constant-function_of}
 use Rattle.linear_laws.specs.ListLaws.{evaluated_constant_function}
 use Rattle.dual_laws.specs.Held.{Held, adjoint, gap}
 use Rattle.certificates.specs.Points.{objective_function, sense_of}
@@ -54,11 +55,6 @@ one_weighed o c = +ℚ-zero (o *ℚ c +ℚ zero_ℚ) ∙ +ℚ-zero (o *ℚ c)
 one_gap : (o c : Rational)
     → (zero_ℚ *ℚ o -ℚ (o *ℚ c +ℚ zero_ℚ)) +ℚ zero_ℚ ≡ neg_ℚ (o *ℚ c)
 one_gap = ring₂ _ (λ ρ. simp (as_expression, zero_as ρ) (by_ring ρ _ _ refl))
-
-constant_of : (k : Rational) → (constant_function {R = address_cmp} k).constant ≡ k
-unfolding constant_function
-constant_of k = constant-function_of address_cmp [] k
-
 -- without an objective nothing is weighed
 none_weighed : (o : Rational) (v : Address)
     → zero_ℚ ≡ o *ℚ coefficient (constant_function {R = address_cmp} zero_ℚ) v
@@ -67,7 +63,8 @@ none_weighed o v = sym (ap (λ q. o *ℚ q) (constant_misses v) ∙ *ℚ-zero o)
 none_gap : (o : Rational) → zero_ℚ ≡ neg_ℚ (o *ℚ (constant_function {R = address_cmp}
     zero_ℚ).constant)
 none_gap o =
-    sym (ap (λ q. neg_ℚ (o *ℚ q)) (constant_of zero_ℚ) ∙ ap neg_ℚ (*ℚ-zero o) ∙ neg_ℚ-zero)
+    sym (ap (λ q. neg_ℚ (o *ℚ q)) (constant-constant_function address_cmp zero_ℚ)
+    ∙ ap neg_ℚ (*ℚ-zero o) ∙ neg_ℚ-zero)
 
 -- the objective weighs its cost, and its gap is that of the constant
 pub record Weighs (o : Rational) (f : Function) (hs : List Held) : Type 0 where
@@ -121,10 +118,6 @@ objective_entries (i ∷ items) =
     All-append (λ e. is_objective e.1 ≡ true) (leaf_objectives i) (flat_map leaf_objectives items)
     (objective_entry i) (objective_entries items)
 
-no_entries : {X : Type 0} (xs : List X) → length xs ≡ 0 → xs ≡ []
-no_entries [] n = refl
-no_entries (x ∷ xs) n = absurd (omega (arith, n))
-
 module _ (setting : Setting) (costly : IsCostly (graph_of setting)) (lawful : AreLawful setting)
     (native : SupportsNativeKinds setting) (model : ModelValue) (valid : IsValid model)
     (bridging : FreshBridging setting model) where
@@ -157,7 +150,7 @@ module _ (setting : Setting) (costly : IsCostly (graph_of setting)) (lawful : Ar
   unfolding model_leaves
   no_cost e =
       ap cost_among
-      (no_entries (finite.entries (leaves_of bridging).objective)
+      (nil_from_length (finite.entries (leaves_of bridging).objective)
       (length_permutation [] (finite.entries (leaves_of bridging).objective)
       (subst (λ l. IsPermutation l (finite.entries (leaves_of bridging).objective)) (none_here e)
       (each_apart setting costly lawful model valid bridging).objective.entries)))

@@ -28,12 +28,12 @@ use Rattle.item_core.specs.declared.item.Item.{Item}
 use Rattle.item_core.specs.Item.{functions_of, is_group, set_of}
 use Rattle.bridge_face.specs.Law.{HoldsAt, Miss, cost_of, held_body, inner_of, is_objective, row_set}
 use Rattle.fresh_bridging.specs.CanLaws.{AreLawful}
-use Rattle.fresh_bridging.specs.EachLaws.{all_both, all_first, all_from_map, all_second}
+use Rattle.map_laws.specs.EachLaws.{all_both, all_first, all_from_map, all_second}
 use Rattle.fresh_bridging.specs.Entries.{put_in}
 use Rattle.fresh_bridging.specs.FreshBridging.{FreshBridging, leaves_of}
 use Rattle.fresh_bridging.specs.Leaves.{leaf_objectives, leaf_rows, leaf_variables}
 use Rattle.fresh_bridging.specs.ModelImage.{group_item, model_image, objective_item, objective_items, row_body, row_item}
-use Rattle.fresh_bridging.specs.ModelLaws.{IsFurther, further}
+use Rattle.fresh_bridging.specs.ModelLaws.{IsFurther, further, row_no_group}
 use Rattle.fresh_bridging.specs.TheRules.{Setting, graph_of}
 use Rattle.solver_store.specs.declared.leaf.LeafVar.{LeafVar}
 use Rattle.solver_store.specs.declared.leaf.LeafVar.TheVariants as leaf
@@ -170,12 +170,6 @@ row_no_objective (func.Plain var) s = refl
 row_no_objective (func.Affine f) s = refl
 row_no_objective (func.PlainVec vars) s = refl
 row_no_objective (func.AffineVec fs) s = refl
-
-pub row_no_group : (f : UserFunc) (s : Set) → is_group (row_body f s) ≡ false
-row_no_group (func.Plain var) s = refl
-row_no_group (func.Affine f) s = refl
-row_no_group (func.PlainVec vars) s = refl
-row_no_group (func.AffineVec fs) s = refl
 
 -- ---- the user's model
 

@@ -26,7 +26,7 @@ use Rattle.bridge_face.specs.ImageOf.{image_of}
 use Rattle.bridge_face.specs.Law.{Miss, MentionsKnown, expressed, inner_of}
 use Rattle.fresh_bridging.specs.BodyLaws.{functions_put}
 use Rattle.fresh_bridging.specs.CanLaws.{AreLawful}
-use Rattle.fresh_bridging.specs.EachLaws.{all_both, all_from_map, all_first, all_second, all_seconds}
+use Rattle.map_laws.specs.EachLaws.{all_both, all_from_map, all_first, all_second, all_seconds}
 use Rattle.fresh_bridging.specs.Entries.{Entry, function_in, put_in, put_into}
 use Rattle.fresh_bridging.specs.MentionLaws.{AllOmit, Omits}
 use Rattle.fresh_bridging.specs.OmitLaws.{IsBelowAt}

@@ -16,7 +16,7 @@ use Rattle.aff_core.specs.Address.{Address, address_cmp}
 use Rattle.aff_core.specs.Arithmetic.{composed}
 use Rattle.aff_core.specs.ArithmeticLaws.{coefficient-composed, constant-composed}
 use Rattle.aff_core.specs.Function.{Function, coefficient, value_of, variable}
-use Rattle.aff_core.specs.FunctionLaws.{same_coefficients}
+use Rattle.aff_core.specs.FunctionLaws.{constant-variable, same_coefficients}
 use Rattle.aff_core.specs.FunctionLists.{coefficients, constants}
 use Rattle.aff_core.specs.KeyOrder.{address_order}
 use Rattle.aff_core.specs.Points.{unit}
@@ -26,9 +26,9 @@ use Rattle.linear_laws.specs.SupportLaws.{support, support_supports, supports_fi
 use Rattle.dual_laws.specs.Held.{DualsHold, Held, IsHeld, adjoint, adjoint_of, gap, gap_of, pull, pull_of}
 use Rattle.dual_laws.specs.PullLaws.{adjoint-append, gap-append, mentioned_in, pull_over, pull_same}
 use Rattle.bridge_face.specs.Law.{Miss}
-use Rattle.fresh_bridging.specs.EachLaws.{all_from_map}
+use Rattle.map_laws.specs.EachLaws.{all_from_map}
 use Rattle.fresh_bridging.specs.Entries.{Entry, function_in}
-use Rattle.fresh_bridging.specs.MentionLaws.{slope_zero, variable_constant}
+use Rattle.fresh_bridging.specs.MentionLaws.{slope_zero}
 use Rattle.tree_laws.specs.Carried.{StandFor, constants_in, seen, seen_at, through}
 
 module _ (entries : List Entry) where
@@ -134,7 +134,7 @@ module _ (entries : List Entry) where
       (constant-composed address_order (function_in entries) f
       ∙ ap (λ q. f.constant +ℚ q)
       (slope_agreeing f (constants_in entries) (λ _. zero_ℚ)
-      (λ u some. ap (λ (g : Function). g.constant) (h u some) ∙ variable_constant u)
+      (λ u some. ap (λ (g : Function). g.constant) (h u some) ∙ constant-variable address_cmp u)
       ∙ slope_zero f)
       ∙ +ℚ-zero f.constant)
 

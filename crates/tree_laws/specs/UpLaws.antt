@@ -27,7 +27,7 @@ use Rattle.bridge_face.specs.BackOf.{head_of}
 use Rattle.bridge_face.specs.ImageOf.{image_of}
 use Rattle.bridge_face.specs.Law.{ChildrenHold, HoldsAt, cost_of, held_body, held_item, inner_of, is_objective, listed, row_functions}
 use Rattle.fresh_bridging.specs.CanLaws.{AreLawful}
-use Rattle.fresh_bridging.specs.EachLaws.{all_both, all_first, all_from_map, all_second}
+use Rattle.map_laws.specs.EachLaws.{all_both, all_first, all_from_map, all_second}
 use Rattle.fresh_bridging.specs.Entries.{Entry, function_in, put_in, put_in_body}
 use Rattle.fresh_bridging.specs.TheRules.{AreChoices, Setting, edge_at, graph_of, outer_entries, own_entries, rules_by}
 use Rattle.address_laws.specs.Apart.{Distinct, distinct-second}

@@ -16,7 +16,7 @@ use Rattle.equality_form.specs.EqualityForm.{cost}
 use Rattle.equality_form.specs.Right.{AreDuals as AreLeafDuals, held_rows}
 use Rattle.bridge_face.specs.Law.{held}
 use Rattle.fresh_bridging.specs.CanLaws.{AreLawful}
-use Rattle.fresh_bridging.specs.EachLaws.{all_first, all_second}
+use Rattle.map_laws.specs.EachLaws.{all_first, all_second}
 use Rattle.fresh_bridging.specs.FreshBridging.{FreshBridging, leaves_of}
 use Rattle.fresh_bridging.specs.Leaves.{leaf_objectives}
 use Rattle.fresh_bridging.specs.ModelImage.{model_image, objective_items, row_item}

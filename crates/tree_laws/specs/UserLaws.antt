@@ -5,6 +5,7 @@ use Rattle.std.proofs.Common.{arith, inl, inr, sym, ap, ap₂, subst, ◌∙◌,
 use Rattle.std.proofs.lemmas.Bool.Decides.{Decides-eqb}
 use Rattle.std.proofs.lemmas.List.{map-append}
 use Rattle.std.proofs.lemmas.List.Elements.{All-cons, All-head, All-nil, All-tail, Contains-append_left, Contains-append_right}
+use Rattle.std.proofs.lemmas.Bool.{false_from_ne_true}
 use Rattle.map_laws.specs.OptionLaws.{not_some}
 use Rattle.ratio_core.specs.Rational.{Rational, zero_ℚ}
 use Rattle.set_core.specs.declared.set.Set.{Set}
@@ -24,10 +25,10 @@ use Rattle.user_model.specs.declared.function.UserFunc.TheVariants.{Plain, Affin
 use Rattle.user_model.specs.declared.group.Group.{Group}
 use Rattle.user_model.specs.declared.group.GroupVar.{GroupVar}
 use Rattle.user_model.specs.declared.row.Row.{Row}
-use Rattle.fresh_bridging.specs.EachLaws.{all_first, all_second}
+use Rattle.map_laws.specs.EachLaws.{all_first, all_second, contains_here, contains_later}
 use Rattle.fresh_bridging.specs.ModelImage.{group_item, row_body}
-use Rattle.fresh_bridging.specs.ModelLaws.{not_mentioned, row_omits}
-use Rattle.address_laws.specs.Apart.{Avoids, contains_here, contains_later, in_or_not, not_in}
+use Rattle.fresh_bridging.specs.ModelLaws.{row_omits}
+use Rattle.address_laws.specs.Apart.{Avoids, in_or_not, not_in}
 
 -- ---- the variables
 
@@ -87,7 +88,7 @@ pub user_row_misses : (groups : List Group) (row : Row) → IsValidRow groups ro
     → Avoids (all_addresses groups) v → Miss (functions_of (row_body row.func row.set)) v
 user_row_misses groups row valid v h =
     row_omits row.func row.set v
-    (not_mentioned (func_mentions v row.func)
+    (false_from_ne_true (func_mentions v row.func)
     (λ t. not_in (all_addresses groups) v h (stands_in groups v (valid.stand v t))))
 
 pub row_functions_are : (func : UserFunc) (s : Set)

@@ -3,6 +3,7 @@ use Rattle.std.specs.Prelude.{◌≡◌, List, [], ◌∷◌, map}
 use Rattle.std.proofs.Common.{sym, ap, subst, ◌∙◌}
 use Rattle.std.proofs.lemmas.List.{length-map}
 use Rattle.std.proofs.lemmas.List.Elements.{All-cons, All-head, All-nil, All-weaker}
+use Rattle.std.proofs.lemmas.Bool.{false_from_ne_true}
 use Rattle.bridge_graph.specs.Hypergraph.{IsCostly}
 use Rattle.ratio_core.specs.Rational.{Rational, one_ℚ, zero_ℚ, ◌≤ℚ◌, ◌‹ℚ◌}
 use Rattle.rational_laws.specs.Order.{≤ℚ-‹ℚ_trans, ≤ℚ_refl}
@@ -25,7 +26,7 @@ use Rattle.fresh_bridging.specs.CanLaws.{AreLawful}
 use Rattle.fresh_bridging.specs.Entries.{function_in}
 use Rattle.fresh_bridging.specs.FreshBridging.{FreshBridging, leaves_of}
 use Rattle.fresh_bridging.specs.ModelImage.{objective_item}
-use Rattle.fresh_bridging.specs.ModelLaws.{not_mentioned, objective_omits}
+use Rattle.fresh_bridging.specs.ModelLaws.{objective_omits}
 use Rattle.fresh_bridging.specs.TheRules.{Setting, graph_of}
 use Rattle.item_core.specs.declared.item.Body.TheVariants.{PlainObj, AffineObj}
 use Rattle.item_core.specs.Item.{functions_of as item_functions}
@@ -60,12 +61,12 @@ module _ (setting : Setting) (costly : IsCostly (graph_of setting)) (lawful : Ar
       by (objective.Plain sense var) k =
           All-head (λ i. Miss (item_functions i.body) v) (objective_item (PlainObj sense var)) []
           (objective_omits (objective.Plain sense var) v
-          (not_mentioned (objective_mentions v (objective.Plain sense var))
+          (false_from_ne_true (objective_mentions v (objective.Plain sense var))
           (λ t. not_in (all_addresses model.groups) v h (stands_in model.groups v (k.stand v t)))))
       by (objective.Affine sense f) k =
           All-head (λ i. Miss (item_functions i.body) v) (objective_item (AffineObj sense f)) []
           (objective_omits (objective.Affine sense f) v
-          (not_mentioned (objective_mentions v (objective.Affine sense f))
+          (false_from_ne_true (objective_mentions v (objective.Affine sense f))
           (λ t. not_in (all_addresses model.groups) v h (stands_in model.groups v (k.stand v t)))))
 
   -- ---- points and rays

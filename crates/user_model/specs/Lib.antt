@@ -12,3 +12,4 @@ pub mod UndoLaws
 pub mod Valid
 pub mod Accepted
 pub mod SameUpToNumbers
+pub mod PositionLaws

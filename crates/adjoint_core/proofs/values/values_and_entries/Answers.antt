@@ -1,11 +1,11 @@
 use Rattle.std.specs.Prelude.{◌++◌, ◌∷◌, [], All, map}
 use Rattle.std.proofs.Common.{◌∙◌, ap, ap₂, sym}
 use Rattle.std.proofs.lemmas.List.{take_all}
+use Rattle.map_laws.specs.LoopLaws.{map-take_more}
 use Rattle.ratio_core.specs.Rational.{one_ℚ, zero_ℚ}
 use Rattle.aff_core.specs.Function.{evaluated}
 use Rattle.cert_core.specs.Folds.{EvaluationFits}
 use Rattle.cert_core.specs.Points.{numbers_in}
-use Rattle.cert_core.proofs.Steps.{map-take_more}
 use Rattle.adjoint_core.specs.Read.{expression_at}
 use Rattle.adjoint_core.specs.Told.{FirstNot}
 use Rattle.adjoint_core.proofs.InOrder.{made_end, made_refused, made_step, told_on}

@@ -2,7 +2,7 @@ use Rattle.std.specs.Prelude.{[], ◌∷◌, ◌++◌, cond}
 use Rattle.std.proofs.Common.{sym, ap, ◌∙◌, refl}
 use Rattle.std.proofs.lemmas.Bool.{false≢true}
 use Rattle.std.proofs.lemmas.List.{append-nil}
-use Rattle.aff_core.specs.FunctionLaws.{nonzero_test, zero_test}
+use Rattle.rational_laws.specs.Tests.{nonzero_test, zero_test}
 use Rattle.aff_core.proofs.terms.push_nonzero.Goals as goal
 
 pub returns-in_ok-push : goal.returns-in_ok-push

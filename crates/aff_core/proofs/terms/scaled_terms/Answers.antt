@@ -1,9 +1,9 @@
 use Rattle.std.specs.Prelude.{◌∷◌, [], ◌++◌, filter, take}
 use Rattle.std.proofs.Common.{sym, ap, subst, ◌∙◌}
 use Rattle.std.proofs.lemmas.List.Elements.{All-more, filter-append}
+use Rattle.map_laws.specs.LoopLaws.{map-take_more}
 use Rattle.ratio_core.specs.Rational.{◌*ℚ◌, Fits}
 use Rattle.aff_core.specs.Terms.{is_nonzero, times}
-use Rattle.aff_core.proofs.Values.{map-take_more}
 use Rattle.aff_core.proofs.terms.scaled_terms.Goals as goal
 
 pub loop-key-preserved : goal.loop-key-preserved

@@ -2,12 +2,12 @@ use Rattle.std.specs.Prelude.{◌≡◌, ℕ, ◌<◌, List, ◌∷◌, [], ◌+
 use Rattle.std.proofs.Common.{sym, ap, subst, ◌∙◌, ◌+◌, drop, get_or, refl}
 use Rattle.std.proofs.lemmas.List.{get_or_default}
 use Rattle.std.specs.declared.cmp.Ordering.TheVariants.{Less, Equal, Greater}
+use Rattle.map_laws.specs.LoopLaws.{next_item}
 use Rattle.ratio_core.specs.Rational.{SumFits, ◌+ℚ◌}
 use Rattle.aff_core.specs.Terms.{is_nonzero}
-use Rattle.aff_core.proofs.Answered.{overflowed}
+use Rattle.aff_core.specs.AnsweredLaws.{overflowed}
 use Rattle.aff_core.proofs.Changed.{rest_of}
 use Rattle.aff_core.proofs.Summing.{first_kept, merged-start, merged-less, merged-equal, merged-greater, merged-refused, summed-more, summed-end_left, summed-end_right}
-use Rattle.aff_core.proofs.Values.{next_term}
 use Rattle.aff_core.proofs.terms.summed_terms.Goals as goal
 use Rattle.aff_core.proofs.terms.summed_terms.Goals.{then-loop-i-test+else-j-right, else-loop-i-test}
 
@@ -34,8 +34,8 @@ loop-i-preserved-in-Less g c =
     let f = c.index-left-i.result in
     let h = c.index-right-j.result in
     let so_far = c.loop-i.invariant in
-    let at_i = next_term left left i f refl c.index-left-i.is c.loop-i-test.true in
-    let at_j = next_term right right j h refl c.index-right-j.is c.if-j-right.true in
+    let at_i = next_item left left i f refl c.index-left-i.is c.loop-i-test.true in
+    let at_j = next_item right right j h refl c.index-right-j.is c.if-j-right.true in
     let less : g.K.Ord.cmp f.0 h.0 ≡ Less = (λ k. g.K.Ord.cmp (c.index-left-i.is k).0 (c.index-right-j.is k).0) ∙ (sym c.cmp.ensures ∙ c.in-Less.is) in
     let again : c.index-left-i-in-Less.result ≡ f = read_again left i f c.index-left-i-in-Less.result c.index-left-i.is c.index-left-i-in-Less.is c.loop-i-test.true in
     let pushed : c.push.new.self.items ≡ c.loop-i.summed.items ++ filter is_nonzero (f ∷ []) = c.in_ok-push-in-Less.ensures.items ∙ ap (λ t. c.loop-i.summed.items ++ t ∷ []) again ∙ ap (λ l. c.loop-i.summed.items ++ l) (sym (first_kept i left (drop (i + 1) left) f c.requires.left_nonzero at_i)) in
@@ -52,8 +52,8 @@ returns-in_err-sum-in-Equal g c =
     let f = c.index-left-i.result in
     let h = c.index-right-j.result in
     let so_far = c.loop-i.invariant in
-    let at_i = next_term left left i f refl c.index-left-i.is c.loop-i-test.true in
-    let at_j = next_term right right j h refl c.index-right-j.is c.if-j-right.true in
+    let at_i = next_item left left i f refl c.index-left-i.is c.loop-i-test.true in
+    let at_j = next_item right right j h refl c.index-right-j.is c.if-j-right.true in
     let tied : g.K.Ord.cmp f.0 h.0 ≡ Equal = (λ k. g.K.Ord.cmp (c.index-left-i.is k).0 (c.index-right-j.is k).0) ∙ (sym c.cmp.ensures ∙ c.in-Equal.is) in
     let one : get_or left i c.index-left-i-in-Equal.result ≡ f = read_as left i f c.index-left-i-in-Equal.result c.index-left-i.is c.loop-i-test.true in
     let two : get_or right j c.index-right-j-in-Equal.result ≡ h = read_as right j h c.index-right-j-in-Equal.result c.index-right-j.is c.if-j-right.true in
@@ -70,8 +70,8 @@ loop-i-preserved-in-Equal g c =
     let f = c.index-left-i.result in
     let h = c.index-right-j.result in
     let so_far = c.loop-i.invariant in
-    let at_i = next_term left left i f refl c.index-left-i.is c.loop-i-test.true in
-    let at_j = next_term right right j h refl c.index-right-j.is c.if-j-right.true in
+    let at_i = next_item left left i f refl c.index-left-i.is c.loop-i-test.true in
+    let at_j = next_item right right j h refl c.index-right-j.is c.if-j-right.true in
     let tied : g.K.Ord.cmp f.0 h.0 ≡ Equal = (λ k. g.K.Ord.cmp (c.index-left-i.is k).0 (c.index-right-j.is k).0) ∙ (sym c.cmp.ensures ∙ c.in-Equal.is) in
     let one : get_or left i c.index-left-i-in-Equal.result ≡ f = read_as left i f c.index-left-i-in-Equal.result c.index-left-i.is c.loop-i-test.true in
     let two : get_or right j c.index-right-j-in-Equal.result ≡ h = read_as right j h c.index-right-j-in-Equal.result c.index-right-j.is c.if-j-right.true in
@@ -91,8 +91,8 @@ loop-i-preserved g c =
     let f = c.index-left-i.result in
     let h = c.index-right-j.result in
     let so_far = c.loop-i.invariant in
-    let at_i = next_term left left i f refl c.index-left-i.is c.loop-i-test.true in
-    let at_j = next_term right right j h refl c.index-right-j.is c.if-j-right.true in
+    let at_i = next_item left left i f refl c.index-left-i.is c.loop-i-test.true in
+    let at_j = next_item right right j h refl c.index-right-j.is c.if-j-right.true in
     let greater : g.K.Ord.cmp f.0 h.0 ≡ Greater = (λ k. g.K.Ord.cmp (c.index-left-i.is k).0 (c.index-right-j.is k).0) ∙ (sym c.cmp.ensures ∙ c.in-Greater.is) in
     let again : c.index-right-j-in-Greater.result ≡ h = read_again right j h c.index-right-j-in-Greater.result c.index-right-j.is c.index-right-j-in-Greater.is c.if-j-right.true in
     let pushed : c.push-in-Greater.new.self.items ≡ c.loop-i.summed.items ++ filter is_nonzero (h ∷ []) = c.in_ok-push-in-Greater.ensures.items ∙ ap (λ t. c.loop-i.summed.items ++ t ∷ []) again ∙ ap (λ l. c.loop-i.summed.items ++ l) (sym (first_kept j right (drop (j + 1) right) h c.requires.right_nonzero at_j)) in

@@ -1,6 +1,7 @@
 use Rattle.std.proofs.Common.{◌≡◌, ◌-◌, length, ap, sym, subst, ◌∙◌, arith, rules}
 use Rattle.std.specs.Prelude.{IsTrue}
 use Rattle.std.specs.Vec.Iter.{into_iter_items}
+use Rattle.std.proofs.lemmas.List.{nil_from_length}
 use Rattle.bridge_graph.specs.declared.Choice.TheVariants.{By}
 use Rattle.item_core.specs.Kind.{kind_number}
 use Rattle.item_core.specs.KindOf.{kind_of_body}
@@ -9,9 +10,9 @@ use Rattle.bridge_face.specs.declared.kept_item.KeptItem.{KeptItem}
 use Rattle.bridge_plan.specs.Adds.{kept_of}
 use Rattle.bridge_plan.specs.declared.plan.Plan.{Plan}
 use Rattle.bridge_plan.specs.Worked.{worked, worked_in}
-use Rattle.bridge_plan.specs.InTurn.{EachSoFar, InSoFar, each_end, each_needs, each_start, each_step, in_end, in_needs_made, in_needs_put, in_start, in_step, nothing_left}
+use Rattle.bridge_plan.specs.InTurn.{EachSoFar, InSoFar, each_end, each_needs, each_start, each_step, in_end, in_needs_made, in_needs_put, in_start, in_step}
 use Rattle.bridge_plan.proofs.ItemCases.{planned_by, planned_natively}
-use Rattle.bridge_face.specs.AnsweredLaws.{passed_on}
+use Rattle.aff_core.specs.AnsweredLaws.{passed_on}
 use Rattle.bridge_plan.proofs.NodeSteps.{needs_further, node_answered, node_read, others_ready, pushed_node, stands_alike}
 use Rattle.bridge_plan.proofs.Opened.{never_missing, opened, some_level}
 use Rattle.bridge_plan.proofs.planning.+planning.Goals as goal
@@ -57,7 +58,7 @@ pub plan_each-returns-clause-answer : goal.plan_each-returns-clause-answer
 plan_each-returns-clause-answer g t c =
     let first = g.R.Rewriter.means c.args.rewriter.now in
     let at = c.loop-group in
-    each_end first c.args.levels c.args.groups (into_iter_items at.group-iterator) c.args.plan.now at.plan c.args.entries.now.items at.entries.items (g.R.Rewriter.means at.rewriter) at.invariant.0 (nothing_left _ (sym at.invariant.1 ∙ c.in-None.ensures.steps.0))
+    each_end first c.args.levels c.args.groups (into_iter_items at.group-iterator) c.args.plan.now at.plan c.args.entries.now.items at.entries.items (g.R.Rewriter.means at.rewriter) at.invariant.0 (nil_from_length _ (sym at.invariant.1 ∙ c.in-None.ensures.steps.0))
 
 pub plan_in-loop-item-init : goal.plan_in-loop-item-init
 plan_in-loop-item-init g t c =
@@ -111,7 +112,7 @@ pub plan_in-returns-clause-answer : goal.plan_in-returns-clause-answer
 plan_in-returns-clause-answer g t c =
     let first = g.R.Rewriter.means c.args.rewriter.now in
     let at = c.loop-item in
-    in_end first c.args.levels c.args.standing.now c.args.items.items (into_iter_items at.item-iterator) c.args.plan.now at.plan (g.R.Rewriter.means at.rewriter) at.standing at.invariant.0 (nothing_left _ (sym at.invariant.1 ∙ c.in-None.ensures.steps.0))
+    in_end first c.args.levels c.args.standing.now c.args.items.items (into_iter_items at.item-iterator) c.args.plan.now at.plan (g.R.Rewriter.means at.rewriter) at.standing at.invariant.0 (nil_from_length _ (sym at.invariant.1 ∙ c.in-None.ensures.steps.0))
 
 pub plan_item-plan_node-requires : goal.plan_item-plan_node-requires
 plan_item-plan_node-requires g t c =

@@ -2,9 +2,10 @@ use Rattle.std.proofs.Common.{◌≡◌, ◌++◌, ◌+◌, ap, sym, subst, ◌�
 use Rattle.std.specs.Prelude.{true}
 use Rattle.std.specs.List.{list_all}
 use Rattle.std.proofs.lemmas.List.{drop_all}
+use Rattle.map_laws.specs.LoopLaws.{next_item}
 use Rattle.item_core.specs.Item.{variables_of}
 use Rattle.fresh_bridging.specs.Entries.{put_into, put_into_fits}
-use Rattle.bridge_plan.proofs.Left.{next_item, passed_all, passed_next}
+use Rattle.bridge_plan.proofs.Left.{passed_all, passed_next}
 use Rattle.bridge_plan.proofs.Outer.{all_outer, outer, with_component, without_component}
 use Rattle.bridge_plan.proofs.planning.outer_entries.Goals.{in-Some+in_ok-push, in_default+in-Bridged-1, in_default+in-Kept-1}
 use Rattle.bridge_plan.proofs.planning.outer_entries.Goals as goal

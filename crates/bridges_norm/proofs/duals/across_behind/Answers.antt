@@ -2,7 +2,7 @@ use Rattle.std.proofs.Common.{◌∙◌, ◌∷◌, ◌/◌, ap, ap₂, subst, s
 use Rattle.std.proofs.lemmas.List.{length-drop, length-take-le}
 use Rattle.std.specs.Prelude.{◌≡◌}
 use Rattle.rational_laws.specs.Dot.{minus, negated}
-use Rattle.bridge_face.specs.AnsweredLaws.{exact_as}
+use Rattle.aff_core.specs.AnsweredLaws.{exact_as}
 use Rattle.bridge_face.specs.BackOf.{AcrossFits, SumsFit, across}
 use Rattle.bridges_norm.proofs.duals.across_behind.Goals as goal
 

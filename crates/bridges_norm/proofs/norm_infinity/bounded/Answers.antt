@@ -2,7 +2,7 @@ use Rattle.std.proofs.Common.{◌∙◌, ◌+◌, ap, subst, sym, length, refl}
 use Rattle.item_core.specs.declared.item.Body.TheVariants.{AffineVec}
 use Rattle.set_core.specs.declared.set.Set.TheVariants.{Nonnegatives}
 use Rattle.std.specs.Prelude.{◌++◌}
-use Rattle.bridge_face.specs.AnsweredLaws.{passed_on}
+use Rattle.aff_core.specs.AnsweredLaws.{passed_on}
 use Rattle.bridge_face.specs.Images.{first_in, function_of_body, rest_of}
 use Rattle.bridges_norm.specs.NormInfinityLaws.{BothFit, fits_of, made_of}
 use Rattle.bridges_norm.specs.BothLaws.{more_each, others_of}

@@ -9,10 +9,10 @@ use Rattle.certificates.specs.Duals.{group_with, groups_with}
 use Rattle.certificates.specs.Points.{addresses_of}
 use Rattle.cert_core.proofs.Answered.{overflowed}
 use Rattle.cert_core.proofs.GroupSteps.{GroupsTested, groups_end, groups_fit, groups_step}
-use Rattle.cert_core.proofs.Made.{mapped_all}
 use Rattle.cert_core.proofs.Steps.{next_item}
 use Rattle.cert_core.proofs.Tested.{and_passed, and_taken}
 use Rattle.std.proofs.lemmas.List.Elements.{All-map}
+use Rattle.map_laws.specs.EachLaws.{all_from_map}
 use Rattle.cert_core.proofs.duals.group_duals_hold.Goals as goal
 use Rattle.cert_core.proofs.duals.group_duals_hold.Goals.{else-all, then-all}
 
@@ -35,7 +35,7 @@ returns-in_err-holds c = λ x is.
     (λ all.
     let owed = groups_fit F P c.loop-group.all gs (drop i gs) (drop (i + 1) gs) c.args.duals.now
     c.loop-group.left.now g c.loop-group.invariant next x is
-    (mapped_all (λ h. DualFits h.set h.duals) (group_with x) gs all) in
+    (all_from_map (λ h. DualFits h.set h.duals) (group_with x) gs all) in
     c.in_err-holds.ensures (subst (DualFits g.set) (sym (front ∙ owed.0)) owed.1))
 
 pub loop-group-preserved : goal.loop-group-preserved
@@ -71,6 +71,6 @@ returns c = λ x is.
       All-map (λ h. DualFits h.set h.duals) (group_with x) gs all.0,
       (
         λ t. All-map (λ h. Dual h.set h.duals) (group_with x) gs (all.1.0 t),
-        λ k. all.1.1 (mapped_all (λ h. Dual h.set h.duals) (group_with x) gs k),
+        λ k. all.1.1 (all_from_map (λ h. Dual h.set h.duals) (group_with x) gs k),
       ),
     )

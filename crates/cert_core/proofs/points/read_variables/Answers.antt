@@ -1,6 +1,7 @@
 use Rattle.std.specs.Prelude.{All}
 use Rattle.std.proofs.Common.{◌∙◌, sym}
 use Rattle.std.proofs.lemmas.List.Elements.{All-map}
+use Rattle.map_laws.specs.EachLaws.{all_from_map}
 use Rattle.aff_core.specs.Address.{address_cmp}
 use Rattle.aff_core.specs.Function.{evaluated, variable}
 use Rattle.certificates.specs.Points.{variables_at}
@@ -8,7 +9,7 @@ use Rattle.cert_core.specs.Folds.{EvaluationFits}
 use Rattle.cert_core.specs.Points.{numbers_in}
 use Rattle.cert_core.specs.Readings.{one_of}
 use Rattle.cert_core.proofs.Answered.{passed_on}
-use Rattle.cert_core.proofs.Made.{made_all, made_refused, mapped_all, mapped_twice}
+use Rattle.cert_core.proofs.Made.{made_all, made_refused, mapped_twice}
 use Rattle.cert_core.proofs.points.read_variables.Goals as goal
 
 pub returns-in_err-of_variable : goal.returns-in_err-of_variable
@@ -23,7 +24,7 @@ returns-in_err-of_variable c =
     (λ all. made_refused (λ v. EvaluationFits one (variable v) x)
     (λ v. evaluated {R = address_cmp} one (variable v) x) us c.loop-var.var-index c.var-item.result
     c.var-item.is c.loop-var-test.true
-    (mapped_all (λ f. EvaluationFits one f x) (λ v. variable {R = address_cmp} v) us all))
+    (all_from_map (λ f. EvaluationFits one f x) (λ v. variable {R = address_cmp} v) us all))
 
 pub returns : goal.returns
 returns c =

@@ -2,8 +2,8 @@ use Rattle.std.proofs.Common.{◌≡◌, ◌∙◌, ap, subst, sym}
 use Rattle.std.specs.Prelude.{All, flat_map}
 use Rattle.std.proofs.lemmas.List.{drop_all}
 use Rattle.std.proofs.lemmas.List.Elements.{All-nil}
+use Rattle.map_laws.specs.LoopLaws.{next_item}
 use Rattle.fresh_bridging.specs.Leaves.{leaf_objectives}
-use Rattle.bridge_plan.proofs.Left.{next_item}
 use Rattle.lazy_bridge.proofs.Expressions.{passed_by, there_it_is}
 use Rattle.lazy_bridge.proofs.change.objective_address.Goals as goal
 

@@ -1,6 +1,6 @@
 use Rattle.std.proofs.Common.{◌+◌, drop, map}
+use Rattle.map_laws.specs.LoopLaws.{next_item}
 use Rattle.fresh_bridging.specs.ModelImage.{group_item}
-use Rattle.bridge_plan.proofs.Left.{next_item}
 use Rattle.model_bridging.specs.Kinds.{kinds_as_they_stand}
 use Rattle.model_bridging.proofs.KindSteps.{kinds_more, kinds_refused, next_group}
 use Rattle.model_bridging.proofs.kinds.check_groups.Goals as goal

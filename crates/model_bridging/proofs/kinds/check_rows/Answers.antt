@@ -1,5 +1,5 @@
 use Rattle.std.proofs.Common.{◌+◌, drop}
-use Rattle.bridge_plan.proofs.Left.{next_item}
+use Rattle.map_laws.specs.LoopLaws.{next_item}
 use Rattle.model_bridging.specs.Kinds.{told}
 use Rattle.model_bridging.proofs.KindSteps.{kinds_more, kinds_refused, next_row, row_kinds}
 use Rattle.model_bridging.proofs.kinds.check_rows.Goals as goal

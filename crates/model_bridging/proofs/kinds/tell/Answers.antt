@@ -1,8 +1,8 @@
 use Rattle.std.proofs.Common.{◌+◌, ap, ◌∙◌, drop, map}
+use Rattle.map_laws.specs.LoopLaws.{next_item}
 use Rattle.std.specs.FinMap as finite
 use Rattle.user_model.specs.Model.{variable_address}
 use Rattle.user_model.specs.declared.group.GroupVar.{GroupVar}
-use Rattle.bridge_plan.proofs.Left.{next_item}
 use Rattle.model_bridging.proofs.Telling.{tell_more}
 use Rattle.model_bridging.proofs.kinds.tell.Goals as goal
 

@@ -4,7 +4,7 @@ use Rattle.item_core.specs.declared.item.Body.TheVariants.{AffineObj, PlainObj}
 use Rattle.item_core.specs.declared.item.Item.{Item}
 use Rattle.fresh_bridging.specs.Entries.{put_in, put_in_body, put_in_fits}
 use Rattle.fresh_bridging.specs.ModelImage.{objective_item, objective_items}
-use Rattle.bridge_face.specs.AnsweredLaws.{passed_on}
+use Rattle.aff_core.specs.AnsweredLaws.{passed_on}
 use Rattle.model_bridging.proofs.Others.{objective_answered, objective_needs, objective_none, objective_ready}
 use Rattle.model_bridging.proofs.model_plan.plan_objective.Goals as goal
 

@@ -5,7 +5,7 @@ use Rattle.fresh_bridging.specs.Entries.{put_in, put_in_fits}
 use Rattle.fresh_bridging.specs.ModelImage.{row_item}
 use Rattle.fresh_bridging.specs.TableLaws.{and_first}
 use Rattle.bridge_plan.specs.Worked.{worked}
-use Rattle.bridge_face.specs.AnsweredLaws.{passed_on}
+use Rattle.aff_core.specs.AnsweredLaws.{passed_on}
 use Rattle.model_bridging.proofs.InOrder.{child_answered}
 use Rattle.model_bridging.proofs.model_plan.plan_row.Goals as goal
 

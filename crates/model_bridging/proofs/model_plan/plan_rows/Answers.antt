@@ -1,7 +1,7 @@
 use Rattle.std.proofs.Common.{◌+◌, ap, drop, map}
 use Rattle.std.proofs.lemmas.List.{drop_all}
+use Rattle.map_laws.specs.LoopLaws.{next_item}
 use Rattle.fresh_bridging.specs.ModelImage.{row_item}
-use Rattle.bridge_plan.proofs.Left.{next_item}
 use Rattle.model_bridging.proofs.InOrder.{row_more, row_within, rows_end, rows_start}
 use Rattle.model_bridging.proofs.model_plan.plan_rows.Goals as goal
 

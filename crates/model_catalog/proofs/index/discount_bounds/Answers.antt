@@ -4,7 +4,7 @@ use Rattle.std.specs.Option.{option_copied, option_map}
 use Rattle.numbered.specs.Numbered.{find}
 use Rattle.user_model.specs.declared.row.Row.{Row}
 use Rattle.model_catalog.specs.declared.variable.Variable.{Variable}
-use Rattle.model_catalog.specs.Index.{IsCounted, counted, variable_number}
+use Rattle.model_catalog.specs.Index.{counted, variable_number}
 use Rattle.model_catalog.proofs.Counts.{Rise-at, discounted_at, its_number, set_bounds_counted}
 use Rattle.model_catalog.proofs.index.discount_bounds.Goals as goal
 

@@ -1,7 +1,7 @@
 use Rattle.std.proofs.Common.{◌≡◌, ◌≤◌, ◌<◌, ℕ, Bool, Some, ap, arith, eqb-true, false, length, nat_eq, not, refl, slice_index, subst, sym, ◌∙◌}
 use Rattle.std.proofs.lemmas.Bool.{eqb-false}
+use Rattle.rational_laws.specs.Tests.{nonzero_test, zero_test}
 use Rattle.ratio_core.specs.Rational.{rational_eq, zero_ℚ}
-use Rattle.tableau_core.specs.LeastLaws.{other_is, zero_is}
 use Rattle.sparse_board.specs.declared.sparse_row.SparseRow.{SparseRow}
 use Rattle.sparse_board.specs.Numbers.{number_of, row_columns, row_values}
 use Rattle.sparse_board.proofs.NumberLemmas.{number_at_place}
@@ -13,7 +13,7 @@ abbrev test : SparseRow → ℕ → Bool
 test row j = not (rational_eq (number_of row j) zero_ℚ)
 
 zeros : (row : SparseRow) (j : ℕ) → number_of row j ≡ zero_ℚ → test row j ≡ false
-zeros row j e = zero_is (number_of row j) e
+zeros row j e = zero_test (number_of row j) e
 
 some_column : (row : SparseRow) (b : Bool) → b ≡ nat_eq row.entries.len 0 → b ≡ false → 0 < length (row_columns row)
 some_column row b e f = above_lem (length (row_columns row)) (λ z. eqb-false row.entries.len 0 (sym e ∙ f) (omega (arith, z, row.entries.ok.0, columns_long row)))
@@ -37,7 +37,7 @@ returns-then-column-count-clause-value c =
     let b = some_column row c.is_empty.result c.is_empty.ensures c.if-is_empty.false in
     let is = column_is row 0 c.index.result.now b c.index.ensures in
     ap Some is
-    ∙ sym (found_at row (test row) (zeros row) 0 (omega arith) refl b c.args.count (subst (λ x. x < c.args.count) is c.if-column-count.true) (other_is (number_of row (slice_index (row_columns row) 0)) (first_other row b)))
+    ∙ sym (found_at row (test row) (zeros row) 0 (omega arith) refl b c.args.count (subst (λ x. x < c.args.count) is c.if-column-count.true) (nonzero_test (number_of row (slice_index (row_columns row) 0)) (first_other row b)))
 
 pub returns-then-column-count-clause-within : goal.returns-then-column-count-clause-within
 returns-then-column-count-clause-within c =

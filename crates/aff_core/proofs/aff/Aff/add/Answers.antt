@@ -10,7 +10,7 @@ use Rattle.aff_core.specs.FunctionLaws.{entries_rise, filter_nonzero, filter_ris
 use Rattle.aff_core.specs.KeyOrder.{address_order}
 use Rattle.aff_core.specs.Rising.{RiseStrictly}
 use Rattle.aff_core.specs.Terms.{HaveNoZero, is_nonzero}
-use Rattle.aff_core.proofs.Answered.{passed_on}
+use Rattle.aff_core.specs.AnsweredLaws.{passed_on}
 use Rattle.map_laws.specs.MadeLaws.{from_sorted-entries}
 use Rattle.aff_core.proofs.aff.Aff.add.Goals as goal
 

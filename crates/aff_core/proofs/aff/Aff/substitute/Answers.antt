@@ -2,6 +2,7 @@ use Rattle.std.specs.Prelude.{◌≡◌, [], length, ◌≤◌}
 use Rattle.std.proofs.Common.{drop, sym, ap, subst, ◌∙◌, ◌+◌}
 use Rattle.std.proofs.Math.ListN.{drop_of_length-le}
 use Rattle.std.specs.FinMap.{empty, entries}
+use Rattle.map_laws.specs.LoopLaws.{next_item}
 use Rattle.ratio_core.specs.Rational.{zero_ℚ}
 use Rattle.aff_core.specs.Address.{address_cmp}
 use Rattle.aff_core.specs.Arithmetic.{TermsFit, added_terms, composed, expression_at}
@@ -11,9 +12,9 @@ use Rattle.aff_core.specs.FunctionLaws.{entries_rise, filter_nonzero, filter_ris
 use Rattle.aff_core.specs.KeyOrder.{address_order}
 use Rattle.aff_core.specs.Rising.{RiseStrictly}
 use Rattle.aff_core.specs.Terms.{HaveNoZero, TimesFit, times}
-use Rattle.aff_core.proofs.Answered.{passed_on, overflowed}
+use Rattle.aff_core.specs.AnsweredLaws.{passed_on, overflowed}
 use Rattle.aff_core.proofs.Steps.{SubstitutesAsAll, substitutes-start, substitutes-step, substitutes-fits, substitutes-end}
-use Rattle.aff_core.proofs.Values.{IsAsAll, as_all-start, as_all-step, as_all-end, as_all-refused, next_term, found_is}
+use Rattle.aff_core.proofs.Values.{IsAsAll, as_all-start, as_all-step, as_all-end, as_all-refused, found_is}
 use Rattle.aff_core.proofs.aff.Aff.substitute.Goals as goal
 
 pub loop-address-init : goal.loop-address-init
@@ -30,7 +31,7 @@ returns-in_err-constant c =
     let e = expression_at c.args.by.now in
     let f = c.args.self.now in
     let t = c.loop-address-item.result in
-    let next = next_term (terms_of f) c.terms-address-items.result.now c.loop-address.address-index t c.terms-address-items.ensures.all c.loop-address-item.is c.loop-address-test.true in
+    let next = next_item (terms_of f) c.terms-address-items.result.now c.loop-address.address-index t c.terms-address-items.ensures.all c.loop-address-item.is c.loop-address-test.true in
     let read : c.unwrap-expression.result.now ≡ e t.0 = found_is c.args.by.now t.0 c.get.result c.unwrap-expression.result (constant_function zero_ℚ) c.get.ensures c.unwrap-expression.ensures in
     let constant : c.constant.result ≡ (e t.0).constant = c.constant.ensures ∙ ap (λ f. f.constant) read in
     overflowed c.from_residual.result c.in_err-constant.field-0.0 _ _ c.from_residual.ensures.1 c.in_err-constant.ensures.err
@@ -41,7 +42,7 @@ returns-in_err-add_products c =
     let e = expression_at c.args.by.now in
     let f = c.args.self.now in
     let t = c.loop-address-item.result in
-    let next = next_term (terms_of f) c.terms-address-items.result.now c.loop-address.address-index t c.terms-address-items.ensures.all c.loop-address-item.is c.loop-address-test.true in
+    let next = next_item (terms_of f) c.terms-address-items.result.now c.loop-address.address-index t c.terms-address-items.ensures.all c.loop-address-item.is c.loop-address-test.true in
     let read : c.unwrap-expression.result.now ≡ e t.0 = found_is c.args.by.now t.0 c.get.result c.unwrap-expression.result (constant_function zero_ℚ) c.get.ensures c.unwrap-expression.ensures in
     let terms : c.terms.result.now ≡ terms_of (e t.0) = c.terms.ensures.all ∙ ap terms_of read in
     passed_on c.from_residual-in_err-add_products.result c.in_err-add_products.field-0.0 (TimesFit t.1 c.terms.result.now × TermsFit c.loop-address.sums (times t.1 c.terms.result.now)) _ _ _
@@ -55,7 +56,7 @@ loop-address-preserved c =
     let e = expression_at c.args.by.now in
     let f = c.args.self.now in
     let t = c.loop-address-item.result in
-    let next = next_term (terms_of f) c.terms-address-items.result.now c.loop-address.address-index t c.terms-address-items.ensures.all c.loop-address-item.is c.loop-address-test.true in
+    let next = next_item (terms_of f) c.terms-address-items.result.now c.loop-address.address-index t c.terms-address-items.ensures.all c.loop-address-item.is c.loop-address-test.true in
     let read : c.unwrap-expression.result.now ≡ e t.0 = found_is c.args.by.now t.0 c.get.result c.unwrap-expression.result (constant_function zero_ℚ) c.get.ensures c.unwrap-expression.ensures in
     let constant : c.constant.result ≡ (e t.0).constant = c.constant.ensures ∙ ap (λ f. f.constant) read in
     let terms : c.terms.result.now ≡ terms_of (e t.0) = c.terms.ensures.all ∙ ap terms_of read in

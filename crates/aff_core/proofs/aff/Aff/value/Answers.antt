@@ -1,11 +1,12 @@
 use Rattle.std.specs.Prelude.{◌≡◌, [], length, OkIff, IsErr, T, Result, Ok, Err, ◌≤◌}
 use Rattle.std.proofs.Common.{drop, sym, subst, ◌∙◌}
 use Rattle.std.proofs.Math.ListN.{drop_of_length-le}
+use Rattle.map_laws.specs.LoopLaws.{next_item}
 use Rattle.ratio_core.specs.Rational.{zero_ℚ}
 use Rattle.aff_core.specs.Function.{terms_of}
 use Rattle.aff_core.specs.Arithmetic.{number_at}
 use Rattle.aff_core.specs.ArithmeticLaws.{value_from-value_of}
-use Rattle.aff_core.proofs.Values.{IsAsAll, as_all-start, as_all-step, as_all-end, as_all-refused, next_term, found_is}
+use Rattle.aff_core.proofs.Values.{IsAsAll, as_all-start, as_all-step, as_all-end, as_all-refused, found_is}
 use Rattle.aff_core.proofs.aff.Aff.value.Goals as goal
 
 refused : {T E : Type 0} (r : Result T E) (P : Type 0) (v : T) → IsErr r → (P → ⊥) → OkIff r P v
@@ -18,14 +19,14 @@ loop-address-init c = subst (λ k. IsAsAll c.args.self.now.constant k (terms_of 
 pub loop-address-preserved : goal.loop-address-preserved
 loop-address-preserved c =
     as_all-step c.args.self.now.constant c.loop-address.value (terms_of c.args.self.now) _ _ c.loop-address-item.result (number_at c.args.at.now) c.unwrap-number.result.now c.loop-address.invariant
-    (next_term (terms_of c.args.self.now) c.terms-address-items.result.now c.loop-address.address-index c.loop-address-item.result c.terms-address-items.ensures.all c.loop-address-item.is c.loop-address-test.true)
+    (next_item (terms_of c.args.self.now) c.terms-address-items.result.now c.loop-address.address-index c.loop-address-item.result c.terms-address-items.ensures.all c.loop-address-item.is c.loop-address-test.true)
     (found_is c.args.at.now c.loop-address-item.result.0 c.get.result c.unwrap-number.result zero_ℚ c.get.ensures c.unwrap-number.ensures)
     c.in_ok-value.value c.in_ok-value.ensures.exact.0 c.in_ok-value.ensures.exact.1
 
 pub returns-in_err-value-clause-exact : goal.returns-in_err-value-clause-exact
 returns-in_err-value-clause-exact c =
     refused c.from_residual.result _ _ c.from_residual.ensures.0 (as_all-refused c.args.self.now.constant c.loop-address.value (terms_of c.args.self.now) _ _ c.loop-address-item.result (number_at c.args.at.now) c.unwrap-number.result.now c.loop-address.invariant
-    (next_term (terms_of c.args.self.now) c.terms-address-items.result.now c.loop-address.address-index c.loop-address-item.result c.terms-address-items.ensures.all c.loop-address-item.is c.loop-address-test.true)
+    (next_item (terms_of c.args.self.now) c.terms-address-items.result.now c.loop-address.address-index c.loop-address-item.result c.terms-address-items.ensures.all c.loop-address-item.is c.loop-address-test.true)
     (found_is c.args.at.now c.loop-address-item.result.0 c.get.result c.unwrap-number.result zero_ℚ c.get.ensures c.unwrap-number.ensures)
     c.in_err-value.ensures.exact)
 

@@ -1,6 +1,6 @@
 use Rattle.std.proofs.lemmas.List.{drop_all}
+use Rattle.map_laws.specs.LoopLaws.{next_item}
 use Rattle.fresh_bridging.specs.Entries.{expression_in}
-use Rattle.bridge_plan.proofs.Left.{next_item}
 use Rattle.bridge_plan.proofs.KeptLists.{kept_more, none_left}
 use Rattle.bridge_plan.proofs.standing.Standing.kept_variables.Goals as goal
 

@@ -1,7 +1,7 @@
 use Rattle.std.proofs.Common.{◌∙◌, ◌-◌, ◌/◌, ap, arith, subst, sym, length}
 use Rattle.ratio_core.specs.Folds.{FoldFits}
 use Rattle.ratio_core.specs.Rational.{zero_ℚ}
-use Rattle.bridge_face.specs.AnsweredLaws.{passed_on}
+use Rattle.aff_core.specs.AnsweredLaws.{passed_on}
 use Rattle.bridge_face.specs.BackOf.{BackFits, size}
 use Rattle.bridge_face.specs.FamilyLaws.{dual_count, image_is, only}
 use Rattle.bridge_face.specs.Images.{row_at}

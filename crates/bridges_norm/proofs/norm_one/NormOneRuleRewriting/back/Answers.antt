@@ -1,9 +1,9 @@
 use Rattle.std.proofs.Common.{◌∙◌, ◌-◌, ◌/◌, ap, arith, length}
 use Rattle.std.specs.Prelude.{◌+◌}
 use Rattle.bridge_face.specs.BackOf.{size}
-use Rattle.bridge_face.specs.FamilyLaws.{dual_count, image_is, only}
+use Rattle.bridge_face.specs.FamilyLaws.{dual_count, image_is, length-tail, only}
 use Rattle.bridge_face.specs.ImageOf.{norm_one}
-use Rattle.bridges_norm.specs.NormOneLaws.{back_made, dual_long, length-tail, rule}
+use Rattle.bridges_norm.specs.NormOneLaws.{back_made, dual_long, rule}
 use Rattle.bridges_norm.proofs.Loops.{even, halves}
 use Rattle.bridges_norm.proofs.norm_one.NormOneRuleRewriting.back.Goals as goal
 

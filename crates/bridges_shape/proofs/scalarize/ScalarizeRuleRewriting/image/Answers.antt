@@ -1,7 +1,8 @@
 use Rattle.std.specs.Prelude.{refl}
 use Rattle.bridge_face.specs.FamilyLaws.{image_fits, image_is, source_is}
+use Rattle.bridge_face.specs.RowsLaws.{rows_alone}
 use Rattle.std.proofs.Common.{sym, ap, ◌∙◌}
-use Rattle.bridges_shape.specs.ScalarizeLaws.{rows_alone, rule}
+use Rattle.bridges_shape.specs.ScalarizeLaws.{rule}
 use Rattle.bridges_shape.proofs.scalarize.ScalarizeRuleRewriting.image.Goals as goal
 
 pub parts-requires-clause-row : goal.parts-requires-clause-row

@@ -1,6 +1,6 @@
 use Rattle.bridge_face.specs.FamilyLaws.{image_is, source_is}
 use Rattle.std.proofs.Common.{sym, ap, ◌∙◌}
-use Rattle.bridge_face.specs.AnsweredLaws.{passed_on}
+use Rattle.aff_core.specs.AnsweredLaws.{passed_on}
 use Rattle.bridge_face.specs.Images.{row_at}
 use Rattle.bridges_shape.specs.VectorizeLaws.{FitsLowered, fits_back, fits_there, rule}
 use Rattle.bridges_shape.proofs.vectorize.VectorizeRuleRewriting.image.Goals as goal

@@ -1,7 +1,8 @@
 use Rattle.std.specs.Prelude.{refl}
 use Rattle.bridge_face.specs.FamilyLaws.{image_fits, image_is}
+use Rattle.bridge_face.specs.RowsLaws.{rows_alone}
 use Rattle.std.proofs.Common.{sym, ap, ◌∙◌}
-use Rattle.bridges_split.specs.DropRealsLaws.{rows_alone, rule}
+use Rattle.bridges_split.specs.DropRealsLaws.{rule}
 use Rattle.bridges_split.proofs.drop_reals.DropRealsRuleRewriting.image.Goals as goal
 
 pub returns : goal.returns

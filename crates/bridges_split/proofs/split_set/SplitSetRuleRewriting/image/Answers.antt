@@ -1,7 +1,8 @@
 use Rattle.std.specs.Prelude.{refl}
 use Rattle.bridge_face.specs.FamilyLaws.{image_fits, image_is, source_is}
+use Rattle.bridge_face.specs.RowsLaws.{rows_alone}
 use Rattle.std.proofs.Common.{sym, ap, ap₂, ◌∙◌, ◌++◌, [], ◌∷◌}
-use Rattle.bridges_split.specs.SplitSetLaws.{item_of, rows_alone, rule}
+use Rattle.bridges_split.specs.SplitSetLaws.{item_of, rule}
 use Rattle.bridges_split.proofs.split_set.SplitSetRuleRewriting.image.Goals as goal
 
 pub lower-requires : goal.lower-requires

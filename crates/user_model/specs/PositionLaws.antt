@@ -11,23 +11,25 @@ use Rattle.numbered.specs.Numbered.{Rise}
 use Rattle.numbered.specs.Laws.{Rise-head, Rise-tail}
 use Rattle.user_model.specs.SameUpToNumbers.{position}
 
-step : (m : ℕ) (ms : List ℕ) (n : ℕ) → position (m ∷ ms) n ≡ cond (nat_lt m n) 1 0 + position ms n
-step m ms n = sum_by-cons (λ m. cond (nat_lt m n) 1 0) m ms
+pub position_more : (m : ℕ) (ms : List ℕ) (n : ℕ)
+    → position (m ∷ ms) n ≡ cond (nat_lt m n) 1 0 + position ms n
+position_more m ms n = sum_by-cons (λ m. cond (nat_lt m n) 1 0) m ms
 
-counted : (m : ℕ) (ms : List ℕ) (n : ℕ) → m < n → position (m ∷ ms) n ≡ suc (position ms n)
-counted m ms n h =
-    step m ms n ∙ ap (λ b. cond b 1 0 + position ms n) (lt-ltb m n h) ∙ omega arith
+pub position_above : (m : ℕ) (ms : List ℕ) (n : ℕ) → m < n
+    → position (m ∷ ms) n ≡ suc (position ms n)
+position_above m ms n h =
+    position_more m ms n ∙ ap (λ b. cond b 1 0 + position ms n) (lt-ltb m n h) ∙ omega arith
 
-uncounted : (m : ℕ) (ms : List ℕ) (n : ℕ) → n ≤ m → position (m ∷ ms) n ≡ position ms n
-uncounted m ms n h =
-    step m ms n ∙ ap (λ b. cond b 1 0 + position ms n) (le-ltb m n h) ∙ omega arith
+pub position_low : (m : ℕ) (ms : List ℕ) (n : ℕ) → n ≤ m → position (m ∷ ms) n ≡ position ms n
+position_low m ms n h =
+    position_more m ms n ∙ ap (λ b. cond b 1 0 + position ms n) (le-ltb m n h) ∙ omega arith
 
 -- numbers in the order of two others
-cmp_alike : (m n p q : ℕ) → (m < n → p < q) → (n < m → q < p) → (m ≡ n → p ≡ q)
+pub cmp_alike : (m n p q : ℕ) → (m < n → p < q) → (n < m → q < p) → (m ≡ n → p ≡ q)
     → nat_cmp p q ≡ nat_cmp m n
 cmp_alike m n p q less more same = grind (arith, nat_tests)
 
-test_alike : (m n p q : ℕ) → (m < n → p < q) → (n < m → q < p) → (m ≡ n → p ≡ q)
+pub test_alike : (m n p q : ℕ) → (m < n → p < q) → (n < m → q < p) → (m ≡ n → p ≡ q)
     → (p == q) ≡ (m == n)
 test_alike m n p q less more same = grind (arith, nat_tests)
 
@@ -37,7 +39,7 @@ module _ {X : Type 0} (number_of : X → ℕ) where
   none_counted [] n h = refl
   none_counted (x ∷ xs) n h =
       let above : n < number_of x = All-head (λ x. n < number_of x) x xs h in
-      uncounted (number_of x) (map number_of xs) n (omega (arith, above))
+      position_low (number_of x) (map number_of xs) n (omega (arith, above))
       ∙ none_counted xs n (All-tail (λ x. n < number_of x) x xs h)
 
   -- the position of the item at a place is the place
@@ -45,10 +47,10 @@ module _ {X : Type 0} (number_of : X → ℕ) where
       → position (map number_of xs) (number_of (slice_index_or xs k d)) ≡ k
   at_place [] rise k d h = absurd (omega arith)
   at_place (x ∷ xs) rise zero d h =
-      uncounted (number_of x) (map number_of xs) (number_of x) (omega arith)
+      position_low (number_of x) (map number_of xs) (number_of x) (omega arith)
       ∙ none_counted xs (number_of x) (Rise-head number_of x xs rise)
   at_place (x ∷ xs) rise (suc k) d h =
-      counted (number_of x) (map number_of xs) (number_of (slice_index_or xs k d))
+      position_above (number_of x) (map number_of xs) (number_of (slice_index_or xs k d))
       (Rise-head number_of x xs rise k d (omega arith))
       ∙ ap suc (at_place xs (Rise-tail number_of x xs rise) k d (omega arith))
 

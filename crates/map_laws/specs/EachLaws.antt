@@ -1,7 +1,9 @@
 -- What holds of each of a list, by parts.
-use Rattle.std.specs.Prelude.{◌≡◌, ◌+◌, ◌<◌, ◌≤◌, ℕ, List, [], ◌∷◌, ◌++◌, All, length, map}
-use Rattle.std.proofs.Common.{arith, subst}
-use Rattle.std.specs.List.{range_with_len, zip}
+use Rattle.std.specs.Prelude.{◌≡◌, ◌+◌, ◌<◌, ◌≤◌, ℕ, zero, suc, Bool, true, List, [], ◌∷◌, ◌++◌, All, Contains, Some, length, map, slice_get, refl}
+use Rattle.std.proofs.Common.{ap, ap₂, arith, subst, sym, ◌∙◌}
+use Rattle.std.specs.List.{list_all, range_with_len, zip}
+use Rattle.std.proofs.lemmas.Bool.{and_parts}
+use Rattle.std.proofs.lemmas.Option.{none-some, same_Some}
 use Rattle.std.proofs.lemmas.List.Elements.{All-cons, All-head, All-nil, All-tail}
 
 pub all_both : {A : Type 0} (P Q : A → Type 0) (xs : List A) → All P xs → All Q xs
@@ -36,6 +38,40 @@ all_seconds P (x ∷ xs) (y ∷ ys) h =
     All-cons (λ p. P p.1) (x, y) (zip xs ys) (All-head P y ys h)
     (all_seconds P xs ys (All-tail P y ys h))
 
+pub all_at : {A : Type 0} (p : A → Bool) (xs : List A) (n : ℕ) (x : A) → list_all p xs ≡ true
+    → slice_get xs n ≡ Some x → p x ≡ true
+all_at p [] n x h e = absurd (none-some x e)
+all_at p (y ∷ xs) zero x h e =
+    ap p (sym (same_Some y x e)) ∙ (and_parts (p y) (list_all p xs) h).0
+all_at p (y ∷ xs) (suc n) x h e = all_at p xs n x (and_parts (p y) (list_all p xs) h).1 e
+
+pub contains_here : {A : Type 0} (x : A) (xs : List A) → Contains (x ∷ xs) x
+contains_here x xs = (0, omega arith, refl)
+
+pub contains_later : {A : Type 0} (y x : A) (xs : List A) → Contains xs x → Contains (y ∷ xs) x
+contains_later y x xs c = (suc c.0, omega (arith, c.1), c.2)
+
+-- ---- equal lists
+
+pub cons_head : {B : Type 0} (a b : B) (xs ys : List B) → a ∷ xs ≡ b ∷ ys → a ≡ b
+cons_head a b xs ys e = cc
+
+pub cons_tail : {B : Type 0} (a b : B) (xs ys : List B) → a ∷ xs ≡ b ∷ ys → xs ≡ ys
+cons_tail a b xs ys e = cc
+
+pub map_same_on : {A B : Type 0} (f g : A → B) (xs : List A) → All (λ x. f x ≡ g x) xs
+    → map f xs ≡ map g xs
+map_same_on f g [] h = refl
+map_same_on f g (x ∷ xs) h =
+    ap₂ ◌∷◌ (All-head (λ y. f y ≡ g y) x xs h)
+    (map_same_on f g xs (All-tail (λ y. f y ≡ g y) x xs h))
+
+pub zip_of_maps : {A B C D : Type 0} (f : A → C) (g : B → D) (xs : List A) (ys : List B)
+    → zip (map f xs) (map g ys) ≡ map (λ p. (f p.0, g p.1)) (zip xs ys)
+zip_of_maps f g [] ys = refl
+zip_of_maps f g (x ∷ xs) [] = refl
+zip_of_maps f g (x ∷ xs) (y ∷ ys) = ap (λ ps. (f x, g y) ∷ ps) (zip_of_maps f g xs ys)
+
 -- ---- elements that stand at the numbers from a first one on
 
 -- the element is what stands at a number of these
@@ -44,12 +80,6 @@ pub record StandsFrom {A B : Type 0} (f : A → B) (g : ℕ → B) (low high : �
   pub from : low ≤ place
   pub to : place < high
   pub is : f x ≡ g place
-
-cons_head : {B : Type 0} (a b : B) (xs ys : List B) → a ∷ xs ≡ b ∷ ys → a ≡ b
-cons_head a b xs ys e = cc
-
-cons_tail : {B : Type 0} (a b : B) (xs ys : List B) → a ∷ xs ≡ b ∷ ys → xs ≡ ys
-cons_tail a b xs ys e = cc
 
 module _ {A B : Type 0} (f : A → B) (g : ℕ → B) where
   pub stand_from : (xs : List A) (low high : ℕ) → low + length xs ≤ high
