@@ -64,7 +64,7 @@ fn listed(
     ensures { Meets (λ constraints. constraints.items) result
         (each (add_constraint known.now.keys) 0 [] (items_view items.now)) }
 {
-    let mut constraints = Vec::new(alloc);
+    let mut constraints = Vec::with_capacity(alloc, items.len())?;
     for (place, item) in items.iter().enumerate() {
         match add_constraint(alloc, known, &mut constraints, item) {
             Ok(()) => (),

@@ -14,7 +14,8 @@ use std::alloc::Global;
 pub fn exact_numerals(alloc: Global, text: &[u8]) -> Result<Vec<u8>, Memory>
     ensures { IfOk result (λ exact. exact.items ≡ rewritten text.now) }
 {
-    let mut exact = Vec::with_capacity(alloc, text.len())?;
+    // Exact text may be longer than its numeral: 5.5 becomes "11/2".
+    let mut exact = Vec::with_capacity(alloc, text.len() + text.len() / 8)?;
     let mut copied = 0;
     let mut place = 0;
     while place < text.len() {
