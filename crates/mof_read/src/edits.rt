@@ -48,9 +48,8 @@ fn edits_of(alloc: Global, file: MofFile) -> Result<Edits, Memory>
 fn put_rows(edits: &mut Vec<Edit>, rows: Vec<Edit>) -> Result<(), Memory>
     ensures { OnOk result (edits.new.items ≡ edits.old.items ++ rows.items) }
 {
-    for row in rows {
-        edits.push(row)?;
-    }
+    let mut rows = rows;
+    edits.append(&mut rows)?;
     Ok(())
 }
 

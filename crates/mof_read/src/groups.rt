@@ -109,7 +109,7 @@ pub(crate) fn in_order(
         ≡ in_order owners.now.entries groups.items variables.keys) }
 {
     let mut left = groups;
-    let mut edits = Vec::new(alloc);
+    let mut edits = Vec::with_capacity(alloc, variables.len())?;
     for name in variables {
         let owner = owners.get(&name).copied();
         put_group(alloc, &mut edits, &mut left, owner, name)?;

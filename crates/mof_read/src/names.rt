@@ -27,7 +27,7 @@ pub(crate) fn own_names(
     ensures taken { IfOk result (λ named. named.taken.keys ≡ all_names [] constraints.items) }
 {
     let mut taken = IndexSet::new(alloc);
-    let mut named = Vec::new(alloc);
+    let mut named = Vec::with_capacity(alloc, constraints.len())?;
     for constraint in constraints {
         let name = take_name(&mut taken, constraint.name)?;
         named.push(FileConstraint {
@@ -50,11 +50,11 @@ fn take_name(taken: &mut IndexSet<Name>, name: Option<Name>) -> Result<Option<Na
     let Some(name) = name else {
         return Ok(None);
     };
-    if taken.contains(&name) {
-        return Ok(None);
+    if taken.insert(name.copy()?)? {
+        Ok(Some(name))
+    } else {
+        Ok(None)
     }
-    taken.insert(name.copy()?)?;
-    Ok(Some(name))
 }
 
 /// The name of a constraint with this number, of so many, as a row.
