@@ -13,7 +13,7 @@ use Rattle.rational_laws.specs.DotLaws.{dot_behind, dot_zeros}
 use Rattle.rational_laws.specs.Field.{*ℚ-one, +ℚ-zero}
 use Rattle.aff_core.specs.Address.{Address, address_cmp, address_eq-Decides, child_of}
 use Rattle.aff_core.specs.Function.{Function, coefficient, variable}
-use Rattle.aff_core.specs.FunctionLaws.{coefficient-variable_other, coefficient-variable_same, constant-function_of, constant-variable}
+use Rattle.aff_core.specs.FunctionLaws.{coefficient-variable_other, coefficient-variable_same, constant-variable}
 use Rattle.aff_core.specs.FunctionLists.{coefficients, constants}
 use Rattle.aff_core.specs.KeyOrder.{address_order}
 use Rattle.item_core.specs.Valid.{NamesNothingBelow, below}

@@ -3,13 +3,13 @@ use Rattle.std.specs.Prelude.{◌≡◌, Bool, true, false, cond, List, [], ◌�
 use Rattle.std.proofs.Common.{sym, ap, ap₂, ◌∙◌}
 use Rattle.std.specs.Option.{option_map_or}
 use Rattle.std.proofs.lemmas.List.Elements.{All-head, All-tail}
-use Rattle.ratio_core.specs.Rational.{Rational, one_ℚ, zero_ℚ, ◌+ℚ◌}
+use Rattle.ratio_core.specs.Rational.{Rational, zero_ℚ, ◌+ℚ◌}
 use Rattle.rational_laws.specs.Field.{*ℚ-zero, +ℚ-zero, zero-+ℚ}
 use Rattle.aff_core.specs.Address.{Address, address_cmp, address_eq}
 use Rattle.aff_core.specs.Arithmetic.{composed}
 use Rattle.aff_core.specs.ArithmeticLaws.{coefficient-composed, constant-composed}
 use Rattle.aff_core.specs.Function.{Function, coefficient, slope, terms_of, value_of, variable}
-use Rattle.aff_core.specs.FunctionLaws.{coefficient-variable_other, constant-function_of, constant-variable, same_coefficients}
+use Rattle.aff_core.specs.FunctionLaws.{coefficient-variable_other, constant-variable, same_coefficients}
 use Rattle.aff_core.specs.KeyOrder.{address_order}
 use Rattle.aff_core.specs.Terms.{linear}
 use Rattle.linear_laws.specs.ListLaws.{slope_variable}

@@ -1,18 +1,17 @@
 -- A model has one fresh bridging at most: any two hold the same.
-use Rattle.std.specs.Prelude.{◌≡◌, ◌+◌, ◌&&◌, ◌++◌, List, map, Option, Some, if◌then◌else◌, refl}
+use Rattle.std.specs.Prelude.{◌≡◌, ◌+◌, ◌&&◌, ◌++◌, List, Option, Some, if◌then◌else◌, refl}
 use Rattle.std.proofs.Common.{arith, ap, ap₂, sym, subst, ◌∙◌}
-use Rattle.std.specs.FinMap as finite
-use Rattle.std.specs.Option.{option_map, option_or}
+use Rattle.std.specs.Option.{option_or}
 use Rattle.std.proofs.lemmas.Option.{same_Some}
 use Rattle.bridge_graph.specs.Hypergraph.{IsCostly}
 use Rattle.expansion.specs.Bridged.{EachBridged, EachBridgedIn, Fresh, each, each_in, none, none_in}
 use Rattle.expansion.specs.Grown.{Held}
 use Rattle.expansion.specs.GrownLaws.{depth_in, grown_in_is, held_each, held_each_once, held_in, held_once}
-use Rattle.expansion.specs.Read.{model_leaves, model_nodes, unfit_each, unfit_in}
+use Rattle.expansion.specs.Read.{model_leaves, unfit_each, unfit_in}
 use Rattle.expansion.specs.Rules.{Image, Rules}
 use Rattle.user_model.specs.Model.{ModelValue}
 use Rattle.fresh_bridging.specs.ChoiceLaws.{one_choice}
-use Rattle.fresh_bridging.specs.FreshBridging.{FreshBridging, is_made, leaves_of, nodes_of, unfit_at}
+use Rattle.fresh_bridging.specs.FreshBridging.{FreshBridging, leaves_of}
 use Rattle.fresh_bridging.specs.Leaves.{leaf_model_of}
 use Rattle.fresh_bridging.specs.ModelImage.{model_image}
 use Rattle.fresh_bridging.specs.TheRules.{Setting, graph_of, rules_by}

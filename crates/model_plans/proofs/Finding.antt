@@ -1,4 +1,4 @@
--- What is found by number in a list, and what is there if none_of is found.
+-- What is found by number in a list, and what is there if nothing is found.
 use Rattle.std.proofs.Common.{◌≡◌, ℕ, ◌==◌, true, false, cond, List, [], ◌∷◌, Option, Some, None, refl, ap, ◌∙◌, map}
 use Rattle.std.specs.Prelude.{Contains, IsSome, is_some}
 use Rattle.std.specs.Option.{option_map, option_or}
