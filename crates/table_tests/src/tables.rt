@@ -1,65 +1,35 @@
-//! The tables in words.
+// The tables in words.
+use crate::page::Page;
+use item_core::{Children, EDGES, EdgeEntry, KINDS, Kind};
 
-use crate::words::{EDGES_IN_WORDS, KINDS_IN_WORDS};
-use item_core::{Children, EDGE_COUNT, EDGES, EdgeEntry, KIND_COUNT, KINDS, Kind};
-use std::alloc::{AllocError, Global};
-use std::fmt::Write;
-use std::test::Fail;
-
-/// Each child after a space.
-fn write_children(text: &mut String, children: &Children) -> Result<(), AllocError> {
-    match children {
-        Children::None => Ok(()),
-        Children::One(first) => write!(text, " {first}"),
-        Children::Two(first, second) => write!(text, " {first} {second}"),
-        Children::Three(first, second, third) => write!(text, " {first} {second} {third}"),
-    }
+/// The edges and the kinds, each on a line.
+pub fn show(page: &mut Page) {
+    show_edges(page, &EDGES);
+    show_kinds(page, &KINDS.kinds);
 }
 
-/// The edges, each on a line.
-fn edges_in_words(alloc: Global, entries: &[EdgeEntry]) -> Result<String, Fail> {
-    let mut text = String::new(alloc);
+fn show_edges(page: &mut Page, entries: &[EdgeEntry]) {
     for entry in entries {
         let number = entry.edge as usize + 1;
-        write!(text, "{number} {:?} {} to", entry.family, entry.source)?;
-        write_children(&mut text, &entry.children)?;
-        text.push('\n')?;
+        page.word(format_args!("{number} {:?} {} to", entry.family, entry.source));
+        show_children(page, &entry.children);
     }
-    Ok(text)
 }
 
-/// The kinds, each on a line.
-fn kinds_in_words(alloc: Global, kinds: &[Kind]) -> Result<String, Fail> {
-    let mut text = String::new(alloc);
-    for kind in kinds {
-        write!(text, "{kind}")?;
-        if kind.is_native() {
-            text.push_str(" native")?;
+fn show_children(page: &mut Page, children: &Children) {
+    match children {
+        Children::None => page.line(""),
+        Children::One(first) => page.line(format_args!(" {first}")),
+        Children::Two(first, second) => page.line(format_args!(" {first} {second}")),
+        Children::Three(first, second, third) => {
+            page.line(format_args!(" {first} {second} {third}"));
         }
-        text.push('\n')?;
     }
-    Ok(text)
 }
 
-// The tables stand in functions of their own, since what holds a table is proved slowly.
-fn entries() -> [EdgeEntry; EDGE_COUNT] {
-    EDGES
-}
-
-fn kinds() -> [Kind; KIND_COUNT] {
-    KINDS.kinds
-}
-
-#[test]
-fn each_edge_in_words(rt: HostRuntime) -> Result<(), Fail> {
-    let text = edges_in_words(rt.alloc(), &entries())?;
-    assert!(rt; text.as_str() == EDGES_IN_WORDS);
-    Ok(())
-}
-
-#[test]
-fn each_kind_in_words(rt: HostRuntime) -> Result<(), Fail> {
-    let text = kinds_in_words(rt.alloc(), &kinds())?;
-    assert!(rt; text.as_str() == KINDS_IN_WORDS);
-    Ok(())
+fn show_kinds(page: &mut Page, kinds: &[Kind]) {
+    for kind in kinds {
+        let native = if kind.is_native() { " native" } else { "" };
+        page.line(format_args!("{kind}{native}"));
+    }
 }
