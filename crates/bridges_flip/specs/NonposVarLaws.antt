@@ -1,5 +1,5 @@
 -- The law of NonposVar: x ≤ 0 is -s with s ≥ 0.
-use Rattle.std.specs.Prelude.{All, List, [], length, map, refl, true, ℕ, ◌*◌, ◌∷◌, ◌≡◌, ◌≤◌, false}
+use Rattle.std.specs.Prelude.{All, List, [], length, map, refl, ℕ, ◌*◌, ◌∷◌, ◌≡◌, ◌≤◌}
 use Rattle.std.proofs.lemmas.List.Elements.{All-nil, All-weaker, All-cons, All-map}
 use Rattle.std.proofs.Common.{ap, ap₂, arith, ◌∙◌, subst, sym}
 use Rattle.std.proofs.lemmas.List.{length-map}
@@ -11,7 +11,7 @@ use Rattle.item_core.specs.declared.image.Expression.TheVariants.{Bridged}
 use Rattle.set_core.specs.Membership.{Dual, In, low_of}
 use Rattle.item_core.specs.declared.edge.Edge.TheVariants.{E44}
 use Rattle.item_core.specs.declared.edge.Edge.{Edge}
-use Rattle.bridge_face.specs.Law.{IsLawful, LeadsTo, Miss, growth}
+use Rattle.bridge_face.specs.Law.{IsLawful, Miss, growth}
 use Rattle.item_core.specs.declared.image.Expression.{Expression}
 use Rattle.bridge_face.specs.ImageOf.{bridged, image_by, image_of, inner, nonpos_var, group_at}
 use Rattle.item_core.specs.Valid.{IsValidItem}
@@ -33,7 +33,6 @@ use Rattle.rational_laws.specs.DotLaws.{dot-negated, dot_zeros}
 use Rattle.item_core.specs.Edge.{edge_entry, family_of, source_of}
 use Rattle.bridge_face.specs.DifferenceLaws.{evaluated-negated, missed-negated}
 use Rattle.linear_laws.specs.ListLaws.{evaluated_variable}
-use Rattle.item_core.specs.Item.{is_group, set_of}
 use Rattle.item_core.specs.KindOf.{kind_of_body}
 use Rattle.set_laws.specs.Mirrors.{mirrors}
 use Rattle.set_core.specs.Mirrored.{multiplied}

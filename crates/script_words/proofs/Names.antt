@@ -1,5 +1,5 @@
 -- The names of families and of native kinds are read.
-use Rattle.std.proofs.Common.{◌≡◌, None, Option, Some, if◌then◌else◌, refl, ◌∙◌}
+use Rattle.std.proofs.Common.{◌≡◌, None, Some, if◌then◌else◌, refl, ◌∙◌}
 use Rattle.std.specs.Bool.{IsTrue}
 use Rattle.std.proofs.lemmas.Bool.{cond-true}
 use Rattle.item_core.specs.declared.family.Family.{Family}

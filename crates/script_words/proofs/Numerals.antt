@@ -1,5 +1,5 @@
 -- Numerals are ASCII, and what `parse` makes of them.
-use Rattle.std.proofs.Common.{◌≡◌, ℕ, zero, suc, ◌<◌, ◌≤◌, ◌^◌, Bool, true, false, cond, ◌&&◌, Option, Some, None, List, [], ◌∷◌, length, get_or, refl, sym, ap, ◌∙◌, arith, rules, inl, inr, lt-ltb, le-ltb, nat_lt, nat_le, lit<}
+use Rattle.std.proofs.Common.{◌≡◌, ℕ, zero, suc, ◌<◌, ◌^◌, true, cond, ◌&&◌, Some, None, List, [], ◌∷◌, length, sym, ap, ◌∙◌, arith, rules, inl, inr, lt-ltb, le-ltb, nat_le, lit<}
 use Rattle.std.proofs.lemmas.Bool.{and_parts, cases_lt}
 use Rattle.std.proofs.lemmas.Bool.Decides.{nat_tests}
 use Rattle.std.proofs.lemmas.Str.{IsUtf8-from_ascii}

@@ -1,5 +1,5 @@
 -- Whole numbers of a bounded size: their sums, products and negations, and what of them fits.
-use Rattle.std.specs.Prelude.{◌≡◌, ℕ, ◌+◌, ◌*◌, ◌/◌, ◌^◌, ◌<◌, ◌≤◌, ℤ, pos, negsuc, zero, suc, ◌+ℤ◌, ◌*ℤ◌, neg_ℤ, unsigned_abs, refl}
+use Rattle.std.specs.Prelude.{◌≡◌, ℕ, ◌+◌, ◌*◌, ◌/◌, ◌^◌, ◌<◌, ◌≤◌, ℤ, pos, ◌+ℤ◌, ◌*ℤ◌, unsigned_abs, refl}
 use Rattle.std.proofs.Common.{sym, ap, ap₂, subst, ◌∙◌, arith, div-one}
 use Rattle.std.proofs.Math.Nat.{mul-le-mul}
 use Rattle.std.proofs.lemmas.Int.{ints, unsigned_abs-mul}
