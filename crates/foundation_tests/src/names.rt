@@ -1,137 +1,98 @@
-//! Names and their table.
+// Names and their table.
+use crate::page::Page;
+use lists::Duplicate;
+use name_index::{Name, NameTable, Names};
 
-use lists::{Duplicate, Memory};
-use name_index::{Name, NameFault, NameTable, Names};
-use std::alloc::Global;
-use std::test::Fail;
-
-// Tokens with the texts of the names that they stand for.
-const TOKENS: [(&[u8], Option<&str>); 16] = [
-    (b"x", Some("x")),
-    (b"x%201", Some("x 1")),
-    (b"%", Some("%")),
-    (b"%2", Some("%2")),
-    (b"%zz", Some("%zz")),
-    (b"%2g", Some("%2g")),
-    (b"%%41", Some("%A")),
-    (b"%4a%4A", Some("JJ")),
-    (b"%00", Some("\0")),
-    (b"%C3%A9", Some("\u{e9}")),
-    (b"%F0%9F%98%80", Some("\u{1f600}")),
-    // No UTF-8: a lone byte, an overlong form, a surrogate, half a character. And no name: no
-    // bytes.
-    (b"%FF", None),
-    (b"%C0%80", None),
-    (b"%ED%A0%80", None),
-    (b"%C3", None),
-    (b"", None),
+// Some stand for no name: their bytes are no UTF-8 (a lone byte, an overlong form, a surrogate,
+// half a character), or there are none.
+const TOKENS: [&str; 20] = [
+    "x",
+    "x[1]",
+    "x%201",
+    "%",
+    "%2",
+    "%zz",
+    "%2g",
+    "%%41",
+    "%2541",
+    "%4a%4A",
+    "%00",
+    "%00%1f",
+    "~%7f",
+    "%C3%A9",
+    "%F0%9F%98%80",
+    "%FF",
+    "%C0%80",
+    "%ED%A0%80",
+    "%C3",
+    "",
 ];
 
-// Texts of names with the tokens that they are written as.
-const ESCAPES: [(&str, &[u8]); 6] = [
-    ("x[1]", b"x[1]"),
-    ("x 1", b"x%201"),
-    ("%41", b"%2541"),
-    ("\0\u{1f}", b"%00%1F"),
-    ("~\u{7f}", b"~%7F"),
-    ("\u{e9}", b"%C3%A9"),
-];
-
-fn has_text(name: &Option<Name>, text: Option<&str>) -> bool {
-    match name {
-        Some(name) => text == Some(name.text()),
-        None => text.is_none(),
+/// The names that tokens stand for, a text that is too long for a name, a list of names, and a
+/// table of one name.
+pub fn show(page: &mut Page) {
+    for token in &TOKENS {
+        show_token(page, token);
+    }
+    too_long(page);
+    if let Ok(x) = Name::new(page.alloc(), "x") {
+        let mut table = NameTable::new(page.alloc());
+        go_both_ways(page, &mut table, &x);
+        in_a_list(page, x);
     }
 }
 
-fn stand_for(alloc: Global, cases: &[(&[u8], Option<&str>)]) -> Result<bool, Memory> {
-    for (token, text) in cases {
-        if !has_text(&Name::unescape(alloc, token)?, *text) {
-            return Ok(false);
-        }
-    }
-    Ok(true)
-}
-
-#[test]
-fn a_token_stands_for_a_name(rt: HostRuntime) {
-    assert!(rt; stand_for(rt.alloc(), &TOKENS) == Ok(true));
-}
-
-fn is_written(name: &Name, token: &[u8]) -> Result<bool, Memory> {
-    Ok(name.escape()?.as_slice() == token)
-}
-
-fn are_written(alloc: Global, cases: &[(&str, &[u8])]) -> Result<bool, Fail> {
-    for (text, token) in cases {
-        if !is_written(&Name::new(alloc, text)?, token)? {
-            return Ok(false);
-        }
-    }
-    Ok(true)
-}
-
-#[test]
-fn a_name_is_escaped(rt: HostRuntime) -> Result<(), Fail> {
-    assert!(rt; are_written(rt.alloc(), &ESCAPES)?);
-    Ok(())
-}
-
-#[test]
-fn a_name_has_4096_bytes_at_most(rt: HostRuntime) -> Result<(), Fail> {
-    let text = "x".repeat(rt.alloc(), 4097)?;
-    let refused = Name::new(rt.alloc(), text.as_str());
-    assert!(rt; matches!(refused, Err(NameFault::BadName)));
-    Ok(())
-}
-
-/// Whether the first of the names is x.
-fn begins_with_x(names: &Names) -> bool {
-    match names.get(0) {
-        Some(name) => name.text() == "x",
-        None => false,
+fn show_token(page: &mut Page, token: &str) {
+    match Name::unescape(page.alloc(), token.as_bytes()) {
+        Ok(Some(name)) => show_written(page, token, &name),
+        other => page.line(format_args!("{token} is {other:?}")),
     }
 }
 
-#[test]
-fn names_are_a_list(rt: HostRuntime) -> Result<(), Fail> {
-    let x = Name::new(rt.alloc(), "x")?;
-    let names = Names::from_vec(vec![in rt.alloc(); x]?);
-    assert!(rt; begins_with_x(&names.copy()?));
-    Ok(())
-}
-
-/// Whether a free name can have the number 7.
-fn takes(table: &mut NameTable, name: Name) -> bool {
-    if table.id(&name).is_some() || table.name(7).is_some() {
-        return false;
-    }
-    table.add(name, 7).is_ok()
-}
-
-/// Whether the name with the number 7 is this one.
-fn has_at_7(table: &NameTable, name: &Name) -> bool {
-    match table.name(7) {
-        Some(found) => found.text() == name.text(),
-        None => false,
+fn show_written(page: &mut Page, token: &str, name: &Name) {
+    if let Ok(written) = name.escape() {
+        let (text, written) = (name.text(), std::str::from_utf8(written.as_slice()));
+        page.line(format_args!("{token} is {text:?}, written {written:?}"));
     }
 }
 
-/// Whether a name that has the number 7 is taken out.
-fn gives_back(table: &mut NameTable, name: &Name) -> bool {
-    table.id(name) == Some(7) && table.remove(7).is_some() && table.id(name).is_none()
+fn too_long(page: &mut Page) {
+    if let Ok(text) = "x".repeat(page.alloc(), 4097) {
+        let name = Name::new(page.alloc(), text.as_str());
+        page.line(format_args!("4097 bytes are {name:?}"));
+    }
 }
 
-/// Whether a name is put into the table, found and taken out.
-fn goes_both_ways(table: &mut NameTable, name: &Name) -> Result<bool, Memory> {
-    table.reserve(1)?;
-    Ok(takes(table, name.copy()?) && has_at_7(table, name) && gives_back(table, name))
+fn in_a_list(page: &mut Page, name: Name) {
+    if let Ok(names) = vec![in page.alloc(); name] {
+        let names = Names::from_vec(names);
+        page.line(format_args!("names: {:?}", names.copy()));
+    }
 }
 
-#[test]
-fn a_table_goes_both_ways(rt: HostRuntime) -> Result<(), Fail> {
-    let x = Name::new(rt.alloc(), "x")?;
-    let mut table = NameTable::new(rt.alloc());
-    assert!(rt; goes_both_ways(&mut table, &x) == Ok(true));
-    Ok(())
+// Puts a name into an empty table, finds it and takes it out.
+fn go_both_ways(page: &mut Page, table: &mut NameTable, name: &Name) {
+    let (room, is_put) = (table.reserve(1), put_copy(table, name));
+    page.line(format_args!("room {room:?}, put {is_put}"));
+    find(page, table, name);
+    let taken = table.remove(7);
+    page.line(format_args!("taken out: {taken:?}"));
+    find(page, table, name);
+}
+
+fn put_copy(table: &mut NameTable, name: &Name) -> bool {
+    match name.copy() {
+        Ok(name) => put(table, name),
+        Err(_) => false,
+    }
+}
+
+// Whether a free name gets the free number 7.
+fn put(table: &mut NameTable, name: Name) -> bool {
+    table.id(&name).is_none() && table.name(7).is_none() && table.add(name, 7).is_ok()
+}
+
+fn find(page: &mut Page, table: &NameTable, name: &Name) {
+    let (number, found) = (table.id(name), table.name(7));
+    page.line(format_args!("{name:?} has {number:?}, and 7 is of {found:?}"));
 }

@@ -1,30 +1,18 @@
-//! Lists.
+// Lists.
+use crate::page::Page;
+use lists::{Duplicate, Sequence};
 
-use lists::{Duplicate, Memory, Sequence};
-use std::alloc::Global;
-use std::test::Fail;
-
-/// Whether an empty list keeps two values in the order in which they are put.
-fn keeps_order(list: &mut Sequence<u8>) -> bool {
-    let is_put = list.is_empty() && list.push(2).is_ok() && list.push(5).is_ok();
-    is_put && list.get(1) == Some(&5) && list.get(2).is_none() && list.len() == 2
-}
-
-#[test]
-fn values_are_kept_in_order(rt: HostRuntime) -> Result<(), Fail> {
-    let mut list = Sequence::new(rt.alloc());
-    assert!(rt; keeps_order(&mut list));
-    assert!(rt; list.copy()?.as_slice() == [2, 5].as_slice());
-    Ok(())
-}
-
-/// The vector of a vector's list.
-fn vector_again(alloc: Global) -> Result<Vec<u8>, Memory> {
-    Ok(Sequence::from_vec(vec![in alloc; 7u8]?).into_vec())
-}
-
-#[test]
-fn lists_are_made_of_vectors(rt: HostRuntime) -> Result<(), Fail> {
-    assert!(rt; vector_again(rt.alloc())?.as_slice() == [7].as_slice());
-    Ok(())
+/// A list of 2 and 5: what it has, its copy and its vector.
+pub fn show(page: &mut Page) {
+    let mut list = Sequence::new(page.alloc());
+    let was_empty = list.is_empty();
+    let is_put = list.push(2u8).is_ok() & list.push(5).is_ok();
+    page.line(format_args!(
+        "empty {was_empty}, put {is_put}: {} values, at 1 {:?}, at 2 {:?}",
+        list.len(),
+        list.get(1),
+        list.get(2)
+    ));
+    let copy = list.copy();
+    page.line(format_args!("copy {copy:?}, vector {:?}", list.into_vec()));
 }

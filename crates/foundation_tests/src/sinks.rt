@@ -1,65 +1,49 @@
-//! Sinks: in memory, and of a system that interrupts and fails.
-
-use io_face::{Calls, MemSink, Sink, SinkFault, StdOut, SureSink, write_all};
+// Sinks: in memory, and of a system that interrupts and fails.
+use crate::page::Page;
+use io_face::{Calls, MemSink, Sink, StdOut, SureSink, write_all};
 use std::alloc::{AllocError, Global};
 use std::io;
 use std::io::{ErrorKind, Write};
-use std::test::Fail;
 
-/// Whether a piece is taken whole.
-fn takes_all(sink: &mut SureSink) -> bool {
-    let is_taken = sink.write(b"hello") == Ok(5);
-    is_taken && sink.written() == b"hello".as_slice() && sink.faults() == 0
+/// Writes to each kind of sink.
+pub fn show(page: &mut Page) {
+    let mut sink = SureSink::new(page.alloc());
+    write(page, "whole", &mut sink);
+    written(page, sink.written());
+    in_pieces(page, "in pieces, the third fails", 3);
+    in_pieces(page, "the first fails", 1);
+    write(page, "interrupted", &mut StdOut::new(Wire { calls: 0 }));
+    write(
+        page,
+        "no byte is taken",
+        &mut StdOut::new(Wire { calls: 2 }),
+    );
 }
 
-#[test]
-fn a_piece_is_taken_whole(rt: HostRuntime) {
-    let mut sink = SureSink::new(rt.alloc());
-    assert!(rt; takes_all(&mut sink));
+fn write<O: Sink>(page: &mut Page, what: &str, sink: &mut O) {
+    let count = sink.write(b"hello");
+    page.line(format_args!("write, {what}: {count:?}, faults {}", sink.faults()));
 }
 
-/// A sink that takes two bytes at a time, and fails at this write.
-fn sink_of_pieces(alloc: Global, failing: u64) -> Result<MemSink, AllocError> {
+fn written(page: &mut Page, bytes: &[u8]) {
+    page.line(format_args!("    {:?}", std::str::from_utf8(bytes)));
+}
+
+// A sink that takes two bytes at a time, and fails at this write.
+fn pieces(alloc: Global, failing: u64) -> Result<MemSink, AllocError> {
     let fails = Calls::from_vec(vec![in alloc; failing]?);
     Ok(MemSink::new(alloc, 2, fails))
 }
 
-/// Whether the beginning of a piece is taken.
-fn takes_a_part(sink: &mut MemSink) -> bool {
-    let is_taken = sink.write(b"hello") == Ok(2);
-    is_taken && sink.written() == b"he".as_slice() && sink.faults() == 0
-}
-
-#[test]
-fn a_piece_is_taken_in_parts(rt: HostRuntime) -> Result<(), Fail> {
-    let mut sink = sink_of_pieces(rt.alloc(), 2)?;
-    assert!(rt; takes_a_part(&mut sink));
-    Ok(())
-}
-
-/// Whether a write fails and is counted.
-fn fails_once(sink: &mut MemSink) -> bool {
-    sink.write(b"hello") == Err(SinkFault::Failed) && sink.faults() == 1
-}
-
-#[test]
-fn the_listed_write_fails(rt: HostRuntime) -> Result<(), Fail> {
-    let mut sink = sink_of_pieces(rt.alloc(), 1)?;
-    assert!(rt; fails_once(&mut sink));
-    Ok(())
-}
-
-/// Whether a text is written up to the third write.
-fn stops_at_the_third(sink: &mut MemSink) -> bool {
-    let is_stopped = write_all(sink, b"hello") == Err(SinkFault::Failed);
-    is_stopped && sink.written() == b"hell".as_slice()
-}
-
-#[test]
-fn a_text_is_written_up_to_a_fault(rt: HostRuntime) -> Result<(), Fail> {
-    let mut sink = sink_of_pieces(rt.alloc(), 3)?;
-    assert!(rt; stops_at_the_third(&mut sink));
-    Ok(())
+// One write, and then the text up to a fault.
+fn in_pieces(page: &mut Page, what: &str, failing: u64) {
+    if let Ok(mut sink) = pieces(page.alloc(), failing) {
+        write(page, what, &mut sink);
+        written(page, sink.written());
+        let answer = write_all(&mut sink, b"hello");
+        page.line(format_args!("    all: {answer:?}"));
+        written(page, sink.written());
+    }
 }
 
 /// Is interrupted, takes a byte, then none, and fails.
@@ -82,16 +66,4 @@ impl Write for Wire {
     fn flush(&mut self) -> io::Result<()> {
         Ok(())
     }
-}
-
-#[test]
-fn writing_goes_on_after_a_signal(rt: HostRuntime) {
-    let mut output = StdOut::new(Wire { calls: 0 });
-    assert!(rt; output.write(b"hi") == Ok(1) && output.faults() == 0);
-}
-
-#[test]
-fn a_write_of_nothing_is_counted(rt: HostRuntime) {
-    let mut output = StdOut::new(Wire { calls: 2 });
-    assert!(rt; output.write(b"hi") == Err(SinkFault::Failed) && output.faults() == 1);
 }

@@ -1,58 +1,49 @@
-//! Sources: in memory, and of a system that interrupts and fails.
-
-use io_face::{Calls, Failed, MemSource, Source, StdIn, SureSource};
-use lists::Memory;
-use std::alloc::Global;
+// Sources: in memory, and of a system that interrupts and fails.
+use crate::page::Page;
+use io_face::{Calls, MemSource, Source, StdIn, SureSource, read_whole};
+use std::alloc::{AllocError, Global};
 use std::io;
 use std::io::{ErrorKind, Read};
-use std::test::Fail;
 
-/// Whether five bytes come in two reads, the first of three.
-fn gives_all(source: &mut SureSource) -> bool {
+/// Reads from each kind of source.
+pub fn show(page: &mut Page) {
+    sure(page);
+    in_pieces(page, "in pieces", 9);
+    in_pieces(page, "the first fails", 1);
+    read(page, "interrupted", &mut StdIn::new(Wire { calls: 0 }));
+    read(page, "broken", &mut StdIn::new(Wire { calls: 2 }));
+}
+
+// Three bytes at most.
+fn read<I: Source>(page: &mut Page, what: &str, source: &mut I) {
     let mut into = [0u8; 3];
-    let is_first = source.read(&mut into) == Ok(3) && into == *b"hel";
-    is_first && source.read(&mut into) == Ok(2) && into == *b"lol" && source.faults() == 0
+    let count = source.read(&mut into);
+    let (text, faults) = (std::str::from_utf8(&into), source.faults());
+    page.line(format_args!("read, {what}: {count:?} {text:?}, faults {faults}"));
 }
 
-#[test]
-fn all_bytes_come_in_order(rt: HostRuntime) -> Result<(), Fail> {
-    let mut source = SureSource::new(b"hello".to_vec(rt.alloc())?);
-    assert!(rt; gives_all(&mut source));
-    Ok(())
-}
-
-/// A source of pieces of two bytes, whose first read fails or none.
-fn source_of_pieces(alloc: Global, first_fails: bool) -> Result<MemSource, Memory> {
-    let mut fails = Calls::new(alloc);
-    if first_fails && fails.push(1).is_err() {
-        return Err(Memory);
+fn sure(page: &mut Page) {
+    if let Ok(bytes) = b"hello".to_vec(page.alloc()) {
+        let mut source = SureSource::new(bytes);
+        read(page, "all that there is", &mut source);
+        read(page, "what is left", &mut source);
     }
+}
+
+// A source of pieces of two bytes, of which a read fails.
+fn pieces(alloc: Global, failing: u64) -> Result<MemSource, AllocError> {
+    let fails = Calls::from_vec(vec![in alloc; failing]?);
     Ok(MemSource::new(b"hello".to_vec(alloc)?, 2, fails))
 }
 
-/// Whether a read gives no more than a piece.
-fn gives_a_piece(source: &mut MemSource) -> bool {
-    let mut into = [0u8; 3];
-    source.read(&mut into) == Ok(2) && into == *b"he\0"
-}
-
-#[test]
-fn bytes_come_in_pieces(rt: HostRuntime) -> Result<(), Fail> {
-    let mut source = source_of_pieces(rt.alloc(), false)?;
-    assert!(rt; gives_a_piece(&mut source));
-    Ok(())
-}
-
-/// Whether a read fails and is counted.
-fn fails_once(source: &mut MemSource) -> bool {
-    source.read(&mut [0u8; 3]) == Err(Failed) && source.faults() == 1
-}
-
-#[test]
-fn the_listed_read_fails(rt: HostRuntime) -> Result<(), Fail> {
-    let mut source = source_of_pieces(rt.alloc(), true)?;
-    assert!(rt; fails_once(&mut source));
-    Ok(())
+// One read, and then all that is left.
+fn in_pieces(page: &mut Page, what: &str, failing: u64) {
+    if let Ok(mut source) = pieces(page.alloc(), failing) {
+        read(page, what, &mut source);
+        let mut left = Vec::new(page.alloc());
+        let answer = read_whole(&mut source, &mut left);
+        page.line(format_args!("    left: {answer:?} {:?}", std::str::from_utf8(&left)));
+    }
 }
 
 /// Is interrupted, gives two bytes, fails, and is at its end.
@@ -74,17 +65,4 @@ impl Read for Wire {
             _ => Ok(0),
         }
     }
-}
-
-#[test]
-fn reading_goes_on_after_a_signal(rt: HostRuntime) {
-    let mut input = StdIn::new(Wire { calls: 0 });
-    let mut into = [0u8; 4];
-    assert!(rt; input.read(&mut into) == Ok(2) && into == *b"hi\0\0");
-}
-
-#[test]
-fn a_fault_is_counted(rt: HostRuntime) {
-    let mut input = StdIn::new(Wire { calls: 2 });
-    assert!(rt; input.read(&mut [0u8; 4]) == Err(Failed) && input.faults() == 1);
 }
