@@ -100,13 +100,13 @@ impl<F: Rewriting> Bridge for KeptItems<F> {
         let Some(kept) = self.kept.get(at) else {
             return None;
         };
-        Some(F::child_rows(kept.edge, &kept.item))
+        Some(F::child_rows(kept))
     }
 
     fn back(&self, at: &Address, duals: &[Ratios]) -> Result<Ratios, ItemFault> {
         let Some(kept) = self.kept.get(at) else {
             unreachable!()
         };
-        F::back(self.alloc, kept.edge, &kept.item, duals)
+        F::back(self.alloc, kept, duals)
     }
 }

@@ -2,12 +2,11 @@
 ghost use Rattle.std.specs.Prelude.{◌≡◌};
 ghost use Rattle.aff_core.specs.Arithmetic.{ExactWhere};
 ghost use Rattle.item_core.specs.Edge.{family_of};
-ghost use Rattle.bridge_face.specs.BackOf.{back_of, BackFits};
 ghost use Rattle.bridge_face.specs.ImageOf.{image_of, ImageFits};
 ghost use Rattle.bridge_face.specs.Law.{IsItemFor, IsLawful};
-ghost use Rattle.bridge_face.specs.State.{TakesDuals, child_rows_of};
+ghost use Rattle.bridge_face.specs.State.{IsDualOf, TakesDuals, child_rows_of};
 
-use crate::{ChildRows, ItemFault};
+use crate::{ChildRows, ItemFault, KeptItem};
 use item_core::{Edge, Family, Image, Item};
 use ratio_core::Ratios;
 use std::alloc::Global;
@@ -30,18 +29,17 @@ pub trait Rewriting: Drop {
             (λ image. image ≡ image_of edge item.now) };
 
     /// Where the item's child rows stand.
-    fn child_rows(edge: Edge, item: &Item) -> ChildRows
-        requires own { family_of edge ≡ family }
-        requires suits { IsItemFor edge item.now }
-        ensures { result ≡ child_rows_of edge item.now };
+    fn child_rows(kept: &KeptItem) -> ChildRows
+        requires own { family_of kept.now.edge ≡ family }
+        requires suits { IsItemFor kept.now.edge kept.now.item }
+        ensures { result ≡ child_rows_of kept.now.edge kept.now.item };
 
     /// The dual of a row, by those of its child rows.
-    fn back(alloc: Global, edge: Edge, item: &Item, duals: &[Ratios]) -> Result<Ratios, ItemFault>
-        requires own { family_of edge ≡ family }
-        requires suits { IsItemFor edge item.now }
-        requires duals { TakesDuals (record { edge = edge; item = item.now }) duals.now }
-        ensures { ExactWhere result (BackFits edge item.now duals.now)
-            (λ dual. dual ≡ back_of edge item.now duals.now) };
+    fn back(alloc: Global, kept: &KeptItem, duals: &[Ratios]) -> Result<Ratios, ItemFault>
+        requires own { family_of kept.now.edge ≡ family }
+        requires suits { IsItemFor kept.now.edge kept.now.item }
+        requires duals { TakesDuals kept.now duals.now }
+        ensures { IsDualOf result duals.now kept.now };
 
     ghost lawful: { IsLawful family };
 }

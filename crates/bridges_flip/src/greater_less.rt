@@ -9,7 +9,7 @@ ghost use Rattle.bridges_flip.specs.GreaterLessLaws.{IsBound, made};
 
 use crate::flips::{mirror, negations};
 use aff_core::Aff;
-use bridge_face::{ChildRows, ItemFault, KeptItems, Rewriting, row_image};
+use bridge_face::{ChildRows, ItemFault, KeptItem, KeptItems, Rewriting, row_image};
 use item_core::{Body, Edge, Family, Image, Item};
 use lists::Memory;
 use ratio_core::Ratios;
@@ -37,16 +37,11 @@ impl Rewriting for GreaterLessRule {
         Ok(row_image(alloc, item, body)?)
     }
 
-    fn child_rows(_edge: Edge, _item: &Item) -> ChildRows {
+    fn child_rows(_kept: &KeptItem) -> ChildRows {
         ChildRows { first: 0, count: 1 }
     }
 
-    fn back(
-        alloc: Global,
-        _edge: Edge,
-        _item: &Item,
-        duals: &[Ratios],
-    ) -> Result<Ratios, ItemFault> {
+    fn back(alloc: Global, _kept: &KeptItem, duals: &[Ratios]) -> Result<Ratios, ItemFault> {
         Ok(negations(alloc, duals[0].as_slice())?)
     }
 

@@ -7,7 +7,7 @@ ghost use Rattle.std.specs.Prelude.{◌≡◌, IfOk};
 ghost use Rattle.bridge_face.specs.ImageOf.{opposite as other};
 ghost use Rattle.bridges_flip.specs.ObjFlipLaws.{IsAffineObjective, made};
 
-use bridge_face::{ChildRows, ItemFault, KeptItems, Rewriting, objective_image};
+use bridge_face::{ChildRows, ItemFault, KeptItem, KeptItems, Rewriting, objective_image};
 use item_core::{Body, Edge, Family, Image, Item, Sense};
 use lists::Memory;
 use ratio_core::Ratios;
@@ -36,16 +36,11 @@ impl Rewriting for ObjFlipRule {
         Ok(objective_image(alloc, item, body))
     }
 
-    fn child_rows(_edge: Edge, _item: &Item) -> ChildRows {
+    fn child_rows(_kept: &KeptItem) -> ChildRows {
         ChildRows { first: 0, count: 0 }
     }
 
-    fn back(
-        _alloc: Global,
-        _edge: Edge,
-        _item: &Item,
-        _duals: &[Ratios],
-    ) -> Result<Ratios, ItemFault> {
+    fn back(_alloc: Global, _kept: &KeptItem, _duals: &[Ratios]) -> Result<Ratios, ItemFault> {
         unreachable!()
     }
 

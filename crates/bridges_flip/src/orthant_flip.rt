@@ -8,7 +8,7 @@ ghost use Rattle.std.specs.Prelude.{◌≡◌, IfOk};
 ghost use Rattle.bridges_flip.specs.OrthantFlipLaws.{IsOrthant, made};
 
 use crate::flips::{mirror, negated_functions, negations};
-use bridge_face::{ChildRows, ItemFault, KeptItems, Rewriting, row_image};
+use bridge_face::{ChildRows, ItemFault, KeptItem, KeptItems, Rewriting, row_image};
 use item_core::{Body, Edge, Family, Image, Item};
 use lists::Memory;
 use ratio_core::Ratios;
@@ -36,16 +36,11 @@ impl Rewriting for OrthantFlipRule {
         Ok(row_image(alloc, item, body)?)
     }
 
-    fn child_rows(_edge: Edge, _item: &Item) -> ChildRows {
+    fn child_rows(_kept: &KeptItem) -> ChildRows {
         ChildRows { first: 0, count: 1 }
     }
 
-    fn back(
-        alloc: Global,
-        _edge: Edge,
-        _item: &Item,
-        duals: &[Ratios],
-    ) -> Result<Ratios, ItemFault> {
+    fn back(alloc: Global, _kept: &KeptItem, duals: &[Ratios]) -> Result<Ratios, ItemFault> {
         Ok(negations(alloc, duals[0].as_slice())?)
     }
 

@@ -17,7 +17,7 @@ use crate::differences::less_function;
 use crate::duals::{across_behind, sum};
 use crate::parts::{first_function, other_functions};
 use aff_core::{Aff, VecAff};
-use bridge_face::{ChildRows, ItemFault, KeptItems, Rewriting, row_image};
+use bridge_face::{ChildRows, ItemFault, KeptItem, KeptItems, Rewriting, row_image};
 use item_core::{Body, Edge, Family, Image, Item};
 use ratio_core::Ratios;
 use set_core::Set;
@@ -45,16 +45,11 @@ impl Rewriting for NormInfinityRule {
         Ok(row_image(alloc, item, body)?)
     }
 
-    fn child_rows(_edge: Edge, _item: &Item) -> ChildRows {
+    fn child_rows(_kept: &KeptItem) -> ChildRows {
         ChildRows { first: 0, count: 1 }
     }
 
-    fn back(
-        alloc: Global,
-        _edge: Edge,
-        _item: &Item,
-        duals: &[Ratios],
-    ) -> Result<Ratios, ItemFault> {
+    fn back(alloc: Global, _kept: &KeptItem, duals: &[Ratios]) -> Result<Ratios, ItemFault> {
         let numbers = duals[0].as_slice();
         let first = sum(numbers)?;
         across_behind(alloc, first, numbers)

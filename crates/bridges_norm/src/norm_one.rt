@@ -19,8 +19,8 @@ use crate::duals::across_behind;
 use crate::parts::{first_function, first_number, other_functions, other_numbers};
 use aff_core::{Address, Aff, VecAff};
 use bridge_face::{
-    ChildRows, ItemFault, KeptItems, Rewriting, child_group, component_count, group_row_image,
-    inner_variables,
+    ChildRows, ItemFault, KeptItem, KeptItems, Rewriting, child_group, component_count,
+    group_row_image, inner_variables,
 };
 use item_core::{Body, Edge, Expressions, Family, Image, Item};
 use lists::Duplicate;
@@ -56,16 +56,11 @@ impl Rewriting for NormOneRule {
         Ok(group_row_image(alloc, item, group, Expressions::new(alloc), row)?)
     }
 
-    fn child_rows(_edge: Edge, _item: &Item) -> ChildRows {
+    fn child_rows(_kept: &KeptItem) -> ChildRows {
         ChildRows { first: 1, count: 1 }
     }
 
-    fn back(
-        alloc: Global,
-        _edge: Edge,
-        _item: &Item,
-        duals: &[Ratios],
-    ) -> Result<Ratios, ItemFault> {
+    fn back(alloc: Global, _kept: &KeptItem, duals: &[Ratios]) -> Result<Ratios, ItemFault> {
         let numbers = duals[0].as_slice();
         across_behind(alloc, first_number(numbers), other_numbers(numbers))
     }

@@ -7,7 +7,7 @@ ghost use Rattle.std.specs.Prelude.{◌≡◌, IfOk};
 ghost use Rattle.bridges_shape.specs.ObjFunctionizeLaws.{IsPlainObjective, made};
 
 use aff_core::Aff;
-use bridge_face::{ChildRows, ItemFault, KeptItems, Rewriting, objective_image};
+use bridge_face::{ChildRows, ItemFault, KeptItem, KeptItems, Rewriting, objective_image};
 use item_core::{Body, Edge, Family, Image, Item};
 use lists::Memory;
 use ratio_core::Ratios;
@@ -35,16 +35,11 @@ impl Rewriting for ObjFunctionizeRule {
         Ok(objective_image(alloc, item, body))
     }
 
-    fn child_rows(_edge: Edge, _item: &Item) -> ChildRows {
+    fn child_rows(_kept: &KeptItem) -> ChildRows {
         ChildRows { first: 0, count: 0 }
     }
 
-    fn back(
-        _alloc: Global,
-        _edge: Edge,
-        _item: &Item,
-        _duals: &[Ratios],
-    ) -> Result<Ratios, ItemFault> {
+    fn back(_alloc: Global, _kept: &KeptItem, _duals: &[Ratios]) -> Result<Ratios, ItemFault> {
         unreachable!()
     }
 

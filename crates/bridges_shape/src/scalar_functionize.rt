@@ -6,7 +6,7 @@
 //! - In MathOptInterface: `ScalarFunctionizeBridge`.
 
 use crate::functionize::functionized;
-use bridge_face::{ChildRows, ItemFault, KeptItems, Rewriting, row_image};
+use bridge_face::{ChildRows, ItemFault, KeptItem, KeptItems, Rewriting, row_image};
 use item_core::{Edge, Family, Image, Item};
 use lists::Duplicate;
 use ratio_core::Ratios;
@@ -34,16 +34,11 @@ impl Rewriting for ScalarFunctionizeRule {
         Ok(row_image(alloc, item, body)?)
     }
 
-    fn child_rows(_edge: Edge, _item: &Item) -> ChildRows {
+    fn child_rows(_kept: &KeptItem) -> ChildRows {
         ChildRows { first: 0, count: 1 }
     }
 
-    fn back(
-        _alloc: Global,
-        _edge: Edge,
-        _item: &Item,
-        duals: &[Ratios],
-    ) -> Result<Ratios, ItemFault> {
+    fn back(_alloc: Global, _kept: &KeptItem, duals: &[Ratios]) -> Result<Ratios, ItemFault> {
         let dual = duals[0].copy()?;
         Ok(dual)
     }

@@ -13,7 +13,9 @@ ghost use Rattle.item_core.specs.Item.{functions_of};
 ghost use Rattle.item_core.specs.declared.item.Body.TheVariants as bodies;
 
 use aff_core::{Address, Aff};
-use bridge_face::{ChildRows, ItemFault, KeptItems, Rewriting, component_count, rows_image};
+use bridge_face::{
+    ChildRows, ItemFault, KeptItem, KeptItems, Rewriting, component_count, rows_image,
+};
 use item_core::{Body, Edge, Family, Image, Item};
 use lists::{Duplicate, Memory};
 use ratio_core::{Ratio, Ratios};
@@ -42,19 +44,14 @@ impl Rewriting for ScalarizeRule {
         Ok(rows_image(alloc, rows))
     }
 
-    fn child_rows(_edge: Edge, item: &Item) -> ChildRows {
+    fn child_rows(kept: &KeptItem) -> ChildRows {
         ChildRows {
             first: 0,
-            count: component_count(&item.body),
+            count: component_count(&kept.item.body),
         }
     }
 
-    fn back(
-        alloc: Global,
-        _edge: Edge,
-        _item: &Item,
-        duals: &[Ratios],
-    ) -> Result<Ratios, ItemFault> {
+    fn back(alloc: Global, _kept: &KeptItem, duals: &[Ratios]) -> Result<Ratios, ItemFault> {
         Ok(one_after_another(alloc, duals)?)
     }
 

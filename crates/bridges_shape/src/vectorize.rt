@@ -16,7 +16,7 @@ ghost use Rattle.ratio_core.specs.Rational.{SumFits, neg_ℚ};
 
 use crate::numbers::{cone, number};
 use aff_core::Aff;
-use bridge_face::{ChildRows, ItemFault, KeptItems, Rewriting, alone, row_image};
+use bridge_face::{ChildRows, ItemFault, KeptItem, KeptItems, Rewriting, alone, row_image};
 use item_core::{Body, Edge, Family, Image, Item};
 use lists::Duplicate;
 use ratio_core::Ratios;
@@ -45,16 +45,11 @@ impl Rewriting for VectorizeRule {
         Ok(row_image(alloc, item, body)?)
     }
 
-    fn child_rows(_edge: Edge, _item: &Item) -> ChildRows {
+    fn child_rows(_kept: &KeptItem) -> ChildRows {
         ChildRows { first: 0, count: 1 }
     }
 
-    fn back(
-        _alloc: Global,
-        _edge: Edge,
-        _item: &Item,
-        duals: &[Ratios],
-    ) -> Result<Ratios, ItemFault> {
+    fn back(_alloc: Global, _kept: &KeptItem, duals: &[Ratios]) -> Result<Ratios, ItemFault> {
         let dual = duals[0].copy()?;
         Ok(dual)
     }

@@ -15,7 +15,7 @@ ghost use Rattle.item_core.specs.declared.image.Expression.TheVariants as expres
 use crate::numbers::{cone, number};
 use aff_core::{Address, Aff};
 use bridge_face::{
-    ChildRows, ItemFault, KeptItems, Rewriting, child_group, group_image, inner_variables,
+    ChildRows, ItemFault, KeptItem, KeptItems, Rewriting, child_group, group_image, inner_variables,
 };
 use item_core::{Body, Edge, Expression, Expressions, Family, Image, Item};
 use lists::Memory;
@@ -47,16 +47,11 @@ impl Rewriting for VectorizeVarRule {
         Ok(group_image(alloc, child_group(item, cone(set), vars), exprs)?)
     }
 
-    fn child_rows(_edge: Edge, _item: &Item) -> ChildRows {
+    fn child_rows(_kept: &KeptItem) -> ChildRows {
         ChildRows { first: 1, count: 0 }
     }
 
-    fn back(
-        _alloc: Global,
-        _edge: Edge,
-        _item: &Item,
-        _duals: &[Ratios],
-    ) -> Result<Ratios, ItemFault> {
+    fn back(_alloc: Global, _kept: &KeptItem, _duals: &[Ratios]) -> Result<Ratios, ItemFault> {
         unreachable!()
     }
 

@@ -16,8 +16,8 @@ ghost use Rattle.bridges_slack.specs.LaterLaws.{first_child, second_child};
 
 use aff_core::{Address, Addresses, Aff};
 use bridge_face::{
-    ChildRows, ItemFault, KeptItems, Rewriting, component_count, group_row_image, inner_variables,
-    item_set, variables,
+    ChildRows, ItemFault, KeptItem, KeptItems, Rewriting, component_count, group_row_image,
+    inner_variables, item_set, variables,
 };
 use item_core::{Body, Children, Edge, Expression, Expressions, Family, Image, Item, Kind};
 use lists::Memory;
@@ -57,16 +57,11 @@ impl Rewriting for LaterRule {
         Ok(group_row_image(alloc, item, group, exprs, row)?)
     }
 
-    fn child_rows(_edge: Edge, _item: &Item) -> ChildRows {
+    fn child_rows(_kept: &KeptItem) -> ChildRows {
         ChildRows { first: 1, count: 1 }
     }
 
-    fn back(
-        _alloc: Global,
-        _edge: Edge,
-        _item: &Item,
-        _duals: &[Ratios],
-    ) -> Result<Ratios, ItemFault> {
+    fn back(_alloc: Global, _kept: &KeptItem, _duals: &[Ratios]) -> Result<Ratios, ItemFault> {
         unreachable!()
     }
 

@@ -16,7 +16,7 @@ ghost use Rattle.bridges_slack.specs.ObjSlackLaws.{IsAffineObjective, row_of};
 
 use aff_core::Address;
 use bridge_face::{
-    ChildRows, ItemFault, KeptItems, Rewriting, inner_variables, one_item, variable_less,
+    ChildRows, ItemFault, KeptItem, KeptItems, Rewriting, inner_variables, one_item, variable_less,
 };
 use item_core::{Body, Edge, Expressions, Family, Image, Item, Sense};
 use lists::Memory;
@@ -62,16 +62,11 @@ impl Rewriting for ObjSlackRule {
         })
     }
 
-    fn child_rows(_edge: Edge, _item: &Item) -> ChildRows {
+    fn child_rows(_kept: &KeptItem) -> ChildRows {
         ChildRows { first: 1, count: 1 }
     }
 
-    fn back(
-        _alloc: Global,
-        _edge: Edge,
-        _item: &Item,
-        _duals: &[Ratios],
-    ) -> Result<Ratios, ItemFault> {
+    fn back(_alloc: Global, _kept: &KeptItem, _duals: &[Ratios]) -> Result<Ratios, ItemFault> {
         unreachable!()
     }
 

@@ -15,8 +15,8 @@ ghost use Rattle.bridges_slack.specs.ScalarSlackLaws.{IsBounded};
 
 use aff_core::Address;
 use bridge_face::{
-    ChildRows, ItemFault, KeptItems, Rewriting, child_group, group_row_image, inner_variables,
-    item_set, less_variable,
+    ChildRows, ItemFault, KeptItem, KeptItems, Rewriting, child_group, group_row_image,
+    inner_variables, item_set, less_variable,
 };
 use item_core::{Body, Edge, Expressions, Family, Image, Item};
 use lists::{Duplicate, Memory};
@@ -50,16 +50,11 @@ impl Rewriting for ScalarSlackRule {
         Ok(group_row_image(alloc, item, group, Expressions::new(alloc), row)?)
     }
 
-    fn child_rows(_edge: Edge, _item: &Item) -> ChildRows {
+    fn child_rows(_kept: &KeptItem) -> ChildRows {
         ChildRows { first: 1, count: 1 }
     }
 
-    fn back(
-        _alloc: Global,
-        _edge: Edge,
-        _item: &Item,
-        duals: &[Ratios],
-    ) -> Result<Ratios, ItemFault> {
+    fn back(_alloc: Global, _kept: &KeptItem, duals: &[Ratios]) -> Result<Ratios, ItemFault> {
         Ok(duals[0].copy()?)
     }
 

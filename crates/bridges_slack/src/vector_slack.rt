@@ -17,8 +17,8 @@ ghost use Rattle.bridges_slack.specs.VectorSlackLaws.{InCone};
 
 use aff_core::Address;
 use bridge_face::{
-    ChildRows, ItemFault, KeptItems, Rewriting, child_group, component_count, group_row_image,
-    inner_variables, item_set, less_variables,
+    ChildRows, ItemFault, KeptItem, KeptItems, Rewriting, child_group, component_count,
+    group_row_image, inner_variables, item_set, less_variables,
 };
 use item_core::{Body, Edge, Expressions, Family, Image, Item};
 use lists::{Duplicate, Memory};
@@ -52,16 +52,11 @@ impl Rewriting for VectorSlackRule {
         Ok(group_row_image(alloc, item, group, Expressions::new(alloc), row)?)
     }
 
-    fn child_rows(_edge: Edge, _item: &Item) -> ChildRows {
+    fn child_rows(_kept: &KeptItem) -> ChildRows {
         ChildRows { first: 1, count: 1 }
     }
 
-    fn back(
-        _alloc: Global,
-        _edge: Edge,
-        _item: &Item,
-        duals: &[Ratios],
-    ) -> Result<Ratios, ItemFault> {
+    fn back(_alloc: Global, _kept: &KeptItem, duals: &[Ratios]) -> Result<Ratios, ItemFault> {
         Ok(duals[0].copy()?)
     }
 

@@ -7,7 +7,9 @@
 ghost use Rattle.std.specs.Prelude.{◌≡◌, IfOk, replicate};
 ghost use Rattle.ratio_core.specs.Rational.{zero_ℚ};
 
-use bridge_face::{ChildRows, ItemFault, KeptItems, Rewriting, component_count, rows_image};
+use bridge_face::{
+    ChildRows, ItemFault, KeptItem, KeptItems, Rewriting, component_count, rows_image,
+};
 use item_core::{Edge, Family, Image, Item};
 use lists::Memory;
 use ratio_core::{Ratio, Ratios};
@@ -34,17 +36,12 @@ impl Rewriting for DropRealsRule {
         Ok(rows_image(alloc, Vec::new(alloc)))
     }
 
-    fn child_rows(_edge: Edge, _item: &Item) -> ChildRows {
+    fn child_rows(_kept: &KeptItem) -> ChildRows {
         ChildRows { first: 0, count: 0 }
     }
 
-    fn back(
-        alloc: Global,
-        _edge: Edge,
-        item: &Item,
-        _duals: &[Ratios],
-    ) -> Result<Ratios, ItemFault> {
-        let count = component_count(&item.body);
+    fn back(alloc: Global, kept: &KeptItem, _duals: &[Ratios]) -> Result<Ratios, ItemFault> {
+        let count = component_count(&kept.item.body);
         Ok(zeros(alloc, count as usize)?)
     }
 

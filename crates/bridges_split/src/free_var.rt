@@ -10,8 +10,8 @@ ghost use Rattle.bridges_split.specs.FreeVarLaws.{halved};
 
 use aff_core::{Address, Aff};
 use bridge_face::{
-    ChildRows, ItemFault, KeptItems, Rewriting, child_group, component_count, group_image,
-    inner_variables, less_variable,
+    ChildRows, ItemFault, KeptItem, KeptItems, Rewriting, child_group, component_count,
+    group_image, inner_variables, less_variable,
 };
 use item_core::{Edge, Expression, Expressions, Family, Image, Item};
 use lists::Memory;
@@ -47,16 +47,11 @@ impl Rewriting for FreeVarRule {
         Ok(group_image(alloc, child_group(item, set, vars), exprs)?)
     }
 
-    fn child_rows(_edge: Edge, _item: &Item) -> ChildRows {
+    fn child_rows(_kept: &KeptItem) -> ChildRows {
         ChildRows { first: 1, count: 0 }
     }
 
-    fn back(
-        _alloc: Global,
-        _edge: Edge,
-        _item: &Item,
-        _duals: &[Ratios],
-    ) -> Result<Ratios, ItemFault> {
+    fn back(_alloc: Global, _kept: &KeptItem, _duals: &[Ratios]) -> Result<Ratios, ItemFault> {
         unreachable!()
     }
 

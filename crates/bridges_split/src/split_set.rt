@@ -7,11 +7,11 @@
 //! - Dual: the first child's numbers plus the second's.
 //! - In MathOptInterface: `SplitIntervalBridge`.
 ghost use Rattle.std.specs.Prelude.{◌≡◌, IfOk};
+ghost use Rattle.item_core.specs.Item as items;
 ghost use Rattle.bridge_face.specs.Images as images;
-ghost use Rattle.bridges_split.specs.SplitSetLaws as laws;
 ghost use Rattle.bridges_split.specs.SplitSetLaws.{IsSplit, IsSplitSet};
 
-use bridge_face::{ChildRows, ItemFault, KeptItems, Rewriting, place_sums, rows_image};
+use bridge_face::{ChildRows, ItemFault, KeptItem, KeptItems, Rewriting, place_sums, rows_image};
 use item_core::{Body, Edge, Family, Image, Item};
 use lists::{Duplicate, Memory};
 use ratio_core::Ratios;
@@ -36,78 +36,61 @@ impl Rewriting for SplitSetRule {
     }
 
     fn image(alloc: Global, _edge: Edge, item: &Item) -> Result<Image, ItemFault> {
+        let set = set_of(&item.body);
         let mut rows = Vec::with_capacity(alloc, 2)?;
         rows.push(Item {
             at: item.at.child(0),
-            body: lower(&item.body)?,
+            body: with_set(&item.body, lower_part(set))?,
         })?;
         rows.push(Item {
             at: item.at.child(1),
-            body: upper(&item.body)?,
+            body: with_set(&item.body, upper_part(set))?,
         })?;
         Ok(rows_image(alloc, rows))
     }
 
-    fn child_rows(_edge: Edge, _item: &Item) -> ChildRows {
+    fn child_rows(_kept: &KeptItem) -> ChildRows {
         ChildRows { first: 0, count: 2 }
     }
 
-    fn back(
-        alloc: Global,
-        _edge: Edge,
-        _item: &Item,
-        duals: &[Ratios],
-    ) -> Result<Ratios, ItemFault> {
+    fn back(alloc: Global, _kept: &KeptItem, duals: &[Ratios]) -> Result<Ratios, ItemFault> {
         place_sums(alloc, duals[0].as_slice(), duals[1].as_slice())
     }
 
     ghost lawful = { split_set_lawful };
 }
 
-// The row in the set of what is high enough.
-fn lower(body: &Body) -> Result<Body, Memory>
+// The set of the row.
+fn set_of(body: &Body) -> &Set
     requires { IsSplit body.now }
-    ensures { IfOk result (λ part. part ≡ laws.lower body.now) }
+    ensures { result.now ≡ items.set_of body.now }
 {
     match body {
-        Body::Plain { var, set } => Ok(Body::Plain {
-            var: *var,
-            set: lower_part(set),
-        }),
-        Body::Affine { func, set } => Ok(Body::Affine {
+        Body::Plain { set, .. } | Body::Affine { set, .. } | Body::AffineVec { set, .. } => set,
+        _ => unreachable!(),
+    }
+}
+
+// The row in another set.
+fn with_set(body: &Body, set: Set) -> Result<Body, Memory>
+    requires { IsSplit body.now }
+    ensures { IfOk result (λ row. row ≡ images.with_set body.now set) }
+{
+    match body {
+        Body::Plain { var, .. } => Ok(Body::Plain { var: *var, set }),
+        Body::Affine { func, .. } => Ok(Body::Affine {
             func: func.copy()?,
-            set: lower_part(set),
+            set,
         }),
-        Body::AffineVec { func, set } => Ok(Body::AffineVec {
+        Body::AffineVec { func, .. } => Ok(Body::AffineVec {
             func: func.copy()?,
-            set: lower_part(set),
+            set,
         }),
         _ => unreachable!(),
     }
 }
 
-// The row in the set of what is low enough.
-fn upper(body: &Body) -> Result<Body, Memory>
-    requires { IsSplit body.now }
-    ensures { IfOk result (λ part. part ≡ laws.upper body.now) }
-{
-    match body {
-        Body::Plain { var, set } => Ok(Body::Plain {
-            var: *var,
-            set: upper_part(set),
-        }),
-        Body::Affine { func, set } => Ok(Body::Affine {
-            func: func.copy()?,
-            set: upper_part(set),
-        }),
-        Body::AffineVec { func, set } => Ok(Body::AffineVec {
-            func: func.copy()?,
-            set: upper_part(set),
-        }),
-        _ => unreachable!(),
-    }
-}
-
+// The set of what is high enough.
 fn lower_part(set: &Set) -> Set
     requires { IsSplitSet set.now }
     ensures { result ≡ images.lower_part set.now }
@@ -122,6 +105,7 @@ fn lower_part(set: &Set) -> Set
     }
 }
 
+// The set of what is low enough.
 fn upper_part(set: &Set) -> Set
     requires { IsSplitSet set.now }
     ensures { result ≡ images.upper_part set.now }

@@ -8,7 +8,7 @@ ghost use Rattle.bridge_face.specs.Images.{group_by};
 ghost use Rattle.bridges_split.specs.ZerosVarLaws.{none_of};
 
 use aff_core::Aff;
-use bridge_face::{ChildRows, ItemFault, KeptItems, Rewriting, component_count};
+use bridge_face::{ChildRows, ItemFault, KeptItem, KeptItems, Rewriting, component_count};
 use item_core::{Edge, Expression, Expressions, Family, Image, Item, Items};
 use lists::Memory;
 use ratio_core::{Ratio, Ratios};
@@ -42,16 +42,11 @@ impl Rewriting for ZerosVarRule {
         })
     }
 
-    fn child_rows(_edge: Edge, _item: &Item) -> ChildRows {
+    fn child_rows(_kept: &KeptItem) -> ChildRows {
         ChildRows { first: 0, count: 0 }
     }
 
-    fn back(
-        _alloc: Global,
-        _edge: Edge,
-        _item: &Item,
-        _duals: &[Ratios],
-    ) -> Result<Ratios, ItemFault> {
+    fn back(_alloc: Global, _kept: &KeptItem, _duals: &[Ratios]) -> Result<Ratios, ItemFault> {
         unreachable!()
     }
 

@@ -5,4 +5,4 @@ use Rattle.bridges_flip.proofs.nonpos_var.NonposVarRuleRewriting.back.Goals as g
 
 pub unreachable-requires : goal.unreachable-requires
 unreachable-requires c =
-    true≢false (sym (source_is rule c.args._edge c.requires.own c.args._item.now c.requires.suits).group ∙ c.requires.duals.no_group)
+    true≢false (sym (source_is rule c.args._kept.now.edge c.requires.own c.args._kept.now.item c.requires.suits).group ∙ c.requires.duals.no_group)

@@ -5,4 +5,4 @@ use Rattle.bridges_flip.proofs.nonpos_var.NonposVarRuleRewriting.child_rows.Goal
 
 pub returns : goal.returns
 returns c =
-    child_rows_are c.args._edge c.args._item.now (nonpos_var c.args._item.now) (image_is rule c.args._edge c.requires.own c.args._item.now)
+    child_rows_are c.args._kept.now.edge c.args._kept.now.item (nonpos_var c.args._kept.now.item) (image_is rule c.args._kept.now.edge c.requires.own c.args._kept.now.item)

@@ -5,4 +5,4 @@ use Rattle.bridges_flip.proofs.obj_flip.ObjFlipRuleRewriting.child_rows.Goals as
 
 pub returns : goal.returns
 returns c =
-    child_rows_are c.args._edge c.args._item.now (objective_at c.args._item.now (made c.args._item.now.body)) (image_is rule c.args._edge c.requires.own c.args._item.now)
+    child_rows_are c.args._kept.now.edge c.args._kept.now.item (objective_at c.args._kept.now.item (made c.args._kept.now.item.body)) (image_is rule c.args._kept.now.edge c.requires.own c.args._kept.now.item)

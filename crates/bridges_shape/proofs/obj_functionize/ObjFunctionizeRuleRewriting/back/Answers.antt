@@ -5,4 +5,4 @@ use Rattle.bridges_shape.proofs.obj_functionize.ObjFunctionizeRuleRewriting.back
 
 pub unreachable-requires : goal.unreachable-requires
 unreachable-requires c =
-    true≢false (sym (replaces (source_is rule c.args._edge c.requires.own c.args._item.now c.requires.suits).source).source ∙ c.requires.duals.no_objective)
+    true≢false (sym (replaces (source_is rule c.args._kept.now.edge c.requires.own c.args._kept.now.item c.requires.suits).source).source ∙ c.requires.duals.no_objective)

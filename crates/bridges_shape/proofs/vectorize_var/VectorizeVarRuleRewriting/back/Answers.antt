@@ -5,4 +5,4 @@ use Rattle.bridges_shape.proofs.vectorize_var.VectorizeVarRuleRewriting.back.Goa
 
 pub unreachable-requires : goal.unreachable-requires
 unreachable-requires c =
-    true≢false (sym (read (source_is rule c.args._edge c.requires.own c.args._item.now c.requires.suits).group).source ∙ c.requires.duals.no_group)
+    true≢false (sym (read (source_is rule c.args._kept.now.edge c.requires.own c.args._kept.now.item c.requires.suits).group).source ∙ c.requires.duals.no_group)

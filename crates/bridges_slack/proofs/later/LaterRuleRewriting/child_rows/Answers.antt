@@ -5,4 +5,4 @@ use Rattle.bridges_slack.proofs.later.LaterRuleRewriting.child_rows.Goals as goa
 
 pub returns : goal.returns
 returns c =
-    child_rows_are c.args._edge c.args._item.now (later c.args._edge c.args._item.now) (image_is rule c.args._edge c.requires.own c.args._item.now)
+    child_rows_are c.args._kept.now.edge c.args._kept.now.item (later c.args._kept.now.edge c.args._kept.now.item) (image_is rule c.args._kept.now.edge c.requires.own c.args._kept.now.item)

@@ -7,13 +7,13 @@ use Rattle.bridges_slack.proofs.vector_slack.VectorSlackRuleRewriting.back.Goals
 
 pub bounds-duals-0 : goal.bounds-duals-0
 bounds-duals-0 c =
-    let one = dual_count c.args._edge c.args._item.now (vector_slack c.args._item.now) (image_is rule c.args._edge c.requires.own c.args._item.now) c.args.duals.now c.requires.duals in
+    let one = dual_count c.args._kept.now.edge c.args._kept.now.item (vector_slack c.args._kept.now.item) (image_is rule c.args._kept.now.edge c.requires.own c.args._kept.now.item) c.args.duals.now c.requires.duals in
     omega (arith, one)
 
 pub returns : goal.returns
 returns c =
-    let one = dual_count c.args._edge c.args._item.now (vector_slack c.args._item.now) (image_is rule c.args._edge c.requires.own c.args._item.now) c.args.duals.now c.requires.duals in (
-      back_fits c.args._edge c.requires.own refl c.args._item.now c.args.duals.now,
+    let one = dual_count c.args._kept.now.edge c.args._kept.now.item (vector_slack c.args._kept.now.item) (image_is rule c.args._kept.now.edge c.requires.own c.args._kept.now.item) c.args.duals.now c.requires.duals in (
+      back_fits c.args._kept.now.edge c.requires.own refl c.args._kept.now.item c.args.duals.now,
       c.in_ok-copy.ensures
-          ∙ back_one c.args._edge c.args._item.now (λ y. y) (λ y. back_is rule c.args._edge c.requires.own c.args._item.now (y ∷ [])) c.args.duals.now c.index-duals-0.result one c.index-duals-0.is,
+          ∙ back_one c.args._kept.now.edge c.args._kept.now.item (λ y. y) (λ y. back_is rule c.args._kept.now.edge c.requires.own c.args._kept.now.item (y ∷ [])) c.args.duals.now c.index-duals-0.result one c.index-duals-0.is,
     )

@@ -6,4 +6,4 @@ use Rattle.bridges_split.proofs.drop_reals.DropRealsRuleRewriting.child_rows.Goa
 
 pub returns : goal.returns
 returns c =
-    child_rows_are c.args._edge c.args._item.now (rows_at c.args._item.now []) (image_is rule c.args._edge c.requires.own c.args._item.now)
+    child_rows_are c.args._kept.now.edge c.args._kept.now.item (rows_at c.args._kept.now.item []) (image_is rule c.args._kept.now.edge c.requires.own c.args._kept.now.item)
