@@ -55,6 +55,7 @@ one_weighed o c = +ℚ-zero (o *ℚ c +ℚ zero_ℚ) ∙ +ℚ-zero (o *ℚ c)
 one_gap : (o c : Rational)
     → (zero_ℚ *ℚ o -ℚ (o *ℚ c +ℚ zero_ℚ)) +ℚ zero_ℚ ≡ neg_ℚ (o *ℚ c)
 one_gap = ring₂ _ (λ ρ. simp (as_expression, zero_as ρ) (by_ring ρ _ _ refl))
+
 -- without an objective nothing is weighed
 none_weighed : (o : Rational) (v : Address)
     → zero_ℚ ≡ o *ℚ coefficient (constant_function {R = address_cmp} zero_ℚ) v
