@@ -32,6 +32,7 @@ use Rattle.moi_run.specs.declared.status.Status.TheVariants as status
 use Rattle.moi_run.specs.declared.stop.Stop.{Stop}
 use Rattle.moi_run.specs.declared.stop.Stop.TheVariants as stop
 use Rattle.moi_run.proofs.Completing.{clash}
+use Rattle.moi_run.proofs.PlanLine.{one_line, plan_loads_nothing}
 use Rattle.moi_run.proofs.RunLemmas.{answers_begun, answers_nothing, any_behind, begun_whole}
 use Rattle.report_core.specs.declared.answer.Answer.{Answer}
 use Rattle.report_core.specs.declared.answer.Answer.TheVariants.{Memory as NoMemory, ReadFault, TooLong}
@@ -370,7 +371,7 @@ runs_of_none left shelf source fetch s old = record {
 
 -- ---- lines that ask for no file
 
-pub no_fetch : (ls : List (List ℕ)) (end : Status) (s new : Machine) (wrote : List ℕ → Type 0) → All (λ line. says_load line ≡ false) ls → EachOutcome end ls s new wrote → (end ≢ status.ReadFault) × (end ≢ status.TooLong)
+no_fetch : (ls : List (List ℕ)) (end : Status) (s new : Machine) (wrote : List ℕ → Type 0) → All (λ line. says_load line ≡ false) ls → EachOutcome end ls s new wrote → (end ≢ status.ReadFault) × (end ≢ status.TooLong)
 no_fetch ls end s new wrote quiet outcome = (
   λ e. (let file = unfetched_at_fault s new ls wrote (subst (λ t. EachOutcome t ls s new wrote) e outcome) in asked file.name file.asked),
   λ e. (let file = unfetched_at_limit s new ls wrote (subst (λ t. EachOutcome t ls s new wrote) e outcome) in asked file.name file.asked),
@@ -378,6 +379,9 @@ no_fetch ls end s new wrote quiet outcome = (
   where
     asked : (name : List ℕ) → Any (LoadsFile name) ls → ⊥
     asked name any = clash (LoadsFile name) (λ line. says_load line ≡ false) ls quiet any (λ line no loads. true≢false (sym (loads_file name line loads) ∙ no))
+
+pub plan_fetches_nothing : (end : Status) (s new : Machine) (wrote : List ℕ → Type 0) → EachOutcome end (codes "plan" ∷ []) s new wrote → (end ≢ status.ReadFault) × (end ≢ status.TooLong)
+plan_fetches_nothing end s new wrote = no_fetch (codes "plan" ∷ []) end s new wrote (one_line (λ line. says_load line ≡ false) (codes "plan") plan_loads_nothing)
 
 -- ---- by the words
 

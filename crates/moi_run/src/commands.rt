@@ -1,5 +1,5 @@
 //! The commands, by the words.
-ghost use Rattle.std.specs.Prelude.{◌≡◌, ◌≢◌, ℕ, Bool, ◌+◌, ◌↔◌, ◌⊎◌, [], ◌∷◌, None, Some, codes, false, IfSome, IsTrue};
+ghost use Rattle.std.specs.Prelude.{◌≡◌, ◌≢◌, ℕ, Bool, ◌+◌, ◌↔◌, ◌⊎◌, [], None, Some, false, IfSome, IsTrue};
 ghost use Rattle.edit_engine.specs.Held.{machine_of, state_of};
 ghost use Rattle.io_face.specs.Fault.{HasFaulted};
 ghost use Rattle.io_face.specs.Sink.{Adds, AddsPrefix};
@@ -7,7 +7,7 @@ ghost use Rattle.io_face.specs.Told.{told_by};
 ghost use Rattle.moi_run.specs.Answering.{BeginsAnswers, WritesAnswers};
 ghost use Rattle.moi_run.specs.Commands.{AsksInVain, CanBeFetched, CanBeRead, HasReadFault, IfCheck, IsPlan, IsSound, ReadsNothing, input_for, lines_for, said_by, setup_for, start_for};
 ghost use Rattle.moi_run.specs.Input.{IsReadToEnd, IsWithinLimits};
-ghost use Rattle.moi_run.specs.Run.{AtLimit, AtReadFault, HasTooLong, Runs, RunsEach, WritesVerdict};
+ghost use Rattle.moi_run.specs.Run.{AtLimit, AtReadFault, HasTooLong, Runs, WritesVerdict};
 ghost use Rattle.moi_run.specs.Status.{IsEnded, has_refused};
 ghost use Rattle.script_lines.specs.Limits.{input_limit};
 ghost use Rattle.script_lines.specs.Reading.{TakesAtMost};
@@ -18,7 +18,7 @@ use crate::input::answer_script;
 use crate::solve::answer_solve;
 use crate::status::Status;
 use bridge_face::Bridge;
-use command_words::{Command, Setup, read_words};
+use command_words::{Command, read_words};
 use edit_engine::SessionOver;
 use io_face::{Shelf, Sink, Source};
 use std::alloc::Global;
@@ -187,7 +187,10 @@ fn obey<B: Bridge, H: Shelf, I: Source, O: Sink>(
 {
     match command {
         Command::Run(setup) => answer_script(alloc, setup, shelf, input, output, session),
-        Command::Plan(setup) => answer_plan(setup, shelf, output, session),
+        Command::Plan(setup) => {
+            let lines: [&[u8]; 1] = [b"plan"];
+            answer_with(setup, &lines, shelf, output, session)
+        }
         Command::Solve { setup, model } => {
             answer_solve(alloc, setup, &model, shelf, output, session)
         }
@@ -195,26 +198,4 @@ fn obey<B: Bridge, H: Shelf, I: Source, O: Sink>(
             answer_check(alloc, &model, &certificate, shelf, output)
         }
     }
-}
-
-// Answers the line `plan`.
-fn answer_plan<B: Bridge, H: Shelf, O: Sink>(
-    setup: Setup,
-    shelf: &mut H,
-    output: &mut O,
-    session: &mut SessionOver<B>,
-) -> Status
-    requires detached { (state_of session.old).attached ≡ false }
-    ensures runs { let told = told_by (H.files shelf.old) (H.sure shelf.old) in
-        RunsEach (codes "plan" ∷ []) setup result (machine_of session.old told)
-        (machine_of session.new told) (Adds (O.written output.old) (O.written output.new))
-        (AddsPrefix (O.written output.old) (O.written output.new)) }
-    ensures unasked { (shelf.new ≡ shelf.old) × (result ≢ Status.ReadFault)
-        × (result ≢ Status.TooLong) }
-    ensures write_fault { result ≡ Status.WriteFault
-        → HasFaulted (O.faults output.old) (O.faults output.new) }
-    ensures not_usage { result ≢ Status.Usage }
-{
-    let lines: [&[u8]; 1] = [b"plan"];
-    answer_with(setup, &lines, shelf, output, session)
 }

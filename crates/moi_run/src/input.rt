@@ -44,39 +44,11 @@ pub(crate) fn answer_script<B: Bridge, H: Shelf, I: Source, O: Sink>(
         → HasFaulted (O.faults output.old) (O.faults output.new) }
     ensures not_usage { result ≢ Status.Usage }
 {
+    let Ok(mut reader) = LineReader::new(alloc) else {
+        return Status::Memory;
+    };
     match session.set_up(setup.target, setup.pivots) {
-        Ok(()) => answer_input(alloc, shelf, input, output, session),
-        Err(_) => Status::Memory,
-    }
-}
-
-// Answers the lines of the input.
-fn answer_input<B: Bridge, H: Shelf, I: Source, O: Sink>(
-    alloc: Global,
-    shelf: &mut H,
-    input: &mut I,
-    output: &mut O,
-    session: &mut SessionOver<B>,
-) -> Status
-    ensures outcome { let told = told_by (H.files shelf.old) (H.sure shelf.old) in
-        IfSome (I.left input.old) (λ bytes. Outcome
-        (HasFaulted (I.faults input.old) (I.faults input.new))
-        (FetchFails told (H.faults shelf.old) (H.faults shelf.new)) result bytes
-        (I.left input.new) (machine_of session.old told) (machine_of session.new told)
-        (Adds (O.written output.old) (O.written output.new))) }
-    ensures prefix { let told = told_by (H.files shelf.old) (H.sure shelf.old) in
-        IfSome (I.left input.old) (λ bytes. BeginsAnswers (machine_of session.old told)
-        (heard (lines bytes)) result (machine_of session.new told)
-        (AddsPrefix (O.written output.old) (O.written output.new))) }
-    ensures taken { TakesAtMost (input_limit + 1) (I.left input.old) (I.left input.new) }
-    ensures pivots { session.new.pivots ≡ session.old.pivots }
-    ensures cause { HasCause (HasFaulted (I.faults input.old) (I.faults input.new))
-        (FetchFails (told_by (H.files shelf.old) (H.sure shelf.old)) (H.faults shelf.old)
-        (H.faults shelf.new)) (HasFaulted (O.faults output.old) (O.faults output.new)) result }
-    ensures not_usage { result ≢ Status.Usage }
-{
-    match LineReader::new(alloc) {
-        Ok(mut reader) => answer_lines(alloc, &mut reader, shelf, input, output, session),
+        Ok(()) => answer_lines(alloc, &mut reader, shelf, input, output, session),
         Err(_) => Status::Memory,
     }
 }

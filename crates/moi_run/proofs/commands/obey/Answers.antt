@@ -1,18 +1,27 @@
 -- Each command ran as its function says.
-use Rattle.std.proofs.Common.{refl, sym}
+use Rattle.std.proofs.Common.{◌≡◌, false, refl, sym}
 use Rattle.edit_engine.specs.Held.{machine_of}
+use Rattle.edit_engine.specs.Lines.{says_load}
 use Rattle.io_face.specs.Told.{told_by}
-use Rattle.moi_run.proofs.Running.{command_runs, runs_check, runs_plan, runs_solve}
+use Rattle.moi_run.proofs.PlanLine.{one_line, plan_loads_nothing}
+use Rattle.moi_run.proofs.Running.{command_runs, plan_fetches_nothing, runs_check, runs_plan, runs_solve}
 use Rattle.moi_run.proofs.commands.obey.Goals as goal
 
 pub returns-in-Run-clause-runs : goal.returns-in-Run-clause-runs
 returns-in-Run-clause-runs g c = command_runs (sym c.in-Run.is) c.answer_script.ensures.runs
 
 pub returns-in-Plan-clause-runs : goal.returns-in-Plan-clause-runs
-returns-in-Plan-clause-runs g c = command_runs (sym c.in-Plan.is)
-    (runs_plan c.in-Plan.setup c.answer_plan.result (g.I.Source.left c.args.input.now) (g.I.Source.left c.args.input.now) (told_by (g.H.Shelf.files c.args.shelf.now) (g.H.Shelf.sure c.args.shelf.now)) _ _
-    (machine_of c.args.session.now (told_by (g.H.Shelf.files c.args.shelf.now) (g.H.Shelf.sure c.args.shelf.now))) (machine_of c.answer_plan.new.session (told_by (g.H.Shelf.files c.args.shelf.now) (g.H.Shelf.sure c.args.shelf.now))) _ _
-    c.answer_plan.ensures.runs c.answer_plan.ensures.unasked.1 c.answer_plan.ensures.unasked.2)
+returns-in-Plan-clause-runs g c =
+    let told = told_by (g.H.Shelf.files c.args.shelf.now) (g.H.Shelf.sure c.args.shelf.now) in
+    let stops = plan_fetches_nothing c.answer_with.result _ _ _ c.answer_with.ensures.runs.outcome in
+    command_runs (sym c.in-Plan.is)
+    (runs_plan c.in-Plan.setup c.answer_with.result (g.I.Source.left c.args.input.now) (g.I.Source.left c.args.input.now) told _ _
+    (machine_of c.args.session.now told) (machine_of c.answer_with.new.session told) _ _ c.answer_with.ensures.runs stops.0 stops.1)
+
+pub returns-in-Plan-clause-unasked : goal.returns-in-Plan-clause-unasked
+returns-in-Plan-clause-unasked g c _ =
+    let stops = plan_fetches_nothing c.answer_with.result _ _ _ c.answer_with.ensures.runs.outcome in
+    (c.answer_with.ensures.unasked (one_line (λ line. says_load line.now ≡ false) _ plan_loads_nothing), stops.0, stops.1)
 
 pub returns-in-Solve-clause-runs : goal.returns-in-Solve-clause-runs
 returns-in-Solve-clause-runs g c = command_runs (sym c.in-Solve.is)
