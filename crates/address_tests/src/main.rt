@@ -3,7 +3,6 @@
 #![tactic(auto)]
 
 mod exprs;
-mod page;
 mod rows;
 mod variables;
 

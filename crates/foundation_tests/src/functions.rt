@@ -1,8 +1,8 @@
 // Functions by the names of their variables.
-use crate::page::Page;
 use lists::{Duplicate, Memory};
 use name_index::Name;
 use named_aff::{NamedAff, NamedTerm, NamedTerms, NamedVec};
+use page::Page;
 use ratio_core::Ratio;
 use std::alloc::Global;
 

@@ -4,7 +4,6 @@
 
 mod functions;
 mod names;
-mod page;
 mod sequences;
 mod sets;
 mod shelves;

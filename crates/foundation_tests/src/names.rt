@@ -1,7 +1,7 @@
 // Names and their table.
-use crate::page::Page;
 use lists::Duplicate;
 use name_index::{Name, NameTable, Names};
+use page::Page;
 
 // Some stand for no name: their bytes are no UTF-8 (a lone byte, an overlong form, a surrogate,
 // half a character), or there are none.

@@ -2,7 +2,7 @@
 ghost use Rattle.std.specs.Prelude.{◌≡◌, length};
 ghost use Rattle.set_core.specs.Shapes.{dimension_of};
 
-use crate::page::Page;
+use page::Page;
 use ratio_core::Ratio;
 use set_core::Set;
 

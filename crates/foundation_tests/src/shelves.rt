@@ -1,7 +1,7 @@
 // Shelves in memory. The stored run of `engine_tests` fetches files of the system, one of which
 // is not there.
-use crate::page::Page;
 use io_face::{Calls, MemShelf, NamedFile, NamedFiles, Shelf, SureShelf};
+use page::Page;
 use std::alloc::{AllocError, Global};
 
 /// Fetches from each kind of shelf.

@@ -1,6 +1,6 @@
 // Sinks: in memory, and of a system that interrupts and fails.
-use crate::page::Page;
 use io_face::{Calls, MemSink, Sink, StdOut, SureSink, write_all};
+use page::Page;
 use std::alloc::{AllocError, Global};
 use std::io;
 use std::io::{ErrorKind, Write};

@@ -1,6 +1,6 @@
 // Sources: in memory, and of a system that interrupts and fails.
-use crate::page::Page;
 use io_face::{Calls, MemSource, Source, StdIn, SureSource, read_whole};
+use page::Page;
 use std::alloc::{AllocError, Global};
 use std::io;
 use std::io::{ErrorKind, Read};

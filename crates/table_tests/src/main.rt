@@ -1,7 +1,6 @@
 // Prints the tables of kinds and edges in words, and what bridging costs by graphs of them.
 #![tactic(auto)]
 
-mod page;
 mod plans;
 mod tables;
 

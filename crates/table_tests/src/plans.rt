@@ -4,9 +4,9 @@ ghost use Rattle.std.specs.Prelude.{IsTrue};
 ghost use Rattle.std.specs.List.{list_all};
 ghost use Rattle.bridge_graph.specs.Hypergraph.{is_edge_cost};
 
-use crate::page::Page;
 use bridge_graph::{Choice, EdgeRow, Graph};
 use item_core::{EDGE_COUNT, EDGE_ROWS, KIND_COUNT, Table, Target};
+use page::Page;
 
 // Each edge costs 1, but for the sixth.
 const DEARER_COSTS: [u32; EDGE_COUNT] = [

@@ -1,6 +1,6 @@
 // The tables in words.
-use crate::page::Page;
 use item_core::{Children, EDGES, EdgeEntry, KINDS, Kind};
+use page::Page;
 
 /// The edges and the kinds, each on a line.
 pub fn show(page: &mut Page) {

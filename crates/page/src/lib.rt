@@ -1,10 +1,12 @@
-// Lines that are printed.
+//! Lines that a test's program prints.
+#![tactic(auto)]
+
 use std::alloc::Global;
 use std::fmt::Display;
 use std::process::ExitCode;
 
-/// Prints lines, and keeps whether each was written. So what prints needs no ways out, each of
-/// which would be proved with all values at hand.
+/// Prints lines, and keeps whether each was written. So what prints through it needs no ways out,
+/// each of which would be proved with all values at hand.
 #[derive(Drop)]
 pub struct Page<'a> {
     rt: &'a HostRuntime,
@@ -12,6 +14,7 @@ pub struct Page<'a> {
 }
 
 impl<'a> Page<'a> {
+    /// A page on which nothing stands yet.
     pub fn new(rt: &'a HostRuntime) -> Page<'a> {
         let is_written = true;
         Page { rt, is_written }
@@ -21,11 +24,19 @@ impl<'a> Page<'a> {
         self.rt.alloc()
     }
 
+    /// Prints a text and ends the line.
     pub fn line<D: Display + Drop>(&mut self, text: D) {
         let is_written = self.rt.println(text).is_ok();
         self.is_written &= is_written;
     }
 
+    /// Prints a text, after which the line goes on.
+    pub fn word<D: Display + Drop>(&mut self, text: D) {
+        let is_written = self.rt.print(text).is_ok();
+        self.is_written &= is_written;
+    }
+
+    /// 0 where all was written, and else 1.
     pub fn status(&self) -> ExitCode {
         ExitCode::from(u8::from(!self.is_written))
     }
