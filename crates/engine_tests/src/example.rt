@@ -1,5 +1,5 @@
 // An example of a script, with the answers that are told beside it.
-use anyhow::Result;
+use crate::stop::Stop;
 use bridge_face::Bridge;
 use edit_engine::{Answer, SessionOver};
 use io_face::Shelf;
@@ -12,11 +12,19 @@ pub fn compare<B: Bridge, H: Shelf>(
     session: &mut SessionOver<B>,
     shelf: &mut H,
     name: &str,
-) -> Result<()> {
-    let script = fs::read_to_string(rt, format!(in rt.alloc(); "{name}.txt")?)?;
-    let told = fs::read_to_string(rt, format!(in rt.alloc(); "{name}.out")?)?;
-    let answers = answers_to(rt, session, shelf, script.as_str())?;
-    if answers.as_str() == told.as_str() {
+) -> Result<(), Stop> {
+    let answers = answers_to(rt, session, shelf, name)?;
+    let told = text(rt, name, "out")?;
+    show(rt, name, answers.as_str(), told.as_str())
+}
+
+fn text(rt: &HostRuntime, name: &str, ending: &str) -> Result<String, Stop> {
+    let file = format!(in rt.alloc(); "{name}.{ending}")?;
+    Ok(fs::read_to_string(rt, file)?)
+}
+
+fn show(rt: &HostRuntime, name: &str, answers: &str, told: &str) -> Result<(), Stop> {
+    if answers == told {
         println!(rt; "{name}: answered as told")?;
     } else {
         println!(rt; "{name}: other answers\n{answers}")?;
@@ -29,14 +37,32 @@ fn answers_to<B: Bridge, H: Shelf>(
     rt: &HostRuntime,
     session: &mut SessionOver<B>,
     shelf: &mut H,
-    script: &str,
-) -> Result<String> {
+    name: &str,
+) -> Result<String, Stop> {
+    let script = text(rt, name, "txt")?;
     let mut answers = String::new(rt.alloc());
-    for line in script.lines() {
-        let answer = session.line(line.as_bytes(), shelf);
-        if let Answer::Printed(text) | Answer::Refused(text) = answer {
-            answers.push_str(std::str::from_utf8(text.as_slice())?)?;
-        }
-    }
+    put_answers(session, shelf, script.as_str(), &mut answers)?;
     Ok(answers)
+}
+
+fn put_answers<B: Bridge, H: Shelf>(
+    session: &mut SessionOver<B>,
+    shelf: &mut H,
+    script: &str,
+    answers: &mut String,
+) -> Result<(), Stop> {
+    for line in script.lines() {
+        put_text(&session.line(line.as_bytes(), shelf), answers)?;
+    }
+    Ok(())
+}
+
+fn put_text(answer: &Answer, answers: &mut String) -> Result<(), Stop> {
+    match answer {
+        Answer::Printed(text) | Answer::Refused(text) => {
+            answers.push_str(std::str::from_utf8(text.as_slice())?)?;
+            Ok(())
+        }
+        _ => Ok(()),
+    }
 }

@@ -9,25 +9,28 @@
 
 mod example;
 mod session;
+mod stop;
 
 use any_bridge::all_bridges;
-use anyhow::Result;
+use std::io;
+use stop::Stop;
 
-fn main(rt: HostRuntime) -> Result<()> {
-    let mut lines = Vec::new(rt.alloc());
-    for line in rt.lines(rt.alloc()) {
-        let line = line?;
-        if line.as_str() == "anew" {
-            answer(&rt, &lines)?;
-            lines = Vec::new(rt.alloc());
-        } else {
-            lines.push(line)?;
-        }
+fn main(rt: HostRuntime) -> io::Result<()> {
+    match answer_script(&rt) {
+        Ok(()) => Ok(()),
+        Err(Stop) => println!(rt; "stopped"),
     }
-    answer(&rt, &lines)
 }
 
-// Answers the lines by a new session.
-fn answer(rt: &HostRuntime, lines: &[String]) -> Result<()> {
-    session::run(rt, lines, all_bridges(rt.alloc())?)
+fn answer_script(rt: &HostRuntime) -> Result<(), Stop> {
+    let script = io::read_to_string(rt.alloc(), rt.reader())?;
+    answer_parts(rt, script.as_str())
+}
+
+// Each part by a new session.
+fn answer_parts(rt: &HostRuntime, script: &str) -> Result<(), Stop> {
+    for lines in script.split("\nanew\n") {
+        session::run(rt, lines, all_bridges(rt.alloc())?)?;
+    }
+    Ok(())
 }

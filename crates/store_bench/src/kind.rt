@@ -11,10 +11,6 @@ pub enum Kind {
     Reset,
     /// The variable x, which every second row is, and back.
     DeleteVariable,
-    /// No edit, for the time of building alone.
-    Nothing,
-    /// The same with the rows of `DeleteVariable`.
-    PlainRows,
 }
 
 impl Kind {
@@ -25,8 +21,6 @@ impl Kind {
             "renrow" => Some(Kind::RenameRow),
             "reset" => Some(Kind::Reset),
             "delvar" => Some(Kind::DeleteVariable),
-            "none" => Some(Kind::Nothing),
-            "plain" => Some(Kind::PlainRows),
             _ => None,
         }
     }

@@ -5,31 +5,50 @@
 #![tactic(auto)]
 
 mod edits;
-mod fault;
 mod kind;
 mod rounds;
 
-use fault::BenchFault;
 use kind::Kind;
-use rounds::Tally;
+use rounds::{Tally, tally_edits};
 use std::{env, io};
 
+/// How many rows there are, and what is made how often.
+#[derive(Clone, Copy)]
+struct Task {
+    rows: u32,
+    kind: Kind,
+    rounds: u32,
+}
+
 fn main(rt: HostRuntime) -> io::Result<()> {
-    let mut words = env::args(&rt)?;
-    words.next();
-    let rows = words.next().and_then(|word| word.as_str().parse().ok());
-    let kind = words.next().and_then(|word| Kind::named(word.as_str()));
-    let rounds = words.next().and_then(|word| word.as_str().parse().ok());
-    let (Some(rows), Some(kind), Some(rounds)) = (rows, kind, rounds) else {
-        return println!(rt;
-            "usage: store_bench ROWS coef|set|renrow|reset|delvar|none|plain ROUNDS"
-        );
+    let words = words(&rt)?;
+    tell(&rt, task_of(&words))
+}
+
+fn words(rt: &HostRuntime) -> io::Result<Vec<String>> {
+    Ok(env::args(rt)?.collect(rt.alloc())?)
+}
+
+fn tell(rt: &HostRuntime, task: Option<Task>) -> io::Result<()> {
+    let Some(task) = task else {
+        return println!(rt; "usage: store_bench ROWS coef|set|renrow|reset|delvar ROUNDS");
     };
-    if rows == 0 {
+    if task.rows == 0 {
         return println!(rt; "there is no row to edit");
     }
-    match rounds::tally_edits(rt.alloc(), rows, kind, rounds) {
+    match tally_edits(rt.alloc(), task.rows, task.kind, task.rounds) {
         Ok(Tally { edits, sum }) => println!(rt; "{edits} {sum}"),
         Err(fault) => println!(rt; "{fault}"),
+    }
+}
+
+fn task_of(words: &[String]) -> Option<Task> {
+    match words {
+        [_, rows, kind, rounds] => Some(Task {
+            rows: rows.as_str().parse().ok()?,
+            kind: Kind::named(kind.as_str())?,
+            rounds: rounds.as_str().parse().ok()?,
+        }),
+        _ => None,
     }
 }

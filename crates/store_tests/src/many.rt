@@ -1,118 +1,124 @@
-// Steps of many edits or names, up to the limits of a model. Variables are called x0, x1 and on,
-// and rows r0, r1 and on.
+// Steps of many edits, up to the limits of a model. Variables are called x0, x1 and on, and rows
+// r0, r1 and on. Refusals are printed.
 //
 //     many groups FIRST COUNT SIZE      groups of variables, whose names go on from the first
 //                                       number
 //     many rows FIRST COUNT COMPONENTS  rows of components that are each x0
-//     many coefs FIRST COUNT            the coefficients of so many variables in the first
+//     many coefs FIRST COUNT 1          the coefficients of so many variables in the first
 //                                       component of r0
-//     many twins COUNT                  a group of so many variables, and of one more that is the
-//                                       first again
-use crate::words::{Words, times, whole, word};
-use anyhow::Result;
-use model_store::{Edit, NamedFunc, UserModel};
-use name_index::{Name, Names};
-use named_aff::NamedVec;
-use ratio_core::Ratio;
-use set_core::Set;
-use std::alloc::Global;
+//     many twins 0 1 COUNT              a group of so many variables, and of one more that is x0
+//                                       again
+use crate::edits::read;
+use crate::session::make_for_good;
+use crate::stop::Stop;
+use model_store::UserModel;
+use std::alloc::{AllocError, Global};
+use std::str::SplitWhitespace;
 
-pub fn step(rt: &HostRuntime, model: &mut UserModel, text: &str) -> Result<()> {
+#[derive(Clone, Copy)]
+enum What {
+    Groups,
+    Rows,
+    Coefs,
+    Twins,
+}
+
+#[derive(Clone, Copy)]
+struct Many {
+    what: What,
+    first: u32,
+    count: u32,
+    size: u32,
+}
+
+impl What {
+    fn named(word: &str) -> Option<What> {
+        match word {
+            "groups" => Some(What::Groups),
+            "rows" => Some(What::Rows),
+            "coefs" => Some(What::Coefs),
+            "twins" => Some(What::Twins),
+            _ => None,
+        }
+    }
+}
+
+pub fn step(rt: &HostRuntime, model: &mut UserModel, text: &str) -> Result<(), Stop> {
+    match many_of(text) {
+        Some(many) => make_all(rt, model, many),
+        None => Err(Stop),
+    }
+}
+
+fn many_of(text: &str) -> Option<Many> {
     let mut words = text.split_whitespace();
-    match word(&mut words)? {
-        "groups" => groups(rt, model, &mut words),
-        "rows" => rows(rt, model, &mut words),
-        "coefs" => coefs(rt, model, &mut words),
-        "twins" => twins(rt, model, &mut words),
-        _ => Err(anyhow::Error::msg("no such step")),
-    }
-}
-
-// Makes an edit for good, and prints how it is called if it is refused.
-fn make(rt: &HostRuntime, model: &mut UserModel, edit: Edit) -> Result<()> {
-    match model.apply(edit) {
-        Ok(undo) => model.settle(undo),
-        Err(fault) => println!(rt; "{fault}")?,
-    }
-    Ok(())
-}
-
-fn numbered(alloc: Global, letter: char, number: u32) -> Result<Name> {
-    Ok(Name::new(alloc, &format!(in alloc; "{letter}{number}")?)?)
-}
-
-fn variables(alloc: Global, first: u32, count: u32) -> Result<Vec<Name>> {
-    let mut names = Vec::new(alloc);
-    for place in 0..count {
-        names.push(numbered(alloc, 'x', first.saturating_add(place))?)?;
-    }
-    Ok(names)
-}
-
-fn groups(rt: &HostRuntime, model: &mut UserModel, words: &mut Words<'_>) -> Result<()> {
-    let mut first = whole(words)?;
-    let count = whole(words)?;
-    let size = whole(words)?;
-    for _ in 0..count {
-        let edit = Edit::AddGroup {
-            names: Names::from_vec(variables(rt.alloc(), first, size)?),
-            set: Set::Nonnegatives { dimension: size },
-        };
-        make(rt, model, edit)?;
-        first = first.saturating_add(size);
-    }
-    Ok(())
-}
-
-fn twins(rt: &HostRuntime, model: &mut UserModel, words: &mut Words<'_>) -> Result<()> {
-    let count = whole(words)?;
-    let mut names = variables(rt.alloc(), 0, count)?;
-    names.push(numbered(rt.alloc(), 'x', 0)?)?;
-    let edit = Edit::AddGroup {
-        names: Names::from_vec(names),
-        set: Set::Nonnegatives {
-            dimension: count.saturating_add(1),
-        },
-    };
-    make(rt, model, edit)
-}
-
-fn rows(rt: &HostRuntime, model: &mut UserModel, words: &mut Words<'_>) -> Result<()> {
-    let first = whole(words)?;
-    let count = whole(words)?;
-    let components = whole(words)?;
-    for place in 0..count {
-        let edit = row(rt.alloc(), first.saturating_add(place), components)?;
-        make(rt, model, edit)?;
-    }
-    Ok(())
-}
-
-fn row(alloc: Global, number: u32, components: u32) -> Result<Edit> {
-    let mut funcs = Vec::new(alloc);
-    for _ in 0..components {
-        funcs.push(times(Ratio::one(), numbered(alloc, 'x', 0)?, alloc)?)?;
-    }
-    Ok(Edit::AddRow {
-        name: numbered(alloc, 'r', number)?,
-        func: NamedFunc::AffineVec(NamedVec::from_vec(funcs)),
-        set: Set::Zeros {
-            dimension: components,
-        },
+    let what = What::named(words.next()?)?;
+    let first = number(&mut words)?;
+    let count = number(&mut words)?;
+    let size = number(&mut words)?;
+    Some(Many {
+        what,
+        first,
+        count,
+        size,
     })
 }
 
-fn coefs(rt: &HostRuntime, model: &mut UserModel, words: &mut Words<'_>) -> Result<()> {
-    let first = whole(words)?;
-    let count = whole(words)?;
-    for place in 0..count {
-        let edit = Edit::VecCoef {
-            row: numbered(rt.alloc(), 'r', 0)?,
-            output: 1,
-            var: numbered(rt.alloc(), 'x', first.saturating_add(place))?,
-            value: Ratio::one(),
-        };
-        make(rt, model, edit)?;
+fn number(words: &mut SplitWhitespace<'_>) -> Option<u32> {
+    words.next()?.parse().ok()
+}
+
+fn make_all(rt: &HostRuntime, model: &mut UserModel, many: Many) -> Result<(), Stop> {
+    let step = match many.what {
+        What::Groups => many.size,
+        _ => 1,
+    };
+    let mut next = many.first;
+    for _ in 0..many.count {
+        let line = line_of(rt.alloc(), many.what, next, many.size)?;
+        make(rt, model, line.as_str())?;
+        next = next.saturating_add(step);
+    }
+    Ok(())
+}
+
+fn make(rt: &HostRuntime, model: &mut UserModel, line: &str) -> Result<(), Stop> {
+    match make_for_good(model, read(rt.alloc(), line)?) {
+        Ok(()) => Ok(()),
+        Err(fault) => Ok(println!(rt; "{fault}")?),
+    }
+}
+
+fn line_of(alloc: Global, what: What, number: u32, size: u32) -> Result<String, AllocError> {
+    let mut line = String::new(alloc);
+    put(&mut line, what, number, size)?;
+    Ok(line)
+}
+
+fn put(line: &mut String, what: What, number: u32, size: u32) -> Result<(), AllocError> {
+    match what {
+        What::Groups => put_group(line, number, size),
+        What::Rows => put_row(line, number, size),
+        What::Coefs => write!(line, "vcoef r0 1 x{number} 1"),
+        What::Twins => {
+            put_group(line, number, size)?;
+            line.push_str(" x0")
+        }
+    }
+}
+
+fn put_group(line: &mut String, first: u32, size: u32) -> Result<(), AllocError> {
+    line.push_str("vars nonneg")?;
+    for place in 0..size {
+        write!(line, " x{}", first.saturating_add(place))?;
+    }
+    Ok(())
+}
+
+fn put_row(line: &mut String, number: u32, components: u32) -> Result<(), AllocError> {
+    write!(line, "vrow r{number} zeros : 1*x0")?;
+    for _ in 1..components {
+        line.push_str(" ; 1*x0")?;
     }
     Ok(())
 }

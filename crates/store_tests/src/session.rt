@@ -1,94 +1,119 @@
 // Steps of a script.
 ghost use Rattle.std.specs.Prelude.{◌≡◌, OnOk};
 
-use crate::command::{Command, End};
-use crate::edits::edit;
+use crate::edits::{otherwise, read};
 use crate::many;
-use crate::shown::{show, show_copies, text};
-use anyhow::Result;
-use model_store::UserModel;
+use crate::shown::{digest, show, show_copies};
+use crate::stop::Stop;
+use model_store::{ApplyFault, Edit, UserModel};
 
 /// Makes one step, and prints what it gives. An empty line, or one that begins with `#`, is no
 /// step.
-pub fn step(rt: &HostRuntime, model: &mut UserModel, line: &str) -> Result<()> {
-    let (word, rest) = parted(line);
-    match Command::named(word) {
-        Command::Remark => Ok(()),
-        Command::Show => show(rt, model),
-        Command::Copies => show_copies(rt, model),
-        Command::Several(end) => several(rt, model, end, rest),
-        Command::Many => many::step(rt, model, rest),
-        Command::Edit => make(rt, model, line),
+pub fn step(rt: &HostRuntime, model: &mut UserModel, line: &str) -> Result<(), Stop> {
+    let (word, rest) = line.split_once(' ').unwrap_or((line, ""));
+    match word {
+        "" | "#" => Ok(()),
+        "new" => empty(rt, model),
+        "show" => show(rt, model),
+        "copies" => show_copies(rt, model),
+        "back" => back(rt, model, rest),
+        "within" => within(rt, model, rest),
+        "many" => many::step(rt, model, rest),
+        "numbers" | "zeros0" | "zeros3" | "minimize" => make_otherwise(rt, model, word, rest),
+        _ => make(rt, model, line),
     }
 }
 
-// The first word, and what is left.
-fn parted(line: &str) -> (&str, &str) {
-    line.split_once(' ').unwrap_or((line, ""))
-}
-
-fn several(rt: &HostRuntime, model: &mut UserModel, end: End, edits: &str) -> Result<()> {
-    let edits: Vec<&str> = edits.split("; ").collect(rt.alloc())?;
-    match end {
-        End::Back => take_back(rt, model, &edits)?,
-        End::Settle => settle(rt, model, &edits)?,
-        End::First => settle_the_first(rt, model, &edits)?,
-    }
+fn empty(rt: &HostRuntime, model: &mut UserModel) -> Result<(), Stop> {
+    *model = UserModel::new(rt.alloc());
     Ok(())
 }
 
 // An edit that is made for good, if it isn't refused.
-fn make(rt: &HostRuntime, model: &mut UserModel, line: &str) -> Result<()> {
-    match model.apply(edit(rt.alloc(), line)?) {
-        Ok(undo) => {
-            model.settle(undo);
-            println!(rt; "{line}: made")?;
-        }
+fn make(rt: &HostRuntime, model: &mut UserModel, line: &str) -> Result<(), Stop>
+    ensures { OnOk result (model.new.parked ≡ model.old.parked) }
+{
+    let made = make_for_good(model, read(rt.alloc(), line)?);
+    tell(rt, line, made)
+}
+
+fn make_otherwise(
+    rt: &HostRuntime,
+    model: &mut UserModel,
+    word: &str,
+    line: &str,
+) -> Result<(), Stop> {
+    let made = make_for_good(model, otherwise(word, read(rt.alloc(), line)?));
+    tell(rt, line, made)
+}
+
+fn tell(rt: &HostRuntime, line: &str, made: Result<(), ApplyFault>) -> Result<(), Stop> {
+    match made {
+        Ok(()) => println!(rt; "{line}: made")?,
         Err(fault) => println!(rt; "{line}: {fault}")?,
     }
     Ok(())
 }
 
+/// Makes an edit for good.
+pub fn make_for_good(model: &mut UserModel, edit: Edit) -> Result<(), ApplyFault>
+    ensures { model.new.parked ≡ model.old.parked }
+{
+    let undo = model.apply(edit)?;
+    model.settle(undo);
+    Ok(())
+}
+
+fn back(rt: &HostRuntime, model: &mut UserModel, edits: &str) -> Result<(), Stop>
+    ensures { OnOk result (model.new ≡ model.old) }
+{
+    let edits: Vec<&str> = edits.split("; ").collect(rt.alloc())?;
+    take_back(rt, model, &edits)
+}
+
 // Makes the edits and takes them back, the last first. Whether each changes the model and leads
 // back is printed.
-fn take_back(rt: &HostRuntime, model: &mut UserModel, edits: &[&str]) -> Result<()>
+fn take_back(rt: &HostRuntime, model: &mut UserModel, edits: &[&str]) -> Result<(), Stop>
     ensures { OnOk result (model.new ≡ model.old) }
 {
     let Some((first, others)) = edits.split_first() else {
         return Ok(());
     };
-    let before = text(rt.alloc(), model)?;
-    let undo = model.apply(edit(rt.alloc(), first)?)?;
-    let changes = text(rt.alloc(), model)? != before;
+    let before = digest(rt, model)?;
+    let undo = model.apply(read(rt.alloc(), first)?)?;
+    let changes = digest(rt, model)? != before;
     take_back(rt, model, others)?;
     model.take_back(undo);
-    let leads_back = text(rt.alloc(), model)? == before;
+    let leads_back = digest(rt, model)? == before;
     println!(rt; "{first}: changes {changes}, leads back {leads_back}")?;
     Ok(())
 }
 
-// Makes the edits and settles them, the last first.
-fn settle(rt: &HostRuntime, model: &mut UserModel, edits: &[&str]) -> Result<()>
-    ensures { OnOk result (model.new.parked ≡ model.old.parked) }
-{
-    let Some((first, others)) = edits.split_first() else {
-        return Ok(());
-    };
-    let undo = model.apply(edit(rt.alloc(), first)?)?;
-    settle(rt, model, others)?;
-    model.settle(undo);
+fn within(rt: &HostRuntime, model: &mut UserModel, edits: &str) -> Result<(), Stop> {
+    let (first, others) = edits.split_once("; ").unwrap_or((edits, ""));
+    settle_after(rt, model, first, others)?;
     println!(rt; "{first}: settled")?;
     Ok(())
 }
 
-// Makes the edits, takes all but the first back, and settles that.
-fn settle_the_first(rt: &HostRuntime, model: &mut UserModel, edits: &[&str]) -> Result<()> {
-    let Some((first, others)) = edits.split_first() else {
-        return Ok(());
-    };
-    let undo = model.apply(edit(rt.alloc(), first)?)?;
-    take_back(rt, model, others)?;
+// Makes an edit, and settles it after the step that follows.
+fn settle_after(
+    rt: &HostRuntime,
+    model: &mut UserModel,
+    first: &str,
+    others: &str,
+) -> Result<(), Stop> {
+    let undo = model.apply(read(rt.alloc(), first)?)?;
+    inner(rt, model, others)?;
     model.settle(undo);
-    println!(rt; "{first}: settled")?;
     Ok(())
+}
+
+fn inner(rt: &HostRuntime, model: &mut UserModel, line: &str) -> Result<(), Stop>
+    ensures { OnOk result (model.new.parked ≡ model.old.parked) }
+{
+    match line.strip_prefix("back ") {
+        Some(edits) => back(rt, model, edits),
+        None => make(rt, model, line),
+    }
 }
