@@ -5,15 +5,14 @@ use ratio_core::Ratio;
 use set_core::Set;
 use solver_store::{LeafObjective, LeafRow, LeafVar, Sense, SolverAff, SolverModel, SolverVec};
 use std::alloc::Global;
-use std::test::Fail;
 use std_form::AddressMap;
 
 /// A function of the free variable x and the nonnegative variable y: their coefficients and the
 /// constant, as literals.
-pub(crate) type Terms = (&'static str, &'static str, &'static str);
+pub type Terms = (&'static str, &'static str, &'static str);
 
 #[derive(Clone, Copy)]
-pub(crate) enum Row {
+pub enum Row {
     AtMost(Terms, &'static str),
     AtLeast(Terms, &'static str),
     /// y is the number.
@@ -25,98 +24,108 @@ pub(crate) enum Row {
 }
 
 #[derive(Drop)]
-pub(crate) struct Model {
-    pub(crate) solver: SolverModel,
-    pub(crate) map: AddressMap,
+pub struct Model {
+    pub solver: SolverModel,
+    pub map: AddressMap,
 }
 
 /// The model with the rows, each at the address of its number, and the objective.
-pub(crate) fn model_of(
+pub fn model_of(
     alloc: Global,
     rows: &[(u32, Row)],
     objective: Option<(Sense, Terms)>,
-) -> Result<Model, Fail> {
+) -> Result<Model, Memory> {
     let mut model = Model {
         solver: SolverModel::new(alloc),
         map: AddressMap::new(alloc),
     };
-    // the other way round than their addresses
-    put_var(&mut model, 1, LeafVar::Nonneg)?;
-    put_var(&mut model, 0, LeafVar::Free)?;
-    for (number, row) in rows {
-        put_row(&mut model, *number, made(alloc, row)?)?;
-    }
+    fill(alloc, &mut model, rows)?;
     if let Some((sense, terms)) = objective {
-        let func = function(alloc, &terms)?;
-        model
-            .solver
-            .set_objective(Some(LeafObjective::Affine { sense, func }));
+        set_objective(alloc, &mut model, sense, &terms)?;
     }
     Ok(model)
 }
 
-fn put_var(model: &mut Model, number: u32, var: LeafVar) -> Result<(), Fail> {
+fn fill(alloc: Global, model: &mut Model, rows: &[(u32, Row)]) -> Result<(), Memory> {
+    // the other way round than their addresses
+    put_var(model, 1, LeafVar::Nonneg)?;
+    put_var(model, 0, LeafVar::Free)?;
+    for (number, row) in rows {
+        put_row(model, *number, made(alloc, row)?)?;
+    }
+    Ok(())
+}
+
+fn set_objective(
+    alloc: Global,
+    model: &mut Model,
+    sense: Sense,
+    terms: &Terms,
+) -> Result<(), Memory> {
+    let func = function(alloc, terms)?;
+    let objective = LeafObjective::Affine { sense, func };
+    model.solver.set_objective(Some(objective));
+    Ok(())
+}
+
+// An address or an index that is there is left alone, and the model lacks a leaf.
+fn put_var(model: &mut Model, number: u32, var: LeafVar) -> Result<(), Memory> {
     let i = model.solver.add_var(var)?;
     let at = Address::root(Root::Variable, number);
-    if model.map.var_index(&at).is_some() || model.map.var_at(i).is_some() {
-        return Err(Fail::from("a variable is there"));
+    if model.map.var_index(&at).is_none() && model.map.var_at(i).is_none() {
+        model.map.put_var(at, i)?;
     }
-    model.map.put_var(at, i)?;
     Ok(())
 }
 
-fn put_row(model: &mut Model, number: u32, row: LeafRow) -> Result<(), Fail> {
+fn put_row(model: &mut Model, number: u32, row: LeafRow) -> Result<(), Memory> {
     let i = model.solver.add_row(row)?;
     let at = Address::root(Root::Row, number);
-    if model.map.row_index(&at).is_some() || model.map.row_at(i).is_some() {
-        return Err(Fail::from("a row is there"));
+    if model.map.row_index(&at).is_none() && model.map.row_at(i).is_none() {
+        model.map.put_row(at, i)?;
     }
-    model.map.put_row(at, i)?;
     Ok(())
 }
 
-fn number(text: &str) -> Result<Ratio, Fail> {
-    Ok(Ratio::read(text.as_bytes()).ok_or("a number")?)
+// The number of a literal.
+fn number(text: &str) -> Ratio {
+    Ratio::read(text.as_bytes()).unwrap_or(Ratio::zero())
 }
 
 // x has the index 1, and y the index 0.
-fn function(alloc: Global, terms: &Terms) -> Result<SolverAff, Fail> {
+fn function(alloc: Global, terms: &Terms) -> Result<SolverAff, Memory> {
     let (x, y, constant) = terms;
-    let terms = [(0usize, number(y)?), (1usize, number(x)?)];
-    Ok(SolverAff::from_terms(alloc, &terms, number(constant)?)?)
+    let terms = [(0usize, number(y)), (1usize, number(x))];
+    SolverAff::from_terms(alloc, &terms, number(constant))
 }
 
-fn made(alloc: Global, row: &Row) -> Result<LeafRow, Fail> {
+fn made(alloc: Global, row: &Row) -> Result<LeafRow, Memory> {
     match row {
-        Row::AtMost(terms, upper) => at_most(alloc, terms, upper),
-        Row::AtLeast(terms, lower) => at_least(alloc, terms, lower),
-        Row::Fixes(value) => fixes(value),
+        Row::AtMost(terms, upper) => {
+            let upper = number(upper);
+            affine(alloc, terms, Set::LessThan { upper })
+        }
+        Row::AtLeast(terms, lower) => {
+            let lower = number(lower);
+            affine(alloc, terms, Set::GreaterThan { lower })
+        }
+        Row::Fixes(value) => Ok(fixes(number(value))),
         Row::Pair(first, second) => pair(alloc, first, second),
         Row::Zeros(count) => zeros(alloc, *count),
     }
 }
 
-fn at_most(alloc: Global, terms: &Terms, upper: &str) -> Result<LeafRow, Fail> {
+fn affine(alloc: Global, terms: &Terms, set: Set) -> Result<LeafRow, Memory> {
     let func = function(alloc, terms)?;
-    let upper = number(upper)?;
-    let set = Set::LessThan { upper };
     Ok(LeafRow::Affine { func, set })
 }
 
-fn at_least(alloc: Global, terms: &Terms, lower: &str) -> Result<LeafRow, Fail> {
-    let func = function(alloc, terms)?;
-    let lower = number(lower)?;
-    let set = Set::GreaterThan { lower };
-    Ok(LeafRow::Affine { func, set })
-}
-
-fn fixes(value: &str) -> Result<LeafRow, Fail> {
-    let value = number(value)?;
+fn fixes(value: Ratio) -> LeafRow {
     let set = Set::EqualTo { value };
-    Ok(LeafRow::Plain { var: 0, set })
+    LeafRow::Plain { var: 0, set }
 }
 
-fn pair(alloc: Global, first: &Terms, second: &Terms) -> Result<LeafRow, Fail> {
+fn pair(alloc: Global, first: &Terms, second: &Terms) -> Result<LeafRow, Memory> {
     let mut func = SolverVec::new(alloc);
     push(&mut func, function(alloc, first)?)?;
     push(&mut func, function(alloc, second)?)?;
@@ -124,13 +133,18 @@ fn pair(alloc: Global, first: &Terms, second: &Terms) -> Result<LeafRow, Fail> {
     Ok(LeafRow::AffineVec { func, set })
 }
 
-fn zeros(alloc: Global, count: u32) -> Result<LeafRow, Fail> {
+fn zeros(alloc: Global, count: u32) -> Result<LeafRow, Memory> {
     let mut func = SolverVec::new(alloc);
-    for _ in 0..count {
-        push(&mut func, SolverAff::from_terms(alloc, &[], Ratio::zero())?)?;
-    }
+    push_zeros(alloc, &mut func, count)?;
     let set = Set::Zeros { dimension: count };
     Ok(LeafRow::AffineVec { func, set })
+}
+
+fn push_zeros(alloc: Global, func: &mut SolverVec, count: u32) -> Result<(), Memory> {
+    for _ in 0..count {
+        push(func, SolverAff::from_terms(alloc, &[], Ratio::zero())?)?;
+    }
+    Ok(())
 }
 
 fn push(func: &mut SolverVec, component: SolverAff) -> Result<(), Memory> {
