@@ -101,7 +101,8 @@ fn lesser_wide(a: u128, b: u128) -> u128
     if a < b { a } else { b }
 }
 
-// By the zeros of the low halves' difference, where it has them: a shift below 64 takes fewer steps.
+// By the zeros of the low halves' difference, where it has them: a shift below 64 takes fewer
+// steps.
 #[inline]
 fn wide_difference_without_twos(a: u128, b: u128) -> u128
     requires { a ≢ b }

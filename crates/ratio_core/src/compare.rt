@@ -83,7 +83,8 @@ fn cmp_narrow_products(a: u128, b: u128) -> Ordering
 #[inline(always)]
 fn order_by_tests(is_less: bool, is_greater: bool) -> Ordering
     requires { is_less ≡ true → is_greater ≡ false }
-    ensures { result ≡ cond is_less Ordering.Less (cond is_greater Ordering.Greater Ordering.Equal) }
+    ensures { result ≡ cond is_less Ordering.Less
+        (cond is_greater Ordering.Greater Ordering.Equal) }
 {
     match i8::from(is_greater) - i8::from(is_less) {
         -1 => Ordering::Less,
