@@ -1,10 +1,10 @@
 //! A user's model, and beside it what a solver holds.
 use aff_core::{Address, Root};
-use anyhow::{Result, bail};
 use bridged_report::{AddressMap, SolverModel, UserModel, bridged, place_at};
 use script_core::{Command, parse_line};
 use solver_store::{LeafObjective, LeafRow, LeafVar};
 use std::alloc::Global;
+use stop::Stop;
 
 /// A root, its number and positions.
 pub type At<'a> = (Root, u32, &'a [u16]);
@@ -26,30 +26,30 @@ impl Held {
     }
 
     /// Makes the edit of a line.
-    pub fn edit(&mut self, alloc: Global, line: &str) -> Result<()> {
+    pub fn edit(&mut self, alloc: Global, line: &str) -> Result<(), Stop> {
         let Command::Edit(edit) = parse_line(alloc, line.as_bytes())? else {
-            bail!("no edit")
+            return Err(Stop);
         };
         let undo = self.model.apply(edit)?;
         self.model.settle(undo);
         Ok(())
     }
 
-    pub fn put_var(&mut self, at: At, var: LeafVar) -> Result<()> {
+    pub fn put_var(&mut self, at: At, var: LeafVar) -> Result<(), Stop> {
         let at = address(at)?;
         let i = self.solver.add_var(var)?;
         if self.map.var_index(&at).is_some() || self.map.var_at(i).is_some() {
-            bail!("a variable is there")
+            return Err(Stop);
         }
         self.map.put_var(at, i)?;
         Ok(())
     }
 
-    pub fn put_row(&mut self, at: At, row: LeafRow) -> Result<()> {
+    pub fn put_row(&mut self, at: At, row: LeafRow) -> Result<(), Stop> {
         let at = address(at)?;
         let i = self.solver.add_row(row)?;
         if self.map.row_index(&at).is_some() || self.map.row_at(i).is_some() {
-            bail!("a row is there")
+            return Err(Stop);
         }
         self.map.put_row(at, i)?;
         Ok(())
@@ -60,7 +60,7 @@ impl Held {
     }
 
     /// Prints the lines of the leaves.
-    pub fn show<R: Print + AllocGlobal>(&self, rt: &R) -> Result<()> {
+    pub fn show<R: Print + AllocGlobal>(&self, rt: &R) -> Result<(), Stop> {
         let text = bridged(rt.alloc(), &self.solver, &self.map, &self.model)?;
         let text = std::str::from_utf8(text.as_slice())?;
         rt.print(format_args!("{text}--\n"))?;
@@ -68,7 +68,7 @@ impl Held {
     }
 
     /// Prints where in the user's model an address is.
-    pub fn show_place<R: Print + AllocGlobal>(&self, rt: &R, at: At) -> Result<()> {
+    pub fn show_place<R: Print + AllocGlobal>(&self, rt: &R, at: At) -> Result<(), Stop> {
         let at = address(at)?;
         let place = place_at(&self.model, &at)?;
         println!(rt; "{at}: {place:?}")?;
@@ -76,12 +76,12 @@ impl Held {
     }
 }
 
-fn address(at: At) -> Result<Address> {
+fn address(at: At) -> Result<Address, Stop> {
     let (root, number, positions) = at;
     let mut address = Address::root(root, number);
     for position in positions {
         if address.depth() >= 40 {
-            bail!("too deep")
+            return Err(Stop);
         }
         address = address.child(*position);
     }

@@ -14,8 +14,16 @@ mod shown;
 mod tables;
 
 use any_bridge::all_bridges;
-use anyhow::Result;
+use std::io;
+use stop::Stop;
 
-fn main(rt: HostRuntime) -> Result<()> {
-    session::run_script(&rt, all_bridges(rt.alloc())?)
+fn main(rt: HostRuntime) -> io::Result<()> {
+    match answer_script(&rt) {
+        Ok(()) => Ok(()),
+        Err(Stop) => println!(rt; "stopped"),
+    }
+}
+
+fn answer_script(rt: &HostRuntime) -> Result<(), Stop> {
+    session::run_script(rt, all_bridges(rt.alloc())?)
 }

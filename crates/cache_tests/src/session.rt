@@ -10,7 +10,6 @@ ghost use Rattle.lazy_bridge.specs.Owned.{HoldsNothing};
 use crate::shown;
 use crate::tables::{switched, target_table};
 use address_map::AddressMap;
-use anyhow::{Result, anyhow, bail};
 use bridge_face::Bridge;
 use cache_layer::{CacheOver, NotAttached};
 use item_core::{Family, Table, Target};
@@ -21,10 +20,11 @@ use script_core::{Command, parse_line};
 use solver_store::SolverModel;
 use std::alloc::Global;
 use std::mem;
+use stop::Stop;
 use user_model::Edit;
 
 /// Runs the script over these bridges.
-pub fn run_script<B: Bridge>(rt: &HostRuntime, bridges: Vec<B>) -> Result<()>
+pub fn run_script<B: Bridge>(rt: &HostRuntime, bridges: Vec<B>) -> Result<(), Stop>
     requires once { IsTrue (occur_once (families_of (map B.state bridges.items))) }
     requires kept { All (λ s. s.kept ≡ finite.empty) (map B.state bridges.items) }
 {
@@ -58,7 +58,7 @@ fn step<B: Bridge>(
     cache: &mut CacheOver<B>,
     kept: &mut Vec<Edit>,
     line: &str,
-) -> Result<()> {
+) -> Result<(), Stop> {
     if let Some(edit) = line.strip_prefix("+ ") {
         kept.push(read_edit(rt.alloc(), edit)?)?;
         return Ok(());
@@ -74,15 +74,19 @@ fn step<B: Bridge>(
     }
 }
 
-fn read_edit(alloc: Global, line: &str) -> Result<Edit> {
+fn read_edit(alloc: Global, line: &str) -> Result<Edit, Stop> {
     match parse_line(alloc, line.as_bytes())? {
         Command::Edit(edit) => Ok(edit),
-        _ => bail!("no edit"),
+        _ => Err(Stop),
     }
 }
 
 // Makes the edits that are kept, while no solver is attached.
-fn load<B: Bridge>(rt: &HostRuntime, cache: &mut CacheOver<B>, kept: &mut Vec<Edit>) -> Result<()> {
+fn load<B: Bridge>(
+    rt: &HostRuntime,
+    cache: &mut CacheOver<B>,
+    kept: &mut Vec<Edit>,
+) -> Result<(), Stop> {
     if cache.attached() {
         return shown::refused(rt, &Refused::AlreadyAttached);
     }
@@ -94,7 +98,7 @@ fn load<B: Bridge>(rt: &HostRuntime, cache: &mut CacheOver<B>, kept: &mut Vec<Ed
 }
 
 // Answers a line of a script.
-fn answer<B: Bridge>(rt: &HostRuntime, cache: &mut CacheOver<B>, line: &str) -> Result<()> {
+fn answer<B: Bridge>(rt: &HostRuntime, cache: &mut CacheOver<B>, line: &str) -> Result<(), Stop> {
     match parse_line(rt.alloc(), line.as_bytes())? {
         Command::Silent => Ok(()),
         Command::Edit(edit) => make(rt, cache, edit),
@@ -103,11 +107,11 @@ fn answer<B: Bridge>(rt: &HostRuntime, cache: &mut CacheOver<B>, line: &str) -> 
         Command::Attach => attach(rt, cache),
         Command::Detach => detach(rt, cache),
         Command::Optimize(pivots) => optimize(rt, cache, pivots.unwrap_or(1000)),
-        _ => Err(anyhow!("no such line")),
+        _ => Err(Stop),
     }
 }
 
-fn make<B: Bridge>(rt: &HostRuntime, cache: &mut CacheOver<B>, edit: Edit) -> Result<()> {
+fn make<B: Bridge>(rt: &HostRuntime, cache: &mut CacheOver<B>, edit: Edit) -> Result<(), Stop> {
     match cache.edit(edit) {
         Ok(count) => shown::accepted(rt, count),
         Err(fault) => shown::edit_fault(rt, fault),
@@ -119,12 +123,16 @@ fn switch<B: Bridge>(
     cache: &mut CacheOver<B>,
     family: Family,
     value: bool,
-) -> Result<()> {
+) -> Result<(), Stop> {
     let table = switched(cache.lazy().table(), family, value);
     set_table(rt, cache, table)
 }
 
-fn set_table<B: Bridge>(rt: &HostRuntime, cache: &mut CacheOver<B>, table: Table) -> Result<()>
+fn set_table<B: Bridge>(
+    rt: &HostRuntime,
+    cache: &mut CacheOver<B>,
+    table: Table,
+) -> Result<(), Stop>
     requires costs { IsTrue (list_all is_edge_cost table.cost) }
     requires native { IsTrue (supports_native table) }
 {
@@ -134,21 +142,21 @@ fn set_table<B: Bridge>(rt: &HostRuntime, cache: &mut CacheOver<B>, table: Table
     }
 }
 
-fn attach<B: Bridge>(rt: &HostRuntime, cache: &mut CacheOver<B>) -> Result<()> {
+fn attach<B: Bridge>(rt: &HostRuntime, cache: &mut CacheOver<B>) -> Result<(), Stop> {
     match cache.attach() {
         Ok(leaves) => shown::accepted(rt, Some(leaves)),
         Err(fault) => shown::attach_fault(rt, fault),
     }
 }
 
-fn detach<B: Bridge>(rt: &HostRuntime, cache: &mut CacheOver<B>) -> Result<()> {
+fn detach<B: Bridge>(rt: &HostRuntime, cache: &mut CacheOver<B>) -> Result<(), Stop> {
     match cache.detach() {
         Ok(()) => shown::accepted(rt, None),
         Err(NotAttached) => shown::refused(rt, &Refused::NotAttached),
     }
 }
 
-fn optimize<B: Bridge>(rt: &HostRuntime, cache: &CacheOver<B>, pivots: u32) -> Result<()> {
+fn optimize<B: Bridge>(rt: &HostRuntime, cache: &CacheOver<B>, pivots: u32) -> Result<(), Stop> {
     match cache.optimize(u64::from(pivots)) {
         Ok(certificate) => shown::certificate(rt, cache.model(), &certificate),
         Err(fault) => shown::opt_fault(rt, fault),
@@ -156,15 +164,9 @@ fn optimize<B: Bridge>(rt: &HostRuntime, cache: &CacheOver<B>, pivots: u32) -> R
 }
 
 // Adds rows of one form, `M N FORM`, and prints the last answer.
-fn add_rows<B: Bridge>(rt: &HostRuntime, cache: &mut CacheOver<B>, text: &str) -> Result<()> {
-    let Some((first, text)) = text.split_once(' ') else {
-        bail!("no first row");
-    };
-    let Some((last, form)) = text.split_once(' ') else {
-        bail!("no last row");
-    };
-    let first: u32 = first.parse()?;
-    let last: u32 = last.parse()?;
+fn add_rows<B: Bridge>(rt: &HostRuntime, cache: &mut CacheOver<B>, text: &str) -> Result<(), Stop> {
+    let (first, text) = numbered(text)?;
+    let (last, form) = numbered(text)?;
     for n in first..=last {
         add_row(rt, cache, n, form)?;
     }
@@ -172,15 +174,23 @@ fn add_rows<B: Bridge>(rt: &HostRuntime, cache: &mut CacheOver<B>, text: &str) -
     Ok(())
 }
 
+// The number that a text begins with, and what stands behind it.
+fn numbered(text: &str) -> Result<(u32, &str), Stop> {
+    let Some((number, rest)) = text.split_once(' ') else {
+        return Err(Stop);
+    };
+    Ok((number.parse()?, rest))
+}
+
 fn add_row<B: Bridge>(
     rt: &HostRuntime,
     cache: &mut CacheOver<B>,
     n: u32,
     form: &str,
-) -> Result<()> {
+) -> Result<(), Stop> {
     let line = format!(in rt.alloc(); "row r{n} {form}")?;
     match cache.edit(read_edit(rt.alloc(), line.as_str())?) {
         Ok(_) => Ok(()),
-        Err(_) => Err(anyhow!("a row is refused")),
+        Err(_) => Err(Stop),
     }
 }

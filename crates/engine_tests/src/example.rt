@@ -1,9 +1,9 @@
 // An example of a script, with the answers that are told beside it.
-use crate::stop::Stop;
 use bridge_face::Bridge;
 use edit_engine::{Answer, SessionOver};
 use io_face::Shelf;
 use std::fs;
+use stop::Stop;
 
 /// Answers the script `NAME.txt`, and says whether its answers are the text `NAME.out`; where they
 /// are not, prints them.

@@ -9,7 +9,6 @@
 
 mod example;
 mod session;
-mod stop;
 
 use any_bridge::all_bridges;
 use std::io;

@@ -4,11 +4,11 @@ ghost use Rattle.std.specs.FinMap as finite;
 ghost use Rattle.boxes.specs.Boxed.{families_of, occur_once};
 
 use crate::example::compare;
-use crate::stop::Stop;
 use bridge_face::Bridge;
 use edit_engine::{Answer, SessionOver};
 use io_face::{Files, Shelf};
 use script_words::read_target;
+use stop::Stop;
 
 /// Answers the lines by a new session with these bridges.
 pub fn run<B: Bridge>(rt: &HostRuntime, lines: &str, bridges: Vec<B>) -> Result<(), Stop>

@@ -1,10 +1,10 @@
 // Edits: those that a line says, and some that none says.
-use crate::stop::Stop;
 use model_store::{Edit, Sense};
 use ratio_core::Ratio;
 use script_core::{Command, parse_line};
 use set_core::Set;
 use std::alloc::Global;
+use stop::Stop;
 
 /// The edit of a line.
 pub fn read(alloc: Global, line: &str) -> Result<Edit, Stop> {

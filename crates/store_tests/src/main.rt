@@ -20,7 +20,6 @@ mod edits;
 mod many;
 mod session;
 mod shown;
-mod stop;
 
 use model_store::UserModel;
 use std::io;

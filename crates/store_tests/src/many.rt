@@ -10,10 +10,10 @@
 //                                       again
 use crate::edits::read;
 use crate::session::make_for_good;
-use crate::stop::Stop;
 use model_store::UserModel;
 use std::alloc::{AllocError, Global};
 use std::str::SplitWhitespace;
+use stop::Stop;
 
 #[derive(Clone, Copy)]
 enum What {

@@ -4,8 +4,8 @@ ghost use Rattle.std.specs.Prelude.{◌≡◌, OnOk};
 use crate::edits::{otherwise, read};
 use crate::many;
 use crate::shown::{digest, show, show_copies};
-use crate::stop::Stop;
 use model_store::{ApplyFault, Edit, UserModel};
+use stop::Stop;
 
 /// Makes one step, and prints what it gives. An empty line, or one that begins with `#`, is no
 /// step.

@@ -1,8 +1,8 @@
 // A model as text.
-use crate::stop::Stop;
 use model_store::{Group, Row, UserModel};
 use std::alloc::{AllocError, Global};
 use std::io;
+use stop::Stop;
 
 // All that readers give of a model.
 fn text(alloc: Global, model: &UserModel) -> Result<String, AllocError> {
