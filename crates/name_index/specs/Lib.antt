@@ -1,4 +1,5 @@
 pub mod Escape
+pub mod KeptText
 pub mod Name
 pub mod NameTable
 pub mod InStep

@@ -2,6 +2,7 @@
 //! of names and numbers.
 #![tactic(auto)]
 
+mod kept_text;
 mod name;
 mod table;
 

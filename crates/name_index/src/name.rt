@@ -6,6 +6,7 @@ ghost use Rattle.std.specs.Cmp.Lexicographic.{nat_list_eq_equiv};
 ghost use Rattle.std.specs.Cmp.{partial_equiv_from_equiv};
 ghost use Rattle.name_index.specs.Escape.{escaped, percent_decoded};
 
+use crate::kept_text::KeptText;
 use crate::{Memory, Text};
 use lists::Duplicate;
 use percent_encoding::{AsciiSet, CONTROLS, ascii_set, percent_decode, utf8_percent_encode};
@@ -21,18 +22,20 @@ const ESCAPED: AsciiSet = ascii_set!(CONTROLS.add(b' ').add(b'%'));
 /// A name of a variable or a row: UTF-8 text of 1 to 4,096 bytes, which contracts see as its bytes.
 #[derive(Debug, Drop)]
 pub struct Name {
-    text: String,
+    alloc: Global,
+    text: KeptText,
 }
 
 impl Model for Name {
-    ghost use Rattle.std.specs.Prelude.{ℕ, List, string_bytes};
+    ghost use Rattle.std.specs.Prelude.{ℕ, List};
+    ghost use Rattle.name_index.specs.KeptText.{bytes_kept};
     ghost use Rattle.name_index.specs.Name.{HasNameLength};
 
     ghost Value = { List ℕ };
 
-    ghost view = { λ name. string_bytes name.text };
+    ghost view = { λ name. bytes_kept name.text };
 
-    ghost invariant = { λ name. HasNameLength (string_bytes name.text) };
+    ghost invariant = { λ name. HasNameLength (bytes_kept name.text) };
 }
 
 /// Why a text is no name.
@@ -78,8 +81,8 @@ impl Name {
         if !is_name_length(text.len()) {
             return Err(NameFault::BadName);
         }
-        let text = String::from_str(alloc, text)?;
-        Ok(Name { text })
+        let text = KeptText::new(alloc, text)?;
+        Ok(Name { alloc, text })
     }
 
     /// The text of the name.
@@ -103,7 +106,10 @@ impl Name {
             return Ok(None);
         }
         match String::from_utf8(bytes) {
-            Ok(text) => Ok(Some(Name { text })),
+            Ok(text) => Ok(Some(Name {
+                alloc,
+                text: KeptText::Long(text),
+            })),
             Err(_) => Ok(None),
         }
     }
@@ -117,7 +123,7 @@ impl Name {
         ensures decodes { percent_decoded (escaped self.now) ≡ self.now }
         ensures reads_back { name_of_token (escaped self.now) ≡ Some self.now }
     {
-        let mut token = String::new(*self.text.allocator());
+        let mut token = String::new(self.alloc);
         utf8_percent_encode(self.text(), ESCAPED).append_to(&mut token)?;
         Ok(Text::from_vec(token.into_bytes()))
     }
@@ -125,8 +131,11 @@ impl Name {
 
 impl Duplicate for Name {
     fn copy(&self) -> Result<Name, Memory> {
-        let text = String::from_str(*self.text.allocator(), self.text())?;
-        Ok(Name { text })
+        let text = KeptText::new(self.alloc, self.text())?;
+        Ok(Name {
+            alloc: self.alloc,
+            text,
+        })
     }
 }
 
@@ -136,7 +145,7 @@ impl PartialEq for Name {
     ghost laws = { partial_equiv_from_equiv nat_list_eq_equiv };
 
     fn eq(&self, other: &Name) -> bool {
-        self.text == other.text
+        self.text() == other.text()
     }
 }
 
@@ -153,6 +162,6 @@ impl Hash for Name {
     ghost respects_eq = { λ a b same. ap fed.str ((bytes_decides a b).0 same) };
 
     fn hash<H: Hasher>(&self, state: &mut H) {
-        self.text.hash(state);
+        self.text().hash(state);
     }
 }
