@@ -7,7 +7,7 @@ use Rattle.std.proofs.lemmas.List.{length-map}
 use Rattle.std.proofs.lemmas.List.Elements.{All-map, All-weaker}
 use Rattle.set_core.specs.Shapes.{IsSetOf, is_scalar}
 use Rattle.set_core.specs.declared.set.Set.{Set}
-use Rattle.set_core.specs.declared.set.Set.TheVariants.{LessThan, GreaterThan, EqualTo, Interval, Reals, Zeros, Nonnegatives, Nonpositives, NormInfinityCone, NormOneCone}
+use Rattle.set_core.specs.declared.set.Set.TheVariants.{LessThan, Reals}
 use Rattle.aff_core.specs.Address.{Address, address_cmp}
 use Rattle.aff_core.specs.Arithmetic.{composed}
 use Rattle.aff_core.specs.Function.{Function, variable}
@@ -16,7 +16,7 @@ use Rattle.aff_core.specs.declared.sense.Sense.TheVariants.{Min, Max}
 use Rattle.item_core.specs.declared.image.Expression.{Expression}
 use Rattle.item_core.specs.declared.image.Expression.TheVariants.{Kept, Bridged}
 use Rattle.item_core.specs.declared.item.Body.{Body}
-use Rattle.item_core.specs.declared.item.Body.TheVariants.{Group, Free, Plain, Affine, PlainVec, AffineVec, PlainObj, AffineObj}
+use Rattle.item_core.specs.declared.item.Body.TheVariants.{Group, Free, Plain, PlainVec, PlainObj, AffineObj}
 use Rattle.item_core.specs.declared.item.Item.{Item}
 use Rattle.item_core.specs.Item.{functions_of, is_group, set_of}
 use Rattle.item_core.specs.KindOf.{kind_of_body, plain_kind_of}
@@ -71,16 +71,14 @@ functions_put entries (Free vars) h = absurd (true≢false h)
 functions_put entries (Plain var set) h =
     plain_functions (expression_in entries var) set
     ∙ ap (λ f. f ∷ []) (sym (composed-variable (function_in entries) var))
-functions_put entries (Affine func set) h = refl
 functions_put entries (PlainVec vars set) h =
     vector_functions (list_all is_kept (map (expression_in entries) vars))
     (map (expression_in entries) vars) set refl
     ∙ looked_up entries vars ∙ composed_variables (function_in entries) vars
-functions_put entries (AffineVec funcs set) h = refl
 functions_put entries (PlainObj sense var) h =
     objective_functions sense (expression_in entries var)
     ∙ ap (λ f. f ∷ []) (sym (composed-variable (function_in entries) var))
-functions_put entries (AffineObj sense func) h = refl
+functions_put entries _ h = refl
 
 -- ---- sets
 
@@ -103,13 +101,11 @@ unfolding put_in_body
 set_put entries (Group set vars) h = absurd (true≢false h)
 set_put entries (Free vars) h = absurd (true≢false h)
 set_put entries (Plain var set) h = plain_set (expression_in entries var) set
-set_put entries (Affine func set) h = refl
 set_put entries (PlainVec vars set) h =
     vector_set (list_all is_kept (map (expression_in entries) vars))
     (map (expression_in entries) vars) set
-set_put entries (AffineVec funcs set) h = refl
 set_put entries (PlainObj sense var) h = objective_set sense (expression_in entries var)
-set_put entries (AffineObj sense func) h = refl
+set_put entries _ h = refl
 
 -- ---- shapes
 
@@ -131,16 +127,12 @@ objective_fits sense (Bridged func) = tt
 fits_put : (entries : List Entry) (b : Body) → FitsItsFunction b
     → FitsItsFunction (put_in_body entries b)
 unfolding put_in_body
-fits_put entries (Group set vars) h = tt
-fits_put entries (Free vars) h = tt
 fits_put entries (Plain var set) h = plain_fits (expression_in entries var) set h
-fits_put entries (Affine func set) h = h
 fits_put entries (PlainVec vars set) h =
     vector_fits (list_all is_kept (map (expression_in entries) vars))
     (map (expression_in entries) vars) set h
-fits_put entries (AffineVec funcs set) h = h
 fits_put entries (PlainObj sense var) h = objective_fits sense (expression_in entries var)
-fits_put entries (AffineObj sense func) h = tt
+fits_put entries _ h = h
 
 -- ---- validity
 
@@ -182,15 +174,7 @@ KeepsNamed entries b =
 
 plain_is_plain : (set : Set) → is_plain_kind (plain_kind_of set) ≡ true
 plain_is_plain (LessThan u) = refl
-plain_is_plain (GreaterThan l) = refl
-plain_is_plain (EqualTo a) = refl
-plain_is_plain (Interval l u) = refl
-plain_is_plain (Reals n) = refl
-plain_is_plain (Zeros n) = refl
-plain_is_plain (Nonnegatives n) = refl
-plain_is_plain (Nonpositives n) = refl
-plain_is_plain (NormInfinityCone n) = refl
-plain_is_plain (NormOneCone n) = refl
+plain_is_plain _ = refl
 
 kept_plain : (e : Expression) (set : Set) → is_kept e ≡ true
     → kind_of_body (plain_or_affine e set) ≡ plain_kind_of set
@@ -232,17 +216,14 @@ affine_objective Max f g = refl
 pub kind_put : (entries : List Entry) (b : Body) → KeepsNamed entries b
     → kind_of_body (put_in_body entries b) ≡ kind_of_body b
 unfolding put_in_body kind_of_body
-kind_put entries (Group set vars) h = refl
-kind_put entries (Free vars) h = refl
 kind_put entries (Plain var set) h =
     kept_plain (expression_in entries var) set (h (plain_is_plain set) var)
-kind_put entries (Affine func set) h = refl
 kind_put entries (PlainVec vars set) h =
     kept_vector (list_all is_kept (map (expression_in entries) vars))
     (map (expression_in entries) vars) set
     (all_kept entries vars (h (plain_is_plain set)))
-kind_put entries (AffineVec funcs set) h = refl
 kind_put entries (PlainObj sense var) h =
     kept_objective sense (expression_in entries var) var (h (sense_is_plain sense var) var)
 kind_put entries (AffineObj sense func) h =
     affine_objective sense (composed (function_in entries) func) func
+kind_put entries _ h = refl

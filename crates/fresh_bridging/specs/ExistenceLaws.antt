@@ -17,7 +17,7 @@ use Rattle.set_core.specs.declared.set.Set.TheVariants as set
 use Rattle.aff_core.specs.Address.{Address, child_of}
 use Rattle.item_core.specs.declared.image.Expression.TheVariants.{Kept}
 use Rattle.item_core.specs.declared.item.Body.{Body}
-use Rattle.item_core.specs.declared.item.Body.TheVariants.{Group, Free, Plain, Affine, PlainVec, AffineVec, PlainObj, AffineObj}
+use Rattle.item_core.specs.declared.item.Body.TheVariants.{Group, Free}
 use Rattle.item_core.specs.declared.item.Item.{Item}
 use Rattle.item_core.specs.declared.kind.Kind.{Kind}
 use Rattle.item_core.specs.declared.kind.Kind.TheVariants as kind
@@ -50,38 +50,20 @@ use Rattle.fresh_bridging.specs.TheRules.{AreChoices, IsChoice, Setting, graph_o
 
 set_kind : (s : Set) → is_group_kind (group_kind_of s) ≡ true
 set_kind (set.LessThan u) = refl
-set_kind (set.GreaterThan l) = refl
-set_kind (set.EqualTo a) = refl
-set_kind (set.Interval l u) = refl
-set_kind (set.Reals n) = refl
-set_kind (set.Zeros n) = refl
-set_kind (set.Nonnegatives n) = refl
-set_kind (set.Nonpositives n) = refl
-set_kind (set.NormInfinityCone n) = refl
-set_kind (set.NormOneCone n) = refl
+set_kind _ = refl
 
 pub free_or_set : (b : Body) → is_group b ≡ true → is_group_kind (kind_of_body b) ≡ false
     → kind_of_body b ≡ kind.Free
 unfolding kind_of_body
 free_or_set (Group s vars) h k = absurd (true≢false (sym (set_kind s) ∙ k))
 free_or_set (Free vars) h k = refl
-free_or_set (Plain var s) h k = absurd (true≢false (sym h))
-free_or_set (Affine func s) h k = absurd (true≢false (sym h))
-free_or_set (PlainVec vars s) h k = absurd (true≢false (sym h))
-free_or_set (AffineVec funcs s) h k = absurd (true≢false (sym h))
-free_or_set (PlainObj sense var) h k = absurd (true≢false (sym h))
-free_or_set (AffineObj sense func) h k = absurd (true≢false (sym h))
+free_or_set _ h k = absurd (true≢false (sym h))
 
 pub group_put : (entries : List Entry) (b : Body) → is_group b ≡ true → put_in_body entries b ≡ b
 unfolding put_in_body
 group_put entries (Group s vars) h = refl
 group_put entries (Free vars) h = refl
-group_put entries (Plain var s) h = absurd (true≢false (sym h))
-group_put entries (Affine func s) h = absurd (true≢false (sym h))
-group_put entries (PlainVec vars s) h = absurd (true≢false (sym h))
-group_put entries (AffineVec funcs s) h = absurd (true≢false (sym h))
-group_put entries (PlainObj sense var) h = absurd (true≢false (sym h))
-group_put entries (AffineObj sense func) h = absurd (true≢false (sym h))
+group_put entries _ h = absurd (true≢false (sym h))
 
 -- a kind that the test has, among the listed ones
 listed_kind : (p : Kind → Bool) (kinds : List Kind) (k : Kind) → list_any (kind_eq k) kinds ≡ true

@@ -157,10 +157,8 @@ row_fits (AffineVec fs) s h = h
 
 pub row_count : (func : UserFunc) (s : Set)
     → length (functions_of (row_body func s)) ≡ components func
-row_count (Plain var) s = refl
-row_count (Affine f) s = refl
 row_count (PlainVec vars) s = length-map vars variable
-row_count (AffineVec fs) s = refl
+row_count _ s = refl
 
 pub row_set_is : (func : UserFunc) (s : Set) → set_of (row_body func s) ≡ s
 row_set_is (Plain var) s = refl
@@ -258,6 +256,26 @@ row_further groups row h = record {
   top = refl;
 }
 
+one_further : (b : Body) → FitsItsFunction b → is_group b ≡ false → length (functions_of b) ≡ 1
+    → set_of b ≡ Reals 1
+    → ((v : Address) → v.root ≢ root.Variable
+    → All (λ item. All (λ f. coefficient f v ≡ zero_ℚ) (functions_of item.body))
+    (objective_item b ∷ []))
+    → All IsFurther (objective_item b ∷ [])
+one_further b fits no_group count set k =
+    All-cons IsFurther (objective_item b) []
+    (record {
+      valid = one_valid b fits count set
+          (each_at (λ v f. coefficient f v ≡ zero_ℚ) (λ v. v.root ≢ root.Variable) (functions_of b)
+          (λ v other. All-head (λ item. All (λ f. coefficient f v ≡ zero_ℚ)
+          (functions_of item.body)) (objective_item b) [] (k v other)));
+      no_group = no_group;
+      count = omega (arith, count);
+      root = inr refl;
+      top = refl;
+    })
+    (All-nil IsFurther)
+
 pub objective_further : (groups : List Group) (o : Objective) → IsValidObjective groups o
     → All IsFurther (objective_items o)
 objective_further groups o h = by o (λ v other. objective_omits o v
@@ -268,33 +286,8 @@ objective_further groups o h = by o (λ v other. objective_omits o v
         (objective_items o))
         → All IsFurther (objective_items o)
     by objective.Feasibility k = All-nil IsFurther
-    by (objective.Plain sense var) k =
-        All-cons IsFurther (objective_item (PlainObj sense var)) []
-        (record {
-          valid = one_valid (PlainObj sense var) tt refl refl
-              (each_at (λ v f. coefficient f v ≡ zero_ℚ) (λ v. v.root ≢ root.Variable)
-              (variable var
-              ∷ []) (λ v other. All-head (λ item. All (λ f. coefficient f v ≡ zero_ℚ)
-              (functions_of item.body)) (objective_item (PlainObj sense var)) [] (k v other)));
-          no_group = refl;
-          count = omega arith;
-          root = inr refl;
-          top = refl;
-        })
-        (All-nil IsFurther)
-    by (objective.Affine sense func) k =
-        All-cons IsFurther (objective_item (AffineObj sense func)) []
-        (record {
-          valid = one_valid (AffineObj sense func) tt refl refl
-              (each_at (λ v f. coefficient f v ≡ zero_ℚ) (λ v. v.root ≢ root.Variable) (func ∷ [])
-              (λ v other. All-head (λ item. All (λ f. coefficient f v ≡ zero_ℚ)
-              (functions_of item.body)) (objective_item (AffineObj sense func)) [] (k v other)));
-          no_group = refl;
-          count = omega arith;
-          root = inr refl;
-          top = refl;
-        })
-        (All-nil IsFurther)
+    by (objective.Plain sense var) k = one_further (PlainObj sense var) tt refl refl refl k
+    by (objective.Affine sense func) k = one_further (AffineObj sense func) tt refl refl refl k
 
 pub further : (model : ModelValue) → IsValid model → All IsFurther (model_image model).others
 further model valid =

@@ -74,28 +74,10 @@ one_or_other false first second h k = k
 groups_by : (f : Family) (edge : Edge) (item : Item)
     → groups_alone (image_by f edge item).groups ≡ true
 unfolding image_by
-groups_by family.GreaterLess edge item = refl
-groups_by family.OrthantFlip edge item = refl
-groups_by family.NonposVar edge item = refl
-groups_by family.ObjFlip edge item = refl
-groups_by family.Vectorize edge item = refl
-groups_by family.Scalarize edge item = refl
-groups_by family.ScalarFunctionize edge item = refl
-groups_by family.VectorFunctionize edge item = refl
-groups_by family.VectorizeVar edge item = refl
-groups_by family.ObjFunctionize edge item = refl
-groups_by family.SplitSet edge item = refl
-groups_by family.DropReals edge item = refl
-groups_by family.ZerosVar edge item = refl
-groups_by family.FreeVar edge item = refl
-groups_by family.ScalarSlack edge item = refl
-groups_by family.VectorSlack edge item = refl
 groups_by family.Later edge item =
     one_or_other (begins_free (children_of edge)) (free_at item (size item))
     (group_at item (Reals (size item)) (size item)) refl refl
-groups_by family.ObjSlack edge item = refl
-groups_by family.NormInfinity edge item = refl
-groups_by family.NormOne edge item = refl
+groups_by _ edge item = refl
 
 pub groups_are : (edge : Edge) (item : Item)
     → All (λ g. is_group g.body ≡ true) (image_of edge item).groups

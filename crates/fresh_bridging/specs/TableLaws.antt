@@ -17,7 +17,7 @@ use Rattle.item_core.specs.declared.edge.TheConstants.{EDGES, EDGE_ROWS}
 use Rattle.item_core.specs.declared.edge.Edge.TheVariants.{E1}
 use Rattle.item_core.specs.declared.family.Family.{Family}
 use Rattle.item_core.specs.declared.kind.Kind.{Kind}
-use Rattle.item_core.specs.declared.kind.Kind.TheVariants.{PlainLessThan, PlainGreaterThan, PlainEqualTo, PlainInterval, AffineLessThan, AffineGreaterThan, AffineEqualTo, AffineInterval, VplainReals, VplainZeros, VplainNonnegatives, VplainNonpositives, VplainNormInfinityCone, VplainNormOneCone, VaffineReals, VaffineZeros, VaffineNonnegatives, VaffineNonpositives, VaffineNormInfinityCone, VaffineNormOneCone, GroupLessThan, GroupGreaterThan, GroupEqualTo, GroupInterval, GroupReals, GroupZeros, GroupNonnegatives, GroupNonpositives, GroupNormInfinityCone, GroupNormOneCone, Free, MinPlain, MinAffine, MaxPlain, MaxAffine}
+use Rattle.item_core.specs.declared.kind.Kind.TheVariants.{PlainLessThan, PlainGreaterThan, PlainEqualTo, PlainInterval, VplainReals, VplainZeros, VplainNonnegatives, VplainNonpositives, VplainNormInfinityCone, VplainNormOneCone, VaffineNormInfinityCone, VaffineNormOneCone, GroupLessThan, GroupGreaterThan, GroupEqualTo, GroupInterval, GroupReals, GroupZeros, GroupNonnegatives, GroupNonpositives, GroupNormInfinityCone, GroupNormOneCone, Free, MinPlain, MaxPlain}
 use Rattle.item_core.specs.declared.kind.TheConstants.{KINDS}
 use Rattle.item_core.specs.Edge.{edge_entry, edges_of, family_eq, kinds_in}
 use Rattle.item_core.specs.Kind.{kind_eq, kind_number}
@@ -29,40 +29,7 @@ use Rattle.fresh_bridging.specs.TheRules.{Setting, edge_at, edges_on, family_num
 -- each kind stands at its number
 pub kind_stands : (kind : Kind) → slice_get KINDS.kinds (kind_number kind) ≡ Some kind
 kind_stands PlainLessThan = refl
-kind_stands PlainGreaterThan = refl
-kind_stands PlainEqualTo = refl
-kind_stands PlainInterval = refl
-kind_stands AffineLessThan = refl
-kind_stands AffineGreaterThan = refl
-kind_stands AffineEqualTo = refl
-kind_stands AffineInterval = refl
-kind_stands VplainReals = refl
-kind_stands VplainZeros = refl
-kind_stands VplainNonnegatives = refl
-kind_stands VplainNonpositives = refl
-kind_stands VplainNormInfinityCone = refl
-kind_stands VplainNormOneCone = refl
-kind_stands VaffineReals = refl
-kind_stands VaffineZeros = refl
-kind_stands VaffineNonnegatives = refl
-kind_stands VaffineNonpositives = refl
-kind_stands VaffineNormInfinityCone = refl
-kind_stands VaffineNormOneCone = refl
-kind_stands GroupLessThan = refl
-kind_stands GroupGreaterThan = refl
-kind_stands GroupEqualTo = refl
-kind_stands GroupInterval = refl
-kind_stands GroupReals = refl
-kind_stands GroupZeros = refl
-kind_stands GroupNonnegatives = refl
-kind_stands GroupNonpositives = refl
-kind_stands GroupNormInfinityCone = refl
-kind_stands GroupNormOneCone = refl
-kind_stands Free = refl
-kind_stands MinPlain = refl
-kind_stands MinAffine = refl
-kind_stands MaxPlain = refl
-kind_stands MaxAffine = refl
+kind_stands _ = refl
 
 pub same_kind : (a b : Kind) → kind_number a ≡ kind_number b → a ≡ b
 same_kind a b e = same_Some a b (sym (kind_stands a) ∙ ap (slice_get KINDS.kinds) e ∙ kind_stands b)
