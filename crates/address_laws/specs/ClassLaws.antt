@@ -13,7 +13,7 @@ use Rattle.item_core.specs.declared.edge.TheConstants.{EDGES}
 use Rattle.item_core.specs.declared.family.Family.{Family}
 use Rattle.item_core.specs.declared.family.Family.TheVariants as family
 use Rattle.item_core.specs.declared.item.Body.{Body}
-use Rattle.item_core.specs.declared.item.Body.TheVariants.{Group, Free, Plain, Affine, PlainVec, AffineVec, PlainObj, AffineObj}
+use Rattle.item_core.specs.declared.item.Body.TheVariants.{Group, Plain, Affine, PlainVec, AffineVec, PlainObj, AffineObj}
 use Rattle.item_core.specs.declared.item.Item.{Item}
 use Rattle.item_core.specs.declared.kind.Kind.TheVariants as kind
 use Rattle.item_core.specs.Edge.{family_of}
@@ -25,7 +25,7 @@ use Rattle.fresh_bridging.specs.TheRules.{AreChoices, Setting, edge_at, graph_of
 use Rattle.address_laws.specs.PutLaws.{class_of}
 use Rattle.set_core.specs.declared.set.Set.TheVariants as set
 use Rattle.item_core.specs.declared.kind.Kind.{Kind}
-use Rattle.aff_core.specs.declared.sense.Sense.TheVariants.{Min, Max}
+use Rattle.aff_core.specs.declared.sense.Sense.TheVariants.{Min}
 
 abbrev pub class_of_kind : Kind → Bool × Bool
 class_of_kind kind.GroupLessThan = (true, false)
@@ -66,28 +66,18 @@ record OfSet (s : Set) : Type 0 where
 
 of_set : (s : Set) → OfSet s
 of_set (set.LessThan u) = record { group = refl; plain = refl; affine = refl }
-of_set (set.GreaterThan l) = record { group = refl; plain = refl; affine = refl }
-of_set (set.EqualTo a) = record { group = refl; plain = refl; affine = refl }
-of_set (set.Interval l u) = record { group = refl; plain = refl; affine = refl }
-of_set (set.Reals n) = record { group = refl; plain = refl; affine = refl }
-of_set (set.Zeros n) = record { group = refl; plain = refl; affine = refl }
-of_set (set.Nonnegatives n) = record { group = refl; plain = refl; affine = refl }
-of_set (set.Nonpositives n) = record { group = refl; plain = refl; affine = refl }
-of_set (set.NormInfinityCone n) = record { group = refl; plain = refl; affine = refl }
-of_set (set.NormOneCone n) = record { group = refl; plain = refl; affine = refl }
+of_set _ = record { group = refl; plain = refl; affine = refl }
 
 class_by_kind : (b : Body) → class_of_kind (kind_of_body b) ≡ class_of b
 unfolding kind_of_body
 class_by_kind (Group s vars) = (of_set s).group
-class_by_kind (Free vars) = refl
 class_by_kind (Plain var s) = (of_set s).plain
 class_by_kind (Affine func s) = (of_set s).affine
 class_by_kind (PlainVec vars s) = (of_set s).plain
 class_by_kind (AffineVec funcs s) = (of_set s).affine
 class_by_kind (PlainObj Min var) = refl
-class_by_kind (PlainObj Max var) = refl
 class_by_kind (AffineObj Min func) = refl
-class_by_kind (AffineObj Max func) = refl
+class_by_kind _ = refl
 
 -- ---- by the table
 

@@ -71,12 +71,9 @@ plain_row (v ∷ vs) set = by (is_scalar set)
 with_set_row : (b : Body) (set : Set) → class_of b ≡ (false, false) → IsRow (with_set b set)
 with_set_row (Group s vars) set h = absurd (true≢false (ap (λ p. p.0) h))
 with_set_row (Free vars) set h = absurd (true≢false (ap (λ p. p.0) h))
-with_set_row (Plain var s) set h = refl
-with_set_row (Affine func s) set h = refl
-with_set_row (PlainVec vars s) set h = refl
-with_set_row (AffineVec funcs s) set h = refl
 with_set_row (PlainObj sense var) set h = absurd (true≢false (ap (λ p. p.1) h))
 with_set_row (AffineObj sense func) set h = absurd (true≢false (ap (λ p. p.1) h))
+with_set_row _ set h = refl
 
 abbrev are_rows : List Item → Bool
 are_rows items = list_all (λ c. is_row c.body) items
@@ -89,10 +86,6 @@ from_rows item first (b ∷ bs) h =
     ap₂ ◌&&◌ (All-head IsRow b bs h) (from_rows item (first + 1) bs (All-tail IsRow b bs h))
 
 components_rows : (b : Body) (set : Set) → All IsRow (each_component b set)
-components_rows (Group s vars) set = All-nil IsRow
-components_rows (Free vars) set = All-nil IsRow
-components_rows (Plain var s) set = All-nil IsRow
-components_rows (Affine func s) set = All-nil IsRow
 components_rows (PlainVec vars s) set = each_plain vars
   where
     each_plain : (vs : List Address) → All IsRow (map (λ v. Plain v set) vs)
@@ -105,18 +98,12 @@ components_rows (AffineVec funcs s) set = each_affine funcs
     each_affine [] = All-nil IsRow
     each_affine (f ∷ fs) =
         All-cons IsRow (Affine f set) (map (λ g. Affine g set) fs) refl (each_affine fs)
-components_rows (PlainObj sense var) set = All-nil IsRow
-components_rows (AffineObj sense func) set = All-nil IsRow
+components_rows _ set = All-nil IsRow
 
 rows_by : (f : Family) (edge : Edge) (item : Item)
     → (class_of_family f ≡ (false, false) → class_of item.body ≡ (false, false))
     → are_rows (image_by f edge item).rows ≡ true
 unfolding image_by
-rows_by family.GreaterLess edge item h = refl
-rows_by family.OrthantFlip edge item h = refl
-rows_by family.NonposVar edge item h = refl
-rows_by family.ObjFlip edge item h = refl
-rows_by family.Vectorize edge item h = refl
 rows_by family.Scalarize edge item h =
     from_rows item 0 (each_component item.body (component_of (set_of item.body)))
     (components_rows item.body (component_of (set_of item.body)))
@@ -124,17 +111,10 @@ rows_by family.ScalarFunctionize edge item h =
     ap (λ b. b && true) (affine_row (functions_of item.body) (set_of item.body))
 rows_by family.VectorFunctionize edge item h =
     ap (λ b. b && true) (affine_row (functions_of item.body) (set_of item.body))
-rows_by family.VectorizeVar edge item h = refl
-rows_by family.ObjFunctionize edge item h = refl
 rows_by family.SplitSet edge item h =
     ap₂ (λ a b. a && (b && true))
     (with_set_row item.body (lower_part (set_of item.body)) (h refl))
     (with_set_row item.body (upper_part (set_of item.body)) (h refl))
-rows_by family.DropReals edge item h = refl
-rows_by family.ZerosVar edge item h = refl
-rows_by family.FreeVar edge item h = refl
-rows_by family.ScalarSlack edge item h = refl
-rows_by family.VectorSlack edge item h = refl
 rows_by family.Later edge item h = ap (λ b. b && true) (either (begins_free (children_of edge)))
   where
     either : (b : Bool)
@@ -142,9 +122,7 @@ rows_by family.Later edge item h = ap (λ b. b && true) (either (begins_free (ch
         (affine (inner_functions item (size item)) (set_of item.body)))
     either true = plain_row (inner item (size item)) (set_of item.body)
     either false = affine_row (inner_functions item (size item)) (set_of item.body)
-rows_by family.ObjSlack edge item h = refl
-rows_by family.NormInfinity edge item h = refl
-rows_by family.NormOne edge item h = refl
+rows_by _ edge item h = refl
 
 -- ---- objectives
 
@@ -162,26 +140,10 @@ IsListedBy false o = o ≡ None
 objective_by : (f : Family) (edge : Edge) (item : Item)
     → IsListedBy (class_of_family f).1 (image_by f edge item).objective
 unfolding image_by IsListedBy
-objective_by family.GreaterLess edge item = refl
-objective_by family.OrthantFlip edge item = refl
-objective_by family.NonposVar edge item = refl
 objective_by family.ObjFlip edge item = record { child = _; is = refl; objective = refl }
-objective_by family.Vectorize edge item = refl
-objective_by family.Scalarize edge item = refl
-objective_by family.ScalarFunctionize edge item = refl
-objective_by family.VectorFunctionize edge item = refl
-objective_by family.VectorizeVar edge item = refl
 objective_by family.ObjFunctionize edge item = record { child = _; is = refl; objective = refl }
-objective_by family.SplitSet edge item = refl
-objective_by family.DropReals edge item = refl
-objective_by family.ZerosVar edge item = refl
-objective_by family.FreeVar edge item = refl
-objective_by family.ScalarSlack edge item = refl
-objective_by family.VectorSlack edge item = refl
-objective_by family.Later edge item = refl
 objective_by family.ObjSlack edge item = record { child = _; is = refl; objective = refl }
-objective_by family.NormInfinity edge item = refl
-objective_by family.NormOne edge item = refl
+objective_by _ edge item = refl
 
 -- ---- rows of a group name the variables of its child groups alone
 
@@ -247,27 +209,13 @@ named_by : (f : Family) (edge : Edge) (item : Item) (v : Address) → (class_of_
     → ¬ (Contains (inner_of (image_by f edge item).groups) v)
     → All (Misses v) ((image_by f edge item).rows ++ listed (image_by f edge item).objective)
 unfolding image_by
-named_by family.GreaterLess edge item v g h = absurd (true≢false (sym g))
-named_by family.OrthantFlip edge item v g h = absurd (true≢false (sym g))
 named_by family.NonposVar edge item v g h = All-nil (Misses v)
-named_by family.ObjFlip edge item v g h = absurd (true≢false (sym g))
-named_by family.Vectorize edge item v g h = absurd (true≢false (sym g))
-named_by family.Scalarize edge item v g h = absurd (true≢false (sym g))
-named_by family.ScalarFunctionize edge item v g h = absurd (true≢false (sym g))
-named_by family.VectorFunctionize edge item v g h = absurd (true≢false (sym g))
 named_by family.VectorizeVar edge item v g h = All-nil (Misses v)
-named_by family.ObjFunctionize edge item v g h = absurd (true≢false (sym g))
-named_by family.SplitSet edge item v g h = absurd (true≢false (sym g))
-named_by family.DropReals edge item v g h = absurd (true≢false (sym g))
 named_by family.ZerosVar edge item v g h = All-nil (Misses v)
 named_by family.FreeVar edge item v g h = All-nil (Misses v)
-named_by family.ScalarSlack edge item v g h = absurd (true≢false (sym g))
-named_by family.VectorSlack edge item v g h = absurd (true≢false (sym g))
 named_by family.Later edge item v g h =
     later_misses item (set_of item.body) (size item) v (begins_free (children_of edge)) h
-named_by family.ObjSlack edge item v g h = absurd (true≢false (sym g))
-named_by family.NormInfinity edge item v g h = absurd (true≢false (sym g))
-named_by family.NormOne edge item v g h = absurd (true≢false (sym g))
+named_by _ edge item v g h = absurd (true≢false (sym g))
 
 -- ---- by the edge that is chosen
 

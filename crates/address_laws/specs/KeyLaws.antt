@@ -190,14 +190,21 @@ module _ (setting : Setting) (costly : IsCostly (graph_of setting)) (choice : �
     pub under_mine : (v : Address) → (j : ℕ) × IsBelowAt item.at j v → Mine item v
     under_mine v b = inl (record { rest = b.0 ∷ b.1.rest; is = b.1.is })
 
+    -- what is at or below a child that stands there is below the item
+    regions_under : (Region : Item → Address → Type 0) (children : List Item)
+        → All (λ c. (v : Address) → Region c v → AtOrBelow c v) children
+        → All IsUnder children
+        → All (λ c. (v : Address) → Region c v → (j : ℕ) × IsBelowAt item.at j v) children
+    regions_under Region children below under =
+        All-weaker (λ c. ((v : Address) → Region c v → AtOrBelow c v) × IsUnder c)
+        (λ c. (v : Address) → Region c v → (j : ℕ) × IsBelowAt item.at j v)
+        (λ c h v m. h.1 v (h.0 v m)) children
+        (all_both (λ c. (v : Address) → Region c v → AtOrBelow c v) IsUnder children below under)
+
     pub groups_under : All (λ g. (v : Address) → Mine g v → (j : ℕ) × IsBelowAt item.at j v)
         child_groups_of
-    groups_under =
-        All-weaker (λ g. ((v : Address) → Mine g v → AtOrBelow g v) × IsUnder g)
-        (λ g. (v : Address) → Mine g v → (j : ℕ) × IsBelowAt item.at j v)
-        (λ g h v m. h.1 v (h.0 v m)) child_groups_of
-        (all_both (λ g. (v : Address) → Mine g v → AtOrBelow g v) IsUnder child_groups_of
-        groups_below (all_first IsUnder child_groups_of others_of all_under))
+    groups_under = regions_under Mine child_groups_of groups_below
+        (all_first IsUnder child_groups_of others_of all_under)
 
     module _ (inner : List Entry) where
       abbrev pub MineIn : Item → Address → Type 0
@@ -217,12 +224,8 @@ module _ (setting : Setting) (costly : IsCostly (graph_of setting)) (choice : �
 
       pub others_under : All (λ c. (v : Address) → MineIn c v → (j : ℕ) × IsBelowAt item.at j v)
           others_of
-      others_under =
-          All-weaker (λ c. ((v : Address) → MineIn c v → AtOrBelow c v) × IsUnder c)
-          (λ c. (v : Address) → MineIn c v → (j : ℕ) × IsBelowAt item.at j v)
-          (λ c h v m. h.1 v (h.0 v m)) others_of
-          (all_both (λ c. (v : Address) → MineIn c v → AtOrBelow c v) IsUnder others_of
-          others_below (all_second IsUnder child_groups_of others_of all_under))
+      others_under = regions_under MineIn others_of others_below
+          (all_second IsUnder child_groups_of others_of all_under)
 
       -- what is a child group's isn't a further child's
       pub beside : All (λ g. (v : Address) → Mine g v → All (λ c. ¬ (MineIn c v)) others_of)

@@ -7,7 +7,7 @@ use Rattle.aff_core.specs.declared.sense.Sense.{Sense}
 use Rattle.item_core.specs.declared.image.Expression.{Expression}
 use Rattle.item_core.specs.declared.image.Expression.TheVariants.{Kept, Bridged}
 use Rattle.item_core.specs.declared.item.Body.{Body}
-use Rattle.item_core.specs.declared.item.Body.TheVariants.{Group, Free, Plain, Affine, PlainVec, AffineVec, PlainObj, AffineObj}
+use Rattle.item_core.specs.declared.item.Body.TheVariants.{Plain, PlainVec, PlainObj}
 use Rattle.item_core.specs.Item.{is_group}
 use Rattle.bridge_face.specs.Law.{is_objective}
 use Rattle.fresh_bridging.specs.Entries.{Entry, expression_in, is_kept, objective_by, plain_or_affine, put_in_body, vector_by}
@@ -33,16 +33,12 @@ objective_class sense (Bridged func) = refl
 
 class_stays : (entries : List Entry) (b : Body) → class_of (put_in_body entries b) ≡ class_of b
 unfolding put_in_body
-class_stays entries (Group set vars) = refl
-class_stays entries (Free vars) = refl
 class_stays entries (Plain var set) = plain_class (expression_in entries var) set
-class_stays entries (Affine func set) = refl
 class_stays entries (PlainVec vars set) =
     vector_class (list_all is_kept (map (expression_in entries) vars))
     (map (expression_in entries) vars) set
-class_stays entries (AffineVec funcs set) = refl
 class_stays entries (PlainObj sense var) = objective_class sense (expression_in entries var)
-class_stays entries (AffineObj sense func) = refl
+class_stays entries _ = refl
 
 pub group_stays : (entries : List Entry) (b : Body) → is_group (put_in_body entries b) ≡ is_group b
 group_stays entries b = ap (λ p. p.0) (class_stays entries b)
