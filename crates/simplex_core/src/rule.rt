@@ -1,10 +1,10 @@
 //! Bland's rule, read on the board.
-ghost use Rattle.std.specs.Prelude.{◌≡◌, ◌<◌, ◌⊎◌, IsTrue, IfSome, IsSome, None, Some, if◌then◌else◌, length};
+ghost use Rattle.std.specs.Prelude.{◌≡◌, ◌<◌, IsTrue, IfSome, None, Some, if◌then◌else◌, length};
 ghost use Rattle.ratio_core.specs.Rational.{zero_ℚ, ◌‹ℚ◌};
 ghost use Rattle.simplex_form.specs.Fit.{uses_first};
 ghost use Rattle.simplex_form.specs.Search.{better_of};
 ghost use Rattle.simplex_form.specs.Turns as bland;
-ghost use Rattle.tableau_core.specs.Contents.{prices_of, readings_of, width};
+ghost use Rattle.tableau_core.specs.Contents.{readings_of, width};
 ghost use Rattle.simplex_core.specs.Phases.{IsInPhase, IsWithin};
 
 use ratio_core::Ratio;
