@@ -69,23 +69,11 @@ pub data IsNativeGroup : Body → Type 0 where
 native_group : (b : Body) → is_group b ≡ true → is_leaf_kind (kind_of_body b) ≡ true
     → IsNativeGroup b
 unfolding kind_of_body is_native
-native_group (Group (set.LessThan u) vars) h k = absurd (true≢false (sym k))
-native_group (Group (set.GreaterThan l) vars) h k = absurd (true≢false (sym k))
-native_group (Group (set.EqualTo a) vars) h k = absurd (true≢false (sym k))
-native_group (Group (set.Interval l u) vars) h k = absurd (true≢false (sym k))
 native_group (Group (set.Reals n) vars) h k = reals
-native_group (Group (set.Zeros n) vars) h k = absurd (true≢false (sym k))
 native_group (Group (set.Nonnegatives n) vars) h k = nonnegatives
-native_group (Group (set.Nonpositives n) vars) h k = absurd (true≢false (sym k))
-native_group (Group (set.NormInfinityCone n) vars) h k = absurd (true≢false (sym k))
-native_group (Group (set.NormOneCone n) vars) h k = absurd (true≢false (sym k))
+native_group (Group _ vars) h k = absurd (true≢false (sym k))
 native_group (Free vars) h k = free
-native_group (Plain var s) h k = absurd (true≢false (sym h))
-native_group (Affine func s) h k = absurd (true≢false (sym h))
-native_group (PlainVec vars s) h k = absurd (true≢false (sym h))
-native_group (AffineVec funcs s) h k = absurd (true≢false (sym h))
-native_group (PlainObj sense var) h k = absurd (true≢false (sym h))
-native_group (AffineObj sense func) h k = absurd (true≢false (sym h))
+native_group _ h k = absurd (true≢false (sym h))
 
 -- ---- the leaves of a bridging
 
@@ -331,12 +319,7 @@ module _ (d : LeafDuals) where
       length-map vars d.numbers ∙ sym (length-map vars (variable {R = address_cmp}))
   leaf_size (Free vars) h =
       length-map vars d.numbers ∙ sym (length-map vars (variable {R = address_cmp}))
-  leaf_size (Plain var s) h = absurd (true≢false (sym h))
-  leaf_size (Affine func s) h = absurd (true≢false (sym h))
-  leaf_size (PlainVec vars s) h = absurd (true≢false (sym h))
-  leaf_size (AffineVec funcs s) h = absurd (true≢false (sym h))
-  leaf_size (PlainObj sense var) h = absurd (true≢false (sym h))
-  leaf_size (AffineObj sense func) h = absurd (true≢false (sym h))
+  leaf_size _ h = absurd (true≢false (sym h))
 
   one_bounded : (bound : Rational) → IsSetOf 1 (set.LessThan bound)
   one_bounded bound = record { dimension = refl; enough = omega arith; uncrossed = refl }
@@ -361,22 +344,13 @@ module _ (d : LeafDuals) where
         size = leaf_size (Free vars) refl;
         dual = native_dual i.at (Free vars) (l.group refl) v;
       }
-      by (Plain var s) l v r size dual =
-          let h = All-head RowHasDuals (i.at, Plain var s) [] r in
-          record { set = l.valid.set; size = h.size; dual = h.dual }
-      by (Affine func s) l v r size dual =
-          let h = All-head RowHasDuals (i.at, Affine func s) [] r in
-          record { set = l.valid.set; size = h.size; dual = h.dual }
-      by (PlainVec vars s) l v r size dual =
-          let h = All-head RowHasDuals (i.at, PlainVec vars s) [] r in
-          record { set = l.valid.set; size = h.size; dual = h.dual }
-      by (AffineVec funcs s) l v r size dual =
-          let h = All-head RowHasDuals (i.at, AffineVec funcs s) [] r in
-          record { set = l.valid.set; size = h.size; dual = h.dual }
       by (PlainObj sense var) l v r size dual =
           record { set = one_bounded d.bound; size = size; dual = dual }
       by (AffineObj sense func) l v r size dual =
           record { set = one_bounded d.bound; size = size; dual = dual }
+      by row l v r size dual =
+          let h = All-head RowHasDuals (i.at, row) [] r in
+          record { set = l.valid.set; size = h.size; dual = h.dual }
 
   pub leaves_hold : (items : List Item) → AreRight items → DualsHold (leaf_helds d items)
   leaves_hold items h = each items h.leaves h.variables h.rows

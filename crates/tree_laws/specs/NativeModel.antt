@@ -53,29 +53,19 @@ use Rattle.tree_laws.specs.SeenLaws.{leaves_in_miss, leaves_of_each_miss, omit_e
 
 plain_equations : (s : Set) → is_leaf_kind (plain_kind_of s) ≡ true → HasEquations s
 unfolding is_native
-plain_equations (set.LessThan u) k = tt
-plain_equations (set.GreaterThan l) k = tt
-plain_equations (set.EqualTo a) k = tt
 plain_equations (set.Interval l u) k = absurd (true≢false (sym k))
 plain_equations (set.Reals n) k = absurd (true≢false (sym k))
-plain_equations (set.Zeros n) k = tt
-plain_equations (set.Nonnegatives n) k = tt
-plain_equations (set.Nonpositives n) k = tt
 plain_equations (set.NormInfinityCone n) k = absurd (true≢false (sym k))
 plain_equations (set.NormOneCone n) k = absurd (true≢false (sym k))
+plain_equations _ k = tt
 
 affine_equations : (s : Set) → is_leaf_kind (affine_kind_of s) ≡ true → HasEquations s
 unfolding is_native
-affine_equations (set.LessThan u) k = tt
-affine_equations (set.GreaterThan l) k = tt
-affine_equations (set.EqualTo a) k = tt
 affine_equations (set.Interval l u) k = absurd (true≢false (sym k))
 affine_equations (set.Reals n) k = absurd (true≢false (sym k))
-affine_equations (set.Zeros n) k = tt
-affine_equations (set.Nonnegatives n) k = tt
-affine_equations (set.Nonpositives n) k = tt
 affine_equations (set.NormInfinityCone n) k = absurd (true≢false (sym k))
 affine_equations (set.NormOneCone n) k = absurd (true≢false (sym k))
+affine_equations _ k = tt
 
 abbrev IsNativeEntry : Address × Body → Type 0
 IsNativeEntry e = IsNativeRow e.1

@@ -10,7 +10,7 @@ use Rattle.expansion.specs.Bridged.{Bridged, EachBridged, EachBridgedIn, by, eac
 use Rattle.expansion.specs.Read.{leaves, leaves_in, leaves_of_each}
 use Rattle.aff_core.specs.Address.{Address}
 use Rattle.item_core.specs.declared.item.Body.{Body}
-use Rattle.item_core.specs.declared.item.Body.TheVariants.{Group, Free, Plain, Affine, PlainVec, AffineVec, PlainObj, AffineObj}
+use Rattle.item_core.specs.declared.item.Body.TheVariants.{PlainObj, AffineObj}
 use Rattle.item_core.specs.declared.item.Item.{Item}
 use Rattle.item_core.specs.Kind.{kind_number}
 use Rattle.item_core.specs.KindOf.{kind_of_body}
@@ -71,14 +71,9 @@ itself_one i = by i.body
   where
     by : (b : Body) → is_objective b ≡ true
         → leaf_objectives (record { at = i.at; body = b }) ≡ (i.at, b) ∷ []
-    by (Group s vars) h = absurd (true≢false (sym h))
-    by (Free vars) h = absurd (true≢false (sym h))
-    by (Plain var s) h = absurd (true≢false (sym h))
-    by (Affine func s) h = absurd (true≢false (sym h))
-    by (PlainVec vars s) h = absurd (true≢false (sym h))
-    by (AffineVec funcs s) h = absurd (true≢false (sym h))
     by (PlainObj sense var) h = refl
     by (AffineObj sense func) h = refl
+    by _ h = absurd (true≢false (sym h))
 
 pub none_at_all : (items : List Item) → All (λ x. is_objective x.body ≡ false) items
     → flat_map leaf_objectives items ≡ []

@@ -15,7 +15,7 @@ use Rattle.rational_laws.specs.Order.{≤ℚ_from_≡}
 use Rattle.rational_laws.specs.Ring.{as_expression, by_ring, ring₂, zero_as}
 use Rattle.aff_core.specs.Address.{Address, address_cmp}
 use Rattle.aff_core.specs.Function.{Function, coefficient, constant_function, evaluated, variable}
-use Rattle.aff_core.specs.FunctionLaws.{constant-constant_function, constant-function_of}
+use Rattle.aff_core.specs.FunctionLaws.{constant-constant_function}
 use Rattle.linear_laws.specs.ListLaws.{evaluated_constant_function}
 use Rattle.dual_laws.specs.Held.{Held, adjoint, gap}
 use Rattle.certificates.specs.Points.{objective_function, sense_of}
@@ -74,12 +74,6 @@ pub record Weighs (o : Rational) (f : Function) (hs : List Held) : Type 0 where
 
 pub body_weighs : (o : Rational) (b : Body) → is_objective b ≡ true
     → Weighs o (cost_of b) (held_body zero_ℚ b (o ∷ []) ∷ [])
-body_weighs o (Group s vars) h = absurd (true≢false (sym h))
-body_weighs o (Free vars) h = absurd (true≢false (sym h))
-body_weighs o (Plain var s) h = absurd (true≢false (sym h))
-body_weighs o (Affine func s) h = absurd (true≢false (sym h))
-body_weighs o (PlainVec vars s) h = absurd (true≢false (sym h))
-body_weighs o (AffineVec funcs s) h = absurd (true≢false (sym h))
 body_weighs o (PlainObj sense var) h = record {
   adjoints = λ v. one_weighed o (coefficient (cost_by sense (variable var)) v);
   gaps = one_gap o (cost_by sense (variable var)).constant;
@@ -88,6 +82,7 @@ body_weighs o (AffineObj sense func) h = record {
   adjoints = λ v. one_weighed o (coefficient (cost_by sense func) v);
   gaps = one_gap o (cost_by sense func).constant;
 }
+body_weighs o _ h = absurd (true≢false (sym h))
 
 none_weighs : (o : Rational) → Weighs o (constant_function zero_ℚ) []
 none_weighs o = record { adjoints = none_weighed o; gaps = none_gap o }

@@ -16,7 +16,7 @@ use Rattle.set_core.specs.declared.set.Set.{Set}
 use Rattle.aff_core.specs.Address.{Address, address_cmp}
 use Rattle.aff_core.specs.Function.{evaluated, variable}
 use Rattle.aff_core.specs.FunctionLists.{evaluations}
-use Rattle.aff_core.specs.declared.sense.Sense.TheVariants.{Min, Max}
+use Rattle.aff_core.specs.declared.sense.Sense.TheVariants.{Min}
 use Rattle.linear_laws.specs.ListLaws.{evaluations_variables}
 use Rattle.dual_laws.specs.Held.{Holds}
 use Rattle.certificates.specs.Points.{addresses_of, at_point, functions_of as functions_in, functions_of_group}
@@ -154,16 +154,9 @@ only_one e xs p = by xs (length_permutation (e ∷ []) xs p)
     by (y ∷ (z ∷ zs)) n h = absurd (omega (arith, n))
 
 pub form_cost_is : (b : Body) → form_cost b ≡ cost_of b
-form_cost_is (Group s vars) = refl
-form_cost_is (Free vars) = refl
-form_cost_is (Plain var s) = refl
-form_cost_is (Affine f s) = refl
-form_cost_is (PlainVec vars s) = refl
-form_cost_is (AffineVec fs s) = refl
 form_cost_is (PlainObj Min var) = refl
-form_cost_is (PlainObj Max var) = refl
 form_cost_is (AffineObj Min f) = refl
-form_cost_is (AffineObj Max f) = refl
+form_cost_is _ = refl
 
 pub row_no_objective : (f : UserFunc) (s : Set) → is_objective (row_body f s) ≡ false
 row_no_objective (func.Plain var) s = refl

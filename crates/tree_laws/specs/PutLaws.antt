@@ -69,12 +69,6 @@ cost_misses Max f v h =
 
 -- a row's functions and a group's are its own
 pub row_misses : (b : Body) (v : Address) → Miss (functions_of b) v → Miss (row_functions b) v
-row_misses (Group set vars) v h = h
-row_misses (Free vars) v h = h
-row_misses (Plain var set) v h = h
-row_misses (Affine func set) v h = h
-row_misses (PlainVec vars set) v h = h
-row_misses (AffineVec funcs set) v h = h
 row_misses (PlainObj sense var) v h =
     All-cons (λ f. coefficient f v ≡ zero_ℚ) (cost_by sense (variable var)) []
     (cost_misses sense (variable var) v
@@ -84,6 +78,7 @@ row_misses (AffineObj sense func) v h =
     All-cons (λ f. coefficient f v ≡ zero_ℚ) (cost_by sense func) []
     (cost_misses sense func v (All-head (λ f. coefficient f v ≡ zero_ℚ) func [] h))
     (All-nil (λ f. coefficient f v ≡ zero_ℚ))
+row_misses _ v h = h
 
 pub group_functions : (b : Body) → is_group b ≡ true
     → functions_of b ≡ map (variable {R = address_cmp}) (variables_of b)
@@ -159,13 +154,11 @@ module _ (entries : List Entry) where
   row_set_put bound (Group set vars) h = absurd (true≢false h)
   row_set_put bound (Free vars) h = absurd (true≢false h)
   row_set_put bound (Plain var set) h = plain_row_set bound (expression_in entries var) set
-  row_set_put bound (Affine func set) h = refl
   row_set_put bound (PlainVec vars set) h =
       vector_row_set bound (list_all is_kept (map (expression_in entries) vars))
       (map (expression_in entries) vars) set
-  row_set_put bound (AffineVec funcs set) h = refl
   row_set_put bound (PlainObj sense var) h = objective_bound bound sense (expression_in entries var)
-  row_set_put bound (AffineObj sense func) h = refl
+  row_set_put bound _ h = refl
 
   -- so a further child with its dual
   pub held_put : (bound : Rational) (b : Body) (w : List Rational) → is_group b ≡ false

@@ -20,7 +20,7 @@ use Rattle.aff_core.specs.FunctionLaws.{constant-variable, same_coefficients}
 use Rattle.aff_core.specs.FunctionLists.{coefficients, constants}
 use Rattle.aff_core.specs.KeyOrder.{address_order}
 use Rattle.aff_core.specs.Points.{unit}
-use Rattle.linear_laws.specs.ListLaws.{coefficients-composed, constants-composed, dot_values, slope_variable, slopes-composed}
+use Rattle.linear_laws.specs.ListLaws.{coefficients-composed, constants-composed, dot_values, slope_variable}
 use Rattle.linear_laws.specs.SlopeLaws.{coefficient_by_unit, slope_agreeing}
 use Rattle.linear_laws.specs.SupportLaws.{support, support_supports, supports_first, supports_second}
 use Rattle.dual_laws.specs.Held.{DualsHold, Held, IsHeld, adjoint, adjoint_of, gap, gap_of, pull, pull_of}
@@ -29,7 +29,7 @@ use Rattle.bridge_face.specs.Law.{Miss}
 use Rattle.map_laws.specs.EachLaws.{all_from_map}
 use Rattle.fresh_bridging.specs.Entries.{Entry, function_in}
 use Rattle.fresh_bridging.specs.MentionLaws.{slope_zero}
-use Rattle.tree_laws.specs.Carried.{StandFor, constants_in, seen, seen_at, through}
+use Rattle.tree_laws.specs.Carried.{StandFor, constants_in, seen_at, through}
 
 module _ (entries : List Entry) where
   -- ---- of one

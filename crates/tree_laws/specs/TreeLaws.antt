@@ -19,7 +19,7 @@ use Rattle.linear_laws.specs.SupportLaws.{count}
 use Rattle.item_core.specs.declared.image.Expression.{Expression}
 use Rattle.item_core.specs.declared.image.Expression.TheVariants.{Kept, Bridged as Made}
 use Rattle.item_core.specs.declared.item.Body.{Body}
-use Rattle.item_core.specs.declared.item.Body.TheVariants.{Group, Free, Plain, Affine, PlainVec, AffineVec, PlainObj, AffineObj}
+use Rattle.item_core.specs.declared.item.Body.TheVariants.{PlainObj, AffineObj}
 use Rattle.item_core.specs.declared.item.Item.{Item}
 use Rattle.item_core.specs.Item.{is_group, variables_of}
 use Rattle.item_core.specs.Kind.{kind_number}
@@ -107,14 +107,9 @@ looked_up entries [] = refl
 looked_up entries (v ∷ vs) = ap (λ fs. function_in entries v ∷ fs) (looked_up entries vs)
 
 pub no_objective : (b : Body) → is_group b ≡ true → is_objective b ≡ false
-no_objective (Group set vars) h = refl
-no_objective (Free vars) h = refl
-no_objective (Plain var set) h = refl
-no_objective (Affine func set) h = refl
-no_objective (PlainVec vars set) h = refl
-no_objective (AffineVec funcs set) h = refl
 no_objective (PlainObj sense var) h = absurd (true≢false (sym h))
 no_objective (AffineObj sense func) h = absurd (true≢false (sym h))
+no_objective _ h = refl
 
 module _ (setting : Setting) (costly : IsCostly (graph_of setting)) (choice : ℕ → Choice)
     (chosen : AreChoices setting choice) (lawful : AreLawful setting) (d : LeafDuals) where

@@ -18,7 +18,7 @@ use Rattle.aff_core.specs.FunctionLists.{evaluations}
 use Rattle.linear_laws.specs.ListLaws.{evaluations-composed}
 use Rattle.dual_laws.specs.Held.{AllHold, Held, Holds}
 use Rattle.item_core.specs.declared.item.Body.{Body}
-use Rattle.item_core.specs.declared.item.Body.TheVariants.{Group, Free, Plain, Affine, PlainVec, AffineVec, PlainObj, AffineObj}
+use Rattle.item_core.specs.declared.item.Body.TheVariants.{PlainObj, AffineObj}
 use Rattle.item_core.specs.declared.item.Item.{Item}
 use Rattle.item_core.specs.Item.{is_group, variables_of}
 use Rattle.item_core.specs.Kind.{kind_number}
@@ -56,14 +56,9 @@ no_numbers _ = zero_ℚ
 
 -- an objective's function is its cost
 pub cost_alone : (b : Body) → is_objective b ≡ true → row_functions b ≡ cost_of b ∷ []
-cost_alone (Group s vars) h = absurd (true≢false (sym h))
-cost_alone (Free vars) h = absurd (true≢false (sym h))
-cost_alone (Plain var s) h = absurd (true≢false (sym h))
-cost_alone (Affine func s) h = absurd (true≢false (sym h))
-cost_alone (PlainVec vars s) h = absurd (true≢false (sym h))
-cost_alone (AffineVec funcs s) h = absurd (true≢false (sym h))
 cost_alone (PlainObj sense var) h = refl
 cost_alone (AffineObj sense func) h = refl
+cost_alone _ h = absurd (true≢false (sym h))
 
 module _ (one : Rational) (a : zero_ℚ ≤ℚ one) (x : Address → Rational) where
   -- the point as the expressions have it

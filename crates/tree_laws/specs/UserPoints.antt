@@ -1,5 +1,5 @@
 -- The user's point and ray, by those of the leaf model.
-use Rattle.std.specs.Prelude.{◌≡◌, List, [], ◌∷◌, map}
+use Rattle.std.specs.Prelude.{◌≡◌, List, [], ◌∷◌, All, length, map}
 use Rattle.std.proofs.Common.{sym, ap, subst, ◌∙◌}
 use Rattle.std.proofs.lemmas.List.{length-map}
 use Rattle.std.proofs.lemmas.List.Elements.{All-cons, All-head, All-nil, All-weaker}
@@ -71,51 +71,64 @@ module _ (setting : Setting) (costly : IsCostly (graph_of setting)) (lawful : Ar
 
   -- ---- points and rays
 
+  -- what holds of the sets times `one` holds of what these are, and so of the numbers at `one`
+  module _ (one : Rational) (nonneg : zero_ℚ ≤ℚ one) (x : Address → Rational)
+      (feasible : IsLeafFeasible (leaves_of bridging) one x) where
+    abbrev pub seen : Address → Rational
+    seen = seen_point setting costly lawful native model valid bridging one nonneg x feasible
+
+    size_is : length (listed_point model seen) ≡ length (variables model)
+    size_is =
+        length-map (addresses_of (variables model)) seen ∙ length-map (variables model) address_of
+
+    module _ (times : Set → Set) (numbers : List Function → (Address → Rational) → List Rational)
+        (times_is : (s : Set) → multiplied one s ≡ times s)
+        (numbers_are : (fs : List Function) (p : Address → Rational)
+        → evaluations one fs p ≡ numbers fs p) where
+      abbrev InTimes : Set → List Function → Type 0
+      InTimes s fs = In (times s) (numbers fs (at_point model (listed_point model seen)))
+
+      abbrev InMultiplied : Set → List Function → Type 0
+      InMultiplied s fs =
+          In (multiplied one s) (evaluations one fs (at_point model (listed_point model seen)))
+
+      in_times : (s : Set) (fs : List Function) → InMultiplied s fs → InTimes s fs
+      in_times s fs h =
+          subst (λ t. In t (numbers fs (at_point model (listed_point model seen)))) (times_is s)
+          (subst (In (multiplied one s))
+          (numbers_are fs (at_point model (listed_point model seen))) h)
+
+      groups_in : All (λ g. InTimes g.set (functions_of_group g)) model.groups
+      groups_in =
+          All-weaker (λ g. InMultiplied g.set (functions_of_group g))
+          (λ g. InTimes g.set (functions_of_group g))
+          (λ g h. in_times g.set (functions_of_group g) h) model.groups
+          (user_groups setting costly lawful native model valid bridging one nonneg x feasible)
+
+      rows_in : All (λ r. InTimes r.set (functions_of r.func)) model.rows
+      rows_in =
+          All-weaker (λ r. InMultiplied r.set (functions_of r.func))
+          (λ r. InTimes r.set (functions_of r.func))
+          (λ r h. in_times r.set (functions_of r.func) h) model.rows
+          (user_rows setting costly lawful native model valid bridging one nonneg x feasible)
+
   module _ (x : Address → Rational) (feasible : IsLeafFeasible (leaves_of bridging) one_ℚ x) where
     abbrev pub seen_x : Address → Rational
-    seen_x = seen_point setting costly lawful native model valid bridging one_ℚ one_nonneg x
-        feasible
+    seen_x = seen one_ℚ one_nonneg x feasible
 
     point_is : point_of bridging x ≡ listed_point model seen_x
     point_is = λ i. map (λ v. sym (evaluated_value (function_in bridging.made.entries v) x) i)
         (addresses_of (variables model))
 
-    in_values : (s : Set) (fs : List Function) (p : Address → Rational)
-        → In (multiplied one_ℚ s) (evaluations one_ℚ fs p) → In s (values fs p)
-    in_values s fs p h =
-        subst (λ t. In t (values fs p)) (multiplied_one s)
-        (subst (In (multiplied one_ℚ s)) (evaluations_values fs p) h)
-
     pub feasible_point : IsFeasible model (point_of bridging x)
     feasible_point =
         subst (IsFeasible model) (sym point_is)
         (record {
-          size = length-map (addresses_of (variables model)) seen_x
-              ∙ length-map (variables model) address_of;
-          groups =
-              All-weaker
-              (λ g. In (multiplied one_ℚ g.set)
-              (evaluations one_ℚ (functions_of_group g) (at_point model
-              (listed_point model seen_x))))
-              (λ g. In g.set (values (functions_of_group g)
-              (at_point model (listed_point model seen_x))))
-              (λ g h. in_values g.set (functions_of_group g)
-              (at_point model (listed_point model seen_x)) h)
-              model.groups
-              (user_groups setting costly lawful native model valid bridging one_ℚ one_nonneg x
-              feasible);
-          rows =
-              All-weaker
-              (λ r. In (multiplied one_ℚ r.set)
-              (evaluations one_ℚ (functions_of r.func) (at_point model
-              (listed_point model seen_x))))
-              (λ r. In r.set (values (functions_of r.func)
-              (at_point model (listed_point model seen_x))))
-              (λ r h. in_values r.set (functions_of r.func)
-              (at_point model (listed_point model seen_x)) h)
-              model.rows
-              (user_rows setting costly lawful native model valid bridging one_ℚ one_nonneg x
-              feasible);
+          size = size_is one_ℚ one_nonneg x feasible;
+          groups = groups_in one_ℚ one_nonneg x feasible (λ s. s) values multiplied_one
+              evaluations_values;
+          rows = rows_in one_ℚ one_nonneg x feasible (λ s. s) values multiplied_one
+              evaluations_values;
         })
 
     -- the objective at the point
@@ -132,49 +145,21 @@ module _ (setting : Setting) (costly : IsCostly (graph_of setting)) (lawful : Ar
 
   module _ (x : Address → Rational) (ray : IsLeafFeasible (leaves_of bridging) zero_ℚ x) where
     abbrev seen_d : Address → Rational
-    seen_d =
-        seen_point setting costly lawful native model valid bridging zero_ℚ (≤ℚ_refl zero_ℚ) x ray
+    seen_d = seen zero_ℚ (≤ℚ_refl zero_ℚ) x ray
 
     ray_is : ray_of bridging x ≡ listed_point model seen_d
     ray_is = λ i. map (λ v. sym (evaluated_slope (function_in bridging.made.entries v) x) i)
         (addresses_of (variables model))
 
-    in_slopes : (s : Set) (fs : List Function) (p : Address → Rational)
-        → In (multiplied zero_ℚ s) (evaluations zero_ℚ fs p) → In (recession s) (slopes fs p)
-    in_slopes s fs p h =
-        subst (λ t. In t (slopes fs p)) (multiplied_zero s)
-        (subst (In (multiplied zero_ℚ s)) (evaluations_slopes fs p) h)
-
     pub user_ray : IsRay model (ray_of bridging x)
     user_ray =
         subst (IsRay model) (sym ray_is)
         (record {
-          size = length-map (addresses_of (variables model)) seen_d
-              ∙ length-map (variables model) address_of;
-          groups =
-              All-weaker
-              (λ g. In (multiplied zero_ℚ g.set)
-              (evaluations zero_ℚ (functions_of_group g)
-              (at_point model (listed_point model seen_d))))
-              (λ g. In (recession g.set)
-              (slopes (functions_of_group g) (at_point model (listed_point model seen_d))))
-              (λ g h. in_slopes g.set (functions_of_group g)
-              (at_point model (listed_point model seen_d)) h)
-              model.groups
-              (user_groups setting costly lawful native model valid bridging zero_ℚ
-              (≤ℚ_refl zero_ℚ) x ray);
-          rows =
-              All-weaker
-              (λ r. In (multiplied zero_ℚ r.set)
-              (evaluations zero_ℚ (functions_of r.func) (at_point model
-              (listed_point model seen_d))))
-              (λ r. In (recession r.set)
-              (slopes (functions_of r.func) (at_point model (listed_point model seen_d))))
-              (λ r h. in_slopes r.set (functions_of r.func)
-              (at_point model (listed_point model seen_d)) h)
-              model.rows
-              (user_rows setting costly lawful native model valid bridging zero_ℚ
-              (≤ℚ_refl zero_ℚ) x ray);
+          size = size_is zero_ℚ (≤ℚ_refl zero_ℚ) x ray;
+          groups = groups_in zero_ℚ (≤ℚ_refl zero_ℚ) x ray recession slopes multiplied_zero
+              evaluations_slopes;
+          rows = rows_in zero_ℚ (≤ℚ_refl zero_ℚ) x ray recession slopes multiplied_zero
+              evaluations_slopes;
         })
 
     slope_at : objective_slope model (ray_of bridging x)
