@@ -182,20 +182,20 @@ vectorize_var item =
 
 -- x in S is s, free at first, and a row s in S: plain where the child group is free variables,
 -- else affine
+abbrev pub later_image : Bool → Item → Set → ℕ → Image
+later_image free item set d = record {
+  groups = cond free (free_at item d) (group_at item (Reals d) d) ∷ [];
+  exprs = map Kept (inner item d);
+  rows =
+      child_at item 1 (cond free (plain (inner item d) set)
+      (affine (inner_functions item d) set))
+      ∷ [];
+  objective = None;
+}
+
 abbrev pub later : Edge → Item → Image
 later edge item =
-    let set = set_of item.body in
-    let d = size item in
-    let free = begins_free (children_of edge) in
-    record {
-      groups = cond free (free_at item d) (group_at item (Reals d) d) ∷ [];
-      exprs = map Kept (inner item d);
-      rows =
-          child_at item 1 (cond free (plain (inner item d) set)
-          (affine (inner_functions item d) set))
-          ∷ [];
-      objective = None;
-    }
+    later_image (begins_free (children_of edge)) item (set_of item.body) (size item)
 
 -- ---- objectives
 

@@ -1,6 +1,6 @@
 -- Two rising lists of numbers, and the numbers that both can have in common: at each place the sum
 -- of the two. Each list's numbers are taken to these by a function that rises throughout.
-use Rattle.std.specs.Prelude.{◌≡◌, ◌⊎◌, ◌+◌, ◌<◌, ◌≤◌, ℕ, zero, suc, Bool, true, false, cond, max, nat_lt, List, [], ◌∷◌, ◌++◌, All, flat_map, fold, length, map, refl}
+use Rattle.std.specs.Prelude.{◌≡◌, ◌⊎◌, ◌+◌, ◌<◌, ◌≤◌, ℕ, zero, suc, Bool, true, false, cond, max, nat_lt, List, [], ◌∷◌, ◌++◌, All, flat_map, length, map, refl}
 use Rattle.std.proofs.Common.{ap, ap₂, arith, inl, inr, subst, sym, ◌∙◌}
 use Rattle.std.proofs.lemmas.List.Elements.{All-head, All-tail}
 use borrow.Author.Tests.{le-ltb, lt-ltb, ltb-false, ltb-true}

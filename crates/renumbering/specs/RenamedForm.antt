@@ -17,7 +17,7 @@ use Rattle.equality_form.specs.Equations.{Equation, RightFits, equations, equati
 use Rattle.equality_form.specs.ReadBack.{Answer, AnswerFits, PointFits, ValuesFit, after, by_rows, duals_in, in_parts, infeasible, listed_at, optimal, point_in, read_back, unbounded, unflipped, value_in, values_in}
 use Rattle.map_laws.specs.EachLaws.{all_from_map}
 use Rattle.item_core.specs.declared.item.Body.{Body}
-use Rattle.item_core.specs.declared.item.Body.TheVariants.{Group, Free, Plain, Affine, PlainVec, AffineVec, PlainObj, AffineObj}
+use Rattle.item_core.specs.declared.item.Body.TheVariants.{PlainObj, AffineObj}
 use Rattle.item_core.specs.Item.{functions_of, set_of}
 use Rattle.leaf_model.specs.LeafModel.{LeafModel}
 use Rattle.simplex_core.specs.declared.answer.SolverAnswer.{SolverAnswer}
@@ -140,12 +140,7 @@ module _ (σ : Address → Address) (r : IsRenaming σ) where
       ap negated (variable-renamed σ r.order var) ∙ negated-renamed σ r.order (variable var)
   cost_of-renamed (AffineObj Min func) = refl
   cost_of-renamed (AffineObj Max func) = negated-renamed σ r.order func
-  cost_of-renamed (Group set vars) = constant_function-renamed σ r.order zero_ℚ
-  cost_of-renamed (Free vars) = constant_function-renamed σ r.order zero_ℚ
-  cost_of-renamed (Plain var set) = constant_function-renamed σ r.order zero_ℚ
-  cost_of-renamed (Affine func set) = constant_function-renamed σ r.order zero_ℚ
-  cost_of-renamed (PlainVec vars set) = constant_function-renamed σ r.order zero_ℚ
-  cost_of-renamed (AffineVec funcs set) = constant_function-renamed σ r.order zero_ℚ
+  cost_of-renamed _ = constant_function-renamed σ r.order zero_ℚ
 
   cost_among-renamed : (os : List (Address × Body))
       → cost_among (moved_entries σ (renamed_body σ) os) ≡ renamed σ (cost_among os)

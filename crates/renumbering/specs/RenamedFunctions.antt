@@ -7,7 +7,7 @@ use Rattle.std.specs.FinMap.{FinMap}
 use Rattle.std.specs.List.{list_all}
 use Rattle.std.specs.declared.cmp.Ordering.{Ordering}
 use Rattle.ratio_core.specs.Rational.{Rational, neg_ℚ, zero_ℚ, ◌*ℚ◌, ◌+ℚ◌}
-use Rattle.aff_core.specs.Arithmetic.{added_at, added_terms, composed, met, scaled, substituted, sum_of}
+use Rattle.aff_core.specs.Arithmetic.{added_at, added_terms, composed, met, substituted, sum_of}
 use Rattle.aff_core.specs.Function.{FunctionOver, coefficient, constant_function, function_of, negated, slope, terms_of, value_of, variable}
 use Rattle.aff_core.specs.FunctionLaws.{constant-function_of, constant-variable, entries_rise, negated_rise, same_function, terms-constant_function, terms-function_of, terms-variable, terms_kept, terms_rise}
 use Rattle.aff_core.specs.KeyOrder.{IsKeyOrder}

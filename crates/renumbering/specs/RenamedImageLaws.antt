@@ -1,5 +1,5 @@
 -- The image of an item under another address is the image of the item, under other addresses.
-use Rattle.std.specs.Prelude.{◌≡◌, ℕ, ◌+◌, ◌-◌, Bool, true, false, cond, List, [], ◌∷◌, ◌++◌, Some, None, drop, fold, length, map, take, refl}
+use Rattle.std.specs.Prelude.{◌≡◌, ℕ, ◌+◌, Bool, true, false, List, [], ◌∷◌, ◌++◌, Some, None, drop, fold, length, map, take}
 use Rattle.std.proofs.Common.{ap, ap₂, sym, ◌∙◌}
 use Rattle.std.proofs.lemmas.List.{drop-map, length-map, map-append, take-map}
 use Rattle.ratio_core.specs.Rational.{neg_ℚ, zero_ℚ}
@@ -11,7 +11,7 @@ use Rattle.aff_core.specs.Arithmetic.{sum_of}
 use Rattle.aff_core.specs.Function.{Function, constant_function, negated}
 use Rattle.aff_core.specs.KeyOrder.{address_order}
 use Rattle.bridge_face.specs.BackOf.{size}
-use Rattle.bridge_face.specs.ImageOf.{begins_free, beyond, bridged, differences, free_at, free_var, functionize, greater_less, group_at, image_by, image_of, inner, inner_functions, later, nonpos_var, norm_infinity, norm_one, obj_flip, obj_functionize, obj_slack, objective_at, opposite, orthant_flip, scalar_slack, scalarize, sense_of, split_set, sums, vector_slack, vectorize, vectorize_var, zeros_var}
+use Rattle.bridge_face.specs.ImageOf.{begins_free, beyond, bridged, differences, free_at, free_var, functionize, greater_less, group_at, image_by, image_of, inner, inner_functions, later, later_image, nonpos_var, norm_infinity, norm_one, obj_flip, obj_functionize, obj_slack, objective_at, opposite, orthant_flip, scalar_slack, scalarize, sense_of, split_set, sums, vector_slack, vectorize, vectorize_var, zeros_var}
 use Rattle.bridge_face.specs.Images.{affine, child_at, component_of, cone_of, difference, each_component, first_in, function_of_body, group_by, lower_part, number_in, plain, raised, rest_of, row_at, rows_at, upper_part, with_set}
 use Rattle.item_core.specs.declared.edge.Edge.{Edge}
 use Rattle.item_core.specs.declared.family.Family.{Family}
@@ -300,17 +300,6 @@ module _ (σ : Address → Address) (r : IsRenaming σ) where
       (bridged (map_either (renamed σ) raise raise (renamed σ)
       (λ s. raised-renamed σ r s (number_in set)) ss i)))
       ∙ grouped_exprs (group_at item (cone_of set) 1 ∷ []) (map raise ss)
-
-  abbrev later_image : Bool → Item → Set → ℕ → Image
-  later_image free item set d = record {
-    groups = cond free (free_at item d) (group_at item (Reals d) d) ∷ [];
-    exprs = map Kept (inner item d);
-    rows =
-        child_at item 1 (cond free (plain (inner item d) set)
-        (affine (inner_functions item d) set))
-        ∷ [];
-    objective = None;
-  }
 
   later_image-renamed : (free : Bool) (item : Item) (set : Set) (d : ℕ)
       → later_image free (renamed_item σ item) set d

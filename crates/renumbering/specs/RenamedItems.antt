@@ -8,7 +8,7 @@ use mathlib.Core.List.{map-map}
 use Rattle.set_core.specs.declared.set.Set.TheVariants.{Reals}
 use Rattle.aff_core.specs.Address.{Address, address_cmp, child_of}
 use Rattle.aff_core.specs.Function.{Function, variable}
-use Rattle.aff_core.specs.declared.sense.Sense.TheVariants.{Min, Max}
+use Rattle.aff_core.specs.declared.sense.Sense.TheVariants.{Min}
 use Rattle.item_core.specs.declared.image.Expression.{Expression}
 use Rattle.item_core.specs.declared.image.Expression.TheVariants.{Kept, Bridged}
 use Rattle.item_core.specs.declared.image.Image.{Image}
@@ -95,13 +95,6 @@ module _ (σ : Address → Address) where
 
   pub kind-renamed : (b : Body) → kind_of_body (renamed_body σ b) ≡ kind_of_body b
   unfolding kind_of_body
-  kind-renamed (Group set vars) = refl
-  kind-renamed (Free vars) = refl
-  kind-renamed (Plain var set) = refl
-  kind-renamed (Affine func set) = refl
-  kind-renamed (PlainVec vars set) = refl
-  kind-renamed (AffineVec funcs set) = refl
   kind-renamed (PlainObj Min var) = refl
-  kind-renamed (PlainObj Max var) = refl
   kind-renamed (AffineObj Min func) = refl
-  kind-renamed (AffineObj Max func) = refl
+  kind-renamed _ = refl

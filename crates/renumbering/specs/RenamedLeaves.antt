@@ -6,7 +6,7 @@ use Rattle.std.specs.FinMap as finite
 use Rattle.aff_core.specs.Address.{Address, address_cmp, address_total}
 use Rattle.fresh_bridging.specs.Leaves.{leaf_model_of, leaf_objectives, leaf_rows, leaf_variable, leaf_variables}
 use Rattle.item_core.specs.declared.item.Body.{Body}
-use Rattle.item_core.specs.declared.item.Body.TheVariants.{Group, Free, Plain, Affine, PlainVec, AffineVec, PlainObj, AffineObj}
+use Rattle.item_core.specs.declared.item.Body.TheVariants.{Group, Free}
 use Rattle.item_core.specs.declared.item.Item.{Item}
 use Rattle.leaf_model.specs.LeafModel.{LeafModel}
 use Rattle.solver_store.specs.declared.leaf.LeafVar.TheVariants as leaf
@@ -38,12 +38,7 @@ module _ (σ : Address → Address) where
       (λ e. (σ e.0, e.1)) (λ v. refl) vars
   variables_of_leaf at (Free vars) =
       map_either σ (λ v. (v, leaf.Free)) (λ v. (v, leaf.Free)) (λ e. (σ e.0, e.1)) (λ v. refl) vars
-  variables_of_leaf at (Plain var set) = refl
-  variables_of_leaf at (Affine func set) = refl
-  variables_of_leaf at (PlainVec vars set) = refl
-  variables_of_leaf at (AffineVec funcs set) = refl
-  variables_of_leaf at (PlainObj sense var) = refl
-  variables_of_leaf at (AffineObj sense func) = refl
+  variables_of_leaf at _ = refl
 
   rows_of_leaf : (at : Address) (b : Body)
       → leaf_rows (record { at = σ at; body = renamed_body σ b })

@@ -13,7 +13,7 @@ use Rattle.bridge_face.specs.ImageOf.{bridged, differences, free_at, group_at, i
 use Rattle.bridge_face.specs.Images.{affine, child_at, children_from, components, difference, each_component, first_in, function_of_body, plain, raised, rest_of, row_at, rows_at, with_set}
 use Rattle.item_core.specs.declared.image.Expression.TheVariants.{Kept, Bridged}
 use Rattle.item_core.specs.declared.item.Body.{Body}
-use Rattle.item_core.specs.declared.item.Body.TheVariants.{Group, Free, Plain, Affine, PlainVec, AffineVec, PlainObj, AffineObj}
+use Rattle.item_core.specs.declared.item.Body.TheVariants.{Group, Free, Plain, Affine, PlainVec, AffineVec, PlainObj}
 use Rattle.item_core.specs.declared.item.Item.{Item}
 use Rattle.item_core.specs.Item.{functions_of}
 use Rattle.renumbering.specs.RenamedFunctions.{constant-renamed, constant_function-renamed, is_renamed, negated-renamed, sum-renamed, terms-renamed}
@@ -47,12 +47,7 @@ module _ (σ : Address → Address) where
   each_component-renamed (AffineVec funcs s) set =
       map_either (renamed σ) (λ f. Affine f set) (λ f. Affine f set) (renamed_body σ)
       (λ f. refl) funcs
-  each_component-renamed (Plain var s) set = refl
-  each_component-renamed (Affine func s) set = refl
-  each_component-renamed (Group s vars) set = refl
-  each_component-renamed (Free vars) set = refl
-  each_component-renamed (PlainObj sense var) set = refl
-  each_component-renamed (AffineObj sense func) set = refl
+  each_component-renamed _ set = refl
 
   pub sense-renamed : (b : Body) → sense_of (renamed_body σ b) ≡ sense_of b
   sense-renamed (PlainObj sense var) = refl

@@ -172,23 +172,7 @@ module _ (σ : Address → Address) (r : IsRenaming σ) where
       ∙ (λ i. one_fits (renamed σ t) (map (renamed σ) xs)
       (inner_functions-renamed σ r item (length xs) i))
       ∙ one_fits-renamed t xs (inner_functions item (length xs))
-  by_family family.GreaterLess item = refl
-  by_family family.OrthantFlip item = refl
-  by_family family.NonposVar item = refl
-  by_family family.ObjFlip item = refl
-  by_family family.Scalarize item = refl
-  by_family family.ScalarFunctionize item = refl
-  by_family family.VectorFunctionize item = refl
-  by_family family.VectorizeVar item = refl
-  by_family family.ObjFunctionize item = refl
-  by_family family.SplitSet item = refl
-  by_family family.DropReals item = refl
-  by_family family.ZerosVar item = refl
-  by_family family.FreeVar item = refl
-  by_family family.ScalarSlack item = refl
-  by_family family.VectorSlack item = refl
-  by_family family.Later item = refl
-  by_family family.ObjSlack item = refl
+  by_family _ item = refl
 
   image_fits-renamed : (edge : ℕ) (item : Item)
       → image_fits edge (renamed_item σ item) ≡ image_fits edge item

@@ -285,9 +285,4 @@ module _ (ν : Renumbering) (rising : IsRising ν) where
         (cancelling b all))
     certificate-renumbered (unbounded x d) (unbounded u e) same =
         ap₂ Unbounded (point-renumbered x u same.0) (ray-renumbered d e same.1)
-    certificate-renumbered (optimal x y) (infeasible w) same = absurd same
-    certificate-renumbered (optimal x y) (unbounded u e) same = absurd same
-    certificate-renumbered (infeasible y) (optimal u w) same = absurd same
-    certificate-renumbered (infeasible y) (unbounded u e) same = absurd same
-    certificate-renumbered (unbounded x d) (optimal u w) same = absurd same
-    certificate-renumbered (unbounded x d) (infeasible w) same = absurd same
+    certificate-renumbered _ _ same = absurd same

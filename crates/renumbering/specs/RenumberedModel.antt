@@ -1,11 +1,9 @@
 -- A user's model whose numbers are others in the same order, and its fresh bridging.
-use Rattle.std.specs.Prelude.{◌≡◌, ◌<◌, ◌==◌, ◌&&◌, ℕ, nat_lt, cond, List, ◌++◌, map, refl}
-use Rattle.std.proofs.Common.{arith, ap, ap₂, subst, sym, ◌∙◌}
-use Rattle.std.proofs.lemmas.Bool.Decides.{nat_tests}
+use Rattle.std.specs.Prelude.{◌≡◌, ◌<◌, ◌==◌, ◌&&◌, ℕ, List, ◌++◌, map, refl}
+use Rattle.std.proofs.Common.{ap, ap₂, subst, sym, ◌∙◌}
 use Rattle.std.proofs.lemmas.List.{map-append}
 use Rattle.std.specs.Cmp.Lexicographic.{slice_cmp}
 use Rattle.std.specs.Ordering.{nat_cmp, ordering_then}
-use Rattle.std.specs.declared.cmp.Ordering.TheVariants.{Less, Equal, Greater}
 use Rattle.aff_core.specs.Address.{Address, address_cmp}
 use Rattle.aff_core.specs.declared.root.Root.{Root}
 use Rattle.aff_core.specs.declared.root.Root.TheVariants.{Variable, Group, Row, Objective}
@@ -85,18 +83,7 @@ module _ (ν : Renumbering) (rising : IsRising ν) where
   roots_order Row Row m n p q =
       ap (λ c. ordering_then c (slice_cmp nat_cmp p q)) (number_order ν.row rising.row m n)
   roots_order Objective Objective m n p q = refl
-  roots_order Variable Group m n p q = refl
-  roots_order Variable Row m n p q = refl
-  roots_order Variable Objective m n p q = refl
-  roots_order Group Variable m n p q = refl
-  roots_order Group Row m n p q = refl
-  roots_order Group Objective m n p q = refl
-  roots_order Row Variable m n p q = refl
-  roots_order Row Group m n p q = refl
-  roots_order Row Objective m n p q = refl
-  roots_order Objective Variable m n p q = refl
-  roots_order Objective Group m n p q = refl
-  roots_order Objective Row m n p q = refl
+  roots_order _ _ m n p q = refl
 
   pub renumbers : IsRenaming (renumbered ν)
   renumbers = record {

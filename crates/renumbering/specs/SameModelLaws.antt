@@ -1,5 +1,5 @@
 -- Models that are the same up to their numbers can be given the same numbers, in the same order.
-use Rattle.std.specs.Prelude.{◌≡◌, ◌⊎◌, ◌<◌, ◌||◌, ◌==◌, ℕ, Bool, true, false, cond, nat_lt, T, List, [], ◌∷◌, ◌++◌, IsSome, Some, find, flat_map, length, map, refl}
+use Rattle.std.specs.Prelude.{◌≡◌, ◌⊎◌, ◌||◌, ◌==◌, ℕ, Bool, true, false, cond, T, List, [], ◌∷◌, ◌++◌, IsSome, Some, find, flat_map, length, map, refl}
 use Rattle.std.proofs.Common.{ap, ap₂, arith, inl, inr, subst, sym, ◌∙◌}
 use Rattle.std.proofs.lemmas.Bool.Decides.{nat_tests}
 use Rattle.std.proofs.lemmas.List.{length-map, map-append}
@@ -10,7 +10,6 @@ use Rattle.std.specs.List.{list_any}
 use Rattle.std.specs.Ordering.{eq_by_cmp, is_lt, nat_cmp, ordering_then}
 use Rattle.std.specs.declared.cmp.Ordering.{Ordering}
 use Rattle.std.specs.declared.cmp.Ordering.TheVariants.{Less, Equal, Greater}
-use borrow.Author.Tests.{lt-ltb, ltb-true}
 use mathlib.Core.List.{map-map}
 use Rattle.map_laws.specs.TestLaws.{both, first, is_less, less_number, less_than, second}
 use Rattle.ratio_core.specs.Rational.{Rational}
