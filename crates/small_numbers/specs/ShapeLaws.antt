@@ -6,7 +6,7 @@ use Rattle.aff_core.specs.Address.{Address, address_cmp}
 use Rattle.aff_core.specs.Function.{Function, variable}
 use Rattle.bridge_face.specs.Images.{affine, child_at, children_from, each_component, first_in, plain, with_set}
 use Rattle.item_core.specs.declared.item.Body.{Body}
-use Rattle.item_core.specs.declared.item.Body.TheVariants.{Group, Free, Plain, Affine, PlainVec, AffineVec, PlainObj, AffineObj}
+use Rattle.item_core.specs.declared.item.Body.TheVariants.{Group, Free, Plain, Affine, PlainVec, AffineVec}
 use Rattle.item_core.specs.declared.item.Item.{Item}
 use Rattle.item_core.specs.Item.{is_group, set_of}
 use Rattle.set_core.specs.Shapes.{is_scalar}
@@ -124,9 +124,4 @@ pub group_itself : (a : ℕ) (b : Body) → is_group b ≡ true → 1 ≤ a
     → AreSmall (set_numbers (set_of b)) → IsBodyWithin a b
 group_itself a (Group set vars) is h s = group_body a vars set h s
 group_itself a (Free vars) is h s = free_body a vars h
-group_itself a (Plain var set) is h s = absurd (true≢false (sym is))
-group_itself a (Affine func set) is h s = absurd (true≢false (sym is))
-group_itself a (PlainVec vars set) is h s = absurd (true≢false (sym is))
-group_itself a (AffineVec funcs set) is h s = absurd (true≢false (sym is))
-group_itself a (PlainObj sense var) is h s = absurd (true≢false (sym is))
-group_itself a (AffineObj sense func) is h s = absurd (true≢false (sym is))
+group_itself a _ is h s = absurd (true≢false (sym is))
