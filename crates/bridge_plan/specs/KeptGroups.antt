@@ -121,25 +121,7 @@ rewritten_outer edge item entries h =
 
 later_is : (f : Family) → family_eq f family.Later ≡ true → f ≡ family.Later
 later_is family.Later h = refl
-later_is family.GreaterLess h = absurd (true≢false (sym h))
-later_is family.OrthantFlip h = absurd (true≢false (sym h))
-later_is family.NonposVar h = absurd (true≢false (sym h))
-later_is family.ObjFlip h = absurd (true≢false (sym h))
-later_is family.Vectorize h = absurd (true≢false (sym h))
-later_is family.Scalarize h = absurd (true≢false (sym h))
-later_is family.ScalarFunctionize h = absurd (true≢false (sym h))
-later_is family.VectorFunctionize h = absurd (true≢false (sym h))
-later_is family.VectorizeVar h = absurd (true≢false (sym h))
-later_is family.ObjFunctionize h = absurd (true≢false (sym h))
-later_is family.SplitSet h = absurd (true≢false (sym h))
-later_is family.DropReals h = absurd (true≢false (sym h))
-later_is family.ZerosVar h = absurd (true≢false (sym h))
-later_is family.FreeVar h = absurd (true≢false (sym h))
-later_is family.ScalarSlack h = absurd (true≢false (sym h))
-later_is family.VectorSlack h = absurd (true≢false (sym h))
-later_is family.ObjSlack h = absurd (true≢false (sym h))
-later_is family.NormInfinity h = absurd (true≢false (sym h))
-later_is family.NormOne h = absurd (true≢false (sym h))
+later_is _ h = absurd (true≢false (sym h))
 
 -- the group that such an edge begins with
 abbrev begun : ℕ → Item → Item

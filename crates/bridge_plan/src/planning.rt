@@ -17,7 +17,7 @@ use crate::{Entry, Plan, Rewriter, Standing};
 use aff_core::{Address, AffFault};
 use bridge_face::KeptItem;
 use bridge_graph::Choice;
-use item_core::{Body, EDGES, Edge, EdgeEntry, Expression, Image, Item, Items, kind_of};
+use item_core::{Body, EDGES, Edge, EdgeEntry, Expression, Item, Items, kind_of};
 use lists::Memory;
 use std::alloc::Global;
 

@@ -1,8 +1,7 @@
 //! What stands for the variables of groups that were bridged.
-ghost use Rattle.std.specs.Prelude.{◌≡◌, IfOk, OnOk, IsTrue, true, false, map, unwrap_or, MatchOption};
+ghost use Rattle.std.specs.Prelude.{◌≡◌, IfOk, OnOk, IsTrue, true, false, map, MatchOption};
 ghost use Rattle.std.specs.FinMap as finite;
 ghost use Rattle.std.specs.List.{list_all};
-ghost use Rattle.std.specs.Option.{option_copied};
 ghost use Rattle.aff_core.specs.Arithmetic.{ExactWhere, composed};
 ghost use Rattle.item_core.specs.declared.image.Expression.TheVariants as expressions;
 ghost use Rattle.item_core.specs.declared.item.Body.TheVariants.{AffineObj};

@@ -48,12 +48,7 @@ no_vector (set.LessThan u) h k = true≢false h
 no_vector (set.GreaterThan l) h k = true≢false h
 no_vector (set.EqualTo a) h k = true≢false h
 no_vector (set.Interval l u) h k = true≢false h
-no_vector (set.Reals n) h k = true≢false (sym k)
-no_vector (set.Zeros n) h k = true≢false (sym k)
-no_vector (set.Nonnegatives n) h k = true≢false (sym k)
-no_vector (set.Nonpositives n) h k = true≢false (sym k)
-no_vector (set.NormInfinityCone n) h k = true≢false (sym k)
-no_vector (set.NormOneCone n) h k = true≢false (sym k)
+no_vector _ h k = true≢false (sym k)
 
 native_form : (i : Item) → IsLeaf i → HasNativeForm i.body
 unfolding kind_of_body

@@ -91,22 +91,19 @@ module _ (entries : List Entry) (kept : Address → Bool)
 
   pub kind_by_is : (b : Body) → kind_by kept b ≡ kind_of_body (put_in_body entries b)
   unfolding put_in_body kind_of_body
-  kind_by_is (Group set vars) = refl
-  kind_by_is (Free vars) = refl
   kind_by_is (Plain var set) =
       ap (λ b. cond b (plain_kind_of set) (affine_kind_of set)) (agree var)
       ∙ sym (plain_kind (expression_in entries var) set)
-  kind_by_is (Affine func set) = refl
   kind_by_is (PlainVec vars set) =
       ap (λ b. cond b (plain_kind_of set) (affine_kind_of set)) (all_kept vars)
       ∙ sym (vector_kind (list_all is_kept (map (expression_in entries) vars))
       (map (expression_in entries) vars) set)
-  kind_by_is (AffineVec funcs set) = refl
   kind_by_is (PlainObj sense var) =
       ap (objective_kind_by sense) (agree var)
       ∙ sym (objective_kind sense (expression_in entries var))
   kind_by_is (AffineObj sense func) =
       sym (objective_kind sense (Rewritten (composed (function_in entries) func)))
+  kind_by_is _ = refl
 
 -- ---- which variables are kept
 

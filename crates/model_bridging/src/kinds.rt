@@ -2,7 +2,7 @@
 //!
 //! The kind of a row with plain functions hangs on whether its variables are kept, which the kinds
 //! of their groups tell.
-ghost use Rattle.std.specs.Prelude.{◌≡◌, ◌∷◌, ◌++◌, [], IfOk, OnOk, List, cond, map};
+ghost use Rattle.std.specs.Prelude.{◌≡◌, ◌∷◌, ◌++◌, [], IfOk, OnOk, cond, map};
 ghost use Rattle.std.specs.List.{list_all, list_any};
 ghost use Rattle.aff_core.specs.Address.{Address, address_eq};
 ghost use Rattle.bridge_face.specs.ImageOf.{begins_free};

@@ -1,6 +1,5 @@
 //! The fresh bridging of a user's model, worked out before anything is changed.
 ghost use Rattle.std.specs.Prelude.{◌≡◌, ◌++◌, [], All, IfOk, IsTrue, OnOk, flat_map, map};
-ghost use Rattle.std.specs.Option.{option_or};
 ghost use Rattle.aff_core.specs.Arithmetic.{ExactWhere};
 ghost use Rattle.expansion.specs.Grown.{put_held};
 ghost use Rattle.item_core.specs.declared.item.Item.{Item};

@@ -37,11 +37,7 @@ pub record AreAlike (one other : State) : Type 0 where
 answer-renumbered : (ν : Renumbering) (model : ModelValue) (x : Result Certificate OptFault)
     → optimize_answer (renumbered_model ν model) x ≡ optimize_answer model x
 answer-renumbered ν model (Ok c) = ap Printed (certificate_text-renumbered ν model c)
-answer-renumbered ν model (Err opt.NotAttached) = refl
-answer-renumbered ν model (Err (opt.TooLarge cells)) = refl
-answer-renumbered ν model (Err (opt.Overflow place)) = refl
-answer-renumbered ν model (Err (opt.Limit pivots)) = refl
-answer-renumbered ν model (Err opt.Memory) = refl
+answer-renumbered ν model _ = refl
 
 given_without_memory : (model : ModelValue) (given : Result Certificate OptFault) (answer : Answer)
     → answer ≡ optimize_answer model given → answer ≢ Memory → given ≢ Err opt.Memory

@@ -373,9 +373,4 @@ module _ (ν : Renumbering) (rising : IsRising ν) {setting : Setting} {model : 
       stage_users ν rising model (BothFit model expression x d)
       (BothFit (renumbered_model ν model) other_expression u e)
       (λ v i. variable_fits one_ℚ x u same.0 v i × variable_fits zero_ℚ d e same.1 v i)
-  stage_answer (optimal x y) (infeasible w) same = absurd same
-  stage_answer (optimal x y) (unbounded u e) same = absurd same
-  stage_answer (infeasible y) (optimal u w) same = absurd same
-  stage_answer (infeasible y) (unbounded u e) same = absurd same
-  stage_answer (unbounded x d) (optimal u w) same = absurd same
-  stage_answer (unbounded x d) (infeasible w) same = absurd same
+  stage_answer _ _ same = absurd same
