@@ -1,6 +1,6 @@
 -- The law of ObjSlack: the least f is the least s with s - f ≥ 0, and the greatest f the greatest s
 -- with s - f ≤ 0.
-use Rattle.std.specs.Prelude.{All, Contains, List, Some, [], false, length, map, refl, true, ◌*◌, ◌<◌, ◌∷◌, ◌≡◌, ◌≤◌}
+use Rattle.std.specs.Prelude.{All, Contains, List, Some, [], length, map, refl, true, ◌*◌, ◌<◌, ◌∷◌, ◌≡◌, ◌≤◌}
 use Rattle.std.proofs.lemmas.List.Elements.{All-cons, All-head, All-nil, All-tail}
 use Rattle.std.proofs.Common.{ap, ap₂, arith, subst, sym, true≢false, ◌∙◌}
 use Rattle.std.proofs.lemmas.List.{length-append}
