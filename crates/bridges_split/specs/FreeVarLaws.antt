@@ -40,7 +40,6 @@ use Rattle.item_core.specs.KindOf.{kind_of_body}
 use Rattle.set_core.specs.Mirrored.{multiplied}
 use Rattle.bridge_face.specs.BackOf.{back_by, size}
 use Rattle.rational_laws.specs.Order.{≤ℚ_antisymm, ≤ℚ_from_nonneg}
-use Rattle.item_core.specs.declared.kind.Kind.TheVariants as kind
 use Rattle.rational_laws.specs.Dot as numbers
 
 -- a group of variables without bounds, of which the edge makes one of its kind
