@@ -45,7 +45,6 @@ use Rattle.aff_core.specs.declared.fault.AffFault.{AffFault}
 use Rattle.bridge_face.specs.State.{TakesDuals}
 use Rattle.aff_core.specs.AnsweredLaws.{exact_as}
 use Rattle.set_core.specs.declared.set.Set.{Set}
-use Rattle.item_core.specs.declared.kind.Kind.TheVariants as kind
 
 -- a row in the cone
 pub data InNormInfinity : Body → Type 0 where

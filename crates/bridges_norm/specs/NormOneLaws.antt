@@ -50,7 +50,6 @@ use Rattle.set_core.specs.declared.set.Set.{Set}
 use Rattle.bridge_face.specs.State.{TakesDuals}
 use Rattle.aff_core.specs.AnsweredLaws.{exact_as}
 use Rattle.bridge_face.specs.GroupAndRowLaws as images
-use Rattle.item_core.specs.declared.kind.Kind.TheVariants as kind
 use Rattle.rational_laws.specs.Dot as numbers
 
 -- a row in the cone
