@@ -29,7 +29,7 @@ use Rattle.bridge_face.specs.GroupLaws.{child_group_valid, group_gap, group_numb
 use Rattle.bridge_face.specs.ImageOf.{group_at, inner}
 use Rattle.bridge_face.specs.Images.{child_at}
 use Rattle.bridge_face.specs.ChildDualLaws.{carries_duals}
-use Rattle.bridge_face.specs.Law.{Balances, CarriesValues, ChildDuals, EdgeLaw, GrowsBy, HasComponents, HoldsAt, IsCovered, IsValidWithin, LeadsTo, MentionsKnown, Miss, expressed, growth, held_body, held_children, held_item}
+use Rattle.bridge_face.specs.Law.{Balances, CarriesValues, ChildDuals, EdgeLaw, GrowsBy, HasComponents, HoldsAt, IsCovered, IsValidWithin, LeadsTo, MentionsKnown, Miss, growth, held_body, held_children, held_item}
 use Rattle.bridge_face.specs.OneRowLaws.{IsRow, held_row, row_held, row_stands, row_values}
 use Rattle.item_core.specs.declared.image.Expression.{Expression}
 

@@ -20,7 +20,7 @@ use Rattle.item_core.specs.Valid.{FitsItsFunction, NamesNothingBelow}
 use Rattle.bridge_face.specs.BackOf.{back_of}
 use Rattle.bridge_face.specs.ComponentLaws.{all_unnamed_below}
 use Rattle.bridge_face.specs.Images.{child_at, children_from, rows_at}
-use Rattle.bridge_face.specs.Law.{Balances, CarriesValues, ChildDuals, EdgeLaw, GrowsBy, HasComponents, HoldsAt, IsCovered, IsValidWithin, LeadsTo, MentionsKnown, Miss, StandsInOrder, children, expressed, growth, held, held_children, held_item}
+use Rattle.bridge_face.specs.Law.{Balances, CarriesValues, ChildDuals, EdgeLaw, GrowsBy, HasComponents, HoldsAt, IsCovered, IsValidWithin, LeadsTo, MentionsKnown, Miss, StandsInOrder, children, growth, held, held_children, held_item}
 use Rattle.bridge_face.specs.OneRowLaws.{IsRow, held_row, row_held, row_stands, row_values}
 
 -- rows with their duals
