@@ -2,6 +2,7 @@
 use Rattle.std.specs.Prelude.{◌≡◌, List, [], ◌∷◌, map, All, length, refl, cond}
 use Rattle.std.proofs.Common.{sym, ap, ap₂, ◌∙◌, arith}
 use Rattle.std.proofs.lemmas.List.{length-map}
+use Rattle.std.proofs.lemmas.Simd.{map-map}
 use Rattle.std.proofs.lemmas.List.Elements.{All-cons, All-head, All-nil, All-tail}
 use Rattle.std.specs.List.{zip}
 use Rattle.ratio_core.specs.Rational.{Rational, neg_ℚ, zero_ℚ, ◌+ℚ◌, ◌-ℚ◌, one_ℚ}
@@ -128,50 +129,53 @@ Subtracts g = (f h : Function) → g (difference f h) ≡ g f -ℚ g h
 abbrev pub Adds : (Function → Rational) → Type 0
 Adds g = (f h : Function) → g (sum_of f h) ≡ g f +ℚ g h
 
-pub numbers-differences : (g : Function → Rational) → Subtracts g → (fs hs : List Function)
-    → map g (differences fs hs) ≡ minus (map g fs) (map g hs)
-numbers-differences g s [] hs = refl
-numbers-differences g s (f ∷ fs) [] = refl
-numbers-differences g s (f ∷ fs) (h ∷ hs) = ap₂ ◌∷◌ (s f h) (numbers-differences g s fs hs)
+-- what is made of the functions at equal places: `differences` and `sums` are such lists
+abbrev pub paired : (Function → Function → Function) → List Function → List Function → List Function
+paired op fs hs = map (λ p. op p.0 p.1) (zip fs hs)
 
-pub numbers-sums : (g : Function → Rational) → Adds g → (fs hs : List Function)
-    → map g (sums fs hs) ≡ plus (map g fs) (map g hs)
-numbers-sums g s [] hs = refl
-numbers-sums g s (f ∷ fs) [] = refl
-numbers-sums g s (f ∷ fs) (h ∷ hs) = ap₂ ◌∷◌ (s f h) (numbers-sums g s fs hs)
+module _ (op : Function → Function → Function) where
+  -- a number of each of them, by the numbers of the two
+  numbers-paired : (g left right : Function → Rational)
+      → ((f h : Function) → g (op f h) ≡ left f +ℚ right h) → (fs hs : List Function)
+      → map g (paired op fs hs) ≡ plus (map left fs) (map right hs)
+  numbers-paired g left right s [] hs = refl
+  numbers-paired g left right s (f ∷ fs) [] = refl
+  numbers-paired g left right s (f ∷ fs) (h ∷ hs) =
+      ap₂ ◌∷◌ (s f h) (numbers-paired g left right s fs hs)
 
--- what two functions have, and their difference with them
-pub all_differences : (P : Function → Type 0)
-    → ((f h : Function) → P f → P h → P (difference f h))
-    → (fs hs : List Function) → All P fs → All P hs → All P (differences fs hs)
-all_differences P s [] hs p q = All-nil P
-all_differences P s (f ∷ fs) [] p q = All-nil P
-all_differences P s (f ∷ fs) (h ∷ hs) p q =
-    All-cons P (difference f h) (differences fs hs) (s f h (All-head P f fs p) (All-head P h hs q))
-    (all_differences P s fs hs (All-tail P f fs p) (All-tail P h hs q))
+  -- what two functions have, and what is made of them
+  pub all_paired : (P : Function → Type 0) → ((f h : Function) → P f → P h → P (op f h))
+      → (fs hs : List Function) → All P fs → All P hs → All P (paired op fs hs)
+  all_paired P s [] hs p q = All-nil P
+  all_paired P s (f ∷ fs) [] p q = All-nil P
+  all_paired P s (f ∷ fs) (h ∷ hs) p q =
+      All-cons P (op f h) (paired op fs hs) (s f h (All-head P f fs p) (All-head P h hs q))
+      (all_paired P s fs hs (All-tail P f fs p) (All-tail P h hs q))
 
-pub all_sums : (P : Function → Type 0)
-    → ((f h : Function) → P f → P h → P (sum_of f h))
-    → (fs hs : List Function) → All P fs → All P hs → All P (sums fs hs)
-all_sums P s [] hs p q = All-nil P
-all_sums P s (f ∷ fs) [] p q = All-nil P
-all_sums P s (f ∷ fs) (h ∷ hs) p q =
-    All-cons P (sum_of f h) (sums fs hs) (s f h (All-head P f fs p) (All-head P h hs q))
-    (all_sums P s fs hs (All-tail P f fs p) (All-tail P h hs q))
+  pub length-paired : (fs hs : List Function) → length fs ≡ length hs
+      → length (paired op fs hs) ≡ length fs
+  length-paired [] hs e = refl
+  length-paired (f ∷ fs) [] e = absurd (omega (arith, e))
+  length-paired (f ∷ fs) (h ∷ hs) e =
+      let rest = length-paired fs hs (omega (arith, e)) in omega (arith, rest)
 
 pub length-differences : (fs hs : List Function) → length fs ≡ length hs
     → length (differences fs hs) ≡ length fs
-length-differences [] hs e = refl
-length-differences (f ∷ fs) [] e = absurd (omega (arith, e))
-length-differences (f ∷ fs) (h ∷ hs) e =
-    let rest = length-differences fs hs (omega (arith, e)) in omega (arith, rest)
+length-differences fs hs e = length-paired difference fs hs e
 
 pub length-sums : (fs hs : List Function) → length fs ≡ length hs
     → length (sums fs hs) ≡ length fs
-length-sums [] hs e = refl
-length-sums (f ∷ fs) [] e = absurd (omega (arith, e))
-length-sums (f ∷ fs) (h ∷ hs) e =
-    let rest = length-sums fs hs (omega (arith, e)) in omega (arith, rest)
+length-sums fs hs e = length-paired sum_of fs hs e
+
+pub numbers-differences : (g : Function → Rational) → Subtracts g → (fs hs : List Function)
+    → map g (differences fs hs) ≡ minus (map g fs) (map g hs)
+numbers-differences g s fs hs =
+    numbers-paired difference g g (λ h. neg_ℚ (g h)) s fs hs
+    ∙ ap (plus (map g fs)) (sym (map-map neg_ℚ g hs))
+
+pub numbers-sums : (g : Function → Rational) → Adds g → (fs hs : List Function)
+    → map g (sums fs hs) ≡ plus (map g fs) (map g hs)
+numbers-sums g s fs hs = numbers-paired sum_of g g g s fs hs
 
 -- ---- what neither names
 

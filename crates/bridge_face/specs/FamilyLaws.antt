@@ -1,6 +1,7 @@
 -- What the proofs of all families share.
 use Rattle.std.specs.Prelude.{◌≡◌, ◌==◌, Bool, true, false, ℕ, suc, slice_index_or, List, [], ◌∷◌, map, All, length, refl}
 use Rattle.std.specs.Cmp.{unsigned_Decides}
+use Rattle.std.specs.List.{AllByRecursion}
 use Rattle.std.proofs.Common.{sym, ap, ap₂, subst, ◌∙◌, arith, true≢false}
 use denote.Enum.Declared.{tag_of}
 use Rattle.std.proofs.lemmas.List.{length-map}
@@ -29,60 +30,31 @@ use Rattle.bridge_face.specs.declared.kept_item.KeptItem.{KeptItem}
 abbrev OfFamily : Family → Edge → Type 0
 OfFamily f edge = family_of edge ≡ f
 
-own_edges : (f : Family) → All (OfFamily f) (edges_of f)
+own_each : (f : Family) → AllByRecursion (OfFamily f) (edges_of f)
 unfolding edge_entry edges_of
-own_edges family.GreaterLess =
-    All-from_recursion (OfFamily family.GreaterLess) (edges_of family.GreaterLess)
-    (refl, (refl, (refl, (refl, tt))))
-own_edges family.OrthantFlip =
-    All-from_recursion (OfFamily family.OrthantFlip) (edges_of family.OrthantFlip)
-    (refl, (refl, tt))
-own_edges family.NonposVar =
-    All-from_recursion (OfFamily family.NonposVar) (edges_of family.NonposVar) (refl, tt)
-own_edges family.ObjFlip =
-    All-from_recursion (OfFamily family.ObjFlip) (edges_of family.ObjFlip) (refl, (refl, tt))
-own_edges family.Vectorize =
-    All-from_recursion (OfFamily family.Vectorize) (edges_of family.Vectorize)
-    (refl, (refl, (refl, (refl, (refl, (refl, tt))))))
-own_edges family.Scalarize =
-    All-from_recursion (OfFamily family.Scalarize) (edges_of family.Scalarize)
-    (refl, (refl, (refl, (refl, (refl, (refl, tt))))))
-own_edges family.ScalarFunctionize =
-    All-from_recursion (OfFamily family.ScalarFunctionize) (edges_of family.ScalarFunctionize)
-    (refl, (refl, (refl, (refl, tt))))
-own_edges family.VectorFunctionize =
-    All-from_recursion (OfFamily family.VectorFunctionize) (edges_of family.VectorFunctionize)
-    (refl, (refl, (refl, (refl, (refl, tt)))))
-own_edges family.VectorizeVar =
-    All-from_recursion (OfFamily family.VectorizeVar) (edges_of family.VectorizeVar)
-    (refl, (refl, (refl, tt)))
-own_edges family.ObjFunctionize =
-    All-from_recursion (OfFamily family.ObjFunctionize) (edges_of family.ObjFunctionize)
-    (refl, (refl, tt))
-own_edges family.SplitSet =
-    All-from_recursion (OfFamily family.SplitSet) (edges_of family.SplitSet)
-    (refl, (refl, (refl, (refl, tt))))
-own_edges family.DropReals =
-    All-from_recursion (OfFamily family.DropReals) (edges_of family.DropReals) (refl, (refl, tt))
-own_edges family.ZerosVar =
-    All-from_recursion (OfFamily family.ZerosVar) (edges_of family.ZerosVar) (refl, tt)
-own_edges family.FreeVar =
-    All-from_recursion (OfFamily family.FreeVar) (edges_of family.FreeVar) (refl, tt)
-own_edges family.ScalarSlack =
-    All-from_recursion (OfFamily family.ScalarSlack) (edges_of family.ScalarSlack)
-    (refl, (refl, (refl, tt)))
-own_edges family.VectorSlack =
-    All-from_recursion (OfFamily family.VectorSlack) (edges_of family.VectorSlack)
-    (refl, (refl, (refl, (refl, tt))))
-own_edges family.Later =
-    All-from_recursion (OfFamily family.Later) (edges_of family.Later)
-    (refl, (refl, (refl, (refl, (refl, (refl, (refl, (refl, (refl, tt)))))))))
-own_edges family.ObjSlack =
-    All-from_recursion (OfFamily family.ObjSlack) (edges_of family.ObjSlack) (refl, (refl, tt))
-own_edges family.NormInfinity =
-    All-from_recursion (OfFamily family.NormInfinity) (edges_of family.NormInfinity) (refl, tt)
-own_edges family.NormOne =
-    All-from_recursion (OfFamily family.NormOne) (edges_of family.NormOne) (refl, tt)
+own_each family.GreaterLess = (refl, (refl, (refl, (refl, tt))))
+own_each family.OrthantFlip = (refl, (refl, tt))
+own_each family.NonposVar = (refl, tt)
+own_each family.ObjFlip = (refl, (refl, tt))
+own_each family.Vectorize = (refl, (refl, (refl, (refl, (refl, (refl, tt))))))
+own_each family.Scalarize = (refl, (refl, (refl, (refl, (refl, (refl, tt))))))
+own_each family.ScalarFunctionize = (refl, (refl, (refl, (refl, tt))))
+own_each family.VectorFunctionize = (refl, (refl, (refl, (refl, (refl, tt)))))
+own_each family.VectorizeVar = (refl, (refl, (refl, tt)))
+own_each family.ObjFunctionize = (refl, (refl, tt))
+own_each family.SplitSet = (refl, (refl, (refl, (refl, tt))))
+own_each family.DropReals = (refl, (refl, tt))
+own_each family.ZerosVar = (refl, tt)
+own_each family.FreeVar = (refl, tt)
+own_each family.ScalarSlack = (refl, (refl, (refl, tt)))
+own_each family.VectorSlack = (refl, (refl, (refl, (refl, tt))))
+own_each family.Later = (refl, (refl, (refl, (refl, (refl, (refl, (refl, (refl, (refl, tt)))))))))
+own_each family.ObjSlack = (refl, (refl, tt))
+own_each family.NormInfinity = (refl, tt)
+own_each family.NormOne = (refl, tt)
+
+own_edges : (f : Family) → All (OfFamily f) (edges_of f)
+own_edges f = All-from_recursion (OfFamily f) (edges_of f) (own_each f)
 
 abbrev pub Lawful : Edge → Type 0
 Lawful edge = (item : Item) → IsItemFor edge item → EdgeLaw edge item (image_of edge item)

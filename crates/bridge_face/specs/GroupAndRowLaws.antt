@@ -28,8 +28,9 @@ use Rattle.bridge_face.specs.ComponentLaws.{contained_or_not, dot_missed, length
 use Rattle.bridge_face.specs.GroupLaws.{child_group_valid, group_gap, group_numbers, has_components, held_of}
 use Rattle.bridge_face.specs.ImageOf.{group_at, inner}
 use Rattle.bridge_face.specs.Images.{child_at}
-use Rattle.bridge_face.specs.Law.{Balances, CarriesValues, ChildDuals, EdgeLaw, GrowsBy, HasComponents, HoldsAt, IsCovered, IsValidWithin, LeadsTo, MentionsKnown, Miss, expressed, growth, held_body, held_children, held_item}
-use Rattle.bridge_face.specs.OneRowLaws.{IsRow, held_row, row_held, source_held}
+use Rattle.bridge_face.specs.ChildDualLaws.{carries_duals}
+use Rattle.bridge_face.specs.Law.{Balances, CarriesValues, ChildDuals, EdgeLaw, GrowsBy, HasComponents, HoldsAt, IsCovered, IsValidWithin, LeadsTo, MentionsKnown, Miss, growth, held_body, held_children, held_item}
+use Rattle.bridge_face.specs.OneRowLaws.{IsRow, held_row, row_held, row_stands, row_values}
 use Rattle.item_core.specs.declared.image.Expression.{Expression}
 
 -- the numbers that the row's duals leave for the components
@@ -125,21 +126,13 @@ module _
   abbrev fs : List Function
   fs = functions_of child
 
-  item_is : (bound : Rational) (w : List Rational)
-      → held_item bound item image w ≡ row_held item.body w
-  item_is bound w = source_held bound item.body w (map expressed image.exprs) o.source
-
   values : CarriesValues item image
-  values = record {
-    holds = λ no one x h below.
-        subst (λ k. Holds one k x) (sym (item_is zero_ℚ []))
-        (o.values one x h
-        (subst (In (multiplied one set)) (evaluations_variables one ss x)
-        (All-head (HoldsAt one x) group (row ∷ []) below))
-        (subst (λ k. Holds one k x) (held_row zero_ℚ child [] o.made)
-        (All-head (HoldsAt one x) row [] (All-tail (HoldsAt one x) group (row ∷ []) below))));
-    costs = λ one x h below. All-nil _;
-  }
+  values = row_values item image o.source refl (λ one x h below.
+      o.values one x h
+      (subst (In (multiplied one set)) (evaluations_variables one ss x)
+      (All-head (HoldsAt one x) group (row ∷ []) below))
+      (subst (λ k. Holds one k x) (held_row zero_ℚ child [] o.made)
+      (All-head (HoldsAt one x) row [] (All-tail (HoldsAt one x) group (row ∷ []) below))))
 
   abbrev duals_of : List Rational → List Rational → ChildDuals
   duals_of g y = record { groups = g ∷ []; rows = y ∷ []; objective = [] }
@@ -161,7 +154,7 @@ module _
     carried = b.carries.by_rule o.source.no_group o.source.no_objective
 
     w_is : held_item bound item image w ≡ row_held item.body (back_of edge item (y ∷ []))
-    w_is = item_is bound w ∙ ap (row_held item.body) carried
+    w_is = row_stands bound item image w o.source ∙ ap (row_held item.body) carried
 
     abbrev Agree : Address → Type 0
     Agree v =
@@ -183,7 +176,7 @@ module _
         neg_ℚ_unique (dot y (coefficients fs v)) (dot g (coefficients (variables ss) v))
         (+ℚ_comm (dot y (coefficients fs v)) (dot g (coefficients (variables ss) v))
         ∙ sym (ap (λ q. dot g (coefficients (variables ss) v) +ℚ q) (of_row v))
-        ∙ sym e ∙ ap (λ k. adjoint_of k v) (item_is bound w)
+        ∙ sym e ∙ ap (λ k. adjoint_of k v) (row_stands bound item image w o.source)
         ∙ dot_missed w (functions_of item.body) v m)
 
     misses : All (λ v. Miss (functions_of item.body) v) ss
@@ -230,23 +223,13 @@ module _
           (sym w_is) (o.gaps y row_held_by dual_there));
     }
 
-  covered : (bound : Rational) (gs ys os : List (List Rational)) (w : List Rational)
-      → Balances bound edge item image (record { groups = gs; rows = ys; objective = os }) w
-      → IsCovered bound item image (record { groups = gs; rows = ys; objective = os }) w
-  covered bound [] ys os w b = absurd (omega (arith, b.each.groups))
-  covered bound (g ∷ (k ∷ gs)) ys os w b = absurd (omega (arith, b.each.groups))
-  covered bound (g ∷ []) [] os w b = absurd (omega (arith, b.each.rows))
-  covered bound (g ∷ []) (y ∷ (z ∷ ys)) os w b = absurd (omega (arith, b.each.rows))
-  covered bound (g ∷ []) (y ∷ []) (u ∷ us) w b = absurd (omega (arith, b.each.objective))
-  covered bound (g ∷ []) (y ∷ []) [] w b = covered_by bound g y w b
-
   abbrev both : (P : Item → Type 0) → P group → P row → All P (group ∷ row ∷ [])
   both P p q = All-cons P group (row ∷ []) p (All-cons P row [] q (All-nil P))
 
   pub group_and_row_law : EdgeLaw edge item image
   group_and_row_law = record {
     values = values;
-    duals = λ bound duals w b. covered bound duals.groups duals.rows duals.objective w b;
+    duals = carries_duals edge item image (λ bound w g y b. covered_by bound g y w b);
     positions = refl;
     valid = λ room. both IsValidWithin (child_group_valid item set n o.some o.fits room)
         (second_row_valid item child o.row_shaped o.row_some o.row_fits o.row_apart room);

@@ -33,6 +33,7 @@ use Rattle.item_core.specs.Valid.{IsValidItem}
 use Rattle.bridge_face.specs.ComponentLaws.{constants-variables, contained_or_not, dot_missed, length-components, not_contained, variables, variables_missed, weighed, weighed_components}
 use Rattle.bridge_face.specs.ImageOf.{bridged, group_at, inner}
 use Rattle.bridge_face.specs.Images.{group_by}
+use Rattle.bridge_face.specs.ChildDualLaws.{carries_duals}
 use Rattle.bridge_face.specs.Law.{Balances, CarriesValues, ChildDuals, EdgeLaw, GrowsBy, HasComponents, HoldsAt, IsCovered, IsValidWithin, LeadsTo, MentionsKnown, Miss, expressed, growth, held_children, held_item, inner_of, row_functions, row_set}
 
 -- a group in a set of such a shape, of which the edge makes one of numbers at least 0
@@ -207,19 +208,10 @@ module _
           ∙ o.gaps w w_size dual_there ∙ sym (ap gap_of (item_is bound w)));
     }
 
-  covered : (bound : Rational) (gs ys os : List (List Rational)) (w : List Rational)
-      → Balances bound edge item image (record { groups = gs; rows = ys; objective = os }) w
-      → IsCovered bound item image (record { groups = gs; rows = ys; objective = os }) w
-  covered bound [] ys os w b = absurd (omega (arith, b.each.groups))
-  covered bound (g ∷ (k ∷ gs)) ys os w b = absurd (omega (arith, b.each.groups))
-  covered bound (g ∷ []) (y ∷ ys) os w b = absurd (omega (arith, b.each.rows))
-  covered bound (g ∷ []) [] (u ∷ us) w b = absurd (omega (arith, b.each.objective))
-  covered bound (g ∷ []) [] [] w b = covered_by bound g w b
-
   pub one_group_law : EdgeLaw edge item image
   one_group_law = record {
     values = values;
-    duals = λ bound duals w b. covered bound duals.groups duals.rows duals.objective w b;
+    duals = carries_duals edge item image (λ bound w g b. covered_by bound g w b);
     positions = refl;
     valid = λ room. All-cons IsValidWithin group []
         (child_group_valid item set n o.some o.fits room) (All-nil IsValidWithin);

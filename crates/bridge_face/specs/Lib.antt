@@ -2,6 +2,7 @@ pub mod Images
 pub mod BackOf
 pub mod ImageOf
 pub mod Law
+pub mod ChildDualLaws
 pub mod State
 pub mod Sources
 pub mod FamilyLaws

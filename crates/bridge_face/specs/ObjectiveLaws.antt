@@ -23,7 +23,8 @@ use Rattle.bridge_face.specs.FamilyLaws.{Rule, Sourced, lawful_by}
 use Rattle.bridge_face.specs.GroupLaws.{held_of}
 use Rattle.bridge_face.specs.ImageOf.{objective_at}
 use Rattle.bridge_face.specs.Images.{child_at}
-use Rattle.bridge_face.specs.Law.{Balances, CarriesValues, EdgeLaw, GrowsBy, HasComponents, IsCovered, IsLawful, IsValidWithin, LeadsTo, MentionsKnown, Miss, cost_of, expressed, growth, held_body, held_item, is_objective, row_functions, row_set}
+use Rattle.bridge_face.specs.ChildDualLaws.{carries_duals}
+use Rattle.bridge_face.specs.Law.{CarriesValues, EdgeLaw, GrowsBy, HasComponents, IsCovered, IsLawful, IsValidWithin, LeadsTo, MentionsKnown, Miss, cost_of, expressed, growth, held_body, held_item, is_objective, row_functions, row_set}
 use Rattle.set_core.specs.Shapes.{IsSetOf}
 use Rattle.bridge_face.specs.ComponentLaws.{all_unnamed_below, each_at}
 use Rattle.item_core.specs.declared.item.Body.TheVariants as body
@@ -132,17 +133,6 @@ module _ (edge : Edge) (item : Item) (child : Body) (valid : IsValidItem item)
             ≤ℚ_from_≡ _ _ (+ℚ-zero (gap_of (held_body bound child u)) ∙ sym (ap gap_of same_held));
       }
 
-  covered : (bound : Rational) (gs ys os : List (List Rational)) (w : List Rational)
-      → Balances bound edge item image (record { groups = gs; rows = ys; objective = os }) w
-      → IsCovered bound item image (record { groups = gs; rows = ys; objective = os }) w
-  covered bound (g ∷ gs) ys os w b = absurd (omega (arith, b.each.groups))
-  covered bound [] (y ∷ ys) os w b = absurd (omega (arith, b.each.rows))
-  covered bound [] [] [] w b = absurd (omega (arith, b.each.objective))
-  covered bound [] [] (u ∷ (z ∷ us)) w b = absurd (omega (arith, b.each.objective))
-  covered bound [] [] (u ∷ []) w b =
-      covered_by bound u w (b.carries.by_objective o.source)
-      (All-head IsHeld (held_body bound child u) [] b.hold)
-
   no_more : GrowsBy (growth (family_of edge)) item (child_at item 0 child)
   no_more =
       subst (λ n. length (functions_of child) ≤ n * length (functions_of item.body))
@@ -161,7 +151,9 @@ module _ (edge : Edge) (item : Item) (child : Body) (valid : IsValidItem item)
   one_objective_law : EdgeLaw edge item image
   one_objective_law = record {
     values = values;
-    duals = λ bound duals w b. covered bound duals.groups duals.rows duals.objective w b;
+    duals = carries_duals edge item image (λ bound w u b.
+        covered_by bound u w (b.carries.by_objective o.source)
+        (All-head IsHeld (held_body bound child u) [] b.hold));
     positions = refl;
     valid = λ room. All-cons IsValidWithin (child_at item 0 child) []
         (objective_valid item 0 child o.made (all_unnamed_below item.at 0 (functions_of child)

@@ -1,11 +1,11 @@
 -- The law of an edge that makes one row of a row, from what is said of the two rows alone.
-use Rattle.std.specs.Prelude.{◌≡◌, ◌*◌, ◌<◌, ◌≤◌, false, List, [], ◌∷◌, map, cond, length, refl}
-use Rattle.std.proofs.Common.{sym, ap, subst, ◌∙◌, arith, true≢false}
+use Rattle.std.specs.Prelude.{◌≡◌, ◌*◌, ◌<◌, ◌≤◌, false, All, List, [], ◌∷◌, map, cond, length, None, refl}
+use Rattle.std.proofs.Common.{sym, ap, subst, ◌∙◌, true≢false}
 use Rattle.std.proofs.lemmas.List.Elements.{All-cons, All-head, All-nil}
 use Rattle.ratio_core.specs.Rational.{Rational, zero_ℚ, ◌≤ℚ◌}
 use Rattle.rational_laws.specs.Field.{+ℚ-zero}
 use Rattle.aff_core.specs.Address.{Address}
-use Rattle.aff_core.specs.Function.{Function, coefficient}
+use Rattle.aff_core.specs.Function.{Function, coefficient, evaluated}
 use Rattle.dual_laws.specs.Held.{Held, Holds, IsHeld, adjoint_of, gap_of}
 use Rattle.set_core.specs.declared.set.Set.{Set}
 use Rattle.item_core.specs.declared.edge.Edge.{Edge}
@@ -20,12 +20,16 @@ use Rattle.item_core.specs.Valid.{IsValidItem}
 use Rattle.bridge_face.specs.BackOf.{back_of, first_of}
 use Rattle.bridge_face.specs.FamilyLaws.{Rule, Sourced}
 use Rattle.bridge_face.specs.Images.{child_at, row_at}
-use Rattle.bridge_face.specs.Law.{Balances, CarriesValues, EdgeLaw, GrowsBy, HasComponents, HoldsAt, IsCovered, IsValidWithin, LeadsTo, MentionsKnown, Miss, expressed, growth, held_body, held_item, is_objective, row_functions, row_set}
+use Rattle.bridge_face.specs.ChildDualLaws.{carries_duals}
+use Rattle.bridge_face.specs.Law.{CarriesValues, ChildrenHold, EdgeLaw, GrowsBy, HasComponents, HoldsAt, IsCovered, IsValidWithin, LeadsTo, MentionsKnown, Miss, cost_of, expressed, growth, held_body, held_item, is_objective, listed, row_functions, row_set}
 
 -- a row is neither a group nor an objective
 pub record IsRow (b : Body) : Type 0 where
   pub no_group : is_group b ≡ false
   pub no_objective : is_objective b ≡ false
+
+pub row : {b : Body} → is_group b ≡ false → is_objective b ≡ false → IsRow b
+row no_group no_objective = record { no_group = no_group; no_objective = no_objective }
 
 -- a body with duals
 abbrev pub row_held : Body → List Rational → Held
@@ -76,29 +80,39 @@ source_held bound (body.AffineVec funcs set) w fs r = refl
 source_held bound (body.PlainObj sense var) w fs r = absurd (true≢false r.no_objective)
 source_held bound (body.AffineObj sense func) w fs r = absurd (true≢false r.no_objective)
 
+-- a row stands over its children as itself
+pub row_stands : (bound : Rational) (item : Item) (image : Image) (w : List Rational)
+    → IsRow item.body → held_item bound item image w ≡ row_held item.body w
+row_stands bound item image w r = source_held bound item.body w (map expressed image.exprs) r
+
+-- so values are carried to it where it holds with them
+pub row_values : (item : Item) (image : Image) → IsRow item.body → image.objective ≡ None
+    → ((one : Rational) (x : Address → Rational) → zero_ℚ ≤ℚ one → ChildrenHold one x image
+    → Holds one (row_held item.body []) x)
+    → CarriesValues item image
+row_values item image r none h = record {
+  holds = λ no one x nonneg below.
+      subst (λ k. Holds one k x) (sym (row_stands zero_ℚ item image [] r)) (h one x nonneg below);
+  costs = λ one x nonneg below.
+      subst (λ o. All (λ child. evaluated one (cost_of item.body) x
+      ≤ℚ evaluated one (cost_of child.body) x) (listed o)) (sym none) (All-nil _);
+}
+
 module _ (edge : Edge) (item : Item) (child : Body) (o : OneRow edge item child) where
   abbrev image : Image
   image = row_at item child
 
-  source_is : (bound : Rational) (w : List Rational)
-      → held_item bound item image w ≡ row_held item.body w
-  source_is bound w = source_held bound item.body w (map expressed image.exprs) o.source
-
   values : CarriesValues item image
-  values = record {
-    holds = λ no one x h below.
-        subst (λ k. Holds one k x) (sym (source_is zero_ℚ []))
-        (o.values one x h (subst (λ k. Holds one k x) (held_row zero_ℚ child [] o.made)
-        (All-head (HoldsAt one x) (child_at item 0 child) [] below)));
-    costs = λ one x h below. All-nil _;
-  }
+  values = row_values item image o.source refl (λ one x h below.
+      o.values one x h (subst (λ k. Holds one k x) (held_row zero_ℚ child [] o.made)
+      (All-head (HoldsAt one x) (child_at item 0 child) [] below)))
 
   module _ (bound : Rational) (y w : List Rational) (w_is : w ≡ back_of edge item (y ∷ [])) where
     child_is : held_body bound child y ≡ row_held child y
     child_is = held_row bound child y o.made
 
     item_is : held_item bound item image w ≡ row_held item.body (back_of edge item (y ∷ []))
-    item_is = source_is bound w ∙ ap (row_held item.body) w_is
+    item_is = row_stands bound item image w o.source ∙ ap (row_held item.body) w_is
 
     covered_by : IsHeld (held_body bound child y)
         → IsCovered bound item image (record { groups = []; rows = y ∷ []; objective = [] }) w
@@ -115,21 +129,12 @@ module _ (edge : Edge) (item : Item) (child : Body) (o : OneRow edge item child)
           (o.gaps y (subst IsHeld child_is h)));
     }
 
-  covered : (bound : Rational) (gs ys os : List (List Rational)) (w : List Rational)
-      → Balances bound edge item image (record { groups = gs; rows = ys; objective = os }) w
-      → IsCovered bound item image (record { groups = gs; rows = ys; objective = os }) w
-  covered bound (g ∷ gs) ys os w b = absurd (omega (arith, b.each.groups))
-  covered bound [] [] os w b = absurd (omega (arith, b.each.rows))
-  covered bound [] (y ∷ (z ∷ ys)) os w b = absurd (omega (arith, b.each.rows))
-  covered bound [] (y ∷ []) (u ∷ us) w b = absurd (omega (arith, b.each.objective))
-  covered bound [] (y ∷ []) [] w b =
-      covered_by bound y w (b.carries.by_rule o.source.no_group o.source.no_objective)
-      (All-head IsHeld (held_body bound child y) [] b.hold)
-
   pub one_row_law : EdgeLaw edge item image
   one_row_law = record {
     values = values;
-    duals = λ bound duals w b. covered bound duals.groups duals.rows duals.objective w b;
+    duals = carries_duals edge item image (λ bound w y b.
+        covered_by bound y w (b.carries.by_rule o.source.no_group o.source.no_objective)
+        (All-head IsHeld (held_body bound child y) [] b.hold));
     positions = refl;
     valid = λ room. All-cons IsValidWithin (child_at item 0 child) [] (o.valid room)
         (All-nil IsValidWithin);

@@ -20,8 +20,8 @@ use Rattle.item_core.specs.Valid.{FitsItsFunction, NamesNothingBelow}
 use Rattle.bridge_face.specs.BackOf.{back_of}
 use Rattle.bridge_face.specs.ComponentLaws.{all_unnamed_below}
 use Rattle.bridge_face.specs.Images.{child_at, children_from, rows_at}
-use Rattle.bridge_face.specs.Law.{Balances, CarriesValues, ChildDuals, EdgeLaw, GrowsBy, HasComponents, HoldsAt, IsCovered, IsValidWithin, LeadsTo, MentionsKnown, Miss, StandsInOrder, children, expressed, growth, held, held_children, held_item}
-use Rattle.bridge_face.specs.OneRowLaws.{IsRow, held_row, row_held, source_held}
+use Rattle.bridge_face.specs.Law.{Balances, CarriesValues, ChildDuals, EdgeLaw, GrowsBy, HasComponents, HoldsAt, IsCovered, IsValidWithin, LeadsTo, MentionsKnown, Miss, StandsInOrder, children, growth, held, held_children, held_item}
+use Rattle.bridge_face.specs.OneRowLaws.{IsRow, held_row, row_held, row_stands, row_values}
 
 -- rows with their duals
 abbrev pub rows_held : List Body → List (List Rational) → List Held
@@ -130,17 +130,9 @@ module _ (edge : Edge) (item : Item) (bodies : List Body) (o : MadeOfRows edge i
   made : All IsRow bodies
   made = All-weaker (IsRowOf edge item) IsRow (λ b r. r.made) bodies o.each
 
-  item_is : (bound : Rational) (w : List Rational)
-      → held_item bound item image w ≡ row_held item.body w
-  item_is bound w = source_held bound item.body w (map expressed image.exprs) o.source
-
   values : CarriesValues item image
-  values = record {
-    holds = λ no one x h below.
-        subst (λ k. Holds one k x) (sym (item_is zero_ℚ []))
-        (o.values one x h (hold_from item one x 0 bodies made below));
-    costs = λ one x h below. All-nil _;
-  }
+  values = row_values item image o.source refl
+      (λ one x h below. o.values one x h (hold_from item one x 0 bodies made below))
 
   abbrev duals_of : List (List Rational) → ChildDuals
   duals_of ys = record { groups = []; rows = ys; objective = [] }
@@ -152,9 +144,9 @@ module _ (edge : Edge) (item : Item) (bodies : List Body) (o : MadeOfRows edge i
   covered_by : (bound : Rational) (ys : List (List Rational)) (w : List Rational)
       → Balances bound edge item image (duals_of ys) w → IsCovered bound item image (duals_of ys) w
   covered_by bound ys w b =
-      let w_is : held_item bound item image w ≡ row_held item.body (back_of edge item ys) = item_is
-      bound w ∙ ap (row_held item.body) (b.carries.by_rule o.source.no_group
-      o.source.no_objective) in
+      let w_is : held_item bound item image w ≡ row_held item.body (back_of edge item ys) =
+      row_stands bound item image w o.source ∙ ap (row_held item.body)
+      (b.carries.by_rule o.source.no_group o.source.no_objective) in
       let size : length ys ≡ length bodies = b.each.rows ∙ length-children_from item 0 bodies in
       let hold : DualsHold (rows_held bodies ys) = subst DualsHold (held_are bound ys) b.hold in
       record {

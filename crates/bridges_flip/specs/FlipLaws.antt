@@ -27,12 +27,12 @@ use Rattle.item_core.specs.declared.item.Body.{Body}
 use Rattle.item_core.specs.declared.item.Item.{Item}
 use Rattle.item_core.specs.declared.family.Family.{Family}
 use Rattle.item_core.specs.Edge.{family_of}
-use Rattle.item_core.specs.Item.{functions_of, is_group, set_of}
+use Rattle.item_core.specs.Item.{functions_of, set_of}
 use Rattle.item_core.specs.Valid.{FitsItsFunction, IsValidItem, NamesNothingBelow, below}
 use Rattle.bridge_face.specs.BackOf.{back_of}
 use Rattle.bridge_face.specs.FamilyLaws.{back_is, lawful_by}
 use Rattle.bridge_face.specs.Images.{row_at}
-use Rattle.bridge_face.specs.Law.{EdgeLaw, IsLawful, LeadsTo, Miss, growth, is_objective}
+use Rattle.bridge_face.specs.Law.{EdgeLaw, IsLawful, LeadsTo, Miss, growth}
 use Rattle.bridge_face.specs.OneRowLaws.{IsRow, OneRow, RowRule, one_row_law, row_held}
 
 -- two rows of which one is the other's flip
@@ -43,9 +43,6 @@ pub record FlipsTo (b child : Body) : Type 0 where
   pub functions : functions_of child ≡ map negated (functions_of b)
   pub set : set_of child ≡ mirrored (set_of b)
   pub no_norm_cone : is_norm_cone (set_of b) ≡ false
-
-pub row : {b : Body} → is_group b ≡ false → is_objective b ≡ false → IsRow b
-row no_group no_objective = record { no_group = no_group; no_objective = no_objective }
 
 pub flips_to : {b child : Body} → IsRow b → IsRow child → FitsItsFunction child
     → functions_of child ≡ map negated (functions_of b) → set_of child ≡ mirrored (set_of b)

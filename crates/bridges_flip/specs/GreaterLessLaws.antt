@@ -17,11 +17,11 @@ use Rattle.rational_laws.specs.Dot as numbers
 use Rattle.bridge_face.specs.BackOf.{back_by}
 use Rattle.bridge_face.specs.FamilyLaws.{Sourced, of_another}
 use Rattle.bridge_face.specs.ImageOf.{image_by}
-use Rattle.bridge_face.specs.OneRowLaws.{RowRule}
+use Rattle.bridge_face.specs.OneRowLaws.{RowRule, row}
 use Rattle.bridge_face.specs.Images.{function_of_body}
 use Rattle.bridge_face.specs.Law.{IsLawful}
 use Rattle.bridge_face.specs.Sources.{OfKind, affine_greater_than, affine_less_than, plain_greater_than, plain_less_than}
-use Rattle.bridges_flip.specs.FlipLaws.{FlipsTo, flip_lawful, flips_to, row}
+use Rattle.bridges_flip.specs.FlipLaws.{FlipsTo, flip_lawful, flips_to}
 
 -- a row with one bound
 pub data IsBound : Body → Type 0 where

@@ -8,8 +8,8 @@ use Rattle.item_core.specs.declared.edge.Edge.TheVariants.{E21, E22}
 use Rattle.item_core.specs.declared.edge.Edge.{Edge}
 use Rattle.bridge_face.specs.Law.{IsLawful}
 use Rattle.bridge_face.specs.ImageOf.{image_by}
-use Rattle.bridge_face.specs.OneRowLaws.{RowRule}
-use Rattle.bridges_flip.specs.FlipLaws.{FlipsTo, flip_lawful, flips_to, row}
+use Rattle.bridge_face.specs.OneRowLaws.{RowRule, row}
+use Rattle.bridges_flip.specs.FlipLaws.{FlipsTo, flip_lawful, flips_to}
 use Rattle.aff_core.specs.Function.{Function, negated}
 use Rattle.bridge_face.specs.FamilyLaws.{Sourced, of_another}
 use Rattle.set_core.specs.declared.set.Set.TheVariants.{Nonnegatives, Nonpositives}

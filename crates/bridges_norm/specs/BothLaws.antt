@@ -1,21 +1,30 @@
 -- Sums and differences of one function, or of functions, with others: what their numbers are, and
 -- where the norms are that they bound.
-use Rattle.std.specs.Prelude.{All, List, [], fold, length, map, refl, replicate, suc, zero, ℕ, ◌++◌, ◌∷◌, ◌≡◌, ◌≤◌}
+use Rattle.std.specs.Prelude.{All, List, [], drop, fold, length, map, refl, replicate, suc, take, zero, ℕ, ◌++◌, ◌+◌, ◌-◌, ◌∷◌, ◌≡◌, ◌≤◌}
 use Rattle.std.proofs.lemmas.List.Elements.{All-cons, All-drop, All-head, All-nil, All-tail, All-take}
 use Rattle.std.proofs.Common.{ap, ap₂, arith, subst, sym, ◌∙◌}
 use Rattle.std.proofs.Math.Seq.{drop-append_seam, take-append_seam}
-use Rattle.std.proofs.lemmas.List.{length-map, map-append}
+use Rattle.std.proofs.lemmas.List.{length-drop, length-map, length-take-le, map-append, take-append-drop}
 use Rattle.rational_laws.specs.Field.{+ℚ-zero, +ℚ_comm, +ℚ_inner_comm, neg_ℚ-neg_ℚ, neg_ℚ-zero, same_from_difference, zero-*ℚ, -ℚ-itself}
 use Rattle.bridge_face.specs.DifferenceLaws.{Adds, Subtracts}
 use Rattle.aff_core.specs.Function.{Function}
 use Rattle.ratio_core.specs.Rational.{Rational, abs_ℚ, neg_ℚ, zero_ℚ, ◌*ℚ◌, ◌+ℚ◌, ◌-ℚ◌, ◌≤ℚ◌}
 use Rattle.rational_laws.specs.Order.{abs_ℚ-+ℚ, abs_ℚ-neg_ℚ, abs_ℚ_at_most, abs_ℚ_nonneg, ≤ℚ-+ℚ, ≤ℚ_from_nonneg, ≤ℚ_from_≡, ≤ℚ_refl}
 use Rattle.rational_laws.specs.Ring.{as_expression, by_ring, ring₃, ring₅}
-use Rattle.bridge_face.specs.Images.{difference, first_in, rest_of}
-use Rattle.item_core.specs.Item.{functions_of}
+use Rattle.bridge_face.specs.BackOf.{size}
+use Rattle.bridge_face.specs.GroupLaws.{held_of}
+use Rattle.bridge_face.specs.Images.{difference, first_in, function_of_body, rest_of}
+use Rattle.bridge_face.specs.OneRowLaws.{row_held}
+use Rattle.dual_laws.specs.Held.{IsHeld}
+use Rattle.item_core.specs.Item.{functions_of, set_of}
+use Rattle.item_core.specs.Valid.{IsValidItem}
+use Rattle.item_core.specs.declared.item.Item.{Item}
+use Rattle.set_core.specs.Membership.{Dual}
+use Rattle.set_core.specs.Shapes.{IsSetOf, least_dimension}
+use Rattle.set_core.specs.declared.set.Set.{Set}
 use Rattle.item_core.specs.declared.item.Body.{Body}
 use Rattle.rational_laws.specs.Dot.{dot, minus, plus}
-use Rattle.rational_laws.specs.DotLaws.{dot-append, minus-dot}
+use Rattle.rational_laws.specs.DotLaws.{dot-append, length-minus, minus-dot}
 use Rattle.set_laws.specs.Norms.{norm}
 use Rattle.aff_core.specs.Arithmetic.{sum_of}
 use Rattle.rational_laws.specs.Sums.{sum_ℚ}
@@ -92,6 +101,19 @@ in_first P p q h = subst (All P) (take-append_seam p q) (All-take P (length p) (
 
 pub in_second : (P : Rational → Type 0) (p q : List Rational) → All P (p ++ q) → All P q
 in_second P p q h = subst (All P) (drop-append_seam p q) (All-drop P (length p) (p ++ q) h)
+
+-- a list as long as twice n
+pub record Halves (n : ℕ) (y : List Rational) : Type 0 where
+  pub whole : take n y ++ drop n y ≡ y
+  pub first : length (take n y) ≡ n
+  pub second : length (drop n y) ≡ n
+
+pub halves : (n : ℕ) (y : List Rational) → length y ≡ n + n → Halves n y
+halves n y long = record {
+  whole = take-append-drop n y;
+  first = length-take-le n y (omega (arith, long));
+  second = length-drop n y ∙ omega (arith, long);
+}
 
 -- ---- magnitudes
 
@@ -170,9 +192,44 @@ each_across (suc n) r (a ∷ p) (b ∷ q) e k low high same =
 abbrev pub others_of : Body → List Function
 others_of b = rest_of (functions_of b)
 
-pub begins : (fs : List Function) → 1 ≤ length fs → fs ≡ first_in fs ∷ rest_of fs
+begins : (fs : List Function) → 1 ≤ length fs → fs ≡ first_in fs ∷ rest_of fs
 begins [] h = absurd (omega (arith, h))
 begins (f ∷ fs) h = refl
+
+-- a row in a cone of two numbers or more, as its first function and the others
+pub record ConeRow (item : Item) (cone : Set) : Type 0 where
+  pub parts : functions_of item.body ≡ function_of_body item.body ∷ others_of item.body
+  pub some : 1 ≤ length (others_of item.body)
+  pub counted : size item - 1 ≡ length (others_of item.body)
+  pub is : (w : List Rational)
+      → row_held item.body w
+      ≡ held_of w (function_of_body item.body ∷ others_of item.body) cone
+  -- a number, and the differences of two lists
+  pub held : (a : Rational) (p q : List Rational) → length p ≡ length (others_of item.body)
+      → length q ≡ length (others_of item.body) → Dual cone (a ∷ minus q p)
+      → IsHeld (held_of (a ∷ minus q p) (function_of_body item.body ∷ others_of item.body) cone)
+
+pub cone_row : (item : Item) → IsValidItem item → (cone : Set) → set_of item.body ≡ cone
+    → 2 ≤ least_dimension cone → ConeRow item cone
+cone_row item valid cone set two =
+    let parts : functions_of item.body ≡ function_of_body item.body ∷ others_of item.body =
+    begins (functions_of item.body) valid.some in
+    let enough : least_dimension cone ≤ length (functions_of item.body) =
+    subst (λ s. least_dimension s ≤ length (functions_of item.body)) set valid.set.enough in
+    let e : length (functions_of item.body) ≡ suc (length (others_of item.body)) =
+    ap length parts in
+    record {
+      parts = parts;
+      some = omega (arith, two, enough, e);
+      counted = omega (arith, e);
+      is = λ w. ap₂ (held_of w) parts set;
+      held = λ a p q p_long q_long dual. record {
+        set = subst (λ gs. IsSetOf (length gs) cone) parts
+            (subst (IsSetOf (length (functions_of item.body))) set valid.set);
+        size = ap suc (length-minus q p (q_long ∙ sym p_long) ∙ p_long);
+        dual = dual;
+      };
+    }
 
 -- no numbers but zeros are left of zeros
 pub none_left : (v : List Rational) → All (λ q. q ≡ zero_ℚ) (numbers.negated v)

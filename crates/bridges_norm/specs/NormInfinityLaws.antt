@@ -2,7 +2,7 @@
 use Rattle.std.specs.Prelude.{All, List, [], drop, length, map, refl, suc, take, ℕ, ◌*◌, ◌++◌, ◌+◌, ◌-◌, ◌∷◌, ◌≡◌, ◌≤◌, Result}
 use Rattle.std.proofs.lemmas.List.Elements.{All-append, All-head, All-map, All-tail, All-weaker}
 use Rattle.std.proofs.Common.{ap, ap₂, arith, subst, sym, ◌∙◌}
-use Rattle.std.proofs.lemmas.List.{length-append, length-drop, length-map, length-take-le, map-append, take-append-drop}
+use Rattle.std.proofs.lemmas.List.{length-append, length-map, map-append}
 use Rattle.bridge_face.specs.BackOf.{AcrossFits, BackFits, BackFitsBy, across, back_by, back_of, size}
 use Rattle.aff_core.specs.Address.{Address, child_of}
 use Rattle.bridge_face.specs.DifferenceLaws.{Adds, Subtracts, coefficient-difference, constant-difference, evaluated-difference, evaluated-sum, less, missed-difference, missed-sum, unnamed-difference, unnamed-sum}
@@ -12,13 +12,12 @@ use Rattle.set_core.specs.Vectors.{DominatesEach, DominatesSum}
 use Rattle.item_core.specs.declared.edge.Edge.TheVariants.{E41}
 use Rattle.item_core.specs.declared.edge.Edge.{Edge}
 use Rattle.bridge_face.specs.Law.{IsLawful, LeadsTo, Miss, growth, IsItemFor}
-use Rattle.bridge_face.specs.ImageOf.{FitsBy, ImageFits, image_by, image_of}
-use Rattle.item_core.specs.Valid.{FitsItsFunction, IsValidItem, NamesNothingBelow}
+use Rattle.bridge_face.specs.ImageOf.{FitsBy, ImageFits, image_by}
+use Rattle.item_core.specs.Valid.{IsValidItem, NamesNothingBelow}
 use Rattle.ratio_core.specs.Folds.{FoldFits, sum_from}
 use Rattle.aff_core.specs.Function.{Function, coefficient, evaluated, negated}
 use Rattle.dual_laws.specs.Held.{Holds, IsHeld, adjoint_of, gap_of}
 use Rattle.bridge_face.specs.OneRowLaws.{IsRow, OneRow, one_row_law, row_held}
-use Rattle.set_core.specs.Shapes.{IsSetOf, least_dimension}
 use Rattle.item_core.specs.declared.item.Item.{Item}
 use Rattle.bridge_face.specs.FamilyLaws.{Rule, back_is, dual_sizes, image_is, kept_by, lawful_by, of_another, source_is}
 use Rattle.bridge_face.specs.BackOf as backs
@@ -29,7 +28,7 @@ use Rattle.aff_core.specs.Arithmetic.{PlusFits, sum_of, ExactWhere}
 use Rattle.ratio_core.specs.Rational.{Rational, zero_ℚ, ◌+ℚ◌, ◌-ℚ◌, ◌≤ℚ◌}
 use Rattle.aff_core.specs.KeyOrder.{address_order}
 use Rattle.bridge_face.specs.ComponentLaws.{all_unnamed_below}
-use Rattle.bridges_norm.specs.BothLaws.{begins, dot_both, each_below, first_size, in_first, in_second, less_each, more_each, norm_across, others_of}
+use Rattle.bridges_norm.specs.BothLaws.{ConeRow, Halves, cone_row, dot_both, each_below, first_size, halves, in_first, in_second, less_each, more_each, norm_across, others_of}
 use Rattle.aff_core.specs.ArithmeticLaws.{coefficient-sum_of, constant-sum_of}
 use Rattle.bridge_face.specs.Images.{difference, function_of_body, rest_of, row_at, first_in}
 use Rattle.rational_laws.specs.Dot.{dot, minus}
@@ -39,7 +38,6 @@ use Rattle.rational_laws.specs.Sums.{fold_ℚ, sum_ℚ, sum_ℚ-append}
 use Rattle.item_core.specs.Item.{functions_of, set_of}
 use Rattle.bridge_face.specs.GroupLaws.{held_of}
 use Rattle.item_core.specs.KindOf.{kind_of_body}
-use Rattle.rational_laws.specs.DotLaws.{length-minus}
 use Rattle.set_laws.specs.Norms.{norm_dominated}
 use Rattle.rational_laws.specs.Field.{zero-+ℚ}
 use Rattle.rational_laws.specs.Order.{≤ℚ_from_≡}
@@ -47,7 +45,6 @@ use Rattle.aff_core.specs.declared.fault.AffFault.{AffFault}
 use Rattle.bridge_face.specs.State.{TakesDuals}
 use Rattle.aff_core.specs.AnsweredLaws.{exact_as}
 use Rattle.set_core.specs.declared.set.Set.{Set}
-use Rattle.item_core.specs.declared.kind.Kind.TheVariants as kind
 
 -- a row in the cone
 pub data InNormInfinity : Body → Type 0 where
@@ -139,30 +136,16 @@ module _ (edge : Edge) (own : family_of edge ≡ NormInfinity) where
     abbrev both : List Function
     both = less_each t xs ++ more_each t xs
 
-    parts : fs ≡ t ∷ xs
-    parts = begins fs valid.some
-
-    -- there are others beside the first
-    some : 1 ≤ n
-    some =
-        let two : 2 ≤ length fs = subst (λ s. least_dimension s ≤ length fs) r.set valid.set.enough
-        in
-        let e : length fs ≡ suc n = ap length parts in omega (arith, two, e)
-
-    counted : size item - 1 ≡ n
-    counted = let e : length fs ≡ suc n = ap length parts in omega (arith, e)
+    cone : ConeRow item (NormInfinityCone r.count)
+    cone = cone_row item valid (NormInfinityCone r.count) r.set (omega arith)
 
     long : length both ≡ n + n
     long =
         length-append (less_each t xs) (more_each t xs)
         ∙ ap₂ ◌+◌ (length-map xs (difference t)) (length-map xs (sum_of t))
 
-    item_is : (w : List Rational)
-        → row_held item.body w ≡ held_of w (t ∷ xs) (NormInfinityCone r.count)
-    item_is w = ap₂ (held_of w) parts r.set
-
     unnamed : All (NamesNothingBelow item.at) (t ∷ xs)
-    unnamed = subst (All (NamesNothingBelow item.at)) parts (valid.others r.row.no_group)
+    unnamed = subst (All (NamesNothingBelow item.at)) cone.parts (valid.others r.row.no_group)
 
     evaluations-less : (one : Rational) (x : Address → Rational) (gs : List Function)
         → evaluations one (less_each t gs) x
@@ -199,17 +182,8 @@ module _ (edge : Edge) (own : family_of edge ≡ NormInfinity) where
       abbrev q : List Rational
       q = drop n y
 
-      whole : p ++ q ≡ y
-      whole = take-append-drop n y
-
-      y_long : length y ≡ n + n
-      y_long = h.size ∙ long
-
-      p_long : length p ≡ n
-      p_long = length-take-le n y (omega (arith, y_long))
-
-      q_long : length q ≡ n
-      q_long = length-drop n y ∙ (omega (arith, y_long))
+      two : Halves n y
+      two = halves n y (h.size ∙ long)
 
       abbrev w : List Rational
       w = (sum_ℚ p +ℚ sum_ℚ q) ∷ minus q p
@@ -218,34 +192,30 @@ module _ (edge : Edge) (own : family_of edge ≡ NormInfinity) where
       back_parts =
           back_is rule edge own item (y ∷ [])
           ∙ ap₂ (λ s d. s ∷ d)
-          (fold_ℚ zero_ℚ y ∙ zero-+ℚ (sum_ℚ y) ∙ ap sum_ℚ (sym whole) ∙ sum_ℚ-append p q)
-          (ap (λ m. across m y) counted)
+          (fold_ℚ zero_ℚ y ∙ zero-+ℚ (sum_ℚ y) ∙ ap sum_ℚ (sym two.whole) ∙ sum_ℚ-append p q)
+          (ap (λ m. across m y) cone.counted)
 
       carried : row_held item.body (back_of edge item (y ∷ []))
           ≡ held_of w (t ∷ xs) (NormInfinityCone r.count)
-      carried = ap (row_held item.body) back_parts ∙ item_is w
+      carried = ap (row_held item.body) back_parts ∙ cone.is w
 
       products : (g : Function → Rational) → Subtracts g → Adds g
           → dot w (map g (t ∷ xs)) ≡ dot y (map g both)
       products g s a =
-          sym (ap (λ z. dot z (map g both)) (sym whole) ∙ dot_both g s a t p q xs p_long q_long)
+          sym (ap (λ z. dot z (map g both)) (sym two.whole)
+          ∙ dot_both g s a t p q xs two.first two.second)
 
       nonneg : All (λ q. zero_ℚ ≤ℚ q) (p ++ q)
-      nonneg = subst (All (λ q. zero_ℚ ≤ℚ q)) (sym whole) h.dual
+      nonneg = subst (All (λ q. zero_ℚ ≤ℚ q)) (sym two.whole) h.dual
 
       dominated : DominatesSum w
       dominated =
           norm_dominated (sum_ℚ p +ℚ sum_ℚ q) (minus q p)
-          (norm_across p q (p_long ∙ sym q_long) (in_first (λ q. zero_ℚ ≤ℚ q) p q nonneg)
+          (norm_across p q (two.first ∙ sym two.second) (in_first (λ q. zero_ℚ ≤ℚ q) p q nonneg)
           (in_second (λ q. zero_ℚ ≤ℚ q) p q nonneg))
 
       holds : IsHeld (held_of w (t ∷ xs) (NormInfinityCone r.count))
-      holds = record {
-        set = subst (λ gs. IsSetOf (length gs) (NormInfinityCone r.count)) parts
-            (subst (IsSetOf (length fs)) r.set valid.set);
-        size = ap suc (length-minus q p (q_long ∙ sym p_long) ∙ p_long);
-        dual = dominated;
-      }
+      holds = cone.held (sum_ℚ p +ℚ sum_ℚ q) p q two.first two.second dominated
 
       gap_same : gap_of (row_held (made item.body) y)
           ≡ gap_of (held_of w (t ∷ xs) (NormInfinityCone r.count))
@@ -268,7 +238,7 @@ module _ (edge : Edge) (own : family_of edge ≡ NormInfinity) where
     one_row = record {
       source = r.row;
       made = record { no_group = refl; no_objective = refl };
-      values = λ one x h below. subst (λ k. Holds one k x) (sym (item_is [])) (values one x below);
+      values = λ one x h below. subst (λ k. Holds one k x) (sym (cone.is [])) (values one x below);
       holds = λ y h. subst IsHeld (sym (carried y h)) (holds y h);
       same = λ y h v.
           ap (λ k. adjoint_of k v) (carried y h)
@@ -277,9 +247,13 @@ module _ (edge : Edge) (own : family_of edge ≡ NormInfinity) where
       gaps = λ y h. ≤ℚ_from_≡ _ _ (gap_same y h ∙ sym (ap gap_of (carried y h)));
       valid = λ room few. record {
         function = refl;
-        some = omega (arith, long, some);
+        some = omega (arith, long, cone.some);
         at_most = few;
-        set = record { dimension = sym long; enough = omega (arith, long, some); uncrossed = refl };
+        set = record {
+          dimension = sym long;
+          enough = omega (arith, long, cone.some);
+          uncrossed = refl;
+        };
         depth = subst (λ m. m ≤ 38) (sym (length-append item.at.positions (0 ∷ [])))
             (omega (arith, room));
         others = λ _.
@@ -288,11 +262,11 @@ module _ (edge : Edge) (own : family_of edge ≡ NormInfinity) where
             (all_unnamed_below item.at 0 (t ∷ xs) unnamed);
       };
       sizes = subst (λ m. length both ≤ m * length fs) (sym (ap growth own))
-          (let e : length fs ≡ suc n = ap length parts in omega (arith, long, e));
+          (let e : length fs ≡ suc n = ap length cone.parts in omega (arith, long, e));
       leads = r.leads (n + n) both;
       mentioned = λ v m.
           all_both (λ f. coefficient f v ≡ zero_ℚ) (missed-difference v) (missed-sum v)
-          (subst (λ gs. Miss gs v) parts m);
+          (subst (λ gs. Miss gs v) cone.parts m);
     }
 
   -- the dual has two numbers for each other function
@@ -307,7 +281,7 @@ module _ (edge : Edge) (own : family_of edge ≡ NormInfinity) where
       ∙ dual_sizes edge item (row_at item (made item.body)) (image_is rule edge own item) ys
       takes in
       ap first_size sizes ∙ long item suits.valid r
-      ∙ ap₂ ◌+◌ (sym (counted item suits.valid r)) (sym (counted item suits.valid r))
+      ∙ ap₂ ◌+◌ (sym (cone item suits.valid r).counted) (sym (cone item suits.valid r).counted)
 
   -- what is carried back by the sum of the dual and the differences of its halves
   pub back_made : (item : Item) (ys : List (List Rational)) (y now : List Rational) (half : ℕ)

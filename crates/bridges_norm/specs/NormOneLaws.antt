@@ -2,11 +2,11 @@
 use Rattle.std.specs.Prelude.{All, List, [], drop, fold, length, map, refl, replicate, suc, take, ℕ, ◌*◌, ◌++◌, ◌+◌, ◌-◌, ◌∷◌, ◌≡◌, ◌≤◌, Result}
 use Rattle.std.proofs.lemmas.List.Elements.{All-append, All-cons, All-head, All-map, All-tail}
 use Rattle.std.proofs.Common.{ap, ap₂, arith, subst, sym, ◌∙◌}
-use Rattle.std.proofs.lemmas.List.{length-append, length-drop, length-map, length-replicate, length-take-le, map-append, take-append-drop}
+use Rattle.std.proofs.lemmas.List.{length-append, length-map, length-replicate, map-append}
 use Rattle.rational_laws.specs.Field.{*ℚ--ℚ, +ℚ-zero, zero-+ℚ}
 use Rattle.bridge_face.specs.BackOf.{AcrossFits, BackFits, BackFitsBy, across, back_by, back_of, head_of, size, tail_of}
 use Rattle.aff_core.specs.Address.{Address, child_of}
-use Rattle.bridge_face.specs.DifferenceLaws.{Adds, Subtracts, all_differences, all_sums, coefficient-difference, constant-difference, dot-differences, evaluated-difference, evaluated-sum, length-differences, length-sums, less, missed-difference, missed-sum, numbers-differences, numbers-sums, unnamed-difference, unnamed-sum}
+use Rattle.bridge_face.specs.DifferenceLaws.{Adds, Subtracts, all_paired, coefficient-difference, constant-difference, dot-differences, evaluated-difference, evaluated-sum, length-differences, length-sums, less, missed-difference, missed-sum, numbers-differences, numbers-sums, unnamed-difference, unnamed-sum}
 use Rattle.item_core.specs.declared.item.Body.TheVariants.{AffineVec, Group}
 use Rattle.item_core.specs.declared.item.Body.{Body}
 use Rattle.bridge_face.specs.ImageOf.{DifferencesFit, EachSumFits, FitsBy, ImageFits, differences, image_by, image_of, inner, inner_functions, negations, norm_one, sums}
@@ -14,12 +14,11 @@ use Rattle.set_core.specs.Vectors.{DominatesSum}
 use Rattle.item_core.specs.declared.edge.Edge.TheVariants.{E42}
 use Rattle.item_core.specs.declared.edge.Edge.{Edge}
 use Rattle.bridge_face.specs.Law.{IsLawful, LeadsTo, Miss, growth, IsItemFor}
-use Rattle.item_core.specs.Valid.{FitsItsFunction, IsValidItem, NamesNothingBelow}
+use Rattle.item_core.specs.Valid.{IsValidItem, NamesNothingBelow}
 use Rattle.aff_core.specs.Function.{Function, coefficient, evaluated, variable}
 use Rattle.bridge_face.specs.GroupAndRowLaws.{GroupAndRow, group_and_row_law, left_over, group_and_row_made}
 use Rattle.dual_laws.specs.Held.{Holds, IsHeld, adjoint_of, gap_of}
 use Rattle.bridge_face.specs.OneRowLaws.{IsRow, row_held}
-use Rattle.set_core.specs.Shapes.{IsSetOf, least_dimension}
 use Rattle.item_core.specs.declared.item.Item.{Item}
 use Rattle.bridge_face.specs.FamilyLaws.{Rule, back_is, dual_sizes, image_is, kept_by, lawful_by, length-tail, of_another, source_is}
 use Rattle.bridge_face.specs.BackOf as backs
@@ -28,7 +27,7 @@ use Rattle.item_core.specs.declared.family.Family.TheVariants.{NormOne}
 use Rattle.bridge_face.specs.Sources.{OfKind, vaffine_norm_one_cone}
 use Rattle.ratio_core.specs.Rational.{Rational, zero_ℚ, ◌*ℚ◌, ◌+ℚ◌, ◌-ℚ◌, ◌≤ℚ◌}
 use Rattle.aff_core.specs.KeyOrder.{address_order}
-use Rattle.bridges_norm.specs.BothLaws.{all_fold, begins, each_across, first_size, in_first, in_second, none_left, norm_below, number-fold, others_of}
+use Rattle.bridges_norm.specs.BothLaws.{ConeRow, Halves, all_fold, cone_row, each_across, first_size, halves, in_first, in_second, none_left, norm_below, number-fold, others_of}
 use Rattle.bridge_face.specs.ComponentLaws.{all_unnamed_below, components_apart, constants-variables, dot_missed, length-components, misses_inner, not_contained, variables, variables_missed, weighed, weighed_components}
 use Rattle.rational_laws.specs.Ring.{as_expression, by_ring, ring₆}
 use Rattle.aff_core.specs.ArithmeticLaws.{coefficient-sum_of, constant-sum_of}
@@ -51,7 +50,6 @@ use Rattle.set_core.specs.declared.set.Set.{Set}
 use Rattle.bridge_face.specs.State.{TakesDuals}
 use Rattle.aff_core.specs.AnsweredLaws.{exact_as}
 use Rattle.bridge_face.specs.GroupAndRowLaws as images
-use Rattle.item_core.specs.declared.kind.Kind.TheVariants as kind
 use Rattle.rational_laws.specs.Dot as numbers
 
 -- a row in the cone
@@ -186,17 +184,8 @@ module _ (edge : Edge) (own : family_of edge ≡ NormOne) where
     abbrev rows : List Function
     rows = made_functions item
 
-    parts : fs ≡ t ∷ xs
-    parts = begins fs valid.some
-
-    some : 1 ≤ n
-    some =
-        let two : 2 ≤ length fs = subst (λ s. least_dimension s ≤ length fs) r.set valid.set.enough
-        in
-        let e : length fs ≡ suc n = ap length parts in omega (arith, two, e)
-
-    counted : size item - 1 ≡ n
-    counted = let e : length fs ≡ suc n = ap length parts in omega (arith, e)
+    cone : ConeRow item (NormOneCone r.count)
+    cone = cone_row item valid (NormOneCone r.count) r.set (omega arith)
 
     s_long : length ss ≡ n
     s_long = length-map vs variable ∙ length-components (child_of item.at 0) n
@@ -207,11 +196,8 @@ module _ (edge : Edge) (own : family_of edge ≡ NormOne) where
         (length-append (differences ss xs) (sums ss xs)
         ∙ ap₂ ◌+◌ (length-differences ss xs s_long ∙ s_long) (length-sums ss xs s_long ∙ s_long))
 
-    item_is : (w : List Rational) → row_held item.body w ≡ held_of w (t ∷ xs) (NormOneCone r.count)
-    item_is w = ap₂ (held_of w) parts r.set
-
     unnamed : All (NamesNothingBelow item.at) (t ∷ xs)
-    unnamed = subst (All (NamesNothingBelow item.at)) parts (valid.others r.row.no_group)
+    unnamed = subst (All (NamesNothingBelow item.at)) cone.parts (valid.others r.row.no_group)
 
     misses : All (λ v. Miss (t ∷ xs) v) vs
     misses = misses_inner item.at n (t ∷ xs) unnamed
@@ -263,37 +249,28 @@ module _ (edge : Edge) (own : family_of edge ≡ NormOne) where
       y_is : y ≡ a ∷ rest
       y_is = starts y (omega (arith, y_long))
 
-      rest_long : length rest ≡ n + n
-      rest_long = length-tail y (n + n) y_long
-
-      whole : p ++ q ≡ rest
-      whole = take-append-drop n rest
+      two : Halves n rest
+      two = halves n rest (length-tail y (n + n) y_long)
 
       y_parts : y ≡ a ∷ (p ++ q)
-      y_parts = y_is ∙ ap (λ z. a ∷ z) (sym whole)
-
-      p_long : length p ≡ n
-      p_long = length-take-le n rest (omega (arith, rest_long))
-
-      q_long : length q ≡ n
-      q_long = length-drop n rest ∙ omega (arith, rest_long)
+      y_parts = y_is ∙ ap (λ z. a ∷ z) (sym two.whole)
 
       abbrev w : List Rational
       w = a ∷ minus q p
 
       back_parts : back_of edge item (y ∷ []) ≡ w
-      back_parts = back_is rule edge own item (y ∷ []) ∙ ap (λ m. a ∷ across m rest) counted
+      back_parts = back_is rule edge own item (y ∷ []) ∙ ap (λ m. a ∷ across m rest) cone.counted
 
       carried : row_held item.body (back_of edge item (y ∷ []))
           ≡ held_of w (t ∷ xs) (NormOneCone r.count)
-      carried = ap (row_held item.body) back_parts ∙ item_is w
+      carried = ap (row_held item.body) back_parts ∙ cone.is w
 
       -- what is left for the bounds: p + q less the first number
       abbrev z : List Rational
       z = minus (plus p q) (replicate n a)
 
       plus_long : length (plus p q) ≡ n
-      plus_long = length-plus p q (p_long ∙ sym q_long) ∙ q_long
+      plus_long = length-plus p q (two.first ∙ sym two.second) ∙ two.second
 
       z_long : length z ≡ n
       z_long = length-minus (plus p q) (replicate n a) (plus_long ∙ sym (length-replicate n a))
@@ -302,7 +279,7 @@ module _ (edge : Edge) (own : family_of edge ≡ NormOne) where
       left_product : (v : List Rational) → length v ≡ n
           → (dot p v +ℚ dot q v) -ℚ a *ℚ sum_ℚ v ≡ dot z v
       left_product v e =
-          ap₂ ◌-ℚ◌ (sym (plus-dot p q v (p_long ∙ sym q_long)))
+          ap₂ ◌-ℚ◌ (sym (plus-dot p q v (two.first ∙ sym two.second)))
           (sym (dot-replicate v a) ∙ ap (λ m. dot v (replicate m a)) e ∙ dot_comm v (replicate n a))
           ∙ sym (minus-dot (plus p q) (replicate n a) v (plus_long ∙ sym (length-replicate n a)))
 
@@ -315,13 +292,13 @@ module _ (edge : Edge) (own : family_of edge ≡ NormOne) where
           ∙ ap₂ (λ u v. a *ℚ u +ℚ v) (number-fold g s t ss)
           (ap (dot (p ++ q)) (map-append g (differences ss xs) (sums ss xs))
           ∙ dot-append p (map g (differences ss xs)) q (map g (sums ss xs))
-          (p_long ∙ sym (length-map (differences ss xs) g ∙ length-differences ss xs s_long
+          (two.first ∙ sym (length-map (differences ss xs) g ∙ length-differences ss xs s_long
           ∙ s_long))
           ∙ ap₂ ◌+ℚ◌ (dot-differences p ss xs s_long g s)
           (ap (dot q) (numbers-sums g d ss xs)
           ∙ dot-plus q gs gx (length-map ss g ∙ s_long ∙ sym (length-map xs g))))
           ∙ parted_sums a (g t) (sum_ℚ gs) (dot p gs) (dot p gx) (dot q gs) (dot q gx)
-          ∙ ap₂ ◌+ℚ◌ (ap (λ u. a *ℚ g t +ℚ u) (sym (minus-dot q p gx (q_long ∙ sym p_long))))
+          ∙ ap₂ ◌+ℚ◌ (ap (λ u. a *ℚ g t +ℚ u) (sym (minus-dot q p gx (two.second ∙ sym two.first))))
           (left_product gs (length-map ss g ∙ s_long))
 
       -- where the bounds have no numbers
@@ -357,15 +334,11 @@ module _ (edge : Edge) (own : family_of edge ≡ NormOne) where
 
       holds : All (λ u. u ≡ zero_ℚ) (left_over y rows vs)
           → IsHeld (held_of w (t ∷ xs) (NormOneCone r.count))
-      holds there = record {
-        set = subst (λ gs. IsSetOf (length gs) (NormOneCone r.count)) parts
-            (subst (IsSetOf (length fs)) r.set valid.set);
-        size = ap suc (length-minus q p (q_long ∙ sym p_long) ∙ p_long);
-        dual =
-            each_across n a p q p_long q_long
-            (in_first (λ u. zero_ℚ ≤ℚ u) p q nonneg) (in_second (λ u. zero_ℚ ≤ℚ u) p q nonneg)
-            (none_left z (subst (All (λ u. u ≡ zero_ℚ)) left_is there));
-      }
+      holds there =
+          cone.held a p q two.first two.second
+          (each_across n a p q two.first two.second
+          (in_first (λ u. zero_ℚ ≤ℚ u) p q nonneg) (in_second (λ u. zero_ℚ ≤ℚ u) p q nonneg)
+          (none_left z (subst (All (λ u. u ≡ zero_ℚ)) left_is there)))
 
       gap_same : zero_ℚ +ℚ gap_of (row_held (made item) y)
           ≡ gap_of (held_of w (t ∷ xs) (NormOneCone r.count))
@@ -381,15 +354,15 @@ module _ (edge : Edge) (own : family_of edge ≡ NormOne) where
         All-cons P (fold difference t ss) (differences ss xs ++ sums ss xs)
         (all_fold P less t ss (All-head P t xs all) bounds)
         (All-append P (differences ss xs) (sums ss xs)
-        (all_differences P less ss xs bounds (All-tail P t xs all))
-        (all_sums P more ss xs bounds (All-tail P t xs all)))
+        (all_paired difference P less ss xs bounds (All-tail P t xs all))
+        (all_paired sum_of P more ss xs bounds (All-tail P t xs all)))
 
     group_and_row : GroupAndRow edge item (Reals n) n (made item)
     group_and_row = record {
       item_valid = valid;
       source = r.row;
       made = record { no_group = refl; no_objective = refl };
-      values = λ one x h inside below. subst (λ k. Holds one k x) (sym (item_is []))
+      values = λ one x h inside below. subst (λ k. Holds one k x) (sym (cone.is []))
           (values one x below);
       holds = λ y h there. subst IsHeld (sym (carried y h)) (holds y h there);
       same = λ y h v absent.
@@ -399,10 +372,10 @@ module _ (edge : Edge) (own : family_of edge ≡ NormOne) where
           (All-map (λ u. u ≡ zero_ℚ) (λ f. coefficient f v) ss
           (variables_missed vs v (not_contained vs v absent)));
       gaps = λ y h there. ≤ℚ_from_≡ _ _ (gap_same y h ∙ sym (ap gap_of (carried y h)));
-      some = some;
-      fits = record { dimension = refl; enough = some; uncrossed = refl };
+      some = cone.some;
+      fits = record { dimension = refl; enough = cone.some; uncrossed = refl };
       grows = subst (λ m. n ≤ m * length fs) (sym (ap growth own))
-          (let e : length fs ≡ suc n = ap length parts in omega (arith, e));
+          (let e : length fs ≡ suc n = ap length cone.parts in omega (arith, e));
       leads = r.group_leads n vs;
       row_shaped = refl;
       row_some = omega (arith, long);
@@ -417,11 +390,11 @@ module _ (edge : Edge) (own : family_of edge ≡ NormOne) where
           (all_unnamed_below item.at 1 (t ∷ xs) unnamed)
           (components_apart item.at 1 n (omega arith));
       row_grows = subst (λ m. length rows ≤ m * length fs) (sym (ap growth own))
-          (let e : length fs ≡ suc n = ap length parts in omega (arith, long, e));
+          (let e : length fs ≡ suc n = ap length cone.parts in omega (arith, long, e));
       row_leads = r.leads (n + n + 1) rows;
       mentioned = λ v m absent.
           all_made (λ f. coefficient f v ≡ zero_ℚ) (missed-difference v) (missed-sum v)
-          (subst (λ gs. Miss gs v) parts m)
+          (subst (λ gs. Miss gs v) cone.parts m)
           (variables_missed vs v (not_contained vs v absent));
     }
 
@@ -430,7 +403,7 @@ module _ (edge : Edge) (own : family_of edge ≡ NormOne) where
       → k - 1 ≡ length (others_of item.body)
   others_count item suits k e =
       ap (λ m. m - 1) e
-      ∙ counted item suits.valid (source_is rule edge own item suits)
+      ∙ (cone item suits.valid (source_is rule edge own item suits)).counted
 
   -- the dual has one number, and two for each other function
   pub dual_long : (item : Item) → IsItemFor edge item
@@ -442,7 +415,8 @@ module _ (edge : Edge) (own : family_of edge ≡ NormOne) where
       let sizes : length y ∷ [] ≡ length (made_functions item) ∷ [] = ap (map length) (sym ys_are)
       ∙ dual_sizes edge item (norm_one item) (image_is rule edge own item) ys takes in
       ap first_size sizes ∙ long item suits.valid r
-      ∙ ap suc (ap₂ ◌+◌ (sym (counted item suits.valid r)) (sym (counted item suits.valid r)))
+      ∙ ap suc
+      (ap₂ ◌+◌ (sym (cone item suits.valid r).counted) (sym (cone item suits.valid r).counted))
 
   -- what is carried back by the first number and the differences of the halves of the others
   pub back_made : (item : Item) (ys : List (List Rational)) (y now rest : List Rational) (half : ℕ)
@@ -478,7 +452,7 @@ module _ (edge : Edge) (own : family_of edge ≡ NormOne) where
       let t = function_of_body item.body in
       let xs = others_of item.body in
       let same_count : count ≡ length xs = count_is
-      ∙ counted item suits.valid (source_is rule edge own item suits) in
+      ∙ (cone item suits.valid (source_is rule edge own item suits)).counted in
       group_and_row_made item part (Reals count) vars (inner item count) group exprs [] row
       (bounded_row t xs (inner item count) count) image
       part_is vars_are exprs_are (row_is ∙ ap (λ vs. bounded_row t xs vs count) vars_are) group_is
@@ -495,7 +469,7 @@ module _ (edge : Edge) (own : family_of edge ≡ NormOne) where
   fits_made item suits count vars count_is vars_are =
       ap (λ vs. BoundsFit (function_of_body item.body) (others_of item.body) (variables vs))
       (vars_are ∙ ap (inner item) (count_is
-      ∙ counted item suits.valid (source_is rule edge own item suits)))
+      ∙ (cone item suits.valid (source_is rule edge own item suits)).counted))
       ∙ sym (image_fits item)
 
 pub norm_one_lawful : IsLawful NormOne

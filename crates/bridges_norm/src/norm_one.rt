@@ -5,7 +5,7 @@
 //!   row of `t - s_1 - .. - s_n`, the `s_i - x_i` and then the `s_i + x_i` in `Nonnegatives`.
 //! - Dual: of the child row's `(r, p, q)` first r, and then the `q_i - p_i`.
 //! - In MathOptInterface: `NormOneBridge`.
-ghost use Rattle.std.specs.Prelude.{◌≡◌, ◌≤◌, ◌++◌, ◌∷◌, [], fold, length};
+ghost use Rattle.std.specs.Prelude.{◌≡◌, ◌≤◌, ◌++◌, ◌∷◌, fold, length};
 ghost use Rattle.aff_core.specs.Arithmetic.{ExactWhere};
 ghost use Rattle.item_core.specs.Item.{functions_of};
 ghost use Rattle.bridge_face.specs.ComponentLaws.{variables};

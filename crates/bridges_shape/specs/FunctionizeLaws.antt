@@ -14,7 +14,7 @@ use Rattle.bridge_face.specs.ComponentLaws.{variables}
 use Rattle.bridge_face.specs.FamilyLaws.{back_is, lawful_by}
 use Rattle.bridge_face.specs.Images.{affine, first_in}
 use Rattle.bridge_face.specs.Law.{IsLawful, growth}
-use Rattle.bridge_face.specs.OneRowLaws.{IsRow, RowRule}
+use Rattle.bridge_face.specs.OneRowLaws.{IsRow, RowRule, row}
 use Rattle.bridge_face.specs.SameRowLaws.{same_row_law}
 
 -- a plain row
@@ -34,28 +34,26 @@ record StaysSame (b child : Body) : Type 0 where
   functions : functions_of child ≡ functions_of b
   set : set_of child ≡ set_of b
 
+stays_same : {b child : Body} → IsRow b → IsRow child → FitsItsFunction child
+    → functions_of child ≡ functions_of b → set_of child ≡ set_of b → StaysSame b child
+stays_same source row shaped functions set = record {
+  source = source;
+  row = row;
+  shaped = shaped;
+  functions = functions;
+  set = set;
+}
+
 stays : {b : Body} → IsPlain b → StaysSame b (made b)
 stays (number {var} {set} s) =
     subst (StaysSame (Plain var set))
     (sym (ap (λ c. cond c (Affine (variable var) set) (AffineVec (variable var ∷ []) set)) s))
-    (record {
-      source = record { no_group = refl; no_objective = refl };
-      row = record { no_group = refl; no_objective = refl };
-      shaped = s;
-      functions = refl;
-      set = refl;
-    })
+    (stays_same (row refl refl) (row refl refl) s refl refl)
 stays (vector {vars} {set} s) =
     subst (StaysSame (PlainVec vars set))
     (sym (ap (λ c. cond c (Affine (first_in (variables vars)) set)
     (AffineVec (variables vars) set)) s))
-    (record {
-      source = record { no_group = refl; no_objective = refl };
-      row = record { no_group = refl; no_objective = refl };
-      shaped = s;
-      functions = refl;
-      set = refl;
-    })
+    (stays_same (row refl refl) (row refl refl) s refl refl)
 
 -- ---- the law
 

@@ -1,5 +1,5 @@
 -- The law of Scalarize: a row for each component, f_i = 0, f_i ≥ 0 or f_i ≤ 0.
-use Rattle.std.specs.Prelude.{◌≡◌, ◌≤◌, ◌*◌, ◌+◌, ◌<◌, ℕ, suc, true, List, [], ◌∷◌, ◌++◌, All, length, map, None, slice_index_or, take, refl}
+use Rattle.std.specs.Prelude.{◌≡◌, ◌≤◌, ◌*◌, ◌+◌, ◌<◌, ℕ, suc, true, List, [], ◌∷◌, ◌++◌, All, length, map, slice_index_or, take, refl}
 use Rattle.std.proofs.Common.{arith, sym, ap, ap₂, subst, ◌∙◌}
 use Rattle.std.proofs.lemmas.List.{append-nil, append_assoc, length-map, length-take, map-append, take_more}
 use Rattle.std.proofs.lemmas.List.Elements.{All-cons, All-head, All-nil, All-tail}
@@ -24,7 +24,6 @@ use Rattle.item_core.specs.declared.family.Family.TheVariants.{Scalarize}
 use Rattle.item_core.specs.declared.item.Body.{Body}
 use Rattle.item_core.specs.declared.item.Body.TheVariants.{Plain, Affine, PlainVec, AffineVec}
 use Rattle.item_core.specs.declared.item.Item.{Item}
-use Rattle.item_core.specs.declared.image.Image.{Image}
 use Rattle.item_core.specs.Edge.{edge_entry, family_of, source_of}
 use Rattle.item_core.specs.Item.{functions_of, set_of}
 use Rattle.item_core.specs.KindOf.{kind_of_body}
@@ -35,7 +34,7 @@ use Rattle.bridge_face.specs.FamilyLaws.{Rule, back_is, lawful_by, of_another}
 use Rattle.bridge_face.specs.ImageOf.{image_by}
 use Rattle.bridge_face.specs.Images.{child_at, children_from, component_of, each_component, rows_at}
 use Rattle.bridge_face.specs.Law.{IsLawful, LeadsTo, Miss, growth}
-use Rattle.bridge_face.specs.OneRowLaws.{IsRow, row_held}
+use Rattle.bridge_face.specs.OneRowLaws.{IsRow, row, row_held}
 use Rattle.bridge_face.specs.RowsLaws.{IsRowOf, MadeOfRows, length-children_from, rows_held, rows_law}
 use Rattle.bridge_face.specs.Sources.{OfKind, vaffine_nonnegatives, vaffine_nonpositives, vaffine_zeros, vplain_nonnegatives, vplain_nonpositives, vplain_zeros}
 
@@ -111,50 +110,55 @@ pub record Joined (S : Set) (fs : List Function) (ys : List (List Rational)) : T
   pub size : length (joined ys) ≡ length fs
   pub dual : Dual S (joined ys)
 
-one_number : {c : Set} (y : List Rational) (f : Function) → IsHeld (held_as y (f ∷ []) c)
+the_number : {c : Set} (y : List Rational) (f : Function) → IsHeld (held_as y (f ∷ []) c)
     → (q : Rational) × (y ≡ q ∷ [])
-one_number [] f h = absurd (omega (arith, h.size))
-one_number (q ∷ []) f h = (q, refl)
-one_number (q ∷ (r ∷ y)) f h = absurd (omega (arith, h.size))
+the_number [] f h = absurd (omega (arith, h.size))
+the_number (q ∷ []) f h = (q, refl)
+the_number (q ∷ (r ∷ y)) f h = absurd (omega (arith, h.size))
+
+data HaveNumbers (c : Set) : List Function → List Body → List (List Rational) → Type 0 where
+  no_numbers : HaveNumbers c [] [] []
+  one_number : {f : Function} {b : Body} {fs : List Function} {bodies : List Body}
+      {ys : List (List Rational)} {q : Rational}
+      → row_held b (q ∷ []) ≡ held_as (q ∷ []) (f ∷ []) c → Dual c (q ∷ [])
+      → HaveNumbers c fs bodies ys
+      → HaveNumbers c (f ∷ fs) (b ∷ bodies) ((q ∷ []) ∷ ys)
+
+have_numbers : {c : Set} {fs : List Function} {bodies : List Body} → AreParts c fs bodies
+    → (ys : List (List Rational)) → length ys ≡ length bodies → DualsHold (rows_held bodies ys)
+    → HaveNumbers c fs bodies ys
+have_numbers no_parts [] e h = no_numbers
+have_numbers no_parts (y ∷ ys) e h = absurd (omega (arith, e))
+have_numbers (part row functions set rest) [] e h = absurd (omega (arith, e))
+have_numbers {c} (part {f} {b} {fs} {bodies} row functions set rest) (y ∷ ys) e h =
+    let first = subst IsHeld (part_held b f y functions set)
+    (All-head IsHeld (row_held b y) (rows_held bodies ys) h) in
+    let one = the_number y f first in
+    subst (λ w. HaveNumbers c (f ∷ fs) (b ∷ bodies) (w ∷ ys)) (sym one.1)
+    (one_number (part_held b f (one.0 ∷ []) functions set) (subst (Dual c) one.1 first.dual)
+    (have_numbers rest ys (omega (arith, e))
+    (All-tail IsHeld (row_held b y) (rows_held bodies ys) h)))
 
 module _ {S c : Set} (has : HasParts S c) where
-  pub joined_held : {fs : List Function} {bodies : List Body} → AreParts c fs bodies
-      → (ys : List (List Rational))
-      → length ys ≡ length bodies → DualsHold (rows_held bodies ys) → Joined S fs ys
-  joined_held no_parts [] e h = record { size = refl; dual = none_dual has }
-  joined_held no_parts (y ∷ ys) e h = absurd (omega (arith, e))
-  joined_held (part row functions set rest) [] e h = absurd (omega (arith, e))
-  joined_held (part {f} {b} {fs} {bodies} row functions set rest) (y ∷ ys) e h =
-      let first = subst IsHeld (part_held b f y functions set)
-      (All-head IsHeld (row_held b y) (rows_held bodies ys) h) in
-      let one = one_number y f first in
-      let more = joined_held rest ys (omega (arith, e))
-      (All-tail IsHeld (row_held b y) (rows_held bodies ys) h) in
-      subst (λ w. Joined S (f ∷ fs) (w ∷ ys)) (sym one.1)
-      (record {
+  joined_held : {fs : List Function} {bodies : List Body} {ys : List (List Rational)}
+      → HaveNumbers c fs bodies ys → Joined S fs ys
+  joined_held no_numbers = record { size = refl; dual = none_dual has }
+  joined_held (one_number {f} {b} {fs} {bodies} {ys} {q} is dual rest) =
+      let more = joined_held rest in
+      record {
         size = omega (arith, more.size);
-        dual = dual_in has one.0 (joined ys) (subst (Dual c) one.1 first.dual) more.dual;
-      })
+        dual = dual_in has q (joined ys) dual more.dual;
+      }
 
   -- the sums of duals times coefficients
-  pub joined_adjoint : {fs : List Function} {bodies : List Body} → AreParts c fs bodies
-      → (ys : List (List Rational))
-      → length ys ≡ length bodies → DualsHold (rows_held bodies ys) → (v : Address)
+  joined_adjoint : {fs : List Function} {bodies : List Body} {ys : List (List Rational)}
+      → HaveNumbers c fs bodies ys → (v : Address)
       → dot (joined ys) (coefficients fs v) ≡ adjoint (rows_held bodies ys) v
-  joined_adjoint no_parts [] e h v = refl
-  joined_adjoint no_parts (y ∷ ys) e h v = absurd (omega (arith, e))
-  joined_adjoint (part row functions set rest) [] e h v = absurd (omega (arith, e))
-  joined_adjoint (part {f} {b} {fs} {bodies} row functions set rest) (y ∷ ys) e h v =
-      let first = subst IsHeld (part_held b f y functions set)
-      (All-head IsHeld (row_held b y) (rows_held bodies ys) h) in
-      let one = one_number y f first in
-      let more = joined_adjoint rest ys (omega (arith, e))
-      (All-tail IsHeld (row_held b y) (rows_held bodies ys) h) v in
-      ap (λ w. dot (w ++ joined ys) (coefficients (f ∷ fs) v)) one.1
-      ∙ spread (one.0 *ℚ coefficient f v) (dot (joined ys) (coefficients fs v))
-      (adjoint (rows_held bodies ys) v) more
-      ∙ ap (λ k. adjoint_of k v +ℚ adjoint (rows_held bodies ys) v)
-      (sym (part_held b f y functions set ∙ ap (λ w. held_as w (f ∷ []) c) one.1))
+  joined_adjoint no_numbers v = refl
+  joined_adjoint (one_number {f} {b} {fs} {bodies} {ys} {q} is dual rest) v =
+      spread (q *ℚ coefficient f v) (dot (joined ys) (coefficients fs v))
+      (adjoint (rows_held bodies ys) v) (joined_adjoint rest v)
+      ∙ ap (λ k. adjoint_of k v +ℚ adjoint (rows_held bodies ys) v) (sym is)
     where
       spread : (p d k : Rational) → d ≡ k → p +ℚ d ≡ (p +ℚ zero_ℚ) +ℚ k
       spread p d k e = ap (λ z. p +ℚ z) e ∙ padded p k
@@ -163,29 +167,20 @@ module _ {S c : Set} (has : HasParts S c) where
           padded = ring₂ _ (λ ρ. simp (as_expression, zero_as ρ) (by_ring ρ _ _ refl))
 
   -- the gaps of the rows
-  pub joined_gap : {fs : List Function} {bodies : List Body} → AreParts c fs bodies
-      → (ys : List (List Rational))
-      → length ys ≡ length bodies → DualsHold (rows_held bodies ys)
+  joined_gap : {fs : List Function} {bodies : List Body} {ys : List (List Rational)}
+      → HaveNumbers c fs bodies ys
       → gap (rows_held bodies ys) ≡ zero_ℚ -ℚ dot (joined ys) (constants fs)
-  joined_gap no_parts [] e h = nothing
+  joined_gap no_numbers = nothing
     where
       nothing : zero_ℚ ≡ zero_ℚ -ℚ zero_ℚ
       nothing = ring₂ (λ p q. zero_ℚ ≡ zero_ℚ -ℚ zero_ℚ)
           (λ ρ. simp (as_expression, zero_as ρ) (by_ring ρ _ _ refl)) zero_ℚ zero_ℚ
-  joined_gap no_parts (y ∷ ys) e h = absurd (omega (arith, e))
-  joined_gap (part row functions set rest) [] e h = absurd (omega (arith, e))
-  joined_gap (part {f} {b} {fs} {bodies} row functions set rest) (y ∷ ys) e h =
-      let first = subst IsHeld (part_held b f y functions set)
-      (All-head IsHeld (row_held b y) (rows_held bodies ys) h) in
-      let one = one_number y f first in
-      let more = joined_gap rest ys (omega (arith, e))
-      (All-tail IsHeld (row_held b y) (rows_held bodies ys) h) in
+  joined_gap (one_number {f} {b} {fs} {bodies} {ys} {q} is dual rest) =
       ap₂ ◌+ℚ◌
-      (ap gap_of (part_held b f y functions set ∙ ap (λ w. held_as w (f ∷ []) c) one.1)
-      ∙ ap (λ l. l -ℚ (one.0 *ℚ f.constant +ℚ zero_ℚ)) (low_parts has [] (one.0 ∷ [])).1)
-      more
-      ∙ gathered (one.0 *ℚ f.constant) (dot (joined ys) (constants fs))
-      ∙ ap (λ w. zero_ℚ -ℚ dot (w ++ joined ys) (constants (f ∷ fs))) (sym one.1)
+      (ap gap_of is
+      ∙ ap (λ l. l -ℚ (q *ℚ f.constant +ℚ zero_ℚ)) (low_parts has [] (q ∷ [])).1)
+      (joined_gap rest)
+      ∙ gathered (q *ℚ f.constant) (dot (joined ys) (constants fs))
     where
       gathered : (p d : Rational) → (zero_ℚ -ℚ (p +ℚ zero_ℚ)) +ℚ (zero_ℚ -ℚ d) ≡ zero_ℚ -ℚ (p +ℚ d)
       gathered = ring₂ _ (λ ρ. simp (as_expression, zero_as ρ) (by_ring ρ _ _ refl))
@@ -250,13 +245,13 @@ part_of_one of_nonpositives = record { dimension = refl; enough = omega arith; u
 affine_parts : (c : Set) (fs : List Function) → AreParts c fs (map (λ f. Affine f c) fs)
 affine_parts c [] = no_parts
 affine_parts c (f ∷ fs) =
-    part (record { no_group = refl; no_objective = refl }) refl refl (affine_parts c fs)
+    part (row refl refl) refl refl (affine_parts c fs)
 
 plain_parts : (c : Set) (vars : List Address)
     → AreParts c (map (variable {R = address_cmp}) vars) (map (λ v. Plain v c) vars)
 plain_parts c [] = no_parts
 plain_parts c (v ∷ vars) =
-    part (record { no_group = refl; no_objective = refl }) refl refl (plain_parts c vars)
+    part (row refl refl) refl refl (plain_parts c vars)
 
 -- what is read of the row
 record Read (b : Body) : Type 0 where
@@ -266,17 +261,9 @@ record Read (b : Body) : Type 0 where
 
 read : {b : Body} → IsConeRow b → Read b
 read (affine {funcs} {set} has) =
-    record {
-      source = record { no_group = refl; no_objective = refl };
-      has = has;
-      parts = affine_parts (component_of set) funcs;
-    }
+    record { source = row refl refl; has = has; parts = affine_parts (component_of set) funcs }
 read (plain {vars} {set} has) =
-    record {
-      source = record { no_group = refl; no_objective = refl };
-      has = has;
-      parts = plain_parts (component_of set) vars;
-    }
+    record { source = row refl refl; has = has; parts = plain_parts (component_of set) vars }
 
 -- ---- the law
 
@@ -334,8 +321,8 @@ module _ (edge : Edge) (own : family_of edge ≡ Scalarize) where
     affine_rows c scalar set leads [] h = All-nil (IsRowOf edge item)
     affine_rows c scalar set leads (f ∷ fs) h =
         All-cons (IsRowOf edge item) (Affine f c) (map (λ f. Affine f c) fs)
-        (row_of (Affine f c) f (record { no_group = refl; no_objective = refl }) scalar refl set
-        (leads f) (All-head IsComponent f fs h))
+        (row_of (Affine f c) f (row refl refl) scalar refl set (leads f)
+        (All-head IsComponent f fs h))
         (affine_rows c scalar set leads fs (All-tail IsComponent f fs h))
 
     plain_rows : (c : Set) → is_scalar c ≡ true → c ≡ component_of (set_of item.body)
@@ -345,9 +332,8 @@ module _ (edge : Edge) (own : family_of edge ≡ Scalarize) where
     plain_rows c scalar set leads [] h = All-nil (IsRowOf edge item)
     plain_rows c scalar set leads (v ∷ vars) h =
         All-cons (IsRowOf edge item) (Plain v c) (map (λ v. Plain v c) vars)
-        (row_of (Plain v c) (variable v) (record { no_group = refl; no_objective = refl }) scalar
-        refl set (leads v) (All-head IsComponent (variable v)
-        (map (variable {R = address_cmp}) vars) h))
+        (row_of (Plain v c) (variable v) (row refl refl) scalar refl set (leads v)
+        (All-head IsComponent (variable v) (map (variable {R = address_cmp}) vars) h))
         (plain_rows c scalar set leads vars (All-tail IsComponent (variable v)
         (map (variable {R = address_cmp}) vars) h))
 
@@ -371,16 +357,16 @@ module _ (edge : Edge) (own : family_of edge ≡ Scalarize) where
       each = rows_by leads refl components;
       values = λ one x h below. values_in r.has r.parts one x below;
       holds = λ ys e h.
-          let all = joined_held r.has r.parts ys e h in
+          let all = joined_held r.has (have_numbers r.parts ys e h) in
           subst IsHeld (sym (back_held ys)) (record {
             set = valid.set;
             size = all.size;
             dual = all.dual;
           });
       same = λ ys e h v. ap (λ k. adjoint_of k v) (back_held ys)
-          ∙ joined_adjoint r.has r.parts ys e h v;
+          ∙ joined_adjoint r.has (have_numbers r.parts ys e h) v;
       gaps = λ ys e h.
-          ≤ℚ_from_≡ _ _ (joined_gap r.has r.parts ys e h
+          ≤ℚ_from_≡ _ _ (joined_gap r.has (have_numbers r.parts ys e h)
           ∙ ap (λ l. l -ℚ dot (joined ys) (constants (functions_of item.body)))
           (sym (low_parts r.has (joined ys) []).0)
           ∙ sym (ap gap_of (back_held ys)));

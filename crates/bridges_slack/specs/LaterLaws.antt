@@ -8,22 +8,23 @@ use Rattle.map_laws.specs.EachLaws.{map_same_on}
 use Rattle.rational_laws.specs.Field.{+ℚ-zero, zero-+ℚ, -ℚ-itself}
 use Rattle.aff_core.specs.Address.{Address, child_of}
 use Rattle.item_core.specs.declared.item.Body.TheVariants.{Affine, AffineVec, Free, Group, Plain, PlainVec}
+use Rattle.bridge_face.specs.ChildDualLaws.{carries_duals}
 use Rattle.bridge_face.specs.Law.{Balances, CarriesValues, ChildDuals, EdgeLaw, GrowsBy, HasComponents, HoldsAt, IsCovered, IsItemFor, IsLawful, IsValidWithin, LeadsTo, MentionsKnown, Miss, expressed, growth, held_body, held_children, held_item, inner_of}
 use Rattle.item_core.specs.declared.item.Body.{Body}
 use Rattle.item_core.specs.declared.edge.Edge.TheVariants.{E49, E50, E51, E52, E53, E54, E55, E56, E57}
 use Rattle.item_core.specs.declared.edge.Edge.{Edge}
-use Rattle.set_core.specs.declared.set.Set.TheVariants.{EqualTo, GreaterThan, Interval, LessThan, Reals}
+use Rattle.set_core.specs.declared.set.Set.TheVariants.{Reals}
 use Rattle.bridge_face.specs.ImageOf.{begins_free, free_at, group_at, image_by, image_of, inner, inner_functions, later}
 use Rattle.item_core.specs.Valid.{FitsItsFunction, IsValidItem, NamesNothingBelow}
 use Rattle.dual_laws.specs.Held.{Holds, IsHeld, adjoint, adjoint_of, gap, gap_of}
 use Rattle.item_core.specs.declared.image.Image.{Image}
 use Rattle.bridge_face.specs.OneRowLaws.{IsRow, held_row}
-use Rattle.set_core.specs.Shapes.{IsSetOf, dimension_of, is_scalar}
+use Rattle.set_core.specs.Shapes.{IsSetOf, is_scalar}
 use Rattle.item_core.specs.declared.item.Item.{Item}
 use Rattle.item_core.specs.declared.image.Expression.TheVariants.{Kept}
 use Rattle.item_core.specs.declared.family.Family.TheVariants.{Later}
 use Rattle.bridge_face.specs.FamilyLaws.{Rule, image_is, lawful_by, of_another}
-use Rattle.bridge_face.specs.Sources.{OfKind, group_equal_to, group_greater_than, group_interval, group_less_than, group_nonnegatives, group_norm_infinity_cone, group_norm_one_cone, of_kind}
+use Rattle.bridge_face.specs.Sources.{OfKind, group_equal_to, group_greater_than, group_interval, group_less_than, group_nonnegatives, group_norm_infinity_cone, group_norm_one_cone}
 use Rattle.ratio_core.specs.Rational.{Rational, zero_ℚ, ◌+ℚ◌, ◌-ℚ◌}
 use Rattle.set_core.specs.declared.set.Set.{Set}
 use Rattle.set_core.specs.ShapeLaws.{scalar_one}
@@ -232,16 +233,6 @@ module _ (edge : Edge) (item : Item) (group row : Body) (l : IsLater edge item g
       gaps = ≤ℚ_from_≡ _ _ (gaps_are ∙ sym (ap gap_of same_held));
     }
 
-  covered : (bound : Rational) (gs ys os : List (List Rational)) (w : List Rational)
-      → Balances bound edge item image (record { groups = gs; rows = ys; objective = os }) w
-      → IsCovered bound item image (record { groups = gs; rows = ys; objective = os }) w
-  covered bound [] ys os w b = absurd (omega (arith, b.each.groups))
-  covered bound (g ∷ (k ∷ gs)) ys os w b = absurd (omega (arith, b.each.groups))
-  covered bound (g ∷ []) [] os w b = absurd (omega (arith, b.each.rows))
-  covered bound (g ∷ []) (y ∷ (z ∷ ys)) os w b = absurd (omega (arith, b.each.rows))
-  covered bound (g ∷ []) (y ∷ []) (u ∷ us) w b = absurd (omega (arith, b.each.objective))
-  covered bound (g ∷ []) (y ∷ []) [] w b = covered_by bound g y w b
-
   group_size : length (functions_of group) ≡ n
   group_size = ap length l.of_group.functions ∙ vars_long
 
@@ -300,7 +291,7 @@ module _ (edge : Edge) (item : Item) (group row : Body) (l : IsLater edge item g
   later_law : EdgeLaw edge item image
   later_law = record {
     values = values;
-    duals = λ bound duals w b. covered bound duals.groups duals.rows duals.objective w b;
+    duals = carries_duals edge item image (λ bound w g y b. covered_by bound g y w b);
     positions = refl;
     valid = λ room. both IsValidWithin (group_valid room) (row_valid room);
     sizes =

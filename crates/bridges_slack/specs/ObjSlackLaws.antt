@@ -1,18 +1,19 @@
 -- The law of ObjSlack: the least f is the least s with s - f ≥ 0, and the greatest f the greatest s
 -- with s - f ≤ 0.
-use Rattle.std.specs.Prelude.{All, Contains, List, Some, [], false, length, map, refl, true, ◌*◌, ◌<◌, ◌∷◌, ◌≡◌, ◌≤◌}
+use Rattle.std.specs.Prelude.{All, Contains, List, Some, [], length, map, refl, true, ◌*◌, ◌<◌, ◌∷◌, ◌≡◌, ◌≤◌}
 use Rattle.std.proofs.lemmas.List.Elements.{All-cons, All-head, All-nil, All-tail}
 use Rattle.std.proofs.Common.{ap, ap₂, arith, subst, sym, true≢false, ◌∙◌}
 use Rattle.std.proofs.lemmas.List.{length-append}
 use Rattle.rational_laws.specs.Field.{*ℚ-neg_ℚ, *ℚ-one, *ℚ-zero, +ℚ-zero, +ℚ_comm, neg_ℚ-zero, neg_ℚ_unique, zero-*ℚ, zero-+ℚ, -ℚ-itself}
 use Rattle.aff_core.specs.Address.{Address, child_of}
 use Rattle.item_core.specs.declared.item.Body.TheVariants.{Affine, AffineObj, Free, PlainObj}
+use Rattle.bridge_face.specs.ChildDualLaws.{carries_duals}
 use Rattle.bridge_face.specs.Law.{Balances, CarriesValues, ChildDuals, EdgeLaw, GrowsBy, HasComponents, HoldsAt, IsCovered, IsItemFor, IsLawful, IsValidWithin, LeadsTo, MentionsKnown, Miss, cost_by, cost_of, expressed, growth, held_children, held_item, inner_of, is_objective, row_set}
 use Rattle.item_core.specs.declared.item.Body.{Body}
 use Rattle.item_core.specs.declared.edge.Edge.TheVariants.{E62, E63}
 use Rattle.item_core.specs.declared.edge.Edge.{Edge}
 use Rattle.bridge_face.specs.ImageOf.{beyond, differences, free_at, image_by, image_of, inner, inner_functions, obj_slack, sense_of}
-use Rattle.item_core.specs.Valid.{FitsItsFunction, IsValidItem, NamesNothingBelow}
+use Rattle.item_core.specs.Valid.{IsValidItem, NamesNothingBelow}
 use Rattle.aff_core.specs.Function.{Function, coefficient, evaluated, variable}
 use Rattle.dual_laws.specs.Held.{Held, IsHeld, adjoint, adjoint_of, gap, gap_of}
 use Rattle.item_core.specs.declared.image.Image.{Image}
@@ -364,17 +365,6 @@ module _ (edge : Edge) (item : Item) (sense : Sense) (f : Function)
       → IsCovered bound item image (duals_of g y o) w)
       (λ p q c. covered_by bound g p q w c) y o y_one o_one b
 
-  covered : (bound : Rational) (gs ys os : List (List Rational)) (w : List Rational)
-      → Balances bound edge item image (record { groups = gs; rows = ys; objective = os }) w
-      → IsCovered bound item image (record { groups = gs; rows = ys; objective = os }) w
-  covered bound [] ys os w b = absurd (omega (arith, b.each.groups))
-  covered bound (g ∷ (k ∷ gs)) ys os w b = absurd (omega (arith, b.each.groups))
-  covered bound (g ∷ []) [] os w b = absurd (omega (arith, b.each.rows))
-  covered bound (g ∷ []) (y ∷ (z ∷ ys)) os w b = absurd (omega (arith, b.each.rows))
-  covered bound (g ∷ []) (y ∷ []) [] w b = absurd (omega (arith, b.each.objective))
-  covered bound (g ∷ []) (y ∷ []) (u ∷ (v ∷ us)) w b = absurd (omega (arith, b.each.objective))
-  covered bound (g ∷ []) (y ∷ []) (u ∷ []) w b = of_numbers bound g y u w b
-
   one_component : length (functions_of item.body) ≡ 1
   one_component = ap length l.functions
 
@@ -427,7 +417,7 @@ module _ (edge : Edge) (item : Item) (sense : Sense) (f : Function)
   slack_objective_law : EdgeLaw edge item image
   slack_objective_law = record {
     values = values;
-    duals = λ bound duals w b. covered bound duals.groups duals.rows duals.objective w b;
+    duals = carries_duals edge item image (λ bound w g y o b. of_numbers bound g y o w b);
     positions = refl;
     valid = λ room. all_three IsValidWithin (group_valid room) (row_valid room)
         (objective_is_valid room);

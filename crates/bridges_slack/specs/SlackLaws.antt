@@ -19,10 +19,10 @@ use Rattle.set_core.specs.Shapes.{IsSetOf}
 use Rattle.item_core.specs.declared.item.Item.{Item}
 use Rattle.ratio_core.specs.Rational.{Rational, neg_ℚ, zero_ℚ, ◌+ℚ◌, ◌-ℚ◌}
 use Rattle.set_core.specs.declared.set.Set.{Set}
-use Rattle.bridge_face.specs.DifferenceLaws.{all_differences, constant-difference, dot-differences, dot-differences_missed, evaluated-difference, length-differences, missed-difference, numbers-differences, unnamed-difference, weighed-differences}
+use Rattle.bridge_face.specs.DifferenceLaws.{all_paired, constant-difference, dot-differences, dot-differences_missed, evaluated-difference, length-differences, missed-difference, numbers-differences, unnamed-difference, weighed-differences}
 use Rattle.bridge_face.specs.ComponentLaws.{all_unnamed_below, components_apart, constants-variables, length-components, misses_inner, not_contained, variables, variables_missed, weighed, weighed_components}
 use Rattle.bridge_face.specs.BackOf.{back_of, size}
-use Rattle.bridge_face.specs.Images.{child_at}
+use Rattle.bridge_face.specs.Images.{child_at, difference}
 use Rattle.aff_core.specs.FunctionLists.{constants, evaluations}
 use Rattle.bridge_face.specs.ImageOf.{differences, group_at, inner}
 use Rattle.rational_laws.specs.Dot.{dot, minus}
@@ -168,7 +168,7 @@ module _ (edge : Edge) (item : Item) (child : Body) (s : IsSlack edge item child
     row_fits = subst (λ m. IsSetOf m (set_of child)) (sym row_length) s.fits;
     row_apart =
         subst (All (NamesNothingBelow (child_of item.at 1))) (sym s.functions)
-        (all_differences (NamesNothingBelow (child_of item.at 1))
+        (all_paired difference (NamesNothingBelow (child_of item.at 1))
         (unnamed-difference (child_of item.at 1)) fs (variables ss)
         (all_unnamed_below item.at 1 fs (s.item_valid.others s.source.no_group))
         (components_apart item.at 1 n (omega arith)));
@@ -177,7 +177,7 @@ module _ (edge : Edge) (item : Item) (child : Body) (s : IsSlack edge item child
     row_leads = s.row_leads;
     mentioned = λ v m absent.
         subst (λ gs. Miss gs v) (sym s.functions)
-        (all_differences (λ f. coefficient f v ≡ zero_ℚ) (missed-difference v) fs (variables ss) m
+        (all_paired difference (λ f. coefficient f v ≡ zero_ℚ) (missed-difference v) fs (variables ss) m
         (variables_missed ss v (not_contained ss v absent)));
   }
 

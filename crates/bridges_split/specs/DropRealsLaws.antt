@@ -1,18 +1,18 @@
 -- The law of DropReals: a row that all vectors meet needs no row.
-use Rattle.std.specs.Prelude.{All, List, [], refl, replicate, ℕ, ◌≡◌, None}
+use Rattle.std.specs.Prelude.{All, List, [], refl, replicate, ℕ, ◌≡◌}
 use Rattle.std.proofs.lemmas.List.Elements.{All-nil, All-replicate}
 use Rattle.std.proofs.Common.{ap, ap₂, subst, sym, ◌∙◌}
 use Rattle.std.proofs.lemmas.List.{length-replicate}
 use Rattle.rational_laws.specs.Field.{ -ℚ-itself}
 use Rattle.aff_core.specs.Address.{Address}
 use Rattle.item_core.specs.declared.item.Body.TheVariants.{AffineVec, PlainVec}
-use Rattle.bridge_face.specs.BackOf.{BackFits, BackFitsBy, back_by, back_of, size}
+use Rattle.bridge_face.specs.BackOf.{back_by, size}
 use Rattle.item_core.specs.declared.item.Body.{Body}
 use Rattle.item_core.specs.declared.family.Family.TheVariants.{DropReals}
 use Rattle.set_core.specs.Membership.{Dual, In, low_of}
 use Rattle.item_core.specs.declared.edge.Edge.TheVariants.{E39, E40}
 use Rattle.item_core.specs.declared.edge.Edge.{Edge}
-use Rattle.bridge_face.specs.Law.{EdgeLaw, IsLawful}
+use Rattle.bridge_face.specs.Law.{IsLawful}
 use Rattle.bridge_face.specs.ImageOf.{image_by}
 use Rattle.item_core.specs.Valid.{IsValidItem}
 use Rattle.aff_core.specs.Function.{Function}
@@ -21,7 +21,7 @@ use Rattle.bridge_face.specs.OneRowLaws.{IsRow, row_held}
 use Rattle.bridge_face.specs.RowsLaws.{IsRowOf, MadeOfRows, rows_law}
 use Rattle.item_core.specs.declared.item.Item.{Item}
 use Rattle.bridge_face.specs.FamilyLaws.{Rule, back_is, lawful_by, of_another}
-use Rattle.bridge_face.specs.Sources.{OfKind, of_kind, vaffine_reals, vplain_reals}
+use Rattle.bridge_face.specs.Sources.{OfKind, vaffine_reals, vplain_reals}
 use Rattle.ratio_core.specs.Rational.{Rational, zero_ℚ, ◌-ℚ◌}
 use Rattle.set_core.specs.declared.set.Set.TheVariants.{Reals}
 use Rattle.aff_core.specs.FunctionLists.{coefficients, constants, evaluations}
@@ -31,7 +31,6 @@ use Rattle.set_core.specs.Mirrored.{multiplied}
 use Rattle.bridge_face.specs.Images.{rows_at}
 use Rattle.rational_laws.specs.DotLaws.{zeros_dot}
 use Rattle.rational_laws.specs.Order.{≤ℚ_from_≡}
-use Rattle.item_core.specs.declared.image.Image.{Image}
 
 -- a row in all vectors
 pub data IsAny : Body → Type 0 where

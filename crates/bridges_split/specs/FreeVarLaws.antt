@@ -1,8 +1,8 @@
 -- The law of FreeVar: x is s - s' with both at least 0.
-use Rattle.std.specs.Prelude.{All, List, [], drop, false, length, map, refl, suc, take, true, zero, ℕ, ◌*◌, ◌++◌, ◌+◌, ◌∷◌, ◌≡◌, ◌≢◌, ◌≤◌}
+use Rattle.std.specs.Prelude.{All, List, [], drop, length, map, refl, suc, take, zero, ℕ, ◌*◌, ◌++◌, ◌+◌, ◌∷◌, ◌≡◌, ◌≢◌, ◌≤◌}
 use Rattle.std.proofs.lemmas.List.Elements.{All-cons, All-drop, All-head, All-map, All-nil, All-tail, All-take, All-weaker}
 use Rattle.std.proofs.Math.Seq.{take-append_seam, drop-append_seam}
-use Rattle.std.proofs.Common.{ap, ap₂, arith, subst, sym, true≢false, ◌∙◌}
+use Rattle.std.proofs.Common.{ap, ap₂, arith, subst, sym, ◌∙◌}
 use Rattle.std.proofs.lemmas.List.{length-map, map-append}
 use Rattle.std.proofs.lemmas.List.FromFn.{length-map-range_with_len}
 use Rattle.std.specs.List.{range_with_len}
@@ -14,10 +14,10 @@ use Rattle.item_core.specs.declared.image.Expression.TheVariants.{Bridged}
 use Rattle.set_core.specs.Membership.{Dual, In, low_of}
 use Rattle.item_core.specs.declared.edge.Edge.TheVariants.{E43}
 use Rattle.item_core.specs.declared.edge.Edge.{Edge}
-use Rattle.bridge_face.specs.Law.{EdgeLaw, IsItemFor, IsLawful, LeadsTo, Miss, growth}
+use Rattle.bridge_face.specs.Law.{EdgeLaw, IsLawful, Miss, growth}
 use Rattle.item_core.specs.declared.image.Expression.{Expression}
 use Rattle.bridge_face.specs.ImageOf.{bridged, differences, free_var, group_at, image_by, image_of, inner}
-use Rattle.item_core.specs.Valid.{FitsItsFunction, IsValidItem}
+use Rattle.item_core.specs.Valid.{IsValidItem}
 use Rattle.item_core.specs.declared.family.Family.TheVariants.{FreeVar}
 use Rattle.aff_core.specs.Function.{Function, coefficient, variable}
 use Rattle.item_core.specs.declared.item.Body.TheVariants.{Group}
@@ -29,19 +29,17 @@ use Rattle.bridge_face.specs.Sources.{OfKind, group_reals}
 use Rattle.bridge_face.specs.GroupLaws.{GroupSourced, OneGroup, one_group_law}
 use Rattle.ratio_core.specs.Rational.{Rational, neg_ℚ, zero_ℚ, ◌+ℚ◌, ◌-ℚ◌, ◌≤ℚ◌}
 use Rattle.bridge_face.specs.ComponentLaws.{all_components, all_components_within, components-append, components_from, dot_missed, not_contained, other_child, variables, variables_missed, weighed, weighed_from}
-use Rattle.bridge_face.specs.DifferenceLaws.{all_differences, coefficient-difference, constant-difference, dot-differences, length-differences, missed-difference}
+use Rattle.bridge_face.specs.DifferenceLaws.{all_paired, coefficient-difference, constant-difference, dot-differences, length-differences, missed-difference}
 use Rattle.bridge_face.specs.Images.{child_at, components, difference, group_by}
 use Rattle.aff_core.specs.FunctionLists.{coefficients, constants, evaluations}
 use Rattle.aff_core.specs.FunctionLaws.{constant-variable}
 use Rattle.rational_laws.specs.Dot.{dot}
 use Rattle.rational_laws.specs.DotLaws.{dot_zeros}
 use Rattle.item_core.specs.Edge.{edge_entry, family_of, source_of}
-use Rattle.item_core.specs.Item.{is_group, set_of}
 use Rattle.item_core.specs.KindOf.{kind_of_body}
 use Rattle.set_core.specs.Mirrored.{multiplied}
 use Rattle.bridge_face.specs.BackOf.{back_by, size}
 use Rattle.rational_laws.specs.Order.{≤ℚ_antisymm, ≤ℚ_from_nonneg}
-use Rattle.item_core.specs.declared.kind.Kind.TheVariants as kind
 use Rattle.rational_laws.specs.Dot as numbers
 
 -- a group of variables without bounds, of which the edge makes one of its kind
@@ -220,7 +218,7 @@ all_zero w h =
 constants_split : (at : Address) (d : ℕ) → All (λ q. q ≡ zero_ℚ) (constants (split at d))
 constants_split at d =
     All-map (λ q. q ≡ zero_ℚ) (λ f. f.constant) (split at d)
-    (all_differences (λ f. f.constant ≡ zero_ℚ) (λ f g p q. constant-difference f g ∙ ap₂ ◌-ℚ◌ p q
+    (all_paired difference (λ f. f.constant ≡ zero_ℚ) (λ f g p q. constant-difference f g ∙ ap₂ ◌-ℚ◌ p q
     ∙ -ℚ-itself zero_ℚ) (plus_half at d) (minus_half at d)
     (All-map (λ f. f.constant ≡ zero_ℚ) variable (components_from at 0 d)
     (all_components (λ v. (variable {R = address_cmp} v).constant ≡ zero_ℚ) at 0 d
@@ -266,7 +264,7 @@ module _ (edge : Edge) (own : family_of edge ≡ FreeVar) where
 
     missed : (v : Address) → Miss (variables (components at (d + d))) v → Miss (split at d) v
     missed v m =
-        all_differences (λ f. coefficient f v ≡ zero_ℚ) (missed-difference v) (plus_half at d)
+        all_paired difference (λ f. coefficient f v ≡ zero_ℚ) (missed-difference v) (plus_half at d)
         (minus_half at d)
         (subst (λ fs. Miss fs v) (first_half at d) (All-take (λ f. coefficient f v ≡ zero_ℚ) d
         (variables (components at (d + d))) m))

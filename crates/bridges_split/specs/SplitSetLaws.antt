@@ -1,7 +1,7 @@
 -- The law of SplitSet: l ≤ f ≤ u is f ≥ l and f ≤ u, and so for f = v and vectors f = 0.
-use Rattle.std.specs.Prelude.{All, Bool, List, [], cond, false, length, map, refl, true, ℕ, ◌*◌, ◌∷◌, ◌≡◌, ◌≤◌, None, Result}
+use Rattle.std.specs.Prelude.{All, Bool, List, [], cond, false, length, map, refl, true, ℕ, ◌*◌, ◌∷◌, ◌≡◌, ◌≤◌, Result}
 use Rattle.std.proofs.lemmas.List.Elements.{All-cons, All-head, All-nil, All-tail}
-use Rattle.std.proofs.Common.{ap, ap₂, arith, subst, sym, true≢false, ◌∙◌}
+use Rattle.std.proofs.Common.{ap, ap₂, arith, subst, sym, ◌∙◌}
 use Rattle.std.specs.Ordering.{is_le}
 use Rattle.std.proofs.Math.ListN.{set}
 use Rattle.rational_laws.specs.Field.{*ℚ-+ℚ, +ℚ-zero, +ℚ_inner_comm, neg_ℚ-sum}
@@ -20,7 +20,7 @@ use Rattle.item_core.specs.Valid.{FitsItsFunction, IsValidItem, NamesNothingBelo
 use Rattle.aff_core.specs.Function.{Function, coefficient}
 use Rattle.bridge_face.specs.OneRowLaws.{IsRow, row_held}
 use Rattle.bridge_face.specs.RowsLaws.{IsRowOf, MadeOfRows, rows_held, rows_law}
-use Rattle.set_core.specs.Shapes.{IsSetOf, is_crossed}
+use Rattle.set_core.specs.Shapes.{IsSetOf}
 use Rattle.item_core.specs.declared.item.Item.{Item}
 use Rattle.bridge_face.specs.FamilyLaws.{Rule, back_is, dual_sizes, image_is, kept_by, lawful_by, of_another, source_is}
 use Rattle.bridge_face.specs.BackOf as backs
@@ -39,11 +39,9 @@ use Rattle.bridge_face.specs.Images.{lower_part, rows_at, upper_part, with_set}
 use Rattle.set_core.specs.Mirrored.{multiplied}
 use Rattle.set_core.specs.ShapeLaws.{in_order}
 use Rattle.set_laws.specs.Least.{single₂}
-use Rattle.rational_laws.specs.Tests.{is_lt_Decides}
-use Rattle.rational_laws.specs.Order.{≤ℚ-*ℚ, ≤ℚ-*ℚ_nonpos, ≤ℚ-+ℚ_left, ≤ℚ-+ℚ_right, ≤ℚ_antisymm, ≤ℚ_from_not_‹ℚ, ≤ℚ_from_≡}
+use Rattle.rational_laws.specs.Order.{≤ℚ-*ℚ, ≤ℚ-*ℚ_nonpos, ≤ℚ-+ℚ_left, ≤ℚ-+ℚ_right, ≤ℚ_antisymm, ≤ℚ_from_≡}
 use Rattle.aff_core.specs.declared.fault.AffFault.{AffFault}
 use Rattle.aff_core.specs.Arithmetic.{ExactWhere}
-use Rattle.item_core.specs.declared.image.Image.{Image}
 use Rattle.bridge_face.specs.State.{TakesDuals}
 use Rattle.aff_core.specs.AnsweredLaws.{exact_as}
 use Rattle.bridge_face.specs.Sources as kinds

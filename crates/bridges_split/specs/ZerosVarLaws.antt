@@ -1,11 +1,12 @@
 -- The law of ZerosVar: variables that are 0 need no variables.
 use Rattle.std.specs.Prelude.{All, List, [], length, map, refl, replicate, true, ℕ, ◌∷◌, ◌≡◌, None}
 use Rattle.std.proofs.lemmas.List.Elements.{All-cons, All-map, All-nil}
-use Rattle.std.proofs.Common.{ap, ap₂, arith, subst, sym, ◌∙◌}
+use Rattle.std.proofs.Common.{ap, ap₂, subst, sym, ◌∙◌}
 use Rattle.std.proofs.lemmas.List.{length-map}
 use Rattle.rational_laws.specs.Field.{*ℚ-zero, -ℚ-itself}
 use Rattle.aff_core.specs.Address.{Address, address_cmp}
-use Rattle.bridge_face.specs.Law.{Balances, EdgeLaw, GrowsBy, HasComponents, IsCovered, IsLawful, IsValidWithin, LeadsTo, MentionsKnown, Miss, expressed, growth, held_item}
+use Rattle.bridge_face.specs.ChildDualLaws.{carries_duals}
+use Rattle.bridge_face.specs.Law.{Balances, ChildDuals, EdgeLaw, GrowsBy, HasComponents, IsCovered, IsLawful, IsValidWithin, LeadsTo, MentionsKnown, Miss, expressed, growth, held_item}
 use Rattle.item_core.specs.declared.item.Body.{Body}
 use Rattle.item_core.specs.declared.image.Expression.TheVariants.{Bridged}
 use Rattle.item_core.specs.declared.edge.Edge.TheVariants.{E45}
@@ -102,13 +103,12 @@ module _ (edge : Edge) (item : Item) (valid : IsValidItem item) (at_zero : AtZer
   long : length fs ≡ length (functions_of item.body)
   long = length-map (functions_of item.body) (λ _. nothing)
 
-  covered : (bound : Rational) (gs ys os : List (List Rational)) (w : List Rational)
-      → Balances bound edge item image (record { groups = gs; rows = ys; objective = os }) w
-      → IsCovered bound item image (record { groups = gs; rows = ys; objective = os }) w
-  covered bound (g ∷ gs) ys os w b = absurd (omega (arith, b.each.groups))
-  covered bound [] (y ∷ ys) os w b = absurd (omega (arith, b.each.rows))
-  covered bound [] [] (u ∷ us) w b = absurd (omega (arith, b.each.objective))
-  covered bound [] [] [] w b = record {
+  abbrev no_duals : ChildDuals
+  no_duals = record { groups = []; rows = []; objective = [] }
+
+  covered_by : (bound : Rational) (w : List Rational) → Balances bound edge item image no_duals w
+      → IsCovered bound item image no_duals w
+  covered_by bound w b = record {
     holds = subst IsHeld (sym (item_is bound w)) (record {
       set = subst (λ m. IsSetOf m (Zeros at_zero.count)) (sym long)
           (subst (IsSetOf (size item)) at_zero.set valid.set);
@@ -135,7 +135,7 @@ module _ (edge : Edge) (item : Item) (valid : IsValidItem item) (at_zero : AtZer
           (evaluated_constant_function one zero_ℚ x ∙ *ℚ-zero one) (functions_of item.body)));
       costs = λ one x h below. All-nil _;
     };
-    duals = λ bound duals w b. covered bound duals.groups duals.rows duals.objective w b;
+    duals = carries_duals edge item image (λ bound w b. covered_by bound w b);
     positions = refl;
     valid = λ room. All-nil IsValidWithin;
     sizes = All-nil (GrowsBy (growth (family_of edge)) item);

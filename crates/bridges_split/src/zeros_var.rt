@@ -3,8 +3,7 @@
 //! - From: a group in `Zeros`, by edge 45.
 //! - To: nothing; each component is 0.
 //! - In MathOptInterface: `ZerosBridge` of variables.
-ghost use Rattle.std.specs.Prelude.{◌≡◌, [], IfOk, replicate};
-ghost use Rattle.bridge_face.specs.Images.{group_by};
+ghost use Rattle.std.specs.Prelude.{◌≡◌, IfOk, replicate};
 ghost use Rattle.bridges_split.specs.ZerosVarLaws.{none_of};
 
 use aff_core::Aff;

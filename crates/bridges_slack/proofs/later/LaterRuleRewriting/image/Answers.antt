@@ -3,7 +3,7 @@ use Rattle.bridge_face.specs.FamilyLaws.{image_fits}
 use Rattle.std.proofs.Common.{ap, ◌∙◌, map}
 use Rattle.item_core.specs.declared.image.Expression.TheVariants.{Kept}
 use Rattle.set_core.specs.Shapes.{is_scalar}
-use Rattle.bridges_slack.specs.LaterLaws.{parts_made, rule, second_child}
+use Rattle.bridges_slack.specs.LaterLaws.{parts_made, second_child}
 use Rattle.bridges_slack.proofs.later.LaterRuleRewriting.image.Goals as goal
 
 pub returns : goal.returns

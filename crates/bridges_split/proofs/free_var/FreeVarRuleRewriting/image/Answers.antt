@@ -1,7 +1,7 @@
 use Rattle.bridge_face.specs.FamilyLaws.{image_fits}
 use Rattle.std.proofs.Common.{ap, ◌∙◌, map, refl, ◌+◌}
 use Rattle.std.specs.List.{range_with_len}
-use Rattle.bridges_split.specs.FreeVarLaws.{halved, image_made, rule}
+use Rattle.bridges_split.specs.FreeVarLaws.{halved, image_made}
 use Rattle.bridges_split.proofs.free_var.FreeVarRuleRewriting.image.Goals as goal
 
 pub returns : goal.returns
