@@ -4,6 +4,7 @@ use Rattle.std.proofs.Common.{sym, ◌∙◌, ap, subst, get_or}
 use Rattle.std.proofs.lemmas.List.{length-map}
 use Rattle.std.proofs.lemmas.List.Elements.{All-append, All-map, All-weaker}
 use Rattle.ratio_core.specs.Rational.{Rational, one_ℚ, zero_ℚ}
+use Rattle.map_laws.specs.EachLaws.{all_first}
 use Rattle.aff_core.specs.Address.{Address, address_cmp}
 use Rattle.aff_core.specs.Function.{Function, evaluated, variable}
 use Rattle.aff_core.specs.FunctionLists.{evaluations, slopes, values}
@@ -33,7 +34,6 @@ use Rattle.user_model.specs.Consistent.{variable_number}
 use Rattle.user_model.specs.Functions.{components}
 use Rattle.user_model.specs.Valid.{HasValidParts, IsValidGroup, IsValidRow}
 use Rattle.cert_core.proofs.Places.{ascend, distinct}
-use Rattle.cert_core.proofs.Tested.{all_parts}
 
 -- ---- values and slopes
 
@@ -214,8 +214,8 @@ pub row_duals : (model : ModelValue) (rows : List (List Rational)) (vars : List 
 row_duals model rows vars h = record {
   each = h.each_row;
   components = All-weaker HasDuals HasEachDual (λ _ k. k.size) (rows_with rows model.rows)
-      (all_parts HasDuals (rows_with rows model.rows)
-      (groups_with (at_point model vars) model.groups) h.duals).0;
+      (all_first HasDuals (rows_with rows model.rows)
+      (groups_with (at_point model vars) model.groups) h.duals);
 }
 
 -- ---- of a valid model

@@ -1,6 +1,7 @@
 -- Things tested one after the other, each where what it takes fits.
 use Rattle.std.specs.Prelude.{◌≡◌, ◌↔◌, ◌&&◌, Bool, true, false, IsTrue, List, [], ◌∷◌, ◌++◌, All, refl}
 use Rattle.std.proofs.Common.{sym, ◌∙◌, subst, true≢false}
+use Rattle.map_laws.specs.EachLaws.{all_first, all_second}
 use Rattle.std.proofs.lemmas.List.Elements.{All-append, All-cons, All-head, All-nil, All-tail}
 
 pub both_true : (a b : Bool) → IsTrue (a && b) → IsTrue a × IsTrue b
@@ -20,14 +21,6 @@ and_passed a b now f is = (
 pub iff_trans : (A B C : Type 0) → (A ↔ B) → (B ↔ C) → A ↔ C
 iff_trans A B C f g = (λ a. g.0 (f.0 a), λ c. f.1 (g.1 c))
 
--- of two lists together
-pub all_parts : {X : Type 0} (P : X → Type 0) (xs ys : List X) → All P (xs ++ ys)
-    → All P xs × All P ys
-all_parts P [] ys h = (All-nil P, h)
-all_parts P (x ∷ xs) ys h =
-    let parts = all_parts P xs ys (All-tail P x (xs ++ ys) h) in
-    (All-cons P x xs (All-head P x (xs ++ ys) h) parts.0, parts.1)
-
 pub appended_tell : {X : Type 0} (F P : X → Type 0) (xs ys : List X) (a b now : Bool)
     → All F xs × (IsTrue a ↔ All P xs) → All F ys × (IsTrue b ↔ All P ys)
     → (IsTrue now ↔ (IsTrue a × IsTrue b)) → All F (xs ++ ys) × (IsTrue now ↔ All P (xs ++ ys))
@@ -35,7 +28,7 @@ appended_tell F P xs ys a b now front back both = (
   All-append F xs ys front.0 back.0,
   (
     λ t. let k = both.0 t in All-append P xs ys (front.1.0 k.0) (back.1.0 k.1),
-    λ h. let parts = all_parts P xs ys h in both.1 (front.1.1 parts.0, back.1.1 parts.1),
+    λ h. both.1 (front.1.1 (all_first P xs ys h), back.1.1 (all_second P xs ys h)),
   ),
 )
 
@@ -46,14 +39,6 @@ module _ {X : Type 0} (F P : X → Type 0) where
     pub only : All F xs → All F left
     pub holds : IsTrue so_far → All P left → All P xs
     pub each : All P xs → IsTrue so_far × All P left
-
-  pub tested_start : (xs : List X) → TestedAsAll true xs xs
-  tested_start xs = record {
-    fits = λ h. h;
-    only = λ h. h;
-    holds = λ _ h. h;
-    each = λ h. (refl, h);
-  }
 
   pub tested_step : (so_far b now : Bool) (xs left rest : List X) (x : X)
       → TestedAsAll so_far xs left → left ≡ x ∷ rest → F x → (IsTrue b ↔ P x)

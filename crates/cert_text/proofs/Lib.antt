@@ -1,6 +1,5 @@
 pub mod Bytes
 pub mod Cuts
-pub mod Each
 pub mod EachLine
 pub mod Entries
 pub mod Printed

@@ -1,6 +1,6 @@
 -- What a text is read as: a certificate where it has the lines of one for the model's variables and
 -- rows, with any literals as its numbers, and nothing after them.
-use Rattle.std.specs.Prelude.{ℕ, List, [], ◌∷◌, length, take, drop, Option, Some, None, option_and_then, option_map, bytes_eq, codes, ◌==◌, if◌then◌else◌}
+use Rattle.std.specs.Prelude.{ℕ, List, [], ◌∷◌, length, take, drop, Option, Some, None, option_map, bytes_eq, codes, ◌==◌, if◌then◌else◌}
 use Rattle.std.specs.List.{slice_split}
 use Rattle.std.specs.Option.{option_or}
 use Rattle.ratio_core.specs.Rational.{Rational}
@@ -10,13 +10,10 @@ use Rattle.user_model.specs.declared.row.Row.{Row}
 use Rattle.certificates.specs.declared.certificate.Certificate.{Certificate}
 use Rattle.certificates.specs.declared.certificate.Certificate.TheVariants as certificate
 use Rattle.certificates.specs.Points.{functions_of}
+use Rattle.script_words.specs.Each.{◌>>=◌, each}
 use Rattle.cert_text.specs.declared.heading.Heading.{Heading}
 use Rattle.cert_text.specs.declared.heading.Heading.TheVariants.{Optimal, Infeasible, Unbounded}
 use Rattle.cert_text.specs.Text.{Line, row_head, variable_head}
-
-infixl 10 ◌>>=◌
-abbrev pub ◌>>=◌ : {A B : Type 0} → Option A → (A → Option B) → Option B
-o >>= f = option_and_then f o
 
 -- the lines that are left
 abbrev pub Lines : Type 0
@@ -35,14 +32,6 @@ unfoldable pub number_after : List ℕ → List ℕ → Option Rational
 number_after beginning line = do
   rest ← after beginning line
   rational_of rest
-
--- what f gives of each, where it gives something of all
-abbrev pub each : {X Y : Type 0} → (X → Option Y) → List X → Option (List Y)
-each f [] = Some []
-each f (x ∷ xs) = do
-  y ← f x
-  ys ← each f xs
-  Some (y ∷ ys)
 
 -- numbers, each after a space
 abbrev pub numbers_in : List (List ℕ) → Option (List Rational)

@@ -2,6 +2,7 @@
 ghost use Rattle.std.specs.Prelude.{◌≡◌, IfOk, IfSome, option_map};
 ghost use Rattle.ratio_core.specs.Text.{rational_of};
 ghost use Rattle.cert_core.specs.Variables.{variables_of};
+ghost use Rattle.script_words.specs.Each.{each};
 ghost use Rattle.cert_text.specs.Reading as texts;
 ghost use Rattle.cert_text.specs.ReadsBack.{HasItsEntries};
 
@@ -241,7 +242,7 @@ fn numbers(alloc: Global, text: &[u8]) -> Result<Option<Ratios>, Memory>
 }
 
 fn each_number(alloc: Global, words: Pieces<'_>) -> Result<Option<Ratios>, Memory>
-    ensures { IfOk result (λ numbers. numbers ≡ texts.each rational_of words.entry) }
+    ensures { IfOk result (λ numbers. numbers ≡ each rational_of words.entry) }
 {
     let mut numbers = Vec::new(alloc);
     for word in words {

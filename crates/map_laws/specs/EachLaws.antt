@@ -1,7 +1,7 @@
 -- What holds of each of a list, by parts.
-use Rattle.std.specs.Prelude.{◌≡◌, ◌+◌, ◌<◌, ◌≤◌, ℕ, zero, suc, Bool, true, List, [], ◌∷◌, ◌++◌, All, Contains, Some, length, map, slice_get, refl}
+use Rattle.std.specs.Prelude.{◌≡◌, ◌+◌, ◌<◌, ◌≤◌, ℕ, zero, suc, Bool, true, List, [], ◌∷◌, ◌++◌, All, Contains, IfSome, Option, Some, None, length, map, slice_get, refl}
 use Rattle.std.proofs.Common.{ap, ap₂, arith, subst, sym, ◌∙◌}
-use Rattle.std.specs.List.{list_all, range_with_len, zip}
+use Rattle.std.specs.List.{cons_option, filter_map, list_all, range_with_len, zip}
 use Rattle.std.proofs.lemmas.Bool.{and_parts}
 use Rattle.std.proofs.lemmas.Option.{none-some, same_Some}
 use Rattle.std.proofs.lemmas.List.Elements.{All-cons, All-head, All-nil, All-tail}
@@ -28,6 +28,19 @@ all_from_map P f [] h = All-nil (λ x. P (f x))
 all_from_map P f (x ∷ xs) h =
     All-cons (λ y. P (f y)) x xs (All-head P (f x) (map f xs) h)
     (all_from_map P f xs (All-tail P (f x) (map f xs) h))
+
+module _ {X : Type 0} (P : X → Type 0) where
+  -- what holds of every item that is kept, as f makes it
+  pub All-filter_map : (Q : X → Type 0) (f : X → Option X) (xs : List X)
+      → ((x : X) → Q x → IfSome (f x) P) → All Q xs → All P (filter_map f xs)
+  All-filter_map Q f [] each h = All-nil P
+  All-filter_map Q f (x ∷ xs) each h =
+      first (f x) (each x (All-head Q x xs h)) (All-filter_map Q f xs each (All-tail Q x xs h))
+    where
+      first : (o : Option X) → IfSome o P → All P (filter_map f xs)
+          → All P (cons_option o (filter_map f xs))
+      first None at rest = rest
+      first (Some y) at rest = All-cons P y (filter_map f xs) at rest
 
 -- of a zip, what holds of each second
 pub all_seconds : {A B : Type 0} (P : B → Type 0) (xs : List A) (ys : List B) → All P ys

@@ -3,6 +3,7 @@ pub mod EntryLaws
 pub mod LoopLaws
 pub mod MadeLaws
 pub mod OptionLaws
+pub mod PairLaws
 pub mod PlaceLaws
 pub mod PutLaws
 pub mod SumLaws

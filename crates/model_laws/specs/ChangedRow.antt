@@ -17,7 +17,7 @@ use Rattle.user_model.specs.Model.{ModelValue, row_named}
 use Rattle.user_model.specs.Refusals.{terms_of_row}
 use Rattle.model_laws.specs.Changed.{change_row-found}
 use Rattle.model_laws.specs.Located.{row_by_number, row_name}
-use Rattle.model_laws.specs.Pairs.{AllPairs-before}
+use Rattle.map_laws.specs.PairLaws.{AllPairs-before}
 use Rattle.model_laws.specs.Replaced.{replaced}
 
 -- the one after others of other names

@@ -8,7 +8,7 @@ use Rattle.user_model.specs.declared.row.Row.{Row}
 use Rattle.user_model.specs.Model.{empty_model, group_of, is_variable}
 use Rattle.user_model.specs.Edited.{group_number, row_number}
 use Rattle.user_model.specs.Consistent.{IsConsistent, variable_number}
-use Rattle.model_laws.specs.Pairs.{AllPairs-nil}
+use Rattle.map_laws.specs.PairLaws.{AllPairs-nil}
 
 pub empty_consistent : IsConsistent empty_model
 empty_consistent = record {

@@ -12,7 +12,7 @@ use Rattle.numbered.specs.Laws.{KeepsNumbers, Rise-filter, find-filter_map, same
 use Rattle.numbered.specs.SetLaws.{put_last}
 use Rattle.numbered.specs.ChangeLaws.{AreChanges-cons, AreChanges-nil, AreChanges-olds, Rise-set_all, find-changed, find-olds, find-set_all}
 use Rattle.user_model.specs.Undone.{AreDifferences}
-use Rattle.model_laws.specs.Pairs.{AllPairs-map}
+use Rattle.map_laws.specs.PairLaws.{AllPairs-map}
 
 module _ {X : Type 0} (number_of : X → ℕ) where
   -- an item is to stand at its number

@@ -20,7 +20,7 @@ use Rattle.user_model.specs.Model.{ModelValue, group_of, has_variable, is_variab
 use Rattle.user_model.specs.Edited.{add_group, add_row, group_number, numbered_from, row_number}
 use Rattle.user_model.specs.Refusals.{has_row_named, has_twins, has_variable_named}
 use Rattle.user_model.specs.Consistent.{IsConsistent, IsWithinLimits, variable_number}
-use Rattle.model_laws.specs.Pairs.{AllPairs-append}
+use Rattle.map_laws.specs.PairLaws.{AllPairs-append}
 use Rattle.model_laws.specs.Found.{none_pass}
 use Rattle.model_laws.specs.Variables.{group_found, vars_in}
 use Rattle.model_laws.specs.Numbering.{numbered_below, numbered_distinct, numbered_from_on, numbered_length, numbered_names, numbered_rise}

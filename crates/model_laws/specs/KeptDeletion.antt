@@ -18,7 +18,8 @@ use Rattle.user_model.specs.Model.{ModelValue, group_of, has_variable, is_variab
 use Rattle.user_model.specs.Edited.{group_number, row_number}
 use Rattle.user_model.specs.Deletion.{group_without, objective_without, row_without, without_variable}
 use Rattle.user_model.specs.Consistent.{IsConsistent, IsWithinLimits, variable_number}
-use Rattle.model_laws.specs.Pairs.{All-filter_map, distinct-filter_map}
+use Rattle.map_laws.specs.EachLaws.{All-filter_map}
+use Rattle.map_laws.specs.PairLaws.{distinct-filter_map}
 use Rattle.model_laws.specs.Replaced.{length_filter}
 use Rattle.model_laws.specs.RowWithout.{row_without_is}
 use Rattle.model_laws.specs.GroupWithout.{group_keeps_number, others_stand, vars_without}

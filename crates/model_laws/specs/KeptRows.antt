@@ -11,7 +11,7 @@ use Rattle.user_model.specs.Limits.{ALL_TERMS, ROWS}
 use Rattle.user_model.specs.Model.{ModelValue, group_of, is_variable, total_terms}
 use Rattle.user_model.specs.Edited.{row_number}
 use Rattle.user_model.specs.Consistent.{IsConsistent, IsWithinLimits}
-use Rattle.model_laws.specs.Pairs.{distinct-replaced}
+use Rattle.map_laws.specs.PairLaws.{distinct-replaced}
 use Rattle.model_laws.specs.Replaced.{All-put, All-without, AllPairs-without, replaced, sum_put, length_put, sum_without, length_without}
 
 -- the rows are on variables that stand

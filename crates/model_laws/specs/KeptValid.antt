@@ -7,7 +7,7 @@ use Rattle.std.proofs.lemmas.Bool.{and_parts, both_ways, eqb-true, not-false, or
 use Rattle.std.proofs.lemmas.List.{length-map}
 use Rattle.std.proofs.lemmas.List.Elements.{All-append, All-head, All-nil, All-cons, All-tail}
 use Rattle.std.proofs.lemmas.List.Folds.{list_any-append}
-use Rattle.map_laws.specs.EachLaws.{all_first, all_second}
+use Rattle.map_laws.specs.EachLaws.{All-filter_map, all_first, all_second}
 use Rattle.numbered.specs.Numbered.{put}
 use Rattle.aff_core.specs.Address.{Address, address_eq, address_eq-Decides}
 use Rattle.aff_core.specs.Function.{with_coefficient}
@@ -47,7 +47,6 @@ use Rattle.model_laws.specs.KeptWithin.{kept_within}
 use Rattle.model_laws.specs.Located.{group_by_number, row_by_number, variable_found, variable_located}
 use Rattle.model_laws.specs.Needed.{needed_row_there, needed_variable, unknown}
 use Rattle.model_laws.specs.Numbering.{numbered_length}
-use Rattle.model_laws.specs.Pairs.{All-filter_map}
 use Rattle.model_laws.specs.PartsLeft.{created_left, group_left_valid, objective_left_valid, resized_is, row_left_bounds, row_left_valid, stands_left}
 use Rattle.model_laws.specs.Passed.{IsPassed, passed}
 use Rattle.model_laws.specs.Renamed.{renamed_stands}

@@ -1,6 +1,5 @@
 -- What other crates cite.
 pub mod Passed
-pub mod Pairs
 pub mod Replaced
 pub mod Found
 pub mod Variables

@@ -11,7 +11,7 @@ use Rattle.numbered.specs.Laws.{Rise-nil, Rise-cons}
 use Rattle.user_model.specs.Edited.{numbered_from}
 use Rattle.user_model.specs.Consistent.{variable_number}
 use Rattle.user_model.specs.Refusals.{has_twins}
-use Rattle.model_laws.specs.Pairs.{AllPairs-nil}
+use Rattle.map_laws.specs.PairLaws.{AllPairs-nil}
 use Rattle.model_laws.specs.Found.{others_of_name}
 
 pub numbered_length : (n : ℕ) (names : List (List ℕ))

@@ -9,7 +9,7 @@ use Rattle.numbered.specs.Numbered.{Rise}
 use Rattle.user_model.specs.declared.group.GroupVar.{GroupVar}
 use Rattle.user_model.specs.Edited.{renamed}
 use Rattle.user_model.specs.Consistent.{variable_number}
-use Rattle.model_laws.specs.Pairs.{AllPairs-map}
+use Rattle.map_laws.specs.PairLaws.{AllPairs-map}
 
 module _ (n : ℕ) (name : List ℕ) where
   pub renamed_number : (v : GroupVar) → (renamed n name v).number ≡ v.number

@@ -15,7 +15,7 @@ use Rattle.user_model.specs.declared.group.GroupVar.{GroupVar}
 use Rattle.user_model.specs.Model.{has_variable}
 use Rattle.user_model.specs.Edited.{group_number, renamed}
 use Rattle.user_model.specs.Consistent.{variable_number}
-use Rattle.model_laws.specs.Pairs.{AllPairs-head, AllPairs-tail}
+use Rattle.map_laws.specs.PairLaws.{AllPairs-head, AllPairs-tail}
 use Rattle.model_laws.specs.Replaced.{replaced}
 use Rattle.model_laws.specs.Found.{is_some-find, list_any-flat_map}
 

@@ -29,7 +29,7 @@ use Rattle.model_laws.specs.GroupWithout.{group_keeps_number, others, others_sta
 use Rattle.model_laws.specs.KeptDeletion.{row_keeps_number}
 use Rattle.model_laws.specs.ItemChanges.{edit_of, edits_of, find-filter, one_change}
 use Rattle.model_laws.specs.Mentions.{failing_none, row_unmentioned}
-use Rattle.model_laws.specs.Pairs.{AllPairs-map}
+use Rattle.map_laws.specs.PairLaws.{AllPairs-map}
 use Rattle.model_laws.specs.DeletionChanges.{AreChanges-deletion, deletion_changes, deletion_makes, group_deletion, group_deletion_makes}
 use Rattle.model_laws.specs.RowWithout.{IsRowWithout, row_without_is}
 use Rattle.model_laws.specs.Differing.{Differs, deletion_differs, group_deletion_differs}

@@ -29,7 +29,7 @@ use Rattle.model_laws.specs.KeptWithin.{kept_within}
 use Rattle.model_laws.specs.ItemChanges.{set_all_last, set_to}
 use Rattle.model_laws.specs.Located.{free_variable, group_by_number, variable_located, variable_of_name}
 use Rattle.model_laws.specs.Numbering.{numbered_from_on, numbered_rise}
-use Rattle.model_laws.specs.Pairs.{AllPairs-map}
+use Rattle.map_laws.specs.PairLaws.{AllPairs-map}
 use Rattle.model_laws.specs.Renamed.{renamed_number, renamed_stands, renamed_there}
 use Rattle.model_laws.specs.Replaced.{replaced}
 use Rattle.model_laws.specs.Shapes.{group_name_other, group_set_other, group_set_same}

@@ -23,7 +23,7 @@ use Rattle.user_model.specs.declared.row.Row.{Row}
 use Rattle.user_model.specs.Functions.{components, named_components}
 use Rattle.user_model.specs.Model.{ModelValue, variables}
 use Rattle.user_model.specs.Valid.{IsValid, IsValidGroup, IsValidRow}
-use Rattle.model_laws.specs.Pairs.{AllPairs-head, AllPairs-tail}
+use Rattle.map_laws.specs.PairLaws.{AllPairs-head, AllPairs-tail}
 use Rattle.model_laws.specs.Located.{stands_in_joined}
 use Rattle.serde_json.specs.Data.{Data, string}
 use Rattle.serde_json.specs.Find.{as_object, get}

@@ -1,15 +1,15 @@
 -- The groups of a valid model, added one after another, are accepted and renumbered.
-use Rattle.std.specs.Prelude.{◌≡◌, ◌≢◌, ℕ, suc, ◌+◌, ◌≤◌, ◌==◌, Bool, true, false, ◌&&◌, not, List, [], ◌∷◌, ◌++◌, All, AllPairs, bytes_eq, find, length, map, slice_index_or, refl}
+use Rattle.std.specs.Prelude.{◌≡◌, ◌≢◌, ℕ, suc, ◌+◌, ◌≤◌, ◌==◌, Bool, true, false, ◌&&◌, not, List, [], ◌∷◌, ◌++◌, All, AllPairs, bytes_eq, find, length, map, refl}
 use Rattle.std.specs.List.{list_any}
 use Rattle.std.proofs.Common.{ap, ap₂, append-nil, append_assoc, arith, subst, sym, ◌∙◌}
 use Rattle.std.proofs.lemmas.Bool.{le-ltb, and_right, eq-eqb, false_from_ne_true, or_from}
 use Rattle.std.proofs.lemmas.List.{length-append, length-map, map_push}
-use Rattle.std.proofs.lemmas.List.Kept.{AllPairs-cons}
 use Rattle.std.proofs.lemmas.List.Concat.{flat_map-append}
-use Rattle.std.proofs.lemmas.List.Elements.{All-cons, All-head, All-tail}
+use Rattle.std.proofs.lemmas.List.Elements.{All-head, All-tail}
 use Rattle.std.proofs.lemmas.Slice.Eq.{bytes_eq-Decides}
 use Rattle.map_laws.specs.OptionLaws.{is_some-option_map}
 use Rattle.map_laws.specs.EachLaws.{all_first, all_second}
+use Rattle.map_laws.specs.PairLaws.{AllPairs-across, AllPairs-first, AllPairs-head, AllPairs-second, AllPairs-tail}
 use Rattle.set_core.specs.declared.set.Set.{Set}
 use Rattle.set_core.specs.Shapes.{IsSetOf, dimension_of, has_bad_dimension, is_scalar, least_dimension}
 use Rattle.set_core.specs.ShapeLaws.{scalar_one}
@@ -24,7 +24,6 @@ use Rattle.user_model.specs.Refusals.{counts, has_twins, has_variable_named}
 use Rattle.user_model.specs.SameUpToNumbers.{group_by_position}
 use Rattle.user_model.specs.Valid.{IsValid, IsValidGroup}
 use Rattle.model_laws.specs.Found.{is_some-find}
-use Rattle.model_laws.specs.Pairs.{AllPairs-head, AllPairs-tail}
 use Rattle.model_laws.specs.Passed.{IsPassed}
 use Rattle.mof_laws.specs.EditLaws.{group_edit, some_components}
 use Rattle.mof_laws.specs.OwnerLaws.{vars_in}
@@ -52,15 +51,6 @@ right_dimension set n h =
 
 -- ---- names that are apart
 
--- items of one list, and those of another behind it
-pub across : {X : Type 0} (R : X → X → Type 0) (xs ys : List X) → AllPairs R (xs ++ ys)
-    → All {X = X} (λ y. All {X = X} (λ x. R x y) xs) ys
-across R [] ys h = λ k d within. λ i e inside. absurd (omega arith)
-across R (x ∷ xs) ys h = λ k d within.
-    All-cons (λ z. R z (slice_index_or ys k d)) x xs
-    (all_second (R x) xs ys (AllPairs-head R x (xs ++ ys) h) k d within)
-    (across R xs ys (AllPairs-tail R x (xs ++ ys) h) k d within)
-
 pub other_name : (name other : List ℕ) → name ≢ other → bytes_eq name other ≡ false
 other_name name other apart =
     false_from_ne_true _ (λ e. apart ((bytes_eq-Decides name other).0 e))
@@ -73,18 +63,6 @@ no_twins (v ∷ vs) h =
     (none_made (λ w. w.name) (λ w. v.name ≢ w.name) (bytes_eq v.name)
     (λ w. other_name v.name w.name) vs (AllPairs-head (λ v w. v.name ≢ w.name) v vs h))
     (no_twins vs (AllPairs-tail (λ v w. v.name ≢ w.name) v vs h))
-
-pairs_left : {X : Type 0} (R : X → X → Type 0) (xs ys : List X) → AllPairs R (xs ++ ys)
-    → AllPairs R xs
-pairs_left R [] ys h = λ i j d lt end. absurd (omega arith)
-pairs_left R (x ∷ xs) ys h =
-    AllPairs-cons R x xs (all_first (R x) xs ys (AllPairs-head R x (xs ++ ys) h))
-    (pairs_left R xs ys (AllPairs-tail R x (xs ++ ys) h))
-
-pairs_right : {X : Type 0} (R : X → X → Type 0) (xs ys : List X) → AllPairs R (xs ++ ys)
-    → AllPairs R ys
-pairs_right R [] ys h = h
-pairs_right R (x ∷ xs) ys h = pairs_right R xs ys (AllPairs-tail R x (xs ++ ys) h)
 
 -- ---- a model with the first groups alone
 
@@ -172,12 +150,12 @@ module _ (model : ModelValue) (valid : IsValid model) where
         none_made (λ v. v.name) (NewName done) (has_variable_named (with_groups model done))
         (λ w. unnamed model done w.name) g.vars
         (all_first (NewName done) g.vars (vars_in rest)
-        (across OtherName (vars_in done) (g.vars ++ vars_in rest) names_apart))
+        (AllPairs-across OtherName (vars_in done) (g.vars ++ vars_in rest) names_apart))
 
     single_names : has_twins (var_names g.vars) ≡ false
     single_names =
-        no_twins g.vars (pairs_left OtherName g.vars (vars_in rest)
-        (pairs_right OtherName (vars_in done) (g.vars ++ vars_in rest) names_apart))
+        no_twins g.vars (AllPairs-first OtherName g.vars (vars_in rest)
+        (AllPairs-second OtherName (vars_in done) (g.vars ++ vars_in rest) names_apart))
 
     names_count : length (var_names g.vars) ≡ length g.vars
     names_count = length-map g.vars (λ v. v.name)

@@ -29,7 +29,7 @@ use Rattle.user_model.specs.SameUpToNumbers.{groups_by_position, row_by_position
 use Rattle.user_model.specs.Sets.{sets_lower, sets_upper}
 use Rattle.user_model.specs.Valid.{IsValid, IsValidRow, Stands, bound_count}
 use Rattle.model_laws.specs.Found.{is_some-find, list_any-flat_map, one_passes}
-use Rattle.model_laws.specs.Pairs.{AllPairs-before}
+use Rattle.map_laws.specs.PairLaws.{AllPairs-before}
 use Rattle.model_laws.specs.Needed.{unknown}
 use Rattle.model_laws.specs.Passed.{IsPassed}
 use Rattle.mof_write.specs.Written.{naming}

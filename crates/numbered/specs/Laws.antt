@@ -5,13 +5,14 @@ use Rattle.std.specs.Option.{option_and_then}
 use Rattle.std.proofs.Common.{arith, sym, ap, subst, inl, inr, ◌∙◌}
 use Rattle.std.proofs.lemmas.Bool.{cases_eq, cases_order, eq-eqb, ne_eqb}
 use Rattle.std.proofs.lemmas.Option.{slice_get_within, get_or_from_slice_get}
-use Rattle.std.proofs.lemmas.List.Elements.{All-nil, All-cons, All-head, All-tail, All-weaker}
+use Rattle.std.proofs.lemmas.List.Elements.{All-append, All-nil, All-cons, All-head, All-tail, All-weaker}
 use Rattle.std.proofs.lemmas.List.Kept.{AllPairs-cons, AllPairs-filter}
+use Rattle.map_laws.specs.PairLaws.{AllPairs-head, AllPairs-nil, AllPairs-tail}
 use Rattle.numbered.specs.Numbered.{Rise, find, IsAt}
 
 module _ {X : Type 0} (number_of : X → ℕ) where
   pub Rise-nil : Rise number_of []
-  Rise-nil = record { rising = λ i j d lt end. absurd (omega arith) }
+  Rise-nil = record { rising = AllPairs-nil (λ x y. number_of x < number_of y) }
 
   pub Rise-cons : (x : X) (xs : List X) → All (λ y. number_of x < number_of y) xs
       → Rise number_of xs → Rise number_of (x ∷ xs)
@@ -20,11 +21,11 @@ module _ {X : Type 0} (number_of : X → ℕ) where
 
   pub Rise-head : (x : X) (xs : List X) → Rise number_of (x ∷ xs)
       → All (λ y. number_of x < number_of y) xs
-  Rise-head x xs rise = λ k d end. rise.rising 0 (suc k) d (omega arith) (omega arith)
+  Rise-head x xs rise = AllPairs-head (λ x y. number_of x < number_of y) x xs rise.rising
 
   pub Rise-tail : (x : X) (xs : List X) → Rise number_of (x ∷ xs) → Rise number_of xs
   Rise-tail x xs rise =
-      record { rising = λ i j d lt end. rise.rising (suc i) (suc j) d (omega arith) (omega arith) }
+      record { rising = AllPairs-tail (λ x y. number_of x < number_of y) x xs rise.rising }
 
   pub Rise-filter : (p : X → Bool) (xs : List X) → Rise number_of xs → Rise number_of (filter p xs)
   Rise-filter p xs rise =
@@ -35,20 +36,17 @@ module _ {X : Type 0} (number_of : X → ℕ) where
       → Rise number_of ys → All (λ y. n ≤ number_of y) ys → Rise number_of (xs ++ ys)
   Rise-append n [] ys up low rest high = rest
   Rise-append n (x ∷ xs) ys up low rest high =
-      Rise-cons x (xs ++ ys) (above_both xs (Rise-head x xs up))
+      Rise-cons x (xs ++ ys)
+      (All-append (λ y. number_of x < number_of y) xs ys (Rise-head x xs up) above)
       (Rise-append n xs ys (Rise-tail x xs up) (All-tail (λ x. number_of x < n) x xs low) rest
       high)
     where
       lesser : number_of x < n
       lesser = All-head (λ x. number_of x < n) x xs low
 
-      above_both : (zs : List X) → All (λ y. number_of x < number_of y) zs
-          → All (λ y. number_of x < number_of y) (zs ++ ys)
-      above_both [] h = All-weaker (λ y. n ≤ number_of y) (λ y. number_of x < number_of y)
+      above : All (λ y. number_of x < number_of y) ys
+      above = All-weaker (λ y. n ≤ number_of y) (λ y. number_of x < number_of y)
           (λ y le. omega (arith, lesser)) ys high
-      above_both (z ∷ zs) h = All-cons (λ y. number_of x < number_of y) z (zs ++ ys)
-          (All-head (λ y. number_of x < number_of y) z zs h)
-          (above_both zs (All-tail (λ y. number_of x < number_of y) z zs h))
 
   -- an item of a greater number comes last
   pub Rise-push : (xs : List X) (x : X) → Rise number_of xs

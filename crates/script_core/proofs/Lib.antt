@@ -1,3 +1,2 @@
 mod Components
-mod Each
 mod Keywords

@@ -13,11 +13,12 @@ use Rattle.script_core.specs.declared.reading.Reading.{Reading}
 use Rattle.script_core.specs.declared.reading.Reading.TheVariants as reading
 use Rattle.script_core.specs.Changes.{coefficient_form, vector_coefficient_form, constant_form, vector_constant_form, objective_coefficient_form, objective_constant_form, row_set_form, reset_form, free_form, delete_variable_form, delete_row_form, rename_variable_form, rename_row_form}
 use Rattle.script_core.specs.Keyword.{keyword_of}
-use Rattle.script_core.specs.Reading.{◌>>=◌, Tokens, says, alone}
+use Rattle.script_core.specs.Reading.{Tokens, says, alone}
 use Rattle.script_core.specs.Rows.{bound_form, row_form, vector_bound_form, vector_row_form, objective_form, objective_variable_form}
 use Rattle.script_core.specs.Solver.{optimize_form, load_form}
 use Rattle.script_core.specs.Tables.{target_form, support_form, cost_form, switch_form}
 use Rattle.script_core.specs.Variables.{variable_form, group_form}
+use Rattle.script_words.specs.Each.{◌>>=◌}
 use Rattle.script_words.specs.Tokens.{is_line_byte, tokens_of}
 
 -- a word alone

@@ -3,7 +3,8 @@ use Rattle.std.specs.Prelude.{ℕ, List, [], ◌∷◌, Option, Some, None, opti
 use Rattle.name_index.specs.Name.{name_of_token}
 use Rattle.ratio_core.specs.Rational.{Rational}
 use Rattle.ratio_core.specs.Text.{rational_of}
-use Rattle.script_core.specs.Reading.{◌>>=◌, Tokens, each}
+use Rattle.script_core.specs.Reading.{Tokens}
+use Rattle.script_words.specs.Each.{◌>>=◌, each}
 
 abbrev pub names_of : Tokens → Option (List (List ℕ))
 names_of tokens = each name_of_token tokens

@@ -7,10 +7,6 @@ use Rattle.script_core.specs.declared.command.Command.TheVariants as command
 use Rattle.script_core.specs.declared.reading.Reading.{Reading}
 use Rattle.script_core.specs.declared.reading.Reading.TheVariants.{Says, Overflow}
 
-infixl 10 ◌>>=◌
-abbrev pub ◌>>=◌ : {A B : Type 0} → Option A → (A → Option B) → Option B
-o >>= f = option_and_then f o
-
 -- the tokens of a line, or what is left of them
 abbrev pub Tokens : Type 0
 Tokens = List (List ℕ)
@@ -35,11 +31,3 @@ makes_with edit None = Some Overflow
 abbrev pub alone : {X : Type 0} → X → Tokens → Option X
 alone x [] = Some x
 alone x (_ ∷ _) = None
-
--- what f gives of each, where it gives something of all
-abbrev pub each : {X Y : Type 0} → (X → Option Y) → List X → Option (List Y)
-each f [] = Some []
-each f (x ∷ xs) = do
-  y ← f x
-  ys ← each f xs
-  Some (y ∷ ys)

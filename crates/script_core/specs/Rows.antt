@@ -6,10 +6,11 @@ use Rattle.user_model.specs.declared.edit.NamedFunc.TheVariants.{Plain, Affine, 
 use Rattle.user_model.specs.declared.edit.Edit.TheVariants.{AddRow, Objective}
 use Rattle.script_core.specs.declared.reading.Reading.{Reading}
 use Rattle.script_core.specs.Names.{names_of, last_name_of}
-use Rattle.script_core.specs.Reading.{◌>>=◌, Tokens, makes, makes_with}
+use Rattle.script_core.specs.Reading.{Tokens, makes, makes_with}
 use Rattle.script_core.specs.Sets.{relation_of, last_named_relation_of, vector_set_of}
 use Rattle.script_core.specs.Sums.{function_of, functions_of}
 use Rattle.script_core.specs.Terms.{terms_of, function_terms_of, component_terms_of}
+use Rattle.script_words.specs.Each.{◌>>=◌}
 
 -- bound R X REL
 unfoldable pub bound_form : Tokens → Option Reading

@@ -5,9 +5,10 @@ use Rattle.set_core.specs.declared.set.Set.{Set}
 use Rattle.set_core.specs.declared.set.Set.TheVariants.{Reals}
 use Rattle.user_model.specs.declared.edit.Edit.TheVariants.{AddGroup}
 use Rattle.script_core.specs.declared.reading.Reading.{Reading}
-use Rattle.script_core.specs.Reading.{◌>>=◌, Tokens, is, makes, alone}
+use Rattle.script_core.specs.Reading.{Tokens, is, makes, alone}
 use Rattle.script_core.specs.Names.{names_of}
 use Rattle.script_core.specs.Sets.{last_relation_of, vector_set_of}
+use Rattle.script_words.specs.Each.{◌>>=◌}
 
 -- free, which is one real number, or a relation
 unfoldable pub creation_set_of : Tokens → Option Set

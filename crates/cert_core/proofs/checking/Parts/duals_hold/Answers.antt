@@ -6,7 +6,8 @@ use Rattle.certificates.specs.Duals.{groups_with, rows_with}
 use Rattle.cert_core.specs.Variables.{all_addresses}
 use Rattle.cert_core.proofs.Answered.{passed_on}
 use Rattle.cert_core.proofs.Assembled.{numbers_of_model}
-use Rattle.cert_core.proofs.Tested.{all_parts, all_two, appended_tell, iff_trans}
+use Rattle.map_laws.specs.EachLaws.{all_first, all_second}
+use Rattle.cert_core.proofs.Tested.{all_two, appended_tell, iff_trans}
 use Rattle.cert_core.proofs.checking.Parts.duals_hold.Goals as goal
 
 abbrev F : Held → Type 0
@@ -23,7 +24,7 @@ returns-in_err-rows c = λ next.
     let back = groups_with w groups in
     passed_on c.from_residual.result c.in_err-rows.field-0.0 (All F front) (All F (front ++ back))
     (λ holds. IsTrue holds ↔ All P (front ++ back)) (λ holds. IsTrue holds ↔ All P front)
-    c.from_residual.ensures.1 c.in_err-rows.ensures (λ all. (all_parts F front back all).0)
+    c.from_residual.ensures.1 c.in_err-rows.ensures (all_first F front back)
 
 pub returns-in_err-groups : goal.returns-in_err-groups
 returns-in_err-groups c = λ next.
@@ -36,7 +37,7 @@ returns-in_err-groups c = λ next.
     passed_on c.from_residual-in_err-groups.result c.in_err-groups.field-0.0 (All F back)
     (All F (front ++ back)) (λ holds. IsTrue holds ↔ All P (front ++ back))
     (λ holds. IsTrue holds ↔ All P back) c.from_residual-in_err-groups.ensures.1
-    (c.in_err-groups.ensures w w_is) (λ all. (all_parts F front back all).1)
+    (c.in_err-groups.ensures w w_is) (all_second F front back)
 
 pub returns : goal.returns
 returns c = λ next.

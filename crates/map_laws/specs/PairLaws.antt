@@ -1,23 +1,10 @@
 -- Laws of lists whose items are apart two by two.
-use Rattle.std.specs.Prelude.{◌≡◌, ◌≢◌, ◌⊎◌, suc, List, [], ◌∷◌, ◌++◌, Option, Some, None, IfSome, All, AllPairs, map}
+use Rattle.std.specs.Prelude.{◌≡◌, ◌≢◌, ◌⊎◌, suc, List, [], ◌∷◌, ◌++◌, Option, Some, None, IfSome, All, AllPairs, map, slice_index_or}
 use Rattle.std.specs.List.{filter_map, cons_option}
 use Rattle.std.proofs.Common.{arith, sym, inl, inr, ◌∙◌}
 use Rattle.std.proofs.lemmas.List.Elements.{All-nil, All-cons, All-head, All-tail, All-append}
 use Rattle.std.proofs.lemmas.List.Kept.{AllPairs-cons}
-use Rattle.map_laws.specs.EachLaws.{all_first, all_second}
-
-module _ {X : Type 0} (P : X → Type 0) where
-  -- what holds of every item that an edit keeps
-  pub All-filter_map : (Q : X → Type 0) (f : X → Option X) (xs : List X)
-      → ((x : X) → Q x → IfSome (f x) P) → All Q xs → All P (filter_map f xs)
-  All-filter_map Q f [] each h = All-nil P
-  All-filter_map Q f (x ∷ xs) each h =
-      first (f x) (each x (All-head Q x xs h)) (All-filter_map Q f xs each (All-tail Q x xs h))
-    where
-      first : (o : Option X) → IfSome o P → All P (filter_map f xs)
-          → All P (cons_option o (filter_map f xs))
-      first None at rest = rest
-      first (Some y) at rest = All-cons P y (filter_map f xs) at rest
+use Rattle.map_laws.specs.EachLaws.{All-filter_map, all_first, all_second}
 
 module _ {X : Type 0} (R : X → X → Type 0) where
   pub AllPairs-nil : AllPairs R []
@@ -38,19 +25,34 @@ module _ {X : Type 0} (R : X → X → Type 0) where
       (All-head (λ x. All (R x) ys) x xs across)) (AllPairs-append xs ys (AllPairs-tail x xs h)
       k (All-tail (λ x. All (R x) ys) x xs across))
 
+  -- of two lists one after the other: each alone, and the items of the one with those of the other
+  pub AllPairs-first : (xs ys : List X) → AllPairs R (xs ++ ys) → AllPairs R xs
+  AllPairs-first [] ys h = AllPairs-nil
+  AllPairs-first (x ∷ xs) ys h =
+      AllPairs-cons R x xs (all_first (R x) xs ys (AllPairs-head x (xs ++ ys) h))
+      (AllPairs-first xs ys (AllPairs-tail x (xs ++ ys) h))
+
+  pub AllPairs-second : (xs ys : List X) → AllPairs R (xs ++ ys) → AllPairs R ys
+  AllPairs-second [] ys h = h
+  AllPairs-second (x ∷ xs) ys h = AllPairs-second xs ys (AllPairs-tail x (xs ++ ys) h)
+
+  pub AllPairs-across : (xs ys : List X) → AllPairs R (xs ++ ys)
+      → All {X = X} (λ y. All {X = X} (λ x. R x y) xs) ys
+  AllPairs-across [] ys h = λ k d within. All-nil (λ x. R x (slice_index_or ys k d))
+  AllPairs-across (x ∷ xs) ys h = λ k d within.
+      All-cons (λ z. R z (slice_index_or ys k d)) x xs
+      (all_second (R x) xs ys (AllPairs-head x (xs ++ ys) h) k d within)
+      (AllPairs-across xs ys (AllPairs-tail x (xs ++ ys) h) k d within)
+
   -- the items before one, and those after it
   pub AllPairs-before : (xs : List X) (y : X) (ys : List X) → AllPairs R (xs ++ (y ∷ ys))
       → All (λ x. R x y) xs
-  AllPairs-before [] y ys h = All-nil (λ x. R x y)
-  AllPairs-before (x ∷ xs) y ys h =
-      All-cons (λ x. R x y) x xs (All-head (R x) y ys
-      (all_second (R x) xs (y ∷ ys) (AllPairs-head x (xs ++ (y ∷ ys)) h)))
-      (AllPairs-before xs y ys (AllPairs-tail x (xs ++ (y ∷ ys)) h))
+  AllPairs-before xs y ys h =
+      All-head (λ z. All (λ x. R x z) xs) y ys (AllPairs-across xs (y ∷ ys) h)
 
   pub AllPairs-after : (xs : List X) (y : X) (ys : List X) → AllPairs R (xs ++ (y ∷ ys))
       → All (R y) ys
-  AllPairs-after [] y ys h = AllPairs-head y ys h
-  AllPairs-after (x ∷ xs) y ys h = AllPairs-after xs y ys (AllPairs-tail x (xs ++ (y ∷ ys)) h)
+  AllPairs-after xs y ys h = AllPairs-head y ys (AllPairs-second xs (y ∷ ys) h)
 
   -- another item in an item's place
   pub AllPairs-replaced : (xs : List X) (y z : X) (ys : List X) → AllPairs R (xs ++ (y ∷ ys))
