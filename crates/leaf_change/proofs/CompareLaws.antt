@@ -4,10 +4,10 @@ use Rattle.std.specs.FinMap as finite
 use Rattle.std.specs.FinMap.{FinMap}
 use Rattle.std.specs.Option.{option_map, option_map_or}
 use Rattle.std.specs.Ordering.{nat_cmp}
-use Rattle.std.proofs.Common.{sym, ◌∙◌, ap, subst, arith, true≢false}
+use Rattle.std.proofs.Common.{sym, ◌∙◌, ap, subst, true≢false}
 use Rattle.std.proofs.lemmas.Option.{none-some, same_Some}
 use Rattle.ratio_core.specs.Rational.{Rational, rational_eq}
-use Rattle.ratio_core.specs.RationalLaws.{eq_rational_eq, rational_eq-true, rational_eq_Decides}
+use Rattle.ratio_core.specs.RationalLaws.{eq_rational_eq, rational_eq-true}
 use Rattle.address_map.specs.Places.{Indices, IsAddressAt, IsOneToOne}
 use Rattle.aff_core.specs.Address.{Address, address_cmp, address_eq, address_eq-Decides}
 use Rattle.aff_core.specs.Function.{Function, coefficient}
@@ -18,6 +18,7 @@ use Rattle.leaf_change.specs.Named.{IsSameTerm}
 use Rattle.leaf_change.proofs.ThroughPuts.{get_past, get_put}
 use Rattle.leaf_model.specs.ReadThrough.{address_in, by_address, read_objective}
 use Rattle.set_core.specs.declared.set.Set.{Set}
+use Rattle.set_core.specs.SetLaws.{same_sets}
 use Rattle.set_core.specs.contracts.set.SetPartialEq.TheImpl as sets
 use Rattle.solver_store.specs.declared.leaf.LeafObjective.{LeafObjective}
 use Rattle.std_form.specs.NameLaws.{address_in_is}
@@ -92,11 +93,8 @@ variable_same indices i name at r one named same =
     let is : address_in indices i ≡ name = address_in_is indices one name i ((named name).0 refl) in
     (λ e. is ∙ same.0 e, λ e. same.1 (sym is ∙ e))
 
-set_cases : (s t : Set) → MatchBool ((sets.ghosts).eq s t) (s ≡ t) (s ≢ t)
-set_cases s t = grind (arith, rational_eq_Decides)
-
 pub sets_same : (s t : Set) (r : Bool) → r ≡ (sets.ghosts).eq s t → IsTrue r ↔ (s ≡ t)
-sets_same s t r is = by r (subst (λ b. MatchBool b (s ≡ t) (s ≢ t)) (sym is) (set_cases s t))
+sets_same s t r is = by r (subst (λ b. MatchBool b (s ≡ t) (s ≢ t)) (sym is) (same_sets s t))
   where
     by : (b : Bool) → MatchBool b (s ≡ t) (s ≢ t) → IsTrue b ↔ (s ≡ t)
     by true e = (λ _. e, λ _. refl)

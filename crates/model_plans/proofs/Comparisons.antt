@@ -1,14 +1,12 @@
--- What comparisons tell: whether a function has a coefficient or a constant, and whether two sets are the same.
-use Rattle.std.proofs.Common.{◌≡◌, ◌≢◌, Bool, true, false, ap, sym, ◌∙◌, arith}
+-- What comparisons tell: whether a function has a coefficient or a constant.
+use Rattle.std.proofs.Common.{◌≡◌, ◌≢◌, Bool, true, false, ap, sym, ◌∙◌}
 use Rattle.std.specs.Prelude.{MatchBool}
 use Rattle.ratio_core.specs.Rational.{Rational, rational_eq}
-use Rattle.ratio_core.specs.RationalLaws.{rational_eq-false, rational_eq-true, rational_eq_Decides}
+use Rattle.ratio_core.specs.RationalLaws.{rational_eq-false, rational_eq-true}
 use Rattle.aff_core.specs.Address.{Address}
 use Rattle.aff_core.specs.Function.{Function, coefficient, with_coefficient}
 use Rattle.aff_core.specs.FunctionLaws.{other_coefficient, same_coefficient}
 use Rattle.aff_core.specs.KeyOrder.{address_order}
-use Rattle.set_core.specs.declared.set.Set.{Set}
-use Rattle.set_core.specs.contracts.set.SetPartialEq.TheImpl as sets
 use Rattle.user_model.specs.Edited.{with_constant}
 use Rattle.model_laws.specs.Coefficients.{other_constant, same_constant}
 
@@ -25,7 +23,3 @@ has_constant f value r q is e = by r (sym (e ∙ ap (λ p. rational_eq p value) 
     by : (b : Bool) → rational_eq f.constant value ≡ b → MatchBool b (with_constant f value ≡ f) (with_constant f value ≢ f)
     by true same = same_constant f value (rational_eq-true f.constant value same)
     by false other = other_constant f value (rational_eq-false f.constant value other)
-
--- sets that differ are told apart
-pub same_sets : (s t : Set) → MatchBool ((sets.ghosts).eq s t) (s ≡ t) (s ≢ t)
-same_sets s t = grind (arith, rational_eq_Decides)

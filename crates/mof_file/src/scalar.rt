@@ -57,7 +57,7 @@ fn sum_of_terms(alloc: Global, known: &IndexSet<Name>, items: &[Value]) -> Resul
     ensures { Meets (λ sum. sum) result
         (each (add_term known.now.keys) 0 [] (items_view items.now)) }
 {
-    let mut sum = TermSum::new(alloc);
+    let mut sum = TermSum::with_capacity(alloc, items.len())?;
     for (place, item) in items.iter().enumerate() {
         match add_term(alloc, known, &mut sum, item) {
             Ok(()) => (),

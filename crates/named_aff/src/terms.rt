@@ -1,5 +1,5 @@
 //! Terms by name, in the order of first mention.
-ghost use Rattle.std.specs.Prelude.{◌≡◌, [], ◌∷◌, ◌++◌, IfErr, OnOk, OnErr};
+ghost use Rattle.std.specs.Prelude.{◌≡◌, [], ◌∷◌, ◌++◌, IfOk, IfErr, OnOk, OnErr};
 ghost use Rattle.named_aff.specs.Distinct.{HasDistinctNames};
 
 use lists::{Duplicate, Memory, Sequence};
@@ -52,6 +52,16 @@ impl NamedTerms {
         NamedTerms {
             items: Sequence::new(alloc),
         }
+    }
+
+    /// No terms, with room for so many.
+    pub fn with_capacity(alloc: Global, count: usize) -> Result<NamedTerms, Memory>
+        ensures { IfOk result (λ terms. terms ≡ []) }
+    {
+        let items = Vec::with_capacity(alloc, count)?;
+        Ok(NamedTerms {
+            items: Sequence::from_vec(items),
+        })
     }
 
     /// Appends a term of a variable that has none yet. Without memory the term comes back.

@@ -53,6 +53,17 @@ impl TermSum {
         }
     }
 
+    /// No terms, with room for so many as long as they are few.
+    pub fn with_capacity(alloc: Global, count: usize) -> Result<TermSum, Memory>
+        ensures { IfOk result (λ sum. sum ≡ []) }
+    {
+        let terms = NamedTerms::with_capacity(alloc, count.min(FEW))?;
+        Ok(TermSum {
+            alloc,
+            kept: Kept::Few(terms),
+        })
+    }
+
     /// Adds a term to that of its variable, or puts it last, and says whether the sum fits.
     pub fn add(&mut self, term: NamedTerm) -> Result<bool, Memory>
         ensures { IfOk result (λ fits. with_term self.old term

@@ -5,7 +5,7 @@ use Rattle.user_model.specs.Edited.{group_number}
 use Rattle.model_laws.specs.ItemChanges.{set_to}
 use Rattle.model_plans.specs.Plans.{HasParts}
 use Rattle.model_plans.proofs.Leading.{parts_same}
-use Rattle.model_plans.proofs.Comparisons.{same_sets}
+use Rattle.set_core.specs.SetLaws.{same_sets}
 use Rattle.model_plans.proofs.GroupPlans.{group_set_new_leads, group_set_same_leads}
 use Rattle.model_plans.proofs.groups.with_set.Goals as goal
 

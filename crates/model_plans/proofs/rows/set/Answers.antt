@@ -4,7 +4,7 @@ use Rattle.std.proofs.lemmas.Result.{IfOk-weaker}
 use Rattle.user_model.specs.Edited.{edited}
 use Rattle.model_plans.specs.Plans.{HasParts}
 use Rattle.model_plans.proofs.Leading.{parts_same}
-use Rattle.model_plans.proofs.Comparisons.{same_sets}
+use Rattle.set_core.specs.SetLaws.{same_sets}
 use Rattle.model_plans.proofs.RowPlans.{set_new, set_same}
 use Rattle.model_plans.proofs.rows.set.Goals as goal
 
