@@ -4,10 +4,10 @@ use Rattle.std.specs.Prelude.{◌≡◌, ◌+◌, ◌-◌, ◌≤◌, ◌^◌, �
 use Rattle.std.proofs.Common.{arith, ap, ap₂, sym, ◌∙◌, true≢false}
 use Rattle.std.proofs.lemmas.List.{length-append, length-drop, length-map, length-replicate, length-take-le}
 use Rattle.ratio_core.specs.Folds.{sum_from}
-use Rattle.ratio_core.specs.Rational.{Rational, neg_ℚ, zero_ℚ}
+use Rattle.ratio_core.specs.Rational.{Rational, zero_ℚ}
 use Rattle.rational_laws.specs.Dot.{negated, plus}
 use Rattle.rational_laws.specs.DotLaws.{length-negated, length-plus}
-use Rattle.aff_core.specs.Address.{Address, address_cmp, child_of}
+use Rattle.aff_core.specs.Address.{address_cmp, child_of}
 use Rattle.aff_core.specs.Arithmetic.{sum_of}
 use Rattle.aff_core.specs.Function.{Function, negated as negated_function, variable}
 use Rattle.set_core.specs.Shapes.{is_scalar}

@@ -1,5 +1,5 @@
 -- The gap, a row or a group at a time.
-use Rattle.std.specs.Prelude.{Result, ◌≡◌, ◌+◌, ◌≤◌, ◌⊎◌, List, [], ◌∷◌, ◌++◌, length, map, take, refl}
+use Rattle.std.specs.Prelude.{Result, ◌≡◌, ◌+◌, ◌⊎◌, List, [], ◌∷◌, ◌++◌, length, map, take, refl}
 use Rattle.std.specs.List.{zip}
 use Rattle.std.proofs.Common.{arith, ap, ap₂, drop, inl, inr, subst, sym, ◌∙◌}
 use Rattle.std.proofs.lemmas.Grind.{flat_map-append}

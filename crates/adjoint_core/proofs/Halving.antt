@@ -1,7 +1,7 @@
 -- As many sums of the first variables as fit, found by halves.
 use Rattle.std.specs.Prelude.{◌≡◌, ◌+◌, ◌<◌, ◌≤◌, ℕ, zero, suc, List, [], ◌∷◌, All, Some, length, map, slice_get, take, refl}
 use Rattle.std.proofs.Common.{arith, ap, get_or, subst, sym, ◌∙◌}
-use Rattle.std.proofs.lemmas.List.{length-map, take_all}
+use Rattle.std.proofs.lemmas.List.{take_all}
 use Rattle.std.proofs.lemmas.List.Elements.{All-cons, All-head, All-nil, All-tail}
 use Rattle.std.proofs.lemmas.Option.{none-some, same_Some}
 use Rattle.adjoint_core.specs.Prefix.{IsAsFarAs}

@@ -6,14 +6,12 @@ use Rattle.std.proofs.lemmas.List.{take_all}
 use Rattle.std.proofs.lemmas.List.Elements.{All-cons, All-nil}
 use Rattle.map_laws.specs.LoopLaws.{map-take_more}
 use Rattle.aff_core.specs.Address.{Address}
-use Rattle.aff_core.specs.Arithmetic.{ExactWhere as SumExactWhere}
-use Rattle.aff_core.specs.declared.fault.AffFault.{AffFault}
 use Rattle.aff_core.specs.declared.fault.AffFault.TheVariants as sum
 use Rattle.cert_core.specs.Answers.{ExactWhere}
 use Rattle.cert_core.specs.declared.fault.CheckFault.{CheckFault}
 use Rattle.cert_core.specs.declared.fault.CheckFault.TheVariants as check
 use Rattle.cert_core.proofs.Steps.{next_item}
-use Rattle.adjoint_core.specs.Told.{FirstNot, Tells, TellsAt, check_told, sum_told}
+use Rattle.adjoint_core.specs.Told.{FirstNot, Tells, TellsAt, check_told}
 use Rattle.adjoint_core.specs.declared.fault.BackFault.{BackFault}
 use Rattle.adjoint_core.specs.declared.fault.BackFault.TheVariants.{Memory, Overflow}
 

@@ -4,15 +4,12 @@ use denote.Enum.Bare.{same_true}
 use Rattle.std.specs.List.{list_any}
 use Rattle.std.proofs.Common.{rules, sym, ap, subst, ◌∙◌, true≢false}
 use Rattle.std.proofs.lemmas.Bool.{not-true, or_parts, or_right}
-use Rattle.std.proofs.lemmas.Bool.Decides.{Decides-eqb}
 use Rattle.std.proofs.lemmas.List.Elements.{All-head, All-tail}
 use Rattle.std.proofs.lemmas.Option.{none-some, same_Some}
 use Rattle.item_core.specs.declared.family.Family.{Family}
-use Rattle.item_core.specs.contracts.family.Family.{the_type}
 use Rattle.item_core.specs.Edge.{family_eq}
 use Rattle.bridge_face.specs.State.{State}
 use Rattle.fresh_bridging.specs.TableLaws.{and_first, and_second, equal_family, family_itself}
-use Rattle.fresh_bridging.specs.TheRules.{family_number}
 use Rattle.boxes.specs.Boxed.{IsChangedFor, at_family, families_of, occur_once}
 
 -- of whatever has families

@@ -8,7 +8,7 @@ use Rattle.std.proofs.Common.{append_assoc, sym, ap, subst, ◌∙◌}
 use Rattle.std.proofs.lemmas.List.{append-nil, map-append}
 use Rattle.std.proofs.lemmas.List.Elements.{All-cons, All-head, All-map, All-nil, All-tail, filter-append}
 use mathlib.Core.List.{map-map}
-use Rattle.aff_core.specs.Address.{Address, address_cmp, address_eq, address_eq-Decides, address_total, exact_addresses}
+use Rattle.aff_core.specs.Address.{Address, address_cmp, address_eq, address_total, exact_addresses}
 use Rattle.aff_core.specs.Rising.{HasDistinctKeys}
 use Rattle.aff_core.specs.KeyOrder.{address_order, either_way}
 use Rattle.item_core.specs.declared.family.Family.{Family}

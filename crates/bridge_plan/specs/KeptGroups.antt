@@ -1,12 +1,11 @@
 -- Whether a bridged group's variables are kept: where its kind is native, or is bridged later from
 -- a native group. So it is by the choices alone, before any number is worked out.
-use Rattle.std.specs.Prelude.{◌≡◌, ℕ, zero, suc, ◌+◌, drop, take, Bool, true, false, ◌&&◌, ◌||◌, not, cond, Contains, find, List, [], ◌∷◌, ◌<◌, All, length, map, Some, slice_get, slice_index_or, refl}
+use Rattle.std.specs.Prelude.{◌≡◌, ℕ, zero, suc, ◌+◌, drop, take, Bool, true, false, ◌&&◌, ◌||◌, not, cond, Contains, find, List, [], ◌∷◌, ◌<◌, All, length, map, Some, slice_index_or, refl}
 use Rattle.std.proofs.Common.{arith, ap, sym, subst, ◌∙◌, true≢false}
 use Rattle.std.specs.List.{list_all, zip}
 use Rattle.std.specs.Option.{option_map_or}
 use Rattle.std.proofs.lemmas.Bool.{not-true}
 use Rattle.std.proofs.lemmas.List.{append-nil, length-map}
-use Rattle.std.proofs.lemmas.Option.{none-some, same_Some}
 use Rattle.std.proofs.lemmas.List.Elements.{All-cons, All-contains_itself, All-head, All-map, All-nil, All-tail, All-weaker}
 use Rattle.std.proofs.lemmas.List.Sums.{AllPass-from_list_all}
 use Rattle.bridge_graph.specs.Hypergraph.{IsCostly}
@@ -38,7 +37,6 @@ use Rattle.bridge_face.specs.Images.{number_in, raised}
 use Rattle.ratio_core.specs.Rational.{zero_ℚ}
 use Rattle.fresh_bridging.specs.Entries.{Entry, expression_in, is_kept, put_into}
 use Rattle.map_laws.specs.EachLaws.{all_at, all_seconds}
-use Rattle.fresh_bridging.specs.TableLaws.{and_first, and_second}
 use Rattle.fresh_bridging.specs.MentionLaws.{by_lookup}
 use Rattle.fresh_bridging.specs.OmitLaws.{IsGroup, child_groups, edge_law}
 use Rattle.fresh_bridging.specs.CanLaws.{AreLawful, down}

@@ -1,5 +1,5 @@
 -- What is written by index is what is written of the model that is read through the map.
-use Rattle.std.specs.Prelude.{◌≡◌, ℕ, cond, List, [], ◌∷◌, ◌++◌, All, IsSome, Option, Some, None, codes, filter_map, find, unwrap_or, refl}
+use Rattle.std.specs.Prelude.{◌≡◌, ℕ, List, [], ◌∷◌, ◌++◌, All, IsSome, Option, Some, None, codes, filter_map, find, unwrap_or, refl}
 use Rattle.std.specs.Prelude as prelude
 use Rattle.std.specs.FinMap as finite
 use Rattle.std.specs.FinMap.{FinMap}

@@ -26,7 +26,7 @@ use Rattle.user_model.specs.Edited.{edited}
 use Rattle.user_model.specs.Model.{ModelValue}
 use Rattle.user_model.specs.Refusals.{first_refusal}
 use Rattle.user_model.specs.declared.edit.Edit.{Edit}
-use Rattle.cache_layer.specs.Answers.{Becomes, IsAttached, IsEdited, UnlessAttached, UnlessRefused}
+use Rattle.cache_layer.specs.Answers.{Becomes, IsAttached, IsEdited}
 use Rattle.cache_layer.specs.Bridging.{IsBridgedInNames, IsFaultOf, IsPlaceToldAs, IsToldAs, state_by, stays}
 use Rattle.cache_layer.specs.Cached.{Cached, IsInStep, Stands, cached, state_of}
 use Rattle.cache_layer.specs.Faults.{attach_fault, bridge_fault}

@@ -1,9 +1,9 @@
 -- Edits made one after another, and taken back.
-use Rattle.std.specs.Prelude.{◌≡◌, List, [], ◌∷◌, ◌++◌, false, None, Ok, Err, reverse, refl}
+use Rattle.std.specs.Prelude.{◌≡◌, List, [], ◌∷◌, ◌++◌, Ok, Err, reverse, refl}
 use Rattle.std.specs.Option.{option_map_or}
 use Rattle.std.proofs.Common.{ap, sym, subst, ◌∙◌}
 use Rattle.std.proofs.lemmas.List.{reverse-append}
-use Rattle.model_store.specs.Store.{HasParked, IsButLast, IsLastOf, Stored, refusal_of}
+use Rattle.model_store.specs.Store.{IsButLast, Stored, refusal_of}
 use Rattle.model_store.specs.StoreLaws.{left_front}
 use Rattle.model_store.specs.declared.parked.Parked.{Parked}
 use Rattle.user_model.specs.Edited.{edited}
@@ -14,11 +14,8 @@ use Rattle.user_model.specs.declared.edit.Edit.{Edit}
 use Rattle.user_model.specs.declared.refusal.ApplyFault.{ApplyFault}
 use Rattle.user_model.specs.declared.refusal.ApplyFault.TheVariants.{Memory, Refused}
 use Rattle.user_model.specs.declared.undo.Undo.{Undo}
-use Rattle.lazy_bridge.specs.Owned.{Owned}
-use Rattle.cache_layer.specs.Answers.{IsEdited, IsLoaded, after_edits}
-use Rattle.cache_layer.specs.Cached.{cached, state_of}
-use Rattle.cache_layer.specs.Faults.{edit_fault}
-use Rattle.cache_layer.specs.Loads.{AreMadeBy, AreParkedFor, IsLastStep, IsMadeBy, IsNextStep, LeadBack}
+use Rattle.cache_layer.specs.Answers.{after_edits}
+use Rattle.cache_layer.specs.Loads.{AreMadeBy, AreParkedFor, IsLastStep, IsNextStep, LeadBack}
 
 -- ---- one edit
 

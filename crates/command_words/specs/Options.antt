@@ -1,5 +1,5 @@
 -- The options among the words of a command.
-use Rattle.std.specs.Prelude.{ℕ, ◌==◌, Bool, ◌&&◌, not, is_none, List, [], ◌∷◌, Option, Some, None, option_and_then, unwrap_or, bytes_eq, codes, nat_eq, if◌then◌else◌}
+use Rattle.std.specs.Prelude.{ℕ, ◌==◌, Bool, not, is_none, List, [], ◌∷◌, Option, Some, None, option_and_then, unwrap_or, bytes_eq, codes, nat_eq, if◌then◌else◌}
 use Rattle.std.specs.List.{after_first, before_first, list_any, starts_with}
 use Rattle.item_core.specs.declared.table.Target.{Target}
 use Rattle.item_core.specs.declared.table.Target.TheVariants.{Standard}

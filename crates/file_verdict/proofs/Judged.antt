@@ -1,5 +1,5 @@
 -- Verdicts, by what the calls under them say.
-use Rattle.std.proofs.Common.{◌≡◌, ◌≤◌, ℕ, Bool, true, false, List, length, refl, ap, subst, sym, inl, inr, Option, Some, Result, Ok, Err, true≢false, ◌∙◌}
+use Rattle.std.proofs.Common.{◌≡◌, ◌≤◌, ℕ, Bool, true, false, List, length, refl, subst, sym, inl, inr, Option, Some, Result, Ok, Err, true≢false}
 use Rattle.std.specs.Prelude.{IfOk, IfSome, if◌then◌else◌}
 use Rattle.cert_core.specs.Checked.{Checks, model_of}
 use Rattle.cert_core.specs.Variables.{variables_of}

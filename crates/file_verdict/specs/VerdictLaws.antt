@@ -6,7 +6,6 @@ use Rattle.cache_layer.specs.Answers.{after_edits}
 use Rattle.cert_core.specs.Variables.{variables_of}
 use Rattle.cert_text.specs.Reading.{certificate_of}
 use Rattle.certificates.specs.declared.certificate.Certificate.{Certificate}
-use Rattle.edit_engine.specs.Script.{fault_answer, refused}
 use Rattle.io_face.specs.Told.{MayGive, Told}
 use Rattle.io_face.specs.declared.shelf.FetchFault.{FetchFault}
 use Rattle.io_face.specs.declared.shelf.FetchFault.TheVariants as fetch
@@ -14,15 +13,13 @@ use Rattle.mof_fetch.specs.Fetched.{IsReadOf}
 use Rattle.mof_fetch.specs.FetchedLaws.{may_fail}
 use Rattle.mof_fetch.specs.declared.fault.FileFault.{FileFault}
 use Rattle.mof_fetch.specs.declared.fault.FileFault.TheVariants as file
-use Rattle.report_core.specs.Refused.{refused_of}
 use Rattle.report_core.specs.declared.answer.Answer.{Answer}
 use Rattle.report_core.specs.declared.answer.Answer.TheVariants.{Memory, ReadFault, TooLong}
-use Rattle.report_core.specs.declared.refused.Place.TheVariants.{Check}
-use Rattle.report_core.specs.declared.refused.Refused.TheVariants.{File, Overflow}
+use Rattle.report_core.specs.declared.refused.Refused.TheVariants.{File}
 use Rattle.user_model.specs.Model.{ModelValue, empty_model}
 use Rattle.user_model.specs.declared.edit.Edit.{Edit}
 use Rattle.user_model.specs.declared.refusal.Refusal.{Refusal}
-use Rattle.file_verdict.specs.Verdict.{FetchesText, IsVerdict, Judges, JudgesFile, JudgesMade, JudgesRead, JudgesText, fetch_answer, no, yes}
+use Rattle.file_verdict.specs.Verdict.{FetchesText, IsVerdict, Judges, JudgesFile, JudgesMade, JudgesRead, JudgesText, no}
 
 -- one of two files may not be given, for this reason
 pub record OneFails (shelf : Told) (model certificate : List ℕ) (reason : FetchFault) : Type 0 where

@@ -4,16 +4,13 @@ use denote.Enum.Bare.{same_true}
 use Rattle.std.specs.FinMap as finite
 use Rattle.std.specs.List.{list_any}
 use Rattle.std.proofs.Common.{rules, sym, ap, ap₂, subst, ◌∙◌, true≢false}
-use Rattle.std.proofs.lemmas.Bool.Decides.{Decides-eqb}
 use Rattle.std.proofs.lemmas.List.{map-append}
 use Rattle.std.proofs.lemmas.List.Elements.{All-append, All-cons, All-nil}
 use Rattle.std.proofs.lemmas.Bool.{or_parts}
 use Rattle.bridge_face.specs.State.{State}
 use Rattle.boxes.specs.Boxed.{families_of, occur_once}
 use Rattle.fresh_bridging.specs.TableLaws.{and_first, and_second, equal_family, family_itself}
-use Rattle.fresh_bridging.specs.TheRules.{family_number}
 use Rattle.item_core.specs.declared.family.Family.{Family}
-use Rattle.item_core.specs.contracts.family.Family.{the_type}
 use Rattle.item_core.specs.Edge.{family_eq}
 
 other_way : (f g : Family) → family_eq f g ≡ false → family_eq g f ≡ false

@@ -1,20 +1,17 @@
 -- Expressions put in one after another, each of a variable of its own; and the one objective.
-use Rattle.std.specs.Prelude.{◌≡◌, ◌≤◌, ◌+◌, ℕ, Bool, true, false, cond, List, [], ◌∷◌, ◌++◌, All, Some, None, drop, flat_map, length, map, refl}
+use Rattle.std.specs.Prelude.{◌≡◌, ◌≤◌, ◌+◌, ℕ, true, false, cond, List, [], ◌∷◌, ◌++◌, All, Some, None, drop, flat_map, length, map, refl}
 use Rattle.std.specs.FinMap as finite
 use Rattle.std.specs.FinMap.Entries.{find}
 use Rattle.std.specs.List.{AllByRecursion, IsDistinct}
 use Rattle.std.specs.Ordering.{eq_by_cmp}
-use Rattle.std.proofs.Common.{append_assoc, arith, sym, ap, subst, ◌∙◌, true≢false}
-use Rattle.std.proofs.lemmas.List.{append-nil}
+use Rattle.std.proofs.Common.{append_assoc, arith, sym, ap, subst, ◌∙◌}
 use Rattle.std.proofs.lemmas.List.Elements.{All-cons, All-nil}
 use Rattle.address_map.specs.AddressMap.{AddressMap}
-use Rattle.aff_core.specs.Address.{Address, address_cmp, address_eq, address_eq-Decides, address_total, exact_addresses}
+use Rattle.aff_core.specs.Address.{Address, address_cmp, address_eq, address_total, exact_addresses}
 use Rattle.aff_core.specs.Function.{Function}
 use Rattle.aff_core.specs.Rising.{HasDistinctKeys}
 use Rattle.aff_core.specs.KeyOrder.{address_order, either_way}
 use Rattle.fresh_bridging.specs.Leaves.{leaf_objectives}
-use Rattle.item_core.specs.declared.item.Body.{Body}
-use Rattle.item_core.specs.declared.item.Body.TheVariants.{PlainObj, AffineObj}
 use Rattle.item_core.specs.declared.item.Item.{Item}
 use Rattle.bridge_face.specs.Law.{is_objective}
 use Rattle.tree_laws.specs.ObjectiveLaws.{itself_one, no_leaf_objective}

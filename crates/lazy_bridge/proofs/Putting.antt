@@ -9,7 +9,7 @@ use Rattle.bridge_face.specs.State.{State}
 use Rattle.bridge_face.specs.declared.kept_item.KeptItem.{KeptItem}
 use Rattle.fresh_bridging.specs.Leaves.{leaf_model_of}
 use Rattle.lazy_bridge.specs.Owned.{Owned, leaf_model_in}
-use Rattle.lazy_bridge.specs.Plans.{Holds, IsPuttable}
+use Rattle.lazy_bridge.specs.Plans.{Holds}
 use Rattle.lazy_bridge.specs.Pushed.{Counts}
 use Rattle.leaf_model.specs.LeafModel.{IsChanged, LeafModel}
 use Rattle.leaf_model.specs.ReadThrough.{read_through}

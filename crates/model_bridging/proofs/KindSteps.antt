@@ -1,5 +1,5 @@
 -- Kinds, looked at one after another, up to the first without a tree.
-use Rattle.std.specs.Prelude.{◌≡◌, ℕ, ◌+◌, Bool, List, [], ◌∷◌, ◌++◌, None, Result, Ok, Err, IsErrAnd, map, refl}
+use Rattle.std.specs.Prelude.{◌≡◌, ℕ, ◌+◌, Bool, List, [], ◌∷◌, ◌++◌, None, Result, Ok, Err, IsErrAnd, map}
 use Rattle.std.proofs.Common.{ap, sym, subst, ◌∙◌, drop}
 use Rattle.std.proofs.lemmas.List.{map-append}
 use Rattle.bridge_graph.specs.declared.Choice.{Choice}

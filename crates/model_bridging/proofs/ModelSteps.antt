@@ -1,7 +1,6 @@
 -- A user's model by its groups, its rows and its objective, as its readers tell them.
 use Rattle.std.specs.Prelude.{◌≡◌, List, ◌++◌, Option, None, Result, Ok, Err, IsErrAnd, map}
-use Rattle.std.proofs.Common.{sym, subst, ◌∙◌}
-use Rattle.item_core.specs.declared.item.Item.{Item}
+use Rattle.std.proofs.Common.{sym, subst}
 use Rattle.item_core.specs.declared.kind.Kind.{Kind}
 use Rattle.user_model.specs.Model.{ModelValue}
 use Rattle.user_model.specs.Valid.{IsValid}

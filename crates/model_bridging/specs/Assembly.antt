@@ -1,5 +1,5 @@
 -- What a plan of a model says of its fresh bridging.
-use Rattle.std.specs.Prelude.{◌≡◌, ℕ, Bool, true, false, ◌&&◌, not, cond, find, List, [], ◌∷◌, ◌++◌, All, Option, Some, None, Result, Ok, Err, map, refl}
+use Rattle.std.specs.Prelude.{◌≡◌, ℕ, Bool, true, false, ◌&&◌, not, cond, List, [], ◌∷◌, ◌++◌, All, Option, Some, None, Result, Ok, Err, map, refl}
 use Rattle.std.proofs.Common.{ap, ap₂, sym, subst, ◌∙◌}
 use Rattle.std.specs.Option.{option_map, option_or}
 use Rattle.std.proofs.lemmas.Option.{none-some}
@@ -16,7 +16,7 @@ use Rattle.user_model.specs.Model.{ModelValue, variable_address, variables}
 use Rattle.user_model.specs.Valid.{IsValid}
 use Rattle.user_model.specs.declared.group.GroupVar.{GroupVar}
 use Rattle.fresh_bridging.specs.Entries.{Entry, expression_in, put_in}
-use Rattle.fresh_bridging.specs.FreshBridging.{FreshBridging, is_made, unfit_at}
+use Rattle.fresh_bridging.specs.FreshBridging.{FreshBridging}
 use Rattle.fresh_bridging.specs.ModelImage.{model_image}
 use Rattle.fresh_bridging.specs.TheRules.{AreChoices, Setting, rules_by}
 use Rattle.bridge_plan.specs.Adds.{kept_of}

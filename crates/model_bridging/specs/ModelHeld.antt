@@ -1,7 +1,6 @@
 -- A user's model, item by item: what its fresh bridging holds, and the first item that doesn't fit.
-use Rattle.std.specs.Prelude.{◌≡◌, ℕ, Bool, true, false, ◌&&◌, not, cond, find, List, [], ◌∷◌, ◌++◌, All, Option, Some, if◌then◌else◌, refl}
-use Rattle.std.proofs.Common.{ap, ap₂, sym, subst, ◌∙◌}
-use Rattle.std.specs.Option.{option_or}
+use Rattle.std.specs.Prelude.{◌≡◌, ℕ, Bool, true, false, ◌&&◌, not, cond, find, List, All, Option, Some, if◌then◌else◌, refl}
+use Rattle.std.proofs.Common.{ap, ◌∙◌}
 use Rattle.std.proofs.lemmas.List.Elements.{All-head, All-tail}
 use Rattle.bridge_graph.specs.declared.Choice.{Choice}
 use Rattle.expansion.specs.Bridged.{EachBridged, EachBridgedIn, each, each_in, none, none_in}

@@ -1,6 +1,6 @@
 -- The first of the user's items that has no tree, by the kinds that are told of them.
 use Rattle.std.specs.Prelude.{◌≡◌, ℕ, Bool, true, false, cond, find, List, [], ◌∷◌, ◌++◌, All, map, Option, Some, None, refl}
-use Rattle.std.proofs.Common.{ap, ap₂, sym, subst, ◌∙◌, true≢false}
+use Rattle.std.proofs.Common.{ap, ap₂, sym, ◌∙◌, true≢false}
 use Rattle.std.specs.Option.{option_or}
 use Rattle.std.proofs.lemmas.List.Elements.{All-cons, All-nil}
 use Rattle.std.proofs.lemmas.List.Folds.{find-append}
@@ -22,7 +22,6 @@ use Rattle.fresh_bridging.specs.Entries.{Entry, put_in}
 use Rattle.fresh_bridging.specs.ExistenceLaws.{groups_bridged, groups_can_all}
 use Rattle.fresh_bridging.specs.FreshBridging.{HasTree, IsFirstTreeless, IsUnsupported, by_group, by_other}
 use Rattle.fresh_bridging.specs.ModelImage.{model_image}
-use Rattle.fresh_bridging.specs.OmitLaws.{IsGroup}
 use Rattle.fresh_bridging.specs.TheRules.{AreChoices, IsChoice, Setting, graph_of, rules_by}
 use Rattle.model_bridging.specs.Kinds.{first_missing, is_kept_by, is_missing, kept_as_told, kind_by, kind_by_is, kinds_as_they_stand, kinds_told}
 

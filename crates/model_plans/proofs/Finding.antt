@@ -1,9 +1,8 @@
 -- What is found by number in a list, and what is there if nothing is found.
-use Rattle.std.proofs.Common.{◌≡◌, ℕ, ◌==◌, true, false, cond, List, [], ◌∷◌, Option, Some, None, refl, ap, ◌∙◌, map}
+use Rattle.std.proofs.Common.{◌≡◌, ℕ, ◌==◌, true, false, cond, List, [], ◌∷◌, Some, refl, ap, ◌∙◌, map}
 use Rattle.std.specs.Prelude.{Contains, IsSome, is_some}
-use Rattle.std.specs.Option.{option_map, option_or}
-use Rattle.std.proofs.lemmas.Bool.{both_ways, eq-eqb}
-use Rattle.map_laws.specs.OptionLaws.{none_of}
+use Rattle.std.specs.Option.{option_map}
+use Rattle.std.proofs.lemmas.Bool.{eq-eqb}
 use Rattle.numbered.specs.Numbered.{find}
 use Rattle.model_laws.specs.Found.{is_some-find, one_passes}
 

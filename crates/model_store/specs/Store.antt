@@ -1,20 +1,15 @@
 -- What contracts see of the user's model as it is stored: the model, and an entry for each undo
 -- that may still be taken back.
-use Rattle.std.specs.Prelude.{◌≡◌, ℕ, ◌+◌, ◌≤◌, List, [], ◌∷◌, ◌++◌, Option, Some, None, find, length, refl}
-use Rattle.std.specs.Option.{option_map}
+use Rattle.std.specs.Prelude.{◌≡◌, ◌+◌, ◌≤◌, List, [], ◌∷◌, ◌++◌, Option, Some, None, length, refl}
 use Rattle.std.specs.Coded.{Coded, code_by, coded×, coded_list}
-use Rattle.aff_core.specs.Address.{Address, address_eq}
 use Rattle.numbered.specs.Changes.{AreChanges, added}
-use Rattle.user_model.specs.declared.edit.Edit.{Edit}
 use Rattle.user_model.specs.declared.refusal.ApplyFault.{ApplyFault}
 use Rattle.user_model.specs.declared.refusal.ApplyFault.TheVariants.{Refused, Memory}
 use Rattle.user_model.specs.declared.refusal.Refusal.{Refusal}
 use Rattle.user_model.specs.declared.undo.Undo.{Undo}
-use Rattle.user_model.specs.Model.{ModelValue, variable_address, variables}
-use Rattle.user_model.specs.Edited.{edited, group_number, row_number}
+use Rattle.user_model.specs.Model.{ModelValue, variables}
+use Rattle.user_model.specs.Edited.{group_number, row_number}
 use Rattle.user_model.specs.Undone.{before}
-use Rattle.user_model.specs.Consistent.{IsConsistent, IsWithinLimits}
-use Rattle.user_model.specs.Refusals.{first_refusal}
 use Rattle.model_store.specs.declared.parked.Parked.{Parked}
 use Rattle.model_store.specs.contracts.parked.Parked as parked
 use Rattle.model_catalog.specs.Catalog.{model_code}

@@ -1,12 +1,12 @@
 -- What a fraction n over d is in lowest terms: its parts, and how small they can be.
-use Rattle.std.proofs.Common.{◌≡◌, ℕ, zero, suc, ◌+◌, ◌*◌, ◌%◌, ◌^◌, ◌<◌, ◌≤◌, Bool, true, false, ℤ, pos, ◌*ℤ◌, unsigned_abs, refl, sym, ◌∙◌, ap, subst, arith}
+use Rattle.std.proofs.Common.{◌≡◌, ℕ, zero, suc, ◌+◌, ◌*◌, ◌%◌, ◌^◌, ◌<◌, ◌≤◌, Bool, false, ℤ, pos, ◌*ℤ◌, unsigned_abs, sym, ◌∙◌, ap, subst, arith}
 use Rattle.std.proofs.Math.Nat.{eq_of_mul-eq-mul_right, le_of_mul-le-mul_right, le_of_mul-le-mul_left, mul-le-mul_left, mul-le-mul_right, le_of_dvd, dvd-mul_left, add-mul-mod_self_left}
 use Rattle.std.proofs.lemmas.Int.{unsigned_abs-mul}
 use Rattle.std.specs.Int.{◌∣◌}
 use Rattle.mof_text.proofs.DigitLaws.{product_pos}
 use Rattle.ratio_core.specs.Gcd.{gcd, dvd_from_coprime, gcd-rem_first}
 use Rattle.ratio_core.specs.Rational.{Fits, Rational, reduce, signed}
-use Rattle.ratio_core.specs.RationalLaws.{cancel_times, neg_times, reduce_cross, reduce_is, reduce_reduced, signed_times, swap_times, unsigned_abs-signed}
+use Rattle.ratio_core.specs.RationalLaws.{cancel_times, reduce_cross, reduce_is, reduce_reduced, signed_times, swap_times, unsigned_abs-signed}
 
 -- equal cross products make one number
 pub same_over : (s : Bool) (a b c d : ℕ) → 0 < b → 0 < d → a * d ≡ c * b → reduce (signed s a) b ≡ reduce (signed s c) d

@@ -1,6 +1,6 @@
 -- A text that is written of a value whose numbers are short has no numeral that is replaced before
 -- it is read.
-use Rattle.std.proofs.Common.{◌≡◌, ℕ, zero, suc, ◌/◌, ◌%◌, ◌^◌, ◌<◌, ◌≤◌, Bool, true, false, cond, ◌||◌, not, List, [], ◌∷◌, ◌++◌, length, get_or, pos, negsuc, decimal, refl, sym, ap, ◌∙◌, arith, append-nil, append_assoc, ne_eqb}
+use Rattle.std.proofs.Common.{◌≡◌, ℕ, zero, suc, ◌/◌, ◌%◌, ◌^◌, ◌<◌, ◌≤◌, Bool, true, false, cond, not, List, [], ◌∷◌, ◌++◌, length, get_or, pos, negsuc, decimal, refl, sym, ap, ◌∙◌, arith, append-nil, append_assoc, ne_eqb}
 use Rattle.std.specs.Prelude.{⊤, nat_lt, ◌==◌, bytes_eq}
 use Rattle.std.proofs.lemmas.Bool.{and_left, and_right, cond-false, false_from_ne_true, le-leb, le-ltb, ltb-true, or_from, true≢false}
 use Rattle.std.proofs.lemmas.Fmt.{decimal_is_IsNumeral, decimal_nonempty, first_decimal, length-decimal-le}

@@ -1,5 +1,5 @@
 -- What an answer that was written says of its line.
-use Rattle.std.proofs.Common.{◌≡◌, ◌⊎◌, ℕ, Bool, true, false, List, [], refl, sym, ap, ◌∙◌, subst, inl, inr, Option, Result, Ok, Err}
+use Rattle.std.proofs.Common.{◌≡◌, ℕ, Bool, true, false, List, [], refl, sym, ap, ◌∙◌, subst, inl, inr, Option, Result, Ok, Err}
 use Rattle.edit_engine.specs.Lines.{Prints, accepted, quit, refusal, silent}
 use Rattle.edit_engine.specs.LinesLaws.{answers_quit, quit_is_said}
 use Rattle.edit_engine.specs.Script.{Answered, Machine, Steps}

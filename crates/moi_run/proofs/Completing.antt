@@ -1,6 +1,6 @@
 -- With nothing against it, the work ends.
-use Rattle.std.proofs.Common.{◌≡◌, ℕ, ◌^◌, ◌<◌, ◌≤◌, ◌⊎◌, true, false, List, length, refl, sym, ◌∙◌, subst, inl, inr, Option, Some, None, IfSome, arith, true≢false}
-use Rattle.std.specs.Prelude.{All, Any, take, IsTrue}
+use Rattle.std.proofs.Common.{◌≡◌, ℕ, ◌<◌, ◌≤◌, ◌⊎◌, true, false, List, length, refl, sym, ◌∙◌, subst, inl, inr, Option, Some, None, arith, true≢false}
+use Rattle.std.specs.Prelude.{All, Any, IsTrue}
 use Rattle.std.specs.Str.Lines.{lines}
 use Rattle.std.proofs.lemmas.List.Elements.{All-get_or}
 use Rattle.command_words.specs.declared.words.Command.{Command}
@@ -9,13 +9,13 @@ use Rattle.edit_engine.specs.Lines.{heard}
 use Rattle.edit_engine.specs.Script.{Machine}
 use Rattle.io_face.specs.Fault.{HasFaulted}
 use Rattle.io_face.specs.Told.{Told}
-use Rattle.moi_run.specs.Commands.{AsksInVain, AsksTooMuch, CanBeFetched, CanBeRead, HasReadFault, IsSound}
-use Rattle.moi_run.specs.Input.{IsWithinLimits, PassesLimit, has_quit}
+use Rattle.moi_run.specs.Commands.{AsksInVain, CanBeFetched, CanBeRead, HasReadFault, IsSound}
+use Rattle.moi_run.specs.Input.{IsWithinLimits, PassesLimit}
 use Rattle.moi_run.specs.Run.{HasTooLong, Runs}
 use Rattle.moi_run.specs.Status.{IsEnded}
 use Rattle.moi_run.specs.declared.status.Status.{Status}
 use Rattle.moi_run.specs.declared.status.Status.TheVariants as status
-use Rattle.script_lines.specs.Limits.{input_limit, line_limit}
+use Rattle.script_lines.specs.Limits.{line_limit}
 
 -- what holds of all doesn't fail at one
 pub clash : (P Q : List ℕ → Type 0) (xs : List (List ℕ)) → All Q xs → Any P xs → ((x : List ℕ) → Q x → P x → ⊥) → ⊥

@@ -1,6 +1,6 @@
 -- What is said where the work stops, by the reason.
-use Rattle.std.proofs.Common.{◌≡◌, ◌≢◌, ℕ, ◌≤◌, ◌⊎◌, Bool, true, false, List, [], ◌∷◌, ◌++◌, refl, sym, ◌∙◌, ap, subst, inl, inr, Option, Some, None, IfSome, Result, Ok, Err, arith}
-use Rattle.std.specs.Prelude.{if◌then◌else◌, IsTrue}
+use Rattle.std.proofs.Common.{◌≡◌, ℕ, ◌≤◌, Bool, true, false, List, refl, sym, ◌∙◌, ap, subst, inl, inr, Option, Some, IfSome, Result, Err, arith}
+use Rattle.std.specs.Prelude.{if◌then◌else◌}
 use Rattle.std.specs.Str.Lines.{lines}
 use Rattle.edit_engine.specs.Held.{Held as Session, machine_of}
 use Rattle.edit_engine.specs.Lines.{heard}
@@ -9,11 +9,10 @@ use Rattle.edit_engine.specs.Script.{Answered, Machine, Steps, with_state}
 use Rattle.io_face.specs.Fault.{HasFaulted}
 use Rattle.io_face.specs.FaultLaws.{HasFaulted-within}
 use Rattle.io_face.specs.Shelf.{FilesByName}
-use Rattle.io_face.specs.Sink.{Adds, AddsPrefix}
 use Rattle.io_face.specs.Told.{Told, told_by}
-use Rattle.moi_run.specs.Answering.{BeginsAnswers, HearsBy, StopsAtFile, WritesAnswers, WritesBy, is_quit}
+use Rattle.moi_run.specs.Answering.{HearsBy, StopsAtFile, WritesBy, is_quit}
 use Rattle.moi_run.specs.Input.{AnswersTaken, AnswersWithinLimits, Ends, PassesLimit}
-use Rattle.moi_run.specs.Run.{EachOutcome, FetchFails, HasCause, Outcome}
+use Rattle.moi_run.specs.Run.{FetchFails, HasCause, Outcome}
 use Rattle.moi_run.specs.Status.{status_of, stop_of_read}
 use Rattle.moi_run.specs.declared.reply.Reply.{Reply}
 use Rattle.moi_run.specs.declared.reply.Reply.TheVariants as reply

@@ -1,6 +1,6 @@
 -- How a command runs, from how its lines do.
-use Rattle.std.proofs.Common.{◌≡◌, ◌≢◌, ℕ, ◌⊎◌, Bool, true, false, List, [], ◌∷◌, ◌++◌, refl, sym, ap, ◌∙◌, subst, inl, inr, Option, Some, None, IfSome, arith, true≢false}
-use Rattle.std.specs.Prelude.{◌↔◌, All, Any, IsSome, codes, option_map, if◌then◌else◌, is_err, IsTrue, OnOk, Result, Ok, Err}
+use Rattle.std.proofs.Common.{◌≡◌, ◌≢◌, ℕ, ◌⊎◌, Bool, true, false, List, [], ◌∷◌, refl, sym, ap, ◌∙◌, subst, inl, inr, Option, Some, None, IfSome, arith, true≢false}
+use Rattle.std.specs.Prelude.{◌↔◌, All, Any, IsSome, codes, option_map, if◌then◌else◌, IsTrue, Ok, Err}
 use Rattle.std.specs.Str.Lines.{lines}
 use Rattle.std.proofs.lemmas.Option.{none-some}
 use Rattle.command_words.specs.declared.words.Command.{Command}
@@ -14,7 +14,6 @@ use Rattle.edit_engine.specs.Script.{Machine, machine_by}
 use Rattle.file_verdict.specs.Verdict.{IsVerdict}
 use Rattle.file_verdict.specs.VerdictLaws.{fails_by, too_long_by}
 use Rattle.io_face.specs.Fault.{HasFaulted}
-use Rattle.io_face.specs.Shelf.{Gives}
 use Rattle.io_face.specs.Sink.{Adds, AddsPrefix}
 use Rattle.io_face.specs.SinkLaws.{Adds-empty}
 use Rattle.io_face.specs.Told.{MayGive, Told}
@@ -23,7 +22,7 @@ use Rattle.io_face.specs.declared.shelf.FetchFault.TheVariants as fetch
 use Rattle.item_core.specs.Table.{target_table}
 use Rattle.moi_run.specs.Answering.{BeginsAnswers, PrintsText, StopsAtFile, WritesAnswers, WritesBy, is_refused}
 use Rattle.moi_run.specs.Commands.{AsksInVain, AsksTooMuch, IfCheck, LoadsFile, lines_for, solve_lines, start_by, start_for}
-use Rattle.moi_run.specs.Input.{AnswersTaken, AnswersWithinLimits, Ends, IsReadToEnd, IsWithinLimits, PassesLimit}
+use Rattle.moi_run.specs.Input.{AnswersTaken, Ends, PassesLimit}
 use Rattle.moi_run.specs.Run.{CheckOutcome, EachOutcome, FetchFails, HasCause, Outcome, Runs, RunsEach, WritesVerdict}
 use Rattle.moi_run.specs.Status.{IsEnded, has_refused, status_of}
 use Rattle.moi_run.specs.declared.reply.Reply.{Reply}

@@ -14,7 +14,6 @@ use Rattle.command_words.specs.Words.{command_of}
 use Rattle.edit_engine.specs.Held.{set_up}
 use Rattle.edit_engine.specs.Lines.{heard}
 use Rattle.edit_engine.specs.Script.{Machine}
-use Rattle.io_face.specs.Fault.{HasFaulted}
 use Rattle.io_face.specs.Shelf.{Gives}
 use Rattle.io_face.specs.Told.{Told}
 use Rattle.io_face.specs.declared.shelf.FetchFault.TheVariants.{Failed, TooLong}

@@ -1,5 +1,5 @@
 -- Lines that change what stands, by the tokens that follow their first word.
-use Rattle.std.specs.Prelude.{ℕ, List, [], ◌∷◌, Option, Some, None, option_and_then}
+use Rattle.std.specs.Prelude.{[], ◌∷◌, Option, None}
 use Rattle.name_index.specs.Name.{name_of_token}
 use Rattle.ratio_core.specs.Text.{rational_of}
 use Rattle.user_model.specs.declared.edit.Edit.TheVariants.{Coef, VecCoef, Constant, VecConstant, ObjCoef, ObjConstant, RowSet, Reset, FreeGroup, DeleteVariable, DeleteRow, RenameVariable, RenameRow}
@@ -7,7 +7,6 @@ use Rattle.script_core.specs.declared.reading.Reading.{Reading}
 use Rattle.script_core.specs.Names.{last_name_of, last_named_number_of, last_two_names_of}
 use Rattle.script_core.specs.Reading.{Tokens, makes}
 use Rattle.script_core.specs.Sets.{last_named_relation_of}
-use Rattle.script_words.specs.Each.{◌>>=◌}
 use Rattle.script_words.specs.Number.{number_of}
 
 -- coef R X Q

@@ -1,5 +1,5 @@
 -- The grammar of a line, and what reading a line answers.
-use Rattle.std.specs.Prelude.{◌≡◌, ℕ, Bool, true, false, List, [], ◌∷◌, Option, Some, None, option_and_then, Result, Ok, Err, codes, nat_eq, if◌then◌else◌}
+use Rattle.std.specs.Prelude.{◌≡◌, ℕ, true, false, List, [], ◌∷◌, Option, Some, None, Result, Ok, Err, codes, nat_eq, if◌then◌else◌}
 use Rattle.std.specs.List.{list_all, starts_with}
 use Rattle.aff_core.specs.declared.sense.Sense.TheVariants.{Min, Max}
 use Rattle.user_model.specs.declared.edit.Edit.TheVariants.{Feasibility}
@@ -18,7 +18,6 @@ use Rattle.script_core.specs.Rows.{bound_form, row_form, vector_bound_form, vect
 use Rattle.script_core.specs.Solver.{optimize_form, load_form}
 use Rattle.script_core.specs.Tables.{target_form, support_form, cost_form, switch_form}
 use Rattle.script_core.specs.Variables.{variable_form, group_form}
-use Rattle.script_words.specs.Each.{◌>>=◌}
 use Rattle.script_words.specs.Tokens.{is_line_byte, tokens_of}
 
 -- a word alone

@@ -1,5 +1,5 @@
 -- What a line is read as.
-use Rattle.std.specs.Prelude.{ℕ, Bool, List, [], ◌∷◌, Option, Some, None, option_and_then, bytes_eq, codes}
+use Rattle.std.specs.Prelude.{ℕ, Bool, List, [], ◌∷◌, Option, Some, None, bytes_eq, codes}
 use Prim.Native.String.{String}
 use Rattle.user_model.specs.declared.edit.Edit.{Edit}
 use Rattle.script_core.specs.declared.command.Command.{Command}

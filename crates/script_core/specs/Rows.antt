@@ -1,5 +1,5 @@
 -- Lines that add rows or replace the objective, by the tokens that follow their first word.
-use Rattle.std.specs.Prelude.{ℕ, List, [], ◌∷◌, length, Option, Some, None, option_and_then}
+use Rattle.std.specs.Prelude.{[], ◌∷◌, length, Option, None}
 use Rattle.aff_core.specs.declared.sense.Sense.{Sense}
 use Rattle.name_index.specs.Name.{name_of_token}
 use Rattle.user_model.specs.declared.edit.NamedFunc.TheVariants.{Plain, Affine, PlainVec, AffineVec}
@@ -10,7 +10,6 @@ use Rattle.script_core.specs.Reading.{Tokens, makes, makes_with}
 use Rattle.script_core.specs.Sets.{relation_of, last_named_relation_of, vector_set_of}
 use Rattle.script_core.specs.Sums.{function_of, functions_of}
 use Rattle.script_core.specs.Terms.{terms_of, function_terms_of, component_terms_of}
-use Rattle.script_words.specs.Each.{◌>>=◌}
 
 -- bound R X REL
 unfoldable pub bound_form : Tokens → Option Reading

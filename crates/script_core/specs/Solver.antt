@@ -1,10 +1,9 @@
 -- Lines that ask the solver or name a file, by the tokens that follow their first word.
-use Rattle.std.specs.Prelude.{ℕ, List, [], ◌∷◌, Option, Some, None, option_and_then}
+use Rattle.std.specs.Prelude.{[], ◌∷◌, Option, Some, None}
 use Rattle.script_core.specs.declared.command.Command.TheVariants.{Load, Optimize}
 use Rattle.script_core.specs.declared.reading.Reading.{Reading}
 use Rattle.script_core.specs.Names.{last_name_of}
 use Rattle.script_core.specs.Reading.{Tokens, says}
-use Rattle.script_words.specs.Each.{◌>>=◌}
 use Rattle.script_words.specs.Number.{number_of}
 
 -- optimize, optimize N

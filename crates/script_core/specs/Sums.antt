@@ -1,12 +1,12 @@
 -- Functions as the sums of terms, from the left. There is none where a sum doesn't fit.
-use Rattle.std.specs.Prelude.{List, [], ◌∷◌, Option, Some, option_and_then}
+use Rattle.std.specs.Prelude.{List, [], ◌∷◌, Option, Some}
 use Rattle.ratio_core.specs.Rational.{zero_ℚ}
 use Rattle.named_aff.specs.declared.aff.NamedAff.{NamedAff}
 use Rattle.named_sums.specs.Sums as named
 use Rattle.named_sums.specs.Sums.{sum_of}
 use Rattle.script_core.specs.declared.terms.Term.{Term}
 use Rattle.script_core.specs.declared.terms.Term.TheVariants.{Linear, Constant}
-use Rattle.script_words.specs.Each.{◌>>=◌, each}
+use Rattle.script_words.specs.Each.{each}
 
 abbrev pub with_term : NamedAff → Term → Option NamedAff
 with_term f (Linear term) = do

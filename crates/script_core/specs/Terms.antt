@@ -1,12 +1,12 @@
 -- The terms of functions.
-use Rattle.std.specs.Prelude.{ℕ, Bool, List, [], ◌∷◌, Option, Some, None, option_map, option_and_then, ◌==◌, bytes_eq, codes, if◌then◌else◌}
+use Rattle.std.specs.Prelude.{ℕ, Bool, List, [], ◌∷◌, Option, Some, None, option_map, ◌==◌, if◌then◌else◌}
 use Rattle.std.specs.List.{list_any, before_first, after_first, slice_split}
 use Rattle.ratio_core.specs.Text.{rational_of}
 use Rattle.name_index.specs.Name.{name_of_token}
 use Rattle.script_core.specs.declared.terms.Term.{Term}
 use Rattle.script_core.specs.declared.terms.Term.TheVariants.{Linear, Constant}
 use Rattle.script_core.specs.Reading.{Tokens, is}
-use Rattle.script_words.specs.Each.{◌>>=◌, each}
+use Rattle.script_words.specs.Each.{each}
 
 abbrev pub is_star : ℕ → Bool
 is_star b = b == 42

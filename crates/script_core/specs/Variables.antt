@@ -1,5 +1,5 @@
 -- Lines that create variables, by the tokens that follow their first word.
-use Rattle.std.specs.Prelude.{ℕ, List, [], ◌∷◌, length, Option, Some, None, option_and_then, bytes_eq, codes, if◌then◌else◌}
+use Rattle.std.specs.Prelude.{[], ◌∷◌, length, Option, None, if◌then◌else◌}
 use Rattle.name_index.specs.Name.{name_of_token}
 use Rattle.set_core.specs.declared.set.Set.{Set}
 use Rattle.set_core.specs.declared.set.Set.TheVariants.{Reals}
@@ -8,7 +8,6 @@ use Rattle.script_core.specs.declared.reading.Reading.{Reading}
 use Rattle.script_core.specs.Reading.{Tokens, is, makes, alone}
 use Rattle.script_core.specs.Names.{names_of}
 use Rattle.script_core.specs.Sets.{last_relation_of, vector_set_of}
-use Rattle.script_words.specs.Each.{◌>>=◌}
 
 -- free, which is one real number, or a relation
 unfoldable pub creation_set_of : Tokens → Option Set

@@ -1,16 +1,15 @@
 -- What a reader has read of a line, against all that it has not given.
-use Rattle.std.proofs.Common.{◌≡◌, ℕ, ◌+◌, ◌-◌, ◌<◌, ◌≤◌, false, List, [], ◌∷◌, ◌++◌, length, take, get_or, refl, sym, ◌∙◌, ap, subst, inl, inr, Option, None, Some, append_assoc, append-nil, arith, eqb, IfSome}
+use Rattle.std.proofs.Common.{◌≡◌, ℕ, ◌+◌, ◌-◌, ◌<◌, ◌≤◌, false, List, [], ◌∷◌, ◌++◌, length, take, get_or, sym, ◌∙◌, ap, subst, inl, inr, Option, None, Some, append_assoc, append-nil, arith, eqb, IfSome}
 use Rattle.std.specs.Prelude.{take_while, nat_le, ◌==◌, if◌then◌else◌, Result, Ok, Err}
 use Rattle.std.specs.Str.Lines.{strip_carriage_return, lines}
 use Rattle.std.specs.Io.KnownBytes.{prepend_known, IsAtEnd}
 use Rattle.std.proofs.lemmas.List.{length-take, length-take-le, take_all, length-append, take_at}
 use Rattle.std.proofs.Math.Seq.{take-append-add}
-use Rattle.std.proofs.lemmas.List.Elements.{All-push, All-nil, All-append}
+use Rattle.std.proofs.lemmas.List.Elements.{All-push, All-append}
 use Rattle.std.proofs.lemmas.List.Sums.{take_while-cons}
 use Rattle.std.proofs.lemmas.Bool.{cases_Bool, eqb-true, eqb-false, leb-true, leb-false, lt-leb, cond-false, cond-true, cond_both}
-use Rattle.std.proofs.KnownBytes.{prepend_known-nil}
 use Rattle.io_face.specs.Source.{Takes}
-use Rattle.io_face.specs.SourceLaws.{Takes-append, Takes-empty}
+use Rattle.io_face.specs.SourceLaws.{Takes-append}
 use Rattle.script_lines.specs.declared.line_reader.Next.{Next}
 use Rattle.script_lines.specs.declared.line_reader.Next.TheVariants.{End, LastLine}
 use Rattle.script_lines.specs.declared.line_reader.ReadStop.{ReadStop}

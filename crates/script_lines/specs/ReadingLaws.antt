@@ -1,5 +1,5 @@
 -- Bytes that are told, by those before them.
-use Rattle.std.proofs.Common.{◌≡◌, ℕ, List, [], ◌++◌, refl, sym, ap, subst, Option, None, Some, append_assoc, IfSome}
+use Rattle.std.proofs.Common.{◌≡◌, ℕ, List, ◌++◌, refl, sym, ap, subst, Option, None, Some, append_assoc, IfSome}
 use Rattle.std.specs.Io.KnownBytes.{prepend_known}
 
 -- ---- bytes before known bytes

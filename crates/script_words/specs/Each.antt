@@ -1,5 +1,5 @@
 -- Lists that are read item by item.
-use Rattle.std.specs.Prelude.{List, [], ◌∷◌, ◌++◌, Option, Some, None, option_and_then}
+use Rattle.std.specs.Prelude.{List, [], ◌∷◌, ◌++◌, Option, Some, option_and_then}
 use Rattle.std.specs.Option.{option_map}
 
 infixl 10 ◌>>=◌

@@ -1,5 +1,5 @@
 -- What stands at a basis stands at the next.
-use Rattle.std.specs.Prelude.{◌≡◌, ℕ, ◌+◌, ◌<◌, ◌≤◌, ◌⊎◌}
+use Rattle.std.specs.Prelude.{◌≡◌, ℕ, ◌<◌, ◌≤◌, ◌⊎◌}
 use Rattle.std.proofs.Common.{inl, inr, sym, ◌∙◌, ap, arith, subst}
 use Rattle.ratio_core.specs.Rational.{Rational, inverse_ℚ, zero_ℚ, ◌*ℚ◌, ◌-ℚ◌, ◌≤ℚ◌, ◌‹ℚ◌}
 use Rattle.rational_laws.specs.Order.{above_inverse, nonneg_from_≤ℚ, nonneg_mul, nonpos_mul, not_‹ℚ_from_≤ℚ, ≤ℚ-*ℚ_left, ≤ℚ_from_‹ℚ, ≤ℚ_or_‹ℚ, ≤ℚ_refl, ≤ℚ_trans}

@@ -2,7 +2,7 @@
 ghost use Rattle.std.specs.Prelude.{◌≡◌, ◌+◌, ◌<◌, ◌≤◌, None, Some, IsOk, IfOk, OnOk, OnErr};
 ghost use Rattle.std.specs.FinMap as finite;
 ghost use Rattle.std.specs.Option.{option_copied};
-ghost use Rattle.slab.specs.Slab.{ContainsKey, get};
+ghost use Rattle.slab.specs.Slab.{get};
 ghost use Rattle.solver_store.specs.KeptModel.{by_key, room};
 ghost use Rattle.solver_store.specs.SolverModel.{IsUsed, no_leaves, one_more, with_objective, with_row, with_var, without_row, without_var};
 

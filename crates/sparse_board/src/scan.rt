@@ -1,5 +1,5 @@
 //! What the rule looks for among a row's real columns.
-ghost use Rattle.std.specs.Prelude.{◌≡◌, ◌<◌, ◌≤◌, ◌^◌, not, IfSome};
+ghost use Rattle.std.specs.Prelude.{◌≡◌, ◌<◌, not, IfSome};
 ghost use Rattle.ratio_core.specs.Rational.{rational_eq, zero_ℚ};
 ghost use Rattle.simplex_form.specs.Search.{least_below};
 ghost use Rattle.simplex_form.specs.Turns.{is_below};

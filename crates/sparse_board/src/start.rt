@@ -1,5 +1,5 @@
 //! The rows that a board starts with.
-ghost use Rattle.std.specs.Prelude.{◌≡◌, ◌+◌, ◌*◌, ◌<◌, ◌≤◌, ◌^◌, ℕ, [], length, IfOk};
+ghost use Rattle.std.specs.Prelude.{◌≡◌, ◌+◌, ◌*◌, ◌<◌, ◌^◌, ℕ, length, IfOk};
 ghost use Rattle.simplex_form.specs.Board.{entry};
 ghost use Rattle.tableau_core.specs.Row.{AllFit, cell};
 ghost use Rattle.tableau_core.specs.Start.{AtEachStart};

@@ -1,5 +1,5 @@
 -- What is read back by index is, by address, what the leaf model's answer is.
-use Rattle.std.specs.Prelude.{◌≡◌, ℕ, suc, Bool, true, false, cond, List, [], ◌∷◌, All, Option, Some, None, drop, length, take, unwrap_or, refl}
+use Rattle.std.specs.Prelude.{◌≡◌, ℕ, Bool, true, false, cond, List, [], ◌∷◌, All, Option, Some, None, length, unwrap_or, refl}
 use Rattle.std.specs.Prelude as prelude
 use Rattle.std.specs.FinMap as finite
 use Rattle.std.specs.FinMap.Entries.{find}

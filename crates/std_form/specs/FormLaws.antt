@@ -1,6 +1,6 @@
 -- The form of a solver's model by index is the equality form of the leaf model that is read through
 -- its map.
-use Rattle.std.specs.Prelude.{◌≡◌, ℕ, suc, ◌+◌, Bool, true, false, cond, List, [], ◌∷◌, ◌++◌, All, IsSome, Option, Some, None, filter_map, flat_map, length, map, refl}
+use Rattle.std.specs.Prelude.{◌≡◌, ℕ, suc, ◌+◌, Bool, List, [], ◌∷◌, ◌++◌, All, IsSome, Option, Some, None, flat_map, length, map, refl}
 use Rattle.std.specs.Prelude as prelude
 use Rattle.std.specs.FinMap as finite
 use Rattle.std.specs.FinMap.Entries.{put}
@@ -21,7 +21,7 @@ use Rattle.aff_core.specs.declared.sense.Sense.TheVariants.{Min, Max}
 use Rattle.equality_form.specs.Columns.{parts_among, slack_at, slacks_from}
 use Rattle.equality_form.specs.EqualityForm.{cells_from, cost_among, form_from, form_of_leaves, numbers_at, right_sides, unit_at}
 use Rattle.equality_form.specs.Equations as address
-use Rattle.equality_form.specs.Equations.{Equation, equations, equations_among, equations_for, flipped, is_flipped, number_of, right_of, slack_of}
+use Rattle.equality_form.specs.Equations.{Equation, equations, equations_among, flipped, is_flipped, number_of, right_of, slack_of}
 use Rattle.leaf_model.specs.ReadThrough.{address_in, named, read_objective, read_row, read_through}
 use Rattle.map_laws.specs.MadeLaws.{entries_empty}
 use Rattle.solver_store.specs.SolverFunction.{SolverFunction}

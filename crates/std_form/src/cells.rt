@@ -1,7 +1,6 @@
 //! The columns, how many cells there are, and the matrix and the costs.
-ghost use Rattle.std.specs.Prelude.{◌≡◌, ◌+◌, ◌-◌, ◌*◌, ◌^◌, ◌++◌, IfOk, OnOk, length, map, min, option_to_list};
+ghost use Rattle.std.specs.Prelude.{◌≡◌, ◌+◌, ◌-◌, ◌*◌, ◌^◌, IfOk, length, map, min, option_to_list};
 ghost use Rattle.std.specs.Option.{option_copied};
-ghost use Rattle.ratio_core.specs.Rational.{zero_ℚ};
 ghost use Rattle.equality_form.specs.Columns.{parts_among, slack_at, slacks_from};
 ghost use Rattle.equality_form.specs.EqualityForm.{cells_from, costs_at};
 ghost use Rattle.equality_form.specs.Equations.{is_flipped, slack_of};

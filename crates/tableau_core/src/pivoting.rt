@@ -1,5 +1,5 @@
 //! A pivot worked out beside what stands.
-ghost use Rattle.std.specs.Prelude.{◌≡◌, ◌≢◌, ◌+◌, ◌<◌, ◌≤◌, ℕ, length, take, is_ok, IfOk, OnOk};
+ghost use Rattle.std.specs.Prelude.{◌≡◌, ◌≢◌, ◌<◌, ◌≤◌, ℕ, length, take, is_ok, IfOk, OnOk};
 ghost use Rattle.ratio_core.specs.Rational.{zero_ℚ};
 ghost use Rattle.tableau_core.specs.Places.{Covers};
 ghost use Rattle.tableau_core.specs.Row.{AllFit, IsDivided, cell, quotients_fit};

@@ -1,4 +1,3 @@
-use Rattle.std.proofs.Common.{◌≡◌}
 use Rattle.model_bridging.proofs.ModelSteps.{model_answered, ready, refused_by_kinds}
 use Rattle.model_bridging.proofs.model_plan.plan_model.Goals as goal
 

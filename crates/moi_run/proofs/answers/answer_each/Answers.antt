@@ -1,13 +1,11 @@
 -- Each exit says what the text written so far is of the lines'.
-use Rattle.std.proofs.Common.{◌≡◌, ◌+◌, ◌||◌, [], ◌++◌, Ok, Err, false, take, drop, refl, sym, ◌∙◌, ap, subst, append-nil, arith}
+use Rattle.std.proofs.Common.{◌≡◌, ◌+◌, [], Ok, Err, false, take, drop, refl, sym, ◌∙◌, ap, append-nil, arith}
 use Rattle.std.specs.Prelude.{map}
 use Rattle.std.proofs.lemmas.List.{take_all}
 use Rattle.std.proofs.lemmas.List.Elements.{All-get_or}
 use Rattle.edit_engine.specs.Held.{machine_of}
 use Rattle.edit_engine.specs.Lines.{says_load}
-use Rattle.io_face.specs.Sink.{Adds}
 use Rattle.io_face.specs.Told.{told_by}
-use Rattle.moi_run.specs.Answering.{Hears}
 use Rattle.moi_run.proofs.Each.{each_at_stop, each_begins, each_begins_at_stop, each_more, lines_around}
 use Rattle.moi_run.proofs.Exits.{fails_within, fault_of, heard_told, told_same}
 use Rattle.moi_run.proofs.RunLemmas.{answers_nothing}

@@ -1,7 +1,5 @@
 -- The session was told the options, and then the lines were answered.
-use Rattle.std.proofs.Common.{ap, ◌∙◌}
 use Rattle.edit_engine.specs.Held.{machine_of}
-use Rattle.edit_engine.specs.Script.{machine_by}
 use Rattle.io_face.specs.Told.{told_by}
 use Rattle.moi_run.proofs.Running.{each_without_memory, runs_each, set_up_is}
 use Rattle.moi_run.proofs.answers.answer_with.Goals as goal

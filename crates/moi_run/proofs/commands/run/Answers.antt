@@ -1,6 +1,4 @@
 -- Each clause is a part of how the command ran.
-use Rattle.io_face.specs.Told.{told_by}
-use Rattle.edit_engine.specs.Held.{machine_of}
 use Rattle.moi_run.proofs.Completing.{completes}
 use Rattle.moi_run.proofs.commands.run.Goals as goal
 

@@ -1,4 +1,3 @@
-use Rattle.std.proofs.Common.{◌∙◌}
 use Rattle.script_core.proofs.Components.{components_after_start}
 use Rattle.script_core.proofs.terms.read_components.Goals as goal
 

@@ -1,4 +1,4 @@
-use Rattle.std.proofs.Common.{rules, ◌<◌, length}
+use Rattle.std.proofs.Common.{rules}
 use Rattle.std.proofs.lemmas.List.{get_or_default}
 use Rattle.item_core.specs.Edge.{edge_entry, edge_number}
 use Rattle.item_core.specs.declared.edge.TheConstants.{EDGES}
