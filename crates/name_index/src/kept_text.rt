@@ -9,7 +9,7 @@ use std::alloc::{AllocError, Global};
 const SHORT: usize = 16;
 
 /// Text, in place where it is short.
-#[derive(Debug, Drop)]
+#[derive(Drop)]
 pub(crate) enum KeptText {
     Short(ArrayString<SHORT>),
     Long(String),

@@ -11,6 +11,7 @@ use crate::{Memory, Text};
 use lists::Duplicate;
 use percent_encoding::{AsciiSet, CONTROLS, ascii_set, percent_decode, utf8_percent_encode};
 use std::alloc::{AllocError, Global};
+use std::fmt;
 use std::hash::{Hash, Hasher};
 use std::marker::Model;
 use thiserror::Error;
@@ -20,7 +21,7 @@ use thiserror::Error;
 const ESCAPED: AsciiSet = ascii_set!(CONTROLS.add(b' ').add(b'%'));
 
 /// A name of a variable or a row: UTF-8 text of 1 to 4,096 bytes, which contracts see as its bytes.
-#[derive(Debug, Drop)]
+#[derive(Drop)]
 pub struct Name {
     alloc: Global,
     text: KeptText,
@@ -126,6 +127,12 @@ impl Name {
         let mut token = String::new(self.alloc);
         utf8_percent_encode(self.text(), ESCAPED).append_to(&mut token)?;
         Ok(Text::from_vec(token.into_bytes()))
+    }
+}
+
+impl fmt::Debug for Name {
+    fn fmt<W: fmt::Write>(&self, f: &mut fmt::Formatter<W>) -> fmt::Result {
+        f.debug_struct("Name").field("text", &self.text()).finish()
     }
 }
 
