@@ -1,26 +1,56 @@
-// Calls what all crates stand on, and prints what is answered: lists, sources, sinks and shelves,
-// sets, named functions and names.
+// Calls what all crates stand on, and prints what is answered, a heading before each subject.
 #![tactic(auto)]
 
-mod functions;
+mod addresses;
+mod affine;
+mod arithmetic;
+mod calls;
+mod exprs;
+mod fractions;
+mod leaves;
+mod literals;
+mod loads;
+mod named;
 mod names;
+mod numerals;
+mod plans;
+mod rows;
 mod sequences;
 mod sets;
 mod shelves;
 mod sinks;
 mod sources;
+mod tables;
+mod variables;
 
 use page::Page;
 use std::process::ExitCode;
 
 fn main(rt: HostRuntime) -> ExitCode {
     let mut page = Page::new(&rt);
-    sequences::show(&mut page);
-    sources::show(&mut page);
-    sinks::show(&mut page);
-    shelves::show(&mut page);
-    sets::show(&mut page);
-    functions::show(&mut page);
-    names::show(&mut page);
+    show_values(&mut page);
+    show_functions(&mut page);
     page.status()
+}
+
+fn show_values(page: &mut Page) {
+    fractions::show(page);
+    numerals::show(page);
+    sequences::show(page);
+    loads::show(page);
+    sources::show(page);
+    sinks::show(page);
+    shelves::show(page);
+    sets::show(page);
+}
+
+fn show_functions(page: &mut Page) {
+    names::show(page);
+    named::show(page);
+    addresses::show(page);
+    affine::show(page);
+    arithmetic::show(page);
+    leaves::show(page);
+    tables::show(page);
+    plans::show(page);
 }

@@ -1,4 +1,8 @@
 // Names and their table.
+ghost use Rattle.std.specs.Prelude.{◌≡◌, IsTrue, None};
+ghost use Rattle.std.specs.FinMap as map;
+ghost use Rattle.name_index.specs.NameTable.{IsFree};
+
 use lists::Duplicate;
 use name_index::{Name, NameTable, Names};
 use page::Page;
@@ -31,13 +35,13 @@ const TOKENS: [&str; 20] = [
 /// The names that tokens stand for, a text that is too long for a name, a list of names, and a
 /// table of one name.
 pub fn show(page: &mut Page) {
+    page.line("# names");
     for token in &TOKENS {
         show_token(page, token);
     }
     too_long(page);
     if let Ok(x) = Name::new(page.alloc(), "x") {
-        let mut table = NameTable::new(page.alloc());
-        go_both_ways(page, &mut table, &x);
+        both_ways(page, &x);
         in_a_list(page, x);
     }
 }
@@ -50,10 +54,14 @@ fn show_token(page: &mut Page, token: &str) {
 }
 
 fn show_written(page: &mut Page, token: &str, name: &Name) {
+    page.word(format_args!("{token} is {:?}, ", name.text()));
     if let Ok(written) = name.escape() {
-        let (text, written) = (name.text(), std::str::from_utf8(written.as_slice()));
-        page.line(format_args!("{token} is {text:?}, written {written:?}"));
+        show_escaped(page, written.as_slice());
     }
+}
+
+fn show_escaped(page: &mut Page, written: &[u8]) {
+    page.line(format_args!("written {:?}", std::str::from_utf8(written)));
 }
 
 fn too_long(page: &mut Page) {
@@ -64,10 +72,29 @@ fn too_long(page: &mut Page) {
 }
 
 fn in_a_list(page: &mut Page, name: Name) {
-    if let Ok(names) = vec![in page.alloc(); name] {
-        let names = Names::from_vec(names);
-        page.line(format_args!("names: {:?}", names.copy()));
+    let mut names = Names::new(page.alloc());
+    if names.push(name).is_ok() {
+        copy_names(page, &names);
     }
+}
+
+fn copy_names(page: &mut Page, names: &Names) {
+    if let Ok(copy) = names.copy() {
+        show_names(page, &copy);
+    }
+}
+
+fn show_names(page: &mut Page, names: &Names) {
+    page.word("names:");
+    for name in names.as_slice() {
+        page.word(format_args!(" {:?}", name.text()));
+    }
+    page.line("");
+}
+
+fn both_ways(page: &mut Page, name: &Name) {
+    let mut table = NameTable::new(page.alloc());
+    go_both_ways(page, &mut table, name);
 }
 
 // Puts a name into an empty table, finds it and takes it out.
@@ -75,24 +102,46 @@ fn go_both_ways(page: &mut Page, table: &mut NameTable, name: &Name) {
     let (room, is_put) = (table.reserve(1), put_copy(table, name));
     page.line(format_args!("room {room:?}, put {is_put}"));
     find(page, table, name);
-    let taken = table.remove(7);
-    page.line(format_args!("taken out: {taken:?}"));
+    take_out(page, table);
     find(page, table, name);
 }
 
-fn put_copy(table: &mut NameTable, name: &Name) -> bool {
-    match name.copy() {
-        Ok(name) => put(table, name),
-        Err(_) => false,
+fn take_out(page: &mut Page, table: &mut NameTable) {
+    match table.remove(7) {
+        Some(name) => page.line(format_args!("taken out: {:?}", name.text())),
+        None => page.line("none taken out"),
     }
 }
 
 // Whether a free name gets the free number 7.
-fn put(table: &mut NameTable, name: Name) -> bool {
-    table.id(&name).is_none() && table.name(7).is_none() && table.add(name, 7).is_ok()
+fn put_copy(table: &mut NameTable, name: &Name) -> bool {
+    if !is_free(table, name) {
+        return false;
+    }
+    match name.copy() {
+        Ok(copy) => put(table, copy),
+        Err(_) => false,
+    }
+}
+
+fn is_free(table: &NameTable, name: &Name) -> bool
+    ensures { IsTrue result → (map.get table.now.numbers name.now ≡ None)
+        × IsFree table.now.numbers 7 }
+{
+    table.id(name).is_none() && table.name(7).is_none()
+}
+
+fn put(table: &mut NameTable, name: Name) -> bool
+    requires name_free { map.get table.old.numbers name ≡ None }
+    requires id_free { IsFree table.old.numbers 7 }
+{
+    table.add(name, 7).is_ok()
 }
 
 fn find(page: &mut Page, table: &NameTable, name: &Name) {
-    let (number, found) = (table.id(name), table.name(7));
-    page.line(format_args!("{name:?} has {number:?}, and 7 is of {found:?}"));
+    page.word(format_args!("{:?} has {:?}, ", name.text(), table.id(name)));
+    match table.name(7) {
+        Some(found) => page.line(format_args!("and 7 is of {:?}", found.text())),
+        None => page.line("and 7 is of none"),
+    }
 }

@@ -9,6 +9,7 @@ use set_core::Set;
 /// The numbers from -1 to 1, cones of three numbers, a cone that is too small, and the numbers up
 /// to the greatest.
 pub fn show(page: &mut Page) {
+    page.line("# sets");
     let (lower, upper) = (Ratio::one().neg(), Ratio::one());
     let interval = Set::Interval { lower, upper };
     show_shape(page, &interval);
@@ -24,19 +25,27 @@ pub fn show(page: &mut Page) {
 }
 
 fn show_shape(page: &mut Page, set: &Set) {
-    let (copy, resized) = (set.copy(page.alloc()), set.resized(page.alloc(), 2));
-    page.line(format_args!("{copy:?}, for 2 components {resized:?}"));
-    let (of_type, dimension) = (set.set_type(), set.dimension());
+    page.word(format_args!("{:?}, ", set.copy(page.alloc())));
+    page.line(format_args!("for 2 components {:?}", set.resized(page.alloc(), 2)));
+    show_type(page, set);
+    show_bounds(page, set);
+}
+
+fn show_type(page: &mut Page, set: &Set) {
+    page.word(format_args!("    {:?} of {}, ", set.set_type(), set.dimension()));
     let (is_scalar, is_norm_cone) = (set.is_scalar(), set.is_norm_cone());
-    page.line(format_args!(
-        "    {of_type:?} of {dimension}, scalar {is_scalar}, norm cone {is_norm_cone}"
-    ));
+    page.line(format_args!("scalar {is_scalar}, norm cone {is_norm_cone}"));
     let is_zeros = set.has_type_of(&Set::Zeros { dimension: 2 });
     let is_bad = set.has_bad_dimension(1);
     page.line(format_args!("    type of zeros {is_zeros}, bad for 1 component {is_bad}"));
+}
+
+fn show_bounds(page: &mut Page, set: &Set) {
     let (lower, upper) = (set.lower_bound(), set.upper_bound());
-    let is_crossed = set.is_crossed();
-    page.line(format_args!("    from {lower:?} to {upper:?}, crossed {is_crossed}"));
+    page.line(format_args!(
+        "    from {lower:?} to {upper:?}, crossed {}",
+        set.is_crossed()
+    ));
 }
 
 fn show_cone(page: &mut Page, cone: &Set)

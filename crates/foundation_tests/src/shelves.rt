@@ -1,40 +1,58 @@
 // Shelves in memory. The stored run of `engine_tests` fetches files of the system, one of which
 // is not there.
-use io_face::{Calls, MemShelf, NamedFile, NamedFiles, Shelf, SureShelf};
+use crate::calls::fails_at;
+use io_face::{MemShelf, NamedFile, NamedFiles, Shelf, SureShelf};
 use page::Page;
 use std::alloc::{AllocError, Global};
 
 /// Fetches from each kind of shelf.
 pub fn show(page: &mut Page) {
+    page.line("# shelves");
     sure(page);
     failing(page);
 }
 
-fn one_file(alloc: Global) -> Result<NamedFiles, AllocError> {
+fn file(alloc: Global) -> Result<NamedFile, AllocError> {
     let name = String::from_str(alloc, "m.json")?;
     let bytes = b"{}".to_vec(alloc)?;
-    Ok(NamedFiles::from_vec(vec![in alloc; NamedFile { name, bytes }]?))
+    Ok(NamedFile { name, bytes })
+}
+
+// The one file, or none where there is no memory.
+fn one_file(alloc: Global) -> NamedFiles {
+    match file(alloc) {
+        Ok(file) => files_of(alloc, file),
+        Err(_) => NamedFiles::new(alloc),
+    }
+}
+
+fn files_of(alloc: Global, file: NamedFile) -> NamedFiles {
+    let mut files = NamedFiles::new(alloc);
+    match files.push(file) {
+        Ok(()) => files,
+        Err(_) => NamedFiles::new(alloc),
+    }
 }
 
 fn sure(page: &mut Page) {
-    if let Ok(files) = one_file(page.alloc()) {
-        let mut shelf = SureShelf::new(files);
-        fetch(page, "sure", &mut shelf, "m.json");
-        fetch(page, "sure", &mut shelf, "n.json");
-    }
+    let mut shelf = SureShelf::new(one_file(page.alloc()));
+    fetch(page, "sure", &mut shelf, "m.json");
+    fetch(page, "sure", &mut shelf, "n.json");
 }
 
 fn failing(page: &mut Page) {
-    if let (Ok(files), Ok(fails)) = (one_file(page.alloc()), vec![in page.alloc(); 1u64]) {
-        let mut shelf = MemShelf::new(files, Calls::from_vec(fails));
-        fetch(page, "the first fails", &mut shelf, "m.json");
-        fetch(page, "the first fails", &mut shelf, "m.json");
-    }
+    let mut shelf = MemShelf::new(one_file(page.alloc()), fails_at(page.alloc(), 1));
+    fetch(page, "the first fails", &mut shelf, "m.json");
+    fetch(page, "the first fails", &mut shelf, "m.json");
 }
 
 fn fetch<H: Shelf>(page: &mut Page, what: &str, shelf: &mut H, name: &str) {
     let mut into = Vec::new(page.alloc());
     let fetched = shelf.fetch(name, &mut into);
-    let (text, faults) = (std::str::from_utf8(&into), shelf.faults());
-    page.line(format_args!("fetch {name}, {what}: {fetched:?} {text:?}, faults {faults}"));
+    page.word(format_args!("fetch {name}, {what}: {fetched:?} "));
+    show_fetched(page, &into, shelf.faults());
+}
+
+fn show_fetched(page: &mut Page, into: &[u8], faults: u64) {
+    page.line(format_args!("{:?}, faults {faults}", std::str::from_utf8(into)));
 }

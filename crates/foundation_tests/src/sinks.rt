@@ -1,12 +1,13 @@
 // Sinks: in memory, and of a system that interrupts and fails.
-use io_face::{Calls, MemSink, Sink, StdOut, SureSink, write_all};
+use crate::calls::fails_at;
+use io_face::{MemSink, Sink, StdOut, SureSink, write_all};
 use page::Page;
-use std::alloc::{AllocError, Global};
 use std::io;
 use std::io::{ErrorKind, Write};
 
 /// Writes to each kind of sink.
 pub fn show(page: &mut Page) {
+    page.line("# sinks");
     let mut sink = SureSink::new(page.alloc());
     write(page, "whole", &mut sink);
     written(page, sink.written());
@@ -29,21 +30,18 @@ fn written(page: &mut Page, bytes: &[u8]) {
     page.line(format_args!("    {:?}", std::str::from_utf8(bytes)));
 }
 
-// A sink that takes two bytes at a time, and fails at this write.
-fn pieces(alloc: Global, failing: u64) -> Result<MemSink, AllocError> {
-    let fails = Calls::from_vec(vec![in alloc; failing]?);
-    Ok(MemSink::new(alloc, 2, fails))
+// A sink takes two bytes at a time, and fails at a write: one write, and then the text up to a fault.
+fn in_pieces(page: &mut Page, what: &str, failing: u64) {
+    let mut sink = MemSink::new(page.alloc(), 2, fails_at(page.alloc(), failing));
+    write(page, what, &mut sink);
+    written(page, sink.written());
+    write_text(page, &mut sink);
 }
 
-// One write, and then the text up to a fault.
-fn in_pieces(page: &mut Page, what: &str, failing: u64) {
-    if let Ok(mut sink) = pieces(page.alloc(), failing) {
-        write(page, what, &mut sink);
-        written(page, sink.written());
-        let answer = write_all(&mut sink, b"hello");
-        page.line(format_args!("    all: {answer:?}"));
-        written(page, sink.written());
-    }
+fn write_text(page: &mut Page, sink: &mut MemSink) {
+    let answer = write_all(sink, b"hello");
+    page.line(format_args!("    all: {answer:?}"));
+    written(page, sink.written());
 }
 
 /// Is interrupted, takes a byte, then none, and fails.

@@ -1,12 +1,13 @@
 // Sources: in memory, and of a system that interrupts and fails.
-use io_face::{Calls, MemSource, Source, StdIn, SureSource, read_whole};
+use crate::calls::fails_at;
+use io_face::{MemSource, Source, StdIn, SureSource, read_whole};
 use page::Page;
-use std::alloc::{AllocError, Global};
 use std::io;
 use std::io::{ErrorKind, Read};
 
 /// Reads from each kind of source.
 pub fn show(page: &mut Page) {
+    page.line("# sources");
     sure(page);
     in_pieces(page, "in pieces", 9);
     in_pieces(page, "the first fails", 1);
@@ -18,8 +19,12 @@ pub fn show(page: &mut Page) {
 fn read<I: Source>(page: &mut Page, what: &str, source: &mut I) {
     let mut into = [0u8; 3];
     let count = source.read(&mut into);
-    let (text, faults) = (std::str::from_utf8(&into), source.faults());
-    page.line(format_args!("read, {what}: {count:?} {text:?}, faults {faults}"));
+    page.word(format_args!("read, {what}: {count:?} "));
+    show_read(page, &into, source.faults());
+}
+
+fn show_read(page: &mut Page, into: &[u8], faults: u64) {
+    page.line(format_args!("{:?}, faults {faults}", std::str::from_utf8(into)));
 }
 
 fn sure(page: &mut Page) {
@@ -30,20 +35,19 @@ fn sure(page: &mut Page) {
     }
 }
 
-// A source of pieces of two bytes, of which a read fails.
-fn pieces(alloc: Global, failing: u64) -> Result<MemSource, AllocError> {
-    let fails = Calls::from_vec(vec![in alloc; failing]?);
-    Ok(MemSource::new(b"hello".to_vec(alloc)?, 2, fails))
+// One read of a source of pieces of two bytes, of which a read fails, and then all that is left.
+fn in_pieces(page: &mut Page, what: &str, failing: u64) {
+    if let Ok(bytes) = b"hello".to_vec(page.alloc()) {
+        let mut source = MemSource::new(bytes, 2, fails_at(page.alloc(), failing));
+        read(page, what, &mut source);
+        read_left(page, &mut source);
+    }
 }
 
-// One read, and then all that is left.
-fn in_pieces(page: &mut Page, what: &str, failing: u64) {
-    if let Ok(mut source) = pieces(page.alloc(), failing) {
-        read(page, what, &mut source);
-        let mut left = Vec::new(page.alloc());
-        let answer = read_whole(&mut source, &mut left);
-        page.line(format_args!("    left: {answer:?} {:?}", std::str::from_utf8(&left)));
-    }
+fn read_left(page: &mut Page, source: &mut MemSource) {
+    let mut left = Vec::new(page.alloc());
+    let answer = read_whole(source, &mut left);
+    page.line(format_args!("    left: {answer:?} {:?}", std::str::from_utf8(&left)));
 }
 
 /// Is interrupted, gives two bytes, fails, and is at its end.

@@ -11,6 +11,3 @@ pub use change::Change;
 pub use exchanges::{exchange, exchange_all};
 pub use gap::{close_gap, exchange_at_gap, open_gap};
 pub use search::{HasNumber, place_of, with_number};
-
-#[cfg(test)]
-mod tests;

@@ -4,6 +4,7 @@ use page::Page;
 
 /// The edges and the kinds, each on a line.
 pub fn show(page: &mut Page) {
+    page.line("# edges and kinds");
     show_edges(page, &EDGES);
     show_kinds(page, &KINDS.kinds);
 }

@@ -1,5 +1,5 @@
 use Rattle.std.specs.List.{IsDistinct}
-use Rattle.function_tests.proofs.functions.gathers.Goals as goal
+use Rattle.foundation_tests.proofs.affine.make.Goals as goal
 
 pub gather-requires : goal.gather-requires
 unfolding IsDistinct

@@ -1,7 +1,7 @@
 use Rattle.std.proofs.Common.{Less, subst}
 use Rattle.ratio_core.specs.Rational.{◌‹ℚ◌}
 use Rattle.ratio_core.specs.RationalLaws.{rational_ranked}
-use Rattle.number_tests.proofs.line.order.Goals as goal
+use Rattle.foundation_tests.proofs.fractions.order.Goals as goal
 
 pub cmp_quotients-requires-clause-by : goal.cmp_quotients-requires-clause-by
 cmp_quotients-requires-clause-by c = subst (λ z. z ‹ℚ c.args.a) c.zero-zero.ensures (rational_ranked _ _ Less c.in-Less-Less.ensures)

@@ -34,6 +34,7 @@ const CYCLE: [EdgeRow; 3] = [
 
 /// The plans of each graph, a line each.
 pub fn show(page: &mut Page) {
+    page.line("# least-cost plans");
     show_target(page, Target::Standard);
     show_target(page, Target::Rows);
     show_target(page, Target::Cone);
