@@ -1,6 +1,6 @@
 //! Functions made, read and changed.
 
-use aff_core::{Address, Aff, Root};
+use aff_core::{Address, Aff, Root, rise_strictly};
 use lists::{Duplicate, Memory};
 use ratio_core::Ratio;
 use std::alloc::Global;
@@ -53,6 +53,11 @@ fn changed_constant(alloc: Global) -> Result<Ratio, Memory> {
 #[test]
 fn a_constant_is_changed(rt: HostRuntime) {
     assert!(rt; changed_constant(rt.alloc()) == Ok(Ratio::one()));
+}
+
+#[test]
+fn terms_in_order_rise(rt: HostRuntime) {
+    assert!(rt; rise_strictly(&[(0u8, Ratio::one()), (1, Ratio::zero())]));
 }
 
 fn count_without_zeros(alloc: Global) -> Result<usize, Memory> {
