@@ -18,7 +18,7 @@ fn main(rt: HostRuntime) -> ExitCode {
     sequences::show(&mut page);
     sources::show(&mut page);
     sinks::show(&mut page);
-    shelves::show(&mut page);
+    shelves::show(&rt, &mut page);
     sets::show(&mut page);
     functions::show(&mut page);
     names::show(&mut page);
