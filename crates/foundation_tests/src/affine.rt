@@ -1,5 +1,5 @@
 // Affine functions over addresses, made, read and changed.
-use aff_core::{Address, Aff, Root};
+use aff_core::{Address, Aff, Root, rise_strictly};
 use lists::{Duplicate, Memory};
 use page::Page;
 use ratio_core::Ratio;
@@ -11,6 +11,8 @@ fn x() -> Address {
 /// A function made by each call, and changes of the function that is the variable y.
 pub fn show(page: &mut Page) {
     page.line("# affine functions");
+    let terms = [(0u8, Ratio::one()), (1, Ratio::zero())];
+    page.line(format_args!("terms of 0 and 1 rise {}", rise_strictly(&terms)));
     make(page, x());
     if let Ok(f) = Aff::variable(page.alloc(), &Address::root(Root::Variable, 1)) {
         change(page, &f);

@@ -28,19 +28,19 @@ use std::process::ExitCode;
 
 fn main(rt: HostRuntime) -> ExitCode {
     let mut page = Page::new(&rt);
-    show_values(&mut page);
+    show_values(&rt, &mut page);
     show_functions(&mut page);
     page.status()
 }
 
-fn show_values(page: &mut Page) {
+fn show_values(rt: &HostRuntime, page: &mut Page) {
     fractions::show(page);
     numerals::show(page);
     sequences::show(page);
     loads::show(page);
     sources::show(page);
     sinks::show(page);
-    shelves::show(page);
+    shelves::show(rt, page);
     sets::show(page);
 }
 

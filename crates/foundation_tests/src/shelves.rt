@@ -1,15 +1,16 @@
-// Shelves in memory. The stored run of `engine_tests` fetches files of the system, one of which
-// is not there.
+// Shelves in memory, and that of the system, which lacks the file. The stored run of `moi_edit`
+// fetches files of the system that are there.
 use crate::calls::fails_at;
-use io_face::{MemShelf, NamedFile, NamedFiles, Shelf, SureShelf};
+use io_face::{Files, MemShelf, NamedFile, NamedFiles, Shelf, SureShelf};
 use page::Page;
 use std::alloc::{AllocError, Global};
 
 /// Fetches from each kind of shelf.
-pub fn show(page: &mut Page) {
+pub fn show(rt: &HostRuntime, page: &mut Page) {
     page.line("# shelves");
     sure(page);
     failing(page);
+    fetch(page, "of the system", &mut Files::new(rt), "none.json");
 }
 
 fn file(alloc: Global) -> Result<NamedFile, AllocError> {
