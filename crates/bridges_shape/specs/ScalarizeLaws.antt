@@ -25,7 +25,7 @@ use Rattle.item_core.specs.declared.item.Body.{Body}
 use Rattle.item_core.specs.declared.item.Body.TheVariants.{Plain, Affine, PlainVec, AffineVec}
 use Rattle.item_core.specs.declared.item.Item.{Item}
 use Rattle.item_core.specs.Edge.{edge_entry, family_of, source_of}
-use Rattle.item_core.specs.Item.{functions_of, set_of}
+use Rattle.item_core.specs.Item.{functions_of, item_of, set_of}
 use Rattle.item_core.specs.KindOf.{kind_of_body}
 use Rattle.item_core.specs.Valid.{FitsItsFunction, IsValidItem, NamesNothingBelow}
 use Rattle.bridge_face.specs.BackOf.{back_by, back_of, joined}
@@ -426,9 +426,6 @@ pub row_count : (b : Body) (item : Item) → IsConeRow b
 row_count b item cone =
     sym (length-children_from item 0 (made b) ∙ parts_length (read cone).parts)
 
-abbrev pub record_at : Address → Body → Item
-record_at at b = record { at = at; body = b }
-
 pub row_made : {at place : Address} {b body : Body} → at ≡ place → b ≡ body
-    → record_at at b ≡ record_at place body
-row_made at_is body_is = ap₂ record_at at_is body_is
+    → item_of at b ≡ item_of place body
+row_made at_is body_is = ap₂ item_of at_is body_is

@@ -34,7 +34,7 @@ use Rattle.aff_core.specs.FunctionLists.{coefficients, constants}
 use Rattle.bridge_face.specs.ComponentLaws.{components_apart, constants-variables, length-components, not_contained, variables, variables_missed, weighed_components}
 use Rattle.rational_laws.specs.Dot.{dot}
 use Rattle.rational_laws.specs.DotLaws.{dot_zeros, zeros_dot}
-use Rattle.item_core.specs.Item.{functions_of, is_group, set_of, variables_of}
+use Rattle.item_core.specs.Item.{functions_of, is_group, item_of, set_of, variables_of}
 use Rattle.bridge_face.specs.GroupLaws.{group_held, held_of}
 use Rattle.item_core.specs.KindOf.{kind_of_body}
 use Rattle.bridge_face.specs.GroupAndRowLaws.{second_row_valid, group_and_row}
@@ -386,10 +386,6 @@ one_inner : (item : Item) → IsValidItem item → (scalar : Bool)
     → scalar ≡ true → inner item (size item) ≡ head_of item ∷ []
 one_inner item valid scalar s e =
     ap (inner item) (sym valid.set.dimension ∙ scalar_one (set_of item.body) (s ∙ e))
-
--- an item at an address
-abbrev pub item_of : Address → Body → Item
-item_of at body = record { at = at; body = body }
 
 abbrev pub later_parts : Item → Body → Body → List Address → Image
 later_parts item group row ss = record {

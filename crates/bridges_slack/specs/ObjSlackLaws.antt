@@ -38,7 +38,7 @@ use Rattle.bridge_face.specs.ComponentLaws.{component_apart, constants-variables
 use Rattle.rational_laws.specs.DotLaws.{dot_zeros, zeros_dot}
 use Rattle.item_core.specs.Edge.{edge_entry, family_of, source_of}
 use Rattle.set_core.specs.Vectors.{first_of}
-use Rattle.item_core.specs.Item.{functions_of}
+use Rattle.item_core.specs.Item.{functions_of, item_of}
 use Rattle.bridge_face.specs.GroupLaws.{held_of}
 use Rattle.item_core.specs.KindOf.{kind_of_body}
 use Rattle.set_core.specs.Mirrored.{multiplied}
@@ -442,10 +442,6 @@ module _ (edge : Edge) (item : Item) (sense : Sense) (f : Function)
   }
 
 -- ---- the table
-
--- an item at an address
-abbrev pub item_of : Address → Body → Item
-item_of at body = record { at = at; body = body }
 
 abbrev pub objective_parts : List Item → List Expression → List Item → Item → Image
 objective_parts groups exprs rows objective =

@@ -53,10 +53,6 @@ pub data IsSplit : Body → Type 0 where
   affine_equal : {f : Function} {a : Rational} → IsSplit (Affine f (EqualTo a))
   affine_zeros : {fs : List Function} {n : ℕ} → IsSplit (AffineVec fs (Zeros n))
 
--- an item at an address, and an image of rows alone
-abbrev pub item_of : Address → Body → Item
-item_of at body = record { at = at; body = body }
-
 -- such a set
 pub data IsSplitSet : Set → Type 0 where
   an_interval : {l u : Rational} → IsSplitSet (Interval l u)

@@ -5,7 +5,12 @@ use Rattle.aff_core.specs.Function.{Function, variable}
 use Rattle.set_core.specs.declared.set.Set.{Set}
 use Rattle.set_core.specs.declared.set.Set.TheVariants.{Reals}
 use Rattle.item_core.specs.declared.item.Body.{Body}
+use Rattle.item_core.specs.declared.item.Item.{Item}
 use Rattle.item_core.specs.declared.item.Body.TheVariants.{Group, Free, Plain, Affine, PlainVec, AffineVec, PlainObj, AffineObj}
+
+-- an item at an address
+abbrev pub item_of : Address → Body → Item
+item_of at body = record { at = at; body = body }
 
 -- a function for each component; those of a group are its variables
 abbrev pub functions_of : Body → List Function

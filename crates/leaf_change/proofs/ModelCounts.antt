@@ -18,6 +18,7 @@ use Rattle.aff_core.specs.Address.{Address, address_cmp, address_eq, address_eq-
 use Rattle.aff_core.specs.KeyOrder.{address_order, same_or_other}
 use Rattle.aff_core.specs.Rising.{HasDistinctKeys}
 use Rattle.fresh_bridging.specs.Leaves.{leaf_model_of, leaf_objectives, leaf_rows, leaf_variable, leaf_variables}
+use Rattle.item_core.specs.Item.{item_of}
 use Rattle.item_core.specs.declared.item.Body.{Body}
 use Rattle.item_core.specs.declared.item.Body.TheVariants.{Group, Free, Plain, Affine, PlainVec, AffineVec, PlainObj, AffineObj}
 use Rattle.item_core.specs.declared.item.Item.{Item}
@@ -77,23 +78,20 @@ module _ (held : LeafModel) (c : Compared) (item : Item) where
       sorts_move (counted Changed) (counted Changed) c (omega arith) (omega arith) (unmoved held.variables (leaf_variables item) no_variables) (unmoved held.rows (leaf_rows item) no_rows) moves
 
 module _ (held : LeafModel) (c : Compared) (at : Address) where
-  abbrev item_at : Body → Item
-  item_at body = record { at = at; body = body }
-
-  lone_row : (body : Body) → leaf_rows (item_at body) ≡ (at, body) ∷ [] → leaf_variables (item_at body) ≡ [] → leaf_objectives (item_at body) ≡ [] → MovesOver held.rows ((at, body) ∷ []) c → MovesWith held (item_at body) c
+  lone_row : (body : Body) → leaf_rows (item_of at body) ≡ (at, body) ∷ [] → leaf_variables (item_of at body) ≡ [] → leaf_objectives (item_of at body) ≡ [] → MovesOver held.rows ((at, body) ∷ []) c → MovesWith held (item_of at body) c
   lone_row body is no_variables no_objectives moves =
-      row_moves held c (item_at body) no_variables no_objectives (subst (λ es. MovesOver held.rows es c) (sym is) moves)
+      row_moves held c (item_of at body) no_variables no_objectives (subst (λ es. MovesOver held.rows es c) (sym is) moves)
 
-  lone_objective : (body : Body) → leaf_objectives (item_at body) ≡ (at, body) ∷ [] → leaf_variables (item_at body) ≡ [] → leaf_rows (item_at body) ≡ [] → MovesOver held.objective ((at, body) ∷ []) c → MovesWith held (item_at body) c
+  lone_objective : (body : Body) → leaf_objectives (item_of at body) ≡ (at, body) ∷ [] → leaf_variables (item_of at body) ≡ [] → leaf_rows (item_of at body) ≡ [] → MovesOver held.objective ((at, body) ∷ []) c → MovesWith held (item_of at body) c
   lone_objective body is no_variables no_rows moves =
-      objective_moves held c (item_at body) no_variables no_rows (subst (λ es. MovesOver held.objective es c) (sym is) moves)
+      objective_moves held c (item_of at body) no_variables no_rows (subst (λ es. MovesOver held.objective es c) (sym is) moves)
 
-  group_at : (set : Set) (vars : List Address) (var : LeafVar) → var ≡ leaf_variable set → MovesOver held.variables (variables_as var vars) c → MovesWith held (item_at (Group set vars)) c
+  group_at : (set : Set) (vars : List Address) (var : LeafVar) → var ≡ leaf_variable set → MovesOver held.variables (variables_as var vars) c → MovesWith held (item_of at (Group set vars)) c
   group_at set vars var is moves =
-      variables_move held c (item_at (Group set vars)) refl refl (subst (λ v. MovesOver held.variables (variables_as v vars) c) is moves)
+      variables_move held c (item_of at (Group set vars)) refl refl (subst (λ v. MovesOver held.variables (variables_as v vars) c) is moves)
 
-  free_at : (vars : List Address) → MovesOver held.variables (variables_as leaf.Free vars) c → MovesWith held (item_at (Free vars)) c
-  free_at vars moves = variables_move held c (item_at (Free vars)) refl refl moves
+  free_at : (vars : List Address) → MovesOver held.variables (variables_as leaf.Free vars) c → MovesWith held (item_of at (Free vars)) c
+  free_at vars moves = variables_move held c (item_of at (Free vars)) refl refl moves
 
 module _ (held : LeafModel) (item : Item) where
   pub group_moves : (c : Compared) (set : Set) (vars : List Address) (var : LeafVar) → item.body ≡ Group set vars → var ≡ leaf_variable set → MovesOver held.variables (variables_as var vars) c → MovesWith held item c

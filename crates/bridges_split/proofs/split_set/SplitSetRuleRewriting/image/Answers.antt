@@ -3,7 +3,8 @@ use Rattle.bridge_face.specs.FamilyLaws.{image_fits, image_is, source_is}
 use Rattle.bridge_face.specs.Images.{lower_part, upper_part, with_set}
 use Rattle.bridge_face.specs.RowsLaws.{rows_alone}
 use Rattle.std.proofs.Common.{sym, subst, ap, ap₂, ◌∙◌, ◌++◌, [], ◌∷◌}
-use Rattle.bridges_split.specs.SplitSetLaws.{IsSplitSet, is_split_set, item_of, rule}
+use Rattle.bridges_split.specs.SplitSetLaws.{IsSplitSet, is_split_set, rule}
+use Rattle.item_core.specs.Item.{item_of}
 use Rattle.bridges_split.proofs.split_set.SplitSetRuleRewriting.image.Goals as goal
 
 pub set_of-set-requires : goal.set_of-set-requires
