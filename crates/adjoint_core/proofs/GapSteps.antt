@@ -9,9 +9,8 @@ use Rattle.ratio_core.specs.Folds.{sum_from}
 use Rattle.ratio_core.specs.Rational.{Rational, zero_ℚ, ◌+ℚ◌}
 use Rattle.aff_core.specs.Address.{Address}
 use Rattle.certificates.specs.Duals.{group_with, groups_with}
-use Rattle.certificates.specs.Points.{addresses_of}
+use Rattle.certificates.specs.Points.{addresses_of, all_addresses}
 use Rattle.cert_core.specs.Folds.{AddUp, gap_parts, gap_parts_of}
-use Rattle.cert_core.specs.Variables.{all_addresses}
 use Rattle.cert_core.proofs.Groups.{count_split, other_numbers, own_numbers}
 use Rattle.cert_core.specs.Answers.{ExactWhere}
 use Rattle.cert_core.specs.declared.fault.CheckFault.{CheckFault}

@@ -7,10 +7,9 @@ use Rattle.ratio_core.specs.Folds.{sum_from}
 use Rattle.ratio_core.specs.Rational.{Rational, zero_ℚ}
 use Rattle.aff_core.specs.Address.{Address}
 use Rattle.certificates.specs.Duals.{dual_gap, groups_with, rows_with}
-use Rattle.certificates.specs.Points.{at_point}
+use Rattle.certificates.specs.Points.{all_addresses, at_point}
 use Rattle.cert_core.specs.Checked.{HasRowDuals}
 use Rattle.cert_core.specs.Folds.{gap_parts}
-use Rattle.cert_core.specs.Variables.{all_addresses}
 use Rattle.cert_core.proofs.Assembled.{numbers_of_model, ready}
 use Rattle.cert_core.proofs.Rows.{row_count}
 use Rattle.user_model.specs.Model.{ModelValue, variables}

@@ -1,5 +1,5 @@
 -- Boxes are sound once they are made, and stay so while their families stay.
-use Rattle.std.specs.Prelude.{◌≡◌, ◌⊎◌, ◌<◌, ◌≤◌, ℕ, true, false, List, [], ◌∷◌, ◌++◌, All, IsTrue, drop, map, length, take, slice_index_or, refl}
+use Rattle.std.specs.Prelude.{◌≡◌, ◌⊎◌, ◌<◌, ◌≤◌, ℕ, true, false, List, ◌++◌, All, IsTrue, drop, length, take, slice_index_or}
 use Rattle.std.specs.List.{list_all, list_any}
 use Rattle.std.proofs.Common.{arith, inl, inr, sym, ap, subst, ◌∙◌}
 use Rattle.std.proofs.lemmas.List.{append-nil, drop_all, get_or_past, take_all}
@@ -13,7 +13,7 @@ use Rattle.item_core.specs.declared.table.Table.{Table}
 use Rattle.item_core.specs.Edge.{edge_entry, family_eq, family_of}
 use Rattle.item_core.specs.Kind.{kind_number}
 use Rattle.bridge_face.specs.Law.{IsLawful}
-use Rattle.bridge_face.specs.State.{State, all_gone}
+use Rattle.bridge_face.specs.State.{State}
 use Rattle.bridge_plan.specs.Means.{AreSound}
 use Rattle.fresh_bridging.specs.CanLaws.{AreLawful}
 use Rattle.fresh_bridging.specs.RankingLaws.{leads_down}
@@ -89,10 +89,6 @@ means_same table choices old new e k = λ i. record {
   choice = choice_in choices;
   kept = k i;
 }
-
-pub families_gone : (states : List State) → families_of (map all_gone states) ≡ families_of states
-families_gone [] = refl
-families_gone (s ∷ states) = ap (λ fs. s.family ∷ fs) (families_gone states)
 
 -- a borrowed vector's items are those that the borrower left
 pub items_back : {B : Type 0} (len : ℕ) (new old : List B) → length new ≡ length old

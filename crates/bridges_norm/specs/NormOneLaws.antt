@@ -3,7 +3,7 @@ use Rattle.std.specs.Prelude.{All, List, [], drop, fold, length, map, refl, repl
 use Rattle.std.proofs.lemmas.List.Elements.{All-append, All-cons, All-head, All-map, All-tail}
 use Rattle.std.proofs.Common.{ap, ap₂, arith, subst, sym, ◌∙◌}
 use Rattle.std.proofs.lemmas.List.{length-append, length-map, length-replicate, map-append}
-use Rattle.rational_laws.specs.Field.{+ℚ-zero, zero-+ℚ}
+use Rattle.rational_laws.specs.Field.{*ℚ--ℚ, +ℚ-zero, zero-+ℚ}
 use Rattle.bridge_face.specs.BackOf.{AcrossFits, BackFits, BackFitsBy, across, back_by, back_of, head_of, size, tail_of}
 use Rattle.aff_core.specs.Address.{Address, child_of}
 use Rattle.bridge_face.specs.DifferenceLaws.{Adds, Subtracts, all_paired, coefficient-difference, constant-difference, dot-differences, evaluated-difference, evaluated-sum, length-differences, length-sums, less, missed-difference, missed-sum, numbers-differences, numbers-sums, unnamed-difference, unnamed-sum}

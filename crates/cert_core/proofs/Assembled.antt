@@ -19,7 +19,7 @@ use Rattle.user_model.specs.declared.group.Group.{Group}
 use Rattle.user_model.specs.declared.objective.Objective.{Objective}
 use Rattle.user_model.specs.declared.row.Row.{Row}
 use Rattle.user_model.specs.Model.{ModelValue, variables}
-use Rattle.certificates.specs.Points.{address_of, addresses_of, at_point, functions_of, functions_of_group}
+use Rattle.certificates.specs.Points.{address_of, addresses_of, all_addresses, at_point, functions_of, functions_of_group, variables_of}
 use Rattle.certificates.specs.Duals.{AreDuals, HasDuals, group_with, groups_with, rows_with, with_duals}
 use Rattle.certificates.specs.DualPointLaws.{component_count}
 use Rattle.certificates.specs.Feasible.{IsFeasible, IsRay}
@@ -28,7 +28,7 @@ use Rattle.cert_core.specs.Checked.{HasEachDual, HasRowDuals}
 use Rattle.cert_core.specs.declared.fault.CheckFault.{CheckFault}
 use Rattle.cert_core.specs.Folds.{EvaluationFits, FitIn, PointFits}
 use Rattle.cert_core.specs.Holding.{FunctionsHold, HasGroupSet, HasRowSet, HoldsAt, IsReady}
-use Rattle.cert_core.specs.Variables.{Ascend, all_addresses, variables_of}
+use Rattle.cert_core.specs.Variables.{Ascend}
 use Rattle.numbered.specs.Numbered.{Rise}
 use Rattle.user_model.specs.Consistent.{variable_number}
 use Rattle.user_model.specs.Functions.{components}

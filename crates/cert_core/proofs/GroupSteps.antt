@@ -9,9 +9,8 @@ use Rattle.aff_core.specs.FunctionLists.{constants}
 use Rattle.set_core.specs.Membership.{LowFits, low_of}
 use Rattle.user_model.specs.declared.group.Group.{Group}
 use Rattle.certificates.specs.Duals.{group_with, groups_with}
-use Rattle.certificates.specs.Points.{addresses_of, functions_of_group}
+use Rattle.certificates.specs.Points.{addresses_of, all_addresses, functions_of_group}
 use Rattle.cert_core.specs.Folds.{AddUp, gap_parts, gap_parts_of, products}
-use Rattle.cert_core.specs.Variables.{all_addresses}
 use Rattle.cert_core.proofs.Groups.{GroupsSoFar, groups_more, next_numbers}
 use Rattle.cert_core.proofs.Parts.{no_constants}
 use Rattle.cert_core.proofs.Summed.{Fits_sum, SummedAsAll, summed_end, summed_refused, summed_step, zeros_add_up}

@@ -6,25 +6,20 @@ use Rattle.std.proofs.lemmas.List.{length-append, length-drop, length-map, map-a
 use Rattle.ratio_core.specs.Rational.{Rational}
 use Rattle.aff_core.specs.Address.{Address}
 use Rattle.user_model.specs.declared.group.Group.{Group}
-use Rattle.certificates.specs.Points.{address_of, addresses_of}
-use Rattle.cert_core.specs.Variables.{all_addresses, variables_of}
-
--- the first group's addresses, and then those of the others
-pub addresses_split : (g : Group) (gs : List Group)
-    → all_addresses (g ∷ gs) ≡ addresses_of g.vars ++ all_addresses gs
-addresses_split g gs = map-append address_of g.vars (variables_of gs)
+use Rattle.certificates.specs.PointLaws.{split_addresses}
+use Rattle.certificates.specs.Points.{address_of, addresses_of, all_addresses}
 
 pub count_split : (g : Group) (gs : List Group)
     → length (all_addresses (g ∷ gs)) ≡ length g.vars + length (all_addresses gs)
 count_split g gs =
-    ap length (addresses_split g gs) ∙ length-append (addresses_of g.vars) (all_addresses gs)
+    ap length (split_addresses g gs) ∙ length-append (addresses_of g.vars) (all_addresses gs)
     ∙ ap (λ n. n + length (all_addresses gs)) (length-map g.vars address_of)
 
 module _ (x : Address → Rational) (g : Group) (gs : List Group) (numbers : List Rational)
     (is : map x (all_addresses (g ∷ gs)) ≡ numbers) where
   parted : map x (addresses_of g.vars) ++ map x (all_addresses gs) ≡ numbers
   parted =
-      sym (ap (map x) (addresses_split g gs)
+      sym (ap (map x) (split_addresses g gs)
       ∙ map-append x (addresses_of g.vars) (all_addresses gs)) ∙ is
 
   count : length (map x (addresses_of g.vars)) ≡ length g.vars

@@ -11,8 +11,8 @@ use Rattle.set_core.specs.Shapes.{dimension_of}
 use Rattle.user_model.specs.declared.group.Group.{Group}
 use Rattle.user_model.specs.declared.row.Row.{Row}
 use Rattle.user_model.specs.Model.{ModelValue}
-use Rattle.certificates.specs.Points.{at_point, functions_of, functions_of_group}
-use Rattle.cert_core.specs.Variables.{Ascend, all_addresses}
+use Rattle.certificates.specs.Points.{all_addresses, at_point, functions_of, functions_of_group}
+use Rattle.cert_core.specs.Variables.{Ascend}
 
 -- values in the set where `one` is 1, and slopes in its recession set where it is 0
 abbrev pub FunctionsHold : Rational → Set → List Function → (Address → Rational) → Type 0

@@ -1,16 +1,7 @@
--- A model's variables, as addresses in their order.
-use Rattle.std.specs.Prelude.{◌≡◌, List, ℕ, flat_map, AllPairs, Option, Some, None, slice_get, Contains}
+-- The addresses of a model's variables in their order, and at which place one stands.
+use Rattle.std.specs.Prelude.{◌≡◌, List, ℕ, AllPairs, Option, Some, None, slice_get, Contains}
 use Rattle.std.specs.declared.cmp.Ordering.TheVariants.{Less}
 use Rattle.aff_core.specs.Address.{Address, address_cmp}
-use Rattle.user_model.specs.declared.group.Group.{Group}
-use Rattle.user_model.specs.declared.group.GroupVar.{GroupVar}
-use Rattle.certificates.specs.Points.{addresses_of}
-
-abbrev pub variables_of : List Group → List GroupVar
-variables_of groups = flat_map (λ g. g.vars) groups
-
-abbrev pub all_addresses : List Group → List Address
-all_addresses groups = addresses_of (variables_of groups)
 
 -- each address is below all later ones
 pub record Ascend (us : List Address) : Type 0 where

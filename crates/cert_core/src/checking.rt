@@ -15,7 +15,7 @@ ghost use Rattle.cert_core.specs.Checked.{Checks, HasEntries, HasPoint, HasRowDu
 ghost use Rattle.cert_core.specs.Folds.{AddUp, InfeasibleFits, OptimalFits, PointFits, UnboundedFits, gap_parts};
 ghost use Rattle.cert_core.specs.Holding.{HoldsAt, IsReady};
 ghost use Rattle.cert_core.specs.Readings.{one_of};
-ghost use Rattle.cert_core.specs.Variables.{all_addresses, variables_of};
+ghost use Rattle.certificates.specs.Points.{all_addresses, variables_of};
 
 use crate::CheckFault;
 use crate::adjoint::adjoint_of_rows;

@@ -7,7 +7,7 @@ ghost use Rattle.certificates.specs.Duals.{groups_with, rows_with};
 ghost use Rattle.cert_core.specs.Answers.{TellsWhere};
 ghost use Rattle.cert_core.specs.Checked.{HasRowDuals};
 ghost use Rattle.cert_core.specs.Holding.{HasGroupSet, HasRowSet};
-ghost use Rattle.cert_core.specs.Variables.{all_addresses};
+ghost use Rattle.certificates.specs.Points.{all_addresses};
 
 use crate::CheckFault;
 use ratio_core::{Ratio, Ratios};

@@ -7,13 +7,12 @@ ghost use Rattle.rational_laws.specs.Dot.{negated};
 ghost use Rattle.aff_core.specs.Address.{Address};
 ghost use Rattle.aff_core.specs.FunctionLists.{constants};
 ghost use Rattle.certificates.specs.Duals.{groups_with, row_with, rows_with};
-ghost use Rattle.certificates.specs.Points.{functions_of};
+ghost use Rattle.certificates.specs.Points.{all_addresses, functions_of};
 ghost use Rattle.cert_core.specs.Answers.{ExactWhere};
 ghost use Rattle.cert_core.specs.Checked.{HasRowDuals};
 ghost use Rattle.cert_core.specs.Components.{functions_in};
 ghost use Rattle.cert_core.specs.Folds.{AddUp, gap_parts, gap_parts_of, products};
 ghost use Rattle.cert_core.specs.Holding.{HasGroupSet, HasRowSet};
-ghost use Rattle.cert_core.specs.Variables.{all_addresses};
 
 use crate::CheckFault;
 use crate::components::{Components, components_of};

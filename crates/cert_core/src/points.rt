@@ -5,14 +5,13 @@ ghost use Rattle.aff_core.specs.FunctionLists.{evaluations};
 ghost use Rattle.ratio_core.specs.Rational.{Rational};
 ghost use Rattle.set_core.specs.Membership.{MembershipFits};
 ghost use Rattle.set_core.specs.Shapes.{dimension_of};
-ghost use Rattle.certificates.specs.Points.{functions_of, functions_of_group, variables_at};
+ghost use Rattle.certificates.specs.Points.{all_addresses, functions_of, functions_of_group, variables_at};
 ghost use Rattle.cert_core.specs.Answers.{ExactWhere, TellsWhere};
 ghost use Rattle.cert_core.specs.Folds.{EvaluationFits, FitIn};
 ghost use Rattle.cert_core.specs.Components.{functions_in};
 ghost use Rattle.cert_core.specs.Readings.{one_of};
 ghost use Rattle.cert_core.specs.Holding.{FunctionsHold, HasRowSet, HasGroupSet};
 ghost use Rattle.cert_core.specs.Points.{numbers_in};
-ghost use Rattle.cert_core.specs.Variables.{all_addresses};
 
 use crate::CheckFault;
 use crate::components::{Components, components_of};

@@ -2,8 +2,8 @@
 ghost use Rattle.std.specs.Prelude.{◌≡◌, ◌<◌, ◌++◌, IfOk, IfSome, OnOk, length};
 ghost use Rattle.numbered.specs.Numbered.{Rise};
 ghost use Rattle.user_model.specs.Consistent.{variable_number};
-ghost use Rattle.certificates.specs.Points.{addresses_of};
-ghost use Rattle.cert_core.specs.Variables.{Ascend, IsPlaceOf, all_addresses, variables_of};
+ghost use Rattle.certificates.specs.Points.{addresses_of, all_addresses, variables_of};
+ghost use Rattle.cert_core.specs.Variables.{Ascend, IsPlaceOf};
 
 use aff_core::{Address, Root};
 use ratio_core::Memory;

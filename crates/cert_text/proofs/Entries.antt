@@ -10,9 +10,8 @@ use Rattle.user_model.specs.declared.row.Row.{Row}
 use Rattle.certificates.specs.declared.certificate.Certificate.{Certificate}
 use Rattle.certificates.specs.declared.certificate.Certificate.TheVariants as certificate
 use Rattle.certificates.specs.Duals.{row_with, rows_with}
-use Rattle.certificates.specs.Points.{functions_of}
+use Rattle.certificates.specs.Points.{functions_of, variables_of}
 use Rattle.cert_core.specs.Checked.{HasEachDual, HasRowDuals}
-use Rattle.cert_core.specs.Variables.{variables_of}
 use Rattle.cert_text.specs.declared.heading.Heading.{Heading}
 use Rattle.cert_text.specs.declared.heading.Heading.TheVariants.{Optimal, Infeasible, Unbounded}
 use Rattle.cert_text.specs.Reading.{Lines, after, at_end, body_of, certificate_in, duals_of, each_line, heading_of, infeasible_of, numbers_of, optimal_of, point_of, row_duals_of, unbounded_of, variable_number}

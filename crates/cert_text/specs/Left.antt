@@ -3,7 +3,7 @@ use Rattle.std.specs.Prelude.{ℕ, List, [], ◌++◌, Option, Some, None, ◌==
 use Rattle.std.specs.List.{slice_split}
 use Rattle.std.specs.Borrow.{Bor}
 use Rattle.user_model.specs.declared.group.GroupVar.{GroupVar}
-use Rattle.cert_core.specs.Variables.{variables_of}
+use Rattle.certificates.specs.Points.{variables_of}
 use Rattle.cert_text.specs.declared.variables.Variables.{Variables}
 
 -- the group's variables that are left, and those of the groups that are left

@@ -10,7 +10,7 @@ use Rattle.user_model.specs.declared.row.Row.{Row}
 use Rattle.user_model.specs.declared.undo.NextNumbers.{NextNumbers}
 use Rattle.certificates.specs.declared.certificate.Certificate.{Certificate}
 use Rattle.cert_core.specs.Checked.{HasEntries, model_of}
-use Rattle.cert_core.specs.Variables.{variables_of}
+use Rattle.certificates.specs.Points.{variables_of}
 use Rattle.cert_text.specs.Reading.{certificate_of}
 use Rattle.cert_text.specs.Text.{certificate_text}
 

@@ -2,7 +2,7 @@
 ghost use Rattle.std.specs.Prelude.{◌≡◌, ◌++◌, All, IfOk, OnOk, codes};
 ghost use Rattle.std.specs.List.{zip};
 ghost use Rattle.name_index.specs.Escape.{escaped};
-ghost use Rattle.cert_core.specs.Variables.{variables_of};
+ghost use Rattle.certificates.specs.Points.{variables_of};
 ghost use Rattle.cert_text.specs.Text as texts;
 ghost use Rattle.cert_text.specs.ReadsBack.{IsGraphic, Reads, ReadsBack, RowReads, VariableReads};
 

@@ -1,7 +1,7 @@
 //! The variables of a model, one after the other.
 ghost use Rattle.std.specs.Prelude.{◌≡◌};
 ghost use Rattle.std.specs.Iterator.{YieldsFirstRef, item_count};
-ghost use Rattle.cert_core.specs.Variables.{variables_of};
+ghost use Rattle.certificates.specs.Points.{variables_of};
 ghost use Rattle.cert_text.specs.Left.{variables_left};
 
 use user_model::{Group, GroupVar};

@@ -1,7 +1,8 @@
 -- Laws of points: what stands at the variables and elsewhere, sums and multiples of points, and
 -- that each variable stands once.
-use Rattle.std.specs.Prelude.{◌≡◌, ℕ, ◌<◌, Bool, true, false, cond, List, [], ◌∷◌, length, All, refl}
+use Rattle.std.specs.Prelude.{◌≡◌, ℕ, ◌<◌, Bool, true, false, cond, List, [], ◌∷◌, ◌++◌, length, All, refl}
 use Rattle.std.proofs.Common.{sym, ◌∙◌, ap, ap₂, subst, arith}
+use Rattle.std.proofs.lemmas.List.{map-append}
 use Rattle.std.proofs.lemmas.List.Elements.{All-cons, All-head, All-map, All-nil, All-tail, All-weaker}
 use Rattle.ratio_core.specs.Rational.{Rational, one_ℚ, zero_ℚ, ◌*ℚ◌, ◌+ℚ◌}
 use Rattle.rational_laws.specs.Dot.{plus, times}
@@ -12,10 +13,16 @@ use Rattle.linear_laws.specs.SupportLaws.{count}
 use Rattle.linear_laws.specs.UnitLaws.{unit_other, unit_same}
 use Rattle.numbered.specs.Laws.{Rise-head, Rise-tail}
 use Rattle.numbered.specs.Numbered.{Rise}
+use Rattle.user_model.specs.declared.group.Group.{Group}
 use Rattle.user_model.specs.declared.group.GroupVar.{GroupVar}
 use Rattle.user_model.specs.Consistent.{variable_number}
 use Rattle.user_model.specs.Model.{variable_address}
-use Rattle.certificates.specs.Points.{address_of, addresses_of}
+use Rattle.certificates.specs.Points.{address_of, addresses_of, all_addresses, variables_of}
+
+-- the first group's addresses, and then those of the others
+pub split_addresses : (g : Group) (gs : List Group)
+    → all_addresses (g ∷ gs) ≡ addresses_of g.vars ++ all_addresses gs
+split_addresses g gs = map-append address_of g.vars (variables_of gs)
 
 -- ---- what stands where
 

@@ -1,5 +1,5 @@
 -- The functions of a model, and its points: a number for each variable, in the model's order.
-use Rattle.std.specs.Prelude.{List, [], ◌∷◌, map}
+use Rattle.std.specs.Prelude.{List, [], ◌∷◌, flat_map, map}
 use Rattle.ratio_core.specs.Rational.{Rational, zero_ℚ}
 use Rattle.aff_core.specs.Address.{Address}
 use Rattle.aff_core.specs.Function.{Function, coefficient, constant_function, slope, value_of, variable}
@@ -31,6 +31,13 @@ address_of v = variable_address v.number
 
 abbrev pub addresses_of : List GroupVar → List Address
 addresses_of vars = map address_of vars
+
+-- the variables of groups and their addresses, in their order
+abbrev pub variables_of : List Group → List GroupVar
+variables_of groups = flat_map (λ g. g.vars) groups
+
+abbrev pub all_addresses : List Group → List Address
+all_addresses groups = addresses_of (variables_of groups)
 
 -- a group's functions are its variables
 abbrev pub functions_of_group : Group → List Function

@@ -3,7 +3,7 @@ use Rattle.std.specs.Prelude.{◌≡◌, ℕ, ◌⊎◌, List, Option, Some, Non
 use Rattle.std.proofs.Common.{sym, ap, ◌∙◌, subst, inl, inr}
 use Rattle.std.proofs.lemmas.Option.{none-some, same_Some}
 use Rattle.cache_layer.specs.Answers.{after_edits}
-use Rattle.cert_core.specs.Variables.{variables_of}
+use Rattle.certificates.specs.Points.{variables_of}
 use Rattle.cert_text.specs.Reading.{certificate_of}
 use Rattle.certificates.specs.declared.certificate.Certificate.{Certificate}
 use Rattle.io_face.specs.Told.{MayGive, Told}

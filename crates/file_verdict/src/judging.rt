@@ -1,7 +1,7 @@
 //! The verdict on the files of a model and of a certificate.
 ghost use Rattle.std.specs.Prelude.{◌≡◌, ◌≢◌, ℕ, List, Result, Ok, IfOk};
 ghost use Rattle.cache_layer.specs.Answers.{after_edits};
-ghost use Rattle.cert_core.specs.Variables.{variables_of};
+ghost use Rattle.certificates.specs.Points.{variables_of};
 ghost use Rattle.cert_text.specs.Reading.{certificate_of};
 ghost use Rattle.cert_text.specs.ReadsBack.{HasItsEntries};
 ghost use Rattle.file_verdict.specs.Verdict.{FetchesText, IsVerdict, Judges, JudgesMade, JudgesText};

@@ -1,30 +1,15 @@
 -- Empty maps and solver's models, and bridges that keep nothing.
-use Rattle.std.specs.Prelude.{◌≡◌, List, [], ◌∷◌, All, IfSome, map, refl}
+use Rattle.std.specs.Prelude.{◌≡◌, List, All, IfSome, map, refl}
 use Rattle.std.specs.FinMap as finite
-use Rattle.std.specs.FinMap.{FinMap}
 use Rattle.std.specs.Ordering.{nat_cmp}
 use Rattle.std.proofs.Common.{sym, ap, subst, ◌∙◌}
 use Rattle.std.proofs.lemmas.List.Elements.{All-map}
 use Rattle.std.proofs.lemmas.Option.{none-some}
 use Rattle.address_map.specs.AddressMap.{AddressMap}
-use Rattle.address_map.specs.Places.{Indices}
-use Rattle.aff_core.specs.Address.{address_cmp}
-use Rattle.boxes.specs.Boxed.{families_of}
 use Rattle.bridge_face.specs.State.{State, all_gone}
 use Rattle.leaf_change.specs.Named.{NamesEach, ObjectiveNames}
-use Rattle.map_laws.specs.OptionLaws.{not_some}
 use Rattle.solver_store.specs.SolverModel.{Leaves, no_leaves}
-use Rattle.std_form.specs.Readable.{NamesExactly}
-
-exact_empty : {X : Type 0} (indices : Indices) (leaves : FinMap nat_cmp X)
-    → indices ≡ finite.empty → leaves ≡ finite.empty → NamesExactly indices leaves
-exact_empty {X} indices leaves none unused = record {
-  used = λ at i e. absurd
-      (none-some i (sym (ap (λ m. finite.get m at) none ∙ finite.get-empty address_cmp at) ∙ e));
-  named = λ i h. absurd
-      (not_some (finite.get leaves i)
-      (ap (λ m. finite.get m i) unused ∙ finite.get-empty nat_cmp i) h);
-}
+use Rattle.std_form.specs.NativeLaws.{exact_empty}
 
 -- an empty map names an empty model
 pub names_none : (places : AddressMap) (leaves : Leaves) → leaves ≡ no_leaves leaves.calls
@@ -49,7 +34,3 @@ pub none_kept : (states : List State) → All (λ (s : State). s.kept ≡ finite
     (map all_gone states)
 none_kept states =
     All-map (λ (s : State). s.kept ≡ finite.empty) all_gone states (λ k d end. refl)
-
-pub families_stay : (states : List State) → families_of (map all_gone states) ≡ families_of states
-families_stay [] = refl
-families_stay (s ∷ states) = ap (λ fs. s.family ∷ fs) (families_stay states)

@@ -23,13 +23,14 @@ use Rattle.leaf_change.specs.Leaves.{AreLeaves, NamesLeaves}
 use Rattle.leaf_change.specs.Named.{HasIndices, IsIndexed, NamesEach, ObjectiveNames, RowNames}
 use Rattle.leaf_change.specs.Puts.{AreNew, beside_rows, beside_variables, objective_at, objective_bodies, objectives_in, put_all, row_at, rows_in, variables_in}
 use Rattle.leaf_change.proofs.PutLaws.{are_new, new_first, new_second, put_all-append, put_into_empty}
-use Rattle.leaf_change.proofs.ThroughPuts.{absent_index, exact_empty, exact_more, get_past, get_put, through_empty, through_more}
+use Rattle.leaf_change.proofs.ThroughPuts.{absent_index, exact_more, get_past, get_put, through_empty, through_more}
 use Rattle.leaf_model.specs.ReadThrough.{by_address, read_objective, read_row, read_through}
 use Rattle.map_laws.specs.OptionLaws.{not_some, some_is}
 use Rattle.solver_store.specs.SolverModel.{Leaves, no_leaves, with_objective, with_row, with_var}
 use Rattle.solver_store.specs.declared.leaf.LeafObjective.{LeafObjective}
 use Rattle.solver_store.specs.declared.leaf.LeafRow.{LeafRow}
 use Rattle.solver_store.specs.declared.leaf.LeafVar.{LeafVar}
+use Rattle.std_form.specs.NativeLaws.{exact_empty}
 use Rattle.std_form.specs.NameLaws.{index_order}
 use Rattle.std_form.specs.Readable.{NamesExactly}
 use Rattle.std_form.specs.ThroughLaws.{get_through}

@@ -100,13 +100,6 @@ module _ {X : Type 0} (indices : Indices) (leaves : FinMap nat_cmp X) (exact : N
                 ∙ sym (get_through leaves read indices q)
                 ∙ sym (get_past address_order (by_address read indices leaves) at (read x) q n)
 
--- nothing is named where nothing is
-pub exact_empty : {X : Type 0} (indices : Indices) (leaves : FinMap nat_cmp X) → indices ≡ finite.empty → leaves ≡ finite.empty → NamesExactly indices leaves
-exact_empty {X} indices leaves none unused = record {
-  used = λ at i e. absurd (none-some i (sym (ap (λ m. finite.get m at) none ∙ finite.get-empty address_cmp at) ∙ e));
-  named = λ i h. absurd (not_some (finite.get leaves i) (ap (λ m. finite.get m i) unused ∙ finite.get-empty nat_cmp i) h);
-}
-
 pub through_empty : {X Y : Type 0} (read : X → Y) (indices : Indices) (leaves : FinMap nat_cmp X) → indices ≡ finite.empty → by_address read indices leaves ≡ finite.empty
 through_empty read indices leaves none =
     finite.same_map address_total exact_addresses _ _ (λ q.

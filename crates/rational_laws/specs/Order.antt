@@ -6,7 +6,7 @@ use Rattle.std.specs.Ordering.{MatchOrdering}
 use borrow.Author.Differences.{at_most_in, below_in, le_out, lt_out}
 use Rattle.ratio_core.specs.Rational.{Rational, abs_ℚ, fraction, inverse_ℚ, neg_ℚ, one_ℚ, rational_cmp, reduce, whole_ℚ, zero_ℚ, ◌*ℚ◌, ◌+ℚ◌, ◌-ℚ◌, ◌≤ℚ◌, ◌‹ℚ◌}
 use Rattle.ratio_core.specs.RationalLaws.{rational_ranks, reduce_itself, same_from_cross, times_is}
-use Rattle.rational_laws.specs.Field.{*ℚ_comm, *ℚ-neg_ℚ, +ℚ-neg_ℚ, neg_ℚ-*ℚ, neg_ℚ-neg_ℚ, neg_ℚ-sum, neg_ℚ-zero, zero-*ℚ, zero-+ℚ}
+use Rattle.rational_laws.specs.Field.{*ℚ--ℚ, *ℚ_comm, *ℚ-neg_ℚ, +ℚ-neg_ℚ, neg_ℚ-*ℚ, neg_ℚ-neg_ℚ, neg_ℚ-sum, neg_ℚ-zero, zero-*ℚ, zero-+ℚ}
 use Rattle.rational_laws.specs.Over.{over-+ℚ, over-neg_ℚ, over-zero_ℚ, over-‹ℚ_in, over-‹ℚ_out, over-≤ℚ_in, over-≤ℚ_out, over₂, over₃, over₄}
 
 -- ---- an order

@@ -7,7 +7,7 @@ use Rattle.rational_laws.specs.Field.{*ℚ-inverse_ℚ, *ℚ-one, *ℚ_assoc, *�
 use Rattle.rational_laws.specs.Ring.{as_expression, by_ring, one_as, ring₃, ring₄, ring₅, zero_as}
 use Rattle.simplex_form.specs.Basis.{pivoted, times}
 use Rattle.simplex_form.specs.BoundedSums.{delta, sum_to}
-use Rattle.simplex_laws.specs.BoundedSumLaws.{delta_other, delta_same, same_or_other, sum_to-*ℚ, sum_to-*ℚ_right, sum_to-+ℚ, sum_to_delta, sum_to_exchanged, sum_to_same}
+use Rattle.simplex_laws.specs.BoundedSumLaws.{delta_other, delta_same, same_or_other, sum_to-*ℚ, sum_to-*ℚ_right, sum_to-+ℚ, sum_to--ℚ, sum_to_delta, sum_to_exchanged, sum_to_same}
 
 -- ---- the two kinds of row
 

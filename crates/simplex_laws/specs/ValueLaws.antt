@@ -2,13 +2,13 @@
 use Rattle.std.specs.Prelude.{◌≡◌, ℕ, zero, suc, ◌+◌, ◌<◌, ◌≤◌, refl}
 use Rattle.std.proofs.Common.{sym, ◌∙◌, ap, ap₂, arith}
 use Rattle.ratio_core.specs.Rational.{Rational, zero_ℚ, ◌*ℚ◌, ◌+ℚ◌, ◌-ℚ◌}
-use Rattle.rational_laws.specs.Field.{+ℚ-neg_ℚ, +ℚ-zero}
+use Rattle.rational_laws.specs.Field.{*ℚ--ℚ, +ℚ-neg_ℚ, +ℚ-zero}
 use Rattle.rational_laws.specs.Ring.{as_expression, by_ring, ring₂}
 use Rattle.simplex_form.specs.Basis.{IsBasis, State, basic}
 use Rattle.simplex_form.specs.Board.{entry, multiplier, point, price, ray, right_side}
 use Rattle.simplex_form.specs.BoundedSums.{delta, sum_to}
 use Rattle.simplex_form.specs.Form.{Form, column, weighted}
-use Rattle.simplex_laws.specs.BoundedSumLaws.{same_or_other, sum_to_delta_right, sum_to_same}
+use Rattle.simplex_laws.specs.BoundedSumLaws.{same_or_other, sum_to--ℚ, sum_to_delta_right, sum_to_same}
 use Rattle.simplex_laws.specs.PivotLaws.{products_regrouped}
 
 -- values at the numbers of a list, summed with weights of all numbers, are the weights there

@@ -3,15 +3,18 @@
 use Rattle.std.specs.Prelude.{◌≡◌, ◌≢◌, ℕ, Bool, true, false, ◌&&◌, not, IsTrue, List, [], ◌∷◌, All, IsSome, Option, Some, None, option_and_then, unwrap_or, refl}
 use Rattle.std.specs.Prelude as prelude
 use Rattle.std.specs.FinMap as finite
+use Rattle.std.specs.FinMap.{FinMap}
 use Rattle.std.specs.FinMap.Entries.{find}
 use Rattle.std.specs.List.{list_all}
 use Rattle.std.specs.Option.{option_map, option_map_or}
+use Rattle.std.specs.Ordering.{nat_cmp}
 use Rattle.std.proofs.Common.{sym, ◌∙◌, ap, subst, true≢false}
 use Rattle.std.proofs.lemmas.List.Elements.{All-cons, All-map, All-nil, All-weaker}
+use Rattle.std.proofs.lemmas.Option.{none-some}
 use Rattle.ratio_core.specs.Rational.{Rational, rational_eq, zero_ℚ}
 use Rattle.ratio_core.specs.RationalLaws.{eq_rational_eq}
 use Rattle.address_map.specs.AddressMap.{AddressMap}
-use Rattle.address_map.specs.Places.{IsOneToOne}
+use Rattle.address_map.specs.Places.{Indices, IsOneToOne}
 use Rattle.aff_core.specs.Address.{Address, address_cmp}
 use Rattle.aff_core.specs.Function.{terms_of, variable}
 use Rattle.aff_core.specs.FunctionLaws.{coefficient-gathered, coefficient_in-terms_of}
@@ -23,6 +26,7 @@ use Rattle.item_core.specs.declared.item.Body.{Body}
 use Rattle.item_core.specs.Item.{functions_of}
 use Rattle.leaf_model.specs.LeafModel.{LeafModel}
 use Rattle.leaf_model.specs.ReadThrough.{address_in, named, read_objective, read_row, read_through}
+use Rattle.map_laws.specs.OptionLaws.{not_some}
 use Rattle.solver_store.specs.SolverFunction.{SolverFunction}
 use Rattle.solver_store.specs.SolverModel.{Leaves}
 use Rattle.solver_store.specs.declared.leaf.LeafObjective.{LeafObjective}
@@ -31,8 +35,20 @@ use Rattle.solver_store.specs.declared.leaf.LeafVar.{LeafVar}
 use Rattle.std_form.specs.FormLaws.{IsNamedFunction, equations_named, equations_through, names_named, named_equation, objective_through}
 use Rattle.std_form.specs.Indexed.{equations_of, objective_in}
 use Rattle.std_form.specs.NameLaws.{IsNamedTerm, address_in_is, all_found, at_place, found_place, variable_named}
-use Rattle.std_form.specs.Readable.{IsReadable}
+use Rattle.std_form.specs.Readable.{IsReadable, NamesExactly}
 use Rattle.std_form.specs.ThroughLaws.{HasItsIndex, each_index, entries_through, get_through, leaves_with}
+
+-- ---- nothing is named where nothing is
+
+pub exact_empty : {X : Type 0} (indices : Indices) (leaves : FinMap nat_cmp X)
+    → indices ≡ finite.empty → leaves ≡ finite.empty → NamesExactly indices leaves
+exact_empty {X} indices leaves none unused = record {
+  used = λ at i e. absurd
+      (none-some i (sym (ap (λ m. finite.get m at) none ∙ finite.get-empty address_cmp at) ∙ e));
+  named = λ i h. absurd
+      (not_some (finite.get leaves i)
+      (ap (λ m. finite.get m i) unused ∙ finite.get-empty nat_cmp i) h);
+}
 
 -- ---- terms aren't 0
 

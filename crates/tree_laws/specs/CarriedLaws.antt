@@ -49,7 +49,8 @@ use Rattle.tree_laws.specs.PrimalLaws.{groups_there, inner_apart, native_leaves,
 use Rattle.tree_laws.specs.SeenLaws.{IsGroupHere, IsRowHere, components_of_each, omit_each, put_in_misses}
 use Rattle.tree_laws.specs.StandLaws.{groups_stand, level_groups, level_rows, rows_stand}
 use Rattle.tree_laws.specs.ThroughLaws.{adjoints_missed, gaps_through, pull_alike}
-use Rattle.tree_laws.specs.UserLaws.{all_addresses, inner_is, user_row_misses, stands_in}
+use Rattle.tree_laws.specs.UserLaws.{inner_is, user_row_misses, stands_in}
+use Rattle.certificates.specs.Points.{all_addresses}
 use Rattle.tree_laws.specs.Certificate.{leaf_duals}
 
 module _ (setting : Setting) (costly : IsCostly (graph_of setting)) (lawful : AreLawful setting)

@@ -16,7 +16,7 @@ use Rattle.dual_laws.specs.PullLaws.{adjoint-append, gap-append}
 use Rattle.dual_laws.specs.WeakDuality.{value_above_duals}
 use Rattle.certificates.specs.Duals.{adjoint_of_rows, dual_gap, reduced_cost}
 use Rattle.certificates.specs.Good.{Good, IsInfeasible, IsOptimal}
-use Rattle.certificates.specs.Points.{address_of, addresses_of, at_point, objective_coefficient, objective_function, objective_value, sense_of}
+use Rattle.certificates.specs.Points.{address_of, addresses_of, all_addresses, at_point, objective_coefficient, objective_function, objective_value, sense_of}
 use Rattle.equality_form.specs.EqualityForm.{cost}
 use Rattle.equality_form.specs.ReadBack.{Answer, infeasible, optimal, unbounded}
 use Rattle.equality_form.specs.Right.{IsInfeasible as IsLeafInfeasible, IsOptimal as IsLeafOptimal, IsRight, held_rows}
@@ -31,7 +31,7 @@ use Rattle.tree_laws.specs.Certificate.{cancelling, certificate_of, infeasible_d
 use Rattle.tree_laws.specs.LeafLaws.{SupportsNativeKinds}
 use Rattle.tree_laws.specs.ObjectivePart.{objective_up, user_cost}
 use Rattle.tree_laws.specs.PrimalLaws.{user_groups_seen, user_rows_seen}
-use Rattle.tree_laws.specs.UserLaws.{all_addresses, spread_is}
+use Rattle.tree_laws.specs.UserLaws.{spread_is}
 use Rattle.tree_laws.specs.SenseLaws.{minus_nonpos, one_nonneg, reduced_is, value_is}
 use Rattle.tree_laws.specs.UserHelds.{rows_in}
 use Rattle.tree_laws.specs.UserPoints.{feasible_point, objective_at, ray_improves, seen_x, user_ray}

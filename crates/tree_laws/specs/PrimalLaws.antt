@@ -19,7 +19,7 @@ use Rattle.aff_core.specs.FunctionLists.{evaluations}
 use Rattle.aff_core.specs.declared.sense.Sense.TheVariants.{Min}
 use Rattle.linear_laws.specs.ListLaws.{evaluations_variables}
 use Rattle.dual_laws.specs.Held.{Holds}
-use Rattle.certificates.specs.Points.{addresses_of, at_point, functions_of as functions_in, functions_of_group}
+use Rattle.certificates.specs.Points.{addresses_of, all_addresses, at_point, functions_of as functions_in, functions_of_group}
 use Rattle.equality_form.specs.EqualityForm.{cost, cost_among, cost_of as form_cost}
 use Rattle.equality_form.specs.Right.{Admits, IsFeasible}
 use Rattle.item_core.specs.declared.item.Body.{Body}
@@ -55,7 +55,7 @@ use Rattle.tree_laws.specs.ObjectiveLaws.{CostsNothing, HasOne, OneObjective, no
 use Rattle.tree_laws.specs.PutLaws.{held_put}
 use Rattle.tree_laws.specs.SeenLaws.{IsGroupHere, IsRowHere}
 use Rattle.tree_laws.specs.UpLaws.{CostsAtLeast, GroupsHold, LeafHolds, cost_put, costs_in, groups_hold, no_numbers, point_in, rows_hold, to_point}
-use Rattle.tree_laws.specs.UserLaws.{all_addresses, evaluations_agree, group_among, inner_is, item_functions_are, listed_point, row_functions_are, row_sets_are, user_row_misses}
+use Rattle.tree_laws.specs.UserLaws.{evaluations_agree, group_among, inner_is, item_functions_are, listed_point, row_functions_are, row_sets_are, user_row_misses}
 
 -- ---- leaves at a point
 

@@ -11,7 +11,7 @@ use Rattle.aff_core.specs.Function.{Function, coefficient}
 use Rattle.dual_laws.specs.Held.{DualsHold, Held, IsHeld, adjoint, adjoint_of, gap, gap_of}
 use Rattle.dual_laws.specs.PullLaws.{adjoint-append, gap-append}
 use Rattle.certificates.specs.Duals.{AreDuals, HasDuals, adjoint_of_rows, dual_gap, groups_with, rows_with}
-use Rattle.certificates.specs.Points.{at_point}
+use Rattle.certificates.specs.Points.{all_addresses, at_point}
 use Rattle.equality_form.specs.EqualityForm.{cost}
 use Rattle.equality_form.specs.Right.{AreDuals as AreLeafDuals, held_rows}
 use Rattle.bridge_face.specs.Law.{held}
@@ -31,7 +31,6 @@ use Rattle.tree_laws.specs.NodeLaws.{held_split, length-backs}
 use Rattle.tree_laws.specs.ObjectivePart.{Weighs, leaf_weighs, user_cost, user_weighs}
 use Rattle.tree_laws.specs.CarriedLaws.{gaps_grow, left, leaves_gap, other_helds, user_balance, user_duals_hold, user_helds}
 use Rattle.tree_laws.specs.PrimalLaws.{all_leaves}
-use Rattle.tree_laws.specs.UserLaws.{all_addresses}
 use Rattle.tree_laws.specs.UserHelds.{groups_are, held_duals, rows_are}
 
 module _ (setting : Setting) (costly : IsCostly (graph_of setting)) (lawful : AreLawful setting)

@@ -9,14 +9,15 @@ use Rattle.aff_core.specs.Address.{Address}
 use Rattle.aff_core.specs.FunctionLists.{evaluations}
 use Rattle.dual_laws.specs.Held.{AllHold, DualsHold, Held, Holds, IsHeld}
 use Rattle.certificates.specs.Duals.{HasDuals, groups_with, row_with, rows_with}
-use Rattle.certificates.specs.Points.{addresses_of, functions_of, functions_of_group}
+use Rattle.certificates.specs.Points.{addresses_of, all_addresses, functions_of, functions_of_group}
 use Rattle.bridge_face.specs.Law.{held}
 use Rattle.fresh_bridging.specs.ModelImage.{group_item, row_item}
 use Rattle.user_model.specs.declared.group.Group.{Group}
 use Rattle.user_model.specs.declared.row.Row.{Row}
 use Rattle.tree_laws.specs.Carried.{group_helds}
 use Rattle.tree_laws.specs.TreeLaws.{same_numbers}
-use Rattle.tree_laws.specs.UserLaws.{all_addresses, row_functions_are, row_sets_are, split_addresses}
+use Rattle.tree_laws.specs.UserLaws.{row_functions_are, row_sets_are}
+use Rattle.certificates.specs.PointLaws.{split_addresses}
 
 -- ---- rows with duals, and groups with the variables'
 

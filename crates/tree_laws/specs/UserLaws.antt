@@ -1,9 +1,8 @@
 -- The user's model, its points and its functions, as items have them.
-use Rattle.std.specs.Prelude.{◌≡◌, ◌⊎◌, ◌==◌, ◌||◌, ℕ, zero, suc, Bool, true, false, cond, List, [], ◌∷◌, ◌++◌, All, Contains, IsSome, Some, None, find, flat_map, map, refl}
+use Rattle.std.specs.Prelude.{◌≡◌, ◌⊎◌, ◌==◌, ◌||◌, ℕ, zero, suc, Bool, true, false, cond, List, [], ◌∷◌, ◌++◌, All, Contains, IsSome, Some, None, find, map, refl}
 use Rattle.std.specs.List.{list_any}
 use Rattle.std.proofs.Common.{arith, inl, inr, sym, ap, ap₂, subst, ◌∙◌, true≢false}
 use Rattle.std.proofs.lemmas.Bool.Decides.{Decides-eqb}
-use Rattle.std.proofs.lemmas.List.{map-append}
 use Rattle.std.proofs.lemmas.List.Elements.{All-cons, All-head, All-nil, All-tail, Contains-append_left, Contains-append_right}
 use Rattle.std.proofs.lemmas.Bool.{false_from_ne_true}
 use Rattle.map_laws.specs.OptionLaws.{not_some}
@@ -16,7 +15,8 @@ use Rattle.aff_core.specs.Points.{spread}
 use Rattle.linear_laws.specs.EvaluationLaws.{evaluated_agreeing}
 use Rattle.bridge_face.specs.Law.{Miss, inner_of, row_functions, row_set}
 use Rattle.item_core.specs.Item.{functions_of}
-use Rattle.certificates.specs.Points.{address_of, addresses_of, at_point, functions_of as functions_in}
+use Rattle.certificates.specs.PointLaws.{split_addresses}
+use Rattle.certificates.specs.Points.{address_of, addresses_of, all_addresses, at_point, functions_of as functions_in}
 use Rattle.user_model.specs.Functions.{func_mentions}
 use Rattle.user_model.specs.Model.{ModelValue, has_variable, variable_address, variables}
 use Rattle.user_model.specs.Valid.{IsValidRow, Stands}
@@ -31,13 +31,6 @@ use Rattle.fresh_bridging.specs.ModelLaws.{row_omits}
 use Rattle.address_laws.specs.Apart.{Avoids, in_or_not, not_in}
 
 -- ---- the variables
-
-abbrev pub all_addresses : List Group → List Address
-all_addresses groups = addresses_of (flat_map (λ g. g.vars) groups)
-
-pub split_addresses : (g : Group) (gs : List Group)
-    → all_addresses (g ∷ gs) ≡ addresses_of g.vars ++ all_addresses gs
-split_addresses g gs = map-append address_of g.vars (flat_map (λ h. h.vars) gs)
 
 -- the groups' variables are the model's
 pub inner_is : (groups : List Group) → inner_of (map group_item groups) ≡ all_addresses groups

@@ -17,7 +17,7 @@ use Rattle.aff_core.specs.FunctionLists.{evaluations, slopes, values}
 use Rattle.linear_laws.specs.EvaluationLaws.{evaluated_slope, evaluated_value}
 use Rattle.linear_laws.specs.ListLaws.{evaluations_slopes, evaluations_values}
 use Rattle.certificates.specs.Feasible.{IsBetter, IsFeasible, IsRay}
-use Rattle.certificates.specs.Points.{address_of, addresses_of, at_point, functions_of, functions_of_group, objective_function, objective_slope, objective_value, sense_of}
+use Rattle.certificates.specs.Points.{address_of, addresses_of, all_addresses, at_point, functions_of, functions_of_group, objective_function, objective_slope, objective_value, sense_of}
 use Rattle.equality_form.specs.EqualityForm.{cost}
 use Rattle.equality_form.specs.Right.{IsFeasible as IsLeafFeasible}
 use Rattle.bridge_face.specs.BackOf.{head_of}
@@ -40,7 +40,7 @@ use Rattle.tree_laws.specs.Certificate.{point_of, ray_of}
 use Rattle.tree_laws.specs.LeafLaws.{SupportsNativeKinds}
 use Rattle.tree_laws.specs.ObjectivePart.{objective_up, user_cost}
 use Rattle.tree_laws.specs.PrimalLaws.{seen_point, user_groups, user_rows}
-use Rattle.tree_laws.specs.UserLaws.{all_addresses, evaluations_agree, listed_point, stands_in}
+use Rattle.tree_laws.specs.UserLaws.{evaluations_agree, listed_point, stands_in}
 use Rattle.tree_laws.specs.SenseLaws.{better_is, one_nonneg}
 
 module _ (setting : Setting) (costly : IsCostly (graph_of setting)) (lawful : AreLawful setting)

@@ -1,7 +1,7 @@
 use Rattle.std.specs.Prelude.{◌≡◌, Err}
 use Rattle.std.proofs.Common.{◌∙◌, ap}
 use Rattle.cert_core.specs.Folds.{AddUp, gap_parts_of}
-use Rattle.cert_core.specs.Variables.{all_addresses}
+use Rattle.certificates.specs.Points.{all_addresses}
 use Rattle.certificates.specs.Duals.{group_with}
 use Rattle.ratio_core.specs.Folds.{sum_from}
 use Rattle.adjoint_core.specs.CarriedBack.{group_place}

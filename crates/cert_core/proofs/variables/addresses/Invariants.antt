@@ -1,5 +1,5 @@
 use Rattle.std.proofs.Common.{◌≡◌, take}
-use Rattle.cert_core.specs.Variables.{all_addresses}
+use Rattle.certificates.specs.Points.{all_addresses}
 use Rattle.cert_core.proofs.variables.addresses.Given as goal
 
 abbrev pub invariant-loop-group : goal.invariant-loop-group

@@ -1,5 +1,5 @@
 use Rattle.std.proofs.Common.{drop}
-use Rattle.cert_core.specs.Variables.{variables_of}
+use Rattle.certificates.specs.Points.{variables_of}
 use Rattle.cert_text.specs.Left.{variables_left}
 use Rattle.cert_text.proofs.Printed.{VariablesPrinted}
 use Rattle.cert_text.proofs.printing.push_numbers.Given as goal

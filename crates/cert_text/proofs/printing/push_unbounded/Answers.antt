@@ -1,5 +1,5 @@
 use Rattle.std.proofs.lemmas.Result.{on_ok_weaker}
-use Rattle.cert_core.specs.Variables.{variables_of}
+use Rattle.certificates.specs.Points.{variables_of}
 use Rattle.cert_text.proofs.Printed.{unbounded_text}
 use Rattle.cert_text.proofs.ReadBack.{unbounded_read}
 use Rattle.cert_text.proofs.printing.push_unbounded.Goals as goal

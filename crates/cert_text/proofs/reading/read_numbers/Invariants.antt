@@ -1,5 +1,5 @@
 use Rattle.std.proofs.Common.{◌≡◌}
-use Rattle.cert_core.specs.Variables.{variables_of}
+use Rattle.certificates.specs.Points.{variables_of}
 use Rattle.cert_text.specs.Left.{variables_left}
 use Rattle.cert_text.specs.Reading.{point_of, variable_number}
 use Rattle.cert_text.proofs.EachLine.{line_left}

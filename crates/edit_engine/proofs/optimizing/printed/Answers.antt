@@ -1,5 +1,5 @@
 use Rattle.std.proofs.Common.{ap, ◌∙◌}
-use Rattle.cert_core.specs.Variables.{variables_of}
+use Rattle.certificates.specs.Points.{variables_of}
 use Rattle.cert_text.specs.Text.{certificate_text}
 use Rattle.report_core.specs.declared.answer.Answer.TheVariants.{Printed}
 use Rattle.edit_engine.proofs.optimizing.printed.Goals as goal

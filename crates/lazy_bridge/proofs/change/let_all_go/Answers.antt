@@ -3,7 +3,8 @@ use Rattle.std.specs.Prelude.{All}
 use Rattle.std.specs.FinMap as finite
 use Rattle.boxes.specs.Boxed.{families_of}
 use Rattle.bridge_face.specs.State.{State}
-use Rattle.lazy_bridge.proofs.Empty.{families_stay, its_calls, names_none, none_kept}
+use Rattle.boxes.specs.Sound.{families_stay}
+use Rattle.lazy_bridge.proofs.Empty.{its_calls, names_none, none_kept}
 use Rattle.lazy_bridge.proofs.change.let_all_go.Goals as goal
 
 pub returns-clause-empty : goal.returns-clause-empty

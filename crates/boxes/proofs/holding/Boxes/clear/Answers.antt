@@ -1,6 +1,7 @@
 use Rattle.std.proofs.Common.{◌++◌, length, map, drop, take, arith, ap, ◌∙◌}
 use Rattle.boxes.specs.Boxed.{families_of}
-use Rattle.boxes.proofs.Made.{families_gone, items_back, sound_still}
+use Rattle.boxes.specs.Sound.{families_stay}
+use Rattle.boxes.proofs.Made.{items_back, sound_still}
 use Rattle.boxes.proofs.holding.Boxes.clear.Goals as goal
 
 pub invariant_of-self : goal.invariant_of-self
@@ -15,6 +16,6 @@ invariant_of-self g c =
     (map state (take v.len (new ++ drop (length new) v.items))) c.self.inside.graph
     (ap (λ bs. families_of (map state bs)) back
     ∙ ap families_of c.clear_all.ensures
-    ∙ families_gone (map state c.deref_mut.result.now)
+    ∙ families_stay (map state c.deref_mut.result.now)
     ∙ ap (λ bs. families_of (map state bs)) c.deref_mut.ensures.value)
     c.self.invariant

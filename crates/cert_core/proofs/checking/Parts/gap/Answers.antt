@@ -3,7 +3,7 @@ use Rattle.ratio_core.specs.Rational.{zero_ℚ}
 use Rattle.aff_core.specs.Points.{spread}
 use Rattle.certificates.specs.Duals.{groups_with, rows_with}
 use Rattle.cert_core.specs.Folds.{AddUp, gap_parts}
-use Rattle.cert_core.specs.Variables.{all_addresses}
+use Rattle.certificates.specs.Points.{all_addresses}
 use Rattle.cert_core.proofs.Answered.{passed_on}
 use Rattle.cert_core.proofs.Assembled.{numbers_of_model}
 use Rattle.cert_core.proofs.Parts.{gap_of_first, gap_told}

@@ -5,7 +5,7 @@ use Rattle.cert_core.specs.Folds.{PointFits}
 use Rattle.cert_core.specs.Holding.{HoldsAt}
 use Rattle.cert_core.specs.Points.{numbers_in}
 use Rattle.cert_core.specs.Readings.{one_of}
-use Rattle.cert_core.specs.Variables.{all_addresses}
+use Rattle.certificates.specs.Points.{all_addresses}
 use Rattle.cert_core.proofs.Answered.{passed_on}
 use Rattle.cert_core.proofs.Assembled.{numbers_of_model, point_told, rows_told}
 use Rattle.cert_core.proofs.Tested.{all_two, iff_trans}

@@ -7,7 +7,7 @@ use Rattle.set_core.specs.Membership.{DualFits}
 use Rattle.certificates.specs.Duals.{rows_with, with_duals}
 use Rattle.cert_core.specs.Checked.{model_of}
 use Rattle.cert_core.specs.Folds.{AddUp, InfeasibleFits, adjoint_parts, gap_parts}
-use Rattle.cert_core.specs.Variables.{all_addresses}
+use Rattle.certificates.specs.Points.{all_addresses}
 use Rattle.cert_core.proofs.Answered.{passed_on}
 use Rattle.cert_core.proofs.Assembled.{at_own, numbers_of_model, size_of_model}
 use Rattle.cert_core.proofs.Judged.{equal_told, is_infeasible, sums_are}

@@ -6,11 +6,10 @@ use Rattle.aff_core.specs.Points.{spread}
 use Rattle.dual_laws.specs.Held.{adjoint}
 use Rattle.set_core.specs.Membership.{DualFits}
 use Rattle.certificates.specs.Duals.{dual_value, reduced_cost, rows_with, with_duals}
-use Rattle.certificates.specs.Points.{objective_constant, objective_function, sense_of}
+use Rattle.certificates.specs.Points.{all_addresses, objective_constant, objective_function, sense_of}
 use Rattle.cert_core.specs.Checked.{model_of}
 use Rattle.cert_core.specs.Folds.{AddUp, CostFits, DualValueFits, OptimalFits, adjoint_parts, gap_parts}
 use Rattle.cert_core.specs.Points.{numbers_in}
-use Rattle.cert_core.specs.Variables.{all_addresses}
 use Rattle.cert_core.proofs.Answered.{passed_on}
 use Rattle.cert_core.proofs.Assembled.{at_own, numbers_of_model, objective_told, size_of_model}
 use Rattle.cert_core.proofs.Judged.{equal_told, is_optimal, sums_are}

@@ -1,5 +1,6 @@
 use Rattle.std.proofs.Common.{subst, sym}
-use Rattle.cert_core.specs.Variables.{Ascend, variables_of}
+use Rattle.cert_core.specs.Variables.{Ascend}
+use Rattle.certificates.specs.Points.{variables_of}
 use Rattle.cert_core.proofs.Places.{ascend}
 use Rattle.cert_core.proofs.variables.Variables.of.Goals as goal
 
