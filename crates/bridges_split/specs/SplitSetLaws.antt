@@ -13,12 +13,12 @@ use Rattle.set_core.specs.Membership.{Dual, In, low_of}
 use Rattle.dual_laws.specs.Held.{DualsHold, Held, Holds, IsHeld, adjoint, adjoint_of, gap, gap_of}
 use Rattle.item_core.specs.declared.edge.Edge.TheVariants.{E11, E12, E13, E14}
 use Rattle.item_core.specs.declared.edge.Edge.{Edge}
-use Rattle.bridge_face.specs.Law.{IsLawful, LeadsTo, Miss, growth, is_objective, IsItemFor}
+use Rattle.bridge_face.specs.Law.{IsLawful, LeadsTo, Miss, growth, IsItemFor}
 use Rattle.set_core.specs.declared.set.Set.TheVariants.{EqualTo, GreaterThan, Interval, LessThan, Nonnegatives, Nonpositives, Zeros}
 use Rattle.bridge_face.specs.ImageOf.{image_by}
 use Rattle.item_core.specs.Valid.{FitsItsFunction, IsValidItem, NamesNothingBelow}
 use Rattle.aff_core.specs.Function.{Function, coefficient}
-use Rattle.bridge_face.specs.OneRowLaws.{IsRow, row_held}
+use Rattle.bridge_face.specs.OneRowLaws.{IsRow, row, row_held}
 use Rattle.bridge_face.specs.RowsLaws.{IsRowOf, MadeOfRows, rows_held, rows_law}
 use Rattle.set_core.specs.Shapes.{IsSetOf}
 use Rattle.item_core.specs.declared.item.Item.{Item}
@@ -32,7 +32,7 @@ use Rattle.aff_core.specs.FunctionLists.{constants, evaluations}
 use Rattle.rational_laws.specs.Dot.{dot, plus}
 use Rattle.item_core.specs.Edge.{edge_entry, family_of, source_of}
 use Rattle.set_core.specs.Vectors.{first_of}
-use Rattle.item_core.specs.Item.{functions_of, is_group, set_of}
+use Rattle.item_core.specs.Item.{functions_of, set_of}
 use Rattle.item_core.specs.KindOf.{kind_of_body}
 use Rattle.rational_laws.specs.DotLaws.{length-plus, plus-dot}
 use Rattle.bridge_face.specs.Images.{lower_part, rows_at, upper_part, with_set}
@@ -181,9 +181,6 @@ record Parted (b : Body) : Type 0 where
   upper : IsPart b (upper_part (set_of b))
   splits : Splits (length (functions_of b)) (set_of b) (lower_part (set_of b))
       (upper_part (set_of b))
-
-row : {b : Body} → is_group b ≡ false → is_objective b ≡ false → IsRow b
-row no_group no_objective = record { no_group = no_group; no_objective = no_objective }
 
 part : {b : Body} {part : Set} → IsRow (with_set b part) → FitsItsFunction (with_set b part)
     → functions_of (with_set b part) ≡ functions_of b → set_of (with_set b part) ≡ part
