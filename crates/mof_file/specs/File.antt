@@ -16,7 +16,7 @@ use Rattle.mof_text.specs.Rewritten.{rewritten}
 use Rattle.mof_values.specs.declared.fault.MofFault.TheVariants.{Dimension, DuplicateName, NotJson, Shape, Version}
 use Rattle.mof_values.specs.Sets.{is, set_of}
 use Rattle.mof_values.specs.Values.{a_name, a_text, an_array, an_integer, an_object, field, name_of}
-use Rattle.mof_values.specs.Walked.{Walked, at, each, here, key, or_fault}
+use Rattle.mof_values.specs.Walked.{Walked, ◌>>=◌, at, each, here, key, or_fault}
 use Rattle.mof_file.specs.declared.constraints.FileConstraint.{FileConstraint}
 use Rattle.mof_file.specs.declared.file.MofFile.{MofFile}
 use Rattle.mof_file.specs.declared.objectives.FileObjective.{FileObjective}

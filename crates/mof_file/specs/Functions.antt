@@ -11,7 +11,7 @@ use Rattle.serde_json.specs.Data.{Data}
 use Rattle.mof_values.specs.declared.fault.MofFault.TheVariants.{BadNumber, Shape, UnknownName}
 use Rattle.mof_values.specs.Sets.{is, kind_fault}
 use Rattle.mof_values.specs.Values.{a_number, a_text, an_array, an_integer, an_object, field}
-use Rattle.mof_values.specs.Walked.{Walked, each, here, mapped, or_fault}
+use Rattle.mof_values.specs.Walked.{Walked, ◌>>=◌, each, here, mapped, or_fault}
 use Rattle.mof_file.specs.declared.vectors.Component.{Component}
 
 -- the names of the file's variables

@@ -2,7 +2,7 @@
 use Rattle.std.specs.Prelude.{ℕ, ◌+◌, List, [], ◌∷◌, ◌++◌, length, Option, Some, Ok, if◌then◌else◌}
 use Rattle.user_model.specs.declared.edit.Edit.{Edit}
 use Rattle.user_model.specs.declared.edit.Edit.TheVariants.{AddGroup, AddRow, Objective}
-use Rattle.mof_values.specs.Walked.{Walked}
+use Rattle.mof_values.specs.Walked.{Walked, ◌>>=◌}
 use Rattle.mof_file.specs.declared.constraints.FileConstraint.{FileConstraint}
 use Rattle.mof_file.specs.declared.objectives.FileObjective.{FileObjective}
 use Rattle.mof_file.specs.declared.objectives.FileObjective.TheVariants.{Feasibility, Optimize}

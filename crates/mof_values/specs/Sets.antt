@@ -7,7 +7,7 @@ use Rattle.serde_json.specs.Data.{Data}
 use Rattle.mof_values.specs.declared.fault.MofFault.{MofFault}
 use Rattle.mof_values.specs.declared.fault.MofFault.TheVariants.{UnknownKind}
 use Rattle.mof_values.specs.Values.{a_number, a_text, an_integer, an_object, field}
-use Rattle.mof_values.specs.Walked.{Walked, here, key, mapped, under}
+use Rattle.mof_values.specs.Walked.{Walked, ◌>>=◌, here, key, mapped, under}
 
 abbrev pub is : String → List ℕ → Bool
 is word text = bytes_eq text (codes word)

@@ -4,6 +4,7 @@ use Rattle.script_core.specs.declared.command.Command.TheVariants.{Load, Optimiz
 use Rattle.script_core.specs.declared.reading.Reading.{Reading}
 use Rattle.script_core.specs.Names.{last_name_of}
 use Rattle.script_core.specs.Reading.{Tokens, says}
+use Rattle.script_words.specs.Each.{◌>>=◌}
 use Rattle.script_words.specs.Number.{number_of}
 
 -- optimize, optimize N

@@ -6,7 +6,7 @@ use Rattle.named_sums.specs.Sums as named
 use Rattle.named_sums.specs.Sums.{sum_of}
 use Rattle.script_core.specs.declared.terms.Term.{Term}
 use Rattle.script_core.specs.declared.terms.Term.TheVariants.{Linear, Constant}
-use Rattle.script_words.specs.Each.{each}
+use Rattle.script_words.specs.Each.{◌>>=◌, each}
 
 abbrev pub with_term : NamedAff → Term → Option NamedAff
 with_term f (Linear term) = do
