@@ -16,9 +16,9 @@ impl Draft {
         let (rows, columns) = (usize::from(m), usize::from(c));
         Ok(Draft {
             columns: u32::from(c),
-            matrix: vec![in alloc; Ratio::zero(); rows * columns]?,
-            right: vec![in alloc; Ratio::zero(); rows]?,
-            costs: vec![in alloc; Ratio::zero(); columns]?,
+            matrix: zeros(alloc, rows * columns)?,
+            right: zeros(alloc, rows)?,
+            costs: zeros(alloc, columns)?,
         })
     }
 
@@ -37,24 +37,30 @@ impl Draft {
 
     /// Adds to a right side.
     pub fn add_side(&mut self, row: u32, side: i64) -> Result<(), BenchFault> {
-        match self.right.get_mut(row as usize) {
-            Some(sum) => {
-                *sum = sum.add(&whole(side)?)?;
-                Ok(())
-            }
-            None => Err(BenchFault::Number),
+        let place = row as usize;
+        if place >= self.right.len() {
+            return Err(BenchFault::Number);
         }
+        self.right[place] = self.right[place].add(&whole(side)?)?;
+        Ok(())
     }
 }
 
-fn write(numbers: &mut [Ratio], place: usize, number: i64) -> Result<(), BenchFault> {
-    match numbers.get_mut(place) {
-        Some(slot) => {
-            *slot = whole(number)?;
-            Ok(())
-        }
-        None => Err(BenchFault::Number),
+fn zeros(alloc: Global, count: usize) -> Result<Vec<Ratio>, AllocError> {
+    let mut numbers = Vec::with_capacity(alloc, count)?;
+    for _ in 0..count {
+        numbers.push(Ratio::zero())?;
     }
+    Ok(numbers)
+}
+
+fn write(numbers: &mut [Ratio], place: usize, number: i64) -> Result<(), BenchFault> {
+    let number = whole(number)?;
+    if place >= numbers.len() {
+        return Err(BenchFault::Number);
+    }
+    numbers[place] = number;
+    Ok(())
 }
 
 /// A whole number as a fraction.

@@ -4,7 +4,7 @@ use ratio_core::RatioFault;
 use std::alloc::{AllocError, AllocFailed};
 use thiserror::Error;
 
-#[derive(Debug, Drop, Error)]
+#[derive(Clone, Copy, Debug, Error)]
 pub enum BenchFault {
     #[error("{}", Memory)]
     Memory,
