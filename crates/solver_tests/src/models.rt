@@ -1,147 +1,153 @@
-//! Variables, rows and an objective, added, changed and removed.
-
+//! Models as tables of rows, each put under the next index of its kind.
+use aff_core::{Address, Root};
+use lists::Memory;
 use ratio_core::Ratio;
-use solver_store::{LeafObjective, LeafRow, LeafVar, Memory, Sense, Set, SolverModel};
+use set_core::Set;
+use solver_store::{LeafObjective, LeafRow, LeafVar, Sense, SolverAff, SolverModel, SolverVec};
 use std::alloc::Global;
+use std_form::AddressMap;
 
-/// The row in which a variable is 0.
-fn zero_row(var: usize) -> LeafRow {
-    let set = Set::EqualTo {
-        value: Ratio::zero(),
-    };
-    LeafRow::Plain { var, set }
+/// A function of the free variable x and the nonnegative variable y: their coefficients and the
+/// constant, as literals.
+pub type Terms = (&'static str, &'static str, &'static str);
+
+#[derive(Clone, Copy)]
+pub enum Row {
+    AtMost(Terms, &'static str),
+    AtLeast(Terms, &'static str),
+    /// y is the number.
+    Fixes(&'static str),
+    /// Both are at least 0.
+    Pair(Terms, Terms),
+    /// So many functions without terms are 0.
+    Zeros(u32),
 }
 
-/// What stands in place of a free variable once it was changed.
-fn changed_variable(alloc: Global) -> Result<Option<LeafVar>, Memory> {
-    let mut solver = SolverModel::new(alloc);
-    let i = solver.add_var(LeafVar::Free)?;
-    if solver.var(i).is_some() {
-        solver.change_var(i, LeafVar::Nonneg);
+/// Puts two variables and the rows, each at the address of its number.
+pub fn fill(
+    alloc: Global,
+    solver: &mut SolverModel,
+    map: &mut AddressMap,
+    rows: &[(u32, Row)],
+) -> Result<(), Memory> {
+    // the other way round than their addresses
+    put_var(solver, map, 1, LeafVar::Nonneg)?;
+    put_var(solver, map, 0, LeafVar::Free)?;
+    for (number, row) in rows {
+        put_row(solver, map, *number, made(alloc, row)?)?;
     }
-    Ok(solver.var(i))
+    Ok(())
 }
 
-#[test]
-fn a_variable_is_changed(rt: HostRuntime) {
-    assert!(rt; changed_variable(rt.alloc()) == Ok(Some(LeafVar::Nonneg)));
-}
-
-/// What stood in a variable's place before and after it was removed.
-fn removed_variable(alloc: Global) -> Result<(Option<LeafVar>, Option<LeafVar>), Memory> {
-    let mut solver = SolverModel::new(alloc);
-    let i = solver.add_var(LeafVar::Free)?;
-    let before = solver.var(i);
-    if before.is_some() {
-        solver.remove_var(i);
+/// Sets the objective, unless there is no memory.
+pub fn set_objective(alloc: Global, solver: &mut SolverModel, sense: Sense, terms: &Terms) {
+    if let Ok(func) = function(alloc, terms) {
+        solver.set_objective(Some(LeafObjective::Affine { sense, func }));
     }
-    Ok((before, solver.var(i)))
 }
 
-#[test]
-fn a_variable_is_removed(rt: HostRuntime) {
-    assert!(rt; removed_variable(rt.alloc()) == Ok((Some(LeafVar::Free), None)));
+fn put_var(
+    solver: &mut SolverModel,
+    map: &mut AddressMap,
+    number: u32,
+    var: LeafVar,
+) -> Result<(), Memory> {
+    let i = solver.add_var(var)?;
+    map_var(map, number, i)
 }
 
-/// The variable of a plain row.
-fn var_of(row: &LeafRow) -> Option<usize> {
+// An address or an index that is there is left alone, and the model lacks a leaf.
+fn map_var(map: &mut AddressMap, number: u32, i: usize) -> Result<(), Memory> {
+    let at = Address::root(Root::Variable, number);
+    if map.var_index(&at).is_none() && map.var_at(i).is_none() {
+        map.put_var(at, i)
+    } else {
+        Ok(())
+    }
+}
+
+fn put_row(
+    solver: &mut SolverModel,
+    map: &mut AddressMap,
+    number: u32,
+    row: LeafRow,
+) -> Result<(), Memory> {
+    let i = solver.add_row(row)?;
+    map_row(map, number, i)
+}
+
+fn map_row(map: &mut AddressMap, number: u32, i: usize) -> Result<(), Memory> {
+    let at = Address::root(Root::Row, number);
+    if map.row_index(&at).is_none() && map.row_at(i).is_none() {
+        map.put_row(at, i)
+    } else {
+        Ok(())
+    }
+}
+
+/// The number of a literal.
+pub fn number(text: &str) -> Ratio {
+    Ratio::read(text.as_bytes()).unwrap_or(Ratio::zero())
+}
+
+// x has the index 1, and y the index 0.
+fn function(alloc: Global, terms: &Terms) -> Result<SolverAff, Memory> {
+    let (x, y, constant) = terms;
+    let terms = [(0usize, number(y)), (1usize, number(x))];
+    SolverAff::from_terms(alloc, &terms, number(constant))
+}
+
+fn made(alloc: Global, row: &Row) -> Result<LeafRow, Memory> {
     match row {
-        LeafRow::Plain { var, .. } => Some(*var),
-        _ => None,
+        Row::AtMost(terms, upper) => {
+            let upper = number(upper);
+            affine(alloc, terms, Set::LessThan { upper })
+        }
+        Row::AtLeast(terms, lower) => {
+            let lower = number(lower);
+            affine(alloc, terms, Set::GreaterThan { lower })
+        }
+        Row::Fixes(value) => Ok(fixes(number(value))),
+        Row::Pair(first, second) => pair(alloc, first, second),
+        Row::Zeros(count) => zeros(alloc, *count),
     }
 }
 
-/// The variables of the rows that stood at an index before and after a change.
-fn changed_row(alloc: Global) -> Result<(Option<usize>, Option<usize>), Memory> {
-    let mut solver = SolverModel::new(alloc);
-    let i = solver.add_row(zero_row(3))?;
-    if solver.row(i).is_none() {
-        return Ok((None, None));
+fn affine(alloc: Global, terms: &Terms, set: Set) -> Result<LeafRow, Memory> {
+    let func = function(alloc, terms)?;
+    Ok(LeafRow::Affine { func, set })
+}
+
+fn fixes(value: Ratio) -> LeafRow {
+    let set = Set::EqualTo { value };
+    LeafRow::Plain { var: 0, set }
+}
+
+fn pair(alloc: Global, first: &Terms, second: &Terms) -> Result<LeafRow, Memory> {
+    let mut func = SolverVec::new(alloc);
+    push(&mut func, function(alloc, first)?)?;
+    push(&mut func, function(alloc, second)?)?;
+    let set = Set::Nonnegatives { dimension: 2 };
+    Ok(LeafRow::AffineVec { func, set })
+}
+
+fn zeros(alloc: Global, count: u32) -> Result<LeafRow, Memory> {
+    let mut func = SolverVec::new(alloc);
+    push_zeros(alloc, &mut func, count)?;
+    let set = Set::Zeros { dimension: count };
+    Ok(LeafRow::AffineVec { func, set })
+}
+
+fn push_zeros(alloc: Global, func: &mut SolverVec, count: u32) -> Result<(), Memory> {
+    for _ in 0..count {
+        push(func, SolverAff::from_terms(alloc, &[], Ratio::zero())?)?;
     }
-    let old = solver.change_row(i, zero_row(4));
-    Ok((var_of(&old), solver.row(i).and_then(var_of)))
+    Ok(())
 }
 
-#[test]
-fn a_row_is_changed(rt: HostRuntime) {
-    assert!(rt; changed_row(rt.alloc()) == Ok((Some(3), Some(4))));
-}
-
-/// The variable of a row that was removed, unless the row still stands.
-fn removed_row(alloc: Global) -> Result<Option<usize>, Memory> {
-    let mut solver = SolverModel::new(alloc);
-    let i = solver.add_row(zero_row(3))?;
-    if solver.row(i).is_none() {
-        return Ok(None);
+fn push(func: &mut SolverVec, component: SolverAff) -> Result<(), Memory> {
+    match func.push(component) {
+        Ok(()) => Ok(()),
+        Err((_, memory)) => Err(memory),
     }
-    let old = solver.remove_row(i);
-    Ok(var_of(&old).filter(|_| solver.row(i).is_none()))
-}
-
-#[test]
-fn a_row_is_removed(rt: HostRuntime) {
-    assert!(rt; removed_row(rt.alloc()) == Ok(Some(3)));
-}
-
-#[test]
-fn an_objective_is_set_and_cleared(rt: HostRuntime) {
-    let mut solver = SolverModel::new(rt.alloc());
-    let sense = Sense::Max;
-    solver.set_objective(Some(LeafObjective::Plain { sense, var: 0 }));
-    assert!(rt; solver.objective().is_some() && solver.calls() == 1);
-    solver.clear();
-    assert!(rt; solver.objective().is_none() && solver.calls() == 1);
-}
-
-/// Whether `calls` counts a variable that is added, changed and removed, and no reader.
-fn counts_variables(solver: &mut SolverModel) -> Result<bool, Memory> {
-    let i = solver.add_var(LeafVar::Free)?;
-    let added = solver.calls();
-    if solver.var(i).is_none() {
-        return Ok(false);
-    }
-    solver.change_var(i, LeafVar::Nonneg);
-    let changed = solver.calls();
-    if solver.var(i).is_none() {
-        return Ok(false);
-    }
-    solver.remove_var(i);
-    Ok((added, changed, solver.calls()) == (1, 2, 3))
-}
-
-/// The same of a row.
-fn counts_rows(solver: &mut SolverModel) -> Result<bool, Memory> {
-    let i = solver.add_row(zero_row(3))?;
-    let added = solver.calls();
-    if solver.row(i).is_none() {
-        return Ok(false);
-    }
-    drop(solver.change_row(i, zero_row(4)));
-    let changed = solver.calls();
-    if solver.row(i).is_none() {
-        return Ok(false);
-    }
-    drop(solver.remove_row(i));
-    Ok((added, changed, solver.calls()) == (1, 2, 3))
-}
-
-#[test]
-fn each_kind_of_call_is_counted(rt: HostRuntime) {
-    assert!(rt; counts_variables(&mut SolverModel::new(rt.alloc())) == Ok(true));
-    assert!(rt; counts_rows(&mut SolverModel::new(rt.alloc())) == Ok(true));
-}
-
-/// Whether three variables and three rows are added for which room was made.
-fn has_room(solver: &mut SolverModel) -> Result<bool, Memory> {
-    solver.reserve(3, 3)?;
-    for i in 0..3usize {
-        solver.add_var(LeafVar::Free)?;
-        solver.add_row(zero_row(i))?;
-    }
-    Ok(solver.calls() == 6)
-}
-
-#[test]
-fn room_is_made(rt: HostRuntime) {
-    assert!(rt; has_room(&mut SolverModel::new(rt.alloc())) == Ok(true));
 }

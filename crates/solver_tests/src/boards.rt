@@ -1,0 +1,97 @@
+// Boards of one row and one real column, pivoted twice, on the sparse board and on the dense one.
+ghost use Rattle.std.specs.Prelude.{◌≡◌, ◌⊎◌, ◌<◌, IsTrue, length, IfSome, true};
+ghost use Rattle.ratio_core.specs.Rational.{zero_ℚ, ◌≤ℚ◌};
+
+use crate::forms::is_nonnegative;
+use crate::models::number;
+use page::Page;
+use sparse_board::Board;
+use std::alloc::Global;
+use tableau_core::{DenseBoard, Tableau};
+
+/// What both boards answer.
+pub fn show(page: &mut Page) {
+    page.line("# sparse board");
+    show_board::<Board>(page);
+    page.line("# dense board");
+    show_board::<DenseBoard>(page);
+}
+
+fn show_board<T: Tableau + Drop>(page: &mut Page) {
+    // 2 x + a = 3 with the cost 5.
+    show_pivots::<T>(page, "2", "3", "5");
+    // The entry divides, and then the right side's quotient doesn't fit.
+    show_pivots::<T>(page, "1/3", "170141183460469231731687303715884105727", "1");
+}
+
+// The real column enters, the first phase ends, and the artificial column comes back.
+fn show_pivots<T: Tableau + Drop>(page: &mut Page, entry: &str, right: &str, cost: &str) {
+    if let Some(mut board) = one_by_one::<T>(page.alloc(), entry, right, cost) {
+        show_first(page, &board);
+        pivot(page, &mut board, 0);
+        show_first(page, &board);
+        board.end_phase_one();
+        pivot(page, &mut board, 1);
+        show_row(page, &board);
+    }
+}
+
+// The board of one row and one real column, where the right side may be one.
+fn one_by_one<T: Tableau + Drop>(alloc: Global, entry: &str, right: &str, cost: &str) -> Option<T>
+    ensures rows { IfSome result (λ board. length (T.contents board).rows ≡ 1) }
+    ensures reals { IfSome result (λ board. (T.contents board).reals ≡ 1) }
+    ensures in_first { IfSome result (λ board. (T.contents board).in_first ≡ true) }
+{
+    let right = number(right);
+    if !is_nonnegative(&right) {
+        return None;
+    }
+    match T::start(alloc, 1, 1, &[number(entry)], &[right], &[number(cost)]) {
+        Ok(board) => Some(board),
+        Err(_) => None,
+    }
+}
+
+fn show_first<T: Tableau>(page: &mut Page, board: &T)
+    requires rows { length (T.contents board.now).rows ≡ 1 }
+    requires reals { (T.contents board.now).reals ≡ 1 }
+    requires in_first { (T.contents board.now).in_first ≡ true }
+{
+    show_row(page, board);
+    show_prices(page, board, 1);
+    page.line(format_args!("    swept {:?}", board.swept_column(0)));
+}
+
+fn show_row<T: Tableau>(page: &mut Page, board: &T)
+    requires rows { length (T.contents board.now).rows ≡ 1 }
+    requires reals { (T.contents board.now).reals ≡ 1 }
+{
+    let (first, second) = (board.entry(0, 0), board.entry(0, 1));
+    page.line(format_args!("row {first} {second} = {}", board.right(0)));
+    show_prices(page, board, 2);
+    page.line(format_args!("    basis {:?}", board.basis()));
+}
+
+fn show_prices<T: Tableau>(page: &mut Page, board: &T, phase: u8)
+    requires rows { length (T.contents board.now).rows ≡ 1 }
+    requires reals { (T.contents board.now).reals ≡ 1 }
+    requires phase { (phase ≡ 2) ⊎ ((phase ≡ 1) × IsTrue (T.contents board.now).in_first) }
+{
+    let (first, second) = (board.price(phase, 0), board.price(phase, 1));
+    page.word(format_args!("    prices of phase {phase}: {first} {second}, "));
+    page.line(format_args!("enters {:?}", board.entering(phase)));
+}
+
+// A pivot in its row, where the entry isn't 0.
+fn pivot<T: Tableau>(page: &mut Page, board: &mut T, q: usize)
+    requires rows { length (T.contents board.old).rows ≡ 1 }
+    requires reals { (T.contents board.old).reals ≡ 1 }
+    requires column { q < 2 }
+    ensures rows { length (T.contents board.new).rows ≡ 1 }
+    ensures reals { (T.contents board.new).reals ≡ 1 }
+    ensures in_first { (T.contents board.new).in_first ≡ (T.contents board.old).in_first }
+{
+    if !board.entry(0, q).is_zero() {
+        page.line(format_args!("pivot {q}: {:?}", board.pivot(0, q)));
+    }
+}
