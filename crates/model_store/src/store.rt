@@ -138,7 +138,23 @@ impl UserModel {
             ≡ refusals.first_refusal self.old.model edit) }
         ensures kept { OnErr result (self.new ≡ self.old) }
     {
-        let found = match accepted(&self.catalog, &edit) {
+        self.make(&edit)
+    }
+
+    // The same, of an edit that is let go in one place, by `apply`.
+    fn make(&mut self, edit: &Edit) -> Result<Undo, ApplyFault>
+        ensures ok { IfOk result (λ undo. refusals.first_refusal self.old.model edit.now ≡ None) }
+        ensures model { IfOk result (λ undo. self.new.model ≡ edited self.old.model edit.now) }
+        ensures valid { IfOk result (λ undo. IsValid self.new.model) }
+        ensures edit { IfOk result (λ undo. LeadsTo self.old.model self.new.model) }
+        ensures undo { IfOk result (IsUndo self.old.model self.new.model) }
+        ensures before { IfOk result (λ undo. before self.new.model undo ≡ self.old.model) }
+        ensures parked { IfOk result (HasParked self.old.parked self.new.parked self.new.model) }
+        ensures refused { IfErr result (λ fault. refusal_of fault
+            ≡ refusals.first_refusal self.old.model edit.now) }
+        ensures kept { OnErr result (self.new ≡ self.old) }
+    {
+        let found = match accepted(&self.catalog, edit) {
             Ok(found) => found,
             Err(refusal) => return Err(ApplyFault::Refused(refusal)),
         };
