@@ -2,11 +2,9 @@
 ghost use Rattle.std.specs.Prelude.{◌≡◌, ◌≤◌, IfOk, false};
 ghost use Rattle.edit_engine.specs.Held.{state_of};
 
-use crate::part::{Part, text_of};
-use crate::shelves::{both_files, failing};
-use any_bridge::{AnyBridge, all_bridges};
+use bridges_flip::GreaterLess;
 use edit_engine::SessionOver;
-use io_face::{MemShelf, MemSink, MemSource, Shelf, SureShelf};
+use io_face::{Calls, MemSink, MemSource, Shelf};
 use lists::Memory;
 use moi_run::{Status, run};
 use std::alloc::Global;
@@ -16,11 +14,9 @@ use std::alloc::Global;
 pub struct Case {
     pub name: &'static str,
     pub words: &'static [&'static str],
-    /// What stands in the file `m.json`.
-    pub model: &'static [Part],
-    /// What stands in the file `c.txt`.
-    pub certificate: &'static str,
-    pub script: &'static [Part],
+    pub script: &'static str,
+    /// How many bytes of a line stand after the script.
+    pub more: usize,
     /// How many bytes a read gives and a write takes.
     pub piece: usize,
     /// The numbers of the read, of the write and of the fetch that fail; 0 is none.
@@ -29,41 +25,12 @@ pub struct Case {
     pub failing_fetch: u64,
     pub status: Status,
     /// What is to be written.
-    pub text: &'static [Part],
-}
-
-/// The name of the first case that doesn't end as it is to.
-pub fn first_other(alloc: Global, cases: &[Case]) -> Result<Option<&'static str>, Memory> {
-    for case in cases {
-        if !case.ends(alloc)? {
-            return Ok(Some(case.name));
-        }
-    }
-    Ok(None)
+    pub text: &'static str,
 }
 
 impl Case {
-    // Whether the run ends as it is to, over a shelf of which no fetch fails, or the one that is to.
-    fn ends(&self, alloc: Global) -> Result<bool, Memory> {
-        if self.failing_fetch == 0 {
-            self.ends_surely(alloc)
-        } else {
-            self.ends_failing(alloc)
-        }
-    }
-
-    fn ends_surely(&self, alloc: Global) -> Result<bool, Memory> {
-        let mut shelf = SureShelf::new(both_files(alloc, self.model, self.certificate)?);
-        self.ends_over(alloc, &mut shelf)
-    }
-
-    fn ends_failing(&self, alloc: Global) -> Result<bool, Memory> {
-        let fails = failing(alloc, self.failing_fetch)?;
-        let mut shelf = MemShelf::new(both_files(alloc, self.model, self.certificate)?, fails);
-        self.ends_over(alloc, &mut shelf)
-    }
-
-    fn ends_over<H: Shelf>(&self, alloc: Global, shelf: &mut H) -> Result<bool, Memory> {
+    /// Whether the run ends as it is to.
+    pub fn ends<H: Shelf>(&self, alloc: Global, shelf: &mut H) -> Result<bool, Memory> {
         if self.piece == 0 {
             return Ok(false);
         }
@@ -75,8 +42,16 @@ impl Case {
         requires { 1 ≤ self.now.piece }
     {
         let fails = failing(alloc, self.failing_read)?;
-        let script = text_of(alloc, self.script)?;
-        Ok(MemSource::new(script, self.piece, fails))
+        let bytes = self.bytes(alloc)?;
+        Ok(MemSource::new(bytes, self.piece, fails))
+    }
+
+    fn bytes(&self, alloc: Global) -> Result<Vec<u8>, Memory> {
+        let mut bytes = Vec::from_slice(alloc, self.script.as_bytes())?;
+        for _ in 0..self.more {
+            bytes.push(b'a')?;
+        }
+        Ok(bytes)
     }
 
     fn ends_on<H: Shelf>(
@@ -90,8 +65,7 @@ impl Case {
         let fails = failing(alloc, self.failing_write)?;
         let mut output = MemSink::new(alloc, self.piece, fails);
         let status = self.status(alloc, shelf, input, &mut output)?;
-        let text = text_of(alloc, self.text)?;
-        Ok(status == self.status && output.written() == text.as_slice())
+        Ok(status == self.status && output.written() == self.text.as_bytes())
     }
 
     fn status<H: Shelf>(
@@ -107,6 +81,11 @@ impl Case {
     }
 }
 
+/// The one call of this number fails, or none.
+pub fn failing(alloc: Global, call: u64) -> Result<Calls, Memory> {
+    Ok(Calls::from_vec(vec![in alloc; call]?))
+}
+
 fn words_of(alloc: Global, texts: &[&str]) -> Result<Vec<String>, Memory> {
     let mut words = Vec::new(alloc);
     for text in texts {
@@ -115,9 +94,11 @@ fn words_of(alloc: Global, texts: &[&str]) -> Result<Vec<String>, Memory> {
     Ok(words)
 }
 
-// A new session with a bridge of each family, as the program's.
-fn session_of(alloc: Global) -> Result<SessionOver<AnyBridge>, Memory>
+// A new session with one bridge, which turns rows that are at least a number round.
+fn session_of(alloc: Global) -> Result<SessionOver<GreaterLess>, Memory>
     ensures { IfOk result (λ session. (state_of session).attached ≡ false) }
 {
-    Ok(SessionOver::new(alloc, all_bridges(alloc)?))
+    let mut bridges = Vec::new(alloc);
+    bridges.push(GreaterLess::new(alloc))?;
+    Ok(SessionOver::new(alloc, bridges))
 }

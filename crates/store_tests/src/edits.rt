@@ -1,62 +1,49 @@
-//! Edits that are made, taken back and settled.
-ghost use Rattle.std.specs.Prelude.{◌≡◌, OnOk};
-
-use model_store::{Edit, UserModel};
+// Edits: those that a line says, and some that none says.
+use model_store::{Edit, Sense};
+use ratio_core::Ratio;
 use script_core::{Command, parse_line};
-use std::alloc::{AllocError, Global};
+use set_core::Set;
+use std::alloc::Global;
 use stop::Stop;
 
-// The edit of a line.
-fn read(alloc: Global, line: &str) -> Result<Edit, Stop> {
+/// The edit of a line.
+pub fn read(alloc: Global, line: &str) -> Result<Edit, Stop> {
     match parse_line(alloc, line.as_bytes())? {
         Command::Edit(edit) => Ok(edit),
         _ => Err(Stop),
     }
 }
 
-/// Makes edits for good.
-pub fn make_all(alloc: Global, model: &mut UserModel, edits: &[&str]) -> Result<(), Stop> {
-    for edit in edits {
-        let undo = model.apply(read(alloc, edit)?)?;
-        model.settle(undo);
+/// The edit otherwise, as a word says.
+pub fn otherwise(word: &str, edit: Edit) -> Edit {
+    match word {
+        "zeros0" => with_set(edit, Set::Zeros { dimension: 0 }),
+        "zeros3" => with_set(edit, Set::Zeros { dimension: 3 }),
+        "minimize" => as_objective(edit),
+        _ => with_set(edit, at_least_0()),
     }
-    Ok(())
 }
 
-/// Makes edits, each after the one before, and takes them back, the last first: whether each changes
-/// the model, and leads back to what readers gave before.
-pub fn leads_back(alloc: Global, model: &mut UserModel, edits: &[&str]) -> Result<bool, Stop>
-    ensures { OnOk result (model.new ≡ model.old) }
-{
-    let Some((first, others)) = edits.split_first() else {
-        return Ok(true);
-    };
-    let before = text(alloc, model)?;
-    let undo = model.apply(read(alloc, first)?)?;
-    let changes = text(alloc, model)? != before;
-    let rest = leads_back(alloc, model, others)?;
-    model.take_back(undo);
-    Ok(rest && changes && text(alloc, model)? == before)
+fn at_least_0() -> Set {
+    Set::GreaterThan {
+        lower: Ratio::zero(),
+    }
 }
 
-/// Makes an edit, makes others and takes them back, and settles the first: whether the others lead
-/// back, and the model is then what the first made.
-pub fn settles_over(
-    alloc: Global,
-    model: &mut UserModel,
-    first: &str,
-    others: &[&str],
-) -> Result<bool, Stop> {
-    let undo = model.apply(read(alloc, first)?)?;
-    let made = text(alloc, model)?;
-    let back = leads_back(alloc, model, others)?;
-    model.settle(undo);
-    Ok(back && text(alloc, model)? == made)
+fn with_set(edit: Edit, set: Set) -> Edit {
+    match edit {
+        Edit::AddGroup { names, .. } => Edit::AddGroup { names, set },
+        Edit::AddRow { name, func, .. } => Edit::AddRow { name, func, set },
+        edit => edit,
+    }
 }
 
-// All that readers give of a model.
-fn text(alloc: Global, model: &UserModel) -> Result<String, AllocError> {
-    let groups = model.groups();
-    let rows = model.rows();
-    format!(in alloc; "{groups:?} {rows:?} {:?}", model.objective())
+fn as_objective(edit: Edit) -> Edit {
+    match edit {
+        Edit::AddRow { func, .. } => Edit::Objective {
+            sense: Sense::Min,
+            func,
+        },
+        edit => edit,
+    }
 }
