@@ -1,5 +1,6 @@
 // Fractions. What they come to was computed with Python's exact fractions.
-use crate::literals::{OPERATIONS, ORDERS, PAIRS, PARTS, QUOTIENTS};
+use crate::literals::{OPERATIONS, PAIRS, PARTS};
+use crate::orders::{ORDERS, QUOTIENTS};
 use page::Page;
 use ratio_core::{Ratio, RatioFault};
 use std::cmp::Ordering;

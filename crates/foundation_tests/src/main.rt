@@ -13,6 +13,7 @@ mod loads;
 mod named;
 mod names;
 mod numerals;
+mod orders;
 mod plans;
 mod rows;
 mod sequences;
