@@ -1,0 +1,37 @@
+// Runs commands over files, a source and a sink in memory, one case after another, and prints how
+// each ends, by its exit status, and what it writes.
+//
+//     case NAME              begins a case, with no words, no files and an empty script
+//     words WORD ..          its words
+//     model, certificate, script
+//                            what stands in `m.json`, in `c.txt` and in the script: the lines below
+//                            that begin with `|`, or with `>` where no newline ends them
+//     piece N                a read gives and a write takes so many bytes at most, and not 4,096
+//     failing read N         the read of this number fails, or the write, or the fetch
+//     run                    runs the case
+#![tactic(auto)]
+
+mod case;
+mod reading;
+mod running;
+mod stop;
+
+use case::Case;
+use std::io;
+use stop::Stop;
+
+fn main(rt: HostRuntime) -> io::Result<()> {
+    let mut case = Case::new(rt.alloc());
+    match run(&rt, &mut case) {
+        Ok(()) => Ok(()),
+        Err(Stop) => println!(rt; "stopped"),
+    }
+}
+
+fn run(rt: &HostRuntime, case: &mut Case) -> Result<(), Stop> {
+    for line in rt.lines(rt.alloc()) {
+        let line = line?;
+        reading::step(rt, case, line.as_str())?;
+    }
+    Ok(())
+}

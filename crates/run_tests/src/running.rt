@@ -1,0 +1,96 @@
+// A case that is run.
+ghost use Rattle.std.specs.Prelude.{◌≡◌, ◌≤◌, IfOk, false};
+ghost use Rattle.edit_engine.specs.Held.{state_of};
+
+use crate::case::{Call, Case};
+use crate::stop::Stop;
+use any_bridge::{AnyBridge, all_bridges};
+use edit_engine::SessionOver;
+use io_face::{Calls, MemShelf, MemSink, MemSource, NamedFile, NamedFiles, Shelf, SureShelf};
+use lists::Memory;
+use moi_run::run;
+use std::alloc::Global;
+use std::str;
+
+/// Runs a case, and prints how it ends and what it writes.
+pub fn run_case(rt: &HostRuntime, case: &Case) -> Result<(), Stop> {
+    let files = files_of(rt.alloc(), case)?;
+    match case.failing(Call::Fetch) {
+        0 => run_over(rt, case, &mut SureShelf::new(files)),
+        call => {
+            let mut shelf = MemShelf::new(files, failing(rt.alloc(), call)?);
+            run_over(rt, case, &mut shelf)
+        }
+    }
+}
+
+// The files of a model and of a certificate.
+fn files_of(alloc: Global, case: &Case) -> Result<NamedFiles, Memory> {
+    let mut files = Vec::new(alloc);
+    files.push(file(alloc, "m.json", &case.model)?)?;
+    files.push(file(alloc, "c.txt", &case.certificate)?)?;
+    Ok(NamedFiles::from_vec(files))
+}
+
+fn file(alloc: Global, name: &str, bytes: &[u8]) -> Result<NamedFile, Memory> {
+    let name = String::from_str(alloc, name)?;
+    let bytes = Vec::from_slice(alloc, bytes)?;
+    Ok(NamedFile { name, bytes })
+}
+
+// The one call of this number fails, or none.
+fn failing(alloc: Global, call: u64) -> Result<Calls, Memory> {
+    Ok(Calls::from_vec(vec![in alloc; call]?))
+}
+
+fn run_over<H: Shelf>(rt: &HostRuntime, case: &Case, shelf: &mut H) -> Result<(), Stop> {
+    if case.piece == 0 {
+        return Err(Stop);
+    }
+    let reads = failing(rt.alloc(), case.failing(Call::Read))?;
+    let script = Vec::from_slice(rt.alloc(), &case.script)?;
+    let mut input = MemSource::new(script, case.piece, reads);
+    run_on(rt, case, shelf, &mut input)
+}
+
+fn run_on<H: Shelf>(
+    rt: &HostRuntime,
+    case: &Case,
+    shelf: &mut H,
+    input: &mut MemSource,
+) -> Result<(), Stop>
+    requires { 1 ≤ case.now.piece }
+{
+    let writes = failing(rt.alloc(), case.failing(Call::Write))?;
+    let mut output = MemSink::new(rt.alloc(), case.piece, writes);
+    let mut session = session_of(rt.alloc())?;
+    let status = run(
+        rt.alloc(),
+        &case.words,
+        shelf,
+        input,
+        &mut output,
+        &mut session,
+    );
+    tell(rt, status.number(), output.written())
+}
+
+// A new session with a bridge of each family, as the program's.
+fn session_of(alloc: Global) -> Result<SessionOver<AnyBridge>, Memory>
+    ensures { IfOk result (λ session. (state_of session).attached ≡ false) }
+{
+    Ok(SessionOver::new(alloc, all_bridges(alloc)?))
+}
+
+fn tell(rt: &HostRuntime, status: u8, written: &[u8]) -> Result<(), Stop> {
+    rt.println(format_args!("status {status}"))?;
+    let Ok(text) = str::from_utf8(written) else {
+        return Err(Stop);
+    };
+    if text.is_empty() || text.ends_with('\n') {
+        rt.print(text)?;
+    } else {
+        rt.println(text)?;
+    }
+    Ok(())
+}
