@@ -14,7 +14,6 @@
 mod case;
 mod reading;
 mod running;
-mod stop;
 
 use case::Case;
 use std::io;

@@ -3,7 +3,6 @@ ghost use Rattle.std.specs.Prelude.{◌≡◌, ◌≤◌, IfOk, false};
 ghost use Rattle.edit_engine.specs.Held.{state_of};
 
 use crate::case::{Call, Case};
-use crate::stop::Stop;
 use any_bridge::{AnyBridge, all_bridges};
 use edit_engine::SessionOver;
 use io_face::{Calls, MemShelf, MemSink, MemSource, NamedFile, NamedFiles, Shelf, SureShelf};
@@ -11,6 +10,7 @@ use lists::Memory;
 use moi_run::run;
 use std::alloc::Global;
 use std::str;
+use stop::Stop;
 
 /// Runs a case, and prints how it ends and what it writes.
 pub fn run_case(rt: &HostRuntime, case: &Case) -> Result<(), Stop> {
