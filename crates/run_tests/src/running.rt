@@ -84,9 +84,7 @@ fn session_of(alloc: Global) -> Result<SessionOver<AnyBridge>, Memory>
 
 fn tell(rt: &HostRuntime, status: u8, written: &[u8]) -> Result<(), Stop> {
     rt.println(format_args!("status {status}"))?;
-    let Ok(text) = str::from_utf8(written) else {
-        return Err(Stop);
-    };
+    let text = str::from_utf8(written)?;
     if text.is_empty() || text.ends_with('\n') {
         rt.print(text)?;
     } else {
