@@ -3,24 +3,13 @@
 --
 -- Every sum is made from the left, and each of its steps must fit. The results themselves have no
 -- order: they are the sum, the multiple, the value and the composition of functions.
-use Rattle.std.specs.Prelude.{◌≡◌, IsTrue, List, [], ◌∷◌, ◌++◌, All, Option, Some, None, Result, Ok, Err, unwrap_or}
+use Rattle.std.specs.Prelude.{◌≡◌, IsTrue, List, [], ◌∷◌, ◌++◌, All, Option, Some, None, unwrap_or}
 use Rattle.std.specs.FinMap as finite
 use Rattle.std.specs.FinMap.{FinMap}
 use Rattle.std.specs.declared.cmp.Ordering.{Ordering}
 use Rattle.ratio_core.specs.Rational.{Rational, zero_ℚ, ◌+ℚ◌, ◌*ℚ◌, Fits, SumFits}
-use Rattle.aff_core.specs.declared.fault.AffFault.{AffFault}
-use Rattle.aff_core.specs.declared.fault.AffFault.TheVariants.{Overflow, Memory}
 use Rattle.aff_core.specs.Terms.{TimesFit, ValueFits, linear, times}
 use Rattle.aff_core.specs.Function.{FunctionOver, coefficient, constant_function, function_of, terms_of, value_of}
-
--- ---- answers
-
--- a value with Q exactly where P holds, and else Overflow; or want of memory, of which nothing is
--- said
-abbrev pub ExactWhere : {T : Type 0} → Result T AffFault → Type 0 → (T → Type 0) → Type 0
-ExactWhere (Ok x) P Q = P × Q x
-ExactWhere (Err Overflow) P Q = ¬ P
-ExactWhere (Err Memory) P Q = Unit {0}
 
 -- ---- sums of coefficients
 

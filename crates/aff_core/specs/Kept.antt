@@ -1,19 +1,9 @@
--- How an affine function is kept: as its terms in the order of their addresses.
+-- Where the term of an address stands among those of an affine function.
 use Rattle.std.specs.Prelude.{◌≡◌, ℕ, ◌+◌, ◌<◌, ◌≤◌, ◌∷◌, ◌++◌, take, drop, length, slice_index_or, Some, None}
 use Rattle.std.specs.FinMap.{get, entries, insert}
 use Rattle.ratio_core.specs.Rational.{Rational}
-use Rattle.aff_core.specs.declared.aff.Aff.TheInside.{Inside}
 use Rattle.aff_core.specs.Address.{Address}
-use Rattle.aff_core.specs.Function.{Function, function_of, terms_of}
-use Rattle.aff_core.specs.Rising.{RiseStrictly}
-use Rattle.aff_core.specs.Terms.{HaveNoZero}
-
-abbrev pub function_in : Inside → Function
-function_in a = function_of a.terms.items a.constant
-
-pub record IsKept (a : Inside) : Type 0 where
-  pub terms : RiseStrictly a.terms.items
-  pub nonzero : HaveNoZero a.terms.items
+use Rattle.aff_core.specs.Function.{Function, terms_of}
 
 -- the term at place n is that of the address
 pub record IsPlaceOf (f : Function) (at : Address) (n : ℕ) : Type 0 where

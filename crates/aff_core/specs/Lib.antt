@@ -1,5 +1,4 @@
 pub mod Address
-pub mod AnsweredLaws
 pub mod Arithmetic
 pub mod ArithmeticLaws
 pub mod Function

@@ -1,40 +1,19 @@
 //! Affine functions of addresses.
-ghost use Rattle.std.specs.Prelude.{◌≡◌, ℕ, MatchResult, IfOk, OnErr, IsTrue, ◌↔◌, slice_get, length};
+ghost use Rattle.std.specs.Prelude.{◌≡◌, MatchResult, IfOk, OnErr, IsTrue, ◌↔◌};
 ghost use Rattle.std.specs.FinMap as finite;
-ghost use Rattle.ratio_core.specs.Rational.{zero_ℚ};
 ghost use Rattle.aff_core.specs.Address.{address_cmp};
-ghost use Rattle.aff_core.specs.Function.{HasEachTerm, IsNegated, coefficient, constant_function, function_of, gathered, negated, terms_of, variable};
+ghost use Rattle.aff_core.specs.Function.{HasEachTerm, IsNegated, coefficient, constant_function, gathered, negated, variable};
 ghost use Rattle.aff_core.specs.FunctionEq.{function_eq, function_eq_equiv, function_eq_partial_equiv};
-ghost use Rattle.aff_core.specs.Rising.{HasDistinctKeys, RiseStrictly};
-ghost use Rattle.aff_core.specs.Terms.{HaveNoZero};
+ghost use Rattle.aff_core.specs.Rising.{HasDistinctKeys};
 
-use crate::terms::{negated_terms, nonzero_terms};
-use crate::{Address, Point};
+use crate::terms::negated_terms;
+use crate::{Address, AffineFunction, Point};
 use lists::Duplicate;
 use ratio_core::{Memory, Ratio};
 use std::alloc::Global;
-use std::marker::Model;
 
-/// An affine function: the nonzero coefficients of addresses, and a constant.
-#[derive(Debug, Drop)]
-pub struct Aff {
-    terms: Vec<(Address, Ratio)>,
-    constant: Ratio,
-}
-
-impl Model for Aff {
-    ghost use Rattle.aff_core.specs.Function.{Function, function_code};
-
-    ghost Value = { Function };
-
-    ghost coded = { function_code };
-
-    ghost use Rattle.aff_core.specs.Kept.{function_in, IsKept};
-
-    ghost view = { function_in };
-
-    ghost invariant = { IsKept };
-}
+/// An affine function of addresses.
+pub type Aff = AffineFunction<Address>;
 
 impl Aff {
     ghost use Rattle.aff_core.specs.Kept.{IsPlaceOf, IsAbsent, IsSpanOf};
@@ -53,18 +32,6 @@ impl Aff {
         Aff::from_terms(alloc, &[(*at, Ratio::one())], Ratio::zero())
     }
 
-    /// The function of these terms, of which those with the coefficient 0 are left out.
-    pub fn from_terms(
-        alloc: Global,
-        terms: &[(Address, Ratio)],
-        constant: Ratio,
-    ) -> Result<Aff, Memory>
-        requires { RiseStrictly terms.now }
-        ensures { IfOk result (λ f. f ≡ function_of terms.now constant) }
-    {
-        Ok(Aff::of(nonzero_terms(alloc, terms)?, constant))
-    }
-
     /// The function of terms in any order, whose addresses are distinct.
     pub fn gather(alloc: Global, terms: &[(Address, Ratio)], constant: Ratio) -> Result<Aff, Memory>
         requires { HasDistinctKeys address_cmp terms.now }
@@ -73,43 +40,6 @@ impl Aff {
     {
         let terms = first_coefficients(alloc, terms)?.nonzero_terms(alloc)?;
         Ok(Aff::of(terms, constant))
-    }
-
-    // The function of terms in the order of their addresses, none of which is zero.
-    pub(crate) fn of(terms: Vec<(Address, Ratio)>, constant: Ratio) -> Aff
-        requires rising { RiseStrictly terms.items }
-        requires nonzero { HaveNoZero terms.items }
-        ensures { result ≡ function_of terms.items constant }
-    {
-        Aff { terms, constant }
-    }
-
-    // The memory that the function is kept in.
-    pub(crate) fn allocator(&self) -> Global {
-        *self.terms.allocator()
-    }
-
-    /// The terms, in the order of their addresses.
-    pub fn terms(&self) -> &[(Address, Ratio)]
-        ensures all { result.now ≡ terms_of self.now }
-        ensures rising { RiseStrictly (terms_of self.now) }
-        ensures nonzero { HaveNoZero (terms_of self.now) }
-    {
-        &self.terms
-    }
-
-    /// The number of terms.
-    pub fn term_count(&self) -> usize
-        ensures { result ≡ length (terms_of self.now) }
-    {
-        self.terms().len()
-    }
-
-    /// The term at a place in the order of addresses, and `None` past the last.
-    pub fn term(&self, n: usize) -> Option<(Address, Ratio)>
-        ensures { result ≡ slice_get (terms_of self.now) n }
-    {
-        self.terms().get(n).copied()
     }
 
     /// The coefficient of an address, which is 0 where the function doesn't mention it.
@@ -127,12 +57,6 @@ impl Aff {
         ensures { result ≡ finite.contains_key self.now.terms at.now }
     {
         self.place(at).is_ok()
-    }
-
-    pub fn constant(&self) -> Ratio
-        ensures { result ≡ self.now.constant }
-    {
-        self.constant
     }
 
     /// The function with another constant.

@@ -1,14 +1,15 @@
-//! Addresses of items, affine functions over them with exact coefficients, and their lists and
-//! maps.
+//! Addresses of items, affine functions with exact coefficients over them or other keys, and their
+//! lists and maps.
 #![tactic(auto)]
 
 mod address;
 mod aff;
+mod affine;
 mod arithmetic;
 mod by_address;
 mod edits;
-mod fault;
 mod folds;
+mod key;
 mod root;
 mod sense;
 mod sequence;
@@ -16,8 +17,9 @@ mod terms;
 
 pub use address::Address;
 pub use aff::Aff;
+pub use affine::AffineFunction;
 pub use by_address::{ByAddress, Exprs, Point};
-pub use fault::AffFault;
+pub use key::Key;
 pub use lists::Sequence;
 pub use ratio_core::Ratios;
 pub use root::Root;

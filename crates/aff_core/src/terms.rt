@@ -1,12 +1,12 @@
 //! Lists of terms in the order of their keys, whatever the keys are.
 ghost use Rattle.std.specs.Prelude.{◌≡◌, [], ◌∷◌, ◌++◌, ◌↔◌, IfOk, IsTrue, filter};
 ghost use Rattle.std.specs.FinMap as finite;
-ghost use Rattle.aff_core.specs.Arithmetic.{ExactWhere, TermsFit, added_terms};
+ghost use Rattle.ratio_core.specs.Answers.{ExactWhere};
+ghost use Rattle.aff_core.specs.Arithmetic.{TermsFit, added_terms};
 ghost use Rattle.aff_core.specs.Rising.{RiseBy};
 ghost use Rattle.aff_core.specs.Terms.{HaveNoZero, TimesFit, is_nonzero, negated_terms, times};
 
-use crate::AffFault;
-use ratio_core::{Memory, Ratio};
+use ratio_core::{Memory, NumberFault, Ratio};
 use std::alloc::Global;
 use std::cmp::Ordering;
 
@@ -55,7 +55,7 @@ pub fn scaled_terms<K: Copy>(
     alloc: Global,
     by: &Ratio,
     terms: &[(K, Ratio)],
-) -> Result<Vec<(K, Ratio)>, AffFault>
+) -> Result<Vec<(K, Ratio)>, NumberFault>
     ensures { ExactWhere result (TimesFit by.now terms.now)
         (λ v. v.items ≡ filter is_nonzero (times by.now terms.now)) }
 {
@@ -73,7 +73,7 @@ pub fn summed_terms<K: Ord + Copy>(
     alloc: Global,
     left: &[(K, Ratio)],
     right: &[(K, Ratio)],
-) -> Result<Vec<(K, Ratio)>, AffFault>
+) -> Result<Vec<(K, Ratio)>, NumberFault>
     requires left { RiseBy K.cmp left.now }
     requires right { RiseBy K.cmp right.now }
     requires left_nonzero { HaveNoZero left.now }

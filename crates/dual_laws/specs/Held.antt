@@ -6,7 +6,7 @@
 --     AllHold one hs x the functions are in the sets: at a point where `one` is 1, along a ray
 --                      where it is 0
 use Rattle.std.specs.Prelude.{◌≡◌, List, length, All}
-use Rattle.ratio_core.specs.Rational.{Rational, ◌-ℚ◌, ◌≤ℚ◌}
+use Rattle.ratio_core.specs.Rational.{Rational, ◌-ℚ◌}
 use Rattle.rational_laws.specs.Dot.{dot}
 use Rattle.rational_laws.specs.Sums.{sum_by_ℚ}
 use Rattle.aff_core.specs.Address.{Address}
@@ -58,9 +58,3 @@ gap hs = sum_by_ℚ gap_of hs
 
 abbrev pub AllHold : Rational → List Held → (Address → Rational) → Type 0
 AllHold one hs x = All (λ h. Holds one h x) hs
-
--- hs can stand for gs: its duals hold, it pulls alike at every point, and its gap is no smaller
-pub record Covers (hs gs : List Held) : Type 0 where
-  pub duals : DualsHold hs
-  pub pulls : (x : Address → Rational) → pull hs x ≡ pull gs x
-  pub gaps : gap gs ≤ℚ gap hs

@@ -1,4 +1,3 @@
 pub mod Held
 pub mod PullLaws
-pub mod CoverLaws
 pub mod WeakDuality

@@ -116,10 +116,6 @@ pull_none hs h x =
 
 -- ---- rows joined
 
-pub pull-append : (hs gs : List Held) (x : Address → Rational)
-    → pull (hs ++ gs) x ≡ pull hs x +ℚ pull gs x
-pull-append hs gs x = sum_by_ℚ-append (λ h. pull_of h x) hs gs
-
 pub adjoint-append : (hs gs : List Held) (v : Address)
     → adjoint (hs ++ gs) v ≡ adjoint hs v +ℚ adjoint gs v
 adjoint-append hs gs v = sum_by_ℚ-append (λ h. adjoint_of h v) hs gs

@@ -1,7 +1,7 @@
 // Sums, multiples, values and substitutions of the function that is the variable x.
-use aff_core::{Address, Aff, AffFault, Exprs, Point, Root};
+use aff_core::{Address, Aff, Exprs, Point, Root};
 use page::Page;
-use ratio_core::Ratio;
+use ratio_core::{NumberFault, Ratio};
 
 fn x() -> Address {
     Address::root(Root::Variable, 0)
@@ -23,7 +23,7 @@ pub fn show(page: &mut Page) {
     }
 }
 
-fn show_made(page: &mut Page, what: &str, made: Result<Aff, AffFault>) {
+fn show_made(page: &mut Page, what: &str, made: Result<Aff, NumberFault>) {
     match made {
         Ok(f) => show_function(page, what, &f),
         Err(fault) => page.line(format_args!("{what}: {fault:?}")),

@@ -6,33 +6,23 @@ ghost use Rattle.io_face.specs.declared.shelf.FetchFault.TheVariants.{Failed, Me
 
 use crate::source::Failed;
 use std::alloc::AllocError;
-use std::error::Error;
-use std::fmt;
+use thiserror::Error;
 
 /// The most bytes of a file that is fetched.
 pub const FILE_LIMIT: usize = 67_108_864;
 
 /// A file wasn't fetched.
-#[derive(Clone, Copy, Debug, PartialEq, Eq)]
+#[derive(Clone, Copy, Debug, PartialEq, Eq, Error)]
 pub enum FetchFault {
     /// There is no such file, or reading it failed.
+    #[error("fetching a file failed")]
     Failed,
     /// The file has more than 67,108,864 bytes.
+    #[error("a file has at most {} bytes", FILE_LIMIT)]
     TooLong,
+    #[error("out of memory")]
     Memory,
 }
-
-impl fmt::Display for FetchFault {
-    fn fmt<W: fmt::Write>(&self, f: &mut fmt::Formatter<W>) -> fmt::Result {
-        match self {
-            FetchFault::Failed => write!(f, "fetching a file failed"),
-            FetchFault::TooLong => write!(f, "a file has at most {FILE_LIMIT} bytes"),
-            FetchFault::Memory => write!(f, "out of memory"),
-        }
-    }
-}
-
-impl Error for FetchFault {}
 
 impl From<AllocError> for FetchFault {
     ghost from_gives = { λ _ fault. fault ≡ Memory };

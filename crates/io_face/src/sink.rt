@@ -5,26 +5,16 @@ ghost use Rattle.io_face.specs.Sink.{Adds, AddsPrefix};
 ghost use Rattle.io_face.specs.declared.sink.SinkFault.TheVariants.{Memory};
 
 use std::alloc::AllocError;
-use std::error::Error;
-use std::fmt;
+use thiserror::Error;
 
 /// A write failed, or found no memory, and took nothing.
-#[derive(Clone, Copy, Debug, PartialEq, Eq)]
+#[derive(Clone, Copy, Debug, PartialEq, Eq, Error)]
 pub enum SinkFault {
+    #[error("writing failed")]
     Failed,
+    #[error("out of memory")]
     Memory,
 }
-
-impl fmt::Display for SinkFault {
-    fn fmt<W: fmt::Write>(&self, f: &mut fmt::Formatter<W>) -> fmt::Result {
-        match self {
-            SinkFault::Failed => write!(f, "writing failed"),
-            SinkFault::Memory => write!(f, "out of memory"),
-        }
-    }
-}
-
-impl Error for SinkFault {}
 
 impl From<AllocError> for SinkFault {
     ghost from_gives = { λ _ fault. fault ≡ Memory };

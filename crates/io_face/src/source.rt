@@ -4,20 +4,12 @@ ghost use Rattle.std.specs.Io.KnownBytes.{IsAtEnd};
 ghost use Rattle.io_face.specs.Fault.{HasFaulted};
 ghost use Rattle.io_face.specs.Source.{Takes};
 
-use std::error::Error;
-use std::fmt;
+use thiserror::Error;
 
 /// A read failed, and took nothing.
-#[derive(Clone, Copy, Debug, PartialEq, Eq)]
+#[derive(Clone, Copy, Debug, PartialEq, Eq, Error)]
+#[error("reading failed")]
 pub struct Failed;
-
-impl fmt::Display for Failed {
-    fn fmt<W: fmt::Write>(&self, f: &mut fmt::Formatter<W>) -> fmt::Result {
-        write!(f, "reading failed")
-    }
-}
-
-impl Error for Failed {}
 
 /// What bytes are read from. A read that fails takes none, and is counted.
 pub trait Source {

@@ -195,43 +195,31 @@ macro_rules! edge_entries {
 /// The entries of the edges, in order.
 pub const EDGES: [EdgeEntry; EDGE_COUNT] = edges!(edge_entries);
 
-macro_rules! graph_children {
-    () => {
-        [0, 0, 0]
+macro_rules! graph_row {
+    ($source:ident) => {
+        graph_row!($source, [0, 0, 0], 0)
     };
-    ($first:ident) => {
-        [Kind::$first as u8, 0, 0]
+    ($source:ident $first:ident) => {
+        graph_row!($source, [Kind::$first as u8, 0, 0], 1)
     };
-    ($first:ident $second:ident) => {
-        [Kind::$first as u8, Kind::$second as u8, 0]
+    ($source:ident $first:ident $second:ident) => {
+        graph_row!($source, [Kind::$first as u8, Kind::$second as u8, 0], 2)
     };
-    ($first:ident $second:ident $third:ident) => {
-        [Kind::$first as u8, Kind::$second as u8, Kind::$third as u8]
+    ($source:ident $first:ident $second:ident $third:ident) => {
+        graph_row!($source, [Kind::$first as u8, Kind::$second as u8, Kind::$third as u8], 3)
     };
-}
-
-macro_rules! count {
-    () => {
-        0
-    };
-    ($first:ident) => {
-        1
-    };
-    ($first:ident $second:ident) => {
-        2
-    };
-    ($first:ident $second:ident $third:ident) => {
-        3
+    ($source:ident, $children:expr, $count:expr) => {
+        EdgeRow {
+            source: Kind::$source as u8,
+            children: $children,
+            count: $count,
+        }
     };
 }
 
 macro_rules! graph_rows {
     ($($edge:ident $family:ident $source:ident => $($child:ident)*;)*) => {
-        [$(EdgeRow {
-            source: Kind::$source as u8,
-            children: graph_children!($($child)*),
-            count: count!($($child)*),
-        }),*]
+        [$(graph_row!($source $($child)*)),*]
     };
 }
 

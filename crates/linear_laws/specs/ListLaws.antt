@@ -1,5 +1,6 @@
 -- Lists of affine functions: their values and slopes by one notion, weighed, negated and composed;
 -- variables and constant functions.
+use mathlib.Core.List.{map-map}
 use Rattle.std.specs.Prelude.{◌≡◌, List, [], ◌∷◌, map, refl}
 use Rattle.std.proofs.Common.{sym, ◌∙◌, ap, ap₂}
 use Rattle.ratio_core.specs.Rational.{Rational, neg_ℚ, one_ℚ, zero_ℚ, ◌*ℚ◌, ◌+ℚ◌}
@@ -16,32 +17,23 @@ use Rattle.aff_core.specs.FunctionLists.{coefficients, constants, evaluations, s
 use Rattle.aff_core.specs.KeyOrder.{address_order}
 use Rattle.aff_core.specs.Terms.{linear}
 use Rattle.linear_laws.specs.EvaluationLaws.{evaluated_composed, evaluated_slope, evaluated_value}
-use Rattle.linear_laws.specs.SlopeLaws.{mentioned, slope_composed, slope_over}
+use Rattle.linear_laws.specs.SlopeLaws.{mentioned, slope_over}
 use Rattle.linear_laws.specs.SupportLaws.{Supports, support, support_supports, supports_first, supports_second}
 use Rattle.std.specs.Prelude.{◌++◌}
 
--- one function for each, which agree
-map_same : {X : Type 0} (f g : X → Rational) (xs : List X) → ((x : X) → f x ≡ g x)
-    → map f xs ≡ map g xs
-map_same f g [] h = refl
-map_same f g (x ∷ xs) h = ap₂ (λ q qs. q ∷ qs) (h x) (map_same f g xs h)
-
 map_both : {X Y Z : Type 0} (f : Y → Z) (h : X → Y) (g : X → Z) (xs : List X)
     → ((x : X) → f (h x) ≡ g x) → map f (map h xs) ≡ map g xs
-map_both f h g [] e = refl
-map_both f h g (x ∷ xs) e = ap₂ (λ y ys. y ∷ ys) (e x) (map_both f h g xs e)
+map_both f h g xs e = map-map f h xs ∙ (λ i. map (λ x. e x i) xs)
 
 -- ---- values and slopes
 
 pub evaluations_values : (fs : List Function) (x : Address → Rational)
     → evaluations one_ℚ fs x ≡ values fs x
-evaluations_values fs x =
-    map_same (λ f. evaluated one_ℚ f x) (λ f. value_of f x) fs (λ f. evaluated_value f x)
+evaluations_values fs x = λ i. map (λ f. evaluated_value f x i) fs
 
 pub evaluations_slopes : (fs : List Function) (x : Address → Rational)
     → evaluations zero_ℚ fs x ≡ slopes fs x
-evaluations_slopes fs x =
-    map_same (λ f. evaluated zero_ℚ f x) (λ f. slope f x) fs (λ f. evaluated_slope f x)
+evaluations_slopes fs x = λ i. map (λ f. evaluated_slope f x i) fs
 
 -- weighed, they are the constants weighed and the slopes weighed
 pub dot_evaluations : (w : List Rational) (one : Rational) (fs : List Function)
@@ -130,13 +122,6 @@ module _ (e : Address → Function) (fs : List Function) where
       (λ f. evaluated one f (λ u. evaluated one (e u) x)) fs
       (λ f. evaluated_composed one e f (composed e f)
       (is_composition address_order e f (composed e f) refl) x)
-
-  pub slopes-composed : (x : Address → Rational)
-      → slopes (map (composed e) fs) x ≡ slopes fs (λ u. slope (e u) x)
-  slopes-composed x =
-      map_both (λ f. slope f x) (composed e) (λ f. slope f (λ u. slope (e u) x)) fs
-      (λ f. slope_composed e f (composed e f) (is_composition address_order e f (composed e f) refl)
-      x)
 
   -- the adjoint of a substitution: coefficients are the slopes at those of the expressions
   pub coefficients-composed : (v : Address)

@@ -1,5 +1,4 @@
--- Slopes by coefficients: over any support, of equal functions, at points that agree, of sums,
--- multiples and compositions.
+-- Slopes by coefficients: over any support, at points that agree, of sums and of compositions.
 use Rattle.std.specs.Prelude.{◌≡◌, Bool, true, false, T, cond, List, [], ◌∷◌, ◌++◌, None, Some, map, unwrap_or, refl}
 use Rattle.std.specs.Ordering.{eq_by_cmp}
 use Rattle.std.specs.FinMap.{entries_sorted, find, get-entries, is_sorted}
@@ -12,7 +11,7 @@ use Rattle.rational_laws.specs.Sums.{sum_by_ℚ, sum_by_ℚ-*ℚ, sum_by_ℚ-*�
 use Rattle.map_laws.specs.EntryLaws.{find_below}
 use Rattle.map_laws.specs.TestLaws.{first, second}
 use Rattle.aff_core.specs.Address.{Address, address_cmp, address_eq-Decides}
-use Rattle.aff_core.specs.Arithmetic.{IsComposition, IsMultiple, IsSum}
+use Rattle.aff_core.specs.Arithmetic.{IsComposition, IsSum}
 use Rattle.aff_core.specs.Function.{Function, coefficient, slope, terms_of}
 use Rattle.aff_core.specs.Points.{unit}
 use Rattle.aff_core.specs.Terms.{linear}
@@ -105,28 +104,7 @@ slope_over us f x h =
 abbrev pub mentioned : Function → List Address
 mentioned f = addresses (terms_of f)
 
--- ---- equal functions, and points that agree
-
-module _ (f g : Function) where
-  abbrev both : List Address
-  both = support (mentioned f ++ mentioned g)
-
-  first_supported : Supports both (mentioned f)
-  first_supported = supports_first both (mentioned f) (mentioned g)
-      (support_supports (mentioned f ++ mentioned g))
-
-  second_supported : Supports both (mentioned g)
-  second_supported = supports_second both (mentioned f) (mentioned g)
-      (support_supports (mentioned f ++ mentioned g))
-
-  -- equal coefficients give equal slopes
-  pub slope_same : ((v : Address) → coefficient f v ≡ coefficient g v) → (x : Address → Rational)
-      → slope f x ≡ slope g x
-  slope_same h x =
-      slope_over both f x first_supported
-      ∙ sum_by_ℚ_same (λ u. coefficient f u *ℚ x u) (λ u. coefficient g u *ℚ x u) both
-      (λ u. ap (λ q. q *ℚ x u) (h u))
-      ∙ sym (slope_over both g x second_supported)
+-- ---- points that agree
 
 -- points that agree wherever the coefficient isn't 0 give equal slopes
 pub slope_agreeing : (f : Function) (x y : Address → Rational)
@@ -142,7 +120,7 @@ slope_agreeing f x y h =
         ∙ sym (zero-*ℚ (y u)) ∙ ap (λ q. q *ℚ y u) (sym e))
         (λ n. ap (λ q. coefficient f u *ℚ q) (h u n))
 
--- ---- sums and multiples
+-- ---- sums
 
 slope_added : (us : List Address) (f g : Function) (x : Address → Rational)
     → Supports us (mentioned f) → Supports us (mentioned g)
@@ -171,22 +149,6 @@ slope_sum f g h s x =
 
     parts : Supports all (mentioned f ++ mentioned g)
     parts = supports_second all (mentioned h) (mentioned f ++ mentioned g) each
-
-pub slope_multiple : (c : Rational) (f h : Function) → IsMultiple c f h → (x : Address → Rational)
-    → slope h x ≡ c *ℚ slope f x
-slope_multiple c f h s x =
-    slope_over all h x (supports_first all (mentioned h) (mentioned f) each)
-    ∙ sum_by_ℚ_same (λ u. coefficient h u *ℚ x u) (λ u. c *ℚ (coefficient f u *ℚ x u)) all
-    (λ u. ap (λ q. q *ℚ x u) (s.coefficients u) ∙ *ℚ_assoc c (coefficient f u) (x u))
-    ∙ sum_by_ℚ-*ℚ c (λ u. coefficient f u *ℚ x u) all
-    ∙ ap (λ q. c
-    *ℚ q) (sym (slope_over all f x (supports_second all (mentioned h) (mentioned f) each)))
-  where
-    all : List Address
-    all = support (mentioned h ++ mentioned f)
-
-    each : Supports all (mentioned h ++ mentioned f)
-    each = support_supports (mentioned h ++ mentioned f)
 
 -- ---- compositions
 

@@ -1,4 +1,6 @@
 -- What the contracts of this crate cite.
+pub mod Answers
+pub mod AnsweredLaws
 pub mod Folds
 pub mod Gcd
 pub mod Narrow

@@ -16,7 +16,7 @@ mod quotients;
 mod text;
 mod wide;
 
-pub use fault::RatioFault;
+pub use fault::{NumberFault, RatioFault};
 pub use fraction::Ratio;
 pub use lists::Memory;
 

@@ -34,48 +34,48 @@ Fits_neg_ℚ q f =
 
 -- ---- sums with 0
 
-one_den : zero_ℚ.den ≡ 1
-unfolding zero_ℚ whole_ℚ
-one_den = refl
+-- where the denominators have no common divisor, the terms are the numerators, each times the other's
+-- denominator
+module _ (p q : Rational) (apart : common_divisor p q ≡ 1) where
+  left_apart : left_term p q ≡ p.num *ℤ pos q.den
+  unfolding left_term
+  left_apart = ap (λ k. p.num *ℤ pos k) (ap (λ g. q.den / g) apart ∙ div-one q.den)
 
-module _ (q : Rational) where
-  one_divisor : common_divisor zero_ℚ q ≡ 1
-  unfolding common_divisor zero_ℚ whole_ℚ
-  one_divisor = gcd_swap 1 q.den ∙ gcd-one q.den
-
-  no_left : left_term zero_ℚ q ≡ pos 0
-  unfolding left_term zero_ℚ whole_ℚ
-  no_left = ap pos (zero-mul (q.den / common_divisor zero_ℚ q))
-
-  whole_right : right_term zero_ℚ q ≡ q.num
+  right_apart : right_term p q ≡ q.num *ℤ pos p.den
   unfolding right_term
-  whole_right = ap (λ k. q.num *ℤ pos k) (ap (λ g. zero_ℚ.den / g) one_divisor ∙ div-one zero_ℚ.den
-      ∙ one_den) ∙ *ℤ_pos_one q.num
+  right_apart = ap (λ k. q.num *ℤ pos k) (ap (λ g. p.den / g) apart ∙ div-one p.den)
 
-  whole_sum : sum_of_terms zero_ℚ q ≡ q.num
-  unfolding sum_of_terms
-  whole_sum = ap₂ ◌+ℤ◌ no_left whole_right ∙ zero_lem q.num
-    where
-      zero_lem : (a : ℤ) → pos 0 +ℤ a ≡ a
-      zero_lem a = omega (arith, ints)
-
-  whole_den : sum_denominator zero_ℚ q ≡ q.den
+  denominator_apart : sum_denominator p q ≡ p.den * q.den
   unfolding sum_denominator
-  whole_den =
-      ap₂ ◌*◌ (ap (λ g. zero_ℚ.den / g) one_divisor ∙ div-one zero_ℚ.den ∙ one_den)
-      (ap (λ k. q.den / k) (ap (gcd (unsigned_abs (sum_of_terms zero_ℚ q))) one_divisor
-      ∙ gcd-one (unsigned_abs (sum_of_terms zero_ℚ q))) ∙ div-one q.den)
-      ∙ one_lem q.den
-    where
-      one_lem : (k : ℕ) → 1 * k ≡ k
-      one_lem k = omega arith
+  denominator_apart =
+      ap₂ ◌*◌ (ap (λ g. p.den / g) apart ∙ div-one p.den)
+      (ap (λ k. q.den / k) (ap (gcd (unsigned_abs (sum_of_terms p q))) apart
+      ∙ gcd-one (unsigned_abs (sum_of_terms p q))) ∙ div-one q.den)
 
-  -- a sum of 0 and a number that fits meets the rule for sums
-  pub SumFits_zero : Fits q → SumFits zero_ℚ q
-  SumFits_zero f =
-      record {
-        left = subst (λ z. unsigned_abs z < 2 ^ 127) (sym no_left) (omega arith);
-        right = subst (λ z. unsigned_abs z < 2 ^ 127) (sym whole_right) f.num;
-        sum = subst (λ z. unsigned_abs z < 2 ^ 127) (sym whole_sum) f.num;
-        denominator = subst (λ n. n < 2 ^ 127) (sym whole_den) f.den;
-      }
+  -- so the sum meets the rule for sums where these are numbers that fit
+  pub SumFits_apart : (a b s : ℤ) (d : ℕ) → p.num *ℤ pos q.den ≡ a → q.num *ℤ pos p.den ≡ b
+      → a +ℤ b ≡ s → p.den * q.den ≡ d → unsigned_abs a < 2 ^ 127 → unsigned_abs b < 2 ^ 127
+      → unsigned_abs s < 2 ^ 127 → d < 2 ^ 127 → SumFits p q
+  unfolding sum_of_terms
+  SumFits_apart a b s d left right sum den a_fits b_fits s_fits d_fits = record {
+    left = subst (λ z. unsigned_abs z < 2 ^ 127) (sym (left_apart ∙ left)) a_fits;
+    right = subst (λ z. unsigned_abs z < 2 ^ 127) (sym (right_apart ∙ right)) b_fits;
+    sum =
+        subst (λ z. unsigned_abs z < 2 ^ 127)
+        (sym (ap₂ ◌+ℤ◌ (left_apart ∙ left) (right_apart ∙ right) ∙ sum)) s_fits;
+    denominator = subst (λ n. n < 2 ^ 127) (sym (denominator_apart ∙ den)) d_fits;
+  }
+
+-- so does a sum of 0 and a number that fits
+pub SumFits_zero : (q : Rational) → Fits q → SumFits zero_ℚ q
+unfolding common_divisor zero_ℚ whole_ℚ
+SumFits_zero q f =
+    SumFits_apart zero_ℚ q (gcd_swap 1 q.den ∙ gcd-one q.den) (pos 0) q.num q.num q.den
+    (ap pos (zero-mul q.den)) (*ℤ_pos_one q.num) (zero_left q.num) (one_left q.den) (omega arith)
+    f.num f.num f.den
+  where
+    zero_left : (a : ℤ) → pos 0 +ℤ a ≡ a
+    zero_left a = omega (arith, ints)
+
+    one_left : (k : ℕ) → 1 * k ≡ k
+    one_left k = omega arith

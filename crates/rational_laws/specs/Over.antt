@@ -69,6 +69,13 @@ module _ (m n : ℤ) (e d : ℕ) (above : 0 < e) (below : 0 < d) where
 
 -- ---- fractions over one denominator
 
+-- a cross product, times d
+crossed : (m : ℤ) (e d : ℕ) → 0 < d
+    → ((reduce m d).num *ℤ pos e) *ℤ pos d ≡ m *ℤ pos ((reduce m d).den * e)
+crossed m e d above =
+    swap_times (reduce m d).num e d ∙ ap (λ z. z *ℤ pos e) (reduce_cross m d above)
+    ∙ times_times m (reduce m d).den e
+
 module _ (m n : ℤ) (d : ℕ) (above : 0 < d) where
   pub over-+ℚ : reduce m d +ℚ reduce n d ≡ reduce (m +ℤ n) d
   unfolding ◌+ℚ◌
@@ -79,10 +86,8 @@ module _ (m n : ℤ) (d : ℕ) (above : 0 < d) where
       (mul-pos p.reduced.0 q.reduced.0) above
       (times_add (p.num *ℤ pos q.den) (q.num *ℤ pos p.den) d
       ∙ ap₂ ◌+ℤ◌
-      (swap_times p.num q.den d ∙ ap (λ z. z *ℤ pos q.den) (reduce_cross m d above)
-      ∙ times_times m p.den q.den)
-      (swap_times q.num p.den d ∙ ap (λ z. z *ℤ pos p.den) (reduce_cross n d above)
-      ∙ times_times n q.den p.den ∙ ap (λ k. n *ℤ pos k) (mul_comm q.den p.den))
+      (crossed m q.den d above)
+      (crossed n p.den d above ∙ ap (λ k. n *ℤ pos k) (mul_comm q.den p.den))
       ∙ sym (times_add m n (p.den * q.den)))
 
   -- the cross products, times d, are the numerators times the product of the denominators
@@ -95,17 +100,12 @@ module _ (m n : ℤ) (d : ℕ) (above : 0 < d) where
 
   left_cross : ((reduce m d).num *ℤ pos (reduce n d).den) *ℤ pos d ≡ m *ℤ pos dens
   unfolding dens
-  left_cross =
-      swap_times (reduce m d).num (reduce n d).den d
-      ∙ ap (λ z. z *ℤ pos (reduce n d).den) (reduce_cross m d above)
-      ∙ times_times m (reduce m d).den (reduce n d).den
+  left_cross = crossed m (reduce n d).den d above
 
   right_cross : ((reduce n d).num *ℤ pos (reduce m d).den) *ℤ pos d ≡ n *ℤ pos dens
   unfolding dens
   right_cross =
-      swap_times (reduce n d).num (reduce m d).den d
-      ∙ ap (λ z. z *ℤ pos (reduce m d).den) (reduce_cross n d above)
-      ∙ times_times n (reduce n d).den (reduce m d).den
+      crossed n (reduce m d).den d above
       ∙ ap (λ k. n *ℤ pos k) (mul_comm (reduce n d).den (reduce m d).den)
 
   pub over-≤ℚ_in : m ≤ℤ n → reduce m d ≤ℚ reduce n d

@@ -1,4 +1,3 @@
 pub mod SolverFunction
-pub mod KeptFunction
 pub mod SolverModel
 pub mod KeptModel

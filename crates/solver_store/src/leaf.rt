@@ -1,5 +1,6 @@
 //! What a solver of the standard form takes: variables, rows and an objective.
-use crate::{Sense, Set, SolverAff};
+use crate::{Sense, Set};
+use aff_core::AffineFunction;
 use lists::Sequence;
 
 /// A solver's variable.
@@ -9,6 +10,9 @@ pub enum LeafVar {
     /// At least 0.
     Nonneg,
 }
+
+/// An affine function of solver indices.
+pub type SolverAff = AffineFunction<usize>;
 
 /// A list of affine functions of solver indices.
 pub type SolverVec = Sequence<SolverAff>;

@@ -2,9 +2,9 @@ use Rattle.std.proofs.Common.{drop, sym, ap, subst, ◌∙◌, ◌+◌, refl}
 use Rattle.std.proofs.Math.ListN.{drop_of_length-le}
 use Rattle.std.specs.FinMap.{get}
 use Rattle.map_laws.specs.LoopLaws.{next_item}
+use Rattle.ratio_core.specs.AnsweredLaws.{passed_on}
 use Rattle.aff_core.specs.Arithmetic.{MeetsFit, added_at}
 use Rattle.aff_core.proofs.Steps.{AddsAsAll, adds-step, adds-end, adds-meets_fit}
-use Rattle.aff_core.specs.AnsweredLaws.{passed_on}
 use Rattle.aff_core.proofs.folds.add_products.Goals as goal
 
 pub loop-address-preserved : goal.loop-address-preserved

@@ -4,8 +4,8 @@ use Rattle.std.proofs.lemmas.List.{get_or_default}
 use Rattle.std.specs.declared.cmp.Ordering.TheVariants.{Less, Equal, Greater}
 use Rattle.map_laws.specs.LoopLaws.{next_item}
 use Rattle.ratio_core.specs.Rational.{SumFits, ◌+ℚ◌}
+use Rattle.ratio_core.specs.AnsweredLaws.{overflowed}
 use Rattle.aff_core.specs.Terms.{is_nonzero}
-use Rattle.aff_core.specs.AnsweredLaws.{overflowed}
 use Rattle.aff_core.proofs.Changed.{rest_of}
 use Rattle.aff_core.proofs.Summing.{first_kept, merged-start, merged-less, merged-equal, merged-greater, merged-refused, summed-more, summed-end_left, summed-end_right}
 use Rattle.aff_core.proofs.terms.summed_terms.Goals as goal

@@ -4,6 +4,7 @@ use Rattle.std.proofs.Math.ListN.{drop_of_length-le}
 use Rattle.std.specs.FinMap.{empty, entries}
 use Rattle.map_laws.specs.LoopLaws.{next_item}
 use Rattle.ratio_core.specs.Rational.{zero_ℚ}
+use Rattle.ratio_core.specs.AnsweredLaws.{passed_on, overflowed}
 use Rattle.aff_core.specs.Address.{address_cmp}
 use Rattle.aff_core.specs.Arithmetic.{TermsFit, added_terms, composed, expression_at}
 use Rattle.aff_core.specs.ArithmeticLaws.{is_composition, value_from-linear}
@@ -12,10 +13,9 @@ use Rattle.aff_core.specs.FunctionLaws.{entries_rise, filter_nonzero, filter_ris
 use Rattle.aff_core.specs.KeyOrder.{address_order}
 use Rattle.aff_core.specs.Rising.{RiseStrictly}
 use Rattle.aff_core.specs.Terms.{HaveNoZero, TimesFit, times}
-use Rattle.aff_core.specs.AnsweredLaws.{passed_on, overflowed}
 use Rattle.aff_core.proofs.Steps.{SubstitutesAsAll, substitutes-start, substitutes-step, substitutes-fits, substitutes-end}
 use Rattle.aff_core.proofs.Values.{IsAsAll, as_all-start, as_all-step, as_all-end, as_all-refused, found_is}
-use Rattle.aff_core.proofs.aff.Aff.substitute.Goals as goal
+use Rattle.aff_core.proofs.arithmetic.Aff.substitute.Goals as goal
 
 pub loop-address-init : goal.loop-address-init
 loop-address-init c =

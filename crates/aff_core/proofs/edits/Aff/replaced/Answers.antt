@@ -4,7 +4,7 @@ use Rattle.std.proofs.lemmas.Bool.{false≢true}
 use Rattle.ratio_core.specs.Rational.{Rational}
 use Rattle.aff_core.specs.Address.{Address}
 use Rattle.aff_core.proofs.Changed.{replaced_is, replaced_nonzero, replaced_rise, rest_of, with_given, with_removed}
-use Rattle.aff_core.proofs.aff.Aff.replaced.Goals as goal
+use Rattle.aff_core.proofs.edits.Aff.replaced.Goals as goal
 
 -- what is put together, said of the function's own terms
 parts : (xs ts items between : List (Address × Rational)) (from to : ℕ) → xs ≡ ts → items ≡ take from xs ++ (between ++ take (length xs - to) (drop to xs)) → items ≡ take from ts ++ (between ++ drop to ts)

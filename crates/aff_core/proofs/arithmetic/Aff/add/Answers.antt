@@ -2,6 +2,7 @@ use Rattle.std.specs.Prelude.{◌≡◌, filter}
 use Rattle.std.proofs.Common.{sym, ap, subst, ◌∙◌}
 use Rattle.std.specs.FinMap.{entries, from_sorted}
 use Rattle.ratio_core.specs.Rational.{SumFits, ◌+ℚ◌}
+use Rattle.ratio_core.specs.AnsweredLaws.{passed_on}
 use Rattle.aff_core.specs.Address.{address_cmp, address_total}
 use Rattle.aff_core.specs.Arithmetic.{sum_of, added_terms, TermsFit}
 use Rattle.aff_core.specs.ArithmeticLaws.{is_sum}
@@ -10,9 +11,8 @@ use Rattle.aff_core.specs.FunctionLaws.{entries_rise, filter_nonzero, filter_ris
 use Rattle.aff_core.specs.KeyOrder.{address_order}
 use Rattle.aff_core.specs.Rising.{RiseStrictly}
 use Rattle.aff_core.specs.Terms.{HaveNoZero, is_nonzero}
-use Rattle.aff_core.specs.AnsweredLaws.{passed_on}
 use Rattle.map_laws.specs.MadeLaws.{from_sorted-entries}
-use Rattle.aff_core.proofs.aff.Aff.add.Goals as goal
+use Rattle.aff_core.proofs.arithmetic.Aff.add.Goals as goal
 
 pub summed_terms-requires-clause-left : goal.summed_terms-requires-clause-left
 summed_terms-requires-clause-left c = subst RiseStrictly (sym c.terms.ensures.all) c.terms.ensures.rising

@@ -8,7 +8,7 @@ use Rattle.aff_core.specs.FunctionLaws.{filter_nonzero, filter_rises, function_o
 use Rattle.aff_core.specs.KeyOrder.{address_order}
 use Rattle.aff_core.specs.Rising.{RiseStrictly}
 use Rattle.aff_core.specs.Terms.{HaveNoZero, TimesFit, is_nonzero, times}
-use Rattle.aff_core.proofs.aff.Aff.scale.Goals as goal
+use Rattle.aff_core.proofs.arithmetic.Aff.scale.Goals as goal
 
 pub of-requires-clause-rising : goal.of-requires-clause-rising
 of-requires-clause-rising c =

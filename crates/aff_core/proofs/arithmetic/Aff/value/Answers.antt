@@ -7,7 +7,7 @@ use Rattle.aff_core.specs.Function.{terms_of}
 use Rattle.aff_core.specs.Arithmetic.{number_at}
 use Rattle.aff_core.specs.ArithmeticLaws.{value_from-value_of}
 use Rattle.aff_core.proofs.Values.{IsAsAll, as_all-start, as_all-step, as_all-end, as_all-refused, found_is}
-use Rattle.aff_core.proofs.aff.Aff.value.Goals as goal
+use Rattle.aff_core.proofs.arithmetic.Aff.value.Goals as goal
 
 refused : {T E : Type 0} (r : Result T E) (P : Type 0) (v : T) → IsErr r → (P → ⊥) → OkIff r P v
 refused (Ok x) P v is bars = absurd (subst T (sym is) tt)

@@ -5,7 +5,7 @@ use Rattle.aff_core.specs.Arithmetic.{expression_at}
 use Rattle.aff_core.specs.Function.{terms_of}
 use Rattle.aff_core.proofs.Steps.{SubstitutesAsAll}
 use Rattle.aff_core.proofs.Values.{IsAsAll}
-use Rattle.aff_core.proofs.aff.Aff.substitute.Given as goal
+use Rattle.aff_core.proofs.arithmetic.Aff.substitute.Given as goal
 
 -- what is left, from the sums so far, is as all of it is
 abbrev pub invariant-loop-address : goal.invariant-loop-address
