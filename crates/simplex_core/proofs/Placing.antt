@@ -1,8 +1,8 @@
 -- Numbers placed at the basic columns, one row after the other.
-use Rattle.std.specs.Prelude.{◌≡◌, ℕ, zero, suc, ◌+◌, ◌-◌, ◌<◌, ◌≤◌, List, [], ◌∷◌, ◌++◌, length, replicate, slice_set, refl}
+use Rattle.std.specs.Prelude.{◌≡◌, ℕ, zero, suc, ◌+◌, ◌-◌, ◌<◌, ◌≤◌, List, [], ◌∷◌, ◌++◌, length, replicate, slice_set}
 use Rattle.std.specs.List.{range_with_len}
 use Rattle.std.proofs.Common.{sym, ◌∙◌, ap, ap₂, arith, subst}
-use Rattle.std.proofs.lemmas.List.{get_or-replicate, get_or-set_other, get_or-set_same, get_or_append_left, get_or_push, length-set, length_push, length-replicate}
+use Rattle.std.proofs.lemmas.List.{get_or-replicate, get_or-set_other, get_or-set_same, length-set, length-replicate}
 use Rattle.ratio_core.specs.Rational.{Rational, neg_ℚ, one_ℚ, zero_ℚ, ◌*ℚ◌, ◌+ℚ◌, ◌-ℚ◌, ◌‹ℚ◌}
 use Rattle.rational_laws.specs.Field.{*ℚ-neg_ℚ, +ℚ-neg_ℚ, +ℚ-zero, neg_ℚ-zero, one-*ℚ, zero-*ℚ, zero-+ℚ}
 use Rattle.rational_laws.specs.Order.{not_‹ℚ_from_≤ℚ, zero_‹ℚ_one, ≤ℚ_refl}
@@ -11,25 +11,11 @@ use Rattle.simplex_laws.specs.BoundedSumLaws.{delta_other, delta_same, delta_sym
 use Rattle.simplex_form.specs.Form.{Form, second_cost}
 use Rattle.simplex_form.specs.Basis.{IsBasis, State, basic}
 use Rattle.simplex_form.specs.Board.{entry, point, price, ray, right_side}
+use Rattle.tableau_core.specs.ListLaws.{listed_more}
 use Rattle.tableau_core.specs.Row.{cell}
 use Rattle.tableau_core.specs.Start.{IsListOf}
 
 -- ---- lists of numbers
-
-pub lists_same : (m n : ℕ) (f g : ℕ → Rational) (ys : List Rational) → m ≡ n → ((k : ℕ) → k < m → f k ≡ g k) → IsListOf m f ys → IsListOf n g ys
-lists_same m n f g ys e h l = record {
-  long = l.long ∙ e;
-  cells = λ k b. let here : k < m = subst (λ x. k < x) (sym e) b in l.cells k here ∙ h k here;
-}
-
-pub listed_none : (f : ℕ → Rational) → IsListOf 0 f []
-listed_none f = record { long = refl; cells = λ k b. absurd (omega (arith, b)) }
-
-pub listed_more : (n : ℕ) (f : ℕ → Rational) (ys zs : List Rational) (y : Rational) → IsListOf n f ys → zs ≡ ys ++ y ∷ [] → y ≡ f n → IsListOf (n + 1) f zs
-listed_more n f ys zs y l e is = record {
-  long = ap length e ∙ length_push ys y ∙ ap (λ k. k + 1) l.long;
-  cells = λ k b. ap (λ x. cell x k) e ∙ same_or_other (cell (ys ++ y ∷ []) k ≡ f k) k n (λ q. get_or_push ys y zero_ℚ k (l.long ∙ sym q) ∙ is ∙ ap f (sym q)) (λ m. get_or_append_left ys (y ∷ []) zero_ℚ k (subst (λ x. k < x) (sym l.long) (omega (arith, b, m))) ∙ l.cells k (omega (arith, b, m)));
-}
 
 -- the numbers from a on
 pub from_none : (a j : ℕ) (f : ℕ → Rational) (ys : List Rational) → j ≡ a → ys ≡ [] → IsListOf (j - a) (λ k. f (a + k)) ys
@@ -40,7 +26,7 @@ from_none a j f ys e n = record { long = ap length n ∙ none_lem j a e; cells =
 
 pub from_more : (a j : ℕ) (f : ℕ → Rational) (ys zs : List Rational) (y : Rational) → a ≤ j → IsListOf (j - a) (λ k. f (a + k)) ys → zs ≡ ys ++ y ∷ [] → y ≡ f j → IsListOf (j + 1 - a) (λ k. f (a + k)) zs
 from_more a j f ys zs y b l e is =
-    subst (λ n. IsListOf n (λ k. f (a + k)) zs) (more_lem j a b) (listed_more (j - a) (λ k. f (a + k)) ys zs y l e (is ∙ ap f (back_lem j a b)))
+    subst (λ n. IsListOf n (λ k. f (a + k)) zs) (more_lem j a b) (listed_more (j - a) (λ k. f (a + k)) ys zs y l (is ∙ ap f (back_lem j a b)) e)
   where
     more_lem : (j a : ℕ) → a ≤ j → j - a + 1 ≡ j + 1 - a
     more_lem j a b = omega (arith, b)

@@ -10,9 +10,10 @@ use crate::fault::SolveFault;
 use crate::form::StdForm;
 use crate::run::run;
 use lists::{Memory, Sequence};
+use ratio_core::NumberFault;
 use sparse_board::Board;
 use std::alloc::Global;
-use tableau_core::{BoardFault, DenseBoard, Tableau};
+use tableau_core::{DenseBoard, Tableau};
 
 /// Solves a form by Bland's rule in two phases, with an allowance of `pivots` pivots.
 ///
@@ -53,11 +54,11 @@ fn solve_on<T: Tableau + Drop>(
     let costs = form.costs.as_slice();
     match T::start(alloc, form.m, form.c, form.matrix.as_slice(), right, costs) {
         Ok(board) => run(alloc, board, pivots),
-        Err(BoardFault::Overflow) => {
+        Err(NumberFault::Overflow) => {
             let basis = first_basis(alloc, form.m, form.c)?;
             Err(SolveFault::Overflow { basis })
         }
-        Err(BoardFault::Memory) => Err(SolveFault::Memory),
+        Err(NumberFault::Memory) => Err(SolveFault::Memory),
     }
 }
 

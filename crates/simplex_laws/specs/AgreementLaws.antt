@@ -1,7 +1,7 @@
 -- Readings that agree below the sizes lead to the same turn, to the same tests of a pivot, and to
 -- readings that agree.
 use Rattle.std.specs.Prelude.{◌≡◌, ℕ, ◌+◌, ◌<◌, Bool, true, false, ◌&&◌, ◌||◌, not, nat_eq, nat_le, nat_lt, Option, Some, None, IsTrue, if◌then◌else◌, slice_index, slice_set, refl}
-use Rattle.std.proofs.Common.{◌∙◌, ap, ap₂, arith}
+use Rattle.std.proofs.Common.{◌∙◌, ap, ap₂, arith, sym}
 use Rattle.ratio_core.specs.Rational.{Rational, fits, inverse_ℚ, neg_ℚ, one_ℚ, rational_eq, sum_fits, zero_ℚ, ◌*ℚ◌, ◌-ℚ◌, ◌/ℚ◌}
 use Rattle.simplex_form.specs.Basis.{pivoted}
 use Rattle.simplex_form.specs.Fit.{divided_row_fits, lowered_fits, lowered_prices_fit, lowered_row_fits, pivot_fits, uses_first}
@@ -16,21 +16,27 @@ use Rattle.simplex_laws.specs.SearchLaws.{all_below_same, best_below_same, least
 pub real_column : (q c m : ℕ) → q < c → q < c + m
 real_column q c m h = omega (arith, h)
 
-artificial_column : (c m k : ℕ) → k < m → c + k < c + m
+pub artificial_column : (c m k : ℕ) → k < m → c + k < c + m
 artificial_column c m k b = omega (arith, b)
 
 -- ---- how agreement goes on
 
-pub agrees_itself : (in_first : Bool) (R : Readings) → Agrees in_first R R
-agrees_itself in_first R = record {
-  rows = refl;
-  reals = refl;
-  basis = refl;
-  entries = λ i j b c. refl;
-  rights = λ i b. refl;
-  first = λ u j b. refl;
-  second = λ j b. refl;
+pub agrees_back : (in_first : Bool) (R S : Readings) → Agrees in_first R S → Agrees in_first S R
+agrees_back in_first R S h = record {
+  rows = sym h.rows;
+  reals = sym h.reals;
+  basis = sym h.basis;
+  entries = λ i j b c. sym (h.entries i j (row i b) (within j c));
+  rights = λ i b. sym (h.rights i (row i b));
+  first = λ u j c. sym (h.first u j (within j c));
+  second = λ j c. sym (h.second j (within j c));
 }
+  where
+    row : (i : ℕ) → i < R.rows → i < S.rows
+    row i b = omega (arith, h.rows, b)
+
+    within : (j : ℕ) → j < R.reals + R.rows → j < S.reals + S.rows
+    within j c = omega (arith, h.rows, h.reals, c)
 
 pub agrees_chain : (in_first : Bool) (R S T : Readings) → Agrees in_first R S → Agrees in_first S T
     → Agrees in_first R T

@@ -7,7 +7,7 @@ use Rattle.rational_laws.specs.Field.{*ℚ-+ℚ, *ℚ-zero, *ℚ_assoc, *ℚ_com
 use Rattle.rational_laws.specs.Order.{nonneg_add, nonneg_mul, nonpos_mul, not_‹ℚ_from_≤ℚ, ≤ℚ-*ℚ}
 use Rattle.simplex_form.specs.BoundedSums.{sum_to}
 use Rattle.simplex_form.specs.Form.{Form, IsFeasible, IsInfeasible, IsOptimal, IsUnbounded, cost_at, left_side, weighted}
-use Rattle.simplex_laws.specs.BoundedSumLaws.{sum_to-*ℚ, sum_to-+ℚ, sum_to-≤ℚ, sum_to_same, sum_to_zero}
+use Rattle.simplex_laws.specs.BoundedSumLaws.{sum_to-*ℚ, sum_to-+ℚ, sum_to-≤ℚ, sum_to_nonpos, sum_to_same}
 use Rattle.simplex_laws.specs.PivotLaws.{products_regrouped}
 
 -- the multipliers make of the right sides what they make of each column, times the feasible point
@@ -32,10 +32,9 @@ pub infeasible-none : (F : Form) (y z : ℕ → Rational) → IsInfeasible F y �
 infeasible-none F y z farkas h =
     not_‹ℚ_from_≤ℚ (weighted F y F.right) zero_ℚ
     (subst (λ c. c ≤ℚ zero_ℚ) (sym (weighted_by_point F y z h))
-    (subst (λ c. sum_to F.reals (λ j. weighted F y (λ i. F.matrix i j) *ℚ z j) ≤ℚ c)
-    (sum_to_zero F.reals) (sum_to-≤ℚ F.reals (λ j. weighted F y (λ i. F.matrix i j) *ℚ z j)
-    (λ _. zero_ℚ) (λ j b. nonpos_times (weighted F y (λ i. F.matrix i j)) (z j)
-    (farkas.nonpos j b) (h.nonneg j b)))))
+    (sum_to_nonpos F.reals (λ j. weighted F y (λ i. F.matrix i j) *ℚ z j)
+    (λ j b. nonpos_times (weighted F y (λ i. F.matrix i j)) (z j) (farkas.nonpos j b)
+    (h.nonneg j b))))
     farkas.above
   where
     nonpos_times : (p q : Rational) → p ≤ℚ zero_ℚ → zero_ℚ ≤ℚ q → (p *ℚ q) ≤ℚ zero_ℚ

@@ -4,7 +4,7 @@ use Rattle.std.proofs.Common.{sym, ◌∙◌, ap, ap₂, arith, subst, true≢fa
 use Rattle.std.proofs.lemmas.Bool.{cond-true, eq-eqb, eqb-true}
 use Rattle.ratio_core.specs.Rational.{Rational, neg_ℚ, one_ℚ, zero_ℚ, ◌*ℚ◌, ◌+ℚ◌, ◌-ℚ◌, ◌≤ℚ◌}
 use Rattle.rational_laws.specs.Field.{*ℚ-+ℚ, *ℚ-zero, *ℚ_comm, +ℚ-zero, +ℚ_inner_comm, neg_ℚ-sum, neg_ℚ-zero, one-*ℚ, zero-*ℚ, zero-+ℚ}
-use Rattle.rational_laws.specs.Order.{nonneg_add, ≤ℚ-+ℚ, ≤ℚ_refl}
+use Rattle.rational_laws.specs.Order.{≤ℚ-+ℚ, ≤ℚ_refl}
 use Rattle.simplex_form.specs.BoundedSums.{delta, sum_to}
 
 -- ---- sums
@@ -112,11 +112,21 @@ sum_to_delta_right n r f h = sum_to_same n (λ k. f k *ℚ delta r k) (λ k. del
 
 -- ---- order
 
+pub sum_to-≤ℚ : (n : ℕ) (f g : ℕ → Rational) → ((k : ℕ) → k < n → f k ≤ℚ g k)
+    → sum_to n f ≤ℚ sum_to n g
+sum_to-≤ℚ zero f g h = ≤ℚ_refl zero_ℚ
+sum_to-≤ℚ (suc n) f g h = ≤ℚ-+ℚ (sum_to n f) (sum_to n g) (f n) (g n)
+    (sum_to-≤ℚ n f g (λ k b. h k (omega arith))) (h n (omega arith))
+
 pub sum_to_nonneg : (n : ℕ) (f : ℕ → Rational) → ((k : ℕ) → k < n → zero_ℚ ≤ℚ f k)
     → zero_ℚ ≤ℚ sum_to n f
-sum_to_nonneg zero f h = ≤ℚ_refl zero_ℚ
-sum_to_nonneg (suc n) f h =
-    nonneg_add (sum_to n f) (f n) (sum_to_nonneg n f (λ k b. h k (omega arith))) (h n (omega arith))
+sum_to_nonneg n f h =
+    subst (λ x. x ≤ℚ sum_to n f) (sum_to_zero n) (sum_to-≤ℚ n (λ _. zero_ℚ) f h)
+
+pub sum_to_nonpos : (n : ℕ) (f : ℕ → Rational) → ((k : ℕ) → k < n → f k ≤ℚ zero_ℚ)
+    → sum_to n f ≤ℚ zero_ℚ
+sum_to_nonpos n f h =
+    subst (λ x. sum_to n f ≤ℚ x) (sum_to_zero n) (sum_to-≤ℚ n f (λ _. zero_ℚ) h)
 
 -- the sum of numbers that aren't negative is at least each of them
 pub term-≤ℚ-sum_to : (n r : ℕ) (f : ℕ → Rational) → ((k : ℕ) → k < n → zero_ℚ ≤ℚ f k) → r < n
@@ -135,9 +145,3 @@ term-≤ℚ-sum_to (suc n) r f h b = same_or_other _ r n at_end
     below_end e =
         subst (λ x. x ≤ℚ (sum_to n f +ℚ f n)) (+ℚ-zero (f r))
         (≤ℚ-+ℚ (f r) (sum_to n f) zero_ℚ (f n) e (h n (omega arith)))
-
-pub sum_to-≤ℚ : (n : ℕ) (f g : ℕ → Rational) → ((k : ℕ) → k < n → f k ≤ℚ g k)
-    → sum_to n f ≤ℚ sum_to n g
-sum_to-≤ℚ zero f g h = ≤ℚ_refl zero_ℚ
-sum_to-≤ℚ (suc n) f g h = ≤ℚ-+ℚ (sum_to n f) (sum_to n g) (f n) (g n)
-    (sum_to-≤ℚ n f g (λ k b. h k (omega arith))) (h n (omega arith))

@@ -12,8 +12,9 @@ use Rattle.simplex_form.specs.Readings.{readings}
 use Rattle.simplex_form.specs.Standing.{Enters, HasNoNegativePrice, HasNoPositiveEntry, IsAnswered, IsDrained, IsSwept, Says, Stands, infeasibility}
 use Rattle.simplex_form.specs.declared.turn.Turn.{Turn}
 use Rattle.simplex_form.specs.declared.turn.Turn.TheVariants.{Infeasible, Optimal, Pivot, Stuck, Unbounded}
-use Rattle.simplex_laws.specs.BoundedSumLaws.{delta_other, delta_same, same_or_other, sum_to_nonneg, sum_to_same, sum_to_zeros}
-use Rattle.simplex_laws.specs.TurnLaws.{column_real, first_cost_real, second_cost_artificial, second_cost_real, sum_to_nonpos}
+use Rattle.simplex_laws.specs.AgreementLaws.{real_column}
+use Rattle.simplex_laws.specs.BoundedSumLaws.{delta_other, delta_same, same_or_other, sum_to_nonneg, sum_to_nonpos, sum_to_same, sum_to_zeros}
+use Rattle.simplex_laws.specs.TurnLaws.{column_real, first_cost_real, past_reals, second_cost_artificial, second_cost_real}
 use Rattle.simplex_laws.specs.ValueLaws.{equal_costs, point_meets, price_by_multipliers, ray_cost, ray_stays, sum_to_shorter, weighted-multiplier}
 
 pub delta_nonneg : (i k : ℕ) → zero_ℚ ≤ℚ delta i k
@@ -24,9 +25,6 @@ delta_nonneg i k =
     (λ n. subst (λ x. zero_ℚ ≤ℚ x) (sym (delta_other i k n)) (≤ℚ_refl zero_ℚ))
 
 -- ---- from all columns to the real ones
-
-past_reals : (c m : ℕ) → c ≤ c + m
-past_reals c m = omega arith
 
 module _ (F : Form) (x : ℕ → Rational) where
   -- the equations, where x is 0 at the artificial columns
@@ -121,9 +119,6 @@ module _ (F : Form) (s : State) (h : Stands F s) where
       other_lem : (q c j : ℕ) → q < c → c ≤ j → q ≡ j → ⊥
       other_lem q c j h k e = absurd (omega (arith, h, k, e))
 
-  within_columns : (q c m : ℕ) → q < c → q < c + m
-  within_columns q c m h = omega (arith, h)
-
   pub unbounded_right : (q : ℕ) → IsDrained (readings F s) → IsSwept (readings F s)
       → Enters (readings F s) (price F s (second_cost F)) q → HasNoPositiveEntry (readings F s) q
       → IsUnbounded F (point F s) (ray F s q)
@@ -131,9 +126,9 @@ module _ (F : Form) (s : State) (h : Stands F s) where
     feasible = point_feasible d;
     nonneg = λ j b. ray_nonneg q none j;
     stays = λ i b. sym (real_left_side F (ray F s q) (ray_real q e.real w) i)
-        ∙ ray_stays F s h.basis q i (within_columns q F.reals F.rows e.real) b;
+        ∙ ray_stays F s h.basis q i (real_column q F.reals F.rows e.real) b;
     falls = subst (λ x. x ‹ℚ zero_ℚ) (sym (ray_cost F s h.basis (second_cost F) q
-        (within_columns q F.reals F.rows e.real)) ∙ real_cost F (ray F s q)) e.negative;
+        (real_column q F.reals F.rows e.real)) ∙ real_cost F (ray F s q)) e.negative;
   }
 
   pub end_right : (t : Turn) → Says F s t → IsAnswered F s t

@@ -9,7 +9,7 @@ use Rattle.simplex_form.specs.BoundedSums.{delta, sum_to}
 use Rattle.simplex_form.specs.Form.{column}
 use Rattle.simplex_form.specs.Trail.{next}
 use Rattle.simplex_laws.specs.BoundedSumLaws.{delta_other, delta_same, same_or_other, sum_to_delta, sum_to_delta_right, sum_to_same}
-use Rattle.simplex_laws.specs.PivotLaws.{pivot-weighted, pivoted_at, pivoted_off, pivoted_same, products_regrouped, times-pivoted}
+use Rattle.simplex_laws.specs.PivotLaws.{pivot-weighted, pivoted_each, pivoted_off, pivoted_same, products_regrouped, times-pivoted}
 
 -- ---- a column of the board becomes a unit vector
 
@@ -25,20 +25,16 @@ lowered_by_zero d e s c h = ap (λ x. d -ℚ e *ℚ (x *ℚ c)) h ∙ zero_lem d
 pub pivoted_itself : (r : ℕ) (e : ℕ → Rational) (i : ℕ) → ¬ (e r ≡ zero_ℚ)
     → pivoted r e e i ≡ delta i r
 pivoted_itself r e i n =
-    same_or_other (pivoted r e e i ≡ delta i r) i r
-    (λ q. subst (λ j. pivoted r e e j ≡ delta j r) (sym q)
-    (pivoted_at r e e ∙ *ℚ-inverse_ℚ (e r) n ∙ sym (delta_same r)))
-    (λ m. pivoted_off r e e i m
-    ∙ lowered_by_itself (e i) (e r *ℚ inverse_ℚ (e r)) (*ℚ-inverse_ℚ (e r) n)
+    pivoted_each (λ k x. x ≡ delta k r) r e e i (*ℚ-inverse_ℚ (e r) n ∙ sym (delta_same r))
+    (λ m. lowered_by_itself (e i) (e r *ℚ inverse_ℚ (e r)) (*ℚ-inverse_ℚ (e r) n)
     ∙ sym (delta_other i r m))
 
 -- where the pivot's row has 0, nothing changes
 pub pivoted_zero : (r : ℕ) (e w : ℕ → Rational) (i : ℕ) → w r ≡ zero_ℚ → pivoted r e w i ≡ w i
 pivoted_zero r e w i h =
-    same_or_other (pivoted r e w i ≡ w i) i r
-    (λ q. subst (λ j. pivoted r e w j ≡ w j) (sym q)
-    (pivoted_at r e w ∙ ap (λ x. x *ℚ inverse_ℚ (e r)) h ∙ zero-*ℚ (inverse_ℚ (e r)) ∙ sym h))
-    (λ m. pivoted_off r e w i m ∙ lowered_by_zero (w i) (e i) (w r) (inverse_ℚ (e r)) h)
+    pivoted_each (λ k x. x ≡ w k) r e w i
+    (ap (λ x. x *ℚ inverse_ℚ (e r)) h ∙ zero-*ℚ (inverse_ℚ (e r)) ∙ sym h)
+    (λ _. lowered_by_zero (w i) (e i) (w r) (inverse_ℚ (e r)) h)
 
 -- and where the entering column has 0, its row stays
 pub pivoted_unmoved : (r : ℕ) (e w : ℕ → Rational) (i : ℕ) → ¬ (i ≡ r) → e i ≡ zero_ℚ

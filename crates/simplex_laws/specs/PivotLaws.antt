@@ -27,16 +27,22 @@ pivoted_off r e w i n = by_test (nat_eq i r) refl
     by_test true h = absurd (n (eqb-true i r h))
     by_test false h = refl
 
+-- a fact of the pivot's row and of each other
+pub pivoted_each : (P : ℕ → Rational → Type 0) (r : ℕ) (e w : ℕ → Rational) (i : ℕ)
+    → P r (w r *ℚ inverse_ℚ (e r))
+    → (¬ (i ≡ r) → P i (w i -ℚ e i *ℚ (w r *ℚ inverse_ℚ (e r)))) → P i (pivoted r e w i)
+pivoted_each P r e w i at off =
+    same_or_other (P i (pivoted r e w i)) i r
+    (λ q. subst (λ k. P k (pivoted r e w k)) (sym q) (subst (P r) (sym (pivoted_at r e w)) at))
+    (λ n. subst (P i) (sym (pivoted_off r e w i n)) (off n))
+
 -- it reads its row and the pivot's row alone
 pub pivoted_same : (r : ℕ) (e w v : ℕ → Rational) (i : ℕ) → w i ≡ v i → w r ≡ v r
     → pivoted r e w i ≡ pivoted r e v i
 pivoted_same r e w v i here at =
-    same_or_other (pivoted r e w i ≡ pivoted r e v i) i r
-    (λ h. subst (λ k. pivoted r e w k ≡ pivoted r e v k) (sym h)
-    (pivoted_at r e w ∙ ap (λ x. x *ℚ inverse_ℚ (e r)) at ∙ sym (pivoted_at r e v)))
-    (λ n.
-    pivoted_off r e w i n ∙ ap₂ (λ x y. x -ℚ e i *ℚ (y *ℚ inverse_ℚ (e r))) here at
-    ∙ sym (pivoted_off r e v i n))
+    pivoted_each (λ k x. x ≡ pivoted r e v k) r e w i
+    (ap (λ x. x *ℚ inverse_ℚ (e r)) at ∙ sym (pivoted_at r e v))
+    (λ n. ap₂ (λ x y. x -ℚ e i *ℚ (y *ℚ inverse_ℚ (e r))) here at ∙ sym (pivoted_off r e v i n))
 
 -- the new number of the pivot's row, times the entry, is the old one
 pub quotient_back : (e w : Rational) → ¬ (e ≡ zero_ℚ) → e *ℚ (w *ℚ inverse_ℚ e) ≡ w

@@ -1,7 +1,7 @@
 -- What the least and the best below a bound are, and tests of the numbers below one.
 use Rattle.std.specs.Prelude.{◌≡◌, ℕ, zero, suc, ◌+◌, ◌<◌, ◌≤◌, Bool, true, false, ◌&&◌, ◌||◌, Option, Some, None, IfSome, if◌then◌else◌, refl}
 use Rattle.std.proofs.Common.{sym, ◌∙◌, ap, ap₂, arith, subst, true≢false}
-use Rattle.std.proofs.lemmas.Bool.{and_left, and_right, or_parts}
+use Rattle.std.proofs.lemmas.Bool.{and_left, and_parts, and_right, or_parts}
 use Rattle.simplex_form.specs.Search.{all_below, best_below, better_of, least_below, least_row, or_else, row_or_else, some_below}
 use Rattle.simplex_laws.specs.BoundedSumLaws.{same_or_other}
 
@@ -124,12 +124,8 @@ all_below_more n f e g = subst (λ m. all_below m f ≡ true) (more_lem n) (ap�
 pub all_below_at : (n k : ℕ) (f : ℕ → Bool) → all_below n f ≡ true → k < n → f k ≡ true
 all_below_at zero k f e b = absurd (omega arith)
 all_below_at (suc n) k f e b = same_or_other (f k ≡ true) k n
-    (λ q. ap f q ∙ (both_lem (all_below n f) (f n) e).1)
-    (λ m. all_below_at n k f (both_lem (all_below n f) (f n) e).0 (omega (arith, m)))
-  where
-    both_lem : (a b : Bool) → (a && b) ≡ true → (a ≡ true) × (b ≡ true)
-    both_lem true b e = (refl, e)
-    both_lem false b e = absurd (true≢false (sym e))
+    (λ q. ap f q ∙ (and_parts (all_below n f) (f n) e).1)
+    (λ m. all_below_at n k f (and_parts (all_below n f) (f n) e).0 (omega (arith, m)))
 
 pub all_below_all : (n : ℕ) (f : ℕ → Bool) → ((k : ℕ) → k < n → f k ≡ true) → all_below n f ≡ true
 all_below_all zero f e = refl

@@ -16,9 +16,8 @@ use Rattle.simplex_form.specs.declared.turn.Phase.TheVariants.{First, Second, Sw
 use Rattle.simplex_form.specs.declared.turn.Turn.{Turn}
 use Rattle.simplex_form.specs.declared.turn.Turn.TheVariants.{Infeasible, Optimal, Pivot, Stuck, Unbounded}
 use Rattle.simplex_laws.specs.BoardLaws.{basic-pivot_at, basic-pivot_off, basis-pivot, entry-pivot, right_side-pivot}
-use Rattle.simplex_laws.specs.BoundedSumLaws.{same_or_other}
 use Rattle.simplex_laws.specs.InverseLaws.{pivoted_unmoved, pivoted_zero}
-use Rattle.simplex_laws.specs.PivotLaws.{pivoted_at, pivoted_off, quotient_back}
+use Rattle.simplex_laws.specs.PivotLaws.{pivoted_each, quotient_back}
 use Rattle.simplex_laws.specs.RuleLaws.{at_most_from_first}
 use Rattle.simplex_laws.specs.AgreementLaws.{real_column}
 
@@ -49,14 +48,10 @@ module _ (F : Form) (s : State) (h : Stands F s) where
   leaving_nonneg : (q r i : ℕ) → Leaves (readings F s) q r → i < F.rows
       → zero_ℚ ≤ℚ pivoted r (entry F s q) (right_side F s) i
   leaving_nonneg q r i k b =
-      same_or_other (zero_ℚ ≤ℚ pivoted r (entry F s q) (right_side F s) i) i r
-      (λ e. subst (λ j. zero_ℚ ≤ℚ pivoted r (entry F s q) (right_side F s) j) (sym e)
-      (subst (λ x. zero_ℚ ≤ℚ x) (sym (pivoted_at r (entry F s q) (right_side F s)))
-      (step_nonneg q r k)))
-      (λ m. subst (λ x. zero_ℚ ≤ℚ x) (sym (pivoted_off r (entry F s q) (right_side F s) i m))
-      (within_step (right_side F s i) (entry F s q i) (ratio (readings F s) q r) zero_ℚ
+      pivoted_each (λ _ x. zero_ℚ ≤ℚ x) r (entry F s q) (right_side F s) i (step_nonneg q r k)
+      (λ _. within_step (right_side F s i) (entry F s q i) (ratio (readings F s) q r) zero_ℚ
       (h.nonneg i b) (step_nonneg q r k) (λ a. at_most_from_first (ratio (readings F s) q r)
-      (ratio (readings F s) q i) (basic s r) (basic s i) (k.least i b a))))
+      (ratio (readings F s) q i) (basic s r) (basic s i) (k.least i b a)))
 
   pub nonneg-leaving : (phase : Phase) (q r : ℕ) → Leaves (readings F s) q r → (i : ℕ) → i < F.rows
       → zero_ℚ ≤ℚ right_side F (pivot F s phase r q) i

@@ -15,10 +15,11 @@ use Rattle.simplex_form.specs.Standing.{IsAnswered, Stands}
 use Rattle.simplex_form.specs.Trail.{goes_on, next, reached, stop, trail, trail_from}
 use Rattle.simplex_form.specs.Turns.{turn}
 use Rattle.simplex_form.specs.declared.turn.Phase.{Phase}
+use Rattle.simplex_laws.specs.AgreementLaws.{artificial_column}
 use Rattle.simplex_laws.specs.BoundedSumLaws.{delta_sym, sum_to_delta, sum_to_same, sum_to_zero}
 use Rattle.simplex_laws.specs.EndLaws.{end_right}
 use Rattle.simplex_laws.specs.StandingLaws.{after_stands}
-use Rattle.simplex_laws.specs.TurnLaws.{column_artificial, column_real, first_cost_artificial, first_cost_real, second_cost_artificial, turn_says}
+use Rattle.simplex_laws.specs.TurnLaws.{column_real, column_unit, first_cost_artificial, first_cost_real, past_reals, second_cost_artificial, turn_says}
 
 -- ---- the start
 
@@ -32,16 +33,7 @@ module _ (F : Form) where
   basic-start i b = get_or-range_with_len F.reals F.rows i 0 b
 
   start_column : (i k : ℕ) → i < F.rows → column F (basic (start F) i) k ≡ delta i k
-  start_column i k b =
-      ap (λ j. column F j k) (basic-start i b)
-      ∙ column_artificial F (F.reals + i) k (least_lem F.reals i)
-      ∙ ap (λ j. delta j k) (back_lem F.reals i)
-    where
-      least_lem : (c i : ℕ) → c ≤ c + i
-      least_lem c i = omega arith
-
-      back_lem : (c i : ℕ) → (c + i) - c ≡ i
-      back_lem c i = omega arith
+  start_column i k b = ap (λ j. column F j k) (basic-start i b) ∙ column_unit F i k
 
   start_inverse_lem : IsInverse F.rows (column F) (basic (start F)) delta
   start_inverse_lem = record {
@@ -66,12 +58,9 @@ module _ (F : Form) where
   start_basis = record {
     long = start_long;
     within = λ i b. subst (λ j. j < F.reals + F.rows) (sym (basic-start i b))
-        (within_lem F.reals F.rows i b);
+        (artificial_column F.reals F.rows i b);
     inverse = start_inverse start_inverse_lem;
   }
-    where
-      within_lem : (c m i : ℕ) → i < m → c + i < c + m
-      within_lem c m i h = omega (arith, h)
 
   pub right_side-start : (i : ℕ) → i < F.rows → right_side F (start F) i ≡ F.right i
   unfolding start
@@ -89,9 +78,6 @@ module _ (F : Form) where
       ap (λ x. cost j -ℚ x)
       (sum_to_same F.rows (λ i. cost (basic (start F) i) *ℚ entry F (start F) j i) f
       (λ i b. ap₂ ◌*ℚ◌ (ap cost (basic-start i b)) (entry-start j i b) ∙ e i b))
-
-  past_reals : (c i : ℕ) → c ≤ c + i
-  past_reals c i = omega arith
 
   -- the first price of a real column is minus the sum of its entries
   pub first_price-start_real : (j : ℕ) → j < F.reals

@@ -1,11 +1,11 @@
 -- Each turn says what it is to say; above all the first phase is never unbounded, and ends with
 -- each artificial column at 0 where it isn't infeasible.
-use Rattle.std.specs.Prelude.{◌≡◌, ℕ, zero, suc, ◌-◌, ◌<◌, ◌≤◌, Bool, ◌&&◌, true, false, cond, nat_lt, Option, Some, None, if◌then◌else◌, refl}
+use Rattle.std.specs.Prelude.{◌≡◌, ℕ, ◌+◌, ◌-◌, ◌<◌, ◌≤◌, Bool, ◌&&◌, true, false, cond, nat_lt, Option, Some, None, if◌then◌else◌, refl}
 use Rattle.std.proofs.Common.{sym, ◌∙◌, ap, arith, subst, true≢false}
-use Rattle.std.proofs.lemmas.Bool.{cond-false, cond-true, le-leb, le-ltb, leb-true, lt-ltb}
+use Rattle.std.proofs.lemmas.Bool.{and_parts, cond-false, cond-true, le-leb, le-ltb, leb-true, lt-ltb}
 use Rattle.ratio_core.specs.Rational.{Rational, neg_ℚ, one_ℚ, zero_ℚ, ◌*ℚ◌, ◌+ℚ◌, ◌-ℚ◌, ◌≤ℚ◌, ◌‹ℚ◌}
 use Rattle.rational_laws.specs.Field.{one-*ℚ, zero-+ℚ}
-use Rattle.rational_laws.specs.Order.{nonneg_mul, nonneg_neg, nonpos_mul, not_‹ℚ_from_≤ℚ, zero_‹ℚ_one, ≤ℚ_antisymm, ≤ℚ_from_‹ℚ, ‹ℚ-≤ℚ_trans, ≤ℚ_refl, ≤ℚ-+ℚ}
+use Rattle.rational_laws.specs.Order.{nonneg_mul, nonneg_neg, nonpos_mul, not_‹ℚ_from_≤ℚ, zero_‹ℚ_one, ≤ℚ_antisymm, ≤ℚ_from_‹ℚ, ‹ℚ-≤ℚ_trans, ≤ℚ_refl}
 use Rattle.rational_laws.specs.Tests.{ge_from_failed, lt_from_test}
 use Rattle.simplex_form.specs.Basis.{State, basic}
 use Rattle.simplex_form.specs.Board.{entry, price, right_side}
@@ -16,7 +16,7 @@ use Rattle.simplex_form.specs.Standing.{Enters, HasNoNegativePrice, HasNoPositiv
 use Rattle.simplex_form.specs.Turns.{entering, enters, first_turn, infeasible_turn, is_artificial, is_below, is_left_above, leaving, multipliers_fit, second_turn, sweep_turn, swept_entry, turn, turn_in}
 use Rattle.simplex_form.specs.declared.turn.Phase.{Phase}
 use Rattle.simplex_form.specs.declared.turn.Phase.TheVariants.{First, Second, Sweep}
-use Rattle.simplex_laws.specs.BoundedSumLaws.{term-≤ℚ-sum_to}
+use Rattle.simplex_laws.specs.BoundedSumLaws.{sum_to_nonpos, term-≤ℚ-sum_to}
 use Rattle.simplex_laws.specs.RuleLaws.{IsEntering, IsLeaving, IsSweep, entering_is, leaving_is, swept_entry_is}
 use Rattle.simplex_laws.specs.SearchLaws.{some_below_false, some_below_true}
 
@@ -48,6 +48,18 @@ unfolding column
 column_artificial F j i b =
     cond-false (nat_lt j F.reals) (F.matrix i j) (delta (j - F.reals) i) (le-ltb j F.reals b)
 
+pub past_reals : (c k : ℕ) → c ≤ c + k
+past_reals c k = omega arith
+
+-- that of row k is a unit vector
+pub column_unit : (F : Form) (k i : ℕ) → column F (F.reals + k) i ≡ delta k i
+column_unit F k i =
+    column_artificial F (F.reals + k) i (past_reals F.reals k)
+    ∙ ap (λ j. delta j i) (back_lem F.reals k)
+  where
+    back_lem : (c k : ℕ) → (c + k) - c ≡ k
+    back_lem c k = omega arith
+
 first_cost_nonneg : (F : Form) (j : ℕ) → zero_ℚ ≤ℚ first_cost F j
 unfolding first_cost
 first_cost_nonneg F j = by_test (nat_lt j F.reals)
@@ -57,14 +69,6 @@ first_cost_nonneg F j = by_test (nat_lt j F.reals)
     by_test false = ≤ℚ_from_‹ℚ zero_ℚ one_ℚ zero_‹ℚ_one
 
 -- ---- the first phase
-
-pub sum_to_nonpos : (n : ℕ) (f : ℕ → Rational) → ((k : ℕ) → k < n → f k ≤ℚ zero_ℚ)
-    → sum_to n f ≤ℚ zero_ℚ
-sum_to_nonpos zero f h = ≤ℚ_refl zero_ℚ
-sum_to_nonpos (suc n) f h =
-    subst (λ x. (sum_to n f +ℚ f n) ≤ℚ x) (zero-+ℚ zero_ℚ)
-    (≤ℚ-+ℚ (sum_to n f) zero_ℚ (f n) zero_ℚ (sum_to_nonpos n f (λ k b. h k (omega arith)))
-    (h n (omega arith)))
 
 -- where no entry of a real column is positive, its first price isn't negative
 first_price_nonneg : (F : Form) (s : State) (q : ℕ) → HasNoPositiveEntry (readings F s) q
@@ -108,16 +112,12 @@ infeasibility-above F s nonneg e = by_row (some_below_true F.rows
     term : ℕ → Rational
     term k = first_cost F (basic s k) *ℚ right_side F s k
 
-    both_true : (a b : Bool) → (a && b) ≡ true → (a ≡ true) × (b ≡ true)
-    both_true true b e = (refl, e)
-    both_true false b e = absurd (true≢false (sym e))
-
     by_row : (k : ℕ) × (k < F.rows)
         × ((is_artificial (readings F s) (basic s k) && is_below zero_ℚ (right_side F s k)) ≡ true)
         → zero_ℚ ‹ℚ infeasibility F s
     by_row found =
         let k : ℕ = found.0 in
-        let tests : (is_artificial (readings F s) (basic s k) ≡ true) × (is_below zero_ℚ (right_side F s k) ≡ true) = both_true (is_artificial (readings F s) (basic s k)) (is_below zero_ℚ (right_side F s k)) found.2 in
+        let tests : (is_artificial (readings F s) (basic s k) ≡ true) × (is_below zero_ℚ (right_side F s k) ≡ true) = and_parts (is_artificial (readings F s) (basic s k)) (is_below zero_ℚ (right_side F s k)) found.2 in
         let value : right_side F s k ≡ term k = sym (ap (λ x. x *ℚ right_side F s k)
         (first_cost_artificial F (basic s k) (leb-true F.reals (basic s k) tests.0))
         ∙ one-*ℚ (right_side F s k)) in

@@ -1,44 +1,33 @@
 -- What is read of a board as it is kept, before and after a pivot.
-use Rattle.std.specs.Prelude.{◌≡◌, ℕ, zero, suc, ◌+◌, ◌*◌, ◌<◌, ◌^◌, Bool, false, ◌&&◌, ◌||◌, not, nat_eq, List, [], ◌∷◌, length, map, Option, Some, None, slice_index_or, slice_set, vec_len, refl}
+use Rattle.std.specs.Prelude.{◌≡◌, ℕ, zero, suc, ◌+◌, ◌*◌, ◌<◌, ◌^◌, Bool, false, not, nat_eq, List, [], ◌∷◌, length, map, Option, Some, None, slice_index_or, slice_set, vec_len, refl}
 use Rattle.std.proofs.Common.{sym, ◌∙◌, ap, ap₂, arith, subst}
 use Rattle.std.proofs.lemmas.Bool.{cond-false, ne_eqb}
 use Rattle.std.proofs.lemmas.List.{get_or_default, length-map}
 use Rattle.std.proofs.lemmas.List.FromFn.{get_or-map-range_with_len}
-use Rattle.ratio_core.specs.Rational.{Rational, fits, rational_eq, zero_ℚ, ◌*ℚ◌, ◌-ℚ◌, ◌/ℚ◌}
-use Rattle.simplex_form.specs.Basis.{pivoted}
-use Rattle.simplex_form.specs.Fit.{divided_row_fits, lowered_fits, lowered_prices_fit, lowered_row_fits, pivot_fits}
-use Rattle.simplex_form.specs.Readings.{Agrees, Readings, lowered_price, pivoted_readings}
-use Rattle.simplex_form.specs.Search.{all_below, least_below}
+use Rattle.ratio_core.specs.Rational.{Rational, rational_eq, zero_ℚ}
+use Rattle.simplex_form.specs.Fit.{pivot_fits}
+use Rattle.simplex_form.specs.Readings.{Agrees}
+use Rattle.simplex_form.specs.Search.{least_below}
 use Rattle.simplex_form.specs.Turns.{entering, is_below, swept_column}
-use Rattle.simplex_laws.specs.BoundedSumLaws.{same_or_other}
-use Rattle.simplex_laws.specs.PivotLaws.{pivoted_at, pivoted_off}
-use Rattle.simplex_laws.specs.SearchLaws.{all_below_last, all_below_same, least_below_same}
+use Rattle.simplex_laws.specs.AgreementLaws.{real_column}
+use Rattle.simplex_laws.specs.SearchLaws.{least_below_same}
 use Rattle.tableau_core.specs.Row.{cell}
 use Rattle.tableau_core.specs.Contents.{Contents, IsPivoted, prices_of, readings_of, width}
-use Rattle.tableau_core.specs.KeptLaws.{pivoted_read, regrouped, tests_read}
+use Rattle.tableau_core.specs.KeptLaws.{column_kept, pivoted_read, row_kept, tests_read}
+use Rattle.tableau_core.specs.Numbers.{IsSettled, Numbers, kept_readings, numbers_fit}
 use Rattle.sparse_board.specs.declared.board.Board.TheInside.{Inside}
 use Rattle.sparse_board.specs.declared.row.Row.{Row}
 use Rattle.sparse_board.specs.declared.sparse_row.SparseRow.{SparseRow}
 use Rattle.sparse_board.specs.Numbers.{number_of, width_of}
-use Rattle.sparse_board.specs.Lowering.{differences_fit, quotients_fit}
-use Rattle.sparse_board.specs.Rows.{AreWide, SameNow, number_in_row, numbers, width_at}
+use Rattle.sparse_board.specs.Rows.{AreWide, SameNow, number_in_row, numbers, numbers_in, width_at}
 use Rattle.sparse_board.specs.Marks.{AreMarked, is_marked}
-use Rattle.sparse_board.specs.Pivoting.{IsReady, IsSettled, costs_fit, numbers_fit, quotient_at}
+use Rattle.sparse_board.specs.Pivoting.{IsReady}
 use Rattle.sparse_board.proofs.MarkSteps.{place_below}
 use Rattle.sparse_board.proofs.RowsSteps.{row_is}
 use Rattle.sparse_board.specs.Kept.{IsKept, columns_of, contents_of, listed}
 
--- what is read of the rows, each of which ends with its right side
-abbrev pub kept_readings : Inside → Readings
-kept_readings a = record {
-  rows = length a.rows.items;
-  reals = a.reals;
-  entry = λ j i. number_in_row a.rows.items i j;
-  right = λ i. number_in_row a.rows.items i (columns_of a);
-  first_price = number_of a.first.now;
-  second_price = number_of a.second.now;
-  basis = a.basis.items;
-}
+abbrev pub numbers_of : Inside → Numbers
+numbers_of a = numbers_in a.rows.items a.first.now a.second.now
 
 -- ---- the board's value
 
@@ -61,25 +50,8 @@ kept_right w (row ∷ rows) (suc i) = kept_right w rows i
 pub count_is : (w : ℕ) (rows : List Row) → length (map (λ row. listed w (number_of row.now)) rows) ≡ length rows
 count_is w rows = length-map rows (λ row. listed w (number_of row.now))
 
--- the same is read of the value
-pub kept_agrees : (in_first : Bool) (a : Inside) → Agrees in_first (kept_readings a) (readings_of (contents_of a))
-kept_agrees in_first a = record {
-  rows = sym (count_is (columns_of a) a.rows.items);
-  reals = refl;
-  basis = refl;
-  entries = λ i j b c. sym (kept_entry (columns_of a) a.rows.items i j (within j c));
-  rights = λ i b. sym (kept_right (columns_of a) a.rows.items i);
-  first = λ u j c. sym (cell-listed (columns_of a) (number_of a.first.now) j (within j c));
-  second = λ j c. sym (cell-listed (columns_of a) (number_of a.second.now) j (within j c));
-}
-  where
-    within_lem : (j c n m : ℕ) → m ≡ n → j < c + m → j < c + n
-    within_lem j c n m e b = omega (arith, e, b)
-
-    within : (j : ℕ) → j < a.reals + length (map (λ row. listed (columns_of a) (number_of row.now)) a.rows.items) → j < columns_of a
-    within j c = within_lem j a.reals (length a.rows.items) _ (count_is (columns_of a) a.rows.items) c
-
-pub value_agrees : (in_first : Bool) (a : Inside) → Agrees in_first (readings_of (contents_of a)) (kept_readings a)
+-- what is read of the value is what is kept
+pub value_agrees : (in_first : Bool) (a : Inside) → Agrees in_first (readings_of (contents_of a)) (kept_readings a.reals a.basis.items (numbers_of a))
 value_agrees in_first a = record {
   rows = count_is (columns_of a) a.rows.items;
   reals = refl;
@@ -90,40 +62,17 @@ value_agrees in_first a = record {
   second = λ j c. cell-listed (columns_of a) (number_of a.second.now) j c;
 }
 
--- ---- the tests of a pivot
-
-module _ (a : Inside) (r q : ℕ) where
-  abbrev R : Readings
-  R = kept_readings a
-
-  abbrev N : ℕ → ℕ → Rational
-  N = number_in_row a.rows.items
-
-  divided_fit : quotients_fit (columns_of a + 1) (N r) (N r q) ≡ divided_row_fits R r q
-  divided_fit = all_below_last (columns_of a + 1) (columns_of a) (λ j. fits (N r j /ℚ N r q)) refl
-
-  others_fit : all_below (length a.rows.items) (λ i. nat_eq i r || differences_fit (columns_of a + 1) (N i) (N i q) (quotient_at N r q)) ≡ all_below R.rows (λ i. nat_eq i r || lowered_row_fits R r q i)
-  others_fit = all_below_same R.rows (λ i. nat_eq i r || differences_fit (columns_of a + 1) (N i) (N i q) (quotient_at N r q)) (λ i. nat_eq i r || lowered_row_fits R r q i) (λ i b. ap (λ x. nat_eq i r || x) (all_below_last (columns_of a + 1) (columns_of a) (λ j. lowered_fits (N i j) (N i q) (N r j /ℚ N r q)) refl))
-
-  kept_fits : numbers_fit (columns_of a) (length a.rows.items) N r q a.in_first (number_of a.first.now) (number_of a.second.now) ≡ pivot_fits a.in_first R r q
-  kept_fits =
-      (λ z. divided_fit z && (others_fit z && costs_fit (columns_of a) q a.in_first (number_of a.first.now) (number_of a.second.now) (quotient_at N r q)))
-      ∙ regrouped (divided_row_fits R r q) (all_below R.rows (λ i. nat_eq i r || lowered_row_fits R r q i)) (not a.in_first || lowered_prices_fit R R.first_price r q) (lowered_prices_fit R R.second_price r q)
-
 -- a row and a column of the value are within what is kept
-pub row_within : (a : Inside) (t : Contents) (r : ℕ) → contents_of a ≡ t → r < length t.rows → r < length a.rows.items
-row_within a t r view row =
-    subst (λ n. r < n) (count_is (columns_of a) a.rows.items) (subst (λ t. r < length t.rows) (sym view) row)
+module _ (a : Inside) (t : Contents) where
+  pub row_within : (r : ℕ) → contents_of a ≡ t → r < length t.rows → r < length a.rows.items
+  row_within r view = row_kept a.reals a.basis.items (numbers_of a) (contents_of a) t view (value_agrees a.in_first a) r
 
-pub column_within : (a : Inside) (t : Contents) (q : ℕ) → contents_of a ≡ t → q < width t → q < columns_of a
-column_within a t q view column =
-    subst (λ n. q < a.reals + n) (count_is (columns_of a) a.rows.items) (subst (λ t. q < width t) (sym view) column)
+  pub column_within : (q : ℕ) → contents_of a ≡ t → q < width t → q < columns_of a
+  column_within q view = column_kept a.reals a.basis.items (numbers_of a) (contents_of a) t view (value_agrees a.in_first a) q
 
--- the tests that are made are those of what is read
-pub tests_same : (a : Inside) (r q : ℕ) (t : Contents) → contents_of a ≡ t → r < length t.rows → q < width t → numbers_fit (columns_of a) (length a.rows.items) (number_in_row a.rows.items) r q a.in_first (number_of a.first.now) (number_of a.second.now) ≡ pivot_fits t.in_first (readings_of t) r q
-tests_same a r q t view row column =
-    kept_fits a r q
-    ∙ tests_read (kept_readings a) (contents_of a) t view (kept_agrees a.in_first a) r q (subst (λ t. r < length t.rows) (sym view) row) (subst (λ t. q < width t) (sym view) column)
+  -- the tests that are made are those of what is read
+  pub tests_same : (r q : ℕ) → contents_of a ≡ t → r < length t.rows → q < width t → numbers_fit (columns_of a) r q a.in_first (numbers_of a) ≡ pivot_fits t.in_first (readings_of t) r q
+  tests_same r q view = tests_read a.reals a.basis.items (numbers_of a) (contents_of a) t view (value_agrees a.in_first a) r q
 
 -- ---- nothing has changed
 
@@ -155,6 +104,15 @@ module _ (a b : Inside) (reals : b.reals ≡ a.reals) (in_first : b.in_first ≡
 pub wide_after : (before after : List Row) (n : ℕ) → length after ≡ length before → SameNow before after → AreWide n before → AreWide n after
 wide_after before after n count rows wide i b = ap width_at (rows i) ∙ wide i (subst (λ k. i < k) count b)
 
+-- the numbers of rows that stand as they did
+pub numbers_same : (a : Inside) (rows : List Row) (first second : SparseRow) → length rows ≡ length a.rows.items → SameNow a.rows.items rows → first ≡ a.first.now → second ≡ a.second.now → numbers_in rows first second ≡ numbers_of a
+numbers_same a rows first second count same first_is second_is = λ k. record {
+  rows = count k;
+  number = λ i j. numbers (same i k) j;
+  first = number_of (first_is k);
+  second = number_of (second_is k);
+}
+
 -- ---- after a pivot
 
 module _ (a b : Inside) (reals : b.reals ≡ a.reals) (count : length b.rows.items ≡ length a.rows.items) where
@@ -173,43 +131,12 @@ module _ (a b : Inside) (reals : b.reals ≡ a.reals) (count : length b.rows.ite
     marked = subst (λ n. AreMarked (n + 1) b.marks.items b.rows.items) (sym same_width) marked;
   }
 
-  module _ (r q : ℕ) (row : r < length a.rows.items) (middle : List Row) (first second : SparseRow) (many : length middle ≡ length a.rows.items) (rows : SameNow a.rows.items middle) (first_is : first ≡ a.first.now) (second_is : second ≡ a.second.now) (s : IsSettled (columns_of a) (length middle) r q a.in_first (number_in_row middle) (number_in_row b.rows.items) (number_of first) (number_of b.first.now) (number_of second) (number_of b.second.now)) where
-    abbrev A : ℕ → ℕ → Rational
-    A = number_in_row a.rows.items
-
-    abbrev B : ℕ → ℕ → Rational
-    B = number_in_row b.rows.items
-
-    old : (i j : ℕ) → number_in_row middle i j ≡ A i j
-    old i j = ap (λ o. numbers o j) (rows i)
-
-    new_row : (j : ℕ) → j < columns_of a + 1 → B r j ≡ A r j /ℚ A r q
-    new_row j c = s.divided j c ∙ (λ k. old r j k /ℚ old r q k)
-
-    new_numbers : (j : ℕ) → j < columns_of a + 1 → (i : ℕ) → i < length a.rows.items → B i j ≡ pivoted r (λ k. A k q) (λ k. A k j) i
-    new_numbers j c i d =
-        same_or_other (B i j ≡ pivoted r (λ k. A k q) (λ k. A k j) i) i r
-        (λ e. subst (λ k. B k j ≡ pivoted r (λ k. A k q) (λ k. A k j) k) (sym e) (new_row j c ∙ sym (pivoted_at r (λ k. A k q) (λ k. A k j))))
-        (λ n. s.others i (subst (λ k. i < k) (sym many) d) n j c ∙ (λ k. old i j k -ℚ old i q k *ℚ B r j) ∙ ap (λ x. A i j -ℚ A i q *ℚ x) (new_row j c) ∙ sym (pivoted_off r (λ k. A k q) (λ k. A k j) i n))
-
-    new_prices : (prices next : ℕ → Rational) → ((j : ℕ) → j < columns_of a → next j ≡ prices j -ℚ prices q *ℚ B r j) → (j : ℕ) → j < columns_of a → next j ≡ lowered_price (kept_readings a) prices r q j
-    new_prices prices next l j c = l j c ∙ ap (λ x. prices j -ℚ prices q *ℚ x) (new_row j (omega (arith, c)))
-
-    inside_pivoted : b.basis.items ≡ slice_set a.basis.items r q → Agrees a.in_first (kept_readings b) (pivoted_readings r q (kept_readings a))
-    inside_pivoted basis = record {
-      rows = count;
-      reals = reals;
-      basis = basis;
-      entries = λ i j d c. new_numbers j (omega (arith, c)) i d;
-      rights = λ i d. ap (B i) same_width ∙ new_numbers (columns_of a) (omega arith) i d;
-      first = λ u. new_prices (number_of a.first.now) (number_of b.first.now) (λ j c. s.first_lowered u j c ∙ ap (λ f. number_of f j -ℚ number_of f q *ℚ B r j) first_is);
-      second = new_prices (number_of a.second.now) (number_of b.second.now) (λ j c. s.second_lowered j c ∙ ap (λ f. number_of f j -ℚ number_of f q *ℚ B r j) second_is);
-    }
-
-    pub pivoted_all : (t : Contents) → contents_of a ≡ t → q < width t → b.in_first ≡ a.in_first → b.basis.items ≡ slice_set a.basis.items r q → IsPivoted r q t (contents_of b)
-    pivoted_all t view column in_first basis =
-        pivoted_read (kept_readings a) (contents_of a) t view (kept_agrees a.in_first a) r q (subst (λ n. r < n) (sym (count_is (columns_of a) a.rows.items)) row) (subst (λ t. q < width t) (sym view) column)
-        (kept_readings b) (contents_of b) (value_agrees a.in_first b) (inside_pivoted basis) in_first
+  -- `middle` are the rows as they stood, beside which the pivot was worked out
+  pub pivoted_all : (r q : ℕ) (t : Contents) → contents_of a ≡ t → r < length t.rows → q < width t → b.in_first ≡ a.in_first → b.basis.items ≡ slice_set a.basis.items r q → (middle : Numbers) → middle ≡ numbers_of a → IsSettled (columns_of a) r q a.in_first middle (numbers_of b) → IsPivoted r q t (contents_of b)
+  pivoted_all r q t view row column in_first basis middle same s =
+      pivoted_read a.reals a.basis.items (numbers_of a) (contents_of a) t view (value_agrees a.in_first a) r q row column
+      b.reals b.basis.items (numbers_of b) (contents_of b) (value_agrees a.in_first b) reals basis count in_first
+      (subst (λ K. IsSettled (columns_of a) r q a.in_first K (numbers_of b)) same s)
 
 -- rows that stand are marked as they were
 pub marked_same : (w : ℕ) (marks : List Bool) (before after : List Row) → length after ≡ length before → SameNow before after → AreMarked w marks before → AreMarked w marks after
@@ -255,10 +182,7 @@ module _ (a : Inside) (t : Contents) (view : contents_of a ≡ t) where
 
   pub nonzero_is : (r : ℕ) (row : Row) → r < length t.rows → row ≡ slice_index_or a.rows.items r row → (q : ℕ) → (q < a.reals) × ¬ (number_of row.now q ≡ zero_ℚ) → (q < t.reals) × ¬ ((readings_of t).entry q r ≡ zero_ℚ)
   nonzero_is r row b is q h =
-      (subst (λ t. q < t.reals) view h.0, λ e. h.1 (entry_is r q row b (subst (λ t. q < width t) view (more_lem q a.reals _ h.0)) is ∙ e))
-    where
-      more_lem : (q c n : ℕ) → q < c → q < c + n
-      more_lem q c n h = omega (arith, h)
+      (subst (λ t. q < t.reals) view h.0, λ e. h.1 (entry_is r q row b (subst (λ t. q < width t) view (real_column q a.reals _ h.0)) is ∙ e))
 
   listed_negative : (f : ℕ → Rational) → least_below a.reals (λ j. is_below (f j) zero_ℚ) ≡ least_below a.reals (λ j. is_below (cell (listed (columns_of a) f) j) zero_ℚ)
   listed_negative f = least_below_same a.reals (λ j. is_below (f j) zero_ℚ) (λ j. is_below (cell (listed (columns_of a) f) j) zero_ℚ) (λ j b. ap (λ x. is_below x zero_ℚ) (sym (cell-listed (columns_of a) f j (omega (arith, b)))))

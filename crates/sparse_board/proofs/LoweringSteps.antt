@@ -14,7 +14,8 @@ use Rattle.tableau_core.specs.Row.{cell}
 use Rattle.sparse_board.specs.declared.sparse_row.SparseRow.{SparseRow}
 use Rattle.sparse_board.specs.Sparse.{IsBelow, IsSparse, IsSplit, number_in}
 use Rattle.sparse_board.specs.Numbers.{Adds, Copies, CopiesTo, HoldsBelow, IsReadyAt, number_of, row_columns, row_values, width_of}
-use Rattle.sparse_board.specs.Lowering.{IsDivided, IsLowered, differences_fit, quotients_fit}
+use Rattle.tableau_core.specs.Numbers.{differences_fit, quotients_fit}
+use Rattle.sparse_board.specs.Lowering.{IsDivided, IsLowered}
 use Rattle.sparse_board.proofs.NumberLemmas.{number_at_place, number_between, number_fits}
 use Rattle.sparse_board.proofs.HeldLemmas.{below_less, held_next, held_none, held_past}
 

@@ -13,9 +13,9 @@ use Rattle.sparse_board.specs.declared.sparse_row.SparseRow.{SparseRow}
 use Rattle.sparse_board.specs.Numbers.{number_of, row_columns, row_values, width_of}
 use Rattle.sparse_board.specs.Rows.{AreLowered, AreWide, now_at, now_of, number_in_row, numbers}
 use Rattle.sparse_board.specs.Marks.{AreMarked, KeepMarks, MarksRow, MarksUnits, is_marked}
-use Rattle.sparse_board.specs.Pivoting.{quotient_at}
+use Rattle.tableau_core.specs.Numbers.{quotient_at}
 use Rattle.sparse_board.proofs.NumberLemmas.{number_missing, sought}
-use Rattle.tableau_core.specs.WrittenLaws.{written_at, written_off}
+use Rattle.tableau_core.specs.ItemLaws.{written_at, written_off}
 
 -- the place of column j and row i
 pub place_below : (w m j i n : ℕ) → n ≡ w * m → j < w → i < m → j * m + i < n

@@ -18,7 +18,8 @@ use Rattle.sparse_board.specs.declared.sparse_row.SparseRow.{SparseRow}
 use Rattle.sparse_board.specs.declared.entry.Entry.{Entry}
 use Rattle.sparse_board.specs.Sparse.{AreUnits, IsBelow, IsSparse, IsSplit, columns_in, number_among, number_in, values_in}
 use Rattle.sparse_board.specs.Numbers.{Adds, number_of, row_columns, row_values, width_of}
-use Rattle.sparse_board.specs.Lowering.{IsLowered, IsPrepared, differences_fit}
+use Rattle.tableau_core.specs.Numbers.{differences_fit}
+use Rattle.sparse_board.specs.Lowering.{IsLowered, IsPrepared}
 use Rattle.sparse_board.proofs.NumberLemmas.{below_added, below_taken, number_added, number_at_place, number_fits, number_kept, number_missing, number_past, number_taken, sparse_added, sparse_taken, within_added}
 use Rattle.sparse_board.proofs.HeldLemmas.{below_less}
 
@@ -208,9 +209,6 @@ column_is row k item b e = column_of row.entries.items k item (subst (λ n. k < 
 
 pub mark_is : (xs : List Bool) (k : ℕ) (item : Bool) → k < length xs → item ≡ slice_index_or xs k item → item ≡ slice_index_or xs k false
 mark_is xs k item b e = e ∙ get_or_default xs k item false b
-
-pub number_item : (xs : List Rational) (k : ℕ) (item : Rational) → k < length xs → item ≡ slice_index_or xs k item → item ≡ cell xs k
-number_item xs k item b e = e ∙ get_or_default xs k item zero_ℚ b
 
 pub on_ok : {T E : Type 0} (r : Result T E) (P : Type 0) → P → OnOk r P
 on_ok (Ok x) P p = p

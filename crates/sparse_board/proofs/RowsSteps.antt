@@ -1,22 +1,22 @@
 -- The rows worked out, or put in place, up to the i-th.
-use Rattle.std.specs.Prelude.{◌≡◌, ℕ, zero, suc, ◌+◌, ◌<◌, ◌≤◌, Bool, true, false, ◌&&◌, ◌||◌, not, nat_eq, List, [], ◌∷◌, ◌++◌, length, slice_index_or, Option, Some, None, slice_get, slice_set, refl}
+use Rattle.std.specs.Prelude.{◌≡◌, ℕ, ◌+◌, ◌<◌, ◌≤◌, Bool, true, false, ◌&&◌, ◌||◌, not, nat_eq, List, length, slice_index_or, Option, Some, None, slice_get, slice_set, refl}
 use Rattle.std.proofs.Common.{sym, ◌∙◌, ap, ap₂, arith, subst, true≢false}
 use Rattle.std.proofs.lemmas.Bool.{eq-eqb, eqb-true, ne_eqb}
-use Rattle.std.proofs.lemmas.List.{length-append, length-set}
+use Rattle.std.proofs.lemmas.List.{length-set}
 use Rattle.std.proofs.Math.Bool.{or-true}
-use Rattle.std.proofs.lemmas.Option.{slice_get-get_or}
 use Rattle.ratio_core.specs.Rational.{Fits, Rational, zero_ℚ, ◌*ℚ◌, ◌-ℚ◌}
 use Rattle.rational_laws.specs.Fitting.{Fits_zero}
 use Rattle.simplex_form.specs.Fit.{lowered_fits}
 use Rattle.tableau_core.specs.LoweringLaws.{lowered-zero, lowered_fits-zero, zero-step}
 use Rattle.simplex_form.specs.Search.{all_below}
 use Rattle.simplex_laws.specs.BoundedSumLaws.{same_or_other}
-use Rattle.tableau_core.specs.WrittenLaws.{written_at, written_off}
+use Rattle.tableau_core.specs.ItemLaws.{each_written, read_at, written_off}
 use Rattle.simplex_laws.specs.SearchLaws.{all_below_all, all_below_failed, all_below_more}
 use Rattle.sparse_board.specs.declared.row.Row.{Row}
 use Rattle.sparse_board.specs.declared.sparse_row.SparseRow.{SparseRow}
 use Rattle.sparse_board.specs.Numbers.{number_of, row_columns, row_values, width_of}
-use Rattle.sparse_board.specs.Lowering.{IsLowered, IsPrepared, differences_fit}
+use Rattle.tableau_core.specs.Numbers.{differences_fit}
+use Rattle.sparse_board.specs.Lowering.{IsLowered, IsPrepared}
 use Rattle.sparse_board.specs.Rows.{AreWide, IsPreparedAt, now_at, now_of, number_in_row, numbers, rows_fit, width_at}
 use Rattle.sparse_board.specs.Marks.{AreMarked, ArePrepared, is_marked}
 use Rattle.sparse_board.proofs.NumberLemmas.{number_fits}
@@ -44,9 +44,6 @@ pub record AreSettledTo (r q : ℕ) (marks : List Bool) (before rows : List Row)
   pub lowered : (w : ℕ) (units : ℕ → Rational) → q < w → AreMarked w marks before → ArePrepared r q units marks before → (k : ℕ) → k < i → ¬ (k ≡ r) → IsLoweredNow q units (now_at before k) (now_at rows k)
 
 -- ---- a row that is read
-
-pub read_at : (rows : List Row) (i : ℕ) (d : Row) → i < length rows → slice_get rows i ≡ Some (slice_index_or rows i d)
-read_at rows i d b = slice_get-get_or rows i d b
 
 -- what stands in the row that is read
 pub row_is : (rows : List Row) (i : ℕ) (d : Row) → i < length rows → now_at rows i ≡ Some (slice_index_or rows i d).now
@@ -126,13 +123,14 @@ module _ (w r q : ℕ) (units : ℕ → Rational) (marks : List Bool) (before ro
   pub prepared-more : (d new : Row) → ArePreparedTo w r q units marks before rows i → AreWide w before → i < length before → new.now ≡ (slice_index_or rows i d).now → true ≡ differences_fit (width_of (slice_index_or rows i d).now) (number_of (slice_index_or rows i d).now) (number_of (slice_index_or rows i d).now q) units → IsPrepared q units new → ArePreparedTo w r q units marks before (slice_set rows i new) (i + 1)
   prepared-more d new h wide b same fits made =
       let at : i < length rows = subst (λ n. i < n) (sym h.long) b in
-      let here : slice_get (slice_set rows i new) i ≡ Some new = written_at rows i new at in
       record {
         within = omega (arith, b);
         long = length-set rows i new ∙ h.long;
-        stays = λ k. same_or_other (now_at (slice_set rows i new) k ≡ now_at before k) k i (λ e. subst (λ j. now_at (slice_set rows i new) j ≡ now_at before j) (sym e) (ap now_of here ∙ ap Some same ∙ row_stands d h b)) (λ m. ap now_of (written_off rows i k new m) ∙ h.stays k);
+        stays = each_written (λ k o. now_of o ≡ now_at before k) rows i new at (ap Some same ∙ row_stands d h b) (λ k m. h.stays k);
         fit = all_below_more i row_fits h.fit (ap (λ x. nat_eq i r || x) (fits_here d true h wide b fits) ∙ or-true (nat_eq i r));
-        prepared = λ k c n marked. same_or_other (IsPreparedAt q units (slice_get (slice_set rows i new) k)) k i (λ e. subst (λ j. IsPreparedAt q units (slice_get (slice_set rows i new) j)) (sym e) (subst (IsPreparedAt q units) (sym here) made)) (λ m. subst (IsPreparedAt q units) (sym (written_off rows i k new m)) (h.prepared k (omega (arith, c, m)) n marked));
+        prepared =
+            each_written (λ k o. k < i + 1 → ¬ (k ≡ r) → is_marked marks (length before) q k ≡ true → IsPreparedAt q units o) rows i new at
+            (λ _ _ _. made) (λ k m c n marked. h.prepared k (omega (arith, c, m)) n marked);
       }
 
   -- the pivot's row, or one that isn't marked, is passed over
@@ -163,7 +161,6 @@ module _ (r q : ℕ) (marks : List Bool) (before rows : List Row) (i : ℕ) wher
   pub settled-more : (d new : Row) → AreSettledTo r q marks before rows i → i < length before → (not (nat_eq i r) && is_marked marks (length before) q i) ≡ true → width_of new.now ≡ width_of (slice_index_or rows i d).now → ((p : ℕ) (units : ℕ → Rational) → IsPrepared p units (slice_index_or rows i d) → IsLowered (number_of (slice_index_or rows i d).now p) units (slice_index_or rows i d).now new.now) → AreSettledTo r q marks before (slice_set rows i new) (i + 1)
   settled-more d new h b touched wide low =
       let at : i < length rows = subst (λ n. i < n) (sym h.long) b in
-      let here : slice_get (slice_set rows i new) i ≡ Some new = written_at rows i new at in
       let old : Some (slice_index_or rows i d) ≡ slice_get before i = sym (read_at rows i d at) ∙ h.later i (omega arith) in
       let is = touched_is i r (is_marked marks (length before) q i) touched in
       record {
@@ -171,8 +168,10 @@ module _ (r q : ℕ) (marks : List Bool) (before rows : List Row) (i : ℕ) wher
         long = length-set rows i new ∙ h.long;
         later = λ k c. written_off rows i k new (λ e. above_lem k i c e) ∙ h.later k (omega (arith, c));
         pivot_stays = ap now_of (written_off rows i r new (λ e. is.0 (sym e))) ∙ h.pivot_stays;
-        widths = λ k. same_or_other (width_at (now_at (slice_set rows i new) k) ≡ width_at (now_at before k)) k i (λ e. subst (λ j. width_at (now_at (slice_set rows i new) j) ≡ width_at (now_at before j)) (sym e) (ap (λ o. width_at (now_of o)) here ∙ wide ∙ ap (λ o. width_at (now_of o)) old)) (λ m. ap (λ o. width_at (now_of o)) (written_off rows i k new m) ∙ h.widths k);
-        lowered = λ w units column marked p k c m. same_or_other (IsLoweredNow q units (now_at before k) (now_at (slice_set rows i new) k)) k i (λ e. subst (λ j. IsLoweredNow q units (now_at before j) (now_at (slice_set rows i new) j)) (sym e) (subst (λ o. IsLoweredNow q units (now_at before i) (now_of o)) (sym here) (lowered_here old (low q units) (p i b is.0 is.1)))) (λ f. subst (λ o. IsLoweredNow q units (now_at before k) (now_of o)) (sym (written_off rows i k new f)) (h.lowered w units column marked p k (omega (arith, c, f)) m));
+        widths = each_written (λ k o. width_at (now_of o) ≡ width_at (now_at before k)) rows i new at (wide ∙ ap (λ o. width_at (now_of o)) old) (λ k m. h.widths k);
+        lowered = λ w units column marked p.
+            each_written (λ k o. k < i + 1 → ¬ (k ≡ r) → IsLoweredNow q units (now_at before k) (now_of o)) rows i new at
+            (λ _ _. lowered_here old (low q units) (p i b is.0 is.1)) (λ k f c m. h.lowered w units column marked p k (omega (arith, c, f)) m);
       }
     where
       above_lem : (k i : ℕ) → i + 1 ≤ k → k ≡ i → ⊥
@@ -196,23 +195,3 @@ module _ (r q : ℕ) (marks : List Bool) (before rows : List Row) (i : ℕ) wher
         (subst (IsLoweredNow q units (now_at before i)) (sym (ap now_of (h.later i (omega arith)))) (zero_stays q (now_at before i) units (marked i b q column g)))))
         (λ f. h.lowered w units column marked p k (omega (arith, c, f)) m);
   }
-
--- ---- one row more that meets P
-
-now-before : (rows : List Row) (new : Row) (k : ℕ) → k < length rows → now_at (rows ++ new ∷ []) k ≡ now_at rows k
-now-before [] new k b = absurd (omega (arith, b))
-now-before (row ∷ rows) new zero b = refl
-now-before (row ∷ rows) new (suc k) b = now-before rows new k (omega (arith, b))
-
-now-last : (rows : List Row) (new : Row) → now_at (rows ++ new ∷ []) (length rows) ≡ Some new.now
-now-last [] new = refl
-now-last (row ∷ rows) new = now-last rows new
-
-pub rows-more : (P : ℕ → Option SparseRow → Type 0) (i : ℕ) (rows next : List Row) (new : Row) → length rows ≡ i → ((k : ℕ) → k < i → P k (now_at rows k)) → P i (Some new.now) → next ≡ rows ++ new ∷ [] → (k : ℕ) → k < i + 1 → P k (now_at next k)
-rows-more P i rows next new long h p e k b =
-    same_or_other (P k (now_at next k)) k i
-    (λ q. subst (λ j. P j (now_at next j)) (sym q) (subst (P i) (sym (ap (λ l. now_at l i) e ∙ ap (now_at (rows ++ new ∷ [])) (sym long) ∙ now-last rows new)) p))
-    (λ n. subst (P k) (sym (ap (λ l. now_at l k) e ∙ now-before rows new k (subst (λ m. k < m) (sym long) (omega (arith, b, n))))) (h k (omega (arith, b, n))))
-
-pub count-more : (i : ℕ) (rows next : List Row) (new : Row) → length rows ≡ i → next ≡ rows ++ new ∷ [] → length next ≡ i + 1
-count-more i rows next new long e = ap length e ∙ length-append rows (new ∷ []) ∙ ap (λ n. n + 1) long

@@ -1,24 +1,14 @@
--- What a pivot makes of a row, and what of it must fit.
-use Rattle.std.specs.Prelude.{◌≡◌, ℕ, ◌<◌, Bool, MatchBool}
-use Rattle.ratio_core.specs.Rational.{Rational, fits, zero_ℚ, ◌*ℚ◌, ◌-ℚ◌, ◌/ℚ◌}
-use Rattle.simplex_form.specs.Fit.{lowered_fits}
-use Rattle.simplex_form.specs.Search.{all_below}
+-- What a pivot makes of a row.
+use Rattle.std.specs.Prelude.{◌≡◌, ℕ, ◌<◌, MatchBool}
+use Rattle.ratio_core.specs.Rational.{Rational, zero_ℚ, ◌*ℚ◌, ◌-ℚ◌, ◌/ℚ◌}
 use Rattle.sparse_board.specs.declared.row.Row.{Row}
 use Rattle.sparse_board.specs.declared.sparse_row.SparseRow.{SparseRow}
 use Rattle.sparse_board.specs.Numbers.{number_of, width_of}
-
--- each quotient of w numbers fits
-abbrev pub quotients_fit : ℕ → (ℕ → Rational) → Rational → Bool
-quotients_fit w numbers by = all_below w (λ j. fits (numbers j /ℚ by))
 
 -- each number is divided
 pub record IsDivided (by : Rational) (row next : SparseRow) : Type 0 where
   pub width : width_of next ≡ width_of row
   pub numbers : (j : ℕ) → j < width_of row → number_of next j ≡ number_of row j /ℚ by
-
--- each product and difference fits of w numbers that are lowered by a multiple of the units
-abbrev pub differences_fit : ℕ → (ℕ → Rational) → Rational → (ℕ → Rational) → Bool
-differences_fit w numbers by units = all_below w (λ j. lowered_fits (numbers j) by (units j))
 
 -- each number is lowered by a multiple of the units
 pub record IsLowered (by : Rational) (units : ℕ → Rational) (row next : SparseRow) : Type 0 where

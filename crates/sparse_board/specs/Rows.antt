@@ -5,7 +5,8 @@ use Rattle.simplex_form.specs.Search.{all_below}
 use Rattle.sparse_board.specs.declared.row.Row.{Row}
 use Rattle.sparse_board.specs.declared.sparse_row.SparseRow.{SparseRow}
 use Rattle.sparse_board.specs.Numbers.{number_of, width_of}
-use Rattle.sparse_board.specs.Lowering.{IsPrepared, differences_fit}
+use Rattle.tableau_core.specs.Numbers.{Numbers, differences_fit}
+use Rattle.sparse_board.specs.Lowering.{IsPrepared}
 
 abbrev pub now_of : Option Row → Option SparseRow
 now_of None = None
@@ -26,6 +27,15 @@ width_at (Some row) = width_of row
 -- the number of column j in row i
 abbrev pub number_in_row : List Row → ℕ → ℕ → Rational
 number_in_row rows i j = numbers (now_at rows i) j
+
+-- the numbers of the rows, each of which ends with its right side, and of the two cost rows
+abbrev pub numbers_in : List Row → SparseRow → SparseRow → Numbers
+numbers_in rows first second = record {
+  rows = length rows;
+  number = number_in_row rows;
+  first = number_of first;
+  second = number_of second;
+}
 
 -- each row has w columns
 abbrev pub AreWide : ℕ → List Row → Type 0

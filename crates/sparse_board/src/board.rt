@@ -5,10 +5,10 @@ use crate::row::Row;
 use crate::scan::{first_negative, first_nonzero};
 use crate::sparse_row::SparseRow;
 use crate::start::{cost_row, start_rows};
-use ratio_core::Ratio;
+use ratio_core::{NumberFault, Ratio};
 use std::alloc::Global;
 use std::marker::Model;
-use tableau_core::{BoardFault, BoardOverflow, Tableau, first_prices, second_prices, start_basis};
+use tableau_core::{BoardOverflow, Tableau, first_prices, second_prices, start_basis};
 
 /// A board that keeps the numbers that aren't 0.
 #[derive(Drop)]
@@ -48,9 +48,9 @@ impl Tableau for Board {
         matrix: &[Ratio],
         right: &[Ratio],
         costs: &[Ratio],
-    ) -> Result<Board, BoardFault> {
+    ) -> Result<Board, NumberFault> {
         if c + m >= u32::MAX as usize {
-            return Err(BoardFault::Memory);
+            return Err(NumberFault::Memory);
         }
         let first = cost_row(alloc, &first_prices(alloc, m, c, matrix)?)?;
         let second = cost_row(alloc, &second_prices(alloc, m, costs)?)?;

@@ -3,7 +3,8 @@ ghost use Rattle.std.specs.Prelude.{◌≡◌, ◌||◌, ℕ, IsTrue, not, is_ok
 ghost use Rattle.ratio_core.specs.Rational.{Rational};
 ghost use Rattle.sparse_board.specs.Sparse.{AreUnits, number_among};
 ghost use Rattle.sparse_board.specs.Numbers.{number_of, width_of};
-ghost use Rattle.sparse_board.specs.Lowering.{IsLowered, IsPrepared, differences_fit};
+ghost use Rattle.tableau_core.specs.Numbers.{differences_fit};
+ghost use Rattle.sparse_board.specs.Lowering.{IsLowered, IsPrepared};
 
 use crate::entry::Entry;
 use crate::row::Row;

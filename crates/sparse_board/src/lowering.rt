@@ -4,7 +4,8 @@ ghost use Rattle.ratio_core.specs.Rational.{zero_ℚ, ◌*ℚ◌, ◌-ℚ◌};
 ghost use Rattle.simplex_form.specs.Fit.{lowered_fits};
 ghost use Rattle.sparse_board.specs.Sparse.{AreUnits, IsBelow, IsSplit, number_among};
 ghost use Rattle.sparse_board.specs.Numbers.{Copies, CopiesTo, IsReadyAt, number_of, row_columns, width_of};
-ghost use Rattle.sparse_board.specs.Lowering.{IsDivided, IsLowered, differences_fit, quotients_fit};
+ghost use Rattle.tableau_core.specs.Numbers.{differences_fit, quotients_fit};
+ghost use Rattle.sparse_board.specs.Lowering.{IsDivided, IsLowered};
 
 use crate::entry::Entry;
 use crate::sparse_row::SparseRow;

@@ -1,11 +1,12 @@
 //! A pivot worked out beside what stands.
 ghost use Rattle.std.specs.Prelude.{◌≡◌, ◌≢◌, ◌+◌, ◌*◌, ◌<◌, ℕ, IsTrue, length, is_ok, OnOk};
 ghost use Rattle.ratio_core.specs.Rational.{zero_ℚ};
+ghost use Rattle.tableau_core.specs.Numbers.{IsSettled, costs_fit, numbers_fit, quotient_at, quotients_fit};
 ghost use Rattle.sparse_board.specs.Numbers.{number_of, width_of};
-ghost use Rattle.sparse_board.specs.Lowering.{IsPrepared, quotients_fit};
-ghost use Rattle.sparse_board.specs.Rows.{AreWide, SameNow, number_in_row};
+ghost use Rattle.sparse_board.specs.Lowering.{IsPrepared};
+ghost use Rattle.sparse_board.specs.Rows.{AreWide, SameNow, number_in_row, numbers_in};
 ghost use Rattle.sparse_board.specs.Marks.{AreMarked};
-ghost use Rattle.sparse_board.specs.Pivoting.{IsReady, IsSettled, costs_fit, numbers_fit, quotient_at};
+ghost use Rattle.sparse_board.specs.Pivoting.{IsReady};
 
 use crate::first_costs::{prepare_if, settle_if};
 use crate::lowering::divide;
@@ -43,8 +44,7 @@ pub(crate) fn prepare_pivot(
     ensures second_stays { second.new.now ≡ second.old.now }
     ensures step_wide { width_of step.new ≡ width_of step.old }
     ensures fits { is_ok result
-        ≡ numbers_fit width (length rows.old) (number_in_row rows.old) r q in_first
-        (number_of first.old.now) (number_of second.old.now) }
+        ≡ numbers_fit width r q in_first (numbers_in rows.old first.old.now second.old.now) }
     ensures ok { OnOk result
         (IsReady rows.new r q marks.now in_first first.new second.new step.new) }
 {
@@ -117,10 +117,8 @@ pub(crate) fn settle_pivot(
     ensures settled { (w : ℕ) → width_of step.old ≡ w + 1
         → width_of first.old.now ≡ w → width_of second.old.now ≡ w
         → IsReady rows.old r q marks.old in_first first.old second.old step.old
-        → IsSettled w (length rows.old) r q in_first
-        (number_in_row rows.old) (number_in_row rows.new)
-        (number_of first.old.now) (number_of first.new.now)
-        (number_of second.old.now) (number_of second.new.now) }
+        → IsSettled w r q in_first (numbers_in rows.old first.old.now second.old.now)
+        (numbers_in rows.new first.new.now second.new.now) }
     ensures marked { IsReady rows.old r q marks.old in_first first.old second.old step.old
         → AreMarked (width_of step.old) marks.new rows.new }
 {

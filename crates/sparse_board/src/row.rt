@@ -22,7 +22,8 @@ pub(crate) struct Row {
 }
 
 impl Row {
-    ghost use Rattle.sparse_board.specs.Lowering.{IsLowered, IsPrepared, differences_fit};
+    ghost use Rattle.tableau_core.specs.Numbers.{differences_fit};
+    ghost use Rattle.sparse_board.specs.Lowering.{IsLowered, IsPrepared};
 
     pub(crate) fn new(alloc: Global, now: SparseRow, width: usize) -> Result<Row, AllocError>
         requires width { width_of now ≡ width }

@@ -5,4 +5,3 @@ pub mod SettleSteps
 pub mod BoardSteps
 pub mod StartSteps
 pub mod ListSteps
-pub mod StartBoard

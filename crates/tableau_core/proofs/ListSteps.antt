@@ -1,4 +1,4 @@
--- Lists of numbers, and of rows, that are made one after another.
+-- Lists of numbers that are made one after another.
 use Rattle.std.specs.Prelude.{◌≡◌, ℕ, zero, suc, ◌+◌, ◌-◌, ◌<◌, ◌≤◌, List, [], ◌∷◌, ◌++◌, ◌⊎◌, length, replicate, take, refl}
 use Rattle.std.proofs.Common.{inl, inr, sym, ◌∙◌, ap, ap₂, arith, subst}
 use Rattle.std.proofs.lemmas.Bool.{cases_lt}
@@ -6,31 +6,13 @@ use Rattle.std.proofs.lemmas.List.{get_or_append_left, length-append, length-rep
 use Rattle.std.proofs.Math.Seq.{get_or-append_seam}
 use Rattle.ratio_core.specs.Rational.{Fits, Rational, zero_ℚ}
 use Rattle.rational_laws.specs.Fitting.{Fits_zero}
-use Rattle.tableau_core.specs.declared.kept.Row.{Row}
 use Rattle.tableau_core.specs.Row.{AllFit, cell}
-use Rattle.tableau_core.specs.Rows.{now_at}
 use Rattle.tableau_core.specs.Start.{IsListOf}
-use Rattle.simplex_laws.specs.BoundedSumLaws.{same_or_other}
-
-pub none-listed : (f : ℕ → Rational) (row : List Rational) → row ≡ [] → IsListOf 0 f row
-none-listed f row e = record { long = ap length e; cells = λ j b. absurd (omega (arith, b)) }
 
 pub none-fit : (row : List Rational) → row ≡ [] → AllFit row
 none-fit row e = subst AllFit (sym e) (λ _. Fits_zero)
 
 -- ---- one number more
-
-pub listed-more : (j : ℕ) (f : ℕ → Rational) (row next : List Rational) (x : Rational) → IsListOf j f row → x ≡ f j → next ≡ row ++ x ∷ [] → IsListOf (j + 1) f next
-listed-more j f row next x h is e = record {
-  long = ap length e ∙ length-append row (x ∷ []) ∙ ap (λ n. n + 1) h.long;
-  cells = λ k b. ap (λ l. cell l k) e ∙ same_or_other (cell (row ++ x ∷ []) k ≡ f k) k j at (λ n. get_or_append_left row (x ∷ []) zero_ℚ k (subst (λ m. k < m) (sym h.long) (omega (arith, b, n))) ∙ h.cells k (omega (arith, b, n)));
-}
-  where
-    at_end : cell (row ++ x ∷ []) j ≡ f j
-    at_end = ap (cell (row ++ x ∷ [])) (sym h.long) ∙ get_or-append_seam row x [] zero_ℚ ∙ is
-
-    at : {k : ℕ} → k ≡ j → cell (row ++ x ∷ []) k ≡ f k
-    at {k} q = subst (λ i. cell (row ++ x ∷ []) i ≡ f i) (sym q) at_end
 
 pub appended-cell : (n : ℕ) (f : ℕ → Rational) (row next : List Rational) (x : Rational) → IsListOf n f row → next ≡ row ++ x ∷ [] → (j : ℕ) → j < n → cell next j ≡ f j
 appended-cell n f row next x h e j b =
@@ -38,12 +20,6 @@ appended-cell n f row next x h e j b =
 
 pub appended-last : (n : ℕ) (row next : List Rational) (x : Rational) → length row ≡ n → next ≡ row ++ x ∷ [] → cell next n ≡ x
 appended-last n row next x long e = ap₂ cell e (sym long) ∙ get_or-append_seam row x [] zero_ℚ
-
-pub appended-long : {X : Type 0} (n : ℕ) (row next : List X) (x : X) → length row ≡ n → next ≡ row ++ x ∷ [] → length next ≡ n + 1
-appended-long n row next x long e = ap length e ∙ length-append row (x ∷ []) ∙ ap (λ k. k + 1) long
-
-pub listed-same : (n : ℕ) (f g : ℕ → Rational) (row : List Rational) → IsListOf n f row → ((j : ℕ) → j < n → f j ≡ g j) → IsListOf n g row
-listed-same n f g row h e = record { long = h.long; cells = λ j b. h.cells j b ∙ e j b }
 
 fit-append : (row : List Rational) (x : Rational) → AllFit row → Fits x → AllFit (row ++ x ∷ [])
 fit-append [] x h f zero = f
@@ -103,21 +79,3 @@ module _ (c m n : ℕ) (row next : List Rational) (z : Rational) (long : length 
     where
       cases_cell : (j : ℕ) → j < c + m → cell row j ≡ f j
       cases_cell j b = below_or_past (cell row j ≡ f j) j c (λ k. h.cells j k) (λ k. past-cell row j (omega (arith, h.long, k)) ∙ sym (z j k b))
-
--- ---- rows
-
-now-before : (rows : List Row) (new : Row) (k : ℕ) → k < length rows → now_at (rows ++ new ∷ []) k ≡ now_at rows k
-now-before [] new k b = absurd (omega (arith, b))
-now-before (row ∷ rows) new zero b = refl
-now-before (row ∷ rows) new (suc k) b = now-before rows new k (omega (arith, b))
-
-now-last : (rows : List Row) (new : Row) → now_at (rows ++ new ∷ []) (length rows) ≡ new.now.items
-now-last [] new = refl
-now-last (row ∷ rows) new = now-last rows new
-
--- one row more that meets P
-pub rows-more : (P : ℕ → List Rational → Type 0) (i : ℕ) (rows next : List Row) (new : Row) → length rows ≡ i → ((k : ℕ) → k < i → P k (now_at rows k)) → P i new.now.items → next ≡ rows ++ new ∷ [] → (k : ℕ) → k < i + 1 → P k (now_at next k)
-rows-more P i rows next new long h p e k b =
-    same_or_other (P k (now_at next k)) k i
-    (λ q. subst (λ j. P j (now_at next j)) (sym q) (subst (P i) (sym (ap (λ l. now_at l i) e ∙ ap (now_at (rows ++ new ∷ [])) (sym long) ∙ now-last rows new)) p))
-    (λ n. subst (P k) (sym (ap (λ l. now_at l k) e ∙ now-before rows new k (subst (λ m. k < m) (sym long) (omega (arith, b, n))))) (h k (omega (arith, b, n))))

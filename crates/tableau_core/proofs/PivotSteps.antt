@@ -1,64 +1,43 @@
 -- The tests of a pivot, in the order in which the code makes them.
-use Rattle.std.specs.Prelude.{◌≡◌, ℕ, ◌<◌, ◌≤◌, Bool, true, false, ◌&&◌, ◌||◌, not, nat_eq, List, length, refl}
-use Rattle.std.proofs.Common.{sym, ◌∙◌, ap, arith}
+use Rattle.std.specs.Prelude.{◌≡◌, ℕ, ◌+◌, ◌<◌, Bool, true, false, ◌||◌, not, nat_eq, List, length, refl}
+use Rattle.std.proofs.Common.{sym, ◌∙◌, ap, subst}
 use Rattle.ratio_core.specs.Rational.{Rational}
 use Rattle.tableau_core.specs.declared.kept.Row.{Row}
-use Rattle.tableau_core.specs.Row.{IsDivided, cell, differences_fit, quotients_fit}
-use Rattle.tableau_core.specs.Rows.{AreWide, now_at, rows_fit}
-use Rattle.tableau_core.specs.Pivoting.{numbers_fit, quotient_at, row_fits}
+use Rattle.tableau_core.specs.Numbers.{Numbers, costs_fit, differences_fit, numbers_fit, others_fit, quotient_at, quotients_fit}
+use Rattle.tableau_core.specs.Row.{IsDivided, cell, lowering_fits}
+use Rattle.tableau_core.specs.Rows.{AreWide, now_at, numbers_in, rows_fit}
+use Rattle.tableau_core.specs.TestLaws as tests
 use Rattle.simplex_laws.specs.SearchLaws.{all_below_same}
-use Rattle.simplex_form.specs.Fit.{lowered_fits}
-use Rattle.simplex_form.specs.Search.{all_below}
 
-false_second : (a b c : Bool) → b ≡ false → (a && (b && c)) ≡ false
-false_second true b c e = ap (λ x. x && c) e
-false_second false b c e = refl
+-- `step` is the pivot's new row; the cost rows have w numbers
+module _ (w : ℕ) (rows : List Row) (r q : ℕ) (in_first : Bool) (first second step : List Rational) (row : r < length rows) (wide : AreWide (w + 1) rows) (divided : IsDivided (cell (now_at rows r) q) (now_at rows r) step) where
+  abbrev K : Numbers
+  K = numbers_in rows first second
 
-false_third : (a b c d : Bool) → c ≡ false → (a && (b && (c && d))) ≡ false
-false_third true true c d e = ap (λ x. x && d) e
-false_third true false c d e = refl
-false_third false b c d e = refl
+  divided_is : (j : ℕ) → j < w + 1 → cell step j ≡ quotient_at K.number r q j
+  divided_is j b = divided.cells j (subst (λ n. j < n) (sym (wide r row)) b)
 
-all_but_last : (a b c d : Bool) → a ≡ true → b ≡ true → c ≡ true → (a && (b && (c && d))) ≡ d
-all_but_last a b c d e f g = ap (λ x. x && (b && (c && d))) e ∙ ap (λ x. x && (c && d)) f ∙ ap (λ x. x && d) g
+  rows-wide : rows_fit r q step rows ≡ others_fit w r q K (cell step)
+  rows-wide =
+      all_below_same (length rows)
+      (λ i. nat_eq i r || lowering_fits q step (now_at rows i))
+      (λ i. nat_eq i r || differences_fit (w + 1) (cell (now_at rows i)) (cell (now_at rows i) q) (cell step))
+      (λ i b. ap (λ n. nat_eq i r || differences_fit n (cell (now_at rows i)) (cell (now_at rows i) q) (cell step)) (wide i b))
 
-module _ (rows : List Row) (r q : ℕ) (in_first : Bool) (first second step : List Rational) where
-  abbrev by_divided : Type 0
-  by_divided = IsDivided (cell (now_at rows r) q) (now_at rows r) step
+  pub others-refused : rows_fit r q step rows ≡ false → numbers_fit w r q in_first K ≡ false
+  others-refused e = tests.others-refused w r q in_first K (cell step) divided_is (sym rows-wide ∙ e)
 
-  -- with the pivot's new row at hand the tests are those of the definition
-  pub differences-divided : by_divided → (row : List Rational) → length row ≤ length step → differences_fit (cell row q) step row ≡ row_fits (now_at rows) r q row
-  differences-divided d row b =
-      all_below_same (length row) (λ j. lowered_fits (cell row j) (cell row q) (cell step j)) (λ j. lowered_fits (cell row j) (cell row q) (quotient_at (now_at rows) r q j)) (λ j c. ap (lowered_fits (cell row j) (cell row q)) (d.cells j (long_lem j (length row) (length step) (length (now_at rows r)) c b d.long)))
-    where
-      long_lem : (j a b c : ℕ) → j < a → a ≤ b → b ≡ c → j < c
-      long_lem j a b c h k e = omega (arith, h, k, e)
+  -- the quotients fit, and so do the other rows
+  module _ (quotients : quotients_fit (length (now_at rows r)) (cell (now_at rows r)) (cell (now_at rows r) q) ≡ true) (others : rows_fit r q step rows ≡ true) where
+    costs-decide : costs_fit w q in_first (cell first) (cell second) (cell step) ≡ numbers_fit w r q in_first K
+    costs-decide =
+        tests.costs-decide w r q in_first K (cell step) divided_is
+        (subst (λ n. quotients_fit n (cell (now_at rows r)) (cell (now_at rows r) q) ≡ true) (wide r row) quotients) (sym rows-wide ∙ others)
 
-  abbrev others_fit : Bool
-  others_fit = all_below (length rows) (λ i. nat_eq i r || row_fits (now_at rows) r q (now_at rows i))
+    pub first-refused : length first ≡ w → false ≡ (not in_first || lowering_fits q step first) → numbers_fit w r q in_first K ≡ false
+    first-refused long e =
+        sym costs-decide ∙ tests.first-refused w q in_first (cell first) (cell second) (cell step) (cell step) (λ j b. refl) (length first) long e
 
-  rows-divided : by_divided → AreWide (length step) rows → rows_fit r q step rows ≡ others_fit
-  rows-divided d wide =
-      all_below_same (length rows) (λ i. nat_eq i r || differences_fit (cell (now_at rows i) q) step (now_at rows i)) (λ i. nat_eq i r || row_fits (now_at rows) r q (now_at rows i)) (λ i b. ap (λ x. nat_eq i r || x) (differences-divided d (now_at rows i) (at_most (length (now_at rows i)) (length step) (wide i b))))
-    where
-      at_most : (a b : ℕ) → a ≡ b → a ≤ b
-      at_most a b e = omega (arith, e)
-
-  pub quotients-refused : quotients_fit (cell (now_at rows r) q) (now_at rows r) ≡ false → numbers_fit (length rows) (now_at rows) r q in_first first second ≡ false
-  quotients-refused e = ap (λ x. x && (others_fit && ((not in_first || row_fits (now_at rows) r q first) && row_fits (now_at rows) r q second))) e
-
-  pub others-refused : by_divided → AreWide (length step) rows → rows_fit r q step rows ≡ false → numbers_fit (length rows) (now_at rows) r q in_first first second ≡ false
-  others-refused d wide e =
-      false_second (quotients_fit (cell (now_at rows r) q) (now_at rows r)) others_fit ((not in_first || row_fits (now_at rows) r q first) && row_fits (now_at rows) r q second) (sym (rows-divided d wide) ∙ e)
-
-  first_same : by_divided → length first ≤ length step → (not in_first || differences_fit (cell first q) step first) ≡ (not in_first || row_fits (now_at rows) r q first)
-  first_same d b = ap (λ x. not in_first || x) (differences-divided d first b)
-
-  pub first-refused : by_divided → length first ≤ length step → (not in_first || differences_fit (cell first q) step first) ≡ false → numbers_fit (length rows) (now_at rows) r q in_first first second ≡ false
-  first-refused d b e =
-      false_third (quotients_fit (cell (now_at rows r) q) (now_at rows r)) others_fit (not in_first || row_fits (now_at rows) r q first) (row_fits (now_at rows) r q second) (sym (first_same d b) ∙ e)
-
-  pub second-decides : by_divided → AreWide (length step) rows → length first ≤ length step → length second ≤ length step → quotients_fit (cell (now_at rows r) q) (now_at rows r) ≡ true → rows_fit r q step rows ≡ true → (not in_first || differences_fit (cell first q) step first) ≡ true → differences_fit (cell second q) step second ≡ numbers_fit (length rows) (now_at rows) r q in_first first second
-  second-decides d wide b c e f g =
-      differences-divided d second c
-      ∙ sym (all_but_last (quotients_fit (cell (now_at rows r) q) (now_at rows r)) others_fit (not in_first || row_fits (now_at rows) r q first) (row_fits (now_at rows) r q second) e (sym (rows-divided d wide) ∙ f) (sym (first_same d b) ∙ g))
+    pub second-decides : length first ≡ w → length second ≡ w → true ≡ (not in_first || lowering_fits q step first) → lowering_fits q step second ≡ numbers_fit w r q in_first K
+    second-decides long second_long e =
+        tests.second-decides w q in_first (cell first) (cell second) (cell step) (cell step) (λ j b. refl) (length first) (length second) long second_long e ∙ costs-decide

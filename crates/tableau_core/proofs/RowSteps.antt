@@ -1,10 +1,12 @@
 -- A row worked out up to its j-th number.
 use Rattle.std.specs.Prelude.{◌≡◌, ℕ, ◌+◌, ◌<◌, ◌≤◌, Bool, true, false, List, length, slice_index_or, slice_set, refl, ◌⊎◌, take, min, slice_index}
 use Rattle.std.proofs.Common.{sym, ◌∙◌, ap, arith, subst, inl, inr}
-use Rattle.std.proofs.lemmas.List.{get_or_default, get_or-set_other, get_or-set_same, length-set, get_or-take, length-take}
+use Rattle.std.proofs.lemmas.List.{get_or-set_other, get_or-set_same, length-set, get_or-take, length-take}
 use Rattle.ratio_core.specs.Rational.{Fits, Rational, fits, zero_ℚ, ◌*ℚ◌, ◌-ℚ◌, ◌/ℚ◌}
 use Rattle.ratio_core.specs.RationalLaws.{fits_Decides}
-use Rattle.tableau_core.specs.Row.{AllFit, IsLowered, IsLoweredBeside, IsPutAt, cell, differences_fit, quotients_fit}
+use Rattle.tableau_core.specs.Numbers.{differences_fit, quotients_fit}
+use Rattle.tableau_core.specs.Row.{AllFit, IsLowered, IsLoweredBeside, IsPutAt, cell}
+use Rattle.tableau_core.specs.ItemLaws.{item_is}
 use Rattle.tableau_core.specs.Places.{Covers}
 use Rattle.tableau_core.specs.LoweringLaws.{false_from_not, fits_from, lowered-zero, lowered_fits-zero, step-zero, zero-step}
 use Rattle.simplex_laws.specs.SearchLaws.{all_below_all, all_below_failed, all_below_more}
@@ -38,11 +40,8 @@ made_more n j test made next value h b e is f = record {
 
 -- ---- the code's tests
 
-pub item_is : (row : List Rational) (j : ℕ) (item : Rational) → j < length row → item ≡ slice_index_or row j item → item ≡ cell row j
-item_is row j item b e = e ∙ get_or_default row j item zero_ℚ b
-
 -- a quotient that is refused
-pub divide_refused : (by item : Rational) (row : List Rational) (j : ℕ) → j < length row → item ≡ slice_index_or row j item → ¬ (by ≡ zero_ℚ) → ¬ ((¬ (by ≡ zero_ℚ)) × Fits (item /ℚ by)) → quotients_fit by row ≡ false
+pub divide_refused : (by item : Rational) (row : List Rational) (j : ℕ) → j < length row → item ≡ slice_index_or row j item → ¬ (by ≡ zero_ℚ) → ¬ ((¬ (by ≡ zero_ℚ)) × Fits (item /ℚ by)) → quotients_fit (length row) (cell row) by ≡ false
 divide_refused by item row j b e n refused =
     all_below_failed (length row) j (λ k. fits (cell row k /ℚ by)) b
     (false_from_not (fits (cell row j /ℚ by)) (Fits (item /ℚ by)) (λ f. subst (λ x. Fits (x /ℚ by)) (sym (item_is row j item b e)) ((fits_Decides (cell row j /ℚ by)).0 f)) (λ f. refused (n, f)))
@@ -60,7 +59,7 @@ entry-zero row q item b e z = sym (item_is row q item b e) ∙ z
 pub lowered-itself : (by : Rational) (step row : List Rational) → by ≡ zero_ℚ → IsLowered by step row row
 lowered-itself by step row z = record { long = refl; cells = λ j b. sym (lowered-zero (cell row j) by (cell step j) (zero-step by (cell step j) z)) }
 
-pub differences_fit-zero : (by : Rational) (step row : List Rational) → by ≡ zero_ℚ → AllFit row → differences_fit by step row ≡ true
+pub differences_fit-zero : (by : Rational) (step row : List Rational) → by ≡ zero_ℚ → AllFit row → differences_fit (length row) (cell row) by (cell step) ≡ true
 differences_fit-zero by step row z h =
     all_below_all (length row) (λ j. lowered_fits (cell row j) by (cell step j)) (λ j b. lowered_fits-zero (cell row j) by (cell step j) (zero-step by (cell step j) z) (h j))
 
@@ -228,7 +227,7 @@ module _ (by : Rational) (step row : List Rational) (places : List ℕ) (before 
     all_fit = set_fits next (slice_index places i) value h.all_fit (subst (λ n. slice_index places i < n) (sym (h.put.long ∙ h.long)) b) f;
   }
 
-  pub lowered_refused : slice_index places i < length row → lowered_fits (cell row (slice_index places i)) by (cell step (slice_index places i)) ≡ false → differences_fit by step row ≡ false
+  pub lowered_refused : slice_index places i < length row → lowered_fits (cell row (slice_index places i)) by (cell step (slice_index places i)) ≡ false → differences_fit (length row) (cell row) by (cell step) ≡ false
   lowered_refused b e = all_below_failed (length row) (slice_index places i) (λ k. lowered_fits (cell row k) by (cell step k)) b e
 
   -- at the end
@@ -240,7 +239,7 @@ module _ (by : Rational) (step row : List Rational) (places : List ℕ) (before 
         by_found (inl z) = zero z
         by_found (inr f) = subst P f.2 (place f.0 (subst (λ n. f.0 < n) (sym all) f.1) (subst (λ n. n < length row) (sym f.2) b))
 
-    pub lowered_fit : differences_fit by step row ≡ true
+    pub lowered_fit : differences_fit (length row) (cell row) by (cell step) ≡ true
     lowered_fit =
         all_below_all (length row) (λ j. lowered_fits (cell row j) by (cell step j)) (λ j b. by_place (λ j. lowered_fits (cell row j) by (cell step j) ≡ true) j b (λ z. lowered_fits-zero (cell row j) by (cell step j) (step-zero by (cell step j) z) (fits j)) h.fit)
 

@@ -1,26 +1,24 @@
 -- The rows worked out, or put in place, up to the i-th.
-use Rattle.std.specs.Prelude.{◌≡◌, ℕ, ◌+◌, ◌<◌, ◌≤◌, Bool, true, false, ◌||◌, nat_eq, List, length, slice_index_or, Some, slice_get, slice_set, refl}
+use Rattle.std.specs.Prelude.{◌≡◌, ℕ, ◌+◌, ◌<◌, ◌≤◌, Bool, true, false, ◌||◌, nat_eq, List, length, slice_index_or, Some, slice_get, slice_set}
 use Rattle.std.proofs.Common.{sym, ◌∙◌, ap, ap₂, arith, subst}
-use Rattle.std.proofs.lemmas.Bool.{eq-eqb, eqb-true}
+use Rattle.std.proofs.lemmas.Bool.{eq-eqb, ne_eqb}
 use Rattle.std.proofs.lemmas.List.{length-set}
 use Rattle.std.proofs.Math.Bool.{or-true}
-use Rattle.std.proofs.lemmas.Option.{slice_get-get_or}
 use Rattle.ratio_core.specs.Rational.{Rational}
 use Rattle.tableau_core.specs.declared.kept.Row.{Row}
 use Rattle.tableau_core.specs.Places.{Covers}
-use Rattle.tableau_core.specs.Row.{IsLowered, IsPrepared, cell, differences_fit}
+use Rattle.tableau_core.specs.Row.{IsLowered, IsPrepared, cell, lowering_fits}
 use Rattle.tableau_core.specs.Rows.{ArePrepared, AreWide, next_at, next_numbers, now_at, numbers, rows_fit}
-use Rattle.tableau_core.specs.WrittenLaws.{written_at, written_off}
+use Rattle.tableau_core.specs.ItemLaws.{each_written, read_at, written_off}
 use Rattle.simplex_laws.specs.SearchLaws.{all_below_failed, all_below_more}
 use Rattle.simplex_form.specs.Search.{all_below}
-use Rattle.simplex_laws.specs.BoundedSumLaws.{same_or_other}
 
 -- the rows below i are worked out, and all stand
 pub record ArePreparedTo (r q : ℕ) (step : List Rational) (before rows : List Row) (i : ℕ) : Type 0 where
   pub within : i ≤ length before
   pub long : length rows ≡ length before
   pub stays : (k : ℕ) → now_at rows k ≡ now_at before k
-  pub fit : all_below i (λ k. nat_eq k r || differences_fit (cell (now_at before k) q) step (now_at before k)) ≡ true
+  pub fit : all_below i (λ k. nat_eq k r || lowering_fits q step (now_at before k)) ≡ true
   pub prepared : (k : ℕ) → k < i → ¬ (k ≡ r) → IsPrepared q step (now_at rows k) (next_at rows k)
 
 -- the rows below i are put in place
@@ -31,31 +29,27 @@ pub record AreSettledTo (r q : ℕ) (places : List ℕ) (before rows : List Row)
   pub pivot_stays : now_at rows r ≡ now_at before r
   pub lowered : (step : List Rational) → AreWide (length step) before → Covers places step → ArePrepared r q step before → (k : ℕ) → k < i → ¬ (k ≡ r) → IsLowered (cell (now_at before k) q) step (now_at before k) (now_at rows k)
 
--- ---- a row that is read
-
-pub read_at : (rows : List Row) (i : ℕ) (d : Row) → i < length rows → slice_get rows i ≡ Some (slice_index_or rows i d)
-read_at rows i d b = slice_get-get_or rows i d b
-
 -- ---- the rows worked out
 
 module _ (r q : ℕ) (step : List Rational) (before rows : List Row) (i : ℕ) where
   abbrev row_fits : ℕ → Bool
-  row_fits k = nat_eq k r || differences_fit (cell (now_at before k) q) step (now_at before k)
+  row_fits k = nat_eq k r || lowering_fits q step (now_at before k)
 
   row_stands : (d : Row) → ArePreparedTo r q step before rows i → i < length before → (slice_index_or rows i d).now.items ≡ now_at before i
   row_stands d h b = sym (ap numbers (read_at rows i d (subst (λ n. i < n) (sym h.long) b))) ∙ h.stays i
 
-  pub prepared-more : (d new : Row) → ArePreparedTo r q step before rows i → i < length before → new.now.items ≡ (slice_index_or rows i d).now.items → true ≡ differences_fit (cell (slice_index_or rows i d).now.items q) step (slice_index_or rows i d).now.items → IsPrepared q step (slice_index_or rows i d).now.items new.next.items → ArePreparedTo r q step before (slice_set rows i new) (i + 1)
+  pub prepared-more : (d new : Row) → ArePreparedTo r q step before rows i → i < length before → new.now.items ≡ (slice_index_or rows i d).now.items → true ≡ lowering_fits q step (slice_index_or rows i d).now.items → IsPrepared q step (slice_index_or rows i d).now.items new.next.items → ArePreparedTo r q step before (slice_set rows i new) (i + 1)
   prepared-more d new h b same fits made =
       let at : i < length rows = subst (λ n. i < n) (sym h.long) b in
-      let here : slice_get (slice_set rows i new) i ≡ Some new = written_at rows i new at in
       let old : (slice_index_or rows i d).now.items ≡ now_at before i = row_stands d h b in
       record {
         within = omega (arith, b);
         long = length-set rows i new ∙ h.long;
-        stays = λ k. same_or_other (now_at (slice_set rows i new) k ≡ now_at before k) k i (λ e. subst (λ j. now_at (slice_set rows i new) j ≡ now_at before j) (sym e) (ap numbers here ∙ same ∙ old)) (λ m. ap numbers (written_off rows i k new m) ∙ h.stays k);
-        fit = all_below_more i row_fits h.fit (ap (λ x. nat_eq i r || x) (subst (λ row. differences_fit (cell row q) step row ≡ true) old (sym fits)) ∙ or-true (nat_eq i r));
-        prepared = λ k c n. same_or_other (IsPrepared q step (now_at (slice_set rows i new) k) (next_at (slice_set rows i new) k)) k i (λ e. subst (λ j. IsPrepared q step (now_at (slice_set rows i new) j) (next_at (slice_set rows i new) j)) (sym e) (subst (λ o. IsPrepared q step (numbers o) (next_numbers o)) (sym here) (subst (λ row. IsPrepared q step row new.next.items) (sym same) made))) (λ m. subst (λ o. IsPrepared q step (numbers o) (next_numbers o)) (sym (written_off rows i k new m)) (h.prepared k (omega (arith, c, m)) n));
+        stays = each_written (λ k o. numbers o ≡ now_at before k) rows i new at (same ∙ old) (λ k m. h.stays k);
+        fit = all_below_more i row_fits h.fit (ap (λ x. nat_eq i r || x) (subst (λ row. lowering_fits q step row ≡ true) old (sym fits)) ∙ or-true (nat_eq i r));
+        prepared =
+            each_written (λ k o. k < i + 1 → ¬ (k ≡ r) → IsPrepared q step (numbers o) (next_numbers o)) rows i new at
+            (λ _ _. subst (λ row. IsPrepared q step row new.next.items) (sym same) made) (λ k m c n. h.prepared k (omega (arith, c, m)) n);
       }
 
   -- the pivot's row is passed over
@@ -64,7 +58,7 @@ module _ (r q : ℕ) (step : List Rational) (before rows : List Row) (i : ℕ) w
     within = omega (arith, b);
     long = h.long;
     stays = h.stays;
-    fit = all_below_more i row_fits h.fit (ap (λ x. x || differences_fit (cell (now_at before i) q) step (now_at before i)) (eq-eqb i r e));
+    fit = all_below_more i row_fits h.fit (ap (λ x. x || lowering_fits q step (now_at before i)) (eq-eqb i r e));
     prepared = λ k c n. h.prepared k (omega (arith, c, below_lem k i r n e)) n;
   }
     where
@@ -72,14 +66,10 @@ module _ (r q : ℕ) (step : List Rational) (before rows : List Row) (i : ℕ) w
       below_lem k i r n e f = n (f ∙ e)
 
   -- a row that is refused
-  pub rows-refused : (d : Row) → ArePreparedTo r q step before rows i → i < length before → ¬ (i ≡ r) → false ≡ differences_fit (cell (slice_index_or rows i d).now.items q) step (slice_index_or rows i d).now.items → rows_fit r q step before ≡ false
+  pub rows-refused : (d : Row) → ArePreparedTo r q step before rows i → i < length before → ¬ (i ≡ r) → false ≡ lowering_fits q step (slice_index_or rows i d).now.items → rows_fit r q step before ≡ false
   rows-refused d h b n fits =
       all_below_failed (length before) i row_fits b
-      (ap₂ ◌||◌ (other_lem (nat_eq i r) refl) (subst (λ row. differences_fit (cell row q) step row ≡ false) (row_stands d h b) (sym fits)))
-    where
-      other_lem : (t : Bool) → nat_eq i r ≡ t → nat_eq i r ≡ false
-      other_lem true e = absurd (n (eqb-true i r e))
-      other_lem false e = e
+      (ap₂ ◌||◌ (ne_eqb i r n) (subst (λ row. lowering_fits q step row ≡ false) (row_stands d h b) (sym fits)))
 
 -- ---- the rows put in place
 
@@ -87,14 +77,16 @@ module _ (r q : ℕ) (places : List ℕ) (before rows : List Row) (i : ℕ) wher
   pub settled-more : (d new : Row) → AreSettledTo r q places before rows i → i < length before → ¬ (i ≡ r) → ((step : List Rational) → length (slice_index_or rows i d).now.items ≤ length step → Covers places step → IsPrepared q step (slice_index_or rows i d).now.items (slice_index_or rows i d).next.items → IsLowered (cell (slice_index_or rows i d).now.items q) step (slice_index_or rows i d).now.items new.now.items) → AreSettledTo r q places before (slice_set rows i new) (i + 1)
   settled-more d new h b n low =
       let at : i < length rows = subst (λ n. i < n) (sym h.long) b in
-      let here : slice_get (slice_set rows i new) i ≡ Some new = written_at rows i new at in
       let old : Some (slice_index_or rows i d) ≡ slice_get before i = sym (read_at rows i d at) ∙ h.later i (omega arith) in
       record {
         within = omega (arith, b);
         long = length-set rows i new ∙ h.long;
         later = λ k c. written_off rows i k new (λ e. above_lem k i c e) ∙ h.later k (omega (arith, c));
         pivot_stays = ap numbers (written_off rows i r new (λ e. n (sym e))) ∙ h.pivot_stays;
-        lowered = λ step wide covers p k c m. same_or_other (IsLowered (cell (now_at before k) q) step (now_at before k) (now_at (slice_set rows i new) k)) k i (λ e. subst (λ j. IsLowered (cell (now_at before j) q) step (now_at before j) (now_at (slice_set rows i new) j)) (sym e) (subst (λ o. IsLowered (cell (now_at before i) q) step (now_at before i) (numbers o)) (sym here) (lowered_here old (low step (at_most (ap (λ o. length (numbers o)) old ∙ wide i b)) covers) (p i b n)))) (λ f. subst (λ o. IsLowered (cell (now_at before k) q) step (now_at before k) (numbers o)) (sym (written_off rows i k new f)) (h.lowered step wide covers p k (omega (arith, c, f)) m));
+        lowered = λ step wide covers p.
+            each_written (λ k o. k < i + 1 → ¬ (k ≡ r) → IsLowered (cell (now_at before k) q) step (now_at before k) (numbers o)) rows i new at
+            (λ _ _. lowered_here old (low step (at_most (ap (λ o. length (numbers o)) old ∙ wide i b)) covers) (p i b n))
+            (λ k f c m. h.lowered step wide covers p k (omega (arith, c, f)) m);
       }
     where
       at_most : {a b : ℕ} → a ≡ b → a ≤ b

@@ -1,38 +1,37 @@
 -- A pivot put in place: the other rows first, and then the pivot's.
-use Rattle.std.specs.Prelude.{◌≡◌, ℕ, ◌<◌, Bool, List, length, slice_index_or, slice_set, IsTrue}
+use Rattle.std.specs.Prelude.{◌≡◌, ℕ, ◌+◌, ◌<◌, Bool, List, length, slice_index_or, slice_set, IsTrue}
 use Rattle.std.proofs.Common.{sym, ◌∙◌, ap, subst}
 use Rattle.std.proofs.lemmas.List.{length-set}
 use Rattle.ratio_core.specs.Rational.{Rational}
 use Rattle.tableau_core.specs.declared.kept.Row.{Row}
-use Rattle.tableau_core.specs.Row.{IsDivided, IsLowered, cell}
-use Rattle.tableau_core.specs.Rows.{AreLowered, AreWide, now_at, numbers}
-use Rattle.tableau_core.specs.Pivoting.{IsReady, IsSettled}
-use Rattle.tableau_core.specs.WrittenLaws.{written_at, written_off}
-use Rattle.tableau_core.proofs.RowsSteps.{read_at}
-use Rattle.simplex_laws.specs.BoundedSumLaws.{same_or_other}
+use Rattle.tableau_core.specs.KeptLaws.{settled_by}
+use Rattle.tableau_core.specs.Numbers.{AreLess, IsSettled}
+use Rattle.tableau_core.specs.Row.{IsLowered, cell}
+use Rattle.tableau_core.specs.Rows.{AreLowered, AreWide, now_at, numbers, numbers_in}
+use Rattle.tableau_core.specs.Pivoting.{IsReady}
+use Rattle.tableau_core.specs.ItemLaws.{each_written, read_at, written_at, written_off}
 
 module _ (before middle : List Row) (r q : ℕ) (step : List Rational) (new : Row) (count : length middle ≡ length before) (row : r < length before) (is : new.now.items ≡ step) where
   new_row : now_at (slice_set middle r new) r ≡ step
   new_row = ap numbers (written_at middle r new (subst (λ n. r < n) (sym count) row)) ∙ is
 
-  lowered_others : AreLowered r q step before middle → AreLowered r q (now_at (slice_set middle r new) r) before (slice_set middle r new)
-  lowered_others h i b n =
-      subst (λ s. IsLowered (cell (now_at before i) q) s (now_at before i) (now_at (slice_set middle r new) i)) (sym new_row)
-      (subst (λ o. IsLowered (cell (now_at before i) q) step (now_at before i) (numbers o)) (sym (written_off middle r i new n)) (h i b n))
-
-  pub settled-all : (in_first : Bool) (first second : Row) (first_after second_after : List Rational) → IsReady before r q in_first first second step → AreLowered r q step before middle → (IsTrue in_first → IsLowered (cell first.now.items q) step first.now.items first_after) → IsLowered (cell second.now.items q) step second.now.items second_after → IsSettled before (slice_set middle r new) r q in_first first.now.items first_after second.now.items second_after
-  settled-all in_first first second first_after second_after ready low f s = record {
-    divided = subst (λ x. IsDivided (cell (now_at before r) q) (now_at before r) x) (sym new_row) ready.divided;
-    others = lowered_others low;
-    first_lowered = λ u. subst (λ x. IsLowered (cell first.now.items q) x first.now.items first_after) (sym new_row) (f u);
-    second_lowered = subst (λ x. IsLowered (cell second.now.items q) x second.now.items second_after) (sym new_row) s;
-  }
+  -- the cost rows have w numbers
+  pub settled-all : (w : ℕ) (in_first : Bool) (first second : Row) (first_after second_after : List Rational) → AreWide (w + 1) before → length first.now.items ≡ w → length second.now.items ≡ w → IsReady before r q in_first first second step → AreLowered r q step before middle → (IsTrue in_first → IsLowered (cell first.now.items q) step first.now.items first_after) → IsLowered (cell second.now.items q) step second.now.items second_after → IsSettled w r q in_first (numbers_in before first.now.items second.now.items) (numbers_in (slice_set middle r new) first_after second_after)
+  settled-all w in_first first second first_after second_after wide f s ready low first_low second_low =
+      settled_by w r q in_first (numbers_in before first.now.items second.now.items) (numbers_in (slice_set middle r new) first_after second_after) (cell step)
+      (λ j. ap (λ l. cell l j) new_row)
+      (λ j b. ready.divided.cells j (subst (λ n. j < n) (sym (wide r row)) b))
+      (λ i b m. less (w + 1) (now_at before i) (now_at (slice_set middle r new) i) (wide i b)
+      (subst (λ o. IsLowered (cell (now_at before i) q) step (now_at before i) (numbers o)) (sym (written_off middle r i new m)) (low i b m)))
+      (λ u. less w first.now.items first_after f (first_low u)) (less w second.now.items second_after s second_low)
+    where
+      less : (n : ℕ) (old next : List Rational) → length old ≡ n → IsLowered (cell old q) step old next → AreLess n q (cell step) (cell old) (cell next)
+      less n old next e l j b = l.cells j (subst (λ k. j < k) (sym e) b)
 
   pub settled-wide : (n : ℕ) → length step ≡ n → AreWide n before → AreLowered r q step before middle → AreWide n (slice_set middle r new)
-  settled-wide n long wide low i b =
-      same_or_other (length (now_at (slice_set middle r new) i) ≡ n) i r
-      (λ e. subst (λ j. length (now_at (slice_set middle r new) j) ≡ n) (sym e) (ap length new_row ∙ long))
-      (λ m. ap (λ o. length (numbers o)) (written_off middle r i new m) ∙ (low i (within i b) m).long ∙ wide i (within i b))
+  settled-wide n long wide low =
+      each_written (λ i o. i < length (slice_set middle r new) → length (numbers o) ≡ n) middle r new (subst (λ k. r < k) (sym count) row)
+      (λ _. ap length is ∙ long) (λ i m b. (low i (within i b) m).long ∙ wide i (within i b))
     where
       within : (i : ℕ) → i < length (slice_set middle r new) → i < length before
       within i b = subst (λ k. i < k) (length-set middle r new ∙ count) b

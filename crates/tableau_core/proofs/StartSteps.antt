@@ -1,6 +1,6 @@
 -- A column's sum up to the i-th row.
 use Rattle.std.specs.Prelude.{◌≡◌, ℕ, ◌+◌, ◌*◌, ◌<◌, ◌≤◌, Bool, true, false, suc, refl, List, length, replicate}
-use Rattle.std.proofs.Common.{sym, ◌∙◌, ap, arith, subst, mul-le-mul_right, true≢false}
+use Rattle.std.proofs.Common.{sym, ◌∙◌, ap, arith, subst, true≢false}
 use Rattle.std.proofs.lemmas.List.{length-replicate}
 use Rattle.ratio_core.specs.Rational.{Fits, Rational, SumFits, neg_ℚ, sum_fits, zero_ℚ, ◌+ℚ◌}
 use Rattle.ratio_core.specs.RationalLaws.{sum_fits_Decides}
@@ -95,16 +95,3 @@ module _ (m c : ℕ) (matrix : List Rational) (i : ℕ) (sums : List Rational) (
         (λ k. first-real F j (cell prices j) k (negated.changed j k ∙ ap neg_ℚ ((h.columns j k).value ∙ ap (λ n. sum_to n (λ l. cell matrix (l * c + j))) all)))
         (λ k. negated.others j k ∙ h.rest j k ∙ sym (first-artificial F j k b));
   }
-
--- an entry's place is within the matrix
-pub place_within : (m c i j n : ℕ) → n ≡ m * c → i < m → j < c → i * c + j < n
-place_within m c i j n e h k = subst (λ x. i * c + j < x) (sym e) (within_lem m c i j h k)
-  where
-    within_lem : (m c i j : ℕ) → i < m → j < c → i * c + j < m * c
-    within_lem m c i j h k = lt_lem (i * c + j) ((i + 1) * c) (m * c) (omega (arith, k)) (mul-le c (i + 1) m (omega (arith, h)))
-      where
-        lt_lem : (a b d : ℕ) → a < b → b ≤ d → a < d
-        lt_lem a b d p q = omega (arith, p, q)
-
-        mul-le : (c a b : ℕ) → a ≤ b → a * c ≤ b * c
-        mul-le c a b p = mul-le-mul_right c p

@@ -2,6 +2,8 @@
 pub mod Row
 pub mod Places
 pub mod Rows
+pub mod Numbers
+pub mod TestLaws
 pub mod Contents
 pub mod ContentsLaws
 pub mod KeptLaws
@@ -10,6 +12,7 @@ pub mod Kept
 pub mod Start
 pub mod SignLaws
 pub mod LeastLaws
-pub mod WrittenLaws
+pub mod ItemLaws
+pub mod ListLaws
 pub mod LoweringLaws
 pub mod StartLaws

@@ -1,8 +1,7 @@
 -- What a pivot makes of a row of numbers.
 use Rattle.std.specs.Prelude.{◌≡◌, ℕ, ◌<◌, ◌≤◌, Bool, List, length, slice_index, slice_index_or}
-use Rattle.ratio_core.specs.Rational.{Fits, Rational, fits, zero_ℚ, ◌*ℚ◌, ◌-ℚ◌, ◌/ℚ◌}
-use Rattle.simplex_form.specs.Fit.{lowered_fits}
-use Rattle.simplex_form.specs.Search.{all_below}
+use Rattle.ratio_core.specs.Rational.{Fits, Rational, zero_ℚ, ◌*ℚ◌, ◌-ℚ◌, ◌/ℚ◌}
+use Rattle.tableau_core.specs.Numbers.{differences_fit}
 
 -- the j-th number of a row
 abbrev pub cell : List Rational → ℕ → Rational
@@ -12,17 +11,14 @@ cell row j = slice_index_or row j zero_ℚ
 abbrev pub AllFit : List Rational → Type 0
 AllFit row = (j : ℕ) → Fits (cell row j)
 
-abbrev pub quotients_fit : Rational → List Rational → Bool
-quotients_fit by row = all_below (length row) (λ j. fits (cell row j /ℚ by))
-
 -- each number is divided
 pub record IsDivided (by : Rational) (row next : List Rational) : Type 0 where
   pub long : length next ≡ length row
   pub cells : (j : ℕ) → j < length row → cell next j ≡ cell row j /ℚ by
 
-abbrev pub differences_fit : Rational → List Rational → List Rational → Bool
-differences_fit by step row =
-    all_below (length row) (λ j. lowered_fits (cell row j) by (cell step j))
+-- each product and difference fits of a row that is lowered by its entry of column q
+abbrev pub lowering_fits : ℕ → List Rational → List Rational → Bool
+lowering_fits q step row = differences_fit (length row) (cell row) (cell row q) (cell step)
 
 -- each number is lowered by a multiple of the step's
 pub record IsLowered (by : Rational) (step row next : List Rational) : Type 0 where

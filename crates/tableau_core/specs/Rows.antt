@@ -2,7 +2,8 @@
 use Rattle.std.specs.Prelude.{◌≡◌, ℕ, ◌<◌, Bool, ◌||◌, nat_eq, List, [], length, Option, Some, None, slice_get}
 use Rattle.ratio_core.specs.Rational.{Rational}
 use Rattle.tableau_core.specs.declared.kept.Row.{Row}
-use Rattle.tableau_core.specs.Row.{IsLowered, IsPrepared, cell, differences_fit}
+use Rattle.tableau_core.specs.Numbers.{Numbers}
+use Rattle.tableau_core.specs.Row.{IsLowered, IsPrepared, cell, lowering_fits}
 use Rattle.simplex_form.specs.Search.{all_below}
 
 abbrev pub numbers : Option Row → List Rational
@@ -20,6 +21,15 @@ now_at rows i = numbers (slice_get rows i)
 abbrev pub next_at : List Row → ℕ → List Rational
 next_at rows i = next_numbers (slice_get rows i)
 
+-- the numbers of the rows, each of which ends with its right side, and of the two cost rows
+abbrev pub numbers_in : List Row → List Rational → List Rational → Numbers
+numbers_in rows first second = record {
+  rows = length rows;
+  number = λ i. cell (now_at rows i);
+  first = cell first;
+  second = cell second;
+}
+
 -- each row has n numbers
 abbrev pub AreWide : ℕ → List Row → Type 0
 AreWide n rows = (i : ℕ) → i < length rows → length (now_at rows i) ≡ n
@@ -27,8 +37,7 @@ AreWide n rows = (i : ℕ) → i < length rows → length (now_at rows i) ≡ n
 -- each product and difference of the rows other than r fits
 abbrev pub rows_fit : ℕ → ℕ → List Rational → List Row → Bool
 rows_fit r q step rows =
-    all_below (length rows)
-    (λ i. nat_eq i r || differences_fit (cell (now_at rows i) q) step (now_at rows i))
+    all_below (length rows) (λ i. nat_eq i r || lowering_fits q step (now_at rows i))
 
 abbrev pub ArePrepared : ℕ → ℕ → List Rational → List Row → Type 0
 ArePrepared r q step rows =

@@ -1,6 +1,7 @@
 -- The numbers of a board at its start, as the code makes them.
-use Rattle.std.specs.Prelude.{◌≡◌, ℕ, ◌+◌, ◌-◌, ◌<◌, ◌≤◌}
+use Rattle.std.specs.Prelude.{◌≡◌, ℕ, ◌+◌, ◌*◌, ◌-◌, ◌<◌, ◌≤◌}
 use Rattle.std.proofs.Common.{sym, ◌∙◌, ap, arith}
+use Rattle.std.proofs.lemmas.Nat.{mul-add-lt}
 use Rattle.ratio_core.specs.Rational.{Rational, neg_ℚ, one_ℚ, zero_ℚ}
 use Rattle.simplex_form.specs.Basis.{start}
 use Rattle.simplex_form.specs.Board.{entry, price}
@@ -9,6 +10,10 @@ use Rattle.simplex_form.specs.Form.{Form, first_cost}
 use Rattle.simplex_laws.specs.BoundedSumLaws.{delta_other, delta_same}
 use Rattle.simplex_laws.specs.TrailLaws.{entry-start, first_price-start_artificial, first_price-start_real}
 use Rattle.simplex_laws.specs.TurnLaws.{column_artificial, column_real}
+
+-- the place of column j in row i, of m rows with c columns
+pub place_within : (m c i j n : ℕ) → n ≡ m * c → i < m → j < c → i * c + j < n
+place_within m c i j n e b d = omega (arith, e, mul-add-lt i c j m b d)
 
 module _ (F : Form) (j i : ℕ) (x : Rational) (row : i < F.rows) where
   pub real-entry : j < F.reals → x ≡ F.matrix i j → x ≡ entry F (start F) j i

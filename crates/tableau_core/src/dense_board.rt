@@ -1,14 +1,14 @@
 //! The dense board: each row is kept whole.
 ghost use Rattle.std.specs.Prelude.{◌≡◌};
 
-use crate::fault::{BoardFault, BoardOverflow};
+use crate::fault::BoardOverflow;
 use crate::kept::{Row, zeros};
 use crate::pivoting::{prepare_pivot, settle_pivot};
 use crate::places::room_for_places;
 use crate::scan::{first_negative, first_nonzero};
 use crate::start::{first_prices, second_prices, start_basis, start_rows};
 use crate::tableau::Tableau;
-use ratio_core::Ratio;
+use ratio_core::{NumberFault, Ratio};
 use std::alloc::Global;
 use std::marker::Model;
 
@@ -49,7 +49,7 @@ impl Tableau for DenseBoard {
         matrix: &[Ratio],
         right: &[Ratio],
         costs: &[Ratio],
-    ) -> Result<DenseBoard, BoardFault> {
+    ) -> Result<DenseBoard, NumberFault> {
         let first = Row::new(alloc, first_prices(alloc, m, c, matrix)?)?;
         let second = Row::new(alloc, second_prices(alloc, m, costs)?)?;
         let rows = start_rows(alloc, m, c, matrix, right)?;

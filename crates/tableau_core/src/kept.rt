@@ -2,7 +2,7 @@
 ghost use Rattle.std.specs.Prelude.{◌≡◌, ◌<◌, ◌≤◌, List, ◌||◌, not, IsTrue, length, is_ok, IfOk, OnOk};
 ghost use Rattle.ratio_core.specs.Rational.{Rational};
 ghost use Rattle.tableau_core.specs.Places.{Covers};
-ghost use Rattle.tableau_core.specs.Row.{AllFit, IsLowered, IsPrepared, cell, differences_fit};
+ghost use Rattle.tableau_core.specs.Row.{AllFit, IsLowered, IsPrepared, cell, lowering_fits};
 
 use crate::fault::BoardOverflow;
 use crate::row::{lower, put_at};
@@ -48,8 +48,7 @@ impl Row {
         requires step_long { length self.old.now.items ≤ length step.now }
         requires covers { Covers places.now step.now }
         ensures stays { self.new.now.items ≡ self.old.now.items }
-        ensures fits { is_ok result
-            ≡ differences_fit (cell self.old.now.items q) step.now self.old.now.items }
+        ensures fits { is_ok result ≡ lowering_fits q step.now self.old.now.items }
         ensures ok { OnOk result (IsPrepared q step.now self.old.now.items self.new.next.items) }
     {
         let by = self.now[q];
@@ -98,8 +97,7 @@ pub(crate) fn prepare_if(
     requires step_long { length row.old.now.items ≤ length step.now }
     requires covers { Covers places.now step.now }
     ensures stays { row.new.now.items ≡ row.old.now.items }
-    ensures fits { is_ok result
-        ≡ (not used || differences_fit (cell row.old.now.items q) step.now row.old.now.items) }
+    ensures fits { is_ok result ≡ (not used || lowering_fits q step.now row.old.now.items) }
     ensures ok { OnOk result
         (IsTrue used → IsPrepared q step.now row.old.now.items row.new.next.items) }
 {

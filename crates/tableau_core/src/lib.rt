@@ -15,7 +15,7 @@ mod start;
 mod tableau;
 
 pub use dense_board::DenseBoard;
-pub use fault::{BoardFault, BoardOverflow};
+pub use fault::BoardOverflow;
 pub use row::lowered;
 pub use sign::{is_negative, is_positive};
 pub use start::{first_prices, second_prices, start_basis};

@@ -1,10 +1,11 @@
 //! A pivot worked out beside what stands.
-ghost use Rattle.std.specs.Prelude.{◌≡◌, ◌≢◌, ◌<◌, ◌≤◌, ℕ, length, take, is_ok, IfOk, OnOk};
+ghost use Rattle.std.specs.Prelude.{◌≡◌, ◌≢◌, ◌+◌, ◌<◌, ◌≤◌, ℕ, length, take, is_ok, IfOk, OnOk};
 ghost use Rattle.ratio_core.specs.Rational.{zero_ℚ};
+ghost use Rattle.tableau_core.specs.Numbers.{IsSettled, numbers_fit, quotients_fit};
 ghost use Rattle.tableau_core.specs.Places.{Covers};
-ghost use Rattle.tableau_core.specs.Row.{AllFit, IsDivided, cell, quotients_fit};
-ghost use Rattle.tableau_core.specs.Rows.{AreWide, now_at};
-ghost use Rattle.tableau_core.specs.Pivoting.{IsReady, IsSettled, numbers_fit};
+ghost use Rattle.tableau_core.specs.Row.{AllFit, IsDivided, cell};
+ghost use Rattle.tableau_core.specs.Rows.{AreWide, now_at, numbers_in};
+ghost use Rattle.tableau_core.specs.Pivoting.{IsReady};
 
 use crate::fault::BoardOverflow;
 use crate::kept::{Row, prepare_if, settle_if};
@@ -29,19 +30,17 @@ pub(crate) fn prepare_pivot(
     requires places_long { length step.old ≤ length places.old }
     requires row { r < length rows.old }
     requires wide { AreWide (length step.old) rows.old }
-    requires first_within { q < length first.old.now.items }
-    requires first_long { length first.old.now.items ≤ length step.old }
-    requires second_within { q < length second.old.now.items }
-    requires second_long { length second.old.now.items ≤ length step.old }
+    requires column { q < length second.old.now.items }
+    requires first_long { length first.old.now.items ≡ length second.old.now.items }
+    requires step_long { length step.old ≡ length second.old.now.items + 1 }
     requires step_fits { AllFit step.old }
     requires nonzero { cell (now_at rows.old r) q ≢ zero_ℚ }
     ensures rows_stay { (i : ℕ) → now_at rows.new i ≡ now_at rows.old i }
     ensures first_stays { first.new.now.items ≡ first.old.now.items }
     ensures second_stays { second.new.now.items ≡ second.old.now.items }
     ensures step_fits { AllFit step.new }
-    ensures fits { is_ok result
-        ≡ numbers_fit (length rows.old) (now_at rows.old) r q in_first
-        first.old.now.items second.old.now.items }
+    ensures fits { is_ok result ≡ numbers_fit (length second.old.now.items) r q in_first
+        (numbers_in rows.old first.old.now.items second.old.now.items) }
     ensures used { IfOk result (λ used. used ≤ length places.new) }
     ensures covers { IfOk result (λ used. Covers (take used places.new) step.new) }
     ensures ok { OnOk result (IsReady rows.new r q in_first first.new second.new step.new) }
@@ -63,7 +62,8 @@ fn divide_row(rows: &[Row], r: usize, q: usize, step: &mut [Ratio]) -> Result<()
     requires step_fits { AllFit step.old }
     requires nonzero { cell (now_at rows.now r) q ≢ zero_ℚ }
     ensures step_fits { AllFit step.new }
-    ensures fits { is_ok result ≡ quotients_fit (cell (now_at rows.now r) q) (now_at rows.now r) }
+    ensures fits { is_ok result ≡ quotients_fit (length (now_at rows.now r))
+        (cell (now_at rows.now r)) (cell (now_at rows.now r) q) }
     ensures ok { OnOk result (IsDivided (cell (now_at rows.now r) q) (now_at rows.now r) step.new) }
 {
     let row = &rows[r];
@@ -84,16 +84,15 @@ pub(crate) fn settle_pivot(
 )
     requires row { r < length rows.old }
     requires wide { AreWide (length step.old.items) rows.old }
-    requires within { q < length step.old.items }
-    requires first_within { q < length first.old.now.items }
-    requires first_long { length first.old.now.items ≤ length step.old.items }
-    requires second_within { q < length second.old.now.items }
-    requires second_long { length second.old.now.items ≤ length step.old.items }
+    requires column { q < length second.old.now.items }
+    requires first_long { length first.old.now.items ≡ length second.old.now.items }
+    requires step_long { length step.old.items ≡ length second.old.now.items + 1 }
     requires step_fits { AllFit step.old.items }
     requires covers { Covers places.now step.old.items }
     requires ready { IsReady rows.old r q in_first first.old second.old step.old.items }
-    ensures settled { IsSettled rows.old rows.new r q in_first
-        first.old.now.items first.new.now.items second.old.now.items second.new.now.items }
+    ensures settled { IsSettled (length second.old.now.items) r q in_first
+        (numbers_in rows.old first.old.now.items second.old.now.items)
+        (numbers_in rows.new first.new.now.items second.new.now.items) }
     ensures wide { AreWide (length step.old.items) rows.new }
     ensures first_long { length first.new.now.items ≡ length first.old.now.items }
     ensures second_long { length second.new.now.items ≡ length second.old.now.items }

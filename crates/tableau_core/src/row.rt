@@ -2,8 +2,9 @@
 ghost use Rattle.std.specs.Prelude.{◌≡◌, ◌≢◌, ◌≤◌, length, is_ok, IfOk, OkIff, OnOk};
 ghost use Rattle.ratio_core.specs.Rational.{Fits, SumFits, neg_ℚ, zero_ℚ, ◌*ℚ◌, ◌-ℚ◌, ◌/ℚ◌};
 ghost use Rattle.simplex_form.specs.Fit.{lowered_fits};
+ghost use Rattle.tableau_core.specs.Numbers.{differences_fit, quotients_fit};
 ghost use Rattle.tableau_core.specs.Places.{Covers};
-ghost use Rattle.tableau_core.specs.Row.{AllFit, IsDivided, IsLoweredBeside, IsPutAt, cell, differences_fit, quotients_fit};
+ghost use Rattle.tableau_core.specs.Row.{AllFit, IsDivided, IsLoweredBeside, IsPutAt, cell};
 
 use crate::fault::BoardOverflow;
 use ratio_core::{Ratio, RatioFault};
@@ -13,7 +14,7 @@ pub(crate) fn divide(row: &[Ratio], by: &Ratio, next: &mut [Ratio]) -> Result<()
     requires long { length next.old ≡ length row.now }
     requires nonzero { by.now ≢ zero_ℚ }
     requires all_fit { AllFit next.old }
-    ensures fits { is_ok result ≡ quotients_fit by.now row.now }
+    ensures fits { is_ok result ≡ quotients_fit (length row.now) (cell row.now) by.now }
     ensures ok { OnOk result (IsDivided by.now row.now next.new) }
     ensures all_fit { AllFit next.new }
 {
@@ -51,7 +52,8 @@ pub(crate) fn lower(
     requires covers { Covers places.now step.now }
     requires row_fits { AllFit row.now }
     requires next_fits { AllFit next.old }
-    ensures fits { is_ok result ≡ differences_fit by.now step.now row.now }
+    ensures fits { is_ok result ≡ differences_fit (length row.now) (cell row.now) by.now
+        (cell step.now) }
     ensures ok { OnOk result (IsLoweredBeside by.now step.now row.now next.new) }
     ensures all_fit { AllFit next.new }
 {

@@ -10,9 +10,8 @@ ghost use Rattle.tableau_core.specs.Row.{AllFit, IsChanged, cell};
 ghost use Rattle.tableau_core.specs.Rows.{AreWide, now_at};
 ghost use Rattle.tableau_core.specs.Start.{AtEachStart, IsListOf, form_of};
 
-use crate::fault::{BoardFault, BoardOverflow};
 use crate::kept::Row;
-use ratio_core::Ratio;
+use ratio_core::{NumberFault, Ratio, RatioFault};
 use std::alloc::{AllocError, Global};
 
 // The rows, whose basis matrix is the unit matrix.
@@ -89,14 +88,14 @@ pub fn first_prices(
     m: usize,
     c: usize,
     matrix: &[Ratio],
-) -> Result<Vec<Ratio>, BoardFault>
+) -> Result<Vec<Ratio>, NumberFault>
     requires long { length matrix.now ≡ m * c }
     requires room { c + m + 1 < 2 ^ 64 }
     ensures prices { IfOk result (λ prices. AtEachStart m c matrix.now (λ F s.
         IsListOf (c + m) (price F s (first_cost F)) prices.items)) }
     ensures all_fit { IfOk result (λ prices. AllFit prices.items) }
     ensures fits { OnOk result (AtEachStart m c matrix.now (λ F _. start_fits F ≡ true)) }
-    ensures overflow { IsErrOf result BoardFault.Overflow
+    ensures overflow { IsErrOf result NumberFault.Overflow
         → AtEachStart m c matrix.now (λ F _. start_fits F ≡ false) }
 {
     let mut prices = vec![in alloc; Ratio::zero(); c + m]?;
@@ -108,12 +107,7 @@ pub fn first_prices(
 }
 
 // Adds c numbers of the matrix, from the one at `place` on, to the first sums.
-fn add_row(
-    matrix: &[Ratio],
-    place: usize,
-    c: usize,
-    sums: &mut [Ratio],
-) -> Result<(), BoardOverflow>
+fn add_row(matrix: &[Ratio], place: usize, c: usize, sums: &mut [Ratio]) -> Result<(), RatioFault>
     requires within { place + c ≤ length matrix.now }
     requires long { c ≤ length sums.old }
     requires all_fit { AllFit sums.old }
@@ -134,7 +128,7 @@ fn add_row(
 
 // Adds an entry to a sum, without arithmetic where it is 0.
 #[inline]
-fn add_entry(sum: &mut Ratio, entry: &Ratio) -> Result<(), BoardOverflow>
+fn add_entry(sum: &mut Ratio, entry: &Ratio) -> Result<(), RatioFault>
     ensures fits { is_ok result ≡ sum_fits sum.old entry.now }
     ensures ok { OnOk result (sum.new ≡ sum.old +ℚ entry.now) }
     ensures all_fit { Fits sum.old → Fits sum.new }

@@ -7,8 +7,8 @@ ghost use Rattle.simplex_form.specs.Turns as bland;
 ghost use Rattle.tableau_core.specs.Contents.{Contents, IsBoardOf, IsPivoted, prices_of, readings_of, width};
 ghost use Rattle.tableau_core.specs.Start.{form_of};
 
-use crate::fault::{BoardFault, BoardOverflow};
-use ratio_core::Ratio;
+use crate::fault::BoardOverflow;
+use ratio_core::{NumberFault, Ratio};
 use std::alloc::Global;
 
 /// The rows and costs of a form at a basis: the real columns, an artificial column for each row,
@@ -26,7 +26,7 @@ pub trait Tableau: Sized {
         matrix: &[Ratio],
         right: &[Ratio],
         costs: &[Ratio],
-    ) -> Result<Self, BoardFault>
+    ) -> Result<Self, NumberFault>
         requires matrix { length matrix.now ≡ m * c }
         requires right { length right.now ≡ m }
         requires costs { length costs.now ≡ c }
@@ -36,7 +36,7 @@ pub trait Tableau: Sized {
         ensures in_first { IfOk result (λ board. (contents board).in_first ≡ true) }
         ensures fits { OnOk result
             (start_fits (form_of m c matrix.now right.now costs.now) ≡ true) }
-        ensures overflow { IsErrOf result BoardFault.Overflow
+        ensures overflow { IsErrOf result NumberFault.Overflow
             → start_fits (form_of m c matrix.now right.now costs.now) ≡ false };
 
     /// How many rows there are.

@@ -5,7 +5,7 @@ use Rattle.simplex_form.specs.Form.{second_cost}
 use Rattle.tableau_core.specs.Contents.{readings_of}
 use Rattle.simplex_core.specs.Placed.{artificial}
 use Rattle.simplex_core.proofs.Multipliers.{second_multiplier}
-use Rattle.simplex_core.proofs.Placing.{lists_same}
+use Rattle.tableau_core.specs.ListLaws.{lists_same}
 use Rattle.simplex_core.proofs.read_off.optimal.Goals as goal
 
 pub returns : goal.returns

@@ -2,7 +2,8 @@ use Rattle.std.proofs.Common.{◌<◌, ℕ, ap, subst, sym, take, ◌∙◌}
 use Rattle.tableau_core.specs.LoweringLaws.{is_ok-err}
 use Rattle.sparse_board.specs.Numbers.{number_of, width_of}
 use Rattle.sparse_board.specs.Sparse.{AreUnits}
-use Rattle.sparse_board.proofs.PivotSteps.{first-refused, prepared_same, second-decides}
+use Rattle.tableau_core.specs.TestLaws.{first-refused, second-decides}
+use Rattle.sparse_board.proofs.PivotSteps.{prepared_same}
 use Rattle.sparse_board.proofs.RowSteps.{on_ok, on_ok_then, taken_numbers, taken_units}
 use Rattle.sparse_board.proofs.pivoting.prepare_costs.Goals as goal
 

@@ -3,7 +3,8 @@ use Rattle.simplex_form.specs.Search.{all_below}
 use Rattle.tableau_core.specs.LoweringLaws.{is_ok-err}
 use Rattle.sparse_board.specs.Numbers.{number_of, width_of}
 use Rattle.sparse_board.specs.Sparse.{number_among}
-use Rattle.sparse_board.specs.Lowering.{IsPrepared, differences_fit}
+use Rattle.tableau_core.specs.Numbers.{differences_fit}
+use Rattle.sparse_board.specs.Lowering.{IsPrepared}
 use Rattle.sparse_board.specs.Marks.{is_marked}
 use Rattle.sparse_board.proofs.RowsSteps.{ArePreparedTo, prepared-more, prepared-none, prepared-passed, row_fits, rows-refused, touched_is, touched_of}
 use Rattle.sparse_board.proofs.rows.prepare_rows.Goals as goal

@@ -3,11 +3,12 @@ use Rattle.std.proofs.lemmas.Result.{IfOk-weaker}
 use Rattle.simplex_form.specs.Basis.{start}
 use Rattle.simplex_form.specs.Board.{entry}
 use Rattle.simplex_form.specs.Form.{Form}
+use Rattle.tableau_core.specs.ItemLaws.{item_is}
 use Rattle.tableau_core.specs.Start.{form_of}
+use Rattle.tableau_core.specs.StartLaws.{place_within}
 use Rattle.sparse_board.specs.Numbers.{HoldsBelow, number_of, row_columns}
 use Rattle.sparse_board.proofs.HeldLemmas.{below_less}
-use Rattle.sparse_board.proofs.RowSteps.{number_item}
-use Rattle.sparse_board.proofs.StartSteps.{place_within, real_added, side_entries, unit_added}
+use Rattle.sparse_board.proofs.StartSteps.{real_added, side_entries, unit_added}
 use Rattle.sparse_board.proofs.start.start_row.Goals as goal
 
 pub push_any-requires-clause-above : goal.push_any-requires-clause-above
@@ -18,7 +19,7 @@ loop-j-preserved c = record {
   width = c.push_any.ensures.width ∙ c.loop-j.invariant.width;
   held = λ right costs.
       real_added (form_of c.args.m c.args.c c.args.matrix.now right costs) c.args.i c.requires.within c.loop-j.j c.index-matrix-i.result c.loop-j.row c.push_any.new.self c.loop-j-test.true
-      (number_item c.args.matrix.now (c.args.i * c.args.c + c.loop-j.j) c.index-matrix-i.result (place_within c.args.i c.args.c c.loop-j.j c.args.m (length c.args.matrix.now) c.requires.long c.requires.within c.loop-j-test.true) c.index-matrix-i.is)
+      (item_is c.args.matrix.now (c.args.i * c.args.c + c.loop-j.j) c.index-matrix-i.result (place_within c.args.m c.args.c c.args.i c.loop-j.j (length c.args.matrix.now) c.requires.long c.requires.within c.loop-j-test.true) c.index-matrix-i.is)
       (c.loop-j.invariant.held right costs) c.push_any.ensures;
 }
 

@@ -3,10 +3,9 @@ use Rattle.simplex_form.specs.Basis.{start}
 use Rattle.simplex_form.specs.Board.{entry}
 use Rattle.simplex_form.specs.Form.{Form}
 use Rattle.tableau_core.specs.Row.{cell}
+use Rattle.tableau_core.specs.ItemLaws.{each_pushed, item_is, pushed_long}
 use Rattle.tableau_core.specs.Start.{form_of}
-use Rattle.sparse_board.specs.Rows.{numbers, width_at}
-use Rattle.sparse_board.proofs.RowSteps.{number_item}
-use Rattle.sparse_board.proofs.RowsSteps.{count-more, rows-more}
+use Rattle.sparse_board.specs.Rows.{now_of, numbers, width_at}
 use Rattle.sparse_board.proofs.start.start_rows.Goals as goal
 
 pub loop-i-preserved : goal.loop-i-preserved
@@ -17,10 +16,10 @@ loop-i-preserved c =
     let next = c.push.new.self.items in
     let new = c.in_ok-start_row.field-0 in
     record {
-      count = count-more i rows next new count c.in_ok-push.ensures.items;
-      wide = rows-more (λ k o. width_at o ≡ c.args.c + c.args.m + 1) i rows next new count c.loop-i.invariant.wide c.in_ok-start_row.ensures.wide c.in_ok-push.ensures.items;
+      count = pushed_long i rows next new count c.in_ok-push.ensures.items;
+      wide = each_pushed (λ k o. width_at (now_of o) ≡ c.args.c + c.args.m + 1) i rows next new count c.loop-i.invariant.wide c.in_ok-start_row.ensures.wide c.in_ok-push.ensures.items;
       entries = λ right costs.
           let F : Form = form_of c.args.m c.args.c c.args.matrix.now right costs in
-          rows-more (λ k o. (j : ℕ) → j < c.args.c + c.args.m → numbers o j ≡ entry F (start F) j k) i rows next new count (c.loop-i.invariant.entries right costs) (c.in_ok-start_row.ensures.entries right costs) c.in_ok-push.ensures.items;
-      sides = rows-more (λ k o. numbers o (c.args.c + c.args.m) ≡ cell c.args.right.now k) i rows next new count c.loop-i.invariant.sides (c.in_ok-start_row.ensures.side ∙ number_item c.args.right.now i c.index-right-i.result c.loop-i-test.true c.index-right-i.is) c.in_ok-push.ensures.items;
+          each_pushed (λ k o. (j : ℕ) → j < c.args.c + c.args.m → numbers (now_of o) j ≡ entry F (start F) j k) i rows next new count (c.loop-i.invariant.entries right costs) (c.in_ok-start_row.ensures.entries right costs) c.in_ok-push.ensures.items;
+      sides = each_pushed (λ k o. numbers (now_of o) (c.args.c + c.args.m) ≡ cell c.args.right.now k) i rows next new count c.loop-i.invariant.sides (c.in_ok-start_row.ensures.side ∙ item_is c.args.right.now i c.index-right-i.result c.loop-i-test.true c.index-right-i.is) c.in_ok-push.ensures.items;
     }

@@ -1,5 +1,6 @@
 use Rattle.std.proofs.Common.{slice_set, ◌+◌, subst, sym, true≢false, ◌∙◌}
-use Rattle.tableau_core.proofs.RowSteps.{IsNotedTo, item_is, noted_here, noted_none, noted_past}
+use Rattle.tableau_core.specs.ItemLaws.{item_is}
+use Rattle.tableau_core.proofs.RowSteps.{IsNotedTo, noted_here, noted_none, noted_past}
 use Rattle.tableau_core.proofs.places.note_places.Goals as goal
 use Rattle.tableau_core.proofs.places.note_places.Goals.{then-not-is_zero, else-not-is_zero}
 

@@ -3,7 +3,8 @@ use Rattle.std.proofs.Common.{ap₂, arith, subst, sym, ◌∙◌, ◌+◌}
 use Rattle.ratio_core.specs.Rational.{◌*ℚ◌, ◌-ℚ◌}
 use Rattle.simplex_form.specs.Fit.{lowered_fits}
 use Rattle.tableau_core.specs.LoweringLaws.{is_ok-err}
-use Rattle.tableau_core.proofs.RowSteps.{IsLoweredAt, item_is, lowered_beside, lowered_fit, lowered_here, lowered_none, lowered_past, lowered_refused}
+use Rattle.tableau_core.specs.ItemLaws.{item_is}
+use Rattle.tableau_core.proofs.RowSteps.{IsLoweredAt, lowered_beside, lowered_fit, lowered_here, lowered_none, lowered_past, lowered_refused}
 use Rattle.tableau_core.proofs.row.lower.Goals as goal
 use Rattle.tableau_core.proofs.row.lower.Goals.{then-j-row+in_ok-next, else-j-row}
 

@@ -2,7 +2,8 @@ use Rattle.std.specs.Prelude.{slice_index}
 use Rattle.std.proofs.Common.{arith, length, subst, sym, ◌+◌, ◌<◌, ◌≤◌}
 use Rattle.ratio_core.specs.Rational.{Fits}
 use Rattle.tableau_core.specs.Row.{AllFit, IsPutAt, cell}
-use Rattle.tableau_core.proofs.RowSteps.{item_is, put_here, put_past, set_fits}
+use Rattle.tableau_core.specs.ItemLaws.{item_is}
+use Rattle.tableau_core.proofs.RowSteps.{put_here, put_past, set_fits}
 use Rattle.tableau_core.proofs.row.put_at.Goals as goal
 use Rattle.tableau_core.proofs.row.put_at.Goals.{then-j-row, else-j-row}
 

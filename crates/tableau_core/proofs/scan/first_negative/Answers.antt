@@ -3,7 +3,7 @@ use Rattle.ratio_core.specs.Rational.{zero_ℚ}
 use Rattle.simplex_form.specs.Turns.{is_below}
 use Rattle.tableau_core.specs.LeastLaws.{least_found}
 use Rattle.tableau_core.specs.Row.{cell}
-use Rattle.tableau_core.proofs.RowSteps.{item_is}
+use Rattle.tableau_core.specs.ItemLaws.{item_is}
 use Rattle.tableau_core.proofs.scan.first_negative.Goals as goal
 
 pub returns-then-is_negative-clause-value : goal.returns-then-is_negative-clause-value

@@ -2,7 +2,7 @@ use Rattle.std.proofs.Common.{arith, not, sym}
 use Rattle.ratio_core.specs.Rational.{rational_eq, zero_ℚ}
 use Rattle.tableau_core.specs.LeastLaws.{least_found, least_more, nonzero_told, zero_told}
 use Rattle.tableau_core.specs.Row.{cell}
-use Rattle.tableau_core.proofs.RowSteps.{item_is}
+use Rattle.tableau_core.specs.ItemLaws.{item_is}
 use Rattle.tableau_core.proofs.scan.first_nonzero.Goals as goal
 
 pub returns-then-not-is_zero-clause-value : goal.returns-then-not-is_zero-clause-value

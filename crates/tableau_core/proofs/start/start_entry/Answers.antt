@@ -1,8 +1,7 @@
 use Rattle.std.proofs.Common.{length, ◌+◌, ◌*◌}
 use Rattle.tableau_core.specs.Start.{form_of}
-use Rattle.tableau_core.proofs.RowSteps.{item_is}
-use Rattle.tableau_core.proofs.StartSteps.{place_within}
-use Rattle.tableau_core.specs.StartLaws.{real-entry, unit-entry, zero-entry}
+use Rattle.tableau_core.specs.ItemLaws.{item_is}
+use Rattle.tableau_core.specs.StartLaws.{place_within, real-entry, unit-entry, zero-entry}
 use Rattle.tableau_core.proofs.start.start_entry.Goals as goal
 
 pub returns-then-j-c : goal.returns-then-j-c

@@ -3,9 +3,9 @@ use Rattle.simplex_form.specs.Basis.{start}
 use Rattle.simplex_form.specs.Board.{entry}
 use Rattle.simplex_form.specs.Form.{Form}
 use Rattle.tableau_core.specs.Row.{cell}
+use Rattle.tableau_core.specs.Rows.{numbers}
 use Rattle.tableau_core.specs.Start.{form_of}
-use Rattle.tableau_core.proofs.RowSteps.{item_is}
-use Rattle.tableau_core.proofs.ListSteps.{appended-long, rows-more}
+use Rattle.tableau_core.specs.ItemLaws.{each_pushed, item_is, pushed_long}
 use Rattle.tableau_core.proofs.start.start_rows.Goals as goal
 
 pub loop-i-preserved : goal.loop-i-preserved
@@ -16,10 +16,10 @@ loop-i-preserved c =
     let next = c.push.new.self.items in
     let new = c.in_ok-start_row.field-0 in
     record {
-      count = appended-long i rows next new count c.in_ok-push.ensures.items;
-      wide = rows-more (λ k row. length row ≡ c.args.c + c.args.m + 1) i rows next new count c.loop-i.invariant.wide c.in_ok-start_row.ensures.long c.in_ok-push.ensures.items;
+      count = pushed_long i rows next new count c.in_ok-push.ensures.items;
+      wide = each_pushed (λ k o. length (numbers o) ≡ c.args.c + c.args.m + 1) i rows next new count c.loop-i.invariant.wide c.in_ok-start_row.ensures.long c.in_ok-push.ensures.items;
       entries = λ right costs.
           let F : Form = form_of c.args.m c.args.c c.args.matrix.now right costs in
-          rows-more (λ k row. (j : ℕ) → j < c.args.c + c.args.m → cell row j ≡ entry F (start F) j k) i rows next new count (c.loop-i.invariant.entries right costs) (c.in_ok-start_row.ensures.entries right costs) c.in_ok-push.ensures.items;
-      sides = rows-more (λ k row. cell row (c.args.c + c.args.m) ≡ cell c.args.right.now k) i rows next new count c.loop-i.invariant.sides (c.in_ok-start_row.ensures.side ∙ item_is c.args.right.now i c.index-right-i.result c.loop-i-test.true c.index-right-i.is) c.in_ok-push.ensures.items;
+          each_pushed (λ k o. (j : ℕ) → j < c.args.c + c.args.m → cell (numbers o) j ≡ entry F (start F) j k) i rows next new count (c.loop-i.invariant.entries right costs) (c.in_ok-start_row.ensures.entries right costs) c.in_ok-push.ensures.items;
+      sides = each_pushed (λ k o. cell (numbers o) (c.args.c + c.args.m) ≡ cell c.args.right.now k) i rows next new count c.loop-i.invariant.sides (c.in_ok-start_row.ensures.side ∙ item_is c.args.right.now i c.index-right-i.result c.loop-i-test.true c.index-right-i.is) c.in_ok-push.ensures.items;
     }

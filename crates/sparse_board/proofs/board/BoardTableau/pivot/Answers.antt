@@ -2,13 +2,13 @@ use Rattle.std.proofs.Common.{◌+◌, ◌∙◌, ap, length, refl, subst, sym}
 use Rattle.std.proofs.lemmas.List.{length-set, with_items_is}
 use Rattle.std.specs.Vec.{with_item, with_items}
 use Rattle.tableau_core.specs.LoweringLaws.{is_ok-err}
-use Rattle.sparse_board.specs.Numbers.{number_of, width_of}
-use Rattle.sparse_board.specs.Rows.{AreWide, now_at, number_in_row}
+use Rattle.tableau_core.specs.Numbers.{IsSettled, numbers_fit}
+use Rattle.sparse_board.specs.Numbers.{width_of}
+use Rattle.sparse_board.specs.Rows.{AreWide, now_at, number_in_row, numbers_in}
 use Rattle.sparse_board.specs.Marks.{AreMarked}
-use Rattle.sparse_board.specs.Pivoting.{IsSettled, numbers_fit}
 use Rattle.sparse_board.specs.Kept.{columns_of}
 use Rattle.tableau_core.specs.KeptLaws.{refused}
-use Rattle.sparse_board.proofs.BoardSteps.{kept_after, marked_same, pivoted_all, read_entry, ready_same, row_within, tests_same, vec_count, view_same, wide_after}
+use Rattle.sparse_board.proofs.BoardSteps.{kept_after, marked_same, numbers_same, pivoted_all, read_entry, ready_same, tests_same, vec_count, view_same, wide_after}
 use Rattle.sparse_board.proofs.board.BoardTableau.pivot.Goals as goal
 
 pub prepare_pivot-requires-clause-nonzero : goal.prepare_pivot-requires-clause-nonzero
@@ -20,15 +20,15 @@ returns-in_err-prepare_pivot-clause-fits c =
     let a = c.self.inside in
     is_ok-err c.from_residual.result c.from_residual.ensures.0
     ∙ c.in_err-prepare_pivot.ensures.fits
-    ∙ (λ k. numbers_fit (a.reals + vec_count a c.len.result c.len.ensures k) (length (c.deref_mut.ensures.value k)) (number_in_row (c.deref_mut.ensures.value k)) c.args.r c.args.q a.in_first (number_of a.first.now) (number_of a.second.now))
-    ∙ tests_same a c.args.r c.args.q c.args.self.now c.self.view_is c.requires.row c.requires.column
+    ∙ (λ k. numbers_fit (a.reals + vec_count a c.len.result c.len.ensures k) c.args.r c.args.q a.in_first (numbers_in (c.deref_mut.ensures.value k) a.first.now a.second.now))
+    ∙ tests_same a c.args.self.now c.args.r c.args.q c.self.view_is c.requires.row c.requires.column
 
 pub returns-clause-fits : goal.returns-clause-fits
 returns-clause-fits c =
     let a = c.self.inside in
     c.in_ok-prepare_pivot.ensures.fits
-    ∙ (λ k. numbers_fit (a.reals + vec_count a c.len.result c.len.ensures k) (length (c.deref_mut.ensures.value k)) (number_in_row (c.deref_mut.ensures.value k)) c.args.r c.args.q a.in_first (number_of a.first.now) (number_of a.second.now))
-    ∙ tests_same a c.args.r c.args.q c.args.self.now c.self.view_is c.requires.row c.requires.column
+    ∙ (λ k. numbers_fit (a.reals + vec_count a c.len.result c.len.ensures k) c.args.r c.args.q a.in_first (numbers_in (c.deref_mut.ensures.value k) a.first.now a.second.now))
+    ∙ tests_same a c.args.self.now c.args.r c.args.q c.self.view_is c.requires.row c.requires.column
 
 pub invariant_of-self : goal.invariant_of-self
 invariant_of-self c =
@@ -99,12 +99,12 @@ returns-clause-board c =
     pivoted_all a
     (record { reals = a.reals; rows = with_items (with_items a.rows prepared.rows) settled.rows; in_first = a.in_first; first = settled.first; second = settled.second; step = settled.step; marks = with_items a.marks settled.marks; basis = with_item a.basis c.args.r c.args.q })
     refl (ap length last ∙ c.settle_pivot.auto.rows ∙ count)
-    c.args.r c.args.q (row_within a c.args.self.now c.args.r c.self.view_is c.requires.row)
-    c.deref_mut-2.result.now prepared.first.now prepared.second.now count
+    c.args.r c.args.q c.args.self.now c.self.view_is c.requires.row c.requires.column refl refl
+    (numbers_in c.deref_mut-2.result.now prepared.first.now prepared.second.now)
+    (numbers_same a c.deref_mut-2.result.now prepared.first.now prepared.second.now count
     (λ i. ap (λ l. now_at l i) rows ∙ c.prepare_pivot.ensures.rows_stay i ∙ ap (λ l. now_at l i) c.deref_mut.ensures.value)
-    c.prepare_pivot.ensures.first_stays c.prepare_pivot.ensures.second_stays
-    (subst (λ l. IsSettled (columns_of a) (length c.deref_mut-2.result.now) c.args.r c.args.q a.in_first (number_in_row c.deref_mut-2.result.now) (number_in_row l) (number_of prepared.first.now) (number_of settled.first.now) (number_of prepared.second.now) (number_of settled.second.now)) (sym last)
+    c.prepare_pivot.ensures.first_stays c.prepare_pivot.ensures.second_stays)
+    (subst (λ l. IsSettled (columns_of a) c.args.r c.args.q a.in_first (numbers_in c.deref_mut-2.result.now prepared.first.now prepared.second.now) (numbers_in l settled.first.now settled.second.now)) (sym last)
     (c.settle_pivot.ensures.settled (columns_of a) (c.prepare_pivot.ensures.step_wide ∙ c.self.invariant.spare)
     (ap width_of c.prepare_pivot.ensures.first_stays ∙ c.self.invariant.first) (ap width_of c.prepare_pivot.ensures.second_stays ∙ c.self.invariant.second)
     (ready_same c.deref_mut-2.result.now prepared.rows c.args.r c.args.q c.deref_mut-3.result.now c.deref.result.now a.in_first prepared.first prepared.second prepared.step rows (c.deref_mut-3.ensures.value ∙ sym c.deref.ensures.value) c.in_ok-prepare_pivot.ensures.ok)))
-    c.args.self.now c.self.view_is c.requires.column refl refl

@@ -1,12 +1,15 @@
-use Rattle.std.proofs.Common.{◌+◌, ◌*◌, ◌<◌, ◌∙◌, [], ap, arith, length, refl, subst, sym, true}
+use Rattle.std.proofs.Common.{◌+◌, ◌*◌, ◌<◌, ◌∙◌, [], ap, arith, length, subst, sym, true}
 use Rattle.std.proofs.lemmas.List.FromFn.{length-range_with_len}
 use Rattle.simplex_form.specs.Basis.{start}
 use Rattle.simplex_form.specs.Board.{price}
 use Rattle.simplex_form.specs.Form.{Form, first_cost, second_cost}
+use Rattle.tableau_core.specs.KeptLaws.{started_read}
 use Rattle.tableau_core.specs.Start.{IsListOf, form_of}
 use Rattle.sparse_board.specs.declared.board.Board.TheInside.{Inside}
 use Rattle.sparse_board.specs.Marks.{AreMarked}
-use Rattle.sparse_board.proofs.StartSteps.{costs_are, start-board, start-kept}
+use Rattle.sparse_board.specs.Kept.{contents_of}
+use Rattle.sparse_board.proofs.BoardSteps.{numbers_of, value_agrees}
+use Rattle.sparse_board.proofs.StartSteps.{costs_are, start-kept}
 use Rattle.sparse_board.proofs.board.BoardTableau.start.Goals as goal
 
 abbrev form : goal.In_ok-basis → Form
@@ -41,7 +44,7 @@ cost_row-requires-2-clause-few c =
 
 pub invariant_of-result : goal.invariant_of-result
 invariant_of-result c =
-    start-kept (form c) (made c) refl c.in_ok-rows.ensures.count c.in_ok-basis.ensures (omega (arith, c.if-c-m.false)) c.in_ok-rows.ensures.wide
+    start-kept (made c) c.args.m c.in_ok-rows.ensures.count (omega (arith, c.if-c-m.false)) c.in_ok-rows.ensures.wide
     (c.in_ok-first.ensures.wide ∙ ap length c.deref.ensures.value ∙ (first_listed c).long)
     (c.in_ok-second.ensures.wide ∙ ap length c.deref-2.ensures.value ∙ (second_listed c).long)
     c.in_ok-step.ensures.width
@@ -51,6 +54,7 @@ invariant_of-result c =
 
 pub returns-clause-board : goal.returns-clause-board
 returns-clause-board c =
-    start-board (form c) (made c) refl c.in_ok-rows.ensures.count c.in_ok-basis.ensures (c.in_ok-rows.ensures.entries c.args.right.now c.args.costs.now) c.in_ok-rows.ensures.sides
+    started_read (form c) c.in_ok-basis.basis.items (numbers_of (made c)) (contents_of (made c)) (value_agrees true (made c))
+    c.in_ok-rows.ensures.count c.in_ok-basis.ensures (c.in_ok-rows.ensures.entries c.args.right.now c.args.costs.now) c.in_ok-rows.ensures.sides
     (costs_are (c.args.c + c.args.m) (price (form c) (start (form c)) (first_cost (form c))) c.deref.result.now c.in_ok-first_prices.field-0.items c.in_ok-first.first.now c.deref.ensures.value (first_listed c) c.in_ok-first.ensures.numbers)
     (costs_are (c.args.c + c.args.m) (second_cost (form c)) c.deref-2.result.now c.in_ok-second_prices.field-0.items c.in_ok-second.second.now c.deref-2.ensures.value (second_listed c) c.in_ok-second.ensures.numbers)

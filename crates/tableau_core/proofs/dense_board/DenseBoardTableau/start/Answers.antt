@@ -1,8 +1,10 @@
-use Rattle.std.proofs.Common.{ap, length, refl, subst, sym, true, ◌+◌, ◌∙◌}
+use Rattle.std.proofs.Common.{ap, length, subst, sym, true, ◌+◌, ◌∙◌}
 use Rattle.std.proofs.lemmas.List.FromFn.{length-range_with_len}
 use Rattle.tableau_core.specs.declared.dense_board.DenseBoard.TheInside.{Inside}
 use Rattle.tableau_core.specs.Start.{IsListOf, form_of}
-use Rattle.tableau_core.proofs.StartBoard.{start-board, start-kept}
+use Rattle.tableau_core.specs.Kept.{contents_of}
+use Rattle.tableau_core.specs.KeptLaws.{started_read}
+use Rattle.tableau_core.proofs.BoardSteps.{numbers_of, start-kept, value_agrees}
 use Rattle.tableau_core.proofs.dense_board.DenseBoardTableau.start.Goals as goal
 use Rattle.simplex_form.specs.Basis.{start}
 use Rattle.simplex_form.specs.Board.{price}
@@ -34,11 +36,12 @@ second_listed c =
 
 pub invariant_of-result : goal.invariant_of-result
 invariant_of-result c =
-    start-kept (form c) (made c) refl c.in_ok-rows.ensures.count c.in_ok-rows.ensures.wide c.in_ok-basis.ensures
+    start-kept (made c) c.args.m c.in_ok-rows.ensures.count c.in_ok-rows.ensures.wide
     (first_listed c).long (second_listed c).long c.in_ok-step.ensures.long c.in_ok-step.ensures.all_fit
     c.in_ok-places.ensures
     (ap length c.in_ok-basis.ensures ∙ length-range_with_len c.args.c c.args.m)
 
 pub returns-clause-board : goal.returns-clause-board
 returns-clause-board c =
-    start-board (form c) (made c) refl c.in_ok-rows.ensures.count c.in_ok-rows.ensures.wide c.in_ok-basis.ensures (c.in_ok-rows.ensures.entries c.args.right.now c.args.costs.now) c.in_ok-rows.ensures.sides (first_listed c) (second_listed c)
+    started_read (form c) c.in_ok-basis.basis.items (numbers_of (made c)) (contents_of (made c)) (value_agrees true (made c))
+    c.in_ok-rows.ensures.count c.in_ok-basis.ensures (c.in_ok-rows.ensures.entries c.args.right.now c.args.costs.now) c.in_ok-rows.ensures.sides (first_listed c).cells (second_listed c).cells

@@ -1,7 +1,8 @@
 use Rattle.std.proofs.Common.{length, subst, sym, true≢false, ◌∙◌}
 use Rattle.std.proofs.lemmas.List.{with_items_is}
 use Rattle.tableau_core.specs.Row.{IsLowered, IsPutAt, cell}
-use Rattle.tableau_core.proofs.RowSteps.{entry-zero, item_is, lowered-itself, lowered_put}
+use Rattle.tableau_core.specs.ItemLaws.{item_is}
+use Rattle.tableau_core.proofs.RowSteps.{entry-zero, lowered-itself, lowered_put}
 use Rattle.tableau_core.proofs.kept.Row.settle.Goals as goal
 
 pub returns-then-not-is_zero-clause-lowered : goal.returns-then-not-is_zero-clause-lowered
