@@ -3,7 +3,7 @@ ghost use Rattle.std.specs.Prelude.{◌≡◌};
 ghost use Rattle.any_bridge.specs.States.{fresh, state_of_any};
 
 use aff_core::Address;
-use bridge_face::{Bridge, ChildRows, ItemFault};
+use bridge_face::{Bridge, ChildRows};
 use bridges_flip::{GreaterLess, NonposVar, ObjFlip, OrthantFlip};
 use bridges_norm::{NormInfinity, NormOne};
 use bridges_shape::{
@@ -13,7 +13,7 @@ use bridges_slack::{Later, ObjSlack, ScalarSlack, VectorSlack};
 use bridges_split::{DropReals, FreeVar, SplitSet, ZerosVar};
 use item_core::{Edge, Family, Image, Item};
 use lists::Memory;
-use ratio_core::Ratios;
+use ratio_core::{NumberFault, Ratios};
 use std::alloc::Global;
 
 /// A bridge of one of the families.
@@ -110,7 +110,7 @@ impl Bridge for AnyBridge {
         call!(self, bridge => bridge.turns())
     }
 
-    fn image(&mut self, edge: Edge, item: &Item) -> Result<Image, ItemFault> {
+    fn image(&mut self, edge: Edge, item: &Item) -> Result<Image, NumberFault> {
         call!(self, bridge => bridge.image(edge, item))
     }
 
@@ -134,7 +134,7 @@ impl Bridge for AnyBridge {
         call!(self, bridge => bridge.child_rows(at))
     }
 
-    fn back(&self, at: &Address, duals: &[Ratios]) -> Result<Ratios, ItemFault> {
+    fn back(&self, at: &Address, duals: &[Ratios]) -> Result<Ratios, NumberFault> {
         call!(self, bridge => bridge.back(at, duals))
     }
 }

@@ -116,14 +116,14 @@ sums_of_duals family.NormInfinity = true
 sums_of_duals family.NormOne = true
 sums_of_duals _ = false
 
-fits_by : (f : Family) → sums_in_images f ≡ false → (item : Item) → FitsBy f item
+pub fits_by : (f : Family) → sums_in_images f ≡ false → (item : Item) → FitsBy f item
 unfolding FitsBy
 fits_by family.Vectorize none item = absurd (true≢false none)
 fits_by family.NormInfinity none item = absurd (true≢false none)
 fits_by family.NormOne none item = absurd (true≢false none)
 fits_by _ none item = tt
 
-fits_back_by : (f : Family) → sums_of_duals f ≡ false → (item : Item) (ys : List (List Rational))
+pub fits_back_by : (f : Family) → sums_of_duals f ≡ false → (item : Item) (ys : List (List Rational))
     → BackFitsBy f item ys
 unfolding BackFitsBy
 fits_back_by family.SplitSet none item ys = absurd (true≢false none)
@@ -174,6 +174,11 @@ module _ (edge : Edge) (item : Item) (image : Image) (image_is : image_of edge i
   dual_count ys t =
       sym (length-map ys length) ∙ ap length (dual_sizes ys t)
       ∙ length-map image.rows (λ row. length (functions_of row.body))
+
+-- the first size of several
+abbrev pub first_size : List ℕ → ℕ
+first_size [] = 0
+first_size (n ∷ ns) = n
 
 -- ---- the only one of a list
 

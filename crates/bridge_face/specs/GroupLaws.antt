@@ -1,5 +1,5 @@
 -- The law of an edge that makes a group of one child group, from what is said of numbers alone.
-use Rattle.std.specs.Prelude.{◌≡◌, ◌*◌, ◌≤◌, ◌<◌, ℕ, true, Contains, List, [], ◌∷◌, map, All, cond, length, refl}
+use Rattle.std.specs.Prelude.{◌≡◌, ◌*◌, ◌≤◌, ◌<◌, ℕ, false, true, Contains, List, [], ◌∷◌, map, All, cond, length, refl, slice_index_or}
 use Rattle.std.specs.List.{range_with_len}
 use Rattle.std.proofs.Common.{sym, ap, subst, ◌∙◌, arith, true≢false}
 use Rattle.std.proofs.lemmas.List.{append-nil, length-append, length-map}
@@ -21,6 +21,7 @@ use Rattle.set_core.specs.Shapes.{IsSetOf}
 use Rattle.set_core.specs.declared.set.Set.{Set}
 use Rattle.set_core.specs.declared.set.Set.TheVariants.{Nonnegatives}
 use Rattle.item_core.specs.declared.edge.Edge.{Edge}
+use Rattle.item_core.specs.declared.family.Family.{Family}
 use Rattle.item_core.specs.declared.item.Body.{Body}
 use Rattle.item_core.specs.declared.item.Body.TheVariants as body
 use Rattle.item_core.specs.declared.item.Body.TheVariants.{Group}
@@ -31,10 +32,14 @@ use Rattle.item_core.specs.Edge.{family_of}
 use Rattle.item_core.specs.Item.{functions_of, is_group, set_of}
 use Rattle.item_core.specs.Valid.{IsValidItem}
 use Rattle.bridge_face.specs.ComponentLaws.{constants-variables, contained_or_not, dot_missed, length-components, not_contained, variables, variables_missed, weighed, weighed_components}
+use Rattle.bridge_face.specs.BackOf.{back_of, first_of}
+use Rattle.bridge_face.specs.FamilyLaws.{Rule, back_is, back_one, child_rows_are, dual_count, image_is, kept_by, lawful_by, record_of, source_is, sums_in_images, sums_of_duals}
 use Rattle.bridge_face.specs.ImageOf.{bridged, group_at, inner}
 use Rattle.bridge_face.specs.Images.{group_by}
 use Rattle.bridge_face.specs.ChildDualLaws.{carries_duals}
-use Rattle.bridge_face.specs.Law.{Balances, CarriesValues, ChildDuals, EdgeLaw, GrowsBy, HasComponents, HoldsAt, IsCovered, IsValidWithin, LeadsTo, MentionsKnown, Miss, expressed, growth, held_children, held_item, inner_of, row_functions, row_set}
+use Rattle.bridge_face.specs.Law.{Balances, CarriesValues, ChildDuals, EdgeLaw, GrowsBy, HasComponents, HoldsAt, IsCovered, IsItemFor, IsLawful, IsValidWithin, LeadsTo, MentionsKnown, Miss, expressed, growth, held_children, held_item, inner_of, row_functions, row_set}
+use Rattle.bridge_face.specs.State.{TakesDuals, child_rows_of}
+use Rattle.bridge_face.specs.declared.child_rows.ChildRows.{ChildRows}
 
 -- a group in a set of such a shape, of which the edge makes one of numbers at least 0
 pub record GroupSourced (shape : ℕ → Set) (edge : Edge) (b : Body) : Type 0 where
@@ -228,3 +233,54 @@ module _
     expressed = λ v absent. subst (λ gs. Miss gs v) (sym (expressed-bridged fs))
         (o.named v (λ there. absent (subst (λ us. Contains us v) (sym (append-nil ss)) there)));
   }
+
+-- ---- families whose edges make one group, and a row or none
+
+-- there is one row, whose dual is carried back
+abbrev pub IsOfFirst : ℕ → (List (List Rational) → List Rational) → Type 0
+IsOfFirst rows carry = (rows ≡ 1) × ((ys : List (List Rational)) → carry ys ≡ first_of ys)
+
+pub record IsGroupRule (f : Family) (Source : Edge → Body → Type 0) (made : Edge → Item → Image)
+    (rows : ℕ) : Type 0 where
+  pub carry : Item → List (List Rational) → List Rational
+  pub rule : Rule f Source made carry
+  pub no_sum : sums_in_images f ≡ false
+  pub no_dual_sum : sums_of_duals f ≡ false
+  pub children :
+      (edge : Edge) (item : Item)
+      → record_of (length (made edge item).groups) (length (made edge item).rows)
+      ≡ record_of 1 rows
+  pub dual :
+      (edge : Edge) (item : Item) → Source edge item.body → is_group item.body ≡ false
+      → IsOfFirst rows (carry item)
+  pub law :
+      (edge : Edge) → family_of edge ≡ f → (item : Item) → IsValidItem item
+      → Source edge item.body → EdgeLaw edge item (made edge item)
+
+module _ {f : Family} {Source : Edge → Body → Type 0} {made : Edge → Item → Image} {rows : ℕ}
+    (r : IsGroupRule f Source made rows) where
+  pub group_lawful : IsLawful f
+  group_lawful = lawful_by r.rule r.law
+
+  module _ (edge : Edge) (own : family_of edge ≡ f) (item : Item) where
+    pub group_rows : record_of 1 rows ≡ child_rows_of edge item
+    group_rows =
+        sym (r.children edge item)
+        ∙ child_rows_are edge item (made edge item) (image_is r.rule edge own item)
+
+    -- the duals of a row's child rows
+    module _ (suits : IsItemFor edge item) (ys : List (List Rational))
+        (takes : TakesDuals (kept_by edge item) ys) where
+      of_first : IsOfFirst rows (r.carry item)
+      of_first = r.dual edge item (source_is r.rule edge own item suits) takes.no_group
+
+      pub group_one_dual : length ys ≡ 1
+      group_one_dual =
+          dual_count edge item (made edge item) (image_is r.rule edge own item) ys takes
+          ∙ ap (λ (k : ChildRows). k.count) (r.children edge item) ∙ of_first.0
+
+      pub group_dual : (y : List Rational) → y ≡ slice_index_or ys 0 y → y ≡ back_of edge item ys
+      group_dual y first =
+          back_one edge item (λ y. y)
+          (λ y. back_is r.rule edge own item (y ∷ []) ∙ of_first.1 (y ∷ [])) ys y group_one_dual
+          first

@@ -1,5 +1,5 @@
 -- The law of an edge that makes an objective of an objective with the same cost.
-use Rattle.std.specs.Prelude.{◌≡◌, ◌*◌, ◌≤◌, ◌<◌, true, false, List, ◌∷◌, map, cond, length, refl, All, ℕ, []}
+use Rattle.std.specs.Prelude.{◌≡◌, ◌*◌, ◌≤◌, ◌<◌, false, true, List, ◌∷◌, map, cond, length, refl, All, ℕ, []}
 use Rattle.std.proofs.Common.{sym, ap, subst, ◌∙◌, arith, true≢false}
 use Rattle.std.proofs.lemmas.List.Elements.{All-cons, All-head, All-nil, All-weaker}
 use Rattle.std.proofs.lemmas.List.{length-append}
@@ -19,7 +19,7 @@ use Rattle.item_core.specs.declared.image.Image.{Image}
 use Rattle.item_core.specs.Edge.{family_of}
 use Rattle.item_core.specs.Item.{functions_of, is_group, set_of}
 use Rattle.item_core.specs.Valid.{FitsItsFunction, IsValidItem, NamesNothingBelow, below}
-use Rattle.bridge_face.specs.FamilyLaws.{Rule, Sourced, lawful_by}
+use Rattle.bridge_face.specs.FamilyLaws.{Rule, Sourced, lawful_by, sums_in_images}
 use Rattle.bridge_face.specs.GroupLaws.{held_of}
 use Rattle.bridge_face.specs.ImageOf.{objective_at}
 use Rattle.bridge_face.specs.Images.{child_at}
@@ -175,10 +175,16 @@ abbrev pub ObjectiveRule : Family → (Body → Type 0) → (Body → Body) → 
 ObjectiveRule f Source made =
     Rule f (Sourced Source made) (λ edge item. objective_at item (made item.body)) (λ item ys. [])
 
+pub record IsObjectiveRule (f : Family) (Source : Body → Type 0) (made : Body → Body)
+    : Type 0 where
+  pub rule : ObjectiveRule f Source made
+  pub no_growth : growth f ≡ 1
+  pub no_sum : sums_in_images f ≡ false
+  pub replaces : (b : Body) → Source b → Replaces b (made b)
+
 pub objective_lawful : {f : Family} {Source : Body → Type 0} {made : Body → Body}
-    → ObjectiveRule f Source made → growth f ≡ 1
-    → ((b : Body) → Source b → Replaces b (made b)) → IsLawful f
-objective_lawful {f} {Source} {made} rule no_growth replaces =
-    lawful_by rule (λ edge own item valid source.
-    one_objective_law edge item (made item.body) valid (ap growth own ∙ no_growth) source.leads
-    (replaces item.body source.source))
+    → IsObjectiveRule f Source made → IsLawful f
+objective_lawful {f} {Source} {made} r =
+    lawful_by r.rule (λ edge own item valid source.
+    one_objective_law edge item (made item.body) valid (ap growth own ∙ r.no_growth) source.leads
+    (r.replaces item.body source.source))

@@ -1,11 +1,14 @@
 -- The law of an edge that makes one row of a row, from what is said of the two rows alone.
-use Rattle.std.specs.Prelude.{◌≡◌, ◌*◌, ◌<◌, ◌≤◌, false, All, List, [], ◌∷◌, map, cond, length, None, refl}
+use Rattle.std.specs.Prelude.{◌≡◌, ◌↔◌, ◌*◌, ◌<◌, ◌≤◌, false, All, List, [], ◌∷◌, Result, map, cond, length, None, refl, slice_index_or}
 use Rattle.std.proofs.Common.{sym, ap, subst, ◌∙◌, true≢false}
 use Rattle.std.proofs.lemmas.List.Elements.{All-cons, All-head, All-nil}
 use Rattle.ratio_core.specs.Rational.{Rational, zero_ℚ, ◌≤ℚ◌}
 use Rattle.rational_laws.specs.Field.{+ℚ-zero}
 use Rattle.aff_core.specs.Address.{Address}
+use Rattle.ratio_core.specs.AnsweredLaws.{exact_as}
+use Rattle.ratio_core.specs.Answers.{ExactWhere}
 use Rattle.aff_core.specs.Function.{Function, coefficient, evaluated}
+use Rattle.ratio_core.specs.declared.fault.NumberFault.{NumberFault}
 use Rattle.dual_laws.specs.Held.{Held, Holds, IsHeld, adjoint_of, gap_of}
 use Rattle.set_core.specs.declared.set.Set.{Set}
 use Rattle.item_core.specs.declared.edge.Edge.{Edge}
@@ -17,11 +20,13 @@ use Rattle.item_core.specs.declared.image.Image.{Image}
 use Rattle.item_core.specs.Edge.{family_of}
 use Rattle.item_core.specs.Item.{functions_of, is_group, set_of}
 use Rattle.item_core.specs.Valid.{IsValidItem}
-use Rattle.bridge_face.specs.BackOf.{back_of, first_of}
-use Rattle.bridge_face.specs.FamilyLaws.{Rule, Sourced}
+use Rattle.bridge_face.specs.BackOf.{BackFits, BackFitsBy, back_of, first_of}
+use Rattle.bridge_face.specs.FamilyLaws.{Rule, Sourced, back_is, dual_count, dual_sizes, first_size, fits_back_by, fits_by, image_is, kept_by, lawful_by, only, sums_in_images, sums_of_duals}
+use Rattle.bridge_face.specs.ImageOf.{FitsBy, ImageFits}
 use Rattle.bridge_face.specs.Images.{child_at, row_at}
 use Rattle.bridge_face.specs.ChildDualLaws.{carries_duals}
-use Rattle.bridge_face.specs.Law.{CarriesValues, ChildrenHold, EdgeLaw, GrowsBy, HasComponents, HoldsAt, IsCovered, IsValidWithin, LeadsTo, MentionsKnown, Miss, cost_of, expressed, growth, held_body, held_item, is_objective, listed, row_functions, row_set}
+use Rattle.bridge_face.specs.Law.{CarriesValues, ChildrenHold, EdgeLaw, GrowsBy, HasComponents, HoldsAt, IsCovered, IsLawful, IsValidWithin, LeadsTo, MentionsKnown, Miss, cost_of, expressed, growth, held_body, held_item, is_objective, listed, row_functions, row_set}
+use Rattle.bridge_face.specs.State.{IsDualOf, TakesDuals}
 
 -- a row is neither a group nor an objective
 pub record IsRow (b : Body) : Type 0 where
@@ -151,8 +156,92 @@ module _ (edge : Edge) (item : Item) (child : Body) (o : OneRow edge item child)
 
 -- ---- families whose edges make one row of a row
 
-abbrev pub RowRule : Family → (Body → Type 0) → (Body → Body) → (List Rational → List Rational)
-    → Type 0
+abbrev pub RowRule : Family → (Body → Type 0) → (Body → Body)
+    → (Body → List Rational → List Rational) → Type 0
 RowRule f Source made carry =
     Rule f (Sourced Source made) (λ edge item. row_at item (made item.body))
-    (λ item ys. carry (first_of ys))
+    (λ item ys. carry item.body (first_of ys))
+
+-- where the dual is carried back as it is
+abbrev pub same_dual : Body → List Rational → List Rational
+same_dual row dual = dual
+
+-- what such a family does, what must fit for the row and for what is carried back, and that each
+-- edge keeps the law
+pub record IsRowRule (f : Family) (Source : Body → Type 0) (made : Body → Body)
+    (Fits : Body → Type 0) (carry : Body → List Rational → List Rational)
+    (CarryFits : Body → List Rational → Type 0) : Type 0 where
+  pub rule : RowRule f Source made carry
+  pub fits : (item : Item) → FitsBy f item ↔ Fits item.body
+  pub back_fits :
+      (item : Item) (y : List Rational) → BackFitsBy f item (y ∷ []) ↔ CarryFits item.body y
+  pub one_row :
+      (edge : Edge) → family_of edge ≡ f → (item : Item) → IsValidItem item
+      → Sourced Source made edge item.body → OneRow edge item (made item.body)
+
+-- a family that sums nothing
+abbrev pub UnsummedRule : Family → (Body → Type 0) → (Body → Body)
+    → (Body → List Rational → List Rational) → Type 0
+UnsummedRule f Source made carry =
+    IsRowRule f Source made (λ row. Unit {0}) carry (λ row dual. Unit {0})
+
+pub unsummed : {f : Family} {Source : Body → Type 0} {made : Body → Body}
+    {carry : Body → List Rational → List Rational}
+    → RowRule f Source made carry → sums_in_images f ≡ false → sums_of_duals f ≡ false
+    → ((edge : Edge) → family_of edge ≡ f → (item : Item) → IsValidItem item
+    → Sourced Source made edge item.body → OneRow edge item (made item.body))
+    → UnsummedRule f Source made carry
+unsummed {f} rule no_sum no_dual_sum one_row = record {
+  rule = rule;
+  fits = λ item. ((λ h. tt), (λ h. fits_by f no_sum item));
+  back_fits = λ item y. ((λ h. tt), (λ h. fits_back_by f no_dual_sum item (y ∷ [])));
+  one_row = one_row;
+}
+
+module _ {f : Family} {Source : Body → Type 0} {made : Body → Body} {Fits : Body → Type 0}
+    {carry : Body → List Rational → List Rational} {CarryFits : Body → List Rational → Type 0}
+    (r : IsRowRule f Source made Fits carry CarryFits)
+    (edge : Edge) (own : family_of edge ≡ f) (item : Item) where
+  pub row_fits : ImageFits edge item → Fits item.body
+  row_fits h = (r.fits item).0 (subst (λ g. FitsBy g item) own h)
+
+  pub row_fits_back : Fits item.body → ImageFits edge item
+  row_fits_back h = subst (λ g. FitsBy g item) (sym own) ((r.fits item).1 h)
+
+  -- the dual of the child row
+  module _ (ys : List (List Rational)) (takes : TakesDuals (kept_by edge item) ys) where
+    pub one_dual : length ys ≡ 1
+    one_dual = dual_count edge item (row_at item (made item.body)) (image_is r.rule edge own item) ys takes
+
+    module _ (y : List Rational) (first : y ≡ slice_index_or ys 0 y) where
+      duals_are : ys ≡ y ∷ []
+      duals_are = only ys y one_dual first
+
+      pub dual_size : length y ≡ length (functions_of (made item.body))
+      dual_size =
+          ap first_size
+          (ap (map length) (sym duals_are)
+          ∙ dual_sizes edge item (row_at item (made item.body)) (image_is r.rule edge own item) ys takes)
+
+      -- what is answered to it is answered to the item's duals
+      pub dual_answer : (answer : Result (List Rational) NumberFault)
+          → ExactWhere answer (CarryFits item.body y) (λ dual. dual ≡ carry item.body y)
+          → IsDualOf answer ys (kept_by edge item)
+      dual_answer answer said =
+          exact_as answer (CarryFits item.body y) (BackFits edge item ys)
+          (λ dual. dual ≡ carry item.body y) (λ dual. dual ≡ back_of edge item ys)
+          (λ h. subst (BackFits edge item) (sym duals_are)
+          (subst (λ g. BackFitsBy g item (y ∷ [])) (sym own) ((r.back_fits item y).1 h)))
+          (λ h. (r.back_fits item y).0 (subst (λ g. BackFitsBy g item (y ∷ [])) own
+          (subst (BackFits edge item) duals_are h)))
+          (λ dual e. e ∙ sym (ap (back_of edge item) duals_are
+          ∙ back_is r.rule edge own item (y ∷ [])))
+          said
+
+-- so the family keeps the law
+pub row_lawful : {f : Family} {Source : Body → Type 0} {made : Body → Body} {Fits : Body → Type 0}
+    {carry : Body → List Rational → List Rational} {CarryFits : Body → List Rational → Type 0}
+    → IsRowRule f Source made Fits carry CarryFits → IsLawful f
+row_lawful {f} {Source} {made} r =
+    lawful_by r.rule (λ edge own item valid source.
+    one_row_law edge item (made item.body) (r.one_row edge own item valid source))

@@ -15,9 +15,8 @@ use Rattle.item_core.specs.Item.{functions_of, set_of}
 use Rattle.item_core.specs.Valid.{FitsItsFunction, IsValidItem, NamesNothingBelow}
 use Rattle.bridge_face.specs.BackOf.{back_of}
 use Rattle.bridge_face.specs.ComponentLaws.{all_unnamed_below}
-use Rattle.bridge_face.specs.Images.{row_at}
-use Rattle.bridge_face.specs.Law.{EdgeLaw, LeadsTo, Miss, growth}
-use Rattle.bridge_face.specs.OneRowLaws.{IsRow, OneRow, one_row_law, row_held}
+use Rattle.bridge_face.specs.Law.{LeadsTo, Miss, growth}
+use Rattle.bridge_face.specs.OneRowLaws.{IsRow, OneRow, row_held}
 
 -- what an edge owes that makes this row of the item
 pub record SameRow (edge : Edge) (item : Item) (child : Body) : Type 0 where
@@ -41,8 +40,8 @@ module _ (edge : Edge) (item : Item) (child : Body) (s : SameRow edge item child
   same_length : length (functions_of child) ≡ length (functions_of item.body)
   same_length = ap length s.functions
 
-  is_one_row : OneRow edge item child
-  is_one_row = record {
+  pub same_is_one_row : OneRow edge item child
+  same_is_one_row = record {
     source = s.source;
     made = s.made;
     values = λ one x h below. subst (λ k. Holds one k x) (child_is []) below;
@@ -66,6 +65,3 @@ module _ (edge : Edge) (item : Item) (child : Body) (s : SameRow edge item child
     leads = s.leads;
     mentioned = λ v m. subst (λ fs. Miss fs v) (sym s.functions) m;
   }
-
-  pub same_row_law : EdgeLaw edge item (row_at item child)
-  same_row_law = one_row_law edge item child is_one_row

@@ -10,11 +10,11 @@ use Rattle.item_core.specs.Edge.{family_of}
 use Rattle.bridge_face.specs.declared.kept_item.KeptItem.{KeptItem}
 use Rattle.bridge_face.specs.contracts.kept_item.KeptItem as contracts
 use Rattle.ratio_core.specs.Rational.{Rational}
+use Rattle.ratio_core.specs.declared.fault.NumberFault.{NumberFault}
+use Rattle.ratio_core.specs.Answers.{ExactWhere}
 use Rattle.item_core.specs.declared.edge.Edge.{Edge}
 use Rattle.item_core.specs.Item.{functions_of, is_group}
 use Rattle.bridge_face.specs.declared.child_rows.ChildRows.{ChildRows}
-use Rattle.aff_core.specs.Arithmetic.{ExactWhere}
-use Rattle.aff_core.specs.declared.fault.AffFault.{AffFault}
 use Rattle.bridge_face.specs.BackOf.{BackFits, back_of}
 use Rattle.bridge_face.specs.ImageOf.{image_of}
 use Rattle.bridge_face.specs.Law.{IsItemFor, is_objective}
@@ -98,7 +98,7 @@ pub record TakesDuals (kept : KeptItem) (ys : List (List Rational)) : Type 0 whe
       ≡ map (λ row. length (functions_of row.body)) (image_of kept.edge kept.item).rows
 
 -- the answer is what is carried back of the duals, exactly where it fits
-abbrev pub IsDualOf : Result (List Rational) AffFault → List (List Rational) → KeptItem → Type 0
+abbrev pub IsDualOf : Result (List Rational) NumberFault → List (List Rational) → KeptItem → Type 0
 IsDualOf answer ys kept =
     ExactWhere answer (BackFits kept.edge kept.item ys)
     (λ dual. dual ≡ back_of kept.edge kept.item ys)

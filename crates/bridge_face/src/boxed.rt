@@ -1,10 +1,10 @@
 //! Boxed bridges, each a bridge as what it boxes.
 
-use crate::{Bridge, ChildRows, ItemFault};
+use crate::{Bridge, ChildRows};
 use aff_core::Address;
 use item_core::{Edge, Family, Image, Item};
 use lists::Memory;
-use ratio_core::Ratios;
+use ratio_core::{NumberFault, Ratios};
 
 impl Bridge for Box<dyn Bridge> {
     ghost state = { λ b. (Bridge-box b).state b.value };
@@ -17,7 +17,7 @@ impl Bridge for Box<dyn Bridge> {
         (**self).turns()
     }
 
-    fn image(&mut self, edge: Edge, item: &Item) -> Result<Image, ItemFault> {
+    fn image(&mut self, edge: Edge, item: &Item) -> Result<Image, NumberFault> {
         (**self).image(edge, item)
     }
 
@@ -41,7 +41,7 @@ impl Bridge for Box<dyn Bridge> {
         (**self).child_rows(at)
     }
 
-    fn back(&self, at: &Address, duals: &[Ratios]) -> Result<Ratios, ItemFault> {
+    fn back(&self, at: &Address, duals: &[Ratios]) -> Result<Ratios, NumberFault> {
         (**self).back(at, duals)
     }
 }

@@ -1,18 +1,18 @@
 //! The interface of bridges.
 ghost use Rattle.std.specs.Prelude.{◌≡◌, None, IfErr, IfSome, IsSomeAnd, OnErr, OnOk};
 ghost use Rattle.std.specs.Option.{option_map};
-ghost use Rattle.aff_core.specs.Arithmetic.{ExactWhere};
+ghost use Rattle.ratio_core.specs.Answers.{ExactWhere};
 ghost use Rattle.item_core.specs.Edge.{family_of};
 ghost use Rattle.bridge_face.specs.ImageOf.{image_of, ImageFits};
 ghost use Rattle.bridge_face.specs.Law.{IsItemFor, IsLawful};
 ghost use Rattle.bridge_face.specs.State.{IsDualOf, TakesDuals, all_gone, child_rows_of, found, given, gone};
 ghost use Rattle.bridge_face.specs.State.{kept_item, tried};
 
-use crate::{ChildRows, ItemFault};
+use crate::ChildRows;
 use aff_core::Address;
 use item_core::{Edge, Family, Image, Item};
 use lists::Memory;
-use ratio_core::Ratios;
+use ratio_core::{NumberFault, Ratios};
 
 /// A bridge of one family: it makes images of items, keeps items with the edges that they were
 /// bridged by, and carries duals back to them.
@@ -34,7 +34,7 @@ pub trait Bridge: Drop {
 
     /// The item's children by the edge, and its components' expressions. `Overflow` exactly where
     /// a sum that the edge names doesn't fit.
-    fn image(&mut self, edge: Edge, item: &Item) -> Result<Image, ItemFault>
+    fn image(&mut self, edge: Edge, item: &Item) -> Result<Image, NumberFault>
         requires own { family_of edge ≡ (state self.old).family }
         requires suits { IsItemFor edge item.now }
         ensures answer { ExactWhere result (ImageFits edge item.now)
@@ -74,7 +74,7 @@ pub trait Bridge: Drop {
 
     /// The dual of a kept row, by those of its child rows in order. `Overflow` exactly where a sum
     /// that the edge names doesn't fit.
-    fn back(&self, at: &Address, duals: &[Ratios]) -> Result<Ratios, ItemFault>
+    fn back(&self, at: &Address, duals: &[Ratios]) -> Result<Ratios, NumberFault>
         requires { IsSomeAnd (found (state self.now) at.now) (λ kept. TakesDuals kept duals.now) }
         ensures { IfSome (found (state self.now) at.now) (IsDualOf result duals.now) };
 }

@@ -1,6 +1,5 @@
-//! Images of groups, rows and objectives.
+//! Images of a group, or of a group and a row.
 ghost use Rattle.std.specs.Prelude.{◌≡◌, ◌<◌, [], ◌∷◌, IfOk, None, length};
-ghost use Rattle.bridge_face.specs.ImageOf.{objective_at};
 ghost use Rattle.bridge_face.specs.Images.{child_at, group_by};
 
 use item_core::{Body, Expressions, Image, Item, Items};
@@ -47,22 +46,6 @@ pub fn group_row_image(
         )?,
         objective: None,
     })
-}
-
-/// The image of an objective that has one child objective, at position 0.
-pub fn objective_image(alloc: Global, item: &Item, body: Body) -> Image
-    requires { length item.now.at.positions < 40 }
-    ensures { result ≡ objective_at item.now body }
-{
-    Image {
-        groups: Items::new(alloc),
-        exprs: Expressions::new(alloc),
-        rows: Items::new(alloc),
-        objective: Some(Item {
-            at: item.at.child(0),
-            body,
-        }),
-    }
 }
 
 /// A list of one item.

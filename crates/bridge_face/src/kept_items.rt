@@ -4,11 +4,11 @@ ghost use Rattle.std.specs.FinMap as finite;
 ghost use Rattle.bridge_face.specs.State.{one_more};
 
 use crate::kept_map::KeptMap;
-use crate::{Bridge, ChildRows, ItemFault, KeptItem, Rewriting};
+use crate::{Bridge, ChildRows, KeptItem, Rewriting};
 use aff_core::Address;
 use item_core::{Edge, Family, Image, Item};
 use lists::Memory;
-use ratio_core::Ratios;
+use ratio_core::{NumberFault, Ratios};
 use std::alloc::Global;
 use std::marker::{Model, PhantomData};
 
@@ -67,7 +67,7 @@ impl<F: Rewriting> Bridge for KeptItems<F> {
         self.turns
     }
 
-    fn image(&mut self, edge: Edge, item: &Item) -> Result<Image, ItemFault> {
+    fn image(&mut self, edge: Edge, item: &Item) -> Result<Image, NumberFault> {
         self.turns = turned(self.turns);
         F::image(self.alloc, edge, item)
     }
@@ -103,7 +103,7 @@ impl<F: Rewriting> Bridge for KeptItems<F> {
         Some(F::child_rows(kept))
     }
 
-    fn back(&self, at: &Address, duals: &[Ratios]) -> Result<Ratios, ItemFault> {
+    fn back(&self, at: &Address, duals: &[Ratios]) -> Result<Ratios, NumberFault> {
         let Some(kept) = self.kept.get(at) else {
             unreachable!()
         };

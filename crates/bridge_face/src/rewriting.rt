@@ -1,14 +1,14 @@
 //! What a family of bridges does with one item.
 ghost use Rattle.std.specs.Prelude.{◌≡◌};
-ghost use Rattle.aff_core.specs.Arithmetic.{ExactWhere};
+ghost use Rattle.ratio_core.specs.Answers.{ExactWhere};
 ghost use Rattle.item_core.specs.Edge.{family_of};
 ghost use Rattle.bridge_face.specs.ImageOf.{image_of, ImageFits};
 ghost use Rattle.bridge_face.specs.Law.{IsItemFor, IsLawful};
 ghost use Rattle.bridge_face.specs.State.{IsDualOf, TakesDuals, child_rows_of};
 
-use crate::{ChildRows, ItemFault, KeptItem};
+use crate::{ChildRows, KeptItem};
 use item_core::{Edge, Family, Image, Item};
-use ratio_core::Ratios;
+use ratio_core::{NumberFault, Ratios};
 use std::alloc::Global;
 
 /// What a family of bridges does with one item: its image, the dual that is carried back, and the
@@ -22,7 +22,7 @@ pub trait Rewriting: Drop {
         ensures { result ≡ family };
 
     /// The item's image by an edge of the family.
-    fn image(alloc: Global, edge: Edge, item: &Item) -> Result<Image, ItemFault>
+    fn image(alloc: Global, edge: Edge, item: &Item) -> Result<Image, NumberFault>
         requires own { family_of edge ≡ family }
         requires suits { IsItemFor edge item.now }
         ensures { ExactWhere result (ImageFits edge item.now)
@@ -35,7 +35,7 @@ pub trait Rewriting: Drop {
         ensures { result ≡ child_rows_of kept.now.edge kept.now.item };
 
     /// The dual of a row, by those of its child rows.
-    fn back(alloc: Global, kept: &KeptItem, duals: &[Ratios]) -> Result<Ratios, ItemFault>
+    fn back(alloc: Global, kept: &KeptItem, duals: &[Ratios]) -> Result<Ratios, NumberFault>
         requires own { family_of kept.now.edge ≡ family }
         requires suits { IsItemFor kept.now.edge kept.now.item }
         requires duals { TakesDuals kept.now duals.now }

@@ -1,15 +1,14 @@
 //! Sums of duals, place by place.
 ghost use Rattle.std.specs.Prelude.{◌≡◌, length};
-ghost use Rattle.aff_core.specs.Arithmetic.{ExactWhere};
+ghost use Rattle.ratio_core.specs.Answers.{ExactWhere};
 ghost use Rattle.rational_laws.specs.Dot.{plus};
 ghost use Rattle.bridge_face.specs.BackOf.{SumsFit};
 
-use crate::ItemFault;
-use ratio_core::{Ratio, Ratios};
+use ratio_core::{NumberFault, Ratio, Ratios};
 use std::alloc::Global;
 
 /// The sums of what stands at equal places.
-pub fn place_sums(alloc: Global, first: &[Ratio], second: &[Ratio]) -> Result<Ratios, ItemFault>
+pub fn place_sums(alloc: Global, first: &[Ratio], second: &[Ratio]) -> Result<Ratios, NumberFault>
     requires { length first.now ≡ length second.now }
     ensures { ExactWhere result (SumsFit first.now second.now)
         (λ sums. sums ≡ plus first.now second.now) }

@@ -212,21 +212,23 @@ sound_constants p q set vector two =
     (one_unnamed (constant_function q) (λ rest. coefficient-constant_function address_order q
     (below here rest))))
 
+suits_constants : (edge : Edge) (p q : Rational) (set : Set) → is_scalar set ≡ false → IsSetOf 2 set
+    → kind_of_body (two_constants p q set) ≡ source_of edge
+    → IsItemFor edge (item_of (two_constants p q set))
+suits_constants edge p q set vector two kind =
+    record { valid = sound_constants p q set vector two; kind = kind }
+
 pub suits_norm : (p q : Rational) → IsItemFor E41 (item_of (two_constants p q (NormInfinityCone 2)))
 unfolding edge_entry kind_of_body
-suits_norm p q = record {
-  valid = sound_constants p q (NormInfinityCone 2) refl
-      (record { dimension = refl; enough = omega arith; uncrossed = refl });
-  kind = refl;
-}
+suits_norm p q =
+    suits_constants E41 p q (NormInfinityCone 2) refl
+    (record { dimension = refl; enough = omega arith; uncrossed = refl }) refl
 
 pub suits_reals : (p q : Rational) → IsItemFor E40 (item_of (two_constants p q (Reals 2)))
 unfolding edge_entry kind_of_body
-suits_reals p q = record {
-  valid = sound_constants p q (Reals 2) refl
-      (record { dimension = refl; enough = omega arith; uncrossed = refl });
-  kind = refl;
-}
+suits_reals p q =
+    suits_constants E40 p q (Reals 2) refl
+    (record { dimension = refl; enough = omega arith; uncrossed = refl }) refl
 
 pub own_norm : family_of E41 ≡ NormInfinity
 unfolding edge_entry

@@ -12,7 +12,7 @@ use bridges_norm::NormInfinity;
 use bridges_split::DropReals;
 use item_core::{Body, Edge, Item};
 use lists::Memory;
-use ratio_core::Ratio;
+use ratio_core::{NumberFault, Ratio};
 use set_core::Set;
 use std::alloc::Global;
 
@@ -42,6 +42,7 @@ fn norm(rt: &HostRuntime, first: Ratio, other: Ratio) -> Result<()> {
     println!(rt; "{first} {other}")?;
     match bridge.image(Edge::E41, &item) {
         Ok(image) => show_image(rt, &image)?,
+        Err(NumberFault::Overflow) => println!(rt; "  a coefficient passes 128 bits")?,
         Err(fault) => println!(rt; "  {fault}")?,
     }
     Ok(())

@@ -30,10 +30,9 @@ use Rattle.item_core.specs.Edge.{family_of}
 use Rattle.item_core.specs.Item.{functions_of, set_of}
 use Rattle.item_core.specs.Valid.{FitsItsFunction, IsValidItem, NamesNothingBelow, below}
 use Rattle.bridge_face.specs.BackOf.{back_of}
-use Rattle.bridge_face.specs.FamilyLaws.{back_is, lawful_by}
-use Rattle.bridge_face.specs.Images.{row_at}
-use Rattle.bridge_face.specs.Law.{EdgeLaw, IsLawful, LeadsTo, Miss, growth}
-use Rattle.bridge_face.specs.OneRowLaws.{IsRow, OneRow, RowRule, one_row_law, row_held}
+use Rattle.bridge_face.specs.FamilyLaws.{back_is, sums_in_images, sums_of_duals}
+use Rattle.bridge_face.specs.Law.{LeadsTo, Miss, growth}
+use Rattle.bridge_face.specs.OneRowLaws.{IsRow, OneRow, RowRule, UnsummedRule, row_held, unsummed}
 
 -- two rows of which one is the other's flip
 pub record FlipsTo (b child : Body) : Type 0 where
@@ -163,7 +162,7 @@ module _ (edge : Edge) (item : Item) (child : Body) (f : IsFlip edge item child)
   same_length : length (functions_of child) ≡ length fs
   same_length = ap length f.flips.functions ∙ length-map fs negated
 
-  pub is_one_row : OneRow edge item child
+  is_one_row : OneRow edge item child
   is_one_row = record {
     source = f.flips.source;
     made = f.flips.made;
@@ -197,18 +196,20 @@ module _ (edge : Edge) (item : Item) (child : Body) (f : IsFlip edge item child)
     mentioned = λ v m. subst (λ gs. Miss gs v) (sym f.flips.functions) (miss_negated fs v m);
   }
 
-  pub flip_law : EdgeLaw edge item (row_at item child)
-  flip_law = one_row_law edge item child is_one_row
-
 -- ---- families
 
+-- what is carried back by a flip
+abbrev pub negated_dual : Body → List Rational → List Rational
+negated_dual row y = numbers.negated y
+
 -- a family that flips such rows
-pub flip_lawful : {f : Family} {Source : Body → Type 0} {made : Body → Body}
-    → RowRule f Source made numbers.negated → growth f ≡ 1
-    → ((b : Body) → Source b → FlipsTo b (made b)) → IsLawful f
-flip_lawful {f} {Source} {made} rule no_growth flips =
-    lawful_by rule (λ edge own item valid source.
-    flip_law edge item (made item.body) (record {
+pub flip_rule : {f : Family} {Source : Body → Type 0} {made : Body → Body}
+    → RowRule f Source made negated_dual → growth f ≡ 1
+    → sums_in_images f ≡ false → sums_of_duals f ≡ false
+    → ((b : Body) → Source b → FlipsTo b (made b)) → UnsummedRule f Source made negated_dual
+flip_rule {f} {Source} {made} rule no_growth no_sum no_dual_sum flips =
+    unsummed rule no_sum no_dual_sum (λ edge own item valid source.
+    is_one_row edge item (made item.body) (record {
       item_valid = valid;
       flips = flips item.body source.source;
       back = λ y. back_is rule edge own item (y ∷ []);

@@ -13,15 +13,13 @@ use Rattle.item_core.specs.declared.item.Body.TheVariants.{Affine, Plain}
 use Rattle.item_core.specs.Edge.{edge_entry, family_of, source_of}
 use Rattle.item_core.specs.Item.{set_of}
 use Rattle.item_core.specs.KindOf.{kind_of_body}
-use Rattle.rational_laws.specs.Dot as numbers
 use Rattle.bridge_face.specs.BackOf.{back_by}
 use Rattle.bridge_face.specs.FamilyLaws.{Sourced, of_another}
 use Rattle.bridge_face.specs.ImageOf.{image_by}
-use Rattle.bridge_face.specs.OneRowLaws.{RowRule, row}
+use Rattle.bridge_face.specs.OneRowLaws.{UnsummedRule, row}
 use Rattle.bridge_face.specs.Images.{function_of_body}
-use Rattle.bridge_face.specs.Law.{IsLawful}
 use Rattle.bridge_face.specs.Sources.{OfKind, affine_greater_than, affine_less_than, plain_greater_than, plain_less_than}
-use Rattle.bridges_flip.specs.FlipLaws.{FlipsTo, flip_lawful, flips_to}
+use Rattle.bridges_flip.specs.FlipLaws.{FlipsTo, flip_rule, flips_to, negated_dual}
 
 -- a row with one bound
 pub data IsBound : Body → Type 0 where
@@ -51,9 +49,9 @@ sourced E3 own plain_greater_than = record { source = plain_above; leads = refl 
 sourced E4 own affine_greater_than = record { source = affine_above; leads = refl }
 sourced _ own k = of_another own refl
 
-pub rule : RowRule GreaterLess IsBound made numbers.negated
+pub rule : UnsummedRule GreaterLess IsBound made negated_dual
 unfolding image_by back_by
-rule = record { image = λ edge item. refl; back = λ item ys. refl; sourced = sourced }
-
-pub greater_less_lawful : IsLawful GreaterLess
-greater_less_lawful = flip_lawful rule refl (λ b. flips)
+rule =
+    flip_rule
+    (record { image = λ edge item. refl; back = λ item ys. refl; sourced = sourced })
+    refl refl refl (λ b. flips)

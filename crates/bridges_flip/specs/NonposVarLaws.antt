@@ -1,7 +1,7 @@
 -- The law of NonposVar: x ≤ 0 is -s with s ≥ 0.
 use Rattle.std.specs.Prelude.{All, List, [], length, map, refl, ℕ, ◌*◌, ◌∷◌, ◌≡◌, ◌≤◌}
 use Rattle.std.proofs.lemmas.List.Elements.{All-nil, All-weaker, All-cons, All-map}
-use Rattle.std.proofs.Common.{ap, ap₂, arith, ◌∙◌, subst, sym}
+use Rattle.std.proofs.Common.{ap, ap₂, arith, ◌∙◌, subst, sym, true≢false}
 use Rattle.std.proofs.lemmas.List.{length-map}
 use Rattle.rational_laws.specs.Field.{neg_ℚ-zero, -ℚ-itself}
 use Rattle.aff_core.specs.Address.{Address, address_cmp, child_of}
@@ -11,18 +11,18 @@ use Rattle.item_core.specs.declared.image.Expression.TheVariants.{Bridged}
 use Rattle.set_core.specs.Membership.{Dual, In, low_of}
 use Rattle.item_core.specs.declared.edge.Edge.TheVariants.{E44}
 use Rattle.item_core.specs.declared.edge.Edge.{Edge}
-use Rattle.bridge_face.specs.Law.{IsLawful, Miss, growth}
+use Rattle.bridge_face.specs.Law.{Miss, growth}
 use Rattle.item_core.specs.declared.image.Expression.{Expression}
-use Rattle.bridge_face.specs.ImageOf.{bridged, image_by, image_of, inner, nonpos_var, group_at}
+use Rattle.bridge_face.specs.ImageOf.{bridged, group_at, image_by, inner, nonpos_var}
 use Rattle.item_core.specs.Valid.{IsValidItem}
 use Rattle.aff_core.specs.Function.{Function, coefficient, negated, variable}
 use Rattle.item_core.specs.declared.item.Body.TheVariants.{Group}
 use Rattle.item_core.specs.declared.item.Item.{Item}
-use Rattle.bridge_face.specs.FamilyLaws.{Rule, image_is, lawful_by, of_another}
+use Rattle.bridge_face.specs.FamilyLaws.{of_another}
 use Rattle.set_core.specs.declared.set.Set.TheVariants.{Nonnegatives, Nonpositives}
 use Rattle.item_core.specs.declared.family.Family.TheVariants.{NonposVar}
 use Rattle.bridge_face.specs.Sources.{OfKind, group_nonpositives}
-use Rattle.bridge_face.specs.GroupLaws.{GroupSourced, OneGroup, one_group_law}
+use Rattle.bridge_face.specs.GroupLaws.{GroupSourced, IsGroupRule, OneGroup, one_group_law}
 use Rattle.ratio_core.specs.Rational.{Rational, neg_ℚ, zero_ℚ, ◌-ℚ◌}
 use Rattle.aff_core.specs.KeyOrder.{address_order}
 use Rattle.aff_core.specs.FunctionLaws.{coefficient-negated, constant-negated, constant-variable}
@@ -36,7 +36,6 @@ use Rattle.linear_laws.specs.ListLaws.{evaluated_variable}
 use Rattle.item_core.specs.KindOf.{kind_of_body}
 use Rattle.set_laws.specs.Mirrors.{mirrors}
 use Rattle.set_core.specs.Mirrored.{multiplied}
-use Rattle.item_core.specs.declared.image.Image.{Image}
 use Rattle.bridge_face.specs.Images.{child_at, group_by}
 use Rattle.rational_laws.specs.Dot as numbers
 
@@ -50,10 +49,6 @@ unfolding edge_entry kind_of_body
 sourced E44 own (group_nonpositives {vars} {n}) =
     record { count = n; set = refl; group = refl; leads = λ n vars. refl }
 sourced _ own k = of_another own refl
-
-pub rule : Rule NonposVar Sourced (λ edge. nonpos_var) (λ item ys. [])
-unfolding image_by back_by
-rule = record { image = λ edge item. refl; back = λ item ys. refl; sourced = sourced }
 
 -- ---- negated variables
 
@@ -105,24 +100,22 @@ misses-negatives vs v m =
 
 -- ---- the law
 
-module _ (edge : Edge) (own : family_of edge ≡ NonposVar) where
-  -- so an image that is made of these parts is the item's
-  pub image_made : (item : Item) (count : ℕ) (vars : List Address) (exprs : List Expression)
-      (group : Item) (image : Image)
-      → count ≡ size item → vars ≡ inner item count → exprs ≡ map negative vars
-      → group ≡ child_at item 0 (Group (Nonnegatives count) vars)
-      → image ≡ group_by (group ∷ []) exprs
-      → image ≡ image_of edge item
-  image_made item count vars exprs group image count_is vars_are exprs_are group_is image_of_parts =
-      image_of_parts ∙ ap₂ (λ g es. group_by (g ∷ []) es) group_is exprs_are
-      ∙ ap (λ vs. group_by (child_at item 0 (Group (Nonnegatives count) vs) ∷ []) (map negative vs))
-      vars_are
-      ∙ ap (λ n. group_by (child_at item 0 (Group (Nonnegatives n) (inner item n)) ∷ [])
-      (map negative (inner item n))) count_is
-      ∙ ap (λ es. group_by (group_at item (Nonnegatives (size item)) (size item) ∷ []) es)
-      (sym (negatives_are (inner item (size item))))
-      ∙ sym (image_is rule edge own item)
+-- so an image that is made of these parts is the item's
+pub image_made : (item : Item) (count : ℕ) (vars : List Address) (exprs : List Expression)
+    (group : Item)
+    → count ≡ size item → vars ≡ inner item count → exprs ≡ map negative vars
+    → group ≡ child_at item 0 (Group (Nonnegatives count) vars)
+    → group_by (group ∷ []) exprs ≡ nonpos_var item
+image_made item count vars exprs group count_is vars_are exprs_are group_is =
+    ap₂ (λ g es. group_by (g ∷ []) es) group_is exprs_are
+    ∙ ap (λ vs. group_by (child_at item 0 (Group (Nonnegatives count) vs) ∷ []) (map negative vs))
+    vars_are
+    ∙ ap (λ n. group_by (child_at item 0 (Group (Nonnegatives n) (inner item n)) ∷ [])
+    (map negative (inner item n))) count_is
+    ∙ ap (λ es. group_by (group_at item (Nonnegatives (size item)) (size item) ∷ []) es)
+    (sym (negatives_are (inner item (size item))))
 
+module _ (edge : Edge) (own : family_of edge ≡ NonposVar) where
   module _ (item : Item) (valid : IsValidItem item) (is : Sourced edge item.body) where
     abbrev d : ℕ
     d = size item
@@ -165,8 +158,16 @@ module _ (edge : Edge) (own : family_of edge ≡ NonposVar) where
       leads = is.leads d ss;
     }
 
-pub nonpos_var_lawful : IsLawful NonposVar
-nonpos_var_lawful =
-    lawful_by rule (λ edge own item valid is.
-    one_group_law edge item (Nonnegatives (size item)) (size item)
-    (negatives (inner item (size item))) (one_group edge own item valid is))
+pub rule : IsGroupRule NonposVar Sourced (λ edge. nonpos_var) 0
+unfolding image_by back_by
+rule = record {
+  carry = λ item ys. [];
+  rule = record { image = λ edge item. refl; back = λ item ys. refl; sourced = sourced };
+  no_sum = refl;
+  no_dual_sum = refl;
+  children = λ edge item. refl;
+  dual = λ edge item is no_group. absurd (true≢false (sym is.group ∙ no_group));
+  law = λ edge own item valid is.
+      one_group_law edge item (Nonnegatives (size item)) (size item)
+      (negatives (inner item (size item))) (one_group edge own item valid is);
+}

@@ -20,9 +20,8 @@ use Rattle.bridge_face.specs.DifferenceLaws.{missed-negated}
 use Rattle.bridge_face.specs.FamilyLaws.{Sourced, of_another}
 use Rattle.bridge_face.specs.ImageOf.{image_by, opposite, sense_of}
 use Rattle.bridge_face.specs.Images.{function_of_body}
-use Rattle.bridge_face.specs.Law.{IsLawful, Miss, cost_by}
-use Rattle.bridge_face.specs.ObjectiveLaws.{ObjectiveRule, Replaces, affine_objective, objective_lawful}
-pub use Rattle.bridge_face.specs.ObjectiveLaws.{IsAffineObjective}
+use Rattle.bridge_face.specs.Law.{Miss, cost_by}
+use Rattle.bridge_face.specs.ObjectiveLaws.{IsAffineObjective, IsObjectiveRule, Replaces, affine_objective}
 use Rattle.bridge_face.specs.Sources.{OfKind, max_affine, min_affine}
 
 -- what the edges make of it
@@ -40,7 +39,7 @@ same_cost : (sense : Sense) (f : Function)
 same_cost Min f = negated-negated address_order f
 same_cost Max f = refl
 
-pub replaces : {b : Body} → IsAffineObjective b → Replaces b (made b)
+replaces : {b : Body} → IsAffineObjective b → Replaces b (made b)
 replaces (affine_objective {sense} {func}) = record {
   source = refl;
   made = refl;
@@ -57,9 +56,11 @@ sourced E58 own min_affine = record { source = affine_objective; leads = refl }
 sourced E59 own max_affine = record { source = affine_objective; leads = refl }
 sourced _ own k = of_another own refl
 
-pub rule : ObjectiveRule ObjFlip IsAffineObjective made
+pub rule : IsObjectiveRule ObjFlip IsAffineObjective made
 unfolding image_by back_by
-rule = record { image = λ edge item. refl; back = λ item ys. refl; sourced = sourced }
-
-pub obj_flip_lawful : IsLawful ObjFlip
-obj_flip_lawful = objective_lawful rule refl (λ b. replaces)
+rule = record {
+  rule = record { image = λ edge item. refl; back = λ item ys. refl; sourced = sourced };
+  no_growth = refl;
+  no_sum = refl;
+  replaces = λ b. replaces;
+}

@@ -1,15 +1,13 @@
 -- The law of OrthantFlip: f ≥ 0 is -f ≤ 0, and f ≤ 0 is -f ≥ 0.
 use Rattle.std.specs.Prelude.{List, map, refl, ℕ, ◌≡◌}
 use Rattle.item_core.specs.declared.item.Body.TheVariants.{AffineVec}
-use Rattle.rational_laws.specs.Dot as numbers
 use Rattle.bridge_face.specs.BackOf.{back_by}
 use Rattle.item_core.specs.declared.item.Body.{Body}
 use Rattle.item_core.specs.declared.edge.Edge.TheVariants.{E21, E22}
 use Rattle.item_core.specs.declared.edge.Edge.{Edge}
-use Rattle.bridge_face.specs.Law.{IsLawful}
 use Rattle.bridge_face.specs.ImageOf.{image_by}
-use Rattle.bridge_face.specs.OneRowLaws.{RowRule, row}
-use Rattle.bridges_flip.specs.FlipLaws.{FlipsTo, flip_lawful, flips_to}
+use Rattle.bridge_face.specs.OneRowLaws.{UnsummedRule, row}
+use Rattle.bridges_flip.specs.FlipLaws.{FlipsTo, flip_rule, flips_to, negated_dual}
 use Rattle.aff_core.specs.Function.{Function, negated}
 use Rattle.bridge_face.specs.FamilyLaws.{Sourced, of_another}
 use Rattle.set_core.specs.declared.set.Set.TheVariants.{Nonnegatives, Nonpositives}
@@ -42,9 +40,9 @@ sourced E21 own vaffine_nonnegatives = record { source = above; leads = refl }
 sourced E22 own vaffine_nonpositives = record { source = beneath; leads = refl }
 sourced _ own k = of_another own refl
 
-pub rule : RowRule OrthantFlip IsOrthant made numbers.negated
+pub rule : UnsummedRule OrthantFlip IsOrthant made negated_dual
 unfolding image_by back_by
-rule = record { image = λ edge item. refl; back = λ item ys. refl; sourced = sourced }
-
-pub orthant_flip_lawful : IsLawful OrthantFlip
-orthant_flip_lawful = flip_lawful rule refl (λ b. flips)
+rule =
+    flip_rule
+    (record { image = λ edge item. refl; back = λ item ys. refl; sourced = sourced })
+    refl refl refl (λ b. flips)

@@ -8,51 +8,52 @@ ghost use Rattle.bridges_flip.specs.NonposVarLaws.{negative};
 
 use aff_core::{Address, Aff};
 use bridge_face::{
-    ChildRows, ItemFault, KeptItem, KeptItems, Rewriting, child_group, component_count,
-    group_image, inner_variables,
+    GroupRule, KeptItems, OneGroup, child_group, component_count, group_image, inner_variables,
 };
 use item_core::{Edge, Expression, Expressions, Family, Image, Item};
 use lists::Memory;
-use ratio_core::Ratios;
 use set_core::Set;
 use std::alloc::Global;
 
 /// The bridge of variables that are at most 0.
-pub type NonposVar = KeptItems<NonposVarRule>;
+pub type NonposVar = KeptItems<OneGroup<NonposVarRule>>;
 
 /// What `NonposVar` does with one group.
 #[derive(Drop)]
 pub struct NonposVarRule;
 
-impl Rewriting for NonposVarRule {
+impl GroupRule for NonposVarRule {
     ghost use Rattle.item_core.specs.declared.family.Family.TheVariants as families;
-    ghost use Rattle.bridges_flip.specs.NonposVarLaws.{nonpos_var_lawful};
+    ghost use Rattle.bridge_face.specs.ImageOf as images;
+    ghost use Rattle.bridges_flip.specs.NonposVarLaws as laws;
 
     ghost family = { families.NonposVar };
+
+    ghost source = { laws.Sourced };
+
+    ghost made = { λ edge. images.nonpos_var };
+
+    ghost row_count = { 0 };
 
     fn family() -> Family {
         Family::NonposVar
     }
 
-    fn image(alloc: Global, _edge: Edge, item: &Item) -> Result<Image, ItemFault> {
-        let count = component_count(&item.body);
-        let vars = inner_variables(alloc, item, count)?;
+    fn rows() -> u16 {
+        0
+    }
+
+    fn image(alloc: Global, _edge: Edge, group: &Item) -> Result<Image, Memory> {
+        let count = component_count(&group.body);
+        let vars = inner_variables(alloc, group, count)?;
         let exprs = negatives(alloc, vars.as_slice())?;
         let set = Set::Nonnegatives {
             dimension: count as u32,
         };
-        Ok(group_image(alloc, child_group(item, set, vars), exprs)?)
+        group_image(alloc, child_group(group, set, vars), exprs)
     }
 
-    fn child_rows(_kept: &KeptItem) -> ChildRows {
-        ChildRows { first: 1, count: 0 }
-    }
-
-    fn back(_alloc: Global, _kept: &KeptItem, _duals: &[Ratios]) -> Result<Ratios, ItemFault> {
-        unreachable!()
-    }
-
-    ghost lawful = { nonpos_var_lawful };
+    ghost rule = { laws.rule };
 }
 
 // The negations of the variables.

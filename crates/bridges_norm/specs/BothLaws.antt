@@ -196,6 +196,11 @@ begins : (fs : List Function) → 1 ≤ length fs → fs ≡ first_in fs ∷ res
 begins [] h = absurd (omega (arith, h))
 begins (f ∷ fs) h = refl
 
+pub others_counted : (fs : List Function) → 1 ≤ length fs → length fs - 1 ≡ length (rest_of fs)
+others_counted fs some =
+    let e : length fs ≡ suc (length (rest_of fs)) = ap length (begins fs some) in
+    omega (arith, e)
+
 -- a row in a cone of two numbers or more, as its first function and the others
 pub record ConeRow (item : Item) (cone : Set) : Type 0 where
   pub parts : functions_of item.body ≡ function_of_body item.body ∷ others_of item.body
@@ -240,8 +245,3 @@ none_left (p ∷ v) h =
     (sym (neg_ℚ-neg_ℚ p) ∙ ap neg_ℚ (All-head (λ q. q ≡ zero_ℚ) (neg_ℚ p) (numbers.negated v) h)
     ∙ neg_ℚ-zero)
     (none_left v (All-tail (λ q. q ≡ zero_ℚ) (neg_ℚ p) (numbers.negated v) h))
-
--- the first size of several
-abbrev pub first_size : List ℕ → ℕ
-first_size [] = 0
-first_size (n ∷ ns) = n

@@ -3,7 +3,7 @@ use Rattle.std.specs.Prelude.{All, List, [], drop, length, map, refl, suc, take,
 use Rattle.std.proofs.lemmas.List.Elements.{All-append, All-head, All-map, All-tail, All-weaker}
 use Rattle.std.proofs.Common.{ap, ap₂, arith, subst, sym, ◌∙◌}
 use Rattle.std.proofs.lemmas.List.{length-append, length-map, map-append}
-use Rattle.bridge_face.specs.BackOf.{AcrossFits, BackFits, BackFitsBy, across, back_by, back_of, size}
+use Rattle.bridge_face.specs.BackOf.{AcrossFits, BackFitsBy, across, back_by, back_of}
 use Rattle.aff_core.specs.Address.{Address, child_of}
 use Rattle.bridge_face.specs.DifferenceLaws.{Adds, Subtracts, coefficient-difference, constant-difference, evaluated-difference, evaluated-sum, less, missed-difference, missed-sum, unnamed-difference, unnamed-sum}
 use Rattle.item_core.specs.declared.item.Body.TheVariants.{AffineVec}
@@ -11,26 +11,26 @@ use Rattle.item_core.specs.declared.item.Body.{Body}
 use Rattle.set_core.specs.Vectors.{DominatesEach, DominatesSum}
 use Rattle.item_core.specs.declared.edge.Edge.TheVariants.{E41}
 use Rattle.item_core.specs.declared.edge.Edge.{Edge}
-use Rattle.bridge_face.specs.Law.{IsLawful, LeadsTo, Miss, growth, IsItemFor}
-use Rattle.bridge_face.specs.ImageOf.{FitsBy, ImageFits, image_by}
+use Rattle.bridge_face.specs.Law.{LeadsTo, Miss, growth}
+use Rattle.bridge_face.specs.ImageOf.{FitsBy, image_by}
 use Rattle.item_core.specs.Valid.{IsValidItem, NamesNothingBelow}
 use Rattle.ratio_core.specs.Folds.{FoldFits, sum_from}
 use Rattle.aff_core.specs.Function.{Function, coefficient, evaluated, negated}
 use Rattle.dual_laws.specs.Held.{Holds, IsHeld, adjoint_of, gap_of}
-use Rattle.bridge_face.specs.OneRowLaws.{IsRow, OneRow, one_row_law, row_held}
+use Rattle.bridge_face.specs.OneRowLaws.{IsRow, IsRowRule, OneRow, RowRule, row_held}
 use Rattle.item_core.specs.declared.item.Item.{Item}
-use Rattle.bridge_face.specs.FamilyLaws.{Rule, back_is, dual_sizes, image_is, kept_by, lawful_by, of_another, source_is}
-use Rattle.bridge_face.specs.BackOf as backs
+use Rattle.bridge_face.specs.FamilyLaws.{Sourced, back_is, of_another}
 use Rattle.set_core.specs.declared.set.Set.TheVariants.{Nonnegatives, NormInfinityCone}
 use Rattle.item_core.specs.declared.family.Family.TheVariants.{NormInfinity}
 use Rattle.bridge_face.specs.Sources.{OfKind, vaffine_norm_infinity_cone}
-use Rattle.aff_core.specs.Arithmetic.{PlusFits, sum_of, ExactWhere}
+use Rattle.ratio_core.specs.Answers.{ExactWhere}
+use Rattle.aff_core.specs.Arithmetic.{PlusFits, sum_of}
 use Rattle.ratio_core.specs.Rational.{Rational, zero_ℚ, ◌+ℚ◌, ◌-ℚ◌, ◌≤ℚ◌}
 use Rattle.aff_core.specs.KeyOrder.{address_order}
 use Rattle.bridge_face.specs.ComponentLaws.{all_unnamed_below}
-use Rattle.bridges_norm.specs.BothLaws.{ConeRow, Halves, cone_row, dot_both, each_below, first_size, halves, in_first, in_second, less_each, more_each, norm_across, others_of}
+use Rattle.bridges_norm.specs.BothLaws.{ConeRow, Halves, cone_row, dot_both, each_below, halves, in_first, in_second, less_each, more_each, norm_across, others_counted, others_of}
 use Rattle.aff_core.specs.ArithmeticLaws.{coefficient-sum_of, constant-sum_of}
-use Rattle.bridge_face.specs.Images.{difference, function_of_body, rest_of, row_at, first_in}
+use Rattle.bridge_face.specs.Images.{difference, first_in, function_of_body, rest_of}
 use Rattle.rational_laws.specs.Dot.{dot, minus}
 use Rattle.item_core.specs.Edge.{edge_entry, family_of, source_of}
 use Rattle.aff_core.specs.FunctionLists.{evaluations}
@@ -41,9 +41,8 @@ use Rattle.item_core.specs.KindOf.{kind_of_body}
 use Rattle.set_laws.specs.Norms.{norm_dominated}
 use Rattle.rational_laws.specs.Field.{zero-+ℚ}
 use Rattle.rational_laws.specs.Order.{≤ℚ_from_≡}
-use Rattle.aff_core.specs.declared.fault.AffFault.{AffFault}
-use Rattle.bridge_face.specs.State.{TakesDuals}
-use Rattle.aff_core.specs.AnsweredLaws.{exact_as}
+use Rattle.ratio_core.specs.declared.fault.NumberFault.{NumberFault}
+use Rattle.ratio_core.specs.AnsweredLaws.{exact_as}
 use Rattle.set_core.specs.declared.set.Set.{Set}
 
 -- a row in the cone
@@ -81,46 +80,49 @@ made_of b s fs others both first n b_is first_is others_is both_is n_is =
     (first_is ∙ ap function_of_body (sym b_is)) there)
     (n_is ∙ ap length there)
 
--- what is read of it, and what the edge leads to
-pub record Sourced (edge : Edge) (b : Body) : Type 0 where
-  pub cone : InNormInfinity b
-  pub row : IsRow b
-  pub count : ℕ
-  pub set : set_of b ≡ NormInfinityCone count
-  pub leads : (n : ℕ) (fs : List Function) → LeadsTo edge (AffineVec fs (Nonnegatives n))
+abbrev pub MadeFits : Body → Type 0
+MadeFits b = BothFit (function_of_body b) (others_of b)
+
+-- what is carried back of the dual, and what must fit for it
+abbrev pub carried : Body → List Rational → List Rational
+carried b y = sum_from zero_ℚ y ∷ across (length (functions_of b) - 1) y
+
+abbrev pub CarriedFits : Body → List Rational → Type 0
+CarriedFits b y = FoldFits zero_ℚ y × AcrossFits (length (functions_of b) - 1) y
+
+-- what is read of it
+record Read (b : Body) : Type 0 where
+  row : IsRow b
+  count : ℕ
+  set : set_of b ≡ NormInfinityCone count
+
+read : {b : Body} → InNormInfinity b → Read b
+read (in_norm_infinity {n}) =
+    record { row = record { no_group = refl; no_objective = refl }; count = n; set = refl }
 
 sourced : (edge : Edge) → family_of edge ≡ NormInfinity → {b : Body} → OfKind (source_of edge) b
-    → Sourced edge b
+    → Sourced InNormInfinity made edge b
 unfolding edge_entry kind_of_body
-sourced E41 own (vaffine_norm_infinity_cone {n}) = record {
-  cone = in_norm_infinity;
-  row = record { no_group = refl; no_objective = refl };
-  count = n;
-  set = refl;
-  leads = λ n fs. refl;
-}
+sourced E41 own vaffine_norm_infinity_cone = record { source = in_norm_infinity; leads = refl }
 sourced _ own k = of_another own refl
 
-pub rule : Rule NormInfinity Sourced (λ edge item. row_at item (made item.body))
-    (λ item ys. sum_from zero_ℚ (backs.first_of ys) ∷ across (size item - 1) (backs.first_of ys))
+row_rule : RowRule NormInfinity InNormInfinity made carried
 unfolding image_by back_by
-rule = record { image = λ edge item. refl; back = λ item ys. refl; sourced = sourced }
+row_rule = record { image = λ edge item. refl; back = λ item ys. refl; sourced = sourced }
 
 -- ---- the law
 
+both_long : (b : Body)
+    → length (functions_of (made b)) ≡ length (others_of b) + length (others_of b)
+both_long b =
+    length-append (less_each (function_of_body b) (others_of b))
+    (more_each (function_of_body b) (others_of b))
+    ∙ ap₂ ◌+◌ (length-map (others_of b) (difference (function_of_body b)))
+    (length-map (others_of b) (sum_of (function_of_body b)))
+
 module _ (edge : Edge) (own : family_of edge ≡ NormInfinity) where
-  pub image_fits : (item : Item)
-      → ImageFits edge item
-      ≡ BothFit (function_of_body item.body) (others_of item.body)
-  unfolding FitsBy
-  image_fits item = ap (λ f. FitsBy f item) own
-
-  pub back_fits : (item : Item) (y : List Rational)
-      → BackFits edge item (y ∷ []) ≡ (FoldFits zero_ℚ y × AcrossFits (size item - 1) y)
-  unfolding BackFitsBy
-  back_fits item y = ap (λ f. BackFitsBy f item (y ∷ [])) own
-
-  module _ (item : Item) (valid : IsValidItem item) (r : Sourced edge item.body) where
+  module _ (item : Item) (valid : IsValidItem item) (r : Read item.body)
+      (leads : LeadsTo edge (made item.body)) where
     abbrev fs : List Function
     fs = functions_of item.body
 
@@ -140,9 +142,7 @@ module _ (edge : Edge) (own : family_of edge ≡ NormInfinity) where
     cone = cone_row item valid (NormInfinityCone r.count) r.set (omega arith)
 
     long : length both ≡ n + n
-    long =
-        length-append (less_each t xs) (more_each t xs)
-        ∙ ap₂ ◌+◌ (length-map xs (difference t)) (length-map xs (sum_of t))
+    long = both_long item.body
 
     unnamed : All (NamesNothingBelow item.at) (t ∷ xs)
     unnamed = subst (All (NamesNothingBelow item.at)) cone.parts (valid.others r.row.no_group)
@@ -190,14 +190,14 @@ module _ (edge : Edge) (own : family_of edge ≡ NormInfinity) where
 
       back_parts : back_of edge item (y ∷ []) ≡ w
       back_parts =
-          back_is rule edge own item (y ∷ [])
+          back_is row_rule edge own item (y ∷ [])
           ∙ ap₂ (λ s d. s ∷ d)
           (fold_ℚ zero_ℚ y ∙ zero-+ℚ (sum_ℚ y) ∙ ap sum_ℚ (sym two.whole) ∙ sum_ℚ-append p q)
           (ap (λ m. across m y) cone.counted)
 
-      carried : row_held item.body (back_of edge item (y ∷ []))
+      back_held : row_held item.body (back_of edge item (y ∷ []))
           ≡ held_of w (t ∷ xs) (NormInfinityCone r.count)
-      carried = ap (row_held item.body) back_parts ∙ cone.is w
+      back_held = ap (row_held item.body) back_parts ∙ cone.is w
 
       products : (g : Function → Rational) → Subtracts g → Adds g
           → dot w (map g (t ∷ xs)) ≡ dot y (map g both)
@@ -239,12 +239,12 @@ module _ (edge : Edge) (own : family_of edge ≡ NormInfinity) where
       source = r.row;
       made = record { no_group = refl; no_objective = refl };
       values = λ one x h below. subst (λ k. Holds one k x) (sym (cone.is [])) (values one x below);
-      holds = λ y h. subst IsHeld (sym (carried y h)) (holds y h);
+      holds = λ y h. subst IsHeld (sym (back_held y h)) (holds y h);
       same = λ y h v.
-          ap (λ k. adjoint_of k v) (carried y h)
+          ap (λ k. adjoint_of k v) (back_held y h)
           ∙ products y h (λ f. coefficient f v) (λ f g. coefficient-difference f g v)
           (λ f g. coefficient-sum_of address_order f g v);
-      gaps = λ y h. ≤ℚ_from_≡ _ _ (gap_same y h ∙ sym (ap gap_of (carried y h)));
+      gaps = λ y h. ≤ℚ_from_≡ _ _ (gap_same y h ∙ sym (ap gap_of (back_held y h)));
       valid = λ room few. record {
         function = refl;
         some = omega (arith, long, cone.some);
@@ -263,58 +263,44 @@ module _ (edge : Edge) (own : family_of edge ≡ NormInfinity) where
       };
       sizes = subst (λ m. length both ≤ m * length fs) (sym (ap growth own))
           (let e : length fs ≡ suc n = ap length cone.parts in omega (arith, long, e));
-      leads = r.leads (n + n) both;
+      leads = leads;
       mentioned = λ v m.
           all_both (λ f. coefficient f v ≡ zero_ℚ) (missed-difference v) (missed-sum v)
           (subst (λ gs. Miss gs v) cone.parts m);
     }
 
-  -- the dual has two numbers for each other function
-  pub dual_long : (item : Item) → IsItemFor edge item
-      → (ys : List (List Rational)) (y : List Rational)
-      → TakesDuals (kept_by edge item) ys → ys ≡ y ∷ []
-      → length y ≡ (size item - 1) + (size item - 1)
-  dual_long item suits ys y takes ys_are =
-      let r = source_is rule edge own item suits in
-      let sizes : length y ∷ [] ≡ length (functions_of (made item.body)) ∷ [] = ap (map length)
-      (sym ys_are)
-      ∙ dual_sizes edge item (row_at item (made item.body)) (image_is rule edge own item) ys
-      takes in
-      ap first_size sizes ∙ long item suits.valid r
-      ∙ ap₂ ◌+◌ (sym (cone item suits.valid r).counted) (sym (cone item suits.valid r).counted)
+-- the dual has two numbers for each other function
+pub dual_long : (b : Body) (y : List Rational) → 1 ≤ length (functions_of b)
+    → length y ≡ length (functions_of (made b))
+    → length y ≡ (length (functions_of b) - 1) + (length (functions_of b) - 1)
+dual_long b y some size =
+    let counted = others_counted (functions_of b) some in
+    size ∙ both_long b ∙ ap₂ ◌+◌ (sym counted) (sym counted)
 
-  -- what is carried back by the sum of the dual and the differences of its halves
-  pub back_made : (item : Item) (ys : List (List Rational)) (y now : List Rational) (half : ℕ)
-      (sum : Rational) (r : Result (List Rational) AffFault)
-      → ys ≡ y ∷ [] → now ≡ y → half ≡ size item - 1 → FoldFits zero_ℚ now
-      → sum ≡ sum_from zero_ℚ now
-      → ExactWhere r (AcrossFits half now) (λ d. d ≡ sum ∷ across half now)
-      → ExactWhere r (BackFits edge item ys) (λ d. d ≡ back_of edge item ys)
-  back_made item ys y now half sum r ys_are now_is half_is fold_fits sum_is said =
-      let fits : BackFits edge item ys ≡ (FoldFits zero_ℚ y × AcrossFits (size item - 1) y) =
-      ap (BackFits edge item) ys_are ∙ back_fits item y in
-      let across_is : AcrossFits half now ≡ AcrossFits (size item - 1) y =
-      ap₂ AcrossFits half_is now_is in
-      exact_as r (AcrossFits half now) (BackFits edge item ys) (λ d. d ≡ sum ∷ across half now)
-      (λ d. d ≡ back_of edge item ys)
-      (λ h. subst (λ T. T) (sym fits) (
-        subst (FoldFits zero_ℚ) now_is fold_fits,
-        subst (λ T. T)
-            across_is h,
-      ))
-      (λ h. subst (λ T. T) (sym across_is) (subst (λ T. T) fits h).1)
-      (λ d e. e ∙ ap₂ (λ s ds. s ∷ ds) (sum_is ∙ ap (sum_from zero_ℚ) now_is)
-      (ap₂ across half_is now_is) ∙ sym (ap (back_of edge item) ys_are
-      ∙ back_is rule edge own item (y ∷ [])))
-      said
+-- what is carried back by the sum of the dual and the differences of its halves
+pub back_made : (b : Body) (y now : List Rational) (half : ℕ) (sum : Rational)
+    (r : Result (List Rational) NumberFault)
+    → now ≡ y → half ≡ length (functions_of b) - 1 → FoldFits zero_ℚ now
+    → sum ≡ sum_from zero_ℚ now
+    → ExactWhere r (AcrossFits half now) (λ d. d ≡ sum ∷ across half now)
+    → ExactWhere r (CarriedFits b y) (λ d. d ≡ carried b y)
+back_made b y now half sum r now_is half_is fold_fits sum_is said =
+    let across_is : AcrossFits half now ≡ AcrossFits (length (functions_of b) - 1) y =
+    ap₂ AcrossFits half_is now_is in
+    exact_as r (AcrossFits half now) (CarriedFits b y) (λ d. d ≡ sum ∷ across half now)
+    (λ d. d ≡ carried b y)
+    (λ h. (subst (FoldFits zero_ℚ) now_is fold_fits, subst (λ T. T) across_is h))
+    (λ h. subst (λ T. T) (sym across_is) h.1)
+    (λ d e. e ∙ ap₂ (λ s ds. s ∷ ds) (sum_is ∙ ap (sum_from zero_ℚ) now_is)
+    (ap₂ across half_is now_is))
+    said
 
-  -- where the sum doesn't fit, nothing is carried back
-  pub fold_needed : (item : Item) (ys : List (List Rational)) (y : List Rational) → ys ≡ y ∷ []
-      → BackFits edge item ys → FoldFits zero_ℚ y
-  fold_needed item ys y ys_are h =
-      (subst (λ T. T) (ap (BackFits edge item) ys_are ∙ back_fits item y) h).0
-
-pub norm_infinity_lawful : IsLawful NormInfinity
-norm_infinity_lawful =
-    lawful_by rule (λ edge own item valid r.
-    one_row_law edge item (made item.body) (one_row edge own item valid r))
+pub rule : IsRowRule NormInfinity InNormInfinity made MadeFits carried CarriedFits
+unfolding FitsBy BackFitsBy
+rule = record {
+  rule = row_rule;
+  fits = λ item. ((λ h. h), (λ h. h));
+  back_fits = λ item y. ((λ h. h), (λ h. h));
+  one_row = λ edge own item valid source.
+      one_row edge own item valid (read source.source) source.leads;
+}

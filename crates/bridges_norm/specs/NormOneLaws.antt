@@ -20,14 +20,17 @@ use Rattle.bridge_face.specs.GroupAndRowLaws.{GroupAndRow, group_and_row_law, le
 use Rattle.dual_laws.specs.Held.{Holds, IsHeld, adjoint_of, gap_of}
 use Rattle.bridge_face.specs.OneRowLaws.{IsRow, row_held}
 use Rattle.item_core.specs.declared.item.Item.{Item}
-use Rattle.bridge_face.specs.FamilyLaws.{Rule, back_is, dual_sizes, image_is, kept_by, lawful_by, length-tail, of_another, source_is}
+use Rattle.bridge_face.specs.FamilyLaws.{Rule, back_is, dual_sizes, first_size, image_is, kept_by, lawful_by, length-tail, of_another, source_is}
 use Rattle.bridge_face.specs.BackOf as backs
 use Rattle.set_core.specs.declared.set.Set.TheVariants.{Nonnegatives, NormOneCone, Reals}
 use Rattle.item_core.specs.declared.family.Family.TheVariants.{NormOne}
 use Rattle.bridge_face.specs.Sources.{OfKind, vaffine_norm_one_cone}
 use Rattle.ratio_core.specs.Rational.{Rational, zero_ℚ, ◌*ℚ◌, ◌+ℚ◌, ◌-ℚ◌, ◌≤ℚ◌}
+use Rattle.ratio_core.specs.declared.fault.NumberFault.{NumberFault}
+use Rattle.ratio_core.specs.Answers.{ExactWhere}
+use Rattle.ratio_core.specs.AnsweredLaws.{exact_as}
 use Rattle.aff_core.specs.KeyOrder.{address_order}
-use Rattle.bridges_norm.specs.BothLaws.{ConeRow, Halves, all_fold, cone_row, each_across, first_size, halves, in_first, in_second, none_left, norm_below, number-fold, others_of}
+use Rattle.bridges_norm.specs.BothLaws.{ConeRow, Halves, all_fold, cone_row, each_across, halves, in_first, in_second, none_left, norm_below, number-fold, others_of}
 use Rattle.bridge_face.specs.ComponentLaws.{all_unnamed_below, components_apart, constants-variables, dot_missed, length-components, misses_inner, not_contained, variables, variables_missed, weighed, weighed_components}
 use Rattle.rational_laws.specs.Ring.{as_expression, by_ring, ring₆}
 use Rattle.aff_core.specs.ArithmeticLaws.{coefficient-sum_of, constant-sum_of}
@@ -40,15 +43,13 @@ use Rattle.item_core.specs.Item.{functions_of, set_of}
 use Rattle.bridge_face.specs.GroupLaws.{held_of}
 use Rattle.item_core.specs.KindOf.{kind_of_body}
 use Rattle.set_laws.specs.Norms.{norm, norm_dominated}
-use Rattle.aff_core.specs.Arithmetic.{sum_of, ExactWhere}
+use Rattle.aff_core.specs.Arithmetic.{sum_of}
 use Rattle.rational_laws.specs.Sums.{sum_ℚ}
 use Rattle.rational_laws.specs.Order.{≤ℚ_from_nonneg, ≤ℚ_from_≡, ≤ℚ_trans}
-use Rattle.aff_core.specs.declared.fault.AffFault.{AffFault}
 use Rattle.item_core.specs.declared.image.Expression.{Expression}
 use Rattle.item_core.specs.declared.image.Image.{Image}
 use Rattle.set_core.specs.declared.set.Set.{Set}
 use Rattle.bridge_face.specs.State.{TakesDuals}
-use Rattle.aff_core.specs.AnsweredLaws.{exact_as}
 use Rattle.bridge_face.specs.GroupAndRowLaws as images
 use Rattle.rational_laws.specs.Dot as numbers
 
@@ -420,7 +421,7 @@ module _ (edge : Edge) (own : family_of edge ≡ NormOne) where
 
   -- what is carried back by the first number and the differences of the halves of the others
   pub back_made : (item : Item) (ys : List (List Rational)) (y now rest : List Rational) (half : ℕ)
-      (head : Rational) (r : Result (List Rational) AffFault)
+      (head : Rational) (r : Result (List Rational) NumberFault)
       → ys ≡ y ∷ [] → now ≡ y → head ≡ head_of now → rest ≡ tail_of now → half ≡ size item - 1
       → ExactWhere r (AcrossFits half rest) (λ d. d ≡ head ∷ across half rest)
       → ExactWhere r (BackFits edge item ys) (λ d. d ≡ back_of edge item ys)

@@ -1,18 +1,17 @@
 //! What is carried back of the duals of two halves.
 ghost use Rattle.std.specs.Prelude.{◌≡◌, ◌+◌, ◌/◌, ◌≤◌, ◌∷◌, drop, length, take};
-ghost use Rattle.aff_core.specs.Arithmetic.{ExactWhere};
 ghost use Rattle.ratio_core.specs.Folds.{FoldFits, sum_from};
 ghost use Rattle.ratio_core.specs.Rational.{zero_ℚ};
+ghost use Rattle.ratio_core.specs.Answers.{ExactWhere};
 ghost use Rattle.rational_laws.specs.Dot.{minus, negated};
 ghost use Rattle.bridge_face.specs.BackOf.{AcrossFits, SumsFit, across};
 
 use crate::differences::less_number;
-use bridge_face::ItemFault;
-use ratio_core::{Ratio, Ratios};
+use ratio_core::{NumberFault, Ratio, Ratios};
 use std::alloc::Global;
 
 // The sum of the numbers, added from the left.
-pub(crate) fn sum(numbers: &[Ratio]) -> Result<Ratio, ItemFault>
+pub(crate) fn sum(numbers: &[Ratio]) -> Result<Ratio, NumberFault>
     ensures { ExactWhere result (FoldFits zero_ℚ numbers.now)
         (λ sum. sum ≡ sum_from zero_ℚ numbers.now) }
 {
@@ -28,7 +27,7 @@ pub(crate) fn across_behind(
     alloc: Global,
     first: Ratio,
     numbers: &[Ratio],
-) -> Result<Ratios, ItemFault>
+) -> Result<Ratios, NumberFault>
     requires { length numbers.now ≡ length numbers.now / 2 + length numbers.now / 2 }
     ensures { ExactWhere result (AcrossFits (length numbers.now / 2) numbers.now)
         (λ behind. behind ≡ first ∷ across (length numbers.now / 2) numbers.now) }
@@ -54,7 +53,7 @@ fn until(numbers: &[Ratio], n: usize) -> &[Ratio]
 }
 
 // A number, and behind it the differences of what stands at equal places.
-fn behind(alloc: Global, first: Ratio, high: &[Ratio], low: &[Ratio]) -> Result<Ratios, ItemFault>
+fn behind(alloc: Global, first: Ratio, high: &[Ratio], low: &[Ratio]) -> Result<Ratios, NumberFault>
     requires { length high.now ≡ length low.now }
     ensures { ExactWhere result (SumsFit high.now (negated low.now))
         (λ numbers. numbers ≡ first ∷ minus high.now low.now) }

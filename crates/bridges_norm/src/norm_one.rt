@@ -6,7 +6,7 @@
 //! - Dual: of the child row's `(r, p, q)` first r, and then the `q_i - p_i`.
 //! - In MathOptInterface: `NormOneBridge`.
 ghost use Rattle.std.specs.Prelude.{◌≡◌, ◌≤◌, ◌++◌, ◌∷◌, fold, length};
-ghost use Rattle.aff_core.specs.Arithmetic.{ExactWhere};
+ghost use Rattle.ratio_core.specs.Answers.{ExactWhere};
 ghost use Rattle.item_core.specs.Item.{functions_of};
 ghost use Rattle.bridge_face.specs.ComponentLaws.{variables};
 ghost use Rattle.bridge_face.specs.ImageOf.{DifferencesFit, EachSumFits, differences, negations, sums};
@@ -19,12 +19,12 @@ use crate::duals::across_behind;
 use crate::parts::{first_function, first_number, other_functions, other_numbers};
 use aff_core::{Address, Aff, VecAff};
 use bridge_face::{
-    ChildRows, ItemFault, KeptItem, KeptItems, Rewriting, child_group, component_count,
-    group_row_image, inner_variables,
+    ChildRows, KeptItem, KeptItems, Rewriting, child_group, component_count, group_row_image,
+    inner_variables,
 };
 use item_core::{Body, Edge, Expressions, Family, Image, Item};
 use lists::Duplicate;
-use ratio_core::Ratios;
+use ratio_core::{NumberFault, Ratios};
 use set_core::Set;
 use std::alloc::Global;
 
@@ -45,7 +45,7 @@ impl Rewriting for NormOneRule {
         Family::NormOne
     }
 
-    fn image(alloc: Global, _edge: Edge, item: &Item) -> Result<Image, ItemFault> {
+    fn image(alloc: Global, _edge: Edge, item: &Item) -> Result<Image, NumberFault> {
         let count = component_count(&item.body) - 1;
         let vars = inner_variables(alloc, item, count)?;
         let row = bounded(alloc, &item.body, vars.as_slice(), count)?;
@@ -60,7 +60,7 @@ impl Rewriting for NormOneRule {
         ChildRows { first: 1, count: 1 }
     }
 
-    fn back(alloc: Global, _kept: &KeptItem, duals: &[Ratios]) -> Result<Ratios, ItemFault> {
+    fn back(alloc: Global, _kept: &KeptItem, duals: &[Ratios]) -> Result<Ratios, NumberFault> {
         let numbers = duals[0].as_slice();
         across_behind(alloc, first_number(numbers), other_numbers(numbers))
     }
@@ -69,7 +69,7 @@ impl Rewriting for NormOneRule {
 }
 
 // The row that the variables bound the other functions, and their sum the first.
-fn bounded(alloc: Global, body: &Body, vars: &[Address], count: u16) -> Result<Body, ItemFault>
+fn bounded(alloc: Global, body: &Body, vars: &[Address], count: u16) -> Result<Body, NumberFault>
     requires cone { InNormOne body.now }
     requires some { 1 ≤ length (functions_of body.now) }
     requires vars { length vars.now ≡ length (others_of body.now) }
@@ -97,7 +97,7 @@ fn bounded(alloc: Global, body: &Body, vars: &[Address], count: u16) -> Result<B
 }
 
 // The first function less each of the variables, one after the other.
-fn left(alloc: Global, first: &Aff, vars: &[Address]) -> Result<Aff, ItemFault>
+fn left(alloc: Global, first: &Aff, vars: &[Address]) -> Result<Aff, NumberFault>
     ensures { ExactWhere result (DifferencesFit first.now (variables vars.now))
         (λ left. left ≡ fold difference first.now (variables vars.now)) }
 {
@@ -109,7 +109,7 @@ fn left(alloc: Global, first: &Aff, vars: &[Address]) -> Result<Aff, ItemFault>
 }
 
 // Behind a function the variables less the other functions.
-fn less(alloc: Global, rest: Aff, vars: &[Address], others: &[Aff]) -> Result<Vec<Aff>, ItemFault>
+fn less(alloc: Global, rest: Aff, vars: &[Address], others: &[Aff]) -> Result<Vec<Aff>, NumberFault>
     requires { length vars.now ≡ length others.now }
     ensures { ExactWhere result (EachSumFits (variables vars.now) (negations others.now))
         (λ less. less.items ≡ rest ∷ differences (variables vars.now) others.now) }
@@ -129,7 +129,7 @@ fn more(
     vars: &[Address],
     others: &[Aff],
     less: Vec<Aff>,
-) -> Result<Vec<Aff>, ItemFault>
+) -> Result<Vec<Aff>, NumberFault>
     requires { length vars.now ≡ length others.now }
     ensures { ExactWhere result (EachSumFits (variables vars.now) others.now)
         (λ both. both.items ≡ less.items ++ sums (variables vars.now) others.now) }

@@ -11,11 +11,11 @@ use Rattle.item_core.specs.declared.item.Body.TheVariants.{Affine, AffineVec, Pl
 use Rattle.item_core.specs.Item.{functions_of, set_of}
 use Rattle.item_core.specs.Valid.{FitsItsFunction}
 use Rattle.bridge_face.specs.ComponentLaws.{variables}
-use Rattle.bridge_face.specs.FamilyLaws.{back_is, lawful_by}
+use Rattle.bridge_face.specs.FamilyLaws.{back_is, sums_in_images, sums_of_duals}
 use Rattle.bridge_face.specs.Images.{affine, first_in}
-use Rattle.bridge_face.specs.Law.{IsLawful, growth}
-use Rattle.bridge_face.specs.OneRowLaws.{IsRow, RowRule, row}
-use Rattle.bridge_face.specs.SameRowLaws.{same_row_law}
+use Rattle.bridge_face.specs.Law.{growth}
+use Rattle.bridge_face.specs.OneRowLaws.{IsRow, RowRule, UnsummedRule, row, same_dual, unsummed}
+use Rattle.bridge_face.specs.SameRowLaws.{same_is_one_row}
 
 -- a plain row
 pub data IsPlain : Body → Type 0 where
@@ -58,11 +58,12 @@ stays (vector {vars} {set} s) =
 -- ---- the law
 
 -- a family that makes affine rows of plain ones
-pub functionize_lawful : {f : Family} → RowRule f IsPlain made (λ y. y) → growth f ≡ 1 → IsLawful f
-functionize_lawful rule no_growth =
-    lawful_by rule (λ edge own item valid source.
+pub functionize_rule : {f : Family} → RowRule f IsPlain made same_dual → growth f ≡ 1
+    → sums_in_images f ≡ false → sums_of_duals f ≡ false → UnsummedRule f IsPlain made same_dual
+functionize_rule rule no_growth no_sum no_dual_sum =
+    unsummed rule no_sum no_dual_sum (λ edge own item valid source.
     let same = stays source.source in
-    same_row_law edge item (made item.body) (record {
+    same_is_one_row edge item (made item.body) (record {
       item_valid = valid;
       source = same.source;
       made = same.row;

@@ -13,8 +13,7 @@ use Rattle.bridge_face.specs.BackOf.{back_by}
 use Rattle.bridge_face.specs.FamilyLaws.{Sourced, of_another}
 use Rattle.bridge_face.specs.ImageOf.{image_by, sense_of}
 use Rattle.bridge_face.specs.Images.{function_of_body}
-use Rattle.bridge_face.specs.Law.{IsLawful}
-use Rattle.bridge_face.specs.ObjectiveLaws.{ObjectiveRule, Replaces, objective_lawful}
+use Rattle.bridge_face.specs.ObjectiveLaws.{IsObjectiveRule, Replaces}
 use Rattle.bridge_face.specs.Sources.{OfKind, max_plain, min_plain}
 
 -- a plain objective
@@ -25,7 +24,7 @@ pub data IsPlainObjective : Body → Type 0 where
 abbrev pub made : Body → Body
 made b = AffineObj (sense_of b) (function_of_body b)
 
-pub replaces : {b : Body} → IsPlainObjective b → Replaces b (made b)
+replaces : {b : Body} → IsPlainObjective b → Replaces b (made b)
 replaces plain_objective =
     record { source = refl; made = refl; cost = refl; mentioned = λ v m. m }
 
@@ -38,9 +37,11 @@ sourced E60 own min_plain = record { source = plain_objective; leads = refl }
 sourced E61 own max_plain = record { source = plain_objective; leads = refl }
 sourced _ own k = of_another own refl
 
-pub rule : ObjectiveRule ObjFunctionize IsPlainObjective made
+pub rule : IsObjectiveRule ObjFunctionize IsPlainObjective made
 unfolding image_by back_by
-rule = record { image = λ edge item. refl; back = λ item ys. refl; sourced = sourced }
-
-pub obj_functionize_lawful : IsLawful ObjFunctionize
-obj_functionize_lawful = objective_lawful rule refl (λ b. replaces)
+rule = record {
+  rule = record { image = λ edge item. refl; back = λ item ys. refl; sourced = sourced };
+  no_growth = refl;
+  no_sum = refl;
+  replaces = λ b. replaces;
+}

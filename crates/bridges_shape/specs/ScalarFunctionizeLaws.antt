@@ -9,10 +9,9 @@ use Rattle.item_core.specs.KindOf.{kind_of_body}
 use Rattle.bridge_face.specs.BackOf.{back_by}
 use Rattle.bridge_face.specs.FamilyLaws.{Sourced, of_another}
 use Rattle.bridge_face.specs.ImageOf.{image_by}
-use Rattle.bridge_face.specs.Law.{IsLawful}
-use Rattle.bridge_face.specs.OneRowLaws.{RowRule}
+use Rattle.bridge_face.specs.OneRowLaws.{UnsummedRule, same_dual}
 use Rattle.bridge_face.specs.Sources.{OfKind, plain_equal_to, plain_greater_than, plain_interval, plain_less_than}
-use Rattle.bridges_shape.specs.FunctionizeLaws.{IsPlain, functionize_lawful, made, number}
+use Rattle.bridges_shape.specs.FunctionizeLaws.{IsPlain, functionize_rule, made, number}
 
 sourced : (edge : Edge) → family_of edge ≡ ScalarFunctionize
     → {b : Body} → OfKind (source_of edge) b → Sourced IsPlain made edge b
@@ -23,9 +22,9 @@ sourced E25 own plain_equal_to = record { source = number refl; leads = refl }
 sourced E26 own plain_interval = record { source = number refl; leads = refl }
 sourced _ own k = of_another own refl
 
-pub rule : RowRule ScalarFunctionize IsPlain made (λ y. y)
+pub rule : UnsummedRule ScalarFunctionize IsPlain made same_dual
 unfolding image_by back_by
-rule = record { image = λ edge item. refl; back = λ item ys. refl; sourced = sourced }
-
-pub scalar_functionize_lawful : IsLawful ScalarFunctionize
-scalar_functionize_lawful = functionize_lawful rule refl
+rule =
+    functionize_rule
+    (record { image = λ edge item. refl; back = λ item ys. refl; sourced = sourced })
+    refl refl refl

@@ -9,10 +9,9 @@ use Rattle.item_core.specs.KindOf.{kind_of_body}
 use Rattle.bridge_face.specs.BackOf.{back_by}
 use Rattle.bridge_face.specs.FamilyLaws.{Sourced, of_another}
 use Rattle.bridge_face.specs.ImageOf.{image_by}
-use Rattle.bridge_face.specs.Law.{IsLawful}
-use Rattle.bridge_face.specs.OneRowLaws.{RowRule}
+use Rattle.bridge_face.specs.OneRowLaws.{UnsummedRule, same_dual}
 use Rattle.bridge_face.specs.Sources.{OfKind, vplain_nonnegatives, vplain_nonpositives, vplain_norm_infinity_cone, vplain_norm_one_cone, vplain_zeros}
-use Rattle.bridges_shape.specs.FunctionizeLaws.{IsPlain, functionize_lawful, made, vector}
+use Rattle.bridges_shape.specs.FunctionizeLaws.{IsPlain, functionize_rule, made, vector}
 
 sourced : (edge : Edge) → family_of edge ≡ VectorFunctionize
     → {b : Body} → OfKind (source_of edge) b → Sourced IsPlain made edge b
@@ -24,9 +23,9 @@ sourced E37 own vplain_norm_infinity_cone = record { source = vector refl; leads
 sourced E38 own vplain_norm_one_cone = record { source = vector refl; leads = refl }
 sourced _ own k = of_another own refl
 
-pub rule : RowRule VectorFunctionize IsPlain made (λ y. y)
+pub rule : UnsummedRule VectorFunctionize IsPlain made same_dual
 unfolding image_by back_by
-rule = record { image = λ edge item. refl; back = λ item ys. refl; sourced = sourced }
-
-pub vector_functionize_lawful : IsLawful VectorFunctionize
-vector_functionize_lawful = functionize_lawful rule refl
+rule =
+    functionize_rule
+    (record { image = λ edge item. refl; back = λ item ys. refl; sourced = sourced })
+    refl refl refl

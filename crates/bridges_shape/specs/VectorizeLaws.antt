@@ -23,13 +23,13 @@ use Rattle.item_core.specs.Edge.{edge_entry, family_of, source_of}
 use Rattle.item_core.specs.Item.{functions_of, set_of}
 use Rattle.item_core.specs.KindOf.{kind_of_body}
 use Rattle.item_core.specs.Valid.{IsValidItem, NamesNothingBelow}
-use Rattle.bridge_face.specs.BackOf.{back_by, back_of}
+use Rattle.bridge_face.specs.BackOf.{BackFitsBy, back_by, back_of}
 use Rattle.bridge_face.specs.ComponentLaws.{all_unnamed_below}
-use Rattle.bridge_face.specs.FamilyLaws.{Sourced, back_is, lawful_by, of_another}
-use Rattle.bridge_face.specs.ImageOf.{FitsBy, ImageFits, image_by}
+use Rattle.bridge_face.specs.FamilyLaws.{Sourced, back_is, of_another}
+use Rattle.bridge_face.specs.ImageOf.{FitsBy, image_by}
 use Rattle.bridge_face.specs.Images.{cone_of, function_of_body, number_in, raised}
-use Rattle.bridge_face.specs.Law.{IsLawful, LeadsTo, Miss, growth}
-use Rattle.bridge_face.specs.OneRowLaws.{IsRow, OneRow, RowRule, one_row_law, row_held}
+use Rattle.bridge_face.specs.Law.{LeadsTo, Miss, growth}
+use Rattle.bridge_face.specs.OneRowLaws.{IsRow, IsRowRule, OneRow, RowRule, row_held, same_dual}
 use Rattle.bridge_face.specs.Sources.{OfKind, affine_equal_to, affine_greater_than, affine_less_than, plain_equal_to, plain_greater_than, plain_less_than}
 use Rattle.bridges_shape.specs.RaisedLaws.{HasNumber, at_least, at_most, cone_of_one, cone_of_vectors, equal, evaluated-lowered, in_dual, in_set, low_cone, low_first, low_none, set_of_one}
 
@@ -75,9 +75,9 @@ sourced E9 own plain_greater_than = record { source = plain at_least; leads = re
 sourced E10 own plain_equal_to = record { source = plain equal; leads = refl }
 sourced _ own k = of_another own refl
 
-pub rule : RowRule Vectorize IsNumberRow made (λ y. y)
+row_rule : RowRule Vectorize IsNumberRow made same_dual
 unfolding image_by back_by
-rule = record { image = λ edge item. refl; back = λ item ys. refl; sourced = sourced }
+row_rule = record { image = λ edge item. refl; back = λ item ys. refl; sourced = sourced }
 
 -- ---- on numbers
 
@@ -116,14 +116,6 @@ module _ (f : Function) {S C : Set} {a : Rational} (has : HasNumber S a C) where
 -- ---- the law
 
 module _ (edge : Edge) (own : family_of edge ≡ Vectorize) where
-  pub fits_there : (item : Item) → ImageFits edge item → FitsLowered item.body
-  unfolding FitsBy
-  fits_there item h = subst (λ f. FitsBy f item) own h
-
-  pub fits_back : (item : Item) → FitsLowered item.body → ImageFits edge item
-  unfolding FitsBy
-  fits_back item h = subst (λ f. FitsBy f item) (sym own) h
-
   module _ (item : Item) (valid : IsValidItem item) (r : Read item.body)
       (leads : LeadsTo edge (made item.body)) where
     f : Function
@@ -137,7 +129,7 @@ module _ (edge : Edge) (own : family_of edge ≡ Vectorize) where
     back_held : (y : List Rational)
         → row_held item.body (back_of edge item (y ∷ []))
         ≡ one_held y (function_of_body item.body) (set_of item.body)
-    back_held y = ap (row_held item.body) (back_is rule edge own item (y ∷ [])) ∙ item_is y
+    back_held y = ap (row_held item.body) (back_is row_rule edge own item (y ∷ [])) ∙ item_is y
 
     is_one_row : OneRow edge item (made item.body)
     is_one_row = record {
@@ -175,7 +167,12 @@ module _ (edge : Edge) (own : family_of edge ≡ Vectorize) where
           (All-nil (λ g. coefficient g v ≡ zero_ℚ));
     }
 
-pub vectorize_lawful : IsLawful Vectorize
-vectorize_lawful =
-    lawful_by rule (λ edge own item valid source. one_row_law edge item (made item.body)
-    (is_one_row edge own item valid (read source.source) source.leads))
+pub rule : IsRowRule Vectorize IsNumberRow made FitsLowered same_dual (λ row dual. Unit {0})
+unfolding FitsBy BackFitsBy
+rule = record {
+  rule = row_rule;
+  fits = λ item. ((λ h. h), (λ h. h));
+  back_fits = λ item y. ((λ h. tt), (λ h. tt));
+  one_row = λ edge own item valid source.
+      is_one_row edge own item valid (read source.source) source.leads;
+}

@@ -1,6 +1,6 @@
 -- The law of VectorizeVar: x ≤ u is u + s with s ≤ 0, and so for ≥ and =.
 use Rattle.std.specs.Prelude.{◌≡◌, ◌≤◌, ◌*◌, true, List, [], ◌∷◌, length, refl}
-use Rattle.std.proofs.Common.{arith, sym, ap, ap₂, subst, ◌∙◌}
+use Rattle.std.proofs.Common.{arith, sym, true≢false, ap, ap₂, subst, ◌∙◌}
 use Rattle.std.proofs.lemmas.List.Elements.{All-cons, All-head, All-nil}
 use Rattle.ratio_core.specs.Rational.{Rational, zero_ℚ, ◌*ℚ◌, ◌+ℚ◌, ◌-ℚ◌}
 use Rattle.rational_laws.specs.Dot.{dot}
@@ -20,7 +20,6 @@ use Rattle.item_core.specs.declared.edge.Edge.TheVariants.{E46, E47, E48}
 use Rattle.item_core.specs.declared.family.Family.TheVariants.{VectorizeVar}
 use Rattle.item_core.specs.declared.image.Expression.{Expression}
 use Rattle.item_core.specs.declared.image.Expression.TheVariants.{Bridged}
-use Rattle.item_core.specs.declared.image.Image.{Image}
 use Rattle.item_core.specs.declared.item.Body.{Body}
 use Rattle.item_core.specs.declared.item.Body.TheVariants.{Group}
 use Rattle.item_core.specs.declared.item.Item.{Item}
@@ -30,11 +29,11 @@ use Rattle.item_core.specs.KindOf.{kind_of_body}
 use Rattle.item_core.specs.Valid.{IsValidItem}
 use Rattle.bridge_face.specs.BackOf.{back_by}
 use Rattle.bridge_face.specs.ComponentLaws.{not_contained, variables_missed, weighed, weighed_components}
-use Rattle.bridge_face.specs.FamilyLaws.{Rule, image_is, lawful_by, of_another}
-use Rattle.bridge_face.specs.GroupLaws.{OneGroup, one_group_law}
-use Rattle.bridge_face.specs.ImageOf.{image_by, image_of, inner, vectorize_var}
+use Rattle.bridge_face.specs.FamilyLaws.{of_another}
+use Rattle.bridge_face.specs.GroupLaws.{IsGroupRule, OneGroup, one_group_law}
+use Rattle.bridge_face.specs.ImageOf.{image_by, inner, vectorize_var}
 use Rattle.bridge_face.specs.Images.{child_at, cone_of, group_by, number_in, raised}
-use Rattle.bridge_face.specs.Law.{IsLawful, LeadsTo, growth}
+use Rattle.bridge_face.specs.Law.{LeadsTo, growth}
 use Rattle.bridge_face.specs.Sources.{OfKind, group_equal_to, group_greater_than, group_less_than}
 use Rattle.bridges_shape.specs.RaisedLaws.{HasNumber, at_least, at_most, cone_of_one, equal, in_dual, in_set, low_cone, low_first, set_of_one}
 
@@ -44,11 +43,11 @@ pub data IsNumberGroup : Body → Type 0 where
       → IsNumberGroup (Group set vars)
 
 -- what is read of it
-pub record Read (b : Body) : Type 0 where
-  pub source : is_group b ≡ true
-  pub has : HasNumber (set_of b) (number_in (set_of b)) (cone_of (set_of b))
+record Read (b : Body) : Type 0 where
+  source : is_group b ≡ true
+  has : HasNumber (set_of b) (number_in (set_of b)) (cone_of (set_of b))
 
-pub read : {b : Body} → IsNumberGroup b → Read b
+read : {b : Body} → IsNumberGroup b → Read b
 read (group has) = record { source = refl; has = has }
 
 pub record Sourced (edge : Edge) (b : Body) : Type 0 where
@@ -62,10 +61,6 @@ sourced E46 own group_less_than = record { group = group at_most; leads = λ var
 sourced E47 own group_greater_than = record { group = group at_least; leads = λ vars. refl }
 sourced E48 own group_equal_to = record { group = group equal; leads = λ vars. refl }
 sourced _ own k = of_another own refl
-
-pub rule : Rule VectorizeVar Sourced (λ edge. vectorize_var) (λ item ys. [])
-unfolding image_by back_by
-rule = record { image = λ edge item. refl; back = λ item ys. refl; sourced = sourced }
 
 -- ---- on numbers
 
@@ -82,24 +77,23 @@ raised-variable v q =
 
 -- ---- the law
 
-module _ (edge : Edge) (own : family_of edge ≡ VectorizeVar) where
-  -- so an image that is made of these parts is the item's
-  pub image_made : (item : Item) (set : Set) (cone : Set) (number : Rational) (vars : List Address)
-      (exprs : List Expression) (child : Item) (image : Image)
-      → set ≡ set_of item.body → cone ≡ cone_of set → number ≡ number_in set → vars ≡ inner item 1
-      → exprs ≡ Bridged (raised (variable (child_of (child_of item.at 0) 0)) number) ∷ []
-      → child ≡ child_at item 0 (Group cone vars) → image ≡ group_by (child ∷ []) exprs
-      → image ≡ image_of edge item
-  image_made item set cone number vars exprs child image set_is cone_is number_is vars_are exprs_are
-      group_is image_of_parts =
-      image_of_parts ∙ ap₂ (λ g es. group_by (g ∷ []) es) group_is exprs_are
-      ∙ ap (λ vs. group_by (child_at item 0 (Group cone vs) ∷ [])
-      (Bridged (raised (variable (child_of (child_of item.at 0) 0)) number) ∷ [])) vars_are
-      ∙ ap₂ (λ k n. group_by (child_at item 0 (Group k (inner item 1)) ∷ [])
-      (Bridged (raised (variable (child_of (child_of item.at 0) 0)) n) ∷ []))
-      (cone_is ∙ ap cone_of set_is) (number_is ∙ ap number_in set_is)
-      ∙ sym (image_is rule edge own item)
+-- so an image that is made of these parts is the item's
+pub image_made : (item : Item) (set : Set) (cone : Set) (number : Rational) (vars : List Address)
+    (exprs : List Expression) (child : Item)
+    → set ≡ set_of item.body → cone ≡ cone_of set → number ≡ number_in set → vars ≡ inner item 1
+    → exprs ≡ Bridged (raised (variable (child_of (child_of item.at 0) 0)) number) ∷ []
+    → child ≡ child_at item 0 (Group cone vars)
+    → group_by (child ∷ []) exprs ≡ vectorize_var item
+image_made item set cone number vars exprs child set_is cone_is number_is vars_are exprs_are
+    group_is =
+    ap₂ (λ g es. group_by (g ∷ []) es) group_is exprs_are
+    ∙ ap (λ vs. group_by (child_at item 0 (Group cone vs) ∷ [])
+    (Bridged (raised (variable (child_of (child_of item.at 0) 0)) number) ∷ [])) vars_are
+    ∙ ap₂ (λ k n. group_by (child_at item 0 (Group k (inner item 1)) ∷ [])
+    (Bridged (raised (variable (child_of (child_of item.at 0) 0)) n) ∷ []))
+    (cone_is ∙ ap cone_of set_is) (number_is ∙ ap number_in set_is)
 
+module _ (edge : Edge) (own : family_of edge ≡ VectorizeVar) where
   module _ (item : Item) (valid : IsValidItem item) (r : Read item.body)
       (leads : (vars : List Address) → LeadsTo edge (Group (cone_of (set_of item.body)) vars)) where
     abbrev a : Rational
@@ -168,9 +162,17 @@ module _ (edge : Edge) (own : family_of edge ≡ VectorizeVar) where
       leads = leads (inner item 1);
     }
 
-pub vectorize_var_lawful : IsLawful VectorizeVar
-vectorize_var_lawful =
-    lawful_by rule (λ edge own item valid source.
-    one_group_law edge item (cone_of (set_of item.body)) 1
-    (raised (variable (child_of (child_of item.at 0) 0)) (number_in (set_of item.body)) ∷ [])
-    (one_group edge own item valid (read source.group) source.leads))
+pub rule : IsGroupRule VectorizeVar Sourced (λ edge. vectorize_var) 0
+unfolding image_by back_by
+rule = record {
+  carry = λ item ys. [];
+  rule = record { image = λ edge item. refl; back = λ item ys. refl; sourced = sourced };
+  no_sum = refl;
+  no_dual_sum = refl;
+  children = λ edge item. refl;
+  dual = λ edge item source no_group. absurd (true≢false (sym (read source.group).source ∙ no_group));
+  law = λ edge own item valid source.
+      one_group_law edge item (cone_of (set_of item.body)) 1
+      (raised (variable (child_of (child_of item.at 0) 0)) (number_in (set_of item.body)) ∷ [])
+      (one_group edge own item valid (read source.group) source.leads);
+}

@@ -6,42 +6,44 @@
 //! - In MathOptInterface: `ScalarFunctionizeBridge`.
 
 use crate::functionize::functionized;
-use bridge_face::{ChildRows, ItemFault, KeptItem, KeptItems, Rewriting, row_image};
-use item_core::{Edge, Family, Image, Item};
+use bridge_face::{KeptItems, OneRow, RowRule};
+use item_core::{Body, Family};
 use lists::Duplicate;
-use ratio_core::Ratios;
+use ratio_core::{NumberFault, Ratios};
 use std::alloc::Global;
 
 /// The bridge that makes affine rows of plain rows.
-pub type ScalarFunctionize = KeptItems<ScalarFunctionizeRule>;
+pub type ScalarFunctionize = KeptItems<OneRow<ScalarFunctionizeRule>>;
 
 /// What `ScalarFunctionize` does with one row.
 #[derive(Drop)]
 pub struct ScalarFunctionizeRule;
 
-impl Rewriting for ScalarFunctionizeRule {
+impl RowRule for ScalarFunctionizeRule {
     ghost use Rattle.item_core.specs.declared.family.Family.TheVariants as families;
-    ghost use Rattle.bridges_shape.specs.ScalarFunctionizeLaws.{scalar_functionize_lawful};
+    ghost use Rattle.bridge_face.specs.OneRowLaws as rows;
+    ghost use Rattle.bridges_shape.specs.FunctionizeLaws as functionize;
+    ghost use Rattle.bridges_shape.specs.ScalarFunctionizeLaws as laws;
 
     ghost family = { families.ScalarFunctionize };
+
+    ghost source = { functionize.IsPlain };
+
+    ghost made = { functionize.made };
+
+    ghost carried = { rows.same_dual };
 
     fn family() -> Family {
         Family::ScalarFunctionize
     }
 
-    fn image(alloc: Global, _edge: Edge, item: &Item) -> Result<Image, ItemFault> {
-        let body = functionized(alloc, &item.body)?;
-        Ok(row_image(alloc, item, body)?)
+    fn child(alloc: Global, row: &Body) -> Result<Body, NumberFault> {
+        Ok(functionized(alloc, row)?)
     }
 
-    fn child_rows(_kept: &KeptItem) -> ChildRows {
-        ChildRows { first: 0, count: 1 }
+    fn back(_alloc: Global, _row: &Body, dual: &Ratios) -> Result<Ratios, NumberFault> {
+        Ok(dual.copy()?)
     }
 
-    fn back(_alloc: Global, _kept: &KeptItem, duals: &[Ratios]) -> Result<Ratios, ItemFault> {
-        let dual = duals[0].copy()?;
-        Ok(dual)
-    }
-
-    ghost lawful = { scalar_functionize_lawful };
+    ghost rule = { laws.rule };
 }

@@ -13,12 +13,10 @@ ghost use Rattle.item_core.specs.Item.{functions_of};
 ghost use Rattle.item_core.specs.declared.item.Body.TheVariants as bodies;
 
 use aff_core::{Address, Aff};
-use bridge_face::{
-    ChildRows, ItemFault, KeptItem, KeptItems, Rewriting, component_count, rows_image,
-};
+use bridge_face::{ChildRows, KeptItem, KeptItems, Rewriting, component_count, rows_image};
 use item_core::{Body, Edge, Family, Image, Item};
 use lists::{Duplicate, Memory};
-use ratio_core::{Ratio, Ratios};
+use ratio_core::{NumberFault, Ratio, Ratios};
 use set_core::Set;
 use std::alloc::Global;
 
@@ -39,7 +37,7 @@ impl Rewriting for ScalarizeRule {
         Family::Scalarize
     }
 
-    fn image(alloc: Global, _edge: Edge, item: &Item) -> Result<Image, ItemFault> {
+    fn image(alloc: Global, _edge: Edge, item: &Item) -> Result<Image, NumberFault> {
         let rows = parts(alloc, item)?;
         Ok(rows_image(alloc, rows))
     }
@@ -51,11 +49,40 @@ impl Rewriting for ScalarizeRule {
         }
     }
 
-    fn back(alloc: Global, _kept: &KeptItem, duals: &[Ratios]) -> Result<Ratios, ItemFault> {
+    fn back(alloc: Global, _kept: &KeptItem, duals: &[Ratios]) -> Result<Ratios, NumberFault> {
         Ok(one_after_another(alloc, duals)?)
     }
 
     ghost lawful = { scalarize_lawful };
+}
+
+// A component of a vector row, of which a row of its own is made.
+trait Component {
+    ghost use Rattle.item_core.specs.declared.item.Body.{Body};
+    ghost use Rattle.set_core.specs.declared.set.Set.{Set};
+
+    ghost made_row: { Self → Set → Body };
+
+    // The row of the component alone in a set of numbers.
+    fn alone(&self, set: Set) -> Result<Body, Memory>
+        ensures { IfOk result (λ alone. alone ≡ made_row self.now set) };
+}
+
+impl Component for Address {
+    ghost made_row = { λ var set. bodies.Plain var set };
+
+    fn alone(&self, set: Set) -> Result<Body, Memory> {
+        Ok(Body::Plain { var: *self, set })
+    }
+}
+
+impl Component for Aff {
+    ghost made_row = { λ func set. bodies.Affine func set };
+
+    fn alone(&self, set: Set) -> Result<Body, Memory> {
+        let func = self.copy()?;
+        Ok(Body::Affine { func, set })
+    }
 }
 
 // A row for each component.
@@ -66,49 +93,31 @@ fn parts(alloc: Global, item: &Item) -> Result<Vec<Item>, Memory>
     ensures { IfOk result (λ rows. rows.items ≡ children_from item.now 0 (made item.now.body)) }
 {
     match &item.body {
-        Body::PlainVec { vars, set } => plain_parts(alloc, item, vars.as_slice(), set),
-        Body::AffineVec { func, set } => affine_parts(alloc, item, func.as_slice(), set),
+        Body::PlainVec { vars, set } => parts_in(alloc, item, vars.as_slice(), set),
+        Body::AffineVec { func, set } => parts_in(alloc, item, func.as_slice(), set),
         _ => unreachable!(),
     }
 }
 
-// A row for each variable.
-fn plain_parts(alloc: Global, item: &Item, vars: &[Address], set: &Set) -> Result<Vec<Item>, Memory>
+// A row for each of these components of a row in the set.
+fn parts_in<C: Component>(
+    alloc: Global,
+    item: &Item,
+    components: &[C],
+    set: &Set,
+) -> Result<Vec<Item>, Memory>
     requires set { HasParts set.now (component_of set.now) }
     requires depth { length item.now.at.positions < 40 }
-    requires count { length vars.now ≤ 32767 }
+    requires count { length components.now ≤ 32767 }
     ensures { IfOk result (λ rows. rows.items ≡ children_from item.now 0
-        (map (λ var. bodies.Plain var (component_of set.now)) vars.now)) }
+        (map (λ component. C.made_row component (component_of set.now)) components.now)) }
 {
-    let mut rows = Vec::with_capacity(alloc, vars.len())?;
-    for n in 0..vars.len() {
+    let mut rows = Vec::with_capacity(alloc, components.len())?;
+    for n in 0..components.len() {
+        let body = components[n].alone(part(set))?;
         rows.push(Item {
             at: item.at.child(n as u16),
-            body: Body::Plain {
-                var: vars[n],
-                set: part(set),
-            },
-        })?;
-    }
-    Ok(rows)
-}
-
-// A row for each function.
-fn affine_parts(alloc: Global, item: &Item, funcs: &[Aff], set: &Set) -> Result<Vec<Item>, Memory>
-    requires set { HasParts set.now (component_of set.now) }
-    requires depth { length item.now.at.positions < 40 }
-    requires count { length funcs.now ≤ 32767 }
-    ensures { IfOk result (λ rows. rows.items ≡ children_from item.now 0
-        (map (λ func. bodies.Affine func (component_of set.now)) funcs.now)) }
-{
-    let mut rows = Vec::with_capacity(alloc, funcs.len())?;
-    for n in 0..funcs.len() {
-        rows.push(Item {
-            at: item.at.child(n as u16),
-            body: Body::Affine {
-                func: funcs[n].copy()?,
-                set: part(set),
-            },
+            body,
         })?;
     }
     Ok(rows)

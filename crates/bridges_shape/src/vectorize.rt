@@ -7,70 +7,64 @@
 //! - Dual: the child row's.
 //! - In MathOptInterface: `VectorizeBridge`.
 ghost use Rattle.std.specs.Prelude.{◌≡◌, [], ◌∷◌};
-ghost use Rattle.aff_core.specs.Arithmetic.{ExactWhere};
+ghost use Rattle.ratio_core.specs.Answers.{ExactWhere};
 ghost use Rattle.bridge_face.specs.Images.{number_in, cone_of, raised};
 ghost use Rattle.bridges_shape.specs.RaisedLaws.{HasNumber};
-ghost use Rattle.bridges_shape.specs.VectorizeLaws.{FitsLowered, IsNumberRow, made};
 ghost use Rattle.item_core.specs.declared.item.Body.TheVariants as bodies;
 ghost use Rattle.ratio_core.specs.Rational.{SumFits, neg_ℚ};
 
 use crate::numbers::{cone, number};
 use aff_core::Aff;
-use bridge_face::{ChildRows, ItemFault, KeptItem, KeptItems, Rewriting, alone, row_image};
-use item_core::{Body, Edge, Family, Image, Item};
+use bridge_face::{KeptItems, OneRow, RowRule, alone};
+use item_core::{Body, Family};
 use lists::Duplicate;
-use ratio_core::Ratios;
+use ratio_core::{NumberFault, Ratios};
 use set_core::Set;
 use std::alloc::Global;
 
 /// The bridge that makes vector rows of rows in sets with one number.
-pub type Vectorize = KeptItems<VectorizeRule>;
+pub type Vectorize = KeptItems<OneRow<VectorizeRule>>;
 
 /// What `Vectorize` does with one row.
 #[derive(Drop)]
 pub struct VectorizeRule;
 
-impl Rewriting for VectorizeRule {
+impl RowRule for VectorizeRule {
     ghost use Rattle.item_core.specs.declared.family.Family.TheVariants as families;
-    ghost use Rattle.bridges_shape.specs.VectorizeLaws.{vectorize_lawful};
+    ghost use Rattle.bridge_face.specs.OneRowLaws as rows;
+    ghost use Rattle.bridges_shape.specs.VectorizeLaws as laws;
 
     ghost family = { families.Vectorize };
+
+    ghost source = { laws.IsNumberRow };
+
+    ghost made = { laws.made };
+
+    ghost fits = { laws.FitsLowered };
+
+    ghost carried = { rows.same_dual };
 
     fn family() -> Family {
         Family::Vectorize
     }
 
-    fn image(alloc: Global, _edge: Edge, item: &Item) -> Result<Image, ItemFault> {
-        let body = vectorized(alloc, &item.body)?;
-        Ok(row_image(alloc, item, body)?)
+    fn child(alloc: Global, row: &Body) -> Result<Body, NumberFault> {
+        match row {
+            Body::Plain { var, set } => in_cone(alloc, &Aff::variable(alloc, var)?, set),
+            Body::Affine { func, set } => in_cone(alloc, func, set),
+            _ => unreachable!(),
+        }
     }
 
-    fn child_rows(_kept: &KeptItem) -> ChildRows {
-        ChildRows { first: 0, count: 1 }
+    fn back(_alloc: Global, _row: &Body, dual: &Ratios) -> Result<Ratios, NumberFault> {
+        Ok(dual.copy()?)
     }
 
-    fn back(_alloc: Global, _kept: &KeptItem, duals: &[Ratios]) -> Result<Ratios, ItemFault> {
-        let dual = duals[0].copy()?;
-        Ok(dual)
-    }
-
-    ghost lawful = { vectorize_lawful };
-}
-
-// The row as one of vectors.
-fn vectorized(alloc: Global, body: &Body) -> Result<Body, ItemFault>
-    requires { IsNumberRow body.now }
-    ensures { ExactWhere result (FitsLowered body.now) (λ row. row ≡ made body.now) }
-{
-    match body {
-        Body::Plain { var, set } => in_cone(alloc, &Aff::variable(alloc, var)?, set),
-        Body::Affine { func, set } => in_cone(alloc, func, set),
-        _ => unreachable!(),
-    }
+    ghost rule = { laws.rule };
 }
 
 // The function less the set's number, in the cone that has the differences.
-fn in_cone(alloc: Global, func: &Aff, set: &Set) -> Result<Body, ItemFault>
+fn in_cone(alloc: Global, func: &Aff, set: &Set) -> Result<Body, NumberFault>
     requires { HasNumber set.now (number_in set.now) (cone_of set.now) }
     ensures { ExactWhere result (SumFits func.now.constant (neg_ℚ (number_in set.now)))
         (λ row. row ≡ bodies.AffineVec (raised func.now (neg_ℚ (number_in set.now)) ∷ [])

@@ -14,48 +14,49 @@ ghost use Rattle.item_core.specs.declared.image.Expression.TheVariants as expres
 
 use crate::numbers::{cone, number};
 use aff_core::{Address, Aff};
-use bridge_face::{
-    ChildRows, ItemFault, KeptItem, KeptItems, Rewriting, child_group, group_image, inner_variables,
-};
+use bridge_face::{GroupRule, KeptItems, OneGroup, child_group, group_image, inner_variables};
 use item_core::{Body, Edge, Expression, Expressions, Family, Image, Item};
 use lists::Memory;
-use ratio_core::{Ratio, Ratios};
+use ratio_core::Ratio;
 use set_core::Set;
 use std::alloc::Global;
 
 /// The bridge that makes groups in cones of groups in sets with one number.
-pub type VectorizeVar = KeptItems<VectorizeVarRule>;
+pub type VectorizeVar = KeptItems<OneGroup<VectorizeVarRule>>;
 
 /// What `VectorizeVar` does with one group.
 #[derive(Drop)]
 pub struct VectorizeVarRule;
 
-impl Rewriting for VectorizeVarRule {
+impl GroupRule for VectorizeVarRule {
     ghost use Rattle.item_core.specs.declared.family.Family.TheVariants as families;
-    ghost use Rattle.bridges_shape.specs.VectorizeVarLaws.{vectorize_var_lawful};
+    ghost use Rattle.bridge_face.specs.ImageOf as images;
+    ghost use Rattle.bridges_shape.specs.VectorizeVarLaws as laws;
 
     ghost family = { families.VectorizeVar };
+
+    ghost source = { laws.Sourced };
+
+    ghost made = { λ edge. images.vectorize_var };
+
+    ghost row_count = { 0 };
 
     fn family() -> Family {
         Family::VectorizeVar
     }
 
-    fn image(alloc: Global, _edge: Edge, item: &Item) -> Result<Image, ItemFault> {
-        let set = group_set(&item.body);
-        let vars = inner_variables(alloc, item, 1)?;
-        let exprs = raised_alone(alloc, &item.at.child(0).child(0), number(set))?;
-        Ok(group_image(alloc, child_group(item, cone(set), vars), exprs)?)
+    fn rows() -> u16 {
+        0
     }
 
-    fn child_rows(_kept: &KeptItem) -> ChildRows {
-        ChildRows { first: 1, count: 0 }
+    fn image(alloc: Global, _edge: Edge, group: &Item) -> Result<Image, Memory> {
+        let set = group_set(&group.body);
+        let vars = inner_variables(alloc, group, 1)?;
+        let exprs = raised_alone(alloc, &group.at.child(0).child(0), number(set))?;
+        group_image(alloc, child_group(group, cone(set), vars), exprs)
     }
 
-    fn back(_alloc: Global, _kept: &KeptItem, _duals: &[Ratios]) -> Result<Ratios, ItemFault> {
-        unreachable!()
-    }
-
-    ghost lawful = { vectorize_var_lawful };
+    ghost rule = { laws.rule };
 }
 
 // The set of the group.

@@ -9,12 +9,12 @@ use Rattle.rational_laws.specs.Field.{+ℚ-zero, zero-+ℚ, -ℚ-itself}
 use Rattle.aff_core.specs.Address.{Address, child_of}
 use Rattle.item_core.specs.declared.item.Body.TheVariants.{Affine, AffineVec, Free, Group, Plain, PlainVec}
 use Rattle.bridge_face.specs.ChildDualLaws.{carries_duals}
-use Rattle.bridge_face.specs.Law.{Balances, CarriesValues, ChildDuals, EdgeLaw, GrowsBy, HasComponents, HoldsAt, IsCovered, IsItemFor, IsLawful, IsValidWithin, LeadsTo, MentionsKnown, Miss, expressed, growth, held_body, held_children, held_item, inner_of}
+use Rattle.bridge_face.specs.Law.{Balances, CarriesValues, ChildDuals, EdgeLaw, GrowsBy, HasComponents, HoldsAt, IsCovered, IsValidWithin, LeadsTo, MentionsKnown, Miss, expressed, growth, held_body, held_children, held_item, inner_of}
 use Rattle.item_core.specs.declared.item.Body.{Body}
 use Rattle.item_core.specs.declared.edge.Edge.TheVariants.{E49, E50, E51, E52, E53, E54, E55, E56, E57}
 use Rattle.item_core.specs.declared.edge.Edge.{Edge}
 use Rattle.set_core.specs.declared.set.Set.TheVariants.{Reals}
-use Rattle.bridge_face.specs.ImageOf.{begins_free, free_at, group_at, image_by, image_of, inner, inner_functions, later}
+use Rattle.bridge_face.specs.ImageOf.{begins_free, free_at, group_at, image_by, inner, inner_functions, later}
 use Rattle.item_core.specs.Valid.{FitsItsFunction, IsValidItem, NamesNothingBelow}
 use Rattle.dual_laws.specs.Held.{Holds, IsHeld, adjoint, adjoint_of, gap, gap_of}
 use Rattle.item_core.specs.declared.image.Image.{Image}
@@ -23,7 +23,7 @@ use Rattle.set_core.specs.Shapes.{IsSetOf, is_scalar}
 use Rattle.item_core.specs.declared.item.Item.{Item}
 use Rattle.item_core.specs.declared.image.Expression.TheVariants.{Kept}
 use Rattle.item_core.specs.declared.family.Family.TheVariants.{Later}
-use Rattle.bridge_face.specs.FamilyLaws.{Rule, image_is, lawful_by, of_another}
+use Rattle.bridge_face.specs.FamilyLaws.{of_another}
 use Rattle.bridge_face.specs.Sources.{OfKind, group_equal_to, group_greater_than, group_interval, group_less_than, group_nonnegatives, group_norm_infinity_cone, group_norm_one_cone}
 use Rattle.ratio_core.specs.Rational.{Rational, zero_ℚ, ◌+ℚ◌, ◌-ℚ◌}
 use Rattle.set_core.specs.declared.set.Set.{Set}
@@ -35,7 +35,7 @@ use Rattle.bridge_face.specs.ComponentLaws.{components_apart, constants-variable
 use Rattle.rational_laws.specs.Dot.{dot}
 use Rattle.rational_laws.specs.DotLaws.{dot_zeros, zeros_dot}
 use Rattle.item_core.specs.Item.{functions_of, is_group, item_of, set_of, variables_of}
-use Rattle.bridge_face.specs.GroupLaws.{group_held, held_of}
+use Rattle.bridge_face.specs.GroupLaws.{IsGroupRule, group_held, held_of}
 use Rattle.item_core.specs.KindOf.{kind_of_body}
 use Rattle.bridge_face.specs.GroupAndRowLaws.{second_row_valid, group_and_row}
 use Rattle.bridge_face.specs.BackOf.{back_by, size}
@@ -348,10 +348,6 @@ sourced E56 own group_norm_infinity_cone =
 sourced E57 own group_norm_one_cone = from false false refl refl refl (λ d ss. refl) (λ v ss. refl)
 sourced _ own k = of_another own refl
 
-pub rule : Rule Later Sourced later (λ item ys. [])
-unfolding image_by back_by
-rule = record { image = λ edge item. refl; back = λ item ys. refl; sourced = sourced }
-
 -- ---- the children that the table names
 
 abbrev head_of : Item → Address
@@ -421,59 +417,74 @@ later_is edge item free e =
       objective = None;
     }) (free_child free item)
 
-module _ (edge : Edge) (own : family_of edge ≡ Later) where
-  -- an image that is made of these parts is the item's
-  pub parts_made : (item : Item) → IsItemFor edge item
-      → (at first : Address) (free : Bool) (count : ℕ) (vars : List Address)
-      (exprs : List Expression) (part : Set) (group row : Body) (made : Image)
-      → at ≡ child_of item.at 0 → first ≡ child_of at 0 → free ≡ begins_free (children_of edge)
-      → count ≡ size item
-      → vars ≡ inner item count → exprs ≡ map Kept vars → part ≡ set_of item.body
-      → group ≡ first_child free count vars
-      → row ≡ second_child free (is_scalar part) first vars part
-      → made ≡ group_and_row item (item_of at group) exprs row
-      → made ≡ image_of edge item
-  parts_made item suits at first free count vars exprs part group row made at_is first_is free_is
-      count_is vars_are exprs_are part_is group_is row_is image_of_parts =
-      let whole = set_of item.body in
-      let all = inner item (size item) in
-      image_of_parts
-      ∙ ap₂ (λ g es. group_and_row item g es row) (ap₂ item_of at_is group_is) exprs_are
-      ∙ ap (λ r. group_and_row item (child_at item 0 (first_child free count vars)) (map Kept vars)
-      r) row_is
-      ∙ ap₂ (λ us t. group_and_row item (child_at item 0 (first_child free count us)) (map Kept us)
-      (second_child free (is_scalar t) first us t)) vars_are part_is
-      ∙ ap (λ n. group_and_row item (child_at item 0 (first_child free n (inner item n)))
-      (map Kept (inner item n)) (second_child free (is_scalar whole) first (inner item n)
-      whole)) count_is
-      ∙ ap (λ v. group_and_row item (child_at item 0 (first_child free (size item) all))
-      (map Kept all) (second_child free (is_scalar whole) v all whole))
-      (first_is ∙ ap (λ a. child_of a 0) at_is)
-      ∙ sym (image_is rule edge own item ∙ later_is edge item free (sym free_is)
-      ∙ ap (λ r. later_parts item (first_child free (size item) all) r all)
-      (row_is_second free (is_scalar whole) (head_of item) all whole refl
-      (one_inner item suits.valid (is_scalar whole) refl)))
+-- an image that is made of these parts is the item's
+pub parts_made : (edge : Edge) (item : Item) → IsValidItem item
+    → (at first : Address) (free : Bool) (count : ℕ) (vars : List Address)
+    (exprs : List Expression) (part : Set) (group row : Body)
+    → at ≡ child_of item.at 0 → first ≡ child_of at 0 → free ≡ begins_free (children_of edge)
+    → count ≡ size item
+    → vars ≡ inner item count → exprs ≡ map Kept vars → part ≡ set_of item.body
+    → group ≡ first_child free count vars
+    → row ≡ second_child free (is_scalar part) first vars part
+    → group_and_row item (item_of at group) exprs row ≡ later edge item
+parts_made edge item valid at first free count vars exprs part group row at_is first_is free_is
+    count_is vars_are exprs_are part_is group_is row_is =
+    let whole = set_of item.body in
+    let all = inner item (size item) in
+    ap₂ (λ g es. group_and_row item g es row) (ap₂ item_of at_is group_is) exprs_are
+    ∙ ap (λ r. group_and_row item (child_at item 0 (first_child free count vars)) (map Kept vars)
+    r) row_is
+    ∙ ap₂ (λ us t. group_and_row item (child_at item 0 (first_child free count us)) (map Kept us)
+    (second_child free (is_scalar t) first us t)) vars_are part_is
+    ∙ ap (λ n. group_and_row item (child_at item 0 (first_child free n (inner item n)))
+    (map Kept (inner item n)) (second_child free (is_scalar whole) first (inner item n)
+    whole)) count_is
+    ∙ ap (λ v. group_and_row item (child_at item 0 (first_child free (size item) all))
+    (map Kept all) (second_child free (is_scalar whole) v all whole))
+    (first_is ∙ ap (λ a. child_of a 0) at_is)
+    ∙ sym (later_is edge item free (sym free_is)
+    ∙ ap (λ r. later_parts item (first_child free (size item) all) r all)
+    (row_is_second free (is_scalar whole) (head_of item) all whole refl
+    (one_inner item valid (is_scalar whole) refl)))
 
-pub later_lawful : IsLawful Later
-later_lawful =
-    lawful_by rule (λ edge own item valid s.
-    let one = one_inner item valid s.scalar s.scalar_is in
-    let group : Body = first_child s.free (size item) (inner item (size item)) in
-    let row : Body = second_child s.free s.scalar (head_of item) (inner item (size item))
-    (set_of item.body) in
-    subst (EdgeLaw edge item)
-    (sym (later_is edge item s.free s.free_is
-    ∙ ap (λ r. later_parts item group r (inner item (size item)))
-    (row_is_second s.free s.scalar (head_of item) (inner item (size item)) (set_of item.body)
-    s.scalar_is one)))
-    (later_law edge item group row (record {
-      item_valid = valid;
-      source = s.group;
-      of_group = of_free s.free (size item) (inner item (size item))
-          (length-components (child_of item.at 0) (size item));
-      of_row = of_row s.free s.scalar (head_of item) (inner item (size item)) (set_of item.body)
-          s.scalar_is one;
-      no_growth = ap growth own;
-      group_leads = s.group_leads (size item) (inner item (size item));
-      row_leads = s.row_leads (head_of item) (inner item (size item));
-    })))
+module _ (edge : Edge) (own : family_of edge ≡ Later) (item : Item) (valid : IsValidItem item)
+    (s : Sourced edge item.body) where
+  one : s.scalar ≡ true → inner item (size item) ≡ head_of item ∷ []
+  one = one_inner item valid s.scalar s.scalar_is
+
+  abbrev group : Body
+  group = first_child s.free (size item) (inner item (size item))
+
+  abbrev row : Body
+  row = second_child s.free s.scalar (head_of item) (inner item (size item)) (set_of item.body)
+
+  keeps_law : EdgeLaw edge item (later edge item)
+  keeps_law =
+      subst (EdgeLaw edge item)
+      (sym (later_is edge item s.free s.free_is
+      ∙ ap (λ r. later_parts item group r (inner item (size item)))
+      (row_is_second s.free s.scalar (head_of item) (inner item (size item)) (set_of item.body)
+      s.scalar_is one)))
+      (later_law edge item group row (record {
+        item_valid = valid;
+        source = s.group;
+        of_group = of_free s.free (size item) (inner item (size item))
+            (length-components (child_of item.at 0) (size item));
+        of_row = of_row s.free s.scalar (head_of item) (inner item (size item)) (set_of item.body)
+            s.scalar_is one;
+        no_growth = ap growth own;
+        group_leads = s.group_leads (size item) (inner item (size item));
+        row_leads = s.row_leads (head_of item) (inner item (size item));
+      }))
+
+pub rule : IsGroupRule Later Sourced later 1
+unfolding image_by back_by
+rule = record {
+  carry = λ item ys. [];
+  rule = record { image = λ edge item. refl; back = λ item ys. refl; sourced = sourced };
+  no_sum = refl;
+  no_dual_sum = refl;
+  children = λ edge item. refl;
+  dual = λ edge item s no_group. absurd (true≢false (sym s.group ∙ no_group));
+  law = keeps_law;
+}

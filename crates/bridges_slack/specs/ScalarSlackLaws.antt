@@ -1,5 +1,5 @@
 -- The law of ScalarSlack: f in S is s in S and f - s = 0.
-use Rattle.std.specs.Prelude.{All, List, None, [], length, refl, ◌∷◌, ◌≡◌}
+use Rattle.std.specs.Prelude.{All, List, [], length, refl, ◌∷◌, ◌≡◌}
 use Rattle.std.proofs.lemmas.List.Elements.{All-cons, All-head, All-nil}
 use Rattle.std.proofs.Common.{ap, arith, subst, sym, ◌∙◌}
 use Rattle.rational_laws.specs.Field.{*ℚ-zero, zero-*ℚ}
@@ -10,19 +10,20 @@ use Rattle.bridge_face.specs.BackOf as backs
 use Rattle.item_core.specs.declared.item.Body.{Body}
 use Rattle.item_core.specs.declared.edge.Edge.TheVariants.{E31, E32, E33}
 use Rattle.item_core.specs.declared.edge.Edge.{Edge}
-use Rattle.bridge_face.specs.Law.{EdgeLaw, IsItemFor, IsLawful, LeadsTo, growth}
+use Rattle.bridge_face.specs.Law.{EdgeLaw, LeadsTo, growth}
 use Rattle.set_core.specs.declared.set.Set.TheVariants.{EqualTo, GreaterThan, Interval, LessThan}
-use Rattle.bridge_face.specs.ImageOf.{differences, group_at, image_by, image_of, inner, inner_functions, scalar_slack}
-use Rattle.item_core.specs.Valid.{NamesNothingBelow}
+use Rattle.bridge_face.specs.ImageOf.{differences, group_at, image_by, inner, inner_functions, scalar_slack}
+use Rattle.item_core.specs.Valid.{IsValidItem, NamesNothingBelow}
 use Rattle.aff_core.specs.Function.{Function, coefficient, variable}
 use Rattle.bridge_face.specs.OneRowLaws.{IsRow}
 use Rattle.bridges_slack.specs.SlackLaws.{IsSlack, slack_law}
 use Rattle.item_core.specs.declared.item.Item.{Item}
-use Rattle.bridge_face.specs.FamilyLaws.{Rule, back_is, image_is, lawful_by, of_another, source_is}
+use Rattle.bridge_face.specs.FamilyLaws.{Rule, back_is, of_another}
+use Rattle.bridge_face.specs.GroupLaws.{IsGroupRule}
 use Rattle.bridge_face.specs.Sources.{OfKind, affine_greater_than, affine_interval, affine_less_than}
 use Rattle.ratio_core.specs.Rational.{Rational, zero_ℚ, ◌*ℚ◌}
 use Rattle.item_core.specs.declared.family.Family.TheVariants.{ScalarSlack}
-use Rattle.bridge_face.specs.Images.{child_at, first_in, function_of_body, difference}
+use Rattle.bridge_face.specs.Images.{difference, first_in, function_of_body}
 use Rattle.item_core.specs.Edge.{edge_entry, family_of, source_of}
 use Rattle.set_core.specs.Vectors.{first_of}
 use Rattle.item_core.specs.Item.{functions_of, set_of}
@@ -59,9 +60,9 @@ sourced E33 own affine_interval =
     record { bounded = between; leads = λ vars. refl; row_leads = λ f. refl }
 sourced _ own k = of_another own refl
 
-pub rule : Rule ScalarSlack Sourced (λ edge. scalar_slack) (λ item. backs.first_of)
+scalar_slack_rule : Rule ScalarSlack Sourced (λ edge. scalar_slack) (λ item. backs.first_of)
 unfolding image_by back_by
-rule = record { image = λ edge item. refl; back = λ item ys. refl; sourced = sourced }
+scalar_slack_rule = record { image = λ edge item. refl; back = λ item ys. refl; sourced = sourced }
 
 -- what is read of it
 record Bounded (b : Body) : Type 0 where
@@ -90,61 +91,68 @@ zero_alone one v e h =
 
 -- ---- the law
 
-module _ (edge : Edge) (own : family_of edge ≡ ScalarSlack) where
-  -- the row names none of the components, and has one function
-  pub one_function : (item : Item) → IsItemFor edge item
-      → functions_of item.body ≡ function_of_body item.body ∷ []
-  one_function item suits = (read (source_is rule edge own item suits).bounded).functions
+-- the row doesn't name the component
+pub absent : (item : Item) → IsValidItem item → IsBounded item.body
+    → coefficient (function_of_body item.body) (child_of (child_of item.at 0) 0) ≡ zero_ℚ
+absent item valid bounded =
+    let facts = read bounded in
+    let unnamed : All (NamesNothingBelow item.at) (function_of_body item.body ∷ []) = subst
+    (All (NamesNothingBelow item.at)) facts.functions (valid.others facts.row.no_group) in
+    unnamed_below item.at 0 (function_of_body item.body)
+    (All-head (NamesNothingBelow item.at) (function_of_body item.body) [] unnamed) (0 ∷ [])
 
-  pub absent : (item : Item) → IsItemFor edge item
-      → coefficient (function_of_body item.body) (child_of (child_of item.at 0) 0) ≡ zero_ℚ
-  absent item suits =
-      let facts = read (source_is rule edge own item suits).bounded in
-      let unnamed : All (NamesNothingBelow item.at) (function_of_body item.body ∷ []) = subst
-      (All (NamesNothingBelow item.at)) facts.functions
-      (suits.valid.others facts.row.no_group) in
-      unnamed_below item.at 0 (function_of_body item.body)
-      (All-head (NamesNothingBelow item.at) (function_of_body item.body) [] unnamed) (0 ∷ [])
+-- the image, with the row's function written out
+pub image_made : (item : Item) → IsBounded item.body
+    → group_and_row item (group_at item (set_of item.body) 1) []
+    (Affine (difference (function_of_body item.body) (variable (child_of (child_of item.at 0) 0)))
+    (EqualTo zero_ℚ))
+    ≡ scalar_slack item
+image_made item bounded =
+    ap (λ fs. group_and_row item (group_at item (set_of item.body) 1) []
+    (Affine (first_in (differences fs (inner_functions item 1))) (EqualTo zero_ℚ)))
+    (sym (read bounded).functions)
 
-  -- the image, with the row's function written out
-  pub image_made : (item : Item) → IsItemFor edge item
-      → group_and_row item (group_at item (set_of item.body) 1) []
-      (Affine (difference (function_of_body item.body) (variable (child_of (child_of item.at 0) 0)))
-      (EqualTo zero_ℚ))
-      ≡ image_of edge item
-  image_made item suits =
-      ap (λ fs. group_and_row item (group_at item (set_of item.body) 1) []
-      (Affine (first_in (differences fs (inner_functions item 1))) (EqualTo zero_ℚ)))
-      (sym (one_function item suits))
-      ∙ sym (image_is rule edge own item)
+module _ (edge : Edge) (own : family_of edge ≡ ScalarSlack) (item : Item)
+    (valid : IsValidItem item) (source : Sourced edge item.body) where
+  facts : Bounded item.body
+  facts = read source.bounded
 
-pub scalar_slack_lawful : IsLawful ScalarSlack
-scalar_slack_lawful =
-    lawful_by rule (λ edge own item valid source.
-    let facts = read source.bounded in
-    let one : size item ≡ 1 = ap length facts.functions in
-    let slack : IsSlack edge item (made item) = record {
-      item_valid = valid;
-      source = facts.row;
-      made = record { no_group = refl; no_objective = refl };
-      functions =
-          alone_is (functions_of item.body) (function_of_body item.body)
-          (child_of (child_of item.at 0) 0) facts.functions
-          ∙ ap (λ n. differences (functions_of item.body) (variables (inner item n))) (sym one);
-      equal = λ t v long h. zero_alone t v (long ∙ one) h;
-      low = λ y. zero-*ℚ (first_of y);
-      shaped = refl;
-      fits = record { dimension = sym one; enough = omega (arith, one); uncrossed = refl };
-      back = λ y. back_is rule edge own item (y ∷ []);
-      no_growth = ap growth own;
-      group_leads = source.leads (inner item (size item));
-      row_leads = source.row_leads (first_in (differences (functions_of item.body)
-          (inner_functions item 1)));
-    } in
-    subst (EdgeLaw edge item) (ap (λ n. record {
-      groups = group_at item (set_of item.body) n ∷ [];
-      exprs = [];
-      rows = child_at item 1 (made item) ∷ [];
-      objective = None;
-    }) one)
-    (slack_law edge item (made item) slack))
+  one : size item ≡ 1
+  one = ap length facts.functions
+
+  slack : IsSlack edge item (made item)
+  slack = record {
+    item_valid = valid;
+    source = facts.row;
+    made = record { no_group = refl; no_objective = refl };
+    functions =
+        alone_is (functions_of item.body) (function_of_body item.body)
+        (child_of (child_of item.at 0) 0) facts.functions
+        ∙ ap (λ n. differences (functions_of item.body) (variables (inner item n))) (sym one);
+    equal = λ t v long h. zero_alone t v (long ∙ one) h;
+    low = λ y. zero-*ℚ (first_of y);
+    shaped = refl;
+    fits = record { dimension = sym one; enough = omega (arith, one); uncrossed = refl };
+    back = λ y. back_is scalar_slack_rule edge own item (y ∷ []);
+    no_growth = ap growth own;
+    group_leads = source.leads (inner item (size item));
+    row_leads = source.row_leads (first_in (differences (functions_of item.body)
+        (inner_functions item 1)));
+  }
+
+  scalar_slack_law : EdgeLaw edge item (scalar_slack item)
+  scalar_slack_law =
+      subst (EdgeLaw edge item)
+      (ap (λ n. group_and_row item (group_at item (set_of item.body) n) [] (made item)) one)
+      (slack_law edge item (made item) slack)
+
+pub rule : IsGroupRule ScalarSlack Sourced (λ edge. scalar_slack) 1
+rule = record {
+  carry = λ item. backs.first_of;
+  rule = scalar_slack_rule;
+  no_sum = refl;
+  no_dual_sum = refl;
+  children = λ edge item. refl;
+  dual = λ edge item source no_group. (refl, λ ys. refl);
+  law = scalar_slack_law;
+}

@@ -7,14 +7,15 @@ use Rattle.bridge_face.specs.BackOf.{back_by, first_of, size}
 use Rattle.item_core.specs.declared.item.Body.{Body}
 use Rattle.item_core.specs.declared.edge.Edge.TheVariants.{E27, E28, E29, E30}
 use Rattle.item_core.specs.declared.edge.Edge.{Edge}
-use Rattle.bridge_face.specs.Law.{IsLawful, LeadsTo, Miss, growth}
+use Rattle.bridge_face.specs.Law.{LeadsTo, Miss, growth}
 use Rattle.bridge_face.specs.ImageOf.{differences, image_by, inner, inner_functions, vector_slack}
 use Rattle.item_core.specs.Valid.{IsValidItem}
 use Rattle.aff_core.specs.Function.{Function}
 use Rattle.bridge_face.specs.OneRowLaws.{IsRow}
 use Rattle.item_core.specs.declared.item.Item.{Item}
-use Rattle.bridge_face.specs.FamilyLaws.{Rule, back_is, lawful_by, of_another}
+use Rattle.bridge_face.specs.FamilyLaws.{Rule, back_is, of_another}
 use Rattle.set_core.specs.declared.set.Set.TheVariants.{Nonnegatives, Nonpositives, NormInfinityCone, NormOneCone, Zeros}
+use Rattle.bridge_face.specs.GroupLaws.{IsGroupRule}
 use Rattle.bridge_face.specs.Sources.{OfKind, vaffine_nonnegatives, vaffine_nonpositives, vaffine_norm_infinity_cone, vaffine_norm_one_cone}
 use Rattle.item_core.specs.declared.family.Family.TheVariants.{VectorSlack}
 use Rattle.item_core.specs.Edge.{edge_entry, family_of, source_of}
@@ -54,9 +55,9 @@ sourced E30 own vaffine_norm_one_cone =
     record { cone = norm_one; leads = λ vars. refl; row_leads = λ fs n. refl }
 sourced _ own k = of_another own refl
 
-pub rule : Rule VectorSlack Sourced (λ edge. vector_slack) (λ item. first_of)
+vector_slack_rule : Rule VectorSlack Sourced (λ edge. vector_slack) (λ item. first_of)
 unfolding image_by back_by
-rule = record { image = λ edge item. refl; back = λ item ys. refl; sourced = sourced }
+vector_slack_rule = record { image = λ edge item. refl; back = λ item ys. refl; sourced = sourced }
 
 row : {b : Body} → InCone b → IsRow b
 row nonnegative = record { no_group = refl; no_objective = refl }
@@ -72,21 +73,28 @@ pub absent : (item : Item) → IsValidItem item → InCone item.body
 absent item valid cone =
     misses_inner item.at (size item) (functions_of item.body) (valid.others (row cone).no_group)
 
-pub vector_slack_lawful : IsLawful VectorSlack
-vector_slack_lawful =
-    lawful_by rule (λ edge own item valid source.
-    slack_law edge item (made item) (record {
-      item_valid = valid;
-      source = row source.cone;
-      made = record { no_group = refl; no_objective = refl };
-      functions = refl;
-      equal = λ one v long h. h;
-      low = λ y. refl;
-      shaped = refl;
-      fits = record { dimension = refl; enough = valid.some; uncrossed = refl };
-      back = λ y. back_is rule edge own item (y ∷ []);
-      no_growth = ap growth own;
-      group_leads = source.leads (inner item (size item));
-      row_leads = source.row_leads (differences (functions_of item.body)
-          (inner_functions item (size item))) (size item);
-    }))
+pub rule : IsGroupRule VectorSlack Sourced (λ edge. vector_slack) 1
+rule = record {
+  carry = λ item. first_of;
+  rule = vector_slack_rule;
+  no_sum = refl;
+  no_dual_sum = refl;
+  children = λ edge item. refl;
+  dual = λ edge item source no_group. (refl, λ ys. refl);
+  law = λ edge own item valid source.
+      slack_law edge item (made item) (record {
+        item_valid = valid;
+        source = row source.cone;
+        made = record { no_group = refl; no_objective = refl };
+        functions = refl;
+        equal = λ one v long h. h;
+        low = λ y. refl;
+        shaped = refl;
+        fits = record { dimension = refl; enough = valid.some; uncrossed = refl };
+        back = λ y. back_is vector_slack_rule edge own item (y ∷ []);
+        no_growth = ap growth own;
+        group_leads = source.leads (inner item (size item));
+        row_leads = source.row_leads (differences (functions_of item.body)
+            (inner_functions item (size item))) (size item);
+      });
+}

@@ -16,33 +16,42 @@ ghost use Rattle.bridges_slack.specs.LaterLaws.{first_child, second_child};
 
 use aff_core::{Address, Addresses, Aff};
 use bridge_face::{
-    ChildRows, ItemFault, KeptItem, KeptItems, Rewriting, component_count, group_row_image,
-    inner_variables, item_set, variables,
+    GroupRule, KeptItems, OneGroup, component_count, group_row_image, inner_variables, item_set,
+    variables,
 };
 use item_core::{Body, Children, Edge, Expression, Expressions, Family, Image, Item, Kind};
 use lists::Memory;
-use ratio_core::Ratios;
 use set_core::Set;
 use std::alloc::Global;
 
 /// The bridge of variables that are constrained later.
-pub type Later = KeptItems<LaterRule>;
+pub type Later = KeptItems<OneGroup<LaterRule>>;
 
 /// What `Later` does with one group.
 #[derive(Drop)]
 pub struct LaterRule;
 
-impl Rewriting for LaterRule {
+impl GroupRule for LaterRule {
     ghost use Rattle.item_core.specs.declared.family.Family.TheVariants as families;
-    ghost use Rattle.bridges_slack.specs.LaterLaws.{later_lawful};
+    ghost use Rattle.bridges_slack.specs.LaterLaws as laws;
 
     ghost family = { families.Later };
+
+    ghost source = { laws.Sourced };
+
+    ghost made = { images.later };
+
+    ghost row_count = { 1 };
 
     fn family() -> Family {
         Family::Later
     }
 
-    fn image(alloc: Global, edge: Edge, item: &Item) -> Result<Image, ItemFault> {
+    fn rows() -> u16 {
+        1
+    }
+
+    fn image(alloc: Global, edge: Edge, item: &Item) -> Result<Image, Memory> {
         let at = item.at.child(0);
         let count = component_count(&item.body);
         let free = begins_free(edge);
@@ -54,18 +63,10 @@ impl Rewriting for LaterRule {
             at,
             body: group_body(free, count, vars),
         };
-        Ok(group_row_image(alloc, item, group, exprs, row)?)
+        group_row_image(alloc, item, group, exprs, row)
     }
 
-    fn child_rows(_kept: &KeptItem) -> ChildRows {
-        ChildRows { first: 1, count: 1 }
-    }
-
-    fn back(_alloc: Global, _kept: &KeptItem, _duals: &[Ratios]) -> Result<Ratios, ItemFault> {
-        unreachable!()
-    }
-
-    ghost lawful = { later_lawful };
+    ghost rule = { laws.rule };
 }
 
 // Whether the edge makes free variables.

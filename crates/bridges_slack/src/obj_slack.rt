@@ -16,11 +16,11 @@ ghost use Rattle.bridges_slack.specs.ObjSlackLaws.{IsAffineObjective, row_of};
 
 use aff_core::Address;
 use bridge_face::{
-    ChildRows, ItemFault, KeptItem, KeptItems, Rewriting, inner_variables, one_item, variable_less,
+    ChildRows, KeptItem, KeptItems, Rewriting, inner_variables, one_item, variable_less,
 };
 use item_core::{Body, Edge, Expressions, Family, Image, Item, Sense};
 use lists::Memory;
-use ratio_core::{Ratio, Ratios};
+use ratio_core::{NumberFault, Ratio, Ratios};
 use set_core::Set;
 use std::alloc::Global;
 
@@ -41,7 +41,7 @@ impl Rewriting for ObjSlackRule {
         Family::ObjSlack
     }
 
-    fn image(alloc: Global, _edge: Edge, item: &Item) -> Result<Image, ItemFault> {
+    fn image(alloc: Global, _edge: Edge, item: &Item) -> Result<Image, NumberFault> {
         let at = item.at.child(0);
         let var = at.child(0);
         let body = over(&item.body, &var)?;
@@ -66,7 +66,7 @@ impl Rewriting for ObjSlackRule {
         ChildRows { first: 1, count: 1 }
     }
 
-    fn back(_alloc: Global, _kept: &KeptItem, _duals: &[Ratios]) -> Result<Ratios, ItemFault> {
+    fn back(_alloc: Global, _kept: &KeptItem, _duals: &[Ratios]) -> Result<Ratios, NumberFault> {
         unreachable!()
     }
 

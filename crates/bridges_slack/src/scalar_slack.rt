@@ -15,50 +15,53 @@ ghost use Rattle.bridges_slack.specs.ScalarSlackLaws.{IsBounded};
 
 use aff_core::Address;
 use bridge_face::{
-    ChildRows, ItemFault, KeptItem, KeptItems, Rewriting, child_group, group_row_image,
-    inner_variables, item_set, less_variable,
+    GroupRule, KeptItems, OneGroup, child_group, group_row_image, inner_variables, item_set,
+    less_variable,
 };
 use item_core::{Body, Edge, Expressions, Family, Image, Item};
-use lists::{Duplicate, Memory};
-use ratio_core::{Ratio, Ratios};
+use lists::Memory;
+use ratio_core::Ratio;
 use set_core::Set;
 use std::alloc::Global;
 
 /// The bridge by a slack variable.
-pub type ScalarSlack = KeptItems<ScalarSlackRule>;
+pub type ScalarSlack = KeptItems<OneGroup<ScalarSlackRule>>;
 
 /// What `ScalarSlack` does with one row.
 #[derive(Drop)]
 pub struct ScalarSlackRule;
 
-impl Rewriting for ScalarSlackRule {
+impl GroupRule for ScalarSlackRule {
     ghost use Rattle.item_core.specs.declared.family.Family.TheVariants as families;
-    ghost use Rattle.bridges_slack.specs.ScalarSlackLaws.{scalar_slack_lawful};
+    ghost use Rattle.bridge_face.specs.ImageOf as images;
+    ghost use Rattle.bridges_slack.specs.ScalarSlackLaws as laws;
 
     ghost family = { families.ScalarSlack };
+
+    ghost source = { laws.Sourced };
+
+    ghost made = { λ edge. images.scalar_slack };
+
+    ghost row_count = { 1 };
 
     fn family() -> Family {
         Family::ScalarSlack
     }
 
-    fn image(alloc: Global, _edge: Edge, item: &Item) -> Result<Image, ItemFault> {
+    fn rows() -> u16 {
+        1
+    }
+
+    fn image(alloc: Global, _edge: Edge, item: &Item) -> Result<Image, Memory> {
         let group = item.at.child(0);
         let row = rest(&item.body, &group.child(0))?;
         let vars = inner_variables(alloc, item, 1)?;
         let set = item_set(alloc, &item.body)?;
         let group = child_group(item, set, vars);
-        Ok(group_row_image(alloc, item, group, Expressions::new(alloc), row)?)
+        group_row_image(alloc, item, group, Expressions::new(alloc), row)
     }
 
-    fn child_rows(_kept: &KeptItem) -> ChildRows {
-        ChildRows { first: 1, count: 1 }
-    }
-
-    fn back(_alloc: Global, _kept: &KeptItem, duals: &[Ratios]) -> Result<Ratios, ItemFault> {
-        Ok(duals[0].copy()?)
-    }
-
-    ghost lawful = { scalar_slack_lawful };
+    ghost rule = { laws.rule };
 }
 
 // The row that the function and the variable are equal.

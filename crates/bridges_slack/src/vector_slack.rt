@@ -17,50 +17,52 @@ ghost use Rattle.bridges_slack.specs.VectorSlackLaws.{InCone};
 
 use aff_core::Address;
 use bridge_face::{
-    ChildRows, ItemFault, KeptItem, KeptItems, Rewriting, child_group, component_count,
-    group_row_image, inner_variables, item_set, less_variables,
+    GroupRule, KeptItems, OneGroup, child_group, component_count, group_row_image, inner_variables,
+    item_set, less_variables,
 };
 use item_core::{Body, Edge, Expressions, Family, Image, Item};
-use lists::{Duplicate, Memory};
-use ratio_core::Ratios;
+use lists::Memory;
 use set_core::Set;
 use std::alloc::Global;
 
 /// The bridge by slack variables.
-pub type VectorSlack = KeptItems<VectorSlackRule>;
+pub type VectorSlack = KeptItems<OneGroup<VectorSlackRule>>;
 
 /// What `VectorSlack` does with one row.
 #[derive(Drop)]
 pub struct VectorSlackRule;
 
-impl Rewriting for VectorSlackRule {
+impl GroupRule for VectorSlackRule {
     ghost use Rattle.item_core.specs.declared.family.Family.TheVariants as families;
-    ghost use Rattle.bridges_slack.specs.VectorSlackLaws.{vector_slack_lawful};
+    ghost use Rattle.bridge_face.specs.ImageOf as images;
+    ghost use Rattle.bridges_slack.specs.VectorSlackLaws as laws;
 
     ghost family = { families.VectorSlack };
+
+    ghost source = { laws.Sourced };
+
+    ghost made = { λ edge. images.vector_slack };
+
+    ghost row_count = { 1 };
 
     fn family() -> Family {
         Family::VectorSlack
     }
 
-    fn image(alloc: Global, _edge: Edge, item: &Item) -> Result<Image, ItemFault> {
+    fn rows() -> u16 {
+        1
+    }
+
+    fn image(alloc: Global, _edge: Edge, item: &Item) -> Result<Image, Memory> {
         let count = component_count(&item.body);
         let vars = inner_variables(alloc, item, count)?;
         let row = rest(alloc, &item.body, vars.as_slice(), count)?;
         let set = item_set(alloc, &item.body)?;
         let group = child_group(item, set, vars);
-        Ok(group_row_image(alloc, item, group, Expressions::new(alloc), row)?)
+        group_row_image(alloc, item, group, Expressions::new(alloc), row)
     }
 
-    fn child_rows(_kept: &KeptItem) -> ChildRows {
-        ChildRows { first: 1, count: 1 }
-    }
-
-    fn back(_alloc: Global, _kept: &KeptItem, duals: &[Ratios]) -> Result<Ratios, ItemFault> {
-        Ok(duals[0].copy()?)
-    }
-
-    ghost lawful = { vector_slack_lawful };
+    ghost rule = { laws.rule };
 }
 
 // The row that the functions and the variables are equal.

@@ -2,7 +2,7 @@
 use Rattle.std.specs.Prelude.{All, List, [], drop, length, map, refl, suc, take, zero, ℕ, ◌*◌, ◌++◌, ◌+◌, ◌∷◌, ◌≡◌, ◌≢◌, ◌≤◌}
 use Rattle.std.proofs.lemmas.List.Elements.{All-cons, All-drop, All-head, All-map, All-nil, All-tail, All-take, All-weaker}
 use Rattle.std.proofs.Math.Seq.{take-append_seam, drop-append_seam}
-use Rattle.std.proofs.Common.{ap, ap₂, arith, subst, sym, ◌∙◌}
+use Rattle.std.proofs.Common.{ap, ap₂, arith, subst, sym, true≢false, ◌∙◌}
 use Rattle.std.proofs.lemmas.List.{length-map, map-append}
 use Rattle.std.proofs.lemmas.List.FromFn.{length-map-range_with_len}
 use Rattle.std.specs.List.{range_with_len}
@@ -14,19 +14,18 @@ use Rattle.item_core.specs.declared.image.Expression.TheVariants.{Bridged}
 use Rattle.set_core.specs.Membership.{Dual, In, low_of}
 use Rattle.item_core.specs.declared.edge.Edge.TheVariants.{E43}
 use Rattle.item_core.specs.declared.edge.Edge.{Edge}
-use Rattle.bridge_face.specs.Law.{EdgeLaw, IsLawful, Miss, growth}
+use Rattle.bridge_face.specs.Law.{EdgeLaw, Miss, growth}
 use Rattle.item_core.specs.declared.image.Expression.{Expression}
-use Rattle.bridge_face.specs.ImageOf.{bridged, differences, free_var, group_at, image_by, image_of, inner}
+use Rattle.bridge_face.specs.ImageOf.{bridged, differences, free_var, group_at, image_by, inner}
 use Rattle.item_core.specs.Valid.{IsValidItem}
 use Rattle.item_core.specs.declared.family.Family.TheVariants.{FreeVar}
 use Rattle.aff_core.specs.Function.{Function, coefficient, variable}
 use Rattle.item_core.specs.declared.item.Body.TheVariants.{Group}
-use Rattle.item_core.specs.declared.image.Image.{Image}
 use Rattle.item_core.specs.declared.item.Item.{Item}
-use Rattle.bridge_face.specs.FamilyLaws.{Rule, image_is, lawful_by, of_another}
+use Rattle.bridge_face.specs.FamilyLaws.{of_another}
 use Rattle.set_core.specs.declared.set.Set.TheVariants.{Nonnegatives, Reals}
 use Rattle.bridge_face.specs.Sources.{OfKind, group_reals}
-use Rattle.bridge_face.specs.GroupLaws.{GroupSourced, OneGroup, one_group_law}
+use Rattle.bridge_face.specs.GroupLaws.{GroupSourced, IsGroupRule, OneGroup, one_group_law}
 use Rattle.ratio_core.specs.Rational.{Rational, neg_ℚ, zero_ℚ, ◌+ℚ◌, ◌-ℚ◌, ◌≤ℚ◌}
 use Rattle.bridge_face.specs.ComponentLaws.{all_components, all_components_within, components-append, components_from, dot_missed, not_contained, other_child, variables, variables_missed, weighed, weighed_from}
 use Rattle.bridge_face.specs.DifferenceLaws.{all_paired, coefficient-difference, constant-difference, dot-differences, length-differences, missed-difference}
@@ -52,10 +51,6 @@ unfolding edge_entry kind_of_body
 sourced E43 own (group_reals {vars} {n}) =
     record { count = n; set = refl; group = refl; leads = λ n vars. refl }
 sourced _ own k = of_another own refl
-
-pub rule : Rule FreeVar Sourced (λ edge. free_var) (λ item ys. [])
-unfolding image_by back_by
-rule = record { image = λ edge item. refl; back = λ item ys. refl; sourced = sourced }
 
 -- ---- two halves
 
@@ -229,28 +224,25 @@ constants_split at d =
 
 -- ---- the law
 
-module _ (edge : Edge) (own : family_of edge ≡ FreeVar) where
-  -- so an image that is made of these parts is the item's
-  pub image_made : (item : Item) (d both : ℕ) (vars : List Address) (exprs : List Expression)
-      (group : Item) (image : Image)
-      → d ≡ size item → both ≡ d + d → vars ≡ inner item both
-      → exprs ≡ map (halved (child_of item.at 0) d) (range_with_len 0 d)
-      → group ≡ child_at item 0 (Group (Nonnegatives both) vars)
-      → image ≡ group_by (group ∷ []) exprs
-      → image ≡ image_of edge item
-  image_made item d both vars exprs group image d_is both_is vars_are exprs_are group_is
-      image_of_parts =
-      image_of_parts ∙ ap₂ (λ g es. group_by (g ∷ []) es) group_is exprs_are
-      ∙ ap (λ vs. group_by (child_at item 0 (Group (Nonnegatives both) vs) ∷ [])
-      (map (halved (child_of item.at 0) d) (range_with_len 0 d))) vars_are
-      ∙ ap (λ n. group_by (group_at item (Nonnegatives n) n ∷ [])
-      (map (halved (child_of item.at 0) d) (range_with_len 0 d))) both_is
-      ∙ ap (λ n. group_by (group_at item (Nonnegatives (n + n)) (n + n) ∷ [])
-      (map (halved (child_of item.at 0) n) (range_with_len 0 n))) d_is
-      ∙ ap (λ es. group_by (group_at item (Nonnegatives (size item + size item))
-      (size item + size item) ∷ []) es) (sym (halved_are (child_of item.at 0) (size item)))
-      ∙ sym (image_is rule edge own item)
+-- so an image that is made of these parts is the item's
+pub image_made : (item : Item) (d both : ℕ) (vars : List Address) (exprs : List Expression)
+    (group : Item)
+    → d ≡ size item → both ≡ d + d → vars ≡ inner item both
+    → exprs ≡ map (halved (child_of item.at 0) d) (range_with_len 0 d)
+    → group ≡ child_at item 0 (Group (Nonnegatives both) vars)
+    → group_by (group ∷ []) exprs ≡ free_var item
+image_made item d both vars exprs group d_is both_is vars_are exprs_are group_is =
+    ap₂ (λ g es. group_by (g ∷ []) es) group_is exprs_are
+    ∙ ap (λ vs. group_by (child_at item 0 (Group (Nonnegatives both) vs) ∷ [])
+    (map (halved (child_of item.at 0) d) (range_with_len 0 d))) vars_are
+    ∙ ap (λ n. group_by (group_at item (Nonnegatives n) n ∷ [])
+    (map (halved (child_of item.at 0) d) (range_with_len 0 d))) both_is
+    ∙ ap (λ n. group_by (group_at item (Nonnegatives (n + n)) (n + n) ∷ [])
+    (map (halved (child_of item.at 0) n) (range_with_len 0 n))) d_is
+    ∙ ap (λ es. group_by (group_at item (Nonnegatives (size item + size item))
+    (size item + size item) ∷ []) es) (sym (halved_are (child_of item.at 0) (size item)))
 
+module _ (edge : Edge) (own : family_of edge ≡ FreeVar) where
   module _ (item : Item) (valid : IsValidItem item) (free : Sourced edge item.body) where
     abbrev d : ℕ
     d = size item
@@ -303,5 +295,14 @@ module _ (edge : Edge) (own : family_of edge ≡ FreeVar) where
         (bridged fs))) (sym (split_is at d))
         (one_group_law edge item (Nonnegatives (d + d)) (d + d) (split at d) one_group)
 
-pub free_var_lawful : IsLawful FreeVar
-free_var_lawful = lawful_by rule free_law
+pub rule : IsGroupRule FreeVar Sourced (λ edge. free_var) 0
+unfolding image_by back_by
+rule = record {
+  carry = λ item ys. [];
+  rule = record { image = λ edge item. refl; back = λ item ys. refl; sourced = sourced };
+  no_sum = refl;
+  no_dual_sum = refl;
+  children = λ edge item. refl;
+  dual = λ edge item free no_group. absurd (true≢false (sym free.group ∙ no_group));
+  law = free_law;
+}

@@ -26,6 +26,9 @@ use Rattle.bridge_face.specs.FamilyLaws.{Rule, back_is, dual_sizes, image_is, ke
 use Rattle.bridge_face.specs.BackOf as backs
 use Rattle.bridge_face.specs.Sources.{OfKind, affine_equal_to, vaffine_zeros}
 use Rattle.ratio_core.specs.Rational.{Rational, fits, neg_ℚ, rational_cmp, zero_ℚ, ◌*ℚ◌, ◌+ℚ◌, ◌-ℚ◌, ◌≤ℚ◌}
+use Rattle.ratio_core.specs.declared.fault.NumberFault.{NumberFault}
+use Rattle.ratio_core.specs.Answers.{ExactWhere}
+use Rattle.ratio_core.specs.AnsweredLaws.{exact_as}
 use Rattle.set_core.specs.declared.set.Set.{Set}
 use Rattle.item_core.specs.declared.family.Family.TheVariants.{SplitSet}
 use Rattle.aff_core.specs.FunctionLists.{constants, evaluations}
@@ -40,10 +43,7 @@ use Rattle.set_core.specs.Mirrored.{multiplied}
 use Rattle.set_core.specs.ShapeLaws.{in_order}
 use Rattle.set_laws.specs.Least.{single₂}
 use Rattle.rational_laws.specs.Order.{≤ℚ-*ℚ, ≤ℚ-*ℚ_nonpos, ≤ℚ-+ℚ_left, ≤ℚ-+ℚ_right, ≤ℚ_antisymm, ≤ℚ_from_≡}
-use Rattle.aff_core.specs.declared.fault.AffFault.{AffFault}
-use Rattle.aff_core.specs.Arithmetic.{ExactWhere}
 use Rattle.bridge_face.specs.State.{TakesDuals}
-use Rattle.aff_core.specs.AnsweredLaws.{exact_as}
 use Rattle.bridge_face.specs.Sources as kinds
 
 -- a row in a set that two others have in common
@@ -232,7 +232,7 @@ module _ (edge : Edge) (own : family_of edge ≡ SplitSet) where
 
   -- what is carried back of the two duals, by their sums
   pub back_two : (item : Item) (ys : List (List Rational)) (a b p q : List Rational)
-      (r : Result (List Rational) AffFault)
+      (r : Result (List Rational) NumberFault)
       → ys ≡ p ∷ q ∷ [] → a ≡ p → b ≡ q → ExactWhere r (SumsFit a b) (λ x. x ≡ plus a b)
       → ExactWhere r (BackFits edge item ys) (λ x. x ≡ back_of edge item ys)
   back_two item ys a b p q r ys_are a_is b_is said =

@@ -7,12 +7,10 @@
 ghost use Rattle.std.specs.Prelude.{◌≡◌, IfOk, replicate};
 ghost use Rattle.ratio_core.specs.Rational.{zero_ℚ};
 
-use bridge_face::{
-    ChildRows, ItemFault, KeptItem, KeptItems, Rewriting, component_count, rows_image,
-};
+use bridge_face::{ChildRows, KeptItem, KeptItems, Rewriting, component_count, rows_image};
 use item_core::{Edge, Family, Image, Item};
 use lists::Memory;
-use ratio_core::{Ratio, Ratios};
+use ratio_core::{NumberFault, Ratio, Ratios};
 use std::alloc::Global;
 
 /// The bridge that drops rows in all vectors.
@@ -32,7 +30,7 @@ impl Rewriting for DropRealsRule {
         Family::DropReals
     }
 
-    fn image(alloc: Global, _edge: Edge, _item: &Item) -> Result<Image, ItemFault> {
+    fn image(alloc: Global, _edge: Edge, _item: &Item) -> Result<Image, NumberFault> {
         Ok(rows_image(alloc, Vec::new(alloc)))
     }
 
@@ -40,7 +38,7 @@ impl Rewriting for DropRealsRule {
         ChildRows { first: 0, count: 0 }
     }
 
-    fn back(alloc: Global, kept: &KeptItem, _duals: &[Ratios]) -> Result<Ratios, ItemFault> {
+    fn back(alloc: Global, kept: &KeptItem, _duals: &[Ratios]) -> Result<Ratios, NumberFault> {
         let count = component_count(&kept.item.body);
         Ok(zeros(alloc, count as usize)?)
     }

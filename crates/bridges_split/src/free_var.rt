@@ -10,52 +10,54 @@ ghost use Rattle.bridges_split.specs.FreeVarLaws.{halved};
 
 use aff_core::{Address, Aff};
 use bridge_face::{
-    ChildRows, ItemFault, KeptItem, KeptItems, Rewriting, child_group, component_count,
-    group_image, inner_variables, less_variable,
+    GroupRule, KeptItems, OneGroup, child_group, component_count, group_image, inner_variables,
+    less_variable,
 };
 use item_core::{Edge, Expression, Expressions, Family, Image, Item};
 use lists::Memory;
-use ratio_core::Ratios;
 use set_core::Set;
 use std::alloc::Global;
 
 /// The bridge of variables without bounds.
-pub type FreeVar = KeptItems<FreeVarRule>;
+pub type FreeVar = KeptItems<OneGroup<FreeVarRule>>;
 
 /// What `FreeVar` does with one group.
 #[derive(Drop)]
 pub struct FreeVarRule;
 
-impl Rewriting for FreeVarRule {
+impl GroupRule for FreeVarRule {
     ghost use Rattle.item_core.specs.declared.family.Family.TheVariants as families;
-    ghost use Rattle.bridges_split.specs.FreeVarLaws.{free_var_lawful};
+    ghost use Rattle.bridge_face.specs.ImageOf as images;
+    ghost use Rattle.bridges_split.specs.FreeVarLaws as laws;
 
     ghost family = { families.FreeVar };
+
+    ghost source = { laws.Sourced };
+
+    ghost made = { λ edge. images.free_var };
+
+    ghost row_count = { 0 };
 
     fn family() -> Family {
         Family::FreeVar
     }
 
-    fn image(alloc: Global, _edge: Edge, item: &Item) -> Result<Image, ItemFault> {
-        let count = component_count(&item.body);
+    fn rows() -> u16 {
+        0
+    }
+
+    fn image(alloc: Global, _edge: Edge, group: &Item) -> Result<Image, Memory> {
+        let count = component_count(&group.body);
         let both = count + count;
-        let vars = inner_variables(alloc, item, both)?;
-        let exprs = differences(alloc, &item.at.child(0), count)?;
+        let vars = inner_variables(alloc, group, both)?;
+        let exprs = differences(alloc, &group.at.child(0), count)?;
         let set = Set::Nonnegatives {
             dimension: both as u32,
         };
-        Ok(group_image(alloc, child_group(item, set, vars), exprs)?)
+        group_image(alloc, child_group(group, set, vars), exprs)
     }
 
-    fn child_rows(_kept: &KeptItem) -> ChildRows {
-        ChildRows { first: 1, count: 0 }
-    }
-
-    fn back(_alloc: Global, _kept: &KeptItem, _duals: &[Ratios]) -> Result<Ratios, ItemFault> {
-        unreachable!()
-    }
-
-    ghost lawful = { free_var_lawful };
+    ghost rule = { laws.rule };
 }
 
 // The differences of a group's variables, of the first half and the second.

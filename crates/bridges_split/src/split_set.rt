@@ -11,10 +11,10 @@ ghost use Rattle.item_core.specs.Item as items;
 ghost use Rattle.bridge_face.specs.Images as images;
 ghost use Rattle.bridges_split.specs.SplitSetLaws.{IsSplit, IsSplitSet};
 
-use bridge_face::{ChildRows, ItemFault, KeptItem, KeptItems, Rewriting, place_sums, rows_image};
+use bridge_face::{ChildRows, KeptItem, KeptItems, Rewriting, place_sums, rows_image};
 use item_core::{Body, Edge, Family, Image, Item};
 use lists::{Duplicate, Memory};
-use ratio_core::Ratios;
+use ratio_core::{NumberFault, Ratios};
 use set_core::Set;
 use std::alloc::Global;
 
@@ -35,7 +35,7 @@ impl Rewriting for SplitSetRule {
         Family::SplitSet
     }
 
-    fn image(alloc: Global, _edge: Edge, item: &Item) -> Result<Image, ItemFault> {
+    fn image(alloc: Global, _edge: Edge, item: &Item) -> Result<Image, NumberFault> {
         let set = set_of(&item.body);
         let mut rows = Vec::with_capacity(alloc, 2)?;
         rows.push(Item {
@@ -53,7 +53,7 @@ impl Rewriting for SplitSetRule {
         ChildRows { first: 0, count: 2 }
     }
 
-    fn back(alloc: Global, _kept: &KeptItem, duals: &[Ratios]) -> Result<Ratios, ItemFault> {
+    fn back(alloc: Global, _kept: &KeptItem, duals: &[Ratios]) -> Result<Ratios, NumberFault> {
         place_sums(alloc, duals[0].as_slice(), duals[1].as_slice())
     }
 

@@ -7,10 +7,10 @@ ghost use Rattle.std.specs.Prelude.{◌≡◌, IfOk, replicate};
 ghost use Rattle.bridges_split.specs.ZerosVarLaws.{none_of};
 
 use aff_core::Aff;
-use bridge_face::{ChildRows, ItemFault, KeptItem, KeptItems, Rewriting, component_count};
+use bridge_face::{ChildRows, KeptItem, KeptItems, Rewriting, component_count};
 use item_core::{Edge, Expression, Expressions, Family, Image, Item, Items};
 use lists::Memory;
-use ratio_core::{Ratio, Ratios};
+use ratio_core::{NumberFault, Ratio, Ratios};
 use std::alloc::Global;
 
 /// The bridge of variables that are 0.
@@ -30,7 +30,7 @@ impl Rewriting for ZerosVarRule {
         Family::ZerosVar
     }
 
-    fn image(alloc: Global, _edge: Edge, item: &Item) -> Result<Image, ItemFault> {
+    fn image(alloc: Global, _edge: Edge, item: &Item) -> Result<Image, NumberFault> {
         let count = component_count(&item.body);
         let exprs = nothings(alloc, count as usize)?;
         Ok(Image {
@@ -45,7 +45,7 @@ impl Rewriting for ZerosVarRule {
         ChildRows { first: 0, count: 0 }
     }
 
-    fn back(_alloc: Global, _kept: &KeptItem, _duals: &[Ratios]) -> Result<Ratios, ItemFault> {
+    fn back(_alloc: Global, _kept: &KeptItem, _duals: &[Ratios]) -> Result<Ratios, NumberFault> {
         unreachable!()
     }
 

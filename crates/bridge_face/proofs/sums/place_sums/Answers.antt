@@ -1,6 +1,6 @@
 use Rattle.std.proofs.Common.{◌++◌, ◌∷◌, [], arith, sym, ap₂, subst, ◌∙◌, refl, ◌+◌}
+use Rattle.ratio_core.specs.AnsweredLaws.{overflowed}
 use Rattle.bridge_face.specs.ZippedLaws.{SummedTo, sum_refused, summed_all, summed_more}
-use Rattle.aff_core.specs.AnsweredLaws.{overflowed}
 use Rattle.bridge_face.proofs.sums.place_sums.Goals as goal
 
 pub loop-n-preserved : goal.loop-n-preserved

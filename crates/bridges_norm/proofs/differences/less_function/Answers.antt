@@ -1,7 +1,7 @@
 use Rattle.std.proofs.Common.{◌≡◌, ap, subst, sym, ◌∙◌}
+use Rattle.ratio_core.specs.AnsweredLaws.{exact_as}
 use Rattle.aff_core.specs.Arithmetic.{IsSum, PlusFits, sum_of}
 use Rattle.aff_core.specs.Function.{negated}
-use Rattle.aff_core.specs.AnsweredLaws.{exact_as}
 use Rattle.bridge_face.specs.Images.{difference}
 use Rattle.bridges_norm.proofs.differences.less_function.Goals as goal
 

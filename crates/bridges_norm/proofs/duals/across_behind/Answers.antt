@@ -1,8 +1,8 @@
 use Rattle.std.proofs.Common.{◌∙◌, ◌∷◌, ◌/◌, ap, ap₂, subst, sym, arith, length}
 use Rattle.std.proofs.lemmas.List.{length-drop, length-take-le}
 use Rattle.std.specs.Prelude.{◌≡◌}
+use Rattle.ratio_core.specs.AnsweredLaws.{exact_as}
 use Rattle.rational_laws.specs.Dot.{minus, negated}
-use Rattle.aff_core.specs.AnsweredLaws.{exact_as}
 use Rattle.bridge_face.specs.BackOf.{AcrossFits, SumsFit, across}
 use Rattle.bridges_norm.proofs.duals.across_behind.Goals as goal
 

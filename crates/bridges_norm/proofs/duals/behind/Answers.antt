@@ -1,7 +1,7 @@
 use Rattle.std.proofs.Common.{◌++◌, ◌∷◌, ◌+◌, [], arith, sym, ap, subst, ◌∙◌}
+use Rattle.ratio_core.specs.AnsweredLaws.{passed_on}
 use Rattle.rational_laws.specs.Dot as numbers
 use Rattle.std.specs.List.{zip}
-use Rattle.aff_core.specs.AnsweredLaws.{passed_on}
 use Rattle.bridge_face.specs.BackOf.{SumsFit}
 use Rattle.bridge_face.specs.ZippedLaws.{at_place, length-paired, within}
 use Rattle.bridges_norm.proofs.Loops.{LoweredFits, MadeBehind, fits_there, fit_lowered, lowered, lowered_fit, made_all, made_more, made_none, minus_is}

@@ -1,6 +1,6 @@
 use Rattle.std.proofs.Common.{◌+◌, drop, arith, sym, subst, refl}
 use Rattle.std.proofs.Math.ListN.{drop_of_length-le}
-use Rattle.aff_core.specs.AnsweredLaws.{overflowed}
+use Rattle.ratio_core.specs.AnsweredLaws.{overflowed}
 use Rattle.bridges_norm.proofs.Loops.{AddsAsAll, adds_all, adds_fits, adds_more, adds_none, next}
 use Rattle.bridges_norm.proofs.duals.sum.Goals as goal
 

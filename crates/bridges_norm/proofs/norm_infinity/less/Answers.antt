@@ -1,7 +1,7 @@
 use Rattle.std.proofs.Common.{◌++◌, ◌∷◌, ◌+◌, [], All, arith, sym, ap, subst, ◌∙◌}
+use Rattle.ratio_core.specs.AnsweredLaws.{passed_on}
 use Rattle.aff_core.specs.Arithmetic.{PlusFits}
 use Rattle.aff_core.specs.Function.{negated}
-use Rattle.aff_core.specs.AnsweredLaws.{passed_on}
 use Rattle.bridge_face.specs.Images.{difference}
 use Rattle.bridges_norm.proofs.Loops.{MadeBehind, fits_there, made_all, made_more, made_none}
 use Rattle.bridges_norm.proofs.norm_infinity.less.Goals as goal

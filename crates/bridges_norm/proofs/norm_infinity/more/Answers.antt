@@ -1,6 +1,6 @@
 use Rattle.std.proofs.Common.{◌++◌, ◌∷◌, ◌+◌, [], All, arith, sym, ap, subst, ◌∙◌, refl}
+use Rattle.ratio_core.specs.AnsweredLaws.{passed_on}
 use Rattle.aff_core.specs.Arithmetic.{PlusFits, sum_of}
-use Rattle.aff_core.specs.AnsweredLaws.{passed_on}
 use Rattle.bridges_norm.proofs.Loops.{MadeBehind, fits_there, made_all, made_more, made_none}
 use Rattle.bridges_norm.proofs.norm_infinity.more.Goals as goal
 

@@ -1,8 +1,8 @@
+use Rattle.ratio_core.specs.AnsweredLaws.{passed_on}
 use Rattle.item_core.specs.declared.item.Body.TheVariants.{AffineVec}
 use Rattle.set_core.specs.declared.set.Set.TheVariants.{Nonnegatives}
 use Rattle.std.proofs.Common.{◌∙◌, ◌≤◌, ◌+◌, ap, subst, sym, length}
 use Rattle.item_core.specs.Item.{functions_of}
-use Rattle.aff_core.specs.AnsweredLaws.{passed_on}
 use Rattle.bridge_face.specs.ComponentLaws.{variables}
 use Rattle.bridge_face.specs.Images.{first_in, function_of_body, rest_of}
 use Rattle.bridges_norm.specs.BothLaws.{others_of}

@@ -1,8 +1,8 @@
 use Rattle.std.proofs.Common.{◌+◌, drop, arith, sym, ap, subst, ◌∙◌}
 use Rattle.std.proofs.Math.ListN.{drop_of_length-le}
+use Rattle.ratio_core.specs.AnsweredLaws.{passed_on}
 use Rattle.aff_core.specs.Arithmetic.{PlusFits}
 use Rattle.aff_core.specs.Function.{negated}
-use Rattle.aff_core.specs.AnsweredLaws.{passed_on}
 use Rattle.bridge_face.specs.ComponentLaws.{variables}
 use Rattle.bridge_face.specs.ImageOf.{DifferencesFit}
 use Rattle.bridge_face.specs.Images.{difference}

@@ -1,8 +1,8 @@
 use Rattle.std.proofs.Common.{◌++◌, ◌∷◌, ◌+◌, [], arith, sym, ap, subst, ◌∙◌}
 use Rattle.std.specs.List.{zip}
+use Rattle.ratio_core.specs.AnsweredLaws.{passed_on}
 use Rattle.aff_core.specs.Arithmetic.{PlusFits}
 use Rattle.aff_core.specs.Function.{negated}
-use Rattle.aff_core.specs.AnsweredLaws.{passed_on}
 use Rattle.bridge_face.specs.ComponentLaws.{variables}
 use Rattle.bridge_face.specs.ImageOf.{EachSumFits, negations}
 use Rattle.bridge_face.specs.Images.{difference}

@@ -1,7 +1,7 @@
 use Rattle.std.proofs.Common.{◌++◌, ◌∷◌, ◌+◌, [], arith, sym, ap, subst, ◌∙◌, refl}
 use Rattle.std.specs.List.{zip}
+use Rattle.ratio_core.specs.AnsweredLaws.{passed_on}
 use Rattle.aff_core.specs.Arithmetic.{PlusFits, sum_of}
-use Rattle.aff_core.specs.AnsweredLaws.{passed_on}
 use Rattle.bridge_face.specs.ComponentLaws.{variables}
 use Rattle.bridge_face.specs.ImageOf.{EachSumFits}
 use Rattle.bridge_face.specs.ZippedLaws.{at_place, length-paired, within}

@@ -1,7 +1,7 @@
 use Rattle.std.proofs.Common.{◌-◌, sym, ap, subst, ◌∙◌, refl, length}
+use Rattle.ratio_core.specs.AnsweredLaws.{passed_on}
 use Rattle.aff_core.specs.Address.{child_of}
 use Rattle.set_core.specs.declared.set.Set.TheVariants.{Reals}
-use Rattle.aff_core.specs.AnsweredLaws.{passed_on}
 use Rattle.bridge_face.specs.ComponentLaws.{length-components, variables}
 use Rattle.bridge_face.specs.ImageOf.{ImageFits}
 use Rattle.bridge_face.specs.Images.{function_of_body}

@@ -1,8 +1,0 @@
-use Rattle.std.proofs.Common.{sym, ◌∙◌, true≢false}
-use Rattle.bridge_face.specs.FamilyLaws.{source_is}
-use Rattle.bridges_flip.specs.NonposVarLaws.{rule}
-use Rattle.bridges_flip.proofs.nonpos_var.NonposVarRuleRewriting.back.Goals as goal
-
-pub unreachable-requires : goal.unreachable-requires
-unreachable-requires c =
-    true≢false (sym (source_is rule c.args._kept.now.edge c.requires.own c.args._kept.now.item c.requires.suits).group ∙ c.requires.duals.no_group)

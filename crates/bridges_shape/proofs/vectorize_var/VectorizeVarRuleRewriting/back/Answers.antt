@@ -1,8 +1,0 @@
-use Rattle.bridge_face.specs.FamilyLaws.{source_is}
-use Rattle.std.proofs.Common.{sym, ◌∙◌, true≢false}
-use Rattle.bridges_shape.specs.VectorizeVarLaws.{read, rule}
-use Rattle.bridges_shape.proofs.vectorize_var.VectorizeVarRuleRewriting.back.Goals as goal
-
-pub unreachable-requires : goal.unreachable-requires
-unreachable-requires c =
-    true≢false (sym (read (source_is rule c.args._kept.now.edge c.requires.own c.args._kept.now.item c.requires.suits).group).source ∙ c.requires.duals.no_group)

@@ -1,8 +1,0 @@
-use Rattle.bridge_face.specs.FamilyLaws.{child_rows_are, image_is}
-use Rattle.bridge_face.specs.ImageOf.{vectorize_var}
-use Rattle.bridges_shape.specs.VectorizeVarLaws.{rule}
-use Rattle.bridges_shape.proofs.vectorize_var.VectorizeVarRuleRewriting.child_rows.Goals as goal
-
-pub returns : goal.returns
-returns c =
-    child_rows_are c.args._kept.now.edge c.args._kept.now.item (vectorize_var c.args._kept.now.item) (image_is rule c.args._kept.now.edge c.requires.own c.args._kept.now.item)

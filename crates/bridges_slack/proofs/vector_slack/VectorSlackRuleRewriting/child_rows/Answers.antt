@@ -1,8 +1,0 @@
-use Rattle.bridge_face.specs.ImageOf.{vector_slack}
-use Rattle.bridges_slack.specs.VectorSlackLaws.{rule}
-use Rattle.bridge_face.specs.FamilyLaws.{child_rows_are, image_is}
-use Rattle.bridges_slack.proofs.vector_slack.VectorSlackRuleRewriting.child_rows.Goals as goal
-
-pub returns : goal.returns
-returns c =
-    child_rows_are c.args._kept.now.edge c.args._kept.now.item (vector_slack c.args._kept.now.item) (image_is rule c.args._kept.now.edge c.requires.own c.args._kept.now.item)
