@@ -15,8 +15,8 @@ use Rattle.serde_json.specs.Read.{read}
 use Rattle.mof_text.specs.Rewritten.{rewritten}
 use Rattle.mof_values.specs.declared.fault.MofFault.TheVariants.{Dimension, DuplicateName, NotJson, Shape, Version}
 use Rattle.mof_values.specs.Sets.{is, set_of}
-use Rattle.mof_values.specs.Values.{a_name, a_text, an_array, an_integer, an_object, field, name_of}
-use Rattle.mof_values.specs.Walked.{Walked, ◌>>=◌, at, each, here, key, or_fault}
+use Rattle.mof_values.specs.Values.{a_name, a_text, an_integer, an_object, each_in, field, name_of}
+use Rattle.mof_values.specs.Walked.{Walked, ◌>>=◌, at, here, key, or_fault}
 use Rattle.mof_file.specs.declared.constraints.FileConstraint.{FileConstraint}
 use Rattle.mof_file.specs.declared.file.MofFile.{MofFile}
 use Rattle.mof_file.specs.declared.objectives.FileObjective.{FileObjective}
@@ -70,9 +70,7 @@ add_variable known d = do
   add_name known d
 
 unfoldable pub variables_of : Data → Walked Known
-variables_of d = do
-  items ← an_array d
-  each add_variable 0 [] items
+variables_of d = each_in add_variable [] d
 
 -- ---- the objective
 
@@ -142,9 +140,7 @@ add_constraint known cs d = do
   Ok (cs ++ c ∷ [])
 
 unfoldable pub constraints_of : Known → Data → Walked (List FileConstraint)
-constraints_of known d = do
-  items ← an_array d
-  each (add_constraint known) 0 [] items
+constraints_of known d = each_in (add_constraint known) [] d
 
 -- ---- the file
 

@@ -4,15 +4,14 @@ use Rattle.std.specs.List.{list_any}
 use Rattle.name_index.specs.Name.{is_name}
 use Rattle.named_aff.specs.declared.aff.NamedAff.{NamedAff}
 use Rattle.named_aff.specs.declared.terms.NamedTerm.{NamedTerm}
-use Rattle.named_sums.specs.Sums.{with_term}
+use Rattle.named_sums.specs.Sums.{plus_term, with_term}
 use Rattle.user_model.specs.declared.edit.NamedFunc.{NamedFunc}
 use Rattle.user_model.specs.declared.edit.NamedFunc.TheVariants as named
 use Rattle.serde_json.specs.Data.{Data}
 use Rattle.mof_values.specs.declared.fault.MofFault.TheVariants.{BadNumber, Shape, UnknownName}
-use Rattle.mof_values.specs.Sets.{is, kind_fault}
-use Rattle.mof_values.specs.Values.{a_number, a_text, an_array, an_integer, an_object, field}
-use Rattle.mof_values.specs.Walked.{Walked, ◌>>=◌, each, here, mapped, or_fault}
-use Rattle.mof_file.specs.declared.vectors.Component.{Component}
+use Rattle.mof_values.specs.Sets.{by_kind, is, kind_fault}
+use Rattle.mof_values.specs.Values.{a_number, a_text, an_integer, an_object, each_in, field}
+use Rattle.mof_values.specs.Walked.{Walked, ◌>>=◌, here, mapped, or_fault}
 
 -- the names of the file's variables
 abbrev pub Known : Type 0
@@ -49,9 +48,7 @@ add_term known terms d = do
 -- ---- functions of numbers
 
 unfoldable pub terms_of : Known → Data → Walked (List NamedTerm)
-terms_of known d = do
-  items ← an_array d
-  each (add_term known) 0 [] items
+terms_of known d = each_in (add_term known) [] d
 
 unfoldable pub affine_of : Known → Data → Walked NamedAff
 affine_of known d = do
@@ -67,68 +64,50 @@ add_variable known names d = do
   Ok (names ++ name ∷ [])
 
 unfoldable pub variables_of : Known → Data → Walked (List (List ℕ))
-variables_of known d = do
-  items ← an_array d
-  each (add_variable known) 0 [] items
+variables_of known d = each_in (add_variable known) [] d
 
-unfoldable pub add_component : List Component → Data → Walked (List Component)
+unfoldable pub add_component : List NamedAff → Data → Walked (List NamedAff)
 add_component fs d = do
   constant ← a_number d
   Ok (fs ++ record { terms = []; constant = constant } ∷ [])
 
-unfoldable pub constants_of : Data → Walked (List Component)
-constants_of d = do
-  items ← an_array d
-  each add_component 0 [] items
-
--- a component with one term more
-abbrev pub with_term_in : NamedTerm → Component → Option Component
-with_term_in term f = option_map (λ terms. record f { terms = terms }) (with_term f.terms term)
+unfoldable pub constants_of : Data → Walked (List NamedAff)
+constants_of d = each_in add_component [] d
 
 -- the components with one term more in that at this place
-abbrev pub with_term_at : List Component → ℕ → NamedTerm → Option (List Component)
+abbrev pub with_term_at : List NamedAff → ℕ → NamedTerm → Option (List NamedAff)
 with_term_at fs n term =
-    option_and_then (λ f. option_map (λ sum. slice_set fs n sum) (with_term_in term f))
+    option_and_then (λ f. option_map (λ sum. slice_set fs n sum) (plus_term f term))
     (slice_get fs n)
 
 -- the place of the output, which are counted from 1
-unfoldable pub output_of : List Component → Data → Walked ℕ
+unfoldable pub output_of : List NamedAff → Data → Walked ℕ
 output_of fs d = do
   output ← an_integer d
   if nat_lt 0 output && nat_le output (length fs) then Ok (output - 1) else Err (Shape here)
 
-unfoldable pub add_scalar_term : Known → List Component → ℕ → Data → Walked (List Component)
+unfoldable pub add_scalar_term : Known → List NamedAff → ℕ → Data → Walked (List NamedAff)
 add_scalar_term known fs n d = do
   term ← field (term_of known) "scalar_term" d
   or_fault (BadNumber here) (with_term_at fs n term)
 
-unfoldable pub add_to_output : Known → List Component → Data → Walked (List Component)
+unfoldable pub add_to_output : Known → List NamedAff → Data → Walked (List NamedAff)
 add_to_output known fs d = do
   n ← field (output_of fs) "output_index" d
   add_scalar_term known fs n d
 
-unfoldable pub add_vector_term : Known → List Component → Data → Walked (List Component)
+unfoldable pub add_vector_term : Known → List NamedAff → Data → Walked (List NamedAff)
 add_vector_term known fs d = do
   _ ← an_object d
   add_to_output known fs d
 
-unfoldable pub vector_terms_of : Known → List Component → Data → Walked (List Component)
-vector_terms_of known fs d = do
-  items ← an_array d
-  each (add_vector_term known) 0 fs items
-
-abbrev pub function_of : Component → NamedAff
-function_of f = record { terms = f.terms; constant = f.constant }
-
-unfoldable pub components_of : Known → Data → Walked (List Component)
-components_of known d = do
-  constants ← field constants_of "constants" d
-  field (vector_terms_of known constants) "terms" d
+unfoldable pub vector_terms_of : Known → List NamedAff → Data → Walked (List NamedAff)
+vector_terms_of known fs d = each_in (add_vector_term known) fs d
 
 unfoldable pub vector_affine_of : Known → Data → Walked (List NamedAff)
 vector_affine_of known d = do
-  fs ← components_of known d
-  Ok (map function_of fs)
+  constants ← field constants_of "constants" d
+  field (vector_terms_of known constants) "terms" d
 
 -- ---- functions by their types
 
@@ -150,14 +129,8 @@ typed_function_of known type d =
 
 -- a function of numbers
 unfoldable pub objective_function_of : Known → Data → Walked NamedFunc
-objective_function_of known d = do
-  _ ← an_object d
-  type ← field a_text "type" d
-  scalar_function_of known type d
+objective_function_of known d = by_kind (scalar_function_of known) d
 
 -- a function of any type
 unfoldable pub function_of_any : Known → Data → Walked NamedFunc
-function_of_any known d = do
-  _ ← an_object d
-  type ← field a_text "type" d
-  typed_function_of known type d
+function_of_any known d = by_kind (typed_function_of known) d

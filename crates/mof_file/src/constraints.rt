@@ -1,13 +1,14 @@
 //! The constraints of a file.
 ghost use Rattle.std.specs.Prelude.{◌≡◌, ◌==◌, ◌&&◌, not, [], None, codes};
 ghost use Rattle.set_core.specs.Shapes.{dimension_of, is_scalar};
-ghost use Rattle.serde_json.specs.View.{items_view, view};
-ghost use Rattle.mof_file.specs.File.{add_constraint, constraint_of, constraints_of, function_in_set_of, is_unequal, named_constraint_of, optional, row_name_of, set_for};
+ghost use Rattle.serde_json.specs.View.{view};
+ghost use Rattle.mof_file.specs.File.{constraint_of, constraints_of, function_in_set_of, is_unequal, named_constraint_of, optional, row_name_of, set_for};
 ghost use Rattle.mof_file.specs.Functions.{function_of_any};
 ghost use Rattle.mof_values.specs.Values.{walk_at};
-ghost use Rattle.mof_values.specs.Walked.{Meets, each};
+ghost use Rattle.mof_values.specs.Walked.{Meets};
 
 use crate::functions::function;
+use crate::items::{AddItem, add_each};
 use indexmap::IndexSet;
 use mof_values::{
     MofFault, array, at_key, field, given_name, here, read_set, require_object, text,
@@ -52,41 +53,33 @@ fn constraint_list(
         (constraints_of known.now.keys (view value.now)) }
 {
     let items = array(alloc, value)?;
-    listed(alloc, known, items)
-}
-
-#[tactic(auto, using(mof_values::specs::WalkLaws::each_steps))]
-fn listed(
-    alloc: Global,
-    known: &IndexSet<Name>,
-    items: &[Value],
-) -> Result<Vec<FileConstraint>, MofFault>
-    ensures { Meets (λ constraints. constraints.items) result
-        (each (add_constraint known.now.keys) 0 [] (items_view items.now)) }
-{
     let mut constraints = Vec::with_capacity(alloc, items.len())?;
-    for (place, item) in items.iter().enumerate() {
-        match add_constraint(alloc, known, &mut constraints, item) {
-            Ok(()) => (),
-            Err(fault) => return Err(fault.under_index(alloc, place)),
-        }
-    }
+    add_each(alloc, known, &mut constraints, items)?;
     Ok(constraints)
 }
 
-#[tactic(auto, unfolding(crate::specs::File::add_constraint))]
-fn add_constraint(
-    alloc: Global,
-    known: &IndexSet<Name>,
-    constraints: &mut Vec<FileConstraint>,
-    item: &Value,
-) -> Result<(), MofFault>
-    ensures { Meets (λ _. constraints.new.items) result
-        (add_constraint known.now.keys constraints.old.items (view item.now)) }
-{
-    let constraint = constraint(alloc, known, item)?;
-    constraints.push(constraint)?;
-    Ok(())
+impl AddItem<IndexSet<Name>> for Vec<FileConstraint> {
+    ghost use Rattle.std.specs.Prelude.{List};
+    ghost use Rattle.mof_file.specs.declared.constraints.FileConstraint.{FileConstraint};
+    ghost use Rattle.mof_file.specs.File.{add_constraint};
+
+    ghost Seen = { List FileConstraint };
+
+    ghost seen = { λ constraints. constraints.items };
+
+    ghost with_item = { λ known. add_constraint known.keys };
+
+    #[tactic(auto, unfolding(crate::specs::File::add_constraint))]
+    fn add_item(
+        &mut self,
+        alloc: Global,
+        known: &IndexSet<Name>,
+        item: &Value,
+    ) -> Result<(), MofFault> {
+        let constraint = constraint(alloc, known, item)?;
+        self.push(constraint)?;
+        Ok(())
+    }
 }
 
 #[tactic(auto, unfolding(crate::specs::File::constraint_of))]

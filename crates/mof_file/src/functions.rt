@@ -1,16 +1,16 @@
 //! Functions by their types.
-ghost use Rattle.std.specs.Prelude.{[]};
-ghost use Rattle.serde_json.specs.View.{items_view, view};
+ghost use Rattle.serde_json.specs.View.{view};
 ghost use Rattle.user_model.specs.declared.edit.NamedFunc.TheVariants as named;
-ghost use Rattle.mof_file.specs.Functions.{add_variable, affine_of, function_of_any, objective_function_of, scalar_function_of, typed_function_of, variable_of, variables_of, vector_affine_of};
+ghost use Rattle.mof_file.specs.Functions.{affine_of, function_of_any, objective_function_of, scalar_function_of, typed_function_of, variable_of, variables_of, vector_affine_of};
 ghost use Rattle.mof_values.specs.Values.{field, walk_at};
-ghost use Rattle.mof_values.specs.Walked.{Meets, each, mapped};
+ghost use Rattle.mof_values.specs.Walked.{Meets, mapped};
 
+use crate::items::{AddItem, add_each};
 use crate::scalar::affine;
 use crate::terms::{variable, variable_field};
 use crate::vectors::vector_affine;
 use indexmap::IndexSet;
-use mof_values::{MofFault, array, at_key, field, is, require_object, text_field, unknown_kind};
+use mof_values::{MofFault, array, at_key, field, is, kind, unknown_kind};
 use name_index::{Name, Names};
 use serde_json::Value;
 use std::alloc::Global;
@@ -25,8 +25,7 @@ pub(crate) fn function(
 ) -> Result<NamedFunc, MofFault>
     ensures { Meets (λ func. func) result (function_of_any known.now.keys (view value.now)) }
 {
-    require_object(alloc, value)?;
-    let kind = text_field(alloc, "type", value)?;
+    let kind = kind(alloc, value)?;
     typed_function(alloc, known, kind, value)
 }
 
@@ -39,8 +38,7 @@ pub(crate) fn objective_function(
 ) -> Result<NamedFunc, MofFault>
     ensures { Meets (λ func. func) result (objective_function_of known.now.keys (view value.now)) }
 {
-    require_object(alloc, value)?;
-    let kind = text_field(alloc, "type", value)?;
+    let kind = kind(alloc, value)?;
     scalar_function(alloc, known, kind, value)
 }
 
@@ -137,37 +135,32 @@ fn variable_list(alloc: Global, known: &IndexSet<Name>, value: &Value) -> Result
     ensures { Meets (λ names. names) result (variables_of known.now.keys (view value.now)) }
 {
     let items = array(alloc, value)?;
-    names(alloc, known, items)
-}
-
-#[tactic(auto, using(mof_values::specs::WalkLaws::each_steps))]
-fn names(alloc: Global, known: &IndexSet<Name>, items: &[Value]) -> Result<Names, MofFault>
-    ensures { Meets (λ names. names) result
-        (each (add_variable known.now.keys) 0 [] (items_view items.now)) }
-{
     let mut names = Names::new(alloc);
-    for (place, item) in items.iter().enumerate() {
-        match add_variable(alloc, known, &mut names, item) {
-            Ok(()) => (),
-            Err(fault) => return Err(fault.under_index(alloc, place)),
-        }
-    }
+    add_each(alloc, known, &mut names, items)?;
     Ok(names)
 }
 
-#[tactic(auto, unfolding(crate::specs::Functions::add_variable))]
-fn add_variable(
-    alloc: Global,
-    known: &IndexSet<Name>,
-    names: &mut Names,
-    item: &Value,
-) -> Result<(), MofFault>
-    ensures { Meets (λ _. names.new) result
-        (add_variable known.now.keys names.old (view item.now)) }
-{
-    let name = variable(alloc, known, item)?;
-    match names.push(name) {
-        Ok(()) => Ok(()),
-        Err(_) => Err(MofFault::Memory),
+impl AddItem<IndexSet<Name>> for Names {
+    ghost use Rattle.std.specs.Prelude.{ℕ, List};
+    ghost use Rattle.mof_file.specs.Functions.{add_variable};
+
+    ghost Seen = { List (List ℕ) };
+
+    ghost seen = { λ names. names };
+
+    ghost with_item = { λ known. add_variable known.keys };
+
+    #[tactic(auto, unfolding(crate::specs::Functions::add_variable))]
+    fn add_item(
+        &mut self,
+        alloc: Global,
+        known: &IndexSet<Name>,
+        item: &Value,
+    ) -> Result<(), MofFault> {
+        let name = variable(alloc, known, item)?;
+        match self.push(name) {
+            Ok(()) => Ok(()),
+            Err(_) => Err(MofFault::Memory),
+        }
     }
 }

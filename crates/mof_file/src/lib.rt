@@ -5,6 +5,7 @@
 mod constraints;
 mod file;
 mod functions;
+mod items;
 mod objectives;
 mod scalar;
 mod terms;

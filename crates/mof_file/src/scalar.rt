@@ -1,10 +1,10 @@
 //! Affine functions of numbers.
-ghost use Rattle.std.specs.Prelude.{[]};
-ghost use Rattle.serde_json.specs.View.{items_view, view};
-ghost use Rattle.mof_file.specs.Functions.{add_term, affine_of, terms_of};
+ghost use Rattle.serde_json.specs.View.{view};
+ghost use Rattle.mof_file.specs.Functions.{affine_of, terms_of};
 ghost use Rattle.mof_values.specs.Values.{walk_at};
-ghost use Rattle.mof_values.specs.Walked.{Meets, each};
+ghost use Rattle.mof_values.specs.Walked.{Meets};
 
+use crate::items::{AddItem, add_each};
 use crate::terms::term;
 use indexmap::IndexSet;
 use mof_values::{MofFault, array, at_key, field, here, number_field};
@@ -47,40 +47,35 @@ fn term_list(alloc: Global, known: &IndexSet<Name>, value: &Value) -> Result<Nam
     ensures { Meets (λ terms. terms) result (terms_of known.now.keys (view value.now)) }
 {
     let items = array(alloc, value)?;
-    let sum = sum_of_terms(alloc, known, items)?;
+    let mut sum = TermSum::with_capacity(alloc, items.len())?;
+    add_each(alloc, known, &mut sum, items)?;
     let terms = sum.into_terms(alloc)?;
     Ok(terms)
 }
 
-#[tactic(auto, using(mof_values::specs::WalkLaws::each_steps))]
-fn sum_of_terms(alloc: Global, known: &IndexSet<Name>, items: &[Value]) -> Result<TermSum, MofFault>
-    ensures { Meets (λ sum. sum) result
-        (each (add_term known.now.keys) 0 [] (items_view items.now)) }
-{
-    let mut sum = TermSum::with_capacity(alloc, items.len())?;
-    for (place, item) in items.iter().enumerate() {
-        match add_term(alloc, known, &mut sum, item) {
-            Ok(()) => (),
-            Err(fault) => return Err(fault.under_index(alloc, place)),
-        }
-    }
-    Ok(sum)
-}
+impl AddItem<IndexSet<Name>> for TermSum {
+    ghost use Rattle.std.specs.Prelude.{List};
+    ghost use Rattle.named_aff.specs.declared.terms.NamedTerm.{NamedTerm};
+    ghost use Rattle.mof_file.specs.Functions.{add_term};
 
-// Adds a term of the file.
-#[tactic(auto, unfolding(crate::specs::Functions::add_term))]
-fn add_term(
-    alloc: Global,
-    known: &IndexSet<Name>,
-    sum: &mut TermSum,
-    item: &Value,
-) -> Result<(), MofFault>
-    ensures { Meets (λ _. sum.new) result (add_term known.now.keys sum.old (view item.now)) }
-{
-    let term = term(alloc, known, item)?;
-    if sum.add(term)? {
-        Ok(())
-    } else {
-        Err(MofFault::BadNumber { place: here(alloc) })
+    ghost Seen = { List NamedTerm };
+
+    ghost seen = { λ sum. sum };
+
+    ghost with_item = { λ known. add_term known.keys };
+
+    #[tactic(auto, unfolding(crate::specs::Functions::add_term))]
+    fn add_item(
+        &mut self,
+        alloc: Global,
+        known: &IndexSet<Name>,
+        item: &Value,
+    ) -> Result<(), MofFault> {
+        let term = term(alloc, known, item)?;
+        if self.add(term)? {
+            Ok(())
+        } else {
+            Err(MofFault::BadNumber { place: here(alloc) })
+        }
     }
 }

@@ -1,10 +1,10 @@
 //! The variables of a file.
-ghost use Rattle.std.specs.Prelude.{[]};
-ghost use Rattle.serde_json.specs.View.{items_view, view};
-ghost use Rattle.mof_file.specs.File.{add_name, add_variable, variables_of, with_name};
+ghost use Rattle.serde_json.specs.View.{view};
+ghost use Rattle.mof_file.specs.File.{add_name, variables_of, with_name};
 ghost use Rattle.mof_values.specs.Values.{a_name, walk_at};
-ghost use Rattle.mof_values.specs.Walked.{Meets, each};
+ghost use Rattle.mof_values.specs.Walked.{Meets};
 
+use crate::items::{AddItem, add_each};
 use indexmap::IndexSet;
 use mof_values::{MofFault, array, at_key, field, here, name, require_object};
 use name_index::Name;
@@ -29,29 +29,26 @@ fn variable_list(alloc: Global, value: &Value) -> Result<IndexSet<Name>, MofFaul
     ensures { Meets (λ names. names.keys) result (variables_of (view value.now)) }
 {
     let items = array(alloc, value)?;
-    names(alloc, items)
-}
-
-#[tactic(auto, using(mof_values::specs::WalkLaws::each_steps))]
-fn names(alloc: Global, items: &[Value]) -> Result<IndexSet<Name>, MofFault>
-    ensures { Meets (λ names. names.keys) result (each add_variable 0 [] (items_view items.now)) }
-{
     let mut names = IndexSet::new(alloc);
-    for (place, item) in items.iter().enumerate() {
-        match add_variable(alloc, &mut names, item) {
-            Ok(()) => (),
-            Err(fault) => return Err(fault.under_index(alloc, place)),
-        }
-    }
+    add_each(alloc, &(), &mut names, items)?;
     Ok(names)
 }
 
-#[tactic(auto, unfolding(crate::specs::File::add_variable))]
-fn add_variable(alloc: Global, names: &mut IndexSet<Name>, item: &Value) -> Result<(), MofFault>
-    ensures { Meets (λ _. names.new.keys) result (add_variable names.old.keys (view item.now)) }
-{
-    require_object(alloc, item)?;
-    add_name(alloc, names, item)
+impl AddItem<()> for IndexSet<Name> {
+    ghost use Rattle.mof_file.specs.File.{add_variable};
+    ghost use Rattle.mof_file.specs.Functions.{Known};
+
+    ghost Seen = { Known };
+
+    ghost seen = { λ names. names.keys };
+
+    ghost with_item = { λ _. add_variable };
+
+    #[tactic(auto, unfolding(crate::specs::File::add_variable))]
+    fn add_item(&mut self, alloc: Global, _known: &(), item: &Value) -> Result<(), MofFault> {
+        require_object(alloc, item)?;
+        add_name(alloc, self, item)
+    }
 }
 
 #[tactic(auto, unfolding(crate::specs::File::add_name))]

@@ -1,30 +1,22 @@
 //! Affine functions of vectors.
-ghost use Rattle.std.specs.Prelude.{◌≡◌, ◌<◌, Some, None, IfOk, [], ◌∷◌, ◌++◌, if◌then◌else◌, length, map};
-ghost use Rattle.serde_json.specs.View.{items_view, view};
-ghost use Rattle.mof_file.specs.Functions.{add_component, add_scalar_term, add_to_output, add_vector_term, components_of, constants_of, function_of, output_of, term_of, vector_affine_of, vector_terms_of, with_term_at, with_term_in};
+ghost use Rattle.std.specs.Prelude.{◌≡◌, Some, None, IfOk, if◌then◌else◌};
+ghost use Rattle.serde_json.specs.View.{view};
+ghost use Rattle.mof_file.specs.Functions.{add_scalar_term, add_to_output, constants_of, output_of, term_of, vector_affine_of, vector_terms_of, with_term_at};
 ghost use Rattle.mof_values.specs.Values.{field, walk_at};
-ghost use Rattle.mof_values.specs.Walked.{Meets, each};
+ghost use Rattle.mof_values.specs.Walked.{Meets};
 
+use crate::items::{AddItem, add_each};
 use crate::terms::term;
 use indexmap::IndexSet;
 use lists::Memory;
 use mof_values::{MofFault, array, at_key, field, here, integer, number, require_object};
 use name_index::Name;
-use named_aff::{NamedAff, NamedTerm, NamedVec};
-use named_sums::TermSum;
-use ratio_core::Ratio;
+use named_aff::{NamedTerm, NamedVec};
+use named_sums::AffSum;
 use serde_json::Value;
 use std::alloc::Global;
 
-/// A component in the making: its terms so far, and its constant.
-#[derive(Drop)]
-pub(crate) struct Component {
-    terms: TermSum,
-    constant: Ratio,
-}
-
 /// The function that a value says.
-#[tactic(auto, unfolding(crate::specs::Functions::vector_affine_of))]
 pub(crate) fn vector_affine(
     alloc: Global,
     known: &IndexSet<Name>,
@@ -37,21 +29,17 @@ pub(crate) fn vector_affine(
     Ok(functions)
 }
 
-#[tactic(auto, unfolding(crate::specs::Functions::components_of))]
-fn components(
-    alloc: Global,
-    known: &IndexSet<Name>,
-    value: &Value,
-) -> Result<Vec<Component>, MofFault>
+#[tactic(auto, unfolding(crate::specs::Functions::vector_affine_of))]
+fn components(alloc: Global, known: &IndexSet<Name>, value: &Value) -> Result<Vec<AffSum>, MofFault>
     ensures { Meets (λ components. components.items) result
-        (components_of known.now.keys (view value.now)) }
+        (vector_affine_of known.now.keys (view value.now)) }
 {
     let constants = constants_field(alloc, "constants", value)?;
     vector_terms_field(alloc, known, constants, "terms", value)
 }
 
 #[tactic(auto, using(mof_values::specs::WalkLaws::walk_at_steps))]
-fn constants_field(alloc: Global, name: &str, value: &Value) -> Result<Vec<Component>, MofFault>
+fn constants_field(alloc: Global, name: &str, value: &Value) -> Result<Vec<AffSum>, MofFault>
     ensures { Meets (λ constants. constants.items) result
         (walk_at constants_of name.now (view value.now)) }
 {
@@ -60,54 +48,43 @@ fn constants_field(alloc: Global, name: &str, value: &Value) -> Result<Vec<Compo
 }
 
 #[tactic(auto, unfolding(crate::specs::Functions::constants_of))]
-fn constants(alloc: Global, value: &Value) -> Result<Vec<Component>, MofFault>
+fn constants(alloc: Global, value: &Value) -> Result<Vec<AffSum>, MofFault>
     ensures { Meets (λ constants. constants.items) result (constants_of (view value.now)) }
 {
     let items = array(alloc, value)?;
-    constant_components(alloc, items)
-}
-
-// A component a constant.
-#[tactic(auto, using(mof_values::specs::WalkLaws::each_steps))]
-fn constant_components(alloc: Global, items: &[Value]) -> Result<Vec<Component>, MofFault>
-    ensures { Meets (λ components. components.items) result
-        (each add_component 0 [] (items_view items.now)) }
-{
     let mut components = Vec::new(alloc);
-    for (place, item) in items.iter().enumerate() {
-        match add_component(alloc, &mut components, item) {
-            Ok(()) => (),
-            Err(fault) => return Err(fault.under_index(alloc, place)),
-        }
-    }
+    add_each(alloc, &(), &mut components, items)?;
     Ok(components)
 }
 
-#[tactic(auto, unfolding(crate::specs::Functions::add_component))]
-fn add_component(
-    alloc: Global,
-    components: &mut Vec<Component>,
-    item: &Value,
-) -> Result<(), MofFault>
-    ensures { Meets (λ _. components.new.items) result
-        (add_component components.old.items (view item.now)) }
-{
-    let constant = number(alloc, item)?;
-    components.push(Component {
-        terms: TermSum::new(alloc),
-        constant,
-    })?;
-    Ok(())
+// An item is the constant of one component more.
+impl AddItem<()> for Vec<AffSum> {
+    ghost use Rattle.std.specs.Prelude.{List};
+    ghost use Rattle.named_aff.specs.declared.aff.NamedAff.{NamedAff};
+    ghost use Rattle.mof_file.specs.Functions.{add_component};
+
+    ghost Seen = { List NamedAff };
+
+    ghost seen = { λ components. components.items };
+
+    ghost with_item = { λ _. add_component };
+
+    #[tactic(auto, unfolding(crate::specs::Functions::add_component))]
+    fn add_item(&mut self, alloc: Global, _known: &(), item: &Value) -> Result<(), MofFault> {
+        let constant = number(alloc, item)?;
+        self.push(AffSum::of_constant(alloc, constant))?;
+        Ok(())
+    }
 }
 
 #[tactic(auto, using(mof_values::specs::WalkLaws::walk_at_steps))]
 fn vector_terms_field(
     alloc: Global,
     known: &IndexSet<Name>,
-    components: Vec<Component>,
+    components: Vec<AffSum>,
     name: &str,
     value: &Value,
-) -> Result<Vec<Component>, MofFault>
+) -> Result<Vec<AffSum>, MofFault>
     ensures { Meets (λ components. components.items) result
         (walk_at (vector_terms_of known.now.keys components.items) name.now (view value.now)) }
 {
@@ -119,56 +96,47 @@ fn vector_terms_field(
 fn vector_terms(
     alloc: Global,
     known: &IndexSet<Name>,
-    components: Vec<Component>,
+    components: Vec<AffSum>,
     value: &Value,
-) -> Result<Vec<Component>, MofFault>
+) -> Result<Vec<AffSum>, MofFault>
     ensures { Meets (λ components. components.items) result
         (vector_terms_of known.now.keys components.items (view value.now)) }
 {
     let items = array(alloc, value)?;
-    summed_components(alloc, known, components, items)
-}
-
-#[tactic(auto, using(mof_values::specs::WalkLaws::each_steps))]
-fn summed_components(
-    alloc: Global,
-    known: &IndexSet<Name>,
-    components: Vec<Component>,
-    items: &[Value],
-) -> Result<Vec<Component>, MofFault>
-    ensures { Meets (λ components. components.items) result
-        (each (add_vector_term known.now.keys) 0 components.items (items_view items.now)) }
-{
     let mut components = components;
-    for (place, item) in items.iter().enumerate() {
-        match add_vector_term(alloc, known, &mut components, item) {
-            Ok(()) => (),
-            Err(fault) => return Err(fault.under_index(alloc, place)),
-        }
-    }
+    add_each(alloc, known, &mut components, items)?;
     Ok(components)
 }
 
-// Adds a term of the file to its component.
-#[tactic(auto, unfolding(crate::specs::Functions::add_vector_term))]
-fn add_vector_term(
-    alloc: Global,
-    known: &IndexSet<Name>,
-    components: &mut Vec<Component>,
-    item: &Value,
-) -> Result<(), MofFault>
-    ensures { Meets (λ _. components.new.items) result
-        (add_vector_term known.now.keys components.old.items (view item.now)) }
-{
-    require_object(alloc, item)?;
-    add_to_output(alloc, known, components, item)
+// An item is a term more of one of the components.
+impl AddItem<IndexSet<Name>> for Vec<AffSum> {
+    ghost use Rattle.std.specs.Prelude.{List};
+    ghost use Rattle.named_aff.specs.declared.aff.NamedAff.{NamedAff};
+    ghost use Rattle.mof_file.specs.Functions.{add_vector_term};
+
+    ghost Seen = { List NamedAff };
+
+    ghost seen = { λ components. components.items };
+
+    ghost with_item = { λ known. add_vector_term known.keys };
+
+    #[tactic(auto, unfolding(crate::specs::Functions::add_vector_term))]
+    fn add_item(
+        &mut self,
+        alloc: Global,
+        known: &IndexSet<Name>,
+        item: &Value,
+    ) -> Result<(), MofFault> {
+        require_object(alloc, item)?;
+        add_to_output(alloc, known, self, item)
+    }
 }
 
 #[tactic(auto, unfolding(crate::specs::Functions::add_to_output))]
 fn add_to_output(
     alloc: Global,
     known: &IndexSet<Name>,
-    components: &mut Vec<Component>,
+    components: &mut Vec<AffSum>,
     item: &Value,
 ) -> Result<(), MofFault>
     ensures { Meets (λ _. components.new.items) result
@@ -183,7 +151,7 @@ fn add_to_output(
 fn add_scalar_term(
     alloc: Global,
     known: &IndexSet<Name>,
-    components: &mut Vec<Component>,
+    components: &mut Vec<AffSum>,
     output: usize,
     item: &Value,
 ) -> Result<(), MofFault>
@@ -198,11 +166,7 @@ fn add_scalar_term(
     }
 }
 
-fn output_index(
-    alloc: Global,
-    components: &Vec<Component>,
-    value: &Value,
-) -> Result<usize, MofFault>
+fn output_index(alloc: Global, components: &Vec<AffSum>, value: &Value) -> Result<usize, MofFault>
     ensures { Meets (λ output. output) result
         (field (output_of components.now.items) "output_index" (view value.now)) }
 {
@@ -212,7 +176,7 @@ fn output_index(
 #[tactic(auto, using(mof_values::specs::WalkLaws::walk_at_steps))]
 fn output_field(
     alloc: Global,
-    components: &Vec<Component>,
+    components: &Vec<AffSum>,
     name: &str,
     value: &Value,
 ) -> Result<usize, MofFault>
@@ -225,7 +189,7 @@ fn output_field(
 
 // The place of an output, which are counted from 1.
 #[tactic(auto, unfolding(crate::specs::Functions::output_of))]
-fn output(alloc: Global, components: &Vec<Component>, value: &Value) -> Result<usize, MofFault>
+fn output(alloc: Global, components: &Vec<AffSum>, value: &Value) -> Result<usize, MofFault>
     ensures { Meets (λ output. output) result (output_of components.now.items (view value.now)) }
 {
     let output = integer(alloc, value)? as usize;
@@ -259,7 +223,7 @@ fn term_field(
 
 // Adds a term to the component at a place, and says whether there is one and the sum fits.
 fn add_to_component(
-    components: &mut Vec<Component>,
+    components: &mut Vec<AffSum>,
     output: usize,
     term: NamedTerm,
 ) -> Result<bool, Memory>
@@ -269,31 +233,15 @@ fn add_to_component(
     if output >= components.len() {
         return Ok(false);
     }
-    components[output].add(term)
+    components[output].add_term(term)
 }
 
-impl Component {
-    ghost use Rattle.std.specs.Prelude.{◌≡◌, Some, None, IfOk, if◌then◌else◌};
-    ghost use Rattle.mof_file.specs.Functions.{with_term_in};
-
-    fn add(&mut self, term: NamedTerm) -> Result<bool, Memory>
-        ensures { IfOk result (λ fits. with_term_in term self.old
-            ≡ (if fits then Some self.new else None)) }
-    {
-        self.terms.add(term)
-    }
-}
-
-fn functions(alloc: Global, components: Vec<Component>) -> Result<NamedVec, Memory>
-    ensures { IfOk result (λ functions. functions ≡ map function_of components.items) }
+fn functions(alloc: Global, components: Vec<AffSum>) -> Result<NamedVec, Memory>
+    ensures { IfOk result (λ functions. functions ≡ components.items) }
 {
-    let mut functions = Vec::new(alloc);
+    let mut functions = Vec::with_capacity(alloc, components.len())?;
     for component in components {
-        let terms = component.terms.into_terms(alloc)?;
-        functions.push(NamedAff {
-            terms,
-            constant: component.constant,
-        })?;
+        functions.push(component.into_function(alloc)?)?;
     }
     Ok(NamedVec::from_vec(functions))
 }

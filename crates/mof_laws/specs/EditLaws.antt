@@ -25,7 +25,8 @@ use Rattle.mof_read.specs.Groups.{Owners, becomes_group, group_at, in_order, lef
 use Rattle.mof_read.specs.Names.{with_own_names}
 use Rattle.mof_write.specs.Written.{Naming, naming}
 use Rattle.mof_laws.specs.FunctionLaws.{ApartBy}
-use Rattle.mof_laws.specs.OwnerLaws.{AllOwned, IsNew, Other, all_free, found, later_new, new_names, owned, pairs, parted, vars_in, with_owners_is}
+use Rattle.model_laws.specs.Variables.{vars_in}
+use Rattle.mof_laws.specs.OwnerLaws.{AllOwned, IsNew, Other, all_free, found, later_new, new_names, owned, pairs, parted, with_owners_is}
 use Rattle.mof_laws.specs.WalkLaws.{get_behind}
 use Rattle.mof_laws.specs.ReadBack.{group_constraint, group_function, named_function, row_constraint, said_objective, var_names}
 

@@ -39,14 +39,7 @@ function_from : (known : Known) (d : Data) (type : List ℕ) (r : NamedFunc)
     → typed_function_of known type d ≡ Ok r → function_of_any known d ≡ Ok r
 unfolding function_of_any
 function_from known d type r object typed is =
-    by_type (typed_function_of known) d type object typed ∙ is
-
-scalar_from : (known : Known) (d : Data) (type : List ℕ) (r : NamedFunc)
-    → is_some (as_object d) ≡ true → get (codes "type") d ≡ Some (string type)
-    → scalar_function_of known type d ≡ Ok r → objective_function_of known d ≡ Ok r
-unfolding objective_function_of
-scalar_from known d type r object typed is =
-    by_type (scalar_function_of known) d type object typed ∙ is
+    by_type (typed_function_of known) d type r object typed is
 
 named_back : (known : Known) (n : List ℕ) → is_known known n ≡ true
     → variable_of known (string n) ≡ Ok n
@@ -141,16 +134,17 @@ module _ (name : Naming) (known : Known) where
   sense_back Min = refl
   sense_back Max = refl
 
-  sought_back : (sense : Sense) (func : Data) (r : NamedFunc)
-      → objective_function_of known func ≡ Ok r
+  sought_back : (sense : Sense) (func : Data) (type : List ℕ) (r : NamedFunc)
+      → is_some (as_object func) ≡ true → get (codes "type") func ≡ Some (string type)
+      → scalar_function_of known type func ≡ Ok r
       → objective_of known (sought_data func sense) ≡ Ok (file.Optimize sense r)
-  unfolding sensed_of
-  sought_back sense func r is =
+  unfolding sensed_of objective_function_of
+  sought_back sense func type r object typed is =
       objective_from (sought_data func sense) (sense_data sense) (Some sense) refl refl
       (sense_back sense)
       ∙ ap (λ w. w >>= (λ f. Ok (file.Optimize sense f)))
       (field_back (objective_function_of known) (codes "function") (sought_data func sense) func r
-      refl is)
+      refl (by_type (scalar_function_of known) func type r object typed is))
 
   pub objective_back : (o : Objective) → IsReadableObjective o
       → objective_of known (objective_data name o) ≡ Ok (said_objective name o)
@@ -159,14 +153,12 @@ module _ (name : Naming) (known : Known) where
       objective_from (objective_data name objective.Feasibility) (word "feasibility") None refl refl
       refl
   objective_back (objective.Plain sense var) h =
-      sought_back sense (variable_data (name var)) (named.Plain (name var))
-      (scalar_from known (variable_data (name var)) (codes "Variable")
-      (named.Plain (name var)) refl refl (plain_back known (name var) h))
+      sought_back sense (variable_data (name var)) (codes "Variable") (named.Plain (name var)) refl
+      refl (plain_back known (name var) h)
   objective_back (objective.Affine sense f) h =
-      sought_back sense (affine_data name f) (named.Affine (named_affine name f))
-      (scalar_from known (affine_data name f) (codes "ScalarAffineFunction")
+      sought_back sense (affine_data name f) (codes "ScalarAffineFunction")
       (named.Affine (named_affine name f)) refl refl
-      (ap (mapped named.Affine) (affine_back name known f h)))
+      (ap (mapped named.Affine) (affine_back name known f h))
 
 -- ---- sets and constraints
 

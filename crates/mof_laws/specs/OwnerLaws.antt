@@ -11,6 +11,7 @@ use Rattle.map_laws.specs.EachLaws.{all_first, all_second}
 use Rattle.indexmap.specs.IndexMap.{insert_entry}
 use Rattle.user_model.specs.declared.group.Group.{Group}
 use Rattle.user_model.specs.declared.group.GroupVar.{GroupVar}
+use Rattle.model_laws.specs.Variables.{vars_in}
 use Rattle.mof_read.specs.Groups.{Owners, are_new, is_free, with_owners}
 use Rattle.mof_laws.specs.FunctionLaws.{ApartBy}
 use Rattle.mof_laws.specs.ReadBack.{var_names}
@@ -139,9 +140,6 @@ all_free es (v ∷ vs) new =
     (all_free es vs (All-tail (IsNew es) v vs new))
 
 -- ---- the owners of all groups
-
-abbrev pub vars_in : List Group → List GroupVar
-vars_in gs = flat_map (λ g. g.vars) gs
 
 -- from the k-th on
 abbrev pub owned : ℕ → List Group → Owners

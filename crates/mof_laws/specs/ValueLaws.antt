@@ -52,7 +52,7 @@ count_back n h =
 set_from : (d : Data) (type : List ℕ) (set : Set) → is_some (as_object d) ≡ true
     → get (codes "type") d ≡ Some (string type) → typed_set_of type d ≡ Ok set → set_of d ≡ Ok set
 unfolding set_of
-set_from d type set object typed is = by_type typed_set_of d type object typed ∙ is
+set_from d type set object typed is = by_type typed_set_of d type set object typed is
 
 module _ (d : Data) (n : ℕ) (found : get (codes "dimension") d ≡ Some (count_data n))
     (h : n < 2 ^ 32) where

@@ -9,13 +9,15 @@ use Rattle.ratio_core.specs.Rational.{Fits, Rational}
 use Rattle.aff_core.specs.Address.{Address}
 use Rattle.aff_core.specs.Function.{Function}
 use Rattle.aff_core.specs.Function as aff
+use Rattle.named_aff.specs.declared.aff.NamedAff.{NamedAff}
 use Rattle.named_aff.specs.declared.terms.NamedTerm.{NamedTerm}
+use Rattle.named_sums.specs.Sums.{plus_term}
 use Rattle.serde_json.specs.Data.{Data}
 use Rattle.serde_json.specs.View.{items_of}
 use Rattle.mof_values.specs.declared.fault.MofFault.TheVariants.{BadNumber, Shape}
 use Rattle.mof_values.specs.Values.{an_array, an_object, field}
 use Rattle.mof_values.specs.Walked.{Walked, ◌>>=◌, at, each, here, index, or_fault}
-use Rattle.mof_file.specs.Functions.{Known, add_component, add_scalar_term, add_to_output, add_vector_term, components_of, constants_of, function_of, output_of, term_of, vector_affine_of, vector_terms_of, with_term_at, with_term_in}
+use Rattle.mof_file.specs.Functions.{Known, add_component, add_scalar_term, add_to_output, add_vector_term, constants_of, output_of, term_of, vector_affine_of, vector_terms_of, with_term_at}
 use Rattle.mof_write.specs.Values.{array_of, count_data, list_of, number_data}
 use Rattle.mof_write.specs.Written.{Naming, term_data, vector_affine_data, vector_term_data, vector_terms}
 use Rattle.mof_laws.specs.FunctionLaws.{GoodTerm, IsReadable, good_first, term_back, with_term_new}
@@ -25,21 +27,13 @@ use Rattle.mof_laws.specs.WalkLaws.{AllGood, always_good, each_appends, field_ba
 
 -- ---- components
 
--- what a walk gives a list of
-abbrev ItemOf : {X : Type 0} → (Data → Walked (List X)) → Type 0
-ItemOf {X = X} walk = X
-
--- a component as far as it was read
-abbrev Component : Type 0
-Component = ItemOf constants_of
-
-abbrev component : Rational → List NamedTerm → Component
+abbrev component : Rational → List NamedTerm → NamedAff
 component c s = record { terms = s; constant = c }
 
-abbrev empty_component : Function → Component
+abbrev empty_component : Function → NamedAff
 empty_component f = component f.constant []
 
-component_step : (s : List Component) (f : Function) → Fits f.constant
+component_step : (s : List NamedAff) (f : Function) → Fits f.constant
     → add_component s (number_data f.constant) ≡ Ok (s ++ empty_component f ∷ [])
 unfolding add_component
 component_step s f h =
@@ -54,12 +48,9 @@ constants_back fs h =
     component_step 0 [] fs (always_good empty_component (λ f. Fits f.constant) [] fs h)
 
 module _ (name : Naming) (known : Known) where
-  abbrev whole_component : Function → Component
-  whole_component f = component f.constant (map (named_term name) (aff.terms_of f))
-
-  module _ (done rest : List Component) (c : Rational) where
+  module _ (done rest : List NamedAff) (c : Rational) where
     -- the components, with these terms in the one behind those that are done
-    abbrev with_terms : List NamedTerm → List Component
+    abbrev with_terms : List NamedTerm → List NamedAff
     with_terms s = done ++ component c s ∷ rest
 
     output_back : (s : List NamedTerm) → length done + 1 < 2 ^ 32
@@ -83,7 +74,7 @@ module _ (name : Naming) (known : Known) where
     put_back s t h =
         ap (λ o. option_and_then (λ f. option_map
         (λ sum. slice_set (with_terms s) (length done) sum)
-        (with_term_in (named_term name t) f)) o) (get_behind done (component c s) rest)
+        (plus_term f (named_term name t))) o) (get_behind done (component c s) rest)
         ∙ ap (λ o. option_map (λ sum. slice_set (with_terms s) (length done) sum)
         (option_map (λ terms. component c terms) o)) (with_term_new s (named_term name t) h.2)
         ∙ ap Some (set_at done (component c s) rest (component c (s ++ named_term name t ∷ []))
@@ -110,7 +101,7 @@ module _ (name : Naming) (known : Known) where
 
     -- the terms of this component, and more behind them
     one_component : (few : length done + 1 < 2 ^ 32) (more : List Data)
-        (r : Walked (List Component))
+        (r : Walked (List NamedAff))
         (s : List NamedTerm) (ts : List (Address × Rational))
         → AllGood (named_term name) (GoodTerm name known) s ts
         → ((j : ℕ) → each (add_vector_term known) j (with_terms (s ++ map (named_term name) ts))
@@ -128,11 +119,11 @@ module _ (name : Naming) (known : Known) where
         (λ j. ap (λ u. each (add_vector_term known) j (with_terms u) (items_of more))
         (append_assoc s (named_term name t ∷ []) (map (named_term name) ts)) ∙ next j) (suc i)
 
-  all_components : (done : List Component) (k : ℕ) (fs : List Function) → k ≡ length done
+  all_components : (done : List NamedAff) (k : ℕ) (fs : List Function) → k ≡ length done
       → k + length fs < 2 ^ 32 → All {X = Function} (IsReadable name known) fs → (i : ℕ)
       → each (add_vector_term known) i (done ++ map empty_component fs)
       (items_of (vector_terms name k fs))
-      ≡ Ok (done ++ map whole_component fs)
+      ≡ Ok (done ++ map (named_affine name) fs)
   all_components done k [] e few h i = refl
   all_components done k (f ∷ fs) e few h i =
       ap (λ n. each (add_vector_term known) i (done ++ map empty_component (f ∷ fs))
@@ -140,39 +131,31 @@ module _ (name : Naming) (known : Known) where
       (k + 1) fs))) e
       ∙ one_component done (map empty_component fs) f.constant (omega arith)
       (vector_terms name (k + 1) fs)
-      (Ok (done ++ map whole_component (f ∷ fs))) [] (aff.terms_of f)
+      (Ok (done ++ map (named_affine name) (f ∷ fs))) [] (aff.terms_of f)
       (good_first name known f (All-head (IsReadable name known) f fs h))
       (λ j. ap (λ cs. each (add_vector_term known) j cs (items_of (vector_terms name (k + 1) fs)))
-      (sym (append_assoc done (whole_component f ∷ []) (map empty_component fs)))
-      ∙ all_components (done ++ whole_component f ∷ []) (k + 1) fs
-      (omega (arith, e, length-append done (whole_component f ∷ []))) (omega arith)
+      (sym (append_assoc done (named_affine name f ∷ []) (map empty_component fs)))
+      ∙ all_components (done ++ named_affine name f ∷ []) (k + 1) fs
+      (omega (arith, e, length-append done (named_affine name f ∷ []))) (omega arith)
       (All-tail (IsReadable name known) f fs h) j
-      ∙ ap Ok (append_assoc done (whole_component f ∷ []) (map whole_component fs))) i
+      ∙ ap Ok (append_assoc done (named_affine name f ∷ []) (map (named_affine name) fs))) i
 
   vector_terms_back : (fs : List Function) → length fs < 2 ^ 32
       → All {X = Function} (IsReadable name known) fs
       → vector_terms_of known (map empty_component fs) (list_of (vector_terms name 0 fs))
-      ≡ Ok (map whole_component fs)
+      ≡ Ok (map (named_affine name) fs)
   unfolding vector_terms_of an_array
   vector_terms_back fs few h = all_components [] 0 fs refl (omega arith) h 0
-
-  named_wholes : (fs : List Function)
-      → map function_of (map whole_component fs) ≡ map (named_affine name) fs
-  named_wholes [] = refl
-  named_wholes (f ∷ fs) = ap (λ gs. named_affine name f ∷ gs) (named_wholes fs)
 
   pub vector_affine_back : (fs : List Function) → length fs < 2 ^ 32
       → All {X = Function} (IsReadable name known) fs
       → vector_affine_of known (vector_affine_data name fs) ≡ Ok (map (named_affine name) fs)
-  unfolding vector_affine_of components_of vector_affine_data
+  unfolding vector_affine_of vector_affine_data
   vector_affine_back fs few h =
-      ap (λ w. w >>= (λ cs. field (vector_terms_of known cs) "terms" (vector_affine_data name fs))
-      >>= (λ cs. Ok (map function_of cs)))
+      ap (λ w. w >>= (λ cs. field (vector_terms_of known cs) "terms" (vector_affine_data name fs)))
       (field_back constants_of (codes "constants") (vector_affine_data name fs)
       (array_of (λ f. number_data f.constant) fs) (map empty_component fs) refl
       (constants_back fs (λ k d within. (h k d within).fits.0)))
-      ∙ ap (λ w. w >>= (λ cs. Ok (map function_of cs)))
-      (field_back (vector_terms_of known (map empty_component fs)) (codes "terms")
-      (vector_affine_data name fs)
-      (list_of (vector_terms name 0 fs)) (map whole_component fs) refl (vector_terms_back fs few h))
-      ∙ ap Ok (named_wholes fs)
+      ∙ field_back (vector_terms_of known (map empty_component fs)) (codes "terms")
+      (vector_affine_data name fs) (list_of (vector_terms name 0 fs)) (map (named_affine name) fs)
+      refl (vector_terms_back fs few h)

@@ -6,6 +6,7 @@ use Rattle.serde_json.specs.Data.{Data, string}
 use Rattle.serde_json.specs.Find.{as_object, get}
 use Rattle.serde_json.specs.View.{items_of}
 use Rattle.mof_values.specs.declared.fault.MofFault.TheVariants.{Shape}
+use Rattle.mof_values.specs.Sets.{by_kind, kind_of}
 use Rattle.mof_values.specs.Values.{a_text, an_object, field, field_at, walk_at}
 use Rattle.mof_values.specs.Walked.{Walked, ◌>>=◌, at, each, here, index, key_part, or_fault}
 use Rattle.mof_file.specs.File.{walk_found}
@@ -36,14 +37,19 @@ text_is : (text : List ℕ) → a_text (string text) ≡ Ok text
 unfolding a_text
 text_is text = refl
 
--- an object that is read by its type
-pub by_type : {A : Type 0} (read : List ℕ → Data → Walked A) (d : Data) (type : List ℕ)
+kind_back : (d : Data) (type : List ℕ) → is_some (as_object d) ≡ true
+    → get (codes "type") d ≡ Some (string type) → kind_of d ≡ Ok type
+unfolding kind_of
+kind_back d type object typed =
+    object_then d (field a_text "type" d) object
+    ∙ field_back a_text (codes "type") d (string type) type typed (text_is type)
+
+-- an object that is walked by its type
+pub by_type : {A : Type 0} (walk : List ℕ → Data → Walked A) (d : Data) (type : List ℕ) (r : A)
     → is_some (as_object d) ≡ true → get (codes "type") d ≡ Some (string type)
-    → (an_object d >>= (λ _. field a_text "type" d >>= (λ t. read t d))) ≡ read type d
-by_type read d type object typed =
-    object_then d (field a_text "type" d >>= (λ t. read t d)) object
-    ∙ ap (λ w. w >>= (λ t. read t d))
-    (field_back a_text (codes "type") d (string type) type typed (text_is type))
+    → walk type d ≡ Ok r → by_kind walk d ≡ Ok r
+by_type walk d type r object typed is =
+    ap (λ w. w >>= (λ t. walk t d)) (kind_back d type object typed) ∙ is
 
 -- ---- arrays
 

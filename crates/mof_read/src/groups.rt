@@ -1,5 +1,5 @@
 //! Groups of variables with their creation sets.
-ghost use Rattle.std.specs.Prelude.{◌≡◌, [], ◌∷◌, IfOk, OnOk, None, option_and_then, option_to_list, ◌++◌, slice_get, slice_set};
+ghost use Rattle.std.specs.Prelude.{◌≡◌, [], IfOk, OnOk, None, option_and_then, option_to_list, ◌++◌, slice_get, slice_set};
 ghost use Rattle.std.specs.List.{list_all};
 ghost use Rattle.std.specs.Map.{lookup};
 ghost use Rattle.std.specs.Str.{bytes_eq};
@@ -70,18 +70,10 @@ pub(crate) fn plain_names(alloc: Global, func: NamedFunc) -> Result<Names, Memor
     ensures { IfOk result (λ names. names ≡ plain_names func) }
 {
     match func {
-        NamedFunc::Plain(var) => one_name(alloc, var),
+        NamedFunc::Plain(var) => Ok(Names::from_vec(vec![in alloc; var]?)),
         NamedFunc::PlainVec(vars) => Ok(vars),
         NamedFunc::Affine(_) | NamedFunc::AffineVec(_) => Ok(Names::new(alloc)),
     }
-}
-
-fn one_name(alloc: Global, name: Name) -> Result<Names, Memory>
-    ensures { IfOk result (λ names. names ≡ name ∷ []) }
-{
-    let mut names = Vec::new(alloc);
-    names.push(name)?;
-    Ok(Names::from_vec(names))
 }
 
 /// Puts variables into a group.
@@ -166,7 +158,7 @@ fn take_at(left: &mut Vec<Option<Edit>>, place: usize) -> Option<Edit>
 fn free_group(alloc: Global, name: Name) -> Result<Edit, Memory>
     ensures { IfOk result (λ group. group ≡ free_group name) }
 {
-    let names = one_name(alloc, name)?;
+    let names = Names::from_vec(vec![in alloc; name]?);
     Ok(Edit::AddGroup {
         names,
         set: Set::Reals { dimension: 1 },

@@ -1,4 +1,4 @@
--- Sets of a file.
+-- Objects that are walked by their types, and sets.
 use Rattle.std.specs.Prelude.{ℕ, List, Bool, Ok, Err, bytes_eq, codes, if◌then◌else◌}
 use Prim.Native.String.{String}
 use Rattle.set_core.specs.declared.set.Set.{Set}
@@ -15,6 +15,20 @@ is word text = bytes_eq text (codes word)
 -- a function or a set of a type that isn't read
 abbrev pub kind_fault : MofFault
 kind_fault = under (key "type") (UnknownKind here)
+
+-- the type of an object
+unfoldable pub kind_of : Data → Walked (List ℕ)
+kind_of d = do
+  _ ← an_object d
+  field a_text "type" d
+
+-- what the walk for its type gives of an object
+abbrev pub by_kind : {A : Type 0} → (List ℕ → Data → Walked A) → Data → Walked A
+by_kind walk d = do
+  type ← kind_of d
+  walk type d
+
+-- ---- sets
 
 unfoldable pub interval_of : Data → Walked Set
 interval_of d = do
@@ -44,7 +58,4 @@ typed_set_of type d =
     else vector_set_of type d)))
 
 unfoldable pub set_of : Data → Walked Set
-set_of d = do
-  _ ← an_object d
-  type ← field a_text "type" d
-  typed_set_of type d
+set_of d = by_kind typed_set_of d

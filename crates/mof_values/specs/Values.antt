@@ -7,7 +7,7 @@ use Rattle.name_index.specs.Name.{is_name}
 use Rattle.serde_json.specs.Data.{Data, Items, Num}
 use Rattle.serde_json.specs.Find.{as_array, as_integer, as_number, as_object, as_str, get}
 use Rattle.mof_values.specs.declared.fault.MofFault.TheVariants.{BadNumber, Shape}
-use Rattle.mof_values.specs.Walked.{Walked, ◌>>=◌, at, here, key_part, or_fault}
+use Rattle.mof_values.specs.Walked.{Walked, ◌>>=◌, at, each, here, key_part, or_fault}
 
 -- the value has to be an object
 unfoldable pub an_object : Data → Walked ⊤
@@ -28,6 +28,12 @@ field walk name d = walk_at walk (codes name) d
 
 unfoldable pub an_array : Data → Walked Items
 an_array d = or_fault (Shape here) (as_array d)
+
+-- an array whose items are walked in order, from this on
+abbrev pub each_in : {S : Type 0} → (S → Data → Walked S) → S → Data → Walked S
+each_in step start d = do
+  items ← an_array d
+  each step 0 start items
 
 unfoldable pub a_text : Data → Walked (List ℕ)
 a_text d = or_fault (Shape here) (as_str d)

@@ -12,4 +12,4 @@ pub use fault::{MofFault, here};
 pub use fields::{array, at_key, field, require_object};
 pub use numbers::{integer, integer_field, number, number_field};
 pub use sets::read_set;
-pub use texts::{given_name, is, name, text, text_field, unknown_kind};
+pub use texts::{given_name, is, kind, name, text, unknown_kind};

@@ -7,9 +7,8 @@ ghost use Rattle.mof_values.specs.Values.{a_number, field};
 ghost use Rattle.mof_values.specs.Walked.{Meets, mapped};
 
 use crate::fault::MofFault;
-use crate::fields::require_object;
 use crate::numbers::{integer_field, number_field};
-use crate::texts::{is, text_field, unknown_kind};
+use crate::texts::{is, kind, unknown_kind};
 use serde_json::Value;
 use set_core::Set;
 use std::alloc::Global;
@@ -19,8 +18,7 @@ use std::alloc::Global;
 pub fn read_set(alloc: Global, value: &Value) -> Result<Set, MofFault>
     ensures { Meets (λ set. set) result (set_of (view value.now)) }
 {
-    require_object(alloc, value)?;
-    let kind = text_field(alloc, "type", value)?;
+    let kind = kind(alloc, value)?;
     typed_set(alloc, kind, value)
 }
 

@@ -1,12 +1,12 @@
 //! Texts, and those that are names.
 ghost use Rattle.std.specs.Prelude.{◌≡◌, IfOk, bytes_eq};
 ghost use Rattle.serde_json.specs.View.{view};
-ghost use Rattle.mof_values.specs.Sets.{kind_fault};
+ghost use Rattle.mof_values.specs.Sets.{kind_fault, kind_of};
 ghost use Rattle.mof_values.specs.Values.{a_name, a_text, name_of, walk_at};
 ghost use Rattle.mof_values.specs.Walked.{Meets, Tells};
 
 use crate::fault::{MofFault, here};
-use crate::fields::{at_key, field};
+use crate::fields::{at_key, field, require_object};
 use lists::Memory;
 use name_index::{Name, NameFault};
 use serde_json::Value;
@@ -30,9 +30,8 @@ pub fn text<'v>(alloc: Global, value: &'v Value) -> Result<&'v str, MofFault>
     }
 }
 
-/// The text at a key.
 #[tactic(auto, using(crate::specs::WalkLaws::walk_at_steps))]
-pub fn text_field<'v>(alloc: Global, name: &str, value: &'v Value) -> Result<&'v str, MofFault>
+fn text_field<'v>(alloc: Global, name: &str, value: &'v Value) -> Result<&'v str, MofFault>
     ensures { Meets (λ text. text.now) result (walk_at a_text name.now (view value.now)) }
 {
     let found = field(alloc, name, value)?;
@@ -60,6 +59,15 @@ pub fn name(alloc: Global, value: &Value) -> Result<Name, MofFault>
         Some(name) => Ok(name),
         None => Err(MofFault::Shape { place: here(alloc) }),
     }
+}
+
+/// The type of a function or a set, which has to be an object.
+#[tactic(auto, unfolding(crate::specs::Sets::kind_of))]
+pub fn kind<'v>(alloc: Global, value: &'v Value) -> Result<&'v str, MofFault>
+    ensures { Meets (λ kind. kind.now) result (kind_of (view value.now)) }
+{
+    require_object(alloc, value)?;
+    text_field(alloc, "type", value)
 }
 
 /// The fault of a function or a set whose type isn't read.

@@ -1,6 +1,7 @@
--- Terms with one more. There are none where a sum doesn't fit.
-use Rattle.std.specs.Prelude.{List, [], ◌∷◌, Option, Some, None, option_and_then, bytes_eq, if◌then◌else◌}
+-- Terms and functions with one term or number more. There are none where a sum doesn't fit.
+use Rattle.std.specs.Prelude.{List, [], ◌∷◌, Option, Some, None, option_and_then, option_map, bytes_eq, if◌then◌else◌}
 use Rattle.ratio_core.specs.Rational.{Rational, ◌+ℚ◌, sum_fits}
+use Rattle.named_aff.specs.declared.aff.NamedAff.{NamedAff}
 use Rattle.named_aff.specs.declared.terms.NamedTerm.{NamedTerm}
 
 infixl 10 ◌>>=◌
@@ -20,3 +21,11 @@ with_term (t ∷ ts) term =
     else (do
       others ← with_term ts term
       Some (t ∷ others))
+
+-- a function with one term more
+abbrev pub plus_term : NamedAff → NamedTerm → Option NamedAff
+plus_term f term = option_map (λ terms. record f { terms = terms }) (with_term f.terms term)
+
+-- a function with a number more in its constant
+abbrev pub plus_constant : NamedAff → Rational → Option NamedAff
+plus_constant f q = option_map (λ sum. record f { constant = sum }) (sum_of f.constant q)

@@ -1,6 +1,8 @@
-//! Terms by name that are added up.
+//! Terms and functions by name that are added up.
 #![tactic(auto)]
 
+mod function;
 mod sum;
 
-pub use sum::{TermSum, added};
+pub use function::AffSum;
+pub use sum::TermSum;

@@ -166,7 +166,7 @@ fn coefficient_with(coefficients: &IndexMap<Name, Ratio>, term: &NamedTerm) -> O
 }
 
 /// The sum of two numbers, or none where it doesn't fit.
-pub fn added(first: &Ratio, second: &Ratio) -> Option<Ratio>
+pub(crate) fn added(first: &Ratio, second: &Ratio) -> Option<Ratio>
     ensures { result ≡ sum_of first.now second.now }
 {
     first.add(second).ok()

@@ -3,7 +3,6 @@ pub mod Reading
 pub mod Names
 pub mod Terms
 pub mod Sums
-pub mod Summed
 pub mod Sets
 pub mod Variables
 pub mod Rows

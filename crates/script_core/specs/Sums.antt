@@ -2,19 +2,14 @@
 use Rattle.std.specs.Prelude.{List, [], ◌∷◌, Option, Some}
 use Rattle.ratio_core.specs.Rational.{zero_ℚ}
 use Rattle.named_aff.specs.declared.aff.NamedAff.{NamedAff}
-use Rattle.named_sums.specs.Sums as named
-use Rattle.named_sums.specs.Sums.{sum_of}
+use Rattle.named_sums.specs.Sums.{plus_constant, plus_term}
 use Rattle.script_core.specs.declared.terms.Term.{Term}
 use Rattle.script_core.specs.declared.terms.Term.TheVariants.{Linear, Constant}
 use Rattle.script_words.specs.Each.{◌>>=◌, each}
 
 abbrev pub with_term : NamedAff → Term → Option NamedAff
-with_term f (Linear term) = do
-  terms ← named.with_term f.terms term
-  Some (record f { terms = terms })
-with_term f (Constant q) = do
-  sum ← sum_of f.constant q
-  Some (record f { constant = sum })
+with_term f (Linear term) = plus_term f term
+with_term f (Constant q) = plus_constant f q
 
 -- the function with each of the terms
 abbrev pub with_terms : NamedAff → List Term → Option NamedAff

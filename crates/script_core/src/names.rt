@@ -1,5 +1,5 @@
 //! Names of variables, rows and files, alone and with a number.
-ghost use Rattle.std.specs.Prelude.{◌≡◌, ◌∷◌, [], IfOk};
+ghost use Rattle.std.specs.Prelude.{◌≡◌, IfOk};
 ghost use Rattle.script_core.specs.Names.{last_name_of, last_named_number_of, last_two_names_of, names_of};
 
 use lists::Sequence;
@@ -68,13 +68,4 @@ pub fn last_named_number(
         return Ok(None);
     };
     Ok(Some((name, value)))
-}
-
-/// A list of one name.
-pub fn one_name(alloc: Global, name: Name) -> Result<Names, Memory>
-    ensures { IfOk result (λ names. names ≡ name ∷ []) }
-{
-    let mut names = Vec::new(alloc);
-    names.push(name)?;
-    Ok(Sequence::from_vec(names))
 }

@@ -2,10 +2,10 @@
 ghost use Rattle.std.specs.Prelude.{◌≡◌, ◌∷◌, [], IfOk};
 ghost use Rattle.script_core.specs.Variables.{creation_set_of, variable_form, group_form};
 
-use crate::names::{one_name, read_names};
+use crate::names::read_names;
 use crate::reading::{Reading, alone, makes};
 use crate::sets::{dimension, last_relation, vector_set};
-use name_index::Name;
+use name_index::{Name, Names};
 use ratio_core::Memory;
 use script_words::{Tokens, is};
 use set_core::Set;
@@ -26,7 +26,7 @@ pub fn variable(alloc: Global, mut tokens: Tokens<'_>) -> Result<Option<Reading>
     let Some(set) = creation_set(tokens) else {
         return Ok(None);
     };
-    let names = one_name(alloc, name)?;
+    let names = Names::from_vec(vec![in alloc; name]?);
     Ok(makes(Edit::AddGroup { names, set }))
 }
 
