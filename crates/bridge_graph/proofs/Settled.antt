@@ -4,11 +4,11 @@ use Rattle.std.specs.Option.{option_and_then}
 use Rattle.std.specs.List.{count_by, list_all}
 use Rattle.std.proofs.lemmas.Grind.{common_steps}
 use Rattle.std.proofs.lemmas.Bool.Decides.{eqb_tells}
-use Rattle.std.proofs.lemmas.Option.{same_Some, unwrap_or-slice_get, get_or_from_slice_get, slice_get_within}
-use Rattle.std.proofs.lemmas.List.Elements.{All-get_or}
+use Rattle.std.proofs.lemmas.Option.{same_Some, unwrap_or-slice_get, get_or_from_slice_get}
 use Rattle.std.proofs.lemmas.List.{get_or-set_same, get_or-set_other, length-take}
 use Rattle.std.proofs.Math.ListN.{length-set}
-use Rattle.std.proofs.lemmas.List.Sums.{sum_by-set, count_by-le-length, AllPass-from_list_all}
+use Rattle.std.proofs.lemmas.List.Sums.{sum_by-set, count_by-le-length}
+use Rattle.map_laws.specs.EachLaws.{all_at}
 use Rattle.bridge_graph.specs.declared.EdgeRow.{EdgeRow}
 use Rattle.bridge_graph.specs.declared.settling.Plan.{Plan}
 use Rattle.bridge_graph.specs.declared.settling.Plan.TheVariants.{Open, Native, By}
@@ -81,12 +81,6 @@ total_within plans limit within (kind ∷ kinds) total sum e =
     next Native small others e = let h = others (total + 0) e in grind arith
     next (By edge cost) small others e = let h = others (total + cost) e in grind arith
 
--- what every element passes, one that is there passes
-passes : {X : Type 0} (p : X → Bool) (xs : List X) (i : ℕ) (x : X) → list_all p xs ≡ true → slice_get xs i ≡ Some x → p x ≡ true
-passes p xs i x all is =
-    subst (λ y. p y ≡ true) (get_or_from_slice_get xs i x x is)
-    (All-get_or (λ y. p y ≡ true) xs i x (slice_get_within xs i x is) (AllPass-from_list_all p xs all))
-
 few_children : (n : ℕ) (row : EdgeRow) → has_kinds_below n row ≡ true → length (children_of row) ≤ 3
 few_children n row all =
     let few : row.count ≤ 3 = grind (arith, common_steps) in
@@ -96,7 +90,7 @@ edge_cost : (cost : ℕ) → is_edge_cost cost ≡ true → (1 ≤ cost) × (cos
 edge_cost cost all = (grind (arith, common_steps), grind (arith, common_steps))
 
 pub costly_from : (graph : Hypergraph) → IsTrue (list_all is_edge_cost graph.costs) → IsCostly graph
-costly_from graph costs edge cost is = (edge_cost cost (passes is_edge_cost graph.costs edge cost costs is)).0
+costly_from graph costs edge cost is = (edge_cost cost (all_at is_edge_cost graph.costs edge cost costs is)).0
 
 three_at_most : (cost children limit : ℕ) → cost ≤ 1000 → children ≤ 3 → cost + children * limit ≤ 3 * limit + 1000
 three_at_most cost children limit small few = grind arith
@@ -104,8 +98,8 @@ three_at_most cost children limit small few = grind arith
 pub within_set : (graph : Hypergraph) {plans : List Plan} {step : Step} (n : ℕ) → AreWithin plans (limit_of n) → IsStep graph plans step → step.kind < length plans → IsTrue (list_all (has_kinds_below (length plans)) graph.edges) → IsTrue (list_all is_edge_cost graph.costs) → AreWithin (slice_set plans step.kind (By step.edge step.cost)) (limit_of (n + 1))
 unfolding limit_of
 within_set graph {plans} {step} n within c kind rows costs =
-    let small = (edge_cost c.cost (passes is_edge_cost graph.costs step.edge c.cost costs c.usable.cost_is)).1 in
-    let few = few_children (length plans) c.row (passes (has_kinds_below (length plans)) graph.edges step.edge c.row rows c.usable.row_is) in
+    let small = (edge_cost c.cost (all_at is_edge_cost graph.costs step.edge c.cost costs c.usable.cost_is)).1 in
+    let few = few_children (length plans) c.row (all_at (has_kinds_below (length plans)) graph.edges step.edge c.row rows c.usable.row_is) in
     let sum = total_within plans (limit_of n) within (children_of c.row) c.cost step.cost c.total in
     let here : step.cost ≤ limit_of (n + 1) = rw add-one (omega (arith, sum, three_at_most c.cost (length (children_of c.row)) (limit_of n) small few)) in
     at_set (λ k plan. unwrap_or (cost_of plan) 0 ≤ limit_of (n + 1)) plans step.kind (By step.edge step.cost) kind here

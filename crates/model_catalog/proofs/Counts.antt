@@ -1,5 +1,5 @@
 -- The counts of the rows that bound a variable, as a row comes or goes.
-use Rattle.std.proofs.Common.{◌≡◌, ◌≢◌, ℕ, ◌+◌, ◌<◌, ◌≤◌, ◌^◌, ◌&&◌, Bool, true, false, cond, List, [], ◌∷◌, length, Option, Some, None, refl, sym, ap, subst, ◌∙◌, arith, inl, inr}
+use Rattle.std.proofs.Common.{◌≡◌, ◌≢◌, add-zero, ℕ, ◌+◌, ◌<◌, ◌≤◌, ◌^◌, ◌&&◌, Bool, true, false, cond, List, [], ◌∷◌, length, Option, Some, None, refl, sym, ap, subst, ◌∙◌, arith, inl, inr}
 use Rattle.std.specs.Prelude.{IfSome, IsSome, slice_index_or, count_by}
 use Rattle.std.specs.Option.{option_map}
 use Rattle.std.proofs.Math.ListN.{set}
@@ -54,10 +54,7 @@ not_counted row v none =
     same_variable refl refl (plus_nothing v.lower (sets_lower row.set)) (plus_nothing v.upper (sets_upper row.set))
   where
     plus_nothing : (count : ℕ) (b : Bool) → count + cond (is_variable v.number row.func && b) 1 0 ≡ count
-    plus_nothing count b = ap (λ x. count + cond (x && b) 1 0) none ∙ zero_more count
-      where
-        zero_more : (n : ℕ) → n + 0 ≡ n
-        zero_more n = omega arith
+    plus_nothing count b = ap (λ x. count + cond (x && b) 1 0) none ∙ add-zero count
 
 not_counted_at : (row : Row) (n : ℕ) (o : Option Variable) → IsAt variable_number n o → is_variable n row.func ≡ false → option_map (counted (Some row)) o ≡ o
 not_counted_at row n None at none = refl

@@ -10,9 +10,9 @@ use Rattle.std.proofs.lemmas.Bool.{cases_order}
 use Rattle.std.proofs.lemmas.Bool.Decides.{nat_tests}
 use Rattle.std.proofs.lemmas.List.Elements.{All-nil, All-cons, All-head, All-tail}
 use Rattle.std.proofs.lemmas.List.Folds.{find-append}
-use Rattle.std.proofs.lemmas.List.Sums.{sum_by-drop_more}
 use Rattle.std.proofs.lemmas.Option.{none-some, same_Some, slice_get_within, get_or_from_slice_get}
 use Rattle.map_laws.specs.PlaceLaws.{none_passes, place_of_found, some_found}
+use Rattle.map_laws.specs.SumLaws.{count_first}
 use Rattle.numbered.specs.Numbered.{Rise, IsAt, find}
 use Rattle.numbered.specs.Laws.{IsAt-find, Rise-nil, Rise-cons, Rise-head, Rise-tail, find-at, number_of_found, same_lists}
 use Rattle.model_catalog.specs.Names.{AreDistinct}
@@ -20,14 +20,11 @@ use Rattle.model_catalog.specs.Names.{AreDistinct}
 -- ---- searches
 
 module _ {X : Type 0} (p : X → Bool) where
-  count_first : (x : X) (xs : List X) → count_by p (x ∷ xs) ≡ cond (p x) 1 0 + count_by p xs
-  count_first x xs = sum_by-drop_more (λ y. cond (p y) 1 0) (x ∷ xs) 0 x (omega arith)
-
   -- some item passes where at least one is counted
   pub any_counted : (xs : List X) → nat_lt 0 (count_by p xs) ≡ list_any p xs
   any_counted [] = refl
   any_counted (x ∷ xs) =
-      ap (nat_lt 0) (count_first x xs)
+      ap (nat_lt 0) (count_first p x xs)
       ∙ elim (p x) as (λ b. nat_lt 0 (cond b 1 0 + count_by p xs) ≡ (b || list_any p xs)) [
         | true ↦ one_more (count_by p xs)
         | false ↦ ap (nat_lt 0) (none_more (count_by p xs)) ∙ any_counted xs

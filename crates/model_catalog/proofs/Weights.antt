@@ -1,5 +1,5 @@
 -- Sums over lists of numbered items, as contents are set.
-use Rattle.std.proofs.Common.{◌≡◌, ℕ, ◌+◌, List, [], ◌∷◌, ◌++◌, Option, Some, None, refl, ap, ◌∙◌, arith}
+use Rattle.std.proofs.Common.{◌≡◌, add-zero, ℕ, ◌+◌, List, [], ◌∷◌, ◌++◌, Option, Some, None, refl, ap, ◌∙◌, arith}
 use Rattle.std.specs.Prelude.{sum_by}
 use Rattle.std.specs.Option.{option_to_list}
 use Rattle.std.proofs.lemmas.List.Sums.{sum_by-cons, sum_by-append}
@@ -14,10 +14,7 @@ use Rattle.model_catalog.specs.Index.{weight}
 module _ {X : Type 0} (number_of : X → ℕ) (w : X → ℕ) where
   sum_option : (o : Option X) → sum_by w (option_to_list o) ≡ weight w o
   sum_option None = refl
-  sum_option (Some x) = sum_by-cons w x [] ∙ zero_more (w x)
-    where
-      zero_more : (n : ℕ) → n + 0 ≡ n
-      zero_more n = omega arith
+  sum_option (Some x) = sum_by-cons w x [] ∙ add-zero (w x)
 
   sum_parts : (n : ℕ) (o : Option X) (xs : List X) → sum_by w (set_at number_of n o xs) ≡ sum_by w (below number_of n xs) + (weight w o + sum_by w (above number_of n xs))
   unfolding set_at

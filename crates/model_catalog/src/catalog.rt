@@ -10,7 +10,7 @@ use crate::exchange::Exchange;
 use crate::index::{exchange_rows, list_variables};
 use crate::names::{NameChanges, exchange_names};
 use crate::room::More;
-use crate::terms::{changed_terms, objective_terms};
+use crate::terms::changed_terms;
 use crate::variable::Variable;
 use name_index::NameTable;
 use numbered::exchange_all;
@@ -156,7 +156,7 @@ impl Catalog {
         ensures room { HasRoomFor with.new names.new self.new }
         ensures kept { KeepsRoom names.old self.old.room self.new.room }
     {
-        let objective_was = objective_terms(&self.objective);
+        let objective_was = self.objective.term_count();
         let put_in = changed_terms(&with.rows);
         list_variables(&mut self.kept, names.group, &names.variables);
         exchange_names(&mut self.variable_names, &mut names.variables);
@@ -171,8 +171,7 @@ impl Catalog {
         exchange_objective(&mut self.objective, &mut with.objective);
         mem::swap(&mut self.next, &mut with.next);
         let taken_out = changed_terms(&with.rows);
-        self.terms = self.terms + put_in - taken_out - objective_was
-            + objective_terms(&self.objective);
+        self.terms = self.terms + put_in - taken_out - objective_was + self.objective.term_count();
     }
 }
 

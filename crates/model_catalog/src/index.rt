@@ -252,8 +252,8 @@ fn plain_variable(row: &Row) -> Option<u32>
     }
 }
 
-// The number of the variable with an address.
-fn variable_at(address: &Address) -> Option<u32>
+/// The number of the variable with an address, and none where it is no variable's.
+pub fn variable_at(address: &Address) -> Option<u32>
     ensures { (n : ℕ) → address_eq (variable_address n) address.now ≡ is_number result n }
 {
     let Root::Variable = address.kind() else {

@@ -13,5 +13,6 @@ mod variable;
 
 pub use catalog::Catalog;
 pub use exchange::Exchange;
+pub use index::variable_at;
 pub use names::{NameChange, NameChanges};
 pub use room::More;

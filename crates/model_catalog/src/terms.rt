@@ -1,13 +1,12 @@
-//! How many terms rows and objectives have.
+//! How many terms rows have.
 ghost use Rattle.std.specs.Prelude.{◌≡◌, ◌+◌, ◌<◌, ◌^◌, length, map, sum};
 ghost use Rattle.aff_core.specs.Function.{terms_of};
 ghost use Rattle.user_model.specs.Functions.{all_terms, term_count};
-ghost use Rattle.user_model.specs.Model as model;
 ghost use Rattle.model_catalog.specs.Terms.{changed_terms, content_terms};
 
 use aff_core::Aff;
 use numbered::Change;
-use user_model::{Objective, Row, UserFunc};
+use user_model::{Row, UserFunc};
 
 // How many terms the rows have that are to stand.
 pub(crate) fn changed_terms(changes: &[Change<Row>]) -> u64
@@ -52,13 +51,4 @@ fn total_terms(functions: &[Aff]) -> u64
         count += f.term_count() as u64;
     }
     count
-}
-
-pub(crate) fn objective_terms(objective: &Objective) -> u64
-    ensures { result ≡ model.objective_terms objective.now }
-{
-    match objective {
-        Objective::Affine { func, .. } => func.term_count() as u64,
-        Objective::Feasibility | Objective::Plain { .. } => 0,
-    }
 }

@@ -74,6 +74,11 @@ module _ (model : ModelValue) where
       ∙ (sym (is_some-option_map (λ v. v.number) (find (λ v. bytes_eq v.name name)
       (variables model))) ∙ e))
 
+  -- the address of the variable with a name
+  pub address_found : (name : List ℕ) (n : ℕ) → variable_named model name ≡ Some n
+      → address_named model name ≡ variable_address n
+  address_found name n e = ap (λ o. variable_address (unwrap_or o 0)) e
+
   -- the variable with a name
   pub variable_of_name : (name : List ℕ) (n : ℕ) → variable_named model name ≡ Some n
       → (var : GroupVar) × Contains (variables model) var × (var.number ≡ n) × (var.name ≡ name)
@@ -106,7 +111,7 @@ module _ (model : ModelValue) where
       → IsSome (group_of model m)
   address_stands name n m e same =
       let is : variable_address m ≡ variable_address n = (address_eq-Decides (variable_address m)
-      (address_named model name)).0 same ∙ ap (λ o. variable_address (unwrap_or o 0)) e in
+      (address_named model name)).0 same ∙ address_found name n e in
       let number : m ≡ n = ap (λ a. a.number) is in
       subst (λ k. IsSome (group_of model k)) (sym number) (named_stands name n e)
 

@@ -23,7 +23,7 @@ pub record IsPassed (model : ModelValue) (e : Edit) : Type 0 where
   pub counted : All (λ c. c.0 ≤ c.1) (counts model e)
 
 -- no test of the list holds
-abbrev AllFail : List (Bool × Refusal) → Type 0
+abbrev pub AllFail : List (Bool × Refusal) → Type 0
 AllFail [] = Unit {0}
 AllFail (test ∷ tests) = (test.0 ≡ false) × AllFail tests
 

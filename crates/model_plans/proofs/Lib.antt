@@ -3,6 +3,7 @@ pub mod Finding
 pub mod Comparisons
 pub mod NamesListed
 pub mod Leading
+pub mod PartEdits
 pub mod RowPlans
 pub mod GroupPlans
 pub mod DeletionPlans

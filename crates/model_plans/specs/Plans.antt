@@ -6,17 +6,19 @@ use Rattle.ratio_core.specs.Rational.{Rational}
 use Rattle.aff_core.specs.Function.{Function, with_coefficient}
 use Rattle.numbered.specs.declared.change.Change.{Change}
 use Rattle.user_model.specs.declared.edit.Edit.{Edit}
+use Rattle.user_model.specs.declared.edit.Edit.TheVariants as edit
 use Rattle.user_model.specs.declared.group.Group.{Group}
 use Rattle.user_model.specs.declared.group.GroupVar.{GroupVar}
 use Rattle.user_model.specs.declared.objective.Objective.{Objective}
 use Rattle.user_model.specs.declared.row.Row.{Row}
 use Rattle.user_model.specs.declared.undo.NextNumbers.{NextNumbers}
-use Rattle.user_model.specs.Model.{ModelValue}
+use Rattle.user_model.specs.Model.{ModelValue, variable_address}
 use Rattle.user_model.specs.Edited.{group_number, row_number, with_constant}
 use Rattle.user_model.specs.Consistent.{IsConsistent, IsWithinLimits}
 use Rattle.user_model.specs.Refusals.{first_refusal}
 use Rattle.user_model.specs.Undone.{IsOldObjective}
 use Rattle.model_laws.specs.Differing.{Differs}
+use Rattle.model_refusals.specs.Accepted.{IsVariable}
 use Rattle.model_catalog.specs.declared.names.NameChange.{NameChange}
 use Rattle.model_plans.specs.declared.parts.Part.{Part}
 use Rattle.model_plans.specs.declared.parts.Part.TheVariants.{Coefficient, Constant}
@@ -69,7 +71,27 @@ listed_variables vars = map (λ v. listed_as v.number (Some v.name)) vars
 abbrev pub gone : List (Change Row) → List NameChange
 gone changes = map (λ c. listed_as c.number None) (filter (λ c. is_none c.content) changes)
 
--- the function with another coefficient, or with another constant
+-- ---- one coefficient, or the constant
+
+-- a coefficient's variable is the model's
+abbrev pub IsPart : ModelValue → Part → Type 0
+IsPart model (Coefficient var) = IsVariable model var
+IsPart model Constant = Unit {0}
+
+-- the function with another value there
 abbrev pub with_part : Part → Rational → Function → Function
-with_part (Coefficient at) value f = with_coefficient f at value
+with_part (Coefficient var) value f = with_coefficient f (variable_address var.number) value
 with_part Constant value f = with_constant f value
+
+-- the edit that gives it to a scalar row, to a component of a vector row, and to the objective
+abbrev pub row_edit : List ℕ → Part → Rational → Edit
+row_edit row (Coefficient var) value = edit.Coef row var.name.now value
+row_edit row Constant value = edit.Constant row value
+
+abbrev pub output_edit : List ℕ → ℕ → Part → Rational → Edit
+output_edit row output (Coefficient var) value = edit.VecCoef row output var.name.now value
+output_edit row output Constant value = edit.VecConstant row output value
+
+abbrev pub objective_edit : Part → Rational → Edit
+objective_edit (Coefficient var) value = edit.ObjCoef var.name.now value
+objective_edit Constant value = edit.ObjConstant value

@@ -1,6 +1,6 @@
 //! Plans of the edits of one group.
 ghost use Rattle.std.specs.Prelude.{◌≡◌, ◌+◌, ◌<◌, ◌^◌, IfOk, length, map};
-ghost use Rattle.user_model.specs.Edited.{change_group, edited, numbered_from, renamed, with_variable};
+ghost use Rattle.user_model.specs.Edited.{edited, numbered_from, renamed};
 ghost use Rattle.user_model.specs.Consistent.{IsConsistent};
 ghost use Rattle.user_model.specs.declared.edit.Edit.TheVariants.{AddGroup, FreeGroup, RenameVariable, Reset};
 ghost use Rattle.model_refusals.specs.Accepted.{IsGrouped};
@@ -69,7 +69,6 @@ fn listed_vars(alloc: Global, vars: &[GroupVar]) -> Result<Vec<NameChange>, Memo
 
 /// Another creation set of a group of one variable. It copies the group, or nothing where the set
 /// stays.
-#[tactic(auto, unfolding(user_model::specs::Edited::edited))]
 pub(crate) fn reset(
     alloc: Global,
     model: &Catalog,
@@ -81,7 +80,12 @@ pub(crate) fn reset(
     ensures { IfOk result (Leads model.now.model
         (edited model.now.model (Reset var.now.name.now set.now))) }
 {
-    with_set(alloc, model, var, set)
+    if var.group.set == *set {
+        return Ok(Plan::unchanged(alloc, model.next()));
+    }
+    let mut group = var.group.copy(alloc)?;
+    group.set = set.copy(alloc)?;
+    Plan::of_group(alloc, group, Vec::new(alloc), model.next())
 }
 
 /// A group of one variable becomes free. It copies the group, or nothing where it is free.
@@ -92,28 +96,7 @@ pub(crate) fn free(alloc: Global, model: &Catalog, var: &GroupedVariable) -> Res
     ensures { IfOk result (Leads model.now.model
         (edited model.now.model (FreeGroup var.now.name.now))) }
 {
-    with_set(alloc, model, var, &Set::Reals { dimension: 1 })
-}
-
-// Another set of the group of a variable.
-fn with_set(
-    alloc: Global,
-    model: &Catalog,
-    var: &GroupedVariable,
-    set: &Set,
-) -> Result<Plan, Memory>
-    requires consistent { IsConsistent model.now.model }
-    requires var { IsGrouped model.now.model var.now }
-    ensures { IfOk result (Leads model.now.model
-        (with_variable model.now.model var.now.name.now
-        (λ n. change_group model.now.model n (λ g. record g { set = set.now })))) }
-{
-    if var.group.set == *set {
-        return Ok(Plan::unchanged(alloc, model.next()));
-    }
-    let mut group = var.group.copy(alloc)?;
-    group.set = set.copy(alloc)?;
-    Plan::of_group(alloc, group, Vec::new(alloc), model.next())
+    reset(alloc, model, var, &Set::Reals { dimension: 1 })
 }
 
 /// Another name of a variable. It copies the variable's group.

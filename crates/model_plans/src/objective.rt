@@ -5,15 +5,13 @@ ghost use Rattle.user_model.specs.Consistent.{IsConsistent};
 ghost use Rattle.user_model.specs.Refusals.{IsKnown};
 ghost use Rattle.user_model.specs.declared.edit.Edit.TheVariants as edit;
 ghost use Rattle.user_model.specs.declared.objective.Objective.TheVariants as objective;
-ghost use Rattle.model_refusals.specs.Accepted.{IsVariable};
-ghost use Rattle.model_plans.specs.Plans.{Accepts, Leads, with_part};
+ghost use Rattle.model_plans.specs.Plans.{Accepts, IsPart, Leads, objective_edit, with_part};
 
 use crate::located::{address_named, affine};
 use crate::parts::{Part, replaced};
 use crate::plan::Plan;
 use aff_core::Aff;
 use model_catalog::Catalog;
-use model_refusals::NamedVariable;
 use ratio_core::{Memory, Ratio};
 use std::alloc::Global;
 use user_model::{NamedFunc, Objective, Sense};
@@ -90,48 +88,25 @@ fn same_objective(one: &Objective, other: &Objective) -> bool
     }
 }
 
-/// Another coefficient of the affine objective. It copies the function, or nothing where the
-/// coefficient stays.
-pub(crate) fn coef(
+/// Another coefficient or constant of the affine objective. It copies the function, or nothing
+/// where the value stays.
+pub(crate) fn affine_part(
     alloc: Global,
     model: &Catalog,
     sense: Sense,
     func: &Aff,
-    var: &NamedVariable,
+    part: &Part,
     value: Ratio,
 ) -> Result<Plan, Memory>
     requires objective { model.now.model.objective ≡ objective.Affine sense func.now }
-    requires var { IsVariable model.now.model var.now }
+    requires part { IsPart model.now.model part.now }
     ensures { IfOk result (Leads model.now.model
-        (edited model.now.model (edit.ObjCoef var.now.name.now value))) }
+        (edited model.now.model (objective_edit part.now value))) }
 {
-    with_part_of(
-        alloc,
-        model,
-        sense,
-        func,
-        &Part::Coefficient(var.address()),
-        value,
-    )
+    with_part_of(alloc, model, sense, func, part, value)
 }
 
-/// Another constant of the affine objective. It copies the function, or nothing where the constant
-/// stays.
-#[tactic(auto, unfolding(user_model::specs::Edited::edited))]
-pub(crate) fn constant(
-    alloc: Global,
-    model: &Catalog,
-    sense: Sense,
-    func: &Aff,
-    value: Ratio,
-) -> Result<Plan, Memory>
-    requires { model.now.model.objective ≡ objective.Affine sense func.now }
-    ensures { IfOk result (Leads model.now.model
-        (edited model.now.model (edit.ObjConstant value))) }
-{
-    with_part_of(alloc, model, sense, func, &Part::Constant, value)
-}
-
+// The same, by the number of the coefficient's variable.
 fn with_part_of(
     alloc: Global,
     model: &Catalog,

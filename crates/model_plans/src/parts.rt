@@ -2,13 +2,14 @@
 ghost use Rattle.std.specs.Prelude.{◌≡◌, ◌≢◌, IfOk, MatchBool};
 ghost use Rattle.model_plans.specs.Plans.{IsChange, with_part};
 
-use aff_core::{Address, Aff};
+use aff_core::Aff;
+use model_refusals::NamedVariable;
 use ratio_core::{Memory, Ratio};
 
 /// What of an affine function an edit changes.
 #[derive(Clone, Copy)]
-pub(crate) enum Part {
-    Coefficient(Address),
+pub(crate) enum Part<'a> {
+    Coefficient(NamedVariable<'a>),
     Constant,
 }
 
@@ -20,7 +21,7 @@ pub(crate) fn replaced(func: &Aff, part: &Part, value: Ratio) -> Result<Option<A
         return Ok(None);
     }
     Ok(Some(match part {
-        Part::Coefficient(at) => func.with_coef(at, value)?,
+        Part::Coefficient(var) => func.with_coef(&var.address(), value)?,
         Part::Constant => func.with_constant(value)?,
     }))
 }
@@ -31,7 +32,7 @@ fn is_value(func: &Aff, part: &Part, value: Ratio) -> bool
         (with_part part.now value func.now ≢ func.now) }
 {
     match part {
-        Part::Coefficient(at) => func.coef(at) == value,
+        Part::Coefficient(var) => func.coef(&var.address()) == value,
         Part::Constant => func.constant() == value,
     }
 }

@@ -7,6 +7,7 @@ ghost use Rattle.model_refusals.specs.Accepted.{IsFound, edit_of};
 ghost use Rattle.model_plans.specs.Plans.{Accepts, HasParts, Leads};
 
 use crate::made_lists::only;
+use crate::parts::Part;
 use crate::{deletion, groups, objective, rows};
 use model_catalog::{Catalog, Exchange, NameChange, NameChanges};
 use model_refusals::AcceptedEdit;
@@ -145,31 +146,42 @@ pub fn planned(alloc: Global, model: &Catalog, edit: &AcceptedEdit) -> Result<Pl
             func,
             var,
             value,
-        } => rows::coef(alloc, model, row, func, var, *value),
+        } => rows::scalar_part(alloc, model, row, func, &Part::Coefficient(*var), *value),
         AcceptedEdit::VecCoef {
             row,
             output,
             component,
             var,
             value,
-        } => rows::vec_coef(alloc, model, row, *output, component, var, *value),
+        } => {
+            let part = Part::Coefficient(*var);
+            rows::vector_part(alloc, model, row, *output, component, &part, *value)
+        }
         AcceptedEdit::ObjCoef {
             sense,
             func,
             var,
             value,
-        } => objective::coef(alloc, model, *sense, func, var, *value),
+        } => objective::affine_part(alloc, model, *sense, func, &Part::Coefficient(*var), *value),
         AcceptedEdit::Constant { row, func, value } => {
-            rows::constant(alloc, model, row, func, *value)
+            rows::scalar_part(alloc, model, row, func, &Part::Constant, *value)
         }
         AcceptedEdit::VecConstant {
             row,
             output,
             component,
             value,
-        } => rows::vec_constant(alloc, model, row, *output, component, *value),
+        } => rows::vector_part(
+            alloc,
+            model,
+            row,
+            *output,
+            component,
+            &Part::Constant,
+            *value,
+        ),
         AcceptedEdit::ObjConstant { sense, func, value } => {
-            objective::constant(alloc, model, *sense, func, *value)
+            objective::affine_part(alloc, model, *sense, func, &Part::Constant, *value)
         }
         AcceptedEdit::RowSet { row, set } => rows::set(alloc, model, row, set),
         AcceptedEdit::Reset { var, set } => groups::reset(alloc, model, var, set),

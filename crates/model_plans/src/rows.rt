@@ -1,12 +1,12 @@
 //! Plans of the edits of one row.
 ghost use Rattle.std.specs.Prelude.{◌≡◌, ◌∷◌, [], IfOk, None};
-ghost use Rattle.user_model.specs.Edited.{edited, change_function, on_affine, on_output, row_number};
-ghost use Rattle.user_model.specs.declared.edit.Edit.TheVariants.{AddRow, Coef, VecCoef, Constant, VecConstant, RowSet, DeleteRow, RenameRow};
+ghost use Rattle.user_model.specs.Edited.{edited, row_number};
+ghost use Rattle.user_model.specs.declared.edit.Edit.TheVariants.{AddRow, RowSet, DeleteRow, RenameRow};
 ghost use Rattle.model_laws.specs.ItemChanges.{set_to};
 ghost use Rattle.user_model.specs.Consistent.{IsConsistent};
 ghost use Rattle.user_model.specs.declared.function.UserFunc.TheVariants.{Affine, AffineVec};
-ghost use Rattle.model_refusals.specs.Accepted.{IsComponent, IsRow, IsVariable};
-ghost use Rattle.model_plans.specs.Plans.{Accepts, HasParts, Leads, with_part};
+ghost use Rattle.model_refusals.specs.Accepted.{IsComponent, IsRow};
+ghost use Rattle.model_plans.specs.Plans.{Accepts, HasParts, IsPart, Leads, output_edit, row_edit};
 
 use crate::located::located;
 use crate::made_lists::with_component;
@@ -15,7 +15,7 @@ use crate::plan::Plan;
 use aff_core::Aff;
 use lists::Duplicate;
 use model_catalog::{Catalog, NameChange};
-use model_refusals::{Component, NamedRow, NamedVariable};
+use model_refusals::{Component, NamedRow};
 use name_index::Name;
 use numbered::Change;
 use ratio_core::{Memory, Ratio};
@@ -52,53 +52,9 @@ pub(crate) fn add(
     Plan::of_row(alloc, row, Some(listed), after)
 }
 
-/// Another coefficient of a scalar affine row. It copies the row, or nothing where the coefficient
-/// stays.
-pub(crate) fn coef(
-    alloc: Global,
-    model: &Catalog,
-    row: &NamedRow,
-    func: &Aff,
-    var: &NamedVariable,
-    value: Ratio,
-) -> Result<Plan, Memory>
-    requires consistent { IsConsistent model.now.model }
-    requires row { IsRow model.now.model row.now }
-    requires affine { row.now.row.now.func ≡ Affine func.now }
-    requires var { IsVariable model.now.model var.now }
-    ensures { IfOk result (Leads model.now.model
-        (edited model.now.model (Coef row.now.name.now var.now.name.now value))) }
-{
-    scalar(
-        alloc,
-        model,
-        row,
-        func,
-        &Part::Coefficient(var.address()),
-        value,
-    )
-}
-
-/// Another constant of a scalar affine row. It copies the row, or nothing where the constant stays.
-#[tactic(auto, unfolding(user_model::specs::Edited::edited))]
-pub(crate) fn constant(
-    alloc: Global,
-    model: &Catalog,
-    row: &NamedRow,
-    func: &Aff,
-    value: Ratio,
-) -> Result<Plan, Memory>
-    requires consistent { IsConsistent model.now.model }
-    requires row { IsRow model.now.model row.now }
-    requires affine { row.now.row.now.func ≡ Affine func.now }
-    ensures { IfOk result (Leads model.now.model
-        (edited model.now.model (Constant row.now.name.now value))) }
-{
-    scalar(alloc, model, row, func, &Part::Constant, value)
-}
-
-// Another coefficient or constant of a scalar affine row.
-fn scalar(
+/// Another coefficient or constant of a scalar affine row. It copies the row, or nothing where the
+/// value stays.
+pub(crate) fn scalar_part(
     alloc: Global,
     model: &Catalog,
     row: &NamedRow,
@@ -109,9 +65,9 @@ fn scalar(
     requires consistent { IsConsistent model.now.model }
     requires row { IsRow model.now.model row.now }
     requires affine { row.now.row.now.func ≡ Affine func.now }
+    requires part { IsPart model.now.model part.now }
     ensures { IfOk result (Leads model.now.model
-        (change_function model.now.model row.now.name.now
-        (on_affine (with_part part.now value)))) }
+        (edited model.now.model (row_edit row.now.name.now part.now value))) }
 {
     match replaced(func, part, value)? {
         Some(func) => with_function(alloc, model, row.row, UserFunc::Affine(func)),
@@ -119,59 +75,9 @@ fn scalar(
     }
 }
 
-/// Another coefficient of a component of a vector affine row. It copies the row, or nothing where
-/// the coefficient stays.
-pub(crate) fn vec_coef(
-    alloc: Global,
-    model: &Catalog,
-    row: &NamedRow,
-    output: u32,
-    component: &Component,
-    var: &NamedVariable,
-    value: Ratio,
-) -> Result<Plan, Memory>
-    requires consistent { IsConsistent model.now.model }
-    requires row { IsRow model.now.model row.now }
-    requires vector { row.now.row.now.func ≡ AffineVec component.now.funcs.now }
-    requires component { IsComponent output component.now }
-    requires var { IsVariable model.now.model var.now }
-    ensures { IfOk result (Leads model.now.model
-        (edited model.now.model (VecCoef row.now.name.now output var.now.name.now value))) }
-{
-    vector(
-        alloc,
-        model,
-        row,
-        output,
-        component,
-        &Part::Coefficient(var.address()),
-        value,
-    )
-}
-
-/// Another constant of a component of a vector affine row. It copies the row, or nothing where the
-/// constant stays.
-#[tactic(auto, unfolding(user_model::specs::Edited::edited))]
-pub(crate) fn vec_constant(
-    alloc: Global,
-    model: &Catalog,
-    row: &NamedRow,
-    output: u32,
-    component: &Component,
-    value: Ratio,
-) -> Result<Plan, Memory>
-    requires consistent { IsConsistent model.now.model }
-    requires row { IsRow model.now.model row.now }
-    requires vector { row.now.row.now.func ≡ AffineVec component.now.funcs.now }
-    requires component { IsComponent output component.now }
-    ensures { IfOk result (Leads model.now.model
-        (edited model.now.model (VecConstant row.now.name.now output value))) }
-{
-    vector(alloc, model, row, output, component, &Part::Constant, value)
-}
-
-// Another coefficient or constant of a component of a vector affine row.
-fn vector(
+/// Another coefficient or constant of a component of a vector affine row. It copies the row, or
+/// nothing where the value stays.
+pub(crate) fn vector_part(
     alloc: Global,
     model: &Catalog,
     row: &NamedRow,
@@ -184,9 +90,9 @@ fn vector(
     requires row { IsRow model.now.model row.now }
     requires vector { row.now.row.now.func ≡ AffineVec component.now.funcs.now }
     requires component { IsComponent output component.now }
+    requires part { IsPart model.now.model part.now }
     ensures { IfOk result (Leads model.now.model
-        (change_function model.now.model row.now.name.now
-        (on_output output (with_part part.now value)))) }
+        (edited model.now.model (output_edit row.now.name.now output part.now value))) }
 {
     match replaced(component.func, part, value)? {
         Some(func) => {

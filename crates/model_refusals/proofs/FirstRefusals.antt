@@ -19,6 +19,7 @@ use Rattle.user_model.specs.Functions.{components, is_scalar_affine, is_scalar_n
 use Rattle.user_model.specs.Model.{ModelValue, address_named, has_lower_bound, has_upper_bound, row_named, total_terms, variable_address, variable_named}
 use Rattle.user_model.specs.Sets.{sets_lower, sets_upper}
 use Rattle.user_model.specs.Refusals.{counts, differ, first_of, first_refusal, full_at, has_row_named, has_twins, has_variable_named, is_affine_objective, meets_bound_already_set}
+use Rattle.model_laws.specs.Located.{address_found}
 use Rattle.model_refusals.specs.Bounds.{bound_tests}
 use Rattle.model_refusals.specs.Changes.{with_change, with_change_at}
 use Rattle.model_refusals.proofs.Firsts.{first_full}
@@ -41,10 +42,6 @@ none_of_two false true r s rest e = cc
 none_of_two false false r s rest e = refl
 
 module _ (model : ModelValue) where
-  -- the address of a variable that was found
-  pub address_found : (name : List ℕ) (n : ℕ) → variable_named model name ≡ Some n → address_named model name ≡ variable_address n
-  address_found name n e = ap (λ o. variable_address (unwrap_or o 0)) e
-
   -- ---- rows
 
   module _ (name : List ℕ) (row : Row) (found : row_named model name ≡ Some row) (var : List ℕ) (n : ℕ) (there : variable_named model var ≡ Some n) (value : Rational) where
@@ -62,7 +59,7 @@ module _ (model : ModelValue) where
         coef_row
         ∙ (ap (λ func. first_of ((not (is_scalar_affine func), FunctionShape) ∷ map full_at (counts model (edit.Coef name var value)))) is
         ∙ (ap first_full (coef_counts model c name row found f is var value)
-        ∙ ap (λ at. first_full (with_change (total_terms model) (term_count f) (term_count (with_coefficient f at value)))) (address_found var n there)))
+        ∙ ap (λ at. first_full (with_change (total_terms model) (term_count f) (term_count (with_coefficient f at value)))) (address_found model var n there)))
 
     -- the row is vector affine, and has the output
     pub vec_coef_full : IsConsistent model → (fs : List Function) (output place : ℕ) (f : Function) → row.func ≡ AffineVec fs → (output == 0 || nat_lt (length fs) output) ≡ false → place ≡ output - 1 → slice_get fs place ≡ Some f → first_refusal model (edit.VecCoef name output var value) ≡ first_full (with_change_at (total_terms model) fs place f (λ f. with_coefficient f (variable_address n) value))
@@ -73,7 +70,7 @@ module _ (model : ModelValue) where
         ∙ ap (λ b. first_of ((b, OutputIndex) ∷ map full_at (counts model (edit.VecCoef name output var value)))) within) in
         all
         ∙ (ap first_full (vec_coef_counts model c name row found fs is output f (ap (slice_get fs) (sym at) ∙ component) var value)
-        ∙ (ap (λ a. first_full (with_change_at (total_terms model) fs (output - 1) f (λ f. with_coefficient f a value))) (address_found var n there)
+        ∙ (ap (λ a. first_full (with_change_at (total_terms model) fs (output - 1) f (λ f. with_coefficient f a value))) (address_found model var n there)
         ∙ ap (λ p. first_full (with_change_at (total_terms model) fs p f (λ f. with_coefficient f (variable_address n) value))) (sym at)))
 
   -- a new row that meets none of the first tests
@@ -152,4 +149,4 @@ module _ (model : ModelValue) where
       obj_coef name n value named
       ∙ (ap (λ o. first_of ((not (is_affine_objective o), FunctionShape) ∷ map full_at (counts model (edit.ObjCoef name value)))) is
       ∙ (ap first_full (obj_coef_counts model sense f name value is)
-      ∙ ap (λ at. first_full (with_change (total_terms model) (term_count f) (term_count (with_coefficient f at value)))) (address_found name n named)))
+      ∙ ap (λ at. first_full (with_change (total_terms model) (term_count f) (term_count (with_coefficient f at value)))) (address_found model name n named)))

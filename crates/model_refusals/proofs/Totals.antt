@@ -24,7 +24,7 @@ use Rattle.user_model.specs.Limits.{ALL_TERMS, TERMS}
 use Rattle.user_model.specs.Model.{ModelValue, address_named, is_variable, objective_terms, row_named, total_terms}
 use Rattle.user_model.specs.Refusals.{counts, terms_of_objective, terms_of_row, within}
 use Rattle.model_laws.specs.Changed.{change_row-found}
-use Rattle.model_laws.specs.ChangedRow.{row_named-put}
+use Rattle.model_laws.specs.ChangedRow.{terms_after}
 use Rattle.model_laws.specs.Found.{found_stands}
 use Rattle.model_laws.specs.KeptRows.{row_terms}
 use Rattle.model_laws.specs.Located.{row_by_number}
@@ -48,9 +48,6 @@ module _ (model : ModelValue) (c : IsConsistent model) (name : List ℕ) (row : 
 
     changed : change_function model name h ≡ record model { rows = put row_number new model.rows }
     changed = change_row-found model name (λ row. record row { func = h row.func }) row found
-
-    pub terms_of_row-changed : terms_of_row (change_function model name h) name ≡ term_counts (h row.func)
-    terms_of_row-changed = ap (λ m. terms_of_row m name) changed ∙ ap (λ o. option_map_or (λ r. term_counts r.func) o []) (row_named-put model c name row found new refl refl)
 
     pub total-changed : total_terms (change_function model name h) ≡ total_terms model - all_terms row.func + all_terms (h row.func)
     total-changed =
@@ -85,7 +82,7 @@ module _ (model : ModelValue) (c : IsConsistent model) (name : List ℕ) (row : 
     unfolding edited
     coef_counts =
         let same = (affine_shape h row.func).variable in
-        let terms : terms_of_row (change_function model name (on_affine h)) name ≡ term_count (h f) ∷ [] = terms_of_row-changed model c name row found (on_affine h) same ∙ ap (λ func. term_counts (on_affine h func)) affine_row in
+        let terms : terms_of_row (change_function model name (on_affine h)) name ≡ term_count (h f) ∷ [] = terms_after model c name row found (on_affine h) ∙ ap (λ func. term_counts (on_affine h func)) affine_row in
         let old : all_terms row.func ≡ term_count f = ap all_terms affine_row ∙ one_term (term_count f) in
         let new : all_terms (on_affine h row.func) ≡ term_count (h f) = ap (λ func. all_terms (on_affine h func)) affine_row ∙ one_term (term_count (h f)) in
         let total : total_terms (change_function model name (on_affine h)) ≡ total_terms model - term_count f + term_count (h f) = total-changed model c name row found (on_affine h) same ∙ ap₂ (λ o n. total_terms model - o + n) old new in
@@ -112,7 +109,7 @@ module _ (model : ModelValue) (c : IsConsistent model) (name : List ℕ) (row : 
     unfolding edited
     vec_coef_counts =
         let same = (output_shape output g row.func).variable in
-        let terms : terms_of_row (change_function model name (on_output output g)) name ≡ map term_count gs = terms_of_row-changed model c name row found (on_output output g) same ∙ ap (λ func. term_counts (on_output output g func)) affine_row in
+        let terms : terms_of_row (change_function model name (on_output output g)) name ≡ map term_count gs = terms_after model c name row found (on_output output g) ∙ ap (λ func. term_counts (on_output output g func)) affine_row in
         let old : all_terms row.func ≡ sum (map term_count fs) = ap all_terms affine_row in
         let new : all_terms (on_output output g row.func) ≡ sum (map term_count gs) = ap (λ func. all_terms (on_output output g func)) affine_row in
         let all : sum (map term_count fs) ≤ total_terms model = subst (λ func. all_terms func ≤ total_terms model) affine_row (row_part model c name row found) in

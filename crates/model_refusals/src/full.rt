@@ -19,7 +19,7 @@ use aff_core::{Address, Aff};
 use model_catalog::Catalog;
 use name_index::Names;
 use ratio_core::Ratio;
-use user_model::{NamedFunc, Objective, Refusal};
+use user_model::{NamedFunc, Refusal};
 
 /// The refusal where these variables are new.
 pub(crate) fn full_by_group(model: &Catalog, names: &Names) -> Option<Refusal>
@@ -78,7 +78,7 @@ pub(crate) fn full_by_objective(model: &Catalog, func: &NamedFunc) -> Option<Ref
     ensures { (sense : Sense) → result ≡ first_of
         (map full_at (counts model.now.model (edit.Objective sense func.now))) }
 {
-    let old = objective_terms(model.objective());
+    let old = model.objective().term_count();
     match func {
         NamedFunc::Affine(func) => full_by_terms(model, old, named_terms(func)),
         NamedFunc::Plain(_) | NamedFunc::PlainVec(_) | NamedFunc::AffineVec(_) => {
@@ -158,13 +158,4 @@ fn full_by_total(model: &Catalog, old: u64, new: u64) -> Option<Refusal>
         (((models.total_terms model.now.model) - old + new, limits.ALL_TERMS) ∷ [])) }
 {
     first_passed(&[(model.term_count() - old + new, ALL_TERMS)])
-}
-
-fn objective_terms(objective: &Objective) -> u64
-    ensures { result ≡ models.objective_terms objective.now }
-{
-    match objective {
-        Objective::Affine { func, .. } => func.term_count() as u64,
-        Objective::Feasibility | Objective::Plain { .. } => 0,
-    }
 }

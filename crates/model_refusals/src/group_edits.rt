@@ -51,9 +51,7 @@ pub(crate) fn reset<'a>(
 ) -> Result<AcceptedEdit<'a>, Refusal>
     ensures { IsAnswer model.now.model (edit.Reset var.now set.now) result }
 {
-    let Some(var) = grouped_variable(model, var) else {
-        return Err(Refusal::UnknownName);
-    };
+    let var = grouped_variable(model, var)?;
     if !set.is_scalar() || !var.group.set.is_scalar() {
         return Err(Refusal::FunctionShape);
     }
@@ -71,9 +69,7 @@ pub(crate) fn reset<'a>(
 pub(crate) fn free<'a>(model: &'a Catalog, var: &'a Name) -> Result<AcceptedEdit<'a>, Refusal>
     ensures { IsAnswer model.now.model (edit.FreeGroup var.now) result }
 {
-    let Some(var) = grouped_variable(model, var) else {
-        return Err(Refusal::UnknownName);
-    };
+    let var = grouped_variable(model, var)?;
     if !var.group.set.is_scalar() {
         return Err(Refusal::FunctionShape);
     }
@@ -88,9 +84,7 @@ pub(crate) fn delete_variable<'a>(
 ) -> Result<AcceptedEdit<'a>, Refusal>
     ensures { IsAnswer model.now.model (edit.DeleteVariable var.now) result }
 {
-    let Some(var) = grouped_variable(model, var) else {
-        return Err(Refusal::UnknownName);
-    };
+    let var = grouped_variable(model, var)?;
     if is_in_cone(model, &var) {
         return Err(Refusal::DeleteNotAllowed);
     }
@@ -106,9 +100,7 @@ pub(crate) fn rename_variable<'a>(
 ) -> Result<AcceptedEdit<'a>, Refusal>
     ensures { IsAnswer model.now.model (edit.RenameVariable old.now new.now) result }
 {
-    let Some(var) = grouped_variable(model, old) else {
-        return Err(Refusal::UnknownName);
-    };
+    let var = grouped_variable(model, old)?;
     if has_variable(model, new) {
         return Err(Refusal::NameTaken);
     }

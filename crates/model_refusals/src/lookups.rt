@@ -1,8 +1,9 @@
 //! What stands at the names of an edit.
-ghost use Rattle.std.specs.Prelude.{◌≡◌, MatchOption, None, not, map};
+ghost use Rattle.std.specs.Prelude.{◌≡◌, MatchResult, None, not, map};
 ghost use Rattle.std.specs.List.{list_any};
 ghost use Rattle.user_model.specs.Functions.{mentioned};
 ghost use Rattle.user_model.specs.Model.{row_named, variable_named};
+ghost use Rattle.user_model.specs.declared.refusal.Refusal.TheVariants.{UnknownName};
 ghost use Rattle.user_model.specs.Refusals.{has_row_named, has_variable_named};
 ghost use Rattle.model_refusals.specs.Accepted.{IsGrouped, IsRow, IsVariable};
 
@@ -10,39 +11,51 @@ use crate::{GroupedVariable, NamedRow, NamedVariable};
 use model_catalog::Catalog;
 use name_index::{Name, Names};
 use named_aff::{NamedTerm, NamedVec};
-use user_model::NamedFunc;
+use user_model::{NamedFunc, Refusal};
 
 /// The row with a name.
-pub(crate) fn row_named<'a>(model: &'a Catalog, name: &'a Name) -> Option<NamedRow<'a>>
-    ensures { MatchOption result (row_named model.now.model name.now ≡ None)
-        (λ row. (row.name.now ≡ name.now) × IsRow model.now.model row) }
+pub(crate) fn row_named<'a>(model: &'a Catalog, name: &'a Name) -> Result<NamedRow<'a>, Refusal>
+    ensures { MatchResult result
+        (λ row. (row.name.now ≡ name.now) × IsRow model.now.model row)
+        (λ refusal. (refusal ≡ UnknownName) × (row_named model.now.model name.now ≡ None)) }
 {
-    let row = model.row(name)?;
-    Some(NamedRow { name, row })
+    let Some(row) = model.row(name) else {
+        return Err(Refusal::UnknownName);
+    };
+    Ok(NamedRow { name, row })
 }
 
 /// The number of the variable with a name.
-pub(crate) fn variable_named<'a>(model: &Catalog, name: &'a Name) -> Option<NamedVariable<'a>>
-    ensures { MatchOption result (variable_named model.now.model name.now ≡ None)
-        (λ var. (var.name.now ≡ name.now) × IsVariable model.now.model var) }
+pub(crate) fn variable_named<'a>(
+    model: &Catalog,
+    name: &'a Name,
+) -> Result<NamedVariable<'a>, Refusal>
+    ensures { MatchResult result
+        (λ var. (var.name.now ≡ name.now) × IsVariable model.now.model var)
+        (λ refusal. (refusal ≡ UnknownName) × (variable_named model.now.model name.now ≡ None)) }
 {
-    let number = model.variable(name)?;
-    Some(NamedVariable { name, number })
+    let Some(number) = model.variable(name) else {
+        return Err(Refusal::UnknownName);
+    };
+    Ok(NamedVariable { name, number })
 }
 
 /// The variable with a name, and its group.
 pub(crate) fn grouped_variable<'a>(
     model: &'a Catalog,
     name: &'a Name,
-) -> Option<GroupedVariable<'a>>
-    ensures { MatchOption result (variable_named model.now.model name.now ≡ None)
-        (λ var. (var.name.now ≡ name.now) × IsGrouped model.now.model var) }
+) -> Result<GroupedVariable<'a>, Refusal>
+    ensures { MatchResult result
+        (λ var. (var.name.now ≡ name.now) × IsGrouped model.now.model var)
+        (λ refusal. (refusal ≡ UnknownName) × (variable_named model.now.model name.now ≡ None)) }
 {
-    let number = model.variable(name)?;
-    let group = model.group_of(number)?;
-    Some(GroupedVariable {
+    let found = variable_named(model, name)?;
+    let Some(group) = model.group_of(found.number) else {
+        return Err(Refusal::UnknownName);
+    };
+    Ok(GroupedVariable {
         name,
-        number,
+        number: found.number,
         group,
     })
 }

@@ -45,9 +45,7 @@ pub(crate) fn coef<'a>(
     requires { IsWithinLimits model.now.model }
     ensures { IsAnswer model.now.model (edit.ObjCoef var.now value.now) result }
 {
-    let Some(var) = variable_named(model, var) else {
-        return Err(Refusal::UnknownName);
-    };
+    let var = variable_named(model, var)?;
     let Objective::Affine { sense, func } = model.objective() else {
         return Err(Refusal::FunctionShape);
     };

@@ -64,12 +64,8 @@ pub(crate) fn coef<'a>(
     requires within { IsWithinLimits model.now.model }
     ensures { IsAnswer model.now.model (edit.Coef row.now var.now value.now) result }
 {
-    let Some(var) = variable_named(model, var) else {
-        return Err(Refusal::UnknownName);
-    };
-    let Some(row) = row_named(model, row) else {
-        return Err(Refusal::UnknownName);
-    };
+    let var = variable_named(model, var)?;
+    let row = row_named(model, row)?;
     let UserFunc::Affine(func) = &row.row.func else {
         return Err(Refusal::FunctionShape);
     };
@@ -93,9 +89,7 @@ pub(crate) fn constant<'a>(
 ) -> Result<AcceptedEdit<'a>, Refusal>
     ensures { IsAnswer model.now.model (edit.Constant row.now value.now) result }
 {
-    let Some(row) = row_named(model, row) else {
-        return Err(Refusal::UnknownName);
-    };
+    let row = row_named(model, row)?;
     let UserFunc::Affine(func) = &row.row.func else {
         return Err(Refusal::FunctionShape);
     };
@@ -119,12 +113,8 @@ pub(crate) fn vec_coef<'a>(
     requires within { IsWithinLimits model.now.model }
     ensures { IsAnswer model.now.model (edit.VecCoef row.now output var.now value.now) result }
 {
-    let Some(var) = variable_named(model, var) else {
-        return Err(Refusal::UnknownName);
-    };
-    let Some(row) = row_named(model, row) else {
-        return Err(Refusal::UnknownName);
-    };
+    let var = variable_named(model, var)?;
+    let row = row_named(model, row)?;
     let UserFunc::AffineVec(funcs) = &row.row.func else {
         return Err(Refusal::FunctionShape);
     };
@@ -153,9 +143,7 @@ pub(crate) fn vec_constant<'a>(
 ) -> Result<AcceptedEdit<'a>, Refusal>
     ensures { IsAnswer model.now.model (edit.VecConstant row.now output value.now) result }
 {
-    let Some(row) = row_named(model, row) else {
-        return Err(Refusal::UnknownName);
-    };
+    let row = row_named(model, row)?;
     let UserFunc::AffineVec(funcs) = &row.row.func else {
         return Err(Refusal::FunctionShape);
     };
@@ -179,9 +167,7 @@ pub(crate) fn set<'a>(
 ) -> Result<AcceptedEdit<'a>, Refusal>
     ensures { IsAnswer model.now.model (edit.RowSet row.now set.now) result }
 {
-    let Some(row) = row_named(model, row) else {
-        return Err(Refusal::UnknownName);
-    };
+    let row = row_named(model, row)?;
     if differ(is_scalar_function(&row.row.func), set.is_scalar()) {
         return Err(Refusal::FunctionShape);
     }
@@ -202,10 +188,8 @@ pub(crate) fn set<'a>(
 pub(crate) fn delete<'a>(model: &'a Catalog, row: &'a Name) -> Result<AcceptedEdit<'a>, Refusal>
     ensures { IsAnswer model.now.model (edit.DeleteRow row.now) result }
 {
-    match row_named(model, row) {
-        Some(row) => Ok(AcceptedEdit::DeleteRow { row }),
-        None => Err(Refusal::UnknownName),
-    }
+    let row = row_named(model, row)?;
+    Ok(AcceptedEdit::DeleteRow { row })
 }
 
 /// Another name of a row.
@@ -217,9 +201,7 @@ pub(crate) fn rename<'a>(
 ) -> Result<AcceptedEdit<'a>, Refusal>
     ensures { IsAnswer model.now.model (edit.RenameRow old.now new.now) result }
 {
-    let Some(row) = row_named(model, old) else {
-        return Err(Refusal::UnknownName);
-    };
+    let row = row_named(model, old)?;
     if has_row(model, new) {
         return Err(Refusal::NameTaken);
     }

@@ -1,46 +1,30 @@
 -- The variable at an address.
-use Rattle.std.proofs.Common.{◌≡◌, ◌≢◌, ℕ, ◌==◌, false, cond, List, [], ◌∷◌, length, Some, None, refl, sym, ap, ◌∙◌, arith, inl, inr}
+use Rattle.std.proofs.Common.{◌≡◌, ℕ, ◌==◌, cond, List, [], ◌∷◌, Option, Some, None, refl, sym, ap, ◌∙◌, arith}
 use Rattle.std.specs.List as list
-use Rattle.std.specs.Option.{option_map}
-use Rattle.std.proofs.lemmas.Bool.{cases_Bool, cases_eq, eq-eqb, ne_eqb}
+use Rattle.std.specs.Option.{option_and_then, option_map}
+use Rattle.std.proofs.lemmas.Bool.Decides.{nat_tests}
 use Rattle.numbered.specs.Numbered.{find}
-use Rattle.aff_core.specs.Address.{Address, address_eq, address_eq-Decides}
-use Rattle.aff_core.specs.declared.root.Root.TheVariants.{Variable}
+use Rattle.aff_core.specs.Address.{Address, address_eq}
 use Rattle.user_model.specs.declared.group.GroupVar.{GroupVar}
 use Rattle.user_model.specs.Model.{ModelValue, name_at, variable_address, variables}
 use Rattle.user_model.specs.Consistent.{variable_number}
+use Rattle.model_catalog.specs.Index.{is_number}
 use Rattle.model_catalog.specs.Named.{variable_name}
 
-not_equal : (at : Address) (n : ℕ) → variable_address n ≢ at → address_eq (variable_address n) at ≡ false
-not_equal at n ne =
-    elim (cases_Bool (address_eq (variable_address n) at)) [ inl same ↦ absurd (ne ((address_eq-Decides (variable_address n) at).0 same)) | inr other ↦ other ]
+either_way : (m n : ℕ) → (m == n) ≡ (n == m)
+either_way m n = grind (arith, nat_tests)
 
--- where no variable stands
-pub nothing_at : (model : ModelValue) (at : Address) → ((n : ℕ) → variable_address n ≢ at) → None ≡ name_at model at
-nothing_at model at ne = sym (ap (option_map (λ v. v.name)) (none (variables model)))
+-- the name of the variable whose address it is, and none where it is no variable's
+pub name_found : (model : ModelValue) (at : Address) (number : Option ℕ) → ((n : ℕ) → address_eq (variable_address n) at ≡ is_number number n) → option_and_then (variable_name model) number ≡ name_at model at
+name_found model at None is = sym (ap (option_map (λ v. v.name)) (none (variables model)))
   where
     none : (vars : List GroupVar) → list.find (λ v. address_eq (variable_address v.number) at) vars ≡ None
     none [] = refl
-    none (v ∷ vars) = ap (λ b. cond b (Some v) (list.find (λ v. address_eq (variable_address v.number) at) vars)) (not_equal at v.number (ne v.number)) ∙ none vars
-
-no_positions : (ps : List ℕ) → length ps ≡ 0 → ps ≡ []
-no_positions [] e = refl
-no_positions (p ∷ ps) e = absurd (omega (arith, e))
-
--- the variable with the address's number
-pub variable_at : (model : ModelValue) (at : Address) → at.root ≡ Variable → length at.positions ≡ 0 → variable_name model at.number ≡ name_at model at
-variable_at model at root depth = ap (option_map (λ v. v.name)) (same (variables model))
+    none (v ∷ vars) = ap (λ b. cond b (Some v) (list.find (λ v. address_eq (variable_address v.number) at) vars)) (is v.number) ∙ none vars
+name_found model at (Some number) is = ap (option_map (λ v. v.name)) (same (variables model))
   where
-    is : at ≡ variable_address at.number
-    is = λ i. record { root = root i; number = at.number; positions = no_positions at.positions depth i }
-
-    test : (n : ℕ) → (n == at.number) ≡ address_eq (variable_address n) at
-    test n = elim (cases_eq n at.number) [
-      | inl e ↦ eq-eqb n at.number e ∙ sym ((address_eq-Decides (variable_address n) at).1 (ap variable_address e ∙ sym is))
-      | inr ne ↦ ne_eqb n at.number ne ∙ sym (not_equal at n (λ e. ne (ap (λ a. a.number) e)))
-    ]
-
-    same : (vars : List GroupVar) → find variable_number at.number vars ≡ list.find (λ v. address_eq (variable_address v.number) at) vars
+    same : (vars : List GroupVar) → find variable_number number vars ≡ list.find (λ v. address_eq (variable_address v.number) at) vars
     same [] = refl
     same (v ∷ vars) =
-        ap (λ b. cond b (Some v) (find variable_number at.number vars)) (test v.number) ∙ ap (λ o. cond (address_eq (variable_address v.number) at) (Some v) o) (same vars)
+        ap (λ b. cond b (Some v) (find variable_number number vars)) (either_way v.number number ∙ sym (is v.number))
+        ∙ ap (λ o. cond (address_eq (variable_address v.number) at) (Some v) o) (same vars)

@@ -3,7 +3,7 @@ use Rattle.std.proofs.Common.{◌≡◌, ℕ, ◌+◌, ◌≤◌, List, [], ◌�
 use Rattle.std.specs.Prelude.{All, is_some, sum_by}
 use Rattle.std.proofs.lemmas.List.{length-map}
 use Rattle.std.proofs.lemmas.List.Elements.{All-head, All-push, All-weaker}
-use Rattle.std.proofs.lemmas.List.Sums.{count_by-le-length, sum_by-append, sum_by-cons}
+use Rattle.std.proofs.lemmas.List.Sums.{count_by-le-length, sum_by_push}
 use Rattle.map_laws.specs.EachLaws.{all_first, all_second}
 use Rattle.numbered.specs.Changes.{AreChanges, added}
 use Rattle.numbered.specs.ChangeLaws.{AreChanges-olds, added-le, room_back}
@@ -38,12 +38,6 @@ still_parked parked names old new h more =
     let v = h.variables in let r = h.rows in let vs = more.variable_names in let rs = more.row_names in
     record { lengths = more_lengths parked old new more.groups more.rows more.variables h.lengths; counted = h.counted; variables = omega (arith, v, vs); rows = omega (arith, r, rs) }
 
-last_count : (count : Parked → ℕ) (parked : List Parked) (entry : Parked) → sum_by count (parked ++ entry ∷ []) ≡ sum_by count parked + count entry
-last_count count parked entry =
-    let all = sum_by-append count parked (entry ∷ []) in
-    let one = sum_by-cons count entry [] in
-    omega (arith, all, one)
-
 -- ---- one entry more
 
 module _ (plan : Plan) (names : NameCounts) (reserved : Reserved) (old new : Catalog) (with : Exchange) (parked : List Parked) (entry : Parked) (h : IsReserved plan names reserved old) where
@@ -51,8 +45,8 @@ module _ (plan : Plan) (names : NameCounts) (reserved : Reserved) (old new : Cat
   parked_more was keeps room lists groups rows vars =
       let vs : length entry.names.variables.items ≡ length plan.names.variables.items = ap length lists.variables ∙ length-map plan.names.variables.items _ in
       let rs : length entry.names.rows.items ≡ length plan.names.rows.items = ap length lists.rows ∙ length-map plan.names.rows.items _ in
-      let all_vs = last_count variable_count parked entry in
-      let all_rs = last_count row_count parked entry in
+      let all_vs = sum_by_push variable_count parked entry in
+      let all_rs = sum_by_push row_count parked entry in
       let put_vs = put-le plan.names.variables.items in
       let put_rs = put-le plan.names.rows.items in
       let counted_vs = was.counted.variables in let counted_rs = was.counted.rows in
@@ -90,8 +84,8 @@ entry_of plan names reserved old new entry undo h c are after is back lists grou
 module _ (others : List Parked) (entry : Parked) (names left : NameCounts) where
   pub counts_fit : IsCounted (others ++ entry ∷ []) names → (variable_count entry ≤ names.variables) × (row_count entry ≤ names.rows)
   counts_fit h =
-      let all_vs = last_count variable_count others entry in
-      let all_rs = last_count row_count others entry in
+      let all_vs = sum_by_push variable_count others entry in
+      let all_rs = sum_by_push row_count others entry in
       let a = h.variables in let b = h.rows in
       (omega (arith, all_vs, a), omega (arith, all_rs, b))
 
@@ -110,8 +104,8 @@ module _ (others : List Parked) (entry : Parked) (names left : NameCounts) where
 
     pub parked_less : (new : Room) → KeepsRoom entry.names room new → IsParked others left new
     parked_less new keeps =
-        let all_vs = last_count variable_count others entry in
-        let all_rs = last_count row_count others entry in
+        let all_vs = sum_by_push variable_count others entry in
+        let all_rs = sum_by_push row_count others entry in
         let a = h.counted.variables in let b = h.counted.rows in
         let cv = c.variables in let cr = c.rows in
         let put_vs = put-le entry.names.variables.items in

@@ -1,12 +1,14 @@
 //! The user's model: edits, and taking them back.
 ghost use Rattle.std.specs.Prelude.{◌≡◌, [], List, Some, None, IfOk, IfErr, OnErr, MatchResult};
 ghost use Rattle.std.specs.Option.{option_copied, option_map};
+ghost use Rattle.user_model.specs.Consistent.{IsConsistent, IsWithinLimits};
 ghost use Rattle.user_model.specs.Edited.{edited};
 ghost use Rattle.user_model.specs.Model as model;
 ghost use Rattle.user_model.specs.Refusals as refusals;
 ghost use Rattle.user_model.specs.Undone.{IsUndo, before};
 ghost use Rattle.user_model.specs.Valid.{IsValid};
 ghost use Rattle.model_store.specs.declared.parked.Parked.{Parked};
+ghost use Rattle.model_plans.specs.Plans.{Leads};
 ghost use Rattle.user_model.specs.Accepted.{LeadsTo};
 ghost use Rattle.model_store.specs.Store.{HasParked, IsButLast, IsLastOf, refusal_of};
 ghost use Rattle.user_model.specs.Model.{name_at};
@@ -14,8 +16,8 @@ ghost use Rattle.user_model.specs.Model.{name_at};
 use crate::Parked;
 use crate::parking::{NameCounts, park, reserve, take_last};
 use aff_core::{Address, Root};
-use model_catalog::{Catalog, Exchange};
-use model_plans::planned;
+use model_catalog::{Catalog, Exchange, variable_at};
+use model_plans::{Plan, planned};
 use model_refusals::accepted;
 use name_index::Name;
 use std::alloc::Global;
@@ -102,13 +104,8 @@ impl UserModel {
     pub fn variable_name(&self, at: &Address) -> Option<&Name>
         ensures { option_copied result ≡ name_at self.now.model at.now }
     {
-        let Root::Variable = at.kind() else {
-            return None;
-        };
-        if at.depth() > 0 {
-            return None;
-        }
-        self.catalog.variable_name(at.number())
+        let number = variable_at(at)?;
+        self.catalog.variable_name(number)
     }
 
     /// Why an edit would be refused, the first reason in the order of refusals.
@@ -138,32 +135,10 @@ impl UserModel {
             ≡ refusals.first_refusal self.old.model edit) }
         ensures kept { OnErr result (self.new ≡ self.old) }
     {
-        self.make(&edit)
-    }
-
-    // The same, of an edit that is let go in one place, by `apply`.
-    fn make(&mut self, edit: &Edit) -> Result<Undo, ApplyFault>
-        ensures ok { IfOk result (λ undo. refusals.first_refusal self.old.model edit.now ≡ None) }
-        ensures model { IfOk result (λ undo. self.new.model ≡ edited self.old.model edit.now) }
-        ensures valid { IfOk result (λ undo. IsValid self.new.model) }
-        ensures edit { IfOk result (λ undo. LeadsTo self.old.model self.new.model) }
-        ensures undo { IfOk result (IsUndo self.old.model self.new.model) }
-        ensures before { IfOk result (λ undo. before self.new.model undo ≡ self.old.model) }
-        ensures parked { IfOk result (HasParked self.old.parked self.new.parked self.new.model) }
-        ensures refused { IfErr result (λ fault. refusal_of fault
-            ≡ refusals.first_refusal self.old.model edit.now) }
-        ensures kept { OnErr result (self.new ≡ self.old) }
-    {
-        let found = match accepted(&self.catalog, edit) {
-            Ok(found) => found,
-            Err(refusal) => return Err(ApplyFault::Refused(refusal)),
-        };
-        // The plan asks for a consistent model within its limits, and the reader says that the kept
-        // one is. It costs nothing.
-        let _ = self.catalog.groups();
-        let Ok(plan) = planned(self.alloc, &self.catalog, &found) else {
-            return Err(ApplyFault::Memory);
-        };
+        let planned = plan_of(self.alloc, &self.catalog, &edit);
+        // let go here, where no way has parted yet
+        drop(edit);
+        let plan = planned?;
         let Ok(reserved) = reserve(&mut self.catalog, &mut self.parked, &plan, self.names) else {
             return Err(ApplyFault::Memory);
         };
@@ -200,5 +175,26 @@ impl UserModel {
     {
         drop(undo);
         drop(take_last(&mut self.parked, &mut self.names));
+    }
+}
+
+// What an edit is to make of the model, or why it isn't made.
+fn plan_of(alloc: Global, catalog: &Catalog, edit: &Edit) -> Result<Plan, ApplyFault>
+    ensures ok { IfOk result (λ _. refusals.first_refusal catalog.now.model edit.now ≡ None) }
+    ensures leads { IfOk result (Leads catalog.now.model (edited catalog.now.model edit.now)) }
+    ensures refused { IfErr result (λ fault. refusal_of fault
+        ≡ refusals.first_refusal catalog.now.model edit.now) }
+    ensures consistent { IsConsistent catalog.now.model }
+    ensures within { IsWithinLimits catalog.now.model }
+{
+    // what this ensures of the model, as a plan asks for
+    let _ = catalog.groups();
+    let found = match accepted(catalog, edit) {
+        Ok(found) => found,
+        Err(refusal) => return Err(ApplyFault::Refused(refusal)),
+    };
+    match planned(alloc, catalog, &found) {
+        Ok(plan) => Ok(plan),
+        Err(_) => Err(ApplyFault::Memory),
     }
 }

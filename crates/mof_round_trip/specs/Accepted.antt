@@ -11,14 +11,9 @@ use Rattle.user_model.specs.Limits.{TERMS}
 use Rattle.user_model.specs.Model.{ModelValue}
 use Rattle.user_model.specs.Refusals.{counts, first_of, first_refusal, full_at, refusal_tests, within}
 use Rattle.model_laws.specs.KeptConsistent.{kept_consistent}
-use Rattle.model_laws.specs.Passed.{IsPassed}
+use Rattle.model_laws.specs.Passed.{AllFail, IsPassed}
 
 -- ---- one edit
-
--- no test of the list holds
-abbrev AllFail : List (Bool × Refusal) → Type 0
-AllFail [] = Unit {0}
-AllFail (test ∷ tests) = (test.0 ≡ false) × AllFail tests
 
 none_first : (tests : List (Bool × Refusal)) → AllFail tests → first_of tests ≡ None
 none_first [] h = refl

@@ -14,7 +14,7 @@ use Rattle.user_model.specs.declared.function.UserFunc.TheVariants.{Plain, Affin
 use Rattle.user_model.specs.declared.group.Group.{Group}
 use Rattle.user_model.specs.declared.group.GroupVar.{GroupVar}
 use Rattle.user_model.specs.declared.row.Row.{Row}
-use Rattle.user_model.specs.Consistent.{IsConsistent, variable_number}
+use Rattle.user_model.specs.Consistent.{variable_number}
 use Rattle.user_model.specs.Model.{ModelValue, has_variable, is_created, is_variable, variable_address, variables}
 use Rattle.user_model.specs.SameUpToNumbers.{function_by_position, group_by_position, groups_by_position, position, row_by_position}
 use Rattle.user_model.specs.Valid.{bound_count, is_created_by}
@@ -43,7 +43,7 @@ abbrev pub has_bound : (Set → Bool) → ModelValue → ℕ → Bool
 has_bound test model n =
     list_any (λ r. is_variable n r.func && test r.set) model.rows || is_created test model n
 
-module _ (model : ModelValue) (c : IsConsistent model) where
+module _ (model : ModelValue) where
   abbrev place : ℕ → ℕ
   place n = position (numbers model) n
 
@@ -53,7 +53,7 @@ module _ (model : ModelValue) (c : IsConsistent model) where
         ≡ is_variable v.number func
     variable_kept (Plain at) h =
         ap (address_eq (variable_address (place v.number))) (placed_address model at h)
-        ∙ ap is_eq (placed_order model c v h.var there h.there)
+        ∙ ap is_eq (placed_order model v h.var there h.there)
         ∙ ap (address_eq (variable_address v.number)) h.address
     variable_kept (Affine f) h = refl
     variable_kept (PlainVec vars) h = refl
@@ -74,7 +74,7 @@ module _ (model : ModelValue) (c : IsConsistent model) where
     group_kept g inside =
         any_made (made_variable model) (Contains g.vars) (λ w. w.number == place v.number)
         (λ w. w.number == v.number)
-        (λ w own. position_test variable_number (variables model) c.variables_rise w v
+        (λ w own. position_test variable_number (variables model) w v
         (stands_in_joined (λ g. g.vars) model.groups g w inside own) there)
         g.vars (All-contains_itself g.vars)
 
@@ -117,7 +117,7 @@ module _ (test : Set → Bool) (n : ℕ) (groups : List Group) (done : List Row)
   not_created = let few = no_more in none_there _ (omega (arith, few))
 
 -- so a variable that a row bounds has no bound before
-pub unbound : (model : ModelValue) (c : IsConsistent model) (test : Set → Bool)
+pub unbound : (model : ModelValue) (test : Set → Bool)
     (other : ModelValue) (v : GroupVar) → Contains (variables model) v
     → other.groups ≡ groups_by_position model → (done : List Row)
     → other.rows ≡ map (row_by_position model) done
@@ -125,9 +125,9 @@ pub unbound : (model : ModelValue) (c : IsConsistent model) (test : Set → Bool
     → list_any (λ r. is_variable v.number r.func && test r.set) done ≡ false
     → is_created_by test model.groups v.number ≡ false
     → has_bound test other (position (numbers model) v.number) ≡ false
-unbound model c test other v there same_groups done same_rows placed none uncreated =
+unbound model test other v there same_groups done same_rows placed none uncreated =
     or_from _ _
     (ap (list_any (λ r. is_variable (position (numbers model) v.number) r.func && test r.set))
     same_rows
-    ∙ rows_kept model c v there test done placed ∙ none)
-    (created_kept model c v there test other same_groups ∙ uncreated)
+    ∙ rows_kept model v there test done placed ∙ none)
+    (created_kept model v there test other same_groups ∙ uncreated)

@@ -32,15 +32,15 @@ use Rattle.mof_round_trip.specs.Renumbered.{HasVariables, address_again, address
 -- ---- addresses of variables
 
 -- positions of variables compare as their numbers do
-pub placed_order : (model : ModelValue) → IsConsistent model → (v w : GroupVar)
+pub placed_order : (model : ModelValue) (v w : GroupVar)
     → Contains (variables model) v → Contains (variables model) w
     → address_cmp (variable_address (position (numbers model) v.number))
     (variable_address (position (numbers model) w.number))
     ≡ address_cmp (variable_address v.number) (variable_address w.number)
 unfolding address_cmp
-placed_order model c v w here there =
+placed_order model v w here there =
     ap (λ o. ordering_then o Equal)
-    (position_order variable_number (variables model) c.variables_rise v w here there)
+    (position_order variable_number (variables model) v w here there)
 
 -- ---- terms that rise
 
@@ -91,7 +91,7 @@ module _ (model : ModelValue) (c : IsConsistent model) where
       ≡ address_cmp one other
   order_kept one other h g =
       ap₂ address_cmp (placed_address model one h) (placed_address model other g)
-      ∙ placed_order model c h.var g.var h.there g.there
+      ∙ placed_order model h.var g.var h.there g.there
       ∙ ap₂ address_cmp h.address g.address
 
   below_kept : (t : Address × Rational) (ts : List (Address × Rational)) → HasVariableAt model t.0

@@ -12,7 +12,7 @@ use Rattle.map_laws.specs.EachLaws.{all_first, all_second}
 use Rattle.map_laws.specs.PairLaws.{AllPairs-across, AllPairs-first, AllPairs-head, AllPairs-second, AllPairs-tail}
 use Rattle.set_core.specs.declared.set.Set.{Set}
 use Rattle.set_core.specs.Shapes.{IsSetOf, dimension_of, has_bad_dimension, is_scalar, least_dimension}
-use Rattle.set_core.specs.ShapeLaws.{scalar_one}
+use Rattle.set_core.specs.ShapeLaws.{good_dimension, scalar_one}
 use Rattle.user_model.specs.declared.edit.Edit.{Edit}
 use Rattle.user_model.specs.declared.group.Group.{Group}
 use Rattle.user_model.specs.declared.group.GroupVar.{GroupVar}
@@ -26,7 +26,7 @@ use Rattle.user_model.specs.Valid.{IsValid, IsValidGroup}
 use Rattle.model_laws.specs.Found.{is_some-find}
 use Rattle.model_laws.specs.Passed.{IsPassed}
 use Rattle.mof_laws.specs.EditLaws.{group_edit, some_components}
-use Rattle.mof_laws.specs.OwnerLaws.{vars_in}
+use Rattle.model_laws.specs.Variables.{vars_in}
 use Rattle.mof_laws.specs.ReadBack.{var_names}
 use Rattle.mof_round_trip.specs.Accepted.{AreWithin, LeadTo, each_leads, each_within}
 use Rattle.user_model.specs.PositionLaws.{placed_here}
@@ -41,13 +41,6 @@ one_component set n h = by (is_scalar set) refl
     by : (b : Bool) → is_scalar set ≡ b → (b && not (n == 1)) ≡ false
     by true e = ap (λ b. not b) (eq-eqb n 1 (sym h.dimension ∙ scalar_one set e))
     by false e = refl
-
-pub right_dimension : (set : Set) (n : ℕ) → IsSetOf n set → has_bad_dimension set n ≡ false
-right_dimension set n h =
-    and_right (not (is_scalar set)) _
-    (or_from _ _ (ap (λ b. not b) (eq-eqb (dimension_of set) n h.dimension))
-    (le-ltb (dimension_of set) (least_dimension set)
-    (subst (λ k. least_dimension set ≤ k) (sym h.dimension) h.enough)))
 
 -- ---- names that are apart
 
@@ -187,7 +180,7 @@ module _ (model : ModelValue) (valid : IsValid model) where
       shaped = ap (λ n. is_scalar g.set && not (n == 1)) names_count
           ∙ one_component g.set (length g.vars) this_valid.set;
       dimension = ap (has_bad_dimension g.set) names_count
-          ∙ right_dimension g.set (length g.vars) this_valid.set;
+          ∙ good_dimension (length g.vars) g.set this_valid.set;
       output = refl;
       interval = this_valid.set.uncrossed;
       lower = refl;

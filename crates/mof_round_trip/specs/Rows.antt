@@ -14,6 +14,7 @@ use Rattle.aff_core.specs.Address.{Address, address_eq, address_eq-Decides}
 use Rattle.aff_core.specs.Function.{Function, terms_of}
 use Rattle.set_core.specs.declared.set.Set.{Set}
 use Rattle.set_core.specs.Shapes.{has_bad_dimension}
+use Rattle.set_core.specs.ShapeLaws.{good_dimension}
 use Rattle.user_model.specs.declared.function.UserFunc.{UserFunc}
 use Rattle.user_model.specs.declared.function.UserFunc.TheVariants.{Plain, Affine, PlainVec, AffineVec}
 use Rattle.user_model.specs.declared.objective.Objective.TheVariants as objective
@@ -41,7 +42,7 @@ use Rattle.mof_laws.specs.WrittenLaws.{function_size}
 use Rattle.mof_round_trip.specs.Accepted.{AreWithin, LeadTo, each_leads, each_within, terms_within}
 use Rattle.mof_round_trip.specs.Bounds.{has_bound, no_row_before, not_created, unbound}
 use Rattle.mof_round_trip.specs.Functions.{HasTerms, HasVariable, IsPlaced, located_is, placed_counts}
-use Rattle.mof_round_trip.specs.Groups.{other_name, right_dimension}
+use Rattle.mof_round_trip.specs.Groups.{other_name}
 use Rattle.user_model.specs.PositionLaws.{placed_here}
 use Rattle.mof_round_trip.specs.Renumbered.{HasVariables, made_variables, none_made, number_of_name}
 
@@ -198,7 +199,7 @@ module _ (model : ModelValue) (valid : IsValid model) where
     bound_free test single (Plain at) e h =
         ap (λ o. test r.set && option_map_or (has_bound test (with_rows model done)) o false)
         (number_of_name model valid.consistent (with_rows model done) (rows_have model done) at h)
-        ∙ unless _ _ (λ is. unbound model valid.consistent test (with_rows model done) h.var h.there
+        ∙ unless _ _ (λ is. unbound model test (with_rows model done) h.var h.there
         refl done refl done_placed
         (no_row_before test h.var.number model.groups done r rest (at_most_one h.var.number)
         (bounds is))
@@ -286,7 +287,7 @@ module _ (model : ModelValue) (valid : IsValid model) where
       free = name_free;
       shaped = same_shape _ _ (this_valid.shape ∙ sym (scalar_kept model r.func));
       dimension = ap (has_bad_dimension r.set) size
-          ∙ right_dimension r.set (components r.func) this_valid.set;
+          ∙ good_dimension (components r.func) r.set this_valid.set;
       output = refl;
       interval = this_valid.set.uncrossed;
       lower = bound_free sets_lower valid.parts.lower r.func refl this_placed;

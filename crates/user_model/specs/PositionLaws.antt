@@ -24,6 +24,36 @@ pub position_low : (m : ℕ) (ms : List ℕ) (n : ℕ) → n ≤ m → position 
 position_low m ms n h =
     position_more m ms n ∙ ap (λ b. cond b 1 0 + position ms n) (le-ltb m n h) ∙ omega arith
 
+-- a number that is below another is below each that is no less
+least_more : (a m n : ℕ) → m ≤ n → cond (nat_lt a m) 1 0 ≤ cond (nat_lt a n) 1 0
+least_more a m n h = grind (arith, nat_tests)
+
+-- a greater number has no lesser position
+position_most : (ms : List ℕ) (m n : ℕ) → m ≤ n → position ms m ≤ position ms n
+position_most [] m n h = omega arith
+position_most (a ∷ ms) m n h =
+    let first = position_more a ms m in
+    let second = position_more a ms n in
+    let rest = position_most ms m n h in
+    let least = least_more a m n h in
+    omega (arith, first, second, rest, least)
+
+-- a number of the list has a lesser position than any that is greater
+pub position_less : (ms : List ℕ) (m n : ℕ) → Contains ms m → m < n
+    → position ms m < position ms n
+position_less [] m n there h = absurd (omega (arith, there.1))
+position_less (a ∷ ms) m n (zero, inside, is) h =
+    let first = position_low a ms m (omega (arith, is)) in
+    let second = position_above a ms n (omega (arith, is, h)) in
+    let rest = position_most ms m n (omega (arith, h)) in
+    omega (arith, first, second, rest)
+position_less (a ∷ ms) m n (suc k, inside, is) h =
+    let first = position_more a ms m in
+    let second = position_more a ms n in
+    let rest = position_less ms m n (k, omega (arith, inside), is) h in
+    let least = least_more a m n (omega (arith, h)) in
+    omega (arith, first, second, rest, least)
+
 -- numbers in the order of two others
 pub cmp_alike : (m n p q : ℕ) → (m < n → p < q) → (n < m → q < p) → (m ≡ n → p ≡ q)
     → nat_cmp p q ≡ nat_cmp m n
@@ -41,6 +71,13 @@ module _ {X : Type 0} (number_of : X → ℕ) where
       let above : n < number_of x = All-head (λ x. n < number_of x) x xs h in
       position_low (number_of x) (map number_of xs) n (omega (arith, above))
       ∙ none_counted xs n (All-tail (λ x. n < number_of x) x xs h)
+
+  number_in : (xs : List X) (x : X) → Contains xs x → Contains (map number_of xs) (number_of x)
+  number_in xs x there = (
+    there.0,
+    omega (arith, there.1, length-map xs number_of),
+    get_or-map number_of xs there.0 x (number_of x) there.1 ∙ ap number_of there.2,
+  )
 
   -- the position of the item at a place is the place
   at_place : (xs : List X) → Rise number_of xs → (k : ℕ) (d : X) → k < length xs
@@ -84,55 +121,19 @@ module _ {X : Type 0} (number_of : X → ℕ) where
       )
       ∙ sym (placed xs rise x there)
 
-  module _ (xs : List X) (rise : Rise number_of xs) (x y : X) (here : Contains xs x)
-      (there : Contains xs y) where
-    same_item : here.0 ≡ there.0 → x ≡ y
-    same_item e =
-        sym here.2 ∙ ap (λ k. slice_index_or xs k x) e
-        ∙ get_or_default xs there.0 x y there.1 ∙ there.2
-
-    less_number : here.0 < there.0 → number_of x < number_of y
-    less_number below =
-        let less = rise.rising here.0 there.0 x below there.1 in
-        let first : number_of (slice_index_or xs here.0 x) ≡ number_of x = ap number_of here.2 in
-        let second : number_of (slice_index_or xs there.0 x) ≡ number_of y =
-        ap number_of (get_or_default xs there.0 x y there.1 ∙ there.2) in
-        omega (arith, less, first, second)
-
-  module _ (xs : List X) (rise : Rise number_of xs) (x y : X) (here : Contains xs x)
-      (there : Contains xs y) where
-    -- a lesser number stands at a lesser position
-    position_rises : number_of x < number_of y
-        → position (map number_of xs) (number_of x) < position (map number_of xs) (number_of y)
-    position_rises less =
-        let first = placed xs rise x here in
-        let second = placed xs rise y there in
-        omega (arith, first, second, in_order (cases_order here.0 there.0))
-      where
-        in_order : (here.0 ≡ there.0) ⊎ ((here.0 < there.0) ⊎ (there.0 < here.0))
-            → here.0 < there.0
-        in_order (inl e) =
-            let same = ap number_of (same_item xs rise x y here there e) in
-            absurd (omega (arith, less, same))
-        in_order (inr (inl below)) = below
-        in_order (inr (inr above)) =
-            let more = less_number xs rise y x there here above in absurd
-            (omega (arith, less, more))
-
   -- positions compare as the numbers do
-  pub position_order : (xs : List X) → Rise number_of xs → (x y : X) → Contains xs x
-      → Contains xs y
+  pub position_order : (xs : List X) (x y : X) → Contains xs x → Contains xs y
       → nat_cmp (position (map number_of xs) (number_of x))
       (position (map number_of xs) (number_of y))
       ≡ nat_cmp (number_of x) (number_of y)
-  position_order xs rise x y here there =
-      cmp_alike (number_of x) (number_of y) _ _ (position_rises xs rise x y here there)
-      (position_rises xs rise y x there here) (ap (position (map number_of xs)))
+  position_order xs x y here there =
+      cmp_alike (number_of x) (number_of y) _ _ (position_less _ _ _ (number_in xs x here))
+      (position_less _ _ _ (number_in xs y there)) (ap (position (map number_of xs)))
 
   -- and they are one where the numbers are
-  pub position_test : (xs : List X) → Rise number_of xs → (x y : X) → Contains xs x → Contains xs y
+  pub position_test : (xs : List X) (x y : X) → Contains xs x → Contains xs y
       → (position (map number_of xs) (number_of x) == position (map number_of xs) (number_of y))
       ≡ (number_of x == number_of y)
-  position_test xs rise x y here there =
-      test_alike (number_of x) (number_of y) _ _ (position_rises xs rise x y here there)
-      (position_rises xs rise y x there here) (ap (position (map number_of xs)))
+  position_test xs x y here there =
+      test_alike (number_of x) (number_of y) _ _ (position_less _ _ _ (number_in xs x here))
+      (position_less _ _ _ (number_in xs y there)) (ap (position (map number_of xs)))

@@ -1,5 +1,6 @@
 //! Objectives.
 ghost use Rattle.std.specs.Prelude.{◌≡◌, IfOk};
+ghost use Rattle.user_model.specs.Model.{objective_terms};
 
 use aff_core::{Address, Aff, Sense};
 use lists::Duplicate;
@@ -33,5 +34,15 @@ impl Objective {
                 func: func.copy()?,
             },
         })
+    }
+
+    /// How many terms its function has.
+    pub fn term_count(&self) -> u64
+        ensures { result ≡ objective_terms self.now }
+    {
+        match self {
+            Objective::Affine { func, .. } => func.term_count() as u64,
+            Objective::Feasibility | Objective::Plain { .. } => 0,
+        }
     }
 }

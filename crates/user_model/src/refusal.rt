@@ -1,6 +1,5 @@
 //! Why an edit is refused.
 use ratio_core::Memory;
-use std::alloc::{AllocError, AllocFailed};
 use thiserror::Error;
 
 /// Why an edit is refused. Where several of these hold, the first is the answer.
@@ -53,18 +52,6 @@ pub enum ApplyFault {
 
 impl From<Memory> for ApplyFault {
     fn from(_fault: Memory) -> ApplyFault {
-        ApplyFault::Memory
-    }
-}
-
-impl From<AllocError> for ApplyFault {
-    fn from(_fault: AllocError) -> ApplyFault {
-        ApplyFault::Memory
-    }
-}
-
-impl<T: Drop> From<AllocFailed<T>> for ApplyFault {
-    fn from(_fault: AllocFailed<T>) -> ApplyFault {
         ApplyFault::Memory
     }
 }

@@ -13,7 +13,7 @@ pub returns-in-Affine : goal.returns-in-Affine
 returns-in-Affine c = λ sense.
     let model = c.args.model.now.model in
     let func = c.in-Affine.func in
-    let old = c.objective_terms-old.ensures ∙ ap objective_terms c.objective.ensures.value in
+    let old = c.term_count-old.ensures ∙ ap objective_terms c.objective.ensures.value in
     let new = c.named_terms.ensures.value model c.requires.consistent (subst (IsKnown model) c.in-Affine.is c.requires.known) in
     c.full_by_terms.ensures
     ∙ (ap₂ (λ o n. first_full (with_change (total_terms model) o n)) old new
@@ -22,7 +22,7 @@ returns-in-Affine c = λ sense.
 pub returns-in-Plain : goal.returns-in-Plain
 returns-in-Plain c = λ sense.
     let model = c.args.model.now.model in
-    let old = c.objective_terms-old.ensures ∙ ap objective_terms c.objective.ensures.value in
+    let old = c.term_count-old.ensures ∙ ap objective_terms c.objective.ensures.value in
     c.full_by_total.ensures
     ∙ (ap (λ o. first_full ((total_terms model - o + 0, ALL_TERMS) ∷ [])) old
     ∙ elim c.in-Plain.is [

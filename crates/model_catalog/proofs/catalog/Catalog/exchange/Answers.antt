@@ -79,7 +79,7 @@ overflow_add-self c =
     let names = c.args.names.now in
     let is = ready model c.args.self.now.model a.kept.items a.variable_names.numbers a.row_names.numbers a.terms c.args.with.now names (ap (λ (x : Catalog). x.model) c.self.view_is) c.self.invariant.keeps c.requires.changes c.requires.consistent c.requires.within c.requires.names in
     let back = with_items_is c.args.with.now.rows c.exchange_rows.new.changes (c.exchange_rows.auto.changes ∙ c.deref_mut-5.ensures.len) ∙ (c.exchange_rows.ensures.before ∙ ap (λ (cs : List (Change Row)). olds row_number cs a.rows.items) c.deref_mut-5.ensures.value) in
-    let fit = terms_fit model a.kept.items a.variable_names.numbers a.row_names.numbers a.terms c.args.with.now names is c.changed_terms-put_in.result c.changed_terms-taken_out.result c.objective_terms-objective_was.result (objective_terms (unwrap_or c.args.with.now.objective a.objective)) c.deref.result.now c.deref-3.result.now c.deref.ensures.value (c.deref-3.ensures.value ∙ back) c.changed_terms-put_in.ensures c.changed_terms-taken_out.ensures c.objective_terms-objective_was.ensures refl in
+    let fit = terms_fit model a.kept.items a.variable_names.numbers a.row_names.numbers a.terms c.args.with.now names is c.changed_terms-put_in.result c.changed_terms-taken_out.result c.term_count-objective_was.result (objective_terms (unwrap_or c.args.with.now.objective a.objective)) c.deref.result.now c.deref-3.result.now c.deref.ensures.value (c.deref-3.ensures.value ∙ back) c.changed_terms-put_in.ensures c.changed_terms-taken_out.ensures c.term_count-objective_was.ensures refl in
     omega (arith, fit.put_in)
 
 pub overflow_sub-self : goal.overflow_sub-self
@@ -89,7 +89,7 @@ overflow_sub-self c =
     let names = c.args.names.now in
     let is = ready model c.args.self.now.model a.kept.items a.variable_names.numbers a.row_names.numbers a.terms c.args.with.now names (ap (λ (x : Catalog). x.model) c.self.view_is) c.self.invariant.keeps c.requires.changes c.requires.consistent c.requires.within c.requires.names in
     let back = with_items_is c.args.with.now.rows c.exchange_rows.new.changes (c.exchange_rows.auto.changes ∙ c.deref_mut-5.ensures.len) ∙ (c.exchange_rows.ensures.before ∙ ap (λ (cs : List (Change Row)). olds row_number cs a.rows.items) c.deref_mut-5.ensures.value) in
-    let fit = terms_fit model a.kept.items a.variable_names.numbers a.row_names.numbers a.terms c.args.with.now names is c.changed_terms-put_in.result c.changed_terms-taken_out.result c.objective_terms-objective_was.result (objective_terms (unwrap_or c.args.with.now.objective a.objective)) c.deref.result.now c.deref-3.result.now c.deref.ensures.value (c.deref-3.ensures.value ∙ back) c.changed_terms-put_in.ensures c.changed_terms-taken_out.ensures c.objective_terms-objective_was.ensures refl in
+    let fit = terms_fit model a.kept.items a.variable_names.numbers a.row_names.numbers a.terms c.args.with.now names is c.changed_terms-put_in.result c.changed_terms-taken_out.result c.term_count-objective_was.result (objective_terms (unwrap_or c.args.with.now.objective a.objective)) c.deref.result.now c.deref-3.result.now c.deref.ensures.value (c.deref-3.ensures.value ∙ back) c.changed_terms-put_in.ensures c.changed_terms-taken_out.ensures c.term_count-objective_was.ensures refl in
     fit.taken_out
 
 pub overflow_sub-self-2 : goal.overflow_sub-self-2
@@ -99,7 +99,7 @@ overflow_sub-self-2 c =
     let names = c.args.names.now in
     let is = ready model c.args.self.now.model a.kept.items a.variable_names.numbers a.row_names.numbers a.terms c.args.with.now names (ap (λ (x : Catalog). x.model) c.self.view_is) c.self.invariant.keeps c.requires.changes c.requires.consistent c.requires.within c.requires.names in
     let back = with_items_is c.args.with.now.rows c.exchange_rows.new.changes (c.exchange_rows.auto.changes ∙ c.deref_mut-5.ensures.len) ∙ (c.exchange_rows.ensures.before ∙ ap (λ (cs : List (Change Row)). olds row_number cs a.rows.items) c.deref_mut-5.ensures.value) in
-    let fit = terms_fit model a.kept.items a.variable_names.numbers a.row_names.numbers a.terms c.args.with.now names is c.changed_terms-put_in.result c.changed_terms-taken_out.result c.objective_terms-objective_was.result (objective_terms (unwrap_or c.args.with.now.objective a.objective)) c.deref.result.now c.deref-3.result.now c.deref.ensures.value (c.deref-3.ensures.value ∙ back) c.changed_terms-put_in.ensures c.changed_terms-taken_out.ensures c.objective_terms-objective_was.ensures refl in
+    let fit = terms_fit model a.kept.items a.variable_names.numbers a.row_names.numbers a.terms c.args.with.now names is c.changed_terms-put_in.result c.changed_terms-taken_out.result c.term_count-objective_was.result (objective_terms (unwrap_or c.args.with.now.objective a.objective)) c.deref.result.now c.deref-3.result.now c.deref.ensures.value (c.deref-3.ensures.value ∙ back) c.changed_terms-put_in.ensures c.changed_terms-taken_out.ensures c.term_count-objective_was.ensures refl in
     fit.objective_out
 
 pub overflow_add-self-2 : goal.overflow_add-self-2
@@ -109,7 +109,7 @@ overflow_add-self-2 c =
     let names = c.args.names.now in
     let is = ready model c.args.self.now.model a.kept.items a.variable_names.numbers a.row_names.numbers a.terms c.args.with.now names (ap (λ (x : Catalog). x.model) c.self.view_is) c.self.invariant.keeps c.requires.changes c.requires.consistent c.requires.within c.requires.names in
     let back = with_items_is c.args.with.now.rows c.exchange_rows.new.changes (c.exchange_rows.auto.changes ∙ c.deref_mut-5.ensures.len) ∙ (c.exchange_rows.ensures.before ∙ ap (λ (cs : List (Change Row)). olds row_number cs a.rows.items) c.deref_mut-5.ensures.value) in
-    let fit = terms_fit model a.kept.items a.variable_names.numbers a.row_names.numbers a.terms c.args.with.now names is c.changed_terms-put_in.result c.changed_terms-taken_out.result c.objective_terms-objective_was.result c.objective_terms.result c.deref.result.now c.deref-3.result.now c.deref.ensures.value (c.deref-3.ensures.value ∙ back) c.changed_terms-put_in.ensures c.changed_terms-taken_out.ensures c.objective_terms-objective_was.ensures (c.objective_terms.ensures ∙ ap objective_terms c.exchange_objective.ensures.objective) in
+    let fit = terms_fit model a.kept.items a.variable_names.numbers a.row_names.numbers a.terms c.args.with.now names is c.changed_terms-put_in.result c.changed_terms-taken_out.result c.term_count-objective_was.result c.term_count.result c.deref.result.now c.deref-3.result.now c.deref.ensures.value (c.deref-3.ensures.value ∙ back) c.changed_terms-put_in.ensures c.changed_terms-taken_out.ensures c.term_count-objective_was.ensures (c.term_count.ensures ∙ ap objective_terms c.exchange_objective.ensures.objective) in
     omega (arith, fit.objective_in)
 
 pub invariant_of-self : goal.invariant_of-self
@@ -119,8 +119,8 @@ invariant_of-self c =
     let names = c.args.names.now in
     let is = ready model c.args.self.now.model a.kept.items a.variable_names.numbers a.row_names.numbers a.terms c.args.with.now names (ap (λ (x : Catalog). x.model) c.self.view_is) c.self.invariant.keeps c.requires.changes c.requires.consistent c.requires.within c.requires.names in
     let back = with_items_is c.args.with.now.rows c.exchange_rows.new.changes (c.exchange_rows.auto.changes ∙ c.deref_mut-5.ensures.len) ∙ (c.exchange_rows.ensures.before ∙ ap (λ (cs : List (Change Row)). olds row_number cs a.rows.items) c.deref_mut-5.ensures.value) in
-    let fit = terms_fit model a.kept.items a.variable_names.numbers a.row_names.numbers a.terms c.args.with.now names is c.changed_terms-put_in.result c.changed_terms-taken_out.result c.objective_terms-objective_was.result c.objective_terms.result c.deref.result.now c.deref-3.result.now c.deref.ensures.value (c.deref-3.ensures.value ∙ back) c.changed_terms-put_in.ensures c.changed_terms-taken_out.ensures c.objective_terms-objective_was.ensures (c.objective_terms.ensures ∙ ap objective_terms c.exchange_objective.ensures.objective) in
-    let after : Inside = record { groups = c.exchange_all.new.items; rows = c.exchange_rows.new.rows; aside = c.exchange_rows.new.aside; objective = c.exchange_objective.new.objective; next = c.swap.new.x; kept = with_items c.list_variables.new.kept c.exchange_rows.new.kept; variable_names = c.exchange_names.new.table; row_names = c.exchange_names-2.new.table; terms = a.terms + c.changed_terms-put_in.result - c.changed_terms-taken_out.result - c.objective_terms-objective_was.result + c.objective_terms.result } in
+    let fit = terms_fit model a.kept.items a.variable_names.numbers a.row_names.numbers a.terms c.args.with.now names is c.changed_terms-put_in.result c.changed_terms-taken_out.result c.term_count-objective_was.result c.term_count.result c.deref.result.now c.deref-3.result.now c.deref.ensures.value (c.deref-3.ensures.value ∙ back) c.changed_terms-put_in.ensures c.changed_terms-taken_out.ensures c.term_count-objective_was.ensures (c.term_count.ensures ∙ ap objective_terms c.exchange_objective.ensures.objective) in
+    let after : Inside = record { groups = c.exchange_all.new.items; rows = c.exchange_rows.new.rows; aside = c.exchange_rows.new.aside; objective = c.exchange_objective.new.objective; next = c.swap.new.x; kept = with_items c.list_variables.new.kept c.exchange_rows.new.kept; variable_names = c.exchange_names.new.table; row_names = c.exchange_names-2.new.table; terms = a.terms + c.changed_terms-put_in.result - c.changed_terms-taken_out.result - c.term_count-objective_was.result + c.term_count.result } in
     let after_is : model_of after ≡ exchanged c.args.with.now model = λ i. record { groups = (c.exchange_all.ensures.after ∙ ap (λ (cs : List (Change Group)). set_all group_number cs a.groups.items) c.deref_mut-3.ensures.value) i; rows = (c.exchange_rows.ensures.after ∙ ap (λ (cs : List (Change Row)). set_all row_number cs a.rows.items) c.deref_mut-5.ensures.value) i; objective = c.exchange_objective.ensures.objective i; next = c.swap.ensures.x_after i } in
     let rows_are = c.exchange_rows.ensures.after ∙ ap (λ (cs : List (Change Row)). set_all row_number cs a.rows.items) c.deref_mut-5.ensures.value in
     let kept_is = with_items_is c.list_variables.new.kept c.exchange_rows.new.kept (c.exchange_rows.auto.kept ∙ c.deref_mut-4.ensures.len) in
@@ -150,7 +150,7 @@ returns-clause-back c =
     let names = c.args.names.now in
     let is = ready model c.args.self.now.model a.kept.items a.variable_names.numbers a.row_names.numbers a.terms c.args.with.now names (ap (λ (x : Catalog). x.model) c.self.view_is) c.self.invariant.keeps c.requires.changes c.requires.consistent c.requires.within c.requires.names in
     let back = with_items_is c.args.with.now.rows c.exchange_rows.new.changes (c.exchange_rows.auto.changes ∙ c.deref_mut-5.ensures.len) ∙ (c.exchange_rows.ensures.before ∙ ap (λ (cs : List (Change Row)). olds row_number cs a.rows.items) c.deref_mut-5.ensures.value) in
-    let after : Inside = record { groups = c.exchange_all.new.items; rows = c.exchange_rows.new.rows; aside = c.exchange_rows.new.aside; objective = c.exchange_objective.new.objective; next = c.swap.new.x; kept = with_items c.list_variables.new.kept c.exchange_rows.new.kept; variable_names = c.exchange_names.new.table; row_names = c.exchange_names-2.new.table; terms = a.terms + c.changed_terms-put_in.result - c.changed_terms-taken_out.result - c.objective_terms-objective_was.result + c.objective_terms.result } in
+    let after : Inside = record { groups = c.exchange_all.new.items; rows = c.exchange_rows.new.rows; aside = c.exchange_rows.new.aside; objective = c.exchange_objective.new.objective; next = c.swap.new.x; kept = with_items c.list_variables.new.kept c.exchange_rows.new.kept; variable_names = c.exchange_names.new.table; row_names = c.exchange_names-2.new.table; terms = a.terms + c.changed_terms-put_in.result - c.changed_terms-taken_out.result - c.term_count-objective_was.result + c.term_count.result } in
     let after_is : model_of after ≡ exchanged c.args.with.now model = λ i. record { groups = (c.exchange_all.ensures.after ∙ ap (λ (cs : List (Change Group)). set_all group_number cs a.groups.items) c.deref_mut-3.ensures.value) i; rows = (c.exchange_rows.ensures.after ∙ ap (λ (cs : List (Change Row)). set_all row_number cs a.rows.items) c.deref_mut-5.ensures.value) i; objective = c.exchange_objective.ensures.objective i; next = c.swap.ensures.x_after i } in
     let with_after : Exchange = record { groups = with_items c.args.with.now.groups c.exchange_all.new.changes; rows = with_items c.args.with.now.rows c.exchange_rows.new.changes; objective = c.exchange_objective.new.other; next = c.swap.new.y } in
     let groups_back = with_items_is c.args.with.now.groups c.exchange_all.new.changes (c.exchange_all.auto.changes ∙ c.deref_mut-3.ensures.len) in
@@ -163,7 +163,7 @@ returns-clause-names c =
     let model = model_of a in
     let names = c.args.names.now in
     let is = ready model c.args.self.now.model a.kept.items a.variable_names.numbers a.row_names.numbers a.terms c.args.with.now names (ap (λ (x : Catalog). x.model) c.self.view_is) c.self.invariant.keeps c.requires.changes c.requires.consistent c.requires.within c.requires.names in
-    let after : Inside = record { groups = c.exchange_all.new.items; rows = c.exchange_rows.new.rows; aside = c.exchange_rows.new.aside; objective = c.exchange_objective.new.objective; next = c.swap.new.x; kept = with_items c.list_variables.new.kept c.exchange_rows.new.kept; variable_names = c.exchange_names.new.table; row_names = c.exchange_names-2.new.table; terms = a.terms + c.changed_terms-put_in.result - c.changed_terms-taken_out.result - c.objective_terms-objective_was.result + c.objective_terms.result } in
+    let after : Inside = record { groups = c.exchange_all.new.items; rows = c.exchange_rows.new.rows; aside = c.exchange_rows.new.aside; objective = c.exchange_objective.new.objective; next = c.swap.new.x; kept = with_items c.list_variables.new.kept c.exchange_rows.new.kept; variable_names = c.exchange_names.new.table; row_names = c.exchange_names-2.new.table; terms = a.terms + c.changed_terms-put_in.result - c.changed_terms-taken_out.result - c.term_count-objective_was.result + c.term_count.result } in
     let after_is : model_of after ≡ exchanged c.args.with.now model = λ i. record { groups = (c.exchange_all.ensures.after ∙ ap (λ (cs : List (Change Group)). set_all group_number cs a.groups.items) c.deref_mut-3.ensures.value) i; rows = (c.exchange_rows.ensures.after ∙ ap (λ (cs : List (Change Row)). set_all row_number cs a.rows.items) c.deref_mut-5.ensures.value) i; objective = c.exchange_objective.ensures.objective i; next = c.swap.ensures.x_after i } in
     let names_after : NameChanges = record { group = names.group; variables = with_items names.variables c.exchange_names.new.listed; rows = with_items names.rows c.exchange_names-2.new.listed } in
     let stands = stood model a.kept.items a.variable_names.numbers a.row_names.numbers a.terms c.args.with.now names is names_after c.deref_mut.result.now c.deref_mut-2.result.now refl c.deref_mut.ensures.value c.deref_mut-2.ensures.value
@@ -178,8 +178,8 @@ returns-clause-room c =
     let names = c.args.names.now in
     let is = ready model c.args.self.now.model a.kept.items a.variable_names.numbers a.row_names.numbers a.terms c.args.with.now names (ap (λ (x : Catalog). x.model) c.self.view_is) c.self.invariant.keeps c.requires.changes c.requires.consistent c.requires.within c.requires.names in
     let back = with_items_is c.args.with.now.rows c.exchange_rows.new.changes (c.exchange_rows.auto.changes ∙ c.deref_mut-5.ensures.len) ∙ (c.exchange_rows.ensures.before ∙ ap (λ (cs : List (Change Row)). olds row_number cs a.rows.items) c.deref_mut-5.ensures.value) in
-    let fit = terms_fit model a.kept.items a.variable_names.numbers a.row_names.numbers a.terms c.args.with.now names is c.changed_terms-put_in.result c.changed_terms-taken_out.result c.objective_terms-objective_was.result c.objective_terms.result c.deref.result.now c.deref-3.result.now c.deref.ensures.value (c.deref-3.ensures.value ∙ back) c.changed_terms-put_in.ensures c.changed_terms-taken_out.ensures c.objective_terms-objective_was.ensures (c.objective_terms.ensures ∙ ap objective_terms c.exchange_objective.ensures.objective) in
-    let after : Inside = record { groups = c.exchange_all.new.items; rows = c.exchange_rows.new.rows; aside = c.exchange_rows.new.aside; objective = c.exchange_objective.new.objective; next = c.swap.new.x; kept = with_items c.list_variables.new.kept c.exchange_rows.new.kept; variable_names = c.exchange_names.new.table; row_names = c.exchange_names-2.new.table; terms = a.terms + c.changed_terms-put_in.result - c.changed_terms-taken_out.result - c.objective_terms-objective_was.result + c.objective_terms.result } in
+    let fit = terms_fit model a.kept.items a.variable_names.numbers a.row_names.numbers a.terms c.args.with.now names is c.changed_terms-put_in.result c.changed_terms-taken_out.result c.term_count-objective_was.result c.term_count.result c.deref.result.now c.deref-3.result.now c.deref.ensures.value (c.deref-3.ensures.value ∙ back) c.changed_terms-put_in.ensures c.changed_terms-taken_out.ensures c.term_count-objective_was.ensures (c.term_count.ensures ∙ ap objective_terms c.exchange_objective.ensures.objective) in
+    let after : Inside = record { groups = c.exchange_all.new.items; rows = c.exchange_rows.new.rows; aside = c.exchange_rows.new.aside; objective = c.exchange_objective.new.objective; next = c.swap.new.x; kept = with_items c.list_variables.new.kept c.exchange_rows.new.kept; variable_names = c.exchange_names.new.table; row_names = c.exchange_names-2.new.table; terms = a.terms + c.changed_terms-put_in.result - c.changed_terms-taken_out.result - c.term_count-objective_was.result + c.term_count.result } in
     let after_is : model_of after ≡ exchanged c.args.with.now model = λ i. record { groups = (c.exchange_all.ensures.after ∙ ap (λ (cs : List (Change Group)). set_all group_number cs a.groups.items) c.deref_mut-3.ensures.value) i; rows = (c.exchange_rows.ensures.after ∙ ap (λ (cs : List (Change Row)). set_all row_number cs a.rows.items) c.deref_mut-5.ensures.value) i; objective = c.exchange_objective.ensures.objective i; next = c.swap.ensures.x_after i } in
     let rows_are = c.exchange_rows.ensures.after ∙ ap (λ (cs : List (Change Row)). set_all row_number cs a.rows.items) c.deref_mut-5.ensures.value in
     let kept_is = with_items_is c.list_variables.new.kept c.exchange_rows.new.kept (c.exchange_rows.auto.kept ∙ c.deref_mut-4.ensures.len) in

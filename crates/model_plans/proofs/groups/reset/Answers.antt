@@ -1,21 +1,23 @@
 use Rattle.std.proofs.Common.{◌≡◌, ◌≢◌, ◌∷◌, [], None, refl, sym, subst, ◌∙◌}
 use Rattle.std.specs.Prelude.{MatchBool}
 use Rattle.std.proofs.lemmas.Result.{IfOk-weaker}
-use Rattle.user_model.specs.Edited.{group_number}
+use Rattle.user_model.specs.Edited.{edited, group_number}
 use Rattle.model_laws.specs.ItemChanges.{set_to}
 use Rattle.model_plans.specs.Plans.{HasParts}
 use Rattle.model_plans.proofs.Leading.{parts_same}
 use Rattle.set_core.specs.SetLaws.{same_sets}
 use Rattle.model_plans.proofs.GroupPlans.{group_set_new_leads, group_set_same_leads}
-use Rattle.model_plans.proofs.groups.with_set.Goals as goal
+use Rattle.model_plans.proofs.groups.reset.Goals as goal
 
 pub returns-then-eq : goal.returns-then-eq
+unfolding edited
 returns-then-eq c =
     let model = c.args.model.now.model in
     let same = subst (λ b. MatchBool b (c.args.var.now.group.now.set ≡ c.args.set.now) (c.args.var.now.group.now.set ≢ c.args.set.now)) (sym c.eq.ensures ∙ c.if-eq.true) (same_sets c.args.var.now.group.now.set c.args.set.now) in
     group_set_same_leads model c.unchanged.result c.requires.consistent c.args.var.now.name.now c.args.var.now.number c.requires.var.0 c.args.var.now.group.now c.requires.var.1 c.args.set.now same (subst (λ n. HasParts c.unchanged.result [] [] None n [] []) c.next.ensures c.unchanged.ensures)
 
 pub returns : goal.returns
+unfolding edited
 returns c =
     let model = c.args.model.now.model in
     let other = subst (λ b. MatchBool b (c.args.var.now.group.now.set ≡ c.args.set.now) (c.args.var.now.group.now.set ≢ c.args.set.now)) (sym c.eq.ensures ∙ c.if-eq.false) (same_sets c.args.var.now.group.now.set c.args.set.now) in
