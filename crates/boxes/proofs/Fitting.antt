@@ -1,13 +1,11 @@
 -- That an image fits, as the test of it says.
-use Rattle.std.specs.Prelude.{ℕ, ◌&&◌, List, [], ◌∷◌, Result, Ok, Err, length, refl}
+use Rattle.std.specs.Prelude.{ℕ, ◌&&◌, List, [], ◌∷◌, length, refl}
 use Rattle.std.specs.Bool.{Decides}
 use Rattle.std.specs.List.{list_all, zip}
 use Rattle.std.proofs.lemmas.Bool.Decides.{Decides-and, Decides-like}
 use Rattle.ratio_core.specs.Rational.{neg_ℚ}
 use Rattle.ratio_core.specs.RationalLaws.{sum_fits_Decides}
-use Rattle.aff_core.specs.Arithmetic.{ExactWhere, PlusFits}
-use Rattle.aff_core.specs.declared.fault.AffFault.{AffFault}
-use Rattle.aff_core.specs.declared.fault.AffFault.TheVariants.{Memory, Overflow}
+use Rattle.aff_core.specs.Arithmetic.{PlusFits}
 use Rattle.aff_core.specs.Function.{Function, negated}
 use Rattle.item_core.specs.declared.family.Family.{Family}
 use Rattle.item_core.specs.declared.family.Family.TheVariants as family
@@ -58,10 +56,3 @@ by_Decides _ item = (λ _. tt, λ _. refl)
 pub image_fits_Decides : (edge : ℕ) (item : Item)
     → Decides (image_fits edge item) (ImageFits (edge_at edge) item)
 image_fits_Decides edge item = by_Decides (family_of (edge_at edge)) item
-
--- what is exact where one fact holds is so where another does that says the same
-pub exact_like : {T : Type 0} (r : Result T AffFault) (P R : Type 0) (Q : T → Type 0)
-    → (P → R) → (R → P) → ExactWhere r P Q → ExactWhere r R Q
-exact_like (Ok x) P R Q there back h = (there h.0, h.1)
-exact_like (Err Overflow) P R Q there back h = λ k. h (back k)
-exact_like (Err Memory) P R Q there back h = tt

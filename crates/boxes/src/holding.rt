@@ -15,12 +15,12 @@ ghost use Rattle.boxes.specs.Boxed.{AreKeepable, IsFree, at_family, families_of,
 
 use crate::choosing::{choices_of, graph_of};
 use crate::places::{ask_laws, clear_all, image_by, keep_by};
-use aff_core::AffFault;
 use bridge_face::{Bridge, KeptItem};
 use bridge_graph::{Choice, Graph};
 use bridge_plan::Rewriter;
 use item_core::{EDGE_COUNT, EDGES, Edge, EdgeEntry, Image, Item, KIND_COUNT, Kind, Table};
 use lists::Memory;
+use ratio_core::NumberFault;
 use std::marker::Model;
 
 /// Bridges, each of a family of its own, and the choices by a table and their families: an edge may
@@ -162,7 +162,7 @@ impl<B: Bridge> Rewriter for Boxes<B> {
         self.choices[kind as usize]
     }
 
-    fn image(&mut self, edge: u8, item: &Item) -> Result<Image, AffFault> {
+    fn image(&mut self, edge: u8, item: &Item) -> Result<Image, NumberFault> {
         image_by(&mut self.bridges, edge_numbered(edge), item)
     }
 }

@@ -1,16 +1,17 @@
 //! What is done with bridges, with that of a family or with all.
 ghost use Rattle.std.specs.Prelude.{◌≡◌, All, OnErr, OnOk, map, true};
 ghost use Rattle.std.specs.List.{list_any};
-ghost use Rattle.aff_core.specs.Arithmetic.{ExactWhere};
+ghost use Rattle.ratio_core.specs.Answers.{ExactWhere};
 ghost use Rattle.item_core.specs.Edge.{family_eq, family_of};
 ghost use Rattle.bridge_face.specs.ImageOf.{image_of, ImageFits};
 ghost use Rattle.bridge_face.specs.Law.{IsItemFor, IsLawful};
 ghost use Rattle.bridge_face.specs.State.{all_gone, given, tried};
 ghost use Rattle.boxes.specs.Boxed.{IsChangedFor, IsFree, families_of};
 
-use bridge_face::{Bridge, ItemFault, KeptItem};
+use bridge_face::{Bridge, KeptItem};
 use item_core::{Edge, Family, Image, Item};
 use lists::Memory;
+use ratio_core::NumberFault;
 
 /// Whether there is a bridge of the family.
 pub fn has_family<B: Bridge>(bridges: &[B], family: Family) -> bool
@@ -38,7 +39,7 @@ pub(crate) fn image_by<B: Bridge>(
     bridges: &mut [B],
     edge: Edge,
     item: &Item,
-) -> Result<Image, ItemFault>
+) -> Result<Image, NumberFault>
     requires own { list_any (family_eq (family_of edge))
         (families_of (map B.state bridges.old)) ≡ true }
     requires suits { IsItemFor edge item.now }

@@ -1,16 +1,17 @@
 -- Expressions that agree on the variables that a function mentions compose alike.
-use Rattle.std.specs.Prelude.{◌≡◌, true, ◌&&◌, IsTrue, List, [], ◌∷◌, ◌++◌, All, Ok, Err, Result, refl}
+use Rattle.std.specs.Prelude.{◌≡◌, true, ◌&&◌, IsTrue, List, [], ◌∷◌, ◌++◌, All, Result, refl}
 use Rattle.std.proofs.Common.{ap, ap₂, sym, subst, ◌∙◌}
 use Rattle.std.specs.FinMap as finite
 use Rattle.std.specs.List.{list_all}
 use Rattle.std.proofs.lemmas.List.Elements.{All-head, All-tail}
 use Rattle.ratio_core.specs.Rational.{Rational, ◌+ℚ◌, ◌*ℚ◌}
+use Rattle.ratio_core.specs.declared.fault.NumberFault.{NumberFault}
+use Rattle.ratio_core.specs.Answers.{ExactWhere}
+use Rattle.ratio_core.specs.AnsweredLaws.{exact_as}
 use Rattle.aff_core.specs.Address.{Address, address_cmp}
-use Rattle.aff_core.specs.Arithmetic.{ExactWhere, IsComposition, SubstitutionFits, added_terms, composed, substituted}
+use Rattle.aff_core.specs.Arithmetic.{IsComposition, SubstitutionFits, added_terms, composed, substituted}
 use Rattle.aff_core.specs.Function.{Function, function_of, terms_of, value_of}
 use Rattle.aff_core.specs.Terms.{linear, times}
-use Rattle.aff_core.specs.declared.fault.AffFault.{AffFault}
-use Rattle.aff_core.specs.declared.fault.AffFault.TheVariants.{Memory, Overflow}
 use Rattle.fresh_bridging.specs.FitTests.{step_fits, substitution_fits, substitution_fits_Decides, terms_fit, times_fit, value_fits}
 
 abbrev Terms : Type 0
@@ -67,13 +68,12 @@ module _ (e g : Address → Function) where
       (ap (λ x. f.constant +ℚ x) (linear_alike (terms_of f) h))
 
   -- so an answer that is exact by the one is exact by the other
-  pub exact_alike : (f : Function) (answer : Result Function AffFault) → Agree (terms_of f)
+  pub exact_alike : (f : Function) (answer : Result Function NumberFault) → Agree (terms_of f)
       → ExactWhere answer (SubstitutionFits e f) (IsComposition e f)
       → ExactWhere answer (IsTrue (substitution_fits g f)) (λ made. made ≡ composed g f)
-  exact_alike f (Ok made) h k = (
-    subst (λ b. b ≡ true) (fits_alike f h) ((substitution_fits_Decides e f).1 k.0),
-    k.1.same ∙ composed_alike f h,
-  )
-  exact_alike f (Err Overflow) h k =
-      λ t. k ((substitution_fits_Decides e f).0 (subst (λ b. b ≡ true) (sym (fits_alike f h)) t))
-  exact_alike f (Err Memory) h k = tt
+  exact_alike f answer h =
+      exact_as answer (SubstitutionFits e f) (IsTrue (substitution_fits g f)) (IsComposition e f)
+      (λ made. made ≡ composed g f)
+      (λ k. subst (λ b. b ≡ true) (fits_alike f h) ((substitution_fits_Decides e f).1 k))
+      (λ t. (substitution_fits_Decides e f).0 (subst (λ b. b ≡ true) (sym (fits_alike f h)) t))
+      (λ made k. k.same ∙ composed_alike f h)

@@ -2,8 +2,8 @@
 use Rattle.std.specs.Prelude.{◌≡◌, ℕ, ◌-◌, true, IsTrue, List, [], ◌∷◌, ◌++◌, Result}
 use Rattle.std.proofs.Common.{ap, sym, subst, ◌∙◌}
 use Rattle.std.proofs.lemmas.List.{append-nil}
-use Rattle.aff_core.specs.Arithmetic.{ExactWhere}
-use Rattle.aff_core.specs.declared.fault.AffFault.{AffFault}
+use Rattle.ratio_core.specs.declared.fault.NumberFault.{NumberFault}
+use Rattle.ratio_core.specs.Answers.{ExactWhere}
 use Rattle.bridge_graph.specs.declared.Choice.{Choice}
 use Rattle.bridge_graph.specs.declared.Choice.TheVariants.{By, Native}
 use Rattle.expansion.specs.Grown.{Held}
@@ -36,7 +36,7 @@ module _ (choice : ℕ → Choice) (n : ℕ) (item : Item) (within : IsWithin ch
       )
 
   pub planned_by : {T : Type 0} (edge : ℕ) → choice (kind_number (kind_of_body item.body)) ≡ By edge
-      → (answer : Result T AffFault)
+      → (answer : Result T NumberFault)
       → ExactWhere answer (IsTrue (worked_node choice (worked choice (n - 1)) edge item).fits)
       (λ _. Adds plan after es fs (worked_node choice (worked choice (n - 1)) edge item))
       → ExactWhere answer (IsTrue (worked choice n item).fits)

@@ -3,6 +3,7 @@ use Rattle.std.specs.Prelude.{◌≡◌, ℕ, ◌+◌, ◌<◌, Bool, true, fals
 use Rattle.std.proofs.Common.{ap, sym, ◌∙◌, append_assoc, take, get_or}
 use Rattle.std.specs.List.{list_all}
 use Rattle.std.proofs.lemmas.List.{append-nil, take_more}
+use Rattle.fresh_bridging.specs.TableLaws.{and_first}
 
 -- and is the last of those that were taken
 pub taken_item : {X : Type 0} (xs : List X) (i : ℕ) (x : X) → x ≡ get_or xs i x → i < length xs
@@ -38,11 +39,7 @@ module _ {X : Type 0} (p : X → Bool) (all : Bool) (left rest : List X) (x : X)
 
   -- all pass only where this one does
   pub needs_next : all ≡ true → p x ≡ true
-  needs_next t = both (p x) (list_all p rest) (sym (ap (list_all p) next) ∙ so_far ∙ t)
-    where
-      both : (a b : Bool) → (a && b) ≡ true → a ≡ true
-      both true b e = refl
-      both false b e = e
+  needs_next t = and_first (p x) (list_all p rest) (sym (ap (list_all p) next) ∙ so_far ∙ t)
 
 pub passed_all : {X : Type 0} (p : X → Bool) (all : Bool) (left : List X)
     → list_all p left ≡ all → left ≡ [] → all ≡ true

@@ -2,9 +2,9 @@
 use Rattle.std.specs.Prelude.{◌≡◌, ℕ, IsTrue, List, [], ◌∷◌, ◌++◌, All, length, map, slice_index_or, Result, Ok, Err}
 use Rattle.std.proofs.Common.{ap, sym, subst, ◌∙◌}
 use Rattle.std.specs.List.{list_all, zip}
-use Rattle.aff_core.specs.Arithmetic.{ExactWhere}
-use Rattle.aff_core.specs.declared.fault.AffFault.{AffFault}
-use Rattle.aff_core.specs.declared.fault.AffFault.TheVariants.{Memory, Overflow}
+use Rattle.ratio_core.specs.declared.fault.NumberFault.{NumberFault}
+use Rattle.ratio_core.specs.declared.fault.NumberFault.TheVariants.{Memory, Overflow}
+use Rattle.ratio_core.specs.Answers.{ExactWhere}
 use Rattle.expansion.specs.Grown.{Held}
 use Rattle.item_core.specs.declared.edge.Edge.{Edge}
 use Rattle.item_core.specs.declared.image.Expression.{Expression}
@@ -124,14 +124,14 @@ module _ (first : Means) (n edge : ℕ) (item : Item) (image : Image)
           subst There (others_said first n edge item two_means two_same image is others
           others_are standing) further
 
-      abbrev Said : {T : Type 0} → Result T AffFault → List Entry → Body → List Expression
+      abbrev Said : {T : Type 0} → Result T NumberFault → List Entry → Body → List Expression
           → Type 0
       Said answer stand body exprs =
           ExactWhere answer (IsTrue (list_all (put_into_fits stand) exprs))
           (λ _. fs ≡ es ++ map (λ p. record { component = p.0; expression = put_into stand p.1 })
           (zip (variables_of body) exprs))
 
-      by_answer : {T : Type 0} (r : Result T AffFault)
+      by_answer : {T : Type 0} (r : Result T NumberFault)
           → Said r standing item.body (image_of (edge_at edge) item).exprs
           → ExactWhere r (IsTrue (node first.choice (worked first.choice n) edge item).fits)
           (λ _. Adds plan three es fs (node first.choice (worked first.choice n) edge item))
@@ -143,7 +143,7 @@ module _ (first : Means) (n edge : ℕ) (item : Item) (image : Image)
           stands_alike t)
       by_answer (Err Memory) h = tt
 
-      pub node_answered : {T : Type 0} (answer : Result T AffFault) (after : List Entry)
+      pub node_answered : {T : Type 0} (answer : Result T NumberFault) (after : List Entry)
           (body : Body) (exprs : List Expression) → after ≡ standing → body ≡ item.body
           → exprs ≡ image.exprs → Said answer after body exprs
           → ExactWhere answer

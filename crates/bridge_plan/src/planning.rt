@@ -1,7 +1,7 @@
 //! How an item is bridged.
 ghost use Rattle.std.specs.Prelude.{◌≡◌, ◌++◌, ◌-◌, ◌≤◌, [], ◌∷◌, IfOk, OnOk, IsTrue, All, map, slice_get};
 ghost use Rattle.std.specs.List.{list_all, zip};
-ghost use Rattle.aff_core.specs.Arithmetic.{ExactWhere};
+ghost use Rattle.ratio_core.specs.Answers.{ExactWhere};
 ghost use Rattle.bridge_graph.specs.declared.Choice.TheVariants.{By};
 ghost use Rattle.item_core.specs.declared.image.Expression.TheVariants as expressions;
 ghost use Rattle.item_core.specs.Item.{variables_of};
@@ -14,11 +14,12 @@ ghost use Rattle.bridge_plan.specs.Adds.{Adds};
 ghost use Rattle.bridge_plan.specs.Worked.{IsWithin, Splits, worked, worked_each, worked_in, worked_node};
 
 use crate::{Entry, Plan, Rewriter, Standing};
-use aff_core::{Address, AffFault};
+use aff_core::Address;
 use bridge_face::KeptItem;
 use bridge_graph::Choice;
 use item_core::{Body, EDGES, Edge, EdgeEntry, Expression, Item, Items, kind_of};
 use lists::Memory;
+use ratio_core::NumberFault;
 use std::alloc::Global;
 
 /// Bridges an item, no deeper than so many levels: puts its leaves and its nodes last in the plan,
@@ -32,7 +33,7 @@ pub fn plan_item<R: Rewriter>(
     entries: &mut Vec<Entry>,
     item: Item,
     levels: u8,
-) -> Result<(), AffFault>
+) -> Result<(), NumberFault>
     requires { IsWithin (R.means rewriter.old).choice levels item }
     ensures answer { let held = worked (R.means rewriter.old).choice levels item in
         ExactWhere result (IsTrue held.fits)
@@ -56,7 +57,7 @@ fn plan_node<R: Rewriter>(
     edge: u8,
     item: Item,
     levels: u8,
-) -> Result<(), AffFault>
+) -> Result<(), NumberFault>
     requires some { 1 ≤ levels }
     requires chosen { (R.means rewriter.old).choice (kind_number (kind_of_body item.body))
         ≡ By edge }
@@ -92,7 +93,7 @@ fn plan_each<R: Rewriter>(
     entries: &mut Vec<Entry>,
     groups: Items,
     levels: u8,
-) -> Result<(), AffFault>
+) -> Result<(), NumberFault>
     requires { All (IsWithin (R.means rewriter.old).choice levels) groups }
     ensures answer { let choice = (R.means rewriter.old).choice in
         let held = worked_each choice (worked choice levels) groups in
@@ -115,7 +116,7 @@ fn plan_in<R: Rewriter>(
     standing: &mut Standing,
     items: Vec<Item>,
     levels: u8,
-) -> Result<(), AffFault>
+) -> Result<(), NumberFault>
     requires { All (λ item. IsWithin (R.means rewriter.old).choice levels
         (put_in standing.old item)) items.items }
     ensures answer { let choice = (R.means rewriter.old).choice in
@@ -194,7 +195,7 @@ fn outer_entries(
     body: &Body,
     exprs: &[Expression],
     standing: &mut Standing,
-) -> Result<(), AffFault>
+) -> Result<(), NumberFault>
     ensures answer { ExactWhere result (IsTrue (list_all (put_into_fits standing.old) exprs.now))
         (λ _. entries.new.items ≡ entries.old.items
         ++ map (λ p. record { component = p.0; expression = put_into standing.old p.1 })

@@ -1,6 +1,6 @@
 //! What a bridging goes by.
 ghost use Rattle.std.specs.Prelude.{◌≡◌, IsTrue};
-ghost use Rattle.aff_core.specs.Arithmetic.{ExactWhere};
+ghost use Rattle.ratio_core.specs.Answers.{ExactWhere};
 ghost use Rattle.bridge_graph.specs.declared.Choice.TheVariants.{By};
 ghost use Rattle.item_core.specs.Kind.{kind_number};
 ghost use Rattle.item_core.specs.KindOf.{kind_of_body};
@@ -8,9 +8,9 @@ ghost use Rattle.bridge_face.specs.ImageOf.{image_of};
 ghost use Rattle.bridge_face.specs.Law.{IsItemFor};
 ghost use Rattle.fresh_bridging.specs.TheRules.{edge_at, image_fits};
 
-use aff_core::AffFault;
 use bridge_graph::Choice;
 use item_core::{Image, Item, Kind};
+use ratio_core::NumberFault;
 
 /// What items are bridged by: a choice for each kind, and the images by the chosen edges.
 pub trait Rewriter {
@@ -24,7 +24,7 @@ pub trait Rewriter {
 
     /// The item's children by the chosen edge, and its components' expressions. `Overflow` exactly
     /// where a sum that the edge names doesn't fit.
-    fn image(&mut self, edge: u8, item: &Item) -> Result<Image, AffFault>
+    fn image(&mut self, edge: u8, item: &Item) -> Result<Image, NumberFault>
         requires chosen { (means self.old).choice (kind_number (kind_of_body item.now.body))
             ≡ By edge }
         requires suits { IsItemFor (edge_at edge) item.now }

@@ -2,7 +2,8 @@
 ghost use Rattle.std.specs.Prelude.{◌≡◌, IfOk, OnOk, IsTrue, true, false, map, MatchOption};
 ghost use Rattle.std.specs.FinMap as finite;
 ghost use Rattle.std.specs.List.{list_all};
-ghost use Rattle.aff_core.specs.Arithmetic.{ExactWhere, composed};
+ghost use Rattle.ratio_core.specs.Answers.{ExactWhere};
+ghost use Rattle.aff_core.specs.Arithmetic.{composed};
 ghost use Rattle.item_core.specs.declared.image.Expression.TheVariants as expressions;
 ghost use Rattle.item_core.specs.declared.item.Body.TheVariants.{AffineObj};
 ghost use Rattle.fresh_bridging.specs.ModelImage.{row_body};
@@ -15,9 +16,10 @@ ghost use Rattle.bridge_plan.specs.Stands.{entries_of};
 
 use crate::Entry;
 use crate::functions::{function_for, given, make_functions};
-use aff_core::{Address, Addresses, Aff, AffFault, ByAddress, Exprs, Sense, VecAff};
+use aff_core::{Address, Addresses, Aff, ByAddress, Exprs, Sense, VecAff};
 use item_core::{Body, Expression, Item};
 use lists::{Duplicate, Memory};
+use ratio_core::NumberFault;
 use set_core::Set;
 use std::alloc::Global;
 use std::marker::Model;
@@ -89,7 +91,7 @@ impl Standing {
     }
 
     /// An expression with what stands for its variables put in.
-    pub fn put_into(&mut self, expression: &Expression) -> Result<Expression, AffFault>
+    pub fn put_into(&mut self, expression: &Expression) -> Result<Expression, NumberFault>
         ensures answer { ExactWhere result (IsTrue (put_into_fits self.old expression.now))
             (λ e. e ≡ put_into self.old expression.now) }
         ensures same { self.new ≡ self.old }
@@ -103,7 +105,7 @@ impl Standing {
     }
 
     /// An item with what stands for its variables put in.
-    pub fn put_in(&mut self, item: Item) -> Result<Item, AffFault>
+    pub fn put_in(&mut self, item: Item) -> Result<Item, NumberFault>
         ensures answer { ExactWhere result (IsTrue (put_in_fits self.old item))
             (λ made. made ≡ put_in self.old item) }
         ensures same { self.new ≡ self.old }
@@ -114,7 +116,7 @@ impl Standing {
     }
 
     #[tactic(auto, unfolding(fresh_bridging::specs::Entries::put_in_body))]
-    fn put_in_body(&mut self, body: Body) -> Result<Body, AffFault>
+    fn put_in_body(&mut self, body: Body) -> Result<Body, NumberFault>
         ensures answer { ExactWhere result (IsTrue (put_in_body_fits self.old body))
             (λ made. made ≡ put_in_body self.old body) }
         ensures same { self.new ≡ self.old }
@@ -142,7 +144,7 @@ impl Standing {
 
     /// The body of a user's row with what stands for its variables put in.
     #[tactic(auto, unfolding(fresh_bridging::specs::Entries::put_in_body))]
-    pub fn row_body(&mut self, func: &UserFunc, set: &Set) -> Result<Body, AffFault>
+    pub fn row_body(&mut self, func: &UserFunc, set: &Set) -> Result<Body, NumberFault>
         ensures answer { let body = row_body func.now set.now in
             ExactWhere result (IsTrue (put_in_body_fits self.old body))
             (λ made. made ≡ put_in_body self.old body) }
@@ -164,7 +166,7 @@ impl Standing {
     }
 
     /// The body of an affine objective with what stands for its variables put in.
-    pub fn objective_body(&mut self, sense: Sense, func: &Aff) -> Result<Body, AffFault>
+    pub fn objective_body(&mut self, sense: Sense, func: &Aff) -> Result<Body, NumberFault>
         ensures answer { ExactWhere result
             (IsTrue (substitution_fits (function_in self.old) func.now))
             (λ made. made ≡ AffineObj sense (composed (function_in self.old) func.now)) }
@@ -246,7 +248,7 @@ impl Standing {
     }
 
     // The function with what stands for its variables put in.
-    fn composed(&mut self, func: &Aff) -> Result<Aff, AffFault>
+    fn composed(&mut self, func: &Aff) -> Result<Aff, NumberFault>
         ensures answer { ExactWhere result
             (IsTrue (substitution_fits (function_in self.old) func.now))
             (λ f. f ≡ composed (function_in self.old) func.now) }
@@ -256,7 +258,7 @@ impl Standing {
         func.substitute(&self.functions)
     }
 
-    fn each_composed(&mut self, funcs: &[Aff]) -> Result<VecAff, AffFault>
+    fn each_composed(&mut self, funcs: &[Aff]) -> Result<VecAff, NumberFault>
         ensures answer { ExactWhere result
             (IsTrue (list_all (substitution_fits (function_in self.old)) funcs.now))
             (λ fs. fs ≡ map (composed (function_in self.old)) funcs.now) }

@@ -98,7 +98,7 @@ outside_inner (g ∷ gs) v h c =
     ]
 
 -- the group's own variables, where the address isn't one of them
-own_omit : (vars : List Address) (v : Address) → ¬ (Contains vars v)
+pub own_omit : (vars : List Address) (v : Address) → ¬ (Contains vars v)
     → AllOmit v (map (λ u. record { component = u; expression = Kept u }) vars)
 own_omit [] v h = All-nil (λ e. Omits v e.expression)
 own_omit (u ∷ us) v h =

@@ -5,6 +5,7 @@ use Rattle.std.specs.FinMap.Entries.{find}
 use Rattle.std.specs.List.{AllByRecursion, IsDistinct}
 use Rattle.std.specs.Ordering.{eq_by_cmp}
 use Rattle.std.proofs.Common.{append_assoc, arith, sym, ap, subst, ◌∙◌}
+use Rattle.std.proofs.lemmas.List.{nil_from_length}
 use Rattle.std.proofs.lemmas.List.Elements.{All-cons, All-nil}
 use Rattle.address_map.specs.AddressMap.{AddressMap}
 use Rattle.aff_core.specs.Address.{Address, address_cmp, address_eq, address_total, exact_addresses}
@@ -87,10 +88,6 @@ module _ (leaves : List Item) (i : ℕ) (leaf : Item) (next : drop i leaves ≡ 
       subst (All (λ e. e.0 ≡ leaf.at)) (sym whole)
       (All-cons (λ e. e.0 ≡ leaf.at) (leaf.at, leaf.body) [] refl (All-nil (λ e. e.0 ≡ leaf.at)))
     where
-      nothing : {X : Type 0} (es : List X) → length es ≡ 0 → es ≡ []
-      nothing [] e = refl
-      nothing (x ∷ xs) e = absurd (omega (arith, e))
-
       first : flat_map leaf_objectives leaves
           ≡ (leaf.at, leaf.body) ∷ flat_map leaf_objectives (drop (i + 1) leaves)
       first = left ∙ ap (λ es. es ++ flat_map leaf_objectives (drop (i + 1) leaves))
@@ -100,5 +97,5 @@ module _ (leaves : List Item) (i : ℕ) (leaf : Item) (next : drop i leaves ≡ 
       whole =
           first
           ∙ ap (λ es. (leaf.at, leaf.body) ∷ es)
-          (nothing (flat_map leaf_objectives (drop (i + 1) leaves))
+          (nil_from_length (flat_map leaf_objectives (drop (i + 1) leaves))
           (omega (arith, one, ap length first)))

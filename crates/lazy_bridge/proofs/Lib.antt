@@ -1,6 +1,5 @@
 mod Added
 mod Empty
-mod Nodes
 mod Puttable
 mod Standing
 mod Expressions

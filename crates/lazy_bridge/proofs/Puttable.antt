@@ -27,16 +27,15 @@ use Rattle.item_core.specs.Kind.{is_native}
 use Rattle.item_core.specs.KindOf.{kind_of_body, plain_kind_of}
 use Rattle.leaf_change.specs.Leaves.{AreLeaves, HasNativeForm}
 use Rattle.lazy_bridge.specs.Plans.{IsPuttable}
-use Rattle.lazy_bridge.proofs.Nodes.{IsNode, nodes_here}
 use Rattle.model_bridging.specs.Planned.{IsPlanOf, variables_of_the_model}
 use Rattle.model_bridging.specs.declared.model_plan.ModelPlan.{ModelPlan}
 use Rattle.set_core.specs.declared.set.Set.{Set}
 use Rattle.set_core.specs.declared.set.Set.TheVariants as set
 use Rattle.set_core.specs.Shapes.{is_scalar}
-use Rattle.tree_laws.specs.LeafLaws.{IsLeaf, SupportsNativeKinds, is_leaf_kind}
+use Rattle.tree_laws.specs.LeafLaws.{IsLeaf, IsNode, SupportsNativeKinds, is_leaf_kind}
 use Rattle.tree_laws.specs.NativeModel.{leaves_name}
 use Rattle.tree_laws.specs.ObjectivePart.{by_objective, none_here}
-use Rattle.tree_laws.specs.PrimalLaws.{all_leaves, has_leaf, native_leaves}
+use Rattle.tree_laws.specs.PrimalLaws.{all_leaves, has_leaf, native_leaves, nodes_here}
 use Rattle.user_model.specs.Model.{ModelValue}
 use Rattle.user_model.specs.Valid.{IsValid}
 

@@ -245,12 +245,6 @@ impl<B: Bridge> LazyOver<B> {
         &self.map
     }
 
-    pub fn objective_at(&self) -> &Address
-        ensures { result.now ≡ self.now.objective_at }
-    {
-        &self.objective_at
-    }
-
     pub fn bridges(&self) -> &[B]
         ensures { prelude.map B.state result.now ≡ self.now.boxes.states }
     {

@@ -28,7 +28,7 @@ use Rattle.item_core.specs.declared.item.Body.{Body}
 use Rattle.item_core.specs.declared.item.Item.{Item}
 use Rattle.leaf_change.specs.Named.{HasIndices, IsIndexed, index_at, indexed_terms}
 use Rattle.leaf_change.proofs.KeyLaws.{made_of_entries, rising_distinct, same_made}
-use Rattle.leaf_model.specs.ReadThrough.{address_in, named}
+use Rattle.leaf_model.specs.ReadThrough.{address_in, named, named_terms}
 use Rattle.map_laws.specs.EntryLaws.{is_sorted_adjacent}
 use Rattle.map_laws.specs.OptionLaws.{not_some}
 use Rattle.map_laws.specs.TestLaws.{first, is_less, second}
@@ -88,11 +88,7 @@ module _ (indices : Indices) where
         (apart t ts (first _ _ h) (All-head HasIndex t ts hts) (All-tail HasIndex t ts hts))
         (indexed_distinct ts (second _ _ h) (All-tail HasIndex t ts hts))
 
-    -- the addresses of the indices again
-    abbrev by_name : List (ℕ × Rational) → List (Address × Rational)
-    by_name ts = map (λ t. (address_in indices t.0, t.1)) ts
-
-    named_again : (ts : List (Address × Rational)) → All HasIndex ts → by_name (indexed_terms indices ts) ≡ ts
+    named_again : (ts : List (Address × Rational)) → All HasIndex ts → named_terms indices (indexed_terms indices ts) ≡ ts
     named_again [] h = refl
     named_again (t ∷ ts) h =
         ap₂ ◌∷◌
@@ -110,11 +106,11 @@ module _ (indices : Indices) where
       terms_made : terms_of (function_of {R = nat_cmp} ys f.constant) ≡ ys
       terms_made = terms-function_of ys f.constant rising ∙ nonzero-filter ys all_nonzero
 
-      gathered_terms : gathered {R = address_cmp} (by_name ys) f.constant ≡ f
+      gathered_terms : gathered {R = address_cmp} (named_terms indices ys) f.constant ≡ f
       unfolding gathered
       gathered_terms =
           ap (λ m. function_of (finite.entries m) f.constant)
-          (sym (same_made address_order (by_name (indexed_terms indices (terms_of f))) (by_name ys)
+          (sym (same_made address_order (named_terms indices (indexed_terms indices (terms_of f))) (named_terms indices ys)
           (IsPermutation-map (λ t. (address_in indices t.0, t.1)) (indexed_terms indices (terms_of f)) ys permuted)
           (subst (HasDistinctKeys address_cmp) (sym (named_again (terms_of f) indexed))
           (rising_distinct address_cmp (terms_of f) (finite.entries_sorted f.terms))))
@@ -124,7 +120,7 @@ module _ (indices : Indices) where
 
       pub read_again : named indices (function_of ys f.constant) ≡ f
       read_again =
-          ap₂ (λ ts k. gathered {R = address_cmp} (by_name ts) k) terms_made
+          ap₂ (λ ts k. gathered {R = address_cmp} (named_terms indices ts) k) terms_made
           (constant-function_of nat_cmp ys f.constant)
           ∙ gathered_terms
 

@@ -35,7 +35,7 @@ use Rattle.set_core.specs.declared.set.Set.{Set}
 use Rattle.leaf_change.proofs.CountLaws.{count_more, none_in, one_moves, put_moves}
 use Rattle.leaf_change.proofs.KeyLaws.{rising_distinct}
 use Rattle.leaf_change.proofs.PutLaws.{new_next, new_second, put_all-append, put_all_after}
-use Rattle.leaf_change.proofs.PutSteps.{next_item}
+use Rattle.map_laws.specs.LoopLaws.{next_item}
 use Rattle.leaf_change.proofs.ThroughPuts.{absent_index, get_past, get_put}
 use Rattle.leaf_model.specs.LeafModel.{Differ, IsChanged, IsCountOf, LeafModel, no_leaves}
 use Rattle.leaf_model.specs.ReadThrough.{by_address, read_objective, read_row, read_through}
@@ -223,7 +223,7 @@ module _ {X : Type 0} (f : Item → List (Address × X)) (items : List Item) (i 
   split =
       ap (flat_map f) (sym (take-append-drop i items))
       ∙ flat_map-append f (take i items) (drop i items)
-      ∙ ap (λ l. flat_map f (take i items) ++ flat_map f l) (next_item items i item is lt)
+      ∙ ap (λ l. flat_map f (take i items) ++ flat_map f l) (next_item items items i item refl is lt)
 
   more : flat_map f (take (i + 1) items) ≡ flat_map f (take i items) ++ f item
   more =
@@ -306,7 +306,7 @@ module _ (held : FinMap address_cmp LeafVar) (var : LeafVar) (vars : List Addres
       split =
           ap (variables_as var) (sym (take-append-drop i vars))
           ∙ map-append (λ v. (v, var)) (take i vars) (drop i vars)
-          ∙ ap (λ vs. variables_as var (take i vars) ++ variables_as var vs) (next_item vars i at is lt)
+          ∙ ap (λ vs. variables_as var (take i vars) ++ variables_as var vs) (next_item vars vars i at refl is lt)
 
       free : finite.get (put_all after (variables_as var (take i vars))) at ≡ None
       free = (new_second after (variables_as var (take i vars)) (variables_as var (at ∷ drop (i + 1) vars)) (subst (AreNew after) split new)).0

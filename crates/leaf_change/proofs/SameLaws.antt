@@ -28,7 +28,7 @@ use Rattle.aff_core.specs.Terms.{HaveNoZero, is_nonzero}
 use Rattle.leaf_change.specs.Named.{IsSameTerm}
 use Rattle.leaf_change.specs.ReadableLaws.{found_passes}
 use Rattle.leaf_change.proofs.KeyLaws.{rising_distinct}
-use Rattle.leaf_model.specs.ReadThrough.{address_in, named}
+use Rattle.leaf_model.specs.ReadThrough.{address_in, named, named_terms}
 use Rattle.map_laws.specs.EntryLaws.{find_at}
 use Rattle.map_laws.specs.TestLaws.{first, is_less, second}
 use Rattle.solver_store.specs.SolverFunction.{SolverFunction}
@@ -123,14 +123,11 @@ below_differs a b less e =
     cc
 
 module _ (indices : Indices) (one : IsOneToOne indices) (g : SolverFunction) (names : NamesNamed indices g) (f : Function) where
-  abbrev by_name : List (ℕ × Rational) → List (Address × Rational)
-  by_name ts = map (λ t. (address_in indices t.0, t.1)) ts
-
   other_name : (t u : ℕ × Rational) → IsNamedTerm indices t → IsNamedTerm indices u → ¬ (t.0 ≡ u.0) → ¬ (address_in indices t.0 ≡ address_in indices u.0)
   other_name t u ht hu n e =
       n (same_Some t.0 u.0 (sym ht.1 ∙ ap (finite.get indices) (sym (address_in_is indices one ht.0 t.0 ht.1) ∙ e ∙ address_in_is indices one hu.0 u.0 hu.1) ∙ hu.1))
 
-  apart : (t : ℕ × Rational) (ts : List (ℕ × Rational)) → T (below_all nat_cmp t.0 ts) → IsNamedTerm indices t → All (IsNamedTerm indices) ts → AllByRecursion (λ y. address_eq (address_in indices t.0) y ≡ false) (keys (by_name ts))
+  apart : (t : ℕ × Rational) (ts : List (ℕ × Rational)) → T (below_all nat_cmp t.0 ts) → IsNamedTerm indices t → All (IsNamedTerm indices) ts → AllByRecursion (λ y. address_eq (address_in indices t.0) y ≡ false) (keys (named_terms indices ts))
   apart t [] h ht hts = tt
   apart t (u ∷ ts) h ht hts = (
     other_key address_order (address_in indices t.0) (address_in indices u.0)
@@ -138,28 +135,28 @@ module _ (indices : Indices) (one : IsOneToOne indices) (g : SolverFunction) (na
     apart t ts (second _ _ h) ht (All-tail (IsNamedTerm indices) u ts hts),
   )
 
-  as_many : (ts : List (ℕ × Rational)) → length (by_name ts) ≡ length ts
+  as_many : (ts : List (ℕ × Rational)) → length (named_terms indices ts) ≡ length ts
   as_many ts = length-map {B = Address × Rational} ts (λ t. (address_in indices t.0, t.1))
 
-  named_distinct : (ts : List (ℕ × Rational)) → T (is_sorted nat_cmp ts) → All (IsNamedTerm indices) ts → HasDistinctKeys address_cmp (by_name ts)
+  named_distinct : (ts : List (ℕ × Rational)) → T (is_sorted nat_cmp ts) → All (IsNamedTerm indices) ts → HasDistinctKeys address_cmp (named_terms indices ts)
   unfolding IsDistinct
   named_distinct [] h hts = tt
   named_distinct (t ∷ ts) h hts =
-      IsDistinct-cons address_eq (address_in indices t.0) (keys (by_name ts))
+      IsDistinct-cons address_eq (address_in indices t.0) (keys (named_terms indices ts))
       (apart t ts (first _ _ h) (All-head (IsNamedTerm indices) t ts hts) (All-tail (IsNamedTerm indices) t ts hts))
       (named_distinct ts (second _ _ h) (All-tail (IsNamedTerm indices) t ts hts))
 
-  named_nonzero : HaveNoZero (by_name (terms_of g))
+  named_nonzero : HaveNoZero (named_terms indices (terms_of g))
   named_nonzero =
-      list_all-from_AllPass is_nonzero (by_name (terms_of g))
+      list_all-from_AllPass is_nonzero (named_terms indices (terms_of g))
       (All-map (λ t. is_nonzero t ≡ true) (λ t. (address_in indices t.0, t.1)) (terms_of g)
       (AllPass-from_list_all is_nonzero (terms_of g) g.nonzero))
 
-  distinct : HasDistinctKeys address_cmp (by_name (terms_of g))
+  distinct : HasDistinctKeys address_cmp (named_terms indices (terms_of g))
   distinct = named_distinct (terms_of g) (finite.entries_sorted g.terms) names
 
-  read_coefficient : (v : Address) → coefficient (named indices g) v ≡ coefficient_in address_cmp (by_name (terms_of g)) v
-  read_coefficient v = coefficient-gathered address_order (by_name (terms_of g)) g.constant v
+  read_coefficient : (v : Address) → coefficient (named indices g) v ≡ coefficient_in address_cmp (named_terms indices (terms_of g)) v
+  read_coefficient v = coefficient-gathered address_order (named_terms indices (terms_of g)) g.constant v
 
   abbrev AreSame : Type 0
   AreSame = (length (terms_of g) ≡ length (terms_of f)) × (g.constant ≡ f.constant) × All (IsSameTerm indices f) (terms_of g)
@@ -168,7 +165,7 @@ module _ (indices : Indices) (one : IsOneToOne indices) (g : SolverFunction) (na
   same_if h =
       same_coefficients address_order (named indices g) f
       (λ v. read_coefficient v
-      ∙ same_by_terms (by_name (terms_of g)) (terms_of f) distinct named_nonzero
+      ∙ same_by_terms (named_terms indices (terms_of g)) (terms_of f) distinct named_nonzero
       (as_many (terms_of g) ∙ h.0)
       (All-map (λ t. coefficient_in address_cmp (terms_of f) t.0 ≡ t.1) (λ t. (address_in indices t.0, t.1)) (terms_of g)
       (All-weaker (IsSameTerm indices f) (λ t. coefficient_in address_cmp (terms_of f) (address_in indices t.0) ≡ t.1)
@@ -185,16 +182,16 @@ module _ (indices : Indices) (one : IsOneToOne indices) (g : SolverFunction) (na
 
   pub same_only_if : named indices g ≡ f → AreSame
   same_only_if e = (
-    both_fewer (fewer (by_name (terms_of g)) (terms_of f) distinct named_nonzero each)
-        (fewer (terms_of f) (by_name (terms_of g)) (rising_distinct address_cmp (terms_of f) (finite.entries_sorted f.terms)) f.nonzero (λ v. sym (each v))),
+    both_fewer (fewer (named_terms indices (terms_of g)) (terms_of f) distinct named_nonzero each)
+        (fewer (terms_of f) (named_terms indices (terms_of g)) (rising_distinct address_cmp (terms_of f) (finite.entries_sorted f.terms)) f.nonzero (λ v. sym (each v))),
     sym (constant_named indices g) ∙ ap (λ (h : Function). h.constant) e,
     λ k d end. term (slice_index_or (terms_of g) k d) (names k d end) (own_coefficients k d end),
   )
     where
-      each : (v : Address) → coefficient_in address_cmp (by_name (terms_of g)) v ≡ coefficient_in address_cmp (terms_of f) v
+      each : (v : Address) → coefficient_in address_cmp (named_terms indices (terms_of g)) v ≡ coefficient_in address_cmp (terms_of f) v
       each v = sym (read_coefficient v) ∙ ap (λ h. coefficient h v) e ∙ sym (coefficient_in-terms_of f v)
 
-      both_fewer : length (by_name (terms_of g)) ≤ length (terms_of f) → length (terms_of f) ≤ length (by_name (terms_of g)) → length (terms_of g) ≡ length (terms_of f)
+      both_fewer : length (named_terms indices (terms_of g)) ≤ length (terms_of f) → length (terms_of f) ≤ length (named_terms indices (terms_of g)) → length (terms_of g) ≡ length (terms_of f)
       both_fewer h k = omega (arith, as_many (terms_of g))
 
       term : (t : ℕ × Rational) → IsNamedTerm indices t → coefficient g t.0 ≡ t.1 → IsSameTerm indices f t

@@ -12,6 +12,7 @@ use Rattle.aff_core.specs.declared.root.Root.TheVariants.{Variable}
 use Rattle.item_core.specs.declared.item.Body.{Body}
 use Rattle.item_core.specs.declared.item.Body.TheVariants.{Plain, Affine, AffineVec, PlainObj, AffineObj}
 use Rattle.leaf_model.specs.LeafModel.{LeafModel}
+use Rattle.ratio_core.specs.Rational.{Rational}
 use Rattle.solver_store.specs.SolverFunction.{SolverFunction}
 use Rattle.solver_store.specs.SolverModel.{Leaves}
 use Rattle.solver_store.specs.declared.leaf.LeafObjective.{LeafObjective}
@@ -25,9 +26,12 @@ address_in indices i =
     unwrap_or (option_map (λ e. e.0) (find (λ e. e.1 == i) (finite.entries indices)))
     (root_address Variable i)
 
--- the function of addresses in place of their indices
+-- terms and functions of addresses in place of their indices
+abbrev pub named_terms : Indices → List (ℕ × Rational) → List (Address × Rational)
+named_terms vars ts = map (λ t. (address_in vars t.0, t.1)) ts
+
 abbrev pub named : Indices → SolverFunction → Function
-named vars f = gathered (map (λ t. (address_in vars t.0, t.1)) (terms_of f)) f.constant
+named vars f = gathered (named_terms vars (terms_of f)) f.constant
 
 abbrev pub read_row : Indices → LeafRow → Body
 read_row vars (row.Plain var set) = Plain (address_in vars var) set

@@ -2,9 +2,9 @@
 use Rattle.std.specs.Prelude.{◌≡◌, ℕ, Bool, true, ◌&&◌, not, cond, find, IsTrue, List, [], ◌∷◌, All, Option, Some, None, Result, Ok, Err, refl}
 use Rattle.std.proofs.Common.{ap, ap₂, sym, subst, ◌∙◌}
 use Rattle.bridge_graph.specs.declared.Choice.{Choice}
-use Rattle.aff_core.specs.Arithmetic.{ExactWhere}
-use Rattle.aff_core.specs.declared.fault.AffFault.{AffFault}
-use Rattle.aff_core.specs.declared.fault.AffFault.TheVariants as fault
+use Rattle.ratio_core.specs.declared.fault.NumberFault.{NumberFault}
+use Rattle.ratio_core.specs.Answers.{ExactWhere}
+use Rattle.ratio_core.specs.AnsweredLaws.{exact_as}
 use Rattle.expansion.specs.Grown.{Held, put_held}
 use Rattle.item_core.specs.declared.item.Item.{Item}
 use Rattle.fresh_bridging.specs.Entries.{Entry, put_in, put_in_fits}
@@ -86,6 +86,13 @@ groups_end first all left plan now entries means h none = (
 
 -- ---- the rows
 
+-- what holds by the means and the entries holds by the first ones, where they are the same
+pub from_start : {first means : Means} {inner standing : List Entry} → means ≡ first
+    → standing ≡ inner → (P : (ℕ → Choice) → List Entry → Type 0) → P means.choice standing
+    → P first.choice inner
+from_start {first} {means} {inner} {standing} same stays P p =
+    subst (P first.choice) stays (subst (λ (m : Means). P m.choice standing) same p)
+
 pub record RowsSoFar (first : Means) (inner : List Entry) (all left : List Item) (plan now : Plan)
     (means : Means) (standing : List Entry) : Type 0 where
   pub in_turn : InSoFar first 35 inner all left plan now means standing
@@ -107,13 +114,6 @@ module _ (first : Means) (inner : List Entry) (all left rest : List Item) (x : I
       in_within first 35 inner all left rest x plan now means standing h.in_turn next
       (put_in standing x) refl
 
-  -- by the means and the entries at the start
-  from_start : (P : (ℕ → Choice) → List Entry → Type 0) → P means.choice standing
-      → P first.choice inner
-  from_start P p =
-      subst (P first.choice) h.in_turn.stands
-      (subst (λ (m : Means). P m.choice standing) h.in_turn.same p)
-
   pub row_more : (after : Plan) (later : Means) (stays : List Entry)
       → IsTrue (child_fits means.choice 35 standing x)
       → Adds now after [] [] (put_held (rules_by means.choice) standing x
@@ -129,7 +129,8 @@ module _ (first : Means) (inner : List Entry) (all left rest : List Item) (x : I
             [] held.entries (and_second (put_in_fits standing x) held.fits fits)
             (record { leaves = adds.leaves; nodes = adds.nodes; entries = refl }) same);
         unfit_left = first_more (child_fits first.choice 35 inner) all left rest x h.unfit_left next
-            (from_start (λ choice es. child_fits choice 35 es x ≡ true) fits);
+            (from_start h.in_turn.same h.in_turn.stands
+            (λ choice es. child_fits choice 35 es x ≡ true) fits);
       }
 
 pub rows_end : (first : Means) (inner : List Entry) (all left : List Item) (plan now : Plan)
@@ -148,30 +149,23 @@ module _ (choice : ℕ → Choice) (inner : List Entry) (item : Item) (plan afte
   abbrev held_here : Held Item Entry
   held_here = worked choice 35 (put_in inner item)
 
-  pub child_answered : {T : Type 0} (r : Result T AffFault) (made : Item)
+  pub child_answered : {T : Type 0} (r : Result T NumberFault) (made : Item)
       → IsTrue (put_in_fits inner item) → made ≡ put_in inner item
       → ExactWhere r (IsTrue (worked choice 35 made).fits)
       (λ _. Adds plan after [] [] (record (worked choice 35 made) { entries = [] }))
       → ExactWhere r (IsTrue (child_fits choice 35 inner item))
       (λ _. Adds plan after [] [] (put_held (rules_by choice) inner item held_here))
-  child_answered {T} r made put is said =
-      by r (subst (λ i. ExactWhere r (IsTrue (worked choice 35 i).fits)
+  child_answered r made put is said =
+      exact_as r (IsTrue held_here.fits) (IsTrue (put_in_fits inner item && held_here.fits))
+      (λ _. Adds plan after [] [] (record held_here { entries = [] }))
+      (λ _. Adds plan after [] [] (put_held (rules_by choice) inner item held_here))
+      (λ fits. ap₂ ◌&&◌ put fits) (λ t. and_second (put_in_fits inner item) held_here.fits t)
+      (λ _ h. record { leaves = h.leaves; nodes = h.nodes; entries = refl })
+      (subst (λ i. ExactWhere r (IsTrue (worked choice 35 i).fits)
       (λ _. Adds plan after [] [] (record (worked choice 35 i) { entries = [] }))) is said)
-    where
-      by : (r : Result T AffFault)
-          → ExactWhere r (IsTrue held_here.fits)
-          (λ _. Adds plan after [] [] (record held_here { entries = [] }))
-          → ExactWhere r (IsTrue (put_in_fits inner item && held_here.fits))
-          (λ _. Adds plan after [] [] (put_held (rules_by choice) inner item held_here))
-      by (Ok x) h = (
-        ap₂ ◌&&◌ put h.0,
-        record { leaves = h.1.leaves; nodes = h.1.nodes; entries = refl },
-      )
-      by (Err fault.Overflow) h = λ t. h (and_second (put_in_fits inner item) held_here.fits t)
-      by (Err fault.Memory) h = tt
 
   -- as the only one of a list
-  pub one_answered : {T : Type 0} (r : Result T AffFault)
+  pub one_answered : {T : Type 0} (r : Result T NumberFault)
       → ExactWhere r (IsTrue (child_fits choice 35 inner item))
       (λ _. Adds plan after [] [] (put_held (rules_by choice) inner item held_here))
       → ExactWhere r (IsTrue (others_held choice inner (item ∷ [])).fits)

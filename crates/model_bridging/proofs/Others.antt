@@ -6,11 +6,11 @@ use Rattle.std.proofs.lemmas.List.{append-nil, map-append}
 use Rattle.std.proofs.lemmas.List.Elements.{All-head}
 use Rattle.std.proofs.lemmas.List.Folds.{find-append}
 use Rattle.bridge_graph.specs.declared.Choice.{Choice}
+use Rattle.ratio_core.specs.declared.fault.NumberFault.{NumberFault}
+use Rattle.ratio_core.specs.declared.fault.NumberFault.TheVariants as fault
+use Rattle.ratio_core.specs.Answers.{ExactWhere}
 use Rattle.aff_core.specs.Address.{Address, root_address}
-use Rattle.aff_core.specs.Arithmetic.{ExactWhere}
 use Rattle.aff_core.specs.Function.{Function}
-use Rattle.aff_core.specs.declared.fault.AffFault.{AffFault}
-use Rattle.aff_core.specs.declared.fault.AffFault.TheVariants as fault
 use Rattle.aff_core.specs.declared.root.Root.TheVariants as root
 use Rattle.expansion.specs.Grown.{Held, joined, put_held}
 use Rattle.item_core.specs.declared.image.Expression.{Expression}
@@ -39,7 +39,7 @@ use Rattle.model_bridging.specs.Whole.{IsReady, IsWhole, groups_held, others_hel
 use Rattle.model_bridging.specs.declared.fault.PushFault.{PushFault}
 use Rattle.model_bridging.specs.declared.fault.PushFault.TheVariants.{Memory, Overflow, Unsupported}
 use Rattle.model_bridging.specs.declared.model_plan.ModelPlan.{ModelPlan}
-use Rattle.model_bridging.proofs.InOrder.{child_answered, one_answered}
+use Rattle.model_bridging.proofs.InOrder.{child_answered, from_start, one_answered}
 
 -- ---- outcomes in turn
 
@@ -176,12 +176,6 @@ module _ (first : Means) (inner : List Entry) (rows : List Item) (o : Objective)
     (stays : standing ≡ inner)
     (said : (unfit_put first.choice 35 inner rows ≡ None)
     × Adds plan mid [] [] (others_held first.choice inner rows)) where
-  -- by the means and the entries at the start
-  from_start : (P : (ℕ → Choice) → List Entry → Type 0) → P means.choice standing
-      → P first.choice inner
-  from_start P p =
-      subst (P first.choice) stays (subst (λ (m : Means). P m.choice standing) same p)
-
   pub objective_within :
       All (λ item. IsWithin first.choice 35 (put_in inner item)) (rows ++ objective_items o)
       → All (λ item. IsWithin means.choice 35 (put_in standing item)) (objective_items o)
@@ -201,7 +195,7 @@ module _ (first : Means) (inner : List Entry) (rows : List Item) (o : Objective)
   others_done after last =
       let here : IsTrue (others_held first.choice inner (objective_items o)).fits
       × Adds mid after [] [] (others_held first.choice inner (objective_items o)) =
-      from_start (λ choice es. IsTrue (others_held choice es (objective_items o)).fits
+      from_start same stays (λ choice es. IsTrue (others_held choice es (objective_items o)).fits
       × Adds mid after [] [] (others_held choice es (objective_items o))) last in (
         unfit_append first.choice inner rows (objective_items o)
             ∙ none_of_both (unfit_put first.choice 35 inner rows)
@@ -211,7 +205,7 @@ module _ (first : Means) (inner : List Entry) (rows : List Item) (o : Objective)
         both_added first.choice inner rows (objective_items o) plan mid after said.1 here.1,
       )
 
-  objective_told : (T U : Type 0) (Q : T → Type 0) (S : U → Type 0) (f : AffFault)
+  objective_told : (T U : Type 0) (Q : T → Type 0) (S : U → Type 0) (f : NumberFault)
       (at : Address) → at ≡ root_address root.Objective 0
       → ExactWhere {T = T} (Err f)
       (IsTrue (others_held means.choice standing (objective_items o)).fits) Q
@@ -221,11 +215,11 @@ module _ (first : Means) (inner : List Entry) (rows : List Item) (o : Objective)
       ap (option_map (λ (i : Item). i.at)) (unfit_append first.choice inner rows (objective_items o)
       ∙ ap (λ a. option_or a (unfit_put first.choice 35 inner (objective_items o))) said.0)
       ∙ (unfit_objective first.choice inner o
-      (from_start (λ choice es. ¬ (IsTrue (others_held choice es (objective_items o)).fits)) misses)
+      (from_start same stays (λ choice es. ¬ (IsTrue (others_held choice es (objective_items o)).fits)) misses)
       ∙ ap Some (sym is))
   objective_told T U Q S fault.Memory at is misses = tt
 
-  pub objective_refused : (T U : Type 0) (Q : T → Type 0) (S : U → Type 0) (f : AffFault)
+  pub objective_refused : (T U : Type 0) (Q : T → Type 0) (S : U → Type 0) (f : NumberFault)
       (at : Address) (told : PushFault) → told ≡ refused_at f at
       → at ≡ root_address root.Objective 0
       → ExactWhere {T = T} (Err f)
@@ -270,7 +264,7 @@ module _ (choice : ℕ → Choice) (inner : List Entry) (o : Objective) (plan : 
         (and_first (put_in_fits inner item && held.fits) true
         (subst (λ items. IsTrue (others_held choice inner items).fits) one t))
 
-    pub objective_answered : (after : Plan) {T : Type 0} (r : Result T AffFault) (made : Item)
+    pub objective_answered : (after : Plan) {T : Type 0} (r : Result T NumberFault) (made : Item)
         → IsTrue (put_in_fits inner item) → made ≡ put_in inner item
         → ExactWhere r (IsTrue (worked choice 35 made).fits)
         (λ _. Adds plan after [] [] (record (worked choice 35 made) { entries = [] }))

@@ -1,9 +1,9 @@
 -- How a list of the user's items is planned: whole, or up to the first that doesn't fit.
 use Rattle.std.specs.Prelude.{◌≡◌, Option, Some, None, Result, Ok, Err}
 use Rattle.std.specs.Option.{option_map}
+use Rattle.ratio_core.specs.declared.fault.NumberFault.{NumberFault}
+use Rattle.ratio_core.specs.declared.fault.NumberFault.TheVariants as fault
 use Rattle.aff_core.specs.Address.{Address}
-use Rattle.aff_core.specs.declared.fault.AffFault.{AffFault}
-use Rattle.aff_core.specs.declared.fault.AffFault.TheVariants as fault
 use Rattle.item_core.specs.declared.item.Item.{Item}
 use Rattle.item_core.specs.declared.kind.Kind.{Kind}
 use Rattle.model_bridging.specs.declared.fault.PushFault.{PushFault}
@@ -21,7 +21,7 @@ Outcome (Err (Overflow at)) unfit Q = IsFirstAt unfit at
 Outcome (Err Memory) unfit Q = Unit {0}
 
 -- why the item at an address isn't planned
-abbrev pub refused_at : AffFault → Address → PushFault
+abbrev pub refused_at : NumberFault → Address → PushFault
 refused_at fault.Overflow at = Overflow at
 refused_at fault.Memory at = Memory
 

@@ -5,7 +5,6 @@ ghost use Rattle.model_bridging.specs.declared.fault.PushFault.TheVariants as fa
 use aff_core::Address;
 use item_core::Kind;
 use lists::Memory;
-use std::alloc::{AllocError, AllocFailed};
 
 /// Why a model isn't bridged.
 #[derive(Clone, Copy, Debug, PartialEq, Eq)]
@@ -23,22 +22,6 @@ impl From<Memory> for PushFault {
     ghost from_gives = { λ _ result. result ≡ fault.Memory };
 
     fn from(_fault: Memory) -> PushFault {
-        PushFault::Memory
-    }
-}
-
-impl From<AllocError> for PushFault {
-    ghost from_gives = { λ _ result. result ≡ fault.Memory };
-
-    fn from(_fault: AllocError) -> PushFault {
-        PushFault::Memory
-    }
-}
-
-impl<T: Drop> From<AllocFailed<T>> for PushFault {
-    ghost from_gives = { λ _ result. result ≡ fault.Memory };
-
-    fn from(_fault: AllocFailed<T>) -> PushFault {
         PushFault::Memory
     }
 }

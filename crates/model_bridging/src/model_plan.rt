@@ -1,6 +1,6 @@
 //! The fresh bridging of a user's model, worked out before anything is changed.
 ghost use Rattle.std.specs.Prelude.{◌≡◌, ◌++◌, [], All, IfOk, IsTrue, OnOk, flat_map, map};
-ghost use Rattle.aff_core.specs.Arithmetic.{ExactWhere};
+ghost use Rattle.ratio_core.specs.Answers.{ExactWhere};
 ghost use Rattle.expansion.specs.Grown.{put_held};
 ghost use Rattle.item_core.specs.declared.item.Item.{Item};
 ghost use Rattle.fresh_bridging.specs.Entries.{put_in};
@@ -17,11 +17,12 @@ ghost use Rattle.model_bridging.specs.Whole.{IsReady, IsWhole, unfit_item, with_
 use crate::PushFault;
 use crate::kinds::check_kinds;
 use crate::model_items::item_of_group;
-use aff_core::{Address, Aff, AffFault, Root};
+use aff_core::{Address, Aff, Root};
 use bridge_plan::{Entry, Plan, Rewriter, Standing, plan_item};
 use item_core::Item;
 use lists::Memory;
 use model_store::UserModel;
+use ratio_core::NumberFault;
 use std::alloc::Global;
 use user_model::{Group, GroupVar, Objective, Row};
 
@@ -162,7 +163,7 @@ fn plan_row<R: Rewriter>(
     plan: &mut Plan,
     standing: &mut Standing,
     row: &Row,
-) -> Result<(), AffFault>
+) -> Result<(), NumberFault>
     requires { IsWithin (R.means rewriter.old).choice 35 (put_in standing.old (row_item row.now)) }
     ensures answer { let choice = (R.means rewriter.old).choice in
         let item = row_item row.now in
@@ -184,7 +185,7 @@ fn plan_objective<R: Rewriter>(
     plan: &mut Plan,
     standing: &mut Standing,
     objective: &Objective,
-) -> Result<(), AffFault>
+) -> Result<(), NumberFault>
     requires { All (λ item. IsWithin (R.means rewriter.old).choice 35 (put_in standing.old item))
         (objective_items objective.now) }
     ensures answer { let choice = (R.means rewriter.old).choice in
@@ -213,7 +214,7 @@ fn plan_further<R: Rewriter>(
     rewriter: &mut R,
     plan: &mut Plan,
     item: Item,
-) -> Result<(), AffFault>
+) -> Result<(), NumberFault>
     requires { IsWithin (R.means rewriter.old).choice 35 item }
     ensures answer { let held = worked (R.means rewriter.old).choice 35 item in
         ExactWhere result (IsTrue held.fits)
@@ -225,12 +226,12 @@ fn plan_further<R: Rewriter>(
 }
 
 // Why the user's item at an address isn't planned.
-fn refused(fault: AffFault, at: Address) -> PushFault
+fn refused(fault: NumberFault, at: Address) -> PushFault
     ensures { result ≡ refused_at fault at }
 {
     match fault {
-        AffFault::Overflow => PushFault::Overflow { at },
-        AffFault::Memory => PushFault::Memory,
+        NumberFault::Overflow => PushFault::Overflow { at },
+        NumberFault::Memory => PushFault::Memory,
     }
 }
 

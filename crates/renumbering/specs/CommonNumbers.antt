@@ -1,9 +1,10 @@
 -- Two rising lists of numbers, and the numbers that both can have in common: at each place the sum
 -- of the two. Each list's numbers are taken to these by a function that rises throughout.
-use Rattle.std.specs.Prelude.{◌≡◌, ◌⊎◌, ◌+◌, ◌<◌, ◌≤◌, ℕ, zero, suc, Bool, true, false, cond, max, nat_lt, List, [], ◌∷◌, ◌++◌, All, flat_map, length, map, refl}
+use Rattle.std.specs.Prelude.{◌≡◌, ◌⊎◌, ◌+◌, ◌<◌, ◌≤◌, ℕ, zero, suc, Bool, true, false, cond, max, nat_lt, List, [], ◌∷◌, ◌++◌, All, Contains, flat_map, length, map, refl}
 use Rattle.std.proofs.Common.{ap, ap₂, arith, inl, inr, subst, sym, ◌∙◌}
 use Rattle.std.proofs.lemmas.List.Elements.{All-head, All-tail}
 use borrow.Author.Tests.{le-ltb, lt-ltb, ltb-false, ltb-true}
+use Rattle.map_laws.specs.EachLaws.{contains_later}
 use Rattle.numbered.specs.Laws.{Rise-head, Rise-tail}
 use Rattle.numbered.specs.Numbered.{Rise}
 use Rattle.user_model.specs.SameUpToNumbers.{position}
@@ -35,6 +36,11 @@ pub in_flat : {X Y : Type 0} (h : X → List Y) (y : Y) (x : X) (xs : List X) �
 in_flat h y x [] i j = absurd j
 in_flat h y x (z ∷ zs) i (inl e) = in_left y (h z) (flat_map h zs) (subst (λ w. In y (h w)) e i)
 in_flat h y x (z ∷ zs) i (inr j) = in_right y (h z) (flat_map h zs) (in_flat h y x zs i j)
+
+pub contained : {X : Type 0} (x : X) (xs : List X) → In x xs → Contains xs x
+contained x [] i = absurd i
+contained x (y ∷ ys) (inl e) = (0, omega arith, sym e)
+contained x (y ∷ ys) (inr i) = contains_later y x ys (contained x ys i)
 
 -- two functions that agree at each element
 pub map_in : {X Y : Type 0} (f g : X → Y) (xs : List X) → ((x : X) → In x xs → f x ≡ g x)
@@ -76,23 +82,6 @@ position_first [] n above = refl
 position_first (a ∷ us) n above =
     position_low a us n (omega (arith, above a (inl refl)))
     ∙ position_first us n (λ m i. above m (inr i))
-
--- a lesser number of the list is at a lesser position
-pub position_less : (us : List ℕ) → Climbs us → (m n : ℕ) → In m us → In n us → m < n
-    → position us m < position us n
-position_less [] up m n i j h = absurd i
-position_less (a ∷ us) up m n (inl e) (inl f) h = absurd (omega (arith, e, f, h))
-position_less (a ∷ us) up m n (inl e) (inr j) h =
-    let first = position_low a us m (omega (arith, e))
-    ∙ position_first us m (λ k i. omega (arith, e, up.0 k i)) in
-    let second = position_above a us n (up.0 n j) in
-    omega (arith, first, second)
-position_less (a ∷ us) up m n (inr i) (inl f) h = absurd (omega (arith, up.0 m i, f, h))
-position_less (a ∷ us) up m n (inr i) (inr j) h =
-    let first = position_above a us m (up.0 m i) in
-    let second = position_above a us n (up.0 n j) in
-    let less = position_less us up.1 m n i j h in
-    omega (arith, first, second, less)
 
 -- ---- what is added
 

@@ -2,7 +2,7 @@
 -- what was under the old.
 use Rattle.std.specs.Prelude.{◌≡◌, ◌&&◌, cond, T, List, [], ◌∷◌, Some, length, map, refl}
 use Rattle.std.proofs.Common.{ap, ap₂, arith, subst, sym, ◌∙◌}
-use Rattle.std.proofs.lemmas.List.{length-map}
+use Rattle.std.proofs.lemmas.List.{length-map, nil_from_length}
 use Rattle.std.specs.Cmp.{IsTotalOrder}
 use Rattle.std.specs.FinMap as finite
 use Rattle.std.specs.FinMap.{FinMap, find, is_sorted, put}
@@ -56,13 +56,9 @@ module _ {K X Y : Type 0} (R : K → K → Ordering) (σ : K → K) (keeps : Kee
       (moved_entries σ h ((e.0, x) ∷ es)) ((σ e.0, h e.1) ∷ l)) (keeps k e.0) (put-moved k x es)
       ∙ over_order (R k e.0) ((k, x) ∷ e ∷ es) ((e.0, x) ∷ es) (e ∷ put R k x es)
 
-  no_length : {A : Type 0} (xs : List A) → length xs ≡ 0 → xs ≡ []
-  no_length [] e = refl
-  no_length (x ∷ xs) e = absurd (omega (arith, e))
-
   empty_entries : {Z : Type 0} → finite.entries (finite.empty {X = Z} {R = R}) ≡ []
   empty_entries {Z} =
-      no_length (finite.entries (finite.empty {X = Z} {R = R}))
+      nil_from_length (finite.entries (finite.empty {X = Z} {R = R}))
       (sym (finite.len-entries (finite.empty {X = Z} {R = R})) ∙ finite.len-empty R Z)
 
   -- the entries of a map that is made

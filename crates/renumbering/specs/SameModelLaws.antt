@@ -22,6 +22,7 @@ use Rattle.user_model.specs.Consistent.{variable_number}
 use Rattle.user_model.specs.Edited.{group_number, row_number}
 use Rattle.user_model.specs.Functions.{func_mentions, has_term}
 use Rattle.user_model.specs.Model.{ModelValue, empty_model, has_variable, objective_mentions, variable_address, variables}
+use Rattle.user_model.specs.PositionLaws.{position_less}
 use Rattle.user_model.specs.SameUpToNumbers.{SameUpToNumbers, address_by_position, affine_by_position, function_by_position, group_by_position, groups_by_position, objective_by_position, position, row_by_position, rows_by_position, variable_by_position, variable_numbers}
 use Rattle.user_model.specs.Valid.{IsValid, IsValidRow, Stands}
 use Rattle.user_model.specs.declared.function.UserFunc.{UserFunc}
@@ -31,7 +32,7 @@ use Rattle.user_model.specs.declared.group.GroupVar.{GroupVar}
 use Rattle.user_model.specs.declared.objective.Objective.{Objective}
 use Rattle.user_model.specs.declared.objective.Objective.TheVariants as objective
 use Rattle.user_model.specs.declared.row.Row.{Row}
-use Rattle.renumbering.specs.CommonNumbers.{Climbs, In, all_in, climbs, in_flat, in_left, in_map, in_right, lifted, lifted_is, lifted_rises, map_in, place_of, position_less, sums, sums_either}
+use Rattle.renumbering.specs.CommonNumbers.{Climbs, In, all_in, climbs, contained, in_flat, in_left, in_map, in_right, lifted, lifted_is, lifted_rises, map_in, place_of, sums, sums_either}
 use Rattle.renumbering.specs.RenamedFunctions.{nonzero-renamed}
 use Rattle.renumbering.specs.RenamedItems.{renamed}
 use Rattle.renumbering.specs.RenamedLeaves.{flat_map_either}
@@ -194,7 +195,7 @@ module _ (model : ModelValue) (valid : IsValid model) (vs gs rs : List ℕ) wher
         ap₂ (λ a b. address_cmp (place a) (place b)) one.1 two.1
         ∙ variables_order (position own one.0) (position own two.0)
         ∙ less_number (position own one.0) (position own two.0)
-        (position_less own own_climb one.0 two.0 one.2 two.2 below)
+        (position_less own one.0 two.0 (contained one.0 own one.2) below)
 
     abbrev EachStands : List (Address × Rational) → Type 0
     EachStands ts = (t : Address × Rational) → In t ts → Stands model.groups t.0

@@ -25,7 +25,7 @@ use Rattle.equality_form.specs.Native.{IsNativeModel, IsNativeRow, NamesVariable
 use Rattle.item_core.specs.declared.item.Body.{Body}
 use Rattle.item_core.specs.Item.{functions_of}
 use Rattle.leaf_model.specs.LeafModel.{LeafModel}
-use Rattle.leaf_model.specs.ReadThrough.{address_in, named, read_objective, read_row, read_through}
+use Rattle.leaf_model.specs.ReadThrough.{address_in, named, named_terms, read_objective, read_row, read_through}
 use Rattle.map_laws.specs.OptionLaws.{not_some}
 use Rattle.solver_store.specs.SolverFunction.{SolverFunction}
 use Rattle.solver_store.specs.SolverModel.{Leaves}
@@ -72,7 +72,7 @@ module _ (map : AddressMap) (leaves : Leaves) (one : IsOneToOne map.vars.indices
   HasIndex a = (i : ℕ) × (finite.get map.vars.indices a ≡ Some i)
 
   abbrev renamed : List (ℕ × Rational) → List (Address × Rational)
-  renamed ts = prelude.map (λ t. (address_in map.vars.indices t.0, t.1)) ts
+  renamed ts = named_terms map.vars.indices ts
 
   renamed_have : (ts : List (ℕ × Rational)) → All (IsNamedTerm map.vars.indices) ts
       → All (λ t. HasIndex t.0) (renamed ts)

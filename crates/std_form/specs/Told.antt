@@ -2,6 +2,8 @@
 use Rattle.std.specs.Prelude.{◌≡◌, ◌-◌, ◌<◌, ◌≤◌, ◌^◌, List, All, Result, Ok, Err, min}
 use Rattle.std.specs.FinMap as finite
 use Rattle.std.specs.declared.cmp.Ordering.{Ordering}
+use Rattle.ratio_core.specs.declared.fault.NumberFault.{NumberFault}
+use Rattle.ratio_core.specs.declared.fault.NumberFault.TheVariants as number
 use Rattle.address_map.specs.AddressMap.{AddressMap}
 use Rattle.aff_core.specs.Function.{FunctionOver}
 use Rattle.equality_form.specs.EqualityForm.{cells_of, cost, form_from}
@@ -14,8 +16,6 @@ use Rattle.solver_store.specs.declared.answer.LeafAnswer.{LeafAnswer}
 use Rattle.solver_store.specs.declared.leaf.LeafVar.{LeafVar}
 use Rattle.std_form.specs.declared.fault.FormFault.{FormFault}
 use Rattle.std_form.specs.declared.fault.FormFault.TheVariants.{TooLarge, Overflow, Memory}
-use Rattle.std_form.specs.declared.fault.ReadFault.{ReadFault}
-use Rattle.std_form.specs.declared.fault.ReadFault.TheVariants as read
 use Rattle.std_form.specs.Answers.{answer_of}
 
 -- the form, its number of cells where they are more than the limit, or else that some right side
@@ -34,9 +34,9 @@ TellsForm leaves result =
     Tells (finite.entries leaves.variables) (equations leaves) (cost leaves) result
 
 -- the answer, or that a difference of a free variable's columns doesn't fit
-abbrev pub TellsAnswer : AddressMap → LeafModel → SolverAnswer → Result LeafAnswer ReadFault
+abbrev pub TellsAnswer : AddressMap → LeafModel → SolverAnswer → Result LeafAnswer NumberFault
     → Type 0
 TellsAnswer map leaves a (Ok answer) = (answer_of map answer ≡ read_back leaves a)
     × AnswerFits leaves a
-TellsAnswer map leaves a (Err read.Overflow) = ¬ AnswerFits leaves a
-TellsAnswer map leaves a (Err read.Memory) = Unit {0}
+TellsAnswer map leaves a (Err number.Overflow) = ¬ AnswerFits leaves a
+TellsAnswer map leaves a (Err number.Memory) = Unit {0}

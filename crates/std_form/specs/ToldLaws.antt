@@ -4,6 +4,8 @@ use Rattle.std.specs.Prelude as prelude
 use Rattle.std.proofs.Common.{sym, ◌∙◌, ap, subst}
 use Rattle.std.proofs.lemmas.List.Elements.{All-cons, All-head, All-map, All-nil, All-tail, All-weaker}
 use Rattle.ratio_core.specs.Rational.{SumFits, neg_ℚ}
+use Rattle.ratio_core.specs.declared.fault.NumberFault.{NumberFault}
+use Rattle.ratio_core.specs.declared.fault.NumberFault.TheVariants as number
 use Rattle.address_map.specs.AddressMap.{AddressMap}
 use Rattle.address_map.specs.Places.{Indices, IsOneToOne}
 use Rattle.aff_core.specs.Address.{Address}
@@ -20,8 +22,6 @@ use Rattle.solver_store.specs.SolverModel.{Leaves}
 use Rattle.solver_store.specs.declared.answer.LeafAnswer.{LeafAnswer}
 use Rattle.std_form.specs.declared.fault.FormFault.{FormFault}
 use Rattle.std_form.specs.declared.fault.FormFault.TheVariants.{TooLarge, Overflow, Memory}
-use Rattle.std_form.specs.declared.fault.ReadFault.{ReadFault}
-use Rattle.std_form.specs.declared.fault.ReadFault.TheVariants as read
 use Rattle.std_form.specs.AnswerLaws.{answer_is, fit_is, right_by_index}
 use Rattle.std_form.specs.Answers.{FitByIndex, answer_of, read_by_index}
 use Rattle.std_form.specs.FormLaws.{equations_through, form_is, named_equation}
@@ -80,12 +80,12 @@ module _ (map : AddressMap) (leaves : Leaves) (one : IsOneToOne map.vars.indices
   tells_through (Err Memory) h = tt
 
 -- what is told by index of reading back
-abbrev pub TellsByIndex : AddressMap → Leaves → StdForm → SolverAnswer → Result LeafAnswer ReadFault
+abbrev pub TellsByIndex : AddressMap → Leaves → StdForm → SolverAnswer → Result LeafAnswer NumberFault
     → Type 0
 TellsByIndex map leaves form a (Ok answer) = (answer ≡ read_by_index map leaves form.flips a)
     × FitByIndex map leaves a
-TellsByIndex map leaves form a (Err read.Overflow) = ¬ FitByIndex map leaves a
-TellsByIndex map leaves form a (Err read.Memory) = Unit {0}
+TellsByIndex map leaves form a (Err number.Overflow) = ¬ FitByIndex map leaves a
+TellsByIndex map leaves form a (Err number.Memory) = Unit {0}
 
 module _ (map : AddressMap) (leaves : Leaves) where
   -- a form that is told is that of the model, and well shaped
@@ -109,24 +109,24 @@ module _ (map : AddressMap) (leaves : Leaves) where
     abbrev flips_are : form.flips ≡ (form_of map leaves).flips
     flips_are = ap (λ form. form.flips) built
 
-    pub read_is : (r : Result LeafAnswer ReadFault) → TellsByIndex map leaves form a r
+    pub read_is : (r : Result LeafAnswer NumberFault) → TellsByIndex map leaves form a r
         → IfOk r (λ answer. answer ≡ read_by_index map leaves form.flips a)
     read_is (Ok answer) h = h.0
     read_is (Err e) h = tt
 
-    pub answer_through : (at : Address) (r : Result LeafAnswer ReadFault)
+    pub answer_through : (at : Address) (r : Result LeafAnswer NumberFault)
         → TellsByIndex map leaves form a r → TellsAnswer map (read_through map leaves at) a r
     answer_through at (Ok answer) h = (
       ap (answer_of map) (h.0 ∙ ap (λ flips. read_by_index map leaves flips a) flips_are)
           ∙ answer_is map leaves one_var one_row at a,
       subst (λ P. P) (fit_is map leaves one_var one_row at a) h.1,
     )
-    answer_through at (Err read.Overflow) h =
+    answer_through at (Err number.Overflow) h =
         λ k. h (subst (λ P. P) (sym (fit_is map leaves one_var one_row at a)) k)
-    answer_through at (Err read.Memory) h = tt
+    answer_through at (Err number.Memory) h = tt
 
     pub right_through : (at : Address) → IsReadable map leaves
-        → IsRightAnswer (equality_form form) a → (r : Result LeafAnswer ReadFault)
+        → IsRightAnswer (equality_form form) a → (r : Result LeafAnswer NumberFault)
         → TellsByIndex map leaves form a r
         → IfOk r (λ answer. IsRight (read_through map leaves at) (answer_of map answer))
     right_through at readable right (Ok answer) h =

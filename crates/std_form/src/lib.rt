@@ -11,7 +11,7 @@ mod reading;
 mod rights;
 
 pub use address_map::AddressMap;
-pub use fault::{FormFault, ReadFault};
+pub use fault::FormFault;
 pub use form::{CELL_LIMIT, build};
 pub use reading::read_back;
 pub use simplex_core::{SolverAnswer, StdForm};

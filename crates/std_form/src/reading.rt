@@ -15,12 +15,11 @@ ghost use Rattle.std_form.specs.Readable.{IsReadable};
 ghost use Rattle.std_form.specs.Told.{TellsAnswer};
 ghost use Rattle.std_form.specs.ToldLaws.{TellsByIndex};
 
-use crate::fault::ReadFault;
 use crate::leaves::{Row, Variable, component_count, rows, variables};
 use crate::numbers::flipped;
 use address_map::AddressMap;
 use lists::{Memory, Sequence};
-use ratio_core::{Ratio, RatioFault, Ratios};
+use ratio_core::{NumberFault, Ratio, RatioFault, Ratios};
 use simplex_core::{SolverAnswer, StdForm};
 use solver_store::{ByIndex, LeafAnswer, LeafDuals, LeafPoint, LeafVar, SolverModel};
 use std::alloc::Global;
@@ -37,7 +36,7 @@ pub fn read_back(
     map: &AddressMap,
     form: &StdForm,
     a: &SolverAnswer,
-) -> Result<LeafAnswer, ReadFault>
+) -> Result<LeafAnswer, NumberFault>
     requires { form.now ≡ form_of map.now solver.now.leaves }
     ensures by_index { IfOk result (λ answer.
         answer ≡ read_by_index map.now solver.now.leaves form.now.flips a.now) }
@@ -60,7 +59,7 @@ fn read_by_index(
     map: &AddressMap,
     form: &StdForm,
     a: &SolverAnswer,
-) -> Result<LeafAnswer, ReadFault>
+) -> Result<LeafAnswer, NumberFault>
     ensures { TellsByIndex map.now solver.now.leaves form.now a.now result }
 {
     let variables = variables(alloc, solver, map)?;
@@ -122,10 +121,10 @@ fn values(
     alloc: Global,
     variables: &[Variable],
     x: &[Ratio],
-) -> Result<Vec<(usize, Ratio)>, ReadFault>
+) -> Result<Vec<(usize, Ratio)>, NumberFault>
     ensures values { IfOk result (λ values. values.items ≡ points variables.now x.now) }
     ensures fit { OnOk result (ValuesFit variables.now x.now) }
-    ensures overflow { IsErrOf result ReadFault.Overflow → ¬ ValuesFit variables.now x.now }
+    ensures overflow { IsErrOf result NumberFault.Overflow → ¬ ValuesFit variables.now x.now }
 {
     let mut values = Vec::with_capacity(alloc, variables.len())?;
     let mut left = x;
@@ -136,11 +135,11 @@ fn values(
     Ok(values)
 }
 
-fn point(alloc: Global, variables: &[Variable], x: &[Ratio]) -> Result<LeafPoint, ReadFault>
+fn point(alloc: Global, variables: &[Variable], x: &[Ratio]) -> Result<LeafPoint, NumberFault>
     ensures values { IfOk result (λ point.
         point ≡ finite.from_entries (points variables.now x.now)) }
     ensures fit { OnOk result (ValuesFit variables.now x.now) }
-    ensures overflow { IsErrOf result ReadFault.Overflow → ¬ ValuesFit variables.now x.now }
+    ensures overflow { IsErrOf result NumberFault.Overflow → ¬ ValuesFit variables.now x.now }
 {
     Ok(by_index(alloc, values(alloc, variables, x)?)?)
 }

@@ -1,14 +1,14 @@
--- The leaves of a bridging with their duals, by kind: what is right for the leaf model holds of
--- them.
-use Rattle.std.specs.Prelude.{◌≡◌, ◌||◌, ℕ, Bool, true, false, cond, List, [], ◌∷◌, All, flat_map, length, map, refl}
+-- The parts of a bridging: its nodes, for their edges, and its leaves, native and with their duals,
+-- by kind: what is right for the leaf model holds of them.
+use Rattle.std.specs.Prelude.{◌≡◌, ◌||◌, ℕ, Bool, true, false, cond, List, [], ◌∷◌, ◌++◌, All, flat_map, length, map, refl}
 use Rattle.std.proofs.Common.{arith, sym, ap, ap₂, subst, ◌∙◌, true≢false}
 use Rattle.std.proofs.lemmas.List.{length-map}
 use Rattle.std.proofs.lemmas.List.Elements.{All-append, All-cons, All-head, All-map, All-nil, All-tail, All-weaker}
 use Rattle.bridge_graph.specs.Hypergraph.{IsCostly, IsSupported}
 use Rattle.bridge_graph.specs.declared.Choice.{Choice}
-use Rattle.bridge_graph.specs.declared.Choice.TheVariants.{Native}
+use Rattle.bridge_graph.specs.declared.Choice.TheVariants.{By, Native}
 use Rattle.expansion.specs.Bridged.{Bridged, EachBridged, EachBridgedIn, by, each, each_in, natively, none, none_in}
-use Rattle.expansion.specs.Read.{leaves, leaves_in, leaves_of_each}
+use Rattle.expansion.specs.Read.{leaves, leaves_in, leaves_of_each, nodes, nodes_in, nodes_of_each}
 use Rattle.ratio_core.specs.Rational.{Rational, zero_ℚ, ◌*ℚ◌, ◌+ℚ◌, ◌-ℚ◌, ◌≤ℚ◌}
 use Rattle.rational_laws.specs.Dot.{dot}
 use Rattle.rational_laws.specs.DotLaws.{dot_zeros}
@@ -31,16 +31,17 @@ use Rattle.item_core.specs.declared.item.Body.TheVariants.{Group, Free, Plain, A
 use Rattle.item_core.specs.declared.item.Item.{Item}
 use Rattle.item_core.specs.declared.kind.Kind.{Kind}
 use Rattle.item_core.specs.declared.kind.Kind.TheVariants as kinds
+use Rattle.item_core.specs.Edge.{family_of}
 use Rattle.item_core.specs.Item.{functions_of, is_group, set_of, variables_of}
 use Rattle.item_core.specs.Kind.{is_native, kind_eq, kind_number}
 use Rattle.item_core.specs.KindOf.{kind_of_body}
 use Rattle.item_core.specs.Valid.{IsValidItem}
-use Rattle.bridge_face.specs.Law.{held_body}
-use Rattle.fresh_bridging.specs.CanLaws.{AreLawful}
+use Rattle.bridge_face.specs.Law.{IsItemFor, held_body}
+use Rattle.fresh_bridging.specs.CanLaws.{AreLawful, Can, down, same_entry}
 use Rattle.map_laws.specs.EachLaws.{all_from_map, all_first, all_second}
 use Rattle.fresh_bridging.specs.Entries.{Entry, put_in}
 use Rattle.fresh_bridging.specs.Leaves.{leaf_objectives, leaf_rows, leaf_variable, leaf_variables}
-use Rattle.fresh_bridging.specs.TheRules.{AreChoices, IsChoice, Setting, graph_of, rules_by}
+use Rattle.fresh_bridging.specs.TheRules.{AreChoices, IsChoice, Setting, edge_at, graph_of, is_usable, rules_by}
 use Rattle.solver_store.specs.declared.leaf.LeafVar.{LeafVar}
 use Rattle.solver_store.specs.declared.leaf.LeafVar.TheVariants as leaf
 use Rattle.address_laws.specs.KeyLaws.{IsHere}
@@ -75,13 +76,32 @@ native_group (Group _ vars) h k = absurd (true≢false (sym k))
 native_group (Free vars) h k = free
 native_group _ h k = absurd (true≢false (sym h))
 
--- ---- the leaves of a bridging
+-- ---- the leaves and the nodes of a bridging
 
 -- a native item that is valid
 pub record IsLeaf (leaf : Item) : Type 0 where
   pub valid : IsValidItem leaf
   pub native : is_leaf_kind (kind_of_body leaf.body) ≡ true
   pub group : is_group leaf.body ≡ true → IsNativeGroup leaf.body
+
+-- an item for the edge, of which the family may be used
+pub record IsNode (setting : Setting) (node : ℕ × Item) : Type 0 where
+  pub suits : IsItemFor (edge_at node.0) node.1
+  pub usable : is_usable setting (family_of (edge_at node.0)) ≡ true
+
+pub record AreParts (setting : Setting) (ls : List Item) (ns : List (ℕ × Item)) : Type 0 where
+  pub are_leaves : All IsLeaf ls
+  pub are_nodes : All (IsNode setting) ns
+
+no_parts : (setting : Setting) → AreParts setting [] []
+no_parts setting = record { are_leaves = All-nil IsLeaf; are_nodes = All-nil (IsNode setting) }
+
+pub both_parts : {setting : Setting} {ls ms : List Item} {ns os : List (ℕ × Item)}
+    → AreParts setting ls ns → AreParts setting ms os → AreParts setting (ls ++ ms) (ns ++ os)
+both_parts {setting} {ls} {ms} {ns} {os} h k = record {
+  are_leaves = All-append IsLeaf ls ms h.are_leaves k.are_leaves;
+  are_nodes = All-append (IsNode setting) ns os h.are_nodes k.are_nodes;
+}
 
 module _ (setting : Setting) (costly : IsCostly (graph_of setting)) (choice : ℕ → Choice)
     (chosen : AreChoices setting choice) (lawful : AreLawful setting)
@@ -100,44 +120,66 @@ module _ (setting : Setting) (costly : IsCostly (graph_of setting)) (choice : �
           (subst (IsChoice (graph_of setting) (kind_number (kind_of_body item.body))) c
           (chosen (kind_number (kind_of_body item.body))))
 
+  is_node : (item : Item) → Can setting costly choice chosen item → (n : ℕ)
+      → choice (kind_number (kind_of_body item.body)) ≡ By n → IsNode setting (n, item)
+  is_node item can n e =
+      let leads = down setting costly choice chosen lawful item can n e in
+      let same = same_entry setting costly choice chosen lawful item can n e in
+      record {
+        suits = record {
+          valid = can.valid;
+          kind = leads.source ∙ ap (λ x. x.source) (sym same);
+        };
+        usable = ap (λ x. is_usable setting x.family) same ∙ leads.family;
+      }
+
   mutual
-    unfolding leaves
+    unfolding leaves nodes
 
-    pub are_leaves : {item : Item} {entries : List Entry}
+    pub are_parts : {item : Item} {entries : List Entry}
         (tree : Bridged (rules_by choice) item entries)
-        → IsHere setting costly choice chosen lawful item → All IsLeaf (leaves tree)
-    are_leaves (natively {item} c) here =
-        All-cons IsLeaf item [] (native_leaf item c here) (All-nil IsLeaf)
-    are_leaves (by {item} {edge} {inner} c groups others) here =
-        All-append IsLeaf (leaves_of_each groups) (leaves_in others)
-        (each_are_leaves groups
+        → IsHere setting costly choice chosen lawful item
+        → AreParts setting (leaves tree) (nodes tree)
+    are_parts (natively {item} c) here = record {
+      are_leaves = All-cons IsLeaf item [] (native_leaf item c here) (All-nil IsLeaf);
+      are_nodes = All-nil (IsNode setting);
+    }
+    are_parts (by {item} {edge} {inner} c groups others) here =
+        let below = both_parts
+        (each_are_parts groups
         (child_groups_here setting costly choice chosen lawful item here edge c))
-        (others_are_leaves others
-        (child_rows_here setting costly choice chosen lawful item here edge c inner groups))
+        (others_are_parts others
+        (child_rows_here setting costly choice chosen lawful item here edge c inner groups)) in
+        record {
+          are_leaves = below.are_leaves;
+          are_nodes =
+              All-cons (IsNode setting) (edge, item) (nodes_of_each groups ++ nodes_in others)
+              (is_node item here.can edge c) below.are_nodes;
+        }
 
-    pub each_are_leaves : {items : List Item} {entries : List Entry}
+    pub each_are_parts : {items : List Item} {entries : List Entry}
         (trees : EachBridged (rules_by choice) items entries)
         → All (IsGroupHere setting costly choice chosen lawful) items
-        → All IsLeaf (leaves_of_each trees)
-    each_are_leaves none all = All-nil IsLeaf
-    each_are_leaves (each {item} {items} first rest) all =
-        All-append IsLeaf (leaves first) (leaves_of_each rest)
-        (are_leaves first
+        → AreParts setting (leaves_of_each trees) (nodes_of_each trees)
+    each_are_parts none all = no_parts setting
+    each_are_parts (each {item} {items} first rest) all =
+        both_parts
+        (are_parts first
         (All-head (IsGroupHere setting costly choice chosen lawful) item items all).here)
-        (each_are_leaves rest
+        (each_are_parts rest
         (All-tail (IsGroupHere setting costly choice chosen lawful) item items all))
 
-    pub others_are_leaves : {inner : List Entry} {items : List Item}
+    pub others_are_parts : {inner : List Entry} {items : List Item}
         (trees : EachBridgedIn (rules_by choice) inner items)
         → All (λ c. IsRowHere setting costly choice chosen lawful (put_in inner c)) items
-        → All IsLeaf (leaves_in trees)
-    others_are_leaves none_in all = All-nil IsLeaf
-    others_are_leaves (each_in {inner} {item} {items} first rest) all =
-        All-append IsLeaf (leaves first) (leaves_in rest)
-        (are_leaves first
+        → AreParts setting (leaves_in trees) (nodes_in trees)
+    others_are_parts none_in all = no_parts setting
+    others_are_parts (each_in {inner} {item} {items} first rest) all =
+        both_parts
+        (are_parts first
         (All-head (λ c. IsRowHere setting costly choice chosen lawful (put_in inner c)) item items
         all).here)
-        (others_are_leaves rest
+        (others_are_parts rest
         (All-tail (λ c. IsRowHere setting costly choice chosen lawful (put_in inner c)) item items
         all))
 

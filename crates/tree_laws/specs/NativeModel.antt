@@ -23,7 +23,7 @@ use Rattle.aff_core.specs.Function.{Function, coefficient, terms_of}
 use Rattle.aff_core.specs.Terms.{is_nonzero}
 use Rattle.equality_form.specs.Native.{HasEquations, IsNativeModel, IsNativeRow, NamesVariables}
 use Rattle.item_core.specs.declared.item.Body.{Body}
-use Rattle.item_core.specs.declared.item.Body.TheVariants.{Group, Free, Plain, Affine, PlainVec, AffineVec, PlainObj, AffineObj}
+use Rattle.item_core.specs.declared.item.Body.TheVariants.{Plain, Affine, PlainVec, AffineVec, PlainObj, AffineObj}
 use Rattle.item_core.specs.declared.item.Item.{Item}
 use Rattle.item_core.specs.Item.{functions_of}
 use Rattle.item_core.specs.Kind.{is_native}
@@ -79,8 +79,6 @@ native_row i = by i.body
   where
     by : (b : Body) → IsLeaf (record { at = i.at; body = b })
         → All IsNativeEntry (leaf_rows (record { at = i.at; body = b }))
-    by (Group s vars) l = All-nil IsNativeEntry
-    by (Free vars) l = All-nil IsNativeEntry
     by (Plain var s) l =
         one_row i.at (Plain var s)
         (record { set = plain_equations s l.native; dimension = l.valid.set.dimension })
@@ -93,8 +91,7 @@ native_row i = by i.body
     by (AffineVec funcs s) l =
         one_row i.at (AffineVec funcs s)
         (record { set = affine_equations s l.native; dimension = l.valid.set.dimension })
-    by (PlainObj sense var) l = All-nil IsNativeEntry
-    by (AffineObj sense func) l = All-nil IsNativeEntry
+    by _ l = All-nil IsNativeEntry
 
 native_rows : (items : List Item) → All IsLeaf items → All IsNativeEntry (flat_map leaf_rows items)
 native_rows [] l = All-nil IsNativeEntry
@@ -221,28 +218,20 @@ module _ (setting : Setting) (costly : IsCostly (graph_of setting)) (lawful : Ar
     where
       by : (b : Body) → LeafNames (record { at = i.at; body = b })
           → All EntryNames (leaf_rows (record { at = i.at; body = b }))
-      by (Group s vars) h = All-nil EntryNames
-      by (Free vars) h = All-nil EntryNames
       by (Plain var s) h = one_entry (i.at, Plain var s) h
       by (Affine func s) h = one_entry (i.at, Affine func s) h
       by (PlainVec vars s) h = one_entry (i.at, PlainVec vars s) h
       by (AffineVec funcs s) h = one_entry (i.at, AffineVec funcs s) h
-      by (PlainObj sense var) h = All-nil EntryNames
-      by (AffineObj sense func) h = All-nil EntryNames
+      by _ h = All-nil EntryNames
 
   objectives_name_one : (i : Item) → LeafNames i → All EntryNames (leaf_objectives i)
   objectives_name_one i = by i.body
     where
       by : (b : Body) → LeafNames (record { at = i.at; body = b })
           → All EntryNames (leaf_objectives (record { at = i.at; body = b }))
-      by (Group s vars) h = All-nil EntryNames
-      by (Free vars) h = All-nil EntryNames
-      by (Plain var s) h = All-nil EntryNames
-      by (Affine func s) h = All-nil EntryNames
-      by (PlainVec vars s) h = All-nil EntryNames
-      by (AffineVec funcs s) h = All-nil EntryNames
       by (PlainObj sense var) h = one_entry (i.at, PlainObj sense var) h
       by (AffineObj sense func) h = one_entry (i.at, AffineObj sense func) h
+      by _ h = All-nil EntryNames
 
   all_name : (f : Item → List (Address × Body)) (items : List Item)
       → ((i : Item) → LeafNames i → All EntryNames (f i))

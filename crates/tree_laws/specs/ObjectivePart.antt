@@ -3,7 +3,7 @@ use Rattle.std.specs.Prelude.{◌≡◌, true, false, List, [], ◌∷◌, ◌++
 use Rattle.std.specs.FinMap as finite
 use Rattle.std.specs.List.Sorted.{IsPermutation}
 use Rattle.std.proofs.Common.{arith, sym, ap, ap₂, subst, ◌∙◌, true≢false}
-use Rattle.std.proofs.lemmas.List.Elements.{All-append, All-cons, All-head, All-map, All-nil}
+use Rattle.std.proofs.lemmas.List.Elements.{All-append, All-cons, All-head, All-nil}
 use Rattle.std.proofs.lemmas.List.Sorted.{length_permutation}
 use Rattle.std.proofs.lemmas.List.{nil_from_length}
 use Rattle.bridge_graph.specs.Hypergraph.{IsCostly}
@@ -35,13 +35,12 @@ use Rattle.user_model.specs.Model.{ModelValue}
 use Rattle.user_model.specs.Valid.{IsValid}
 use Rattle.user_model.specs.declared.objective.Objective.{Objective}
 use Rattle.user_model.specs.declared.objective.Objective.TheVariants as objective
-use Rattle.user_model.specs.declared.row.Row.{Row}
 use Rattle.address_laws.specs.DistinctLaws.{each_apart}
 use Rattle.address_laws.specs.ImageLaws.{constant_misses}
 use Rattle.tree_laws.specs.Carried.{LeafDuals, backs}
 use Rattle.tree_laws.specs.LeafLaws.{SupportsNativeKinds, objective_held}
 use Rattle.tree_laws.specs.ObjectiveLaws.{CostsNothing, HasOne, none_at_all, none_below_each, none_below_in}
-use Rattle.tree_laws.specs.PrimalLaws.{all_leaves, cost_of_one, costs_less, groups_there, has_leaf, others_there, row_no_objective, seen_point}
+use Rattle.tree_laws.specs.PrimalLaws.{all_leaves, cost_of_one, costs_less, groups_there, has_leaf, others_there, rows_no_objective, seen_point}
 use Rattle.tree_laws.specs.BackLaws.{last_of_rows}
 
 -- what an objective costs: nothing, where there is none
@@ -132,14 +131,7 @@ module _ (setting : Setting) (costly : IsCostly (graph_of setting)) (lawful : Ar
       (others_there setting costly lawful native model valid bridging)
       (subst (λ l. All (λ c. is_objective c.body ≡ false) (map row_item model.rows ++ l)) (sym e)
       (All-append (λ c. is_objective c.body ≡ false) (map row_item model.rows) []
-      (All-map (λ c. is_objective c.body ≡ false) row_item model.rows (each_row model.rows))
-      (All-nil (λ c. is_objective c.body ≡ false))))))
-    where
-      each_row : (rs : List Row) → All (λ r. is_objective (row_item r).body ≡ false) rs
-      each_row [] = All-nil (λ r. is_objective (row_item r).body ≡ false)
-      each_row (r ∷ rs) =
-          All-cons (λ k. is_objective (row_item k).body ≡ false) r rs
-          (row_no_objective r.func r.set) (each_row rs)
+      (rows_no_objective model.rows) (All-nil (λ c. is_objective c.body ≡ false))))))
 
   no_cost : objective_items model.objective ≡ []
       → cost (leaves_of bridging) ≡ constant_function zero_ℚ

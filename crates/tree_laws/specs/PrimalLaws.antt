@@ -7,7 +7,7 @@ use Rattle.std.proofs.Common.{arith, sym, ap, subst, ◌∙◌, true≢false}
 use Rattle.std.proofs.lemmas.List.Elements.{All-append, All-cons, All-head, All-map, All-nil, All-tail, All-weaker}
 use Rattle.std.proofs.lemmas.List.Sorted.{All-permutation, IsPermutation-sym, length_permutation}
 use Rattle.bridge_graph.specs.Hypergraph.{IsCostly}
-use Rattle.expansion.specs.Read.{leaves_in, leaves_of_each, model_leaves}
+use Rattle.expansion.specs.Read.{leaves_in, leaves_of_each, model_leaves, model_nodes, nodes_in, nodes_of_each}
 use Rattle.ratio_core.specs.Rational.{Rational, zero_ℚ, ◌≤ℚ◌}
 use Rattle.rational_laws.specs.Order.{≤ℚ_from_≡}
 use Rattle.set_core.specs.Membership.{In}
@@ -50,7 +50,7 @@ use Rattle.address_laws.specs.ImageLaws.{variables_miss}
 use Rattle.address_laws.specs.KeyLaws.{IsHere}
 use Rattle.address_laws.specs.PutLaws.{group_stays, objective_stays}
 use Rattle.tree_laws.specs.Carried.{group_held, group_helds, through}
-use Rattle.tree_laws.specs.LeafLaws.{IsLeaf, IsNativeGroup, SupportsNativeKinds, each_are_leaves, free, nonnegatives, others_are_leaves, reals}
+use Rattle.tree_laws.specs.LeafLaws.{AreParts, IsLeaf, IsNativeGroup, IsNode, SupportsNativeKinds, both_parts, each_are_parts, free, nonnegatives, others_are_parts, reals}
 use Rattle.tree_laws.specs.ObjectiveLaws.{CostsNothing, HasOne, OneObjective, none_below_each, one_behind, one_in, one_last}
 use Rattle.tree_laws.specs.PutLaws.{held_put}
 use Rattle.tree_laws.specs.SeenLaws.{IsGroupHere, IsRowHere}
@@ -164,6 +164,13 @@ row_no_objective (func.Affine f) s = refl
 row_no_objective (func.PlainVec vars) s = refl
 row_no_objective (func.AffineVec fs) s = refl
 
+pub rows_no_objective : (rows : List Row)
+    → All (λ c. is_objective c.body ≡ false) (map row_item rows)
+rows_no_objective [] = All-nil (λ c. is_objective c.body ≡ false)
+rows_no_objective (r ∷ rows) =
+    All-cons (λ c. is_objective c.body ≡ false) (row_item r) (map row_item rows)
+    (row_no_objective r.func r.set) (rows_no_objective rows)
+
 -- ---- the user's model
 
 module _ (setting : Setting) (costly : IsCostly (graph_of setting)) (lawful : AreLawful setting)
@@ -209,13 +216,21 @@ module _ (setting : Setting) (costly : IsCostly (graph_of setting)) (lawful : Ar
       subst Distinct (sym (inner_is model.groups))
       (vars_distinct setting costly lawful model valid bridging)
 
-  pub native_leaves : All IsLeaf all_leaves
-  native_leaves =
-      All-append IsLeaf (leaves_of_each bridging.made.groups) (leaves_in bridging.made.others)
-      (each_are_leaves setting costly bridging.choice bridging.chosen lawful native
+  parts_are : AreParts setting all_leaves
+      (nodes_of_each bridging.made.groups ++ nodes_in bridging.made.others)
+  parts_are =
+      both_parts
+      (each_are_parts setting costly bridging.choice bridging.chosen lawful native
       bridging.made.groups groups_there)
-      (others_are_leaves setting costly bridging.choice bridging.chosen lawful native
+      (others_are_parts setting costly bridging.choice bridging.chosen lawful native
       bridging.made.others others_there)
+
+  pub native_leaves : All IsLeaf all_leaves
+  native_leaves = parts_are.are_leaves
+
+  pub nodes_here : All (IsNode setting) (model_nodes bridging.made)
+  unfolding model_nodes
+  nodes_here = parts_are.are_nodes
 
   -- ---- what holds of the maps' entries holds of the leaves
 
@@ -261,14 +276,7 @@ module _ (setting : Setting) (costly : IsCostly (graph_of setting)) (lawful : Ar
       others_there
       (subst (λ l. OneObjective (map row_item model.rows ++ l)) (sym here)
       (one_last (map row_item model.rows) (objective_item b)
-      (All-map (λ c. is_objective c.body ≡ false) row_item model.rows
-      (each_row model.rows)) o)))
-    where
-      each_row : (rs : List Row) → All (λ r. is_objective (row_item r).body ≡ false) rs
-      each_row [] = All-nil (λ r. is_objective (row_item r).body ≡ false)
-      each_row (r ∷ rs) =
-          All-cons (λ k. is_objective (row_item k).body ≡ false) r rs
-          (row_no_objective r.func r.set) (each_row rs)
+      (rows_no_objective model.rows) o)))
 
   -- ---- at a point
 

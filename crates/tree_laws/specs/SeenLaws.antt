@@ -14,8 +14,6 @@ use Rattle.ratio_core.specs.Rational.{zero_ℚ}
 use Rattle.aff_core.specs.Address.{Address, address_cmp}
 use Rattle.aff_core.specs.Arithmetic.{composed}
 use Rattle.aff_core.specs.Function.{coefficient, variable}
-use Rattle.aff_core.specs.FunctionLaws.{coefficient-variable_other}
-use Rattle.aff_core.specs.KeyOrder.{address_order}
 use Rattle.item_core.specs.declared.image.Expression.TheVariants.{Kept}
 use Rattle.item_core.specs.declared.item.Item.{Item}
 use Rattle.item_core.specs.Item.{functions_of, is_group, variables_of}
@@ -29,7 +27,7 @@ use Rattle.fresh_bridging.specs.CanLaws.{AreLawful}
 use Rattle.map_laws.specs.EachLaws.{all_both, all_from_map, all_first, all_second, all_seconds}
 use Rattle.fresh_bridging.specs.Entries.{Entry, function_in, put_in, put_into}
 use Rattle.fresh_bridging.specs.MentionLaws.{AllOmit, Omits}
-use Rattle.fresh_bridging.specs.OmitLaws.{IsBelowAt}
+use Rattle.fresh_bridging.specs.OmitLaws.{IsBelowAt, own_omit}
 use Rattle.fresh_bridging.specs.TheRules.{AreChoices, Setting, edge_at, graph_of, outer_entries, rules_by}
 use Rattle.address_laws.specs.Apart.{Avoids, in_or_not, not_in}
 use Rattle.address_laws.specs.LeafKeys.{no_keys}
@@ -47,16 +45,6 @@ own_is item h = ap (λ b. cond b (variables_of item.body) []) h
 
 pub own_none_is : (item : Item) → is_group item.body ≡ false → own item ≡ []
 own_none_is item h = ap (λ b. cond b (variables_of item.body) []) h
-
-omit_own : (vars : List Address) (v : Address) → Avoids vars v
-    → AllOmit v (map (λ u. record { component = u; expression = Kept u }) vars)
-omit_own [] v h = All-nil (λ e. Omits v e.expression)
-omit_own (u ∷ us) v h =
-    All-cons (λ e. Omits v e.expression) (record { component = u; expression = Kept u })
-    (map (λ w. record { component = w; expression = Kept w }) us)
-    (coefficient-variable_other address_order u v
-    (λ same. All-head (λ w. ¬ (w ≡ v)) u us h (sym same)))
-    (omit_own us v (All-tail (λ w. ¬ (w ≡ v)) u us h))
 
 module _ (setting : Setting) (costly : IsCostly (graph_of setting)) (choice : ℕ → Choice)
     (chosen : AreChoices setting choice) (lawful : AreLawful setting) where
@@ -175,8 +163,8 @@ module _ (setting : Setting) (costly : IsCostly (graph_of setting)) (choice : �
         subst (λ b. AllOmit v (cond b
         (map (λ u. record { component = u; expression = Kept u }) (variables_of item.body)) []))
         (sym is.group)
-        (omit_own (variables_of item.body) v
-        (subst (λ l. Avoids l v) (own_is item is.group) h))
+        (own_omit (variables_of item.body) v
+        (not_in (variables_of item.body) v (subst (λ l. Avoids l v) (own_is item is.group) h)))
     omit_tree (by {item} {edge} {inner} c groups others) is v h =
         outer_omits item is edge c inner v
         (components_of_each groups (child_groups_here item is.here edge c))

@@ -1,5 +1,5 @@
 -- The induction along a bridging: what stands below an item stands for it.
-use Rattle.std.specs.Prelude.{◌≡◌, ℕ, List, [], ◌∷◌, ◌++◌, All, Contains, map}
+use Rattle.std.specs.Prelude.{◌≡◌, ℕ, List, [], ◌∷◌, ◌++◌, All, Contains, drop, length, map, take}
 use Rattle.std.proofs.Common.{sym, ap, subst, ◌∙◌}
 use Rattle.std.proofs.lemmas.List.Elements.{All-head, All-tail, All-nil}
 use Rattle.bridge_graph.specs.Hypergraph.{IsCostly}
@@ -14,13 +14,15 @@ use Rattle.item_core.specs.declared.item.Item.{Item}
 use Rattle.item_core.specs.Item.{variables_of}
 use Rattle.item_core.specs.Kind.{kind_number}
 use Rattle.item_core.specs.KindOf.{kind_of_body}
-use Rattle.bridge_face.specs.Law.{held, held_body, inner_of}
+use Rattle.bridge_face.specs.ImageOf.{image_of}
+use Rattle.bridge_face.specs.Law.{Carries, ChildDuals, held, held_body, inner_of}
 use Rattle.fresh_bridging.specs.CanLaws.{AreLawful}
 use Rattle.fresh_bridging.specs.Entries.{Entry, put_in}
-use Rattle.fresh_bridging.specs.TheRules.{AreChoices, Setting, graph_of, outer_entries, own_entries, rules_by}
+use Rattle.fresh_bridging.specs.TheRules.{AreChoices, Setting, edge_at, graph_of, outer_entries, own_entries, rules_by}
 use Rattle.address_laws.specs.Apart.{Distinct, distinct-first, distinct-second}
 use Rattle.address_laws.specs.LeafKeys.{no_keys}
 use Rattle.address_laws.specs.ImageLaws.{Misses}
+use Rattle.address_laws.specs.KeyLaws.{IsHere}
 use Rattle.address_laws.specs.Keys.{keys, keys_in, keys_of_each, own}
 use Rattle.tree_laws.specs.Carried.{LeafDuals, StandFor, back, backs, group_held, group_helds, leaf_helds, through}
 use Rattle.tree_laws.specs.DownLaws.{each_joined, first_balance, rest_balance, stand_itself}
@@ -78,6 +80,22 @@ module _ (setting : Setting) (costly : IsCostly (graph_of setting)) (choice : �
     pub zero : (v : Address) → Contains (keys own no_keys tree) v
         → adjoint (leaf_helds d (leaves tree)) v ≡ zero_ℚ
 
+  -- ---- what is told
+
+  -- what stands below rows stands for them, and what stands below groups for these, their variables
+  -- with these numbers
+  abbrev RowsStand : {inner : List Entry} {items : List Item}
+      → EachBridgedIn (rules_by choice) inner items → Type 0
+  RowsStand {inner} {items} trees =
+      StandFor (held d.bound (map (put_in inner) items) (backs d trees))
+      (leaf_helds d (leaves_in trees))
+
+  abbrev GroupsStand : {groups : List Item} {entries : List Entry}
+      → EachBridged (rules_by choice) groups entries → (Address → Rational) → Type 0
+  GroupsStand {groups} {entries} trees w =
+      StandFor (map (through entries) (group_helds d.bound w groups))
+      (leaf_helds d (leaves_of_each trees))
+
   -- ---- lists, the first and the rest
 
   module _ {item : Item} {items : List Item} {entries others : List Entry}
@@ -108,10 +126,7 @@ module _ (setting : Setting) (costly : IsCostly (graph_of setting)) (choice : �
 
     groups_joined : StandFor (through entries (group_held d.bound w item) ∷ [])
         (leaf_helds d (leaves first))
-        → StandFor (map (through others) (group_helds d.bound w items))
-        (leaf_helds d (leaves_of_each rest))
-        → StandFor (map (through (entries ++ others)) (group_helds d.bound w (item ∷ items)))
-        (leaf_helds d (leaves_of_each (each first rest)))
+        → GroupsStand rest w → GroupsStand (each first rest) w
     unfolding leaves keys
     groups_joined s t =
         each_joined setting costly choice chosen lawful d first rest ready.here w ready.distinct
@@ -160,8 +175,7 @@ module _ (setting : Setting) (costly : IsCostly (graph_of setting)) (choice : �
 
     pub level_groups : (w : Address → Rational)
         → ((v : Address) → w v +ℚ adjoint (held d.bound others (backs d os)) v ≡ adjoint ts v)
-        → StandFor (held d.bound (map (put_in inner) others) (backs d os))
-        (leaf_helds d (leaves_in os)) → GroupsReady gs w
+        → RowsStand os → GroupsReady gs w
     level_groups w rest rows = record {
       here = lv.groups_here;
       distinct = distinct-first (keys_of_each own no_keys gs) (keys_in own no_keys os) lv.distinct;
@@ -173,6 +187,44 @@ module _ (setting : Setting) (costly : IsCostly (graph_of setting)) (choice : �
 
   -- ---- nodes
 
+  module _ (item : Item) (here : IsHere setting costly choice chosen lawful item) (n : ℕ)
+      (e : choice (kind_number (kind_of_body item.body)) ≡ By n) (inner : List Entry)
+      (gs : EachBridged (rules_by choice)
+      (groups_at setting costly choice chosen lawful item here n e) inner)
+      (os : EachBridgedIn (rules_by choice) inner
+      (others_at setting costly choice chosen lawful item here n e)) where
+    abbrev below : List Held
+    below = leaf_helds d (leaves_of_each gs ++ leaves_in os)
+
+    abbrev target_by : List Rational → Held
+    target_by w = target setting costly choice chosen lawful d item here n e inner gs os w
+
+    -- the item with these numbers, where they balance what stands below its children
+    node_stands : (w : List Rational) → DualsHold below
+        → ((v : Address) → Contains (keys_of_each own no_keys gs ++ keys_in own no_keys os) v
+        → adjoint (through inner (target_by w) ∷ []) v ≡ adjoint below v)
+        → ((duals : ChildDuals)
+        → duals.rows ≡ take (length (image_of (edge_at n) item).rows) (backs d os)
+        → duals.objective ≡ drop (length (image_of (edge_at n) item).rows) (backs d os)
+        → Carries (edge_at n) item duals w)
+        → (RowsReady os → RowsStand os)
+        → ((v : Address → Rational) → GroupsReady gs v → GroupsStand gs v)
+        → StandFor (through inner (target_by w) ∷ []) below
+    node_stands w duals balance carries rows_stand groups_stand =
+        let groups = groups_at setting costly choice chosen lawful item here n e in
+        let others = others_at setting costly choice chosen lawful item here n e in
+        let lv = level setting costly choice chosen lawful d item here n e inner gs os w duals
+        balance in
+        let numbers = left setting costly choice chosen lawful d item here n e inner gs os w duals
+        balance in
+        let rows = rows_stand (level_rows groups others inner gs os (target_by w ∷ []) lv) in
+        target_stands setting costly choice chosen lawful d item here n e inner gs os w duals
+        balance carries rows
+        (groups_stand numbers
+        (level_groups groups others inner gs os (target_by w ∷ []) lv numbers
+        (left_rest setting costly choice chosen lawful d item here n e inner gs os w duals balance)
+        rows))
+
   module _ (item : Item) (is : RowThere item) (n : ℕ)
       (e : choice (kind_number (kind_of_body item.body)) ≡ By n) (inner : List Entry)
       (gs : EachBridged (rules_by choice)
@@ -183,69 +235,28 @@ module _ (setting : Setting) (costly : IsCostly (graph_of setting)) (choice : �
     abbrev carried_dual : List Rational
     carried_dual = carried setting costly choice chosen lawful d item is n e (backs d os)
 
-    carried_duals : DualsHold (leaf_helds d (leaves_of_each gs ++ leaves_in os))
-    unfolding leaves
-    carried_duals = ready.duals
-
     row_balance : (v : Address) → Contains (keys_of_each own no_keys gs ++ keys_in own no_keys os) v
-        → adjoint (through inner (target setting costly choice chosen lawful d item is.here n e
-        inner gs os carried_dual) ∷ []) v
-        ≡ adjoint (leaf_helds d (leaves_of_each gs ++ leaves_in os)) v
+        → adjoint (through inner (target_by item is.here n e inner gs os carried_dual) ∷ []) v
+        ≡ adjoint (below item is.here n e inner gs os) v
     unfolding leaves keys
     row_balance v c =
         row_quiet setting costly choice chosen lawful d item is n e inner gs carried_dual v
         (keys_under setting costly choice chosen lawful d item is.here n e inner gs os v c)
         ∙ sym (ready.zero v c)
 
-    abbrev row_level : IsLevel setting costly choice chosen lawful d
-        (groups_at setting costly choice chosen lawful item is.here n e)
-        (others_at setting costly choice chosen lawful item is.here n e) inner gs os
-        (target setting costly choice chosen lawful d item is.here n e inner gs os carried_dual
-        ∷ [])
-    row_level = level setting costly choice chosen lawful d item is.here n e inner gs os
-        carried_dual
-        carried_duals row_balance
-
-    abbrev row_left : Address → Rational
-    row_left = left setting costly choice chosen lawful d item is.here n e inner gs os carried_dual
-        carried_duals row_balance
-
-    row_node_rows : RowsReady os
-    row_node_rows = level_rows (groups_at setting costly choice chosen lawful item is.here n e)
-        (others_at setting costly choice chosen lawful item is.here n e) inner gs os
-        (target setting costly choice chosen lawful d item is.here n e inner gs os carried_dual
-        ∷ [])
-        row_level
-
-    module _ (rows : StandFor (held d.bound (map (put_in inner)
-        (others_at setting costly choice chosen lawful item is.here n e)) (backs d os))
-        (leaf_helds d (leaves_in os))) where
-      row_node_groups : GroupsReady gs row_left
-      row_node_groups = level_groups
-          (groups_at setting costly choice chosen lawful item is.here n e)
-          (others_at setting costly choice chosen lawful item is.here n e) inner gs os
-          (target setting costly choice chosen lawful d item is.here n e inner gs os carried_dual
-          ∷ [])
-          row_level row_left
-          (left_rest setting costly choice chosen lawful d item is.here n e inner gs os carried_dual
-          carried_duals row_balance) rows
-
-      row_node : StandFor (map (through inner) (group_helds d.bound row_left
-          (groups_at setting costly choice chosen lawful item is.here n e)))
-          (leaf_helds d (leaves_of_each gs))
-          → StandFor (held_body d.bound item.body (back d
-          (by {item = item} {edge = n} {inner = inner} e gs os)) ∷ [])
-          (leaf_helds d (leaves (by {item = item} {edge = n} {inner = inner} e gs os)))
-      unfolding leaves back
-      row_node below =
-          subst (λ h. StandFor (h ∷ []) (leaf_helds d (leaves_of_each gs ++ leaves_in os)))
-          (row_through setting costly choice chosen lawful d item is n e inner gs carried_dual)
-          (target_stands setting costly choice chosen lawful d item is.here n e inner gs os
-          carried_dual
-          carried_duals row_balance
-          (row_carries setting costly choice chosen lawful d item is n e (backs d os)
-          (last_back setting costly choice chosen lawful d item is n e inner gs os))
-          rows below)
+    row_node : (RowsReady os → RowsStand os)
+        → ((v : Address → Rational) → GroupsReady gs v → GroupsStand gs v)
+        → StandFor (held_body d.bound item.body (back d
+        (by {item = item} {edge = n} {inner = inner} e gs os)) ∷ [])
+        (leaf_helds d (leaves (by {item = item} {edge = n} {inner = inner} e gs os)))
+    unfolding leaves back
+    row_node rows_stand groups_stand =
+        subst (λ h. StandFor (h ∷ []) (leaf_helds d (leaves_of_each gs ++ leaves_in os)))
+        (row_through setting costly choice chosen lawful d item is n e inner gs carried_dual)
+        (node_stands item is.here n e inner gs os carried_dual ready.duals row_balance
+        (row_carries setting costly choice chosen lawful d item is n e (backs d os)
+        (last_back setting costly choice chosen lawful d item is n e inner gs os))
+        rows_stand groups_stand)
 
   module _ (item : Item) (is : GroupThere item) (n : ℕ)
       (e : choice (kind_number (kind_of_body item.body)) ≡ By n) (inner : List Entry)
@@ -253,69 +264,33 @@ module _ (setting : Setting) (costly : IsCostly (graph_of setting)) (choice : �
       (groups_at setting costly choice chosen lawful item is.here n e) inner)
       (os : EachBridgedIn (rules_by choice) inner
       (others_at setting costly choice chosen lawful item is.here n e))
-      (w : Address → Rational) (ready : GroupReady (by {item = item} {edge = n} {inner = inner} e gs
-      os) w) where
+      (w : Address → Rational)
+      (ready : GroupReady (by {item = item} {edge = n} {inner = inner} e gs os) w) where
     abbrev numbers : List Rational
     numbers = map w (variables_of item.body)
 
-    group_duals_here : DualsHold (leaf_helds d (leaves_of_each gs ++ leaves_in os))
-    unfolding leaves
-    group_duals_here = ready.duals
-
     group_balance : (v : Address)
         → Contains (keys_of_each own no_keys gs ++ keys_in own no_keys os) v
-        → adjoint (through inner (target setting costly choice chosen lawful d item is.here n e
-        inner gs os numbers) ∷ []) v
-        ≡ adjoint (leaf_helds d (leaves_of_each gs ++ leaves_in os)) v
+        → adjoint (through inner (target_by item is.here n e inner gs os numbers) ∷ []) v
+        ≡ adjoint (below item is.here n e inner gs os) v
     unfolding leaves keys
     group_balance v c =
         ap (λ h. adjoint (h ∷ []) v)
         (sym (outer_through setting costly choice chosen lawful d item is n e inner w))
         ∙ ready.balance v c
 
-    abbrev group_level : IsLevel setting costly choice chosen lawful d
-        (groups_at setting costly choice chosen lawful item is.here n e)
-        (others_at setting costly choice chosen lawful item is.here n e) inner gs os
-        (target setting costly choice chosen lawful d item is.here n e inner gs os numbers ∷ [])
-    group_level = level setting costly choice chosen lawful d item is.here n e inner gs os numbers
-        group_duals_here group_balance
-
-    abbrev group_left : Address → Rational
-    group_left = left setting costly choice chosen lawful d item is.here n e inner gs os numbers
-        group_duals_here group_balance
-
-    group_node_rows : RowsReady os
-    group_node_rows = level_rows (groups_at setting costly choice chosen lawful item is.here n e)
-        (others_at setting costly choice chosen lawful item is.here n e) inner gs os
-        (target setting costly choice chosen lawful d item is.here n e inner gs os numbers ∷ [])
-        group_level
-
-    module _ (rows : StandFor (held d.bound (map (put_in inner)
-        (others_at setting costly choice chosen lawful item is.here n e)) (backs d os))
-        (leaf_helds d (leaves_in os))) where
-      group_node_groups : GroupsReady gs group_left
-      group_node_groups = level_groups
-          (groups_at setting costly choice chosen lawful item is.here n e)
-          (others_at setting costly choice chosen lawful item is.here n e) inner gs os
-          (target setting costly choice chosen lawful d item is.here n e inner gs os numbers ∷ [])
-          group_level group_left
-          (left_rest setting costly choice chosen lawful d item is.here n e inner gs os numbers
-          group_duals_here group_balance) rows
-
-      group_node : StandFor (map (through inner) (group_helds d.bound group_left
-          (groups_at setting costly choice chosen lawful item is.here n e)))
-          (leaf_helds d (leaves_of_each gs))
-          → StandFor (through (outer_entries n item inner) (group_held d.bound w item) ∷ [])
-          (leaf_helds d (leaves (by {item = item} {edge = n} {inner = inner} e gs os)))
-      unfolding leaves
-      group_node below =
-          subst (λ h. StandFor (h ∷ []) (leaf_helds d (leaves_of_each gs ++ leaves_in os)))
-          (sym (outer_through setting costly choice chosen lawful d item is n e inner w))
-          (target_stands setting costly choice chosen lawful d item is.here n e inner gs os numbers
-          group_duals_here group_balance
-          (λ duals rs o. group_carries setting costly choice chosen lawful d item is n e inner w
-          duals)
-          rows below)
+    group_node : (RowsReady os → RowsStand os)
+        → ((v : Address → Rational) → GroupsReady gs v → GroupsStand gs v)
+        → StandFor (through (outer_entries n item inner) (group_held d.bound w item) ∷ [])
+        (leaf_helds d (leaves (by {item = item} {edge = n} {inner = inner} e gs os)))
+    unfolding leaves
+    group_node rows_stand groups_stand =
+        subst (λ h. StandFor (h ∷ []) (leaf_helds d (leaves_of_each gs ++ leaves_in os)))
+        (sym (outer_through setting costly choice chosen lawful d item is n e inner w))
+        (node_stands item is.here n e inner gs os numbers ready.duals group_balance
+        (λ duals rs o. group_carries setting costly choice chosen lawful d item is n e inner w
+        duals)
+        rows_stand groups_stand)
 
   -- ---- natively
 
@@ -352,17 +327,11 @@ module _ (setting : Setting) (costly : IsCostly (graph_of setting)) (choice : �
         → StandFor (held_body d.bound item.body (back d tree) ∷ []) (leaf_helds d (leaves tree))
     row_stands (natively {item} c) ready = native_row_stands item c ready
     row_stands (by {item} {edge} {inner} c groups others) ready =
-        let rows = rows_stand others
-        (row_node_rows item ready.here edge c inner groups others ready) in
-        row_node item ready.here edge c inner groups others ready rows
-        (groups_stand groups
-        (row_left item ready.here edge c inner groups others ready)
-        (row_node_groups item ready.here edge c inner groups others ready rows))
+        row_node item ready.here edge c inner groups others ready (λ r. rows_stand others r)
+        (λ w r. groups_stand groups w r)
 
     pub rows_stand : {inner : List Entry} {items : List Item}
-        (trees : EachBridgedIn (rules_by choice) inner items) → RowsReady trees
-        → StandFor (held d.bound (map (put_in inner) items) (backs d trees))
-        (leaf_helds d (leaves_in trees))
+        (trees : EachBridgedIn (rules_by choice) inner items) → RowsReady trees → RowsStand trees
     rows_stand none_in ready = rows_none
     rows_stand (each_in {inner} {item} {items} first rest) ready =
         stand_leaves d
@@ -377,18 +346,12 @@ module _ (setting : Setting) (costly : IsCostly (graph_of setting)) (choice : �
         → StandFor (through entries (group_held d.bound w group) ∷ []) (leaf_helds d (leaves tree))
     group_stands (natively {item} c) w ready = native_group_stands item c w ready
     group_stands (by {item} {edge} {inner} c groups others) w ready =
-        let rows = rows_stand others
-        (group_node_rows item ready.here edge c inner groups others w ready) in
-        group_node item ready.here edge c inner groups others w ready rows
-        (groups_stand groups
-        (group_left item ready.here edge c inner groups others w ready)
-        (group_node_groups item ready.here edge c inner groups others w ready rows))
+        group_node item ready.here edge c inner groups others w ready (λ r. rows_stand others r)
+        (λ v r. groups_stand groups v r)
 
     pub groups_stand : {groups : List Item} {entries : List Entry}
         (trees : EachBridged (rules_by choice) groups entries) (w : Address → Rational)
-        → GroupsReady trees w
-        → StandFor (map (through entries) (group_helds d.bound w groups))
-        (leaf_helds d (leaves_of_each trees))
+        → GroupsReady trees w → GroupsStand trees w
     groups_stand none w ready = rows_none
     groups_stand (each {item} {items} {entries} {others} first rest) w ready =
         groups_joined first rest w ready

@@ -81,6 +81,16 @@ module _ (setting : Setting) (costly : IsCostly (graph_of setting)) (lawful : Ar
     size_is =
         length-map (addresses_of (variables model)) seen ∙ length-map (variables model) address_of
 
+    -- the objective is the same at the listed numbers
+    objective_agrees : (number : Function → (Address → Rational) → Rational)
+        → ((f : Function) (p : Address → Rational) → evaluated one f p ≡ number f p)
+        → number (objective_function model.objective) (at_point model (listed_point model seen))
+        ≡ number (objective_function model.objective) seen
+    objective_agrees number is =
+        let f = objective_function model.objective in
+        sym (is f (at_point model (listed_point model seen)))
+        ∙ ap head_of (evaluations_agree model seen one (f ∷ []) objective_misses) ∙ is f seen
+
     module _ (times : Set → Set) (numbers : List Function → (Address → Rational) → List Rational)
         (times_is : (s : Set) → multiplied one s ≡ times s)
         (numbers_are : (fs : List Function) (p : Address → Rational)
@@ -136,12 +146,7 @@ module _ (setting : Setting) (costly : IsCostly (graph_of setting)) (lawful : Ar
         ≡ value_of (objective_function model.objective) seen_x
     objective_at =
         ap (objective_value model) point_is
-        ∙ sym (evaluated_value (objective_function model.objective)
-        (at_point model (listed_point model seen_x)))
-        ∙ ap head_of
-        (evaluations_agree model seen_x one_ℚ (objective_function model.objective ∷ [])
-        objective_misses)
-        ∙ evaluated_value (objective_function model.objective) seen_x
+        ∙ objective_agrees one_ℚ one_nonneg x feasible value_of evaluated_value
 
   module _ (x : Address → Rational) (ray : IsLeafFeasible (leaves_of bridging) zero_ℚ x) where
     abbrev seen_d : Address → Rational
@@ -166,12 +171,7 @@ module _ (setting : Setting) (costly : IsCostly (graph_of setting)) (lawful : Ar
         ≡ slope (objective_function model.objective) seen_d
     slope_at =
         ap (objective_slope model) ray_is
-        ∙ sym (evaluated_slope (objective_function model.objective)
-        (at_point model (listed_point model seen_d)))
-        ∙ ap head_of
-        (evaluations_agree model seen_d zero_ℚ (objective_function model.objective ∷ [])
-        objective_misses)
-        ∙ evaluated_slope (objective_function model.objective) seen_d
+        ∙ objective_agrees zero_ℚ (≤ℚ_refl zero_ℚ) x ray slope evaluated_slope
 
     pub ray_improves : slope (cost (leaves_of bridging)) x ‹ℚ zero_ℚ
         → IsBetter (sense_of model.objective) (objective_slope model (ray_of bridging x)) zero_ℚ

@@ -3,6 +3,7 @@ use Rattle.std.specs.Prelude.{IsTrue}
 use Rattle.std.specs.Vec.Iter.{into_iter_items}
 use Rattle.std.proofs.lemmas.List.{nil_from_length}
 use Rattle.bridge_graph.specs.declared.Choice.TheVariants.{By}
+use Rattle.ratio_core.specs.AnsweredLaws.{passed_on}
 use Rattle.item_core.specs.Kind.{kind_number}
 use Rattle.item_core.specs.KindOf.{kind_of_body}
 use Rattle.fresh_bridging.specs.Entries.{put_in_fits}
@@ -12,7 +13,6 @@ use Rattle.bridge_plan.specs.declared.plan.Plan.{Plan}
 use Rattle.bridge_plan.specs.Worked.{worked, worked_in}
 use Rattle.bridge_plan.specs.InTurn.{EachSoFar, InSoFar, each_end, each_needs, each_start, each_step, in_end, in_needs_made, in_needs_put, in_start, in_step}
 use Rattle.bridge_plan.proofs.ItemCases.{planned_by, planned_natively}
-use Rattle.aff_core.specs.AnsweredLaws.{passed_on}
 use Rattle.bridge_plan.proofs.NodeSteps.{needs_further, node_answered, node_read, others_ready, pushed_node, stands_alike}
 use Rattle.bridge_plan.proofs.Opened.{never_missing, opened, some_level}
 use Rattle.bridge_plan.proofs.planning.+planning.Goals as goal

@@ -1,7 +1,8 @@
-use Rattle.std.proofs.Common.{◌+◌, [], ◌∷◌, drop, ap, ◌∙◌, sym}
+use Rattle.std.proofs.Common.{◌+◌, [], ◌∷◌, drop, ap, ◌∙◌, sym, refl}
 use Rattle.std.proofs.lemmas.List.{drop_all}
 use Rattle.leaf_change.specs.Puts.{put_all, variables_as, variables_in}
-use Rattle.leaf_change.proofs.PutSteps.{first_new, later_left, later_new, next_item}
+use Rattle.map_laws.specs.LoopLaws.{next_item}
+use Rattle.leaf_change.proofs.PutSteps.{first_new, later_left, later_new}
 use Rattle.leaf_change.proofs.put.put_each.Goals as goal
 
 pub put_variable-requires-clause-new : goal.put_variable-requires-clause-new
@@ -10,7 +11,7 @@ put_variable-requires-clause-new c =
     let vars = c.args.vars.now in
     let i = l.at-index in
     let at = c.at-item.result in
-    let next = ap (variables_as c.args.var) (next_item vars i at c.at-item.is c.loop-at-test.true) in
+    let next = ap (variables_as c.args.var) (next_item vars vars i at refl c.at-item.is c.loop-at-test.true) in
     (first_new (variables_in l.map l.solver.leaves) (variables_as c.args.var (drop i vars)) (variables_as c.args.var (at ∷ [])) (variables_as c.args.var (drop (i + 1) vars)) next l.invariant.new).0
 
 pub loop-at-preserved : goal.loop-at-preserved
@@ -21,7 +22,7 @@ loop-at-preserved c =
     let at = c.at-item.result in
     let old = variables_in l.map l.solver.leaves in
     let now = variables_in c.put_variable.new.map c.put_variable.new.solver.leaves in
-    let next = ap (variables_as c.args.var) (next_item vars i at c.at-item.is c.loop-at-test.true) in
+    let next = ap (variables_as c.args.var) (next_item vars vars i at refl c.at-item.is c.loop-at-test.true) in
     let w = c.in_ok-put_variable.ensures in
     record {
       named = w.named;

@@ -1,4 +1,4 @@
-use Rattle.std.proofs.Common.{◌+◌, ◌++◌, drop, ap, sym, ◌∙◌, subst}
+use Rattle.std.proofs.Common.{◌+◌, ◌++◌, drop, ap, sym, ◌∙◌, subst, refl}
 use Rattle.std.specs.Prelude.{flat_map}
 use Rattle.std.proofs.lemmas.List.{append-nil, drop_all}
 use Rattle.address_map.specs.Places.{Places}
@@ -6,7 +6,8 @@ use Rattle.fresh_bridging.specs.Leaves.{leaf_rows}
 use Rattle.leaf_change.specs.Leaves.{HasNativeForm}
 use Rattle.leaf_change.specs.Named.{HasIndices}
 use Rattle.leaf_change.specs.Puts.{objective_bodies, objectives_in, put_all, rows_in}
-use Rattle.leaf_change.proofs.PutSteps.{at_item, bodies_more, first_new, later_left, later_new, next_item, one_left, same_objectives}
+use Rattle.map_laws.specs.LoopLaws.{next_item}
+use Rattle.leaf_change.proofs.PutSteps.{at_item, bodies_more, first_new, later_left, later_new, one_left, same_objectives}
 use Rattle.leaf_change.proofs.put.put_rows.Goals as goal
 
 pub put_row-requires : goal.put_row-requires
@@ -15,7 +16,7 @@ put_row-requires c =
     let leaves = c.args.leaves.now in
     let i = l.leaf-index in
     let leaf = c.leaf-item.result in
-    let next = ap (flat_map leaf_rows) (next_item leaves i leaf c.leaf-item.is c.loop-leaf-test.true) in
+    let next = ap (flat_map leaf_rows) (next_item leaves leaves i leaf refl c.leaf-item.is c.loop-leaf-test.true) in
     record {
       form = at_item (λ item. HasNativeForm item.body) leaves i leaf c.leaf-item.is c.loop-leaf-test.true c.requires.forms;
       indexed = subst (λ (v : Places). HasIndices v.indices leaf) (sym (ap (λ b. b.0) l.invariant.beside)) (at_item (HasIndices c.args.map.now.vars.indices) leaves i leaf c.leaf-item.is c.loop-leaf-test.true c.requires.indexed);
@@ -35,7 +36,7 @@ put_objective-requires c =
       indexed = subst (λ (v : Places). HasIndices v.indices leaf) (sym (ap (λ b. b.0) (w.beside ∙ l.invariant.beside))) (at_item (HasIndices c.args.map.now.vars.indices) leaves i leaf c.leaf-item.is c.loop-leaf-test.true c.requires.indexed);
       named = w.named;
       one = one_left (objectives_in c.put_row.new.map c.put_row.new.solver.leaves) (objective_bodies leaves) (drop i leaves) leaf (drop (i + 1) leaves)
-          (next_item leaves i leaf c.leaf-item.is c.loop-leaf-test.true)
+          (next_item leaves leaves i leaf refl c.leaf-item.is c.loop-leaf-test.true)
           (ap (λ bs. bs ++ objective_bodies (drop i leaves)) before ∙ l.invariant.objective) c.requires.one;
     }
 
@@ -45,7 +46,7 @@ loop-leaf-preserved c =
     let leaves = c.args.leaves.now in
     let i = l.leaf-index in
     let leaf = c.leaf-item.result in
-    let first = next_item leaves i leaf c.leaf-item.is c.loop-leaf-test.true in
+    let first = next_item leaves leaves i leaf refl c.leaf-item.is c.loop-leaf-test.true in
     let next = ap (flat_map leaf_rows) first in
     let w = c.in_ok-put_row.ensures in
     let v = c.in_ok-put_objective.ensures in

@@ -1,9 +1,10 @@
-use Rattle.std.proofs.Common.{◌+◌, drop, ap, ◌∙◌, sym}
+use Rattle.std.proofs.Common.{◌+◌, drop, ap, ◌∙◌, sym, refl}
 use Rattle.std.specs.Prelude.{flat_map}
 use Rattle.std.proofs.lemmas.List.{drop_all}
 use Rattle.fresh_bridging.specs.Leaves.{leaf_variables}
 use Rattle.leaf_change.specs.Puts.{put_all, variables_in}
-use Rattle.leaf_change.proofs.PutSteps.{first_new, later_left, later_new, next_item}
+use Rattle.map_laws.specs.LoopLaws.{next_item}
+use Rattle.leaf_change.proofs.PutSteps.{first_new, later_left, later_new}
 use Rattle.leaf_change.proofs.put.put_variables.Goals as goal
 
 pub put_leaf_variables-requires-clause-new : goal.put_leaf_variables-requires-clause-new
@@ -12,7 +13,7 @@ put_leaf_variables-requires-clause-new c =
     let leaves = c.args.leaves.now in
     let i = l.leaf-index in
     let leaf = c.leaf-item.result in
-    let next = ap (flat_map leaf_variables) (next_item leaves i leaf c.leaf-item.is c.loop-leaf-test.true) in
+    let next = ap (flat_map leaf_variables) (next_item leaves leaves i leaf refl c.leaf-item.is c.loop-leaf-test.true) in
     first_new (variables_in l.map l.solver.leaves) (flat_map leaf_variables (drop i leaves)) (leaf_variables leaf) (flat_map leaf_variables (drop (i + 1) leaves)) next l.invariant.new
 
 pub loop-leaf-preserved : goal.loop-leaf-preserved
@@ -23,7 +24,7 @@ loop-leaf-preserved c =
     let leaf = c.leaf-item.result in
     let old = variables_in l.map l.solver.leaves in
     let now = variables_in c.put_leaf_variables.new.map c.put_leaf_variables.new.solver.leaves in
-    let next = ap (flat_map leaf_variables) (next_item leaves i leaf c.leaf-item.is c.loop-leaf-test.true) in
+    let next = ap (flat_map leaf_variables) (next_item leaves leaves i leaf refl c.leaf-item.is c.loop-leaf-test.true) in
     let w = c.in_ok-put_leaf_variables.ensures in
     record {
       named = w.named;

@@ -1,10 +1,10 @@
 use Rattle.std.proofs.Common.{◌≡◌, ap, ap₂, refl}
 use Rattle.std.specs.Prelude.{IsTrue}
+use Rattle.ratio_core.specs.AnsweredLaws.{passed_on}
 use Rattle.item_core.specs.declared.item.Body.TheVariants.{AffineObj, PlainObj}
 use Rattle.item_core.specs.declared.item.Item.{Item}
 use Rattle.fresh_bridging.specs.Entries.{put_in, put_in_body, put_in_fits}
 use Rattle.fresh_bridging.specs.ModelImage.{objective_item, objective_items}
-use Rattle.aff_core.specs.AnsweredLaws.{passed_on}
 use Rattle.model_bridging.proofs.Others.{objective_answered, objective_needs, objective_none, objective_ready}
 use Rattle.model_bridging.proofs.model_plan.plan_objective.Goals as goal
 

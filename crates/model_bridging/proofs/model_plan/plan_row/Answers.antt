@@ -1,11 +1,11 @@
 use Rattle.std.proofs.Common.{◌≡◌, ap₂}
 use Rattle.std.specs.Prelude.{IsTrue}
+use Rattle.ratio_core.specs.AnsweredLaws.{passed_on}
 use Rattle.item_core.specs.declared.item.Item.{Item}
 use Rattle.fresh_bridging.specs.Entries.{put_in, put_in_fits}
 use Rattle.fresh_bridging.specs.ModelImage.{row_item}
 use Rattle.fresh_bridging.specs.TableLaws.{and_first}
 use Rattle.bridge_plan.specs.Worked.{worked}
-use Rattle.aff_core.specs.AnsweredLaws.{passed_on}
 use Rattle.model_bridging.proofs.InOrder.{child_answered}
 use Rattle.model_bridging.proofs.model_plan.plan_row.Goals as goal
 

@@ -1,6 +1,7 @@
 use Rattle.std.proofs.Common.{◌≡◌, ◌++◌, IsTrue, length, map, drop, take, arith, ap, refl, subst, ◌∙◌}
 use Rattle.std.specs.List.{list_any}
-use Rattle.aff_core.specs.Arithmetic.{ExactWhere}
+use Rattle.ratio_core.specs.Answers.{ExactWhere}
+use Rattle.ratio_core.specs.AnsweredLaws.{exact_as}
 use Rattle.bridge_face.specs.ImageOf.{ImageFits, image_of}
 use Rattle.bridge_face.specs.State.{State, tried}
 use Rattle.bridge_plan.specs.Means.{AreSound}
@@ -9,7 +10,7 @@ use Rattle.item_core.specs.Edge.{family_eq, family_of}
 use Rattle.item_core.specs.KindOf.{kind_of_body}
 use Rattle.fresh_bridging.specs.TheRules.{edge_at, image_fits}
 use Rattle.boxes.specs.Boxed.{Boxed, boxed_of, families_of, means_of}
-use Rattle.boxes.proofs.Fitting.{exact_like, image_fits_Decides}
+use Rattle.boxes.proofs.Fitting.{image_fits_Decides}
 use Rattle.boxes.proofs.Made.{has_bridge, items_back, means_same, sound_still}
 use Rattle.boxes.proofs.Stands.{same_after}
 use Rattle.boxes.proofs.holding.BoxesRewriter.image.Goals as goal
@@ -46,9 +47,10 @@ invariant_of-self g c =
 pub returns-clause-answer : goal.returns-clause-answer
 returns-clause-answer g c =
     let decides = image_fits_Decides c.args.edge c.args.item.now in
-    exact_like c.image_by.result (ImageFits (edge_at c.args.edge) c.args.item.now)
+    exact_as c.image_by.result (ImageFits (edge_at c.args.edge) c.args.item.now)
     (IsTrue (image_fits c.args.edge c.args.item.now))
-    (λ image. image ≡ image_of (edge_at c.args.edge) c.args.item.now) decides.1 decides.0
+    (λ image. image ≡ image_of (edge_at c.args.edge) c.args.item.now)
+    (λ image. image ≡ image_of (edge_at c.args.edge) c.args.item.now) decides.1 decides.0 (λ _ is. is)
     (subst (λ (e : Edge). ExactWhere c.image_by.result (ImageFits e c.args.item.now)
     (λ image. image ≡ image_of e c.args.item.now)) c.edge_numbered.ensures
     c.image_by.ensures.answer)
