@@ -3,7 +3,8 @@ use Rattle.std.specs.Prelude.{◌≡◌, zero, suc, Bool, true, false, cond, Lis
 use Rattle.std.specs.FinMap as finite
 use Rattle.std.specs.FinMap.Entries.{find}
 use Rattle.std.proofs.Common.{arith, ap, ap₂, inl, inr, subst, sym, ◌∙◌}
-use Rattle.std.proofs.lemmas.List.Elements.{All-cons, All-head, All-nil, All-tail}
+use Rattle.std.proofs.lemmas.List.Elements.{All-head, All-tail}
+use Rattle.map_laws.specs.EachLaws.{map_same_on}
 use Rattle.ratio_core.specs.Rational.{Rational, one_ℚ, zero_ℚ}
 use Rattle.address_map.specs.AddressMap.{AddressMap}
 use Rattle.aff_core.specs.Address.{Address, address_cmp, address_eq, address_eq-Decides, address_total}
@@ -56,18 +57,12 @@ listed f (u ∷ vs) v c = by (address_eq v u) refl c (λ k. listed f vs v k)
 module _ (e f : Address → Function) where
   all_same : (G : Function → Type 0) (us : List Address) → All (λ v. e v ≡ f v) us
       → All (λ v. G (e v)) us → All (λ v. G (f v)) us
-  all_same G [] same h = All-nil (λ v. G (f v))
-  all_same G (u ∷ us) same h =
-      All-cons (λ v. G (f v)) u us
-      (subst G (All-head (λ v. e v ≡ f v) u us same) (All-head (λ v. G (e v)) u us h))
-      (all_same G us (All-tail (λ v. e v ≡ f v) u us same) (All-tail (λ v. G (e v)) u us h))
+  all_same G us same h = λ k d lt. subst G (same k d lt) (h k d lt)
 
   map_same : (g : Function → Rational) (us : List Address) → All (λ v. e v ≡ f v) us
       → map (λ v. g (e v)) us ≡ map (λ v. g (f v)) us
-  map_same g [] same = refl
-  map_same g (u ∷ us) same =
-      ap₂ ◌∷◌ (ap g (All-head (λ v. e v ≡ f v) u us same))
-      (map_same g us (All-tail (λ v. e v ≡ f v) u us same))
+  map_same g us same =
+      map_same_on (λ v. g (e v)) (λ v. g (f v)) us (λ k d lt. ap g (same k d lt))
 
   first_same : (G : Function → Type 0) (us : List Address) (at : Address)
       → All (λ v. e v ≡ f v) us → FirstNot (λ v. G (e v)) (λ v. v) us at

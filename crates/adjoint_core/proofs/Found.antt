@@ -7,6 +7,7 @@ use Rattle.std.specs.Option.{option_or}
 use Rattle.std.proofs.Common.{arith, ap, subst, sym, ◌∙◌, true≢false}
 use Rattle.std.proofs.lemmas.List.Elements.{All-head, All-tail}
 use Rattle.aff_core.specs.Address.{Address, address_cmp, address_eq, address_eq-Decides, address_total}
+use Rattle.aff_core.specs.KeyOrder.{address_order, other_key}
 use Rattle.boxes.specs.Boxed.{families_of, kept_among}
 use Rattle.bridge_face.specs.State.{State, found}
 use Rattle.bridge_face.specs.declared.kept_item.KeptItem.{KeptItem}
@@ -22,20 +23,13 @@ entry_of n = (n.item.at, n)
 
 -- ---- in a list of nodes
 
-other_key : (v a : Address) → ¬ (a ≡ v) → address_eq v a ≡ false
-other_key v a n = by (address_eq v a) refl
-  where
-    by : (b : Bool) → address_eq v a ≡ b → b ≡ false
-    by true e = absurd (n (sym ((address_eq-Decides v a).0 e)))
-    by false e = refl
-
 module _ (p : KeptItem → Bool) where
   avoided_first : (v : Address) (n : KeptItem) (nodes : List KeptItem) → ¬ (n.item.at ≡ v)
       → find address_cmp v (map entry_of (filter p nodes)) ≡ None → (b : Bool)
       → find address_cmp v (map entry_of (cond b (n ∷ filter p nodes) (filter p nodes))) ≡ None
   avoided_first v n nodes h later true =
       ap (λ b. cond b (Some n) (find address_cmp v (map entry_of (filter p nodes))))
-      (other_key v n.item.at h)
+      (other_key address_order v n.item.at (λ e. h (sym e)))
       ∙ later
   avoided_first v n nodes h later false = later
 
@@ -74,7 +68,7 @@ module _ (p : KeptItem → Bool) where
       ≡ cond (p k) (Some k) None
   there_later n k nodes h later true =
       ap (λ b. cond b (Some n) (find address_cmp k.item.at (map entry_of (filter p nodes))))
-      (other_key k.item.at n.item.at h)
+      (other_key address_order k.item.at n.item.at (λ e. h (sym e)))
       ∙ later
   there_later n k nodes h later false = later
 

@@ -1,19 +1,18 @@
 -- The gap, a row or a group at a time.
-use Rattle.std.specs.Prelude.{Result, ◌≡◌, ◌+◌, ◌⊎◌, List, [], ◌∷◌, ◌++◌, length, map, take, refl}
+use Rattle.std.specs.Prelude.{Result, ◌≡◌, ◌⊎◌, List, [], ◌∷◌, ◌++◌, length, map, take, refl}
 use Rattle.std.specs.List.{zip}
 use Rattle.std.proofs.Common.{arith, ap, ap₂, drop, inl, inr, subst, sym, ◌∙◌}
 use Rattle.std.proofs.lemmas.Grind.{flat_map-append}
-use Rattle.std.proofs.lemmas.List.{append-nil, length-drop}
 use Rattle.std.proofs.lemmas.List.Sums.{fold-append}
 use Rattle.ratio_core.specs.Folds.{sum_from}
 use Rattle.ratio_core.specs.Rational.{Rational, zero_ℚ, ◌+ℚ◌}
+use Rattle.ratio_core.specs.declared.fault.NumberFault.{NumberFault}
+use Rattle.ratio_core.specs.Answers.{ExactWhere}
 use Rattle.aff_core.specs.Address.{Address}
 use Rattle.certificates.specs.Duals.{group_with, groups_with}
 use Rattle.certificates.specs.Points.{addresses_of, all_addresses}
 use Rattle.cert_core.specs.Folds.{AddUp, gap_parts, gap_parts_of}
-use Rattle.cert_core.proofs.Groups.{count_split, other_numbers, own_numbers}
-use Rattle.cert_core.specs.Answers.{ExactWhere}
-use Rattle.cert_core.specs.declared.fault.CheckFault.{CheckFault}
+use Rattle.cert_core.proofs.Groups.{GroupsSoFar, groups_more, next_numbers}
 use Rattle.cert_core.proofs.Parts.{gap_is}
 use Rattle.dual_laws.specs.Held.{Held, gap}
 use Rattle.user_model.specs.declared.group.Group.{Group}
@@ -67,44 +66,37 @@ gap_end start sum ps left_ps hs left_hs h none_p none_h = (
 
 -- ---- groups, wherever these are the variables' numbers
 
-pub record GroupsGap (start sum : Rational) (groups left_groups : List Group)
-    (numbers left : List Rational) : Type 0 where
-  pub size : length left ≡ length (all_addresses left_groups)
-  pub at_left : (w : Address → Rational) → map w (all_addresses groups) ≡ numbers
-      → map w (all_addresses left_groups) ≡ left
-  pub so_far : (w : Address → Rational) → map w (all_addresses groups) ≡ numbers
-      → GapSoFar start sum (map group_place groups) (map group_place left_groups)
-      (groups_with w groups) (groups_with w left_groups)
+-- with the groups left the gap is as with all
+abbrev GapLeft : Rational → Rational → List Group → (Address → Rational) → List Group → Type 0
+GapLeft start sum groups w left_groups =
+    GapSoFar start sum (map group_place groups) (map group_place left_groups)
+    (groups_with w groups) (groups_with w left_groups)
+
+abbrev pub GroupsGap : Rational → Rational → List Group → List Group → List Rational
+    → List Rational → Type 0
+GroupsGap start sum groups left_groups numbers left =
+    GroupsSoFar (GapLeft start sum groups) groups left_groups numbers left
 
 module _ (start sum : Rational) (groups left_groups rest : List Group)
     (numbers left : List Rational) (g : Group)
     (h : GroupsGap start sum groups left_groups numbers left) (next : left_groups ≡ g ∷ rest) where
-  at_first : (w : Address → Rational) → map w (all_addresses groups) ≡ numbers
-      → map w (all_addresses (g ∷ rest)) ≡ left
-  at_first w is = subst (λ gs. map w (all_addresses gs) ≡ left) next (h.at_left w is)
-
-  whole : length left ≡ length g.vars + length (all_addresses rest)
-  whole = h.size ∙ ap (λ gs. length (all_addresses gs)) next ∙ count_split g rest
-
   pub own_is : (w : Address → Rational) → map w (all_addresses groups) ≡ numbers
-      → map w (addresses_of g.vars) ≡ take (length g.vars) left
-  own_is w is = sym (own_numbers w g rest left (at_first w is))
+      → take (length g.vars) left ≡ map w (addresses_of g.vars)
+  own_is = next_numbers (GapLeft start sum groups) groups left_groups rest numbers left g h next
 
   pub groups_gap_step : (now : Rational)
-      → ((w : Address → Rational) → map w (addresses_of g.vars) ≡ take (length g.vars) left
+      → ((w : Address → Rational) → take (length g.vars) left ≡ map w (addresses_of g.vars)
       → AddUp sum (gap_parts_of (group_with w g))
       × (now ≡ sum_from sum (gap_parts_of (group_with w g))))
       → GroupsGap start now groups rest numbers (drop (length g.vars) left)
-  groups_gap_step now told = record {
-    size = length-drop (length g.vars) left ∙ omega (arith, whole);
-    at_left = λ w is. other_numbers w g rest left (at_first w is);
-    so_far = λ w is.
-        let said = told w (own_is w is) in
-        gap_step start sum (map group_place groups) (map group_place left_groups)
-        (map group_place rest) (groups_with w groups) (groups_with w left_groups)
-        (groups_with w rest) (group_place g) (group_with w g) (h.so_far w is)
-        (ap (map group_place) next) (ap (groups_with w) next) now said.0 said.1;
-  }
+  groups_gap_step now told =
+      groups_more (GapLeft start sum groups) groups left_groups rest numbers left g h next
+      (GapLeft start now groups) (λ w is.
+      let said = told w (own_is w is) in
+      gap_step start sum (map group_place groups) (map group_place left_groups)
+      (map group_place rest) (groups_with w groups) (groups_with w left_groups)
+      (groups_with w rest) (group_place g) (group_with w g) (h.so_far w is)
+      (ap (map group_place) next) (ap (groups_with w) next) now said.0 said.1)
 
   pub groups_gap_refused : (w : Address → Rational) → map w (all_addresses groups) ≡ numbers
       → (at : Address)
@@ -208,22 +200,3 @@ module _ (ps qs : List Address) (hs gs : List Held) (size : length ps ≡ length
       (λ q k. k ∙ whole_gap)
       (λ at k. unfit_second zero_ℚ (zip ps hs) (zip qs gs) at fits
       (subst (λ s. UnfitGap s (zip qs gs) at) same_start k))
-
--- ---- a group alone
-
-module _ (w : Address → Rational) (g : Group) where
-  alone_parts : gap_parts (groups_with w (g ∷ [])) ≡ gap_parts_of (group_with w g)
-  alone_parts = append-nil (gap_parts_of (group_with w g))
-
-  pub alone_numbers : map w (all_addresses (g ∷ [])) ≡ map w (addresses_of g.vars)
-  alone_numbers = ap (λ vs. map w (addresses_of vs)) (append-nil g.vars)
-
-  pub alone_told : (r : Result Rational CheckFault) (sum : Rational) (groups : List Group)
-      → groups ≡ g ∷ []
-      → ExactWhere r (AddUp sum (gap_parts (groups_with w groups)))
-      (λ q. q ≡ sum_from sum (gap_parts (groups_with w groups)))
-      → ExactWhere r (AddUp sum (gap_parts_of (group_with w g)))
-      (λ q. q ≡ sum_from sum (gap_parts_of (group_with w g)))
-  alone_told r sum groups is h =
-      subst (λ ps. ExactWhere r (AddUp sum ps) (λ q. q ≡ sum_from sum ps))
-      (ap (λ gs. gap_parts (groups_with w gs)) is ∙ alone_parts) h

@@ -5,13 +5,12 @@ use Rattle.std.proofs.Math.ListN.{drop_of_length-le}
 use Rattle.std.proofs.lemmas.List.{take_all}
 use Rattle.std.proofs.lemmas.List.Elements.{All-cons, All-nil}
 use Rattle.map_laws.specs.LoopLaws.{map-take_more}
+use Rattle.ratio_core.specs.declared.fault.NumberFault.{NumberFault}
+use Rattle.ratio_core.specs.declared.fault.NumberFault.TheVariants as number
+use Rattle.ratio_core.specs.Answers.{ExactWhere}
 use Rattle.aff_core.specs.Address.{Address}
-use Rattle.aff_core.specs.declared.fault.AffFault.TheVariants as sum
-use Rattle.cert_core.specs.Answers.{ExactWhere}
-use Rattle.cert_core.specs.declared.fault.CheckFault.{CheckFault}
-use Rattle.cert_core.specs.declared.fault.CheckFault.TheVariants as check
 use Rattle.cert_core.proofs.Steps.{next_item}
-use Rattle.adjoint_core.specs.Told.{FirstNot, Tells, TellsAt, check_told}
+use Rattle.adjoint_core.specs.Told.{FirstNot, Tells, TellsAt, told_at}
 use Rattle.adjoint_core.specs.declared.fault.BackFault.{BackFault}
 use Rattle.adjoint_core.specs.declared.fault.BackFault.TheVariants.{Memory, Overflow}
 
@@ -21,9 +20,6 @@ module _ {X : Type 0} (P : X → Type 0) (place : X → Address) where
   pub record InOrder (all left : List X) : Type 0 where
     pub fits : All P left → All P all
     pub unfit : (at : Address) → FirstNot P place left at → FirstNot P place all at
-
-  pub order_start : (all : List X) → InOrder all all
-  order_start all = record { fits = λ h. h; unfit = λ at h. h }
 
   module _ (all left rest : List X) (x : X) (h : InOrder all left) (next : left ≡ x ∷ rest) where
     pub order_step : P x → InOrder all rest
@@ -47,9 +43,6 @@ module _ {X : Type 0} (P : X → Type 0) (place : X → Address) where
     pub record MadeInOrder (i : ℕ) (made : List Y) : Type 0 where
       pub order : InOrder all (drop i all)
       pub is : made ≡ map f (take i all)
-
-    pub made_start : MadeInOrder 0 []
-    made_start = record { order = order_start all; is = refl }
 
     module _ (i : ℕ) (made : List Y) (h : MadeInOrder i made) (x : X) (here : x ≡ get_or all i x)
         (lt : i < length all) where
@@ -101,11 +94,11 @@ told_alike (Ok x) P Q A B Told Other h fits each leads = (fits h.0, each x h.1)
 told_alike (Err (Overflow at)) P Q A B Told Other h fits each leads = leads at h
 told_alike (Err Memory) P Q A B Told Other h fits each leads = tt
 
--- ---- faults of the layers below
+-- ---- a fault of the layers below
 
-pub check_err : {T U : Type 0} (e : CheckFault) (P : Type 0) (A : T → Type 0) (B : U → Type 0)
-    (place : Address) (f : BackFault) → ExactWhere {T = U} (Err e) P B → f ≡ check_told place e
+pub told_err : {T U : Type 0} (e : NumberFault) (P : Type 0) (A : T → Type 0) (B : U → Type 0)
+    (place : Address) (f : BackFault) → ExactWhere {T = U} (Err e) P B → f ≡ told_at place e
     → TellsAt {T = T} (Err f) P A place
-check_err check.CertOverflow P A B place f h is =
+told_err number.Overflow P A B place f h is =
     subst (λ g. TellsAt (Err g) P A place) (sym is) (h, refl)
-check_err check.Memory P A B place f h is = subst (λ g. TellsAt (Err g) P A place) (sym is) tt
+told_err number.Memory P A B place f h is = subst (λ g. TellsAt (Err g) P A place) (sym is) tt

@@ -10,5 +10,4 @@ mod Walks
 mod WalkSteps
 mod RowDuals
 mod Moved
-mod OptimalSteps
 mod CarriedOver

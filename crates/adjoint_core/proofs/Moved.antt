@@ -1,21 +1,22 @@
 -- What is told of equal lists, told of a model's own.
-use Rattle.std.specs.Prelude.{◌≡◌, List, map}
-use Rattle.std.proofs.Common.{subst, ◌∙◌}
+use Rattle.std.specs.Prelude.{◌≡◌, List, All, map}
+use Rattle.std.proofs.Common.{subst, subst₂, ◌∙◌}
 use Rattle.ratio_core.specs.Rational.{Rational, one_ℚ, zero_ℚ}
 use Rattle.aff_core.specs.Address.{Address}
 use Rattle.aff_core.specs.Function.{Function, evaluated}
+use Rattle.bridge_face.specs.State.{State}
 use Rattle.cert_core.specs.Folds.{EvaluationFits, ObjectiveFits}
 use Rattle.certificates.specs.Points.{at_point, objective_function, objective_value}
 use Rattle.linear_laws.specs.EvaluationLaws.{evaluated_slope, evaluated_value}
 use Rattle.user_model.specs.Model.{ModelValue}
 use Rattle.user_model.specs.declared.objective.Objective.{Objective}
+use Rattle.user_model.specs.declared.row.Row.{Row}
 use Rattle.adjoint_core.specs.CarriedBack.{point, ray, users}
+use Rattle.adjoint_core.specs.Walk.{RowDualFits, row_dual}
 
-pub move1 : {A : Type 0} (P : A → Type 0) {a b : A} → P a → a ≡ b → P b
-move1 P h e = subst P e h
-
+-- what is carried comes first, so that a search for the equations knows their left sides
 pub move2 : {A B : Type 0} (P : A → B → Type 0) {a c : A} {b d : B} → P a b → a ≡ c → b ≡ d → P c d
-move2 P {a} {c} {b} {d} h e k = subst (λ y. P c y) k (subst (λ x. P x b) e h)
+move2 P h e k = subst₂ P e k h
 
 pub move3 : {A B C : Type 0} (P : A → B → C → Type 0) {a d : A} {b e : B} {c f : C} → P a b c
     → a ≡ d → b ≡ e → c ≡ f → P d e f
@@ -27,6 +28,18 @@ pub move4 : {A B C D : Type 0} (P : A → B → C → D → Type 0) {a e : A} {b
 move4 P {a} {e} {b} {f} {c} {g} {d} {h} p k l m n =
     subst (λ w. P e f g w) n
     (subst (λ z. P e f z d) m (subst (λ y. P e y c d) l (subst (λ x. P x b c d) k p)))
+
+-- ---- what calls tell of a model's rows and variables
+
+abbrev pub RowsTold : List State → (Address → List Rational) → List (List Rational) → List Row
+    → Type 0
+RowsTold states leaf duals rows =
+    All (RowDualFits states leaf) rows × (duals ≡ map (row_dual states leaf) rows)
+
+abbrev pub ValuesTold : (Address → Function) → List Rational → List Address
+    → (Address → Rational) → Type 0
+ValuesTold f values us p =
+    All (λ v. EvaluationFits one_ℚ (f v) p) us × (values ≡ map (λ v. evaluated one_ℚ (f v) p) us)
 
 -- ---- values
 
@@ -45,7 +58,7 @@ pub objective_read : (m : ModelValue) (x : List Rational) (q : Rational) (p : Ad
     × (q ≡ evaluated one_ℚ (objective_function o) p)
     → ObjectiveFits m one_ℚ x × (q ≡ objective_value m x)
 objective_read m x q p o e k h =
-    let here = move2 (λ (y : Address → Rational) (b : Objective).
+    let here = subst₂ (λ (y : Address → Rational) (b : Objective).
     EvaluationFits one_ℚ (objective_function b) y
-    × (q ≡ evaluated one_ℚ (objective_function b) y)) h e k in
+    × (q ≡ evaluated one_ℚ (objective_function b) y)) e k h in
     (here.0, here.1 ∙ evaluated_value (objective_function m.objective) (at_point m x))

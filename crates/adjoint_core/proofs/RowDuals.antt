@@ -1,9 +1,10 @@
 -- The duals of the user's rows, by what boxes keep and along the fresh bridging.
-use Rattle.std.specs.Prelude.{◌≡◌, ◌+◌, ◌≤◌, ℕ, zero, suc, false, List, [], ◌∷◌, ◌++◌, All, Contains, flat_map, length, map, take, refl}
-use Rattle.std.proofs.Common.{arith, ap, ap₂, inl, inr, subst, sym, ◌∙◌}
+use mathlib.Core.List.{map-map}
+use Rattle.std.specs.Prelude.{◌≡◌, ◌+◌, ◌≤◌, ℕ, false, List, [], ◌∷◌, ◌++◌, All, Contains, flat_map, length, map, take, refl}
+use Rattle.std.proofs.Common.{arith, ap, ap₂, get_or, inl, inr, subst, sym, ◌∙◌}
 use Rattle.std.proofs.lemmas.List.{length-map, map-append}
 use Rattle.std.proofs.Math.Seq.{take-append_seam}
-use Rattle.std.proofs.lemmas.List.Elements.{All-cons, All-map, All-nil, All-weaker, Contains-append_right}
+use Rattle.std.proofs.lemmas.List.Elements.{All-cons, All-contains, All-contains_itself, All-map, All-nil, All-weaker, Contains-append_right}
 use Rattle.expansion.specs.Read.{leaves_in, leaves_of_each, model_nodes, nodes_in, nodes_of_each}
 use Rattle.ratio_core.specs.Rational.{Rational}
 use Rattle.address_map.specs.AddressMap.{AddressMap}
@@ -49,18 +50,13 @@ use Rattle.adjoint_core.proofs.Walks.{IsFreeRow, Known, RowsWalk, walk_rows}
 
 pub all_in : {X : Type 0} (P : X → Type 0) (xs : List X) → ((x : X) → Contains xs x → P x)
     → All P xs
-all_in P [] h = All-nil P
-all_in P (x ∷ xs) h =
-    All-cons P x xs (h x (0, omega arith, refl))
-    (all_in P xs (λ y c. h y (suc c.0, omega (arith, c.1), c.2)))
+all_in P xs h = All-weaker (Contains xs) P h xs (All-contains_itself xs)
 
 contains_map : {X Y : Type 0} (f : X → Y) (xs : List X) (x : X) → Contains xs x
     → Contains (map f xs) (f x)
-contains_map f [] x c = absurd (omega (arith, c.1))
-contains_map f (y ∷ xs) x (zero, inside, is) = (0, omega arith, ap f is)
-contains_map f (y ∷ xs) x (suc n, inside, is) =
-    let later = contains_map f xs x (n, omega (arith, inside), is) in
-    (suc later.0, omega (arith, later.1), later.2)
+contains_map f xs x =
+    All-contains (λ y. Contains (map f xs) (f y)) xs x
+    (all_from_map (Contains (map f xs)) f xs (All-contains_itself (map f xs)))
 
 all_parts : {X Y : Type 0} (P : Y → Type 0) (f : X → List Y) (xs : List X) → All P (flat_map f xs)
     → All (λ x. All P (f x)) xs
@@ -72,27 +68,23 @@ all_parts P f (x ∷ xs) h =
 -- ---- the user's rows, as items
 
 ats_are : (rows : List Row) → map (λ (c : Item). c.at) (map row_item rows) ≡ map row_place rows
-ats_are [] = refl
-ats_are (r ∷ rows) = ap (λ l. row_place r ∷ l) (ats_are rows)
+ats_are = map-map (λ (c : Item). c.at) row_item
 
 no_objectives : (rows : List Row)
     → All (λ (c : Item). is_objective c.body ≡ false) (map row_item rows)
-no_objectives [] = All-nil (λ (c : Item). is_objective c.body ≡ false)
-no_objectives (r ∷ rows) =
-    All-cons (λ (c : Item). is_objective c.body ≡ false) (row_item r) (map row_item rows)
-    (by r.func) (no_objectives rows)
+no_objectives rows =
+    All-map (λ (c : Item). is_objective c.body ≡ false) row_item rows
+    (λ k d lt. by (get_or rows k d) (get_or rows k d).func)
   where
-    by : (f : UserFunc) → is_objective (row_item (record r { func = f })).body ≡ false
-    by (func.Plain var) = refl
-    by (func.Affine f) = refl
-    by (func.PlainVec vars) = refl
-    by (func.AffineVec fs) = refl
+    by : (r : Row) (f : UserFunc) → is_objective (row_item (record r { func = f })).body ≡ false
+    by r (func.Plain var) = refl
+    by r _ = refl
 
 deep_enough : (rows : List Row)
     → All (λ (c : Item). 36 ≤ 36 + length c.at.positions) (map row_item rows)
 deep_enough rows =
     All-map (λ (c : Item). 36 ≤ 36 + length c.at.positions) row_item rows
-    (all_in (λ r. 36 ≤ 36 + length (row_item r).at.positions) rows (λ r c. omega arith))
+    (λ k d lt. omega arith)
 
 -- a dual for each component of each row
 row_sizes : (rows : List Row) (duals : List (List Rational))
@@ -129,11 +121,6 @@ first_of_rows P [] at h = h
 first_of_rows P (r ∷ rows) at (inl n) = inl n
 first_of_rows P (r ∷ rows) at (inr k) = inr (k.0, first_of_rows P rows at k.1)
 
-duals_twice : (f : Address → List Rational) (rows : List Row)
-    → map (λ r. f (row_place r)) rows ≡ map f (map row_place rows)
-duals_twice f [] = refl
-duals_twice f (r ∷ rows) = ap (λ l. f (row_place r) ∷ l) (duals_twice f rows)
-
 -- ---- a model that is bridged
 
 module _ (states : List State) (places : AddressMap) (model : ModelValue) (answer : Answer)
@@ -152,16 +139,12 @@ module _ (states : List State) (places : AddressMap) (model : ModelValue) (answe
   node_addresses : map (λ (n : KeptItem). n.item.at) node_list ≡ node_keys
   unfolding model_nodes
   node_addresses =
-      twice (nodes_of_each bridging.made.groups ++ nodes_in bridging.made.others)
+      map-map (λ (n : KeptItem). n.item.at) kept_of
+      (nodes_of_each bridging.made.groups ++ nodes_in bridging.made.others)
       ∙ map-append (λ n. n.1.at) (nodes_of_each bridging.made.groups)
       (nodes_in bridging.made.others)
       ∙ sym (ap₂ ◌++◌ (node_keys_of_each bridging.made.groups)
       (node_keys_in bridging.made.others))
-    where
-      twice : (ns : List (ℕ × Item))
-          → map (λ (n : KeptItem). n.item.at) (map kept_of ns) ≡ map (λ n. n.1.at) ns
-      twice [] = refl
-      twice (n ∷ ns) = ap (λ l. n.1.at ∷ l) (twice ns)
 
   nodes_apart : Distinct (map (λ (n : KeptItem). n.item.at) node_list)
   nodes_apart =
@@ -304,6 +287,6 @@ module _ (states : List State) (places : AddressMap) (model : ModelValue) (answe
         duals_are : map (row_dual states d.duals) model.rows
             ≡ take (length items) (backs d bridging.made.others)
         duals_are =
-            duals_twice (dual_at states d.duals 36) model.rows
+            sym (map-map (dual_at states d.duals 36) row_place model.rows)
             ∙ ap (map (dual_at states d.duals 36)) (sym (ats_are model.rows))
             ∙ walked.same

@@ -1,21 +1,21 @@
 -- The numbers of the leaf variables, as a point.
-use Rattle.std.specs.Prelude.{◌≡◌, ◌+◌, ◌<◌, ℕ, zero, suc, Bool, true, false, cond, T, List, [], ◌∷◌, ◌++◌, All, AllPairs, Some, None, length, map, slice_get, take, unwrap_or, refl}
+use Rattle.std.specs.Prelude.{◌≡◌, ◌+◌, ℕ, Bool, true, false, cond, List, [], ◌∷◌, ◌++◌, Some, None, map, slice_get, take, unwrap_or, refl}
 use Rattle.std.specs.FinMap as finite
 use Rattle.std.specs.FinMap.{FinMap}
-use Rattle.std.specs.FinMap.Entries.{below_all, find, is_sorted}
+use Rattle.std.specs.FinMap.Entries.{find}
 use Rattle.std.specs.Option.{option_map_or}
-use Rattle.std.specs.Ordering.{is_lt, nat_cmp}
+use Rattle.std.specs.Ordering.{nat_cmp}
 use Rattle.std.specs.declared.cmp.Ordering.TheVariants.{Less}
-use Rattle.std.proofs.Common.{arith, ap, sym, ◌∙◌}
-use Rattle.std.proofs.lemmas.List.Elements.{All-cons, All-nil}
-use Rattle.std.proofs.lemmas.List.Kept.{AllPairs-cons}
-use Rattle.std.proofs.lemmas.Option.{none-some, same_Some}
-use Rattle.map_laws.specs.TestLaws.{first, is_less, second}
+use Rattle.std.proofs.Common.{ap, sym, ◌∙◌}
+use Rattle.std.proofs.lemmas.List.{take_more}
+use Rattle.std.proofs.lemmas.Option.{get_or_from_slice_get, slice_get_within}
+use Rattle.map_laws.specs.EntryLaws.{key_less}
+use Rattle.map_laws.specs.PairLaws.{AllPairs-map}
 use Rattle.ratio_core.specs.Rational.{Rational, zero_ℚ}
 use Rattle.address_map.specs.AddressMap.{AddressMap}
 use Rattle.address_map.specs.Places.{Indices}
 use Rattle.cert_core.specs.Variables.{Ascend}
-use Rattle.aff_core.specs.Address.{Address, address_cmp, address_eq, address_eq-Decides}
+use Rattle.aff_core.specs.Address.{Address, address_cmp, address_eq, address_eq-Decides, address_total}
 use Rattle.aff_core.specs.Points.{spread}
 use Rattle.adjoint_core.specs.Read.{numbers_by}
 
@@ -49,44 +49,21 @@ spread_numbers places x =
 
 -- ---- the addresses of a map
 
-take_next : {X : Type 0} (xs : List X) (n : ℕ) (x : X) → slice_get xs n ≡ Some x
-    → take (suc n) xs ≡ take n xs ++ x ∷ []
-take_next [] n x is = absurd (none-some x is)
-take_next (y ∷ xs) zero x is = ap (λ z. z ∷ []) (same_Some y x is)
-take_next (y ∷ xs) (suc n) x is = ap (λ l. y ∷ l) (take_next xs n x is)
-
 -- one more of a list
 pub take_there : {X : Type 0} (xs : List X) (n : ℕ) (x : X) → slice_get xs n ≡ Some x
     → take (n + 1) xs ≡ take n xs ++ x ∷ []
 take_there xs n x is =
-    let next : n + 1 ≡ suc n = omega arith in ap (λ k. take k xs) next ∙ take_next xs n x is
-
-pub not_past : {X : Type 0} (xs : List X) (n : ℕ) → slice_get xs n ≡ None → n < length xs → ⊥
-not_past [] n is lt = omega (arith, lt)
-not_past (y ∷ xs) zero is lt = none-some y (sym is)
-not_past (y ∷ xs) (suc n) is lt = not_past xs n is (omega (arith, lt))
+    take_more xs n x (slice_get_within xs n x is)
+    ∙ ap (λ y. take n xs ++ y ∷ []) (get_or_from_slice_get xs n x x is)
 
 abbrev IsBelow : Address → Address → Type 0
 IsBelow u w = address_cmp u w ≡ Less
 
-all_above : {X : Type 0} (k : Address) (es : List (Address × X)) → T (below_all address_cmp k es)
-    → All (IsBelow k) (map (λ e. e.0) es)
-all_above k [] h = All-nil (IsBelow k)
-all_above k (e ∷ es) h =
-    All-cons (IsBelow k) e.0 (map (λ e. e.0) es)
-    (is_less (address_cmp k e.0)
-    (first (is_lt (address_cmp k e.0)) (below_all address_cmp k es) h))
-    (all_above k es (second (is_lt (address_cmp k e.0)) (below_all address_cmp k es) h))
-
-all_pairs : {X : Type 0} (es : List (Address × X)) → T (is_sorted address_cmp es)
-    → AllPairs IsBelow (map (λ e. e.0) es)
-all_pairs [] h = λ i j d a b. absurd (omega (arith, b))
-all_pairs (e ∷ es) h =
-    AllPairs-cons IsBelow e.0 (map (λ e. e.0) es)
-    (all_above e.0 es
-    (first (below_all address_cmp e.0 es) (is_sorted address_cmp es) h))
-    (all_pairs es (second (below_all address_cmp e.0 es) (is_sorted address_cmp es) h))
-
 pub keys_ascend : (m : Indices) → Ascend (finite.keys m)
-keys_ascend m =
-    record { ascending = all_pairs (finite.entries m) (finite.entries_sorted m) }
+keys_ascend m = record {
+  ascending =
+      AllPairs-map IsBelow (λ (e : Address × ℕ). e.0)
+      (λ (e f : Address × ℕ). IsBelow e.0 f.0) (finite.entries m) (λ e f less. less)
+      (λ i j d lt end.
+      key_less address_total (finite.entries m) i j d (finite.entries_sorted m) lt end);
+}

@@ -1,16 +1,15 @@
 -- A step of the walk to an address.
 use Rattle.std.specs.Prelude.{◌≡◌, ◌+◌, ◌-◌, ◌<◌, ◌≤◌, ◌^◌, ℕ, zero, suc, List, All, IsErrAnd, IsSomeAnd, Option, Some, None, Result, Err, length, map, refl}
-use Rattle.std.specs.List.{range_with_len}
 use Rattle.std.specs.Option.{option_map, option_or}
 use Rattle.std.proofs.Common.{arith, ap, get_or, subst, sym, ◌∙◌}
 use Rattle.std.proofs.lemmas.List.Elements.{All-get_or}
-use Rattle.std.proofs.lemmas.List.FromFn.{length-map-range_with_len}
+use Rattle.std.proofs.lemmas.List.FromFn.{get_or-map-range_with_len, length-map-range_with_len}
 use Rattle.std.proofs.lemmas.Option.{none-some, same_Some}
 use Rattle.ratio_core.specs.Rational.{Rational}
+use Rattle.ratio_core.specs.declared.fault.NumberFault.{NumberFault}
+use Rattle.ratio_core.specs.Answers.{ExactWhere}
+use Rattle.ratio_core.specs.AnsweredLaws.{exact_as, passed_on}
 use Rattle.aff_core.specs.Address.{Address, child_of}
-use Rattle.aff_core.specs.Arithmetic.{ExactWhere}
-use Rattle.aff_core.specs.declared.fault.AffFault.{AffFault}
-use Rattle.aff_core.specs.AnsweredLaws.{exact_as, passed_on}
 use Rattle.bridge_face.specs.BackOf.{BackFits, back_of}
 use Rattle.bridge_face.specs.State.{IsDualOf, State, TakesDuals, child_rows_of}
 use Rattle.bridge_face.specs.declared.child_rows.ChildRows.{ChildRows}
@@ -44,18 +43,9 @@ passed_by (Some kept) p n = absurd (n (child_rows_of kept.edge kept.item) refl)
 pub place_there : (at : Address) (rows : ChildRows) (i : ℕ) → i < rows.count
     → child_of at (rows.first + i)
     ≡ get_or (places_of at rows) i (child_of at (rows.first + i))
-place_there at rows i lt = there rows.count rows.first i lt
-  where
-    there : (n low j : ℕ) → j < n
-        → child_of at (low + j)
-        ≡ get_or (map (child_of at) (range_with_len low n)) j (child_of at (low + j))
-    there zero low j lt = absurd (omega (arith, lt))
-    there (suc n) low zero lt = ap (child_of at) (omega arith)
-    there (suc n) low (suc j) lt =
-        let moved : low + suc j ≡ (low + 1) + j = omega arith in
-        subst (λ k. child_of at k
-        ≡ get_or (map (child_of at) (range_with_len (low + 1) n)) j (child_of at k)) (sym moved)
-        (there n (low + 1) j (omega (arith, lt)))
+place_there at rows i lt =
+    sym (get_or-map-range_with_len (child_of at) rows.first rows.count i (rows.first + i)
+    (child_of at (rows.first + i)) lt refl)
 
 pub place_count : (at : Address) (rows : ChildRows) → length (places_of at rows) ≡ rows.count
 place_count at rows = length-map-range_with_len (child_of at) rows.first rows.count
@@ -131,7 +121,7 @@ module _ (states : List State) (leaf : Address → List Rational) where
         (All-get_or (IsWithin states leaf (n - 1)) ps i v lt h.each)
 
     -- a child's fault is the item's
-    pub child_refused : {T U : Type 0} (r : Result T AffFault) (e : AffFault) (i : ℕ)
+    pub child_refused : {T U : Type 0} (r : Result T NumberFault) (e : NumberFault) (i : ℕ)
         (v : Address) (A : T → Type 0) (B : U → Type 0) → v ≡ get_or ps i v → i < length ps
         → IsErrAnd r (λ x. x ≡ e)
         → ExactWhere {T = U} (Err e) (DualFits states leaf (n - 1) v) B
@@ -141,7 +131,7 @@ module _ (states : List State) (leaf : Address → List Rational) where
         (λ fits. subst (DualFits states leaf (n - 1)) (sym here)
         (All-get_or (DualFits states leaf (n - 1)) ps i v lt (h.only fits).0))
 
-    pub back_told : (r : Result (List Rational) AffFault) (ys : List (List Rational))
+    pub back_told : (r : Result (List Rational) NumberFault) (ys : List (List Rational))
         → All (DualFits states leaf (n - 1)) ps → ys ≡ map (dual_at states leaf (n - 1)) ps
         → IsDualOf r ys kept
         → ExactWhere r (DualFits states leaf n at) (λ dual. dual ≡ dual_at states leaf n at)

@@ -1,10 +1,10 @@
 -- What is carried back by what boxes keep is what is carried back along a bridging.
 use Rattle.std.specs.Prelude.{◌≡◌, ◌+◌, ◌≤◌, ◌⊎◌, ◌||◌, ℕ, zero, suc, Bool, true, false, cond, not, List, [], ◌∷◌, ◌++◌, All, Some, None, length, map, slice_index_or, take, refl}
 use Rattle.std.specs.List.{list_all, list_any, range_with_len}
-use Rattle.std.proofs.Common.{arith, ap, ap₂, inl, inr, subst, sym, ◌∙◌, true≢false}
+use Rattle.std.proofs.Common.{arith, ap, ap₂, get_or, inl, inr, subst, sym, ◌∙◌, true≢false}
 use Rattle.std.proofs.lemmas.List.{length-append}
 use Rattle.std.proofs.Math.Seq.{take-append_seam}
-use Rattle.std.proofs.lemmas.List.Elements.{All-cons, All-head, All-nil, All-tail}
+use Rattle.std.proofs.lemmas.List.Elements.{All-cons, All-head, All-map, All-nil, All-tail}
 use Rattle.bridge_graph.specs.Hypergraph.{IsCostly}
 use Rattle.bridge_graph.specs.declared.Choice.{Choice}
 use Rattle.bridge_graph.specs.declared.Choice.TheVariants.{By}
@@ -99,10 +99,9 @@ child_depth at i = length-append at.positions (i ∷ [])
 
 children_deep : (at : Address) (ns : List ℕ) (n : ℕ) → 36 ≤ suc n + length at.positions
     → All (λ (v : Address). 36 ≤ n + length v.positions) (map (child_of at) ns)
-children_deep at [] n h = All-nil (λ (v : Address). 36 ≤ n + length v.positions)
-children_deep at (i ∷ ns) n h =
-    All-cons (λ (v : Address). 36 ≤ n + length v.positions) (child_of at i) (map (child_of at) ns)
-    (omega (arith, h, child_depth at i)) (children_deep at ns n h)
+children_deep at ns n h =
+    All-map (λ (v : Address). 36 ≤ n + length v.positions) (child_of at) ns
+    (λ k d lt. omega (arith, h, child_depth at (get_or ns k d)))
 
 -- ---- a node and a leaf, as they are found
 

@@ -1,10 +1,8 @@
 -- Answers that may be an overflow at an address.
 use Rattle.std.specs.Prelude.{◌≡◌, ◌⊎◌, List, [], ◌∷◌, Result, Ok, Err}
+use Rattle.ratio_core.specs.declared.fault.NumberFault.{NumberFault}
+use Rattle.ratio_core.specs.declared.fault.NumberFault.TheVariants as number
 use Rattle.aff_core.specs.Address.{Address}
-use Rattle.aff_core.specs.declared.fault.AffFault.{AffFault}
-use Rattle.aff_core.specs.declared.fault.AffFault.TheVariants as sum
-use Rattle.cert_core.specs.declared.fault.CheckFault.{CheckFault}
-use Rattle.cert_core.specs.declared.fault.CheckFault.TheVariants as check
 use Rattle.adjoint_core.specs.declared.fault.BackFault.{BackFault}
 use Rattle.adjoint_core.specs.declared.fault.BackFault.TheVariants.{Memory, Overflow}
 
@@ -26,12 +24,7 @@ FirstNot P place [] at = ⊥
 FirstNot P place (x ∷ xs) at =
     (¬ (P x) × (place x ≡ at)) ⊎ (P x × FirstNot P place xs at)
 
--- ---- faults of the layers below, told at an address
-
-abbrev pub check_told : Address → CheckFault → BackFault
-check_told at check.CertOverflow = Overflow at
-check_told at check.Memory = Memory
-
-abbrev pub sum_told : Address → AffFault → BackFault
-sum_told at sum.Overflow = Overflow at
-sum_told at sum.Memory = Memory
+-- a fault of the layers below, told at an address
+abbrev pub told_at : Address → NumberFault → BackFault
+told_at at number.Overflow = Overflow at
+told_at at number.Memory = Memory

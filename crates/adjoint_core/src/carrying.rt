@@ -107,7 +107,7 @@ fn value_at(model: &UserModel, variables: &Variables, x: &[Ratio]) -> Result<Rat
 {
     match reading_of(model.objective(), Reading::Value, &Point::new(variables, x)) {
         Ok(value) => Ok(value),
-        Err(fault) => Err(BackFault::of_check(&Address::root(Root::Objective, 0), fault)),
+        Err(fault) => Err(BackFault::of_number(&Address::root(Root::Objective, 0), fault)),
     }
 }
 

@@ -3,21 +3,21 @@ ghost use Rattle.std.specs.Prelude.{◌≡◌, All, IfOk, length, map};
 ghost use Rattle.aff_core.specs.Function.{coefficient};
 ghost use Rattle.certificates.specs.Duals as dual;
 ghost use Rattle.certificates.specs.Points.{objective_function, sense_of};
-ghost use Rattle.cert_core.specs.Answers.{ExactWhere};
 ghost use Rattle.cert_core.specs.Checked.{HasRowDuals};
 ghost use Rattle.cert_core.specs.Folds.{AddUp, CostFits, adjoint_parts};
 ghost use Rattle.cert_core.specs.Variables.{Ascend};
 ghost use Rattle.dual_laws.specs.Held.{adjoint};
 ghost use Rattle.ratio_core.specs.Folds.{sum_from};
 ghost use Rattle.ratio_core.specs.Rational.{neg_ℚ, zero_ℚ};
+ghost use Rattle.ratio_core.specs.Answers.{ExactWhere};
 ghost use Rattle.adjoint_core.specs.Prefix.{IsAsFarAs};
 ghost use Rattle.adjoint_core.specs.Told.{FirstNot, Tells, TellsAt};
 
 use crate::BackFault;
 use aff_core::Address;
-use cert_core::{CheckFault, Variables, adjoint_of_rows, cost, reduced_cost, sense};
+use cert_core::{Variables, adjoint_of_rows, cost, reduced_cost, sense};
 use lists::Memory;
-use ratio_core::{Ratio, Ratios};
+use ratio_core::{NumberFault, Ratio, Ratios};
 use std::alloc::Global;
 use user_model::{Objective, Row};
 
@@ -60,7 +60,7 @@ fn cost_left(objective: &Objective, user: &Address, adjoint: &Ratio) -> Result<R
 {
     match reduced_cost(sense(objective), &cost(objective, user), adjoint) {
         Ok(left) => Ok(left),
-        Err(fault) => Err(BackFault::of_check(user, fault)),
+        Err(fault) => Err(BackFault::of_number(user, fault)),
     }
 }
 
@@ -102,8 +102,8 @@ fn adjoints(
 {
     match adjoint_of_rows(alloc, users, rows, duals) {
         Ok(sums) => Ok(sums),
-        Err(CheckFault::CertOverflow) => up_to_unfit(alloc, users.addresses(), rows, duals),
-        Err(CheckFault::Memory) => Err(Memory),
+        Err(NumberFault::Overflow) => up_to_unfit(alloc, users.addresses(), rows, duals),
+        Err(NumberFault::Memory) => Err(Memory),
     }
 }
 
@@ -129,8 +129,8 @@ fn up_to_unfit(
         let middle = sums.len() + (end - sums.len()) / 2;
         match adjoints_of(alloc, &users[..middle], rows, duals) {
             Ok(more) => sums = more,
-            Err(CheckFault::CertOverflow) => end = middle,
-            Err(CheckFault::Memory) => return Err(Memory),
+            Err(NumberFault::Overflow) => end = middle,
+            Err(NumberFault::Memory) => return Err(Memory),
         }
     }
     Ok(sums)
@@ -141,7 +141,7 @@ fn adjoints_of(
     users: &[Address],
     rows: &[Row],
     duals: &[Ratios],
-) -> Result<Vec<Ratio>, CheckFault>
+) -> Result<Vec<Ratio>, NumberFault>
     requires ascend { Ascend users.now }
     requires duals { HasRowDuals rows.now duals.now }
     ensures { let parts = adjoint_parts (dual.rows_with duals.now rows.now) in

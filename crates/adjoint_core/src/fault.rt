@@ -1,57 +1,36 @@
 //! Why an answer isn't carried back.
-ghost use Rattle.std.specs.Prelude.{◌≡◌, Result};
-ghost use Rattle.adjoint_core.specs.Told.{check_told, sum_told};
+ghost use Rattle.std.specs.Prelude.{◌≡◌};
+ghost use Rattle.adjoint_core.specs.Told.{told_at};
 ghost use Rattle.adjoint_core.specs.declared.fault.BackFault.TheVariants as fault;
 
-use aff_core::{Address, AffFault};
-use cert_core::CheckFault;
-use lists::Memory;
+use aff_core::Address;
+use ratio_core::{Memory, NumberFault};
 use std::alloc::{AllocError, AllocFailed};
-use std::error::Error;
-use std::fmt;
+use thiserror::Error;
 
 /// Why there is no certificate.
-#[derive(Clone, Copy, Debug, PartialEq, Eq)]
+#[derive(Clone, Copy, Debug, PartialEq, Eq, Error)]
 pub enum BackFault {
     /// A product or a sum at a variable, a row, a group or the objective of the user's, or at a row
     /// below one, doesn't fit.
+    #[error("a number carried back passes 128 bits")]
     Overflow { at: Address },
     /// Memory ran out.
+    #[error("{}", Memory)]
     Memory,
 }
 
 impl BackFault {
-    // A check's fault, at an address.
-    pub(crate) fn of_check(at: &Address, fault: CheckFault) -> BackFault
-        ensures { result ≡ check_told at.now fault }
+    // The fault of a check or a sum, at an address.
+    pub(crate) fn of_number(at: &Address, fault: NumberFault) -> BackFault
+        ensures { result ≡ told_at at.now fault }
     {
         match fault {
-            CheckFault::CertOverflow => BackFault::Overflow { at: *at },
-            CheckFault::Memory => BackFault::Memory,
-        }
-    }
-
-    // A sum's fault, at an address.
-    pub(crate) fn of_sum(at: &Address, fault: AffFault) -> BackFault
-        ensures { result ≡ sum_told at.now fault }
-    {
-        match fault {
-            AffFault::Overflow => BackFault::Overflow { at: *at },
-            AffFault::Memory => BackFault::Memory,
+            NumberFault::Overflow => BackFault::Overflow { at: *at },
+            NumberFault::Memory => BackFault::Memory,
         }
     }
 }
-
-impl fmt::Display for BackFault {
-    fn fmt<W: fmt::Write>(&self, f: &mut fmt::Formatter<W>) -> fmt::Result {
-        match self {
-            BackFault::Overflow { .. } => write!(f, "a number carried back passes 128 bits"),
-            BackFault::Memory => Memory.fmt(f),
-        }
-    }
-}
-
-impl Error for BackFault {}
 
 impl From<Memory> for BackFault {
     ghost from_gives = { λ _ result. result ≡ fault.Memory };

@@ -16,10 +16,9 @@ ghost use Rattle.adjoint_core.specs.Walk.{row_place};
 
 use crate::BackFault;
 use aff_core::{Address, Root};
-use cert_core::{plus_groups, plus_row};
+use cert_core::{plus_group, plus_row};
 use model_store::UserModel;
 use ratio_core::{Ratio, Ratios};
-use std::slice;
 use user_model::{Group, Row};
 
 /// The gap of rows and variables with these duals.
@@ -58,7 +57,7 @@ fn with_row(sum: &Ratio, row: &Row, duals: &[Ratio]) -> Result<Ratio, BackFault>
 {
     match plus_row(sum, row, duals) {
         Ok(more) => Ok(more),
-        Err(fault) => Err(BackFault::of_check(&Address::root(Root::Row, row.id), fault)),
+        Err(fault) => Err(BackFault::of_number(&Address::root(Root::Row, row.id), fault)),
     }
 }
 
@@ -90,8 +89,8 @@ fn with_group(sum: &Ratio, group: &Group, duals: &[Ratio]) -> Result<Ratio, Back
         TellsAt result (AddUp sum.now parts) (λ q. q ≡ sum_from sum.now parts)
         (group_place group.now) }
 {
-    match plus_groups(sum, slice::from_ref(group), duals) {
+    match plus_group(sum, group, duals) {
         Ok(more) => Ok(more),
-        Err(fault) => Err(BackFault::of_check(&Address::root(Root::Group, group.id), fault)),
+        Err(fault) => Err(BackFault::of_number(&Address::root(Root::Group, group.id), fault)),
     }
 }

@@ -1,7 +1,7 @@
 //! The duals of rows, by those of the leaf rows below them.
 ghost use Rattle.std.specs.Prelude.{◌≡◌, ◌<◌, ◌≤◌, All, IfOk, IsNone, MatchOption, Some, map};
 ghost use Rattle.std.specs.Option.{option_map};
-ghost use Rattle.aff_core.specs.Arithmetic.{ExactWhere};
+ghost use Rattle.ratio_core.specs.Answers.{ExactWhere};
 ghost use Rattle.bridge_face.specs.State.{child_rows_of, found};
 ghost use Rattle.adjoint_core.specs.Read.{duals_by};
 ghost use Rattle.adjoint_core.specs.Told.{Tells, TellsAt};
@@ -9,10 +9,10 @@ ghost use Rattle.adjoint_core.specs.Walk.{AreWithin, DualFits, IsUnfitAmong, IsW
 
 use crate::BackFault;
 use address_map::AddressMap;
-use aff_core::{Address, AffFault, Root};
+use aff_core::{Address, Root};
 use bridge_face::{Bridge, ChildRows};
 use lists::{Memory, Sequence};
-use ratio_core::{Ratio, Ratios};
+use ratio_core::{NumberFault, Ratio, Ratios};
 use solver_store::LeafDuals;
 use std::alloc::Global;
 use user_model::Row;
@@ -58,7 +58,7 @@ fn user_dual<B: Bridge>(
     let at = Address::root(Root::Row, row.id);
     match dual_below(alloc, bridges, places, y, &at, LEVELS) {
         Ok(dual) => Ok(dual),
-        Err(fault) => Err(BackFault::of_sum(&at, fault)),
+        Err(fault) => Err(BackFault::of_number(&at, fault)),
     }
 }
 
@@ -70,7 +70,7 @@ fn dual_below<B: Bridge>(
     y: &LeafDuals,
     at: &Address,
     levels: u8,
-) -> Result<Ratios, AffFault>
+) -> Result<Ratios, NumberFault>
     requires { IsWithin (map B.state bridges.now) (duals_by places.now y.now) levels at.now }
     ensures { let states = map B.state bridges.now in let leaf = duals_by places.now y.now in
         ExactWhere result (DualFits states leaf levels at.now)

@@ -1,19 +1,19 @@
 //! Values of the user's variables, and what they are along a ray.
 ghost use Rattle.std.specs.Prelude.{◌≡◌, All, map};
 ghost use Rattle.aff_core.specs.Function.{evaluated};
-ghost use Rattle.cert_core.specs.Answers.{ExactWhere};
 ghost use Rattle.cert_core.specs.Folds.{EvaluationFits};
 ghost use Rattle.cert_core.specs.Points.{numbers_in};
 ghost use Rattle.cert_core.specs.Readings.{one_of};
 ghost use Rattle.ratio_core.specs.Rational.{one_ℚ, zero_ℚ};
+ghost use Rattle.ratio_core.specs.Answers.{ExactWhere};
 ghost use Rattle.adjoint_core.specs.Read.{expression_at};
 ghost use Rattle.adjoint_core.specs.Told.{FirstNot, Tells, TellsAt};
 
 use crate::BackFault;
 use address_map::AddressMap;
 use aff_core::Address;
-use cert_core::{CheckFault, Point, Reading};
-use ratio_core::Ratio;
+use cert_core::{Point, Reading};
+use ratio_core::{NumberFault, Ratio};
 use std::alloc::Global;
 
 /// The values of variables, by their expressions.
@@ -81,7 +81,7 @@ fn value(
 {
     match read(reading, places, user, at) {
         Ok(number) => Ok(number),
-        Err(fault) => Err(BackFault::of_check(user, fault)),
+        Err(fault) => Err(BackFault::of_number(user, fault)),
     }
 }
 
@@ -90,7 +90,7 @@ fn read(
     places: &AddressMap,
     user: &Address,
     at: &Point,
-) -> Result<Ratio, CheckFault>
+) -> Result<Ratio, NumberFault>
     ensures { let f = expression_at places.now.exprs user.now in let x = numbers_in at.now in
         ExactWhere result (EvaluationFits (one_of reading) f x)
         (λ q. q ≡ evaluated (one_of reading) f x) }

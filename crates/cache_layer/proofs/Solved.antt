@@ -1,6 +1,8 @@
 -- What the form's calls tell of the leaf model.
 use Rattle.std.specs.Prelude.{◌≡◌, ℕ, IsErrAnd, Result, Ok, Err}
 use Rattle.std.proofs.Common.{subst, sym}
+use Rattle.ratio_core.specs.declared.fault.NumberFault.{NumberFault}
+use Rattle.ratio_core.specs.declared.fault.NumberFault.TheVariants as number
 use Rattle.address_map.specs.AddressMap.{AddressMap}
 use Rattle.cache_layer.specs.Faults.{form_fault, read_fault, solve_fault}
 use Rattle.cache_layer.specs.Optimizing.{TellsLeaf}
@@ -20,8 +22,6 @@ use Rattle.std_form.specs.Answers.{answer_of}
 use Rattle.std_form.specs.Told.{TellsAnswer, TellsForm}
 use Rattle.std_form.specs.declared.fault.FormFault.{FormFault}
 use Rattle.std_form.specs.declared.fault.FormFault.TheVariants as form
-use Rattle.std_form.specs.declared.fault.ReadFault.{ReadFault}
-use Rattle.std_form.specs.declared.fault.ReadFault.TheVariants as read
 
 -- what is told of a fault is told of the result that hands it on
 pub handed_on : {A : Type 0} (Q : Result A OptFault → Type 0) (r : Result A OptFault)
@@ -63,13 +63,13 @@ module _ (map : AddressMap) (leaves : LeafModel) (pivots : ℕ) where
       let here = of_the_form f (Ok answer) h says in
       record { made = made f h; state = here.0; turn = here.1; ends = here.2; read = here.3 }
 
-  pub unread : (f : StdForm) (answer : SolverAnswer) (fault : ReadFault)
+  pub unread : (f : StdForm) (answer : SolverAnswer) (fault : NumberFault)
       → TellsForm leaves (Ok f) → SaysOutcome (equality_form f) pivots (Ok answer)
       → TellsAnswer map leaves answer (Err fault)
       → TellsLeaf map leaves pivots (Err (read_fault fault))
-  unread f answer read.Overflow h says back =
+  unread f answer number.Overflow h says back =
       at_reading_back answer (is_solved f answer h says) back
-  unread f answer read.Memory h says back = tt
+  unread f answer number.Memory h says back = tt
 
   pub is_read : (f : StdForm) (answer : SolverAnswer) (leaf : LeafAnswer) → TellsForm leaves (Ok f)
       → SaysOutcome (equality_form f) pivots (Ok answer)

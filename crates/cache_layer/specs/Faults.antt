@@ -1,4 +1,6 @@
 -- Faults of the layers below, as the cache tells them.
+use Rattle.ratio_core.specs.declared.fault.NumberFault.{NumberFault}
+use Rattle.ratio_core.specs.declared.fault.NumberFault.TheVariants as number
 use Rattle.cache_layer.specs.declared.fault.AttachFault.{AttachFault}
 use Rattle.cache_layer.specs.declared.fault.AttachFault.TheVariants as attach
 use Rattle.cache_layer.specs.declared.fault.BridgeFault.{BridgeFault}
@@ -12,8 +14,6 @@ use Rattle.simplex_core.specs.declared.fault.SolveFault.{SolveFault}
 use Rattle.simplex_core.specs.declared.fault.SolveFault.TheVariants as solve
 use Rattle.std_form.specs.declared.fault.FormFault.{FormFault}
 use Rattle.std_form.specs.declared.fault.FormFault.TheVariants as form
-use Rattle.std_form.specs.declared.fault.ReadFault.{ReadFault}
-use Rattle.std_form.specs.declared.fault.ReadFault.TheVariants as read
 use Rattle.user_model.specs.declared.refusal.ApplyFault.{ApplyFault}
 use Rattle.user_model.specs.declared.refusal.ApplyFault.TheVariants as apply
 
@@ -41,6 +41,6 @@ solve_fault (solve.Limit basis pivots) = opt.Limit pivots
 solve_fault (solve.Overflow basis) = opt.Overflow Solver
 solve_fault solve.Memory = opt.Memory
 
-abbrev pub read_fault : ReadFault → OptFault
-read_fault read.Overflow = opt.Overflow Solver
-read_fault read.Memory = opt.Memory
+abbrev pub read_fault : NumberFault → OptFault
+read_fault number.Overflow = opt.Overflow Solver
+read_fault number.Memory = opt.Memory

@@ -3,9 +3,10 @@ ghost use Rattle.std.specs.Prelude.{◌≡◌};
 ghost use Rattle.cache_layer.specs.Faults.{attach_fault, bridge_fault, edit_fault, form_fault, read_fault, solve_fault};
 
 use item_core::Kind;
+use ratio_core::NumberFault;
 use report_core::Place;
 use simplex_core::SolveFault;
-use std_form::{FormFault, ReadFault};
+use std_form::FormFault;
 use user_model::{ApplyFault, Refusal};
 
 /// Why an edit, many edits or a table isn't taken. The model and the table are as before.
@@ -120,15 +121,15 @@ impl From<SolveFault> for OptFault {
     }
 }
 
-impl From<ReadFault> for OptFault {
+impl From<NumberFault> for OptFault {
     ghost from_gives = { λ fault result. result ≡ read_fault fault };
 
-    fn from(fault: ReadFault) -> OptFault {
+    fn from(fault: NumberFault) -> OptFault {
         match fault {
-            ReadFault::Overflow => OptFault::Overflow {
+            NumberFault::Overflow => OptFault::Overflow {
                 place: Place::Solver,
             },
-            ReadFault::Memory => OptFault::Memory,
+            NumberFault::Memory => OptFault::Memory,
         }
     }
 }

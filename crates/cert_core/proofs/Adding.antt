@@ -5,8 +5,13 @@ use Rattle.std.proofs.Common.{sym, ◌∙◌, ap, ap₂, drop, get_or, set, subs
 use Rattle.std.proofs.Math.ListN.{drop_of_length-le}
 use Rattle.std.proofs.lemmas.List.{get_or_default, length-map}
 use Rattle.std.proofs.lemmas.List.Elements.{All-contains, All-contains_itself}
+use Rattle.std.proofs.lemmas.Option.{slice_get_within}
 use Rattle.ratio_core.specs.Folds.{sum_from}
 use Rattle.ratio_core.specs.Rational.{Fits, Rational, SumFits, one_ℚ, zero_ℚ, ◌*ℚ◌, ◌+ℚ◌}
+use Rattle.ratio_core.specs.declared.fault.NumberFault.{NumberFault}
+use Rattle.ratio_core.specs.declared.fault.NumberFault.TheVariants.{Overflow, Memory}
+use Rattle.ratio_core.specs.Answers.{ExactWhere}
+use Rattle.ratio_core.specs.AnsweredLaws.{exact_as}
 use Rattle.rational_laws.specs.Field.{*ℚ-zero, +ℚ-zero}
 use Rattle.rational_laws.specs.Fitting.{Fits_zero}
 use Rattle.map_laws.specs.EntryLaws.{find_below}
@@ -17,17 +22,13 @@ use Rattle.aff_core.specs.Function.{Function, coefficient, terms_of, variable}
 use Rattle.aff_core.specs.FunctionLists.{coefficients}
 use Rattle.aff_core.specs.KeyOrder.{address_order, same_key}
 use Rattle.aff_core.specs.Terms.{StepFits}
-use Rattle.cert_core.specs.declared.fault.CheckFault.{CheckFault}
-use Rattle.cert_core.specs.declared.fault.CheckFault.TheVariants.{CertOverflow, Memory}
 use Rattle.cert_core.specs.Adding.{AddsAt, coefficient_among}
-use Rattle.cert_core.specs.Answers.{ExactWhere}
 use Rattle.cert_core.specs.Folds.{AddUp, products}
 use Rattle.certificates.specs.Points.{variables_at}
 use Rattle.aff_core.specs.FunctionLaws.{terms-variable}
 use Rattle.cert_core.specs.Variables.{Ascend}
-use Rattle.cert_core.proofs.Answered.{answers_alike}
 use Rattle.cert_core.proofs.Parts.{no_products}
-use Rattle.cert_core.proofs.Places.{distinct, place_below, set_at_place, stands, stands_there}
+use Rattle.cert_core.proofs.Places.{distinct, set_at_place, stands, stands_there}
 use Rattle.cert_core.proofs.Steps.{made_there, next_item}
 use Rattle.rational_laws.specs.ZeroSums.{SumFits-zero_right}
 use Rattle.cert_core.proofs.Summed.{AddUp_one, Fits_sum, Fits_sum_from, SummedAsAll, step_of_one, summed_end, summed_refused, summed_step}
@@ -75,9 +76,9 @@ module _ (us : List Address) (before : List Rational) (parts : Address → List 
               (now _) (rest _) (next _) (added.0 k d lt);
         }
 
-    pub adds_refused : (e : CheckFault) (done after : List Rational)
+    pub adds_refused : (e : NumberFault) (done after : List Rational)
         → AddsAt (Err e) us sums done now → AddsAt (Err e) us before after parts
-    adds_refused CertOverflow done after said = λ x is fit all.
+    adds_refused Overflow done after said = λ x is fit all.
         let from = h x is fit in
         said from.now from.is from.fit (λ k d lt. summed_refused (x _) (from.now _) (parts _)
         (left _) (from.each k d lt) (now _) (rest _) (next _) (all k d lt))
@@ -224,7 +225,7 @@ module _ (us : List Address) (before : List Rational) (by : Rational)
         ∙ first_coefficient t rest) step
 
 -- a term added where its variable stands
-pub term_added : (r : Result (Unit {0}) CheckFault) (us : List Address) (sums done : List Rational)
+pub term_added : (r : Result (Unit {0}) NumberFault) (us : List Address) (sums done : List Rational)
     (i : ℕ) (at : Address) (by k : Rational) → Ascend us → slice_get us i ≡ Some at
     → ExactWhere r (StepFits (get_or sums i zero_ℚ) by k)
     (λ _. done ≡ set sums i (get_or sums i zero_ℚ +ℚ by *ℚ k))
@@ -232,22 +233,23 @@ pub term_added : (r : Result (Unit {0}) CheckFault) (us : List Address) (sums do
     → ExactWhere r (Contains us at → StepFits (x at) by k)
     (λ _. done ≡ map (λ v. cond (address_eq v at) (x at +ℚ by *ℚ k) (x v)) us)
 term_added r us sums done i at by k up found said x is =
-    answers_alike r (StepFits (get_or sums i zero_ℚ) by k)
+    exact_as r (StepFits (get_or sums i zero_ℚ) by k)
     (Contains us at → StepFits (x at) by k)
     (λ _. done ≡ set sums i (get_or sums i zero_ℚ +ℚ by *ℚ k))
-    (λ _. done ≡ map (λ v. cond (address_eq v at) (x at +ℚ by *ℚ k) (x v)) us) said
+    (λ _. done ≡ map (λ v. cond (address_eq v at) (x at +ℚ by *ℚ k) (x v)) us)
     (λ step _. subst (λ q. StepFits q by k) here step)
     (λ steps. subst (λ q. StepFits q by k) (sym here) (steps (stands us i at found)))
     (λ _ e. e ∙ ap₂ (λ l q. set l i (q +ℚ by *ℚ k)) is here
     ∙ set_at_place us x i at (x at +ℚ by *ℚ k) (distinct us up) found)
+    said
   where
     below : i < length sums
     below = subst (λ l. i < length l) (sym is) (subst (λ n. i < n) (sym (length-map us x))
-        (place_below us i at found))
+        (slice_get_within us i at found))
 
     here : get_or sums i zero_ℚ ≡ x at
     here = made_there x us sums i at (get_or sums i zero_ℚ) (sym is) (stands_there us i at found)
-        (place_below us i at found)
+        (slice_get_within us i at found)
         (get_or_default sums i zero_ℚ (get_or sums i zero_ℚ) below)
 
 -- ---- components, one after the other
@@ -293,7 +295,7 @@ no_variable w us i le v =
     ∙ no_products (drop i w)
 
 -- the fault of a step is that of the whole
-pub adds_passed : (r : Result (Unit {0}) CheckFault) (e : CheckFault) (us : List Address)
+pub adds_passed : (r : Result (Unit {0}) NumberFault) (e : NumberFault) (us : List Address)
     (before after : List Rational) (parts : Address → List Rational) → IsErrAnd r (λ x. x ≡ e)
     → AddsAt (Err e) us before after parts → AddsAt r us before after parts
 adds_passed (Ok u) e us before after parts is said = absurd is

@@ -4,6 +4,8 @@ use Rattle.std.proofs.Common.{sym, ◌∙◌, ap, subst, get_or}
 use Rattle.std.proofs.lemmas.List.{length-map}
 use Rattle.std.proofs.lemmas.List.Elements.{All-append, All-map, All-weaker}
 use Rattle.ratio_core.specs.Rational.{Rational, one_ℚ, zero_ℚ}
+use Rattle.ratio_core.specs.declared.fault.NumberFault.{NumberFault}
+use Rattle.ratio_core.specs.Answers.{ExactWhere}
 use Rattle.map_laws.specs.EachLaws.{all_first}
 use Rattle.aff_core.specs.Address.{Address, address_cmp}
 use Rattle.aff_core.specs.Function.{Function, evaluated, variable}
@@ -23,85 +25,60 @@ use Rattle.certificates.specs.Points.{address_of, addresses_of, all_addresses, a
 use Rattle.certificates.specs.Duals.{AreDuals, HasDuals, group_with, groups_with, rows_with, with_duals}
 use Rattle.certificates.specs.DualPointLaws.{component_count}
 use Rattle.certificates.specs.Feasible.{IsFeasible, IsRay}
-use Rattle.cert_core.specs.Answers.{ExactWhere}
 use Rattle.cert_core.specs.Checked.{HasEachDual, HasRowDuals}
-use Rattle.cert_core.specs.declared.fault.CheckFault.{CheckFault}
 use Rattle.cert_core.specs.Folds.{EvaluationFits, FitIn, PointFits}
 use Rattle.cert_core.specs.Holding.{FunctionsHold, HasGroupSet, HasRowSet, HoldsAt, IsReady}
 use Rattle.cert_core.specs.Variables.{Ascend}
 use Rattle.numbered.specs.Numbered.{Rise}
 use Rattle.user_model.specs.Consistent.{variable_number}
-use Rattle.user_model.specs.Functions.{components}
 use Rattle.user_model.specs.Valid.{HasValidParts, IsValidGroup, IsValidRow}
 use Rattle.cert_core.proofs.Places.{ascend, distinct}
 
 -- ---- values and slopes
 
-value_of_hold : (set : Set) (fs : List Function) (x : Address → Rational)
-    → FunctionsHold one_ℚ set fs x → In set (values fs x)
-value_of_hold set fs x h =
-    subst (λ v. In set v) (evaluations_values fs x)
-    (subst (λ s. In s (evaluations one_ℚ fs x)) (multiplied_one set) h)
-
-hold_of_value : (set : Set) (fs : List Function) (x : Address → Rational)
-    → In set (values fs x) → FunctionsHold one_ℚ set fs x
-hold_of_value set fs x h =
-    subst (λ s. In s (evaluations one_ℚ fs x)) (sym (multiplied_one set))
-    (subst (λ v. In set v) (sym (evaluations_values fs x)) h)
-
-slope_of_hold : (set : Set) (fs : List Function) (x : Address → Rational)
-    → FunctionsHold zero_ℚ set fs x → In (recession set) (slopes fs x)
-slope_of_hold set fs x h =
-    subst (λ v. In (recession set) v) (evaluations_slopes fs x)
-    (subst (λ s. In s (evaluations zero_ℚ fs x)) (multiplied_zero set) h)
-
-hold_of_slope : (set : Set) (fs : List Function) (x : Address → Rational)
-    → In (recession set) (slopes fs x) → FunctionsHold zero_ℚ set fs x
-hold_of_slope set fs x h =
-    subst (λ s. In s (evaluations zero_ℚ fs x)) (sym (multiplied_zero set))
-    (subst (λ v. In (recession set) v) (sym (evaluations_slopes fs x)) h)
-
 module _ (model : ModelValue) (x : List Rational) where
+  abbrev own : Address → Rational
+  own = at_point model x
+
+  -- of each group's set and functions, and of each row's
+  abbrev OfGroups : (Set → List Function → Type 0) → Type 0
+  OfGroups Hold = All (λ g. Hold g.set (functions_of_group g)) model.groups
+
+  abbrev OfRows : (Set → List Function → Type 0) → Type 0
+  OfRows Hold = All (λ r. Hold r.set (functions_of r.func)) model.rows
+
+  values_in : ◌≡◌ {A = Set → List Function → Type 0} (λ set fs. FunctionsHold one_ℚ set fs own)
+      (λ set fs. In set (values fs own))
+  values_in = λ i set fs. In (multiplied_one set i) (evaluations_values fs own i)
+
+  slopes_in : ◌≡◌ {A = Set → List Function → Type 0} (λ set fs. FunctionsHold zero_ℚ set fs own)
+      (λ set fs. In (recession set) (slopes fs own))
+  slopes_in = λ i set fs. In (multiplied_zero set i) (evaluations_slopes fs own i)
+
   pub feasible : length x ≡ length (variables model) → HoldsAt model one_ℚ x → IsFeasible model x
   feasible size h = record {
     size = size;
-    groups = All-weaker (λ g. FunctionsHold one_ℚ g.set (functions_of_group g) (at_point model x))
-        (λ g. In g.set (values (functions_of_group g) (at_point model x)))
-        (λ g. value_of_hold g.set (functions_of_group g) (at_point model x)) model.groups h.groups;
-    rows = All-weaker (λ r. FunctionsHold one_ℚ r.set (functions_of r.func) (at_point model x))
-        (λ r. In r.set (values (functions_of r.func) (at_point model x)))
-        (λ r. value_of_hold r.set (functions_of r.func) (at_point model x)) model.rows h.rows;
+    groups = subst OfGroups values_in h.groups;
+    rows = subst OfRows values_in h.rows;
   }
 
   pub from_feasible : IsFeasible model x → HoldsAt model one_ℚ x
   from_feasible h = record {
-    groups = All-weaker (λ g. In g.set (values (functions_of_group g) (at_point model x)))
-        (λ g. FunctionsHold one_ℚ g.set (functions_of_group g) (at_point model x))
-        (λ g. hold_of_value g.set (functions_of_group g) (at_point model x)) model.groups h.groups;
-    rows = All-weaker (λ r. In r.set (values (functions_of r.func) (at_point model x)))
-        (λ r. FunctionsHold one_ℚ r.set (functions_of r.func) (at_point model x))
-        (λ r. hold_of_value r.set (functions_of r.func) (at_point model x)) model.rows h.rows;
+    groups = subst OfGroups (sym values_in) h.groups;
+    rows = subst OfRows (sym values_in) h.rows;
   }
 
   pub ray : length x ≡ length (variables model) → HoldsAt model zero_ℚ x → IsRay model x
   ray size h = record {
     size = size;
-    groups = All-weaker (λ g. FunctionsHold zero_ℚ g.set (functions_of_group g) (at_point model x))
-        (λ g. In (recession g.set) (slopes (functions_of_group g) (at_point model x)))
-        (λ g. slope_of_hold g.set (functions_of_group g) (at_point model x)) model.groups h.groups;
-    rows = All-weaker (λ r. FunctionsHold zero_ℚ r.set (functions_of r.func) (at_point model x))
-        (λ r. In (recession r.set) (slopes (functions_of r.func) (at_point model x)))
-        (λ r. slope_of_hold r.set (functions_of r.func) (at_point model x)) model.rows h.rows;
+    groups = subst OfGroups slopes_in h.groups;
+    rows = subst OfRows slopes_in h.rows;
   }
 
   pub from_ray : IsRay model x → HoldsAt model zero_ℚ x
   from_ray h = record {
-    groups = All-weaker (λ g. In (recession g.set) (slopes (functions_of_group g) (at_point model x)))
-        (λ g. FunctionsHold zero_ℚ g.set (functions_of_group g) (at_point model x))
-        (λ g. hold_of_slope g.set (functions_of_group g) (at_point model x)) model.groups h.groups;
-    rows = All-weaker (λ r. In (recession r.set) (slopes (functions_of r.func) (at_point model x)))
-        (λ r. FunctionsHold zero_ℚ r.set (functions_of r.func) (at_point model x))
-        (λ r. hold_of_slope r.set (functions_of r.func) (at_point model x)) model.rows h.rows;
+    groups = subst OfGroups (sym slopes_in) h.groups;
+    rows = subst OfRows (sym slopes_in) h.rows;
   }
 
 -- ---- duals
@@ -161,7 +138,7 @@ module _ (groups : List Group) (us : List Address) (is : us ≡ all_addresses gr
   pub own_point : p ≡ spread (all_addresses groups) x
   own_point = at ∙ ap (λ vs. spread vs x) is
 
-  pub rows_told : (r : Result Bool CheckFault) (rows : List Row) (one : Rational)
+  pub rows_told : (r : Result Bool NumberFault) (rows : List Row) (one : Rational)
       → ExactWhere r (All (λ r. FitIn one r.set (functions_of r.func) p) rows)
       (λ holds. IsTrue holds ↔ All (λ r. FunctionsHold one r.set (functions_of r.func) p) rows)
       → ExactWhere r (All (λ r. FitIn one r.set (functions_of r.func)
@@ -173,7 +150,7 @@ module _ (groups : List Group) (us : List Address) (is : us ≡ all_addresses gr
       (λ holds. IsTrue holds ↔ All (λ r. FunctionsHold one r.set (functions_of r.func) q) rows))
       own_point h
 
-  pub objective_told : (r : Result Rational CheckFault) (f : Function) (one : Rational)
+  pub objective_told : (r : Result Rational NumberFault) (f : Function) (one : Rational)
       → ExactWhere r (EvaluationFits one f p) (λ q. q ≡ evaluated one f p)
       → ExactWhere r (EvaluationFits one f (spread (all_addresses groups) x))
       (λ q. q ≡ evaluated one f (spread (all_addresses groups) x))
@@ -202,7 +179,7 @@ point_told model one x a b now rows groups both = (
 
 -- at the model's own addresses
 pub at_own : (groups : List Group) (us : List Address) → us ≡ all_addresses groups
-    → (r : Result Bool CheckFault) (F P : Address → Type 0)
+    → (r : Result Bool NumberFault) (F P : Address → Type 0)
     → ExactWhere r (All F us) (λ holds. IsTrue holds ↔ All P us)
     → ExactWhere r (All F (all_addresses groups))
     (λ holds. IsTrue holds ↔ All P (all_addresses groups))

@@ -5,6 +5,9 @@ use Rattle.std.proofs.Common.{sym, ◌∙◌, ap, subst}
 use Rattle.ratio_core.specs.Rational.{Rational, one_ℚ, zero_ℚ, ◌*ℚ◌, ◌+ℚ◌}
 use Rattle.rational_laws.specs.Field.{*ℚ-zero}
 use Rattle.ratio_core.specs.Folds.{sum_from}
+use Rattle.ratio_core.specs.declared.fault.NumberFault.{NumberFault}
+use Rattle.ratio_core.specs.Answers.{ExactWhere}
+use Rattle.ratio_core.specs.AnsweredLaws.{exact_as}
 use Rattle.rational_laws.specs.Sums.{fold_ℚ, sum_ℚ}
 use Rattle.aff_core.specs.Address.{Address, address_cmp}
 use Rattle.aff_core.specs.Function.{Function, coefficient, constant_function, evaluated, terms_of, variable}
@@ -15,15 +18,12 @@ use Rattle.aff_core.specs.Terms.{linear}
 use Rattle.linear_laws.specs.ListLaws.{evaluated_constant_function, evaluations_variables, slope_constant_function, slope_variable}
 use Rattle.linear_laws.specs.SlopeLaws.{coefficient_by_unit}
 use Rattle.set_core.specs.declared.set.Set.{Set}
-use Rattle.set_core.specs.Membership.{In, MembershipFits, recession}
+use Rattle.set_core.specs.Membership.{In, MembershipFits}
 use Rattle.set_core.specs.Mirrored.{multiplied}
-use Rattle.set_laws.specs.Multiples.{multiplied_one, multiplied_zero}
 use Rattle.certificates.specs.Points.{variables_at}
-use Rattle.cert_core.specs.declared.fault.CheckFault.{CheckFault}
-use Rattle.cert_core.specs.Answers.{ExactWhere, TellsWhere}
+use Rattle.cert_core.specs.Answers.{TellsWhere}
 use Rattle.cert_core.specs.Folds.{AddUp, EvaluationFits, FitIn, products_at}
 use Rattle.cert_core.specs.Holding.{FunctionsHold}
-use Rattle.cert_core.proofs.Answered.{answers_alike}
 
 -- ---- variables
 
@@ -71,19 +71,19 @@ with_products start ts x = fold_ℚ start (products_at ts x) ∙ ap (λ s. start
     sums [] = refl
     sums (t ∷ ts) = ap (λ s. t.1 *ℚ x t.0 +ℚ s) (sums ts)
 
-abbrev Read : Result Rational CheckFault → Rational → List (Address × Rational)
+abbrev Read : Result Rational NumberFault → Rational → List (Address × Rational)
     → (Address → Rational) → Type 0
 Read r start ts x = ExactWhere r (AddUp start (products_at ts x)) (λ q. q ≡ start +ℚ linear ts x)
 
 -- a function's terms added to its constant, times `one`
-pub read_from : (r : Result Rational CheckFault) (one start : Rational) (f : Function)
+pub read_from : (r : Result Rational NumberFault) (one start : Rational) (f : Function)
     (ts : List (Address × Rational)) (x : Address → Rational) → ts ≡ terms_of f
     → start ≡ one *ℚ f.constant → Read r start ts x
     → ExactWhere r (EvaluationFits one f x) (λ q. q ≡ evaluated one f x)
 read_from r one start f ts x same e h =
     subst (λ s. Read r s (terms_of f) x) e (subst (λ l. Read r start l x) same h)
 
-pub read_variable : (r : Result Rational CheckFault) (one start k : Rational) (v : Address)
+pub read_variable : (r : Result Rational NumberFault) (one start k : Rational) (v : Address)
     (x : Address → Rational) → start ≡ zero_ℚ → k ≡ one_ℚ → Read r start ((v, k) ∷ []) x
     → ExactWhere r (EvaluationFits one (variable v) x)
     (λ q. q ≡ evaluated {R = address_cmp} one (variable v) x)
@@ -94,33 +94,25 @@ read_variable r one start k v x zero_is one_is h =
 
 -- ---- in a set
 
-pub holds_value : (r : Result Bool CheckFault) (set : Set) (v : List Rational)
-    → TellsWhere r (MembershipFits set v) (In set v)
-    → TellsWhere r (MembershipFits set v) (In (multiplied one_ℚ set) v)
-holds_value r set v h =
-    subst (λ s. TellsWhere r (MembershipFits set v) (In s v)) (sym (multiplied_one set)) h
-
-pub holds_slope : (r : Result Bool CheckFault) (set : Set) (v : List Rational)
-    → TellsWhere r (MembershipFits set v) (In (recession set) v)
-    → TellsWhere r (MembershipFits set v) (In (multiplied zero_ℚ set) v)
-holds_slope r set v h =
-    subst (λ s. TellsWhere r (MembershipFits set v) (In s v)) (sym (multiplied_zero set)) h
+pub told_in : (r : Result Bool NumberFault) (fits : Type 0) (s t : Set) (v : List Rational) → t ≡ s
+    → TellsWhere r fits (In s v) → TellsWhere r fits (In t v)
+told_in r fits s t v same = subst (λ s. TellsWhere r fits (In s v)) (sym same)
 
 -- functions that were read, in their set
-pub hold_in : (r : Result Bool CheckFault) (one : Rational) (set : Set) (fs : List Function)
+pub hold_in : (r : Result Bool NumberFault) (one : Rational) (set : Set) (fs : List Function)
     (x : Address → Rational) (v : List Rational) → All (λ f. EvaluationFits one f x) fs
     → v ≡ evaluations one fs x → TellsWhere r (MembershipFits set v) (In (multiplied one set) v)
     → TellsWhere r (FitIn one set fs x) (FunctionsHold one set fs x)
 hold_in r one set fs x v fit is said =
-    answers_alike r (MembershipFits set (evaluations one fs x)) (FitIn one set fs x)
+    exact_as r (MembershipFits set (evaluations one fs x)) (FitIn one set fs x)
     (λ holds. IsTrue holds ↔ FunctionsHold one set fs x)
     (λ holds. IsTrue holds ↔ FunctionsHold one set fs x)
-    (subst (λ l. TellsWhere r (MembershipFits set l) (In (multiplied one set) l)) is said)
     (λ m. record { functions = fit; membership = m })
     (λ f. f.membership) (λ _ h. h)
+    (subst (λ l. TellsWhere r (MembershipFits set l) (In (multiplied one set) l)) is said)
 
 -- a group's variables, in its set
-pub variables_in_set : (r : Result Bool CheckFault) (one : Rational) (set : Set)
+pub variables_in_set : (r : Result Bool NumberFault) (one : Rational) (set : Set)
     (us : List Address) (x : Address → Rational) (v : List Rational) → v ≡ map x us
     → TellsWhere r (MembershipFits set v) (In (multiplied one set) v)
     → TellsWhere r (MembershipFits set (evaluations one (variables_at us) x))

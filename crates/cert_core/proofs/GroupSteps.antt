@@ -1,5 +1,5 @@
 -- Groups gone through with the numbers of their variables.
-use Rattle.std.specs.Prelude.{◌≡◌, ◌↔◌, Bool, IsTrue, List, [], ◌∷◌, ◌++◌, All, map, length, take, drop}
+use Rattle.std.specs.Prelude.{◌≡◌, ◌↔◌, ◌&&◌, Bool, IsTrue, List, [], ◌∷◌, ◌++◌, All, map, length, take, drop}
 use Rattle.std.proofs.Common.{sym, ◌∙◌, ap, subst}
 use Rattle.ratio_core.specs.Folds.{sum_from}
 use Rattle.ratio_core.specs.Rational.{Rational, SumFits, ◌+ℚ◌}
@@ -34,17 +34,16 @@ module _ (F P : (Address → Rational) → Group → Type 0) where
         → take (length g.vars) left ≡ map x (addresses_of g.vars)
     own = next_numbers (Tested so_far groups) groups left_groups rest numbers left g h next
 
-    pub groups_step : (b now : Bool)
+    pub groups_step : (b : Bool)
         → ((x : Address → Rational) → take (length g.vars) left ≡ map x (addresses_of g.vars)
         → F x g × (IsTrue b ↔ P x g))
-        → (IsTrue now ↔ (IsTrue so_far × IsTrue b))
-        → GroupsTested now groups rest numbers (drop (length g.vars) left)
-    groups_step b now tells both =
+        → GroupsTested (so_far && b) groups rest numbers (drop (length g.vars) left)
+    groups_step b tells =
         groups_more (Tested so_far groups) groups left_groups rest numbers left g h next
-        (Tested now groups) (λ x is.
+        (Tested (so_far && b) groups) (λ x is.
         let told = tells x (own x is) in
-        tested_step (F x) (P x) so_far b now groups left_groups rest g (h.so_far x is) next told.0
-        told.1 both)
+        tested_step (F x) (P x) so_far b groups left_groups rest g (h.so_far x is) next told.0
+        told.1)
 
     -- what must fit at a group
     pub groups_fit : (x : Address → Rational) → map x (all_addresses groups) ≡ numbers
@@ -64,7 +63,7 @@ module _ (F P : (Address → Rational) → Group → Type 0) where
 -- ---- the gap
 
 -- a group has no constant, so that its least product is all
-low_alone : (sum : Rational) (w : Address → Rational) (g : Group) (low : Rational)
+pub low_alone : (sum : Rational) (w : Address → Rational) (g : Group) (low : Rational)
     → LowFits g.set (map w (addresses_of g.vars))
     → low ≡ low_of g.set (map w (addresses_of g.vars)) → SumFits sum low
     → AddUp sum (gap_parts_of (group_with w g))
@@ -99,7 +98,7 @@ module _ (start sum : Rational) (groups left_groups rest : List Group)
     (numbers left : List Rational) (g : Group)
     (h : GroupsSummed start sum groups left_groups numbers left)
     (next : left_groups ≡ g ∷ rest) where
-  own_left : (w : Address → Rational) → map w (all_addresses groups) ≡ numbers
+  pub own_left : (w : Address → Rational) → map w (all_addresses groups) ≡ numbers
       → take (length g.vars) left ≡ map w (addresses_of g.vars)
   own_left = next_numbers (Summed start sum groups) groups left_groups rest numbers left g h next
 
@@ -107,35 +106,28 @@ module _ (start sum : Rational) (groups left_groups rest : List Group)
       ≡ gap_parts_of (group_with w g) ++ gap_parts (groups_with w rest)
   parts_next w = ap (λ gs. gap_parts (groups_with w gs)) next
 
-  pub sums_step : (low : Rational) → LowFits g.set (take (length g.vars) left)
-      → low ≡ low_of g.set (take (length g.vars) left) → SumFits sum low
-      → GroupsSummed start (sum +ℚ low) groups rest numbers (drop (length g.vars) left)
-  sums_step low fits is total =
+  pub sums_step : (now : Rational)
+      → ((w : Address → Rational) → take (length g.vars) left ≡ map w (addresses_of g.vars)
+      → AddUp sum (gap_parts_of (group_with w g))
+      × (now ≡ sum_from sum (gap_parts_of (group_with w g))))
+      → GroupsSummed start now groups rest numbers (drop (length g.vars) left)
+  sums_step now told =
       groups_more (Summed start sum groups) groups left_groups rest numbers left g h next
-      (Summed start (sum +ℚ low) groups) (λ w at.
-      let own = own_left w at in
-      let alone = low_alone sum w g low (subst (LowFits g.set) own fits)
-      (is ∙ ap (low_of g.set) own) total in
+      (Summed start now groups) (λ w at.
+      let said = told w (own_left w at) in
       subst (λ s. SummedAsAll start s (gap_parts (groups_with w groups))
-      (gap_parts (groups_with w rest))) alone.1
+      (gap_parts (groups_with w rest))) (sym said.1)
       (summed_step start sum (gap_parts (groups_with w groups))
       (gap_parts (groups_with w left_groups)) (h.so_far w at) (gap_parts_of (group_with w g))
-      (gap_parts (groups_with w rest)) (parts_next w) alone.0))
+      (gap_parts (groups_with w rest)) (parts_next w) said.0))
 
   -- what must fit at a group
   pub sums_refused : (w : Address → Rational) → map w (all_addresses groups) ≡ numbers
-      → AddUp start (gap_parts (groups_with w groups))
-      → LowFits g.set (take (length g.vars) left)
-      × SumFits sum (low_of g.set (take (length g.vars) left))
-  unfolding AddUp
-  sums_refused w at all =
-      let own = own_left w at in
-      let now = summed_refused start sum (gap_parts (groups_with w groups))
+      → AddUp start (gap_parts (groups_with w groups)) → AddUp sum (gap_parts_of (group_with w g))
+  sums_refused w at =
+      summed_refused start sum (gap_parts (groups_with w groups))
       (gap_parts (groups_with w left_groups)) (h.so_far w at) (gap_parts_of (group_with w g))
-      (gap_parts (groups_with w rest)) (parts_next w) all in (
-        subst (LowFits g.set) (sym own) now.0,
-        subst (λ v. SumFits sum (low_of g.set v)) (sym own) now.1,
-      )
+      (gap_parts (groups_with w rest)) (parts_next w)
 
 pub sums_end : (start sum : Rational) (groups left_groups : List Group)
     (numbers left : List Rational) → GroupsSummed start sum groups left_groups numbers left

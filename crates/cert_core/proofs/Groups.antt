@@ -9,7 +9,7 @@ use Rattle.user_model.specs.declared.group.Group.{Group}
 use Rattle.certificates.specs.PointLaws.{split_addresses}
 use Rattle.certificates.specs.Points.{address_of, addresses_of, all_addresses}
 
-pub count_split : (g : Group) (gs : List Group)
+count_split : (g : Group) (gs : List Group)
     → length (all_addresses (g ∷ gs)) ≡ length g.vars + length (all_addresses gs)
 count_split g gs =
     ap length (split_addresses g gs) ∙ length-append (addresses_of g.vars) (all_addresses gs)
@@ -26,13 +26,13 @@ module _ (x : Address → Rational) (g : Group) (gs : List Group) (numbers : Lis
   count = length-map (addresses_of g.vars) x ∙ length-map g.vars address_of
 
   -- the numbers of the first group
-  pub own_numbers : take (length g.vars) numbers ≡ map x (addresses_of g.vars)
+  own_numbers : take (length g.vars) numbers ≡ map x (addresses_of g.vars)
   own_numbers =
       ap (λ n. take n numbers) (sym count) ∙ ap (take (length (map x (addresses_of g.vars)))) (sym parted)
       ∙ take-append_seam (map x (addresses_of g.vars)) (map x (all_addresses gs))
 
   -- and those of the others
-  pub other_numbers : map x (all_addresses gs) ≡ drop (length g.vars) numbers
+  other_numbers : map x (all_addresses gs) ≡ drop (length g.vars) numbers
   other_numbers =
       sym (ap (λ n. drop n numbers) (sym count)
       ∙ ap (drop (length (map x (addresses_of g.vars)))) (sym parted)

@@ -1,6 +1,6 @@
 -- Certificates judged by what the calls answer.
-use Rattle.std.specs.Prelude.{◌≡◌, ◌↔◌, Bool, IsTrue, List, [], ◌∷◌, length, All, Result, Ok, Err, map, refl}
-use Rattle.std.proofs.Common.{sym, ◌∙◌, ap, ap₂, subst}
+use Rattle.std.specs.Prelude.{◌≡◌, ◌↔◌, Bool, IsTrue, List, length, All, Result, Ok, Err, map}
+use Rattle.std.proofs.Common.{sym, ◌∙◌, ap, subst}
 use Rattle.ratio_core.specs.Folds.{sum_from}
 use Rattle.ratio_core.specs.Rational.{Rational, SumFits, one_ℚ, zero_ℚ, ◌‹ℚ◌}
 use Rattle.aff_core.specs.Address.{Address}
@@ -15,11 +15,11 @@ use Rattle.certificates.specs.Good.{Cancels, HasReducedCost, IsInfeasible, IsOpt
 use Rattle.certificates.specs.Points.{addresses_of, at_point, objective_constant, objective_function, sense_of}
 use Rattle.ratio_core.specs.Rational.{rational_eq}
 use Rattle.ratio_core.specs.RationalLaws.{rational_eq_Decides}
+use Rattle.ratio_core.specs.declared.fault.NumberFault.{NumberFault}
+use Rattle.ratio_core.specs.declared.fault.NumberFault.TheVariants.{Overflow, Memory}
 use Rattle.certificates.specs.Good.{Good}
 use Rattle.certificates.specs.declared.certificate.Certificate.{Certificate}
 use Rattle.certificates.specs.declared.certificate.Certificate.TheVariants.{Optimal, Infeasible, Unbounded}
-use Rattle.cert_core.specs.declared.fault.CheckFault.{CheckFault}
-use Rattle.cert_core.specs.declared.fault.CheckFault.TheVariants.{CertOverflow, Memory}
 use Rattle.cert_core.specs.Answers.{TellsWhere}
 use Rattle.cert_core.specs.Checked.{Checks, HasEntries, HasRowDuals}
 use Rattle.cert_core.specs.Folds.{AddUp, CertificateFits, DualValueFits, InfeasibleFits, ObjectiveFits, OptimalFits, PointFits, ReducedCostFits, UnboundedFits, adjoint_parts, gap_parts}
@@ -30,12 +30,7 @@ use Rattle.cert_core.proofs.Parts.{adjoint_is}
 -- the sums of all variables are the adjoint
 pub sums_are : (hs : List Held) (us : List Address) (sums : List Rational)
     → sums ≡ map (λ v. sum_from zero_ℚ (adjoint_parts hs v)) us → map (adjoint hs) us ≡ sums
-sums_are hs us sums e = same us ∙ sym e
-  where
-    same : (us : List Address)
-        → map (adjoint hs) us ≡ map (λ v. sum_from zero_ℚ (adjoint_parts hs v)) us
-    same [] = refl
-    same (v ∷ us) = ap₂ (λ q qs. q ∷ qs) (sym (adjoint_is hs v)) (same us)
+sums_are hs us sums e = sym (e ∙ (λ i. map (λ v. adjoint_is hs v i) us))
 
 module _ (model : ModelValue) where
   abbrev us : List Address
@@ -185,39 +180,8 @@ good_entries model (Infeasible gap rows vars) g =
     (row_duals model rows vars g.duals, g.duals.each_variable)
 good_entries model (Unbounded x d) g = (g.feasible.size, g.ray.size)
 
-module _ (model : ModelValue) (r : Result Bool CheckFault) where
-  pub checks_told : (c : Certificate) → HasEntries model c
-      → TellsWhere r (CertificateFits model c) (Good model c) → Checks model r c
-  checks_told c entries said = by r said
-    where
-      by : (r : Result Bool CheckFault)
-          → TellsWhere r (CertificateFits model c) (Good model c) → Checks model r c
-      by (Ok is_good) h = (h.1, λ _. h.0)
-      by (Err CertOverflow) h = (entries, h)
-      by (Err Memory) h = tt
-
-  pub optimal_told : (value : Rational) (x y : List Rational) (rows others : List (List Rational))
-      (vars more : List Rational) → y ≡ x → others ≡ rows → more ≡ vars
-      → TellsWhere r (OptimalFits model y others more) (IsOptimal model value y others more)
-      → TellsWhere r (OptimalFits model x rows vars) (IsOptimal model value x rows vars)
-  optimal_told value x y rows others vars more a b c h =
-      subst (λ v. TellsWhere r (OptimalFits model x rows v) (IsOptimal model value x rows v)) c
-      (subst (λ ys. TellsWhere r (OptimalFits model x ys more) (IsOptimal model value x ys more)) b
-      (subst (λ u. TellsWhere r (OptimalFits model u others more)
-      (IsOptimal model value u others more)) a h))
-
-  pub infeasible_told : (gap : Rational) (rows others : List (List Rational))
-      (vars more : List Rational) → others ≡ rows → more ≡ vars
-      → TellsWhere r (InfeasibleFits model others more) (IsInfeasible model gap others more)
-      → TellsWhere r (InfeasibleFits model rows vars) (IsInfeasible model gap rows vars)
-  infeasible_told gap rows others vars more b c h =
-      subst (λ v. TellsWhere r (InfeasibleFits model rows v) (IsInfeasible model gap rows v)) c
-      (subst (λ ys. TellsWhere r (InfeasibleFits model ys more) (IsInfeasible model gap ys more)) b
-      h)
-
-  pub unbounded_told : (x y d e : List Rational) → y ≡ x → e ≡ d
-      → TellsWhere r (UnboundedFits model y e) (IsUnbounded model y e)
-      → TellsWhere r (UnboundedFits model x d) (IsUnbounded model x d)
-  unbounded_told x y d e a b h =
-      subst (λ v. TellsWhere r (UnboundedFits model x v) (IsUnbounded model x v)) b
-      (subst (λ u. TellsWhere r (UnboundedFits model u e) (IsUnbounded model u e)) a h)
+pub checks_told : (model : ModelValue) (r : Result Bool NumberFault) (c : Certificate)
+    → HasEntries model c → TellsWhere r (CertificateFits model c) (Good model c) → Checks model r c
+checks_told model (Ok is_good) c entries h = (h.1, λ _. h.0)
+checks_told model (Err Overflow) c entries h = (entries, h)
+checks_told model (Err Memory) c entries h = tt

@@ -1,5 +1,4 @@
 pub mod Steps
-pub mod Answered
 pub mod Tested
 pub mod Summed
 pub mod Places

@@ -6,6 +6,9 @@ use Rattle.cert_core.proofs.Steps.{next_item}
 use Rattle.std.proofs.lemmas.List.Elements.{All-cons, All-nil}
 use Rattle.ratio_core.specs.Folds.{sum_from}
 use Rattle.ratio_core.specs.Rational.{Fits, Rational, SumFits, neg_ℚ, zero_ℚ, ◌*ℚ◌, ◌+ℚ◌}
+use Rattle.ratio_core.specs.declared.fault.NumberFault.{NumberFault}
+use Rattle.ratio_core.specs.Answers.{ExactWhere}
+use Rattle.ratio_core.specs.AnsweredLaws.{exact_as}
 use Rattle.rational_laws.specs.Dot.{dot, negated}
 use Rattle.rational_laws.specs.Field.{*ℚ-zero, neg_ℚ-sum, neg_ℚ-zero, zero-+ℚ}
 use Rattle.rational_laws.specs.Sums.{fold_ℚ, sum_ℚ, sum_ℚ-append}
@@ -18,9 +21,6 @@ use Rattle.certificates.specs.Points.{variables_at}
 use Rattle.cert_core.specs.Folds.{AddUp, adjoint_parts, adjoint_parts_of, gap_parts, gap_parts_of, products}
 use Rattle.set_core.specs.declared.set.Set.{Set}
 use Rattle.aff_core.specs.Function.{Function}
-use Rattle.cert_core.specs.declared.fault.CheckFault.{CheckFault}
-use Rattle.cert_core.specs.Answers.{ExactWhere}
-use Rattle.cert_core.proofs.Answered.{answers_alike}
 use Rattle.std.proofs.lemmas.Grind.{flat_map-append}
 use Rattle.std.proofs.lemmas.List.Sums.{fold-append}
 use Rattle.cert_core.proofs.Summed.{AddUp-append, AddUp_parts, zeros_add_up}
@@ -81,7 +81,7 @@ variables_less sum w us fits =
     (none.0, sym none.1)
 
 -- a least product, and then less the products with the constants
-pub with_constants : (r : Result Rational CheckFault) (sum low with_low : Rational)
+pub with_constants : (r : Result Rational NumberFault) (sum low with_low : Rational)
     (w : List Rational) (set : Set) (fs gs : List Function) → gs ≡ fs → LowFits set w
     → low ≡ low_of set w → SumFits sum low → with_low ≡ sum +ℚ low
     → ExactWhere r (AddUp with_low (negated (products w (constants gs))))
@@ -92,12 +92,12 @@ unfolding AddUp
 with_constants r sum low with_low w set fs gs same fits low_is total with_is said =
     let start : with_low ≡ sum +ℚ low_of set w = with_is ∙ ap (λ q. sum +ℚ q) low_is in
     let parts : List Rational = negated (products w (constants fs)) in
-    answers_alike r (AddUp (sum +ℚ low_of set w) parts) (AddUp sum (low_of set w ∷ parts))
+    exact_as r (AddUp (sum +ℚ low_of set w) parts) (AddUp sum (low_of set w ∷ parts))
     (λ q. q ≡ sum_from (sum +ℚ low_of set w) parts) (λ q. q ≡ sum_from sum (low_of set w ∷ parts))
+    (λ k. (fits, subst (SumFits sum) low_is total, k)) (λ k. k.2) (λ _ e. e)
     (subst (λ s. ExactWhere r (AddUp s parts) (λ q. q ≡ sum_from s parts)) start
     (subst (λ hs. ExactWhere r (AddUp with_low (negated (products w (constants hs))))
     (λ q. q ≡ sum_from with_low (negated (products w (constants hs))))) same said))
-    (λ k. (fits, subst (SumFits sum) low_is total, k)) (λ k. k.2) (λ _ e. e)
 
 pub no_products : (v : List Rational) → products v [] ≡ []
 no_products [] = refl
@@ -119,13 +119,13 @@ none_less w fs i le =
     ∙ ap negated (no_products (drop i w))
 
 -- the gap of two lists together
-pub gap_told : (r : Result Rational CheckFault) (xs ys : List Held) (before : Rational)
+pub gap_told : (r : Result Rational NumberFault) (xs ys : List Held) (before : Rational)
     → AddUp zero_ℚ (gap_parts xs) → before ≡ sum_from zero_ℚ (gap_parts xs)
     → ExactWhere r (AddUp before (gap_parts ys)) (λ q. q ≡ sum_from before (gap_parts ys))
     → ExactWhere r (AddUp zero_ℚ (gap_parts (xs ++ ys))) (λ q. q ≡ gap (xs ++ ys))
 gap_told r xs ys before fits is said =
-    answers_alike r (AddUp before (gap_parts ys)) (AddUp zero_ℚ (gap_parts (xs ++ ys)))
-    (λ q. q ≡ sum_from before (gap_parts ys)) (λ q. q ≡ gap (xs ++ ys)) said
+    exact_as r (AddUp before (gap_parts ys)) (AddUp zero_ℚ (gap_parts (xs ++ ys)))
+    (λ q. q ≡ sum_from before (gap_parts ys)) (λ q. q ≡ gap (xs ++ ys))
     (λ k. subst (AddUp zero_ℚ) (sym joined) (AddUp-append zero_ℚ (gap_parts xs) (gap_parts ys) fits
     (subst (λ s. AddUp s (gap_parts ys)) is k)))
     (λ k. subst (λ s. AddUp s (gap_parts ys)) (sym is)
@@ -133,6 +133,7 @@ gap_told r xs ys before fits is said =
     (λ q e. e ∙ ap (λ s. sum_from s (gap_parts ys)) is
     ∙ sym (fold-append ◌+ℚ◌ zero_ℚ (gap_parts xs) (gap_parts ys))
     ∙ ap (sum_from zero_ℚ) (sym joined) ∙ gap_is (xs ++ ys))
+    said
   where
     joined : gap_parts (xs ++ ys) ≡ gap_parts xs ++ gap_parts ys
     joined = flat_map-append gap_parts_of xs ys

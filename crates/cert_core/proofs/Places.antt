@@ -1,5 +1,5 @@
 -- The places of addresses in a list that ascends, and the numbers that stand at them.
-use Rattle.std.specs.Prelude.{◌≡◌, ℕ, zero, suc, ◌+◌, ◌<◌, nat_lt, Bool, true, false, cond, List, [], ◌∷◌, map, length, AllPairs, Contains, Option, Some, None, IfSome, Result, Ok, Err, slice_get, refl}
+use Rattle.std.specs.Prelude.{◌≡◌, ℕ, zero, suc, ◌+◌, ◌<◌, nat_lt, Bool, true, false, cond, List, [], ◌∷◌, map, length, Contains, Option, Some, None, IfSome, Result, Ok, Err, slice_get, refl}
 use Rattle.std.specs.Cmp.{eq_by_cmp_equiv, tied_itself}
 use Rattle.std.specs.List.{AllByRecursion, IsDistinct}
 use Rattle.std.specs.List.Sorted.{IsBinarySearchResult, IsPartitionPoint, IsSearchInRange, IsSortedBy}
@@ -9,16 +9,14 @@ use Rattle.std.specs.declared.cmp.Ordering.{Ordering}
 use Rattle.std.specs.declared.cmp.Ordering.TheVariants.{Less, Equal, Greater}
 use Rattle.std.proofs.Common.{sym, ◌∙◌, ap, ap₂, subst, arith, get_or, set}
 use Rattle.std.proofs.lemmas.Bool.{ltb-false, ltb-true}
-use Rattle.std.proofs.lemmas.List.Elements.{All-map, All-weaker}
-use Rattle.std.proofs.lemmas.List.Kept.{AllPairs-cons}
 use Rattle.std.proofs.lemmas.List.Sorted.{searchable_from_sorted}
 use Rattle.std.proofs.lemmas.Map.Keys.{IsDistinct-head, IsDistinct-tail}
 use Rattle.std.proofs.lemmas.Map.Made.{IsDistinct-from_AllPairs}
-use Rattle.std.proofs.lemmas.Option.{get_or_from_slice_get, slice_get-get_or}
+use Rattle.std.proofs.lemmas.Option.{get_or_from_slice_get, slice_get-get_or, slice_get_within}
+use Rattle.map_laws.specs.PairLaws.{AllPairs-map}
 use Rattle.map_laws.specs.TestLaws.{less_number}
 use Rattle.ratio_core.specs.Rational.{Rational, zero_ℚ}
 use Rattle.numbered.specs.Numbered.{Rise}
-use Rattle.numbered.specs.Laws.{Rise-head, Rise-tail}
 use Rattle.aff_core.specs.Address.{Address, address_cmp, address_eq, address_eq-Decides, address_total, exact_addresses}
 use Rattle.aff_core.specs.KeyOrder.{address_order, other_key, same_key}
 use Rattle.aff_core.specs.Points.{spread}
@@ -38,18 +36,11 @@ abbrev IsBelow : Address → Address → Type 0
 IsBelow u w = address_cmp u w ≡ Less
 
 pub ascend : (vars : List GroupVar) → Rise variable_number vars → Ascend (addresses_of vars)
-ascend vars rise = record { ascending = pairs vars rise }
-  where
-    pairs : (vars : List GroupVar) → Rise variable_number vars
-        → AllPairs IsBelow (addresses_of vars)
-    pairs [] rise = λ i j d h lt. absurd (omega arith)
-    pairs (v ∷ vars) rise =
-        AllPairs-cons IsBelow (address_of v) (addresses_of vars)
-        (All-map (IsBelow (address_of v)) address_of vars
-        (All-weaker (λ w. v.number < w.number) (λ w. IsBelow (address_of v) (address_of w))
-        (λ w h. less_address v.number w.number h) vars
-        (Rise-head variable_number v vars rise)))
-        (pairs vars (Rise-tail variable_number v vars rise))
+ascend vars rise = record {
+  ascending =
+      AllPairs-map IsBelow address_of (λ (v w : GroupVar). v.number < w.number) vars
+      (λ v w less. less_address v.number w.number less) rise.rising;
+}
 
 less_apart : (a b : Address) → address_cmp a b ≡ Less → ¬ (a ≡ b)
 less_apart a b h e =
@@ -161,21 +152,14 @@ none_at_place (a ∷ us) y v q none =
 
 -- ---- places
 
-pub place_below : (us : List Address) (i : ℕ) (v : Address) → slice_get us i ≡ Some v
-    → i < length us
-place_below [] i v is = cc
-place_below (a ∷ us) zero v is = omega arith
-place_below (a ∷ us) (suc i) v is =
-    let rest : i < length us = place_below us i v is in omega (arith, rest)
-
 pub stands_there : (us : List Address) (i : ℕ) (v : Address) → slice_get us i ≡ Some v
     → v ≡ get_or us i v
 stands_there us i v is = sym (get_or_from_slice_get us i v v is)
 
 pub stands : (us : List Address) (i : ℕ) (v : Address) → slice_get us i ≡ Some v → Contains us v
-stands us i v is = (i, place_below us i v is, get_or_from_slice_get us i v v is)
+stands us i v is = (i, slice_get_within us i v is, get_or_from_slice_get us i v v is)
 
 pub places_below : (us : List Address) (at : Address) (place : Option ℕ)
     → IsPlaceOf us at place → IfSome place (λ i. i < length us)
-places_below us at (Some i) is = place_below us i at is
+places_below us at (Some i) is = slice_get_within us i at is
 places_below us at None none = tt

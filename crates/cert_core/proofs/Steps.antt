@@ -1,8 +1,8 @@
 -- What is left of a list that is gone through.
 use Rattle.std.specs.Prelude.{◌≡◌, ℕ, zero, suc, ◌+◌, ◌<◌, List, [], ◌∷◌, ◌++◌, map, take, length, refl}
-use Rattle.std.proofs.Common.{arith, get_or, drop, subst, sym, ap, ◌∙◌}
+use Rattle.std.proofs.Common.{arith, get_or, drop, sym, ap, ◌∙◌}
 use Rattle.std.proofs.Math.ListN.{drop_of_length-le}
-use Rattle.std.proofs.lemmas.List.{append-nil, drop_more, take_all}
+use Rattle.std.proofs.lemmas.List.{append-nil, drop_more, get_or-map, take_all}
 
 -- it begins with the item that is read
 pub next_item : {X : Type 0} (xs : List X) (i : ℕ) (x : X) → x ≡ get_or xs i x → i < length xs
@@ -16,17 +16,11 @@ some_item [] i lt = absurd (omega arith)
 some_item (x ∷ xs) zero lt = (x, refl)
 some_item (x ∷ xs) (suc i) lt = some_item xs i (omega arith)
 
-mapped_there : {X Y : Type 0} (f : X → Y) (xs : List X) (i : ℕ) (x : X) (y : Y)
-    → x ≡ get_or xs i x → i < length xs → y ≡ get_or (map f xs) i y → y ≡ f x
-mapped_there f [] i x y x_is lt y_is = absurd (omega arith)
-mapped_there f (z ∷ xs) zero x y x_is lt y_is = y_is ∙ ap f (sym x_is)
-mapped_there f (z ∷ xs) (suc i) x y x_is lt y_is = mapped_there f xs i x y x_is (omega arith) y_is
-
 -- what is made of the item at a place stands at the place
 pub made_there : {X Y : Type 0} (f : X → Y) (xs : List X) (ys : List Y) (i : ℕ) (x : X) (y : Y)
     → map f xs ≡ ys → x ≡ get_or xs i x → i < length xs → y ≡ get_or ys i y → y ≡ f x
 made_there f xs ys i x y made x_is lt y_is =
-    mapped_there f xs i x y x_is lt (subst (λ l. y ≡ get_or l i y) (sym made) y_is)
+    y_is ∙ ap (λ l. get_or l i y) (sym made) ∙ get_or-map f xs i x y lt ∙ ap f (sym x_is)
 
 -- a slice written back over all of a vector
 pub written_back : {X : Type 0} (n : ℕ) (items new : List X) → n ≡ length items

@@ -87,9 +87,6 @@ pub record SummedAsAll (start sum : Rational) (qs left : List Rational) : Type 0
   pub fits : AddUp sum left → AddUp start qs
   pub only : AddUp start qs → AddUp sum left
 
-pub summed_start : (start : Rational) (qs : List Rational) → SummedAsAll start start qs qs
-summed_start start qs = record { value = refl; fits = λ h. h; only = λ h. h }
-
 module _ (start sum : Rational) (qs left : List Rational) (h : SummedAsAll start sum qs left) where
   pub summed_end : left ≡ [] → AddUp start qs × (sum ≡ sum_from start qs)
   unfolding AddUp

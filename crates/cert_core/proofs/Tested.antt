@@ -1,22 +1,9 @@
 -- Things tested one after the other, each where what it takes fits.
-use Rattle.std.specs.Prelude.{◌≡◌, ◌↔◌, ◌&&◌, Bool, true, false, IsTrue, List, [], ◌∷◌, ◌++◌, All, refl}
-use Rattle.std.proofs.Common.{sym, ◌∙◌, subst, true≢false}
+use Rattle.std.specs.Prelude.{◌≡◌, ◌↔◌, ◌&&◌, Bool, IsTrue, List, [], ◌∷◌, ◌++◌, All}
+use Rattle.std.proofs.Common.{sym, subst}
+use Rattle.std.proofs.lemmas.Bool.{and_from, and_parts}
 use Rattle.map_laws.specs.EachLaws.{all_first, all_second}
 use Rattle.std.proofs.lemmas.List.Elements.{All-append, All-cons, All-head, All-nil, All-tail}
-
-pub both_true : (a b : Bool) → IsTrue (a && b) → IsTrue a × IsTrue b
-both_true true b h = (refl, h)
-both_true false b h = absurd (true≢false (sym h))
-
--- what a `&&` leaves, by whether its first test passed
-pub and_taken : (a b now : Bool) → a ≡ true → now ≡ b → IsTrue now ↔ (IsTrue a × IsTrue b)
-and_taken a b now t is = (λ h. (t, sym is ∙ h), λ h. is ∙ h.1)
-
-pub and_passed : (a b now : Bool) → a ≡ false → now ≡ a → IsTrue now ↔ (IsTrue a × IsTrue b)
-and_passed a b now f is = (
-  λ h. absurd (true≢false (sym h ∙ is ∙ f)),
-  λ h. absurd (true≢false (sym h.0 ∙ f)),
-)
 
 pub iff_trans : (A B C : Type 0) → (A ↔ B) → (B ↔ C) → A ↔ C
 iff_trans A B C f g = (λ a. g.0 (f.0 a), λ c. f.1 (g.1 c))
@@ -40,17 +27,17 @@ module _ {X : Type 0} (F P : X → Type 0) where
     pub holds : IsTrue so_far → All P left → All P xs
     pub each : All P xs → IsTrue so_far × All P left
 
-  pub tested_step : (so_far b now : Bool) (xs left rest : List X) (x : X)
+  pub tested_step : (so_far b : Bool) (xs left rest : List X) (x : X)
       → TestedAsAll so_far xs left → left ≡ x ∷ rest → F x → (IsTrue b ↔ P x)
-      → (IsTrue now ↔ (IsTrue so_far × IsTrue b)) → TestedAsAll now xs rest
-  tested_step so_far b now xs left rest x h next fits tells both = record {
+      → TestedAsAll (so_far && b) xs rest
+  tested_step so_far b xs left rest x h next fits tells = record {
     fits = λ k. h.fits (subst (All F) (sym next) (All-cons F x rest fits k));
     only = λ k. All-tail F x rest (subst (All F) next (h.only k));
-    holds = λ t k. let t = both.0 t in
+    holds = λ t k. let t = and_parts so_far b t in
         h.holds t.0 (subst (All P) (sym next) (All-cons P x rest (tells.0 t.1) k));
     each = λ k. let all = h.each k in
         let here : All P (x ∷ rest) = subst (All P) next all.1 in
-        (both.1 (all.0, tells.1 (All-head P x rest here)), All-tail P x rest here);
+        (and_from so_far b all.0 (tells.1 (All-head P x rest here)), All-tail P x rest here);
   }
 
   pub tested_refused : (so_far : Bool) (xs left rest : List X) (x : X) → TestedAsAll so_far xs left

@@ -1,6 +1,8 @@
 -- What the check of a certificate answers.
 use Rattle.std.specs.Prelude.{◌≡◌, ◌↔◌, Bool, IsTrue, List, length, All, Result, Ok, Err}
 use Rattle.ratio_core.specs.Rational.{Rational}
+use Rattle.ratio_core.specs.declared.fault.NumberFault.{NumberFault}
+use Rattle.ratio_core.specs.declared.fault.NumberFault.TheVariants.{Overflow, Memory}
 use Rattle.dual_laws.specs.Held.{Held}
 use Rattle.user_model.specs.declared.group.Group.{Group}
 use Rattle.user_model.specs.declared.objective.Objective.{Objective}
@@ -11,8 +13,6 @@ use Rattle.certificates.specs.declared.certificate.Certificate.{Certificate}
 use Rattle.certificates.specs.declared.certificate.Certificate.TheVariants.{Optimal, Infeasible, Unbounded}
 use Rattle.certificates.specs.Duals.{rows_with}
 use Rattle.certificates.specs.Good.{Good}
-use Rattle.cert_core.specs.declared.fault.CheckFault.{CheckFault}
-use Rattle.cert_core.specs.declared.fault.CheckFault.TheVariants.{CertOverflow, Memory}
 use Rattle.cert_core.specs.Folds.{CertificateFits}
 
 abbrev pub model_of : List Group → List Row → Objective → NextNumbers → ModelValue
@@ -46,7 +46,7 @@ module _ (model : ModelValue) where
 
   -- yes exactly where the certificate is good; an overflow exactly where the numbers of entries
   -- are right, and something of its kind doesn't fit
-  abbrev pub Checks : Result Bool CheckFault → Certificate → Type 0
+  abbrev pub Checks : Result Bool NumberFault → Certificate → Type 0
   Checks (Ok is_good) c = (IsTrue is_good ↔ Good model c) × (HasEntries c → CertificateFits model c)
-  Checks (Err CertOverflow) c = HasEntries c × ¬ (CertificateFits model c)
+  Checks (Err Overflow) c = HasEntries c × ¬ (CertificateFits model c)
   Checks (Err Memory) c = Unit {0}

@@ -2,24 +2,23 @@
 ghost use Rattle.std.specs.Prelude.{◌≡◌, [], ◌∷◌, ◌<◌, All, Contains, IfOk, cond, length, map, slice_index_or, slice_set};
 ghost use Rattle.ratio_core.specs.Folds.{sum_from};
 ghost use Rattle.ratio_core.specs.Rational.{Fits, Rational, zero_ℚ, ◌+ℚ◌, ◌*ℚ◌};
+ghost use Rattle.ratio_core.specs.Answers.{ExactWhere};
 ghost use Rattle.aff_core.specs.Address.{Address, address_eq};
 ghost use Rattle.aff_core.specs.FunctionLists.{coefficients};
 ghost use Rattle.aff_core.specs.Rising.{RiseStrictly};
 ghost use Rattle.aff_core.specs.Terms.{StepFits};
 ghost use Rattle.certificates.specs.Duals.{rows_with};
 ghost use Rattle.certificates.specs.Points.{variables_at};
-ghost use Rattle.cert_core.specs.Answers.{ExactWhere};
 ghost use Rattle.cert_core.specs.Checked.{HasRowDuals};
 ghost use Rattle.cert_core.specs.Components.{functions_in};
 ghost use Rattle.cert_core.specs.Folds.{AddUp, adjoint_parts, products};
 ghost use Rattle.cert_core.specs.Adding.{AddsAt, coefficient_among};
 
-use crate::CheckFault;
 use crate::components::{Components, components_of};
 use crate::sums::plus_product;
 use crate::variables::Variables;
 use aff_core::{Address, Aff};
-use ratio_core::{Memory, Ratio, Ratios};
+use ratio_core::{Memory, NumberFault, Ratio, Ratios};
 use std::alloc::Global;
 use user_model::Row;
 
@@ -29,7 +28,7 @@ pub fn adjoint_of_rows(
     variables: &Variables,
     rows: &[Row],
     duals: &[Ratios],
-) -> Result<Vec<Ratio>, CheckFault>
+) -> Result<Vec<Ratio>, NumberFault>
     requires { HasRowDuals rows.now duals.now }
     ensures { let parts = adjoint_parts (rows_with duals.now rows.now) in
         ExactWhere result (All (λ v. AddUp zero_ℚ (parts v)) variables.now)
@@ -52,7 +51,7 @@ fn add_rows(
     sums: &mut [Ratio],
     rows: &[Row],
     duals: &[Ratios],
-) -> Result<(), CheckFault>
+) -> Result<(), NumberFault>
     requires duals { HasRowDuals rows.now duals.now }
     requires sums { length sums.old ≡ length variables.now }
     ensures { AddsAt result variables.now sums.old sums.new
@@ -74,7 +73,7 @@ fn add_components(
     sums: &mut [Ratio],
     duals: &[Ratio],
     components: Components,
-) -> Result<(), CheckFault>
+) -> Result<(), NumberFault>
     requires duals { length duals.now ≡ length (functions_in components) }
     requires sums { length sums.old ≡ length variables.now }
     ensures { AddsAt result variables.now sums.old sums.new
@@ -91,7 +90,7 @@ fn add_variables(
     sums: &mut [Ratio],
     duals: &[Ratio],
     vars: &[Address],
-) -> Result<(), CheckFault>
+) -> Result<(), NumberFault>
     requires duals { length duals.now ≡ length vars.now }
     requires sums { length sums.old ≡ length variables.now }
     ensures { AddsAt result variables.now sums.old sums.new
@@ -108,7 +107,7 @@ fn add_functions(
     sums: &mut [Ratio],
     duals: &[Ratio],
     fs: &[Aff],
-) -> Result<(), CheckFault>
+) -> Result<(), NumberFault>
     requires duals { length duals.now ≡ length fs.now }
     requires sums { length sums.old ≡ length variables.now }
     ensures { AddsAt result variables.now sums.old sums.new
@@ -126,7 +125,7 @@ fn add_multiple(
     sums: &mut [Ratio],
     by: &Ratio,
     terms: &[(Address, Ratio)],
-) -> Result<(), CheckFault>
+) -> Result<(), NumberFault>
     requires terms { RiseStrictly terms.now }
     requires sums { length sums.old ≡ length variables.now }
     ensures { AddsAt result variables.now sums.old sums.new
@@ -145,7 +144,7 @@ fn add_term(
     by: &Ratio,
     at: &Address,
     coefficient: &Ratio,
-) -> Result<(), CheckFault>
+) -> Result<(), NumberFault>
     requires { length sums.old ≡ length variables.now }
     ensures { (x : Address → Rational) → sums.old ≡ map x variables.now
         → ExactWhere result
@@ -164,7 +163,7 @@ fn add_at(
     place: usize,
     by: &Ratio,
     coefficient: &Ratio,
-) -> Result<(), CheckFault>
+) -> Result<(), NumberFault>
     requires { place < length sums.old }
     ensures { let sum = slice_index_or sums.old place zero_ℚ in
         ExactWhere result (StepFits sum by.now coefficient.now)

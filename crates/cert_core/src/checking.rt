@@ -2,6 +2,7 @@
 ghost use Rattle.std.specs.Prelude.{◌≡◌, ◌↔◌, All, IsTrue, length};
 ghost use Rattle.ratio_core.specs.Folds.{sum_from};
 ghost use Rattle.ratio_core.specs.Rational.{zero_ℚ, ◌‹ℚ◌};
+ghost use Rattle.ratio_core.specs.Answers.{ExactWhere};
 ghost use Rattle.set_core.specs.Membership.{Dual, DualFits};
 ghost use Rattle.numbered.specs.Numbered.{Rise};
 ghost use Rattle.user_model.specs.declared.undo.NextNumbers.{NextNumbers};
@@ -10,14 +11,13 @@ ghost use Rattle.user_model.specs.Valid.{HasValidParts};
 ghost use Rattle.certificates.specs.Duals.{dual_gap, with_duals};
 ghost use Rattle.certificates.specs.Feasible.{IsBetter};
 ghost use Rattle.certificates.specs.Good.{IsInfeasible, IsOptimal, IsUnbounded};
-ghost use Rattle.cert_core.specs.Answers.{ExactWhere, TellsWhere};
+ghost use Rattle.cert_core.specs.Answers.{TellsWhere};
 ghost use Rattle.cert_core.specs.Checked.{Checks, HasEntries, HasPoint, HasRowDuals, model_of};
 ghost use Rattle.cert_core.specs.Folds.{AddUp, InfeasibleFits, OptimalFits, PointFits, UnboundedFits, gap_parts};
 ghost use Rattle.cert_core.specs.Holding.{HoldsAt, IsReady};
 ghost use Rattle.cert_core.specs.Readings.{one_of};
 ghost use Rattle.certificates.specs.Points.{all_addresses, variables_of};
 
-use crate::CheckFault;
 use crate::adjoint::adjoint_of_rows;
 use crate::duals::{group_duals_hold, row_duals_hold};
 use crate::entries::has_row_duals;
@@ -29,7 +29,7 @@ use crate::points::{groups_hold, rows_hold};
 use crate::readings::Reading;
 use crate::variables::Variables;
 use certificates::Certificate;
-use ratio_core::{Ratio, Ratios};
+use ratio_core::{NumberFault, Ratio, Ratios};
 use std::alloc::Global;
 use user_model::{Group, Objective, Row, Sense};
 
@@ -58,7 +58,7 @@ pub fn check(
     rows: &[Row],
     objective: &Objective,
     certificate: &Certificate,
-) -> Result<bool, CheckFault>
+) -> Result<bool, NumberFault>
     requires numbers { Rise variable_number (variables_of groups.now) }
     requires valid { HasValidParts groups.now rows.now objective.now }
     ensures { (next : NextNumbers)
@@ -124,7 +124,7 @@ impl<'a> Parts<'a> {
     }
 
     // Whether rows and groups hold at a point, or along a ray.
-    fn holds_at(&self, alloc: Global, reading: Reading, x: &[Ratio]) -> Result<bool, CheckFault>
+    fn holds_at(&self, alloc: Global, reading: Reading, x: &[Ratio]) -> Result<bool, NumberFault>
         requires ready { IsReady self.now.groups.now self.now.rows.now self.now.variables }
         requires size { length x.now ≡ length self.now.variables }
         ensures { (next : NextNumbers) → let model = model_of self.now.groups.now
@@ -139,7 +139,7 @@ impl<'a> Parts<'a> {
     }
 
     // Whether the duals are in the dual sets.
-    fn duals_hold(&self, duals: &Duals) -> Result<bool, CheckFault>
+    fn duals_hold(&self, duals: &Duals) -> Result<bool, NumberFault>
         requires ready { IsReady self.now.groups.now self.now.rows.now self.now.variables }
         requires rows { HasRowDuals self.now.rows.now duals.now.rows.now }
         requires vars { length duals.now.vars.now ≡ length self.now.variables }
@@ -154,7 +154,7 @@ impl<'a> Parts<'a> {
         Ok(all_true(&[rows, groups]))
     }
 
-    fn gap(&self, duals: &Duals) -> Result<Ratio, CheckFault>
+    fn gap(&self, duals: &Duals) -> Result<Ratio, NumberFault>
         requires ready { IsReady self.now.groups.now self.now.rows.now self.now.variables }
         requires rows { HasRowDuals self.now.rows.now duals.now.rows.now }
         requires vars { length duals.now.vars.now ≡ length self.now.variables }
@@ -174,7 +174,7 @@ impl<'a> Parts<'a> {
         value: &Ratio,
         x: &[Ratio],
         duals: &Duals,
-    ) -> Result<bool, CheckFault>
+    ) -> Result<bool, NumberFault>
         requires ready { IsReady self.now.groups.now self.now.rows.now self.now.variables }
         requires size { length x.now ≡ length self.now.variables }
         requires rows { HasRowDuals self.now.rows.now duals.now.rows.now }
@@ -198,7 +198,7 @@ impl<'a> Parts<'a> {
         Ok(all_true(&[feasible, in_sets, equal, is_primal, is_dual]))
     }
 
-    fn is_infeasible(&self, alloc: Global, gap: &Ratio, duals: &Duals) -> Result<bool, CheckFault>
+    fn is_infeasible(&self, alloc: Global, gap: &Ratio, duals: &Duals) -> Result<bool, NumberFault>
         requires ready { IsReady self.now.groups.now self.now.rows.now self.now.variables }
         requires rows { HasRowDuals self.now.rows.now duals.now.rows.now }
         requires vars { length duals.now.vars.now ≡ length self.now.variables }
@@ -216,7 +216,7 @@ impl<'a> Parts<'a> {
         Ok(all_true(&[in_sets, equal, is_gap, has_gap]))
     }
 
-    fn is_unbounded(&self, alloc: Global, x: &[Ratio], d: &[Ratio]) -> Result<bool, CheckFault>
+    fn is_unbounded(&self, alloc: Global, x: &[Ratio], d: &[Ratio]) -> Result<bool, NumberFault>
         requires ready { IsReady self.now.groups.now self.now.rows.now self.now.variables }
         requires point { length x.now ≡ length self.now.variables }
         requires ray { length d.now ≡ length self.now.variables }

@@ -9,12 +9,11 @@ ghost use Rattle.cert_core.specs.Checked.{HasRowDuals};
 ghost use Rattle.cert_core.specs.Holding.{HasGroupSet, HasRowSet};
 ghost use Rattle.certificates.specs.Points.{all_addresses};
 
-use crate::CheckFault;
-use ratio_core::{Ratio, Ratios};
+use ratio_core::{NumberFault, Ratio, Ratios};
 use user_model::{Group, Row};
 
 /// Whether the duals of each row are in its set's dual.
-pub(crate) fn row_duals_hold(rows: &[Row], duals: &[Ratios]) -> Result<bool, CheckFault>
+pub(crate) fn row_duals_hold(rows: &[Row], duals: &[Ratios]) -> Result<bool, NumberFault>
     requires sets { All HasRowSet rows.now }
     requires entries { HasRowDuals rows.now duals.now }
     ensures { TellsWhere result
@@ -24,14 +23,14 @@ pub(crate) fn row_duals_hold(rows: &[Row], duals: &[Ratios]) -> Result<bool, Che
     let mut all = true;
     for (i, row) in rows.iter().enumerate() {
         let holds = row.set.dual_holds(duals[i].as_slice())?;
-        all = all && holds;
+        all &= holds;
     }
     Ok(all)
 }
 
 /// Whether the duals of each group's variables are in its set's dual, wherever these are the
 /// variables' duals.
-pub(crate) fn group_duals_hold(groups: &[Group], duals: &[Ratio]) -> Result<bool, CheckFault>
+pub(crate) fn group_duals_hold(groups: &[Group], duals: &[Ratio]) -> Result<bool, NumberFault>
     requires sets { All HasGroupSet groups.now }
     requires size { length duals.now ≡ length (all_addresses groups.now) }
     ensures { (w : Address → Rational) → map w (all_addresses groups.now) ≡ duals.now
@@ -44,7 +43,7 @@ pub(crate) fn group_duals_hold(groups: &[Group], duals: &[Ratio]) -> Result<bool
     for group in groups {
         let (own, others) = left.split_at(group.vars.len());
         let holds = group.set.dual_holds(own)?;
-        all = all && holds;
+        all &= holds;
         left = others;
     }
     Ok(all)

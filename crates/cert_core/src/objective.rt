@@ -1,18 +1,17 @@
 //! What is read of an objective. A model without one seeks the least value of 0.
 ghost use Rattle.std.specs.Prelude.{◌≡◌};
+ghost use Rattle.ratio_core.specs.Answers.{ExactWhere};
 ghost use Rattle.aff_core.specs.Address.{address_cmp};
 ghost use Rattle.aff_core.specs.Function.{coefficient, evaluated, variable};
 ghost use Rattle.certificates.specs.Points.{objective_function, sense_of};
-ghost use Rattle.cert_core.specs.Answers.{ExactWhere};
 ghost use Rattle.cert_core.specs.Folds.{EvaluationFits};
 ghost use Rattle.cert_core.specs.Readings.{one_of};
 ghost use Rattle.cert_core.specs.Points.{numbers_in};
 
-use crate::CheckFault;
 use crate::point::Point;
 use crate::readings::Reading;
 use aff_core::Address;
-use ratio_core::Ratio;
+use ratio_core::{NumberFault, Ratio};
 use user_model::{Objective, Sense};
 
 /// The objective's sense.
@@ -61,7 +60,7 @@ fn unit(var: &Address, at: &Address) -> Ratio
 }
 
 /// The objective's value at a point, or its slope along a ray.
-pub fn reading_of(objective: &Objective, reading: Reading, at: &Point) -> Result<Ratio, CheckFault>
+pub fn reading_of(objective: &Objective, reading: Reading, at: &Point) -> Result<Ratio, NumberFault>
     ensures { let x = numbers_in at.now in
         ExactWhere result
         (EvaluationFits (one_of reading) (objective_function objective.now) x)

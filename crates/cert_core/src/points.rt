@@ -3,22 +3,22 @@ ghost use Rattle.std.specs.Prelude.{◌≡◌, length, All, map};
 ghost use Rattle.aff_core.specs.Address.{Address};
 ghost use Rattle.aff_core.specs.FunctionLists.{evaluations};
 ghost use Rattle.ratio_core.specs.Rational.{Rational};
+ghost use Rattle.ratio_core.specs.Answers.{ExactWhere};
 ghost use Rattle.set_core.specs.Membership.{MembershipFits};
 ghost use Rattle.set_core.specs.Shapes.{dimension_of};
 ghost use Rattle.certificates.specs.Points.{all_addresses, functions_of, functions_of_group, variables_at};
-ghost use Rattle.cert_core.specs.Answers.{ExactWhere, TellsWhere};
+ghost use Rattle.cert_core.specs.Answers.{TellsWhere};
 ghost use Rattle.cert_core.specs.Folds.{EvaluationFits, FitIn};
 ghost use Rattle.cert_core.specs.Components.{functions_in};
 ghost use Rattle.cert_core.specs.Readings.{one_of};
 ghost use Rattle.cert_core.specs.Holding.{FunctionsHold, HasRowSet, HasGroupSet};
 ghost use Rattle.cert_core.specs.Points.{numbers_in};
 
-use crate::CheckFault;
 use crate::components::{Components, components_of};
 use crate::point::Point;
 use crate::readings::Reading;
 use aff_core::{Address, Aff};
-use ratio_core::Ratio;
+use ratio_core::{NumberFault, Ratio};
 use std::alloc::Global;
 use user_model::{Group, Row};
 
@@ -28,7 +28,7 @@ pub(crate) fn rows_hold(
     reading: Reading,
     rows: &[Row],
     at: &Point,
-) -> Result<bool, CheckFault>
+) -> Result<bool, NumberFault>
     requires { All HasRowSet rows.now }
     ensures { let x = numbers_in at.now in
         TellsWhere result
@@ -38,12 +38,12 @@ pub(crate) fn rows_hold(
     let mut all = true;
     for row in rows {
         let holds = row_holds(alloc, reading, row, at)?;
-        all = all && holds;
+        all &= holds;
     }
     Ok(all)
 }
 
-fn row_holds(alloc: Global, reading: Reading, row: &Row, at: &Point) -> Result<bool, CheckFault>
+fn row_holds(alloc: Global, reading: Reading, row: &Row, at: &Point) -> Result<bool, NumberFault>
     requires { HasRowSet row.now }
     ensures { let x = numbers_in at.now in
         TellsWhere result
@@ -59,7 +59,7 @@ fn read_components(
     reading: Reading,
     components: Components,
     at: &Point,
-) -> Result<Vec<Ratio>, CheckFault>
+) -> Result<Vec<Ratio>, NumberFault>
     ensures { let x = numbers_in at.now in
         ExactWhere result
         (All (λ f. EvaluationFits (one_of reading) f x) (functions_in components.entry))
@@ -76,7 +76,7 @@ fn read_variables(
     reading: Reading,
     vars: &[Address],
     at: &Point,
-) -> Result<Vec<Ratio>, CheckFault>
+) -> Result<Vec<Ratio>, NumberFault>
     ensures { let x = numbers_in at.now in
         ExactWhere result
         (All (λ f. EvaluationFits (one_of reading) f x) (variables_at vars.now))
@@ -94,7 +94,7 @@ fn read_functions(
     reading: Reading,
     fs: &[Aff],
     at: &Point,
-) -> Result<Vec<Ratio>, CheckFault>
+) -> Result<Vec<Ratio>, NumberFault>
     ensures { let x = numbers_in at.now in
         ExactWhere result
         (All (λ f. EvaluationFits (one_of reading) f x) fs.now)
@@ -112,7 +112,7 @@ pub(crate) fn groups_hold(
     reading: Reading,
     groups: &[Group],
     numbers: &[Ratio],
-) -> Result<bool, CheckFault>
+) -> Result<bool, NumberFault>
     requires sets { All HasGroupSet groups.now }
     requires size { length numbers.now ≡ length (all_addresses groups.now) }
     ensures { (x : Address → Rational) → map x (all_addresses groups.now) ≡ numbers.now
@@ -126,7 +126,7 @@ pub(crate) fn groups_hold(
     for group in groups {
         let (own, others) = left.split_at(group.vars.len());
         let holds = reading.holds(&group.set, own)?;
-        all = all && holds;
+        all &= holds;
         left = others;
     }
     Ok(all)

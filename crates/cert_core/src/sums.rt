@@ -1,18 +1,17 @@
 //! Sums from the left.
 ghost use Rattle.std.specs.Prelude.{◌≡◌, OkIff, IsOkUnless};
 ghost use Rattle.ratio_core.specs.Rational.{◌+ℚ◌, ◌*ℚ◌};
+ghost use Rattle.ratio_core.specs.Answers.{ExactWhere};
 ghost use Rattle.aff_core.specs.Terms.{StepFits, linear};
-ghost use Rattle.cert_core.specs.Answers.{ExactWhere};
 ghost use Rattle.cert_core.specs.Folds.{AddUp, products_at};
 ghost use Rattle.cert_core.specs.Points.{numbers_in};
 
-use crate::CheckFault;
 use crate::point::Point;
 use aff_core::Address;
-use ratio_core::Ratio;
+use ratio_core::{NumberFault, Ratio};
 
 /// A product added to a sum.
-pub(crate) fn plus_product(sum: &Ratio, a: &Ratio, b: &Ratio) -> Result<Ratio, CheckFault>
+pub(crate) fn plus_product(sum: &Ratio, a: &Ratio, b: &Ratio) -> Result<Ratio, NumberFault>
     ensures { ExactWhere result (StepFits sum.now a.now b.now)
         (λ q. q ≡ sum.now +ℚ a.now *ℚ b.now) }
 {
@@ -25,7 +24,7 @@ pub(crate) fn plus_terms(
     start: &Ratio,
     terms: &[(Address, Ratio)],
     at: &Point,
-) -> Result<Ratio, CheckFault>
+) -> Result<Ratio, NumberFault>
     ensures { let x = numbers_in at.now in
         ExactWhere result (AddUp start.now (products_at terms.now x))
         (λ q. q ≡ start.now +ℚ linear terms.now x) }

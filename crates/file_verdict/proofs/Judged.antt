@@ -1,10 +1,10 @@
 -- Verdicts, by what the calls under them say.
 use Rattle.std.proofs.Common.{◌≡◌, ◌≤◌, ℕ, Bool, true, false, List, length, refl, subst, sym, inl, inr, Option, Some, Result, Ok, Err, true≢false}
 use Rattle.std.specs.Prelude.{IfOk, IfSome, if◌then◌else◌}
+use Rattle.ratio_core.specs.declared.fault.NumberFault.{NumberFault}
+use Rattle.ratio_core.specs.declared.fault.NumberFault.TheVariants as number
 use Rattle.cert_core.specs.Checked.{Checks, model_of}
 use Rattle.certificates.specs.Points.{variables_of}
-use Rattle.cert_core.specs.declared.fault.CheckFault.{CheckFault}
-use Rattle.cert_core.specs.declared.fault.CheckFault.TheVariants.{CertOverflow}
 use Rattle.cert_text.specs.Reading.{certificate_of}
 use Rattle.cert_text.specs.ReadsBack.{HasItsEntries}
 use Rattle.certificates.specs.declared.certificate.Certificate.{Certificate}
@@ -27,7 +27,7 @@ if_ok P Q (Ok answer) h p = h answer p
 if_ok P Q (Err memory) h p = tt
 
 -- what was checked of a model's parts is checked of the model
-checks_model : (model : ModelValue) (groups : List Group) (rows : List Row) (objective : Objective) (result : Result Bool CheckFault) (c : Certificate)
+checks_model : (model : ModelValue) (groups : List Group) (rows : List Row) (objective : Objective) (result : Result Bool NumberFault) (c : Certificate)
     → groups ≡ model.groups → rows ≡ model.rows → objective ≡ model.objective → ((next : NextNumbers) → Checks (model_of groups rows objective next) result c) → Checks model result c
 checks_model model groups rows objective result c g r o checks =
     subst (λ xs. Checks (model_of xs model.rows model.objective model.next) result c) g
@@ -44,11 +44,11 @@ pub judged_by_check : (model : ModelValue) (groups : List Group) (rows : List Ro
 judged_by_check model groups rows objective c is_good r entries g rs o checks says =
     if_ok _ (Judges model c) r (λ answer is. judged model c is_good answer entries (checks_model model groups rows objective (Ok is_good) c g rs o checks) is) says
 
-pub judged_by_overflow : (model : ModelValue) (groups : List Group) (rows : List Row) (objective : Objective) (c : Certificate) (reason : CheckFault) (r : Result Answer Memory) → reason ≡ CertOverflow
+pub judged_by_overflow : (model : ModelValue) (groups : List Group) (rows : List Row) (objective : Objective) (c : Certificate) (reason : NumberFault) (r : Result Answer Memory) → reason ≡ number.Overflow
     → groups ≡ model.groups → rows ≡ model.rows → objective ≡ model.objective → ((next : NextNumbers) → Checks (model_of groups rows objective next) (Err reason) c)
     → IfOk r (λ answer. answer ≡ refused (Overflow Check)) → IfOk r (Judges model c)
 judged_by_overflow model groups rows objective c reason r over g rs o checks says =
-    let unfit : Checks model (Err CertOverflow) c = subst (λ e. Checks model (Err e) c) over (checks_model model groups rows objective (Err reason) c g rs o checks) in
+    let unfit : Checks model (Err number.Overflow) c = subst (λ e. Checks model (Err e) c) over (checks_model model groups rows objective (Err reason) c g rs o checks) in
     if_ok _ (Judges model c) r (λ answer is. inr (unfit.1, is)) says
 
 -- the right numbers of entries of what was read

@@ -11,7 +11,7 @@ ghost use Rattle.user_model.specs.Model.{empty_model};
 
 use crate::verdict_text::yes_or_no;
 use cache_layer::{Certificate, load_all};
-use cert_core::{CheckFault, check};
+use cert_core::check;
 use cert_text::read;
 use edit_engine::{Answer, tell_fault};
 use io_face::{FetchFault, Shelf};
@@ -20,6 +20,7 @@ use model_store::UserModel;
 use mof_fetch::fetch_edits;
 use mof_read::Edits;
 use name_index::Name;
+use ratio_core::NumberFault;
 use report_core::{Place, Refused, refusal};
 use std::alloc::Global;
 use user_model::ApplyFault;
@@ -108,12 +109,12 @@ fn judge(alloc: Global, model: &UserModel, certificate: &Certificate) -> Result<
         certificate,
     ) {
         Ok(is_good) => yes_or_no(alloc, is_good),
-        Err(CheckFault::CertOverflow) => refusal(
+        Err(NumberFault::Overflow) => refusal(
             alloc,
             &Refused::Overflow {
                 place: Place::Check,
             },
         ),
-        Err(CheckFault::Memory) => Err(Memory),
+        Err(NumberFault::Memory) => Err(Memory),
     }
 }

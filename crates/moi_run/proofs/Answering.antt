@@ -1,10 +1,9 @@
 -- What an answer that was written says of its line.
-use Rattle.std.proofs.Common.{◌≡◌, ℕ, Bool, true, false, List, [], refl, sym, ap, ◌∙◌, subst, inl, inr, Option, Result, Ok, Err}
+use Rattle.std.proofs.Common.{◌≡◌, ℕ, Bool, List, sym, ap, ◌∙◌, subst, inl, inr, Option, Result, Ok, Err}
 use Rattle.edit_engine.specs.Lines.{Prints, accepted, quit, refusal, silent}
 use Rattle.edit_engine.specs.LinesLaws.{answers_quit, quit_is_said}
 use Rattle.edit_engine.specs.Script.{Answered, Machine, Steps}
 use Rattle.io_face.specs.Sink.{Adds, AddsPrefix}
-use Rattle.io_face.specs.SinkLaws.{Adds-empty}
 use Rattle.io_face.specs.declared.sink.SinkFault.{SinkFault}
 use Rattle.io_face.specs.declared.sink.SinkFault.TheVariants as fault
 use Rattle.moi_run.specs.Answering.{Hears, HearsBy, PrintsText, WritesBy, is_refused}
@@ -53,33 +52,19 @@ line_heard (Err stop.Memory) s new line answer old written answered (inr begun) 
 
 -- ---- one answer
 
-pub wrote_silent : (answer : Answer) (old : Option (List ℕ)) → answer ≡ Silent → PrintsText answer false (Adds old old) × (false ≡ answers_quit answer)
-wrote_silent answer old is = subst (λ a. PrintsText a false (Adds old old) × (false ≡ answers_quit a)) (sym is) (record { text = []; prints = silent; written = Adds-empty old }, refl)
+-- that prints a text
+prints_text : (answer said : Answer) (text seen : List ℕ) (refused : Bool) (wrote : List ℕ → Type 0) → answer ≡ said → Prints said text refused → seen ≡ text → wrote seen → PrintsText answer refused wrote
+prints_text answer said text seen refused wrote is prints same written = record { text = text; prints = subst (λ a. Prints a text refused) (sym is) prints; written = subst wrote same written }
 
-pub wrote_quit : (answer : Answer) (old : Option (List ℕ)) → answer ≡ Quit → PrintsText answer false (Adds old old) × (true ≡ answers_quit answer)
-wrote_quit answer old is = subst (λ a. PrintsText a false (Adds old old) × (true ≡ answers_quit a)) (sym is) (record { text = []; prints = quit; written = Adds-empty old }, refl)
+-- the text was written whole
+pub wrote_whole : (answer said : Answer) (text seen : List ℕ) (refused quits : Bool) (old new : Option (List ℕ)) → answer ≡ said → Prints said text refused → quits ≡ answers_quit said
+    → seen ≡ text → Adds old new seen → PrintsText answer refused (Adds old new) × (quits ≡ answers_quit answer)
+wrote_whole answer said text seen refused quits old new is prints ends same written = (prints_text answer said text seen refused (Adds old new) is prints same written, ends ∙ sym (ap answers_quit is))
 
-prints_printed : (answer : Answer) (text seen : List ℕ) (wrote : List ℕ → Type 0) → answer ≡ Printed text → seen ≡ text → wrote seen → PrintsText answer false wrote
-prints_printed answer text seen wrote is same written = subst (λ a. PrintsText a false wrote) (sym is) record { text = text; prints = accepted; written = subst wrote same written }
-
-prints_refused : (answer : Answer) (text seen : List ℕ) (wrote : List ℕ → Type 0) → answer ≡ Refused text → seen ≡ text → wrote seen → PrintsText answer true wrote
-prints_refused answer text seen wrote is same written = subst (λ a. PrintsText a true wrote) (sym is) record { text = text; prints = refusal; written = subst wrote same written }
-
-pub wrote_printed : (answer : Answer) (text seen : List ℕ) (old new : Option (List ℕ)) → answer ≡ Printed text → seen ≡ text → Adds old new seen → PrintsText answer false (Adds old new) × (false ≡ answers_quit answer)
-wrote_printed answer text seen old new is same written = (prints_printed answer text seen (Adds old new) is same written, sym (ap answers_quit is))
-
-pub wrote_refused : (answer : Answer) (text seen : List ℕ) (old new : Option (List ℕ)) → answer ≡ Refused text → seen ≡ text → Adds old new seen → PrintsText answer true (Adds old new) × (false ≡ answers_quit answer)
-wrote_refused answer text seen old new is same written = (prints_refused answer text seen (Adds old new) is same written, sym (ap answers_quit is))
-
--- a part of the text was written
-cut_short : (reason : SinkFault) (given : Stop) (answer : Answer) (refused : Bool) (old new : Option (List ℕ)) → given ≡ stop_of_sink reason → PrintsText answer refused (AddsPrefix old new) → WritesBy (Err given) answer old new
-cut_short fault.Failed given answer refused old new is printed = subst (λ e. WritesBy (Err e) answer old new) (sym is) (refused, printed)
-cut_short fault.Memory given answer refused old new is printed = subst (λ e. WritesBy (Err e) answer old new) (sym is) (inr (refused, printed))
-
-pub cut_printed : (reason : SinkFault) (given : Stop) (answer : Answer) (text seen : List ℕ) (old new : Option (List ℕ)) → given ≡ stop_of_sink reason → answer ≡ Printed text → seen ≡ text → AddsPrefix old new seen
-    → WritesBy (Err given) answer old new
-cut_printed reason given answer text seen old new from is same written = cut_short reason given answer false old new from (prints_printed answer text seen (AddsPrefix old new) is same written)
-
-pub cut_refused : (reason : SinkFault) (given : Stop) (answer : Answer) (text seen : List ℕ) (old new : Option (List ℕ)) → given ≡ stop_of_sink reason → answer ≡ Refused text → seen ≡ text → AddsPrefix old new seen
-    → WritesBy (Err given) answer old new
-cut_refused reason given answer text seen old new from is same written = cut_short reason given answer true old new from (prints_refused answer text seen (AddsPrefix old new) is same written)
+-- or in part
+pub cut_short : (reason : SinkFault) (given : Stop) (answer said : Answer) (text seen : List ℕ) (refused : Bool) (old new : Option (List ℕ)) → given ≡ stop_of_sink reason → answer ≡ said
+    → Prints said text refused → seen ≡ text → AddsPrefix old new seen → WritesBy (Err given) answer old new
+cut_short fault.Failed given answer said text seen refused old new from is prints same written =
+    subst (λ e. WritesBy (Err e) answer old new) (sym from) (refused, prints_text answer said text seen refused (AddsPrefix old new) is prints same written)
+cut_short fault.Memory given answer said text seen refused old new from is prints same written =
+    subst (λ e. WritesBy (Err e) answer old new) (sym from) (inr (refused, prints_text answer said text seen refused (AddsPrefix old new) is prints same written))

@@ -33,11 +33,6 @@ each_more f lines i d low start s new refused any was old mid written same answe
 
 -- ---- all were answered
 
-pub each_at_end : (refused : Bool) (answer : Status) (lines : List (List ℕ)) (start s : Machine) (wrote : List ℕ → Type 0) → answer ≡ (if refused then SomeRefused else Done)
-    → WritesAnswers start lines refused s wrote → EachOutcome answer lines start s wrote
-each_at_end true answer lines start s wrote is answered = subst (λ a. EachOutcome a lines start s wrote) (sym is) answered
-each_at_end false answer lines start s wrote is answered = subst (λ a. EachOutcome a lines start s wrote) (sym is) answered
-
 pub each_begins : (refused : Bool) (answer : Status) (lines done more : List (List ℕ)) (start s new : Machine) (old written : Option (List ℕ)) → lines ≡ done ++ more
     → WritesAnswers start done refused s (Adds old written) → ((answer ≡ Memory → ⊥) → new ≡ s) → BeginsAnswers start lines answer new (AddsPrefix old written)
 each_begins refused answer lines done more start s new old written front answered stands = record {

@@ -13,12 +13,11 @@ use Rattle.io_face.specs.Told.{Told, told_by}
 use Rattle.moi_run.specs.Answering.{HearsBy, StopsAtFile, WritesBy, is_quit}
 use Rattle.moi_run.specs.Input.{AnswersTaken, AnswersWithinLimits, Ends, PassesLimit}
 use Rattle.moi_run.specs.Run.{FetchFails, HasCause, Outcome}
-use Rattle.moi_run.specs.Status.{status_of, stop_of_read}
+use Rattle.moi_run.specs.Status.{IsEnded, has_refused, status_of, stop_of_read}
 use Rattle.moi_run.specs.declared.reply.Reply.{Reply}
 use Rattle.moi_run.specs.declared.reply.Reply.TheVariants as reply
 use Rattle.moi_run.specs.declared.status.Status.{Status}
 use Rattle.moi_run.specs.declared.status.Status.TheVariants.{Done, Memory, SomeRefused, Usage}
-use Rattle.moi_run.specs.declared.status.Status.TheVariants as status
 use Rattle.moi_run.specs.declared.stop.Stop.{Stop}
 use Rattle.moi_run.specs.declared.stop.Stop.TheVariants as stop
 use Rattle.report_core.specs.declared.answer.Answer.{Answer}
@@ -55,19 +54,24 @@ line_fails result s new line answer old written faults faults' answered wrote ca
     let stopped = stops_by s new line ReadFault (subst (λ a. Answered s line a new) by.0 answered) in
     record { counted = cause by.0; name = stopped.name; missing = stopped.gave }
 
--- the work stopped at a fault of reading
-pub fault_of : (reason : Stop) → status_of reason ≡ status.ReadFault → reason ≡ stop.ReadFault
-fault_of stop.ReadFault is = refl
-fault_of stop.WriteFault is = cc
-fault_of stop.Memory is = cc
-fault_of stop.TooLong is = cc
-
 -- ---- the work ended
+
+-- what holds by whether a line was refused holds by the status
+pub at_end : (P : Status → Type 0) (Q : Bool → Type 0) → (Q false → P Done) → (Q true → P SomeRefused) → (refused : Bool) (answer : Status)
+    → answer ≡ (if refused then SomeRefused else Done) → Q refused → P answer
+at_end P Q none some true answer is h = subst P (sym is) (some h)
+at_end P Q none some false answer is h = subst P (sym is) (none h)
+
+-- and the other way
+pub when_ended : (P : Status → Type 0) (Q : Bool → Type 0) → (P Done → Q false) → (P SomeRefused → Q true) → (end : Status) → IsEnded end → P end → Q (has_refused end)
+when_ended P Q none some Done ended h = none h
+when_ended P Q none some SomeRefused ended h = some h
+when_ended P Q none some _ ended h = absurd ended
 
 pub outcome_at_end : (source shelf : Type 0) (refused : Bool) (answer : Status) (all left : Option (List ℕ)) (start s : Machine) (wrote : List ℕ → Type 0) → answer ≡ (if refused then SomeRefused else Done)
     → IfSome all (λ bytes. Ends bytes left refused start s wrote) → IfSome all (λ bytes. Outcome source shelf answer bytes left start s wrote)
-outcome_at_end source shelf true answer all left start s wrote is ends = subst (λ a. IfSome all (λ bytes. Outcome source shelf a bytes left start s wrote)) (sym is) ends
-outcome_at_end source shelf false answer all left start s wrote is ends = subst (λ a. IfSome all (λ bytes. Outcome source shelf a bytes left start s wrote)) (sym is) ends
+outcome_at_end source shelf refused answer all left start s wrote =
+    at_end (λ a. IfSome all (λ bytes. Outcome source shelf a bytes left start s wrote)) (λ b. IfSome all (λ bytes. Ends bytes left b start s wrote)) (λ h. h) (λ h. h) refused answer
 
 pub no_cause_at_end : (source shelf sink : Type 0) (refused : Bool) (answer : Status) → answer ≡ (if refused then SomeRefused else Done) → HasCause source shelf sink answer
 no_cause_at_end source shelf sink true answer is = subst (HasCause source shelf sink) (sym is) tt
@@ -76,10 +80,6 @@ no_cause_at_end source shelf sink false answer is = subst (HasCause source shelf
 pub no_usage_at_end : (refused : Bool) (answer : Status) → answer ≡ (if refused then SomeRefused else Done) → answer ≡ Usage → ⊥
 no_usage_at_end true answer is usage = cc
 no_usage_at_end false answer is usage = cc
-
-pub no_fault_at_end : (refused : Bool) (answer end : Status) → answer ≡ (if refused then SomeRefused else Done) → answer ≡ end → (end ≡ SomeRefused → ⊥) → (end ≡ Done → ⊥) → ⊥
-no_fault_at_end true answer end is same not_refused not_done = not_refused (sym same ∙ is)
-no_fault_at_end false answer end is same not_refused not_done = not_done (sym same ∙ is)
 
 -- ---- reading stopped
 
@@ -97,11 +97,6 @@ pub cause_at_read : (source shelf sink : Type 0) (reason : ReadStop) (answer : S
 cause_at_read source shelf sink read.ReadFault answer is cause = subst (HasCause source shelf sink) (sym is) (inl (cause refl))
 cause_at_read source shelf sink read.TooLong answer is cause = subst (HasCause source shelf sink) (sym is) tt
 cause_at_read source shelf sink read.Memory answer is cause = subst (HasCause source shelf sink) (sym is) tt
-
-pub no_usage_at_read : (reason : ReadStop) (answer : Status) → answer ≡ status_of (stop_of_read reason) → answer ≡ Usage → ⊥
-no_usage_at_read read.ReadFault answer is usage = cc
-no_usage_at_read read.TooLong answer is usage = cc
-no_usage_at_read read.Memory answer is usage = cc
 
 -- ---- the answer to a line stopped it
 
@@ -124,28 +119,15 @@ cause_at_stop source shelf sink stop.TooLong answer is fetch write = subst (HasC
 
 pub no_usage_at_stop : (reason : Stop) (answer : Status) → answer ≡ status_of reason → answer ≡ Usage → ⊥
 no_usage_at_stop stop.ReadFault answer is usage = cc
-no_usage_at_stop stop.WriteFault answer is usage = cc
-no_usage_at_stop stop.Memory answer is usage = cc
-no_usage_at_stop stop.TooLong answer is usage = cc
+no_usage_at_stop _ answer is usage = cc
 
 -- which reason a status tells
 pub reason_by : (reason : Stop) (answer : Status) → answer ≡ status_of reason → (told : Stop) → answer ≡ status_of told → reason ≡ told
 reason_by stop.ReadFault answer is stop.ReadFault same = refl
-reason_by stop.ReadFault answer is stop.WriteFault same = cc
-reason_by stop.ReadFault answer is stop.Memory same = cc
-reason_by stop.ReadFault answer is stop.TooLong same = cc
-reason_by stop.WriteFault answer is stop.ReadFault same = cc
 reason_by stop.WriteFault answer is stop.WriteFault same = refl
-reason_by stop.WriteFault answer is stop.Memory same = cc
-reason_by stop.WriteFault answer is stop.TooLong same = cc
-reason_by stop.Memory answer is stop.ReadFault same = cc
-reason_by stop.Memory answer is stop.WriteFault same = cc
 reason_by stop.Memory answer is stop.Memory same = refl
-reason_by stop.Memory answer is stop.TooLong same = cc
-reason_by stop.TooLong answer is stop.ReadFault same = cc
-reason_by stop.TooLong answer is stop.WriteFault same = cc
-reason_by stop.TooLong answer is stop.Memory same = cc
 reason_by stop.TooLong answer is stop.TooLong same = refl
+reason_by _ answer is _ same = cc
 
 -- ---- the work goes on
 

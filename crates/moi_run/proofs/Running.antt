@@ -8,7 +8,7 @@ use Rattle.command_words.specs.declared.words.Command.TheVariants.{Check, Plan, 
 use Rattle.command_words.specs.declared.words.Setup.{Setup}
 use Rattle.edit_engine.specs.Held.{Held, machine_of, set_up, state_of}
 use Rattle.edit_engine.specs.Lines.{Answers, Prints, accepted, heard, is_load, next, none, quit, refusal, says_load, silent}
-use Rattle.edit_engine.specs.LinesLaws.{stops_by}
+use Rattle.edit_engine.specs.LinesLaws.{IsStopped, stops_by}
 use Rattle.cache_layer.specs.State.{with_table}
 use Rattle.edit_engine.specs.Script.{Machine, machine_by}
 use Rattle.file_verdict.specs.Verdict.{IsVerdict}
@@ -31,10 +31,12 @@ use Rattle.moi_run.specs.declared.status.Status.TheVariants as status
 use Rattle.moi_run.specs.declared.stop.Stop.{Stop}
 use Rattle.moi_run.specs.declared.stop.Stop.TheVariants as stop
 use Rattle.moi_run.proofs.Completing.{clash}
+use Rattle.moi_run.proofs.Exits.{at_end, when_ended}
 use Rattle.moi_run.proofs.PlanLine.{one_line, plan_loads_nothing}
 use Rattle.moi_run.proofs.RunLemmas.{answers_begun, answers_nothing, any_behind, begun_whole}
 use Rattle.report_core.specs.declared.answer.Answer.{Answer}
 use Rattle.report_core.specs.declared.answer.Answer.TheVariants.{Memory as NoMemory, ReadFault, TooLong}
+use Rattle.script_core.specs.Line.{line_said}
 use Rattle.script_lines.specs.ReadingLaws.{told_weaker}
 
 -- ---- where the shelf stopped the work
@@ -55,43 +57,27 @@ record Unfetched (ls : List (List ℕ)) (shelf : Told) (reason : FetchFault) : T
   asked : Any (LoadsFile name) ls
   gave : MayGive shelf name (Err reason)
 
+unfetched : (s new : Machine) (ls : List (List ℕ)) (wrote : List ℕ → Type 0) (stopped : Answer) (reason : FetchFault) → (stops : StopsAtFile s ls stopped new wrote)
+    → IsStopped stops.after (line_said stops.line) reason new.state → Unfetched ls s.shelf reason
+unfetched s new ls wrote stopped reason stops told = record {
+  name = told.name;
+  asked = subst (Any (LoadsFile told.name)) (sym stops.front) (any_behind (LoadsFile told.name) stops.done stops.line stops.more told.said_so);
+  gave = subst (λ t. MayGive t told.name (Err reason)) (same_shelf stops.answered.answers) told.gave;
+}
+
 unfetched_at_fault : (s new : Machine) (ls : List (List ℕ)) (wrote : List ℕ → Type 0) → StopsAtFile s ls ReadFault new wrote → Unfetched ls s.shelf fetch.Failed
-unfetched_at_fault s new ls wrote stops =
-    let stopped = stops_by stops.after new stops.line ReadFault stops.steps in
-    record {
-      name = stopped.name;
-      asked = subst (Any (LoadsFile stopped.name)) (sym stops.front) (any_behind (LoadsFile stopped.name) stops.done stops.line stops.more stopped.said_so);
-      gave = subst (λ t. MayGive t stopped.name (Err fetch.Failed)) (same_shelf stops.answered.answers) stopped.gave;
-    }
+unfetched_at_fault s new ls wrote stops = unfetched s new ls wrote ReadFault fetch.Failed stops (stops_by stops.after new stops.line ReadFault stops.steps)
 
 unfetched_at_limit : (s new : Machine) (ls : List (List ℕ)) (wrote : List ℕ → Type 0) → StopsAtFile s ls TooLong new wrote → Unfetched ls s.shelf fetch.TooLong
-unfetched_at_limit s new ls wrote stops =
-    let stopped = stops_by stops.after new stops.line TooLong stops.steps in
-    record {
-      name = stopped.name;
-      asked = subst (Any (LoadsFile stopped.name)) (sym stops.front) (any_behind (LoadsFile stopped.name) stops.done stops.line stops.more stopped.said_so);
-      gave = subst (λ t. MayGive t stopped.name (Err fetch.TooLong)) (same_shelf stops.answered.answers) stopped.gave;
-    }
+unfetched_at_limit s new ls wrote stops = unfetched s new ls wrote TooLong fetch.TooLong stops (stops_by stops.after new stops.line TooLong stops.steps)
 
 -- ---- what the outcome says, by the status
 
 ends_by : (source shelf : Type 0) (end : Status) (bytes : List ℕ) (left : Option (List ℕ)) (s new : Machine) (wrote : List ℕ → Type 0) → IsEnded end → Outcome source shelf end bytes left s new wrote → Ends bytes left (has_refused end) s new wrote
-ends_by source shelf status.Done bytes left s new wrote ended outcome = outcome
-ends_by source shelf status.SomeRefused bytes left s new wrote ended outcome = outcome
-ends_by source shelf status.Usage bytes left s new wrote ended outcome = absurd ended
-ends_by source shelf status.ReadFault bytes left s new wrote ended outcome = absurd ended
-ends_by source shelf status.WriteFault bytes left s new wrote ended outcome = absurd ended
-ends_by source shelf status.Memory bytes left s new wrote ended outcome = absurd ended
-ends_by source shelf status.TooLong bytes left s new wrote ended outcome = absurd ended
+ends_by source shelf end bytes left s new wrote = when_ended (λ e. Outcome source shelf e bytes left s new wrote) (λ b. Ends bytes left b s new wrote) (λ o. o) (λ o. o) end
 
 each_ends_by : (end : Status) (ls : List (List ℕ)) (s new : Machine) (wrote : List ℕ → Type 0) → IsEnded end → EachOutcome end ls s new wrote → WritesAnswers s ls (has_refused end) new wrote
-each_ends_by status.Done ls s new wrote ended outcome = outcome
-each_ends_by status.SomeRefused ls s new wrote ended outcome = outcome
-each_ends_by status.Usage ls s new wrote ended outcome = absurd ended
-each_ends_by status.ReadFault ls s new wrote ended outcome = absurd ended
-each_ends_by status.WriteFault ls s new wrote ended outcome = absurd ended
-each_ends_by status.Memory ls s new wrote ended outcome = absurd ended
-each_ends_by status.TooLong ls s new wrote ended outcome = absurd ended
+each_ends_by end ls s new wrote = when_ended (λ e. EachOutcome e ls s new wrote) (λ b. WritesAnswers s ls b new wrote) (λ o. o) (λ o. o) end
 
 -- what is told of the lines, from what is told of the bytes
 told_lines : (Q : List (List ℕ) → Type 0) (left : Option (List ℕ)) → IfSome left (λ bytes. Q (heard (lines bytes))) → IfSome (option_map (λ bytes. heard (lines bytes)) left) Q
@@ -221,13 +207,8 @@ nothing_begun old = (0, omega arith, Adds-empty old)
 
 check_ends_by : (end : Status) (shelf : Told) (faults faults' : ℕ) (model certificate : List ℕ) (old new : Option (List ℕ)) → IsEnded end → CheckOutcome end shelf faults faults' model certificate old new
     → WritesVerdict shelf model certificate (has_refused end) (Adds old new)
-check_ends_by status.Done shelf faults faults' model certificate old new ended outcome = outcome
-check_ends_by status.SomeRefused shelf faults faults' model certificate old new ended outcome = outcome
-check_ends_by status.Usage shelf faults faults' model certificate old new ended outcome = absurd ended
-check_ends_by status.ReadFault shelf faults faults' model certificate old new ended outcome = absurd ended
-check_ends_by status.WriteFault shelf faults faults' model certificate old new ended outcome = absurd ended
-check_ends_by status.Memory shelf faults faults' model certificate old new ended outcome = absurd ended
-check_ends_by status.TooLong shelf faults faults' model certificate old new ended outcome = absurd ended
+check_ends_by end shelf faults faults' model certificate old new =
+    when_ended (λ e. CheckOutcome e shelf faults faults' model certificate old new) (λ b. WritesVerdict shelf model certificate b (Adds old new)) (λ o. o) (λ o. o) end
 
 verdict_begun : (shelf : Told) (model certificate : List ℕ) (refused : Bool) (old new : Option (List ℕ)) → WritesVerdict shelf model certificate refused (Adds old new) → WritesVerdict shelf model certificate refused (AddsPrefix old new)
 verdict_begun shelf model certificate refused old new writes = record {
@@ -275,10 +256,9 @@ runs_check model certificate end left left' shelf faults faults' source s new ol
 
 pub check_written : (refused : Bool) (end : Status) (shelf : Told) (faults faults' : ℕ) (model certificate : List ℕ) (answer : Answer) (was : Bool) (old new : Option (List ℕ)) → end ≡ (if refused then status.SomeRefused else status.Done) → refused ≡ was
     → IsVerdict shelf model certificate answer → PrintsText answer was (Adds old new) → CheckOutcome end shelf faults faults' model certificate old new
-check_written true end shelf faults faults' model certificate answer was old new is same verdict printed = subst (λ e. CheckOutcome e shelf faults faults' model certificate old new) (sym is)
-    record { answer = answer; verdict = verdict; printed = subst (λ b. PrintsText answer b (Adds old new)) (sym same) printed }
-check_written false end shelf faults faults' model certificate answer was old new is same verdict printed = subst (λ e. CheckOutcome e shelf faults faults' model certificate old new) (sym is)
-    record { answer = answer; verdict = verdict; printed = subst (λ b. PrintsText answer b (Adds old new)) (sym same) printed }
+check_written refused end shelf faults faults' model certificate answer was old new is same verdict printed =
+    at_end (λ e. CheckOutcome e shelf faults faults' model certificate old new) (λ b. WritesVerdict shelf model certificate b (Adds old new)) (λ w. w) (λ w. w) refused end is
+    (record { answer = answer; verdict = verdict; printed = subst (λ b. PrintsText answer b (Adds old new)) (sym same) printed })
 
 -- an answer that prints, or stops the work otherwise, isn't want of memory
 prints_memory : {answer : Answer} {text : List ℕ} {was : Bool} → Prints answer text was → answer ≢ NoMemory
@@ -384,14 +364,10 @@ plan_fetches_nothing end s new wrote = no_fetch (codes "plan" ∷ []) end s new 
 
 -- ---- by the words
 
--- what holds of the command that the words say
-pub said_runs : {said : Option Command} {command : Command} {end : Status} {left left' : Option (List ℕ)} {shelf : Told} {source fetch : Type 0} {s new : Machine} {wrote begun : List ℕ → Type 0}
-    → Some command ≡ said → Runs (Some command) end left left' shelf source fetch s new wrote begun → Runs said end left left' shelf source fetch s new wrote begun
-said_runs {said} {command} {end} {left} {left'} {shelf} {source} {fetch} {s} {new} {wrote} {begun} is runs = subst (λ which. Runs which end left left' shelf source fetch s new wrote begun) is runs
-
-pub said_nothing : {said : Option Command} {end : Status} {left left' : Option (List ℕ)} {shelf : Told} {source fetch : Type 0} {s new : Machine} {wrote begun : List ℕ → Type 0}
-    → None ≡ said → Runs None end left left' shelf source fetch s new wrote begun → Runs said end left left' shelf source fetch s new wrote begun
-said_nothing {said} {end} {left} {left'} {shelf} {source} {fetch} {s} {new} {wrote} {begun} is runs = subst (λ which. Runs which end left left' shelf source fetch s new wrote begun) is runs
+-- what holds of a command holds of the one that the words say
+pub said_runs : {said other : Option Command} {end : Status} {left left' : Option (List ℕ)} {shelf : Told} {source fetch : Type 0} {s new : Machine} {wrote begun : List ℕ → Type 0}
+    → other ≡ said → Runs other end left left' shelf source fetch s new wrote begun → Runs said end left left' shelf source fetch s new wrote begun
+said_runs {said} {other} {end} {left} {left'} {shelf} {source} {fetch} {s} {new} {wrote} {begun} is runs = subst (λ which. Runs which end left left' shelf source fetch s new wrote begun) is runs
 
 -- whether the words are of a command
 pub usage_at_command : (end : Status) (command : Command) (said : Option Command) → Some command ≡ said → end ≢ status.Usage → (end ≡ status.Usage) ↔ (said ≡ None)

@@ -1,9 +1,6 @@
-use Rattle.std.specs.Prelude.{IfOk, map}
+use Rattle.std.specs.Prelude.{map}
 use Rattle.std.proofs.Common.{subst, sym}
-use Rattle.certificates.specs.Good.{Good}
 use Rattle.equality_form.specs.ReadBack.{infeasible, optimal, unbounded}
-use Rattle.equality_form.specs.Right.{IsRight}
-use Rattle.fresh_bridging.specs.FreshBridging.{leaves_of}
 use Rattle.solver_store.specs.declared.answer.LeafAnswer.{LeafAnswer}
 use Rattle.std_form.specs.Answers.{answer_of}
 use Rattle.tree_laws.specs.Certificate.{infeasible_duals, optimal_duals}
@@ -11,7 +8,6 @@ use Rattle.adjoint_core.specs.CanCarry.{CanCarry}
 use Rattle.adjoint_core.specs.CarriedBack.{CarriesBack}
 use Rattle.adjoint_core.specs.Read.{duals_by, numbers_by}
 use Rattle.adjoint_core.proofs.CarriedOver.{good_if_ok, infeasible_told, optimal_told, unbounded_told}
-use Rattle.adjoint_core.proofs.Moved.{move1}
 use Rattle.adjoint_core.proofs.RowDuals.{rows_carried}
 use Rattle.adjoint_core.proofs.carrying.carry_back.Goals as goal
 
@@ -23,8 +19,8 @@ optimal-requires g c =
     let y = duals_by places c.in-Optimal.y in
     let now = optimal (numbers_by places c.in-Optimal.x) y in
     let can : CanCarry states places m now =
-    move1 (λ (a : LeafAnswer). CanCarry states places m (answer_of places a)) c.requires
-    c.in-Optimal.is in
+    subst (λ (a : LeafAnswer). CanCarry states places m (answer_of places a)) c.in-Optimal.is
+    c.requires in
     (rows_carried states places m now can c.objective-valid.ensures.valid
     (optimal_duals can.bridging y) can.duals).within
 
@@ -36,8 +32,8 @@ infeasible-requires g c =
     let y = duals_by places c.in-Infeasible.y in
     let now = infeasible y in
     let can : CanCarry states places m now =
-    move1 (λ (a : LeafAnswer). CanCarry states places m (answer_of places a)) c.requires
-    c.in-Infeasible.is in
+    subst (λ (a : LeafAnswer). CanCarry states places m (answer_of places a)) c.in-Infeasible.is
+    c.requires in
     (rows_carried states places m now can c.objective-valid.ensures.valid
     (infeasible_duals can.bridging y) can.duals).within
 
@@ -55,19 +51,10 @@ returns-in-Optimal-clause-carried g c =
     can.duals x r c.optimal.ensures)
 
 pub returns-in-Optimal-clause-right : goal.returns-in-Optimal-clause-right
-returns-in-Optimal-clause-right g c =
-    let states = map g.B.Bridge.state c.args.bridges.now in
-    let places = c.args.map.now in
-    let m = c.args.model.now.model in
-    let r = c.optimal.result in
-    let x = numbers_by places c.in-Optimal.x in
-    let y = duals_by places c.in-Optimal.y in
-    subst (λ (a : LeafAnswer). (can : CanCarry states places m (answer_of places a))
-    → IsRight (leaves_of can.bridging) (answer_of places a) → IfOk r (Good m))
-    (sym c.in-Optimal.is)
-    (λ can right. good_if_ok states places m (optimal x y) can c.objective-valid.ensures.valid r
-    (optimal_told states places m (optimal x y) can c.objective-valid.ensures.valid y
-    can.duals x r c.optimal.ensures) right)
+returns-in-Optimal-clause-right g c can right =
+    good_if_ok (map g.B.Bridge.state c.args.bridges.now) c.args.map.now c.args.model.now.model
+    (answer_of c.args.map.now c.args.a.now) can c.objective-valid.ensures.valid c.optimal.result
+    (returns-in-Optimal-clause-carried g c can) right
 
 pub returns-in-Infeasible-clause-carried : goal.returns-in-Infeasible-clause-carried
 returns-in-Infeasible-clause-carried g c =
@@ -82,18 +69,10 @@ returns-in-Infeasible-clause-carried g c =
     can.duals r c.infeasible.ensures)
 
 pub returns-in-Infeasible-clause-right : goal.returns-in-Infeasible-clause-right
-returns-in-Infeasible-clause-right g c =
-    let states = map g.B.Bridge.state c.args.bridges.now in
-    let places = c.args.map.now in
-    let m = c.args.model.now.model in
-    let r = c.infeasible.result in
-    let y = duals_by places c.in-Infeasible.y in
-    subst (λ (a : LeafAnswer). (can : CanCarry states places m (answer_of places a))
-    → IsRight (leaves_of can.bridging) (answer_of places a) → IfOk r (Good m))
-    (sym c.in-Infeasible.is)
-    (λ can right. good_if_ok states places m (infeasible y) can c.objective-valid.ensures.valid r
-    (infeasible_told states places m (infeasible y) can c.objective-valid.ensures.valid y
-    can.duals r c.infeasible.ensures) right)
+returns-in-Infeasible-clause-right g c can right =
+    good_if_ok (map g.B.Bridge.state c.args.bridges.now) c.args.map.now c.args.model.now.model
+    (answer_of c.args.map.now c.args.a.now) can c.objective-valid.ensures.valid c.infeasible.result
+    (returns-in-Infeasible-clause-carried g c can) right
 
 pub returns-in-Unbounded-clause-carried : goal.returns-in-Unbounded-clause-carried
 returns-in-Unbounded-clause-carried g c =
@@ -109,16 +88,7 @@ returns-in-Unbounded-clause-carried g c =
     r c.unbounded.ensures)
 
 pub returns-in-Unbounded-clause-right : goal.returns-in-Unbounded-clause-right
-returns-in-Unbounded-clause-right g c =
-    let states = map g.B.Bridge.state c.args.bridges.now in
-    let places = c.args.map.now in
-    let m = c.args.model.now.model in
-    let r = c.unbounded.result in
-    let x = numbers_by places c.in-Unbounded.x in
-    let d = numbers_by places c.in-Unbounded.d in
-    subst (λ (a : LeafAnswer). (can : CanCarry states places m (answer_of places a))
-    → IsRight (leaves_of can.bridging) (answer_of places a) → IfOk r (Good m))
-    (sym c.in-Unbounded.is)
-    (λ can right. good_if_ok states places m (unbounded x d) can c.objective-valid.ensures.valid r
-    (unbounded_told states places m (unbounded x d) can c.objective-valid.ensures.valid x d
-    r c.unbounded.ensures) right)
+returns-in-Unbounded-clause-right g c can right =
+    good_if_ok (map g.B.Bridge.state c.args.bridges.now) c.args.map.now c.args.model.now.model
+    (answer_of c.args.map.now c.args.a.now) can c.objective-valid.ensures.valid c.unbounded.result
+    (returns-in-Unbounded-clause-carried g c can) right

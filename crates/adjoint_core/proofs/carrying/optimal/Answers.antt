@@ -1,8 +1,8 @@
 use Rattle.std.specs.Prelude.{◌≡◌, List, All, map}
-use Rattle.std.proofs.Common.{◌∙◌, ap, rules}
+use Rattle.std.proofs.Common.{◌∙◌, ap, inl, inr, rules, subst}
 use Rattle.ratio_core.specs.Rational.{Rational, one_ℚ, zero_ℚ}
 use Rattle.aff_core.specs.Address.{Address}
-use Rattle.aff_core.specs.Function.{coefficient, evaluated}
+use Rattle.aff_core.specs.Function.{coefficient}
 use Rattle.cert_core.specs.Folds.{AddUp, CostFits, EvaluationFits, ObjectiveFits, adjoint_parts}
 use Rattle.certificates.specs.Duals.{reduced_cost, rows_with}
 use Rattle.certificates.specs.Points.{objective_function, objective_value, sense_of}
@@ -14,8 +14,7 @@ use Rattle.adjoint_core.specs.Read.{duals_by, expression_at, numbers_by}
 use Rattle.adjoint_core.specs.Told.{FirstNot}
 use Rattle.adjoint_core.specs.Walk.{IsUnfitAmong, RowDualFits, row_dual}
 use Rattle.adjoint_core.proofs.InOrder.{told_on}
-use Rattle.adjoint_core.proofs.Moved.{move1, move2, move4, point_is}
-use Rattle.adjoint_core.proofs.OptimalSteps.{first_step, last_step, third_step}
+use Rattle.adjoint_core.proofs.Moved.{RowsTold, ValuesTold, move2, move4, point_is}
 use Rattle.adjoint_core.proofs.carrying.optimal.Goals as goal
 
 pub returns-in_err-x : goal.returns-in_err-x
@@ -31,7 +30,7 @@ returns-in_err-x g c =
     told_on c.from_residual-in_err-x.result c.in_err-x.field-0.0 _
     (OptimalFits m duals Fit Unfit f x) _ _ _ (IsUnfitOptimal m duals Fit Unfit f x)
     c.from_residual-in_err-x.ensures.1 c.in_err-x.ensures
-    (λ at h. first_step m duals Fit Unfit f x at
+    (λ at h. inl
     (move2 (λ (us : List Address) (p : Address → Rational).
     FirstNot (λ v. EvaluationFits one_ℚ (f v) p) (λ v. v) us at)
     h (search rules) (c.point.ensures ∙ c.in_ok-leaf.ensures)))
@@ -46,23 +45,25 @@ returns-in_err-vars g c =
     let duals = map (row_dual states leaf) m.rows in
     let Fit = All (RowDualFits states leaf) m.rows in
     let Unfit = IsUnfitAmong states leaf m.rows in
-    let here = move2 (λ (us : List Address) (p : Address → Rational).
-    All (λ v. EvaluationFits one_ℚ (f v) p) us
-    × (c.in_ok-x.x.items ≡ map (λ v. evaluated one_ℚ (f v) p) us)) c.in_ok-x.ensures
-    (search rules) (c.point.ensures ∙ c.in_ok-leaf.ensures) in
-    let fit = move1 (λ (rs : List Row). All (RowDualFits states leaf) rs) c.in_ok-rows.ensures.0
-    c.rows.ensures.value in
-    let duals_here : c.in_ok-rows.rows.items ≡ duals =
-    c.in_ok-rows.ensures.1 ∙ ap (map (row_dual states leaf)) c.rows.ensures.value in
+    let here = move2 (ValuesTold f c.in_ok-x.x.items) c.in_ok-x.ensures (search rules)
+    (c.point.ensures ∙ c.in_ok-leaf.ensures) in
+    let rows = subst (RowsTold states leaf c.in_ok-rows.rows.items) c.rows.ensures.value
+    c.in_ok-rows.ensures in
     told_on c.from_residual-in_err-vars.result c.in_err-vars.field-0.0 _
     (OptimalFits m duals Fit Unfit f x) _ _ _ (IsUnfitOptimal m duals Fit Unfit f x)
     c.from_residual-in_err-vars.ensures.1 c.in_err-vars.ensures
-    (λ at h. third_step m duals Fit Unfit f x at here.0 fit
-    (move4 (λ (us : List Address) (rs : List Row) (ys : List (List Rational)) (o : Objective).
-    FirstNot (λ v. AddUp zero_ℚ (adjoint_parts (rows_with ys rs) v)
-    × CostFits (sense_of o) (coefficient (objective_function o) v) (adjoint (rows_with ys rs) v))
-    (λ v. v) us at) h (search rules) c.rows-2.ensures.value (c.deref.ensures.value ∙ duals_here)
-    c.objective.ensures.value))
+    (λ at h. inr (
+      here.0,
+      inr (
+        rows.0,
+        inl
+            (move4 (λ (us : List Address) (rs : List Row) (ys : List (List Rational)) (o : Objective).
+            FirstNot (λ v. AddUp zero_ℚ (adjoint_parts (rows_with ys rs) v)
+            × CostFits (sense_of o) (coefficient (objective_function o) v) (adjoint (rows_with ys rs) v))
+            (λ v. v) us at) h (search rules) c.rows-2.ensures.value (c.deref.ensures.value ∙ rows.1)
+            c.objective.ensures.value),
+      ),
+    ))
 
 pub returns-in_err-value : goal.returns-in_err-value
 returns-in_err-value g c =
@@ -74,28 +75,33 @@ returns-in_err-value g c =
     let duals = map (row_dual states leaf) m.rows in
     let Fit = All (RowDualFits states leaf) m.rows in
     let Unfit = IsUnfitAmong states leaf m.rows in
-    let here = move2 (λ (us : List Address) (p : Address → Rational).
-    All (λ v. EvaluationFits one_ℚ (f v) p) us
-    × (c.in_ok-x.x.items ≡ map (λ v. evaluated one_ℚ (f v) p) us)) c.in_ok-x.ensures
-    (search rules) (c.point.ensures ∙ c.in_ok-leaf.ensures) in
-    let fit = move1 (λ (rs : List Row). All (RowDualFits states leaf) rs) c.in_ok-rows.ensures.0
-    c.rows.ensures.value in
-    let duals_here : c.in_ok-rows.rows.items ≡ duals =
-    c.in_ok-rows.ensures.1 ∙ ap (map (row_dual states leaf)) c.rows.ensures.value in
+    let here = move2 (ValuesTold f c.in_ok-x.x.items) c.in_ok-x.ensures (search rules)
+    (c.point.ensures ∙ c.in_ok-leaf.ensures) in
+    let rows = subst (RowsTold states leaf c.in_ok-rows.rows.items) c.rows.ensures.value
+    c.in_ok-rows.ensures in
     let costs = move4 (λ (us : List Address) (rs : List Row) (ys : List (List Rational))
     (o : Objective). All (λ v. AddUp zero_ℚ (adjoint_parts (rows_with ys rs) v)
     × CostFits (sense_of o) (coefficient (objective_function o) v) (adjoint (rows_with ys rs) v)) us
     × (c.in_ok-vars.vars.items ≡ map (λ v. reduced_cost (sense_of o)
     (coefficient (objective_function o) v) (adjoint (rows_with ys rs) v)) us)) c.in_ok-vars.ensures
-    (search rules) c.rows-2.ensures.value (c.deref.ensures.value ∙ duals_here) c.objective.ensures.value in
+    (search rules) c.rows-2.ensures.value (c.deref.ensures.value ∙ rows.1) c.objective.ensures.value in
     let point_here : c.in_ok-x.x.items ≡ point m f x = here.1 ∙ point_is m f x in
     told_on c.from_residual-in_err-value.result c.in_err-value.field-0.0 _
     (OptimalFits m duals Fit Unfit f x) _ _ _ (IsUnfitOptimal m duals Fit Unfit f x)
     c.from_residual-in_err-value.ensures.1 c.in_err-value.ensures
-    (λ at h. last_step m duals Fit Unfit f x at here.0 fit costs.0 (
-      move1 (λ (xs : List Rational). ¬ (ObjectiveFits m one_ℚ xs)) h.0
-          (c.deref-2.ensures.value ∙ point_here),
-      h.1,
+    (λ at h. inr (
+      here.0,
+      inr (
+        rows.0,
+        inr (
+          costs.0,
+          (
+            subst (λ (xs : List Rational). ¬ (ObjectiveFits m one_ℚ xs))
+                (c.deref-2.ensures.value ∙ point_here) h.0,
+            h.1,
+          ),
+        ),
+      ),
     ))
 
 pub returns : goal.returns
@@ -108,25 +114,22 @@ returns g c =
     let duals = map (row_dual states leaf) m.rows in
     let Fit = All (RowDualFits states leaf) m.rows in
     let Unfit = IsUnfitAmong states leaf m.rows in
-    let here = move2 (λ (us : List Address) (p : Address → Rational).
-    All (λ v. EvaluationFits one_ℚ (f v) p) us
-    × (c.in_ok-x.x.items ≡ map (λ v. evaluated one_ℚ (f v) p) us)) c.in_ok-x.ensures
-    (search rules) (c.point.ensures ∙ c.in_ok-leaf.ensures) in
-    let fit = move1 (λ (rs : List Row). All (RowDualFits states leaf) rs) c.in_ok-rows.ensures.0
-    c.rows.ensures.value in
-    let duals_here : c.in_ok-rows.rows.items ≡ duals =
-    c.in_ok-rows.ensures.1 ∙ ap (map (row_dual states leaf)) c.rows.ensures.value in
+    let here = move2 (ValuesTold f c.in_ok-x.x.items) c.in_ok-x.ensures (search rules)
+    (c.point.ensures ∙ c.in_ok-leaf.ensures) in
+    let rows = subst (RowsTold states leaf c.in_ok-rows.rows.items) c.rows.ensures.value
+    c.in_ok-rows.ensures in
     let costs = move4 (λ (us : List Address) (rs : List Row) (ys : List (List Rational))
     (o : Objective). All (λ v. AddUp zero_ℚ (adjoint_parts (rows_with ys rs) v)
     × CostFits (sense_of o) (coefficient (objective_function o) v) (adjoint (rows_with ys rs) v)) us
     × (c.in_ok-vars.vars.items ≡ map (λ v. reduced_cost (sense_of o)
     (coefficient (objective_function o) v) (adjoint (rows_with ys rs) v)) us)) c.in_ok-vars.ensures
-    (search rules) c.rows-2.ensures.value (c.deref.ensures.value ∙ duals_here) c.objective.ensures.value in
+    (search rules) c.rows-2.ensures.value (c.deref.ensures.value ∙ rows.1) c.objective.ensures.value in
     let point_here : c.in_ok-x.x.items ≡ point m f x = here.1 ∙ point_is m f x in
     let whole : c.deref-2.result.now ≡ point m f x = c.deref-2.ensures.value ∙ point_here in
     let value : c.in_ok-value.value ≡ objective_value m (point m f x) =
     c.in_ok-value.ensures.1 ∙ ap (objective_value m) whole in
+    let duals_here : c.in_ok-rows.rows.items ≡ duals = rows.1 in
     let vars : c.in_ok-vars.vars.items ≡ reduced m duals = costs.1 in (
-      (here.0, (fit, (costs.0, move1 (ObjectiveFits m one_ℚ) c.in_ok-value.ensures.0 whole))),
+      (here.0, (rows.0, (costs.0, subst (ObjectiveFits m one_ℚ) whole c.in_ok-value.ensures.0))),
       (cc (value, point_here, duals_here, vars)),
     )

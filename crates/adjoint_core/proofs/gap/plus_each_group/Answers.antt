@@ -19,14 +19,14 @@ returns-in_err-sum c = λ w is.
     let next = next_item gs i g c.group-item.is c.loop-group-test.true in
     let front = c.split_at.ensures.front ∙ ap (λ n. take n c.loop-group.left.now) c.len.ensures in
     let own = own_is c.args.of_rows.now c.loop-group.sum gs (drop i gs) (drop (i + 1) gs)
-    c.args.duals.now c.loop-group.left.now g c.loop-group.invariant next w is ∙ sym front in
+    c.args.duals.now c.loop-group.left.now g c.loop-group.invariant next w is in
     told_on c.from_residual.result c.in_err-sum.field-0.0
     (AddUp c.loop-group.sum (gap_parts_of (group_with w g)))
     (GapFits c.args.of_rows.now (zip (map group_place gs) (groups_with w gs)))
     (λ q. q ≡ sum_from c.args.of_rows.now (gap_parts (groups_with w gs)))
     (λ q. q ≡ sum_from c.loop-group.sum (gap_parts_of (group_with w g))) _
     (UnfitGap c.args.of_rows.now (zip (map group_place gs) (groups_with w gs)))
-    c.from_residual.ensures.1 (c.in_err-sum.ensures w own)
+    c.from_residual.ensures.1 (c.in_err-sum.ensures w (sym (front ∙ own)))
     (groups_gap_refused c.args.of_rows.now c.loop-group.sum gs (drop i gs) (drop (i + 1) gs)
     c.args.duals.now c.loop-group.left.now g c.loop-group.invariant next w is)
 
@@ -42,7 +42,7 @@ loop-group-preserved c =
     (sym back)
     (groups_gap_step c.args.of_rows.now c.loop-group.sum gs (drop i gs) (drop (i + 1) gs)
     c.args.duals.now c.loop-group.left.now g c.loop-group.invariant next c.in_ok-sum.sum
-    (λ w own. c.in_ok-sum.ensures w (own ∙ sym front)))
+    (λ w own. c.in_ok-sum.ensures w (sym (front ∙ own))))
 
 pub returns : goal.returns
 returns c = λ w is.

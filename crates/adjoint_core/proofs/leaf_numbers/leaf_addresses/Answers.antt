@@ -1,12 +1,13 @@
 use Rattle.std.specs.Prelude.{◌++◌, ◌∷◌, []}
 use Rattle.std.specs.FinMap as finite
 use Rattle.std.proofs.Common.{◌∙◌, ap, arith, sym}
-use Rattle.adjoint_core.proofs.Spread.{not_past, take_there}
+use Rattle.map_laws.specs.PlaceLaws.{none_past}
+use Rattle.adjoint_core.proofs.Spread.{take_there}
 use Rattle.adjoint_core.proofs.leaf_numbers.leaf_addresses.Goals as goal
 
 pub unreachable-requires : goal.unreachable-requires
 unreachable-requires c =
-    not_past (finite.keys c.args.places.now.vars.indices) c.loop-n.n (sym c.in_default.ensures)
+    none_past c.loop-n.n (finite.keys c.args.places.now.vars.indices) (sym c.in_default.ensures)
     (omega (arith, c.var_count-n-end.ensures, c.loop-n-test.true))
 
 pub loop-n-preserved : goal.loop-n-preserved

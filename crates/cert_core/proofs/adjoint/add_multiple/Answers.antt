@@ -3,13 +3,13 @@ use Rattle.std.specs.Bool.{passes}
 use Rattle.std.proofs.Common.{drop, subst}
 use Rattle.std.proofs.Math.ListN.{drop_of_length-le}
 use Rattle.ratio_core.specs.Rational.{◌*ℚ◌}
+use Rattle.ratio_core.specs.AnsweredLaws.{passed_on}
 use Rattle.map_laws.specs.EntryLaws.{is_sorted-drop}
 use Rattle.aff_core.specs.Address.{address_cmp}
 use Rattle.aff_core.specs.Terms.{StepFits}
 use Rattle.cert_core.specs.Adding.{coefficient_among}
 use Rattle.cert_core.specs.Folds.{AddUp}
 use Rattle.cert_core.proofs.Adding.{TermsAsAll, terms_end, terms_fit, terms_step}
-use Rattle.cert_core.proofs.Answered.{passed_on}
 use Rattle.cert_core.proofs.Steps.{next_item}
 use Rattle.cert_core.proofs.adjoint.add_multiple.Goals as goal
 

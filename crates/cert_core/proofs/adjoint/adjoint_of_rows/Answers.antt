@@ -3,10 +3,10 @@ use Rattle.std.proofs.Common.{◌∙◌, ap, sym}
 use Rattle.std.proofs.lemmas.List.{length-map}
 use Rattle.ratio_core.specs.Folds.{sum_from}
 use Rattle.ratio_core.specs.Rational.{zero_ℚ}
+use Rattle.ratio_core.specs.AnsweredLaws.{passed_on}
 use Rattle.rational_laws.specs.Fitting.{Fits_zero}
 use Rattle.certificates.specs.Duals.{rows_with}
 use Rattle.cert_core.specs.Folds.{AddUp, adjoint_parts}
-use Rattle.cert_core.proofs.Answered.{passed_on}
 use Rattle.cert_core.proofs.Steps.{written_back}
 use Rattle.cert_core.proofs.adjoint.adjoint_of_rows.Goals as goal
 

@@ -1,10 +1,14 @@
+use mathlib.Core.Path.{transport}
 use Rattle.std.specs.Prelude.{length}
 use Rattle.std.proofs.Common.{◌∙◌, ap, subst, sym, true≢false}
 use Rattle.user_model.specs.declared.undo.NextNumbers.{NextNumbers}
 use Rattle.certificates.specs.declared.certificate.Certificate.TheVariants.{Optimal, Infeasible, Unbounded}
+use Rattle.certificates.specs.Good.{IsInfeasible, IsOptimal, IsUnbounded}
+use Rattle.cert_core.specs.Answers.{TellsWhere}
 use Rattle.cert_core.specs.Checked.{Checks, HasEntries, HasRowDuals, model_of}
+use Rattle.cert_core.specs.Folds.{InfeasibleFits, OptimalFits, UnboundedFits}
 use Rattle.cert_core.proofs.Assembled.{ready, variable_count}
-use Rattle.cert_core.proofs.Judged.{checks_told, good_entries, infeasible_told, optimal_told, unbounded_told}
+use Rattle.cert_core.proofs.Judged.{checks_told, good_entries}
 use Rattle.cert_core.proofs.checking.check.Goals as goal
 
 -- whatever numbers are next
@@ -52,15 +56,16 @@ pub returns-in-Optimal : goal.returns-in-Optimal
 returns-in-Optimal c = λ next.
     let model = model_of c.args.groups.now c.args.rows.now c.args.objective.now next in
     let r = c.is_optimal.result in
+    let x = c.as_slice-in-Optimal-2.ensures in
+    let ys = c.as_slice.ensures in
+    let vs = c.as_slice-in-Optimal.ensures in
     let entries = (c.has_entries.ensures next).0 c.if-not-has_entries.false in
     subst (Checks model r) (sym c.in-Optimal.is)
     (checks_told model r
     (Optimal c.in-Optimal.value c.in-Optimal.x c.in-Optimal.rows c.in-Optimal.vars)
     (subst (HasEntries model) c.in-Optimal.is entries)
-    (optimal_told model r c.in-Optimal.value c.in-Optimal.x c.as_slice-in-Optimal-2.result.now
-    c.in-Optimal.rows c.as_slice.result.now c.in-Optimal.vars c.as_slice-in-Optimal.result.now
-    c.as_slice-in-Optimal-2.ensures c.as_slice.ensures c.as_slice-in-Optimal.ensures
-    (c.is_optimal.ensures next)))
+    (transport (λ i. TellsWhere r (OptimalFits model (x i) (ys i) (vs i))
+    (IsOptimal model c.in-Optimal.value (x i) (ys i) (vs i))) (c.is_optimal.ensures next)))
 
 pub is_infeasible-requires-clause-ready : goal.is_infeasible-requires-clause-ready
 is_infeasible-requires-clause-ready c =
@@ -84,14 +89,14 @@ pub returns-in-Infeasible : goal.returns-in-Infeasible
 returns-in-Infeasible c = λ next.
     let model = model_of c.args.groups.now c.args.rows.now c.args.objective.now next in
     let r = c.is_infeasible.result in
+    let ys = c.as_slice-in-Infeasible.ensures in
+    let vs = c.as_slice-in-Infeasible-2.ensures in
     let entries = (c.has_entries.ensures next).0 c.if-not-has_entries.false in
     subst (Checks model r) (sym c.in-Infeasible.is)
     (checks_told model r (Infeasible c.in-Infeasible.gap c.in-Infeasible.rows c.in-Infeasible.vars)
     (subst (HasEntries model) c.in-Infeasible.is entries)
-    (infeasible_told model r c.in-Infeasible.gap c.in-Infeasible.rows
-    c.as_slice-in-Infeasible.result.now c.in-Infeasible.vars c.as_slice-in-Infeasible-2.result.now
-    c.as_slice-in-Infeasible.ensures c.as_slice-in-Infeasible-2.ensures
-    (c.is_infeasible.ensures next)))
+    (transport (λ i. TellsWhere r (InfeasibleFits model (ys i) (vs i))
+    (IsInfeasible model c.in-Infeasible.gap (ys i) (vs i))) (c.is_infeasible.ensures next)))
 
 pub is_unbounded-requires-clause-ready : goal.is_unbounded-requires-clause-ready
 is_unbounded-requires-clause-ready c =
@@ -116,10 +121,11 @@ pub returns : goal.returns
 returns c = λ next.
     let model = model_of c.args.groups.now c.args.rows.now c.args.objective.now next in
     let r = c.is_unbounded.result in
+    let x = c.as_slice-in-Unbounded.ensures in
+    let d = c.as_slice-in-Unbounded-2.ensures in
     let entries = (c.has_entries.ensures next).0 c.if-not-has_entries.false in
     subst (Checks model r) (sym c.in-Unbounded.is)
     (checks_told model r (Unbounded c.in-Unbounded.x c.in-Unbounded.d)
     (subst (HasEntries model) c.in-Unbounded.is entries)
-    (unbounded_told model r c.in-Unbounded.x c.as_slice-in-Unbounded.result.now c.in-Unbounded.d
-    c.as_slice-in-Unbounded-2.result.now c.as_slice-in-Unbounded.ensures
-    c.as_slice-in-Unbounded-2.ensures (c.is_unbounded.ensures next)))
+    (transport (λ i. TellsWhere r (UnboundedFits model (x i) (d i)) (IsUnbounded model (x i) (d i)))
+    (c.is_unbounded.ensures next)))

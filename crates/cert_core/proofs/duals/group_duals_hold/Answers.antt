@@ -1,20 +1,18 @@
-use Rattle.std.specs.Prelude.{◌≡◌, ◌+◌, ◌↔◌, IsTrue, All, length, map, take}
-use Rattle.std.proofs.Common.{◌∙◌, ap, drop, subst, sym}
+use Rattle.std.specs.Prelude.{◌+◌, ◌&&◌, ◌↔◌, IsTrue, All, map, take}
+use Rattle.std.proofs.Common.{◌∙◌, ap, drop, refl, subst, sym}
 use Rattle.std.proofs.Math.ListN.{drop_of_length-le}
 use Rattle.ratio_core.specs.Rational.{Rational}
+use Rattle.ratio_core.specs.AnsweredLaws.{overflowed}
 use Rattle.aff_core.specs.Address.{Address}
 use Rattle.set_core.specs.Membership.{Dual, DualFits}
 use Rattle.user_model.specs.declared.group.Group.{Group}
 use Rattle.certificates.specs.Duals.{group_with, groups_with}
 use Rattle.certificates.specs.Points.{addresses_of}
-use Rattle.cert_core.proofs.Answered.{overflowed}
 use Rattle.cert_core.proofs.GroupSteps.{GroupsTested, groups_end, groups_fit, groups_step}
 use Rattle.cert_core.proofs.Steps.{next_item}
-use Rattle.cert_core.proofs.Tested.{and_passed, and_taken}
 use Rattle.std.proofs.lemmas.List.Elements.{All-map}
 use Rattle.map_laws.specs.EachLaws.{all_from_map}
 use Rattle.cert_core.proofs.duals.group_duals_hold.Goals as goal
-use Rattle.cert_core.proofs.duals.group_duals_hold.Goals.{else-all, then-all}
 
 abbrev F : (Address → Rational) → Group → Type 0
 F x g = DualFits g.set (map x (addresses_of g.vars))
@@ -29,9 +27,9 @@ returns-in_err-holds c = λ x is.
     let g = c.group-item.result in
     let next = next_item gs i g c.group-item.is c.loop-group-test.true in
     let front = c.split_at.ensures.front ∙ ap (λ n. take n c.loop-group.left.now) c.len.ensures in
-    overflowed c.from_residual.result (All (λ h. DualFits h.set h.duals) (groups_with x gs))
+    overflowed c.from_residual.result _ (All (λ h. DualFits h.set h.duals) (groups_with x gs))
     (λ holds. IsTrue holds ↔ All (λ h. Dual h.set h.duals) (groups_with x gs))
-    c.from_residual.ensures.1
+    c.from_residual.ensures.1 refl
     (λ all.
     let owed = groups_fit F P c.loop-group.all gs (drop i gs) (drop (i + 1) gs) c.args.duals.now
     c.loop-group.left.now g c.loop-group.invariant next x is
@@ -46,21 +44,12 @@ loop-group-preserved c =
     let next = next_item gs i g c.group-item.is c.loop-group-test.true in
     let front = c.split_at.ensures.front ∙ ap (λ n. take n c.loop-group.left.now) c.len.ensures in
     let back = c.split_at.ensures.back ∙ ap (λ n. drop n c.loop-group.left.now) c.len.ensures in
-    let both : IsTrue c.if-all.all ↔ (IsTrue c.loop-group.all × IsTrue c.in_ok-holds.holds) =
-    elim c.if-all.branch [
-      | then-all w ↦ and_taken _ _ _ w.if-all.true w.all-is
-      | else-all w ↦ and_passed _ _ _ w.if-all.false w.all-is
-    ] in
-    let left_is : c.if-all.left.now ≡ drop (length g.vars) c.loop-group.left.now =
-    elim c.if-all.branch [
-      | then-all w ↦ ap (λ b. b.now) w.left-is ∙ back
-      | else-all w ↦ ap (λ b. b.now) w.left-is ∙ back
-    ] in
-    subst (GroupsTested F P c.if-all.all gs (drop (i + 1) gs) c.args.duals.now) (sym left_is)
+    subst (GroupsTested F P (c.loop-group.all && c.in_ok-holds.holds) gs (drop (i + 1) gs)
+    c.args.duals.now) (sym back)
     (groups_step F P c.loop-group.all gs (drop i gs) (drop (i + 1) gs) c.args.duals.now
-    c.loop-group.left.now g c.loop-group.invariant next c.in_ok-holds.holds c.if-all.all
+    c.loop-group.left.now g c.loop-group.invariant next c.in_ok-holds.holds
     (λ x own. subst (λ v. DualFits g.set v × (IsTrue c.in_ok-holds.holds ↔ Dual g.set v))
-    (front ∙ own) c.in_ok-holds.ensures) both)
+    (front ∙ own) c.in_ok-holds.ensures))
 
 pub returns : goal.returns
 returns c = λ x is.

@@ -1,13 +1,12 @@
 use Rattle.std.specs.Prelude.{◌+◌, ◌↔◌, IsTrue, All, length}
-use Rattle.std.proofs.Common.{◌∙◌, ap, drop, subst, sym}
+use Rattle.std.proofs.Common.{◌∙◌, ap, drop, refl, subst, sym}
+use Rattle.ratio_core.specs.AnsweredLaws.{overflowed}
 use Rattle.dual_laws.specs.Held.{Held}
 use Rattle.set_core.specs.Membership.{Dual, DualFits}
 use Rattle.certificates.specs.Duals.{row_with, rows_with}
-use Rattle.cert_core.proofs.Answered.{overflowed}
 use Rattle.cert_core.proofs.Rows.{next_row, row_set, row_size, rows_done}
-use Rattle.cert_core.proofs.Tested.{and_passed, and_taken, tested_end, tested_refused, tested_step}
+use Rattle.cert_core.proofs.Tested.{tested_end, tested_refused, tested_step}
 use Rattle.cert_core.proofs.duals.row_duals_hold.Goals as goal
-use Rattle.cert_core.proofs.duals.row_duals_hold.Goals.{else-all, then-all}
 
 abbrev F : Held → Type 0
 F h = DualFits h.set h.duals
@@ -32,8 +31,8 @@ returns-in_err-holds c =
     let next = next_row c.args.duals.now c.args.rows.now i c.index-duals-i.result
     c.index-rows-i.result c.requires.entries.each c.index-duals-i.is c.index-rows-i.is
     c.loop-i-test.true in
-    overflowed c.from_residual.result (All F hs) (λ holds. IsTrue holds ↔ All P hs)
-    c.from_residual.ensures.1
+    overflowed c.from_residual.result _ (All F hs) (λ holds. IsTrue holds ↔ All P hs)
+    c.from_residual.ensures.1 refl
     (λ all. c.in_err-holds.ensures
     (subst (DualFits c.index-rows-i.result.set) (sym c.as_slice.ensures)
     (tested_refused F P c.loop-i.all hs (drop i hs) (drop (i + 1) hs) h c.loop-i.invariant next
@@ -47,16 +46,11 @@ loop-i-preserved c =
     let next = next_row c.args.duals.now c.args.rows.now i c.index-duals-i.result
     c.index-rows-i.result c.requires.entries.each c.index-duals-i.is c.index-rows-i.is
     c.loop-i-test.true in
-    let both : IsTrue c.if-all.all ↔ (IsTrue c.loop-i.all × IsTrue c.in_ok-holds.holds) =
-    elim c.if-all.branch [
-      | then-all w ↦ and_taken _ _ _ w.if-all.true w.all-is
-      | else-all w ↦ and_passed _ _ _ w.if-all.false w.all-is
-    ] in
     let told = subst (λ v. DualFits c.index-rows-i.result.set v
     × (IsTrue c.in_ok-holds.holds ↔ Dual c.index-rows-i.result.set v)) c.as_slice.ensures
     c.in_ok-holds.ensures in
-    tested_step F P c.loop-i.all c.in_ok-holds.holds c.if-all.all hs (drop i hs) (drop (i + 1) hs) h
-    c.loop-i.invariant next told.0 told.1 both
+    tested_step F P c.loop-i.all c.in_ok-holds.holds hs (drop i hs) (drop (i + 1) hs) h
+    c.loop-i.invariant next told.0 told.1
 
 pub returns : goal.returns
 returns c =

@@ -1,4 +1,4 @@
-use Rattle.std.specs.Prelude.{◌≡◌, ◌+◌, ◌↔◌, IsTrue}
+use Rattle.std.specs.Prelude.{◌≡◌, ◌+◌}
 use Rattle.std.proofs.Common.{◌∙◌, drop, subst, sym}
 use Rattle.std.proofs.Math.ListN.{drop_of_length-le}
 use Rattle.ratio_core.specs.Rational.{Rational}
@@ -10,9 +10,8 @@ use Rattle.certificates.specs.Duals.{reduced_cost}
 use Rattle.certificates.specs.Points.{objective_function, sense_of}
 use Rattle.cert_core.specs.Folds.{CostFits}
 use Rattle.cert_core.proofs.Steps.{made_there, next_item}
-use Rattle.cert_core.proofs.Tested.{and_passed, and_taken, tested_end, tested_step}
+use Rattle.cert_core.proofs.Tested.{tested_end, tested_step}
 use Rattle.cert_core.proofs.equations.are_reduced_costs.Goals as goal
-use Rattle.cert_core.proofs.equations.are_reduced_costs.Goals.{else-all, then-all}
 
 abbrev F : Objective → (Address → Rational) → Address → Type 0
 F o a v = CostFits (sense_of o) (coefficient (objective_function o) v) (a v)
@@ -39,17 +38,12 @@ loop-i-preserved c = λ a w a_is w_is.
     (subst (λ q. CostFits (sense_of o) q c.index-adjoint-i.result) c.cost.ensures
     (subst (λ s. CostFits s c.cost.result c.index-adjoint-i.result) c.sense.ensures
     c.in_ok-left.ensures.0)) in
-    let both : IsTrue c.if-all.all ↔ (IsTrue c.loop-i.all × IsTrue c.eq-holds.result) =
-    elim c.if-all.branch [
-      | then-all w ↦ and_taken _ _ _ w.if-all.true w.all-is
-      | else-all w ↦ and_passed _ _ _ w.if-all.false w.all-is
-    ] in
     let decides = rational_eq_Decides c.index-duals-i.result c.in_ok-left.left in
-    tested_step (F o a) (P o a w) c.loop-i.all c.eq-holds.result c.if-all.all us (drop i us)
+    tested_step (F o a) (P o a w) c.loop-i.all c.eq-holds.result us (drop i us)
     (drop (i + 1) us) v (c.loop-i.invariant a w a_is w_is) next fits (
       λ t. sym w_at ∙ decides.0 (sym c.eq-holds.ensures ∙ t) ∙ c.in_ok-left.ensures.1 ∙ same,
       λ e. c.eq-holds.ensures ∙ decides.1 (w_at ∙ e ∙ sym same ∙ sym c.in_ok-left.ensures.1),
-    ) both
+    )
 
 pub returns : goal.returns
 returns c = λ a w a_is w_is.

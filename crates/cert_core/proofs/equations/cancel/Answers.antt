@@ -1,12 +1,11 @@
 use Rattle.std.specs.Prelude.{◌≡◌, ◌+◌, ◌↔◌, IsTrue, All}
-use Rattle.std.proofs.Common.{◌∙◌, ap₂, drop, subst, sym}
+use Rattle.std.proofs.Common.{◌∙◌, ap₂, drop, refl, subst, sym}
 use Rattle.std.proofs.Math.ListN.{drop_of_length-le}
 use Rattle.ratio_core.specs.Rational.{SumFits, zero_ℚ, ◌+ℚ◌}
-use Rattle.cert_core.proofs.Answered.{overflowed}
+use Rattle.ratio_core.specs.AnsweredLaws.{overflowed}
 use Rattle.cert_core.proofs.Steps.{made_there, next_item, some_item}
-use Rattle.cert_core.proofs.Tested.{and_passed, and_taken, tested_end, tested_refused, tested_step}
+use Rattle.cert_core.proofs.Tested.{tested_end, tested_refused, tested_step}
 use Rattle.cert_core.proofs.equations.cancel.Goals as goal
-use Rattle.cert_core.proofs.equations.cancel.Goals.{else-all, then-all}
 
 pub returns-in_err-sum : goal.returns-in_err-sum
 returns-in_err-sum c = λ a w a_is w_is.
@@ -18,8 +17,8 @@ returns-in_err-sum c = λ a w a_is w_is.
     c.loop-i-test.true c.index-adjoint-i.is in
     let w_at = made_there w us c.args.duals.now i at.0 c.index-duals-i.result w_is at.1
     c.loop-i-test.true c.index-duals-i.is in
-    overflowed c.from_residual.result (All (λ v. SumFits (a v) (w v)) us)
-    (λ holds. IsTrue holds ↔ All (λ v. a v +ℚ w v ≡ zero_ℚ) us) c.from_residual.ensures.1
+    overflowed c.from_residual.result _ (All (λ v. SumFits (a v) (w v)) us)
+    (λ holds. IsTrue holds ↔ All (λ v. a v +ℚ w v ≡ zero_ℚ) us) c.from_residual.ensures.1 refl
     (λ all. c.in_err-sum.ensures.exact (subst (λ q. SumFits q c.index-duals-i.result) (sym a_at)
     (subst (λ q. SumFits (a at.0) q) (sym w_at)
     (tested_refused (λ v. SumFits (a v) (w v)) (λ v. a v +ℚ w v ≡ zero_ℚ) c.loop-i.all us
@@ -37,19 +36,14 @@ loop-i-preserved c = λ a w a_is w_is.
     c.loop-i-test.true c.index-duals-i.is in
     let sum_is : c.in_ok-sum.sum ≡ a at.0 +ℚ w at.0 =
     c.in_ok-sum.ensures.exact.1 ∙ ap₂ ◌+ℚ◌ a_at w_at in
-    let both : IsTrue c.if-all.all ↔ (IsTrue c.loop-i.all × IsTrue c.is_zero-holds.result) =
-    elim c.if-all.branch [
-      | then-all w ↦ and_taken _ _ _ w.if-all.true w.all-is
-      | else-all w ↦ and_passed _ _ _ w.if-all.false w.all-is
-    ] in
     tested_step (λ v. SumFits (a v) (w v)) (λ v. a v +ℚ w v ≡ zero_ℚ) c.loop-i.all
-    c.is_zero-holds.result c.if-all.all us (drop i us) (drop (i + 1) us) at.0
+    c.is_zero-holds.result us (drop i us) (drop (i + 1) us) at.0
     (c.loop-i.invariant a w a_is w_is) next
     (subst (λ q. SumFits q (w at.0)) a_at
     (subst (λ q. SumFits c.index-adjoint-i.result q) w_at c.in_ok-sum.ensures.exact.0)) (
       λ t. sym sum_is ∙ c.is_zero-holds.ensures.0 t,
       λ z. c.is_zero-holds.ensures.1 (sum_is ∙ z),
-    ) both
+    )
 
 pub returns : goal.returns
 returns c = λ a w a_is w_is.

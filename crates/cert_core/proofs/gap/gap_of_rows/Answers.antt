@@ -2,9 +2,9 @@ use Rattle.std.specs.Prelude.{◌≡◌, ◌+◌, length}
 use Rattle.std.proofs.Common.{◌∙◌, ap, drop, subst, sym}
 use Rattle.ratio_core.specs.Folds.{sum_from}
 use Rattle.ratio_core.specs.Rational.{zero_ℚ}
+use Rattle.ratio_core.specs.AnsweredLaws.{passed_on}
 use Rattle.certificates.specs.Duals.{row_with, rows_with}
 use Rattle.cert_core.specs.Folds.{AddUp, gap_parts, gap_parts_of}
-use Rattle.cert_core.proofs.Answered.{passed_on}
 use Rattle.cert_core.proofs.Rows.{next_row, row_size, rows_done}
 use Rattle.cert_core.proofs.Summed.{SummedAsAll, summed_end, summed_refused, summed_step}
 use Rattle.cert_core.proofs.gap.gap_of_rows.Goals as goal

@@ -1,11 +1,11 @@
 use Rattle.std.specs.Prelude.{◌≡◌, ◌+◌}
-use Rattle.std.proofs.Common.{◌∙◌, ap, drop, subst, sym}
+use Rattle.std.proofs.Common.{◌∙◌, ap, drop, refl, subst, sym}
 use Rattle.ratio_core.specs.Folds.{sum_from}
 use Rattle.ratio_core.specs.Rational.{Fits, SumFits, neg_ℚ, ◌*ℚ◌, ◌-ℚ◌}
+use Rattle.ratio_core.specs.AnsweredLaws.{overflowed}
 use Rattle.rational_laws.specs.Dot.{negated}
 use Rattle.aff_core.specs.FunctionLists.{constants}
 use Rattle.cert_core.specs.Folds.{AddUp, products}
-use Rattle.cert_core.proofs.Answered.{overflowed}
 use Rattle.cert_core.proofs.Parts.{next_less, none_less}
 use Rattle.cert_core.proofs.Summed.{negated_refused, negated_step, summed_end}
 use Rattle.cert_core.proofs.gap.less_products.Goals as goal
@@ -18,8 +18,8 @@ returns-in_err-product c =
     let parts = negated (products w (constants fs)) in
     let next = next_less w fs i c.index-duals-i.result c.index-fs-i.result c.requires
     c.index-duals-i.is c.index-fs-i.is c.loop-i-test.true in
-    overflowed c.from_residual.result (AddUp c.args.sum.now parts)
-    (λ q. q ≡ sum_from c.args.sum.now parts) c.from_residual.ensures.1
+    overflowed c.from_residual.result _ (AddUp c.args.sum.now parts)
+    (λ q. q ≡ sum_from c.args.sum.now parts) c.from_residual.ensures.1 refl
     (λ all. c.in_err-product.ensures.exact
     (subst (λ k. Fits (c.index-duals-i.result *ℚ k)) (sym c.constant.ensures)
     (negated_refused c.args.sum.now c.loop-i.left parts
@@ -37,8 +37,8 @@ returns-in_err-left c =
     c.index-duals-i.is c.index-fs-i.is c.loop-i-test.true in
     let product_is : c.in_ok-product.product ≡ c.index-duals-i.result *ℚ c.index-fs-i.result.constant =
     c.in_ok-product.ensures.exact.1 ∙ ap (λ k. c.index-duals-i.result *ℚ k) c.constant.ensures in
-    overflowed c.from_residual-in_err-left.result (AddUp c.args.sum.now parts)
-    (λ q. q ≡ sum_from c.args.sum.now parts) c.from_residual-in_err-left.ensures.1
+    overflowed c.from_residual-in_err-left.result _ (AddUp c.args.sum.now parts)
+    (λ q. q ≡ sum_from c.args.sum.now parts) c.from_residual-in_err-left.ensures.1 refl
     (λ all. c.in_err-left.ensures.exact
     (subst (λ p. SumFits c.loop-i.left (neg_ℚ p)) (sym product_is)
     (negated_refused c.args.sum.now c.loop-i.left parts

@@ -1,7 +1,8 @@
-use Rattle.std.specs.Prelude.{◌≡◌, ◌+◌, ◌↔◌, IsTrue, All, Ok, length, take}
+use Rattle.std.specs.Prelude.{◌+◌, ◌&&◌, ◌↔◌, IsTrue, All, Ok, take}
 use Rattle.std.proofs.Common.{◌∙◌, ap, drop, subst, sym}
 use Rattle.std.proofs.Math.ListN.{drop_of_length-le}
 use Rattle.ratio_core.specs.Rational.{Rational}
+use Rattle.ratio_core.specs.AnsweredLaws.{passed_on}
 use Rattle.aff_core.specs.Address.{Address}
 use Rattle.aff_core.specs.FunctionLists.{evaluations}
 use Rattle.set_core.specs.Membership.{In, MembershipFits}
@@ -11,13 +12,10 @@ use Rattle.certificates.specs.Points.{addresses_of, functions_of_group}
 use Rattle.cert_core.specs.Holding.{FunctionsHold}
 use Rattle.cert_core.specs.Readings.{one_of}
 use Rattle.cert_core.specs.declared.readings.Reading.{Reading}
-use Rattle.cert_core.proofs.Answered.{passed_on}
 use Rattle.cert_core.proofs.Evaluated.{variables_in_set, variables_membership}
 use Rattle.cert_core.proofs.GroupSteps.{GroupsTested, groups_end, groups_fit, groups_step}
 use Rattle.cert_core.proofs.Steps.{next_item}
-use Rattle.cert_core.proofs.Tested.{and_passed, and_taken}
 use Rattle.cert_core.proofs.points.groups_hold.Goals as goal
-use Rattle.cert_core.proofs.points.groups_hold.Goals.{else-all, then-all}
 
 abbrev F : Reading → (Address → Rational) → Group → Type 0
 F k x g = MembershipFits g.set (evaluations (one_of k) (functions_of_group g) x)
@@ -51,26 +49,18 @@ loop-group-preserved c =
     let next = next_item gs i g c.group-item.is c.loop-group-test.true in
     let front = c.split_at.ensures.front ∙ ap (λ n. take n c.loop-group.left.now) c.len.ensures in
     let back = c.split_at.ensures.back ∙ ap (λ n. drop n c.loop-group.left.now) c.len.ensures in
-    let both : IsTrue c.if-all.all ↔ (IsTrue c.loop-group.all × IsTrue c.in_ok-holds.holds) =
-    elim c.if-all.branch [
-      | then-all w ↦ and_taken _ _ _ w.if-all.true w.all-is
-      | else-all w ↦ and_passed _ _ _ w.if-all.false w.all-is
-    ] in
-    let left_is : c.if-all.left.now ≡ drop (length g.vars) c.loop-group.left.now =
-    elim c.if-all.branch [
-      | then-all w ↦ ap (λ b. b.now) w.left-is ∙ back
-      | else-all w ↦ ap (λ b. b.now) w.left-is ∙ back
-    ] in
-    subst (GroupsTested (F c.args.reading) (P c.args.reading) c.if-all.all gs (drop (i + 1) gs) c.args.numbers.now) (sym left_is)
-    (groups_step (F c.args.reading) (P c.args.reading) c.loop-group.all gs (drop i gs) (drop (i + 1) gs) c.args.numbers.now
-    c.loop-group.left.now g c.loop-group.invariant next c.in_ok-holds.holds c.if-all.all
-    (λ x own. variables_in_set (Ok c.in_ok-holds.holds) (one_of c.args.reading) g.set (addresses_of g.vars) x
-    c.split_at.result.0.now (front ∙ own) c.in_ok-holds.ensures) both)
+    let k = c.args.reading in
+    subst (GroupsTested (F k) (P k) (c.loop-group.all && c.in_ok-holds.holds) gs (drop (i + 1) gs)
+    c.args.numbers.now) (sym back)
+    (groups_step (F k) (P k) c.loop-group.all gs (drop i gs) (drop (i + 1) gs) c.args.numbers.now
+    c.loop-group.left.now g c.loop-group.invariant next c.in_ok-holds.holds
+    (λ x own. variables_in_set (Ok c.in_ok-holds.holds) (one_of k) g.set (addresses_of g.vars) x
+    c.split_at.result.0.now (front ∙ own) c.in_ok-holds.ensures))
 
 pub returns : goal.returns
 returns c = λ x is.
     let gs = c.args.groups.now in
-    let all = groups_end (F c.args.reading) (P c.args.reading) c.loop-group.all gs (drop c.loop-group.group-index gs)
+    let k = c.args.reading in
+    groups_end (F k) (P k) c.loop-group.all gs (drop c.loop-group.group-index gs)
     c.args.numbers.now c.loop-group.left.now c.loop-group.invariant
-    (drop_of_length-le gs c.loop-group-test.false) x is in
-    all
+    (drop_of_length-le gs c.loop-group-test.false) x is

@@ -1,4 +1,4 @@
-use Rattle.std.specs.Prelude.{◌+◌, ◌↔◌, IsTrue}
+use Rattle.std.specs.Prelude.{◌+◌}
 use Rattle.std.proofs.Common.{drop}
 use Rattle.std.proofs.Math.ListN.{drop_of_length-le}
 use Rattle.ratio_core.specs.Rational.{Rational}
@@ -10,9 +10,8 @@ use Rattle.cert_core.specs.Holding.{FunctionsHold}
 use Rattle.cert_core.specs.Points.{numbers_in}
 use Rattle.cert_core.specs.Readings.{one_of}
 use Rattle.cert_core.proofs.Steps.{next_item}
-use Rattle.cert_core.proofs.Tested.{and_passed, and_taken, tested_end, tested_step}
+use Rattle.cert_core.proofs.Tested.{tested_end, tested_step}
 use Rattle.cert_core.proofs.points.rows_hold.Goals as goal
-use Rattle.cert_core.proofs.points.rows_hold.Goals.{else-all, then-all}
 
 abbrev F : Rational → (Address → Rational) → Row → Type 0
 F one x r = FitIn one r.set (functions_of r.func) x
@@ -28,14 +27,9 @@ loop-row-preserved c =
     let i = c.loop-row.row-index in
     let r = c.row-item.result in
     let next = next_item rows i r c.row-item.is c.loop-row-test.true in
-    let both : IsTrue c.if-all.all ↔ (IsTrue c.loop-row.all × IsTrue c.in_ok-holds.holds) =
-    elim c.if-all.branch [
-      | then-all w ↦ and_taken _ _ _ w.if-all.true w.all-is
-      | else-all w ↦ and_passed _ _ _ w.if-all.false w.all-is
-    ] in
-    tested_step (F one x) (P one x) c.loop-row.all c.in_ok-holds.holds c.if-all.all rows
+    tested_step (F one x) (P one x) c.loop-row.all c.in_ok-holds.holds rows
     (drop i rows) (drop (i + 1) rows) r c.loop-row.invariant next c.in_ok-holds.ensures.0
-    c.in_ok-holds.ensures.1 both
+    c.in_ok-holds.ensures.1
 
 pub returns : goal.returns
 returns c =

@@ -2,10 +2,10 @@ use Rattle.std.specs.Prelude.{◌≡◌, ◌+◌}
 use Rattle.std.proofs.Common.{◌∙◌, ap, drop, subst, sym}
 use Rattle.std.proofs.Math.ListN.{drop_of_length-le}
 use Rattle.ratio_core.specs.Rational.{◌*ℚ◌, ◌+ℚ◌}
+use Rattle.ratio_core.specs.AnsweredLaws.{passed_on}
 use Rattle.aff_core.specs.Terms.{StepFits, linear}
 use Rattle.cert_core.specs.Folds.{AddUp, products_at}
 use Rattle.cert_core.specs.Points.{numbers_in}
-use Rattle.cert_core.proofs.Answered.{passed_on}
 use Rattle.cert_core.proofs.Evaluated.{with_products}
 use Rattle.cert_core.proofs.Steps.{next_item}
 use Rattle.cert_core.proofs.Summed.{product_refused, product_step, summed_end}

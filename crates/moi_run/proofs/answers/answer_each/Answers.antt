@@ -7,7 +7,8 @@ use Rattle.edit_engine.specs.Held.{machine_of}
 use Rattle.edit_engine.specs.Lines.{says_load}
 use Rattle.io_face.specs.Told.{told_by}
 use Rattle.moi_run.proofs.Each.{each_at_stop, each_begins, each_begins_at_stop, each_more, lines_around}
-use Rattle.moi_run.proofs.Exits.{fails_within, fault_of, heard_told, told_same}
+use Rattle.moi_run.specs.declared.stop.Stop.TheVariants.{ReadFault}
+use Rattle.moi_run.proofs.Exits.{fails_within, heard_told, reason_by, told_same}
 use Rattle.moi_run.proofs.RunLemmas.{answers_nothing}
 use Rattle.moi_run.proofs.answers.answer_each.Goals as goal
 
@@ -24,39 +25,42 @@ loop-line-init g c = record {
 
 pub returns-in-Err-clause-outcome : goal.returns-in-Err-clause-outcome
 returns-in-Err-clause-outcome g c =
+    let told = told_by (g.H.Shelf.files c.args.shelf.now) (g.H.Shelf.sure c.args.shelf.now) in
     let lines = c.args.lines.now in
     let i = c.loop-line.line-index in
     let same = told_same _ _ _ _ c.loop-line.invariant.files c.loop-line.invariant.sure in
     each_at_stop c.in-Err.stop c.from.result (map (λ line. line.now) lines) (map (λ line. line.now) (take i lines)) _ (map (λ line. line.now) (drop (i + 1) lines))
-    (machine_of c.args.session.now (told_by (g.H.Shelf.files c.args.shelf.now) (g.H.Shelf.sure c.args.shelf.now))) (machine_of c.loop-line.session (told_by (g.H.Shelf.files c.args.shelf.now) (g.H.Shelf.sure c.args.shelf.now))) (machine_of c.answer_line.new.session (told_by (g.H.Shelf.files c.args.shelf.now) (g.H.Shelf.sure c.args.shelf.now))) c.loop-line.any_refused
+    (machine_of c.args.session.now told) (machine_of c.loop-line.session told) (machine_of c.answer_line.new.session told) c.loop-line.any_refused
     (g.O.Sink.written c.args.output.now) (g.O.Sink.written c.loop-line.output) (g.O.Sink.written c.answer_line.new.output) c.from.ensures
     (lines_around (λ line. line.now) lines i _ c.loop-line-test.true) c.loop-line.invariant.answered
-    (heard_told (Err c.in-Err.stop) (told_by (g.H.Shelf.files c.args.shelf.now) (g.H.Shelf.sure c.args.shelf.now)) _ c.loop-line.session c.answer_line.new.session _ _ _ same c.in-Err.ensures.heard)
+    (heard_told (Err c.in-Err.stop) told _ c.loop-line.session c.answer_line.new.session _ _ _ same c.in-Err.ensures.heard)
 
 pub returns-in-Err-clause-prefix : goal.returns-in-Err-clause-prefix
 returns-in-Err-clause-prefix g c =
+    let told = told_by (g.H.Shelf.files c.args.shelf.now) (g.H.Shelf.sure c.args.shelf.now) in
     let lines = c.args.lines.now in
     let i = c.loop-line.line-index in
     let same = told_same _ _ _ _ c.loop-line.invariant.files c.loop-line.invariant.sure in
     each_begins_at_stop c.in-Err.stop c.from.result (map (λ line. line.now) lines) (map (λ line. line.now) (take i lines)) _ (map (λ line. line.now) (drop (i + 1) lines))
-    (machine_of c.args.session.now (told_by (g.H.Shelf.files c.args.shelf.now) (g.H.Shelf.sure c.args.shelf.now))) (machine_of c.loop-line.session (told_by (g.H.Shelf.files c.args.shelf.now) (g.H.Shelf.sure c.args.shelf.now))) (machine_of c.answer_line.new.session (told_by (g.H.Shelf.files c.args.shelf.now) (g.H.Shelf.sure c.args.shelf.now))) c.loop-line.any_refused
+    (machine_of c.args.session.now told) (machine_of c.loop-line.session told) (machine_of c.answer_line.new.session told) c.loop-line.any_refused
     (g.O.Sink.written c.args.output.now) (g.O.Sink.written c.loop-line.output) (g.O.Sink.written c.answer_line.new.output) c.from.ensures
     (lines_around (λ line. line.now) lines i _ c.loop-line-test.true) c.loop-line.invariant.answered
-    (heard_told (Err c.in-Err.stop) (told_by (g.H.Shelf.files c.args.shelf.now) (g.H.Shelf.sure c.args.shelf.now)) _ c.loop-line.session c.answer_line.new.session _ _ _ same c.in-Err.ensures.heard)
+    (heard_told (Err c.in-Err.stop) told _ c.loop-line.session c.answer_line.new.session _ _ _ same c.in-Err.ensures.heard)
 
 pub returns-in-Err-clause-read_fault : goal.returns-in-Err-clause-read_fault
 returns-in-Err-clause-read_fault g c is =
     let same = told_same _ _ _ _ c.loop-line.invariant.files c.loop-line.invariant.sure in
-    fails_within (told_by (g.H.Shelf.files c.args.shelf.now) (g.H.Shelf.sure c.args.shelf.now)) _ _ _ _ same c.loop-line.invariant.fetches (c.in-Err.ensures.read_fault (ap Err (fault_of c.in-Err.stop (sym c.from.ensures ∙ is))))
+    fails_within (told_by (g.H.Shelf.files c.args.shelf.now) (g.H.Shelf.sure c.args.shelf.now)) _ _ _ _ same c.loop-line.invariant.fetches (c.in-Err.ensures.read_fault (ap Err (reason_by c.in-Err.stop c.from.result c.from.ensures ReadFault is)))
 
 pub loop-line-preserved : goal.loop-line-preserved
 loop-line-preserved g c =
+    let told = told_by (g.H.Shelf.files c.args.shelf.now) (g.H.Shelf.sure c.args.shelf.now) in
     let lines = c.args.lines.now in
     let i = c.loop-line.line-index in
     let same = told_same _ _ _ _ c.loop-line.invariant.files c.loop-line.invariant.sure in
-    let came = heard_told (Ok c.in-Ok.reply) (told_by (g.H.Shelf.files c.args.shelf.now) (g.H.Shelf.sure c.args.shelf.now)) _ c.loop-line.session c.answer_line.new.session _ _ _ same c.in-Ok.ensures.heard in
+    let came = heard_told (Ok c.in-Ok.reply) told _ c.loop-line.session c.answer_line.new.session _ _ _ same c.in-Ok.ensures.heard in
     record {
-      answered = each_more (λ line. line.now) lines i _ c.loop-line-test.true (machine_of c.args.session.now (told_by (g.H.Shelf.files c.args.shelf.now) (g.H.Shelf.sure c.args.shelf.now))) (machine_of c.loop-line.session (told_by (g.H.Shelf.files c.args.shelf.now) (g.H.Shelf.sure c.args.shelf.now))) (machine_of c.answer_line.new.session (told_by (g.H.Shelf.files c.args.shelf.now) (g.H.Shelf.sure c.args.shelf.now)))
+      answered = each_more (λ line. line.now) lines i _ c.loop-line-test.true (machine_of c.args.session.now told) (machine_of c.loop-line.session told) (machine_of c.answer_line.new.session told)
           c.loop-line.any_refused c.is_refused-any_refused.result _ (g.O.Sink.written c.args.output.now) (g.O.Sink.written c.loop-line.output) (g.O.Sink.written c.answer_line.new.output)
           c.is_refused-any_refused.ensures c.loop-line.invariant.answered came.0;
       pivots = c.in-Ok.ensures.pivots ∙ c.loop-line.invariant.pivots;
@@ -69,8 +73,9 @@ loop-line-preserved g c =
 
 pub returns-clause-prefix : goal.returns-clause-prefix
 returns-clause-prefix g c =
+    let told = told_by (g.H.Shelf.files c.args.shelf.now) (g.H.Shelf.sure c.args.shelf.now) in
     let lines = c.args.lines.now in
     let i = c.loop-line.line-index in
     let all = take_all i lines c.loop-line-test.false in
-    each_begins c.loop-line.any_refused c.ended.result (map (λ line. line.now) lines) (map (λ line. line.now) (take i lines)) [] (machine_of c.args.session.now (told_by (g.H.Shelf.files c.args.shelf.now) (g.H.Shelf.sure c.args.shelf.now))) (machine_of c.loop-line.session (told_by (g.H.Shelf.files c.args.shelf.now) (g.H.Shelf.sure c.args.shelf.now))) (machine_of c.loop-line.session (told_by (g.H.Shelf.files c.args.shelf.now) (g.H.Shelf.sure c.args.shelf.now)))
+    each_begins c.loop-line.any_refused c.ended.result (map (λ line. line.now) lines) (map (λ line. line.now) (take i lines)) [] (machine_of c.args.session.now told) (machine_of c.loop-line.session told) (machine_of c.loop-line.session told)
     (g.O.Sink.written c.args.output.now) (g.O.Sink.written c.loop-line.output) (ap (map (λ line. line.now)) (sym all) ∙ sym (append-nil (map (λ line. line.now) (take i lines)))) c.loop-line.invariant.answered (λ _. refl)

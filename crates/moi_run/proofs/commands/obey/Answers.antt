@@ -24,13 +24,17 @@ returns-in-Plan-clause-unasked g c _ =
     (c.answer_with.ensures.unasked (one_line (λ line. says_load line.now ≡ false) _ plan_loads_nothing), stops.0, stops.1)
 
 pub returns-in-Solve-clause-runs : goal.returns-in-Solve-clause-runs
-returns-in-Solve-clause-runs g c = command_runs (sym c.in-Solve.is)
-    (runs_solve c.in-Solve.setup c.in-Solve.model c.answer_solve.result (g.I.Source.left c.args.input.now) (g.I.Source.left c.args.input.now) (told_by (g.H.Shelf.files c.args.shelf.now) (g.H.Shelf.sure c.args.shelf.now)) _ _ _
-    (machine_of c.args.session.now (told_by (g.H.Shelf.files c.args.shelf.now) (g.H.Shelf.sure c.args.shelf.now))) (machine_of c.answer_solve.new.session (told_by (g.H.Shelf.files c.args.shelf.now) (g.H.Shelf.sure c.args.shelf.now))) _ _ refl
+returns-in-Solve-clause-runs g c =
+    let told = told_by (g.H.Shelf.files c.args.shelf.now) (g.H.Shelf.sure c.args.shelf.now) in
+    command_runs (sym c.in-Solve.is)
+    (runs_solve c.in-Solve.setup c.in-Solve.model c.answer_solve.result (g.I.Source.left c.args.input.now) (g.I.Source.left c.args.input.now) told _ _ _
+    (machine_of c.args.session.now told) (machine_of c.answer_solve.new.session told) _ _ refl
     c.answer_solve.ensures.runs c.answer_solve.ensures.read_fault)
 
 pub returns-in-Check-clause-runs : goal.returns-in-Check-clause-runs
-returns-in-Check-clause-runs g c = command_runs (sym c.in-Check.is)
-    (runs_check c.in-Check.model c.in-Check.certificate c.answer_check.result (g.I.Source.left c.args.input.now) (g.I.Source.left c.args.input.now) (told_by (g.H.Shelf.files c.args.shelf.now) (g.H.Shelf.sure c.args.shelf.now)) _ _ _
-    (machine_of c.args.session.now (told_by (g.H.Shelf.files c.args.shelf.now) (g.H.Shelf.sure c.args.shelf.now))) (machine_of c.args.session.now (told_by (g.H.Shelf.files c.args.shelf.now) (g.H.Shelf.sure c.args.shelf.now))) _ _
+returns-in-Check-clause-runs g c =
+    let told = told_by (g.H.Shelf.files c.args.shelf.now) (g.H.Shelf.sure c.args.shelf.now) in
+    command_runs (sym c.in-Check.is)
+    (runs_check c.in-Check.model c.in-Check.certificate c.answer_check.result (g.I.Source.left c.args.input.now) (g.I.Source.left c.args.input.now) told _ _ _
+    (machine_of c.args.session.now told) (machine_of c.args.session.now told) _ _
     c.answer_check.ensures.outcome)

@@ -4,7 +4,7 @@ use Rattle.command_words.specs.declared.words.Command.{Command}
 use Rattle.edit_engine.specs.Held.{machine_of}
 use Rattle.io_face.specs.Told.{told_by}
 use Rattle.moi_run.specs.Commands.{IfCheck, IsPlan, ReadsNothing}
-use Rattle.moi_run.proofs.Running.{always_check, runs_of_none, runs_without_memory, said_nothing, said_runs, usage_at_command, usage_at_memory, usage_at_none}
+use Rattle.moi_run.proofs.Running.{always_check, runs_of_none, runs_without_memory, said_runs, usage_at_command, usage_at_memory, usage_at_none}
 use Rattle.moi_run.proofs.commands.obey_words.Goals as goal
 use Rattle.std.specs.Prelude.{Option}
 
@@ -31,7 +31,7 @@ pub returns-in-None-clause-usage : goal.returns-in-None-clause-usage
 returns-in-None-clause-usage g c = usage_at_none _ (sym c.in-None.is ∙ c.in-Ok.ensures.said)
 
 pub returns-in-None-clause-runs : goal.returns-in-None-clause-runs
-returns-in-None-clause-runs g c = said_nothing (sym c.in-None.is ∙ c.in-Ok.ensures.said)
+returns-in-None-clause-runs g c = said_runs (sym c.in-None.is ∙ c.in-Ok.ensures.said)
     (runs_of_none (g.I.Source.left c.args.input.now) (told_by (g.H.Shelf.files c.args.shelf.now) (g.H.Shelf.sure c.args.shelf.now)) _ _
     (machine_of c.args.session.now (told_by (g.H.Shelf.files c.args.shelf.now) (g.H.Shelf.sure c.args.shelf.now))) (g.O.Sink.written c.args.output.now))
 
@@ -45,8 +45,9 @@ returns-in-Err-clause-usage g c = usage_at_memory _ c.in-Err.ensures.of_one
 
 pub returns-in-Err-clause-runs : goal.returns-in-Err-clause-runs
 returns-in-Err-clause-runs g c =
-    runs_without_memory _ (g.I.Source.left c.args.input.now) (g.I.Source.left c.args.input.now) (told_by (g.H.Shelf.files c.args.shelf.now) (g.H.Shelf.sure c.args.shelf.now)) _ _
-    (machine_of c.args.session.now (told_by (g.H.Shelf.files c.args.shelf.now) (g.H.Shelf.sure c.args.shelf.now))) (machine_of c.args.session.now (told_by (g.H.Shelf.files c.args.shelf.now) (g.H.Shelf.sure c.args.shelf.now))) (g.O.Sink.written c.args.output.now)
+    let told = told_by (g.H.Shelf.files c.args.shelf.now) (g.H.Shelf.sure c.args.shelf.now) in
+    runs_without_memory _ (g.I.Source.left c.args.input.now) (g.I.Source.left c.args.input.now) told _ _
+    (machine_of c.args.session.now told) (machine_of c.args.session.now told) (g.O.Sink.written c.args.output.now)
 
 pub returns-in-Err-clause-idle : goal.returns-in-Err-clause-idle
 returns-in-Err-clause-idle g c = always_check _ _ (λ _ _. refl)

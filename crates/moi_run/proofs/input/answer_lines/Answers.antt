@@ -31,16 +31,18 @@ answering-init g c = record {
 
 pub returns-in-Err-clause-outcome : goal.returns-in-Err-clause-outcome
 returns-in-Err-clause-outcome g c =
+    let told = told_by (g.H.Shelf.files c.args.shelf.now) (g.H.Shelf.sure c.args.shelf.now) in
     let standing = c.answering.invariant.standing in
     let source = HasFaulted (g.I.Source.faults c.args.input.now) (g.I.Source.faults c.next_line.new.input) in
-    exits.outcome_at_read source _ c.in-Err.reason c.from-in-Err.result (g.I.Source.left c.args.input.now) (g.I.Source.left c.next_line.new.input) (machine_of c.args.session.now (told_by (g.H.Shelf.files c.args.shelf.now) (g.H.Shelf.sure c.args.shelf.now))) (machine_of c.answering.session (told_by (g.H.Shelf.files c.args.shelf.now) (g.H.Shelf.sure c.args.shelf.now))) _ (c.from-in-Err.ensures ∙ ap status_of c.from.ensures)
+    exits.outcome_at_read source _ c.in-Err.reason c.from-in-Err.result (g.I.Source.left c.args.input.now) (g.I.Source.left c.next_line.new.input) (machine_of c.args.session.now told) (machine_of c.answering.session told) _ (c.from-in-Err.ensures ∙ ap status_of c.from.ensures)
     (λ is. HasFaulted-within _ _ _ _ c.answering.invariant.reads (omega arith) (c.in-Err.ensures.read_fault (ap Err is)).1)
-    (λ is. run.stops_at_fault (g.I.Source.left c.args.input.now) (machine_of c.args.session.now (told_by (g.H.Shelf.files c.args.shelf.now) (g.H.Shelf.sure c.args.shelf.now))) c.answering.reader (g.I.Source.left c.answering.input) (g.I.Source.left c.next_line.new.input) (machine_of c.answering.session (told_by (g.H.Shelf.files c.args.shelf.now) (g.H.Shelf.sure c.args.shelf.now))) c.answering.any_refused (g.O.Sink.written c.args.output.now) (g.O.Sink.written c.answering.output) standing (c.in-Err.ensures.read_fault (ap Err is)).0)
-    (λ is. run.stops_at_limit (g.I.Source.left c.args.input.now) (machine_of c.args.session.now (told_by (g.H.Shelf.files c.args.shelf.now) (g.H.Shelf.sure c.args.shelf.now))) c.answering.reader (g.I.Source.left c.answering.input) (machine_of c.answering.session (told_by (g.H.Shelf.files c.args.shelf.now) (g.H.Shelf.sure c.args.shelf.now))) c.answering.any_refused (g.O.Sink.written c.args.output.now) (g.O.Sink.written c.answering.output) standing (c.in-Err.ensures.too_long (ap Err is)))
+    (λ is. run.stops_at_fault (g.I.Source.left c.args.input.now) (machine_of c.args.session.now told) c.answering.reader (g.I.Source.left c.answering.input) (g.I.Source.left c.next_line.new.input) (machine_of c.answering.session told) c.answering.any_refused (g.O.Sink.written c.args.output.now) (g.O.Sink.written c.answering.output) standing (c.in-Err.ensures.read_fault (ap Err is)).0)
+    (λ is. run.stops_at_limit (g.I.Source.left c.args.input.now) (machine_of c.args.session.now told) c.answering.reader (g.I.Source.left c.answering.input) (machine_of c.answering.session told) c.answering.any_refused (g.O.Sink.written c.args.output.now) (g.O.Sink.written c.answering.output) standing (c.in-Err.ensures.too_long (ap Err is)))
 
 pub returns-in-Err-clause-prefix : goal.returns-in-Err-clause-prefix
 returns-in-Err-clause-prefix g c =
-    run.begins_so_far (g.I.Source.left c.args.input.now) (machine_of c.args.session.now (told_by (g.H.Shelf.files c.args.shelf.now) (g.H.Shelf.sure c.args.shelf.now))) c.answering.reader (g.I.Source.left c.answering.input) (machine_of c.answering.session (told_by (g.H.Shelf.files c.args.shelf.now) (g.H.Shelf.sure c.args.shelf.now))) (machine_of c.answering.session (told_by (g.H.Shelf.files c.args.shelf.now) (g.H.Shelf.sure c.args.shelf.now))) c.answering.any_refused (g.O.Sink.written c.args.output.now) (g.O.Sink.written c.answering.output) c.from-in-Err.result c.answering.invariant.standing (λ _. refl)
+    let told = told_by (g.H.Shelf.files c.args.shelf.now) (g.H.Shelf.sure c.args.shelf.now) in
+    run.begins_so_far (g.I.Source.left c.args.input.now) (machine_of c.args.session.now told) c.answering.reader (g.I.Source.left c.answering.input) (machine_of c.answering.session told) (machine_of c.answering.session told) c.answering.any_refused (g.O.Sink.written c.args.output.now) (g.O.Sink.written c.answering.output) c.from-in-Err.result c.answering.invariant.standing (λ _. refl)
 
 pub returns-in-Err-clause-taken : goal.returns-in-Err-clause-taken
 returns-in-Err-clause-taken g c =
@@ -52,18 +54,20 @@ returns-in-Err-clause-cause g c =
     (λ is. HasFaulted-within _ _ _ _ c.answering.invariant.reads (omega arith) (c.in-Err.ensures.read_fault (ap Err is)).1)
 
 pub returns-in-Err-clause-not_usage : goal.returns-in-Err-clause-not_usage
-returns-in-Err-clause-not_usage g c = exits.no_usage_at_read c.in-Err.reason c.from-in-Err.result (c.from-in-Err.ensures ∙ ap status_of c.from.ensures)
+returns-in-Err-clause-not_usage g c = exits.no_usage_at_stop c.from.result c.from-in-Err.result c.from-in-Err.ensures
 
 -- ---- at the end of the input
 
 pub returns-in-End-clause-outcome : goal.returns-in-End-clause-outcome
 returns-in-End-clause-outcome g c =
-    exits.outcome_at_end _ _ c.answering.any_refused c.ended.result (g.I.Source.left c.args.input.now) (g.I.Source.left c.next_line.new.input) (machine_of c.args.session.now (told_by (g.H.Shelf.files c.args.shelf.now) (g.H.Shelf.sure c.args.shelf.now))) (machine_of c.answering.session (told_by (g.H.Shelf.files c.args.shelf.now) (g.H.Shelf.sure c.args.shelf.now))) _ c.ended.ensures
-    (run.ends_at_end (g.I.Source.left c.args.input.now) (machine_of c.args.session.now (told_by (g.H.Shelf.files c.args.shelf.now) (g.H.Shelf.sure c.args.shelf.now))) c.answering.reader (g.I.Source.left c.answering.input) (g.I.Source.left c.next_line.new.input) (machine_of c.answering.session (told_by (g.H.Shelf.files c.args.shelf.now) (g.H.Shelf.sure c.args.shelf.now))) c.answering.any_refused (g.O.Sink.written c.args.output.now) (g.O.Sink.written c.answering.output) c.answering.invariant.standing (c.in-Ok.ensures.end (ap Ok c.in-End.is)))
+    let told = told_by (g.H.Shelf.files c.args.shelf.now) (g.H.Shelf.sure c.args.shelf.now) in
+    exits.outcome_at_end _ _ c.answering.any_refused c.ended.result (g.I.Source.left c.args.input.now) (g.I.Source.left c.next_line.new.input) (machine_of c.args.session.now told) (machine_of c.answering.session told) _ c.ended.ensures
+    (run.ends_at_end (g.I.Source.left c.args.input.now) (machine_of c.args.session.now told) c.answering.reader (g.I.Source.left c.answering.input) (g.I.Source.left c.next_line.new.input) (machine_of c.answering.session told) c.answering.any_refused (g.O.Sink.written c.args.output.now) (g.O.Sink.written c.answering.output) c.answering.invariant.standing (c.in-Ok.ensures.end (ap Ok c.in-End.is)))
 
 pub returns-in-End-clause-prefix : goal.returns-in-End-clause-prefix
 returns-in-End-clause-prefix g c =
-    run.begins_so_far (g.I.Source.left c.args.input.now) (machine_of c.args.session.now (told_by (g.H.Shelf.files c.args.shelf.now) (g.H.Shelf.sure c.args.shelf.now))) c.answering.reader (g.I.Source.left c.answering.input) (machine_of c.answering.session (told_by (g.H.Shelf.files c.args.shelf.now) (g.H.Shelf.sure c.args.shelf.now))) (machine_of c.answering.session (told_by (g.H.Shelf.files c.args.shelf.now) (g.H.Shelf.sure c.args.shelf.now))) c.answering.any_refused (g.O.Sink.written c.args.output.now) (g.O.Sink.written c.answering.output) c.ended.result c.answering.invariant.standing (λ _. refl)
+    let told = told_by (g.H.Shelf.files c.args.shelf.now) (g.H.Shelf.sure c.args.shelf.now) in
+    run.begins_so_far (g.I.Source.left c.args.input.now) (machine_of c.args.session.now told) c.answering.reader (g.I.Source.left c.answering.input) (machine_of c.answering.session told) (machine_of c.answering.session told) c.answering.any_refused (g.O.Sink.written c.args.output.now) (g.O.Sink.written c.answering.output) c.ended.result c.answering.invariant.standing (λ _. refl)
 
 pub returns-in-End-clause-taken : goal.returns-in-End-clause-taken
 returns-in-End-clause-taken g c =
@@ -79,22 +83,24 @@ returns-in-End-clause-not_usage g c = exits.no_usage_at_end c.answering.any_refu
 
 pub returns-in-Err-answer_line-clause-outcome : goal.returns-in-Err-answer_line-clause-outcome
 returns-in-Err-answer_line-clause-outcome g c =
+    let told = told_by (g.H.Shelf.files c.args.shelf.now) (g.H.Shelf.sure c.args.shelf.now) in
     let same = exits.told_same _ _ _ _ c.answering.invariant.files c.answering.invariant.sure in
-    let heard = exits.heard_told (Err c.in-Err-answer_line.stop) (told_by (g.H.Shelf.files c.args.shelf.now) (g.H.Shelf.sure c.args.shelf.now)) _ c.answering.session c.answer_line.new.session c.deref.result.now (g.O.Sink.written c.answering.output) (g.O.Sink.written c.answer_line.new.output) same c.in-Err-answer_line.ensures.heard in
+    let heard = exits.heard_told (Err c.in-Err-answer_line.stop) told _ c.answering.session c.answer_line.new.session c.deref.result.now (g.O.Sink.written c.answering.output) (g.O.Sink.written c.answer_line.new.output) same c.in-Err-answer_line.ensures.heard in
     let turn : Gives c.in-Ok.next c.answering.reader (g.I.Source.left c.answering.input) c.next_line.new.self (g.I.Source.left c.next_line.new.input) c.next_line.new.line.items c.deref.result.now = record { not_end = c.in_default.not-End; whole = λ is. c.in-Ok.ensures.line (ap Ok is); last = λ is. c.in-Ok.ensures.last_line (ap Ok is); same = c.deref.ensures.value } in
-    let at_stop : (stop : Stop) → c.in-Err-answer_line.stop ≡ stop → HearsBy (Err stop) (machine_of c.answering.session (told_by (g.H.Shelf.files c.args.shelf.now) (g.H.Shelf.sure c.args.shelf.now))) c.deref.result.now (machine_of c.answer_line.new.session (told_by (g.H.Shelf.files c.args.shelf.now) (g.H.Shelf.sure c.args.shelf.now))) (g.O.Sink.written c.answering.output) (g.O.Sink.written c.answer_line.new.output) =
-    λ (stop : Stop) (is : c.in-Err-answer_line.stop ≡ stop). subst (λ s. HearsBy (Err s) (machine_of c.answering.session (told_by (g.H.Shelf.files c.args.shelf.now) (g.H.Shelf.sure c.args.shelf.now))) c.deref.result.now (machine_of c.answer_line.new.session (told_by (g.H.Shelf.files c.args.shelf.now) (g.H.Shelf.sure c.args.shelf.now))) (g.O.Sink.written c.answering.output) (g.O.Sink.written c.answer_line.new.output)) is heard in
-    exits.outcome_at_stop _ _ c.in-Err-answer_line.stop c.from-in-Err-answer_line.result (g.I.Source.left c.args.input.now) (g.I.Source.left c.next_line.new.input) (machine_of c.args.session.now (told_by (g.H.Shelf.files c.args.shelf.now) (g.H.Shelf.sure c.args.shelf.now))) (machine_of c.answer_line.new.session (told_by (g.H.Shelf.files c.args.shelf.now) (g.H.Shelf.sure c.args.shelf.now))) _ c.from-in-Err-answer_line.ensures
-    (λ is. exits.fails_within (told_by (g.H.Shelf.files c.args.shelf.now) (g.H.Shelf.sure c.args.shelf.now)) _ _ _ _ same c.answering.invariant.fetches (c.in-Err-answer_line.ensures.read_fault (ap Err is)))
-    (λ is. let h = at_stop stop.ReadFault is in run.stops_in_turn c.in-Ok.next (g.I.Source.left c.args.input.now) (machine_of c.args.session.now (told_by (g.H.Shelf.files c.args.shelf.now) (g.H.Shelf.sure c.args.shelf.now))) c.answering.reader c.next_line.new.self (g.I.Source.left c.answering.input) (g.I.Source.left c.next_line.new.input) (machine_of c.answering.session (told_by (g.H.Shelf.files c.args.shelf.now) (g.H.Shelf.sure c.args.shelf.now))) (machine_of c.answer_line.new.session (told_by (g.H.Shelf.files c.args.shelf.now) (g.H.Shelf.sure c.args.shelf.now))) c.answering.any_refused (g.O.Sink.written c.args.output.now) (g.O.Sink.written c.answering.output) (g.O.Sink.written c.answer_line.new.output) c.next_line.new.line.items c.deref.result.now ReadFault turn c.answering.invariant.standing h.0 h.1)
-    (λ is. let h = at_stop stop.TooLong is in run.stops_in_turn c.in-Ok.next (g.I.Source.left c.args.input.now) (machine_of c.args.session.now (told_by (g.H.Shelf.files c.args.shelf.now) (g.H.Shelf.sure c.args.shelf.now))) c.answering.reader c.next_line.new.self (g.I.Source.left c.answering.input) (g.I.Source.left c.next_line.new.input) (machine_of c.answering.session (told_by (g.H.Shelf.files c.args.shelf.now) (g.H.Shelf.sure c.args.shelf.now))) (machine_of c.answer_line.new.session (told_by (g.H.Shelf.files c.args.shelf.now) (g.H.Shelf.sure c.args.shelf.now))) c.answering.any_refused (g.O.Sink.written c.args.output.now) (g.O.Sink.written c.answering.output) (g.O.Sink.written c.answer_line.new.output) c.next_line.new.line.items c.deref.result.now TooLong turn c.answering.invariant.standing h.0 h.1)
+    let at_stop : (stop : Stop) → c.in-Err-answer_line.stop ≡ stop → HearsBy (Err stop) (machine_of c.answering.session told) c.deref.result.now (machine_of c.answer_line.new.session told) (g.O.Sink.written c.answering.output) (g.O.Sink.written c.answer_line.new.output) =
+    λ (stop : Stop) (is : c.in-Err-answer_line.stop ≡ stop). subst (λ s. HearsBy (Err s) (machine_of c.answering.session told) c.deref.result.now (machine_of c.answer_line.new.session told) (g.O.Sink.written c.answering.output) (g.O.Sink.written c.answer_line.new.output)) is heard in
+    exits.outcome_at_stop _ _ c.in-Err-answer_line.stop c.from-in-Err-answer_line.result (g.I.Source.left c.args.input.now) (g.I.Source.left c.next_line.new.input) (machine_of c.args.session.now told) (machine_of c.answer_line.new.session told) _ c.from-in-Err-answer_line.ensures
+    (λ is. exits.fails_within told _ _ _ _ same c.answering.invariant.fetches (c.in-Err-answer_line.ensures.read_fault (ap Err is)))
+    (λ is. let h = at_stop stop.ReadFault is in run.stops_in_turn c.in-Ok.next (g.I.Source.left c.args.input.now) (machine_of c.args.session.now told) c.answering.reader c.next_line.new.self (g.I.Source.left c.answering.input) (g.I.Source.left c.next_line.new.input) (machine_of c.answering.session told) (machine_of c.answer_line.new.session told) c.answering.any_refused (g.O.Sink.written c.args.output.now) (g.O.Sink.written c.answering.output) (g.O.Sink.written c.answer_line.new.output) c.next_line.new.line.items c.deref.result.now ReadFault turn c.answering.invariant.standing h.0 h.1)
+    (λ is. let h = at_stop stop.TooLong is in run.stops_in_turn c.in-Ok.next (g.I.Source.left c.args.input.now) (machine_of c.args.session.now told) c.answering.reader c.next_line.new.self (g.I.Source.left c.answering.input) (g.I.Source.left c.next_line.new.input) (machine_of c.answering.session told) (machine_of c.answer_line.new.session told) c.answering.any_refused (g.O.Sink.written c.args.output.now) (g.O.Sink.written c.answering.output) (g.O.Sink.written c.answer_line.new.output) c.next_line.new.line.items c.deref.result.now TooLong turn c.answering.invariant.standing h.0 h.1)
 
 pub returns-in-Err-answer_line-clause-prefix : goal.returns-in-Err-answer_line-clause-prefix
 returns-in-Err-answer_line-clause-prefix g c =
+    let told = told_by (g.H.Shelf.files c.args.shelf.now) (g.H.Shelf.sure c.args.shelf.now) in
     let same = exits.told_same _ _ _ _ c.answering.invariant.files c.answering.invariant.sure in
-    let heard = exits.heard_told (Err c.in-Err-answer_line.stop) (told_by (g.H.Shelf.files c.args.shelf.now) (g.H.Shelf.sure c.args.shelf.now)) _ c.answering.session c.answer_line.new.session c.deref.result.now (g.O.Sink.written c.answering.output) (g.O.Sink.written c.answer_line.new.output) same c.in-Err-answer_line.ensures.heard in
-    turns.begins_at_stop c.in-Err-answer_line.stop c.from-in-Err-answer_line.result c.in-Ok.next (g.I.Source.left c.args.input.now) (machine_of c.args.session.now (told_by (g.H.Shelf.files c.args.shelf.now) (g.H.Shelf.sure c.args.shelf.now))) c.answering.reader c.next_line.new.self
-    (g.I.Source.left c.answering.input) (g.I.Source.left c.next_line.new.input) (machine_of c.answering.session (told_by (g.H.Shelf.files c.args.shelf.now) (g.H.Shelf.sure c.args.shelf.now))) (machine_of c.answer_line.new.session (told_by (g.H.Shelf.files c.args.shelf.now) (g.H.Shelf.sure c.args.shelf.now))) c.answering.any_refused (g.O.Sink.written c.args.output.now) (g.O.Sink.written c.answering.output) (g.O.Sink.written c.answer_line.new.output) c.next_line.new.line.items c.deref.result.now c.from-in-Err-answer_line.ensures heard
+    let heard = exits.heard_told (Err c.in-Err-answer_line.stop) told _ c.answering.session c.answer_line.new.session c.deref.result.now (g.O.Sink.written c.answering.output) (g.O.Sink.written c.answer_line.new.output) same c.in-Err-answer_line.ensures.heard in
+    turns.begins_at_stop c.in-Err-answer_line.stop c.from-in-Err-answer_line.result c.in-Ok.next (g.I.Source.left c.args.input.now) (machine_of c.args.session.now told) c.answering.reader c.next_line.new.self
+    (g.I.Source.left c.answering.input) (g.I.Source.left c.next_line.new.input) (machine_of c.answering.session told) (machine_of c.answer_line.new.session told) c.answering.any_refused (g.O.Sink.written c.args.output.now) (g.O.Sink.written c.answering.output) (g.O.Sink.written c.answer_line.new.output) c.next_line.new.line.items c.deref.result.now c.from-in-Err-answer_line.ensures heard
     (record { not_end = c.in_default.not-End; whole = λ is. c.in-Ok.ensures.line (ap Ok is); last = λ is. c.in-Ok.ensures.last_line (ap Ok is); same = c.deref.ensures.value }) c.answering.invariant.standing
 
 pub returns-in-Err-answer_line-clause-taken : goal.returns-in-Err-answer_line-clause-taken
@@ -115,23 +121,25 @@ returns-in-Err-answer_line-clause-not_usage g c = exits.no_usage_at_stop c.in-Er
 
 pub returns-in-Quit-clause-outcome : goal.returns-in-Quit-clause-outcome
 returns-in-Quit-clause-outcome g c =
+    let told = told_by (g.H.Shelf.files c.args.shelf.now) (g.H.Shelf.sure c.args.shelf.now) in
     let same = exits.told_same _ _ _ _ c.answering.invariant.files c.answering.invariant.sure in
-    let came = exits.heard_told (Ok c.in-Ok-answer_line.reply) (told_by (g.H.Shelf.files c.args.shelf.now) (g.H.Shelf.sure c.args.shelf.now)) _ c.answering.session c.answer_line.new.session c.deref.result.now (g.O.Sink.written c.answering.output) (g.O.Sink.written c.answer_line.new.output) same c.in-Ok-answer_line.ensures.heard in
+    let came = exits.heard_told (Ok c.in-Ok-answer_line.reply) told _ c.answering.session c.answer_line.new.session c.deref.result.now (g.O.Sink.written c.answering.output) (g.O.Sink.written c.answer_line.new.output) same c.in-Ok-answer_line.ensures.heard in
     let was = c.is_refused-any_refused.result in
-    let heard = subst (λ b. Hears (machine_of c.answering.session (told_by (g.H.Shelf.files c.args.shelf.now) (g.H.Shelf.sure c.args.shelf.now))) c.deref.result.now b (machine_of c.answer_line.new.session (told_by (g.H.Shelf.files c.args.shelf.now) (g.H.Shelf.sure c.args.shelf.now))) (Adds (g.O.Sink.written c.answering.output) (g.O.Sink.written c.answer_line.new.output))) (sym c.is_refused-any_refused.ensures) came.0 in
-    exits.outcome_at_end _ _ (c.answering.any_refused || was) c.ended-in-Quit.result (g.I.Source.left c.args.input.now) (g.I.Source.left c.next_line.new.input) (machine_of c.args.session.now (told_by (g.H.Shelf.files c.args.shelf.now) (g.H.Shelf.sure c.args.shelf.now))) (machine_of c.answer_line.new.session (told_by (g.H.Shelf.files c.args.shelf.now) (g.H.Shelf.sure c.args.shelf.now))) _ c.ended-in-Quit.ensures
-    (run.ends_in_turn c.in-Ok.next (g.I.Source.left c.args.input.now) (machine_of c.args.session.now (told_by (g.H.Shelf.files c.args.shelf.now) (g.H.Shelf.sure c.args.shelf.now))) c.answering.reader c.next_line.new.self (g.I.Source.left c.answering.input) (g.I.Source.left c.next_line.new.input)
-    (machine_of c.answering.session (told_by (g.H.Shelf.files c.args.shelf.now) (g.H.Shelf.sure c.args.shelf.now))) (machine_of c.answer_line.new.session (told_by (g.H.Shelf.files c.args.shelf.now) (g.H.Shelf.sure c.args.shelf.now))) c.answering.any_refused was (g.O.Sink.written c.args.output.now) (g.O.Sink.written c.answering.output) (g.O.Sink.written c.answer_line.new.output) c.next_line.new.line.items c.deref.result.now
+    let heard = subst (λ b. Hears (machine_of c.answering.session told) c.deref.result.now b (machine_of c.answer_line.new.session told) (Adds (g.O.Sink.written c.answering.output) (g.O.Sink.written c.answer_line.new.output))) (sym c.is_refused-any_refused.ensures) came.0 in
+    exits.outcome_at_end _ _ (c.answering.any_refused || was) c.ended-in-Quit.result (g.I.Source.left c.args.input.now) (g.I.Source.left c.next_line.new.input) (machine_of c.args.session.now told) (machine_of c.answer_line.new.session told) _ c.ended-in-Quit.ensures
+    (run.ends_in_turn c.in-Ok.next (g.I.Source.left c.args.input.now) (machine_of c.args.session.now told) c.answering.reader c.next_line.new.self (g.I.Source.left c.answering.input) (g.I.Source.left c.next_line.new.input)
+    (machine_of c.answering.session told) (machine_of c.answer_line.new.session told) c.answering.any_refused was (g.O.Sink.written c.args.output.now) (g.O.Sink.written c.answering.output) (g.O.Sink.written c.answer_line.new.output) c.next_line.new.line.items c.deref.result.now
     (record { not_end = c.in_default.not-End; whole = λ is. c.in-Ok.ensures.line (ap Ok is); last = λ is. c.in-Ok.ensures.last_line (ap Ok is); same = c.deref.ensures.value }) c.answering.invariant.standing (sym came.1 ∙ ap is_quit c.in-Quit.is) heard)
 
 pub returns-in-Quit-clause-prefix : goal.returns-in-Quit-clause-prefix
 returns-in-Quit-clause-prefix g c =
+    let told = told_by (g.H.Shelf.files c.args.shelf.now) (g.H.Shelf.sure c.args.shelf.now) in
     let same = exits.told_same _ _ _ _ c.answering.invariant.files c.answering.invariant.sure in
-    let came = exits.heard_told (Ok c.in-Ok-answer_line.reply) (told_by (g.H.Shelf.files c.args.shelf.now) (g.H.Shelf.sure c.args.shelf.now)) _ c.answering.session c.answer_line.new.session c.deref.result.now (g.O.Sink.written c.answering.output) (g.O.Sink.written c.answer_line.new.output) same c.in-Ok-answer_line.ensures.heard in
+    let came = exits.heard_told (Ok c.in-Ok-answer_line.reply) told _ c.answering.session c.answer_line.new.session c.deref.result.now (g.O.Sink.written c.answering.output) (g.O.Sink.written c.answer_line.new.output) same c.in-Ok-answer_line.ensures.heard in
     let was = c.is_refused-any_refused.result in
-    let heard = subst (λ b. Hears (machine_of c.answering.session (told_by (g.H.Shelf.files c.args.shelf.now) (g.H.Shelf.sure c.args.shelf.now))) c.deref.result.now b (machine_of c.answer_line.new.session (told_by (g.H.Shelf.files c.args.shelf.now) (g.H.Shelf.sure c.args.shelf.now))) (Adds (g.O.Sink.written c.answering.output) (g.O.Sink.written c.answer_line.new.output))) (sym c.is_refused-any_refused.ensures) came.0 in
-    run.begins_in_turn c.in-Ok.next (g.I.Source.left c.args.input.now) (machine_of c.args.session.now (told_by (g.H.Shelf.files c.args.shelf.now) (g.H.Shelf.sure c.args.shelf.now))) c.answering.reader c.next_line.new.self (g.I.Source.left c.answering.input) (g.I.Source.left c.next_line.new.input)
-    (machine_of c.answering.session (told_by (g.H.Shelf.files c.args.shelf.now) (g.H.Shelf.sure c.args.shelf.now))) (machine_of c.answer_line.new.session (told_by (g.H.Shelf.files c.args.shelf.now) (g.H.Shelf.sure c.args.shelf.now))) (machine_of c.answer_line.new.session (told_by (g.H.Shelf.files c.args.shelf.now) (g.H.Shelf.sure c.args.shelf.now))) c.answering.any_refused was (g.O.Sink.written c.args.output.now) (g.O.Sink.written c.answering.output) (g.O.Sink.written c.answer_line.new.output) c.next_line.new.line.items c.deref.result.now c.ended-in-Quit.result
+    let heard = subst (λ b. Hears (machine_of c.answering.session told) c.deref.result.now b (machine_of c.answer_line.new.session told) (Adds (g.O.Sink.written c.answering.output) (g.O.Sink.written c.answer_line.new.output))) (sym c.is_refused-any_refused.ensures) came.0 in
+    run.begins_in_turn c.in-Ok.next (g.I.Source.left c.args.input.now) (machine_of c.args.session.now told) c.answering.reader c.next_line.new.self (g.I.Source.left c.answering.input) (g.I.Source.left c.next_line.new.input)
+    (machine_of c.answering.session told) (machine_of c.answer_line.new.session told) (machine_of c.answer_line.new.session told) c.answering.any_refused was (g.O.Sink.written c.args.output.now) (g.O.Sink.written c.answering.output) (g.O.Sink.written c.answer_line.new.output) c.next_line.new.line.items c.deref.result.now c.ended-in-Quit.result
     (record { not_end = c.in_default.not-End; whole = λ is. c.in-Ok.ensures.line (ap Ok is); last = λ is. c.in-Ok.ensures.last_line (ap Ok is); same = c.deref.ensures.value }) c.answering.invariant.standing (run.hears_begun _ _ heard) (λ _. refl)
 
 pub returns-in-Quit-clause-taken : goal.returns-in-Quit-clause-taken
@@ -148,23 +156,25 @@ returns-in-Quit-clause-not_usage g c = exits.no_usage_at_end _ c.ended-in-Quit.r
 
 pub returns-in-LastLine-clause-outcome : goal.returns-in-LastLine-clause-outcome
 returns-in-LastLine-clause-outcome g c =
+    let told = told_by (g.H.Shelf.files c.args.shelf.now) (g.H.Shelf.sure c.args.shelf.now) in
     let same = exits.told_same _ _ _ _ c.answering.invariant.files c.answering.invariant.sure in
-    let came = exits.heard_told (Ok c.in-Ok-answer_line.reply) (told_by (g.H.Shelf.files c.args.shelf.now) (g.H.Shelf.sure c.args.shelf.now)) _ c.answering.session c.answer_line.new.session c.deref.result.now (g.O.Sink.written c.answering.output) (g.O.Sink.written c.answer_line.new.output) same c.in-Ok-answer_line.ensures.heard in
+    let came = exits.heard_told (Ok c.in-Ok-answer_line.reply) told _ c.answering.session c.answer_line.new.session c.deref.result.now (g.O.Sink.written c.answering.output) (g.O.Sink.written c.answer_line.new.output) same c.in-Ok-answer_line.ensures.heard in
     let was = c.is_refused-any_refused.result in
-    let heard = subst (λ b. Hears (machine_of c.answering.session (told_by (g.H.Shelf.files c.args.shelf.now) (g.H.Shelf.sure c.args.shelf.now))) c.deref.result.now b (machine_of c.answer_line.new.session (told_by (g.H.Shelf.files c.args.shelf.now) (g.H.Shelf.sure c.args.shelf.now))) (Adds (g.O.Sink.written c.answering.output) (g.O.Sink.written c.answer_line.new.output))) (sym c.is_refused-any_refused.ensures) came.0 in
-    exits.outcome_at_end _ _ (c.answering.any_refused || was) c.ended-in-LastLine.result (g.I.Source.left c.args.input.now) (g.I.Source.left c.next_line.new.input) (machine_of c.args.session.now (told_by (g.H.Shelf.files c.args.shelf.now) (g.H.Shelf.sure c.args.shelf.now))) (machine_of c.answer_line.new.session (told_by (g.H.Shelf.files c.args.shelf.now) (g.H.Shelf.sure c.args.shelf.now))) _ c.ended-in-LastLine.ensures
-    (run.ends_at_last (g.I.Source.left c.args.input.now) (machine_of c.args.session.now (told_by (g.H.Shelf.files c.args.shelf.now) (g.H.Shelf.sure c.args.shelf.now))) c.answering.reader (g.I.Source.left c.answering.input) (g.I.Source.left c.next_line.new.input)
-    (machine_of c.answering.session (told_by (g.H.Shelf.files c.args.shelf.now) (g.H.Shelf.sure c.args.shelf.now))) (machine_of c.answer_line.new.session (told_by (g.H.Shelf.files c.args.shelf.now) (g.H.Shelf.sure c.args.shelf.now))) c.answering.any_refused was (g.O.Sink.written c.args.output.now) (g.O.Sink.written c.answering.output) (g.O.Sink.written c.answer_line.new.output) c.next_line.new.line.items c.deref.result.now
+    let heard = subst (λ b. Hears (machine_of c.answering.session told) c.deref.result.now b (machine_of c.answer_line.new.session told) (Adds (g.O.Sink.written c.answering.output) (g.O.Sink.written c.answer_line.new.output))) (sym c.is_refused-any_refused.ensures) came.0 in
+    exits.outcome_at_end _ _ (c.answering.any_refused || was) c.ended-in-LastLine.result (g.I.Source.left c.args.input.now) (g.I.Source.left c.next_line.new.input) (machine_of c.args.session.now told) (machine_of c.answer_line.new.session told) _ c.ended-in-LastLine.ensures
+    (run.ends_at_last (g.I.Source.left c.args.input.now) (machine_of c.args.session.now told) c.answering.reader (g.I.Source.left c.answering.input) (g.I.Source.left c.next_line.new.input)
+    (machine_of c.answering.session told) (machine_of c.answer_line.new.session told) c.answering.any_refused was (g.O.Sink.written c.args.output.now) (g.O.Sink.written c.answering.output) (g.O.Sink.written c.answer_line.new.output) c.next_line.new.line.items c.deref.result.now
     (c.in-Ok.ensures.last_line (ap Ok c.in-LastLine.is)) c.deref.ensures.value c.answering.invariant.standing heard)
 
 pub returns-in-LastLine-clause-prefix : goal.returns-in-LastLine-clause-prefix
 returns-in-LastLine-clause-prefix g c =
+    let told = told_by (g.H.Shelf.files c.args.shelf.now) (g.H.Shelf.sure c.args.shelf.now) in
     let same = exits.told_same _ _ _ _ c.answering.invariant.files c.answering.invariant.sure in
-    let came = exits.heard_told (Ok c.in-Ok-answer_line.reply) (told_by (g.H.Shelf.files c.args.shelf.now) (g.H.Shelf.sure c.args.shelf.now)) _ c.answering.session c.answer_line.new.session c.deref.result.now (g.O.Sink.written c.answering.output) (g.O.Sink.written c.answer_line.new.output) same c.in-Ok-answer_line.ensures.heard in
+    let came = exits.heard_told (Ok c.in-Ok-answer_line.reply) told _ c.answering.session c.answer_line.new.session c.deref.result.now (g.O.Sink.written c.answering.output) (g.O.Sink.written c.answer_line.new.output) same c.in-Ok-answer_line.ensures.heard in
     let was = c.is_refused-any_refused.result in
-    let heard = subst (λ b. Hears (machine_of c.answering.session (told_by (g.H.Shelf.files c.args.shelf.now) (g.H.Shelf.sure c.args.shelf.now))) c.deref.result.now b (machine_of c.answer_line.new.session (told_by (g.H.Shelf.files c.args.shelf.now) (g.H.Shelf.sure c.args.shelf.now))) (Adds (g.O.Sink.written c.answering.output) (g.O.Sink.written c.answer_line.new.output))) (sym c.is_refused-any_refused.ensures) came.0 in
-    run.begins_in_turn c.in-Ok.next (g.I.Source.left c.args.input.now) (machine_of c.args.session.now (told_by (g.H.Shelf.files c.args.shelf.now) (g.H.Shelf.sure c.args.shelf.now))) c.answering.reader c.next_line.new.self (g.I.Source.left c.answering.input) (g.I.Source.left c.next_line.new.input)
-    (machine_of c.answering.session (told_by (g.H.Shelf.files c.args.shelf.now) (g.H.Shelf.sure c.args.shelf.now))) (machine_of c.answer_line.new.session (told_by (g.H.Shelf.files c.args.shelf.now) (g.H.Shelf.sure c.args.shelf.now))) (machine_of c.answer_line.new.session (told_by (g.H.Shelf.files c.args.shelf.now) (g.H.Shelf.sure c.args.shelf.now))) c.answering.any_refused was (g.O.Sink.written c.args.output.now) (g.O.Sink.written c.answering.output) (g.O.Sink.written c.answer_line.new.output) c.next_line.new.line.items c.deref.result.now c.ended-in-LastLine.result
+    let heard = subst (λ b. Hears (machine_of c.answering.session told) c.deref.result.now b (machine_of c.answer_line.new.session told) (Adds (g.O.Sink.written c.answering.output) (g.O.Sink.written c.answer_line.new.output))) (sym c.is_refused-any_refused.ensures) came.0 in
+    run.begins_in_turn c.in-Ok.next (g.I.Source.left c.args.input.now) (machine_of c.args.session.now told) c.answering.reader c.next_line.new.self (g.I.Source.left c.answering.input) (g.I.Source.left c.next_line.new.input)
+    (machine_of c.answering.session told) (machine_of c.answer_line.new.session told) (machine_of c.answer_line.new.session told) c.answering.any_refused was (g.O.Sink.written c.args.output.now) (g.O.Sink.written c.answering.output) (g.O.Sink.written c.answer_line.new.output) c.next_line.new.line.items c.deref.result.now c.ended-in-LastLine.result
     (record { not_end = c.in_default.not-End; whole = λ is. c.in-Ok.ensures.line (ap Ok is); last = λ is. c.in-Ok.ensures.last_line (ap Ok is); same = c.deref.ensures.value }) c.answering.invariant.standing (run.hears_begun _ _ heard) (λ _. refl)
 
 pub returns-in-LastLine-clause-taken : goal.returns-in-LastLine-clause-taken
@@ -181,13 +191,14 @@ returns-in-LastLine-clause-not_usage g c = exits.no_usage_at_end _ c.ended-in-La
 
 pub answering-preserved : goal.answering-preserved
 answering-preserved g c =
+    let told = told_by (g.H.Shelf.files c.args.shelf.now) (g.H.Shelf.sure c.args.shelf.now) in
     let same = exits.told_same _ _ _ _ c.answering.invariant.files c.answering.invariant.sure in
-    let came = exits.heard_told (Ok c.in-Ok-answer_line.reply) (told_by (g.H.Shelf.files c.args.shelf.now) (g.H.Shelf.sure c.args.shelf.now)) _ c.answering.session c.answer_line.new.session c.deref.result.now (g.O.Sink.written c.answering.output) (g.O.Sink.written c.answer_line.new.output) same c.in-Ok-answer_line.ensures.heard in
+    let came = exits.heard_told (Ok c.in-Ok-answer_line.reply) told _ c.answering.session c.answer_line.new.session c.deref.result.now (g.O.Sink.written c.answering.output) (g.O.Sink.written c.answer_line.new.output) same c.in-Ok-answer_line.ensures.heard in
     let was = c.is_refused-any_refused.result in
-    let heard = subst (λ b. Hears (machine_of c.answering.session (told_by (g.H.Shelf.files c.args.shelf.now) (g.H.Shelf.sure c.args.shelf.now))) c.deref.result.now b (machine_of c.answer_line.new.session (told_by (g.H.Shelf.files c.args.shelf.now) (g.H.Shelf.sure c.args.shelf.now))) (Adds (g.O.Sink.written c.answering.output) (g.O.Sink.written c.answer_line.new.output))) (sym c.is_refused-any_refused.ensures) came.0 in
+    let heard = subst (λ b. Hears (machine_of c.answering.session told) c.deref.result.now b (machine_of c.answer_line.new.session told) (Adds (g.O.Sink.written c.answering.output) (g.O.Sink.written c.answer_line.new.output))) (sym c.is_refused-any_refused.ensures) came.0 in
     record {
-      standing = run.standing_after_turn c.in-Ok.next (g.I.Source.left c.args.input.now) (machine_of c.args.session.now (told_by (g.H.Shelf.files c.args.shelf.now) (g.H.Shelf.sure c.args.shelf.now))) c.answering.reader c.next_line.new.self (g.I.Source.left c.answering.input) (g.I.Source.left c.next_line.new.input)
-          (machine_of c.answering.session (told_by (g.H.Shelf.files c.args.shelf.now) (g.H.Shelf.sure c.args.shelf.now))) (machine_of c.answer_line.new.session (told_by (g.H.Shelf.files c.args.shelf.now) (g.H.Shelf.sure c.args.shelf.now))) c.answering.any_refused was (g.O.Sink.written c.args.output.now) (g.O.Sink.written c.answering.output) (g.O.Sink.written c.answer_line.new.output) c.next_line.new.line.items c.deref.result.now
+      standing = run.standing_after_turn c.in-Ok.next (g.I.Source.left c.args.input.now) (machine_of c.args.session.now told) c.answering.reader c.next_line.new.self (g.I.Source.left c.answering.input) (g.I.Source.left c.next_line.new.input)
+          (machine_of c.answering.session told) (machine_of c.answer_line.new.session told) c.answering.any_refused was (g.O.Sink.written c.args.output.now) (g.O.Sink.written c.answering.output) (g.O.Sink.written c.answer_line.new.output) c.next_line.new.line.items c.deref.result.now
           (record { not_end = c.in_default.not-End; whole = λ is. c.in-Ok.ensures.line (ap Ok is); last = λ is. c.in-Ok.ensures.last_line (ap Ok is); same = c.deref.ensures.value }) c.in_default-next.not-LastLine c.answering.invariant.standing
           (sym came.1 ∙ exits.goes_on c.in-Ok-answer_line.reply c.in_default-reply.not-Quit) heard;
       pivots = c.in-Ok-answer_line.ensures.pivots ∙ c.answering.invariant.pivots;

@@ -1,10 +1,10 @@
 use Rattle.std.specs.Prelude.{◌++◌, ◌↔◌, All, IsTrue}
+use Rattle.ratio_core.specs.AnsweredLaws.{passed_on}
 use Rattle.aff_core.specs.Points.{spread}
 use Rattle.dual_laws.specs.Held.{Held}
 use Rattle.set_core.specs.Membership.{Dual, DualFits}
 use Rattle.certificates.specs.Duals.{groups_with, rows_with}
 use Rattle.certificates.specs.Points.{all_addresses}
-use Rattle.cert_core.proofs.Answered.{passed_on}
 use Rattle.cert_core.proofs.Assembled.{numbers_of_model}
 use Rattle.map_laws.specs.EachLaws.{all_first, all_second}
 use Rattle.cert_core.proofs.Tested.{all_two, appended_tell, iff_trans}

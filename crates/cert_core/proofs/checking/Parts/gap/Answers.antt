@@ -1,10 +1,10 @@
 use Rattle.std.specs.Prelude.{◌++◌}
 use Rattle.ratio_core.specs.Rational.{zero_ℚ}
+use Rattle.ratio_core.specs.AnsweredLaws.{passed_on}
 use Rattle.aff_core.specs.Points.{spread}
 use Rattle.certificates.specs.Duals.{groups_with, rows_with}
 use Rattle.cert_core.specs.Folds.{AddUp, gap_parts}
 use Rattle.certificates.specs.Points.{all_addresses}
-use Rattle.cert_core.proofs.Answered.{passed_on}
 use Rattle.cert_core.proofs.Assembled.{numbers_of_model}
 use Rattle.cert_core.proofs.Parts.{gap_of_first, gap_told}
 use Rattle.cert_core.proofs.checking.Parts.gap.Goals as goal

@@ -1,4 +1,5 @@
 use Rattle.std.specs.Prelude.{◌↔◌, IsTrue, Ok, Err}
+use Rattle.ratio_core.specs.AnsweredLaws.{passed_on}
 use Rattle.aff_core.specs.Points.{spread}
 use Rattle.cert_core.specs.Checked.{model_of}
 use Rattle.cert_core.specs.Folds.{PointFits}
@@ -6,7 +7,6 @@ use Rattle.cert_core.specs.Holding.{HoldsAt}
 use Rattle.cert_core.specs.Points.{numbers_in}
 use Rattle.cert_core.specs.Readings.{one_of}
 use Rattle.certificates.specs.Points.{all_addresses}
-use Rattle.cert_core.proofs.Answered.{passed_on}
 use Rattle.cert_core.proofs.Assembled.{numbers_of_model, point_told, rows_told}
 use Rattle.cert_core.proofs.Tested.{all_two, iff_trans}
 use Rattle.cert_core.proofs.checking.Parts.holds_at.Goals as goal

@@ -1,6 +1,7 @@
 use Rattle.std.specs.Prelude.{◌≡◌, All, Ok, map}
 use Rattle.std.proofs.Common.{◌∙◌, ap, subst, sym}
 use Rattle.ratio_core.specs.Rational.{SumFits, zero_ℚ, ◌+ℚ◌}
+use Rattle.ratio_core.specs.AnsweredLaws.{passed_on}
 use Rattle.aff_core.specs.Points.{spread}
 use Rattle.dual_laws.specs.Held.{adjoint}
 use Rattle.set_core.specs.Membership.{DualFits}
@@ -8,7 +9,6 @@ use Rattle.certificates.specs.Duals.{rows_with, with_duals}
 use Rattle.cert_core.specs.Checked.{model_of}
 use Rattle.cert_core.specs.Folds.{AddUp, InfeasibleFits, adjoint_parts, gap_parts}
 use Rattle.certificates.specs.Points.{all_addresses}
-use Rattle.cert_core.proofs.Answered.{passed_on}
 use Rattle.cert_core.proofs.Assembled.{at_own, numbers_of_model, size_of_model}
 use Rattle.cert_core.proofs.Judged.{equal_told, is_infeasible, sums_are}
 use Rattle.cert_core.proofs.Tested.{all_four, iff_trans}

@@ -1,6 +1,7 @@
 use Rattle.std.specs.Prelude.{◌≡◌, All, Ok, map}
 use Rattle.std.proofs.Common.{◌∙◌, ap, subst, sym}
 use Rattle.ratio_core.specs.Rational.{one_ℚ, zero_ℚ}
+use Rattle.ratio_core.specs.AnsweredLaws.{passed_on}
 use Rattle.aff_core.specs.Function.{coefficient}
 use Rattle.aff_core.specs.Points.{spread}
 use Rattle.dual_laws.specs.Held.{adjoint}
@@ -10,7 +11,6 @@ use Rattle.certificates.specs.Points.{all_addresses, objective_constant, objecti
 use Rattle.cert_core.specs.Checked.{model_of}
 use Rattle.cert_core.specs.Folds.{AddUp, CostFits, DualValueFits, OptimalFits, adjoint_parts, gap_parts}
 use Rattle.cert_core.specs.Points.{numbers_in}
-use Rattle.cert_core.proofs.Answered.{passed_on}
 use Rattle.cert_core.proofs.Assembled.{at_own, numbers_of_model, objective_told, size_of_model}
 use Rattle.cert_core.proofs.Judged.{equal_told, is_optimal, sums_are}
 use Rattle.cert_core.proofs.Tested.{all_five, iff_trans}

@@ -1,9 +1,9 @@
 use Rattle.std.specs.Prelude.{◌≡◌}
 use Rattle.std.proofs.Common.{◌∙◌, subst, sym}
 use Rattle.ratio_core.specs.Rational.{one_ℚ, zero_ℚ}
+use Rattle.ratio_core.specs.Answers.{ExactWhere}
 use Rattle.rational_laws.specs.Field.{one-*ℚ, zero-*ℚ}
 use Rattle.aff_core.specs.Function.{evaluated}
-use Rattle.cert_core.specs.Answers.{ExactWhere}
 use Rattle.cert_core.specs.Folds.{EvaluationFits}
 use Rattle.cert_core.specs.Points.{numbers_in}
 use Rattle.cert_core.specs.Readings.{one_of}
