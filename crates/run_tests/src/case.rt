@@ -31,6 +31,8 @@ pub struct Case {
     pub piece: usize,
     /// The call that fails.
     pub failing: Option<(Call, u64)>,
+    /// Whether the session has a few boxed bridges, in place of one of each family.
+    pub boxed: bool,
 }
 
 impl Case {
@@ -43,6 +45,7 @@ impl Case {
             part: Part::Script,
             piece: 4096,
             failing: None,
+            boxed: false,
         }
     }
 

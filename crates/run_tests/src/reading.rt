@@ -29,6 +29,7 @@ fn named(rt: &HostRuntime, case: &mut Case, word: &str) -> Result<(), Stop> {
         "model" => case.part = Part::Model,
         "certificate" => case.part = Part::Certificate,
         "script" => case.part = Part::Script,
+        "boxed" => case.boxed = true,
         "run" => return run_case(rt, case),
         _ => return Err(Stop),
     }

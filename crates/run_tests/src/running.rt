@@ -1,11 +1,15 @@
 // A case that is run.
-ghost use Rattle.std.specs.Prelude.{◌≡◌, ◌≤◌, IfOk, false};
-ghost use Rattle.edit_engine.specs.Held.{state_of};
+ghost use Rattle.std.specs.Prelude.{◌≡◌, ◌≤◌, All, IsTrue, map};
+ghost use Rattle.std.specs.FinMap as finite;
+ghost use Rattle.boxes.specs.Boxed.{families_of, occur_once};
 
 use crate::case::{Call, Case};
-use any_bridge::{AnyBridge, all_bridges};
+use any_bridge::all_bridges;
+use bridge_face::Bridge;
+use bridges_flip::{GreaterLess, NonposVar};
 use edit_engine::SessionOver;
 use io_face::{Calls, MemShelf, MemSink, MemSource, NamedFile, NamedFiles, Shelf, SureShelf};
+use lazy_bridge::add_bridge;
 use lists::Memory;
 use moi_run::run;
 use std::alloc::Global;
@@ -61,9 +65,63 @@ fn run_on<H: Shelf>(
 ) -> Result<(), Stop>
     requires { 1 ≤ case.now.piece }
 {
+    if case.boxed {
+        return run_boxed(rt, case, shelf, input);
+    }
+    let bridges = all_bridges(rt.alloc())?;
+    run_by(rt, case, shelf, input, bridges)
+}
+
+// By boxes, which no function may hand out.
+fn run_boxed<H: Shelf>(
+    rt: &HostRuntime,
+    case: &Case,
+    shelf: &mut H,
+    input: &mut MemSource,
+) -> Result<(), Stop>
+    requires { 1 ≤ case.now.piece }
+{
+    let alloc = rt.alloc();
+    let one: Box<dyn Bridge> = Box::new(alloc, GreaterLess::new(alloc))?;
+    let again: Box<dyn Bridge> = Box::new(alloc, GreaterLess::new(alloc))?;
+    let other: Box<dyn Bridge> = Box::new(alloc, NonposVar::new(alloc))?;
+    run_by_each(rt, case, shelf, input, one, again, other)
+}
+
+// By each of the bridges, but one bridge of a family.
+fn run_by_each<H: Shelf, B: Bridge>(
+    rt: &HostRuntime,
+    case: &Case,
+    shelf: &mut H,
+    input: &mut MemSource,
+    one: B,
+    again: B,
+    other: B,
+) -> Result<(), Stop>
+    requires { 1 ≤ case.now.piece }
+{
+    let mut bridges = Vec::new(rt.alloc());
+    add_bridge(&mut bridges, one)?;
+    add_bridge(&mut bridges, again)?;
+    add_bridge(&mut bridges, other)?;
+    run_by(rt, case, shelf, input, bridges)
+}
+
+// By a new session with these bridges.
+fn run_by<H: Shelf, B: Bridge>(
+    rt: &HostRuntime,
+    case: &Case,
+    shelf: &mut H,
+    input: &mut MemSource,
+    bridges: Vec<B>,
+) -> Result<(), Stop>
+    requires piece { 1 ≤ case.now.piece }
+    requires once { IsTrue (occur_once (families_of (map B.state bridges.items))) }
+    requires kept { All (λ s. s.kept ≡ finite.empty) (map B.state bridges.items) }
+{
     let writes = failing(rt.alloc(), case.failing(Call::Write))?;
     let mut output = MemSink::new(rt.alloc(), case.piece, writes);
-    let mut session = session_of(rt.alloc())?;
+    let mut session = SessionOver::new(rt.alloc(), bridges);
     let status = run(
         rt.alloc(),
         &case.words,
@@ -73,13 +131,6 @@ fn run_on<H: Shelf>(
         &mut session,
     );
     tell(rt, status.number(), output.written())
-}
-
-// A new session with a bridge of each family, as the program's.
-fn session_of(alloc: Global) -> Result<SessionOver<AnyBridge>, Memory>
-    ensures { IfOk result (λ session. (state_of session).attached ≡ false) }
-{
-    Ok(SessionOver::new(alloc, all_bridges(alloc)?))
 }
 
 fn tell(rt: &HostRuntime, status: u8, written: &[u8]) -> Result<(), Stop> {
