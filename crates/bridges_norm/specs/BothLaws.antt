@@ -96,12 +96,6 @@ all_fold P s t (f ∷ fs) p q =
 
 -- ---- halves of a list
 
-pub in_first : (P : Rational → Type 0) (p q : List Rational) → All P (p ++ q) → All P p
-in_first P p q h = subst (All P) (take-append_seam p q) (All-take P (length p) (p ++ q) h)
-
-pub in_second : (P : Rational → Type 0) (p q : List Rational) → All P (p ++ q) → All P q
-in_second P p q h = subst (All P) (drop-append_seam p q) (All-drop P (length p) (p ++ q) h)
-
 -- a list as long as twice n
 pub record Halves (n : ℕ) (y : List Rational) : Type 0 where
   pub whole : take n y ++ drop n y ≡ y

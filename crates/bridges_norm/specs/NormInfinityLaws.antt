@@ -28,7 +28,8 @@ use Rattle.aff_core.specs.Arithmetic.{PlusFits, sum_of}
 use Rattle.ratio_core.specs.Rational.{Rational, zero_ℚ, ◌+ℚ◌, ◌-ℚ◌, ◌≤ℚ◌}
 use Rattle.aff_core.specs.KeyOrder.{address_order}
 use Rattle.bridge_face.specs.ComponentLaws.{all_unnamed_below}
-use Rattle.bridges_norm.specs.BothLaws.{ConeRow, Halves, cone_row, dot_both, each_below, halves, in_first, in_second, less_each, more_each, norm_across, others_counted, others_of}
+use Rattle.map_laws.specs.EachLaws.{all_first, all_second}
+use Rattle.bridges_norm.specs.BothLaws.{ConeRow, Halves, cone_row, dot_both, each_below, halves, less_each, more_each, norm_across, others_counted, others_of}
 use Rattle.aff_core.specs.ArithmeticLaws.{coefficient-sum_of, constant-sum_of}
 use Rattle.bridge_face.specs.Images.{difference, first_in, function_of_body, rest_of}
 use Rattle.rational_laws.specs.Dot.{dot, minus}
@@ -171,8 +172,8 @@ module _ (edge : Edge) (own : family_of edge ≡ NormInfinity) where
         (more_each t xs) ∙ ap₂ ◌++◌ (evaluations-less one x xs) (evaluations-more one x xs))
         below in
         each_below e vs
-        (in_first (λ q. zero_ℚ ≤ℚ q) (map (λ v. e -ℚ v) vs) (map (λ v. e +ℚ v) vs) parted)
-        (in_second (λ q. zero_ℚ ≤ℚ q) (map (λ v. e -ℚ v) vs) (map (λ v. e +ℚ v) vs) parted)
+        (all_first (λ q. zero_ℚ ≤ℚ q) (map (λ v. e -ℚ v) vs) (map (λ v. e +ℚ v) vs) parted)
+        (all_second (λ q. zero_ℚ ≤ℚ q) (map (λ v. e -ℚ v) vs) (map (λ v. e +ℚ v) vs) parted)
 
     -- the dual's two halves
     module _ (y : List Rational) (h : IsHeld (row_held (made item.body) y)) where
@@ -211,8 +212,8 @@ module _ (edge : Edge) (own : family_of edge ≡ NormInfinity) where
       dominated : DominatesSum w
       dominated =
           norm_dominated (sum_ℚ p +ℚ sum_ℚ q) (minus q p)
-          (norm_across p q (two.first ∙ sym two.second) (in_first (λ q. zero_ℚ ≤ℚ q) p q nonneg)
-          (in_second (λ q. zero_ℚ ≤ℚ q) p q nonneg))
+          (norm_across p q (two.first ∙ sym two.second) (all_first (λ q. zero_ℚ ≤ℚ q) p q nonneg)
+          (all_second (λ q. zero_ℚ ≤ℚ q) p q nonneg))
 
       holds : IsHeld (held_of w (t ∷ xs) (NormInfinityCone r.count))
       holds = cone.held (sum_ℚ p +ℚ sum_ℚ q) p q two.first two.second dominated

@@ -30,7 +30,8 @@ use Rattle.ratio_core.specs.declared.fault.NumberFault.{NumberFault}
 use Rattle.ratio_core.specs.Answers.{ExactWhere}
 use Rattle.ratio_core.specs.AnsweredLaws.{exact_as}
 use Rattle.aff_core.specs.KeyOrder.{address_order}
-use Rattle.bridges_norm.specs.BothLaws.{ConeRow, Halves, all_fold, cone_row, each_across, halves, in_first, in_second, none_left, norm_below, number-fold, others_of}
+use Rattle.map_laws.specs.EachLaws.{all_first, all_second}
+use Rattle.bridges_norm.specs.BothLaws.{ConeRow, Halves, all_fold, cone_row, each_across, halves, none_left, norm_below, number-fold, others_of}
 use Rattle.bridge_face.specs.ComponentLaws.{all_unnamed_below, components_apart, constants-variables, dot_missed, length-components, misses_inner, not_contained, variables, variables_missed, weighed, weighed_components}
 use Rattle.rational_laws.specs.Ring.{as_expression, by_ring, ring₆}
 use Rattle.aff_core.specs.ArithmeticLaws.{coefficient-sum_of, constant-sum_of}
@@ -225,8 +226,8 @@ module _ (edge : Edge) (own : family_of edge ≡ NormOne) where
         norm_dominated (g t) us
         (≤ℚ_trans (norm us) (sum_ℚ es) (g t)
         (norm_below es us (length-map ss g ∙ s_long ∙ sym (length-map xs g))
-        (in_first (λ q. zero_ℚ ≤ℚ q) (minus es us) (plus es us) others)
-        (in_second (λ q. zero_ℚ ≤ℚ q) (minus es us) (plus es us) others))
+        (all_first (λ q. zero_ℚ ≤ℚ q) (minus es us) (plus es us) others)
+        (all_second (λ q. zero_ℚ ≤ℚ q) (minus es us) (plus es us) others))
         (≤ℚ_from_nonneg (sum_ℚ es) (g t) first))
 
     -- ---- duals
@@ -338,7 +339,7 @@ module _ (edge : Edge) (own : family_of edge ≡ NormOne) where
       holds there =
           cone.held a p q two.first two.second
           (each_across n a p q two.first two.second
-          (in_first (λ u. zero_ℚ ≤ℚ u) p q nonneg) (in_second (λ u. zero_ℚ ≤ℚ u) p q nonneg)
+          (all_first (λ u. zero_ℚ ≤ℚ u) p q nonneg) (all_second (λ u. zero_ℚ ≤ℚ u) p q nonneg)
           (none_left z (subst (All (λ u. u ≡ zero_ℚ)) left_is there)))
 
       gap_same : zero_ℚ +ℚ gap_of (row_held (made item) y)

@@ -5,7 +5,7 @@ use Rattle.std.specs.List.{list_all, list_any}
 use Rattle.std.specs.Option.{option_map}
 use Rattle.std.proofs.lemmas.Bool.Decides.{Decides-eqb}
 use Rattle.std.proofs.lemmas.List.Elements.{All-head, All-tail}
-use Rattle.std.proofs.lemmas.Option.{none-some, same_Some, slice_get-map}
+use Rattle.std.proofs.lemmas.Option.{get_or_from_slice_get, none-some, same_Some, slice_get-map}
 use denote.Enum.Bare.{same_true}
 use Rattle.item_core.specs.contracts.family.Family.{the_type}
 use Rattle.map_laws.specs.EachLaws.{all_at}
@@ -82,12 +82,6 @@ from_mapped f xs n y e = by (slice_get xs n) refl
     by None is = absurd (none-some y (sym (slice_get-map f xs n ∙ ap (option_map f) is) ∙ e))
     by (Some x) is = (x, is, same_Some (f x) y (sym (mapped_at f xs n x is) ∙ e))
 
-at_place : {A : Type 0} (xs : List A) (n : ℕ) (x d : A) → slice_get xs n ≡ Some x
-    → slice_index_or xs n d ≡ x
-at_place [] n x d e = absurd (none-some x e)
-at_place (y ∷ ys) zero x d e = same_Some y x e
-at_place (y ∷ ys) (suc n) x d e = at_place ys n x d e
-
 pub entry_of : (n : ℕ) (row : EdgeRow) → slice_get EDGE_ROWS n ≡ Some row
     → (entry : EdgeEntry) × IsEntryOf n row entry
 entry_of n row e =
@@ -96,7 +90,7 @@ entry_of n row e =
       found.0,
       record {
         here = found.1;
-        edge = at_place (map (λ r. r.edge) EDGES) n found.0.edge E1
+        edge = get_or_from_slice_get (map (λ r. r.edge) EDGES) n found.0.edge E1
             (mapped_at (λ r. r.edge) EDGES n found.0 found.1);
         entry_is = same_Some _ _ (sym (mapped_at (λ r. edge_entry r.edge) EDGES n found.0 found.1)
             ∙ ap (λ l. slice_get l n) entries_agree ∙ found.1);

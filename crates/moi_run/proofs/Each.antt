@@ -1,7 +1,7 @@
 -- Given lines, answered one after another.
 use Rattle.std.proofs.Common.{◌≡◌, ℕ, ◌+◌, ◌<◌, Bool, true, false, ◌||◌, List, [], ◌∷◌, ◌++◌, length, take, drop, get_or, refl, sym, ◌∙◌, ap, subst, inl, inr, Option, Err, append_assoc}
 use Rattle.std.specs.Prelude.{map, if◌then◌else◌}
-use Rattle.std.proofs.lemmas.List.{drop_more, map-append, take-append-drop, take_more}
+use Rattle.std.proofs.lemmas.List.{drop_more, map-append, map_more, take-append-drop}
 use Rattle.edit_engine.specs.Script.{Machine, Steps}
 use Rattle.io_face.specs.Sink.{Adds, AddsPrefix}
 use Rattle.moi_run.specs.Answering.{BeginsAnswers, Hears, HearsBy, StopsAtFile, WritesAnswers}
@@ -18,9 +18,6 @@ use Rattle.report_core.specs.declared.answer.Answer.TheVariants.{ReadFault, TooL
 
 -- ---- the line at a place
 
-lines_more : {X : Type 0} (f : X → List ℕ) (lines : List X) (i : ℕ) (d : X) → i < length lines → map f (take (i + 1) lines) ≡ map f (take i lines) ++ f (get_or lines i d) ∷ []
-lines_more f lines i d low = ap (map f) (take_more lines i d low) ∙ map-append f (take i lines) (get_or lines i d ∷ [])
-
 pub lines_around : {X : Type 0} (f : X → List ℕ) (lines : List X) (i : ℕ) (d : X) → i < length lines → map f lines ≡ map f (take i lines) ++ f (get_or lines i d) ∷ map f (drop (i + 1) lines)
 lines_around f lines i d low =
     ap (map f) (sym (take-append-drop i lines) ∙ ap (λ rest. take i lines ++ rest) (drop_more lines i d low)) ∙ map-append f (take i lines) (get_or lines i d ∷ drop (i + 1) lines)
@@ -28,7 +25,7 @@ lines_around f lines i d low =
 pub each_more : {X : Type 0} (f : X → List ℕ) (lines : List X) (i : ℕ) (d : X) → i < length lines → (start s new : Machine) (refused any was : Bool) (old mid written : Option (List ℕ)) → any ≡ was
     → WritesAnswers start (map f (take i lines)) refused s (Adds old mid) → Hears s (f (get_or lines i d)) was new (Adds mid written) → WritesAnswers start (map f (take (i + 1) lines)) (refused || any) new (Adds old written)
 each_more f lines i d low start s new refused any was old mid written same answered heard =
-    subst (λ ls. WritesAnswers start ls (refused || any) new (Adds old written)) (sym (lines_more f lines i d low))
+    subst (λ ls. WritesAnswers start ls (refused || any) new (Adds old written)) (sym (map_more f lines i d low))
     (subst (λ b. WritesAnswers start (map f (take i lines) ++ f (get_or lines i d) ∷ []) (refused || b) new (Adds old written)) (sym same) (whole_more old mid written answered heard))
 
 -- ---- all were answered

@@ -3,7 +3,7 @@
 use Rattle.std.specs.Prelude.{◌≡◌, ℕ, ◌+◌, ◌-◌, ◌<◌, ◌≤◌, Bool, ◌&&◌, true, false, cond, nat_lt, Option, Some, None, if◌then◌else◌, refl}
 use Rattle.std.proofs.Common.{sym, ◌∙◌, ap, arith, subst, true≢false}
 use Rattle.std.proofs.lemmas.Bool.{and_parts, cond-false, cond-true, le-leb, le-ltb, leb-true, lt-ltb}
-use Rattle.ratio_core.specs.Rational.{Rational, neg_ℚ, one_ℚ, zero_ℚ, ◌*ℚ◌, ◌+ℚ◌, ◌-ℚ◌, ◌≤ℚ◌, ◌‹ℚ◌}
+use Rattle.ratio_core.specs.Rational.{Rational, neg_ℚ, one_ℚ, zero_ℚ, ◌*ℚ◌, ◌-ℚ◌, ◌≤ℚ◌, ◌‹ℚ◌}
 use Rattle.rational_laws.specs.Field.{one-*ℚ, zero-+ℚ}
 use Rattle.rational_laws.specs.Order.{nonneg_mul, nonneg_neg, nonpos_mul, not_‹ℚ_from_≤ℚ, zero_‹ℚ_one, ≤ℚ_antisymm, ≤ℚ_from_‹ℚ, ‹ℚ-≤ℚ_trans, ≤ℚ_refl}
 use Rattle.rational_laws.specs.Tests.{ge_from_failed, lt_from_test}

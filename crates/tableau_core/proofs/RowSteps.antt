@@ -149,20 +149,25 @@ put_none places made row = record {
   others = λ j n. refl;
 }
 
+-- where the i-th place is past n, each place up to it that is below n is an earlier one
+earlier_place : (places : List ℕ) (i n k : ℕ) → n ≤ slice_index places i → k < i + 1
+    → slice_index places k < n → k < i
+earlier_place places i n k b c d =
+    same_or_other (k < i) k i
+    (λ e. absurd (past_lem (slice_index places k) (slice_index places i) n (ap (slice_index places) e) d b))
+    (λ m. omega (arith, c, m))
+  where
+    past_lem : (a b n : ℕ) → a ≡ b → a < n → n ≤ b → ⊥
+    past_lem a b n e d f = omega (arith, e, d, f)
+
 module _ (places : List ℕ) (i : ℕ) (made : ℕ → Rational) (old new : List Rational) (h : IsPutAt places i made old new) where
   -- a place past the row's end
   pub put_past : length old ≤ slice_index places i → IsPutAt places (i + 1) made old new
   put_past b = record {
     long = h.long;
-    put = λ k c d. h.put k (below k c d) d;
+    put = λ k c d. h.put k (earlier_place places i (length old) k b c d) d;
     others = λ j n. h.others j (λ k c. n k (omega (arith, c)));
   }
-    where
-      below : (k : ℕ) → k < i + 1 → slice_index places k < length old → k < i
-      below k c d = same_or_other (k < i) k i (λ e. absurd (past_lem (slice_index places k) (slice_index places i) (length old) (ap (slice_index places) e) d b)) (λ m. omega (arith, c, m))
-        where
-          past_lem : (a b n : ℕ) → a ≡ b → a < n → n ≤ b → ⊥
-          past_lem a b n e d f = omega (arith, e, d, f)
 
   pub put_here : (value : Rational) → slice_index places i < length old → value ≡ made (slice_index places i) → IsPutAt places (i + 1) made old (slice_set new (slice_index places i) value)
   put_here value b is = record {
@@ -208,15 +213,9 @@ module _ (by : Rational) (step row : List Rational) (places : List ℕ) (before 
   lowered_past b = record {
     long = h.long;
     put = put_past places i lowered before next h.put (subst (λ n. n ≤ slice_index places i) (sym h.long) b);
-    fit = λ k c d. h.fit k (below k c d) d;
+    fit = λ k c d. h.fit k (earlier_place places i (length row) k b c d) d;
     all_fit = h.all_fit;
   }
-    where
-      below : (k : ℕ) → k < i + 1 → slice_index places k < length row → k < i
-      below k c d = same_or_other (k < i) k i (λ e. absurd (past_lem (slice_index places k) (slice_index places i) (length row) (ap (slice_index places) e) d b)) (λ m. omega (arith, c, m))
-        where
-          past_lem : (a b n : ℕ) → a ≡ b → a < n → n ≤ b → ⊥
-          past_lem a b n e d f = omega (arith, e, d, f)
 
   -- a number is written
   pub lowered_here : (value : Rational) → slice_index places i < length row → lowered_fits (cell row (slice_index places i)) by (cell step (slice_index places i)) ≡ true → value ≡ lowered (slice_index places i) → Fits value → IsLoweredAt by step row places before (slice_set next (slice_index places i) value) (i + 1)
