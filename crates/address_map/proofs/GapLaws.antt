@@ -40,9 +40,11 @@ unfolding others
 entries-remove {K} {X} {R} total exact m k =
     let p : K → Bool = λ x. not (eq_by_cmp R k x) in
     let kept = is_sorted-where_key R p (finite.entries m) (finite.entries_sorted m) in
-    ap finite.entries (finite.same_map total exact (finite.remove m k) (finite.from_sorted (where_key R p (finite.entries m))) (λ q.
+    ap finite.entries (finite.same_map total exact (finite.remove m k)
+    (finite.from_sorted (where_key R p (finite.entries m))) (λ q.
     finite.get-remove total m k q ∙ ap (λ b. cond b None (finite.get m q)) (same_test total q k)
-    ∙ swapped (eq_by_cmp R k q) (finite.get m q) ∙ ap (λ o. cond (p q) o None) (finite.get-entries m q)
+    ∙ swapped (eq_by_cmp R k q) (finite.get m q) ∙ ap (λ o. cond (p q) o None)
+    (finite.get-entries m q)
     ∙ sym (find-where_key R p q (λ x e. ap p (sym (exact q x e))) (finite.entries m))
     ∙ sym (finite.get-from_sorted R (where_key R p (finite.entries m)) q kept)))
     ∙ finite.entries-from_sorted R (where_key R p (finite.entries m)) kept
@@ -53,31 +55,49 @@ module _ (m : Indices) (at : Address) where
   es : List (Address × ℕ)
   es = finite.entries m
 
-  found_at : (n : ℕ) → n < length (finite.entries m) → ((d : Address × ℕ) → address_cmp (slice_index_or (finite.entries m) n d).0 at ≡ Equal) → finite.entries (finite.remove m at) ≡ remove (finite.entries m) n
+  found_at : (n : ℕ) → n < length (finite.entries m)
+      → ((d : Address × ℕ) → address_cmp (slice_index_or (finite.entries m) n d).0 at ≡ Equal)
+      → finite.entries (finite.remove m at) ≡ remove (finite.entries m) n
   found_at n lt here =
       let sorted = finite.entries_sorted m in
-      let same : (d : Address × ℕ) → (slice_index_or (finite.entries m) n d).0 ≡ at = λ d. exact_addresses _ _ (here d) in
-      let below : Within address_cmp (finite.entries m) at Less 0 n = λ j d from to. subst (λ k. address_cmp (slice_index_or (finite.entries m) j d).0 k ≡ Less) (same d) (key_less address_total (finite.entries m) j n d sorted to lt) in
-      let above : Within address_cmp (finite.entries m) at Greater (suc n) (length (finite.entries m)) = λ j d from to. turned address_total (slice_index_or (finite.entries m) j d).0 at Less (subst (λ k. address_cmp k (slice_index_or (finite.entries m) j d).0 ≡ Less) (same d) (key_less address_total (finite.entries m) n j d sorted (omega (arith, from)) to)) in
-      entries-remove address_total exact_addresses m at ∙ take_place address_total at (finite.entries m) n lt below here above
+      let same : (d : Address × ℕ) → (slice_index_or (finite.entries m) n d).0 ≡ at =
+      λ d. exact_addresses _ _ (here d) in
+      let below : Within address_cmp (finite.entries m) at Less 0 n =
+      λ j d from to. subst (λ k. address_cmp (slice_index_or (finite.entries m) j d).0 k ≡ Less)
+      (same d) (key_less address_total (finite.entries m) j n d sorted to lt) in
+      let above : Within address_cmp (finite.entries m) at Greater (suc n)
+      (length (finite.entries m)) = λ j d from to. turned address_total (slice_index_or
+      (finite.entries m) j d).0 at Less (subst
+      (λ k. address_cmp k (slice_index_or (finite.entries m) j d).0 ≡ Less) (same d)
+      (key_less address_total (finite.entries m) n j d sorted (omega (arith, from)) to)) in
+      entries-remove address_total exact_addresses m at
+      ∙ take_place address_total at (finite.entries m) n lt below here above
 
-  pub placed : (r : Result ℕ ℕ) → IsSearchInRange r (length (finite.entries m)) → IsBinarySearchResult (λ e. address_cmp e.0 at) (finite.entries m) r → MatchResult r (IsPlaceOf m at) (IsGapFor m at)
+  pub placed : (r : Result ℕ ℕ) → IsSearchInRange r (length (finite.entries m))
+      → IsBinarySearchResult (λ e. address_cmp e.0 at) (finite.entries m) r
+      → MatchResult r (IsPlaceOf m at) (IsGapFor m at)
   placed (Ok n) range here = record {
     in_range = range;
-    found = λ d. finite.get-entries m at ∙ searched address_total at (finite.entries m) (Ok n) (finite.entries_sorted m) range here d;
+    found = λ d. finite.get-entries m at ∙ searched address_total at (finite.entries m) (Ok n)
+        (finite.entries_sorted m) range here d;
     others = found_at n range here;
   }
   placed (Err n) range parted =
-      let parts = parted (searchable_from_sorted address_total (λ e. e.0) (finite.entries m) at (ascending address_total (finite.entries m) (finite.entries_sorted m))) in
+      let parts = parted (searchable_from_sorted address_total (λ e. e.0) (finite.entries m) at
+      (ascending address_total (finite.entries m) (finite.entries_sorted m))) in
       record {
         in_range = range;
-        absent = finite.get-entries m at ∙ searched address_total at (finite.entries m) (Err n) (finite.entries_sorted m) range parted;
-        given = λ i. finite.entries-insert address_total m at i ∙ put_gap address_total at i (finite.entries m) n range (λ j d from to. parts.0 j d (omega arith) to) (λ j d from to. parts.1 j d from to);
+        absent = finite.get-entries m at ∙ searched address_total at (finite.entries m) (Err n)
+            (finite.entries_sorted m) range parted;
+        given = λ i. finite.entries-insert address_total m at i
+            ∙ put_gap address_total at i (finite.entries m) n range
+            (λ j d from to. parts.0 j d (omega arith) to) (λ j d from to. parts.1 j d from to);
       }
 
 -- ---- the map of entries in order
 
-pub entries_kept : (items : List (Address × ℕ)) → RiseStrictly items → finite.entries (finite.from_sorted {R = address_cmp} items) ≡ items
+pub entries_kept : (items : List (Address × ℕ)) → RiseStrictly items
+    → finite.entries (finite.from_sorted {R = address_cmp} items) ≡ items
 entries_kept items h = finite.entries-from_sorted address_cmp items (rises items h)
 
 -- entries that are a map's rise, and make that map

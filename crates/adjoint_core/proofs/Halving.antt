@@ -68,4 +68,5 @@ module _ {X Y : Type 0} (P : X → Type 0) (f : X → Y) (xs : List X) where
       → length made ≤ i → i ≤ length made → x ≡ get_or xs i x → i < length xs → ¬ (P x)
   far_gone made i x far past le here lt =
       let last : i ≡ length made = omega (arith, le, past) in
-      far.stops x (subst (λ n. slice_get xs n ≡ Some x) last (slice_get_read xs (length xs) i x refl lt here))
+      far.stops x (subst (λ n. slice_get xs n ≡ Some x) last
+      (slice_get_read xs (length xs) i x refl lt here))

@@ -65,7 +65,8 @@ at_place change (t ∷ ss) zero s once e =
     (and_first (not (list_any (family_eq t.family) (families_of ss)))
     (occur_once (families_of ss)) once) in
     subst (λ (x : State). change x ∷ ss ≡ map (at_family x.family change) (t ∷ ss)) same
-    (sym (ap (λ b. cond b (change t) t ∷ map (at_family t.family change) ss) (family_itself t.family)
+    (sym (ap (λ b. cond b (change t) t ∷ map (at_family t.family change) ss)
+    (family_itself t.family)
     ∙ ap (λ ts. change t ∷ ts) (untouched t.family change ss others)))
 at_place change (t ∷ ss) (suc n) s once e =
     let others = not-true (list_any (family_eq t.family) (families_of ss))

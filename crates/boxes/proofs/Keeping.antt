@@ -30,7 +30,8 @@ not_among : (at : Address) (family : Family) (nodes : List KeptItem) → Misses 
 not_among at family [] h = refl
 not_among at family (n ∷ nodes) h =
     by (family_eq (family_of n.edge) family)
-    (not_among at family nodes (All-tail (λ (m : KeptItem). address_eq at m.item.at ≡ false) n nodes h))
+    (not_among at family nodes (All-tail (λ (m : KeptItem). address_eq at m.item.at ≡ false) n nodes
+    h))
   where
     by : (b : Bool)
         → find address_cmp at (map (λ (m : KeptItem). (m.item.at, m))
@@ -104,7 +105,8 @@ earlier (d ∷ done) rest n h =
 
 -- ---- the loop
 
-same_map : {A B : Type 0} (f g : A → B) → ((x : A) → f x ≡ g x) → (xs : List A) → map f xs ≡ map g xs
+same_map : {A B : Type 0} (f g : A → B) → ((x : A) → f x ≡ g x) → (xs : List A)
+    → map f xs ≡ map g xs
 same_map f g h [] = refl
 same_map f g h (x ∷ xs) = λ i. h x i ∷ same_map f g h xs i
 

@@ -123,7 +123,8 @@ fits_by family.NormInfinity none item = absurd (true≢false none)
 fits_by family.NormOne none item = absurd (true≢false none)
 fits_by _ none item = tt
 
-pub fits_back_by : (f : Family) → sums_of_duals f ≡ false → (item : Item) (ys : List (List Rational))
+pub fits_back_by : (f : Family) → sums_of_duals f ≡ false
+    → (item : Item) (ys : List (List Rational))
     → BackFitsBy f item ys
 unfolding BackFitsBy
 fits_back_by family.SplitSet none item ys = absurd (true≢false none)

@@ -211,7 +211,8 @@ module _ {f : Family} {Source : Body → Type 0} {made : Body → Body} {Fits : 
   -- the dual of the child row
   module _ (ys : List (List Rational)) (takes : TakesDuals (kept_by edge item) ys) where
     pub one_dual : length ys ≡ 1
-    one_dual = dual_count edge item (row_at item (made item.body)) (image_is r.rule edge own item) ys takes
+    one_dual =
+        dual_count edge item (row_at item (made item.body)) (image_is r.rule edge own item) ys takes
 
     module _ (y : List Rational) (first : y ≡ slice_index_or ys 0 y) where
       duals_are : ys ≡ y ∷ []
@@ -221,7 +222,8 @@ module _ {f : Family} {Source : Body → Type 0} {made : Body → Body} {Fits : 
       dual_size =
           ap first_size
           (ap (map length) (sym duals_are)
-          ∙ dual_sizes edge item (row_at item (made item.body)) (image_is r.rule edge own item) ys takes)
+          ∙ dual_sizes edge item (row_at item (made item.body))
+          (image_is r.rule edge own item) ys takes)
 
       -- what is answered to it is answered to the item's duals
       pub dual_answer : (answer : Result (List Rational) NumberFault)

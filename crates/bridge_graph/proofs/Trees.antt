@@ -1,4 +1,5 @@
--- While kinds are settled: what a settled kind's plan says, and what the trees of an open kind cost.
+-- While kinds are settled: what a settled kind's plan says, and what the trees of an open kind
+-- cost.
 use Rattle.std.proofs.Common.{◌≡◌, ℕ, ◌+◌, ◌≤◌, ◌⊎◌, inl, inr, List, [], ◌∷◌, Some, refl, sym, ap, subst, ◌∙◌, arith}
 use Rattle.std.specs.Option.{option_and_then}
 use Rattle.std.proofs.lemmas.Option.{same_Some}
@@ -29,92 +30,174 @@ IsStep graph plans step = IsCandidate graph.edges graph.costs graph.on plans ste
 TreesOf : Hypergraph → List ℕ → ℕ → ℕ → Type 0
 TreesOf graph kinds total sum = (cost : ℕ) × Trees graph kinds cost × (sum ≡ total + cost)
 
-one_more : (graph : Hypergraph) (plans : List Plan) (total sum kind : ℕ) (kinds : List ℕ) (plan : Plan) → IsPlanSoFar graph kind plan → ((start : ℕ) → with_children plans start kinds ≡ Some sum → TreesOf graph kinds start sum) → option_and_then (λ cost. with_children plans (total + cost) kinds) (cost_of plan) ≡ Some sum → TreesOf graph (kind ∷ kinds) total sum
+one_more : (graph : Hypergraph) (plans : List Plan) (total sum kind : ℕ) (kinds : List ℕ)
+    (plan : Plan) → IsPlanSoFar graph kind plan
+    → ((start : ℕ) → with_children plans start kinds ≡ Some sum → TreesOf graph kinds start sum)
+    → option_and_then (λ cost. with_children plans (total + cost) kinds) (cost_of plan) ≡ Some sum
+    → TreesOf graph (kind ∷ kinds) total sum
 unfolding TreesOf
 one_more graph plans total sum kind kinds Open right others e = absurd (cc)
 one_more graph plans total sum kind kinds Native right others e =
-    let (cost, trees, is) = others (total + 0) e in (0 + cost, each (native right) trees, omega arith)
+    let (cost, trees, is) = others (total + 0) e in
+    (0 + cost, each (native right) trees, omega arith)
 one_more graph plans total sum kind kinds (By edge c) right others e =
-    let (cost, trees, is) = others (total + c) e in (c + cost, each (by right.tree) trees, omega arith)
+    let (cost, trees, is) = others (total + c) e in
+    (c + cost, each (by right.tree) trees, omega arith)
 
 -- each settled child has a tree of its plan's cost
-trees_of_children : (graph : Hypergraph) (plans : List Plan) → IsSettling graph plans → (kinds : List ℕ) (total sum : ℕ) → with_children plans total kinds ≡ Some sum → TreesOf graph kinds total sum
+trees_of_children : (graph : Hypergraph) (plans : List Plan) → IsSettling graph plans
+    → (kinds : List ℕ) (total sum : ℕ) → with_children plans total kinds ≡ Some sum
+    → TreesOf graph kinds total sum
 unfolding TreesOf
-trees_of_children graph plans settling [] total sum e = (0, none, same_Some sum (total + 0) (sym e ∙ ap Some (omega arith)))
+trees_of_children graph plans settling [] total sum e =
+    (0, none, same_Some sum (total + 0) (sym e ∙ ap Some (omega arith)))
 trees_of_children graph plans settling (kind ∷ kinds) total sum e =
-    one_more graph plans total sum kind kinds (plan_at plans kind) (settling.plan kind) (λ start. trees_of_children graph plans settling kinds start sum) e
+    one_more graph plans total sum kind kinds (plan_at plans kind) (settling.plan kind)
+    (λ start. trees_of_children graph plans settling kinds start sum) e
 
 -- a candidate has a tree that begins with its edge, of its cost
-pub tree_of_step : {graph : Hypergraph} {plans : List Plan} {step : Step} → IsSettling graph plans → IsStep graph plans step → TreeBy graph step.edge step.kind step.cost
+pub tree_of_step : {graph : Hypergraph} {plans : List Plan} {step : Step} → IsSettling graph plans
+    → IsStep graph plans step → TreeBy graph step.edge step.kind step.cost
 unfolding TreesOf
 tree_of_step {graph} {plans} {step} settling c =
-    let (cost, trees, is) = trees_of_children graph plans settling (children_of c.row) c.cost step.cost c.total in
+    let (cost, trees, is) = trees_of_children graph plans settling (children_of c.row) c.cost
+    step.cost c.total in
     subst (λ kind. TreeBy graph step.edge kind step.cost) c.source
     (subst (λ sum. TreeBy graph step.edge c.row.source sum) (sym is) (via c.usable trees))
 
 -- a limit below which no step costs anything, or the total of settled children
 ChildrenCost : List Plan → ℕ → List ℕ → ℕ → Type 0
 ChildrenCost plans limit kinds cost =
-    (limit ≤ cost) ⊎ ((settled : ℕ) × (settled ≤ cost) × ((total : ℕ) → with_children plans total kinds ≡ Some (total + settled)))
+    (limit ≤ cost) ⊎ ((settled : ℕ) × (settled ≤ cost)
+    × ((total : ℕ) → with_children plans total kinds ≡ Some (total + settled)))
 
-child_costs : (graph : Hypergraph) (plans : List Plan) (limit kind cost others : ℕ) (kinds : List ℕ) (plan : Plan) → plan_at plans kind ≡ plan → IsPlanSoFar graph kind plan → Tree graph kind cost → (plan ≡ Open → limit ≤ cost) → ChildrenCost plans limit kinds others → ChildrenCost plans limit (kind ∷ kinds) (cost + others)
+child_costs : (graph : Hypergraph) (plans : List Plan) (limit kind cost others : ℕ) (kinds : List ℕ)
+    (plan : Plan) → plan_at plans kind ≡ plan → IsPlanSoFar graph kind plan → Tree graph kind cost
+    → (plan ≡ Open → limit ≤ cost) → ChildrenCost plans limit kinds others
+    → ChildrenCost plans limit (kind ∷ kinds) (cost + others)
 unfolding ChildrenCost
-child_costs graph plans limit kind cost others kinds Open is right tree unsettled rest = inl (let h : limit ≤ cost = unsettled refl in omega arith)
-child_costs graph plans limit kind cost others kinds Native is right tree unsettled (inl h) = inl (omega arith)
-child_costs graph plans limit kind cost others kinds Native is right tree unsettled (inr (settled, le, sums)) = inr (settled, omega arith, λ total. rw is (sums (total + 0) ∙ ap Some (omega arith)))
-child_costs graph plans limit kind cost others kinds (By edge c) is right tree unsettled (inl h) = inl (omega arith)
-child_costs graph plans limit kind cost others kinds (By edge c) is right tree unsettled (inr (settled, le, sums)) = inr (c + settled, omega (arith, right.least cost tree), λ total. rw is (sums (total + c) ∙ ap Some (omega arith)))
+child_costs graph plans limit kind cost others kinds Open is right tree unsettled rest =
+    inl (let h : limit ≤ cost = unsettled refl in omega arith)
+child_costs graph plans limit kind cost others kinds Native is right tree unsettled (inl h) =
+    inl (omega arith)
+child_costs graph plans limit kind cost others kinds Native is right tree unsettled
+    (inr (settled, le, sums)) = inr (
+      settled,
+      omega arith,
+      λ total. rw is (sums (total + 0)
+          ∙ ap Some (omega arith)),
+    )
+child_costs graph plans limit kind cost others kinds (By edge c) is right tree unsettled (inl h) =
+    inl (omega arith)
+child_costs graph plans limit kind cost others kinds (By edge c) is right tree unsettled
+    (inr (settled, le, sums)) = inr (
+      c + settled,
+      omega (arith, right.least cost tree),
+      λ total. rw is (sums (total + c) ∙ ap Some (omega arith)),
+    )
 
-tree_costs : (graph : Hypergraph) (plans : List Plan) (limit kind edge cost children : ℕ) (row : EdgeRow) → ((step : Step) → IsStep graph plans step → limit ≤ step.cost) → IsUsable graph.edges graph.costs graph.on edge row cost → plan_at plans row.source ≡ Open → ChildrenCost plans limit (children_of row) children → limit ≤ cost + children
+tree_costs : (graph : Hypergraph) (plans : List Plan) (limit kind edge cost children : ℕ)
+    (row : EdgeRow) → ((step : Step) → IsStep graph plans step → limit ≤ step.cost)
+    → IsUsable graph.edges graph.costs graph.on edge row cost → plan_at plans row.source ≡ Open
+    → ChildrenCost plans limit (children_of row) children → limit ≤ cost + children
 unfolding ChildrenCost
-tree_costs graph plans limit kind edge cost children row steps usable unsettled (inl h) = omega arith
-tree_costs graph plans limit kind edge cost children row steps usable unsettled (inr (settled, le, sums)) =
+tree_costs graph plans limit kind edge cost children row steps usable unsettled (inl h) =
+    omega arith
+tree_costs graph plans limit kind edge cost children row steps usable unsettled
+    (inr (settled, le, sums)) =
     let step : Step = record { kind = row.source; edge = edge; cost = cost + settled } in
-    let h : limit ≤ cost + settled = steps step (record { row = row; cost = cost; usable = usable; source = refl; is_open = unsettled; total = sums cost }) in
+    let h : limit ≤ cost + settled = steps step (record {
+      row = row;
+      cost = cost;
+      usable = usable;
+      source = refl;
+      is_open = unsettled;
+      total = sums cost;
+    }) in
     omega arith
 
 mutual
   unfolding ChildrenCost
 
   -- no tree of an open kind costs less than every step
-  pub open_tree : (graph : Hypergraph) (plans : List Plan) (limit : ℕ) → IsSettling graph plans → ((step : Step) → IsStep graph plans step → limit ≤ step.cost) → {kind cost : ℕ} → Tree graph kind cost → plan_at plans kind ≡ Open → limit ≤ cost
-  open_tree graph plans limit settling steps {kind} (native supported) unsettled = absurd (cc (settling.native kind supported, unsettled))
-  open_tree graph plans limit settling steps (by tree) unsettled = open_tree_by graph plans limit settling steps tree unsettled
+  pub open_tree : (graph : Hypergraph) (plans : List Plan) (limit : ℕ) → IsSettling graph plans
+      → ((step : Step) → IsStep graph plans step → limit ≤ step.cost) → {kind cost : ℕ}
+      → Tree graph kind cost → plan_at plans kind ≡ Open → limit ≤ cost
+  open_tree graph plans limit settling steps {kind} (native supported) unsettled =
+      absurd (cc (settling.native kind supported, unsettled))
+  open_tree graph plans limit settling steps (by tree) unsettled =
+      open_tree_by graph plans limit settling steps tree unsettled
 
-  open_tree_by : (graph : Hypergraph) (plans : List Plan) (limit : ℕ) → IsSettling graph plans → ((step : Step) → IsStep graph plans step → limit ≤ step.cost) → {edge kind cost : ℕ} → TreeBy graph edge kind cost → plan_at plans kind ≡ Open → limit ≤ cost
-  open_tree_by graph plans limit settling steps (via {edge} {cost} {children} {row} usable trees) unsettled =
-      tree_costs graph plans limit row.source edge cost children row steps usable unsettled (open_trees graph plans limit settling steps trees)
+  open_tree_by : (graph : Hypergraph) (plans : List Plan) (limit : ℕ) → IsSettling graph plans
+      → ((step : Step) → IsStep graph plans step → limit ≤ step.cost) → {edge kind cost : ℕ}
+      → TreeBy graph edge kind cost → plan_at plans kind ≡ Open → limit ≤ cost
+  open_tree_by graph plans limit settling steps (via {edge} {cost} {children} {row} usable trees)
+      unsettled =
+      tree_costs graph plans limit row.source edge cost children row steps usable unsettled
+      (open_trees graph plans limit settling steps trees)
 
-  open_trees : (graph : Hypergraph) (plans : List Plan) (limit : ℕ) → IsSettling graph plans → ((step : Step) → IsStep graph plans step → limit ≤ step.cost) → {kinds : List ℕ} {cost : ℕ} → Trees graph kinds cost → ChildrenCost plans limit kinds cost
-  open_trees graph plans limit settling steps none = inr (0, omega arith, λ total. ap Some (omega arith))
+  open_trees : (graph : Hypergraph) (plans : List Plan) (limit : ℕ) → IsSettling graph plans
+      → ((step : Step) → IsStep graph plans step → limit ≤ step.cost) → {kinds : List ℕ} {cost : ℕ}
+      → Trees graph kinds cost → ChildrenCost plans limit kinds cost
+  open_trees graph plans limit settling steps none =
+      inr (0, omega arith, λ total. ap Some (omega arith))
   open_trees graph plans limit settling steps (each {kind} {cost} {others} {kinds} tree trees) =
-      child_costs graph plans limit kind cost others kinds (plan_at plans kind) refl (settling.plan kind) tree (open_tree graph plans limit settling steps tree) (open_trees graph plans limit settling steps trees)
+      child_costs graph plans limit kind cost others kinds (plan_at plans kind) refl
+      (settling.plan kind) tree (open_tree graph plans limit settling steps tree)
+      (open_trees graph plans limit settling steps trees)
 
 -- a tree of an open kind that costs no more than any step gives a step by its first edge
 StepBy : Hypergraph → List Plan → ℕ → ℕ → Type 0
-StepBy graph plans edge cost = (step : Step) × IsStep graph plans step × (step.edge ≡ edge) × (step.cost ≤ cost)
+StepBy graph plans edge cost =
+    (step : Step) × IsStep graph plans step × (step.edge ≡ edge) × (step.cost ≤ cost)
 
-step_by_children : (graph : Hypergraph) (plans : List Plan) (limit edge cost children : ℕ) (row : EdgeRow) → IsCostly graph → IsUsable graph.edges graph.costs graph.on edge row cost → plan_at plans row.source ≡ Open → cost + children ≤ limit → ChildrenCost plans limit (children_of row) children → StepBy graph plans edge (cost + children)
+step_by_children : (graph : Hypergraph) (plans : List Plan) (limit edge cost children : ℕ)
+    (row : EdgeRow) → IsCostly graph → IsUsable graph.edges graph.costs graph.on edge row cost
+    → plan_at plans row.source ≡ Open → cost + children ≤ limit
+    → ChildrenCost plans limit (children_of row) children
+    → StepBy graph plans edge (cost + children)
 unfolding ChildrenCost StepBy
-step_by_children graph plans limit edge cost children row costly usable unsettled within (inl h) = absurd (omega (arith, costly edge cost usable.cost_is))
-step_by_children graph plans limit edge cost children row costly usable unsettled within (inr (settled, le, sums)) =
-    let step : Step = record { kind = row.source; edge = edge; cost = cost + settled } in
-    (step, record { row = row; cost = cost; usable = usable; source = refl; is_open = unsettled; total = sums cost }, refl, omega arith)
+step_by_children graph plans limit edge cost children row costly usable unsettled within (inl h) =
+    absurd (omega (arith, costly edge cost usable.cost_is))
+step_by_children graph plans limit edge cost children row costly usable unsettled within
+    (inr (settled, le, sums)) =
+    let step : Step = record { kind = row.source; edge = edge; cost = cost + settled } in (
+      step,
+      record {
+        row = row;
+        cost = cost;
+        usable = usable;
+        source = refl;
+        is_open = unsettled;
+        total = sums cost;
+      },
+      refl,
+      omega arith,
+    )
 
-step_by_tree : (graph : Hypergraph) (plans : List Plan) (limit : ℕ) → IsSettling graph plans → IsCostly graph → ((step : Step) → IsStep graph plans step → limit ≤ step.cost) → {edge kind cost : ℕ} → TreeBy graph edge kind cost → plan_at plans kind ≡ Open → cost ≤ limit → StepBy graph plans edge cost
-step_by_tree graph plans limit settling costly steps (via {edge} {cost} {children} {row} usable trees) unsettled within =
-    step_by_children graph plans limit edge cost children row costly usable unsettled within (open_trees graph plans limit settling steps trees)
+step_by_tree : (graph : Hypergraph) (plans : List Plan) (limit : ℕ) → IsSettling graph plans
+    → IsCostly graph → ((step : Step) → IsStep graph plans step → limit ≤ step.cost)
+    → {edge kind cost : ℕ} → TreeBy graph edge kind cost → plan_at plans kind ≡ Open → cost ≤ limit
+    → StepBy graph plans edge cost
+step_by_tree graph plans limit settling costly steps (via {edge} {cost} {children} {row} usable
+    trees) unsettled within =
+    step_by_children graph plans limit edge cost children row costly usable unsettled within
+    (open_trees graph plans limit settling steps trees)
 
 -- the cheapest step begins a least-cost tree of its kind, and no lower edge does
-pub best_of_step : {graph : Hypergraph} {plans : List Plan} {step : Step} → IsSettling graph plans → IsCostly graph → IsCheapest graph.edges graph.costs graph.on plans step → BeginsLeast graph step.kind step.edge step.cost
+pub best_of_step : {graph : Hypergraph} {plans : List Plan} {step : Step} → IsSettling graph plans
+    → IsCostly graph → IsCheapest graph.edges graph.costs graph.on plans step
+    → BeginsLeast graph step.kind step.edge step.cost
 unfolding StepBy
 best_of_step {graph} {plans} {step} settling costly cheapest =
     let steps = λ (other : Step) (c : IsStep graph plans other). (cheapest.first other c).cheaper in
     record {
       tree = tree_of_step settling cheapest.candidate;
-      least = λ other tree. open_tree graph plans step.cost settling steps tree cheapest.candidate.is_open;
+      least = λ other tree. open_tree graph plans step.cost settling steps tree
+          cheapest.candidate.is_open;
       lowest = λ edge tree.
-          let (other, c, is, within) = step_by_tree graph plans step.cost settling costly steps tree cheapest.candidate.is_open (omega arith) in
+          let (other, c, is, within) = step_by_tree graph plans step.cost settling costly steps tree
+          cheapest.candidate.is_open (omega arith) in
           let first = cheapest.first other c in
           omega (arith, first.lower (omega (arith, first.cheaper)));
     }

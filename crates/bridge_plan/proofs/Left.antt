@@ -13,7 +13,8 @@ taken_item xs i x is lt =
 
 -- ---- a list that is made item by item
 
-pub pushed_next : {X Y : Type 0} (f : X → Y) (before after all : List Y) (left rest : List X) (x : X)
+pub pushed_next : {X Y : Type 0} (f : X → Y) (before after all : List Y)
+    (left rest : List X) (x : X)
     → before ++ map f left ≡ all → left ≡ x ∷ rest → after ≡ before ++ f x ∷ []
     → after ++ map f rest ≡ all
 pushed_next f before after all left rest x so_far next is =

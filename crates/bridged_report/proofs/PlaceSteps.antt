@@ -13,6 +13,8 @@ module _ {X : Type 0} where
   suc_more (x ∷ xs) (suc n) = ap (λ ys. x ∷ ys) (suc_more xs n)
 
   -- one more is pushed where there is one
-  pub taken_more : (xs : List X) (n : ℕ) (o : Option X) (old new : List X) → old ≡ take n xs → o ≡ slice_get xs n → new ≡ old ++ option_to_list o → new ≡ take (n + 1) xs
+  pub taken_more : (xs : List X) (n : ℕ) (o : Option X) (old new : List X) → old ≡ take n xs
+      → o ≡ slice_get xs n → new ≡ old ++ option_to_list o → new ≡ take (n + 1) xs
   taken_more xs n o old new so_far item pushed =
-      pushed ∙ (λ i. so_far i ++ option_to_list (item i)) ∙ sym (suc_more xs n) ∙ ap (λ k. take k xs) (one_more n)
+      pushed ∙ (λ i. so_far i ++ option_to_list (item i)) ∙ sym (suc_more xs n)
+      ∙ ap (λ k. take k xs) (one_more n)

@@ -170,7 +170,8 @@ rule = record {
   no_sum = refl;
   no_dual_sum = refl;
   children = λ edge item. refl;
-  dual = λ edge item source no_group. absurd (true≢false (sym (read source.group).source ∙ no_group));
+  dual = λ edge item source no_group. absurd (true≢false (sym (read source.group).source
+      ∙ no_group));
   law = λ edge own item valid source.
       one_group_law edge item (cone_of (set_of item.body)) 1
       (raised (variable (child_of (child_of item.at 0) 0)) (number_in (set_of item.body)) ∷ [])

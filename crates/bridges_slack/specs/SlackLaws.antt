@@ -177,7 +177,8 @@ module _ (edge : Edge) (item : Item) (child : Body) (s : IsSlack edge item child
     row_leads = s.row_leads;
     mentioned = λ v m absent.
         subst (λ gs. Miss gs v) (sym s.functions)
-        (all_paired difference (λ f. coefficient f v ≡ zero_ℚ) (missed-difference v) fs (variables ss) m
+        (all_paired difference (λ f. coefficient f v ≡ zero_ℚ) (missed-difference v) fs
+        (variables ss) m
         (variables_missed ss v (not_contained ss v absent)));
   }
 

@@ -213,7 +213,8 @@ all_zero w h =
 constants_split : (at : Address) (d : ℕ) → All (λ q. q ≡ zero_ℚ) (constants (split at d))
 constants_split at d =
     All-map (λ q. q ≡ zero_ℚ) (λ f. f.constant) (split at d)
-    (all_paired difference (λ f. f.constant ≡ zero_ℚ) (λ f g p q. constant-difference f g ∙ ap₂ ◌-ℚ◌ p q
+    (all_paired difference (λ f. f.constant ≡ zero_ℚ) (λ f g p q. constant-difference f g
+    ∙ ap₂ ◌-ℚ◌ p q
     ∙ -ℚ-itself zero_ℚ) (plus_half at d) (minus_half at d)
     (All-map (λ f. f.constant ≡ zero_ℚ) variable (components_from at 0 d)
     (all_components (λ v. (variable {R = address_cmp} v).constant ≡ zero_ℚ) at 0 d

@@ -69,7 +69,8 @@ module _ (lazy : Owned) (model : ModelValue) (stands : IsBridgingOf lazy model) 
 -- ---- carrying back
 
 -- what the call below tells, with the place in place of the address
-pub certificate_told : {setting : Setting} {model : ModelValue} (bridging : FreshBridging setting model)
+pub certificate_told : {setting : Setting} {model : ModelValue}
+    (bridging : FreshBridging setting model)
     (answer : Answer) (c : Certificate) → CarriesBack bridging answer (Ok c)
     → TellsCertificate bridging answer (Ok c)
 certificate_told bridging answer c told = told

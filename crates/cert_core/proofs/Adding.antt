@@ -58,11 +58,13 @@ module _ (us : List Address) (before : List Rational) (parts : Address → List 
       let ends : All (λ v. AddUp (x v) (parts v) × (from.now v ≡ sum_from (x v) (parts v))) us =
       λ k d lt. summed_end (x _) (from.now _) (parts _) (left _) (from.each k d lt) (end _) in (
         λ k d lt. (ends k d lt).0,
-        from.is ∙ map_same_on from.now (λ v. sum_from (x v) (parts v)) us (λ k d lt. (ends k d lt).1),
+        from.is ∙ map_same_on from.now (λ v. sum_from (x v) (parts v)) us
+            (λ k d lt. (ends k d lt).1),
       )
 
   module _ (sums : List Rational) (left now rest : Address → List Rational)
-      (h : AddsAsAll us before sums parts left) (next : (v : Address) → left v ≡ now v ++ rest v) where
+      (h : AddsAsAll us before sums parts left) (next : (v : Address)
+      → left v ≡ now v ++ rest v) where
     pub adds_step : (done : List Rational) → AddsAt (Ok tt) us sums done now
         → AddsAsAll us before done parts rest
     adds_step done said = λ x is fit.
@@ -181,7 +183,8 @@ module _ (us : List Address) (before : List Rational) (by : Rational)
             ap (coefficient_among rest) same
             ∙ lacks_first t rest (subst (λ l. T (is_sorted address_cmp l)) next sorted) in
             let now_steps : StepFits (now v) by t.1 =
-            subst (λ u. StepFits (now u) by t.1) (sym same) (steps (subst (Contains us) same stands)) in
+            subst (λ u. StepFits (now u) by t.1) (sym same)
+            (steps (subst (Contains us) same stands)) in
             subst (λ u. TermAsAll (x v) (now u +ℚ by *ℚ t.1) by (coefficient_among ts v)
             (coefficient_among rest v)) same
             (subst (TermAsAll (x v) (now v +ℚ by *ℚ t.1) by (coefficient_among ts v)) (sym nothing)
@@ -270,7 +273,8 @@ next_function w fs i p f ts e p_is f_is lt ts_is v =
     (coefficient_is f v ∙ ap (λ l. coefficient_among l v) (sym ts_is))
 
 pub next_variable : (w : List Rational) (us : List Address) (i : ℕ) (p : Rational) (u : Address)
-    (one : Rational) → one ≡ one_ℚ → length w ≡ length us → p ≡ get_or w i p → u ≡ get_or us i u → i < length us → (v : Address)
+    (one : Rational) → one ≡ one_ℚ → length w ≡ length us → p ≡ get_or w i p → u ≡ get_or us i u
+    → i < length us → (v : Address)
     → products (drop i w) (coefficients (variables_at (drop i us)) v)
     ≡ (p *ℚ coefficient_among ((u, one) ∷ []) v ∷ [])
     ++ products (drop (i + 1) w) (coefficients (variables_at (drop (i + 1) us)) v)

@@ -28,7 +28,8 @@ module _ (x : Address → Rational) (g : Group) (gs : List Group) (numbers : Lis
   -- the numbers of the first group
   own_numbers : take (length g.vars) numbers ≡ map x (addresses_of g.vars)
   own_numbers =
-      ap (λ n. take n numbers) (sym count) ∙ ap (take (length (map x (addresses_of g.vars)))) (sym parted)
+      ap (λ n. take n numbers) (sym count) ∙ ap (take (length (map x (addresses_of g.vars))))
+      (sym parted)
       ∙ take-append_seam (map x (addresses_of g.vars)) (map x (all_addresses gs))
 
   -- and those of the others

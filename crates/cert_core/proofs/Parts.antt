@@ -39,7 +39,8 @@ sum_negated (q ∷ qs) =
     ap (λ s. neg_ℚ q +ℚ s) (sum_negated qs) ∙ sym (neg_ℚ-sum q (sum_ℚ qs))
 
 -- the adjoint
-pub adjoint_is : (hs : List Held) (v : Address) → sum_from zero_ℚ (adjoint_parts hs v) ≡ adjoint hs v
+pub adjoint_is : (hs : List Held) (v : Address) → sum_from zero_ℚ (adjoint_parts hs v)
+    ≡ adjoint hs v
 adjoint_is hs v = from_zero (adjoint_parts hs v) ∙ sums hs
   where
     sums : (hs : List Held) → sum_ℚ (adjoint_parts hs v) ≡ adjoint hs v

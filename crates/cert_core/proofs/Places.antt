@@ -81,7 +81,8 @@ searched us at (Err i) up range parted =
 -- ---- a point at a place
 
 -- an address that differs from all of a list differs from the one at a place
-other : (a v : Address) (us : List Address) (i : ℕ) → AllByRecursion (λ u. address_eq a u ≡ false) us
+other : (a v : Address) (us : List Address) (i : ℕ)
+    → AllByRecursion (λ u. address_eq a u ≡ false) us
     → slice_get us i ≡ Some v → address_eq v a ≡ false
 other a v [] i apart is = cc
 other a v (u ∷ us) zero apart is =
@@ -103,7 +104,8 @@ spread_place (a ∷ us) (q ∷ x) (suc i) v d is =
     ap (λ b. cond b q (spread us x v)) (other a v us i (IsDistinct-head address_eq a us d) is)
     ∙ spread_place us x i v (IsDistinct-tail address_eq a us d) is
 
-first_differs : (a : Address) (us : List Address) (v : Address) → ¬ (Contains (a ∷ us) v) → ¬ (v ≡ a)
+first_differs : (a : Address) (us : List Address) (v : Address)
+    → ¬ (Contains (a ∷ us) v) → ¬ (v ≡ a)
 first_differs a us v none e = none (0, omega arith, sym e)
 
 rest_lacks : (a : Address) (us : List Address) (v : Address) → ¬ (Contains (a ∷ us) v)
@@ -147,7 +149,8 @@ pub none_at_place : (us : List Address) (y : Address → Rational) (v : Address)
 none_at_place [] y v q none = refl
 none_at_place (a ∷ us) y v q none =
     ap₂ ◌∷◌
-    (ap (λ b. cond b q (y a)) (sym (other_key address_order a v (λ e. first_differs a us v none (sym e)))))
+    (ap (λ b. cond b q (y a)) (sym (other_key address_order a v
+    (λ e. first_differs a us v none (sym e)))))
     (none_at_place us y v q (rest_lacks a us v none))
 
 -- ---- places

@@ -29,7 +29,8 @@ no_spaces bs h =
 
 pub no_newlines : (bs : List ℕ) → OnLine bs → All (λ b. is_newline b ≡ false) bs
 no_newlines bs h =
-    All-weaker (λ b. 32 ≤ b) (λ b. is_newline b ≡ false) (λ b l. ne_eqb b 10 (λ e. omega arith)) bs h
+    All-weaker (λ b. 32 ≤ b) (λ b. is_newline b ≡ false)
+    (λ b l. ne_eqb b 10 (λ e. omega arith)) bs h
 
 pub on_line : (bs : List ℕ) → Above bs → OnLine bs
 on_line bs h = All-weaker (λ b. 33 ≤ b) (λ b. 32 ≤ b) (λ b l. omega arith) bs h
@@ -37,7 +38,8 @@ on_line bs h = All-weaker (λ b. 33 ≤ b) (λ b. 32 ≤ b) (λ b l. omega arith
 pub by_test : (bs : List ℕ) → list_all (λ b. leb 32 b) bs ≡ true → OnLine bs
 by_test [] h = All-nil (λ b. 32 ≤ b)
 by_test (b ∷ bs) h =
-    let both : (leb 32 b ≡ true) × (list_all (λ b. leb 32 b) bs ≡ true) = and_parts (leb 32 b) (list_all (λ b. leb 32 b) bs) h in
+    let both : (leb 32 b ≡ true) × (list_all (λ b. leb 32 b) bs ≡ true) =
+    and_parts (leb 32 b) (list_all (λ b. leb 32 b) bs) h in
     All-cons (λ b. 32 ≤ b) b bs (leb-true 32 b both.0) (by_test bs both.1)
 
 -- ---- numbers
@@ -49,8 +51,11 @@ glyph_above false d = grind (arith, nat_tests)
 digits_above : (k n : ℕ) (rest : List ℕ) → Above rest → Above (digits_onto k 10 false n rest)
 digits_above zero n rest h = h
 digits_above (suc k) n rest h =
-    let more : Above (digit_glyph false (n % 10) ∷ rest) = All-cons (λ b. 33 ≤ b) (digit_glyph false (n % 10)) rest (glyph_above false (n % 10)) h in
-    last (eqb (n / 10) 0) (digit_glyph false (n % 10) ∷ rest) (digits_onto k 10 false (n / 10) (digit_glyph false (n % 10) ∷ rest)) more (digits_above k (n / 10) (digit_glyph false (n % 10) ∷ rest) more)
+    let more : Above (digit_glyph false (n % 10) ∷ rest) =
+    All-cons (λ b. 33 ≤ b) (digit_glyph false (n % 10)) rest (glyph_above false (n % 10)) h in
+    last (eqb (n / 10) 0) (digit_glyph false (n % 10) ∷ rest) (digits_onto k 10 false (n / 10)
+    (digit_glyph false (n % 10) ∷ rest)) more (digits_above k (n / 10)
+    (digit_glyph false (n % 10) ∷ rest) more)
   where
     last : (t : Bool) (xs ys : List ℕ) → Above xs → Above ys → Above (cond t xs ys)
     last true xs ys h k = h
@@ -67,7 +72,8 @@ signed_above (negsuc n) =
 
 denominator_above : (d : ℕ) → Above (denominator_text d)
 unfolding denominator_text
-denominator_above d = last (eqb d 1) (All-cons (λ b. 33 ≤ b) 47 (decimal d) (omega arith) (decimal_above d))
+denominator_above d =
+    last (eqb d 1) (All-cons (λ b. 33 ≤ b) 47 (decimal d) (omega arith) (decimal_above d))
   where
     last : (t : Bool) → Above (47 ∷ decimal d) → Above (cond t [] (47 ∷ decimal d))
     last true h = All-nil (λ b. 33 ≤ b)
@@ -76,7 +82,8 @@ denominator_above d = last (eqb d 1) (All-cons (λ b. 33 ≤ b) 47 (decimal d) (
 pub number_above : (q : Rational) → Above (text_of q)
 unfolding text_of
 number_above q =
-    All-append (λ b. 33 ≤ b) (signed_decimal q.num) (denominator_text q.den) (signed_above q.num) (denominator_above q.den)
+    All-append (λ b. 33 ≤ b) (signed_decimal q.num) (denominator_text q.den) (signed_above q.num)
+    (denominator_above q.den)
 
 -- ---- names
 

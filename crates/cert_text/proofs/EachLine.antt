@@ -16,19 +16,24 @@ module _ {X Y : Type 0} (f : X → Line → Option Y) where
   unfolding each_line
   line_missing made x xs = refl
 
-  pub line_unread : (made : List Y) (x : X) (xs : List X) (line : Line) (lines : Lines) → f x line ≡ None → line_left made (x ∷ xs) (line ∷ lines) ≡ None
+  pub line_unread : (made : List Y) (x : X) (xs : List X) (line : Line) (lines : Lines)
+      → f x line ≡ None → line_left made (x ∷ xs) (line ∷ lines) ≡ None
   unfolding each_line
   line_unread made x xs line lines h =
-      ap (λ o. lined made (option_and_then (λ y. option_and_then (λ p. Some (y ∷ p.0, p.1)) (each_line f xs lines)) o)) h
+      ap (λ o. lined made (option_and_then (λ y. option_and_then (λ p. Some (y ∷ p.0, p.1))
+      (each_line f xs lines)) o)) h
 
-  pub line_more : (made : List Y) (y : Y) (x : X) (xs : List X) (line : Line) (lines : Lines) → f x line ≡ Some y
+  pub line_more : (made : List Y) (y : Y) (x : X) (xs : List X) (line : Line) (lines : Lines)
+      → f x line ≡ Some y
       → line_left made (x ∷ xs) (line ∷ lines) ≡ line_left (made ++ y ∷ []) xs lines
   unfolding each_line
   line_more made y x xs line lines h =
-      ap (λ o. lined made (option_and_then (λ y. option_and_then (λ p. Some (y ∷ p.0, p.1)) (each_line f xs lines)) o)) h
+      ap (λ o. lined made (option_and_then (λ y. option_and_then (λ p. Some (y ∷ p.0, p.1))
+      (each_line f xs lines)) o)) h
       ∙ more (each_line f xs lines)
     where
-      more : (o : Option (List Y × Lines)) → lined made (option_and_then (λ p. Some (y ∷ p.0, p.1)) o) ≡ lined (made ++ y ∷ []) o
+      more : (o : Option (List Y × Lines))
+          → lined made (option_and_then (λ p. Some (y ∷ p.0, p.1)) o) ≡ lined (made ++ y ∷ []) o
       more None = refl
       more (Some p) = ap (λ ys. Some (ys, p.1)) (sym (append_assoc made (y ∷ []) p.0))
 

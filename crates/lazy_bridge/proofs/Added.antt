@@ -19,7 +19,8 @@ other_way f g e = by (family_eq g f) refl
     by : (b : Bool) → family_eq g f ≡ b → b ≡ false
     by false h = refl
     by true h =
-        absurd (true≢false (sym (family_itself f) ∙ ap (family_eq f) (sym (equal_family g f h)) ∙ e))
+        absurd (true≢false (sym (family_itself f) ∙ ap (family_eq f) (sym (equal_family g f h))
+        ∙ e))
 
 still_none : (g f : Family) (fs : List Family) → list_any (family_eq g) fs ≡ false
     → family_eq g f ≡ false → list_any (family_eq g) (fs ++ f ∷ []) ≡ false

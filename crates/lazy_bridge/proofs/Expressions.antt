@@ -23,7 +23,8 @@ pub not_before : {X : Type 0} (done rest : List (Address × X)) (e : Address × 
 unfolding IsDistinct
 not_before [] rest e h = refl
 not_before {X} (d ∷ done) rest e h =
-    ap (λ b. cond b (Some d.1) (find address_cmp e.0 done)) (either_way address_order d.0 e.0 (last done h.0))
+    ap (λ b. cond b (Some d.1) (find address_cmp e.0 done)) (either_way address_order d.0 e.0
+    (last done h.0))
     ∙ not_before done rest e h.1
   where
     last : (es : List (Address × X))
@@ -70,7 +71,8 @@ put_next old now after all left rest at f h next apart is vars rows =
 
 -- ---- the objective
 
-module _ (leaves : List Item) (i : ℕ) (leaf : Item) (next : drop i leaves ≡ leaf ∷ drop (i + 1) leaves)
+module _ (leaves : List Item) (i : ℕ) (leaf : Item)
+    (next : drop i leaves ≡ leaf ∷ drop (i + 1) leaves)
     (so_far : flat_map leaf_objectives (drop i leaves) ≡ flat_map leaf_objectives leaves) where
   left : flat_map leaf_objectives leaves
       ≡ leaf_objectives leaf ++ flat_map leaf_objectives (drop (i + 1) leaves)

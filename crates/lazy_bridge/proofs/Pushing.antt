@@ -78,7 +78,8 @@ no_overflow old model fault r is sound valid plan small at e =
     let same : fault ≡ Overflow at = cc in
     let unfit = subst (λ f. Planned (setting_in old) model (Err f)) same plan in
     none-some at
-    (sym (small_numbers_fit (setting_in old) sound.costly sound.lawful model valid small unfit.0).unfit
+    (sym (small_numbers_fit (setting_in old) sound.costly sound.lawful model valid small
+    unfit.0).unfit
     ∙ unfit.1)
 
 -- ---- by another table, and back

@@ -83,7 +83,11 @@ module _ (setting : Setting) (costly : IsCostly (graph_of setting)) (lawful : Ar
       (all_leaves setting costly lawful native model valid bridging)) ≤ 1
   at_most_one =
       by_objective setting costly lawful native model valid bridging
-      (λ e k. omega (arith, ap length (none_here setting costly lawful native model valid bridging e)))
+      (λ e k. omega (
+        arith,
+        ap length (none_here setting costly lawful native model valid
+            bridging e),
+      ))
       (λ b t e k. omega (
         arith,
         ap length (has_leaf setting costly lawful native model valid bridging b t e).alone,

@@ -26,24 +26,31 @@ use Rattle.std_form.specs.ThroughLaws.{get_through}
 
 -- ---- what is held at an address
 
-module _ {X Y : Type 0} (read : X → Y) (indices : Indices) (leaves : FinMap nat_cmp X) (at : Address) where
-  pub none_held : finite.get indices at ≡ None → finite.get (by_address read indices leaves) at ≡ None
-  none_held e = get_through leaves read indices at ∙ ap (option_and_then (λ j. option_map read (finite.get leaves j))) e
+module _ {X Y : Type 0} (read : X → Y) (indices : Indices) (leaves : FinMap nat_cmp X)
+    (at : Address) where
+  pub none_held : finite.get indices at ≡ None
+      → finite.get (by_address read indices leaves) at ≡ None
+  none_held e =
+      get_through leaves read indices at
+      ∙ ap (option_and_then (λ j. option_map read (finite.get leaves j))) e
 
-  pub held_at : (i : ℕ) (o : Option X) → finite.get indices at ≡ Some i → finite.get leaves i ≡ o → finite.get (by_address read indices leaves) at ≡ option_map read o
+  pub held_at : (i : ℕ) (o : Option X) → finite.get indices at ≡ Some i → finite.get leaves i ≡ o
+      → finite.get (by_address read indices leaves) at ≡ option_map read o
   held_at i o e k =
       get_through leaves read indices at
       ∙ ap (option_and_then (λ j. option_map read (finite.get leaves j))) e
       ∙ ap (option_map read) k
 
-pub held_compares : {X : Type 0} (o : Option X) (held x : X) (same : Bool) → o ≡ Some held → (IsTrue same ↔ (held ≡ x)) → Compares o x (of_held same)
+pub held_compares : {X : Type 0} (o : Option X) (held x : X) (same : Bool) → o ≡ Some held
+    → (IsTrue same ↔ (held ≡ x)) → Compares o x (of_held same)
 held_compares o held x true e same = e ∙ ap Some (same.0 refl)
 held_compares o held x false e same = (
   λ k. none-some held (sym k ∙ e),
   λ k. absurd (true≢false (sym (same.1 (same_Some held x (sym e ∙ k))))),
 )
 
-pub held_matches : {X : Type 0} (o : Option X) (held x : X) (same : Bool) → o ≡ Some held → MatchBool same (held ≡ x) (held ≢ x) → Compares o x (of_held same)
+pub held_matches : {X : Type 0} (o : Option X) (held x : X) (same : Bool) → o ≡ Some held
+    → MatchBool same (held ≡ x) (held ≢ x) → Compares o x (of_held same)
 held_matches o held x true e same = e ∙ ap Some same
 held_matches o held x false e other = (
   λ k. none-some held (sym k ∙ e),
@@ -52,17 +59,24 @@ held_matches o held x false e other = (
 
 -- an objective at the address that it is read at, and at another
 abbrev objective_map : Indices → Address → Option LeafObjective → FinMap address_cmp Body
-objective_map indices here o = option_map_or (λ b. finite.insert finite.empty here (read_objective indices b)) o finite.empty
+objective_map indices here o =
+    option_map_or (λ b. finite.insert finite.empty here (read_objective indices b)) o finite.empty
 
 module _ (indices : Indices) (here at : Address) where
-  pub no_objective : (o : Option LeafObjective) → o ≡ None → finite.get (objective_map indices here o) at ≡ None
-  no_objective o e = ap (λ p. finite.get (objective_map indices here p) at) e ∙ finite.get-empty address_cmp at
+  pub no_objective : (o : Option LeafObjective) → o ≡ None
+      → finite.get (objective_map indices here o) at ≡ None
+  no_objective o e =
+      ap (λ p. finite.get (objective_map indices here p) at) e ∙ finite.get-empty address_cmp at
 
-  pub objective_elsewhere : (o : Option LeafObjective) → ¬ (at ≡ here) → finite.get (objective_map indices here o) at ≡ None
+  pub objective_elsewhere : (o : Option LeafObjective) → ¬ (at ≡ here)
+      → finite.get (objective_map indices here o) at ≡ None
   objective_elsewhere None n = finite.get-empty address_cmp at
-  objective_elsewhere (Some b) n = get_past address_order (finite.empty {R = address_cmp}) here (read_objective indices b) at n ∙ finite.get-empty address_cmp at
+  objective_elsewhere (Some b) n =
+      get_past address_order (finite.empty {R = address_cmp}) here (read_objective indices b) at n
+      ∙ finite.get-empty address_cmp at
 
-  pub objective_here : (o : Option LeafObjective) (b : LeafObjective) → o ≡ Some b → at ≡ here → finite.get (objective_map indices here o) at ≡ Some (read_objective indices b)
+  pub objective_here : (o : Option LeafObjective) (b : LeafObjective) → o ≡ Some b → at ≡ here
+      → finite.get (objective_map indices here o) at ≡ Some (read_objective indices b)
   objective_here o b e s =
       ap (λ p. finite.get (objective_map indices here p) at) e
       ∙ ap (λ a. finite.get (objective_map indices here (Some b)) a) s
@@ -82,13 +96,18 @@ same_from_test a b r is f = (address_eq-Decides a b).0 (by (address_eq a b) refl
 
 -- ---- whether parts are the same
 
-pub term_same : (indices : Indices) (f : Function) (t : ℕ × Rational) (at : Address) (q : Rational) (r : Bool) → IsAddressAt indices t.0 (Some at) → q ≡ coefficient f at → r ≡ rational_eq q t.1 → IsTrue r ↔ IsSameTerm indices f t
+pub term_same : (indices : Indices) (f : Function) (t : ℕ × Rational) (at : Address) (q : Rational)
+    (r : Bool) → IsAddressAt indices t.0 (Some at) → q ≡ coefficient f at → r ≡ rational_eq q t.1
+    → IsTrue r ↔ IsSameTerm indices f t
 term_same indices f t at q r named is test = (
   λ e. (at, (named at).0 refl, sym is ∙ rational_eq-true q t.1 (sym test ∙ e)),
-  λ s. test ∙ eq_rational_eq q t.1 (is ∙ ap (coefficient f) (same_Some at s.0 ((named s.0).1 s.1)) ∙ s.2),
+  λ s. test ∙ eq_rational_eq q t.1 (is ∙ ap (coefficient f) (same_Some at s.0 ((named s.0).1 s.1))
+      ∙ s.2),
 )
 
-pub variable_same : (indices : Indices) (i : ℕ) (name at : Address) (r : Bool) → IsOneToOne indices → IsAddressAt indices i (Some name) → (IsTrue r ↔ (name ≡ at)) → IsTrue r ↔ (address_in indices i ≡ at)
+pub variable_same : (indices : Indices) (i : ℕ) (name at : Address) (r : Bool) → IsOneToOne indices
+    → IsAddressAt indices i (Some name) → (IsTrue r ↔ (name ≡ at)) → IsTrue r
+    ↔ (address_in indices i ≡ at)
 variable_same indices i name at r one named same =
     let is : address_in indices i ≡ name = address_in_is indices one name i ((named name).0 refl) in
     (λ e. is ∙ same.0 e, λ e. same.1 (sym is ∙ e))

@@ -28,14 +28,16 @@ contains_first k v ks (suc i, inside, is) = inr (i, omega (arith, inside), is)
 pub none_in : (v : Address) → Contains [] v → ⊥
 none_in v c = omega (arith, c.1)
 
-apart_from : (k : Address) (ks : List Address) → ¬ (Contains ks k) → AllByRecursion (λ y. address_eq k y ≡ false) ks
+apart_from : (k : Address) (ks : List Address) → ¬ (Contains ks k)
+    → AllByRecursion (λ y. address_eq k y ≡ false) ks
 apart_from k [] n = tt
 apart_from k (y ∷ ks) n = (
   other_key address_order k y (λ e. n (subst (Contains (y ∷ ks)) (sym e) (contains_here y ks))),
   apart_from k ks (λ c. n (contains_later y k ks c)),
 )
 
-not_among : (k : Address) (ks : List Address) → AllByRecursion (λ y. address_eq k y ≡ false) ks → ¬ (Contains ks k)
+not_among : (k : Address) (ks : List Address) → AllByRecursion (λ y. address_eq k y ≡ false) ks
+    → ¬ (Contains ks k)
 not_among k [] h c = none_in k c
 not_among k (y ∷ ks) h c = by (not_among k ks h.1) (contains_first y k ks c)
   where
@@ -58,8 +60,12 @@ module _ {P Q : Address → Type 0} (n : ℕ) (counts : IsCountOf P n) where
     pub count_more : ¬ (P at) → ((q : Address) → (Q q) ↔ (P q ⊎ (q ≡ at))) → IsCountOf Q (n + 1)
     count_more out more = record {
       addresses = at ∷ counts.addresses;
-      distinct = IsDistinct-cons address_eq at counts.addresses (apart_from at counts.addresses (λ c. out ((counts.each at).0 c))) counts.distinct;
-      each = λ q. (λ c. (more q).1 (from q (contains_first at q counts.addresses c)), λ h. to q ((more q).0 h));
+      distinct = IsDistinct-cons address_eq at counts.addresses (apart_from at counts.addresses
+          (λ c. out ((counts.each at).0 c))) counts.distinct;
+      each = λ q. (
+        λ c. (more q).1 (from q (contains_first at q counts.addresses c)),
+        λ h. to q ((more q).0 h),
+      );
       count = omega (arith, counts.count);
     }
       where
@@ -69,9 +75,11 @@ module _ {P Q : Address → Type 0} (n : ℕ) (counts : IsCountOf P n) where
 
         to : (q : Address) → P q ⊎ (q ≡ at) → Contains (at ∷ counts.addresses) q
         to q (inl h) = contains_later at q counts.addresses ((counts.each q).1 h)
-        to q (inr e) = subst (Contains (at ∷ counts.addresses)) (sym e) (contains_here at counts.addresses)
+        to q (inr e) =
+            subst (Contains (at ∷ counts.addresses)) (sym e) (contains_here at counts.addresses)
 
-    pub count_less : P at → ((q : Address) → (Q q) ↔ (P q × ¬ (q ≡ at))) → (m : ℕ) × IsCountOf Q m × (m + 1 ≡ n)
+    pub count_less : P at → ((q : Address) → (Q q) ↔ (P q × ¬ (q ≡ at)))
+        → (m : ℕ) × IsCountOf Q m × (m + 1 ≡ n)
     count_less inside less = (
       length rest,
       record {
@@ -93,14 +101,18 @@ module _ {P Q : Address → Type 0} (n : ℕ) (counts : IsCountOf P n) where
         permuted = IsPermutation-remove counts.addresses place.0 at place.1 (sym place.2)
 
         all_distinct : IsDistinct address_eq (at ∷ rest)
-        all_distinct = IsDistinct-IsPermutation address_eq (eq_by_cmp_equiv address_total).symm counts.addresses (at ∷ rest) permuted counts.distinct
+        all_distinct =
+            IsDistinct-IsPermutation address_eq (eq_by_cmp_equiv address_total).symm
+            counts.addresses (at ∷ rest) permuted counts.distinct
 
         out : ¬ (Contains rest at)
         out = not_among at rest (IsDistinct-head address_eq at rest all_distinct)
 
         from : (q : Address) → Contains rest q → P q × ¬ (q ≡ at)
         from q c = (
-          (counts.each q).0 (Contains-permutation (at ∷ rest) counts.addresses q (IsPermutation-sym counts.addresses (at ∷ rest) permuted) (contains_later at q rest c)),
+          (counts.each q).0 (Contains-permutation (at ∷ rest) counts.addresses q
+              (IsPermutation-sym counts.addresses (at ∷ rest) permuted)
+              (contains_later at q rest c)),
           λ e. out (subst (Contains rest) e c),
         )
 
@@ -111,20 +123,28 @@ module _ {P Q : Address → Type 0} (n : ℕ) (counts : IsCountOf P n) where
 
 -- ---- where maps differ, as entries are put into the second
 
-module _ {X : Type 0} (held after : FinMap address_cmp X) (at : Address) (x : X) (new : finite.get after at ≡ None) where
-  elsewhere : (q : Address) → ¬ (q ≡ at) → (Differ held after q → Differ held (finite.insert after at x) q) × (Differ held (finite.insert after at x) q → Differ held after q)
+module _ {X : Type 0} (held after : FinMap address_cmp X) (at : Address) (x : X)
+    (new : finite.get after at ≡ None) where
+  elsewhere : (q : Address) → ¬ (q ≡ at)
+      → (Differ held after q → Differ held (finite.insert after at x) q)
+      × (Differ held (finite.insert after at x) q → Differ held after q)
   elsewhere q n = (
     λ d e. d (e ∙ get_past address_order after at x q n),
     λ d e. d (e ∙ sym (get_past address_order after at x q n)),
   )
 
-  pub put_moves : (comparison : Comparison) → Compares (finite.get held at) x comparison → Moves (Differ held after) (Differ held (finite.insert after at x)) (counted comparison)
-  put_moves Added none n counts = (n + 1, count_more n counts at (λ d. d (none ∙ sym new)) each, omega arith)
+  pub put_moves : (comparison : Comparison) → Compares (finite.get held at) x comparison
+      → Moves (Differ held after) (Differ held (finite.insert after at x)) (counted comparison)
+  put_moves Added none n counts =
+      (n + 1, count_more n counts at (λ d. d (none ∙ sym new)) each, omega arith)
     where
       there : (q : Address) → q ≡ at → Differ held (finite.insert after at x) q
-      there q e k = none-some x (sym none ∙ ap (finite.get held) (sym e) ∙ k ∙ ap (finite.get (finite.insert after at x)) e ∙ get_put address_order after at x)
+      there q e k =
+          none-some x (sym none ∙ ap (finite.get held) (sym e) ∙ k
+          ∙ ap (finite.get (finite.insert after at x)) e ∙ get_put address_order after at x)
 
-      each : (q : Address) → Differ held (finite.insert after at x) q ↔ (Differ held after q ⊎ (q ≡ at))
+      each : (q : Address) → Differ held (finite.insert after at x) q
+          ↔ (Differ held after q ⊎ (q ≡ at))
       each q = (
         λ d. same_or_other address_order _ q at (λ e. inr e) (λ m. inl ((elsewhere q m).1 d)),
         from,
@@ -139,11 +159,15 @@ module _ {X : Type 0} (held after : FinMap address_cmp X) (at : Address) (x : X)
       here e = none-some x (sym new ∙ sym e ∙ is)
 
       gone : (q : Address) → q ≡ at → ¬ (Differ held (finite.insert after at x) q)
-      gone q e d = d (ap (finite.get held) e ∙ is ∙ sym (ap (finite.get (finite.insert after at x)) e ∙ get_put address_order after at x))
+      gone q e d =
+          d (ap (finite.get held) e ∙ is ∙ sym (ap (finite.get (finite.insert after at x)) e
+          ∙ get_put address_order after at x))
 
-      each : (q : Address) → Differ held (finite.insert after at x) q ↔ (Differ held after q × ¬ (q ≡ at))
+      each : (q : Address) → Differ held (finite.insert after at x) q
+          ↔ (Differ held after q × ¬ (q ≡ at))
       each q = (
-        λ d. same_or_other address_order (Differ held after q × ¬ (q ≡ at)) q at (λ e. absurd (gone q e d)) (λ m. ((elsewhere q m).1 d, m)),
+        λ d. same_or_other address_order (Differ held after q × ¬ (q ≡ at)) q at
+            (λ e. absurd (gone q e d)) (λ m. ((elsewhere q m).1 d, m)),
         λ h. (elsewhere q h.1).0 h.0,
       )
 
@@ -154,7 +178,8 @@ module _ {X : Type 0} (held after : FinMap address_cmp X) (at : Address) (x : X)
       each : (q : Address) → Differ held after q ↔ Differ held (finite.insert after at x) q
       each q = (
         λ d. same_or_other address_order _ q at
-            (λ e k. other.1 (ap (finite.get held) (sym e) ∙ k ∙ ap (finite.get (finite.insert after at x)) e ∙ get_put address_order after at x))
+            (λ e k. other.1 (ap (finite.get held) (sym e) ∙ k
+            ∙ ap (finite.get (finite.insert after at x)) e ∙ get_put address_order after at x))
             (λ m. (elsewhere q m).0 d),
         λ d. same_or_other address_order _ q at
             (λ e k. other.0 (ap (finite.get held) (sym e) ∙ k ∙ ap (finite.get after) e ∙ new))
@@ -162,5 +187,7 @@ module _ {X : Type 0} (held after : FinMap address_cmp X) (at : Address) (x : X)
       )
 
 -- one entry
-pub one_moves : {X : Type 0} (held : FinMap address_cmp X) (at : Address) (x : X) (comparison : Comparison) → Compares (finite.get held at) x comparison → MovesOver held ((at, x) ∷ []) (counted comparison)
+pub one_moves : {X : Type 0} (held : FinMap address_cmp X) (at : Address) (x : X)
+    (comparison : Comparison) → Compares (finite.get held at) x comparison
+    → MovesOver held ((at, x) ∷ []) (counted comparison)
 one_moves held at x comparison is after new = put_moves held after at x new.0 comparison is

@@ -40,22 +40,28 @@ use Rattle.std_form.specs.NameLaws.{IsNamedTerm, NamesNamed, address_in_is, inde
 less_of : (a b : ℕ) → a ≤ b → eq_by_cmp nat_cmp a b ≡ false → nat_cmp a b ≡ Less
 less_of a b h n = grind arith
 
-pub indices_rise : {X : Type 0} (ys : List (ℕ × X)) → IsNonDecreasingBy (λ t. t.0) ys → HasDistinctKeys nat_cmp ys → IndicesRise ys
-indices_rise {X} ys order distinct = record { rising = tested _ (is_sorted_adjacent nat_cmp_total ys below) }
+pub indices_rise : {X : Type 0} (ys : List (ℕ × X)) → IsNonDecreasingBy (λ t. t.0) ys
+    → HasDistinctKeys nat_cmp ys → IndicesRise ys
+indices_rise {X} ys order distinct =
+    record { rising = tested _ (is_sorted_adjacent nat_cmp_total ys below) }
   where
-    key : (k : ℕ) (d : ℕ × X) → k < length ys → slice_index_or (map (λ t. t.0) ys) k d.0 ≡ (slice_index_or ys k d).0
+    key : (k : ℕ) (d : ℕ × X) → k < length ys → slice_index_or (map (λ t. t.0) ys) k d.0
+        ≡ (slice_index_or ys k d).0
     key k d lt = get_or-map (λ t. t.0) ys k d d.0 lt
 
-    below : (k : ℕ) (d : ℕ × X) → k + 1 < length ys → nat_cmp (slice_index_or ys k d).0 (slice_index_or ys (k + 1) d).0 ≡ Less
+    below : (k : ℕ) (d : ℕ × X) → k + 1 < length ys
+        → nat_cmp (slice_index_or ys k d).0 (slice_index_or ys (k + 1) d).0 ≡ Less
     below k d lt =
         less_of _ _ (order k (k + 1) d (omega arith) lt)
         (sym (ap₂ (eq_by_cmp nat_cmp) (key k d (omega arith)) (key (k + 1) d lt))
-        ∙ apart_from_distinct (eq_by_cmp nat_cmp) (map (λ t. t.0) ys) k (k + 1) d.0 distinct (omega arith) (omega (arith, length-map ys (λ t. t.0), lt)))
+        ∙ apart_from_distinct (eq_by_cmp nat_cmp) (map (λ t. t.0) ys) k (k + 1) d.0 distinct
+        (omega arith) (omega (arith, length-map ys (λ t. t.0), lt)))
 
 -- ---- terms by their indices
 
 module _ (indices : Indices) where
-  pub index_is : (at : Address) → IsSome (finite.get indices at) → finite.get indices at ≡ Some (index_at indices at)
+  pub index_is : (at : Address) → IsSome (finite.get indices at)
+      → finite.get indices at ≡ Some (index_at indices at)
   index_is at h = by (finite.get indices at) refl
     where
       by : (o : Option ℕ) → finite.get indices at ≡ o → o ≡ Some (unwrap_or o 0)
@@ -66,13 +72,19 @@ module _ (indices : Indices) where
   HasIndex t = IsSome (finite.get indices t.0)
 
   module _ (one : IsOneToOne indices) where
-    other_index : (a b : Address) → IsSome (finite.get indices a) → IsSome (finite.get indices b) → address_cmp a b ≡ Less → ¬ (index_at indices a ≡ index_at indices b)
+    other_index : (a b : Address) → IsSome (finite.get indices a) → IsSome (finite.get indices b)
+        → address_cmp a b ≡ Less → ¬ (index_at indices a ≡ index_at indices b)
     other_index a b ha hb less e =
-        let same : a ≡ b = one a b (index_at indices a) (index_is a ha) (index_is b hb ∙ ap Some (sym e)) in
-        let both : Less ≡ Equal = sym less ∙ ap (address_cmp a) (sym same) ∙ tied_itself address_total a in
+        let same : a ≡ b = one a b (index_at indices a) (index_is a ha)
+        (index_is b hb ∙ ap Some (sym e)) in
+        let both : Less ≡ Equal = sym less ∙ ap (address_cmp a)
+        (sym same) ∙ tied_itself address_total a in
         cc
 
-    apart : (t : Address × Rational) (ts : List (Address × Rational)) → T (below_all address_cmp t.0 ts) → HasIndex t → All HasIndex ts → AllByRecursion (λ y. eq_by_cmp nat_cmp (index_at indices t.0) y ≡ false) (map (λ u. u.0) (indexed_terms indices ts))
+    apart : (t : Address × Rational) (ts : List (Address × Rational))
+        → T (below_all address_cmp t.0 ts) → HasIndex t → All HasIndex ts
+        → AllByRecursion (λ y. eq_by_cmp nat_cmp (index_at indices t.0) y ≡ false)
+        (map (λ u. u.0) (indexed_terms indices ts))
     apart t [] h ht hts = tt
     apart t (u ∷ ts) h ht hts = (
       other_key index_order (index_at indices t.0) (index_at indices u.0)
@@ -80,26 +92,36 @@ module _ (indices : Indices) where
       apart t ts (second _ _ h) ht (All-tail HasIndex u ts hts),
     )
 
-    pub indexed_distinct : (ts : List (Address × Rational)) → T (is_sorted address_cmp ts) → All HasIndex ts → HasDistinctKeys nat_cmp (indexed_terms indices ts)
+    pub indexed_distinct : (ts : List (Address × Rational)) → T (is_sorted address_cmp ts)
+        → All HasIndex ts → HasDistinctKeys nat_cmp (indexed_terms indices ts)
     unfolding IsDistinct
     indexed_distinct [] h hts = tt
     indexed_distinct (t ∷ ts) h hts =
-        IsDistinct-cons (eq_by_cmp nat_cmp) (index_at indices t.0) (map (λ u. u.0) (indexed_terms indices ts))
+        IsDistinct-cons (eq_by_cmp nat_cmp) (index_at indices t.0)
+        (map (λ u. u.0) (indexed_terms indices ts))
         (apart t ts (first _ _ h) (All-head HasIndex t ts hts) (All-tail HasIndex t ts hts))
         (indexed_distinct ts (second _ _ h) (All-tail HasIndex t ts hts))
 
-    named_again : (ts : List (Address × Rational)) → All HasIndex ts → named_terms indices (indexed_terms indices ts) ≡ ts
+    named_again : (ts : List (Address × Rational)) → All HasIndex ts
+        → named_terms indices (indexed_terms indices ts) ≡ ts
     named_again [] h = refl
     named_again (t ∷ ts) h =
         ap₂ ◌∷◌
-        (λ i. (address_in_is indices one t.0 (index_at indices t.0) (index_is t.0 (All-head HasIndex t ts h)) i, t.1))
+        (λ i. (
+          address_in_is indices one t.0 (index_at indices t.0)
+              (index_is t.0 (All-head HasIndex t ts h)) i,
+          t.1,
+        ))
         (named_again ts (All-tail HasIndex t ts h))
 
-    module _ (f : Function) (indexed : IsIndexed indices f) (ys : List (ℕ × Rational)) (permuted : IsPermutation (indexed_terms indices (terms_of f)) ys) (rising : IndicesRise ys) where
+    module _ (f : Function) (indexed : IsIndexed indices f) (ys : List (ℕ × Rational))
+        (permuted : IsPermutation (indexed_terms indices (terms_of f)) ys)
+        (rising : IndicesRise ys) where
       all_nonzero : HaveNoZero ys
       all_nonzero =
           list_all-from_AllPass is_nonzero ys
-          (All-permutation (λ t. is_nonzero t ≡ true) (indexed_terms indices (terms_of f)) ys permuted
+          (All-permutation (λ t. is_nonzero t ≡ true)
+          (indexed_terms indices (terms_of f)) ys permuted
           (All-map (λ t. is_nonzero t ≡ true) (λ t. (index_at indices t.0, t.1)) (terms_of f)
           (AllPass-from_list_all is_nonzero (terms_of f) f.nonzero)))
 
@@ -110,8 +132,10 @@ module _ (indices : Indices) where
       unfolding gathered
       gathered_terms =
           ap (λ m. function_of (finite.entries m) f.constant)
-          (sym (same_made address_order (named_terms indices (indexed_terms indices (terms_of f))) (named_terms indices ys)
-          (IsPermutation-map (λ t. (address_in indices t.0, t.1)) (indexed_terms indices (terms_of f)) ys permuted)
+          (sym (same_made address_order (named_terms indices (indexed_terms indices (terms_of f)))
+          (named_terms indices ys)
+          (IsPermutation-map (λ t. (address_in indices t.0, t.1))
+          (indexed_terms indices (terms_of f)) ys permuted)
           (subst (HasDistinctKeys address_cmp) (sym (named_again (terms_of f) indexed))
           (rising_distinct address_cmp (terms_of f) (finite.entries_sorted f.terms))))
           ∙ ap (λ ts. finite.from_entries {R = address_cmp} ts) (named_again (terms_of f) indexed)
@@ -134,11 +158,16 @@ module _ (indices : Indices) where
 
 -- ---- what an item's functions mention has an index
 
-pub affine_indexed : (indices : Indices) (item : Item) (body : Body) (f : Function) → item.body ≡ body → functions_of body ≡ f ∷ [] → HasIndices indices item → IsIndexed indices f
+pub affine_indexed : (indices : Indices) (item : Item) (body : Body) (f : Function)
+    → item.body ≡ body → functions_of body ≡ f ∷ [] → HasIndices indices item → IsIndexed indices f
 affine_indexed indices item body f is one h =
-    All-head (IsIndexed indices) f [] (subst (All (IsIndexed indices)) one (subst (λ b. All (IsIndexed indices) (functions_of b)) is h))
+    All-head (IsIndexed indices) f [] (subst (All (IsIndexed indices)) one
+    (subst (λ b. All (IsIndexed indices) (functions_of b)) is h))
 
-pub plain_indexed : (indices : Indices) (item : Item) (body : Body) (var : Address) → item.body ≡ body → functions_of body ≡ variable var ∷ [] → HasIndices indices item → IsSome (finite.get indices var)
+pub plain_indexed : (indices : Indices) (item : Item) (body : Body) (var : Address)
+    → item.body ≡ body → functions_of body ≡ variable var ∷ [] → HasIndices indices item
+    → IsSome (finite.get indices var)
 plain_indexed indices item body var is one h =
     All-head (HasIndex indices) (var, one_ℚ) []
-    (subst (All (HasIndex indices)) (terms-variable address_cmp var) (affine_indexed indices item body (variable var) is one h))
+    (subst (All (HasIndex indices)) (terms-variable address_cmp var)
+    (affine_indexed indices item body (variable var) is one h))

@@ -50,89 +50,158 @@ use Rattle.std_form.specs.ThroughLaws.{get_through}
 -- ---- a leaf of each sort
 
 -- no entry is put
-unmoved : {X : Type 0} (m : FinMap address_cmp X) (es : List (Address × X)) → es ≡ [] → MovesOver m es (counted Changed)
-unmoved m es none = λ after new n is. (n, subst (λ es. IsCountOf (Differ m (put_all after es)) n) (sym none) is, omega arith)
+unmoved : {X : Type 0} (m : FinMap address_cmp X) (es : List (Address × X)) → es ≡ []
+    → MovesOver m es (counted Changed)
+unmoved m es none =
+    λ after new n is. (
+      n,
+      subst (λ es. IsCountOf (Differ m (put_all after es)) n) (sym none) is,
+      omega arith,
+    )
 
 module _ (held : LeafModel) (c : Compared) (item : Item) where
   -- the entries of each sort
-  sorts_move : (a b d : Compared) → c.added ≡ a.added + b.added + d.added → c.same ≡ a.same + b.same + d.same → MovesOver held.variables (leaf_variables item) a → MovesOver held.rows (leaf_rows item) b → MovesOver held.objective (leaf_objectives item) d → MovesWith held item c
+  sorts_move : (a b d : Compared) → c.added ≡ a.added + b.added + d.added
+      → c.same ≡ a.same + b.same + d.same → MovesOver held.variables (leaf_variables item) a
+      → MovesOver held.rows (leaf_rows item) b → MovesOver held.objective (leaf_objectives item) d
+      → MovesWith held item c
   sorts_move a b d added same variables rows objective after n new changed =
       let v = variables after.variables new.variables changed.variables changed.variables_are in
       let r = rows after.rows new.rows changed.rows changed.rows_are in
       let o = objective after.objective new.objective changed.objective changed.objective_is in (
         v.0 + r.0 + o.0,
-        record { variables = v.0; rows = r.0; objective = o.0; variables_are = v.1; rows_are = r.1; objective_is = o.1; all = refl },
+        record {
+          variables = v.0;
+          rows = r.0;
+          objective = o.0;
+          variables_are = v.1;
+          rows_are = r.1;
+          objective_is = o.1;
+          all = refl;
+        },
         omega (arith, v.2, r.2, o.2, changed.all, added, same),
       )
 
-  variables_move : leaf_rows item ≡ [] → leaf_objectives item ≡ [] → MovesOver held.variables (leaf_variables item) c → MovesWith held item c
+  variables_move : leaf_rows item ≡ [] → leaf_objectives item ≡ []
+      → MovesOver held.variables (leaf_variables item) c → MovesWith held item c
   variables_move no_rows no_objectives moves =
-      sorts_move c (counted Changed) (counted Changed) (omega arith) (omega arith) moves (unmoved held.rows (leaf_rows item) no_rows) (unmoved held.objective (leaf_objectives item) no_objectives)
+      sorts_move c (counted Changed) (counted Changed) (omega arith) (omega arith) moves
+      (unmoved held.rows (leaf_rows item) no_rows)
+      (unmoved held.objective (leaf_objectives item) no_objectives)
 
-  row_moves : leaf_variables item ≡ [] → leaf_objectives item ≡ [] → MovesOver held.rows (leaf_rows item) c → MovesWith held item c
+  row_moves : leaf_variables item ≡ [] → leaf_objectives item ≡ []
+      → MovesOver held.rows (leaf_rows item) c → MovesWith held item c
   row_moves no_variables no_objectives moves =
-      sorts_move (counted Changed) c (counted Changed) (omega arith) (omega arith) (unmoved held.variables (leaf_variables item) no_variables) moves (unmoved held.objective (leaf_objectives item) no_objectives)
+      sorts_move (counted Changed) c (counted Changed) (omega arith) (omega arith)
+      (unmoved held.variables (leaf_variables item) no_variables) moves
+      (unmoved held.objective (leaf_objectives item) no_objectives)
 
-  objective_moves : leaf_variables item ≡ [] → leaf_rows item ≡ [] → MovesOver held.objective (leaf_objectives item) c → MovesWith held item c
+  objective_moves : leaf_variables item ≡ [] → leaf_rows item ≡ []
+      → MovesOver held.objective (leaf_objectives item) c → MovesWith held item c
   objective_moves no_variables no_rows moves =
-      sorts_move (counted Changed) (counted Changed) c (omega arith) (omega arith) (unmoved held.variables (leaf_variables item) no_variables) (unmoved held.rows (leaf_rows item) no_rows) moves
+      sorts_move (counted Changed) (counted Changed) c (omega arith) (omega arith)
+      (unmoved held.variables (leaf_variables item) no_variables)
+      (unmoved held.rows (leaf_rows item) no_rows) moves
 
 module _ (held : LeafModel) (c : Compared) (at : Address) where
-  lone_row : (body : Body) → leaf_rows (item_of at body) ≡ (at, body) ∷ [] → leaf_variables (item_of at body) ≡ [] → leaf_objectives (item_of at body) ≡ [] → MovesOver held.rows ((at, body) ∷ []) c → MovesWith held (item_of at body) c
+  lone_row : (body : Body) → leaf_rows (item_of at body) ≡ (at, body) ∷ []
+      → leaf_variables (item_of at body) ≡ [] → leaf_objectives (item_of at body) ≡ []
+      → MovesOver held.rows ((at, body) ∷ []) c → MovesWith held (item_of at body) c
   lone_row body is no_variables no_objectives moves =
-      row_moves held c (item_of at body) no_variables no_objectives (subst (λ es. MovesOver held.rows es c) (sym is) moves)
+      row_moves held c (item_of at body) no_variables no_objectives
+      (subst (λ es. MovesOver held.rows es c) (sym is) moves)
 
-  lone_objective : (body : Body) → leaf_objectives (item_of at body) ≡ (at, body) ∷ [] → leaf_variables (item_of at body) ≡ [] → leaf_rows (item_of at body) ≡ [] → MovesOver held.objective ((at, body) ∷ []) c → MovesWith held (item_of at body) c
+  lone_objective : (body : Body) → leaf_objectives (item_of at body) ≡ (at, body) ∷ []
+      → leaf_variables (item_of at body) ≡ [] → leaf_rows (item_of at body) ≡ []
+      → MovesOver held.objective ((at, body) ∷ []) c → MovesWith held (item_of at body) c
   lone_objective body is no_variables no_rows moves =
-      objective_moves held c (item_of at body) no_variables no_rows (subst (λ es. MovesOver held.objective es c) (sym is) moves)
+      objective_moves held c (item_of at body) no_variables no_rows
+      (subst (λ es. MovesOver held.objective es c) (sym is) moves)
 
-  group_at : (set : Set) (vars : List Address) (var : LeafVar) → var ≡ leaf_variable set → MovesOver held.variables (variables_as var vars) c → MovesWith held (item_of at (Group set vars)) c
+  group_at : (set : Set) (vars : List Address) (var : LeafVar) → var ≡ leaf_variable set
+      → MovesOver held.variables (variables_as var vars) c
+      → MovesWith held (item_of at (Group set vars)) c
   group_at set vars var is moves =
-      variables_move held c (item_of at (Group set vars)) refl refl (subst (λ v. MovesOver held.variables (variables_as v vars) c) is moves)
+      variables_move held c (item_of at (Group set vars)) refl refl
+      (subst (λ v. MovesOver held.variables (variables_as v vars) c) is moves)
 
-  free_at : (vars : List Address) → MovesOver held.variables (variables_as leaf.Free vars) c → MovesWith held (item_of at (Free vars)) c
+  free_at : (vars : List Address) → MovesOver held.variables (variables_as leaf.Free vars) c
+      → MovesWith held (item_of at (Free vars)) c
   free_at vars moves = variables_move held c (item_of at (Free vars)) refl refl moves
 
 module _ (held : LeafModel) (item : Item) where
-  pub group_moves : (c : Compared) (set : Set) (vars : List Address) (var : LeafVar) → item.body ≡ Group set vars → var ≡ leaf_variable set → MovesOver held.variables (variables_as var vars) c → MovesWith held item c
+  pub group_moves : (c : Compared) (set : Set) (vars : List Address) (var : LeafVar)
+      → item.body ≡ Group set vars → var ≡ leaf_variable set
+      → MovesOver held.variables (variables_as var vars) c → MovesWith held item c
   group_moves c set vars var is kind moves =
-      subst (λ b. MovesWith held (record { at = item.at; body = b }) c) (sym is) (group_at held c item.at set vars var kind moves)
+      subst (λ b. MovesWith held (record { at = item.at; body = b }) c) (sym is)
+      (group_at held c item.at set vars var kind moves)
 
-  pub free_moves : (c : Compared) (vars : List Address) → item.body ≡ Free vars → MovesOver held.variables (variables_as leaf.Free vars) c → MovesWith held item c
+  pub free_moves : (c : Compared) (vars : List Address) → item.body ≡ Free vars
+      → MovesOver held.variables (variables_as leaf.Free vars) c → MovesWith held item c
   free_moves c vars is moves =
-      subst (λ b. MovesWith held (record { at = item.at; body = b }) c) (sym is) (free_at held c item.at vars moves)
+      subst (λ b. MovesWith held (record { at = item.at; body = b }) c) (sym is)
+      (free_at held c item.at vars moves)
 
-  other_moves : (comparison : Comparison) (body : Body) → ((set : Set) (vars : List Address) → body ≡ Group set vars → ⊥) → ((vars : List Address) → body ≡ Free vars → ⊥) → ((sense : Sense) (var : Address) → body ≡ PlainObj sense var → ⊥) → ((sense : Sense) (func : Function) → body ≡ AffineObj sense func → ⊥) → Compares (finite.get held.rows item.at) body comparison → MovesWith held (record { at = item.at; body = body }) (counted comparison)
+  other_moves : (comparison : Comparison) (body : Body)
+      → ((set : Set) (vars : List Address) → body ≡ Group set vars → ⊥) → ((vars : List Address)
+      → body ≡ Free vars → ⊥) → ((sense : Sense) (var : Address) → body ≡ PlainObj sense var
+      → ⊥) → ((sense : Sense) (func : Function) → body ≡ AffineObj sense func → ⊥) → Compares
+      (finite.get held.rows item.at) body comparison
+      → MovesWith held (record { at = item.at; body = body }) (counted comparison)
   other_moves comparison (Group set vars) g f p a is = absurd (g set vars refl)
   other_moves comparison (Free vars) g f p a is = absurd (f vars refl)
   other_moves comparison (PlainObj sense var) g f p a is = absurd (p sense var refl)
   other_moves comparison (AffineObj sense func) g f p a is = absurd (a sense func refl)
   other_moves comparison (Plain var set) g f p a is =
-      lone_row held (counted comparison) item.at (Plain var set) refl refl refl (one_moves held.rows item.at (Plain var set) comparison is)
+      lone_row held (counted comparison) item.at (Plain var set) refl refl refl
+      (one_moves held.rows item.at (Plain var set) comparison is)
   other_moves comparison (Affine func set) g f p a is =
-      lone_row held (counted comparison) item.at (Affine func set) refl refl refl (one_moves held.rows item.at (Affine func set) comparison is)
+      lone_row held (counted comparison) item.at (Affine func set) refl refl refl
+      (one_moves held.rows item.at (Affine func set) comparison is)
   other_moves comparison (PlainVec vars set) g f p a is =
-      lone_row held (counted comparison) item.at (PlainVec vars set) refl refl refl (one_moves held.rows item.at (PlainVec vars set) comparison is)
+      lone_row held (counted comparison) item.at (PlainVec vars set) refl refl refl
+      (one_moves held.rows item.at (PlainVec vars set) comparison is)
   other_moves comparison (AffineVec func set) g f p a is =
-      lone_row held (counted comparison) item.at (AffineVec func set) refl refl refl (one_moves held.rows item.at (AffineVec func set) comparison is)
+      lone_row held (counted comparison) item.at (AffineVec func set) refl refl refl
+      (one_moves held.rows item.at (AffineVec func set) comparison is)
 
-  plain_objective_moves : (comparison : Comparison) (sense : Sense) (var : Address) → item.body ≡ PlainObj sense var → Compares (finite.get held.objective item.at) item.body comparison → MovesWith held item (counted comparison)
+  plain_objective_moves : (comparison : Comparison) (sense : Sense) (var : Address)
+      → item.body ≡ PlainObj sense var
+      → Compares (finite.get held.objective item.at) item.body comparison
+      → MovesWith held item (counted comparison)
   plain_objective_moves comparison sense var is compared =
       subst (λ b. MovesWith held (record { at = item.at; body = b }) (counted comparison)) (sym is)
       (lone_objective held (counted comparison) item.at (PlainObj sense var) refl refl refl
-      (one_moves held.objective item.at (PlainObj sense var) comparison (subst (λ b. Compares (finite.get held.objective item.at) b comparison) is compared)))
+      (one_moves held.objective item.at (PlainObj sense var) comparison
+      (subst (λ b. Compares (finite.get held.objective item.at) b comparison) is compared)))
 
-  affine_objective_moves : (comparison : Comparison) (sense : Sense) (func : Function) → item.body ≡ AffineObj sense func → Compares (finite.get held.objective item.at) item.body comparison → MovesWith held item (counted comparison)
+  affine_objective_moves : (comparison : Comparison) (sense : Sense) (func : Function)
+      → item.body ≡ AffineObj sense func
+      → Compares (finite.get held.objective item.at) item.body comparison
+      → MovesWith held item (counted comparison)
   affine_objective_moves comparison sense func is compared =
       subst (λ b. MovesWith held (record { at = item.at; body = b }) (counted comparison)) (sym is)
       (lone_objective held (counted comparison) item.at (AffineObj sense func) refl refl refl
-      (one_moves held.objective item.at (AffineObj sense func) comparison (subst (λ b. Compares (finite.get held.objective item.at) b comparison) is compared)))
+      (one_moves held.objective item.at (AffineObj sense func) comparison
+      (subst (λ b. Compares (finite.get held.objective item.at) b comparison) is compared)))
 
-  pub objective_of_leaf_moves : (comparison : Comparison) → ((sense : Sense) × (var : Address) × (item.body ≡ PlainObj sense var)) ⊎ ((sense : Sense) × (func : Function) × (item.body ≡ AffineObj sense func)) → Compares (finite.get held.objective item.at) item.body comparison → MovesWith held item (counted comparison)
-  objective_of_leaf_moves comparison (inl plain) compared = plain_objective_moves comparison plain.0 plain.1 plain.2 compared
-  objective_of_leaf_moves comparison (inr affine) compared = affine_objective_moves comparison affine.0 affine.1 affine.2 compared
+  pub objective_of_leaf_moves : (comparison : Comparison)
+      → ((sense : Sense) × (var : Address) × (item.body ≡ PlainObj sense var)) ⊎ ((sense : Sense)
+      × (func : Function) × (item.body ≡ AffineObj sense func))
+      → Compares (finite.get held.objective item.at) item.body comparison
+      → MovesWith held item (counted comparison)
+  objective_of_leaf_moves comparison (inl plain) compared =
+      plain_objective_moves comparison plain.0 plain.1 plain.2 compared
+  objective_of_leaf_moves comparison (inr affine) compared =
+      affine_objective_moves comparison affine.0 affine.1 affine.2 compared
 
-  pub row_of_leaf_moves : (comparison : Comparison) → ((set : Set) (vars : List Address) → item.body ≡ Group set vars → ⊥) → ((vars : List Address) → item.body ≡ Free vars → ⊥) → ((sense : Sense) (var : Address) → item.body ≡ PlainObj sense var → ⊥) → ((sense : Sense) (func : Function) → item.body ≡ AffineObj sense func → ⊥) → Compares (finite.get held.rows item.at) item.body comparison → MovesWith held item (counted comparison)
+  pub row_of_leaf_moves : (comparison : Comparison)
+      → ((set : Set) (vars : List Address) → item.body ≡ Group set vars
+      → ⊥) → ((vars : List Address) → item.body ≡ Free vars → ⊥) → ((sense : Sense) (var : Address)
+      → item.body ≡ PlainObj sense var → ⊥) → ((sense : Sense) (func : Function)
+      → item.body ≡ AffineObj sense func → ⊥) → Compares (finite.get held.rows item.at) item.body
+      comparison → MovesWith held item (counted comparison)
   row_of_leaf_moves comparison g f p a is = other_moves comparison item.body g f p a is
 
 -- ---- none put
@@ -146,7 +215,9 @@ none_of_none {X} = record {
 }
 
 -- where a map names exactly the leaves, each stands at an address
-pub each_stands : {X Y : Type 0} (read : X → Y) (indices : Indices) (leaves : FinMap nat_cmp X) → NamesExactly indices leaves → IsCountOf (Differ (by_address read indices leaves) finite.empty) (length (addresses indices))
+pub each_stands : {X Y : Type 0} (read : X → Y) (indices : Indices) (leaves : FinMap nat_cmp X)
+    → NamesExactly indices leaves → IsCountOf (Differ (by_address read indices leaves) finite.empty)
+    (length (addresses indices))
 each_stands {Y = Y} read indices leaves exact = record {
   addresses = addresses indices;
   distinct = rising_distinct address_cmp (finite.entries indices) (finite.entries_sorted indices);
@@ -154,16 +225,22 @@ each_stands {Y = Y} read indices leaves exact = record {
   count = refl;
 }
   where
-    found : (q : Address) → is_some (finite.get indices q) ≡ list_any (address_eq q) (addresses indices)
-    found q = ap is_some (finite.get-entries indices q) ∙ is_some-find address_cmp q (finite.entries indices)
+    found : (q : Address) → is_some (finite.get indices q) ≡ list_any (address_eq q)
+        (addresses indices)
+    found q =
+        ap is_some (finite.get-entries indices q) ∙ is_some-find address_cmp q
+        (finite.entries indices)
 
-    to : (q : Address) → Contains (addresses indices) q → finite.get (by_address read indices leaves) q ≢ finite.get (finite.empty {R = address_cmp}) q
+    to : (q : Address) → Contains (addresses indices) q
+        → finite.get (by_address read indices leaves) q
+        ≢ finite.get (finite.empty {R = address_cmp}) q
     to q c e =
         not_some (finite.get indices q)
         (absent_index indices leaves exact read q (e ∙ finite.get-empty address_cmp q))
         (found q ∙ list_any-from_Contains (eq_by_cmp_equiv address_total) q (addresses indices) c)
 
-    from : (q : Address) → finite.get (by_address read indices leaves) q ≢ finite.get (finite.empty {R = address_cmp}) q → Contains (addresses indices) q
+    from : (q : Address) → finite.get (by_address read indices leaves) q
+        ≢ finite.get (finite.empty {R = address_cmp}) q → Contains (addresses indices) q
     from q d = by (finite.get indices q) refl
       where
         by : (o : Option ℕ) → finite.get indices q ≡ o → Contains (addresses indices) q
@@ -185,13 +262,16 @@ nothing = finite.empty
 lone_there : (at : Address) (body : Body) (q : Address) → q ≡ at → Differ (lone at body) nothing q
 lone_there at body q s e =
     none-some body
-    (sym (finite.get-empty address_cmp q) ∙ sym e ∙ ap (finite.get (lone at body)) s ∙ get_put address_order nothing at body)
+    (sym (finite.get-empty address_cmp q) ∙ sym e ∙ ap (finite.get (lone at body)) s
+    ∙ get_put address_order nothing at body)
 
 lone_stands : (at : Address) (body : Body) → IsCountOf (Differ (lone at body) nothing) 1
 lone_stands at body = count_more 0 none_of_none at (λ d. d refl) each
   where
     to : (q : Address) → Differ (lone at body) nothing q → Differ nothing nothing q ⊎ (q ≡ at)
-    to q d = same_or_other address_order _ q at (λ s. inr s) (λ n. absurd (d (get_past address_order nothing at body q n)))
+    to q d =
+        same_or_other address_order _ q at (λ s. inr s)
+        (λ n. absurd (d (get_past address_order nothing at body q n)))
 
     from : (q : Address) → Differ nothing nothing q ⊎ (q ≡ at) → Differ (lone at body) nothing q
     from q (inl d) = absurd (d refl)
@@ -201,11 +281,16 @@ lone_stands at body = count_more 0 none_of_none at (λ d. d refl) each
     each q = (to q, from q)
 
 -- an objective, if there is one, stands at its address
-objective_stands : (indices : Indices) (o : Option LeafObjective) (at : Address) → IsCountOf (Differ (option_map_or (λ b. finite.insert finite.empty at (read_objective indices b)) o finite.empty) nothing) (cond (is_some o) 1 0)
+objective_stands : (indices : Indices) (o : Option LeafObjective) (at : Address)
+    → IsCountOf (Differ (option_map_or (λ b. finite.insert finite.empty at
+    (read_objective indices b)) o finite.empty) nothing) (cond (is_some o) 1 0)
 objective_stands indices None at = none_of_none
 objective_stands indices (Some o) at = lone_stands at (read_objective indices o)
 
-pub none_put : (places : AddressMap) (leaves : Leaves) (at : Address) → NamesEach places leaves → IsChanged (read_through places leaves at) no_leaves (length (addresses places.vars.indices) + length (addresses places.rows.indices) + cond (is_some leaves.objective) 1 0)
+pub none_put : (places : AddressMap) (leaves : Leaves) (at : Address) → NamesEach places leaves
+    → IsChanged (read_through places leaves at) no_leaves (length
+    (addresses places.vars.indices) + length (addresses places.rows.indices) + cond
+    (is_some leaves.objective) 1 0)
 none_put places leaves at names = record {
   variables = length (addresses places.vars.indices);
   rows = length (addresses places.rows.indices);
@@ -218,33 +303,49 @@ none_put places leaves at names = record {
 
 -- ---- one leaf more
 
-module _ {X : Type 0} (f : Item → List (Address × X)) (items : List Item) (i : ℕ) (item : Item) (is : item ≡ slice_index_or items i item) (lt : i < length items) where
-  split : flat_map f items ≡ flat_map f (take i items) ++ (f item ++ flat_map f (drop (i + 1) items))
+module _ {X : Type 0} (f : Item → List (Address × X)) (items : List Item) (i : ℕ) (item : Item)
+    (is : item ≡ slice_index_or items i item) (lt : i < length items) where
+  split : flat_map f items ≡ flat_map f (take i items) ++ (f item ++ flat_map f
+      (drop (i + 1) items))
   split =
       ap (flat_map f) (sym (take-append-drop i items))
       ∙ flat_map-append f (take i items) (drop i items)
-      ∙ ap (λ l. flat_map f (take i items) ++ flat_map f l) (next_item items items i item refl is lt)
+      ∙ ap (λ l. flat_map f (take i items) ++ flat_map f l)
+      (next_item items items i item refl is lt)
 
   more : flat_map f (take (i + 1) items) ≡ flat_map f (take i items) ++ f item
   more =
       ap (flat_map f) (take_more items i item lt)
       ∙ flat_map-append f (take i items) (slice_index_or items i item ∷ [])
-      ∙ ap (λ l. flat_map f (take i items) ++ l) (append-nil (f (slice_index_or items i item)) ∙ ap f (sym is))
+      ∙ ap (λ l. flat_map f (take i items) ++ l) (append-nil (f (slice_index_or items i item))
+      ∙ ap f (sym is))
 
-  next_new : HasDistinctKeys address_cmp (flat_map f items) → AreNew (finite.from_entries {R = address_cmp} (flat_map f (take i items))) (f item)
-  next_new d = new_next (flat_map f (take i items)) (f item) (flat_map f (drop (i + 1) items)) (subst (HasDistinctKeys address_cmp) split d)
+  next_new : HasDistinctKeys address_cmp (flat_map f items)
+      → AreNew (finite.from_entries {R = address_cmp} (flat_map f (take i items))) (f item)
+  next_new d =
+      new_next (flat_map f (take i items)) (f item) (flat_map f (drop (i + 1) items))
+      (subst (HasDistinctKeys address_cmp) split d)
 
-  next_made : HasDistinctKeys address_cmp (flat_map f items) → put_all (finite.from_entries {R = address_cmp} (flat_map f (take i items))) (f item) ≡ finite.from_entries (flat_map f (take (i + 1) items))
-  next_made d = put_all_after (flat_map f (take i items)) (f item) (next_new d) ∙ ap finite.from_entries (sym more)
+  next_made : HasDistinctKeys address_cmp (flat_map f items)
+      → put_all (finite.from_entries {R = address_cmp} (flat_map f (take i items))) (f item)
+      ≡ finite.from_entries (flat_map f (take (i + 1) items))
+  next_made d =
+      put_all_after (flat_map f (take i items)) (f item) (next_new d)
+      ∙ ap finite.from_entries (sym more)
 
 -- a list of one entry at most
-pub one_distinct : {X : Type 0} (es : List (Address × X)) → length es ≤ 1 → HasDistinctKeys address_cmp es
+pub one_distinct : {X : Type 0} (es : List (Address × X)) → length es ≤ 1
+    → HasDistinctKeys address_cmp es
 one_distinct {X} [] h = rising_distinct {X = X} address_cmp [] tt
 one_distinct {X} (e ∷ []) h = rising_distinct {X = X} address_cmp (e ∷ []) tt
 one_distinct (e ∷ f ∷ es) h = absurd (omega (arith, h))
 
-pub leaf_more : (held : LeafModel) (items : List Item) (i : ℕ) (item : Item) (c : Compared) (n : ℕ) → AreLeaves items → item ≡ slice_index_or items i item → i < length items → MovesWith held item c → IsChanged held (leaf_model_of (take i items)) n → (m : ℕ) × IsChanged held (leaf_model_of (take (i + 1) items)) m × (m + c.same ≡ n + c.added)
-leaf_more held items i item c n are is lt moves changed = (moved.0, subst (λ m. IsChanged held m moved.0) made moved.1, moved.2)
+pub leaf_more : (held : LeafModel) (items : List Item) (i : ℕ) (item : Item) (c : Compared) (n : ℕ)
+    → AreLeaves items → item ≡ slice_index_or items i item → i < length items
+    → MovesWith held item c → IsChanged held (leaf_model_of (take i items)) n
+    → (m : ℕ) × IsChanged held (leaf_model_of (take (i + 1) items)) m × (m + c.same ≡ n + c.added)
+leaf_more held items i item c n are is lt moves changed =
+    (moved.0, subst (λ m. IsChanged held m moved.0) made moved.1, moved.2)
   where
     one : HasDistinctKeys address_cmp (flat_map leaf_objectives items)
     one = one_distinct (flat_map leaf_objectives items) are.objective
@@ -256,7 +357,8 @@ leaf_more held items i item c n are is lt moves changed = (moved.0, subst (λ m.
       objective = next_made leaf_objectives items i item is lt one j;
     }
 
-    moved : (m : ℕ) × IsChanged held (with_leaf (leaf_model_of (take i items)) item) m × (m + c.same ≡ n + c.added)
+    moved : (m : ℕ) × IsChanged held (with_leaf (leaf_model_of (take i items)) item) m
+        × (m + c.same ≡ n + c.added)
     moved = moves (leaf_model_of (take i items)) n (record {
       variables = next_new leaf_variables items i item is lt are.variables;
       rows = next_new leaf_rows items i item is lt are.rows;
@@ -265,12 +367,14 @@ leaf_more held items i item c n are is lt moves changed = (moved.0, subst (λ m.
 
 -- ---- one leaf variable more
 
-pub added_at_most : (comparison : Comparison) (c next : Compared) (i : ℕ) → next ≡ with_one c comparison → c.added ≤ i → next.added ≤ i + 1
+pub added_at_most : (comparison : Comparison) (c next : Compared) (i : ℕ)
+    → next ≡ with_one c comparison → c.added ≤ i → next.added ≤ i + 1
 added_at_most Added c next i is h = omega (arith, ap (λ (d : Compared). d.added) is)
 added_at_most Same c next i is h = omega (arith, ap (λ (d : Compared). d.added) is)
 added_at_most Changed c next i is h = omega (arith, ap (λ (d : Compared). d.added) is)
 
-pub same_at_most : (comparison : Comparison) (c next : Compared) (i : ℕ) → next ≡ with_one c comparison → c.same ≤ i → next.same ≤ i + 1
+pub same_at_most : (comparison : Comparison) (c next : Compared) (i : ℕ)
+    → next ≡ with_one c comparison → c.same ≤ i → next.same ≤ i + 1
 same_at_most Added c next i is h = omega (arith, ap (λ (d : Compared). d.same) is)
 same_at_most Same c next i is h = omega (arith, ap (λ (d : Compared). d.same) is)
 same_at_most Changed c next i is h = omega (arith, ap (λ (d : Compared). d.same) is)
@@ -279,40 +383,64 @@ module _ (held : FinMap address_cmp LeafVar) (var : LeafVar) (vars : List Addres
   abbrev MovesTo : ℕ → Compared → Type 0
   MovesTo i c =
       (after : FinMap address_cmp LeafVar)
-      → AreNew after (variables_as var vars) → Moves (Differ held after) (Differ held (put_all after (variables_as var (take i vars)))) c
+      → AreNew after (variables_as var vars) → Moves (Differ held after)
+      (Differ held (put_all after (variables_as var (take i vars)))) c
 
   pub none_moved : MovesTo 0 (record { added = 0; same = 0 })
   none_moved after new n counts = (n, counts, refl)
 
-  pub all_moved : (i : ℕ) (c : Compared) → length vars ≤ i → MovesTo i c → MovesOver held (variables_as var vars) c
+  pub all_moved : (i : ℕ) (c : Compared) → length vars ≤ i → MovesTo i c
+      → MovesOver held (variables_as var vars) c
   all_moved i c end moves after new =
-      subst (λ vs. Moves (Differ held after) (Differ held (put_all after (variables_as var vs))) c) (take_all i vars end) (moves after new)
+      subst (λ vs. Moves (Differ held after) (Differ held (put_all after (variables_as var vs))) c)
+      (take_all i vars end) (moves after new)
 
-  pub variable_moved : (i : ℕ) (at : Address) (c next : Compared) (comparison : Comparison) → at ≡ slice_index_or vars i at → i < length vars → Compares (finite.get held at) var comparison → next ≡ with_one c comparison → MovesTo i c → MovesTo (i + 1) next
+  pub variable_moved : (i : ℕ) (at : Address) (c next : Compared) (comparison : Comparison)
+      → at ≡ slice_index_or vars i at → i < length vars
+      → Compares (finite.get held at) var comparison → next ≡ with_one c comparison → MovesTo i c
+      → MovesTo (i + 1) next
   variable_moved i at c next comparison is lt compared now moves after new n counts =
-      subst (λ d. (m : ℕ) × IsCountOf (Differ held (put_all after (variables_as var (take (i + 1) vars)))) m × (m + d.same ≡ n + d.added)) (sym now)
-      (later.0, subst (λ m. IsCountOf (Differ held m) later.0) (sym put) later.1, omega (arith, later.2, so_far.2))
+      subst (λ d. (m : ℕ) × IsCountOf (Differ held
+      (put_all after (variables_as var (take (i + 1) vars)))) m × (m + d.same ≡ n + d.added))
+      (sym now) (
+        later.0,
+        subst (λ m. IsCountOf (Differ held m) later.0) (sym put) later.1,
+        omega (arith, later.2, so_far.2),
+      )
     where
-      taken : variables_as var (take (i + 1) vars) ≡ variables_as var (take i vars) ++ (at, var) ∷ []
+      taken : variables_as var (take (i + 1) vars)
+          ≡ variables_as var (take i vars) ++ (at, var) ∷ []
       taken =
           ap (variables_as var) (take_more vars i at lt)
           ∙ map-append (λ v. (v, var)) (take i vars) (slice_index_or vars i at ∷ [])
           ∙ ap (λ v. variables_as var (take i vars) ++ (v, var) ∷ []) (sym is)
 
-      put : put_all after (variables_as var (take (i + 1) vars)) ≡ finite.insert (put_all after (variables_as var (take i vars))) at var
-      put = ap (put_all after) taken ∙ put_all-append after (variables_as var (take i vars)) ((at, var) ∷ [])
+      put : put_all after (variables_as var (take (i + 1) vars))
+          ≡ finite.insert (put_all after (variables_as var (take i vars))) at var
+      put =
+          ap (put_all after) taken ∙ put_all-append after (variables_as var (take i vars))
+          ((at, var) ∷ [])
 
-      split : variables_as var vars ≡ variables_as var (take i vars) ++ variables_as var (at ∷ drop (i + 1) vars)
+      split : variables_as var vars ≡ variables_as var (take i vars) ++ variables_as var (at ∷ drop
+          (i + 1) vars)
       split =
           ap (variables_as var) (sym (take-append-drop i vars))
           ∙ map-append (λ v. (v, var)) (take i vars) (drop i vars)
-          ∙ ap (λ vs. variables_as var (take i vars) ++ variables_as var vs) (next_item vars vars i at refl is lt)
+          ∙ ap (λ vs. variables_as var (take i vars) ++ variables_as var vs)
+          (next_item vars vars i at refl is lt)
 
       free : finite.get (put_all after (variables_as var (take i vars))) at ≡ None
-      free = (new_second after (variables_as var (take i vars)) (variables_as var (at ∷ drop (i + 1) vars)) (subst (AreNew after) split new)).0
+      free =
+          (new_second after (variables_as var (take i vars))
+          (variables_as var (at ∷ drop (i + 1) vars)) (subst (AreNew after) split new)).0
 
-      so_far : (m : ℕ) × IsCountOf (Differ held (put_all after (variables_as var (take i vars)))) m × (m + c.same ≡ n + c.added)
+      so_far : (m : ℕ) × IsCountOf (Differ held (put_all after (variables_as var (take i vars)))) m
+          × (m + c.same ≡ n + c.added)
       so_far = moves after new n counts
 
-      later : (m : ℕ) × IsCountOf (Differ held (finite.insert (put_all after (variables_as var (take i vars))) at var)) m × (m + (counted comparison).same ≡ so_far.0 + (counted comparison).added)
-      later = put_moves held (put_all after (variables_as var (take i vars))) at var free comparison compared so_far.0 so_far.1
+      later : (m : ℕ) × IsCountOf (Differ held
+          (finite.insert (put_all after (variables_as var (take i vars))) at var)) m
+          × (m + (counted comparison).same ≡ so_far.0 + (counted comparison).added)
+      later =
+          put_moves held (put_all after (variables_as var (take i vars))) at var free comparison
+          compared so_far.0 so_far.1

@@ -25,10 +25,12 @@ differs a b other = (λ t. absurd (true≢false (sym t)), λ e. absurd (other e)
 -- ---- of all items
 
 module _ {X : Type 0} (P : X → Type 0) (xs : List X) where
-  pub all_more : (i : ℕ) (x : X) → x ≡ slice_index_or xs i x → i < length xs → P x → All P (take i xs) → All P (take (i + 1) xs)
+  pub all_more : (i : ℕ) (x : X) → x ≡ slice_index_or xs i x → i < length xs → P x
+      → All P (take i xs) → All P (take (i + 1) xs)
   all_more i x is lt here so_far = All-more P xs i x lt so_far (subst P is here)
 
-  pub all_refused : (i : ℕ) (x : X) → x ≡ slice_index_or xs i x → i < length xs → ¬ (P x) → IsTrue false ↔ All P xs
+  pub all_refused : (i : ℕ) (x : X) → x ≡ slice_index_or xs i x → i < length xs → ¬ (P x)
+      → IsTrue false ↔ All P xs
   all_refused i x is lt other = (
     λ t. absurd (true≢false (sym t)),
     λ h. absurd (other (subst P (sym is) (h i x lt))),
@@ -38,7 +40,9 @@ module _ {X : Type 0} (P : X → Type 0) (xs : List X) where
   all_passed n end h = (λ _. subst (All P) (take_all n xs end) h, λ _. refl)
 
 -- one more is made and pushed
-pub pushed_same : {X Y : Type 0} (read : X → Y) (ys : List Y) (i : ℕ) (y : Y) (x : X) (old new : List X) → y ≡ slice_index_or ys i y → i < length ys → map read old ≡ take i ys → read x ≡ y → new ≡ old ++ x ∷ [] → map read new ≡ take (i + 1) ys
+pub pushed_same : {X Y : Type 0} (read : X → Y) (ys : List Y) (i : ℕ) (y : Y) (x : X)
+    (old new : List X) → y ≡ slice_index_or ys i y → i < length ys → map read old ≡ take i ys
+    → read x ≡ y → new ≡ old ++ x ∷ [] → map read new ≡ take (i + 1) ys
 pushed_same read ys i y x old new is lt so_far same pushed =
     ap (map read) pushed
     ∙ map-append read old (x ∷ [])

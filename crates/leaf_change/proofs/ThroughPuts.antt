@@ -19,14 +19,20 @@ use Rattle.std_form.specs.ThroughLaws.{get_through}
 
 module _ {K X : Type 0} {R : K → K → Ordering} (o : IsKeyOrder R) where
   pub get_put : (m : FinMap R X) (k : K) (v : X) → finite.get (finite.insert m k v) k ≡ Some v
-  get_put m k v = finite.get-insert o.total m k v k ∙ ap (λ b. cond b (Some v) (finite.get m k)) (same_key o k)
+  get_put m k v =
+      finite.get-insert o.total m k v k ∙ ap (λ b. cond b (Some v) (finite.get m k)) (same_key o k)
 
-  pub get_past : (m : FinMap R X) (k : K) (v : X) (q : K) → ¬ (q ≡ k) → finite.get (finite.insert m k v) q ≡ finite.get m q
-  get_past m k v q n = finite.get-insert o.total m k v q ∙ ap (λ b. cond b (Some v) (finite.get m q)) (other_key o q k n)
+  pub get_past : (m : FinMap R X) (k : K) (v : X) (q : K) → ¬ (q ≡ k)
+      → finite.get (finite.insert m k v) q ≡ finite.get m q
+  get_past m k v q n =
+      finite.get-insert o.total m k v q ∙ ap (λ b. cond b (Some v) (finite.get m q))
+      (other_key o q k n)
 
-module _ {X : Type 0} (indices : Indices) (leaves : FinMap nat_cmp X) (exact : NamesExactly indices leaves) where
+module _ {X : Type 0} (indices : Indices) (leaves : FinMap nat_cmp X)
+    (exact : NamesExactly indices leaves) where
   -- where nothing is read, no index stands
-  pub absent_index : {Y : Type 0} (read : X → Y) (at : Address) → finite.get (by_address read indices leaves) at ≡ None → finite.get indices at ≡ None
+  pub absent_index : {Y : Type 0} (read : X → Y) (at : Address)
+      → finite.get (by_address read indices leaves) at ≡ None → finite.get indices at ≡ None
   absent_index read at h = by (finite.get indices at) refl
     where
       by : (o : Option ℕ) → finite.get indices at ≡ o → o ≡ None
@@ -38,27 +44,37 @@ module _ {X : Type 0} (indices : Indices) (leaves : FinMap nat_cmp X) (exact : N
           ∙ ap (option_and_then (λ j. option_map read (finite.get leaves j))) e) ∙ h))
           (exact.used at i e))
 
-  module _ (at : Address) (i : ℕ) (x : X) (absent : finite.get indices at ≡ None) (unused : finite.get leaves i ≡ None) where
+  module _ (at : Address) (i : ℕ) (x : X) (absent : finite.get indices at ≡ None)
+      (unused : finite.get leaves i ≡ None) where
     pub index_free : IsFree indices i
     index_free q e = not_some (finite.get leaves i) unused (exact.used q i e)
 
-    still : (j : ℕ) → IsSome (finite.get leaves j) → finite.get (finite.insert leaves i x) j ≡ finite.get leaves j
-    still j h = get_past index_order leaves i x j (λ s. not_some (finite.get leaves i) unused (subst (λ k. IsSome (finite.get leaves k)) s h))
+    still : (j : ℕ) → IsSome (finite.get leaves j) → finite.get (finite.insert leaves i x) j
+        ≡ finite.get leaves j
+    still j h =
+        get_past index_order leaves i x j (λ s. not_some (finite.get leaves i) unused
+        (subst (λ k. IsSome (finite.get leaves k)) s h))
 
-    used : (q : Address) (j : ℕ) → finite.get (finite.insert indices at i) q ≡ Some j → IsSome (finite.get (finite.insert leaves i x) j)
+    used : (q : Address) (j : ℕ) → finite.get (finite.insert indices at i) q ≡ Some j
+        → IsSome (finite.get (finite.insert leaves i x) j)
     used q j e = same_or_other address_order _ q at here there
       where
         here : q ≡ at → IsSome (finite.get (finite.insert leaves i x) j)
         here s =
-            let index : i ≡ j = same_Some i j (sym (get_put address_order indices at i) ∙ ap (finite.get (finite.insert indices at i)) (sym s) ∙ e) in
-            subst (λ k. IsSome (finite.get (finite.insert leaves i x) k)) index (some_is (finite.get (finite.insert leaves i x) i) x (get_put index_order leaves i x))
+            let index : i ≡ j = same_Some i j (sym (get_put address_order indices at i) ∙ ap
+            (finite.get (finite.insert indices at i)) (sym s) ∙ e) in
+            subst (λ k. IsSome (finite.get (finite.insert leaves i x) k)) index
+            (some_is (finite.get (finite.insert leaves i x) i) x
+            (get_put index_order leaves i x))
 
         there : ¬ (q ≡ at) → IsSome (finite.get (finite.insert leaves i x) j)
         there n =
-            let old : IsSome (finite.get leaves j) = exact.used q j (sym (get_past address_order indices at i q n) ∙ e) in
+            let old : IsSome (finite.get leaves j) =
+            exact.used q j (sym (get_past address_order indices at i q n) ∙ e) in
             subst IsSome (sym (still j old)) old
 
-    named : (j : ℕ) → IsSome (finite.get (finite.insert leaves i x) j) → (q : Address) × (finite.get (finite.insert indices at i) q ≡ Some j)
+    named : (j : ℕ) → IsSome (finite.get (finite.insert leaves i x) j)
+        → (q : Address) × (finite.get (finite.insert indices at i) q ≡ Some j)
     named j h = same_or_other index_order _ j i here there
       where
         here : j ≡ i → (q : Address) × (finite.get (finite.insert indices at i) q ≡ Some j)
@@ -66,43 +82,65 @@ module _ {X : Type 0} (indices : Indices) (leaves : FinMap nat_cmp X) (exact : N
 
         there : ¬ (j ≡ i) → (q : Address) × (finite.get (finite.insert indices at i) q ≡ Some j)
         there n =
-            let old : (q : Address) × (finite.get indices q ≡ Some j) = exact.named j (subst IsSome (get_past index_order leaves i x j n) h) in
-            (old.0, get_past address_order indices at i old.0 (λ s. none-some j (sym absent ∙ ap (finite.get indices) (sym s) ∙ old.1)) ∙ old.1)
+            let old : (q : Address) × (finite.get indices q ≡ Some j) =
+            exact.named j (subst IsSome (get_past index_order leaves i x j n) h) in (
+              old.0,
+              get_past address_order indices at i old.0
+                  (λ s. none-some j (sym absent ∙ ap (finite.get indices) (sym s) ∙ old.1)) ∙ old.1,
+            )
 
     pub exact_more : NamesExactly (finite.insert indices at i) (finite.insert leaves i x)
     exact_more = record { used = used; named = named }
 
     -- the leaf is read at its address, and all else as before
-    pub through_more : {Y : Type 0} (read : X → Y) → by_address read (finite.insert indices at i) (finite.insert leaves i x) ≡ finite.insert (by_address read indices leaves) at (read x)
+    pub through_more : {Y : Type 0} (read : X → Y) → by_address read (finite.insert indices at i)
+        (finite.insert leaves i x) ≡ finite.insert (by_address read indices leaves) at (read x)
     through_more {Y} read = finite.same_map address_total exact_addresses _ _ each
       where
-        each : (q : Address) → finite.get (by_address read (finite.insert indices at i) (finite.insert leaves i x)) q ≡ finite.get (finite.insert (by_address read indices leaves) at (read x)) q
+        each : (q : Address) → finite.get (by_address read (finite.insert indices at i)
+            (finite.insert leaves i x)) q
+            ≡ finite.get (finite.insert (by_address read indices leaves) at (read x)) q
         each q =
             get_through (finite.insert leaves i x) read (finite.insert indices at i) q
             ∙ same_or_other address_order _ q at here there
           where
-            here : q ≡ at → option_and_then (λ j. option_map read (finite.get (finite.insert leaves i x) j)) (finite.get (finite.insert indices at i) q) ≡ finite.get (finite.insert (by_address read indices leaves) at (read x)) q
+            here : q ≡ at → option_and_then (λ j. option_map read
+                (finite.get (finite.insert leaves i x) j))
+                (finite.get (finite.insert indices at i) q)
+                ≡ finite.get (finite.insert (by_address read indices leaves) at (read x)) q
             here s =
-                ap (λ r. option_and_then (λ j. option_map read (finite.get (finite.insert leaves i x) j)) (finite.get (finite.insert indices at i) r)) s
-                ∙ ap (option_and_then (λ j. option_map read (finite.get (finite.insert leaves i x) j))) (get_put address_order indices at i)
+                ap (λ r. option_and_then (λ j. option_map read
+                (finite.get (finite.insert leaves i x) j))
+                (finite.get (finite.insert indices at i) r)) s
+                ∙ ap (option_and_then (λ j. option_map read (finite.get (finite.insert leaves i x)
+                j))) (get_put address_order indices at i)
                 ∙ ap (option_map read) (get_put index_order leaves i x)
-                ∙ sym (ap (finite.get (finite.insert (by_address read indices leaves) at (read x))) s
+                ∙ sym (ap (finite.get (finite.insert (by_address read indices leaves) at (read x)))
+                s
                 ∙ get_put address_order (by_address read indices leaves) at (read x))
 
-            same : (o : Option ℕ) → finite.get indices q ≡ o → option_and_then (λ j. option_map read (finite.get (finite.insert leaves i x) j)) o ≡ option_and_then (λ j. option_map read (finite.get leaves j)) o
+            same : (o : Option ℕ) → finite.get indices q ≡ o
+                → option_and_then (λ j. option_map read (finite.get (finite.insert leaves i x) j)) o
+                ≡ option_and_then (λ j. option_map read (finite.get leaves j)) o
             same None e = refl
             same (Some j) e = ap (option_map read) (still j (exact.used q j e))
 
-            there : ¬ (q ≡ at) → option_and_then (λ j. option_map read (finite.get (finite.insert leaves i x) j)) (finite.get (finite.insert indices at i) q) ≡ finite.get (finite.insert (by_address read indices leaves) at (read x)) q
+            there : ¬ (q ≡ at)
+                → option_and_then (λ j. option_map read (finite.get (finite.insert leaves i x) j))
+                (finite.get (finite.insert indices at i) q)
+                ≡ finite.get (finite.insert (by_address read indices leaves) at (read x)) q
             there n =
-                ap (option_and_then (λ j. option_map read (finite.get (finite.insert leaves i x) j))) (get_past address_order indices at i q n)
+                ap (option_and_then (λ j. option_map read (finite.get (finite.insert leaves i x)
+                j))) (get_past address_order indices at i q n)
                 ∙ same (finite.get indices q) refl
                 ∙ sym (get_through leaves read indices q)
                 ∙ sym (get_past address_order (by_address read indices leaves) at (read x) q n)
 
-pub through_empty : {X Y : Type 0} (read : X → Y) (indices : Indices) (leaves : FinMap nat_cmp X) → indices ≡ finite.empty → by_address read indices leaves ≡ finite.empty
+pub through_empty : {X Y : Type 0} (read : X → Y) (indices : Indices) (leaves : FinMap nat_cmp X)
+    → indices ≡ finite.empty → by_address read indices leaves ≡ finite.empty
 through_empty read indices leaves none =
     finite.same_map address_total exact_addresses _ _ (λ q.
     get_through leaves read indices q
-    ∙ ap (option_and_then (λ j. option_map read (finite.get leaves j))) (ap (λ m. finite.get m q) none ∙ finite.get-empty address_cmp q)
+    ∙ ap (option_and_then (λ j. option_map read (finite.get leaves j)))
+    (ap (λ m. finite.get m q) none ∙ finite.get-empty address_cmp q)
     ∙ sym (finite.get-empty address_cmp q))

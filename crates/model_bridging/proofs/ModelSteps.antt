@@ -42,7 +42,8 @@ module _ (means : Means) (sound : AreSound means) (model : ModelValue) (valid : 
         → KindsOutcome {T = T} (Err f) (missing model.groups model.rows model.objective)
         → Planned means.setting model (Err f)
     by_fault T (Unsupported kind) h =
-        unsupported means.setting sound.costly means.choice sound.chosen sound.lawful model valid kind
+        unsupported means.setting sound.costly means.choice sound.chosen sound.lawful
+        model valid kind
         h
     by_fault T (Overflow at) h = absurd h
     by_fault T Memory h = tt

@@ -215,7 +215,8 @@ module _ (first : Means) (inner : List Entry) (rows : List Item) (o : Objective)
       ap (option_map (λ (i : Item). i.at)) (unfit_append first.choice inner rows (objective_items o)
       ∙ ap (λ a. option_or a (unfit_put first.choice 35 inner (objective_items o))) said.0)
       ∙ (unfit_objective first.choice inner o
-      (from_start same stays (λ choice es. ¬ (IsTrue (others_held choice es (objective_items o)).fits)) misses)
+      (from_start same stays (λ choice es. ¬ (IsTrue
+      (others_held choice es (objective_items o)).fits)) misses)
       ∙ ap Some (sym is))
   objective_told T U Q S fault.Memory at is misses = tt
 

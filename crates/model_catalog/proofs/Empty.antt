@@ -26,7 +26,8 @@ no_names = record {
   where
     nothing : (n : ℕ) (o : Option (List ℕ)) → name_of map.empty n ≡ o → name_of map.empty n ≡ None
     nothing n None e = e
-    nothing n (Some name) e = absurd (none-some n (sym (nothing_at name) ∙ get-name_of map.empty n name e))
+    nothing n (Some name) e =
+        absurd (none-some n (sym (nothing_at name) ∙ get-name_of map.empty n name e))
 
 pub empty_kept : Keeps empty_model [] map.empty map.empty 0
 empty_kept = record {
@@ -41,7 +42,14 @@ empty_kept = record {
     row_names = λ i j d lt end. absurd (omega arith);
     bounds = λ n i d lt. absurd (omega arith);
   };
-  within = record { variables = omega arith; rows = omega arith; terms = omega arith; group_numbers = omega arith; variable_numbers = omega arith; row_numbers = omega arith };
+  within = record {
+    variables = omega arith;
+    rows = omega arith;
+    terms = omega arith;
+    group_numbers = omega arith;
+    variable_numbers = omega arith;
+    row_numbers = omega arith;
+  };
   index = record { rising = Rise-nil variable_number; entries = λ n. refl };
   variable_names = no_names;
   row_names = no_names;

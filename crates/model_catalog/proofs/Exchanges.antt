@@ -42,18 +42,32 @@ abbrev Naming : Type 0
 Naming = ℕ → Option (List ℕ)
 
 -- the names that a table is given
-pub names_given : (listed : List NameChange) (old new : Naming) (table : Numbers) → ChangesNames listed old new → HasNames old table → (n : ℕ) → renamed_by listed (name_of table) n ≡ new n
-names_given listed old new table lists has n = ap (option_map_or (λ l. l.name) (find listed_number n listed)) (has.names n) ∙ sym (lists.named n)
+pub names_given : (listed : List NameChange) (old new : Naming) (table : Numbers)
+    → ChangesNames listed old new → HasNames old table → (n : ℕ)
+    → renamed_by listed (name_of table) n ≡ new n
+names_given listed old new table lists has n =
+    ap (option_map_or (λ l. l.name) (find listed_number n listed)) (has.names n)
+    ∙ sym (lists.named n)
 
-pub distinct_given : (listed : List NameChange) (old new : Naming) (table : Numbers) → ChangesNames listed old new → HasNames old table → AreDistinct new → AreDistinct (renamed_by listed (name_of table))
+pub distinct_given : (listed : List NameChange) (old new : Naming) (table : Numbers)
+    → ChangesNames listed old new → HasNames old table → AreDistinct new
+    → AreDistinct (renamed_by listed (name_of table))
 distinct_given listed old new table lists has distinct n m name here there =
-    distinct n m name (sym (names_given listed old new table lists has n) ∙ here) (sym (names_given listed old new table lists has m) ∙ there)
+    distinct n m name (sym (names_given listed old new table lists has n) ∙ here)
+    (sym (names_given listed old new table lists has m) ∙ there)
 
-pub has_names_given : (listed : List NameChange) (old new : Naming) (table after : Numbers) → ChangesNames listed old new → HasNames old table → ((n : ℕ) → name_of after n ≡ renamed_by listed (name_of table) n) → IsOneToOne after → HasNames new after
-has_names_given listed old new table after lists has is one = record { one_to_one = one; names = λ n. is n ∙ names_given listed old new table lists has n }
+pub has_names_given : (listed : List NameChange) (old new : Naming) (table after : Numbers)
+    → ChangesNames listed old new → HasNames old table
+    → ((n : ℕ) → name_of after n ≡ renamed_by listed (name_of table) n) → IsOneToOne after
+    → HasNames new after
+has_names_given listed old new table after lists has is one =
+    record { one_to_one = one; names = λ n. is n ∙ names_given listed old new table lists has n }
 
-pub distinct_variables : (model : ModelValue) → IsConsistent model → AreDistinct (variable_name model)
-distinct_variables model ok = distinct_names consistent.variable_number (λ (v : GroupVar). v.name) (variables model) ok.variable_names
+pub distinct_variables : (model : ModelValue) → IsConsistent model
+    → AreDistinct (variable_name model)
+distinct_variables model ok =
+    distinct_names consistent.variable_number (λ (v : GroupVar). v.name) (variables model)
+    ok.variable_names
 
 pub distinct_rows : (model : ModelValue) → IsConsistent model → AreDistinct (row_name model)
 distinct_rows model ok = distinct_names row_number (λ (r : Row). r.name) model.rows ok.row_names
@@ -61,144 +75,352 @@ distinct_rows model ok = distinct_names row_number (λ (r : Row). r.name) model.
 -- ---- the way back of names
 
 module _ (naming : Naming) where
-  find-standing : (n : ℕ) (listed : List NameChange) → find listed_number n (standing_names naming listed) ≡ option_map (λ (l : NameChange). let l' : NameChange = record { number = l.number; name = naming l.number; aside = None } in l') (find listed_number n listed)
+  find-standing : (n : ℕ) (listed : List NameChange)
+      → find listed_number n (standing_names naming listed)
+      ≡ option_map (λ (l : NameChange). let l' : NameChange = record {
+        number = l.number;
+        name = naming l.number;
+        aside = None;
+      } in l') (find listed_number n listed)
   find-standing n [] = refl
   find-standing n (x ∷ xs) =
-      elim (x.number == n) as (λ b. cond b (Some (record { number = x.number; name = naming x.number; aside = None })) (find listed_number n (standing_names naming xs)) ≡ option_map (λ (l : NameChange). let l' : NameChange = record { number = l.number; name = naming l.number; aside = None } in l') (cond b (Some x) (find listed_number n xs))) [ true ↦ refl | false ↦ find-standing n xs ]
+      elim (x.number == n) as (λ b. cond b
+      (Some (record { number = x.number; name = naming x.number; aside = None })) (find
+      listed_number n (standing_names naming xs)) ≡ option_map
+      (λ (l : NameChange). let l' : NameChange = record {
+        number = l.number;
+        name = naming l.number;
+        aside = None;
+      } in l') (cond b (Some x) (find listed_number n xs)))
+      [ true ↦ refl | false ↦ find-standing n xs ]
 
-  All-listing : (n : ℕ) (listed : List NameChange) → All (λ l. n < l.number) listed → All (λ l. n < l.number) (standing_names naming listed)
+  All-listing : (n : ℕ) (listed : List NameChange) → All (λ l. n < l.number) listed
+      → All (λ l. n < l.number) (standing_names naming listed)
   All-listing n [] h = All-nil (λ l. n < l.number)
-  All-listing n (x ∷ xs) h = All-cons (λ l. n < l.number) _ (standing_names naming xs) (All-head (λ l. n < l.number) x xs h) (All-listing n xs (All-tail (λ l. n < l.number) x xs h))
+  All-listing n (x ∷ xs) h =
+      All-cons (λ l. n < l.number) _ (standing_names naming xs)
+      (All-head (λ l. n < l.number) x xs h) (All-listing n xs (All-tail (λ l. n < l.number) x xs h))
 
-  Rise-listing : (listed : List NameChange) → Rise listed_number listed → Rise listed_number (standing_names naming listed)
+  Rise-listing : (listed : List NameChange) → Rise listed_number listed
+      → Rise listed_number (standing_names naming listed)
   Rise-listing [] rise = Rise-nil listed_number
-  Rise-listing (x ∷ xs) rise = Rise-cons listed_number _ (standing_names naming xs) (All-listing x.number xs (Rise-head listed_number x xs rise)) (Rise-listing xs (Rise-tail listed_number x xs rise))
+  Rise-listing (x ∷ xs) rise =
+      Rise-cons listed_number _ (standing_names naming xs)
+      (All-listing x.number xs (Rise-head listed_number x xs rise))
+      (Rise-listing xs (Rise-tail listed_number x xs rise))
 
-  pub some_listing : (n : ℕ) (listed : List NameChange) → is_some (find listed_number n (standing_names naming listed)) ≡ is_some (find listed_number n listed)
-  some_listing n listed = ap is_some (find-standing n listed) ∙ is_some-option_map _ (find listed_number n listed)
+  pub some_listing : (n : ℕ) (listed : List NameChange)
+      → is_some (find listed_number n (standing_names naming listed))
+      ≡ is_some (find listed_number n listed)
+  some_listing n listed =
+      ap is_some (find-standing n listed) ∙ is_some-option_map _ (find listed_number n listed)
 
 -- the old names listed lead back
-pub names_back : (listed : List NameChange) (old new : Naming) → ChangesNames listed old new → ChangesNames (standing_names old listed) new old
+pub names_back : (listed : List NameChange) (old new : Naming) → ChangesNames listed old new
+    → ChangesNames (standing_names old listed) new old
 names_back listed old new h = record {
   rising = Rise-listing old listed h.rising;
-  named = λ n. by_place n (find listed_number n listed) refl ∙ sym (ap (λ o. option_map_or (λ l. l.name) o (new n)) (find-standing old n listed));
+  named = λ n. by_place n (find listed_number n listed) refl
+      ∙ sym (ap (λ o. option_map_or (λ l. l.name) o (new n)) (find-standing old n listed));
 }
   where
-    by_place : (n : ℕ) (o : Option NameChange) → find listed_number n listed ≡ o → old n ≡ option_map_or (λ l. l.name) (option_map (λ (l : NameChange). let l' : NameChange = record { number = l.number; name = old l.number; aside = None } in l') (find listed_number n listed)) (new n)
-    by_place n None e = sym (ap (λ o. option_map_or (λ l. l.name) o (old n)) e) ∙ (sym (h.named n) ∙ sym (ap (λ o. option_map_or (λ l. l.name) (option_map (λ (l : NameChange). let l' : NameChange = record { number = l.number; name = old l.number; aside = None } in l') o) (new n)) e))
-    by_place n (Some l) e = ap old (sym (number_of_found listed_number n l listed e)) ∙ sym (ap (λ o. option_map_or (λ l. l.name) (option_map (λ (l : NameChange). let l' : NameChange = record { number = l.number; name = old l.number; aside = None } in l') o) (new n)) e)
+    by_place : (n : ℕ) (o : Option NameChange) → find listed_number n listed ≡ o
+        → old n ≡ option_map_or (λ l. l.name)
+        (option_map (λ (l : NameChange). let l' : NameChange = record {
+          number = l.number;
+          name = old l.number;
+          aside = None;
+        } in l') (find listed_number n listed)) (new n)
+    by_place n None e =
+        sym (ap (λ o. option_map_or (λ l. l.name) o (old n)) e)
+        ∙ (sym (h.named n)
+        ∙ sym (ap (λ o. option_map_or (λ l. l.name)
+        (option_map (λ (l : NameChange). let l' : NameChange = record {
+          number = l.number;
+          name = old l.number;
+          aside = None;
+        } in l') o) (new n)) e))
+    by_place n (Some l) e =
+        ap old (sym (number_of_found listed_number n l listed e))
+        ∙ sym (ap (λ o. option_map_or (λ l. l.name)
+        (option_map (λ (l : NameChange). let l' : NameChange = record {
+          number = l.number;
+          name = old l.number;
+          aside = None;
+        } in l') o) (new n)) e)
 
-pub lists_back : (names standing : NameChanges) (model after : ModelValue) → AreNameChanges names model after → HasStandingNames model names standing → AreNameChanges standing after model
+pub lists_back : (names standing : NameChanges) (model after : ModelValue)
+    → AreNameChanges names model after → HasStandingNames model names standing
+    → AreNameChanges standing after model
 lists_back names standing model after h is = record {
-  variables = subst (λ xs. ChangesNames xs (variable_name after) (variable_name model)) (sym is.variables) (names_back names.variables.items (variable_name model) (variable_name after) h.variables);
-  rows = subst (λ xs. ChangesNames xs (row_name after) (row_name model)) (sym is.rows) (names_back names.rows.items (row_name model) (row_name after) h.rows);
-  in_group = λ n some. let both = h.in_group n (sym (listed n) ∙ some) in (subst (λ g. IsInGroup g after n) (sym is.group) both.1, subst (λ g. IsInGroup g model n) (sym is.group) both.0);
-  others = λ n none. sym (h.others n (none_of (find listed_number n names.variables.items) (sym (listed n) ∙ ap is_some none)));
+  variables = subst (λ xs. ChangesNames xs (variable_name after) (variable_name model))
+      (sym is.variables) (names_back names.variables.items (variable_name model)
+      (variable_name after) h.variables);
+  rows = subst (λ xs. ChangesNames xs (row_name after) (row_name model)) (sym is.rows)
+      (names_back names.rows.items (row_name model) (row_name after) h.rows);
+  in_group = λ n some. let both = h.in_group n (sym (listed n) ∙ some) in (
+    subst (λ g. IsInGroup g after n) (sym is.group) both.1,
+    subst (λ g. IsInGroup g model n)
+        (sym is.group) both.0,
+  );
+  others = λ n none. sym (h.others n (none_of (find listed_number n names.variables.items)
+      (sym (listed n) ∙ ap is_some none)));
 }
   where
-    listed : (n : ℕ) → is_some (find listed_number n standing.variables.items) ≡ is_some (find listed_number n names.variables.items)
-    listed n = ap (λ xs. is_some (find listed_number n xs)) is.variables ∙ some_listing (variable_name model) n names.variables.items
+    listed : (n : ℕ) → is_some (find listed_number n standing.variables.items)
+        ≡ is_some (find listed_number n names.variables.items)
+    listed n =
+        ap (λ xs. is_some (find listed_number n xs)) is.variables
+        ∙ some_listing (variable_name model) n names.variables.items
 
 -- ---- the variables that are kept
 
 -- a listed variable, from its old group to its new one
-index_at : (rows : List Row) (n group lower upper : ℕ) (l : NameChange) (was now : Option ℕ) → l.number ≡ n → is_some l.name ≡ is_some now → IfSome was (λ id. id ≡ group) → IfSome now (λ id. id ≡ group) → option_map (recounted rows) (given_variable group l (option_map (λ id. record { number = n; group = id; lower = lower; upper = upper }) was)) ≡ option_map (λ id. record { number = n; group = id; lower = lower_count n rows; upper = upper_count n rows }) now
-index_at rows n group lower upper l was now number named before after = by_name (is_some l.name) was now named before after
+index_at : (rows : List Row) (n group lower upper : ℕ) (l : NameChange) (was now : Option ℕ)
+    → l.number ≡ n → is_some l.name ≡ is_some now → IfSome was (λ id. id ≡ group)
+    → IfSome now (λ id. id ≡ group) → option_map (recounted rows)
+    (given_variable group l (option_map (λ id. record {
+      number = n;
+      group = id;
+      lower = lower;
+      upper = upper;
+    }) was)) ≡ option_map (λ id. record {
+      number = n;
+      group = id;
+      lower = lower_count n rows;
+      upper = upper_count n rows;
+    }) now
+index_at rows n group lower upper l was now number named before after =
+    by_name (is_some l.name) was now named before after
   where
-    by_name : (b : Bool) (o p : Option ℕ) → b ≡ is_some p → IfSome o (λ id. id ≡ group) → IfSome p (λ id. id ≡ group) → option_map (recounted rows) (cond b (Some (unwrap_or (option_map (λ id. record { number = n; group = id; lower = lower; upper = upper }) o) (unbounded_in group l.number))) None) ≡ option_map (λ id. record { number = n; group = id; lower = lower_count n rows; upper = upper_count n rows }) p
+    by_name : (b : Bool) (o p : Option ℕ) → b ≡ is_some p → IfSome o (λ id. id ≡ group)
+        → IfSome p (λ id. id ≡ group) → option_map (recounted rows)
+        (cond b (Some (unwrap_or (option_map (λ id. record {
+          number = n;
+          group = id;
+          lower = lower;
+          upper = upper;
+        }) o) (unbounded_in group l.number))) None)
+        ≡ option_map (λ id. record {
+          number = n;
+          group = id;
+          lower = lower_count n rows;
+          upper = upper_count n rows;
+        }) p
     by_name false o None e before after = refl
     by_name false o (Some id) e before after = absurd (let both : false ≡ true = e in cc)
     by_name true o None e before after = absurd (let both : true ≡ false = e in cc)
-    by_name true None (Some id) e before after = λ i. Some (record { number = number i; group = sym after i; lower = lower_count (number i) rows; upper = upper_count (number i) rows })
-    by_name true (Some old) (Some id) e before after = λ i. Some (record { number = n; group = (before ∙ sym after) i; lower = lower_count n rows; upper = upper_count n rows })
+    by_name true None (Some id) e before after =
+        λ i. Some (record {
+          number = number i;
+          group = sym after i;
+          lower = lower_count (number i) rows;
+          upper = upper_count (number i) rows;
+        })
+    by_name true (Some old) (Some id) e before after =
+        λ i. Some (record {
+          number = n;
+          group = (before ∙ sym after) i;
+          lower = lower_count n rows;
+          upper = upper_count n rows;
+        })
 
-recounted_same : (rows : List Row) (n : ℕ) (o : Option ℕ) → option_map (λ id. record { number = n; group = id; lower = lower_count n rows; upper = upper_count n rows }) o ≡ option_map (recounted rows) (option_map (λ id. record { number = n; group = id; lower = lower_count n rows; upper = upper_count n rows }) o)
+recounted_same : (rows : List Row) (n : ℕ) (o : Option ℕ)
+    → option_map (λ id. record {
+      number = n;
+      group = id;
+      lower = lower_count n rows;
+      upper = upper_count n rows;
+    }) o ≡ option_map (recounted rows)
+    (option_map (λ id. record {
+      number = n;
+      group = id;
+      lower = lower_count n rows;
+      upper = upper_count n rows;
+    }) o)
 recounted_same rows n None = refl
 recounted_same rows n (Some id) = refl
 
-recounted_other : (rows others : List Row) (n : ℕ) (o : Option ℕ) → option_map (recounted rows) (option_map (λ id. record { number = n; group = id; lower = lower_count n others; upper = upper_count n others }) o) ≡ option_map (λ id. record { number = n; group = id; lower = lower_count n rows; upper = upper_count n rows }) o
+recounted_other : (rows others : List Row) (n : ℕ) (o : Option ℕ)
+    → option_map (recounted rows)
+    (option_map (λ id. record {
+      number = n;
+      group = id;
+      lower = lower_count n others;
+      upper = upper_count n others;
+    }) o) ≡ option_map (λ id. record {
+      number = n;
+      group = id;
+      lower = lower_count n rows;
+      upper = upper_count n rows;
+    }) o
 recounted_other rows others n None = refl
 recounted_other rows others n (Some id) = refl
 
-module _ (model : ModelValue) (kept listed_kept : List Variable) (group : ℕ) (listed : List NameChange) (ok : IsConsistent model) (index : IsIndexOf model kept) (entries : (n : ℕ) → find variable_number n listed_kept ≡ listed_in group listed (λ n. find variable_number n kept) n) where
+module _ (model : ModelValue) (kept listed_kept : List Variable) (group : ℕ)
+    (listed : List NameChange) (ok : IsConsistent model) (index : IsIndexOf model kept)
+    (entries : (n : ℕ) → find variable_number n listed_kept ≡ listed_in group listed
+    (λ n. find variable_number n kept) n) where
   -- after the listed variables the counts are still those of the old rows
   pub counts_listed : CountsBounds model.rows listed_kept
-  counts_listed n = entries n ∙ (by_place (find listed_number n listed) refl ∙ ap (option_map (recounted model.rows)) (sym (entries n)))
+  counts_listed n =
+      entries n ∙ (by_place (find listed_number n listed) refl
+      ∙ ap (option_map (recounted model.rows)) (sym (entries n)))
     where
-      by_name : (l : NameChange) (b : Bool) (o : Option Variable) → l.number ≡ n → find variable_number n kept ≡ o → cond b (Some (unwrap_or (find variable_number n kept) (unbounded_in group l.number))) None ≡ option_map (recounted model.rows) (cond b (Some (unwrap_or (find variable_number n kept) (unbounded_in group l.number))) None)
+      by_name : (l : NameChange) (b : Bool) (o : Option Variable) → l.number ≡ n
+          → find variable_number n kept ≡ o
+          → cond b (Some (unwrap_or (find variable_number n kept) (unbounded_in group l.number)))
+          None ≡ option_map (recounted model.rows)
+          (cond b (Some (unwrap_or (find variable_number n kept) (unbounded_in group l.number)))
+          None)
       by_name l false o number e = refl
       by_name l true None number e =
-          let new : unbounded_in group l.number ≡ recounted model.rows (unbounded_in group l.number) =
+          let new : unbounded_in group l.number
+          ≡ recounted model.rows (unbounded_in group l.number) =
           same_variable refl refl
           (no_lower_count model kept ok index n e ∙ ap (λ k. lower_count k model.rows) (sym number))
-          (no_upper_count model kept ok index n e ∙ ap (λ k. upper_count k model.rows) (sym number)) in
-          ap (λ p. Some (unwrap_or p (unbounded_in group l.number))) e ∙ (ap Some new ∙ sym (ap (λ p. option_map (recounted model.rows) (Some (unwrap_or p (unbounded_in group l.number)))) e))
+          (no_upper_count model kept ok index n e ∙ ap (λ k. upper_count k model.rows)
+          (sym number)) in
+          ap (λ p. Some (unwrap_or p (unbounded_in group l.number))) e
+          ∙ (ap Some new ∙ sym (ap (λ p. option_map (recounted model.rows)
+          (Some (unwrap_or p (unbounded_in group l.number)))) e))
       by_name l true (Some v) number e =
-          let is = sym e ∙ (index.entries n ∙ (recounted_same model.rows n (group_number_of model n) ∙ (ap (option_map (recounted model.rows)) (sym (index.entries n)) ∙ ap (option_map (recounted model.rows)) e))) in
-          ap (λ p. Some (unwrap_or p (unbounded_in group l.number))) e ∙ (is ∙ sym (ap (λ p. option_map (recounted model.rows) (Some (unwrap_or p (unbounded_in group l.number)))) e))
+          let is = sym e ∙ (index.entries n ∙ (recounted_same model.rows n (group_number_of model n)
+          ∙ (ap (option_map (recounted model.rows)) (sym (index.entries n))
+          ∙ ap (option_map (recounted model.rows)) e))) in
+          ap (λ p. Some (unwrap_or p (unbounded_in group l.number))) e
+          ∙ (is ∙ sym (ap (λ p. option_map (recounted model.rows)
+          (Some (unwrap_or p (unbounded_in group l.number)))) e))
 
-      by_place : (o : Option NameChange) → find listed_number n listed ≡ o → option_map_or (λ l. given_variable group l (find variable_number n kept)) o (find variable_number n kept) ≡ option_map (recounted model.rows) (option_map_or (λ l. given_variable group l (find variable_number n kept)) (find listed_number n listed) (find variable_number n kept))
+      by_place : (o : Option NameChange) → find listed_number n listed ≡ o
+          → option_map_or (λ l. given_variable group l (find variable_number n kept)) o
+          (find variable_number n kept) ≡ option_map (recounted model.rows)
+          (option_map_or (λ l. given_variable group l (find variable_number n kept))
+          (find listed_number n listed) (find variable_number n kept))
       by_place None e =
-          index.entries n ∙ (recounted_same model.rows n (group_number_of model n) ∙ (ap (option_map (recounted model.rows)) (sym (index.entries n))
-          ∙ ap (λ o. option_map (recounted model.rows) (option_map_or (λ l. given_variable group l (find variable_number n kept)) o (find variable_number n kept))) (sym e)))
+          index.entries n ∙ (recounted_same model.rows n (group_number_of model n)
+          ∙ (ap (option_map (recounted model.rows)) (sym (index.entries n))
+          ∙ ap (λ o. option_map (recounted model.rows)
+          (option_map_or (λ l. given_variable group l (find variable_number n kept)) o
+          (find variable_number n kept))) (sym e)))
       by_place (Some l) e =
-          by_name l (is_some l.name) (find variable_number n kept) (number_of_found listed_number n l listed e) refl
-          ∙ ap (λ o. option_map (recounted model.rows) (option_map_or (λ l. given_variable group l (find variable_number n kept)) o (find variable_number n kept))) (sym e)
+          by_name l (is_some l.name) (find variable_number n kept)
+          (number_of_found listed_number n l listed e) refl
+          ∙ ap (λ o. option_map (recounted model.rows)
+          (option_map_or (λ l. given_variable group l (find variable_number n kept)) o
+          (find variable_number n kept))) (sym e)
 
-  module _ (after : ModelValue) (kept_after : List Variable) (names : ChangesNames listed (variable_name model) (variable_name after)) (in_group : (n : ℕ) → IsSome (find listed_number n listed) → IsInGroup group model n × IsInGroup group after n) (others : (n : ℕ) → find listed_number n listed ≡ None → group_number_of after n ≡ group_number_of model n) (rising : Rise variable_number kept_after) (recounts : (n : ℕ) → find variable_number n kept_after ≡ option_map (recounted after.rows) (find variable_number n listed_kept)) where
+  module _ (after : ModelValue) (kept_after : List Variable)
+      (names : ChangesNames listed (variable_name model) (variable_name after))
+      (in_group : (n : ℕ) → IsSome (find listed_number n listed) → IsInGroup group model n
+      × IsInGroup group after n) (others : (n : ℕ) → find listed_number n listed ≡ None
+      → group_number_of after n ≡ group_number_of model n)
+      (rising : Rise variable_number kept_after)
+      (recounts : (n : ℕ) → find variable_number n kept_after ≡ option_map (recounted after.rows)
+      (find variable_number n listed_kept)) where
     -- and then the new rows are counted
     pub index_after : IsIndexOf after kept_after
-    index_after = record { rising = rising; entries = λ n. recounts n ∙ (ap (option_map (recounted after.rows)) (entries n) ∙ by_place n (find listed_number n listed) refl) }
+    index_after =
+        record {
+          rising = rising;
+          entries = λ n. recounts n
+              ∙ (ap (option_map (recounted after.rows)) (entries n)
+              ∙ by_place n (find listed_number n listed) refl);
+        }
       where
-        by_place : (n : ℕ) (o : Option NameChange) → find listed_number n listed ≡ o → option_map (recounted after.rows) (option_map_or (λ l. given_variable group l (find variable_number n kept)) (find listed_number n listed) (find variable_number n kept)) ≡ kept_of after n
+        by_place : (n : ℕ) (o : Option NameChange) → find listed_number n listed ≡ o
+            → option_map (recounted after.rows)
+            (option_map_or (λ l. given_variable group l (find variable_number n kept))
+            (find listed_number n listed) (find variable_number n kept)) ≡ kept_of after n
         by_place n None e =
-            ap (λ o. option_map (recounted after.rows) (option_map_or (λ l. given_variable group l (find variable_number n kept)) o (find variable_number n kept))) e
+            ap (λ o. option_map (recounted after.rows)
+            (option_map_or (λ l. given_variable group l (find variable_number n kept)) o
+            (find variable_number n kept))) e
             ∙ (ap (option_map (recounted after.rows)) (index.entries n)
             ∙ (recounted_other after.rows model.rows n (group_number_of model n)
-            ∙ sym (ap (option_map (λ id. record { number = n; group = id; lower = lower_count n after.rows; upper = upper_count n after.rows })) (others n e))))
+            ∙ sym (ap (option_map (λ id. record {
+              number = n;
+              group = id;
+              lower = lower_count n after.rows;
+              upper = upper_count n after.rows;
+            })) (others n
+            e))))
         by_place n (Some l) e =
             let number = number_of_found listed_number n l listed e in
             let both = in_group n (some_is (find listed_number n listed) l e) in
-            let named : is_some l.name ≡ is_some (group_number_of after n) = sym (ap is_some (names.named n ∙ ap (λ o. option_map_or (λ l. l.name) o (variable_name model n)) e)) ∙ named_in_group after n in
-            ap (λ o. option_map (recounted after.rows) (option_map_or (λ l. given_variable group l (find variable_number n kept)) o (find variable_number n kept))) e
-            ∙ (ap (λ o. option_map (recounted after.rows) (given_variable group l o)) (index.entries n)
-            ∙ index_at after.rows n group (lower_count n model.rows) (upper_count n model.rows) l (group_number_of model n) (group_number_of after n) number named both.0 both.1)
+            let named : is_some l.name ≡ is_some (group_number_of after n) =
+            sym (ap is_some (names.named n ∙ ap (λ o. option_map_or (λ l. l.name) o
+            (variable_name model n)) e)) ∙ named_in_group after n in
+            ap (λ o. option_map (recounted after.rows)
+            (option_map_or (λ l. given_variable group l (find variable_number n kept)) o
+            (find variable_number n kept))) e
+            ∙ (ap (λ o. option_map (recounted after.rows) (given_variable group l o))
+            (index.entries n)
+            ∙ index_at after.rows n group (lower_count n model.rows) (upper_count n model.rows) l
+            (group_number_of model n) (group_number_of after n) number named both.0 both.1)
 
 -- as many of the listed are kept as have a name
-pub kept_count_is : (model : ModelValue) (kept : List Variable) → IsConsistent model → IsIndexOf model kept → (listed : List NameChange) → kept_count kept listed ≡ put_count (standing_names (variable_name model) listed)
+pub kept_count_is : (model : ModelValue) (kept : List Variable) → IsConsistent model
+    → IsIndexOf model kept → (listed : List NameChange)
+    → kept_count kept listed ≡ put_count (standing_names (variable_name model) listed)
 kept_count_is model kept ok index [] = refl
 kept_count_is model kept ok index (l ∷ ls) =
     sum_by-cons (λ (x : NameChange). cond (is_some (find variable_number x.number kept)) 1 0) l ls
-    ∙ (ap (λ b. cond b 1 0 + kept_count kept ls) (kept_number model kept ok index l.number ∙ sym (named_in_group model l.number))
-    ∙ (ap (λ k. cond (is_some (variable_name model l.number)) 1 0 + k) (kept_count_is model kept ok index ls)
-    ∙ sym (sum_by-cons (λ (x : NameChange). cond (is_some x.name) 1 0) (record { number = l.number; name = variable_name model l.number; aside = None }) (standing_names (variable_name model) ls))))
+    ∙ (ap (λ b. cond b 1 0 + kept_count kept ls) (kept_number model kept ok index l.number
+    ∙ sym (named_in_group model l.number))
+    ∙ (ap (λ k. cond (is_some (variable_name model l.number)) 1 0 + k)
+    (kept_count_is model kept ok index ls)
+    ∙ sym (sum_by-cons (λ (x : NameChange). cond (is_some x.name) 1 0)
+    (record {
+      number = l.number;
+      name = variable_name model l.number;
+      aside = None;
+    }) (standing_names (variable_name model) ls))))
 
 -- ---- terms
 
 module _ {X : Type 0} (number_of : X → ℕ) (w : X → ℕ) where
   -- what is taken out weighs no more than all
-  pub olds_weigh_less : (cs : List (Change X)) (xs : List X) → AreChanges number_of cs → Rise number_of xs → sum_by (λ c. weight w c.content) (olds number_of cs xs) ≤ sum_by w xs
+  pub olds_weigh_less : (cs : List (Change X)) (xs : List X) → AreChanges number_of cs
+      → Rise number_of xs → sum_by (λ c. weight w c.content) (olds number_of cs xs) ≤ sum_by w xs
   olds_weigh_less [] xs h rise = omega arith
   olds_weigh_less (c ∷ cs) xs h rise =
       let later = Rise-head changed_number c cs h.rising in
       let ys = set_at number_of c.number None xs in
-      let rest = olds_weigh_less cs ys (AreChanges-rest number_of c cs h) (Rise-set_at number_of c.number None xs tt rise) in
-      let same = ap (sum_by (λ (d : Change X). weight w d.content)) (olds-set_at number_of c.number None cs xs tt later) in
-      omega (arith, rest, same, sum_set_at number_of w c.number None xs rise, sum_by-cons (λ (d : Change X). weight w d.content) (old number_of xs c) (olds number_of cs xs))
+      let rest = olds_weigh_less cs ys (AreChanges-rest number_of c cs h)
+      (Rise-set_at number_of c.number None xs tt rise) in
+      let same = ap (sum_by (λ (d : Change X). weight w d.content))
+      (olds-set_at number_of c.number None cs xs tt later) in
+      omega (
+        arith,
+        rest,
+        same,
+        sum_set_at number_of w c.number None xs rise,
+        sum_by-cons (λ (d : Change X). weight w d.content) (old number_of xs c)
+            (olds number_of cs xs),
+      )
 
 pub record TermsMoved (model after : ModelValue) (changes back : List (Change Row)) : Type 0 where
   pub taken : changed_terms back ≤ sum_by (λ r. all_terms r.func) model.rows
-  pub moved : sum_by (λ r. all_terms r.func) after.rows + changed_terms back ≡ sum_by (λ r. all_terms r.func) model.rows + changed_terms changes
+  pub moved : sum_by (λ r. all_terms r.func) after.rows + changed_terms back
+      ≡ sum_by (λ r. all_terms r.func) model.rows + changed_terms changes
 
-pub terms_moved : (model after : ModelValue) (changes back : List (Change Row)) → AreChanges row_number changes → Rise row_number model.rows → after.rows ≡ set_all row_number changes model.rows → back ≡ olds row_number changes model.rows → TermsMoved model after changes back
+pub terms_moved : (model after : ModelValue) (changes back : List (Change Row))
+    → AreChanges row_number changes → Rise row_number model.rows
+    → after.rows ≡ set_all row_number changes model.rows → back ≡ olds row_number changes model.rows
+    → TermsMoved model after changes back
 terms_moved model after changes back are rise is was = record {
-  taken = subst (λ cs. changed_terms cs ≤ sum_by (λ r. all_terms r.func) model.rows) (sym was) (olds_weigh_less row_number (λ r. all_terms r.func) changes model.rows are rise);
-  moved = let all = sum_set_all row_number (λ r. all_terms r.func) changes model.rows are rise in omega (arith, all, ap (sum_by (λ r. all_terms r.func)) is, ap changed_terms was);
+  taken = subst (λ cs. changed_terms cs ≤ sum_by (λ r. all_terms r.func) model.rows) (sym was)
+      (olds_weigh_less row_number (λ r. all_terms r.func) changes model.rows are rise);
+  moved = let all = sum_set_all row_number (λ r. all_terms r.func) changes model.rows are rise in
+      omega (arith, all, ap (sum_by (λ r. all_terms r.func)) is, ap changed_terms was);
 }
 
 -- ---- the way back
 
-pub back_again : (model : ModelValue) (undo : Undo) → AreChanges group_number undo.groups → AreChanges row_number undo.rows → Rise group_number model.groups → Rise row_number model.rows → before (before model undo) (standing model undo) ≡ model
+pub back_again : (model : ModelValue) (undo : Undo) → AreChanges group_number undo.groups
+    → AreChanges row_number undo.rows → Rise group_number model.groups → Rise row_number model.rows
+    → before (before model undo) (standing model undo) ≡ model
 back_again model undo groups rows group_rise row_rise = λ i. record {
   groups = set_all_back group_number undo.groups model.groups groups group_rise i;
   rows = set_all_back row_number undo.rows model.rows rows row_rise i;
@@ -206,11 +428,15 @@ back_again model undo groups rows group_rise row_rise = λ i. record {
   next = model.next;
 }
   where
-    objective_back : (o : Option Objective) → unwrap_or (option_map (λ _. model.objective) o) (unwrap_or o model.objective) ≡ model.objective
+    objective_back : (o : Option Objective) → unwrap_or (option_map (λ _. model.objective) o)
+        (unwrap_or o model.objective) ≡ model.objective
     objective_back None = refl
     objective_back (Some x) = refl
 
 -- the same model kept alike
-pub kept_alike : (model other : ModelValue) (kept others : List Variable) (t u r s : Numbers) (count : ℕ) → other ≡ model → others ≡ kept → u ≡ t → s ≡ r → Keeps model kept t r count → Keeps other others u s count
+pub kept_alike : (model other : ModelValue) (kept others : List Variable) (t u r s : Numbers)
+    (count : ℕ) → other ≡ model → others ≡ kept → u ≡ t → s ≡ r → Keeps model kept t r count
+    → Keeps other others u s count
 kept_alike model other kept others t u r s count a b c d h =
-    subst (λ (x : ModelValue × (List Variable × (Numbers × Numbers))). Keeps x.0 x.1.0 x.1.1.0 x.1.1.1 count) (λ i. (sym a i, (sym b i, (sym c i, sym d i)))) h
+    subst (λ (x : ModelValue × (List Variable × (Numbers × Numbers))). Keeps x.0 x.1.0 x.1.1.0
+    x.1.1.1 count) (λ i. (sym a i, (sym b i, (sym c i, sym d i)))) h

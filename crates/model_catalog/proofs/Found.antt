@@ -37,13 +37,19 @@ module _ {X : Type 0} (p : X → Bool) where
       none_more n = omega arith
 
 -- an item of a list of lists is found exactly where a list that has one is
-pub some_found_in : {X Y : Type 0} (f : X → List Y) (p : Y → Bool) (xs : List X) → is_some (list.find p (flat_map f xs)) ≡ is_some (list.find (λ x. list_any p (f x)) xs)
+pub some_found_in : {X Y : Type 0} (f : X → List Y) (p : Y → Bool) (xs : List X)
+    → is_some (list.find p (flat_map f xs)) ≡ is_some (list.find (λ x. list_any p (f x)) xs)
 some_found_in f p [] = refl
 some_found_in {X} {Y} f p (x ∷ xs) =
     ap is_some (find-append p (f x) (flat_map f xs))
-    ∙ (by_first (list.find p (f x)) (some_found_in f p xs) ∙ ap (λ b. is_some (cond b (Some x) (list.find (λ y. list_any p (f y)) xs))) (some_found p (f x)))
+    ∙ (by_first (list.find p (f x)) (some_found_in f p xs)
+    ∙ ap (λ b. is_some (cond b (Some x) (list.find (λ y. list_any p (f y)) xs)))
+    (some_found p (f x)))
   where
-    by_first : (o : Option Y) → is_some (list.find p (flat_map f xs)) ≡ is_some (list.find (λ y. list_any p (f y)) xs) → is_some (option_or o (list.find p (flat_map f xs))) ≡ is_some (cond (is_some o) (Some x) (list.find (λ y. list_any p (f y)) xs))
+    by_first : (o : Option Y) → is_some (list.find p (flat_map f xs))
+        ≡ is_some (list.find (λ y. list_any p (f y)) xs)
+        → is_some (option_or o (list.find p (flat_map f xs)))
+        ≡ is_some (cond (is_some o) (Some x) (list.find (λ y. list_any p (f y)) xs))
     by_first None rest = rest
     by_first (Some y) rest = refl
 
@@ -54,14 +60,17 @@ module _ {X : Type 0} (number_of : X → ℕ) (name_of : X → List ℕ) where
   naming xs n = option_map name_of (find number_of n xs)
 
   -- the item with a number and a name
-  item_named : (xs : List X) (n : ℕ) (name : List ℕ) → option_map name_of (find number_of n xs) ≡ Some name → (x : X) × (find number_of n xs ≡ Some x) × (name_of x ≡ name)
+  item_named : (xs : List X) (n : ℕ) (name : List ℕ) → option_map name_of (find number_of n xs)
+      ≡ Some name → (x : X) × (find number_of n xs ≡ Some x) × (name_of x ≡ name)
   item_named xs n name e = by_place (find number_of n xs) refl e
     where
-      by_place : (o : Option X) → find number_of n xs ≡ o → option_map name_of o ≡ Some name → (x : X) × (find number_of n xs ≡ Some x) × (name_of x ≡ name)
+      by_place : (o : Option X) → find number_of n xs ≡ o → option_map name_of o ≡ Some name
+          → (x : X) × (find number_of n xs ≡ Some x) × (name_of x ≡ name)
       by_place None at is = absurd (none-some name is)
       by_place (Some x) at is = (x, at, same_Some (name_of x) name is)
 
-  pub distinct_names : (xs : List X) → AllPairs (λ v w. name_of v ≢ name_of w) xs → AreDistinct (λ n. option_map name_of (find number_of n xs))
+  pub distinct_names : (xs : List X) → AllPairs (λ v w. name_of v ≢ name_of w) xs
+      → AreDistinct (λ n. option_map name_of (find number_of n xs))
   distinct_names xs apart n m name here there =
       let one = item_named xs n name here in
       let other = item_named xs m name there in
@@ -74,11 +83,15 @@ module _ {X : Type 0} (number_of : X → ℕ) (name_of : X → List ℕ) where
       let in_j = slice_get_within xs j.0 other.0 j.1 in
       elim (cases_order i.0 j.0) [
         | inl same ↦
-            let read : one.0 ≡ other.0 = same_Some one.0 other.0 (sym i.1 ∙ (ap (slice_get xs) same ∙ j.1)) in
-            sym (number_of_found number_of n one.0 xs one.1) ∙ (ap number_of read ∙ number_of_found number_of m other.0 xs other.1)
+            let read : one.0 ≡ other.0 =
+            same_Some one.0 other.0 (sym i.1 ∙ (ap (slice_get xs) same ∙ j.1)) in
+            sym (number_of_found number_of n one.0 xs one.1)
+            ∙ (ap number_of read ∙ number_of_found number_of m other.0 xs other.1)
         | inr order ↦ absurd (elim order [
-          | inl lt ↦ apart i.0 j.0 d lt in_j (ap name_of at_i ∙ (one.2 ∙ (sym other.2 ∙ sym (ap name_of at_j))))
-          | inr lt ↦ apart j.0 i.0 d lt in_i (ap name_of at_j ∙ (other.2 ∙ (sym one.2 ∙ sym (ap name_of at_i))))
+          | inl lt ↦ apart i.0 j.0 d lt in_j (ap name_of at_i
+              ∙ (one.2 ∙ (sym other.2 ∙ sym (ap name_of at_j))))
+          | inr lt ↦ apart j.0 i.0 d lt in_i (ap name_of at_j
+              ∙ (other.2 ∙ (sym one.2 ∙ sym (ap name_of at_i))))
         ])
       ]
 
@@ -87,17 +100,23 @@ module _ {X : Type 0} (number_of : X → ℕ) (name_of : X → List ℕ) where
     pub has : (n : ℕ) → o ≡ Some n → option_map name_of (find number_of n xs) ≡ Some name
     pub all : (n : ℕ) → option_map name_of (find number_of n xs) ≡ Some name → o ≡ Some n
 
-  pub found_by_name : (xs : List X) (name : List ℕ) (o : Option ℕ) → Rise number_of xs → IsNumberOf xs name o → (o ≡ option_map number_of (list.find (λ x. bytes_eq (name_of x) name) xs)) × (option_and_then (λ n. find number_of n xs) o ≡ list.find (λ x. bytes_eq (name_of x) name) xs)
+  pub found_by_name : (xs : List X) (name : List ℕ) (o : Option ℕ) → Rise number_of xs
+      → IsNumberOf xs name o
+      → (o ≡ option_map number_of (list.find (λ x. bytes_eq (name_of x) name) xs))
+      × (option_and_then (λ n. find number_of n xs) o ≡ list.find
+      (λ x. bytes_eq (name_of x) name) xs)
   found_by_name xs name o rise h = by_place (list.find (λ x. bytes_eq (name_of x) name) xs) refl
     where
-      by_place : (q : Option X) → list.find (λ x. bytes_eq (name_of x) name) xs ≡ q → (o ≡ option_map number_of q) × (option_and_then (λ n. find number_of n xs) o ≡ q)
+      by_place : (q : Option X) → list.find (λ x. bytes_eq (name_of x) name) xs ≡ q
+          → (o ≡ option_map number_of q) × (option_and_then (λ n. find number_of n xs) o ≡ q)
       by_place (Some x) e =
           let at = place_of_found (λ y. bytes_eq (name_of y) name) xs x e in
           let named = (bytes_decides (name_of x) name).0 at.0 in
           let there = find-at number_of xs at.1.0 x rise at.1.1 in
           let is = h.all (number_of x) (ap (option_map name_of) there ∙ ap Some named) in
           (is, ap (option_and_then (λ n. find number_of n xs)) is ∙ there)
-      by_place None e = let is = nothing o refl in (is, ap (option_and_then (λ n. find number_of n xs)) is)
+      by_place None e =
+          let is = nothing o refl in (is, ap (option_and_then (λ n. find number_of n xs)) is)
         where
           nothing : (q : Option ℕ) → o ≡ q → o ≡ None
           nothing None is = is
@@ -111,25 +130,39 @@ module _ {X : Type 0} (number_of : X → ℕ) (name_of : X → List ℕ) where
 -- ---- numbers alone
 
 module _ {X : Type 0} (number_of : X → ℕ) where
-  All-numbers : (n : ℕ) (xs : List X) → All (λ x. n < number_of x) xs → All (λ k. n < k) (map number_of xs)
+  All-numbers : (n : ℕ) (xs : List X) → All (λ x. n < number_of x) xs
+      → All (λ k. n < k) (map number_of xs)
   All-numbers n [] h = All-nil (λ k. n < k)
-  All-numbers n (x ∷ xs) h = All-cons (λ k. n < k) (number_of x) (map number_of xs) (All-head (λ x. n < number_of x) x xs h) (All-numbers n xs (All-tail (λ x. n < number_of x) x xs h))
+  All-numbers n (x ∷ xs) h =
+      All-cons (λ k. n < k) (number_of x) (map number_of xs)
+      (All-head (λ x. n < number_of x) x xs h)
+      (All-numbers n xs (All-tail (λ x. n < number_of x) x xs h))
 
   Rise-numbers : (xs : List X) → Rise number_of xs → Rise (λ k. k) (map number_of xs)
   Rise-numbers [] rise = Rise-nil (λ k. k)
-  Rise-numbers (x ∷ xs) rise = Rise-cons (λ k. k) (number_of x) (map number_of xs) (All-numbers (number_of x) xs (Rise-head number_of x xs rise)) (Rise-numbers xs (Rise-tail number_of x xs rise))
+  Rise-numbers (x ∷ xs) rise =
+      Rise-cons (λ k. k) (number_of x) (map number_of xs)
+      (All-numbers (number_of x) xs (Rise-head number_of x xs rise))
+      (Rise-numbers xs (Rise-tail number_of x xs rise))
 
-  find-numbers : (n : ℕ) (xs : List X) → find (λ k. k) n (map number_of xs) ≡ option_map number_of (find number_of n xs)
+  find-numbers : (n : ℕ) (xs : List X) → find (λ k. k) n (map number_of xs)
+      ≡ option_map number_of (find number_of n xs)
   find-numbers n [] = refl
-  find-numbers n (x ∷ xs) = elim (number_of x == n) as (λ b. cond b (Some (number_of x)) (find (λ k. k) n (map number_of xs)) ≡ option_map number_of (cond b (Some x) (find number_of n xs))) [ true ↦ refl | false ↦ find-numbers n xs ]
+  find-numbers n (x ∷ xs) =
+      elim (number_of x == n) as (λ b. cond b (Some (number_of x))
+      (find (λ k. k) n (map number_of xs)) ≡ option_map number_of
+      (cond b (Some x) (find number_of n xs))) [ true ↦ refl | false ↦ find-numbers n xs ]
 
 -- two lists in which items of the same numbers are found have the same numbers
-pub same_numbers : {X Y : Type 0} (f : X → ℕ) (g : Y → ℕ) (xs : List X) (ys : List Y) → Rise f xs → Rise g ys → ((n : ℕ) → is_some (find f n xs) ≡ is_some (find g n ys)) → map f xs ≡ map g ys
+pub same_numbers : {X Y : Type 0} (f : X → ℕ) (g : Y → ℕ) (xs : List X) (ys : List Y) → Rise f xs
+    → Rise g ys → ((n : ℕ) → is_some (find f n xs) ≡ is_some (find g n ys)) → map f xs ≡ map g ys
 same_numbers {X} {Y} f g xs ys up rise same =
     same_lists (λ k. k) (map f xs) (map g ys) (Rise-numbers f xs up) (Rise-numbers g ys rise) (λ n.
-    find-numbers f n xs ∙ (at n (find f n xs) (find g n ys) (IsAt-find f n xs) (IsAt-find g n ys) (same n) ∙ sym (find-numbers g n ys)))
+    find-numbers f n xs ∙ (at n (find f n xs) (find g n ys) (IsAt-find f n xs) (IsAt-find g n ys)
+    (same n) ∙ sym (find-numbers g n ys)))
   where
-    at : (n : ℕ) (o : Option X) (p : Option Y) → IsAt f n o → IsAt g n p → is_some o ≡ is_some p → option_map f o ≡ option_map g p
+    at : (n : ℕ) (o : Option X) (p : Option Y) → IsAt f n o → IsAt g n p → is_some o ≡ is_some p
+        → option_map f o ≡ option_map g p
     at n None None a b e = refl
     at n None (Some y) a b e = absurd (let both : false ≡ true = e in cc)
     at n (Some x) None a b e = absurd (let both : true ≡ false = e in cc)

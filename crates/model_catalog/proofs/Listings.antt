@@ -17,65 +17,111 @@ use Rattle.map_laws.specs.OptionLaws.{not_some, some_is}
 use Rattle.map_laws.specs.SumLaws.{count_first}
 
 -- what is given stands at its number
-pub IsAt-given : (group : ℕ) (l : NameChange) (kept : List Variable) → IsAt variable_number l.number (given_variable group l (find variable_number l.number kept))
-IsAt-given group l kept = by_name (is_some l.name) (find variable_number l.number kept) (IsAt-find variable_number l.number kept)
+pub IsAt-given : (group : ℕ) (l : NameChange) (kept : List Variable)
+    → IsAt variable_number l.number (given_variable group l (find variable_number l.number kept))
+IsAt-given group l kept =
+    by_name (is_some l.name) (find variable_number l.number kept)
+    (IsAt-find variable_number l.number kept)
   where
-    by_name : (named : Bool) (o : Option Variable) → IsAt variable_number l.number o → IsAt variable_number l.number (cond named (Some (unwrap_or o (unbounded_in group l.number))) None)
+    by_name : (named : Bool) (o : Option Variable) → IsAt variable_number l.number o
+        → IsAt variable_number l.number (cond named
+        (Some (unwrap_or o (unbounded_in group l.number))) None)
     by_name false o at = tt
     by_name true None at = refl
     by_name true (Some v) at = at
 
 -- a variable that is listed with a name, and was kept, stays
-pub kept_there : (group : ℕ) (l : NameChange) (kept : List Variable) (place : Result ℕ ℕ) → is_some l.name ≡ true → false ≡ is_err place → IsPlaceOf variable_number l.number kept place → Rise variable_number kept → kept ≡ set_at variable_number l.number (given_variable group l (find variable_number l.number kept)) kept
+pub kept_there : (group : ℕ) (l : NameChange) (kept : List Variable) (place : Result ℕ ℕ)
+    → is_some l.name ≡ true → false ≡ is_err place → IsPlaceOf variable_number l.number kept place
+    → Rise variable_number kept → kept ≡ set_at variable_number l.number (given_variable group l
+    (find variable_number l.number kept)) kept
 kept_there group l kept (Err i) named there at rise = let both : false ≡ true = there in cc
 kept_there group l kept (Ok i) named there at rise =
     by_name l.name (find variable_number l.number kept) named refl at.there
   where
-    by_name : (name : Option (List ℕ)) (o : Option Variable) → is_some name ≡ true → find variable_number l.number kept ≡ o → IsSome (find variable_number l.number kept) → kept ≡ set_at variable_number l.number (cond (is_some name) (Some (unwrap_or (find variable_number l.number kept) (unbounded_in group l.number))) None) kept
+    by_name : (name : Option (List ℕ)) (o : Option Variable) → is_some name ≡ true
+        → find variable_number l.number kept ≡ o → IsSome (find variable_number l.number kept)
+        → kept ≡ set_at variable_number l.number (cond (is_some name)
+        (Some (unwrap_or (find variable_number l.number kept) (unbounded_in group l.number))) None)
+        kept
     by_name None o unnamed e some = let both : false ≡ true = unnamed in cc
-    by_name (Some name) None unnamed e some = absurd (not_some (find variable_number l.number kept) e some)
+    by_name (Some name) None unnamed e some =
+        absurd (not_some (find variable_number l.number kept) e some)
     by_name (Some name) (Some v) unnamed e some =
         sym (set_at_found variable_number l.number kept rise)
-        ∙ ap (λ o. set_at variable_number l.number o kept) (e ∙ sym (ap (λ o. Some (unwrap_or o (unbounded_in group l.number))) e))
+        ∙ ap (λ o. set_at variable_number l.number o kept) (e
+        ∙ sym (ap (λ o. Some (unwrap_or o (unbounded_in group l.number))) e))
 
 -- ---- the loop
 
 -- what is left of the listed gives, from those that are kept now, what all of them give
-pub record ListedSoFar (group : ℕ) (start now : List Variable) (listed : List NameChange) (i first capacity : ℕ) : Type 0 where
-  pub rest : (n : ℕ) → listed_in group (drop i listed) (λ n. find variable_number n now) n ≡ listed_in group listed (λ n. find variable_number n start) n
-  pub still : (n : ℕ) → IsSome (find listed_number n (drop i listed)) → find variable_number n now ≡ find variable_number n start
+pub record ListedSoFar (group : ℕ) (start now : List Variable) (listed : List NameChange)
+    (i first capacity : ℕ) : Type 0 where
+  pub rest : (n : ℕ) → listed_in group (drop i listed) (λ n. find variable_number n now) n
+      ≡ listed_in group listed (λ n. find variable_number n start) n
+  pub still : (n : ℕ) → IsSome (find listed_number n (drop i listed))
+      → find variable_number n now ≡ find variable_number n start
   pub left : Rise listed_number (drop i listed)
   pub rising : Rise variable_number now
-  pub count : length now + kept_count start listed + put_count (drop i listed) ≡ length start + put_count listed + kept_count start (drop i listed)
+  pub count : length now + kept_count start listed + put_count (drop i listed)
+      ≡ length start + put_count listed + kept_count start (drop i listed)
   pub fits : length now + put_count (drop i listed) ≤ capacity
   pub grown : first ≤ capacity
 
-pub listed_none : (group : ℕ) (start : List Variable) (listed : List NameChange) (capacity : ℕ) → Rise variable_number start → Rise listed_number listed → length start + put_count listed ≤ capacity → ListedSoFar group start start listed 0 capacity capacity
+pub listed_none : (group : ℕ) (start : List Variable) (listed : List NameChange) (capacity : ℕ)
+    → Rise variable_number start → Rise listed_number listed → length start + put_count listed
+    ≤ capacity → ListedSoFar group start start listed 0 capacity capacity
 listed_none group start listed capacity rise up fits =
-    record { rest = λ n. refl; still = λ n some. refl; left = up; rising = rise; count = omega arith; fits = fits; grown = omega arith }
+    record {
+      rest = λ n. refl;
+      still = λ n some. refl;
+      left = up;
+      rising = rise;
+      count = omega arith;
+      fits = fits;
+      grown = omega arith;
+    }
 
 -- one of them, as those after it are left
-record Step (group : ℕ) (start now : List Variable) (x : NameChange) (left : List NameChange) (all : ℕ → Option Variable) : Type 0 where
-  rest : (n : ℕ) → listed_in group left (λ n. find variable_number n (set_at variable_number x.number (given_variable group x (find variable_number x.number now)) now)) n ≡ all n
-  still : (n : ℕ) → IsSome (find listed_number n left) → find variable_number n (set_at variable_number x.number (given_variable group x (find variable_number x.number now)) now) ≡ find variable_number n start
+record Step (group : ℕ) (start now : List Variable) (x : NameChange) (left : List NameChange)
+    (all : ℕ → Option Variable) : Type 0 where
+  rest : (n : ℕ) → listed_in group left (λ n. find variable_number n
+      (set_at variable_number x.number (given_variable group x (find variable_number x.number now))
+      now)) n ≡ all n
+  still : (n : ℕ) → IsSome (find listed_number n left)
+      → find variable_number n (set_at variable_number x.number
+      (given_variable group x (find variable_number x.number now)) now)
+      ≡ find variable_number n start
   own : find variable_number x.number now ≡ find variable_number x.number start
 
-step : (group : ℕ) (start now : List Variable) (x : NameChange) (left : List NameChange) (all : ℕ → Option Variable) → Rise listed_number (x ∷ left) → ((n : ℕ) → listed_in group (x ∷ left) (λ n. find variable_number n now) n ≡ all n) → ((n : ℕ) → IsSome (find listed_number n (x ∷ left)) → find variable_number n now ≡ find variable_number n start) → Step group start now x left all
+step : (group : ℕ) (start now : List Variable) (x : NameChange) (left : List NameChange)
+    (all : ℕ → Option Variable) → Rise listed_number (x ∷ left)
+    → ((n : ℕ) → listed_in group (x ∷ left) (λ n. find variable_number n now) n ≡ all n)
+    → ((n : ℕ) → IsSome (find listed_number n (x ∷ left)) → find variable_number n now ≡ find
+    variable_number n start) → Step group start now x left all
 step group start now x left all rise rest still = record {
   rest = λ n. elim (cases_eq x.number n) [
     | inl same ↦
-        ap (λ o. option_map_or (λ l. given_variable group l (find variable_number n after)) o (find variable_number n after)) (absent n same)
-        ∙ (subst (λ m. find variable_number m after ≡ given_variable group x (find variable_number m now)) same (find-set_at_same variable_number x.number given now at)
-        ∙ (sym (ap (λ o. option_map_or (λ l. given_variable group l (find variable_number n now)) o (find variable_number n now)) (find-first listed_number n x left same)) ∙ rest n))
+        ap (λ o. option_map_or (λ l. given_variable group l (find variable_number n after)) o
+        (find variable_number n after)) (absent n same)
+        ∙ (subst (λ m. find variable_number m after ≡ given_variable group x
+        (find variable_number m now)) same (find-set_at_same variable_number x.number
+        given now at)
+        ∙ (sym (ap (λ o. option_map_or (λ l. given_variable group l (find variable_number n now)) o
+        (find variable_number n now)) (find-first listed_number n x left same)) ∙ rest n))
     | inr other ↦
-        ap (λ o. option_map_or (λ l. given_variable group l o) (find listed_number n left) o) (find-set_at_other variable_number n x.number given now (λ e. other (sym e)) at)
-        ∙ (sym (ap (λ o. option_map_or (λ l. given_variable group l (find variable_number n now)) o (find variable_number n now)) (find-rest listed_number n x left other)) ∙ rest n)
+        ap (λ o. option_map_or (λ l. given_variable group l o) (find listed_number n left) o)
+        (find-set_at_other variable_number n x.number given now (λ e. other (sym e)) at)
+        ∙ (sym (ap (λ o. option_map_or (λ l. given_variable group l (find variable_number n now)) o
+        (find variable_number n now)) (find-rest listed_number n x left other)) ∙ rest n)
   ];
   still = λ n some. elim (cases_eq x.number n) [
     | inl same ↦ absurd (not_some (find listed_number n left) (absent n same) some)
-    | inr other ↦ find-set_at_other variable_number n x.number given now (λ e. other (sym e)) at ∙ still n (subst IsSome (sym (find-rest listed_number n x left other)) some)
+    | inr other ↦ find-set_at_other variable_number n x.number given now (λ e. other (sym e)) at
+        ∙ still n (subst IsSome (sym (find-rest listed_number n x left other)) some)
   ];
-  own = still x.number (some_is (find listed_number x.number (x ∷ left)) x (find-first listed_number x.number x left refl));
+  own = still x.number (some_is (find listed_number x.number (x ∷ left)) x
+      (find-first listed_number x.number x left refl));
 }
   where
     given : Option Variable
@@ -88,28 +134,45 @@ step group start now x left all rise rest still = record {
     at = IsAt-given group x now
 
     absent : (n : ℕ) → x.number ≡ n → find listed_number n left ≡ None
-    absent n same = find-none_above listed_number n left (subst (λ m. (k : ℕ) (d : NameChange) → k < length left → m < (slice_index_or left k d).number) same (Rise-head listed_number x left rise))
+    absent n same =
+        find-none_above listed_number n left (subst (λ m. (k : ℕ) (d : NameChange) → k < length left
+        → m < (slice_index_or left k d).number) same (Rise-head listed_number x left rise))
 
 length_of : {X : Type 0} (o : Option X) → length (option_to_list o) ≡ cond (is_some o) 1 0
 length_of None = refl
 length_of (Some x) = refl
 
-some_given : (group : ℕ) (l : NameChange) (o : Option Variable) → is_some (given_variable group l o) ≡ is_some l.name
-some_given group l o = elim (is_some l.name) as (λ b. is_some (cond b (Some (unwrap_or o (unbounded_in group l.number))) None) ≡ b) [ true ↦ refl | false ↦ refl ]
+some_given : (group : ℕ) (l : NameChange) (o : Option Variable) → is_some (given_variable group l o)
+    ≡ is_some l.name
+some_given group l o =
+    elim (is_some l.name) as (λ b. is_some
+    (cond b (Some (unwrap_or o (unbounded_in group l.number))) None) ≡ b)
+    [ true ↦ refl | false ↦ refl ]
 
-pub listed_more : (group : ℕ) (start now after : List Variable) (listed : List NameChange) (i first capacity more : ℕ) (d : NameChange) → ListedSoFar group start now listed i first capacity → i < length listed → after ≡ set_at variable_number (slice_index_or listed i d).number (given_variable group (slice_index_or listed i d) (find variable_number (slice_index_or listed i d).number now)) now → Rise variable_number after → capacity ≤ more → ListedSoFar group start after listed (i + 1) first more
+pub listed_more : (group : ℕ) (start now after : List Variable) (listed : List NameChange)
+    (i first capacity more : ℕ) (d : NameChange)
+    → ListedSoFar group start now listed i first capacity → i < length listed
+    → after ≡ set_at variable_number (slice_index_or listed i d).number (given_variable group
+    (slice_index_or listed i d) (find variable_number (slice_index_or listed i d).number now)) now
+    → Rise variable_number after → capacity ≤ more
+    → ListedSoFar group start after listed (i + 1) first more
 listed_more group start now after listed i first capacity more d h lt is rise grows =
     let x = slice_index_or listed i d in
     let left = drop (i + 1) listed in
     let split = drop_more listed i d lt in
-    let s = step group start now x left (λ n. listed_in group listed (λ n. find variable_number n start) n) (subst (Rise listed_number) split h.left)
-    (λ n. sym (ap (λ xs. listed_in group xs (λ n. find variable_number n now) n) split) ∙ h.rest n) (λ n some. h.still n (subst (λ xs. IsSome (find listed_number n xs)) (sym split) some)) in
+    let s = step group start now x left (λ n. listed_in group listed
+    (λ n. find variable_number n start) n) (subst (Rise listed_number) split h.left)
+    (λ n. sym (ap (λ xs. listed_in group xs (λ n. find variable_number n now) n) split) ∙ h.rest n)
+    (λ n some. h.still n (subst (λ xs. IsSome (find listed_number n xs)) (sym split) some)) in
     let given = given_variable group x (find variable_number x.number now) in
     let lengths = length-set_at variable_number x.number given now h.rising in
-    let was = length_of (find variable_number x.number now) ∙ ap (λ o. cond {A = ℕ} (is_some o) 1 0) s.own in
-    let gives = length_of given ∙ ap (λ b. cond {A = ℕ} b 1 0) (some_given group x (find variable_number x.number now)) in
+    let was = length_of (find variable_number x.number now)
+    ∙ ap (λ o. cond {A = ℕ} (is_some o) 1 0) s.own in
+    let gives = length_of given ∙ ap (λ b. cond {A = ℕ} b 1 0)
+    (some_given group x (find variable_number x.number now)) in
     let puts = ap put_count split ∙ count_first (λ l. is_some l.name) x left in
-    let keeps = ap (kept_count start) split ∙ count_first (λ l. is_some (find variable_number l.number start)) x left in
+    let keeps = ap (kept_count start) split
+    ∙ count_first (λ l. is_some (find variable_number l.number start)) x left in
     let long = ap length is in
     record {
       rest = λ n. ap (λ vs. listed_in group left (λ n. find variable_number n vs) n) is ∙ s.rest n;

@@ -10,10 +10,18 @@ use Rattle.model_laws.specs.Mentions.{objective_changes_where_mentioned, objecti
 use Rattle.user_model.specs.Model.{objective_mentions}
 use Rattle.user_model.specs.Functions.{has_term}
 
-pub affine_left : (at : Address) (o : Objective) (sense : Sense) (f g : Function) → o ≡ Affine sense f → has_term at f ≡ true → g ≡ without_term at f → (Affine sense g ≡ objective_without at o) × (Affine sense g ≢ o)
+pub affine_left : (at : Address) (o : Objective) (sense : Sense) (f g : Function)
+    → o ≡ Affine sense f → has_term at f ≡ true → g ≡ without_term at f
+    → (Affine sense g ≡ objective_without at o) × (Affine sense g ≢ o)
 affine_left at o sense f g is has e =
-    let left : Affine sense g ≡ objective_without at o = ap (Affine sense) e ∙ sym (ap (objective_without at) is) in
-    (left, λ same. objective_changes_where_mentioned at o (ap (objective_mentions at) is ∙ has) (sym left ∙ same))
+    let left : Affine sense g ≡ objective_without at o =
+    ap (Affine sense) e ∙ sym (ap (objective_without at) is) in (
+      left,
+      λ same. objective_changes_where_mentioned at o (ap (objective_mentions at) is ∙ has)
+          (sym left ∙ same),
+    )
 
-pub affine_stays : (at : Address) (o : Objective) (sense : Sense) (f : Function) → o ≡ Affine sense f → has_term at f ≡ false → objective_without at o ≡ o
-affine_stays at o sense f is lacks = objective_unmentioned at o (ap (objective_mentions at) is ∙ lacks)
+pub affine_stays : (at : Address) (o : Objective) (sense : Sense) (f : Function)
+    → o ≡ Affine sense f → has_term at f ≡ false → objective_without at o ≡ o
+affine_stays at o sense f is lacks =
+    objective_unmentioned at o (ap (objective_mentions at) is ∙ lacks)

@@ -21,9 +21,11 @@ module _ (words : List ℕ) (k n : ℕ) (within : k / 64 < length words) where
         | inl row ↦
             ap (λ w. bit_at (get_or (set words (k / 64) word) w 0) (n % 64) == 1) row
             ∙ (ap (λ w. bit_at w (n % 64) == 1) (get_or-set_same words (k / 64) word 0 within)
-            ∙ (ap (λ b. b == 1) (bit_at_set_other w64 (get_or words (k / 64) 0) (k % 64) (omega arith) (n % 64) (omega arith))
+            ∙ (ap (λ b. b == 1) (bit_at_set_other w64 (get_or words (k / 64) 0) (k % 64)
+            (omega arith) (n % 64) (omega arith))
             ∙ ap (λ w. bit_at (get_or words w 0) (n % 64) == 1) (sym row)))
-        | inr apart ↦ ap (λ w. bit_at w (n % 64) == 1) (get_or-set_other words (k / 64) (n / 64) word 0 apart)
+        | inr apart ↦ ap (λ w. bit_at w (n % 64) == 1) (get_or-set_other words (k / 64)
+            (n / 64) word 0 apart)
       ]
 
   pub bit_in-set : bit_in (set words (k / 64) word) n ≡ ((n == k) || bit_in words n)
@@ -39,12 +41,16 @@ module _ (words : List ℕ) (k n : ℕ) (within : k / 64 < length words) where
 
 -- ---- three bits for a hash
 
-module _ (old one two three : Marks) (a b c : ℕ) (first : (n : ℕ) → has_bit one n ≡ ((n == a) || has_bit old n)) (second : (n : ℕ) → has_bit two n ≡ ((n == b) || has_bit one n)) (third : (n : ℕ) → has_bit three n ≡ ((n == c) || has_bit two n)) where
+module _ (old one two three : Marks) (a b c : ℕ)
+    (first : (n : ℕ) → has_bit one n ≡ ((n == a) || has_bit old n))
+    (second : (n : ℕ) → has_bit two n ≡ ((n == b) || has_bit one n))
+    (third : (n : ℕ) → has_bit three n ≡ ((n == c) || has_bit two n)) where
   all_true : (p q r : Bool) → p ≡ true → q ≡ true → r ≡ true → (p && (q && r)) ≡ true
   all_true p q r d e f = cc
 
   from_one : (n : ℕ) → has_bit one n ≡ true → has_bit three n ≡ true
-  from_one n e = third n ∙ or_right (n == c) (has_bit two n) (second n ∙ or_right (n == b) (has_bit one n) e)
+  from_one n e =
+      third n ∙ or_right (n == c) (has_bit two n) (second n ∙ or_right (n == b) (has_bit one n) e)
 
   -- bits that were set stay
   from_old : (n : ℕ) → has_bit old n ≡ true → has_bit three n ≡ true
@@ -60,10 +66,12 @@ module _ (old one two three : Marks) (a b c : ℕ) (first : (n : ℕ) → has_bi
       itself : (n : ℕ) (y : Bool) → ((n == n) || y) ≡ true
       itself n y = ap (λ x. x || y) (eq-eqb n n refl)
 
-  pub three_stay : (x y z : ℕ) → (has_bit old x && (has_bit old y && has_bit old z)) ≡ true → (has_bit three x && (has_bit three y && has_bit three z)) ≡ true
+  pub three_stay : (x y z : ℕ) → (has_bit old x && (has_bit old y && has_bit old z)) ≡ true
+      → (has_bit three x && (has_bit three y && has_bit three z)) ≡ true
   three_stay x y z e =
       let parts = taken_apart (has_bit old x) (has_bit old y) (has_bit old z) e in
-      all_true (has_bit three x) (has_bit three y) (has_bit three z) (from_old x parts.0) (from_old y parts.1) (from_old z parts.2)
+      all_true (has_bit three x) (has_bit three y) (has_bit three z) (from_old x parts.0)
+      (from_old y parts.1) (from_old z parts.2)
     where
       taken_apart : (p q r : Bool) → (p && (q && r)) ≡ true → (p ≡ true) × (q ≡ true) × (r ≡ true)
       taken_apart true true r e = (refl, refl, e)

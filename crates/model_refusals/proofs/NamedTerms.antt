@@ -34,25 +34,39 @@ module _ (model : ModelValue) (c : IsConsistent model) where
   abbrev located : List NamedTerm → List (Address × Rational)
   located ts = map (λ t. (address_named model t.variable, t.coefficient)) ts
 
-  none_found : (x : List ℕ) (ts : List NamedTerm) → has_variable_named model x ≡ true → list_any unknown (names ts) ≡ false → AllByRecursion (λ y. bytes_eq x y ≡ false) (names ts) → finite.find address_cmp (address_named model x) (located ts) ≡ None
+  none_found : (x : List ℕ) (ts : List NamedTerm) → has_variable_named model x ≡ true
+      → list_any unknown (names ts) ≡ false → AllByRecursion (λ y. bytes_eq x y ≡ false) (names ts)
+      → finite.find address_cmp (address_named model x) (located ts) ≡ None
   none_found x [] there known others = refl
   none_found x (t ∷ ts) there known others =
       let parts = or_parts (unknown t.variable) (list_any unknown (names ts)) known in
-      ap (λ b. cond b (Some t.coefficient) (finite.find address_cmp (address_named model x) (located ts))) (apart model c x t.variable there (not-false (has_variable_named model t.variable) parts.0) others.0)
+      ap (λ b. cond b (Some t.coefficient) (finite.find address_cmp (address_named model x)
+      (located ts))) (apart model c x t.variable there
+      (not-false (has_variable_named model t.variable) parts.0) others.0)
       ∙ none_found x ts there parts.1 others.1
 
-  counted : (ts : List NamedTerm) → list_any unknown (names ts) ≡ false → HasDistinctNames ts → count_by is_nonzero (finite.entries (finite.from_entries {R = address_cmp} (located ts))) ≡ count_by (λ t. not (rational_eq t.coefficient zero_ℚ)) ts
+  counted : (ts : List NamedTerm) → list_any unknown (names ts) ≡ false → HasDistinctNames ts
+      → count_by is_nonzero (finite.entries (finite.from_entries {R = address_cmp} (located ts)))
+      ≡ count_by (λ t. not (rational_eq t.coefficient zero_ℚ)) ts
   counted [] known distinct = ap (count_by is_nonzero) (entries_empty {X = Rational} address_cmp)
   counted (t ∷ ts) known distinct =
       let parts = or_parts (unknown t.variable) (list_any unknown (names ts)) known in
       let others = IsDistinct-head bytes_eq t.variable (names ts) distinct in
       let rest = counted ts parts.1 (IsDistinct-tail bytes_eq t.variable (names ts) distinct) in
-      let none : finite.get (finite.from_entries {R = address_cmp} (located ts)) (address_named model t.variable) ≡ None = finite.get-from_entries address_total (located ts) (address_named model t.variable) ∙ none_found t.variable ts (not-false (has_variable_named model t.variable) parts.0) parts.1 others in
-      sum_inserted address_total (λ e. cond (is_nonzero e) 1 0) (finite.from_entries {R = address_cmp} (located ts)) (address_named model t.variable) t.coefficient none
-      ∙ (ap (λ n. cond (not (rational_eq t.coefficient zero_ℚ)) 1 0 + n) rest ∙ sym (sum_by-cons (λ t. cond (not (rational_eq t.coefficient zero_ℚ)) 1 0) t ts))
+      let none : finite.get (finite.from_entries {R = address_cmp} (located ts))
+      (address_named model t.variable) ≡ None = finite.get-from_entries address_total (located
+      ts) (address_named model t.variable) ∙ none_found t.variable ts (not-false
+      (has_variable_named model t.variable) parts.0) parts.1 others in
+      sum_inserted address_total (λ e. cond (is_nonzero e) 1 0)
+      (finite.from_entries {R = address_cmp} (located ts)) (address_named model t.variable)
+      t.coefficient none
+      ∙ (ap (λ n. cond (not (rational_eq t.coefficient zero_ℚ)) 1 0 + n) rest
+      ∙ sym (sum_by-cons (λ t. cond (not (rational_eq t.coefficient zero_ℚ)) 1 0) t ts))
 
   -- those of its terms that are not zero
-  pub named_terms-is : (f : NamedAff) → list_any unknown (names_of f) ≡ false → HasDistinctNames f.terms → count_by (λ t. not (rational_eq t.coefficient zero_ℚ)) f.terms ≡ term_count (affine model f)
+  pub named_terms-is : (f : NamedAff) → list_any unknown (names_of f) ≡ false
+      → HasDistinctNames f.terms → count_by (λ t. not (rational_eq t.coefficient zero_ℚ)) f.terms
+      ≡ term_count (affine model f)
   unfolding gathered
   named_terms-is f known distinct =
       let all = finite.from_entries {R = address_cmp} (located f.terms) in

@@ -32,8 +32,10 @@ not_byte_is b c n e is = e ∙ (as_cond b ∙ ap (λ x. cond x 0 1) is)
     as_cond false = refl
 
 -- one more item is counted, or isn't
-module _ {X : Type 0} (test : X → Bool) (xs : List X) (i : ℕ) (x : X) (lt : i < length xs) (is : x ≡ get_or xs i x) (n : ℕ) (so_far : n ≡ count_by test (take i xs)) where
+module _ {X : Type 0} (test : X → Bool) (xs : List X) (i : ℕ) (x : X) (lt : i < length xs)
+    (is : x ≡ get_or xs i x) (n : ℕ) (so_far : n ≡ count_by test (take i xs)) where
   pub counted_more : (b : Bool) → test x ≡ b → n + cond b 1 0 ≡ count_by test (take (i + 1) xs)
   counted_more b e =
       ap (λ b. n + cond b 1 0) (sym e ∙ ap test is)
-      ∙ (ap (λ k. k + cond (test (get_or xs i x)) 1 0) so_far ∙ sym (sum_by_more (λ x. cond (test x) 1 0) xs i x lt))
+      ∙ (ap (λ k. k + cond (test (get_or xs i x)) 1 0) so_far
+      ∙ sym (sum_by_more (λ x. cond (test x) 1 0) xs i x lt))

@@ -43,8 +43,12 @@ fetched_whole files sure asked name put bytes read same taken gives within is =
 pub failed_to_fetch : (files : Option FilesByName) (sure : Bool) (asked name : List ℕ)
     → asked ≡ name → (IsTrue sure → Gives files asked (Err fetch.Failed))
     → IsReadOf (told_by files sure) name (Err Failed)
-failed_to_fetch files sure asked name same missing =
-    (Err fetch.Failed, subst (λ (n : List ℕ). IsTrue sure → Gives files n (Err fetch.Failed)) same missing, refl)
+failed_to_fetch files sure asked name same missing = (
+  Err fetch.Failed,
+  subst (λ (n : List ℕ). IsTrue sure → Gives files n (Err fetch.Failed)) same
+      missing,
+  refl,
+)
 
 pub found_too_long : (files : Option FilesByName) (sure : Bool) (asked name : List ℕ)
     → asked ≡ name → Gives files asked (Err fetch.TooLong)

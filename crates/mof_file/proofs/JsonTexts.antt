@@ -28,7 +28,8 @@ json_of-none text refused =
 pub told_read : (text exact : List ℕ) (d : Data) → exact ≡ rewritten text → IsUtf8 exact
     → read exact ≡ Some d → or_fault (NotJson whole) (json_of text) ≡ Ok d
 told_read text exact d is utf8 e =
-    ap (or_fault (NotJson whole)) (json_of-read text d (subst IsUtf8 is utf8) (ap read (sym is) ∙ e))
+    ap (or_fault (NotJson whole)) (json_of-read text d (subst IsUtf8 is utf8)
+    (ap read (sym is) ∙ e))
 
 pub told_none : (text exact : List ℕ) → exact ≡ rewritten text → (IsUtf8 exact → read exact ≡ None)
     → or_fault (NotJson whole) (json_of text) ≡ Err (NotJson whole)

@@ -8,7 +8,8 @@ use Rattle.name_index.specs.Name.{HasBadLength}
 use Rattle.mof_read.specs.Names.{first_free, numbered}
 
 -- `#n` is short
-pub not_bad : (text digits : List ℕ) → text ≡ 35 ∷ digits → length digits ≤ 40 → HasBadLength text → ⊥
+pub not_bad : (text digits : List ℕ) → text ≡ 35 ∷ digits → length digits ≤ 40
+    → HasBadLength text → ⊥
 not_bad text digits is short bad =
     let long : length text ≡ suc (length digits) = ap length is in
     omega (arith, bad, long, short)
@@ -16,7 +17,8 @@ not_bad text digits is short bad =
 pub stays_small : (n number tried count len : ℕ) → n ≤ number + tried * count → tried < len
     → len < 2 ^ 64 → number < 2 ^ 64 → count < 2 ^ 64 → n + count < 2 ^ 128
 stays_small n number tried count len h within short low few =
-    let product : tried * count ≤ (2 ^ 64 - 2) * (2 ^ 64 - 1) = mul-le tried count (2 ^ 64 - 2) (2 ^ 64 - 1) (omega arith) (omega arith) in
+    let product : tried * count ≤ (2 ^ 64 - 2) * (2 ^ 64 - 1) = mul-le tried count (2 ^ 64 - 2)
+    (2 ^ 64 - 1) (omega arith) (omega arith) in
     omega (arith, product, h)
 
 pub goes_on : (n number tried count : ℕ) → n ≤ number + tried * count

@@ -9,7 +9,8 @@ use Rattle.ratio_core.specs.Rational.{Fits, Rational, reduce, signed}
 use Rattle.ratio_core.specs.RationalLaws.{cancel_times, reduce_cross, reduce_is, reduce_reduced, signed_times, swap_times, unsigned_abs-signed}
 
 -- equal cross products make one number
-pub same_over : (s : Bool) (a b c d : ℕ) → 0 < b → 0 < d → a * d ≡ c * b → reduce (signed s a) b ≡ reduce (signed s c) d
+pub same_over : (s : Bool) (a b c d : ℕ) → 0 < b → 0 < d → a * d ≡ c * b
+    → reduce (signed s a) b ≡ reduce (signed s c) d
 same_over s a b c d h k e =
     let r : Rational = reduce (signed s c) d in
     reduce_is r (signed s a) b h
@@ -17,14 +18,16 @@ same_over s a b c d h k e =
     (swap_times r.num b d
     ∙ ap (λ z. z *ℤ pos b) (reduce_cross (signed s c) d k)
     ∙ swap_times (signed s c) r.den b
-    ∙ ap (λ z. z *ℤ pos r.den) (signed_times s c b ∙ ap (signed s) (sym e) ∙ sym (signed_times s a d))
+    ∙ ap (λ z. z *ℤ pos r.den) (signed_times s c b ∙ ap (signed s) (sym e)
+    ∙ sym (signed_times s a d))
     ∙ swap_times (signed s a) d r.den))
 
 -- the size of the numerator, and the denominator
 abbrev pub size : Rational → ℕ
 size q = unsigned_abs q.num
 
-pub over_cross : (s : Bool) (n d : ℕ) → 0 < d → size (reduce (signed s n) d) * d ≡ n * (reduce (signed s n) d).den
+pub over_cross : (s : Bool) (n d : ℕ) → 0 < d → size (reduce (signed s n) d) * d
+    ≡ n * (reduce (signed s n) d).den
 over_cross s n d h =
     sym (unsigned_abs-mul (reduce (signed s n) d).num (pos d))
     ∙ ap unsigned_abs (reduce_cross (signed s n) d h)
@@ -32,15 +35,19 @@ over_cross s n d h =
     ∙ ap (λ m. m * (reduce (signed s n) d).den) (unsigned_abs-signed s n)
 
 -- parts in lowest terms stay
-pub lowest_is : (s : Bool) (p q : ℕ) → 0 < q → gcd p q ≡ 1 → (size (reduce (signed s p) q) ≡ p) × ((reduce (signed s p) q).den ≡ q)
+pub lowest_is : (s : Bool) (p q : ℕ) → 0 < q → gcd p q ≡ 1 → (size (reduce (signed s p) q) ≡ p)
+    × ((reduce (signed s p) q).den ≡ q)
 lowest_is s p q h e =
     let parts : ((reduce (signed s p) q).num, (reduce (signed s p) q).den) ≡ (signed s p, q) =
-    reduce_reduced (signed s p) q (h, ap (λ m. gcd m q) (unsigned_abs-signed s p) ∙ e) in
-    (ap (λ (t : ℤ × ℕ). unsigned_abs t.0) parts ∙ unsigned_abs-signed s p, ap (λ (t : ℤ × ℕ). t.1) parts)
+    reduce_reduced (signed s p) q (h, ap (λ m. gcd m q) (unsigned_abs-signed s p) ∙ e) in (
+      ap (λ (t : ℤ × ℕ). unsigned_abs t.0) parts ∙ unsigned_abs-signed s p,
+      ap (λ (t : ℤ × ℕ). t.1) parts,
+    )
 
 -- multiples of the second number don't change a greatest common divisor
 pub gcd-shift : (n p q : ℕ) → gcd (n * q + p) q ≡ gcd p q
-gcd-shift n p q = sym (gcd-rem_first (n * q + p) q) ∙ ap (λ r. gcd r q) (mod_lem n p q) ∙ gcd-rem_first p q
+gcd-shift n p q =
+    sym (gcd-rem_first (n * q + p) q) ∙ ap (λ r. gcd r q) (mod_lem n p q) ∙ gcd-rem_first p q
   where
     mod_lem : (n p q : ℕ) → (n * q + p) % q ≡ p % q
     mod_lem n p q = ap (λ t. t % q) (swap_lem n p q) ∙ add-mul-mod_self_left p q n
@@ -49,21 +56,26 @@ gcd-shift n p q = sym (gcd-rem_first (n * q + p) q) ∙ ap (λ r. gcd r q) (mod_
         swap_lem n p q = omega arith
 
 -- the denominator of a part of a number divides that of the number
-pub den_stays : (s : Bool) (f m n c : ℕ) → 0 < m → 0 < c → (reduce (pos f) m).den ≤ (reduce (signed s (n * m + f)) (m * c)).den
+pub den_stays : (s : Bool) (f m n c : ℕ) → 0 < m → 0 < c
+    → (reduce (pos f) m).den ≤ (reduce (signed s (n * m + f)) (m * c)).den
 den_stays s f m n c hm hc =
     let q : Rational = reduce (pos f) m in
     let r : Rational = reduce (signed s (n * m + f)) (m * c) in
     let room : 0 < m * c = product_pos m c hm hc in
     let whole : size r * c * q.den ≡ (n * q.den + size q) * r.den =
-    cancel_lem (size r) m c n f q.den (size q) r.den hm (over_cross false f m hm) (over_cross s (n * m + f) (m * c) room) in
+    cancel_lem (size r) m c n f q.den (size q) r.den hm (over_cross false f m hm)
+    (over_cross s (n * m + f) (m * c) room) in
     let coprime : gcd (n * q.den + size q) q.den ≡ 1 = gcd-shift n (size q) q.den ∙ q.reduced.1 in
-    let divides : q.den ∣ r.den * (n * q.den + size q) = subst (λ t. q.den ∣ t) (whole ∙ swap_lem (n * q.den + size q) r.den) (dvd-mul_left q.den (size r * c)) in
+    let divides : q.den ∣ r.den * (n * q.den + size q) =
+    subst (λ t. q.den ∣ t) (whole ∙ swap_lem (n * q.den + size q) r.den)
+    (dvd-mul_left q.den (size r * c)) in
     le_of_dvd r.reduced.0 (dvd_from_coprime (n * q.den + size q) q.den r.den coprime divides)
   where
     swap_lem : (a b : ℕ) → a * b ≡ b * a
     swap_lem a b = omega arith
 
-    cancel_lem : (u m c n f q p d : ℕ) → 0 < m → p * m ≡ f * q → u * (m * c) ≡ (n * m + f) * d → u * c * q ≡ (n * q + p) * d
+    cancel_lem : (u m c n f q p d : ℕ) → 0 < m → p * m ≡ f * q → u * (m * c) ≡ (n * m + f) * d
+        → u * c * q ≡ (n * q + p) * d
     cancel_lem u m c n f q p d h e k =
         eq_of_mul-eq-mul_right m h (u * c * q) ((n * q + p) * d)
         (omega (arith, ap (λ t. t * q) k, ap (λ t. t * d) e))

@@ -15,20 +15,28 @@ use Rattle.mof_text.proofs.Fractions.{same_over}
 
 -- a point moved right, and left
 module _ (s : Bool) (p : Parts) where
-  pub number_up : p.exponent_negative ≡ false → number_of s p ≡ times_ten s p.whole p.fraction (digits_value 10 p.exponent)
+  pub number_up : p.exponent_negative ≡ false
+      → number_of s p ≡ times_ten s p.whole p.fraction (digits_value 10 p.exponent)
   unfolding number_of
   number_up e =
-      ap (λ b. reduce (signed s (digits_value 10 (p.whole ++ p.fraction) * 10 ^ cond b 0 (digits_value 10 p.exponent))) (10 ^ (length p.fraction + cond b (digits_value 10 p.exponent) 0))) e
-      ∙ ap (λ n. reduce (signed s (digits_value 10 (p.whole ++ p.fraction) * 10 ^ digits_value 10 p.exponent)) (10 ^ n)) (zero_lem (length p.fraction))
+      ap (λ b. reduce (signed s (digits_value 10 (p.whole ++ p.fraction) * 10 ^ cond b 0
+      (digits_value 10 p.exponent)))
+      (10 ^ (length p.fraction + cond b (digits_value 10 p.exponent) 0))) e
+      ∙ ap (λ n. reduce (signed s (digits_value 10 (p.whole ++ p.fraction) * 10 ^ digits_value 10
+      p.exponent)) (10 ^ n)) (zero_lem (length p.fraction))
     where
       zero_lem : (n : ℕ) → n + 0 ≡ n
       zero_lem n = omega arith
 
-  pub number_down : p.exponent_negative ≡ true → number_of s p ≡ over_ten s p.whole p.fraction (digits_value 10 p.exponent)
+  pub number_down : p.exponent_negative ≡ true
+      → number_of s p ≡ over_ten s p.whole p.fraction (digits_value 10 p.exponent)
   unfolding number_of
   number_down e =
-      ap (λ b. reduce (signed s (digits_value 10 (p.whole ++ p.fraction) * 10 ^ cond b 0 (digits_value 10 p.exponent))) (10 ^ (length p.fraction + cond b (digits_value 10 p.exponent) 0))) e
-      ∙ ap (λ n. reduce (signed s n) (10 ^ (length p.fraction + digits_value 10 p.exponent))) (one_lem (digits_value 10 (p.whole ++ p.fraction)))
+      ap (λ b. reduce (signed s (digits_value 10 (p.whole ++ p.fraction) * 10 ^ cond b 0
+      (digits_value 10 p.exponent)))
+      (10 ^ (length p.fraction + cond b (digits_value 10 p.exponent) 0))) e
+      ∙ ap (λ n. reduce (signed s n) (10 ^ (length p.fraction + digits_value 10 p.exponent)))
+      (one_lem (digits_value 10 (p.whole ++ p.fraction)))
     where
       one_lem : (n : ℕ) → n * 10 ^ 0 ≡ n
       one_lem n = omega arith
@@ -41,31 +49,42 @@ signed_zero false = refl
 
 zero_over : (s : Bool) (d : ℕ) → 0 < d → reduce (signed s 0) d ≡ zero_ℚ
 unfolding zero_ℚ whole_ℚ
-zero_over s d h = same_over s 0 d 0 1 h (omega arith) (omega arith) ∙ ap (λ z. reduce z 1) (signed_zero s) ∙ reduce_itself (whole_ℚ (pos 0))
+zero_over s d h =
+    same_over s 0 d 0 1 h (omega arith) (omega arith) ∙ ap (λ z. reduce z 1) (signed_zero s)
+    ∙ reduce_itself (whole_ℚ (pos 0))
 
-pub number_zero : (s : Bool) (p : Parts) → are_zeros p.whole ≡ true → are_zeros p.fraction ≡ true → number_of s p ≡ zero_ℚ
+pub number_zero : (s : Bool) (p : Parts) → are_zeros p.whole ≡ true → are_zeros p.fraction ≡ true
+    → number_of s p ≡ zero_ℚ
 unfolding number_of
 number_zero s p e f =
-    ap (λ n. reduce (signed s n) (10 ^ (length p.fraction + cond p.exponent_negative (digits_value 10 p.exponent) 0)))
-    (nothing_lem (digits_value 10 p.whole) (10 ^ length p.fraction) (digits_value 10 p.fraction) (10 ^ cond p.exponent_negative 0 (digits_value 10 p.exponent))
+    ap (λ n. reduce (signed s n) (10 ^ (length p.fraction + cond p.exponent_negative
+    (digits_value 10 p.exponent) 0)))
+    (nothing_lem (digits_value 10 p.whole) (10 ^ length p.fraction) (digits_value 10 p.fraction)
+    (10 ^ cond p.exponent_negative 0 (digits_value 10 p.exponent))
     (value-append p.whole p.fraction) (zeros_value p.whole e) (zeros_value p.fraction f))
     ∙ zero_over s _ (power_pos _)
   where
-    nothing_lem : (a t b k : ℕ) → digits_value 10 (p.whole ++ p.fraction) ≡ a * t + b → a ≡ 0 → b ≡ 0 → digits_value 10 (p.whole ++ p.fraction) * k ≡ 0
+    nothing_lem : (a t b k : ℕ) → digits_value 10 (p.whole ++ p.fraction) ≡ a * t + b → a ≡ 0
+        → b ≡ 0 → digits_value 10 (p.whole ++ p.fraction) * k ≡ 0
     nothing_lem a t b k v ea eb =
-        let nothing : digits_value 10 (p.whole ++ p.fraction) ≡ 0 = omega (arith, v, eb, ap (λ n. n * t) ea) in
+        let nothing : digits_value 10 (p.whole ++ p.fraction) ≡ 0 =
+        omega (arith, v, eb, ap (λ n. n * t) ea) in
         ap (λ n. n * k) nothing ∙ zero-mul k
 
 -- some digit is no zero
-first_some : (b : Bool) (xs ys : List ℕ) → AllDigits 10 xs → AllDigits 10 ys → are_zeros xs ≡ b → (b && are_zeros ys) ≡ false → 0 < digits_value 10 (xs ++ ys)
+first_some : (b : Bool) (xs ys : List ℕ) → AllDigits 10 xs → AllDigits 10 ys → are_zeros xs ≡ b
+    → (b && are_zeros ys) ≡ false → 0 < digits_value 10 (xs ++ ys)
 first_some true xs ys h k is rest = omega (arith, value-append xs ys, some_value ys k rest)
 first_some false xs ys h k is rest =
-    left_lem (digits_value 10 xs) (10 ^ length ys) (digits_value 10 ys) _ (product_pos (digits_value 10 xs) (10 ^ length ys) (some_value xs h is) (power_pos (length ys))) (value-append xs ys)
+    left_lem (digits_value 10 xs) (10 ^ length ys) (digits_value 10 ys) _
+    (product_pos (digits_value 10 xs) (10 ^ length ys) (some_value xs h is)
+    (power_pos (length ys))) (value-append xs ys)
   where
     left_lem : (a t b x : ℕ) → 0 < a * t → x ≡ a * t + b → 0 < x
     left_lem a t b x h v = omega (arith, h, v)
 
-pub some_digits : (xs ys : List ℕ) → AllDigits 10 xs → AllDigits 10 ys → (are_zeros xs && are_zeros ys) ≡ false → 0 < digits_value 10 (xs ++ ys)
+pub some_digits : (xs ys : List ℕ) → AllDigits 10 xs → AllDigits 10 ys
+    → (are_zeros xs && are_zeros ys) ≡ false → 0 < digits_value 10 (xs ++ ys)
 some_digits xs ys h k e = first_some (are_zeros xs) xs ys h k refl e
 
 -- ---- what fits
@@ -74,7 +93,8 @@ pub fitting_is : (o : Option Rational) (q : Rational) → SomeIff o (Fits q) q �
 unfolding fitting
 fitting_is o q some = by_test (fits q) o q (fits_Decides q) some
   where
-    by_test : (b : Bool) (o : Option Rational) (q : Rational) → Decides b (Fits q) → SomeIff o (Fits q) q → o ≡ cond b (Some q) None
+    by_test : (b : Bool) (o : Option Rational) (q : Rational) → Decides b (Fits q)
+        → SomeIff o (Fits q) q → o ≡ cond b (Some q) None
     by_test true (Some p) q h some = ap Some some.1
     by_test true None q h some = absurd (some (h.0 refl))
     by_test false (Some p) q h some = let no : false ≡ true = h.1 some.0 in cc
@@ -82,28 +102,37 @@ fitting_is o q some = by_test (fits q) o q (fits_Decides q) some
 
 -- ---- a number by the parts of its numeral
 
-pub number_by : (s : Bool) (p : Parts) (xs ys : List ℕ) (up down : ℕ) → xs ≡ p.whole → ys ≡ p.fraction → up ≡ tens_up p → down ≡ tens_down p
+pub number_by : (s : Bool) (p : Parts) (xs ys : List ℕ) (up down : ℕ) → xs ≡ p.whole
+    → ys ≡ p.fraction → up ≡ tens_up p → down ≡ tens_down p
     → reduce (signed s (digits_value 10 (xs ++ ys) * 10 ^ up)) (10 ^ down) ≡ number_of s p
 unfolding number_of
 number_by s p xs ys up down e f g h =
     ap₂ (λ a b. reduce (signed s a) b)
-    (ap₂ (λ a b. a * b) (ap₂ (λ a b. digits_value 10 (a ++ b)) e f) (ap (λ n. 10 ^ n) g)) (ap (λ n. 10 ^ n) h)
+    (ap₂ (λ a b. a * b) (ap₂ (λ a b. digits_value 10 (a ++ b)) e f) (ap (λ n. 10 ^ n) g))
+    (ap (λ n. 10 ^ n) h)
 
-pub up_plain : (p : Parts) → p.exponent_negative ≡ false → (tens_up p ≡ digits_value 10 p.exponent) × (tens_down p ≡ length p.fraction)
+pub up_plain : (p : Parts) → p.exponent_negative ≡ false → (tens_up p ≡ digits_value 10 p.exponent)
+    × (tens_down p ≡ length p.fraction)
 up_plain p e = (
   ap (λ b. cond b 0 (digits_value 10 p.exponent)) e,
-  ap (λ b. length p.fraction + cond b (digits_value 10 p.exponent) 0) e ∙ plus_zero (length p.fraction),
+  ap (λ b. length p.fraction + cond b (digits_value 10 p.exponent) 0) e
+      ∙ plus_zero (length p.fraction),
 )
   where
     plus_zero : (n : ℕ) → n + 0 ≡ n
     plus_zero n = omega arith
 
-pub up_negative : (p : Parts) → p.exponent_negative ≡ true → (tens_up p ≡ 0) × (tens_down p ≡ length p.fraction + digits_value 10 p.exponent)
-up_negative p e = (ap (λ b. cond b 0 (digits_value 10 p.exponent)) e, ap (λ b. length p.fraction + cond b (digits_value 10 p.exponent) 0) e)
+pub up_negative : (p : Parts) → p.exponent_negative ≡ true
+    → (tens_up p ≡ 0) × (tens_down p ≡ length p.fraction + digits_value 10 p.exponent)
+up_negative p e = (
+  ap (λ b. cond b 0 (digits_value 10 p.exponent)) e,
+  ap (λ b. length p.fraction + cond b (digits_value 10 p.exponent) 0) e,
+)
 
 -- ---- a run and its parts
 
-module _ (run rest front : List ℕ) (p : Parts) (len : ℕ) (front_is : front ≡ magnitude_of run) (parts_is : p ≡ scan front) (len_is : len ≡ length front) where
+module _ (run rest front : List ℕ) (p : Parts) (len : ℕ) (front_is : front ≡ magnitude_of run)
+    (parts_is : p ≡ scan front) (len_is : len ≡ length front) where
   abbrev tested : Bool
   tested = is_json_number p len && is_long run p && not (is_colon_next rest)
 
@@ -116,43 +145,54 @@ module _ (run rest front : List ℕ) (p : Parts) (len : ℕ) (front_is : front �
   unfolding replaced
   run_left e = ap (λ b. cond b (replacement_of run) run) (sym test_is ∙ e)
 
-  pub run_replaced : (s : Bool) (o : Option Rational) → s ≡ starts_with_minus run → tested ≡ true → SomeIff o (Fits (number_of s p)) (number_of s p) → quoted (printed o) ≡ replaced run rest
+  pub run_replaced : (s : Bool) (o : Option Rational) → s ≡ starts_with_minus run → tested ≡ true
+      → SomeIff o (Fits (number_of s p)) (number_of s p) → quoted (printed o) ≡ replaced run rest
   unfolding replaced
   run_replaced s o sign e some =
-      ap (λ t. quoted (printed t)) (fitting_is o (number_of s p) some ∙ ap₂ (λ b (q : Parts). fitting (number_of b q)) sign (parts_is ∙ ap scan front_is))
+      ap (λ t. quoted (printed t)) (fitting_is o (number_of s p) some
+      ∙ ap₂ (λ b (q : Parts). fitting (number_of b q)) sign (parts_is ∙ ap scan front_is))
       ∙ sym (ap (λ b. cond b (replacement_of run) run) (sym test_is ∙ e))
 
 -- ---- the parts as they are read
 
-module _ (s : Bool) (p : Parts) (xs ys es : List ℕ) (whole_is : xs ≡ p.whole) (fraction_is : ys ≡ p.fraction) (exponent_is : es ≡ p.exponent) where
+module _ (s : Bool) (p : Parts) (xs ys es : List ℕ) (whole_is : xs ≡ p.whole)
+    (fraction_is : ys ≡ p.fraction) (exponent_is : es ≡ p.exponent) where
   pub down_by : p.exponent_negative ≡ true → over_ten s xs ys (digits_value 10 es) ≡ number_of s p
   down_by e =
       ap₂ (λ a b. over_ten s a b (digits_value 10 es)) whole_is fraction_is
-      ∙ ap (λ t. over_ten s p.whole p.fraction (digits_value 10 t)) exponent_is ∙ sym (number_down s p e)
+      ∙ ap (λ t. over_ten s p.whole p.fraction (digits_value 10 t)) exponent_is
+      ∙ sym (number_down s p e)
 
   pub up_by : p.exponent_negative ≡ false → times_ten s xs ys (digits_value 10 es) ≡ number_of s p
   up_by e =
       ap₂ (λ a b. times_ten s a b (digits_value 10 es)) whole_is fraction_is
-      ∙ ap (λ t. times_ten s p.whole p.fraction (digits_value 10 t)) exponent_is ∙ sym (number_up s p e)
+      ∙ ap (λ t. times_ten s p.whole p.fraction (digits_value 10 t)) exponent_is
+      ∙ sym (number_up s p e)
 
 zero_fits : Fits zero_ℚ
 unfolding zero_ℚ whole_ℚ
 zero_fits = record { num = omega arith; den = omega arith }
 
-pub zero_some : (s : Bool) (p : Parts) (xs ys : List ℕ) (q : Rational) → xs ≡ p.whole → ys ≡ p.fraction → (are_zeros xs && are_zeros ys) ≡ true → q ≡ zero_ℚ
+pub zero_some : (s : Bool) (p : Parts) (xs ys : List ℕ) (q : Rational) → xs ≡ p.whole
+    → ys ≡ p.fraction → (are_zeros xs && are_zeros ys) ≡ true → q ≡ zero_ℚ
     → Fits (number_of s p) × (q ≡ number_of s p)
 zero_some s p xs ys q e f zeros is =
-    let parts : (are_zeros xs ≡ true) × (are_zeros ys ≡ true) = and_parts (are_zeros xs) (are_zeros ys) zeros in
-    let number : number_of s p ≡ zero_ℚ = number_zero s p (sym (ap are_zeros e) ∙ parts.0) (sym (ap are_zeros f) ∙ parts.1) in
+    let parts : (are_zeros xs ≡ true) × (are_zeros ys ≡ true) =
+    and_parts (are_zeros xs) (are_zeros ys) zeros in
+    let number : number_of s p ≡ zero_ℚ = number_zero s p (sym (ap are_zeros e) ∙ parts.0)
+    (sym (ap are_zeros f) ∙ parts.1) in
     (subst (λ (t : Rational). Fits t) (sym number) zero_fits, is ∙ sym number)
 
 -- ---- the fraction that is made
 
-pub quotient_is : {E : Type 0} (s : Bool) (n d : ℕ) (z w : ℤ) (r : Result Rational E) (o : Option Rational) → z ≡ signed s n → w ≡ pos d → 0 < d → o ≡ result_ok r
-    → OkIff r ((w ≡ pos 0 → ⊥) × Fits (fraction z w)) (fraction z w) → SomeIff o (Fits (reduce (signed s n) d)) (reduce (signed s n) d)
+pub quotient_is : {E : Type 0} (s : Bool) (n d : ℕ) (z w : ℤ) (r : Result Rational E)
+    (o : Option Rational) → z ≡ signed s n → w ≡ pos d → 0 < d → o ≡ result_ok r
+    → OkIff r ((w ≡ pos 0 → ⊥) × Fits (fraction z w)) (fraction z w)
+    → SomeIff o (Fits (reduce (signed s n) d)) (reduce (signed s n) d)
 unfolding fraction
 quotient_is {E = E} s n d z w r o ez ew above eo exact =
-    subst (λ (t : Option Rational). SomeIff t (Fits (reduce (signed s n) d)) (reduce (signed s n) d)) (sym eo) (by_result r exact)
+    subst (λ (t : Option Rational). SomeIff t (Fits (reduce (signed s n) d))
+    (reduce (signed s n) d)) (sym eo) (by_result r exact)
   where
     same : fraction z w ≡ reduce (signed s n) d
     same = ap₂ fraction ez ew
@@ -160,6 +200,8 @@ quotient_is {E = E} s n d z w r o ez ew above eo exact =
     some : w ≡ pos 0 → ⊥
     some e = omega (arith, above, ap unsigned_abs (sym ew ∙ e))
 
-    by_result : (r : Result Rational E) → OkIff r ((w ≡ pos 0 → ⊥) × Fits (fraction z w)) (fraction z w) → SomeIff (result_ok r) (Fits (reduce (signed s n) d)) (reduce (signed s n) d)
+    by_result : (r : Result Rational E) → OkIff r ((w ≡ pos 0 → ⊥) × Fits (fraction z w))
+        (fraction z w) → SomeIff (result_ok r) (Fits (reduce (signed s n) d))
+        (reduce (signed s n) d)
     by_result (Ok x) h = (subst (λ (t : Rational). Fits t) same h.0.1, h.1 ∙ same)
     by_result (Err e) h = λ f. h (some, subst (λ (t : Rational). Fits t) (sym same) f)

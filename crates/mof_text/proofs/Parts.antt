@@ -29,51 +29,80 @@ module _ (zeros : ℕ) (first last : List ℕ) where
   scale = 10 ^ (zeros + length first + length last)
 
   scale_lem : scale ≡ 10 ^ zeros * 10 ^ length first * 10 ^ length last
-  scale_lem = pow-add 10 (zeros + length first) (length last) ∙ ap (λ t. t * 10 ^ length last) (pow-add 10 zeros (length first))
+  scale_lem =
+      pow-add 10 (zeros + length first) (length last) ∙ ap (λ t. t * 10 ^ length last)
+      (pow-add 10 zeros (length first))
 
   pub last_fine : (num den : ℕ) → num ≡ 0 → den ≡ 1
-      → 2 ^ 127 ≤ (reduce (pos (digits_value 10 last * den + num)) (10 ^ length last * den)).den → 2 ^ 127 ≤ (reduce (pos all) scale).den
+      → 2 ^ 127 ≤ (reduce (pos (digits_value 10 last * den + num)) (10 ^ length last * den)).den
+      → 2 ^ 127 ≤ (reduce (pos all) scale).den
   last_fine num den e k =
-      fine_on num den 0 1 (digits_value 10 last) (10 ^ length last) (digits_value 10 first) (10 ^ zeros * 10 ^ length first) all scale
-      (omega (arith, k)) (omega arith) (power_pos (length last)) (product_pos (10 ^ zeros) (10 ^ length first) (power_pos zeros) (power_pos (length first)))
+      fine_on num den 0 1 (digits_value 10 last) (10 ^ length last) (digits_value 10 first)
+      (10 ^ zeros * 10 ^ length first) all scale
+      (omega (arith, k)) (omega arith) (power_pos (length last))
+      (product_pos (10 ^ zeros) (10 ^ length first) (power_pos zeros)
+      (power_pos (length first)))
       (omega (arith, e))
       (omega (arith, value-append first last))
       (omega (arith, scale_lem))
 
   -- the fraction of the last digits
-  pub last_over : (num den n d : ℕ) → num ≡ 0 → den ≡ 1 → n * (10 ^ length last * den) ≡ (digits_value 10 last * den + num) * d → n * 10 ^ length last ≡ digits_value 10 last * d
-  last_over num den n d e k over = over_lem (10 ^ length last) (digits_value 10 last) num den n d e k over
+  pub last_over : (num den n d : ℕ) → num ≡ 0 → den ≡ 1
+      → n * (10 ^ length last * den) ≡ (digits_value 10 last * den + num) * d
+      → n * 10 ^ length last ≡ digits_value 10 last * d
+  last_over num den n d e k over =
+      over_lem (10 ^ length last) (digits_value 10 last) num den n d e k over
     where
-      over_lem : (p v num den n d : ℕ) → num ≡ 0 → den ≡ 1 → n * (p * den) ≡ (v * den + num) * d → n * p ≡ v * d
-      over_lem p v num den n d e k over = omega (arith, subst (λ x. n * (p * den) ≡ (v * den + x) * d) e over, ap (λ x. n * (p * x)) k, ap (λ x. (v * x + 0) * d) k)
+      over_lem : (p v num den n d : ℕ) → num ≡ 0 → den ≡ 1 → n * (p * den) ≡ (v * den + num) * d
+          → n * p ≡ v * d
+      over_lem p v num den n d e k over =
+          omega (
+            arith,
+            subst (λ x. n * (p * den) ≡ (v * den + x) * d) e over,
+            ap (λ x. n * (p * x)) k,
+            ap (λ x. (v * x + 0) * d) k,
+          )
 
   module _ (n d : ℕ) (above : 0 < d) (over : n * 10 ^ length last ≡ digits_value 10 last * d) where
-    pub first_fine : 2 ^ 127 ≤ (reduce (pos (digits_value 10 first * d + n)) (10 ^ length first * d)).den → 2 ^ 127 ≤ (reduce (pos all) scale).den
+    pub first_fine : 2 ^ 127 ≤ (reduce (pos (digits_value 10 first * d + n))
+        (10 ^ length first * d)).den → 2 ^ 127 ≤ (reduce (pos all) scale).den
     first_fine =
-        fine_on n d (digits_value 10 last) (10 ^ length last) (digits_value 10 first) (10 ^ length first) 0 (10 ^ zeros) all scale
+        fine_on n d (digits_value 10 last) (10 ^ length last) (digits_value 10 first)
+        (10 ^ length first) 0 (10 ^ zeros) all scale
         above (power_pos (length last)) (power_pos (length first)) (power_pos zeros) over
         (omega (arith, value-append first last))
         (omega (arith, scale_lem))
 
-    pub first_over : (n' d' : ℕ) → n' * (10 ^ length first * d) ≡ (digits_value 10 first * d + n) * d' → n' * (10 ^ length first * 10 ^ length last) ≡ all * d'
+    pub first_over : (n' d' : ℕ) → n' * (10 ^ length first * d)
+        ≡ (digits_value 10 first * d + n) * d'
+        → n' * (10 ^ length first * 10 ^ length last) ≡ all * d'
     first_over n' d' e =
-        over_next n d (digits_value 10 last) (10 ^ length last) (digits_value 10 first) (10 ^ length first) n' d' above over e
+        over_next n d (digits_value 10 last) (10 ^ length last) (digits_value 10 first)
+        (10 ^ length first) n' d' above over e
         ∙ ap (λ t. t * d') (sym (value-append first last))
 
-  pub whole_tells : (n d : ℕ) (ds : List ℕ) (o : Option Tenths) → 0 < d → n * (10 ^ length first * 10 ^ length last) ≡ all * d → ds ≡ replicate zeros 48
-      → TellsFraction (digits_value 10 ds * d + n) (10 ^ length ds * d) o → TellsFraction all scale o
+  pub whole_tells : (n d : ℕ) (ds : List ℕ) (o : Option Tenths) → 0 < d
+      → n * (10 ^ length first * 10 ^ length last) ≡ all * d → ds ≡ replicate zeros 48
+      → TellsFraction (digits_value 10 ds * d + n) (10 ^ length ds * d) o
+      → TellsFraction all scale o
   whole_tells n d ds None above over e tells =
       fine_on n d all (10 ^ length first * 10 ^ length last) 0 (10 ^ zeros) 0 1 all scale
-      above (product_pos (10 ^ length first) (10 ^ length last) (power_pos (length first)) (power_pos (length last))) (power_pos zeros) (omega arith) over
+      above (product_pos (10 ^ length first) (10 ^ length last) (power_pos (length first))
+      (power_pos (length last))) (power_pos zeros) (omega arith) over
       (omega arith)
       (omega (arith, scale_lem))
-      (subst (λ v. 2 ^ 127 ≤ (reduce (pos (v * d + n)) (10 ^ zeros * d)).den) (zeros_are zeros ds e).0
-      (subst (λ k. 2 ^ 127 ≤ (reduce (pos (digits_value 10 ds * d + n)) (10 ^ k * d)).den) (zeros_are zeros ds e).1 tells))
+      (subst (λ v. 2 ^ 127 ≤ (reduce (pos (v * d + n)) (10 ^ zeros * d)).den)
+      (zeros_are zeros ds e).0
+      (subst (λ k. 2 ^ 127 ≤ (reduce (pos (digits_value 10 ds * d + n)) (10 ^ k * d)).den)
+      (zeros_are zeros ds e).1 tells))
   whole_tells n d ds (Some t) above over e tells =
-      ap (λ x. t.num * x) (scale_lem ∙ regroup_lem (10 ^ zeros) (10 ^ length first) (10 ^ length last))
-      ∙ over_next n d all (10 ^ length first * 10 ^ length last) 0 (10 ^ zeros) t.num t.den above over
+      ap (λ x. t.num * x) (scale_lem ∙ regroup_lem (10 ^ zeros) (10 ^ length first)
+      (10 ^ length last))
+      ∙ over_next n d all (10 ^ length first * 10 ^ length last) 0 (10 ^ zeros) t.num
+      t.den above over
       (subst (λ v. t.num * (10 ^ zeros * d) ≡ (v * d + n) * t.den) (zeros_are zeros ds e).0
-      (subst (λ k. t.num * (10 ^ k * d) ≡ (digits_value 10 ds * d + n) * t.den) (zeros_are zeros ds e).1 tells))
+      (subst (λ k. t.num * (10 ^ k * d) ≡ (digits_value 10 ds * d + n) * t.den)
+      (zeros_are zeros ds e).1 tells))
       ∙ ap (λ x. x * t.den) (nothing_lem all (10 ^ length first * 10 ^ length last))
     where
       regroup_lem : (a b c : ℕ) → a * b * c ≡ a * (b * c)
@@ -88,23 +117,41 @@ module _ (zeros : ℕ) (first last : List ℕ) where
   scaled_lem : (n : ℕ) → n ≤ n * 10 ^ zeros
   scaled_lem n = omega (arith, mul-le-mul_left n (power_pos zeros))
 
-  pub first_large : ¬ (digits_value_after 10 0 first < 2 ^ 127) → ¬ (digits_value 10 (first ++ last) * 10 ^ zeros < 2 ^ 127)
+  pub first_large : ¬ (digits_value_after 10 0 first < 2 ^ 127)
+      → ¬ (digits_value 10 (first ++ last) * 10 ^ zeros < 2 ^ 127)
   first_large h small =
-      h (omega (arith, small, scaled_lem (digits_value 10 (first ++ last)), after-append 0 first last, grows (digits_value 10 first) last))
+      h (omega (
+        arith,
+        small,
+        scaled_lem (digits_value 10 (first ++ last)),
+        after-append 0 first last,
+        grows (digits_value 10 first) last,
+      ))
 
-  pub last_large : (n : ℕ) → n ≡ digits_value_after 10 0 first → ¬ (digits_value_after 10 n last < 2 ^ 127) → ¬ (digits_value 10 (first ++ last) * 10 ^ zeros < 2 ^ 127)
+  pub last_large : (n : ℕ) → n ≡ digits_value_after 10 0 first
+      → ¬ (digits_value_after 10 n last < 2 ^ 127)
+      → ¬ (digits_value 10 (first ++ last) * 10 ^ zeros < 2 ^ 127)
   last_large n e h small =
-      h (omega (arith, small, scaled_lem (digits_value 10 (first ++ last)), after-append 0 first last, ap (λ t. digits_value_after 10 t last) e))
+      h (omega (
+        arith,
+        small,
+        scaled_lem (digits_value 10 (first ++ last)),
+        after-append 0 first last,
+        ap (λ t. digits_value_after 10 t last) e,
+      ))
 
-  pub scaled_is : (n k : ℕ) (ds : List ℕ) (o : Option ℕ) → n ≡ digits_value_after 10 0 first → k ≡ digits_value_after 10 n last → ds ≡ replicate zeros 48
+  pub scaled_is : (n k : ℕ) (ds : List ℕ) (o : Option ℕ) → n ≡ digits_value_after 10 0 first
+      → k ≡ digits_value_after 10 n last → ds ≡ replicate zeros 48
       → SomeIff o (digits_value_after 10 k ds < 2 ^ 127) (digits_value_after 10 k ds)
-      → SomeIff o (digits_value 10 (first ++ last) * 10 ^ zeros < 2 ^ 127) (digits_value 10 (first ++ last) * 10 ^ zeros)
+      → SomeIff o (digits_value 10 (first ++ last) * 10 ^ zeros < 2 ^ 127)
+      (digits_value 10 (first ++ last) * 10 ^ zeros)
   scaled_is n k ds o en ek ed some =
       subst (λ v. SomeIff o (v < 2 ^ 127) v)
       (ap (digits_value_after 10 k) ed ∙ after_is k (replicate zeros 48)
       ∙ ap₂ (λ a b. k * 10 ^ a + b) (length-replicate zeros 48) (value_zeros zeros)
       ∙ zero_lem (k * 10 ^ zeros)
-      ∙ ap (λ t. t * 10 ^ zeros) (ek ∙ ap (λ t. digits_value_after 10 t last) en ∙ sym (after-append 0 first last)))
+      ∙ ap (λ t. t * 10 ^ zeros) (ek ∙ ap (λ t. digits_value_after 10 t last) en
+      ∙ sym (after-append 0 first last)))
       some
     where
       zero_lem : (n : ℕ) → n + 0 ≡ n
@@ -112,7 +159,8 @@ module _ (zeros : ℕ) (first last : List ℕ) where
 
 -- ---- together
 
-pub joined_unfit : (s : Bool) (a num den : ℕ) → 0 < den → gcd num den ≡ 1 → 2 ^ 127 ≤ a * den + num → ¬ (Fits (reduce (signed s (a * den + num)) den))
+pub joined_unfit : (s : Bool) (a num den : ℕ) → 0 < den → gcd num den ≡ 1 → 2 ^ 127 ≤ a * den + num
+    → ¬ (Fits (reduce (signed s (a * den + num)) den))
 joined_unfit s a num den h e past =
     unfit_num (reduce (signed s (a * den + num)) den)
     (omega (arith, past, (lowest_is s (a * den + num) den h (gcd-shift a num den ∙ e)).0))
@@ -125,10 +173,12 @@ unfit_none o q e unfit = subst (λ (t : Option Rational). SomeIff t (Fits q) q) 
 pub large_none : (o : Option ℕ) (n : ℕ) → o ≡ None → ¬ (n < 2 ^ 127) → SomeIff o (n < 2 ^ 127) n
 large_none o n e large = subst (λ (t : Option ℕ). SomeIff t (n < 2 ^ 127) n) (sym e) large
 
-pub fine_none : (o : Option Tenths) (n d : ℕ) → o ≡ None → 2 ^ 127 ≤ (reduce (pos n) d).den → TellsFraction n d o
+pub fine_none : (o : Option Tenths) (n d : ℕ) → o ≡ None → 2 ^ 127 ≤ (reduce (pos n) d).den
+    → TellsFraction n d o
 fine_none o n d e fine = subst (λ (t : Option Tenths). TellsFraction n d t) (sym e) fine
 
-pub same_fit : (o : Option Rational) (p q : Rational) → p ≡ q → SomeIff o (Fits p) p → SomeIff o (Fits q) q
+pub same_fit : (o : Option Rational) (p q : Rational) → p ≡ q → SomeIff o (Fits p) p
+    → SomeIff o (Fits q) q
 same_fit o p q e some = subst (λ (t : Rational). SomeIff o (Fits t) t) e some
 
 pub same_unfit : (p q : Rational) → p ≡ q → ¬ (Fits q) → ¬ (Fits p)
@@ -137,68 +187,106 @@ same_unfit p q e unfit = subst (λ (t : Rational). ¬ (Fits t)) (sym e) unfit
 -- ---- a point that is moved left, and right
 
 module _ (s : Bool) (whole fraction : List ℕ) (power moved zeros : ℕ) (before behind : List ℕ) where
-  module _ (h : MovesBy (length whole) power moved zeros) (e : before ≡ take (length whole - moved) whole) (k : behind ≡ drop (length whole - moved) whole) where
+  module _ (h : MovesBy (length whole) power moved zeros)
+      (e : before ≡ take (length whole - moved) whole)
+      (k : behind ≡ drop (length whole - moved) whole) where
     over_is : over_ten s whole fraction power
-        ≡ both s (digits_value 10 (before ++ []) * 10 ^ 0) (digits_value 10 (behind ++ fraction)) (10 ^ (zeros + length behind + length fraction)) (power_pos (zeros + length behind + length fraction))
+        ≡ both s (digits_value 10 (before ++ []) * 10 ^ 0) (digits_value 10 (behind ++ fraction))
+        (10 ^ (zeros + length behind + length fraction))
+        (power_pos (zeros + length behind + length fraction))
     over_is =
         over_ten_is s whole fraction power moved zeros h
-        ∙ ap₂ (λ b c. reduce (signed s (digits_value 10 (b ++ []) * 10 ^ 0 * 10 ^ (zeros + length c + length fraction) + digits_value 10 (c ++ fraction))) (10 ^ (zeros + length c + length fraction))) (sym e) (sym k)
+        ∙ ap₂ (λ b c. reduce (signed s (digits_value 10 (b ++ []) * 10 ^ 0 * 10
+        ^ (zeros + length c + length fraction) + digits_value 10 (c ++ fraction)))
+        (10 ^ (zeros + length c + length fraction))) (sym e) (sym k)
 
-    pub over_part : 2 ^ 127 ≤ (reduce (pos (digits_value 10 (behind ++ fraction))) (10 ^ (zeros + length behind + length fraction))).den → ¬ (Fits (over_ten s whole fraction power))
-    over_part fine = same_unfit _ _ over_is (fine_unfit s (digits_value 10 (before ++ []) * 10 ^ 0) (digits_value 10 (behind ++ fraction)) _ (power_pos (zeros + length behind + length fraction)) fine)
+    pub over_part : 2 ^ 127 ≤ (reduce (pos (digits_value 10 (behind ++ fraction)))
+        (10 ^ (zeros + length behind + length fraction))).den
+        → ¬ (Fits (over_ten s whole fraction power))
+    over_part fine =
+        same_unfit _ _ over_is (fine_unfit s (digits_value 10 (before ++ []) * 10 ^ 0)
+        (digits_value 10 (behind ++ fraction)) _
+        (power_pos (zeros + length behind + length fraction)) fine)
 
-    pub over_size : ¬ (digits_value 10 (before ++ []) * 10 ^ 0 < 2 ^ 127) → ¬ (Fits (over_ten s whole fraction power))
-    over_size large = same_unfit _ _ over_is (size_unfit s (digits_value 10 (before ++ []) * 10 ^ 0) (digits_value 10 (behind ++ fraction)) _ (power_pos (zeros + length behind + length fraction)) (large_lem (digits_value 10 (before ++ []) * 10 ^ 0) large))
+    pub over_size : ¬ (digits_value 10 (before ++ []) * 10 ^ 0 < 2 ^ 127)
+        → ¬ (Fits (over_ten s whole fraction power))
+    over_size large =
+        same_unfit _ _ over_is (size_unfit s (digits_value 10 (before ++ []) * 10 ^ 0)
+        (digits_value 10 (behind ++ fraction)) _
+        (power_pos (zeros + length behind + length fraction))
+        (large_lem (digits_value 10 (before ++ []) * 10 ^ 0) large))
       where
         large_lem : (n : ℕ) → ¬ (n < 2 ^ 127) → 2 ^ 127 ≤ n
         large_lem n f = omega (arith, f)
 
-    pub over_joined : (o : Option Rational) (size num den : ℕ) → 0 < den → size ≡ digits_value 10 (before ++ []) * 10 ^ 0
-        → num * 10 ^ (zeros + length behind + length fraction) ≡ digits_value 10 (behind ++ fraction) * den
-        → SomeIff o (Fits (reduce (signed s (size * den + num)) den)) (reduce (signed s (size * den + num)) den)
+    pub over_joined : (o : Option Rational) (size num den : ℕ) → 0 < den
+        → size ≡ digits_value 10 (before ++ []) * 10 ^ 0
+        → num * 10 ^ (zeros + length behind + length fraction)
+        ≡ digits_value 10 (behind ++ fraction) * den
+        → SomeIff o (Fits (reduce (signed s (size * den + num)) den))
+        (reduce (signed s (size * den + num)) den)
         → SomeIff o (Fits (over_ten s whole fraction power)) (over_ten s whole fraction power)
     over_joined o size num den above size_is over =
         same_fit o (reduce (signed s (size * den + num)) den) (over_ten s whole fraction power)
         (ap (λ a. reduce (signed s (a * den + num)) den) size_is
-        ∙ both_is s (digits_value 10 (before ++ []) * 10 ^ 0) (digits_value 10 (behind ++ fraction)) _ (power_pos (zeros + length behind + length fraction)) num den above over
+        ∙ both_is s (digits_value 10 (before ++ []) * 10 ^ 0) (digits_value 10 (behind ++ fraction))
+        _ (power_pos (zeros + length behind + length fraction)) num den above over
         ∙ sym over_is)
 
-  module _ (h : MovesBy (length fraction) power moved zeros) (e : before ≡ take moved fraction) (k : behind ≡ drop moved fraction) where
+  module _ (h : MovesBy (length fraction) power moved zeros) (e : before ≡ take moved fraction)
+      (k : behind ≡ drop moved fraction) where
     times_is : times_ten s whole fraction power
-        ≡ both s (digits_value 10 (whole ++ before) * 10 ^ zeros) (digits_value 10 ([] ++ behind)) (10 ^ (0 + 0 + length behind)) (power_pos (0 + 0 + length behind))
+        ≡ both s (digits_value 10 (whole ++ before) * 10 ^ zeros) (digits_value 10 ([] ++ behind))
+        (10 ^ (0 + 0 + length behind)) (power_pos (0 + 0 + length behind))
     times_is =
         times_ten_is s whole fraction power moved zeros h
-        ∙ ap₂ (λ b c. reduce (signed s (digits_value 10 (whole ++ b) * 10 ^ zeros * 10 ^ (0 + 0 + length c) + digits_value 10 ([] ++ c))) (10 ^ (0 + 0 + length c))) (sym e) (sym k)
+        ∙ ap₂ (λ b c. reduce (signed s (digits_value 10 (whole ++ b) * 10 ^ zeros * 10
+        ^ (0 + 0 + length c) + digits_value 10 ([] ++ c))) (10 ^ (0 + 0 + length c)))
+        (sym e) (sym k)
 
-    pub times_part : 2 ^ 127 ≤ (reduce (pos (digits_value 10 ([] ++ behind))) (10 ^ (0 + 0 + length behind))).den → ¬ (Fits (times_ten s whole fraction power))
-    times_part fine = same_unfit _ _ times_is (fine_unfit s (digits_value 10 (whole ++ before) * 10 ^ zeros) (digits_value 10 ([] ++ behind)) _ (power_pos (0 + 0 + length behind)) fine)
+    pub times_part : 2 ^ 127 ≤ (reduce (pos (digits_value 10 ([] ++ behind)))
+        (10 ^ (0 + 0 + length behind))).den → ¬ (Fits (times_ten s whole fraction power))
+    times_part fine =
+        same_unfit _ _ times_is (fine_unfit s (digits_value 10 (whole ++ before) * 10 ^ zeros)
+        (digits_value 10 ([] ++ behind)) _ (power_pos (0 + 0 + length behind)) fine)
 
-    pub times_size : ¬ (digits_value 10 (whole ++ before) * 10 ^ zeros < 2 ^ 127) → ¬ (Fits (times_ten s whole fraction power))
-    times_size large = same_unfit _ _ times_is (size_unfit s (digits_value 10 (whole ++ before) * 10 ^ zeros) (digits_value 10 ([] ++ behind)) _ (power_pos (0 + 0 + length behind)) (large_lem (digits_value 10 (whole ++ before) * 10 ^ zeros) large))
+    pub times_size : ¬ (digits_value 10 (whole ++ before) * 10 ^ zeros < 2 ^ 127)
+        → ¬ (Fits (times_ten s whole fraction power))
+    times_size large =
+        same_unfit _ _ times_is (size_unfit s (digits_value 10 (whole ++ before) * 10 ^ zeros)
+        (digits_value 10 ([] ++ behind)) _ (power_pos (0 + 0 + length behind))
+        (large_lem (digits_value 10 (whole ++ before) * 10 ^ zeros) large))
       where
         large_lem : (n : ℕ) → ¬ (n < 2 ^ 127) → 2 ^ 127 ≤ n
         large_lem n f = omega (arith, f)
 
-    pub times_joined : (o : Option Rational) (size num den : ℕ) → 0 < den → size ≡ digits_value 10 (whole ++ before) * 10 ^ zeros
+    pub times_joined : (o : Option Rational) (size num den : ℕ) → 0 < den
+        → size ≡ digits_value 10 (whole ++ before) * 10 ^ zeros
         → num * 10 ^ (0 + 0 + length behind) ≡ digits_value 10 ([] ++ behind) * den
-        → SomeIff o (Fits (reduce (signed s (size * den + num)) den)) (reduce (signed s (size * den + num)) den)
+        → SomeIff o (Fits (reduce (signed s (size * den + num)) den))
+        (reduce (signed s (size * den + num)) den)
         → SomeIff o (Fits (times_ten s whole fraction power)) (times_ten s whole fraction power)
     times_joined o size num den above size_is over =
         same_fit o (reduce (signed s (size * den + num)) den) (times_ten s whole fraction power)
         (ap (λ a. reduce (signed s (a * den + num)) den) size_is
-        ∙ both_is s (digits_value 10 (whole ++ before) * 10 ^ zeros) (digits_value 10 ([] ++ behind)) _ (power_pos (0 + 0 + length behind)) num den above over
+        ∙ both_is s (digits_value 10 (whole ++ before) * 10 ^ zeros)
+        (digits_value 10 ([] ++ behind)) _ (power_pos (0 + 0 + length behind)) num
+        den above over
         ∙ sym times_is)
 
 -- ---- few digits
 
 -- 18 digits and as great a power stay below 128 bits
-pub short_digits : (xs ys : List ℕ) (up : ℕ) → AllDigits 10 (xs ++ ys) → length xs + length ys ≤ 18 → up ≤ 18
+pub short_digits : (xs ys : List ℕ) (up : ℕ) → AllDigits 10 (xs ++ ys)
+    → length xs + length ys ≤ 18 → up ≤ 18
     → (digits_value 10 (xs ++ ys) < 10 ^ 18) × (digits_value 10 (xs ++ ys) * 10 ^ up < 2 ^ 127)
 short_digits xs ys up digits few small =
     let length_is : length (xs ++ ys) ≤ 18 = omega (arith, length-append xs ys, few) in
-    let all : 10 ^ length (xs ++ ys) ≤ 10 ^ 18 = pow-le-pow_right {n = 10} (power_pos 1) length_is in
+    let all : 10 ^ length (xs ++ ys) ≤ 10 ^ 18 =
+    pow-le-pow_right {n = 10} (power_pos 1) length_is in
     let scale : 10 ^ up ≤ 10 ^ 18 = pow-le-pow_right {n = 10} (power_pos 1) small in
-    bound_lem (digits_value 10 (xs ++ ys)) (10 ^ up) (10 ^ length (xs ++ ys)) (digits_value-lt 10 (xs ++ ys) digits) all scale
+    bound_lem (digits_value 10 (xs ++ ys)) (10 ^ up) (10 ^ length (xs ++ ys))
+    (digits_value-lt 10 (xs ++ ys) digits) all scale
   where
     bound_lem : (v p t : ℕ) → v < t → t ≤ 10 ^ 18 → p ≤ 10 ^ 18 → (v < 10 ^ 18) × (v * p < 2 ^ 127)
     bound_lem v p t h k l =
@@ -210,10 +298,16 @@ small_power n h =
     let most : 10 ^ n ≤ 10 ^ 36 = pow-le-pow_right {n = 10} (power_pos 1) h in
     omega arith
 
-pub AllDigits-append : (xs ys : List ℕ) → AllDigits 10 xs → AllDigits 10 ys → AllDigits 10 (xs ++ ys)
+pub AllDigits-append : (xs ys : List ℕ) → AllDigits 10 xs → AllDigits 10 ys
+    → AllDigits 10 (xs ++ ys)
 AllDigits-append [] ys h k = k
 AllDigits-append (c ∷ cs) ys h k = (h.0, AllDigits-append cs ys h.1 k)
 
 -- digits that don't fit, of no more than 18
-pub never_large : (xs ys : List ℕ) → digits_value 10 (xs ++ ys) < 10 ^ 18 → (digits_value_after 10 0 xs < 2 ^ 127) × (digits_value_after 10 (digits_value_after 10 0 xs) ys < 2 ^ 127)
-never_large xs ys h = (omega (arith, h, after-append 0 xs ys, grows (digits_value 10 xs) ys), omega (arith, h, after-append 0 xs ys))
+pub never_large : (xs ys : List ℕ) → digits_value 10 (xs ++ ys) < 10 ^ 18
+    → (digits_value_after 10 0 xs < 2 ^ 127)
+    × (digits_value_after 10 (digits_value_after 10 0 xs) ys < 2 ^ 127)
+never_large xs ys h = (
+  omega (arith, h, after-append 0 xs ys, grows (digits_value 10 xs) ys),
+  omega (arith, h, after-append 0 xs ys),
+)

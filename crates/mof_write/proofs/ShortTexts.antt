@@ -68,11 +68,13 @@ mutual
 
   items_free : (k : ℕ) (ds : Items) → AreShort k ds → items_have_float ds ≡ false
   items_free k no_items h = refl
-  items_free k (item d ds) h = or_from (has_float d) (items_have_float ds) (float_free k d h.0) (items_free k ds h.1)
+  items_free k (item d ds) h =
+      or_from (has_float d) (items_have_float ds) (float_free k d h.0) (items_free k ds h.1)
 
   members_free : (k : ℕ) (ms : Members) → AreShortMembers k ms → members_have_float ms ≡ false
   members_free k no_members h = refl
-  members_free k (member l d ms) h = or_from (has_float d) (members_have_float ms) (float_free k d h.0) (members_free k ms h.1)
+  members_free k (member l d ms) h =
+      or_from (has_float d) (members_have_float ms) (float_free k d h.0) (members_free k ms h.1)
 
 mutual
   pub depth_within : (k : ℕ) (d : Data) → IsShort k d → depth d ≤ k

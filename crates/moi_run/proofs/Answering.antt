@@ -15,7 +15,8 @@ use Rattle.report_core.specs.declared.answer.Answer.{Answer}
 use Rattle.report_core.specs.declared.answer.Answer.TheVariants.{Memory, Printed, Quit, ReadFault, Refused, Silent, TooLong}
 
 -- an answer that prints was found by a step
-prints_step : (s new : Machine) (line : List ℕ) (answer : Answer) (text : List ℕ) (refused : Bool) → Prints answer text refused → Answered s line answer new → Steps s line answer new
+prints_step : (s new : Machine) (line : List ℕ) (answer : Answer) (text : List ℕ) (refused : Bool)
+    → Prints answer text refused → Answered s line answer new → Steps s line answer new
 prints_step s new line Silent text refused silent answered = answered
 prints_step s new line (Printed said) text refused accepted answered = answered
 prints_step s new line (Refused said) text refused refusal answered = answered
@@ -24,7 +25,9 @@ prints_step s new line ReadFault text refused prints answered = elim prints [ ]
 prints_step s new line TooLong text refused prints answered = elim prints [ ]
 prints_step s new line Memory text refused prints answered = elim prints [ ]
 
-hears_of : (s new : Machine) (line : List ℕ) (answer : Answer) (refused : Bool) (wrote : List ℕ → Type 0) → Answered s line answer new → PrintsText answer refused wrote → Hears s line refused new wrote
+hears_of : (s new : Machine) (line : List ℕ) (answer : Answer) (refused : Bool)
+    (wrote : List ℕ → Type 0) → Answered s line answer new → PrintsText answer refused wrote
+    → Hears s line refused new wrote
 hears_of s new line answer refused wrote answered printed = record {
   answer = answer;
   text = printed.text;
@@ -34,11 +37,14 @@ hears_of s new line answer refused wrote answered printed = record {
 }
 
 -- what became of the line, from its answer and what became of that
-pub line_heard : (result : Result Reply Stop) (s new : Machine) (line : List ℕ) (answer : Answer) (old written : Option (List ℕ)) → Answered s line answer new → WritesBy result answer old written
+pub line_heard : (result : Result Reply Stop) (s new : Machine) (line : List ℕ) (answer : Answer)
+    (old written : Option (List ℕ)) → Answered s line answer new
+    → WritesBy result answer old written
     → HearsBy result s line new old written
 line_heard (Ok given) s new line answer old written answered wrote = (
   hears_of s new line answer (is_refused given) (Adds old written) answered wrote.0,
-  wrote.1 ∙ sym (quit_is_said s new line answer (prints_step s new line answer wrote.0.text (is_refused given) wrote.0.prints answered)),
+  wrote.1 ∙ sym (quit_is_said s new line answer (prints_step s new line answer wrote.0.text
+      (is_refused given) wrote.0.prints answered)),
 )
 line_heard (Err stop.WriteFault) s new line answer old written answered wrote =
     (wrote.0, hears_of s new line answer wrote.0 (AddsPrefix old written) answered wrote.1)
@@ -53,18 +59,42 @@ line_heard (Err stop.Memory) s new line answer old written answered (inr begun) 
 -- ---- one answer
 
 -- that prints a text
-prints_text : (answer said : Answer) (text seen : List ℕ) (refused : Bool) (wrote : List ℕ → Type 0) → answer ≡ said → Prints said text refused → seen ≡ text → wrote seen → PrintsText answer refused wrote
-prints_text answer said text seen refused wrote is prints same written = record { text = text; prints = subst (λ a. Prints a text refused) (sym is) prints; written = subst wrote same written }
+prints_text : (answer said : Answer) (text seen : List ℕ) (refused : Bool) (wrote : List ℕ → Type 0)
+    → answer ≡ said → Prints said text refused → seen ≡ text → wrote seen
+    → PrintsText answer refused wrote
+prints_text answer said text seen refused wrote is prints same written =
+    record {
+      text = text;
+      prints = subst (λ a. Prints a text refused) (sym is) prints;
+      written = subst wrote same written;
+    }
 
 -- the text was written whole
-pub wrote_whole : (answer said : Answer) (text seen : List ℕ) (refused quits : Bool) (old new : Option (List ℕ)) → answer ≡ said → Prints said text refused → quits ≡ answers_quit said
-    → seen ≡ text → Adds old new seen → PrintsText answer refused (Adds old new) × (quits ≡ answers_quit answer)
-wrote_whole answer said text seen refused quits old new is prints ends same written = (prints_text answer said text seen refused (Adds old new) is prints same written, ends ∙ sym (ap answers_quit is))
+pub wrote_whole : (answer said : Answer) (text seen : List ℕ) (refused quits : Bool)
+    (old new : Option (List ℕ)) → answer ≡ said → Prints said text refused
+    → quits ≡ answers_quit said
+    → seen ≡ text → Adds old new seen → PrintsText answer refused (Adds old new)
+    × (quits ≡ answers_quit answer)
+wrote_whole answer said text seen refused quits old new is prints ends same written = (
+  prints_text answer said text seen refused (Adds old new) is prints same written,
+  ends
+      ∙ sym (ap answers_quit is),
+)
 
 -- or in part
-pub cut_short : (reason : SinkFault) (given : Stop) (answer said : Answer) (text seen : List ℕ) (refused : Bool) (old new : Option (List ℕ)) → given ≡ stop_of_sink reason → answer ≡ said
-    → Prints said text refused → seen ≡ text → AddsPrefix old new seen → WritesBy (Err given) answer old new
+pub cut_short : (reason : SinkFault) (given : Stop) (answer said : Answer) (text seen : List ℕ)
+    (refused : Bool) (old new : Option (List ℕ)) → given ≡ stop_of_sink reason → answer ≡ said
+    → Prints said text refused → seen ≡ text → AddsPrefix old new seen
+    → WritesBy (Err given) answer old new
 cut_short fault.Failed given answer said text seen refused old new from is prints same written =
-    subst (λ e. WritesBy (Err e) answer old new) (sym from) (refused, prints_text answer said text seen refused (AddsPrefix old new) is prints same written)
+    subst (λ e. WritesBy (Err e) answer old new) (sym from) (
+      refused,
+      prints_text answer said text seen refused (AddsPrefix old new) is prints same written,
+    )
 cut_short fault.Memory given answer said text seen refused old new from is prints same written =
-    subst (λ e. WritesBy (Err e) answer old new) (sym from) (inr (refused, prints_text answer said text seen refused (AddsPrefix old new) is prints same written))
+    subst (λ e. WritesBy (Err e) answer old new) (sym from)
+    (inr (
+      refused,
+      prints_text answer said text seen refused (AddsPrefix old new) is prints
+          same written,
+    ))

@@ -18,7 +18,8 @@ use Rattle.moi_run.specs.declared.status.Status.TheVariants as status
 use Rattle.script_lines.specs.Limits.{line_limit}
 
 -- what holds of all doesn't fail at one
-pub clash : (P Q : List ℕ → Type 0) (xs : List (List ℕ)) → All Q xs → Any P xs → ((x : List ℕ) → Q x → P x → ⊥) → ⊥
+pub clash : (P Q : List ℕ → Type 0) (xs : List (List ℕ)) → All Q xs → Any P xs
+    → ((x : List ℕ) → Q x → P x → ⊥) → ⊥
 clash P Q xs all any h = h any.1 (subst Q any.3 (All-get_or Q xs any.0 any.1 any.2 all)) any.4
 
 -- no fault was counted
@@ -29,51 +30,82 @@ unsound old new sound (inr stands) = omega (arith, sound.0, sound.1, stands)
 -- no limit was passed
 within : (bytes : List ℕ) → IsWithinLimits bytes → PassesLimit bytes → ⊥
 within bytes limits (inl long) =
-    clash (λ line. line_limit < length line) (λ line. length line ≤ line_limit) (heard (lines bytes)) limits.each long (λ line short is_long. omega (arith, short, is_long))
+    clash (λ line. line_limit < length line) (λ line. length line ≤ line_limit)
+    (heard (lines bytes)) limits.each long (λ line short is_long. omega (arith, short, is_long))
 within bytes limits (inr long) = elim limits.whole [
   | inl short ↦ omega (arith, short, long.0)
   | inr quit ↦ true≢false (sym quit ∙ long.1)
 ]
 
-no_read_fault : (said : Option Command) (left : Option (List ℕ)) (shelf : Told) (reads reads' fetches fetches' : ℕ) → CanBeRead said left reads reads' → CanBeFetched said left shelf fetches fetches'
-    → HasReadFault said (HasFaulted reads reads') (HasFaulted fetches fetches' × (IsTrue shelf.sure → AsksInVain said left shelf)) → ⊥
+no_read_fault : (said : Option Command) (left : Option (List ℕ)) (shelf : Told)
+    (reads reads' fetches fetches' : ℕ) → CanBeRead said left reads reads'
+    → CanBeFetched said left shelf fetches fetches'
+    → HasReadFault said (HasFaulted reads reads')
+    (HasFaulted fetches fetches' × (IsTrue shelf.sure → AsksInVain said left shelf)) → ⊥
 no_read_fault None left shelf reads reads' fetches fetches' read fetched fault = absurd read
-no_read_fault (Some (Plan setup)) left shelf reads reads' fetches fetches' read fetched fault = absurd fault
-no_read_fault (Some (Run setup)) left shelf reads reads' fetches fetches' read fetched (inl fault) = unsound reads reads' read.2 fault
-no_read_fault (Some (Run setup)) left shelf reads reads' fetches fetches' read fetched (inr fault) = elim fetched.there [
-  | inl sound ↦ unsound fetches fetches' sound fault.0
-  | inr there ↦ there.1 (fault.1 there.0)
-]
-no_read_fault (Some (Solve setup model)) left shelf reads reads' fetches fetches' read fetched fault = elim fetched.there [
-  | inl sound ↦ unsound fetches fetches' sound fault.0
-  | inr there ↦ there.1 (fault.1 there.0)
-]
-no_read_fault (Some (Check model certificate)) left shelf reads reads' fetches fetches' read fetched fault = elim fetched.there [
-  | inl sound ↦ unsound fetches fetches' sound fault.0
-  | inr there ↦ there.1 (fault.1 there.0)
-]
+no_read_fault (Some (Plan setup)) left shelf reads reads' fetches fetches' read fetched fault =
+    absurd fault
+no_read_fault (Some (Run setup)) left shelf reads reads' fetches fetches' read fetched (inl fault) =
+    unsound reads reads' read.2 fault
+no_read_fault (Some (Run setup)) left shelf reads reads' fetches fetches' read fetched (inr fault) =
+    elim fetched.there [
+      | inl sound ↦ unsound fetches fetches' sound fault.0
+      | inr there ↦ there.1 (fault.1 there.0)
+    ]
+no_read_fault (Some (Solve setup model)) left shelf reads reads' fetches fetches' read fetched
+    fault = elim fetched.there [
+      | inl sound ↦ unsound fetches fetches' sound fault.0
+      | inr there ↦ there.1 (fault.1 there.0)
+    ]
+no_read_fault (Some (Check model certificate)) left shelf reads reads' fetches fetches' read fetched
+    fault = elim fetched.there [
+      | inl sound ↦ unsound fetches fetches' sound fault.0
+      | inr there ↦ there.1 (fault.1 there.0)
+    ]
 
-no_limit : (said : Option Command) (left : Option (List ℕ)) (shelf : Told) (reads reads' fetches fetches' : ℕ) → CanBeRead said left reads reads' → CanBeFetched said left shelf fetches fetches'
+no_limit : (said : Option Command) (left : Option (List ℕ)) (shelf : Told)
+    (reads reads' fetches fetches' : ℕ) → CanBeRead said left reads reads'
+    → CanBeFetched said left shelf fetches fetches'
     → HasTooLong said left shelf → ⊥
 no_limit None left shelf reads reads' fetches fetches' read fetched long = absurd read
-no_limit (Some (Plan setup)) left shelf reads reads' fetches fetches' read fetched long = fetched.short long
-no_limit (Some (Solve setup model)) left shelf reads reads' fetches fetches' read fetched long = fetched.short long
-no_limit (Some (Check model certificate)) left shelf reads reads' fetches fetches' read fetched long = fetched.short long
-no_limit (Some (Run setup)) None shelf reads reads' fetches fetches' read fetched long = absurd (true≢false (sym read.0))
-no_limit (Some (Run setup)) (Some bytes) shelf reads reads' fetches fetches' read fetched (inl passes) = within bytes read.1 passes
-no_limit (Some (Run setup)) (Some bytes) shelf reads reads' fetches fetches' read fetched (inr much) = fetched.short much
+no_limit (Some (Plan setup)) left shelf reads reads' fetches fetches' read fetched long =
+    fetched.short long
+no_limit (Some (Solve setup model)) left shelf reads reads' fetches fetches' read fetched long =
+    fetched.short long
+no_limit (Some (Check model certificate)) left shelf reads reads' fetches fetches' read fetched
+    long = fetched.short long
+no_limit (Some (Run setup)) None shelf reads reads' fetches fetches' read fetched long =
+    absurd (true≢false (sym read.0))
+no_limit (Some (Run setup)) (Some bytes) shelf reads reads' fetches fetches' read fetched
+    (inl passes) = within bytes read.1 passes
+no_limit (Some (Run setup)) (Some bytes) shelf reads reads' fetches fetches' read fetched
+    (inr much) = fetched.short much
 
-pub completes : (said : Option Command) (end : Status) (left left' : Option (List ℕ)) (shelf : Told) (reads reads' fetches fetches' writes writes' : ℕ) (s new : Machine) (wrote begun : List ℕ → Type 0)
-    → Runs said end left left' shelf (HasFaulted reads reads') (HasFaulted fetches fetches') s new wrote begun
+pub completes : (said : Option Command) (end : Status) (left left' : Option (List ℕ)) (shelf : Told)
+    (reads reads' fetches fetches' writes writes' : ℕ) (s new : Machine)
+    (wrote begun : List ℕ → Type 0)
+    → Runs said end left left' shelf (HasFaulted reads reads')
+    (HasFaulted fetches fetches') s new wrote begun
     → (end ≡ status.Usage → said ≡ None) → (end ≡ status.WriteFault → HasFaulted writes writes')
-    → CanBeRead said left reads reads' → CanBeFetched said left shelf fetches fetches' → IsSound writes writes' → IsEnded end ⊎ (end ≡ status.Memory)
-completes said status.Done left left' shelf reads reads' fetches fetches' writes writes' s new wrote begun runs usage write read fetched sound = inl tt
-completes said status.SomeRefused left left' shelf reads reads' fetches fetches' writes writes' s new wrote begun runs usage write read fetched sound = inl tt
-completes said status.Memory left left' shelf reads reads' fetches fetches' writes writes' s new wrote begun runs usage write read fetched sound = inr refl
-completes said status.Usage left left' shelf reads reads' fetches fetches' writes writes' s new wrote begun runs usage write read fetched sound =
+    → CanBeRead said left reads reads' → CanBeFetched said left shelf fetches fetches'
+    → IsSound writes writes' → IsEnded end ⊎ (end ≡ status.Memory)
+completes said status.Done left left' shelf reads reads' fetches fetches' writes writes' s new wrote
+    begun runs usage write read fetched sound = inl tt
+completes said status.SomeRefused left left' shelf reads reads' fetches fetches' writes writes' s
+    new wrote begun runs usage write read fetched sound = inl tt
+completes said status.Memory left left' shelf reads reads' fetches fetches' writes writes' s new
+    wrote begun runs usage write read fetched sound = inr refl
+completes said status.Usage left left' shelf reads reads' fetches fetches' writes writes' s new
+    wrote begun runs usage write read fetched sound =
     absurd (subst (λ o. CanBeRead o left reads reads') (usage refl) read)
-completes said status.WriteFault left left' shelf reads reads' fetches fetches' writes writes' s new wrote begun runs usage write read fetched sound = absurd (unsound writes writes' sound (write refl))
-completes said status.ReadFault left left' shelf reads reads' fetches fetches' writes writes' s new wrote begun runs usage write read fetched sound =
-    absurd (no_read_fault said left shelf reads reads' fetches fetches' read fetched (runs.read_fault refl))
-completes said status.TooLong left left' shelf reads reads' fetches fetches' writes writes' s new wrote begun runs usage write read fetched sound =
-    absurd (no_limit said left shelf reads reads' fetches fetches' read fetched (runs.too_long refl))
+completes said status.WriteFault left left' shelf reads reads' fetches fetches' writes writes' s new
+    wrote begun runs usage write read fetched sound = absurd (unsound writes writes' sound
+    (write refl))
+completes said status.ReadFault left left' shelf reads reads' fetches fetches' writes writes' s new
+    wrote begun runs usage write read fetched sound =
+    absurd (no_read_fault said left shelf reads reads' fetches fetches' read fetched
+    (runs.read_fault refl))
+completes said status.TooLong left left' shelf reads reads' fetches fetches' writes writes' s new
+    wrote begun runs usage write read fetched sound =
+    absurd (no_limit said left shelf reads reads' fetches fetches' read fetched
+    (runs.too_long refl))

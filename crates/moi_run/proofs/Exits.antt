@@ -28,101 +28,159 @@ use Rattle.script_lines.specs.declared.line_reader.ReadStop.TheVariants as read
 
 -- ---- the shelf
 
-pub told_same : (files files' : Option FilesByName) (sure sure' : Bool) → files' ≡ files → sure' ≡ sure → told_by files' sure' ≡ told_by files sure
-told_same files files' sure sure' f s = ap (λ (o : Option FilesByName). told_by o sure') f ∙ ap (told_by files) s
+pub told_same : (files files' : Option FilesByName) (sure sure' : Bool) → files' ≡ files
+    → sure' ≡ sure → told_by files' sure' ≡ told_by files sure
+told_same files files' sure sure' f s =
+    ap (λ (o : Option FilesByName). told_by o sure') f ∙ ap (told_by files) s
 
-pub fails_within : (told told' : Told) (first old new : ℕ) → told' ≡ told → first ≤ old → FetchFails told' old new → FetchFails told first new
+pub fails_within : (told told' : Told) (first old new : ℕ) → told' ≡ told → first ≤ old
+    → FetchFails told' old new → FetchFails told first new
 fails_within told told' first old new same low fails = subst (λ t. FetchFails t first new) same
-    record { counted = HasFaulted-within first old new new low (omega arith) fails.counted; name = fails.name; missing = fails.missing }
+    record {
+      counted = HasFaulted-within first old new new low (omega arith) fails.counted;
+      name = fails.name;
+      missing = fails.missing;
+    }
 
-pub heard_told : (result : Result Reply Stop) (told told' : Told) (s new : Session) (line : List ℕ) (old written : Option (List ℕ)) → told' ≡ told
-    → HearsBy result (machine_of s told') line (machine_of new told') old written → HearsBy result (machine_of s told) line (machine_of new told) old written
-heard_told result told told' s new line old written same heard = subst (λ t. HearsBy result (machine_of s t) line (machine_of new t) old written) same heard
+pub heard_told : (result : Result Reply Stop) (told told' : Told) (s new : Session) (line : List ℕ)
+    (old written : Option (List ℕ)) → told' ≡ told
+    → HearsBy result (machine_of s told') line (machine_of new told') old written
+    → HearsBy result (machine_of s told) line (machine_of new told) old written
+heard_told result told told' s new line old written same heard =
+    subst (λ t. HearsBy result (machine_of s t) line (machine_of new t) old written) same heard
 
 -- the machine is as it was where the shelf stopped the work
 pub stays_at_fault : (s new : Machine) (line : List ℕ) → Steps s line ReadFault new → new ≡ s
-stays_at_fault s new line steps = steps.1 ∙ ap (with_state s) (stops_by s new line ReadFault steps).kept
+stays_at_fault s new line steps =
+    steps.1 ∙ ap (with_state s) (stops_by s new line ReadFault steps).kept
 
 pub stays_at_limit : (s new : Machine) (line : List ℕ) → Steps s line TooLong new → new ≡ s
-stays_at_limit s new line steps = steps.1 ∙ ap (with_state s) (stops_by s new line TooLong steps).kept
+stays_at_limit s new line steps =
+    steps.1 ∙ ap (with_state s) (stops_by s new line TooLong steps).kept
 
 -- a line whose answer is a fault of the shelf
-pub line_fails : (result : Result Reply Stop) (s new : Machine) (line : List ℕ) (answer : Answer) (old written : Option (List ℕ)) (faults faults' : ℕ)
-    → Answered s line answer new → WritesBy result answer old written → (answer ≡ ReadFault → HasFaulted faults faults') → result ≡ Err stop.ReadFault → FetchFails s.shelf faults faults'
+pub line_fails : (result : Result Reply Stop) (s new : Machine) (line : List ℕ) (answer : Answer)
+    (old written : Option (List ℕ)) (faults faults' : ℕ)
+    → Answered s line answer new → WritesBy result answer old written
+    → (answer ≡ ReadFault → HasFaulted faults faults') → result ≡ Err stop.ReadFault
+    → FetchFails s.shelf faults faults'
 line_fails result s new line answer old written faults faults' answered wrote cause is =
-    let by : WritesBy (Err stop.ReadFault) answer old written = subst (λ r. WritesBy r answer old written) is wrote in
-    let stopped = stops_by s new line ReadFault (subst (λ a. Answered s line a new) by.0 answered) in
+    let by : WritesBy (Err stop.ReadFault) answer old written =
+    subst (λ r. WritesBy r answer old written) is wrote in
+    let stopped = stops_by s new line ReadFault
+    (subst (λ a. Answered s line a new) by.0 answered) in
     record { counted = cause by.0; name = stopped.name; missing = stopped.gave }
 
 -- ---- the work ended
 
 -- what holds by whether a line was refused holds by the status
-pub at_end : (P : Status → Type 0) (Q : Bool → Type 0) → (Q false → P Done) → (Q true → P SomeRefused) → (refused : Bool) (answer : Status)
+pub at_end : (P : Status → Type 0) (Q : Bool → Type 0) → (Q false → P Done)
+    → (Q true → P SomeRefused) → (refused : Bool) (answer : Status)
     → answer ≡ (if refused then SomeRefused else Done) → Q refused → P answer
 at_end P Q none some true answer is h = subst P (sym is) (some h)
 at_end P Q none some false answer is h = subst P (sym is) (none h)
 
 -- and the other way
-pub when_ended : (P : Status → Type 0) (Q : Bool → Type 0) → (P Done → Q false) → (P SomeRefused → Q true) → (end : Status) → IsEnded end → P end → Q (has_refused end)
+pub when_ended : (P : Status → Type 0) (Q : Bool → Type 0) → (P Done → Q false)
+    → (P SomeRefused → Q true) → (end : Status) → IsEnded end → P end → Q (has_refused end)
 when_ended P Q none some Done ended h = none h
 when_ended P Q none some SomeRefused ended h = some h
 when_ended P Q none some _ ended h = absurd ended
 
-pub outcome_at_end : (source shelf : Type 0) (refused : Bool) (answer : Status) (all left : Option (List ℕ)) (start s : Machine) (wrote : List ℕ → Type 0) → answer ≡ (if refused then SomeRefused else Done)
-    → IfSome all (λ bytes. Ends bytes left refused start s wrote) → IfSome all (λ bytes. Outcome source shelf answer bytes left start s wrote)
+pub outcome_at_end : (source shelf : Type 0) (refused : Bool) (answer : Status)
+    (all left : Option (List ℕ)) (start s : Machine) (wrote : List ℕ → Type 0)
+    → answer ≡ (if refused then SomeRefused else Done)
+    → IfSome all (λ bytes. Ends bytes left refused start s wrote)
+    → IfSome all (λ bytes. Outcome source shelf answer bytes left start s wrote)
 outcome_at_end source shelf refused answer all left start s wrote =
-    at_end (λ a. IfSome all (λ bytes. Outcome source shelf a bytes left start s wrote)) (λ b. IfSome all (λ bytes. Ends bytes left b start s wrote)) (λ h. h) (λ h. h) refused answer
+    at_end (λ a. IfSome all (λ bytes. Outcome source shelf a bytes left start s wrote))
+    (λ b. IfSome all (λ bytes. Ends bytes left b start s wrote)) (λ h. h)
+    (λ h. h) refused answer
 
-pub no_cause_at_end : (source shelf sink : Type 0) (refused : Bool) (answer : Status) → answer ≡ (if refused then SomeRefused else Done) → HasCause source shelf sink answer
+pub no_cause_at_end : (source shelf sink : Type 0) (refused : Bool) (answer : Status)
+    → answer ≡ (if refused then SomeRefused else Done) → HasCause source shelf sink answer
 no_cause_at_end source shelf sink true answer is = subst (HasCause source shelf sink) (sym is) tt
 no_cause_at_end source shelf sink false answer is = subst (HasCause source shelf sink) (sym is) tt
 
-pub no_usage_at_end : (refused : Bool) (answer : Status) → answer ≡ (if refused then SomeRefused else Done) → answer ≡ Usage → ⊥
+pub no_usage_at_end : (refused : Bool) (answer : Status)
+    → answer ≡ (if refused then SomeRefused else Done) → answer ≡ Usage → ⊥
 no_usage_at_end true answer is usage = cc
 no_usage_at_end false answer is usage = cc
 
 -- ---- reading stopped
 
-pub outcome_at_read : (source shelf : Type 0) (reason : ReadStop) (answer : Status) (all left : Option (List ℕ)) (start s : Machine) (wrote : List ℕ → Type 0) → answer ≡ status_of (stop_of_read reason)
-    → (reason ≡ read.ReadFault → source) → (reason ≡ read.ReadFault → IfSome all (λ bytes. AnswersTaken bytes left start s wrote))
-    → (reason ≡ read.TooLong → IfSome all (λ bytes. PassesLimit bytes × AnswersWithinLimits bytes start s wrote))
+pub outcome_at_read : (source shelf : Type 0) (reason : ReadStop) (answer : Status)
+    (all left : Option (List ℕ)) (start s : Machine) (wrote : List ℕ → Type 0)
+    → answer ≡ status_of (stop_of_read reason)
+    → (reason ≡ read.ReadFault → source)
+    → (reason ≡ read.ReadFault → IfSome all (λ bytes. AnswersTaken bytes left start s wrote))
+    → (reason ≡ read.TooLong → IfSome all (λ bytes. PassesLimit bytes × AnswersWithinLimits bytes
+    start s wrote))
     → IfSome all (λ bytes. Outcome source shelf answer bytes left start s wrote)
-outcome_at_read source shelf read.ReadFault answer all left start s wrote is cause fault long = subst (λ a. IfSome all (λ bytes. Outcome source shelf a bytes left start s wrote)) (sym is)
+outcome_at_read source shelf read.ReadFault answer all left start s wrote is cause fault long =
+    subst (λ a. IfSome all (λ bytes. Outcome source shelf a bytes left start s wrote)) (sym is)
     (told_weaker _ _ all (λ bytes taken. inl (cause refl, taken)) (fault refl))
-outcome_at_read source shelf read.TooLong answer all left start s wrote is cause fault long = subst (λ a. IfSome all (λ bytes. Outcome source shelf a bytes left start s wrote)) (sym is)
+outcome_at_read source shelf read.TooLong answer all left start s wrote is cause fault long =
+    subst (λ a. IfSome all (λ bytes. Outcome source shelf a bytes left start s wrote)) (sym is)
     (told_weaker _ _ all (λ bytes passes. inl passes) (long refl))
-outcome_at_read source shelf read.Memory answer all left start s wrote is cause fault long = subst (λ a. IfSome all (λ bytes. Outcome source shelf a bytes left start s wrote)) (sym is) (told_always _ all (λ bytes. tt))
+outcome_at_read source shelf read.Memory answer all left start s wrote is cause fault long =
+    subst (λ a. IfSome all (λ bytes. Outcome source shelf a bytes left start s wrote)) (sym is)
+    (told_always _ all (λ bytes. tt))
 
-pub cause_at_read : (source shelf sink : Type 0) (reason : ReadStop) (answer : Status) → answer ≡ status_of (stop_of_read reason) → (reason ≡ read.ReadFault → source) → HasCause source shelf sink answer
-cause_at_read source shelf sink read.ReadFault answer is cause = subst (HasCause source shelf sink) (sym is) (inl (cause refl))
-cause_at_read source shelf sink read.TooLong answer is cause = subst (HasCause source shelf sink) (sym is) tt
-cause_at_read source shelf sink read.Memory answer is cause = subst (HasCause source shelf sink) (sym is) tt
+pub cause_at_read : (source shelf sink : Type 0) (reason : ReadStop) (answer : Status)
+    → answer ≡ status_of (stop_of_read reason) → (reason ≡ read.ReadFault → source)
+    → HasCause source shelf sink answer
+cause_at_read source shelf sink read.ReadFault answer is cause =
+    subst (HasCause source shelf sink) (sym is) (inl (cause refl))
+cause_at_read source shelf sink read.TooLong answer is cause =
+    subst (HasCause source shelf sink) (sym is) tt
+cause_at_read source shelf sink read.Memory answer is cause =
+    subst (HasCause source shelf sink) (sym is) tt
 
 -- ---- the answer to a line stopped it
 
-pub outcome_at_stop : (source shelf : Type 0) (reason : Stop) (answer : Status) (all left : Option (List ℕ)) (start s : Machine) (wrote : List ℕ → Type 0) → answer ≡ status_of reason
-    → (reason ≡ stop.ReadFault → shelf) → (reason ≡ stop.ReadFault → IfSome all (λ bytes. StopsAtFile start (heard (lines bytes)) ReadFault s wrote))
-    → (reason ≡ stop.TooLong → IfSome all (λ bytes. StopsAtFile start (heard (lines bytes)) TooLong s wrote))
+pub outcome_at_stop : (source shelf : Type 0) (reason : Stop) (answer : Status)
+    (all left : Option (List ℕ)) (start s : Machine) (wrote : List ℕ → Type 0)
+    → answer ≡ status_of reason
+    → (reason ≡ stop.ReadFault → shelf)
+    → (reason ≡ stop.ReadFault → IfSome all (λ bytes. StopsAtFile start (heard (lines bytes))
+    ReadFault s wrote))
+    → (reason ≡ stop.TooLong → IfSome all (λ bytes. StopsAtFile start (heard (lines bytes))
+    TooLong s wrote))
     → IfSome all (λ bytes. Outcome source shelf answer bytes left start s wrote)
-outcome_at_stop source shelf stop.ReadFault answer all left start s wrote is cause fault long = subst (λ a. IfSome all (λ bytes. Outcome source shelf a bytes left start s wrote)) (sym is)
+outcome_at_stop source shelf stop.ReadFault answer all left start s wrote is cause fault long =
+    subst (λ a. IfSome all (λ bytes. Outcome source shelf a bytes left start s wrote)) (sym is)
     (told_weaker _ _ all (λ bytes stops. inr (cause refl, stops)) (fault refl))
-outcome_at_stop source shelf stop.TooLong answer all left start s wrote is cause fault long = subst (λ a. IfSome all (λ bytes. Outcome source shelf a bytes left start s wrote)) (sym is)
+outcome_at_stop source shelf stop.TooLong answer all left start s wrote is cause fault long =
+    subst (λ a. IfSome all (λ bytes. Outcome source shelf a bytes left start s wrote)) (sym is)
     (told_weaker _ _ all (λ bytes stops. inr stops) (long refl))
-outcome_at_stop source shelf stop.WriteFault answer all left start s wrote is cause fault long = subst (λ a. IfSome all (λ bytes. Outcome source shelf a bytes left start s wrote)) (sym is) (told_always _ all (λ bytes. tt))
-outcome_at_stop source shelf stop.Memory answer all left start s wrote is cause fault long = subst (λ a. IfSome all (λ bytes. Outcome source shelf a bytes left start s wrote)) (sym is) (told_always _ all (λ bytes. tt))
+outcome_at_stop source shelf stop.WriteFault answer all left start s wrote is cause fault long =
+    subst (λ a. IfSome all (λ bytes. Outcome source shelf a bytes left start s wrote)) (sym is)
+    (told_always _ all (λ bytes. tt))
+outcome_at_stop source shelf stop.Memory answer all left start s wrote is cause fault long =
+    subst (λ a. IfSome all (λ bytes. Outcome source shelf a bytes left start s wrote)) (sym is)
+    (told_always _ all (λ bytes. tt))
 
-pub cause_at_stop : (source shelf sink : Type 0) (reason : Stop) (answer : Status) → answer ≡ status_of reason → (reason ≡ stop.ReadFault → shelf) → (reason ≡ stop.WriteFault → sink) → HasCause source shelf sink answer
-cause_at_stop source shelf sink stop.ReadFault answer is fetch write = subst (HasCause source shelf sink) (sym is) (inr (fetch refl))
-cause_at_stop source shelf sink stop.WriteFault answer is fetch write = subst (HasCause source shelf sink) (sym is) (write refl)
-cause_at_stop source shelf sink stop.Memory answer is fetch write = subst (HasCause source shelf sink) (sym is) tt
-cause_at_stop source shelf sink stop.TooLong answer is fetch write = subst (HasCause source shelf sink) (sym is) tt
+pub cause_at_stop : (source shelf sink : Type 0) (reason : Stop) (answer : Status)
+    → answer ≡ status_of reason → (reason ≡ stop.ReadFault → shelf)
+    → (reason ≡ stop.WriteFault → sink) → HasCause source shelf sink answer
+cause_at_stop source shelf sink stop.ReadFault answer is fetch write =
+    subst (HasCause source shelf sink) (sym is) (inr (fetch refl))
+cause_at_stop source shelf sink stop.WriteFault answer is fetch write =
+    subst (HasCause source shelf sink) (sym is) (write refl)
+cause_at_stop source shelf sink stop.Memory answer is fetch write =
+    subst (HasCause source shelf sink) (sym is) tt
+cause_at_stop source shelf sink stop.TooLong answer is fetch write =
+    subst (HasCause source shelf sink) (sym is) tt
 
-pub no_usage_at_stop : (reason : Stop) (answer : Status) → answer ≡ status_of reason → answer ≡ Usage → ⊥
+pub no_usage_at_stop : (reason : Stop) (answer : Status) → answer ≡ status_of reason
+    → answer ≡ Usage → ⊥
 no_usage_at_stop stop.ReadFault answer is usage = cc
 no_usage_at_stop _ answer is usage = cc
 
 -- which reason a status tells
-pub reason_by : (reason : Stop) (answer : Status) → answer ≡ status_of reason → (told : Stop) → answer ≡ status_of told → reason ≡ told
+pub reason_by : (reason : Stop) (answer : Status) → answer ≡ status_of reason → (told : Stop)
+    → answer ≡ status_of told → reason ≡ told
 reason_by stop.ReadFault answer is stop.ReadFault same = refl
 reason_by stop.WriteFault answer is stop.WriteFault same = refl
 reason_by stop.Memory answer is stop.Memory same = refl

@@ -34,15 +34,23 @@ unfolding encode
 bytes_of_char c small =
     let low : (x : ℕ) → IsByte (128 + x % 64) = λ x. omega arith in
     cond_both (nat_lt c 128) _ _ (All IsByte) (λ t. one c (grind (arith, nat_tests)))
-    (λ _. cond_both (nat_lt c 2048) _ _ (All IsByte) (λ t. let high : c < 2048 = grind (arith, nat_tests) in two _ _ (omega arith) (low c))
-    (λ _. cond_both (nat_lt c 65536) _ _ (All IsByte) (λ t. let high : c < 65536 = grind (arith, nat_tests) in three _ _ _ (omega arith) (low (c / 64)) (low c))
+    (λ _. cond_both (nat_lt c 2048) _ _ (All IsByte) (λ t. let high : c < 2048 = grind (
+      arith,
+      nat_tests,
+    ) in two _ _ (omega arith) (low c))
+    (λ _. cond_both (nat_lt c 65536) _ _ (All IsByte) (λ t. let high : c < 65536 = grind (
+      arith,
+      nat_tests,
+    ) in three _ _ _ (omega arith) (low (c / 64)) (low c))
     (λ _. four _ _ _ _ (omega arith) (low (c / 4096)) (low (c / 64)) (low c))))
 
 bytes_of_chars : (cs : List ℕ) → scalars cs ≡ true → All IsByte (encodes cs)
 bytes_of_chars [] good = All-nil IsByte
 bytes_of_chars (c ∷ cs) good =
     let parts = and_parts (scalar c) (scalars cs) good in
-    All-append IsByte (encode c) (encodes cs) (bytes_of_char c (⊎_elim (λ h. omega arith) (λ h. h.1) (scalar_cases c parts.0))) (bytes_of_chars cs parts.1)
+    All-append IsByte (encode c) (encodes cs)
+    (bytes_of_char c (⊎_elim (λ h. omega arith) (λ h. h.1) (scalar_cases c parts.0)))
+    (bytes_of_chars cs parts.1)
 
 -- UTF-8 is made of bytes
 pub bytes_from_utf8 : (bs : List ℕ) → IsUtf8 bs → All IsByte bs
@@ -56,9 +64,11 @@ escaped_checked = refl
 
 -- the set of the code has the bytes that are escaped
 in_set : (b : ℕ) → b < 256 → should_percent_encode ESCAPED b ≡ is_escaped b
-in_set b small = agree_below_at (should_percent_encode ESCAPED) is_escaped 256 b escaped_checked small
+in_set b small =
+    agree_below_at (should_percent_encode ESCAPED) is_escaped 256 b escaped_checked small
 
-digits_of_byte : (b : ℕ) → b < 256 → crate.percent_encode_byte b ≡ percent ∷ hex_digit (b / 16) ∷ hex_digit (b % 16) ∷ []
+digits_of_byte : (b : ℕ) → b < 256 → crate.percent_encode_byte b
+    ≡ percent ∷ hex_digit (b / 16) ∷ hex_digit (b % 16) ∷ []
 unfolding crate.percent_encode_byte
 digits_of_byte b small =
     let high : b / 16 % 16 ≡ b / 16 = omega arith in
@@ -68,11 +78,13 @@ byte_escaped : (b : ℕ) → b < 256 → crate.encode_byte ESCAPED b ≡ escaped
 byte_escaped b small = λ i. if in_set b small i then digits_of_byte b small i else b ∷ []
 
 -- what the code writes is the escapes of the bytes
-pub percent_encode-escaped : (bs : List ℕ) → All IsByte bs → crate.percent_encode ESCAPED bs ≡ escaped bs
+pub percent_encode-escaped : (bs : List ℕ) → All IsByte bs
+    → crate.percent_encode ESCAPED bs ≡ escaped bs
 unfolding crate.percent_encode escaped
 percent_encode-escaped [] small = refl
 percent_encode-escaped (b ∷ bs) small =
-    λ i. byte_escaped b (All-head IsByte b bs small) i ++ percent_encode-escaped bs (All-tail IsByte b bs small) i
+    λ i. byte_escaped b (All-head IsByte b bs small) i ++ percent_encode-escaped bs
+    (All-tail IsByte b bs small) i
 
 -- ---- reading
 
@@ -101,7 +113,8 @@ percent_decode-decoded [] = refl
 percent_decode-decoded (b ∷ []) = refl
 percent_decode-decoded (b ∷ c ∷ []) = refl
 percent_decode-decoded (b ∷ high ∷ low ∷ rest) =
-    elim (is_escape b high low) as (λ t. is_escape b high low ≡ t → crate.percent_decode (b ∷ high ∷ low ∷ rest) ≡ percent_decoded (b ∷ high ∷ low ∷ rest)) [
+    elim (is_escape b high low) as (λ t. is_escape b high low ≡ t → crate.percent_decode
+    (b ∷ high ∷ low ∷ rest) ≡ percent_decoded (b ∷ high ∷ low ∷ rest)) [
       | true ↦ λ t.
           let high_same = hex_same high (high_is_hex b high low t) in
           let low_same = hex_same low (low_is_hex b high low t) in
@@ -119,7 +132,8 @@ percent_decode-decoded (b ∷ high ∷ low ∷ rest) =
 -- an escaped text has bytes from 33 to 126 alone
 pub graphic-escaped : (bs : List ℕ) → All IsByte bs → All (λ b. (33 ≤ b) × (b ≤ 126)) (escaped bs)
 graphic-escaped bs small =
-    subst (All (λ b. (33 ≤ b) × (b ≤ 126))) (percent_encode-escaped bs small) (All-percent_encode (λ b. (33 ≤ b) × (b ≤ 126)) ESCAPED bs kept digit)
+    subst (All (λ b. (33 ≤ b) × (b ≤ 126))) (percent_encode-escaped bs small)
+    (All-percent_encode (λ b. (33 ≤ b) × (b ≤ 126)) ESCAPED bs kept digit)
   where
     kept : (b : ℕ) → should_percent_encode ESCAPED b ≡ false → (33 ≤ b) × (b ≤ 126)
     kept b outside = let ascii = ascii_from_kept ESCAPED b outside in
@@ -132,4 +146,5 @@ graphic-escaped bs small =
 -- and stands for the text
 pub percent_decoded-escaped : (bs : List ℕ) → All IsByte bs → percent_decoded (escaped bs) ≡ bs
 percent_decoded-escaped bs small =
-    sym (percent_decode-decoded (escaped bs)) ∙ ap crate.percent_decode (sym (percent_encode-escaped bs small)) ∙ round_trip ESCAPED bs refl small
+    sym (percent_decode-decoded (escaped bs)) ∙ ap crate.percent_decode
+    (sym (percent_encode-escaped bs small)) ∙ round_trip ESCAPED bs refl small

@@ -14,28 +14,33 @@ pub is_name-from_IsName : (bytes : List ℕ) → IsName bytes → is_name bytes 
 is_name-from_IsName bytes name =
     let short : 1 ≤ length bytes = name.length.0 in
     let long : length bytes ≤ 4096 = name.length.1 in
-    let fits : (nat_le 1 (length bytes) && nat_le (length bytes) longest_name) ≡ true = grind (arith, nat_tests) in
+    let fits : (nat_le 1 (length bytes) && nat_le (length bytes) longest_name) ≡ true =
+    grind (arith, nat_tests) in
     and_from (is_utf8 bytes) _ (is_utf8-from_IsUtf8 bytes name.utf8) fits
 
 -- and what passes it is a name
 pub IsName-from_is_name : (bytes : List ℕ) → is_name bytes ≡ true → IsName bytes
 IsName-from_is_name bytes test =
-    let parts = and_parts (is_utf8 bytes) (nat_le 1 (length bytes) && nat_le (length bytes) longest_name) test in
+    let parts = and_parts (is_utf8 bytes) (nat_le 1 (length bytes) && nat_le (length bytes)
+    longest_name) test in
     let fits = parts.1 in
     let short : 1 ≤ length bytes = grind (arith, nat_tests) in
     let long : length bytes ≤ 4096 = grind (arith, nat_tests) in
     record { utf8 = IsUtf8-from_is_utf8 bytes parts.0; length = (short, long) }
 
 -- a token that decodes to a name stands for it
-pub name_of_token-name : (token : List ℕ) → IsName (percent_decoded token) → name_of_token token ≡ Some (percent_decoded token)
+pub name_of_token-name : (token : List ℕ) → IsName (percent_decoded token)
+    → name_of_token token ≡ Some (percent_decoded token)
 unfolding name_of_token
 name_of_token-name token name = cond-true _ _ _ (is_name-from_IsName (percent_decoded token) name)
 
 -- and one that decodes to no name stands for none
-pub name_of_token-none : (token : List ℕ) → ¬ (IsName (percent_decoded token)) → name_of_token token ≡ None
+pub name_of_token-none : (token : List ℕ) → ¬ (IsName (percent_decoded token))
+    → name_of_token token ≡ None
 unfolding name_of_token
 name_of_token-none token none =
-    elim (is_name (percent_decoded token)) as (λ t. is_name (percent_decoded token) ≡ t → name_of_token token ≡ None) [
+    elim (is_name (percent_decoded token)) as (λ t. is_name (percent_decoded token) ≡ t
+    → name_of_token token ≡ None) [
       | true ↦ λ t. absurd (none (IsName-from_is_name (percent_decoded token) t))
       | false ↦ λ t. cond-false _ _ _ t
     ] refl

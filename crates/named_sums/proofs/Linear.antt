@@ -24,7 +24,8 @@ put_first e entries None = refl
 put_first e entries (Some q) = refl
 
 put_later : (e : List ℕ × Rational) (entries : Entries) (term : NamedTerm) (o : Option Rational)
-    → option_and_then (λ ts. Some (record { variable = e.0; coefficient = e.1 } ∷ ts)) (put entries term o)
+    → option_and_then (λ ts. Some (record { variable = e.0; coefficient = e.1 } ∷ ts))
+    (put entries term o)
     ≡ option_map (λ q. terms_in (e ∷ insert_entry bytes_eq entries term.variable q)) o
 unfolding put
 put_later e entries term None = refl
@@ -54,16 +55,21 @@ with_term_entries (e ∷ entries) term =
         (coefficient_with (lookup (bytes_eq term.variable) entries) term.coefficient))
 
 -- a term of a variable that has none yet
-pub with_term_last : (ts : List NamedTerm) (term : NamedTerm) → has_variable ts term.variable ≡ false → with_term ts term ≡ Some (ts ++ term ∷ [])
+pub with_term_last : (ts : List NamedTerm) (term : NamedTerm) → has_variable ts term.variable
+    ≡ false → with_term ts term ≡ Some (ts ++ term ∷ [])
 with_term_last [] term absent = refl
-with_term_last (t ∷ ts) term absent = at (bytes_eq term.variable t.variable) refl (with_term_last ts term)
+with_term_last (t ∷ ts) term absent =
+    at (bytes_eq term.variable t.variable) refl (with_term_last ts term)
   where
-    at : (b : Bool) → bytes_eq term.variable t.variable ≡ b → (has_variable ts term.variable ≡ false → with_term ts term ≡ Some (ts ++ term ∷ []))
+    at : (b : Bool) → bytes_eq term.variable t.variable ≡ b
+        → (has_variable ts term.variable ≡ false → with_term ts term ≡ Some (ts ++ term ∷ []))
         → with_term (t ∷ ts) term ≡ Some (t ∷ ts ++ term ∷ [])
     at true same rest = let bad : true ≡ false = rw same at absent in cc
-    at false other rest = rw other (ap (option_and_then (λ others. Some (t ∷ others))) (rest (rw other at absent)))
+    at false other rest =
+        rw other (ap (option_and_then (λ others. Some (t ∷ others))) (rest (rw other at absent)))
 
-pub sum_of_is : {E : Type 0} (p q : Rational) (r : Result Rational E) → OkIff r (SumFits p q) (p +ℚ q) → result_ok r ≡ sum_of p q
+pub sum_of_is : {E : Type 0} (p q : Rational) (r : Result Rational E)
+    → OkIff r (SumFits p q) (p +ℚ q) → result_ok r ≡ sum_of p q
 unfolding sum_of
 sum_of_is p q (Ok x) h =
     ap Some h.1 ∙ sym (ap (λ b. cond b (Some (p +ℚ q)) None) ((sum_fits_Decides p q).1 h.0))

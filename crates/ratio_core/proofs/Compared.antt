@@ -13,7 +13,8 @@ use Rattle.ratio_core.specs.RationalLaws.{rational_eq_Decides}
 pub eq_by_den : (p q : Rational) → p.num ≡ q.num → nat_eq p.den q.den ≡ rational_eq p q
 eq_by_den p q e =
     same_from_decides (nat_eq p.den q.den) (rational_eq p q)
-    (Decides-like (nat_eq p.den q.den) (λ f. same_parts p q (λ i. (e i, f i))) (λ f. ap (λ r. r.den) f) (Decides-eqb p.den q.den))
+    (Decides-like (nat_eq p.den q.den) (λ f. same_parts p q (λ i. (e i, f i)))
+    (λ f. ap (λ r. r.den) f) (Decides-eqb p.den q.den))
     (rational_eq_Decides p q)
 
 pub not_eq_by_num : (p q : Rational) → ¬ (p.num ≡ q.num) → false ≡ rational_eq p q
@@ -25,12 +26,15 @@ not_eq_by_num p q n = decided (rational_eq p q) refl
 
 -- ---- the order, by the signs
 
-up_lem : (a b : ℕ) (r : Ordering) → MatchOrdering r (a < b) (a ≡ b) (b < a) → MatchOrdering r (pos a <ℤ pos b) (pos a ≡ pos b) (pos b <ℤ pos a)
+up_lem : (a b : ℕ) (r : Ordering) → MatchOrdering r (a < b) (a ≡ b) (b < a)
+    → MatchOrdering r (pos a <ℤ pos b) (pos a ≡ pos b) (pos b <ℤ pos a)
 up_lem a b Less h = omega (arith, ints)
 up_lem a b Equal h = ap pos h
 up_lem a b Greater h = omega (arith, ints)
 
-down_lem : (a b : ℕ) (r : Ordering) → MatchOrdering r (b < a) (b ≡ a) (a < b) → MatchOrdering r (neg_ℤ (pos a) <ℤ neg_ℤ (pos b)) (neg_ℤ (pos a) ≡ neg_ℤ (pos b)) (neg_ℤ (pos b) <ℤ neg_ℤ (pos a))
+down_lem : (a b : ℕ) (r : Ordering) → MatchOrdering r (b < a) (b ≡ a) (a < b)
+    → MatchOrdering r (neg_ℤ (pos a) <ℤ neg_ℤ (pos b)) (neg_ℤ (pos a) ≡ neg_ℤ (pos b))
+    (neg_ℤ (pos b) <ℤ neg_ℤ (pos a))
 down_lem a b Less h = omega (arith, ints)
 down_lem a b Equal h = ap (λ n. neg_ℤ (pos n)) (sym h)
 down_lem a b Greater h = omega (arith, ints)
@@ -38,13 +42,16 @@ down_lem a b Greater h = omega (arith, ints)
 no_sign : (a : ℕ) {P : Type 0} → is_negative (pos a) ≡ true → P
 no_sign a e = absurd (true≢false (sym e ∙ not_below_zero a))
 
-pub above_lem : (m n : ℤ) (b d : ℕ) (r : Ordering) → false ≡ is_negative m → false ≡ is_negative n → r ≡ nat_cmp (unsigned_abs m * d) (unsigned_abs n * b) → r ≡ int_cmp (m *ℤ pos d) (n *ℤ pos b)
+pub above_lem : (m n : ℤ) (b d : ℕ) (r : Ordering) → false ≡ is_negative m → false ≡ is_negative n
+    → r ≡ nat_cmp (unsigned_abs m * d) (unsigned_abs n * b) → r ≡ int_cmp (m *ℤ pos d) (n *ℤ pos b)
 above_lem (pos a) (pos c) b d r e f h = int_cmp_is _ _ r (up_lem (a * d) (c * b) r (ranked _ _ r h))
 above_lem (pos a) (negsuc c) b d r e f h = absurd (true≢false (sym f))
 above_lem (negsuc a) n b d r e f h = absurd (true≢false (sym e))
 
-pub below_lem : (m n : ℤ) (b d : ℕ) (r : Ordering) → true ≡ is_negative m → true ≡ is_negative n → r ≡ nat_cmp (unsigned_abs n * b) (unsigned_abs m * d) → r ≡ int_cmp (m *ℤ pos d) (n *ℤ pos b)
-below_lem (negsuc a) (negsuc c) b d r e f h = int_cmp_is _ _ r (down_lem (suc a * d) (suc c * b) r (ranked _ _ r h))
+pub below_lem : (m n : ℤ) (b d : ℕ) (r : Ordering) → true ≡ is_negative m → true ≡ is_negative n
+    → r ≡ nat_cmp (unsigned_abs n * b) (unsigned_abs m * d) → r ≡ int_cmp (m *ℤ pos d) (n *ℤ pos b)
+below_lem (negsuc a) (negsuc c) b d r e f h =
+    int_cmp_is _ _ r (down_lem (suc a * d) (suc c * b) r (ranked _ _ r h))
 below_lem (pos a) n b d r e f h = no_sign a (sym e)
 below_lem (negsuc a) (pos c) b d r e f h = no_sign c (sym f)
 
@@ -52,17 +59,21 @@ pos_lem : (a d : ℕ) → 0 < d → 0 < suc a * d
 pos_lem a (suc d) h = omega arith
 pos_lem a zero h = absurd (omega arith)
 
-pub apart_lem : (m n : ℤ) (b d : ℕ) → 0 < d → true ≡ is_negative m → false ≡ is_negative n → (m *ℤ pos d) <ℤ (n *ℤ pos b)
-apart_lem (negsuc a) (pos c) b d h e f = let above : 0 < suc a * d = pos_lem a d h in omega (arith, ints)
+pub apart_lem : (m n : ℤ) (b d : ℕ) → 0 < d → true ≡ is_negative m → false ≡ is_negative n
+    → (m *ℤ pos d) <ℤ (n *ℤ pos b)
+apart_lem (negsuc a) (pos c) b d h e f =
+    let above : 0 < suc a * d = pos_lem a d h in omega (arith, ints)
 apart_lem (pos a) n b d h e f = no_sign a (sym e)
 apart_lem (negsuc a) (negsuc c) b d h e f = absurd (true≢false (sym f))
 
 module _ (p q : Rational) where
-  pub cmp_above : (r : Ordering) → false ≡ is_negative p.num → false ≡ is_negative q.num → r ≡ nat_cmp (unsigned_abs p.num * q.den) (unsigned_abs q.num * p.den) → r ≡ rational_cmp p q
+  pub cmp_above : (r : Ordering) → false ≡ is_negative p.num → false ≡ is_negative q.num
+      → r ≡ nat_cmp (unsigned_abs p.num * q.den) (unsigned_abs q.num * p.den) → r ≡ rational_cmp p q
   unfolding rational_cmp
   cmp_above r = above_lem p.num q.num p.den q.den r
 
-  pub cmp_below : (r : Ordering) → true ≡ is_negative p.num → true ≡ is_negative q.num → r ≡ nat_cmp (unsigned_abs q.num * p.den) (unsigned_abs p.num * q.den) → r ≡ rational_cmp p q
+  pub cmp_below : (r : Ordering) → true ≡ is_negative p.num → true ≡ is_negative q.num
+      → r ≡ nat_cmp (unsigned_abs q.num * p.den) (unsigned_abs p.num * q.den) → r ≡ rational_cmp p q
   unfolding rational_cmp
   cmp_below r = below_lem p.num q.num p.den q.den r
 
@@ -70,18 +81,23 @@ module _ (p q : Rational) where
   unfolding rational_cmp
   cmp_less e f = int_cmp_is _ _ Less (apart_lem p.num q.num p.den q.den q.reduced.0 e f)
 
-  pub cmp_greater : false ≡ is_negative p.num → true ≡ is_negative q.num → Greater ≡ rational_cmp p q
+  pub cmp_greater : false ≡ is_negative p.num → true ≡ is_negative q.num
+      → Greater ≡ rational_cmp p q
   unfolding rational_cmp
   cmp_greater e f = int_cmp_is _ _ Greater (apart_lem q.num p.num q.den p.den p.reduced.0 f e)
 
-pub products_along : (a b c d a' b' c' d' : ℕ) → a ≡ a' → b ≡ b' → c ≡ c' → d ≡ d' → nat_cmp (a * b) (c * d) ≡ nat_cmp (a' * b') (c' * d')
+pub products_along : (a b c d a' b' c' d' : ℕ) → a ≡ a' → b ≡ b' → c ≡ c' → d ≡ d'
+    → nat_cmp (a * b) (c * d) ≡ nat_cmp (a' * b') (c' * d')
 products_along a b c d a' b' c' d' e f g h = λ i. nat_cmp (e i * f i) (g i * h i)
 
 -- a common factor does not change an order
 pub nat_cmp_scaled : (a c k : ℕ) → 0 < k → nat_cmp (a * k) (c * k) ≡ nat_cmp a c
-nat_cmp_scaled a c k h = sym (nat_cmp_is (a * k) (c * k) (nat_cmp a c) (by_order (nat_cmp a c) (ranked a c (nat_cmp a c) refl)))
+nat_cmp_scaled a c k h =
+    sym (nat_cmp_is (a * k) (c * k) (nat_cmp a c)
+    (by_order (nat_cmp a c) (ranked a c (nat_cmp a c) refl)))
   where
-    by_order : (r : Ordering) → MatchOrdering r (a < c) (a ≡ c) (c < a) → MatchOrdering r (a * k < c * k) (a * k ≡ c * k) (c * k < a * k)
+    by_order : (r : Ordering) → MatchOrdering r (a < c) (a ≡ c) (c < a)
+        → MatchOrdering r (a * k < c * k) (a * k ≡ c * k) (c * k < a * k)
     by_order Less l = mul-lt-mul_of_pos_right l h
     by_order Equal e = ap (λ n. n * k) e
     by_order Greater l = mul-lt-mul_of_pos_right l h

@@ -13,12 +13,14 @@ pub coprime_by : (a b : ℕ) → ((e : ℕ) → e ∣ a → e ∣ b → e ≡ 1)
 coprime_by a b h = h (gcd a b) (gcd_is a b).0 (gcd_is a b).1
 
 pub coprime_within : (a b x y : ℕ) → gcd a b ≡ 1 → x ∣ a → y ∣ b → gcd x y ≡ 1
-coprime_within a b x y h k l = coprime_by x y (λ e m n. coprime_at a b e h (dvd_trans e m k) (dvd_trans e n l))
+coprime_within a b x y h k l =
+    coprime_by x y (λ e m n. coprime_at a b e h (dvd_trans e m k) (dvd_trans e n l))
 
 pub coprime_product : (x y z : ℕ) → gcd x z ≡ 1 → gcd y z ≡ 1 → gcd (x * y) z ≡ 1
 coprime_product x y z h k =
     coprime_by (x * y) z (λ e m n.
-    coprime_at y z e k (dvd_from_coprime x e y (coprime_within x z x e h (dvd_refl x) n) (subst (λ w. e ∣ w) (mul_comm x y) m)) n)
+    coprime_at y z e k (dvd_from_coprime x e y (coprime_within x z x e h (dvd_refl x) n)
+    (subst (λ w. e ∣ w) (mul_comm x y) m)) n)
 
 pub coprime_product_right : (x y z : ℕ) → gcd x y ≡ 1 → gcd x z ≡ 1 → gcd x (y * z) ≡ 1
 coprime_product_right x y z h k =
@@ -33,32 +35,46 @@ quotient_divides a g h = subst (λ w. (a / g) ∣ w) (div-mul_cancel g h) (dvd-m
 sub_size : (a b : ℕ) → unsigned_abs (sub_ℕ a b) ≡ (a - b) + (b - a)
 sub_size a b = by_test (ltb a b) refl
   where
-    by_test : (t : Bool) → ltb a b ≡ t → unsigned_abs (cond t (negsuc (b - suc a)) (pos (a - b))) ≡ (a - b) + (b - a)
+    by_test : (t : Bool) → ltb a b ≡ t → unsigned_abs (cond t (negsuc (b - suc a)) (pos (a - b)))
+        ≡ (a - b) + (b - a)
     by_test true e = let below : a < b = ltb-true a b e in omega arith
     by_test false e = let above : b ≤ a = ltb-false a b e in omega arith
 
-size_lem : (x y : ℤ) → (unsigned_abs (x +ℤ y) ≡ unsigned_abs x + unsigned_abs y) ⊎ ((unsigned_abs x ≡ unsigned_abs y + unsigned_abs (x +ℤ y)) ⊎ (unsigned_abs y ≡ unsigned_abs x + unsigned_abs (x +ℤ y)))
+size_lem : (x y : ℤ) → (unsigned_abs (x +ℤ y) ≡ unsigned_abs x + unsigned_abs y)
+    ⊎ ((unsigned_abs x ≡ unsigned_abs y + unsigned_abs (x +ℤ y)) ⊎ (unsigned_abs y ≡ unsigned_abs
+    x + unsigned_abs (x +ℤ y)))
 size_lem (pos a) (pos b) = inl refl
 size_lem (negsuc a) (negsuc b) = inl (omega arith)
 size_lem (pos a) (negsuc b) = mixed_lem a (suc b) (cases_lt a (suc b))
   where
-    mixed_lem : (a b : ℕ) → (a < b) ⊎ (b ≤ a) → (unsigned_abs (sub_ℕ a b) ≡ a + b) ⊎ ((a ≡ b + unsigned_abs (sub_ℕ a b)) ⊎ (b ≡ a + unsigned_abs (sub_ℕ a b)))
+    mixed_lem : (a b : ℕ) → (a < b) ⊎ (b ≤ a)
+        → (unsigned_abs (sub_ℕ a b) ≡ a + b) ⊎ ((a ≡ b + unsigned_abs (sub_ℕ a b))
+        ⊎ (b ≡ a + unsigned_abs (sub_ℕ a b)))
     mixed_lem a b (inl h) = inr (inr (omega (arith, sub_size a b)))
     mixed_lem a b (inr h) = inr (inl (omega (arith, sub_size a b)))
 size_lem (negsuc a) (pos b) = mixed_lem b (suc a) (cases_lt b (suc a))
   where
-    mixed_lem : (b a : ℕ) → (b < a) ⊎ (a ≤ b) → (unsigned_abs (sub_ℕ b a) ≡ a + b) ⊎ ((a ≡ b + unsigned_abs (sub_ℕ b a)) ⊎ (b ≡ a + unsigned_abs (sub_ℕ b a)))
+    mixed_lem : (b a : ℕ) → (b < a) ⊎ (a ≤ b)
+        → (unsigned_abs (sub_ℕ b a) ≡ a + b) ⊎ ((a ≡ b + unsigned_abs (sub_ℕ b a))
+        ⊎ (b ≡ a + unsigned_abs (sub_ℕ b a)))
     mixed_lem b a (inl h) = inr (inl (omega (arith, sub_size b a)))
     mixed_lem b a (inr h) = inr (inr (omega (arith, sub_size b a)))
 
 -- what divides a sum and one of its terms divides the other
-pub divides_term : (e : ℕ) (x y : ℤ) → e ∣ unsigned_abs (x +ℤ y) → e ∣ unsigned_abs y → e ∣ unsigned_abs x
+pub divides_term : (e : ℕ) (x y : ℤ) → e ∣ unsigned_abs (x +ℤ y) → e ∣ unsigned_abs y
+    → e ∣ unsigned_abs x
 divides_term e x y h k = by_size (size_lem x y)
   where
     add_lem : (a b : ℕ) → a + b ≡ b + a
     add_lem a b = omega arith
 
-    by_size : (unsigned_abs (x +ℤ y) ≡ unsigned_abs x + unsigned_abs y) ⊎ ((unsigned_abs x ≡ unsigned_abs y + unsigned_abs (x +ℤ y)) ⊎ (unsigned_abs y ≡ unsigned_abs x + unsigned_abs (x +ℤ y))) → e ∣ unsigned_abs x
-    by_size (inl s) = (dvd-add_iff_right e k).1 (subst (λ w. e ∣ w) (s ∙ add_lem (unsigned_abs x) (unsigned_abs y)) h)
+    by_size : (unsigned_abs (x +ℤ y) ≡ unsigned_abs x + unsigned_abs y)
+        ⊎ ((unsigned_abs x ≡ unsigned_abs y + unsigned_abs (x +ℤ y)) ⊎ (unsigned_abs
+        y ≡ unsigned_abs x + unsigned_abs (x +ℤ y))) → e ∣ unsigned_abs x
+    by_size (inl s) =
+        (dvd-add_iff_right e k).1 (subst (λ w. e ∣ w) (s
+        ∙ add_lem (unsigned_abs x) (unsigned_abs y)) h)
     by_size (inr (inl s)) = subst (λ w. e ∣ w) (sym s) (dvd-add e k h)
-    by_size (inr (inr s)) = (dvd-add_iff_right e h).1 (subst (λ w. e ∣ w) (s ∙ add_lem (unsigned_abs x) (unsigned_abs (x +ℤ y))) k)
+    by_size (inr (inr s)) =
+        (dvd-add_iff_right e h).1 (subst (λ w. e ∣ w) (s
+        ∙ add_lem (unsigned_abs x) (unsigned_abs (x +ℤ y))) k)

@@ -10,11 +10,15 @@ use Rattle.ratio_core.specs.Text.{is_part, part_of}
 -- what the digits give after those of the value
 abbrev pub part_after : ℕ → List ℕ → Option ℕ
 part_after value [] = Some value
-part_after value (c ∷ cs) = cond (is_ascii_digit c && nat_lt (value * 10 + (c - 48)) (2 ^ 127)) (part_after (value * 10 + (c - 48)) cs) None
+part_after value (c ∷ cs) =
+    cond (is_ascii_digit c && nat_lt (value * 10 + (c - 48)) (2 ^ 127))
+    (part_after (value * 10 + (c - 48)) cs) None
 
 -- the same in the words of the definition
 abbrev written : ℕ → List ℕ → Option ℕ
-written value ds = cond (list_all is_ascii_digit ds && nat_lt (digits_value_after 10 value ds) (2 ^ 127)) (Some (digits_value_after 10 value ds)) None
+written value ds =
+    cond (list_all is_ascii_digit ds && nat_lt (digits_value_after 10 value ds) (2 ^ 127))
+    (Some (digits_value_after 10 value ds)) None
 
 digit_is : (c : ℕ) → is_ascii_digit c ≡ true → digit_value c ≡ c - 48
 digit_is c e = grind (arith, nat_tests)
@@ -26,16 +30,21 @@ grows value (c ∷ cs) = omega (arith, grows (value * 10 + digit_value c) cs)
 past : (value : ℕ) (ds : List ℕ) → 2 ^ 127 ≤ value → written value ds ≡ None
 past value ds h =
     let below : 2 ^ 127 ≤ digits_value_after 10 value ds = omega (arith, grows value ds) in
-    ap (λ t. cond t (Some (digits_value_after 10 value ds)) None) (and_right (list_all is_ascii_digit ds) _ (le-ltb _ _ below))
+    ap (λ t. cond t (Some (digits_value_after 10 value ds)) None)
+    (and_right (list_all is_ascii_digit ds) _ (le-ltb _ _ below))
 
-step_lem : (value c : ℕ) (cs : List ℕ) (b t : Bool) → ((v : ℕ) → v < 2 ^ 127 → part_after v cs ≡ written v cs) → is_ascii_digit c ≡ b → nat_lt (value * 10 + (c - 48)) (2 ^ 127) ≡ t → part_after value (c ∷ cs) ≡ written value (c ∷ cs)
+step_lem : (value c : ℕ) (cs : List ℕ) (b t : Bool)
+    → ((v : ℕ) → v < 2 ^ 127 → part_after v cs ≡ written v cs) → is_ascii_digit c ≡ b
+    → nat_lt (value * 10 + (c - 48)) (2 ^ 127) ≡ t
+    → part_after value (c ∷ cs) ≡ written value (c ∷ cs)
 step_lem value c cs false t rest e f = rw (e) refl
 step_lem value c cs true false rest e f =
     rw (e, f) (sym (rw (digit_is c e) (past (value * 10 + (c - 48)) cs (ltb-false _ _ f))))
 step_lem value c cs true true rest e f =
     rw (e, f) (rw (digit_is c e) (rest (value * 10 + (c - 48)) (ltb-true _ _ f)))
 
-pub part_after_is : (value : ℕ) (ds : List ℕ) → value < 2 ^ 127 → part_after value ds ≡ written value ds
+pub part_after_is : (value : ℕ) (ds : List ℕ) → value < 2 ^ 127
+    → part_after value ds ≡ written value ds
 part_after_is value [] h = sym (ap (λ t. cond t (Some value) None) (lt-ltb value (2 ^ 127) h))
 part_after_is value (c ∷ cs) h = step_lem value c cs _ _ (λ v k. part_after_is v cs k) refl refl
 
@@ -51,16 +60,25 @@ part_of_empty (c ∷ cs) h = absurd (omega arith)
 
 -- ---- the loop's returns
 
-refused_lem : (value c : ℕ) (cs : List ℕ) → (is_ascii_digit c ≡ false) ⊎ (2 ^ 127 ≤ value * 10 + (c - 48)) → part_after value (c ∷ cs) ≡ None
+refused_lem : (value c : ℕ) (cs : List ℕ)
+    → (is_ascii_digit c ≡ false) ⊎ (2 ^ 127 ≤ value * 10 + (c - 48))
+    → part_after value (c ∷ cs) ≡ None
 refused_lem value c cs (inl e) = rw (e) refl
-refused_lem value c cs (inr h) = ap (λ t. cond t (part_after (value * 10 + (c - 48)) cs) None) (and_right (is_ascii_digit c) _ (le-ltb _ _ h))
+refused_lem value c cs (inr h) =
+    ap (λ t. cond t (part_after (value * 10 + (c - 48)) cs) None) (and_right (is_ascii_digit c) _
+    (le-ltb _ _ h))
 
-module _ (text : List ℕ) (value i : ℕ) (some : ¬ (length text ≡ 0)) (same : part_after value (drop i text) ≡ part_after 0 text) where
+module _ (text : List ℕ) (value i : ℕ) (some : ¬ (length text ≡ 0))
+    (same : part_after value (drop i text) ≡ part_after 0 text) where
   whole_lem : part_after value (drop i text) ≡ part_of text
   whole_lem = same ∙ sym (part_of_after text (omega arith))
 
-  pub part_refused : i < length text → (is_ascii_digit (get_or text i 0) ≡ false) ⊎ (2 ^ 127 ≤ value * 10 + (get_or text i 0 - 48)) → None ≡ part_of text
-  part_refused h k = sym (refused_lem value (get_or text i 0) (drop (suc i) text) k) ∙ sym (ap (part_after value) (drop-cons text i 0 h)) ∙ whole_lem
+  pub part_refused : i < length text
+      → (is_ascii_digit (get_or text i 0) ≡ false) ⊎ (2 ^ 127 ≤ value * 10 + (get_or text i 0 - 48))
+      → None ≡ part_of text
+  part_refused h k =
+      sym (refused_lem value (get_or text i 0) (drop (suc i) text) k)
+      ∙ sym (ap (part_after value) (drop-cons text i 0 h)) ∙ whole_lem
 
   pub part_read : length text ≤ i → Some value ≡ part_of text
   part_read h = sym (ap (part_after value) (drop_of_length-le text h)) ∙ whole_lem

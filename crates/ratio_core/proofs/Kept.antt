@@ -1,4 +1,5 @@
--- A kept fraction against the number that it stands for: n and d are the parts kept, and q is the number.
+-- A kept fraction against the number that it stands for: n and d are the parts kept, and q is the
+-- number.
 use Rattle.std.proofs.Common.{◌≡◌, ℕ, zero, suc, ◌^◌, ◌<◌, Bool, true, false, ℤ, pos, negsuc, neg_ℤ, ◌-ℤ◌, unsigned_abs, sym, ◌∙◌, ap, subst, arith, refl, to_z, of_z, SFits, to_z-of_z}
 use Rattle.std.proofs.lemmas.Int.{ints}
 use mir.Syntax.{w128}
@@ -20,7 +21,11 @@ module _ (n : ℤ) (d : ℕ) (q : Rational) (view : reduce n d ≡ q) (kept : Is
   kept_den = sym (ap (λ e. e.1) (reduce_reduced n d kept.reduced)) ∙ ap (λ r. r.den) view
 
   pub kept_fits : Fits q
-  kept_fits = record { num = subst (λ m. unsigned_abs m < 2 ^ 127) kept_num kept.num; den = subst (λ m. m < 2 ^ 127) kept_den kept.den }
+  kept_fits =
+      record {
+        num = subst (λ m. unsigned_abs m < 2 ^ 127) kept_num kept.num;
+        den = subst (λ m. m < 2 ^ 127) kept_den kept.den;
+      }
 
   pub kept_range : SFits w128 n
   kept_range = omega (arith, ints, kept.num)
@@ -34,7 +39,8 @@ module _ (n : ℤ) (d : ℕ) (q : Rational) (view : reduce n d ≡ q) (kept : Is
       let bits : to_z w128 (of_z w128 n) ≡ n = to_z-of_z kept_range in
       let inner : pos 0 -ℤ to_z w128 (of_z w128 n) ≡ neg_ℤ n = omega (arith, ints, kept.num) in
       let range : SFits w128 (neg_ℤ n) = omega (arith, ints, kept.num) in
-      let num : to_z w128 (of_z w128 (pos 0 -ℤ to_z w128 (of_z w128 n))) ≡ neg_ℤ q.num = ap (λ z. to_z w128 (of_z w128 z)) inner ∙ to_z-of_z range ∙ ap neg_ℤ kept_num in
+      let num : to_z w128 (of_z w128 (pos 0 -ℤ to_z w128 (of_z w128 n))) ≡ neg_ℤ q.num =
+      ap (λ z. to_z w128 (of_z w128 z)) inner ∙ to_z-of_z range ∙ ap neg_ℤ kept_num in
       ap (λ z. reduce z d) num ∙ ap (reduce (neg_ℤ q.num)) kept_den
 
   pub kept_neg_stored : IsStored (to_z w128 (of_z w128 (pos 0 -ℤ to_z w128 (of_z w128 n)))) d
@@ -42,7 +48,8 @@ module _ (n : ℤ) (d : ℕ) (q : Rational) (view : reduce n d ≡ q) (kept : Is
       let bits : to_z w128 (of_z w128 n) ≡ n = to_z-of_z kept_range in
       let inner : pos 0 -ℤ to_z w128 (of_z w128 n) ≡ neg_ℤ n = omega (arith, ints, kept.num) in
       let range : SFits w128 (neg_ℤ n) = omega (arith, ints, kept.num) in
-      let num : to_z w128 (of_z w128 (pos 0 -ℤ to_z w128 (of_z w128 n))) ≡ neg_ℤ n = ap (λ z. to_z w128 (of_z w128 z)) inner ∙ to_z-of_z range in
+      let num : to_z w128 (of_z w128 (pos 0 -ℤ to_z w128 (of_z w128 n))) ≡ neg_ℤ n =
+      ap (λ z. to_z w128 (of_z w128 z)) inner ∙ to_z-of_z range in
       subst (λ z. IsStored z d) (sym num) (neg_stored n d kept)
     where
       size_lem : (z : ℤ) → unsigned_abs z ≡ unsigned_abs (neg_ℤ z)
@@ -101,67 +108,88 @@ module _ (s : Bool) (n d g : ℕ) (common : g ≡ gcd n d) (above : 0 < d) where
   divisor_is = ap (λ m. gcd m d) (unsigned_abs-signed s n) ∙ sym common
 
   pub lowest_num : (reduce (signed s n) d).num ≡ signed s (n / g)
-  lowest_num = reduce-num (signed s n) d above ∙ ap (λ x. int_div (signed s n) (pos x)) divisor_is ∙ int_div-signed s n g
+  lowest_num =
+      reduce-num (signed s n) d above ∙ ap (λ x. int_div (signed s n) (pos x)) divisor_is
+      ∙ int_div-signed s n g
 
   pub lowest_den : (reduce (signed s n) d).den ≡ d / g
   lowest_den = reduce-den (signed s n) d above ∙ ap (λ x. d / x) divisor_is
 
   pub lowest_same : reduce (signed s (n / g)) (d / g) ≡ reduce (signed s n) d
-  lowest_same = sym (ap (λ x. reduce x (d / g)) lowest_num) ∙ sym (ap (reduce (reduce (signed s n) d).num) lowest_den) ∙ reduce_itself (reduce (signed s n) d)
+  lowest_same =
+      sym (ap (λ x. reduce x (d / g)) lowest_num)
+      ∙ sym (ap (reduce (reduce (signed s n) d).num) lowest_den)
+      ∙ reduce_itself (reduce (signed s n) d)
 
   lowest_size : unsigned_abs (reduce (signed s n) d).num ≡ n / g
   lowest_size = ap unsigned_abs lowest_num ∙ unsigned_abs-signed s (n / g)
 
   pub lowest_stored : n / g < 2 ^ 127 → d / g < 2 ^ 127 → IsStored (signed s (n / g)) (d / g)
   lowest_stored h k = record {
-    reduced = subst (λ x. IsReduced x (d / g)) lowest_num (subst (IsReduced (reduce (signed s n) d).num) lowest_den (reduce (signed s n) d).reduced);
+    reduced = subst (λ x. IsReduced x (d / g)) lowest_num
+        (subst (IsReduced (reduce (signed s n) d).num) lowest_den (reduce (signed s n) d).reduced);
     num = omega (arith, unsigned_abs-signed s (n / g), h);
     den = k;
   }
 
   pub lowest_fits : n / g < 2 ^ 127 → d / g < 2 ^ 127 → Fits (reduce (signed s n) d)
-  lowest_fits h k = record { num = omega (arith, lowest_size, h); den = omega (arith, lowest_den, k) }
+  lowest_fits h k =
+      record { num = omega (arith, lowest_size, h); den = omega (arith, lowest_den, k) }
 
   pub lowest_refuses : (2 ^ 127 ≤ n / g) ⊎ (2 ^ 127 ≤ d / g) → ¬ Fits (reduce (signed s n) d)
   lowest_refuses (inl h) f = omega (arith, lowest_size, h, f.num)
   lowest_refuses (inr h) f = omega (arith, lowest_den, h, f.den)
 
 -- the same, of the quotients as the code makes them
-module _ (s : Bool) (n d g size den : ℕ) (common : g ≡ gcd n d) (above : 0 < d) (size_is : size ≡ n / g) (den_is : den ≡ d / g) where
+module _ (s : Bool) (n d g size den : ℕ) (common : g ≡ gcd n d) (above : 0 < d)
+    (size_is : size ≡ n / g) (den_is : den ≡ d / g) where
   pub made_stored : size < 2 ^ 127 → den < 2 ^ 127 → IsStored (signed s size) den
   made_stored h k =
       subst (λ x. IsStored (signed s x) den) (sym size_is)
-      (subst (IsStored (signed s (n / g))) (sym den_is) (lowest_stored s n d g common above (subst (λ x. x < 2 ^ 127) size_is h) (subst (λ x. x < 2 ^ 127) den_is k)))
+      (subst (IsStored (signed s (n / g))) (sym den_is) (lowest_stored s n d g common above
+      (subst (λ x. x < 2 ^ 127) size_is h) (subst (λ x. x < 2 ^ 127) den_is k)))
 
   pub made_same : reduce (signed s size) den ≡ reduce (signed s n) d
   made_same = ap₂ (λ x y. reduce (signed s x) y) size_is den_is ∙ lowest_same s n d g common above
 
   pub made_fits : size < 2 ^ 127 → den < 2 ^ 127 → Fits (reduce (signed s n) d)
-  made_fits h k = lowest_fits s n d g common above (subst (λ x. x < 2 ^ 127) size_is h) (subst (λ x. x < 2 ^ 127) den_is k)
+  made_fits h k =
+      lowest_fits s n d g common above (subst (λ x. x < 2 ^ 127) size_is h)
+      (subst (λ x. x < 2 ^ 127) den_is k)
 
   pub made_refuses : (2 ^ 127 ≤ size) ⊎ (2 ^ 127 ≤ den) → ¬ Fits (reduce (signed s n) d)
-  made_refuses (inl h) = lowest_refuses s n d g common above (inl (subst (λ x. 2 ^ 127 ≤ x) size_is h))
-  made_refuses (inr h) = lowest_refuses s n d g common above (inr (subst (λ x. 2 ^ 127 ≤ x) den_is h))
+  made_refuses (inl h) =
+      lowest_refuses s n d g common above (inl (subst (λ x. 2 ^ 127 ≤ x) size_is h))
+  made_refuses (inr h) =
+      lowest_refuses s n d g common above (inr (subst (λ x. 2 ^ 127 ≤ x) den_is h))
 
 -- ---- a fraction by the signs of its parts
 
 not_below_zero : (a : ℕ) → int_lt (pos a) (pos 0) ≡ false
 not_below_zero a = le-ltb a 0 zero-le
 
-signs_lem : (n d : ℤ) → reduce (signed (not (beq (int_lt n (pos 0)) (int_lt d (pos 0)))) (unsigned_abs n)) (unsigned_abs d) ≡ fraction n d
+signs_lem : (n d : ℤ) → reduce (signed (not (beq (int_lt n (pos 0)) (int_lt d (pos 0))))
+    (unsigned_abs n)) (unsigned_abs d) ≡ fraction n d
 unfolding fraction
-signs_lem (pos a) (pos b) = ap₂ (λ s t. reduce (signed (not (beq s t)) a) b) (not_below_zero a) (not_below_zero b)
-signs_lem (pos a) (negsuc b) = ap (λ s. reduce (signed (not (beq s true)) a) (suc b)) (not_below_zero a)
-signs_lem (negsuc a) (pos b) = ap (λ t. reduce (signed (not (beq true t)) (suc a)) b) (not_below_zero b)
+signs_lem (pos a) (pos b) =
+    ap₂ (λ s t. reduce (signed (not (beq s t)) a) b) (not_below_zero a) (not_below_zero b)
+signs_lem (pos a) (negsuc b) =
+    ap (λ s. reduce (signed (not (beq s true)) a) (suc b)) (not_below_zero a)
+signs_lem (negsuc a) (pos b) =
+    ap (λ t. reduce (signed (not (beq true t)) (suc a)) b) (not_below_zero b)
 signs_lem (negsuc a) (negsuc b) = refl
 
 -- the same, of what the code hands on: k and l are the numbers n and d that went to bits and back
-pub fraction_signs : (n d k l : ℤ) (size den : ℕ) → k ≡ n → l ≡ d → size ≡ unsigned_abs k → den ≡ unsigned_abs l → reduce (signed (not (beq (int_lt k (pos 0)) (int_lt l (pos 0)))) size) den ≡ fraction n d
+pub fraction_signs : (n d k l : ℤ) (size den : ℕ) → k ≡ n → l ≡ d → size ≡ unsigned_abs k
+    → den ≡ unsigned_abs l → reduce (signed (not (beq (int_lt k (pos 0)) (int_lt l (pos 0)))) size)
+    den ≡ fraction n d
 fraction_signs n d k l size den e f g h =
-    ap₂ (λ a b. reduce (signed (not (beq (int_lt k (pos 0)) (int_lt l (pos 0)))) a) b) g h ∙ signs_lem k l ∙ ap₂ fraction e f
+    ap₂ (λ a b. reduce (signed (not (beq (int_lt k (pos 0)) (int_lt l (pos 0)))) a) b) g h
+    ∙ signs_lem k l ∙ ap₂ fraction e f
 
 -- an exact answer at one of two equal numbers is one at the other
-pub exact_along : {E P : Type 0} (r : Result Rational E) (p q : Rational) → p ≡ q → P → OkIff r (Fits p) p → OkIff r (P × Fits q) q
+pub exact_along : {E P : Type 0} (r : Result Rational E) (p q : Rational) → p ≡ q → P
+    → OkIff r (Fits p) p → OkIff r (P × Fits q) q
 exact_along (Ok x) p q e h k = ((h, subst Fits e k.0), k.1 ∙ e)
 exact_along (Err x) p q e h k = λ w. k (subst Fits (sym e) w.1)
 

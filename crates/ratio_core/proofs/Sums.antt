@@ -10,13 +10,17 @@ use Rattle.ratio_core.specs.RationalLaws.{reduce_is, reduce_itself, signed_times
 use Rattle.ratio_core.proofs.Coprime.{coprime_at, coprime_by, coprime_product_right, coprime_within, divides_term, quotient_divides}
 use Rattle.ratio_core.proofs.Products.{signed_itself}
 
--- a sum of multiples has no divisor in common with a factor of one, where neither the other factor nor the other multiple has
-apart_lem : (x y : ℤ) (a c d b whole : ℕ) → unsigned_abs x ≡ a * d → unsigned_abs y ≡ c * b → gcd a whole ≡ 1 → b ∣ whole → gcd d b ≡ 1 → gcd (unsigned_abs (x +ℤ y)) b ≡ 1
+-- a sum of multiples has no divisor in common with a factor of one, where neither the other factor
+-- nor the other multiple has
+apart_lem : (x y : ℤ) (a c d b whole : ℕ) → unsigned_abs x ≡ a * d → unsigned_abs y ≡ c * b
+    → gcd a whole ≡ 1 → b ∣ whole → gcd d b ≡ 1 → gcd (unsigned_abs (x +ℤ y)) b ≡ 1
 apart_lem x y a c d b whole hx hy prime within apart =
     coprime_by (unsigned_abs (x +ℤ y)) b (λ e in_sum in_b.
-    let in_y : e ∣ unsigned_abs y = subst (λ w. e ∣ w) (sym hy) (dvd_trans e in_b (dvd-mul_left b c)) in
+    let in_y : e ∣ unsigned_abs y = subst (λ w. e ∣ w) (sym hy)
+    (dvd_trans e in_b (dvd-mul_left b c)) in
     let in_x : e ∣ a * d = subst (λ w. e ∣ w) hx (divides_term e x y in_sum in_y) in
-    let in_a : e ∣ a = dvd_from_coprime d e a (coprime_within d b d e apart (dvd_refl d) in_b) in_x in
+    let in_a : e ∣ a = dvd_from_coprime d e a (coprime_within d b d e apart (dvd_refl d)
+    in_b) in_x in
     coprime_at a whole e prime in_a (dvd_trans e in_b within))
 
 dens_lem : (b d g k h : ℕ) → g ≡ k * h → (b * g) * (d * g) ≡ h * (g * (b * (d * k)))
@@ -52,7 +56,9 @@ module _ (p q : Rational) where
 
   apart : gcd right_part left_part ≡ 1
   unfolding common_divisor
-  apart = gcd_swap (q.den / gcd p.den q.den) (p.den / gcd p.den q.den) ∙ coprime_parts p.den q.den q.reduced.0
+  apart =
+      gcd_swap (q.den / gcd p.den q.den) (p.den / gcd p.den q.den)
+      ∙ coprime_parts p.den q.den q.reduced.0
 
   pub left_size : unsigned_abs (left_term p q) ≡ unsigned_abs p.num * right_part
   unfolding left_term
@@ -65,15 +71,18 @@ module _ (p q : Rational) where
   sum_left : gcd (unsigned_abs (sum_of_terms p q)) left_part ≡ 1
   unfolding sum_of_terms common_divisor
   sum_left =
-      apart_lem (left_term p q) (right_term p q) (unsigned_abs p.num) (unsigned_abs q.num) right_part left_part p.den left_size right_size p.reduced.1
+      apart_lem (left_term p q) (right_term p q) (unsigned_abs p.num) (unsigned_abs q.num)
+      right_part left_part p.den left_size right_size p.reduced.1
       (quotient_divides p.den (gcd p.den q.den) (gcd_is p.den q.den).0) apart
 
   sum_right : gcd (unsigned_abs (sum_of_terms p q)) right_part ≡ 1
   unfolding sum_of_terms common_divisor
   sum_right =
       ap (λ z. gcd (unsigned_abs z) right_part) (+ℤ_comm (left_term p q) (right_term p q))
-      ∙ apart_lem (right_term p q) (left_term p q) (unsigned_abs q.num) (unsigned_abs p.num) left_part right_part q.den right_size left_size q.reduced.1
-      (quotient_divides q.den (gcd p.den q.den) (gcd_is p.den q.den).1) (gcd_swap left_part right_part ∙ apart)
+      ∙ apart_lem (right_term p q) (left_term p q) (unsigned_abs q.num) (unsigned_abs p.num)
+      left_part right_part q.den right_size left_size q.reduced.1
+      (quotient_divides q.den (gcd p.den q.den) (gcd_is p.den q.den).1)
+      (gcd_swap left_part right_part ∙ apart)
 
   last_within : last ∣ common
   last_within = (gcd_is (unsigned_abs (sum_of_terms p q)) common).1
@@ -83,7 +92,8 @@ module _ (p q : Rational) where
   right_over_last =
       let last_pos : 0 < last = gcd_pos (unsigned_abs (sum_of_terms p q)) common common_pos in
       let whole : (right_part * (common / last)) * last ≡ q.den =
-      group_lem right_part (common / last) last ∙ ap (λ k. right_part * k) (div-mul_cancel last last_within) ∙ right_times in
+      group_lem right_part (common / last) last ∙ ap (λ k. right_part * k)
+      (div-mul_cancel last last_within) ∙ right_times in
       ap (λ k. k / last) (sym whole) ∙ mul-div_cancel (right_part * (common / last)) last_pos
     where
       group_lem : (a b c : ℕ) → (a * b) * c ≡ a * (b * c)
@@ -101,13 +111,16 @@ module _ (p q : Rational) where
       ∙ coprime_product_right (size / last) left_part (right_part * (common / last))
       (coprime_within size left_part (size / last) left_part sum_left within (dvd_refl left_part))
       (coprime_product_right (size / last) right_part (common / last)
-      (coprime_within size right_part (size / last) right_part sum_right within (dvd_refl right_part))
+      (coprime_within size right_part (size / last) right_part sum_right within
+      (dvd_refl right_part))
       (coprime_parts size common common_pos))
 
   den_pos : 0 < sum_denominator p q
   unfolding sum_denominator common_divisor
   den_pos =
-      mul-pos (part_pos_left p.den q.den p.reduced.0) (subst (λ k. 0 < k) (sym right_over_last) (mul-pos (part_pos p.den q.den q.reduced.0) (part_pos (unsigned_abs (sum_of_terms p q)) common common_pos)))
+      mul-pos (part_pos_left p.den q.den p.reduced.0) (subst (λ k. 0 < k) (sym right_over_last)
+      (mul-pos (part_pos p.den q.den q.reduced.0) (part_pos (unsigned_abs (sum_of_terms p q))
+      common common_pos)))
     where
       part_pos_left : (a b : ℕ) → 0 < a → 0 < a / gcd a b
       part_pos_left a b h = subst (λ g. 0 < a / g) (gcd_swap b a) (part_pos b a h)
@@ -125,19 +138,28 @@ module _ (p q : Rational) where
     size = unsigned_abs (sum_of_terms p q) / last
 
     pub sum_reduced : IsReduced (signed s size) (sum_denominator p q)
-    sum_reduced = (den_pos, ap (λ x. gcd x (sum_denominator p q)) (unsigned_abs-signed s size) ∙ sum_coprime)
+    sum_reduced =
+        (den_pos, ap (λ x. gcd x (sum_denominator p q)) (unsigned_abs-signed s size) ∙ sum_coprime)
 
-    pub sum_value : p +ℚ q ≡ record { num = signed s size; den = sum_denominator p q; reduced = sum_reduced }
+    pub sum_value : p +ℚ q ≡ record {
+      num = signed s size;
+      den = sum_denominator p q;
+      reduced = sum_reduced;
+    }
     unfolding ◌+ℚ◌ sum_of_terms
     sum_value =
         let s_times : signed s size *ℤ pos last ≡ sum_of_terms p q =
-        signed_times s size last ∙ ap (signed s) (div-mul_cancel last (gcd_is (unsigned_abs (sum_of_terms p q)) common).0) ∙ sum_is in
+        signed_times s size last ∙ ap (signed s)
+        (div-mul_cancel last (gcd_is (unsigned_abs (sum_of_terms p q)) common).0) ∙ sum_is in
         let terms : sum_of_terms p q *ℤ pos common ≡ (p.num *ℤ pos q.den) +ℤ (q.num *ℤ pos p.den) =
         times_add (left_term p q) (right_term p q) common ∙ ap₂ ◌+ℤ◌ left_whole right_whole in
         let inner : ℕ = left_part * (right_part * (common / last)) in
         reduce_is (record { num = signed s size; den = sum_denominator p q; reduced = sum_reduced })
-        ((p.num *ℤ pos q.den) +ℤ (q.num *ℤ pos p.den)) (p.den * q.den) (mul-pos p.reduced.0 q.reduced.0)
-        (ap (λ k. signed s size *ℤ pos k) (ap₂ (λ x y. x * y) (sym left_times) (sym right_times) ∙ dens_lem left_part right_part common (common / last) last (sym (div-mul_cancel last last_within)))
+        ((p.num *ℤ pos q.den) +ℤ (q.num *ℤ pos p.den)) (p.den * q.den)
+        (mul-pos p.reduced.0 q.reduced.0)
+        (ap (λ k. signed s size *ℤ pos k) (ap₂ (λ x y. x * y) (sym left_times) (sym right_times)
+        ∙ dens_lem left_part right_part common (common / last) last
+        (sym (div-mul_cancel last last_within)))
         ∙ sym (times_times (signed s size) last (common * inner))
         ∙ ap (λ z. z *ℤ pos (common * inner)) s_times
         ∙ sym (times_times (sum_of_terms p q) common inner)
@@ -148,7 +170,9 @@ module _ (p q : Rational) where
 refuse_lem : (n m : ℕ) → n ≡ m → ¬ (n < 2 ^ 127) → ¬ (m < 2 ^ 127)
 refuse_lem n m e h k = h (subst (λ x. x < 2 ^ 127) (sym e) k)
 
-module _ (p q : Rational) (pd qd g lo ro ps qs : ℕ) (pd_is : pd ≡ p.den) (qd_is : qd ≡ q.den) (g_is : g ≡ gcd pd qd) (lo_is : lo ≡ pd / g) (ro_is : ro ≡ qd / g) (ps_is : ps ≡ unsigned_abs p.num) (qs_is : qs ≡ unsigned_abs q.num) where
+module _ (p q : Rational) (pd qd g lo ro ps qs : ℕ) (pd_is : pd ≡ p.den) (qd_is : qd ≡ q.den)
+    (g_is : g ≡ gcd pd qd) (lo_is : lo ≡ pd / g) (ro_is : ro ≡ qd / g)
+    (ps_is : ps ≡ unsigned_abs p.num) (qs_is : qs ≡ unsigned_abs q.num) where
   made_common : g ≡ common_divisor p q
   unfolding common_divisor
   made_common = g_is ∙ ap₂ gcd pd_is qd_is
@@ -171,9 +195,14 @@ module _ (p q : Rational) (pd qd g lo ro ps qs : ℕ) (pd_is : pd ≡ p.den) (qd
   pub right_refused : ¬ (qs * lo < 2 ^ 127) → ¬ SumFits p q
   right_refused h f = refuse_lem _ _ made_right_size h f.right
 
-  module _ (pn qn s : Bool) (left right size : ℕ) (pn_is : pn ≡ is_negative p.num) (qn_is : qn ≡ is_negative q.num) (left_is : left ≡ ps * ro) (right_is : right ≡ qs * lo) (sum : signed s size ≡ signed pn left +ℤ signed qn right) where
-    term_lem : (z : ℤ) (n : Bool) (k m : ℕ) → n ≡ is_negative z → m ≡ unsigned_abs z * k → signed n m ≡ z *ℤ pos k
-    term_lem z n k m e f = ap₂ signed e f ∙ sym (signed_times (is_negative z) (unsigned_abs z) k) ∙ ap (λ y. y *ℤ pos k) (signed_itself z)
+  module _ (pn qn s : Bool) (left right size : ℕ) (pn_is : pn ≡ is_negative p.num)
+      (qn_is : qn ≡ is_negative q.num) (left_is : left ≡ ps * ro) (right_is : right ≡ qs * lo)
+      (sum : signed s size ≡ signed pn left +ℤ signed qn right) where
+    term_lem : (z : ℤ) (n : Bool) (k m : ℕ) → n ≡ is_negative z → m ≡ unsigned_abs z * k
+        → signed n m ≡ z *ℤ pos k
+    term_lem z n k m e f =
+        ap₂ signed e f ∙ sym (signed_times (is_negative z) (unsigned_abs z) k)
+        ∙ ap (λ y. y *ℤ pos k) (signed_itself z)
 
     made_sum : signed s size ≡ sum_of_terms p q
     unfolding sum_of_terms left_term right_term
@@ -202,25 +231,37 @@ module _ (p q : Rational) (pd qd g lo ro ps qs : ℕ) (pd_is : pd ≡ p.den) (qd
       whole_is : signed s (unsigned_abs (sum_of_terms p q)) ≡ sum_of_terms p q
       whole_is = ap (signed s) (sym made_size) ∙ made_sum
 
-      made_num : signed s (size / last) ≡ signed s (unsigned_abs (sum_of_terms p q) / gcd (unsigned_abs (sum_of_terms p q)) (common_divisor p q))
+      made_num : signed s (size / last) ≡ signed s (unsigned_abs (sum_of_terms p q) / gcd
+          (unsigned_abs (sum_of_terms p q)) (common_divisor p q))
       made_num = ap (signed s) (ap₂ ◌/◌ made_size made_last)
 
       module _ (den : ℕ) (den_is : den ≡ lo * (qd / last)) where
         pub made_stored : size < 2 ^ 127 → den < 2 ^ 127 → IsStored (signed s (size / last)) den
         made_stored h k = record {
-          reduced = subst (λ z. IsReduced z den) (sym made_num) (subst (IsReduced (signed s (unsigned_abs (sum_of_terms p q) / gcd (unsigned_abs (sum_of_terms p q)) (common_divisor p q)))) (sym (den_is ∙ made_den)) (sum_reduced p q s whole_is));
+          reduced = subst (λ z. IsReduced z den) (sym made_num)
+              (subst (IsReduced (signed s (unsigned_abs (sum_of_terms p q) / gcd
+              (unsigned_abs (sum_of_terms p q)) (common_divisor p q)))) (sym (den_is ∙ made_den))
+              (sum_reduced p q s whole_is));
           num = below_lem;
           den = k;
         }
           where
             below_lem : unsigned_abs (signed s (size / last)) < 2 ^ 127
-            below_lem = subst (λ x. x < 2 ^ 127) (sym (unsigned_abs-signed s (size / last))) (omega (arith, div-le_self size last, h))
+            below_lem =
+                subst (λ x. x < 2 ^ 127) (sym (unsigned_abs-signed s (size / last)))
+                (omega (arith, div-le_self size last, h))
 
         pub made_value : reduce (signed s (size / last)) den ≡ p +ℚ q
         made_value =
-            ap₂ reduce made_num (den_is ∙ made_den) ∙ reduce_itself (record { num = _; den = _; reduced = sum_reduced p q s whole_is }) ∙ sym (sum_value p q s whole_is)
+            ap₂ reduce made_num (den_is ∙ made_den)
+            ∙ reduce_itself (record {
+              num = _;
+              den = _;
+              reduced = sum_reduced p q s whole_is;
+            }) ∙ sym (sum_value p q s whole_is)
 
-        pub made_fits : left < 2 ^ 127 → right < 2 ^ 127 → size < 2 ^ 127 → den < 2 ^ 127 → SumFits p q
+        pub made_fits : left < 2 ^ 127 → right < 2 ^ 127 → size < 2 ^ 127 → den < 2 ^ 127
+            → SumFits p q
         made_fits h k l m = record {
           left = subst (λ x. x < 2 ^ 127) (left_is ∙ made_left_size) h;
           right = subst (λ x. x < 2 ^ 127) (right_is ∙ made_right_size) k;

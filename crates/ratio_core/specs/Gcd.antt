@@ -2,7 +2,7 @@
 --     gcd, gcd_is                the divisor, and that it is the greatest
 --     gcd-scaled                 a common factor comes out
 --     dvd_from_coprime           Euclid's lemma
---     coprime_parts              two numbers over their greatest common divisor have no common divisor
+-- coprime_parts two numbers over their greatest common divisor have no common divisor
 use Rattle.std.specs.Prelude.{◌≡◌, ℕ, zero, suc, ◌+◌, ◌*◌, ◌/◌, ◌%◌, ◌^◌, ◌<◌, ◌≤◌, refl}
 use Rattle.std.specs.Int.{◌∣◌, IsGcd}
 use Rattle.std.proofs.Common.{sym, ◌∙◌, ap, subst, arith, mul-zero}

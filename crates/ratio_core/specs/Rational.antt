@@ -7,7 +7,7 @@
 --     fraction n d               the same, where d may be negative
 --     +ℚ *ℚ -ℚ /ℚ neg_ℚ inverse_ℚ          the field, with 0 for the inverse of 0
 --     ≤ℚ ‹ℚ rational_cmp rational_eq       the order, and its tests
---     Fits fits, SumFits sum_fits          what 128 bits hold, and the rule for sums, each with its test
+-- Fits fits, SumFits sum_fits what 128 bits hold, and the rule for sums, each with its test
 use Rattle.std.specs.Prelude.{◌≡◌, ℕ, zero, suc, ◌*◌, ◌/◌, ◌^◌, ◌<◌, Bool, true, false, ◌&&◌, nat_lt, ℤ, pos, negsuc, ◌+ℤ◌, ◌*ℤ◌, neg_ℤ, ◌≤ℤ◌, ◌<ℤ◌, int_div, unsigned_abs, refl}
 use Rattle.std.specs.Coded.{Coded, coded×, coded_ℕ, coded_ℤ, ×_prop, le_prop}
 use Rattle.std.specs.Int.{◌∣◌, int_signum}

@@ -1,6 +1,6 @@
 -- How a number is written: an optional '-', decimal digits, and where it is no whole number a '/'
 -- and the denominator.
---     rational_of text           the number that a literal stands for, or `None` where the text is no literal
+-- rational_of text the number that a literal stands for, or `None` where the text is no literal
 --     text_of q                  the text that is printed for q
 use Rattle.std.specs.Prelude.{ℕ, suc, ◌^◌, Bool, ◌&&◌, List, [], ◌∷◌, ◌++◌, length, drop, Option, Some, None, nat_lt, ◌==◌, if◌then◌else◌, decimal}
 use Rattle.std.specs.Char.{is_ascii_digit}

@@ -34,7 +34,8 @@ Fits_neg_ℚ q f =
 
 -- ---- sums with 0
 
--- where the denominators have no common divisor, the terms are the numerators, each times the other's
+-- where the denominators have no common divisor, the terms are the numerators, each times the
+-- other's
 -- denominator
 module _ (p q : Rational) (apart : common_divisor p q ≡ 1) where
   left_apart : left_term p q ≡ p.num *ℤ pos q.den

@@ -20,35 +20,53 @@ turned false x y = refl
 
 -- the tokens from a first run and what stands after its space
 abbrev joined : List ℕ → List ℕ → List (List ℕ)
-joined before after = cond (eqb (length before) 0) (filter is_token (slice_split is_space after)) (before ∷ filter is_token (slice_split is_space after))
+joined before after =
+    cond (eqb (length before) 0) (filter is_token (slice_split is_space after))
+    (before ∷ filter is_token (slice_split is_space after))
 
-no_space : (bs : List ℕ) → length bs ≤ position_or_len is_space bs → All (λ b. is_space b ≡ false) bs
+no_space : (bs : List ℕ) → length bs ≤ position_or_len is_space bs
+    → All (λ b. is_space b ≡ false) bs
 no_space bs h k d lt = not-true _ (prefix_len_passes (λ b. not (is_space b)) bs k d (omega arith))
 
-filtered_first : (bs : List ℕ) → filter is_token (slice_split is_space bs) ≡ joined (before_first is_space bs) (after_first is_space bs)
+filtered_first : (bs : List ℕ) → filter is_token (slice_split is_space bs)
+    ≡ joined (before_first is_space bs) (after_first is_space bs)
 filtered_first bs =
     elim (cases_lt (position_or_len is_space bs) (length bs)) [
-      | inl lt ↦ ap (filter is_token) (slice_split_first is_space bs 0 lt) ∙ turned (eqb (length (before_first is_space bs)) 0) _ _
+      | inl lt ↦ ap (filter is_token) (slice_split_first is_space bs 0 lt)
+          ∙ turned (eqb (length (before_first is_space bs)) 0) _ _
       | inr ge ↦
           let whole : before_first is_space bs ≡ bs = take_all _ bs ge in
           let nothing : after_first is_space bs ≡ [] = drop_all _ bs (omega arith) in
-          ap (filter is_token) (slice_split_none is_space bs (no_space bs ge)) ∙ turned (eqb (length bs) 0) _ _ ∙ sym (ap (λ b. joined b (after_first is_space bs)) whole ∙ ap (joined bs) nothing)
+          ap (filter is_token) (slice_split_none is_space bs (no_space bs ge))
+          ∙ turned (eqb (length bs) 0) _ _ ∙ sym (ap (λ b. joined b (after_first is_space bs))
+          whole ∙ ap (joined bs) nothing)
     ]
 
-joined_same : (bs before after : List ℕ) → before ≡ before_first is_space bs → after ≡ after_first is_space bs → joined before after ≡ joined (before_first is_space bs) (after_first is_space bs)
-joined_same bs before after b a = ap (λ x. joined x after) b ∙ ap (joined (before_first is_space bs)) a
+joined_same : (bs before after : List ℕ) → before ≡ before_first is_space bs
+    → after ≡ after_first is_space bs → joined before after ≡ joined (before_first is_space bs)
+    (after_first is_space bs)
+joined_same bs before after b a =
+    ap (λ x. joined x after) b ∙ ap (joined (before_first is_space bs)) a
 
 -- a run of no bytes is no token
-pub tokens_of_spaced : (bs before after : List ℕ) → before ≡ before_first is_space bs → after ≡ after_first is_space bs → eqb (length before) 0 ≡ true → tokens_of bs ≡ tokens_of after
+pub tokens_of_spaced : (bs before after : List ℕ) → before ≡ before_first is_space bs
+    → after ≡ after_first is_space bs → eqb (length before) 0 ≡ true
+    → tokens_of bs ≡ tokens_of after
 unfolding tokens_of
 tokens_of_spaced bs before after b a h =
-    filtered_first bs ∙ sym (joined_same bs before after b a) ∙ ap (λ t. cond t (filter is_token (slice_split is_space after)) (before ∷ filter is_token (slice_split is_space after))) h
+    filtered_first bs ∙ sym (joined_same bs before after b a)
+    ∙ ap (λ t. cond t (filter is_token (slice_split is_space after))
+    (before ∷ filter is_token (slice_split is_space after))) h
 
 -- the first token, and those after its space
-pub tokens_of_first : (bs before after : List ℕ) → before ≡ before_first is_space bs → after ≡ after_first is_space bs → eqb (length before) 0 ≡ false → tokens_of bs ≡ before ∷ tokens_of after
+pub tokens_of_first : (bs before after : List ℕ) → before ≡ before_first is_space bs
+    → after ≡ after_first is_space bs → eqb (length before) 0 ≡ false
+    → tokens_of bs ≡ before ∷ tokens_of after
 unfolding tokens_of
 tokens_of_first bs before after b a h =
-    filtered_first bs ∙ sym (joined_same bs before after b a) ∙ ap (λ t. cond t (filter is_token (slice_split is_space after)) (before ∷ filter is_token (slice_split is_space after))) h
+    filtered_first bs ∙ sym (joined_same bs before after b a)
+    ∙ ap (λ t. cond t (filter is_token (slice_split is_space after))
+    (before ∷ filter is_token (slice_split is_space after))) h
 
 pub tokens_of_none : (bs : List ℕ) → eqb (length bs) 0 ≡ true → tokens_of bs ≡ []
 unfolding tokens_of

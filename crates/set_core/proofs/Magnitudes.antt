@@ -14,15 +14,18 @@ pub record IsAsAll (start sum : Rational) (qs rest : List Rational) : Type 0 whe
 pub as_all-start : (start : Rational) (qs : List Rational) → IsAsAll start start qs qs
 as_all-start start qs = record { value = refl; fits = λ h. h; only = λ h. h }
 
-pub as_all-end : (start sum : Rational) (qs : List Rational) → IsAsAll start sum qs [] → FoldFits start (map abs_ℚ qs) × (sum ≡ sum_from start (map abs_ℚ qs))
+pub as_all-end : (start sum : Rational) (qs : List Rational) → IsAsAll start sum qs []
+    → FoldFits start (map abs_ℚ qs) × (sum ≡ sum_from start (map abs_ℚ qs))
 unfolding FoldFits
 as_all-end start sum qs h = (h.fits tt, h.value)
 
 -- what is left begins with the number that is read
-pub next_number : (qs : List Rational) (i : ℕ) (q : Rational) → q ≡ get_or qs i q → i < length qs → drop i qs ≡ q ∷ drop (i + 1) qs
+pub next_number : (qs : List Rational) (i : ℕ) (q : Rational) → q ≡ get_or qs i q → i < length qs
+    → drop i qs ≡ q ∷ drop (i + 1) qs
 next_number qs i q is lt = drop_more qs i q lt ∙ ap (λ r. r ∷ drop (i + 1) qs) (sym is)
 
-module _ (start sum : Rational) (qs rest left : List Rational) (q : Rational) (so_far : IsAsAll start sum qs rest) (next : rest ≡ q ∷ left) where
+module _ (start sum : Rational) (qs rest left : List Rational) (q : Rational)
+    (so_far : IsAsAll start sum qs rest) (next : rest ≡ q ∷ left) where
   pub as_all-step : SumFits sum (abs_ℚ q) → IsAsAll start (sum +ℚ abs_ℚ q) qs left
   unfolding FoldFits
   as_all-step step = record {

@@ -15,36 +15,49 @@ one_more n = omega arith
 
 -- ---- the least row
 
-pub row_more : (n : ℕ) (column_of : ℕ → Option ℕ) → least_row n column_of ≡ None → column_of n ≡ None → least_row (n + 1) column_of ≡ None
-row_more n column_of e f = ap (λ k. least_row k column_of) (one_more n) ∙ (λ i. row_or_else (e i) n (f i))
+pub row_more : (n : ℕ) (column_of : ℕ → Option ℕ) → least_row n column_of ≡ None
+    → column_of n ≡ None → least_row (n + 1) column_of ≡ None
+row_more n column_of e f =
+    ap (λ k. least_row k column_of) (one_more n) ∙ (λ i. row_or_else (e i) n (f i))
 
-row_here : (r q : ℕ) (column_of : ℕ → Option ℕ) → least_row r column_of ≡ None → column_of r ≡ Some q → least_row (suc r) column_of ≡ Some (r, q)
+row_here : (r q : ℕ) (column_of : ℕ → Option ℕ) → least_row r column_of ≡ None
+    → column_of r ≡ Some q → least_row (suc r) column_of ≡ Some (r, q)
 row_here r q column_of e f = λ i. row_or_else (e i) r (f i)
 
-pub row_found : (n r q : ℕ) (column_of : ℕ → Option ℕ) → r < n → least_row r column_of ≡ None → column_of r ≡ Some q → least_row n column_of ≡ Some (r, q)
+pub row_found : (n r q : ℕ) (column_of : ℕ → Option ℕ) → r < n → least_row r column_of ≡ None
+    → column_of r ≡ Some q → least_row n column_of ≡ Some (r, q)
 row_found zero r q column_of b e f = absurd (omega (arith, b))
 row_found (suc n) r q column_of b e f =
     same_or_other (least_row (suc n) column_of ≡ Some (r, q)) r n
     (λ i. ap (λ k. least_row (suc k) column_of) (sym i) ∙ row_here r q column_of e f)
-    (λ m. ap (λ o. row_or_else o n (column_of n)) (row_found n r q column_of (omega (arith, b, m)) e f))
+    (λ m. ap (λ o. row_or_else o n (column_of n))
+    (row_found n r q column_of (omega (arith, b, m)) e f))
 
 -- ---- the best
 
-pub best_more : (n : ℕ) (test : ℕ → Bool) (before : ℕ → ℕ → Bool) (best next : Option ℕ) → best ≡ best_below n test before → next ≡ better_of test before best n → next ≡ best_below (n + 1) test before
-best_more n test before best next e f = f ∙ ap (λ o. better_of test before o n) e ∙ ap (λ k. best_below k test before) (sym (one_more n))
+pub best_more : (n : ℕ) (test : ℕ → Bool) (before : ℕ → ℕ → Bool) (best next : Option ℕ)
+    → best ≡ best_below n test before → next ≡ better_of test before best n
+    → next ≡ best_below (n + 1) test before
+best_more n test before best next e f =
+    f ∙ ap (λ o. better_of test before o n) e ∙ ap (λ k. best_below k test before)
+    (sym (one_more n))
 
 -- ---- which row leaves first
 
-pub before_by : (p q : Rational) (w : Bool) (r : Ordering) → r ≡ rational_cmp p q → (is_lt r || is_eq r && w) ≡ (is_below p q || rational_eq p q && w)
+pub before_by : (p q : Rational) (w : Bool) (r : Ordering) → r ≡ rational_cmp p q
+    → (is_lt r || is_eq r && w) ≡ (is_below p q || rational_eq p q && w)
 before_by p q w r e =
-    (λ i. is_lt (e i) || is_eq (e i) && w) ∙ (λ i. is_lt (rational_cmp p q) || sym (rational_eq-is_eq p q) i && w)
+    (λ i. is_lt (e i) || is_eq (e i) && w)
+    ∙ (λ i. is_lt (rational_cmp p q) || sym (rational_eq-is_eq p q) i && w)
 
-pub ratios_same : (a b c d x y z w : Rational) (r : Ordering) → r ≡ rational_cmp (a /ℚ b) (c /ℚ d) → a ≡ x → b ≡ y → c ≡ z → d ≡ w → r ≡ rational_cmp (x /ℚ y) (z /ℚ w)
+pub ratios_same : (a b c d x y z w : Rational) (r : Ordering) → r ≡ rational_cmp (a /ℚ b) (c /ℚ d)
+    → a ≡ x → b ≡ y → c ≡ z → d ≡ w → r ≡ rational_cmp (x /ℚ y) (z /ℚ w)
 ratios_same a b c d x y z w r e f g h k = e ∙ (λ i. rational_cmp (f i /ℚ g i) (h i /ℚ k i))
 
 -- ---- some number
 
-pub some_more : (n : ℕ) (test : ℕ → Bool) → some_below n test ≡ false → test n ≡ false → some_below (n + 1) test ≡ false
+pub some_more : (n : ℕ) (test : ℕ → Bool) → some_below n test ≡ false → test n ≡ false
+    → some_below (n + 1) test ≡ false
 some_more n test e f = ap (λ k. some_below k test) (one_more n) ∙ (λ i. e i || f i)
 
 pub some_found : (n k : ℕ) (test : ℕ → Bool) → k < n → test k ≡ true → some_below n test ≡ true
@@ -63,9 +76,11 @@ module _ (a : ℕ) (f : ℕ → Bool) where
       none_lem : (j a : ℕ) → j ≡ a → j - a ≡ 0
       none_lem j a e = omega (arith, e)
 
-  pub passed_more : (j : ℕ) → a ≤ j → all_below (j - a) (λ k. f (a + k)) ≡ true → f j ≡ true → all_below (j + 1 - a) (λ k. f (a + k)) ≡ true
+  pub passed_more : (j : ℕ) → a ≤ j → all_below (j - a) (λ k. f (a + k)) ≡ true → f j ≡ true
+      → all_below (j + 1 - a) (λ k. f (a + k)) ≡ true
   passed_more j b h e =
-      ap (λ n. all_below n (λ k. f (a + k))) (more_lem j a b) ∙ all_below_more (j - a) (λ k. f (a + k)) h (ap f (back_lem j a b) ∙ e)
+      ap (λ n. all_below n (λ k. f (a + k))) (more_lem j a b)
+      ∙ all_below_more (j - a) (λ k. f (a + k)) h (ap f (back_lem j a b) ∙ e)
     where
       more_lem : (j a : ℕ) → a ≤ j → j + 1 - a ≡ j - a + 1
       more_lem j a b = omega (arith, b)
@@ -73,8 +88,10 @@ module _ (a : ℕ) (f : ℕ → Bool) where
       back_lem : (j a : ℕ) → a ≤ j → a + (j - a) ≡ j
       back_lem j a b = omega (arith, b)
 
-  pub passed_failed : (j m : ℕ) → a ≤ j → j < a + m → f j ≡ false → all_below m (λ k. f (a + k)) ≡ false
-  passed_failed j m b c e = all_below_failed m (j - a) (λ k. f (a + k)) (within_lem j a m b c) (ap f (back_lem j a b) ∙ e)
+  pub passed_failed : (j m : ℕ) → a ≤ j → j < a + m → f j ≡ false
+      → all_below m (λ k. f (a + k)) ≡ false
+  passed_failed j m b c e =
+      all_below_failed m (j - a) (λ k. f (a + k)) (within_lem j a m b c) (ap f (back_lem j a b) ∙ e)
     where
       within_lem : (j a m : ℕ) → a ≤ j → j < a + m → j - a < m
       within_lem j a m b c = omega (arith, b, c)
@@ -82,14 +99,16 @@ module _ (a : ℕ) (f : ℕ → Bool) where
       back_lem : (j a : ℕ) → a ≤ j → a + (j - a) ≡ j
       back_lem j a b = omega (arith, b)
 
-  pub passed_all : (j m : ℕ) → j ≡ a + m → all_below (j - a) (λ k. f (a + k)) ≡ true → all_below m (λ k. f (a + k)) ≡ true
+  pub passed_all : (j m : ℕ) → j ≡ a + m → all_below (j - a) (λ k. f (a + k)) ≡ true
+      → all_below m (λ k. f (a + k)) ≡ true
   passed_all j m e h = ap (λ n. all_below n (λ k. f (a + k))) (all_lem j a m e) ∙ h
     where
       all_lem : (j a m : ℕ) → j ≡ a + m → m ≡ j - a
       all_lem j a m e = omega (arith, e)
 
   pub passed_at : (j m : ℕ) → a ≤ j → j < a + m → all_below m (λ k. f (a + k)) ≡ true → f j ≡ true
-  passed_at j m b c h = ap f (sym (back_lem j a b)) ∙ all_below_at m (j - a) (λ k. f (a + k)) h (within_lem j a m b c)
+  passed_at j m b c h =
+      ap f (sym (back_lem j a b)) ∙ all_below_at m (j - a) (λ k. f (a + k)) h (within_lem j a m b c)
     where
       within_lem : (j a m : ℕ) → a ≤ j → j < a + m → j - a < m
       within_lem j a m b c = omega (arith, b, c)

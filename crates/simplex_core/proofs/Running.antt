@@ -29,26 +29,40 @@ use Rattle.simplex_core.specs.Steps.{IsDue}
 
 -- ---- the rest of the trail
 
-ended_at : (F : Form) (n : ℕ) (s : State) → ends (bland.turn F s) ≡ true → outcome_from F n s ≡ ended s (bland.turn F s)
+ended_at : (F : Form) (n : ℕ) (s : State) → ends (bland.turn F s) ≡ true
+    → outcome_from F n s ≡ ended s (bland.turn F s)
 ended_at F zero s e = cond-true (ends (bland.turn F s)) (ended s (bland.turn F s)) (limited s) e
 ended_at F (suc n) s e =
-    cond-true (ends (bland.turn F s)) (ended s (bland.turn F s)) (if turn_fits (readings F s) (bland.turn F s) then outcome_from F n (next F s) else overflowing s) e
+    cond-true (ends (bland.turn F s)) (ended s (bland.turn F s))
+    (if turn_fits (readings F s) (bland.turn F s) then outcome_from F n
+    (next F s) else overflowing s) e
 
-limited_at : (F : Form) (n : ℕ) (s : State) → n ≡ 0 → ends (bland.turn F s) ≡ false → outcome_from F n s ≡ limited s
+limited_at : (F : Form) (n : ℕ) (s : State) → n ≡ 0 → ends (bland.turn F s) ≡ false
+    → outcome_from F n s ≡ limited s
 limited_at F n s z e =
-    ap (λ k. outcome_from F k s) z ∙ cond-false (ends (bland.turn F s)) (ended s (bland.turn F s)) (limited s) e
+    ap (λ k. outcome_from F k s) z ∙ cond-false (ends (bland.turn F s)) (ended s (bland.turn F s))
+    (limited s) e
 
-refused_at : (F : Form) (n : ℕ) (s : State) → 0 < n → ends (bland.turn F s) ≡ false → turn_fits (readings F s) (bland.turn F s) ≡ false → outcome_from F n s ≡ overflowing s
+refused_at : (F : Form) (n : ℕ) (s : State) → 0 < n → ends (bland.turn F s) ≡ false
+    → turn_fits (readings F s) (bland.turn F s) ≡ false → outcome_from F n s ≡ overflowing s
 refused_at F zero s b e f = absurd (omega (arith, b))
 refused_at F (suc n) s b e f =
-    cond-false (ends (bland.turn F s)) (ended s (bland.turn F s)) (if turn_fits (readings F s) (bland.turn F s) then outcome_from F n (next F s) else overflowing s) e
-    ∙ cond-false (turn_fits (readings F s) (bland.turn F s)) (outcome_from F n (next F s)) (overflowing s) f
+    cond-false (ends (bland.turn F s)) (ended s (bland.turn F s))
+    (if turn_fits (readings F s) (bland.turn F s) then outcome_from F n
+    (next F s) else overflowing s) e
+    ∙ cond-false (turn_fits (readings F s) (bland.turn F s)) (outcome_from F n (next F s))
+    (overflowing s) f
 
-goes_on_at : (F : Form) (n : ℕ) (s : State) → 0 < n → ends (bland.turn F s) ≡ false → turn_fits (readings F s) (bland.turn F s) ≡ true → outcome_from F n s ≡ outcome_from F (n - 1) (next F s)
+goes_on_at : (F : Form) (n : ℕ) (s : State) → 0 < n → ends (bland.turn F s) ≡ false
+    → turn_fits (readings F s) (bland.turn F s) ≡ true
+    → outcome_from F n s ≡ outcome_from F (n - 1) (next F s)
 goes_on_at F zero s b e f = absurd (omega (arith, b))
 goes_on_at F (suc n) s b e f =
-    cond-false (ends (bland.turn F s)) (ended s (bland.turn F s)) (if turn_fits (readings F s) (bland.turn F s) then outcome_from F n (next F s) else overflowing s) e
-    ∙ cond-true (turn_fits (readings F s) (bland.turn F s)) (outcome_from F n (next F s)) (overflowing s) f
+    cond-false (ends (bland.turn F s)) (ended s (bland.turn F s))
+    (if turn_fits (readings F s) (bland.turn F s) then outcome_from F n
+    (next F s) else overflowing s) e
+    ∙ cond-true (turn_fits (readings F s) (bland.turn F s)) (outcome_from F n (next F s))
+    (overflowing s) f
     ∙ ap (λ k. outcome_from F k (next F s)) (back_lem n)
   where
     back_lem : (n : ℕ) → n ≡ suc n - 1
@@ -56,17 +70,20 @@ goes_on_at F (suc n) s b e f =
 
 -- ---- a result and what it says
 
-pub refused_and : {T E : Type 0} (r : Result T E) (P Q : Type 0) → MatchResult r (λ _. P) (λ _. Q) → is_err r ≡ true → (is_ok r ≡ false) × Q
+pub refused_and : {T E : Type 0} (r : Result T E) (P Q : Type 0) → MatchResult r (λ _. P) (λ _. Q)
+    → is_err r ≡ true → (is_ok r ≡ false) × Q
 refused_and (Ok x) P Q h e = absurd (true≢false (sym e))
 refused_and (Err x) P Q h e = (refl, h)
 
-pub made_and : {T E : Type 0} (r : Result T E) (P Q : Type 0) → MatchResult r (λ _. P) (λ _. Q) → is_err r ≡ false → (is_ok r ≡ true) × P
+pub made_and : {T E : Type 0} (r : Result T E) (P Q : Type 0) → MatchResult r (λ _. P) (λ _. Q)
+    → is_err r ≡ false → (is_ok r ≡ true) × P
 made_and (Ok x) P Q h e = (refl, h)
 made_and (Err x) P Q h e = absurd (true≢false e)
 
 -- ---- the loop
 
--- the board is that of a basis with this phase, from which `left` steps more come out as n do from the start
+-- the board is that of a basis with this phase, from which `left` steps more come out as n do from
+-- the start
 pub record IsAtStep (F : Form) (n left : ℕ) (phase : Phase) (t : Contents) : Type 0 where
   pub state : State
   pub stands : Stands F state
@@ -82,62 +99,107 @@ phase-pivot : (F : Form) (s : State) (phase : Phase) (r q : ℕ) → (pivot F s 
 unfolding pivot
 phase-pivot F s phase r q = refl
 
-pub at_start : (F : Form) (n : ℕ) (t : Contents) → IsStandard F → IsBoardOf F (start F) t → IsAtStep F n n First t
-at_start F n t h b = record { state = start F; stands = start_stands F h; board = b; told = phase-start F; rest = refl }
+pub at_start : (F : Form) (n : ℕ) (t : Contents) → IsStandard F → IsBoardOf F (start F) t
+    → IsAtStep F n n First t
+at_start F n t h b =
+    record {
+      state = start F;
+      stands = start_stands F h;
+      board = b;
+      told = phase-start F;
+      rest = refl;
+    }
 
 -- the board with the first cost row as the phase has it
-board_in : (F : Form) (s : State) (t : Contents) (phase : Phase) → (IsTrue (uses_first phase) → IsTrue t.in_first) → IsBoardOf F s t → IsBoardOf F s (in_phase phase t)
-board_in F s t phase u h = agrees_less (uses_first phase) t.in_first (readings_of t) (readings F s) u h
+board_in : (F : Form) (s : State) (t : Contents) (phase : Phase)
+    → (IsTrue (uses_first phase) → IsTrue t.in_first) → IsBoardOf F s t
+    → IsBoardOf F s (in_phase phase t)
+board_in F s t phase u h =
+    agrees_less (uses_first phase) t.in_first (readings_of t) (readings F s) u h
 
-module _ (F : Form) (n left : ℕ) (phase : Phase) (t : Contents) (a : IsAtStep F n left phase t) (kept : IsInPhase phase t) (turn : Turn) (by : turn ≡ bland.turn_in phase (readings_of t)) where
+module _ (F : Form) (n left : ℕ) (phase : Phase) (t : Contents) (a : IsAtStep F n left phase t)
+    (kept : IsInPhase phase t) (turn : Turn) (by : turn ≡ bland.turn_in phase (readings_of t)) where
   pub is_due : IsDue F a.state t turn
   is_due = record {
     stands = a.stands;
     board = a.board;
     due = by
-        ∙ turn_same t.in_first (readings_of t) (readings F a.state) a.board phase (λ u. subst IsTrue (sym kept) u)
+        ∙ turn_same t.in_first (readings_of t) (readings F a.state) a.board phase
+        (λ u. subst IsTrue (sym kept) u)
         ∙ ap (λ p. bland.turn_in p (readings F a.state)) (sym a.told);
   }
 
   due_ends : (b : Turn) → turn ≡ b → ends b ≡ ends (bland.turn F a.state)
   due_ends b e = ap ends (sym e) ∙ ap ends is_due.due
 
-  pub tells_end : (b : Turn) (answer : SolverAnswer) → turn ≡ b → ends b ≡ true → (IsDue F a.state t b → IsReadOff F a.state b answer) → Tells F n (outcome_from F n (start F)) (Ok answer)
+  pub tells_end : (b : Turn) (answer : SolverAnswer) → turn ≡ b → ends b ≡ true
+      → (IsDue F a.state t b → IsReadOff F a.state b answer)
+      → Tells F n (outcome_from F n (start F)) (Ok answer)
   tells_end b answer e k read =
-      let due : IsDue F a.state t b = subst (IsDue F a.state t) e is_due in
-      (a.state, b, a.rest ∙ ended_at F left a.state (sym (due_ends b e) ∙ k) ∙ ap (ended a.state) (sym due.due), read due)
+      let due : IsDue F a.state t b = subst (IsDue F a.state t) e is_due in (
+        a.state,
+        b,
+        a.rest ∙ ended_at F left a.state (sym (due_ends b e) ∙ k)
+            ∙ ap (ended a.state) (sym due.due),
+        read due,
+      )
 
-  pub tells_limit : (b : Turn) (basis : List ℕ) → turn ≡ b → ends b ≡ false → left ≡ 0 → basis ≡ t.basis → Tells F n (outcome_from F n (start F)) (Err (Limit basis n))
-  tells_limit b basis e k z same = (a.state, a.rest ∙ limited_at F left a.state z (sym (due_ends b e) ∙ k), same ∙ a.board.basis, refl)
+  pub tells_limit : (b : Turn) (basis : List ℕ) → turn ≡ b → ends b ≡ false → left ≡ 0
+      → basis ≡ t.basis → Tells F n (outcome_from F n (start F)) (Err (Limit basis n))
+  tells_limit b basis e k z same = (
+    a.state,
+    a.rest ∙ limited_at F left a.state z (sym (due_ends b e) ∙ k),
+    same
+        ∙ a.board.basis,
+    refl,
+  )
 
-  pub tells_overflow : (b : Turn) (basis : List ℕ) → turn ≡ b → ends b ≡ false → 0 < left → turn_fits (readings F a.state) b ≡ false → basis ≡ t.basis → Tells F n (outcome_from F n (start F)) (Err (Overflow basis))
-  tells_overflow b basis e k c fits same =
-      (a.state, a.rest ∙ refused_at F left a.state c (sym (due_ends b e) ∙ k) (ap (turn_fits (readings F a.state)) (sym is_due.due ∙ e) ∙ fits), same ∙ a.board.basis)
+  pub tells_overflow : (b : Turn) (basis : List ℕ) → turn ≡ b → ends b ≡ false → 0 < left
+      → turn_fits (readings F a.state) b ≡ false → basis ≡ t.basis
+      → Tells F n (outcome_from F n (start F)) (Err (Overflow basis))
+  tells_overflow b basis e k c fits same = (
+    a.state,
+    a.rest ∙ refused_at F left a.state c (sym (due_ends b e) ∙ k)
+        (ap (turn_fits (readings F a.state)) (sym is_due.due ∙ e) ∙ fits),
+    same ∙ a.board.basis,
+  )
 
   -- a pivot
-  module _ (next_phase : Phase) (r q : ℕ) (is : turn ≡ Pivot next_phase r q) (within : IsWithin t (Pivot next_phase r q)) where
+  module _ (next_phase : Phase) (r q : ℕ) (is : turn ≡ Pivot next_phase r q)
+      (within : IsWithin t (Pivot next_phase r q)) where
     column : q < t.reals → q < t.reals + length t.rows
     column b = omega (arith, b)
 
     before : IsBoardOf F a.state (in_phase next_phase t)
     before = board_in F a.state t next_phase within.0 a.board
 
-    pivot_fit : (made : Bool) → made ≡ pivot_fits (uses_first next_phase) (readings_of t) r q → turn_fits (readings F a.state) (Pivot next_phase r q) ≡ made
+    pivot_fit : (made : Bool) → made ≡ pivot_fits (uses_first next_phase) (readings_of t) r q
+        → turn_fits (readings F a.state) (Pivot next_phase r q) ≡ made
     pivot_fit made e =
-        sym (e ∙ fits_same F a.state next_phase r q (in_phase next_phase t) before within.1 (column within.2))
+        sym (e ∙ fits_same F a.state next_phase r q (in_phase next_phase t) before within.1
+        (column within.2))
 
-    pub tells_refused : (made : Bool) (basis : List ℕ) (u : Contents) → 0 < left → made ≡ pivot_fits (uses_first next_phase) (readings_of t) r q → made ≡ false → u ≡ in_phase next_phase t → basis ≡ u.basis → Tells F n (outcome_from F n (start F)) (Err (Overflow basis))
+    pub tells_refused : (made : Bool) (basis : List ℕ) (u : Contents) → 0 < left
+        → made ≡ pivot_fits (uses_first next_phase) (readings_of t) r q → made ≡ false
+        → u ≡ in_phase next_phase t → basis ≡ u.basis → Tells F n (outcome_from F n (start F))
+        (Err (Overflow basis))
     tells_refused made basis u c e failed stays same =
-        tells_overflow (Pivot next_phase r q) basis is refl c (pivot_fit made e ∙ failed) (same ∙ ap (λ x. x.basis) stays)
+        tells_overflow (Pivot next_phase r q) basis is refl c (pivot_fit made e ∙ failed) (same
+        ∙ ap (λ x. x.basis) stays)
 
     next_is : next F a.state ≡ pivot F a.state next_phase r q
     next_is = ap (after F a.state) (sym is_due.due ∙ is)
 
-    pub at_next : (made : Bool) (u : Contents) → 0 < left → made ≡ pivot_fits (uses_first next_phase) (readings_of t) r q → made ≡ true → IsPivoted r q (in_phase next_phase t) u → IsAtStep F n (left - 1) next_phase u
+    pub at_next : (made : Bool) (u : Contents) → 0 < left
+        → made ≡ pivot_fits (uses_first next_phase) (readings_of t) r q → made ≡ true
+        → IsPivoted r q (in_phase next_phase t) u → IsAtStep F n (left - 1) next_phase u
     at_next made u c e ok p = record {
       state = next F a.state;
-      stands = after_stands F a.state a.stands (bland.turn F a.state) (turn_says F a.state a.stands);
-      board = subst (λ x. IsBoardOf F x u) (sym next_is) (next_board F a.state next_phase r q (in_phase next_phase t) before within.1 (column within.2) u a.stands.basis within.3 p);
+      stands = after_stands F a.state a.stands (bland.turn F a.state)
+          (turn_says F a.state a.stands);
+      board = subst (λ x. IsBoardOf F x u) (sym next_is) (next_board F a.state next_phase r q
+          (in_phase next_phase t) before within.1 (column within.2) u a.stands.basis within.3 p);
       told = ap (λ x. x.phase) next_is ∙ phase-pivot F a.state next_phase r q;
-      rest = a.rest ∙ goes_on_at F left a.state c (sym (due_ends (Pivot next_phase r q) is)) (ap (turn_fits (readings F a.state)) (sym is_due.due ∙ is) ∙ pivot_fit made e ∙ ok);
+      rest = a.rest ∙ goes_on_at F left a.state c (sym (due_ends (Pivot next_phase r q) is))
+          (ap (turn_fits (readings F a.state)) (sym is_due.due ∙ is) ∙ pivot_fit made e ∙ ok);
     }

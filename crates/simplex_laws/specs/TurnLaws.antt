@@ -117,7 +117,9 @@ infeasibility-above F s nonneg e = by_row (some_below_true F.rows
         → zero_ℚ ‹ℚ infeasibility F s
     by_row found =
         let k : ℕ = found.0 in
-        let tests : (is_artificial (readings F s) (basic s k) ≡ true) × (is_below zero_ℚ (right_side F s k) ≡ true) = and_parts (is_artificial (readings F s) (basic s k)) (is_below zero_ℚ (right_side F s k)) found.2 in
+        let tests : (is_artificial (readings F s) (basic s k) ≡ true)
+        × (is_below zero_ℚ (right_side F s k) ≡ true) = and_parts (is_artificial (readings F s)
+        (basic s k)) (is_below zero_ℚ (right_side F s k)) found.2 in
         let value : right_side F s k ≡ term k = sym (ap (λ x. x *ℚ right_side F s k)
         (first_cost_artificial F (basic s k) (leb-true F.reals (basic s k) tests.0))
         ∙ one-*ℚ (right_side F s k)) in

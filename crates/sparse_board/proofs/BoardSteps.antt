@@ -37,21 +37,26 @@ cell-listed w f j b = get_or-map-range_with_len f 0 w j j zero_ℚ b (zero_lem j
     zero_lem : (j : ℕ) → 0 + j ≡ j
     zero_lem j = omega arith
 
-pub kept_entry : (w : ℕ) (rows : List Row) (i j : ℕ) → j < w → cell (slice_index_or (map (λ row. listed w (number_of row.now)) rows) i []) j ≡ number_in_row rows i j
+pub kept_entry : (w : ℕ) (rows : List Row) (i j : ℕ) → j < w
+    → cell (slice_index_or (map (λ row. listed w (number_of row.now)) rows) i []) j
+    ≡ number_in_row rows i j
 kept_entry w [] i j b = refl
 kept_entry w (row ∷ rows) zero j b = cell-listed w (number_of row.now) j b
 kept_entry w (row ∷ rows) (suc i) j b = kept_entry w rows i j b
 
-pub kept_right : (w : ℕ) (rows : List Row) (i : ℕ) → cell (map (λ row. number_of row.now w) rows) i ≡ number_in_row rows i w
+pub kept_right : (w : ℕ) (rows : List Row) (i : ℕ) → cell (map (λ row. number_of row.now w) rows) i
+    ≡ number_in_row rows i w
 kept_right w [] i = refl
 kept_right w (row ∷ rows) zero = refl
 kept_right w (row ∷ rows) (suc i) = kept_right w rows i
 
-pub count_is : (w : ℕ) (rows : List Row) → length (map (λ row. listed w (number_of row.now)) rows) ≡ length rows
+pub count_is : (w : ℕ) (rows : List Row) → length (map (λ row. listed w (number_of row.now)) rows)
+    ≡ length rows
 count_is w rows = length-map rows (λ row. listed w (number_of row.now))
 
 -- what is read of the value is what is kept
-pub value_agrees : (in_first : Bool) (a : Inside) → Agrees in_first (readings_of (contents_of a)) (kept_readings a.reals a.basis.items (numbers_of a))
+pub value_agrees : (in_first : Bool) (a : Inside) → Agrees in_first (readings_of (contents_of a))
+    (kept_readings a.reals a.basis.items (numbers_of a))
 value_agrees in_first a = record {
   rows = count_is (columns_of a) a.rows.items;
   reals = refl;
@@ -65,14 +70,22 @@ value_agrees in_first a = record {
 -- a row and a column of the value are within what is kept
 module _ (a : Inside) (t : Contents) where
   pub row_within : (r : ℕ) → contents_of a ≡ t → r < length t.rows → r < length a.rows.items
-  row_within r view = row_kept a.reals a.basis.items (numbers_of a) (contents_of a) t view (value_agrees a.in_first a) r
+  row_within r view =
+      row_kept a.reals a.basis.items (numbers_of a) (contents_of a) t view
+      (value_agrees a.in_first a) r
 
   pub column_within : (q : ℕ) → contents_of a ≡ t → q < width t → q < columns_of a
-  column_within q view = column_kept a.reals a.basis.items (numbers_of a) (contents_of a) t view (value_agrees a.in_first a) q
+  column_within q view =
+      column_kept a.reals a.basis.items (numbers_of a) (contents_of a) t view
+      (value_agrees a.in_first a) q
 
   -- the tests that are made are those of what is read
-  pub tests_same : (r q : ℕ) → contents_of a ≡ t → r < length t.rows → q < width t → numbers_fit (columns_of a) r q a.in_first (numbers_of a) ≡ pivot_fits t.in_first (readings_of t) r q
-  tests_same r q view = tests_read a.reals a.basis.items (numbers_of a) (contents_of a) t view (value_agrees a.in_first a) r q
+  pub tests_same : (r q : ℕ) → contents_of a ≡ t → r < length t.rows → q < width t
+      → numbers_fit (columns_of a) r q a.in_first (numbers_of a)
+      ≡ pivot_fits t.in_first (readings_of t) r q
+  tests_same r q view =
+      tests_read a.reals a.basis.items (numbers_of a) (contents_of a) t view
+      (value_agrees a.in_first a) r q
 
 -- ---- nothing has changed
 
@@ -80,32 +93,47 @@ abbrev read_of : {X : Type 0} → X → (SparseRow → X) → Option SparseRow �
 read_of d f None = d
 read_of d f (Some row) = f row
 
-standing_same : {X : Type 0} (f : SparseRow → X) (rows others : List Row) → length rows ≡ length others → SameNow others rows → map (λ row. f row.now) rows ≡ map (λ row. f row.now) others
+standing_same : {X : Type 0} (f : SparseRow → X) (rows others : List Row)
+    → length rows ≡ length others → SameNow others rows
+    → map (λ row. f row.now) rows ≡ map (λ row. f row.now) others
 standing_same f [] [] e h = refl
 standing_same f [] (x ∷ xs) e h = absurd (omega (arith, e))
 standing_same f (x ∷ xs) [] e h = absurd (omega (arith, e))
-standing_same f (x ∷ xs) (y ∷ ys) e h = ap₂ (λ a b. a ∷ b) (ap (read_of (f x.now) f) (h 0)) (standing_same f xs ys (omega (arith, e)) (λ i. h (suc i)))
+standing_same f (x ∷ xs) (y ∷ ys) e h =
+    ap₂ (λ a b. a ∷ b) (ap (read_of (f x.now) f) (h 0)) (standing_same f xs ys (omega (arith, e))
+    (λ i. h (suc i)))
 
-module _ (a b : Inside) (reals : b.reals ≡ a.reals) (in_first : b.in_first ≡ a.in_first) (count : length b.rows.items ≡ length a.rows.items) (basis : b.basis.items ≡ a.basis.items) where
+module _ (a b : Inside) (reals : b.reals ≡ a.reals) (in_first : b.in_first ≡ a.in_first)
+    (count : length b.rows.items ≡ length a.rows.items)
+    (basis : b.basis.items ≡ a.basis.items) where
   columns_is : columns_of b ≡ columns_of a
   columns_is = ap₂ ◌+◌ reals count
 
-  pub view_same : SameNow a.rows.items b.rows.items → b.first.now ≡ a.first.now → b.second.now ≡ a.second.now → contents_of b ≡ contents_of a
+  pub view_same : SameNow a.rows.items b.rows.items → b.first.now ≡ a.first.now
+      → b.second.now ≡ a.second.now → contents_of b ≡ contents_of a
   view_same rows first second = λ k. record {
     reals = reals k;
-    rows = (ap (λ w. map (λ row. listed w (number_of row.now)) b.rows.items) columns_is ∙ standing_same (λ row. listed (columns_of a) (number_of row)) b.rows.items a.rows.items count rows) k;
-    rights = (ap (λ w. map (λ row. number_of row.now w) b.rows.items) columns_is ∙ standing_same (λ row. number_of row (columns_of a)) b.rows.items a.rows.items count rows) k;
+    rows = (ap (λ w. map (λ row. listed w (number_of row.now)) b.rows.items) columns_is
+        ∙ standing_same (λ row. listed (columns_of a) (number_of row)) b.rows.items a.rows.items
+        count rows) k;
+    rights = (ap (λ w. map (λ row. number_of row.now w) b.rows.items) columns_is
+        ∙ standing_same (λ row. number_of row (columns_of a)) b.rows.items a.rows.items count rows)
+        k;
     in_first = in_first k;
     first = listed (columns_is k) (number_of (first k));
     second = listed (columns_is k) (number_of (second k));
     basis = basis k;
   }
 
-pub wide_after : (before after : List Row) (n : ℕ) → length after ≡ length before → SameNow before after → AreWide n before → AreWide n after
-wide_after before after n count rows wide i b = ap width_at (rows i) ∙ wide i (subst (λ k. i < k) count b)
+pub wide_after : (before after : List Row) (n : ℕ) → length after ≡ length before
+    → SameNow before after → AreWide n before → AreWide n after
+wide_after before after n count rows wide i b =
+    ap width_at (rows i) ∙ wide i (subst (λ k. i < k) count b)
 
 -- the numbers of rows that stand as they did
-pub numbers_same : (a : Inside) (rows : List Row) (first second : SparseRow) → length rows ≡ length a.rows.items → SameNow a.rows.items rows → first ≡ a.first.now → second ≡ a.second.now → numbers_in rows first second ≡ numbers_of a
+pub numbers_same : (a : Inside) (rows : List Row) (first second : SparseRow)
+    → length rows ≡ length a.rows.items → SameNow a.rows.items rows → first ≡ a.first.now
+    → second ≡ a.second.now → numbers_in rows first second ≡ numbers_of a
 numbers_same a rows first second count same first_is second_is = λ k. record {
   rows = count k;
   number = λ i j. numbers (same i k) j;
@@ -115,11 +143,16 @@ numbers_same a rows first second count same first_is second_is = λ k. record {
 
 -- ---- after a pivot
 
-module _ (a b : Inside) (reals : b.reals ≡ a.reals) (count : length b.rows.items ≡ length a.rows.items) where
+module _ (a b : Inside) (reals : b.reals ≡ a.reals)
+    (count : length b.rows.items ≡ length a.rows.items) where
   same_width : columns_of b ≡ columns_of a
   same_width = ap₂ ◌+◌ reals count
 
-  pub kept_after : IsKept a → AreWide (columns_of a + 1) b.rows.items → width_of b.first.now ≡ width_of a.first.now → width_of b.second.now ≡ width_of a.second.now → width_of b.step ≡ width_of a.step → length b.basis.items ≡ length a.basis.items → length b.marks.items ≡ length a.marks.items → AreMarked (columns_of a + 1) b.marks.items b.rows.items → IsKept b
+  pub kept_after : IsKept a → AreWide (columns_of a + 1) b.rows.items
+      → width_of b.first.now ≡ width_of a.first.now → width_of b.second.now ≡ width_of a.second.now
+      → width_of b.step ≡ width_of a.step → length b.basis.items ≡ length a.basis.items
+      → length b.marks.items ≡ length a.marks.items
+      → AreMarked (columns_of a + 1) b.marks.items b.rows.items → IsKept b
   kept_after h wide first second step basis marks marked = record {
     few = subst (λ n. n + 1 < 2 ^ 32) (sym same_width) h.few;
     wide = λ i c. wide i c ∙ ap (λ n. n + 1) (sym same_width);
@@ -132,75 +165,121 @@ module _ (a b : Inside) (reals : b.reals ≡ a.reals) (count : length b.rows.ite
   }
 
   -- `middle` are the rows as they stood, beside which the pivot was worked out
-  pub pivoted_all : (r q : ℕ) (t : Contents) → contents_of a ≡ t → r < length t.rows → q < width t → b.in_first ≡ a.in_first → b.basis.items ≡ slice_set a.basis.items r q → (middle : Numbers) → middle ≡ numbers_of a → IsSettled (columns_of a) r q a.in_first middle (numbers_of b) → IsPivoted r q t (contents_of b)
+  pub pivoted_all : (r q : ℕ) (t : Contents) → contents_of a ≡ t → r < length t.rows → q < width t
+      → b.in_first ≡ a.in_first → b.basis.items ≡ slice_set a.basis.items r q → (middle : Numbers)
+      → middle ≡ numbers_of a → IsSettled (columns_of a) r q a.in_first middle (numbers_of b)
+      → IsPivoted r q t (contents_of b)
   pivoted_all r q t view row column in_first basis middle same s =
-      pivoted_read a.reals a.basis.items (numbers_of a) (contents_of a) t view (value_agrees a.in_first a) r q row column
-      b.reals b.basis.items (numbers_of b) (contents_of b) (value_agrees a.in_first b) reals basis count in_first
+      pivoted_read a.reals a.basis.items (numbers_of a) (contents_of a) t view
+      (value_agrees a.in_first a) r q row column
+      b.reals b.basis.items (numbers_of b) (contents_of b) (value_agrees a.in_first b) reals basis
+      count in_first
       (subst (λ K. IsSettled (columns_of a) r q a.in_first K (numbers_of b)) same s)
 
 -- rows that stand are marked as they were
-pub marked_same : (w : ℕ) (marks : List Bool) (before after : List Row) → length after ≡ length before → SameNow before after → AreMarked w marks before → AreMarked w marks after
+pub marked_same : (w : ℕ) (marks : List Bool) (before after : List Row)
+    → length after ≡ length before → SameNow before after → AreMarked w marks before
+    → AreMarked w marks after
 marked_same w marks before after count rows marked i b j c e =
-    ap (λ o. numbers o j) (rows i) ∙ marked i (subst (λ n. i < n) count b) j c (subst (λ n. is_marked marks n j i ≡ false) count e)
+    ap (λ o. numbers o j) (rows i) ∙ marked i (subst (λ n. i < n) count b) j c
+    (subst (λ n. is_marked marks n j i ≡ false) count e)
 
 -- ---- what the readers give
 
 module _ (a : Inside) (t : Contents) (view : contents_of a ≡ t) where
-  pub read_entry : (r q : ℕ) → q < width t → number_in_row a.rows.items r q ≡ (readings_of t).entry q r
+  pub read_entry : (r q : ℕ) → q < width t → number_in_row a.rows.items r q
+      ≡ (readings_of t).entry q r
   read_entry r q c =
-      sym (kept_entry (columns_of a) a.rows.items r q (column_within a t q view c)) ∙ ap (λ t. (readings_of t).entry q r) view
+      sym (kept_entry (columns_of a) a.rows.items r q (column_within a t q view c))
+      ∙ ap (λ t. (readings_of t).entry q r) view
 
-  pub entry_is : (r q : ℕ) (row : Row) → r < length t.rows → q < width t → row ≡ slice_index_or a.rows.items r row → number_of row.now q ≡ (readings_of t).entry q r
+  pub entry_is : (r q : ℕ) (row : Row) → r < length t.rows → q < width t
+      → row ≡ slice_index_or a.rows.items r row → number_of row.now q ≡ (readings_of t).entry q r
   entry_is r q row b c is =
-      ap (λ x. number_of x.now q) is ∙ sym (ap (λ o. numbers o q) (row_is a.rows.items r row (row_within a t r view b)))
+      ap (λ x. number_of x.now q) is
+      ∙ sym (ap (λ o. numbers o q) (row_is a.rows.items r row (row_within a t r view b)))
       ∙ sym (kept_entry (columns_of a) a.rows.items r q (column_within a t q view c))
       ∙ ap (λ t. (readings_of t).entry q r) view
 
-  pub unmarked_is : IsKept a → (r q : ℕ) → r < length t.rows → q < width t → is_marked a.marks.items (length a.rows.items) q r ≡ false → zero_ℚ ≡ (readings_of t).entry q r
+  pub unmarked_is : IsKept a → (r q : ℕ) → r < length t.rows → q < width t
+      → is_marked a.marks.items (length a.rows.items) q r ≡ false
+      → zero_ℚ ≡ (readings_of t).entry q r
   unmarked_is h r q b c e =
       sym (h.marked r (row_within a t r view b) q (omega (arith, column_within a t q view c)) e)
       ∙ sym (kept_entry (columns_of a) a.rows.items r q (column_within a t q view c))
       ∙ ap (λ t. (readings_of t).entry q r) view
 
-  pub right_is : (r : ℕ) (row : Row) → r < length t.rows → row ≡ slice_index_or a.rows.items r row → number_of row.now (columns_of a) ≡ (readings_of t).right r
+  pub right_is : (r : ℕ) (row : Row) → r < length t.rows → row ≡ slice_index_or a.rows.items r row
+      → number_of row.now (columns_of a) ≡ (readings_of t).right r
   right_is r row b is =
-      ap (λ x. number_of x.now (columns_of a)) is ∙ sym (ap (λ o. numbers o (columns_of a)) (row_is a.rows.items r row (row_within a t r view b)))
+      ap (λ x. number_of x.now (columns_of a)) is
+      ∙ sym (ap (λ o. numbers o (columns_of a)) (row_is a.rows.items r row
+      (row_within a t r view b)))
       ∙ sym (kept_right (columns_of a) a.rows.items r)
       ∙ ap (λ t. (readings_of t).right r) view
 
   pub first_is : (q : ℕ) → q < width t → number_of a.first.now q ≡ cell t.first q
-  first_is q c = sym (cell-listed (columns_of a) (number_of a.first.now) q (column_within a t q view c)) ∙ ap (λ t. cell t.first q) view
+  first_is q c =
+      sym (cell-listed (columns_of a) (number_of a.first.now) q (column_within a t q view c))
+      ∙ ap (λ t. cell t.first q) view
 
   pub second_is : (q : ℕ) → q < width t → number_of a.second.now q ≡ cell t.second q
-  second_is q c = sym (cell-listed (columns_of a) (number_of a.second.now) q (column_within a t q view c)) ∙ ap (λ t. cell t.second q) view
+  second_is q c =
+      sym (cell-listed (columns_of a) (number_of a.second.now) q (column_within a t q view c))
+      ∙ ap (λ t. cell t.second q) view
 
-  pub first_priced : (phase q : ℕ) → q < width t → phase ≡ 1 → number_of a.first.now q ≡ prices_of phase t q
+  pub first_priced : (phase q : ℕ) → q < width t → phase ≡ 1
+      → number_of a.first.now q ≡ prices_of phase t q
   first_priced phase q c e = first_is q c ∙ ap (λ p. prices_of p t q) (sym e)
 
-  pub second_priced : (phase q : ℕ) → q < width t → ¬ (phase ≡ 1) → number_of a.second.now q ≡ prices_of phase t q
-  second_priced phase q c n = second_is q c ∙ (λ k. sym (cond-false (nat_eq phase 1) (cell t.first) (cell t.second) (ne_eqb phase 1 n)) k q)
+  pub second_priced : (phase q : ℕ) → q < width t → ¬ (phase ≡ 1)
+      → number_of a.second.now q ≡ prices_of phase t q
+  second_priced phase q c n =
+      second_is q c ∙ (λ k. sym (cond-false (nat_eq phase 1) (cell t.first) (cell t.second)
+      (ne_eqb phase 1 n)) k q)
 
-  pub nonzero_is : (r : ℕ) (row : Row) → r < length t.rows → row ≡ slice_index_or a.rows.items r row → (q : ℕ) → (q < a.reals) × ¬ (number_of row.now q ≡ zero_ℚ) → (q < t.reals) × ¬ ((readings_of t).entry q r ≡ zero_ℚ)
-  nonzero_is r row b is q h =
-      (subst (λ t. q < t.reals) view h.0, λ e. h.1 (entry_is r q row b (subst (λ t. q < width t) view (real_column q a.reals _ h.0)) is ∙ e))
+  pub nonzero_is : (r : ℕ) (row : Row) → r < length t.rows → row ≡ slice_index_or a.rows.items r row
+      → (q : ℕ) → (q < a.reals) × ¬ (number_of row.now q ≡ zero_ℚ)
+      → (q < t.reals) × ¬ ((readings_of t).entry q r ≡ zero_ℚ)
+  nonzero_is r row b is q h = (
+    subst (λ t. q < t.reals) view h.0,
+    λ e. h.1 (entry_is r q row b (subst (λ t. q < width t) view (real_column q a.reals _ h.0))
+        is ∙ e),
+  )
 
-  listed_negative : (f : ℕ → Rational) → least_below a.reals (λ j. is_below (f j) zero_ℚ) ≡ least_below a.reals (λ j. is_below (cell (listed (columns_of a) f) j) zero_ℚ)
-  listed_negative f = least_below_same a.reals (λ j. is_below (f j) zero_ℚ) (λ j. is_below (cell (listed (columns_of a) f) j) zero_ℚ) (λ j b. ap (λ x. is_below x zero_ℚ) (sym (cell-listed (columns_of a) f j (omega (arith, b)))))
+  listed_negative : (f : ℕ → Rational) → least_below a.reals (λ j. is_below (f j) zero_ℚ)
+      ≡ least_below a.reals (λ j. is_below (cell (listed (columns_of a) f) j) zero_ℚ)
+  listed_negative f =
+      least_below_same a.reals (λ j. is_below (f j) zero_ℚ)
+      (λ j. is_below (cell (listed (columns_of a) f) j) zero_ℚ) (λ j b. ap (λ x. is_below x zero_ℚ)
+      (sym (cell-listed (columns_of a) f j (omega (arith, b)))))
 
-  pub first_entering : (phase : ℕ) → phase ≡ 1 → least_below a.reals (λ j. is_below (number_of a.first.now j) zero_ℚ) ≡ entering (readings_of t) (prices_of phase t)
+  pub first_entering : (phase : ℕ) → phase ≡ 1
+      → least_below a.reals (λ j. is_below (number_of a.first.now j) zero_ℚ)
+      ≡ entering (readings_of t) (prices_of phase t)
   first_entering phase e =
-      listed_negative (number_of a.first.now) ∙ ap (λ t. entering (readings_of t) (cell t.first)) view
+      listed_negative (number_of a.first.now)
+      ∙ ap (λ t. entering (readings_of t) (cell t.first)) view
       ∙ ap (λ p. entering (readings_of t) (prices_of p t)) (sym e)
 
-  pub second_entering : (phase : ℕ) → ¬ (phase ≡ 1) → least_below a.reals (λ j. is_below (number_of a.second.now j) zero_ℚ) ≡ entering (readings_of t) (prices_of phase t)
+  pub second_entering : (phase : ℕ) → ¬ (phase ≡ 1)
+      → least_below a.reals (λ j. is_below (number_of a.second.now j) zero_ℚ)
+      ≡ entering (readings_of t) (prices_of phase t)
   second_entering phase n =
-      listed_negative (number_of a.second.now) ∙ ap (λ t. entering (readings_of t) (cell t.second)) view
-      ∙ ap (entering (readings_of t)) (λ k q. sym (cond-false (nat_eq phase 1) (cell t.first) (cell t.second) (ne_eqb phase 1 n)) k q)
+      listed_negative (number_of a.second.now)
+      ∙ ap (λ t. entering (readings_of t) (cell t.second)) view
+      ∙ ap (entering (readings_of t)) (λ k q. sym (cond-false (nat_eq phase 1) (cell t.first)
+      (cell t.second) (ne_eqb phase 1 n)) k q)
 
-  pub swept_is : (r : ℕ) (row : Row) → r < length t.rows → row ≡ slice_index_or a.rows.items r row → least_below a.reals (λ j. not (rational_eq (number_of row.now j) zero_ℚ)) ≡ swept_column (readings_of t) r
+  pub swept_is : (r : ℕ) (row : Row) → r < length t.rows → row ≡ slice_index_or a.rows.items r row
+      → least_below a.reals (λ j. not (rational_eq (number_of row.now j) zero_ℚ))
+      ≡ swept_column (readings_of t) r
   swept_is r row b is =
-      least_below_same a.reals (λ j. not (rational_eq (number_of row.now j) zero_ℚ)) (λ j. not (rational_eq ((readings_of (contents_of a)).entry j r) zero_ℚ))
-      (λ j c. ap (λ x. not (rational_eq x zero_ℚ)) (ap (λ x. number_of x.now j) is ∙ sym (ap (λ o. numbers o j) (row_is a.rows.items r row (row_within a t r view b))) ∙ sym (kept_entry (columns_of a) a.rows.items r j (omega (arith, c)))))
+      least_below_same a.reals (λ j. not (rational_eq (number_of row.now j) zero_ℚ))
+      (λ j. not (rational_eq ((readings_of (contents_of a)).entry j r) zero_ℚ))
+      (λ j c. ap (λ x. not (rational_eq x zero_ℚ)) (ap (λ x. number_of x.now j) is
+      ∙ sym (ap (λ o. numbers o j) (row_is a.rows.items r row (row_within a t r view b)))
+      ∙ sym (kept_entry (columns_of a) a.rows.items r j (omega (arith, c)))))
       ∙ ap (λ t. swept_column (readings_of t) r) view
 
 -- ---- a mark that is read
@@ -208,13 +287,22 @@ module _ (a : Inside) (t : Contents) (view : contents_of a ≡ t) where
 pub vec_count : (a : Inside) (n : ℕ) → n ≡ vec_len a.rows → n ≡ length a.rows.items
 vec_count a n e = e ∙ a.rows.ok.0
 
-pub marked_read : (a : Inside) → IsKept a → (r q n : ℕ) (item : Bool) → r < length a.rows.items → q < columns_of a → n ≡ length a.rows.items → item ≡ slice_index_or a.marks.items (q * n + r) item → item ≡ is_marked a.marks.items (length a.rows.items) q r
+pub marked_read : (a : Inside) → IsKept a → (r q n : ℕ) (item : Bool) → r < length a.rows.items
+    → q < columns_of a → n ≡ length a.rows.items
+    → item ≡ slice_index_or a.marks.items (q * n + r) item
+    → item ≡ is_marked a.marks.items (length a.rows.items) q r
 marked_read a h r q n item b c e is =
     is ∙ ap (λ m. slice_index_or a.marks.items (q * m + r) item) e
-    ∙ get_or_default a.marks.items (q * length a.rows.items + r) item false (place_below (columns_of a + 1) (length a.rows.items) q r (length a.marks.items) h.marks (omega (arith, c)) b)
+    ∙ get_or_default a.marks.items (q * length a.rows.items + r) item false
+    (place_below (columns_of a + 1) (length a.rows.items) q r (length a.marks.items) h.marks
+    (omega (arith, c)) b)
 
 -- ---- what was worked out, of rows and marks that are the same
 
-pub ready_same : (rows old_rows : List Row) (r q : ℕ) (marks old_marks : List Bool) (in_first : Bool) (first second : Row) (step : SparseRow) → rows ≡ old_rows → marks ≡ old_marks → IsReady old_rows r q old_marks in_first first second step → IsReady rows r q marks in_first first second step
+pub ready_same : (rows old_rows : List Row) (r q : ℕ) (marks old_marks : List Bool)
+    (in_first : Bool) (first second : Row) (step : SparseRow) → rows ≡ old_rows → marks ≡ old_marks
+    → IsReady old_rows r q old_marks in_first first second step
+    → IsReady rows r q marks in_first first second step
 ready_same rows old_rows r q marks old_marks in_first first second step e f h =
-    subst (λ l. IsReady l r q marks in_first first second step) (sym e) (subst (λ l. IsReady old_rows r q l in_first first second step) (sym f) h)
+    subst (λ l. IsReady l r q marks in_first first second step) (sym e)
+    (subst (λ l. IsReady old_rows r q l in_first first second step) (sym f) h)

@@ -14,34 +14,56 @@ use Rattle.sparse_board.specs.Rows.{AreLowered, AreWide, SameWidths, now_at, now
 use Rattle.sparse_board.specs.Pivoting.{IsReady}
 
 -- the other rows first, and then the pivot's
-module _ (before middle : List Row) (r : ℕ) (step : SparseRow) (new : Row) (count : length middle ≡ length before) (row : r < length before) (is : new.now ≡ step) where
+module _ (before middle : List Row) (r : ℕ) (step : SparseRow) (new : Row)
+    (count : length middle ≡ length before) (row : r < length before) (is : new.now ≡ step) where
   new_row : now_at (slice_set middle r new) r ≡ Some step
   new_row = ap now_of (written_at middle r new (subst (λ n. r < n) (sym count) row)) ∙ ap Some is
 
-  pub settled-wide : (n : ℕ) → width_of step ≡ n → AreWide n before → SameWidths before middle → AreWide n (slice_set middle r new)
+  pub settled-wide : (n : ℕ) → width_of step ≡ n → AreWide n before → SameWidths before middle
+      → AreWide n (slice_set middle r new)
   settled-wide n long wide same =
-      each_written (λ i o. i < length (slice_set middle r new) → width_at (now_of o) ≡ n) middle r new (subst (λ k. r < k) (sym count) row)
-      (λ _. ap width_of is ∙ long) (λ i m b. same i ∙ wide i (subst (λ k. i < k) (length-set middle r new ∙ count) b))
+      each_written (λ i o. i < length (slice_set middle r new) → width_at (now_of o) ≡ n) middle r
+      new (subst (λ k. r < k) (sym count) row)
+      (λ _. ap width_of is ∙ long) (λ i m b. same i
+      ∙ wide i (subst (λ k. i < k) (length-set middle r new ∙ count) b))
 
-  module _ (w q : ℕ) (in_first : Bool) (first second first_next second_next : Row) (wide : AreWide (w + 1) before) (long : width_of step ≡ w + 1) (marks : List Bool) (ready : IsReady before r q marks in_first first second step) (low : AreLowered r q (number_of step) before middle) where
-    lowered_by : (row next : SparseRow) → width_of row ≡ w → IsLowered (number_of row q) (number_of step) row next → AreLess w q (number_of step) (number_of row) (number_of next)
+  module _ (w q : ℕ) (in_first : Bool) (first second first_next second_next : Row)
+      (wide : AreWide (w + 1) before) (long : width_of step ≡ w + 1) (marks : List Bool)
+      (ready : IsReady before r q marks in_first first second step)
+      (low : AreLowered r q (number_of step) before middle) where
+    lowered_by : (row next : SparseRow) → width_of row ≡ w
+        → IsLowered (number_of row q) (number_of step) row next
+        → AreLess w q (number_of step) (number_of row) (number_of next)
     lowered_by row next e l j b = l.numbers j (subst (λ n. j < n) (sym e) b)
 
-    pub settled-all : width_of first.now ≡ w → width_of second.now ≡ w → (IsTrue in_first → IsLowered (number_of first.now q) (number_of step) first.now first_next.now) → IsLowered (number_of second.now q) (number_of step) second.now second_next.now → IsSettled w r q in_first (numbers_in before first.now second.now) (numbers_in (slice_set middle r new) first_next.now second_next.now)
+    pub settled-all : width_of first.now ≡ w → width_of second.now ≡ w
+        → (IsTrue in_first → IsLowered (number_of first.now q) (number_of step) first.now
+        first_next.now) → IsLowered (number_of second.now q)
+        (number_of step) second.now second_next.now
+        → IsSettled w r q in_first (numbers_in before first.now second.now)
+        (numbers_in (slice_set middle r new) first_next.now second_next.now)
     settled-all f s first_low second_low =
-        settled_by w r q in_first (numbers_in before first.now second.now) (numbers_in (slice_set middle r new) first_next.now second_next.now) (number_of step)
+        settled_by w r q in_first (numbers_in before first.now second.now)
+        (numbers_in (slice_set middle r new) first_next.now second_next.now) (number_of step)
         (λ j. ap (λ o. numbers o j) new_row)
         (λ j b. ready.divided j (subst (λ n. j < n) (sym long) b))
-        (λ i b m j c. ap (λ o. numbers (now_of o) j) (written_off middle r i new m) ∙ low i b m j (subst (λ n. j < n) (sym (wide i b)) c))
-        (λ u. lowered_by first.now first_next.now f (first_low u)) (lowered_by second.now second_next.now s second_low)
+        (λ i b m j c. ap (λ o. numbers (now_of o) j) (written_off middle r i new m)
+        ∙ low i b m j (subst (λ n. j < n) (sym (wide i b)) c))
+        (λ u. lowered_by first.now first_next.now f (first_low u))
+        (lowered_by second.now second_next.now s second_low)
 
 -- units that agree in w columns
-pub prepared_same : (w q : ℕ) (u v : ℕ → Rational) (row : Row) → width_of row.now ≡ w → ((j : ℕ) → j < w → u j ≡ v j) → IsPrepared q u row → IsPrepared q v row
+pub prepared_same : (w q : ℕ) (u v : ℕ → Rational) (row : Row) → width_of row.now ≡ w
+    → ((j : ℕ) → j < w → u j ≡ v j) → IsPrepared q u row → IsPrepared q v row
 prepared_same w q u v row wide same prepared = by_flag row.changes prepared
   where
-    by_flag : (b : Bool) → MatchBool b (IsLowered (number_of row.now q) u row.now row.next) (number_of row.now q ≡ zero_ℚ) → MatchBool b (IsLowered (number_of row.now q) v row.now row.next) (number_of row.now q ≡ zero_ℚ)
+    by_flag : (b : Bool) → MatchBool b (IsLowered (number_of row.now q) u row.now row.next)
+        (number_of row.now q ≡ zero_ℚ)
+        → MatchBool b (IsLowered (number_of row.now q) v row.now row.next)
+        (number_of row.now q ≡ zero_ℚ)
     by_flag true l = record {
       width = l.width;
-      numbers = λ j b. l.numbers j b ∙ ap (λ x. number_of row.now j -ℚ number_of row.now q *ℚ x) (same j (subst (λ n. j < n) wide b));
+      numbers = λ j b. l.numbers j b ∙ ap (λ x. number_of row.now j -ℚ number_of row.now q *ℚ x)
+          (same j (subst (λ n. j < n) wide b));
     }
     by_flag false z = z

@@ -17,9 +17,12 @@ use Rattle.sparse_board.specs.Kept.{IsKept, columns_of}
 use Rattle.sparse_board.proofs.HeldLemmas.{held_more, held_next, held_past}
 
 -- a cost row has the numbers that it is made of
-pub costs_are : (n : ℕ) (f : ℕ → Rational) (numbers given : List Rational) (row : SparseRow) → numbers ≡ given → IsListOf n f given → HoldsBelow (length numbers) (cell numbers) row → (j : ℕ) → j < n → number_of row j ≡ f j
+pub costs_are : (n : ℕ) (f : ℕ → Rational) (numbers given : List Rational) (row : SparseRow)
+    → numbers ≡ given → IsListOf n f given → HoldsBelow (length numbers) (cell numbers) row
+    → (j : ℕ) → j < n → number_of row j ≡ f j
 costs_are n f numbers given row e h held j b =
-    held.numbers j (subst (λ k. j < k) (sym (ap length e ∙ h.long)) b) ∙ ap (λ l. cell l j) e ∙ h.cells j b
+    held.numbers j (subst (λ k. j < k) (sym (ap length e ∙ h.long)) b) ∙ ap (λ l. cell l j) e
+    ∙ h.cells j b
 
 module _ (F : Form) (i : ℕ) (row : i < F.rows) where
   abbrev entries : ℕ → Rational
@@ -38,19 +41,30 @@ module _ (F : Form) (i : ℕ) (row : i < F.rows) where
       less_lem : (c i : ℕ) → c + i - c ≡ i
       less_lem c i = omega arith
 
-  pub real_added : (j : ℕ) (x : Rational) (old new : SparseRow) → j < F.reals → x ≡ F.matrix i j → HoldsBelow j entries old → Adds j x old new → HoldsBelow (j + 1) entries new
-  real_added j x old new b is held adds = held_more j entries x old new held adds (real-entry F j i x row b is)
+  pub real_added : (j : ℕ) (x : Rational) (old new : SparseRow) → j < F.reals → x ≡ F.matrix i j
+      → HoldsBelow j entries old → Adds j x old new → HoldsBelow (j + 1) entries new
+  real_added j x old new b is held adds =
+      held_more j entries x old new held adds (real-entry F j i x row b is)
 
-  pub unit_added : (x : Rational) (old new : SparseRow) → x ≡ one_ℚ → HoldsBelow F.reals entries old → Adds (F.reals + i) x old new → HoldsBelow (F.reals + F.rows) entries new
+  pub unit_added : (x : Rational) (old new : SparseRow) → x ≡ one_ℚ → HoldsBelow F.reals entries old
+      → Adds (F.reals + i) x old new → HoldsBelow (F.reals + F.rows) entries new
   unit_added x old new is held adds =
       held_past (F.reals + i + 1) (F.reals + F.rows) entries new
-      (held_next F.reals (F.reals + i) entries x old new held (omega arith) (λ j b c. other_zero j b (λ e. omega (arith, c, e))) adds (unit_is x is))
+      (held_next F.reals (F.reals + i) entries x old new held (omega arith)
+      (λ j b c. other_zero j b (λ e. omega (arith, c, e))) adds (unit_is x is))
       (omega (arith, row)) (λ j b c. other_zero j (omega (arith, b)) (λ e. omega (arith, b, e)))
 
-  pub side_entries : (x : Rational) (old new : SparseRow) → HoldsBelow (F.reals + F.rows) entries old → Adds (F.reals + F.rows) x old new → (j : ℕ) → j < F.reals + F.rows → number_of new j ≡ entries j
-  side_entries x old new held adds j b = adds.elsewhere j (λ e. omega (arith, b, e)) ∙ held.numbers j b
+  pub side_entries : (x : Rational) (old new : SparseRow)
+      → HoldsBelow (F.reals + F.rows) entries old → Adds (F.reals + F.rows) x old new → (j : ℕ)
+      → j < F.reals + F.rows → number_of new j ≡ entries j
+  side_entries x old new held adds j b =
+      adds.elsewhere j (λ e. omega (arith, b, e)) ∙ held.numbers j b
 
-pub start-kept : (a : Inside) (m : ℕ) → length a.rows.items ≡ m → a.reals + m + 1 < 2 ^ 32 → AreWide (a.reals + m + 1) a.rows.items → width_of a.first.now ≡ a.reals + m → width_of a.second.now ≡ a.reals + m → width_of a.step ≡ a.reals + m + 1 → length a.basis.items ≡ m → length a.marks.items ≡ (a.reals + m + 1) * length a.rows.items → AreMarked (a.reals + m + 1) a.marks.items a.rows.items → IsKept a
+pub start-kept : (a : Inside) (m : ℕ) → length a.rows.items ≡ m → a.reals + m + 1 < 2 ^ 32
+    → AreWide (a.reals + m + 1) a.rows.items → width_of a.first.now ≡ a.reals + m
+    → width_of a.second.now ≡ a.reals + m → width_of a.step ≡ a.reals + m + 1
+    → length a.basis.items ≡ m → length a.marks.items ≡ (a.reals + m + 1) * length a.rows.items
+    → AreMarked (a.reals + m + 1) a.marks.items a.rows.items → IsKept a
 start-kept a m count few wide first second step basis marks marked = record {
   few = subst (λ n. n + 1 < 2 ^ 32) same_width few;
   wide = λ i b. wide i b ∙ ap (λ n. n + 1) same_width;

@@ -10,7 +10,8 @@ product_up zero b m = ap (λ n. min n m) (none (min b m) ∙ sym (none b))
   where
     none : (n : ℕ) → 0 * n ≡ 0
     none n = omega arith
-product_up (suc k) b m = by_size (mul-le-mul_right b (one_at_most k)) (mul-le-mul_right m (one_at_most k))
+product_up (suc k) b m =
+    by_size (mul-le-mul_right b (one_at_most k)) (mul-le-mul_right m (one_at_most k))
   where
     one_at_most : (k : ℕ) → 1 ≤ suc k
     one_at_most k = omega arith
@@ -31,9 +32,13 @@ product_up (suc k) b m = by_size (mul-le-mul_right b (one_at_most k)) (mul-le-mu
             both : (u v : ℕ) → 1 * m ≤ u → 1 * b ≤ v → m ≤ b → min u m ≡ min v m
             both u v q p h = omega (arith, q, p, h)
 
-pub cells_up : (p s e m parts columns all one result : ℕ) → parts ≡ min p m → columns ≡ min (parts + s) m → all ≡ min (columns + e) m → one ≡ min (all + 1) m → result ≡ min (e * one) m → result ≡ min (e * (p + s + e + 1)) m
+pub cells_up : (p s e m parts columns all one result : ℕ) → parts ≡ min p m
+    → columns ≡ min (parts + s) m → all ≡ min (columns + e) m → one ≡ min (all + 1) m
+    → result ≡ min (e * one) m → result ≡ min (e * (p + s + e + 1)) m
 cells_up p s e m parts columns all one result a b c d f =
-    f ∙ ap (λ n. min (e * n) m) (cut p s e m parts columns all one a b c d) ∙ product_up e (p + s + e + 1) m
+    f ∙ ap (λ n. min (e * n) m) (cut p s e m parts columns all one a b c d)
+    ∙ product_up e (p + s + e + 1) m
   where
-    cut : (p s e m parts columns all one : ℕ) → parts ≡ min p m → columns ≡ min (parts + s) m → all ≡ min (columns + e) m → one ≡ min (all + 1) m → one ≡ min (p + s + e + 1) m
+    cut : (p s e m parts columns all one : ℕ) → parts ≡ min p m → columns ≡ min (parts + s) m
+        → all ≡ min (columns + e) m → one ≡ min (all + 1) m → one ≡ min (p + s + e + 1) m
     cut p s e m parts columns all one a b c d = omega (arith, a, b, c, d)

@@ -16,7 +16,8 @@ use Rattle.std_form.specs.Indexed.{cost_in, is_greatest, objective_in}
 use Rattle.std_form.specs.NameLaws.{index_order}
 
 module _ {X Y : Type 0} (f : X → List Y) where
-  pub pushed_all : (xs : List X) (i : ℕ) (start old : List Y) → length xs ≤ i → old ≡ start ++ flat_map f (take i xs) → old ≡ start ++ flat_map f xs
+  pub pushed_all : (xs : List X) (i : ℕ) (start old : List Y) → length xs ≤ i
+      → old ≡ start ++ flat_map f (take i xs) → old ≡ start ++ flat_map f xs
   pushed_all xs i start old h so_far = so_far ∙ ap (λ ys. start ++ flat_map f ys) (take_all i xs h)
 
 -- ---- numbers at columns
@@ -31,7 +32,8 @@ twice false false q = refl
 abbrev pub chunk : Bool → (ℕ → Rational) → ℕ × LeafVar → List Rational
 chunk negated g var = map (λ b. flipped b (flipped negated (g var.0))) (signs var.1)
 
-pub chunks : (negated : Bool) (g : ℕ → Rational) (vars : List (ℕ × LeafVar)) → flat_map (chunk negated g) vars ≡ map (flipped negated) (numbers_at (parts_among vars) g)
+pub chunks : (negated : Bool) (g : ℕ → Rational) (vars : List (ℕ × LeafVar))
+    → flat_map (chunk negated g) vars ≡ map (flipped negated) (numbers_at (parts_among vars) g)
 chunks negated g [] = refl
 chunks negated g ((i, Free) ∷ vars) =
     λ k. twice false negated (g i) k ∷ twice true negated (g i) k ∷ chunks negated g vars k
@@ -40,24 +42,35 @@ chunks negated g ((i, Nonneg) ∷ vars) = λ k. twice false negated (g i) k ∷ 
 -- ---- one for each item
 
 module _ {X Y : Type 0} (f : X → Y) where
-  pub mapped_more : (xs : List X) (i : ℕ) (d : X) (start old new : List Y) (y : Y) → i < length xs → old ≡ start ++ map f (take i xs) → y ≡ f (slice_index_or xs i d) → new ≡ old ++ y ∷ [] → new ≡ start ++ map f (take (i + 1) xs)
+  pub mapped_more : (xs : List X) (i : ℕ) (d : X) (start old new : List Y) (y : Y) → i < length xs
+      → old ≡ start ++ map f (take i xs) → y ≡ f (slice_index_or xs i d) → new ≡ old ++ y ∷ []
+      → new ≡ start ++ map f (take (i + 1) xs)
   mapped_more xs i d start old new y h so_far is pushed =
-      pushed ∙ ap₂ (λ ys z. ys ++ z ∷ []) so_far is ∙ append_assoc start (map f (take i xs)) (f (slice_index_or xs i d) ∷ [])
+      pushed ∙ ap₂ (λ ys z. ys ++ z ∷ []) so_far is ∙ append_assoc start (map f (take i xs))
+      (f (slice_index_or xs i d) ∷ [])
       ∙ ap (λ ys. start ++ ys) (sym (map_more f xs i d h))
 
-  pub mapped_all : (xs : List X) (i : ℕ) (start old : List Y) → length xs ≤ i → old ≡ start ++ map f (take i xs) → old ≡ start ++ map f xs
+  pub mapped_all : (xs : List X) (i : ℕ) (start old : List Y) → length xs ≤ i
+      → old ≡ start ++ map f (take i xs) → old ≡ start ++ map f xs
   mapped_all xs i start old h so_far = so_far ∙ ap (λ ys. start ++ map f ys) (take_all i xs h)
 
 -- ---- costs
 
-negated_numbers : (f : SolverFunction) (parts : List (ℕ × Bool)) → map neg_ℚ (numbers_at parts (coefficient f)) ≡ numbers_at parts (coefficient (negated f))
+negated_numbers : (f : SolverFunction) (parts : List (ℕ × Bool))
+    → map neg_ℚ (numbers_at parts (coefficient f)) ≡ numbers_at parts (coefficient (negated f))
 negated_numbers f [] = refl
 negated_numbers f (part ∷ parts) =
-    ap₂ ◌∷◌ (twice true part.1 (coefficient f part.0) ∙ ap (flipped part.1) (sym (coefficient-negated index_order f part.0))) (negated_numbers f parts)
+    ap₂ ◌∷◌ (twice true part.1 (coefficient f part.0)
+    ∙ ap (flipped part.1) (sym (coefficient-negated index_order f part.0)))
+    (negated_numbers f parts)
 
-by_sense : (b : Bool) (f : SolverFunction) (parts : List (ℕ × Bool)) → map (flipped b) (numbers_at parts (coefficient f)) ≡ numbers_at parts (coefficient (cond b (negated f) f))
+by_sense : (b : Bool) (f : SolverFunction) (parts : List (ℕ × Bool))
+    → map (flipped b) (numbers_at parts (coefficient f))
+    ≡ numbers_at parts (coefficient (cond b (negated f) f))
 by_sense true f parts = negated_numbers f parts
 by_sense false f parts = map-id (numbers_at parts (coefficient f))
 
-pub cost_numbers : (o : Option LeafObjective) (parts : List (ℕ × Bool)) → map (flipped (is_greatest o)) (numbers_at parts (coefficient (objective_in o))) ≡ numbers_at parts (coefficient (cost_in o))
+pub cost_numbers : (o : Option LeafObjective) (parts : List (ℕ × Bool))
+    → map (flipped (is_greatest o)) (numbers_at parts (coefficient (objective_in o)))
+    ≡ numbers_at parts (coefficient (cost_in o))
 cost_numbers o parts = by_sense (is_greatest o) (objective_in o) parts

@@ -9,7 +9,8 @@ use Rattle.std_form.specs.Answers.{dual_lists, points}
 use Rattle.std_form.specs.Borrowed.{row_in}
 
 -- the first i variables have their values, and the others have them in what is left
-pub record AreReadTo (vars : List (ℕ × LeafVar)) (x : List Rational) (i : ℕ) (left : List Rational) (values : List (ℕ × Rational)) : Type 0 where
+pub record AreReadTo (vars : List (ℕ × LeafVar)) (x : List Rational) (i : ℕ) (left : List Rational)
+    (values : List (ℕ × Rational)) : Type 0 where
   pub all : values ++ points (drop i vars) left ≡ points vars x
   pub fit : ValuesFit (drop i vars) left → ValuesFit vars x
   pub back : ValuesFit vars x → ValuesFit (drop i vars) left

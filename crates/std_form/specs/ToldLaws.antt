@@ -80,7 +80,8 @@ module _ (map : AddressMap) (leaves : Leaves) (one : IsOneToOne map.vars.indices
   tells_through (Err Memory) h = tt
 
 -- what is told by index of reading back
-abbrev pub TellsByIndex : AddressMap → Leaves → StdForm → SolverAnswer → Result LeafAnswer NumberFault
+abbrev pub TellsByIndex : AddressMap → Leaves → StdForm → SolverAnswer
+    → Result LeafAnswer NumberFault
     → Type 0
 TellsByIndex map leaves form a (Ok answer) = (answer ≡ read_by_index map leaves form.flips a)
     × FitByIndex map leaves a

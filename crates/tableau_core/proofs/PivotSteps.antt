@@ -10,7 +10,9 @@ use Rattle.tableau_core.specs.TestLaws as tests
 use Rattle.simplex_laws.specs.SearchLaws.{all_below_same}
 
 -- `step` is the pivot's new row; the cost rows have w numbers
-module _ (w : ℕ) (rows : List Row) (r q : ℕ) (in_first : Bool) (first second step : List Rational) (row : r < length rows) (wide : AreWide (w + 1) rows) (divided : IsDivided (cell (now_at rows r) q) (now_at rows r) step) where
+module _ (w : ℕ) (rows : List Row) (r q : ℕ) (in_first : Bool) (first second step : List Rational)
+    (row : r < length rows) (wide : AreWide (w + 1) rows)
+    (divided : IsDivided (cell (now_at rows r) q) (now_at rows r) step) where
   abbrev K : Numbers
   K = numbers_in rows first second
 
@@ -21,23 +23,34 @@ module _ (w : ℕ) (rows : List Row) (r q : ℕ) (in_first : Bool) (first second
   rows-wide =
       all_below_same (length rows)
       (λ i. nat_eq i r || lowering_fits q step (now_at rows i))
-      (λ i. nat_eq i r || differences_fit (w + 1) (cell (now_at rows i)) (cell (now_at rows i) q) (cell step))
-      (λ i b. ap (λ n. nat_eq i r || differences_fit n (cell (now_at rows i)) (cell (now_at rows i) q) (cell step)) (wide i b))
+      (λ i. nat_eq i r || differences_fit (w + 1) (cell (now_at rows i))
+      (cell (now_at rows i) q) (cell step))
+      (λ i b. ap (λ n. nat_eq i r || differences_fit n (cell (now_at rows i))
+      (cell (now_at rows i) q) (cell step)) (wide i b))
 
   pub others-refused : rows_fit r q step rows ≡ false → numbers_fit w r q in_first K ≡ false
-  others-refused e = tests.others-refused w r q in_first K (cell step) divided_is (sym rows-wide ∙ e)
+  others-refused e =
+      tests.others-refused w r q in_first K (cell step) divided_is (sym rows-wide ∙ e)
 
   -- the quotients fit, and so do the other rows
-  module _ (quotients : quotients_fit (length (now_at rows r)) (cell (now_at rows r)) (cell (now_at rows r) q) ≡ true) (others : rows_fit r q step rows ≡ true) where
-    costs-decide : costs_fit w q in_first (cell first) (cell second) (cell step) ≡ numbers_fit w r q in_first K
+  module _ (quotients : quotients_fit (length (now_at rows r)) (cell (now_at rows r))
+      (cell (now_at rows r) q) ≡ true) (others : rows_fit r q step rows ≡ true) where
+    costs-decide : costs_fit w q in_first (cell first) (cell second) (cell step)
+        ≡ numbers_fit w r q in_first K
     costs-decide =
         tests.costs-decide w r q in_first K (cell step) divided_is
-        (subst (λ n. quotients_fit n (cell (now_at rows r)) (cell (now_at rows r) q) ≡ true) (wide r row) quotients) (sym rows-wide ∙ others)
+        (subst (λ n. quotients_fit n (cell (now_at rows r)) (cell (now_at rows r) q) ≡ true)
+        (wide r row) quotients) (sym rows-wide ∙ others)
 
-    pub first-refused : length first ≡ w → false ≡ (not in_first || lowering_fits q step first) → numbers_fit w r q in_first K ≡ false
+    pub first-refused : length first ≡ w → false ≡ (not in_first || lowering_fits q step first)
+        → numbers_fit w r q in_first K ≡ false
     first-refused long e =
-        sym costs-decide ∙ tests.first-refused w q in_first (cell first) (cell second) (cell step) (cell step) (λ j b. refl) (length first) long e
+        sym costs-decide ∙ tests.first-refused w q in_first (cell first) (cell second) (cell step)
+        (cell step) (λ j b. refl) (length first) long e
 
-    pub second-decides : length first ≡ w → length second ≡ w → true ≡ (not in_first || lowering_fits q step first) → lowering_fits q step second ≡ numbers_fit w r q in_first K
+    pub second-decides : length first ≡ w → length second ≡ w
+        → true ≡ (not in_first || lowering_fits q step first)
+        → lowering_fits q step second ≡ numbers_fit w r q in_first K
     second-decides long second_long e =
-        tests.second-decides w q in_first (cell first) (cell second) (cell step) (cell step) (λ j b. refl) (length first) (length second) long second_long e ∙ costs-decide
+        tests.second-decides w q in_first (cell first) (cell second) (cell step) (cell step)
+        (λ j b. refl) (length first) (length second) long second_long e ∙ costs-decide

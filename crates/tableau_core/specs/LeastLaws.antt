@@ -24,7 +24,8 @@ least_found zero j test b e f = absurd (omega (arith, b))
 least_found (suc n) j test b e f =
     same_or_other (least_below (suc n) test ≡ Some j) j n
     (λ q. ap (λ k. least_below (suc k) test) (sym q) ∙ least_here j test e f)
-    (λ m. ap (λ o. or_else o (if test n then Some n else None)) (least_found n j test (omega (arith, b, m)) e f))
+    (λ m. ap (λ o. or_else o (if test n then Some n else None))
+    (least_found n j test (omega (arith, b, m)) e f))
 
 -- none below n, and none from n to m
 pub least_past : (m n : ℕ) (test : ℕ → Bool) → least_below n test ≡ None → n ≤ m
@@ -37,7 +38,8 @@ least_past (suc m) n test e b f =
     same_or_other (least_below (suc m) test ≡ None) n (suc m)
     (λ q. ap (λ k. least_below k test) (sym q) ∙ e)
     (λ o. let few : n ≤ m = omega (arith, b, o) in
-    λ i. or_else (least_past m n test e few (λ j c d. f j c (omega (arith, d))) i) (if f m few (omega arith) i then Some m else None))
+    λ i. or_else (least_past m n test e few (λ j c d. f j c (omega (arith, d))) i)
+    (if f m few (omega arith) i then Some m else None))
 
 -- ---- tests against 0
 

@@ -18,22 +18,26 @@ false_from_not false P h n = refl
 
 lowered_from : (a e t : Rational) → Fits (e *ℚ t) → SumFits a (neg_ℚ (e *ℚ t))
     → lowered_fits a e t ≡ true
-lowered_from a e t f g = ap₂ ◌&&◌ ((fits_Decides (e *ℚ t)).1 f) ((sum_fits_Decides a (neg_ℚ (e *ℚ t))).1 g)
+lowered_from a e t f g =
+    ap₂ ◌&&◌ ((fits_Decides (e *ℚ t)).1 f) ((sum_fits_Decides a (neg_ℚ (e *ℚ t))).1 g)
 
 lowered_at : (a e t : Rational) → lowered_fits a e t ≡ true
     → Fits (e *ℚ t) × SumFits a (neg_ℚ (e *ℚ t))
 lowered_at a e t h =
-    let both : (fits (e *ℚ t) ≡ true) × (sum_fits a (neg_ℚ (e *ℚ t)) ≡ true) = and_parts (fits (e *ℚ t)) (sum_fits a (neg_ℚ (e *ℚ t))) h in
+    let both : (fits (e *ℚ t) ≡ true) × (sum_fits a (neg_ℚ (e *ℚ t)) ≡ true) =
+    and_parts (fits (e *ℚ t)) (sum_fits a (neg_ℚ (e *ℚ t))) h in
     ((fits_Decides (e *ℚ t)).0 both.0, (sum_fits_Decides a (neg_ℚ (e *ℚ t))).0 both.1)
 
 -- one number: a product or a difference that doesn't fit, and both that do
 pub product_refused : (a e t : Rational) → ¬ (Fits (e *ℚ t)) → lowered_fits a e t ≡ false
-product_refused a e t n = false_from_not (lowered_fits a e t) (Fits (e *ℚ t)) (λ h. (lowered_at a e t h).0) n
+product_refused a e t n =
+    false_from_not (lowered_fits a e t) (Fits (e *ℚ t)) (λ h. (lowered_at a e t h).0) n
 
 pub difference_refused : (a e t m : Rational) → m ≡ e *ℚ t → ¬ (SumFits a (neg_ℚ m))
     → lowered_fits a e t ≡ false
 difference_refused a e t m is n =
-    false_from_not (lowered_fits a e t) (SumFits a (neg_ℚ m)) (λ h. subst (λ x. SumFits a (neg_ℚ x)) (sym is) (lowered_at a e t h).1) n
+    false_from_not (lowered_fits a e t) (SumFits a (neg_ℚ m)) (λ h. subst (λ x. SumFits a (neg_ℚ x))
+    (sym is) (lowered_at a e t h).1) n
 
 pub lowered_made : (a e t m : Rational) → m ≡ e *ℚ t → Fits (e *ℚ t) → SumFits a (neg_ℚ m)
     → lowered_fits a e t ≡ true
@@ -42,7 +46,8 @@ lowered_made a e t m is f g = lowered_from a e t f (subst (λ x. SumFits a (neg_
 -- a step of 0, or a multiple of 0, fits and changes nothing
 pub lowered_fits-zero : (a e t : Rational) → e *ℚ t ≡ zero_ℚ → Fits a → lowered_fits a e t ≡ true
 lowered_fits-zero a e t z f =
-    lowered_from a e t (subst Fits (sym z) Fits_zero) (subst (λ x. SumFits a (neg_ℚ x)) (sym z) (subst (SumFits a) (sym neg_ℚ-zero) (SumFits-zero_right a f)))
+    lowered_from a e t (subst Fits (sym z) Fits_zero) (subst (λ x. SumFits a (neg_ℚ x)) (sym z)
+    (subst (SumFits a) (sym neg_ℚ-zero) (SumFits-zero_right a f)))
 
 pub lowered-zero : (a e t : Rational) → e *ℚ t ≡ zero_ℚ → a -ℚ e *ℚ t ≡ a
 lowered-zero a e t z = ap (λ x. a -ℚ x) z ∙ ap (λ x. a +ℚ x) neg_ℚ-zero ∙ +ℚ-zero a

@@ -36,7 +36,8 @@ above_by_num q = by_tests (int_lt (pos 0) q.num) (is_below zero_ℚ q) refl refl
     by_tests true true e f = refl
     by_tests false false e f = refl
     by_tests true false e f =
-        absurd (true≢false (sym (test_from_lt zero_ℚ q ((above_num q).1 (passed (pos 0) q.num e))) ∙ f))
+        absurd (true≢false (sym (test_from_lt zero_ℚ q ((above_num q).1 (passed (pos 0) q.num e)))
+        ∙ f))
     by_tests false true e f =
         absurd (apart (pos 0) q.num ((above_num q).0 (lt_from_test zero_ℚ q f))
         (failed (pos 0) q.num e))

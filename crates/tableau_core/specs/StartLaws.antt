@@ -20,10 +20,13 @@ module _ (F : Form) (j i : ℕ) (x : Rational) (row : i < F.rows) where
   real-entry b e = e ∙ sym (entry-start F j i row ∙ column_real F j i b)
 
   pub unit-entry : F.reals ≤ j → j - F.reals ≡ i → x ≡ one_ℚ → x ≡ entry F (start F) j i
-  unit-entry b q e = e ∙ sym (entry-start F j i row ∙ column_artificial F j i b ∙ ap (λ k. delta k i) q ∙ delta_same i)
+  unit-entry b q e =
+      e ∙ sym (entry-start F j i row ∙ column_artificial F j i b ∙ ap (λ k. delta k i) q
+      ∙ delta_same i)
 
   pub zero-entry : F.reals ≤ j → ¬ (j - F.reals ≡ i) → x ≡ zero_ℚ → x ≡ entry F (start F) j i
-  zero-entry b n e = e ∙ sym (entry-start F j i row ∙ column_artificial F j i b ∙ delta_other (j - F.reals) i n)
+  zero-entry b n e =
+      e ∙ sym (entry-start F j i row ∙ column_artificial F j i b ∙ delta_other (j - F.reals) i n)
 
 module _ (F : Form) (j : ℕ) where
   pub first-real : (x : Rational) → j < F.reals → x ≡ neg_ℚ (sum_to F.rows (λ i. F.matrix i j))
@@ -33,7 +36,8 @@ module _ (F : Form) (j : ℕ) where
   pub first-artificial : F.reals ≤ j → j < F.reals + F.rows
       → price F (start F) (first_cost F) j ≡ zero_ℚ
   first-artificial b c =
-      ap (price F (start F) (first_cost F)) (back_lem F.reals j b) ∙ first_price-start_artificial F (j - F.reals) (within_lem F.reals j F.rows b c)
+      ap (price F (start F) (first_cost F)) (back_lem F.reals j b) ∙ first_price-start_artificial F
+      (j - F.reals) (within_lem F.reals j F.rows b c)
     where
       back_lem : (c j : ℕ) → c ≤ j → j ≡ c + (j - c)
       back_lem c j h = omega (arith, h)

@@ -12,7 +12,8 @@ differences_same w f by u v h =
     all_below_same w (λ j. lowered_fits (f j) by (u j)) (λ j. lowered_fits (f j) by (v j))
     (λ j b. ap (lowered_fits (f j) by) (h j b))
 
--- the first cost row's test fails, or it doesn't, and the second's decides; w1 and w2 are their widths
+-- the first cost row's test fails, or it doesn't, and the second's decides; w1 and w2 are their
+-- widths
 module _ (w q : ℕ) (in_first : Bool) (first second u v : ℕ → Rational)
     (same : (j : ℕ) → j < w → u j ≡ v j) where
   first_same : (w1 : ℕ) → w1 ≡ w → (not in_first || differences_fit w1 first (first q) u)

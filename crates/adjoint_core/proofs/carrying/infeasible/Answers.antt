@@ -58,7 +58,8 @@ returns-in_err-gap g c =
       rows.0,
       inr (
         sums.0,
-        subst₂ (λ (ys : List (List Rational)) (vs : List Rational). UnfitGap zero_ℚ (placed m ys vs) at)
+        subst₂ (λ (ys : List (List Rational)) (vs : List Rational). UnfitGap zero_ℚ
+            (placed m ys vs) at)
             rows_is vars_is h,
       ),
     ))

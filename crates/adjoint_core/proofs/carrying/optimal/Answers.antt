@@ -57,9 +57,11 @@ returns-in_err-vars g c =
       inr (
         rows.0,
         inl
-            (move4 (λ (us : List Address) (rs : List Row) (ys : List (List Rational)) (o : Objective).
+            (move4
+            (λ (us : List Address) (rs : List Row) (ys : List (List Rational)) (o : Objective).
             FirstNot (λ v. AddUp zero_ℚ (adjoint_parts (rows_with ys rs) v)
-            × CostFits (sense_of o) (coefficient (objective_function o) v) (adjoint (rows_with ys rs) v))
+            × CostFits (sense_of o) (coefficient (objective_function o) v)
+            (adjoint (rows_with ys rs) v))
             (λ v. v) us at) h (search rules) c.rows-2.ensures.value (c.deref.ensures.value ∙ rows.1)
             c.objective.ensures.value),
       ),
@@ -84,7 +86,8 @@ returns-in_err-value g c =
     × CostFits (sense_of o) (coefficient (objective_function o) v) (adjoint (rows_with ys rs) v)) us
     × (c.in_ok-vars.vars.items ≡ map (λ v. reduced_cost (sense_of o)
     (coefficient (objective_function o) v) (adjoint (rows_with ys rs) v)) us)) c.in_ok-vars.ensures
-    (search rules) c.rows-2.ensures.value (c.deref.ensures.value ∙ rows.1) c.objective.ensures.value in
+    (search rules) c.rows-2.ensures.value (c.deref.ensures.value
+    ∙ rows.1) c.objective.ensures.value in
     let point_here : c.in_ok-x.x.items ≡ point m f x = here.1 ∙ point_is m f x in
     told_on c.from_residual-in_err-value.result c.in_err-value.field-0.0 _
     (OptimalFits m duals Fit Unfit f x) _ _ _ (IsUnfitOptimal m duals Fit Unfit f x)
@@ -123,7 +126,8 @@ returns g c =
     × CostFits (sense_of o) (coefficient (objective_function o) v) (adjoint (rows_with ys rs) v)) us
     × (c.in_ok-vars.vars.items ≡ map (λ v. reduced_cost (sense_of o)
     (coefficient (objective_function o) v) (adjoint (rows_with ys rs) v)) us)) c.in_ok-vars.ensures
-    (search rules) c.rows-2.ensures.value (c.deref.ensures.value ∙ rows.1) c.objective.ensures.value in
+    (search rules) c.rows-2.ensures.value (c.deref.ensures.value
+    ∙ rows.1) c.objective.ensures.value in
     let point_here : c.in_ok-x.x.items ≡ point m f x = here.1 ∙ point_is m f x in
     let whole : c.deref-2.result.now ≡ point m f x = c.deref-2.ensures.value ∙ point_here in
     let value : c.in_ok-value.value ≡ objective_value m (point m f x) =

@@ -48,7 +48,8 @@ loop-i-preserved c =
     (λ v. sum_from zero_ℚ (adjoint_parts hs v)) us sums i x c.in-Some.sum.now c.in_ok-sums.ensures
     below there here lt in (
       made_step (λ v. AddUp zero_ℚ (adjoint_parts hs v)) (λ v. v) (λ v. neg_ℚ (adjoint hs v)) us i
-          c.loop-i.vars.items c.loop-i.invariant.0 x here lt c.neg.result c.push.new.self.items far.0
+          c.loop-i.vars.items c.loop-i.invariant.0 x here lt c.neg.result
+          c.push.new.self.items far.0
           (c.neg.ensures ∙ ap neg_ℚ (far.1 ∙ adjoint_is hs x)) c.in_ok-push.ensures.items,
       omega (arith, below),
     )

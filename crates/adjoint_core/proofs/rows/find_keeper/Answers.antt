@@ -17,8 +17,10 @@ returns-in-Some g c =
     let at = c.args.at.now in
     let told = sym c.child_rows.ensures ∙ c.in-Some.is in (
       sym c.loop-bridge.invariant
-          ∙ ap (λ l. kept_at (map state l) at) (next_item bs i b c.bridge-item.is c.loop-bridge-test.true)
-          ∙ first_kept (found (state b) at) (kept_at (map state (drop (i + 1) bs)) at) c.in-Some.rows told,
+          ∙ ap (λ l. kept_at (map state l) at) (next_item bs i b c.bridge-item.is
+          c.loop-bridge-test.true)
+          ∙ first_kept (found (state b) at) (kept_at (map state (drop (i + 1) bs)) at)
+          c.in-Some.rows told,
       told,
     )
 
@@ -32,7 +34,8 @@ loop-bridge-preserved g c =
     let at = c.args.at.now in
     sym (passed_by (found (state b) at) (kept_at (map state (drop (i + 1) bs)) at)
     (λ rows k. c.in_default.not-Some rows (c.child_rows.ensures ∙ k)))
-    ∙ sym (ap (λ l. kept_at (map state l) at) (next_item bs i b c.bridge-item.is c.loop-bridge-test.true))
+    ∙ sym (ap (λ l. kept_at (map state l) at)
+    (next_item bs i b c.bridge-item.is c.loop-bridge-test.true))
     ∙ c.loop-bridge.invariant
 
 pub returns : goal.returns

@@ -14,8 +14,12 @@ loop-key-preserved g c =
     let before = take c.loop-key.key-index c.args.terms.now in
     record {
       items = c.in_ok-push_nonzero.ensures
-          ∙ (λ i. so_far.items i ++ filter is_nonzero ((item.0, c.in_ok-product.ensures.exact.1 i) ∷ []))
+          ∙ (λ i. so_far.items i ++ filter is_nonzero
+          ((item.0, c.in_ok-product.ensures.exact.1 i) ∷ []))
           ∙ sym (filter-append is_nonzero (times by before) ((item.0, by *ℚ item.1) ∷ []))
-          ∙ ap (filter is_nonzero) (sym (map-take_more (λ t. (t.0, by *ℚ t.1)) c.args.terms.now c.loop-key.key-index item c.loop-key-item.is c.loop-key-test.true));
-      fit = All-more (λ t. Fits (by *ℚ t.1)) c.args.terms.now c.loop-key.key-index item c.loop-key-test.true so_far.fit (subst (λ t. Fits (by *ℚ t.1)) c.loop-key-item.is c.in_ok-product.ensures.exact.0);
+          ∙ ap (filter is_nonzero) (sym (map-take_more (λ t. (t.0, by *ℚ t.1)) c.args.terms.now
+          c.loop-key.key-index item c.loop-key-item.is c.loop-key-test.true));
+      fit = All-more (λ t. Fits (by *ℚ t.1)) c.args.terms.now c.loop-key.key-index item
+          c.loop-key-test.true so_far.fit (subst (λ t. Fits (by *ℚ t.1)) c.loop-key-item.is
+          c.in_ok-product.ensures.exact.0);
     }

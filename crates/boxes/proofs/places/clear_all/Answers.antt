@@ -9,4 +9,5 @@ loop-bridge-preserved g c =
     next_gone g.B.Bridge.state c.args.bridges.now c.loop-bridge.bridges
     c.loop-bridge.bridge-index
     (slice_index_or c.loop-bridge.bridges c.loop-bridge.bridge-index c.bridge-item.result)
-    c.bridge-item.result c.let_all_go.new.self (omega arith) refl c.let_all_go.ensures (omega arith) c.loop-bridge.invariant
+    c.bridge-item.result c.let_all_go.new.self (omega arith) refl c.let_all_go.ensures (omega arith)
+    c.loop-bridge.invariant

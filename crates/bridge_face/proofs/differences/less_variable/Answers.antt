@@ -8,6 +8,8 @@ use Rattle.bridge_face.proofs.differences.less_variable.Goals as goal
 
 pub returns : goal.returns
 returns c =
-    IfOk-weaker c.with_coef.result (λ f. f ≡ with_coefficient c.args.func.now c.args.var.now c.neg.result) (λ f. f ≡ difference c.args.func.now (variable c.args.var.now))
-    (λ f e. e ∙ ap (with_coefficient c.args.func.now c.args.var.now) (c.neg.ensures ∙ ap neg_ℚ c.one.ensures) ∙ difference-variable c.args.func.now c.args.var.now c.requires)
+    IfOk-weaker c.with_coef.result (λ f. f ≡ with_coefficient c.args.func.now c.args.var.now
+    c.neg.result) (λ f. f ≡ difference c.args.func.now (variable c.args.var.now))
+    (λ f e. e ∙ ap (with_coefficient c.args.func.now c.args.var.now) (c.neg.ensures
+    ∙ ap neg_ℚ c.one.ensures) ∙ difference-variable c.args.func.now c.args.var.now c.requires)
     c.with_coef.ensures.same

@@ -7,4 +7,5 @@ pub loop-component-preserved : goal.loop-component-preserved
 loop-component-preserved c =
     c.in_ok-push.ensures.items
     ∙ ap₂ (λ xs x. xs ++ x ∷ []) c.loop-component.invariant c.child.ensures
-    ∙ sym (map-range_with_len_more (child_of c.args.at.now) 0 c.loop-component.component c.loop-component.component (omega arith))
+    ∙ sym (map-range_with_len_more (child_of c.args.at.now) 0 c.loop-component.component
+    c.loop-component.component (omega arith))

@@ -5,7 +5,11 @@ use Rattle.bridge_graph.proofs.settling.candidate.Goals as goal
 
 pub returns-clause-step : goal.returns-clause-step
 returns-clause-step c = record {
-  row = slice_index_or c.args.edges.now c.args.edge (record { source = 0; children = []; count = 0 });
+  row = slice_index_or c.args.edges.now c.args.edge (record {
+    source = 0;
+    children = [];
+    count = 0;
+  });
   cost = slice_index_or c.args.costs.now c.args.edge 0;
   usable = record {
     is_on = grind (arith, common_steps, gets);

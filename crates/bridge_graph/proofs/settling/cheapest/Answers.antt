@@ -7,20 +7,28 @@ use Rattle.bridge_graph.proofs.settling.cheapest.Goals.{in-Some, in_default, Aft
 
 pub loop-edge-preserved : goal.loop-edge-preserved
 loop-edge-preserved c =
-    let P : Option Step → Type 0 = λ best. IsBestBelow c.args.edges.now c.args.costs.now c.args.on.now c.args.plans.now (c.loop-edge.edge + 1) best in
+    let P : Option Step → Type 0 =
+    λ best. IsBestBelow c.args.edges.now c.args.costs.now c.args.on.now c.args.plans.now
+    (c.loop-edge.edge + 1) best in
     elim c.match-candidate.branch [
       | in-Some w ↦
           let found = w.in-Some.ensures in
-          let is : Some (cheaper_of c.loop-edge.best w.in-Some.step) ≡ c.match-candidate.best = cc (w.best-is, w.cheaper.ensures) in
-          subst P is (best_next c.loop-edge.best w.in-Some.step c.loop-edge.invariant found.place.0 found.place.1 found.step)
-      | in_default w ↦ subst P (sym w.best-is) (best_kept c.loop-edge.invariant (λ step e h. w.in_default.ensures.none refl step e h))
+          let is : Some (cheaper_of c.loop-edge.best w.in-Some.step) ≡ c.match-candidate.best =
+          cc (w.best-is, w.cheaper.ensures) in
+          subst P is (best_next c.loop-edge.best w.in-Some.step c.loop-edge.invariant found.place.0
+          found.place.1 found.step)
+      | in_default w ↦ subst P (sym w.best-is) (best_kept c.loop-edge.invariant
+          (λ step e h. w.in_default.ensures.none refl step e h))
     ]
 
 -- the loop has seen every edge
-seen : (c : After-loop-edge) → IsBestBelow c.args.edges.now c.args.costs.now c.args.on.now c.args.plans.now (length c.args.edges.now) c.loop-edge.best
+seen : (c : After-loop-edge)
+    → IsBestBelow c.args.edges.now c.args.costs.now c.args.on.now c.args.plans.now (length
+    c.args.edges.now) c.loop-edge.best
 seen c =
     let all : c.loop-edge.edge ≡ length c.args.edges.now = omega arith in
-    subst (λ n. IsBestBelow c.args.edges.now c.args.costs.now c.args.on.now c.args.plans.now n c.loop-edge.best) all c.loop-edge.invariant
+    subst (λ n. IsBestBelow c.args.edges.now c.args.costs.now c.args.on.now c.args.plans.now n
+    c.loop-edge.best) all c.loop-edge.invariant
 
 pub returns-clause-none : goal.returns-clause-none
 returns-clause-none c = best_absent c.loop-edge.best (seen c)

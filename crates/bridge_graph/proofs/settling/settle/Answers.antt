@@ -19,17 +19,23 @@ cheapest-requires-clause-within c = λ kind.
 
 pub loop-step-preserved : goal.loop-step-preserved
 loop-step-preserved c =
-    let graph = hypergraph_of c.args.edges.now c.args.costs.now c.args.supported.now c.args.on.now in
+    let graph = hypergraph_of c.args.edges.now c.args.costs.now c.args.supported.now
+    c.args.on.now in
     let found = c.in-Some.ensures in
-    let same : length c.args.plans.now ≡ length c.loop-step.plans = sym (c.loop-step.auto.plans ∙ c.start.auto.plans) in
-    let rows = subst (λ n. IsTrue (list_all (has_kinds_below n) c.args.edges.now)) same c.requires.kinds in
+    let same : length c.args.plans.now ≡ length c.loop-step.plans =
+    sym (c.loop-step.auto.plans ∙ c.start.auto.plans) in
+    let rows = subst (λ n. IsTrue (list_all (has_kinds_below n) c.args.edges.now)) same
+    c.requires.kinds in
     record {
-      settling = settle_one c.loop-step.invariant.settling (costly_from graph c.requires.edge_costs) found.cheapest found.kind;
-      within = within_step graph c.loop-step.invariant.within found.cheapest.candidate found.kind rows c.requires.edge_costs;
+      settling = settle_one c.loop-step.invariant.settling (costly_from graph c.requires.edge_costs)
+          found.cheapest found.kind;
+      within = within_step graph c.loop-step.invariant.within found.cheapest.candidate found.kind
+          rows c.requires.edge_costs;
     }
 
 pub returns : goal.returns
 returns c = record {
   plan = settled c.loop-step.invariant.settling (c.in_default.ensures.none refl);
-  costly = costly_from (hypergraph_of c.args.edges.now c.args.costs.now c.args.supported.now c.args.on.now) c.requires.edge_costs;
+  costly = costly_from (hypergraph_of c.args.edges.now c.args.costs.now c.args.supported.now
+      c.args.on.now) c.requires.edge_costs;
 }

@@ -6,6 +6,7 @@ use Rattle.bridge_graph.proofs.settling.total.Given as goal
 
 abbrev pub invariant-loop-kind : goal.invariant-loop-kind
 invariant-loop-kind l = record {
-  rest : with_children l.plans l.total (drop l.kind-index (children_of l.row)) ≡ with_children l.plans l.cost (children_of l.row);
+  rest : with_children l.plans l.total (drop l.kind-index (children_of l.row))
+      ≡ with_children l.plans l.cost (children_of l.row);
   small : l.total ≤ l.cost + l.kind-index * 2 ^ 120;
 }

@@ -14,8 +14,12 @@ loop-var-preserved c =
     let l = c.loop-var in
     let t = c.loop-var-item.result in
     elim c.if-is_none.branch [
-      | then-is_none+in_ok-function+in-Ok w ↦ one_covered es l.functions c.if-is_none.functions ts l.var-index t l.invariant c.loop-var-item.is c.loop-var-test.true w.in_ok-function.function w.in_ok-function.ensures (w.functions-is ∙ w.in-Ok.ensures.ok)
-      | else-is_none w ↦ one_there es l.functions c.if-is_none.functions ts l.var-index t l.invariant c.loop-var-item.is c.loop-var-test.true c.get.result c.is_none.result c.get.ensures c.is_none.ensures w.if-is_none.false w.functions-is
+      | then-is_none+in_ok-function+in-Ok w ↦ one_covered es l.functions c.if-is_none.functions ts
+          l.var-index t l.invariant c.loop-var-item.is c.loop-var-test.true
+          w.in_ok-function.function w.in_ok-function.ensures (w.functions-is ∙ w.in-Ok.ensures.ok)
+      | else-is_none w ↦ one_there es l.functions c.if-is_none.functions ts l.var-index t
+          l.invariant c.loop-var-item.is c.loop-var-test.true c.get.result c.is_none.result
+          c.get.ensures c.is_none.ensures w.if-is_none.false w.functions-is
     ]
 
 pub returns-clause-each : goal.returns-clause-each

@@ -20,13 +20,23 @@ loop-i-preserved c =
     let rest = drop (l.i + 1) exprs in
     let next = next_item exprs exprs l.i x (λ i. exprs) c.index-exprs-i.is c.loop-i-test.true in
     let made = c.in_ok-expression.expression in
-    let fits : put_into_fits inner x ≡ true = subst (λ s. put_into_fits s x ≡ true) l.invariant.2 c.in_ok-expression.ensures.answer.0 in
-    let is : made ≡ put_into inner x = c.in_ok-expression.ensures.answer.1 ∙ ap (λ s. put_into s x) l.invariant.2 in (
-      passed_next (put_into_fits inner) (list_all (put_into_fits inner) exprs) (drop l.i exprs) rest x l.invariant.0 next fits,
+    let fits : put_into_fits inner x ≡ true =
+    subst (λ s. put_into_fits s x ≡ true) l.invariant.2 c.in_ok-expression.ensures.answer.0 in
+    let is : made ≡ put_into inner x =
+    c.in_ok-expression.ensures.answer.1 ∙ ap (λ s. put_into s x) l.invariant.2 in (
+      passed_next (put_into_fits inner) (list_all (put_into_fits inner) exprs) (drop l.i exprs) rest
+          x l.invariant.0 next fits,
       elim c.match-variable_at.branch [
-        | in-Some+in_ok-push w ↦ with_component inner vars exprs l.entries.items _ l.i x rest l.invariant.1 next w.in-Some.component made c.match-variable_at.entries.items (sym c.variable_at.ensures ∙ w.in-Some.is) is (ap (λ e. e.items) w.entries-is ∙ w.in_ok-push.ensures.items)
-        | in_default+in-Bridged-1 w ↦ ap (λ e. e.items ++ outer inner (drop (l.i + 1) vars) rest) w.entries-is ∙ without_component inner vars exprs l.entries.items _ l.i x rest l.invariant.1 next (sym c.variable_at.ensures ∙ w.in_default.is)
-        | in_default+in-Kept-1 w ↦ ap (λ e. e.items ++ outer inner (drop (l.i + 1) vars) rest) w.entries-is ∙ without_component inner vars exprs l.entries.items _ l.i x rest l.invariant.1 next (sym c.variable_at.ensures ∙ w.in_default.is)
+        | in-Some+in_ok-push w ↦ with_component inner vars exprs l.entries.items _ l.i x rest
+            l.invariant.1 next w.in-Some.component made c.match-variable_at.entries.items
+            (sym c.variable_at.ensures ∙ w.in-Some.is) is (ap (λ e. e.items) w.entries-is
+            ∙ w.in_ok-push.ensures.items)
+        | in_default+in-Bridged-1 w ↦ ap (λ e. e.items ++ outer inner (drop (l.i + 1) vars) rest)
+            w.entries-is ∙ without_component inner vars exprs l.entries.items _ l.i x rest
+            l.invariant.1 next (sym c.variable_at.ensures ∙ w.in_default.is)
+        | in_default+in-Kept-1 w ↦ ap (λ e. e.items ++ outer inner (drop (l.i + 1) vars) rest)
+            w.entries-is ∙ without_component inner vars exprs l.entries.items _ l.i x rest
+            l.invariant.1 next (sym c.variable_at.ensures ∙ w.in_default.is)
       ],
       c.put_into.ensures.same ∙ l.invariant.2,
     )
@@ -37,6 +47,7 @@ returns-clause-answer c =
     let exprs = c.args.exprs.now in
     let l = c.loop-i in
     let none = drop_all l.i exprs c.loop-i-test.false in (
-      passed_all (put_into_fits inner) (list_all (put_into_fits inner) exprs) (drop l.i exprs) l.invariant.0 none,
+      passed_all (put_into_fits inner) (list_all (put_into_fits inner) exprs) (drop l.i exprs)
+          l.invariant.0 none,
       all_outer inner (variables_of c.args.body.now) exprs l.i l.entries.items _ l.invariant.1 none,
     )

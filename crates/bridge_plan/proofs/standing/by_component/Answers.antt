@@ -6,8 +6,12 @@ use Rattle.bridge_plan.proofs.Found.{none_found, one_before}
 use Rattle.bridge_plan.proofs.standing.by_component.Goals as goal
 
 pub loop-entry-init : goal.loop-entry-init
-loop-entry-init c =
-    ([], sym (append-nil c.args.entries.items), none_found c.new-expressions.result c.new-expressions.ensures)
+loop-entry-init c = (
+  [],
+  sym (append-nil c.args.entries.items),
+  none_found c.new-expressions.result
+      c.new-expressions.ensures,
+)
 
 pub loop-entry-preserved : goal.loop-entry-preserved
 loop-entry-preserved c =
@@ -16,5 +20,6 @@ loop-entry-preserved c =
     let taken = l.invariant.0 in (
       x ∷ taken,
       taken_more c.pop.new.self.items x taken l.invariant.1 c.in-Some.ensures.items,
-      ap (λ m. expression_in (entries_of m)) c.in_ok-put_entry.ensures ∙ one_before l.expressions x taken l.invariant.2,
+      ap (λ m. expression_in (entries_of m)) c.in_ok-put_entry.ensures
+          ∙ one_before l.expressions x taken l.invariant.2,
     )

@@ -8,4 +8,5 @@ pub image-requires-clause-own : goal.image-requires-clause-own
 image-requires-clause-own c = own_norm
 
 pub image-requires-clause-suits : goal.image-requires-clause-suits
-image-requires-clause-suits c = subst (IsItemFor E41) (sym c.in_ok-item.ensures) (suits_norm c.args.first c.args.other)
+image-requires-clause-suits c =
+    subst (IsItemFor E41) (sym c.in_ok-item.ensures) (suits_norm c.args.first c.args.other)

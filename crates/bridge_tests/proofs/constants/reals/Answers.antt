@@ -9,7 +9,8 @@ pub keep-requires-clause-own : goal.keep-requires-clause-own
 keep-requires-clause-own c = own_reals
 
 pub keep-requires-clause-suits : goal.keep-requires-clause-suits
-keep-requires-clause-suits c = subst (IsItemFor E40) (sym c.in_ok-item.ensures) (suits_reals c.one.result c.zero.result)
+keep-requires-clause-suits c =
+    subst (IsItemFor E40) (sym c.in_ok-item.ensures) (suits_reals c.one.result c.zero.result)
 
 pub keep-requires-clause-at : goal.keep-requires-clause-at
 keep-requires-clause-at c = ap (λ (i : Item). i.at) c.in_ok-item.ensures

@@ -5,7 +5,8 @@ use Rattle.bridge_tests.specs.SampleLaws.{here}
 use Rattle.bridge_tests.proofs.round.hold.Goals as goal
 
 pub keep-requires-clause-own : goal.keep-requires-clause-own
-keep-requires-clause-own g c = c.requires.own ∙ sym (ap (λ (s : State). s.family) c.let_go.ensures.state)
+keep-requires-clause-own g c =
+    c.requires.own ∙ sym (ap (λ (s : State). s.family) c.let_go.ensures.state)
 
 pub keep-requires-clause-free : goal.keep-requires-clause-free
 keep-requires-clause-free g c =

@@ -3,7 +3,8 @@ use Rattle.bridge_face.specs.State.{State}
 use Rattle.bridge_tests.proofs.round.keep.Goals as goal
 
 pub hold-requires-clause-own : goal.hold-requires-clause-own
-hold-requires-clause-own g c = c.requires.own ∙ sym (ap (λ (s : State). s.family) c.in_ok-image.ensures.state)
+hold-requires-clause-own g c =
+    c.requires.own ∙ sym (ap (λ (s : State). s.family) c.in_ok-image.ensures.state)
 
 pub back-requires : goal.back-requires
 back-requires g c = record {

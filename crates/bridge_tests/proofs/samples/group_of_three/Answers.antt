@@ -4,4 +4,6 @@ use Rattle.bridge_tests.specs.SampleLaws.{IsSound, sound_group_three}
 use Rattle.bridge_tests.proofs.samples.group_of_three.Goals as goal
 
 pub returns : goal.returns
-returns c = subst (λ vs. IsSound (Group c.args.set vs)) (sym c.in_ok-variables.ensures) (sound_group_three c.args.set c.requires.vector c.requires.sample)
+returns c =
+    subst (λ vs. IsSound (Group c.args.set vs)) (sym c.in_ok-variables.ensures)
+    (sound_group_three c.args.set c.requires.vector c.requires.sample)

@@ -5,16 +5,32 @@ use Rattle.bridge_tests.specs.SampleLaws.{IsSampleSet, sample_interval, sample_o
 use Rattle.bridge_tests.proofs.samples.sample_set.Goals as goal
 
 pub returns-in-LessThan : goal.returns-in-LessThan
-returns-in-LessThan c = sample_of_one (LessThan c.args.number) refl (record { dimension = refl; enough = omega arith; uncrossed = refl })
+returns-in-LessThan c =
+    sample_of_one (LessThan c.args.number) refl (record {
+      dimension = refl;
+      enough = omega arith;
+      uncrossed = refl;
+    })
 
 pub returns-in-GreaterThan : goal.returns-in-GreaterThan
-returns-in-GreaterThan c = sample_of_one (GreaterThan c.args.number) refl (record { dimension = refl; enough = omega arith; uncrossed = refl })
+returns-in-GreaterThan c =
+    sample_of_one (GreaterThan c.args.number) refl (record {
+      dimension = refl;
+      enough = omega arith;
+      uncrossed = refl;
+    })
 
 pub returns-in-EqualTo : goal.returns-in-EqualTo
-returns-in-EqualTo c = sample_of_one (EqualTo c.args.number) refl (record { dimension = refl; enough = omega arith; uncrossed = refl })
+returns-in-EqualTo c =
+    sample_of_one (EqualTo c.args.number) refl (record {
+      dimension = refl;
+      enough = omega arith;
+      uncrossed = refl;
+    })
 
 pub returns-in-Interval : goal.returns-in-Interval
-returns-in-Interval c = subst IsSampleSet (sym (ap₂ Interval c.zero.ensures c.one.ensures)) sample_interval
+returns-in-Interval c =
+    subst IsSampleSet (sym (ap₂ Interval c.zero.ensures c.one.ensures)) sample_interval
 
 pub returns-in-Reals : goal.returns-in-Reals
 returns-in-Reals c = sample_of_three (Reals 3) refl refl (omega arith) refl

@@ -10,5 +10,6 @@ use Rattle.bridged_report.proofs.functions.named.Goals as goal
 pub gather-requires : goal.gather-requires
 gather-requires c =
     let indices = c.args.places.now.vars.indices in
-    subst (HasDistinctKeys address_cmp) (sym (c.deref.ensures.value ∙ (c.in_ok-terms.ensures ∙ ap (filter_map (term_in indices)) c.terms.ensures.all)))
+    subst (HasDistinctKeys address_cmp) (sym (c.deref.ensures.value
+    ∙ (c.in_ok-terms.ensures ∙ ap (filter_map (term_in indices)) c.terms.ensures.all)))
     (distinct_terms indices (terms_of c.args.func.now) c.terms.ensures.rising)

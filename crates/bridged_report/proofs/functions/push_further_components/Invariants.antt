@@ -5,4 +5,7 @@ use Rattle.bridged_report.proofs.functions.push_further_components.Given as goal
 
 -- with those that are left it is all of them
 abbrev pub invariant-loop-component : goal.invariant-loop-component
-invariant-loop-component l = l.draft ++ flat_map (λ f. parted (function_text_in l.model.model l.places.vars.indices f)) (drop l.component-index l.components) ≡ l.fn.draft ++ flat_map (λ f. parted (function_text_in l.model.model l.places.vars.indices f)) l.fn.components
+invariant-loop-component l =
+    l.draft ++ flat_map (λ f. parted (function_text_in l.model.model l.places.vars.indices f))
+    (drop l.component-index l.components) ≡ l.fn.draft ++ flat_map
+    (λ f. parted (function_text_in l.model.model l.places.vars.indices f)) l.fn.components

@@ -8,10 +8,15 @@ use Rattle.bridged_report.proofs.functions.push_further_terms.Goals as goal
 
 pub loop-term-preserved : goal.loop-term-preserved
 loop-term-preserved c =
-    pushed_more (λ t. spaced (term_text c.args.model.now.model t)) c.loop-term.draft _ _ c.term-item.result c.loop-term.invariant (at_drop_more (λ ts. ts) c.args.terms.now c.loop-term.term-index c.term-item.result c.loop-term-test.true ∙ cc)
+    pushed_more (λ t. spaced (term_text c.args.model.now.model t)) c.loop-term.draft _ _
+    c.term-item.result c.loop-term.invariant (at_drop_more (λ ts. ts) c.args.terms.now
+    c.loop-term.term-index c.term-item.result c.loop-term-test.true ∙ cc)
     (c.in_ok-push_term.ensures ∙ pushed_after c.loop-term.draft (32 ∷ []) _ c.in_ok-push.ensures)
 
 pub returns : goal.returns
 returns c =
-    pushed_all (λ t. spaced (term_text c.args.model.now.model t)) c.loop-term.draft c.loop-term.invariant (at_drop_all (λ ts. ts) c.args.terms.now c.loop-term.term-index c.loop-term-test.false)
-    ∙ ap (λ t. c.args.draft.now ++ t) (sym (flat_map-map spaced (term_text c.args.model.now.model) c.args.terms.now))
+    pushed_all (λ t. spaced (term_text c.args.model.now.model t)) c.loop-term.draft
+    c.loop-term.invariant (at_drop_all (λ ts. ts) c.args.terms.now c.loop-term.term-index
+    c.loop-term-test.false)
+    ∙ ap (λ t. c.args.draft.now ++ t) (sym (flat_map-map spaced (term_text c.args.model.now.model)
+    c.args.terms.now))

@@ -9,5 +9,7 @@ use Rattle.bridged_report.proofs.lines.count_before.Goals as goal
 
 pub returns-clause-value : goal.returns-clause-value
 returns-clause-value c =
-    let place = position_from_yields_List (λ e. is_le (address_cmp c.args.at.now e.0)) _ _ c.position.result c.position.ensures.ran (YieldsList-from_slice c.args.entries.now cc) (λ x b q k. search (rules, tests)) in
+    let place = position_from_yields_List (λ e. is_le (address_cmp c.args.at.now e.0)) _ _
+    c.position.result c.position.ensures.ran (YieldsList-from_slice c.args.entries.now cc)
+    (λ x b q k. search (rules, tests)) in
     c.unwrap_or.ensures ∙ place_or_length _ _ _ place (prefix_len-le-length _ _)

@@ -9,4 +9,6 @@ abbrev pub invariant-loop-entry : goal.invariant-loop-entry
 invariant-loop-entry l =
     let variable = variable_line_in l.model.model l.places.vars.indices l.solver.leaves in
     let row = row_line_in l.model.model l.places.vars.indices l.solver.leaves in
-    AreLeft (λ e. (variable e).1) (λ e. (row e).1) l.draft (l.fn.draft ++ joined (in_order (map variable l.fn.variables ++ map row l.fn.rows))) (drop l.entry-index l.variables) l.left
+    AreLeft (λ e. (variable e).1) (λ e. (row e).1) l.draft
+    (l.fn.draft ++ joined (in_order (map variable l.fn.variables ++ map row l.fn.rows)))
+    (drop l.entry-index l.variables) l.left

@@ -4,4 +4,5 @@ use Rattle.bridges_norm.proofs.Loops.{LoweredFits, MadeBehind, lowered}
 use Rattle.bridges_norm.proofs.duals.behind.Given as goal
 
 abbrev pub invariant-loop-n : goal.invariant-loop-n
-invariant-loop-n l = MadeBehind (l.fn.first ∷ []) lowered LoweredFits l.n (zip l.high l.low) l.numbers.items
+invariant-loop-n l =
+    MadeBehind (l.fn.first ∷ []) lowered LoweredFits l.n (zip l.high l.low) l.numbers.items

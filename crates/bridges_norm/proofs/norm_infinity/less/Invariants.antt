@@ -6,4 +6,6 @@ use Rattle.bridges_norm.proofs.Loops.{MadeBehind}
 use Rattle.bridges_norm.proofs.norm_infinity.less.Given as goal
 
 abbrev pub invariant-loop-other : goal.invariant-loop-other
-invariant-loop-other l = MadeBehind [] (difference l.first) (λ x. PlusFits l.first (negated x)) l.other-index l.others l.less.items
+invariant-loop-other l =
+    MadeBehind [] (difference l.first) (λ x. PlusFits l.first (negated x)) l.other-index
+    l.others l.less.items

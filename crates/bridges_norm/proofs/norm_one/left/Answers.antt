@@ -14,19 +14,30 @@ loop-var-init c = less_none c.args.first.now c.in_ok-left.left c.args.vars.now c
 
 pub loop-var-preserved : goal.loop-var-preserved
 loop-var-preserved c =
-    subst (λ f. LessAsAll c.args.first.now f (drop (c.loop-var.var-index + 1) c.args.vars.now) c.args.vars.now)
+    subst (λ f. LessAsAll c.args.first.now f (drop (c.loop-var.var-index + 1) c.args.vars.now)
+    c.args.vars.now)
     (sym (c.in_ok-left-2.ensures.1 ∙ ap (difference c.loop-var.left) c.in_ok-variable.ensures))
-    (less_more c.args.first.now c.loop-var.left c.var-item.result (drop (c.loop-var.var-index + 1) c.args.vars.now) (drop c.loop-var.var-index c.args.vars.now) c.args.vars.now
+    (less_more c.args.first.now c.loop-var.left c.var-item.result
+    (drop (c.loop-var.var-index + 1) c.args.vars.now)
+    (drop c.loop-var.var-index c.args.vars.now) c.args.vars.now
     (next c.args.vars.now c.loop-var.var-index c.var-item.result c.loop-var-test.true c.var-item.is)
-    (subst (λ g. PlusFits c.loop-var.left (negated g)) c.in_ok-variable.ensures c.in_ok-left-2.ensures.0) c.loop-var.invariant)
+    (subst (λ g. PlusFits c.loop-var.left (negated g)) c.in_ok-variable.ensures
+    c.in_ok-left-2.ensures.0) c.loop-var.invariant)
 
 pub returns-in_err-left-2 : goal.returns-in_err-left-2
 returns-in_err-left-2 c =
-    passed_on c.from_residual-in_err-left-2.result c.in_err-left-2.field-0.0 (PlusFits c.loop-var.left (negated c.in_ok-variable.field-0)) (DifferencesFit c.args.first.now (variables c.args.vars.now)) _ _ c.from_residual-in_err-left-2.ensures.1 c.in_err-left-2.ensures
+    passed_on c.from_residual-in_err-left-2.result c.in_err-left-2.field-0.0
+    (PlusFits c.loop-var.left (negated c.in_ok-variable.field-0))
+    (DifferencesFit c.args.first.now (variables c.args.vars.now)) _ _
+    c.from_residual-in_err-left-2.ensures.1 c.in_err-left-2.ensures
     (λ all. subst (λ g. PlusFits c.loop-var.left (negated g)) (sym c.in_ok-variable.ensures)
-    (less_fits c.args.first.now c.loop-var.left c.var-item.result (drop (c.loop-var.var-index + 1) c.args.vars.now) (drop c.loop-var.var-index c.args.vars.now) c.args.vars.now
-    (next c.args.vars.now c.loop-var.var-index c.var-item.result c.loop-var-test.true c.var-item.is) c.loop-var.invariant all))
+    (less_fits c.args.first.now c.loop-var.left c.var-item.result
+    (drop (c.loop-var.var-index + 1) c.args.vars.now)
+    (drop c.loop-var.var-index c.args.vars.now) c.args.vars.now
+    (next c.args.vars.now c.loop-var.var-index c.var-item.result c.loop-var-test.true c.var-item.is)
+    c.loop-var.invariant all))
 
 pub returns : goal.returns
 returns c =
-    less_all c.args.first.now c.loop-var.left (drop c.loop-var.var-index c.args.vars.now) c.args.vars.now (drop_of_length-le c.args.vars.now (omega arith)) c.loop-var.invariant
+    less_all c.args.first.now c.loop-var.left (drop c.loop-var.var-index c.args.vars.now)
+    c.args.vars.now (drop_of_length-le c.args.vars.now (omega arith)) c.loop-var.invariant

@@ -8,4 +8,6 @@ pub returns : goal.returns
 returns c =
     c.from_vec.ensures ∙ c.in_ok-push.ensures.items
     ∙ ap₂ (λ xs f. xs ++ Bridged f ∷ []) c.in_ok-exprs.ensures.items
-    (c.in_ok-func.ensures ∙ ap (λ (g : Function). record g { constant = c.args.constant }) c.in_ok-variable.ensures ∙ raised-variable c.args.var.now c.args.constant)
+    (c.in_ok-func.ensures ∙ ap (λ (g : Function). record g {
+      constant = c.args.constant;
+    }) c.in_ok-variable.ensures ∙ raised-variable c.args.var.now c.args.constant)

@@ -13,12 +13,15 @@ pub less_variable-requires : goal.less_variable-requires
 less_variable-requires c =
     ap (λ f. coefficient f c.child-in-loop-n.result) c.in_ok-plus.ensures
     ∙ coefficient-variable_other address_order c.child.result c.child-in-loop-n.result
-    (λ e. other_child c.args.group.now (c.args.count + c.loop-n.n) c.loop-n.n (λ k. absurd (omega (arith, k, c.loop-n-test.true)))
+    (λ e. other_child c.args.group.now (c.args.count + c.loop-n.n) c.loop-n.n
+    (λ k. absurd (omega (arith, k, c.loop-n-test.true)))
     (sym c.child-in-loop-n.ensures ∙ e ∙ c.child.ensures))
 
 pub loop-n-preserved : goal.loop-n-preserved
 loop-n-preserved c =
     c.in_ok-push.ensures.items
     ∙ ap₂ (λ xs f. xs ++ Bridged f ∷ []) c.loop-n.invariant
-    (c.in_ok-func.ensures ∙ ap₂ difference (c.in_ok-plus.ensures ∙ ap variable c.child.ensures) (ap variable c.child-in-loop-n.ensures))
-    ∙ sym (map-range_with_len_more (halved c.args.group.now c.args.count) 0 c.loop-n.n c.loop-n.n (omega arith))
+    (c.in_ok-func.ensures ∙ ap₂ difference (c.in_ok-plus.ensures ∙ ap variable c.child.ensures)
+    (ap variable c.child-in-loop-n.ensures))
+    ∙ sym (map-range_with_len_more (halved c.args.group.now c.args.count) 0 c.loop-n.n c.loop-n.n
+    (omega arith))

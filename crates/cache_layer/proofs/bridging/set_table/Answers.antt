@@ -9,7 +9,8 @@ in_names-requires g c =
 pub returns-in-Err-clause-bridged : goal.returns-in-Err-clause-bridged
 returns-in-Err-clause-bridged g c =
     told_as c.args.lazy.now c.set_table.new.self c.in_names.new.lazy c.args.table
-    c.args.model.now.model c.in-Err.fault c.in_names.result c.in-Err.ensures.bridged c.in_names.ensures
+    c.args.model.now.model c.in-Err.fault c.in_names.result c.in-Err.ensures.bridged
+    c.in_names.ensures
 
 pub returns-in-Err-clause-small : goal.returns-in-Err-clause-small
 returns-in-Err-clause-small g c = λ small.

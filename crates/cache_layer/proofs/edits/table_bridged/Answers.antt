@@ -22,4 +22,5 @@ returns-in-Err-clause-in_step g c =
 
 pub returns-in-Err-clause-small : goal.returns-in-Err-clause-small
 returns-in-Err-clause-small g c = λ small.
-    never_given c.in-Err.fault c.from.result (Err c.from.result) refl c.from.ensures (c.in-Err.ensures.small small)
+    never_given c.in-Err.fault c.from.result (Err c.from.result) refl c.from.ensures
+    (c.in-Err.ensures.small small)

@@ -12,7 +12,8 @@ returns-in_err-add_multiple c =
     let w = c.args.duals.now in
     let xs = c.args.fs.now in
     let i = c.loop-i.i in
-    let next = next_function w xs i c.index-duals-i.result c.index-fs-i.result c.terms.result.now c.requires.duals
+    let next = next_function w xs i c.index-duals-i.result c.index-fs-i.result c.terms.result.now
+    c.requires.duals
     c.index-duals-i.is c.index-fs-i.is c.loop-i-test.true c.terms.ensures.all in
     adds_passed c.from_residual.result c.in_err-add_multiple.field-0.0 c.args.variables.now
     c.args.sums.now c.add_multiple.new.sums (λ v. products w (coefficients xs v))
@@ -30,7 +31,8 @@ loop-i-preserved c =
     let w = c.args.duals.now in
     let xs = c.args.fs.now in
     let i = c.loop-i.i in
-    let next = next_function w xs i c.index-duals-i.result c.index-fs-i.result c.terms.result.now c.requires.duals
+    let next = next_function w xs i c.index-duals-i.result c.index-fs-i.result c.terms.result.now
+    c.requires.duals
     c.index-duals-i.is c.index-fs-i.is c.loop-i-test.true c.terms.ensures.all in
     adds_step c.args.variables.now c.args.sums.now
     (λ v. products w (coefficients xs v)) c.loop-i.sums

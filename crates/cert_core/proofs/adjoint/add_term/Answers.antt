@@ -6,8 +6,10 @@ use Rattle.cert_core.proofs.adjoint.add_term.Goals as goal
 
 pub returns-in-Some : goal.returns-in-Some
 returns-in-Some c = λ x is.
-    term_added c.add_at.result c.args.variables.now c.args.sums.now c.add_at.new.sums c.in-Some.place
-    c.args.at.now c.args.by.now c.args.coefficient.now c.place.ensures.ascending c.in-Some.ensures.at
+    term_added c.add_at.result c.args.variables.now c.args.sums.now c.add_at.new.sums
+    c.in-Some.place
+    c.args.at.now c.args.by.now c.args.coefficient.now c.place.ensures.ascending
+    c.in-Some.ensures.at
     c.add_at.ensures x is
 
 pub returns-in-None : goal.returns-in-None

@@ -13,7 +13,8 @@ returns-in_err-add_multiple c =
     let w = c.args.duals.now in
     let xs = c.args.vars.now in
     let i = c.loop-i.i in
-    let next = next_variable w xs i c.index-duals-i.result c.index-vars-i.result c.one.result c.one.ensures c.requires.duals
+    let next = next_variable w xs i c.index-duals-i.result c.index-vars-i.result c.one.result
+    c.one.ensures c.requires.duals
     c.index-duals-i.is c.index-vars-i.is c.loop-i-test.true in
     adds_passed c.from_residual.result c.in_err-add_multiple.field-0.0 c.args.variables.now
     c.args.sums.now c.add_multiple.new.sums (λ v. products w (coefficients (variables_at xs) v))
@@ -21,7 +22,8 @@ returns-in_err-add_multiple c =
     (adds_refused c.args.variables.now c.args.sums.now
     (λ v. products w (coefficients (variables_at xs) v)) c.loop-i.sums
     (λ v. products (drop i w) (coefficients (variables_at (drop i xs)) v))
-    (λ v. c.index-duals-i.result *ℚ coefficient_among ((c.index-vars-i.result, c.one.result) ∷ []) v ∷ [])
+    (λ v. c.index-duals-i.result *ℚ coefficient_among ((c.index-vars-i.result, c.one.result) ∷ []) v
+    ∷ [])
     (λ v. products (drop (i + 1) w) (coefficients (variables_at (drop (i + 1) xs)) v))
     c.loop-i.invariant next c.in_err-add_multiple.field-0.0 c.add_multiple.new.sums
     c.add_multiple.new.sums c.in_err-add_multiple.ensures)
@@ -31,12 +33,14 @@ loop-i-preserved c =
     let w = c.args.duals.now in
     let xs = c.args.vars.now in
     let i = c.loop-i.i in
-    let next = next_variable w xs i c.index-duals-i.result c.index-vars-i.result c.one.result c.one.ensures c.requires.duals
+    let next = next_variable w xs i c.index-duals-i.result c.index-vars-i.result c.one.result
+    c.one.ensures c.requires.duals
     c.index-duals-i.is c.index-vars-i.is c.loop-i-test.true in
     adds_step c.args.variables.now c.args.sums.now
     (λ v. products w (coefficients (variables_at xs) v)) c.loop-i.sums
     (λ v. products (drop i w) (coefficients (variables_at (drop i xs)) v))
-    (λ v. c.index-duals-i.result *ℚ coefficient_among ((c.index-vars-i.result, c.one.result) ∷ []) v ∷ [])
+    (λ v. c.index-duals-i.result *ℚ coefficient_among ((c.index-vars-i.result, c.one.result) ∷ []) v
+    ∷ [])
     (λ v. products (drop (i + 1) w) (coefficients (variables_at (drop (i + 1) xs)) v))
     c.loop-i.invariant next c.add_multiple.new.sums c.in_ok-add_multiple.ensures
 
@@ -45,6 +49,7 @@ returns c =
     let w = c.args.duals.now in
     let xs = c.args.vars.now in
     let i = c.loop-i.i in
-    adds_end c.args.variables.now c.args.sums.now (λ v. products w (coefficients (variables_at xs) v))
+    adds_end c.args.variables.now c.args.sums.now
+    (λ v. products w (coefficients (variables_at xs) v))
     c.loop-i.sums (λ v. products (drop i w) (coefficients (variables_at (drop i xs)) v))
     c.loop-i.invariant (no_variable w xs i c.loop-i-test.false)

@@ -34,20 +34,23 @@ is_optimal-requires-clause-ready c =
 
 pub is_optimal-requires-clause-size : goal.is_optimal-requires-clause-size
 is_optimal-requires-clause-size c =
-    let entries = subst (HasEntries (model_of c.args.groups.now c.args.rows.now c.args.objective.now none))
+    let entries = subst (HasEntries (model_of c.args.groups.now c.args.rows.now
+    c.args.objective.now none))
     c.in-Optimal.is ((c.has_entries.ensures none).0 c.if-not-has_entries.false) in
     ap length c.as_slice-in-Optimal-2.ensures ∙ entries.0
     ∙ sym (variable_count c.args.groups.now c.in_ok-of.field-0 c.in_ok-of.ensures)
 
 pub is_optimal-requires-clause-rows : goal.is_optimal-requires-clause-rows
 is_optimal-requires-clause-rows c =
-    let entries = subst (HasEntries (model_of c.args.groups.now c.args.rows.now c.args.objective.now none))
+    let entries = subst (HasEntries (model_of c.args.groups.now c.args.rows.now
+    c.args.objective.now none))
     c.in-Optimal.is ((c.has_entries.ensures none).0 c.if-not-has_entries.false) in
     subst (HasRowDuals c.args.rows.now) (sym c.as_slice.ensures) entries.1
 
 pub is_optimal-requires-clause-vars : goal.is_optimal-requires-clause-vars
 is_optimal-requires-clause-vars c =
-    let entries = subst (HasEntries (model_of c.args.groups.now c.args.rows.now c.args.objective.now none))
+    let entries = subst (HasEntries (model_of c.args.groups.now c.args.rows.now
+    c.args.objective.now none))
     c.in-Optimal.is ((c.has_entries.ensures none).0 c.if-not-has_entries.false) in
     ap length c.as_slice-in-Optimal.ensures ∙ entries.2
     ∙ sym (variable_count c.args.groups.now c.in_ok-of.field-0 c.in_ok-of.ensures)
@@ -74,13 +77,15 @@ is_infeasible-requires-clause-ready c =
 
 pub is_infeasible-requires-clause-rows : goal.is_infeasible-requires-clause-rows
 is_infeasible-requires-clause-rows c =
-    let entries = subst (HasEntries (model_of c.args.groups.now c.args.rows.now c.args.objective.now none))
+    let entries = subst (HasEntries (model_of c.args.groups.now c.args.rows.now
+    c.args.objective.now none))
     c.in-Infeasible.is ((c.has_entries.ensures none).0 c.if-not-has_entries.false) in
     subst (HasRowDuals c.args.rows.now) (sym c.as_slice-in-Infeasible.ensures) entries.0
 
 pub is_infeasible-requires-clause-vars : goal.is_infeasible-requires-clause-vars
 is_infeasible-requires-clause-vars c =
-    let entries = subst (HasEntries (model_of c.args.groups.now c.args.rows.now c.args.objective.now none))
+    let entries = subst (HasEntries (model_of c.args.groups.now c.args.rows.now
+    c.args.objective.now none))
     c.in-Infeasible.is ((c.has_entries.ensures none).0 c.if-not-has_entries.false) in
     ap length c.as_slice-in-Infeasible-2.ensures ∙ entries.1
     ∙ sym (variable_count c.args.groups.now c.in_ok-of.field-0 c.in_ok-of.ensures)
@@ -105,14 +110,16 @@ is_unbounded-requires-clause-ready c =
 
 pub is_unbounded-requires-clause-point : goal.is_unbounded-requires-clause-point
 is_unbounded-requires-clause-point c =
-    let entries = subst (HasEntries (model_of c.args.groups.now c.args.rows.now c.args.objective.now none))
+    let entries = subst (HasEntries (model_of c.args.groups.now c.args.rows.now
+    c.args.objective.now none))
     c.in-Unbounded.is ((c.has_entries.ensures none).0 c.if-not-has_entries.false) in
     ap length c.as_slice-in-Unbounded.ensures ∙ entries.0
     ∙ sym (variable_count c.args.groups.now c.in_ok-of.field-0 c.in_ok-of.ensures)
 
 pub is_unbounded-requires-clause-ray : goal.is_unbounded-requires-clause-ray
 is_unbounded-requires-clause-ray c =
-    let entries = subst (HasEntries (model_of c.args.groups.now c.args.rows.now c.args.objective.now none))
+    let entries = subst (HasEntries (model_of c.args.groups.now c.args.rows.now
+    c.args.objective.now none))
     c.in-Unbounded.is ((c.has_entries.ensures none).0 c.if-not-has_entries.false) in
     ap length c.as_slice-in-Unbounded-2.ensures ∙ entries.1
     ∙ sym (variable_count c.args.groups.now c.in_ok-of.field-0 c.in_ok-of.ensures)

@@ -6,4 +6,5 @@ use Rattle.cert_core.proofs.entries.has_each_dual.Given as goal
 -- all have theirs if those left do
 abbrev pub invariant-loop-i : goal.invariant-loop-i
 invariant-loop-i l =
-    All HasEachDual (drop l.i (rows_with l.duals l.rows)) ↔ All HasEachDual (rows_with l.duals l.rows)
+    All HasEachDual (drop l.i (rows_with l.duals l.rows)) ↔ All HasEachDual
+    (rows_with l.duals l.rows)

@@ -35,7 +35,8 @@ returns-in_err-left c =
     let parts = negated (products w (constants fs)) in
     let next = next_less w fs i c.index-duals-i.result c.index-fs-i.result c.requires
     c.index-duals-i.is c.index-fs-i.is c.loop-i-test.true in
-    let product_is : c.in_ok-product.product ≡ c.index-duals-i.result *ℚ c.index-fs-i.result.constant =
+    let product_is : c.in_ok-product.product
+    ≡ c.index-duals-i.result *ℚ c.index-fs-i.result.constant =
     c.in_ok-product.ensures.exact.1 ∙ ap (λ k. c.index-duals-i.result *ℚ k) c.constant.ensures in
     overflowed c.from_residual-in_err-left.result _ (AddUp c.args.sum.now parts)
     (λ q. q ≡ sum_from c.args.sum.now parts) c.from_residual-in_err-left.ensures.1 refl
@@ -53,7 +54,8 @@ loop-i-preserved c =
     let i = c.loop-i.i in
     let next = next_less w fs i c.index-duals-i.result c.index-fs-i.result c.requires
     c.index-duals-i.is c.index-fs-i.is c.loop-i-test.true in
-    let product_is : c.in_ok-product.product ≡ c.index-duals-i.result *ℚ c.index-fs-i.result.constant =
+    let product_is : c.in_ok-product.product
+    ≡ c.index-duals-i.result *ℚ c.index-fs-i.result.constant =
     c.in_ok-product.ensures.exact.1 ∙ ap (λ k. c.index-duals-i.result *ℚ k) c.constant.ensures in
     negated_step c.args.sum.now c.loop-i.left (negated (products w (constants fs)))
     (negated (products (drop i w) (constants (drop i fs))))

@@ -8,6 +8,7 @@ use Rattle.cert_core.proofs.points.read_variables.Given as goal
 
 abbrev pub invariant-loop-var : goal.invariant-loop-var
 invariant-loop-var l =
-    MadeSoFar (λ v. EvaluationFits (one_of l.reading) (variable {R = address_cmp} v) (numbers_in l.at))
+    MadeSoFar (λ v. EvaluationFits (one_of l.reading) (variable {R = address_cmp} v)
+    (numbers_in l.at))
     (λ v. evaluated (one_of l.reading) (variable {R = address_cmp} v) (numbers_in l.at))
     l.vars l.var-index l.read.items

@@ -9,7 +9,9 @@ loop-number-preserved c =
     let all = c.args.numbers.now in
     let i = c.loop-number.number-index in
     let number = c.number-item.result in
-    numbers_more number (drop i all) (drop (i + 1) all) c.loop-number.text.items c.print.new.out.items c.loop-number.invariant
-    (drop_more all i number c.loop-number-test.true ∙ ap (λ y. y ∷ drop (i + 1) all) (sym c.number-item.is))
+    numbers_more number (drop i all) (drop (i + 1) all) c.loop-number.text.items
+    c.print.new.out.items c.loop-number.invariant
+    (drop_more all i number c.loop-number-test.true ∙ ap (λ y. y ∷ drop (i + 1) all)
+    (sym c.number-item.is))
     (c.in_ok-print.ensures.ok ∙ ap (λ t. t ++ text_of number) c.in_ok-push.ensures)
     c.print.ensures.reads_back

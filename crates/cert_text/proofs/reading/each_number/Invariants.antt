@@ -4,4 +4,5 @@ use Rattle.script_words.specs.Each.{each, each_after}
 use Rattle.cert_text.proofs.reading.each_number.Given as goal
 
 abbrev pub invariant-loop-word : goal.invariant-loop-word
-invariant-loop-word l = each_after rational_of l.numbers.items l.word-iterator ≡ each rational_of l.fn.words
+invariant-loop-word l =
+    each_after rational_of l.numbers.items l.word-iterator ≡ each rational_of l.fn.words

@@ -10,7 +10,8 @@ returns-in_default c =
     let all = c.args.rows.now in
     let i = c.loop-row.row-index in
     let row = c.row-item.result in
-    missing duals_of c.loop-row.duals.items (drop i all) c.loop-row.lines _ c.loop-row.invariant row (drop (i + 1) all)
+    missing duals_of c.loop-row.duals.items (drop i all) c.loop-row.lines _ c.loop-row.invariant row
+    (drop (i + 1) all)
     (drop_more all i row c.loop-row-test.true ∙ ap (λ y. y ∷ drop (i + 1) all) (sym c.row-item.is))
     c.in_default.ensures.steps.0
 
@@ -19,7 +20,8 @@ returns-in_default-2 c =
     let all = c.args.rows.now in
     let i = c.loop-row.row-index in
     let row = c.row-item.result in
-    unread duals_of c.loop-row.duals.items (drop i all) c.loop-row.lines _ c.loop-row.invariant row (drop (i + 1) all) c.in-Some.line.now c.next.new.self
+    unread duals_of c.loop-row.duals.items (drop i all) c.loop-row.lines _ c.loop-row.invariant row
+    (drop (i + 1) all) c.in-Some.line.now c.next.new.self
     (drop_more all i row c.loop-row-test.true ∙ ap (λ y. y ∷ drop (i + 1) all) (sym c.row-item.is))
     c.in-Some.ensures.steps (sym c.in_ok-own.ensures ∙ c.in_default-2.is)
 
@@ -28,13 +30,16 @@ loop-row-preserved c =
     let all = c.args.rows.now in
     let i = c.loop-row.row-index in
     let row = c.row-item.result in
-    ap (λ made. line_left duals_of made (drop (i + 1) all) c.next.new.self) c.in_ok-push.ensures.items
-    ∙ more duals_of c.loop-row.duals.items (drop i all) c.loop-row.lines _ c.loop-row.invariant row (drop (i + 1) all) c.in-Some.line.now c.next.new.self c.in-Some-2.own
+    ap (λ made. line_left duals_of made (drop (i + 1) all) c.next.new.self)
+    c.in_ok-push.ensures.items
+    ∙ more duals_of c.loop-row.duals.items (drop i all) c.loop-row.lines _ c.loop-row.invariant row
+    (drop (i + 1) all) c.in-Some.line.now c.next.new.self c.in-Some-2.own
     (drop_more all i row c.loop-row-test.true ∙ ap (λ y. y ∷ drop (i + 1) all) (sym c.row-item.is))
     c.in-Some.ensures.steps (sym c.in_ok-own.ensures ∙ c.in-Some-2.is)
 
 pub returns : goal.returns
 returns c =
     ap (λ made. Some (made, c.loop-row.lines)) c.from_vec.ensures
-    ∙ all_read duals_of c.loop-row.duals.items (drop c.loop-row.row-index c.args.rows.now) c.loop-row.lines _ c.loop-row.invariant
+    ∙ all_read duals_of c.loop-row.duals.items (drop c.loop-row.row-index c.args.rows.now)
+    c.loop-row.lines _ c.loop-row.invariant
     (drop_of_length-le c.args.rows.now (omega arith))

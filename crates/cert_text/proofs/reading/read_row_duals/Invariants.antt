@@ -5,4 +5,5 @@ use Rattle.cert_text.proofs.reading.read_row_duals.Given as goal
 
 abbrev pub invariant-loop-row : goal.invariant-loop-row
 invariant-loop-row l =
-    line_left duals_of l.duals.items (drop l.row-index l.rows) l.lines ≡ row_duals_of l.rows l.fn.lines
+    line_left duals_of l.duals.items (drop l.row-index l.rows) l.lines ≡ row_duals_of
+    l.rows l.fn.lines

@@ -18,5 +18,6 @@ returns g c =
     (bridging_there cache stands)
     (ap Printed (text_there cache stands c.in_ok-text.text
     (c.in_ok-text.ensures
-    ∙ ap (λ (u : Stored). bridged_text u.model (leaf_model_in c.lazy.result.now)) c.model.ensures.value
+    ∙ ap (λ (u : Stored). bridged_text u.model (leaf_model_in c.lazy.result.now))
+    c.model.ensures.value
     ∙ ap (λ (l : Owned). bridged_text (model_in cache) (leaf_model_in l)) c.lazy.ensures)))

@@ -8,19 +8,25 @@ use Rattle.file_verdict.proofs.judging.judge_file.Goals as goal
 
 pub returns-in-Ok-clause-verdict : goal.returns-in-Ok-clause-verdict
 returns-in-Ok-clause-verdict g c =
-    judged_text (told_by (g.H.Shelf.files c.args.shelf.now) (g.H.Shelf.sure c.args.shelf.now)) c.args.model.now.model c.text.result.now c.args.certificate.now c.deref.result.now c.fetch.new.into.items c.judge_text.result
-    c.text.ensures.value c.deref.ensures.value c.in-Ok.ensures.ok c.in-Ok.ensures.within c.judge_text.ensures.verdict
+    judged_text (told_by (g.H.Shelf.files c.args.shelf.now) (g.H.Shelf.sure c.args.shelf.now))
+    c.args.model.now.model c.text.result.now c.args.certificate.now c.deref.result.now
+    c.fetch.new.into.items c.judge_text.result
+    c.text.ensures.value c.deref.ensures.value c.in-Ok.ensures.ok c.in-Ok.ensures.within
+    c.judge_text.ensures.verdict
 
 pub returns-in-Err-Failed-clause-verdict : goal.returns-in-Err-Failed-clause-verdict
 returns-in-Err-Failed-clause-verdict g c = (
   Err Failed,
-  λ sure. subst (λ name. Gives (g.H.Shelf.files c.args.shelf.now) name (Err Failed)) c.text.ensures.value (c.in-Err-Failed.ensures.missing (ap Err c.in-Err-Failed.field-0-is) sure),
+  λ sure. subst (λ name. Gives (g.H.Shelf.files c.args.shelf.now) name (Err Failed))
+      c.text.ensures.value (c.in-Err-Failed.ensures.missing
+      (ap Err c.in-Err-Failed.field-0-is) sure),
   refl,
 )
 
 pub returns-in-Err-TooLong-clause-verdict : goal.returns-in-Err-TooLong-clause-verdict
 returns-in-Err-TooLong-clause-verdict g c = (
   Err TooLong,
-  subst (λ name. Gives (g.H.Shelf.files c.args.shelf.now) name (Err TooLong)) c.text.ensures.value (c.in-Err-TooLong.ensures.too_long (ap Err c.in-Err-TooLong.field-0-is)),
+  subst (λ name. Gives (g.H.Shelf.files c.args.shelf.now) name (Err TooLong)) c.text.ensures.value
+      (c.in-Err-TooLong.ensures.too_long (ap Err c.in-Err-TooLong.field-0-is)),
   refl,
 )

@@ -7,6 +7,7 @@ use Rattle.io_face.proofs.sink.write_all.Goals as goal
 pub loop-done-preserved : goal.loop-done-preserved
 loop-done-preserved g c = record {
   fits = search (rules, common_steps);
-  added = Adds-next _ _ _ c.args.text.now c.loop-done.done c.in_ok-done.field-0 c.loop-done.invariant.added c.in_ok-done.ensures.added;
+  added = Adds-next _ _ _ c.args.text.now c.loop-done.done c.in_ok-done.field-0
+      c.loop-done.invariant.added c.in_ok-done.ensures.added;
   count = omega arith;
 }

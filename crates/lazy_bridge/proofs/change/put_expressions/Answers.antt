@@ -16,7 +16,8 @@ loop-at-init c =
 pub loop-at-preserved : goal.loop-at-preserved
 loop-at-preserved c =
     let l = c.loop-at in (
-      put_next c.args.map.now l.map c.put_expr.new.self c.args.exprs.items (into_iter_items l.at-iterator)
+      put_next c.args.map.now l.map c.put_expr.new.self c.args.exprs.items
+          (into_iter_items l.at-iterator)
           (into_iter_items c.next.new.self) c.in-Some.at c.in-Some.func l.invariant.0
           c.in-Some.ensures.steps.0 c.requires.apart c.in_ok-put_expr.ensures.ok
           c.put_expr.ensures.vars c.put_expr.ensures.rows,

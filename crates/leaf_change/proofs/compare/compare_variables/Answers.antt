@@ -7,7 +7,8 @@ pub loop-at-init : goal.loop-at-init
 loop-at-init c = record {
   added = omega arith;
   same = omega arith;
-  moves = none_moved (variables_in c.args.map.now c.args.solver.now.leaves) c.args.var c.args.vars.now;
+  moves = none_moved (variables_in c.args.map.now c.args.solver.now.leaves) c.args.var
+      c.args.vars.now;
 }
 
 pub loop-at-preserved : goal.loop-at-preserved
@@ -15,12 +16,17 @@ loop-at-preserved c =
     let l = c.loop-at in
     let w = c.with-compared in
     record {
-      added = added_at_most c.compare_variable.result l.compared w.result l.at-index w.ensures l.invariant.added;
-      same = same_at_most c.compare_variable.result l.compared w.result l.at-index w.ensures l.invariant.same;
-      moves = variable_moved (variables_in c.args.map.now c.args.solver.now.leaves) c.args.var c.args.vars.now l.at-index c.at-item.result l.compared w.result c.compare_variable.result c.at-item.is c.loop-at-test.true c.compare_variable.ensures w.ensures l.invariant.moves;
+      added = added_at_most c.compare_variable.result l.compared w.result l.at-index w.ensures
+          l.invariant.added;
+      same = same_at_most c.compare_variable.result l.compared w.result l.at-index w.ensures
+          l.invariant.same;
+      moves = variable_moved (variables_in c.args.map.now c.args.solver.now.leaves) c.args.var
+          c.args.vars.now l.at-index c.at-item.result l.compared w.result c.compare_variable.result
+          c.at-item.is c.loop-at-test.true c.compare_variable.ensures w.ensures l.invariant.moves;
     }
 
 pub returns : goal.returns
 returns c =
     let l = c.loop-at in
-    all_moved (variables_in c.args.map.now c.args.solver.now.leaves) c.args.var c.args.vars.now l.at-index l.compared c.loop-at-test.false l.invariant.moves
+    all_moved (variables_in c.args.map.now c.args.solver.now.leaves) c.args.var c.args.vars.now
+    l.at-index l.compared c.loop-at-test.false l.invariant.moves

@@ -14,6 +14,7 @@ invariant-loop-at l = record {
   moves : (after : FinMap address_cmp LeafVar)
       → AreNew after (variables_as l.var l.vars)
       → Moves (Differ (variables_in l.map l.solver.leaves) after)
-      (Differ (variables_in l.map l.solver.leaves) (put_all after (variables_as l.var (take l.at-index l.vars))))
+      (Differ (variables_in l.map l.solver.leaves)
+      (put_all after (variables_as l.var (take l.at-index l.vars))))
       l.compared;
 }

@@ -10,7 +10,11 @@ pub loop-leaf-init : goal.loop-leaf-init
 loop-leaf-init c = record {
   added = omega arith;
   same = omega arith;
-  changed = (c.leaf_count-added.result, c.leaf_count-added.ensures.count c.args.objective_at.now, omega arith);
+  changed = (
+    c.leaf_count-added.result,
+    c.leaf_count-added.ensures.count c.args.objective_at.now,
+    omega arith,
+  );
 }
 
 pub loop-leaf-preserved : goal.loop-leaf-preserved
@@ -18,7 +22,9 @@ loop-leaf-preserved c =
     let l = c.loop-leaf in
     let held = read_through c.args.map.now c.args.solver.now.leaves c.args.objective_at.now in
     let compared = c.compare_leaf-compared.result in
-    let more = leaf_more held c.args.leaves.now l.leaf-index c.leaf-item.result compared l.invariant.changed.0 c.requires.leaves c.leaf-item.is c.loop-leaf-test.true c.compare_leaf-compared.ensures l.invariant.changed.1 in
+    let more = leaf_more held c.args.leaves.now l.leaf-index c.leaf-item.result compared
+    l.invariant.changed.0 c.requires.leaves c.leaf-item.is c.loop-leaf-test.true
+    c.compare_leaf-compared.ensures l.invariant.changed.1 in
     record {
       added = omega arith;
       same = omega arith;
@@ -29,7 +35,8 @@ pub returns : goal.returns
 returns c =
     let l = c.loop-leaf in
     let held = read_through c.args.map.now c.args.solver.now.leaves c.args.objective_at.now in
-    let whole = subst (λ xs. IsChanged held (leaf_model_of xs) l.invariant.changed.0) (take_all l.leaf-index c.args.leaves.now c.loop-leaf-test.false) l.invariant.changed.1 in
+    let whole = subst (λ xs. IsChanged held (leaf_model_of xs) l.invariant.changed.0)
+    (take_all l.leaf-index c.args.leaves.now c.loop-leaf-test.false) l.invariant.changed.1 in
     let is : l.invariant.changed.0 ≡ l.added - l.same = omega (arith, l.invariant.changed.2) in
     subst (IsChanged held (leaf_model_of c.args.leaves.now)) is whole
 

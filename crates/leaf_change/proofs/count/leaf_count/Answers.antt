@@ -9,5 +9,7 @@ pub returns-clause-count : goal.returns-clause-count
 returns-clause-count c = λ at.
     let m = c.args.map.now in
     let s = c.args.solver.now.leaves in
-    let is : length (addresses c.args.map.now.vars.indices) + length (addresses c.args.map.now.rows.indices) + cond (is_some c.args.solver.now.leaves.objective) 1 0 ≡ c.var_count.result + c.row_count.result + c.objective_count.result = cc in
+    let is : length (addresses c.args.map.now.vars.indices) + length (addresses
+    c.args.map.now.rows.indices) + cond (is_some c.args.solver.now.leaves.objective) 1 0
+    ≡ c.var_count.result + c.row_count.result + c.objective_count.result = cc in
     subst (IsChanged (read_through m s at) no_leaves) is (none_put m s at c.requires)

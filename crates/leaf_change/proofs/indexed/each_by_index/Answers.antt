@@ -13,9 +13,15 @@ loop-func-preserved c =
     let made = c.in_ok-by_index.field-0 in
     let w = c.in_ok-by_index.ensures in
     record {
-      same = pushed_same (named indices) c.args.funcs.now l.func-index c.func-item.result made l.made.items c.push.new.self.items c.func-item.is c.loop-func-test.true l.invariant.same w.same c.in_ok-push.ensures.items;
-      names = subst (All (NamesNamed c.args.places.now.vars.indices)) (sym c.in_ok-push.ensures.items) (All-push (NamesNamed c.args.places.now.vars.indices) c.loop-func.made.items made l.invariant.names w.names);
+      same = pushed_same (named indices) c.args.funcs.now l.func-index c.func-item.result made
+          l.made.items c.push.new.self.items c.func-item.is c.loop-func-test.true l.invariant.same
+          w.same c.in_ok-push.ensures.items;
+      names = subst (All (NamesNamed c.args.places.now.vars.indices))
+          (sym c.in_ok-push.ensures.items) (All-push (NamesNamed c.args.places.now.vars.indices)
+          c.loop-func.made.items made l.invariant.names w.names);
     }
 
 pub returns-clause-names : goal.returns-clause-names
-returns-clause-names c = subst (All (NamesNamed c.args.places.now.vars.indices)) (sym c.from_vec.ensures) c.loop-func.invariant.names
+returns-clause-names c =
+    subst (All (NamesNamed c.args.places.now.vars.indices)) (sym c.from_vec.ensures)
+    c.loop-func.invariant.names

@@ -4,4 +4,5 @@ use Rattle.leaf_change.specs.Named.{indexed_terms}
 use Rattle.leaf_change.proofs.indexed.indexed_terms.Given as goal
 
 abbrev pub invariant-loop-at : goal.invariant-loop-at
-invariant-loop-at l = l.terms.items ≡ indexed_terms l.map.vars.indices (take l.at-index (terms_of l.func))
+invariant-loop-at l =
+    l.terms.items ≡ indexed_terms l.map.vars.indices (take l.at-index (terms_of l.func))

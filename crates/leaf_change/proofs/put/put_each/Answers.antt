@@ -11,8 +11,11 @@ put_variable-requires-clause-new c =
     let vars = c.args.vars.now in
     let i = l.at-index in
     let at = c.at-item.result in
-    let next = ap (variables_as c.args.var) (next_item vars vars i at refl c.at-item.is c.loop-at-test.true) in
-    (first_new (variables_in l.map l.solver.leaves) (variables_as c.args.var (drop i vars)) (variables_as c.args.var (at ∷ [])) (variables_as c.args.var (drop (i + 1) vars)) next l.invariant.new).0
+    let next = ap (variables_as c.args.var) (next_item vars vars i at refl c.at-item.is
+    c.loop-at-test.true) in
+    (first_new (variables_in l.map l.solver.leaves) (variables_as c.args.var (drop i vars))
+    (variables_as c.args.var (at ∷ [])) (variables_as c.args.var (drop (i + 1) vars)) next
+    l.invariant.new).0
 
 pub loop-at-preserved : goal.loop-at-preserved
 loop-at-preserved c =
@@ -22,12 +25,17 @@ loop-at-preserved c =
     let at = c.at-item.result in
     let old = variables_in l.map l.solver.leaves in
     let now = variables_in c.put_variable.new.map c.put_variable.new.solver.leaves in
-    let next = ap (variables_as c.args.var) (next_item vars vars i at refl c.at-item.is c.loop-at-test.true) in
+    let next = ap (variables_as c.args.var) (next_item vars vars i at refl c.at-item.is
+    c.loop-at-test.true) in
     let w = c.in_ok-put_variable.ensures in
     record {
       named = w.named;
-      new = later_new old now (variables_as c.args.var (drop i vars)) (variables_as c.args.var (at ∷ [])) (variables_as c.args.var (drop (i + 1) vars)) next w.put l.invariant.new;
-      left = later_left old now _ (variables_as c.args.var (drop i vars)) (variables_as c.args.var (at ∷ [])) (variables_as c.args.var (drop (i + 1) vars)) next w.put l.invariant.left;
+      new = later_new old now (variables_as c.args.var (drop i vars))
+          (variables_as c.args.var (at ∷ [])) (variables_as c.args.var (drop (i + 1) vars)) next
+          w.put l.invariant.new;
+      left = later_left old now _ (variables_as c.args.var (drop i vars))
+          (variables_as c.args.var (at ∷ [])) (variables_as c.args.var (drop (i + 1) vars)) next
+          w.put l.invariant.left;
       beside = w.beside ∙ l.invariant.beside;
     }
 
@@ -35,4 +43,5 @@ pub returns-clause-put : goal.returns-clause-put
 returns-clause-put c =
     let l = c.loop-at in
     let m = variables_in l.map l.solver.leaves in
-    sym (ap (λ vs. put_all m (variables_as c.args.var vs)) (drop_all l.at-index c.args.vars.now c.loop-at-test.false)) ∙ l.invariant.left
+    sym (ap (λ vs. put_all m (variables_as c.args.var vs))
+    (drop_all l.at-index c.args.vars.now c.loop-at-test.false)) ∙ l.invariant.left

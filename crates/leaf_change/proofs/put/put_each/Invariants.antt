@@ -9,5 +9,6 @@ invariant-loop-at l = record {
   new : AreNew (variables_in l.map l.solver.leaves) (variables_as l.var (drop l.at-index l.vars));
   left : put_all (variables_in l.map l.solver.leaves) (variables_as l.var (drop l.at-index l.vars))
       ≡ put_all (variables_in l.initial.map l.initial.solver.leaves) (variables_as l.var l.vars);
-  beside : beside_variables l.map l.solver.leaves ≡ beside_variables l.initial.map l.initial.solver.leaves;
+  beside : beside_variables l.map l.solver.leaves
+      ≡ beside_variables l.initial.map l.initial.solver.leaves;
 }

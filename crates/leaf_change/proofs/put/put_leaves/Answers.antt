@@ -23,10 +23,13 @@ put_rows-requires c =
     let w = c.in_ok-put_variables.ensures in
     record {
       forms = r.leaves.forms;
-      indexed = all_indexed b f items (variables_made m b s f items s.calls r.leaves r.solver r.vars r.rows w.named w.put w.beside) r.leaves.names;
-      named = between_names m b s f items s.calls r.leaves r.solver r.vars r.rows w.named w.put w.beside;
+      indexed = all_indexed b f items (variables_made m b s f items s.calls r.leaves r.solver r.vars
+          r.rows w.named w.put w.beside) r.leaves.names;
+      named = between_names m b s f items s.calls r.leaves r.solver r.vars r.rows w.named
+          w.put w.beside;
       new = rows_new m b s f items s.calls r.leaves r.solver r.vars r.rows w.named w.put w.beside;
-      none = no_objective_yet m b s f items s.calls r.leaves r.solver r.vars r.rows w.named w.put w.beside;
+      none = no_objective_yet m b s f items s.calls r.leaves r.solver r.vars r.rows w.named
+          w.put w.beside;
       one = objectives_counted items r.leaves.objective;
     }
 
@@ -38,7 +41,9 @@ returns c =
     let w = c.in_ok-put_variables.ensures in
     let v = c.in_ok-put_rows.ensures in
     record {
-      through = read_as_put m c.put_variables.new.map s c.put_variables.new.solver.leaves c.args.leaves.now s.calls r.leaves r.solver r.vars r.rows w.named w.put w.beside c.put_rows.new.map c.put_rows.new.solver.leaves v.put v.objective v.beside;
+      through = read_as_put m c.put_variables.new.map s c.put_variables.new.solver.leaves
+          c.args.leaves.now s.calls r.leaves r.solver r.vars r.rows w.named w.put w.beside
+          c.put_rows.new.map c.put_rows.new.solver.leaves v.put v.objective v.beside;
       named = v.named;
       exprs = ap (λ b. b.1) v.beside ∙ ap (λ b. b.1) w.beside;
     }

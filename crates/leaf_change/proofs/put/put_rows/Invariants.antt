@@ -11,6 +11,7 @@ invariant-loop-leaf l = record {
   new : AreNew (rows_in l.map l.solver.leaves) (flat_map leaf_rows (drop l.leaf-index l.leaves));
   left : put_all (rows_in l.map l.solver.leaves) (flat_map leaf_rows (drop l.leaf-index l.leaves))
       ≡ put_all (rows_in l.initial.map l.initial.solver.leaves) (flat_map leaf_rows l.leaves);
-  objective : objectives_in l.map l.solver.leaves ++ objective_bodies (drop l.leaf-index l.leaves) ≡ objective_bodies l.leaves;
+  objective : objectives_in l.map l.solver.leaves ++ objective_bodies (drop l.leaf-index l.leaves)
+      ≡ objective_bodies l.leaves;
   beside : beside_rows l.map l.solver.leaves ≡ beside_rows l.initial.map l.initial.solver.leaves;
 }

@@ -13,8 +13,10 @@ put_leaf_variables-requires-clause-new c =
     let leaves = c.args.leaves.now in
     let i = l.leaf-index in
     let leaf = c.leaf-item.result in
-    let next = ap (flat_map leaf_variables) (next_item leaves leaves i leaf refl c.leaf-item.is c.loop-leaf-test.true) in
-    first_new (variables_in l.map l.solver.leaves) (flat_map leaf_variables (drop i leaves)) (leaf_variables leaf) (flat_map leaf_variables (drop (i + 1) leaves)) next l.invariant.new
+    let next = ap (flat_map leaf_variables) (next_item leaves leaves i leaf refl c.leaf-item.is
+    c.loop-leaf-test.true) in
+    first_new (variables_in l.map l.solver.leaves) (flat_map leaf_variables (drop i leaves))
+    (leaf_variables leaf) (flat_map leaf_variables (drop (i + 1) leaves)) next l.invariant.new
 
 pub loop-leaf-preserved : goal.loop-leaf-preserved
 loop-leaf-preserved c =
@@ -24,12 +26,15 @@ loop-leaf-preserved c =
     let leaf = c.leaf-item.result in
     let old = variables_in l.map l.solver.leaves in
     let now = variables_in c.put_leaf_variables.new.map c.put_leaf_variables.new.solver.leaves in
-    let next = ap (flat_map leaf_variables) (next_item leaves leaves i leaf refl c.leaf-item.is c.loop-leaf-test.true) in
+    let next = ap (flat_map leaf_variables) (next_item leaves leaves i leaf refl c.leaf-item.is
+    c.loop-leaf-test.true) in
     let w = c.in_ok-put_leaf_variables.ensures in
     record {
       named = w.named;
-      new = later_new old now (flat_map leaf_variables (drop i leaves)) (leaf_variables leaf) (flat_map leaf_variables (drop (i + 1) leaves)) next w.put l.invariant.new;
-      left = later_left old now _ (flat_map leaf_variables (drop i leaves)) (leaf_variables leaf) (flat_map leaf_variables (drop (i + 1) leaves)) next w.put l.invariant.left;
+      new = later_new old now (flat_map leaf_variables (drop i leaves)) (leaf_variables leaf)
+          (flat_map leaf_variables (drop (i + 1) leaves)) next w.put l.invariant.new;
+      left = later_left old now _ (flat_map leaf_variables (drop i leaves)) (leaf_variables leaf)
+          (flat_map leaf_variables (drop (i + 1) leaves)) next w.put l.invariant.left;
       beside = w.beside ∙ l.invariant.beside;
     }
 
@@ -37,4 +42,5 @@ pub returns-clause-put : goal.returns-clause-put
 returns-clause-put c =
     let l = c.loop-leaf in
     let m = variables_in l.map l.solver.leaves in
-    sym (ap (λ vs. put_all m (flat_map leaf_variables vs)) (drop_all l.leaf-index c.args.leaves.now c.loop-leaf-test.false)) ∙ l.invariant.left
+    sym (ap (λ vs. put_all m (flat_map leaf_variables vs))
+    (drop_all l.leaf-index c.args.leaves.now c.loop-leaf-test.false)) ∙ l.invariant.left

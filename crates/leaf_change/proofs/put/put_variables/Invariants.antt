@@ -8,8 +8,12 @@ use Rattle.leaf_change.proofs.put.put_variables.Given as goal
 abbrev pub invariant-loop-leaf : goal.invariant-loop-leaf
 invariant-loop-leaf l = record {
   named : NamesExactly l.map.vars.indices l.solver.leaves.vars;
-  new : AreNew (variables_in l.map l.solver.leaves) (flat_map leaf_variables (drop l.leaf-index l.leaves));
-  left : put_all (variables_in l.map l.solver.leaves) (flat_map leaf_variables (drop l.leaf-index l.leaves))
-      ≡ put_all (variables_in l.initial.map l.initial.solver.leaves) (flat_map leaf_variables l.leaves);
-  beside : beside_variables l.map l.solver.leaves ≡ beside_variables l.initial.map l.initial.solver.leaves;
+  new : AreNew (variables_in l.map l.solver.leaves)
+      (flat_map leaf_variables (drop l.leaf-index l.leaves));
+  left : put_all (variables_in l.map l.solver.leaves)
+      (flat_map leaf_variables (drop l.leaf-index l.leaves))
+      ≡ put_all (variables_in l.initial.map l.initial.solver.leaves)
+      (flat_map leaf_variables l.leaves);
+  beside : beside_variables l.map l.solver.leaves
+      ≡ beside_variables l.initial.map l.initial.solver.leaves;
 }

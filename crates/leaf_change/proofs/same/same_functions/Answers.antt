@@ -10,9 +10,15 @@ use Rattle.leaf_change.proofs.same.same_functions.Goals as goal
 pub same_function-requires : goal.same_function-requires
 same_function-requires c =
     let l = c.loop-func in
-    let first = ap (λ z. iter_rest (zip_first z)) c.into_iter-func-iterator.ensures.into_iter_gives ∙ ap iter_rest c.zip-func-items.ensures.first ∙ c.iter.ensures.rest in
-    let so_far = Zip-so_far l.yielded c.into_iter-func-iterator.result l.func-iterator l.yielded_by in
-    let more = Zip-more l.func-iterator c.next.new.self c.next.result (c.in-Some.func, c.in-Some.f) c.in-Some.is c.next.ensures.steps in
-    All-head (NamesNamed c.args.places.now.vars.indices) c.in-Some.func.now (iter_rest (zip_first c.next.new.self))
-    (subst (All (NamesNamed c.args.places.now.vars.indices)) (ap (drop (length l.yielded)) (sym first) ∙ sym so_far.0 ∙ more.0)
-    (All-drop (NamesNamed c.args.places.now.vars.indices) (length l.yielded) c.args.held.now c.requires))
+    let first = ap (λ z. iter_rest (zip_first z)) c.into_iter-func-iterator.ensures.into_iter_gives
+    ∙ ap iter_rest c.zip-func-items.ensures.first ∙ c.iter.ensures.rest in
+    let so_far = Zip-so_far l.yielded c.into_iter-func-iterator.result l.func-iterator
+    l.yielded_by in
+    let more = Zip-more l.func-iterator c.next.new.self c.next.result (c.in-Some.func, c.in-Some.f)
+    c.in-Some.is c.next.ensures.steps in
+    All-head (NamesNamed c.args.places.now.vars.indices) c.in-Some.func.now
+    (iter_rest (zip_first c.next.new.self))
+    (subst (All (NamesNamed c.args.places.now.vars.indices))
+    (ap (drop (length l.yielded)) (sym first) ∙ sym so_far.0 ∙ more.0)
+    (All-drop (NamesNamed c.args.places.now.vars.indices) (length l.yielded)
+    c.args.held.now c.requires))

@@ -3,4 +3,5 @@ use Rattle.leaf_change.specs.Named.{ObjectiveNames}
 use Rattle.leaf_change.proofs.same.same_objective.Goals as goal
 
 pub same_function-requires : goal.same_function-requires
-same_function-requires c = subst (ObjectiveNames c.args.map.now.vars.indices) c.in-Affine-AffineObj.is-0 c.requires
+same_function-requires c =
+    subst (ObjectiveNames c.args.map.now.vars.indices) c.in-Affine-AffineObj.is-0 c.requires

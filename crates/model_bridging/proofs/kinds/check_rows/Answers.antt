@@ -11,9 +11,13 @@ loop-row-preserved g c =
     let at = c.loop-row in
     let row = c.row-item.result in
     let kind = c.in_ok-row_kind.field-0 in
-    let next = next_item rows rows at.row-index row (λ i. rows) c.row-item.is c.loop-row-test.true in
-    kinds_more (g.R.Rewriter.means c.args.rewriter.now).choice (row_kinds kept rows) (row_kinds kept (drop at.row-index rows)) (row_kinds kept (drop (at.row-index + 1) rows)) kind at.invariant
-    (next_row kept rows at.row-index row kind next c.in_ok-row_kind.ensures) c.in_ok-check_kind.ensures
+    let next = next_item rows rows at.row-index row (λ i. rows) c.row-item.is
+    c.loop-row-test.true in
+    kinds_more (g.R.Rewriter.means c.args.rewriter.now).choice (row_kinds kept rows)
+    (row_kinds kept (drop at.row-index rows)) (row_kinds kept (drop (at.row-index + 1) rows))
+    kind at.invariant
+    (next_row kept rows at.row-index row kind next c.in_ok-row_kind.ensures)
+    c.in_ok-check_kind.ensures
 
 pub returns-in_err-check_kind : goal.returns-in_err-check_kind
 returns-in_err-check_kind g c =
@@ -22,6 +26,11 @@ returns-in_err-check_kind g c =
     let at = c.loop-row in
     let row = c.row-item.result in
     let kind = c.in_ok-row_kind.field-0 in
-    let next = next_item rows rows at.row-index row (λ i. rows) c.row-item.is c.loop-row-test.true in
-    kinds_refused (g.R.Rewriter.means c.args.rewriter.now).choice (row_kinds kept rows) (row_kinds kept (drop at.row-index rows)) (row_kinds kept (drop (at.row-index + 1) rows)) kind at.invariant
-    (next_row kept rows at.row-index row kind next c.in_ok-row_kind.ensures) (Unit {0}) (Unit {0}) c.from_residual-in_err-check_kind.result c.in_err-check_kind.field-0.0 c.from_residual-in_err-check_kind.ensures.1 c.in_err-check_kind.ensures
+    let next = next_item rows rows at.row-index row (λ i. rows) c.row-item.is
+    c.loop-row-test.true in
+    kinds_refused (g.R.Rewriter.means c.args.rewriter.now).choice (row_kinds kept rows)
+    (row_kinds kept (drop at.row-index rows)) (row_kinds kept (drop (at.row-index + 1) rows))
+    kind at.invariant
+    (next_row kept rows at.row-index row kind next c.in_ok-row_kind.ensures) (Unit {0})
+    (Unit {0}) c.from_residual-in_err-check_kind.result c.in_err-check_kind.field-0.0
+    c.from_residual-in_err-check_kind.ensures.1 c.in_err-check_kind.ensures

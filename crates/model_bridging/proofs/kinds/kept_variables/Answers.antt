@@ -9,8 +9,14 @@ use Rattle.model_bridging.proofs.kinds.kept_variables.Goals as goal
 
 pub loop-group-init : goal.loop-group-init
 loop-group-init g c =
-    let source : c.args.groups.now ≡ c.into_iter-group-iterator.result.iter.rest.now = sym (ap (λ r. r.iter.rest.now) c.into_iter-group-iterator.ensures.into_iter_gives ∙ (ap (λ i. i.rest.now) c.rev-group-items.ensures.source ∙ c.iter.ensures.rest)) in
-    ([], source ∙ sym (append-nil _), none_told (g.R.Rewriter.means c.args.rewriter.now).choice c.new-kept.result c.new-kept.ensures)
+    let source : c.args.groups.now ≡ c.into_iter-group-iterator.result.iter.rest.now =
+    sym (ap (λ r. r.iter.rest.now) c.into_iter-group-iterator.ensures.into_iter_gives
+    ∙ (ap (λ i. i.rest.now) c.rev-group-items.ensures.source ∙ c.iter.ensures.rest)) in (
+      [],
+      source ∙ sym (append-nil _),
+      none_told (g.R.Rewriter.means c.args.rewriter.now).choice
+          c.new-kept.result c.new-kept.ensures,
+    )
 
 pub loop-group-preserved : goal.loop-group-preserved
 loop-group-preserved g c =
@@ -20,6 +26,9 @@ loop-group-preserved g c =
     let group = c.in-Some.group.now in (
       group ∷ taken,
       taken_more c.next.new.self.iter.rest.now group taken at.invariant.1 c.in-Some.ensures.steps,
-      group_more choice group taken at.kept c.tell.new.kept c.keeps-stays.result (c.keeps-stays.ensures ∙ ap (keeps choice) c.in_ok-kind.ensures) at.invariant.2
-          (λ v. c.in_ok-tell.ensures v ∙ ap (λ vs. cond (is_among (map (λ (x : GroupVar). variable_address x.number) vs) v) c.keeps-stays.result (told at.kept v)) c.as_slice.ensures),
+      group_more choice group taken at.kept c.tell.new.kept c.keeps-stays.result
+          (c.keeps-stays.ensures ∙ ap (keeps choice) c.in_ok-kind.ensures) at.invariant.2
+          (λ v. c.in_ok-tell.ensures v
+          ∙ ap (λ vs. cond (is_among (map (λ (x : GroupVar). variable_address x.number) vs) v)
+          c.keeps-stays.result (told at.kept v)) c.as_slice.ensures),
     )

@@ -9,4 +9,5 @@ use Rattle.model_bridging.proofs.kinds.kept_variables.Given as goal
 abbrev pub invariant-loop-group : goal.invariant-loop-group
 invariant-loop-group g l =
     (taken : List Group) × (l.groups ≡ l.group-iterator.iter.rest.now ++ taken)
-    × ((v : Address) → told l.kept v ≡ is_kept_by (g.R.Rewriter.means l.rewriter).choice (map group_item taken) v)
+    × ((v : Address) → told l.kept v ≡ is_kept_by (g.R.Rewriter.means l.rewriter).choice
+    (map group_item taken) v)

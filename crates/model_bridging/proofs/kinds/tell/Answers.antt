@@ -11,6 +11,10 @@ loop-var-preserved c =
     let vars = c.args.vars.now in
     let at = c.loop-var in
     let var = c.var-item.result in
-    let next = ap (map (λ (x : GroupVar). variable_address x.number)) (next_item vars vars at.var-index var (λ i. vars) c.var-item.is c.loop-var-test.true) in
-    tell_more c.args.keeps (map (λ (x : GroupVar). variable_address x.number) vars) (map (λ (x : GroupVar). variable_address x.number) (drop at.var-index vars)) (map (λ (x : GroupVar). variable_address x.number) (drop (at.var-index + 1) vars))
-    c.args.kept.now at.kept c.put.new.self (variable_address var.number) at.invariant next (c.in-Ok.ensures.ok ∙ ap (λ a. finite.insert at.kept a c.args.keeps) c.root.ensures)
+    let next = ap (map (λ (x : GroupVar). variable_address x.number))
+    (next_item vars vars at.var-index var (λ i. vars) c.var-item.is c.loop-var-test.true) in
+    tell_more c.args.keeps (map (λ (x : GroupVar). variable_address x.number) vars)
+    (map (λ (x : GroupVar). variable_address x.number) (drop at.var-index vars))
+    (map (λ (x : GroupVar). variable_address x.number) (drop (at.var-index + 1) vars))
+    c.args.kept.now at.kept c.put.new.self (variable_address var.number) at.invariant next
+    (c.in-Ok.ensures.ok ∙ ap (λ a. finite.insert at.kept a c.args.keeps) c.root.ensures)

@@ -5,5 +5,6 @@ use Rattle.model_bridging.proofs.model_plan.expressions.Given as goal
 
 abbrev pub invariant-loop-group : goal.invariant-loop-group
 invariant-loop-group l =
-    l.exprs.items ++ map (with_function l.standing) (flat_map (λ (g : Group). g.vars) (drop l.group-index l.groups))
+    l.exprs.items ++ map (with_function l.standing) (flat_map (λ (g : Group). g.vars)
+    (drop l.group-index l.groups))
     ≡ map (with_function l.standing) (flat_map (λ (g : Group). g.vars) l.groups)

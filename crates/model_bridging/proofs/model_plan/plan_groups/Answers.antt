@@ -7,27 +7,42 @@ use Rattle.model_bridging.proofs.model_plan.plan_groups.Goals as goal
 
 pub loop-group-init : goal.loop-group-init
 loop-group-init g c =
-    groups_start (g.R.Rewriter.means c.args.rewriter.now) (map group_item c.args.groups.now) c.args.plan.now c.new-entries.result.items c.new-entries.ensures.items c.requires
+    groups_start (g.R.Rewriter.means c.args.rewriter.now) (map group_item c.args.groups.now)
+    c.args.plan.now c.new-entries.result.items c.new-entries.ensures.items c.requires
 
 pub plan_item-requires : goal.plan_item-requires
 plan_item-requires g c =
     let groups = c.args.groups.now in
     let at = c.loop-group in
     let group = c.group-item.result in
-    let next = ap (map group_item) (next_item groups groups at.group-index group (λ i. groups) c.group-item.is c.loop-group-test.true) in
-    group_within (g.R.Rewriter.means c.args.rewriter.now) (map group_item groups) (map group_item (drop at.group-index groups)) (map group_item (drop (at.group-index + 1) groups)) (group_item group) c.args.plan.now at.plan at.entries.items (g.R.Rewriter.means at.rewriter) at.invariant next c.in_ok-item.item c.in_ok-item.ensures
+    let next = ap (map group_item) (next_item groups groups at.group-index group (λ i. groups)
+    c.group-item.is c.loop-group-test.true) in
+    group_within (g.R.Rewriter.means c.args.rewriter.now) (map group_item groups)
+    (map group_item (drop at.group-index groups))
+    (map group_item (drop (at.group-index + 1) groups)) (group_item group) c.args.plan.now
+    at.plan at.entries.items (g.R.Rewriter.means at.rewriter) at.invariant next
+    c.in_ok-item.item c.in_ok-item.ensures
 
 pub loop-group-preserved : goal.loop-group-preserved
 loop-group-preserved g c =
     let groups = c.args.groups.now in
     let at = c.loop-group in
     let group = c.group-item.result in
-    let next = ap (map group_item) (next_item groups groups at.group-index group (λ i. groups) c.group-item.is c.loop-group-test.true) in
-    group_more (g.R.Rewriter.means c.args.rewriter.now) (map group_item groups) (map group_item (drop at.group-index groups)) (map group_item (drop (at.group-index + 1) groups)) (group_item group) c.args.plan.now at.plan at.entries.items (g.R.Rewriter.means at.rewriter) at.invariant next c.in_ok-item.item c.in_ok-item.ensures
-    c.plan_item.new.plan c.plan_item.new.entries.items (g.R.Rewriter.means c.plan_item.new.rewriter) c.in-Ok.ensures.answer.0 c.in-Ok.ensures.answer.1 c.plan_item.ensures.means
+    let next = ap (map group_item) (next_item groups groups at.group-index group (λ i. groups)
+    c.group-item.is c.loop-group-test.true) in
+    group_more (g.R.Rewriter.means c.args.rewriter.now) (map group_item groups)
+    (map group_item (drop at.group-index groups))
+    (map group_item (drop (at.group-index + 1) groups)) (group_item group) c.args.plan.now
+    at.plan at.entries.items (g.R.Rewriter.means at.rewriter) at.invariant next
+    c.in_ok-item.item c.in_ok-item.ensures
+    c.plan_item.new.plan c.plan_item.new.entries.items (g.R.Rewriter.means c.plan_item.new.rewriter)
+    c.in-Ok.ensures.answer.0 c.in-Ok.ensures.answer.1 c.plan_item.ensures.means
 
 pub returns-clause-answer : goal.returns-clause-answer
 returns-clause-answer g c =
     let groups = c.args.groups.now in
     let at = c.loop-group in
-    groups_end (g.R.Rewriter.means c.args.rewriter.now) (map group_item groups) (map group_item (drop at.group-index groups)) c.args.plan.now at.plan at.entries.items (g.R.Rewriter.means at.rewriter) at.invariant (ap (map group_item) (drop_all at.group-index groups c.loop-group-test.false))
+    groups_end (g.R.Rewriter.means c.args.rewriter.now) (map group_item groups)
+    (map group_item (drop at.group-index groups)) c.args.plan.now at.plan at.entries.items
+    (g.R.Rewriter.means at.rewriter) at.invariant
+    (ap (map group_item) (drop_all at.group-index groups c.loop-group-test.false))

@@ -5,4 +5,6 @@ use Rattle.model_bridging.proofs.model_plan.plan_groups.Given as goal
 
 abbrev pub invariant-loop-group : goal.invariant-loop-group
 invariant-loop-group g l =
-    GroupsSoFar (g.R.Rewriter.means l.fn.rewriter) (map group_item l.groups) (map group_item (drop l.group-index l.groups)) l.fn.plan l.plan l.entries.items (g.R.Rewriter.means l.rewriter)
+    GroupsSoFar (g.R.Rewriter.means l.fn.rewriter) (map group_item l.groups)
+    (map group_item (drop l.group-index l.groups)) l.fn.plan l.plan l.entries.items
+    (g.R.Rewriter.means l.rewriter)

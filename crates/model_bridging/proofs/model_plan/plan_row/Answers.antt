@@ -14,7 +14,8 @@ returns-in_err-body-clause-answer g c =
     let choice = (g.R.Rewriter.means c.args.rewriter.now).choice in
     let inner = c.args.standing.now in
     let item = row_item c.args.row.now in
-    passed_on c.from_residual.result c.in_err-body.field-0.0 (IsTrue (put_in_fits inner item)) _ _ _ c.from_residual.ensures.1 c.in_err-body.ensures.answer
+    passed_on c.from_residual.result c.in_err-body.field-0.0 (IsTrue (put_in_fits inner item)) _ _ _
+    c.from_residual.ensures.1 c.in_err-body.ensures.answer
     (λ t. and_first (put_in_fits inner item) (worked choice 35 (put_in inner item)).fits t)
 
 pub returns-clause-answer : goal.returns-clause-answer
@@ -23,5 +24,7 @@ returns-clause-answer g c =
     let inner = c.args.standing.now in
     let item = row_item c.args.row.now in
     let made : Item = record { at = c.root-at.result; body = c.in_ok-body.body } in
-    let is : made ≡ put_in inner item = ap₂ (λ a b. record { at = a; body = b }) c.root-at.ensures c.in_ok-body.ensures.answer.1 in
-    child_answered choice inner item c.args.plan.now c.plan_further.new.plan c.plan_further.result made c.in_ok-body.ensures.answer.0 is c.plan_further.ensures.answer
+    let is : made ≡ put_in inner item =
+    ap₂ (λ a b. record { at = a; body = b }) c.root-at.ensures c.in_ok-body.ensures.answer.1 in
+    child_answered choice inner item c.args.plan.now c.plan_further.new.plan c.plan_further.result
+    made c.in_ok-body.ensures.answer.0 is c.plan_further.ensures.answer

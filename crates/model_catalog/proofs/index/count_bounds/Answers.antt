@@ -16,7 +16,8 @@ returns-clause-rising c =
     let d : Variable = record { number = 0; group = 0; lower = 0; upper = 0 } in
     let s = c.in-Some.ensures in
     let place = c.in-Some.bounds.place in
-    Rise-at s.own s.number c.args.kept.now place d s.variable s.found _ (its_number s.own s.number c.args.kept.now place d s.variable s.found) c.requires.rising
+    Rise-at s.own s.number c.args.kept.now place d s.variable s.found _
+    (its_number s.own s.number c.args.kept.now place d s.variable s.found) c.requires.rising
 
 pub returns-clause-entries : goal.returns-clause-entries
 returns-clause-entries c =
@@ -24,5 +25,14 @@ returns-clause-entries c =
     let s = c.in-Some.ensures in
     let bounds = c.in-Some.bounds in
     let x = slice_index_or c.args.kept.now bounds.place d in
-    subst (λ (o : Option Row). (n : ℕ) → find variable_number n (slice_set c.args.kept.now bounds.place (record { number = x.number; group = x.group; lower = x.lower + bounds.lower; upper = x.upper + bounds.upper })) ≡ option_map (counted o) (find variable_number n c.args.kept.now)) (sym s.is)
-    (counted_at s.own s.number c.args.kept.now bounds.place d s.variable s.found _ (its_number s.own s.number c.args.kept.now bounds.place d s.variable s.found) refl (ap (λ k. x.lower + k) s.lower) (ap (λ k. x.upper + k) s.upper))
+    subst (λ (o : Option Row). (n : ℕ) → find variable_number n
+    (slice_set c.args.kept.now bounds.place (record {
+      number = x.number;
+      group = x.group;
+      lower = x.lower + bounds.lower;
+      upper = x.upper + bounds.upper;
+    })) ≡ option_map (counted o)
+    (find variable_number n c.args.kept.now)) (sym s.is)
+    (counted_at s.own s.number c.args.kept.now bounds.place d s.variable s.found _
+    (its_number s.own s.number c.args.kept.now bounds.place d s.variable s.found) refl
+    (ap (λ k. x.lower + k) s.lower) (ap (λ k. x.upper + k) s.upper))

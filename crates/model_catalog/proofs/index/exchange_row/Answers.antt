@@ -8,13 +8,21 @@ use Rattle.model_catalog.proofs.index.exchange_row.Goals as goal
 
 pub discount_bounds-requires-clause-counted : goal.discount_bounds-requires-clause-counted
 discount_bounds-requires-clause-counted c =
-    still_counted c.args.rows.now.items c.exchange-old.new.items.items c.args.number c.args.new (option_copied c.as_ref-2.result) c.requires.rising c.exchange-old.ensures.after (c.as_ref-2.ensures.value ∙ c.exchange-old.ensures.before)
+    still_counted c.args.rows.now.items c.exchange-old.new.items.items c.args.number c.args.new
+    (option_copied c.as_ref-2.result) c.requires.rising c.exchange-old.ensures.after
+    (c.as_ref-2.ensures.value ∙ c.exchange-old.ensures.before)
     c.args.kept.now c.count_bounds.new.kept c.requires.counts
-    (λ n. c.count_bounds.ensures.entries n ∙ ap (λ (o : Option Row). option_map (counted o) (find variable_number n c.args.kept.now)) c.as_ref.ensures.value)
+    (λ n. c.count_bounds.ensures.entries n
+    ∙ ap (λ (o : Option Row). option_map (counted o) (find variable_number n c.args.kept.now))
+    c.as_ref.ensures.value)
 
 pub returns-clause-entries : goal.returns-clause-entries
 returns-clause-entries c =
-    recounted_after c.args.rows.now.items c.exchange-old.new.items.items c.args.number c.args.new (option_copied c.as_ref-2.result) c.requires.rising c.exchange-old.ensures.after (c.as_ref-2.ensures.value ∙ c.exchange-old.ensures.before)
+    recounted_after c.args.rows.now.items c.exchange-old.new.items.items c.args.number c.args.new
+    (option_copied c.as_ref-2.result) c.requires.rising c.exchange-old.ensures.after
+    (c.as_ref-2.ensures.value ∙ c.exchange-old.ensures.before)
     c.args.kept.now c.count_bounds.new.kept c.discount_bounds.new.kept c.requires.counts
-    (λ n. c.count_bounds.ensures.entries n ∙ ap (λ (o : Option Row). option_map (counted o) (find variable_number n c.args.kept.now)) c.as_ref.ensures.value)
+    (λ n. c.count_bounds.ensures.entries n
+    ∙ ap (λ (o : Option Row). option_map (counted o) (find variable_number n c.args.kept.now))
+    c.as_ref.ensures.value)
     c.discount_bounds.ensures.entries

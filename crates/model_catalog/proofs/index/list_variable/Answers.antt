@@ -8,4 +8,7 @@ use Rattle.model_catalog.proofs.index.list_variable.Goals as goal
 pub returns-else-is_err-clause-after : goal.returns-else-is_err-clause-after
 returns-else-is_err-clause-after c =
     let item = c.args.item.now in
-    kept_there c.args.group item c.args.kept.now.items c.place_of.result c.if-is_none.ensures c.if-is_err.ensures.value (subst (λ (vs : List Variable). IsPlaceOf variable_number item.number vs c.place_of.result) c.deref.ensures.value c.place_of.ensures) c.requires.rising
+    kept_there c.args.group item c.args.kept.now.items c.place_of.result c.if-is_none.ensures
+    c.if-is_err.ensures.value (subst (λ (vs : List Variable). IsPlaceOf variable_number
+    item.number vs c.place_of.result) c.deref.ensures.value c.place_of.ensures)
+    c.requires.rising

@@ -9,5 +9,10 @@ use Rattle.model_catalog.proofs.index.list_variables.Goals as goal
 pub loop-item-preserved : goal.loop-item-preserved
 loop-item-preserved c =
     let now = c.loop-item.kept.items in
-    listed_more c.args.group c.args.kept.now.items now c.list_variable.new.kept.items c.args.listed.now c.loop-item.item-index (vec_capacity c.args.kept.now) (vec_capacity c.loop-item.kept) (vec_capacity c.list_variable.new.kept) c.item-item.result c.loop-item.invariant (omega arith)
-    (c.list_variable.ensures.after ∙ ap (λ (y : NameChange). set_at variable_number y.number (given_variable c.args.group y (find variable_number y.number now)) now) c.item-item.is) c.list_variable.ensures.rising c.list_variable.ensures.capacity
+    listed_more c.args.group c.args.kept.now.items now c.list_variable.new.kept.items
+    c.args.listed.now c.loop-item.item-index (vec_capacity c.args.kept.now)
+    (vec_capacity c.loop-item.kept) (vec_capacity c.list_variable.new.kept) c.item-item.result
+    c.loop-item.invariant (omega arith)
+    (c.list_variable.ensures.after ∙ ap (λ (y : NameChange). set_at variable_number y.number
+    (given_variable c.args.group y (find variable_number y.number now)) now) c.item-item.is)
+    c.list_variable.ensures.rising c.list_variable.ensures.capacity

@@ -2,4 +2,6 @@ use Rattle.model_catalog.proofs.NameLoops.{PutSoFar}
 use Rattle.model_catalog.proofs.names.put_names.Given as goal
 
 abbrev pub invariant-loop-item : goal.invariant-loop-item
-invariant-loop-item l = PutSoFar l.initial.table.numbers l.table.numbers l.initial.listed l.listed l.item-index l.initial.table.spare l.table.spare
+invariant-loop-item l =
+    PutSoFar l.initial.table.numbers l.table.numbers l.initial.listed l.listed l.item-index
+    l.initial.table.spare l.table.spare

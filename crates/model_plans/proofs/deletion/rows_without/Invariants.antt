@@ -6,4 +6,6 @@ use Rattle.user_model.specs.Model.{row_mentions}
 use Rattle.model_plans.proofs.deletion.rows_without.Given as goal
 
 abbrev pub invariant-loop-row : goal.invariant-loop-row
-invariant-loop-row l = l.changes.items ≡ edits_of row_number (row_without l.at) (row_mentions l.at) (take l.row-index l.rows)
+invariant-loop-row l =
+    l.changes.items ≡ edits_of row_number (row_without l.at) (row_mentions l.at)
+    (take l.row-index l.rows)

@@ -36,10 +36,23 @@ unfolding edited
 returns c =
     let model = c.args.model.now.model in
     let next = c.next-next.ensures in
-    let made : c.in_ok-vars.vars.items ≡ numbered_from c.next-next.result.variable c.args.names.now = c.in_ok-vars.ensures in
+    let made : c.in_ok-vars.vars.items ≡ numbered_from c.next-next.result.variable
+    c.args.names.now = c.in_ok-vars.ensures in
     let numbered = made ∙ ap (λ k. numbered_from k.variable c.args.names.now) next in
     let vars = c.from_vec.ensures ∙ numbered in
-    let shown : c.in_ok-listed.listed.items ≡ listed_variables c.deref.result.now = c.in_ok-listed.ensures in
+    let shown : c.in_ok-listed.listed.items ≡ listed_variables c.deref.result.now =
+    c.in_ok-listed.ensures in
     let long = c.len.ensures in
     let copied : c.in_ok-copy.field-0 ≡ c.args.set.now = c.in_ok-copy.ensures in
-    IfOk-weaker c.of_group.result _ _ (λ plan p. added_leads model plan c.args.names.now c.args.set.now c.requires.consistent (p.1 ∙ ap (λ k. k.group) c.next-next.ensures) (parts_same p.0 _ [] _ _ [] (λ i. record { number = (next i).group; content = Some (record { id = (next i).group; vars = vars i; set = copied i }) } ∷ []) refl (λ i. record { group = (next i).group + 1; variable = (next i).variable + long i; row = (next i).row }) (shown ∙ ap listed_variables (c.deref.ensures.value ∙ numbered)) refl)) c.of_group.ensures
+    IfOk-weaker c.of_group.result _ _ (λ plan p. added_leads model plan c.args.names.now
+    c.args.set.now c.requires.consistent (p.1 ∙ ap (λ k. k.group) c.next-next.ensures)
+    (parts_same p.0 _ [] _ _ [] (λ i. record {
+      number = (next i).group;
+      content = Some (record { id = (next i).group; vars = vars i; set = copied i });
+    } ∷ []) refl
+    (λ i. record {
+      group = (next i).group + 1;
+      variable = (next i).variable + long i;
+      row = (next i).row;
+    }) (shown ∙ ap listed_variables (c.deref.ensures.value ∙ numbered))
+    refl)) c.of_group.ensures

@@ -11,5 +11,8 @@ loop-name-preserved c =
     let names = c.as_slice-name-items.result.now in
     let at = slice_get-get_or names i name (omega arith) ∙ ap Some (sym c.name-item.is) in (
       omega (arith, c.loop-name.invariant.0),
-      numbered_pushed c.args.first c.args.names.now i name c.loop-name.vars.items c.push.new.self.items _ (sym (ap (λ ns. slice_get ns i) (sym c.as_slice-name-items.ensures) ∙ at)) c.loop-name.invariant.1 c.loop-name.invariant.0 c.in_ok-copy.ensures c.in_ok-push.ensures.items,
+      numbered_pushed c.args.first c.args.names.now i name c.loop-name.vars.items
+          c.push.new.self.items _ (sym (ap (λ ns. slice_get ns i)
+          (sym c.as_slice-name-items.ensures) ∙ at)) c.loop-name.invariant.1 c.loop-name.invariant.0
+          c.in_ok-copy.ensures c.in_ok-push.ensures.items,
     )

@@ -10,4 +10,5 @@ affine-requires-clause-known c =
     let func = c.func-item.result in
     let funcs = c.as_slice-func-items.result.now in
     let at = slice_get-get_or funcs i func (omega arith) ∙ ap Some (sym c.func-item.is) in
-    known_component c.args.model.now.model c.args.funcs.now i func c.requires.known (ap (λ fs. slice_get fs i) (sym c.as_slice-func-items.ensures) ∙ at)
+    known_component c.args.model.now.model c.args.funcs.now i func c.requires.known
+    (ap (λ fs. slice_get fs i) (sym c.as_slice-func-items.ensures) ∙ at)

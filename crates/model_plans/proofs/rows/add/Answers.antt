@@ -18,7 +18,8 @@ located-requires-clause-known c =
 pub overflow_add-after : goal.overflow_add-after
 overflow_add-after c =
     let row = ap (λ k. k.row) c.next-next.ensures in
-    let fits = next_row c.args.model.now.model c.args.name.now c.args.func.now c.args.set.now c.requires in
+    let fits = next_row c.args.model.now.model c.args.name.now c.args.func.now c.args.set.now
+    c.requires in
     omega (arith, row, fits)
 
 pub returns : goal.returns
@@ -30,4 +31,19 @@ returns c =
     let name = c.in_ok-copy.ensures in
     let copied = c.in_ok-copy-2.ensures in
     let set : c.in_ok-copy-3.field-0 ≡ c.args.set.now = c.in_ok-copy-3.ensures in
-    IfOk-weaker c.of_row.result _ _ (λ plan p. added_leads model plan c.args.name.now (located model c.args.func.now) c.args.set.now c.requires.consistent (parts_same p [] _ _ [] _ refl (λ i. record { number = (next i).row; content = Some (record { id = (next i).row; name = copied i; func = func i; set = set i }) } ∷ []) (λ i. record { group = (next i).group; variable = (next i).variable; row = (next i).row + 1 }) refl (ap (λ l. l ∷ []) c.new-listed.ensures ∙ (λ i. listed_as (next i).row (Some (name i)) ∷ [])))) c.of_row.ensures
+    IfOk-weaker c.of_row.result _ _ (λ plan p. added_leads model plan c.args.name.now
+    (located model c.args.func.now) c.args.set.now c.requires.consistent
+    (parts_same p [] _ _ [] _ refl (λ i. record {
+      number = (next i).row;
+      content = Some (record {
+        id = (next i).row;
+        name = copied i;
+        func = func i;
+        set = set i;
+      });
+    } ∷ []) (λ i. record {
+      group = (next i).group;
+      variable = (next i).variable;
+      row = (next i).row + 1;
+    }) refl (ap (λ l. l ∷ []) c.new-listed.ensures
+    ∙ (λ i. listed_as (next i).row (Some (name i)) ∷ [])))) c.of_row.ensures

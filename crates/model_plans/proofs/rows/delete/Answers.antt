@@ -9,4 +9,7 @@ pub returns : goal.returns
 unfolding edited
 returns c =
     let model = c.args.model.now.model in
-    IfOk-weaker c.of_row_change.result _ _ (λ plan p. deleted_leads model plan c.requires.consistent c.args.row.now.name.now c.args.row.now.row.now c.requires.row (parts_same p [] _ _ [] _ refl refl c.next.ensures refl (ap (λ l. l ∷ []) c.new.ensures))) c.of_row_change.ensures
+    IfOk-weaker c.of_row_change.result _ _ (λ plan p. deleted_leads model plan c.requires.consistent
+    c.args.row.now.name.now c.args.row.now.row.now c.requires.row
+    (parts_same p [] _ _ [] _ refl refl c.next.ensures refl (ap (λ l. l ∷ []) c.new.ensures)))
+    c.of_row_change.ensures

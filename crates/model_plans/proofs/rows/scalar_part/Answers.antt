@@ -11,7 +11,11 @@ returns-in-Some c =
     let g = with_part c.args.part.now c.args.value in
     let f = c.args.func.now in
     let made = subst (IsChange f (g f)) c.in-Some.is c.in_ok-func.ensures in
-    IfOk-weaker c.with_function.result _ _ (λ plan p. subst (λ after. Leads model after plan) (row_edited model c.args.row.now.name.now c.args.part.now c.args.value c.requires.part) (scalar_new model plan c.requires.consistent c.args.row.now.name.now c.args.row.now.row.now c.requires.row g f c.in-Some.func c.requires.affine made.0 made.1 p)) c.with_function.ensures
+    IfOk-weaker c.with_function.result _ _ (λ plan p. subst (λ after. Leads model after plan)
+    (row_edited model c.args.row.now.name.now c.args.part.now c.args.value c.requires.part)
+    (scalar_new model plan c.requires.consistent c.args.row.now.name.now c.args.row.now.row.now
+    c.requires.row g f c.in-Some.func c.requires.affine made.0 made.1 p))
+    c.with_function.ensures
 
 pub returns-in-None : goal.returns-in-None
 returns-in-None c =
@@ -19,6 +23,9 @@ returns-in-None c =
     let g = with_part c.args.part.now c.args.value in
     let f = c.args.func.now in
     let made = subst (IsChange f (g f)) c.in-None.is c.in_ok-func.ensures in
-    subst (λ after. Leads model after c.unchanged.result) (row_edited model c.args.row.now.name.now c.args.part.now c.args.value c.requires.part)
-    (scalar_same model c.unchanged.result c.requires.consistent c.args.row.now.name.now c.args.row.now.row.now c.requires.row g f c.requires.affine made
-    (subst (λ n. HasParts c.unchanged.result [] [] None n [] []) c.next.ensures c.unchanged.ensures))
+    subst (λ after. Leads model after c.unchanged.result)
+    (row_edited model c.args.row.now.name.now c.args.part.now c.args.value c.requires.part)
+    (scalar_same model c.unchanged.result c.requires.consistent c.args.row.now.name.now
+    c.args.row.now.row.now c.requires.row g f c.requires.affine made
+    (subst (λ n. HasParts c.unchanged.result [] [] None n [] []) c.next.ensures
+    c.unchanged.ensures))

@@ -5,4 +5,6 @@ use Rattle.model_refusals.proofs.bounds.is_in_cone_row.Given as goal
 
 -- no row so far is such a row
 abbrev pub invariant-loop-row : goal.invariant-loop-row
-invariant-loop-row l = list_any (is_cone_row_of l.number) (drop l.row-index l.rows) ≡ list_any (is_cone_row_of l.number) l.rows
+invariant-loop-row l =
+    list_any (is_cone_row_of l.number) (drop l.row-index l.rows) ≡ list_any
+    (is_cone_row_of l.number) l.rows

@@ -10,5 +10,7 @@ use Rattle.model_refusals.proofs.counted.first_full_component.Given as goal
 -- no component so far has too many terms
 abbrev pub invariant-loop-index : goal.invariant-loop-index
 invariant-loop-index l =
-    first_full (within TERMS (drop l.index (map term_count (changed_at l.place (λ f. with_coefficient f l.at l.value) l.funcs))))
-    ≡ first_full (within TERMS (map term_count (changed_at l.place (λ f. with_coefficient f l.at l.value) l.funcs)))
+    first_full (within TERMS (drop l.index
+    (map term_count (changed_at l.place (λ f. with_coefficient f l.at l.value) l.funcs))))
+    ≡ first_full (within TERMS (map term_count
+    (changed_at l.place (λ f. with_coefficient f l.at l.value) l.funcs)))

@@ -13,6 +13,10 @@ use Rattle.model_refusals.proofs.counted.vec_terms_within.Given as goal
 abbrev pub invariant-loop-place : goal.invariant-loop-place
 invariant-loop-place l = record {
   few : l.all ≤ 4096 * l.place;
-  passed : (model : ModelValue) → IsConsistent model → IsKnown model (AffineVec l.funcs) → first_full (within TERMS (drop l.place (map term_count (map (affine model) l.funcs)))) ≡ first_full (within TERMS (map term_count (map (affine model) l.funcs)));
-  added : (model : ModelValue) → IsConsistent model → IsKnown model (AffineVec l.funcs) → l.all + sum (drop l.place (map term_count (map (affine model) l.funcs))) ≡ sum (map term_count (map (affine model) l.funcs));
+  passed : (model : ModelValue) → IsConsistent model → IsKnown model (AffineVec l.funcs)
+      → first_full (within TERMS (drop l.place (map term_count (map (affine model) l.funcs))))
+      ≡ first_full (within TERMS (map term_count (map (affine model) l.funcs)));
+  added : (model : ModelValue) → IsConsistent model → IsKnown model (AffineVec l.funcs)
+      → l.all + sum (drop l.place (map term_count (map (affine model) l.funcs)))
+      ≡ sum (map term_count (map (affine model) l.funcs));
 }

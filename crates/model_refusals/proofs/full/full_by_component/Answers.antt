@@ -16,10 +16,15 @@ returns-then-is_some c =
     let place = c.args.component.now.place in
     let at = c.args.at.now in
     let value = c.args.value.now in
-    let terms : c.first_full_component-passed.result ≡ first_full (within TERMS (map term_count (changed_at place (λ f. with_coefficient f at value) funcs))) =
-    c.first_full_component-passed.ensures ∙ ap (λ fs. first_full (within TERMS (map term_count (changed_at place (λ f. with_coefficient f at value) fs)))) c.as_slice.ensures in
+    let terms : c.first_full_component-passed.result
+    ≡ first_full (within TERMS (map term_count
+    (changed_at place (λ f. with_coefficient f at value) funcs))) =
+    c.first_full_component-passed.ensures
+    ∙ ap (λ fs. first_full (within TERMS (map term_count
+    (changed_at place (λ f. with_coefficient f at value) fs)))) c.as_slice.ensures in
     let some = ap is_some (sym terms) ∙ (sym c.is_some.ensures ∙ c.if-is_some.true) in
-    terms ∙ first_some (within TERMS (map term_count (changed_at place (λ f. with_coefficient f at value) funcs))) _ some
+    terms ∙ first_some (within TERMS (map term_count
+    (changed_at place (λ f. with_coefficient f at value) funcs))) _ some
 
 pub returns : goal.returns
 returns c =
@@ -28,9 +33,15 @@ returns c =
     let place = c.args.component.now.place in
     let at = c.args.at.now in
     let value = c.args.value.now in
-    let terms : c.first_full_component-passed.result ≡ first_full (within TERMS (map term_count (changed_at place (λ f. with_coefficient f at value) funcs))) =
-    c.first_full_component-passed.ensures ∙ ap (λ fs. first_full (within TERMS (map term_count (changed_at place (λ f. with_coefficient f at value) fs)))) c.as_slice.ensures in
+    let terms : c.first_full_component-passed.result
+    ≡ first_full (within TERMS (map term_count
+    (changed_at place (λ f. with_coefficient f at value) funcs))) =
+    c.first_full_component-passed.ensures
+    ∙ ap (λ fs. first_full (within TERMS (map term_count
+    (changed_at place (λ f. with_coefficient f at value) fs)))) c.as_slice.ensures in
     let none = none_of _ (ap is_some (sym terms) ∙ (sym c.is_some.ensures ∙ c.if-is_some.false)) in
     c.full_by_total.ensures
-    ∙ (ap₂ (λ o n. first_full ((total_terms model - o + n, ALL_TERMS) ∷ [])) (ap length c.terms.ensures.all) c.terms_with.ensures.value
-    ∙ sym (first_later (within TERMS (map term_count (changed_at place (λ f. with_coefficient f at value) funcs))) _ none))
+    ∙ (ap₂ (λ o n. first_full ((total_terms model - o + n, ALL_TERMS) ∷ []))
+    (ap length c.terms.ensures.all) c.terms_with.ensures.value
+    ∙ sym (first_later (within TERMS (map term_count
+    (changed_at place (λ f. with_coefficient f at value) funcs))) _ none))

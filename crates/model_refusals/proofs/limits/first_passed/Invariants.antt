@@ -4,4 +4,5 @@ use Rattle.model_refusals.proofs.limits.first_passed.Given as goal
 
 -- no count so far passes its limit
 abbrev pub invariant-loop-count : goal.invariant-loop-count
-invariant-loop-count l = first_of (map full_at (drop l.count-index l.counts)) ≡ first_of (map full_at l.counts)
+invariant-loop-count l =
+    first_of (map full_at (drop l.count-index l.counts)) ≡ first_of (map full_at l.counts)

@@ -5,4 +5,6 @@ use Rattle.model_refusals.proofs.lookups.has_known.Given as goal
 
 -- no name so far is a variable's
 abbrev pub invariant-loop-place : goal.invariant-loop-place
-invariant-loop-place l = list_any (has_variable_named l.model.model) (drop l.place l.names) ≡ list_any (has_variable_named l.model.model) l.names
+invariant-loop-place l =
+    list_any (has_variable_named l.model.model) (drop l.place l.names) ≡ list_any
+    (has_variable_named l.model.model) l.names

@@ -7,12 +7,17 @@ use Rattle.model_refusals.proofs.lookups.has_unknown_name.Goals as goal
 
 pub returns-then-not-has_variable : goal.returns-then-not-has_variable
 returns-then-not-has_variable c =
-    any_found (λ name. not (has_variable_named c.args.model.now.model name)) c.args.names.now c.loop-place.place c.in-Some.name.now c.loop-place.invariant (sym c.in-Some.ensures) (ap not (sym c.has_variable.ensures ∙ c.if-not-has_variable.true))
+    any_found (λ name. not (has_variable_named c.args.model.now.model name)) c.args.names.now
+    c.loop-place.place c.in-Some.name.now c.loop-place.invariant (sym c.in-Some.ensures)
+    (ap not (sym c.has_variable.ensures ∙ c.if-not-has_variable.true))
 
 pub loop-place-preserved : goal.loop-place-preserved
 loop-place-preserved c =
     elim c.match-get.branch [
       | in-Some+else-not-has_variable w ↦
-          any_more (λ name. not (has_variable_named c.args.model.now.model name)) c.args.names.now c.loop-place.place w.in-Some.name.now c.loop-place.invariant (sym w.in-Some.ensures) (ap not (sym w.has_variable.ensures ∙ w.if-not-has_variable.false))
-      | in_default w ↦ absurd (none_past c.loop-place.place c.args.names.now (sym w.in_default.ensures) (omega arith))
+          any_more (λ name. not (has_variable_named c.args.model.now.model name)) c.args.names.now
+          c.loop-place.place w.in-Some.name.now c.loop-place.invariant (sym w.in-Some.ensures)
+          (ap not (sym w.has_variable.ensures ∙ w.if-not-has_variable.false))
+      | in_default w ↦ absurd (none_past c.loop-place.place c.args.names.now
+          (sym w.in_default.ensures) (omega arith))
     ]

@@ -13,16 +13,28 @@ returns-in-Some c =
     let model = c.args.model.now.model in
     let value = c.args.value.now in
     let func = c.in-Affine.func in
-    let named : variable_named model c.args.var.now ≡ Some c.in_ok-var.var.number = ap (variable_named model) (sym c.in_ok-var.ensures.0) ∙ c.in_ok-var.ensures.1 in
-    let full = c.full_by_change.ensures ∙ ap (λ at. first_full (with_change (total_terms model) (term_count func) (term_count (with_coefficient func at value)))) c.address.ensures in
-    obj_coef_full model c.args.var.now c.in_ok-var.var.number value named c.in-Affine.sense func (sym c.objective.ensures.value ∙ c.in-Affine.is) ∙ (sym full ∙ c.in-Some.is)
+    let named : variable_named model c.args.var.now ≡ Some c.in_ok-var.var.number =
+    ap (variable_named model) (sym c.in_ok-var.ensures.0) ∙ c.in_ok-var.ensures.1 in
+    let full = c.full_by_change.ensures
+    ∙ ap (λ at. first_full (with_change (total_terms model) (term_count func)
+    (term_count (with_coefficient func at value)))) c.address.ensures in
+    obj_coef_full model c.args.var.now c.in_ok-var.var.number value named c.in-Affine.sense func
+    (sym c.objective.ensures.value ∙ c.in-Affine.is) ∙ (sym full ∙ c.in-Some.is)
 
 pub returns-in-None : goal.returns-in-None
 returns-in-None c =
     let model = c.args.model.now.model in
     let value = c.args.value.now in
     let func = c.in-Affine.func in
-    let named : variable_named model c.args.var.now ≡ Some c.in_ok-var.var.number = ap (variable_named model) (sym c.in_ok-var.ensures.0) ∙ c.in_ok-var.ensures.1 in
-    let full = c.full_by_change.ensures ∙ ap (λ at. first_full (with_change (total_terms model) (term_count func) (term_count (with_coefficient func at value)))) c.address.ensures in
-    let is = sym c.objective.ensures.value ∙ c.in-Affine.is in
-    (obj_coef_full model c.args.var.now c.in_ok-var.var.number value named c.in-Affine.sense func is ∙ (sym full ∙ c.in-None.is), ap (λ var. edit.ObjCoef var value) c.in_ok-var.ensures.0, (is, c.in_ok-var.ensures.1))
+    let named : variable_named model c.args.var.now ≡ Some c.in_ok-var.var.number =
+    ap (variable_named model) (sym c.in_ok-var.ensures.0) ∙ c.in_ok-var.ensures.1 in
+    let full = c.full_by_change.ensures
+    ∙ ap (λ at. first_full (with_change (total_terms model) (term_count func)
+    (term_count (with_coefficient func at value)))) c.address.ensures in
+    let is = sym c.objective.ensures.value ∙ c.in-Affine.is in (
+      obj_coef_full model c.args.var.now c.in_ok-var.var.number value named
+          c.in-Affine.sense func is
+          ∙ (sym full ∙ c.in-None.is),
+      ap (λ var. edit.ObjCoef var value) c.in_ok-var.ensures.0,
+      (is, c.in_ok-var.ensures.1),
+    )

@@ -15,7 +15,10 @@ full_by_component-requires-clause-part c =
     let row = c.in_ok-row.row in
     let part = c.in-Some.component in
     let told = c.in-Some.ensures in
-    vec_coef_part c.args.model.now.model c.requires.consistent row.name.now row.row.now c.in_ok-row.ensures.1 part.funcs.now (c.in-AffineVec.is ∙ ap AffineVec (sym told.0)) c.args.output part.func.now (ap (slice_get part.funcs.now) (sym told.1.1) ∙ told.1.2) c.args.var.now c.args.value.now
+    vec_coef_part c.args.model.now.model c.requires.consistent row.name.now row.row.now
+    c.in_ok-row.ensures.1 part.funcs.now (c.in-AffineVec.is ∙ ap AffineVec (sym told.0))
+    c.args.output part.func.now (ap (slice_get part.funcs.now) (sym told.1.1) ∙ told.1.2)
+    c.args.var.now c.args.value.now
 
 pub returns-in-Some-full_by_component : goal.returns-in-Some-full_by_component
 returns-in-Some-full_by_component c =
@@ -23,11 +26,19 @@ returns-in-Some-full_by_component c =
     let value = c.args.value.now in
     let part = c.in-Some.component in
     let told = c.in-Some.ensures in
-    let named : variable_named model c.args.var.now ≡ Some c.in_ok-var.var.number = ap (variable_named model) (sym c.in_ok-var.ensures.0) ∙ c.in_ok-var.ensures.1 in
-    let found : row_named model c.args.row.now ≡ Some c.in_ok-row.row.row.now = ap (row_named model) (sym c.in_ok-row.ensures.0) ∙ c.in_ok-row.ensures.1 in
-    let within : (c.args.output == 0 || nat_lt (length part.funcs.now) c.args.output) ≡ false = ap (λ fs. c.args.output == 0 || nat_lt (length fs) c.args.output) told.0 ∙ told.2 in
-    let full = c.full_by_component.ensures ∙ ap (λ at. first_full (with_change_at (total_terms model) part.funcs.now part.place part.func.now (λ f. with_coefficient f at value))) c.address.ensures in
-    vec_coef_full model c.args.row.now c.in_ok-row.row.row.now found c.args.var.now c.in_ok-var.var.number named value c.requires.consistent part.funcs.now c.args.output part.place part.func.now (c.in-AffineVec.is ∙ ap AffineVec (sym told.0)) within told.1.1 told.1.2 ∙ (sym full ∙ c.in-Some-full_by_component.is)
+    let named : variable_named model c.args.var.now ≡ Some c.in_ok-var.var.number =
+    ap (variable_named model) (sym c.in_ok-var.ensures.0) ∙ c.in_ok-var.ensures.1 in
+    let found : row_named model c.args.row.now ≡ Some c.in_ok-row.row.row.now =
+    ap (row_named model) (sym c.in_ok-row.ensures.0) ∙ c.in_ok-row.ensures.1 in
+    let within : (c.args.output == 0 || nat_lt (length part.funcs.now) c.args.output) ≡ false =
+    ap (λ fs. c.args.output == 0 || nat_lt (length fs) c.args.output) told.0 ∙ told.2 in
+    let full = c.full_by_component.ensures
+    ∙ ap (λ at. first_full (with_change_at (total_terms model) part.funcs.now part.place
+    part.func.now (λ f. with_coefficient f at value))) c.address.ensures in
+    vec_coef_full model c.args.row.now c.in_ok-row.row.row.now found c.args.var.now
+    c.in_ok-var.var.number named value c.requires.consistent part.funcs.now c.args.output
+    part.place part.func.now (c.in-AffineVec.is ∙ ap AffineVec (sym told.0)) within told.1.1
+    told.1.2 ∙ (sym full ∙ c.in-Some-full_by_component.is)
 
 pub returns-in-None : goal.returns-in-None
 returns-in-None c =
@@ -35,12 +46,20 @@ returns-in-None c =
     let value = c.args.value.now in
     let part = c.in-Some.component in
     let told = c.in-Some.ensures in
-    let named : variable_named model c.args.var.now ≡ Some c.in_ok-var.var.number = ap (variable_named model) (sym c.in_ok-var.ensures.0) ∙ c.in_ok-var.ensures.1 in
-    let found : row_named model c.args.row.now ≡ Some c.in_ok-row.row.row.now = ap (row_named model) (sym c.in_ok-row.ensures.0) ∙ c.in_ok-row.ensures.1 in
-    let within : (c.args.output == 0 || nat_lt (length part.funcs.now) c.args.output) ≡ false = ap (λ fs. c.args.output == 0 || nat_lt (length fs) c.args.output) told.0 ∙ told.2 in
+    let named : variable_named model c.args.var.now ≡ Some c.in_ok-var.var.number =
+    ap (variable_named model) (sym c.in_ok-var.ensures.0) ∙ c.in_ok-var.ensures.1 in
+    let found : row_named model c.args.row.now ≡ Some c.in_ok-row.row.row.now =
+    ap (row_named model) (sym c.in_ok-row.ensures.0) ∙ c.in_ok-row.ensures.1 in
+    let within : (c.args.output == 0 || nat_lt (length part.funcs.now) c.args.output) ≡ false =
+    ap (λ fs. c.args.output == 0 || nat_lt (length fs) c.args.output) told.0 ∙ told.2 in
     let vector = c.in-AffineVec.is ∙ ap AffineVec (sym told.0) in
-    let full = c.full_by_component.ensures ∙ ap (λ at. first_full (with_change_at (total_terms model) part.funcs.now part.place part.func.now (λ f. with_coefficient f at value))) c.address.ensures in (
-      vec_coef_full model c.args.row.now c.in_ok-row.row.row.now found c.args.var.now c.in_ok-var.var.number named value c.requires.consistent part.funcs.now c.args.output part.place part.func.now vector within told.1.1 told.1.2 ∙ (sym full ∙ c.in-None.is),
-      ap₂ (λ row var. edit.VecCoef row c.args.output var value) c.in_ok-row.ensures.0 c.in_ok-var.ensures.0,
+    let full = c.full_by_component.ensures
+    ∙ ap (λ at. first_full (with_change_at (total_terms model) part.funcs.now part.place
+    part.func.now (λ f. with_coefficient f at value))) c.address.ensures in (
+      vec_coef_full model c.args.row.now c.in_ok-row.row.row.now found c.args.var.now
+          c.in_ok-var.var.number named value c.requires.consistent part.funcs.now c.args.output
+          part.place part.func.now vector within told.1.1 told.1.2 ∙ (sym full ∙ c.in-None.is),
+      ap₂ (λ row var. edit.VecCoef row c.args.output var value) c.in_ok-row.ensures.0
+          c.in_ok-var.ensures.0,
       (c.in_ok-row.ensures.1, vector, told.1, c.in_ok-var.ensures.1),
     )

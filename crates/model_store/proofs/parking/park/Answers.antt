@@ -9,19 +9,41 @@ use Rattle.model_store.proofs.parking.park.Goals as goal
 
 pub returns-clause-entry : goal.returns-clause-entry
 returns-clause-entry c =
-    let entry : Parked = record { names = c.exchange.new.names; groups = c.args.reserved.groups; rows = c.args.reserved.rows; variables = c.variable_count.result + c.put_count.result } in
+    let entry : Parked = record {
+      names = c.exchange.new.names;
+      groups = c.args.reserved.groups;
+      rows = c.args.reserved.rows;
+      variables = c.variable_count.result + c.put_count.result;
+    } in
     let new = c.exchange.new.self in
-    let count : c.variable_count.result + c.put_count.result ≡ length (variables new.model) + put_count c.exchange.new.names.variables.items = ap₂ (λ m n. m + n) c.variable_count.ensures (c.put_count.ensures ∙ ap put_count c.deref.ensures.value) in
+    let count : c.variable_count.result + c.put_count.result
+    ≡ length (variables new.model) + put_count c.exchange.new.names.variables.items = ap₂
+    (λ m n. m + n) c.variable_count.ensures (c.put_count.ensures ∙ ap put_count
+    c.deref.ensures.value) in
     record {
       entry = entry;
       last = c.push_with_room.ensures;
-      is = entry_of c.args.plan c.args.names c.args.reserved c.args.catalog.now new entry c.from.result c.requires.reserved c.requires.was c.requires.changes c.exchange.ensures.model (c.from.ensures ∙ c.exchange.ensures.contents) (ap (before new.model) c.from.ensures ∙ c.exchange.ensures.back) c.exchange.ensures.names refl refl count;
+      is = entry_of c.args.plan c.args.names c.args.reserved c.args.catalog.now new entry
+          c.from.result c.requires.reserved c.requires.was c.requires.changes
+          c.exchange.ensures.model (c.from.ensures ∙ c.exchange.ensures.contents)
+          (ap (before new.model) c.from.ensures ∙ c.exchange.ensures.back) c.exchange.ensures.names
+          refl refl count;
     }
 
 pub returns-clause-parked : goal.returns-clause-parked
 returns-clause-parked c =
-    let entry : Parked = record { names = c.exchange.new.names; groups = c.args.reserved.groups; rows = c.args.reserved.rows; variables = c.variable_count.result + c.put_count.result } in
+    let entry : Parked = record {
+      names = c.exchange.new.names;
+      groups = c.args.reserved.groups;
+      rows = c.args.reserved.rows;
+      variables = c.variable_count.result + c.put_count.result;
+    } in
     let new = c.exchange.new.self in
-    let count : c.variable_count.result + c.put_count.result ≡ length (variables new.model) + put_count c.exchange.new.names.variables.items = ap₂ (λ m n. m + n) c.variable_count.ensures (c.put_count.ensures ∙ ap put_count c.deref.ensures.value) in
+    let count : c.variable_count.result + c.put_count.result
+    ≡ length (variables new.model) + put_count c.exchange.new.names.variables.items = ap₂
+    (λ m n. m + n) c.variable_count.ensures (c.put_count.ensures ∙ ap put_count
+    c.deref.ensures.value) in
     subst (λ parked. IsParked parked c.args.reserved.names new.room) (sym c.push_with_room.ensures)
-    (parked_more c.args.plan c.args.names c.args.reserved c.args.catalog.now new c.exchange.new.with c.args.parked.now.items entry c.requires.reserved c.requires.parked c.exchange.ensures.kept c.exchange.ensures.room c.exchange.ensures.standing refl refl count)
+    (parked_more c.args.plan c.args.names c.args.reserved c.args.catalog.now new c.exchange.new.with
+    c.args.parked.now.items entry c.requires.reserved c.requires.parked c.exchange.ensures.kept
+    c.exchange.ensures.room c.exchange.ensures.standing refl refl count)

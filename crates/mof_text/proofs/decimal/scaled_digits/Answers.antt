@@ -8,19 +8,28 @@ use Rattle.mof_text.proofs.decimal.scaled_digits.Goals as goal
 
 pub returns-in_err-value_after : goal.returns-in_err-value_after
 returns-in_err-value_after c =
-    let few = short_digits c.args.whole.now c.args.fraction.now c.args.up (AllDigits-append c.args.whole.now c.args.fraction.now c.requires.whole c.requires.fraction) c.requires.short c.requires.up in
+    let few = short_digits c.args.whole.now c.args.fraction.now c.args.up
+    (AllDigits-append c.args.whole.now c.args.fraction.now c.requires.whole c.requires.fraction)
+    c.requires.short c.requires.up in
     absurd (c.in_err-value_after.ensures (never_large c.args.whole.now c.args.fraction.now few.0).0)
 
 pub returns-in_err-digits : goal.returns-in_err-digits
 returns-in_err-digits c =
-    let few = short_digits c.args.whole.now c.args.fraction.now c.args.up (AllDigits-append c.args.whole.now c.args.fraction.now c.requires.whole c.requires.fraction) c.requires.short c.requires.up in
-    absurd (c.in_err-digits.ensures (subst (λ n. digits_value_after 10 n c.args.fraction.now < 2 ^ 127) (sym c.in_ok-value_after.ensures.1) (never_large c.args.whole.now c.args.fraction.now few.0).1))
+    let few = short_digits c.args.whole.now c.args.fraction.now c.args.up
+    (AllDigits-append c.args.whole.now c.args.fraction.now c.requires.whole c.requires.fraction)
+    c.requires.short c.requires.up in
+    absurd (c.in_err-digits.ensures (subst (λ n. digits_value_after 10 n c.args.fraction.now < 2
+    ^ 127) (sym c.in_ok-value_after.ensures.1)
+    (never_large c.args.whole.now c.args.fraction.now few.0).1))
 
 pub overflow_mul-digits : goal.overflow_mul-digits
 overflow_mul-digits c =
-    let few = short_digits c.args.whole.now c.args.fraction.now c.args.up (AllDigits-append c.args.whole.now c.args.fraction.now c.requires.whole c.requires.fraction) c.requires.short c.requires.up in
+    let few = short_digits c.args.whole.now c.args.fraction.now c.args.up
+    (AllDigits-append c.args.whole.now c.args.fraction.now c.requires.whole c.requires.fraction)
+    c.requires.short c.requires.up in
     let digits : c.in_ok-digits.digits ≡ digits_value 10 (c.args.whole.now ++ c.args.fraction.now) =
-    c.in_ok-digits.ensures.1 ∙ ap (λ t. digits_value_after 10 t c.args.fraction.now) c.in_ok-value_after.ensures.1 ∙ sym (after-append 0 c.args.whole.now c.args.fraction.now) in
+    c.in_ok-digits.ensures.1 ∙ ap (λ t. digits_value_after 10 t c.args.fraction.now)
+    c.in_ok-value_after.ensures.1 ∙ sym (after-append 0 c.args.whole.now c.args.fraction.now) in
     omega (arith, few.1, ap₂ (λ a b. a * b) digits c.pow.ensures)
 
 pub pow-requires-2 : goal.pow-requires-2
@@ -28,21 +37,29 @@ pow-requires-2 c = omega (arith, small_power c.args.down c.requires.down)
 
 pub quotient-requires-clause-num : goal.quotient-requires-clause-num
 quotient-requires-clause-num c =
-    let few = short_digits c.args.whole.now c.args.fraction.now c.args.up (AllDigits-append c.args.whole.now c.args.fraction.now c.requires.whole c.requires.fraction) c.requires.short c.requires.up in
+    let few = short_digits c.args.whole.now c.args.fraction.now c.args.up
+    (AllDigits-append c.args.whole.now c.args.fraction.now c.requires.whole c.requires.fraction)
+    c.requires.short c.requires.up in
     let digits : c.in_ok-digits.digits ≡ digits_value 10 (c.args.whole.now ++ c.args.fraction.now) =
-    c.in_ok-digits.ensures.1 ∙ ap (λ t. digits_value_after 10 t c.args.fraction.now) c.in_ok-value_after.ensures.1 ∙ sym (after-append 0 c.args.whole.now c.args.fraction.now) in
+    c.in_ok-digits.ensures.1 ∙ ap (λ t. digits_value_after 10 t c.args.fraction.now)
+    c.in_ok-value_after.ensures.1 ∙ sym (after-append 0 c.args.whole.now c.args.fraction.now) in
     omega (arith, few.1, ap₂ (λ a b. a * b) digits c.pow.ensures)
 
 pub quotient-requires-clause-some : goal.quotient-requires-clause-some
 quotient-requires-clause-some c = omega (arith, power_pos c.args.down, c.pow-2.ensures)
 
 pub quotient-requires-clause-den : goal.quotient-requires-clause-den
-quotient-requires-clause-den c = omega (arith, small_power c.args.down c.requires.down, c.pow-2.ensures)
+quotient-requires-clause-den c =
+    omega (arith, small_power c.args.down c.requires.down, c.pow-2.ensures)
 
 pub returns : goal.returns
 returns c =
     let digits : c.in_ok-digits.digits ≡ digits_value 10 (c.args.whole.now ++ c.args.fraction.now) =
-    c.in_ok-digits.ensures.1 ∙ ap (λ t. digits_value_after 10 t c.args.fraction.now) c.in_ok-value_after.ensures.1 ∙ sym (after-append 0 c.args.whole.now c.args.fraction.now) in
-    same_fit c.quotient.result (reduce (signed c.args.is_negative (c.in_ok-digits.digits * c.pow.result)) c.pow-2.result)
-    (reduce (signed c.args.is_negative (digits_value 10 (c.args.whole.now ++ c.args.fraction.now) * 10 ^ c.args.up)) (10 ^ c.args.down))
-    (ap₂ (λ a b. reduce (signed c.args.is_negative a) b) (ap₂ (λ a b. a * b) digits c.pow.ensures) c.pow-2.ensures) c.quotient.ensures
+    c.in_ok-digits.ensures.1 ∙ ap (λ t. digits_value_after 10 t c.args.fraction.now)
+    c.in_ok-value_after.ensures.1 ∙ sym (after-append 0 c.args.whole.now c.args.fraction.now) in
+    same_fit c.quotient.result (reduce (signed c.args.is_negative
+    (c.in_ok-digits.digits * c.pow.result)) c.pow-2.result)
+    (reduce (signed c.args.is_negative (digits_value 10 (c.args.whole.now ++ c.args.fraction.now)
+    * 10 ^ c.args.up)) (10 ^ c.args.down))
+    (ap₂ (λ a b. reduce (signed c.args.is_negative a) b) (ap₂ (λ a b. a * b) digits c.pow.ensures)
+    c.pow-2.ensures) c.quotient.ensures

@@ -7,19 +7,24 @@ use Rattle.mof_text.proofs.decimal.size_before.Goals as goal
 pub returns-in_err-value_after : goal.returns-in_err-value_after
 returns-in_err-value_after c =
     let none : c.from_residual.result ≡ None = cc in
-    large_none c.from_residual.result (digits_value 10 (c.args.first.now ++ c.args.last.now) * 10 ^ c.args.count) none
+    large_none c.from_residual.result (digits_value 10 (c.args.first.now ++ c.args.last.now) * 10
+    ^ c.args.count) none
     (first_large c.args.count c.args.first.now c.args.last.now c.in_err-value_after.ensures)
 
 pub returns-in_err-size : goal.returns-in_err-size
 returns-in_err-size c =
     let none : c.from_residual-in_err-size.result ≡ None = cc in
-    large_none c.from_residual-in_err-size.result (digits_value 10 (c.args.first.now ++ c.args.last.now) * 10 ^ c.args.count) none
-    (last_large c.args.count c.args.first.now c.args.last.now c.in_ok-value_after.field-0 c.in_ok-value_after.ensures.1 c.in_err-size.ensures)
+    large_none c.from_residual-in_err-size.result
+    (digits_value 10 (c.args.first.now ++ c.args.last.now) * 10 ^ c.args.count) none
+    (last_large c.args.count c.args.first.now c.args.last.now c.in_ok-value_after.field-0
+    c.in_ok-value_after.ensures.1 c.in_err-size.ensures)
 
 pub value_after-requires-3-clause-digits : goal.value_after-requires-3-clause-digits
-value_after-requires-3-clause-digits c = subst (AllDigits 10) (sym c.zeros.ensures) (AllDigits-zeros c.args.count)
+value_after-requires-3-clause-digits c =
+    subst (AllDigits 10) (sym c.zeros.ensures) (AllDigits-zeros c.args.count)
 
 pub returns : goal.returns
 returns c =
-    scaled_is c.args.count c.args.first.now c.args.last.now c.in_ok-value_after.field-0 c.in_ok-size.size c.zeros.result.now c.value_after-3.result
+    scaled_is c.args.count c.args.first.now c.args.last.now c.in_ok-value_after.field-0
+    c.in_ok-size.size c.zeros.result.now c.value_after-3.result
     c.in_ok-value_after.ensures.1 c.in_ok-size.ensures.1 c.zeros.ensures c.value_after-3.ensures

@@ -7,7 +7,8 @@ abbrev pub invariant-loop-place : goal.invariant-loop-place
 invariant-loop-place l = record {
   some : 0 < l.place;
   within : l.place ≤ length l.text;
-  kept : rewritten_at in_string l.text ≡ take l.place l.text ++ rewritten_at in_string (drop l.place l.text);
+  kept : rewritten_at in_string l.text ≡ take l.place l.text ++ rewritten_at in_string
+      (drop l.place l.text);
 }
 
 abbrev pub decreases-loop-place : goal.decreases-loop-place

@@ -5,7 +5,8 @@ use Rattle.mof_text.proofs.pieces.string_len.Given as goal
 
 abbrev pub invariant-loop-place : goal.invariant-loop-place
 invariant-loop-place l = (l.place ≤ length l.text)
-    × (rewritten_at in_string l.text ≡ take l.place l.text ++ rewritten_at in_string (drop l.place l.text))
+    × (rewritten_at in_string l.text ≡ take l.place l.text ++ rewritten_at in_string
+    (drop l.place l.text))
 
 abbrev pub decreases-loop-place : goal.decreases-loop-place
 decreases-loop-place l = length l.text - l.place

@@ -14,7 +14,9 @@ use Rattle.moi_run.proofs.answers.answer_each.Goals as goal
 
 pub loop-line-init : goal.loop-line-init
 loop-line-init g c = record {
-  answered = answers_nothing (machine_of c.args.session.now (told_by (g.H.Shelf.files c.args.shelf.now) (g.H.Shelf.sure c.args.shelf.now))) (g.O.Sink.written c.args.output.now);
+  answered = answers_nothing (machine_of c.args.session.now
+      (told_by (g.H.Shelf.files c.args.shelf.now) (g.H.Shelf.sure c.args.shelf.now)))
+      (g.O.Sink.written c.args.output.now);
   pivots = refl;
   files = refl;
   sure = refl;
@@ -29,11 +31,15 @@ returns-in-Err-clause-outcome g c =
     let lines = c.args.lines.now in
     let i = c.loop-line.line-index in
     let same = told_same _ _ _ _ c.loop-line.invariant.files c.loop-line.invariant.sure in
-    each_at_stop c.in-Err.stop c.from.result (map (λ line. line.now) lines) (map (λ line. line.now) (take i lines)) _ (map (λ line. line.now) (drop (i + 1) lines))
-    (machine_of c.args.session.now told) (machine_of c.loop-line.session told) (machine_of c.answer_line.new.session told) c.loop-line.any_refused
-    (g.O.Sink.written c.args.output.now) (g.O.Sink.written c.loop-line.output) (g.O.Sink.written c.answer_line.new.output) c.from.ensures
+    each_at_stop c.in-Err.stop c.from.result (map (λ line. line.now) lines)
+    (map (λ line. line.now) (take i lines)) _ (map (λ line. line.now) (drop (i + 1) lines))
+    (machine_of c.args.session.now told) (machine_of c.loop-line.session told)
+    (machine_of c.answer_line.new.session told) c.loop-line.any_refused
+    (g.O.Sink.written c.args.output.now) (g.O.Sink.written c.loop-line.output)
+    (g.O.Sink.written c.answer_line.new.output) c.from.ensures
     (lines_around (λ line. line.now) lines i _ c.loop-line-test.true) c.loop-line.invariant.answered
-    (heard_told (Err c.in-Err.stop) told _ c.loop-line.session c.answer_line.new.session _ _ _ same c.in-Err.ensures.heard)
+    (heard_told (Err c.in-Err.stop) told _ c.loop-line.session c.answer_line.new.session _ _ _ same
+    c.in-Err.ensures.heard)
 
 pub returns-in-Err-clause-prefix : goal.returns-in-Err-clause-prefix
 returns-in-Err-clause-prefix g c =
@@ -41,16 +47,22 @@ returns-in-Err-clause-prefix g c =
     let lines = c.args.lines.now in
     let i = c.loop-line.line-index in
     let same = told_same _ _ _ _ c.loop-line.invariant.files c.loop-line.invariant.sure in
-    each_begins_at_stop c.in-Err.stop c.from.result (map (λ line. line.now) lines) (map (λ line. line.now) (take i lines)) _ (map (λ line. line.now) (drop (i + 1) lines))
-    (machine_of c.args.session.now told) (machine_of c.loop-line.session told) (machine_of c.answer_line.new.session told) c.loop-line.any_refused
-    (g.O.Sink.written c.args.output.now) (g.O.Sink.written c.loop-line.output) (g.O.Sink.written c.answer_line.new.output) c.from.ensures
+    each_begins_at_stop c.in-Err.stop c.from.result (map (λ line. line.now) lines)
+    (map (λ line. line.now) (take i lines)) _ (map (λ line. line.now) (drop (i + 1) lines))
+    (machine_of c.args.session.now told) (machine_of c.loop-line.session told)
+    (machine_of c.answer_line.new.session told) c.loop-line.any_refused
+    (g.O.Sink.written c.args.output.now) (g.O.Sink.written c.loop-line.output)
+    (g.O.Sink.written c.answer_line.new.output) c.from.ensures
     (lines_around (λ line. line.now) lines i _ c.loop-line-test.true) c.loop-line.invariant.answered
-    (heard_told (Err c.in-Err.stop) told _ c.loop-line.session c.answer_line.new.session _ _ _ same c.in-Err.ensures.heard)
+    (heard_told (Err c.in-Err.stop) told _ c.loop-line.session c.answer_line.new.session _ _ _ same
+    c.in-Err.ensures.heard)
 
 pub returns-in-Err-clause-read_fault : goal.returns-in-Err-clause-read_fault
 returns-in-Err-clause-read_fault g c is =
     let same = told_same _ _ _ _ c.loop-line.invariant.files c.loop-line.invariant.sure in
-    fails_within (told_by (g.H.Shelf.files c.args.shelf.now) (g.H.Shelf.sure c.args.shelf.now)) _ _ _ _ same c.loop-line.invariant.fetches (c.in-Err.ensures.read_fault (ap Err (reason_by c.in-Err.stop c.from.result c.from.ensures ReadFault is)))
+    fails_within (told_by (g.H.Shelf.files c.args.shelf.now) (g.H.Shelf.sure c.args.shelf.now)) _ _
+    _ _ same c.loop-line.invariant.fetches (c.in-Err.ensures.read_fault
+    (ap Err (reason_by c.in-Err.stop c.from.result c.from.ensures ReadFault is)))
 
 pub loop-line-preserved : goal.loop-line-preserved
 loop-line-preserved g c =
@@ -58,17 +70,24 @@ loop-line-preserved g c =
     let lines = c.args.lines.now in
     let i = c.loop-line.line-index in
     let same = told_same _ _ _ _ c.loop-line.invariant.files c.loop-line.invariant.sure in
-    let came = heard_told (Ok c.in-Ok.reply) told _ c.loop-line.session c.answer_line.new.session _ _ _ same c.in-Ok.ensures.heard in
+    let came = heard_told (Ok c.in-Ok.reply) told _ c.loop-line.session c.answer_line.new.session _
+    _ _ same c.in-Ok.ensures.heard in
     record {
-      answered = each_more (λ line. line.now) lines i _ c.loop-line-test.true (machine_of c.args.session.now told) (machine_of c.loop-line.session told) (machine_of c.answer_line.new.session told)
-          c.loop-line.any_refused c.is_refused-any_refused.result _ (g.O.Sink.written c.args.output.now) (g.O.Sink.written c.loop-line.output) (g.O.Sink.written c.answer_line.new.output)
+      answered =
+          each_more (λ line. line.now) lines i _ c.loop-line-test.true
+          (machine_of c.args.session.now told) (machine_of c.loop-line.session told)
+          (machine_of c.answer_line.new.session told)
+          c.loop-line.any_refused c.is_refused-any_refused.result _
+          (g.O.Sink.written c.args.output.now) (g.O.Sink.written c.loop-line.output)
+          (g.O.Sink.written c.answer_line.new.output)
           c.is_refused-any_refused.ensures c.loop-line.invariant.answered came.0;
       pivots = c.in-Ok.ensures.pivots ∙ c.loop-line.invariant.pivots;
       files = c.in-Ok.ensures.files ∙ c.loop-line.invariant.files;
       sure = c.in-Ok.ensures.sure ∙ c.loop-line.invariant.sure;
       fetches = omega (arith, c.loop-line.invariant.fetches, c.in-Ok.ensures.fetches);
       writes = omega (arith, c.loop-line.invariant.writes, c.in-Ok.ensures.writes);
-      unasked = λ none. c.in-Ok.ensures.unasked (All-get_or (λ line. says_load line.now ≡ false) lines i _ c.loop-line-test.true none) ∙ c.loop-line.invariant.unasked none;
+      unasked = λ none. c.in-Ok.ensures.unasked (All-get_or (λ line. says_load line.now ≡ false)
+          lines i _ c.loop-line-test.true none) ∙ c.loop-line.invariant.unasked none;
     }
 
 pub returns-clause-prefix : goal.returns-clause-prefix
@@ -77,5 +96,10 @@ returns-clause-prefix g c =
     let lines = c.args.lines.now in
     let i = c.loop-line.line-index in
     let all = take_all i lines c.loop-line-test.false in
-    each_begins c.loop-line.any_refused c.ended.result (map (λ line. line.now) lines) (map (λ line. line.now) (take i lines)) [] (machine_of c.args.session.now told) (machine_of c.loop-line.session told) (machine_of c.loop-line.session told)
-    (g.O.Sink.written c.args.output.now) (g.O.Sink.written c.loop-line.output) (ap (map (λ line. line.now)) (sym all) ∙ sym (append-nil (map (λ line. line.now) (take i lines)))) c.loop-line.invariant.answered (λ _. refl)
+    each_begins c.loop-line.any_refused c.ended.result (map (λ line. line.now) lines)
+    (map (λ line. line.now) (take i lines)) [] (machine_of c.args.session.now told)
+    (machine_of c.loop-line.session told) (machine_of c.loop-line.session told)
+    (g.O.Sink.written c.args.output.now) (g.O.Sink.written c.loop-line.output)
+    (ap (map (λ line. line.now)) (sym all)
+    ∙ sym (append-nil (map (λ line. line.now) (take i lines)))) c.loop-line.invariant.answered
+    (λ _. refl)

@@ -10,8 +10,12 @@ use Rattle.moi_run.proofs.answers.answer_each.Given as goal
 
 abbrev pub invariant-loop-line : goal.invariant-loop-line
 invariant-loop-line g l = record {
-  answered : WritesAnswers (machine_of l.initial.session (told_by (g.H.Shelf.files l.initial.shelf) (g.H.Shelf.sure l.initial.shelf))) (map (λ line. line.now) (take l.line-index l.lines)) l.any_refused
-      (machine_of l.session (told_by (g.H.Shelf.files l.initial.shelf) (g.H.Shelf.sure l.initial.shelf))) (Adds (g.O.Sink.written l.initial.output) (g.O.Sink.written l.output));
+  answered : WritesAnswers (machine_of l.initial.session (told_by (g.H.Shelf.files l.initial.shelf)
+      (g.H.Shelf.sure l.initial.shelf))) (map (λ line. line.now) (take l.line-index l.lines))
+      l.any_refused
+      (machine_of l.session (told_by (g.H.Shelf.files l.initial.shelf)
+      (g.H.Shelf.sure l.initial.shelf))) (Adds (g.O.Sink.written l.initial.output)
+      (g.O.Sink.written l.output));
   pivots : l.session.pivots ≡ l.initial.session.pivots;
   files : g.H.Shelf.files l.shelf ≡ g.H.Shelf.files l.initial.shelf;
   sure : g.H.Shelf.sure l.shelf ≡ g.H.Shelf.sure l.initial.shelf;

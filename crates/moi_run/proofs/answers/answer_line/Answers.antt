@@ -8,9 +8,13 @@ use Rattle.moi_run.proofs.answers.answer_line.Goals as goal
 pub returns-clause-heard : goal.returns-clause-heard
 returns-clause-heard g c =
     let told = told_by (g.H.Shelf.files c.args.shelf.now) (g.H.Shelf.sure c.args.shelf.now) in
-    line_heard c.write_answer.result (machine_of c.args.session.now told) (machine_of c.line-answer.new.self told) c.args.line.now c.line-answer.result _ _ c.line-answer.ensures.step c.write_answer.ensures.written
+    line_heard c.write_answer.result (machine_of c.args.session.now told)
+    (machine_of c.line-answer.new.self told) c.args.line.now c.line-answer.result _ _
+    c.line-answer.ensures.step c.write_answer.ensures.written
 
 pub returns-clause-read_fault : goal.returns-clause-read_fault
 returns-clause-read_fault g c is =
     let told = told_by (g.H.Shelf.files c.args.shelf.now) (g.H.Shelf.sure c.args.shelf.now) in
-    line_fails c.write_answer.result (machine_of c.args.session.now told) (machine_of c.line-answer.new.self told) c.args.line.now c.line-answer.result _ _ _ _ c.line-answer.ensures.step c.write_answer.ensures.written c.line-answer.ensures.cause is
+    line_fails c.write_answer.result (machine_of c.args.session.now told)
+    (machine_of c.line-answer.new.self told) c.args.line.now c.line-answer.result _ _ _ _
+    c.line-answer.ensures.step c.write_answer.ensures.written c.line-answer.ensures.cause is

@@ -6,16 +6,22 @@ use Rattle.moi_run.proofs.check.answer_check.Goals as goal
 
 pub returns-in-Ok-clause-outcome : goal.returns-in-Ok-clause-outcome
 returns-in-Ok-clause-outcome g c =
-    check_answered c.in-Ok.reply c.ended.result (told_by (g.H.Shelf.files c.args.shelf.now) (g.H.Shelf.sure c.args.shelf.now)) _ _ c.args.model.now c.args.certificate.now c.verdict-answer.result c.is_refused.result _ _
+    check_answered c.in-Ok.reply c.ended.result (told_by (g.H.Shelf.files c.args.shelf.now)
+    (g.H.Shelf.sure c.args.shelf.now)) _ _ c.args.model.now c.args.certificate.now
+    c.verdict-answer.result c.is_refused.result _ _
     c.ended.ensures c.is_refused.ensures c.verdict-answer.ensures.verdict c.in-Ok.ensures.written
 
 pub returns-in-Err-clause-outcome : goal.returns-in-Err-clause-outcome
 returns-in-Err-clause-outcome g c =
-    check_stopped c.in-Err.stop c.from.result (told_by (g.H.Shelf.files c.args.shelf.now) (g.H.Shelf.sure c.args.shelf.now)) _ _ c.args.model.now c.args.certificate.now c.verdict-answer.result _ _
-    c.from.ensures c.verdict-answer.ensures.verdict c.verdict-answer.ensures.cause c.in-Err.ensures.written
+    check_stopped c.in-Err.stop c.from.result (told_by (g.H.Shelf.files c.args.shelf.now)
+    (g.H.Shelf.sure c.args.shelf.now)) _ _ c.args.model.now c.args.certificate.now
+    c.verdict-answer.result _ _
+    c.from.ensures c.verdict-answer.ensures.verdict c.verdict-answer.ensures.cause
+    c.in-Err.ensures.written
 
 pub returns-in-Ok-clause-not_usage : goal.returns-in-Ok-clause-not_usage
-returns-in-Ok-clause-not_usage g c = no_usage_at_end c.is_refused.result c.ended.result c.ended.ensures
+returns-in-Ok-clause-not_usage g c =
+    no_usage_at_end c.is_refused.result c.ended.result c.ended.ensures
 
 pub returns-in-Err-clause-not_usage : goal.returns-in-Err-clause-not_usage
 returns-in-Err-clause-not_usage g c = no_usage_at_stop c.in-Err.stop c.from.result c.from.ensures

@@ -13,21 +13,30 @@ returns-in-Run-clause-runs g c = command_runs (sym c.in-Run.is) c.answer_script.
 pub returns-in-Plan-clause-runs : goal.returns-in-Plan-clause-runs
 returns-in-Plan-clause-runs g c =
     let told = told_by (g.H.Shelf.files c.args.shelf.now) (g.H.Shelf.sure c.args.shelf.now) in
-    let stops = plan_fetches_nothing c.answer_with.result _ _ _ c.answer_with.ensures.runs.outcome in
+    let stops = plan_fetches_nothing c.answer_with.result _ _ _
+    c.answer_with.ensures.runs.outcome in
     command_runs (sym c.in-Plan.is)
-    (runs_plan c.in-Plan.setup c.answer_with.result (g.I.Source.left c.args.input.now) (g.I.Source.left c.args.input.now) told _ _
-    (machine_of c.args.session.now told) (machine_of c.answer_with.new.session told) _ _ c.answer_with.ensures.runs stops.0 stops.1)
+    (runs_plan c.in-Plan.setup c.answer_with.result (g.I.Source.left c.args.input.now)
+    (g.I.Source.left c.args.input.now) told _ _
+    (machine_of c.args.session.now told) (machine_of c.answer_with.new.session told) _ _
+    c.answer_with.ensures.runs stops.0 stops.1)
 
 pub returns-in-Plan-clause-unasked : goal.returns-in-Plan-clause-unasked
 returns-in-Plan-clause-unasked g c _ =
-    let stops = plan_fetches_nothing c.answer_with.result _ _ _ c.answer_with.ensures.runs.outcome in
-    (c.answer_with.ensures.unasked (one_line (λ line. says_load line.now ≡ false) _ plan_loads_nothing), stops.0, stops.1)
+    let stops = plan_fetches_nothing c.answer_with.result _ _ _
+    c.answer_with.ensures.runs.outcome in (
+      c.answer_with.ensures.unasked (one_line (λ line. says_load line.now ≡ false) _
+          plan_loads_nothing),
+      stops.0,
+      stops.1,
+    )
 
 pub returns-in-Solve-clause-runs : goal.returns-in-Solve-clause-runs
 returns-in-Solve-clause-runs g c =
     let told = told_by (g.H.Shelf.files c.args.shelf.now) (g.H.Shelf.sure c.args.shelf.now) in
     command_runs (sym c.in-Solve.is)
-    (runs_solve c.in-Solve.setup c.in-Solve.model c.answer_solve.result (g.I.Source.left c.args.input.now) (g.I.Source.left c.args.input.now) told _ _ _
+    (runs_solve c.in-Solve.setup c.in-Solve.model c.answer_solve.result
+    (g.I.Source.left c.args.input.now) (g.I.Source.left c.args.input.now) told _ _ _
     (machine_of c.args.session.now told) (machine_of c.answer_solve.new.session told) _ _ refl
     c.answer_solve.ensures.runs c.answer_solve.ensures.read_fault)
 
@@ -35,6 +44,7 @@ pub returns-in-Check-clause-runs : goal.returns-in-Check-clause-runs
 returns-in-Check-clause-runs g c =
     let told = told_by (g.H.Shelf.files c.args.shelf.now) (g.H.Shelf.sure c.args.shelf.now) in
     command_runs (sym c.in-Check.is)
-    (runs_check c.in-Check.model c.in-Check.certificate c.answer_check.result (g.I.Source.left c.args.input.now) (g.I.Source.left c.args.input.now) told _ _ _
+    (runs_check c.in-Check.model c.in-Check.certificate c.answer_check.result
+    (g.I.Source.left c.args.input.now) (g.I.Source.left c.args.input.now) told _ _ _
     (machine_of c.args.session.now told) (machine_of c.args.session.now told) _ _
     c.answer_check.ensures.outcome)

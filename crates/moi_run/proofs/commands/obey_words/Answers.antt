@@ -11,19 +11,26 @@ use Rattle.std.specs.Prelude.{Option}
 -- ---- a command
 
 pub returns-in-Some-clause-usage : goal.returns-in-Some-clause-usage
-returns-in-Some-clause-usage g c = usage_at_command c.obey.result c.in-Some.command _ (sym c.in-Some.is ∙ c.in-Ok.ensures.said) c.obey.ensures.not_usage
+returns-in-Some-clause-usage g c =
+    usage_at_command c.obey.result c.in-Some.command _ (sym c.in-Some.is ∙ c.in-Ok.ensures.said)
+    c.obey.ensures.not_usage
 
 pub returns-in-Some-clause-runs : goal.returns-in-Some-clause-runs
-returns-in-Some-clause-runs g c = said_runs (sym c.in-Some.is ∙ c.in-Ok.ensures.said) c.obey.ensures.runs
+returns-in-Some-clause-runs g c =
+    said_runs (sym c.in-Some.is ∙ c.in-Ok.ensures.said) c.obey.ensures.runs
 
 pub returns-in-Some-clause-idle : goal.returns-in-Some-clause-idle
-returns-in-Some-clause-idle g c = subst (λ (o : Option Command). IfCheck o (λ _ _. c.obey.new.session ≡ c.args.session.now)) (sym c.in-Some.is ∙ c.in-Ok.ensures.said) c.obey.ensures.idle
+returns-in-Some-clause-idle g c =
+    subst (λ (o : Option Command). IfCheck o (λ _ _. c.obey.new.session ≡ c.args.session.now))
+    (sym c.in-Some.is ∙ c.in-Ok.ensures.said) c.obey.ensures.idle
 
 pub returns-in-Some-clause-unread : goal.returns-in-Some-clause-unread
-returns-in-Some-clause-unread g c reads = c.obey.ensures.unread (subst ReadsNothing (sym (sym c.in-Some.is ∙ c.in-Ok.ensures.said)) reads)
+returns-in-Some-clause-unread g c reads =
+    c.obey.ensures.unread (subst ReadsNothing (sym (sym c.in-Some.is ∙ c.in-Ok.ensures.said)) reads)
 
 pub returns-in-Some-clause-unasked : goal.returns-in-Some-clause-unasked
-returns-in-Some-clause-unasked g c plans = c.obey.ensures.unasked (subst IsPlan (sym (sym c.in-Some.is ∙ c.in-Ok.ensures.said)) plans)
+returns-in-Some-clause-unasked g c plans =
+    c.obey.ensures.unasked (subst IsPlan (sym (sym c.in-Some.is ∙ c.in-Ok.ensures.said)) plans)
 
 -- ---- no command
 
@@ -32,8 +39,10 @@ returns-in-None-clause-usage g c = usage_at_none _ (sym c.in-None.is ∙ c.in-Ok
 
 pub returns-in-None-clause-runs : goal.returns-in-None-clause-runs
 returns-in-None-clause-runs g c = said_runs (sym c.in-None.is ∙ c.in-Ok.ensures.said)
-    (runs_of_none (g.I.Source.left c.args.input.now) (told_by (g.H.Shelf.files c.args.shelf.now) (g.H.Shelf.sure c.args.shelf.now)) _ _
-    (machine_of c.args.session.now (told_by (g.H.Shelf.files c.args.shelf.now) (g.H.Shelf.sure c.args.shelf.now))) (g.O.Sink.written c.args.output.now))
+    (runs_of_none (g.I.Source.left c.args.input.now) (told_by (g.H.Shelf.files c.args.shelf.now)
+    (g.H.Shelf.sure c.args.shelf.now)) _ _
+    (machine_of c.args.session.now (told_by (g.H.Shelf.files c.args.shelf.now)
+    (g.H.Shelf.sure c.args.shelf.now))) (g.O.Sink.written c.args.output.now))
 
 pub returns-in-None-clause-idle : goal.returns-in-None-clause-idle
 returns-in-None-clause-idle g c = always_check _ _ (λ _ _. refl)
@@ -46,8 +55,10 @@ returns-in-Err-clause-usage g c = usage_at_memory _ c.in-Err.ensures.of_one
 pub returns-in-Err-clause-runs : goal.returns-in-Err-clause-runs
 returns-in-Err-clause-runs g c =
     let told = told_by (g.H.Shelf.files c.args.shelf.now) (g.H.Shelf.sure c.args.shelf.now) in
-    runs_without_memory _ (g.I.Source.left c.args.input.now) (g.I.Source.left c.args.input.now) told _ _
-    (machine_of c.args.session.now told) (machine_of c.args.session.now told) (g.O.Sink.written c.args.output.now)
+    runs_without_memory _ (g.I.Source.left c.args.input.now)
+    (g.I.Source.left c.args.input.now) told _ _
+    (machine_of c.args.session.now told) (machine_of c.args.session.now told)
+    (g.O.Sink.written c.args.output.now)
 
 pub returns-in-Err-clause-idle : goal.returns-in-Err-clause-idle
 returns-in-Err-clause-idle g c = always_check _ _ (λ _ _. refl)

@@ -37,4 +37,5 @@ returns-clause-at_limit g c = c.obey_words.ensures.runs.at_limit
 
 pub returns-clause-complete : goal.returns-clause-complete
 returns-clause-complete g c =
-    completes _ _ _ _ _ _ _ _ _ _ _ _ _ _ _ c.obey_words.ensures.runs (c.obey_words.ensures.usage).0 c.obey_words.ensures.write_fault
+    completes _ _ _ _ _ _ _ _ _ _ _ _ _ _ _ c.obey_words.ensures.runs (c.obey_words.ensures.usage).0
+    c.obey_words.ensures.write_fault

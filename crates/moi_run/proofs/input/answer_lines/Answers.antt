@@ -18,7 +18,10 @@ use Rattle.report_core.specs.declared.answer.Answer.TheVariants.{ReadFault, TooL
 
 pub answering-init : goal.answering-init
 answering-init g c = record {
-  standing = run.standing_at_start (machine_of c.args.session.now (told_by (g.H.Shelf.files c.args.shelf.now) (g.H.Shelf.sure c.args.shelf.now))) c.args.reader.now (g.I.Source.left c.args.input.now) (g.O.Sink.written c.args.output.now) c.requires.held c.requires.room;
+  standing = run.standing_at_start (machine_of c.args.session.now
+      (told_by (g.H.Shelf.files c.args.shelf.now) (g.H.Shelf.sure c.args.shelf.now)))
+      c.args.reader.now (g.I.Source.left c.args.input.now) (g.O.Sink.written c.args.output.now)
+      c.requires.held c.requires.room;
   pivots = refl;
   files = refl;
   sure = refl;
@@ -33,51 +36,96 @@ pub returns-in-Err-clause-outcome : goal.returns-in-Err-clause-outcome
 returns-in-Err-clause-outcome g c =
     let told = told_by (g.H.Shelf.files c.args.shelf.now) (g.H.Shelf.sure c.args.shelf.now) in
     let standing = c.answering.invariant.standing in
-    let source = HasFaulted (g.I.Source.faults c.args.input.now) (g.I.Source.faults c.next_line.new.input) in
-    exits.outcome_at_read source _ c.in-Err.reason c.from-in-Err.result (g.I.Source.left c.args.input.now) (g.I.Source.left c.next_line.new.input) (machine_of c.args.session.now told) (machine_of c.answering.session told) _ (c.from-in-Err.ensures ∙ ap status_of c.from.ensures)
-    (λ is. HasFaulted-within _ _ _ _ c.answering.invariant.reads (omega arith) (c.in-Err.ensures.read_fault (ap Err is)).1)
-    (λ is. run.stops_at_fault (g.I.Source.left c.args.input.now) (machine_of c.args.session.now told) c.answering.reader (g.I.Source.left c.answering.input) (g.I.Source.left c.next_line.new.input) (machine_of c.answering.session told) c.answering.any_refused (g.O.Sink.written c.args.output.now) (g.O.Sink.written c.answering.output) standing (c.in-Err.ensures.read_fault (ap Err is)).0)
-    (λ is. run.stops_at_limit (g.I.Source.left c.args.input.now) (machine_of c.args.session.now told) c.answering.reader (g.I.Source.left c.answering.input) (machine_of c.answering.session told) c.answering.any_refused (g.O.Sink.written c.args.output.now) (g.O.Sink.written c.answering.output) standing (c.in-Err.ensures.too_long (ap Err is)))
+    let source = HasFaulted (g.I.Source.faults c.args.input.now)
+    (g.I.Source.faults c.next_line.new.input) in
+    exits.outcome_at_read source _ c.in-Err.reason c.from-in-Err.result
+    (g.I.Source.left c.args.input.now) (g.I.Source.left c.next_line.new.input)
+    (machine_of c.args.session.now told) (machine_of c.answering.session told) _
+    (c.from-in-Err.ensures ∙ ap status_of c.from.ensures)
+    (λ is. HasFaulted-within _ _ _ _ c.answering.invariant.reads (omega arith)
+    (c.in-Err.ensures.read_fault (ap Err is)).1)
+    (λ is. run.stops_at_fault (g.I.Source.left c.args.input.now)
+    (machine_of c.args.session.now told) c.answering.reader (g.I.Source.left c.answering.input)
+    (g.I.Source.left c.next_line.new.input) (machine_of c.answering.session told)
+    c.answering.any_refused (g.O.Sink.written c.args.output.now)
+    (g.O.Sink.written c.answering.output) standing (c.in-Err.ensures.read_fault (ap Err is)).0)
+    (λ is. run.stops_at_limit (g.I.Source.left c.args.input.now)
+    (machine_of c.args.session.now told) c.answering.reader (g.I.Source.left c.answering.input)
+    (machine_of c.answering.session told) c.answering.any_refused
+    (g.O.Sink.written c.args.output.now) (g.O.Sink.written c.answering.output) standing
+    (c.in-Err.ensures.too_long (ap Err is)))
 
 pub returns-in-Err-clause-prefix : goal.returns-in-Err-clause-prefix
 returns-in-Err-clause-prefix g c =
     let told = told_by (g.H.Shelf.files c.args.shelf.now) (g.H.Shelf.sure c.args.shelf.now) in
-    run.begins_so_far (g.I.Source.left c.args.input.now) (machine_of c.args.session.now told) c.answering.reader (g.I.Source.left c.answering.input) (machine_of c.answering.session told) (machine_of c.answering.session told) c.answering.any_refused (g.O.Sink.written c.args.output.now) (g.O.Sink.written c.answering.output) c.from-in-Err.result c.answering.invariant.standing (λ _. refl)
+    run.begins_so_far (g.I.Source.left c.args.input.now) (machine_of c.args.session.now told)
+    c.answering.reader (g.I.Source.left c.answering.input) (machine_of c.answering.session told)
+    (machine_of c.answering.session told) c.answering.any_refused
+    (g.O.Sink.written c.args.output.now) (g.O.Sink.written c.answering.output)
+    c.from-in-Err.result c.answering.invariant.standing (λ _. refl)
 
 pub returns-in-Err-clause-taken : goal.returns-in-Err-clause-taken
 returns-in-Err-clause-taken g c =
-    run.taken_in_all (g.I.Source.left c.args.input.now) (machine_of c.args.session.now (told_by (g.H.Shelf.files c.args.shelf.now) (g.H.Shelf.sure c.args.shelf.now))) c.answering.reader (g.I.Source.left c.answering.input) (g.I.Source.left c.next_line.new.input) (machine_of c.answering.session (told_by (g.H.Shelf.files c.args.shelf.now) (g.H.Shelf.sure c.args.shelf.now))) c.answering.any_refused (g.O.Sink.written c.args.output.now) (g.O.Sink.written c.answering.output) c.answering.invariant.standing c.in-Err.ensures.taken
+    run.taken_in_all (g.I.Source.left c.args.input.now)
+    (machine_of c.args.session.now (told_by (g.H.Shelf.files c.args.shelf.now)
+    (g.H.Shelf.sure c.args.shelf.now))) c.answering.reader (g.I.Source.left c.answering.input)
+    (g.I.Source.left c.next_line.new.input) (machine_of c.answering.session
+    (told_by (g.H.Shelf.files c.args.shelf.now) (g.H.Shelf.sure c.args.shelf.now)))
+    c.answering.any_refused (g.O.Sink.written c.args.output.now)
+    (g.O.Sink.written c.answering.output) c.answering.invariant.standing c.in-Err.ensures.taken
 
 pub returns-in-Err-clause-cause : goal.returns-in-Err-clause-cause
 returns-in-Err-clause-cause g c =
-    exits.cause_at_read _ _ _ c.in-Err.reason c.from-in-Err.result (c.from-in-Err.ensures ∙ ap status_of c.from.ensures)
-    (λ is. HasFaulted-within _ _ _ _ c.answering.invariant.reads (omega arith) (c.in-Err.ensures.read_fault (ap Err is)).1)
+    exits.cause_at_read _ _ _ c.in-Err.reason c.from-in-Err.result (c.from-in-Err.ensures
+    ∙ ap status_of c.from.ensures)
+    (λ is. HasFaulted-within _ _ _ _ c.answering.invariant.reads (omega arith)
+    (c.in-Err.ensures.read_fault (ap Err is)).1)
 
 pub returns-in-Err-clause-not_usage : goal.returns-in-Err-clause-not_usage
-returns-in-Err-clause-not_usage g c = exits.no_usage_at_stop c.from.result c.from-in-Err.result c.from-in-Err.ensures
+returns-in-Err-clause-not_usage g c =
+    exits.no_usage_at_stop c.from.result c.from-in-Err.result c.from-in-Err.ensures
 
 -- ---- at the end of the input
 
 pub returns-in-End-clause-outcome : goal.returns-in-End-clause-outcome
 returns-in-End-clause-outcome g c =
     let told = told_by (g.H.Shelf.files c.args.shelf.now) (g.H.Shelf.sure c.args.shelf.now) in
-    exits.outcome_at_end _ _ c.answering.any_refused c.ended.result (g.I.Source.left c.args.input.now) (g.I.Source.left c.next_line.new.input) (machine_of c.args.session.now told) (machine_of c.answering.session told) _ c.ended.ensures
-    (run.ends_at_end (g.I.Source.left c.args.input.now) (machine_of c.args.session.now told) c.answering.reader (g.I.Source.left c.answering.input) (g.I.Source.left c.next_line.new.input) (machine_of c.answering.session told) c.answering.any_refused (g.O.Sink.written c.args.output.now) (g.O.Sink.written c.answering.output) c.answering.invariant.standing (c.in-Ok.ensures.end (ap Ok c.in-End.is)))
+    exits.outcome_at_end _ _ c.answering.any_refused c.ended.result
+    (g.I.Source.left c.args.input.now) (g.I.Source.left c.next_line.new.input)
+    (machine_of c.args.session.now told) (machine_of c.answering.session told) _ c.ended.ensures
+    (run.ends_at_end (g.I.Source.left c.args.input.now) (machine_of c.args.session.now told)
+    c.answering.reader (g.I.Source.left c.answering.input)
+    (g.I.Source.left c.next_line.new.input) (machine_of c.answering.session told)
+    c.answering.any_refused (g.O.Sink.written c.args.output.now)
+    (g.O.Sink.written c.answering.output) c.answering.invariant.standing
+    (c.in-Ok.ensures.end (ap Ok c.in-End.is)))
 
 pub returns-in-End-clause-prefix : goal.returns-in-End-clause-prefix
 returns-in-End-clause-prefix g c =
     let told = told_by (g.H.Shelf.files c.args.shelf.now) (g.H.Shelf.sure c.args.shelf.now) in
-    run.begins_so_far (g.I.Source.left c.args.input.now) (machine_of c.args.session.now told) c.answering.reader (g.I.Source.left c.answering.input) (machine_of c.answering.session told) (machine_of c.answering.session told) c.answering.any_refused (g.O.Sink.written c.args.output.now) (g.O.Sink.written c.answering.output) c.ended.result c.answering.invariant.standing (λ _. refl)
+    run.begins_so_far (g.I.Source.left c.args.input.now) (machine_of c.args.session.now told)
+    c.answering.reader (g.I.Source.left c.answering.input) (machine_of c.answering.session told)
+    (machine_of c.answering.session told) c.answering.any_refused
+    (g.O.Sink.written c.args.output.now) (g.O.Sink.written c.answering.output) c.ended.result
+    c.answering.invariant.standing (λ _. refl)
 
 pub returns-in-End-clause-taken : goal.returns-in-End-clause-taken
 returns-in-End-clause-taken g c =
-    run.taken_in_all (g.I.Source.left c.args.input.now) (machine_of c.args.session.now (told_by (g.H.Shelf.files c.args.shelf.now) (g.H.Shelf.sure c.args.shelf.now))) c.answering.reader (g.I.Source.left c.answering.input) (g.I.Source.left c.next_line.new.input) (machine_of c.answering.session (told_by (g.H.Shelf.files c.args.shelf.now) (g.H.Shelf.sure c.args.shelf.now))) c.answering.any_refused (g.O.Sink.written c.args.output.now) (g.O.Sink.written c.answering.output) c.answering.invariant.standing c.in-Ok.ensures.taken
+    run.taken_in_all (g.I.Source.left c.args.input.now)
+    (machine_of c.args.session.now (told_by (g.H.Shelf.files c.args.shelf.now)
+    (g.H.Shelf.sure c.args.shelf.now))) c.answering.reader (g.I.Source.left c.answering.input)
+    (g.I.Source.left c.next_line.new.input) (machine_of c.answering.session
+    (told_by (g.H.Shelf.files c.args.shelf.now) (g.H.Shelf.sure c.args.shelf.now)))
+    c.answering.any_refused (g.O.Sink.written c.args.output.now)
+    (g.O.Sink.written c.answering.output) c.answering.invariant.standing c.in-Ok.ensures.taken
 
 pub returns-in-End-clause-cause : goal.returns-in-End-clause-cause
-returns-in-End-clause-cause g c = exits.no_cause_at_end _ _ _ c.answering.any_refused c.ended.result c.ended.ensures
+returns-in-End-clause-cause g c =
+    exits.no_cause_at_end _ _ _ c.answering.any_refused c.ended.result c.ended.ensures
 
 pub returns-in-End-clause-not_usage : goal.returns-in-End-clause-not_usage
-returns-in-End-clause-not_usage g c = exits.no_usage_at_end c.answering.any_refused c.ended.result c.ended.ensures
+returns-in-End-clause-not_usage g c =
+    exits.no_usage_at_end c.answering.any_refused c.ended.result c.ended.ensures
 
 -- ---- the answer to a line stopped the work
 
@@ -85,37 +133,98 @@ pub returns-in-Err-answer_line-clause-outcome : goal.returns-in-Err-answer_line-
 returns-in-Err-answer_line-clause-outcome g c =
     let told = told_by (g.H.Shelf.files c.args.shelf.now) (g.H.Shelf.sure c.args.shelf.now) in
     let same = exits.told_same _ _ _ _ c.answering.invariant.files c.answering.invariant.sure in
-    let heard = exits.heard_told (Err c.in-Err-answer_line.stop) told _ c.answering.session c.answer_line.new.session c.deref.result.now (g.O.Sink.written c.answering.output) (g.O.Sink.written c.answer_line.new.output) same c.in-Err-answer_line.ensures.heard in
-    let turn : Gives c.in-Ok.next c.answering.reader (g.I.Source.left c.answering.input) c.next_line.new.self (g.I.Source.left c.next_line.new.input) c.next_line.new.line.items c.deref.result.now = record { not_end = c.in_default.not-End; whole = λ is. c.in-Ok.ensures.line (ap Ok is); last = λ is. c.in-Ok.ensures.last_line (ap Ok is); same = c.deref.ensures.value } in
-    let at_stop : (stop : Stop) → c.in-Err-answer_line.stop ≡ stop → HearsBy (Err stop) (machine_of c.answering.session told) c.deref.result.now (machine_of c.answer_line.new.session told) (g.O.Sink.written c.answering.output) (g.O.Sink.written c.answer_line.new.output) =
-    λ (stop : Stop) (is : c.in-Err-answer_line.stop ≡ stop). subst (λ s. HearsBy (Err s) (machine_of c.answering.session told) c.deref.result.now (machine_of c.answer_line.new.session told) (g.O.Sink.written c.answering.output) (g.O.Sink.written c.answer_line.new.output)) is heard in
-    exits.outcome_at_stop _ _ c.in-Err-answer_line.stop c.from-in-Err-answer_line.result (g.I.Source.left c.args.input.now) (g.I.Source.left c.next_line.new.input) (machine_of c.args.session.now told) (machine_of c.answer_line.new.session told) _ c.from-in-Err-answer_line.ensures
-    (λ is. exits.fails_within told _ _ _ _ same c.answering.invariant.fetches (c.in-Err-answer_line.ensures.read_fault (ap Err is)))
-    (λ is. let h = at_stop stop.ReadFault is in run.stops_in_turn c.in-Ok.next (g.I.Source.left c.args.input.now) (machine_of c.args.session.now told) c.answering.reader c.next_line.new.self (g.I.Source.left c.answering.input) (g.I.Source.left c.next_line.new.input) (machine_of c.answering.session told) (machine_of c.answer_line.new.session told) c.answering.any_refused (g.O.Sink.written c.args.output.now) (g.O.Sink.written c.answering.output) (g.O.Sink.written c.answer_line.new.output) c.next_line.new.line.items c.deref.result.now ReadFault turn c.answering.invariant.standing h.0 h.1)
-    (λ is. let h = at_stop stop.TooLong is in run.stops_in_turn c.in-Ok.next (g.I.Source.left c.args.input.now) (machine_of c.args.session.now told) c.answering.reader c.next_line.new.self (g.I.Source.left c.answering.input) (g.I.Source.left c.next_line.new.input) (machine_of c.answering.session told) (machine_of c.answer_line.new.session told) c.answering.any_refused (g.O.Sink.written c.args.output.now) (g.O.Sink.written c.answering.output) (g.O.Sink.written c.answer_line.new.output) c.next_line.new.line.items c.deref.result.now TooLong turn c.answering.invariant.standing h.0 h.1)
+    let heard = exits.heard_told (Err c.in-Err-answer_line.stop) told _ c.answering.session
+    c.answer_line.new.session c.deref.result.now (g.O.Sink.written c.answering.output)
+    (g.O.Sink.written c.answer_line.new.output) same c.in-Err-answer_line.ensures.heard in
+    let turn : Gives c.in-Ok.next c.answering.reader (g.I.Source.left c.answering.input)
+    c.next_line.new.self (g.I.Source.left c.next_line.new.input) c.next_line.new.line.items
+    c.deref.result.now = record {
+      not_end = c.in_default.not-End;
+      whole = λ is. c.in-Ok.ensures.line (ap Ok is);
+      last = λ is. c.in-Ok.ensures.last_line
+          (ap Ok is);
+      same = c.deref.ensures.value;
+    } in
+    let at_stop : (stop : Stop) → c.in-Err-answer_line.stop ≡ stop
+    → HearsBy (Err stop) (machine_of c.answering.session told) c.deref.result.now (machine_of
+    c.answer_line.new.session told) (g.O.Sink.written c.answering.output)
+    (g.O.Sink.written c.answer_line.new.output) =
+    λ (stop : Stop) (is : c.in-Err-answer_line.stop ≡ stop). subst
+    (λ s. HearsBy (Err s) (machine_of c.answering.session told) c.deref.result.now
+    (machine_of c.answer_line.new.session told) (g.O.Sink.written c.answering.output)
+    (g.O.Sink.written c.answer_line.new.output)) is heard in
+    exits.outcome_at_stop _ _ c.in-Err-answer_line.stop c.from-in-Err-answer_line.result
+    (g.I.Source.left c.args.input.now) (g.I.Source.left c.next_line.new.input)
+    (machine_of c.args.session.now told) (machine_of c.answer_line.new.session told) _
+    c.from-in-Err-answer_line.ensures
+    (λ is. exits.fails_within told _ _ _ _ same c.answering.invariant.fetches
+    (c.in-Err-answer_line.ensures.read_fault (ap Err is)))
+    (λ is. let h = at_stop stop.ReadFault is in
+    run.stops_in_turn c.in-Ok.next (g.I.Source.left c.args.input.now)
+    (machine_of c.args.session.now told) c.answering.reader c.next_line.new.self
+    (g.I.Source.left c.answering.input) (g.I.Source.left c.next_line.new.input)
+    (machine_of c.answering.session told) (machine_of c.answer_line.new.session told)
+    c.answering.any_refused (g.O.Sink.written c.args.output.now)
+    (g.O.Sink.written c.answering.output) (g.O.Sink.written c.answer_line.new.output)
+    c.next_line.new.line.items c.deref.result.now ReadFault turn
+    c.answering.invariant.standing h.0 h.1)
+    (λ is. let h = at_stop stop.TooLong is in
+    run.stops_in_turn c.in-Ok.next (g.I.Source.left c.args.input.now)
+    (machine_of c.args.session.now told) c.answering.reader c.next_line.new.self
+    (g.I.Source.left c.answering.input) (g.I.Source.left c.next_line.new.input)
+    (machine_of c.answering.session told) (machine_of c.answer_line.new.session told)
+    c.answering.any_refused (g.O.Sink.written c.args.output.now)
+    (g.O.Sink.written c.answering.output) (g.O.Sink.written c.answer_line.new.output)
+    c.next_line.new.line.items c.deref.result.now TooLong turn
+    c.answering.invariant.standing h.0 h.1)
 
 pub returns-in-Err-answer_line-clause-prefix : goal.returns-in-Err-answer_line-clause-prefix
 returns-in-Err-answer_line-clause-prefix g c =
     let told = told_by (g.H.Shelf.files c.args.shelf.now) (g.H.Shelf.sure c.args.shelf.now) in
     let same = exits.told_same _ _ _ _ c.answering.invariant.files c.answering.invariant.sure in
-    let heard = exits.heard_told (Err c.in-Err-answer_line.stop) told _ c.answering.session c.answer_line.new.session c.deref.result.now (g.O.Sink.written c.answering.output) (g.O.Sink.written c.answer_line.new.output) same c.in-Err-answer_line.ensures.heard in
-    turns.begins_at_stop c.in-Err-answer_line.stop c.from-in-Err-answer_line.result c.in-Ok.next (g.I.Source.left c.args.input.now) (machine_of c.args.session.now told) c.answering.reader c.next_line.new.self
-    (g.I.Source.left c.answering.input) (g.I.Source.left c.next_line.new.input) (machine_of c.answering.session told) (machine_of c.answer_line.new.session told) c.answering.any_refused (g.O.Sink.written c.args.output.now) (g.O.Sink.written c.answering.output) (g.O.Sink.written c.answer_line.new.output) c.next_line.new.line.items c.deref.result.now c.from-in-Err-answer_line.ensures heard
-    (record { not_end = c.in_default.not-End; whole = λ is. c.in-Ok.ensures.line (ap Ok is); last = λ is. c.in-Ok.ensures.last_line (ap Ok is); same = c.deref.ensures.value }) c.answering.invariant.standing
+    let heard = exits.heard_told (Err c.in-Err-answer_line.stop) told _ c.answering.session
+    c.answer_line.new.session c.deref.result.now (g.O.Sink.written c.answering.output)
+    (g.O.Sink.written c.answer_line.new.output) same c.in-Err-answer_line.ensures.heard in
+    turns.begins_at_stop c.in-Err-answer_line.stop c.from-in-Err-answer_line.result c.in-Ok.next
+    (g.I.Source.left c.args.input.now) (machine_of c.args.session.now told) c.answering.reader
+    c.next_line.new.self
+    (g.I.Source.left c.answering.input) (g.I.Source.left c.next_line.new.input)
+    (machine_of c.answering.session told) (machine_of c.answer_line.new.session told)
+    c.answering.any_refused (g.O.Sink.written c.args.output.now)
+    (g.O.Sink.written c.answering.output) (g.O.Sink.written c.answer_line.new.output)
+    c.next_line.new.line.items c.deref.result.now c.from-in-Err-answer_line.ensures heard
+    (record {
+      not_end = c.in_default.not-End;
+      whole = λ is. c.in-Ok.ensures.line (ap Ok is);
+      last = λ is. c.in-Ok.ensures.last_line (ap Ok is);
+      same = c.deref.ensures.value;
+    }) c.answering.invariant.standing
 
 pub returns-in-Err-answer_line-clause-taken : goal.returns-in-Err-answer_line-clause-taken
 returns-in-Err-answer_line-clause-taken g c =
-    run.taken_in_all (g.I.Source.left c.args.input.now) (machine_of c.args.session.now (told_by (g.H.Shelf.files c.args.shelf.now) (g.H.Shelf.sure c.args.shelf.now))) c.answering.reader (g.I.Source.left c.answering.input) (g.I.Source.left c.next_line.new.input) (machine_of c.answering.session (told_by (g.H.Shelf.files c.args.shelf.now) (g.H.Shelf.sure c.args.shelf.now))) c.answering.any_refused (g.O.Sink.written c.args.output.now) (g.O.Sink.written c.answering.output) c.answering.invariant.standing c.in-Ok.ensures.taken
+    run.taken_in_all (g.I.Source.left c.args.input.now)
+    (machine_of c.args.session.now (told_by (g.H.Shelf.files c.args.shelf.now)
+    (g.H.Shelf.sure c.args.shelf.now))) c.answering.reader (g.I.Source.left c.answering.input)
+    (g.I.Source.left c.next_line.new.input) (machine_of c.answering.session
+    (told_by (g.H.Shelf.files c.args.shelf.now) (g.H.Shelf.sure c.args.shelf.now)))
+    c.answering.any_refused (g.O.Sink.written c.args.output.now)
+    (g.O.Sink.written c.answering.output) c.answering.invariant.standing c.in-Ok.ensures.taken
 
 pub returns-in-Err-answer_line-clause-cause : goal.returns-in-Err-answer_line-clause-cause
 returns-in-Err-answer_line-clause-cause g c =
     let same = exits.told_same _ _ _ _ c.answering.invariant.files c.answering.invariant.sure in
-    exits.cause_at_stop _ _ _ c.in-Err-answer_line.stop c.from-in-Err-answer_line.result c.from-in-Err-answer_line.ensures
-    (λ is. exits.fails_within (told_by (g.H.Shelf.files c.args.shelf.now) (g.H.Shelf.sure c.args.shelf.now)) _ _ _ _ same c.answering.invariant.fetches (c.in-Err-answer_line.ensures.read_fault (ap Err is)))
-    (λ is. HasFaulted-within _ _ _ _ c.answering.invariant.writes (omega arith) (c.in-Err-answer_line.ensures.write_fault (ap Err is)))
+    exits.cause_at_stop _ _ _ c.in-Err-answer_line.stop c.from-in-Err-answer_line.result
+    c.from-in-Err-answer_line.ensures
+    (λ is. exits.fails_within (told_by (g.H.Shelf.files c.args.shelf.now)
+    (g.H.Shelf.sure c.args.shelf.now)) _ _ _ _ same c.answering.invariant.fetches
+    (c.in-Err-answer_line.ensures.read_fault (ap Err is)))
+    (λ is. HasFaulted-within _ _ _ _ c.answering.invariant.writes (omega arith)
+    (c.in-Err-answer_line.ensures.write_fault (ap Err is)))
 
 pub returns-in-Err-answer_line-clause-not_usage : goal.returns-in-Err-answer_line-clause-not_usage
-returns-in-Err-answer_line-clause-not_usage g c = exits.no_usage_at_stop c.in-Err-answer_line.stop c.from-in-Err-answer_line.result c.from-in-Err-answer_line.ensures
+returns-in-Err-answer_line-clause-not_usage g c =
+    exits.no_usage_at_stop c.in-Err-answer_line.stop c.from-in-Err-answer_line.result
+    c.from-in-Err-answer_line.ensures
 
 -- ---- at the line that ends the work
 
@@ -123,34 +232,78 @@ pub returns-in-Quit-clause-outcome : goal.returns-in-Quit-clause-outcome
 returns-in-Quit-clause-outcome g c =
     let told = told_by (g.H.Shelf.files c.args.shelf.now) (g.H.Shelf.sure c.args.shelf.now) in
     let same = exits.told_same _ _ _ _ c.answering.invariant.files c.answering.invariant.sure in
-    let came = exits.heard_told (Ok c.in-Ok-answer_line.reply) told _ c.answering.session c.answer_line.new.session c.deref.result.now (g.O.Sink.written c.answering.output) (g.O.Sink.written c.answer_line.new.output) same c.in-Ok-answer_line.ensures.heard in
+    let came = exits.heard_told (Ok c.in-Ok-answer_line.reply) told _ c.answering.session
+    c.answer_line.new.session c.deref.result.now (g.O.Sink.written c.answering.output)
+    (g.O.Sink.written c.answer_line.new.output) same c.in-Ok-answer_line.ensures.heard in
     let was = c.is_refused-any_refused.result in
-    let heard = subst (λ b. Hears (machine_of c.answering.session told) c.deref.result.now b (machine_of c.answer_line.new.session told) (Adds (g.O.Sink.written c.answering.output) (g.O.Sink.written c.answer_line.new.output))) (sym c.is_refused-any_refused.ensures) came.0 in
-    exits.outcome_at_end _ _ (c.answering.any_refused || was) c.ended-in-Quit.result (g.I.Source.left c.args.input.now) (g.I.Source.left c.next_line.new.input) (machine_of c.args.session.now told) (machine_of c.answer_line.new.session told) _ c.ended-in-Quit.ensures
-    (run.ends_in_turn c.in-Ok.next (g.I.Source.left c.args.input.now) (machine_of c.args.session.now told) c.answering.reader c.next_line.new.self (g.I.Source.left c.answering.input) (g.I.Source.left c.next_line.new.input)
-    (machine_of c.answering.session told) (machine_of c.answer_line.new.session told) c.answering.any_refused was (g.O.Sink.written c.args.output.now) (g.O.Sink.written c.answering.output) (g.O.Sink.written c.answer_line.new.output) c.next_line.new.line.items c.deref.result.now
-    (record { not_end = c.in_default.not-End; whole = λ is. c.in-Ok.ensures.line (ap Ok is); last = λ is. c.in-Ok.ensures.last_line (ap Ok is); same = c.deref.ensures.value }) c.answering.invariant.standing (sym came.1 ∙ ap is_quit c.in-Quit.is) heard)
+    let heard = subst (λ b. Hears (machine_of c.answering.session told) c.deref.result.now b
+    (machine_of c.answer_line.new.session told) (Adds (g.O.Sink.written c.answering.output)
+    (g.O.Sink.written c.answer_line.new.output)))
+    (sym c.is_refused-any_refused.ensures) came.0 in
+    exits.outcome_at_end _ _ (c.answering.any_refused || was) c.ended-in-Quit.result
+    (g.I.Source.left c.args.input.now) (g.I.Source.left c.next_line.new.input)
+    (machine_of c.args.session.now told) (machine_of c.answer_line.new.session told) _
+    c.ended-in-Quit.ensures
+    (run.ends_in_turn c.in-Ok.next (g.I.Source.left c.args.input.now)
+    (machine_of c.args.session.now told) c.answering.reader c.next_line.new.self
+    (g.I.Source.left c.answering.input) (g.I.Source.left c.next_line.new.input)
+    (machine_of c.answering.session told) (machine_of c.answer_line.new.session told)
+    c.answering.any_refused was (g.O.Sink.written c.args.output.now)
+    (g.O.Sink.written c.answering.output) (g.O.Sink.written c.answer_line.new.output)
+    c.next_line.new.line.items c.deref.result.now
+    (record {
+      not_end = c.in_default.not-End;
+      whole = λ is. c.in-Ok.ensures.line (ap Ok is);
+      last = λ is. c.in-Ok.ensures.last_line (ap Ok is);
+      same = c.deref.ensures.value;
+    }) c.answering.invariant.standing (sym came.1
+    ∙ ap is_quit c.in-Quit.is) heard)
 
 pub returns-in-Quit-clause-prefix : goal.returns-in-Quit-clause-prefix
 returns-in-Quit-clause-prefix g c =
     let told = told_by (g.H.Shelf.files c.args.shelf.now) (g.H.Shelf.sure c.args.shelf.now) in
     let same = exits.told_same _ _ _ _ c.answering.invariant.files c.answering.invariant.sure in
-    let came = exits.heard_told (Ok c.in-Ok-answer_line.reply) told _ c.answering.session c.answer_line.new.session c.deref.result.now (g.O.Sink.written c.answering.output) (g.O.Sink.written c.answer_line.new.output) same c.in-Ok-answer_line.ensures.heard in
+    let came = exits.heard_told (Ok c.in-Ok-answer_line.reply) told _ c.answering.session
+    c.answer_line.new.session c.deref.result.now (g.O.Sink.written c.answering.output)
+    (g.O.Sink.written c.answer_line.new.output) same c.in-Ok-answer_line.ensures.heard in
     let was = c.is_refused-any_refused.result in
-    let heard = subst (λ b. Hears (machine_of c.answering.session told) c.deref.result.now b (machine_of c.answer_line.new.session told) (Adds (g.O.Sink.written c.answering.output) (g.O.Sink.written c.answer_line.new.output))) (sym c.is_refused-any_refused.ensures) came.0 in
-    run.begins_in_turn c.in-Ok.next (g.I.Source.left c.args.input.now) (machine_of c.args.session.now told) c.answering.reader c.next_line.new.self (g.I.Source.left c.answering.input) (g.I.Source.left c.next_line.new.input)
-    (machine_of c.answering.session told) (machine_of c.answer_line.new.session told) (machine_of c.answer_line.new.session told) c.answering.any_refused was (g.O.Sink.written c.args.output.now) (g.O.Sink.written c.answering.output) (g.O.Sink.written c.answer_line.new.output) c.next_line.new.line.items c.deref.result.now c.ended-in-Quit.result
-    (record { not_end = c.in_default.not-End; whole = λ is. c.in-Ok.ensures.line (ap Ok is); last = λ is. c.in-Ok.ensures.last_line (ap Ok is); same = c.deref.ensures.value }) c.answering.invariant.standing (run.hears_begun _ _ heard) (λ _. refl)
+    let heard = subst (λ b. Hears (machine_of c.answering.session told) c.deref.result.now b
+    (machine_of c.answer_line.new.session told) (Adds (g.O.Sink.written c.answering.output)
+    (g.O.Sink.written c.answer_line.new.output)))
+    (sym c.is_refused-any_refused.ensures) came.0 in
+    run.begins_in_turn c.in-Ok.next (g.I.Source.left c.args.input.now)
+    (machine_of c.args.session.now told) c.answering.reader c.next_line.new.self
+    (g.I.Source.left c.answering.input) (g.I.Source.left c.next_line.new.input)
+    (machine_of c.answering.session told) (machine_of c.answer_line.new.session told)
+    (machine_of c.answer_line.new.session told) c.answering.any_refused was
+    (g.O.Sink.written c.args.output.now) (g.O.Sink.written c.answering.output)
+    (g.O.Sink.written c.answer_line.new.output) c.next_line.new.line.items c.deref.result.now
+    c.ended-in-Quit.result
+    (record {
+      not_end = c.in_default.not-End;
+      whole = λ is. c.in-Ok.ensures.line (ap Ok is);
+      last = λ is. c.in-Ok.ensures.last_line (ap Ok is);
+      same = c.deref.ensures.value;
+    }) c.answering.invariant.standing
+    (run.hears_begun _ _ heard) (λ _. refl)
 
 pub returns-in-Quit-clause-taken : goal.returns-in-Quit-clause-taken
 returns-in-Quit-clause-taken g c =
-    run.taken_in_all (g.I.Source.left c.args.input.now) (machine_of c.args.session.now (told_by (g.H.Shelf.files c.args.shelf.now) (g.H.Shelf.sure c.args.shelf.now))) c.answering.reader (g.I.Source.left c.answering.input) (g.I.Source.left c.next_line.new.input) (machine_of c.answering.session (told_by (g.H.Shelf.files c.args.shelf.now) (g.H.Shelf.sure c.args.shelf.now))) c.answering.any_refused (g.O.Sink.written c.args.output.now) (g.O.Sink.written c.answering.output) c.answering.invariant.standing c.in-Ok.ensures.taken
+    run.taken_in_all (g.I.Source.left c.args.input.now)
+    (machine_of c.args.session.now (told_by (g.H.Shelf.files c.args.shelf.now)
+    (g.H.Shelf.sure c.args.shelf.now))) c.answering.reader (g.I.Source.left c.answering.input)
+    (g.I.Source.left c.next_line.new.input) (machine_of c.answering.session
+    (told_by (g.H.Shelf.files c.args.shelf.now) (g.H.Shelf.sure c.args.shelf.now)))
+    c.answering.any_refused (g.O.Sink.written c.args.output.now)
+    (g.O.Sink.written c.answering.output) c.answering.invariant.standing c.in-Ok.ensures.taken
 
 pub returns-in-Quit-clause-cause : goal.returns-in-Quit-clause-cause
-returns-in-Quit-clause-cause g c = exits.no_cause_at_end _ _ _ _ c.ended-in-Quit.result c.ended-in-Quit.ensures
+returns-in-Quit-clause-cause g c =
+    exits.no_cause_at_end _ _ _ _ c.ended-in-Quit.result c.ended-in-Quit.ensures
 
 pub returns-in-Quit-clause-not_usage : goal.returns-in-Quit-clause-not_usage
-returns-in-Quit-clause-not_usage g c = exits.no_usage_at_end _ c.ended-in-Quit.result c.ended-in-Quit.ensures
+returns-in-Quit-clause-not_usage g c =
+    exits.no_usage_at_end _ c.ended-in-Quit.result c.ended-in-Quit.ensures
 
 -- ---- at a last line without a newline
 
@@ -158,34 +311,73 @@ pub returns-in-LastLine-clause-outcome : goal.returns-in-LastLine-clause-outcome
 returns-in-LastLine-clause-outcome g c =
     let told = told_by (g.H.Shelf.files c.args.shelf.now) (g.H.Shelf.sure c.args.shelf.now) in
     let same = exits.told_same _ _ _ _ c.answering.invariant.files c.answering.invariant.sure in
-    let came = exits.heard_told (Ok c.in-Ok-answer_line.reply) told _ c.answering.session c.answer_line.new.session c.deref.result.now (g.O.Sink.written c.answering.output) (g.O.Sink.written c.answer_line.new.output) same c.in-Ok-answer_line.ensures.heard in
+    let came = exits.heard_told (Ok c.in-Ok-answer_line.reply) told _ c.answering.session
+    c.answer_line.new.session c.deref.result.now (g.O.Sink.written c.answering.output)
+    (g.O.Sink.written c.answer_line.new.output) same c.in-Ok-answer_line.ensures.heard in
     let was = c.is_refused-any_refused.result in
-    let heard = subst (λ b. Hears (machine_of c.answering.session told) c.deref.result.now b (machine_of c.answer_line.new.session told) (Adds (g.O.Sink.written c.answering.output) (g.O.Sink.written c.answer_line.new.output))) (sym c.is_refused-any_refused.ensures) came.0 in
-    exits.outcome_at_end _ _ (c.answering.any_refused || was) c.ended-in-LastLine.result (g.I.Source.left c.args.input.now) (g.I.Source.left c.next_line.new.input) (machine_of c.args.session.now told) (machine_of c.answer_line.new.session told) _ c.ended-in-LastLine.ensures
-    (run.ends_at_last (g.I.Source.left c.args.input.now) (machine_of c.args.session.now told) c.answering.reader (g.I.Source.left c.answering.input) (g.I.Source.left c.next_line.new.input)
-    (machine_of c.answering.session told) (machine_of c.answer_line.new.session told) c.answering.any_refused was (g.O.Sink.written c.args.output.now) (g.O.Sink.written c.answering.output) (g.O.Sink.written c.answer_line.new.output) c.next_line.new.line.items c.deref.result.now
-    (c.in-Ok.ensures.last_line (ap Ok c.in-LastLine.is)) c.deref.ensures.value c.answering.invariant.standing heard)
+    let heard = subst (λ b. Hears (machine_of c.answering.session told) c.deref.result.now b
+    (machine_of c.answer_line.new.session told) (Adds (g.O.Sink.written c.answering.output)
+    (g.O.Sink.written c.answer_line.new.output)))
+    (sym c.is_refused-any_refused.ensures) came.0 in
+    exits.outcome_at_end _ _ (c.answering.any_refused || was) c.ended-in-LastLine.result
+    (g.I.Source.left c.args.input.now) (g.I.Source.left c.next_line.new.input)
+    (machine_of c.args.session.now told) (machine_of c.answer_line.new.session told) _
+    c.ended-in-LastLine.ensures
+    (run.ends_at_last (g.I.Source.left c.args.input.now) (machine_of c.args.session.now told)
+    c.answering.reader (g.I.Source.left c.answering.input)
+    (g.I.Source.left c.next_line.new.input)
+    (machine_of c.answering.session told) (machine_of c.answer_line.new.session told)
+    c.answering.any_refused was (g.O.Sink.written c.args.output.now)
+    (g.O.Sink.written c.answering.output) (g.O.Sink.written c.answer_line.new.output)
+    c.next_line.new.line.items c.deref.result.now
+    (c.in-Ok.ensures.last_line (ap Ok c.in-LastLine.is)) c.deref.ensures.value
+    c.answering.invariant.standing heard)
 
 pub returns-in-LastLine-clause-prefix : goal.returns-in-LastLine-clause-prefix
 returns-in-LastLine-clause-prefix g c =
     let told = told_by (g.H.Shelf.files c.args.shelf.now) (g.H.Shelf.sure c.args.shelf.now) in
     let same = exits.told_same _ _ _ _ c.answering.invariant.files c.answering.invariant.sure in
-    let came = exits.heard_told (Ok c.in-Ok-answer_line.reply) told _ c.answering.session c.answer_line.new.session c.deref.result.now (g.O.Sink.written c.answering.output) (g.O.Sink.written c.answer_line.new.output) same c.in-Ok-answer_line.ensures.heard in
+    let came = exits.heard_told (Ok c.in-Ok-answer_line.reply) told _ c.answering.session
+    c.answer_line.new.session c.deref.result.now (g.O.Sink.written c.answering.output)
+    (g.O.Sink.written c.answer_line.new.output) same c.in-Ok-answer_line.ensures.heard in
     let was = c.is_refused-any_refused.result in
-    let heard = subst (λ b. Hears (machine_of c.answering.session told) c.deref.result.now b (machine_of c.answer_line.new.session told) (Adds (g.O.Sink.written c.answering.output) (g.O.Sink.written c.answer_line.new.output))) (sym c.is_refused-any_refused.ensures) came.0 in
-    run.begins_in_turn c.in-Ok.next (g.I.Source.left c.args.input.now) (machine_of c.args.session.now told) c.answering.reader c.next_line.new.self (g.I.Source.left c.answering.input) (g.I.Source.left c.next_line.new.input)
-    (machine_of c.answering.session told) (machine_of c.answer_line.new.session told) (machine_of c.answer_line.new.session told) c.answering.any_refused was (g.O.Sink.written c.args.output.now) (g.O.Sink.written c.answering.output) (g.O.Sink.written c.answer_line.new.output) c.next_line.new.line.items c.deref.result.now c.ended-in-LastLine.result
-    (record { not_end = c.in_default.not-End; whole = λ is. c.in-Ok.ensures.line (ap Ok is); last = λ is. c.in-Ok.ensures.last_line (ap Ok is); same = c.deref.ensures.value }) c.answering.invariant.standing (run.hears_begun _ _ heard) (λ _. refl)
+    let heard = subst (λ b. Hears (machine_of c.answering.session told) c.deref.result.now b
+    (machine_of c.answer_line.new.session told) (Adds (g.O.Sink.written c.answering.output)
+    (g.O.Sink.written c.answer_line.new.output)))
+    (sym c.is_refused-any_refused.ensures) came.0 in
+    run.begins_in_turn c.in-Ok.next (g.I.Source.left c.args.input.now)
+    (machine_of c.args.session.now told) c.answering.reader c.next_line.new.self
+    (g.I.Source.left c.answering.input) (g.I.Source.left c.next_line.new.input)
+    (machine_of c.answering.session told) (machine_of c.answer_line.new.session told)
+    (machine_of c.answer_line.new.session told) c.answering.any_refused was
+    (g.O.Sink.written c.args.output.now) (g.O.Sink.written c.answering.output)
+    (g.O.Sink.written c.answer_line.new.output) c.next_line.new.line.items c.deref.result.now
+    c.ended-in-LastLine.result
+    (record {
+      not_end = c.in_default.not-End;
+      whole = λ is. c.in-Ok.ensures.line (ap Ok is);
+      last = λ is. c.in-Ok.ensures.last_line (ap Ok is);
+      same = c.deref.ensures.value;
+    }) c.answering.invariant.standing
+    (run.hears_begun _ _ heard) (λ _. refl)
 
 pub returns-in-LastLine-clause-taken : goal.returns-in-LastLine-clause-taken
 returns-in-LastLine-clause-taken g c =
-    run.taken_in_all (g.I.Source.left c.args.input.now) (machine_of c.args.session.now (told_by (g.H.Shelf.files c.args.shelf.now) (g.H.Shelf.sure c.args.shelf.now))) c.answering.reader (g.I.Source.left c.answering.input) (g.I.Source.left c.next_line.new.input) (machine_of c.answering.session (told_by (g.H.Shelf.files c.args.shelf.now) (g.H.Shelf.sure c.args.shelf.now))) c.answering.any_refused (g.O.Sink.written c.args.output.now) (g.O.Sink.written c.answering.output) c.answering.invariant.standing c.in-Ok.ensures.taken
+    run.taken_in_all (g.I.Source.left c.args.input.now)
+    (machine_of c.args.session.now (told_by (g.H.Shelf.files c.args.shelf.now)
+    (g.H.Shelf.sure c.args.shelf.now))) c.answering.reader (g.I.Source.left c.answering.input)
+    (g.I.Source.left c.next_line.new.input) (machine_of c.answering.session
+    (told_by (g.H.Shelf.files c.args.shelf.now) (g.H.Shelf.sure c.args.shelf.now)))
+    c.answering.any_refused (g.O.Sink.written c.args.output.now)
+    (g.O.Sink.written c.answering.output) c.answering.invariant.standing c.in-Ok.ensures.taken
 
 pub returns-in-LastLine-clause-cause : goal.returns-in-LastLine-clause-cause
-returns-in-LastLine-clause-cause g c = exits.no_cause_at_end _ _ _ _ c.ended-in-LastLine.result c.ended-in-LastLine.ensures
+returns-in-LastLine-clause-cause g c =
+    exits.no_cause_at_end _ _ _ _ c.ended-in-LastLine.result c.ended-in-LastLine.ensures
 
 pub returns-in-LastLine-clause-not_usage : goal.returns-in-LastLine-clause-not_usage
-returns-in-LastLine-clause-not_usage g c = exits.no_usage_at_end _ c.ended-in-LastLine.result c.ended-in-LastLine.ensures
+returns-in-LastLine-clause-not_usage g c =
+    exits.no_usage_at_end _ c.ended-in-LastLine.result c.ended-in-LastLine.ensures
 
 -- ---- the next line
 
@@ -193,13 +385,30 @@ pub answering-preserved : goal.answering-preserved
 answering-preserved g c =
     let told = told_by (g.H.Shelf.files c.args.shelf.now) (g.H.Shelf.sure c.args.shelf.now) in
     let same = exits.told_same _ _ _ _ c.answering.invariant.files c.answering.invariant.sure in
-    let came = exits.heard_told (Ok c.in-Ok-answer_line.reply) told _ c.answering.session c.answer_line.new.session c.deref.result.now (g.O.Sink.written c.answering.output) (g.O.Sink.written c.answer_line.new.output) same c.in-Ok-answer_line.ensures.heard in
+    let came = exits.heard_told (Ok c.in-Ok-answer_line.reply) told _ c.answering.session
+    c.answer_line.new.session c.deref.result.now (g.O.Sink.written c.answering.output)
+    (g.O.Sink.written c.answer_line.new.output) same c.in-Ok-answer_line.ensures.heard in
     let was = c.is_refused-any_refused.result in
-    let heard = subst (λ b. Hears (machine_of c.answering.session told) c.deref.result.now b (machine_of c.answer_line.new.session told) (Adds (g.O.Sink.written c.answering.output) (g.O.Sink.written c.answer_line.new.output))) (sym c.is_refused-any_refused.ensures) came.0 in
+    let heard = subst (λ b. Hears (machine_of c.answering.session told) c.deref.result.now b
+    (machine_of c.answer_line.new.session told) (Adds (g.O.Sink.written c.answering.output)
+    (g.O.Sink.written c.answer_line.new.output)))
+    (sym c.is_refused-any_refused.ensures) came.0 in
     record {
-      standing = run.standing_after_turn c.in-Ok.next (g.I.Source.left c.args.input.now) (machine_of c.args.session.now told) c.answering.reader c.next_line.new.self (g.I.Source.left c.answering.input) (g.I.Source.left c.next_line.new.input)
-          (machine_of c.answering.session told) (machine_of c.answer_line.new.session told) c.answering.any_refused was (g.O.Sink.written c.args.output.now) (g.O.Sink.written c.answering.output) (g.O.Sink.written c.answer_line.new.output) c.next_line.new.line.items c.deref.result.now
-          (record { not_end = c.in_default.not-End; whole = λ is. c.in-Ok.ensures.line (ap Ok is); last = λ is. c.in-Ok.ensures.last_line (ap Ok is); same = c.deref.ensures.value }) c.in_default-next.not-LastLine c.answering.invariant.standing
+      standing =
+          run.standing_after_turn c.in-Ok.next (g.I.Source.left c.args.input.now)
+          (machine_of c.args.session.now told) c.answering.reader c.next_line.new.self
+          (g.I.Source.left c.answering.input) (g.I.Source.left c.next_line.new.input)
+          (machine_of c.answering.session told) (machine_of c.answer_line.new.session told)
+          c.answering.any_refused was (g.O.Sink.written c.args.output.now)
+          (g.O.Sink.written c.answering.output) (g.O.Sink.written c.answer_line.new.output)
+          c.next_line.new.line.items c.deref.result.now
+          (record {
+            not_end = c.in_default.not-End;
+            whole = λ is. c.in-Ok.ensures.line (ap Ok is);
+            last = λ is. c.in-Ok.ensures.last_line (ap Ok is);
+            same = c.deref.ensures.value;
+          }) c.in_default-next.not-LastLine
+          c.answering.invariant.standing
           (sym came.1 ∙ exits.goes_on c.in-Ok-answer_line.reply c.in_default-reply.not-Quit) heard;
       pivots = c.in-Ok-answer_line.ensures.pivots ∙ c.answering.invariant.pivots;
       files = c.in-Ok-answer_line.ensures.files ∙ c.answering.invariant.files;

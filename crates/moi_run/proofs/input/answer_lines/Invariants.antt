@@ -8,8 +8,12 @@ use Rattle.script_lines.specs.Reading.{allowance}
 
 abbrev pub invariant-answering : goal.invariant-answering
 invariant-answering g l = record {
-  standing : Standing (g.I.Source.left l.initial.input) (machine_of l.initial.session (told_by (g.H.Shelf.files l.initial.shelf) (g.H.Shelf.sure l.initial.shelf))) l.reader (g.I.Source.left l.input)
-      (machine_of l.session (told_by (g.H.Shelf.files l.initial.shelf) (g.H.Shelf.sure l.initial.shelf))) l.any_refused (g.O.Sink.written l.initial.output) (g.O.Sink.written l.output);
+  standing : Standing (g.I.Source.left l.initial.input)
+      (machine_of l.initial.session (told_by (g.H.Shelf.files l.initial.shelf)
+      (g.H.Shelf.sure l.initial.shelf))) l.reader (g.I.Source.left l.input)
+      (machine_of l.session (told_by (g.H.Shelf.files l.initial.shelf)
+      (g.H.Shelf.sure l.initial.shelf))) l.any_refused (g.O.Sink.written l.initial.output)
+      (g.O.Sink.written l.output);
   pivots : l.session.pivots ≡ l.initial.session.pivots;
   files : g.H.Shelf.files l.shelf ≡ g.H.Shelf.files l.initial.shelf;
   sure : g.H.Shelf.sure l.shelf ≡ g.H.Shelf.sure l.initial.shelf;

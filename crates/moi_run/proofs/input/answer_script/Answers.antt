@@ -11,18 +11,28 @@ use Rattle.std.proofs.Common.{refl}
 pub returns-in-Ok-set_up-clause-runs : goal.returns-in-Ok-set_up-clause-runs
 returns-in-Ok-set_up-clause-runs g c =
     let told = told_by (g.H.Shelf.files c.args.shelf.now) (g.H.Shelf.sure c.args.shelf.now) in
-    runs_script c.args.setup c.answer_lines.result (g.I.Source.left c.args.input.now) (g.I.Source.left c.answer_lines.new.input) told (g.H.Shelf.faults c.args.shelf.now) (g.H.Shelf.faults c.answer_lines.new.shelf)
-    (HasFaulted (g.I.Source.faults c.args.input.now) (g.I.Source.faults c.answer_lines.new.input)) (HasFaulted (g.O.Sink.faults c.args.output.now) (g.O.Sink.faults c.answer_lines.new.output))
-    (machine_of c.args.session.now told) (machine_of c.set_up.new.self told) (machine_of c.answer_lines.new.session told) _ _
-    (set_up_is c.args.setup c.args.session.now c.set_up.new.self told c.in-Ok-set_up.ensures.ok c.in-Ok-set_up.ensures.allowance) refl
-    c.answer_lines.ensures.pivots c.answer_lines.ensures.outcome c.answer_lines.ensures.prefix c.answer_lines.ensures.cause
+    runs_script c.args.setup c.answer_lines.result (g.I.Source.left c.args.input.now)
+    (g.I.Source.left c.answer_lines.new.input) told (g.H.Shelf.faults c.args.shelf.now)
+    (g.H.Shelf.faults c.answer_lines.new.shelf)
+    (HasFaulted (g.I.Source.faults c.args.input.now) (g.I.Source.faults c.answer_lines.new.input))
+    (HasFaulted (g.O.Sink.faults c.args.output.now) (g.O.Sink.faults c.answer_lines.new.output))
+    (machine_of c.args.session.now told) (machine_of c.set_up.new.self told)
+    (machine_of c.answer_lines.new.session told) _ _
+    (set_up_is c.args.setup c.args.session.now c.set_up.new.self told c.in-Ok-set_up.ensures.ok
+    c.in-Ok-set_up.ensures.allowance) refl
+    c.answer_lines.ensures.pivots c.answer_lines.ensures.outcome c.answer_lines.ensures.prefix
+    c.answer_lines.ensures.cause
 
 pub returns-clause-runs : goal.returns-clause-runs
 returns-clause-runs g c =
     let told = told_by (g.H.Shelf.files c.args.shelf.now) (g.H.Shelf.sure c.args.shelf.now) in
-    runs_without_memory (Some (Run c.args.setup)) (g.I.Source.left c.args.input.now) (g.I.Source.left c.args.input.now) told _ _ (machine_of c.args.session.now told) (machine_of c.set_up.new.self told) (g.O.Sink.written c.args.output.now)
+    runs_without_memory (Some (Run c.args.setup)) (g.I.Source.left c.args.input.now)
+    (g.I.Source.left c.args.input.now) told _ _ (machine_of c.args.session.now told)
+    (machine_of c.set_up.new.self told) (g.O.Sink.written c.args.output.now)
 
 pub returns-in_default-clause-runs : goal.returns-in_default-clause-runs
 returns-in_default-clause-runs g c =
     let told = told_by (g.H.Shelf.files c.args.shelf.now) (g.H.Shelf.sure c.args.shelf.now) in
-    runs_without_memory (Some (Run c.args.setup)) (g.I.Source.left c.args.input.now) (g.I.Source.left c.args.input.now) told _ _ (machine_of c.args.session.now told) (machine_of c.args.session.now told) (g.O.Sink.written c.args.output.now)
+    runs_without_memory (Some (Run c.args.setup)) (g.I.Source.left c.args.input.now)
+    (g.I.Source.left c.args.input.now) told _ _ (machine_of c.args.session.now told)
+    (machine_of c.args.session.now told) (g.O.Sink.written c.args.output.now)

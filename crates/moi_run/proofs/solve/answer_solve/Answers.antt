@@ -11,11 +11,16 @@ use Rattle.moi_run.proofs.solve.answer_solve.Goals as goal
 pub returns-in-Ok-clause-runs : goal.returns-in-Ok-clause-runs
 returns-in-Ok-clause-runs g c =
     let told = told_by (g.H.Shelf.files c.args.shelf.now) (g.H.Shelf.sure c.args.shelf.now) in
-    subst (λ line. RunsEach (line ∷ codes "attach" ∷ codes "optimize" ∷ []) c.args.setup c.answer_with.result (machine_of c.args.session.now told) (machine_of c.answer_with.new.session told)
-    (Adds (g.O.Sink.written c.args.output.now) (g.O.Sink.written c.answer_with.new.output)) (AddsPrefix (g.O.Sink.written c.args.output.now) (g.O.Sink.written c.answer_with.new.output)))
+    subst (λ line. RunsEach (line ∷ codes "attach" ∷ codes "optimize" ∷ []) c.args.setup
+    c.answer_with.result (machine_of c.args.session.now told)
+    (machine_of c.answer_with.new.session told)
+    (Adds (g.O.Sink.written c.args.output.now) (g.O.Sink.written c.answer_with.new.output))
+    (AddsPrefix (g.O.Sink.written c.args.output.now)
+    (g.O.Sink.written c.answer_with.new.output)))
     (c.deref.ensures.value ∙ c.in-Ok.ensures) c.answer_with.ensures.runs
 
 pub returns-in-Err-clause-runs : goal.returns-in-Err-clause-runs
 returns-in-Err-clause-runs g c =
     let told = told_by (g.H.Shelf.files c.args.shelf.now) (g.H.Shelf.sure c.args.shelf.now) in
-    each_without_memory _ c.args.setup (machine_of c.args.session.now told) (machine_of c.args.session.now told) (g.O.Sink.written c.args.output.now)
+    each_without_memory _ c.args.setup (machine_of c.args.session.now told)
+    (machine_of c.args.session.now told) (g.O.Sink.written c.args.output.now)

@@ -19,12 +19,17 @@ pub odd_divisor-requires-clause-left : goal.odd_divisor-requires-clause-left
 odd_divisor-requires-clause-left c = (odd_part_of w64 c.args.a (omega arith) c.ranges.a.fits).is_odd
 
 pub odd_divisor-requires-clause-right : goal.odd_divisor-requires-clause-right
-odd_divisor-requires-clause-right c = (odd_part_of w64 c.args.b (omega arith) c.ranges.b.fits).is_odd
+odd_divisor-requires-clause-right c =
+    (odd_part_of w64 c.args.b (omega arith) c.ranges.b.fits).is_odd
 
 pub returns-clause-value : goal.returns-clause-value
-returns-clause-value c = twice_divisor w64 c.args.a c.args.b c.odd_divisor.result c.lesser_count.result (omega arith) (omega arith) c.ranges.a.fits c.ranges.b.fits c.odd_divisor.ensures c.lesser_count.ensures
+returns-clause-value c =
+    twice_divisor w64 c.args.a c.args.b c.odd_divisor.result c.lesser_count.result (omega arith)
+    (omega arith) c.ranges.a.fits c.ranges.b.fits c.odd_divisor.ensures c.lesser_count.ensures
 
 pub returns-clause-positive : goal.returns-clause-positive
 returns-clause-positive c =
-    let value = twice_divisor w64 c.args.a c.args.b c.odd_divisor.result c.lesser_count.result (omega arith) (omega arith) c.ranges.a.fits c.ranges.b.fits c.odd_divisor.ensures c.lesser_count.ensures in
+    let value = twice_divisor w64 c.args.a c.args.b c.odd_divisor.result c.lesser_count.result
+    (omega arith) (omega arith) c.ranges.a.fits c.ranges.b.fits c.odd_divisor.ensures
+    c.lesser_count.ensures in
     subst (λ x. 0 < x) (sym value) (gcd_pos c.args.a c.args.b c.requires)

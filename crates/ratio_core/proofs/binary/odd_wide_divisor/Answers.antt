@@ -9,7 +9,8 @@ loop-x-preserved c = record {
   right = c.wide_difference_without_twos-rest.ensures.is_odd;
   same =
       ap (λ x. gcd x c.wide_difference_without_twos-rest.result) c.lesser_wide-x.ensures
-      ∙ gcd-step c.loop-x.x c.loop-x.y _ c.loop-x.invariant.left c.loop-x.invariant.right c.wide_difference_without_twos-rest.ensures
+      ∙ gcd-step c.loop-x.x c.loop-x.y _ c.loop-x.invariant.left c.loop-x.invariant.right
+      c.wide_difference_without_twos-rest.ensures
       ∙ c.loop-x.invariant.same;
 }
 

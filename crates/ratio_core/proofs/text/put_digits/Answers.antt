@@ -6,7 +6,8 @@ use Rattle.ratio_core.proofs.text.put_digits.Goals as goal
 pub returns-then-rest-eq0-clause-written : goal.returns-then-rest-eq0-clause-written
 returns-then-rest-eq0-clause-written c =
     let i = c.loop-rest.invariant in
-    digit_last c.loop-rest.text _ c.loop-rest.start c.args.end c.loop-rest.rest i.within i.room i.below (omega arith) (omega arith) i.written c.if-rest-eq0.true
+    digit_last c.loop-rest.text _ c.loop-rest.start c.args.end c.loop-rest.rest i.within i.room
+    i.below (omega arith) (omega arith) i.written c.if-rest-eq0.true
 
 pub loop-rest-init : goal.loop-rest-init
 loop-rest-init c =
@@ -18,7 +19,8 @@ loop-rest-init c =
       room = omega arith;
       below = subst (λ k. c.args.n < 10 ^ k) power digits;
       length = c.told-text;
-      written = ap (λ k. digits_onto k 10 false c.args.n (drop c.args.end c.args.text.now)) fuel ∙ decimal_onto c.args.n (drop c.args.end c.args.text.now);
+      written = ap (λ k. digits_onto k 10 false c.args.n (drop c.args.end c.args.text.now)) fuel
+          ∙ decimal_onto c.args.n (drop c.args.end c.args.text.now);
     }
 
 pub loop-rest-preserved : goal.loop-rest-preserved
@@ -26,8 +28,12 @@ loop-rest-preserved c =
     let i = c.loop-rest.invariant in
     record {
       within = omega arith;
-      room = (digit_room c.loop-rest.text _ c.loop-rest.start c.args.end c.loop-rest.rest i.within i.room i.below (omega arith) (omega arith) i.written c.if-rest-eq0.false).0;
-      below = (digit_room c.loop-rest.text _ c.loop-rest.start c.args.end c.loop-rest.rest i.within i.room i.below (omega arith) (omega arith) i.written c.if-rest-eq0.false).1;
-      length = length-set c.loop-rest.text (c.loop-rest.start - 1) (48 + c.loop-rest.rest % 10) ∙ i.length;
-      written = digit_more c.loop-rest.text _ c.loop-rest.start c.args.end c.loop-rest.rest i.within i.room i.below (omega arith) (omega arith) i.written c.if-rest-eq0.false;
+      room = (digit_room c.loop-rest.text _ c.loop-rest.start c.args.end c.loop-rest.rest i.within
+          i.room i.below (omega arith) (omega arith) i.written c.if-rest-eq0.false).0;
+      below = (digit_room c.loop-rest.text _ c.loop-rest.start c.args.end c.loop-rest.rest i.within
+          i.room i.below (omega arith) (omega arith) i.written c.if-rest-eq0.false).1;
+      length = length-set c.loop-rest.text (c.loop-rest.start - 1) (48 + c.loop-rest.rest % 10)
+          ∙ i.length;
+      written = digit_more c.loop-rest.text _ c.loop-rest.start c.args.end c.loop-rest.rest i.within
+          i.room i.below (omega arith) (omega arith) i.written c.if-rest-eq0.false;
     }

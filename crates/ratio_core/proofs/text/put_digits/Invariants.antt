@@ -8,7 +8,8 @@ invariant-loop-rest l = record {
   room : l.fn.end < l.start + 39;
   below : l.rest < 10 ^ (l.start + 39 - l.fn.end);
   length : length l.text ≡ 80;
-  written : digits_onto (l.start + 64 - l.fn.end) 10 false l.rest (drop l.start l.text) ≡ decimal l.fn.n ++ drop l.fn.end l.fn.text;
+  written : digits_onto (l.start + 64 - l.fn.end) 10 false l.rest (drop l.start l.text)
+      ≡ decimal l.fn.n ++ drop l.fn.end l.fn.text;
 }
 
 abbrev pub decreases-loop-rest : goal.decreases-loop-rest

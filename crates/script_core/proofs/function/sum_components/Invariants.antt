@@ -6,4 +6,5 @@ use Rattle.script_core.proofs.function.sum_components.Given as goal
 
 abbrev pub invariant-loop-terms : goal.invariant-loop-terms
 invariant-loop-terms l =
-    each_after function_of l.functions.items (into_iter_items l.terms-iterator) ≡ functions_of l.fn.components
+    each_after function_of l.functions.items (into_iter_items l.terms-iterator) ≡ functions_of
+    l.fn.components

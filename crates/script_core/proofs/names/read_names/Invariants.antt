@@ -5,4 +5,5 @@ use Rattle.script_words.specs.Each.{each_after}
 use Rattle.script_core.proofs.names.read_names.Given as goal
 
 abbrev pub invariant-loop-token : goal.invariant-loop-token
-invariant-loop-token l = each_after name_of_token l.names.items l.token-iterator ≡ names_of l.fn.tokens
+invariant-loop-token l =
+    each_after name_of_token l.names.items l.token-iterator ≡ names_of l.fn.tokens

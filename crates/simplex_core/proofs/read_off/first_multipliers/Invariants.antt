@@ -5,4 +5,7 @@ use Rattle.tableau_core.specs.Contents.{readings_of}
 use Rattle.simplex_core.proofs.read_off.first_multipliers.Given as goal
 
 abbrev pub invariant-loop-j : goal.invariant-loop-j
-invariant-loop-j g l = IsListOf (l.j - (g.T.Tableau.contents l.board).reals) (λ k. one_ℚ -ℚ (readings_of (g.T.Tableau.contents l.board)).first_price ((g.T.Tableau.contents l.board).reals + k)) l.y.items
+invariant-loop-j g l =
+    IsListOf (l.j - (g.T.Tableau.contents l.board).reals)
+    (λ k. one_ℚ -ℚ (readings_of (g.T.Tableau.contents l.board)).first_price
+    ((g.T.Tableau.contents l.board).reals + k)) l.y.items

@@ -14,6 +14,9 @@ returns g c = λ F s d.
     let R = readings_of t in (
       refl,
       c.in_ok-x.ensures F s d.stands.basis d.board,
-      lists_same R.rows F.rows (λ k. neg_ℚ (artificial R.second_price R k)) (multiplier F s (second_cost F)) c.in_ok-y.y d.board.rows (λ k b. second_multiplier F s t d.stands.basis d.board k (subst (λ n. k < n) d.board.rows b)) c.in_ok-y.ensures,
+      lists_same R.rows F.rows (λ k. neg_ℚ (artificial R.second_price R k))
+          (multiplier F s (second_cost F)) c.in_ok-y.y d.board.rows
+          (λ k b. second_multiplier F s t d.stands.basis d.board k
+          (subst (λ n. k < n) d.board.rows b)) c.in_ok-y.ensures,
       c.in_ok-basis.ensures ∙ d.board.basis,
     )

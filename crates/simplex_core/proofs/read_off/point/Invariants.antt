@@ -9,5 +9,6 @@ use Rattle.simplex_core.proofs.read_off.point.Given as goal
 abbrev pub invariant-loop-i : goal.invariant-loop-i
 invariant-loop-i g l = record {
   long : length l.x.items ≡ l.c;
-  placed : (F : Form) (s : State) → IsBasis F s → IsBoardOf F s (g.T.Tableau.contents l.board) → IsPlacedTo l.c l.i (basic s) (right_side F s) l.x.items;
+  placed : (F : Form) (s : State) → IsBasis F s → IsBoardOf F s (g.T.Tableau.contents l.board)
+      → IsPlacedTo l.c l.i (basic s) (right_side F s) l.x.items;
 }

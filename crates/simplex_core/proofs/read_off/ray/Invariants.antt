@@ -10,5 +10,6 @@ use Rattle.simplex_core.proofs.read_off.ray.Given as goal
 abbrev pub invariant-loop-i : goal.invariant-loop-i
 invariant-loop-i g l = record {
   long : length l.d.items ≡ l.c;
-  placed : (F : Form) (s : State) → IsBasis F s → IsBoardOf F s (g.T.Tableau.contents l.board) → IsPlacedTo l.c l.i (basic s) (λ i. neg_ℚ (entry F s l.q i)) l.d.items;
+  placed : (F : Form) (s : State) → IsBasis F s → IsBoardOf F s (g.T.Tableau.contents l.board)
+      → IsPlacedTo l.c l.i (basic s) (λ i. neg_ℚ (entry F s l.q i)) l.d.items;
 }

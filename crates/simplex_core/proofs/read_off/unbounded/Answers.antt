@@ -6,5 +6,12 @@ use Rattle.simplex_core.proofs.read_off.unbounded.Goals as goal
 
 pub returns : goal.returns
 returns g c = λ F s d.
-    let says : Says F s (turn.Unbounded c.args.q) = subst (Says F s) (sym d.due) (turn_says F s d.stands) in
-    (c.args.q, refl, c.in_ok-x.ensures F s d.stands.basis d.board, c.in_ok-d.ensures F s d.stands.basis d.board says.2.negative, c.in_ok-basis.ensures ∙ d.board.basis)
+    let says : Says F s (turn.Unbounded c.args.q) =
+    subst (Says F s) (sym d.due) (turn_says F s d.stands) in (
+      c.args.q,
+      refl,
+      c.in_ok-x.ensures F s d.stands.basis d.board,
+      c.in_ok-d.ensures F s d.stands.basis d.board says.2.negative,
+      c.in_ok-basis.ensures
+          ∙ d.board.basis,
+    )

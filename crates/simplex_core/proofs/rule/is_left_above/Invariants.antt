@@ -5,4 +5,5 @@ use Rattle.tableau_core.specs.Contents.{readings_of}
 use Rattle.simplex_core.proofs.rule.is_left_above.Given as goal
 
 abbrev pub invariant-loop-i : goal.invariant-loop-i
-invariant-loop-i g l = some_below l.i (is_above (readings_of (g.T.Tableau.contents l.board))) ≡ false
+invariant-loop-i g l =
+    some_below l.i (is_above (readings_of (g.T.Tableau.contents l.board))) ≡ false

@@ -5,4 +5,7 @@ use Rattle.tableau_core.specs.Contents.{readings_of}
 use Rattle.simplex_core.proofs.rule.multipliers_fit.Given as goal
 
 abbrev pub invariant-loop-j : goal.invariant-loop-j
-invariant-loop-j g l = all_below (l.j - (g.T.Tableau.contents l.board).reals) (λ k. sum_fits one_ℚ (neg_ℚ ((readings_of (g.T.Tableau.contents l.board)).first_price ((g.T.Tableau.contents l.board).reals + k)))) ≡ true
+invariant-loop-j g l =
+    all_below (l.j - (g.T.Tableau.contents l.board).reals)
+    (λ k. sum_fits one_ℚ (neg_ℚ ((readings_of (g.T.Tableau.contents l.board)).first_price
+    ((g.T.Tableau.contents l.board).reals + k)))) ≡ true

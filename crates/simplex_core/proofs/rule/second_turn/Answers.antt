@@ -4,7 +4,11 @@ use Rattle.tableau_core.specs.Contents.{readings_of}
 use Rattle.simplex_core.proofs.rule.second_turn.Goals as goal
 
 pub returns-in-Some-clause-turn : goal.returns-in-Some-clause-turn
-returns-in-Some-clause-turn g c = c.enters.ensures.turn ∙ ap (bland.second_turn (readings_of (g.T.Tableau.contents c.args.board.now))) c.in-Some.ensures.value
+returns-in-Some-clause-turn g c =
+    c.enters.ensures.turn ∙ ap (bland.second_turn
+    (readings_of (g.T.Tableau.contents c.args.board.now))) c.in-Some.ensures.value
 
 pub returns-in-None-clause-turn : goal.returns-in-None-clause-turn
-returns-in-None-clause-turn g c = ap (bland.second_turn (readings_of (g.T.Tableau.contents c.args.board.now))) c.in-None.ensures.value
+returns-in-None-clause-turn g c =
+    ap (bland.second_turn (readings_of (g.T.Tableau.contents c.args.board.now)))
+    c.in-None.ensures.value

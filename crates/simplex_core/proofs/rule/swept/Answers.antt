@@ -9,6 +9,10 @@ pub returns-in-Some-clause-value : goal.returns-in-Some-clause-value
 returns-in-Some-clause-value g c =
     let t = g.T.Tableau.contents c.args.board.now in
     let R = readings_of t in
-    let artificial = subst (λ basis. c.real_count.result ≤ slice_index_or basis c.loop-i.i 0) c.basis.ensures.columns c.if-basis-i.true in
-    sym (row_found (length t.rows) c.loop-i.i c.in-Some.j (swept_in R) (omega arith) c.loop-i.invariant
-    (artificial_row c.real_count.result t.reals (slice_index t.basis c.loop-i.i) (swept_column R c.loop-i.i) (sym c.real_count.ensures) artificial ∙ sym c.in-Some.ensures.value))
+    let artificial = subst (λ basis. c.real_count.result ≤ slice_index_or basis c.loop-i.i 0)
+    c.basis.ensures.columns c.if-basis-i.true in
+    sym (row_found (length t.rows) c.loop-i.i c.in-Some.j (swept_in R) (omega arith)
+    c.loop-i.invariant
+    (artificial_row c.real_count.result t.reals (slice_index t.basis c.loop-i.i)
+    (swept_column R c.loop-i.i) (sym c.real_count.ensures) artificial
+    ∙ sym c.in-Some.ensures.value))

@@ -8,7 +8,8 @@ use Rattle.simplex_core.proofs.run.run.Given as goal
 abbrev pub invariant-steps : goal.invariant-steps
 invariant-steps g l = record {
   phase : IsInPhase l.phase (g.T.Tableau.contents l.board);
-  steps : (F : Form) → IsStandard F → IsBoardOf F (start F) (g.T.Tableau.contents l.fn.board) → IsAtStep F l.pivots l.left l.phase (g.T.Tableau.contents l.board);
+  steps : (F : Form) → IsStandard F → IsBoardOf F (start F) (g.T.Tableau.contents l.fn.board)
+      → IsAtStep F l.pivots l.left l.phase (g.T.Tableau.contents l.board);
 }
 
 abbrev pub decreases-steps : goal.decreases-steps

@@ -5,4 +5,5 @@ use Rattle.simplex_core.proofs.run.step.Goals as goal
 
 pub returns-clause-fits : goal.returns-clause-fits
 returns-clause-fits g c =
-    c.pivot.ensures.fits ∙ ap (λ t. pivot_fits t.in_first (readings_of t) c.args.row c.args.column) c.leave.ensures
+    c.pivot.ensures.fits ∙ ap (λ t. pivot_fits t.in_first (readings_of t) c.args.row c.args.column)
+    c.leave.ensures

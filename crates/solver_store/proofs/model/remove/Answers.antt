@@ -10,7 +10,8 @@ pub returns-clause-old : goal.returns-clause-old
 returns-clause-old g c = get-by_key c.args.values.now c.args.i ∙ c.remove.ensures.value
 
 pub returns-clause-removed : goal.returns-clause-removed
-returns-clause-removed g c = by_key-taken c.args.values.now c.remove.new.self c.args.i c.remove.ensures.updates
+returns-clause-removed g c =
+    by_key-taken c.args.values.now c.remove.new.self c.args.i c.remove.ensures.updates
 
 pub returns-clause-room : goal.returns-clause-room
 returns-clause-room g c = omega (arith, c.remove.ensures.len, c.remove.ensures.capacity)

@@ -10,10 +10,13 @@ pub returns-clause-settled : goal.returns-clause-settled
 returns-clause-settled c = λ w long first second ready.
     let step = c.args.step.now in
     let column : c.args.q < width_of step = omega (arith, c.requires.column) in
-    settled-all c.args.rows.now c.settle_rows.new.rows c.args.r step c.exchange.new.self c.settle_rows.auto.rows c.requires.row c.exchange.ensures.now
-    w c.args.q c.args.in_first c.args.first.now c.args.second.now c.settle_if.new.row c.settle.new.self
+    settled-all c.args.rows.now c.settle_rows.new.rows c.args.r step c.exchange.new.self
+    c.settle_rows.auto.rows c.requires.row c.exchange.ensures.now
+    w c.args.q c.args.in_first c.args.first.now c.args.second.now c.settle_if.new.row
+    c.settle.new.self
     (subst (λ n. AreWide n c.args.rows.now) long c.requires.wide) long c.args.marks.now ready
-    (c.settle_rows.ensures.lowered (width_of step) (number_of step) column c.requires.marked ready.others)
+    (c.settle_rows.ensures.lowered (width_of step) (number_of step) column c.requires.marked
+    ready.others)
     first second
     (λ u. c.settle_if.ensures.lowered u c.args.q (number_of step) (ready.first_ready u))
     (c.settle.ensures.lowered c.args.q (number_of step) ready.second_ready)
@@ -22,8 +25,12 @@ pub returns-clause-marked : goal.returns-clause-marked
 returns-clause-marked c = λ ready.
     let step = c.args.step.now in
     let column : c.args.q < width_of step = omega (arith, c.requires.column) in
-    marked_after (width_of step) c.args.r c.args.q c.args.rows.now c.settle_rows.new.rows step c.exchange.new.self c.args.marks.now c.mark_step.new.marks
-    c.settle_rows.auto.rows c.requires.row c.exchange.ensures.now c.requires.wide column c.requires.marked c.mark_step.ensures.kept
-    (subst (λ n. MarksUnits (width_of step) c.args.q n (number_of step) c.args.marks.now c.mark_step.new.marks) c.settle_rows.auto.rows c.mark_step.ensures.marked)
+    marked_after (width_of step) c.args.r c.args.q c.args.rows.now c.settle_rows.new.rows step
+    c.exchange.new.self c.args.marks.now c.mark_step.new.marks
+    c.settle_rows.auto.rows c.requires.row c.exchange.ensures.now c.requires.wide column
+    c.requires.marked c.mark_step.ensures.kept
+    (subst (λ n. MarksUnits (width_of step) c.args.q n (number_of step) c.args.marks.now
+    c.mark_step.new.marks) c.settle_rows.auto.rows c.mark_step.ensures.marked)
     ready.divided
-    (c.settle_rows.ensures.lowered (width_of step) (number_of step) column c.requires.marked ready.others)
+    (c.settle_rows.ensures.lowered (width_of step) (number_of step) column c.requires.marked
+    ready.others)

@@ -3,4 +3,5 @@ use Rattle.sparse_board.proofs.RowsSteps.{ArePreparedTo}
 use Rattle.sparse_board.proofs.rows.prepare_rows.Given as goal
 
 abbrev pub invariant-loop-i : goal.invariant-loop-i
-invariant-loop-i l = ArePreparedTo (width_of l.step) l.r l.q (number_of l.step) l.marks l.fn.rows l.rows l.i
+invariant-loop-i l =
+    ArePreparedTo (width_of l.step) l.r l.q (number_of l.step) l.marks l.fn.rows l.rows l.i

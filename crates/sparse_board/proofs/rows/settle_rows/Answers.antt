@@ -10,11 +10,20 @@ pub loop-i-preserved : goal.loop-i-preserved
 loop-i-preserved c =
     elim c.if-is_touched.branch [
       | then-is_touched k ↦
-          subst (λ rows. AreSettledTo c.args.r c.args.q c.args.marks.now c.args.rows.now rows (c.loop-i.i + 1)) (sym k.rows-is)
-          (settled-more c.args.r c.args.q c.args.marks.now c.args.rows.now c.loop-i.rows c.loop-i.i k.index-rows-i.result k.settle.new.self c.loop-i.invariant c.loop-i-test.true (touched_of _ _ c.loop-i.i c.args.r c.args.q c.args.marks.now _ c.loop-i.invariant.long c.is_touched.ensures _ k.if-is_touched.true) k.settle.ensures.width k.settle.ensures.lowered)
+          subst (λ rows. AreSettledTo c.args.r c.args.q c.args.marks.now c.args.rows.now rows
+          (c.loop-i.i + 1)) (sym k.rows-is)
+          (settled-more c.args.r c.args.q c.args.marks.now c.args.rows.now c.loop-i.rows c.loop-i.i
+          k.index-rows-i.result k.settle.new.self c.loop-i.invariant c.loop-i-test.true
+          (touched_of _ _ c.loop-i.i c.args.r c.args.q c.args.marks.now _
+          c.loop-i.invariant.long c.is_touched.ensures _ k.if-is_touched.true)
+          k.settle.ensures.width k.settle.ensures.lowered)
       | else-is_touched k ↦
-          subst (λ rows. AreSettledTo c.args.r c.args.q c.args.marks.now c.args.rows.now rows (c.loop-i.i + 1)) (sym k.rows-is)
-          (settled-passed c.args.r c.args.q c.args.marks.now c.args.rows.now c.loop-i.rows c.loop-i.i c.loop-i.invariant c.loop-i-test.true (touched_of _ _ c.loop-i.i c.args.r c.args.q c.args.marks.now _ c.loop-i.invariant.long c.is_touched.ensures _ k.if-is_touched.false))
+          subst (λ rows. AreSettledTo c.args.r c.args.q c.args.marks.now c.args.rows.now rows
+          (c.loop-i.i + 1)) (sym k.rows-is)
+          (settled-passed c.args.r c.args.q c.args.marks.now c.args.rows.now c.loop-i.rows
+          c.loop-i.i c.loop-i.invariant c.loop-i-test.true
+          (touched_of _ _ c.loop-i.i c.args.r c.args.q c.args.marks.now _
+          c.loop-i.invariant.long c.is_touched.ensures _ k.if-is_touched.false))
     ]
 
 pub returns-clause-lowered : goal.returns-clause-lowered

@@ -8,6 +8,7 @@ use Rattle.sparse_board.proofs.scan.first_negative.Given as goal
 
 abbrev pub invariant-loop-k : goal.invariant-loop-k
 invariant-loop-k l = record {
-  none : least_below (past (row_columns l.row) l.k) (λ j. is_below (number_of l.row j) zero_ℚ) ≡ None;
+  none : least_below (past (row_columns l.row) l.k) (λ j. is_below (number_of l.row j) zero_ℚ)
+      ≡ None;
   few : past (row_columns l.row) l.k ≤ l.count;
 }

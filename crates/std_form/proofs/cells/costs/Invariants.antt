@@ -9,4 +9,8 @@ use Rattle.std_form.specs.Indexed.{is_greatest, objective_in}
 use Rattle.std_form.proofs.cells.costs.Given as goal
 
 abbrev pub invariant-loop-slack : goal.invariant-loop-slack
-invariant-loop-slack l = l.costs.items ≡ map (flipped (is_greatest (option_copied l.fn.objective))) (numbers_at (parts_among l.variables) (coefficient (objective_in (option_copied l.fn.objective)))) ++ map (λ slack. zero_ℚ) (take l._slack-index l.slacks)
+invariant-loop-slack l =
+    l.costs.items ≡ map (flipped (is_greatest (option_copied l.fn.objective)))
+    (numbers_at (parts_among l.variables)
+    (coefficient (objective_in (option_copied l.fn.objective)))) ++ map (λ slack. zero_ℚ)
+    (take l._slack-index l.slacks)

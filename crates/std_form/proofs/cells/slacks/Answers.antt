@@ -8,6 +8,8 @@ use Rattle.std_form.proofs.cells.slacks.Goals as goal
 
 pub loop-i-preserved : goal.loop-i-preserved
 loop-i-preserved c =
-    slacks_step equation_in c.args.equations.now c.loop-i.i c.index-equations-i.result c.loop-i-test.true c.loop-i.slacks.items c.push_some.new.items.items c.loop-i.invariant
+    slacks_step equation_in c.args.equations.now c.loop-i.i c.index-equations-i.result
+    c.loop-i-test.true c.loop-i.slacks.items c.push_some.new.items.items c.loop-i.invariant
     (c.in_ok-push_some.ensures
-    ∙ ap (λ ss. c.loop-i.slacks.items ++ ss) (c.slack_at.ensures ∙ ap (λ (e : Equation). slack_at c.loop-i.i (slack_of e.set.now)) c.index-equations-i.is))
+    ∙ ap (λ ss. c.loop-i.slacks.items ++ ss) (c.slack_at.ensures
+    ∙ ap (λ (e : Equation). slack_at c.loop-i.i (slack_of e.set.now)) c.index-equations-i.is))

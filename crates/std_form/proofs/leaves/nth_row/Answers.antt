@@ -6,14 +6,19 @@ use Rattle.std_form.proofs.PlaceSteps.{leaf_read}
 use Rattle.std_form.proofs.leaves.nth_row.Goals as goal
 
 pub returns-in_err-i : goal.returns-in_err-i
-returns-in_err-i c = absurd (no_index c.args.map.now.rows.indices c.args.n c.in_ok-at.at (sym c.in_ok-at.ensures) (sym c.in_err-i.ensures.value))
+returns-in_err-i c =
+    absurd (no_index c.args.map.now.rows.indices c.args.n c.in_ok-at.at (sym c.in_ok-at.ensures)
+    (sym c.in_err-i.ensures.value))
 
 pub returns-in_err-row : goal.returns-in_err-row
 returns-in_err-row c =
-    ap (option_map row_in) c.from_residual-in_err-row.ensures ∙ ap (option_map (λ x. (c.in_ok-i.i, x))) c.in_err-row.ensures
-    ∙ leaf_read c.args.map.now.rows.indices c.args.n c.in_ok-at.at (sym c.in_ok-at.ensures) c.args.solver.now.leaves.rows c.in_ok-i.i (sym c.in_ok-i.ensures.value)
+    ap (option_map row_in) c.from_residual-in_err-row.ensures
+    ∙ ap (option_map (λ x. (c.in_ok-i.i, x))) c.in_err-row.ensures
+    ∙ leaf_read c.args.map.now.rows.indices c.args.n c.in_ok-at.at (sym c.in_ok-at.ensures)
+    c.args.solver.now.leaves.rows c.in_ok-i.i (sym c.in_ok-i.ensures.value)
 
 pub returns : goal.returns
 returns c =
     ap (option_map (λ x. (c.in_ok-i.i, x))) c.in_ok-row.ensures
-    ∙ leaf_read c.args.map.now.rows.indices c.args.n c.in_ok-at.at (sym c.in_ok-at.ensures) c.args.solver.now.leaves.rows c.in_ok-i.i (sym c.in_ok-i.ensures.value)
+    ∙ leaf_read c.args.map.now.rows.indices c.args.n c.in_ok-at.at (sym c.in_ok-at.ensures)
+    c.args.solver.now.leaves.rows c.in_ok-i.i (sym c.in_ok-i.ensures.value)

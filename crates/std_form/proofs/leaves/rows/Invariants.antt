@@ -6,4 +6,6 @@ use Rattle.std_form.specs.Indexed.{leaf_at}
 use Rattle.std_form.proofs.leaves.rows.Given as goal
 
 abbrev pub invariant-loop-n : goal.invariant-loop-n
-invariant-loop-n l = map row_in l.rows.items ≡ filter_map (leaf_at l.solver.leaves.rows) (take l.n (finite.entries l.places.rows.indices))
+invariant-loop-n l =
+    map row_in l.rows.items ≡ filter_map (leaf_at l.solver.leaves.rows)
+    (take l.n (finite.entries l.places.rows.indices))

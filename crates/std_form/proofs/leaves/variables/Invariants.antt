@@ -5,4 +5,6 @@ use Rattle.std_form.specs.Indexed.{leaf_at}
 use Rattle.std_form.proofs.leaves.variables.Given as goal
 
 abbrev pub invariant-loop-n : goal.invariant-loop-n
-invariant-loop-n l = l.variables.items ≡ filter_map (leaf_at l.solver.leaves.vars) (take l.n (finite.entries l.map.vars.indices))
+invariant-loop-n l =
+    l.variables.items ≡ filter_map (leaf_at l.solver.leaves.vars)
+    (take l.n (finite.entries l.map.vars.indices))

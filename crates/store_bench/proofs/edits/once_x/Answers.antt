@@ -4,4 +4,8 @@ use Rattle.store_bench.proofs.edits.once_x.Goals as goal
 
 pub push-requires : goal.push-requires
 push-requires c =
-    subst (λ ts. HasDistinctNames (ts ++ record { variable = c.in_ok-name.field-0; coefficient = c.one.result } ∷ [])) (sym c.new-terms.ensures) (one_distinct (record { variable = c.in_ok-name.field-0; coefficient = c.one.result }))
+    subst (λ ts. HasDistinctNames (ts ++ record {
+      variable = c.in_ok-name.field-0;
+      coefficient = c.one.result;
+    } ∷ [])) (sym c.new-terms.ensures)
+    (one_distinct (record { variable = c.in_ok-name.field-0; coefficient = c.one.result }))

@@ -10,7 +10,8 @@ returns-then-is_zero c =
     let negative = neg_ℚ c.args.multiple.now in
     record {
       exact = ((
-        subst (λ q. SumFits q negative) (sym zero) (SumFits_zero negative (Fits_neg_ℚ c.args.multiple.now c.num-fits.ensures.fits)),
+        subst (λ q. SumFits q negative) (sym zero)
+            (SumFits_zero negative (Fits_neg_ℚ c.args.multiple.now c.num-fits.ensures.fits)),
         c.neg.ensures ∙ sym (zero-+ℚ negative) ∙ ap (λ q. q +ℚ negative) (sym zero),
       ));
     }

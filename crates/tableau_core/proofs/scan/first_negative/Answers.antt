@@ -9,5 +9,7 @@ use Rattle.tableau_core.proofs.scan.first_negative.Goals as goal
 pub returns-then-is_negative-clause-value : goal.returns-then-is_negative-clause-value
 returns-then-is_negative-clause-value c =
     let row = c.args.row.now in
-    sym (least_found c.args.count c.loop-j.j (λ j. is_below (cell row j) zero_ℚ) (omega arith) c.loop-j.invariant
-    (ap (λ x. is_below x zero_ℚ) (sym (item_is row c.loop-j.j c.index-row-j.result (omega arith) c.index-row-j.is)) ∙ sym c.is_negative.ensures ∙ c.if-is_negative.true))
+    sym (least_found c.args.count c.loop-j.j (λ j. is_below (cell row j) zero_ℚ) (omega arith)
+    c.loop-j.invariant
+    (ap (λ x. is_below x zero_ℚ) (sym (item_is row c.loop-j.j c.index-row-j.result (omega arith)
+    c.index-row-j.is)) ∙ sym c.is_negative.ensures ∙ c.if-is_negative.true))

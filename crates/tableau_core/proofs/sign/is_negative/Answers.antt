@@ -6,5 +6,6 @@ use Rattle.tableau_core.proofs.sign.is_negative.Goals as goal
 
 pub returns : goal.returns
 returns c =
-    ap (λ z. int_lt z (pos 0)) (to_z-of_z {w = w128} (record { sfits = c.num.type_inv }) ∙ c.num.ensures.value)
+    ap (λ z. int_lt z (pos 0)) (to_z-of_z {w = w128}
+    (record { sfits = c.num.type_inv }) ∙ c.num.ensures.value)
     ∙ below_by_num c.args.value.now

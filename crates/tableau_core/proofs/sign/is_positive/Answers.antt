@@ -6,5 +6,6 @@ use Rattle.tableau_core.proofs.sign.is_positive.Goals as goal
 
 pub returns : goal.returns
 returns c =
-    ap (int_lt (pos 0)) (to_z-of_z {w = w128} (record { sfits = c.num.type_inv }) ∙ c.num.ensures.value)
+    ap (int_lt (pos 0)) (to_z-of_z {w = w128}
+    (record { sfits = c.num.type_inv }) ∙ c.num.ensures.value)
     ∙ above_by_num c.args.value.now

@@ -9,7 +9,8 @@ use Rattle.tableau_core.proofs.start.add_entry.Goals as goal
 pub returns-then-is_zero-clause-fits : goal.returns-then-is_zero-clause-fits
 returns-then-is_zero-clause-fits c =
     let zero : c.args.entry.now ≡ zero_ℚ = c.is_zero.ensures.0 c.if-is_zero.true in
-    sym ((sum_fits_Decides c.args.sum.now c.args.entry.now).1 (subst (SumFits c.args.sum.now) (sym zero) (SumFits-zero_right c.args.sum.now c.num-fits.ensures.fits)))
+    sym ((sum_fits_Decides c.args.sum.now c.args.entry.now).1 (subst (SumFits c.args.sum.now)
+    (sym zero) (SumFits-zero_right c.args.sum.now c.num-fits.ensures.fits)))
 
 pub returns-then-is_zero-clause-ok : goal.returns-then-is_zero-clause-ok
 returns-then-is_zero-clause-ok c =
@@ -19,7 +20,10 @@ returns-then-is_zero-clause-ok c =
 pub returns-in_err-sum-clause-fits : goal.returns-in_err-sum-clause-fits
 returns-in_err-sum-clause-fits c =
     is_ok-err c.from_residual.result c.from_residual.ensures.0
-    ∙ sym (false_from_not (sum_fits c.args.sum.now c.args.entry.now) (SumFits c.args.sum.now c.args.entry.now) (sum_fits_Decides c.args.sum.now c.args.entry.now).0 c.in_err-sum.ensures.exact)
+    ∙ sym (false_from_not (sum_fits c.args.sum.now c.args.entry.now)
+    (SumFits c.args.sum.now c.args.entry.now)
+    (sum_fits_Decides c.args.sum.now c.args.entry.now).0 c.in_err-sum.ensures.exact)
 
 pub returns-clause-fits : goal.returns-clause-fits
-returns-clause-fits c = sym ((sum_fits_Decides c.args.sum.now c.args.entry.now).1 c.in_ok-sum.ensures.exact.0)
+returns-clause-fits c =
+    sym ((sum_fits_Decides c.args.sum.now c.args.entry.now).1 c.in_ok-sum.ensures.exact.0)

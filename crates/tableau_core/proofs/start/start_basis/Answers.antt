@@ -9,4 +9,6 @@ count_lem c m = omega arith
 
 pub returns : goal.returns
 returns c =
-    IfOk-weaker c.collect.result _ _ (λ v h. h.0) (fact_from_collect _ c.collect.result c.collect.ensures.ran (YieldsList-from_range c.args.c (c.args.c + c.args.m) c.args.m refl (count_lem c.args.c c.args.m)))
+    IfOk-weaker c.collect.result _ _ (λ v h. h.0)
+    (fact_from_collect _ c.collect.result c.collect.ensures.ran (YieldsList-from_range c.args.c
+    (c.args.c + c.args.m) c.args.m refl (count_lem c.args.c c.args.m)))

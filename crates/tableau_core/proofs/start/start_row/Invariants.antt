@@ -5,6 +5,7 @@ use Rattle.simplex_form.specs.Board.{entry}
 
 abbrev pub invariant-loop-j : goal.invariant-loop-j
 invariant-loop-j l = record {
-  entries : AtEachStart l.m l.c l.matrix (λ F s. IsListOf l.j (λ j. entry F s j l.i) l.numbers.items);
+  entries : AtEachStart l.m l.c l.matrix (λ F s. IsListOf l.j (λ j. entry F s j l.i)
+      l.numbers.items);
   all_fit : AllFit l.numbers.items;
 }

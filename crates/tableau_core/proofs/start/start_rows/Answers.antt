@@ -17,9 +17,15 @@ loop-i-preserved c =
     let new = c.in_ok-start_row.field-0 in
     record {
       count = pushed_long i rows next new count c.in_ok-push.ensures.items;
-      wide = each_pushed (λ k o. length (numbers o) ≡ c.args.c + c.args.m + 1) i rows next new count c.loop-i.invariant.wide c.in_ok-start_row.ensures.long c.in_ok-push.ensures.items;
+      wide = each_pushed (λ k o. length (numbers o) ≡ c.args.c + c.args.m + 1) i rows next new count
+          c.loop-i.invariant.wide c.in_ok-start_row.ensures.long c.in_ok-push.ensures.items;
       entries = λ right costs.
           let F : Form = form_of c.args.m c.args.c c.args.matrix.now right costs in
-          each_pushed (λ k o. (j : ℕ) → j < c.args.c + c.args.m → cell (numbers o) j ≡ entry F (start F) j k) i rows next new count (c.loop-i.invariant.entries right costs) (c.in_ok-start_row.ensures.entries right costs) c.in_ok-push.ensures.items;
-      sides = each_pushed (λ k o. cell (numbers o) (c.args.c + c.args.m) ≡ cell c.args.right.now k) i rows next new count c.loop-i.invariant.sides (c.in_ok-start_row.ensures.side ∙ item_is c.args.right.now i c.index-right-i.result c.loop-i-test.true c.index-right-i.is) c.in_ok-push.ensures.items;
+          each_pushed (λ k o. (j : ℕ) → j < c.args.c + c.args.m → cell (numbers o) j ≡ entry F
+          (start F) j k) i rows next new count (c.loop-i.invariant.entries right costs)
+          (c.in_ok-start_row.ensures.entries right costs) c.in_ok-push.ensures.items;
+      sides = each_pushed (λ k o. cell (numbers o) (c.args.c + c.args.m) ≡ cell c.args.right.now k)
+          i rows next new count c.loop-i.invariant.sides (c.in_ok-start_row.ensures.side
+          ∙ item_is c.args.right.now i c.index-right-i.result c.loop-i-test.true c.index-right-i.is)
+          c.in_ok-push.ensures.items;
     }

@@ -11,5 +11,6 @@ returns-clause-before c =
 
 pub returns-clause-ok : goal.returns-clause-ok
 returns-clause-ok c =
-    one_given address_total exact_addresses c.self.inside.exprs.entries c.insert.new.self.entries c.args.at c.args.f c.in_ok-before.ensures.updates.0
+    one_given address_total exact_addresses c.self.inside.exprs.entries c.insert.new.self.entries
+    c.args.at c.args.f c.in_ok-before.ensures.updates.0
     ∙ ap (λ m. finite.insert m.exprs c.args.at c.args.f) c.self.view_is

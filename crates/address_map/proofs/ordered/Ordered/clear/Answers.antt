@@ -6,4 +6,5 @@ use Rattle.address_map.proofs.GapLaws.{made_map}
 use Rattle.address_map.proofs.ordered.Ordered.clear.Goals as goal
 
 pub returns-clause-emptied : goal.returns-clause-emptied
-returns-clause-emptied c = made_map finite.empty _ (c.clear.ensures.items ∙ sym (entries_empty address_cmp))
+returns-clause-emptied c =
+    made_map finite.empty _ (c.clear.ensures.items ∙ sym (entries_empty address_cmp))

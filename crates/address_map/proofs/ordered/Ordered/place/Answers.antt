@@ -6,5 +6,8 @@ use Rattle.address_map.proofs.ordered.Ordered.place.Goals as goal
 
 pub returns : goal.returns
 returns c =
-    let by_address = c.binary_search_by.ensures.position (λ e. address_cmp e.0 c.args.at.now) (always_returns_same _ _ _ (λ a r f called. search rules)) in
-    placed c.args.self.now.indices c.args.at.now _ (rw (← c.entries.ensures) c.binary_search_by.ensures.bound) (rw (← c.entries.ensures) by_address)
+    let by_address = c.binary_search_by.ensures.position (λ e. address_cmp e.0 c.args.at.now)
+    (always_returns_same _ _ _ (λ a r f called. search rules)) in
+    placed c.args.self.now.indices c.args.at.now _
+    (rw (← c.entries.ensures) c.binary_search_by.ensures.bound)
+    (rw (← c.entries.ensures) by_address)

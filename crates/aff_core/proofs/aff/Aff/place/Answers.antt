@@ -11,21 +11,45 @@ use Rattle.map_laws.specs.EntryLaws.{searched}
 use Rattle.aff_core.proofs.aff.Aff.place.Goals as goal
 
 -- what a search among the terms finds
-placed : (f : Function) (at : Address) (r : Result ℕ ℕ) → IsSearchInRange r (length (terms_of f)) → IsBinarySearchResult (λ t. address_cmp t.0 at) (terms_of f) r → IfOk r (IsPlaceOf f at) × OnErr r (IsAbsent f at)
-placed f at (Ok n) range found = (record { in_range = range; found = λ d. get-entries f.terms at ∙ searched address_total at (terms_of f) (Ok n) (entries_sorted f.terms) range found d }, tt)
-placed f at (Err n) range parted = (tt, record { absent = get-entries f.terms at ∙ searched address_total at (terms_of f) (Err n) (entries_sorted f.terms) range parted })
+placed : (f : Function) (at : Address) (r : Result ℕ ℕ) → IsSearchInRange r (length (terms_of f))
+    → IsBinarySearchResult (λ t. address_cmp t.0 at) (terms_of f) r
+    → IfOk r (IsPlaceOf f at) × OnErr r (IsAbsent f at)
+placed f at (Ok n) range found = (
+  record {
+    in_range = range;
+    found = λ d. get-entries f.terms at
+        ∙ searched address_total at (terms_of f) (Ok n) (entries_sorted f.terms) range found d;
+  },
+  tt,
+)
+placed f at (Err n) range parted = (
+  tt,
+  record {
+    absent = get-entries f.terms at ∙ searched address_total at (terms_of f) (Err n)
+        (entries_sorted f.terms) range parted;
+  },
+)
 
 pub returns-clause-found : goal.returns-clause-found
 returns-clause-found c =
-    let by_address = c.binary_search_by.ensures.position (λ t. address_cmp t.0 c.args.at.now) (always_returns_same _ _ _ (λ a r f called. search rules)) in
-    (placed c.args.self.now c.args.at.now _ (rw (← c.terms.ensures.all) c.binary_search_by.ensures.bound) (rw (← c.terms.ensures.all) by_address)).0
+    let by_address = c.binary_search_by.ensures.position (λ t. address_cmp t.0 c.args.at.now)
+    (always_returns_same _ _ _ (λ a r f called. search rules)) in
+    (placed c.args.self.now c.args.at.now _
+    (rw (← c.terms.ensures.all) c.binary_search_by.ensures.bound)
+    (rw (← c.terms.ensures.all) by_address)).0
 
 pub returns-clause-absent : goal.returns-clause-absent
 returns-clause-absent c =
-    let by_address = c.binary_search_by.ensures.position (λ t. address_cmp t.0 c.args.at.now) (always_returns_same _ _ _ (λ a r f called. search rules)) in
-    (placed c.args.self.now c.args.at.now _ (rw (← c.terms.ensures.all) c.binary_search_by.ensures.bound) (rw (← c.terms.ensures.all) by_address)).1
+    let by_address = c.binary_search_by.ensures.position (λ t. address_cmp t.0 c.args.at.now)
+    (always_returns_same _ _ _ (λ a r f called. search rules)) in
+    (placed c.args.self.now c.args.at.now _
+    (rw (← c.terms.ensures.all) c.binary_search_by.ensures.bound)
+    (rw (← c.terms.ensures.all) by_address)).1
 
 pub returns-clause-span : goal.returns-clause-span
 returns-clause-span c =
-    let by_address = c.binary_search_by.ensures.position (λ t. address_cmp t.0 c.args.at.now) (always_returns_same _ _ _ (λ a r f called. search rules)) in
-    span_found c.args.self.now c.args.at.now _ (rw (← c.terms.ensures.all) c.binary_search_by.ensures.bound) (rw (← c.terms.ensures.all) by_address)
+    let by_address = c.binary_search_by.ensures.position (λ t. address_cmp t.0 c.args.at.now)
+    (always_returns_same _ _ _ (λ a r f called. search rules)) in
+    span_found c.args.self.now c.args.at.now _
+    (rw (← c.terms.ensures.all) c.binary_search_by.ensures.bound)
+    (rw (← c.terms.ensures.all) by_address)

@@ -9,4 +9,6 @@ from_terms-requires c = record { rising = refl }
 pub returns : goal.returns
 unfolding variable
 returns c =
-    IfOk-weaker c.from_terms.result _ _ (λ f e. e ∙ (λ i. function_of ((c.args.at.now, c.one.ensures i) ∷ []) (c.zero.ensures i))) c.from_terms.ensures
+    IfOk-weaker c.from_terms.result _ _ (λ f e. e
+    ∙ (λ i. function_of ((c.args.at.now, c.one.ensures i) ∷ []) (c.zero.ensures i)))
+    c.from_terms.ensures

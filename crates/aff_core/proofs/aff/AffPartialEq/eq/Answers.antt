@@ -11,22 +11,31 @@ pub returns-then-eq-clause-value : goal.returns-then-eq-clause-value
 unfolding function_eq
 returns-then-eq-clause-value c =
     let constants : rational_eq c.args.self.now.constant c.args.other.now.constant ≡ true =
-    (λ i. rational_eq (sym c.constant.ensures i) (sym c.constant-2.ensures i)) ∙ sym c.eq.ensures ∙ c.if-eq.true in
-    c.eq-then-eq.ensures ∙ (λ i. pointwise term_eq (c.terms.ensures.all i) (c.terms-then-eq.ensures.all i))
-    ∙ sym (ap (λ b. b && pointwise term_eq (terms_of c.args.self.now) (terms_of c.args.other.now)) constants)
+    (λ i. rational_eq (sym c.constant.ensures i) (sym c.constant-2.ensures i)) ∙ sym c.eq.ensures
+    ∙ c.if-eq.true in
+    c.eq-then-eq.ensures ∙ (λ i. pointwise term_eq (c.terms.ensures.all i)
+    (c.terms-then-eq.ensures.all i))
+    ∙ sym (ap (λ b. b && pointwise term_eq (terms_of c.args.self.now) (terms_of c.args.other.now))
+    constants)
 
 pub returns-then-eq-clause-same : goal.returns-then-eq-clause-same
 returns-then-eq-clause-same c =
-    subst (λ b. Decides b (c.args.self.now ≡ c.args.other.now)) (sym (returns-then-eq-clause-value c)) (function_eq-Decides c.args.self.now c.args.other.now)
+    subst (λ b. Decides b (c.args.self.now ≡ c.args.other.now))
+    (sym (returns-then-eq-clause-value c)) (function_eq-Decides c.args.self.now
+    c.args.other.now)
 
 pub returns-else-eq-clause-value : goal.returns-else-eq-clause-value
 unfolding function_eq
 returns-else-eq-clause-value c =
     let constants : rational_eq c.args.self.now.constant c.args.other.now.constant ≡ false =
-    (λ i. rational_eq (sym c.constant.ensures i) (sym c.constant-2.ensures i)) ∙ sym c.eq.ensures ∙ c.if-eq.false in
+    (λ i. rational_eq (sym c.constant.ensures i) (sym c.constant-2.ensures i)) ∙ sym c.eq.ensures
+    ∙ c.if-eq.false in
     c.if-eq.false
-    ∙ sym (ap (λ b. b && pointwise term_eq (terms_of c.args.self.now) (terms_of c.args.other.now)) constants)
+    ∙ sym (ap (λ b. b && pointwise term_eq (terms_of c.args.self.now) (terms_of c.args.other.now))
+    constants)
 
 pub returns-else-eq-clause-same : goal.returns-else-eq-clause-same
 returns-else-eq-clause-same c =
-    subst (λ b. Decides b (c.args.self.now ≡ c.args.other.now)) (sym (returns-else-eq-clause-value c)) (function_eq-Decides c.args.self.now c.args.other.now)
+    subst (λ b. Decides b (c.args.self.now ≡ c.args.other.now))
+    (sym (returns-else-eq-clause-value c)) (function_eq-Decides c.args.self.now
+    c.args.other.now)

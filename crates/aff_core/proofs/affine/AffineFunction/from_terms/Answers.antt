@@ -6,7 +6,9 @@ use Rattle.aff_core.proofs.affine.AffineFunction.from_terms.Goals as goal
 
 pub of-requires-clause-rising : goal.of-requires-clause-rising
 of-requires-clause-rising g c =
-    subst (RiseBy g.K.Ord.cmp) (sym c.in_ok-nonzero_terms.ensures) (filter_rises c.args.terms.now c.requires)
+    subst (RiseBy g.K.Ord.cmp) (sym c.in_ok-nonzero_terms.ensures)
+    (filter_rises c.args.terms.now c.requires)
 
 pub of-requires-clause-nonzero : goal.of-requires-clause-nonzero
-of-requires-clause-nonzero g c = subst HaveNoZero (sym c.in_ok-nonzero_terms.ensures) (filter_nonzero c.args.terms.now)
+of-requires-clause-nonzero g c =
+    subst HaveNoZero (sym c.in_ok-nonzero_terms.ensures) (filter_nonzero c.args.terms.now)

@@ -22,8 +22,11 @@ loop-address-init c =
     let e = expression_at c.args.by.now in
     let f = c.args.self.now in
     record {
-      constant = subst (λ k. IsAsAll f.constant k (terms_of f) (terms_of f) (λ u. (e u).constant)) (sym c.constant-constant.ensures) (as_all-start f.constant (terms_of f) (λ u. (e u).constant));
-      sums = subst (λ m. SubstitutesAsAll e (empty {R = address_cmp}) m (terms_of f) (terms_of f)) (sym c.new-sums.ensures) (substitutes-start e (empty {R = address_cmp}) (terms_of f));
+      constant = subst (λ k. IsAsAll f.constant k (terms_of f) (terms_of f) (λ u. (e u).constant))
+          (sym c.constant-constant.ensures) (as_all-start f.constant (terms_of f)
+          (λ u. (e u).constant));
+      sums = subst (λ m. SubstitutesAsAll e (empty {R = address_cmp}) m (terms_of f) (terms_of f))
+          (sym c.new-sums.ensures) (substitutes-start e (empty {R = address_cmp}) (terms_of f));
     }
 
 pub returns-in_err-constant : goal.returns-in_err-constant
@@ -31,61 +34,97 @@ returns-in_err-constant c =
     let e = expression_at c.args.by.now in
     let f = c.args.self.now in
     let t = c.loop-address-item.result in
-    let next = next_item (terms_of f) c.terms-address-items.result.now c.loop-address.address-index t c.terms-address-items.ensures.all c.loop-address-item.is c.loop-address-test.true in
-    let read : c.unwrap-expression.result.now ≡ e t.0 = found_is c.args.by.now t.0 c.get.result c.unwrap-expression.result (constant_function zero_ℚ) c.get.ensures c.unwrap-expression.ensures in
-    let constant : c.constant.result ≡ (e t.0).constant = c.constant.ensures ∙ ap (λ f. f.constant) read in
-    overflowed c.from_residual.result c.in_err-constant.field-0.0 _ _ c.from_residual.ensures.1 c.in_err-constant.ensures.err
-    (λ h. as_all-refused f.constant c.loop-address.constant (terms_of f) _ _ t (λ u. (e u).constant) c.constant.result c.loop-address.invariant.constant next constant c.in_err-constant.ensures.exact h.constant)
+    let next = next_item (terms_of f) c.terms-address-items.result.now c.loop-address.address-index
+    t c.terms-address-items.ensures.all c.loop-address-item.is c.loop-address-test.true in
+    let read : c.unwrap-expression.result.now ≡ e t.0 =
+    found_is c.args.by.now t.0 c.get.result c.unwrap-expression.result (constant_function
+    zero_ℚ) c.get.ensures c.unwrap-expression.ensures in
+    let constant : c.constant.result ≡ (e t.0).constant =
+    c.constant.ensures ∙ ap (λ f. f.constant) read in
+    overflowed c.from_residual.result c.in_err-constant.field-0.0 _ _ c.from_residual.ensures.1
+    c.in_err-constant.ensures.err
+    (λ h. as_all-refused f.constant c.loop-address.constant (terms_of f) _ _ t (λ u. (e u).constant)
+    c.constant.result c.loop-address.invariant.constant next constant
+    c.in_err-constant.ensures.exact h.constant)
 
 pub returns-in_err-add_products : goal.returns-in_err-add_products
 returns-in_err-add_products c =
     let e = expression_at c.args.by.now in
     let f = c.args.self.now in
     let t = c.loop-address-item.result in
-    let next = next_item (terms_of f) c.terms-address-items.result.now c.loop-address.address-index t c.terms-address-items.ensures.all c.loop-address-item.is c.loop-address-test.true in
-    let read : c.unwrap-expression.result.now ≡ e t.0 = found_is c.args.by.now t.0 c.get.result c.unwrap-expression.result (constant_function zero_ℚ) c.get.ensures c.unwrap-expression.ensures in
+    let next = next_item (terms_of f) c.terms-address-items.result.now c.loop-address.address-index
+    t c.terms-address-items.ensures.all c.loop-address-item.is c.loop-address-test.true in
+    let read : c.unwrap-expression.result.now ≡ e t.0 =
+    found_is c.args.by.now t.0 c.get.result c.unwrap-expression.result (constant_function
+    zero_ℚ) c.get.ensures c.unwrap-expression.ensures in
     let terms : c.terms.result.now ≡ terms_of (e t.0) = c.terms.ensures.all ∙ ap terms_of read in
-    passed_on c.from_residual-in_err-add_products.result c.in_err-add_products.field-0.0 (TimesFit t.1 c.terms.result.now × TermsFit c.loop-address.sums (times t.1 c.terms.result.now)) _ _ _
+    passed_on c.from_residual-in_err-add_products.result c.in_err-add_products.field-0.0
+    (TimesFit t.1 c.terms.result.now × TermsFit c.loop-address.sums
+    (times t.1 c.terms.result.now)) _ _ _
     c.from_residual-in_err-add_products.ensures.1 c.in_err-add_products.ensures
     (λ h.
-    let step = substitutes-fits e (empty {R = address_cmp}) (terms_of f) c.loop-address.sums _ _ t c.loop-address.invariant.sums next (record { products = h.products; sums_fit = h.sums }) in
-    (subst (TimesFit t.1) (sym terms) step.0, subst (λ l. TermsFit c.loop-address.sums (times t.1 l)) (sym terms) step.1))
+    let step = substitutes-fits e (empty {R = address_cmp}) (terms_of f) c.loop-address.sums _ _ t
+    c.loop-address.invariant.sums next (record { products = h.products; sums_fit = h.sums }) in (
+      subst (TimesFit t.1) (sym terms) step.0,
+      subst (λ l. TermsFit c.loop-address.sums (times t.1 l)) (sym terms) step.1,
+    ))
 
 pub loop-address-preserved : goal.loop-address-preserved
 loop-address-preserved c =
     let e = expression_at c.args.by.now in
     let f = c.args.self.now in
     let t = c.loop-address-item.result in
-    let next = next_item (terms_of f) c.terms-address-items.result.now c.loop-address.address-index t c.terms-address-items.ensures.all c.loop-address-item.is c.loop-address-test.true in
-    let read : c.unwrap-expression.result.now ≡ e t.0 = found_is c.args.by.now t.0 c.get.result c.unwrap-expression.result (constant_function zero_ℚ) c.get.ensures c.unwrap-expression.ensures in
-    let constant : c.constant.result ≡ (e t.0).constant = c.constant.ensures ∙ ap (λ f. f.constant) read in
+    let next = next_item (terms_of f) c.terms-address-items.result.now c.loop-address.address-index
+    t c.terms-address-items.ensures.all c.loop-address-item.is c.loop-address-test.true in
+    let read : c.unwrap-expression.result.now ≡ e t.0 =
+    found_is c.args.by.now t.0 c.get.result c.unwrap-expression.result (constant_function
+    zero_ℚ) c.get.ensures c.unwrap-expression.ensures in
+    let constant : c.constant.result ≡ (e t.0).constant =
+    c.constant.ensures ∙ ap (λ f. f.constant) read in
     let terms : c.terms.result.now ≡ terms_of (e t.0) = c.terms.ensures.all ∙ ap terms_of read in
     let added = c.in_ok-add_products.ensures in
     record {
-      constant = as_all-step f.constant c.loop-address.constant (terms_of f) _ _ t (λ u. (e u).constant) c.constant.result c.loop-address.invariant.constant next constant _ c.in_ok-constant.ensures.exact.0 c.in_ok-constant.ensures.exact.1;
-      sums = subst (λ m. SubstitutesAsAll e (empty {R = address_cmp}) m (terms_of f) (drop (c.loop-address.address-index + 1) (terms_of f)))
+      constant = as_all-step f.constant c.loop-address.constant (terms_of f) _ _ t
+          (λ u. (e u).constant) c.constant.result c.loop-address.invariant.constant next constant _
+          c.in_ok-constant.ensures.exact.0 c.in_ok-constant.ensures.exact.1;
+      sums =
+          subst (λ m. SubstitutesAsAll e (empty {R = address_cmp}) m (terms_of f)
+          (drop (c.loop-address.address-index + 1) (terms_of f)))
           (sym (added.1 ∙ ap (λ l. added_terms c.loop-address.sums (times t.1 l)) terms))
-          (substitutes-step e (empty {R = address_cmp}) (terms_of f) c.loop-address.sums _ _ t c.loop-address.invariant.sums next (subst (TimesFit t.1) terms added.0.0) (subst (λ l. TermsFit c.loop-address.sums (times t.1 l)) terms added.0.1));
+          (substitutes-step e (empty {R = address_cmp}) (terms_of f) c.loop-address.sums _ _ t
+          c.loop-address.invariant.sums next (subst (TimesFit t.1) terms added.0.0)
+          (subst (λ l. TermsFit c.loop-address.sums (times t.1 l)) terms added.0.1));
     }
 
 pub of-requires-clause-rising : goal.of-requires-clause-rising
-of-requires-clause-rising c = subst RiseStrictly (sym c.in_ok-nonzero_terms.ensures) (filter_rises _ (entries_rise c.loop-address.sums))
+of-requires-clause-rising c =
+    subst RiseStrictly (sym c.in_ok-nonzero_terms.ensures)
+    (filter_rises _ (entries_rise c.loop-address.sums))
 
 pub of-requires-clause-nonzero : goal.of-requires-clause-nonzero
-of-requires-clause-nonzero c = subst HaveNoZero (sym c.in_ok-nonzero_terms.ensures) (filter_nonzero _)
+of-requires-clause-nonzero c =
+    subst HaveNoZero (sym c.in_ok-nonzero_terms.ensures) (filter_nonzero _)
 
 pub returns : goal.returns
 unfolding composed value_of
 returns c =
     let e = expression_at c.args.by.now in
     let f = c.args.self.now in
-    let done : drop c.loop-address.address-index (terms_of f) ≡ [] = drop_of_length-le (terms_of f) (subst (λ l. length l ≤ c.loop-address.address-index) c.terms-address-items.ensures.all c.loop-address-test.false) in
-    let sums = substitutes-end e (empty {R = address_cmp}) (terms_of f) c.loop-address.sums (subst (SubstitutesAsAll e (empty {R = address_cmp}) c.loop-address.sums (terms_of f)) done c.loop-address.invariant.sums) in
-    let value = as_all-end f.constant c.loop-address.constant (terms_of f) (λ u. (e u).constant) (subst (λ l. IsAsAll f.constant c.loop-address.constant (terms_of f) l (λ u. (e u).constant)) done c.loop-address.invariant.constant) in (
+    let done : drop c.loop-address.address-index (terms_of f) ≡ [] =
+    drop_of_length-le (terms_of f) (subst (λ l. length l ≤ c.loop-address.address-index)
+    c.terms-address-items.ensures.all c.loop-address-test.false) in
+    let sums = substitutes-end e (empty {R = address_cmp}) (terms_of f) c.loop-address.sums
+    (subst (SubstitutesAsAll e (empty {R = address_cmp}) c.loop-address.sums (terms_of f)) done
+    c.loop-address.invariant.sums) in
+    let value = as_all-end f.constant c.loop-address.constant (terms_of f) (λ u. (e u).constant)
+    (subst (λ l. IsAsAll f.constant c.loop-address.constant (terms_of f) l
+    (λ u. (e u).constant)) done c.loop-address.invariant.constant) in (
       record { constant = value.0; products = sums.0.products; sums = sums.0.sums_fit },
       is_composition address_order e f _ (c.of.ensures
           ∙ ap (λ ts. function_of ts c.loop-address.constant) c.in_ok-nonzero_terms.ensures
-          ∙ function_of-filter (entries c.loop-address.sums) c.loop-address.constant (entries_rise c.loop-address.sums)
-          ∙ (λ i. function_of (entries (sums.1 i)) ((value.1 ∙ value_from-linear f.constant (terms_of f) (λ u. (e u).constant)) i))
+          ∙ function_of-filter (entries c.loop-address.sums) c.loop-address.constant
+          (entries_rise c.loop-address.sums)
+          ∙ (λ i. function_of (entries (sums.1 i))
+          ((value.1 ∙ value_from-linear f.constant (terms_of f) (λ u. (e u).constant)) i))
           ),
     )

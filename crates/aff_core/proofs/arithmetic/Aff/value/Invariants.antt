@@ -6,4 +6,6 @@ use Rattle.aff_core.proofs.arithmetic.Aff.value.Given as goal
 
 -- what is left, from the sum so far, is as all of it is
 abbrev pub invariant-loop-address : goal.invariant-loop-address
-invariant-loop-address l = IsAsAll l.self.constant l.value (terms_of l.self) (drop l.address-index (terms_of l.self)) (number_at l.at)
+invariant-loop-address l =
+    IsAsAll l.self.constant l.value (terms_of l.self) (drop l.address-index (terms_of l.self))
+    (number_at l.at)

@@ -8,5 +8,7 @@ use Rattle.aff_core.proofs.by_address.Point.nonzero_terms.Goals as goal
 
 pub returns : goal.returns
 returns c =
-    let whole : c.in_ok-collect.field-0.items ≡ filter is_nonzero c.self.inside.entries.entries = search rules in
-    whole ∙ ap (filter is_nonzero) (sym (entries_made address_total c.self.inside.entries.entries c.iter.ensures.ordered) ∙ ap entries c.self.view_is)
+    let whole : c.in_ok-collect.field-0.items ≡ filter is_nonzero c.self.inside.entries.entries =
+    search rules in
+    whole ∙ ap (filter is_nonzero) (sym (entries_made address_total c.self.inside.entries.entries
+    c.iter.ensures.ordered) ∙ ap entries c.self.view_is)

@@ -50,7 +50,8 @@ returns-clause-answer g c =
     exact_as c.image_by.result (ImageFits (edge_at c.args.edge) c.args.item.now)
     (IsTrue (image_fits c.args.edge c.args.item.now))
     (λ image. image ≡ image_of (edge_at c.args.edge) c.args.item.now)
-    (λ image. image ≡ image_of (edge_at c.args.edge) c.args.item.now) decides.1 decides.0 (λ _ is. is)
+    (λ image. image ≡ image_of (edge_at c.args.edge) c.args.item.now) decides.1
+    decides.0 (λ _ is. is)
     (subst (λ (e : Edge). ExactWhere c.image_by.result (ImageFits e c.args.item.now)
     (λ image. image ≡ image_of e c.args.item.now)) c.edge_numbered.ensures
     c.image_by.ensures.answer)

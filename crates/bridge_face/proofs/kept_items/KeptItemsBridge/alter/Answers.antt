@@ -8,5 +8,8 @@ use Rattle.bridge_face.proofs.kept_items.KeptItemsBridge.alter.Goals as goal
 
 pub invariant_of-self : goal.invariant_of-self
 invariant_of-self g c =
-    let P : Kept → Type 0 = λ m. IsSomeAnd (finite.get m c.args.item.at) (λ kept. IsItemFor kept.edge c.args.item) in
-    kept_replaced c.self.inside.kept c.replace.new.self c.args.item (subst P (sym (ap (λ s. s.kept) c.self.view_is)) c.requires) c.replace.ensures.new c.self.invariant
+    let P : Kept → Type 0 = λ m. IsSomeAnd (finite.get m c.args.item.at)
+    (λ kept. IsItemFor kept.edge c.args.item) in
+    kept_replaced c.self.inside.kept c.replace.new.self c.args.item
+    (subst P (sym (ap (λ s. s.kept) c.self.view_is)) c.requires) c.replace.ensures.new
+    c.self.invariant

@@ -5,4 +5,6 @@ use Rattle.map_laws.specs.MadeLaws.{get_made}
 use Rattle.bridge_face.proofs.kept_map.KeptMap.get.Goals as goal
 
 pub returns : goal.returns
-returns c = c.get.ensures.value ∙ sym (get_made address_total c.self.inside.items.entries c.args.at.now) ∙ ap (λ m. finite.get m c.args.at.now) c.self.view_is
+returns c =
+    c.get.ensures.value ∙ sym (get_made address_total c.self.inside.items.entries c.args.at.now)
+    ∙ ap (λ m. finite.get m c.args.at.now) c.self.view_is

@@ -13,7 +13,8 @@ child-requires-clause-suits g c =
 
 pub returns-in_err-body : goal.returns-in_err-body
 returns-in_err-body g c =
-    passed_on c.from_residual.result c.in_err-body.field-0.0 (g.R.RowRule.fits c.args.item.now.body) (ImageFits c.args._edge c.args.item.now) _ _ c.from_residual.ensures.1 c.in_err-body.ensures
+    passed_on c.from_residual.result c.in_err-body.field-0.0 (g.R.RowRule.fits c.args.item.now.body)
+    (ImageFits c.args._edge c.args.item.now) _ _ c.from_residual.ensures.1 c.in_err-body.ensures
     (row_fits g.met.R.RowRule.rule c.args._edge c.requires.own c.args.item.now)
 
 pub returns : goal.returns

@@ -16,6 +16,9 @@ returns-clause-answer c =
     let m = c.make_functions.new.functions in
     let f = c.args.func.now in
     exact_alike (expression_at m) (function_in c.args.self.now) f c.substitute.result
-    (All-weaker (λ t. IsTrue (finite.contains_key m t.0)) (λ t. expression_at m t.0 ≡ function_in c.args.self.now t.0)
-    (λ t h. made_for m es t.0 c.in_ok-make_functions.ensures.stand h ∙ ap (λ e. function_in e t.0) c.self.view_is) (terms_of f) c.in_ok-make_functions.ensures.each)
+    (All-weaker (λ t. IsTrue (finite.contains_key m t.0))
+    (λ t. expression_at m t.0 ≡ function_in c.args.self.now t.0)
+    (λ t h. made_for m es t.0 c.in_ok-make_functions.ensures.stand h
+    ∙ ap (λ e. function_in e t.0) c.self.view_is) (terms_of f)
+    c.in_ok-make_functions.ensures.each)
     c.substitute.ensures

@@ -10,4 +10,5 @@ returns c =
     let e = expression_in c.args.self.now in
     let vars = c.args.vars.now in
     ap (λ fs. AffineVec fs c.args.set) c.in_ok-functions.ensures
-    ∙ sym (not_all_kept (list_all is_kept (map e vars)) e vars c.args.set (none_given c.in_ok-vars.field-0 e vars c.in_ok-vars.ensures c.in_default.is))
+    ∙ sym (not_all_kept (list_all is_kept (map e vars)) e vars c.args.set
+    (none_given c.in_ok-vars.field-0 e vars c.in_ok-vars.ensures c.in_default.is))

@@ -7,5 +7,6 @@ use Rattle.bridges_shape.proofs.scalarize.ScalarizeRuleRewriting.back.Goals as g
 pub returns : goal.returns
 returns c = (
   back_fits c.args._kept.now.edge c.requires.own refl c.args._kept.now.item c.args.duals.now,
-  c.in_ok-one_after_another.ensures ∙ sym (back_is rule c.args._kept.now.edge c.requires.own c.args._kept.now.item c.args.duals.now),
+  c.in_ok-one_after_another.ensures ∙ sym (back_is rule c.args._kept.now.edge c.requires.own
+      c.args._kept.now.item c.args.duals.now),
 )

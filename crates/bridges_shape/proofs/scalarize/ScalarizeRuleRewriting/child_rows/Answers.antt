@@ -6,5 +6,10 @@ use Rattle.bridges_shape.proofs.scalarize.ScalarizeRuleRewriting.child_rows.Goal
 
 pub returns : goal.returns
 returns c =
-    ap (record_of 0) (c.component_count.ensures ∙ row_count c.args.kept.now.item.body c.args.kept.now.item (source_is rule c.args.kept.now.edge c.requires.own c.args.kept.now.item c.requires.suits).row)
-    ∙ child_rows_are c.args.kept.now.edge c.args.kept.now.item (rows_at c.args.kept.now.item (made c.args.kept.now.item.body)) (image_is rule c.args.kept.now.edge c.requires.own c.args.kept.now.item)
+    ap (record_of 0) (c.component_count.ensures
+    ∙ row_count c.args.kept.now.item.body c.args.kept.now.item
+    (source_is rule c.args.kept.now.edge c.requires.own c.args.kept.now.item
+    c.requires.suits).row)
+    ∙ child_rows_are c.args.kept.now.edge c.args.kept.now.item
+    (rows_at c.args.kept.now.item (made c.args.kept.now.item.body))
+    (image_is rule c.args.kept.now.edge c.requires.own c.args.kept.now.item)

@@ -12,5 +12,6 @@ parts-requires-clause-row c =
 pub returns : goal.returns
 returns c = (
   image_fits c.args._edge c.requires.own refl c.args.item.now,
-  c.rows_image.ensures ∙ ap rows_alone c.in_ok-rows.ensures ∙ sym (image_is rule c.args._edge c.requires.own c.args.item.now),
+  c.rows_image.ensures ∙ ap rows_alone c.in_ok-rows.ensures
+      ∙ sym (image_is rule c.args._edge c.requires.own c.args.item.now),
 )

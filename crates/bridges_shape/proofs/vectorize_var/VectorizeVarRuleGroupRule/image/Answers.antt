@@ -13,9 +13,12 @@ group_set-set-requires c = c.requires.suits.group
 
 pub returns : goal.returns
 returns c =
-    IfOk-weaker c.group_image.result (λ image. image ≡ group_by (c.child_group.result ∷ []) c.in_ok-exprs.exprs) (λ image. image ≡ vectorize_var c.args.group.now)
-    (λ image e. e ∙ image_made c.args.group.now c.group_set-set.result.now c.cone.result c.number.result c.in_ok-vars.vars c.in_ok-exprs.exprs c.child_group.result
+    IfOk-weaker c.group_image.result (λ image. image ≡ group_by (c.child_group.result ∷ [])
+    c.in_ok-exprs.exprs) (λ image. image ≡ vectorize_var c.args.group.now)
+    (λ image e. e ∙ image_made c.args.group.now c.group_set-set.result.now c.cone.result
+    c.number.result c.in_ok-vars.vars c.in_ok-exprs.exprs c.child_group.result
     c.group_set-set.ensures.set c.cone.ensures c.number.ensures c.in_ok-vars.ensures
-    (c.in_ok-exprs.ensures ∙ ap (λ at. Bridged (raised (variable at) c.number.result) ∷ []) (c.child-2.ensures ∙ ap (λ at. child_of at 0) c.child.ensures))
+    (c.in_ok-exprs.ensures ∙ ap (λ at. Bridged (raised (variable at) c.number.result) ∷ [])
+    (c.child-2.ensures ∙ ap (λ at. child_of at 0) c.child.ensures))
     c.child_group.ensures)
     c.group_image.ensures

@@ -5,4 +5,5 @@ use Rattle.bridges_slack.proofs.obj_slack.ObjSlackRuleRewriting.back.Goals as go
 
 pub unreachable-requires : goal.unreachable-requires
 unreachable-requires c =
-    true≢false (sym (read (source_is rule c.args._kept.now.edge c.requires.own c.args._kept.now.item c.requires.suits).objective).source ∙ c.requires.duals.no_objective)
+    true≢false (sym (read (source_is rule c.args._kept.now.edge c.requires.own c.args._kept.now.item
+    c.requires.suits).objective).source ∙ c.requires.duals.no_objective)

@@ -18,22 +18,30 @@ rest-requires-clause-cone c = c.requires.suits.cone
 pub rest-requires-clause-count : goal.rest-requires-clause-count
 rest-requires-clause-count c =
     sym (ap length (c.as_slice.ensures ∙ c.in_ok-vars.ensures)
-    ∙ length-components (child_of c.args.item.now.at 0) c.component_count-count.result ∙ c.component_count-count.ensures)
+    ∙ length-components (child_of c.args.item.now.at 0) c.component_count-count.result
+    ∙ c.component_count-count.ensures)
 
 pub rest-requires-clause-absent : goal.rest-requires-clause-absent
 rest-requires-clause-absent c =
     subst (All (λ v. Miss (functions_of c.args.item.now.body) v))
-    (sym (c.as_slice.ensures ∙ c.in_ok-vars.ensures ∙ ap (inner c.args.item.now) c.component_count-count.ensures))
+    (sym (c.as_slice.ensures ∙ c.in_ok-vars.ensures
+    ∙ ap (inner c.args.item.now) c.component_count-count.ensures))
     (absent c.args.item.now c.requires.valid c.requires.suits.cone)
 
 pub returns : goal.returns
 returns c =
-    let vars_are = c.in_ok-vars.ensures ∙ ap (inner c.args.item.now) c.component_count-count.ensures in
-    IfOk-weaker c.group_row_image.result (λ image. image ≡ group_and_row c.args.item.now c.child_group-group.result c.new.result c.in_ok-row.row) (λ image. image ≡ vector_slack c.args.item.now)
-    (λ image e. group_and_row_made c.args.item.now c.in_ok-set.set (set_of c.args.item.now.body) c.in_ok-vars.vars (inner c.args.item.now (size c.args.item.now)) c.child_group-group.result c.new.result _ c.in_ok-row.row _ image
+    let vars_are = c.in_ok-vars.ensures ∙ ap (inner c.args.item.now)
+    c.component_count-count.ensures in
+    IfOk-weaker c.group_row_image.result (λ image. image ≡ group_and_row c.args.item.now
+    c.child_group-group.result c.new.result c.in_ok-row.row)
+    (λ image. image ≡ vector_slack c.args.item.now)
+    (λ image e. group_and_row_made c.args.item.now c.in_ok-set.set (set_of c.args.item.now.body)
+    c.in_ok-vars.vars (inner c.args.item.now (size c.args.item.now)) c.child_group-group.result
+    c.new.result _ c.in_ok-row.row _ image
     c.in_ok-set.ensures vars_are c.new.ensures
     (c.in_ok-row.ensures
-    ∙ ap₂ (λ vs n. AffineVec (differences (functions_of c.args.item.now.body) (variables vs)) (Zeros n))
+    ∙ ap₂ (λ vs n. AffineVec (differences (functions_of c.args.item.now.body) (variables vs))
+    (Zeros n))
     (c.as_slice.ensures ∙ vars_are) c.component_count-count.ensures)
     c.child_group-group.ensures e)
     c.group_row_image.ensures

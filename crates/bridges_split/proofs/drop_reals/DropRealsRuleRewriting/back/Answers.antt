@@ -8,5 +8,7 @@ use Rattle.bridges_split.proofs.drop_reals.DropRealsRuleRewriting.back.Goals as 
 pub returns : goal.returns
 returns c = (
   back_fits c.args.kept.now.edge c.requires.own refl c.args.kept.now.item c.args._duals.now,
-  c.in_ok-zeros.ensures ∙ ap (λ n. replicate n zero_ℚ) c.component_count-count.ensures ∙ sym (back_is rule c.args.kept.now.edge c.requires.own c.args.kept.now.item c.args._duals.now),
+  c.in_ok-zeros.ensures ∙ ap (λ n. replicate n zero_ℚ) c.component_count-count.ensures
+      ∙ sym (back_is rule c.args.kept.now.edge c.requires.own c.args.kept.now.item
+      c.args._duals.now),
 )

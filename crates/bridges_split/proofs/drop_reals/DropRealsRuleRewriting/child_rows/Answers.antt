@@ -6,4 +6,5 @@ use Rattle.bridges_split.proofs.drop_reals.DropRealsRuleRewriting.child_rows.Goa
 
 pub returns : goal.returns
 returns c =
-    child_rows_are c.args._kept.now.edge c.args._kept.now.item (rows_at c.args._kept.now.item []) (image_is rule c.args._kept.now.edge c.requires.own c.args._kept.now.item)
+    child_rows_are c.args._kept.now.edge c.args._kept.now.item (rows_at c.args._kept.now.item [])
+    (image_is rule c.args._kept.now.edge c.requires.own c.args._kept.now.item)

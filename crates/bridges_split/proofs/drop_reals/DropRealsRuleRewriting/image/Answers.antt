@@ -8,5 +8,6 @@ use Rattle.bridges_split.proofs.drop_reals.DropRealsRuleRewriting.image.Goals as
 pub returns : goal.returns
 returns c = (
   image_fits c.args._edge c.requires.own refl c.args._item.now,
-  c.rows_image.ensures ∙ ap rows_alone c.new.ensures.items ∙ sym (image_is rule c.args._edge c.requires.own c.args._item.now),
+  c.rows_image.ensures ∙ ap rows_alone c.new.ensures.items
+      ∙ sym (image_is rule c.args._edge c.requires.own c.args._item.now),
 )

@@ -8,8 +8,12 @@ use Rattle.bridges_split.proofs.free_var.FreeVarRuleGroupRule.image.Goals as goa
 
 pub returns : goal.returns
 returns c =
-    IfOk-weaker c.group_image.result (λ image. image ≡ group_by (c.child_group.result ∷ []) c.in_ok-exprs.exprs) (λ image. image ≡ free_var c.args.group.now)
-    (λ image e. e ∙ image_made c.args.group.now c.component_count-count.result (c.component_count-count.result + c.component_count-count.result) c.in_ok-vars.vars c.in_ok-exprs.exprs c.child_group.result
+    IfOk-weaker c.group_image.result (λ image. image ≡ group_by (c.child_group.result ∷ [])
+    c.in_ok-exprs.exprs) (λ image. image ≡ free_var c.args.group.now)
+    (λ image e. e ∙ image_made c.args.group.now c.component_count-count.result
+    (c.component_count-count.result + c.component_count-count.result) c.in_ok-vars.vars
+    c.in_ok-exprs.exprs c.child_group.result
     c.component_count-count.ensures refl c.in_ok-vars.ensures
-    (c.in_ok-exprs.ensures ∙ ap (λ at. map (halved at c.component_count-count.result) (range_with_len 0 c.component_count-count.result)) c.child.ensures) c.child_group.ensures)
+    (c.in_ok-exprs.ensures ∙ ap (λ at. map (halved at c.component_count-count.result)
+    (range_with_len 0 c.component_count-count.result)) c.child.ensures) c.child_group.ensures)
     c.group_image.ensures

@@ -6,4 +6,7 @@ use Rattle.bridges_split.proofs.split_set.SplitSetRuleRewriting.child_rows.Goals
 
 pub returns : goal.returns
 returns c =
-    child_rows_are c.args._kept.now.edge c.args._kept.now.item (rows_at c.args._kept.now.item (lower c.args._kept.now.item.body ∷ upper c.args._kept.now.item.body ∷ [])) (image_is rule c.args._kept.now.edge c.requires.own c.args._kept.now.item)
+    child_rows_are c.args._kept.now.edge c.args._kept.now.item
+    (rows_at c.args._kept.now.item (lower c.args._kept.now.item.body ∷ upper
+    c.args._kept.now.item.body ∷ [])) (image_is rule c.args._kept.now.edge c.requires.own
+    c.args._kept.now.item)

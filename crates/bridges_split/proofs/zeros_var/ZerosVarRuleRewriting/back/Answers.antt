@@ -5,4 +5,5 @@ use Rattle.bridges_split.proofs.zeros_var.ZerosVarRuleRewriting.back.Goals as go
 
 pub unreachable-requires : goal.unreachable-requires
 unreachable-requires c =
-    true≢false (sym (source_is rule c.args._kept.now.edge c.requires.own c.args._kept.now.item c.requires.suits).group ∙ c.requires.duals.no_group)
+    true≢false (sym (source_is rule c.args._kept.now.edge c.requires.own c.args._kept.now.item
+    c.requires.suits).group ∙ c.requires.duals.no_group)

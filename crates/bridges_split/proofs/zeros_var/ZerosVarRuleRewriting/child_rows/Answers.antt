@@ -5,4 +5,5 @@ use Rattle.bridges_split.proofs.zeros_var.ZerosVarRuleRewriting.child_rows.Goals
 
 pub returns : goal.returns
 returns c =
-    child_rows_are c.args._kept.now.edge c.args._kept.now.item (zeros_var c.args._kept.now.item) (image_is rule c.args._kept.now.edge c.requires.own c.args._kept.now.item)
+    child_rows_are c.args._kept.now.edge c.args._kept.now.item (zeros_var c.args._kept.now.item)
+    (image_is rule c.args._kept.now.edge c.requires.own c.args._kept.now.item)

@@ -10,6 +10,7 @@ returns c = (
   image_fits c.args._edge c.requires.own refl c.args.item.now,
   ap₂ (λ gs rs. image_of_parts gs c.in_ok-exprs.exprs rs) c.new.ensures c.new-2.ensures
       ∙ ap (λ es. image_of_parts [] es [])
-      (c.in_ok-exprs.ensures ∙ ap (λ n. replicate n none_of) c.component_count-count.ensures ∙ sym (nothings_are (functions_of c.args.item.now.body)))
+      (c.in_ok-exprs.ensures ∙ ap (λ n. replicate n none_of) c.component_count-count.ensures
+      ∙ sym (nothings_are (functions_of c.args.item.now.body)))
       ∙ sym (image_is rule c.args._edge c.requires.own c.args.item.now),
 )

@@ -16,7 +16,8 @@ returns-in-Value c =
     let x = numbers_in c.args.at.now in
     subst (λ k. ExactWhere c.plus_terms.result (EvaluationFits (one_of k) f x)
     (λ q. q ≡ evaluated (one_of k) f x)) (sym c.in-Value.is)
-    (read_from c.plus_terms.result one_ℚ c.constant.result f c.terms.result.now x c.terms.ensures.all
+    (read_from c.plus_terms.result one_ℚ c.constant.result f c.terms.result.now x
+    c.terms.ensures.all
     (c.constant.ensures ∙ sym (one-*ℚ f.constant)) c.plus_terms.ensures)
 
 pub returns-in-Slope : goal.returns-in-Slope

@@ -12,11 +12,13 @@ returns-clause-steps c =
     elim c.if-piece-text.branch [
       | then-piece-text w ↦
           text
-          ∙ cut_more (λ b. b == separator) c.in_ok-text.text.now piece c.parted_at.result.1.now c.parted_at.ensures.before c.parted_at.ensures.after (omega arith)
+          ∙ cut_more (λ b. b == separator) c.in_ok-text.text.now piece c.parted_at.result.1.now
+          c.parted_at.ensures.before c.parted_at.ensures.after (omega arith)
           ∙ ap (λ rest. piece ∷ pieces_left separator rest) (sym w.self-is)
       | else-piece-text w ↦
           text
-          ∙ cut_last (λ b. b == separator) c.in_ok-text.text.now piece c.parted_at.result.1.now c.parted_at.ensures.before c.parted_at.ensures.after (omega arith)
+          ∙ cut_last (λ b. b == separator) c.in_ok-text.text.now piece c.parted_at.result.1.now
+          c.parted_at.ensures.before c.parted_at.ensures.after (omega arith)
           ∙ ap (λ rest. piece ∷ pieces_left separator rest) (sym w.self-is)
     ]
 

@@ -9,30 +9,77 @@ use Rattle.lazy_bridge.proofs.lazy.LazyOver.bridge.Goals as goal
 
 pub put-requires : goal.put-requires
 put-requires g c =
-    let was : Owned = record { boxes = c.self.inside.boxes; solver = c.self.inside.solver; map = c.self.inside.map; objective_at = c.self.inside.objective_at } in
-    can_be_put was (families_of c.plan_model.new.rewriter.states) c.args.model.now.model c.in-Ok.planned
-    c.table-sound.ensures.sound c.self.invariant.0 c.objective-valid.ensures.valid c.in-Ok.ensures.answer
+    let was : Owned = record {
+      boxes = c.self.inside.boxes;
+      solver = c.self.inside.solver;
+      map = c.self.inside.map;
+      objective_at = c.self.inside.objective_at;
+    } in
+    can_be_put was (families_of c.plan_model.new.rewriter.states) c.args.model.now.model
+    c.in-Ok.planned
+    c.table-sound.ensures.sound c.self.invariant.0 c.objective-valid.ensures.valid
+    c.in-Ok.ensures.answer
     (ap (λ (m : Means). m.setting.families) c.plan_model.ensures.means)
 
 pub returns-in_ok-put-in-Ok-clause-bridged : goal.returns-in_ok-put-in-Ok-clause-bridged
 returns-in_ok-put-in-Ok-clause-bridged g c =
-    let was : Owned = record { boxes = c.self.inside.boxes; solver = c.self.inside.solver; map = c.self.inside.map; objective_at = c.self.inside.objective_at } in
-    let tried : Owned = record { boxes = c.plan_model.new.rewriter; solver = c.self.inside.solver; map = c.self.inside.map; objective_at = c.self.inside.objective_at } in
-    let same : IsTried was tried = record { means = c.plan_model.ensures.means; solver = refl; map = refl; objective_at = refl } in
+    let was : Owned = record {
+      boxes = c.self.inside.boxes;
+      solver = c.self.inside.solver;
+      map = c.self.inside.map;
+      objective_at = c.self.inside.objective_at;
+    } in
+    let tried : Owned = record {
+      boxes = c.plan_model.new.rewriter;
+      solver = c.self.inside.solver;
+      map = c.self.inside.map;
+      objective_at = c.self.inside.objective_at;
+    } in
+    let same : IsTried was tried = record {
+      means = c.plan_model.ensures.means;
+      solver = refl;
+      map = refl;
+      objective_at = refl;
+    } in
     let put = c.in_ok-put-in-Ok.ensures in
-    subst (λ (o : Owned). IsBridgedBy o o.boxes.table c.args.model.now.model (Ok c.in_ok-put-in-Ok.field-0) c.put.new.self) c.self.view_is
-    (bridged was tried c.put.new.self c.args.model.now.model c.in-Ok.planned c.in_ok-put-in-Ok.field-0 c.in-Ok.ensures.answer same put.ok.0 put.setting put.ok.1)
+    subst (λ (o : Owned). IsBridgedBy o o.boxes.table c.args.model.now.model
+    (Ok c.in_ok-put-in-Ok.field-0) c.put.new.self) c.self.view_is
+    (bridged was tried c.put.new.self c.args.model.now.model c.in-Ok.planned
+    c.in_ok-put-in-Ok.field-0 c.in-Ok.ensures.answer same put.ok.0 put.setting put.ok.1)
 
 pub returns-in_default-clause-bridged : goal.returns-in_default-clause-bridged
 returns-in_default-clause-bridged g c =
-    let was : Owned = record { boxes = c.self.inside.boxes; solver = c.self.inside.solver; map = c.self.inside.map; objective_at = c.self.inside.objective_at } in
-    let tried : Owned = record { boxes = c.plan_model.new.rewriter; solver = c.self.inside.solver; map = c.self.inside.map; objective_at = c.self.inside.objective_at } in
-    let same : IsTried was tried = record { means = c.plan_model.ensures.means; solver = refl; map = refl; objective_at = refl } in
-    subst (λ (o : Owned). IsBridgedBy o o.boxes.table c.args.model.now.model (Err c.in-Err.fault) tried) c.self.view_is
-    (refused was tried c.args.model.now.model c.in-Err.fault c.in_default.not-Memory c.in-Err.ensures.answer same)
+    let was : Owned = record {
+      boxes = c.self.inside.boxes;
+      solver = c.self.inside.solver;
+      map = c.self.inside.map;
+      objective_at = c.self.inside.objective_at;
+    } in
+    let tried : Owned = record {
+      boxes = c.plan_model.new.rewriter;
+      solver = c.self.inside.solver;
+      map = c.self.inside.map;
+      objective_at = c.self.inside.objective_at;
+    } in
+    let same : IsTried was tried = record {
+      means = c.plan_model.ensures.means;
+      solver = refl;
+      map = refl;
+      objective_at = refl;
+    } in
+    subst (λ (o : Owned). IsBridgedBy o o.boxes.table c.args.model.now.model (Err c.in-Err.fault)
+    tried) c.self.view_is
+    (refused was tried c.args.model.now.model c.in-Err.fault c.in_default.not-Memory
+    c.in-Err.ensures.answer same)
 
 pub returns-in_default-clause-small : goal.returns-in_default-clause-small
 returns-in_default-clause-small g c =
-    let was : Owned = record { boxes = c.self.inside.boxes; solver = c.self.inside.solver; map = c.self.inside.map; objective_at = c.self.inside.objective_at } in
-    no_overflow was c.args.model.now.model c.in-Err.fault (Err c.in-Err.fault) refl c.table-sound.ensures.sound
+    let was : Owned = record {
+      boxes = c.self.inside.boxes;
+      solver = c.self.inside.solver;
+      map = c.self.inside.map;
+      objective_at = c.self.inside.objective_at;
+    } in
+    no_overflow was c.args.model.now.model c.in-Err.fault (Err c.in-Err.fault) refl
+    c.table-sound.ensures.sound
     c.objective-valid.ensures.valid c.in-Err.ensures.answer

@@ -12,5 +12,8 @@ invariant_of-self g c = (
 
 pub returns-clause-setting : goal.returns-clause-setting
 returns-clause-setting g c =
-    (λ i. record { table = c.let_all_go.ensures.table i; families = c.let_all_go.ensures.families i })
+    (λ i. record {
+      table = c.let_all_go.ensures.table i;
+      families = c.let_all_go.ensures.families i;
+    })
     ∙ ap setting_in c.self.view_is

@@ -18,5 +18,6 @@ returns-clause-nothing g c = record {
   vars = c.requires.vars;
   rows = c.requires.rows;
   exprs = c.requires.exprs;
-  kept = subst (All (λ (s : State). s.kept ≡ finite.empty)) (sym c.new.ensures.states) c.requires.kept;
+  kept = subst (All (λ (s : State). s.kept ≡ finite.empty)) (sym c.new.ensures.states)
+      c.requires.kept;
 }

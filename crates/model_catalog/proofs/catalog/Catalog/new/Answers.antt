@@ -8,7 +8,12 @@ use Rattle.model_catalog.proofs.catalog.Catalog.new.Goals as goal
 pub invariant_of-result : goal.invariant_of-result
 invariant_of-result c = record {
   keeps = kept_alike empty_model _ [] _ map.empty _ map.empty _ 0
-      (λ i. record { groups = c.new.ensures.items i; rows = c.new-2.ensures.items i; objective = empty_model.objective; next = empty_model.next })
+      (λ i. record {
+        groups = c.new.ensures.items i;
+        rows = c.new-2.ensures.items i;
+        objective = empty_model.objective;
+        next = empty_model.next;
+      })
       c.new-4.ensures.items c.new-5.ensures c.new-6.ensures empty_kept;
   aside = c.new-3.ensures.items;
 }

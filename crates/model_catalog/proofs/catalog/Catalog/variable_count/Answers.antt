@@ -5,4 +5,9 @@ use Rattle.model_catalog.proofs.catalog.Catalog.variable_count.Goals as goal
 
 pub returns : goal.returns
 returns c =
-    rw (← c.self.view_is) (omega (arith, c.self.inside.kept.ok.0, kept_length (model_of c.self.inside) c.self.inside.kept.items c.self.invariant.keeps.consistent c.self.invariant.keeps.index))
+    rw (← c.self.view_is) (omega (
+      arith,
+      c.self.inside.kept.ok.0,
+      kept_length (model_of c.self.inside) c.self.inside.kept.items
+          c.self.invariant.keeps.consistent c.self.invariant.keeps.index,
+    ))

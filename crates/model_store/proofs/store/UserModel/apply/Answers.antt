@@ -14,25 +14,42 @@ pub park-undo-requires-clause-consistent : goal.park-undo-requires-clause-consis
 park-undo-requires-clause-consistent c =
     let model = c.self.inside.catalog.model in
     let plan = c.in_ok-plan.plan in
-    subst IsConsistent (sym (ap (exchanged plan.exchange) c.reserve.ensures.model ∙ c.in_ok-plan.ensures.leads.after)) (kept_consistent model c.args.edit c.plan_of-planned.ensures.consistent c.in_ok-plan.ensures.ok)
+    subst IsConsistent (sym (ap (exchanged plan.exchange) c.reserve.ensures.model
+    ∙ c.in_ok-plan.ensures.leads.after)) (kept_consistent model c.args.edit
+    c.plan_of-planned.ensures.consistent c.in_ok-plan.ensures.ok)
 
 pub park-undo-requires-clause-within : goal.park-undo-requires-clause-within
 park-undo-requires-clause-within c =
     let model = c.self.inside.catalog.model in
     let plan = c.in_ok-plan.plan in
-    subst IsWithinLimits (sym (ap (exchanged plan.exchange) c.reserve.ensures.model ∙ c.in_ok-plan.ensures.leads.after)) (kept_within model c.args.edit c.plan_of-planned.ensures.consistent c.plan_of-planned.ensures.within c.in_ok-plan.ensures.ok)
+    subst IsWithinLimits (sym (ap (exchanged plan.exchange) c.reserve.ensures.model
+    ∙ c.in_ok-plan.ensures.leads.after)) (kept_within model c.args.edit
+    c.plan_of-planned.ensures.consistent c.plan_of-planned.ensures.within
+    c.in_ok-plan.ensures.ok)
 
 pub returns-clause-undo : goal.returns-clause-undo
 returns-clause-undo c =
     let model = c.self.inside.catalog.model in
-    subst (λ s. IsUndo s.model c.park-undo.new.catalog.model c.park-undo.result) c.self.view_is (undo_left model (edited model c.args.edit) c.reserve.new.catalog.model c.park-undo.new.catalog.model c.in_ok-plan.plan c.park-undo.result c.in_ok-plan.ensures.leads c.reserve.ensures.model c.park-undo.ensures.model c.park-undo.ensures.undo)
+    subst (λ s. IsUndo s.model c.park-undo.new.catalog.model c.park-undo.result) c.self.view_is
+    (undo_left model (edited model c.args.edit) c.reserve.new.catalog.model
+    c.park-undo.new.catalog.model c.in_ok-plan.plan c.park-undo.result
+    c.in_ok-plan.ensures.leads c.reserve.ensures.model c.park-undo.ensures.model
+    c.park-undo.ensures.undo)
 
 pub returns-clause-valid : goal.returns-clause-valid
 returns-clause-valid c =
     let model = c.self.inside.catalog.model in
     let plan = c.in_ok-plan.plan in
-    let valid : IsValid model = record { consistent = c.plan_of-planned.ensures.consistent; within = c.plan_of-planned.ensures.within; parts = c.self.invariant.parts } in
-    subst IsValid (sym (c.park-undo.ensures.model ∙ (ap (exchanged plan.exchange) c.reserve.ensures.model ∙ c.in_ok-plan.ensures.leads.after))) (kept_valid model c.args.edit valid c.in_ok-plan.ensures.ok)
+    let valid : IsValid model = record {
+      consistent = c.plan_of-planned.ensures.consistent;
+      within = c.plan_of-planned.ensures.within;
+      parts = c.self.invariant.parts;
+    } in
+    subst IsValid (sym (c.park-undo.ensures.model
+    ∙ (ap (exchanged plan.exchange) c.reserve.ensures.model
+    ∙ c.in_ok-plan.ensures.leads.after))) (kept_valid model c.args.edit valid
+    c.in_ok-plan.ensures.ok)
 
 pub invariant_of-self-2 : goal.invariant_of-self-2
-invariant_of-self-2 c = record { room = c.park-undo.ensures.parked; parts = (returns-clause-valid c).parts }
+invariant_of-self-2 c =
+    record { room = c.park-undo.ensures.parked; parts = (returns-clause-valid c).parts }

@@ -5,11 +5,16 @@ use Rattle.model_store.proofs.store.UserModel.settle.Goals as goal
 
 pub invariant_of-self : goal.invariant_of-self
 invariant_of-self c =
-    let parked : IsParked (c.take_last.new.parked.items ++ c.take_last.result ∷ []) c.self.inside.names c.self.inside.catalog.room = subst (λ ps. IsParked ps c.self.inside.names c.self.inside.catalog.room) c.take_last.ensures.last c.self.invariant.room in
+    let parked : IsParked (c.take_last.new.parked.items ++ c.take_last.result ∷ [])
+    c.self.inside.names c.self.inside.catalog.room = subst (λ ps. IsParked ps
+    c.self.inside.names c.self.inside.catalog.room) c.take_last.ensures.last
+    c.self.invariant.room in
     record {
-      room = parked_settled c.take_last.new.parked.items c.take_last.result c.self.inside.names c.take_last.new.names c.self.inside.catalog.room parked c.take_last.ensures.counted;
+      room = parked_settled c.take_last.new.parked.items c.take_last.result c.self.inside.names
+          c.take_last.new.names c.self.inside.catalog.room parked c.take_last.ensures.counted;
       parts = c.self.invariant.parts;
     }
 
 pub returns-clause-parked : goal.returns-clause-parked
-returns-clause-parked c = (c.take_last.result, sym (ap (λ s. s.parked) c.self.view_is) ∙ c.take_last.ensures.last)
+returns-clause-parked c =
+    (c.take_last.result, sym (ap (λ s. s.parked) c.self.view_is) ∙ c.take_last.ensures.last)

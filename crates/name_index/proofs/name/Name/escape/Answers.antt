@@ -24,10 +24,12 @@ pub returns-clause-reads_back : goal.returns-clause-reads_back
 returns-clause-reads_back c = name_of_token-escaped _ c.text.ensures.is_name
 
 pub returns-in_err-append_to-clause-graphic : goal.returns-in_err-append_to-clause-graphic
-returns-in_err-append_to-clause-graphic c = graphic-escaped _ (bytes_from_name _ c.text.ensures.is_name)
+returns-in_err-append_to-clause-graphic c =
+    graphic-escaped _ (bytes_from_name _ c.text.ensures.is_name)
 
 pub returns-in_err-append_to-clause-decodes : goal.returns-in_err-append_to-clause-decodes
-returns-in_err-append_to-clause-decodes c = percent_decoded-escaped _ (bytes_from_name _ c.text.ensures.is_name)
+returns-in_err-append_to-clause-decodes c =
+    percent_decoded-escaped _ (bytes_from_name _ c.text.ensures.is_name)
 
 pub returns-in_err-append_to-clause-reads_back : goal.returns-in_err-append_to-clause-reads_back
 returns-in_err-append_to-clause-reads_back c = name_of_token-escaped _ c.text.ensures.is_name

@@ -9,5 +9,8 @@ returns-then-over c =
     c.cmp_numerators.ensures
     ∙ ap₂ int_cmp
     (to_z-of_z {w = w128} (record { sfits = c.num.type_inv }) ∙ c.num.ensures.value)
-    (to_z-of_z {w = w128} (record { sfits = c.num-then-over.type_inv }) ∙ c.num-then-over.ensures.value)
-    ∙ cmp_of_numerators c.args.self.now c.args.other.now (sym c.over.ensures.value ∙ c.if-over.true ∙ c.over-2.ensures.value)
+    (to_z-of_z {w = w128} (record {
+      sfits = c.num-then-over.type_inv;
+    }) ∙ c.num-then-over.ensures.value)
+    ∙ cmp_of_numerators c.args.self.now c.args.other.now (sym c.over.ensures.value ∙ c.if-over.true
+    ∙ c.over-2.ensures.value)

@@ -5,11 +5,15 @@ use Rattle.ratio_core.proofs.fraction.Ratio.add_short.Goals as goal
 
 pub sum_of_shorts-requires-clause-left : goal.sum_of_shorts-requires-clause-left
 sum_of_shorts-requires-clause-left c =
-    short_along (to_z w128 (of_z w128 c.num.result)) c.args.self.now.num (to_z-of_z {w = w128} (record { sfits = c.num.type_inv }) ∙ c.num.ensures.value) c.requires.left_short
+    short_along (to_z w128 (of_z w128 c.num.result)) c.args.self.now.num
+    (to_z-of_z {w = w128} (record { sfits = c.num.type_inv }) ∙ c.num.ensures.value)
+    c.requires.left_short
 
 pub sum_of_shorts-requires-clause-right : goal.sum_of_shorts-requires-clause-right
 sum_of_shorts-requires-clause-right c =
-    short_along (to_z w128 (of_z w128 c.num-2.result)) c.args.other.now.num (to_z-of_z {w = w128} (record { sfits = c.num-2.type_inv }) ∙ c.num-2.ensures.value) c.requires.right_short
+    short_along (to_z w128 (of_z w128 c.num-2.result)) c.args.other.now.num
+    (to_z-of_z {w = w128} (record { sfits = c.num-2.type_inv }) ∙ c.num-2.ensures.value)
+    c.requires.right_short
 
 pub keep-requires : goal.keep-requires
 keep-requires c =

@@ -32,10 +32,12 @@ returns-then-size-gt-GREATEST_PART-clause-exact c =
     c.args.self.now c.args.other.now c.over-left_den.result c.over-right_den.result
     c.greatest_common_divisor-common.result c.quotient-left_over.result c.quotient-right_over.result
     c.size.result c.size-2.result c.over-left_den.ensures.value c.over-right_den.ensures.value
-    c.greatest_common_divisor-common.ensures.value c.quotient-left_over.ensures c.quotient-right_over.ensures
+    c.greatest_common_divisor-common.ensures.value c.quotient-left_over.ensures
+    c.quotient-right_over.ensures
     c.size.ensures.value c.size-2.ensures.value
     c.is_negative.result c.is_negative-2.result c.signed_sum-is_negative.result.0 c.in_ok-left.left
-    c.in_ok-right.right c.signed_sum-is_negative.result.1 c.is_negative.ensures c.is_negative-2.ensures
+    c.in_ok-right.right c.signed_sum-is_negative.result.1 c.is_negative.ensures
+    c.is_negative-2.ensures
     c.in_ok-left.ensures.exact.1 c.in_ok-right.ensures.exact.1 c.signed_sum-is_negative.ensures
     (omega arith)
 
@@ -46,17 +48,21 @@ returns-in_err-den-clause-exact c =
     c.args.self.now c.args.other.now c.over-left_den.result c.over-right_den.result
     c.greatest_common_divisor-common.result c.quotient-left_over.result c.quotient-right_over.result
     c.size.result c.size-2.result c.over-left_den.ensures.value c.over-right_den.ensures.value
-    c.greatest_common_divisor-common.ensures.value c.quotient-left_over.ensures c.quotient-right_over.ensures
+    c.greatest_common_divisor-common.ensures.value c.quotient-left_over.ensures
+    c.quotient-right_over.ensures
     c.size.ensures.value c.size-2.ensures.value
     c.is_negative.result c.is_negative-2.result c.signed_sum-is_negative.result.0 c.in_ok-left.left
-    c.in_ok-right.right c.signed_sum-is_negative.result.1 c.is_negative.ensures c.is_negative-2.ensures
+    c.in_ok-right.right c.signed_sum-is_negative.result.1 c.is_negative.ensures
+    c.is_negative-2.ensures
     c.in_ok-left.ensures.exact.1 c.in_ok-right.ensures.exact.1 c.signed_sum-is_negative.ensures
     c.last_wide_divisor-last.result c.last_wide_divisor-last.ensures.value
-    (subst (λ k. ¬ (c.quotient-left_over.result * k < 2 ^ 127)) c.quotient.ensures c.in_err-den.ensures.exact))
+    (subst (λ k. ¬ (c.quotient-left_over.result * k < 2 ^ 127)) c.quotient.ensures
+    c.in_err-den.ensures.exact))
 
 pub store-requires : goal.store-requires
 store-requires c =
-    subst (λ n. IsStored (signed c.signed_sum-is_negative.result.0 n) c.in_ok-den.den) (sym c.quotient-2.ensures)
+    subst (λ n. IsStored (signed c.signed_sum-is_negative.result.0 n) c.in_ok-den.den)
+    (sym c.quotient-2.ensures)
     (made_stored
     c.args.self.now c.args.other.now c.over-left_den.result c.over-right_den.result
     c.greatest_common_divisor-common.result c.quotient-left_over.result c.quotient-right_over.result
@@ -64,7 +70,8 @@ store-requires c =
     c.greatest_common_divisor-common.ensures.value c.quotient-left_over.ensures
     c.quotient-right_over.ensures c.size.ensures.value c.size-2.ensures.value
     c.is_negative.result c.is_negative-2.result c.signed_sum-is_negative.result.0 c.in_ok-left.left
-    c.in_ok-right.right c.signed_sum-is_negative.result.1 c.is_negative.ensures c.is_negative-2.ensures
+    c.in_ok-right.right c.signed_sum-is_negative.result.1 c.is_negative.ensures
+    c.is_negative-2.ensures
     c.in_ok-left.ensures.exact.1 c.in_ok-right.ensures.exact.1 c.signed_sum-is_negative.ensures
     c.last_wide_divisor-last.result c.last_wide_divisor-last.ensures.value
     c.in_ok-den.den
@@ -75,27 +82,39 @@ pub returns-clause-exact : goal.returns-clause-exact
 returns-clause-exact c = (
   made_fits
       c.args.self.now c.args.other.now c.over-left_den.result c.over-right_den.result
-      c.greatest_common_divisor-common.result c.quotient-left_over.result c.quotient-right_over.result
+      c.greatest_common_divisor-common.result c.quotient-left_over.result
+      c.quotient-right_over.result
       c.size.result c.size-2.result c.over-left_den.ensures.value c.over-right_den.ensures.value
-      c.greatest_common_divisor-common.ensures.value c.quotient-left_over.ensures c.quotient-right_over.ensures
+      c.greatest_common_divisor-common.ensures.value c.quotient-left_over.ensures
+      c.quotient-right_over.ensures
       c.size.ensures.value c.size-2.ensures.value
-      c.is_negative.result c.is_negative-2.result c.signed_sum-is_negative.result.0 c.in_ok-left.left
-      c.in_ok-right.right c.signed_sum-is_negative.result.1 c.is_negative.ensures c.is_negative-2.ensures
+      c.is_negative.result c.is_negative-2.result c.signed_sum-is_negative.result.0
+      c.in_ok-left.left
+      c.in_ok-right.right c.signed_sum-is_negative.result.1 c.is_negative.ensures
+      c.is_negative-2.ensures
       c.in_ok-left.ensures.exact.1 c.in_ok-right.ensures.exact.1 c.signed_sum-is_negative.ensures
       c.last_wide_divisor-last.result c.last_wide_divisor-last.ensures.value
-      c.in_ok-den.den (c.in_ok-den.ensures.exact.1 ∙ ap (λ k. c.quotient-left_over.result * k) c.quotient.ensures)
-      (omega (arith, c.in_ok-left.ensures.exact)) (omega (arith, c.in_ok-right.ensures.exact)) (omega arith) (omega (arith, c.in_ok-den.ensures.exact)),
+      c.in_ok-den.den (c.in_ok-den.ensures.exact.1 ∙ ap (λ k. c.quotient-left_over.result * k)
+      c.quotient.ensures)
+      (omega (arith, c.in_ok-left.ensures.exact)) (omega (arith, c.in_ok-right.ensures.exact))
+      (omega arith) (omega (arith, c.in_ok-den.ensures.exact)),
   c.store.ensures
-      ∙ ap (λ n. reduce (signed c.signed_sum-is_negative.result.0 n) c.in_ok-den.den) c.quotient-2.ensures
+      ∙ ap (λ n. reduce (signed c.signed_sum-is_negative.result.0 n) c.in_ok-den.den)
+      c.quotient-2.ensures
       ∙ made_value
       c.args.self.now c.args.other.now c.over-left_den.result c.over-right_den.result
-      c.greatest_common_divisor-common.result c.quotient-left_over.result c.quotient-right_over.result
+      c.greatest_common_divisor-common.result c.quotient-left_over.result
+      c.quotient-right_over.result
       c.size.result c.size-2.result c.over-left_den.ensures.value c.over-right_den.ensures.value
-      c.greatest_common_divisor-common.ensures.value c.quotient-left_over.ensures c.quotient-right_over.ensures
+      c.greatest_common_divisor-common.ensures.value c.quotient-left_over.ensures
+      c.quotient-right_over.ensures
       c.size.ensures.value c.size-2.ensures.value
-      c.is_negative.result c.is_negative-2.result c.signed_sum-is_negative.result.0 c.in_ok-left.left
-      c.in_ok-right.right c.signed_sum-is_negative.result.1 c.is_negative.ensures c.is_negative-2.ensures
+      c.is_negative.result c.is_negative-2.result c.signed_sum-is_negative.result.0
+      c.in_ok-left.left
+      c.in_ok-right.right c.signed_sum-is_negative.result.1 c.is_negative.ensures
+      c.is_negative-2.ensures
       c.in_ok-left.ensures.exact.1 c.in_ok-right.ensures.exact.1 c.signed_sum-is_negative.ensures
       c.last_wide_divisor-last.result c.last_wide_divisor-last.ensures.value
-      c.in_ok-den.den (c.in_ok-den.ensures.exact.1 ∙ ap (λ k. c.quotient-left_over.result * k) c.quotient.ensures),
+      c.in_ok-den.den (c.in_ok-den.ensures.exact.1 ∙ ap (λ k. c.quotient-left_over.result * k)
+      c.quotient.ensures),
 )

@@ -7,10 +7,15 @@ pub returns-in_err-size-clause-exact : goal.returns-in_err-size-clause-exact
 returns-in_err-size-clause-exact c =
     refused_is _ c.from_residual.result c.from_residual.ensures.0
     (size_refused
-    c.args.self.now c.args.other.now c.size-left_size.result c.over-left_den.result c.size-right_size.result
-    c.over-right_den.result c.greatest_common_divisor-left.result c.greatest_common_divisor-right.result
-    c.quotient.result c.quotient-2.result (c.over-left_den.result / c.greatest_common_divisor-right.result) (c.over-right_den.result / c.greatest_common_divisor-left.result)
-    c.size-left_size.ensures.value c.over-left_den.ensures.value c.size-right_size.ensures.value c.over-right_den.ensures.value
+    c.args.self.now c.args.other.now c.size-left_size.result c.over-left_den.result
+    c.size-right_size.result
+    c.over-right_den.result c.greatest_common_divisor-left.result
+    c.greatest_common_divisor-right.result
+    c.quotient.result c.quotient-2.result
+    (c.over-left_den.result / c.greatest_common_divisor-right.result)
+    (c.over-right_den.result / c.greatest_common_divisor-left.result)
+    c.size-left_size.ensures.value c.over-left_den.ensures.value c.size-right_size.ensures.value
+    c.over-right_den.ensures.value
     c.greatest_common_divisor-left.ensures.value c.greatest_common_divisor-right.ensures.value
     c.quotient.ensures c.quotient-2.ensures refl refl
     c.in_err-size.ensures.exact)
@@ -19,10 +24,13 @@ pub returns-in_err-den-clause-exact : goal.returns-in_err-den-clause-exact
 returns-in_err-den-clause-exact c =
     refused_is _ c.from_residual-in_err-den.result c.from_residual-in_err-den.ensures.0
     (den_refused
-    c.args.self.now c.args.other.now c.size-left_size.result c.over-left_den.result c.size-right_size.result
-    c.over-right_den.result c.greatest_common_divisor-left.result c.greatest_common_divisor-right.result
+    c.args.self.now c.args.other.now c.size-left_size.result c.over-left_den.result
+    c.size-right_size.result
+    c.over-right_den.result c.greatest_common_divisor-left.result
+    c.greatest_common_divisor-right.result
     c.quotient.result c.quotient-2.result c.quotient-3.result c.quotient-4.result
-    c.size-left_size.ensures.value c.over-left_den.ensures.value c.size-right_size.ensures.value c.over-right_den.ensures.value
+    c.size-left_size.ensures.value c.over-left_den.ensures.value c.size-right_size.ensures.value
+    c.over-right_den.ensures.value
     c.greatest_common_divisor-left.ensures.value c.greatest_common_divisor-right.ensures.value
     c.quotient.ensures c.quotient-2.ensures c.quotient-3.ensures c.quotient-4.ensures
     c.in_err-den.ensures.exact)
@@ -30,36 +38,48 @@ returns-in_err-den-clause-exact c =
 pub store-requires : goal.store-requires
 store-requires c =
     made_stored
-    c.args.self.now c.args.other.now c.size-left_size.result c.over-left_den.result c.size-right_size.result
-    c.over-right_den.result c.greatest_common_divisor-left.result c.greatest_common_divisor-right.result
+    c.args.self.now c.args.other.now c.size-left_size.result c.over-left_den.result
+    c.size-right_size.result
+    c.over-right_den.result c.greatest_common_divisor-left.result
+    c.greatest_common_divisor-right.result
     c.quotient.result c.quotient-2.result c.quotient-3.result c.quotient-4.result
-    c.size-left_size.ensures.value c.over-left_den.ensures.value c.size-right_size.ensures.value c.over-right_den.ensures.value
+    c.size-left_size.ensures.value c.over-left_den.ensures.value c.size-right_size.ensures.value
+    c.over-right_den.ensures.value
     c.greatest_common_divisor-left.ensures.value c.greatest_common_divisor-right.ensures.value
     c.quotient.ensures c.quotient-2.ensures c.quotient-3.ensures c.quotient-4.ensures
-    c.is_negative.result c.is_negative-2.result _ c.in_ok-size.size c.in_ok-den.den c.is_negative.ensures c.is_negative-2.ensures refl
+    c.is_negative.result c.is_negative-2.result _ c.in_ok-size.size c.in_ok-den.den
+    c.is_negative.ensures c.is_negative-2.ensures refl
     c.in_ok-size.ensures.exact.1 c.in_ok-den.ensures.exact.1
     (omega (arith, c.in_ok-size.ensures.exact)) (omega (arith, c.in_ok-den.ensures.exact))
 
 pub returns-clause-exact : goal.returns-clause-exact
 returns-clause-exact c = (
   made_fits
-      c.args.self.now c.args.other.now c.size-left_size.result c.over-left_den.result c.size-right_size.result
-      c.over-right_den.result c.greatest_common_divisor-left.result c.greatest_common_divisor-right.result
+      c.args.self.now c.args.other.now c.size-left_size.result c.over-left_den.result
+      c.size-right_size.result
+      c.over-right_den.result c.greatest_common_divisor-left.result
+      c.greatest_common_divisor-right.result
       c.quotient.result c.quotient-2.result c.quotient-3.result c.quotient-4.result
-      c.size-left_size.ensures.value c.over-left_den.ensures.value c.size-right_size.ensures.value c.over-right_den.ensures.value
+      c.size-left_size.ensures.value c.over-left_den.ensures.value c.size-right_size.ensures.value
+      c.over-right_den.ensures.value
       c.greatest_common_divisor-left.ensures.value c.greatest_common_divisor-right.ensures.value
       c.quotient.ensures c.quotient-2.ensures c.quotient-3.ensures c.quotient-4.ensures
-      c.is_negative.result c.is_negative-2.result _ c.in_ok-size.size c.in_ok-den.den c.is_negative.ensures c.is_negative-2.ensures refl
+      c.is_negative.result c.is_negative-2.result _ c.in_ok-size.size c.in_ok-den.den
+      c.is_negative.ensures c.is_negative-2.ensures refl
       c.in_ok-size.ensures.exact.1 c.in_ok-den.ensures.exact.1
       (omega (arith, c.in_ok-size.ensures.exact)) (omega (arith, c.in_ok-den.ensures.exact)),
   c.store.ensures
       ∙ made_value
-      c.args.self.now c.args.other.now c.size-left_size.result c.over-left_den.result c.size-right_size.result
-      c.over-right_den.result c.greatest_common_divisor-left.result c.greatest_common_divisor-right.result
+      c.args.self.now c.args.other.now c.size-left_size.result c.over-left_den.result
+      c.size-right_size.result
+      c.over-right_den.result c.greatest_common_divisor-left.result
+      c.greatest_common_divisor-right.result
       c.quotient.result c.quotient-2.result c.quotient-3.result c.quotient-4.result
-      c.size-left_size.ensures.value c.over-left_den.ensures.value c.size-right_size.ensures.value c.over-right_den.ensures.value
+      c.size-left_size.ensures.value c.over-left_den.ensures.value c.size-right_size.ensures.value
+      c.over-right_den.ensures.value
       c.greatest_common_divisor-left.ensures.value c.greatest_common_divisor-right.ensures.value
       c.quotient.ensures c.quotient-2.ensures c.quotient-3.ensures c.quotient-4.ensures
-      c.is_negative.result c.is_negative-2.result _ c.in_ok-size.size c.in_ok-den.den c.is_negative.ensures c.is_negative-2.ensures refl
+      c.is_negative.result c.is_negative-2.result _ c.in_ok-size.size c.in_ok-den.den
+      c.is_negative.ensures c.is_negative-2.ensures refl
       c.in_ok-size.ensures.exact.1 c.in_ok-den.ensures.exact.1,
 )

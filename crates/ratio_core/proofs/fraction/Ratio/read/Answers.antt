@@ -8,7 +8,8 @@ use Rattle.ratio_core.proofs.fraction.Ratio.read.Goals.{else-not-is_empty-via-th
 pub returns-then-text-eq45 : goal.returns-then-text-eq45
 returns-then-text-eq45 c =
     c.read_fraction.ensures
-    ∙ ap (λ digits. rational_from true (numerator_of digits) (denominator_of digits)) (rest_is c.args.text.now 1)
+    ∙ ap (λ digits. rational_from true (numerator_of digits) (denominator_of digits))
+    (rest_is c.args.text.now 1)
     ∙ minus_read c.args.text.now c.if-text-eq45.true
 
 pub returns-else-not-is_empty : goal.returns-else-not-is_empty
@@ -16,6 +17,7 @@ returns-else-not-is_empty c =
     let unsigned : ¬ (slice_index c.args.text.now 0 ≡ 45) =
     elim c.else-not-is_empty.branch [
       | else-not-is_empty-via-then-not-is_empty+else-text-eq45 w ↦ w.if-text-eq45.false
-      | else-not-is_empty-via-else-not-is_empty w ↦ empty_start c.args.text.now (eqb-true _ _ (sym c.is_empty.ensures ∙ w.if-not-is_empty.false))
+      | else-not-is_empty-via-else-not-is_empty w ↦ empty_start c.args.text.now
+          (eqb-true _ _ (sym c.is_empty.ensures ∙ w.if-not-is_empty.false))
     ] in
     c.read_fraction-else-not-is_empty.ensures ∙ plain_read c.args.text.now unsigned

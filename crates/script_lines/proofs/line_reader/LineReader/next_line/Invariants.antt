@@ -6,8 +6,10 @@ use Rattle.script_lines.proofs.line_reader.LineReader.next_line.Given as goal
 
 abbrev pub invariant-reading : goal.invariant-reading
 invariant-reading g l = record {
-  so_far : SoFar (rest_of l.initial.self (g.I.Source.left l.initial.input)) (allowance l.initial.self) l.line.items l.self (g.I.Source.left l.input);
-  taken : TookSoFar (g.I.Source.left l.initial.input) (g.I.Source.left l.input) l.initial.self.room l.self.room;
+  so_far : SoFar (rest_of l.initial.self (g.I.Source.left l.initial.input))
+      (allowance l.initial.self) l.line.items l.self (g.I.Source.left l.input);
+  taken : TookSoFar (g.I.Source.left l.initial.input)
+      (g.I.Source.left l.input) l.initial.self.room l.self.room;
   faults : g.I.Source.faults l.initial.input ≤ g.I.Source.faults l.input;
 }
 

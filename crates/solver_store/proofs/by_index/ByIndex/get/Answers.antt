@@ -5,4 +5,6 @@ use Rattle.map_laws.specs.MadeLaws.{get_made}
 use Rattle.solver_store.proofs.by_index.ByIndex.get.Goals as goal
 
 pub returns : goal.returns
-returns g c = c.get.ensures.value ∙ sym (get_made nat_cmp_total c.self.inside.entries.entries c.args.i) ∙ ap (λ m. finite.get m c.args.i) c.self.view_is
+returns g c =
+    c.get.ensures.value ∙ sym (get_made nat_cmp_total c.self.inside.entries.entries c.args.i)
+    ∙ ap (λ m. finite.get m c.args.i) c.self.view_is

@@ -6,9 +6,14 @@ pub returns-then-not-index : goal.returns-then-not-index
 returns-then-not-index c =
     let a = c.self.inside in
     c.zero.ensures
-    ∙ unmarked_is a c.args.self.now c.self.view_is c.self.invariant c.args.r c.args.q c.requires.row c.requires.column
-    (sym (marked_read a c.self.invariant c.args.r c.args.q c.len.result c.index.result.now (row_within a c.args.self.now c.args.r c.self.view_is c.requires.row) (column_within a c.args.self.now c.args.q c.self.view_is c.requires.column) (vec_count a c.len.result c.len.ensures) c.index.ensures) ∙ c.if-not-index.true)
+    ∙ unmarked_is a c.args.self.now c.self.view_is c.self.invariant c.args.r c.args.q c.requires.row
+    c.requires.column
+    (sym (marked_read a c.self.invariant c.args.r c.args.q c.len.result c.index.result.now
+    (row_within a c.args.self.now c.args.r c.self.view_is c.requires.row)
+    (column_within a c.args.self.now c.args.q c.self.view_is c.requires.column)
+    (vec_count a c.len.result c.len.ensures) c.index.ensures) ∙ c.if-not-index.true)
 
 pub returns : goal.returns
 returns c =
-    c.number.ensures ∙ entry_is c.self.inside c.args.self.now c.self.view_is c.args.r c.args.q c.index-2.result.now c.requires.row c.requires.column c.index-2.ensures
+    c.number.ensures ∙ entry_is c.self.inside c.args.self.now c.self.view_is c.args.r c.args.q
+    c.index-2.result.now c.requires.row c.requires.column c.index-2.ensures

@@ -13,58 +13,90 @@ use Rattle.sparse_board.proofs.board.BoardTableau.pivot.Goals as goal
 
 pub prepare_pivot-requires-clause-nonzero : goal.prepare_pivot-requires-clause-nonzero
 prepare_pivot-requires-clause-nonzero c = λ e.
-    c.requires.nonzero (sym (read_entry c.self.inside c.args.self.now c.self.view_is c.args.r c.args.q c.requires.column) ∙ ap (λ l. number_in_row l c.args.r c.args.q) (sym c.deref_mut.ensures.value) ∙ e)
+    c.requires.nonzero (sym (read_entry c.self.inside c.args.self.now c.self.view_is c.args.r
+    c.args.q c.requires.column) ∙ ap (λ l. number_in_row l c.args.r c.args.q)
+    (sym c.deref_mut.ensures.value) ∙ e)
 
 pub returns-in_err-prepare_pivot-clause-fits : goal.returns-in_err-prepare_pivot-clause-fits
 returns-in_err-prepare_pivot-clause-fits c =
     let a = c.self.inside in
     is_ok-err c.from_residual.result c.from_residual.ensures.0
     ∙ c.in_err-prepare_pivot.ensures.fits
-    ∙ (λ k. numbers_fit (a.reals + vec_count a c.len.result c.len.ensures k) c.args.r c.args.q a.in_first (numbers_in (c.deref_mut.ensures.value k) a.first.now a.second.now))
+    ∙ (λ k. numbers_fit (a.reals + vec_count a c.len.result c.len.ensures k) c.args.r c.args.q
+    a.in_first (numbers_in (c.deref_mut.ensures.value k) a.first.now a.second.now))
     ∙ tests_same a c.args.self.now c.args.r c.args.q c.self.view_is c.requires.row c.requires.column
 
 pub returns-clause-fits : goal.returns-clause-fits
 returns-clause-fits c =
     let a = c.self.inside in
     c.in_ok-prepare_pivot.ensures.fits
-    ∙ (λ k. numbers_fit (a.reals + vec_count a c.len.result c.len.ensures k) c.args.r c.args.q a.in_first (numbers_in (c.deref_mut.ensures.value k) a.first.now a.second.now))
+    ∙ (λ k. numbers_fit (a.reals + vec_count a c.len.result c.len.ensures k) c.args.r c.args.q
+    a.in_first (numbers_in (c.deref_mut.ensures.value k) a.first.now a.second.now))
     ∙ tests_same a c.args.self.now c.args.r c.args.q c.self.view_is c.requires.row c.requires.column
 
 pub invariant_of-self : goal.invariant_of-self
 invariant_of-self c =
     let a = c.self.inside in
-    let rows = with_items_is a.rows c.prepare_pivot.new.rows (c.prepare_pivot.auto.rows ∙ c.deref_mut.ensures.len) in
+    let rows = with_items_is a.rows c.prepare_pivot.new.rows (c.prepare_pivot.auto.rows
+    ∙ c.deref_mut.ensures.len) in
     let count = ap length rows ∙ c.prepare_pivot.auto.rows ∙ ap length c.deref_mut.ensures.value in
     kept_after a _ refl count c.self.invariant
-    (wide_after a.rows.items _ (columns_of a + 1) count (λ i. ap (λ l. now_at l i) rows ∙ c.prepare_pivot.ensures.rows_stay i ∙ ap (λ l. now_at l i) c.deref_mut.ensures.value) c.self.invariant.wide)
-    (ap width_of c.prepare_pivot.ensures.first_stays) (ap width_of c.prepare_pivot.ensures.second_stays) c.prepare_pivot.ensures.step_wide refl refl
-    (marked_same (columns_of a + 1) a.marks.items a.rows.items _ count (λ i. ap (λ l. now_at l i) rows ∙ c.prepare_pivot.ensures.rows_stay i ∙ ap (λ l. now_at l i) c.deref_mut.ensures.value) c.self.invariant.marked)
+    (wide_after a.rows.items _ (columns_of a + 1) count (λ i. ap (λ l. now_at l i) rows
+    ∙ c.prepare_pivot.ensures.rows_stay i ∙ ap (λ l. now_at l i) c.deref_mut.ensures.value)
+    c.self.invariant.wide)
+    (ap width_of c.prepare_pivot.ensures.first_stays)
+    (ap width_of c.prepare_pivot.ensures.second_stays) c.prepare_pivot.ensures.step_wide refl
+    refl
+    (marked_same (columns_of a + 1) a.marks.items a.rows.items _ count
+    (λ i. ap (λ l. now_at l i) rows ∙ c.prepare_pivot.ensures.rows_stay i
+    ∙ ap (λ l. now_at l i) c.deref_mut.ensures.value) c.self.invariant.marked)
 
 pub returns-in_err-prepare_pivot-clause-board : goal.returns-in_err-prepare_pivot-clause-board
 returns-in_err-prepare_pivot-clause-board c =
     let a = c.self.inside in
-    let rows = with_items_is a.rows c.prepare_pivot.new.rows (c.prepare_pivot.auto.rows ∙ c.deref_mut.ensures.len) in
+    let rows = with_items_is a.rows c.prepare_pivot.new.rows (c.prepare_pivot.auto.rows
+    ∙ c.deref_mut.ensures.len) in
     refused c.from_residual.result _ _ c.from_residual.ensures.0
-    (view_same a (record { reals = a.reals; rows = with_items a.rows c.prepare_pivot.new.rows; in_first = a.in_first; first = c.prepare_pivot.new.first; second = c.prepare_pivot.new.second; step = c.prepare_pivot.new.step; marks = a.marks; basis = a.basis }) refl refl (ap length rows ∙ c.prepare_pivot.auto.rows ∙ ap length c.deref_mut.ensures.value) refl
-    (λ i. ap (λ l. now_at l i) rows ∙ c.prepare_pivot.ensures.rows_stay i ∙ ap (λ l. now_at l i) c.deref_mut.ensures.value)
+    (view_same a (record {
+      reals = a.reals;
+      rows = with_items a.rows c.prepare_pivot.new.rows;
+      in_first = a.in_first;
+      first = c.prepare_pivot.new.first;
+      second = c.prepare_pivot.new.second;
+      step = c.prepare_pivot.new.step;
+      marks = a.marks;
+      basis = a.basis;
+    }) refl refl (ap length rows ∙ c.prepare_pivot.auto.rows
+    ∙ ap length c.deref_mut.ensures.value) refl
+    (λ i. ap (λ l. now_at l i) rows ∙ c.prepare_pivot.ensures.rows_stay i
+    ∙ ap (λ l. now_at l i) c.deref_mut.ensures.value)
     c.prepare_pivot.ensures.first_stays c.prepare_pivot.ensures.second_stays ∙ c.self.view_is)
 
 pub settle_pivot-requires-clause-wide : goal.settle_pivot-requires-clause-wide
 settle_pivot-requires-clause-wide c =
     let a = c.self.inside in
-    let rows = c.deref_mut-2.ensures.value ∙ with_items_is a.rows c.prepare_pivot.new.rows (c.prepare_pivot.auto.rows ∙ c.deref_mut.ensures.len) in
-    subst (λ n. AreWide n c.deref_mut-2.result.now) (sym (c.prepare_pivot.ensures.step_wide ∙ c.self.invariant.spare))
-    (wide_after a.rows.items c.deref_mut-2.result.now (columns_of a + 1) (ap length rows ∙ c.prepare_pivot.auto.rows ∙ ap length c.deref_mut.ensures.value)
-    (λ i. ap (λ l. now_at l i) rows ∙ c.prepare_pivot.ensures.rows_stay i ∙ ap (λ l. now_at l i) c.deref_mut.ensures.value) c.self.invariant.wide)
+    let rows = c.deref_mut-2.ensures.value ∙ with_items_is a.rows c.prepare_pivot.new.rows
+    (c.prepare_pivot.auto.rows ∙ c.deref_mut.ensures.len) in
+    subst (λ n. AreWide n c.deref_mut-2.result.now) (sym (c.prepare_pivot.ensures.step_wide
+    ∙ c.self.invariant.spare))
+    (wide_after a.rows.items c.deref_mut-2.result.now (columns_of a + 1) (ap length rows
+    ∙ c.prepare_pivot.auto.rows ∙ ap length c.deref_mut.ensures.value)
+    (λ i. ap (λ l. now_at l i) rows ∙ c.prepare_pivot.ensures.rows_stay i
+    ∙ ap (λ l. now_at l i) c.deref_mut.ensures.value) c.self.invariant.wide)
 
 pub settle_pivot-requires-clause-marked : goal.settle_pivot-requires-clause-marked
 settle_pivot-requires-clause-marked c =
     let a = c.self.inside in
-    let rows = c.deref_mut-2.ensures.value ∙ with_items_is a.rows c.prepare_pivot.new.rows (c.prepare_pivot.auto.rows ∙ c.deref_mut.ensures.len) in
-    subst (λ n. AreMarked n c.deref_mut-3.result.now c.deref_mut-2.result.now) (sym (c.prepare_pivot.ensures.step_wide ∙ c.self.invariant.spare))
-    (marked_same (columns_of a + 1) c.deref_mut-3.result.now a.rows.items c.deref_mut-2.result.now (ap length rows ∙ c.prepare_pivot.auto.rows ∙ ap length c.deref_mut.ensures.value)
-    (λ i. ap (λ l. now_at l i) rows ∙ c.prepare_pivot.ensures.rows_stay i ∙ ap (λ l. now_at l i) c.deref_mut.ensures.value)
-    (subst (λ l. AreMarked (columns_of a + 1) l a.rows.items) (sym c.deref_mut-3.ensures.value) c.self.invariant.marked))
+    let rows = c.deref_mut-2.ensures.value ∙ with_items_is a.rows c.prepare_pivot.new.rows
+    (c.prepare_pivot.auto.rows ∙ c.deref_mut.ensures.len) in
+    subst (λ n. AreMarked n c.deref_mut-3.result.now c.deref_mut-2.result.now)
+    (sym (c.prepare_pivot.ensures.step_wide ∙ c.self.invariant.spare))
+    (marked_same (columns_of a + 1) c.deref_mut-3.result.now a.rows.items c.deref_mut-2.result.now
+    (ap length rows ∙ c.prepare_pivot.auto.rows ∙ ap length c.deref_mut.ensures.value)
+    (λ i. ap (λ l. now_at l i) rows ∙ c.prepare_pivot.ensures.rows_stay i
+    ∙ ap (λ l. now_at l i) c.deref_mut.ensures.value)
+    (subst (λ l. AreMarked (columns_of a + 1) l a.rows.items) (sym c.deref_mut-3.ensures.value)
+    c.self.invariant.marked))
 
 pub invariant_of-self-2 : goal.invariant_of-self-2
 invariant_of-self-2 c =
@@ -72,39 +104,67 @@ invariant_of-self-2 c =
     let prepared = c.prepare_pivot.new in
     let settled = c.settle_pivot.new in
     let wide = c.prepare_pivot.ensures.step_wide ∙ c.self.invariant.spare in
-    let rows = c.deref_mut-2.ensures.value ∙ with_items_is a.rows prepared.rows (c.prepare_pivot.auto.rows ∙ c.deref_mut.ensures.len) in
-    let last = with_items_is (with_items a.rows prepared.rows) settled.rows (c.settle_pivot.auto.rows ∙ c.deref_mut-2.ensures.len) in
-    let marks = with_items_is a.marks settled.marks (c.settle_pivot.auto.marks ∙ c.deref_mut-3.ensures.len) in
-    kept_after a _ refl (ap length last ∙ c.settle_pivot.auto.rows ∙ ap length rows ∙ c.prepare_pivot.auto.rows ∙ ap length c.deref_mut.ensures.value) c.self.invariant
-    (subst (AreWide (columns_of a + 1)) (sym last) (subst (λ n. AreWide n settled.rows) wide c.settle_pivot.ensures.wide))
+    let rows = c.deref_mut-2.ensures.value ∙ with_items_is a.rows prepared.rows
+    (c.prepare_pivot.auto.rows ∙ c.deref_mut.ensures.len) in
+    let last = with_items_is (with_items a.rows prepared.rows) settled.rows
+    (c.settle_pivot.auto.rows ∙ c.deref_mut-2.ensures.len) in
+    let marks = with_items_is a.marks settled.marks (c.settle_pivot.auto.marks
+    ∙ c.deref_mut-3.ensures.len) in
+    kept_after a _ refl (ap length last ∙ c.settle_pivot.auto.rows ∙ ap length rows
+    ∙ c.prepare_pivot.auto.rows ∙ ap length c.deref_mut.ensures.value) c.self.invariant
+    (subst (AreWide (columns_of a + 1)) (sym last)
+    (subst (λ n. AreWide n settled.rows) wide c.settle_pivot.ensures.wide))
     (c.settle_pivot.ensures.first_wide ∙ ap width_of c.prepare_pivot.ensures.first_stays)
     (c.settle_pivot.ensures.second_wide ∙ ap width_of c.prepare_pivot.ensures.second_stays)
     (c.settle_pivot.ensures.step_wide ∙ c.prepare_pivot.ensures.step_wide)
     (length-set a.basis.items c.args.r c.args.q)
     (ap length marks ∙ c.settle_pivot.auto.marks ∙ ap length c.deref_mut-3.ensures.value)
-    (subst (λ l. AreMarked (columns_of a + 1) l (with_items (with_items a.rows prepared.rows) settled.rows).items) (sym marks)
+    (subst (λ l. AreMarked (columns_of a + 1) l (with_items (with_items a.rows prepared.rows)
+    settled.rows).items) (sym marks)
     (subst (AreMarked (columns_of a + 1) settled.marks) (sym last)
     (subst (λ n. AreMarked n settled.marks settled.rows) wide
     (c.settle_pivot.ensures.marked
-    (ready_same c.deref_mut-2.result.now prepared.rows c.args.r c.args.q c.deref_mut-3.result.now c.deref.result.now a.in_first prepared.first prepared.second prepared.step rows (c.deref_mut-3.ensures.value ∙ sym c.deref.ensures.value) c.in_ok-prepare_pivot.ensures.ok)))))
+    (ready_same c.deref_mut-2.result.now prepared.rows c.args.r c.args.q c.deref_mut-3.result.now
+    c.deref.result.now a.in_first prepared.first prepared.second prepared.step rows
+    (c.deref_mut-3.ensures.value ∙ sym c.deref.ensures.value)
+    c.in_ok-prepare_pivot.ensures.ok)))))
 
 pub returns-clause-board : goal.returns-clause-board
 returns-clause-board c =
     let a = c.self.inside in
     let prepared = c.prepare_pivot.new in
     let settled = c.settle_pivot.new in
-    let rows = c.deref_mut-2.ensures.value ∙ with_items_is a.rows prepared.rows (c.prepare_pivot.auto.rows ∙ c.deref_mut.ensures.len) in
-    let last = with_items_is (with_items a.rows prepared.rows) settled.rows (c.settle_pivot.auto.rows ∙ c.deref_mut-2.ensures.len) in
+    let rows = c.deref_mut-2.ensures.value ∙ with_items_is a.rows prepared.rows
+    (c.prepare_pivot.auto.rows ∙ c.deref_mut.ensures.len) in
+    let last = with_items_is (with_items a.rows prepared.rows) settled.rows
+    (c.settle_pivot.auto.rows ∙ c.deref_mut-2.ensures.len) in
     let count = ap length rows ∙ c.prepare_pivot.auto.rows ∙ ap length c.deref_mut.ensures.value in
     pivoted_all a
-    (record { reals = a.reals; rows = with_items (with_items a.rows prepared.rows) settled.rows; in_first = a.in_first; first = settled.first; second = settled.second; step = settled.step; marks = with_items a.marks settled.marks; basis = with_item a.basis c.args.r c.args.q })
+    (record {
+      reals = a.reals;
+      rows = with_items (with_items a.rows prepared.rows) settled.rows;
+      in_first = a.in_first;
+      first = settled.first;
+      second = settled.second;
+      step = settled.step;
+      marks = with_items a.marks settled.marks;
+      basis = with_item a.basis c.args.r c.args.q;
+    })
     refl (ap length last ∙ c.settle_pivot.auto.rows ∙ count)
     c.args.r c.args.q c.args.self.now c.self.view_is c.requires.row c.requires.column refl refl
     (numbers_in c.deref_mut-2.result.now prepared.first.now prepared.second.now)
     (numbers_same a c.deref_mut-2.result.now prepared.first.now prepared.second.now count
-    (λ i. ap (λ l. now_at l i) rows ∙ c.prepare_pivot.ensures.rows_stay i ∙ ap (λ l. now_at l i) c.deref_mut.ensures.value)
+    (λ i. ap (λ l. now_at l i) rows ∙ c.prepare_pivot.ensures.rows_stay i
+    ∙ ap (λ l. now_at l i) c.deref_mut.ensures.value)
     c.prepare_pivot.ensures.first_stays c.prepare_pivot.ensures.second_stays)
-    (subst (λ l. IsSettled (columns_of a) c.args.r c.args.q a.in_first (numbers_in c.deref_mut-2.result.now prepared.first.now prepared.second.now) (numbers_in l settled.first.now settled.second.now)) (sym last)
-    (c.settle_pivot.ensures.settled (columns_of a) (c.prepare_pivot.ensures.step_wide ∙ c.self.invariant.spare)
-    (ap width_of c.prepare_pivot.ensures.first_stays ∙ c.self.invariant.first) (ap width_of c.prepare_pivot.ensures.second_stays ∙ c.self.invariant.second)
-    (ready_same c.deref_mut-2.result.now prepared.rows c.args.r c.args.q c.deref_mut-3.result.now c.deref.result.now a.in_first prepared.first prepared.second prepared.step rows (c.deref_mut-3.ensures.value ∙ sym c.deref.ensures.value) c.in_ok-prepare_pivot.ensures.ok)))
+    (subst (λ l. IsSettled (columns_of a) c.args.r c.args.q a.in_first
+    (numbers_in c.deref_mut-2.result.now prepared.first.now prepared.second.now)
+    (numbers_in l settled.first.now settled.second.now)) (sym last)
+    (c.settle_pivot.ensures.settled (columns_of a) (c.prepare_pivot.ensures.step_wide
+    ∙ c.self.invariant.spare)
+    (ap width_of c.prepare_pivot.ensures.first_stays ∙ c.self.invariant.first)
+    (ap width_of c.prepare_pivot.ensures.second_stays ∙ c.self.invariant.second)
+    (ready_same c.deref_mut-2.result.now prepared.rows c.args.r c.args.q c.deref_mut-3.result.now
+    c.deref.result.now a.in_first prepared.first prepared.second prepared.step rows
+    (c.deref_mut-3.ensures.value ∙ sym c.deref.ensures.value)
+    c.in_ok-prepare_pivot.ensures.ok)))

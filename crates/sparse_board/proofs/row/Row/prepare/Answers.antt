@@ -7,4 +7,5 @@ use Rattle.sparse_board.proofs.row.Row.prepare.Goals as goal
 pub returns-then-is_zero-clause-fits : goal.returns-then-is_zero-clause-fits
 returns-then-is_zero-clause-fits c =
     let row = c.args.self.now.now in
-    sym (zero_row_fits row (width_of row) (number_of row c.args.q) (number_among c.args.units.now) (sym c.number-by.ensures ∙ c.is_zero.ensures.0 c.if-is_zero.true))
+    sym (zero_row_fits row (width_of row) (number_of row c.args.q) (number_among c.args.units.now)
+    (sym c.number-by.ensures ∙ c.is_zero.ensures.0 c.if-is_zero.true))

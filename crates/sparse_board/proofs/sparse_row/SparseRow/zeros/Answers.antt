@@ -5,6 +5,7 @@ use Rattle.sparse_board.proofs.sparse_row.SparseRow.zeros.Goals as goal
 
 pub invariant_of-result : goal.invariant_of-result
 invariant_of-result c = record {
-  sparse = sparse_none _ _ (ap columns_in c.in_ok-entries.ensures.items) (ap values_in c.in_ok-entries.ensures.items);
+  sparse = sparse_none _ _ (ap columns_in c.in_ok-entries.ensures.items)
+      (ap values_in c.in_ok-entries.ensures.items);
   within = below_none _ _ (ap columns_in c.in_ok-entries.ensures.items);
 }

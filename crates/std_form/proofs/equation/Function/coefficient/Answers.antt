@@ -8,4 +8,5 @@ use Rattle.std_form.proofs.equation.Function.coefficient.Goals as goal
 
 pub returns-in-Zero : goal.returns-in-Zero
 returns-in-Zero c =
-    c.zero.ensures ∙ sym (coefficient-constant_function index_order zero_ℚ c.args.i) ∙ ap (λ f. coefficient (function_in f) c.args.i) (sym c.in-Zero.is)
+    c.zero.ensures ∙ sym (coefficient-constant_function index_order zero_ℚ c.args.i)
+    ∙ ap (λ f. coefficient (function_in f) c.args.i) (sym c.in-Zero.is)

@@ -25,23 +25,33 @@ made c = record {
   basis = c.in_ok-basis.basis;
 }
 
-first_listed : (c : goal.In_ok-basis) → IsListOf (c.args.c + c.args.m) (price (form c) (start (form c)) (first_cost (form c))) c.in_ok-first.first.now.items
+first_listed : (c : goal.In_ok-basis) → IsListOf (c.args.c + c.args.m)
+    (price (form c) (start (form c)) (first_cost (form c))) c.in_ok-first.first.now.items
 first_listed c =
-    subst (IsListOf (c.args.c + c.args.m) (price (form c) (start (form c)) (first_cost (form c)))) (sym c.in_ok-first.ensures) (c.in_ok-first_prices.ensures.prices c.args.right.now c.args.costs.now)
+    subst (IsListOf (c.args.c + c.args.m) (price (form c) (start (form c)) (first_cost (form c))))
+    (sym c.in_ok-first.ensures) (c.in_ok-first_prices.ensures.prices c.args.right.now
+    c.args.costs.now)
 
-second_listed : (c : goal.In_ok-basis) → IsListOf (c.args.c + c.args.m) (second_cost (form c)) c.in_ok-second.second.now.items
+second_listed : (c : goal.In_ok-basis) → IsListOf (c.args.c + c.args.m)
+    (second_cost (form c)) c.in_ok-second.second.now.items
 second_listed c =
     subst (IsListOf (c.args.c + c.args.m) (second_cost (form c))) (sym c.in_ok-second.ensures)
-    (subst (λ n. IsListOf (n + c.args.m) (second_cost (form_of c.args.m n c.args.matrix.now c.args.right.now c.args.costs.now)) c.in_ok-second_prices.field-0.items) c.requires.costs (c.in_ok-second_prices.ensures.prices c.args.matrix.now c.args.right.now))
+    (subst (λ n. IsListOf (n + c.args.m)
+    (second_cost (form_of c.args.m n c.args.matrix.now c.args.right.now c.args.costs.now))
+    c.in_ok-second_prices.field-0.items) c.requires.costs
+    (c.in_ok-second_prices.ensures.prices c.args.matrix.now c.args.right.now))
 
 pub invariant_of-result : goal.invariant_of-result
 invariant_of-result c =
     start-kept (made c) c.args.m c.in_ok-rows.ensures.count c.in_ok-rows.ensures.wide
-    (first_listed c).long (second_listed c).long c.in_ok-step.ensures.long c.in_ok-step.ensures.all_fit
+    (first_listed c).long (second_listed c).long c.in_ok-step.ensures.long
+    c.in_ok-step.ensures.all_fit
     c.in_ok-places.ensures
     (ap length c.in_ok-basis.ensures ∙ length-range_with_len c.args.c c.args.m)
 
 pub returns-clause-board : goal.returns-clause-board
 returns-clause-board c =
-    started_read (form c) c.in_ok-basis.basis.items (numbers_of (made c)) (contents_of (made c)) (value_agrees true (made c))
-    c.in_ok-rows.ensures.count c.in_ok-basis.ensures (c.in_ok-rows.ensures.entries c.args.right.now c.args.costs.now) c.in_ok-rows.ensures.sides (first_listed c).cells (second_listed c).cells
+    started_read (form c) c.in_ok-basis.basis.items (numbers_of (made c)) (contents_of (made c))
+    (value_agrees true (made c))
+    c.in_ok-rows.ensures.count c.in_ok-basis.ensures (c.in_ok-rows.ensures.entries c.args.right.now
+    c.args.costs.now) c.in_ok-rows.ensures.sides (first_listed c).cells (second_listed c).cells
