@@ -7,7 +7,7 @@ use Rattle.bridge_face.specs.ComponentLaws.{below_child}
 use Rattle.aff_core.specs.Address.{Address, child_of}
 use Rattle.item_core.specs.declared.item.Item.{Item}
 use Rattle.item_core.specs.Valid.{below}
-use Rattle.map_laws.specs.EachLaws.{StandsFrom, all_both, all_first, all_second, stand_from}
+use Rattle.map_laws.specs.EachLaws.{StandsFrom, all_both, all_first, all_second, cons_head, cons_tail, stand_from}
 use Rattle.fresh_bridging.specs.OmitLaws.{IsBelow, IsBelowAt, apart}
 
 abbrev pub AreApart : (Item → Address → Type 0) → List Item → Type 0
@@ -63,12 +63,6 @@ at_child at j child e v b = record {
 abbrev pub AtOrBelow : Item → Address → Type 0
 AtOrBelow c v = IsBelow c.at v
 
-first_of_both : (a b : Address) (xs ys : List Address) → a ∷ xs ≡ b ∷ ys → a ≡ b
-first_of_both a b xs ys e = cc
-
-rest_of_both : (a b : Address) (xs ys : List Address) → a ∷ xs ≡ b ∷ ys → xs ≡ ys
-rest_of_both a b xs ys e = cc
-
 -- children at positions one after another are apart
 pub apart_children : (at : Address) (xs : List Item) (low : ℕ)
     → map (λ c. c.at) xs ≡ map (child_of at) (range_with_len low (length xs))
@@ -77,11 +71,11 @@ apart_children at [] low e = tt
 apart_children at (x ∷ xs) low e = (first, apart_children at xs (low + 1) rest)
   where
     rest : map (λ c. c.at) xs ≡ map (child_of at) (range_with_len (low + 1) (length xs))
-    rest = rest_of_both x.at (child_of at low) (map (λ c. c.at) xs)
+    rest = cons_tail x.at (child_of at low) (map (λ c. c.at) xs)
         (map (child_of at) (range_with_len (low + 1) (length xs))) e
 
     here : x.at ≡ child_of at low
-    here = first_of_both x.at (child_of at low) (map (λ c. c.at) xs)
+    here = cons_head x.at (child_of at low) (map (λ c. c.at) xs)
         (map (child_of at) (range_with_len (low + 1) (length xs))) e
 
     first : (v : Address) → AtOrBelow x v → All (λ y. ¬ (AtOrBelow y v)) xs

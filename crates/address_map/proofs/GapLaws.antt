@@ -1,5 +1,5 @@
 -- An entry put among others or taken from them, at its place in the order of the addresses.
-use Rattle.std.specs.Prelude.{◌≡◌, ℕ, suc, ◌<◌, Bool, true, false, not, cond, Option, None, List, take, length, slice_index_or, Result, Ok, Err, MatchResult, refl}
+use Rattle.std.specs.Prelude.{◌≡◌, ℕ, suc, ◌<◌, Bool, true, false, not, cond, Option, None, List, length, slice_index_or, Result, Ok, Err, MatchResult, refl}
 use Rattle.std.proofs.Common.{arith, sym, ap, subst, ◌∙◌}
 use Rattle.std.specs.List.{remove}
 use Rattle.std.specs.List.Sorted.{IsBinarySearchResult, IsSearchInRange}
@@ -10,7 +10,7 @@ use Rattle.std.specs.declared.cmp.Ordering.TheVariants.{Less, Equal, Greater}
 use Rattle.std.specs.Cmp.{IsTotalOrder}
 use Rattle.std.specs.FinMap as finite
 use Rattle.std.specs.FinMap.{FinMap, IsAntisymmetric}
-use Rattle.std.specs.FinMap.Entries.{find-where_key, is_sorted-where_key, put, where_key}
+use Rattle.std.specs.FinMap.Entries.{find-where_key, is_sorted-where_key, where_key}
 use Rattle.aff_core.specs.Address.{Address, address_cmp, address_total, exact_addresses}
 use Rattle.aff_core.specs.FunctionLaws.{entries_rise, rises}
 use Rattle.aff_core.specs.Rising.{RiseStrictly}

@@ -1,11 +1,11 @@
 -- What is carried back to a row has a number for each of its components, and a row has few enough
 -- child rows.
-use Rattle.std.specs.Prelude.{◌≡◌, ◌+◌, ◌-◌, ◌≤◌, ◌^◌, ℕ, zero, suc, Bool, true, false, cond, List, [], ◌∷◌, ◌++◌, drop, length, map, take, refl}
+use Rattle.std.specs.Prelude.{◌≡◌, ◌+◌, ◌-◌, ◌≤◌, ◌^◌, ℕ, suc, Bool, true, false, cond, List, [], ◌∷◌, ◌++◌, drop, length, map, take, refl}
 use Rattle.std.proofs.Common.{arith, ap, ap₂, sym, ◌∙◌, true≢false}
 use Rattle.std.proofs.lemmas.List.{length-append, length-drop, length-map, length-replicate, length-take-le}
 use Rattle.ratio_core.specs.Folds.{sum_from}
 use Rattle.ratio_core.specs.Rational.{Rational, zero_ℚ}
-use Rattle.rational_laws.specs.Dot.{negated, plus}
+use Rattle.rational_laws.specs.Dot.{negated}
 use Rattle.rational_laws.specs.DotLaws.{length-negated, length-plus}
 use Rattle.aff_core.specs.Address.{address_cmp, child_of}
 use Rattle.aff_core.specs.Arithmetic.{sum_of}

@@ -6,7 +6,7 @@ use Rattle.std.specs.List.{list_any}
 use Rattle.std.specs.Option.{option_or}
 use Rattle.std.proofs.Common.{arith, ap, subst, sym, ◌∙◌, true≢false}
 use Rattle.std.proofs.lemmas.List.Elements.{All-head, All-tail}
-use Rattle.aff_core.specs.Address.{Address, address_cmp, address_eq, address_eq-Decides, address_total}
+use Rattle.aff_core.specs.Address.{Address, address_cmp, address_eq-Decides, address_total}
 use Rattle.aff_core.specs.KeyOrder.{address_order, other_key}
 use Rattle.boxes.specs.Boxed.{families_of, kept_among}
 use Rattle.bridge_face.specs.State.{State, found}

@@ -6,8 +6,6 @@ use Rattle.std.proofs.lemmas.Grind.{flat_map-append}
 use Rattle.std.proofs.lemmas.List.Sums.{fold-append}
 use Rattle.ratio_core.specs.Folds.{sum_from}
 use Rattle.ratio_core.specs.Rational.{Rational, zero_ℚ, ◌+ℚ◌}
-use Rattle.ratio_core.specs.declared.fault.NumberFault.{NumberFault}
-use Rattle.ratio_core.specs.Answers.{ExactWhere}
 use Rattle.aff_core.specs.Address.{Address}
 use Rattle.certificates.specs.Duals.{group_with, groups_with}
 use Rattle.certificates.specs.Points.{addresses_of, all_addresses}

@@ -9,7 +9,7 @@ use Rattle.ratio_core.specs.declared.fault.NumberFault.{NumberFault}
 use Rattle.ratio_core.specs.declared.fault.NumberFault.TheVariants as number
 use Rattle.ratio_core.specs.Answers.{ExactWhere}
 use Rattle.aff_core.specs.Address.{Address}
-use Rattle.cert_core.proofs.Steps.{next_item}
+use Rattle.map_laws.specs.LoopLaws.{next_item}
 use Rattle.adjoint_core.specs.Told.{FirstNot, Tells, TellsAt, told_at}
 use Rattle.adjoint_core.specs.declared.fault.BackFault.{BackFault}
 use Rattle.adjoint_core.specs.declared.fault.BackFault.TheVariants.{Memory, Overflow}
@@ -50,7 +50,7 @@ module _ {X : Type 0} (P : X → Type 0) (place : X → Address) where
           → MadeInOrder (i + 1) more
       made_step y more p is pushed = record {
         order = order_step all (drop i all) (drop (i + 1) all) x h.order
-            (next_item all i x here lt) p;
+            (next_item all all i x refl here lt) p;
         is =
             pushed
             ∙ ap (λ l. l ++ y ∷ []) h.is
@@ -61,7 +61,7 @@ module _ {X : Type 0} (P : X → Type 0) (place : X → Address) where
       pub made_refused : (at : Address) → ¬ (P x) × (place x ≡ at) → FirstNot P place all at
       made_refused at n =
           order_refused all (drop i all) (drop (i + 1) all) x h.order
-          (next_item all i x here lt) at n
+          (next_item all all i x refl here lt) at n
 
     pub made_end : (i : ℕ) (made : List Y) → MadeInOrder i made → length all ≤ i
         → All P all × (made ≡ map f all)

@@ -1,6 +1,5 @@
 -- Families among those of bridges.
 use Rattle.std.specs.Prelude.{◌≡◌, ℕ, zero, suc, Bool, true, false, ◌||◌, not, cond, List, [], ◌∷◌, Some, All, IsTrue, map, slice_get, slice_set, refl}
-use denote.Enum.Bare.{same_true}
 use Rattle.std.specs.List.{list_any}
 use Rattle.std.proofs.Common.{rules, sym, ap, subst, ◌∙◌, true≢false}
 use Rattle.std.proofs.lemmas.Bool.{not-true, or_parts, or_right}

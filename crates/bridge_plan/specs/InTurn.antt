@@ -1,6 +1,6 @@
 -- Groups, and further children, planned in turn.
 use Rattle.std.specs.Prelude.{◌≡◌, ℕ, Bool, ◌&&◌, IsTrue, List, [], ◌∷◌, All}
-use Rattle.std.proofs.Common.{arith, ap, ap₂, sym, subst, ◌∙◌}
+use Rattle.std.proofs.Common.{ap, ap₂, sym, subst, ◌∙◌}
 use Rattle.std.proofs.lemmas.List.Elements.{All-head, All-tail}
 use Rattle.expansion.specs.Grown.{Held, joined, put_held}
 use Rattle.item_core.specs.declared.item.Item.{Item}

@@ -1,9 +1,8 @@
 -- Sums and differences of one function, or of functions, with others: what their numbers are, and
 -- where the norms are that they bound.
 use Rattle.std.specs.Prelude.{All, List, [], drop, fold, length, map, refl, replicate, suc, take, zero, ℕ, ◌++◌, ◌+◌, ◌-◌, ◌∷◌, ◌≡◌, ◌≤◌}
-use Rattle.std.proofs.lemmas.List.Elements.{All-cons, All-drop, All-head, All-nil, All-tail, All-take}
+use Rattle.std.proofs.lemmas.List.Elements.{All-cons, All-head, All-nil, All-tail}
 use Rattle.std.proofs.Common.{ap, ap₂, arith, subst, sym, ◌∙◌}
-use Rattle.std.proofs.Math.Seq.{drop-append_seam, take-append_seam}
 use Rattle.std.proofs.lemmas.List.{length-drop, length-map, length-take-le, map-append, take-append-drop}
 use Rattle.rational_laws.specs.Field.{+ℚ-zero, +ℚ_comm, +ℚ_inner_comm, neg_ℚ-neg_ℚ, neg_ℚ-zero, same_from_difference, zero-*ℚ, -ℚ-itself}
 use Rattle.bridge_face.specs.DifferenceLaws.{Adds, Subtracts}

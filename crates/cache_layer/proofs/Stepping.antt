@@ -5,7 +5,6 @@ use Rattle.std.proofs.Common.{ap, sym, subst, ◌∙◌}
 use Rattle.std.proofs.lemmas.List.{reverse-append}
 use Rattle.model_store.specs.Store.{IsButLast, Stored, refusal_of}
 use Rattle.model_store.specs.StoreLaws.{left_front}
-use Rattle.model_store.specs.declared.parked.Parked.{Parked}
 use Rattle.user_model.specs.Edited.{edited}
 use Rattle.user_model.specs.Model.{ModelValue}
 use Rattle.user_model.specs.Refusals.{first_refusal}

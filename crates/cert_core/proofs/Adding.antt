@@ -29,7 +29,8 @@ use Rattle.aff_core.specs.FunctionLaws.{terms-variable}
 use Rattle.cert_core.specs.Variables.{Ascend}
 use Rattle.cert_core.proofs.Parts.{no_products}
 use Rattle.cert_core.proofs.Places.{distinct, set_at_place, stands, stands_there}
-use Rattle.cert_core.proofs.Steps.{made_there, next_item}
+use Rattle.map_laws.specs.LoopLaws.{next_item}
+use Rattle.cert_core.proofs.Steps.{made_there}
 use Rattle.rational_laws.specs.ZeroSums.{SumFits-zero_right}
 use Rattle.cert_core.proofs.Summed.{AddUp_one, Fits_sum, Fits_sum_from, SummedAsAll, step_of_one, summed_end, summed_refused, summed_step}
 
@@ -268,7 +269,7 @@ pub next_function : (w : List Rational) (fs : List Function) (i : ℕ) (p : Rati
     ++ products (drop (i + 1) w) (coefficients (drop (i + 1) fs) v)
 next_function w fs i p f ts e p_is f_is lt ts_is v =
     ap₂ (λ ys gs. products ys (coefficients gs v))
-    (next_item w i p p_is (subst (λ n. i < n) (sym e) lt)) (next_item fs i f f_is lt)
+    (next_item w w i p refl p_is (subst (λ n. i < n) (sym e) lt)) (next_item fs fs i f refl f_is lt)
     ∙ ap (λ q. p *ℚ q ∷ products (drop (i + 1) w) (coefficients (drop (i + 1) fs) v))
     (coefficient_is f v ∙ ap (λ l. coefficient_among l v) (sym ts_is))
 
@@ -280,7 +281,7 @@ pub next_variable : (w : List Rational) (us : List Address) (i : ℕ) (p : Ratio
     ++ products (drop (i + 1) w) (coefficients (variables_at (drop (i + 1) us)) v)
 next_variable w us i p u one one_is e p_is u_is lt v =
     ap₂ (λ ys vs. products ys (coefficients (variables_at vs) v))
-    (next_item w i p p_is (subst (λ n. i < n) (sym e) lt)) (next_item us i u u_is lt)
+    (next_item w w i p refl p_is (subst (λ n. i < n) (sym e) lt)) (next_item us us i u refl u_is lt)
     ∙ ap (λ q. p *ℚ q ∷ products (drop (i + 1) w) (coefficients (variables_at (drop (i + 1) us)) v))
     (coefficient_is (variable u) v ∙ ap (λ l. coefficient_among l v) (terms-variable address_cmp u)
     ∙ ap (λ k. coefficient_among ((u, k) ∷ []) v) (sym one_is))

@@ -1,6 +1,5 @@
 -- Functions read at a point and along a ray: of variables, and from another start.
-use Rattle.std.specs.Prelude.{◌≡◌, cond, List, [], ◌∷◌, ◌↔◌, map, All, Bool, IsTrue, Result, refl}
-use Rattle.std.specs.Ordering.{eq_by_cmp}
+use Rattle.std.specs.Prelude.{◌≡◌, List, [], ◌∷◌, ◌↔◌, map, All, Bool, IsTrue, Result, refl}
 use Rattle.std.proofs.Common.{sym, ◌∙◌, ap, subst}
 use Rattle.ratio_core.specs.Rational.{Rational, one_ℚ, zero_ℚ, ◌*ℚ◌, ◌+ℚ◌}
 use Rattle.rational_laws.specs.Field.{*ℚ-zero}
@@ -15,7 +14,7 @@ use Rattle.aff_core.specs.FunctionLaws.{constant-constant_function, constant-var
 use Rattle.aff_core.specs.FunctionLists.{evaluations}
 use Rattle.aff_core.specs.Points.{unit}
 use Rattle.aff_core.specs.Terms.{linear}
-use Rattle.linear_laws.specs.ListLaws.{evaluated_constant_function, evaluations_variables, slope_constant_function, slope_variable}
+use Rattle.linear_laws.specs.ListLaws.{evaluated_constant_function, evaluations_variables, slope_constant_function}
 use Rattle.linear_laws.specs.SlopeLaws.{coefficient_by_unit}
 use Rattle.set_core.specs.declared.set.Set.{Set}
 use Rattle.set_core.specs.Membership.{In, MembershipFits}
@@ -29,11 +28,6 @@ use Rattle.cert_core.specs.Holding.{FunctionsHold}
 
 pub constant_of_variable : (v : Address) → (variable {R = address_cmp} v).constant ≡ zero_ℚ
 constant_of_variable v = constant-variable address_cmp v
-
-pub coefficient_of_variable : (v u : Address)
-    → coefficient (variable {R = address_cmp} v) u
-    ≡ cond (eq_by_cmp address_cmp u v) one_ℚ zero_ℚ
-coefficient_of_variable v u = sym (coefficient_by_unit (variable v) u) ∙ slope_variable v (unit u)
 
 -- ---- constant functions
 

@@ -2,7 +2,7 @@
 use Rattle.std.specs.Prelude.{◌≡◌, ℕ, ◌+◌, ◌<◌, ◌≤◌, List, [], ◌∷◌, ◌++◌, All, length, Result, refl}
 use Rattle.std.proofs.Common.{sym, ◌∙◌, ap, ap₂, drop, get_or, subst}
 use Rattle.std.proofs.Math.ListN.{drop_of_length-le}
-use Rattle.cert_core.proofs.Steps.{next_item}
+use Rattle.map_laws.specs.LoopLaws.{next_item}
 use Rattle.std.proofs.lemmas.List.Elements.{All-cons, All-nil}
 use Rattle.ratio_core.specs.Folds.{sum_from}
 use Rattle.ratio_core.specs.Rational.{Fits, Rational, SumFits, neg_ℚ, zero_ℚ, ◌*ℚ◌, ◌+ℚ◌}
@@ -111,7 +111,7 @@ pub next_less : (w : List Rational) (fs : List Function) (i : ℕ) (p : Rational
     ≡ neg_ℚ (p *ℚ f.constant) ∷ negated (products (drop (i + 1) w) (constants (drop (i + 1) fs)))
 next_less w fs i p f e p_is f_is lt =
     ap₂ (λ v gs. negated (products v (constants gs)))
-    (next_item w i p p_is (subst (λ n. i < n) (sym e) lt)) (next_item fs i f f_is lt)
+    (next_item w w i p refl p_is (subst (λ n. i < n) (sym e) lt)) (next_item fs fs i f refl f_is lt)
 
 pub none_less : (w : List Rational) (fs : List Function) (i : ℕ) → length fs ≤ i
     → negated (products (drop i w) (constants (drop i fs))) ≡ []

@@ -4,7 +4,7 @@ use Rattle.std.proofs.Common.{sym, ◌∙◌, ap, ap₂, subst, arith, drop, get
 use Rattle.std.proofs.lemmas.List.Elements.{All-drop, All-get_or, All-head}
 use Rattle.std.proofs.Math.ListN.{drop_of_length-le}
 use Rattle.ratio_core.specs.Rational.{Rational}
-use Rattle.cert_core.proofs.Steps.{next_item}
+use Rattle.map_laws.specs.LoopLaws.{next_item}
 use Rattle.user_model.specs.declared.row.Row.{Row}
 use Rattle.aff_core.specs.Address.{Address}
 use Rattle.aff_core.specs.Function.{Function}
@@ -37,7 +37,7 @@ pub next_row : (ys : List (List Rational)) (rows : List Row) (i : ℕ) (y : List
     → length ys ≡ length rows → y ≡ get_or ys i y → r ≡ get_or rows i r → i < length rows
     → drop i (rows_with ys rows) ≡ row_with y r ∷ drop (i + 1) (rows_with ys rows)
 next_row ys rows i y r e y_is r_is lt =
-    next_item (rows_with ys rows) i (row_with y r)
+    next_item (rows_with ys rows) (rows_with ys rows) i (row_with y r) refl
     (ap₂ row_with y_is r_is ∙ sym (row_at ys rows i y r e))
     (subst (λ n. i < n) (sym (row_count ys rows e)) lt)
 

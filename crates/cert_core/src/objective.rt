@@ -48,7 +48,7 @@ pub fn cost(objective: &Objective, at: &Address) -> Ratio
 }
 
 // 1 at a variable, and 0 elsewhere.
-#[tactic(auto, using(crate::proofs::Evaluated::coefficient_of_variable))]
+#[tactic(auto, using(linear_laws::specs::ListLaws::coefficient_variable))]
 fn unit(var: &Address, at: &Address) -> Ratio
     ensures { result ≡ coefficient {R = address_cmp} (variable var.now) at.now }
 {

@@ -1,21 +1,19 @@
 -- What duals that meet the equations say at points of the model: the groups' part of the adjoint is
 -- the variables' duals, and the pull is a sum over the variables.
-use Rattle.std.specs.Prelude.{◌≡◌, List, [], ◌∷◌, ◌++◌, flat_map, length, map, All, refl}
+use Rattle.std.specs.Prelude.{◌≡◌, List, [], ◌∷◌, ◌++◌, flat_map, length, All, refl}
 use Rattle.std.proofs.Common.{sym, ◌∙◌, ap, ap₂, subst}
 use Rattle.std.proofs.lemmas.List.{length-map, map-append}
 use Rattle.std.proofs.lemmas.List.Elements.{All-append, All-cons, All-head, All-map, All-nil, All-tail, All-weaker}
 use Rattle.ratio_core.specs.Rational.{Rational, one_ℚ, zero_ℚ, ◌*ℚ◌, ◌+ℚ◌}
-use Rattle.rational_laws.specs.Dot.{dot}
-use Rattle.rational_laws.specs.Field.{*ℚ-zero, *ℚ_comm, one-*ℚ, zero-*ℚ}
-use Rattle.rational_laws.specs.Sums.{sum_by_ℚ, sum_by_ℚ-*ℚ_right, sum_by_ℚ-append, sum_by_ℚ_same, sum_by_ℚ_zero}
+use Rattle.rational_laws.specs.Field.{*ℚ-zero, +ℚ-*ℚ, one-*ℚ, zero-*ℚ}
+use Rattle.rational_laws.specs.Sums.{sum_by_ℚ-append, sum_by_ℚ_same, sum_by_ℚ_zero}
 use Rattle.aff_core.specs.Address.{Address, address_cmp}
 use Rattle.aff_core.specs.Function.{Function, coefficient, slope, variable}
-use Rattle.aff_core.specs.FunctionLists.{coefficients, evaluations, values}
+use Rattle.aff_core.specs.FunctionLists.{evaluations, values}
 use Rattle.aff_core.specs.Points.{unit}
-use Rattle.linear_laws.specs.ListLaws.{evaluations_values, slope_variable}
-use Rattle.linear_laws.specs.SlopeLaws.{coefficient_by_unit, mentioned, slope_over}
+use Rattle.linear_laws.specs.ListLaws.{evaluations_values, weighed_variables}
+use Rattle.linear_laws.specs.SlopeLaws.{mentioned, slope_over}
 use Rattle.linear_laws.specs.SupportLaws.{count, support, support_supports, supports_first, supports_second}
-use Rattle.linear_laws.specs.UnitLaws.{same_or_other, unit_other}
 use Rattle.set_core.specs.declared.set.Set.{Set}
 use Rattle.set_core.specs.Membership.{In}
 use Rattle.set_core.specs.Mirrored.{multiplied}
@@ -26,51 +24,31 @@ use Rattle.dual_laws.specs.PullLaws.{adjoint-append, mentioned_in, pull_is, pull
 use Rattle.user_model.specs.declared.function.UserFunc.{UserFunc}
 use Rattle.user_model.specs.declared.function.UserFunc.TheVariants.{PlainVec}
 use Rattle.user_model.specs.declared.group.Group.{Group}
+use Rattle.user_model.specs.declared.group.GroupVar.{GroupVar}
 use Rattle.user_model.specs.declared.row.Row.{Row}
 use Rattle.user_model.specs.Functions.{components}
 use Rattle.user_model.specs.Model.{ModelValue, variables}
 use Rattle.user_model.specs.Valid.{IsValid, IsValidGroup, IsValidRow}
-use Rattle.certificates.specs.Points.{address_of, addresses_of, at_point, functions_of, functions_of_group, variables_at}
+use Rattle.certificates.specs.Points.{address_of, addresses_of, at_point, functions_of, functions_of_group}
 use Rattle.certificates.specs.Feasible.{IsFeasible}
 use Rattle.certificates.specs.Duals.{AreDuals, adjoint_of_rows, group_with, groups_with, row_with, rows_with, with_duals}
 use Rattle.certificates.specs.PointLaws.{each_once, spread_cases}
 
 -- ---- the groups' part of the adjoint
 
-coefficient_variable : (a v : Address) → coefficient (variable {R = address_cmp} a) v ≡ unit v a
-coefficient_variable a v = sym (coefficient_by_unit (variable a) v) ∙ slope_variable a (unit v)
-
-weighed : (w : Address → Rational) (us : List Address) (v : Address)
-    → dot (map w us) (coefficients (variables_at us) v) ≡ sum_by_ℚ (λ a. w a *ℚ unit v a) us
-weighed w [] v = refl
-weighed w (a ∷ us) v = ap₂ (λ p s. w a *ℚ p +ℚ s) (coefficient_variable a v) (weighed w us v)
-
 groups_weighed : (w : Address → Rational) (groups : List Group) (v : Address)
     → adjoint (groups_with w groups) v
-    ≡ sum_by_ℚ (λ a. w a *ℚ unit v a) (addresses_of (flat_map (λ g. g.vars) groups))
-groups_weighed w [] v = refl
+    ≡ count (addresses_of (flat_map (λ g. g.vars) groups)) v *ℚ w v
+groups_weighed w [] v = sym (zero-*ℚ (w v))
 groups_weighed w (g ∷ groups) v =
-    ap₂ ◌+ℚ◌ (weighed w (addresses_of g.vars) v) (groups_weighed w groups v)
-    ∙ sym (sum_by_ℚ-append (λ a. w a *ℚ unit v a) (addresses_of g.vars)
-    (addresses_of (flat_map (λ g. g.vars) groups)))
-    ∙ ap (sum_by_ℚ (λ a. w a
-    *ℚ unit v a)) (sym (map-append address_of g.vars (flat_map (λ g. g.vars) groups)))
-
-picked : (w : Address → Rational) (us : List Address) (v : Address)
-    → sum_by_ℚ (λ a. w a *ℚ unit v a) us ≡ count us v *ℚ w v
-picked w us v =
-    sum_by_ℚ_same (λ a. w a *ℚ unit v a) (λ a. unit a v *ℚ w v) us
-    (λ a. same_or_other (w a *ℚ unit v a ≡ unit a v *ℚ w v) a v (here a) (there a))
-    ∙ sum_by_ℚ-*ℚ_right (w v) (λ a. unit a v) us
+    ap₂ ◌+ℚ◌ (weighed_variables w (addresses_of g.vars) v) (groups_weighed w groups v)
+    ∙ sym (+ℚ-*ℚ (count (addresses_of g.vars) v) (count (addresses_of others) v) (w v))
+    ∙ ap (λ q. q *ℚ w v)
+    (sym (sum_by_ℚ-append (λ u. unit u v) (addresses_of g.vars) (addresses_of others))
+    ∙ ap (λ us. count us v) (sym (map-append address_of g.vars others)))
   where
-    here : (a : Address) → a ≡ v → w a *ℚ unit v a ≡ unit a v *ℚ w v
-    here a e = *ℚ_comm (w a) (unit v a) ∙ ap₂ (λ b c. unit b c *ℚ w a) (sym e) e
-        ∙ ap (λ u. unit a v *ℚ w u) e
-
-    there : (a : Address) → ¬ (a ≡ v) → w a *ℚ unit v a ≡ unit a v *ℚ w v
-    there a n =
-        ap (λ q. w a *ℚ q) (unit_other v a (λ k. n (sym k))) ∙ *ℚ-zero (w a)
-        ∙ sym (ap (λ q. q *ℚ w v) (unit_other a v n) ∙ zero-*ℚ (w v))
+    others : List GroupVar
+    others = flat_map (λ h. h.vars) groups
 
 -- ---- at points
 
@@ -82,8 +60,7 @@ module _ (model : ModelValue) (rows : List (List Rational)) (vars : List Rationa
   adjoint_with_duals v =
       adjoint-append (rows_with rows model.rows) (groups_with (at_point model vars) model.groups) v
       ∙ ap (λ q. adjoint_of_rows model rows v +ℚ q)
-      (groups_weighed (at_point model vars) model.groups v
-      ∙ picked (at_point model vars) (addresses_of (variables model)) v)
+      (groups_weighed (at_point model vars) model.groups v)
 
   -- at a point of the model the adjoint weighs as the equations say, which speak of its variables
   -- alone

@@ -12,7 +12,7 @@ use Rattle.aff_core.specs.Function.{Function, coefficient, slope}
 use Rattle.aff_core.specs.FunctionLists.{coefficients, slopes}
 use Rattle.linear_laws.specs.SlopeLaws.{mentioned, slope_over}
 use Rattle.linear_laws.specs.SupportLaws.{Supports, support, support_supports, supports_first, supports_second}
-use Rattle.dual_laws.specs.Held.{Held, adjoint, adjoint_of, gap, gap_of, pull, pull_of}
+use Rattle.dual_laws.specs.Held.{Held, adjoint, adjoint_of, gap, gap_of, pull}
 
 -- the addresses that some functions mention, and those that some rows do
 abbrev pub all_mentioned : List Function → List Address

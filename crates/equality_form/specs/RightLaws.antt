@@ -33,7 +33,7 @@ use Rattle.equality_form.specs.FeasibleLaws.{columns_dot, is_feasible}
 use Rattle.equality_form.specs.KeyLaws.{keys_distinct, listed}
 use Rattle.equality_form.specs.Native.{IsNativeModel}
 use Rattle.equality_form.specs.ReadBack.{by_rows, duals_in, point_in, read_back, unflipped}
-use Rattle.equality_form.specs.Right.{AreDuals, HasDuals, IsRight, MayCost, held, held_rows}
+use Rattle.equality_form.specs.Right.{AreDuals, HasDuals, IsRight, MayCost, held_rows}
 use Rattle.equality_form.specs.Right as right
 use Rattle.equality_form.specs.RowLaws.{from_none, right_at}
 use Rattle.equality_form.specs.ShapeLaws.{length-costs_at}

@@ -15,11 +15,10 @@ use Rattle.mof_fetch.specs.declared.fault.FileFault.{FileFault}
 use Rattle.mof_fetch.specs.declared.fault.FileFault.TheVariants as file
 use Rattle.report_core.specs.declared.answer.Answer.{Answer}
 use Rattle.report_core.specs.declared.answer.Answer.TheVariants.{Memory, ReadFault, TooLong}
-use Rattle.report_core.specs.declared.refused.Refused.TheVariants.{File}
 use Rattle.user_model.specs.Model.{ModelValue, empty_model}
 use Rattle.user_model.specs.declared.edit.Edit.{Edit}
 use Rattle.user_model.specs.declared.refusal.Refusal.{Refusal}
-use Rattle.file_verdict.specs.Verdict.{FetchesText, IsVerdict, Judges, JudgesFile, JudgesMade, JudgesRead, JudgesText, no}
+use Rattle.file_verdict.specs.Verdict.{FetchesText, IsVerdict, Judges, JudgesFile, JudgesMade, JudgesRead, JudgesText}
 
 -- one of two files may not be given, for this reason
 pub record OneFails (shelf : Told) (model certificate : List ℕ) (reason : FetchFault) : Type 0 where

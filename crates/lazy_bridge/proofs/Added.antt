@@ -1,6 +1,5 @@
 -- A family more, where it isn't among families.
 use Rattle.std.specs.Prelude.{◌≡◌, Bool, true, false, ◌&&◌, ◌||◌, not, List, [], ◌∷◌, ◌++◌, All, map, refl}
-use denote.Enum.Bare.{same_true}
 use Rattle.std.specs.FinMap as finite
 use Rattle.std.specs.List.{list_any}
 use Rattle.std.proofs.Common.{rules, sym, ap, ap₂, subst, ◌∙◌, true≢false}

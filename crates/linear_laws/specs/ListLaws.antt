@@ -6,7 +6,7 @@ use Rattle.std.proofs.Common.{sym, ◌∙◌, ap, ap₂}
 use Rattle.ratio_core.specs.Rational.{Rational, neg_ℚ, one_ℚ, zero_ℚ, ◌*ℚ◌, ◌+ℚ◌}
 use Rattle.rational_laws.specs.Dot.{dot}
 use Rattle.rational_laws.specs.DotLaws.{dot_map-*ℚ, dot_map-+ℚ}
-use Rattle.rational_laws.specs.Field.{*ℚ-zero, +ℚ-zero, neg_ℚ-*ℚ, *ℚ-neg_ℚ, neg_ℚ-sum, one-*ℚ, zero-+ℚ}
+use Rattle.rational_laws.specs.Field.{*ℚ-zero, *ℚ_comm, +ℚ-*ℚ, +ℚ-zero, neg_ℚ-*ℚ, *ℚ-neg_ℚ, neg_ℚ-sum, one-*ℚ, zero-*ℚ, zero-+ℚ}
 use Rattle.rational_laws.specs.Sums.{sum_by_ℚ-neg_ℚ, sum_by_ℚ_same}
 use Rattle.aff_core.specs.Address.{Address, address_cmp}
 use Rattle.aff_core.specs.Arithmetic.{composed}
@@ -15,10 +15,12 @@ use Rattle.aff_core.specs.Function.{Function, IsNegated, coefficient, constant_f
 use Rattle.aff_core.specs.FunctionLaws.{constant-constant_function, constant-variable, terms-constant_function, terms-variable}
 use Rattle.aff_core.specs.FunctionLists.{coefficients, constants, evaluations, slopes, values}
 use Rattle.aff_core.specs.KeyOrder.{address_order}
+use Rattle.aff_core.specs.Points.{unit}
 use Rattle.aff_core.specs.Terms.{linear}
 use Rattle.linear_laws.specs.EvaluationLaws.{evaluated_composed, evaluated_slope, evaluated_value}
-use Rattle.linear_laws.specs.SlopeLaws.{mentioned, slope_over}
-use Rattle.linear_laws.specs.SupportLaws.{Supports, support, support_supports, supports_first, supports_second}
+use Rattle.linear_laws.specs.SlopeLaws.{coefficient_by_unit, mentioned, slope_over}
+use Rattle.linear_laws.specs.SupportLaws.{Supports, count, support, support_supports, supports_first, supports_second}
+use Rattle.linear_laws.specs.UnitLaws.{same_or_other, unit_other}
 use Rattle.std.specs.Prelude.{◌++◌}
 
 map_both : {X Y Z : Type 0} (f : Y → Z) (h : X → Y) (g : X → Z) (xs : List X)
@@ -66,6 +68,10 @@ slope_variable v x =
     ap (λ ts. linear ts x) (terms-variable address_cmp v)
     ∙ linear_alone v one_ℚ x ∙ one-*ℚ (x v)
 
+pub coefficient_variable : (u v : Address)
+    → coefficient (variable {R = address_cmp} u) v ≡ unit v u
+coefficient_variable u v = sym (coefficient_by_unit (variable u) v) ∙ slope_variable u (unit v)
+
 -- a variable is its own number, at a point and along a ray
 pub evaluated_variable : (one : Rational) (v : Address) (x : Address → Rational)
     → evaluated one (variable {R = address_cmp} v) x ≡ x v
@@ -77,6 +83,30 @@ pub evaluations_variables : (one : Rational) (vs : List Address) (x : Address �
     → evaluations one (map (λ v. variable {R = address_cmp} v) vs) x ≡ map x vs
 evaluations_variables one vs x = map_both (λ f. evaluated one f x)
     (λ v. variable {R = address_cmp} v) x vs (λ v. evaluated_variable one v x)
+
+weighed_variable : (w : Address → Rational) (u v : Address)
+    → w u *ℚ coefficient (variable {R = address_cmp} u) v ≡ unit u v *ℚ w v
+weighed_variable w u v =
+    ap (λ q. w u *ℚ q) (coefficient_variable u v)
+    ∙ same_or_other (w u *ℚ unit v u ≡ unit u v *ℚ w v) u v here there
+  where
+    here : u ≡ v → w u *ℚ unit v u ≡ unit u v *ℚ w v
+    here e =
+        *ℚ_comm (w u) (unit v u)
+        ∙ ap₂ (λ b c. unit b c *ℚ w u) (sym e) e ∙ ap (λ a. unit u v *ℚ w a) e
+
+    there : ¬ (u ≡ v) → w u *ℚ unit v u ≡ unit u v *ℚ w v
+    there n =
+        ap (λ q. w u *ℚ q) (unit_other v u (λ k. n (sym k))) ∙ *ℚ-zero (w u)
+        ∙ sym (ap (λ q. q *ℚ w v) (unit_other u v n) ∙ zero-*ℚ (w v))
+
+-- a point's numbers weigh a variable by its own number, as often as it stands in the list
+pub weighed_variables : (w : Address → Rational) (us : List Address) (v : Address)
+    → dot (map w us) (coefficients (map (variable {R = address_cmp}) us) v) ≡ count us v *ℚ w v
+weighed_variables w [] v = sym (zero-*ℚ (w v))
+weighed_variables w (u ∷ us) v =
+    ap₂ ◌+ℚ◌ (weighed_variable w u v) (weighed_variables w us v)
+    ∙ sym (+ℚ-*ℚ (unit u v) (count us v) (w v))
 
 pub slope_constant_function : (k : Rational) (x : Address → Rational)
     → slope (constant_function {R = address_cmp} k) x ≡ zero_ℚ

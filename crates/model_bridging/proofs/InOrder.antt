@@ -1,5 +1,5 @@
 -- The user's items, planned in their order.
-use Rattle.std.specs.Prelude.{◌≡◌, ℕ, Bool, true, ◌&&◌, not, cond, find, IsTrue, List, [], ◌∷◌, All, Option, Some, None, Result, Ok, Err, refl}
+use Rattle.std.specs.Prelude.{◌≡◌, ℕ, Bool, true, ◌&&◌, not, cond, find, IsTrue, List, [], ◌∷◌, All, Option, Some, None, Result, refl}
 use Rattle.std.proofs.Common.{ap, ap₂, sym, subst, ◌∙◌}
 use Rattle.bridge_graph.specs.declared.Choice.{Choice}
 use Rattle.ratio_core.specs.declared.fault.NumberFault.{NumberFault}

@@ -5,7 +5,7 @@ use Rattle.std.proofs.lemmas.List.Elements.{All-head, All-tail}
 use Rattle.bridge_graph.specs.declared.Choice.{Choice}
 use Rattle.expansion.specs.Bridged.{EachBridged, EachBridgedIn, each, each_in, none, none_in}
 use Rattle.expansion.specs.Grown.{Held}
-use Rattle.expansion.specs.GrownLaws.{held, held_once}
+use Rattle.expansion.specs.GrownLaws.{held_once}
 use Rattle.expansion.specs.Read.{fits, unfit_each, unfit_in}
 use Rattle.item_core.specs.declared.item.Item.{Item}
 use Rattle.fresh_bridging.specs.Entries.{Entry, put_in, put_in_fits}

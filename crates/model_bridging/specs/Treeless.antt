@@ -1,5 +1,5 @@
 -- The first of the user's items that has no tree, by the kinds that are told of them.
-use Rattle.std.specs.Prelude.{◌≡◌, ℕ, Bool, true, false, cond, find, List, [], ◌∷◌, ◌++◌, All, map, Option, Some, None, refl}
+use Rattle.std.specs.Prelude.{◌≡◌, ℕ, Bool, true, false, cond, List, [], ◌∷◌, ◌++◌, All, map, Option, Some, None, refl}
 use Rattle.std.proofs.Common.{ap, ap₂, sym, ◌∙◌, true≢false}
 use Rattle.std.specs.Option.{option_or}
 use Rattle.std.proofs.lemmas.List.Elements.{All-cons, All-nil}

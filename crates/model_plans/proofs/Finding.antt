@@ -1,6 +1,6 @@
 -- What is found by number in a list, and what is there if nothing is found.
 use Rattle.std.proofs.Common.{◌≡◌, ℕ, ◌==◌, true, false, cond, List, [], ◌∷◌, Some, refl, ap, ◌∙◌, map}
-use Rattle.std.specs.Prelude.{Contains, IsSome, is_some}
+use Rattle.std.specs.Prelude.{Contains, IsSome}
 use Rattle.std.specs.Option.{option_map}
 use Rattle.std.proofs.lemmas.Bool.{eq-eqb}
 use Rattle.numbered.specs.Numbered.{find}

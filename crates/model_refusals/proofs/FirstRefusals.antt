@@ -1,5 +1,5 @@
 -- The first refusal of an edit, by what stands at its names.
-use Rattle.std.specs.Prelude.{◌≡◌, ℕ, ◌-◌, Bool, true, false, ◌&&◌, ◌||◌, ◌==◌, nat_lt, if◌then◌else◌, not, List, [], ◌∷◌, length, map, slice_get, Some, None, unwrap_or, refl}
+use Rattle.std.specs.Prelude.{◌≡◌, ℕ, ◌-◌, Bool, true, false, ◌&&◌, ◌||◌, ◌==◌, nat_lt, if◌then◌else◌, not, List, [], ◌∷◌, length, map, slice_get, Some, None, refl}
 use Rattle.std.specs.List.{list_any}
 use Rattle.std.proofs.Common.{sym, ap, ◌∙◌}
 use Rattle.ratio_core.specs.Rational.{Rational}
@@ -16,7 +16,7 @@ use Rattle.user_model.specs.declared.refusal.Refusal.TheVariants.{UnknownName, N
 use Rattle.user_model.specs.declared.row.Row.{Row}
 use Rattle.user_model.specs.Consistent.{IsConsistent}
 use Rattle.user_model.specs.Functions.{components, is_scalar_affine, is_scalar_named, is_vector_affine, mentioned, named_components, term_count}
-use Rattle.user_model.specs.Model.{ModelValue, address_named, has_lower_bound, has_upper_bound, row_named, total_terms, variable_address, variable_named}
+use Rattle.user_model.specs.Model.{ModelValue, has_lower_bound, has_upper_bound, row_named, total_terms, variable_address, variable_named}
 use Rattle.user_model.specs.Sets.{sets_lower, sets_upper}
 use Rattle.user_model.specs.Refusals.{counts, differ, first_of, first_refusal, full_at, has_row_named, has_twins, has_variable_named, is_affine_objective, meets_bound_already_set}
 use Rattle.model_laws.specs.Located.{address_found}

@@ -1,5 +1,5 @@
 -- Functions of a file, over the names of its variables.
-use Rattle.std.specs.Prelude.{ℕ, ◌-◌, Bool, ◌&&◌, List, [], ◌∷◌, ◌++◌, length, map, Option, Ok, Err, nat_le, nat_lt, slice_get, slice_set, bytes_eq, option_and_then, option_map, if◌then◌else◌}
+use Rattle.std.specs.Prelude.{ℕ, ◌-◌, Bool, ◌&&◌, List, [], ◌∷◌, ◌++◌, length, Option, Ok, Err, nat_le, nat_lt, slice_get, slice_set, bytes_eq, option_and_then, option_map, if◌then◌else◌}
 use Rattle.std.specs.List.{list_any}
 use Rattle.name_index.specs.Name.{is_name}
 use Rattle.named_aff.specs.declared.aff.NamedAff.{NamedAff}

@@ -2,7 +2,7 @@
 use Rattle.std.specs.Prelude.{◌≡◌, ◌≢◌, ℕ, suc, ◌+◌, ◌≤◌, ◌==◌, Bool, true, false, ◌&&◌, not, List, [], ◌∷◌, ◌++◌, All, AllPairs, bytes_eq, find, length, map, refl}
 use Rattle.std.specs.List.{list_any}
 use Rattle.std.proofs.Common.{ap, ap₂, append-nil, append_assoc, arith, subst, sym, ◌∙◌}
-use Rattle.std.proofs.lemmas.Bool.{le-ltb, and_right, eq-eqb, false_from_ne_true, or_from}
+use Rattle.std.proofs.lemmas.Bool.{eq-eqb, false_from_ne_true, or_from}
 use Rattle.std.proofs.lemmas.List.{length-append, length-map, map_push}
 use Rattle.std.proofs.lemmas.List.Concat.{flat_map-append}
 use Rattle.std.proofs.lemmas.List.Elements.{All-head, All-tail}
@@ -11,7 +11,7 @@ use Rattle.map_laws.specs.OptionLaws.{is_some-option_map}
 use Rattle.map_laws.specs.EachLaws.{all_first, all_second}
 use Rattle.map_laws.specs.PairLaws.{AllPairs-across, AllPairs-first, AllPairs-head, AllPairs-second, AllPairs-tail}
 use Rattle.set_core.specs.declared.set.Set.{Set}
-use Rattle.set_core.specs.Shapes.{IsSetOf, dimension_of, has_bad_dimension, is_scalar, least_dimension}
+use Rattle.set_core.specs.Shapes.{IsSetOf, has_bad_dimension, is_scalar}
 use Rattle.set_core.specs.ShapeLaws.{good_dimension, scalar_one}
 use Rattle.user_model.specs.declared.edit.Edit.{Edit}
 use Rattle.user_model.specs.declared.group.Group.{Group}

@@ -1,7 +1,7 @@
 -- Maps under other keys in the same order: what is found, put in and made under the new keys is
 -- what was under the old.
 use Rattle.std.specs.Prelude.{◌≡◌, ◌&&◌, cond, T, List, [], ◌∷◌, Some, length, map, refl}
-use Rattle.std.proofs.Common.{ap, ap₂, arith, subst, sym, ◌∙◌}
+use Rattle.std.proofs.Common.{ap, ap₂, subst, sym, ◌∙◌}
 use Rattle.std.proofs.lemmas.List.{length-map, nil_from_length}
 use Rattle.std.specs.Cmp.{IsTotalOrder}
 use Rattle.std.specs.FinMap as finite

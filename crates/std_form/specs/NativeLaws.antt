@@ -1,7 +1,6 @@
 -- What is read through a map is a native model, where the map and the solver's model belong
 -- together.
 use Rattle.std.specs.Prelude.{◌≡◌, ◌≢◌, ℕ, Bool, true, false, ◌&&◌, not, IsTrue, List, [], ◌∷◌, All, IsSome, Option, Some, None, option_and_then, unwrap_or, refl}
-use Rattle.std.specs.Prelude as prelude
 use Rattle.std.specs.FinMap as finite
 use Rattle.std.specs.FinMap.{FinMap}
 use Rattle.std.specs.FinMap.Entries.{find}

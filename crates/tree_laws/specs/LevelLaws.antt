@@ -10,17 +10,16 @@ use Rattle.expansion.specs.Bridged.{EachBridged, EachBridgedIn}
 use Rattle.expansion.specs.Read.{leaves_in, leaves_of_each}
 use Rattle.ratio_core.specs.Rational.{Rational, zero_ℚ, ◌*ℚ◌, ◌+ℚ◌}
 use Rattle.rational_laws.specs.Dot.{dot}
-use Rattle.rational_laws.specs.Field.{*ℚ-zero, *ℚ_comm, +ℚ-*ℚ, +ℚ-zero, +ℚ_cancel, one-*ℚ, zero-*ℚ, zero-+ℚ}
-use Rattle.aff_core.specs.Address.{Address, address_cmp}
-use Rattle.aff_core.specs.Function.{coefficient, variable}
+use Rattle.rational_laws.specs.Field.{*ℚ-zero, +ℚ-*ℚ, +ℚ-zero, +ℚ_cancel, one-*ℚ, zero-*ℚ, zero-+ℚ}
+use Rattle.aff_core.specs.Address.{Address}
+use Rattle.aff_core.specs.Function.{coefficient}
 use Rattle.aff_core.specs.FunctionLaws.{coefficient-variable_other}
 use Rattle.aff_core.specs.FunctionLists.{coefficients}
 use Rattle.aff_core.specs.KeyOrder.{address_order}
 use Rattle.aff_core.specs.Points.{unit}
-use Rattle.linear_laws.specs.ListLaws.{slope_variable}
-use Rattle.linear_laws.specs.SlopeLaws.{coefficient_by_unit}
+use Rattle.linear_laws.specs.ListLaws.{weighed_variables}
 use Rattle.linear_laws.specs.SupportLaws.{count}
-use Rattle.linear_laws.specs.UnitLaws.{same_or_other, unit_other}
+use Rattle.linear_laws.specs.UnitLaws.{same_or_other}
 use Rattle.rational_laws.specs.Sums.{sum_by_ℚ-append}
 use Rattle.dual_laws.specs.Held.{DualsHold, Held, IsHeld, adjoint, adjoint_of}
 use Rattle.dual_laws.specs.PullLaws.{adjoint-append}
@@ -79,30 +78,6 @@ module _ (d : LeafDuals) where
       (stand_both hs (leaf_helds d xs) gs (leaf_helds d ys) s t)
 
 -- ---- numbers of variables
-
-weighed_variable : (w : Address → Rational) (a v : Address)
-    → w a *ℚ coefficient (variable {R = address_cmp} a) v ≡ unit a v *ℚ w v
-weighed_variable w a v =
-    ap (λ q. w a *ℚ q) (sym (coefficient_by_unit (variable a) v) ∙ slope_variable a (unit v))
-    ∙ same_or_other (w a *ℚ unit v a ≡ unit a v *ℚ w v) a v here there
-  where
-    here : a ≡ v → w a *ℚ unit v a ≡ unit a v *ℚ w v
-    here e =
-        *ℚ_comm (w a) (unit v a)
-        ∙ ap₂ (λ b c. unit b c *ℚ w a) (sym e) e ∙ ap (λ u. unit a v *ℚ w u) e
-
-    there : ¬ (a ≡ v) → w a *ℚ unit v a ≡ unit a v *ℚ w v
-    there n =
-        ap (λ q. w a *ℚ q) (unit_other v a (λ k. n (sym k))) ∙ *ℚ-zero (w a)
-        ∙ sym (ap (λ q. q *ℚ w v) (unit_other a v n) ∙ zero-*ℚ (w v))
-
-weighed_variables : (w : Address → Rational) (vars : List Address) (v : Address)
-    → dot (map w vars) (coefficients (map (variable {R = address_cmp}) vars) v)
-    ≡ count vars v *ℚ w v
-weighed_variables w [] v = sym (zero-*ℚ (w v))
-weighed_variables w (a ∷ vars) v =
-    ap₂ ◌+ℚ◌ (weighed_variable w a v) (weighed_variables w vars v)
-    ∙ sym (+ℚ-*ℚ (unit a v) (count vars v) (w v))
 
 pub weighed_group : (bound : Rational) (w : Address → Rational) (g : Item) (v : Address)
     → is_group g.body ≡ true

@@ -20,7 +20,7 @@ use Rattle.aff_core.specs.FunctionLaws.{constant-variable, same_coefficients}
 use Rattle.aff_core.specs.FunctionLists.{coefficients, constants}
 use Rattle.aff_core.specs.KeyOrder.{address_order}
 use Rattle.aff_core.specs.Points.{unit}
-use Rattle.linear_laws.specs.ListLaws.{coefficients-composed, constants-composed, dot_values, slope_variable}
+use Rattle.linear_laws.specs.ListLaws.{coefficient_variable, coefficients-composed, constants-composed, dot_values}
 use Rattle.linear_laws.specs.SlopeLaws.{coefficient_by_unit, slope_agreeing}
 use Rattle.linear_laws.specs.SupportLaws.{support, support_supports, supports_first, supports_second}
 use Rattle.dual_laws.specs.Held.{DualsHold, Held, IsHeld, adjoint, adjoint_of, gap, gap_of, pull, pull_of}
@@ -117,10 +117,6 @@ module _ (entries : List Entry) where
 
   -- ---- functions that mention no component
 
-  coefficient_of_variable : (u v : Address) → coefficient (variable {R = address_cmp} u) v ≡ unit v
-      u
-  coefficient_of_variable u v = sym (coefficient_by_unit (variable u) v) ∙ slope_variable u (unit v)
-
   pub untouched : (f : Function)
       → ((u : Address) → ¬ (coefficient f u ≡ zero_ℚ) → function_in entries u ≡ variable u)
       → composed (function_in entries) f ≡ f
@@ -129,7 +125,7 @@ module _ (entries : List Entry) where
       same_coefficients address_order (composed (function_in entries) f) f
       (λ v. coefficient-composed address_order (function_in entries) f v
       ∙ slope_agreeing f (seen_at entries v) (unit v)
-      (λ u some. ap (λ g. coefficient g v) (h u some) ∙ coefficient_of_variable u v)
+      (λ u some. ap (λ g. coefficient g v) (h u some) ∙ coefficient_variable u v)
       ∙ coefficient_by_unit f v)
       (constant-composed address_order (function_in entries) f
       ∙ ap (λ q. f.constant +ℚ q)

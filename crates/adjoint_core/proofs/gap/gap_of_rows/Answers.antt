@@ -1,13 +1,13 @@
 use Rattle.std.specs.Prelude.{◌+◌, ◌≡◌, length, map}
 use Rattle.std.specs.List.{zip}
-use Rattle.std.proofs.Common.{◌∙◌, ap, drop, subst}
+use Rattle.std.proofs.Common.{◌∙◌, ap, drop, refl, subst}
 use Rattle.std.proofs.Math.ListN.{drop_of_length-le}
 use Rattle.ratio_core.specs.Folds.{sum_from}
 use Rattle.ratio_core.specs.Rational.{zero_ℚ}
 use Rattle.certificates.specs.Duals.{row_with, rows_with}
 use Rattle.cert_core.specs.Folds.{AddUp, gap_parts, gap_parts_of}
 use Rattle.cert_core.proofs.Rows.{next_row, row_size, rows_done}
-use Rattle.cert_core.proofs.Steps.{next_item}
+use Rattle.map_laws.specs.LoopLaws.{next_item}
 use Rattle.adjoint_core.specs.CarriedBack.{GapFits, UnfitGap}
 use Rattle.adjoint_core.specs.Walk.{row_place}
 use Rattle.adjoint_core.proofs.GapSteps.{gap_end, gap_refused, gap_step}
@@ -41,7 +41,7 @@ returns-in_err-sum c =
     (λ at k. gap_refused zero_ℚ c.loop-i.sum (map row_place rows) (map row_place (drop i rows))
     (map row_place (drop (i + 1) rows)) hs (drop i hs) (drop (i + 1) hs) (row_place r) held
     c.loop-i.invariant
-    (ap (map row_place) (next_item rows i r c.index-rows-i.is c.loop-i-test.true)) next at
+    (ap (map row_place) (next_item rows rows i r refl c.index-rows-i.is c.loop-i-test.true)) next at
     (subst (λ z. ¬ (AddUp c.loop-i.sum (gap_parts_of (row_with z r)))) c.as_slice.ensures k.0, k.1))
 
 pub loop-i-preserved : goal.loop-i-preserved
@@ -59,7 +59,7 @@ loop-i-preserved c =
     gap_step zero_ℚ c.loop-i.sum (map row_place rows) (map row_place (drop i rows))
     (map row_place (drop (i + 1) rows)) hs (drop i hs) (drop (i + 1) hs) (row_place r)
     (row_with y r) c.loop-i.invariant
-    (ap (map row_place) (next_item rows i r c.index-rows-i.is c.loop-i-test.true)) next
+    (ap (map row_place) (next_item rows rows i r refl c.index-rows-i.is c.loop-i-test.true)) next
     c.in_ok-sum.sum told.0 told.1
 
 pub returns : goal.returns

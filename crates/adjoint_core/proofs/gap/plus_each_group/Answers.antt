@@ -1,11 +1,11 @@
 use Rattle.std.specs.Prelude.{◌+◌, ◌≡◌, map, take}
 use Rattle.std.specs.List.{zip}
-use Rattle.std.proofs.Common.{◌∙◌, ap, drop, subst, sym}
+use Rattle.std.proofs.Common.{◌∙◌, ap, drop, refl, subst, sym}
 use Rattle.std.proofs.Math.ListN.{drop_of_length-le}
 use Rattle.ratio_core.specs.Folds.{sum_from}
 use Rattle.certificates.specs.Duals.{group_with, groups_with}
 use Rattle.cert_core.specs.Folds.{AddUp, gap_parts, gap_parts_of}
-use Rattle.cert_core.proofs.Steps.{next_item}
+use Rattle.map_laws.specs.LoopLaws.{next_item}
 use Rattle.adjoint_core.specs.CarriedBack.{GapFits, UnfitGap, group_place}
 use Rattle.adjoint_core.proofs.GapSteps.{GroupsGap, groups_gap_end, groups_gap_refused, groups_gap_step, own_is}
 use Rattle.adjoint_core.proofs.InOrder.{told_on}
@@ -16,7 +16,7 @@ returns-in_err-sum c = λ w is.
     let gs = c.args.groups.now in
     let i = c.loop-group.group-index in
     let g = c.group-item.result in
-    let next = next_item gs i g c.group-item.is c.loop-group-test.true in
+    let next = next_item gs gs i g refl c.group-item.is c.loop-group-test.true in
     let front = c.split_at.ensures.front ∙ ap (λ n. take n c.loop-group.left.now) c.len.ensures in
     let own = own_is c.args.of_rows.now c.loop-group.sum gs (drop i gs) (drop (i + 1) gs)
     c.args.duals.now c.loop-group.left.now g c.loop-group.invariant next w is in
@@ -35,7 +35,7 @@ loop-group-preserved c =
     let gs = c.args.groups.now in
     let i = c.loop-group.group-index in
     let g = c.group-item.result in
-    let next = next_item gs i g c.group-item.is c.loop-group-test.true in
+    let next = next_item gs gs i g refl c.group-item.is c.loop-group-test.true in
     let front = c.split_at.ensures.front ∙ ap (λ n. take n c.loop-group.left.now) c.len.ensures in
     let back = c.split_at.ensures.back ∙ ap (λ n. drop n c.loop-group.left.now) c.len.ensures in
     subst (GroupsGap c.args.of_rows.now c.in_ok-sum.sum gs (drop (i + 1) gs) c.args.duals.now)

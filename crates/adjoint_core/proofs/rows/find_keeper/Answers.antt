@@ -1,8 +1,8 @@
 use Rattle.std.specs.Prelude.{◌+◌, false, IsNone, map}
-use Rattle.std.proofs.Common.{◌∙◌, ap, drop, subst, sym}
+use Rattle.std.proofs.Common.{◌∙◌, ap, drop, refl, subst, sym}
 use Rattle.std.proofs.Math.ListN.{drop_of_length-le}
 use Rattle.bridge_face.specs.State.{found}
-use Rattle.cert_core.proofs.Steps.{next_item}
+use Rattle.map_laws.specs.LoopLaws.{next_item}
 use Rattle.adjoint_core.specs.Walk.{kept_at}
 use Rattle.adjoint_core.proofs.WalkSteps.{first_kept, passed_by}
 use Rattle.adjoint_core.proofs.rows.find_keeper.Goals as goal
@@ -17,7 +17,7 @@ returns-in-Some g c =
     let at = c.args.at.now in
     let told = sym c.child_rows.ensures ∙ c.in-Some.is in (
       sym c.loop-bridge.invariant
-          ∙ ap (λ l. kept_at (map state l) at) (next_item bs i b c.bridge-item.is
+          ∙ ap (λ l. kept_at (map state l) at) (next_item bs bs i b refl c.bridge-item.is
           c.loop-bridge-test.true)
           ∙ first_kept (found (state b) at) (kept_at (map state (drop (i + 1) bs)) at)
           c.in-Some.rows told,
@@ -35,7 +35,7 @@ loop-bridge-preserved g c =
     sym (passed_by (found (state b) at) (kept_at (map state (drop (i + 1) bs)) at)
     (λ rows k. c.in_default.not-Some rows (c.child_rows.ensures ∙ k)))
     ∙ sym (ap (λ l. kept_at (map state l) at)
-    (next_item bs i b c.bridge-item.is c.loop-bridge-test.true))
+    (next_item bs bs i b refl c.bridge-item.is c.loop-bridge-test.true))
     ∙ c.loop-bridge.invariant
 
 pub returns : goal.returns

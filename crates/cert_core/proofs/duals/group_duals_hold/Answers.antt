@@ -9,7 +9,7 @@ use Rattle.user_model.specs.declared.group.Group.{Group}
 use Rattle.certificates.specs.Duals.{group_with, groups_with}
 use Rattle.certificates.specs.Points.{addresses_of}
 use Rattle.cert_core.proofs.GroupSteps.{GroupsTested, groups_end, groups_fit, groups_step}
-use Rattle.cert_core.proofs.Steps.{next_item}
+use Rattle.map_laws.specs.LoopLaws.{next_item}
 use Rattle.std.proofs.lemmas.List.Elements.{All-map}
 use Rattle.map_laws.specs.EachLaws.{all_from_map}
 use Rattle.cert_core.proofs.duals.group_duals_hold.Goals as goal
@@ -25,7 +25,7 @@ returns-in_err-holds c = λ x is.
     let gs = c.args.groups.now in
     let i = c.loop-group.group-index in
     let g = c.group-item.result in
-    let next = next_item gs i g c.group-item.is c.loop-group-test.true in
+    let next = next_item gs gs i g refl c.group-item.is c.loop-group-test.true in
     let front = c.split_at.ensures.front ∙ ap (λ n. take n c.loop-group.left.now) c.len.ensures in
     overflowed c.from_residual.result _ (All (λ h. DualFits h.set h.duals) (groups_with x gs))
     (λ holds. IsTrue holds ↔ All (λ h. Dual h.set h.duals) (groups_with x gs))
@@ -41,7 +41,7 @@ loop-group-preserved c =
     let gs = c.args.groups.now in
     let i = c.loop-group.group-index in
     let g = c.group-item.result in
-    let next = next_item gs i g c.group-item.is c.loop-group-test.true in
+    let next = next_item gs gs i g refl c.group-item.is c.loop-group-test.true in
     let front = c.split_at.ensures.front ∙ ap (λ n. take n c.loop-group.left.now) c.len.ensures in
     let back = c.split_at.ensures.back ∙ ap (λ n. drop n c.loop-group.left.now) c.len.ensures in
     subst (GroupsTested F P (c.loop-group.all && c.in_ok-holds.holds) gs (drop (i + 1) gs)

@@ -1,5 +1,5 @@
 use Rattle.std.specs.Prelude.{◌≡◌, ◌+◌}
-use Rattle.std.proofs.Common.{◌∙◌, drop, subst, sym}
+use Rattle.std.proofs.Common.{◌∙◌, drop, refl, subst, sym}
 use Rattle.std.proofs.Math.ListN.{drop_of_length-le}
 use Rattle.ratio_core.specs.Rational.{Rational}
 use Rattle.ratio_core.specs.RationalLaws.{rational_eq_Decides}
@@ -9,7 +9,8 @@ use Rattle.user_model.specs.declared.objective.Objective.{Objective}
 use Rattle.certificates.specs.Duals.{reduced_cost}
 use Rattle.certificates.specs.Points.{objective_function, sense_of}
 use Rattle.cert_core.specs.Folds.{CostFits}
-use Rattle.cert_core.proofs.Steps.{made_there, next_item}
+use Rattle.map_laws.specs.LoopLaws.{next_item}
+use Rattle.cert_core.proofs.Steps.{made_there}
 use Rattle.cert_core.proofs.Tested.{tested_end, tested_step}
 use Rattle.cert_core.proofs.equations.are_reduced_costs.Goals as goal
 
@@ -25,7 +26,7 @@ loop-i-preserved c = λ a w a_is w_is.
     let us = c.args.variables.now in
     let i = c.loop-i.i in
     let v = c.index-variables-i.result in
-    let next = next_item us i v c.index-variables-i.is c.loop-i-test.true in
+    let next = next_item us us i v refl c.index-variables-i.is c.loop-i-test.true in
     let a_at = made_there a us c.args.adjoint.now i v c.index-adjoint-i.result a_is
     c.index-variables-i.is c.loop-i-test.true c.index-adjoint-i.is in
     let w_at = made_there w us c.args.duals.now i v c.index-duals-i.result w_is

@@ -3,7 +3,8 @@ use Rattle.std.proofs.Common.{◌∙◌, ap₂, drop, refl, subst, sym}
 use Rattle.std.proofs.Math.ListN.{drop_of_length-le}
 use Rattle.ratio_core.specs.Rational.{SumFits, zero_ℚ, ◌+ℚ◌}
 use Rattle.ratio_core.specs.AnsweredLaws.{overflowed}
-use Rattle.cert_core.proofs.Steps.{made_there, next_item, some_item}
+use Rattle.map_laws.specs.LoopLaws.{next_item}
+use Rattle.cert_core.proofs.Steps.{made_there, some_item}
 use Rattle.cert_core.proofs.Tested.{tested_end, tested_refused, tested_step}
 use Rattle.cert_core.proofs.equations.cancel.Goals as goal
 
@@ -12,7 +13,7 @@ returns-in_err-sum c = λ a w a_is w_is.
     let us = c.args.variables.now in
     let i = c.loop-i.i in
     let at = some_item us i c.loop-i-test.true in
-    let next = next_item us i at.0 at.1 c.loop-i-test.true in
+    let next = next_item us us i at.0 refl at.1 c.loop-i-test.true in
     let a_at = made_there a us c.args.adjoint.now i at.0 c.index-adjoint-i.result a_is at.1
     c.loop-i-test.true c.index-adjoint-i.is in
     let w_at = made_there w us c.args.duals.now i at.0 c.index-duals-i.result w_is at.1
@@ -29,7 +30,7 @@ loop-i-preserved c = λ a w a_is w_is.
     let us = c.args.variables.now in
     let i = c.loop-i.i in
     let at = some_item us i c.loop-i-test.true in
-    let next = next_item us i at.0 at.1 c.loop-i-test.true in
+    let next = next_item us us i at.0 refl at.1 c.loop-i-test.true in
     let a_at = made_there a us c.args.adjoint.now i at.0 c.index-adjoint-i.result a_is at.1
     c.loop-i-test.true c.index-adjoint-i.is in
     let w_at = made_there w us c.args.duals.now i at.0 c.index-duals-i.result w_is at.1

@@ -1,12 +1,12 @@
 use Rattle.std.specs.Prelude.{◌≡◌, ◌+◌, take}
-use Rattle.std.proofs.Common.{◌∙◌, ap, drop, subst, sym}
+use Rattle.std.proofs.Common.{◌∙◌, ap, drop, refl, subst, sym}
 use Rattle.std.proofs.Math.ListN.{drop_of_length-le}
 use Rattle.ratio_core.specs.Folds.{sum_from}
 use Rattle.certificates.specs.Duals.{group_with, groups_with}
 use Rattle.cert_core.specs.Folds.{AddUp, gap_parts, gap_parts_of}
 use Rattle.ratio_core.specs.AnsweredLaws.{passed_on}
 use Rattle.cert_core.proofs.GroupSteps.{GroupsSummed, own_left, sums_end, sums_refused, sums_step}
-use Rattle.cert_core.proofs.Steps.{next_item}
+use Rattle.map_laws.specs.LoopLaws.{next_item}
 use Rattle.cert_core.proofs.gap.plus_groups.Goals as goal
 
 pub returns-in_err-sum : goal.returns-in_err-sum
@@ -14,7 +14,7 @@ returns-in_err-sum c = λ w is.
     let gs = c.args.groups.now in
     let i = c.loop-group.group-index in
     let g = c.group-item.result in
-    let next = next_item gs i g c.group-item.is c.loop-group-test.true in
+    let next = next_item gs gs i g refl c.group-item.is c.loop-group-test.true in
     let front = c.split_at.ensures.front ∙ ap (λ n. take n c.loop-group.left.now) c.len.ensures in
     let own = own_left c.args.of_rows.now c.loop-group.sum gs (drop i gs) (drop (i + 1) gs)
     c.args.duals.now c.loop-group.left.now g c.loop-group.invariant next w is in
@@ -32,7 +32,7 @@ loop-group-preserved c =
     let gs = c.args.groups.now in
     let i = c.loop-group.group-index in
     let g = c.group-item.result in
-    let next = next_item gs i g c.group-item.is c.loop-group-test.true in
+    let next = next_item gs gs i g refl c.group-item.is c.loop-group-test.true in
     let front = c.split_at.ensures.front ∙ ap (λ n. take n c.loop-group.left.now) c.len.ensures in
     let back = c.split_at.ensures.back ∙ ap (λ n. drop n c.loop-group.left.now) c.len.ensures in
     subst (GroupsSummed c.args.of_rows.now c.in_ok-sum.sum gs (drop (i + 1) gs) c.args.duals.now)

@@ -1,5 +1,5 @@
 use Rattle.std.specs.Prelude.{◌+◌, ◌&&◌, ◌↔◌, IsTrue, All, Ok, take}
-use Rattle.std.proofs.Common.{◌∙◌, ap, drop, subst, sym}
+use Rattle.std.proofs.Common.{◌∙◌, ap, drop, refl, subst, sym}
 use Rattle.std.proofs.Math.ListN.{drop_of_length-le}
 use Rattle.ratio_core.specs.Rational.{Rational}
 use Rattle.ratio_core.specs.AnsweredLaws.{passed_on}
@@ -14,7 +14,7 @@ use Rattle.cert_core.specs.Readings.{one_of}
 use Rattle.cert_core.specs.declared.readings.Reading.{Reading}
 use Rattle.cert_core.proofs.Evaluated.{variables_in_set, variables_membership}
 use Rattle.cert_core.proofs.GroupSteps.{GroupsTested, groups_end, groups_fit, groups_step}
-use Rattle.cert_core.proofs.Steps.{next_item}
+use Rattle.map_laws.specs.LoopLaws.{next_item}
 use Rattle.cert_core.proofs.points.groups_hold.Goals as goal
 
 abbrev F : Reading → (Address → Rational) → Group → Type 0
@@ -28,7 +28,7 @@ returns-in_err-holds c = λ x is.
     let gs = c.args.groups.now in
     let i = c.loop-group.group-index in
     let g = c.group-item.result in
-    let next = next_item gs i g c.group-item.is c.loop-group-test.true in
+    let next = next_item gs gs i g refl c.group-item.is c.loop-group-test.true in
     let front = c.split_at.ensures.front ∙ ap (λ n. take n c.loop-group.left.now) c.len.ensures in
     let k = c.args.reading in
     passed_on c.from_residual.result c.in_err-holds.field-0.0
@@ -46,7 +46,7 @@ loop-group-preserved c =
     let gs = c.args.groups.now in
     let i = c.loop-group.group-index in
     let g = c.group-item.result in
-    let next = next_item gs i g c.group-item.is c.loop-group-test.true in
+    let next = next_item gs gs i g refl c.group-item.is c.loop-group-test.true in
     let front = c.split_at.ensures.front ∙ ap (λ n. take n c.loop-group.left.now) c.len.ensures in
     let back = c.split_at.ensures.back ∙ ap (λ n. drop n c.loop-group.left.now) c.len.ensures in
     let k = c.args.reading in

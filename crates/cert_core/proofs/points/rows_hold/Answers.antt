@@ -1,5 +1,5 @@
 use Rattle.std.specs.Prelude.{◌+◌}
-use Rattle.std.proofs.Common.{drop}
+use Rattle.std.proofs.Common.{drop, refl}
 use Rattle.std.proofs.Math.ListN.{drop_of_length-le}
 use Rattle.ratio_core.specs.Rational.{Rational}
 use Rattle.aff_core.specs.Address.{Address}
@@ -9,7 +9,7 @@ use Rattle.cert_core.specs.Folds.{FitIn}
 use Rattle.cert_core.specs.Holding.{FunctionsHold}
 use Rattle.cert_core.specs.Points.{numbers_in}
 use Rattle.cert_core.specs.Readings.{one_of}
-use Rattle.cert_core.proofs.Steps.{next_item}
+use Rattle.map_laws.specs.LoopLaws.{next_item}
 use Rattle.cert_core.proofs.Tested.{tested_end, tested_step}
 use Rattle.cert_core.proofs.points.rows_hold.Goals as goal
 
@@ -26,7 +26,7 @@ loop-row-preserved c =
     let rows = c.args.rows.now in
     let i = c.loop-row.row-index in
     let r = c.row-item.result in
-    let next = next_item rows i r c.row-item.is c.loop-row-test.true in
+    let next = next_item rows rows i r refl c.row-item.is c.loop-row-test.true in
     tested_step (F one x) (P one x) c.loop-row.all c.in_ok-holds.holds rows
     (drop i rows) (drop (i + 1) rows) r c.loop-row.invariant next c.in_ok-holds.ensures.0
     c.in_ok-holds.ensures.1

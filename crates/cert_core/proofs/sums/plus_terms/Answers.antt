@@ -1,5 +1,5 @@
 use Rattle.std.specs.Prelude.{◌≡◌, ◌+◌}
-use Rattle.std.proofs.Common.{◌∙◌, ap, drop, subst, sym}
+use Rattle.std.proofs.Common.{◌∙◌, ap, drop, refl, subst, sym}
 use Rattle.std.proofs.Math.ListN.{drop_of_length-le}
 use Rattle.ratio_core.specs.Rational.{◌*ℚ◌, ◌+ℚ◌}
 use Rattle.ratio_core.specs.AnsweredLaws.{passed_on}
@@ -7,7 +7,7 @@ use Rattle.aff_core.specs.Terms.{StepFits, linear}
 use Rattle.cert_core.specs.Folds.{AddUp, products_at}
 use Rattle.cert_core.specs.Points.{numbers_in}
 use Rattle.cert_core.proofs.Evaluated.{with_products}
-use Rattle.cert_core.proofs.Steps.{next_item}
+use Rattle.map_laws.specs.LoopLaws.{next_item}
 use Rattle.cert_core.proofs.Summed.{product_refused, product_step, summed_end}
 use Rattle.cert_core.proofs.sums.plus_terms.Goals as goal
 
@@ -17,7 +17,7 @@ loop-address-preserved c =
     let ts = c.args.terms.now in
     let i = c.loop-address.address-index in
     let x = numbers_in c.args.at.now in
-    let next = next_item ts i t c.loop-address-item.is c.loop-address-test.true in
+    let next = next_item ts ts i t refl c.loop-address-item.is c.loop-address-test.true in
     product_step c.args.start.now c.loop-address.sum (products_at ts x)
     (products_at (drop i ts) x) (products_at (drop (i + 1) ts) x) t.1 (x t.0)
     c.loop-address.invariant (ap (λ l. products_at l x) next) c.in_ok-sum.sum
@@ -30,7 +30,7 @@ returns-in_err-sum c =
     let ts = c.args.terms.now in
     let i = c.loop-address.address-index in
     let x = numbers_in c.args.at.now in
-    let next = next_item ts i t c.loop-address-item.is c.loop-address-test.true in
+    let next = next_item ts ts i t refl c.loop-address-item.is c.loop-address-test.true in
     passed_on c.from_residual.result c.in_err-sum.field-0.0
     (StepFits c.loop-address.sum t.1 c.number.result) (AddUp c.args.start.now (products_at ts x))
     (λ q. q ≡ c.args.start.now +ℚ linear ts x)
