@@ -5,7 +5,6 @@ ghost use Rattle.bridge_face.specs.BackOf.{size};
 
 use anyhow::Result;
 use item_core::{Body, Family, Item};
-use lists::Memory;
 use ratio_core::{Ratio, Ratios};
 use std::alloc::Global;
 

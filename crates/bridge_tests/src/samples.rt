@@ -2,7 +2,7 @@
 ghost use Rattle.std.specs.Prelude.{◌≡◌, [], ◌∷◌, IfOk, false, true};
 ghost use Rattle.bridge_face.specs.Law.{IsItemFor};
 ghost use Rattle.set_core.specs.Shapes.{is_scalar};
-ghost use Rattle.bridge_tests.specs.SampleLaws.{IsSampleSet, IsSound, at_variable, here, item_of, shifted, three_functions, three_variables};
+ghost use Rattle.bridge_tests.specs.SampleLaws.{IsSampleSet, IsSound, at_variable, here, shifted, three_functions, three_variables};
 
 use aff_core::{Address, Addresses, Aff, Root, VecAff};
 use anyhow::{Result, bail};

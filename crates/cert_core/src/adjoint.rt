@@ -1,7 +1,7 @@
 //! The rows' adjoint of each variable, in one pass over the rows.
 ghost use Rattle.std.specs.Prelude.{◌≡◌, [], ◌∷◌, ◌<◌, All, Contains, IfOk, cond, length, map, slice_index_or, slice_set};
 ghost use Rattle.ratio_core.specs.Folds.{sum_from};
-ghost use Rattle.ratio_core.specs.Rational.{Fits, Rational, zero_ℚ, ◌+ℚ◌, ◌*ℚ◌};
+ghost use Rattle.ratio_core.specs.Rational.{Rational, zero_ℚ, ◌+ℚ◌, ◌*ℚ◌};
 ghost use Rattle.ratio_core.specs.Answers.{ExactWhere};
 ghost use Rattle.aff_core.specs.Address.{Address, address_eq};
 ghost use Rattle.aff_core.specs.FunctionLists.{coefficients};

@@ -1,6 +1,5 @@
 //! The check of a certificate.
 ghost use Rattle.std.specs.Prelude.{◌≡◌, ◌↔◌, All, IsTrue, length};
-ghost use Rattle.ratio_core.specs.Folds.{sum_from};
 ghost use Rattle.ratio_core.specs.Rational.{zero_ℚ, ◌‹ℚ◌};
 ghost use Rattle.ratio_core.specs.Answers.{ExactWhere};
 ghost use Rattle.set_core.specs.Membership.{Dual, DualFits};
@@ -12,7 +11,7 @@ ghost use Rattle.certificates.specs.Duals.{dual_gap, with_duals};
 ghost use Rattle.certificates.specs.Feasible.{IsBetter};
 ghost use Rattle.certificates.specs.Good.{IsInfeasible, IsOptimal, IsUnbounded};
 ghost use Rattle.cert_core.specs.Answers.{TellsWhere};
-ghost use Rattle.cert_core.specs.Checked.{Checks, HasEntries, HasPoint, HasRowDuals, model_of};
+ghost use Rattle.cert_core.specs.Checked.{Checks, HasEntries, HasRowDuals, model_of};
 ghost use Rattle.cert_core.specs.Folds.{AddUp, InfeasibleFits, OptimalFits, PointFits, UnboundedFits, gap_parts};
 ghost use Rattle.cert_core.specs.Holding.{HoldsAt, IsReady};
 ghost use Rattle.cert_core.specs.Readings.{one_of};

@@ -1,6 +1,6 @@
 //! The gap of duals: over rows and then groups the least product with the set, and then less each
 //! dual times its constant.
-ghost use Rattle.std.specs.Prelude.{◌≡◌, ◌++◌, All, length, map};
+ghost use Rattle.std.specs.Prelude.{◌≡◌, All, length, map};
 ghost use Rattle.ratio_core.specs.Folds.{sum_from};
 ghost use Rattle.ratio_core.specs.Rational.{Fits, Rational, zero_ℚ};
 ghost use Rattle.ratio_core.specs.Answers.{ExactWhere};

@@ -5,7 +5,6 @@ ghost use Rattle.aff_core.specs.FunctionLists.{evaluations};
 ghost use Rattle.ratio_core.specs.Rational.{Rational};
 ghost use Rattle.ratio_core.specs.Answers.{ExactWhere};
 ghost use Rattle.set_core.specs.Membership.{MembershipFits};
-ghost use Rattle.set_core.specs.Shapes.{dimension_of};
 ghost use Rattle.certificates.specs.Points.{all_addresses, functions_of, functions_of_group, variables_at};
 ghost use Rattle.cert_core.specs.Answers.{TellsWhere};
 ghost use Rattle.cert_core.specs.Folds.{EvaluationFits, FitIn};

@@ -1,5 +1,5 @@
 //! Sums from the left.
-ghost use Rattle.std.specs.Prelude.{◌≡◌, OkIff, IsOkUnless};
+ghost use Rattle.std.specs.Prelude.{◌≡◌};
 ghost use Rattle.ratio_core.specs.Rational.{◌+ℚ◌, ◌*ℚ◌};
 ghost use Rattle.ratio_core.specs.Answers.{ExactWhere};
 ghost use Rattle.aff_core.specs.Terms.{StepFits, linear};

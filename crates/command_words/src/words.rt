@@ -1,6 +1,6 @@
 //! What the words of a command say.
 ghost use Rattle.std.specs.Prelude.{◌≡◌, IfOk, IsSome, OnErr};
-ghost use Rattle.command_words.specs.Files.{files_from, files_of};
+ghost use Rattle.command_words.specs.Files.{files_of};
 ghost use Rattle.command_words.specs.Texts.{texts};
 ghost use Rattle.command_words.specs.Words.{command_named, command_of, with_both, with_model, without_files};
 

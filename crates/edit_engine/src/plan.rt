@@ -1,5 +1,5 @@
 //! How each kind is bridged at least cost.
-ghost use Rattle.std.specs.Prelude.{◌≡◌, ◌≤◌, All, length};
+ghost use Rattle.std.specs.Prelude.{◌≡◌, All, length};
 ghost use Rattle.std.specs.List.{zip};
 ghost use Rattle.fresh_bridging.specs.TheRules.{graph_of};
 ghost use Rattle.lazy_bridge.specs.Owned.{setting_in};

@@ -1,5 +1,5 @@
 //! The verdict on the files of a model and of a certificate.
-ghost use Rattle.std.specs.Prelude.{◌≡◌, ◌≢◌, ℕ, List, Result, Ok, IfOk};
+ghost use Rattle.std.specs.Prelude.{◌≡◌, ◌≢◌, Result, Ok, IfOk};
 ghost use Rattle.cache_layer.specs.Answers.{after_edits};
 ghost use Rattle.certificates.specs.Points.{variables_of};
 ghost use Rattle.cert_text.specs.Reading.{certificate_of};

@@ -30,7 +30,7 @@ fn written(page: &mut Page, bytes: &[u8]) {
     page.line(format_args!("    {:?}", std::str::from_utf8(bytes)));
 }
 
-// A sink takes two bytes at a time, and fails at a write: one write, and then the text up to a fault.
+// A sink takes two bytes at a time, and fails at a write: one write, then the text up to a fault.
 fn in_pieces(page: &mut Page, what: &str, failing: u64) {
     let mut sink = MemSink::new(page.alloc(), 2, fails_at(page.alloc(), failing));
     write(page, what, &mut sink);

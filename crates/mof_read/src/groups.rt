@@ -1,8 +1,6 @@
 //! Groups of variables with their creation sets.
 ghost use Rattle.std.specs.Prelude.{◌≡◌, [], IfOk, OnOk, None, option_and_then, option_to_list, ◌++◌, slice_get, slice_set};
 ghost use Rattle.std.specs.List.{list_all};
-ghost use Rattle.std.specs.Map.{lookup};
-ghost use Rattle.std.specs.Str.{bytes_eq};
 ghost use Rattle.mof_read.specs.Groups.{are_new, becomes_group, free_group, group_at, in_order, is_free, left_after, plain_names, with_owners};
 
 use indexmap::{IndexMap, IndexSet};

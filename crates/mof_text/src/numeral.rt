@@ -1,10 +1,8 @@
 //! Runs of the bytes of numerals: whether one is replaced, and by what.
-ghost use Rattle.std.specs.Prelude.{◌≡◌, ◌++◌, ◌==◌, IfOk, OnOk, bytes_eq, if◌then◌else◌, length, not, ◌&&◌};
+ghost use Rattle.std.specs.Prelude.{◌≡◌, ◌++◌, ◌==◌, IfOk, OnOk, not, ◌&&◌};
 ghost use Rattle.std.specs.Bool.{MatchBool};
-ghost use Rattle.std.specs.Option.{SomeIff};
 ghost use Rattle.std.specs.Str.Parse.{starts_with_minus};
-ghost use Rattle.ratio_core.specs.Rational.{Fits};
-ghost use Rattle.mof_text.specs.Numeral.{is_colon_next, is_json_number, is_json_whole, is_long, is_replaced, is_white, magnitude_of, number_of, parts_of, printed, quoted, replaced};
+ghost use Rattle.mof_text.specs.Numeral.{is_colon_next, is_json_number, is_json_whole, is_long, is_replaced, is_white, magnitude_of, printed, quoted, replaced};
 
 use crate::decimal::exact_number;
 use fast_float::Numeral;

@@ -1,7 +1,7 @@
 //! The pieces of a JSON text outside strings: runs of the bytes of numerals, strings, other bytes.
 ghost use Rattle.std.specs.Prelude.{◌≡◌, ◌++◌, ◌<◌, ◌≤◌, [], length, take, drop, not, slice_index, false, ◌≢◌};
 ghost use Rattle.std.specs.List.{position_or_len};
-ghost use Rattle.mof_text.specs.Rewritten.{Place, is_run_byte, rewritten_at};
+ghost use Rattle.mof_text.specs.Rewritten.{is_run_byte, rewritten_at};
 ghost use Rattle.mof_text.specs.Rewritten.Place.{in_string, outside};
 
 /// Whether numerals have this byte.

@@ -1,5 +1,5 @@
 // Operands drawn by a linear congruence.
-ghost use Rattle.std.specs.Prelude.{◌<◌, ◌≤◌, ◌≤ℤ◌, ◌^◌, neg_ℤ, pos};
+ghost use Rattle.std.specs.Prelude.{◌<◌, ◌≤◌, ◌≤ℤ◌, ◌^◌, pos};
 
 use ratio_core::{Ratio, RatioFault};
 use std::alloc::{AllocError, Global};

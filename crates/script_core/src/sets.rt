@@ -1,5 +1,5 @@
 //! Sets of numbers and of vectors.
-ghost use Rattle.std.specs.Prelude.{◌≡◌, ◌∷◌, [], IfOk, option_map};
+ghost use Rattle.std.specs.Prelude.{◌≡◌, IfOk, option_map};
 ghost use Rattle.script_core.specs.Sets.{first_number, last_named_relation_of, last_relation_of, relation_of, vector_set_of};
 
 use crate::reading::alone;

@@ -1,5 +1,5 @@
 //! The terms of functions, token by token.
-ghost use Rattle.std.specs.Prelude.{◌≡◌, IfOk, option_map, map};
+ghost use Rattle.std.specs.Prelude.{◌≡◌, IfOk, map};
 ghost use Rattle.script_core.specs.Terms.{component_terms_of, components_of, function_terms_of, term_of, terms_of};
 
 use lists::Sequence;

@@ -1,5 +1,5 @@
 //! Lines that create variables.
-ghost use Rattle.std.specs.Prelude.{◌≡◌, ◌∷◌, [], IfOk};
+ghost use Rattle.std.specs.Prelude.{◌≡◌, IfOk};
 ghost use Rattle.script_core.specs.Variables.{creation_set_of, variable_form, group_form};
 
 use crate::names::read_names;

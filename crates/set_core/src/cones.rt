@@ -1,5 +1,5 @@
 //! Tests of vectors.
-ghost use Rattle.std.specs.Prelude.{◌≡◌, ◌↔◌, IsTrue, OkIff, All, map};
+ghost use Rattle.std.specs.Prelude.{◌↔◌, IsTrue, OkIff, All, map};
 ghost use Rattle.ratio_core.specs.Folds.{FoldFits, sum_from};
 ghost use Rattle.ratio_core.specs.Rational.{zero_ℚ, ◌≤ℚ◌, abs_ℚ};
 ghost use Rattle.set_core.specs.Answers.{TellsWhere};

@@ -1,6 +1,5 @@
 // Boards of one row and one real column, pivoted twice, on the sparse board and on the dense one.
 ghost use Rattle.std.specs.Prelude.{◌≡◌, ◌⊎◌, ◌<◌, IsTrue, length, IfSome, true};
-ghost use Rattle.ratio_core.specs.Rational.{zero_ℚ, ◌≤ℚ◌};
 
 use crate::forms::is_nonnegative;
 use crate::models::number;

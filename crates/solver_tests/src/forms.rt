@@ -1,4 +1,4 @@
-// Small forms, each with the answer that the rule leads to, on the sparse board and on the dense one.
+// Small forms, each with the answer that the rule leads to, on the sparse and on the dense board.
 ghost use Rattle.std.specs.Prelude.{◌↔◌, ◌≡◌, ◌*◌, All, IsTrue, length};
 ghost use Rattle.ratio_core.specs.Rational.{zero_ℚ, ◌≤ℚ◌};
 ghost use Rattle.simplex_core.specs.StdForm.{IsWellShaped};

@@ -1,7 +1,6 @@
 // A model as text.
 use model_store::{Group, Row, UserModel};
 use std::alloc::{AllocError, Global};
-use std::io;
 use stop::Stop;
 
 // All that readers give of a model.

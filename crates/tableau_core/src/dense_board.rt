@@ -1,5 +1,4 @@
 //! The dense board: each row is kept whole.
-ghost use Rattle.std.specs.Prelude.{◌≡◌};
 
 use crate::fault::BoardOverflow;
 use crate::kept::{Row, zeros};

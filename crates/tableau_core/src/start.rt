@@ -3,7 +3,6 @@ ghost use Rattle.std.specs.Prelude.{◌≡◌, ◌+◌, ◌*◌, ◌^◌, ◌<�
 ghost use Rattle.std.specs.List.{range_with_len};
 ghost use Rattle.ratio_core.specs.Rational.{Fits, Rational, neg_ℚ, sum_fits, ◌+ℚ◌};
 ghost use Rattle.simplex_form.specs.Form.{first_cost, second_cost};
-ghost use Rattle.simplex_form.specs.Basis.{start};
 ghost use Rattle.simplex_form.specs.Board.{entry, price};
 ghost use Rattle.simplex_form.specs.Fit.{start_fits};
 ghost use Rattle.tableau_core.specs.Row.{AllFit, IsChanged, cell};
