@@ -12,18 +12,14 @@ use Rattle.moi_run.specs.Status.{stop_of_sink}
 use Rattle.moi_run.specs.declared.stop.Stop.{Stop}
 use Rattle.moi_run.specs.declared.stop.Stop.TheVariants as stop
 use Rattle.report_core.specs.declared.answer.Answer.{Answer}
-use Rattle.report_core.specs.declared.answer.Answer.TheVariants.{Memory, Printed, Quit, ReadFault, Refused, Silent, TooLong}
 
 -- an answer that prints was found by a step
-prints_step : (s new : Machine) (line : List ℕ) (answer : Answer) (text : List ℕ) (refused : Bool)
+prints_step : (s new : Machine) (line : List ℕ) {answer : Answer} {text : List ℕ} {refused : Bool}
     → Prints answer text refused → Answered s line answer new → Steps s line answer new
-prints_step s new line Silent text refused silent answered = answered
-prints_step s new line (Printed said) text refused accepted answered = answered
-prints_step s new line (Refused said) text refused refusal answered = answered
-prints_step s new line Quit text refused quit answered = answered
-prints_step s new line ReadFault text refused prints answered = elim prints [ ]
-prints_step s new line TooLong text refused prints answered = elim prints [ ]
-prints_step s new line Memory text refused prints answered = elim prints [ ]
+prints_step s new line silent answered = answered
+prints_step s new line accepted answered = answered
+prints_step s new line refusal answered = answered
+prints_step s new line quit answered = answered
 
 hears_of : (s new : Machine) (line : List ℕ) (answer : Answer) (refused : Bool)
     (wrote : List ℕ → Type 0) → Answered s line answer new → PrintsText answer refused wrote
@@ -31,7 +27,7 @@ hears_of : (s new : Machine) (line : List ℕ) (answer : Answer) (refused : Bool
 hears_of s new line answer refused wrote answered printed = record {
   answer = answer;
   text = printed.text;
-  steps = prints_step s new line answer printed.text refused printed.prints answered;
+  steps = prints_step s new line printed.prints answered;
   prints = printed.prints;
   written = printed.written;
 }
@@ -43,8 +39,8 @@ pub line_heard : (result : Result Reply Stop) (s new : Machine) (line : List ℕ
     → HearsBy result s line new old written
 line_heard (Ok given) s new line answer old written answered wrote = (
   hears_of s new line answer (is_refused given) (Adds old written) answered wrote.0,
-  wrote.1 ∙ sym (quit_is_said s new line answer (prints_step s new line answer wrote.0.text
-      (is_refused given) wrote.0.prints answered)),
+  wrote.1
+      ∙ sym (quit_is_said s new line answer (prints_step s new line wrote.0.prints answered)),
 )
 line_heard (Err stop.WriteFault) s new line answer old written answered wrote =
     (wrote.0, hears_of s new line answer wrote.0 (AddsPrefix old written) answered wrote.1)
@@ -86,15 +82,12 @@ pub cut_short : (reason : SinkFault) (given : Stop) (answer said : Answer) (text
     (refused : Bool) (old new : Option (List ℕ)) → given ≡ stop_of_sink reason → answer ≡ said
     → Prints said text refused → seen ≡ text → AddsPrefix old new seen
     → WritesBy (Err given) answer old new
-cut_short fault.Failed given answer said text seen refused old new from is prints same written =
-    subst (λ e. WritesBy (Err e) answer old new) (sym from) (
-      refused,
-      prints_text answer said text seen refused (AddsPrefix old new) is prints same written,
-    )
-cut_short fault.Memory given answer said text seen refused old new from is prints same written =
-    subst (λ e. WritesBy (Err e) answer old new) (sym from)
-    (inr (
-      refused,
-      prints_text answer said text seen refused (AddsPrefix old new) is prints
-          same written,
-    ))
+cut_short reason given answer said text seen refused old new from is prints same written =
+    subst (λ e. WritesBy (Err e) answer old new) (sym from) (by reason)
+  where
+    part : PrintsText answer refused (AddsPrefix old new)
+    part = prints_text answer said text seen refused (AddsPrefix old new) is prints same written
+
+    by : (why : SinkFault) → WritesBy (Err (stop_of_sink why)) answer old new
+    by fault.Failed = (refused, part)
+    by fault.Memory = inr (refused, part)

@@ -1,10 +1,10 @@
 -- With nothing against it, the work ends.
-use Rattle.std.proofs.Common.{◌≡◌, ℕ, ◌<◌, ◌≤◌, ◌⊎◌, true, false, List, length, refl, sym, ◌∙◌, subst, inl, inr, Option, Some, None, arith, true≢false}
+use Rattle.std.proofs.Common.{◌≡◌, ℕ, ◌<◌, ◌≤◌, ◌⊎◌, List, length, refl, sym, ◌∙◌, subst, inl, inr, Option, Some, None, arith, true≢false}
 use Rattle.std.specs.Prelude.{All, Any, IsTrue}
 use Rattle.std.specs.Str.Lines.{lines}
 use Rattle.std.proofs.lemmas.List.Elements.{All-get_or}
 use Rattle.command_words.specs.declared.words.Command.{Command}
-use Rattle.command_words.specs.declared.words.Command.TheVariants.{Check, Plan, Run, Solve}
+use Rattle.command_words.specs.declared.words.Command.TheVariants.{Plan, Run}
 use Rattle.edit_engine.specs.Lines.{heard}
 use Rattle.edit_engine.specs.Script.{Machine}
 use Rattle.io_face.specs.Fault.{HasFaulted}
@@ -37,49 +37,37 @@ within bytes limits (inr long) = elim limits.whole [
   | inr quit ↦ true≢false (sym quit ∙ long.1)
 ]
 
-no_read_fault : (said : Option Command) (left : Option (List ℕ)) (shelf : Told)
-    (reads reads' fetches fetches' : ℕ) → CanBeRead said left reads reads'
-    → CanBeFetched said left shelf fetches fetches'
-    → HasReadFault said (HasFaulted reads reads')
-    (HasFaulted fetches fetches' × (IsTrue shelf.sure → AsksInVain said left shelf)) → ⊥
-no_read_fault None left shelf reads reads' fetches fetches' read fetched fault = absurd read
-no_read_fault (Some (Plan setup)) left shelf reads reads' fetches fetches' read fetched fault =
-    absurd fault
-no_read_fault (Some (Run setup)) left shelf reads reads' fetches fetches' read fetched (inl fault) =
-    unsound reads reads' read.2 fault
-no_read_fault (Some (Run setup)) left shelf reads reads' fetches fetches' read fetched (inr fault) =
-    elim fetched.there [
-      | inl sound ↦ unsound fetches fetches' sound fault.0
-      | inr there ↦ there.1 (fault.1 there.0)
-    ]
-no_read_fault (Some (Solve setup model)) left shelf reads reads' fetches fetches' read fetched
-    fault = elim fetched.there [
-      | inl sound ↦ unsound fetches fetches' sound fault.0
-      | inr there ↦ there.1 (fault.1 there.0)
-    ]
-no_read_fault (Some (Check model certificate)) left shelf reads reads' fetches fetches' read fetched
-    fault = elim fetched.there [
-      | inl sound ↦ unsound fetches fetches' sound fault.0
-      | inr there ↦ there.1 (fault.1 there.0)
-    ]
+module _ (shelf : Told) (reads reads' fetches fetches' : ℕ) where
+  -- the shelf counted no fault, or is sure of what was asked
+  not_in_vain : (said : Option Command) (left : Option (List ℕ))
+      → CanBeFetched said left shelf fetches fetches'
+      → HasFaulted fetches fetches' × (IsTrue shelf.sure → AsksInVain said left shelf) → ⊥
+  not_in_vain said left fetched fault = elim fetched.there [
+    | inl sound ↦ unsound fetches fetches' sound fault.0
+    | inr there ↦ there.1 (fault.1 there.0)
+  ]
 
-no_limit : (said : Option Command) (left : Option (List ℕ)) (shelf : Told)
-    (reads reads' fetches fetches' : ℕ) → CanBeRead said left reads reads'
-    → CanBeFetched said left shelf fetches fetches'
-    → HasTooLong said left shelf → ⊥
-no_limit None left shelf reads reads' fetches fetches' read fetched long = absurd read
-no_limit (Some (Plan setup)) left shelf reads reads' fetches fetches' read fetched long =
-    fetched.short long
-no_limit (Some (Solve setup model)) left shelf reads reads' fetches fetches' read fetched long =
-    fetched.short long
-no_limit (Some (Check model certificate)) left shelf reads reads' fetches fetches' read fetched
-    long = fetched.short long
-no_limit (Some (Run setup)) None shelf reads reads' fetches fetches' read fetched long =
-    absurd (true≢false (sym read.0))
-no_limit (Some (Run setup)) (Some bytes) shelf reads reads' fetches fetches' read fetched
-    (inl passes) = within bytes read.1 passes
-no_limit (Some (Run setup)) (Some bytes) shelf reads reads' fetches fetches' read fetched
-    (inr much) = fetched.short much
+  no_read_fault : (said : Option Command) (left : Option (List ℕ))
+      → CanBeRead said left reads reads' → CanBeFetched said left shelf fetches fetches'
+      → HasReadFault said (HasFaulted reads reads')
+      (HasFaulted fetches fetches' × (IsTrue shelf.sure → AsksInVain said left shelf)) → ⊥
+  no_read_fault None left read fetched fault = absurd read
+  no_read_fault (Some (Plan setup)) left read fetched fault = absurd fault
+  no_read_fault (Some (Run setup)) left read fetched (inl fault) =
+      unsound reads reads' read.2 fault
+  no_read_fault (Some (Run setup)) left read fetched (inr fault) =
+      not_in_vain (Some (Run setup)) left fetched fault
+  no_read_fault (Some command) left read fetched fault =
+      not_in_vain (Some command) left fetched fault
+
+  no_limit : (said : Option Command) (left : Option (List ℕ))
+      → CanBeRead said left reads reads' → CanBeFetched said left shelf fetches fetches'
+      → HasTooLong said left shelf → ⊥
+  no_limit None left read fetched long = absurd read
+  no_limit (Some (Run setup)) None read fetched long = absurd (true≢false (sym read.0))
+  no_limit (Some (Run setup)) (Some bytes) read fetched (inl passes) = within bytes read.1 passes
+  no_limit (Some (Run setup)) (Some bytes) read fetched (inr much) = fetched.short much
+  no_limit (Some command) left read fetched long = fetched.short long
 
 pub completes : (said : Option Command) (end : Status) (left left' : Option (List ℕ)) (shelf : Told)
     (reads reads' fetches fetches' writes writes' : ℕ) (s new : Machine)
@@ -89,23 +77,16 @@ pub completes : (said : Option Command) (end : Status) (left left' : Option (Lis
     → (end ≡ status.Usage → said ≡ None) → (end ≡ status.WriteFault → HasFaulted writes writes')
     → CanBeRead said left reads reads' → CanBeFetched said left shelf fetches fetches'
     → IsSound writes writes' → IsEnded end ⊎ (end ≡ status.Memory)
-completes said status.Done left left' shelf reads reads' fetches fetches' writes writes' s new wrote
-    begun runs usage write read fetched sound = inl tt
-completes said status.SomeRefused left left' shelf reads reads' fetches fetches' writes writes' s
-    new wrote begun runs usage write read fetched sound = inl tt
-completes said status.Memory left left' shelf reads reads' fetches fetches' writes writes' s new
-    wrote begun runs usage write read fetched sound = inr refl
-completes said status.Usage left left' shelf reads reads' fetches fetches' writes writes' s new
-    wrote begun runs usage write read fetched sound =
-    absurd (subst (λ o. CanBeRead o left reads reads') (usage refl) read)
-completes said status.WriteFault left left' shelf reads reads' fetches fetches' writes writes' s new
-    wrote begun runs usage write read fetched sound = absurd (unsound writes writes' sound
-    (write refl))
-completes said status.ReadFault left left' shelf reads reads' fetches fetches' writes writes' s new
-    wrote begun runs usage write read fetched sound =
-    absurd (no_read_fault said left shelf reads reads' fetches fetches' read fetched
-    (runs.read_fault refl))
-completes said status.TooLong left left' shelf reads reads' fetches fetches' writes writes' s new
-    wrote begun runs usage write read fetched sound =
-    absurd (no_limit said left shelf reads reads' fetches fetches' read fetched
-    (runs.too_long refl))
+completes said end left left' shelf reads reads' fetches fetches' writes writes' s new wrote begun
+    runs usage write read fetched sound = by end refl
+  where
+    by : (how : Status) → end ≡ how → IsEnded how ⊎ (how ≡ status.Memory)
+    by status.Done is = inl tt
+    by status.SomeRefused is = inl tt
+    by status.Memory is = inr refl
+    by status.Usage is = absurd (subst (λ o. CanBeRead o left reads reads') (usage is) read)
+    by status.WriteFault is = absurd (unsound writes writes' sound (write is))
+    by status.ReadFault is = absurd (no_read_fault shelf reads reads' fetches fetches' said left
+        read fetched (runs.read_fault is))
+    by status.TooLong is = absurd (no_limit shelf reads reads' fetches fetches' said left
+        read fetched (runs.too_long is))

@@ -1,6 +1,6 @@
 -- Given lines, answered one after another.
-use Rattle.std.proofs.Common.{◌≡◌, ℕ, ◌+◌, ◌<◌, Bool, true, false, ◌||◌, List, [], ◌∷◌, ◌++◌, length, take, drop, get_or, refl, sym, ◌∙◌, ap, subst, inl, inr, Option, Err, append_assoc}
-use Rattle.std.specs.Prelude.{map, if◌then◌else◌}
+use Rattle.std.proofs.Common.{◌≡◌, ℕ, ◌+◌, ◌<◌, Bool, ◌||◌, List, [], ◌∷◌, ◌++◌, length, take, drop, get_or, refl, sym, ◌∙◌, ap, subst, inl, inr, Option, Err, append_assoc}
+use Rattle.std.specs.Prelude.{map}
 use Rattle.std.proofs.lemmas.List.{drop_more, map-append, map_more, take-append-drop}
 use Rattle.edit_engine.specs.Script.{Machine, Steps}
 use Rattle.io_face.specs.Sink.{Adds, AddsPrefix}
@@ -8,13 +8,12 @@ use Rattle.moi_run.specs.Answering.{BeginsAnswers, Hears, HearsBy, StopsAtFile, 
 use Rattle.moi_run.specs.Run.{EachOutcome}
 use Rattle.moi_run.specs.Status.{status_of}
 use Rattle.moi_run.specs.declared.status.Status.{Status}
-use Rattle.moi_run.specs.declared.status.Status.TheVariants.{Done, Memory, SomeRefused}
+use Rattle.moi_run.specs.declared.status.Status.TheVariants.{Memory}
 use Rattle.moi_run.specs.declared.stop.Stop.{Stop}
 use Rattle.moi_run.specs.declared.stop.Stop.TheVariants as stop
 use Rattle.moi_run.proofs.Exits.{stays_at_fault, stays_at_limit}
-use Rattle.moi_run.proofs.RunLemmas.{answers_begun, part_more, whole_more}
+use Rattle.moi_run.proofs.Written.{answers_begun, part_more, whole_more}
 use Rattle.report_core.specs.declared.answer.Answer.{Answer}
-use Rattle.report_core.specs.declared.answer.Answer.TheVariants.{ReadFault, TooLong}
 
 -- ---- the line at a place
 
@@ -56,13 +55,13 @@ each_begins refused answer lines done more start s new old written front answere
 
 -- ---- the answer to a line stopped the work
 
-stops_at : (stopped : Answer) (lines done : List (List ℕ)) (line : List ℕ) (more : List (List ℕ))
-    (start s new : Machine) (refused : Bool) (old mid written : Option (List ℕ))
-    → lines ≡ done ++ line ∷ more
-    → WritesAnswers start done refused s (Adds old mid) → Steps s line stopped new → written ≡ mid
+pub stops_at : {stopped : Answer} {lines done : List (List ℕ)} {start s new : Machine}
+    {refused : Bool} (line : List ℕ) (more : List (List ℕ)) (old mid written : Option (List ℕ))
+    → lines ≡ done ++ line ∷ more → WritesAnswers start done refused s (Adds old mid)
+    → Steps s line stopped new → written ≡ mid
     → StopsAtFile start lines stopped new (Adds old written)
-stops_at stopped lines done line more start s new refused old mid written front answered steps
-    same = record {
+stops_at {done} {start} {s} {refused} line more old mid written front
+    answered steps same = record {
       done = done;
       line = line;
       more = more;
@@ -80,30 +79,25 @@ pub each_at_stop : (reason : Stop) (answer : Status) (lines done : List (List �
     → WritesAnswers start done refused s (Adds old mid)
     → HearsBy (Err reason) s line new mid written
     → EachOutcome answer lines start new (Adds old written)
-each_at_stop stop.ReadFault answer lines done line more start s new refused old mid written is front
+each_at_stop reason answer lines done line more start s new refused old mid written is front
     answered heard =
-    subst (λ a. EachOutcome a lines start new (Adds old written)) (sym is)
-    (stops_at ReadFault lines done line more start s new refused old mid written front answered
-    heard.0 heard.1)
-each_at_stop stop.TooLong answer lines done line more start s new refused old mid written is front
-    answered heard =
-    subst (λ a. EachOutcome a lines start new (Adds old written)) (sym is)
-    (stops_at TooLong lines done line more start s new refused old mid written front answered
-    heard.0 heard.1)
-each_at_stop stop.WriteFault answer lines done line more start s new refused old mid written is
-    front answered heard = subst (λ a. EachOutcome a lines start new (Adds old written)) (sym is) tt
-each_at_stop stop.Memory answer lines done line more start s new refused old mid written is front
-    answered heard = subst (λ a. EachOutcome a lines start new (Adds old written)) (sym is) tt
+    subst (λ a. EachOutcome a lines start new (Adds old written)) (sym is) (by reason heard)
+  where
+    by : (why : Stop) → HearsBy (Err why) s line new mid written
+        → EachOutcome (status_of why) lines start new (Adds old written)
+    by stop.ReadFault at = stops_at line more old mid written front answered at.0 at.1
+    by stop.TooLong at = stops_at line more old mid written front answered at.0 at.1
+    by _ at = tt
 
 -- the lines before it, and a part of its answer
-begins_in : (answer : Status) (lines done : List (List ℕ)) (line : List ℕ) (more : List (List ℕ))
-    (start s after new : Machine) (refused was : Bool) (old mid written : Option (List ℕ))
-    → lines ≡ done ++ line ∷ more
+pub begins_in : {answer : Status} {lines done : List (List ℕ)} {line : List ℕ}
+    {start s after new : Machine} {refused was : Bool} (more : List (List ℕ))
+    (old mid written : Option (List ℕ)) → lines ≡ done ++ line ∷ more
     → WritesAnswers start done refused s (Adds old mid)
     → Hears s line was after (AddsPrefix mid written) → ((answer ≡ Memory → ⊥) → new ≡ after)
     → BeginsAnswers start lines answer new (AddsPrefix old written)
-begins_in answer lines done line more start s after new refused was old mid written front answered
-    heard stands = record {
+begins_in {done} {line} {after} {refused} {was} more old mid
+    written front answered heard stands = record {
       done = done ++ line ∷ [];
       more = more;
       front = front ∙ sym (append_assoc done (line ∷ []) more);
@@ -120,26 +114,19 @@ pub each_begins_at_stop : (reason : Stop) (answer : Status) (lines done : List (
     → WritesAnswers start done refused s (Adds old mid)
     → HearsBy (Err reason) s line new mid written
     → BeginsAnswers start lines answer new (AddsPrefix old written)
-each_begins_at_stop stop.ReadFault answer lines done line more start s new refused old mid written
-    is front answered heard =
-    each_begins refused answer lines done (line ∷ more) start s new old written front
-    (subst (λ w. WritesAnswers start done refused s (Adds old w)) (sym heard.1) answered)
-    (λ _. stays_at_fault s new line heard.0)
-each_begins_at_stop stop.TooLong answer lines done line more start s new refused old mid written is
-    front answered heard =
-    each_begins refused answer lines done (line ∷ more) start s new old written front
-    (subst (λ w. WritesAnswers start done refused s (Adds old w)) (sym heard.1) answered)
-    (λ _. stays_at_limit s new line heard.0)
-each_begins_at_stop stop.WriteFault answer lines done line more start s new refused old mid written
-    is front answered heard =
-    begins_in answer lines done line more start s new new refused heard.0 old mid written front
-    answered heard.1 (λ _. refl)
-each_begins_at_stop stop.Memory answer lines done line more start s new refused old mid written is
-    front answered (inl same) =
-    each_begins refused answer lines done (line ∷ more) start s new old written front
-    (subst (λ w. WritesAnswers start done refused s (Adds old w)) (sym same) answered)
-    (λ ne. absurd (ne is))
-each_begins_at_stop stop.Memory answer lines done line more start s new refused old mid written is
-    front answered (inr heard) =
-    begins_in answer lines done line more start s heard.1 new refused heard.0 old mid written front
-    answered heard.2 (λ ne. absurd (ne is))
+each_begins_at_stop reason answer lines done line more start s new refused old mid written is front
+    answered heard = by reason is heard
+  where
+    before : written ≡ mid → ((answer ≡ Memory → ⊥) → new ≡ s)
+        → BeginsAnswers start lines answer new (AddsPrefix old written)
+    before same = each_begins refused answer lines done (line ∷ more) start s new old written front
+        (subst (λ w. WritesAnswers start done refused s (Adds old w)) (sym same) answered)
+
+    by : (why : Stop) → answer ≡ status_of why → HearsBy (Err why) s line new mid written
+        → BeginsAnswers start lines answer new (AddsPrefix old written)
+    by stop.ReadFault is at = before at.1 (λ _. stays_at_fault s new line at.0)
+    by stop.TooLong is at = before at.1 (λ _. stays_at_limit s new line at.0)
+    by stop.WriteFault is at = begins_in more old mid written front answered at.1 (λ _. refl)
+    by stop.Memory is (inl same) = before same (λ ne. absurd (ne is))
+    by stop.Memory is (inr at) =
+        begins_in more old mid written front answered at.2 (λ ne. absurd (ne is))

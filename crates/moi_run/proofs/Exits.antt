@@ -1,23 +1,25 @@
 -- What is said where the work stops, by the reason.
-use Rattle.std.proofs.Common.{◌≡◌, ℕ, ◌≤◌, Bool, true, false, List, refl, sym, ◌∙◌, ap, subst, inl, inr, Option, Some, IfSome, Result, Err, arith}
+use Rattle.std.proofs.Common.{◌≡◌, ℕ, ◌≤◌, Bool, true, false, List, refl, sym, ◌∙◌, ap, subst, inl, inr, Option, IfSome, Result, Ok, Err, arith}
 use Rattle.std.specs.Prelude.{if◌then◌else◌}
 use Rattle.std.specs.Str.Lines.{lines}
 use Rattle.edit_engine.specs.Held.{Held as Session, machine_of}
-use Rattle.edit_engine.specs.Lines.{heard}
+use Rattle.edit_engine.specs.Lines.{heard, says_quit}
 use Rattle.edit_engine.specs.LinesLaws.{stops_by}
 use Rattle.edit_engine.specs.Script.{Answered, Machine, Steps, with_state}
 use Rattle.io_face.specs.Fault.{HasFaulted}
 use Rattle.io_face.specs.FaultLaws.{HasFaulted-within}
 use Rattle.io_face.specs.Shelf.{FilesByName}
+use Rattle.io_face.specs.Sink.{Adds}
 use Rattle.io_face.specs.Told.{Told, told_by}
-use Rattle.moi_run.specs.Answering.{HearsBy, StopsAtFile, WritesBy, is_quit}
+use Rattle.moi_run.specs.Answering.{Hears, HearsBy, StopsAtFile, WritesBy, is_quit, is_refused}
 use Rattle.moi_run.specs.Input.{AnswersTaken, AnswersWithinLimits, Ends, PassesLimit}
 use Rattle.moi_run.specs.Run.{FetchFails, HasCause, Outcome}
 use Rattle.moi_run.specs.Status.{IsEnded, has_refused, status_of, stop_of_read}
 use Rattle.moi_run.specs.declared.reply.Reply.{Reply}
 use Rattle.moi_run.specs.declared.reply.Reply.TheVariants as reply
 use Rattle.moi_run.specs.declared.status.Status.{Status}
-use Rattle.moi_run.specs.declared.status.Status.TheVariants.{Done, Memory, SomeRefused, Usage}
+use Rattle.moi_run.specs.declared.status.Status.TheVariants as status
+use Rattle.moi_run.specs.declared.status.Status.TheVariants.{Done, Memory, SomeRefused, Usage, WriteFault}
 use Rattle.moi_run.specs.declared.stop.Stop.{Stop}
 use Rattle.moi_run.specs.declared.stop.Stop.TheVariants as stop
 use Rattle.report_core.specs.declared.answer.Answer.{Answer}
@@ -48,6 +50,19 @@ pub heard_told : (result : Result Reply Stop) (told told' : Told) (s new : Sessi
     → HearsBy result (machine_of s told) line (machine_of new told) old written
 heard_told result told told' s new line old written same heard =
     subst (λ t. HearsBy result (machine_of s t) line (machine_of new t) old written) same heard
+
+-- a line that was answered, by whether its reply is a refusal
+pub heard_whole : (given : Reply) (told told' : Told) (s new : Session) (line : List ℕ)
+    (old written : Option (List ℕ)) (was : Bool) → told' ≡ told → was ≡ is_refused given
+    → HearsBy (Ok given) (machine_of s told') line (machine_of new told') old written
+    → Hears (machine_of s told) line was (machine_of new told) (Adds old written)
+    × (is_quit given ≡ says_quit line)
+heard_whole given told told' s new line old written was same is heard =
+    let came = heard_told (Ok given) told told' s new line old written same heard in (
+      subst (λ b. Hears (machine_of s told) line b (machine_of new told) (Adds old written))
+          (sym is) came.0,
+      came.1,
+    )
 
 -- the machine is as it was where the shelf stopped the work
 pub stays_at_fault : (s new : Machine) (line : List ℕ) → Steps s line ReadFault new → new ≡ s
@@ -109,6 +124,14 @@ no_usage_at_end false answer is usage = cc
 
 -- ---- reading stopped
 
+-- what holds by the reason holds by the status
+at_read : (P : Status → Type 0) (reason : ReadStop) (answer : Status)
+    → answer ≡ status_of (stop_of_read reason) → (reason ≡ read.ReadFault → P status.ReadFault)
+    → (reason ≡ read.TooLong → P status.TooLong) → P Memory → P answer
+at_read P read.ReadFault answer is fault long memory = subst P (sym is) (fault refl)
+at_read P read.TooLong answer is fault long memory = subst P (sym is) (long refl)
+at_read P read.Memory answer is fault long memory = subst P (sym is) memory
+
 pub outcome_at_read : (source shelf : Type 0) (reason : ReadStop) (answer : Status)
     (all left : Option (List ℕ)) (start s : Machine) (wrote : List ℕ → Type 0)
     → answer ≡ status_of (stop_of_read reason)
@@ -117,27 +140,29 @@ pub outcome_at_read : (source shelf : Type 0) (reason : ReadStop) (answer : Stat
     → (reason ≡ read.TooLong → IfSome all (λ bytes. PassesLimit bytes × AnswersWithinLimits bytes
     start s wrote))
     → IfSome all (λ bytes. Outcome source shelf answer bytes left start s wrote)
-outcome_at_read source shelf read.ReadFault answer all left start s wrote is cause fault long =
-    subst (λ a. IfSome all (λ bytes. Outcome source shelf a bytes left start s wrote)) (sym is)
-    (told_weaker _ _ all (λ bytes taken. inl (cause refl, taken)) (fault refl))
-outcome_at_read source shelf read.TooLong answer all left start s wrote is cause fault long =
-    subst (λ a. IfSome all (λ bytes. Outcome source shelf a bytes left start s wrote)) (sym is)
-    (told_weaker _ _ all (λ bytes passes. inl passes) (long refl))
-outcome_at_read source shelf read.Memory answer all left start s wrote is cause fault long =
-    subst (λ a. IfSome all (λ bytes. Outcome source shelf a bytes left start s wrote)) (sym is)
+outcome_at_read source shelf reason answer all left start s wrote is cause fault long =
+    at_read (λ a. IfSome all (λ bytes. Outcome source shelf a bytes left start s wrote)) reason
+    answer is (λ e. told_weaker _ _ all (λ bytes taken. inl (cause e, taken)) (fault e))
+    (λ e. told_weaker _ _ all (λ bytes passes. inl passes) (long e))
     (told_always _ all (λ bytes. tt))
 
 pub cause_at_read : (source shelf sink : Type 0) (reason : ReadStop) (answer : Status)
     → answer ≡ status_of (stop_of_read reason) → (reason ≡ read.ReadFault → source)
     → HasCause source shelf sink answer
-cause_at_read source shelf sink read.ReadFault answer is cause =
-    subst (HasCause source shelf sink) (sym is) (inl (cause refl))
-cause_at_read source shelf sink read.TooLong answer is cause =
-    subst (HasCause source shelf sink) (sym is) tt
-cause_at_read source shelf sink read.Memory answer is cause =
-    subst (HasCause source shelf sink) (sym is) tt
+cause_at_read source shelf sink reason answer is cause =
+    at_read (HasCause source shelf sink) reason answer is (λ e. inl (cause e)) (λ _. tt) tt
 
 -- ---- the answer to a line stopped it
+
+-- what holds by the reason holds by the status
+at_stop : (P : Status → Type 0) (reason : Stop) (answer : Status) → answer ≡ status_of reason
+    → (reason ≡ stop.ReadFault → P status.ReadFault)
+    → (reason ≡ stop.WriteFault → P WriteFault)
+    → (reason ≡ stop.TooLong → P status.TooLong) → P Memory → P answer
+at_stop P stop.ReadFault answer is fault write long memory = subst P (sym is) (fault refl)
+at_stop P stop.WriteFault answer is fault write long memory = subst P (sym is) (write refl)
+at_stop P stop.TooLong answer is fault write long memory = subst P (sym is) (long refl)
+at_stop P stop.Memory answer is fault write long memory = subst P (sym is) memory
 
 pub outcome_at_stop : (source shelf : Type 0) (reason : Stop) (answer : Status)
     (all left : Option (List ℕ)) (start s : Machine) (wrote : List ℕ → Type 0)
@@ -148,30 +173,18 @@ pub outcome_at_stop : (source shelf : Type 0) (reason : Stop) (answer : Status)
     → (reason ≡ stop.TooLong → IfSome all (λ bytes. StopsAtFile start (heard (lines bytes))
     TooLong s wrote))
     → IfSome all (λ bytes. Outcome source shelf answer bytes left start s wrote)
-outcome_at_stop source shelf stop.ReadFault answer all left start s wrote is cause fault long =
-    subst (λ a. IfSome all (λ bytes. Outcome source shelf a bytes left start s wrote)) (sym is)
-    (told_weaker _ _ all (λ bytes stops. inr (cause refl, stops)) (fault refl))
-outcome_at_stop source shelf stop.TooLong answer all left start s wrote is cause fault long =
-    subst (λ a. IfSome all (λ bytes. Outcome source shelf a bytes left start s wrote)) (sym is)
-    (told_weaker _ _ all (λ bytes stops. inr stops) (long refl))
-outcome_at_stop source shelf stop.WriteFault answer all left start s wrote is cause fault long =
-    subst (λ a. IfSome all (λ bytes. Outcome source shelf a bytes left start s wrote)) (sym is)
-    (told_always _ all (λ bytes. tt))
-outcome_at_stop source shelf stop.Memory answer all left start s wrote is cause fault long =
-    subst (λ a. IfSome all (λ bytes. Outcome source shelf a bytes left start s wrote)) (sym is)
+outcome_at_stop source shelf reason answer all left start s wrote is cause fault long =
+    at_stop (λ a. IfSome all (λ bytes. Outcome source shelf a bytes left start s wrote)) reason
+    answer is (λ e. told_weaker _ _ all (λ bytes stops. inr (cause e, stops)) (fault e))
+    (λ _. told_always _ all (λ bytes. tt))
+    (λ e. told_weaker _ _ all (λ bytes stops. inr stops) (long e))
     (told_always _ all (λ bytes. tt))
 
 pub cause_at_stop : (source shelf sink : Type 0) (reason : Stop) (answer : Status)
     → answer ≡ status_of reason → (reason ≡ stop.ReadFault → shelf)
     → (reason ≡ stop.WriteFault → sink) → HasCause source shelf sink answer
-cause_at_stop source shelf sink stop.ReadFault answer is fetch write =
-    subst (HasCause source shelf sink) (sym is) (inr (fetch refl))
-cause_at_stop source shelf sink stop.WriteFault answer is fetch write =
-    subst (HasCause source shelf sink) (sym is) (write refl)
-cause_at_stop source shelf sink stop.Memory answer is fetch write =
-    subst (HasCause source shelf sink) (sym is) tt
-cause_at_stop source shelf sink stop.TooLong answer is fetch write =
-    subst (HasCause source shelf sink) (sym is) tt
+cause_at_stop source shelf sink reason answer is fetch write =
+    at_stop (HasCause source shelf sink) reason answer is (λ e. inr (fetch e)) write (λ _. tt) tt
 
 pub no_usage_at_stop : (reason : Stop) (answer : Status) → answer ≡ status_of reason
     → answer ≡ Usage → ⊥

@@ -1,8 +1,10 @@
-pub mod RunLemmas
+pub mod Written
+pub mod Standing
 pub mod Answering
 pub mod Exits
-pub mod Turns
 pub mod Each
+pub mod Turns
 pub mod Completing
 pub mod Running
+pub mod Checking
 pub mod PlanLine

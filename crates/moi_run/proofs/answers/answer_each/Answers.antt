@@ -9,7 +9,7 @@ use Rattle.io_face.specs.Told.{told_by}
 use Rattle.moi_run.proofs.Each.{each_at_stop, each_begins, each_begins_at_stop, each_more, lines_around}
 use Rattle.moi_run.specs.declared.stop.Stop.TheVariants.{ReadFault}
 use Rattle.moi_run.proofs.Exits.{fails_within, heard_told, reason_by, told_same}
-use Rattle.moi_run.proofs.RunLemmas.{answers_nothing}
+use Rattle.moi_run.proofs.Written.{answers_nothing}
 use Rattle.moi_run.proofs.answers.answer_each.Goals as goal
 
 pub loop-line-init : goal.loop-line-init

@@ -1,7 +1,7 @@
 -- The verdict was written, or a part of it.
 use Rattle.io_face.specs.Told.{told_by}
 use Rattle.moi_run.proofs.Exits.{no_usage_at_end, no_usage_at_stop}
-use Rattle.moi_run.proofs.Running.{check_answered, check_stopped}
+use Rattle.moi_run.proofs.Checking.{check_answered, check_stopped}
 use Rattle.moi_run.proofs.check.answer_check.Goals as goal
 
 pub returns-in-Ok-clause-outcome : goal.returns-in-Ok-clause-outcome

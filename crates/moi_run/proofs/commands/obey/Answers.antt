@@ -4,7 +4,8 @@ use Rattle.edit_engine.specs.Held.{machine_of}
 use Rattle.edit_engine.specs.Lines.{says_load}
 use Rattle.io_face.specs.Told.{told_by}
 use Rattle.moi_run.proofs.PlanLine.{one_line, plan_loads_nothing}
-use Rattle.moi_run.proofs.Running.{command_runs, plan_fetches_nothing, runs_check, runs_plan, runs_solve}
+use Rattle.moi_run.proofs.Checking.{runs_check}
+use Rattle.moi_run.proofs.Running.{command_runs, plan_fetches_nothing, runs_plan, runs_solve}
 use Rattle.moi_run.proofs.commands.obey.Goals as goal
 
 pub returns-in-Run-clause-runs : goal.returns-in-Run-clause-runs

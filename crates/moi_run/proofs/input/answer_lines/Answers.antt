@@ -3,22 +3,21 @@ use Rattle.std.proofs.Common.{◌≡◌, ◌||◌, Ok, Err, refl, sym, ◌∙◌
 use Rattle.edit_engine.specs.Held.{machine_of}
 use Rattle.io_face.specs.Fault.{HasFaulted}
 use Rattle.io_face.specs.FaultLaws.{HasFaulted-within}
-use Rattle.io_face.specs.Sink.{Adds}
 use Rattle.io_face.specs.Told.{told_by}
-use Rattle.moi_run.specs.Answering.{Hears, HearsBy, is_quit}
+use Rattle.moi_run.specs.Answering.{HearsBy, is_quit}
 use Rattle.moi_run.specs.Status.{status_of}
 use Rattle.moi_run.specs.declared.stop.Stop.{Stop}
 use Rattle.moi_run.specs.declared.stop.Stop.TheVariants as stop
 use Rattle.moi_run.proofs.Exits as exits
-use Rattle.moi_run.proofs.RunLemmas as run
-use Rattle.moi_run.proofs.RunLemmas.{Gives}
+use Rattle.moi_run.proofs.Standing.{ends_at_end, ends_at_last, standing_at_start, stops_at_fault, stops_at_limit, taken_in_all}
 use Rattle.moi_run.proofs.Turns as turns
+use Rattle.moi_run.proofs.Written.{hears_begun}
 use Rattle.moi_run.proofs.input.answer_lines.Goals as goal
 use Rattle.report_core.specs.declared.answer.Answer.TheVariants.{ReadFault, TooLong}
 
 pub answering-init : goal.answering-init
 answering-init g c = record {
-  standing = run.standing_at_start (machine_of c.args.session.now
+  standing = standing_at_start (machine_of c.args.session.now
       (told_by (g.H.Shelf.files c.args.shelf.now) (g.H.Shelf.sure c.args.shelf.now)))
       c.args.reader.now (g.I.Source.left c.args.input.now) (g.O.Sink.written c.args.output.now)
       c.requires.held c.requires.room;
@@ -44,12 +43,12 @@ returns-in-Err-clause-outcome g c =
     (c.from-in-Err.ensures ∙ ap status_of c.from.ensures)
     (λ is. HasFaulted-within _ _ _ _ c.answering.invariant.reads (omega arith)
     (c.in-Err.ensures.read_fault (ap Err is)).1)
-    (λ is. run.stops_at_fault (g.I.Source.left c.args.input.now)
+    (λ is. stops_at_fault (g.I.Source.left c.args.input.now)
     (machine_of c.args.session.now told) c.answering.reader (g.I.Source.left c.answering.input)
     (g.I.Source.left c.next_line.new.input) (machine_of c.answering.session told)
     c.answering.any_refused (g.O.Sink.written c.args.output.now)
     (g.O.Sink.written c.answering.output) standing (c.in-Err.ensures.read_fault (ap Err is)).0)
-    (λ is. run.stops_at_limit (g.I.Source.left c.args.input.now)
+    (λ is. stops_at_limit (g.I.Source.left c.args.input.now)
     (machine_of c.args.session.now told) c.answering.reader (g.I.Source.left c.answering.input)
     (machine_of c.answering.session told) c.answering.any_refused
     (g.O.Sink.written c.args.output.now) (g.O.Sink.written c.answering.output) standing
@@ -58,7 +57,7 @@ returns-in-Err-clause-outcome g c =
 pub returns-in-Err-clause-prefix : goal.returns-in-Err-clause-prefix
 returns-in-Err-clause-prefix g c =
     let told = told_by (g.H.Shelf.files c.args.shelf.now) (g.H.Shelf.sure c.args.shelf.now) in
-    run.begins_so_far (g.I.Source.left c.args.input.now) (machine_of c.args.session.now told)
+    turns.begins_so_far (g.I.Source.left c.args.input.now) (machine_of c.args.session.now told)
     c.answering.reader (g.I.Source.left c.answering.input) (machine_of c.answering.session told)
     (machine_of c.answering.session told) c.answering.any_refused
     (g.O.Sink.written c.args.output.now) (g.O.Sink.written c.answering.output)
@@ -66,7 +65,7 @@ returns-in-Err-clause-prefix g c =
 
 pub returns-in-Err-clause-taken : goal.returns-in-Err-clause-taken
 returns-in-Err-clause-taken g c =
-    run.taken_in_all (g.I.Source.left c.args.input.now)
+    taken_in_all (g.I.Source.left c.args.input.now)
     (machine_of c.args.session.now (told_by (g.H.Shelf.files c.args.shelf.now)
     (g.H.Shelf.sure c.args.shelf.now))) c.answering.reader (g.I.Source.left c.answering.input)
     (g.I.Source.left c.next_line.new.input) (machine_of c.answering.session
@@ -93,7 +92,7 @@ returns-in-End-clause-outcome g c =
     exits.outcome_at_end _ _ c.answering.any_refused c.ended.result
     (g.I.Source.left c.args.input.now) (g.I.Source.left c.next_line.new.input)
     (machine_of c.args.session.now told) (machine_of c.answering.session told) _ c.ended.ensures
-    (run.ends_at_end (g.I.Source.left c.args.input.now) (machine_of c.args.session.now told)
+    (ends_at_end (g.I.Source.left c.args.input.now) (machine_of c.args.session.now told)
     c.answering.reader (g.I.Source.left c.answering.input)
     (g.I.Source.left c.next_line.new.input) (machine_of c.answering.session told)
     c.answering.any_refused (g.O.Sink.written c.args.output.now)
@@ -103,7 +102,7 @@ returns-in-End-clause-outcome g c =
 pub returns-in-End-clause-prefix : goal.returns-in-End-clause-prefix
 returns-in-End-clause-prefix g c =
     let told = told_by (g.H.Shelf.files c.args.shelf.now) (g.H.Shelf.sure c.args.shelf.now) in
-    run.begins_so_far (g.I.Source.left c.args.input.now) (machine_of c.args.session.now told)
+    turns.begins_so_far (g.I.Source.left c.args.input.now) (machine_of c.args.session.now told)
     c.answering.reader (g.I.Source.left c.answering.input) (machine_of c.answering.session told)
     (machine_of c.answering.session told) c.answering.any_refused
     (g.O.Sink.written c.args.output.now) (g.O.Sink.written c.answering.output) c.ended.result
@@ -111,7 +110,7 @@ returns-in-End-clause-prefix g c =
 
 pub returns-in-End-clause-taken : goal.returns-in-End-clause-taken
 returns-in-End-clause-taken g c =
-    run.taken_in_all (g.I.Source.left c.args.input.now)
+    taken_in_all (g.I.Source.left c.args.input.now)
     (machine_of c.args.session.now (told_by (g.H.Shelf.files c.args.shelf.now)
     (g.H.Shelf.sure c.args.shelf.now))) c.answering.reader (g.I.Source.left c.answering.input)
     (g.I.Source.left c.next_line.new.input) (machine_of c.answering.session
@@ -136,15 +135,8 @@ returns-in-Err-answer_line-clause-outcome g c =
     let heard = exits.heard_told (Err c.in-Err-answer_line.stop) told _ c.answering.session
     c.answer_line.new.session c.deref.result.now (g.O.Sink.written c.answering.output)
     (g.O.Sink.written c.answer_line.new.output) same c.in-Err-answer_line.ensures.heard in
-    let turn : Gives c.in-Ok.next c.answering.reader (g.I.Source.left c.answering.input)
-    c.next_line.new.self (g.I.Source.left c.next_line.new.input) c.next_line.new.line.items
-    c.deref.result.now = record {
-      not_end = c.in_default.not-End;
-      whole = λ is. c.in-Ok.ensures.line (ap Ok is);
-      last = λ is. c.in-Ok.ensures.last_line
-          (ap Ok is);
-      same = c.deref.ensures.value;
-    } in
+    let turn = turns.gives_by c.in_default.not-End c.in-Ok.ensures.line c.in-Ok.ensures.last_line
+    c.deref.ensures.value in
     let at_stop : (stop : Stop) → c.in-Err-answer_line.stop ≡ stop
     → HearsBy (Err stop) (machine_of c.answering.session told) c.deref.result.now (machine_of
     c.answer_line.new.session told) (g.O.Sink.written c.answering.output)
@@ -160,7 +152,7 @@ returns-in-Err-answer_line-clause-outcome g c =
     (λ is. exits.fails_within told _ _ _ _ same c.answering.invariant.fetches
     (c.in-Err-answer_line.ensures.read_fault (ap Err is)))
     (λ is. let h = at_stop stop.ReadFault is in
-    run.stops_in_turn c.in-Ok.next (g.I.Source.left c.args.input.now)
+    turns.stops_in_turn c.in-Ok.next (g.I.Source.left c.args.input.now)
     (machine_of c.args.session.now told) c.answering.reader c.next_line.new.self
     (g.I.Source.left c.answering.input) (g.I.Source.left c.next_line.new.input)
     (machine_of c.answering.session told) (machine_of c.answer_line.new.session told)
@@ -169,7 +161,7 @@ returns-in-Err-answer_line-clause-outcome g c =
     c.next_line.new.line.items c.deref.result.now ReadFault turn
     c.answering.invariant.standing h.0 h.1)
     (λ is. let h = at_stop stop.TooLong is in
-    run.stops_in_turn c.in-Ok.next (g.I.Source.left c.args.input.now)
+    turns.stops_in_turn c.in-Ok.next (g.I.Source.left c.args.input.now)
     (machine_of c.args.session.now told) c.answering.reader c.next_line.new.self
     (g.I.Source.left c.answering.input) (g.I.Source.left c.next_line.new.input)
     (machine_of c.answering.session told) (machine_of c.answer_line.new.session told)
@@ -193,16 +185,12 @@ returns-in-Err-answer_line-clause-prefix g c =
     c.answering.any_refused (g.O.Sink.written c.args.output.now)
     (g.O.Sink.written c.answering.output) (g.O.Sink.written c.answer_line.new.output)
     c.next_line.new.line.items c.deref.result.now c.from-in-Err-answer_line.ensures heard
-    (record {
-      not_end = c.in_default.not-End;
-      whole = λ is. c.in-Ok.ensures.line (ap Ok is);
-      last = λ is. c.in-Ok.ensures.last_line (ap Ok is);
-      same = c.deref.ensures.value;
-    }) c.answering.invariant.standing
+    (turns.gives_by c.in_default.not-End c.in-Ok.ensures.line c.in-Ok.ensures.last_line
+    c.deref.ensures.value) c.answering.invariant.standing
 
 pub returns-in-Err-answer_line-clause-taken : goal.returns-in-Err-answer_line-clause-taken
 returns-in-Err-answer_line-clause-taken g c =
-    run.taken_in_all (g.I.Source.left c.args.input.now)
+    taken_in_all (g.I.Source.left c.args.input.now)
     (machine_of c.args.session.now (told_by (g.H.Shelf.files c.args.shelf.now)
     (g.H.Shelf.sure c.args.shelf.now))) c.answering.reader (g.I.Source.left c.answering.input)
     (g.I.Source.left c.next_line.new.input) (machine_of c.answering.session
@@ -232,46 +220,36 @@ pub returns-in-Quit-clause-outcome : goal.returns-in-Quit-clause-outcome
 returns-in-Quit-clause-outcome g c =
     let told = told_by (g.H.Shelf.files c.args.shelf.now) (g.H.Shelf.sure c.args.shelf.now) in
     let same = exits.told_same _ _ _ _ c.answering.invariant.files c.answering.invariant.sure in
-    let came = exits.heard_told (Ok c.in-Ok-answer_line.reply) told _ c.answering.session
-    c.answer_line.new.session c.deref.result.now (g.O.Sink.written c.answering.output)
-    (g.O.Sink.written c.answer_line.new.output) same c.in-Ok-answer_line.ensures.heard in
     let was = c.is_refused-any_refused.result in
-    let heard = subst (λ b. Hears (machine_of c.answering.session told) c.deref.result.now b
-    (machine_of c.answer_line.new.session told) (Adds (g.O.Sink.written c.answering.output)
-    (g.O.Sink.written c.answer_line.new.output)))
-    (sym c.is_refused-any_refused.ensures) came.0 in
+    let came = exits.heard_whole c.in-Ok-answer_line.reply told _ c.answering.session
+    c.answer_line.new.session c.deref.result.now (g.O.Sink.written c.answering.output)
+    (g.O.Sink.written c.answer_line.new.output) was same c.is_refused-any_refused.ensures
+    c.in-Ok-answer_line.ensures.heard in
     exits.outcome_at_end _ _ (c.answering.any_refused || was) c.ended-in-Quit.result
     (g.I.Source.left c.args.input.now) (g.I.Source.left c.next_line.new.input)
     (machine_of c.args.session.now told) (machine_of c.answer_line.new.session told) _
     c.ended-in-Quit.ensures
-    (run.ends_in_turn c.in-Ok.next (g.I.Source.left c.args.input.now)
+    (turns.ends_in_turn c.in-Ok.next (g.I.Source.left c.args.input.now)
     (machine_of c.args.session.now told) c.answering.reader c.next_line.new.self
     (g.I.Source.left c.answering.input) (g.I.Source.left c.next_line.new.input)
     (machine_of c.answering.session told) (machine_of c.answer_line.new.session told)
     c.answering.any_refused was (g.O.Sink.written c.args.output.now)
     (g.O.Sink.written c.answering.output) (g.O.Sink.written c.answer_line.new.output)
     c.next_line.new.line.items c.deref.result.now
-    (record {
-      not_end = c.in_default.not-End;
-      whole = λ is. c.in-Ok.ensures.line (ap Ok is);
-      last = λ is. c.in-Ok.ensures.last_line (ap Ok is);
-      same = c.deref.ensures.value;
-    }) c.answering.invariant.standing (sym came.1
-    ∙ ap is_quit c.in-Quit.is) heard)
+    (turns.gives_by c.in_default.not-End c.in-Ok.ensures.line c.in-Ok.ensures.last_line
+    c.deref.ensures.value) c.answering.invariant.standing (sym came.1
+    ∙ ap is_quit c.in-Quit.is) came.0)
 
 pub returns-in-Quit-clause-prefix : goal.returns-in-Quit-clause-prefix
 returns-in-Quit-clause-prefix g c =
     let told = told_by (g.H.Shelf.files c.args.shelf.now) (g.H.Shelf.sure c.args.shelf.now) in
     let same = exits.told_same _ _ _ _ c.answering.invariant.files c.answering.invariant.sure in
-    let came = exits.heard_told (Ok c.in-Ok-answer_line.reply) told _ c.answering.session
-    c.answer_line.new.session c.deref.result.now (g.O.Sink.written c.answering.output)
-    (g.O.Sink.written c.answer_line.new.output) same c.in-Ok-answer_line.ensures.heard in
     let was = c.is_refused-any_refused.result in
-    let heard = subst (λ b. Hears (machine_of c.answering.session told) c.deref.result.now b
-    (machine_of c.answer_line.new.session told) (Adds (g.O.Sink.written c.answering.output)
-    (g.O.Sink.written c.answer_line.new.output)))
-    (sym c.is_refused-any_refused.ensures) came.0 in
-    run.begins_in_turn c.in-Ok.next (g.I.Source.left c.args.input.now)
+    let came = exits.heard_whole c.in-Ok-answer_line.reply told _ c.answering.session
+    c.answer_line.new.session c.deref.result.now (g.O.Sink.written c.answering.output)
+    (g.O.Sink.written c.answer_line.new.output) was same c.is_refused-any_refused.ensures
+    c.in-Ok-answer_line.ensures.heard in
+    turns.begins_in_turn c.in-Ok.next (g.I.Source.left c.args.input.now)
     (machine_of c.args.session.now told) c.answering.reader c.next_line.new.self
     (g.I.Source.left c.answering.input) (g.I.Source.left c.next_line.new.input)
     (machine_of c.answering.session told) (machine_of c.answer_line.new.session told)
@@ -279,17 +257,13 @@ returns-in-Quit-clause-prefix g c =
     (g.O.Sink.written c.args.output.now) (g.O.Sink.written c.answering.output)
     (g.O.Sink.written c.answer_line.new.output) c.next_line.new.line.items c.deref.result.now
     c.ended-in-Quit.result
-    (record {
-      not_end = c.in_default.not-End;
-      whole = λ is. c.in-Ok.ensures.line (ap Ok is);
-      last = λ is. c.in-Ok.ensures.last_line (ap Ok is);
-      same = c.deref.ensures.value;
-    }) c.answering.invariant.standing
-    (run.hears_begun _ _ heard) (λ _. refl)
+    (turns.gives_by c.in_default.not-End c.in-Ok.ensures.line c.in-Ok.ensures.last_line
+    c.deref.ensures.value) c.answering.invariant.standing
+    (hears_begun _ _ came.0) (λ _. refl)
 
 pub returns-in-Quit-clause-taken : goal.returns-in-Quit-clause-taken
 returns-in-Quit-clause-taken g c =
-    run.taken_in_all (g.I.Source.left c.args.input.now)
+    taken_in_all (g.I.Source.left c.args.input.now)
     (machine_of c.args.session.now (told_by (g.H.Shelf.files c.args.shelf.now)
     (g.H.Shelf.sure c.args.shelf.now))) c.answering.reader (g.I.Source.left c.answering.input)
     (g.I.Source.left c.next_line.new.input) (machine_of c.answering.session
@@ -311,19 +285,16 @@ pub returns-in-LastLine-clause-outcome : goal.returns-in-LastLine-clause-outcome
 returns-in-LastLine-clause-outcome g c =
     let told = told_by (g.H.Shelf.files c.args.shelf.now) (g.H.Shelf.sure c.args.shelf.now) in
     let same = exits.told_same _ _ _ _ c.answering.invariant.files c.answering.invariant.sure in
-    let came = exits.heard_told (Ok c.in-Ok-answer_line.reply) told _ c.answering.session
-    c.answer_line.new.session c.deref.result.now (g.O.Sink.written c.answering.output)
-    (g.O.Sink.written c.answer_line.new.output) same c.in-Ok-answer_line.ensures.heard in
     let was = c.is_refused-any_refused.result in
-    let heard = subst (λ b. Hears (machine_of c.answering.session told) c.deref.result.now b
-    (machine_of c.answer_line.new.session told) (Adds (g.O.Sink.written c.answering.output)
-    (g.O.Sink.written c.answer_line.new.output)))
-    (sym c.is_refused-any_refused.ensures) came.0 in
+    let came = exits.heard_whole c.in-Ok-answer_line.reply told _ c.answering.session
+    c.answer_line.new.session c.deref.result.now (g.O.Sink.written c.answering.output)
+    (g.O.Sink.written c.answer_line.new.output) was same c.is_refused-any_refused.ensures
+    c.in-Ok-answer_line.ensures.heard in
     exits.outcome_at_end _ _ (c.answering.any_refused || was) c.ended-in-LastLine.result
     (g.I.Source.left c.args.input.now) (g.I.Source.left c.next_line.new.input)
     (machine_of c.args.session.now told) (machine_of c.answer_line.new.session told) _
     c.ended-in-LastLine.ensures
-    (run.ends_at_last (g.I.Source.left c.args.input.now) (machine_of c.args.session.now told)
+    (ends_at_last (g.I.Source.left c.args.input.now) (machine_of c.args.session.now told)
     c.answering.reader (g.I.Source.left c.answering.input)
     (g.I.Source.left c.next_line.new.input)
     (machine_of c.answering.session told) (machine_of c.answer_line.new.session told)
@@ -331,21 +302,18 @@ returns-in-LastLine-clause-outcome g c =
     (g.O.Sink.written c.answering.output) (g.O.Sink.written c.answer_line.new.output)
     c.next_line.new.line.items c.deref.result.now
     (c.in-Ok.ensures.last_line (ap Ok c.in-LastLine.is)) c.deref.ensures.value
-    c.answering.invariant.standing heard)
+    c.answering.invariant.standing came.0)
 
 pub returns-in-LastLine-clause-prefix : goal.returns-in-LastLine-clause-prefix
 returns-in-LastLine-clause-prefix g c =
     let told = told_by (g.H.Shelf.files c.args.shelf.now) (g.H.Shelf.sure c.args.shelf.now) in
     let same = exits.told_same _ _ _ _ c.answering.invariant.files c.answering.invariant.sure in
-    let came = exits.heard_told (Ok c.in-Ok-answer_line.reply) told _ c.answering.session
-    c.answer_line.new.session c.deref.result.now (g.O.Sink.written c.answering.output)
-    (g.O.Sink.written c.answer_line.new.output) same c.in-Ok-answer_line.ensures.heard in
     let was = c.is_refused-any_refused.result in
-    let heard = subst (λ b. Hears (machine_of c.answering.session told) c.deref.result.now b
-    (machine_of c.answer_line.new.session told) (Adds (g.O.Sink.written c.answering.output)
-    (g.O.Sink.written c.answer_line.new.output)))
-    (sym c.is_refused-any_refused.ensures) came.0 in
-    run.begins_in_turn c.in-Ok.next (g.I.Source.left c.args.input.now)
+    let came = exits.heard_whole c.in-Ok-answer_line.reply told _ c.answering.session
+    c.answer_line.new.session c.deref.result.now (g.O.Sink.written c.answering.output)
+    (g.O.Sink.written c.answer_line.new.output) was same c.is_refused-any_refused.ensures
+    c.in-Ok-answer_line.ensures.heard in
+    turns.begins_in_turn c.in-Ok.next (g.I.Source.left c.args.input.now)
     (machine_of c.args.session.now told) c.answering.reader c.next_line.new.self
     (g.I.Source.left c.answering.input) (g.I.Source.left c.next_line.new.input)
     (machine_of c.answering.session told) (machine_of c.answer_line.new.session told)
@@ -353,17 +321,13 @@ returns-in-LastLine-clause-prefix g c =
     (g.O.Sink.written c.args.output.now) (g.O.Sink.written c.answering.output)
     (g.O.Sink.written c.answer_line.new.output) c.next_line.new.line.items c.deref.result.now
     c.ended-in-LastLine.result
-    (record {
-      not_end = c.in_default.not-End;
-      whole = λ is. c.in-Ok.ensures.line (ap Ok is);
-      last = λ is. c.in-Ok.ensures.last_line (ap Ok is);
-      same = c.deref.ensures.value;
-    }) c.answering.invariant.standing
-    (run.hears_begun _ _ heard) (λ _. refl)
+    (turns.gives_by c.in_default.not-End c.in-Ok.ensures.line c.in-Ok.ensures.last_line
+    c.deref.ensures.value) c.answering.invariant.standing
+    (hears_begun _ _ came.0) (λ _. refl)
 
 pub returns-in-LastLine-clause-taken : goal.returns-in-LastLine-clause-taken
 returns-in-LastLine-clause-taken g c =
-    run.taken_in_all (g.I.Source.left c.args.input.now)
+    taken_in_all (g.I.Source.left c.args.input.now)
     (machine_of c.args.session.now (told_by (g.H.Shelf.files c.args.shelf.now)
     (g.H.Shelf.sure c.args.shelf.now))) c.answering.reader (g.I.Source.left c.answering.input)
     (g.I.Source.left c.next_line.new.input) (machine_of c.answering.session
@@ -385,31 +349,24 @@ pub answering-preserved : goal.answering-preserved
 answering-preserved g c =
     let told = told_by (g.H.Shelf.files c.args.shelf.now) (g.H.Shelf.sure c.args.shelf.now) in
     let same = exits.told_same _ _ _ _ c.answering.invariant.files c.answering.invariant.sure in
-    let came = exits.heard_told (Ok c.in-Ok-answer_line.reply) told _ c.answering.session
-    c.answer_line.new.session c.deref.result.now (g.O.Sink.written c.answering.output)
-    (g.O.Sink.written c.answer_line.new.output) same c.in-Ok-answer_line.ensures.heard in
     let was = c.is_refused-any_refused.result in
-    let heard = subst (λ b. Hears (machine_of c.answering.session told) c.deref.result.now b
-    (machine_of c.answer_line.new.session told) (Adds (g.O.Sink.written c.answering.output)
-    (g.O.Sink.written c.answer_line.new.output)))
-    (sym c.is_refused-any_refused.ensures) came.0 in
+    let came = exits.heard_whole c.in-Ok-answer_line.reply told _ c.answering.session
+    c.answer_line.new.session c.deref.result.now (g.O.Sink.written c.answering.output)
+    (g.O.Sink.written c.answer_line.new.output) was same c.is_refused-any_refused.ensures
+    c.in-Ok-answer_line.ensures.heard in
     record {
       standing =
-          run.standing_after_turn c.in-Ok.next (g.I.Source.left c.args.input.now)
+          turns.standing_after_turn c.in-Ok.next (g.I.Source.left c.args.input.now)
           (machine_of c.args.session.now told) c.answering.reader c.next_line.new.self
           (g.I.Source.left c.answering.input) (g.I.Source.left c.next_line.new.input)
           (machine_of c.answering.session told) (machine_of c.answer_line.new.session told)
           c.answering.any_refused was (g.O.Sink.written c.args.output.now)
           (g.O.Sink.written c.answering.output) (g.O.Sink.written c.answer_line.new.output)
           c.next_line.new.line.items c.deref.result.now
-          (record {
-            not_end = c.in_default.not-End;
-            whole = λ is. c.in-Ok.ensures.line (ap Ok is);
-            last = λ is. c.in-Ok.ensures.last_line (ap Ok is);
-            same = c.deref.ensures.value;
-          }) c.in_default-next.not-LastLine
+          (turns.gives_by c.in_default.not-End c.in-Ok.ensures.line c.in-Ok.ensures.last_line
+          c.deref.ensures.value) c.in_default-next.not-LastLine
           c.answering.invariant.standing
-          (sym came.1 ∙ exits.goes_on c.in-Ok-answer_line.reply c.in_default-reply.not-Quit) heard;
+          (sym came.1 ∙ exits.goes_on c.in-Ok-answer_line.reply c.in_default-reply.not-Quit) came.0;
       pivots = c.in-Ok-answer_line.ensures.pivots ∙ c.answering.invariant.pivots;
       files = c.in-Ok-answer_line.ensures.files ∙ c.answering.invariant.files;
       sure = c.in-Ok-answer_line.ensures.sure ∙ c.answering.invariant.sure;

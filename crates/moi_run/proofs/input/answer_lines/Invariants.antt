@@ -2,7 +2,7 @@
 use Rattle.std.proofs.Common.{◌≡◌, ◌≤◌}
 use Rattle.edit_engine.specs.Held.{machine_of}
 use Rattle.io_face.specs.Told.{told_by}
-use Rattle.moi_run.proofs.RunLemmas.{Standing}
+use Rattle.moi_run.proofs.Standing.{Standing}
 use Rattle.moi_run.proofs.input.answer_lines.Given as goal
 use Rattle.script_lines.specs.Reading.{allowance}
 
