@@ -1,7 +1,8 @@
 // A case that is run.
-ghost use Rattle.std.specs.Prelude.{◌≡◌, ◌≤◌, All, IsTrue, map};
+ghost use Rattle.std.specs.Prelude.{◌≡◌, ◌≤◌, All, IsTrue, false, map};
 ghost use Rattle.std.specs.FinMap as finite;
 ghost use Rattle.boxes.specs.Boxed.{families_of, occur_once};
+ghost use Rattle.edit_engine.specs.Held.{state_of};
 
 use crate::case::{Call, Case};
 use any_bridge::all_bridges;
@@ -119,17 +120,24 @@ fn run_by<H: Shelf, B: Bridge>(
     requires once { IsTrue (occur_once (families_of (map B.state bridges.items))) }
     requires kept { All (λ s. s.kept ≡ finite.empty) (map B.state bridges.items) }
 {
+    let mut session = SessionOver::new(rt.alloc(), bridges);
+    run_session(rt, case, shelf, input, &mut session)
+}
+
+// The session is lent, so that no way out lets go of it.
+fn run_session<H: Shelf, B: Bridge>(
+    rt: &HostRuntime,
+    case: &Case,
+    shelf: &mut H,
+    input: &mut MemSource,
+    session: &mut SessionOver<B>,
+) -> Result<(), Stop>
+    requires piece { 1 ≤ case.now.piece }
+    requires detached { (state_of session.old).attached ≡ false }
+{
     let writes = failing(rt.alloc(), case.failing(Call::Write))?;
     let mut output = MemSink::new(rt.alloc(), case.piece, writes);
-    let mut session = SessionOver::new(rt.alloc(), bridges);
-    let status = run(
-        rt.alloc(),
-        &case.words,
-        shelf,
-        input,
-        &mut output,
-        &mut session,
-    );
+    let status = run(rt.alloc(), &case.words, shelf, input, &mut output, session);
     tell(rt, status.number(), output.written())
 }
 
