@@ -3,7 +3,7 @@ use Rattle.std.specs.Prelude.{◌≡◌, ◌≢◌, ℕ, ◌+◌, ◌-◌, ◌<�
 use Rattle.std.proofs.Common.{arith, add-one, sym, ap, subst, ◌∙◌}
 use Rattle.std.proofs.lemmas.List.{length-drop}
 use Rattle.std.proofs.Math.Seq.{take-length}
-use Rattle.std.proofs.lemmas.List.Elements.{All-take, All-drop, filter-append}
+use Rattle.std.proofs.lemmas.List.Elements.{All-take, filter-append}
 use Rattle.std.proofs.lemmas.List.Sums.{AllPass-from_list_all, list_all-from_AllPass}
 use Rattle.std.specs.declared.cmp.Ordering.TheVariants.{Less, Equal, Greater}
 use Rattle.std.specs.FinMap.{entries, entries_sorted, insert, entries-insert}
@@ -19,6 +19,7 @@ use Rattle.aff_core.specs.Rising.{RiseStrictly}
 use Rattle.map_laws.specs.EntryLaws.{ascending, key_less}
 use Rattle.map_laws.specs.PutLaws.{Within, put_gap, put_place}
 use Rattle.aff_core.specs.FunctionLaws.{entries_rise, filter_nonzero, filter_rises, function_of-filter, nonzero-filter}
+use Rattle.aff_core.proofs.Summing.{drop_nonzero}
 
 -- the items of a slice from a place on
 pub rest_of : {X : Type 0} (xs : List X) (i : ℕ) → take (length xs - i) (drop i xs) ≡ drop i xs
@@ -74,6 +75,22 @@ filtered before after t h k =
     ∙ (λ i. nonzero-filter before h i ++ (filter-append is_nonzero (t ∷ []) after
     ∙ ap (λ l. filter is_nonzero (t ∷ []) ++ l) (nonzero-filter after k)) i)
 
+module _ (f : Function) (at : Address) (q : Rational) {items : List (Address × Rational)}
+    (is : items ≡ filter is_nonzero (entries (insert f.terms at q))) where
+  pub replaced_rise : RiseStrictly items
+  replaced_rise = subst RiseStrictly (sym is) (filter_rises _ (entries_rise (insert f.terms at q)))
+
+  pub replaced_nonzero : HaveNoZero items
+  replaced_nonzero = subst HaveNoZero (sym is) (filter_nonzero (entries (insert f.terms at q)))
+
+  pub replaced_is : (k : Rational) (h : Function) → k ≡ f.constant → h ≡ function_of items k
+      → h ≡ with_coefficient f at q
+  unfolding with_coefficient
+  replaced_is k h same made =
+      made ∙ (λ i. function_of (is i) (same i))
+      ∙ function_of-filter (entries (insert f.terms at q)) f.constant
+      (entries_rise (insert f.terms at q))
+
 module _ (f : Function) (at : Address) (from count : ℕ) (span : IsSpanOf f at from count)
     (q : Rational) where
   before : HaveNoZero (take from (terms_of f))
@@ -82,9 +99,7 @@ module _ (f : Function) (at : Address) (from count : ℕ) (span : IsSpanOf f at 
       (AllPass-from_list_all is_nonzero (terms_of f) f.nonzero))
 
   after : HaveNoZero (drop (from + count) (terms_of f))
-  after =
-      list_all-from_AllPass is_nonzero _ (All-drop (λ t. is_nonzero t ≡ true) (from + count)
-      (terms_of f) (AllPass-from_list_all is_nonzero (terms_of f) f.nonzero))
+  after = drop_nonzero (from + count) (terms_of f) f.nonzero
 
   -- the terms that are put together are those of the function's map with the new number, but the
   -- zeros
@@ -100,23 +115,6 @@ module _ (f : Function) (at : Address) (from count : ℕ) (span : IsSpanOf f at 
 
   removed : q ≡ zero_ℚ → filter is_nonzero ((at, q) ∷ []) ≡ []
   removed e = ap (λ b. cond b ((at, q) ∷ []) []) (zero_test q e)
-
-  module _ (items : List (Address × Rational))
-      (is : items ≡ filter is_nonzero (entries (insert f.terms at q))) where
-    pub replaced_rise : RiseStrictly items
-    replaced_rise =
-        subst RiseStrictly (sym is) (filter_rises _ (entries_rise (insert f.terms at q)))
-
-    pub replaced_nonzero : HaveNoZero items
-    replaced_nonzero = subst HaveNoZero (sym is) (filter_nonzero (entries (insert f.terms at q)))
-
-    pub replaced_is : (k : Rational) (h : Function) → k ≡ f.constant → h ≡ function_of items k
-        → h ≡ with_coefficient f at q
-    unfolding with_coefficient
-    replaced_is k h same made =
-        made ∙ (λ i. function_of (is i) (same i))
-        ∙ function_of-filter (entries (insert f.terms at q)) f.constant
-        (entries_rise (insert f.terms at q))
 
   pub with_given : (items : List (Address × Rational))
       → items ≡ take from (terms_of f) ++ ((at, q) ∷ [] ++ drop (from + count) (terms_of f))

@@ -20,15 +20,16 @@ pub record AddsAsAll {K : Type 0} {R : K → K → Ordering} (c : Rational)
   pub only : TimesFit c ts → TermsFit start (times c ts)
       → TimesFit c rest × TermsFit sums (times c rest)
 
-module _ {K : Type 0} {R : K → K → Ordering} (c : Rational) (start sums : FinMap R Rational)
-    (ts : List (K × Rational)) where
-  pub adds-end : AddsAsAll c start sums ts [] → (TimesFit c ts × TermsFit start (times c ts))
+module _ {K : Type 0} {R : K → K → Ordering} {c : Rational} {start sums : FinMap R Rational}
+    {ts rest : List (K × Rational)} (so_far : AddsAsAll c start sums ts rest) where
+  pub adds-end : rest ≡ [] → (TimesFit c ts × TermsFit start (times c ts))
       × (sums ≡ added_terms start (times c ts))
   unfolding added_terms TermsFit
-  adds-end h = (h.fits (All-nil (λ t. Fits (c *ℚ t.1))) tt, h.value)
+  adds-end none =
+      let all = subst (AddsAsAll c start sums ts) none so_far in
+      (all.fits (All-nil (λ t. Fits (c *ℚ t.1))) tt, all.value)
 
-  module _ (rest left : List (K × Rational)) (t : K × Rational)
-      (so_far : AddsAsAll c start sums ts rest) (next : rest ≡ t ∷ left) where
+  module _ {left : List (K × Rational)} {t : K × Rational} (next : rest ≡ t ∷ left) where
     pub adds-step : Fits (c *ℚ t.1) → MeetsFit (get sums t.0) (c *ℚ t.1)
         → AddsAsAll c start (added_at sums t.0 (c *ℚ t.1)) ts left
     unfolding added_terms TermsFit
@@ -65,24 +66,27 @@ pub record SubstitutesAsAll {K J : Type 0} {S : J → J → Ordering} (e : K →
   pub fits : SpreadFits e sums rest → SpreadFits e start ts
   pub only : SpreadFits e start ts → SpreadFits e sums rest
 
-module _ {K J : Type 0} {S : J → J → Ordering} (e : K → FunctionOver S) (start : FinMap S Rational)
-    (ts : List (K × Rational)) where
-  pub substitutes-start : SubstitutesAsAll e start start ts ts
-  substitutes-start = record { value = refl; fits = λ h. h; only = λ h. h }
+module _ {K J : Type 0} {S : J → J → Ordering} where
+  pub substitutes-start : (e : K → FunctionOver S) (start : FinMap S Rational)
+      (ts : List (K × Rational)) → SubstitutesAsAll e start start ts ts
+  substitutes-start e start ts = record { value = refl; fits = λ h. h; only = λ h. h }
 
-  pub substitutes-end : (sums : FinMap S Rational) → SubstitutesAsAll e start sums ts []
-      → SpreadFits e start ts × (sums ≡ added_terms start (substituted e ts))
+module _ {K J : Type 0} {S : J → J → Ordering} {e : K → FunctionOver S}
+    {start sums : FinMap S Rational} {ts rest : List (K × Rational)}
+    (so_far : SubstitutesAsAll e start sums ts rest) where
+  pub substitutes-end : rest ≡ [] → SpreadFits e start ts
+      × (sums ≡ added_terms start (substituted e ts))
   unfolding substituted added_terms TermsFit
-  substitutes-end sums h = (
-    h.fits (record {
-      products = All-nil (λ t. TimesFit t.1 (terms_of (e t.0)));
-      sums_fit = tt;
-    }),
-    h.value,
-  )
+  substitutes-end none =
+      let all = subst (SubstitutesAsAll e start sums ts) none so_far in (
+        all.fits (record {
+          products = All-nil (λ t. TimesFit t.1 (terms_of (e t.0)));
+          sums_fit = tt;
+        }),
+        all.value,
+      )
 
-  module _ (sums : FinMap S Rational) (rest left : List (K × Rational)) (t : K × Rational)
-      (so_far : SubstitutesAsAll e start sums ts rest) (next : rest ≡ t ∷ left) where
+  module _ {left : List (K × Rational)} {t : K × Rational} (next : rest ≡ t ∷ left) where
     abbrev here : List (J × Rational)
     here = times t.1 (terms_of (e t.0))
 

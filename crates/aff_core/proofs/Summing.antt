@@ -1,5 +1,5 @@
 -- Two lists of terms summed, step by step.
-use Rattle.std.specs.Prelude.{◌≡◌, ℕ, ◌+◌, ◌<◌, ◌≤◌, true, cond, T, List, [], ◌∷◌, ◌++◌, length, take, drop, filter, slice_index_or, Some, None, refl}
+use Rattle.std.specs.Prelude.{◌≡◌, ℕ, ◌+◌, ◌<◌, ◌≤◌, true, cond, T, List, [], ◌∷◌, ◌++◌, length, take, drop, filter, slice_index_or, Option, Some, None, refl}
 use Rattle.std.proofs.Common.{sym, ap, subst, ◌∙◌, arith, append_assoc}
 use Rattle.std.proofs.lemmas.List.{append-nil, take_more, take-append-drop}
 use Rattle.std.proofs.lemmas.List.Elements.{All-drop, All-head, filter-append}
@@ -21,17 +21,19 @@ use Rattle.aff_core.specs.Rising.{RiseBy}
 use Rattle.aff_core.specs.Terms.{HaveNoZero, is_nonzero}
 
 -- what is left of terms that are not 0, and the first of them
-drop_nonzero : {K : Type 0} (n : ℕ) (ts : List (K × Rational)) → HaveNoZero ts
+pub drop_nonzero : {K : Type 0} (n : ℕ) (ts : List (K × Rational)) → HaveNoZero ts
     → HaveNoZero (drop n ts)
 drop_nonzero n ts h =
     list_all-from_AllPass is_nonzero (drop n ts) (All-drop (λ t. is_nonzero t ≡ true) n ts
     (AllPass-from_list_all is_nonzero ts h))
 
-pub first_kept : {K : Type 0} (n : ℕ) (ts rest : List (K × Rational)) (t : K × Rational)
-    → HaveNoZero ts → drop n ts ≡ t ∷ rest → filter is_nonzero (t ∷ []) ≡ t ∷ []
-first_kept n ts rest t h e =
-    ap (λ b. cond b (t ∷ []) []) (All-head (λ t. is_nonzero t ≡ true) t rest
-    (AllPass-from_list_all is_nonzero (t ∷ rest) (subst HaveNoZero e (drop_nonzero n ts h))))
+pub first_kept : {K : Type 0} (n : ℕ) (ts rest summed : List (K × Rational))
+    {next : List (K × Rational)} {s t : K × Rational} → HaveNoZero ts → drop n ts ≡ t ∷ rest
+    → next ≡ summed ++ s ∷ [] → s ≡ t → next ≡ summed ++ filter is_nonzero (t ∷ [])
+first_kept n ts rest summed {t = t} h e pushed same =
+    pushed ∙ ap (λ s. summed ++ s ∷ []) same
+    ∙ sym (ap (λ b. summed ++ cond b (t ∷ []) []) (All-head (λ t. is_nonzero t ≡ true) t rest
+    (AllPass-from_list_all is_nonzero (t ∷ rest) (subst HaveNoZero e (drop_nonzero n ts h)))))
 
 -- ---- terms added one list after another
 
@@ -172,68 +174,81 @@ module _ {K : Type 0} {R : K → K → Ordering} (total : IsTotalOrder R) where
       none_below [] = tt
       none_below (t ∷ ts) = tt
 
-  module _ (left right : List (K × Rational)) (i j : ℕ) (sums : List (K × Rational))
-      (f g : K × Rational) (left_rises : RiseBy R left) (right_rises : RiseBy R right)
-      (so_far : IsMergedSoFar left right i j sums) (i_in : i < length left)
-      (j_in : j < length right) (at_i : drop i left ≡ f ∷ drop (i + 1) left)
-      (at_j : drop j right ≡ g ∷ drop (j + 1) right) (g_is : slice_index_or right j g ≡ g) where
+  -- a turn of the loop, where f and g come next
+  pub record IsTurn (left right : List (K × Rational)) (i j : ℕ) (sums : List (K × Rational))
+      (f g : K × Rational) : Type 0 where
+    pub left_rises : RiseBy R left
+    pub right_rises : RiseBy R right
+    pub so_far : IsMergedSoFar left right i j sums
+    pub i_in : i < length left
+    pub j_in : j < length right
+    pub at_i : drop i left ≡ f ∷ drop (i + 1) left
+    pub at_j : drop j right ≡ g ∷ drop (j + 1) right
+    pub g_is : slice_index_or right j g ≡ g
+
+  module _ {left right : List (K × Rational)} {i j : ℕ} {sums : List (K × Rational)}
+      {f g : K × Rational} (turn : IsTurn left right i j sums f g) where
     more : take (j + 1) right ≡ take j right ++ g ∷ []
-    more = take_more right j g j_in ∙ ap (λ t. take j right ++ t ∷ []) g_is
+    more = take_more right j g turn.j_in ∙ ap (λ t. take j right ++ t ∷ []) turn.g_is
 
     below_g : Below sums g.0
-    below_g = subst (BelowHead sums) at_j so_far.below
+    below_g = subst (BelowHead sums) turn.at_j turn.so_far.below
 
     whole : entries (added_terms (from_sorted {R = R} left) (take j right))
         ≡ sums ++ f ∷ drop (i + 1) left
-    whole = so_far.made ∙ ap (λ l. sums ++ l) at_i
+    whole = turn.so_far.made ∙ ap (λ l. sums ++ l) turn.at_i
 
-    rest_above : T (below_all R g.0 (drop (j + 1) right))
-    rest_above =
-        first _ _ (subst (λ l. T (is_sorted R l)) at_j
-        (is_sorted-drop R j right (rises right right_rises)))
-
-    left_above : T (below_all R f.0 (drop (i + 1) left))
-    left_above =
-        first _ _ (subst (λ l. T (is_sorted R l)) at_i
-        (is_sorted-drop R i left (rises left left_rises)))
+    meets : get (added_terms (from_sorted {R = R} left) (take j right)) g.0
+        ≡ find R g.0 (f ∷ drop (i + 1) left)
+    meets =
+        met_past (added_terms (from_sorted left) (take j right)) sums (f ∷ drop (i + 1) left) g
+        whole below_g
 
     pub merged-less : R f.0 g.0 ≡ Less → IsMergedSoFar left right (i + 1) j (sums ++ f ∷ [])
     merged-less lt = record {
       left_in_range = omega arith;
-      right_in_range = so_far.right_in_range;
+      right_in_range = turn.so_far.right_in_range;
       made = whole ∙ sym (append_assoc sums (f ∷ []) (drop (i + 1) left));
-      below = subst (BelowHead (sums ++ f ∷ [])) (sym at_j) (Below-push sums f g.0 below_g lt);
-      fits = so_far.fits;
+      below = subst (BelowHead (sums ++ f ∷ [])) (sym turn.at_j) (Below-push sums f g.0 below_g lt);
+      fits = turn.so_far.fits;
+    }
+
+    -- g is added to what is left of the left list, which then begins with s
+    merged-more : (o : Option Rational) (s : K × Rational) (next : ℕ)
+        → find R g.0 (f ∷ drop (i + 1) left) ≡ o → MeetsFit o g.1
+        → put R g.0 (met o g.1) (f ∷ drop (i + 1) left) ≡ s ∷ drop next left → R s.0 g.0 ≡ Equal
+        → next ≤ length left → IsMergedSoFar left right next (j + 1) (sums ++ s ∷ [])
+    merged-more o s next found fit puts tied within = record {
+      left_in_range = within;
+      right_in_range = omega arith;
+      made = ap (λ l. entries (added_terms (from_sorted {R = R} left) l)) more
+          ∙ ap entries (added_terms-push (from_sorted left) (take j right) g)
+          ∙ added_past (added_terms (from_sorted left) (take j right)) sums
+          (f ∷ drop (i + 1) left) g whole below_g
+          ∙ ap (λ o. sums ++ put R g.0 (met o g.1) (f ∷ drop (i + 1) left)) found
+          ∙ ap (λ l. sums ++ l) puts ∙ sym (append_assoc sums (s ∷ []) (drop next left));
+      below = next_below sums s g (drop (j + 1) right) tied below_g
+          (first _ _ (subst (λ l. T (is_sorted R l)) turn.at_j
+          (is_sorted-drop R j right (rises right turn.right_rises))));
+      fits = subst (TermsFit (from_sorted {R = R} left)) (sym more)
+          (TermsFit-push (from_sorted left) (take j right) g turn.so_far.fits
+          (subst (λ o. MeetsFit o g.1) (sym (meets ∙ found)) fit));
     }
 
     pub merged-greater : R f.0 g.0 ≡ Greater → IsMergedSoFar left right i (j + 1) (sums ++ g ∷ [])
     merged-greater gt =
         let lt : R g.0 f.0 ≡ Less = total.antisymm g.0 f.0 ∙ ap ordering_reverse gt in
+        let above : T (below_all R f.0 (drop (i + 1) left)) =
+        first _ _ (subst (λ l. T (is_sorted R l)) turn.at_i
+        (is_sorted-drop R i left (rises left turn.left_rises))) in
         let none : find R g.0 (f ∷ drop (i + 1) left) ≡ None =
         find_below R g.0 (f ∷ drop (i + 1) left)
         (both _ _ (subst (λ r. T (is_lt r)) (sym lt) tt)
-        (below_less total g.0 f.0 (drop (i + 1) left) lt left_above)) in
-        record {
-          left_in_range = so_far.left_in_range;
-          right_in_range = omega arith;
-          made =
-              ap (λ l. entries (added_terms (from_sorted {R = R} left) l)) more
-              ∙ ap entries (added_terms-push (from_sorted left) (take j right) g)
-              ∙ added_past (added_terms (from_sorted left) (take j right)) sums
-              (f ∷ drop (i + 1) left) g whole below_g
-              ∙ ap (λ o. sums ++ put R g.0 (met o g.1) (f ∷ drop (i + 1) left)) none
-              ∙ ap (λ o. sums ++ by_order o (g ∷ f ∷ drop (i + 1) left)
-              ((f.0, g.1) ∷ drop (i + 1) left) (f ∷ put R g.0 g.1 (drop (i + 1) left))) lt
-              ∙ sym (append_assoc sums (g ∷ []) (f ∷ drop (i + 1) left))
-              ∙ ap (λ l. (sums ++ g ∷ []) ++ l) (sym at_i);
-          below = next_below sums g g (drop (j + 1) right) (itself g.0) below_g rest_above;
-          fits =
-              subst (TermsFit (from_sorted {R = R} left)) (sym more)
-              (TermsFit-push (from_sorted left) (take j right) g so_far.fits
-              (subst (λ o. MeetsFit o g.1)
-              (sym (met_past (added_terms (from_sorted left) (take j right)) sums
-              (f ∷ drop (i + 1) left) g whole below_g ∙ none)) tt));
-        }
+        (below_less total g.0 f.0 (drop (i + 1) left) lt above)) in
+        merged-more None g i none tt
+        (ap (λ o. by_order o (g ∷ f ∷ drop (i + 1) left) ((f.0, g.1) ∷ drop (i + 1) left)
+        (f ∷ put R g.0 g.1 (drop (i + 1) left))) lt ∙ ap (λ l. g ∷ l) (sym turn.at_i))
+        (itself g.0) turn.so_far.left_in_range
 
     module _ (tied : R f.0 g.0 ≡ Equal) where
       found : find R g.0 (f ∷ drop (i + 1) left) ≡ Some f.1
@@ -241,37 +256,19 @@ module _ {K : Type 0} {R : K → K → Ordering} (total : IsTotalOrder R) where
           ap (λ o. cond (is_eq o) (Some f.1) (find R g.0 (drop (i + 1) left)))
           (tied_back total f.0 g.0 tied)
 
-      meets : get (added_terms (from_sorted {R = R} left) (take j right)) g.0 ≡ Some f.1
-      meets =
-          met_past (added_terms (from_sorted left) (take j right)) sums (f ∷ drop (i + 1) left) g
-          whole below_g ∙ found
-
       pub merged-equal : SumFits f.1 g.1 → IsMergedSoFar left right (i + 1) (j + 1)
           (sums ++ (f.0, f.1 +ℚ g.1) ∷ [])
-      merged-equal fits = record {
-        left_in_range = omega arith;
-        right_in_range = omega arith;
-        made =
-            ap (λ l. entries (added_terms (from_sorted {R = R} left) l)) more
-            ∙ ap entries (added_terms-push (from_sorted left) (take j right) g)
-            ∙ added_past (added_terms (from_sorted left) (take j right)) sums
-            (f ∷ drop (i + 1) left) g whole below_g
-            ∙ ap (λ o. sums ++ put R g.0 (met o g.1) (f ∷ drop (i + 1) left)) found
-            ∙ ap (λ o. sums ++ by_order o ((g.0, f.1 +ℚ g.1) ∷ f ∷ drop (i + 1) left)
-            ((f.0, f.1 +ℚ g.1) ∷ drop (i + 1) left) (f ∷ put R g.0 (f.1 +ℚ g.1)
-            (drop (i + 1) left))) (tied_back total f.0 g.0 tied)
-            ∙ sym (append_assoc sums ((f.0, f.1 +ℚ g.1) ∷ []) (drop (i + 1) left));
-        below = next_below sums (f.0, f.1 +ℚ g.1) g (drop (j + 1) right) tied below_g rest_above;
-        fits = subst (TermsFit (from_sorted {R = R} left)) (sym more)
-            (TermsFit-push (from_sorted left) (take j right) g so_far.fits
-            (subst (λ o. MeetsFit o g.1) (sym meets) fits));
-      }
+      merged-equal fits =
+          merged-more (Some f.1) (f.0, f.1 +ℚ g.1) (i + 1) found fits
+          (ap (λ o. by_order o ((g.0, f.1 +ℚ g.1) ∷ f ∷ drop (i + 1) left)
+          ((f.0, f.1 +ℚ g.1) ∷ drop (i + 1) left) (f ∷ put R g.0 (f.1 +ℚ g.1)
+          (drop (i + 1) left))) (tied_back total f.0 g.0 tied)) tied (omega arith)
 
       pub merged-refused : TermsFit (from_sorted {R = R} left) right → SumFits f.1 g.1
       merged-refused h =
           let split : right ≡ take j right ++ g ∷ drop (j + 1) right =
-          sym (take-append-drop j right) ∙ ap (λ l. take j right ++ l) at_j in
-          subst (λ o. MeetsFit o g.1) meets (TermsFit-at (from_sorted left) (take j right)
+          sym (take-append-drop j right) ∙ ap (λ l. take j right ++ l) turn.at_j in
+          subst (λ o. MeetsFit o g.1) (meets ∙ found) (TermsFit-at (from_sorted left) (take j right)
           (drop (j + 1) right) g (subst (TermsFit (from_sorted {R = R} left)) split h))
 
   -- ---- without the sums that came to 0
@@ -282,18 +279,18 @@ module _ {K : Type 0} {R : K → K → Ordering} (total : IsTotalOrder R) where
     pub merged : IsMergedSoFar left right i j sums
     pub kept : summed ≡ filter is_nonzero sums
 
-  pub summed-more : (left right : List (K × Rational)) (i j : ℕ)
-      (summed sums next : List (K × Rational)) (t : K × Rational)
+  pub summed-more : {left right : List (K × Rational)} {i j : ℕ} {summed next : List (K × Rational)}
+      (sums : List (K × Rational)) (t : K × Rational)
       → IsMergedSoFar left right i j (sums ++ t ∷ []) → summed ≡ filter is_nonzero sums
       → next ≡ summed ++ filter is_nonzero (t ∷ []) → IsSummedSoFar left right i j next
-  summed-more left right i j summed sums next t merged is e = record {
+  summed-more sums t merged is e = record {
     sums = sums ++ t ∷ [];
     merged = merged;
     kept = e ∙ ap (λ l. l ++ filter is_nonzero (t ∷ [])) is
         ∙ sym (filter-append is_nonzero sums (t ∷ []));
   }
 
-  module _ (left right : List (K × Rational)) (i j : ℕ) (summed : List (K × Rational))
+  module _ {left right : List (K × Rational)} {i j : ℕ} {summed : List (K × Rational)}
       (so_far : IsSummedSoFar left right i j summed) (left_nonzero : HaveNoZero left)
       (right_nonzero : HaveNoZero right) where
     abbrev pub Sums : Type 0

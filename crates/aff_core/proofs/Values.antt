@@ -24,18 +24,20 @@ pub as_all-start : (start : Rational) (ts : List (Address × Rational)) (x : Add
     → IsAsAll start start ts ts x
 as_all-start start ts x = record { value = refl; fits = λ h. h; only = λ h. h }
 
-pub as_all-end : (start sum : Rational) (ts : List (Address × Rational)) (x : Address → Rational)
-    → IsAsAll start sum ts [] x → ValueFits start ts x × (sum ≡ value_from start ts x)
-unfolding ValueFits value_from
-as_all-end start sum ts x h = (h.fits tt, h.value)
+module _ {start sum : Rational} {ts rest : List (Address × Rational)} {x : Address → Rational}
+    (so_far : IsAsAll start sum ts rest x) where
+  pub as_all-end : rest ≡ [] → ValueFits start ts x × (sum ≡ value_from start ts x)
+  unfolding ValueFits value_from
+  as_all-end none =
+      let all = subst (λ l. IsAsAll start sum ts l x) none so_far in (all.fits tt, all.value)
 
-module _ (start sum : Rational) (ts rest left : List (Address × Rational)) (t : Address × Rational)
-    (x : Address → Rational) (n : Rational) (so_far : IsAsAll start sum ts rest x)
+module _ {start sum : Rational} {ts rest left : List (Address × Rational)} {t : Address × Rational}
+    {x : Address → Rational} {n : Rational} (so_far : IsAsAll start sum ts rest x)
     (next : rest ≡ t ∷ left) (number : n ≡ x t.0) where
-  pub as_all-step : (total : Rational) → StepFits sum t.1 n → total ≡ sum +ℚ (t.1 *ℚ n)
+  pub as_all-step : {total : Rational} → StepFits sum t.1 n → total ≡ sum +ℚ (t.1 *ℚ n)
       → IsAsAll start total ts left x
   unfolding ValueFits value_from
-  as_all-step total step is =
+  as_all-step {total} step is =
       let total_is : total ≡ sum +ℚ (t.1 *ℚ x t.0) = is ∙ ap (λ k. sum +ℚ (t.1 *ℚ k)) number in
       record {
         value = ap (λ k. value_from k left x) total_is ∙ sym (ap (λ l. value_from sum l x) next)

@@ -2,7 +2,6 @@
 -- added from the left.
 use Rattle.std.specs.Prelude.{◌≡◌, Bool, true, false, cond, T, List, [], ◌∷◌, ◌++◌, Option, Some, None, unwrap_or, refl}
 use Rattle.std.proofs.Common.{sym, ap, subst, ◌∙◌}
-use Rattle.std.specs.Option.{option_map}
 use Rattle.std.specs.Ordering.{eq_by_cmp}
 use Rattle.std.specs.declared.cmp.Ordering.{Ordering}
 use Rattle.std.specs.FinMap as finite
@@ -11,10 +10,10 @@ use Rattle.std.specs.FinMap.Entries.{below_all}
 use Rattle.ratio_core.specs.Rational.{Rational, zero_ℚ, ◌+ℚ◌, ◌*ℚ◌}
 use Rattle.rational_laws.specs.Field.{+ℚ-zero, zero-+ℚ, *ℚ-zero, +ℚ_assoc}
 use Rattle.aff_core.specs.Arithmetic.{IsComposition, IsMultiple, IsSum, added_at, added_terms, composed, met, scaled, substituted, sum_of}
-use Rattle.map_laws.specs.EntryLaws.{find_below, find-map, is_sorted-map}
+use Rattle.map_laws.specs.EntryLaws.{find_below, is_sorted-map}
 use Rattle.map_laws.specs.TestLaws.{first, second}
 use Rattle.aff_core.specs.Function.{FunctionOver, coefficient, terms_of, value_of}
-use Rattle.aff_core.specs.FunctionLaws.{coefficient-function_of, coefficient-made, coefficient_in, coefficient_in-terms_of, constant-function_of, rises, terms_rise}
+use Rattle.aff_core.specs.FunctionLaws.{coefficient-function_of, coefficient-made, coefficient_in, coefficient_in-map, coefficient_in-terms_of, constant-function_of, rises, terms_rise}
 use Rattle.aff_core.specs.KeyOrder.{IsKeyOrder, key_eq-Decides}
 use Rattle.aff_core.specs.Rising.{RiseBy}
 use Rattle.aff_core.specs.Terms.{linear, times, value_from}
@@ -36,11 +35,6 @@ value_from-value_of f x = value_from-linear f.constant (terms_of f) x
 
 -- ---- multiples
 
-times_or_zero : (c : Rational) (o : Option Rational)
-    → unwrap_or (option_map (λ q. c *ℚ q) o) zero_ℚ ≡ c *ℚ unwrap_or o zero_ℚ
-times_or_zero c None = sym (*ℚ-zero c)
-times_or_zero c (Some q) = refl
-
 met_is : (o : Option Rational) (q : Rational) → met o q ≡ unwrap_or o zero_ℚ +ℚ q
 met_is None q = sym (zero-+ℚ q)
 met_is (Some p) q = refl
@@ -51,10 +45,7 @@ module _ {K : Type 0} {R : K → K → Ordering} where
 
   coefficient_in-times : (c : Rational) (f : FunctionOver R) (v : K)
       → coefficient_in R (times c (terms_of f)) v ≡ c *ℚ coefficient f v
-  coefficient_in-times c f v =
-      ap (λ o. unwrap_or o zero_ℚ) (find-map R (λ q. c *ℚ q) v (terms_of f))
-      ∙ times_or_zero c (find R v (terms_of f))
-      ∙ ap (λ q. c *ℚ q) (coefficient_in-terms_of f v)
+  coefficient_in-times c f v = coefficient_in-map (λ q. c *ℚ q) (*ℚ-zero c) f v
 
   pub added_terms-append : (m : FinMap R Rational) (ts us : List (K × Rational))
       → added_terms m (ts ++ us) ≡ added_terms (added_terms m ts) us

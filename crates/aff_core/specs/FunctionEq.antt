@@ -5,12 +5,12 @@ use Rattle.std.specs.Bool.{Decides}
 use Rattle.std.specs.Ordering.{eq_by_cmp}
 use Rattle.std.specs.Cmp.{IsEquivalence, IsPartialEquivalence, decided, partial_equiv_from_equiv}
 use Rattle.std.specs.Cmp.Lexicographic.{pointwise, pointwise_decides}
-use Rattle.std.specs.FinMap.{same_entries_map}
 use Rattle.std.proofs.lemmas.Bool.Decides.{Decides-and}
 use Rattle.ratio_core.specs.Rational.{Rational, rational_eq}
 use Rattle.ratio_core.specs.RationalLaws.{rational_eq_Decides}
 use Rattle.aff_core.specs.Address.{Address, address_cmp, address_eq-Decides}
-use Rattle.aff_core.specs.Function.{Function, same_parts, terms_of}
+use Rattle.aff_core.specs.Function.{Function, terms_of}
+use Rattle.aff_core.specs.FunctionLaws.{same_function}
 
 -- the same address with the same coefficient
 abbrev pub term_eq : Address × Rational → Address × Rational → Bool
@@ -25,10 +25,6 @@ term_eq-Decides s t =
     let parts = Decides-and (eq_by_cmp address_cmp s.0 t.0) (rational_eq s.1 t.1)
     (address_eq-Decides s.0 t.0) (rational_eq_Decides s.1 t.1) in
     (λ e. λ i. ((parts.0 e).0 i, (parts.0 e).1 i), λ e. parts.1 (ap (λ u. u.0) e, ap (λ u. u.1) e))
-
--- a function is its terms and its constant
-pub same_function : (f g : Function) → terms_of f ≡ terms_of g → f.constant ≡ g.constant → f ≡ g
-same_function f g e k = same_parts f g (λ i. (same_entries_map f.terms g.terms e i, k i))
 
 pub function_eq-Decides : (f g : Function) → Decides (function_eq f g) (f ≡ g)
 unfolding function_eq

@@ -178,6 +178,19 @@ module _ {K : Type 0} {R : K → K → Ordering} where
       → coefficient_in R (terms_of f) v ≡ coefficient f v
   coefficient_in-terms_of f v = ap (λ o. unwrap_or o zero_ℚ) (sym (finite.get-entries f.terms v))
 
+  -- the coefficients of terms of which each is changed
+  pub coefficient_in-map : (change : Rational → Rational) → change zero_ℚ ≡ zero_ℚ
+      → (f : FunctionOver R) (v : K)
+      → coefficient_in R (map (λ t. (t.0, change t.1)) (terms_of f)) v ≡ change (coefficient f v)
+  coefficient_in-map change nothing f v =
+      ap (λ o. unwrap_or o zero_ℚ) (find-map R change v (terms_of f))
+      ∙ over (find R v (terms_of f)) ∙ ap change (coefficient_in-terms_of f v)
+    where
+      over : (c : Option Rational)
+          → unwrap_or (option_map change c) zero_ℚ ≡ change (unwrap_or c zero_ℚ)
+      over None = sym nothing
+      over (Some q) = refl
+
   -- what is kept of a key is known by its coefficient
   get_by_coefficient : (f : FunctionOver R) (v : K) → finite.get f.terms v ≡ kept (coefficient f v)
   get_by_coefficient f v = by (finite.get f.terms v) refl
@@ -371,15 +384,7 @@ module _ {K : Type 0} {R : K → K → Ordering} (o : IsKeyOrder R) where
   unfolding negated
   coefficient-negated f v =
       coefficient-function_of (negated_terms (terms_of f)) (neg_ℚ f.constant) v
-      (negated_rise (terms_of f) (terms_rise f))
-      ∙ ap (λ o. unwrap_or o zero_ℚ) (find-map R neg_ℚ v (terms_of f))
-      ∙ over (find R v (terms_of f))
-      ∙ ap neg_ℚ (coefficient_in-terms_of f v)
-    where
-      over : (c : Option Rational)
-          → unwrap_or (option_map neg_ℚ c) zero_ℚ ≡ neg_ℚ (unwrap_or c zero_ℚ)
-      over None = sym neg_ℚ-zero
-      over (Some q) = refl
+      (negated_rise (terms_of f) (terms_rise f)) ∙ coefficient_in-map neg_ℚ neg_ℚ-zero f v
 
   pub constant-negated : (f : FunctionOver R) → (negated f).constant ≡ neg_ℚ f.constant
   unfolding negated

@@ -62,24 +62,10 @@ least_below : (graph : Hypergraph) (kind cost limit : ℕ) (plan : Plan) → IsP
     → Tree graph kind cost → cost < limit → CostsLess graph limit kind
 least_below graph kind cost limit Open treeless tree below = absurd (treeless cost tree)
 least_below graph kind cost limit Native is tree below =
-    record {
-      cost = 0;
-      is_least = record {
-        tree = native is;
-        least = λ other _. omega arith;
-      };
-      less = omega arith;
-    }
+    record { cost = 0; is_least = least_cost graph kind Native is; less = omega arith }
 least_below graph kind cost limit (By edge c) is tree below =
     let h = is.least cost tree in
-    record {
-      cost = c;
-      is_least = record {
-        tree = by is.tree;
-        least = is.least;
-      };
-      less = omega arith;
-    }
+    record { cost = c; is_least = least_cost graph kind (By edge c) is; less = omega arith }
 
 children_below : (graph : Hypergraph) {plans : List Plan} {edge kind cost : ℕ}
     → IsSolved graph plans → TreeBy graph edge kind cost → LeadsBelow graph edge cost

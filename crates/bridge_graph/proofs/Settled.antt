@@ -89,16 +89,15 @@ total_within : (plans : List Plan) (limit : ℕ) → AreWithin plans limit
 total_within plans limit within [] total sum e =
     let h : total ≡ sum = same_Some total sum e in omega arith
 total_within plans limit within (kind ∷ kinds) total sum e =
-    next (plan_at plans kind) (within kind) (λ start. total_within plans limit within
+    next (cost_of (plan_at plans kind)) (within kind) (λ start. total_within plans limit within
     kinds start sum) e
   where
-    next : (plan : Plan) → unwrap_or (cost_of plan) 0 ≤ limit
+    next : (own : Option ℕ) → unwrap_or own 0 ≤ limit
         → ((start : ℕ) → with_children plans start kinds ≡ Some sum → sum ≤ start + length
-        kinds * limit) → option_and_then (λ cost. with_children plans (total + cost) kinds)
-        (cost_of plan) ≡ Some sum → sum ≤ total + suc (length kinds) * limit
-    next Open small others e = absurd (cc)
-    next Native small others e = let h = others (total + 0) e in grind arith
-    next (By edge cost) small others e = let h = others (total + cost) e in grind arith
+        kinds * limit) → option_and_then (λ cost. with_children plans (total + cost) kinds) own
+        ≡ Some sum → sum ≤ total + suc (length kinds) * limit
+    next None small others e = absurd (cc)
+    next (Some cost) small others e = let h = others (total + cost) e in grind arith
 
 few_children : (n : ℕ) (row : EdgeRow) → has_kinds_below n row ≡ true → length (children_of row) ≤ 3
 few_children n row all =

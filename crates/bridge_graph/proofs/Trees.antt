@@ -71,6 +71,15 @@ ChildrenCost plans limit kinds cost =
     (limit ≤ cost) ⊎ ((settled : ℕ) × (settled ≤ cost)
     × ((total : ℕ) → with_children plans total kinds ≡ Some (total + settled)))
 
+-- one settled kind more
+one_settled : (plans : List Plan) (limit kind cost others own : ℕ) (kinds : List ℕ)
+    → cost_of (plan_at plans kind) ≡ Some own → own ≤ cost → ChildrenCost plans limit kinds others
+    → ChildrenCost plans limit (kind ∷ kinds) (cost + others)
+unfolding ChildrenCost
+one_settled plans limit kind cost others own kinds is le (inl h) = inl (omega arith)
+one_settled plans limit kind cost others own kinds is le (inr (settled, within, sums)) =
+    inr (own + settled, omega arith, λ total. rw is (sums (total + own) ∙ ap Some (omega arith)))
+
 child_costs : (graph : Hypergraph) (plans : List Plan) (limit kind cost others : ℕ) (kinds : List ℕ)
     (plan : Plan) → plan_at plans kind ≡ plan → IsPlanSoFar graph kind plan → Tree graph kind cost
     → (plan ≡ Open → limit ≤ cost) → ChildrenCost plans limit kinds others
@@ -78,43 +87,45 @@ child_costs : (graph : Hypergraph) (plans : List Plan) (limit kind cost others :
 unfolding ChildrenCost
 child_costs graph plans limit kind cost others kinds Open is right tree unsettled rest =
     inl (let h : limit ≤ cost = unsettled refl in omega arith)
-child_costs graph plans limit kind cost others kinds Native is right tree unsettled (inl h) =
-    inl (omega arith)
-child_costs graph plans limit kind cost others kinds Native is right tree unsettled
+child_costs graph plans limit kind cost others kinds Native is right tree unsettled rest =
+    one_settled plans limit kind cost others 0 kinds (ap cost_of is) (omega arith) rest
+child_costs graph plans limit kind cost others kinds (By edge c) is right tree unsettled rest =
+    one_settled plans limit kind cost others c kinds (ap cost_of is) (right.least cost tree) rest
+
+-- a step by this edge that costs no more than this
+StepBy : Hypergraph → List Plan → ℕ → ℕ → Type 0
+StepBy graph plans edge cost =
+    (step : Step) × IsStep graph plans step × (step.edge ≡ edge) × (step.cost ≤ cost)
+
+-- where its children don't cost the limit, an edge from an open kind gives a step
+step_by_children : (graph : Hypergraph) (plans : List Plan) (limit edge cost children : ℕ)
+    (row : EdgeRow) → IsUsable graph.edges graph.costs graph.on edge row cost
+    → plan_at plans row.source ≡ Open → ChildrenCost plans limit (children_of row) children
+    → (limit ≤ children) ⊎ StepBy graph plans edge (cost + children)
+unfolding ChildrenCost StepBy
+step_by_children graph plans limit edge cost children row usable unsettled (inl h) = inl h
+step_by_children graph plans limit edge cost children row usable unsettled
     (inr (settled, le, sums)) = inr (
-      settled,
+      record { kind = row.source; edge = edge; cost = cost + settled },
+      record {
+        row = row;
+        cost = cost;
+        usable = usable;
+        source = refl;
+        is_open = unsettled;
+        total = sums cost;
+      },
+      refl,
       omega arith,
-      λ total. rw is (sums (total + 0)
-          ∙ ap Some (omega arith)),
-    )
-child_costs graph plans limit kind cost others kinds (By edge c) is right tree unsettled (inl h) =
-    inl (omega arith)
-child_costs graph plans limit kind cost others kinds (By edge c) is right tree unsettled
-    (inr (settled, le, sums)) = inr (
-      c + settled,
-      omega (arith, right.least cost tree),
-      λ total. rw is (sums (total + c) ∙ ap Some (omega arith)),
     )
 
-tree_costs : (graph : Hypergraph) (plans : List Plan) (limit kind edge cost children : ℕ)
-    (row : EdgeRow) → ((step : Step) → IsStep graph plans step → limit ≤ step.cost)
-    → IsUsable graph.edges graph.costs graph.on edge row cost → plan_at plans row.source ≡ Open
-    → ChildrenCost plans limit (children_of row) children → limit ≤ cost + children
-unfolding ChildrenCost
-tree_costs graph plans limit kind edge cost children row steps usable unsettled (inl h) =
-    omega arith
-tree_costs graph plans limit kind edge cost children row steps usable unsettled
-    (inr (settled, le, sums)) =
-    let step : Step = record { kind = row.source; edge = edge; cost = cost + settled } in
-    let h : limit ≤ cost + settled = steps step (record {
-      row = row;
-      cost = cost;
-      usable = usable;
-      source = refl;
-      is_open = unsettled;
-      total = sums cost;
-    }) in
-    omega arith
+tree_costs : (graph : Hypergraph) (plans : List Plan) (limit edge cost children : ℕ)
+    → ((step : Step) → IsStep graph plans step → limit ≤ step.cost)
+    → (limit ≤ children) ⊎ StepBy graph plans edge (cost + children) → limit ≤ cost + children
+unfolding StepBy
+tree_costs graph plans limit edge cost children steps (inl h) = omega arith
+tree_costs graph plans limit edge cost children steps (inr (step, c, is, le)) =
+    let h = steps step c in omega arith
 
 mutual
   unfolding ChildrenCost
@@ -133,8 +144,9 @@ mutual
       → TreeBy graph edge kind cost → plan_at plans kind ≡ Open → limit ≤ cost
   open_tree_by graph plans limit settling steps (via {edge} {cost} {children} {row} usable trees)
       unsettled =
-      tree_costs graph plans limit row.source edge cost children row steps usable unsettled
-      (open_trees graph plans limit settling steps trees)
+      tree_costs graph plans limit edge cost children steps
+      (step_by_children graph plans limit edge cost children row usable unsettled
+      (open_trees graph plans limit settling steps trees))
 
   open_trees : (graph : Hypergraph) (plans : List Plan) (limit : ℕ) → IsSettling graph plans
       → ((step : Step) → IsStep graph plans step → limit ≤ step.cost) → {kinds : List ℕ} {cost : ℕ}
@@ -147,42 +159,17 @@ mutual
       (open_trees graph plans limit settling steps trees)
 
 -- a tree of an open kind that costs no more than any step gives a step by its first edge
-StepBy : Hypergraph → List Plan → ℕ → ℕ → Type 0
-StepBy graph plans edge cost =
-    (step : Step) × IsStep graph plans step × (step.edge ≡ edge) × (step.cost ≤ cost)
-
-step_by_children : (graph : Hypergraph) (plans : List Plan) (limit edge cost children : ℕ)
-    (row : EdgeRow) → IsCostly graph → IsUsable graph.edges graph.costs graph.on edge row cost
-    → plan_at plans row.source ≡ Open → cost + children ≤ limit
-    → ChildrenCost plans limit (children_of row) children
-    → StepBy graph plans edge (cost + children)
-unfolding ChildrenCost StepBy
-step_by_children graph plans limit edge cost children row costly usable unsettled within (inl h) =
-    absurd (omega (arith, costly edge cost usable.cost_is))
-step_by_children graph plans limit edge cost children row costly usable unsettled within
-    (inr (settled, le, sums)) =
-    let step : Step = record { kind = row.source; edge = edge; cost = cost + settled } in (
-      step,
-      record {
-        row = row;
-        cost = cost;
-        usable = usable;
-        source = refl;
-        is_open = unsettled;
-        total = sums cost;
-      },
-      refl,
-      omega arith,
-    )
-
 step_by_tree : (graph : Hypergraph) (plans : List Plan) (limit : ℕ) → IsSettling graph plans
     → IsCostly graph → ((step : Step) → IsStep graph plans step → limit ≤ step.cost)
     → {edge kind cost : ℕ} → TreeBy graph edge kind cost → plan_at plans kind ≡ Open → cost ≤ limit
     → StepBy graph plans edge cost
 step_by_tree graph plans limit settling costly steps (via {edge} {cost} {children} {row} usable
     trees) unsettled within =
-    step_by_children graph plans limit edge cost children row costly usable unsettled within
-    (open_trees graph plans limit settling steps trees)
+    elim (step_by_children graph plans limit edge cost children row usable unsettled
+    (open_trees graph plans limit settling steps trees)) [
+      | inl h ↦ absurd (omega (arith, costly edge cost usable.cost_is))
+      | inr step ↦ step
+    ]
 
 -- the cheapest step begins a least-cost tree of its kind, and no lower edge does
 pub best_of_step : {graph : Hypergraph} {plans : List Plan} {step : Step} → IsSettling graph plans

@@ -1,5 +1,5 @@
 -- Digits before and behind a point: the number of both, and what of it doesn't fit.
-use Rattle.std.proofs.Common.{◌≡◌, ℕ, ◌+◌, ◌-◌, ◌*◌, ◌^◌, ◌<◌, ◌≤◌, ◌⊎◌, inl, inr, Bool, List, [], ◌++◌, length, take, drop, pos, sym, ◌∙◌, ap, ap₂, subst, arith, append-nil, append_assoc}
+use Rattle.std.proofs.Common.{◌≡◌, ℕ, ◌+◌, ◌-◌, ◌*◌, ◌^◌, ◌<◌, ◌≤◌, ◌⊎◌, inl, inr, Bool, List, [], ◌++◌, length, take, drop, pos, sym, ◌∙◌, ap, ap₂, subst, arith, append-nil, append_assoc, mul-one}
 use Rattle.std.proofs.Math.Nat.{mul-le-mul_right, one-le-pow, pow-le-pow_right}
 use Rattle.std.proofs.lemmas.Int.Digits.{digits_value-lt}
 use Rattle.std.proofs.lemmas.Nat.{pow-add}
@@ -26,10 +26,7 @@ module _ (s : Bool) (a f m : ℕ) (above : 0 < m) where
   both = reduce (signed s (a * m + f)) m
 
   one_lem : reduce (signed s (a * m + f)) (m * 1) ≡ both
-  one_lem = ap (reduce (signed s (a * m + f))) (times_one m)
-    where
-      times_one : (n : ℕ) → n * 1 ≡ n
-      times_one n = omega arith
+  one_lem = ap (reduce (signed s (a * m + f))) (mul-one m)
 
   pub fine_unfit : 2 ^ 127 ≤ (reduce (pos f) m).den → ¬ (Fits both)
   fine_unfit h =

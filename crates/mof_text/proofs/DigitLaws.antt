@@ -1,5 +1,5 @@
 -- The number that digits write, in parts.
-use Rattle.std.proofs.Common.{◌≡◌, ℕ, zero, suc, ◌+◌, ◌-◌, ◌*◌, ◌^◌, ◌<◌, ◌≤◌, Bool, true, false, ◌&&◌, ◌==◌, List, [], ◌∷◌, ◌++◌, length, take, drop, get_or, replicate, refl, sym, ◌∙◌, ap, arith, pow-suc}
+use Rattle.std.proofs.Common.{◌≡◌, ℕ, zero, suc, ◌+◌, ◌-◌, ◌*◌, ◌^◌, ◌<◌, ◌≤◌, Bool, true, false, ◌&&◌, ◌==◌, List, [], ◌∷◌, ◌++◌, length, take, drop, get_or, replicate, refl, sym, ◌∙◌, ap, arith, pow-suc, mul-pos}
 use Rattle.std.proofs.Math.Nat.{one-le-pow}
 use Rattle.std.proofs.lemmas.Bool.{eqb-true, eqb-false}
 use Rattle.std.proofs.lemmas.Bool.Decides.{nat_tests}
@@ -7,12 +7,6 @@ use Rattle.std.proofs.lemmas.List.{drop_more}
 use Rattle.std.specs.Char.{digit_value}
 use Rattle.std.specs.Str.Parse.{AllDigits, digits_value, digits_value_after}
 use Rattle.mof_text.specs.Decimal.{are_zeros}
-
--- products of positive numbers are positive
-pub product_pos : (m n : ℕ) → 0 < m → 0 < n → 0 < m * n
-product_pos (suc m) (suc n) h k = omega arith
-product_pos zero n h k = absurd (omega arith)
-product_pos (suc m) zero h k = absurd (omega arith)
 
 step_lem : (n d t s x y v : ℕ) → s ≡ t * 10 → x ≡ (n * 10 + d) * t + v → y ≡ (0 * 10 + d) * t + v
     → x ≡ n * s + y
@@ -131,7 +125,7 @@ some_lem false c cs h is rest next =
     above_lem c d h k e = omega (arith, h, k, e)
 
     first_lem : (d t v x : ℕ) → 0 < d → 0 < t → x ≡ d * t + v → 0 < x
-    first_lem d t v x h k e = omega (arith, product_pos d t h k, e)
+    first_lem d t v x h k e = omega (arith, mul-pos h k, e)
 
 pub some_value : (ds : List ℕ) → AllDigits 10 ds → are_zeros ds ≡ false → 0 < digits_value 10 ds
 some_value [] h e = cc

@@ -1,9 +1,8 @@
 -- What a fraction n over d is in lowest terms: its parts, and how small they can be.
-use Rattle.std.proofs.Common.{◌≡◌, ℕ, zero, suc, ◌+◌, ◌*◌, ◌%◌, ◌^◌, ◌<◌, ◌≤◌, Bool, false, ℤ, pos, ◌*ℤ◌, unsigned_abs, sym, ◌∙◌, ap, subst, arith}
+use Rattle.std.proofs.Common.{◌≡◌, ℕ, zero, suc, ◌+◌, ◌*◌, ◌%◌, ◌^◌, ◌<◌, ◌≤◌, Bool, false, ℤ, pos, ◌*ℤ◌, unsigned_abs, sym, ◌∙◌, ap, subst, arith, mul-pos, mul_comm}
 use Rattle.std.proofs.Math.Nat.{eq_of_mul-eq-mul_right, le_of_mul-le-mul_right, le_of_mul-le-mul_left, mul-le-mul_left, mul-le-mul_right, le_of_dvd, dvd-mul_left, add-mul-mod_self_left}
 use Rattle.std.proofs.lemmas.Int.{unsigned_abs-mul}
 use Rattle.std.specs.Int.{◌∣◌}
-use Rattle.mof_text.proofs.DigitLaws.{product_pos}
 use Rattle.ratio_core.specs.Gcd.{gcd, dvd_from_coprime, gcd-rem_first}
 use Rattle.ratio_core.specs.Rational.{Fits, Rational, reduce, signed}
 use Rattle.ratio_core.specs.RationalLaws.{cancel_times, reduce_cross, reduce_is, reduce_reduced, signed_times, swap_times, unsigned_abs-signed}
@@ -61,19 +60,16 @@ pub den_stays : (s : Bool) (f m n c : ℕ) → 0 < m → 0 < c
 den_stays s f m n c hm hc =
     let q : Rational = reduce (pos f) m in
     let r : Rational = reduce (signed s (n * m + f)) (m * c) in
-    let room : 0 < m * c = product_pos m c hm hc in
+    let room : 0 < m * c = mul-pos hm hc in
     let whole : size r * c * q.den ≡ (n * q.den + size q) * r.den =
     cancel_lem (size r) m c n f q.den (size q) r.den hm (over_cross false f m hm)
     (over_cross s (n * m + f) (m * c) room) in
     let coprime : gcd (n * q.den + size q) q.den ≡ 1 = gcd-shift n (size q) q.den ∙ q.reduced.1 in
     let divides : q.den ∣ r.den * (n * q.den + size q) =
-    subst (λ t. q.den ∣ t) (whole ∙ swap_lem (n * q.den + size q) r.den)
+    subst (λ t. q.den ∣ t) (whole ∙ mul_comm (n * q.den + size q) r.den)
     (dvd-mul_left q.den (size r * c)) in
     le_of_dvd r.reduced.0 (dvd_from_coprime (n * q.den + size q) q.den r.den coprime divides)
   where
-    swap_lem : (a b : ℕ) → a * b ≡ b * a
-    swap_lem a b = omega arith
-
     cancel_lem : (u m c n f q p d : ℕ) → 0 < m → p * m ≡ f * q → u * (m * c) ≡ (n * m + f) * d
         → u * c * q ≡ (n * q + p) * d
     cancel_lem u m c n f q p d h e k =
@@ -102,7 +98,7 @@ den_above s a b k ha hb le =
   where
     some_lem : (u b a d : ℕ) → 0 < a → 0 < d → u * b ≡ a * d → 1 ≤ u
     some_lem (suc u) b a d h k e = omega arith
-    some_lem zero b a d h k e = absurd (omega (arith, product_pos a d h k, e))
+    some_lem zero b a d h k e = absurd (omega (arith, mul-pos h k, e))
 
 -- ---- what doesn't fit
 

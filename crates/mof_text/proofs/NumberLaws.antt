@@ -1,45 +1,17 @@
 -- The number of a numeral, by the sign of its exponent, and where all its digits are zeros.
-use Rattle.std.proofs.Common.{◌≡◌, ℕ, ◌+◌, ◌*◌, ◌^◌, ◌<◌, Bool, true, false, cond, ◌&&◌, not, List, ◌++◌, length, pos, refl, sym, ◌∙◌, ap, ap₂, arith, zero-mul, Option, Some, None, Decides, Result, Ok, Err, OkIff, ℤ, unsigned_abs, subst}
+use Rattle.std.proofs.Common.{◌≡◌, ℕ, ◌+◌, ◌*◌, ◌^◌, ◌<◌, Bool, true, false, cond, ◌&&◌, not, List, ◌++◌, length, pos, refl, sym, ◌∙◌, ap, ap₂, arith, add-zero, mul-one, mul-pos, zero-mul, Option, Some, None, Decides, Result, Ok, Err, OkIff, ℤ, unsigned_abs, subst}
 use Rattle.std.specs.Result.{result_ok}
 use Rattle.std.specs.Option.{SomeIff}
 use Rattle.std.specs.Str.Parse.{AllDigits, digits_value, starts_with_minus}
 use Rattle.std.proofs.lemmas.Bool.{and_parts}
-use Rattle.fast_float.specs.Text.{Parts, scan, tens_down, tens_up}
+use Rattle.fast_float.specs.Text.{Parts, scan}
 use Rattle.ratio_core.specs.Rational.{Fits, Rational, fits, fraction, reduce, signed, whole_ℚ, zero_ℚ}
 use Rattle.ratio_core.specs.RationalLaws.{fits_Decides, reduce_itself}
 use Rattle.mof_text.specs.Decimal.{are_zeros, over_ten, times_ten}
 use Rattle.mof_text.specs.Numeral.{fitting, is_colon_next, is_json_number, is_long, is_replaced, magnitude_of, number_of, printed, quoted, replaced, replacement_of}
 use Rattle.mof_text.proofs.DecimalLaws.{power_pos}
-use Rattle.mof_text.proofs.DigitLaws.{product_pos, some_value, value-append, zeros_value}
+use Rattle.mof_text.proofs.DigitLaws.{some_value, value-append, zeros_value}
 use Rattle.mof_text.proofs.Fractions.{same_over}
-
--- a point moved right, and left
-module _ (s : Bool) (p : Parts) where
-  pub number_up : p.exponent_negative ≡ false
-      → number_of s p ≡ times_ten s p.whole p.fraction (digits_value 10 p.exponent)
-  unfolding number_of
-  number_up e =
-      ap (λ b. reduce (signed s (digits_value 10 (p.whole ++ p.fraction) * 10 ^ cond b 0
-      (digits_value 10 p.exponent)))
-      (10 ^ (length p.fraction + cond b (digits_value 10 p.exponent) 0))) e
-      ∙ ap (λ n. reduce (signed s (digits_value 10 (p.whole ++ p.fraction) * 10 ^ digits_value 10
-      p.exponent)) (10 ^ n)) (zero_lem (length p.fraction))
-    where
-      zero_lem : (n : ℕ) → n + 0 ≡ n
-      zero_lem n = omega arith
-
-  pub number_down : p.exponent_negative ≡ true
-      → number_of s p ≡ over_ten s p.whole p.fraction (digits_value 10 p.exponent)
-  unfolding number_of
-  number_down e =
-      ap (λ b. reduce (signed s (digits_value 10 (p.whole ++ p.fraction) * 10 ^ cond b 0
-      (digits_value 10 p.exponent)))
-      (10 ^ (length p.fraction + cond b (digits_value 10 p.exponent) 0))) e
-      ∙ ap (λ n. reduce (signed s n) (10 ^ (length p.fraction + digits_value 10 p.exponent)))
-      (one_lem (digits_value 10 (p.whole ++ p.fraction)))
-    where
-      one_lem : (n : ℕ) → n * 10 ^ 0 ≡ n
-      one_lem n = omega arith
 
 -- ---- zero
 
@@ -77,8 +49,7 @@ first_some : (b : Bool) (xs ys : List ℕ) → AllDigits 10 xs → AllDigits 10 
 first_some true xs ys h k is rest = omega (arith, value-append xs ys, some_value ys k rest)
 first_some false xs ys h k is rest =
     left_lem (digits_value 10 xs) (10 ^ length ys) (digits_value 10 ys) _
-    (product_pos (digits_value 10 xs) (10 ^ length ys) (some_value xs h is)
-    (power_pos (length ys))) (value-append xs ys)
+    (mul-pos (some_value xs h is) (power_pos (length ys))) (value-append xs ys)
   where
     left_lem : (a t b x : ℕ) → 0 < a * t → x ≡ a * t + b → 0 < x
     left_lem a t b x h v = omega (arith, h, v)
@@ -102,37 +73,32 @@ fitting_is o q some = by_test (fits q) o q (fits_Decides q) some
 
 -- ---- a number by the parts of its numeral
 
-pub number_by : (s : Bool) (p : Parts) (xs ys : List ℕ) (up down : ℕ) → xs ≡ p.whole
-    → ys ≡ p.fraction → up ≡ tens_up p → down ≡ tens_down p
-    → reduce (signed s (digits_value 10 (xs ++ ys) * 10 ^ up)) (10 ^ down) ≡ number_of s p
-unfolding number_of
-number_by s p xs ys up down e f g h =
-    ap₂ (λ a b. reduce (signed s a) b)
-    (ap₂ (λ a b. a * b) (ap₂ (λ a b. digits_value 10 (a ++ b)) e f) (ap (λ n. 10 ^ n) g))
-    (ap (λ n. 10 ^ n) h)
+module _ (s : Bool) (p : Parts) {xs ys : List ℕ} {power : ℕ} (whole_is : xs ≡ p.whole)
+    (fraction_is : ys ≡ p.fraction) (power_is : power ≡ digits_value 10 p.exponent) where
+  pub number_by : (t : Bool) → p.exponent_negative ≡ t
+      → reduce (signed s (digits_value 10 (xs ++ ys) * 10 ^ cond t 0 power))
+      (10 ^ (length ys + cond t power 0)) ≡ number_of s p
+  unfolding number_of
+  number_by t e = λ i. reduce (signed s (digits_value 10 (whole_is i ++ fraction_is i) * 10
+      ^ cond (sym e i) 0 (power_is i))) (10 ^ (length (fraction_is i)
+      + cond (sym e i) (power_is i) 0))
 
-pub up_plain : (p : Parts) → p.exponent_negative ≡ false → (tens_up p ≡ digits_value 10 p.exponent)
-    × (tens_down p ≡ length p.fraction)
-up_plain p e = (
-  ap (λ b. cond b 0 (digits_value 10 p.exponent)) e,
-  ap (λ b. length p.fraction + cond b (digits_value 10 p.exponent) 0) e
-      ∙ plus_zero (length p.fraction),
-)
-  where
-    plus_zero : (n : ℕ) → n + 0 ≡ n
-    plus_zero n = omega arith
+  -- a point moved left, and right
+  pub down_by : p.exponent_negative ≡ true → over_ten s xs ys power ≡ number_of s p
+  down_by e =
+      ap (λ n. reduce (signed s n) (10 ^ (length ys + power)))
+      (sym (mul-one (digits_value 10 (xs ++ ys)))) ∙ number_by true e
 
-pub up_negative : (p : Parts) → p.exponent_negative ≡ true
-    → (tens_up p ≡ 0) × (tens_down p ≡ length p.fraction + digits_value 10 p.exponent)
-up_negative p e = (
-  ap (λ b. cond b 0 (digits_value 10 p.exponent)) e,
-  ap (λ b. length p.fraction + cond b (digits_value 10 p.exponent) 0) e,
-)
+  pub up_by : p.exponent_negative ≡ false → times_ten s xs ys power ≡ number_of s p
+  up_by e =
+      ap (λ n. reduce (signed s (digits_value 10 (xs ++ ys) * 10 ^ power)) (10 ^ n))
+      (sym (add-zero (length ys))) ∙ number_by false e
 
 -- ---- a run and its parts
 
-module _ (run rest front : List ℕ) (p : Parts) (len : ℕ) (front_is : front ≡ magnitude_of run)
-    (parts_is : p ≡ scan front) (len_is : len ≡ length front) where
+module _ (run rest : List ℕ) {front : List ℕ} {p : Parts} {len : ℕ}
+    (front_is : front ≡ magnitude_of run) (parts_is : p ≡ scan front)
+    (len_is : len ≡ length front) where
   abbrev tested : Bool
   tested = is_json_number p len && is_long run p && not (is_colon_next rest)
 
@@ -153,21 +119,7 @@ module _ (run rest front : List ℕ) (p : Parts) (len : ℕ) (front_is : front �
       ∙ ap₂ (λ b (q : Parts). fitting (number_of b q)) sign (parts_is ∙ ap scan front_is))
       ∙ sym (ap (λ b. cond b (replacement_of run) run) (sym test_is ∙ e))
 
--- ---- the parts as they are read
-
-module _ (s : Bool) (p : Parts) (xs ys es : List ℕ) (whole_is : xs ≡ p.whole)
-    (fraction_is : ys ≡ p.fraction) (exponent_is : es ≡ p.exponent) where
-  pub down_by : p.exponent_negative ≡ true → over_ten s xs ys (digits_value 10 es) ≡ number_of s p
-  down_by e =
-      ap₂ (λ a b. over_ten s a b (digits_value 10 es)) whole_is fraction_is
-      ∙ ap (λ t. over_ten s p.whole p.fraction (digits_value 10 t)) exponent_is
-      ∙ sym (number_down s p e)
-
-  pub up_by : p.exponent_negative ≡ false → times_ten s xs ys (digits_value 10 es) ≡ number_of s p
-  up_by e =
-      ap₂ (λ a b. times_ten s a b (digits_value 10 es)) whole_is fraction_is
-      ∙ ap (λ t. times_ten s p.whole p.fraction (digits_value 10 t)) exponent_is
-      ∙ sym (number_up s p e)
+-- ---- a number that is 0
 
 zero_fits : Fits zero_ℚ
 unfolding zero_ℚ whole_ℚ

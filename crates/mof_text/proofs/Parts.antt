@@ -1,5 +1,5 @@
 -- Numbers before and behind a point, of two lists of digits and zeros.
-use Rattle.std.proofs.Common.{◌≡◌, ℕ, ◌+◌, ◌*◌, ◌^◌, ◌<◌, ◌≤◌, Bool, Option, Some, None, List, [], ◌∷◌, ◌++◌, length, take, drop, ◌-◌, replicate, pos, sym, ◌∙◌, ap, ap₂, subst, arith}
+use Rattle.std.proofs.Common.{◌≡◌, ℕ, ◌+◌, ◌*◌, ◌^◌, ◌<◌, ◌≤◌, Bool, Option, Some, None, List, [], ◌∷◌, ◌++◌, length, take, drop, ◌-◌, replicate, pos, sym, ◌∙◌, ap, ap₂, subst, arith, mul-pos, add-zero}
 use Rattle.std.proofs.Math.Nat.{mul-le-mul, mul-le-mul_left, pow-le-pow_right}
 use Rattle.std.proofs.lemmas.Int.Digits.{digits_value-lt}
 use Rattle.std.proofs.lemmas.List.{length-append, length-replicate}
@@ -11,8 +11,8 @@ use Rattle.ratio_core.specs.Rational.{Fits, Rational, reduce, signed}
 use Rattle.mof_text.specs.Decimal.{MovesBy, over_ten, times_ten}
 use Rattle.mof_text.specs.Tenths.{TellsFraction}
 use Rattle.mof_text.specs.declared.tenths.Tenths.{Tenths}
-use Rattle.mof_text.proofs.DecimalLaws.{both, both_is, fine_unfit, over_ten_is, power_pos, size_unfit, times_ten_is}
-use Rattle.mof_text.proofs.DigitLaws.{after-append, after_is, grows, product_pos, value-append, value_zeros}
+use Rattle.mof_text.proofs.DecimalLaws.{both_is, fine_unfit, over_ten_is, power_pos, size_unfit, times_ten_is}
+use Rattle.mof_text.proofs.DigitLaws.{after-append, after_is, grows, value-append, value_zeros}
 use Rattle.mof_text.proofs.Fractions.{gcd-shift, lowest_is, unfit_num}
 use Rattle.mof_text.proofs.Steps.{fine_on, over_next}
 
@@ -40,8 +40,7 @@ module _ (zeros : ℕ) (first last : List ℕ) where
       fine_on num den 0 1 (digits_value 10 last) (10 ^ length last) (digits_value 10 first)
       (10 ^ zeros * 10 ^ length first) all scale
       (omega (arith, k)) (omega arith) (power_pos (length last))
-      (product_pos (10 ^ zeros) (10 ^ length first) (power_pos zeros)
-      (power_pos (length first)))
+      (mul-pos (power_pos zeros) (power_pos (length first)))
       (omega (arith, e))
       (omega (arith, value-append first last))
       (omega (arith, scale_lem))
@@ -87,8 +86,8 @@ module _ (zeros : ℕ) (first last : List ℕ) where
       → TellsFraction all scale o
   whole_tells n d ds None above over e tells =
       fine_on n d all (10 ^ length first * 10 ^ length last) 0 (10 ^ zeros) 0 1 all scale
-      above (product_pos (10 ^ length first) (10 ^ length last) (power_pos (length first))
-      (power_pos (length last))) (power_pos zeros) (omega arith) over
+      above (mul-pos (power_pos (length first)) (power_pos (length last))) (power_pos zeros)
+      (omega arith) over
       (omega arith)
       (omega (arith, scale_lem))
       (subst (λ v. 2 ^ 127 ≤ (reduce (pos (v * d + n)) (10 ^ zeros * d)).den)
@@ -149,21 +148,22 @@ module _ (zeros : ℕ) (first last : List ℕ) where
       subst (λ v. SomeIff o (v < 2 ^ 127) v)
       (ap (digits_value_after 10 k) ed ∙ after_is k (replicate zeros 48)
       ∙ ap₂ (λ a b. k * 10 ^ a + b) (length-replicate zeros 48) (value_zeros zeros)
-      ∙ zero_lem (k * 10 ^ zeros)
+      ∙ add-zero (k * 10 ^ zeros)
       ∙ ap (λ t. t * 10 ^ zeros) (ek ∙ ap (λ t. digits_value_after 10 t last) en
       ∙ sym (after-append 0 first last)))
       some
-    where
-      zero_lem : (n : ℕ) → n + 0 ≡ n
-      zero_lem n = omega arith
 
 -- ---- together
 
-pub joined_unfit : (s : Bool) (a num den : ℕ) → 0 < den → gcd num den ≡ 1 → 2 ^ 127 ≤ a * den + num
-    → ¬ (Fits (reduce (signed s (a * den + num)) den))
-joined_unfit s a num den h e past =
+pub joined_unfit : (s : Bool) (a num den : ℕ) → num < den → gcd num den ≡ 1
+    → 2 ^ 127 ≤ a * den + num → ¬ (Fits (reduce (signed s (a * den + num)) den))
+joined_unfit s a num den below e past =
     unfit_num (reduce (signed s (a * den + num)) den)
-    (omega (arith, past, (lowest_is s (a * den + num) den h (gcd-shift a num den ∙ e)).0))
+    (omega (
+      arith,
+      past,
+      (lowest_is s (a * den + num) den (omega arith) (gcd-shift a num den ∙ e)).0,
+    ))
 
 -- ---- answers
 
@@ -186,107 +186,74 @@ same_unfit p q e unfit = subst (λ (t : Rational). ¬ (Fits t)) (sym e) unfit
 
 -- ---- a point that is moved left, and right
 
+-- q is a whole number a, and f over m behind it
+pub record IsBoth (s : Bool) (a f m : ℕ) (q : Rational) : Type 0 where
+  pub above : 0 < m
+  pub same : q ≡ reduce (signed s (a * m + f)) m
+
+module _ {s : Bool} {a f m : ℕ} {q : Rational} (h : IsBoth s a f m q) where
+  pub part_unfit : 2 ^ 127 ≤ (reduce (pos f) m).den → ¬ (Fits q)
+  part_unfit fine = same_unfit _ _ h.same (fine_unfit s a f m h.above fine)
+
+  pub whole_unfit : ¬ (a < 2 ^ 127) → ¬ (Fits q)
+  whole_unfit large = same_unfit _ _ h.same (size_unfit s a f m h.above (omega (arith, large)))
+
+  pub both_joined : (o : Option Rational) (size num den : ℕ) → num < den → size ≡ a
+      → num * m ≡ f * den → SomeIff o (Fits (reduce (signed s (size * den + num)) den))
+      (reduce (signed s (size * den + num)) den) → SomeIff o (Fits q) q
+  both_joined o size num den below size_is over =
+      same_fit o (reduce (signed s (size * den + num)) den) q
+      (ap (λ a. reduce (signed s (a * den + num)) den) size_is
+      ∙ both_is s a f m h.above num den (omega arith) over ∙ sym h.same)
+
 module _ (s : Bool) (whole fraction : List ℕ) (power moved zeros : ℕ) (before behind : List ℕ) where
-  module _ (h : MovesBy (length whole) power moved zeros)
-      (e : before ≡ take (length whole - moved) whole)
-      (k : behind ≡ drop (length whole - moved) whole) where
-    over_is : over_ten s whole fraction power
-        ≡ both s (digits_value 10 (before ++ []) * 10 ^ 0) (digits_value 10 (behind ++ fraction))
-        (10 ^ (zeros + length behind + length fraction))
-        (power_pos (zeros + length behind + length fraction))
-    over_is =
-        over_ten_is s whole fraction power moved zeros h
+  pub over_both : MovesBy (length whole) power moved zeros
+      → before ≡ take (length whole - moved) whole → behind ≡ drop (length whole - moved) whole
+      → IsBoth s (digits_value 10 (before ++ []) * 10 ^ 0) (digits_value 10 (behind ++ fraction))
+      (10 ^ (zeros + length behind + length fraction)) (over_ten s whole fraction power)
+  over_both h e k = record {
+    above = power_pos (zeros + length behind + length fraction);
+    same = over_ten_is s whole fraction power moved zeros h
         ∙ ap₂ (λ b c. reduce (signed s (digits_value 10 (b ++ []) * 10 ^ 0 * 10
         ^ (zeros + length c + length fraction) + digits_value 10 (c ++ fraction)))
-        (10 ^ (zeros + length c + length fraction))) (sym e) (sym k)
+        (10 ^ (zeros + length c + length fraction))) (sym e) (sym k);
+  }
 
-    pub over_part : 2 ^ 127 ≤ (reduce (pos (digits_value 10 (behind ++ fraction)))
-        (10 ^ (zeros + length behind + length fraction))).den
-        → ¬ (Fits (over_ten s whole fraction power))
-    over_part fine =
-        same_unfit _ _ over_is (fine_unfit s (digits_value 10 (before ++ []) * 10 ^ 0)
-        (digits_value 10 (behind ++ fraction)) _
-        (power_pos (zeros + length behind + length fraction)) fine)
-
-    pub over_size : ¬ (digits_value 10 (before ++ []) * 10 ^ 0 < 2 ^ 127)
-        → ¬ (Fits (over_ten s whole fraction power))
-    over_size large =
-        same_unfit _ _ over_is (size_unfit s (digits_value 10 (before ++ []) * 10 ^ 0)
-        (digits_value 10 (behind ++ fraction)) _
-        (power_pos (zeros + length behind + length fraction))
-        (large_lem (digits_value 10 (before ++ []) * 10 ^ 0) large))
-      where
-        large_lem : (n : ℕ) → ¬ (n < 2 ^ 127) → 2 ^ 127 ≤ n
-        large_lem n f = omega (arith, f)
-
-    pub over_joined : (o : Option Rational) (size num den : ℕ) → 0 < den
-        → size ≡ digits_value 10 (before ++ []) * 10 ^ 0
-        → num * 10 ^ (zeros + length behind + length fraction)
-        ≡ digits_value 10 (behind ++ fraction) * den
-        → SomeIff o (Fits (reduce (signed s (size * den + num)) den))
-        (reduce (signed s (size * den + num)) den)
-        → SomeIff o (Fits (over_ten s whole fraction power)) (over_ten s whole fraction power)
-    over_joined o size num den above size_is over =
-        same_fit o (reduce (signed s (size * den + num)) den) (over_ten s whole fraction power)
-        (ap (λ a. reduce (signed s (a * den + num)) den) size_is
-        ∙ both_is s (digits_value 10 (before ++ []) * 10 ^ 0) (digits_value 10 (behind ++ fraction))
-        _ (power_pos (zeros + length behind + length fraction)) num den above over
-        ∙ sym over_is)
-
-  module _ (h : MovesBy (length fraction) power moved zeros) (e : before ≡ take moved fraction)
-      (k : behind ≡ drop moved fraction) where
-    times_is : times_ten s whole fraction power
-        ≡ both s (digits_value 10 (whole ++ before) * 10 ^ zeros) (digits_value 10 ([] ++ behind))
-        (10 ^ (0 + 0 + length behind)) (power_pos (0 + 0 + length behind))
-    times_is =
-        times_ten_is s whole fraction power moved zeros h
+  pub times_both : MovesBy (length fraction) power moved zeros → before ≡ take moved fraction
+      → behind ≡ drop moved fraction
+      → IsBoth s (digits_value 10 (whole ++ before) * 10 ^ zeros) (digits_value 10 ([] ++ behind))
+      (10 ^ (0 + 0 + length behind)) (times_ten s whole fraction power)
+  times_both h e k = record {
+    above = power_pos (0 + 0 + length behind);
+    same = times_ten_is s whole fraction power moved zeros h
         ∙ ap₂ (λ b c. reduce (signed s (digits_value 10 (whole ++ b) * 10 ^ zeros * 10
         ^ (0 + 0 + length c) + digits_value 10 ([] ++ c))) (10 ^ (0 + 0 + length c)))
-        (sym e) (sym k)
-
-    pub times_part : 2 ^ 127 ≤ (reduce (pos (digits_value 10 ([] ++ behind)))
-        (10 ^ (0 + 0 + length behind))).den → ¬ (Fits (times_ten s whole fraction power))
-    times_part fine =
-        same_unfit _ _ times_is (fine_unfit s (digits_value 10 (whole ++ before) * 10 ^ zeros)
-        (digits_value 10 ([] ++ behind)) _ (power_pos (0 + 0 + length behind)) fine)
-
-    pub times_size : ¬ (digits_value 10 (whole ++ before) * 10 ^ zeros < 2 ^ 127)
-        → ¬ (Fits (times_ten s whole fraction power))
-    times_size large =
-        same_unfit _ _ times_is (size_unfit s (digits_value 10 (whole ++ before) * 10 ^ zeros)
-        (digits_value 10 ([] ++ behind)) _ (power_pos (0 + 0 + length behind))
-        (large_lem (digits_value 10 (whole ++ before) * 10 ^ zeros) large))
-      where
-        large_lem : (n : ℕ) → ¬ (n < 2 ^ 127) → 2 ^ 127 ≤ n
-        large_lem n f = omega (arith, f)
-
-    pub times_joined : (o : Option Rational) (size num den : ℕ) → 0 < den
-        → size ≡ digits_value 10 (whole ++ before) * 10 ^ zeros
-        → num * 10 ^ (0 + 0 + length behind) ≡ digits_value 10 ([] ++ behind) * den
-        → SomeIff o (Fits (reduce (signed s (size * den + num)) den))
-        (reduce (signed s (size * den + num)) den)
-        → SomeIff o (Fits (times_ten s whole fraction power)) (times_ten s whole fraction power)
-    times_joined o size num den above size_is over =
-        same_fit o (reduce (signed s (size * den + num)) den) (times_ten s whole fraction power)
-        (ap (λ a. reduce (signed s (a * den + num)) den) size_is
-        ∙ both_is s (digits_value 10 (whole ++ before) * 10 ^ zeros)
-        (digits_value 10 ([] ++ behind)) _ (power_pos (0 + 0 + length behind)) num
-        den above over
-        ∙ sym times_is)
+        (sym e) (sym k);
+  }
 
 -- ---- few digits
 
--- 18 digits and as great a power stay below 128 bits
-pub short_digits : (xs ys : List ℕ) (up : ℕ) → AllDigits 10 (xs ++ ys)
-    → length xs + length ys ≤ 18 → up ≤ 18
-    → (digits_value 10 (xs ++ ys) < 10 ^ 18) × (digits_value 10 (xs ++ ys) * 10 ^ up < 2 ^ 127)
-short_digits xs ys up digits few small =
+pub AllDigits-append : (xs ys : List ℕ) → AllDigits 10 xs → AllDigits 10 ys
+    → AllDigits 10 (xs ++ ys)
+AllDigits-append [] ys h k = k
+AllDigits-append (c ∷ cs) ys h k = (h.0, AllDigits-append cs ys h.1 k)
+
+-- 18 digits and as great a power stay below 128 bits, also while they are read
+pub short_digits : (xs ys : List ℕ) (up : ℕ) → AllDigits 10 xs → AllDigits 10 ys
+    → length xs + length ys ≤ 18 → up ≤ 18 → (digits_value_after 10 0 xs < 2 ^ 127)
+    × (digits_value_after 10 (digits_value_after 10 0 xs) ys < 2 ^ 127)
+    × (digits_value 10 (xs ++ ys) * 10 ^ up < 2 ^ 127)
+short_digits xs ys up h k few small =
     let length_is : length (xs ++ ys) ≤ 18 = omega (arith, length-append xs ys, few) in
     let all : 10 ^ length (xs ++ ys) ≤ 10 ^ 18 =
     pow-le-pow_right {n = 10} (power_pos 1) length_is in
     let scale : 10 ^ up ≤ 10 ^ 18 = pow-le-pow_right {n = 10} (power_pos 1) small in
-    bound_lem (digits_value 10 (xs ++ ys)) (10 ^ up) (10 ^ length (xs ++ ys))
-    (digits_value-lt 10 (xs ++ ys) digits) all scale
+    let bounds = bound_lem (digits_value 10 (xs ++ ys)) (10 ^ up) (10 ^ length (xs ++ ys))
+    (digits_value-lt 10 (xs ++ ys) (AllDigits-append xs ys h k)) all scale in (
+      omega (arith, bounds.0, after-append 0 xs ys, grows (digits_value 10 xs) ys),
+      omega (arith, bounds.0, after-append 0 xs ys),
+      bounds.1,
+    )
   where
     bound_lem : (v p t : ℕ) → v < t → t ≤ 10 ^ 18 → p ≤ 10 ^ 18 → (v < 10 ^ 18) × (v * p < 2 ^ 127)
     bound_lem v p t h k l =
@@ -297,17 +264,3 @@ pub small_power : (n : ℕ) → n ≤ 36 → 10 ^ n < 2 ^ 127
 small_power n h =
     let most : 10 ^ n ≤ 10 ^ 36 = pow-le-pow_right {n = 10} (power_pos 1) h in
     omega arith
-
-pub AllDigits-append : (xs ys : List ℕ) → AllDigits 10 xs → AllDigits 10 ys
-    → AllDigits 10 (xs ++ ys)
-AllDigits-append [] ys h k = k
-AllDigits-append (c ∷ cs) ys h k = (h.0, AllDigits-append cs ys h.1 k)
-
--- digits that don't fit, of no more than 18
-pub never_large : (xs ys : List ℕ) → digits_value 10 (xs ++ ys) < 10 ^ 18
-    → (digits_value_after 10 0 xs < 2 ^ 127)
-    × (digits_value_after 10 (digits_value_after 10 0 xs) ys < 2 ^ 127)
-never_large xs ys h = (
-  omega (arith, h, after-append 0 xs ys, grows (digits_value 10 xs) ys),
-  omega (arith, h, after-append 0 xs ys),
-)

@@ -1,5 +1,5 @@
 -- Fractions below 1 in lowest terms, with a digit more before the others.
-use Rattle.std.proofs.Common.{◌≡◌, ℕ, zero, suc, ◌+◌, ◌-◌, ◌*◌, ◌/◌, ◌%◌, ◌^◌, ◌<◌, ◌≤◌, false, pos, List, ◌∷◌, length, take, drop, get_or, pow-suc, sym, ◌∙◌, ap, ap₂, subst, arith}
+use Rattle.std.proofs.Common.{◌≡◌, ℕ, zero, suc, ◌+◌, ◌-◌, ◌*◌, ◌/◌, ◌%◌, ◌^◌, ◌<◌, ◌≤◌, false, pos, List, ◌∷◌, length, take, drop, get_or, pow-suc, sym, ◌∙◌, ap, ap₂, subst, arith, mul-pos, mul_comm, mul-one}
 use Rattle.std.proofs.Math.Nat.{eq_of_mul-eq-mul_right, le_of_mul-le-mul_left, lt_of_mul-lt-mul_left, mul-le-mul_right, mul-lt-mul_of_pos_right, le_of_dvd, dvd-mul_left, dvd_trans, eq-one_of_dvd-one, dvd-add_iff_right, dvd-mul_right_of_dvd, div-mul_cancel, div-lt_iff_lt-mul, le-div_iff_mul-le, one-le-pow}
 use Rattle.std.proofs.lemmas.List.{drop_all, drop_more, length-drop, take-append-drop}
 use Rattle.std.proofs.lemmas.Nat.{pow-add}
@@ -7,11 +7,8 @@ use Rattle.std.specs.Int.{◌∣◌}
 use Rattle.std.specs.Str.Parse.{AllDigits, digits_value}
 use Rattle.ratio_core.specs.Gcd.{gcd, gcd_is, gcd_pos, gcd-scaled, dvd_from_coprime}
 use Rattle.ratio_core.specs.Rational.{Rational, reduce}
-use Rattle.mof_text.proofs.DigitLaws.{digit_at, digit_is, product_pos, value-append, value-cons}
+use Rattle.mof_text.proofs.DigitLaws.{digit_at, digit_is, value-append, value-cons}
 use Rattle.mof_text.proofs.Fractions.{den_stays, gcd-shift, lowest_is, same_over}
-
-swap_lem : (a b : ℕ) → a * b ≡ b * a
-swap_lem a b = omega arith
 
 -- d * q + p as tens and a rest, by the tens and rests of q and p
 pub tens_are : (d p q : ℕ) → d * q + p ≡ 10 * (d * (q / 10) + p / 10 + (d * (q % 10) + p % 10) / 10)
@@ -49,9 +46,6 @@ lowest_lem d p q tens r un ud g n m coprime whole ten unit unit_coprime all_is t
         let most : x ≤ 1 = le_of_mul-le-mul_left all k in
         omega arith
 
-    times_one : (n : ℕ) → n * 1 ≡ n
-    times_one n = omega arith
-
     whole_lem : (h : ℕ) → h ∣ d * q + p → h ∣ 10 * q → h ∣ g
     whole_lem h h_all h_tenfold =
         let common : gcd q h ∣ gcd (d * q + p) q = (gcd_is (d * q + p) q).2 (gcd q h)
@@ -65,24 +59,24 @@ lowest_lem d p q tens r un ud g n m coprime whole ten unit unit_coprime all_is t
         (gcd_is (g * un) (g * ud)).2 h (subst (λ t. h ∣ t) (sym unit) h_rest)
         (subst (λ t. h ∣ t) (sym ten) h_ten) in
         subst (λ t. h ∣ t) (gcd-scaled g un ud g_pos ∙ ap (λ t. g * t) unit_coprime
-        ∙ times_one g) h_unit
+        ∙ mul-one g) h_unit
 
 -- the tenths that r is, un over ud, brought below tens: (10 * tens + r) / 10 is (tens * ud + un) /
 -- ud
 module _ (d p q tens r un ud : ℕ) (digit : d < 10) (coprime : gcd p q ≡ 1) (below : p < q)
     (whole : d * q + p ≡ 10 * tens + r)
     (unit : un * 10 ≡ r * ud) (unit_coprime : gcd un ud ≡ 1) (some : 0 < ud) where
-  pub step_value : (tens * ud + un) * (10 * q) ≡ (d * q + p) * (ud * q)
+  step_value : (tens * ud + un) * (10 * q) ≡ (d * q + p) * (ud * q)
   step_value = value_lem (d * q + p) q tens r un ud whole unit
     where
       value_lem : (n q tens r un ud : ℕ) → n ≡ 10 * tens + r → un * 10 ≡ r * ud
           → (tens * ud + un) * (10 * q) ≡ n * (ud * q)
       value_lem n q tens r un ud e k = rw e (omega (arith, ap (λ t. t * q) k))
 
-  pub step_pos : 0 < ud * q
-  step_pos = product_pos ud q some (omega arith)
+  step_pos : 0 < ud * q
+  step_pos = mul-pos some (omega arith)
 
-  pub step_below : tens * ud + un < ud * q
+  step_below : tens * ud + un < ud * q
   step_below =
       let nine : d ≤ 9 = omega arith in
       let small : d * q ≤ 9 * q = mul-le-mul_right q nine in
@@ -97,11 +91,11 @@ module _ (d p q tens r un ud : ℕ) (digit : d < 10) (coprime : gcd p q ≡ 1) (
 
   ten_is : 10 / ud * ud ≡ 10
   ten_is =
-      let divides : ud ∣ 10 * un = subst (λ t. ud ∣ t) (sym unit ∙ swap_lem un 10)
+      let divides : ud ∣ 10 * un = subst (λ t. ud ∣ t) (sym unit ∙ mul_comm un 10)
       (dvd-mul_left ud r) in
       div-mul_cancel ud (dvd_from_coprime un ud 10 unit_coprime divides)
 
-  pub step_lowest : gcd (tens * ud + un) (ud * q) ≡ 1
+  step_lowest : gcd (tens * ud + un) (ud * q) ≡ 1
   step_lowest =
       let unit_is : 10 / ud * un ≡ r = unit_lem (10 / ud) un ud r some ten_is unit in
       lowest_lem d p q tens r un ud (10 / ud) (tens * ud + un) (ud * q) coprime whole ten_is
@@ -125,7 +119,7 @@ module _ (d p q tens r un ud : ℕ) (digit : d < 10) (coprime : gcd p q ≡ 1) (
       g_pos (suc g) u e = omega arith
 
   -- the tenfold fraction's denominator in lowest terms
-  pub step_den : (reduce (pos (d * q + p)) (10 * q)).den ≡ ud * q
+  step_den : (reduce (pos (d * q + p)) (10 * q)).den ≡ ud * q
   step_den =
       ap (λ (t : Rational). t.den) (same_over false (d * q + p) (10 * q) (tens * ud + un) (ud * q)
       (omega arith) step_pos (sym step_value))
@@ -138,27 +132,26 @@ low_of d p q = d * (q % 10) + p % 10
 abbrev pub tens_of : ℕ → ℕ → ℕ → ℕ
 tens_of d p q = d * (q / 10) + p / 10 + (d * (q % 10) + p % 10) / 10
 
-module _ (d p q un ud : ℕ) (digit : d < 10) (coprime : gcd p q ≡ 1) (below : p < q)
-    (unit : un * 10 ≡ (low_of d p q % 10) * ud) (unit_coprime : gcd un ud ≡ 1) (some : 0 < ud) where
-  pub behind_value : (tens_of d p q * ud + un) * (10 * q) ≡ (d * q + p) * (ud * q)
-  behind_value =
-      step_value d p q (tens_of d p q) (low_of d p q % 10) un ud digit coprime below
-      (tens_are d p q) unit unit_coprime some
+-- n over m is the tenth of the digit d and p over q behind it
+pub record IsBehind (d p q n m : ℕ) : Type 0 where
+  pub value : n * (10 * q) ≡ (d * q + p) * m
+  pub below : n < m
+  pub lowest : gcd n m ≡ 1
+  pub den : (reduce (pos (d * q + p)) (10 * q)).den ≡ m
 
-  pub behind_below : tens_of d p q * ud + un < ud * q
-  behind_below =
-      step_below d p q (tens_of d p q) (low_of d p q % 10) un ud digit coprime below
-      (tens_are d p q) unit unit_coprime some
-
-  pub behind_lowest : gcd (tens_of d p q * ud + un) (ud * q) ≡ 1
-  behind_lowest =
-      step_lowest d p q (tens_of d p q) (low_of d p q % 10) un ud digit coprime below
-      (tens_are d p q) unit unit_coprime some
-
-  pub behind_den : (reduce (pos (d * q + p)) (10 * q)).den ≡ ud * q
-  behind_den =
-      step_den d p q (tens_of d p q) (low_of d p q % 10) un ud digit coprime below (tens_are d p q)
-      unit unit_coprime some
+pub behind : (d p q un ud : ℕ) → d < 10 → gcd p q ≡ 1 → p < q → un * 10 ≡ (low_of d p q % 10) * ud
+    → gcd un ud ≡ 1 → un < ud → IsBehind d p q (tens_of d p q * ud + un) (ud * q)
+behind d p q un ud digit coprime below unit unit_coprime unit_below =
+    let tens = tens_of d p q in
+    let r = low_of d p q % 10 in
+    let some : 0 < ud = omega arith in
+    let whole = tens_are d p q in
+    record {
+      value = step_value d p q tens r un ud digit coprime below whole unit unit_coprime some;
+      below = step_below d p q tens r un ud digit coprime below whole unit unit_coprime some;
+      lowest = step_lowest d p q tens r un ud digit coprime below whole unit unit_coprime some;
+      den = step_den d p q tens r un ud digit coprime below whole unit unit_coprime some;
+    }
 
 -- ---- digits from the last on
 
@@ -177,8 +170,7 @@ over_next num den f m v b n d h e k =
 same_next : (num den f m v b : ℕ) → 0 < den → 0 < m → 0 < b → IsOver num den f m
     → reduce (pos (v * den + num)) (b * den) ≡ reduce (pos (v * m + f)) (b * m)
 same_next num den f m v b h k l e =
-    same_over false (v * den + num) (b * den) (v * m + f) (b * m) (product_pos b den l h)
-    (product_pos b m l k)
+    same_over false (v * den + num) (b * den) (v * m + f) (b * m) (mul-pos l h) (mul-pos l k)
     (omega (arith, ap (λ t. t * b) e))
 
 -- a denominator that passes the limit, in whatever the digits before make of the number
@@ -191,7 +183,7 @@ fine_on num den f m v b n c g d h k l j e top bottom past =
     ap (λ (q : Rational). q.den) (same_next num den f m v b h k l e) in
     let stays : (reduce (pos (v * m + f)) (b * m)).den
     ≤ (reduce (pos (n * (b * m) + (v * m + f))) (b * m * c)).den =
-    den_stays false (v * m + f) (b * m) n c (product_pos b m l k) j in
+    den_stays false (v * m + f) (b * m) n c (mul-pos l k) j in
     let all : (reduce (pos (n * (b * m) + (v * m + f))) (b * m * c)).den ≡ (reduce (pos g) d).den =
     ap₂ (λ x y. (reduce (pos x) y).den) top bottom in
     omega (arith, past, same, stays, all)
@@ -220,7 +212,7 @@ module _ (ds : List ℕ) (num0 den0 place num den : ℕ) (digits : AllDigits 10 
   power_lem =
       let more : length ds - (place - 1) ≡ suc (length ds - place) = omega arith in
       ap (λ n. 10 ^ n) more ∙ pow-suc 10 (length ds - place)
-      ∙ swap_lem (10 ^ (length ds - place)) 10
+      ∙ mul_comm (10 ^ (length ds - place)) 10
 
   pub listed_next : (n m : ℕ) → n * (10 * den) ≡ (digit * den + num) * m
       → n * (10 ^ (length ds - (place - 1)) * den0)
@@ -251,8 +243,8 @@ module _ (ds : List ℕ) (num0 den0 place num den : ℕ) (digits : AllDigits 10 
       (10 ^ (length ds - place) * den0) digit 10
       (digits_value 10 (take (place - 1) ds)) (10 ^ (place - 1)) (digits_value 10 ds * den0 + num0)
       (10 ^ length ds * den0)
-      above (product_pos (10 ^ (length ds - place)) den0 (one-le-pow (length ds - place) 10
-      (omega arith)) above0) (omega arith) (one-le-pow (place - 1) 10 (omega arith)) so_far
+      above (mul-pos (one-le-pow (length ds - place) 10 (omega arith)) above0) (omega arith)
+      (one-le-pow (place - 1) 10 (omega arith)) so_far
       (top_lem (digits_value 10 (take (place - 1) ds)) (10 ^ (length ds - place)) den0 digit
       (digits_value 10 (drop place ds)) num0
       (10 ^ (length ds - (place - 1))) (digits_value 10 (drop (place - 1) ds)) (digits_value 10 ds)
@@ -302,8 +294,10 @@ listed_end ds num0 den0 place num den none e =
 
 -- ---- where the denominator in lowest terms passes a limit
 
-pub past_limit : (g u q : ℕ) → 0 < u → g / u < q → g < u * q
-past_limit g u q h k = omega (arith, (div-lt_iff_lt-mul h).0 k)
+pub past_limit : (g u q n : ℕ) → n < u → g / u < q → g < u * q
+past_limit g u q n h k =
+    let some : 0 < u = omega arith in omega (arith, (div-lt_iff_lt-mul some).0 k)
 
-pub within_limit : (g u q : ℕ) → 0 < u → q ≤ g / u → u * q ≤ g
-within_limit g u q h k = omega (arith, (le-div_iff_mul-le h).0 k)
+pub within_limit : (g u q n : ℕ) → n < u → q ≤ g / u → u * q ≤ g
+within_limit g u q n h k =
+    let some : 0 < u = omega arith in omega (arith, (le-div_iff_mul-le some).0 k)

@@ -1,5 +1,5 @@
 -- The greatest common divisor by halves and differences.
-use Rattle.std.proofs.Common.{◌≡◌, ◌≢◌, ℕ, zero, suc, ◌+◌, ◌-◌, ◌*◌, ◌/◌, ◌%◌, ◌^◌, ◌<◌, ◌≤◌, ◌⊎◌, inl, inr, sym, ◌∙◌, ap, ap₂, subst, arith, min, pow-suc, mul-div_cancel}
+use Rattle.std.proofs.Common.{◌≡◌, ◌≢◌, ℕ, zero, suc, ◌+◌, ◌-◌, ◌*◌, ◌/◌, ◌%◌, ◌^◌, ◌<◌, ◌≤◌, ◌⊎◌, inl, inr, sym, ◌∙◌, ap, ap₂, subst, arith, min, pow-suc, mul-div_cancel, mul_comm}
 use Rattle.std.proofs.Math.Nat.{dvd_antisymm, dvd_trans, dvd-mul_right, dvd_refl, le_of_mul-le-mul_right, mod-eq_of_lt, mod-lt, add-mod_right}
 use Rattle.std.proofs.lemmas.Bool.{cases_lt}
 use Rattle.std.proofs.lemmas.Nat.{mod-pow-add, pow_pos, div-add-mod', pow-add}
@@ -86,16 +86,16 @@ gcd-step a b next odd_a odd_b part = by_order (cases_lt a b)
 
 -- ---- the first step: both numbers without their factors of 2
 
-common_twos : (x y i k : ℕ) → x % 2 ≡ 1 → gcd (x * 2 ^ i) (y * 2 ^ (k + i)) ≡ gcd x y * 2 ^ i
-common_twos x y i k odd =
-    ap₂ gcd (swap_lem x (2 ^ i)) (ap (λ p. y * p) (pow-add 2 k i) ∙ group_lem y (2 ^ k) (2 ^ i))
+common_twos : (x y i j : ℕ) → x % 2 ≡ 1 → i ≤ j → gcd (x * 2 ^ i) (y * 2 ^ j) ≡ gcd x y * 2 ^ i
+common_twos x y i j odd h =
+    let k : ℕ = j - i in
+    let sum : j ≡ k + i = omega arith in
+    ap₂ gcd (mul_comm x (2 ^ i)) (ap (λ p. y * p) (ap (λ n. 2 ^ n) sum ∙ pow-add 2 k i)
+    ∙ group_lem y (2 ^ k) (2 ^ i))
     ∙ gcd-scaled (2 ^ i) x (y * 2 ^ k) (pow_pos i)
     ∙ ap (λ g. 2 ^ i * g) (gcd_swap x (y * 2 ^ k) ∙ gcd-doubled k y x odd ∙ gcd_swap y x)
-    ∙ swap_lem (2 ^ i) (gcd x y)
+    ∙ mul_comm (2 ^ i) (gcd x y)
   where
-    swap_lem : (a b : ℕ) → a * b ≡ b * a
-    swap_lem a b = omega arith
-
     group_lem : (a b c : ℕ) → a * (b * c) ≡ c * (a * b)
     group_lem a b c = omega arith
 
@@ -107,17 +107,12 @@ gcd_of_odd_parts a b x y left right = by_order (cases_lt left.zeros right.zeros)
         → gcd x y * 2 ^ min left.zeros right.zeros ≡ gcd a b
     by_order (inl h) =
         let least : min left.zeros right.zeros ≡ left.zeros = omega arith in
-        let more : right.zeros - left.zeros + left.zeros ≡ right.zeros = omega arith in
-        ap (λ k. gcd x y * 2 ^ k) least
-        ∙ sym (common_twos x y left.zeros (right.zeros - left.zeros) left.is_odd)
-        ∙ ap₂ gcd (sym left.whole) (ap (λ k. y * 2 ^ k) more ∙ sym right.whole)
+        ap (λ k. gcd x y * 2 ^ k) least ∙ sym (ap₂ gcd left.whole right.whole
+        ∙ common_twos x y left.zeros right.zeros left.is_odd (omega arith))
     by_order (inr h) =
         let least : min left.zeros right.zeros ≡ right.zeros = omega arith in
-        let more : left.zeros - right.zeros + right.zeros ≡ left.zeros = omega arith in
-        ap₂ (λ g k. g * 2 ^ k) (gcd_swap x y) least
-        ∙ sym (common_twos y x right.zeros (left.zeros - right.zeros) right.is_odd)
-        ∙ ap₂ gcd (sym right.whole) (ap (λ k. x * 2 ^ k) more ∙ sym left.whole)
-        ∙ gcd_swap b a
+        ap₂ (λ g k. g * 2 ^ k) (gcd_swap x y) least ∙ sym (gcd_swap a b
+        ∙ ap₂ gcd right.whole left.whole ∙ common_twos y x right.zeros left.zeros right.is_odd h)
 
 pub one_is_gcd : (a b : ℕ) → (a ≡ 1) ⊎ (b ≡ 1) → 1 ≡ gcd a b
 one_is_gcd a b (inl e) = sym (ap (λ x. gcd x b) e ∙ gcd_swap 1 b ∙ gcd-one b)
@@ -178,8 +173,10 @@ twice_divisor w a b odd k h l fits_a fits_b odd_is k_is =
 
 -- ---- a difference by the zeros of the wrapped one
 
-wrap_lem : (n m : ℕ) → n < m → (n + m) % m ≡ n
-wrap_lem n m h = add-mod_right n m ∙ mod-eq_of_lt h
+wrapped_more : (m a b : ℕ) → a < m → b < m → b ≤ a → (a + (m - b)) % m ≡ a - b
+wrapped_more m a b fits_a fits_b h =
+    let sum : a + (m - b) ≡ (a - b) + m = omega arith in
+    ap (λ x. x % m) sum ∙ add-mod_right (a - b) m ∙ mod-eq_of_lt (omega arith)
 
 difference_by : (w : Width) (a b t m : ℕ) → a < 2 ^ bits w → b < 2 ^ bits w → t < bits w
     → m % 2 ≡ 1 → (a + (2 ^ bits w - b)) % 2 ^ bits w ≡ m * 2 ^ t
@@ -192,10 +189,8 @@ difference_by w a b t m fits_a fits_b within odd n_is = by_order (cases_lt a b)
         let whole : n ≡ a + (2 ^ bits w - b) = mod-eq_of_lt (omega arith) in
         rest_lem (bits w) t m n (abs_diff a b) within n_is odd (omega arith)
     by_order (inr h) =
-        let sum : a + (2 ^ bits w - b) ≡ (a - b) + 2 ^ bits w = omega arith in
         let same : (a + (2 ^ bits w - b)) % 2 ^ bits w ≡ abs_diff a b =
-        ap (λ x. x % 2 ^ bits w) sum ∙ wrap_lem (a - b) (2 ^ bits w)
-        (omega arith) ∙ omega arith in
+        wrapped_more (2 ^ bits w) a b fits_a fits_b h ∙ omega arith in
         part_lem t m (abs_diff a b) odd (sym same ∙ n_is)
 
 wrapped_above : (m a b : ℕ) → a < m → b < m → a ≢ b → 0 < (a + (m - b)) % m
@@ -205,10 +200,7 @@ wrapped_above m a b fits_a fits_b apart = by_order (cases_lt a b)
     by_order (inl h) = subst (λ n. 0 < n) (sym (mod-eq_of_lt (omega arith))) (omega arith)
     by_order (inr h) =
         let some : ¬ (a - b ≡ 0) = λ e. apart (omega arith) in
-        let sum : a + (m - b) ≡ (a - b) + m = omega arith in
-        let same : (a + (m - b)) % m ≡ a - b =
-        ap (λ x. x % m) sum ∙ wrap_lem (a - b) m (omega arith) in
-        subst (λ n. 0 < n) (sym same) (omega arith)
+        subst (λ n. 0 < n) (sym (wrapped_more m a b fits_a fits_b h)) (omega arith)
 
 pub difference_part : (w : Width) (a b : ℕ) → a < 2 ^ bits w → b < 2 ^ bits w → a ≢ b
     → IsOddPart (abs_diff a b)

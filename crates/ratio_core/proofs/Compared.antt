@@ -1,13 +1,13 @@
 -- Equality and order, as the code tests them.
-use Rattle.std.proofs.Common.{◌≡◌, ℕ, zero, suc, ◌*◌, ◌<◌, Bool, true, false, ℤ, pos, negsuc, neg_ℤ, ◌*ℤ◌, ◌<ℤ◌, unsigned_abs, nat_eq, refl, sym, ◌∙◌, ap, arith, true≢false, Ordering, Less, Equal, Greater, mul-lt-mul_of_pos_right}
+use Rattle.std.proofs.Common.{◌≡◌, ℕ, zero, suc, ◌*◌, ◌<◌, Bool, true, false, ℤ, pos, negsuc, neg_ℤ, ◌*ℤ◌, ◌<ℤ◌, unsigned_abs, nat_eq, refl, sym, ◌∙◌, ap, arith, true≢false, Ordering, Less, Greater, mul-lt-mul_of_pos_right}
 use Rattle.std.proofs.lemmas.Bool.Decides.{Decides-like, Decides-eqb, same_from_decides}
 use Rattle.std.proofs.lemmas.Int.{ints}
-use Rattle.std.specs.Cmp.{ranked, int_cmp_is, nat_cmp_is}
+use Rattle.std.specs.Cmp.{ranked, ranks, int_cmp_is, nat_cmp_is}
 use Rattle.std.specs.Int.{is_negative}
-use Rattle.std.specs.Ordering.{MatchOrdering, nat_cmp, int_cmp}
-use Rattle.ratio_core.proofs.Products.{not_below_zero}
+use Rattle.std.specs.Ordering.{nat_cmp, int_cmp}
+use Rattle.ratio_core.proofs.Kept.{not_below_zero}
 use Rattle.ratio_core.specs.Rational.{Rational, same_parts, rational_cmp, rational_eq}
-use Rattle.ratio_core.specs.RationalLaws.{rational_eq_Decides}
+use Rattle.ratio_core.specs.RationalLaws.{rank_as, rational_eq_Decides}
 
 -- where the numerators are equal, the denominators decide
 pub eq_by_den : (p q : Rational) → p.num ≡ q.num → nat_eq p.den q.den ≡ rational_eq p q
@@ -26,32 +26,22 @@ not_eq_by_num p q n = decided (rational_eq p q) refl
 
 -- ---- the order, by the signs
 
-up_lem : (a b : ℕ) (r : Ordering) → MatchOrdering r (a < b) (a ≡ b) (b < a)
-    → MatchOrdering r (pos a <ℤ pos b) (pos a ≡ pos b) (pos b <ℤ pos a)
-up_lem a b Less h = omega (arith, ints)
-up_lem a b Equal h = ap pos h
-up_lem a b Greater h = omega (arith, ints)
-
-down_lem : (a b : ℕ) (r : Ordering) → MatchOrdering r (b < a) (b ≡ a) (a < b)
-    → MatchOrdering r (neg_ℤ (pos a) <ℤ neg_ℤ (pos b)) (neg_ℤ (pos a) ≡ neg_ℤ (pos b))
-    (neg_ℤ (pos b) <ℤ neg_ℤ (pos a))
-down_lem a b Less h = omega (arith, ints)
-down_lem a b Equal h = ap (λ n. neg_ℤ (pos n)) (sym h)
-down_lem a b Greater h = omega (arith, ints)
-
 no_sign : (a : ℕ) {P : Type 0} → is_negative (pos a) ≡ true → P
 no_sign a e = absurd (true≢false (sym e ∙ not_below_zero a))
 
 pub above_lem : (m n : ℤ) (b d : ℕ) (r : Ordering) → false ≡ is_negative m → false ≡ is_negative n
     → r ≡ nat_cmp (unsigned_abs m * d) (unsigned_abs n * b) → r ≡ int_cmp (m *ℤ pos d) (n *ℤ pos b)
-above_lem (pos a) (pos c) b d r e f h = int_cmp_is _ _ r (up_lem (a * d) (c * b) r (ranked _ _ r h))
+above_lem (pos a) (pos c) b d r e f h =
+    int_cmp_is _ _ r (rank_as r (ranked (a * d) (c * b) r h) (λ l. omega (arith, ints)) (ap pos)
+    (λ l. omega (arith, ints)))
 above_lem (pos a) (negsuc c) b d r e f h = absurd (true≢false (sym f))
 above_lem (negsuc a) n b d r e f h = absurd (true≢false (sym e))
 
 pub below_lem : (m n : ℤ) (b d : ℕ) (r : Ordering) → true ≡ is_negative m → true ≡ is_negative n
     → r ≡ nat_cmp (unsigned_abs n * b) (unsigned_abs m * d) → r ≡ int_cmp (m *ℤ pos d) (n *ℤ pos b)
 below_lem (negsuc a) (negsuc c) b d r e f h =
-    int_cmp_is _ _ r (down_lem (suc a * d) (suc c * b) r (ranked _ _ r h))
+    int_cmp_is _ _ r (rank_as r (ranked (suc c * b) (suc a * d) r h) (λ l. omega (arith, ints))
+    (λ k. ap (λ n. neg_ℤ (pos n)) (sym k)) (λ l. omega (arith, ints)))
 below_lem (pos a) n b d r e f h = no_sign a (sym e)
 below_lem (negsuc a) (pos c) b d r e f h = no_sign c (sym f)
 
@@ -93,11 +83,5 @@ products_along a b c d a' b' c' d' e f g h = λ i. nat_cmp (e i * f i) (g i * h 
 -- a common factor does not change an order
 pub nat_cmp_scaled : (a c k : ℕ) → 0 < k → nat_cmp (a * k) (c * k) ≡ nat_cmp a c
 nat_cmp_scaled a c k h =
-    sym (nat_cmp_is (a * k) (c * k) (nat_cmp a c)
-    (by_order (nat_cmp a c) (ranked a c (nat_cmp a c) refl)))
-  where
-    by_order : (r : Ordering) → MatchOrdering r (a < c) (a ≡ c) (c < a)
-        → MatchOrdering r (a * k < c * k) (a * k ≡ c * k) (c * k < a * k)
-    by_order Less l = mul-lt-mul_of_pos_right l h
-    by_order Equal e = ap (λ n. n * k) e
-    by_order Greater l = mul-lt-mul_of_pos_right l h
+    sym (nat_cmp_is (a * k) (c * k) (nat_cmp a c) (rank_as _ (ranks a c)
+    (λ l. mul-lt-mul_of_pos_right l h) (ap (λ n. n * k)) (λ l. mul-lt-mul_of_pos_right l h)))

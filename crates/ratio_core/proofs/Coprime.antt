@@ -1,8 +1,8 @@
 -- Numbers without a common divisor.
 use Rattle.std.proofs.Common.{◌≡◌, ℕ, suc, ◌+◌, ◌*◌, ◌/◌, ◌<◌, ◌⊎◌, inl, inr, ℤ, pos, negsuc, ◌+ℤ◌, unsigned_abs, refl, sym, ◌∙◌, subst, arith, mul_comm, ◌-◌, ◌≤◌, Bool, true, false, cond, ltb, ltb-true, ltb-false}
-use Rattle.std.proofs.lemmas.Bool.{cases_lt}
+use Rattle.std.proofs.Math.Logic.{⊎_swap}
 use lib.IntN.{sub_ℕ}
-use Rattle.std.proofs.Math.Nat.{dvd_trans, dvd-mul_right, div-mul_cancel, eq-one_of_dvd-one, dvd-add, dvd-add_iff_right, dvd_refl}
+use Rattle.std.proofs.Math.Nat.{dvd_trans, dvd-mul_right, div-mul_cancel, eq-one_of_dvd-one, dvd-add, dvd-add_iff_left, dvd_refl}
 use Rattle.std.specs.Int.{◌∣◌}
 use Rattle.ratio_core.specs.Gcd.{gcd, gcd_is, gcd_swap, dvd_from_coprime}
 
@@ -32,49 +32,32 @@ quotient_divides a g h = subst (λ w. (a / g) ∣ w) (div-mul_cancel g h) (dvd-m
 
 -- ---- sums of whole numbers
 
-sub_size : (a b : ℕ) → unsigned_abs (sub_ℕ a b) ≡ (a - b) + (b - a)
+-- one of the three is the sum of the others
+abbrev AddUp : ℕ → ℕ → ℕ → Type 0
+AddUp n a b = (n ≡ a + b) ⊎ ((a ≡ b + n) ⊎ (b ≡ a + n))
+
+-- the size of a difference
+sub_size : (a b : ℕ) → let n = unsigned_abs (sub_ℕ a b) in (a ≡ b + n) ⊎ (b ≡ a + n)
 sub_size a b = by_test (ltb a b) refl
   where
-    by_test : (t : Bool) → ltb a b ≡ t → unsigned_abs (cond t (negsuc (b - suc a)) (pos (a - b)))
-        ≡ (a - b) + (b - a)
-    by_test true e = let below : a < b = ltb-true a b e in omega arith
-    by_test false e = let above : b ≤ a = ltb-false a b e in omega arith
+    by_test : (t : Bool) → ltb a b ≡ t
+        → let n = unsigned_abs (cond t (negsuc (b - suc a)) (pos (a - b))) in
+        (a ≡ b + n) ⊎ (b ≡ a + n)
+    by_test true e = let below : a < b = ltb-true a b e in inr (omega arith)
+    by_test false e = let above : b ≤ a = ltb-false a b e in inl (omega arith)
 
-size_lem : (x y : ℤ) → (unsigned_abs (x +ℤ y) ≡ unsigned_abs x + unsigned_abs y)
-    ⊎ ((unsigned_abs x ≡ unsigned_abs y + unsigned_abs (x +ℤ y)) ⊎ (unsigned_abs y ≡ unsigned_abs
-    x + unsigned_abs (x +ℤ y)))
+size_lem : (x y : ℤ) → AddUp (unsigned_abs (x +ℤ y)) (unsigned_abs x) (unsigned_abs y)
 size_lem (pos a) (pos b) = inl refl
 size_lem (negsuc a) (negsuc b) = inl (omega arith)
-size_lem (pos a) (negsuc b) = mixed_lem a (suc b) (cases_lt a (suc b))
-  where
-    mixed_lem : (a b : ℕ) → (a < b) ⊎ (b ≤ a)
-        → (unsigned_abs (sub_ℕ a b) ≡ a + b) ⊎ ((a ≡ b + unsigned_abs (sub_ℕ a b))
-        ⊎ (b ≡ a + unsigned_abs (sub_ℕ a b)))
-    mixed_lem a b (inl h) = inr (inr (omega (arith, sub_size a b)))
-    mixed_lem a b (inr h) = inr (inl (omega (arith, sub_size a b)))
-size_lem (negsuc a) (pos b) = mixed_lem b (suc a) (cases_lt b (suc a))
-  where
-    mixed_lem : (b a : ℕ) → (b < a) ⊎ (a ≤ b)
-        → (unsigned_abs (sub_ℕ b a) ≡ a + b) ⊎ ((a ≡ b + unsigned_abs (sub_ℕ b a))
-        ⊎ (b ≡ a + unsigned_abs (sub_ℕ b a)))
-    mixed_lem b a (inl h) = inr (inl (omega (arith, sub_size b a)))
-    mixed_lem b a (inr h) = inr (inr (omega (arith, sub_size b a)))
+size_lem (pos a) (negsuc b) = inr (sub_size a (suc b))
+size_lem (negsuc a) (pos b) = inr (⊎_swap (sub_size b (suc a)))
 
 -- what divides a sum and one of its terms divides the other
 pub divides_term : (e : ℕ) (x y : ℤ) → e ∣ unsigned_abs (x +ℤ y) → e ∣ unsigned_abs y
     → e ∣ unsigned_abs x
-divides_term e x y h k = by_size (size_lem x y)
+divides_term e x y h k = by_size _ _ _ (size_lem x y) h k
   where
-    add_lem : (a b : ℕ) → a + b ≡ b + a
-    add_lem a b = omega arith
-
-    by_size : (unsigned_abs (x +ℤ y) ≡ unsigned_abs x + unsigned_abs y)
-        ⊎ ((unsigned_abs x ≡ unsigned_abs y + unsigned_abs (x +ℤ y)) ⊎ (unsigned_abs
-        y ≡ unsigned_abs x + unsigned_abs (x +ℤ y))) → e ∣ unsigned_abs x
-    by_size (inl s) =
-        (dvd-add_iff_right e k).1 (subst (λ w. e ∣ w) (s
-        ∙ add_lem (unsigned_abs x) (unsigned_abs y)) h)
-    by_size (inr (inl s)) = subst (λ w. e ∣ w) (sym s) (dvd-add e k h)
-    by_size (inr (inr s)) =
-        (dvd-add_iff_right e h).1 (subst (λ w. e ∣ w) (s
-        ∙ add_lem (unsigned_abs x) (unsigned_abs (x +ℤ y))) k)
+    by_size : (n a b : ℕ) → AddUp n a b → e ∣ n → e ∣ b → e ∣ a
+    by_size n a b (inl s) h k = (dvd-add_iff_left e k).1 (subst (λ w. e ∣ w) s h)
+    by_size n a b (inr (inl s)) h k = subst (λ w. e ∣ w) (sym s) (dvd-add e k h)
+    by_size n a b (inr (inr s)) h k = (dvd-add_iff_left e h).1 (subst (λ w. e ∣ w) s k)

@@ -1,28 +1,21 @@
 -- The order of two quotients by positive numbers, as one of four-fold products.
-use Rattle.std.proofs.Common.{◌≡◌, ℕ, ◌+◌, ◌*◌, ◌<◌, true, false, ℤ, pos, negsuc, ◌*ℤ◌, ◌<ℤ◌, unsigned_abs, refl, sym, ◌∙◌, ap, ap₂, arith, zero-mul, Ordering, Less, Equal, Greater, mul-pos}
+use Rattle.std.proofs.Common.{◌≡◌, ℕ, ◌+◌, ◌*◌, ◌<◌, true, false, ℤ, pos, negsuc, ◌*ℤ◌, ◌<ℤ◌, unsigned_abs, refl, sym, ◌∙◌, ap, ap₂, arith, zero-mul, Ordering, Less, Greater, mul-pos, mul_assoc, mul_comm, mul_left_comm}
 use Rattle.std.proofs.lemmas.Int.{ints}
-use Rattle.std.specs.Cmp.{int_cmp_is, int_ranked}
+use Rattle.std.specs.Cmp.{int_cmp_is, int_ranks}
 use Rattle.std.specs.Int.{is_negative}
-use Rattle.std.specs.Ordering.{MatchOrdering, nat_cmp, int_cmp}
+use Rattle.std.specs.Ordering.{nat_cmp, int_cmp}
 use borrow.Author.Differences.{up}
 use Rattle.ratio_core.specs.Gcd.{gcd_swap}
 use Rattle.ratio_core.specs.Rational.{Rational, fraction, inverse_ℚ, rational_cmp, reduce, whole_ℚ, zero_ℚ, ◌*ℚ◌, ◌/ℚ◌, ◌‹ℚ◌}
-use Rattle.ratio_core.specs.RationalLaws.{reduce_cross, reduce_reduced, times_<, times_times}
+use Rattle.ratio_core.specs.RationalLaws.{rank_as, reduce_cross, reduce_reduced, times_<, times_times}
 use Rattle.ratio_core.proofs.Compared.{above_lem, apart_lem, below_lem}
 
 -- ---- a common factor does not change an order
 
 int_cmp_scaled : (x y : ℤ) (k : ℕ) → 0 < k → int_cmp (x *ℤ pos k) (y *ℤ pos k) ≡ int_cmp x y
 int_cmp_scaled x y k h =
-    sym (int_cmp_is (x *ℤ pos k) (y *ℤ pos k) (int_cmp x y)
-    (by_order (int_cmp x y) (int_ranked x y (int_cmp x y) refl)))
-  where
-    by_order : (r : Ordering) → MatchOrdering r (x <ℤ y) (x ≡ y) (y <ℤ x)
-        → MatchOrdering r ((x *ℤ pos k) <ℤ (y *ℤ pos k)) ((x *ℤ pos k) ≡ (y *ℤ pos k))
-        ((y *ℤ pos k) <ℤ (x *ℤ pos k))
-    by_order Less l = times_< x y k h l
-    by_order Equal e = ap (λ n. n *ℤ pos k) e
-    by_order Greater l = times_< y x k h l
+    sym (int_cmp_is (x *ℤ pos k) (y *ℤ pos k) (int_cmp x y) (rank_as _ (int_ranks x y)
+    (times_< x y k h) (ap (λ n. n *ℤ pos k)) (times_< y x k h)))
 
 -- numbers over one denominator are ordered as their numerators
 pub cmp_of_numerators : (p q : Rational) → p.den ≡ q.den → int_cmp p.num q.num ≡ rational_cmp p q
@@ -37,14 +30,12 @@ cmp_of_numerators p q e =
 crossed_lem : (s n : ℤ) (c d t e : ℕ) → s *ℤ pos d ≡ n *ℤ pos c
     → (s *ℤ pos t) *ℤ pos (d * e) ≡ (n *ℤ pos e) *ℤ pos (c * t)
 crossed_lem s n c d t e h =
-    times_times s t (d * e) ∙ ap (λ k. s *ℤ pos k) (first_lem t d e) ∙ sym (times_times s d (t * e))
+    times_times s t (d * e) ∙ ap (λ k. s *ℤ pos k) (mul_left_comm t d e)
+    ∙ sym (times_times s d (t * e))
     ∙ ap (λ z. z *ℤ pos (t * e)) h
     ∙ times_times n c (t * e) ∙ ap (λ k. n *ℤ pos k) (last_lem c t e)
     ∙ sym (times_times n e (c * t))
   where
-    first_lem : (t d e : ℕ) → t * (d * e) ≡ d * (t * e)
-    first_lem t d e = omega arith
-
     last_lem : (c t e : ℕ) → c * (t * e) ≡ e * (c * t)
     last_lem c t e = omega arith
 
@@ -57,12 +48,9 @@ reduced_cmp n m d e h k =
     sym (int_cmp_scaled (s.num *ℤ pos t.den) (t.num *ℤ pos s.den) (d * e) (mul-pos h k))
     ∙ ap₂ int_cmp
     (crossed_lem s.num n s.den d t.den e (reduce_cross n d h))
-    (ap (λ x. (t.num *ℤ pos s.den) *ℤ pos x) (swap_lem d e) ∙ crossed_lem t.num m t.den e s.den d
-    (reduce_cross m e k) ∙ ap (λ x. (m *ℤ pos d) *ℤ pos x) (swap_lem t.den s.den))
+    (ap (λ x. (t.num *ℤ pos s.den) *ℤ pos x) (mul_comm d e) ∙ crossed_lem t.num m t.den e s.den d
+    (reduce_cross m e k) ∙ ap (λ x. (m *ℤ pos d) *ℤ pos x) (mul_comm t.den s.den))
     ∙ int_cmp_scaled (n *ℤ pos e) (m *ℤ pos d) (s.den * t.den) (mul-pos s.reduced.0 t.reduced.0)
-  where
-    swap_lem : (a b : ℕ) → a * b ≡ b * a
-    swap_lem a b = omega arith
 
 -- ---- quotients
 
@@ -103,9 +91,6 @@ quotients_cmp p a q b h k =
     ∙ ap₂ int_cmp (times_times p.num a.den (q.den * unsigned_abs b.num))
     (times_times q.num b.den (p.den * unsigned_abs a.num))
 
-assoc_lem : (a b c : ℕ) → (a * b) * c ≡ a * (b * c)
-assoc_lem a b c = omega arith
-
 pos_lem : (a b c : ℕ) → 0 < a → 0 < b → 0 < c → 0 < a * (b * c)
 pos_lem a b c h k l = mul-pos h (mul-pos k l)
 
@@ -123,10 +108,10 @@ module _ (p a q b : Rational) (by : zero_ℚ ‹ℚ a) (over : zero_ℚ ‹ℚ b
   right_scale = b.den * (p.den * unsigned_abs a.num)
 
   left_is : left ≡ unsigned_abs p.num * left_scale
-  left_is = assoc_lem (unsigned_abs p.num) a.den (q.den * unsigned_abs b.num)
+  left_is = mul_assoc (unsigned_abs p.num) a.den (q.den * unsigned_abs b.num)
 
   right_is : right ≡ unsigned_abs q.num * right_scale
-  right_is = assoc_lem (unsigned_abs q.num) b.den (p.den * unsigned_abs a.num)
+  right_is = mul_assoc (unsigned_abs q.num) b.den (p.den * unsigned_abs a.num)
 
   pub quotients_above : (r : Ordering) → false ≡ is_negative p.num → false ≡ is_negative q.num
       → r ≡ nat_cmp left right → r ≡ rational_cmp (p /ℚ a) (q /ℚ b)

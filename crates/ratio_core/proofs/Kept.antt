@@ -9,7 +9,7 @@ use Rattle.std.specs.Prelude.{int_div, int_lt}
 use Rattle.std.proofs.Common.{le-ltb, zero-le, not, ap₂, OkIff, Result, Ok, Err, IsErr, true≢false}
 use mathlib.Core.Bool.{beq}
 use borrow.Author.Differences.{same_in}
-use Rattle.ratio_core.specs.Gcd.{gcd, gcd_pos}
+use Rattle.ratio_core.specs.Gcd.{gcd}
 use Rattle.ratio_core.specs.Rational.{Rational, IsStored, IsReduced, Fits, reduce, fraction, signed, whole_ℚ, zero_ℚ, neg_ℚ, whole_reduced}
 use Rattle.ratio_core.specs.RationalLaws.{reduce_reduced, reduce_itself, reduce-num, reduce-den, same_from_cross, times_is, unsigned_abs-signed}
 
@@ -33,36 +33,29 @@ module _ (n : ℤ) (d : ℕ) (q : Rational) (view : reduce n d ≡ q) (kept : Is
   pub kept_bits : to_z w128 (of_z w128 n) ≡ q.num
   kept_bits = to_z-of_z kept_range ∙ kept_num
 
-  pub kept_neg : reduce (to_z w128 (of_z w128 (pos 0 -ℤ to_z w128 (of_z w128 n)))) d ≡ neg_ℚ q
-  unfolding neg_ℚ
-  kept_neg =
+  neg_bits : to_z w128 (of_z w128 (pos 0 -ℤ to_z w128 (of_z w128 n))) ≡ neg_ℤ n
+  neg_bits =
       let bits : to_z w128 (of_z w128 n) ≡ n = to_z-of_z kept_range in
       let inner : pos 0 -ℤ to_z w128 (of_z w128 n) ≡ neg_ℤ n = omega (arith, ints, kept.num) in
       let range : SFits w128 (neg_ℤ n) = omega (arith, ints, kept.num) in
-      let num : to_z w128 (of_z w128 (pos 0 -ℤ to_z w128 (of_z w128 n))) ≡ neg_ℤ q.num =
-      ap (λ z. to_z w128 (of_z w128 z)) inner ∙ to_z-of_z range ∙ ap neg_ℤ kept_num in
-      ap (λ z. reduce z d) num ∙ ap (reduce (neg_ℤ q.num)) kept_den
+      ap (λ z. to_z w128 (of_z w128 z)) inner ∙ to_z-of_z range
+
+  pub kept_neg : reduce (to_z w128 (of_z w128 (pos 0 -ℤ to_z w128 (of_z w128 n)))) d ≡ neg_ℚ q
+  unfolding neg_ℚ
+  kept_neg = ap₂ reduce (neg_bits ∙ ap neg_ℤ kept_num) kept_den
 
   pub kept_neg_stored : IsStored (to_z w128 (of_z w128 (pos 0 -ℤ to_z w128 (of_z w128 n)))) d
   kept_neg_stored =
-      let bits : to_z w128 (of_z w128 n) ≡ n = to_z-of_z kept_range in
-      let inner : pos 0 -ℤ to_z w128 (of_z w128 n) ≡ neg_ℤ n = omega (arith, ints, kept.num) in
-      let range : SFits w128 (neg_ℤ n) = omega (arith, ints, kept.num) in
-      let num : to_z w128 (of_z w128 (pos 0 -ℤ to_z w128 (of_z w128 n))) ≡ neg_ℤ n =
-      ap (λ z. to_z w128 (of_z w128 z)) inner ∙ to_z-of_z range in
-      subst (λ z. IsStored z d) (sym num) (neg_stored n d kept)
+      subst (λ z. IsStored z d) (sym neg_bits) (record {
+        reduced = (kept.reduced.0, ap (λ m. gcd m d) (sym (size_lem n)) ∙ kept.reduced.1);
+        num = subst (λ m. m < 2 ^ 127) (size_lem n) kept.num;
+        den = kept.den;
+      })
     where
       size_lem : (z : ℤ) → unsigned_abs z ≡ unsigned_abs (neg_ℤ z)
       size_lem (pos zero) = refl
       size_lem (pos (suc a)) = refl
       size_lem (negsuc a) = refl
-
-      neg_stored : (n : ℤ) (d : ℕ) → IsStored n d → IsStored (neg_ℤ n) d
-      neg_stored n d s = record {
-        reduced = (s.reduced.0, ap (λ m. gcd m d) (sym (size_lem n)) ∙ s.reduced.1);
-        num = subst (λ m. m < 2 ^ 127) (size_lem n) s.num;
-        den = s.den;
-      }
 
 -- ---- whole numbers
 
@@ -73,15 +66,15 @@ reduce_whole n = reduce_itself (whole_ℚ n)
 pub whole_stored : (n : ℤ) → unsigned_abs n < 2 ^ 127 → IsStored n 1
 whole_stored n h = record { reduced = whole_reduced n; num = h; den = omega arith }
 
+pub times_one : (z : ℤ) → z *ℤ pos 1 ≡ z
+times_one z = same_in _ _ (omega (arith, times_is z 1))
+
 -- a number is 0 exactly where its numerator is
 pub is_zero_lem : (q : Rational) → unsigned_abs q.num ≡ 0 → q ≡ zero_ℚ
 unfolding zero_ℚ whole_ℚ
 is_zero_lem q e =
     same_from_cross q zero_ℚ (times_one q.num ∙ abs_zero q.num e ∙ sym (zero_times q.den))
   where
-    times_one : (z : ℤ) → z *ℤ pos 1 ≡ z
-    times_one z = same_in _ _ (omega (arith, times_is z 1))
-
     zero_times : (d : ℕ) → pos 0 *ℤ pos d ≡ pos 0
     zero_times d = ap pos (zero-mul d)
 
@@ -100,72 +93,55 @@ int_div-signed false n g = refl
 int_div-signed true zero g = simp zero-div
 int_div-signed true (suc n) g = refl
 
-module _ (s : Bool) (n d g : ℕ) (common : g ≡ gcd n d) (above : 0 < d) where
-  pub lowest_divisor_pos : 0 < g
-  lowest_divisor_pos = subst (λ x. 0 < x) (sym common) (gcd_pos n d above)
+-- the code may keep n over d, which is q, and P holds, which says that q fits
+pub record IsMade (n : ℤ) (d : ℕ) (q : Rational) (P : Type 0) : Type 0 where
+  pub stored : IsStored n d
+  pub value : reduce n d ≡ q
+  pub fits : P
 
+-- the parts of a number, where they fit
+pub parts_made : (q : Rational) (n : ℤ) (d : ℕ) → q.num ≡ n → q.den ≡ d → unsigned_abs n < 2 ^ 127
+    → d < 2 ^ 127 → IsMade n d q (Fits q)
+parts_made q n d e f h k = record {
+  stored = record {
+    reduced = subst (λ x. IsReduced x d) e (subst (IsReduced q.num) f q.reduced);
+    num = h;
+    den = k;
+  };
+  value = sym (ap₂ reduce e f) ∙ reduce_itself q;
+  fits = record {
+    num = subst (λ x. unsigned_abs x < 2 ^ 127) (sym e) h;
+    den = subst (λ x. x < 2 ^ 127) (sym f) k;
+  };
+}
+
+module _ (s : Bool) (n d : ℕ) {g size den : ℕ} (common : g ≡ gcd n d) (above : 0 < d)
+    (size_is : size ≡ n / g) (den_is : den ≡ d / g) where
   divisor_is : gcd (unsigned_abs (signed s n)) d ≡ g
   divisor_is = ap (λ m. gcd m d) (unsigned_abs-signed s n) ∙ sym common
 
-  pub lowest_num : (reduce (signed s n) d).num ≡ signed s (n / g)
+  lowest_num : (reduce (signed s n) d).num ≡ signed s size
   lowest_num =
       reduce-num (signed s n) d above ∙ ap (λ x. int_div (signed s n) (pos x)) divisor_is
-      ∙ int_div-signed s n g
+      ∙ int_div-signed s n g ∙ ap (signed s) (sym size_is)
 
-  pub lowest_den : (reduce (signed s n) d).den ≡ d / g
-  lowest_den = reduce-den (signed s n) d above ∙ ap (λ x. d / x) divisor_is
+  lowest_den : (reduce (signed s n) d).den ≡ den
+  lowest_den = reduce-den (signed s n) d above ∙ ap (λ x. d / x) divisor_is ∙ sym den_is
 
-  pub lowest_same : reduce (signed s (n / g)) (d / g) ≡ reduce (signed s n) d
-  lowest_same =
-      sym (ap (λ x. reduce x (d / g)) lowest_num)
-      ∙ sym (ap (reduce (reduce (signed s n) d).num) lowest_den)
-      ∙ reduce_itself (reduce (signed s n) d)
+  pub lowest_made : size < 2 ^ 127 → den < 2 ^ 127
+      → IsMade (signed s size) den (reduce (signed s n) d) (Fits (reduce (signed s n) d))
+  lowest_made h k =
+      parts_made (reduce (signed s n) d) (signed s size) den lowest_num lowest_den
+      (omega (arith, unsigned_abs-signed s size, h)) k
 
-  lowest_size : unsigned_abs (reduce (signed s n) d).num ≡ n / g
-  lowest_size = ap unsigned_abs lowest_num ∙ unsigned_abs-signed s (n / g)
-
-  pub lowest_stored : n / g < 2 ^ 127 → d / g < 2 ^ 127 → IsStored (signed s (n / g)) (d / g)
-  lowest_stored h k = record {
-    reduced = subst (λ x. IsReduced x (d / g)) lowest_num
-        (subst (IsReduced (reduce (signed s n) d).num) lowest_den (reduce (signed s n) d).reduced);
-    num = omega (arith, unsigned_abs-signed s (n / g), h);
-    den = k;
-  }
-
-  pub lowest_fits : n / g < 2 ^ 127 → d / g < 2 ^ 127 → Fits (reduce (signed s n) d)
-  lowest_fits h k =
-      record { num = omega (arith, lowest_size, h); den = omega (arith, lowest_den, k) }
-
-  pub lowest_refuses : (2 ^ 127 ≤ n / g) ⊎ (2 ^ 127 ≤ d / g) → ¬ Fits (reduce (signed s n) d)
-  lowest_refuses (inl h) f = omega (arith, lowest_size, h, f.num)
+  pub lowest_refuses : (2 ^ 127 ≤ size) ⊎ (2 ^ 127 ≤ den) → ¬ Fits (reduce (signed s n) d)
+  lowest_refuses (inl h) f =
+      omega (arith, ap unsigned_abs lowest_num, unsigned_abs-signed s size, h, f.num)
   lowest_refuses (inr h) f = omega (arith, lowest_den, h, f.den)
-
--- the same, of the quotients as the code makes them
-module _ (s : Bool) (n d g size den : ℕ) (common : g ≡ gcd n d) (above : 0 < d)
-    (size_is : size ≡ n / g) (den_is : den ≡ d / g) where
-  pub made_stored : size < 2 ^ 127 → den < 2 ^ 127 → IsStored (signed s size) den
-  made_stored h k =
-      subst (λ x. IsStored (signed s x) den) (sym size_is)
-      (subst (IsStored (signed s (n / g))) (sym den_is) (lowest_stored s n d g common above
-      (subst (λ x. x < 2 ^ 127) size_is h) (subst (λ x. x < 2 ^ 127) den_is k)))
-
-  pub made_same : reduce (signed s size) den ≡ reduce (signed s n) d
-  made_same = ap₂ (λ x y. reduce (signed s x) y) size_is den_is ∙ lowest_same s n d g common above
-
-  pub made_fits : size < 2 ^ 127 → den < 2 ^ 127 → Fits (reduce (signed s n) d)
-  made_fits h k =
-      lowest_fits s n d g common above (subst (λ x. x < 2 ^ 127) size_is h)
-      (subst (λ x. x < 2 ^ 127) den_is k)
-
-  pub made_refuses : (2 ^ 127 ≤ size) ⊎ (2 ^ 127 ≤ den) → ¬ Fits (reduce (signed s n) d)
-  made_refuses (inl h) =
-      lowest_refuses s n d g common above (inl (subst (λ x. 2 ^ 127 ≤ x) size_is h))
-  made_refuses (inr h) =
-      lowest_refuses s n d g common above (inr (subst (λ x. 2 ^ 127 ≤ x) den_is h))
 
 -- ---- a fraction by the signs of its parts
 
-not_below_zero : (a : ℕ) → int_lt (pos a) (pos 0) ≡ false
+pub not_below_zero : (a : ℕ) → int_lt (pos a) (pos 0) ≡ false
 not_below_zero a = le-ltb a 0 zero-le
 
 signs_lem : (n d : ℤ) → reduce (signed (not (beq (int_lt n (pos 0)) (int_lt d (pos 0))))

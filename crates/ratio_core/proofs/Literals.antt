@@ -6,7 +6,7 @@ use Rattle.std.specs.Result.{result_ok}
 use Rattle.ratio_core.specs.Gcd.{gcd}
 use Rattle.ratio_core.specs.Rational.{Fits, Rational, reduce, signed}
 use Rattle.ratio_core.specs.Text.{denominator_of, is_slash, numerator_of, part_of, rational_from}
-use Rattle.ratio_core.proofs.Kept.{lowest_fits}
+use Rattle.ratio_core.proofs.Kept.{lowest_made}
 use Rattle.std.specs.List.{after_first, before_first, list_any, position_or_len}
 
 head_lem : (p : ℕ → Bool) (x : ℕ) (xs : List ℕ) (b : Bool) → p x ≡ b
@@ -57,7 +57,8 @@ divided_lem n g h = omega (arith, div-le_self n g)
 pub fits_in_lowest : (s : Bool) (n d : ℕ) → 0 < d → n < 2 ^ 127 → d < 2 ^ 127
     → Fits (reduce (signed s n) d)
 fits_in_lowest s n d above h k =
-    lowest_fits s n d (gcd n d) refl above (divided_lem n (gcd n d) h) (divided_lem d (gcd n d) k)
+    (lowest_made s n d refl above refl refl (divided_lem n (gcd n d) h)
+    (divided_lem d (gcd n d) k)).fits
 
 ok_lem : {E : Type 0} (r : Result Rational E) (q : Rational) → Fits q → OkIff r (Fits q) q
     → result_ok r ≡ Some q

@@ -1,18 +1,15 @@
 -- A product in lowest terms, by taking common divisors out of the factors crosswise.
-use Rattle.std.proofs.Common.{◌≡◌, ℕ, zero, suc, ◌*◌, ◌/◌, ◌^◌, ◌<◌, Bool, true, false, not, ℤ, pos, negsuc, neg_ℤ, ◌*ℤ◌, unsigned_abs, refl, sym, ◌∙◌, ap, ap₂, subst, arith, zero-le, le-ltb, mul-pos}
+use Rattle.std.proofs.Common.{◌≡◌, ℕ, zero, suc, ◌*◌, ◌/◌, ◌^◌, ◌<◌, Bool, true, not, ℤ, pos, negsuc, neg_ℤ, ◌*ℤ◌, unsigned_abs, refl, sym, ◌∙◌, ap, ap₂, subst, arith, mul-pos}
 use Rattle.std.proofs.Math.Nat.{div-mul_cancel}
 use Rattle.std.specs.Int.{◌∣◌, is_negative}
 use mathlib.Core.Bool.{beq}
 use Rattle.ratio_core.specs.Gcd.{gcd, gcd_is, gcd_swap, coprime_parts, part_pos}
 use Rattle.ratio_core.specs.Rational.{Fits, IsReduced, IsStored, Rational, abs_ℚ, fraction, inverse_ℚ, reduce, signed, zero_ℚ, ◌*ℚ◌}
-use Rattle.ratio_core.specs.RationalLaws.{reduce_is, reduce_itself, signed_times, unsigned_abs-signed}
+use Rattle.ratio_core.specs.RationalLaws.{reduce_is, signed_times, unsigned_abs-signed}
 use Rattle.ratio_core.proofs.Coprime.{coprime_product, coprime_product_right, coprime_within, quotient_divides}
-use Rattle.ratio_core.proofs.Kept.{is_zero_lem}
+use Rattle.ratio_core.proofs.Kept.{IsMade, is_zero_lem, not_below_zero, parts_made}
 
 -- ---- signs
-
-pub not_below_zero : (a : ℕ) → is_negative (pos a) ≡ false
-not_below_zero a = le-ltb a 0 zero-le
 
 -- a number is its sign and its size
 pub signed_itself : (z : ℤ) → signed (is_negative z) (unsigned_abs z) ≡ z
@@ -123,10 +120,12 @@ module _ (p q : Rational) where
 
 -- ---- the product as the code makes it
 
-module _ (p q : Rational) (ps pd qs qd l r nl nr dl dr : ℕ) (ps_is : ps ≡ unsigned_abs p.num)
+abbrev pub IsProduct : Rational → Rational → ℤ → ℕ → Type 0
+IsProduct p q n d = IsMade n d (p *ℚ q) (Fits (p *ℚ q))
+
+module _ (p q : Rational) {ps pd qs qd l r nl nr : ℕ} (ps_is : ps ≡ unsigned_abs p.num)
     (pd_is : pd ≡ p.den) (qs_is : qs ≡ unsigned_abs q.num) (qd_is : qd ≡ q.den)
-    (l_is : l ≡ gcd ps qd) (r_is : r ≡ gcd qs pd) (nl_is : nl ≡ ps / l) (nr_is : nr ≡ qs / r)
-    (dl_is : dl ≡ pd / r) (dr_is : dr ≡ qd / l) where
+    (l_is : l ≡ gcd ps qd) (r_is : r ≡ gcd qs pd) (nl_is : nl ≡ ps / l) (nr_is : nr ≡ qs / r) where
   made_left : l ≡ gcd (unsigned_abs p.num) q.den
   made_left = l_is ∙ ap₂ gcd ps_is qd_is
 
@@ -136,41 +135,25 @@ module _ (p q : Rational) (ps pd qs qd l r nl nr dl dr : ℕ) (ps_is : ps ≡ un
   made_size : nl * nr ≡ product_size p q
   made_size = ap₂ ◌*◌ (nl_is ∙ ap₂ ◌/◌ ps_is made_left) (nr_is ∙ ap₂ ◌/◌ qs_is made_right)
 
-  made_den : dl * dr ≡ product_den p q
-  made_den = ap₂ ◌*◌ (dl_is ∙ ap₂ ◌/◌ pd_is made_right) (dr_is ∙ ap₂ ◌/◌ qd_is made_left)
-
   pub size_refused : ¬ (nl * nr < 2 ^ 127) → ¬ Fits (p *ℚ q)
   size_refused h f = h (subst (λ x. x < 2 ^ 127) (product_size_is p q ∙ sym made_size) f.num)
 
-  pub den_refused : ¬ (dl * dr < 2 ^ 127) → ¬ Fits (p *ℚ q)
-  den_refused h f = h (subst (λ x. x < 2 ^ 127) (product_den_is p q ∙ sym made_den) f.den)
+  module _ {dl dr : ℕ} (dl_is : dl ≡ pd / r) (dr_is : dr ≡ qd / l) where
+    made_den : dl * dr ≡ product_den p q
+    made_den = ap₂ ◌*◌ (dl_is ∙ ap₂ ◌/◌ pd_is made_right) (dr_is ∙ ap₂ ◌/◌ qd_is made_left)
 
-  module _ (pn qn s : Bool) (size den : ℕ) (pn_is : pn ≡ is_negative p.num)
-      (qn_is : qn ≡ is_negative q.num) (s_is : s ≡ not (beq pn qn)) (size_is : size ≡ nl * nr)
-      (den_is : den ≡ dl * dr) where
-    made_num : signed s size ≡ signed (product_sign p q) (product_size p q)
-    made_num = ap₂ signed (s_is ∙ ap₂ (λ a b. not (beq a b)) pn_is qn_is) (size_is ∙ made_size)
+    pub den_refused : ¬ (dl * dr < 2 ^ 127) → ¬ Fits (p *ℚ q)
+    den_refused h f = h (subst (λ x. x < 2 ^ 127) (product_den_is p q ∙ sym made_den) f.den)
 
-    pub made_stored : size < 2 ^ 127 → den < 2 ^ 127 → IsStored (signed s size) den
-    made_stored h k = record {
-      reduced = subst (λ z. IsReduced z den) (sym made_num)
-          (subst (IsReduced (signed (product_sign p q) (product_size p q)))
-          (sym (den_is ∙ made_den)) (product_reduced p q));
-      num = subst (λ x. x < 2 ^ 127) (sym (unsigned_abs-signed s size)) h;
-      den = k;
-    }
-
-    pub made_value : reduce (signed s size) den ≡ p *ℚ q
-    made_value =
-        ap₂ reduce made_num (den_is ∙ made_den)
-        ∙ reduce_itself (record { num = _; den = _; reduced = product_reduced p q }) ∙ sym
-        (product_is p q)
-
-    pub made_fits : size < 2 ^ 127 → den < 2 ^ 127 → Fits (p *ℚ q)
-    made_fits h k = record {
-      num = subst (λ x. x < 2 ^ 127) (size_is ∙ made_size ∙ sym (product_size_is p q)) h;
-      den = subst (λ x. x < 2 ^ 127) (den_is ∙ made_den ∙ sym (product_den_is p q)) k;
-    }
+    pub product_made : {pn qn : Bool} {size den : ℕ} → pn ≡ is_negative p.num
+        → qn ≡ is_negative q.num → size ≡ nl * nr → den ≡ dl * dr → size < 2 ^ 127 → den < 2 ^ 127
+        → IsProduct p q (signed (not (beq pn qn)) size) den
+    product_made {pn} {qn} {size} {den} pn_is qn_is size_is den_is h k =
+        parts_made (p *ℚ q) (signed (not (beq pn qn)) size) den
+        (ap (λ r. r.num) (product_is p q)
+        ∙ sym (ap₂ signed (ap₂ (λ a b. not (beq a b)) pn_is qn_is) (size_is ∙ made_size)))
+        (product_den_is p q ∙ sym (den_is ∙ made_den))
+        (subst (λ x. x < 2 ^ 127) (sym (unsigned_abs-signed (not (beq pn qn)) size)) h) k
 
 -- ---- the magnitude and the inverse
 

@@ -1,13 +1,14 @@
 -- A sum in lowest terms, by the greatest common divisor of the denominators.
-use Rattle.std.proofs.Common.{◌≡◌, ℕ, ◌*◌, ◌/◌, ◌^◌, ◌<◌, Bool, ℤ, pos, ◌+ℤ◌, ◌*ℤ◌, unsigned_abs, sym, ◌∙◌, ap, ap₂, subst, arith, mul-pos, mul-div_cancel, div-le_self, ◌≤◌}
+use Rattle.std.proofs.Common.{◌≡◌, ℕ, ◌*◌, ◌/◌, ◌^◌, ◌<◌, Bool, ℤ, pos, ◌+ℤ◌, ◌*ℤ◌, unsigned_abs, sym, ◌∙◌, ap, ap₂, subst, arith, mul-pos, mul-div_cancel, mul_assoc, div-le_self, ◌≤◌}
 use Rattle.std.proofs.Math.Nat.{div-mul_cancel, dvd-mul_left, dvd_refl, dvd_trans}
 use Rattle.std.proofs.lemmas.Int.{unsigned_abs-mul}
 use Rattle.std.specs.Int.{◌∣◌, is_negative}
 use Rattle.std.proofs.Math.IntN.{+ℤ_comm}
 use Rattle.ratio_core.specs.Gcd.{gcd, gcd_is, gcd_pos, gcd_swap, coprime_parts, dvd_from_coprime, part_pos}
-use Rattle.ratio_core.specs.Rational.{IsReduced, IsStored, Rational, SumFits, common_divisor, left_term, reduce, right_term, signed, sum_denominator, sum_of_terms, ◌+ℚ◌}
-use Rattle.ratio_core.specs.RationalLaws.{reduce_is, reduce_itself, signed_times, times_add, times_times, unsigned_abs-signed}
+use Rattle.ratio_core.specs.Rational.{IsReduced, Rational, SumFits, common_divisor, left_term, right_term, signed, sum_denominator, sum_of_terms, ◌+ℚ◌}
+use Rattle.ratio_core.specs.RationalLaws.{reduce_is, signed_times, times_add, times_times, unsigned_abs-signed}
 use Rattle.ratio_core.proofs.Coprime.{coprime_at, coprime_by, coprime_product_right, coprime_within, divides_term, quotient_divides}
+use Rattle.ratio_core.proofs.Kept.{IsMade, parts_made}
 use Rattle.ratio_core.proofs.Products.{signed_itself}
 
 -- a sum of multiples has no divisor in common with a factor of one, where neither the other factor
@@ -92,12 +93,9 @@ module _ (p q : Rational) where
   right_over_last =
       let last_pos : 0 < last = gcd_pos (unsigned_abs (sum_of_terms p q)) common common_pos in
       let whole : (right_part * (common / last)) * last ≡ q.den =
-      group_lem right_part (common / last) last ∙ ap (λ k. right_part * k)
+      mul_assoc right_part (common / last) last ∙ ap (λ k. right_part * k)
       (div-mul_cancel last last_within) ∙ right_times in
       ap (λ k. k / last) (sym whole) ∙ mul-div_cancel (right_part * (common / last)) last_pos
-    where
-      group_lem : (a b c : ℕ) → (a * b) * c ≡ a * (b * c)
-      group_lem a b c = omega arith
 
   pub sum_den_is : sum_denominator p q ≡ left_part * (right_part * (common / last))
   unfolding sum_denominator
@@ -167,10 +165,19 @@ module _ (p q : Rational) where
 
 -- ---- the sum as the code makes it
 
+abbrev pub IsSum : Rational → Rational → ℤ → ℕ → Type 0
+IsSum p q n d = IsMade n d (p +ℚ q) (SumFits p q)
+
+pub term_is : (z : ℤ) (n : Bool) (k m : ℕ) → n ≡ is_negative z → m ≡ unsigned_abs z * k
+    → signed n m ≡ z *ℤ pos k
+term_is z n k m e f =
+    ap₂ signed e f ∙ sym (signed_times (is_negative z) (unsigned_abs z) k)
+    ∙ ap (λ y. y *ℤ pos k) (signed_itself z)
+
 refuse_lem : (n m : ℕ) → n ≡ m → ¬ (n < 2 ^ 127) → ¬ (m < 2 ^ 127)
 refuse_lem n m e h k = h (subst (λ x. x < 2 ^ 127) (sym e) k)
 
-module _ (p q : Rational) (pd qd g lo ro ps qs : ℕ) (pd_is : pd ≡ p.den) (qd_is : qd ≡ q.den)
+module _ (p q : Rational) {pd qd g lo ro ps qs : ℕ} (pd_is : pd ≡ p.den) (qd_is : qd ≡ q.den)
     (g_is : g ≡ gcd pd qd) (lo_is : lo ≡ pd / g) (ro_is : ro ≡ qd / g)
     (ps_is : ps ≡ unsigned_abs p.num) (qs_is : qs ≡ unsigned_abs q.num) where
   made_common : g ≡ common_divisor p q
@@ -195,21 +202,15 @@ module _ (p q : Rational) (pd qd g lo ro ps qs : ℕ) (pd_is : pd ≡ p.den) (qd
   pub right_refused : ¬ (qs * lo < 2 ^ 127) → ¬ SumFits p q
   right_refused h f = refuse_lem _ _ made_right_size h f.right
 
-  module _ (pn qn s : Bool) (left right size : ℕ) (pn_is : pn ≡ is_negative p.num)
+  module _ {pn qn : Bool} (s : Bool) {left right : ℕ} (size : ℕ) (pn_is : pn ≡ is_negative p.num)
       (qn_is : qn ≡ is_negative q.num) (left_is : left ≡ ps * ro) (right_is : right ≡ qs * lo)
       (sum : signed s size ≡ signed pn left +ℤ signed qn right) where
-    term_lem : (z : ℤ) (n : Bool) (k m : ℕ) → n ≡ is_negative z → m ≡ unsigned_abs z * k
-        → signed n m ≡ z *ℤ pos k
-    term_lem z n k m e f =
-        ap₂ signed e f ∙ sym (signed_times (is_negative z) (unsigned_abs z) k)
-        ∙ ap (λ y. y *ℤ pos k) (signed_itself z)
-
     made_sum : signed s size ≡ sum_of_terms p q
     unfolding sum_of_terms left_term right_term
     made_sum =
         sum ∙ ap₂ ◌+ℤ◌
-        (term_lem p.num pn (right_part p q) left pn_is (left_is ∙ ap₂ ◌*◌ ps_is made_right))
-        (term_lem q.num qn (left_part p q) right qn_is (right_is ∙ ap₂ ◌*◌ qs_is made_left))
+        (term_is p.num pn (right_part p q) left pn_is (left_is ∙ ap₂ ◌*◌ ps_is made_right))
+        (term_is q.num qn (left_part p q) right qn_is (right_is ∙ ap₂ ◌*◌ qs_is made_left))
 
     made_size : size ≡ unsigned_abs (sum_of_terms p q)
     made_size = sym (unsigned_abs-signed s size) ∙ ap unsigned_abs made_sum
@@ -217,7 +218,7 @@ module _ (p q : Rational) (pd qd g lo ro ps qs : ℕ) (pd_is : pd ≡ p.den) (qd
     pub sum_refused : 2 ^ 127 ≤ size → ¬ SumFits p q
     sum_refused h f = omega (arith, h, made_size, f.sum)
 
-    module _ (last : ℕ) (last_is : last ≡ gcd size g) where
+    module _ {last : ℕ} (last_is : last ≡ gcd size g) where
       made_last : last ≡ gcd (unsigned_abs (sum_of_terms p q)) (common_divisor p q)
       made_last = last_is ∙ ap₂ gcd made_size made_common
 
@@ -231,40 +232,22 @@ module _ (p q : Rational) (pd qd g lo ro ps qs : ℕ) (pd_is : pd ≡ p.den) (qd
       whole_is : signed s (unsigned_abs (sum_of_terms p q)) ≡ sum_of_terms p q
       whole_is = ap (signed s) (sym made_size) ∙ made_sum
 
-      made_num : signed s (size / last) ≡ signed s (unsigned_abs (sum_of_terms p q) / gcd
-          (unsigned_abs (sum_of_terms p q)) (common_divisor p q))
-      made_num = ap (signed s) (ap₂ ◌/◌ made_size made_last)
-
-      module _ (den : ℕ) (den_is : den ≡ lo * (qd / last)) where
-        pub made_stored : size < 2 ^ 127 → den < 2 ^ 127 → IsStored (signed s (size / last)) den
-        made_stored h k = record {
-          reduced = subst (λ z. IsReduced z den) (sym made_num)
-              (subst (IsReduced (signed s (unsigned_abs (sum_of_terms p q) / gcd
-              (unsigned_abs (sum_of_terms p q)) (common_divisor p q)))) (sym (den_is ∙ made_den))
-              (sum_reduced p q s whole_is));
-          num = below_lem;
-          den = k;
-        }
-          where
-            below_lem : unsigned_abs (signed s (size / last)) < 2 ^ 127
-            below_lem =
-                subst (λ x. x < 2 ^ 127) (sym (unsigned_abs-signed s (size / last)))
-                (omega (arith, div-le_self size last, h))
-
-        pub made_value : reduce (signed s (size / last)) den ≡ p +ℚ q
-        made_value =
-            ap₂ reduce made_num (den_is ∙ made_den)
-            ∙ reduce_itself (record {
-              num = _;
-              den = _;
-              reduced = sum_reduced p q s whole_is;
-            }) ∙ sym (sum_value p q s whole_is)
-
-        pub made_fits : left < 2 ^ 127 → right < 2 ^ 127 → size < 2 ^ 127 → den < 2 ^ 127
-            → SumFits p q
-        made_fits h k l m = record {
-          left = subst (λ x. x < 2 ^ 127) (left_is ∙ made_left_size) h;
-          right = subst (λ x. x < 2 ^ 127) (right_is ∙ made_right_size) k;
-          sum = subst (λ x. x < 2 ^ 127) made_size l;
-          denominator = subst (λ x. x < 2 ^ 127) (den_is ∙ made_den) m;
-        }
+      pub sum_made : {den : ℕ} → den ≡ lo * (qd / last) → left < 2 ^ 127 → right < 2 ^ 127
+          → size < 2 ^ 127 → den < 2 ^ 127 → IsSum p q (signed s (size / last)) den
+      sum_made {den} den_is h k l m =
+          let made = parts_made (p +ℚ q) (signed s (size / last)) den
+          (ap (λ r. r.num) (sum_value p q s whole_is)
+          ∙ sym (ap (signed s) (ap₂ ◌/◌ made_size made_last)))
+          (ap (λ r. r.den) (sum_value p q s whole_is) ∙ sym (den_is ∙ made_den))
+          (subst (λ x. x < 2 ^ 127) (sym (unsigned_abs-signed s (size / last)))
+          (omega (arith, div-le_self size last, l))) m in
+          record {
+            stored = made.stored;
+            value = made.value;
+            fits = record {
+              left = subst (λ x. x < 2 ^ 127) (left_is ∙ made_left_size) h;
+              right = subst (λ x. x < 2 ^ 127) (right_is ∙ made_right_size) k;
+              sum = subst (λ x. x < 2 ^ 127) made_size l;
+              denominator = subst (λ x. x < 2 ^ 127) (den_is ∙ made_den) m;
+            };
+          }

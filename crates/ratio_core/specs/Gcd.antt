@@ -5,7 +5,7 @@
 -- coprime_parts two numbers over their greatest common divisor have no common divisor
 use Rattle.std.specs.Prelude.{◌≡◌, ℕ, zero, suc, ◌+◌, ◌*◌, ◌/◌, ◌%◌, ◌^◌, ◌<◌, ◌≤◌, refl}
 use Rattle.std.specs.Int.{◌∣◌, IsGcd}
-use Rattle.std.proofs.Common.{sym, ◌∙◌, ap, subst, arith, mul-zero}
+use Rattle.std.proofs.Common.{sym, ◌∙◌, ap, subst, arith, mul-one, mul-zero}
 use Rattle.std.proofs.Math.Nat.{mul-div-mul_left, div-add-mod, mul-div_cancel', dvd-zero, dvd-mul_left, dvd_antisymm, one-dvd, pos_of_dvd_of_pos}
 use Rattle.std.proofs.lemmas.Nat.Gcd.{IsGcd-from_zero, IsGcd-from_mod, same_from_IsGcd, IsGcd-swap}
 
@@ -78,11 +78,8 @@ pub dvd_from_coprime : (a b c : ℕ) → gcd a b ≡ 1 → b ∣ c * a → b ∣
 dvd_from_coprime a b zero e h = dvd-zero b
 dvd_from_coprime a b (suc c) e h =
     let g : gcd (suc c * a) (suc c * b) ≡ suc c = gcd-scaled (suc c) a b (omega arith)
-    ∙ ap (λ x. suc c * x) e ∙ one_lem (suc c) in
+    ∙ ap (λ x. suc c * x) e ∙ mul-one (suc c) in
     subst (λ x. b ∣ x) g ((gcd_is (suc c * a) (suc c * b)).2 b h (dvd-mul_left b (suc c)))
-  where
-    one_lem : (n : ℕ) → n * 1 ≡ n
-    one_lem n = omega arith
 
 -- the greatest common divisor of a number and a positive one is positive
 pub gcd_pos : (a b : ℕ) → 0 < b → 0 < gcd a b

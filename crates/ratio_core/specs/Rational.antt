@@ -10,14 +10,14 @@
 -- Fits fits, SumFits sum_fits what 128 bits hold, and the rule for sums, each with its test
 use Rattle.std.specs.Prelude.{◌≡◌, ℕ, zero, suc, ◌*◌, ◌/◌, ◌^◌, ◌<◌, Bool, true, false, ◌&&◌, nat_lt, ℤ, pos, negsuc, ◌+ℤ◌, ◌*ℤ◌, neg_ℤ, ◌≤ℤ◌, ◌<ℤ◌, int_div, unsigned_abs, refl}
 use Rattle.std.specs.Coded.{Coded, coded×, coded_ℕ, coded_ℤ, ×_prop, le_prop}
-use Rattle.std.specs.Int.{◌∣◌, int_signum}
+use Rattle.std.specs.Int.{int_signum}
 use Rattle.std.specs.Ordering.{int_cmp, eq_by_cmp}
 use Rattle.std.specs.declared.cmp.Ordering.{Ordering}
 use Rattle.std.proofs.Common.{◌∙◌, ap, zero-lt-suc}
-use Rattle.std.proofs.Math.Nat.{ℕ_set, dvd_antisymm, one-dvd}
+use Rattle.std.proofs.Math.Nat.{ℕ_set}
 use base.Stored.{coded_via}
 use mathlib.Core.HLevel.{is_prop→PathP}
-use Rattle.ratio_core.specs.Gcd.{gcd, gcd_is, coprime_parts, part_pos}
+use Rattle.ratio_core.specs.Gcd.{gcd, gcd-one, coprime_parts, part_pos}
 
 -- ---- the numbers
 
@@ -45,13 +45,7 @@ abbrev pub rational_code : Coded Rational
 rational_code = coded_via (coded× coded_ℤ coded_ℕ) rational_parts same_parts
 
 pub whole_reduced : (n : ℤ) → IsReduced n 1
-whole_reduced n = (zero-lt-suc 0, one_lem _ (gcd_is (unsigned_abs n) 1).1)
-  where
-    one_lem : (g : ℕ) → g ∣ 1 → g ≡ 1
-    one_lem g h = dvd_antisymm h (dvd_lem g)
-      where
-        dvd_lem : (g : ℕ) → 1 ∣ g
-        dvd_lem g = one-dvd g
+whole_reduced n = (zero-lt-suc 0, gcd-one (unsigned_abs n))
 
 -- a whole number
 unfoldable pub whole_ℚ : ℤ → Rational

@@ -7,7 +7,7 @@ use Rattle.std.specs.Int.{◌∣◌}
 use Rattle.std.specs.Ordering.{is_eq, MatchOrdering, as_partial_cmp}
 use Rattle.std.specs.declared.cmp.Ordering.{Ordering}
 use Rattle.std.specs.declared.cmp.Ordering.TheVariants.{Less, Equal, Greater}
-use Rattle.std.proofs.Common.{sym, ◌∙◌, ap, subst, arith, true≢false, mul-lt-mul_of_pos_right, lt_of_mul-lt-mul_right, zero-mul}
+use Rattle.std.proofs.Common.{sym, ◌∙◌, ap, subst, arith, true≢false, mul-lt-mul_of_pos_right, lt_of_mul-lt-mul_right, zero-mul, mul_comm}
 use Rattle.std.proofs.Math.Nat.{div-mul_cancel, dvd_antisymm, dvd-mul_left, mul-div_cancel}
 use Rattle.std.proofs.lemmas.Int.{unsigned_abs-mul}
 use borrow.Author.Differences.{up, down, same_in, same_out, product_is, sum_is_lem, below_in, lt_out}
@@ -27,10 +27,7 @@ times_times z a b =
     same_in _ _ (omega (arith, u, v, times_is (z *ℤ pos a) b, times_is z (a * b)))
 
 pub swap_times : (z : ℤ) (a b : ℕ) → (z *ℤ pos a) *ℤ pos b ≡ (z *ℤ pos b) *ℤ pos a
-swap_times z a b = times_times z a b ∙ ap (λ k. z *ℤ pos k) (swap_lem a b) ∙ sym (times_times z b a)
-  where
-    swap_lem : (a b : ℕ) → a * b ≡ b * a
-    swap_lem a b = omega arith
+swap_times z a b = times_times z a b ∙ ap (λ k. z *ℤ pos k) (mul_comm a b) ∙ sym (times_times z b a)
 
 pub cancel_times : (y z : ℤ) (d : ℕ) → 0 < d → y *ℤ pos d ≡ z *ℤ pos d → y ≡ z
 cancel_times y z d h e =
@@ -70,18 +67,15 @@ same_from_cross p q e =
     (unsigned_abs-mul p.num (pos q.den)) ∙ ap unsigned_abs e
     ∙ unsigned_abs-mul q.num (pos p.den) in
     let forth : p.den ∣ q.den = dvd_from_coprime (unsigned_abs p.num) p.den q.den p.reduced.1
-    (subst (λ x. p.den ∣ x) (sym sizes ∙ swap_lem _ _)
+    (subst (λ x. p.den ∣ x) (sym sizes ∙ mul_comm _ _)
     (dvd-mul_left p.den (unsigned_abs q.num))) in
     let back : q.den ∣ p.den = dvd_from_coprime (unsigned_abs q.num) q.den p.den q.reduced.1
-    (subst (λ x. q.den ∣ x) (sizes ∙ swap_lem _ _)
+    (subst (λ x. q.den ∣ x) (sizes ∙ mul_comm _ _)
     (dvd-mul_left q.den (unsigned_abs p.num))) in
     let dens : p.den ≡ q.den = dvd_antisymm forth back in
     let nums : p.num ≡ q.num =
     cancel_times p.num q.num q.den q.reduced.0 (e ∙ ap (λ d. q.num *ℤ pos d) dens) in
     same_parts p q (λ i. (nums i, dens i))
-  where
-    swap_lem : (a b : ℕ) → a * b ≡ b * a
-    swap_lem a b = omega arith
 
 -- ---- lowest terms
 
@@ -130,11 +124,8 @@ reduce_cross n d h =
     let g : ℕ = gcd (unsigned_abs n) d in
     let r : Rational = reduce n d in
     let parts : (r.num *ℤ pos g ≡ n) × (r.den * g ≡ d) = reduce_parts n d h in
-    ap (λ x. r.num *ℤ pos x) (sym parts.1 ∙ swap_lem r.den g) ∙ sym (times_times r.num g r.den)
+    ap (λ x. r.num *ℤ pos x) (sym parts.1 ∙ mul_comm r.den g) ∙ sym (times_times r.num g r.den)
     ∙ ap (λ x. x *ℤ pos r.den) parts.0
-  where
-    swap_lem : (a b : ℕ) → a * b ≡ b * a
-    swap_lem a b = omega arith
 
 -- n over d is the number whose cross product with it is equal
 pub reduce_is : (r : Rational) (n : ℤ) (d : ℕ) → 0 < d → r.num *ℤ pos d ≡ n *ℤ pos r.den
@@ -184,18 +175,19 @@ pub ‹ℚ_trans : (p q r : Rational) → p ‹ℚ q → q ‹ℚ r → p ‹ℚ
       cross = below_in _ _ (omega (arith, third, times_is p.num r.den, times_is r.num p.den));
     }
 
-rank_lem : (p q : Rational) (r : Ordering)
-    → MatchOrdering r ((p.num *ℤ pos q.den) <ℤ (q.num *ℤ pos p.den))
-    (p.num *ℤ pos q.den ≡ q.num *ℤ pos p.den) ((q.num *ℤ pos p.den) <ℤ (p.num *ℤ pos q.den))
-    → MatchOrdering r (p ‹ℚ q) (p ≡ q) (q ‹ℚ p)
-rank_lem p q Less h = record { cross = h }
-rank_lem p q Equal h = same_from_cross p q h
-rank_lem p q Greater h = record { cross = h }
+-- what an answer of a comparison says, said in other words
+pub rank_as : {A B C P Q R : Type 0} (r : Ordering) → MatchOrdering r A B C → (A → P) → (B → Q)
+    → (C → R) → MatchOrdering r P Q R
+rank_as Less h less equal greater = less h
+rank_as Equal h less equal greater = equal h
+rank_as Greater h less equal greater = greater h
 
 -- what an answer of the comparison says
 pub rational_ranks : (p q : Rational) → MatchOrdering (rational_cmp p q) (p ‹ℚ q) (p ≡ q) (q ‹ℚ p)
 unfolding rational_cmp
-rational_ranks p q = rank_lem p q _ (int_ranks (p.num *ℤ pos q.den) (q.num *ℤ pos p.den))
+rational_ranks p q =
+    rank_as {P = p ‹ℚ q} {R = q ‹ℚ p} _ (int_ranks (p.num *ℤ pos q.den) (q.num *ℤ pos p.den))
+    (λ h. record { cross = h }) (same_from_cross p q) (λ h. record { cross = h })
 
 pub rational_ranked : (p q : Rational) (r : Ordering) → r ≡ rational_cmp p q
     → MatchOrdering r (p ‹ℚ q) (p ≡ q) (q ‹ℚ p)

@@ -1,5 +1,6 @@
 -- The law of texts: what is printed reads back (`reads_back`).
-use Rattle.std.proofs.Common.{◌≡◌, ℕ, zero, suc, ◌+◌, ◌^◌, ◌<◌, Bool, true, false, cond, List, [], ◌∷◌, ◌++◌, length, take, drop, slice_index, decimal, Some, ℤ, pos, negsuc, unsigned_abs, refl, sym, ◌∙◌, ap, ap₂, subst, arith, eq-eqb, ne_eqb, lt-ltb, ◌==◌, append-nil, add-one, take_all, eqb-true}
+use Rattle.std.proofs.Common.{◌≡◌, ℕ, zero, suc, ◌+◌, ◌^◌, ◌<◌, Bool, true, false, cond, List, [], ◌∷◌, ◌++◌, length, take, drop, slice_index, decimal, Some, ℤ, pos, negsuc, unsigned_abs, refl, sym, ◌∙◌, ap, ap₂, subst, arith, eq-eqb, ne_eqb, lt-ltb, ◌==◌, eqb-true}
+use Rattle.std.proofs.Math.Seq.{drop-append-add, take-append_seam}
 use Rattle.std.proofs.lemmas.Bool.Decides.{nat_tests}
 use Rattle.std.proofs.lemmas.Fmt.{decimal_is_IsNumeral_wide}
 use Rattle.std.specs.Char.{digit_value, is_ascii_digit}
@@ -37,42 +38,20 @@ all_digits : (ds : List ℕ) → AllDigits 10 ds → list_all is_ascii_digit ds 
 all_digits [] h = refl
 all_digits (c ∷ cs) h = rw (digit_lem c h.0) (all_digits cs h.1)
 
-no_slash : (ds : List ℕ) → AllDigits 10 ds → list_any is_slash ds ≡ false
-no_slash [] h = refl
-no_slash (c ∷ cs) h = rw (not_slash c h.0) (no_slash cs h.1)
+-- digits before another text: they have no slash
+slash_past : (ds rest : List ℕ) → AllDigits 10 ds
+    → list_any is_slash (ds ++ rest) ≡ list_any is_slash rest
+slash_past [] rest h = refl
+slash_past (c ∷ cs) rest h = rw (not_slash c h.0) (slash_past cs rest h.1)
 
--- digits up to the end, and up to a slash
-place_end : (ds : List ℕ) → AllDigits 10 ds → position_or_len is_slash ds ≡ length ds
-place_end [] h = refl
-place_end (c ∷ cs) h =
-    rw (not_slash c h.0) (ap (λ n. 1 + n) (place_end cs h.1) ∙ one_lem (length cs))
+place_past : (ds rest : List ℕ) → AllDigits 10 ds → position_or_len is_slash rest ≡ 0
+    → position_or_len is_slash (ds ++ rest) ≡ length ds
+place_past [] rest h e = e
+place_past (c ∷ cs) rest h e =
+    rw (not_slash c h.0) (ap (λ n. 1 + n) (place_past cs rest h.1 e) ∙ one_lem (length cs))
   where
     one_lem : (n : ℕ) → 1 + n ≡ suc n
     one_lem n = omega arith
-
-place_slash : (ds rest : List ℕ) → AllDigits 10 ds
-    → position_or_len is_slash (ds ++ 47 ∷ rest) ≡ length ds
-place_slash [] rest h = refl
-place_slash (c ∷ cs) rest h =
-    rw (not_slash c h.0) (ap (λ n. 1 + n) (place_slash cs rest h.1) ∙ one_lem (length cs))
-  where
-    one_lem : (n : ℕ) → 1 + n ≡ suc n
-    one_lem n = omega arith
-
-some_slash : (ds rest : List ℕ) → AllDigits 10 ds → list_any is_slash (ds ++ 47 ∷ rest) ≡ true
-some_slash [] rest h = refl
-some_slash (c ∷ cs) rest h = rw (not_slash c h.0) (some_slash cs rest h.1)
-
-take_front : (ds rest : List ℕ) → take (length ds) (ds ++ rest) ≡ ds
-take_front [] rest = refl
-take_front (c ∷ cs) rest = ap (λ t. c ∷ t) (take_front cs rest)
-
-drop_front : (ds rest : List ℕ) → drop (length ds + 1) (ds ++ 47 ∷ rest) ≡ rest
-drop_front ds rest = ap (λ n. drop n (ds ++ 47 ∷ rest)) (add-one (length ds)) ∙ by_list ds
-  where
-    by_list : (ds : List ℕ) → drop (suc (length ds)) (ds ++ 47 ∷ rest) ≡ rest
-    by_list [] = refl
-    by_list (c ∷ cs) = by_list cs
 
 first_lem : (ds rest : List ℕ) → IsNumeral 10 ds → ¬ (slice_index (ds ++ rest) 0 ≡ 45)
 first_lem [] rest h = absurd (omega (arith, h.0))
@@ -100,23 +79,26 @@ tail_of t d = cond t [] (47 ∷ decimal d)
 
 front_lem : (ds : List ℕ) (d : ℕ) (t : Bool) → AllDigits 10 ds
     → before_first is_slash (ds ++ tail_of t d) ≡ ds
-front_lem ds d true h = ap (before_first is_slash) (append-nil ds)
-    ∙ ap (λ n. take n ds) (place_end ds h) ∙ take_all (length ds) ds (omega arith)
-front_lem ds d false h = ap (λ n. take n (ds ++ 47 ∷ decimal d)) (place_slash ds (decimal d) h)
-    ∙ take_front ds (47 ∷ decimal d)
+front_lem ds d t h =
+    ap (λ n. take n (ds ++ tail_of t d)) (place_past ds (tail_of t d) h (at_once t))
+    ∙ take-append_seam ds (tail_of t d)
+  where
+    at_once : (t : Bool) → position_or_len is_slash (tail_of t d) ≡ 0
+    at_once true = refl
+    at_once false = refl
 
 back_lem : (ds : List ℕ) (d : ℕ) (t : Bool) → (d == 1) ≡ t → AllDigits 10 ds → d < 2 ^ 127
     → cond (list_any is_slash (ds ++ tail_of t d))
     (part_of (after_first is_slash (ds ++ tail_of t d))) (Some 1) ≡ Some d
 back_lem ds d true e h k =
-    ap (λ b. cond b (part_of (after_first is_slash (ds ++ []))) (Some 1))
-    (ap (list_any is_slash) (append-nil ds) ∙ no_slash ds h)
+    ap (λ b. cond b (part_of (after_first is_slash (ds ++ []))) (Some 1)) (slash_past ds [] h)
     ∙ ap Some (sym (eqb-true d 1 e))
 back_lem ds d false e h k =
     ap (λ b. cond b (part_of (after_first is_slash (ds ++ 47 ∷ decimal d))) (Some 1))
-    (some_slash ds (decimal d) h)
-    ∙ ap (λ n. part_of (drop (n + 1) (ds ++ 47 ∷ decimal d))) (place_slash ds (decimal d) h)
-    ∙ ap part_of (drop_front ds (decimal d))
+    (slash_past ds (47 ∷ decimal d) h)
+    ∙ ap (λ n. part_of (drop (n + 1) (ds ++ 47 ∷ decimal d)))
+    (place_past ds (47 ∷ decimal d) h refl)
+    ∙ ap part_of (drop-append-add ds (47 ∷ decimal d) 1)
     ∙ part_decimal d k
 
 module _ (n d : ℕ) (h : n < 2 ^ 127) (k : d < 2 ^ 127) where

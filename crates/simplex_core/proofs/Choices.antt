@@ -1,6 +1,6 @@
 -- The least and the best below a bound, found by a loop.
 use Rattle.std.specs.Prelude.{◌≡◌, ℕ, zero, suc, ◌+◌, ◌-◌, ◌<◌, ◌≤◌, Bool, true, false, ◌&&◌, ◌||◌, Option, Some, None}
-use Rattle.std.proofs.Common.{sym, ◌∙◌, ap, arith, is_lt, Ordering}
+use Rattle.std.proofs.Common.{sym, ◌∙◌, ap, add-one, arith, is_lt, Ordering}
 use Rattle.std.specs.Ordering.{is_eq}
 use Rattle.std.proofs.lemmas.Bool.{or_right}
 use Rattle.ratio_core.specs.Rational.{Rational, rational_cmp, rational_eq, ◌/ℚ◌}
@@ -10,15 +10,12 @@ use Rattle.simplex_laws.specs.SearchLaws.{all_below_at, all_below_failed, all_be
 use Rattle.simplex_form.specs.Search.{all_below, best_below, better_of, least_row, row_or_else, some_below}
 use Rattle.simplex_form.specs.Turns.{is_below}
 
-one_more : (n : ℕ) → n + 1 ≡ suc n
-one_more n = omega arith
-
 -- ---- the least row
 
 pub row_more : (n : ℕ) (column_of : ℕ → Option ℕ) → least_row n column_of ≡ None
     → column_of n ≡ None → least_row (n + 1) column_of ≡ None
 row_more n column_of e f =
-    ap (λ k. least_row k column_of) (one_more n) ∙ (λ i. row_or_else (e i) n (f i))
+    ap (λ k. least_row k column_of) (add-one n) ∙ (λ i. row_or_else (e i) n (f i))
 
 row_here : (r q : ℕ) (column_of : ℕ → Option ℕ) → least_row r column_of ≡ None
     → column_of r ≡ Some q → least_row (suc r) column_of ≡ Some (r, q)
@@ -40,7 +37,7 @@ pub best_more : (n : ℕ) (test : ℕ → Bool) (before : ℕ → ℕ → Bool) 
     → next ≡ best_below (n + 1) test before
 best_more n test before best next e f =
     f ∙ ap (λ o. better_of test before o n) e ∙ ap (λ k. best_below k test before)
-    (sym (one_more n))
+    (sym (add-one n))
 
 -- ---- which row leaves first
 
@@ -58,7 +55,7 @@ ratios_same a b c d x y z w r e f g h k = e ∙ (λ i. rational_cmp (f i /ℚ g 
 
 pub some_more : (n : ℕ) (test : ℕ → Bool) → some_below n test ≡ false → test n ≡ false
     → some_below (n + 1) test ≡ false
-some_more n test e f = ap (λ k. some_below k test) (one_more n) ∙ (λ i. e i || f i)
+some_more n test e f = ap (λ k. some_below k test) (add-one n) ∙ (λ i. e i || f i)
 
 pub some_found : (n k : ℕ) (test : ℕ → Bool) → k < n → test k ≡ true → some_below n test ≡ true
 some_found zero k test b e = absurd (omega (arith, b))
@@ -70,48 +67,30 @@ some_found (suc n) k test b e =
 -- ---- tests of the numbers from a on
 
 module _ (a : ℕ) (f : ℕ → Bool) where
+  back_lem : (j : ℕ) → a ≤ j → f (a + (j - a)) ≡ f j
+  back_lem j b = ap f (omega (arith, b))
+
   pub passed_none : (j : ℕ) → j ≡ a → all_below (j - a) (λ k. f (a + k)) ≡ true
-  passed_none j e = ap (λ n. all_below n (λ k. f (a + k))) (none_lem j a e)
-    where
-      none_lem : (j a : ℕ) → j ≡ a → j - a ≡ 0
-      none_lem j a e = omega (arith, e)
+  passed_none j e =
+      let none : j - a ≡ 0 = omega arith in ap (λ n. all_below n (λ k. f (a + k))) none
 
   pub passed_more : (j : ℕ) → a ≤ j → all_below (j - a) (λ k. f (a + k)) ≡ true → f j ≡ true
       → all_below (j + 1 - a) (λ k. f (a + k)) ≡ true
   passed_more j b h e =
-      ap (λ n. all_below n (λ k. f (a + k))) (more_lem j a b)
-      ∙ all_below_more (j - a) (λ k. f (a + k)) h (ap f (back_lem j a b) ∙ e)
-    where
-      more_lem : (j a : ℕ) → a ≤ j → j + 1 - a ≡ j - a + 1
-      more_lem j a b = omega (arith, b)
-
-      back_lem : (j a : ℕ) → a ≤ j → a + (j - a) ≡ j
-      back_lem j a b = omega (arith, b)
+      let more : j + 1 - a ≡ j - a + 1 = omega (arith, b) in
+      ap (λ n. all_below n (λ k. f (a + k))) more
+      ∙ all_below_more (j - a) (λ k. f (a + k)) h (back_lem j b ∙ e)
 
   pub passed_failed : (j m : ℕ) → a ≤ j → j < a + m → f j ≡ false
       → all_below m (λ k. f (a + k)) ≡ false
   passed_failed j m b c e =
-      all_below_failed m (j - a) (λ k. f (a + k)) (within_lem j a m b c) (ap f (back_lem j a b) ∙ e)
-    where
-      within_lem : (j a m : ℕ) → a ≤ j → j < a + m → j - a < m
-      within_lem j a m b c = omega (arith, b, c)
-
-      back_lem : (j a : ℕ) → a ≤ j → a + (j - a) ≡ j
-      back_lem j a b = omega (arith, b)
+      all_below_failed m (j - a) (λ k. f (a + k)) (omega (arith, b, c)) (back_lem j b ∙ e)
 
   pub passed_all : (j m : ℕ) → j ≡ a + m → all_below (j - a) (λ k. f (a + k)) ≡ true
       → all_below m (λ k. f (a + k)) ≡ true
-  passed_all j m e h = ap (λ n. all_below n (λ k. f (a + k))) (all_lem j a m e) ∙ h
-    where
-      all_lem : (j a m : ℕ) → j ≡ a + m → m ≡ j - a
-      all_lem j a m e = omega (arith, e)
+  passed_all j m e h =
+      let all : m ≡ j - a = omega arith in ap (λ n. all_below n (λ k. f (a + k))) all ∙ h
 
   pub passed_at : (j m : ℕ) → a ≤ j → j < a + m → all_below m (λ k. f (a + k)) ≡ true → f j ≡ true
   passed_at j m b c h =
-      ap f (sym (back_lem j a b)) ∙ all_below_at m (j - a) (λ k. f (a + k)) h (within_lem j a m b c)
-    where
-      within_lem : (j a m : ℕ) → a ≤ j → j < a + m → j - a < m
-      within_lem j a m b c = omega (arith, b, c)
-
-      back_lem : (j a : ℕ) → a ≤ j → a + (j - a) ≡ j
-      back_lem j a b = omega (arith, b)
+      sym (back_lem j b) ∙ all_below_at m (j - a) (λ k. f (a + k)) h (omega (arith, b, c))

@@ -1,7 +1,7 @@
 -- Numbers placed at the basic columns, one row after the other.
 use Rattle.std.specs.Prelude.{◌≡◌, ℕ, zero, suc, ◌+◌, ◌-◌, ◌<◌, ◌≤◌, List, [], ◌∷◌, ◌++◌, length, replicate, slice_set}
 use Rattle.std.specs.List.{range_with_len}
-use Rattle.std.proofs.Common.{sym, ◌∙◌, ap, ap₂, arith, subst}
+use Rattle.std.proofs.Common.{sym, ◌∙◌, ap, ap₂, add-one, add-zero, arith, subst}
 use Rattle.std.proofs.lemmas.List.{get_or-replicate, get_or-set_other, get_or-set_same, length-set, length-replicate}
 use Rattle.ratio_core.specs.Rational.{Rational, neg_ℚ, one_ℚ, zero_ℚ, ◌*ℚ◌, ◌+ℚ◌, ◌-ℚ◌, ◌‹ℚ◌}
 use Rattle.rational_laws.specs.Field.{*ℚ-neg_ℚ, +ℚ-neg_ℚ, +ℚ-zero, neg_ℚ-zero, one-*ℚ, zero-*ℚ, zero-+ℚ}
@@ -41,19 +41,13 @@ from_more a j f ys zs y b l e is =
 
 -- one more artificial column
 pub range_more : (a n : ℕ) → range_with_len a (n + 1) ≡ range_with_len a n ++ (a + n) ∷ []
-range_more a n = ap (range_with_len a) (more_lem n) ∙ range_suc a n
+range_more a n = ap (range_with_len a) (add-one n) ∙ range_suc a n
   where
-    more_lem : (n : ℕ) → n + 1 ≡ suc n
-    more_lem n = omega arith
-
-    here_lem : (a : ℕ) → a ≡ a + 0
-    here_lem a = omega arith
-
     next_lem : (a n : ℕ) → (a + 1) + n ≡ a + suc n
     next_lem a n = omega arith
 
     range_suc : (a n : ℕ) → range_with_len a (suc n) ≡ range_with_len a n ++ (a + n) ∷ []
-    range_suc a zero = ap (λ k. k ∷ []) (here_lem a)
+    range_suc a zero = ap (λ k. k ∷ []) (sym (add-zero a))
     range_suc a (suc n) =
         ap (λ xs. a ∷ xs) (range_suc (a + 1) n ∙ ap (λ k. range_with_len (a + 1) n ++ k ∷ [])
         (next_lem a n))
@@ -72,9 +66,6 @@ placed_none c at w xs e = record {
   cells = λ j b. ap (λ x. cell x j) e ∙ get_or-replicate c j zero_ℚ zero_ℚ b;
 }
 
-one_more : (n : ℕ) → suc n ≡ n + 1
-one_more n = omega arith
-
 away : (a j : ℕ) (w : Rational) → ¬ (a ≡ j) → delta a j *ℚ w ≡ zero_ℚ
 away a j w n = ap (λ x. x *ℚ w) (delta_other a j n) ∙ zero-*ℚ w
 
@@ -85,7 +76,7 @@ module _ (c n : ℕ) (at : ℕ → ℕ) (w : ℕ → Rational) where
   sum_past j x m e =
       e ∙ sym (+ℚ-zero (sum_to n (λ i. delta (at i) j *ℚ w i)))
       ∙ ap (λ y. sum_to n (λ i. delta (at i) j *ℚ w i) +ℚ y) (sym (away (at n) j (w n) m))
-      ∙ ap (λ k. sum_to k (λ i. delta (at i) j *ℚ w i)) (one_more n)
+      ∙ ap (λ k. sum_to k (λ i. delta (at i) j *ℚ w i)) (sym (add-one n))
 
   sum_here : ((i : ℕ) → i < n → ¬ (at i ≡ at n))
       → w n ≡ sum_to (n + 1) (λ i. delta (at i) (at n) *ℚ w i)
@@ -94,7 +85,7 @@ module _ (c n : ℕ) (at : ℕ → ℕ) (w : ℕ → Rational) where
       ∙ ap₂ ◌+ℚ◌ (sym (sum_to_zeros n (λ i. delta (at i) (at n) *ℚ w i)
       (λ i b. away (at i) (at n) (w i) (other i b))))
       (sym (ap (λ x. x *ℚ w n) (delta_same (at n)) ∙ one-*ℚ (w n)))
-      ∙ ap (λ k. sum_to k (λ i. delta (at i) (at n) *ℚ w i)) (one_more n)
+      ∙ ap (λ k. sum_to k (λ i. delta (at i) (at n) *ℚ w i)) (sym (add-one n))
 
   pub placed_past : (xs : List Rational) → IsPlacedTo c n at w xs → c ≤ at n
       → IsPlacedTo c (n + 1) at w xs

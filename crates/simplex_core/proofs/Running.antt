@@ -31,39 +31,22 @@ use Rattle.simplex_core.specs.Steps.{IsDue}
 
 ended_at : (F : Form) (n : ℕ) (s : State) → ends (bland.turn F s) ≡ true
     → outcome_from F n s ≡ ended s (bland.turn F s)
-ended_at F zero s e = cond-true (ends (bland.turn F s)) (ended s (bland.turn F s)) (limited s) e
-ended_at F (suc n) s e =
-    cond-true (ends (bland.turn F s)) (ended s (bland.turn F s))
-    (if turn_fits (readings F s) (bland.turn F s) then outcome_from F n
-    (next F s) else overflowing s) e
+ended_at F zero s e = cond-true _ _ _ e
+ended_at F (suc n) s e = cond-true _ _ _ e
 
 limited_at : (F : Form) (n : ℕ) (s : State) → n ≡ 0 → ends (bland.turn F s) ≡ false
     → outcome_from F n s ≡ limited s
-limited_at F n s z e =
-    ap (λ k. outcome_from F k s) z ∙ cond-false (ends (bland.turn F s)) (ended s (bland.turn F s))
-    (limited s) e
+limited_at F n s z e = ap (λ k. outcome_from F k s) z ∙ cond-false _ _ _ e
 
-refused_at : (F : Form) (n : ℕ) (s : State) → 0 < n → ends (bland.turn F s) ≡ false
-    → turn_fits (readings F s) (bland.turn F s) ≡ false → outcome_from F n s ≡ overflowing s
-refused_at F zero s b e f = absurd (omega (arith, b))
-refused_at F (suc n) s b e f =
-    cond-false (ends (bland.turn F s)) (ended s (bland.turn F s))
-    (if turn_fits (readings F s) (bland.turn F s) then outcome_from F n
-    (next F s) else overflowing s) e
-    ∙ cond-false (turn_fits (readings F s) (bland.turn F s)) (outcome_from F n (next F s))
-    (overflowing s) f
-
+-- where the turn doesn't end and a step is left, by the test that it fits
 goes_on_at : (F : Form) (n : ℕ) (s : State) → 0 < n → ends (bland.turn F s) ≡ false
-    → turn_fits (readings F s) (bland.turn F s) ≡ true
-    → outcome_from F n s ≡ outcome_from F (n - 1) (next F s)
-goes_on_at F zero s b e f = absurd (omega (arith, b))
-goes_on_at F (suc n) s b e f =
-    cond-false (ends (bland.turn F s)) (ended s (bland.turn F s))
-    (if turn_fits (readings F s) (bland.turn F s) then outcome_from F n
-    (next F s) else overflowing s) e
-    ∙ cond-true (turn_fits (readings F s) (bland.turn F s)) (outcome_from F n (next F s))
-    (overflowing s) f
-    ∙ ap (λ k. outcome_from F k (next F s)) (back_lem n)
+    → outcome_from F n s ≡ (if turn_fits (readings F s) (bland.turn F s) then outcome_from F (n - 1)
+    (next F s) else overflowing s)
+goes_on_at F zero s b e = absurd (omega (arith, b))
+goes_on_at F (suc n) s b e =
+    cond-false _ _ _ e
+    ∙ ap (λ k. if turn_fits (readings F s) (bland.turn F s) then outcome_from F k
+    (next F s) else overflowing s) (back_lem n)
   where
     back_lem : (n : ℕ) → n ≡ suc n - 1
     back_lem n = omega arith
@@ -117,9 +100,9 @@ board_in : (F : Form) (s : State) (t : Contents) (phase : Phase)
 board_in F s t phase u h =
     agrees_less (uses_first phase) t.in_first (readings_of t) (readings F s) u h
 
-module _ (F : Form) (n left : ℕ) (phase : Phase) (t : Contents) (a : IsAtStep F n left phase t)
-    (kept : IsInPhase phase t) (turn : Turn) (by : turn ≡ bland.turn_in phase (readings_of t)) where
-  pub is_due : IsDue F a.state t turn
+module _ {F : Form} {n left : ℕ} {phase : Phase} {t : Contents} (a : IsAtStep F n left phase t)
+    (kept : IsInPhase phase t) {turn : Turn} (by : turn ≡ bland.turn_in phase (readings_of t)) where
+  is_due : IsDue F a.state t turn
   is_due = record {
     stands = a.stands;
     board = a.board;
@@ -129,43 +112,46 @@ module _ (F : Form) (n left : ℕ) (phase : Phase) (t : Contents) (a : IsAtStep 
         ∙ ap (λ p. bland.turn_in p (readings F a.state)) (sym a.told);
   }
 
-  due_ends : (b : Turn) → turn ≡ b → ends b ≡ ends (bland.turn F a.state)
-  due_ends b e = ap ends (sym e) ∙ ap ends is_due.due
+  due_ends : {b : Turn} {answer : Bool} → turn ≡ b → ends b ≡ answer
+      → ends (bland.turn F a.state) ≡ answer
+  due_ends e k = ap ends (sym is_due.due ∙ e) ∙ k
 
-  pub tells_end : (b : Turn) (answer : SolverAnswer) → turn ≡ b → ends b ≡ true
+  pub tells_end : {b : Turn} (answer : SolverAnswer) → turn ≡ b → ends b ≡ true
       → (IsDue F a.state t b → IsReadOff F a.state b answer)
       → Tells F n (outcome_from F n (start F)) (Ok answer)
-  tells_end b answer e k read =
+  tells_end {b} answer e k read =
       let due : IsDue F a.state t b = subst (IsDue F a.state t) e is_due in (
         a.state,
         b,
-        a.rest ∙ ended_at F left a.state (sym (due_ends b e) ∙ k)
-            ∙ ap (ended a.state) (sym due.due),
+        a.rest ∙ ended_at F left a.state (due_ends e k) ∙ ap (ended a.state) (sym due.due),
         read due,
       )
 
-  pub tells_limit : (b : Turn) (basis : List ℕ) → turn ≡ b → ends b ≡ false → left ≡ 0
+  pub tells_limit : {b : Turn} {basis : List ℕ} → turn ≡ b → ends b ≡ false → left ≡ 0
       → basis ≡ t.basis → Tells F n (outcome_from F n (start F)) (Err (Limit basis n))
-  tells_limit b basis e k z same = (
+  tells_limit e k z same = (
     a.state,
-    a.rest ∙ limited_at F left a.state z (sym (due_ends b e) ∙ k),
-    same
-        ∙ a.board.basis,
+    a.rest ∙ limited_at F left a.state z (due_ends e k),
+    same ∙ a.board.basis,
     refl,
   )
 
-  pub tells_overflow : (b : Turn) (basis : List ℕ) → turn ≡ b → ends b ≡ false → 0 < left
+  -- what comes out by whether the turn fits
+  stepped : {b : Turn} {fit : Bool} → turn ≡ b → ends b ≡ false → 0 < left
+      → turn_fits (readings F a.state) b ≡ fit → outcome_from F n (start F)
+      ≡ (if fit then outcome_from F (left - 1) (next F a.state) else overflowing a.state)
+  stepped e k c fits =
+      a.rest ∙ goes_on_at F left a.state c (due_ends e k)
+      ∙ ap (λ x. if x then outcome_from F (left - 1) (next F a.state) else overflowing a.state)
+      (ap (turn_fits (readings F a.state)) (sym is_due.due ∙ e) ∙ fits)
+
+  pub tells_overflow : {b : Turn} {basis : List ℕ} → turn ≡ b → ends b ≡ false → 0 < left
       → turn_fits (readings F a.state) b ≡ false → basis ≡ t.basis
       → Tells F n (outcome_from F n (start F)) (Err (Overflow basis))
-  tells_overflow b basis e k c fits same = (
-    a.state,
-    a.rest ∙ refused_at F left a.state c (sym (due_ends b e) ∙ k)
-        (ap (turn_fits (readings F a.state)) (sym is_due.due ∙ e) ∙ fits),
-    same ∙ a.board.basis,
-  )
+  tells_overflow e k c fits same = (a.state, stepped e k c fits, same ∙ a.board.basis)
 
   -- a pivot
-  module _ (next_phase : Phase) (r q : ℕ) (is : turn ≡ Pivot next_phase r q)
+  module _ {next_phase : Phase} {r q : ℕ} (is : turn ≡ Pivot next_phase r q)
       (within : IsWithin t (Pivot next_phase r q)) where
     column : q < t.reals → q < t.reals + length t.rows
     column b = omega (arith, b)
@@ -173,33 +159,31 @@ module _ (F : Form) (n left : ℕ) (phase : Phase) (t : Contents) (a : IsAtStep 
     before : IsBoardOf F a.state (in_phase next_phase t)
     before = board_in F a.state t next_phase within.0 a.board
 
-    pivot_fit : (made : Bool) → made ≡ pivot_fits (uses_first next_phase) (readings_of t) r q
-        → turn_fits (readings F a.state) (Pivot next_phase r q) ≡ made
-    pivot_fit made e =
+    pivot_fit : {made fit : Bool} → made ≡ pivot_fits (uses_first next_phase) (readings_of t) r q
+        → made ≡ fit → turn_fits (readings F a.state) (Pivot next_phase r q) ≡ fit
+    pivot_fit e made =
         sym (e ∙ fits_same F a.state next_phase r q (in_phase next_phase t) before within.1
-        (column within.2))
+        (column within.2)) ∙ made
 
-    pub tells_refused : (made : Bool) (basis : List ℕ) (u : Contents) → 0 < left
+    pub tells_refused : {made : Bool} {basis : List ℕ} {u : Contents} → 0 < left
         → made ≡ pivot_fits (uses_first next_phase) (readings_of t) r q → made ≡ false
         → u ≡ in_phase next_phase t → basis ≡ u.basis → Tells F n (outcome_from F n (start F))
         (Err (Overflow basis))
-    tells_refused made basis u c e failed stays same =
-        tells_overflow (Pivot next_phase r q) basis is refl c (pivot_fit made e ∙ failed) (same
-        ∙ ap (λ x. x.basis) stays)
+    tells_refused c e failed stays same =
+        tells_overflow is refl c (pivot_fit e failed) (same ∙ ap (λ x. x.basis) stays)
 
     next_is : next F a.state ≡ pivot F a.state next_phase r q
     next_is = ap (after F a.state) (sym is_due.due ∙ is)
 
-    pub at_next : (made : Bool) (u : Contents) → 0 < left
+    pub at_next : {made : Bool} {u : Contents} → 0 < left
         → made ≡ pivot_fits (uses_first next_phase) (readings_of t) r q → made ≡ true
         → IsPivoted r q (in_phase next_phase t) u → IsAtStep F n (left - 1) next_phase u
-    at_next made u c e ok p = record {
+    at_next {u = u} c e ok p = record {
       state = next F a.state;
       stands = after_stands F a.state a.stands (bland.turn F a.state)
           (turn_says F a.state a.stands);
       board = subst (λ x. IsBoardOf F x u) (sym next_is) (next_board F a.state next_phase r q
           (in_phase next_phase t) before within.1 (column within.2) u a.stands.basis within.3 p);
       told = ap (λ x. x.phase) next_is ∙ phase-pivot F a.state next_phase r q;
-      rest = a.rest ∙ goes_on_at F left a.state c (sym (due_ends (Pivot next_phase r q) is))
-          (ap (turn_fits (readings F a.state)) (sym is_due.due ∙ is) ∙ pivot_fit made e ∙ ok);
+      rest = stepped is refl c (pivot_fit e ok);
     }

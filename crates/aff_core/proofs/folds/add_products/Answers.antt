@@ -16,8 +16,7 @@ loop-address-preserved c =
     subst (λ m. AddsAsAll c.args.by.now c.args.sums.now m c.args.terms.now
     (drop (c.loop-address.address-index + 1) c.args.terms.now))
     (sym (c.in_ok-add_at.ensures.1 ∙ ap (λ q. added_at c.loop-address.sums item.0 q) is))
-    (adds-step c.args.by.now c.args.sums.now c.loop-address.sums c.args.terms.now _ _ item
-    c.loop-address.invariant next c.in_ok-product.ensures.exact.0
+    (adds-step c.loop-address.invariant next c.in_ok-product.ensures.exact.0
     (subst (MeetsFit (get c.loop-address.sums item.0)) is c.in_ok-add_at.ensures.0))
 
 pub returns-in_err-add_at : goal.returns-in_err-add_at
@@ -29,11 +28,9 @@ returns-in_err-add_at c =
     (MeetsFit (get c.loop-address.sums item.0) c.in_ok-product.product) _ _ _
     c.from_residual-in_err-add_at.ensures.1 c.in_err-add_at.ensures
     (λ h. subst (MeetsFit (get c.loop-address.sums item.0)) (sym c.in_ok-product.ensures.exact.1)
-    (adds-meets_fit c.args.by.now c.args.sums.now c.loop-address.sums c.args.terms.now _ _ item
-    c.loop-address.invariant next h.0 h.1))
+    (adds-meets_fit c.loop-address.invariant next h.0 h.1))
 
 pub returns : goal.returns
 returns c =
-    adds-end c.args.by.now c.args.sums.now c.loop-address.sums c.args.terms.now
-    (subst (AddsAsAll c.args.by.now c.args.sums.now c.loop-address.sums c.args.terms.now)
-    (drop_of_length-le c.args.terms.now c.loop-address-test.false) c.loop-address.invariant)
+    adds-end c.loop-address.invariant
+    (drop_of_length-le c.args.terms.now c.loop-address-test.false)

@@ -1,7 +1,5 @@
-use Rattle.std.proofs.Common.{◌∙◌, sym}
+use Rattle.std.proofs.Common.{◌∙◌, ap, sym}
 use Rattle.std.specs.Str.Parse.{digits_value}
-use Rattle.mof_text.specs.Decimal.{over_ten, times_ten}
-use Rattle.mof_text.specs.Numeral.{number_of}
 use Rattle.mof_text.proofs.NumberLaws.{down_by, some_digits, up_by, zero_some}
 use Rattle.mof_text.proofs.Parts.{same_fit}
 use Rattle.mof_text.proofs.decimal.long_number.Goals as goal
@@ -25,24 +23,18 @@ times_ten-requires-clause-nonzero c =
 
 pub returns-then-is_exponent_negative : goal.returns-then-is_exponent_negative
 returns-then-is_exponent_negative c =
-    same_fit c.over_ten.result (over_ten c.args.is_negative c.whole-whole.result.now
-    c.fraction-fraction.result.now (digits_value 10 c.exponent.result.now))
-    (number_of c.args.is_negative c.args.numeral.now)
-    (down_by c.args.is_negative c.args.numeral.now c.whole-whole.result.now
-    c.fraction-fraction.result.now c.exponent.result.now
-    c.whole-whole.ensures.value c.fraction-fraction.ensures.value c.exponent.ensures.value
+    same_fit c.over_ten.result _ _
+    (down_by c.args.is_negative c.args.numeral.now c.whole-whole.ensures.value
+    c.fraction-fraction.ensures.value
+    (ap (digits_value 10) c.exponent.ensures.value)
     (sym c.is_exponent_negative.ensures ∙ c.if-is_exponent_negative.true))
     c.over_ten.ensures
 
 pub returns-else-is_exponent_negative : goal.returns-else-is_exponent_negative
 returns-else-is_exponent_negative c =
-    same_fit c.times_ten.result (times_ten c.args.is_negative c.whole-whole.result.now
-    c.fraction-fraction.result.now (digits_value 10
-    c.exponent-else-is_exponent_negative.result.now))
-    (number_of c.args.is_negative c.args.numeral.now)
-    (up_by c.args.is_negative c.args.numeral.now c.whole-whole.result.now
-    c.fraction-fraction.result.now c.exponent-else-is_exponent_negative.result.now
-    c.whole-whole.ensures.value c.fraction-fraction.ensures.value
-    c.exponent-else-is_exponent_negative.ensures.value (sym c.is_exponent_negative.ensures
-    ∙ c.if-is_exponent_negative.false))
+    same_fit c.times_ten.result _ _
+    (up_by c.args.is_negative c.args.numeral.now c.whole-whole.ensures.value
+    c.fraction-fraction.ensures.value
+    (ap (digits_value 10) c.exponent-else-is_exponent_negative.ensures.value)
+    (sym c.is_exponent_negative.ensures ∙ c.if-is_exponent_negative.false))
     c.times_ten.ensures

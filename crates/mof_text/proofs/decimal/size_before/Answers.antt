@@ -1,21 +1,17 @@
-use Rattle.std.proofs.Common.{◌≡◌, ◌*◌, ◌^◌, ◌++◌, None, sym, subst}
-use Rattle.std.specs.Str.Parse.{AllDigits, digits_value}
+use Rattle.std.proofs.Common.{sym, subst}
+use Rattle.std.specs.Str.Parse.{AllDigits}
 use Rattle.mof_text.proofs.DigitLaws.{AllDigits-zeros}
 use Rattle.mof_text.proofs.Parts.{first_large, large_none, last_large, scaled_is}
 use Rattle.mof_text.proofs.decimal.size_before.Goals as goal
 
 pub returns-in_err-value_after : goal.returns-in_err-value_after
 returns-in_err-value_after c =
-    let none : c.from_residual.result ≡ None = cc in
-    large_none c.from_residual.result (digits_value 10 (c.args.first.now ++ c.args.last.now) * 10
-    ^ c.args.count) none
+    large_none c.from_residual.result _ (cc)
     (first_large c.args.count c.args.first.now c.args.last.now c.in_err-value_after.ensures)
 
 pub returns-in_err-size : goal.returns-in_err-size
 returns-in_err-size c =
-    let none : c.from_residual-in_err-size.result ≡ None = cc in
-    large_none c.from_residual-in_err-size.result
-    (digits_value 10 (c.args.first.now ++ c.args.last.now) * 10 ^ c.args.count) none
+    large_none c.from_residual-in_err-size.result _ (cc)
     (last_large c.args.count c.args.first.now c.args.last.now c.in_ok-value_after.field-0
     c.in_ok-value_after.ensures.1 c.in_err-size.ensures)
 

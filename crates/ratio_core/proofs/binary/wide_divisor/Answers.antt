@@ -20,7 +20,4 @@ returns-clause-value c =
 
 pub returns-clause-positive : goal.returns-clause-positive
 returns-clause-positive c =
-    let value = twice_divisor w128 c.args.a c.args.b c.odd_wide_divisor.result c.lesser_count.result
-    c.requires.left c.requires.right c.ranges.a.fits c.ranges.b.fits c.odd_wide_divisor.ensures
-    c.lesser_count.ensures in
-    subst (λ x. 0 < x) (sym value) (gcd_pos c.args.a c.args.b c.requires.right)
+    subst (λ x. 0 < x) (sym (returns-clause-value c)) (gcd_pos c.args.a c.args.b c.requires.right)

@@ -26,12 +26,12 @@ loop-rest-init c =
 pub loop-rest-preserved : goal.loop-rest-preserved
 loop-rest-preserved c =
     let i = c.loop-rest.invariant in
+    let room = digit_room c.loop-rest.text _ c.loop-rest.start c.args.end c.loop-rest.rest i.within
+    i.room i.below (omega arith) (omega arith) i.written c.if-rest-eq0.false in
     record {
       within = omega arith;
-      room = (digit_room c.loop-rest.text _ c.loop-rest.start c.args.end c.loop-rest.rest i.within
-          i.room i.below (omega arith) (omega arith) i.written c.if-rest-eq0.false).0;
-      below = (digit_room c.loop-rest.text _ c.loop-rest.start c.args.end c.loop-rest.rest i.within
-          i.room i.below (omega arith) (omega arith) i.written c.if-rest-eq0.false).1;
+      room = room.0;
+      below = room.1;
       length = length-set c.loop-rest.text (c.loop-rest.start - 1) (48 + c.loop-rest.rest % 10)
           ∙ i.length;
       written = digit_more c.loop-rest.text _ c.loop-rest.start c.args.end c.loop-rest.rest i.within

@@ -1,5 +1,4 @@
-use Rattle.std.proofs.Common.{arith, is_ok, refl, sym, ◌∙◌}
-use Rattle.simplex_form.specs.declared.turn.Turn.TheVariants.{Infeasible, Optimal, Pivot, Stuck, Unbounded}
+use Rattle.std.proofs.Common.{arith, refl, sym, ◌∙◌}
 use Rattle.simplex_core.proofs.Running.{at_next, at_start, made_and, refused_and, tells_end, tells_limit, tells_overflow, tells_refused}
 use Rattle.simplex_core.proofs.run.run.Goals as goal
 
@@ -12,59 +11,43 @@ steps-init g c = record {
 pub returns-in-Infeasible : goal.returns-in-Infeasible
 returns-in-Infeasible g c = λ F h b.
     let a = c.steps.invariant.steps F h b in
-    tells_end F c.args.pivots c.steps.left c.steps.phase (g.T.Tableau.contents c.steps.board) a
-    c.steps.invariant.phase c.turn.result c.turn.ensures.turn Infeasible
-    c.in_ok-infeasible-in-Infeasible.field-0 c.in-Infeasible.is refl
-    (c.in_ok-infeasible-in-Infeasible.ensures F a.state)
+    tells_end a c.steps.invariant.phase c.turn.ensures.turn c.in_ok-infeasible-in-Infeasible.field-0
+    c.in-Infeasible.is refl (c.in_ok-infeasible-in-Infeasible.ensures F a.state)
 
 pub returns-in-Unbounded : goal.returns-in-Unbounded
 returns-in-Unbounded g c = λ F h b.
     let a = c.steps.invariant.steps F h b in
-    tells_end F c.args.pivots c.steps.left c.steps.phase (g.T.Tableau.contents c.steps.board) a
-    c.steps.invariant.phase c.turn.result c.turn.ensures.turn (Unbounded c.in-Unbounded.column)
-    c.in_ok-unbounded-in-Unbounded.field-0 c.in-Unbounded.is refl
-    (c.in_ok-unbounded-in-Unbounded.ensures F a.state)
+    tells_end a c.steps.invariant.phase c.turn.ensures.turn c.in_ok-unbounded-in-Unbounded.field-0
+    c.in-Unbounded.is refl (c.in_ok-unbounded-in-Unbounded.ensures F a.state)
 
 pub returns-in-Optimal : goal.returns-in-Optimal
 returns-in-Optimal g c = λ F h b.
     let a = c.steps.invariant.steps F h b in
-    tells_end F c.args.pivots c.steps.left c.steps.phase (g.T.Tableau.contents c.steps.board) a
-    c.steps.invariant.phase c.turn.result c.turn.ensures.turn Optimal
-    c.in_ok-optimal-in-Optimal.field-0 c.in-Optimal.is refl
-    (c.in_ok-optimal-in-Optimal.ensures F a.state)
+    tells_end a c.steps.invariant.phase c.turn.ensures.turn c.in_ok-optimal-in-Optimal.field-0
+    c.in-Optimal.is refl (c.in_ok-optimal-in-Optimal.ensures F a.state)
 
 pub returns-then-left-eq0 : goal.returns-then-left-eq0
 returns-then-left-eq0 g c = λ F h b.
-    let a = c.steps.invariant.steps F h b in
-    tells_limit F c.args.pivots c.steps.left c.steps.phase (g.T.Tableau.contents c.steps.board) a
-    c.steps.invariant.phase c.turn.result c.turn.ensures.turn Stuck c.in_ok-basis-in-Stuck.basis
+    tells_limit (c.steps.invariant.steps F h b) c.steps.invariant.phase c.turn.ensures.turn
     c.in-Stuck.is refl c.if-left-eq0.true c.in_ok-basis-in-Stuck.ensures
 
 pub returns-in-Stuck : goal.returns-in-Stuck
 returns-in-Stuck g c = λ F h b.
-    let a = c.steps.invariant.steps F h b in
-    tells_overflow F c.args.pivots c.steps.left c.steps.phase (g.T.Tableau.contents c.steps.board) a
-    c.steps.invariant.phase c.turn.result c.turn.ensures.turn Stuck c.in_ok-basis-in-Stuck.basis
+    tells_overflow (c.steps.invariant.steps F h b) c.steps.invariant.phase c.turn.ensures.turn
     c.in-Stuck.is refl (omega arith) refl c.in_ok-basis-in-Stuck.ensures
 
 pub returns-then-left-eq0-2 : goal.returns-then-left-eq0-2
 returns-then-left-eq0-2 g c = λ F h b.
-    let a = c.steps.invariant.steps F h b in
-    tells_limit F c.args.pivots c.steps.left c.steps.phase (g.T.Tableau.contents c.steps.board) a
-    c.steps.invariant.phase c.turn.result c.turn.ensures.turn
-    (Pivot c.in-Pivot.next c.in-Pivot.row c.in-Pivot.column) c.in_ok-basis-in-Pivot.basis
+    tells_limit (c.steps.invariant.steps F h b) c.steps.invariant.phase c.turn.ensures.turn
     c.in-Pivot.is refl c.if-left-eq0-2.true c.in_ok-basis-in-Pivot.ensures
 
 pub returns-then-is_err : goal.returns-then-is_err
 returns-then-is_err g c = λ F h b.
-    let a = c.steps.invariant.steps F h b in
     let made = refused_and c.step.result _ _ c.step.ensures.board (sym c.is_err.ensures.value
     ∙ c.if-is_err.true) in
-    tells_refused F c.args.pivots c.steps.left c.steps.phase (g.T.Tableau.contents c.steps.board) a
-    c.steps.invariant.phase c.turn.result c.turn.ensures.turn c.in-Pivot.next c.in-Pivot.row
-    c.in-Pivot.column c.in-Pivot.is c.in-Pivot.ensures.within (is_ok c.step.result)
-    c.in_ok-basis-in-Pivot-2.basis (g.T.Tableau.contents c.step.new.board) (omega arith)
-    c.step.ensures.fits made.0 made.1 c.in_ok-basis-in-Pivot-2.ensures
+    tells_refused (c.steps.invariant.steps F h b) c.steps.invariant.phase c.turn.ensures.turn
+    c.in-Pivot.is c.in-Pivot.ensures.within (omega arith) c.step.ensures.fits made.0 made.1
+    c.in_ok-basis-in-Pivot-2.ensures
 
 pub steps-preserved : goal.steps-preserved
 steps-preserved g c =
@@ -73,10 +56,6 @@ steps-preserved g c =
     record {
       phase = made.1.in_first;
       steps = λ F h b.
-          let a = c.steps.invariant.steps F h b in
-          at_next F c.args.pivots c.steps.left c.steps.phase (g.T.Tableau.contents c.steps.board) a
-          c.steps.invariant.phase c.turn.result c.turn.ensures.turn c.in-Pivot.next
-          c.in-Pivot.row c.in-Pivot.column c.in-Pivot.is c.in-Pivot.ensures.within
-          (is_ok c.step.result) (g.T.Tableau.contents c.step.new.board) (omega arith)
-          c.step.ensures.fits made.0 made.1;
+          at_next (c.steps.invariant.steps F h b) c.steps.invariant.phase c.turn.ensures.turn
+          c.in-Pivot.is c.in-Pivot.ensures.within (omega arith) c.step.ensures.fits made.0 made.1;
     }

@@ -9,6 +9,7 @@ use Rattle.aff_core.specs.declared.root.Root.{Root}
 use Rattle.aff_core.specs.declared.root.Root.TheVariants.{Variable, Group, Row, Objective}
 use Rattle.aff_core.specs.contracts.root.RootOrd.TheImpl as roots
 use Rattle.aff_core.proofs.address.AddressOrd.cmp.Goals as goal
+use Rattle.aff_core.proofs.address.AddressOrd.cmp.Goals.{After-cmp}
 
 -- the derived order of the roots is that of their places
 root_cmp-number : (r s : Root) → (roots.ghosts).cmp r s ≡ nat_cmp (root_number r) (root_number s)
@@ -70,23 +71,21 @@ first_is a b r s m n x y e f p q u v =
     (λ i. ordering_then (e i) (f i)) ∙ ap (λ o. ordering_then o (nat_cmp m n)) (root_cmp-number r s)
     ∙ (λ i. ordering_then (nat_cmp (root_number (p i)) (root_number (q i))) (nat_cmp (u i) (v i)))
 
-pub returns-in-Equal : goal.returns-in-Equal
-returns-in-Equal c =
-    let first : ordering_then c.cmp-first.result c.cmp.result
-    ≡ first_cmp c.args.self.now c.args.other.now =
+first : (c : After-cmp) → ordering_then c.cmp-first.result c.cmp.result
+    ≡ first_cmp c.args.self.now c.args.other.now
+first c =
     first_is c.args.self.now c.args.other.now _ _ _ _ _ _ c.cmp-first.ensures c.cmp.ensures
     (ap (λ a. a.root) c.self.view_is) (ap (λ a. a.root) c.other.view_is)
-    (ap (λ a. a.number) c.self.view_is) (ap (λ a. a.number) c.other.view_is) in
+    (ap (λ a. a.number) c.self.view_is) (ap (λ a. a.number) c.other.view_is)
+
+pub returns-in-Equal : goal.returns-in-Equal
+returns-in-Equal c =
     c.cmp-in-Equal.ensures ∙ (λ i. slice_cmp nat_cmp (c.positions.ensures i)
     (c.positions-in-Equal.ensures i))
-    ∙ by_positions c.args.self.now c.args.other.now (c.in-Equal.ensures ∙ first)
+    ∙ by_positions c.args.self.now c.args.other.now (c.in-Equal.ensures
+    ∙ first (goal.at.returns-in-Equal c).After-cmp)
 
 pub returns-in_default : goal.returns-in_default
 returns-in_default c =
-    let first : ordering_then c.cmp-first.result c.cmp.result
-    ≡ first_cmp c.args.self.now c.args.other.now =
-    first_is c.args.self.now c.args.other.now _ _ _ _ _ _ c.cmp-first.ensures c.cmp.ensures
-    (ap (λ a. a.root) c.self.view_is) (ap (λ a. a.root) c.other.view_is)
-    (ap (λ a. a.number) c.self.view_is) (ap (λ a. a.number) c.other.view_is) in
     by_first c.args.self.now c.args.other.now c.then.result (c.then.ensures
-    ∙ first) c.in_default.not-Equal
+    ∙ first (goal.at.returns-in_default c).After-cmp) c.in_default.not-Equal

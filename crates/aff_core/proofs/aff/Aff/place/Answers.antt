@@ -9,6 +9,7 @@ use Rattle.aff_core.specs.Kept.{IsPlaceOf, IsAbsent}
 use Rattle.aff_core.proofs.Changed.{span_found}
 use Rattle.map_laws.specs.EntryLaws.{searched}
 use Rattle.aff_core.proofs.aff.Aff.place.Goals as goal
+use Rattle.aff_core.proofs.aff.Aff.place.Goals.{After-binary_search_by}
 
 -- what a search among the terms finds
 placed : (f : Function) (at : Address) (r : Result ℕ ℕ) → IsSearchInRange r (length (terms_of f))
@@ -30,26 +31,24 @@ placed f at (Err n) range parted = (
   },
 )
 
+found : (c : After-binary_search_by)
+    → IsSearchInRange c.binary_search_by.result (length (terms_of c.args.self.now))
+    × IsBinarySearchResult (λ t. address_cmp t.0 c.args.at.now) (terms_of c.args.self.now)
+    c.binary_search_by.result
+found c =
+    let by_address = c.binary_search_by.ensures.position (λ t. address_cmp t.0 c.args.at.now)
+    (always_returns_same _ _ _ (λ a r f called. search rules)) in (
+      rw (← c.terms.ensures.all) c.binary_search_by.ensures.bound,
+      rw (← c.terms.ensures.all) by_address,
+    )
+
 pub returns-clause-found : goal.returns-clause-found
 returns-clause-found c =
-    let by_address = c.binary_search_by.ensures.position (λ t. address_cmp t.0 c.args.at.now)
-    (always_returns_same _ _ _ (λ a r f called. search rules)) in
-    (placed c.args.self.now c.args.at.now _
-    (rw (← c.terms.ensures.all) c.binary_search_by.ensures.bound)
-    (rw (← c.terms.ensures.all) by_address)).0
+    (placed c.args.self.now c.args.at.now _ (found c).0 (found c).1).0
 
 pub returns-clause-absent : goal.returns-clause-absent
 returns-clause-absent c =
-    let by_address = c.binary_search_by.ensures.position (λ t. address_cmp t.0 c.args.at.now)
-    (always_returns_same _ _ _ (λ a r f called. search rules)) in
-    (placed c.args.self.now c.args.at.now _
-    (rw (← c.terms.ensures.all) c.binary_search_by.ensures.bound)
-    (rw (← c.terms.ensures.all) by_address)).1
+    (placed c.args.self.now c.args.at.now _ (found c).0 (found c).1).1
 
 pub returns-clause-span : goal.returns-clause-span
-returns-clause-span c =
-    let by_address = c.binary_search_by.ensures.position (λ t. address_cmp t.0 c.args.at.now)
-    (always_returns_same _ _ _ (λ a r f called. search rules)) in
-    span_found c.args.self.now c.args.at.now _
-    (rw (← c.terms.ensures.all) c.binary_search_by.ensures.bound)
-    (rw (← c.terms.ensures.all) by_address)
+returns-clause-span c = span_found c.args.self.now c.args.at.now _ (found c).0 (found c).1

@@ -21,22 +21,18 @@ loop-address-init c =
 
 pub loop-address-preserved : goal.loop-address-preserved
 loop-address-preserved c =
-    as_all-step c.args.self.now.constant c.loop-address.value (terms_of c.args.self.now) _ _
-    c.loop-address-item.result (number_at c.args.at.now) c.unwrap-number.result.now
-    c.loop-address.invariant
+    as_all-step c.loop-address.invariant
     (next_item (terms_of c.args.self.now) c.terms-address-items.result.now
     c.loop-address.address-index c.loop-address-item.result c.terms-address-items.ensures.all
     c.loop-address-item.is c.loop-address-test.true)
     (found_is c.args.at.now c.loop-address-item.result.0 c.get.result c.unwrap-number.result zero_ℚ
     c.get.ensures c.unwrap-number.ensures)
-    c.in_ok-value.value c.in_ok-value.ensures.exact.0 c.in_ok-value.ensures.exact.1
+    c.in_ok-value.ensures.exact.0 c.in_ok-value.ensures.exact.1
 
 pub returns-in_err-value-clause-exact : goal.returns-in_err-value-clause-exact
 returns-in_err-value-clause-exact c =
     refused c.from_residual.result _ _ c.from_residual.ensures.0
-    (as_all-refused c.args.self.now.constant c.loop-address.value (terms_of c.args.self.now) _ _
-    c.loop-address-item.result (number_at c.args.at.now) c.unwrap-number.result.now
-    c.loop-address.invariant
+    (as_all-refused c.loop-address.invariant
     (next_item (terms_of c.args.self.now) c.terms-address-items.result.now
     c.loop-address.address-index c.loop-address-item.result c.terms-address-items.ensures.all
     c.loop-address-item.is c.loop-address-test.true)
@@ -50,7 +46,5 @@ returns-clause-exact c =
     drop_of_length-le (terms_of c.args.self.now)
     (subst (λ l. length l ≤ c.loop-address.address-index) c.terms-address-items.ensures.all
     c.loop-address-test.false) in
-    let all = as_all-end c.args.self.now.constant c.loop-address.value (terms_of c.args.self.now)
-    (number_at c.args.at.now) (subst (λ l. IsAsAll c.args.self.now.constant c.loop-address.value
-    (terms_of c.args.self.now) l (number_at c.args.at.now)) done c.loop-address.invariant) in
+    let all = as_all-end c.loop-address.invariant done in
     (all.0, all.1 ∙ value_from-value_of c.args.self.now (number_at c.args.at.now))

@@ -1,7 +1,9 @@
-use Rattle.std.proofs.Common.{◌∙◌, of_z, to_z, to_z-of_z, w64}
+use Rattle.std.proofs.Common.{◌*◌, ◌∙◌, of_z, to_z, to_z-of_z, w64}
 use mir.Syntax.{w128}
-use Rattle.ratio_core.proofs.NarrowLaws.{fits_along, narrow_sum_fits, narrow_sum_stored, narrow_sum_value}
+use Rattle.ratio_core.proofs.NarrowLaws.{fits_along, narrow_sum}
+use Rattle.ratio_core.proofs.Sums.{IsSum}
 use Rattle.ratio_core.proofs.fraction.Ratio.add_narrow.Goals as goal
+use Rattle.ratio_core.proofs.fraction.Ratio.add_narrow.Goals.{After-signed_quotient}
 
 pub signed_quotient-requires-clause-fits : goal.signed_quotient-requires-clause-fits
 signed_quotient-requires-clause-fits c =
@@ -10,59 +12,29 @@ signed_quotient-requires-clause-fits c =
       sfits = c.sum_of_products-sum.type_inv;
     })) c.sum_of_products-sum.ensures.fits
 
-pub keep-requires : goal.keep-requires
-keep-requires c =
-    narrow_sum_stored c.args.self.now c.args.other.now c.narrow_over-left_den.result
-    c.narrow_over-right_den.result
-    c.narrow_divisor-common.result c.narrow_quotient-left_over.result
-    c.narrow_quotient-right_over.result
+made : (c : After-signed_quotient) → IsSum c.args.self.now c.args.other.now
+    (to_z w128 (of_z w128 c.signed_quotient.result))
+    (c.narrow_quotient-left_over.result * c.narrow_quotient.result)
+made c =
+    narrow_sum c.args.self.now c.args.other.now
     c.narrow_over-left_den.ensures.value c.narrow_over-right_den.ensures.value
-    c.narrow_divisor-common.ensures.value
-    c.narrow_quotient-left_over.ensures c.narrow_quotient-right_over.ensures _ _ _ _
+    c.narrow_divisor-common.ensures.value c.narrow_quotient-left_over.ensures
+    c.narrow_quotient-right_over.ensures
     (to_z-of_z {w = w64} (record { sfits = c.narrow_num.type_inv }) ∙ c.narrow_num.ensures)
     (to_z-of_z {w = w64} (record { sfits = c.narrow_num-2.type_inv }) ∙ c.narrow_num-2.ensures)
     c.sum_of_products-sum.ensures.value
     (to_z-of_z {w = w128} (record { sfits = c.sum_of_products-sum.type_inv }))
-    c.unsigned_abs.result c.last_divisor-last.result c.narrow_quotient.result
-    c.unsigned_abs.ensures.value
-    c.last_divisor-last.ensures.value c.narrow_quotient.ensures _ _ c.signed_quotient.ensures
+    c.unsigned_abs.ensures.value c.last_divisor-last.ensures.value c.narrow_quotient.ensures
+    c.signed_quotient.ensures
     (to_z-of_z {w = w128} (record { sfits = c.signed_quotient.type_inv }))
     c.requires.left c.requires.right c.sum_of_products-sum.ensures.fits
 
+pub keep-requires : goal.keep-requires
+keep-requires c = (made c).stored
+
 pub returns-clause-fits : goal.returns-clause-fits
-returns-clause-fits c =
-    narrow_sum_fits c.args.self.now c.args.other.now c.narrow_over-left_den.result
-    c.narrow_over-right_den.result
-    c.narrow_divisor-common.result c.narrow_quotient-left_over.result
-    c.narrow_quotient-right_over.result
-    c.narrow_over-left_den.ensures.value c.narrow_over-right_den.ensures.value
-    c.narrow_divisor-common.ensures.value
-    c.narrow_quotient-left_over.ensures c.narrow_quotient-right_over.ensures _ _ _ _
-    (to_z-of_z {w = w64} (record { sfits = c.narrow_num.type_inv }) ∙ c.narrow_num.ensures)
-    (to_z-of_z {w = w64} (record { sfits = c.narrow_num-2.type_inv }) ∙ c.narrow_num-2.ensures)
-    c.sum_of_products-sum.ensures.value
-    (to_z-of_z {w = w128} (record { sfits = c.sum_of_products-sum.type_inv }))
-    c.unsigned_abs.result c.last_divisor-last.result c.narrow_quotient.result
-    c.unsigned_abs.ensures.value
-    c.last_divisor-last.ensures.value c.narrow_quotient.ensures _ _ c.signed_quotient.ensures
-    (to_z-of_z {w = w128} (record { sfits = c.signed_quotient.type_inv }))
-    c.requires.left c.requires.right c.sum_of_products-sum.ensures.fits
+returns-clause-fits c = (made (goal.at.returns-clause-fits c).After-signed_quotient).fits
 
 pub returns-clause-value : goal.returns-clause-value
 returns-clause-value c =
-    c.keep.ensures
-    ∙ narrow_sum_value c.args.self.now c.args.other.now c.narrow_over-left_den.result
-    c.narrow_over-right_den.result
-    c.narrow_divisor-common.result c.narrow_quotient-left_over.result
-    c.narrow_quotient-right_over.result
-    c.narrow_over-left_den.ensures.value c.narrow_over-right_den.ensures.value
-    c.narrow_divisor-common.ensures.value
-    c.narrow_quotient-left_over.ensures c.narrow_quotient-right_over.ensures _ _ _ _
-    (to_z-of_z {w = w64} (record { sfits = c.narrow_num.type_inv }) ∙ c.narrow_num.ensures)
-    (to_z-of_z {w = w64} (record { sfits = c.narrow_num-2.type_inv }) ∙ c.narrow_num-2.ensures)
-    c.sum_of_products-sum.ensures.value
-    (to_z-of_z {w = w128} (record { sfits = c.sum_of_products-sum.type_inv }))
-    c.unsigned_abs.result c.last_divisor-last.result c.narrow_quotient.result
-    c.unsigned_abs.ensures.value
-    c.last_divisor-last.ensures.value c.narrow_quotient.ensures _ _ c.signed_quotient.ensures
-    (to_z-of_z {w = w128} (record { sfits = c.signed_quotient.type_inv }))
+    c.keep.ensures ∙ (made (goal.at.returns-clause-value c).After-signed_quotient).value
