@@ -23,7 +23,7 @@ use name_index::Name;
 use ratio_core::NumberFault;
 use report_core::{Place, Refused, refusal};
 use std::alloc::Global;
-use user_model::ApplyFault;
+use user_model::{ApplyFault, Edit};
 
 /// What is answered to the files of a model and of a certificate, by their names: `yes` where the
 /// text is a certificate for the model, all that is multiplied and added fits, and the certificate
@@ -56,8 +56,24 @@ fn judge_edits<H: Shelf>(
         → HasFaulted (H.faults shelf.old) (H.faults shelf.new) }
 {
     let mut model = UserModel::new(alloc);
-    match load_all(&mut model, edits.into_vec()) {
-        Ok(()) => judge_file(alloc, shelf, &model, certificate),
+    judge_on(alloc, shelf, &mut model, edits.into_vec(), certificate)
+}
+
+// The same of edits on a model, which is lent, so that no way out lets go of it.
+fn judge_on<H: Shelf>(
+    alloc: Global,
+    shelf: &mut H,
+    model: &mut UserModel,
+    edits: Vec<Edit>,
+    certificate: &Name,
+) -> Result<Answer, Memory>
+    ensures verdict { IfOk result (JudgesMade (told_by (H.files shelf.old) (H.sure shelf.old))
+        certificate.now (after_edits model.old.model edits.items)) }
+    ensures cause { result ≡ Ok Answer.ReadFault
+        → HasFaulted (H.faults shelf.old) (H.faults shelf.new) }
+{
+    match load_all(model, edits) {
+        Ok(()) => judge_file(alloc, shelf, model, certificate),
         Err(ApplyFault::Refused(reason)) => refusal(alloc, &Refused::from(reason)),
         Err(ApplyFault::Memory) => Err(Memory),
     }

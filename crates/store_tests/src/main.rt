@@ -27,7 +27,13 @@ use stop::Stop;
 
 fn main(rt: HostRuntime) -> io::Result<()> {
     let mut model = UserModel::new(rt.alloc());
-    match run(&rt, &mut model) {
+    let ended = run(&rt, &mut model);
+    tell(&rt, ended)
+}
+
+// The model is not at hand here, where there are two ways out.
+fn tell(rt: &HostRuntime, ended: Result<(), Stop>) -> io::Result<()> {
+    match ended {
         Ok(()) => Ok(()),
         Err(Stop) => println!(rt; "stopped"),
     }
