@@ -1,5 +1,5 @@
 // The tables in words.
-use item_core::{Children, EDGES, EdgeEntry, KINDS, Kind};
+use item_core::{Children, EDGES, Edge, EdgeEntry, KINDS, Kind};
 use page::Page;
 
 /// The edges and the kinds, each on a line.
@@ -11,10 +11,15 @@ pub fn show(page: &mut Page) {
 
 fn show_edges(page: &mut Page, entries: &[EdgeEntry]) {
     for entry in entries {
-        let number = entry.edge as usize + 1;
+        let number = number(entry.edge);
         page.word(format_args!("{number} {:?} {} to", entry.family, entry.source));
         show_children(page, &entry.children);
     }
+}
+
+// Edges are counted from 1.
+fn number(edge: Edge) -> usize {
+    edge as usize + 1
 }
 
 fn show_children(page: &mut Page, children: &Children) {
