@@ -3,15 +3,19 @@ use Rattle.std.specs.Prelude.{Bool, true, List, replicate}
 use Rattle.item_core.specs.declared.table.Table.{Table}
 use Rattle.item_core.specs.declared.table.Target.{Target}
 use Rattle.item_core.specs.declared.table.Target.TheVariants.{Standard, Rows, Cone, All, Less}
+use Rattle.item_core.specs.declared.kind.KindTable.{KindTable}
 use Rattle.item_core.specs.declared.kind.TheConstants.{KINDS}
 
--- which kinds the target supports
+-- which kinds the target supports, as a table of kinds says
+abbrev pub supported_in : KindTable → Target → List Bool
+supported_in kinds Standard = kinds.standard
+supported_in kinds Rows = kinds.rows
+supported_in kinds Cone = kinds.cone
+supported_in kinds All = kinds.all
+supported_in kinds Less = kinds.less
+
 abbrev pub supported_by : Target → List Bool
-supported_by Standard = KINDS.standard
-supported_by Rows = KINDS.rows
-supported_by Cone = KINDS.cone
-supported_by All = KINDS.all
-supported_by Less = KINDS.less
+supported_by = supported_in KINDS
 
 -- these kinds, with every family on and every cost 1
 unfoldable pub target_table : Target → Table

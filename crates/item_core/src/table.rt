@@ -2,9 +2,9 @@
 ghost use Rattle.std.specs.Prelude.{◌≡◌, IsTrue};
 ghost use Rattle.std.specs.List.{list_all};
 ghost use Rattle.bridge_graph.specs.Hypergraph.{is_edge_cost};
-ghost use Rattle.item_core.specs.Table.{supported_by, target_table};
+ghost use Rattle.item_core.specs.Table.{supported_in, target_table};
 
-use crate::{EDGE_COUNT, FAMILY_COUNT, KIND_COUNT, KINDS};
+use crate::{EDGE_COUNT, FAMILY_COUNT, KIND_COUNT, KINDS, KindTable};
 
 /// Which kinds the solver supports, which families of bridges are on, and what each edge costs, by
 /// their numbers from 0.
@@ -28,17 +28,17 @@ pub enum Target {
     Less,
 }
 
-impl Target {
+impl KindTable {
     // Which kinds the target supports.
-    fn supported(self) -> [bool; KIND_COUNT]
-        ensures { result ≡ supported_by self }
+    fn supported(&self, target: Target) -> [bool; KIND_COUNT]
+        ensures { result ≡ supported_in self.now target }
     {
-        match self {
-            Target::Standard => KINDS.standard,
-            Target::Rows => KINDS.rows,
-            Target::Cone => KINDS.cone,
-            Target::All => KINDS.all,
-            Target::Less => KINDS.less,
+        match target {
+            Target::Standard => self.standard,
+            Target::Rows => self.rows,
+            Target::Cone => self.cone,
+            Target::All => self.all,
+            Target::Less => self.less,
         }
     }
 }
@@ -51,7 +51,7 @@ impl Table {
         ensures costs { IsTrue (list_all is_edge_cost result.cost) }
     {
         Table {
-            supported: target.supported(),
+            supported: KINDS.supported(target),
             on: [true; FAMILY_COUNT],
             cost: [1; EDGE_COUNT],
         }

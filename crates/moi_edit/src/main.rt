@@ -1,7 +1,10 @@
 //! Reads scripts of edits and files of models, and prints what they are answered.
 #![tactic(auto)]
 
-use any_bridge::all_bridges;
+ghost use Rattle.std.specs.Prelude.{◌≡◌, false};
+ghost use Rattle.edit_engine.specs.Held.{state_of};
+
+use any_bridge::{AnyBridge, all_bridges};
 use edit_engine::SessionOver;
 use io_face::{Files, StdIn, StdOut};
 use lists::Memory;
@@ -21,19 +24,25 @@ fn main(rt: HostRuntime) -> ExitCode {
 
 /// Runs the words on a new session that has a bridge of each family.
 fn run_words(rt: &HostRuntime, words: &[String]) -> Result<Status, Memory> {
-    let alloc = rt.alloc();
-    let mut session = SessionOver::new(alloc, all_bridges(alloc)?);
+    let mut session = SessionOver::new(rt.alloc(), all_bridges(rt.alloc())?);
+    Ok(run_on(rt, words, &mut session))
+}
+
+// The session is lent, so that it is let go of once, where nothing else is at hand.
+fn run_on(rt: &HostRuntime, words: &[String], session: &mut SessionOver<AnyBridge>) -> Status
+    requires { (state_of session.old).attached ≡ false }
+{
     let mut shelf = Files::new(rt);
     let mut input = StdIn::new(rt.stdin());
     let mut output = StdOut::new(rt.stdout());
-    Ok(run(
-        alloc,
+    run(
+        rt.alloc(),
         words,
         &mut shelf,
         &mut input,
         &mut output,
-        &mut session,
-    ))
+        session,
+    )
 }
 
 /// The words after the program's name. Words that are no text are of no command.

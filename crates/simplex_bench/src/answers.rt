@@ -1,10 +1,11 @@
 // What the forms lead to, mixed into one number.
+ghost use Rattle.simplex_core.specs.StdForm.{IsWellShaped};
 
 use crate::fault::BenchFault;
 use crate::forms::{Size, form};
 use crate::models::{Kind, model};
 use ratio_core::Ratio;
-use simplex_core::{Basis, SolveFault, SolverAnswer, solve, solve_dense};
+use simplex_core::{Basis, SolveFault, SolverAnswer, StdForm, solve, solve_dense};
 use std::alloc::Global;
 
 // No form needs as many pivots.
@@ -14,12 +15,15 @@ const ALLOWANCE: u64 = 1_000_000;
 pub fn checksum(alloc: Global, size: &Size, count: u32) -> Result<u64, BenchFault> {
     let mut sum = 0u64;
     for seed in 0..count {
-        let form = form(alloc, seed.wrapping_add(1), size)?;
-        sum = sum
-            .wrapping_mul(31)
-            .wrapping_add(digest(&solve_dense(alloc, &form, ALLOWANCE))?);
+        let one = of_form(alloc, seed.wrapping_add(1), size)?;
+        sum = sum.wrapping_mul(31).wrapping_add(one);
     }
     Ok(sum)
+}
+
+fn of_form(alloc: Global, seed: u32, size: &Size) -> Result<u64, BenchFault> {
+    let form = form(alloc, seed, size)?;
+    digest_on(alloc, &form, Board::Dense)
 }
 
 /// The board that is solved on.
@@ -49,15 +53,28 @@ pub fn of_model(
     times: u32,
 ) -> Result<u64, BenchFault> {
     let form = model(alloc, kind, rows, columns)?;
+    repeated(alloc, &form, board, times)
+}
+
+fn repeated(alloc: Global, form: &StdForm, board: Board, times: u32) -> Result<u64, BenchFault>
+    requires { IsWellShaped form.now }
+{
     let mut sum = 0u64;
     for _ in 0..times {
-        let one = match board {
-            Board::Dense => digest(&solve_dense(alloc, &form, ALLOWANCE))?,
-            Board::Sparse => digest(&solve(alloc, &form, ALLOWANCE))?,
-        };
-        sum = sum.wrapping_mul(31).wrapping_add(one);
+        sum = sum
+            .wrapping_mul(31)
+            .wrapping_add(digest_on(alloc, form, board)?);
     }
     Ok(sum)
+}
+
+fn digest_on(alloc: Global, form: &StdForm, board: Board) -> Result<u64, BenchFault>
+    requires { IsWellShaped form.now }
+{
+    match board {
+        Board::Dense => digest(&solve_dense(alloc, form, ALLOWANCE)),
+        Board::Sparse => digest(&solve(alloc, form, ALLOWANCE)),
+    }
 }
 
 fn digest(answer: &Result<SolverAnswer, SolveFault>) -> Result<u64, BenchFault> {

@@ -32,19 +32,45 @@ pub fn form(alloc: Global, seed: u32, size: &Size) -> Result<StdForm, BenchFault
     let costs = fractions(alloc, &numbers(alloc, &mut draw, c, 9)?)?;
     let mut matrix = Vec::with_capacity(alloc, m * c)?;
     let mut right = Vec::with_capacity(alloc, m)?;
-    for _ in 0..m {
-        let row = row(alloc, &mut draw, size)?;
-        let side = side(&row, &point);
-        for entry in &row {
-            matrix.push(whole(if side < 0 {
-                entry.wrapping_neg()
-            } else {
-                *entry
-            })?)?;
-        }
-        right.push(whole(if side < 0 { side.wrapping_neg() } else { side })?)?;
-    }
+    put_rows(alloc, &mut draw, size, &point, &mut matrix, &mut right)?;
     checked(alloc, m, c, matrix, right, costs)
+}
+
+fn put_rows(
+    alloc: Global,
+    draw: &mut Draw,
+    size: &Size,
+    point: &[i64],
+    matrix: &mut Vec<Ratio>,
+    right: &mut Vec<Ratio>,
+) -> Result<(), BenchFault> {
+    for _ in 0..size.rows {
+        let row = row(alloc, draw, size)?;
+        put_row(&row, side(&row, point), matrix, right)?;
+    }
+    Ok(())
+}
+
+fn put_row(
+    row: &[i64],
+    side: i64,
+    matrix: &mut Vec<Ratio>,
+    right: &mut Vec<Ratio>,
+) -> Result<(), BenchFault> {
+    for entry in row {
+        matrix.push(whole(turned(*entry, side))?)?;
+    }
+    right.push(whole(turned(side, side))?)?;
+    Ok(())
+}
+
+// The number of a row whose right side would be below 0 is negated.
+fn turned(number: i64, side: i64) -> i64 {
+    if side < 0 {
+        number.wrapping_neg()
+    } else {
+        number
+    }
 }
 
 /// The form of these numbers, where each list has its length and no right side is below 0.

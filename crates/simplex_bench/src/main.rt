@@ -27,7 +27,11 @@ fn main(rt: HostRuntime) -> io::Result<()> {
     for word in env::args(&rt)? {
         words.push(word)?;
     }
-    match told(rt.alloc(), &words) {
+    tell(&rt, told(rt.alloc(), &words))
+}
+
+fn tell(rt: &HostRuntime, told: Option<Result<u64, BenchFault>>) -> io::Result<()> {
+    match told {
         Some(Ok(sum)) => println!(rt; "{sum}"),
         Some(Err(fault)) => println!(rt; "{fault}"),
         None => println!(rt; "{USAGE}"),

@@ -1,5 +1,5 @@
 // Sparse forms of real kinds, each with a point that meets its rows.
-ghost use Rattle.std.specs.Prelude.{IfOk};
+ghost use Rattle.std.specs.Prelude.{◌<◌, ◌^◌, IfOk};
 ghost use Rattle.simplex_core.specs.StdForm.{IsWellShaped};
 
 use crate::draft::Draft;
@@ -61,15 +61,7 @@ fn chain(m: u16, c: u16, draft: &mut Draft, draw: &mut Draw) -> Result<(), Bench
     let balances = u32::from(c).saturating_sub(u32::from(m));
     let bounds = u32::from(m).saturating_sub(balances);
     for row in 0..balances {
-        let (made, kept) = (2 * row, 2 * row + 1);
-        draft.put(row, made, 1)?;
-        draft.put(row, kept, -1)?;
-        if row % 10 != 0 {
-            draft.put(row, kept - 2, 1)?;
-        }
-        draft.add_side(row, i64::from(draw.below(90)) + 10)?;
-        draft.put_cost(made, i64::from(draw.below(50)) + 1)?;
-        draft.put_cost(kept, i64::from(draw.below(5)) + 1)?;
+        balance(row, draft, draw)?;
     }
     for k in 0..bounds {
         let bounded = if k < balances {
@@ -77,11 +69,35 @@ fn chain(m: u16, c: u16, draft: &mut Draft, draw: &mut Draw) -> Result<(), Bench
         } else {
             2 * (k - balances) + 1
         };
-        draft.put(balances + k, bounded, 1)?;
-        draft.put(balances + k, 2 * balances + k, 1)?;
-        draft.add_side(balances + k, i64::from(draw.below(100)) + 100)?;
+        bound(balances + k, bounded, 2 * balances + k, draft, draw)?;
     }
     Ok(())
+}
+
+fn balance(row: u32, draft: &mut Draft, draw: &mut Draw) -> Result<(), BenchFault>
+    requires { row < 2 ^ 16 }
+{
+    let (made, kept) = (2 * row, 2 * row + 1);
+    draft.put(row, made, 1)?;
+    draft.put(row, kept, -1)?;
+    if row % 10 != 0 {
+        draft.put(row, kept - 2, 1)?;
+    }
+    draft.add_side(row, i64::from(draw.below(90)) + 10)?;
+    draft.put_cost(made, i64::from(draw.below(50)) + 1)?;
+    draft.put_cost(kept, i64::from(draw.below(5)) + 1)
+}
+
+fn bound(
+    row: u32,
+    bounded: u32,
+    over: u32,
+    draft: &mut Draft,
+    draw: &mut Draw,
+) -> Result<(), BenchFault> {
+    draft.put(row, bounded, 1)?;
+    draft.put(row, over, 1)?;
+    draft.add_side(row, i64::from(draw.below(100)) + 100)
 }
 
 // The first half of the rows are sources. What is drawn to flow along an arc is added at both ends.
@@ -93,14 +109,24 @@ fn transport(m: u16, c: u16, draft: &mut Draft, draw: &mut Draw) -> Result<(), B
     for arc in 0..u32::from(c) {
         let from = if arc < half { arc } else { draw.below(half) };
         let to = half + if arc < half { arc } else { draw.below(half) };
-        draft.put(from, arc, 1)?;
-        draft.put(to, arc, 1)?;
-        let flow = i64::from(draw.below(20));
-        draft.add_side(from, flow)?;
-        draft.add_side(to, flow)?;
-        draft.put_cost(arc, i64::from(draw.below(99)) + 1)?;
+        put_arc(arc, from, to, draft, draw)?;
     }
     Ok(())
+}
+
+fn put_arc(
+    arc: u32,
+    from: u32,
+    to: u32,
+    draft: &mut Draft,
+    draw: &mut Draw,
+) -> Result<(), BenchFault> {
+    draft.put(from, arc, 1)?;
+    draft.put(to, arc, 1)?;
+    let flow = i64::from(draw.below(20));
+    draft.add_side(from, flow)?;
+    draft.add_side(to, flow)?;
+    draft.put_cost(arc, i64::from(draw.below(99)) + 1)
 }
 
 // The base has a part of each component. So many parts of each are needed, and what is over is of
@@ -111,16 +137,23 @@ fn blend(m: u16, c: u16, draft: &mut Draft, draw: &mut Draw) -> Result<(), Bench
     for k in 0..u32::from(m) {
         draft.put(k, 0, 1)?;
         if k < bought {
-            let (alone, over) = (1 + 2 * k, 2 + 2 * k);
-            draft.put(k, alone, 1)?;
-            draft.put(k, over, -1)?;
-            draft.put_cost(alone, i64::from(draw.below(50)) + 1)?;
-            draft.put_cost(over, i64::from(draw.below(3)))?;
-            draft.add_side(k, i64::from(draw.below(5000)) + 1000)?;
+            put_bought(k, draft, draw)?;
         } else {
             draft.put(k, 1 + bought + k, -1)?;
             draft.add_side(k, i64::from(draw.below(1000)))?;
         }
     }
     Ok(())
+}
+
+// A component that is also bought alone.
+fn put_bought(k: u32, draft: &mut Draft, draw: &mut Draw) -> Result<(), BenchFault>
+    requires { k < 2 ^ 16 }
+{
+    let (alone, over) = (1 + 2 * k, 2 + 2 * k);
+    draft.put(k, alone, 1)?;
+    draft.put(k, over, -1)?;
+    draft.put_cost(alone, i64::from(draw.below(50)) + 1)?;
+    draft.put_cost(over, i64::from(draw.below(3)))?;
+    draft.add_side(k, i64::from(draw.below(5000)) + 1000)
 }
