@@ -52,11 +52,19 @@ const FORMS: [Numbers; 15] = [
 /// What each form comes to.
 pub fn show(page: &mut Page) {
     page.line("# the simplex");
-    for (matrix, right, costs, pivots) in &FORMS {
-        page.line(format_args!("[{matrix}] [{right}] [{costs}]"));
-        let form = form_of(page.alloc(), matrix, right, costs);
-        show_answers(page, &form, *pivots);
+    show_each(page, &FORMS);
+}
+
+fn show_each(page: &mut Page, forms: &[Numbers]) {
+    for form in forms {
+        show_form(page, form);
     }
+}
+
+fn show_form(page: &mut Page, (matrix, right, costs, pivots): &Numbers) {
+    page.line(format_args!("[{matrix}] [{right}] [{costs}]"));
+    let form = form_of(page.alloc(), matrix, right, costs);
+    show_answers(page, &form, *pivots);
 }
 
 fn form_of(alloc: Global, matrix: &str, right: &str, costs: &str) -> StdForm {
@@ -97,9 +105,21 @@ fn no_flips(alloc: Global, count: usize) -> Flags {
 
 fn show_answers(page: &mut Page, form: &StdForm, pivots: u64) {
     if is_well_shaped(form) {
-        tell(page, &solve(page.alloc(), form, pivots));
-        tell(page, &solve_dense(page.alloc(), form, pivots));
+        show_sparse(page, form, pivots);
+        show_dense(page, form, pivots);
     }
+}
+
+fn show_sparse(page: &mut Page, form: &StdForm, pivots: u64)
+    requires { IsWellShaped form.now }
+{
+    tell(page, &solve(page.alloc(), form, pivots));
+}
+
+fn show_dense(page: &mut Page, form: &StdForm, pivots: u64)
+    requires { IsWellShaped form.now }
+{
+    tell(page, &solve_dense(page.alloc(), form, pivots));
 }
 
 fn tell(page: &mut Page, outcome: &Result<SolverAnswer, SolveFault>) {

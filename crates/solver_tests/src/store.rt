@@ -11,7 +11,8 @@ pub fn show(page: &mut Page) {
     page.line("# the solver's model");
     let mut solver = SolverModel::new(page.alloc());
     show_calls(page, &mut solver);
-    show_parts(page);
+    show_terms(page);
+    show_point(page);
 }
 
 fn show_calls(page: &mut Page, solver: &mut SolverModel) {
@@ -48,14 +49,22 @@ fn zero_row(var: usize) -> LeafRow {
 fn show_row(page: &mut Page, solver: &mut SolverModel) {
     page.line(format_args!("add a row: {:?}", solver.add_row(zero_row(3))));
     tell_row(page, solver);
+    change_row(page, solver);
+    tell_row(page, solver);
+    remove_row(page, solver);
+    tell_row(page, solver);
+}
+
+fn change_row(page: &mut Page, solver: &mut SolverModel) {
     if solver.row(0).is_some() {
         page.line(format_args!("change {:?}", solver.change_row(0, zero_row(4))));
     }
-    tell_row(page, solver);
+}
+
+fn remove_row(page: &mut Page, solver: &mut SolverModel) {
     if solver.row(0).is_some() {
         page.line(format_args!("remove {:?}", solver.remove_row(0)));
     }
-    tell_row(page, solver);
 }
 
 fn tell_row(page: &mut Page, solver: &SolverModel) {
@@ -78,12 +87,16 @@ fn tell_objective(page: &mut Page, solver: &SolverModel) {
     ));
 }
 
-// A zero is left out of a function. A point keeps its numbers.
-fn show_parts(page: &mut Page) {
+// A zero is left out of a function.
+fn show_terms(page: &mut Page) {
     let terms = [(2, Ratio::zero()), (5, Ratio::one())];
     if let Ok(f) = SolverAff::from_terms(page.alloc(), &terms, Ratio::one()) {
         show_function(page, &f);
     }
+}
+
+// A point keeps its numbers.
+fn show_point(page: &mut Page) {
     let mut point = LeafPoint::new(page.alloc());
     page.line(format_args!("put {:?}", point.put(7, Ratio::one()).is_ok()));
     page.line(format_args!("at 7 {:?}, at 0 {:?}", point.get(7), point.get(0)));

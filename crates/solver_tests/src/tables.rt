@@ -9,14 +9,22 @@ use std_form::AddressMap;
 pub fn show(page: &mut Page) {
     page.line("# equality forms");
     model(page, &EACH_KIND, Sense::Max, ("2", "5", "7"));
+    show_answered(page);
+    show_refused(page);
+    far_apart(page, &UNBOUNDED);
+}
+
+fn show_answered(page: &mut Page) {
     // x + 2 y is least at x = 1 and y = 2.
     model(page, &OPTIMAL, Sense::Min, ("1", "2", "5"));
     model(page, &INFEASIBLE, Sense::Min, NOTHING);
     // x falls without end.
     model(page, &UNBOUNDED, Sense::Max, ("-3", "0", "0"));
+}
+
+fn show_refused(page: &mut Page) {
     model(page, &TOO_LARGE, Sense::Min, NOTHING);
     model(page, &TOO_GREAT, Sense::Min, NOTHING);
-    far_apart(page, &UNBOUNDED);
 }
 
 const NOTHING: Terms = ("0", "0", "0");
