@@ -1,6 +1,6 @@
 -- The law of Later: x in S is s, free at first, and a row s in S.
 use Rattle.std.specs.Prelude.{All, Bool, Contains, List, None, [], cond, false, length, map, refl, true, ℕ, ◌*◌, ◌<◌, ◌∷◌, ◌≡◌, ◌≤◌}
-use Rattle.std.proofs.lemmas.List.Elements.{All-cons, All-head, All-nil, All-tail, All-weaker}
+use Rattle.std.proofs.lemmas.List.Elements.{All-cons, All-nil, All-weaker}
 use Rattle.std.proofs.Common.{ap, ap₂, arith, subst, sym, true≢false, ◌∙◌}
 use Rattle.std.proofs.lemmas.List.{append-nil, length-append, length-map}
 use Rattle.std.specs.List.{range_with_len}
@@ -9,7 +9,7 @@ use Rattle.rational_laws.specs.Field.{+ℚ-zero, zero-+ℚ, -ℚ-itself}
 use Rattle.aff_core.specs.Address.{Address, child_of}
 use Rattle.item_core.specs.declared.item.Body.TheVariants.{Affine, AffineVec, Free, Group, Plain, PlainVec}
 use Rattle.bridge_face.specs.ChildDualLaws.{carries_duals}
-use Rattle.bridge_face.specs.Law.{Balances, CarriesValues, ChildDuals, EdgeLaw, GrowsBy, HasComponents, HoldsAt, IsCovered, IsValidWithin, LeadsTo, MentionsKnown, Miss, expressed, growth, held_body, held_children, held_item, inner_of}
+use Rattle.bridge_face.specs.Law.{Balances, CarriesValues, ChildDuals, EdgeLaw, GrowsBy, HasComponents, IsCovered, IsValidWithin, LeadsTo, MentionsKnown, Miss, expressed, growth, held_body, held_children, held_item, inner_of}
 use Rattle.item_core.specs.declared.item.Body.{Body}
 use Rattle.item_core.specs.declared.edge.Edge.TheVariants.{E49, E50, E51, E52, E53, E54, E55, E56, E57}
 use Rattle.item_core.specs.declared.edge.Edge.{Edge}
@@ -161,8 +161,7 @@ module _ (edge : Edge) (item : Item) (group row : Body) (l : IsLater edge item g
   values = record {
     holds = λ no_objective one x h below.
         subst (λ k. Holds one k x) (row_is zero_ℚ [] ∙ sym (item_is zero_ℚ []))
-        (All-head (HoldsAt one x) (child_at item 1 row) []
-        (All-tail (HoldsAt one x) (child_at item 0 group) (child_at item 1 row ∷ []) below));
+        (below 1 (child_at item 1 row) (omega arith));
     costs = λ one x h below. All-nil _;
   }
 
@@ -173,14 +172,11 @@ module _ (edge : Edge) (item : Item) (group row : Body) (l : IsLater edge item g
       (bound : Rational) (g y w : List Rational)
       (b : Balances bound edge item image (duals_of g y) w) where
     group_held_by : IsHeld (held_of g (variables ss) (Reals (length ss)))
-    group_held_by = subst IsHeld (group_is bound g)
-        (All-head IsHeld (held_body bound group g) (held_body bound row y ∷ []) b.hold)
+    group_held_by =
+        subst IsHeld (group_is bound g) (b.hold 0 (held_body bound row y) (omega arith))
 
     row_held_by : IsHeld (held_of y (variables ss) set)
-    row_held_by =
-        subst IsHeld (row_is bound y)
-        (All-head IsHeld (held_body bound row y) [] (All-tail IsHeld (held_body bound group g)
-        (held_body bound row y ∷ []) b.hold))
+    row_held_by = subst IsHeld (row_is bound y) (b.hold 1 (held_body bound row y) (omega arith))
 
     -- the sums over the children are the row's, since the free variables' numbers are 0
     children_at : (v : Address)
@@ -384,12 +380,7 @@ one_inner item valid scalar s e =
     ap (inner item) (sym valid.set.dimension ∙ scalar_one (set_of item.body) (s ∙ e))
 
 abbrev pub later_parts : Item → Body → Body → List Address → Image
-later_parts item group row ss = record {
-  groups = child_at item 0 group ∷ [];
-  exprs = map Kept ss;
-  rows = child_at item 1 row ∷ [];
-  objective = None;
-}
+later_parts item group row ss = group_and_row item (child_at item 0 group) (map Kept ss) row
 
 free_child : (free : Bool) (item : Item)
     → cond free (free_at item (size item)) (group_at item (Reals (size item)) (size item))
@@ -410,12 +401,8 @@ later_is edge item free e =
           (affine (inner_functions item (size item)) (set_of item.body))) ∷ [];
       objective = None;
     }) e
-    ∙ ap (λ g. record {
-      groups = g ∷ [];
-      exprs = map Kept (inner item (size item));
-      rows = child_at item 1 (row_of free (inner item (size item)) (set_of item.body)) ∷ [];
-      objective = None;
-    }) (free_child free item)
+    ∙ ap (λ g. group_and_row item g (map Kept (inner item (size item)))
+    (row_of free (inner item (size item)) (set_of item.body))) (free_child free item)
 
 -- an image that is made of these parts is the item's
 pub parts_made : (edge : Edge) (item : Item) → IsValidItem item
@@ -431,17 +418,13 @@ parts_made edge item valid at first free count vars exprs part group row at_is f
     count_is vars_are exprs_are part_is group_is row_is =
     let whole = set_of item.body in
     let all = inner item (size item) in
-    ap₂ (λ g es. group_and_row item g es row) (ap₂ item_of at_is group_is) exprs_are
-    ∙ ap (λ r. group_and_row item (child_at item 0 (first_child free count vars)) (map Kept vars)
-    r) row_is
-    ∙ ap₂ (λ us t. group_and_row item (child_at item 0 (first_child free count us)) (map Kept us)
-    (second_child free (is_scalar t) first us t)) vars_are part_is
-    ∙ ap (λ n. group_and_row item (child_at item 0 (first_child free n (inner item n)))
-    (map Kept (inner item n)) (second_child free (is_scalar whole) first (inner item n)
-    whole)) count_is
-    ∙ ap (λ v. group_and_row item (child_at item 0 (first_child free (size item) all))
-    (map Kept all) (second_child free (is_scalar whole) v all whole))
-    (first_is ∙ ap (λ a. child_of a 0) at_is)
+    let all_are : vars ≡ all = vars_are ∙ ap (inner item) count_is in
+    let child : item_of at group ≡ child_at item 0 (first_child free (size item) all) =
+    ap₂ item_of at_is (group_is ∙ ap₂ (first_child free) count_is all_are) in
+    let head : first ≡ head_of item = first_is ∙ ap (λ a. child_of a 0) at_is in
+    let made : row ≡ second_child free (is_scalar whole) (head_of item) all whole =
+    row_is ∙ λ i. second_child free (is_scalar (part_is i)) (head i) (all_are i) (part_is i) in
+    (λ i. group_and_row item (child i) ((exprs_are ∙ ap (map Kept) all_are) i) (made i))
     ∙ sym (later_is edge item free (sym free_is)
     ∙ ap (λ r. later_parts item (first_child free (size item) all) r all)
     (row_is_second free (is_scalar whole) (head_of item) all whole refl

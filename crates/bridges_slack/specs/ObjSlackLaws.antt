@@ -1,14 +1,14 @@
 -- The law of ObjSlack: the least f is the least s with s - f ≥ 0, and the greatest f the greatest s
 -- with s - f ≤ 0.
 use Rattle.std.specs.Prelude.{All, Contains, List, Some, [], length, map, refl, true, ◌*◌, ◌<◌, ◌∷◌, ◌≡◌, ◌≤◌}
-use Rattle.std.proofs.lemmas.List.Elements.{All-cons, All-head, All-nil, All-tail}
+use Rattle.std.proofs.lemmas.List.Elements.{All-cons, All-head, All-nil}
 use Rattle.std.proofs.Common.{ap, ap₂, arith, subst, sym, true≢false, ◌∙◌}
 use Rattle.std.proofs.lemmas.List.{length-append}
-use Rattle.rational_laws.specs.Field.{*ℚ-neg_ℚ, *ℚ-one, *ℚ-zero, +ℚ-zero, +ℚ_comm, neg_ℚ-zero, neg_ℚ_unique, zero-*ℚ, zero-+ℚ, -ℚ-itself}
+use Rattle.rational_laws.specs.Field.{*ℚ-zero, +ℚ-zero, zero-*ℚ, zero-+ℚ, -ℚ-itself}
 use Rattle.aff_core.specs.Address.{Address, child_of}
 use Rattle.item_core.specs.declared.item.Body.TheVariants.{Affine, AffineObj, Free, PlainObj}
 use Rattle.bridge_face.specs.ChildDualLaws.{carries_duals}
-use Rattle.bridge_face.specs.Law.{Balances, CarriesValues, ChildDuals, EdgeLaw, GrowsBy, HasComponents, HoldsAt, IsCovered, IsItemFor, IsLawful, IsValidWithin, LeadsTo, MentionsKnown, Miss, cost_by, cost_of, expressed, growth, held_children, held_item, inner_of, is_objective, row_set}
+use Rattle.bridge_face.specs.Law.{Balances, CarriesValues, ChildDuals, EdgeLaw, GrowsBy, HasComponents, IsCovered, IsItemFor, IsLawful, IsValidWithin, LeadsTo, MentionsKnown, Miss, cost_by, cost_of, expressed, growth, held_children, held_item, inner_of, is_objective, row_set}
 use Rattle.item_core.specs.declared.item.Body.{Body}
 use Rattle.item_core.specs.declared.edge.Edge.TheVariants.{E62, E63}
 use Rattle.item_core.specs.declared.edge.Edge.{Edge}
@@ -29,9 +29,9 @@ use Rattle.bridge_face.specs.Sources.{OfKind, max_affine, min_affine}
 use Rattle.ratio_core.specs.Rational.{Rational, neg_ℚ, one_ℚ, zero_ℚ, ◌*ℚ◌, ◌+ℚ◌, ◌-ℚ◌, ◌≤ℚ◌}
 use Rattle.aff_core.specs.declared.sense.Sense.{Sense}
 use Rattle.aff_core.specs.KeyOrder.{address_order}
-use Rattle.rational_laws.specs.Ring.{as_expression, by_ring, ring₂, ring₃, ring₄}
+use Rattle.rational_laws.specs.Ring.{as_expression, by_ring, one_as, ring₁, ring₂, ring₃, ring₄, zero_as}
 use Rattle.bridge_face.specs.Images.{child_at, difference, first_in, function_of_body}
-use Rattle.bridge_face.specs.DifferenceLaws.{coefficient-difference, constant-difference, evaluated-difference, evaluated-negated, missed-difference, unnamed-difference}
+use Rattle.bridge_face.specs.DifferenceLaws.{all_paired, coefficient-difference, constant-difference, evaluated-difference, evaluated-negated, missed-difference, unnamed-difference}
 use Rattle.aff_core.specs.FunctionLaws.{coefficient-negated, coefficient-variable_same, constant-negated}
 use Rattle.aff_core.specs.FunctionLists.{coefficients, constants}
 use Rattle.bridge_face.specs.ComponentLaws.{component_apart, constants-variables, not_contained, unnamed_below, variables, variables_missed}
@@ -112,43 +112,41 @@ constant-cost Max f = constant-negated address_order f
 row_number : (sense : Sense) (y o : Rational)
     → o *ℚ signed sense zero_ℚ ≡ y *ℚ (one_ℚ -ℚ zero_ℚ) +ℚ o *ℚ signed sense one_ℚ
     → y ≡ neg_ℚ (signed sense o)
-row_number Min y o e =
-    neg_ℚ_unique o y
-    (+ℚ_comm o y
-    ∙ sym (ap₂ ◌+ℚ◌ (ap (λ q. y *ℚ q) (ap (λ q. one_ℚ +ℚ q) neg_ℚ-zero ∙ +ℚ-zero one_ℚ)
-    ∙ *ℚ-one y) (*ℚ-one o)) ∙ sym e ∙ *ℚ-zero o)
-row_number Max y o e =
-    let sums : zero_ℚ ≡ y +ℚ neg_ℚ o = sym (ap (λ q. o *ℚ q) neg_ℚ-zero ∙ *ℚ-zero o) ∙ e
-    ∙ ap₂ ◌+ℚ◌ (ap (λ q. y *ℚ q) (ap (λ q. one_ℚ +ℚ q) neg_ℚ-zero ∙ +ℚ-zero one_ℚ)
-    ∙ *ℚ-one y) (*ℚ-neg_ℚ o one_ℚ ∙ ap neg_ℚ (*ℚ-one o)) in
-    neg_ℚ_unique (neg_ℚ o) y (+ℚ_comm (neg_ℚ o) y ∙ sym sums)
+row_number sense y o e =
+    kept y (o *ℚ signed sense one_ℚ) ∙ ap (λ q. q -ℚ o *ℚ signed sense one_ℚ) (sym e)
+    ∙ rest sense o
+  where
+    kept : (y k : Rational) → y ≡ (y *ℚ (one_ℚ -ℚ zero_ℚ) +ℚ k) -ℚ k
+    kept = ring₂ _ (λ ρ. simp (as_expression, zero_as ρ, one_as ρ) (by_ring ρ _ _ refl))
 
-least_sums : (o e k : Rational) → o *ℚ k ≡ neg_ℚ o *ℚ (e -ℚ k) +ℚ o *ℚ e
-least_sums = ring₃ _ (λ ρ. simp as_expression (by_ring ρ _ _ refl))
-
-greatest_sums : (o e k : Rational) → o *ℚ neg_ℚ k ≡ neg_ℚ (neg_ℚ o) *ℚ (e -ℚ k) +ℚ o *ℚ neg_ℚ e
-greatest_sums = ring₃ _ (λ ρ. simp as_expression (by_ring ρ _ _ refl))
+    rest : (sense : Sense) (o : Rational)
+        → o *ℚ signed sense zero_ℚ -ℚ o *ℚ signed sense one_ℚ ≡ neg_ℚ (signed sense o)
+    rest Min = ring₁ _ (λ ρ. simp (as_expression, zero_as ρ, one_as ρ) (by_ring ρ _ _ refl))
+    rest Max = ring₁ _ (λ ρ. simp (as_expression, zero_as ρ, one_as ρ) (by_ring ρ _ _ refl))
 
 -- then the sums agree at every variable
+signed_sums : (sense : Sense) (o e k : Rational)
+    → o *ℚ signed sense k ≡ neg_ℚ (signed sense o) *ℚ (e -ℚ k) +ℚ o *ℚ signed sense e
+signed_sums Min = ring₃ _ (λ ρ. simp as_expression (by_ring ρ _ _ refl))
+signed_sums Max = ring₃ _ (λ ρ. simp as_expression (by_ring ρ _ _ refl))
+
 sums_agree : (sense : Sense) (o y e k : Rational) → y ≡ neg_ℚ (signed sense o)
     → o *ℚ signed sense k ≡ y *ℚ (e -ℚ k) +ℚ o *ℚ signed sense e
-sums_agree Min o y e k is = least_sums o e k ∙ ap (λ z. z *ℚ (e -ℚ k) +ℚ o *ℚ e) (sym is)
-sums_agree Max o y e k is = greatest_sums o e k ∙ ap (λ z. z *ℚ (e -ℚ k) +ℚ o *ℚ neg_ℚ e) (sym is)
+sums_agree sense o y e k is =
+    signed_sums sense o e k ∙ ap (λ z. z *ℚ (e -ℚ k) +ℚ o *ℚ signed sense e) (sym is)
 
-least_gap : (b o z k : Rational)
-    → neg_ℚ (neg_ℚ o *ℚ (z -ℚ k)) +ℚ (b *ℚ o -ℚ o *ℚ z) ≡ b *ℚ o -ℚ o *ℚ k
-least_gap = ring₄ _ (λ ρ. simp as_expression (by_ring ρ _ _ refl))
-
-greatest_gap : (b o z k : Rational)
-    → neg_ℚ (neg_ℚ (neg_ℚ o) *ℚ (z -ℚ k)) +ℚ (b *ℚ o -ℚ o *ℚ neg_ℚ z) ≡ b *ℚ o -ℚ o *ℚ neg_ℚ k
-greatest_gap = ring₄ _ (λ ρ. simp as_expression (by_ring ρ _ _ refl))
+-- and the gaps do
+signed_gaps : (sense : Sense) (b o z k : Rational)
+    → neg_ℚ (neg_ℚ (signed sense o) *ℚ (z -ℚ k)) +ℚ (b *ℚ o -ℚ o *ℚ signed sense z)
+    ≡ b *ℚ o -ℚ o *ℚ signed sense k
+signed_gaps Min = ring₄ _ (λ ρ. simp as_expression (by_ring ρ _ _ refl))
+signed_gaps Max = ring₄ _ (λ ρ. simp as_expression (by_ring ρ _ _ refl))
 
 gaps_agree : (sense : Sense) (b o y z k : Rational) → y ≡ neg_ℚ (signed sense o)
     → neg_ℚ (y *ℚ (z -ℚ k)) +ℚ (b *ℚ o -ℚ o *ℚ signed sense z) ≡ b *ℚ o -ℚ o *ℚ signed sense k
-gaps_agree Min b o y z k is = ap (λ u. neg_ℚ (u *ℚ (z -ℚ k)) +ℚ (b *ℚ o -ℚ o *ℚ z)) is
-    ∙ least_gap b o z k
-gaps_agree Max b o y z k is = ap (λ u. neg_ℚ (u *ℚ (z -ℚ k)) +ℚ (b *ℚ o -ℚ o *ℚ neg_ℚ z)) is
-    ∙ greatest_gap b o z k
+gaps_agree sense b o y z k is =
+    ap (λ u. neg_ℚ (u *ℚ (z -ℚ k)) +ℚ (b *ℚ o -ℚ o *ℚ signed sense z)) is
+    ∙ signed_gaps sense b o z k
 
 -- ---- sets
 
@@ -244,7 +242,7 @@ module _ (edge : Edge) (item : Item) (sense : Sense) (f : Function)
         (costs_less sense one (evaluated one f x) (evaluated one slack x)
         (subst (λ q. In (multiplied one (beyond sense)) (q ∷ []))
         (evaluated-difference one slack f x)
-        (All-head (HoldsAt one x) row [] (All-tail (HoldsAt one x) group (row ∷ []) below))))))
+        (below 1 group (omega arith))))))
         (All-nil (λ child. evaluated one (cost_of item.body) x ≤ℚ evaluated one (cost_of child.body)
         x));
   }
@@ -265,15 +263,10 @@ module _ (edge : Edge) (item : Item) (sense : Sense) (f : Function)
       (bound : Rational) (g : List Rational) (y o : Rational) (w : List Rational)
       (b : Balances bound edge item image (duals_of g (y ∷ []) (o ∷ [])) w) where
     g_held : IsHeld (group_held g)
-    g_held = All-head IsHeld (group_held g) (row_held_by (y ∷ []) ∷ objective_held_by bound (o ∷ [])
-        ∷ []) b.hold
+    g_held = b.hold 0 (group_held g) (omega arith)
 
     o_held : IsHeld (objective_held_by bound (o ∷ []))
-    o_held =
-        All-head IsHeld (objective_held_by bound (o ∷ [])) []
-        (All-tail IsHeld (row_held_by (y ∷ [])) (objective_held_by bound (o ∷ []) ∷ [])
-        (All-tail IsHeld (group_held g) (row_held_by (y ∷ []) ∷ objective_held_by bound (o ∷ [])
-        ∷ []) b.hold))
+    o_held = b.hold 2 (group_held g) (omega arith)
 
     same_held : held_item bound item image w
         ≡ held_of (o ∷ []) (cost_by sense f ∷ []) (LessThan bound)
@@ -355,12 +348,8 @@ module _ (edge : Edge) (item : Item) (sense : Sense) (f : Function)
       → Balances bound edge item image (duals_of g y o) w
       → IsCovered bound item image (duals_of g y o) w
   of_numbers bound g y o w b =
-      let rest = All-tail IsHeld (group_held g) (row_held_by y ∷ objective_held_by bound o ∷ [])
-      b.hold in
-      let y_one : length y ≡ 1 =
-      (All-head IsHeld (row_held_by y) (objective_held_by bound o ∷ []) rest).size in
-      let o_one : length o ≡ 1 = (All-head IsHeld (objective_held_by bound o) []
-      (All-tail IsHeld (row_held_by y) (objective_held_by bound o ∷ []) rest)).size in
+      let y_one : length y ≡ 1 = (b.hold 1 (group_held g) (omega arith)).size in
+      let o_one : length o ≡ 1 = (b.hold 2 (group_held g) (omega arith)).size in
       single₂ (λ y o. Balances bound edge item image (duals_of g y o) w
       → IsCovered bound item image (duals_of g y o) w)
       (λ p q c. covered_by bound g p q w c) y o y_one o_one b
@@ -408,11 +397,8 @@ module _ (edge : Edge) (item : Item) (sense : Sense) (f : Function)
       (sym l.no_growth) (omega (arith, e, one_component))
 
   -- what isn't among the child group's variables
-  absent_from : (v : Address) → ¬ (Contains (inner_of image.groups) v)
-      → coefficient slack v ≡ zero_ℚ
-  absent_from v there =
-      All-head (λ f. coefficient f v ≡ zero_ℚ) slack []
-      (variables_missed (s ∷ []) v (not_contained (s ∷ []) v there))
+  missed : (v : Address) → ¬ (Contains (inner_of image.groups) v) → Miss (slack ∷ []) v
+  missed v there = variables_missed (s ∷ []) v (not_contained (s ∷ []) v there)
 
   slack_objective_law : EdgeLaw edge item image
   slack_objective_law = record {
@@ -428,14 +414,9 @@ module _ (edge : Edge) (item : Item) (sense : Sense) (f : Function)
     components = All-cons HasComponents group [] refl (All-nil HasComponents);
     mentioned =
         All-cons (MentionsKnown item image) row (objective ∷ [])
-        (λ v m there.
-        All-cons (λ f. coefficient f v ≡ zero_ℚ) (difference slack f) []
-        (missed-difference v slack f (absent_from v there)
-        (All-head (λ f. coefficient f v ≡ zero_ℚ) f [] (subst (λ fs. Miss fs v) l.functions m)))
-        (All-nil (λ f. coefficient f v ≡ zero_ℚ)))
-        (All-cons (MentionsKnown item image) objective []
-        (λ v m there. All-cons (λ f. coefficient f v ≡ zero_ℚ) slack [] (absent_from v there)
-        (All-nil (λ f. coefficient f v ≡ zero_ℚ)))
+        (λ v m there. all_paired difference (λ f. coefficient f v ≡ zero_ℚ) (missed-difference v)
+        (slack ∷ []) (f ∷ []) (missed v there) (subst (λ fs. Miss fs v) l.functions m))
+        (All-cons (MentionsKnown item image) objective [] (λ v m there. missed v there)
         (All-nil (MentionsKnown item image)));
     exprs = λ group. absurd (true≢false (sym group ∙ objective_no_group item.body l.source));
     expressed = λ v n. All-nil (λ f. coefficient f v ≡ zero_ℚ);
@@ -448,24 +429,17 @@ objective_parts groups exprs rows objective =
     record { groups = groups; exprs = exprs; rows = rows; objective = Some objective }
 
 abbrev pub slack_image : Item → Sense → Function → Image
-slack_image item sense f = record {
-  groups = free_at item 1 ∷ [];
-  exprs = [];
-  rows = child_at item 1 (row_of sense f (child_of (child_of item.at 0) 0)) ∷ [];
-  objective = Some (child_at item 2 (PlainObj sense (child_of (child_of item.at 0) 0)));
-}
+slack_image item sense f =
+    objective_parts (free_at item 1 ∷ []) []
+    (child_at item 1 (row_of sense f (child_of (child_of item.at 0) 0)) ∷ [])
+    (child_at item 2 (PlainObj sense (child_of (child_of item.at 0) 0)))
 
 slack_image_is : (item : Item) → functions_of item.body ≡ function_of_body item.body ∷ []
     → obj_slack item ≡ slack_image item (sense_of item.body) (function_of_body item.body)
 slack_image_is item alone =
-    ap (λ fs. record {
-      groups = free_at item 1 ∷ [];
-      exprs = [];
-      rows = child_at item 1 (Affine (first_in (differences (inner_functions item 1) fs))
-          (beyond (sense_of item.body))) ∷ [];
-      objective = Some (child_at item 2 (PlainObj (sense_of item.body)
-          (child_of (child_of item.at 0) 0)));
-    }) alone
+    ap (λ fs. objective_parts (free_at item 1 ∷ []) [] (child_at item 1
+    (Affine (first_in (differences (inner_functions item 1) fs)) (beyond (sense_of item.body)))
+    ∷ []) (child_at item 2 (PlainObj (sense_of item.body) (child_of (child_of item.at 0) 0)))) alone
 
 module _ (edge : Edge) (own : family_of edge ≡ ObjSlack) where
   -- f names no component
@@ -493,19 +467,17 @@ module _ (edge : Edge) (own : family_of edge ≡ ObjSlack) where
       at_row_is at_objective_is vars_are groups_are rows_are exprs_are row_is objective_is =
       let sense = sense_of item.body in
       let f = function_of_body item.body in
-      ap₂ (λ gs rs. objective_parts gs exprs rs (item_of at_objective objective)) groups_are
-      rows_are
-      ∙ ap (λ es. objective_parts (item_of at (Free vars) ∷ []) es (item_of at_row row ∷ [])
-      (item_of at_objective objective)) exprs_are
-      ∙ ap₂ (λ a vs. objective_parts (item_of a (Free vs) ∷ []) [] (item_of at_row row ∷ [])
-      (item_of at_objective objective)) at_is vars_are
-      ∙ ap₂ (λ a b. objective_parts (free_at item 1 ∷ []) [] (item_of a b ∷ [])
-      (item_of at_objective objective)) at_row_is row_is
-      ∙ ap₂ (λ a b. objective_parts (free_at item 1 ∷ []) []
-      (child_at item 1 (row_of sense f var) ∷ []) (item_of a b)) at_objective_is objective_is
-      ∙ ap (λ v. objective_parts (free_at item 1 ∷ []) [] (child_at item 1 (row_of sense f v) ∷ [])
-      (child_at item 2 (PlainObj sense v))) (var_is ∙ ap (λ a. child_of a 0) at_is)
-      ∙ sym (image_is rule edge own item
+      let slack = child_of (child_of item.at 0) 0 in
+      let slack_is : var ≡ slack = var_is ∙ ap (λ a. child_of a 0) at_is in
+      let group : groups ≡ free_at item 1 ∷ [] =
+      groups_are ∙ ap₂ (λ a vs. item_of a (Free vs) ∷ []) at_is vars_are in
+      let lone : rows ≡ child_at item 1 (row_of sense f slack) ∷ [] =
+      rows_are ∙ ap₂ (λ a b. item_of a b ∷ []) at_row_is (row_is ∙ ap (row_of sense f) slack_is) in
+      let last : item_of at_objective objective ≡ child_at item 2 (PlainObj sense slack) =
+      ap₂ item_of at_objective_is (objective_is ∙ ap (PlainObj sense) slack_is) in
+      let parts : objective_parts groups exprs rows (item_of at_objective objective)
+      ≡ slack_image item sense f = λ i. objective_parts (group i) (exprs_are i) (lone i) (last i) in
+      parts ∙ sym (image_is rule edge own item
       ∙ slack_image_is item (read (source_is rule edge own item suits).objective).functions)
 
 pub obj_slack_lawful : IsLawful ObjSlack

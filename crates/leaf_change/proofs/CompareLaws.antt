@@ -15,6 +15,7 @@ use Rattle.aff_core.specs.KeyOrder.{address_order}
 use Rattle.item_core.specs.declared.item.Body.{Body}
 use Rattle.leaf_change.specs.Compared.{Compares, of_held}
 use Rattle.leaf_change.specs.Named.{IsSameTerm}
+use Rattle.leaf_change.proofs.SameRows.{refused}
 use Rattle.leaf_change.proofs.ThroughPuts.{get_past, get_put}
 use Rattle.leaf_model.specs.ReadThrough.{address_in, by_address, read_objective}
 use Rattle.set_core.specs.declared.set.Set.{Set}
@@ -41,14 +42,6 @@ module _ {X Y : Type 0} (read : X → Y) (indices : Indices) (leaves : FinMap na
       ∙ ap (option_and_then (λ j. option_map read (finite.get leaves j))) e
       ∙ ap (option_map read) k
 
-pub held_compares : {X : Type 0} (o : Option X) (held x : X) (same : Bool) → o ≡ Some held
-    → (IsTrue same ↔ (held ≡ x)) → Compares o x (of_held same)
-held_compares o held x true e same = e ∙ ap Some (same.0 refl)
-held_compares o held x false e same = (
-  λ k. none-some held (sym k ∙ e),
-  λ k. absurd (true≢false (sym (same.1 (same_Some held x (sym e ∙ k))))),
-)
-
 pub held_matches : {X : Type 0} (o : Option X) (held x : X) (same : Bool) → o ≡ Some held
     → MatchBool same (held ≡ x) (held ≢ x) → Compares o x (of_held same)
 held_matches o held x true e same = e ∙ ap Some same
@@ -56,6 +49,12 @@ held_matches o held x false e other = (
   λ k. none-some held (sym k ∙ e),
   λ k. other (same_Some held x (sym e ∙ k)),
 )
+
+pub held_compares : {X : Type 0} (o : Option X) (held x : X) (same : Bool) → o ≡ Some held
+    → (IsTrue same ↔ (held ≡ x)) → Compares o x (of_held same)
+held_compares o held x true e same = held_matches o held x true e (same.0 refl)
+held_compares o held x false e same =
+    held_matches o held x false e (λ k. true≢false (sym (same.1 k)))
 
 -- an objective at the address that it is read at, and at another
 abbrev objective_map : Indices → Address → Option LeafObjective → FinMap address_cmp Body
@@ -117,4 +116,4 @@ sets_same s t r is = by r (subst (λ b. MatchBool b (s ≡ t) (s ≢ t)) (sym is
   where
     by : (b : Bool) → MatchBool b (s ≡ t) (s ≢ t) → IsTrue b ↔ (s ≡ t)
     by true e = (λ _. e, λ _. refl)
-    by false n = (λ t. absurd (true≢false (sym t)), λ e. absurd (n e))
+    by false n = refused n

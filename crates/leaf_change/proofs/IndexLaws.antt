@@ -1,23 +1,21 @@
 -- Terms by the indices of their addresses: in the order of the indices they make a function that
 -- is read as the one that they are of.
 use Rattle.std.specs.Prelude.{◌≡◌, ℕ, ◌+◌, ◌≤◌, ◌<◌, true, false, T, List, [], ◌∷◌, All, IsSome, Option, Some, None, length, map, slice_index_or, unwrap_or, refl}
-use Rattle.std.specs.Cmp.{nat_cmp_total, tied_itself}
+use Rattle.std.specs.Cmp.{nat_cmp_total}
 use Rattle.std.specs.FinMap as finite
 use Rattle.std.specs.FinMap.{is_sorted}
-use Rattle.std.specs.FinMap.Entries.{below_all}
-use Rattle.std.specs.List.{AllByRecursion, IsDistinct}
 use Rattle.std.specs.List.Sorted.{IsNonDecreasingBy, IsPermutation}
 use Rattle.std.specs.Ordering.{eq_by_cmp, nat_cmp}
-use Rattle.std.specs.declared.cmp.Ordering.TheVariants.{Less, Equal}
+use Rattle.std.specs.declared.cmp.Ordering.TheVariants.{Less}
 use Rattle.std.proofs.Common.{sym, ◌∙◌, ap, ap₂, subst, arith}
 use Rattle.std.proofs.lemmas.List.{get_or-map, length-map}
 use Rattle.std.proofs.lemmas.List.Elements.{All-head, All-map, All-tail, All-weaker}
 use Rattle.std.proofs.lemmas.List.Sorted.{All-permutation, IsPermutation-map}
 use Rattle.std.proofs.lemmas.List.Sums.{AllPass-from_list_all, list_all-from_AllPass}
-use Rattle.std.proofs.lemmas.Map.Keys.{IsDistinct-cons, apart_from_distinct}
+use Rattle.std.proofs.lemmas.Map.Keys.{apart_from_distinct}
 use Rattle.ratio_core.specs.Rational.{Rational, one_ℚ}
 use Rattle.address_map.specs.Places.{Indices, IsOneToOne}
-use Rattle.aff_core.specs.Address.{Address, address_cmp, address_total}
+use Rattle.aff_core.specs.Address.{Address, address_cmp}
 use Rattle.aff_core.specs.Function.{Function, function_of, gathered, terms_of, variable}
 use Rattle.aff_core.specs.FunctionLaws.{constant-function_of, function_of-terms, nonzero-filter, terms-function_of, terms-variable, tested}
 use Rattle.aff_core.specs.KeyOrder.{address_order, other_key}
@@ -27,11 +25,10 @@ use Rattle.item_core.specs.Item.{functions_of}
 use Rattle.item_core.specs.declared.item.Body.{Body}
 use Rattle.item_core.specs.declared.item.Item.{Item}
 use Rattle.leaf_change.specs.Named.{HasIndices, IsIndexed, index_at, indexed_terms}
-use Rattle.leaf_change.proofs.KeyLaws.{made_of_entries, rising_distinct, same_made}
+use Rattle.leaf_change.proofs.KeyLaws.{less_differs, made_of_entries, renamed_distinct, rising_distinct, same_made}
 use Rattle.leaf_model.specs.ReadThrough.{address_in, named, named_terms}
 use Rattle.map_laws.specs.EntryLaws.{is_sorted_adjacent}
 use Rattle.map_laws.specs.OptionLaws.{not_some}
-use Rattle.map_laws.specs.TestLaws.{first, is_less, second}
 use Rattle.solver_store.specs.SolverFunction.{IndicesRise}
 use Rattle.std_form.specs.NameLaws.{IsNamedTerm, NamesNamed, address_in_is, index_order}
 
@@ -72,35 +69,18 @@ module _ (indices : Indices) where
   HasIndex t = IsSome (finite.get indices t.0)
 
   module _ (one : IsOneToOne indices) where
-    other_index : (a b : Address) → IsSome (finite.get indices a) → IsSome (finite.get indices b)
-        → address_cmp a b ≡ Less → ¬ (index_at indices a ≡ index_at indices b)
-    other_index a b ha hb less e =
-        let same : a ≡ b = one a b (index_at indices a) (index_is a ha)
-        (index_is b hb ∙ ap Some (sym e)) in
-        let both : Less ≡ Equal = sym less ∙ ap (address_cmp a)
-        (sym same) ∙ tied_itself address_total a in
-        cc
-
-    apart : (t : Address × Rational) (ts : List (Address × Rational))
-        → T (below_all address_cmp t.0 ts) → HasIndex t → All HasIndex ts
-        → AllByRecursion (λ y. eq_by_cmp nat_cmp (index_at indices t.0) y ≡ false)
-        (map (λ u. u.0) (indexed_terms indices ts))
-    apart t [] h ht hts = tt
-    apart t (u ∷ ts) h ht hts = (
-      other_key index_order (index_at indices t.0) (index_at indices u.0)
-          (other_index t.0 u.0 ht (All-head HasIndex u ts hts) (is_less _ (first _ _ h))),
-      apart t ts (second _ _ h) ht (All-tail HasIndex u ts hts),
-    )
+    other_index : (t u : Address × Rational) → HasIndex t → HasIndex u
+        → address_cmp t.0 u.0 ≡ Less
+        → eq_by_cmp nat_cmp (index_at indices t.0) (index_at indices u.0) ≡ false
+    other_index t u ht hu less =
+        other_key index_order (index_at indices t.0) (index_at indices u.0)
+        (λ e. less_differs address_order t.0 u.0 less (one t.0 u.0 (index_at indices t.0)
+        (index_is t.0 ht) (index_is u.0 hu ∙ ap Some (sym e))))
 
     pub indexed_distinct : (ts : List (Address × Rational)) → T (is_sorted address_cmp ts)
         → All HasIndex ts → HasDistinctKeys nat_cmp (indexed_terms indices ts)
-    unfolding IsDistinct
-    indexed_distinct [] h hts = tt
-    indexed_distinct (t ∷ ts) h hts =
-        IsDistinct-cons (eq_by_cmp nat_cmp) (index_at indices t.0)
-        (map (λ u. u.0) (indexed_terms indices ts))
-        (apart t ts (first _ _ h) (All-head HasIndex t ts hts) (All-tail HasIndex t ts hts))
-        (indexed_distinct ts (second _ _ h) (All-tail HasIndex t ts hts))
+    indexed_distinct ts h hts =
+        renamed_distinct address_cmp nat_cmp (index_at indices) HasIndex other_index ts h hts
 
     named_again : (ts : List (Address × Rational)) → All HasIndex ts
         → named_terms indices (indexed_terms indices ts) ≡ ts

@@ -1,6 +1,6 @@
 -- Lists of entries with distinct keys: in another order, and how many they are.
-use Rattle.std.specs.Prelude.{◌≡◌, true, false, T, List, [], ◌∷◌, Option, Some, None, map, refl}
-use Rattle.std.specs.Cmp.{eq_by_cmp_equiv}
+use Rattle.std.specs.Prelude.{◌≡◌, true, false, T, All, List, [], ◌∷◌, Option, Some, None, map, refl}
+use Rattle.std.specs.Cmp.{eq_by_cmp_equiv, tied_itself}
 use Rattle.std.specs.FinMap as finite
 use Rattle.std.specs.FinMap.{FinMap, is_sorted}
 use Rattle.std.specs.FinMap.Entries.{below_all}
@@ -9,7 +9,10 @@ use Rattle.std.specs.List.Sorted.{IsPermutation}
 use Rattle.std.specs.Map.{lookup}
 use Rattle.std.specs.Ordering.{eq_by_cmp, is_eq}
 use Rattle.std.specs.declared.cmp.Ordering.{Ordering}
-use Rattle.std.proofs.Common.{sym, ◌∙◌, ap}
+use Rattle.std.specs.declared.cmp.Ordering.TheVariants.{Less, Equal}
+use Rattle.std.proofs.Common.{sym, ◌∙◌, ap, subst}
+use Rattle.std.proofs.lemmas.List.{map-id}
+use Rattle.std.proofs.lemmas.List.Elements.{All-head, All-tail}
 use Rattle.std.proofs.lemmas.List.Sorted.{Contains-permutation, IsPermutation-map, IsPermutation-sym}
 use Rattle.std.proofs.lemmas.Map.Keys.{IsDistinct-IsPermutation, IsDistinct-cons}
 use Rattle.std.proofs.lemmas.Map.Views.{Contains-from_lookup, lookup-from_Contains}
@@ -21,18 +24,41 @@ use Rattle.map_laws.specs.TestLaws.{first, is_less, second}
 
 -- ---- keys that rise are distinct
 
-module _ {K X : Type 0} (R : K → K → Ordering) where
-  below_apart : (k : K) (es : List (K × X)) → T (below_all R k es)
-      → AllByRecursion (λ y. eq_by_cmp R k y ≡ false) (map (λ e. e.0) es)
-  below_apart k [] h = tt
-  below_apart k (e ∷ es) h = (ap is_eq (is_less _ (first _ _ h)), below_apart k es (second _ _ h))
+pub less_differs : {K : Type 0} {R : K → K → Ordering} → IsKeyOrder R → (a b : K) → R a b ≡ Less
+    → ¬ (a ≡ b)
+less_differs {R = R} o a b less e =
+    let both : Less ≡ Equal = sym less ∙ ap (R a) (sym e) ∙ tied_itself o.total a in cc
 
-  pub rising_distinct : (es : List (K × X)) → T (is_sorted R es) → HasDistinctKeys R es
+-- also as others stand for them, where no two keys have the same
+module _ {J K X : Type 0} (R : J → J → Ordering) (S : K → K → Ordering) (f : J → K)
+    (P : J × X → Type 0) (apart : (t u : J × X) → P t → P u → R t.0 u.0 ≡ Less
+    → eq_by_cmp S (f t.0) (f u.0) ≡ false) where
+  abbrev renamed : List (J × X) → List (K × X)
+  renamed ts = map (λ t. (f t.0, t.1)) ts
+
+  below_apart : (t : J × X) (ts : List (J × X)) → T (below_all R t.0 ts) → P t → All P ts
+      → AllByRecursion (λ y. eq_by_cmp S (f t.0) y ≡ false) (map (λ e. e.0) (renamed ts))
+  below_apart t [] h own all = tt
+  below_apart t (u ∷ ts) h own all = (
+    apart t u own (All-head P u ts all) (is_less _ (first _ _ h)),
+    below_apart t ts (second _ _ h) own (All-tail P u ts all),
+  )
+
+  pub renamed_distinct : (ts : List (J × X)) → T (is_sorted R ts) → All P ts
+      → HasDistinctKeys S (renamed ts)
   unfolding IsDistinct
-  rising_distinct [] h = tt
-  rising_distinct (e ∷ es) h =
-      IsDistinct-cons (eq_by_cmp R) e.0 (map (λ f. f.0) es) (below_apart e.0 es (first _ _ h))
-      (rising_distinct es (second _ _ h))
+  renamed_distinct [] h all = tt
+  renamed_distinct (t ∷ ts) h all =
+      IsDistinct-cons (eq_by_cmp S) (f t.0) (map (λ e. e.0) (renamed ts))
+      (below_apart t ts (first _ _ h) (All-head P t ts all) (All-tail P t ts all))
+      (renamed_distinct ts (second _ _ h) (All-tail P t ts all))
+
+pub rising_distinct : {K X : Type 0} (R : K → K → Ordering) (es : List (K × X))
+    → T (is_sorted R es) → HasDistinctKeys R es
+rising_distinct R es h =
+    subst (HasDistinctKeys R) (map-id es)
+    (renamed_distinct R R (λ k. k) (λ _. Unit {0}) (λ t u _ _ less. ap is_eq less) es h
+    (λ _ _ _. tt))
 
 -- ---- in another order
 

@@ -35,7 +35,7 @@ use Rattle.set_core.specs.declared.set.Set.{Set}
 use Rattle.leaf_change.proofs.CountLaws.{count_more, none_in, one_moves, put_moves}
 use Rattle.leaf_change.proofs.KeyLaws.{rising_distinct}
 use Rattle.leaf_change.proofs.PutLaws.{new_next, new_second, put_all-append, put_all_after}
-use Rattle.map_laws.specs.LoopLaws.{next_item}
+use Rattle.map_laws.specs.LoopLaws.{map-take_more, next_item}
 use Rattle.leaf_change.proofs.ThroughPuts.{absent_index, get_past, get_put}
 use Rattle.leaf_model.specs.LeafModel.{Differ, IsChanged, IsCountOf, LeafModel, no_leaves}
 use Rattle.leaf_model.specs.ReadThrough.{by_address, read_objective, read_row, read_through}
@@ -103,45 +103,31 @@ module _ (held : LeafModel) (c : Compared) (item : Item) where
       (unmoved held.variables (leaf_variables item) no_variables)
       (unmoved held.rows (leaf_rows item) no_rows) moves
 
-module _ (held : LeafModel) (c : Compared) (at : Address) where
-  lone_row : (body : Body) → leaf_rows (item_of at body) ≡ (at, body) ∷ []
-      → leaf_variables (item_of at body) ≡ [] → leaf_objectives (item_of at body) ≡ []
-      → MovesOver held.rows ((at, body) ∷ []) c → MovesWith held (item_of at body) c
-  lone_row body is no_variables no_objectives moves =
-      row_moves held c (item_of at body) no_variables no_objectives
-      (subst (λ es. MovesOver held.rows es c) (sym is) moves)
-
-  lone_objective : (body : Body) → leaf_objectives (item_of at body) ≡ (at, body) ∷ []
-      → leaf_variables (item_of at body) ≡ [] → leaf_rows (item_of at body) ≡ []
-      → MovesOver held.objective ((at, body) ∷ []) c → MovesWith held (item_of at body) c
-  lone_objective body is no_variables no_rows moves =
-      objective_moves held c (item_of at body) no_variables no_rows
-      (subst (λ es. MovesOver held.objective es c) (sym is) moves)
-
-  group_at : (set : Set) (vars : List Address) (var : LeafVar) → var ≡ leaf_variable set
-      → MovesOver held.variables (variables_as var vars) c
-      → MovesWith held (item_of at (Group set vars)) c
-  group_at set vars var is moves =
-      variables_move held c (item_of at (Group set vars)) refl refl
-      (subst (λ v. MovesOver held.variables (variables_as v vars) c) is moves)
-
-  free_at : (vars : List Address) → MovesOver held.variables (variables_as leaf.Free vars) c
-      → MovesWith held (item_of at (Free vars)) c
-  free_at vars moves = variables_move held c (item_of at (Free vars)) refl refl moves
-
 module _ (held : LeafModel) (item : Item) where
   pub group_moves : (c : Compared) (set : Set) (vars : List Address) (var : LeafVar)
       → item.body ≡ Group set vars → var ≡ leaf_variable set
       → MovesOver held.variables (variables_as var vars) c → MovesWith held item c
   group_moves c set vars var is kind moves =
       subst (λ b. MovesWith held (record { at = item.at; body = b }) c) (sym is)
-      (group_at held c item.at set vars var kind moves)
+      (variables_move held c (item_of item.at (Group set vars)) refl refl
+      (subst (λ v. MovesOver held.variables (variables_as v vars) c) kind moves))
 
   pub free_moves : (c : Compared) (vars : List Address) → item.body ≡ Free vars
       → MovesOver held.variables (variables_as leaf.Free vars) c → MovesWith held item c
   free_moves c vars is moves =
       subst (λ b. MovesWith held (record { at = item.at; body = b }) c) (sym is)
-      (free_at held c item.at vars moves)
+      (variables_move held c (item_of item.at (Free vars)) refl refl moves)
+
+  -- a row, whose entries are itself alone
+  one_row : (comparison : Comparison) (body : Body)
+      → leaf_rows (item_of item.at body) ≡ (item.at, body) ∷ []
+      → leaf_variables (item_of item.at body) ≡ [] → leaf_objectives (item_of item.at body) ≡ []
+      → Compares (finite.get held.rows item.at) body comparison
+      → MovesWith held (record { at = item.at; body = body }) (counted comparison)
+  one_row comparison body alone no_variables no_objectives is =
+      row_moves held (counted comparison) (item_of item.at body) no_variables no_objectives
+      (subst (λ es. MovesOver held.rows es (counted comparison)) (sym alone)
+      (one_moves held.rows item.at body comparison is))
 
   other_moves : (comparison : Comparison) (body : Body)
       → ((set : Set) (vars : List Address) → body ≡ Group set vars → ⊥) → ((vars : List Address)
@@ -154,37 +140,26 @@ module _ (held : LeafModel) (item : Item) where
   other_moves comparison (PlainObj sense var) g f p a is = absurd (p sense var refl)
   other_moves comparison (AffineObj sense func) g f p a is = absurd (a sense func refl)
   other_moves comparison (Plain var set) g f p a is =
-      lone_row held (counted comparison) item.at (Plain var set) refl refl refl
-      (one_moves held.rows item.at (Plain var set) comparison is)
+      one_row comparison (Plain var set) refl refl refl is
   other_moves comparison (Affine func set) g f p a is =
-      lone_row held (counted comparison) item.at (Affine func set) refl refl refl
-      (one_moves held.rows item.at (Affine func set) comparison is)
+      one_row comparison (Affine func set) refl refl refl is
   other_moves comparison (PlainVec vars set) g f p a is =
-      lone_row held (counted comparison) item.at (PlainVec vars set) refl refl refl
-      (one_moves held.rows item.at (PlainVec vars set) comparison is)
+      one_row comparison (PlainVec vars set) refl refl refl is
   other_moves comparison (AffineVec func set) g f p a is =
-      lone_row held (counted comparison) item.at (AffineVec func set) refl refl refl
-      (one_moves held.rows item.at (AffineVec func set) comparison is)
+      one_row comparison (AffineVec func set) refl refl refl is
 
-  plain_objective_moves : (comparison : Comparison) (sense : Sense) (var : Address)
-      → item.body ≡ PlainObj sense var
+  -- an objective, whose entries are itself alone
+  one_objective : (comparison : Comparison) (body : Body) → item.body ≡ body
+      → leaf_objectives (item_of item.at body) ≡ (item.at, body) ∷ []
+      → leaf_variables (item_of item.at body) ≡ [] → leaf_rows (item_of item.at body) ≡ []
       → Compares (finite.get held.objective item.at) item.body comparison
       → MovesWith held item (counted comparison)
-  plain_objective_moves comparison sense var is compared =
+  one_objective comparison body is alone no_variables no_rows compared =
       subst (λ b. MovesWith held (record { at = item.at; body = b }) (counted comparison)) (sym is)
-      (lone_objective held (counted comparison) item.at (PlainObj sense var) refl refl refl
-      (one_moves held.objective item.at (PlainObj sense var) comparison
-      (subst (λ b. Compares (finite.get held.objective item.at) b comparison) is compared)))
-
-  affine_objective_moves : (comparison : Comparison) (sense : Sense) (func : Function)
-      → item.body ≡ AffineObj sense func
-      → Compares (finite.get held.objective item.at) item.body comparison
-      → MovesWith held item (counted comparison)
-  affine_objective_moves comparison sense func is compared =
-      subst (λ b. MovesWith held (record { at = item.at; body = b }) (counted comparison)) (sym is)
-      (lone_objective held (counted comparison) item.at (AffineObj sense func) refl refl refl
-      (one_moves held.objective item.at (AffineObj sense func) comparison
-      (subst (λ b. Compares (finite.get held.objective item.at) b comparison) is compared)))
+      (objective_moves held (counted comparison) (item_of item.at body) no_variables no_rows
+      (subst (λ es. MovesOver held.objective es (counted comparison)) (sym alone)
+      (one_moves held.objective item.at body comparison
+      (subst (λ b. Compares (finite.get held.objective item.at) b comparison) is compared))))
 
   pub objective_of_leaf_moves : (comparison : Comparison)
       → ((sense : Sense) × (var : Address) × (item.body ≡ PlainObj sense var)) ⊎ ((sense : Sense)
@@ -192,9 +167,9 @@ module _ (held : LeafModel) (item : Item) where
       → Compares (finite.get held.objective item.at) item.body comparison
       → MovesWith held item (counted comparison)
   objective_of_leaf_moves comparison (inl plain) compared =
-      plain_objective_moves comparison plain.0 plain.1 plain.2 compared
+      one_objective comparison (PlainObj plain.0 plain.1) plain.2 refl refl refl compared
   objective_of_leaf_moves comparison (inr affine) compared =
-      affine_objective_moves comparison affine.0 affine.1 affine.2 compared
+      one_objective comparison (AffineObj affine.0 affine.1) affine.2 refl refl refl compared
 
   pub row_of_leaf_moves : (comparison : Comparison)
       → ((set : Set) (vars : List Address) → item.body ≡ Group set vars
@@ -410,10 +385,7 @@ module _ (held : FinMap address_cmp LeafVar) (var : LeafVar) (vars : List Addres
     where
       taken : variables_as var (take (i + 1) vars)
           ≡ variables_as var (take i vars) ++ (at, var) ∷ []
-      taken =
-          ap (variables_as var) (take_more vars i at lt)
-          ∙ map-append (λ v. (v, var)) (take i vars) (slice_index_or vars i at ∷ [])
-          ∙ ap (λ v. variables_as var (take i vars) ++ (v, var) ∷ []) (sym is)
+      taken = map-take_more (λ v. (v, var)) vars i at is lt
 
       put : put_all after (variables_as var (take (i + 1) vars))
           ≡ finite.insert (put_all after (variables_as var (take i vars))) at var

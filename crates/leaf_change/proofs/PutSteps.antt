@@ -1,6 +1,6 @@
 -- Steps of the loops that put leaves, over plain values: of entries that are left, the first ones
 -- are put.
-use Rattle.std.specs.Prelude.{◌≡◌, ℕ, ◌+◌, ◌≤◌, ◌<◌, List, [], ◌∷◌, ◌++◌, All, IfSome, IsSome, Option, Some, None, drop, flat_map, length, map, option_and_then, slice_index_or, refl}
+use Rattle.std.specs.Prelude.{◌≡◌, ℕ, ◌≤◌, ◌<◌, List, [], ◌∷◌, ◌++◌, All, IfSome, IsSome, Option, Some, None, flat_map, length, map, option_and_then, slice_index_or, refl}
 use Rattle.std.specs.FinMap as finite
 use Rattle.std.specs.FinMap.{FinMap}
 use Rattle.std.specs.Option.{option_map, option_map_or}
@@ -25,7 +25,6 @@ use Rattle.leaf_change.specs.Puts.{AreNew, beside_rows, beside_variables, object
 use Rattle.leaf_change.proofs.PutLaws.{are_new, new_first, new_second, put_all-append, put_into_empty}
 use Rattle.leaf_change.proofs.ThroughPuts.{absent_index, exact_more, get_past, get_put, through_empty, through_more}
 use Rattle.leaf_model.specs.ReadThrough.{by_address, read_objective, read_row, read_through}
-use Rattle.map_laws.specs.OptionLaws.{not_some, some_is}
 use Rattle.solver_store.specs.SolverModel.{Leaves, no_leaves, with_objective, with_row, with_var}
 use Rattle.solver_store.specs.declared.leaf.LeafObjective.{LeafObjective}
 use Rattle.solver_store.specs.declared.leaf.LeafRow.{LeafRow}
@@ -42,15 +41,13 @@ module _ {X : Type 0} where
       → AreNew m es → AreNew m xs
   first_new m es xs rest is h = new_first m xs rest (subst (AreNew m) is h)
 
-  pub later_new : (m n : FinMap address_cmp X) (es xs rest : List (Address × X)) → es ≡ xs ++ rest
-      → n ≡ put_all m xs → AreNew m es → AreNew n rest
-  later_new m n es xs rest is put h =
-      subst (λ k. AreNew k rest) (sym put) (new_second m xs rest (subst (AreNew m) is h))
-
-  pub later_left : (m n whole : FinMap address_cmp X) (es xs rest : List (Address × X))
-      → es ≡ xs ++ rest → n ≡ put_all m xs → put_all m es ≡ whole → put_all n rest ≡ whole
-  later_left m n whole es xs rest is put left =
-      ap (λ k. put_all k rest) put ∙ sym (put_all-append m xs rest) ∙ sym (ap (put_all m) is) ∙ left
+  pub later_put : (m n whole : FinMap address_cmp X) (es xs rest : List (Address × X))
+      → es ≡ xs ++ rest → n ≡ put_all m xs → AreNew m es → put_all m es ≡ whole
+      → AreNew n rest × (put_all n rest ≡ whole)
+  later_put m n whole es xs rest is put h left = (
+    subst (λ k. AreNew k rest) (sym put) (new_second m xs rest (subst (AreNew m) is h)),
+    ap (λ k. put_all k rest) put ∙ sym (put_all-append m xs rest) ∙ sym (ap (put_all m) is) ∙ left,
+  )
 
 -- ---- a leaf variable
 
@@ -156,14 +153,13 @@ module _ (places : AddressMap) (leaves after : Leaves) (o : LeafObjective)
 pub index_there : {X Y : Type 0} (read : X → Y) (indices : Indices) (leaves : FinMap nat_cmp X)
     (at : Address) → IsSome (finite.get (by_address read indices leaves) at)
     → IsSome (finite.get indices at)
-index_there read indices leaves at h = by (finite.get indices at) refl
+index_there read indices leaves at h =
+    by (finite.get indices at) (subst IsSome (get_through leaves read indices at) h)
   where
-    by : (o : Option ℕ) → finite.get indices at ≡ o → IsSome (finite.get indices at)
-    by (Some i) e = some_is (finite.get indices at) i e
-    by None e =
-        absurd (not_some (finite.get (by_address read indices leaves) at)
-        (get_through leaves read indices at
-        ∙ ap (option_and_then (λ j. option_map read (finite.get leaves j))) e) h)
+    by : (o : Option ℕ)
+        → IsSome (option_and_then (λ j. option_map read (finite.get leaves j)) o) → IsSome o
+    by None some = some
+    by (Some i) some = refl
 
 pub all_indexed : (places : AddressMap) (solver : Leaves) (leaves : List Item)
     → variables_in places solver ≡ finite.from_entries (flat_map leaf_variables leaves)

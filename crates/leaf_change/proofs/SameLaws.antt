@@ -1,17 +1,17 @@
 -- A function of indices is read as a function of addresses exactly where they have as many terms,
 -- one constant, and each term of the first is one of the second.
-use Rattle.std.specs.Prelude.{◌≡◌, ◌≢◌, ◌↔◌, ℕ, ◌≤◌, Bool, true, false, ◌||◌, T, IsTrue, List, [], ◌∷◌, All, Option, Some, None, is_some, length, map, slice_index_or, unwrap_or, refl}
+use Rattle.std.specs.Prelude.{◌≡◌, ◌≢◌, ◌↔◌, ℕ, ◌≤◌, Bool, true, false, ◌||◌, IsTrue, List, [], ◌∷◌, All, Option, Some, None, is_some, length, map, slice_index_or, unwrap_or, refl}
 use Rattle.std.specs.Cmp.{eq_by_cmp_equiv, nat_cmp_total, tied_itself}
 use Rattle.std.specs.FinMap as finite
-use Rattle.std.specs.FinMap.{find, is_sorted}
-use Rattle.std.specs.FinMap.Entries.{below_all, is_some-find}
-use Rattle.std.specs.List.{AllByRecursion, IsDistinct, list_any}
+use Rattle.std.specs.FinMap.{find}
+use Rattle.std.specs.FinMap.Entries.{is_some-find}
+use Rattle.std.specs.List.{AllByRecursion, list_any}
 use Rattle.std.specs.Set.{is_member}
 use Rattle.std.specs.Ordering.{nat_cmp}
-use Rattle.std.specs.declared.cmp.Ordering.TheVariants.{Less, Equal}
+use Rattle.std.specs.declared.cmp.Ordering.TheVariants.{Less}
 use Rattle.std.proofs.Common.{sym, ◌∙◌, ap, subst, arith, true≢false}
 use Rattle.std.proofs.lemmas.List.{length-map}
-use Rattle.std.proofs.lemmas.List.Elements.{All-head, All-map, All-tail, All-weaker}
+use Rattle.std.proofs.lemmas.List.Elements.{All-map, All-weaker}
 use Rattle.std.proofs.lemmas.List.Sums.{AllPass-from_list_all, list_all-from_AllPass}
 use Rattle.std.proofs.lemmas.Map.Keys.{IsDistinct-cons}
 use Rattle.std.proofs.lemmas.Map.Made.{length-le_from_is_member}
@@ -27,12 +27,12 @@ use Rattle.aff_core.specs.Rising.{HasDistinctKeys}
 use Rattle.aff_core.specs.Terms.{HaveNoZero, is_nonzero}
 use Rattle.leaf_change.specs.Named.{IsSameTerm}
 use Rattle.leaf_change.specs.ReadableLaws.{found_passes}
-use Rattle.leaf_change.proofs.KeyLaws.{rising_distinct}
+use Rattle.leaf_change.proofs.KeyLaws.{less_differs, renamed_distinct, rising_distinct}
+use Rattle.leaf_change.proofs.SameRows.{refused}
 use Rattle.leaf_model.specs.ReadThrough.{address_in, named, named_terms}
 use Rattle.map_laws.specs.EntryLaws.{find_at}
-use Rattle.map_laws.specs.TestLaws.{first, is_less, second}
 use Rattle.solver_store.specs.SolverFunction.{SolverFunction}
-use Rattle.std_form.specs.NameLaws.{IsNamedTerm, NamesNamed, address_in_is, coefficient_named, constant_named}
+use Rattle.std_form.specs.NameLaws.{IsNamedTerm, NamesNamed, address_in_is, coefficient_named, constant_named, index_order}
 
 -- ---- keys and coefficients
 
@@ -142,44 +142,19 @@ module _ (ts us : List (Address × Rational)) where
 
 -- ---- a function of indices, read
 
-below_differs : (a b : ℕ) → nat_cmp a b ≡ Less → ¬ (a ≡ b)
-below_differs a b less e =
-    let both : Less ≡ Equal = sym less ∙ ap (nat_cmp a) (sym e) ∙ tied_itself nat_cmp_total a in
-    cc
-
 module _ (indices : Indices) (one : IsOneToOne indices) (g : SolverFunction)
     (names : NamesNamed indices g) (f : Function) where
-  other_name : (t u : ℕ × Rational) → IsNamedTerm indices t → IsNamedTerm indices u → ¬ (t.0 ≡ u.0)
-      → ¬ (address_in indices t.0 ≡ address_in indices u.0)
-  other_name t u ht hu n e =
-      n (same_Some t.0 u.0 (sym ht.1 ∙ ap (finite.get indices)
-      (sym (address_in_is indices one ht.0 t.0 ht.1) ∙ e
-      ∙ address_in_is indices one hu.0 u.0 hu.1) ∙ hu.1))
-
-  apart : (t : ℕ × Rational) (ts : List (ℕ × Rational)) → T (below_all nat_cmp t.0 ts)
-      → IsNamedTerm indices t → All (IsNamedTerm indices) ts
-      → AllByRecursion (λ y. address_eq (address_in indices t.0) y ≡ false)
-      (keys (named_terms indices ts))
-  apart t [] h ht hts = tt
-  apart t (u ∷ ts) h ht hts = (
-    other_key address_order (address_in indices t.0) (address_in indices u.0)
-        (other_name t u ht (All-head (IsNamedTerm indices) u ts hts)
-        (below_differs t.0 u.0 (is_less _ (first _ _ h)))),
-    apart t ts (second _ _ h) ht (All-tail (IsNamedTerm indices) u ts hts),
-  )
+  other_name : (t u : ℕ × Rational) → IsNamedTerm indices t → IsNamedTerm indices u
+      → nat_cmp t.0 u.0 ≡ Less
+      → address_eq (address_in indices t.0) (address_in indices u.0) ≡ false
+  other_name t u ht hu less =
+      other_key address_order (address_in indices t.0) (address_in indices u.0)
+      (λ e. less_differs index_order t.0 u.0 less (same_Some t.0 u.0 (sym ht.1
+      ∙ ap (finite.get indices) (sym (address_in_is indices one ht.0 t.0 ht.1) ∙ e
+      ∙ address_in_is indices one hu.0 u.0 hu.1) ∙ hu.1)))
 
   as_many : (ts : List (ℕ × Rational)) → length (named_terms indices ts) ≡ length ts
   as_many ts = length-map {B = Address × Rational} ts (λ t. (address_in indices t.0, t.1))
-
-  named_distinct : (ts : List (ℕ × Rational)) → T (is_sorted nat_cmp ts)
-      → All (IsNamedTerm indices) ts → HasDistinctKeys address_cmp (named_terms indices ts)
-  unfolding IsDistinct
-  named_distinct [] h hts = tt
-  named_distinct (t ∷ ts) h hts =
-      IsDistinct-cons address_eq (address_in indices t.0) (keys (named_terms indices ts))
-      (apart t ts (first _ _ h) (All-head (IsNamedTerm indices) t ts hts)
-      (All-tail (IsNamedTerm indices) t ts hts))
-      (named_distinct ts (second _ _ h) (All-tail (IsNamedTerm indices) t ts hts))
 
   named_nonzero : HaveNoZero (named_terms indices (terms_of g))
   named_nonzero =
@@ -188,7 +163,9 @@ module _ (indices : Indices) (one : IsOneToOne indices) (g : SolverFunction)
       (AllPass-from_list_all is_nonzero (terms_of g) g.nonzero))
 
   distinct : HasDistinctKeys address_cmp (named_terms indices (terms_of g))
-  distinct = named_distinct (terms_of g) (finite.entries_sorted g.terms) names
+  distinct =
+      renamed_distinct nat_cmp address_cmp (address_in indices) (IsNamedTerm indices) other_name
+      (terms_of g) (finite.entries_sorted g.terms) names
 
   read_coefficient : (v : Address) → coefficient (named indices g) v
       ≡ coefficient_in address_cmp (named_terms indices (terms_of g)) v
@@ -267,13 +244,7 @@ module _ (indices : Indices) (one : IsOneToOne indices) (g : SolverFunction)
 
   pub other_length : ¬ (length (terms_of g) ≡ length (terms_of f)) → IsTrue false
       ↔ (named indices g ≡ f)
-  other_length other = (
-    λ t. absurd (true≢false (sym t)),
-    λ e. absurd (other (same_only_if indices one g names f e).0),
-  )
+  other_length other = refused (λ e. other (same_only_if indices one g names f e).0)
 
   pub other_constant : ¬ (g.constant ≡ f.constant) → IsTrue false ↔ (named indices g ≡ f)
-  other_constant other = (
-    λ t. absurd (true≢false (sym t)),
-    λ e. absurd (other (same_only_if indices one g names f e).1),
-  )
+  other_constant other = refused (λ e. other (same_only_if indices one g names f e).1)

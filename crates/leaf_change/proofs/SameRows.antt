@@ -1,26 +1,12 @@
--- Bodies that are the same in both of their parts, or not; lists of functions that are read.
+-- Tests of all items of a list, and lists of functions that are read.
 use Rattle.std.specs.Prelude.{◌≡◌, ◌↔◌, ℕ, ◌+◌, ◌<◌, ◌≤◌, true, false, IsTrue, All, List, [], ◌∷◌, ◌++◌, length, map, slice_index_or, take, refl}
 use Rattle.std.proofs.Common.{sym, ◌∙◌, ap, subst, true≢false}
 use Rattle.std.proofs.lemmas.List.Elements.{All-more}
 use Rattle.std.proofs.lemmas.List.{map-append, take_all, take_more}
 
--- ---- of two parts
-
-module _ {X Y Z : Type 0} (body : X → Y → Z) where
-  -- the parts of equal bodies are equal
-  pub record HasParts : Type 0 where
-    pub first : (x w : X) (y z : Y) → body x y ≡ body w z → x ≡ w
-    pub second : (x w : X) (y z : Y) → body x y ≡ body w z → y ≡ z
-
-module _ {X Y Z : Type 0} {body : X → Y → Z} (parts : HasParts body) where
-  pub first_other : (x w : X) (y z : Y) → ¬ (x ≡ w) → IsTrue false ↔ (body x y ≡ body w z)
-  first_other x w y z other = (
-    λ t. absurd (true≢false (sym t)),
-    λ e. absurd (other (parts.first x w y z e)),
-  )
-
-pub differs : {Z : Type 0} (a b : Z) → ¬ (a ≡ b) → IsTrue false ↔ (a ≡ b)
-differs a b other = (λ t. absurd (true≢false (sym t)), λ e. absurd (other e))
+-- what doesn't hold is what a refusal says
+pub refused : {A : Type 0} → ¬ A → IsTrue false ↔ A
+refused off = (λ t. absurd (true≢false (sym t)), λ h. absurd (off h))
 
 -- ---- of all items
 
@@ -31,10 +17,7 @@ module _ {X : Type 0} (P : X → Type 0) (xs : List X) where
 
   pub all_refused : (i : ℕ) (x : X) → x ≡ slice_index_or xs i x → i < length xs → ¬ (P x)
       → IsTrue false ↔ All P xs
-  all_refused i x is lt other = (
-    λ t. absurd (true≢false (sym t)),
-    λ h. absurd (other (subst P (sym is) (h i x lt))),
-  )
+  all_refused i x is lt other = refused (λ h. other (subst P (sym is) (h i x lt)))
 
   pub all_passed : (n : ℕ) → length xs ≤ n → All P (take n xs) → IsTrue true ↔ All P xs
   all_passed n end h = (λ _. subst (All P) (take_all n xs end) h, λ _. refl)

@@ -8,7 +8,7 @@ use Rattle.std.specs.Ordering.{nat_cmp}
 use Rattle.std.specs.declared.cmp.Ordering.{Ordering}
 use Rattle.std.proofs.Common.{sym, ◌∙◌, ap, subst}
 use Rattle.std.proofs.lemmas.Option.{none-some, same_Some}
-use Rattle.address_map.specs.Places.{Indices, IsFree}
+use Rattle.address_map.specs.Places.{Indices}
 use Rattle.aff_core.specs.Address.{Address, address_cmp, address_total, exact_addresses}
 use Rattle.aff_core.specs.KeyOrder.{IsKeyOrder, address_order, other_key, same_key, same_or_other}
 use Rattle.leaf_model.specs.ReadThrough.{by_address}
@@ -46,9 +46,6 @@ module _ {X : Type 0} (indices : Indices) (leaves : FinMap nat_cmp X)
 
   module _ (at : Address) (i : ℕ) (x : X) (absent : finite.get indices at ≡ None)
       (unused : finite.get leaves i ≡ None) where
-    pub index_free : IsFree indices i
-    index_free q e = not_some (finite.get leaves i) unused (exact.used q i e)
-
     still : (j : ℕ) → IsSome (finite.get leaves j) → finite.get (finite.insert leaves i x) j
         ≡ finite.get leaves j
     still j h =

@@ -1,15 +1,14 @@
 -- The counts of the rows that bound a variable, as a row comes or goes.
-use Rattle.std.proofs.Common.{◌≡◌, ◌≢◌, add-zero, ℕ, ◌+◌, ◌<◌, ◌≤◌, ◌^◌, ◌&&◌, Bool, true, false, cond, List, [], ◌∷◌, length, Option, Some, None, refl, sym, ap, subst, ◌∙◌, arith, inl, inr}
+use Rattle.std.proofs.Common.{◌≡◌, ◌≢◌, add-zero, ℕ, ◌+◌, ◌-◌, ◌≤◌, ◌&&◌, Bool, true, false, cond, List, [], ◌∷◌, length, Option, Some, None, refl, sym, ap, subst, ◌∙◌, arith, inl, inr}
 use Rattle.std.specs.Prelude.{IfSome, IsSome, slice_index_or, count_by}
 use Rattle.std.specs.Option.{option_map}
 use Rattle.std.proofs.Math.ListN.{set}
 use Rattle.std.proofs.lemmas.Bool.{cases_eq, eq-eqb, false_from_ne_true, ne_eqb}
-use Rattle.std.proofs.lemmas.List.Sums.{count_by-le-length}
 use Rattle.std.proofs.lemmas.Option.{same_Some, slice_get-get_or}
 use Rattle.aff_core.specs.Address.{Address, address_eq, address_eq-Decides}
 use Rattle.aff_core.specs.declared.root.Root.TheVariants.{Variable as AtVariable}
 use Rattle.numbered.specs.Numbered.{Rise, IsAt, find, set_at}
-use Rattle.numbered.specs.Places.{IsFoundAt, IsMissingAt}
+use Rattle.numbered.specs.Places.{IsMissingAt}
 use Rattle.numbered.specs.Laws.{IsAt-find}
 use Rattle.numbered.specs.SetLaws.{Rise-set_at, find-set_at_same, find-set_at_other}
 use Rattle.numbered.specs.PlaceLaws.{replaced}
@@ -17,6 +16,7 @@ use Rattle.user_model.specs.declared.row.Row.{Row}
 use Rattle.user_model.specs.Edited.{row_number}
 use Rattle.user_model.specs.Model.{bounds_above, bounds_below, is_variable, variable_address}
 use Rattle.user_model.specs.Sets.{sets_lower, sets_upper}
+use Rattle.set_core.specs.declared.set.Set.{Set}
 use Rattle.model_catalog.specs.declared.variable.Variable.{Variable}
 use Rattle.model_catalog.specs.declared.index.Bounds.{Bounds}
 use Rattle.model_catalog.specs.Index.{CountsBounds, IsCounted, SetsBounds, bound_count, counted, is_number, recounted, variable_number}
@@ -114,151 +114,132 @@ missing_counted row m kept i is at =
     not_there None e some = let both : false ≡ true = some in cc
     not_there (Some v) e some = cc
 
--- the variable of a row, which stands at a place
-module _ (row : Row) (m : ℕ) (kept : List Variable) (i : ℕ) (d : Variable)
-    (is : (n : ℕ) → is_variable n row.func ≡ is_number (Some m) n)
-    (at : IsFoundAt variable_number m kept i) where
-  pub read : find variable_number m kept ≡ Some (slice_index_or kept i d)
-  read = at.found ∙ slice_get-get_or kept i d at.in_range
+-- the variable of a row that sets bounds, as it stands at its place
+module _ {row : Option Row} {kept : List Variable} {bounds : Bounds}
+    (s : SetsBounds row kept bounds) (d : Variable) where
+  abbrev its : Variable
+  its = slice_index_or kept bounds.place d
 
-  pub its_number : (slice_index_or kept i d).number ≡ m
+  read : find variable_number s.number kept ≡ Some its
+  read = s.found.found ∙ slice_get-get_or kept bounds.place d s.found.in_range
+
+  its_number : its.number ≡ s.number
   its_number =
-      let has = subst (IsAt variable_number m) read (IsAt-find variable_number m kept) in has
+      let has = subst (IsAt variable_number s.number) read
+      (IsAt-find variable_number s.number kept) in
+      has
 
-  itself : is_variable m row.func ≡ true
-  itself = is m ∙ eq-eqb m m refl
+  -- for a variable of its number the row is one of those that are counted
+  one : (v : Variable) (test : Set → Bool) → v.number ≡ s.number
+      → bound_count (λ r. is_variable v.number r.func && test r.set) row
+      ≡ cond (test s.own.set) 1 0
+  one v test number =
+      ap (bound_count (λ r. is_variable v.number r.func && test r.set)) s.is
+      ∙ ap (λ b. cond {A = ℕ} (b && test s.own.set) 1 0)
+      (ap (λ k. is_variable k s.own.func) number
+      ∙ (s.variable s.number ∙ eq-eqb s.number s.number refl))
 
-  one : (v : Variable) (b : Bool) → v.number ≡ m
-      → cond {A = ℕ} (is_variable v.number row.func && b) 1 0 ≡ cond b 1 0
-  one v b number =
-      ap (λ k. cond {A = ℕ} (is_variable k row.func && b) 1 0) number
-      ∙ ap (λ x. cond {A = ℕ} (x && b) 1 0) itself
+  below : (v : Variable) → v.number ≡ s.number
+      → bound_count (bounds_below v.number) row ≡ bounds.lower
+  below v number = one v sets_lower number ∙ sym s.lower
 
-  pub Rise-at : (v : Variable) → v.number ≡ m → Rise variable_number kept
-      → Rise variable_number (set kept i v)
-  Rise-at v number rise =
-      subst (Rise variable_number) (sym (replaced variable_number m v kept i at))
-      (Rise-set_at variable_number m (Some v) kept number rise)
+  above : (v : Variable) → v.number ≡ s.number
+      → bound_count (bounds_above v.number) row ≡ bounds.upper
+  above v number = one v sets_upper number ∙ sym s.upper
 
-  beside : (v : Variable) (n : ℕ) → v.number ≡ m → m ≢ n → find variable_number n (set kept i v)
-      ≡ find variable_number n kept
+  -- for a variable of another number it is not
+  other_at : (n : ℕ) → s.number ≢ n
+      → option_map (counted row) (find variable_number n kept) ≡ find variable_number n kept
+  other_at n other =
+      ap (λ (o : Option Row). option_map (counted o) (find variable_number n kept)) s.is
+      ∙ not_counted_at s.own n (find variable_number n kept) (IsAt-find variable_number n kept)
+      (s.variable n ∙ ne_eqb s.number n other)
+
+  pub bounds_rise : (v : Variable) → v.number ≡ its.number → Rise variable_number kept
+      → Rise variable_number (set kept bounds.place v)
+  bounds_rise v number rise =
+      subst (Rise variable_number)
+      (sym (replaced variable_number s.number v kept bounds.place s.found))
+      (Rise-set_at variable_number s.number (Some v) kept (number ∙ its_number) rise)
+
+  beside : (v : Variable) (n : ℕ) → v.number ≡ s.number → s.number ≢ n
+      → find variable_number n (set kept bounds.place v) ≡ find variable_number n kept
   beside v n number other =
-      ap (find variable_number n) (replaced variable_number m v kept i at)
-      ∙ find-set_at_other variable_number n m (Some v) kept (λ e. other (sym e)) number
+      ap (find variable_number n) (replaced variable_number s.number v kept bounds.place s.found)
+      ∙ find-set_at_other variable_number n s.number (Some v) kept (λ e. other (sym e)) number
 
-  here : (v : Variable) → v.number ≡ m → find variable_number m (set kept i v) ≡ Some v
+  here : (v : Variable) → v.number ≡ s.number
+      → find variable_number s.number (set kept bounds.place v) ≡ Some v
   here v number =
-      ap (find variable_number m) (replaced variable_number m v kept i at)
-      ∙ find-set_at_same variable_number m (Some v) kept number
+      ap (find variable_number s.number)
+      (replaced variable_number s.number v kept bounds.place s.found)
+      ∙ find-set_at_same variable_number s.number (Some v) kept number
 
-  pub counted_at : (v : Variable) → v.number ≡ m → v.group ≡ (slice_index_or kept i d).group
-      → v.lower ≡ (slice_index_or kept i d).lower + cond (sets_lower row.set) 1 0
-      → v.upper ≡ (slice_index_or kept i d).upper + cond (sets_upper row.set) 1 0 → (n : ℕ)
-      → find variable_number n (set kept i v) ≡ option_map (counted (Some row))
+  pub bounds_counted : (v : Variable) → v.number ≡ its.number → v.group ≡ its.group
+      → v.lower ≡ its.lower + bounds.lower → v.upper ≡ its.upper + bounds.upper → (n : ℕ)
+      → find variable_number n (set kept bounds.place v) ≡ option_map (counted row)
       (find variable_number n kept)
-  counted_at v number group lower upper n =
-      let x = slice_index_or kept i d in
-      elim (cases_eq m n) [
+  bounds_counted v number group lower upper n =
+      elim (cases_eq s.number n) [
         | inl same ↦
-            subst (λ k. find variable_number k (set kept i v) ≡ option_map (counted (Some row))
+            subst (λ k. find variable_number k (set kept bounds.place v) ≡ option_map (counted row)
             (find variable_number k kept)) same
-            (here v number
-            ∙ (ap Some (same_variable {v = v} {w = counted (Some row) x} (number ∙ sym its_number)
-            group (lower ∙ sym (ap (λ k. x.lower + k) (one x (sets_lower row.set) its_number)))
-            (upper ∙ sym (ap (λ k. x.upper + k) (one x (sets_upper row.set) its_number))))
-            ∙ sym (ap (option_map (counted (Some row))) read)))
-        | inr other ↦ beside v n number other
-            ∙ sym (not_counted_at row n (find variable_number n kept)
-            (IsAt-find variable_number n kept) (is n ∙ ne_eqb m n other))
+            (here v (number ∙ its_number)
+            ∙ (ap Some (same_variable {v = v} {w = counted row its} number group
+            (lower ∙ sym (ap (λ k. its.lower + k) (below its its_number)))
+            (upper ∙ sym (ap (λ k. its.upper + k) (above its its_number))))
+            ∙ sym (ap (option_map (counted row)) read)))
+        | inr other ↦ beside v n (number ∙ its_number) other ∙ sym (other_at n other)
       ]
 
-  pub discounted_at : (v : Variable) → v.number ≡ m → v.group ≡ (slice_index_or kept i d).group
-      → v.lower + cond (sets_lower row.set) 1 0 ≡ (slice_index_or kept i d).lower
-      → v.upper + cond (sets_upper row.set) 1 0 ≡ (slice_index_or kept i d).upper → (n : ℕ)
-      → option_map (counted (Some row)) (find variable_number n (set kept i v))
-      ≡ find variable_number n kept
-  discounted_at v number group lower upper n =
-      let x = slice_index_or kept i d in
-      elim (cases_eq m n) [
-        | inl same ↦
-            subst (λ k. option_map (counted (Some row)) (find variable_number k (set kept i v))
-            ≡ find variable_number k kept) same
-            (ap (option_map (counted (Some row))) (here v number)
-            ∙ (ap Some (same_variable {v = counted (Some row) v} {w = x} (number ∙ sym its_number)
-            group (ap (λ k. v.lower + k) (one v (sets_lower row.set) number) ∙ lower)
-            (ap (λ k. v.upper + k) (one v (sets_upper row.set) number) ∙ upper))
-            ∙ sym read))
-        | inr other ↦
-            ap (option_map (counted (Some row))) (beside v n number other)
-            ∙ not_counted_at row n (find variable_number n kept) (IsAt-find variable_number n kept)
-            (is n ∙ ne_eqb m n other)
-      ]
+  -- where every variable has the row among its counts, the bounds can be taken from them
+  module _ (all : (n : ℕ) → IfSome (find variable_number n kept) (λ v. IsCounted row v)) where
+    pub bounds_fit : (bounds.lower ≤ its.lower) × (bounds.upper ≤ its.upper)
+    bounds_fit =
+        let has : IsCounted row its =
+        subst (λ o. IfSome o (λ v. IsCounted row v)) read (all s.number) in (
+          subst (λ k. k ≤ its.lower) (below its its_number) has.0,
+          subst (λ k. k ≤ its.upper) (above its its_number) has.1,
+        )
 
-  -- the counts at the place, by what is known of every variable
-  pub its_counts : (P : Variable → Type 0) → ((n : ℕ) → IfSome (find variable_number n kept) P)
-      → P (slice_index_or kept i d)
-  its_counts P all = let has = subst (λ o. IfSome o P) read (all m) in has
-
-  pub its_row_counts : IsCounted (Some row) (slice_index_or kept i d)
-      → (cond (sets_lower row.set) 1 0 ≤ (slice_index_or kept i d).lower)
-      × (cond (sets_upper row.set) 1 0 ≤ (slice_index_or kept i d).upper)
-  its_row_counts h =
-      let x = slice_index_or kept i d in (
-        subst (λ k. k ≤ x.lower) (one x (sets_lower row.set) its_number) h.0,
-        subst (λ k. k ≤ x.upper) (one x (sets_upper row.set) its_number) h.1,
-      )
-
--- where the counts are known of every variable, those of the bounds' variable have the bounds
-pub set_bounds_counted : (row : Option Row) (kept : List Variable) (bounds : Bounds) (d : Variable)
-    (s : SetsBounds row kept bounds)
-    → ((n : ℕ) → IfSome (find variable_number n kept) (λ v. IsCounted row v))
-    → (cond (sets_lower s.own.set) 1 0 ≤ (slice_index_or kept bounds.place d).lower)
-    × (cond (sets_upper s.own.set) 1 0 ≤ (slice_index_or kept bounds.place d).upper)
-set_bounds_counted row kept bounds d s all =
-    let counts = its_counts s.own s.number kept bounds.place d s.variable s.found
-    (λ v. IsCounted row v) all in
-    its_row_counts s.own s.number kept bounds.place d s.variable s.found
-    (subst (λ (o : Option Row). IsCounted o (slice_index_or kept bounds.place d)) s.is counts)
+    pub bounds_discounted : (v : Variable) → v.number ≡ its.number → v.group ≡ its.group
+        → v.lower ≡ its.lower - bounds.lower → v.upper ≡ its.upper - bounds.upper → (n : ℕ)
+        → option_map (counted row) (find variable_number n (set kept bounds.place v))
+        ≡ find variable_number n kept
+    bounds_discounted v number group lower upper n =
+        let own = number ∙ its_number in
+        elim (cases_eq s.number n) [
+          | inl same ↦
+              subst (λ k. option_map (counted row)
+              (find variable_number k (set kept bounds.place v)) ≡ find variable_number k kept) same
+              (ap (option_map (counted row)) (here v own)
+              ∙ (ap Some (same_variable {v = counted row v} {w = its} number group
+              (omega (arith, lower, below v own, bounds_fit.0))
+              (omega (arith, upper, above v own, bounds_fit.1)))
+              ∙ sym read))
+          | inr other ↦ ap (option_map (counted row)) (beside v n own other) ∙ other_at n other
+        ]
 
 -- ---- a row that takes another's place
 
--- the counts fit
-pub counts_fit : (rows : List Row) (kept : List Variable) → CountsBounds rows kept
-    → length rows < 2 ^ 63 → (n : ℕ) → IfSome (find variable_number n kept)
-    (λ v. (v.lower < 2 ^ 63) × (v.upper < 2 ^ 63))
-counts_fit rows kept counts small n = by_place (find variable_number n kept) (counts n)
-  where
-    by_place : (o : Option Variable) → o ≡ option_map (recounted rows) o
-        → IfSome o (λ v. (v.lower < 2 ^ 63) × (v.upper < 2 ^ 63))
-    by_place None e = tt
-    by_place (Some v) e =
-        let is = same_Some v (recounted rows v) e in (
-          omega (
-            arith,
-            ap (λ x. x.lower) is,
-            count_by-le-length (bounds_below v.number) rows,
-            small,
-          ),
-          omega (
-            arith,
-            ap (λ x. x.upper) is,
-            count_by-le-length (bounds_above v.number)
-                rows,
-            small,
-          ),
-        )
-
-module _ (rows after : List Row) (k : ℕ) (new old : Option Row) (rise : Rise row_number rows)
-    (is : after ≡ set_at row_number k new rows) (was : old ≡ find row_number k rows) where
+module _ {rows after : List Row} (k : ℕ) {new old seen : Option Row} (rise : Rise row_number rows)
+    (is : after ≡ set_at row_number k new rows) (was : old ≡ find row_number k rows)
+    (seen_is : seen ≡ new) where
   count_moved : (test : Row → Bool) → count_by test after + bound_count test old
-      ≡ count_by test rows + bound_count test new
+      ≡ count_by test rows + bound_count test seen
   count_moved test =
       let moved = sum_set_at row_number (λ r. cond (test r) 1 0) k new rows rise in
-      omega (arith, moved, ap (count_by test) is, ap (bound_count test) was)
+      omega (
+        arith,
+        moved,
+        ap (count_by test) is,
+        ap (bound_count test) was,
+        ap (bound_count test) seen_is,
+      )
 
   -- the old row is counted after the new one is
   pub still_counted : (kept more : List Variable) → CountsBounds rows kept
-      → ((n : ℕ) → find variable_number n more ≡ option_map (counted new)
+      → ((n : ℕ) → find variable_number n more ≡ option_map (counted seen)
       (find variable_number n kept)) → (n : ℕ) → IfSome (find variable_number n more)
       (λ v. IsCounted old v)
   still_counted kept more counts entries n =
@@ -266,7 +247,7 @@ module _ (rows after : List Row) (k : ℕ) (new old : Option Row) (rise : Rise r
       (by_place (find variable_number n kept) (counts n))
     where
       by_place : (o : Option Variable) → o ≡ option_map (recounted rows) o
-          → IfSome (option_map (counted new) o) (λ v. IsCounted old v)
+          → IfSome (option_map (counted seen) o) (λ v. IsCounted old v)
       by_place None e = tt
       by_place (Some v) e =
           let same = same_Some v (recounted rows v) e in (
@@ -276,7 +257,7 @@ module _ (rows after : List Row) (k : ℕ) (new old : Option Row) (rise : Rise r
 
   -- and both give the counts of the rows now
   pub recounted_after : (kept more left : List Variable) → CountsBounds rows kept
-      → ((n : ℕ) → find variable_number n more ≡ option_map (counted new)
+      → ((n : ℕ) → find variable_number n more ≡ option_map (counted seen)
       (find variable_number n kept))
       → ((n : ℕ) → option_map (counted old) (find variable_number n left) ≡ find variable_number n
       more) → (n : ℕ) → find variable_number n left ≡ option_map (recounted after)
@@ -285,37 +266,23 @@ module _ (rows after : List Row) (k : ℕ) (new old : Option Row) (rise : Rise r
       by_places (find variable_number n kept) (find variable_number n left) (counts n)
       (back n ∙ entries n)
     where
+      left_count : {m j x y : ℕ} (bounds : ℕ → Row → Bool) → m ≡ j → y ≡ count_by (bounds j) rows
+          → x + bound_count (bounds m) old ≡ y + bound_count (bounds j) seen
+          → x ≡ count_by (bounds j) after
+      left_count {j = j} bounds number own moved =
+          let same = ap (λ i. bound_count (bounds i) old) number in
+          let sums = count_moved (bounds j) in omega arith
+
       by_places : (o p : Option Variable) → o ≡ option_map (recounted rows) o
-          → option_map (counted old) p ≡ option_map (counted new) o
+          → option_map (counted old) p ≡ option_map (counted seen) o
           → p ≡ option_map (recounted after) o
       by_places None None e same = refl
       by_places None (Some v) e same = cc
       by_places (Some v) None e same = cc
       by_places (Some v) (Some w) e same =
           let own = same_Some v (recounted rows v) e in
-          let moved = same_Some (counted old w) (counted new v) same in
+          let moved = same_Some (counted old w) (counted seen v) same in
           let number : w.number ≡ v.number = ap (λ x. x.number) moved in
-          let below : count_by (bounds_below w.number) after
-          ≡ count_by (bounds_below v.number) after = ap (λ m. count_by (bounds_below m)
-          after) number in
-          let below_old : bound_count (bounds_below w.number) old
-          ≡ bound_count (bounds_below v.number) old = ap (λ m. bound_count (bounds_below m)
-          old) number in
-          let above_old : bound_count (bounds_above w.number) old
-          ≡ bound_count (bounds_above v.number) old = ap (λ m. bound_count (bounds_above m)
-          old) number in
           ap Some (same_variable {v = w} {w = recounted after v} number (ap (λ x. x.group) moved)
-          (omega (
-            arith,
-            ap (λ x. x.lower) own,
-            ap (λ x. x.lower) moved,
-            below_old,
-            count_moved (bounds_below v.number),
-          ))
-          (omega (
-            arith,
-            ap (λ x. x.upper) own,
-            ap (λ x. x.upper) moved,
-            above_old,
-            count_moved (bounds_above v.number),
-          )))
+          (left_count bounds_below number (ap (λ x. x.lower) own) (ap (λ x. x.lower) moved))
+          (left_count bounds_above number (ap (λ x. x.upper) own) (ap (λ x. x.upper) moved)))

@@ -1,14 +1,13 @@
 -- What an exchange of contents makes of what is kept of a model.
-use Rattle.std.proofs.Common.{◌≡◌, ℕ, ◌+◌, ◌<◌, ◌≤◌, ◌==◌, Bool, true, false, cond, List, [], ◌∷◌, Option, Some, None, refl, sym, ap, subst, ◌∙◌, arith}
-use Rattle.std.specs.Prelude.{IsSome, IfSome, is_some, unwrap_or, sum_by, All}
+use Rattle.std.proofs.Common.{◌≡◌, ℕ, ◌+◌, ◌≤◌, Bool, true, false, cond, List, [], ◌∷◌, Option, Some, None, refl, sym, ap, subst, ◌∙◌, arith}
+use Rattle.std.specs.Prelude.{IsSome, IfSome, is_some, unwrap_or, sum_by}
 use Rattle.std.specs.Option.{option_map, option_map_or}
-use Rattle.std.proofs.lemmas.List.Elements.{All-nil, All-cons, All-head, All-tail}
 use Rattle.std.proofs.lemmas.List.Sums.{sum_by-cons}
 use Rattle.name_index.specs.NameTable.{Numbers, IsOneToOne}
 use Rattle.numbered.specs.declared.change.Change.{Change}
 use Rattle.numbered.specs.Numbered.{Rise, find, set_at}
 use Rattle.numbered.specs.Changes.{AreChanges, changed_number, old, olds, set_all}
-use Rattle.numbered.specs.Laws.{Rise-nil, Rise-cons, Rise-head, Rise-tail, number_of_found}
+use Rattle.numbered.specs.Laws.{Rise-head, number_of_found}
 use Rattle.numbered.specs.SetLaws.{Rise-set_at}
 use Rattle.numbered.specs.ChangeLaws.{AreChanges-rest, olds-set_at, set_all_back}
 use Rattle.user_model.specs.declared.group.GroupVar.{GroupVar}
@@ -24,15 +23,15 @@ use Rattle.user_model.specs.Undone.{before}
 use Rattle.model_catalog.specs.declared.names.NameChange.{NameChange}
 use Rattle.model_catalog.specs.declared.names.NameChanges.{NameChanges}
 use Rattle.model_catalog.specs.declared.variable.Variable.{Variable}
-use Rattle.model_catalog.specs.Names.{AreDistinct, listed_number, standing_names, name_of, put_count, renamed_by}
-use Rattle.model_catalog.specs.Index.{CountsBounds, IsIndexOf, given_variable, group_number_of, kept_count, kept_of, listed_in, lower_count, recounted, unbounded_in, upper_count, variable_number, weight}
+use Rattle.model_catalog.specs.Names.{AreDistinct, listed_number, standing_name, standing_names, name_of, put_count, renamed_by}
+use Rattle.model_catalog.specs.Index.{CountsBounds, IsIndexOf, given_variable, group_number_of, kept_as, kept_count, kept_of, listed_in, lower_count, recounted, unbounded_in, upper_count, variable_number, weight}
 use Rattle.model_catalog.specs.Terms.{changed_terms}
 use Rattle.model_catalog.specs.Named.{IsInGroup, AreNameChanges, ChangesNames, HasStandingNames, row_name, variable_name}
 use Rattle.model_catalog.specs.Kept.{HasNames, Keeps}
 use Rattle.model_catalog.specs.Exchange.{standing}
 use Rattle.map_laws.specs.OptionLaws.{is_some-option_map, none_of, some_is}
 use Rattle.model_catalog.proofs.Weights.{sum_set_at, sum_set_all}
-use Rattle.model_catalog.proofs.Found.{distinct_names}
+use Rattle.model_catalog.proofs.Found.{Rise-map, distinct_names, find-map}
 use Rattle.model_catalog.proofs.Counts.{same_variable}
 use Rattle.model_catalog.proofs.Models.{kept_number, named_in_group, no_lower_count, no_upper_count}
 
@@ -41,113 +40,51 @@ use Rattle.model_catalog.proofs.Models.{kept_number, named_in_group, no_lower_co
 abbrev Naming : Type 0
 Naming = ℕ → Option (List ℕ)
 
--- the names that a table is given
-pub names_given : (listed : List NameChange) (old new : Naming) (table : Numbers)
-    → ChangesNames listed old new → HasNames old table → (n : ℕ)
-    → renamed_by listed (name_of table) n ≡ new n
-names_given listed old new table lists has n =
-    ap (option_map_or (λ l. l.name) (find listed_number n listed)) (has.names n)
-    ∙ sym (lists.named n)
+-- the names that a table is given by a list that is that of all changes
+module _ {all listed : List NameChange} {old new : Naming} {table : Numbers}
+    (lists : ChangesNames all old new) (has : HasNames old table) (same : listed ≡ all) where
+  names_given : (n : ℕ) → renamed_by listed (name_of table) n ≡ new n
+  names_given n =
+      ap (λ ls. renamed_by ls (name_of table) n) same
+      ∙ (ap (option_map_or (λ l. l.name) (find listed_number n all)) (has.names n)
+      ∙ sym (lists.named n))
 
-pub distinct_given : (listed : List NameChange) (old new : Naming) (table : Numbers)
-    → ChangesNames listed old new → HasNames old table → AreDistinct new
-    → AreDistinct (renamed_by listed (name_of table))
-distinct_given listed old new table lists has distinct n m name here there =
-    distinct n m name (sym (names_given listed old new table lists has n) ∙ here)
-    (sym (names_given listed old new table lists has m) ∙ there)
+  pub distinct_given : AreDistinct new → AreDistinct (renamed_by listed (name_of table))
+  distinct_given distinct n m name here there =
+      distinct n m name (sym (names_given n) ∙ here) (sym (names_given m) ∙ there)
 
-pub has_names_given : (listed : List NameChange) (old new : Naming) (table after : Numbers)
-    → ChangesNames listed old new → HasNames old table
-    → ((n : ℕ) → name_of after n ≡ renamed_by listed (name_of table) n) → IsOneToOne after
-    → HasNames new after
-has_names_given listed old new table after lists has is one =
-    record { one_to_one = one; names = λ n. is n ∙ names_given listed old new table lists has n }
+  pub has_names_given : {after : Numbers}
+      → ((n : ℕ) → name_of after n ≡ renamed_by listed (name_of table) n) → IsOneToOne after
+      → HasNames new after
+  has_names_given is one = record { one_to_one = one; names = λ n. is n ∙ names_given n }
 
-pub distinct_variables : (model : ModelValue) → IsConsistent model
+pub distinct_variables : {model : ModelValue} → IsConsistent model
     → AreDistinct (variable_name model)
-distinct_variables model ok =
+distinct_variables {model} ok =
     distinct_names consistent.variable_number (λ (v : GroupVar). v.name) (variables model)
     ok.variable_names
 
-pub distinct_rows : (model : ModelValue) → IsConsistent model → AreDistinct (row_name model)
-distinct_rows model ok = distinct_names row_number (λ (r : Row). r.name) model.rows ok.row_names
+pub distinct_rows : {model : ModelValue} → IsConsistent model → AreDistinct (row_name model)
+distinct_rows {model} ok =
+    distinct_names row_number (λ (r : Row). r.name) model.rows ok.row_names
 
 -- ---- the way back of names
-
-module _ (naming : Naming) where
-  find-standing : (n : ℕ) (listed : List NameChange)
-      → find listed_number n (standing_names naming listed)
-      ≡ option_map (λ (l : NameChange). let l' : NameChange = record {
-        number = l.number;
-        name = naming l.number;
-        aside = None;
-      } in l') (find listed_number n listed)
-  find-standing n [] = refl
-  find-standing n (x ∷ xs) =
-      elim (x.number == n) as (λ b. cond b
-      (Some (record { number = x.number; name = naming x.number; aside = None })) (find
-      listed_number n (standing_names naming xs)) ≡ option_map
-      (λ (l : NameChange). let l' : NameChange = record {
-        number = l.number;
-        name = naming l.number;
-        aside = None;
-      } in l') (cond b (Some x) (find listed_number n xs)))
-      [ true ↦ refl | false ↦ find-standing n xs ]
-
-  All-listing : (n : ℕ) (listed : List NameChange) → All (λ l. n < l.number) listed
-      → All (λ l. n < l.number) (standing_names naming listed)
-  All-listing n [] h = All-nil (λ l. n < l.number)
-  All-listing n (x ∷ xs) h =
-      All-cons (λ l. n < l.number) _ (standing_names naming xs)
-      (All-head (λ l. n < l.number) x xs h) (All-listing n xs (All-tail (λ l. n < l.number) x xs h))
-
-  Rise-listing : (listed : List NameChange) → Rise listed_number listed
-      → Rise listed_number (standing_names naming listed)
-  Rise-listing [] rise = Rise-nil listed_number
-  Rise-listing (x ∷ xs) rise =
-      Rise-cons listed_number _ (standing_names naming xs)
-      (All-listing x.number xs (Rise-head listed_number x xs rise))
-      (Rise-listing xs (Rise-tail listed_number x xs rise))
-
-  pub some_listing : (n : ℕ) (listed : List NameChange)
-      → is_some (find listed_number n (standing_names naming listed))
-      ≡ is_some (find listed_number n listed)
-  some_listing n listed =
-      ap is_some (find-standing n listed) ∙ is_some-option_map _ (find listed_number n listed)
 
 -- the old names listed lead back
 pub names_back : (listed : List NameChange) (old new : Naming) → ChangesNames listed old new
     → ChangesNames (standing_names old listed) new old
 names_back listed old new h = record {
-  rising = Rise-listing old listed h.rising;
-  named = λ n. by_place n (find listed_number n listed) refl
-      ∙ sym (ap (λ o. option_map_or (λ l. l.name) o (new n)) (find-standing old n listed));
+  rising = Rise-map (standing_name old) listed_number listed h.rising;
+  named = λ n. by_place n (find listed_number n listed) refl (h.named n)
+      ∙ sym (ap (λ o. option_map_or (λ l. l.name) o (new n))
+      (find-map (standing_name old) listed_number n listed));
 }
   where
     by_place : (n : ℕ) (o : Option NameChange) → find listed_number n listed ≡ o
-        → old n ≡ option_map_or (λ l. l.name)
-        (option_map (λ (l : NameChange). let l' : NameChange = record {
-          number = l.number;
-          name = old l.number;
-          aside = None;
-        } in l') (find listed_number n listed)) (new n)
-    by_place n None e =
-        sym (ap (λ o. option_map_or (λ l. l.name) o (old n)) e)
-        ∙ (sym (h.named n)
-        ∙ sym (ap (λ o. option_map_or (λ l. l.name)
-        (option_map (λ (l : NameChange). let l' : NameChange = record {
-          number = l.number;
-          name = old l.number;
-          aside = None;
-        } in l') o) (new n)) e))
-    by_place n (Some l) e =
-        ap old (sym (number_of_found listed_number n l listed e))
-        ∙ sym (ap (λ o. option_map_or (λ l. l.name)
-        (option_map (λ (l : NameChange). let l' : NameChange = record {
-          number = l.number;
-          name = old l.number;
-          aside = None;
-        } in l') o) (new n)) e)
+        → new n ≡ option_map_or (λ l. l.name) o (old n)
+        → old n ≡ option_map_or (λ l. l.name) (option_map (standing_name old) o) (new n)
+    by_place n None e is = sym is
+    by_place n (Some l) e is = ap old (sym (number_of_found listed_number n l listed e))
 
 pub lists_back : (names standing : NameChanges) (model after : ModelValue)
     → AreNameChanges names model after → HasStandingNames model names standing
@@ -171,89 +108,32 @@ lists_back names standing model after h is = record {
         ≡ is_some (find listed_number n names.variables.items)
     listed n =
         ap (λ xs. is_some (find listed_number n xs)) is.variables
-        ∙ some_listing (variable_name model) n names.variables.items
+        ∙ (ap is_some (find-map (standing_name (variable_name model)) listed_number n
+        names.variables.items) ∙ is_some-option_map _ (find listed_number n names.variables.items))
 
 -- ---- the variables that are kept
 
 -- a listed variable, from its old group to its new one
-index_at : (rows : List Row) (n group lower upper : ℕ) (l : NameChange) (was now : Option ℕ)
+index_at : (rows others : List Row) (n group : ℕ) (l : NameChange) (was now : Option ℕ)
     → l.number ≡ n → is_some l.name ≡ is_some now → IfSome was (λ id. id ≡ group)
     → IfSome now (λ id. id ≡ group) → option_map (recounted rows)
-    (given_variable group l (option_map (λ id. record {
-      number = n;
-      group = id;
-      lower = lower;
-      upper = upper;
-    }) was)) ≡ option_map (λ id. record {
-      number = n;
-      group = id;
-      lower = lower_count n rows;
-      upper = upper_count n rows;
-    }) now
-index_at rows n group lower upper l was now number named before after =
+    (given_variable group l (option_map (kept_as others n) was)) ≡ option_map (kept_as rows n) now
+index_at rows others n group l was now number named before after =
     by_name (is_some l.name) was now named before after
   where
     by_name : (b : Bool) (o p : Option ℕ) → b ≡ is_some p → IfSome o (λ id. id ≡ group)
-        → IfSome p (λ id. id ≡ group) → option_map (recounted rows)
-        (cond b (Some (unwrap_or (option_map (λ id. record {
-          number = n;
-          group = id;
-          lower = lower;
-          upper = upper;
-        }) o) (unbounded_in group l.number))) None)
-        ≡ option_map (λ id. record {
-          number = n;
-          group = id;
-          lower = lower_count n rows;
-          upper = upper_count n rows;
-        }) p
+        → IfSome p (λ id. id ≡ group) → option_map (recounted rows) (cond b
+        (Some (unwrap_or (option_map (kept_as others n) o) (unbounded_in group l.number))) None)
+        ≡ option_map (kept_as rows n) p
     by_name false o None e before after = refl
     by_name false o (Some id) e before after = absurd (let both : false ≡ true = e in cc)
     by_name true o None e before after = absurd (let both : true ≡ false = e in cc)
-    by_name true None (Some id) e before after =
-        λ i. Some (record {
-          number = number i;
-          group = sym after i;
-          lower = lower_count (number i) rows;
-          upper = upper_count (number i) rows;
-        })
+    by_name true None (Some id) e before after = λ i. Some (kept_as rows (number i) (sym after i))
     by_name true (Some old) (Some id) e before after =
-        λ i. Some (record {
-          number = n;
-          group = (before ∙ sym after) i;
-          lower = lower_count n rows;
-          upper = upper_count n rows;
-        })
-
-recounted_same : (rows : List Row) (n : ℕ) (o : Option ℕ)
-    → option_map (λ id. record {
-      number = n;
-      group = id;
-      lower = lower_count n rows;
-      upper = upper_count n rows;
-    }) o ≡ option_map (recounted rows)
-    (option_map (λ id. record {
-      number = n;
-      group = id;
-      lower = lower_count n rows;
-      upper = upper_count n rows;
-    }) o)
-recounted_same rows n None = refl
-recounted_same rows n (Some id) = refl
+        λ i. Some (kept_as rows n ((before ∙ sym after) i))
 
 recounted_other : (rows others : List Row) (n : ℕ) (o : Option ℕ)
-    → option_map (recounted rows)
-    (option_map (λ id. record {
-      number = n;
-      group = id;
-      lower = lower_count n others;
-      upper = upper_count n others;
-    }) o) ≡ option_map (λ id. record {
-      number = n;
-      group = id;
-      lower = lower_count n rows;
-      upper = upper_count n rows;
-    }) o
+    → option_map (recounted rows) (option_map (kept_as others n) o) ≡ option_map (kept_as rows n) o
 recounted_other rows others n None = refl
 recounted_other rows others n (Some id) = refl
 
@@ -264,51 +144,40 @@ module _ (model : ModelValue) (kept listed_kept : List Variable) (group : ℕ)
   -- after the listed variables the counts are still those of the old rows
   pub counts_listed : CountsBounds model.rows listed_kept
   counts_listed n =
-      entries n ∙ (by_place (find listed_number n listed) refl
-      ∙ ap (option_map (recounted model.rows)) (sym (entries n)))
+      subst (λ o. o ≡ option_map (recounted model.rows) o) (sym (entries n))
+      (by_place (find listed_number n listed) refl)
     where
+      kept_counts : find variable_number n kept ≡ option_map (recounted model.rows)
+          (find variable_number n kept)
+      kept_counts =
+          subst (λ o. o ≡ option_map (recounted model.rows) o) (sym (index.entries n))
+          (sym (recounted_other model.rows model.rows n (group_number_of model n)))
+
       by_name : (l : NameChange) (b : Bool) (o : Option Variable) → l.number ≡ n
-          → find variable_number n kept ≡ o
-          → cond b (Some (unwrap_or (find variable_number n kept) (unbounded_in group l.number)))
-          None ≡ option_map (recounted model.rows)
-          (cond b (Some (unwrap_or (find variable_number n kept) (unbounded_in group l.number)))
-          None)
-      by_name l false o number e = refl
-      by_name l true None number e =
+          → find variable_number n kept ≡ o → o ≡ option_map (recounted model.rows) o
+          → cond b (Some (unwrap_or o (unbounded_in group l.number))) None
+          ≡ option_map (recounted model.rows)
+          (cond b (Some (unwrap_or o (unbounded_in group l.number))) None)
+      by_name l false o number e is = refl
+      by_name l true None number e is =
           let new : unbounded_in group l.number
           ≡ recounted model.rows (unbounded_in group l.number) =
           same_variable refl refl
-          (no_lower_count model kept ok index n e ∙ ap (λ k. lower_count k model.rows) (sym number))
-          (no_upper_count model kept ok index n e ∙ ap (λ k. upper_count k model.rows)
+          (no_lower_count ok index n e ∙ ap (λ k. lower_count k model.rows) (sym number))
+          (no_upper_count ok index n e ∙ ap (λ k. upper_count k model.rows)
           (sym number)) in
-          ap (λ p. Some (unwrap_or p (unbounded_in group l.number))) e
-          ∙ (ap Some new ∙ sym (ap (λ p. option_map (recounted model.rows)
-          (Some (unwrap_or p (unbounded_in group l.number)))) e))
-      by_name l true (Some v) number e =
-          let is = sym e ∙ (index.entries n ∙ (recounted_same model.rows n (group_number_of model n)
-          ∙ (ap (option_map (recounted model.rows)) (sym (index.entries n))
-          ∙ ap (option_map (recounted model.rows)) e))) in
-          ap (λ p. Some (unwrap_or p (unbounded_in group l.number))) e
-          ∙ (is ∙ sym (ap (λ p. option_map (recounted model.rows)
-          (Some (unwrap_or p (unbounded_in group l.number)))) e))
+          ap Some new
+      by_name l true (Some v) number e is = is
 
       by_place : (o : Option NameChange) → find listed_number n listed ≡ o
           → option_map_or (λ l. given_variable group l (find variable_number n kept)) o
           (find variable_number n kept) ≡ option_map (recounted model.rows)
-          (option_map_or (λ l. given_variable group l (find variable_number n kept))
-          (find listed_number n listed) (find variable_number n kept))
-      by_place None e =
-          index.entries n ∙ (recounted_same model.rows n (group_number_of model n)
-          ∙ (ap (option_map (recounted model.rows)) (sym (index.entries n))
-          ∙ ap (λ o. option_map (recounted model.rows)
           (option_map_or (λ l. given_variable group l (find variable_number n kept)) o
-          (find variable_number n kept))) (sym e)))
+          (find variable_number n kept))
+      by_place None e = kept_counts
       by_place (Some l) e =
           by_name l (is_some l.name) (find variable_number n kept)
-          (number_of_found listed_number n l listed e) refl
-          ∙ ap (λ o. option_map (recounted model.rows)
-          (option_map_or (λ l. given_variable group l (find variable_number n kept)) o
-          (find variable_number n kept))) (sym e)
+          (number_of_found listed_number n l listed e) refl kept_counts
 
   module _ (after : ModelValue) (kept_after : List Variable)
       (names : ChangesNames listed (variable_name model) (variable_name after))
@@ -330,34 +199,22 @@ module _ (model : ModelValue) (kept listed_kept : List Variable) (group : ℕ)
       where
         by_place : (n : ℕ) (o : Option NameChange) → find listed_number n listed ≡ o
             → option_map (recounted after.rows)
-            (option_map_or (λ l. given_variable group l (find variable_number n kept))
-            (find listed_number n listed) (find variable_number n kept)) ≡ kept_of after n
-        by_place n None e =
-            ap (λ o. option_map (recounted after.rows)
             (option_map_or (λ l. given_variable group l (find variable_number n kept)) o
-            (find variable_number n kept))) e
-            ∙ (ap (option_map (recounted after.rows)) (index.entries n)
+            (find variable_number n kept)) ≡ kept_of after n
+        by_place n None e =
+            ap (option_map (recounted after.rows)) (index.entries n)
             ∙ (recounted_other after.rows model.rows n (group_number_of model n)
-            ∙ sym (ap (option_map (λ id. record {
-              number = n;
-              group = id;
-              lower = lower_count n after.rows;
-              upper = upper_count n after.rows;
-            })) (others n
-            e))))
+            ∙ sym (ap (option_map (kept_as after.rows n)) (others n e)))
         by_place n (Some l) e =
             let number = number_of_found listed_number n l listed e in
             let both = in_group n (some_is (find listed_number n listed) l e) in
             let named : is_some l.name ≡ is_some (group_number_of after n) =
             sym (ap is_some (names.named n ∙ ap (λ o. option_map_or (λ l. l.name) o
             (variable_name model n)) e)) ∙ named_in_group after n in
-            ap (λ o. option_map (recounted after.rows)
-            (option_map_or (λ l. given_variable group l (find variable_number n kept)) o
-            (find variable_number n kept))) e
-            ∙ (ap (λ o. option_map (recounted after.rows) (given_variable group l o))
+            ap (λ o. option_map (recounted after.rows) (given_variable group l o))
             (index.entries n)
-            ∙ index_at after.rows n group (lower_count n model.rows) (upper_count n model.rows) l
-            (group_number_of model n) (group_number_of after n) number named both.0 both.1)
+            ∙ index_at after.rows model.rows n group l (group_number_of model n)
+            (group_number_of after n) number named both.0 both.1
 
 -- as many of the listed are kept as have a name
 pub kept_count_is : (model : ModelValue) (kept : List Variable) → IsConsistent model
@@ -366,16 +223,12 @@ pub kept_count_is : (model : ModelValue) (kept : List Variable) → IsConsistent
 kept_count_is model kept ok index [] = refl
 kept_count_is model kept ok index (l ∷ ls) =
     sum_by-cons (λ (x : NameChange). cond (is_some (find variable_number x.number kept)) 1 0) l ls
-    ∙ (ap (λ b. cond b 1 0 + kept_count kept ls) (kept_number model kept ok index l.number
+    ∙ (ap (λ b. cond b 1 0 + kept_count kept ls) (kept_number ok index l.number
     ∙ sym (named_in_group model l.number))
     ∙ (ap (λ k. cond (is_some (variable_name model l.number)) 1 0 + k)
     (kept_count_is model kept ok index ls)
     ∙ sym (sum_by-cons (λ (x : NameChange). cond (is_some x.name) 1 0)
-    (record {
-      number = l.number;
-      name = variable_name model l.number;
-      aside = None;
-    }) (standing_names (variable_name model) ls))))
+    (standing_name (variable_name model) l) (standing_names (variable_name model) ls))))
 
 -- ---- terms
 

@@ -1,6 +1,6 @@
 -- What is found in lists of items with numbers and names.
 use Rattle.std.proofs.Common.{◌≡◌, ◌≢◌, ℕ, ◌+◌, ◌<◌, ◌==◌, ◌||◌, nat_lt, Bool, true, false, cond, List, [], ◌∷◌, map, Option, Some, None, refl, sym, ap, ◌∙◌, arith, inl, inr, slice_get}
-use Rattle.std.specs.Prelude.{is_some, AllPairs, All, count_by, flat_map}
+use Rattle.std.specs.Prelude.{is_some, AllPairs, count_by, flat_map}
 use Rattle.std.specs.List as list
 use Rattle.std.specs.List.{list_any}
 use Rattle.std.specs.Option.{option_map, option_and_then, option_or}
@@ -8,13 +8,13 @@ use Rattle.std.specs.Str.{bytes_eq}
 use Rattle.std.specs.Cmp.Lexicographic.{bytes_decides}
 use Rattle.std.proofs.lemmas.Bool.{cases_order}
 use Rattle.std.proofs.lemmas.Bool.Decides.{nat_tests}
-use Rattle.std.proofs.lemmas.List.Elements.{All-nil, All-cons, All-head, All-tail}
 use Rattle.std.proofs.lemmas.List.Folds.{find-append}
 use Rattle.std.proofs.lemmas.Option.{none-some, same_Some, slice_get_within, get_or_from_slice_get}
+use Rattle.map_laws.specs.PairLaws.{AllPairs-map}
 use Rattle.map_laws.specs.PlaceLaws.{none_passes, place_of_found, some_found}
 use Rattle.map_laws.specs.SumLaws.{count_first}
 use Rattle.numbered.specs.Numbered.{Rise, IsAt, find}
-use Rattle.numbered.specs.Laws.{IsAt-find, Rise-nil, Rise-cons, Rise-head, Rise-tail, find-at, number_of_found, same_lists}
+use Rattle.numbered.specs.Laws.{IsAt-find, find-at, number_of_found, same_lists}
 use Rattle.model_catalog.specs.Names.{AreDistinct}
 
 -- ---- searches
@@ -127,39 +127,31 @@ module _ {X : Type 0} (number_of : X → ℕ) (name_of : X → List ℕ) where
               let on = (bytes_decides (name_of item.0) name).1 item.2 in
               absurd (let both : true ≡ false = sym on ∙ off in cc)
 
--- ---- numbers alone
+-- ---- items made of others, whose numbers they have
 
-module _ {X : Type 0} (number_of : X → ℕ) where
-  All-numbers : (n : ℕ) (xs : List X) → All (λ x. n < number_of x) xs
-      → All (λ k. n < k) (map number_of xs)
-  All-numbers n [] h = All-nil (λ k. n < k)
-  All-numbers n (x ∷ xs) h =
-      All-cons (λ k. n < k) (number_of x) (map number_of xs)
-      (All-head (λ x. n < number_of x) x xs h)
-      (All-numbers n xs (All-tail (λ x. n < number_of x) x xs h))
+module _ {X Y : Type 0} (f : X → Y) (number_of : Y → ℕ) where
+  pub Rise-map : (xs : List X) → Rise (λ x. number_of (f x)) xs → Rise number_of (map f xs)
+  Rise-map xs rise = record {
+    rising = AllPairs-map (λ x y. number_of x < number_of y) f
+        (λ x y. number_of (f x) < number_of (f y)) xs (λ x y lt. lt) rise.rising;
+  }
 
-  Rise-numbers : (xs : List X) → Rise number_of xs → Rise (λ k. k) (map number_of xs)
-  Rise-numbers [] rise = Rise-nil (λ k. k)
-  Rise-numbers (x ∷ xs) rise =
-      Rise-cons (λ k. k) (number_of x) (map number_of xs)
-      (All-numbers (number_of x) xs (Rise-head number_of x xs rise))
-      (Rise-numbers xs (Rise-tail number_of x xs rise))
-
-  find-numbers : (n : ℕ) (xs : List X) → find (λ k. k) n (map number_of xs)
-      ≡ option_map number_of (find number_of n xs)
-  find-numbers n [] = refl
-  find-numbers n (x ∷ xs) =
-      elim (number_of x == n) as (λ b. cond b (Some (number_of x))
-      (find (λ k. k) n (map number_of xs)) ≡ option_map number_of
-      (cond b (Some x) (find number_of n xs))) [ true ↦ refl | false ↦ find-numbers n xs ]
+  pub find-map : (n : ℕ) (xs : List X) → find number_of n (map f xs)
+      ≡ option_map f (find (λ x. number_of (f x)) n xs)
+  find-map n [] = refl
+  find-map n (x ∷ xs) =
+      elim (number_of (f x) == n) as (λ b. cond b (Some (f x)) (find number_of n (map f xs))
+      ≡ option_map f (cond b (Some x) (find (λ x. number_of (f x)) n xs)))
+      [ true ↦ refl | false ↦ find-map n xs ]
 
 -- two lists in which items of the same numbers are found have the same numbers
 pub same_numbers : {X Y : Type 0} (f : X → ℕ) (g : Y → ℕ) (xs : List X) (ys : List Y) → Rise f xs
     → Rise g ys → ((n : ℕ) → is_some (find f n xs) ≡ is_some (find g n ys)) → map f xs ≡ map g ys
 same_numbers {X} {Y} f g xs ys up rise same =
-    same_lists (λ k. k) (map f xs) (map g ys) (Rise-numbers f xs up) (Rise-numbers g ys rise) (λ n.
-    find-numbers f n xs ∙ (at n (find f n xs) (find g n ys) (IsAt-find f n xs) (IsAt-find g n ys)
-    (same n) ∙ sym (find-numbers g n ys)))
+    same_lists (λ k. k) (map f xs) (map g ys) (Rise-map f (λ k. k) xs up)
+    (Rise-map g (λ k. k) ys rise) (λ n. find-map f (λ k. k) n xs
+    ∙ (at n (find f n xs) (find g n ys) (IsAt-find f n xs) (IsAt-find g n ys) (same n)
+    ∙ sym (find-map g (λ k. k) n ys)))
   where
     at : (n : ℕ) (o : Option X) (p : Option Y) → IsAt f n o → IsAt g n p → is_some o ≡ is_some p
         → option_map f o ≡ option_map g p

@@ -1,5 +1,6 @@
 -- Lemmas.
 pub mod TableNames
+pub mod InTurn
 pub mod NameLoops
 pub mod Weights
 pub mod Counts

@@ -1,20 +1,21 @@
 -- The variables that are kept, as those that are listed come and go.
-use Rattle.std.proofs.Common.{◌≡◌, ℕ, ◌+◌, ◌<◌, ◌≤◌, Bool, true, false, cond, List, ◌∷◌, length, drop, Option, Some, None, Result, Ok, Err, refl, sym, ap, subst, ◌∙◌, arith, inl, inr}
+use Rattle.std.proofs.Common.{◌≡◌, ℕ, ◌+◌, ◌<◌, ◌≤◌, ◌==◌, Bool, true, false, cond, List, length, drop, Option, Some, None, Result, Ok, Err, refl, sym, ap, subst, ◌∙◌, arith, inl, inr}
 use Rattle.std.specs.Prelude.{IsSome, is_some, unwrap_or, slice_index_or}
 use Rattle.std.specs.Result.{is_err}
-use Rattle.std.specs.Option.{option_map_or, option_to_list}
-use Rattle.std.proofs.lemmas.Bool.{cases_eq}
+use Rattle.std.specs.Option.{option_to_list}
+use Rattle.std.proofs.lemmas.Bool.{cases_eq, eq-eqb, ne_eqb}
 use Rattle.std.proofs.lemmas.List.{drop_more}
 use Rattle.numbered.specs.Numbered.{Rise, IsAt, find, set_at}
 use Rattle.numbered.specs.Places.{IsPlaceOf}
-use Rattle.numbered.specs.Laws.{IsAt-find, Rise-head, Rise-tail, find-first, find-rest, find-none_above}
+use Rattle.numbered.specs.Laws.{IsAt-find}
 use Rattle.numbered.specs.SetLaws.{find-set_at_same, find-set_at_other, length-set_at, set_at_found}
 use Rattle.model_catalog.specs.declared.names.NameChange.{NameChange}
 use Rattle.model_catalog.specs.declared.variable.Variable.{Variable}
-use Rattle.model_catalog.specs.Names.{listed_number, put_count}
-use Rattle.model_catalog.specs.Index.{given_variable, kept_count, listed_in, unbounded_in, variable_number}
-use Rattle.map_laws.specs.OptionLaws.{not_some, some_is}
+use Rattle.model_catalog.specs.Names.{put_count}
+use Rattle.model_catalog.specs.Index.{given_variable, kept_count, unbounded_in, variable_number}
+use Rattle.map_laws.specs.OptionLaws.{not_some}
 use Rattle.map_laws.specs.SumLaws.{count_first}
+use Rattle.model_catalog.proofs.InTurn.{GivenSoFar, given_more, still_next}
 
 -- what is given stands at its number
 pub IsAt-given : (group : ℕ) (l : NameChange) (kept : List Variable)
@@ -57,72 +58,30 @@ kept_there group l kept (Ok i) named there at rise =
 -- what is left of the listed gives, from those that are kept now, what all of them give
 pub record ListedSoFar (group : ℕ) (start now : List Variable) (listed : List NameChange)
     (i first capacity : ℕ) : Type 0 where
-  pub rest : (n : ℕ) → listed_in group (drop i listed) (λ n. find variable_number n now) n
-      ≡ listed_in group listed (λ n. find variable_number n start) n
-  pub still : (n : ℕ) → IsSome (find listed_number n (drop i listed))
-      → find variable_number n now ≡ find variable_number n start
-  pub left : Rise listed_number (drop i listed)
+  pub given : GivenSoFar (given_variable group) (λ n. find variable_number n start)
+      (λ n. find variable_number n now) listed (drop i listed)
   pub rising : Rise variable_number now
   pub count : length now + kept_count start listed + put_count (drop i listed)
       ≡ length start + put_count listed + kept_count start (drop i listed)
   pub fits : length now + put_count (drop i listed) ≤ capacity
   pub grown : first ≤ capacity
 
-pub listed_none : (group : ℕ) (start : List Variable) (listed : List NameChange) (capacity : ℕ)
-    → Rise variable_number start → Rise listed_number listed → length start + put_count listed
-    ≤ capacity → ListedSoFar group start start listed 0 capacity capacity
-listed_none group start listed capacity rise up fits =
-    record {
-      rest = λ n. refl;
-      still = λ n some. refl;
-      left = up;
-      rising = rise;
-      count = omega arith;
-      fits = fits;
-      grown = omega arith;
-    }
-
--- one of them, as those after it are left
-record Step (group : ℕ) (start now : List Variable) (x : NameChange) (left : List NameChange)
-    (all : ℕ → Option Variable) : Type 0 where
-  rest : (n : ℕ) → listed_in group left (λ n. find variable_number n
-      (set_at variable_number x.number (given_variable group x (find variable_number x.number now))
-      now)) n ≡ all n
-  still : (n : ℕ) → IsSome (find listed_number n left)
-      → find variable_number n (set_at variable_number x.number
-      (given_variable group x (find variable_number x.number now)) now)
-      ≡ find variable_number n start
-  own : find variable_number x.number now ≡ find variable_number x.number start
-
-step : (group : ℕ) (start now : List Variable) (x : NameChange) (left : List NameChange)
-    (all : ℕ → Option Variable) → Rise listed_number (x ∷ left)
-    → ((n : ℕ) → listed_in group (x ∷ left) (λ n. find variable_number n now) n ≡ all n)
-    → ((n : ℕ) → IsSome (find listed_number n (x ∷ left)) → find variable_number n now ≡ find
-    variable_number n start) → Step group start now x left all
-step group start now x left all rise rest still = record {
-  rest = λ n. elim (cases_eq x.number n) [
-    | inl same ↦
-        ap (λ o. option_map_or (λ l. given_variable group l (find variable_number n after)) o
-        (find variable_number n after)) (absent n same)
-        ∙ (subst (λ m. find variable_number m after ≡ given_variable group x
-        (find variable_number m now)) same (find-set_at_same variable_number x.number
-        given now at)
-        ∙ (sym (ap (λ o. option_map_or (λ l. given_variable group l (find variable_number n now)) o
-        (find variable_number n now)) (find-first listed_number n x left same)) ∙ rest n))
-    | inr other ↦
-        ap (λ o. option_map_or (λ l. given_variable group l o) (find listed_number n left) o)
-        (find-set_at_other variable_number n x.number given now (λ e. other (sym e)) at)
-        ∙ (sym (ap (λ o. option_map_or (λ l. given_variable group l (find variable_number n now)) o
-        (find variable_number n now)) (find-rest listed_number n x left other)) ∙ rest n)
-  ];
-  still = λ n some. elim (cases_eq x.number n) [
-    | inl same ↦ absurd (not_some (find listed_number n left) (absent n same) some)
-    | inr other ↦ find-set_at_other variable_number n x.number given now (λ e. other (sym e)) at
-        ∙ still n (subst IsSome (sym (find-rest listed_number n x left other)) some)
-  ];
-  own = still x.number (some_is (find listed_number x.number (x ∷ left)) x
-      (find-first listed_number x.number x left refl));
-}
+-- what is found after one of them
+found_then : (group : ℕ) (now : List Variable) (x : NameChange) (n : ℕ)
+    → find variable_number n (set_at variable_number x.number
+    (given_variable group x (find variable_number x.number now)) now)
+    ≡ cond (x.number == n) (given_variable group x (find variable_number n now))
+    (find variable_number n now)
+found_then group now x n =
+    elim (cases_eq x.number n) [
+      | inl same ↦
+          subst (λ m. find variable_number m after ≡ given_variable group x
+          (find variable_number m now)) same (find-set_at_same variable_number x.number given now
+          (IsAt-given group x now)) ∙ sym (ap by_test (eq-eqb x.number n same))
+      | inr other ↦
+          find-set_at_other variable_number n x.number given now (λ e. other (sym e))
+          (IsAt-given group x now) ∙ sym (ap by_test (ne_eqb x.number n other))
+    ]
   where
     given : Option Variable
     given = given_variable group x (find variable_number x.number now)
@@ -130,13 +89,9 @@ step group start now x left all rise rest still = record {
     after : List Variable
     after = set_at variable_number x.number given now
 
-    at : IsAt variable_number x.number given
-    at = IsAt-given group x now
-
-    absent : (n : ℕ) → x.number ≡ n → find listed_number n left ≡ None
-    absent n same =
-        find-none_above listed_number n left (subst (λ m. (k : ℕ) (d : NameChange) → k < length left
-        → m < (slice_index_or left k d).number) same (Rise-head listed_number x left rise))
+    by_test : Bool → Option Variable
+    by_test b =
+        cond b (given_variable group x (find variable_number n now)) (find variable_number n now)
 
 length_of : {X : Type 0} (o : Option X) → length (option_to_list o) ≡ cond (is_some o) 1 0
 length_of None = refl
@@ -160,14 +115,11 @@ listed_more group start now after listed i first capacity more d h lt is rise gr
     let x = slice_index_or listed i d in
     let left = drop (i + 1) listed in
     let split = drop_more listed i d lt in
-    let s = step group start now x left (λ n. listed_in group listed
-    (λ n. find variable_number n start) n) (subst (Rise listed_number) split h.left)
-    (λ n. sym (ap (λ xs. listed_in group xs (λ n. find variable_number n now) n) split) ∙ h.rest n)
-    (λ n some. h.still n (subst (λ xs. IsSome (find listed_number n xs)) (sym split) some)) in
+    let own = still_next i d lt h.given refl in
     let given = given_variable group x (find variable_number x.number now) in
     let lengths = length-set_at variable_number x.number given now h.rising in
     let was = length_of (find variable_number x.number now)
-    ∙ ap (λ o. cond {A = ℕ} (is_some o) 1 0) s.own in
+    ∙ ap (λ o. cond {A = ℕ} (is_some o) 1 0) own in
     let gives = length_of given ∙ ap (λ b. cond {A = ℕ} b 1 0)
     (some_given group x (find variable_number x.number now)) in
     let puts = ap put_count split ∙ count_first (λ l. is_some l.name) x left in
@@ -175,9 +127,8 @@ listed_more group start now after listed i first capacity more d h lt is rise gr
     ∙ count_first (λ l. is_some (find variable_number l.number start)) x left in
     let long = ap length is in
     record {
-      rest = λ n. ap (λ vs. listed_in group left (λ n. find variable_number n vs) n) is ∙ s.rest n;
-      still = λ n some. ap (find variable_number n) is ∙ s.still n some;
-      left = Rise-tail listed_number x left (subst (Rise listed_number) split h.left);
+      given = given_more i d lt h.given refl (λ n. ap (find variable_number n) is
+          ∙ found_then group now x n);
       rising = rise;
       count = omega (arith, h.count, lengths, was, gives, puts, keeps, long);
       fits = omega (arith, h.fits, lengths, was, gives, puts, keeps, long);

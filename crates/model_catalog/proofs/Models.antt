@@ -20,7 +20,7 @@ use Rattle.user_model.specs.Consistent.{IsConsistent}
 use Rattle.user_model.specs.Model.{ModelValue, bounds_above, bounds_below, group_of, has_variable, is_variable, row_named, variable_named, variables}
 use Rattle.user_model.specs.Sets.{sets_lower, sets_upper}
 use Rattle.model_catalog.specs.declared.variable.Variable.{Variable}
-use Rattle.model_catalog.specs.Index.{IsIndexOf, group_number_of, lower_count, upper_count, variable_number}
+use Rattle.model_catalog.specs.Index.{IsIndexOf, group_number_of, kept_as, lower_count, upper_count, variable_number}
 use Rattle.model_catalog.specs.Named.{variable_name, row_name}
 use Rattle.model_catalog.specs.Kept.{HasNames}
 use Rattle.model_catalog.proofs.TableNames.{get-name_of, name_of-get}
@@ -37,7 +37,7 @@ named_in_group model n =
     ∙ (some_found_in (λ (g : Group). g.vars) (λ v. consistent.variable_number v == n) model.groups
     ∙ sym (is_some-option_map (λ (g : Group). g.id) (group_of model n)))
 
-module _ (model : ModelValue) (kept : List Variable) (ok : IsConsistent model)
+module _ {model : ModelValue} {kept : List Variable} (ok : IsConsistent model)
     (index : IsIndexOf model kept) where
   pub kept_number : (n : ℕ) → is_some (find variable_number n kept)
       ≡ is_some (group_number_of model n)
@@ -62,29 +62,13 @@ module _ (model : ModelValue) (kept : List Variable) (ok : IsConsistent model)
   -- the group of a variable that is kept
   pub group_of_kept : (n : ℕ) (v : Variable) → Some v ≡ find variable_number n kept
       → find group_number v.group model.groups ≡ group_of model n
-  group_of_kept n v there = by_group (group_of model n) refl
+  group_of_kept n v there = by_group (group_of model n) refl (there ∙ index.entries n)
     where
-      by_group : (o : Option Group) → group_of model n ≡ o → find group_number v.group model.groups
-          ≡ group_of model n
-      by_group None e =
-          let none : Some v ≡ None =
-          there ∙ (index.entries n ∙ ap (λ o. option_map (λ id. record {
-            number = n;
-            group = id;
-            lower = lower_count n model.rows;
-            upper = upper_count n model.rows;
-          }) (option_map
-          group_number o)) e) in
-          absurd (none-some v (sym none))
-      by_group (Some g) e =
-          let is = there ∙ (index.entries n
-          ∙ ap (λ o. option_map (λ id. record {
-            number = n;
-            group = id;
-            lower = lower_count n model.rows;
-            upper = upper_count n model.rows;
-          }) (option_map
-          group_number o)) e) in
+      by_group : (o : Option Group) → group_of model n ≡ o
+          → Some v ≡ option_map (kept_as model.rows n) (option_map group_number o)
+          → find group_number v.group model.groups ≡ group_of model n
+      by_group None e is = absurd (none-some v (sym is))
+      by_group (Some g) e is =
           let id : v.group ≡ g.id = ap (λ x. x.group) (same_Some v _ is) in
           ap (λ k. find group_number k model.groups) id ∙ (found_group n g e ∙ sym e)
 
@@ -112,12 +96,7 @@ module _ (model : ModelValue) (kept : List Variable) (ok : IsConsistent model)
       → (v.lower ≡ lower_count n model.rows) × (v.upper ≡ upper_count n model.rows)
   counts_of n v there = by_group (group_number_of model n) (there ∙ index.entries n)
     where
-      by_group : (o : Option ℕ) → Some v ≡ option_map (λ id. record {
-        number = n;
-        group = id;
-        lower = lower_count n model.rows;
-        upper = upper_count n model.rows;
-      }) o
+      by_group : (o : Option ℕ) → Some v ≡ option_map (kept_as model.rows n) o
           → (v.lower ≡ lower_count n model.rows) × (v.upper ≡ upper_count n model.rows)
       by_group None e = absurd (none-some v (sym e))
       by_group (Some id) e =
@@ -164,18 +143,18 @@ is_number_of number name xs table h q = record {
   all = λ n e. get-name_of table n q (h.names n ∙ e);
 }
 
-pub variable_looked_up : (model : ModelValue) (table : Numbers) → IsConsistent model
+pub variable_looked_up : {model : ModelValue} {table : Numbers} → IsConsistent model
     → HasNames (variable_name model) table → (name : List ℕ)
     → get table name ≡ variable_named model name
-variable_looked_up model table ok h name =
+variable_looked_up {model} {table} ok h name =
     (found_by_name consistent.variable_number (λ (v : GroupVar). v.name) (variables model) name
     (get table name) ok.variables_rise (is_number_of consistent.variable_number
     (λ (v : GroupVar). v.name) (variables model) table h name)).0
 
-pub row_looked_up : (model : ModelValue) (table : Numbers) → IsConsistent model
+pub row_looked_up : {model : ModelValue} {table : Numbers} → IsConsistent model
     → HasNames (row_name model) table → (name : List ℕ) (o : Option ℕ) → o ≡ get table name
     → option_and_then (λ n. find row_number n model.rows) o ≡ row_named model name
-row_looked_up model table ok h name o e =
+row_looked_up {model} {table} ok h name o e =
     ap (option_and_then (λ n. find row_number n model.rows)) e
     ∙ (found_by_name row_number (λ (r : Row). r.name) model.rows name (get table name) ok.rows_rise
     (is_number_of row_number (λ (r : Row). r.name) model.rows table h name)).1

@@ -1,102 +1,32 @@
 -- The loops over the listed names: what is left of them gives, from the names now, what all of them
 -- give.
-use Rattle.std.proofs.Common.{◌≡◌, ℕ, ◌+◌, ◌<◌, ◌≤◌, ◌==◌, cond, List, [], ◌∷◌, map, length, drop, Option, Some, None, refl, sym, ap, subst, ◌∙◌, arith, inl, inr}
-use Rattle.std.specs.Prelude.{All, true, false, IsSome, IfSome, is_some, slice_index_or}
+use Rattle.std.proofs.Common.{◌≡◌, ℕ, ◌+◌, ◌<◌, ◌≤◌, ◌==◌, cond, List, [], ◌∷◌, map, length, drop, Option, Some, None, refl, sym, ap, subst, ◌∙◌, arith}
+use Rattle.std.specs.Prelude.{true, false, IsSome, IfSome, is_some, slice_index_or}
 use Rattle.std.specs.Option.{option_map, option_map_or}
-use Rattle.std.proofs.lemmas.List.Elements.{All-nil, All-cons, All-head, All-tail}
 use Rattle.std.specs.FinMap.{get}
 use Rattle.std.proofs.Math.ListN.{set}
-use Rattle.std.proofs.lemmas.Bool.{cases_eq, eq-eqb, ne_eqb}
 use Rattle.std.proofs.lemmas.List.{drop_more}
 use Rattle.std.proofs.lemmas.List.Sums.{sum_by-drop_more}
 use Rattle.std.proofs.lemmas.Option.{none-some, slice_get-get_or}
-use Rattle.map_laws.specs.LoopLaws.{IsPast, as_it_was, past_more, past_none}
+use Rattle.map_laws.specs.LoopLaws.{IsPast, as_it_was, past_more}
 use Rattle.map_laws.specs.OptionLaws.{not_some, some_is}
 use Rattle.numbered.specs.Numbered.{Rise, find}
-use Rattle.numbered.specs.Laws.{Rise-nil, Rise-cons, Rise-head, Rise-tail, find-at, find-first, find-rest, find-none_above}
+use Rattle.numbered.specs.Laws.{find-at}
 use Rattle.name_index.specs.NameTable.{Numbers, IsOneToOne}
 use Rattle.model_catalog.specs.declared.names.NameChange.{NameChange}
-use Rattle.model_catalog.specs.Names.{AreDistinct, given_by, listed_number, standing_names, name_of, put_aside, put_count, renamed_by, settled, without_names}
+use Rattle.model_catalog.specs.Names.{AreDistinct, listed_number, standing_names, name_of, put_aside, put_count, renamed_by, settled, without_names}
+use Rattle.model_catalog.proofs.Found.{find-map}
+use Rattle.model_catalog.proofs.InTurn.{GivenSoFar, among_next, given_more, still_next}
 use Rattle.model_catalog.proofs.TableNames.{none_of_free}
 
 abbrev pub Naming : Type 0
 Naming = ℕ → Option (List ℕ)
 
--- ---- names that are given in turn
-
-module _ (given : NameChange → Option (List ℕ)) where
-  -- what is left of the listed numbers gives the names that all give, and their own names stand as
-  -- they were
-  pub record GivenSoFar (start now : Naming) (listed left : List NameChange) : Type 0 where
-    pub rest : (n : ℕ) → given_by given left now n ≡ given_by given listed start n
-    pub still : (n : ℕ) → IsSome (find listed_number n left) → now n ≡ start n
-    pub among : (n : ℕ) → IsSome (find listed_number n left) → IsSome (find listed_number n listed)
-    pub rising : Rise listed_number left
-
-  pub given_none : (start : Naming) (listed : List NameChange) → Rise listed_number listed
-      → GivenSoFar start start listed listed
-  given_none start listed rise =
-      record { rest = λ n. refl; still = λ n some. refl; among = λ n some. some; rising = rise }
-
-  absent : (x : NameChange) (rest : List NameChange) (n : ℕ) → Rise listed_number (x ∷ rest)
-      → x.number ≡ n → find listed_number n rest ≡ None
-  absent x rest n rise e =
-      find-none_above listed_number n rest (subst (λ m. (i : ℕ) (d : NameChange) → i < length rest
-      → m < (slice_index_or rest i d).number) e (Rise-head listed_number x rest rise))
-
-  pub given_next : (start now after : Naming) (listed : List NameChange) (x : NameChange)
-      (rest : List NameChange) → GivenSoFar start now listed (x ∷ rest)
-      → ((n : ℕ) → after n ≡ cond (x.number == n) (given x) (now n))
-      → GivenSoFar start after listed rest
-  given_next start now after listed x rest h is = record {
-    rest = λ n. elim (cases_eq x.number n) [
-      | inl same ↦
-          ap (λ o. option_map_or given o (after n)) (absent x rest n h.rising same)
-          ∙ (is n ∙ (ap (λ b. cond b (given x) (now n)) (eq-eqb x.number n same)
-          ∙ (sym (ap (λ o. option_map_or given o (now n)) (find-first listed_number n x rest same))
-          ∙ h.rest n)))
-      | inr other ↦
-          ap (option_map_or given (find listed_number n rest)) (is n
-          ∙ ap (λ b. cond b (given x) (now n)) (ne_eqb x.number n other))
-          ∙ (sym (ap (λ o. option_map_or given o (now n)) (find-rest listed_number n x rest other))
-          ∙ h.rest n)
-    ];
-    still = λ n some. elim (cases_eq x.number n) [
-      | inl same ↦ absurd (not_some _ (absent x rest n h.rising same) some)
-      | inr other ↦
-          is n ∙ (ap (λ b. cond b (given x) (now n)) (ne_eqb x.number n other)
-          ∙ h.still n (subst IsSome (sym (find-rest listed_number n x rest other)) some))
-    ];
-    among = λ n some. elim (cases_eq x.number n) [
-      | inl same ↦ absurd (not_some _ (absent x rest n h.rising same) some)
-      | inr other ↦ h.among n (subst IsSome (sym (find-rest listed_number n x rest other)) some)
-    ];
-    rising = Rise-tail listed_number x rest h.rising;
-  }
-
-  pub given_more : (start now after : Naming) (listed : List NameChange) (i : ℕ) (d x : NameChange)
-      → i < length listed → GivenSoFar start now listed (drop i listed)
-      → x ≡ slice_index_or listed i d → ((n : ℕ) → after n ≡ cond (x.number == n) (given x) (now n))
-      → GivenSoFar start after listed (drop (i + 1) listed)
-  given_more start now after listed i d x lt h read is =
-      given_next start now after listed x (drop (i + 1) listed) (subst (GivenSoFar start now listed)
-      (drop_more listed i d lt ∙ ap (λ y. y ∷ drop (i + 1) listed) (sym read)) h) is
-
-  -- the own name of the next
-  pub still_next : (start now : Naming) (listed : List NameChange) (i : ℕ) (d x : NameChange)
-      → i < length listed → GivenSoFar start now listed (drop i listed)
-      → x ≡ slice_index_or listed i d → now x.number ≡ start x.number
-  still_next start now listed i d x lt h read =
-      h.still x.number (subst (λ xs. IsSome (find listed_number x.number xs))
-      (sym (drop_more listed i d lt ∙ ap (λ y. y ∷ drop (i + 1) listed) (sym read)))
-      (some_is (find listed_number x.number (x ∷ drop (i + 1) listed)) x
-      (find-first listed_number x.number x (drop (i + 1) listed) refl)))
-
 -- ---- the names taken out
 
 pub record TakenSoFar (start now : Numbers) (listed left : List NameChange)
     (i first spare_now : ℕ) : Type 0 where
-  pub names : GivenSoFar (λ l. None) (name_of start) (name_of now) listed (drop i listed)
+  pub names : GivenSoFar (λ l _. None) (name_of start) (name_of now) listed (drop i listed)
   pub past : IsPast (put_aside (name_of start)) listed left i
   pub one_to_one : IsOneToOne now
   pub spare : first ≤ spare_now
@@ -115,11 +45,9 @@ pub taken_more : (start now after : Numbers) (listed left : List NameChange)
 taken_more start now after listed left i spare spare_now spare_after d was h lt value is grows one =
     let x = slice_index_or left i d in
     let read = as_it_was (put_aside (name_of start)) listed left i d lt h.past in
-    let stood : was ≡ name_of start x.number = value ∙ still_next (λ l. None) (name_of start)
-    (name_of now) listed i d x lt h.names read in
+    let stood : was ≡ name_of start x.number = value ∙ still_next i d lt h.names read in
     record {
-      names = given_more (λ l. None) (name_of start) (name_of now) (name_of after) listed i d x lt
-          h.names read is;
+      names = given_more i d lt h.names read is;
       past = past_more (put_aside (name_of start)) listed left i d _ lt h.past
           (ap (λ o. record { number = x.number; name = x.name; aside = o }) stood);
       one_to_one = one;
@@ -130,20 +58,10 @@ taken_more start now after listed left i spare spare_now spare_after d was h lt 
 
 pub record PutSoFar (start now : Numbers) (listed left : List NameChange)
     (i first spare_now : ℕ) : Type 0 where
-  pub names : GivenSoFar (λ l. l.name) (name_of start) (name_of now) listed (drop i listed)
+  pub names : GivenSoFar (λ l _. l.name) (name_of start) (name_of now) listed (drop i listed)
   pub past : IsPast settled listed left i
   pub one_to_one : IsOneToOne now
   pub spare : first + put_count (drop i listed) ≤ spare_now + put_count listed
-
-pub put_none : (start : Numbers) (listed : List NameChange) (spare : ℕ) → Rise listed_number listed
-    → IsOneToOne start → PutSoFar start start listed listed 0 spare spare
-put_none start listed spare rise one =
-    record {
-      names = given_none (λ l. l.name) (name_of start) listed rise;
-      past = past_none settled listed;
-      one_to_one = one;
-      spare = omega arith;
-    }
 
 -- the names that stand before the listed ones are put in, and those that are to stand afterwards
 pub record ArePut (start : Numbers) (listed : List NameChange) (spare : ℕ) : Type 0 where
@@ -169,11 +87,13 @@ one_of_some (Some x) some = omega arith
 
 -- a name that is put in next is no other's yet
 new_name : (start now : Numbers) (listed : List NameChange) (i spare : ℕ) (x : NameChange)
-    (name : List ℕ) → ArePut start listed spare → GivenSoFar (λ l. l.name) (name_of start)
-    (name_of now) listed (drop i listed) → IsOneToOne now → find listed_number x.number listed
-    ≡ Some x → IsSome (find listed_number x.number (drop i listed)) → x.name ≡ Some name
-    → get now name ≡ None
-new_name start now listed i spare x name put h one there some is = none_of_free now one name taken
+    → ArePut start listed spare → GivenSoFar (λ l _. l.name) (name_of start) (name_of now) listed
+    (drop i listed) → IsOneToOne now → find listed_number x.number listed ≡ Some x
+    → IsSome (find listed_number x.number (drop i listed)) → (o : Option (List ℕ)) → x.name ≡ o
+    → IfSome o (λ name. get now name ≡ None)
+new_name start now listed i spare x put h one there some None is = tt
+new_name start now listed i spare x put h one there some (Some name) is =
+    none_of_free now one name (λ n at. by_place n (find listed_number n (drop i listed)) refl at)
   where
     its : renamed_by listed (name_of start) x.number ≡ Some name
     its = ap (λ o. option_map_or (λ l. l.name) o (name_of start x.number)) there ∙ is
@@ -191,9 +111,6 @@ new_name start now listed i spare x name put h one there some is = none_of_free 
         not_some (find listed_number x.number (drop i listed))
         (ap (λ m. find listed_number m (drop i listed)) (sym same) ∙ e) some
 
-    taken : (n : ℕ) → name_of now n ≡ Some name → ⊥
-    taken n at = by_place n (find listed_number n (drop i listed)) refl at
-
 pub next_put : (start now : Numbers) (listed left : List NameChange) (i spare spare_now : ℕ)
     (d : NameChange) → ArePut start listed spare → PutSoFar start now listed left i spare spare_now
     → i < length listed → NextPut now (slice_index_or left i d) spare_now
@@ -205,25 +122,13 @@ next_put start now listed left i spare spare_now d put h lt =
     ap (λ (y : NameChange). find listed_number y.number listed) read ∙ (find-at listed_number
     listed i (slice_index_or listed i d) put.rising (slice_get-get_or listed i d lt) ∙ ap Some
     (sym read)) in
-    let some : IsSome (find listed_number x.number (drop i listed)) =
-    subst (λ xs. IsSome (find listed_number x.number xs)) (sym split)
-    (some_is (find listed_number x.number (x ∷ drop (i + 1) listed)) x
-    (find-first listed_number x.number x (drop (i + 1) listed) refl)) in
+    let some = among_next i d lt h.names read in
     let count = ap put_count split ∙ put_count-first x (drop (i + 1) listed) in
     record {
       free = h.names.still x.number some ∙ put.free x.number (h.names.among x.number some);
-      new = by_name start now listed i spare x put h.names h.one_to_one there some x.name refl;
+      new = new_name start now listed i spare x put h.names h.one_to_one there some x.name refl;
       room = λ named. omega (arith, h.spare, put.room, count, one_of_some x.name named);
     }
-  where
-    by_name : (start now : Numbers) (listed : List NameChange) (i spare : ℕ) (x : NameChange)
-        → ArePut start listed spare → GivenSoFar (λ l. l.name) (name_of start)
-        (name_of now) listed (drop i listed) → IsOneToOne now → find listed_number x.number listed
-        ≡ Some x → IsSome (find listed_number x.number (drop i listed)) → (o : Option (List ℕ))
-        → x.name ≡ o → IfSome o (λ name. get now name ≡ None)
-    by_name start now listed i spare x put h one there some None e = tt
-    by_name start now listed i spare x put h one there some (Some name) e =
-        new_name start now listed i spare x name put h one there some e
 
 one_if : {o p : Option (List ℕ)} → o ≡ p → cond {A = ℕ} (is_some o) 1 0 ≡ cond (is_some p) 1 0
 one_if e = ap (λ x. cond (is_some x) 1 0) e
@@ -245,62 +150,35 @@ put_more start now after listed left i spare spare_now spare_after d was nothing
     let count = ap put_count split ∙ put_count-first x (drop (i + 1) listed) in
     let counted = one_if name in
     record {
-      names = given_more (λ l. l.name) (name_of start) (name_of now) (name_of after) listed i d x lt
-          h.names read (λ n. is n ∙ ap (λ o. cond (x.number == n) o (name_of now n)) name);
+      names = given_more i d lt h.names read (λ n. is n
+          ∙ ap (λ o. cond (x.number == n) o (name_of now n)) name);
       past = past_more settled listed left i d _ lt h.past
           (λ j. record { number = x.number; name = aside j; aside = none j });
       one_to_one = one;
       spare = omega (arith, h.spare, count, counted, grows);
     }
 
-pub put_all : (start now : Numbers) (listed left : List NameChange) (i spare spare_now : ℕ)
-    → length listed ≤ i → PutSoFar start now listed left i spare spare_now
-    → spare ≤ spare_now + put_count listed
-put_all start now listed left i spare spare_now end h = omega (arith, h.spare)
-
 -- ---- both
 
 module _ (naming : Naming) where
-  find-aside : (n : ℕ) (listed : List NameChange)
-      → find listed_number n (map (put_aside naming) listed) ≡ option_map (put_aside naming)
-      (find listed_number n listed)
-  find-aside n [] = refl
-  find-aside n (x ∷ xs) =
-      elim (x.number == n) as (λ b. cond b (Some (put_aside naming x))
-      (find listed_number n (map (put_aside naming) xs)) ≡ option_map (put_aside naming)
-      (cond b (Some x) (find listed_number n xs))) [ true ↦ refl | false ↦ find-aside n xs ]
-
-  All-aside : (n : ℕ) (listed : List NameChange) → All (λ l. n < l.number) listed
-      → All (λ l. n < l.number) (map (put_aside naming) listed)
-  All-aside n [] h = All-nil (λ l. n < l.number)
-  All-aside n (x ∷ xs) h =
-      All-cons (λ l. n < l.number) (put_aside naming x) (map (put_aside naming) xs)
-      (All-head (λ l. n < l.number) x xs h) (All-aside n xs (All-tail (λ l. n < l.number) x xs h))
-
-  pub Rise-aside : (listed : List NameChange) → Rise listed_number listed
-      → Rise listed_number (map (put_aside naming) listed)
-  Rise-aside [] rise = Rise-nil listed_number
-  Rise-aside (x ∷ xs) rise =
-      Rise-cons listed_number (put_aside naming x) (map (put_aside naming) xs)
-      (All-aside x.number xs (Rise-head listed_number x xs rise))
-      (Rise-aside xs (Rise-tail listed_number x xs rise))
-
-  pub free_aside : (now : Naming) (listed : List NameChange)
-      → ((n : ℕ) → now n ≡ without_names listed naming n) → (n : ℕ)
-      → IsSome (find listed_number n (map (put_aside naming) listed)) → now n ≡ None
-  free_aside now listed is n some =
-      is n ∙ by_place (find listed_number n listed) (subst IsSome (find-aside n listed) some)
+  pub free_aside : {taken : List NameChange} (now : Naming) (listed : List NameChange)
+      → taken ≡ map (put_aside naming) listed → ((n : ℕ) → now n ≡ without_names listed naming n)
+      → (n : ℕ) → IsSome (find listed_number n taken) → now n ≡ None
+  free_aside now listed e is n some =
+      is n ∙ by_place (find listed_number n listed) (subst IsSome (ap (find listed_number n) e
+      ∙ find-map (put_aside naming) listed_number n listed) some)
     where
       by_place : (o : Option NameChange) → IsSome (option_map (put_aside naming) o)
           → option_map_or (λ (l : NameChange). None) o (naming n) ≡ None
       by_place None some = absurd (not_some (option_map (put_aside naming) None) refl some)
       by_place (Some l) some = refl
 
-  pub renamed_aside : (now : Naming) (listed : List NameChange)
-      → ((n : ℕ) → now n ≡ without_names listed naming n) → (n : ℕ)
-      → renamed_by (map (put_aside naming) listed) now n ≡ renamed_by listed naming n
-  renamed_aside now listed is n =
-      ap (λ o. option_map_or (λ l. l.name) o (now n)) (find-aside n listed)
+  pub renamed_aside : {taken : List NameChange} (now : Naming) (listed : List NameChange)
+      → taken ≡ map (put_aside naming) listed → ((n : ℕ) → now n ≡ without_names listed naming n)
+      → (n : ℕ) → renamed_by taken now n ≡ renamed_by listed naming n
+  renamed_aside now listed e is n =
+      ap (λ o. option_map_or (λ l. l.name) o (now n)) (ap (find listed_number n) e
+      ∙ find-map (put_aside naming) listed_number n listed)
       ∙ (ap (option_map_or (λ l. l.name) (option_map (put_aside naming)
       (find listed_number n listed))) (is n) ∙ by_place (find listed_number n listed))
     where

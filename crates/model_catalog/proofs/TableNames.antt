@@ -7,7 +7,7 @@ use Rattle.std.specs.Option.{option_map, IfSome, IfNone}
 use Rattle.std.specs.Ordering.{nat_cmp, eq_by_cmp}
 use Rattle.std.specs.Cmp.{tied_itself}
 use Rattle.std.specs.Cmp.Lexicographic.{slice_cmp, texts_ties, nat_list_cmp_total, bytes_decides}
-use Rattle.std.proofs.lemmas.Bool.{cases_eq, eq-eqb, ne_eqb}
+use Rattle.std.proofs.lemmas.Bool.{cases_Bool, cases_eq, eq-eqb, ne_eqb}
 use Rattle.std.proofs.lemmas.Option.{none-some, same_Some, slice_get_within, get_or_from_slice_get}
 use Rattle.map_laws.specs.EntryLaws.{find_at}
 use Rattle.name_index.specs.NameTable.{Numbers, IsFree, IsOneToOne, IsNameAt}
@@ -162,13 +162,12 @@ name_of-insert m more name k one is free none old_one n =
 
     from : (q : List ℕ) → name_of m n ≡ Some q → name_of more n ≡ Some q
     from q e =
-        elim (eq_by_cmp (slice_cmp nat_cmp) q name) as (λ b. eq_by_cmp (slice_cmp nat_cmp) q name
-        ≡ b → name_of more n ≡ Some q) [
-          | true ↦ λ tied. absurd (none-some n (sym free
+        elim (cases_Bool (eq_by_cmp (slice_cmp nat_cmp) q name)) [
+          | inl tied ↦ absurd (none-some n (sym free
               ∙ (ap (map.get m) (sym (same_text q name tied)) ∙ get-name_of m n q e)))
-          | false ↦ λ tied. name_of-get more one n q (at q
-              ∙ (ap (λ b. cond b (Some k) (map.get m q)) tied ∙ get-name_of m n q e))
-        ] refl
+          | inr off ↦ name_of-get more one n q (at q
+              ∙ (ap (λ b. cond b (Some k) (map.get m q)) off ∙ get-name_of m n q e))
+        ]
 
 -- after a name is taken out
 pub name_of-remove : (m fewer : Numbers) (name : List ℕ) (k : ℕ) → IsOneToOne fewer
@@ -211,13 +210,12 @@ name_of-remove m fewer name k one is got old_one n =
 
     from : k ≢ n → (q : List ℕ) → name_of m n ≡ Some q → name_of fewer n ≡ Some q
     from other q e =
-        elim (eq_by_cmp (slice_cmp nat_cmp) q name) as (λ b. eq_by_cmp (slice_cmp nat_cmp) q name
-        ≡ b → name_of fewer n ≡ Some q) [
-          | true ↦ λ tied. absurd (other (same_Some k n (sym got
+        elim (cases_Bool (eq_by_cmp (slice_cmp nat_cmp) q name)) [
+          | inl tied ↦ absurd (other (same_Some k n (sym got
               ∙ (ap (map.get m) (sym (same_text q name tied)) ∙ get-name_of m n q e))))
-          | false ↦ λ tied. name_of-get fewer one n q (at q
-              ∙ (ap (λ b. cond b None (map.get m q)) tied ∙ get-name_of m n q e))
-        ] refl
+          | inr off ↦ name_of-get fewer one n q (at q
+              ∙ (ap (λ b. cond b None (map.get m q)) off ∙ get-name_of m n q e))
+        ]
 
 -- after what stood at a number, a name or none, is taken out
 pub taken_names : (m fewer : Numbers) (k : ℕ) (o : Option (List ℕ)) → IsOneToOne fewer

@@ -26,15 +26,14 @@ upper_count n rows = count_by (bounds_above n) rows
 abbrev pub group_number_of : ModelValue → ℕ → Option ℕ
 group_number_of model n = option_map (λ g. g.id) (group_of model n)
 
+-- what is kept of the variable with a number in a group, where these rows stand
+abbrev pub kept_as : List Row → ℕ → ℕ → Variable
+kept_as rows n id =
+    record { number = n; group = id; lower = lower_count n rows; upper = upper_count n rows }
+
 -- what is kept of the variable with a number
 abbrev pub kept_of : ModelValue → ℕ → Option Variable
-kept_of model n =
-    option_map (λ id. record {
-      number = n;
-      group = id;
-      lower = lower_count n model.rows;
-      upper = upper_count n model.rows;
-    }) (group_number_of model n)
+kept_of model n = option_map (kept_as model.rows n) (group_number_of model n)
 
 -- the variables of the model are kept, in the order of their numbers, and no others
 pub record IsIndexOf (model : ModelValue) (kept : List Variable) : Type 0 where

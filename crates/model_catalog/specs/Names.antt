@@ -35,9 +35,13 @@ without_names listed naming = given_by (λ l. None) listed naming
 abbrev pub AreDistinct : (ℕ → Option (List ℕ)) → Type 0
 AreDistinct naming = (n m : ℕ) (name : List ℕ) → naming n ≡ Some name → naming m ≡ Some name → n ≡ m
 
+-- the name that stands at a listed number
+abbrev pub standing_name : (ℕ → Option (List ℕ)) → NameChange → NameChange
+standing_name naming l = listed_as l.number (naming l.number)
+
 -- the names that stand at the listed numbers
 abbrev pub standing_names : (ℕ → Option (List ℕ)) → List NameChange → List NameChange
-standing_names naming listed = map (λ l. listed_as l.number (naming l.number)) listed
+standing_names naming listed = map (standing_name naming) listed
 
 -- the name that stood at the number put aside, and the one aside in its place
 abbrev pub put_aside : (ℕ → Option (List ℕ)) → NameChange → NameChange

@@ -2,7 +2,7 @@ use Rattle.std.proofs.Common.{◌+◌, [], ◌∷◌, drop, ap, ◌∙◌, sym, 
 use Rattle.std.proofs.lemmas.List.{drop_all}
 use Rattle.leaf_change.specs.Puts.{put_all, variables_as, variables_in}
 use Rattle.map_laws.specs.LoopLaws.{next_item}
-use Rattle.leaf_change.proofs.PutSteps.{first_new, later_left, later_new}
+use Rattle.leaf_change.proofs.PutSteps.{first_new, later_put}
 use Rattle.leaf_change.proofs.put.put_each.Goals as goal
 
 pub put_variable-requires-clause-new : goal.put_variable-requires-clause-new
@@ -28,14 +28,13 @@ loop-at-preserved c =
     let next = ap (variables_as c.args.var) (next_item vars vars i at refl c.at-item.is
     c.loop-at-test.true) in
     let w = c.in_ok-put_variable.ensures in
+    let later = later_put old now _ (variables_as c.args.var (drop i vars))
+    (variables_as c.args.var (at ∷ [])) (variables_as c.args.var (drop (i + 1) vars)) next w.put
+    l.invariant.new l.invariant.left in
     record {
       named = w.named;
-      new = later_new old now (variables_as c.args.var (drop i vars))
-          (variables_as c.args.var (at ∷ [])) (variables_as c.args.var (drop (i + 1) vars)) next
-          w.put l.invariant.new;
-      left = later_left old now _ (variables_as c.args.var (drop i vars))
-          (variables_as c.args.var (at ∷ [])) (variables_as c.args.var (drop (i + 1) vars)) next
-          w.put l.invariant.left;
+      new = later.0;
+      left = later.1;
       beside = w.beside ∙ l.invariant.beside;
     }
 

@@ -7,7 +7,7 @@ use Rattle.leaf_change.specs.Leaves.{HasNativeForm}
 use Rattle.leaf_change.specs.Named.{HasIndices}
 use Rattle.leaf_change.specs.Puts.{objective_bodies, objectives_in, put_all, rows_in}
 use Rattle.map_laws.specs.LoopLaws.{next_item}
-use Rattle.leaf_change.proofs.PutSteps.{at_item, bodies_more, first_new, later_left, later_new, one_left, same_objectives}
+use Rattle.leaf_change.proofs.PutSteps.{at_item, bodies_more, first_new, later_put, one_left, same_objectives}
 use Rattle.leaf_change.proofs.put.put_rows.Goals as goal
 
 pub put_row-requires : goal.put_row-requires
@@ -66,12 +66,13 @@ loop-leaf-preserved c =
     let now = rows_in c.put_row.new.map c.put_objective.new.solver.leaves in
     let before = same_objectives l.map c.put_row.new.map l.solver.leaves c.put_row.new.solver.leaves
     (ap (λ b. b.0) w.beside) w.objective in
+    let later = later_put old now _ (flat_map leaf_rows (drop i leaves)) (leaf_rows leaf)
+    (flat_map leaf_rows (drop (i + 1) leaves)) next (v.rows ∙ w.put) l.invariant.new
+    l.invariant.left in
     record {
       named = v.named;
-      new = later_new old now (flat_map leaf_rows (drop i leaves)) (leaf_rows leaf)
-          (flat_map leaf_rows (drop (i + 1) leaves)) next (v.rows ∙ w.put) l.invariant.new;
-      left = later_left old now _ (flat_map leaf_rows (drop i leaves)) (leaf_rows leaf)
-          (flat_map leaf_rows (drop (i + 1) leaves)) next (v.rows ∙ w.put) l.invariant.left;
+      new = later.0;
+      left = later.1;
       objective =
           bodies_more (objectives_in c.put_row.new.map c.put_row.new.solver.leaves)
           (objectives_in c.put_row.new.map c.put_objective.new.solver.leaves)

@@ -4,7 +4,7 @@ use Rattle.std.proofs.lemmas.List.{drop_all}
 use Rattle.fresh_bridging.specs.Leaves.{leaf_variables}
 use Rattle.leaf_change.specs.Puts.{put_all, variables_in}
 use Rattle.map_laws.specs.LoopLaws.{next_item}
-use Rattle.leaf_change.proofs.PutSteps.{first_new, later_left, later_new}
+use Rattle.leaf_change.proofs.PutSteps.{first_new, later_put}
 use Rattle.leaf_change.proofs.put.put_variables.Goals as goal
 
 pub put_leaf_variables-requires-clause-new : goal.put_leaf_variables-requires-clause-new
@@ -29,12 +29,12 @@ loop-leaf-preserved c =
     let next = ap (flat_map leaf_variables) (next_item leaves leaves i leaf refl c.leaf-item.is
     c.loop-leaf-test.true) in
     let w = c.in_ok-put_leaf_variables.ensures in
+    let later = later_put old now _ (flat_map leaf_variables (drop i leaves)) (leaf_variables leaf)
+    (flat_map leaf_variables (drop (i + 1) leaves)) next w.put l.invariant.new l.invariant.left in
     record {
       named = w.named;
-      new = later_new old now (flat_map leaf_variables (drop i leaves)) (leaf_variables leaf)
-          (flat_map leaf_variables (drop (i + 1) leaves)) next w.put l.invariant.new;
-      left = later_left old now _ (flat_map leaf_variables (drop i leaves)) (leaf_variables leaf)
-          (flat_map leaf_variables (drop (i + 1) leaves)) next w.put l.invariant.left;
+      new = later.0;
+      left = later.1;
       beside = w.beside ∙ l.invariant.beside;
     }
 

@@ -1,28 +1,16 @@
-use Rattle.std.proofs.Common.{Option, ap, ◌∙◌}
-use Rattle.std.specs.Option.{option_copied, option_map}
-use Rattle.numbered.specs.Numbered.{find}
-use Rattle.user_model.specs.declared.row.Row.{Row}
-use Rattle.model_catalog.specs.Index.{counted, variable_number}
+use Rattle.std.proofs.Common.{◌∙◌}
 use Rattle.model_catalog.proofs.Counts.{still_counted, recounted_after}
 use Rattle.model_catalog.proofs.index.exchange_row.Goals as goal
 
 pub discount_bounds-requires-clause-counted : goal.discount_bounds-requires-clause-counted
 discount_bounds-requires-clause-counted c =
-    still_counted c.args.rows.now.items c.exchange-old.new.items.items c.args.number c.args.new
-    (option_copied c.as_ref-2.result) c.requires.rising c.exchange-old.ensures.after
-    (c.as_ref-2.ensures.value ∙ c.exchange-old.ensures.before)
-    c.args.kept.now c.count_bounds.new.kept c.requires.counts
-    (λ n. c.count_bounds.ensures.entries n
-    ∙ ap (λ (o : Option Row). option_map (counted o) (find variable_number n c.args.kept.now))
-    c.as_ref.ensures.value)
+    still_counted c.args.number c.requires.rising c.exchange-old.ensures.after
+    (c.as_ref-2.ensures.value ∙ c.exchange-old.ensures.before) c.as_ref.ensures.value
+    c.args.kept.now c.count_bounds.new.kept c.requires.counts c.count_bounds.ensures.entries
 
 pub returns-clause-entries : goal.returns-clause-entries
 returns-clause-entries c =
-    recounted_after c.args.rows.now.items c.exchange-old.new.items.items c.args.number c.args.new
-    (option_copied c.as_ref-2.result) c.requires.rising c.exchange-old.ensures.after
-    (c.as_ref-2.ensures.value ∙ c.exchange-old.ensures.before)
+    recounted_after c.args.number c.requires.rising c.exchange-old.ensures.after
+    (c.as_ref-2.ensures.value ∙ c.exchange-old.ensures.before) c.as_ref.ensures.value
     c.args.kept.now c.count_bounds.new.kept c.discount_bounds.new.kept c.requires.counts
-    (λ n. c.count_bounds.ensures.entries n
-    ∙ ap (λ (o : Option Row). option_map (counted o) (find variable_number n c.args.kept.now))
-    c.as_ref.ensures.value)
-    c.discount_bounds.ensures.entries
+    c.count_bounds.ensures.entries c.discount_bounds.ensures.entries

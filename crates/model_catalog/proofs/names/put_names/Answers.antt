@@ -4,21 +4,8 @@ use Rattle.std.specs.FinMap.{get}
 use Rattle.model_catalog.proofs.NameLoops.{ArePut, next_put, put_more}
 use Rattle.model_catalog.proofs.names.put_names.Goals as goal
 
-pub put_name-requires-clause-free : goal.put_name-requires-clause-free
-put_name-requires-clause-free c =
-    let put : ArePut c.args.table.now.numbers c.args.listed.now c.args.table.now.spare =
-    record {
-      rising = c.requires.rising;
-      free = c.requires.free;
-      distinct = c.requires.distinct;
-      room = c.requires.room;
-    } in
-    (next_put c.args.table.now.numbers c.loop-item.table.numbers c.args.listed.now
-    c.loop-item.listed c.loop-item.item-index c.args.table.now.spare c.loop-item.table.spare
-    c.item-item.result put c.loop-item.invariant (omega arith)).free
-
-pub put_name-requires-clause-new : goal.put_name-requires-clause-new
-put_name-requires-clause-new c =
+pub put_name-requires : goal.put_name-requires
+put_name-requires c =
     let put : ArePut c.args.table.now.numbers c.args.listed.now c.args.table.now.spare =
     record {
       rising = c.requires.rising;
@@ -29,22 +16,13 @@ put_name-requires-clause-new c =
     let next = next_put c.args.table.now.numbers c.loop-item.table.numbers c.args.listed.now
     c.loop-item.listed c.loop-item.item-index c.args.table.now.spare c.loop-item.table.spare
     c.item-item.result put c.loop-item.invariant (omega arith) in
-    subst (λ o. IfSome o (λ name. get c.loop-item.table.numbers name ≡ None))
-    (sym c.replace.ensures.value) next.new
-
-pub put_name-requires-clause-room : goal.put_name-requires-clause-room
-put_name-requires-clause-room c =
-    let put : ArePut c.args.table.now.numbers c.args.listed.now c.args.table.now.spare =
     record {
-      rising = c.requires.rising;
-      free = c.requires.free;
-      distinct = c.requires.distinct;
-      room = c.requires.room;
-    } in
-    let next = next_put c.args.table.now.numbers c.loop-item.table.numbers c.args.listed.now
-    c.loop-item.listed c.loop-item.item-index c.args.table.now.spare c.loop-item.table.spare
-    c.item-item.result put c.loop-item.invariant (omega arith) in
-    λ some. next.room (rw c.replace.ensures.value at some)
+      one_to_one = c.loop-item.invariant.one_to_one;
+      free = next.free;
+      new = subst (λ o. IfSome o (λ name. get c.loop-item.table.numbers name ≡ None))
+          (sym c.replace.ensures.value) next.new;
+      room = λ some. next.room (rw c.replace.ensures.value at some);
+    }
 
 pub loop-item-preserved : goal.loop-item-preserved
 loop-item-preserved c =

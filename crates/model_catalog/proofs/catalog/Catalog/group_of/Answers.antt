@@ -4,7 +4,6 @@ use Rattle.user_model.specs.declared.group.Group.{Group}
 use Rattle.user_model.specs.Edited.{group_number}
 use Rattle.model_catalog.specs.declared.variable.Variable.{Variable}
 use Rattle.model_catalog.specs.Index.{variable_number}
-use Rattle.model_catalog.specs.Kept.{model_of}
 use Rattle.model_catalog.proofs.Models.{group_of_kept}
 use Rattle.model_catalog.proofs.catalog.Catalog.group_of.Goals as goal
 
@@ -16,5 +15,5 @@ returns c =
     c.deref.ensures.value in
     let group = c.with_number-2.ensures ∙ ap (λ (gs : List Group). find group_number variable.group
     gs) c.deref-2.ensures.value in
-    rw (← c.self.view_is) (group ∙ group_of_kept (model_of c.self.inside) c.self.inside.kept.items
-    c.self.invariant.keeps.consistent c.self.invariant.keeps.index c.args.number variable there)
+    rw (← c.self.view_is) (group ∙ group_of_kept c.self.invariant.keeps.consistent
+    c.self.invariant.keeps.index c.args.number variable there)

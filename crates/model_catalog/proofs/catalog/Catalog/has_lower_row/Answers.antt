@@ -2,7 +2,6 @@ use Rattle.std.proofs.Common.{List, ap, sym, ◌∙◌}
 use Rattle.numbered.specs.Numbered.{find}
 use Rattle.model_catalog.specs.declared.variable.Variable.{Variable}
 use Rattle.model_catalog.specs.Index.{variable_number}
-use Rattle.model_catalog.specs.Kept.{model_of}
 use Rattle.model_catalog.proofs.Models.{lower_kept, no_lower}
 use Rattle.model_catalog.proofs.catalog.Catalog.has_lower_row.Goals as goal
 
@@ -10,13 +9,12 @@ pub returns-in-Some : goal.returns-in-Some
 returns-in-Some c =
     let there = c.in-Some.ensures ∙ ap (λ (vs : List Variable). find variable_number c.args.number
     vs) c.deref.ensures.value in
-    rw (← c.self.view_is) (lower_kept (model_of c.self.inside) c.self.inside.kept.items
-    c.self.invariant.keeps.consistent c.self.invariant.keeps.index c.args.number
-    c.in-Some.variable.now there)
+    rw (← c.self.view_is) (lower_kept c.self.invariant.keeps.consistent
+    c.self.invariant.keeps.index c.args.number c.in-Some.variable.now there)
 
 pub returns-in-None : goal.returns-in-None
 returns-in-None c =
     let none = c.in-None.ensures ∙ ap (λ (vs : List Variable). find variable_number c.args.number
     vs) c.deref.ensures.value in
-    rw (← c.self.view_is) (sym (no_lower (model_of c.self.inside) c.self.inside.kept.items
-    c.self.invariant.keeps.consistent c.self.invariant.keeps.index c.args.number (sym none)))
+    rw (← c.self.view_is) (sym (no_lower c.self.invariant.keeps.consistent
+    c.self.invariant.keeps.index c.args.number (sym none)))

@@ -31,7 +31,7 @@ invariant_of-self-2 c =
 pub returns-clause-ok : goal.returns-clause-ok
 returns-clause-ok c =
     let a = c.self.inside in
-    let long = kept_length (model_of a) a.kept.items c.self.invariant.keeps.consistent
+    let long = kept_length c.self.invariant.keeps.consistent
     c.self.invariant.keeps.index in
     let same = ap (λ (gs : List Group). length (flat_map (λ g. g.vars) gs))
     c.reserve.ensures.items in

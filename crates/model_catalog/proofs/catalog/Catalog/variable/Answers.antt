@@ -1,10 +1,8 @@
 use Rattle.std.proofs.Common.{◌∙◌}
-use Rattle.model_catalog.specs.Kept.{model_of}
 use Rattle.model_catalog.proofs.Models.{variable_looked_up}
 use Rattle.model_catalog.proofs.catalog.Catalog.variable.Goals as goal
 
 pub returns : goal.returns
 returns c =
-    rw (← c.self.view_is) (c.id.ensures.value ∙ variable_looked_up (model_of c.self.inside)
-    c.self.inside.variable_names.numbers c.self.invariant.keeps.consistent
+    rw (← c.self.view_is) (c.id.ensures.value ∙ variable_looked_up c.self.invariant.keeps.consistent
     c.self.invariant.keeps.variable_names c.args.name.now)

@@ -1,5 +1,4 @@
 use Rattle.std.proofs.Common.{arith}
-use Rattle.model_catalog.specs.Kept.{model_of}
 use Rattle.model_catalog.proofs.Models.{kept_length}
 use Rattle.model_catalog.proofs.catalog.Catalog.variable_count.Goals as goal
 
@@ -8,6 +7,5 @@ returns c =
     rw (← c.self.view_is) (omega (
       arith,
       c.self.inside.kept.ok.0,
-      kept_length (model_of c.self.inside) c.self.inside.kept.items
-          c.self.invariant.keeps.consistent c.self.invariant.keeps.index,
+      kept_length c.self.invariant.keeps.consistent c.self.invariant.keeps.index,
     ))

@@ -1,17 +1,13 @@
-use Rattle.std.proofs.Common.{◌∷◌, [], ◌++◌, sym, ap, subst, ◌∙◌}
-use Rattle.model_store.specs.Rooms.{IsParked}
+use Rattle.std.proofs.Common.{sym, ap, ◌∙◌}
 use Rattle.model_store.proofs.RoomLaws.{parked_settled}
 use Rattle.model_store.proofs.store.UserModel.settle.Goals as goal
 
 pub invariant_of-self : goal.invariant_of-self
 invariant_of-self c =
-    let parked : IsParked (c.take_last.new.parked.items ++ c.take_last.result ∷ [])
-    c.self.inside.names c.self.inside.catalog.room = subst (λ ps. IsParked ps
-    c.self.inside.names c.self.inside.catalog.room) c.take_last.ensures.last
-    c.self.invariant.room in
     record {
-      room = parked_settled c.take_last.new.parked.items c.take_last.result c.self.inside.names
-          c.take_last.new.names c.self.inside.catalog.room parked c.take_last.ensures.counted;
+      room = parked_settled c.self.inside c.self.invariant c.take_last.new.parked.items
+          c.take_last.result c.take_last.ensures.last c.take_last.new.names
+          c.take_last.ensures.counted;
       parts = c.self.invariant.parts;
     }
 
