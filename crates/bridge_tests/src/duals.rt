@@ -3,17 +3,18 @@ ghost use Rattle.std.specs.Prelude.{◌≡◌, IfOk, length, map};
 ghost use Rattle.item_core.specs.Item.{functions_of};
 ghost use Rattle.bridge_face.specs.BackOf.{size};
 
-use anyhow::Result;
+use crate::samples::ratio;
 use item_core::{Body, Family, Item};
-use ratio_core::{Ratio, Ratios};
+use lists::Memory;
+use ratio_core::Ratios;
 use std::alloc::Global;
 
 /// A dual for each number of each row.
-pub fn of_rows(alloc: Global, family: Family, rows: &[Item]) -> Result<Vec<Ratios>>
+pub fn of_rows(alloc: Global, family: Family, rows: &[Item]) -> Result<Vec<Ratios>, Memory>
     ensures { IfOk result (λ duals.
         map length duals.items ≡ map size rows.now) }
 {
-    let mut duals = Vec::with_capacity(alloc, rows.len())?;
+    let mut duals = Vec::new(alloc);
     let mut start = 0usize;
     for row in rows {
         let count = function_count(&row.body);
@@ -34,13 +35,13 @@ fn function_count(body: &Body) -> usize
 }
 
 // So many numbers of the list, from one on.
-fn numbers(alloc: Global, family: Family, start: usize, count: usize) -> Result<Ratios>
+fn numbers(alloc: Global, family: Family, start: usize, count: usize) -> Result<Ratios, Memory>
     ensures { IfOk result (λ numbers. length numbers ≡ count) }
 {
-    let mut numbers = Vec::with_capacity(alloc, count)?;
+    let mut numbers = Vec::new(alloc);
     for n in 0..count {
         let number = list(family)[start.wrapping_add(n) % 5];
-        numbers.push(Ratio::new(number, 1)?)?;
+        numbers.push(ratio(number, 1))?;
     }
     Ok(Ratios::from_vec(numbers))
 }

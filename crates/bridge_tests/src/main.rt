@@ -10,10 +10,13 @@ mod round;
 mod samples;
 mod shown;
 
-use anyhow::Result;
+use page::Page;
+use std::process::ExitCode;
 
-fn main(rt: HostRuntime) -> Result<()> {
-    edges::all(&rt)?;
-    constants::reals(&rt)?;
-    constants::greatest(&rt)
+fn main(rt: HostRuntime) -> ExitCode {
+    let mut page = Page::new(&rt);
+    edges::all(&mut page);
+    constants::reals(&mut page);
+    constants::greatest(&mut page);
+    page.status()
 }

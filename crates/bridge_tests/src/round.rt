@@ -1,50 +1,96 @@
-// What becomes of an item that a bridge keeps.
+// What becomes of an item that a bridge keeps. An item or an image that was lent is dropped by
+// name: where it falls at the end of its block, its drop takes twice the proof.
 ghost use Rattle.std.specs.Prelude.{◌≡◌, IsSomeAnd, OnOk, Some, false, true};
 ghost use Rattle.item_core.specs.Edge.{family_of};
 ghost use Rattle.item_core.specs.Item.{is_group};
+ghost use Rattle.bridge_face.specs.ImageOf.{image_of};
 ghost use Rattle.bridge_face.specs.Law.{IsItemFor, is_objective};
 ghost use Rattle.bridge_face.specs.State.{found};
 ghost use Rattle.bridge_tests.specs.RoundLaws.{KeepsRow};
 ghost use Rattle.bridge_tests.specs.SampleLaws.{here};
 
 use crate::duals;
-use crate::samples::{place, sample};
+use crate::samples::{place, ratio, sample};
 use crate::shown::{show_child_rows, show_image, show_item};
-use anyhow::Result;
 use bridge_face::Bridge;
 use item_core::{Body, Edge, Image, Item};
 use lists::Memory;
-use ratio_core::Ratio;
+use page::Page;
+use ratio_core::{NumberFault, Ratios};
+use std::alloc::Global;
+use stop::Stop;
 
 /// Takes an item through the edge: its image, what is carried back of duals, another item in its
 /// place, and then none.
-pub fn pass<B: Bridge>(rt: &HostRuntime, bridge: &mut B, edge: Edge) -> Result<()>
+pub fn pass<B: Bridge>(page: &mut Page, bridge: &mut B, edge: Edge)
     requires own { family_of edge ≡ (B.state bridge.old).family }
 {
-    let first = sample(rt.alloc(), edge, Ratio::new(5, 2)?)?;
-    let second = sample(rt.alloc(), edge, Ratio::new(-3, 1)?)?;
-    println!(rt; "{edge:?} {:?}", bridge.family())?;
-    keep(rt, bridge, edge, first)?;
-    change(rt, bridge, edge, second)
+    page.line(format_args!("{edge:?} {:?}", bridge.family()));
+    if let Err(Stop) = first_and_second(page, bridge, edge) {
+        page.line("  stopped");
+    }
+}
+
+// Has the bridge keep an item, and then another in its place.
+fn first_and_second<B: Bridge>(page: &mut Page, bridge: &mut B, edge: Edge) -> Result<(), Stop>
+    requires own { family_of edge ≡ (B.state bridge.old).family }
+{
+    let first = sample(page.alloc(), edge, ratio(5, 2))?;
+    keep(page, bridge, edge, first)?;
+    let second = sample(page.alloc(), edge, ratio(-3, 1))?;
+    change(page, bridge, edge, second);
+    Ok(())
 }
 
 /// Prints the item and its image, has the bridge keep it in place of what stands there, and
 /// prints what is carried back of duals.
-pub fn keep<B: Bridge>(rt: &HostRuntime, bridge: &mut B, edge: Edge, item: Item) -> Result<()>
+pub fn keep<B: Bridge>(
+    page: &mut Page,
+    bridge: &mut B,
+    edge: Edge,
+    item: Item,
+) -> Result<(), NumberFault>
     requires own { family_of edge ≡ (B.state bridge.old).family }
     requires suits { IsItemFor edge item }
     requires at { item.at ≡ here }
     ensures { OnOk result
         (IsSomeAnd (found (B.state bridge.new) here) (λ kept. kept.edge ≡ edge)) }
 {
-    show_item(rt, &item)?;
+    show_item(page, &item);
+    match bridge.image(edge, &item) {
+        Ok(image) => {
+            show_image(page, &image);
+            let answer = keep_imaged(page, bridge, edge, item, &image);
+            drop(image);
+            answer
+        }
+        Err(fault) => {
+            drop(item);
+            Err(fault)
+        }
+    }
+}
+
+// The same for an item whose image is at hand.
+fn keep_imaged<B: Bridge>(
+    page: &mut Page,
+    bridge: &mut B,
+    edge: Edge,
+    item: Item,
+    image: &Image,
+) -> Result<(), NumberFault>
+    requires own { family_of edge ≡ (B.state bridge.old).family }
+    requires suits { IsItemFor edge item }
+    requires at { item.at ≡ here }
+    requires image { image.now ≡ image_of edge item }
+    ensures { OnOk result
+        (IsSomeAnd (found (B.state bridge.new) here) (λ kept. kept.edge ≡ edge)) }
+{
     let row = is_row(&item.body);
-    let image = bridge.image(edge, &item)?;
-    show_image(rt, &image)?;
     hold(bridge, edge, item)?;
-    show_child_rows(rt, bridge.child_rows(&place()))?;
+    show_child_rows(page, bridge.child_rows(&place()));
     if row {
-        back(rt, bridge, edge, &image)?;
+        return back(page, bridge, edge, image);
     }
     Ok(())
 }
@@ -69,23 +115,29 @@ fn hold<B: Bridge>(bridge: &mut B, edge: Edge, item: Item) -> Result<(), Memory>
 
 // Puts an item in the place of the one that is kept, and prints what the bridge lets go of then,
 // that there is nothing after it, and the turns.
-fn change<B: Bridge>(rt: &HostRuntime, bridge: &mut B, edge: Edge, item: Item) -> Result<()>
+fn change<B: Bridge>(page: &mut Page, bridge: &mut B, edge: Edge, item: Item)
     requires suits { IsItemFor edge item }
     requires at { item.at ≡ here }
     requires kept { IsSomeAnd (found (B.state bridge.old) here) (λ kept. kept.edge ≡ edge) }
 {
     drop(bridge.alter(item));
     if let Some(item) = bridge.let_go(&place()) {
-        show_item(rt, &item)?;
+        show_item(page, &item);
+        drop(item);
     }
-    show_end(rt, bridge)
+    show_end(page, bridge);
 }
 
 /// Prints that the bridge keeps nothing, and its turns.
-pub fn show_end<B: Bridge>(rt: &HostRuntime, bridge: &mut B) -> Result<()> {
-    let none = bridge.let_go(&place()).is_none();
-    println!(rt; "  {none} {}", bridge.turns())?;
-    Ok(())
+pub fn show_end<B: Bridge>(page: &mut Page, bridge: &mut B) {
+    let none = match bridge.let_go(&place()) {
+        Some(item) => {
+            drop(item);
+            false
+        }
+        None => true,
+    };
+    page.line(format_args!("  {none} {}", bridge.turns()));
 }
 
 // Whether the body is a row's.
@@ -100,11 +152,28 @@ fn is_row(body: &Body) -> bool
 }
 
 // Prints what is carried back of some duals.
-fn back<B: Bridge>(rt: &HostRuntime, bridge: &B, edge: Edge, image: &Image) -> Result<()>
+fn back<B: Bridge>(
+    page: &mut Page,
+    bridge: &B,
+    edge: Edge,
+    image: &Image,
+) -> Result<(), NumberFault>
     requires { KeepsRow edge image.now (B.state bridge.now) }
 {
-    let duals = duals::of_rows(rt.alloc(), bridge.family(), image.rows.as_slice())?;
-    let dual = bridge.back(&place(), &duals)?;
-    println!(rt; "  dual {:?}", dual.as_slice())?;
+    let dual = dual_of(page.alloc(), bridge, edge, image)?;
+    page.line(format_args!("  dual {:?}", dual.as_slice()));
     Ok(())
+}
+
+// The dual by those of the image's rows.
+fn dual_of<B: Bridge>(
+    alloc: Global,
+    bridge: &B,
+    edge: Edge,
+    image: &Image,
+) -> Result<Ratios, NumberFault>
+    requires { KeepsRow edge image.now (B.state bridge.now) }
+{
+    let duals = duals::of_rows(alloc, bridge.family(), image.rows.as_slice())?;
+    bridge.back(&place(), &duals)
 }

@@ -1,16 +1,5 @@
-use Rattle.std.proofs.Common.{ap, subst, sym}
-use Rattle.item_core.specs.declared.edge.Edge.TheVariants.{E40}
-use Rattle.item_core.specs.declared.item.Item.{Item}
-use Rattle.bridge_face.specs.Law.{IsItemFor}
-use Rattle.bridge_tests.specs.SampleLaws.{own_reals, suits_reals}
+use Rattle.bridge_tests.specs.SampleLaws.{own_reals}
 use Rattle.bridge_tests.proofs.constants.reals.Goals as goal
 
-pub keep-requires-clause-own : goal.keep-requires-clause-own
-keep-requires-clause-own c = own_reals
-
-pub keep-requires-clause-suits : goal.keep-requires-clause-suits
-keep-requires-clause-suits c =
-    subst (IsItemFor E40) (sym c.in_ok-item.ensures) (suits_reals c.one.result c.zero.result)
-
-pub keep-requires-clause-at : goal.keep-requires-clause-at
-keep-requires-clause-at c = ap (λ (i : Item). i.at) c.in_ok-item.ensures
+pub keep_reals-requires : goal.keep_reals-requires
+keep_reals-requires c = own_reals

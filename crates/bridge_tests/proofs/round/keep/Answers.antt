@@ -1,21 +1,10 @@
-use Rattle.std.proofs.Common.{IsSomeAnd, ap, refl, subst, sym, ◌≡◌, ◌∙◌}
+use Rattle.std.proofs.Common.{ap, sym, ◌∙◌}
 use Rattle.bridge_face.specs.State.{State}
 use Rattle.bridge_tests.proofs.round.keep.Goals as goal
 
-pub hold-requires-clause-own : goal.hold-requires-clause-own
-hold-requires-clause-own g c =
-    c.requires.own ∙ sym (ap (λ (s : State). s.family) c.in_ok-image.ensures.state)
+pub keep_imaged-answer-requires-clause-own : goal.keep_imaged-answer-requires-clause-own
+keep_imaged-answer-requires-clause-own g c =
+    c.requires.own ∙ sym (ap (λ (s : State). s.family) c.in-Ok.ensures.state)
 
-pub back-requires : goal.back-requires
-back-requires g c = record {
-  item = c.args.item;
-  kept = c.in_ok-hold.ensures;
-  suits = c.requires.suits;
-  no_group = c.is_row-row.ensures.group c.if-row.true;
-  no_objective = c.is_row-row.ensures.objective c.if-row.true;
-  image_is = c.in_ok-image.ensures.answer.1;
-}
-
-pub returns : goal.returns
-returns g c =
-    subst (λ o. IsSomeAnd o (λ kept. kept.edge ≡ c.args.edge)) (sym c.in_ok-hold.ensures) refl
+pub keep_imaged-answer-requires-clause-image : goal.keep_imaged-answer-requires-clause-image
+keep_imaged-answer-requires-clause-image g c = c.in-Ok.ensures.answer.1

@@ -2,11 +2,11 @@ use Rattle.std.proofs.Common.{subst, sym}
 use Rattle.item_core.specs.declared.edge.Edge.TheVariants.{E41}
 use Rattle.bridge_face.specs.Law.{IsItemFor}
 use Rattle.bridge_tests.specs.SampleLaws.{own_norm, suits_norm}
-use Rattle.bridge_tests.proofs.constants.norm.Goals as goal
+use Rattle.bridge_tests.proofs.constants.norm_image.Goals as goal
 
-pub image-requires-clause-own : goal.image-requires-clause-own
-image-requires-clause-own c = own_norm
+pub image-image-requires-clause-own : goal.image-image-requires-clause-own
+image-image-requires-clause-own c = own_norm
 
-pub image-requires-clause-suits : goal.image-requires-clause-suits
-image-requires-clause-suits c =
+pub image-image-requires-clause-suits : goal.image-image-requires-clause-suits
+image-image-requires-clause-suits c =
     subst (IsItemFor E41) (sym c.in_ok-item.ensures) (suits_norm c.args.first c.args.other)

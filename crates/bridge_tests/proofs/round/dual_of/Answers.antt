@@ -2,7 +2,7 @@ use Rattle.std.proofs.Common.{List, ap, length, map, ◌∙◌}
 use Rattle.ratio_core.specs.Rational.{Rational}
 use Rattle.bridge_face.specs.BackOf.{size}
 use Rattle.bridge_tests.specs.RoundLaws.{takes_duals}
-use Rattle.bridge_tests.proofs.round.back.Goals as goal
+use Rattle.bridge_tests.proofs.round.dual_of.Goals as goal
 
 pub back-requires : goal.back-requires
 back-requires g c =

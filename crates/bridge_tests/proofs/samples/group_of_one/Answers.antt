@@ -1,9 +1,0 @@
-use Rattle.std.proofs.Common.{subst, sym}
-use Rattle.item_core.specs.declared.item.Body.TheVariants.{Group}
-use Rattle.bridge_tests.specs.SampleLaws.{IsSound, sound_group_one}
-use Rattle.bridge_tests.proofs.samples.group_of_one.Goals as goal
-
-pub returns : goal.returns
-returns c =
-    subst (λ vs. IsSound (Group c.args.set vs)) (sym c.in_ok-one_variable.ensures)
-    (sound_group_one c.args.set c.requires.scalar c.requires.sample)
