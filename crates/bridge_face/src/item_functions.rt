@@ -5,7 +5,7 @@ ghost use Rattle.item_core.specs.Item.{functions_of, set_of};
 
 use aff_core::{Address, Aff, VecAff};
 use item_core::Body;
-use lists::{Duplicate, Memory};
+use lists::Memory;
 use set_core::Set;
 use std::alloc::Global;
 
@@ -18,22 +18,6 @@ pub fn variables(alloc: Global, vars: &[Address]) -> Result<VecAff, Memory>
         funcs.push(Aff::variable(alloc, var)?)?;
     }
     Ok(VecAff::from_vec(funcs))
-}
-
-/// The functions of an item's components.
-pub fn functions(alloc: Global, body: &Body) -> Result<VecAff, Memory>
-    ensures { IfOk result (λ funcs. funcs ≡ functions_of body.now) }
-{
-    match body {
-        Body::Group { vars, .. } | Body::Free { vars } | Body::PlainVec { vars, .. } => {
-            variables(alloc, vars.as_slice())
-        }
-        Body::Plain { var, .. } | Body::PlainObj { var, .. } => {
-            alone(alloc, Aff::variable(alloc, var)?)
-        }
-        Body::Affine { func, .. } | Body::AffineObj { func, .. } => alone(alloc, func.copy()?),
-        Body::AffineVec { func, .. } => func.copy(),
-    }
 }
 
 /// One function as a vector of one component.

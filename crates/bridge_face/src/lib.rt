@@ -23,7 +23,7 @@ pub use child_rows::ChildRows;
 pub use differences::{less_variable, less_variables, variable_less};
 pub use groups::{child_group, components, inner_variables};
 pub use images::{group_image, group_row_image, one_item};
-pub use item_functions::{alone, component_count, functions, item_set, variables};
+pub use item_functions::{alone, component_count, item_set, variables};
 pub use kept_item::KeptItem;
 pub use kept_items::KeptItems;
 pub use one_group::{GroupRule, OneGroup};

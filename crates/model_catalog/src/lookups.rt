@@ -2,8 +2,6 @@
 ghost use Rattle.std.specs.Prelude.{◌≡◌};
 ghost use Rattle.std.specs.List.{list_any};
 ghost use Rattle.std.specs.Option.{option_copied};
-ghost use Rattle.numbered.specs.Numbered.{find};
-ghost use Rattle.user_model.specs.Edited.{row_number};
 ghost use Rattle.user_model.specs.Model as model;
 ghost use Rattle.model_catalog.specs.Named as named;
 
@@ -25,13 +23,6 @@ impl Catalog {
         ensures { option_copied result ≡ model.row_named self.now.model name.now }
     {
         let number = self.row_names.id(name)?;
-        with_number(&self.rows, number)
-    }
-
-    /// The row with a number.
-    pub fn row_at(&self, number: u32) -> Option<&Row>
-        ensures { option_copied result ≡ find row_number number self.now.model.rows }
-    {
         with_number(&self.rows, number)
     }
 

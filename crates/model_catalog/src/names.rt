@@ -6,7 +6,6 @@ ghost use Rattle.numbered.specs.Numbered.{Rise, find};
 ghost use Rattle.model_catalog.specs.Names.{AreDistinct, listed_as, listed_number, standing_names, name_of, put_aside, put_count, renamed_by, settled, without_names};
 
 use name_index::{Name, NameTable};
-use numbered::HasNumber;
 use std::mem;
 
 /// What name a variable or a row is to have: one, or none where it isn't to stand any more.
@@ -26,14 +25,6 @@ pub struct NameChanges {
     pub group: u32,
     pub variables: Vec<NameChange>,
     pub rows: Vec<NameChange>,
-}
-
-impl HasNumber for NameChange {
-    ghost number_of = { λ listed. listed.number };
-
-    fn number(&self) -> u32 {
-        self.number
-    }
 }
 
 impl NameChange {
