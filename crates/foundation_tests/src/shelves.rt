@@ -45,6 +45,7 @@ fn failing(page: &mut Page) {
     let mut shelf = MemShelf::new(one_file(page.alloc()), fails_at(page.alloc(), 1));
     fetch(page, "the first fails", &mut shelf, "m.json");
     fetch(page, "the first fails", &mut shelf, "m.json");
+    fetch(page, "the first fails", &mut shelf, "n.json");
 }
 
 fn fetch<H: Shelf>(page: &mut Page, what: &str, shelf: &mut H, name: &str) {

@@ -33,6 +33,8 @@ pub struct Case {
     pub failing: Option<(Call, u64)>,
     /// Whether the session has a few boxed bridges, in place of one of each family.
     pub boxed: bool,
+    /// Whether what the session is left with is printed.
+    pub left: bool,
 }
 
 impl Case {
@@ -46,6 +48,7 @@ impl Case {
             piece: 4096,
             failing: None,
             boxed: false,
+            left: false,
         }
     }
 

@@ -10,6 +10,8 @@
 //     failing read N         the read of this number fails, or the write, or the fetch
 //     boxed                  boxes with a bridge of `GreaterLess`, a second one of it, and one of
 //                            `NonposVar`, in place of a bridge of each family
+//     left                   has printed what the session is left with: whether a solver is
+//                            attached, and the model as a file's text
 //     run                    runs the case
 #![tactic(auto)]
 

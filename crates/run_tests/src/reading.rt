@@ -30,6 +30,7 @@ fn named(rt: &HostRuntime, case: &mut Case, word: &str) -> Result<(), Stop> {
         "certificate" => case.part = Part::Certificate,
         "script" => case.part = Part::Script,
         "boxed" => case.boxed = true,
+        "left" => case.left = true,
         "run" => return run_case(rt, case),
         _ => return Err(Stop),
     }

@@ -12,6 +12,7 @@ use edit_engine::SessionOver;
 use io_face::{Calls, MemShelf, MemSink, MemSource, NamedFile, NamedFiles, Shelf, SureShelf};
 use lazy_bridge::add_bridge;
 use lists::Memory;
+use loaded_again::written_line;
 use moi_run::run;
 use std::alloc::Global;
 use std::str;
@@ -101,11 +102,19 @@ fn run_by_each<H: Shelf, B: Bridge>(
 ) -> Result<(), Stop>
     requires { 1 ≤ case.now.piece }
 {
+    show_box(rt, &one)?;
+    show_box(rt, &other)?;
     let mut bridges = Vec::new(rt.alloc());
     add_bridge(&mut bridges, one)?;
     add_bridge(&mut bridges, again)?;
     add_bridge(&mut bridges, other)?;
     run_by(rt, case, shelf, input, bridges)
+}
+
+// Of which family a bridge is, and how many calls it has had.
+fn show_box<B: Bridge>(rt: &HostRuntime, bridge: &B) -> Result<(), Stop> {
+    let (family, turns) = (bridge.family(), bridge.turns());
+    Ok(rt.print(format_args!("{family:?} after {turns} calls, "))?)
 }
 
 // By a new session with these bridges.
@@ -138,7 +147,12 @@ fn run_session<H: Shelf, B: Bridge>(
     let writes = failing(rt.alloc(), case.failing(Call::Write))?;
     let mut output = MemSink::new(rt.alloc(), case.piece, writes);
     let status = run(rt.alloc(), &case.words, shelf, input, &mut output, session);
-    tell(rt, status.number(), output.written())
+    tell(rt, status.number(), output.written())?;
+    if case.left {
+        tell_left(rt, session)
+    } else {
+        Ok(())
+    }
 }
 
 fn tell(rt: &HostRuntime, status: u8, written: &[u8]) -> Result<(), Stop> {
@@ -149,5 +163,14 @@ fn tell(rt: &HostRuntime, status: u8, written: &[u8]) -> Result<(), Stop> {
     } else {
         rt.println(text)?;
     }
+    Ok(())
+}
+
+// What the session is left with.
+fn tell_left<B: Bridge>(rt: &HostRuntime, session: &SessionOver<B>) -> Result<(), Stop> {
+    let cache = session.cache();
+    let model = written_line(rt.alloc(), cache.model())?;
+    rt.println(format_args!("attached {}", cache.attached()))?;
+    rt.print(str::from_utf8(model.as_slice())?)?;
     Ok(())
 }

@@ -1,9 +1,10 @@
-// Boards of one row and one real column, pivoted twice, on the sparse board and on the dense one.
+// Boards of one real column, pivoted twice, on the sparse board and on the dense one.
 ghost use Rattle.std.specs.Prelude.{◌≡◌, ◌⊎◌, ◌<◌, IsTrue, length, IfSome, true};
 
 use crate::forms::is_nonnegative;
 use crate::models::number;
 use page::Page;
+use ratio_core::Ratio;
 use sparse_board::Board;
 use std::alloc::Global;
 use tableau_core::{DenseBoard, Tableau};
@@ -21,6 +22,7 @@ fn show_board<T: Tableau + Drop>(page: &mut Page) {
     show_pivots::<T>(page, "2", "3", "5");
     // The entry divides, and then the right side's quotient doesn't fit.
     show_pivots::<T>(page, "1/3", "170141183460469231731687303715884105727", "1");
+    show_end::<T>(page);
 }
 
 // The real column enters, the first phase ends, and the artificial column comes back.
@@ -32,6 +34,28 @@ fn show_pivots<T: Tableau + Drop>(page: &mut Page, entry: &str, right: &str, cos
         board.end_phase_one();
         pivot(page, &mut board, 1);
         show_row(page, &board);
+    }
+}
+
+// A pivot that fits in each row, but in the first cost row as 2^127 + 2, which passes 128 bits: it
+// is made once the first phase has ended.
+fn show_end<T: Tableau + Drop>(page: &mut Page) {
+    let half = number("1/2");
+    let second = number("85070591730234615865843651857942052865/2");
+    let third = number("42535295865117307932921825928971026432");
+    let zero = Ratio::zero();
+    let begun = T::start(
+        page.alloc(),
+        3,
+        1,
+        &[half, second, third],
+        &[zero, zero, zero],
+        &[zero],
+    );
+    if let Ok(mut board) = begun {
+        pivot(page, &mut board, 0);
+        board.end_phase_one();
+        pivot(page, &mut board, 0);
     }
 }
 
@@ -81,12 +105,12 @@ fn show_prices<T: Tableau>(page: &mut Page, board: &T, phase: u8)
     page.line(format_args!("enters {:?}", board.entering(phase)));
 }
 
-// A pivot in its row, where the entry isn't 0.
+// A pivot in the first row, where the entry isn't 0.
 fn pivot<T: Tableau>(page: &mut Page, board: &mut T, q: usize)
-    requires rows { length (T.contents board.old).rows ≡ 1 }
+    requires rows { 0 < length (T.contents board.old).rows }
     requires reals { (T.contents board.old).reals ≡ 1 }
     requires column { q < 2 }
-    ensures rows { length (T.contents board.new).rows ≡ 1 }
+    ensures rows { length (T.contents board.new).rows ≡ length (T.contents board.old).rows }
     ensures reals { (T.contents board.new).reals ≡ 1 }
     ensures in_first { (T.contents board.new).in_first ≡ (T.contents board.old).in_first }
 {

@@ -8,6 +8,8 @@
 //     numbers EDIT          makes the edit with the set of the numbers that are at least 0
 //     zeros0 EDIT           the same with that of no zeros, and zeros3 with that of three
 //     minimize EDIT         makes the function of a row the objective
+//     check EDIT            prints a copy of an edit, and whether it would be made
+//     where NAME            prints the address of a variable
 //     show, copies          prints the model, or copies of all that stands in it
 //     new                   begins with an empty model
 //     many ..               makes many edits, up to the limits (src/many.rt)

@@ -5,6 +5,7 @@ use crate::edits::{otherwise, read};
 use crate::many;
 use crate::shown::{digest, show, show_copies};
 use model_store::{ApplyFault, Edit, UserModel};
+use name_index::Name;
 use stop::Stop;
 
 /// Makes one step, and prints what it gives. An empty line, or one that begins with `#`, is no
@@ -16,6 +17,8 @@ pub fn step(rt: &HostRuntime, model: &mut UserModel, line: &str) -> Result<(), S
         "new" => empty(rt, model),
         "show" => show(rt, model),
         "copies" => show_copies(rt, model),
+        "check" => check(rt, model, rest),
+        "where" => locate(rt, model, rest),
         "back" => back(rt, model, rest),
         "within" => within(rt, model, rest),
         "many" => many::step(rt, model, rest),
@@ -26,6 +29,23 @@ pub fn step(rt: &HostRuntime, model: &mut UserModel, line: &str) -> Result<(), S
 
 fn empty(rt: &HostRuntime, model: &mut UserModel) -> Result<(), Stop> {
     *model = UserModel::new(rt.alloc());
+    Ok(())
+}
+
+// Whether an edit would be made, by a copy of it.
+fn check(rt: &HostRuntime, model: &UserModel, line: &str) -> Result<(), Stop> {
+    let edit = read(rt.alloc(), line)?.copy(rt.alloc())?;
+    match model.check(&edit) {
+        Ok(()) => println!(rt; "{edit:?}: would be made")?,
+        Err(refusal) => println!(rt; "{edit:?}: {refusal}")?,
+    }
+    Ok(())
+}
+
+// Where the variable with a name stands.
+fn locate(rt: &HostRuntime, model: &UserModel, name: &str) -> Result<(), Stop> {
+    let at = model.variable(&Name::new(rt.alloc(), name)?);
+    println!(rt; "{name}: {at:?}")?;
     Ok(())
 }
 
