@@ -34,8 +34,17 @@ fn empty(rt: &HostRuntime, model: &mut UserModel) -> Result<(), Stop> {
 
 // Whether an edit would be made, by a copy of it.
 fn check(rt: &HostRuntime, model: &UserModel, line: &str) -> Result<(), Stop> {
-    let edit = read(rt.alloc(), line)?.copy(rt.alloc())?;
-    match model.check(&edit) {
+    let edit = read(rt.alloc(), line)?;
+    check_copy(rt, model, &edit)
+}
+
+fn check_copy(rt: &HostRuntime, model: &UserModel, edit: &Edit) -> Result<(), Stop> {
+    let copy = edit.copy(rt.alloc())?;
+    tell_check(rt, model, &copy)
+}
+
+fn tell_check(rt: &HostRuntime, model: &UserModel, edit: &Edit) -> Result<(), Stop> {
+    match model.check(edit) {
         Ok(()) => println!(rt; "{edit:?}: would be made")?,
         Err(refusal) => println!(rt; "{edit:?}: {refusal}")?,
     }
@@ -44,8 +53,12 @@ fn check(rt: &HostRuntime, model: &UserModel, line: &str) -> Result<(), Stop> {
 
 // Where the variable with a name stands.
 fn locate(rt: &HostRuntime, model: &UserModel, name: &str) -> Result<(), Stop> {
-    let at = model.variable(&Name::new(rt.alloc(), name)?);
-    println!(rt; "{name}: {at:?}")?;
+    let named = Name::new(rt.alloc(), name)?;
+    tell_place(rt, model, &named)
+}
+
+fn tell_place(rt: &HostRuntime, model: &UserModel, name: &Name) -> Result<(), Stop> {
+    println!(rt; "{name:?}: {:?}", model.variable(name))?;
     Ok(())
 }
 
