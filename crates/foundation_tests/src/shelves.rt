@@ -1,5 +1,5 @@
-// Shelves in memory, and that of the system, which lacks the file. The stored run of `moi_edit`
-// fetches files of the system that are there.
+// Shelves in memory, and that of the system, which lacks a file and can't read a folder. The stored
+// run of `moi_edit` fetches files of the system that are there.
 use crate::calls::fails_at;
 use io_face::{Files, MemShelf, NamedFile, NamedFiles, Shelf, SureShelf};
 use page::Page;
@@ -10,7 +10,7 @@ pub fn show(rt: &HostRuntime, page: &mut Page) {
     page.line("# shelves");
     sure(page);
     failing(page);
-    fetch(page, "of the system", &mut Files::new(rt), "none.json");
+    of_the_system(page, &mut Files::new(rt));
 }
 
 fn file(alloc: Global) -> Result<NamedFile, AllocError> {
@@ -46,6 +46,11 @@ fn failing(page: &mut Page) {
     fetch(page, "the first fails", &mut shelf, "m.json");
     fetch(page, "the first fails", &mut shelf, "m.json");
     fetch(page, "the first fails", &mut shelf, "n.json");
+}
+
+fn of_the_system<H: Shelf>(page: &mut Page, shelf: &mut H) {
+    fetch(page, "of the system", shelf, "none.json");
+    fetch(page, "of the system", shelf, ".");
 }
 
 fn fetch<H: Shelf>(page: &mut Page, what: &str, shelf: &mut H, name: &str) {
