@@ -1,0 +1,4 @@
+-- What contracts cite, and its laws.
+pub mod Terms
+pub mod Kept
+pub mod TermLaws
