@@ -1,6 +1,7 @@
 //! The edges: one table, of which all that is said of edges is read.
-ghost use Rattle.std.specs.Prelude.{◌≡◌};
-ghost use Rattle.item_core.specs.Edge.{edge_entry};
+ghost use Rattle.std.specs.Prelude.{◌≡◌, slice_index_or};
+ghost use Rattle.item_core.specs.Edge.{edge_entry, edge_number};
+ghost use Rattle.item_core.specs.declared.edge.EdgeEntry.{EdgeEntry};
 
 use crate::{Family, Kind};
 use bridge_graph::EdgeRow;
@@ -228,10 +229,17 @@ pub const EDGE_ROWS: [EdgeRow; EDGE_COUNT] = edges!(graph_rows);
 
 impl Edge {
     /// The edge's entry in the table.
-    #[tactic(auto, unfolding(crate::specs::Edge::edge_entry))]
     pub fn entry(self) -> EdgeEntry
         ensures { result ≡ edge_entry self }
     {
-        EDGES[self as usize]
+        entry_in(&EDGES, self)
     }
+}
+
+// The edge's entry in a table. The table is lent: a proof takes one that is owned apart, entry by
+// entry.
+fn entry_in(entries: &[EdgeEntry; EDGE_COUNT], edge: Edge) -> EdgeEntry
+    ensures { (other : EdgeEntry) → result ≡ slice_index_or entries.now (edge_number edge) other }
+{
+    entries[edge as usize]
 }
