@@ -1,13 +1,15 @@
 -- An entry put among others or taken from them, at its place in the order of the addresses.
-use Rattle.std.specs.Prelude.{◌≡◌, ℕ, suc, ◌<◌, Bool, true, false, not, cond, Option, None, List, length, slice_index_or, Result, Ok, Err, MatchResult, refl}
+use Rattle.std.specs.Prelude.{◌≡◌, ℕ, zero, suc, ◌<◌, ◌≤◌, Bool, true, false, not, cond, drop, map, nat_lt, Option, None, List, [], ◌∷◌, length, slice_index_or, Result, Ok, Err, MatchResult, refl}
 use Rattle.std.proofs.Common.{arith, sym, ap, subst, ◌∙◌}
+use borrow.Author.Tests.{ltb-true, ltb-false}
 use Rattle.std.specs.List.{remove}
 use Rattle.std.specs.List.Sorted.{IsBinarySearchResult, IsSearchInRange}
 use Rattle.std.proofs.lemmas.List.Sorted.{searchable_from_sorted}
-use Rattle.std.specs.Ordering.{eq_by_cmp, is_eq, ordering_reverse}
+use Rattle.std.specs.Ordering.{eq_by_cmp, is_eq, is_lt, ordering_reverse}
 use Rattle.std.specs.declared.cmp.Ordering.{Ordering}
 use Rattle.std.specs.declared.cmp.Ordering.TheVariants.{Less, Equal, Greater}
 use Rattle.std.specs.Cmp.{IsTotalOrder}
+use Rattle.std.proofs.lemmas.List.{length-map}
 use Rattle.std.specs.FinMap as finite
 use Rattle.std.specs.FinMap.{FinMap, IsAntisymmetric}
 use Rattle.std.specs.FinMap.Entries.{find-where_key, is_sorted-where_key, where_key}
@@ -18,7 +20,7 @@ use Rattle.map_laws.specs.EntryLaws.{ascending, key_less, searched}
 use Rattle.map_laws.specs.MadeLaws.{from_sorted-entries}
 use Rattle.map_laws.specs.PutLaws.{Within, others, put_gap, take_place, turned}
 use Rattle.address_map.specs.KeptPlaces.{IsGapFor, IsPlaceOf}
-use Rattle.address_map.specs.Places.{Indices}
+use Rattle.address_map.specs.Places.{from_on}
 
 same_test : {K : Type 0} {R : K → K → Ordering} (total : IsTotalOrder R) (q k : K)
     → eq_by_cmp R q k ≡ eq_by_cmp R k q
@@ -51,16 +53,13 @@ entries-remove {K} {X} {R} total exact m k =
 
 -- ---- what a binary search among the entries answers
 
-module _ (m : Indices) (at : Address) where
-  es : List (Address × ℕ)
-  es = finite.entries m
-
+module _ {X : Type 0} (m : FinMap address_cmp X) (at : Address) where
   found_at : (n : ℕ) → n < length (finite.entries m)
-      → ((d : Address × ℕ) → address_cmp (slice_index_or (finite.entries m) n d).0 at ≡ Equal)
+      → ((d : Address × X) → address_cmp (slice_index_or (finite.entries m) n d).0 at ≡ Equal)
       → finite.entries (finite.remove m at) ≡ remove (finite.entries m) n
   found_at n lt here =
       let sorted = finite.entries_sorted m in
-      let same : (d : Address × ℕ) → (slice_index_or (finite.entries m) n d).0 ≡ at =
+      let same : (d : Address × X) → (slice_index_or (finite.entries m) n d).0 ≡ at =
       λ d. exact_addresses _ _ (here d) in
       let below : Within address_cmp (finite.entries m) at Less 0 n =
       λ j d from to. subst (λ k. address_cmp (slice_index_or (finite.entries m) j d).0 k ≡ Less)
@@ -94,14 +93,84 @@ module _ (m : Indices) (at : Address) where
             (λ j d from to. parts.0 j d (omega arith) to) (λ j d from to. parts.1 j d from to);
       }
 
+-- ---- what stands from there on
+
+module _ {X : Type 0} (at : Address) where
+  starts : (es : List (Address × X)) (n : ℕ) → n ≤ length es
+      → ((j : ℕ) (d : Address × X) → j < n → address_cmp (slice_index_or es j d).0 at ≡ Less)
+      → ((j : ℕ) (d : Address × X) → n ≤ j → j < length es
+      → is_lt (address_cmp (slice_index_or es j d).0 at) ≡ false)
+      → drop n (map (λ e. e.0) es) ≡ from_on at (map (λ e. e.0) es)
+  starts [] zero le below above = refl
+  starts [] (suc n) le below above = absurd (omega (arith, le))
+  starts (e ∷ es) zero le below above =
+      ap (λ ks. e.0 ∷ ks) (starts es zero (omega arith) (λ j d lt. absurd (omega (arith, lt)))
+      (λ j d from lt. above (suc j) d (omega arith) (omega (arith, lt))))
+      ∙ sym (ap (λ b. cond (not b) (e.0 ∷ from_on at (map (λ e. e.0) es))
+      (from_on at (map (λ e. e.0) es))) (above 0 e (omega arith) (omega arith)))
+  starts (e ∷ es) (suc n) le below above =
+      starts es n (omega (arith, le)) (λ j d lt. below (suc j) d (omega (arith, lt)))
+      (λ j d from lt. above (suc j) d (omega (arith, from)) (omega (arith, lt)))
+      ∙ sym (ap (λ o. cond (not (is_lt o)) (e.0 ∷ from_on at (map (λ e. e.0) es))
+      (from_on at (map (λ e. e.0) es))) (below 0 e (omega arith)))
+
+module _ {X : Type 0} (m : FinMap address_cmp X) (at : Address) where
+  abbrev pub IsStart : ℕ → Type 0
+  IsStart n = (n ≤ length (finite.keys m)) × (drop n (finite.keys m) ≡ from_on at (finite.keys m))
+
+  started : (n : ℕ) → n ≤ length (finite.entries m)
+      → ((j : ℕ) (d : Address × X) → j < n
+      → address_cmp (slice_index_or (finite.entries m) j d).0 at ≡ Less)
+      → ((j : ℕ) (d : Address × X) → n ≤ j → j < length (finite.entries m)
+      → is_lt (address_cmp (slice_index_or (finite.entries m) j d).0 at) ≡ false) → IsStart n
+  started n le below above = (
+    subst (λ k. n ≤ k) (sym (length-map (finite.entries m) (λ e. e.0))) le,
+    starts at (finite.entries m) n le below above,
+  )
+
+  pub from_place : (r : Result ℕ ℕ) → IsSearchInRange r (length (finite.entries m))
+      → IsBinarySearchResult (λ e. address_cmp e.0 at) (finite.entries m) r
+      → MatchResult r IsStart IsStart
+  from_place (Ok n) lt here = started n (omega (arith, lt)) below above
+    where
+      same : (d : Address × X) → (slice_index_or (finite.entries m) n d).0 ≡ at
+      same d = exact_addresses _ _ (here d)
+
+      below : (j : ℕ) (d : Address × X) → j < n
+          → address_cmp (slice_index_or (finite.entries m) j d).0 at ≡ Less
+      below j d to = subst (λ k. address_cmp (slice_index_or (finite.entries m) j d).0 k ≡ Less)
+          (same d)
+          (key_less address_total (finite.entries m) j n d (finite.entries_sorted m) to lt)
+
+      past : (j : ℕ) (d : Address × X) → n ≤ j → j < length (finite.entries m) → (b : Bool)
+          → nat_lt n j ≡ b → is_lt (address_cmp (slice_index_or (finite.entries m) j d).0 at)
+          ≡ false
+      past j d from to true t =
+          ap is_lt (turned address_total (slice_index_or (finite.entries m) j d).0 at Less
+          (subst (λ k. address_cmp k (slice_index_or (finite.entries m) j d).0 ≡ Less) (same d)
+          (key_less address_total (finite.entries m) n j d (finite.entries_sorted m)
+          (ltb-true n j t) to)))
+      past j d from to false t =
+          ap (λ k. is_lt (address_cmp (slice_index_or (finite.entries m) k d).0 at)) {x = j} {y = n}
+          (omega (arith, from, ltb-false n j t)) ∙ ap is_lt (here d)
+
+      above : (j : ℕ) (d : Address × X) → n ≤ j → j < length (finite.entries m)
+          → is_lt (address_cmp (slice_index_or (finite.entries m) j d).0 at) ≡ false
+      above j d from to = past j d from to (nat_lt n j) refl
+  from_place (Err n) le parted =
+      let parts = parted (searchable_from_sorted address_total (λ e. e.0) (finite.entries m) at
+      (ascending address_total (finite.entries m) (finite.entries_sorted m))) in
+      started n le (λ j d to. parts.0 j d (omega arith) to)
+      (λ j d from to. ap is_lt (parts.1 j d from to))
+
 -- ---- the map of entries in order
 
-pub entries_kept : (items : List (Address × ℕ)) → RiseStrictly items
+pub entries_kept : {X : Type 0} (items : List (Address × X)) → RiseStrictly items
     → finite.entries (finite.from_sorted {R = address_cmp} items) ≡ items
 entries_kept items h = finite.entries-from_sorted address_cmp items (rises items h)
 
 -- entries that are a map's rise, and make that map
-module _ (m : Indices) (items : List (Address × ℕ)) (is : items ≡ finite.entries m) where
+module _ {X : Type 0} (m : FinMap address_cmp X) (items : List (Address × X)) (is : items ≡ finite.entries m) where
   pub made_rise : RiseStrictly items
   made_rise = subst RiseStrictly (sym is) (entries_rise m)
 

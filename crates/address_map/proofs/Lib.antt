@@ -1,2 +1,5 @@
+pub mod AroundLaws
 pub mod GapLaws
 pub mod InverseLaws
+pub mod RoomLaws
+pub mod NotedLaws

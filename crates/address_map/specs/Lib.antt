@@ -1,3 +1,5 @@
+pub mod Forks
 pub mod Places
 pub mod KeptPlaces
+pub mod Noted
 pub mod AddressMap

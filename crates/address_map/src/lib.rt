@@ -2,9 +2,13 @@
 #![tactic(auto)]
 
 mod map;
+mod notes;
 mod ordered;
 mod places;
+mod ranked;
+mod reserved;
 
 pub use aff_core::{Address, Aff};
 pub use lists::Memory;
 pub use map::AddressMap;
+pub use notes::AddressSet;

@@ -1,10 +1,14 @@
 //! The map between leaf addresses and solver indices.
-ghost use Rattle.std.specs.Prelude.{◌≡◌, ◌+◌, ◌<◌, ◌≤◌, None, IsOk, IfOk, OnOk, OnErr, length, slice_get};
+ghost use Rattle.std.specs.Prelude.{◌≡◌, ◌+◌, ◌<◌, ◌≤◌, None, IsOk, IfOk, OnOk, OnErr, drop, is_some, length, slice_get};
 ghost use Rattle.std.specs.FinMap as finite;
 ghost use Rattle.std.specs.Option.{option_copied};
-ghost use Rattle.address_map.specs.Places.{IsAddressAt, IsFree, IsOneToOne, addresses};
+ghost use Rattle.address_map.specs.Noted.{IsNotedAt, noted_in, with_item, without_item};
+ghost use Rattle.address_map.specs.Places.{IsAddressAt, IsFree, IsOneToOne, addresses, from_on};
 
+use crate::notes::{AddressSet, Notes};
+use crate::ordered::Ordered;
 use crate::places::Places;
+use crate::ranked::Fork;
 use aff_core::{Address, Aff};
 use lists::Memory;
 use std::alloc::Global;
@@ -15,15 +19,18 @@ use std::marker::Model;
 /// for variables and for rows, and each variable's expression over leaf variables.
 ///
 /// Contracts see finite maps from addresses, and beside those of the leaves how many can still be
-/// put without memory. A look-up by index is a few probes of a table; one by address, a binary
-/// search. Leaves are kept in the order of their addresses, so the n-th is read at once, and going
-/// through all of them is linear; a leaf that is put or dropped moves those behind it, so leaves
-/// that are put in the order of their addresses move none.
+/// put without memory. A look-up by index is a few probes of a table. Leaves are kept in the order
+/// of their addresses, in balanced trees: one is put, dropped and looked up by its address in
+/// logarithmic time, and so is the n-th. Besides, it is noted which items mention a variable, and
+/// which variables are kept.
 #[derive(Debug, Drop)]
 pub struct AddressMap {
     vars: Places,
     rows: Places,
     exprs: BTreeMap<Address, Aff>,
+    notes: Notes,
+    kept: AddressSet,
+    alloc: Global,
 }
 
 impl Model for AddressMap {
@@ -38,6 +45,8 @@ impl Model for AddressMap {
       vars = a.vars;
       rows = a.rows;
       exprs = from_entries a.exprs.entries;
+      noted = a.notes;
+      kept = a.kept;
     } };
 }
 
@@ -47,11 +56,16 @@ impl AddressMap {
         ensures vars { result.vars.indices ≡ finite.empty }
         ensures rows { result.rows.indices ≡ finite.empty }
         ensures exprs { result.exprs ≡ finite.empty }
+        ensures noted { result.noted ≡ finite.empty }
+        ensures kept { result.kept ≡ finite.empty }
     {
         AddressMap {
             vars: Places::new(alloc),
             rows: Places::new(alloc),
             exprs: BTreeMap::new(alloc),
+            notes: Notes::new(alloc),
+            kept: Ordered::new(),
+            alloc,
         }
     }
 
@@ -64,6 +78,8 @@ impl AddressMap {
         ensures exprs { self.new.exprs ≡ self.old.exprs }
         ensures spare_vars { self.old.vars.spare ≤ self.new.vars.spare }
         ensures spare_rows { self.old.rows.spare ≤ self.new.rows.spare }
+        ensures noted { self.new.noted ≡ self.old.noted }
+        ensures kept { self.new.kept ≡ self.old.kept }
     {
         self.vars.reserve(vars)?;
         self.rows.reserve(rows)
@@ -121,6 +137,8 @@ impl AddressMap {
         ensures rows { self.new.rows ≡ self.old.rows }
         ensures exprs { self.new.exprs ≡ self.old.exprs }
         ensures one_to_one { IsOneToOne self.new.vars.indices }
+        ensures noted { self.new.noted ≡ self.old.noted }
+        ensures kept { self.new.kept ≡ self.old.kept }
     {
         self.vars.put(at, i)
     }
@@ -138,6 +156,8 @@ impl AddressMap {
         ensures vars { self.new.vars ≡ self.old.vars }
         ensures exprs { self.new.exprs ≡ self.old.exprs }
         ensures one_to_one { IsOneToOne self.new.rows.indices }
+        ensures noted { self.new.noted ≡ self.old.noted }
+        ensures kept { self.new.kept ≡ self.old.kept }
     {
         self.rows.put(at, i)
     }
@@ -149,6 +169,8 @@ impl AddressMap {
         ensures spare { self.old.vars.spare ≤ self.new.vars.spare }
         ensures rows { self.new.rows ≡ self.old.rows }
         ensures exprs { self.new.exprs ≡ self.old.exprs }
+        ensures noted { self.new.noted ≡ self.old.noted }
+        ensures kept { self.new.kept ≡ self.old.kept }
     {
         self.vars.remove(at)
     }
@@ -160,6 +182,8 @@ impl AddressMap {
         ensures spare { self.old.rows.spare ≤ self.new.rows.spare }
         ensures vars { self.new.vars ≡ self.old.vars }
         ensures exprs { self.new.exprs ≡ self.old.exprs }
+        ensures noted { self.new.noted ≡ self.old.noted }
+        ensures kept { self.new.kept ≡ self.old.kept }
     {
         self.rows.remove(at)
     }
@@ -171,6 +195,8 @@ impl AddressMap {
         ensures err { OnErr result (self.new.exprs ≡ self.old.exprs) }
         ensures vars { self.new.vars ≡ self.old.vars }
         ensures rows { self.new.rows ≡ self.old.rows }
+        ensures noted { self.new.noted ≡ self.old.noted }
+        ensures kept { self.new.kept ≡ self.old.kept }
     {
         let before = self.exprs.insert(at, f)?;
         Ok(before)
@@ -182,8 +208,21 @@ impl AddressMap {
         ensures removed { self.new.exprs ≡ finite.remove self.old.exprs at.now }
         ensures vars { self.new.vars ≡ self.old.vars }
         ensures rows { self.new.rows ≡ self.old.rows }
+        ensures noted { self.new.noted ≡ self.old.noted }
+        ensures kept { self.new.kept ≡ self.old.kept }
     {
         self.exprs.remove(at)
+    }
+
+    /// Takes all expressions away.
+    pub fn clear_exprs(&mut self)
+        ensures removed { self.new.exprs ≡ finite.empty }
+        ensures vars { self.new.vars ≡ self.old.vars }
+        ensures rows { self.new.rows ≡ self.old.rows }
+        ensures noted { self.new.noted ≡ self.old.noted }
+        ensures kept { self.new.kept ≡ self.old.kept }
+    {
+        self.exprs.clear();
     }
 
     /// How many leaf variables there are.
@@ -214,16 +253,133 @@ impl AddressMap {
         self.rows.nth(n)
     }
 
-    /// Takes all leaves and expressions out.
+    /// The place of the first leaf variable whose address isn't before this one: from there on stand
+    /// the leaves of the item at the address, and then the others that come later.
+    pub fn var_place(&self, at: &Address) -> usize
+        ensures in_range { result ≤ length (addresses self.now.vars.indices) }
+        ensures from { drop result (addresses self.now.vars.indices)
+            ≡ from_on at.now (addresses self.now.vars.indices) }
+    {
+        self.vars.place_from(at)
+    }
+
+    /// The place of the first leaf row whose address isn't before this one.
+    pub fn row_place(&self, at: &Address) -> usize
+        ensures in_range { result ≤ length (addresses self.now.rows.indices) }
+        ensures from { drop result (addresses self.now.rows.indices)
+            ≡ from_on at.now (addresses self.now.rows.indices) }
+    {
+        self.rows.place_from(at)
+    }
+
+    /// Notes that an item mentions a variable, where that isn't noted yet.
+    pub fn note(&mut self, var: Address, item: Address) -> Result<(), Memory>
+        requires { finite.get (noted_in self.old.noted var) item ≡ None }
+        ensures ok { OnOk result (IsNotedAt self.old.noted self.new.noted var
+            (with_item (noted_in self.old.noted var) item)) }
+        ensures err { OnErr result (self.new.noted ≡ self.old.noted) }
+        ensures vars { self.new.vars ≡ self.old.vars }
+        ensures rows { self.new.rows ≡ self.old.rows }
+        ensures exprs { self.new.exprs ≡ self.old.exprs }
+        ensures kept { self.new.kept ≡ self.old.kept }
+    {
+        self.notes.note(var, item)
+    }
+
+    /// Takes the note away that an item mentions a variable; false exactly where there is none.
+    pub fn unnote(&mut self, var: &Address, item: &Address) -> bool
+        ensures there { result ≡ is_some (finite.get (noted_in self.old.noted var.now) item.now) }
+        ensures taken { IsNotedAt self.old.noted self.new.noted var.now
+            (without_item (noted_in self.old.noted var.now) item.now) }
+        ensures vars { self.new.vars ≡ self.old.vars }
+        ensures rows { self.new.rows ≡ self.old.rows }
+        ensures exprs { self.new.exprs ≡ self.old.exprs }
+        ensures kept { self.new.kept ≡ self.old.kept }
+    {
+        self.notes.unnote(var, item)
+    }
+
+    /// The items that mention a variable, as far as that is noted, and `None` where none is.
+    pub fn noted(&self, var: &Address) -> Option<&AddressSet>
+        ensures { option_copied result ≡ finite.get self.now.noted var.now }
+    {
+        self.notes.noted(var)
+    }
+
+    /// Takes all notes of mentions away.
+    pub fn clear_notes(&mut self)
+        ensures removed { self.new.noted ≡ finite.empty }
+        ensures vars { self.new.vars ≡ self.old.vars }
+        ensures rows { self.new.rows ≡ self.old.rows }
+        ensures exprs { self.new.exprs ≡ self.old.exprs }
+        ensures kept { self.new.kept ≡ self.old.kept }
+    {
+        self.notes.clear();
+    }
+
+    /// Marks a variable as kept, where it isn't marked yet: its own leaf, or a child's, stands for
+    /// it as it is.
+    pub fn mark_kept(&mut self, var: Address) -> Result<(), Memory>
+        requires { finite.get self.old.kept var ≡ None }
+        ensures ok { OnOk result (self.new.kept ≡ with_item self.old.kept var) }
+        ensures err { OnErr result (self.new.kept ≡ self.old.kept) }
+        ensures vars { self.new.vars ≡ self.old.vars }
+        ensures rows { self.new.rows ≡ self.old.rows }
+        ensures exprs { self.new.exprs ≡ self.old.exprs }
+        ensures noted { self.new.noted ≡ self.old.noted }
+    {
+        if self.kept.len() == usize::MAX {
+            return Err(Memory);
+        }
+        let room = Fork::room(self.alloc, (var, ()))?;
+        self.kept.insert(var, (), room);
+        Ok(())
+    }
+
+    /// Takes the mark of a kept variable away; false exactly where there is none.
+    pub fn unmark_kept(&mut self, var: &Address) -> bool
+        ensures there { result ≡ is_some (finite.get self.old.kept var.now) }
+        ensures removed { self.new.kept ≡ without_item self.old.kept var.now }
+        ensures vars { self.new.vars ≡ self.old.vars }
+        ensures rows { self.new.rows ≡ self.old.rows }
+        ensures exprs { self.new.exprs ≡ self.old.exprs }
+        ensures noted { self.new.noted ≡ self.old.noted }
+    {
+        self.kept.remove(var).is_some()
+    }
+
+    /// Whether a variable is marked as kept.
+    pub fn is_kept(&self, var: &Address) -> bool
+        ensures { result ≡ is_some (finite.get self.now.kept var.now) }
+    {
+        self.kept.get(var).is_some()
+    }
+
+    /// Takes all marks of kept variables away.
+    pub fn clear_kept(&mut self)
+        ensures removed { self.new.kept ≡ finite.empty }
+        ensures vars { self.new.vars ≡ self.old.vars }
+        ensures rows { self.new.rows ≡ self.old.rows }
+        ensures exprs { self.new.exprs ≡ self.old.exprs }
+        ensures noted { self.new.noted ≡ self.old.noted }
+    {
+        self.kept = Ordered::new();
+    }
+
+    /// Takes all out: leaves, expressions, notes and marks.
     pub fn clear(&mut self)
         ensures vars { self.new.vars.indices ≡ finite.empty }
         ensures rows { self.new.rows.indices ≡ finite.empty }
         ensures exprs { self.new.exprs ≡ finite.empty }
+        ensures noted { self.new.noted ≡ finite.empty }
+        ensures kept { self.new.kept ≡ finite.empty }
         ensures spare_vars { self.old.vars.spare ≤ self.new.vars.spare }
         ensures spare_rows { self.old.rows.spare ≤ self.new.rows.spare }
     {
         self.vars.clear();
         self.rows.clear();
         self.exprs.clear();
+        self.notes.clear();
+        self.kept = Ordered::new();
     }
 }

@@ -1,128 +1,114 @@
-//! Indices in the order of their addresses.
-ghost use Rattle.std.specs.Prelude.{◌≡◌, ◌+◌, ◌<◌, ◌≤◌, None, IsOk, MatchResult, OnOk, length, slice_get};
+//! Finite maps from addresses, in the order of the addresses.
+ghost use Rattle.std.specs.Prelude.{◌≡◌, ◌+◌, ◌^◌, ◌<◌, ◌≤◌, None, MatchResult, drop, length, slice_get};
 ghost use Rattle.std.specs.FinMap as finite;
+ghost use Rattle.std.specs.Option.{option_copied};
 ghost use Rattle.address_map.specs.KeptPlaces.{IsGapFor, IsPlaceOf};
-ghost use Rattle.address_map.specs.Places.{addresses};
+ghost use Rattle.address_map.specs.Places.{from_on};
 
+use crate::ranked::{Fork, Ranked};
 use aff_core::Address;
-use lists::Memory;
-use std::alloc::Global;
 use std::marker::Model;
 
-/// A finite map from addresses to indices, kept as its entries in the order of the addresses.
+/// A finite map from addresses, whose n-th address is read in logarithmic time as well.
 #[derive(Debug, Drop)]
-pub struct Ordered {
-    entries: Vec<(Address, usize)>,
+pub struct Ordered<V> {
+    entries: Ranked<(Address, V)>,
 }
 
-impl Model for Ordered {
-    ghost use Rattle.address_map.specs.Places.{Places, places_code};
+/// Room for one more address.
+pub type Room<V> = Box<Fork<(Address, V)>>;
 
-    ghost Value = { Places };
-
-    ghost coded = { places_code };
-
+impl<V> Model for Ordered<V> {
+    ghost use Rattle.std.specs.FinMap as finite;
+    ghost use Rattle.aff_core.specs.Address.{address_cmp, address_code};
     ghost use Rattle.aff_core.specs.Rising.{RiseStrictly};
-    ghost use Rattle.address_map.specs.KeptPlaces.{ordered_in};
 
-    ghost view = { ordered_in };
+    ghost Value = { finite.FinMap address_cmp V };
 
-    ghost invariant = { λ a. RiseStrictly a.entries.items };
+    ghost coded = { finite.code address_code V.code };
+
+    ghost view = { λ a. finite.from_sorted a.entries };
+
+    ghost invariant = { λ a. RiseStrictly a.entries };
 }
 
-impl Ordered {
-    pub fn new(alloc: Global) -> Ordered
-        ensures { result.indices ≡ finite.empty }
+impl<V> Ordered<V> {
+    /// No addresses, which takes no memory.
+    pub fn new() -> Ordered<V>
+        ensures { result ≡ finite.empty }
     {
         Ordered {
-            entries: Vec::new(alloc),
+            entries: Ranked::new(),
         }
     }
 
-    pub fn reserve(&mut self, extra: usize) -> Result<(), Memory>
-        ensures ok { OnOk result (extra ≤ self.new.spare) }
-        ensures succeeds { extra ≤ self.old.spare → IsOk result }
-        ensures same { self.new.indices ≡ self.old.indices }
-        ensures spare { self.old.spare ≤ self.new.spare }
-    {
-        self.entries.reserve(extra)?;
-        Ok(())
-    }
-
-    /// Puts an address in with its index, where there is room.
-    pub fn insert(&mut self, at: Address, i: usize)
-        requires free { finite.get self.old.indices at ≡ None }
-        requires room { 0 < self.old.spare }
-        ensures put { self.new.indices ≡ finite.insert self.old.indices at i }
-        ensures spare { self.old.spare ≤ self.new.spare + 1 }
-    {
-        let Err(n) = self.place(&at) else {
-            unreachable!()
-        };
-        if self.entries.insert(n, (at, i)).is_err() {
-            unreachable!();
-        }
-    }
-
-    /// Takes an address out, and answers its index.
-    pub fn remove(&mut self, at: &Address) -> Option<usize>
-        ensures index { result ≡ finite.get self.old.indices at.now }
-        ensures removed { self.new.indices ≡ finite.remove self.old.indices at.now }
-        ensures spare { self.old.spare ≤ self.new.spare }
-    {
-        let Ok(n) = self.place(at) else {
-            return None;
-        };
-        let (_, i) = self.entries.remove(n);
-        Some(i)
-    }
-
-    /// Takes all out, and keeps the room.
-    pub fn clear(&mut self)
-        ensures emptied { self.new.indices ≡ finite.empty }
-        ensures spare { self.old.spare ≤ self.new.spare }
-    {
-        self.entries.clear();
-    }
-
-    pub fn get(&self, at: &Address) -> Option<usize>
-        ensures { result ≡ finite.get self.now.indices at.now }
-    {
-        match self.place(at) {
-            Ok(n) => Some(self.entries()[n].1),
-            Err(_) => None,
-        }
-    }
-
+    /// How many addresses there are.
     pub fn len(&self) -> usize
-        ensures { result ≡ length (addresses self.now.indices) }
+        ensures { result ≡ length (finite.keys self.now) }
     {
-        self.entries().len()
+        self.entries.len()
+    }
+
+    /// The value at an address, and `None` where it isn't there.
+    pub fn get(&self, at: &Address) -> Option<&V>
+        ensures { option_copied result ≡ finite.get self.now at.now }
+    {
+        self.entries.find(at)
     }
 
     /// The address at a place in the order of addresses, and `None` past the last.
     pub fn nth(&self, n: usize) -> Option<Address>
-        ensures { result ≡ slice_get (addresses self.now.indices) n }
+        ensures { result ≡ slice_get (finite.keys self.now) n }
     {
-        match self.entries().get(n) {
+        match self.entries.get(n) {
             Some((at, _)) => Some(*at),
             None => None,
         }
     }
 
-    // The entries in the order of their addresses.
-    fn entries(&self) -> &[(Address, usize)]
-        ensures { result.now ≡ finite.entries self.now.indices }
+    /// The place of the first address that isn't before this one.
+    pub fn place_from(&self, at: &Address) -> usize
+        ensures in_range { result ≤ length (finite.keys self.now) }
+        ensures from { drop result (finite.keys self.now) ≡ from_on at.now (finite.keys self.now) }
     {
-        &self.entries
+        match self.entries.place(at) {
+            Ok(n) => n,
+            Err(n) => n,
+        }
+    }
+}
+
+impl<V: Drop> Ordered<V> {
+    /// Puts an address in with its value, in room that was made before.
+    pub fn insert(&mut self, at: Address, value: V, room: Room<V>)
+        requires free { finite.get self.old at ≡ None }
+        requires fits { length (finite.keys self.old) + 1 < 2 ^ 64 }
+        ensures { self.new ≡ finite.insert self.old at value }
+    {
+        let Err(n) = self.place(&at) else {
+            unreachable!()
+        };
+        self.entries.insert(n, (at, value), room);
     }
 
-    // Where the address stands, or where it would.
-    fn place(&self, at: &Address) -> Result<usize, usize>
-        ensures { MatchResult result
-            (IsPlaceOf self.now.indices at.now) (IsGapFor self.now.indices at.now) }
+    /// Takes an address out, and answers its value, or `None` where it wasn't there.
+    pub fn remove(&mut self, at: &Address) -> Option<V>
+        ensures value { result ≡ finite.get self.old at.now }
+        ensures removed { self.new ≡ finite.remove self.old at.now }
     {
-        self.entries()
-            .binary_search_by(|(address, _)| address.cmp(at))
+        let Ok(n) = self.place(at) else {
+            return None;
+        };
+        let Some((_, value)) = self.entries.remove(n) else {
+            unreachable!()
+        };
+        Some(value)
+    }
+
+    // Where the address is, or where it would be.
+    fn place(&self, at: &Address) -> Result<usize, usize>
+        ensures { MatchResult result (IsPlaceOf self.now at.now) (IsGapFor self.now at.now) }
+    {
+        self.entries.place(at)
     }
 }

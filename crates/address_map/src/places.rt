@@ -1,9 +1,9 @@
 //! A one-to-one map between addresses and indices.
-ghost use Rattle.std.specs.Prelude.{◌≡◌, ◌+◌, ◌<◌, ◌≤◌, None, IsOk, OnOk, OnErr, length, slice_get};
+ghost use Rattle.std.specs.Prelude.{◌≡◌, ◌+◌, ◌<◌, ◌≤◌, None, IsOk, OnOk, OnErr, drop, length, slice_get};
 ghost use Rattle.std.specs.FinMap as finite;
-ghost use Rattle.address_map.specs.Places.{IsAddressAt, IsFree, IsOneToOne, addresses};
+ghost use Rattle.address_map.specs.Places.{IsAddressAt, IsFree, IsOneToOne, addresses, from_on};
 
-use crate::ordered::Ordered;
+use crate::reserved::Reserved;
 use aff_core::Address;
 use indexmap::IndexMap;
 use lists::Memory;
@@ -13,7 +13,7 @@ use std::marker::Model;
 /// Addresses with their indices, where no two addresses have one index.
 #[derive(Debug, Drop)]
 pub struct Places {
-    ordered: Ordered,
+    ordered: Reserved,
     by_index: IndexMap<usize, Address>,
 }
 
@@ -36,7 +36,7 @@ impl Places {
         ensures { result.indices ≡ finite.empty }
     {
         Places {
-            ordered: Ordered::new(alloc),
+            ordered: Reserved::new(alloc),
             by_index: IndexMap::new(alloc),
         }
     }
@@ -113,5 +113,14 @@ impl Places {
         ensures { result ≡ slice_get (addresses self.now.indices) n }
     {
         self.ordered.nth(n)
+    }
+
+    /// The place of the first address that isn't before this one.
+    pub fn place_from(&self, at: &Address) -> usize
+        ensures in_range { result ≤ length (addresses self.now.indices) }
+        ensures from { drop result (addresses self.now.indices)
+            ≡ from_on at.now (addresses self.now.indices) }
+    {
+        self.ordered.place_from(at)
     }
 }

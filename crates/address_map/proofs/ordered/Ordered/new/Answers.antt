@@ -6,4 +6,4 @@ use Rattle.address_map.proofs.GapLaws.{made_map}
 use Rattle.address_map.proofs.ordered.Ordered.new.Goals as goal
 
 pub returns : goal.returns
-returns c = made_map finite.empty _ (c.new.ensures.items ∙ sym (entries_empty address_cmp))
+returns g c = made_map finite.empty _ (c.new.ensures ∙ sym (entries_empty address_cmp))

@@ -1,13 +1,16 @@
-use Rattle.std.proofs.Common.{rules}
-use Rattle.std.proofs.lemmas.Fn.{always_returns_same}
+use Rattle.std.specs.Prelude.{◌≡◌, length}
+use Rattle.std.proofs.Common.{sym, ap, subst, ◌∙◌}
+use Rattle.std.specs.FinMap as finite
 use Rattle.aff_core.specs.Address.{address_cmp}
-use Rattle.address_map.proofs.GapLaws.{placed}
+use Rattle.address_map.proofs.GapLaws.{entries_kept, placed}
+use Rattle.std.specs.List.Sorted.{IsBinarySearchResult, IsSearchInRange}
 use Rattle.address_map.proofs.ordered.Ordered.place.Goals as goal
 
 pub returns : goal.returns
-returns c =
-    let by_address = c.binary_search_by.ensures.position (λ e. address_cmp e.0 c.args.at.now)
-    (always_returns_same _ _ _ (λ a r f called. search rules)) in
-    placed c.args.self.now.indices c.args.at.now _
-    (rw (← c.entries.ensures) c.binary_search_by.ensures.bound)
-    (rw (← c.entries.ensures) by_address)
+returns g c =
+    let mine : c.self.inside.entries ≡ finite.entries c.args.self.now =
+    sym (entries_kept c.self.inside.entries c.self.invariant) ∙ ap finite.entries c.self.view_is in
+    placed c.args.self.now c.args.at.now c.place.result
+    (subst (λ es. IsSearchInRange c.place.result (length es)) mine c.place.ensures.range)
+    (subst (λ es. IsBinarySearchResult (λ e. address_cmp e.0 c.args.at.now) es c.place.result)
+    mine c.place.ensures.place)
