@@ -214,7 +214,7 @@ impl AddressMap {
         self.exprs.remove(at)
     }
 
-    /// Takes all expressions away.
+    /// Removes all expressions.
     pub fn clear_exprs(&mut self)
         ensures removed { self.new.exprs ≡ finite.empty }
         ensures vars { self.new.vars ≡ self.old.vars }

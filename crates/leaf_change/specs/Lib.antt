@@ -1,5 +1,10 @@
 pub mod Leaves
 pub mod Named
 pub mod Puts
-pub mod Compared
+pub mod Splice
+pub mod SplicedLaws
+pub mod Others
+pub mod Steps
+pub mod Phases
+pub mod Objective
 pub mod ReadableLaws

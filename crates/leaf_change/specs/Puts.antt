@@ -1,15 +1,12 @@
--- Entries put into a map in turn, each at an address where nothing stands.
-use Rattle.std.specs.Prelude.{◌≡◌, List, [], ◌∷◌, None, Option, flat_map, map}
+-- Entries put into a map in turn, and leaves as such entries.
+use Rattle.std.specs.Prelude.{List, [], ◌∷◌, Option, map}
 use Rattle.std.specs.FinMap as finite
 use Rattle.std.specs.FinMap.{FinMap}
 use Rattle.std.specs.Option.{option_map_or}
-use Rattle.std.specs.Ordering.{nat_cmp}
-use Rattle.address_map.specs.AddressMap.{AddressMap, Expressions}
-use Rattle.address_map.specs.Places.{Indices, Places}
+use Rattle.address_map.specs.AddressMap.{AddressMap}
+use Rattle.address_map.specs.Places.{Indices}
 use Rattle.aff_core.specs.Address.{Address, address_cmp}
-use Rattle.fresh_bridging.specs.Leaves.{leaf_objectives}
 use Rattle.item_core.specs.declared.item.Body.{Body}
-use Rattle.item_core.specs.declared.item.Item.{Item}
 use Rattle.leaf_model.specs.ReadThrough.{by_address, read_objective, read_row}
 use Rattle.solver_store.specs.SolverModel.{Leaves}
 use Rattle.solver_store.specs.declared.leaf.LeafObjective.{LeafObjective}
@@ -20,11 +17,6 @@ module _ {X : Type 0} where
   abbrev pub put_all : FinMap address_cmp X → List (Address × X) → FinMap address_cmp X
   put_all m [] = m
   put_all m (e ∷ es) = put_all (finite.insert m e.0 e.1) es
-
-  -- nothing stands at the address of any entry when its turn comes
-  abbrev pub AreNew : FinMap address_cmp X → List (Address × X) → Type 0
-  AreNew m [] = Unit {0}
-  AreNew m (e ∷ es) = (finite.get m e.0 ≡ None) × AreNew (finite.insert m e.0 e.1) es
 
 -- ---- the leaves of a solver's model by their addresses
 
@@ -50,14 +42,3 @@ row_at indices at row = option_map_or (λ r. (at, read_row indices r) ∷ []) ro
 abbrev pub objective_at : Indices → Address → Option LeafObjective → List (Address × Body)
 objective_at indices at objective =
     option_map_or (λ o. (at, read_objective indices o) ∷ []) objective []
-
-abbrev pub objective_bodies : List Item → List Body
-objective_bodies leaves = map (λ e. e.1) (flat_map leaf_objectives leaves)
-
--- ---- what stays while variables, and while rows and the objective are put
-
-abbrev pub beside_variables : AddressMap → Leaves → Places × Expressions × Leaves
-beside_variables m leaves = (m.rows, m.exprs, record leaves { vars = finite.empty; calls = 0 })
-
-abbrev pub beside_rows : AddressMap → Leaves → Places × Expressions × FinMap nat_cmp LeafVar
-beside_rows m leaves = (m.vars, m.exprs, leaves.vars)

@@ -1,17 +1,19 @@
-//! The change step over the solver's model and the address map alone: leaves are put into empty
-//! ones, and counted where they differ from those that are held.
+//! The change step over the solver's model and the address map alone: leaves are changed in place,
+//! with no more calls of the solver's model than leaves that differ.
 #![tactic(auto)]
 
-mod compare;
-mod count;
+mod change;
 mod indexed;
-mod put;
+mod objective;
+mod others;
+mod rows;
 mod same;
+mod variables;
 
 pub use address_map::AddressMap;
 pub use aff_core::Address;
-pub use count::count_changed;
+pub use change::{GoneLeaves, change_leaves};
 pub use item_core::Item;
 pub use lists::Memory;
-pub use put::put_leaves;
+pub use others::replace_leaves;
 pub use solver_store::SolverModel;

@@ -1,4 +1,4 @@
-use Rattle.leaf_change.proofs.CompareLaws.{sets_same}
+use Rattle.leaf_change.proofs.SameParts.{sets_same}
 use Rattle.leaf_change.proofs.same.same_set.Goals as goal
 
 pub returns : goal.returns

@@ -1,4 +1,4 @@
-use Rattle.leaf_change.proofs.CompareLaws.{term_same}
+use Rattle.leaf_change.proofs.SameParts.{term_same}
 use Rattle.leaf_change.proofs.same.same_term.Goals as goal
 
 pub returns-in-Some : goal.returns-in-Some

@@ -1,4 +1,4 @@
-use Rattle.leaf_change.proofs.CompareLaws.{variable_same}
+use Rattle.leaf_change.proofs.SameParts.{variable_same}
 use Rattle.leaf_change.proofs.same.same_variable.Goals as goal
 
 pub returns-in-Some : goal.returns-in-Some
