@@ -1,6 +1,9 @@
 mod Families
 mod Fitting
 mod Choices
+mod TurnSteps
+mod LettingSteps
+mod AddingSteps
 mod Stands
 mod Keeping
 mod Made

@@ -1,3 +1,6 @@
 pub mod Boxed
 pub mod Sound
 pub mod Nodes
+pub mod Turns
+pub mod Letting
+pub mod Adding

@@ -1,5 +1,5 @@
 //! The boxes.
-ghost use Rattle.std.specs.Prelude.{◌≡◌, ◌↔◌, All, IfSome, IsNone, IsTrue, OnErr, OnOk, map, slice_index_or, true};
+ghost use Rattle.std.specs.Prelude.{◌≡◌, ◌↔◌, ◌≤◌, ◌+◌, All, IfSome, IsNone, IsTrue, OnErr, OnOk, length, map, slice_index_or, true};
 ghost use Rattle.std.specs.FinMap as finite;
 ghost use Rattle.std.specs.List.{list_all, list_any};
 ghost use Rattle.bridge_graph.specs.Hypergraph.{is_edge_cost};
@@ -12,9 +12,13 @@ ghost use Rattle.bridge_face.specs.State.{all_gone, given, tried};
 ghost use Rattle.fresh_bridging.specs.TheRules.{edge_at, graph_of};
 ghost use Rattle.bridge_plan.specs.Means.{AreSound};
 ghost use Rattle.boxes.specs.Boxed.{AreKeepable, IsFree, at_family, families_of, kept_by, keeping, means_of, occur_once, setting_of};
+ghost use Rattle.boxes.specs.Letting.{IsAlone, without, without_each};
+ghost use Rattle.boxes.specs.Adding.{AreFree, with_each};
+ghost use Rattle.boxes.specs.Turns.{turns_of};
 
 use crate::choosing::{choices_of, graph_of};
-use crate::places::{ask_laws, clear_all, image_by, keep_by};
+use crate::places::{ask_laws, clear_all, image_by, keep_by, let_go_by};
+use aff_core::Address;
 use bridge_face::{Bridge, KeptItem};
 use bridge_graph::{Choice, Graph};
 use bridge_plan::Rewriter;
@@ -120,6 +124,7 @@ impl<B: Bridge> Boxes<B> {
         ensures err { OnErr result (self.new.states
             ≡ map (at_family (family_of node.edge) tried) self.old.states) }
         ensures families { families_of self.new.states ≡ families_of self.old.states }
+        ensures turns { turns_of self.new.states ≤ turns_of self.old.states + 1 }
         ensures table { self.new.table ≡ self.old.table }
         ensures choices { self.new.choices ≡ self.old.choices }
     {
@@ -127,12 +132,57 @@ impl<B: Bridge> Boxes<B> {
     }
 
     /// Has each bridge keep the items that are by edges of its family, where none keeps anything.
-    /// After want of memory some are kept.
+    /// After `Memory` some are kept.
     pub fn keep_all(&mut self, nodes: Vec<KeptItem>) -> Result<(), Memory>
         requires nodes { AreKeepable (families_of self.old.states) nodes.items }
         requires empty { All (λ s. s.kept ≡ finite.empty) self.old.states }
         ensures kept { OnOk result (kept_by self.new.states
             ≡ map (keeping nodes.items) self.old.states) }
+        ensures turns { turns_of self.new.states
+            ≤ turns_of self.old.states + length nodes.items }
+        ensures families { families_of self.new.states ≡ families_of self.old.states }
+        ensures table { self.new.table ≡ self.old.table }
+        ensures choices { self.new.choices ≡ self.old.choices }
+    {
+        self.keep_each(nodes)
+    }
+
+    /// Has the bridge that keeps an item at an address let it go. At most one does.
+    pub fn let_go(&mut self, at: &Address)
+        requires alone { IsAlone at.now (kept_by self.old.states) }
+        ensures gone { kept_by self.new.states ≡ map (without at.now) (kept_by self.old.states) }
+        ensures turns { turns_of self.new.states ≤ turns_of self.old.states + 1 }
+        ensures families { families_of self.new.states ≡ families_of self.old.states }
+        ensures table { self.new.table ≡ self.old.table }
+        ensures choices { self.new.choices ≡ self.old.choices }
+    {
+        let_go_by(&mut self.bridges, at);
+    }
+
+    /// Lets go of what is kept at each address.
+    pub fn let_each_go(&mut self, gone: &[Address])
+        requires alone { All (λ at. IsAlone at (kept_by self.old.states)) gone.now }
+        ensures gone { kept_by self.new.states
+            ≡ map (without_each gone.now) (kept_by self.old.states) }
+        ensures turns { turns_of self.new.states ≤ turns_of self.old.states + length gone.now }
+        ensures families { families_of self.new.states ≡ families_of self.old.states }
+        ensures table { self.new.table ≡ self.old.table }
+        ensures choices { self.new.choices ≡ self.old.choices }
+    {
+        for at in gone {
+            self.let_go(at);
+        }
+    }
+
+    /// Has each bridge keep the items that are by edges of its family, beside what it keeps already.
+    /// After `Memory` some are kept.
+    pub fn keep_each(&mut self, nodes: Vec<KeptItem>) -> Result<(), Memory>
+        requires nodes { AreKeepable (families_of self.old.states) nodes.items }
+        requires free { AreFree nodes.items (kept_by self.old.states) }
+        ensures kept { OnOk result (kept_by self.new.states
+            ≡ map (with_each nodes.items) (kept_by self.old.states)) }
+        ensures turns { turns_of self.new.states
+            ≤ turns_of self.old.states + length nodes.items }
         ensures families { families_of self.new.states ≡ families_of self.old.states }
         ensures table { self.new.table ≡ self.old.table }
         ensures choices { self.new.choices ≡ self.old.choices }
@@ -157,6 +207,10 @@ impl<B: Bridge> Rewriter for Boxes<B> {
     ghost use Rattle.boxes.specs.Boxed.{means_of};
 
     ghost means = { means_of };
+
+    ghost use Rattle.boxes.specs.Turns.{turns_of};
+
+    ghost turns = { λ b. turns_of b.states };
 
     fn choice(&self, kind: Kind) -> Choice {
         self.choices[kind as usize]

@@ -1,5 +1,5 @@
 //! What is done with bridges, with that of a family or with all.
-ghost use Rattle.std.specs.Prelude.{◌≡◌, All, OnErr, OnOk, map, true};
+ghost use Rattle.std.specs.Prelude.{◌≡◌, ◌≤◌, ◌+◌, All, OnErr, OnOk, map, true};
 ghost use Rattle.std.specs.List.{list_any};
 ghost use Rattle.ratio_core.specs.Answers.{ExactWhere};
 ghost use Rattle.item_core.specs.Edge.{family_eq, family_of};
@@ -7,7 +7,10 @@ ghost use Rattle.bridge_face.specs.ImageOf.{image_of, ImageFits};
 ghost use Rattle.bridge_face.specs.Law.{IsItemFor, IsLawful};
 ghost use Rattle.bridge_face.specs.State.{all_gone, given, tried};
 ghost use Rattle.boxes.specs.Boxed.{IsChangedFor, IsFree, families_of};
+ghost use Rattle.boxes.specs.Letting.{LetsGo};
+ghost use Rattle.boxes.specs.Turns.{turns_of};
 
+use aff_core::Address;
 use bridge_face::{Bridge, KeptItem};
 use item_core::{Edge, Family, Image, Item};
 use lists::Memory;
@@ -69,6 +72,8 @@ pub(crate) fn keep_by<B: Bridge>(bridges: &mut [B], node: KeptItem) -> Result<()
         (map B.state bridges.old) (map B.state bridges.new)) }
     ensures families { families_of (map B.state bridges.new)
         ≡ families_of (map B.state bridges.old) }
+    ensures turns { turns_of (map B.state bridges.new)
+        ≤ turns_of (map B.state bridges.old) + 1 }
 {
     let family = node.edge.entry().family;
     for bridge in bridges.iter_mut() {
@@ -88,5 +93,17 @@ pub(crate) fn clear_all<B: Bridge>(bridges: &mut [B])
 {
     for bridge in bridges.iter_mut() {
         bridge.let_all_go();
+    }
+}
+
+// Has the bridge that keeps an item at an address let it go, if one does.
+pub(crate) fn let_go_by<B: Bridge>(bridges: &mut [B], at: &Address)
+    ensures { LetsGo at.now (map B.state bridges.old) (map B.state bridges.new) }
+{
+    for bridge in bridges.iter_mut() {
+        if bridge.child_rows(at).is_some() {
+            drop(bridge.let_go(at));
+            return;
+        }
     }
 }

@@ -1,5 +1,5 @@
 //! How an item is bridged.
-ghost use Rattle.std.specs.Prelude.{◌≡◌, ◌++◌, ◌-◌, ◌≤◌, [], ◌∷◌, IfOk, OnOk, IsTrue, All, map, slice_get};
+ghost use Rattle.std.specs.Prelude.{◌≡◌, ◌++◌, ◌-◌, ◌+◌, ◌≤◌, [], ◌∷◌, IfOk, OnOk, IsTrue, All, length, map, slice_get};
 ghost use Rattle.std.specs.List.{list_all, zip};
 ghost use Rattle.ratio_core.specs.Answers.{ExactWhere};
 ghost use Rattle.bridge_graph.specs.declared.Choice.TheVariants.{By};
@@ -39,6 +39,8 @@ pub fn plan_item<R: Rewriter>(
         ExactWhere result (IsTrue held.fits)
         (λ _. Adds plan.old plan.new entries.old.items entries.new.items held) }
     ensures means { R.means rewriter.new ≡ R.means rewriter.old }
+    ensures turns { OnOk result (R.turns rewriter.new + length plan.old.nodes.items
+        ≤ R.turns rewriter.old + length plan.new.nodes.items) }
 {
     match rewriter.choice(kind_of(&item)) {
         Choice::Native => Ok(plan_native(plan, entries, item)?),
@@ -68,6 +70,8 @@ fn plan_node<R: Rewriter>(
         ExactWhere result (IsTrue held.fits)
         (λ _. Adds plan.old plan.new entries.old.items entries.new.items held) }
     ensures means { R.means rewriter.new ≡ R.means rewriter.old }
+    ensures turns { OnOk result (R.turns rewriter.new + length plan.old.nodes.items
+        ≤ R.turns rewriter.old + length plan.new.nodes.items) }
 {
     let image = rewriter.image(edge, &item)?;
     let place = plan.nodes.len();
@@ -100,6 +104,8 @@ fn plan_each<R: Rewriter>(
         ExactWhere result (IsTrue held.fits)
         (λ _. Adds plan.old plan.new entries.old.items entries.new.items held) }
     ensures means { R.means rewriter.new ≡ R.means rewriter.old }
+    ensures turns { OnOk result (R.turns rewriter.new + length plan.old.nodes.items
+        ≤ R.turns rewriter.old + length plan.new.nodes.items) }
 {
     for group in groups.into_vec() {
         plan_item(alloc, rewriter, plan, entries, group, levels)?;
@@ -123,6 +129,8 @@ fn plan_in<R: Rewriter>(
         let held = worked_in choice (worked choice levels) standing.old items.items in
         ExactWhere result (IsTrue held.fits) (λ _. Adds plan.old plan.new [] [] held) }
     ensures means { R.means rewriter.new ≡ R.means rewriter.old }
+    ensures turns { OnOk result (R.turns rewriter.new + length plan.old.nodes.items
+        ≤ R.turns rewriter.old + length plan.new.nodes.items) }
     ensures same { standing.new ≡ standing.old }
 {
     for item in items {

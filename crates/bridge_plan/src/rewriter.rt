@@ -1,5 +1,5 @@
 //! What a bridging goes by.
-ghost use Rattle.std.specs.Prelude.{◌≡◌, IsTrue};
+ghost use Rattle.std.specs.Prelude.{◌≡◌, ◌≤◌, ◌+◌, ℕ, IsTrue};
 ghost use Rattle.ratio_core.specs.Answers.{ExactWhere};
 ghost use Rattle.bridge_graph.specs.declared.Choice.TheVariants.{By};
 ghost use Rattle.item_core.specs.Kind.{kind_number};
@@ -18,6 +18,9 @@ pub trait Rewriter {
 
     ghost means: { Self → Means };
 
+    /// How many turns were taken.
+    ghost turns: { Self → ℕ };
+
     /// How an item of the kind reaches the solver.
     fn choice(&self, kind: Kind) -> Choice
         ensures { result ≡ (means self.now).choice (kind_number kind) };
@@ -30,5 +33,6 @@ pub trait Rewriter {
         requires suits { IsItemFor (edge_at edge) item.now }
         ensures answer { ExactWhere result (IsTrue (image_fits edge item.now))
             (λ image. image ≡ image_of (edge_at edge) item.now) }
-        ensures means { means self.new ≡ means self.old };
+        ensures means { means self.new ≡ means self.old }
+        ensures turns { turns self.new ≤ turns self.old + 1 };
 }

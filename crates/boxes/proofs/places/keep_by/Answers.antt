@@ -1,4 +1,4 @@
-use Rattle.std.proofs.Common.{◌≡◌, ◌<◌, length, map, OnErr, OnOk, None, arith, sym, ap, ap₂, subst, refl, ◌∙◌, true≢false}
+use Rattle.std.proofs.Common.{◌≡◌, ◌≤◌, ◌+◌, ◌<◌, length, map, OnErr, OnOk, None, arith, sym, ap, ap₂, subst, refl, ◌∙◌, true≢false}
 use Rattle.std.specs.Prelude.{slice_index_or, slice_set}
 use Rattle.std.specs.List.{list_any}
 use Rattle.std.proofs.lemmas.List.{get_or-map, length-map}
@@ -7,6 +7,9 @@ use Rattle.item_core.specs.Edge.{family_eq, family_of}
 use Rattle.item_core.specs.declared.edge.EdgeEntry.{EdgeEntry}
 use Rattle.item_core.specs.declared.family.Family.{Family}
 use Rattle.boxes.specs.Boxed.{IsChangedFor, IsFree, families_of}
+use Rattle.std.specs.FinMap as finite
+use Rattle.boxes.specs.Turns.{turns_of}
+use Rattle.boxes.proofs.TurnSteps.{one_turn, turns_changed}
 use Rattle.boxes.proofs.Stands.{changed_for, none_there, same_after}
 use Rattle.boxes.proofs.places.keep_by.Goals as goal
 use Rattle.boxes.proofs.places.keep_by.Goals.{in-Ok, in-Err}
@@ -91,6 +94,33 @@ returns-then-eq-clause-families g c =
           (map state (slice_set bs i c.keep.new.self)) (λ s. refl)
           (changed_for state family tried bs i (slice_index_or bs i d) d c.keep.new.self
           (omega arith) refl same w.in-Err.ensures.err) ∙ before
+    ]
+
+pub returns-then-eq-clause-turns : goal.returns-then-eq-clause-turns
+returns-then-eq-clause-turns g c =
+    let state = g.B.Bridge.state in
+    let bs = c.loop-bridge.bridges in
+    let i = c.loop-bridge.bridge-index in
+    let d = c.bridge-item.result in
+    let family = family_of c.args.node.edge in
+    let same = ap₂ family_eq (sym (ap (λ (x : EdgeEntry). x.family) c.entry-family.ensures))
+    (sym c.family.ensures.family) ∙ sym c.eq.ensures ∙ c.if-eq.true in
+    elim c.match-keep.branch [
+      | in-Ok w ↦
+          subst (λ xs. turns_of (map state (slice_set bs i c.keep.new.self))
+          ≤ turns_of (map state xs) + 1) c.loop-bridge.invariant.0
+          (turns_changed family (λ s. given s c.args.node)
+          (λ s. one_turn s (finite.insert s.kept c.args.node.item.at c.args.node)) (map state bs)
+          (map state (slice_set bs i c.keep.new.self))
+          (changed_for state family (λ s. given s c.args.node) bs i (slice_index_or bs i d) d
+          c.keep.new.self (omega arith) refl same w.in-Ok.ensures.ok))
+      | in-Err w ↦
+          subst (λ xs. turns_of (map state (slice_set bs i c.keep.new.self))
+          ≤ turns_of (map state xs) + 1) c.loop-bridge.invariant.0
+          (turns_changed family tried (λ s. one_turn s s.kept) (map state bs)
+          (map state (slice_set bs i c.keep.new.self))
+          (changed_for state family tried bs i (slice_index_or bs i d) d c.keep.new.self
+          (omega arith) refl same w.in-Err.ensures.err))
     ]
 
 pub unreachable-requires : goal.unreachable-requires

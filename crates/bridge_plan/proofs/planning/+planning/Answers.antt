@@ -30,6 +30,7 @@ plan_each-loop-group-init g t c =
       search rules,
       tt,
       tt,
+      omega arith,
     )
 
 pub plan_each-loop-group-preserved : goal.plan_each-loop-group-preserved
@@ -49,6 +50,7 @@ plan_each-loop-group-preserved g t c =
           omega arith,
       tt,
       tt,
+      omega (arith, at.invariant.4, c.in_ok-plan_item.ensures.turns),
     )
 
 pub plan_each-returns-in_err-plan_item-clause-answer : goal.plan_each-returns-in_err-plan_item-clause-answer
@@ -83,6 +85,7 @@ plan_in-loop-item-init g t c =
       search rules,
       tt,
       tt,
+      omega arith,
     )
 
 pub plan_in-returns-in_err-made-clause-answer : goal.plan_in-returns-in_err-made-clause-answer
@@ -134,6 +137,7 @@ plan_in-loop-item-preserved g t c =
           omega arith,
       tt,
       tt,
+      omega (arith, at.invariant.4, c.in_ok-plan_item.ensures.turns),
     )
 
 pub plan_in-returns-clause-answer : goal.plan_in-returns-clause-answer

@@ -1,4 +1,4 @@
-use Rattle.std.proofs.Common.{◌≡◌, ◌+◌, ◌*◌, length}
+use Rattle.std.proofs.Common.{◌≡◌, ◌≤◌, ◌+◌, ◌*◌, length}
 use Rattle.std.specs.Vec.Iter.{into_iter_items, into_iter_len}
 use Rattle.bridge_plan.specs.InTurn.{EachSoFar, InSoFar}
 use Rattle.bridge_plan.proofs.planning.+planning.Given as goal
@@ -23,6 +23,8 @@ invariant-plan_each-loop-group g l =
     × (into_iter_len l.group-iterator ≡ length (into_iter_items l.group-iterator))
     × (goal.iterator-plan_each-loop-group g).can_next l.group-iterator
     × (goal.iterator-plan_each-loop-group g).is_finite l.group-iterator
+    × (g.R.Rewriter.turns l.rewriter + length l.fn.plan.nodes.items
+    ≤ g.R.Rewriter.turns l.fn.rewriter + length l.plan.nodes.items)
 
 abbrev pub invariant-plan_in-loop-item : goal.invariant-plan_in-loop-item
 invariant-plan_in-loop-item g l =
@@ -32,3 +34,5 @@ invariant-plan_in-loop-item g l =
     × (into_iter_len l.item-iterator ≡ length (into_iter_items l.item-iterator))
     × (goal.iterator-plan_in-loop-item g).can_next l.item-iterator
     × (goal.iterator-plan_in-loop-item g).is_finite l.item-iterator
+    × (g.R.Rewriter.turns l.rewriter + length l.fn.plan.nodes.items
+    ≤ g.R.Rewriter.turns l.fn.rewriter + length l.plan.nodes.items)

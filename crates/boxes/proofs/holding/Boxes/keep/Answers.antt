@@ -1,8 +1,9 @@
-use Rattle.std.proofs.Common.{◌++◌, IsTrue, length, map, drop, take, arith, sym, ap, subst, ◌∙◌}
+use Rattle.std.proofs.Common.{◌≡◌, ◌≤◌, ◌+◌, List, ◌++◌, IsTrue, length, map, drop, take, arith, sym, ap, subst, ◌∙◌}
 use Rattle.std.proofs.lemmas.Result.{on_err_weaker, on_ok_weaker}
 use Rattle.bridge_face.specs.State.{State, given, tried}
 use Rattle.item_core.specs.Edge.{family_of}
 use Rattle.boxes.specs.Boxed.{Boxed, at_family, families_of, occur_once}
+use Rattle.boxes.specs.Turns.{turns_of}
 use Rattle.boxes.proofs.Families.{at_its_family}
 use Rattle.boxes.proofs.Made.{items_back, sound_still}
 use Rattle.boxes.proofs.holding.Boxes.keep.Goals as goal
@@ -71,3 +72,16 @@ returns-clause-err g c =
     ∙ ap (λ bs. map (at_family family tried) (map state bs)) c.deref_mut.ensures.value
     ∙ ap (λ (b : Boxed). map (at_family family tried) b.states) c.self.view_is)
     c.keep_by.ensures.err
+
+pub returns-clause-turns : goal.returns-clause-turns
+returns-clause-turns g c =
+    let state = g.B.Bridge.state in
+    let v = c.self.inside.bridges in
+    let new = c.keep_by.new.bridges in
+    let same = ap length c.deref_mut.ensures.value in
+    let back = items_back v.len new v.items (omega (arith, same, c.keep_by.auto.bridges))
+    (omega (arith, v.ok.0)) in
+    let was : map state c.deref_mut.result.now ≡ c.args.self.now.states =
+    ap (map state) c.deref_mut.ensures.value ∙ ap (λ (b : Boxed). b.states) c.self.view_is in
+    subst (λ (p : List State × List State). turns_of p.0 ≤ turns_of p.1 + 1)
+    (λ i. (sym (ap (map state) back) i, was i)) c.keep_by.ensures.turns

@@ -1,4 +1,4 @@
-use Rattle.std.proofs.Common.{◌≡◌, ◌++◌, IsTrue, length, map, drop, take, arith, ap, refl, subst, ◌∙◌}
+use Rattle.std.proofs.Common.{◌≡◌, ◌≤◌, ◌+◌, List, sym, ◌++◌, IsTrue, length, map, drop, take, arith, ap, refl, subst, ◌∙◌}
 use Rattle.std.specs.List.{list_any}
 use Rattle.ratio_core.specs.Answers.{ExactWhere}
 use Rattle.ratio_core.specs.AnsweredLaws.{exact_as}
@@ -10,6 +10,8 @@ use Rattle.item_core.specs.Edge.{family_eq, family_of}
 use Rattle.item_core.specs.KindOf.{kind_of_body}
 use Rattle.fresh_bridging.specs.TheRules.{edge_at, image_fits}
 use Rattle.boxes.specs.Boxed.{Boxed, boxed_of, families_of, means_of}
+use Rattle.boxes.specs.Turns.{turns_of}
+use Rattle.boxes.proofs.TurnSteps.{one_turn, turns_changed}
 use Rattle.boxes.proofs.Fitting.{image_fits_Decides}
 use Rattle.boxes.proofs.Made.{has_bridge, items_back, means_same, sound_still}
 use Rattle.boxes.proofs.Stands.{same_after}
@@ -75,3 +77,18 @@ returns-clause-means g c =
     (map state old) (map state new) (λ s. refl) c.image_by.ensures.states)
     ∙ ap (λ bs. means_of (boxed_of t cs (map state bs))) c.deref_mut.ensures.value
     ∙ ap means_of c.self.view_is
+
+pub returns-clause-turns : goal.returns-clause-turns
+returns-clause-turns g c =
+    let state = g.B.Bridge.state in
+    let v = c.self.inside.bridges in
+    let new = c.image_by.new.bridges in
+    let same = ap length c.deref_mut.ensures.value in
+    let back = items_back v.len new v.items (omega (arith, same, c.image_by.auto.bridges))
+    (omega (arith, v.ok.0)) in
+    let was : map state c.deref_mut.result.now ≡ c.args.self.now.states =
+    ap (map state) c.deref_mut.ensures.value ∙ ap (λ (b : Boxed). b.states) c.self.view_is in
+    subst (λ (p : List State × List State). turns_of p.0 ≤ turns_of p.1 + 1)
+    (λ i. (sym (ap (map state) back) i, was i))
+    (turns_changed (family_of c.edge_numbered.result) tried (λ s. one_turn s s.kept)
+    (map state c.deref_mut.result.now) (map state new) c.image_by.ensures.states)

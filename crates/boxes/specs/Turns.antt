@@ -1,0 +1,6 @@
+-- The turns that boxes have taken.
+use Rattle.std.specs.Prelude.{ℕ, List, sum_by}
+use Rattle.bridge_face.specs.State.{State}
+
+abbrev pub turns_of : List State → ℕ
+turns_of states = sum_by (λ s. s.turns) states
