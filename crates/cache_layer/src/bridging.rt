@@ -3,6 +3,7 @@ ghost use Rattle.std.specs.Prelude.{◌≢◌, Err, IsTrue};
 ghost use Rattle.std.specs.List.{list_all};
 ghost use Rattle.bridge_graph.specs.Hypergraph.{is_edge_cost};
 ghost use Rattle.lazy_bridge.specs.Native.{supports_native};
+ghost use Rattle.lazy_bridge.specs.Owned.{HoldsNothing};
 ghost use Rattle.cache_layer.specs.Bridging.{IsBridgedInNames, IsFaultOf, IsToldAs};
 ghost use Rattle.report_core.specs.declared.refused.Place.{Place};
 ghost use Rattle.small_numbers.specs.SmallNumbers.{HasSmallNumbers};
@@ -16,6 +17,7 @@ use model_store::{Undo, UserModel};
 
 /// Bridges a model where nothing is held. The answer is the number of leaves.
 pub(crate) fn fill<B: Bridge>(lazy: &mut LazyOver<B>, model: &UserModel) -> Result<u64, BridgeFault>
+    requires { HoldsNothing lazy.old }
     ensures bridged { IsBridgedInNames lazy.old lazy.old.boxes.table model.now.model
         result lazy.new }
     ensures small { HasSmallNumbers model.now.model

@@ -1,21 +1,15 @@
--- Expressions put in one after another, each of a variable of its own; and the one objective.
-use Rattle.std.specs.Prelude.{◌≡◌, ◌≤◌, ◌+◌, ℕ, true, false, cond, List, [], ◌∷◌, ◌++◌, All, Some, None, drop, flat_map, length, map, refl}
+-- Expressions put in one after another, each of a variable of its own.
+use Rattle.std.specs.Prelude.{◌≡◌, false, cond, List, [], ◌∷◌, ◌++◌, Some, None, map, refl}
 use Rattle.std.specs.FinMap as finite
 use Rattle.std.specs.FinMap.Entries.{find}
 use Rattle.std.specs.List.{AllByRecursion, IsDistinct}
 use Rattle.std.specs.Ordering.{eq_by_cmp}
-use Rattle.std.proofs.Common.{append_assoc, arith, sym, ap, subst, ◌∙◌}
-use Rattle.std.proofs.lemmas.List.{nil_from_length}
-use Rattle.std.proofs.lemmas.List.Elements.{All-cons, All-nil}
+use Rattle.std.proofs.Common.{append_assoc, sym, ap, subst, ◌∙◌}
 use Rattle.address_map.specs.AddressMap.{AddressMap}
 use Rattle.aff_core.specs.Address.{Address, address_cmp, address_eq, address_total, exact_addresses}
 use Rattle.aff_core.specs.Function.{Function}
 use Rattle.aff_core.specs.Rising.{HasDistinctKeys}
 use Rattle.aff_core.specs.KeyOrder.{address_order, either_way}
-use Rattle.fresh_bridging.specs.Leaves.{leaf_objectives}
-use Rattle.item_core.specs.declared.item.Item.{Item}
-use Rattle.bridge_face.specs.Law.{is_objective}
-use Rattle.tree_laws.specs.ObjectiveLaws.{itself_one, no_leaf_objective}
 
 -- a key that stands once isn't found before it
 pub not_before : {X : Type 0} (done rest : List (Address × X)) (e : Address × X)
@@ -68,36 +62,3 @@ put_next old now after all left rest at f h next apart is vars rows =
       vars = vars ∙ h.vars;
       rows = rows ∙ h.rows;
     }
-
--- ---- the objective
-
-module _ (leaves : List Item) (i : ℕ) (leaf : Item)
-    (next : drop i leaves ≡ leaf ∷ drop (i + 1) leaves)
-    (so_far : flat_map leaf_objectives (drop i leaves) ≡ flat_map leaf_objectives leaves) where
-  left : flat_map leaf_objectives leaves
-      ≡ leaf_objectives leaf ++ flat_map leaf_objectives (drop (i + 1) leaves)
-  left = sym so_far ∙ ap (flat_map leaf_objectives) next
-
-  pub passed_by : is_objective leaf.body ≡ false
-      → flat_map leaf_objectives (drop (i + 1) leaves) ≡ flat_map leaf_objectives leaves
-  passed_by other =
-      sym (left ∙ ap (λ es. es ++ flat_map leaf_objectives (drop (i + 1) leaves))
-      (no_leaf_objective leaf other))
-
-  pub there_it_is : length (flat_map leaf_objectives leaves) ≤ 1 → is_objective leaf.body ≡ true
-      → All (λ e. e.0 ≡ leaf.at) (flat_map leaf_objectives leaves)
-  there_it_is one found =
-      subst (All (λ e. e.0 ≡ leaf.at)) (sym whole)
-      (All-cons (λ e. e.0 ≡ leaf.at) (leaf.at, leaf.body) [] refl (All-nil (λ e. e.0 ≡ leaf.at)))
-    where
-      first : flat_map leaf_objectives leaves
-          ≡ (leaf.at, leaf.body) ∷ flat_map leaf_objectives (drop (i + 1) leaves)
-      first = left ∙ ap (λ es. es ++ flat_map leaf_objectives (drop (i + 1) leaves))
-          (itself_one leaf found)
-
-      whole : flat_map leaf_objectives leaves ≡ (leaf.at, leaf.body) ∷ []
-      whole =
-          first
-          ∙ ap (λ es. (leaf.at, leaf.body) ∷ es)
-          (nil_from_length (flat_map leaf_objectives (drop (i + 1) leaves))
-          (omega (arith, one, ap length first)))

@@ -15,10 +15,12 @@ use Rattle.item_core.specs.declared.family.Family.{Family}
 use Rattle.item_core.specs.declared.table.Table.{Table}
 use Rattle.lazy_bridge.specs.Native.{supports_native}
 use Rattle.lazy_bridge.specs.NativeLaws.{supported}
-use Rattle.lazy_bridge.specs.Owned.{HoldsNothing, Owned, leaf_model_in, setting_in}
+use Rattle.lazy_bridge.specs.Few.{ChangesFew}
+use Rattle.lazy_bridge.specs.Owned.{HasLeavesOf, HoldsNothing, Owned, leaf_model_in, setting_in}
 use Rattle.lazy_bridge.specs.Plans.{Holds, IsPuttable}
 use Rattle.lazy_bridge.specs.Pushed.{Counts, IsBridgedBy, IsTried}
 use Rattle.lazy_bridge.proofs.Puttable.{puttable}
+use Rattle.lazy_bridge.proofs.Putting.{read_alike}
 use Rattle.lazy_bridge.proofs.Standing.{stands}
 use Rattle.model_bridging.specs.Planned.{IsPlanOf, Planned}
 use Rattle.model_bridging.specs.declared.fault.PushFault.{PushFault}
@@ -41,25 +43,16 @@ can_be_put old tried model planned sound native valid plan same =
     valid planned plan)
 
 -- and is the model's bridging once it stands there
-pub bridged : (old tried new : Owned) (model : ModelValue) (planned : ModelPlan) (n : ℕ)
-    → IsPlanOf (setting_in old) model planned → IsTried old tried → Holds tried planned new
-    → setting_in new ≡ setting_in tried → Counts (leaf_model_in tried) (leaf_model_in new) n
+pub bridged : (old now new : Owned) (model : ModelValue) (planned : ModelPlan) (n : ℕ)
+    → IsPlanOf (setting_in old) model planned → HasLeavesOf old now → Holds now planned new
+    → setting_in new ≡ setting_in now → Counts (leaf_model_in now) (leaf_model_in new) n
     → IsBridgedBy old old.boxes.table model (Ok n) new
-bridged old tried new model planned n plan as_it_was holds same counts =
-    let setting : setting_in new ≡ setting_in old = same ∙ ap (λ (m : Means). m.setting)
-    as_it_was.means in (
-      stands tried new (setting_in old) model planned plan holds setting,
+bridged old now new model planned n plan alike holds same counts =
+    let setting : setting_in new ≡ setting_in old = same ∙ alike.setting in (
+      stands now new (setting_in old) model planned plan holds setting,
       setting,
-      subst (λ l. Counts l (leaf_model_in new) n) read_at counts,
+      subst (λ l. Counts l (leaf_model_in new) n) (read_alike old now alike) counts,
     )
-  where
-    read_at : leaf_model_in tried ≡ leaf_model_in old
-    read_at = λ i. leaf_model_in (record {
-      boxes = tried.boxes;
-      solver = as_it_was.solver i;
-      map = as_it_was.map i;
-      objective_at = as_it_was.objective_at i;
-    })
 
 -- a fault of the planning changes nothing but turns
 pub refused : (old new : Owned) (model : ModelValue) (fault : PushFault)
@@ -70,8 +63,8 @@ refused old new model (Overflow at) other plan same = (plan, same)
 refused old new model Memory other plan same = absurd (other refl)
 
 -- where the model's numbers are small, each fits
-pub no_overflow : (old : Owned) (model : ModelValue) (fault : PushFault) (r : Result ℕ PushFault)
-    → r ≡ Err fault → AreSound (means_of old.boxes) → IsValid model
+pub no_overflow : {T : Type 0} (old : Owned) (model : ModelValue) (fault : PushFault)
+    (r : Result T PushFault) → r ≡ Err fault → AreSound (means_of old.boxes) → IsValid model
     → Planned (setting_in old) model (Err fault) → HasSmallNumbers model → (at : Address)
     → r ≢ Err (Overflow at)
 no_overflow old model fault r is sound valid plan small at e =
@@ -172,3 +165,17 @@ set_on old first second table model n set h = (
   h.1 ∙ set_setting old first table set,
   subst (λ l. Counts l (leaf_model_in second) n) (set_leaves old first table set) h.2,
 )
+
+-- with as few changes
+pub few_on : (old first second : Owned) (table : Table) (n : ℕ) → IsSet old first table
+    → ChangesFew first n second → ChangesFew old n second
+few_on old first second table n set few =
+    let back : ChangesFew (record first { solver = old.solver; map = old.map }) n second =
+    subst (λ (p : Stored × AddressMap). ChangesFew (record first { solver = p.0; map = p.1 }) n
+    second) (λ i. (set.solver i, set.map i)) few in
+    record {
+      rises = back.rises;
+      calls = back.calls;
+      variables = back.variables;
+      rows = back.rows;
+    }

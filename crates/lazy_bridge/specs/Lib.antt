@@ -1,6 +1,7 @@
 pub mod Owned
 pub mod Native
 pub mod NativeLaws
+pub mod Few
 pub mod Pushed
 pub mod Plans
 pub mod ReadableLaws

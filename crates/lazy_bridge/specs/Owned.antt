@@ -48,6 +48,14 @@ setting_in lazy = setting_of lazy.boxes
 abbrev pub leaf_model_in : Owned → LeafModel
 leaf_model_in lazy = read_through lazy.map lazy.solver.leaves lazy.objective_at
 
+-- the same table and families, and the same leaves under the same indices
+pub record HasLeavesOf (old new : Owned) : Type 0 where
+  pub setting : setting_in new ≡ setting_in old
+  pub solver : new.solver ≡ old.solver
+  pub vars : new.map.vars ≡ old.map.vars
+  pub rows : new.map.rows ≡ old.map.rows
+  pub objective_at : new.objective_at ≡ old.objective_at
+
 -- ---- what it holds
 
 pub record HoldsNothing (lazy : Owned) : Type 0 where

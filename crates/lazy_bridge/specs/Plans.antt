@@ -1,7 +1,9 @@
 -- Plans, and what is put in of one.
 use Rattle.std.specs.Prelude.{◌≡◌, List, map}
 use Rattle.std.specs.FinMap as finite
-use Rattle.aff_core.specs.Address.{address_cmp}
+use Rattle.address_map.specs.AddressMap.{AddressMap}
+use Rattle.aff_core.specs.Address.{Address, address_cmp}
+use Rattle.aff_core.specs.Function.{Function}
 use Rattle.aff_core.specs.Rising.{HasDistinctKeys}
 use Rattle.boxes.specs.Boxed.{AreKeepable, kept_by, keeping}
 use Rattle.fresh_bridging.specs.Leaves.{leaf_model_of}
@@ -15,6 +17,10 @@ pub record IsPuttable (families : List Family) (planned : ModelPlan) : Type 0 wh
   pub leaves : AreLeaves planned.plan.leaves.items
   pub nodes : AreKeepable families planned.plan.nodes.items
   pub exprs : HasDistinctKeys address_cmp planned.exprs.items
+
+-- the expressions of a plan in place of those of a map
+abbrev pub with_exprs : AddressMap → List (Address × Function) → AddressMap
+with_exprs m exprs = record m { exprs = finite.from_entries exprs }
 
 -- the plan stands in it
 pub record Holds (old : Owned) (planned : ModelPlan) (new : Owned) : Type 0 where

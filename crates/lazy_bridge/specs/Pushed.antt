@@ -3,16 +3,19 @@
 -- The planning step works the whole fresh bridging out by the boxes' images, an item at a time, and
 -- refuses there: `Unsupported` with the kind of the first of the user's items that has no tree, and
 -- then `Overflow` with the address of the first at which a number doesn't fit. Until then nothing
--- but the boxes' turns has changed. The change step empties the solver's model, the map and the
--- boxes and puts the plan in; memory alone can refuse it, and then it holds nothing.
+-- but the boxes' turns has changed. The change step lets all nodes and expressions go, puts those of
+-- the plan in, and changes the leaves in place; memory alone can refuse it, and then it holds
+-- nothing.
 use Rattle.std.specs.Prelude.{◌≡◌, ◌-◌, ◌^◌, ℕ, min, Some, Result, Ok, Err}
 use Rattle.boxes.specs.Boxed.{means_of, setting_by}
 use Rattle.fresh_bridging.specs.FreshBridging.{FreshBridging, IsUnsupported, unfit_at}
 use Rattle.item_core.specs.declared.table.Table.{Table}
 use Rattle.leaf_model.specs.LeafModel.{IsChanged, LeafModel}
 use Rattle.lazy_bridge.specs.Owned.{HoldsNothing, IsBridgingOf, Owned, leaf_model_in, setting_in}
+use Rattle.model_bridging.specs.Planned.{IsPlanOf}
 use Rattle.model_bridging.specs.declared.fault.PushFault.{PushFault}
 use Rattle.model_bridging.specs.declared.fault.PushFault.TheVariants.{Unsupported, Overflow, Memory}
+use Rattle.model_bridging.specs.declared.model_plan.ModelPlan.{ModelPlan}
 use Rattle.user_model.specs.Model.{ModelValue}
 
 -- all but the boxes' turns is as it was
@@ -41,3 +44,8 @@ IsBridgedBy old table model (Err (Overflow at)) new =
     × IsTried old new
 IsBridgedBy old table model (Err Memory) new =
     HoldsNothing new × (setting_in new ≡ setting_in old)
+
+-- the planning step alone: the plan of the fresh bridging by the table, or a refusal
+abbrev pub IsPlannedBy : Owned → ModelValue → Result ModelPlan PushFault → Owned → Type 0
+IsPlannedBy old model (Ok planned) new = IsPlanOf (setting_in old) model planned × IsTried old new
+IsPlannedBy old model (Err fault) new = IsBridgedBy old old.boxes.table model (Err fault) new

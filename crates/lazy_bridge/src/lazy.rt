@@ -11,14 +11,15 @@ ghost use Rattle.bridge_plan.specs.Means.{AreSound};
 ghost use Rattle.fresh_bridging.specs.TheRules.{IsChoice, graph_of};
 ghost use Rattle.item_core.specs.Kind.{kind_number};
 ghost use Rattle.leaf_change.specs.Named.{NamesEach};
+ghost use Rattle.lazy_bridge.specs.Few.{ChangesFew};
 ghost use Rattle.lazy_bridge.specs.Native.{supports_native};
-ghost use Rattle.lazy_bridge.specs.Owned.{HoldsNothing, leaf_model_in, setting_in};
+ghost use Rattle.lazy_bridge.specs.Owned.{HasLeavesOf, HoldsNothing, leaf_model_in, setting_in};
 ghost use Rattle.lazy_bridge.specs.Plans.{Holds, IsPuttable};
-ghost use Rattle.lazy_bridge.specs.Pushed.{Counts, IsBridgedBy};
+ghost use Rattle.lazy_bridge.specs.Pushed.{Counts, IsBridgedBy, IsPlannedBy};
 ghost use Rattle.small_numbers.specs.SmallNumbers.{HasSmallNumbers};
 ghost use Rattle.solver_store.specs.SolverModel.{no_leaves};
 
-use crate::change::{capped, let_all_go, objective_address, put_plan};
+use crate::change::{capped, let_all_go, put_plan};
 use address_map::AddressMap;
 use aff_core::{Address, Root};
 use boxes::Boxes;
@@ -26,7 +27,6 @@ use bridge_face::Bridge;
 use bridge_graph::Choice;
 use bridge_plan::Rewriter;
 use item_core::{Kind, Table};
-use leaf_change::count_changed;
 use lists::Memory;
 use model_bridging::{ModelPlan, PushFault, plan_model};
 use model_store::{Undo, UserModel};
@@ -102,34 +102,40 @@ impl<B: Bridge> LazyOver<B> {
 
     /// Bridges a model, where nothing is held. The answer is the number of leaves. Where each
     /// number of the model is whole and at most 2^40 in size, it is never `Overflow`, whatever the
-    /// table.
+    /// table. The solver's model is called at most once a leaf.
     pub fn fill(&mut self, model: &UserModel) -> Result<u64, PushFault>
+        requires { HoldsNothing self.old }
         ensures bridged { IsBridgedBy self.old self.old.boxes.table model.now.model
             result self.new }
         ensures small { HasSmallNumbers model.now.model
             → (at : Address) → result ≢ Err (PushFault.Overflow at) }
+        ensures few { IfOk result (λ changed. ChangesFew self.old changed self.new) }
     {
-        self.bridge(model)
+        let planned = self.plan(model)?;
+        Ok(self.put(planned)?)
     }
 
     /// Bridges a model anew in place of the one before. The answer is the number of addresses at
-    /// which the leaves differ.
+    /// which the leaves differ, and the solver's model is called no more often: a leaf that stays
+    /// keeps its index, and is not touched where it is the same.
     pub fn push(&mut self, after: &UserModel, _undo: &[Undo]) -> Result<u64, PushFault>
         ensures bridged { IsBridgedBy self.old self.old.boxes.table after.now.model
             result self.new }
         ensures small { HasSmallNumbers after.now.model
             → (at : Address) → result ≢ Err (PushFault.Overflow at) }
+        ensures few { IfOk result (λ changed. ChangesFew self.old changed self.new) }
     {
         self.bridge(after)
     }
 
-    /// Bridges the model by another table.
+    /// Bridges the model by another table, with the same answer and the same few calls.
     pub fn set_table(&mut self, model: &UserModel, table: Table) -> Result<u64, PushFault>
         requires costs { IsTrue (list_all is_edge_cost table.cost) }
         requires native { IsTrue (supports_native table) }
         ensures bridged { IsBridgedBy self.old table model.now.model result self.new }
         ensures small { HasSmallNumbers model.now.model
             → (at : Address) → result ≢ Err (PushFault.Overflow at) }
+        ensures few { IfOk result (λ changed. ChangesFew self.old changed self.new) }
     {
         let before = *self.table();
         self.preset(table);
@@ -156,10 +162,23 @@ impl<B: Bridge> LazyOver<B> {
         self.boxes.choose(table);
     }
 
-    // Bridges a model by the table.
+    // Bridges a model by the table in place of the one before.
     fn bridge(&mut self, model: &UserModel) -> Result<u64, PushFault>
         ensures bridged { IsBridgedBy self.old self.old.boxes.table model.now.model
             result self.new }
+        ensures small { HasSmallNumbers model.now.model
+            → (at : Address) → result ≢ Err (PushFault.Overflow at) }
+        ensures few { IfOk result (λ changed. ChangesFew self.old changed self.new) }
+    {
+        let planned = self.plan(model)?;
+        self.let_nodes_go();
+        Ok(self.put(planned)?)
+    }
+
+    // Plans a model's bridging by the table, or lets all go where memory runs out.
+    fn plan(&mut self, model: &UserModel) -> Result<ModelPlan, PushFault>
+        ensures planned { IsPlannedBy self.old model.now.model result self.new }
+        ensures puttable { IfOk result (IsPuttable (families_of self.new.boxes.states)) }
         ensures small { HasSmallNumbers model.now.model
             → (at : Address) → result ≢ Err (PushFault.Overflow at) }
     {
@@ -167,7 +186,7 @@ impl<B: Bridge> LazyOver<B> {
         let _sound = self.boxes.table();
         let _valid = model.objective();
         match plan_model(self.alloc, &mut self.boxes, model) {
-            Ok(planned) => Ok(self.put(planned)?),
+            Ok(planned) => Ok(planned),
             Err(fault) => {
                 if let PushFault::Memory = fault {
                     self.clear();
@@ -178,31 +197,28 @@ impl<B: Bridge> LazyOver<B> {
         }
     }
 
-    // Puts a plan in the place of what is held, or lets all go.
+    // Puts a plan in, where no node and no expression is held, or lets all go.
     fn put(&mut self, planned: ModelPlan) -> Result<u64, Memory>
-        requires { IsPuttable (families_of self.old.boxes.states) planned }
-        ensures ok { IfOk result (λ n. Holds self.old planned self.new
-            × Counts (leaf_model_in self.old) (leaf_model_in self.new) n) }
+        requires planned { IsPuttable (families_of self.old.boxes.states) planned }
+        requires kept { All (λ s. s.kept ≡ finite.empty) self.old.boxes.states }
+        requires exprs { self.old.map.exprs ≡ finite.empty }
+        ensures holds { IfOk result (λ changed. Holds self.old planned self.new
+            × Counts (leaf_model_in self.old) (leaf_model_in self.new) changed) }
+        ensures few { IfOk result (λ changed. ChangesFew self.old changed self.new) }
         ensures err { OnErr result (HoldsNothing self.new) }
         ensures setting { setting_in self.new ≡ setting_in self.old }
     {
-        let changed = count_changed(
-            &self.solver,
-            &self.map,
-            &self.objective_at,
-            &planned.plan.leaves,
-        );
-        let at = objective_address(&planned.plan.leaves);
-        let_all_go(&mut self.boxes, &mut self.solver, &mut self.map);
         match put_plan(
             self.alloc,
             &mut self.boxes,
             &mut self.solver,
             &mut self.map,
+            &mut self.objective_at,
             planned,
         ) {
-            Ok(()) => {
-                self.objective_at = at;
+            Ok(changed) => {
+                // what this ensures of the count
+                let _few = self.solver.calls();
                 Ok(capped(changed))
             }
             Err(memory) => {
@@ -210,6 +226,16 @@ impl<B: Bridge> LazyOver<B> {
                 Err(memory)
             }
         }
+    }
+
+    // Lets all nodes and expressions go.
+    fn let_nodes_go(&mut self)
+        ensures kept { All (λ s. s.kept ≡ finite.empty) self.new.boxes.states }
+        ensures exprs { self.new.map.exprs ≡ finite.empty }
+        ensures leaves { HasLeavesOf self.old self.new }
+    {
+        self.boxes.clear();
+        self.map.clear_exprs();
     }
 
     /// Lets all go.

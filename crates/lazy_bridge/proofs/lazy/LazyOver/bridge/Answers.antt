@@ -1,85 +1,21 @@
-use Rattle.std.proofs.Common.{ap, refl, subst}
-use Rattle.std.specs.Prelude.{Ok, Err}
-use Rattle.boxes.specs.Boxed.{families_of}
-use Rattle.bridge_plan.specs.Means.{Means}
-use Rattle.lazy_bridge.specs.Owned.{Owned}
-use Rattle.lazy_bridge.specs.Pushed.{IsBridgedBy, IsTried}
-use Rattle.lazy_bridge.proofs.Pushing.{bridged, can_be_put, no_overflow, refused}
+use Rattle.std.proofs.Common.{subst, sym}
+use Rattle.fresh_bridging.specs.TheRules.{Setting}
+use Rattle.lazy_bridge.specs.Plans.{IsPuttable}
+use Rattle.lazy_bridge.proofs.Pushing.{bridged}
+use Rattle.lazy_bridge.proofs.Putting.{leaves_both, tried_leaves}
 use Rattle.lazy_bridge.proofs.lazy.LazyOver.bridge.Goals as goal
 
-pub put-requires : goal.put-requires
-put-requires g c =
-    let was : Owned = record {
-      boxes = c.self.inside.boxes;
-      solver = c.self.inside.solver;
-      map = c.self.inside.map;
-      objective_at = c.self.inside.objective_at;
-    } in
-    can_be_put was (families_of c.plan_model.new.rewriter.states) c.args.model.now.model
-    c.in-Ok.planned
-    c.table-sound.ensures.sound c.self.invariant.0 c.objective-valid.ensures.valid
-    c.in-Ok.ensures.answer
-    (ap (λ (m : Means). m.setting.families) c.plan_model.ensures.means)
+pub put-requires-clause-planned : goal.put-requires-clause-planned
+put-requires-clause-planned g c =
+    subst (λ (s : Setting). IsPuttable s.families c.in_ok-planned.planned)
+    (sym c.let_nodes_go.ensures.leaves.setting) c.in_ok-planned.ensures.puttable
 
-pub returns-in_ok-put-in-Ok-clause-bridged : goal.returns-in_ok-put-in-Ok-clause-bridged
-returns-in_ok-put-in-Ok-clause-bridged g c =
-    let was : Owned = record {
-      boxes = c.self.inside.boxes;
-      solver = c.self.inside.solver;
-      map = c.self.inside.map;
-      objective_at = c.self.inside.objective_at;
-    } in
-    let tried : Owned = record {
-      boxes = c.plan_model.new.rewriter;
-      solver = c.self.inside.solver;
-      map = c.self.inside.map;
-      objective_at = c.self.inside.objective_at;
-    } in
-    let same : IsTried was tried = record {
-      means = c.plan_model.ensures.means;
-      solver = refl;
-      map = refl;
-      objective_at = refl;
-    } in
-    let put = c.in_ok-put-in-Ok.ensures in
-    subst (λ (o : Owned). IsBridgedBy o o.boxes.table c.args.model.now.model
-    (Ok c.in_ok-put-in-Ok.field-0) c.put.new.self) c.self.view_is
-    (bridged was tried c.put.new.self c.args.model.now.model c.in-Ok.planned
-    c.in_ok-put-in-Ok.field-0 c.in-Ok.ensures.answer same put.ok.0 put.setting put.ok.1)
-
-pub returns-in_default-clause-bridged : goal.returns-in_default-clause-bridged
-returns-in_default-clause-bridged g c =
-    let was : Owned = record {
-      boxes = c.self.inside.boxes;
-      solver = c.self.inside.solver;
-      map = c.self.inside.map;
-      objective_at = c.self.inside.objective_at;
-    } in
-    let tried : Owned = record {
-      boxes = c.plan_model.new.rewriter;
-      solver = c.self.inside.solver;
-      map = c.self.inside.map;
-      objective_at = c.self.inside.objective_at;
-    } in
-    let same : IsTried was tried = record {
-      means = c.plan_model.ensures.means;
-      solver = refl;
-      map = refl;
-      objective_at = refl;
-    } in
-    subst (λ (o : Owned). IsBridgedBy o o.boxes.table c.args.model.now.model (Err c.in-Err.fault)
-    tried) c.self.view_is
-    (refused was tried c.args.model.now.model c.in-Err.fault c.in_default.not-Memory
-    c.in-Err.ensures.answer same)
-
-pub returns-in_default-clause-small : goal.returns-in_default-clause-small
-returns-in_default-clause-small g c =
-    let was : Owned = record {
-      boxes = c.self.inside.boxes;
-      solver = c.self.inside.solver;
-      map = c.self.inside.map;
-      objective_at = c.self.inside.objective_at;
-    } in
-    no_overflow was c.args.model.now.model c.in-Err.fault (Err c.in-Err.fault) refl
-    c.table-sound.ensures.sound
-    c.objective-valid.ensures.valid c.in-Err.ensures.answer
+pub returns-clause-bridged : goal.returns-clause-bridged
+returns-clause-bridged g c =
+    let planned = c.in_ok-planned.ensures.planned in
+    let put = c.in_ok-put.ensures in
+    bridged c.args.self.now c.let_nodes_go.new.self c.put.new.self c.args.model.now.model
+    c.in_ok-planned.planned c.in_ok-put.field-0 planned.0
+    (leaves_both c.args.self.now c.plan.new.self c.let_nodes_go.new.self
+    (tried_leaves c.args.self.now c.plan.new.self planned.1) c.let_nodes_go.ensures.leaves)
+    put.holds.0 put.setting put.holds.1
