@@ -37,7 +37,7 @@ use Rattle.address_laws.specs.Apart.{Avoids, Distinct, avoids, distinct-append, 
 use Rattle.address_laws.specs.Distinct.{EachApart}
 use Rattle.address_laws.specs.KeyLaws.{AreKeys, IsHere, avoid_in, once_in_each, once_in_others, other_below, own_none, within_each}
 use Rattle.address_laws.specs.Keys.{Mine, keys_in, keys_of_each, own}
-use Rattle.address_laws.specs.LeafKeys.{alone_are, its_key, keys_of-flat_map, keys_of_nodes, leaf_keys_in, leaf_keys_of_each, no_keys, node_keys_in, node_keys_of_each, nodes_are, objective_keys, objectives_alone, row_keys, rows_alone, variable_keys, variables_are}
+use Rattle.address_laws.specs.LeafKeys.{alone_are, its_key, keys_of-flat_map, keys_of_nodes, leaf_keys_in, leaf_keys_of_each, leaf_variables_are, no_keys, node_keys_in, node_keys_of_each, nodes_are, objective_keys, objectives_alone, row_keys, rows_alone, variable_keys, variables_are}
 use Rattle.address_laws.specs.MadeLaws.{made_exactly}
 use Rattle.address_laws.specs.PutLaws.{group_stays}
 use Rattle.address_laws.specs.Regions.{AreApart, AtOrBelow, apart_less}
@@ -61,7 +61,7 @@ numbered_distinct (v ∷ vars) rise = (
   numbered_distinct vars (Rise-tail variable_number v vars rise),
 )
 
-abbrev all_numbered : List UserGroup → List Address
+abbrev pub all_numbered : List UserGroup → List Address
 all_numbered groups = numbered (flat_map (λ g. g.vars) groups)
 
 split_vars : (g : UserGroup) (gs : List UserGroup)
@@ -107,7 +107,7 @@ rest_apart g v m (h ∷ hs) less other =
     (subst (λ ks. Contains ks v) (sym (split_vars h hs))
     (Contains-append_right (numbered h.vars) (all_numbered hs) v d)))))
 
-groups_of_model_apart : (groups : List UserGroup) → Rise group_number groups
+pub groups_of_model_apart : (groups : List UserGroup) → Rise group_number groups
     → Distinct (all_numbered groups) → AreApart Mine (map group_item groups)
 groups_of_model_apart [] rise d = tt
 groups_of_model_apart (g ∷ gs) rise d =
@@ -154,7 +154,7 @@ objective_apart objective.Feasibility = tt
 objective_apart (objective.Plain sense var) = (λ v b. All-nil (λ y. ¬ (AtOrBelow y v)), tt)
 objective_apart (objective.Affine sense func) = (λ v b. All-nil (λ y. ¬ (AtOrBelow y v)), tt)
 
-others_of_model_apart : (rows : List Row) (o : Objective) → Rise row_number rows
+pub others_of_model_apart : (rows : List Row) (o : Objective) → Rise row_number rows
     → AreApart AtOrBelow (map row_item rows ++ objective_items o)
 others_of_model_apart [] o rise = objective_apart o
 others_of_model_apart (r ∷ rows) o rise = (
@@ -218,10 +218,10 @@ module _ (setting : Setting) (costly : IsCostly (graph_of setting)) (lawful : Ar
       bridging.made.entries bridging.made.groups trees.1)
       (further model valid))
 
-  abbrev MineNow : Item → Address → Type 0
+  abbrev pub MineNow : Item → Address → Type 0
   MineNow c v = Mine (put_in bridging.made.entries c) v
 
-  model_others_below : All (λ c. (v : Address) → MineNow c v → AtOrBelow c v)
+  pub model_others_below : All (λ c. (v : Address) → MineNow c v → AtOrBelow c v)
       (model_image model).others
   model_others_below =
       All-weaker IsFurther (λ c. (v : Address) → MineNow c v → AtOrBelow c v)
@@ -300,14 +300,6 @@ module _ (setting : Setting) (costly : IsCostly (graph_of setting)) (lawful : Ar
       ∙ sym (keys_of-flat_map f (leaves_of_each bridging.made.groups ++ leaves_in
       bridging.made.others)))
       (model_keys_distinct (λ i. keys_of (f i)) no_keys are)
-
-  leaf_variables_are : AreKeys (λ i. keys_of (leaf_variables i)) no_keys
-  leaf_variables_are = record {
-    leaf_mine = λ i. subst (All (Mine i)) (sym (variable_keys i)) (variables_are.leaf_mine i);
-    leaf_once = λ i d. subst Distinct (sym (variable_keys i)) d;
-    node_here = λ i. All-nil (λ k. k ≡ i.at);
-    node_once = λ i. tt;
-  }
 
   pub variables_distinct :
       Distinct (keys_of (flat_map leaf_variables (model_leaves bridging.made)))

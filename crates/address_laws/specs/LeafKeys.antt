@@ -1,7 +1,7 @@
 -- The addresses of leaves and nodes, as lists of the leaves and of the nodes.
 use Rattle.std.specs.Prelude.{◌≡◌, ℕ, List, [], ◌∷◌, ◌++◌, All, Contains, flat_map, map, refl}
 use Rattle.std.specs.Map.{keys_of}
-use Rattle.std.proofs.Common.{inl, inr, sym, ap, ap₂, ◌∙◌}
+use Rattle.std.proofs.Common.{inl, inr, sym, ap, ap₂, subst, ◌∙◌}
 use Rattle.std.proofs.lemmas.Grind.{flat_map-append}
 use Rattle.std.proofs.lemmas.List.{append-nil, map-append}
 use Rattle.std.proofs.lemmas.List.Elements.{All-cons, All-nil, All-contains_itself, All-weaker}
@@ -113,7 +113,7 @@ nodes_are = record {
 
 -- ---- as lists of the leaves and of the nodes
 
-abbrev at_of : ℕ × Item → Address
+abbrev pub at_of : ℕ × Item → Address
 at_of n = n.1.at
 
 module _ {rules : Rules Item Entry} where
@@ -147,7 +147,7 @@ module _ {rules : Rules Item Entry} where
   mutual
     unfolding keys nodes
 
-    node_keys : {item : Item} {entries : List Entry} (tree : Bridged rules item entries)
+    pub node_keys : {item : Item} {entries : List Entry} (tree : Bridged rules item entries)
         → keys no_keys its_key tree ≡ map at_of (nodes tree)
     node_keys (natively {item} c) = refl
     node_keys (by {item} c groups others) =
@@ -186,3 +186,11 @@ pub keys_of_nodes : (ns : List (ℕ × Item))
     → keys_of (map (λ n. (n.1.at, n)) ns) ≡ map (λ n. n.1.at) ns
 keys_of_nodes [] = refl
 keys_of_nodes (n ∷ ns) = ap (λ l. n.1.at ∷ l) (keys_of_nodes ns)
+
+pub leaf_variables_are : AreKeys (λ i. keys_of (leaf_variables i)) no_keys
+leaf_variables_are = record {
+  leaf_mine = λ i. subst (All (Mine i)) (sym (variable_keys i)) (variables_are.leaf_mine i);
+  leaf_once = λ i d. subst Distinct (sym (variable_keys i)) d;
+  node_here = λ i. All-nil (λ k. k ≡ i.at);
+  node_once = λ i. tt;
+}

@@ -26,7 +26,7 @@ pub record HasExactly {X : Type 0} (m : FinMap address_cmp X)
   pub entries : IsPermutation es (entries m)
 
 module _ {X : Type 0} where
-  absent : (es : List (Address × X)) (q : Address) → Avoids (keys_of es) q
+  pub absent : (es : List (Address × X)) (q : Address) → Avoids (keys_of es) q
       → lookup (is_at (address_cmp q)) es ≡ None
   absent [] q h = refl
   absent (e ∷ es) q h =
