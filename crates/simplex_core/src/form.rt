@@ -1,6 +1,7 @@
 //! The equality form.
 use lists::Sequence;
 use ratio_core::Ratios;
+use sparse_ratios::SparseRatios;
 
 /// One flag a row.
 pub type Flags = Sequence<bool>;
@@ -13,7 +14,7 @@ pub struct StdForm {
     /// How many columns there are.
     pub c: usize,
     /// The matrix of `m * c` numbers, row by row.
-    pub matrix: Ratios,
+    pub matrix: SparseRatios,
     /// The right side of each row, at least 0.
     pub right: Ratios,
     /// The cost of each column.

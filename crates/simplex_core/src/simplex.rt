@@ -52,7 +52,7 @@ fn solve_on<T: Tableau + Drop>(
 {
     let right = form.right.as_slice();
     let costs = form.costs.as_slice();
-    match T::start(alloc, form.m, form.c, form.matrix.as_slice(), right, costs) {
+    match T::start(alloc, form.m, form.c, &form.matrix, right, costs) {
         Ok(board) => run(alloc, board, pivots),
         Err(NumberFault::Overflow) => {
             let basis = first_basis(alloc, form.m, form.c)?;

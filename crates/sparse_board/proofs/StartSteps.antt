@@ -1,20 +1,25 @@
 -- The rows of a board at its start.
-use Rattle.std.specs.Prelude.{◌≡◌, ℕ, ◌+◌, ◌*◌, ◌-◌, ◌<◌, ◌≤◌, ◌^◌, List, length, refl}
+use Rattle.std.specs.Prelude.{◌≡◌, ℕ, ◌+◌, ◌*◌, ◌-◌, ◌<◌, ◌≤◌, ◌^◌, List, [], ◌∷◌, drop, length, slice_index_or, refl}
 use Rattle.std.proofs.Common.{sym, ◌∙◌, ap, arith, subst}
+use Rattle.std.proofs.Math.ListN.{drop_of_length-le}
+use Rattle.std.proofs.lemmas.List.{drop_more}
 use Rattle.ratio_core.specs.Rational.{Rational, one_ℚ, zero_ℚ}
+use Rattle.sparse_ratios.specs.Terms.{AreTerms, number_at}
 use Rattle.simplex_form.specs.Basis.{start}
 use Rattle.simplex_form.specs.Board.{entry}
 use Rattle.simplex_form.specs.Form.{Form}
 use Rattle.tableau_core.specs.Row.{cell}
 use Rattle.tableau_core.specs.Start.{IsListOf}
+use Rattle.tableau_core.specs.TermSteps.{AreLeft, all_left, column_past, column_within, left_after, number_there, place_past, zero_at_end, zero_before}
 use Rattle.tableau_core.specs.StartLaws.{real-entry, unit-entry, zero-entry}
 use Rattle.sparse_board.specs.declared.board.Board.TheInside.{Inside}
 use Rattle.sparse_board.specs.declared.sparse_row.SparseRow.{SparseRow}
-use Rattle.sparse_board.specs.Numbers.{Adds, HoldsBelow, number_of, width_of}
+use Rattle.sparse_board.specs.Numbers.{Adds, HoldsBelow, number_of, row_columns, width_of}
+use Rattle.sparse_board.specs.Sparse.{IsBelow, columns_in}
 use Rattle.sparse_board.specs.Rows.{AreWide}
 use Rattle.sparse_board.specs.Marks.{AreMarked}
 use Rattle.sparse_board.specs.Kept.{IsKept, columns_of}
-use Rattle.sparse_board.proofs.HeldLemmas.{held_more, held_next, held_past}
+use Rattle.sparse_board.proofs.HeldLemmas.{below_less, held_next, held_past, held_same}
 
 -- a cost row has the numbers that it is made of
 pub costs_are : (n : ℕ) (f : ℕ → Rational) (numbers given : List Rational) (row : SparseRow)
@@ -41,10 +46,12 @@ module _ (F : Form) (i : ℕ) (row : i < F.rows) where
       less_lem : (c i : ℕ) → c + i - c ≡ i
       less_lem c i = omega arith
 
-  pub real_added : (j : ℕ) (x : Rational) (old new : SparseRow) → j < F.reals → x ≡ F.matrix i j
-      → HoldsBelow j entries old → Adds j x old new → HoldsBelow (j + 1) entries new
-  real_added j x old new b is held adds =
-      held_more j entries x old new held adds (real-entry F j i x row b is)
+  -- the numbers of the real columns
+  pub reals_held : (numbers : ℕ → Rational) → ((j : ℕ) → j < F.reals → numbers j ≡ F.matrix i j)
+      → (held : SparseRow) → HoldsBelow F.reals numbers held → HoldsBelow F.reals entries held
+  reals_held numbers same held h =
+      held_same F.reals numbers entries held h
+      (λ j b. real-entry F j i (numbers j) row b (same j b))
 
   pub unit_added : (x : Rational) (old new : SparseRow) → x ≡ one_ℚ → HoldsBelow F.reals entries old
       → Adds (F.reals + i) x old new → HoldsBelow (F.reals + F.rows) entries new
@@ -78,3 +85,60 @@ start-kept a m count few wide first second step basis marks marked = record {
   where
     same_width : a.reals + m ≡ columns_of a
     same_width = ap (λ n. a.reals + n) (sym count)
+
+-- ---- a row's terms, one after the other
+
+-- the columns before those that are left are held
+pub record IsHeldTo (from c : ℕ) (all left : List (ℕ × Rational)) (row : SparseRow) : Type 0 where
+  pub next : ℕ
+  pub rest : AreLeft from c next all left
+  pub held : HoldsBelow next (λ j. number_at all (from + j)) row
+
+module _ (from c : ℕ) (all : List (ℕ × Rational)) where
+  pub held_start : (row : SparseRow) → AreTerms from (from + c) all → row.entries.items ≡ []
+      → IsHeldTo from c all all row
+  held_start row h e = record {
+    next = 0;
+    rest = all_left from c all h;
+    held = record {
+      below = λ k b. absurd (omega (arith, subst (λ es. k < length (columns_in es)) e b));
+      numbers = λ j b. absurd (omega (arith, b));
+    };
+  }
+
+  module _ (row : SparseRow) where
+    pub held_at : (i : ℕ) (t : ℕ × Rational) → i < length all → t ≡ slice_index_or all i t
+        → IsHeldTo from c all (drop i all) row → IsHeldTo from c all (t ∷ drop (i + 1) all) row
+    held_at i t b e = subst (λ left. IsHeldTo from c all left row)
+        (drop_more all i t b ∙ ap (λ x. x ∷ drop (i + 1) all) (sym e))
+
+    pub held_end : (i : ℕ) → length all ≤ i → IsHeldTo from c all (drop i all) row
+        → HoldsBelow c (λ j. number_at all (from + j)) row
+    held_end i b d =
+        let e : IsHeldTo from c all [] row =
+        subst (λ left. IsHeldTo from c all left row) (drop_of_length-le all b) d in
+        held_past e.next c (λ j. number_at all (from + j)) row e.held e.rest.low
+        (zero_at_end from c e.next all e.rest)
+
+    module _ (t : ℕ × Rational) (left : List (ℕ × Rational))
+        (d : IsHeldTo from c all (t ∷ left) row) where
+      pub held_within : t.0 - from < c
+      held_within = column_within from c d.next all t left d.rest
+
+      pub held_place : from ≤ t.0
+      held_place = place_past from c d.next all t left d.rest
+
+      pub held_above : IsBelow (t.0 - from) (row_columns row)
+      held_above =
+          below_less d.next (t.0 - from) (row_columns row) d.held.below
+          (column_past from c d.next all t left d.rest)
+
+      pub held_term : (new : SparseRow) → Adds (t.0 - from) t.1 row new → IsHeldTo from c all left new
+      held_term new adds = record {
+        next = t.0 - from + 1;
+        rest = left_after from c d.next all t left d.rest;
+        held = held_next d.next (t.0 - from) (λ j. number_at all (from + j)) t.1 row new d.held
+            (column_past from c d.next all t left d.rest)
+            (zero_before from c d.next all t left d.rest) adds
+            (sym (number_there from c d.next all t left d.rest));
+      }

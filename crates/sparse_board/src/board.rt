@@ -6,6 +6,7 @@ use crate::scan::{first_negative, first_nonzero};
 use crate::sparse_row::SparseRow;
 use crate::start::{cost_row, start_rows};
 use ratio_core::{NumberFault, Ratio};
+use sparse_ratios::SparseRatios;
 use std::alloc::Global;
 use std::marker::Model;
 use tableau_core::{BoardOverflow, Tableau, first_prices, second_prices, start_basis};
@@ -45,7 +46,7 @@ impl Tableau for Board {
         alloc: Global,
         m: usize,
         c: usize,
-        matrix: &[Ratio],
+        matrix: &SparseRatios,
         right: &[Ratio],
         costs: &[Ratio],
     ) -> Result<Board, NumberFault> {

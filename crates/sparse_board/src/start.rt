@@ -1,5 +1,6 @@
 //! The rows that a board starts with.
-ghost use Rattle.std.specs.Prelude.{◌≡◌, ◌+◌, ◌*◌, ◌<◌, ◌^◌, ℕ, length, IfOk};
+ghost use Rattle.std.specs.Prelude.{◌≡◌, ◌+◌, ◌*◌, ◌<◌, ◌≤◌, ◌^◌, ℕ, [], length, IfOk};
+ghost use Rattle.sparse_ratios.specs.Terms.{AreTerms, number_at};
 ghost use Rattle.simplex_form.specs.Board.{entry};
 ghost use Rattle.tableau_core.specs.Row.{AllFit, cell};
 ghost use Rattle.tableau_core.specs.Start.{AtEachStart};
@@ -9,14 +10,16 @@ ghost use Rattle.sparse_board.specs.Rows.{AreWide, number_in_row};
 use crate::row::Row;
 use crate::sparse_row::SparseRow;
 use ratio_core::Ratio;
+use sparse_ratios::SparseRatios;
 use std::alloc::{AllocError, Global};
+use tableau_core::row_terms;
 
 // The rows, whose basis matrix is the unit matrix, each with its right side behind its columns.
 pub(crate) fn start_rows(
     alloc: Global,
     m: usize,
     c: usize,
-    matrix: &[Ratio],
+    matrix: &SparseRatios,
     right: &[Ratio],
 ) -> Result<Vec<Row>, AllocError>
     requires matrix { length matrix.now ≡ m * c }
@@ -41,7 +44,7 @@ fn start_row(
     alloc: Global,
     m: usize,
     c: usize,
-    matrix: &[Ratio],
+    matrix: &SparseRatios,
     i: usize,
     side: &Ratio,
 ) -> Result<Row, AllocError>
@@ -55,15 +58,28 @@ fn start_row(
 {
     let width = c + m + 1;
     let mut row = SparseRow::zeros(alloc, width)?;
-    for j in 0..c {
-        let number = matrix[i * c + j];
-        let _fits = number.num();
-        row.push_any(j as u32, number);
-    }
+    let terms = row_terms(m, c, matrix, i);
+    push_row(&mut row, terms, i * c, c);
     row.push_any((c + i) as u32, Ratio::one());
     let _fits = side.num();
     row.push_any((c + m) as u32, *side);
     Row::new(alloc, row, width)
+}
+
+// Pushes the numbers of a row, each beside its place. The first column's place is `from`.
+fn push_row(row: &mut SparseRow, terms: &[(usize, Ratio)], from: usize, c: usize)
+    requires terms { AreTerms from (from + c) terms.now }
+    requires few { c < 2 ^ 32 }
+    requires wide { c ≤ width_of row.old }
+    requires empty { row.old.entries.items ≡ [] }
+    ensures width { width_of row.new ≡ width_of row.old }
+    ensures held { HoldsBelow c (λ j. number_at terms.now (from + j)) row.new }
+{
+    for term in terms {
+        let j = term.0 - from;
+        let _fits = term.1.num();
+        row.push_any(j as u32, term.1);
+    }
 }
 
 // A cost row of these numbers.

@@ -2,19 +2,20 @@
 use Rattle.std.specs.Prelude.{◌≡◌, ℕ, ◌+◌, ◌*◌, ◌<◌, ◌≤◌, Bool, true, false, suc, refl, List, length, replicate}
 use Rattle.std.proofs.Common.{sym, ◌∙◌, ap, arith, subst, true≢false}
 use Rattle.std.proofs.lemmas.List.{length-replicate}
-use Rattle.ratio_core.specs.Rational.{Fits, Rational, SumFits, neg_ℚ, sum_fits, zero_ℚ, ◌+ℚ◌}
+use Rattle.ratio_core.specs.Rational.{Fits, Rational, SumFits, neg_ℚ, one_ℚ, sum_fits, zero_ℚ, ◌+ℚ◌}
 use Rattle.ratio_core.specs.RationalLaws.{sum_fits_Decides}
 use Rattle.rational_laws.specs.Fitting.{Fits_zero}
+use Rattle.simplex_laws.specs.BoundedSumLaws.{same_or_other}
 use Rattle.simplex_laws.specs.SearchLaws.{all_below_all, all_below_failed, all_below_more}
 use Rattle.simplex_form.specs.Basis.{start}
-use Rattle.simplex_form.specs.Board.{price}
+use Rattle.simplex_form.specs.Board.{entry, price}
 use Rattle.simplex_form.specs.BoundedSums.{sum_to}
 use Rattle.simplex_form.specs.Fit.{first_sum_fits, start_fits}
 use Rattle.simplex_form.specs.Form.{Form, first_cost}
 use Rattle.simplex_form.specs.Search.{all_below}
 use Rattle.tableau_core.specs.Row.{AllFit, IsChanged, cell}
-use Rattle.tableau_core.specs.Start.{IsListOf, form_of}
-use Rattle.tableau_core.specs.StartLaws.{first-artificial, first-real}
+use Rattle.tableau_core.specs.Start.{AtEachStart, IsListOf, form_of}
+use Rattle.tableau_core.specs.StartLaws.{first-artificial, first-real, real-entry, unit-entry, zero-entry}
 use Rattle.tableau_core.proofs.ListSteps.{below_or_past, zeros-cell}
 
 -- the first i numbers f are added, and each sum fits
@@ -115,3 +116,20 @@ module _ (m c : ℕ) (matrix : List Rational) (i : ℕ) (sums : List Rational)
         ∙ ap (λ n. sum_to n (λ l. cell matrix (l * c + j))) all)))
         (λ k. negated.others j k ∙ h.rest j k ∙ sym (first-artificial F j k b));
   }
+
+-- ---- a row at the start
+
+-- its entries, the unit number of its artificial column, and zeros in the others
+pub started : (m c : ℕ) (matrix : List Rational) (i : ℕ) → i < m → (row : List Rational)
+    → ((j : ℕ) → j < c → cell row j ≡ cell matrix (i * c + j)) → cell row (c + i) ≡ one_ℚ
+    → ((j : ℕ) → c ≤ j → j < c + m → ¬ (j ≡ c + i) → cell row j ≡ zero_ℚ)
+    → AtEachStart m c matrix (λ F s. (j : ℕ) → j < c + m → cell row j ≡ entry F s j i)
+started m c matrix i within row reals unit others right costs j b =
+    below_or_past (cell row j ≡ entry F (start F) j i) j c
+    (λ d. real-entry F j i (cell row j) within d (reals j d))
+    (λ d. same_or_other (cell row j ≡ entry F (start F) j i) j (c + i)
+    (λ e. unit-entry F j i (cell row j) within d (omega (arith, e)) (ap (cell row) e ∙ unit))
+    (λ n. zero-entry F j i (cell row j) within d (λ e. n (omega (arith, d, e))) (others j d b n)))
+  where
+    F : Form
+    F = form_of m c matrix right costs

@@ -16,3 +16,4 @@ pub mod ItemLaws
 pub mod ListLaws
 pub mod LoweringLaws
 pub mod StartLaws
+pub mod TermSteps

@@ -8,6 +8,7 @@ use crate::scan::{first_negative, first_nonzero};
 use crate::start::{first_prices, second_prices, start_basis, start_rows};
 use crate::tableau::Tableau;
 use ratio_core::{NumberFault, Ratio};
+use sparse_ratios::SparseRatios;
 use std::alloc::Global;
 use std::marker::Model;
 
@@ -45,7 +46,7 @@ impl Tableau for DenseBoard {
         alloc: Global,
         m: usize,
         c: usize,
-        matrix: &[Ratio],
+        matrix: &SparseRatios,
         right: &[Ratio],
         costs: &[Ratio],
     ) -> Result<DenseBoard, NumberFault> {

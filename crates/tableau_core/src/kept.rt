@@ -1,6 +1,6 @@
 //! A row of the board, with room for the row that comes after it.
-ghost use Rattle.std.specs.Prelude.{◌≡◌, ◌<◌, ◌≤◌, List, ◌||◌, not, IsTrue, length, is_ok, IfOk, OnOk};
-ghost use Rattle.ratio_core.specs.Rational.{Rational};
+ghost use Rattle.std.specs.Prelude.{◌≡◌, ℕ, ◌<◌, ◌≤◌, List, ◌||◌, not, IsTrue, length, is_ok, IfOk, OnOk};
+ghost use Rattle.ratio_core.specs.Rational.{Rational, zero_ℚ};
 ghost use Rattle.tableau_core.specs.Places.{Covers};
 ghost use Rattle.tableau_core.specs.Row.{AllFit, IsLowered, IsPrepared, cell, lowering_fits};
 
@@ -23,6 +23,7 @@ pub(crate) struct Row {
 pub(crate) fn zeros(alloc: Global, n: usize) -> Result<Vec<Ratio>, AllocError>
     ensures long { IfOk result (λ numbers. length numbers.items ≡ n) }
     ensures all_fit { IfOk result (λ numbers. AllFit numbers.items) }
+    ensures zeros { IfOk result (λ numbers. (j : ℕ) → cell numbers.items j ≡ zero_ℚ) }
 {
     vec![in alloc; Ratio::zero(); n]
 }

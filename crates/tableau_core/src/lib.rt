@@ -18,5 +18,5 @@ pub use dense_board::DenseBoard;
 pub use fault::BoardOverflow;
 pub use row::lowered;
 pub use sign::{is_negative, is_positive};
-pub use start::{first_prices, second_prices, start_basis};
+pub use start::{first_prices, row_terms, second_prices, start_basis};
 pub use tableau::Tableau;

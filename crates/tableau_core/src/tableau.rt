@@ -9,6 +9,7 @@ ghost use Rattle.tableau_core.specs.Start.{form_of};
 
 use crate::fault::BoardOverflow;
 use ratio_core::{NumberFault, Ratio};
+use sparse_ratios::SparseRatios;
 use std::alloc::Global;
 
 /// The rows and costs of a form at a basis: the real columns, an artificial column for each row,
@@ -23,7 +24,7 @@ pub trait Tableau: Sized {
         alloc: Global,
         m: usize,
         c: usize,
-        matrix: &[Ratio],
+        matrix: &SparseRatios,
         right: &[Ratio],
         costs: &[Ratio],
     ) -> Result<Self, NumberFault>

@@ -11,9 +11,9 @@ use Rattle.simplex_core.proofs.simplex.solve_on.Goals as goal
 pub returns-in-Ok-clause-outcome : goal.returns-in-Ok-clause-outcome
 returns-in-Ok-clause-outcome g c =
     let form = c.args.form.now in
-    let same : form_of form.m form.c c.as_slice.result.now c.as_slice-right.result.now
+    let same : form_of form.m form.c form.matrix c.as_slice-right.result.now
     c.as_slice-costs.result.now ≡ equality_form form = λ i. form_of form.m form.c
-    (c.as_slice.ensures i) (c.as_slice-right.ensures i) (c.as_slice-costs.ensures i) in
+    form.matrix (c.as_slice-right.ensures i) (c.as_slice-costs.ensures i) in
     tells_all (equality_form form) c.args.pivots c.run.result
     (subst (λ F. start_fits F ≡ true) same c.in-Ok.ensures.fits)
     (c.run.ensures (equality_form form) (standard_form form c.requires)
@@ -32,9 +32,9 @@ returns-in-Ok-clause-right g c =
 pub returns-in_ok-basis-in-Err-Overflow-clause-outcome : goal.returns-in_ok-basis-in-Err-Overflow-clause-outcome
 returns-in_ok-basis-in-Err-Overflow-clause-outcome g c =
     let form = c.args.form.now in
-    let same : form_of form.m form.c c.as_slice.result.now c.as_slice-right.result.now
+    let same : form_of form.m form.c form.matrix c.as_slice-right.result.now
     c.as_slice-costs.result.now ≡ equality_form form = λ i. form_of form.m form.c
-    (c.as_slice.ensures i) (c.as_slice-right.ensures i) (c.as_slice-costs.ensures i) in
+    form.matrix (c.as_slice-right.ensures i) (c.as_slice-costs.ensures i) in
     tells_start (equality_form form) c.args.pivots c.in_ok-basis-in-Err-Overflow.basis
     (subst (λ F. start_fits F ≡ false) same (c.in-Err-Overflow.ensures.overflow
     (ap Err c.in-Err-Overflow.field-0-is))) c.in_ok-basis-in-Err-Overflow.ensures

@@ -1,4 +1,8 @@
-use Rattle.std.proofs.Common.{sym, subst, arith, ◌≡◌, ◌+◌, ◌∙◌}
+use Rattle.std.proofs.Common.{ap, sym, subst, arith, ◌≡◌, ◌+◌, ◌*◌, ◌∙◌}
+use Rattle.ratio_core.specs.Rational.{sum_fits, ◌+ℚ◌}
+use Rattle.sparse_ratios.specs.Terms.{number_at}
+use Rattle.tableau_core.specs.Row.{cell}
+use Rattle.tableau_core.specs.TermSteps.{changed_same}
 use Rattle.std.proofs.lemmas.List.{with_items_is}
 use Rattle.simplex_form.specs.Basis.{start}
 use Rattle.simplex_form.specs.Board.{price}
@@ -13,7 +17,9 @@ returns-in_err-add_row-clause-overflow c = λ _ right costs.
     summed-refused c.args.m c.args.c c.args.matrix.now c.loop-i.i c.deref_mut.result.now
     (subst (AreSummed c.args.m c.args.c c.args.matrix.now c.loop-i.i)
     (sym c.deref_mut.ensures.value) c.loop-i.invariant)
-    c.loop-i-test.true right costs refused.0 refused.1 refused.2
+    c.loop-i-test.true right costs refused.0 refused.1
+    (ap (sum_fits (cell c.deref_mut.result.now refused.0))
+    (sym (c.row_terms-terms.ensures.numbers refused.0 refused.1)) ∙ refused.2)
 
 pub loop-i-preserved : goal.loop-i-preserved
 loop-i-preserved c =
@@ -23,7 +29,14 @@ loop-i-preserved c =
     (summed-row c.args.m c.args.c c.args.matrix.now c.loop-i.i c.deref_mut.result.now
     (subst (AreSummed c.args.m c.args.c c.args.matrix.now c.loop-i.i)
     (sym c.deref_mut.ensures.value) c.loop-i.invariant)
-    c.loop-i-test.true c.add_row.new.sums c.in_ok-add_row.ensures.added c.in_ok-add_row.ensures.fits
+    c.loop-i-test.true c.add_row.new.sums
+    (changed_same (λ j x. x +ℚ number_at c.row_terms-terms.result.now (c.loop-i.i * c.args.c + j))
+    (λ j x. x +ℚ cell c.args.matrix.now (c.loop-i.i * c.args.c + j)) c.args.c
+    c.deref_mut.result.now c.add_row.new.sums
+    (λ j x b. ap (λ q. x +ℚ q) (c.row_terms-terms.ensures.numbers j b))
+    c.in_ok-add_row.ensures.added)
+    (λ j b. ap (sum_fits (cell c.deref_mut.result.now j))
+    (sym (c.row_terms-terms.ensures.numbers j b)) ∙ c.in_ok-add_row.ensures.fits j b)
     c.add_row.ensures.all_fit)
 
 pub returns-clause-prices : goal.returns-clause-prices

@@ -1,0 +1,4 @@
+-- What contracts cite, and its laws.
+pub mod Across
+pub mod AcrossLaws
+pub mod JoinedLaws
