@@ -12,6 +12,12 @@ pub enum BenchFault {
     Number,
 }
 
+impl From<Memory> for BenchFault {
+    fn from(_fault: Memory) -> BenchFault {
+        BenchFault::Memory
+    }
+}
+
 impl From<AllocError> for BenchFault {
     fn from(_fault: AllocError) -> BenchFault {
         BenchFault::Memory

@@ -9,6 +9,7 @@ use crate::fault::BenchFault;
 use lists::Sequence;
 use ratio_core::Ratio;
 use simplex_core::StdForm;
+use sparse_ratios::SparseRatios;
 use std::alloc::{AllocError, Global};
 
 /// How large the forms and their entries are. One entry in `sparse` is drawn from `-greatest` to
@@ -92,7 +93,7 @@ pub fn checked(
     Ok(StdForm {
         m,
         c,
-        matrix: Sequence::from_vec(matrix),
+        matrix: SparseRatios::from_slice(alloc, &matrix)?,
         right: Sequence::from_vec(right),
         costs: Sequence::from_vec(costs),
         flips: Sequence::from_vec(flips),

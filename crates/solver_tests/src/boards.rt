@@ -6,6 +6,7 @@ use crate::models::number;
 use page::Page;
 use ratio_core::Ratio;
 use sparse_board::Board;
+use sparse_ratios::SparseRatios;
 use std::alloc::Global;
 use tableau_core::{DenseBoard, Tableau};
 
@@ -44,14 +45,10 @@ fn show_end<T: Tableau + Drop>(page: &mut Page) {
     let second = number("85070591730234615865843651857942052865/2");
     let third = number("42535295865117307932921825928971026432");
     let zero = Ratio::zero();
-    let begun = T::start(
-        page.alloc(),
-        3,
-        1,
-        &[half, second, third],
-        &[zero, zero, zero],
-        &[zero],
-    );
+    let Ok(column) = SparseRatios::from_slice(page.alloc(), &[half, second, third]) else {
+        return;
+    };
+    let begun = T::start(page.alloc(), 3, 1, &column, &[zero, zero, zero], &[zero]);
     if let Ok(mut board) = begun {
         pivot(page, &mut board, 0);
         board.end_phase_one();
@@ -69,7 +66,8 @@ fn one_by_one<T: Tableau + Drop>(alloc: Global, entry: &str, right: &str, cost: 
     if !is_nonnegative(&right) {
         return None;
     }
-    match T::start(alloc, 1, 1, &[number(entry)], &[right], &[number(cost)]) {
+    let matrix = SparseRatios::from_slice(alloc, &[number(entry)]).ok()?;
+    match T::start(alloc, 1, 1, &matrix, &[right], &[number(cost)]) {
         Ok(board) => Some(board),
         Err(_) => None,
     }

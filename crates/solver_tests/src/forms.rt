@@ -6,6 +6,7 @@ ghost use Rattle.simplex_core.specs.StdForm.{IsWellShaped};
 use page::Page;
 use ratio_core::{Ratio, Ratios};
 use simplex_core::{Flags, SolveFault, SolverAnswer, StdForm, solve, solve_dense};
+use sparse_ratios::SparseRatios;
 use std::alloc::Global;
 
 /// The numbers of a form: its matrix row by row, the right sides and the costs; and how many pivots
@@ -73,10 +74,18 @@ fn form_of(alloc: Global, matrix: &str, right: &str, costs: &str) -> StdForm {
     StdForm {
         m,
         c,
-        matrix: ratios(alloc, matrix),
+        matrix: sparse(alloc, ratios(alloc, matrix).as_slice()),
         right,
         costs,
         flips: no_flips(alloc, m),
+    }
+}
+
+// The numbers, or none where there is no memory for them.
+fn sparse(alloc: Global, numbers: &[Ratio]) -> SparseRatios {
+    match SparseRatios::from_slice(alloc, numbers) {
+        Ok(list) => list,
+        Err(_) => SparseRatios::new(alloc),
     }
 }
 

@@ -33,3 +33,12 @@ pub record ArePutAcross (place : ℕ) (number : ℕ → Rational) (before after 
   pub each : (b : ℕ) (all : List Rational) → b < length before → length all ≡ place →
       IsStartOf (list_at before b) all → IsStartOf (list_at after b) (all ++ number b ∷ [])
   pub low : (b : ℕ) → length (list_at after b) ≤ place + 1
+
+-- each list, which stood for `place` numbers, stands for those of `more` behind them too
+pub record GrowBy (place next : ℕ) (more : ℕ → List Rational) (before after : List (List Rational)) :
+    Type 0 where
+  pub long : length after ≡ length before
+  pub low : (b : ℕ) → length (list_at after b) ≤ next
+  pub width : (b : ℕ) → b < length before → place + length (more b) ≡ next
+  pub each : (b : ℕ) (row : List Rational) → b < length before → length row ≡ place →
+      IsStartOf (list_at before b) row → IsStartOf (list_at after b) (row ++ more b)

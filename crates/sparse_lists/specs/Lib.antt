@@ -2,3 +2,4 @@
 pub mod Across
 pub mod AcrossLaws
 pub mod JoinedLaws
+pub mod GrowthLaws

@@ -15,6 +15,7 @@ use address_map::AddressMap;
 use lists::Sequence;
 use simplex_core::StdForm;
 use solver_store::SolverModel;
+use sparse_ratios::SparseRatios;
 use std::alloc::Global;
 
 /// The most cells that a board of the form may have: 512 MiB of numbers.
@@ -67,7 +68,7 @@ fn build_by_index(
     Ok(StdForm {
         m: equations.len(),
         c: costs.len(),
-        matrix: Sequence::from_vec(matrix),
+        matrix: SparseRatios::from_slice(alloc, &matrix)?,
         right: Sequence::from_vec(sides.right),
         costs: Sequence::from_vec(costs),
         flips: Sequence::from_vec(sides.flips),
