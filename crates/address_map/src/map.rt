@@ -1,5 +1,5 @@
 //! The map between leaf addresses and solver indices.
-ghost use Rattle.std.specs.Prelude.{◌≡◌, ◌+◌, ◌<◌, ◌≤◌, None, IsOk, IfOk, OnOk, OnErr, drop, is_some, length, slice_get};
+ghost use Rattle.std.specs.Prelude.{◌≡◌, ◌+◌, ◌<◌, ◌≤◌, None, IsOk, IfOk, OnOk, OnErr, drop, false, is_some, length, slice_get};
 ghost use Rattle.std.specs.FinMap as finite;
 ghost use Rattle.std.specs.Option.{option_copied};
 ghost use Rattle.address_map.specs.Noted.{IsNotedAt, noted_in, with_item, without_item};
@@ -306,6 +306,16 @@ impl AddressMap {
         self.notes.noted(var)
     }
 
+    /// Whether it is noted that an item mentions a variable.
+    pub fn is_noted(&self, var: &Address, item: &Address) -> bool
+        ensures there { result
+            ≡ is_some (finite.get (noted_in self.now.noted var.now) item.now) }
+        ensures free { result ≡ false
+            → finite.get (noted_in self.now.noted var.now) item.now ≡ None }
+    {
+        self.notes.is_noted(var, item)
+    }
+
     /// Takes all notes of mentions away.
     pub fn clear_notes(&mut self)
         ensures removed { self.new.noted ≡ finite.empty }
@@ -350,7 +360,8 @@ impl AddressMap {
 
     /// Whether a variable is marked as kept.
     pub fn is_kept(&self, var: &Address) -> bool
-        ensures { result ≡ is_some (finite.get self.now.kept var.now) }
+        ensures there { result ≡ is_some (finite.get self.now.kept var.now) }
+        ensures free { result ≡ false → finite.get self.now.kept var.now ≡ None }
     {
         self.kept.get(var).is_some()
     }

@@ -1,5 +1,5 @@
 //! Which items mention which variables.
-ghost use Rattle.std.specs.Prelude.{◌≡◌, ◌≢◌, None, OnErr, OnOk, is_some};
+ghost use Rattle.std.specs.Prelude.{◌≡◌, ◌≢◌, None, OnErr, OnOk, false, is_some};
 ghost use Rattle.std.specs.FinMap as finite;
 ghost use Rattle.std.specs.Option.{option_copied};
 ghost use Rattle.address_map.specs.Noted.{IsNotedAt, noted_in, with_item, without_item};
@@ -86,6 +86,17 @@ impl Notes {
         ensures { option_copied result ≡ finite.get self.now var.now }
     {
         self.items.get(var)
+    }
+
+    /// Whether a pair is noted.
+    pub fn is_noted(&self, var: &Address, item: &Address) -> bool
+        ensures there { result ≡ is_some (finite.get (noted_in self.now var.now) item.now) }
+        ensures free { result ≡ false → finite.get (noted_in self.now var.now) item.now ≡ None }
+    {
+        match self.items.get(var) {
+            Some(items) => items.get(item).is_some(),
+            None => false,
+        }
     }
 
     pub fn clear(&mut self)

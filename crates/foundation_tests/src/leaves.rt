@@ -1,5 +1,5 @@
 // The map between addresses of leaves and indices, with the expressions of variables.
-use crate::{exprs, rows, variables};
+use crate::{exprs, mentions, rows, variables};
 use address_map::AddressMap;
 use page::Page;
 
@@ -10,4 +10,5 @@ pub fn show(page: &mut Page) {
     variables::show(page, &mut map);
     rows::show(page, &mut map);
     exprs::show(page, &mut map);
+    mentions::show(page, &mut map);
 }

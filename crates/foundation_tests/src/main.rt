@@ -10,6 +10,7 @@ mod fractions;
 mod leaves;
 mod literals;
 mod loads;
+mod mentions;
 mod named;
 mod names;
 mod numerals;

@@ -3,3 +3,4 @@ pub mod Store
 pub mod Rooms
 pub mod Parking
 pub mod StoreLaws
+pub mod Reading

@@ -3,9 +3,11 @@
 
 mod parked;
 mod parking;
+mod reading;
 mod store;
 
 pub use parked::Parked;
+pub use reading::Reading;
 pub use store::UserModel;
 pub use user_model::{
     ApplyFault, Edit, Group, GroupVar, GroupVars, NamedFunc, NextNumbers, Objective, OldGroups,
