@@ -1,9 +1,9 @@
 -- The words of files among the words of a command.
-use Rattle.std.specs.Prelude.{Bool, ◌&&◌, not, nat_le, List, [], ◌∷◌, length, Option, Some, None, if◌then◌else◌}
+use Rattle.std.specs.Prelude.{Bool, ◌&&◌, not, nat_le, List, [], ◌∷◌, length, if◌then◌else◌}
 use Rattle.name_index.specs.Name.{longest_name}
-use Rattle.command_words.specs.declared.files.FileWord.{FileWord}
+use Rattle.command_words.specs.declared.files.FileWords.{FileWords}
+use Rattle.command_words.specs.declared.files.FileWords.TheVariants.{None, One, Two}
 use Rattle.command_words.specs.Options.{Word, is_joined, is_option}
-use Rattle.command_words.specs.Texts.{texts}
 
 -- as long as a name
 abbrev pub has_name_length : Word → Bool
@@ -22,7 +22,8 @@ unfoldable mutual
   files_after_value [] = []
   files_after_value (value ∷ words) = files_of words
 
--- the first of them, and those after it
-abbrev pub files_from : Option FileWord → List Word
-files_from None = []
-files_from (Some first) = first.word.now ∷ files_of (texts first.after.now)
+-- those that were given
+abbrev pub files_in : FileWords → List Word
+files_in None = []
+files_in (One first) = first.now ∷ []
+files_in (Two first second) = first.now ∷ second.now ∷ []

@@ -1,42 +1,34 @@
 //! The words of files among the words of a command.
-ghost use Rattle.std.specs.Prelude.{◌≡◌};
-ghost use Rattle.command_words.specs.Files.{files_from, files_of, has_name_length};
-ghost use Rattle.command_words.specs.Texts.{texts};
+ghost use Rattle.std.specs.Prelude.{◌≡◌, ◌++◌, [], ◌∷◌, None, IfSome, length};
+ghost use Rattle.command_words.specs.Files.{files_in, has_name_length};
 
-use crate::options::{is_joined, is_option};
 use name_index::Name;
 
-// A word of a file, and the words after it.
+// The words of files that were given so far. No command takes more than two.
 #[derive(Clone, Copy)]
-pub(crate) struct FileWord<'a> {
-    pub(crate) word: &'a str,
-    pub(crate) after: &'a [String],
+pub(crate) enum FileWords<'a> {
+    None,
+    One(&'a str),
+    Two(&'a str, &'a str),
 }
 
-impl<'a> FileWord<'a> {
-    // The first among the words.
-    #[tactic(auto, unfolding(crate::specs::Files::files_of))]
-    pub(crate) fn first(words: &'a [String]) -> Option<FileWord<'a>>
-        ensures { files_of (texts words.now) ≡ files_from result }
+impl<'a> FileWords<'a> {
+    // One word more; `None` where there are two.
+    pub(crate) fn with(self, word: &'a str) -> Option<FileWords<'a>>
+        ensures more { IfSome result (λ words. files_in words ≡ files_in self.entry ++ word.now ∷ []) }
+        ensures full { result ≡ None → length (files_in self.entry) ≡ 2 }
     {
-        match words {
-            [] => None,
-            [word, after @ ..] if !is_option(word.as_bytes()) => {
-                Some(FileWord {
-                    word: word.as_str(),
-                    after,
-                })
-            }
-            [word, after @ ..] if is_joined(word.as_bytes()) => FileWord::first(after),
-            [_] => None,
-            [_, _, after @ ..] => FileWord::first(after),
+        match self {
+            FileWords::None => Some(FileWords::One(word)),
+            FileWords::One(first) => Some(FileWords::Two(first, word)),
+            FileWords::Two(_, _) => None,
         }
     }
+}
 
-    // Whether the word is as long as a name.
-    pub(crate) fn is_name(&self) -> bool
-        ensures { result ≡ has_name_length self.now.word.now }
-    {
-        1 <= self.word.len() && self.word.len() <= Name::MAX_LEN
-    }
+// Whether a word is as long as a name.
+pub(crate) fn is_name(word: &str) -> bool
+    ensures { result ≡ has_name_length word.now }
+{
+    1 <= word.len() && word.len() <= Name::MAX_LEN
 }

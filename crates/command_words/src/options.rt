@@ -1,7 +1,6 @@
 //! The options among the words of a command.
 ghost use Rattle.std.specs.Prelude.{◌≡◌};
-ghost use Rattle.command_words.specs.Options.{is_joined, is_option, no_options, options_from, setup_by, with_joined, with_option, with_pivots, with_target};
-ghost use Rattle.command_words.specs.Texts.{texts};
+ghost use Rattle.command_words.specs.Options.{is_joined, is_option, no_options, setup_by, with_joined, with_option, with_pivots, with_target};
 
 use crate::words::Setup;
 use item_core::Target;
@@ -24,25 +23,9 @@ impl Options {
         }
     }
 
-    // These options, and those that the words give. Words of files are passed over.
-    #[tactic(auto, unfolding(crate::specs::Options::options_from))]
-    pub(crate) fn read(self, words: &[String]) -> Option<Options>
-        ensures { result ≡ options_from self (texts words.now) }
-    {
-        match words {
-            [] => Some(self),
-            [word, words @ ..] if !is_option(word.as_bytes()) => self.read(words),
-            [word, words @ ..] if is_joined(word.as_bytes()) => {
-                self.with_joined(word.as_bytes())?.read(words)
-            }
-            [_] => None,
-            [name, value, words @ ..] => self.with(name.as_bytes(), value.as_bytes())?.read(words),
-        }
-    }
-
     // These options and the one in the word NAME=VALUE.
     #[tactic(auto, unfolding(crate::specs::Options::with_joined))]
-    fn with_joined(self, word: &[u8]) -> Option<Options>
+    pub(crate) fn with_joined(self, word: &[u8]) -> Option<Options>
         ensures { result ≡ with_joined self word.now }
     {
         let (name, value) = parted_at(word, b'=');
@@ -51,7 +34,7 @@ impl Options {
 
     // These options and one more.
     #[tactic(auto, unfolding(crate::specs::Options::with_option))]
-    fn with(self, name: &[u8], value: &[u8]) -> Option<Options>
+    pub(crate) fn with(self, name: &[u8], value: &[u8]) -> Option<Options>
         ensures { result ≡ with_option self name.now value.now }
     {
         if is(name, "--target") {

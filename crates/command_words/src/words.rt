@@ -1,10 +1,11 @@
 //! What the words of a command say.
 ghost use Rattle.std.specs.Prelude.{◌≡◌, IfOk, IsSome, OnErr};
-ghost use Rattle.command_words.specs.Files.{files_of};
+ghost use Rattle.command_words.specs.Files.{files_in};
 ghost use Rattle.command_words.specs.Texts.{texts};
 ghost use Rattle.command_words.specs.Words.{command_named, command_of, with_both, with_model, without_files};
 
-use crate::files::FileWord;
+use crate::files::{FileWords, is_name};
+use crate::given::Given;
 use crate::options::Options;
 use item_core::Target;
 use lists::Memory;
@@ -42,36 +43,28 @@ pub fn read_words(alloc: Global, words: &[String]) -> Result<Option<Command>, Me
 {
     match words {
         [] => Ok(None),
-        [name, words @ ..] => match Options::none().read(words) {
+        [name, words @ ..] => match Given::read(words) {
             None => Ok(None),
-            Some(options) => command_for(alloc, options, name.as_bytes(), words),
+            Some(given) => command_for(alloc, &given, name.as_bytes()),
         },
     }
 }
 
-// What the command of this name is to do, with these options and the words' files.
+// What the command of this name is to do, with these options and files.
 #[tactic(auto, unfolding(crate::specs::Words::command_named))]
-fn command_for(
-    alloc: Global,
-    options: Options,
-    name: &[u8],
-    words: &[String],
-) -> Result<Option<Command>, Memory>
+fn command_for(alloc: Global, given: &Given<'_>, name: &[u8]) -> Result<Option<Command>, Memory>
     ensures said { IfOk result (λ said.
-        said ≡ command_named name.now options (files_of (texts words.now))) }
+        said ≡ command_named name.now given.now.options (files_in given.now.files)) }
     ensures of_one { OnErr result
-        (IsSome (command_named name.now options (files_of (texts words.now)))) }
+        (IsSome (command_named name.now given.now.options (files_in given.now.files))) }
 {
-    let Some(first) = FileWord::first(words) else {
-        return Ok(without_files(options, name));
-    };
-    let Some(second) = FileWord::first(first.after) else {
-        return with_model(alloc, options, name, &first);
-    };
-    if FileWord::first(second.after).is_some() {
-        return Ok(None);
+    match given.files {
+        FileWords::None => Ok(without_files(given.options, name)),
+        FileWords::One(model) => with_model(alloc, given.options, name, model),
+        FileWords::Two(model, certificate) => {
+            with_both(alloc, given.options, name, model, certificate)
+        }
     }
-    with_both(alloc, options, name, &first, &second)
 }
 
 // `run` and `plan`.
@@ -92,19 +85,19 @@ fn with_model(
     alloc: Global,
     options: Options,
     name: &[u8],
-    model: &FileWord<'_>,
+    model: &str,
 ) -> Result<Option<Command>, Memory>
     ensures said { IfOk result (λ said.
-        said ≡ with_model options name.now model.now.word.now) }
+        said ≡ with_model options name.now model.now) }
     ensures of_one { OnErr result
-        (IsSome (with_model options name.now model.now.word.now)) }
+        (IsSome (with_model options name.now model.now)) }
 {
-    if !is(name, "solve") || !model.is_name() {
+    if !is(name, "solve") || !is_name(model) {
         return Ok(None);
     }
     Ok(Some(Command::Solve {
         setup: options.setup(),
-        model: file_name(alloc, model.word)?,
+        model: file_name(alloc, model)?,
     }))
 }
 
@@ -113,23 +106,23 @@ fn with_both(
     alloc: Global,
     options: Options,
     name: &[u8],
-    model: &FileWord<'_>,
-    certificate: &FileWord<'_>,
+    model: &str,
+    certificate: &str,
 ) -> Result<Option<Command>, Memory>
     ensures said { IfOk result (λ said. said ≡ with_both options name.now
-        model.now.word.now certificate.now.word.now) }
+        model.now certificate.now) }
     ensures of_one { OnErr result (IsSome (with_both options name.now
-        model.now.word.now certificate.now.word.now)) }
+        model.now certificate.now)) }
 {
     if !is(name, "check") || options.target.is_some() || options.pivots.is_some() {
         return Ok(None);
     }
-    if !model.is_name() || !certificate.is_name() {
+    if !is_name(model) || !is_name(certificate) {
         return Ok(None);
     }
     Ok(Some(Command::Check {
-        model: file_name(alloc, model.word)?,
-        certificate: file_name(alloc, certificate.word)?,
+        model: file_name(alloc, model)?,
+        certificate: file_name(alloc, certificate)?,
     }))
 }
 
