@@ -1,7 +1,7 @@
 -- Families among those of bridges.
 use Rattle.std.specs.Prelude.{◌≡◌, ℕ, zero, suc, Bool, true, false, ◌||◌, not, cond, List, [], ◌∷◌, Some, All, IsTrue, map, slice_get, slice_set, refl}
 use Rattle.std.specs.List.{list_any}
-use Rattle.std.proofs.Common.{rules, sym, ap, subst, ◌∙◌, true≢false}
+use Rattle.std.proofs.Common.{sym, ap, subst, ◌∙◌, true≢false}
 use Rattle.std.proofs.lemmas.Bool.{not-true, or_parts, or_right}
 use Rattle.std.proofs.lemmas.List.Elements.{All-head, All-tail}
 use Rattle.std.proofs.lemmas.Option.{none-some, same_Some}

@@ -1,8 +1,8 @@
-use Rattle.std.proofs.Common.{◌≡◌, ◌<◌, length, map, arith, sym, ap, subst, refl, ◌∙◌}
+use Rattle.std.proofs.Common.{map, arith, subst, refl}
 use Rattle.std.specs.Prelude.{slice_index_or, slice_set}
-use Rattle.bridge_face.specs.State.{State, child_rows_of, found}
+use Rattle.bridge_face.specs.State.{child_rows_of, found}
 use Rattle.boxes.specs.Letting.{LetsGo}
-use Rattle.boxes.proofs.Stands.{lets_go_here, lets_go_nowhere, mapped_none, mapped_some}
+use Rattle.boxes.proofs.Stands.{lets_go_here, lets_go_nowhere, mapped_some}
 use Rattle.boxes.proofs.places.let_go_by.Goals as goal
 
 pub returns-then-is_some : goal.returns-then-is_some

@@ -1,4 +1,4 @@
-use Rattle.std.proofs.Common.{◌≡◌, ◌≤◌, ◌+◌, [], arith, rules, map, sym, ap, subst, length, ◌∙◌}
+use Rattle.std.proofs.Common.{arith, rules, map, sym, ap, subst, length, ◌∙◌}
 use Rattle.std.specs.Vec.Iter.{into_iter_items}
 use Rattle.std.proofs.lemmas.List.{nil_from_length}
 use Rattle.boxes.specs.Boxed.{kept_by}

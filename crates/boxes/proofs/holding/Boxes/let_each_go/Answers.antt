@@ -1,4 +1,4 @@
-use Rattle.std.proofs.Common.{◌≡◌, ◌+◌, ◌∷◌, All, drop, map, arith, ap, ◌∙◌, sym, subst, refl}
+use Rattle.std.proofs.Common.{◌+◌, All, drop, map, arith, ap, ◌∙◌, sym, subst, refl}
 use Rattle.std.proofs.lemmas.List.{drop_all}
 use Rattle.std.proofs.lemmas.List.Elements.{All-head, All-tail}
 use Rattle.boxes.specs.Boxed.{kept_by}

@@ -1,7 +1,7 @@
 use Rattle.std.proofs.Common.{◌≡◌, ◌≤◌, ◌+◌, ◌++◌, List, length, map, drop, take, arith, sym, ap, subst, ◌∙◌}
 use Rattle.bridge_face.specs.State.{State}
 use Rattle.boxes.specs.Boxed.{Boxed, families_of, kept_by}
-use Rattle.boxes.specs.Letting.{IsAlone, LetsGo, without}
+use Rattle.boxes.specs.Letting.{IsAlone, without}
 use Rattle.boxes.proofs.LettingSteps.{let_go_families, let_go_kept, let_go_turns}
 use Rattle.boxes.specs.Turns.{turns_of}
 use Rattle.boxes.proofs.Made.{items_back, sound_still}
