@@ -1,5 +1,5 @@
 -- The files of a shelf, and what a fetch gives of them.
-use Rattle.std.specs.Prelude.{◌≡◌, ℕ, ⊤, List, [], length, nat_le, if◌then◌else◌, Option, Some, None, Result, Ok, Err, unwrap_or}
+use Rattle.std.specs.Prelude.{◌≡◌, ℕ, ⊤, List, [], ◌++◌, length, nat_le, if◌then◌else◌, Option, Some, None, Result, Ok, Err, option_map, unwrap_or}
 use Rattle.std.specs.Cmp.Lexicographic.{slice_cmp}
 use Rattle.std.specs.FinMap.{FinMap, get}
 use Rattle.std.specs.Io.{StartsWith}
@@ -23,6 +23,10 @@ fetched_file (Some bytes) = if nat_le (length bytes) file_limit then Ok bytes el
 -- what fetching the file of a name gives: its bytes, or why not
 abbrev pub fetched : FilesByName → List ℕ → Result (List ℕ) FetchFault
 fetched files name = fetched_file (get files name)
+
+-- the names that were asked for are those before, and then these, where they are told
+abbrev pub AsksFor : Option (List (List ℕ)) → Option (List (List ℕ)) → List (List ℕ) → Type 0
+AsksFor old new names = new ≡ option_map (λ asked. asked ++ names) old
 
 -- fetching the file of a name gives this, where the files are told
 abbrev pub Gives : Option FilesByName → List ℕ → Result (List ℕ) FetchFault → Type 0

@@ -1,7 +1,7 @@
 //! Where a program gets files from.
-ghost use Rattle.std.specs.Prelude.{◌≡◌, ℕ, ◌≤◌, Bool, [], Ok, Err, Option, IsSome, IsTrue, OnOk, OnErr, IsErrOf, length};
+ghost use Rattle.std.specs.Prelude.{◌≡◌, ◌≢◌, ℕ, ◌≤◌, Bool, List, [], ◌∷◌, Ok, Err, Option, None, IsSome, IsTrue, OnOk, OnErr, IsErrOf, length};
 ghost use Rattle.io_face.specs.Fault.{HasFaulted};
-ghost use Rattle.io_face.specs.Shelf.{FilesByName, Gives, GivesFront, file_limit};
+ghost use Rattle.io_face.specs.Shelf.{AsksFor, FilesByName, Gives, GivesFront, file_limit};
 ghost use Rattle.io_face.specs.declared.shelf.FetchFault.TheVariants.{Failed, Memory};
 
 use crate::source::Failed;
@@ -41,13 +41,16 @@ impl From<Failed> for FetchFault {
 }
 
 /// Where files are fetched from by their names. No call changes them. A fetch that fails is
-/// counted.
+/// counted, and each is noted with its name, unless memory ran out.
 pub trait Shelf {
     /// The files, where the shelf tells them.
     ghost files: { Self → Option FilesByName };
 
     /// Whether a fetch fails only where there is no file of the name. Such a shelf tells its files.
     ghost sure: { Self → Bool };
+
+    /// The names of the files that were asked for so far, where the shelf tells them.
+    ghost asked: { Self → Option (List (List ℕ)) } = { λ _. None };
 
     /// The count that `faults` gives.
     ghost faults: { Self → ℕ };
@@ -67,7 +70,10 @@ pub trait Shelf {
             → Gives (files self.old) name.now (Err FetchFault.Failed) }
         ensures count { faults self.old ≤ faults self.new }
         ensures cause { IsErrOf result FetchFault.Failed
-            → HasFaulted (faults self.old) (faults self.new) };
+            → HasFaulted (faults self.old) (faults self.new) }
+        ensures sound { result ≢ Err FetchFault.Failed → faults self.new ≡ faults self.old }
+        ensures asks { result ≢ Err FetchFault.Memory
+            → AsksFor (asked self.old) (asked self.new) (name.now ∷ []) };
 
     /// How many fetches failed; `u64::MAX` stands for more too.
     fn faults(&self) -> u64

@@ -42,7 +42,8 @@ pub trait Sink {
         ensures failed { OnErr result (written self.new ≡ written self.old) }
         ensures count { faults self.old ≤ faults self.new }
         ensures cause { IsErrOf result SinkFault.Failed
-            → HasFaulted (faults self.old) (faults self.new) };
+            → HasFaulted (faults self.old) (faults self.new) }
+        ensures sound { OnOk result (faults self.new ≡ faults self.old) };
 
     /// How many writes failed for another cause than memory; `u64::MAX` stands for more too.
     fn faults(&self) -> u64
@@ -56,6 +57,7 @@ pub fn write_all<O: Sink>(output: &mut O, text: &[u8]) -> Result<(), SinkFault>
     ensures count { O.faults output.old ≤ O.faults output.new }
     ensures cause { IsErrOf result SinkFault.Failed
         → HasFaulted (O.faults output.old) (O.faults output.new) }
+    ensures sound { OnOk result (O.faults output.new ≡ O.faults output.old) }
 {
     let mut done = 0;
     while done < text.len() {

@@ -1,5 +1,5 @@
 //! What a program reads from.
-ghost use Rattle.std.specs.Prelude.{◌≡◌, ℕ, ◌<◌, ◌≤◌, List, Option, length, take, IfOk, OnErr};
+ghost use Rattle.std.specs.Prelude.{◌≡◌, ℕ, ◌<◌, ◌≤◌, List, Option, length, take, IfOk, OnOk, OnErr};
 ghost use Rattle.std.specs.Io.KnownBytes.{IsAtEnd};
 ghost use Rattle.io_face.specs.Fault.{HasFaulted};
 ghost use Rattle.io_face.specs.Source.{Takes};
@@ -11,7 +11,7 @@ use thiserror::Error;
 #[error("reading failed")]
 pub struct Failed;
 
-/// What bytes are read from. A read that fails takes none, and is counted.
+/// What bytes are read from. A read that fails takes none, and is counted, and no other is.
 pub trait Source {
     /// The bytes that reads are still to give, where the source tells them.
     ghost left: { Self → Option (List ℕ) };
@@ -27,7 +27,8 @@ pub trait Source {
         ensures end { IfOk result (λ n. n ≡ 0 → 0 < length into.old → IsAtEnd (left self.old)) }
         ensures failed { OnErr result (left self.new ≡ left self.old) }
         ensures count { faults self.old ≤ faults self.new }
-        ensures cause { OnErr result (HasFaulted (faults self.old) (faults self.new)) };
+        ensures cause { OnErr result (HasFaulted (faults self.old) (faults self.new)) }
+        ensures sound { OnOk result (faults self.new ≡ faults self.old) };
 
     /// How many reads failed; `u64::MAX` stands for more too.
     fn faults(&self) -> u64

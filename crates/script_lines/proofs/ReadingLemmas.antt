@@ -20,6 +20,10 @@ use Rattle.script_lines.specs.Reading.{Held, allowance, rest_of, HasLongLine, Is
 use Rattle.script_lines.specs.LinesLaws.{ended_lines-unended, ended_lines-ended, lines-unended, lines-ended}
 use Rattle.script_lines.specs.ReadingLaws.{prepend-append, told_always, told_behind, told_weaker}
 
+-- while a line is held with its newline, not all that is held is without one
+pub none_held : (old held : List ℕ) → ¬ IsUnended old → held ≡ old → IsUnended held → ⊥
+none_held old held holds same unended = holds (subst IsUnended same unended)
+
 -- a line loses at most one byte to its carriage return
 pub length-strip : (text : List ℕ) → (length (strip_carriage_return text) ≤ length text)
     × (length text ≤ length (strip_carriage_return text) + 1)

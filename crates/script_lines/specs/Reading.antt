@@ -11,6 +11,10 @@ pub record Held : Type 0 where
   pub held : List ℕ
   pub room : ℕ
 
+-- a line is held with its newline
+abbrev pub HoldsLine : Held → Type 0
+HoldsLine reader = ¬ IsUnended reader.held
+
 -- how many bytes may still be given
 abbrev pub allowance : Held → ℕ
 allowance reader = length reader.held + reader.room

@@ -1,5 +1,5 @@
 //! Lines out of a source, one at a time.
-ghost use Rattle.std.specs.Prelude.{◌≡◌, ◌≢◌, ℕ, List, ◌+◌, ◌<◌, ◌≤◌, ◌==◌, nat_le, if◌then◌else◌, [], ◌∷◌, ◌++◌, true, false, length, take, Ok, Err, IfOk, IfErr, OnErr, IfSome};
+ghost use Rattle.std.specs.Prelude.{◌≡◌, ◌≢◌, ℕ, List, ◌+◌, ◌<◌, ◌≤◌, ◌==◌, nat_le, if◌then◌else◌, [], ◌∷◌, ◌++◌, true, false, length, take, Ok, Err, IfOk, IfErr, OnOk, OnErr, IfSome};
 ghost use Rattle.std.specs.Str.Lines.{strip_carriage_return};
 ghost use Rattle.std.specs.Io.KnownBytes.{IsAtEnd};
 ghost use Rattle.io_face.specs.Fault.{HasFaulted};
@@ -74,7 +74,7 @@ impl Model for LineReader {
 }
 
 impl LineReader {
-    ghost use Rattle.script_lines.specs.Reading.{IsTooLong, allowance, rest_of, GivesLine, GivesLastLine, GivesNothing, LosesPart};
+    ghost use Rattle.script_lines.specs.Reading.{HoldsLine, IsTooLong, allowance, rest_of, GivesLine, GivesLastLine, GivesNothing, LosesPart};
 
     /// Nothing is read yet, and an input of the greatest length may be.
     pub fn new(alloc: Global) -> Result<LineReader, AllocError>
@@ -127,6 +127,7 @@ impl LineReader {
         ensures no_memory { result ≢ Err ReadStop.Memory }
         ensures taken { TakesAtMost (self.old.room + 1) (I.left input.old) (I.left input.new) }
         ensures count { I.faults input.old ≤ I.faults input.new }
+        ensures sound { OnOk result (I.faults input.new ≡ I.faults input.old) }
     {
         if self.room == 0 {
             return probe(input);
@@ -140,7 +141,7 @@ impl LineReader {
     }
 
     /// Reads the next line into `line`, without its newline and the one carriage return before it.
-    /// After an `Err` what was read of a line is lost.
+    /// After an `Err` what was read of a line is lost. While a whole line is held nothing is read.
     pub fn next_line<I: Source>(
         &mut self,
         input: &mut I,
@@ -160,6 +161,8 @@ impl LineReader {
             → IfSome (rest_of self.old (I.left input.old)) (IsTooLong (allowance self.old)) }
         ensures taken { TakesAtMost (self.old.room + 1) (I.left input.old) (I.left input.new) }
         ensures count { I.faults input.old ≤ I.faults input.new }
+        ensures sound { OnOk result (I.faults input.new ≡ I.faults input.old) }
+        ensures held { HoldsLine self.old → input.new ≡ input.old }
     {
         line.clear();
         'reading: loop {
@@ -193,6 +196,7 @@ fn read_front<I: Source>(input: &mut I, buffer: &mut [u8], most: usize) -> Resul
     ensures only_read_fault { IfErr result (λ stop. stop ≡ ReadStop.ReadFault) }
     ensures few { TakesAtMost most (I.left input.old) (I.left input.new) }
     ensures count { I.faults input.old ≤ I.faults input.new }
+    ensures sound { OnOk result (I.faults input.new ≡ I.faults input.old) }
 {
     match input.read(&mut buffer[..most]) {
         Ok(count) => Ok(count),
@@ -211,6 +215,7 @@ fn probe<I: Source>(input: &mut I) -> Result<bool, ReadStop>
     ensures no_memory { result ≢ Err ReadStop.Memory }
     ensures few { TakesAtMost 1 (I.left input.old) (I.left input.new) }
     ensures count { I.faults input.old ≤ I.faults input.new }
+    ensures sound { OnOk result (I.faults input.new ≡ I.faults input.old) }
 {
     let mut byte = [0u8; 1];
     match input.read(&mut byte) {

@@ -6,7 +6,7 @@ use Rattle.std.proofs.lemmas.Bool.{cases_Bool}
 use Rattle.std.proofs.lemmas.Result.{err_from_is_err_and}
 use Rattle.io_face.specs.FaultLaws.{HasFaulted-within}
 use Rattle.script_lines.specs.Limits.{line_limit}
-use Rattle.script_lines.proofs.ReadingLemmas.{ended_turn, unended_turn, more_read, line_too_long, part_too_long, end_too_long, input_too_long, strip-front, last_line_fits, last_line_is_long, TookSoFar, took_at_most, took_more}
+use Rattle.script_lines.proofs.ReadingLemmas.{ended_turn, unended_turn, more_read, line_too_long, part_too_long, end_too_long, input_too_long, none_held, strip-front, last_line_fits, last_line_is_long, TookSoFar, took_at_most, took_more}
 use Rattle.script_lines.proofs.line_reader.LineReader.next_line.Goals as goal
 
 pub returns-then-len-gt-LINE_LIMIT-clause-too_long : goal.returns-then-len-gt-LINE_LIMIT-clause-too_long
@@ -99,6 +99,9 @@ reading-preserved g c =
           (subst (TookSoFar _ _ _) (sym c.in_ok-is_ended.ensures.room) c.reading.invariant.taken)
           nothing more.0 more.2;
       faults = omega (arith, c.reading.invariant.faults, c.in_ok-fill.ensures.count);
+      sound = c.in_ok-fill.ensures.sound ∙ c.reading.invariant.sound;
+      held = λ holds. absurd (none_held _ _ holds (c.reading.invariant.held holds).0
+          (c.in_ok-is_ended.ensures.unended (ap Ok c.if-is_ended.false)).0);
     }
 
 pub returns-then-not-branch-clause-last_line : goal.returns-then-not-branch-clause-last_line
@@ -140,3 +143,13 @@ returns-in_err-fill-clause-taken g c =
     took_at_most _ _ _ _ c.move_held.new.self.room
     (subst (TookSoFar _ _ _) (sym c.in_ok-is_ended.ensures.room) c.reading.invariant.taken)
     c.in_err-fill.ensures.taken
+
+pub returns-in_err-fill-clause-held : goal.returns-in_err-fill-clause-held
+returns-in_err-fill-clause-held g c = λ holds.
+    absurd (none_held _ _ holds (c.reading.invariant.held holds).0
+    (c.in_ok-is_ended.ensures.unended (ap Ok c.if-is_ended.false)).0)
+
+pub returns-then-not-branch-clause-held : goal.returns-then-not-branch-clause-held
+returns-then-not-branch-clause-held g c = λ holds.
+    absurd (none_held _ _ holds (c.reading.invariant.held holds).0
+    (c.in_ok-is_ended.ensures.unended (ap Ok c.if-is_ended.false)).0)

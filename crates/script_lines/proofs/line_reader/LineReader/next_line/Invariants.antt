@@ -1,6 +1,6 @@
 -- The line so far, and what is held and left behind it, are what was not given.
-use Rattle.std.proofs.Common.{◌≤◌}
-use Rattle.script_lines.specs.Reading.{allowance, rest_of}
+use Rattle.std.proofs.Common.{◌≡◌, ◌≤◌}
+use Rattle.script_lines.specs.Reading.{HoldsLine, allowance, rest_of}
 use Rattle.script_lines.proofs.ReadingLemmas.{SoFar, TookSoFar}
 use Rattle.script_lines.proofs.line_reader.LineReader.next_line.Given as goal
 
@@ -11,6 +11,9 @@ invariant-reading g l = record {
   taken : TookSoFar (g.I.Source.left l.initial.input)
       (g.I.Source.left l.input) l.initial.self.room l.self.room;
   faults : g.I.Source.faults l.initial.input ≤ g.I.Source.faults l.input;
+  sound : g.I.Source.faults l.input ≡ g.I.Source.faults l.initial.input;
+  held : HoldsLine l.initial.self
+      → (l.self.held ≡ l.initial.self.held) × (l.input ≡ l.initial.input);
 }
 
 abbrev pub decreases-reading : goal.decreases-reading
