@@ -1,6 +1,7 @@
 //! Fetching and reading a file.
-ghost use Rattle.std.specs.Prelude.{◌≡◌, ◌≢◌, ◌≤◌, Err, IfErr, IsErrOf};
+ghost use Rattle.std.specs.Prelude.{◌≡◌, ◌≢◌, ◌≤◌, [], ◌∷◌, Err, IfErr, IsErrOf};
 ghost use Rattle.io_face.specs.Fault.{HasFaulted};
+ghost use Rattle.io_face.specs.Shelf.{AsksFor};
 ghost use Rattle.io_face.specs.Told.{told_by};
 ghost use Rattle.mof_fetch.specs.Fetched.{HasNumber, IsReadOf, walked};
 ghost use Rattle.mof_read.specs.Edits.{edits_in};
@@ -11,8 +12,8 @@ use mof_read::{Edits, read};
 use name_index::Name;
 use std::alloc::Global;
 
-/// Fetches the file of a name, and reads the edits that make its model from an empty one. The
-/// file's bytes are let go before it returns.
+/// Fetches the file of a name, once and no other, and reads the edits that make its model from an
+/// empty one. The file's bytes are let go before it returns.
 pub fn fetch_edits<H: Shelf>(alloc: Global, shelf: &mut H, name: &Name) -> Result<Edits, FileFault>
     ensures read { IsReadOf (told_by (H.files shelf.old) (H.sure shelf.old)) name.now result }
     ensures number { IfErr result HasNumber }
@@ -21,6 +22,9 @@ pub fn fetch_edits<H: Shelf>(alloc: Global, shelf: &mut H, name: &Name) -> Resul
     ensures count { H.faults shelf.old ≤ H.faults shelf.new }
     ensures cause { IsErrOf result FileFault.Failed
         → HasFaulted (H.faults shelf.old) (H.faults shelf.new) }
+    ensures sound { result ≢ Err FileFault.Failed → H.faults shelf.new ≡ H.faults shelf.old }
+    ensures asks { result ≢ Err FileFault.Memory
+        → AsksFor (H.asked shelf.old) (H.asked shelf.new) (name.now ∷ []) }
 {
     let mut bytes = Vec::new(alloc);
     match shelf.fetch(name.text(), &mut bytes) {
