@@ -19,18 +19,18 @@ use cert_core::{Variables, adjoint_of_rows, cost, reduced_cost, sense};
 use lists::Memory;
 use ratio_core::{NumberFault, Ratio, Ratios};
 use std::alloc::Global;
-use user_model::{Objective, Row};
+use user_model::{Objective, Rows};
 
 /// What rows and objective leave for each variable.
 pub(crate) fn reduced_costs(
     alloc: Global,
     objective: &Objective,
     users: &Variables,
-    rows: &[Row],
+    rows: &Rows,
     duals: &[Ratios],
 ) -> Result<Vec<Ratio>, BackFault>
-    requires { HasRowDuals rows.now duals.now }
-    ensures { let hs = dual.rows_with duals.now rows.now in
+    requires { HasRowDuals rows.now.items duals.now }
+    ensures { let hs = dual.rows_with duals.now rows.now.items in
         let sense = sense_of objective.now in
         let cost = coefficient (objective_function objective.now) in
         Tells result
@@ -68,11 +68,11 @@ fn cost_left(objective: &Objective, user: &Address, adjoint: &Ratio) -> Result<R
 pub(crate) fn cancelling(
     alloc: Global,
     users: &Variables,
-    rows: &[Row],
+    rows: &Rows,
     duals: &[Ratios],
 ) -> Result<Vec<Ratio>, BackFault>
-    requires { HasRowDuals rows.now duals.now }
-    ensures { let hs = dual.rows_with duals.now rows.now in
+    requires { HasRowDuals rows.now.items duals.now }
+    ensures { let hs = dual.rows_with duals.now rows.now.items in
         Tells result (All (λ v. AddUp zero_ℚ (adjoint_parts hs v)) users.now)
         (λ vars. vars.items ≡ map (λ v. neg_ℚ (adjoint hs v)) users.now)
         (FirstNot (λ v. AddUp zero_ℚ (adjoint_parts hs v)) (λ v. v) users.now) }
@@ -92,11 +92,11 @@ pub(crate) fn cancelling(
 fn adjoints(
     alloc: Global,
     users: &Variables,
-    rows: &[Row],
+    rows: &Rows,
     duals: &[Ratios],
 ) -> Result<Vec<Ratio>, Memory>
-    requires { HasRowDuals rows.now duals.now }
-    ensures { let parts = adjoint_parts (dual.rows_with duals.now rows.now) in
+    requires { HasRowDuals rows.now.items duals.now }
+    ensures { let parts = adjoint_parts (dual.rows_with duals.now rows.now.items) in
         IfOk result (λ sums. IsAsFarAs (λ v. AddUp zero_ℚ (parts v))
         (λ v. sum_from zero_ℚ (parts v)) users.now sums.items) }
 {
@@ -112,14 +112,14 @@ fn adjoints(
 fn up_to_unfit(
     alloc: Global,
     users: &[Address],
-    rows: &[Row],
+    rows: &Rows,
     duals: &[Ratios],
 ) -> Result<Vec<Ratio>, Memory>
     requires ascend { Ascend users.now }
-    requires duals { HasRowDuals rows.now duals.now }
-    requires unfit { let parts = adjoint_parts (dual.rows_with duals.now rows.now) in
+    requires duals { HasRowDuals rows.now.items duals.now }
+    requires unfit { let parts = adjoint_parts (dual.rows_with duals.now rows.now.items) in
         ¬ (All (λ v. AddUp zero_ℚ (parts v)) users.now) }
-    ensures { let parts = adjoint_parts (dual.rows_with duals.now rows.now) in
+    ensures { let parts = adjoint_parts (dual.rows_with duals.now rows.now.items) in
         IfOk result (λ sums. IsAsFarAs (λ v. AddUp zero_ℚ (parts v))
         (λ v. sum_from zero_ℚ (parts v)) users.now sums.items) }
 {
@@ -139,12 +139,12 @@ fn up_to_unfit(
 fn adjoints_of(
     alloc: Global,
     users: &[Address],
-    rows: &[Row],
+    rows: &Rows,
     duals: &[Ratios],
 ) -> Result<Vec<Ratio>, NumberFault>
     requires ascend { Ascend users.now }
-    requires duals { HasRowDuals rows.now duals.now }
-    ensures { let parts = adjoint_parts (dual.rows_with duals.now rows.now) in
+    requires duals { HasRowDuals rows.now.items duals.now }
+    ensures { let parts = adjoint_parts (dual.rows_with duals.now rows.now.items) in
         ExactWhere result (All (λ v. AddUp zero_ℚ (parts v)) users.now)
         (λ sums. sums.items ≡ map (λ v. sum_from zero_ℚ (parts v)) users.now) }
 {

@@ -19,7 +19,7 @@ use aff_core::{Address, Root};
 use cert_core::{plus_group, plus_row};
 use model_store::UserModel;
 use ratio_core::{Ratio, Ratios};
-use user_model::{Group, Row};
+use user_model::{Group, Groups, Row, Rows};
 
 /// The gap of rows and variables with these duals.
 pub(crate) fn gap(model: &UserModel, rows: &[Ratios], vars: &[Ratio]) -> Result<Ratio, BackFault>
@@ -33,11 +33,11 @@ pub(crate) fn gap(model: &UserModel, rows: &[Ratios], vars: &[Ratio]) -> Result<
     plus_each_group(&of_rows, model.groups(), vars)
 }
 
-fn gap_of_rows(rows: &[Row], duals: &[Ratios]) -> Result<Ratio, BackFault>
-    requires sets { All HasRowSet rows.now }
-    requires entries { HasRowDuals rows.now duals.now }
-    ensures { let hs = rows_with duals.now rows.now in
-        let all = zip (map row_place rows.now) hs in
+fn gap_of_rows(rows: &Rows, duals: &[Ratios]) -> Result<Ratio, BackFault>
+    requires sets { All HasRowSet rows.now.items }
+    requires entries { HasRowDuals rows.now.items duals.now }
+    ensures { let hs = rows_with duals.now rows.now.items in
+        let all = zip (map row_place rows.now.items) hs in
         Tells result (GapFits zero_ℚ all) (λ q. q ≡ sum_from zero_ℚ (gap_parts hs))
         (UnfitGap zero_ℚ all) }
 {
@@ -62,18 +62,18 @@ fn with_row(sum: &Ratio, row: &Row, duals: &[Ratio]) -> Result<Ratio, BackFault>
 }
 
 // A gap with what each group adds to it, wherever these are the variables' duals.
-fn plus_each_group(of_rows: &Ratio, groups: &[Group], duals: &[Ratio]) -> Result<Ratio, BackFault>
-    requires sets { All HasGroupSet groups.now }
-    requires size { length duals.now ≡ length (all_addresses groups.now) }
-    ensures { (w : Address → Rational) → map w (all_addresses groups.now) ≡ duals.now
-        → let hs = groups_with w groups.now in
-        let all = zip (map group_place groups.now) hs in
+fn plus_each_group(of_rows: &Ratio, groups: &Groups, duals: &[Ratio]) -> Result<Ratio, BackFault>
+    requires sets { All HasGroupSet groups.now.items }
+    requires size { length duals.now ≡ length (all_addresses groups.now.items) }
+    ensures { (w : Address → Rational) → map w (all_addresses groups.now.items) ≡ duals.now
+        → let hs = groups_with w groups.now.items in
+        let all = zip (map group_place groups.now.items) hs in
         Tells result (GapFits of_rows.now all) (λ q. q ≡ sum_from of_rows.now (gap_parts hs))
         (UnfitGap of_rows.now all) }
 {
     let mut sum = *of_rows;
     let mut left = duals;
-    for group in groups {
+    for group in groups.iter() {
         let (own, others) = left.split_at(group.vars.len());
         sum = with_group(&sum, group, own)?;
         left = others;

@@ -15,7 +15,7 @@ use lists::{Memory, Sequence};
 use ratio_core::{NumberFault, Ratio, Ratios};
 use solver_store::LeafDuals;
 use std::alloc::Global;
-use user_model::Row;
+use user_model::{Row, Rows};
 
 // A row has fewer levels below it than there are kinds.
 const LEVELS: u8 = 36;
@@ -26,16 +26,16 @@ pub(crate) fn row_duals<B: Bridge>(
     bridges: &[B],
     places: &AddressMap,
     y: &LeafDuals,
-    rows: &[Row],
+    rows: &Rows,
 ) -> Result<Vec<Ratios>, BackFault>
-    requires { AreWithin (map B.state bridges.now) (duals_by places.now y.now) rows.now }
+    requires { AreWithin (map B.state bridges.now) (duals_by places.now y.now) rows.now.items }
     ensures { let states = map B.state bridges.now in let leaf = duals_by places.now y.now in
-        Tells result (All (RowDualFits states leaf) rows.now)
-        (λ duals. duals.items ≡ map (row_dual states leaf) rows.now)
-        (IsUnfitAmong states leaf rows.now) }
+        Tells result (All (RowDualFits states leaf) rows.now.items)
+        (λ duals. duals.items ≡ map (row_dual states leaf) rows.now.items)
+        (IsUnfitAmong states leaf rows.now.items) }
 {
     let mut duals = Vec::with_capacity(alloc, rows.len())?;
-    for row in rows {
+    for row in rows.iter() {
         duals.push(user_dual(alloc, bridges, places, y, row)?)?;
     }
     Ok(duals)

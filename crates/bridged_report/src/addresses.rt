@@ -6,7 +6,6 @@ ghost use Rattle.bridged_report.specs.Addresses.{address_text, group_name, posit
 use aff_core::{Address, Root};
 use model_store::UserModel;
 use name_index::Name;
-use numbered::with_number;
 use ratio_core::Memory;
 use report_core::Draft;
 
@@ -46,7 +45,7 @@ fn push_root(draft: &mut Draft, model: &UserModel, root: Root, number: u32) -> R
 pub(crate) fn group_name(model: &UserModel, number: u32) -> Option<&Name>
     ensures { option_copied result ≡ group_name model.now.model number }
 {
-    let group = with_number(model.groups(), number)?;
+    let group = model.groups().get(number)?;
     let first = group.vars.as_slice().first()?;
     Some(&first.name)
 }
@@ -54,7 +53,7 @@ pub(crate) fn group_name(model: &UserModel, number: u32) -> Option<&Name>
 pub(crate) fn row_name(model: &UserModel, number: u32) -> Option<&Name>
     ensures { option_copied result ≡ row_name model.now.model number }
 {
-    let row = with_number(model.rows(), number)?;
+    let row = model.rows().get(number)?;
     Some(&row.name)
 }
 

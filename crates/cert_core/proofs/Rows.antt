@@ -13,6 +13,7 @@ use Rattle.cert_core.specs.Folds.{adjoint_parts, products}
 use Rattle.set_core.specs.Shapes.{dimension_of}
 use Rattle.certificates.specs.Points.{functions_of}
 use Rattle.cert_core.specs.Checked.{HasEachDual, HasRowDuals}
+use Rattle.cert_core.specs.CountedLaws.{counted_next}
 use Rattle.cert_core.specs.Holding.{HasRowSet}
 use Rattle.certificates.specs.Duals.{row_with, rows_with}
 
@@ -55,11 +56,14 @@ row_size ys rows i y r entries y_is r_is lt =
     (subst (All HasEachDual) (next_row ys rows i y r entries.each y_is r_is lt)
     (All-drop HasEachDual i (rows_with ys rows) entries.components))
 
+pub has_set_at : (rows : List Row) (i : ℕ) (r : Row) → All HasRowSet rows → r ≡ get_or rows i r
+    → i < length rows → HasRowSet r
+has_set_at rows i r sets r_is lt =
+    subst HasRowSet (sym r_is) (All-get_or HasRowSet rows i r lt sets)
+
 pub row_set : (rows : List Row) (i : ℕ) (r : Row) → All HasRowSet rows → r ≡ get_or rows i r
     → i < length rows → length (functions_of r.func) ≡ dimension_of r.set
-row_set rows i r sets r_is lt =
-    let here : HasRowSet r = subst HasRowSet (sym r_is) (All-get_or HasRowSet rows i r lt sets) in
-    here.dimension
+row_set rows i r sets r_is lt = (has_set_at rows i r sets r_is lt).dimension
 
 -- what is left to add to the adjoint begins with the row's parts
 pub next_parts : (ys : List (List Rational)) (rows : List Row) (i : ℕ) (y : List Rational) (r : Row)
@@ -71,3 +75,23 @@ next_parts ys rows i y r slice fs e y_is r_is lt slice_is fs_is v =
     ap (λ l. adjoint_parts l v) (next_row ys rows i y r e y_is r_is lt)
     ∙ ap₂ (λ w gs. products w (coefficients gs v)
     ++ adjoint_parts (drop (i + 1) (rows_with ys rows)) v) (sym slice_is) (sym fs_is)
+
+-- a row of those that are gone through, with its duals
+pub record RowTurn (rows rest : List Row) (ys : List (List Rational)) (i : ℕ) (y : List Rational)
+    (r : Row) : Type 0 where
+  pub within : i < length rows
+  pub row : r ≡ get_or rows i r
+  pub duals : y ≡ get_or ys i y
+  pub rest_is : rest ≡ drop (i + 1) rows
+
+pub row_turn : (rows left rest : List Row) (ys : List (List Rational)) (i : ℕ)
+    (y : List Rational) (r : Row) → left ≡ drop i rows → left ≡ r ∷ rest → y ≡ get_or ys i y
+    → RowTurn rows rest ys i y r
+row_turn rows left rest ys i y r so_far next is =
+    let at = counted_next rows left i so_far rest r next in
+    record {
+      within = at.within;
+      row = at.is;
+      duals = is;
+      rest_is = at.rest_is;
+    }

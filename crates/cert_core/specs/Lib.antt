@@ -8,3 +8,4 @@ pub mod Holding
 pub mod Folds
 pub mod Adding
 pub mod Checked
+pub mod CountedLaws

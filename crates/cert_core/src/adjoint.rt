@@ -20,17 +20,17 @@ use crate::variables::Variables;
 use aff_core::{Address, Aff};
 use ratio_core::{Memory, NumberFault, Ratio, Ratios};
 use std::alloc::Global;
-use user_model::Row;
+use user_model::Rows;
 
 /// For each variable its coefficients times the duals, added over rows and components.
 pub fn adjoint_of_rows(
     alloc: Global,
     variables: &Variables,
-    rows: &[Row],
+    rows: &Rows,
     duals: &[Ratios],
 ) -> Result<Vec<Ratio>, NumberFault>
-    requires { HasRowDuals rows.now duals.now }
-    ensures { let parts = adjoint_parts (rows_with duals.now rows.now) in
+    requires { HasRowDuals rows.now.items duals.now }
+    ensures { let parts = adjoint_parts (rows_with duals.now rows.now.items) in
         ExactWhere result (All (λ v. AddUp zero_ℚ (parts v)) variables.now)
         (λ sums. sums.items ≡ map (λ v. sum_from zero_ℚ (parts v)) variables.now) }
 {
@@ -49,13 +49,13 @@ fn zeros(alloc: Global, addresses: &[Address]) -> Result<Vec<Ratio>, Memory>
 fn add_rows(
     variables: &Variables,
     sums: &mut [Ratio],
-    rows: &[Row],
+    rows: &Rows,
     duals: &[Ratios],
 ) -> Result<(), NumberFault>
-    requires duals { HasRowDuals rows.now duals.now }
+    requires duals { HasRowDuals rows.now.items duals.now }
     requires sums { length sums.old ≡ length variables.now }
     ensures { AddsAt result variables.now sums.old sums.new
-        (adjoint_parts (rows_with duals.now rows.now)) }
+        (adjoint_parts (rows_with duals.now rows.now.items)) }
 {
     for (i, row) in rows.iter().enumerate() {
         add_components(

@@ -30,13 +30,13 @@ use crate::variables::Variables;
 use certificates::Certificate;
 use ratio_core::{NumberFault, Ratio, Ratios};
 use std::alloc::Global;
-use user_model::{Group, Objective, Row, Sense};
+use user_model::{Groups, Objective, Rows, Sense};
 
 // The parts of a model.
 #[derive(Drop)]
 struct Parts<'a> {
-    groups: &'a [Group],
-    rows: &'a [Row],
+    groups: &'a Groups,
+    rows: &'a Rows,
     objective: &'a Objective,
     variables: Variables,
 }
@@ -53,15 +53,15 @@ struct Duals<'a> {
 /// kind asks for.
 pub fn check(
     alloc: Global,
-    groups: &[Group],
-    rows: &[Row],
+    groups: &Groups,
+    rows: &Rows,
     objective: &Objective,
     certificate: &Certificate,
 ) -> Result<bool, NumberFault>
-    requires numbers { Rise variable_number (variables_of groups.now) }
-    requires valid { HasValidParts groups.now rows.now objective.now }
+    requires numbers { Rise variable_number (variables_of groups.now.items) }
+    requires valid { HasValidParts groups.now.items rows.now.items objective.now }
     ensures { (next : NextNumbers)
-        → Checks (model_of groups.now rows.now objective.now next) result certificate.now }
+        → Checks (model_of groups.now.items rows.now.items objective.now next) result certificate.now }
 {
     let parts = Parts {
         groups,
@@ -104,9 +104,9 @@ impl<'a> Parts<'a> {
     }
 
     fn has_entries(&self, certificate: &Certificate) -> bool
-        requires { self.now.variables ≡ all_addresses self.now.groups.now }
-        ensures { (next : NextNumbers) → let model = model_of self.now.groups.now
-            self.now.rows.now self.now.objective.now next in
+        requires { self.now.variables ≡ all_addresses self.now.groups.now.items }
+        ensures { (next : NextNumbers) → let model = model_of self.now.groups.now.items
+            self.now.rows.now.items self.now.objective.now next in
             IsTrue result ↔ HasEntries model certificate.now }
     {
         match certificate {
@@ -124,10 +124,10 @@ impl<'a> Parts<'a> {
 
     // Whether rows and groups hold at a point, or along a ray.
     fn holds_at(&self, alloc: Global, reading: Reading, x: &[Ratio]) -> Result<bool, NumberFault>
-        requires ready { IsReady self.now.groups.now self.now.rows.now self.now.variables }
+        requires ready { IsReady self.now.groups.now.items self.now.rows.now.items self.now.variables }
         requires size { length x.now ≡ length self.now.variables }
-        ensures { (next : NextNumbers) → let model = model_of self.now.groups.now
-            self.now.rows.now self.now.objective.now next in
+        ensures { (next : NextNumbers) → let model = model_of self.now.groups.now.items
+            self.now.rows.now.items self.now.objective.now next in
             TellsWhere result (PointFits model (one_of reading) x.now)
             (HoldsAt model (one_of reading) x.now) }
     {
@@ -139,11 +139,11 @@ impl<'a> Parts<'a> {
 
     // Whether the duals are in the dual sets.
     fn duals_hold(&self, duals: &Duals) -> Result<bool, NumberFault>
-        requires ready { IsReady self.now.groups.now self.now.rows.now self.now.variables }
-        requires rows { HasRowDuals self.now.rows.now duals.now.rows.now }
+        requires ready { IsReady self.now.groups.now.items self.now.rows.now.items self.now.variables }
+        requires rows { HasRowDuals self.now.rows.now.items duals.now.rows.now }
         requires vars { length duals.now.vars.now ≡ length self.now.variables }
-        ensures { (next : NextNumbers) → let model = model_of self.now.groups.now
-            self.now.rows.now self.now.objective.now next in
+        ensures { (next : NextNumbers) → let model = model_of self.now.groups.now.items
+            self.now.rows.now.items self.now.objective.now next in
             let hs = with_duals model duals.now.rows.now duals.now.vars.now in
             TellsWhere result
             (All (λ h. DualFits h.set h.duals) hs) (All (λ h. Dual h.set h.duals) hs) }
@@ -154,11 +154,11 @@ impl<'a> Parts<'a> {
     }
 
     fn gap(&self, duals: &Duals) -> Result<Ratio, NumberFault>
-        requires ready { IsReady self.now.groups.now self.now.rows.now self.now.variables }
-        requires rows { HasRowDuals self.now.rows.now duals.now.rows.now }
+        requires ready { IsReady self.now.groups.now.items self.now.rows.now.items self.now.variables }
+        requires rows { HasRowDuals self.now.rows.now.items duals.now.rows.now }
         requires vars { length duals.now.vars.now ≡ length self.now.variables }
-        ensures { (next : NextNumbers) → let model = model_of self.now.groups.now
-            self.now.rows.now self.now.objective.now next in
+        ensures { (next : NextNumbers) → let model = model_of self.now.groups.now.items
+            self.now.rows.now.items self.now.objective.now next in
             ExactWhere result
             (AddUp zero_ℚ (gap_parts (with_duals model duals.now.rows.now duals.now.vars.now)))
             (λ q. q ≡ dual_gap model duals.now.rows.now duals.now.vars.now) }
@@ -174,12 +174,12 @@ impl<'a> Parts<'a> {
         x: &[Ratio],
         duals: &Duals,
     ) -> Result<bool, NumberFault>
-        requires ready { IsReady self.now.groups.now self.now.rows.now self.now.variables }
+        requires ready { IsReady self.now.groups.now.items self.now.rows.now.items self.now.variables }
         requires size { length x.now ≡ length self.now.variables }
-        requires rows { HasRowDuals self.now.rows.now duals.now.rows.now }
+        requires rows { HasRowDuals self.now.rows.now.items duals.now.rows.now }
         requires vars { length duals.now.vars.now ≡ length self.now.variables }
-        ensures { (next : NextNumbers) → let model = model_of self.now.groups.now
-            self.now.rows.now self.now.objective.now next in
+        ensures { (next : NextNumbers) → let model = model_of self.now.groups.now.items
+            self.now.rows.now.items self.now.objective.now next in
             TellsWhere result (OptimalFits model x.now duals.now.rows.now duals.now.vars.now)
             (IsOptimal model value.now x.now duals.now.rows.now duals.now.vars.now) }
     {
@@ -198,11 +198,11 @@ impl<'a> Parts<'a> {
     }
 
     fn is_infeasible(&self, alloc: Global, gap: &Ratio, duals: &Duals) -> Result<bool, NumberFault>
-        requires ready { IsReady self.now.groups.now self.now.rows.now self.now.variables }
-        requires rows { HasRowDuals self.now.rows.now duals.now.rows.now }
+        requires ready { IsReady self.now.groups.now.items self.now.rows.now.items self.now.variables }
+        requires rows { HasRowDuals self.now.rows.now.items duals.now.rows.now }
         requires vars { length duals.now.vars.now ≡ length self.now.variables }
-        ensures { (next : NextNumbers) → let model = model_of self.now.groups.now
-            self.now.rows.now self.now.objective.now next in
+        ensures { (next : NextNumbers) → let model = model_of self.now.groups.now.items
+            self.now.rows.now.items self.now.objective.now next in
             TellsWhere result (InfeasibleFits model duals.now.rows.now duals.now.vars.now)
             (IsInfeasible model gap.now duals.now.rows.now duals.now.vars.now) }
     {
@@ -216,11 +216,11 @@ impl<'a> Parts<'a> {
     }
 
     fn is_unbounded(&self, alloc: Global, x: &[Ratio], d: &[Ratio]) -> Result<bool, NumberFault>
-        requires ready { IsReady self.now.groups.now self.now.rows.now self.now.variables }
+        requires ready { IsReady self.now.groups.now.items self.now.rows.now.items self.now.variables }
         requires point { length x.now ≡ length self.now.variables }
         requires ray { length d.now ≡ length self.now.variables }
-        ensures { (next : NextNumbers) → let model = model_of self.now.groups.now
-            self.now.rows.now self.now.objective.now next in
+        ensures { (next : NextNumbers) → let model = model_of self.now.groups.now.items
+            self.now.rows.now.items self.now.objective.now next in
             TellsWhere result (UnboundedFits model x.now d.now) (IsUnbounded model x.now d.now) }
     {
         let feasible = self.holds_at(alloc, Reading::Value, x)?;

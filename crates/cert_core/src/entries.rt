@@ -5,18 +5,18 @@ ghost use Rattle.cert_core.specs.Checked.{HasEachDual, HasRowDuals};
 
 use crate::components::component_count;
 use ratio_core::Ratios;
-use user_model::Row;
+use user_model::Rows;
 
 /// Whether there is a list for each row, of a number for each component.
-pub(crate) fn has_row_duals(rows: &[Row], duals: &[Ratios]) -> bool
-    ensures { IsTrue result ↔ HasRowDuals rows.now duals.now }
+pub(crate) fn has_row_duals(rows: &Rows, duals: &[Ratios]) -> bool
+    ensures { IsTrue result ↔ HasRowDuals rows.now.items duals.now }
 {
     rows.len() == duals.len() && has_each_dual(rows, duals)
 }
 
-fn has_each_dual(rows: &[Row], duals: &[Ratios]) -> bool
-    requires { length duals.now ≡ length rows.now }
-    ensures { IsTrue result ↔ All HasEachDual (rows_with duals.now rows.now) }
+fn has_each_dual(rows: &Rows, duals: &[Ratios]) -> bool
+    requires { length duals.now ≡ length rows.now.items }
+    ensures { IsTrue result ↔ All HasEachDual (rows_with duals.now rows.now.items) }
 {
     for (i, row) in rows.iter().enumerate() {
         if duals[i].len() != component_count(&row.func) {

@@ -17,13 +17,13 @@ ghost use Rattle.cert_core.specs.Holding.{HasGroupSet, HasRowSet};
 use crate::components::{Components, components_of};
 use aff_core::Aff;
 use ratio_core::{NumberFault, Ratio, Ratios};
-use user_model::{Group, Row};
+use user_model::{Group, Groups, Row, Rows};
 
 /// What the rows add to the gap.
-pub(crate) fn gap_of_rows(rows: &[Row], duals: &[Ratios]) -> Result<Ratio, NumberFault>
-    requires sets { All HasRowSet rows.now }
-    requires entries { HasRowDuals rows.now duals.now }
-    ensures { let parts = gap_parts (rows_with duals.now rows.now) in
+pub(crate) fn gap_of_rows(rows: &Rows, duals: &[Ratios]) -> Result<Ratio, NumberFault>
+    requires sets { All HasRowSet rows.now.items }
+    requires entries { HasRowDuals rows.now.items duals.now }
+    ensures { let parts = gap_parts (rows_with duals.now rows.now.items) in
         ExactWhere result (AddUp zero_ℚ parts) (λ q. q ≡ sum_from zero_ℚ parts) }
 {
     let mut sum = Ratio::zero();
@@ -78,18 +78,18 @@ fn less_products(sum: &Ratio, fs: &[Aff], duals: &[Ratio]) -> Result<Ratio, Numb
 /// The gap of the rows, with what the groups add to it wherever these are the variables' duals.
 pub(crate) fn plus_groups(
     of_rows: &Ratio,
-    groups: &[Group],
+    groups: &Groups,
     duals: &[Ratio],
 ) -> Result<Ratio, NumberFault>
-    requires sets { All HasGroupSet groups.now }
-    requires size { length duals.now ≡ length (all_addresses groups.now) }
-    ensures { (w : Address → Rational) → map w (all_addresses groups.now) ≡ duals.now
-        → ExactWhere result (AddUp of_rows.now (gap_parts (groups_with w groups.now)))
-        (λ q. q ≡ sum_from of_rows.now (gap_parts (groups_with w groups.now))) }
+    requires sets { All HasGroupSet groups.now.items }
+    requires size { length duals.now ≡ length (all_addresses groups.now.items) }
+    ensures { (w : Address → Rational) → map w (all_addresses groups.now.items) ≡ duals.now
+        → ExactWhere result (AddUp of_rows.now (gap_parts (groups_with w groups.now.items)))
+        (λ q. q ≡ sum_from of_rows.now (gap_parts (groups_with w groups.now.items))) }
 {
     let mut sum = *of_rows;
     let mut left = duals;
-    for group in groups {
+    for group in groups.iter() {
         let (own, others) = left.split_at(group.vars.len());
         sum = plus_group(&sum, group, own)?;
         left = others;

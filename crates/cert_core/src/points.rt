@@ -19,23 +19,23 @@ use crate::readings::Reading;
 use aff_core::{Address, Aff};
 use ratio_core::{NumberFault, Ratio};
 use std::alloc::Global;
-use user_model::{Group, Row};
+use user_model::{Groups, Row, Rows};
 
 /// Whether each row's functions hold.
 pub(crate) fn rows_hold(
     alloc: Global,
     reading: Reading,
-    rows: &[Row],
+    rows: &Rows,
     at: &Point,
 ) -> Result<bool, NumberFault>
-    requires { All HasRowSet rows.now }
+    requires { All HasRowSet rows.now.items }
     ensures { let x = numbers_in at.now in
         TellsWhere result
-        (All (λ r. FitIn (one_of reading) r.set (functions_of r.func) x) rows.now)
-        (All (λ r. FunctionsHold (one_of reading) r.set (functions_of r.func) x) rows.now) }
+        (All (λ r. FitIn (one_of reading) r.set (functions_of r.func) x) rows.now.items)
+        (All (λ r. FunctionsHold (one_of reading) r.set (functions_of r.func) x) rows.now.items) }
 {
     let mut all = true;
-    for row in rows {
+    for row in rows.iter() {
         let holds = row_holds(alloc, reading, row, at)?;
         all &= holds;
     }
@@ -109,20 +109,20 @@ fn read_functions(
 /// Whether each group's variables hold, at any point that has these numbers of them.
 pub(crate) fn groups_hold(
     reading: Reading,
-    groups: &[Group],
+    groups: &Groups,
     numbers: &[Ratio],
 ) -> Result<bool, NumberFault>
-    requires sets { All HasGroupSet groups.now }
-    requires size { length numbers.now ≡ length (all_addresses groups.now) }
-    ensures { (x : Address → Rational) → map x (all_addresses groups.now) ≡ numbers.now
+    requires sets { All HasGroupSet groups.now.items }
+    requires size { length numbers.now ≡ length (all_addresses groups.now.items) }
+    ensures { (x : Address → Rational) → map x (all_addresses groups.now.items) ≡ numbers.now
         → TellsWhere result
         (All (λ g. MembershipFits g.set (evaluations (one_of reading) (functions_of_group g) x))
-        groups.now)
-        (All (λ g. FunctionsHold (one_of reading) g.set (functions_of_group g) x) groups.now) }
+        groups.now.items)
+        (All (λ g. FunctionsHold (one_of reading) g.set (functions_of_group g) x) groups.now.items) }
 {
     let mut all = true;
     let mut left = numbers;
-    for group in groups {
+    for group in groups.iter() {
         let (own, others) = left.split_at(group.vars.len());
         let holds = reading.holds(&group.set, own)?;
         all &= holds;

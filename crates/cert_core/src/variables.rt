@@ -9,7 +9,7 @@ use aff_core::{Address, Root};
 use ratio_core::Memory;
 use std::alloc::Global;
 use std::marker::Model;
-use user_model::{Group, GroupVar};
+use user_model::{GroupVar, Groups};
 
 /// The addresses of a model's variables, in their order.
 #[derive(Drop)]
@@ -34,9 +34,9 @@ impl Model for Variables {
 
 impl Variables {
     /// The variables of groups.
-    pub fn of(alloc: Global, groups: &[Group]) -> Result<Variables, Memory>
-        requires { Rise variable_number (variables_of groups.now) }
-        ensures { IfOk result (λ us. us ≡ all_addresses groups.now) }
+    pub fn of(alloc: Global, groups: &Groups) -> Result<Variables, Memory>
+        requires { Rise variable_number (variables_of groups.now.items) }
+        ensures { IfOk result (λ us. us ≡ all_addresses groups.now.items) }
     {
         Ok(Variables {
             addresses: addresses(alloc, groups)?,
@@ -68,11 +68,11 @@ impl Variables {
     }
 }
 
-fn addresses(alloc: Global, groups: &[Group]) -> Result<Vec<Address>, Memory>
-    ensures { IfOk result (λ v. v.items ≡ all_addresses groups.now) }
+fn addresses(alloc: Global, groups: &Groups) -> Result<Vec<Address>, Memory>
+    ensures { IfOk result (λ v. v.items ≡ all_addresses groups.now.items) }
 {
     let mut addresses = Vec::new(alloc);
-    for group in groups {
+    for group in groups.iter() {
         push_addresses(&mut addresses, group.vars.as_slice())?;
     }
     Ok(addresses)

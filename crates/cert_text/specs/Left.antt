@@ -8,7 +8,7 @@ use Rattle.cert_text.specs.declared.variables.Variables.{Variables}
 
 -- the group's variables that are left, and those of the groups that are left
 abbrev pub variables_left : Variables → List GroupVar
-variables_left left = left.vars.now ++ variables_of left.groups.now
+variables_left left = left.vars.now ++ variables_of left.groups
 
 -- the text that is left, cut at each separator
 abbrev pub pieces_left : ℕ → Option (Bor (List ℕ)) → List (List ℕ)

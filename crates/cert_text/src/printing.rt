@@ -13,19 +13,19 @@ use lists::Sequence;
 use name_index::Name;
 use ratio_core::{Memory, Ratio, Ratios};
 use std::alloc::Global;
-use user_model::{Group, GroupVar, Row};
+use user_model::{GroupVar, Groups, Row, Rows};
 
 /// The text of a certificate for the model of these groups and rows, with a line for each variable
 /// and each row of which it has a number. With the right numbers of entries it reads back.
 pub fn print(
     alloc: Global,
-    groups: &[Group],
-    rows: &[Row],
+    groups: &Groups,
+    rows: &Rows,
     certificate: &Certificate,
 ) -> Result<Text, Memory>
     ensures value { IfOk result (λ text. text
-        ≡ texts.certificate_text (variables_of groups.now) rows.now certificate.now) }
-    ensures reads_back { OnOk result (ReadsBack groups.now rows.now certificate.now) }
+        ≡ texts.certificate_text (variables_of groups.now.items) rows.now.items certificate.now) }
+    ensures reads_back { OnOk result (ReadsBack groups.now.items rows.now.items certificate.now) }
 {
     let mut text = Vec::new(alloc);
     push_certificate(&mut text, groups, rows, certificate)?;
@@ -34,13 +34,13 @@ pub fn print(
 
 fn push_certificate(
     text: &mut Vec<u8>,
-    groups: &[Group],
-    rows: &[Row],
+    groups: &Groups,
+    rows: &Rows,
     certificate: &Certificate,
 ) -> Result<(), Memory>
     ensures value { OnOk result (text.new.items ≡ text.old.items
-        ++ texts.certificate_text (variables_of groups.now) rows.now certificate.now) }
-    ensures reads_back { OnOk result (ReadsBack groups.now rows.now certificate.now) }
+        ++ texts.certificate_text (variables_of groups.now.items) rows.now.items certificate.now) }
+    ensures reads_back { OnOk result (ReadsBack groups.now.items rows.now.items certificate.now) }
 {
     match certificate {
         Certificate::Optimal {
@@ -81,8 +81,8 @@ struct Duals<'a> {
 
 fn push_optimal(
     text: &mut Vec<u8>,
-    groups: &[Group],
-    rows: &[Row],
+    groups: &Groups,
+    rows: &Rows,
     value: &Ratio,
     x: &[Ratio],
     duals: &Duals,
@@ -90,10 +90,10 @@ fn push_optimal(
     ensures value { let c = Certificate.Optimal value.now x.now duals.now.rows.now
         duals.now.vars.now in
         OnOk result (text.new.items ≡ text.old.items
-        ++ texts.certificate_text (variables_of groups.now) rows.now c) }
+        ++ texts.certificate_text (variables_of groups.now.items) rows.now.items c) }
     ensures reads_back { let c = Certificate.Optimal value.now x.now duals.now.rows.now
         duals.now.vars.now in
-        OnOk result (ReadsBack groups.now rows.now c) }
+        OnOk result (ReadsBack groups.now.items rows.now.items c) }
 {
     push_number_line(text, b"optimal ", value)?;
     push_numbers(text, b"primal ", groups, x)?;
@@ -102,18 +102,18 @@ fn push_optimal(
 
 fn push_infeasible(
     text: &mut Vec<u8>,
-    groups: &[Group],
-    rows: &[Row],
+    groups: &Groups,
+    rows: &Rows,
     gap: &Ratio,
     duals: &Duals,
 ) -> Result<(), Memory>
     ensures value { let c = Certificate.Infeasible gap.now duals.now.rows.now
         duals.now.vars.now in
         OnOk result (text.new.items ≡ text.old.items
-        ++ texts.certificate_text (variables_of groups.now) rows.now c) }
+        ++ texts.certificate_text (variables_of groups.now.items) rows.now.items c) }
     ensures reads_back { let c = Certificate.Infeasible gap.now duals.now.rows.now
         duals.now.vars.now in
-        OnOk result (ReadsBack groups.now rows.now c) }
+        OnOk result (ReadsBack groups.now.items rows.now.items c) }
 {
     push_number_line(text, b"infeasible ", gap)?;
     push_duals(text, groups, rows, duals)
@@ -121,15 +121,15 @@ fn push_infeasible(
 
 fn push_unbounded(
     text: &mut Vec<u8>,
-    groups: &[Group],
-    rows: &[Row],
+    groups: &Groups,
+    rows: &Rows,
     x: &[Ratio],
     d: &[Ratio],
 ) -> Result<(), Memory>
     ensures value { OnOk result (text.new.items ≡ text.old.items
-        ++ texts.certificate_text (variables_of groups.now) rows.now
+        ++ texts.certificate_text (variables_of groups.now.items) rows.now.items
         (Certificate.Unbounded x.now d.now)) }
-    ensures reads_back { OnOk result (ReadsBack groups.now rows.now
+    ensures reads_back { OnOk result (ReadsBack groups.now.items rows.now.items
         (Certificate.Unbounded x.now d.now)) }
 {
     push(text, b"unbounded\n")?;
@@ -137,18 +137,13 @@ fn push_unbounded(
     push_numbers(text, b"ray ", groups, d)
 }
 
-fn push_duals(
-    text: &mut Vec<u8>,
-    groups: &[Group],
-    rows: &[Row],
-    duals: &Duals,
-) -> Result<(), Memory>
+fn push_duals(text: &mut Vec<u8>, groups: &Groups, rows: &Rows, duals: &Duals) -> Result<(), Memory>
     ensures value { OnOk result (text.new.items ≡ text.old.items
-        ++ texts.text_of_lines (texts.dual_lines (variables_of groups.now) rows.now
+        ++ texts.text_of_lines (texts.dual_lines (variables_of groups.now.items) rows.now.items
         duals.now.rows.now duals.now.vars.now)) }
-    ensures rows_read { OnOk result (All RowReads (zip rows.now duals.now.rows.now)) }
+    ensures rows_read { OnOk result (All RowReads (zip rows.now.items duals.now.rows.now)) }
     ensures variables_read { OnOk result
-        (All VariableReads (zip (variables_of groups.now) duals.now.vars.now)) }
+        (All VariableReads (zip (variables_of groups.now.items) duals.now.vars.now)) }
 {
     push_row_duals(text, rows, duals.rows)?;
     push_numbers(text, b"dual var ", groups, duals.vars)
@@ -158,13 +153,13 @@ fn push_duals(
 fn push_numbers(
     text: &mut Vec<u8>,
     word: &[u8],
-    groups: &[Group],
+    groups: &Groups,
     numbers: &[Ratio],
 ) -> Result<(), Memory>
     ensures value { OnOk result (text.new.items ≡ text.old.items ++ texts.text_of_lines
-        (texts.variable_lines word.now (variables_of groups.now) numbers.now)) }
+        (texts.variable_lines word.now (variables_of groups.now.items) numbers.now)) }
     ensures reads { OnOk result
-        (All VariableReads (zip (variables_of groups.now) numbers.now)) }
+        (All VariableReads (zip (variables_of groups.now.items) numbers.now)) }
 {
     let mut variables = Variables::of(groups);
     for number in numbers {
@@ -202,10 +197,10 @@ pub(crate) fn push_variable_head(text: &mut Vec<u8>, word: &[u8], name: &Name) -
 }
 
 // A line for each row.
-fn push_row_duals(text: &mut Vec<u8>, rows: &[Row], duals: &[Ratios]) -> Result<(), Memory>
+fn push_row_duals(text: &mut Vec<u8>, rows: &Rows, duals: &[Ratios]) -> Result<(), Memory>
     ensures value { OnOk result (text.new.items ≡ text.old.items
-        ++ texts.text_of_lines (texts.row_lines rows.now duals.now)) }
-    ensures reads { OnOk result (All RowReads (zip rows.now duals.now)) }
+        ++ texts.text_of_lines (texts.row_lines rows.now.items duals.now)) }
+    ensures reads { OnOk result (All RowReads (zip rows.now.items duals.now)) }
 {
     for (i, row) in rows.iter().enumerate() {
         if i >= duals.len() {

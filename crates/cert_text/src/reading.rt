@@ -14,7 +14,7 @@ use cert_core::{Certificate, DualRows, component_count};
 use lists::Sequence;
 use ratio_core::{Memory, Ratio, Ratios};
 use std::alloc::Global;
-use user_model::{Group, GroupVar, Row};
+use user_model::{GroupVar, Groups, Row, Rows};
 
 /// The certificate that a text is for the model of these groups and rows, with the right numbers of
 /// entries. There is none exactly where the text isn't of the printed form for the model, with any
@@ -22,14 +22,14 @@ use user_model::{Group, GroupVar, Row};
 #[tactic(auto, unfolding(crate::specs::Reading::certificate_of))]
 pub fn read(
     alloc: Global,
-    groups: &[Group],
-    rows: &[Row],
+    groups: &Groups,
+    rows: &Rows,
     text: &[u8],
 ) -> Result<Option<Certificate>, Memory>
     ensures value { IfOk result (λ found. found
-        ≡ texts.certificate_of (variables_of groups.now) rows.now text.now) }
+        ≡ texts.certificate_of (variables_of groups.now.items) rows.now.items text.now) }
     ensures entries { IfOk result (λ found.
-        IfSome found (HasItsEntries groups.now rows.now)) }
+        IfSome found (HasItsEntries groups.now.items rows.now.items)) }
 {
     read_lines(alloc, groups, rows, Pieces::new(text, b'\n'))
 }
@@ -38,12 +38,12 @@ pub fn read(
 #[tactic(auto, unfolding(crate::specs::Reading::certificate_in))]
 fn read_lines(
     alloc: Global,
-    groups: &[Group],
-    rows: &[Row],
+    groups: &Groups,
+    rows: &Rows,
     mut lines: Pieces<'_>,
 ) -> Result<Option<Certificate>, Memory>
     ensures { IfOk result (λ found. found
-        ≡ texts.certificate_in (variables_of groups.now) rows.now lines.entry) }
+        ≡ texts.certificate_in (variables_of groups.now.items) rows.now.items lines.entry) }
 {
     let Some(first) = lines.next() else {
         return Ok(None);
@@ -58,13 +58,13 @@ fn read_lines(
 #[tactic(auto, unfolding(crate::specs::Reading::body_of))]
 fn read_body(
     alloc: Global,
-    groups: &[Group],
-    rows: &[Row],
+    groups: &Groups,
+    rows: &Rows,
     heading: Heading,
     lines: Pieces<'_>,
 ) -> Result<Option<Certificate>, Memory>
     ensures { IfOk result (λ found. found
-        ≡ texts.body_of (variables_of groups.now) rows.now heading lines.entry) }
+        ≡ texts.body_of (variables_of groups.now.items) rows.now.items heading lines.entry) }
 {
     match heading {
         Heading::Optimal(value) => read_optimal(alloc, groups, rows, value, lines),
@@ -76,13 +76,13 @@ fn read_body(
 #[tactic(auto, unfolding(crate::specs::Reading::optimal_of))]
 fn read_optimal(
     alloc: Global,
-    groups: &[Group],
-    rows: &[Row],
+    groups: &Groups,
+    rows: &Rows,
     value: Ratio,
     mut lines: Pieces<'_>,
 ) -> Result<Option<Certificate>, Memory>
     ensures { IfOk result (λ found. found
-        ≡ texts.optimal_of (variables_of groups.now) rows.now value lines.entry) }
+        ≡ texts.optimal_of (variables_of groups.now.items) rows.now.items value lines.entry) }
 {
     let Some(x) = read_numbers(alloc, b"primal ", groups, &mut lines)? else {
         return Ok(None);
@@ -107,13 +107,13 @@ fn read_optimal(
 #[tactic(auto, unfolding(crate::specs::Reading::infeasible_of))]
 fn read_infeasible(
     alloc: Global,
-    groups: &[Group],
-    rows: &[Row],
+    groups: &Groups,
+    rows: &Rows,
     gap: Ratio,
     mut lines: Pieces<'_>,
 ) -> Result<Option<Certificate>, Memory>
     ensures { IfOk result (λ found. found
-        ≡ texts.infeasible_of (variables_of groups.now) rows.now gap lines.entry) }
+        ≡ texts.infeasible_of (variables_of groups.now.items) rows.now.items gap lines.entry) }
 {
     let Some(rows) = read_row_duals(alloc, rows, &mut lines)? else {
         return Ok(None);
@@ -127,11 +127,11 @@ fn read_infeasible(
 #[tactic(auto, unfolding(crate::specs::Reading::unbounded_of))]
 fn read_unbounded(
     alloc: Global,
-    groups: &[Group],
+    groups: &Groups,
     mut lines: Pieces<'_>,
 ) -> Result<Option<Certificate>, Memory>
     ensures { IfOk result (λ found. found
-        ≡ texts.unbounded_of (variables_of groups.now) lines.entry) }
+        ≡ texts.unbounded_of (variables_of groups.now.items) lines.entry) }
 {
     let Some(x) = read_numbers(alloc, b"primal ", groups, &mut lines)? else {
         return Ok(None);
@@ -156,11 +156,11 @@ fn at_end(certificate: Certificate, mut lines: Pieces<'_>) -> Option<Certificate
 fn read_numbers(
     alloc: Global,
     word: &[u8],
-    groups: &[Group],
+    groups: &Groups,
     lines: &mut Pieces<'_>,
 ) -> Result<Option<Ratios>, Memory>
     ensures { IfOk result (λ found. option_map (λ x. (x, lines.new)) found
-        ≡ texts.point_of (variables_of groups.now) word.now lines.old) }
+        ≡ texts.point_of (variables_of groups.now.items) word.now lines.old) }
 {
     let mut numbers = Vec::new(alloc);
     for var in Variables::of(groups) {
@@ -191,14 +191,14 @@ fn variable_number(
 // The duals of each row, each row's on a line of its own.
 fn read_row_duals(
     alloc: Global,
-    rows: &[Row],
+    rows: &Rows,
     lines: &mut Pieces<'_>,
 ) -> Result<Option<DualRows>, Memory>
     ensures { IfOk result (λ found. option_map (λ duals. (duals, lines.new)) found
-        ≡ texts.row_duals_of rows.now lines.old) }
+        ≡ texts.row_duals_of rows.now.items lines.old) }
 {
     let mut duals = Vec::new(alloc);
-    for row in rows {
+    for row in rows.iter() {
         let Some(line) = lines.next() else {
             return Ok(None);
         };

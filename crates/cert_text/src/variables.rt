@@ -4,20 +4,24 @@ ghost use Rattle.std.specs.Iterator.{YieldsFirstRef, item_count};
 ghost use Rattle.certificates.specs.Points.{variables_of};
 ghost use Rattle.cert_text.specs.Left.{variables_left};
 
-use user_model::{Group, GroupVar};
+use numbered::Items;
+use user_model::{Group, GroupVar, Groups};
 
 /// The variables that are left, in the order of the groups.
 #[derive(Drop)]
 pub(crate) struct Variables<'a> {
     vars: &'a [GroupVar],
-    groups: &'a [Group],
+    groups: Items<'a, Group>,
 }
 
 impl<'a> Variables<'a> {
-    pub(crate) fn of(groups: &'a [Group]) -> Variables<'a>
-        ensures { variables_left result ≡ variables_of groups.now }
+    pub(crate) fn of(groups: &'a Groups) -> Variables<'a>
+        ensures { variables_left result ≡ variables_of groups.now.items }
     {
-        Variables { vars: &[], groups }
+        Variables {
+            vars: &[],
+            groups: groups.iter(),
+        }
     }
 }
 
@@ -30,9 +34,8 @@ impl<'a> Iterator for Variables<'a> {
 
     fn next(&mut self) -> Option<&'a GroupVar> {
         while self.vars.is_empty() {
-            let (group, groups) = self.groups.split_first()?;
+            let group = self.groups.next()?;
             self.vars = group.vars.as_slice();
-            self.groups = groups;
         }
         let (first, others) = self.vars.split_first()?;
         self.vars = others;

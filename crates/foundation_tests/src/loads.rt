@@ -1,8 +1,7 @@
 // Exchanges of numbered loads.
 ghost use Rattle.std.specs.Prelude.{◌≡◌};
-ghost use Rattle.numbered.specs.Numbered.{Rise};
 
-use numbered::{Change, HasNumber, exchange, exchange_all, place_of, with_number};
+use numbered::{Change, HasNumber, Numbered};
 use page::Page;
 
 #[derive(Clone, Copy, Debug)]
@@ -28,49 +27,39 @@ fn make_load(number: u32, weight: u32) -> Load
 /// Two loads, put and found; and two changes, made and taken back.
 pub fn show(page: &mut Page) {
     page.line("# numbered items");
-    if let Ok(mut loads) = Vec::with_capacity(page.alloc(), 4) {
-        put(page, &mut loads, make_load(5, 50));
-        put(page, &mut loads, make_load(3, 30));
-        find(page, &loads);
-        change(page, &mut loads);
-    }
+    let mut loads = Numbered::new(page.alloc());
+    put(page, &mut loads, make_load(5, 50));
+    put(page, &mut loads, make_load(3, 30));
+    find(page, &loads);
+    change(page, &mut loads);
 }
 
 // Puts a load where there is room.
-fn put(page: &mut Page, loads: &mut Vec<Load>, load: Load)
-    requires rising { Rise (λ load. load.number) loads.old.items }
-    ensures rising { Rise (λ load. load.number) loads.new.items }
-{
-    if loads.len() < loads.capacity() {
-        let before = exchange(loads, load.number, Some(load));
+fn put(page: &mut Page, loads: &mut Numbered<Load>, load: Load) {
+    if let Ok(()) = loads.reserve(1) {
+        let before = loads.exchange(load.number, Some(load));
         page.line(format_args!("put {load:?}, before {before:?}"));
     }
 }
 
-fn find(page: &mut Page, loads: &[Load])
-    requires rising { Rise (λ load. load.number) loads.now }
-{
-    page.line(format_args!(
-        "place of 5 {:?}, of 4 {:?}",
-        place_of(loads, 5),
-        place_of(loads, 4)
-    ));
-    let (at_3, at_4) = (with_number(loads, 3), with_number(loads, 4));
+fn find(page: &mut Page, loads: &Numbered<Load>) {
+    let (at_3, at_4) = (loads.get(3), loads.get(4));
     page.line(format_args!("{} loads, at 3 {at_3:?}, at 4 {at_4:?}", loads.len()));
+    page.line(format_args!("{loads:?}, none {}", loads.is_empty()));
 }
 
 // Nothing is to stand at 3, and a load at 4.
-fn change(page: &mut Page, loads: &mut Vec<Load>)
-    requires rising { Rise (λ load. load.number) loads.old.items }
-{
-    if loads.len() + 2 <= loads.capacity() {
+fn change(page: &mut Page, loads: &mut Numbered<Load>) {
+    if let Ok(()) = loads.reserve(2) {
         let (number, content) = (3, None);
         let first = Change { number, content };
         let (number, content) = (4, Some(make_load(4, 40)));
         let mut changes = [first, Change { number, content }];
-        exchange_all(loads, &mut changes);
+        loads.exchange_all(&mut changes);
         find(page, loads);
-        exchange_all(loads, &mut changes);
+        loads.exchange_all(&mut changes);
+        find(page, loads);
+        loads.sweep();
         find(page, loads);
     }
 }

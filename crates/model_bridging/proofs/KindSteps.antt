@@ -1,6 +1,6 @@
 -- Kinds, looked at one after another, up to the first without a tree.
-use Rattle.std.specs.Prelude.{◌≡◌, ℕ, ◌+◌, Bool, List, [], ◌∷◌, ◌++◌, None, Result, Ok, Err, IsErrAnd, map}
-use Rattle.std.proofs.Common.{ap, sym, subst, ◌∙◌, drop}
+use Rattle.std.specs.Prelude.{◌≡◌, ℕ, Bool, List, [], ◌∷◌, ◌++◌, None, Result, Ok, Err, IsErrAnd, map}
+use Rattle.std.proofs.Common.{ap, sym, subst, ◌∙◌}
 use Rattle.std.proofs.lemmas.List.{map-append}
 use Rattle.bridge_graph.specs.declared.Choice.{Choice}
 use Rattle.aff_core.specs.Address.{Address}
@@ -58,23 +58,23 @@ module _ (choice : ℕ → Choice) where
 
 -- ---- what is left of the groups, and of the rows
 
-pub next_group : (groups : List Group) (i : ℕ) (group : Group) (kind : Kind)
-    → drop i groups ≡ group ∷ drop (i + 1) groups → kind ≡ group_kind_of group.set
-    → kinds_as_they_stand (map group_item (drop i groups))
-    ≡ kind ∷ kinds_as_they_stand (map group_item (drop (i + 1) groups))
+pub next_group : (left rest : List Group) (group : Group) (kind : Kind) → left ≡ group ∷ rest
+    → kind ≡ group_kind_of group.set
+    → kinds_as_they_stand (map group_item left)
+    ≡ kind ∷ kinds_as_they_stand (map group_item rest)
 unfolding kind_of_body
-next_group groups i group kind next is =
+next_group left rest group kind next is =
     ap (λ gs. kinds_as_they_stand (map group_item gs)) next
-    ∙ ap (λ k. k ∷ kinds_as_they_stand (map group_item (drop (i + 1) groups))) (sym is)
+    ∙ ap (λ k. k ∷ kinds_as_they_stand (map group_item rest)) (sym is)
 
 abbrev pub row_kinds : (Address → Bool) → List Row → List Kind
 row_kinds kept rows = map (λ i. kind_by kept i.body) (map row_item rows)
 
-pub next_row : (kept : Address → Bool) (rows : List Row) (i : ℕ) (row : Row) (kind : Kind)
-    → drop i rows ≡ row ∷ drop (i + 1) rows → kind ≡ kind_by kept (row_item row).body
-    → row_kinds kept (drop i rows) ≡ kind ∷ row_kinds kept (drop (i + 1) rows)
-next_row kept rows i row kind next is =
-    ap (row_kinds kept) next ∙ ap (λ k. k ∷ row_kinds kept (drop (i + 1) rows)) (sym is)
+pub next_row : (kept : Address → Bool) (left rest : List Row) (row : Row) (kind : Kind)
+    → left ≡ row ∷ rest → kind ≡ kind_by kept (row_item row).body
+    → row_kinds kept left ≡ kind ∷ row_kinds kept rest
+next_row kept left rest row kind next is =
+    ap (row_kinds kept) next ∙ ap (λ k. k ∷ row_kinds kept rest) (sym is)
 
 -- the kinds of the rows and of the objective, by what was told of the variables
 pub further_kinds : (kept told : Address → Bool) → ((v : Address) → told v ≡ kept v)

@@ -23,19 +23,19 @@ use item_core::{Body, Children, Family, Item, Kind, kind_of};
 use lists::Memory;
 use set_core::Set;
 use std::alloc::Global;
-use user_model::{Group, GroupVar, Objective, Row, UserFunc};
+use user_model::{GroupVar, Groups, Objective, Row, Rows, UserFunc};
 
 // Refuses the first of the user's items that has no tree.
 pub(crate) fn check_kinds<R: Rewriter>(
     alloc: Global,
     rewriter: &R,
-    groups: &[Group],
-    rows: &[Row],
+    groups: &Groups,
+    rows: &Rows,
     objective: &Objective,
 ) -> Result<(), PushFault>
     ensures { let choice = (R.means rewriter.now).choice in
-        KindsOutcome result (first_missing choice (kinds_told choice (map group_item groups.now)
-        (map row_item rows.now ++ objective_items objective.now))) }
+        KindsOutcome result (first_missing choice (kinds_told choice (map group_item groups.now.items)
+        (map row_item rows.now.items ++ objective_items objective.now))) }
 {
     check_groups(alloc, rewriter, groups)?;
     let kept = kept_variables(alloc, rewriter, groups)?;
@@ -43,11 +43,11 @@ pub(crate) fn check_kinds<R: Rewriter>(
     check_objective(rewriter, &kept, objective)
 }
 
-fn check_groups<R: Rewriter>(alloc: Global, rewriter: &R, groups: &[Group]) -> Result<(), PushFault>
+fn check_groups<R: Rewriter>(alloc: Global, rewriter: &R, groups: &Groups) -> Result<(), PushFault>
     ensures { KindsOutcome result (first_missing (R.means rewriter.now).choice
-        (map (λ i. kinds.kind_of_body i.body) (map group_item groups.now))) }
+        (map (λ i. kinds.kind_of_body i.body) (map group_item groups.now.items))) }
 {
-    for group in groups {
+    for group in groups.iter() {
         check_kind(rewriter, group_kind(alloc, &group.set)?)?;
     }
     Ok(())
@@ -57,12 +57,12 @@ fn check_rows<R: Rewriter>(
     alloc: Global,
     rewriter: &R,
     kept: &ByAddress<bool>,
-    rows: &[Row],
+    rows: &Rows,
 ) -> Result<(), PushFault>
     ensures { KindsOutcome result (first_missing (R.means rewriter.now).choice
-        (map (λ i. kind_by (told kept.now) i.body) (map row_item rows.now))) }
+        (map (λ i. kind_by (told kept.now) i.body) (map row_item rows.now.items))) }
 {
-    for row in rows {
+    for row in rows.iter() {
         check_kind(rewriter, row_kind(alloc, kept, row)?)?;
     }
     Ok(())
@@ -98,10 +98,10 @@ fn check_kind<R: Rewriter>(rewriter: &R, kind: Kind) -> Result<(), PushFault>
 fn kept_variables<R: Rewriter>(
     alloc: Global,
     rewriter: &R,
-    groups: &[Group],
+    groups: &Groups,
 ) -> Result<ByAddress<bool>, Memory>
     ensures { IfOk result (λ kept. (v : Address) → told kept v
-        ≡ is_kept_by (R.means rewriter.now).choice (map group_item groups.now) v) }
+        ≡ is_kept_by (R.means rewriter.now).choice (map group_item groups.now.items) v) }
 {
     let mut kept = ByAddress::new(alloc);
     for group in groups.iter().rev() {

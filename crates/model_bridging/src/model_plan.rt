@@ -24,7 +24,7 @@ use lists::Memory;
 use model_store::UserModel;
 use ratio_core::NumberFault;
 use std::alloc::Global;
-use user_model::{Group, GroupVar, Objective, Row};
+use user_model::{GroupVar, Groups, Objective, Row, Rows};
 
 /// How many items stand above one another at most.
 const LEVELS: u8 = 35;
@@ -60,16 +60,16 @@ pub fn plan_model<R: Rewriter>(
 fn plan_items<R: Rewriter>(
     alloc: Global,
     rewriter: &mut R,
-    groups: &[Group],
-    rows: &[Row],
+    groups: &Groups,
+    rows: &Rows,
     objective: &Objective,
 ) -> Result<ModelPlan, PushFault>
-    requires { IsReady (R.means rewriter.old).choice (map group_item groups.now)
-        (map row_item rows.now ++ objective_items objective.now) }
+    requires { IsReady (R.means rewriter.old).choice (map group_item groups.now.items)
+        (map row_item rows.now.items ++ objective_items objective.now) }
     ensures answer { let choice = (R.means rewriter.old).choice in
-        let items = map group_item groups.now in
-        let others = map row_item rows.now ++ objective_items objective.now in
-        Outcome result (unfit_item choice items others) (IsWhole choice groups.now others) }
+        let items = map group_item groups.now.items in
+        let others = map row_item rows.now.items ++ objective_items objective.now in
+        Outcome result (unfit_item choice items others) (IsWhole choice groups.now.items others) }
     ensures means { R.means rewriter.new ≡ R.means rewriter.old }
 {
     let mut plan = Plan::new(alloc);
@@ -85,17 +85,17 @@ fn plan_groups<R: Rewriter>(
     alloc: Global,
     rewriter: &mut R,
     plan: &mut Plan,
-    groups: &[Group],
+    groups: &Groups,
 ) -> Result<Vec<Entry>, PushFault>
-    requires { All (IsWithin (R.means rewriter.old).choice 35) (map group_item groups.now) }
+    requires { All (IsWithin (R.means rewriter.old).choice 35) (map group_item groups.now.items) }
     ensures answer { let choice = (R.means rewriter.old).choice in
-        let items = map group_item groups.now in
+        let items = map group_item groups.now.items in
         Outcome result (unfit choice 35 items) (λ entries. Adds plan.old plan.new [] entries.items
         (worked_each choice (worked choice 35) items)) }
     ensures means { R.means rewriter.new ≡ R.means rewriter.old }
 {
     let mut entries = Vec::new(alloc);
-    for group in groups {
+    for group in groups.iter() {
         let item = item_of_group(alloc, group)?;
         let at = item.at;
         match plan_item(alloc, rewriter, plan, &mut entries, item, LEVELS) {
@@ -112,13 +112,13 @@ fn plan_others<R: Rewriter>(
     rewriter: &mut R,
     plan: &mut Plan,
     standing: &mut Standing,
-    rows: &[Row],
+    rows: &Rows,
     objective: &Objective,
 ) -> Result<(), PushFault>
     requires { All (λ item. IsWithin (R.means rewriter.old).choice 35 (put_in standing.old item))
-        (map row_item rows.now ++ objective_items objective.now) }
+        (map row_item rows.now.items ++ objective_items objective.now) }
     ensures answer { let choice = (R.means rewriter.old).choice in
-        let others = map row_item rows.now ++ objective_items objective.now in
+        let others = map row_item rows.now.items ++ objective_items objective.now in
         Outcome result (unfit_put choice 35 standing.old others) (λ _. Adds plan.old plan.new [] []
         (worked_in choice (worked choice 35) standing.old others)) }
     ensures means { R.means rewriter.new ≡ R.means rewriter.old }
@@ -136,18 +136,18 @@ fn plan_rows<R: Rewriter>(
     rewriter: &mut R,
     plan: &mut Plan,
     standing: &mut Standing,
-    rows: &[Row],
+    rows: &Rows,
 ) -> Result<(), PushFault>
     requires { All (λ item. IsWithin (R.means rewriter.old).choice 35 (put_in standing.old item))
-        (map row_item rows.now) }
+        (map row_item rows.now.items) }
     ensures answer { let choice = (R.means rewriter.old).choice in
-        let items = map row_item rows.now in
+        let items = map row_item rows.now.items in
         Outcome result (unfit_put choice 35 standing.old items) (λ _. Adds plan.old plan.new [] []
         (worked_in choice (worked choice 35) standing.old items)) }
     ensures means { R.means rewriter.new ≡ R.means rewriter.old }
     ensures same { standing.new ≡ standing.old }
 {
-    for row in rows {
+    for row in rows.iter() {
         match plan_row(alloc, rewriter, plan, standing, row) {
             Ok(()) => {}
             Err(fault) => return Err(refused(fault, Address::root(Root::Row, row.id))),
@@ -239,13 +239,13 @@ fn refused(fault: NumberFault, at: Address) -> PushFault
 fn expressions(
     alloc: Global,
     standing: &Standing,
-    groups: &[Group],
+    groups: &Groups,
 ) -> Result<Vec<(Address, Aff)>, Memory>
     ensures { IfOk result (λ exprs. exprs.items
-        ≡ map (with_function standing.now) (flat_map (λ g. g.vars) groups.now)) }
+        ≡ map (with_function standing.now) (flat_map (λ g. g.vars) groups.now.items)) }
 {
     let mut exprs = Vec::new(alloc);
-    for group in groups {
+    for group in groups.iter() {
         push_expressions(&mut exprs, standing, group.vars.as_slice())?;
     }
     Ok(exprs)

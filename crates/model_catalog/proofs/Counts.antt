@@ -1,17 +1,14 @@
 -- The counts of the rows that bound a variable, as a row comes or goes.
-use Rattle.std.proofs.Common.{◌≡◌, ◌≢◌, add-zero, ℕ, ◌+◌, ◌-◌, ◌≤◌, ◌&&◌, Bool, true, false, cond, List, [], ◌∷◌, length, Option, Some, None, refl, sym, ap, subst, ◌∙◌, arith, inl, inr}
-use Rattle.std.specs.Prelude.{IfSome, IsSome, slice_index_or, count_by}
-use Rattle.std.specs.Option.{option_map}
-use Rattle.std.proofs.Math.ListN.{set}
+use Rattle.std.proofs.Common.{◌≡◌, ◌≢◌, add-zero, ℕ, ◌+◌, ◌-◌, ◌<◌, ◌≤◌, ◌&&◌, Bool, true, false, cond, List, [], ◌∷◌, length, Option, Some, None, refl, sym, ap, subst, ◌∙◌, arith, inl, inr}
+use Rattle.std.specs.Prelude.{IfSome, IsNone, IsSome, count_by, is_some}
+use Rattle.std.specs.Option.{option_map, option_to_list}
 use Rattle.std.proofs.lemmas.Bool.{cases_eq, eq-eqb, false_from_ne_true, ne_eqb}
-use Rattle.std.proofs.lemmas.Option.{same_Some, slice_get-get_or}
+use Rattle.std.proofs.lemmas.Option.{same_Some}
 use Rattle.aff_core.specs.Address.{Address, address_eq, address_eq-Decides}
 use Rattle.aff_core.specs.declared.root.Root.TheVariants.{Variable as AtVariable}
 use Rattle.numbered.specs.Numbered.{Rise, IsAt, find, set_at}
-use Rattle.numbered.specs.Places.{IsMissingAt}
 use Rattle.numbered.specs.Laws.{IsAt-find}
-use Rattle.numbered.specs.SetLaws.{Rise-set_at, find-set_at_same, find-set_at_other}
-use Rattle.numbered.specs.PlaceLaws.{replaced}
+use Rattle.numbered.specs.SetLaws.{find-set_at_same, find-set_at_other, length-set_at}
 use Rattle.user_model.specs.declared.row.Row.{Row}
 use Rattle.user_model.specs.Edited.{row_number}
 use Rattle.user_model.specs.Model.{bounds_above, bounds_below, is_variable, variable_address}
@@ -101,123 +98,131 @@ none_counted row kept none n = by_place (find variable_number n kept) refl
         ap_some e = subst IsSome (sym e) refl
 
 -- the variable of a row is not kept
-pub missing_counted : (row : Row) (m : ℕ) (kept : List Variable) (i : ℕ)
+pub missing_counted : (row : Row) (m : ℕ) (kept : List Variable)
     → ((n : ℕ) → is_variable n row.func ≡ is_number (Some m) n)
-    → IsMissingAt variable_number m kept i → (n : ℕ)
+    → find variable_number m kept ≡ None → (n : ℕ)
     → option_map (counted (Some row)) (find variable_number n kept) ≡ find variable_number n kept
-missing_counted row m kept i is at =
+missing_counted row m kept is absent =
     none_counted row kept (λ n some. is n
     ∙ ne_eqb m n (λ same. not_there (find variable_number n kept)
-    (ap (λ k. find variable_number k kept) (sym same) ∙ at.absent) some))
+    (ap (λ k. find variable_number k kept) (sym same) ∙ absent) some))
   where
     not_there : (o : Option Variable) → o ≡ None → IsSome o → ⊥
     not_there None e some = let both : false ≡ true = some in cc
     not_there (Some v) e some = cc
 
--- the variable of a row that sets bounds, as it stands at its place
+-- the variable of a row that sets bounds, as it is kept
 module _ {row : Option Row} {kept : List Variable} {bounds : Bounds}
-    (s : SetsBounds row kept bounds) (d : Variable) where
+    (s : SetsBounds row kept bounds) where
   abbrev its : Variable
-  its = slice_index_or kept bounds.place d
-
-  read : find variable_number s.number kept ≡ Some its
-  read = s.found.found ∙ slice_get-get_or kept bounds.place d s.found.in_range
+  its = bounds.variable
 
   its_number : its.number ≡ s.number
   its_number =
-      let has = subst (IsAt variable_number s.number) read
+      let has = subst (IsAt variable_number s.number) s.found
       (IsAt-find variable_number s.number kept) in
       has
 
+  its_found : find variable_number its.number kept ≡ Some its
+  its_found = ap (λ n. find variable_number n kept) its_number ∙ s.found
+
+  -- it is there, so none is added in its place
+  pub bounds_room : {room : ℕ} → IsNone (find variable_number its.number kept)
+      → length kept < room
+  bounds_room none = absurd (let both : true ≡ false = ap is_some (sym its_found) ∙ none in cc)
+
   -- for a variable of its number the row is one of those that are counted
-  one : (v : Variable) (test : Set → Bool) → v.number ≡ s.number
+  one : (v : Variable) (test : Set → Bool) → v.number ≡ its.number
       → bound_count (λ r. is_variable v.number r.func && test r.set) row
       ≡ cond (test s.own.set) 1 0
   one v test number =
       ap (bound_count (λ r. is_variable v.number r.func && test r.set)) s.is
       ∙ ap (λ b. cond {A = ℕ} (b && test s.own.set) 1 0)
       (ap (λ k. is_variable k s.own.func) number
-      ∙ (s.variable s.number ∙ eq-eqb s.number s.number refl))
+      ∙ (s.variable its.number ∙ eq-eqb s.number its.number (sym its_number)))
 
-  below : (v : Variable) → v.number ≡ s.number
+  below : (v : Variable) → v.number ≡ its.number
       → bound_count (bounds_below v.number) row ≡ bounds.lower
   below v number = one v sets_lower number ∙ sym s.lower
 
-  above : (v : Variable) → v.number ≡ s.number
+  above : (v : Variable) → v.number ≡ its.number
       → bound_count (bounds_above v.number) row ≡ bounds.upper
   above v number = one v sets_upper number ∙ sym s.upper
 
   -- for a variable of another number it is not
-  other_at : (n : ℕ) → s.number ≢ n
+  other_at : (n : ℕ) → its.number ≢ n
       → option_map (counted row) (find variable_number n kept) ≡ find variable_number n kept
   other_at n other =
       ap (λ (o : Option Row). option_map (counted o) (find variable_number n kept)) s.is
       ∙ not_counted_at s.own n (find variable_number n kept) (IsAt-find variable_number n kept)
-      (s.variable n ∙ ne_eqb s.number n other)
+      (s.variable n ∙ ne_eqb s.number n (λ e. other (its_number ∙ e)))
 
-  pub bounds_rise : (v : Variable) → v.number ≡ its.number → Rise variable_number kept
-      → Rise variable_number (set kept bounds.place v)
-  bounds_rise v number rise =
-      subst (Rise variable_number)
-      (sym (replaced variable_number s.number v kept bounds.place s.found))
-      (Rise-set_at variable_number s.number (Some v) kept (number ∙ its_number) rise)
+  -- another of its number in its place
+  module _ (v : Variable) {after : List Variable}
+      (is : after ≡ set_at variable_number its.number (Some v) kept) where
+    pub bounds_length : Rise variable_number kept → length after ≡ length kept
+    bounds_length rise =
+        omega (
+          arith,
+          ap length is,
+          length-set_at variable_number its.number (Some v) kept rise,
+          ap (λ o. length (option_to_list o)) its_found,
+        )
 
-  beside : (v : Variable) (n : ℕ) → v.number ≡ s.number → s.number ≢ n
-      → find variable_number n (set kept bounds.place v) ≡ find variable_number n kept
-  beside v n number other =
-      ap (find variable_number n) (replaced variable_number s.number v kept bounds.place s.found)
-      ∙ find-set_at_other variable_number n s.number (Some v) kept (λ e. other (sym e)) number
+    beside : (n : ℕ) → v.number ≡ its.number → its.number ≢ n
+        → find variable_number n after ≡ find variable_number n kept
+    beside n number other =
+        ap (find variable_number n) is
+        ∙ find-set_at_other variable_number n its.number (Some v) kept (λ e. other (sym e)) number
 
-  here : (v : Variable) → v.number ≡ s.number
-      → find variable_number s.number (set kept bounds.place v) ≡ Some v
-  here v number =
-      ap (find variable_number s.number)
-      (replaced variable_number s.number v kept bounds.place s.found)
-      ∙ find-set_at_same variable_number s.number (Some v) kept number
+    here : v.number ≡ its.number → find variable_number its.number after ≡ Some v
+    here number =
+        ap (find variable_number its.number) is
+        ∙ find-set_at_same variable_number its.number (Some v) kept number
 
-  pub bounds_counted : (v : Variable) → v.number ≡ its.number → v.group ≡ its.group
-      → v.lower ≡ its.lower + bounds.lower → v.upper ≡ its.upper + bounds.upper → (n : ℕ)
-      → find variable_number n (set kept bounds.place v) ≡ option_map (counted row)
-      (find variable_number n kept)
-  bounds_counted v number group lower upper n =
-      elim (cases_eq s.number n) [
-        | inl same ↦
-            subst (λ k. find variable_number k (set kept bounds.place v) ≡ option_map (counted row)
-            (find variable_number k kept)) same
-            (here v (number ∙ its_number)
-            ∙ (ap Some (same_variable {v = v} {w = counted row its} number group
-            (lower ∙ sym (ap (λ k. its.lower + k) (below its its_number)))
-            (upper ∙ sym (ap (λ k. its.upper + k) (above its its_number))))
-            ∙ sym (ap (option_map (counted row)) read)))
-        | inr other ↦ beside v n (number ∙ its_number) other ∙ sym (other_at n other)
-      ]
+    pub bounds_counted : v.number ≡ its.number → v.group ≡ its.group
+        → v.lower ≡ its.lower + bounds.lower → v.upper ≡ its.upper + bounds.upper → (n : ℕ)
+        → find variable_number n after ≡ option_map (counted row) (find variable_number n kept)
+    bounds_counted number group lower upper n =
+        elim (cases_eq its.number n) [
+          | inl same ↦
+              subst (λ k. find variable_number k after ≡ option_map (counted row)
+              (find variable_number k kept)) same
+              (here number
+              ∙ (ap Some (same_variable {v = v} {w = counted row its} number group
+              (lower ∙ sym (ap (λ k. its.lower + k) (below its refl)))
+              (upper ∙ sym (ap (λ k. its.upper + k) (above its refl))))
+              ∙ sym (ap (option_map (counted row)) its_found)))
+          | inr other ↦ beside n number other ∙ sym (other_at n other)
+        ]
 
   -- where every variable has the row among its counts, the bounds can be taken from them
   module _ (all : (n : ℕ) → IfSome (find variable_number n kept) (λ v. IsCounted row v)) where
     pub bounds_fit : (bounds.lower ≤ its.lower) × (bounds.upper ≤ its.upper)
     bounds_fit =
         let has : IsCounted row its =
-        subst (λ o. IfSome o (λ v. IsCounted row v)) read (all s.number) in (
-          subst (λ k. k ≤ its.lower) (below its its_number) has.0,
-          subst (λ k. k ≤ its.upper) (above its its_number) has.1,
+        subst (λ o. IfSome o (λ v. IsCounted row v)) its_found (all its.number) in (
+          subst (λ k. k ≤ its.lower) (below its refl) has.0,
+          subst (λ k. k ≤ its.upper) (above its refl) has.1,
         )
 
-    pub bounds_discounted : (v : Variable) → v.number ≡ its.number → v.group ≡ its.group
-        → v.lower ≡ its.lower - bounds.lower → v.upper ≡ its.upper - bounds.upper → (n : ℕ)
-        → option_map (counted row) (find variable_number n (set kept bounds.place v))
-        ≡ find variable_number n kept
-    bounds_discounted v number group lower upper n =
-        let own = number ∙ its_number in
-        elim (cases_eq s.number n) [
+    pub bounds_discounted : (v : Variable) {after : List Variable}
+        → after ≡ set_at variable_number its.number (Some v) kept → v.number ≡ its.number
+        → v.group ≡ its.group → v.lower ≡ its.lower - bounds.lower
+        → v.upper ≡ its.upper - bounds.upper → (n : ℕ)
+        → option_map (counted row) (find variable_number n after) ≡ find variable_number n kept
+    bounds_discounted v {after} is number group lower upper n =
+        elim (cases_eq its.number n) [
           | inl same ↦
-              subst (λ k. option_map (counted row)
-              (find variable_number k (set kept bounds.place v)) ≡ find variable_number k kept) same
-              (ap (option_map (counted row)) (here v own)
+              subst (λ k. option_map (counted row) (find variable_number k after)
+              ≡ find variable_number k kept) same
+              (ap (option_map (counted row)) (here v is number)
               ∙ (ap Some (same_variable {v = counted row v} {w = its} number group
-              (omega (arith, lower, below v own, bounds_fit.0))
-              (omega (arith, upper, above v own, bounds_fit.1)))
-              ∙ sym read))
-          | inr other ↦ ap (option_map (counted row)) (beside v n own other) ∙ other_at n other
+              (omega (arith, lower, below v number, bounds_fit.0))
+              (omega (arith, upper, above v number, bounds_fit.1)))
+              ∙ sym its_found))
+          | inr other ↦ ap (option_map (counted row)) (beside v is n number other)
+              ∙ other_at n other
         ]
 
 -- ---- a row that takes another's place

@@ -45,7 +45,7 @@ pub ready : {a : Inside} {value : Catalog} {with : Exchange} {names : NameChange
 ready {a} view kept changes consistent within lists = record {
   view = view;
   keeps = subst (λ (x : Catalog). Keeps x.model a.kept.items a.variable_names.numbers
-      a.row_names.numbers a.terms) view kept.keeps;
+      a.row_names.numbers a.terms) view kept;
   changes = changes;
   consistent = consistent;
   within = within;

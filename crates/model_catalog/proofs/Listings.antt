@@ -1,12 +1,10 @@
 -- The variables that are kept, as those that are listed come and go.
-use Rattle.std.proofs.Common.{◌≡◌, ℕ, ◌+◌, ◌<◌, ◌≤◌, ◌==◌, Bool, true, false, cond, List, length, drop, Option, Some, None, Result, Ok, Err, refl, sym, ap, subst, ◌∙◌, arith, inl, inr}
+use Rattle.std.proofs.Common.{◌≡◌, ℕ, ◌+◌, ◌<◌, ◌≤◌, ◌==◌, Bool, true, false, cond, List, length, drop, Option, Some, None, refl, sym, ap, subst, ◌∙◌, arith, inl, inr}
 use Rattle.std.specs.Prelude.{IsSome, is_some, unwrap_or, slice_index_or}
-use Rattle.std.specs.Result.{is_err}
 use Rattle.std.specs.Option.{option_to_list}
 use Rattle.std.proofs.lemmas.Bool.{cases_eq, eq-eqb, ne_eqb}
 use Rattle.std.proofs.lemmas.List.{drop_more}
 use Rattle.numbered.specs.Numbered.{Rise, IsAt, find, set_at}
-use Rattle.numbered.specs.Places.{IsPlaceOf}
 use Rattle.numbered.specs.Laws.{IsAt-find}
 use Rattle.numbered.specs.SetLaws.{find-set_at_same, find-set_at_other, length-set_at, set_at_found}
 use Rattle.model_catalog.specs.declared.names.NameChange.{NameChange}
@@ -32,13 +30,12 @@ IsAt-given group l kept =
     by_name true (Some v) at = at
 
 -- a variable that is listed with a name, and was kept, stays
-pub kept_there : (group : ℕ) (l : NameChange) (kept : List Variable) (place : Result ℕ ℕ)
-    → is_some l.name ≡ true → false ≡ is_err place → IsPlaceOf variable_number l.number kept place
-    → Rise variable_number kept → kept ≡ set_at variable_number l.number (given_variable group l
+pub kept_there : (group : ℕ) (l : NameChange) (kept : List Variable) → is_some l.name ≡ true
+    → IsSome (find variable_number l.number kept) → Rise variable_number kept
+    → kept ≡ set_at variable_number l.number (given_variable group l
     (find variable_number l.number kept)) kept
-kept_there group l kept (Err i) named there at rise = let both : false ≡ true = there in cc
-kept_there group l kept (Ok i) named there at rise =
-    by_name l.name (find variable_number l.number kept) named refl at.there
+kept_there group l kept named there rise =
+    by_name l.name (find variable_number l.number kept) named refl there
   where
     by_name : (name : Option (List ℕ)) (o : Option Variable) → is_some name ≡ true
         → find variable_number l.number kept ≡ o → IsSome (find variable_number l.number kept)

@@ -1,6 +1,6 @@
 -- The loop over changes of rows: the state of the exchanges, and the counts of the rows as they
 -- stand.
-use Rattle.std.proofs.Common.{◌≡◌, ℕ, List, Option, Some, None, refl, ap, ◌∙◌, sym}
+use Rattle.std.proofs.Common.{◌≡◌, ℕ, List, length, Option, Some, None, refl, ap, ◌∙◌, sym}
 use Rattle.std.specs.Option.{option_map}
 use Rattle.numbered.specs.declared.change.Change.{Change}
 use Rattle.numbered.specs.Numbered.{Rise, find}
@@ -16,6 +16,7 @@ pub record RowsSoFar (start now : List Row) (changes left : List (Change Row))
   pub rising : Rise variable_number kept
   pub entries : (n : ℕ) → find variable_number n kept ≡ option_map (recounted now)
       (find variable_number n kept_start)
+  pub count : length kept ≡ length kept_start
 
 recounted_twice : (rows others : List Row) (o : Option Variable)
     → option_map (recounted rows) (option_map (recounted others) o) ≡ option_map (recounted rows) o

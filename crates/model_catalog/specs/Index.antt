@@ -3,7 +3,6 @@ use Rattle.std.specs.Prelude.{◌≡◌, ℕ, ◌+◌, ◌≤◌, ◌==◌, Bool
 use Rattle.std.specs.Option.{option_map, option_map_or}
 use Rattle.numbered.specs.Numbered as numbered
 use Rattle.numbered.specs.Numbered.{Rise}
-use Rattle.numbered.specs.Places.{IsFoundAt}
 use Rattle.user_model.specs.declared.row.Row.{Row}
 use Rattle.user_model.specs.Model.{ModelValue, bounds_above, bounds_below, group_of, is_variable}
 use Rattle.user_model.specs.Sets.{sets_lower, sets_upper}
@@ -97,14 +96,13 @@ IsCounted row variable =
 abbrev pub is_number : Option ℕ → ℕ → Bool
 is_number number n = option_map_or (λ m. m == n) number false
 
--- the row is there, is the variable with a number that is kept at the place, and sets these bounds,
--- 1 each
+-- the row is there, is the variable with a number that is kept, and sets these bounds, 1 each
 pub record SetsBounds (row : Option Row) (kept : List Variable) (bounds : Bounds) : Type 0 where
   pub own : Row
   pub is : row ≡ Some own
   pub number : ℕ
   pub variable : (n : ℕ) → is_variable n own.func ≡ is_number (Some number) n
-  pub found : IsFoundAt variable_number number kept bounds.place
+  pub found : numbered.find variable_number number kept ≡ Some bounds.variable
   pub lower : bounds.lower ≡ cond (sets_lower own.set) 1 0
   pub upper : bounds.upper ≡ cond (sets_upper own.set) 1 0
 

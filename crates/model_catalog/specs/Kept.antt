@@ -1,6 +1,5 @@
 -- What is kept of a model, and the model that it is.
-use Rattle.std.specs.Prelude.{◌≡◌, ℕ, List, [], Option}
-use Rattle.std.specs.Vec.{vec_capacity}
+use Rattle.std.specs.Prelude.{◌≡◌, ℕ, List, Option}
 use Rattle.name_index.specs.NameTable.{Numbers, IsOneToOne}
 use Rattle.user_model.specs.Model.{ModelValue, total_terms}
 use Rattle.user_model.specs.Consistent.{IsConsistent, IsWithinLimits}
@@ -23,9 +22,9 @@ abbrev pub catalog_of : Inside → Catalog
 catalog_of a = record {
   model = model_of a;
   room = record {
-    groups = vec_capacity a.groups;
-    rows = vec_capacity a.rows;
-    variables = vec_capacity a.kept;
+    groups = a.groups.room;
+    rows = a.rows.room;
+    variables = a.kept.room;
     variable_names = a.variable_names.spare;
     row_names = a.row_names.spare;
   };
@@ -47,7 +46,5 @@ pub record Keeps (model : ModelValue) (kept : List Variable) (variable_table row
   pub row_names : HasNames (row_name model) row_table
   pub terms : count ≡ total_terms model
 
--- the model is kept, and no row stands aside
-pub record IsKept (a : Inside) : Type 0 where
-  pub keeps : Keeps (model_of a) a.kept.items a.variable_names.numbers a.row_names.numbers a.terms
-  pub aside : a.aside.items ≡ []
+abbrev pub IsKept : Inside → Type 0
+IsKept a = Keeps (model_of a) a.kept.items a.variable_names.numbers a.row_names.numbers a.terms

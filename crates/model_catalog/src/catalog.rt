@@ -13,24 +13,22 @@ use crate::room::More;
 use crate::terms::changed_terms;
 use crate::variable::Variable;
 use name_index::NameTable;
-use numbered::exchange_all;
+use numbered::Numbered;
 use ratio_core::Memory;
 use std::alloc::Global;
 use std::marker::Model;
 use std::mem;
-use user_model::{Group, NextNumbers, Objective, Row};
+use user_model::{Groups, NextNumbers, Objective, Rows};
 
 /// A model with what finds things in it. Contracts see the model, and beside it the room: how many
 /// groups, rows, variables and names can be put in without memory.
 #[derive(Drop)]
 pub struct Catalog {
-    pub(crate) groups: Vec<Group>,
-    pub(crate) rows: Vec<Row>,
-    // empty but while many rows change at once
-    pub(crate) aside: Vec<Row>,
+    pub(crate) groups: Groups,
+    pub(crate) rows: Rows,
     pub(crate) objective: Objective,
     pub(crate) next: NextNumbers,
-    pub(crate) kept: Vec<Variable>,
+    pub(crate) kept: Numbered<Variable>,
     pub(crate) variable_names: NameTable,
     pub(crate) row_names: NameTable,
     // how many terms the rows and the objective have
@@ -57,16 +55,15 @@ impl Catalog {
         ensures { result.model ≡ empty_model }
     {
         Catalog {
-            groups: Vec::new(alloc),
-            rows: Vec::new(alloc),
-            aside: Vec::new(alloc),
+            groups: Numbered::new(alloc),
+            rows: Numbered::new(alloc),
             objective: Objective::Feasibility,
             next: NextNumbers {
                 group: 0,
                 variable: 0,
                 row: 0,
             },
-            kept: Vec::new(alloc),
+            kept: Numbered::new(alloc),
             variable_names: NameTable::new(alloc),
             row_names: NameTable::new(alloc),
             terms: 0,
@@ -74,8 +71,8 @@ impl Catalog {
     }
 
     /// The groups in the order of their numbers.
-    pub fn groups(&self) -> &[Group]
-        ensures value { result.now ≡ self.now.model.groups }
+    pub fn groups(&self) -> &Groups
+        ensures value { result.now.items ≡ self.now.model.groups }
         ensures consistent { IsConsistent self.now.model }
         ensures within { IsWithinLimits self.now.model }
     {
@@ -83,8 +80,8 @@ impl Catalog {
     }
 
     /// The rows in the order of their numbers.
-    pub fn rows(&self) -> &[Row]
-        ensures value { result.now ≡ self.now.model.rows }
+    pub fn rows(&self) -> &Rows
+        ensures value { result.now.items ≡ self.now.model.rows }
         ensures consistent { IsConsistent self.now.model }
         ensures within { IsWithinLimits self.now.model }
     {
@@ -128,10 +125,19 @@ impl Catalog {
     {
         self.groups.reserve(more.groups)?;
         self.rows.reserve(more.rows)?;
-        reserve_aside(&mut self.aside, self.rows.capacity(), more.rows)?;
         self.kept.reserve(more.variables)?;
         self.variable_names.reserve(more.variable_names)?;
         self.row_names.reserve(more.row_names)
+    }
+
+    /// Gives up the places of groups, rows and variables that are gone, where they are more than
+    /// those that stand. An exchange that brings one of these back then takes longer.
+    pub fn sweep(&mut self)
+        ensures { self.new ≡ self.old }
+    {
+        self.groups.sweep();
+        self.rows.sweep();
+        self.kept.sweep();
     }
 
     /// Puts the contents in, and takes those out that stood there, so that the same exchange then
@@ -161,28 +167,13 @@ impl Catalog {
         list_variables(&mut self.kept, names.group, &names.variables);
         exchange_names(&mut self.variable_names, &mut names.variables);
         exchange_names(&mut self.row_names, &mut names.rows);
-        exchange_all(&mut self.groups, &mut with.groups);
-        exchange_rows(
-            &mut self.rows,
-            &mut self.aside,
-            &mut self.kept,
-            &mut with.rows,
-        );
+        self.groups.exchange_all(&mut with.groups);
+        exchange_rows(&mut self.rows, &mut self.kept, &mut with.rows);
         exchange_objective(&mut self.objective, &mut with.objective);
         mem::swap(&mut self.next, &mut with.next);
         let taken_out = changed_terms(&with.rows);
         self.terms = self.terms + put_in - taken_out - objective_was + self.objective.term_count();
     }
-}
-
-// Makes room for all rows to stand aside, where many come.
-fn reserve_aside(aside: &mut Vec<Row>, rows: usize, more: usize) -> Result<(), Memory>
-    ensures { aside.new.items ≡ aside.old.items }
-{
-    if more > 1 {
-        aside.reserve(rows)?;
-    }
-    Ok(())
 }
 
 // Lets another objective, if there is one, change places with the objective.

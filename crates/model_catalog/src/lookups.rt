@@ -7,7 +7,6 @@ ghost use Rattle.model_catalog.specs.Named as named;
 
 use crate::Catalog;
 use name_index::Name;
-use numbered::with_number;
 use user_model::{Group, Row};
 
 impl Catalog {
@@ -23,7 +22,7 @@ impl Catalog {
         ensures { option_copied result ≡ model.row_named self.now.model name.now }
     {
         let number = self.row_names.id(name)?;
-        with_number(&self.rows, number)
+        self.rows.get(number)
     }
 
     /// The name of the variable with a number.
@@ -37,15 +36,15 @@ impl Catalog {
     pub fn group_of(&self, number: u32) -> Option<&Group>
         ensures { option_copied result ≡ model.group_of self.now.model number }
     {
-        let variable = with_number(&self.kept, number)?;
-        with_number(&self.groups, variable.group)
+        let variable = self.kept.get(number)?;
+        self.groups.get(variable.group)
     }
 
     /// Whether a plain row bounds the variable with a number from below.
     pub fn has_lower_row(&self, number: u32) -> bool
         ensures { result ≡ list_any (model.bounds_below number) self.now.model.rows }
     {
-        match with_number(&self.kept, number) {
+        match self.kept.get(number) {
             Some(variable) => variable.lower > 0,
             None => false,
         }
@@ -55,7 +54,7 @@ impl Catalog {
     pub fn has_upper_row(&self, number: u32) -> bool
         ensures { result ≡ list_any (model.bounds_above number) self.now.model.rows }
     {
-        match with_number(&self.kept, number) {
+        match self.kept.get(number) {
             Some(variable) => variable.upper > 0,
             None => false,
         }

@@ -22,7 +22,7 @@ use numbered::Change;
 use ratio_core::{Memory, Ratio};
 use set_core::Set;
 use std::alloc::Global;
-use user_model::{Group, GroupVar, GroupVars, Objective, Row, UserFunc};
+use user_model::{Group, GroupVar, GroupVars, Objective, Row, Rows, UserFunc};
 
 /// The model without a variable. It goes once over the rows, and copies those that mention it, the
 /// variable's group, and the objective where it mentions it.
@@ -46,12 +46,12 @@ pub(crate) fn delete(alloc: Global, model: &Catalog, var: &GroupedVariable) -> R
 }
 
 // The rows that mention the variable lose it, or go.
-fn rows_without(alloc: Global, rows: &[Row], at: &Address) -> Result<Vec<Change<Row>>, Memory>
+fn rows_without(alloc: Global, rows: &Rows, at: &Address) -> Result<Vec<Change<Row>>, Memory>
     ensures { IfOk result (λ changes. changes.items
-        ≡ edits_of row_number (row_without at.now) (row_mentions at.now) rows.now) }
+        ≡ edits_of row_number (row_without at.now) (row_mentions at.now) rows.now.items) }
 {
     let mut changes = Vec::new(alloc);
-    for row in rows {
+    for row in rows.iter() {
         if mentions(&row.func, at) {
             let content = row_without(alloc, row, at)?;
             changes.push(Change {

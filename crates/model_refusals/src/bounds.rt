@@ -11,7 +11,7 @@ use crate::GroupedVariable;
 use aff_core::{Address, Root, has_address};
 use model_catalog::Catalog;
 use set_core::Set;
-use user_model::{NamedFunc, Refusal, Row, UserFunc};
+use user_model::{NamedFunc, Refusal, Row, Rows, UserFunc};
 
 /// The refusal of a new row where it bounds a variable that has such a bound.
 pub(crate) fn bound_already_set(model: &Catalog, func: &NamedFunc, set: &Set) -> Option<Refusal>
@@ -63,10 +63,10 @@ pub(crate) fn is_in_cone(model: &Catalog, var: &GroupedVariable) -> bool
     var.group.set.is_norm_cone() || is_in_cone_row(model.rows(), var.number)
 }
 
-fn is_in_cone_row(rows: &[Row], number: u32) -> bool
-    ensures { result ≡ list_any (is_cone_row_of number) rows.now }
+fn is_in_cone_row(rows: &Rows, number: u32) -> bool
+    ensures { result ≡ list_any (is_cone_row_of number) rows.now.items }
 {
-    for row in rows {
+    for row in rows.iter() {
         if is_cone_row_of(row, number) {
             return true;
         }

@@ -10,6 +10,6 @@ pub use parked::Parked;
 pub use reading::Reading;
 pub use store::UserModel;
 pub use user_model::{
-    ApplyFault, Edit, Group, GroupVar, GroupVars, NamedFunc, NextNumbers, Objective, OldGroups,
-    OldRows, Refusal, Row, Sense, Undo, UserFunc,
+    ApplyFault, Edit, Group, GroupVar, GroupVars, Groups, NamedFunc, NextNumbers, Objective,
+    OldGroups, OldRows, Refusal, Row, Rows, Sense, Undo, UserFunc,
 };

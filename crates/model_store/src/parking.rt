@@ -32,8 +32,33 @@ pub(crate) struct Reserved {
 }
 
 /// Makes room for a plan, for its undo, and for the entry of that: for the plan's own names beside
-/// those that the undos put back, its own among them.
+/// those that the undos put back, its own among them. Empty places are given up where no undo waits
+/// that may fill them.
 pub(crate) fn reserve(
+    catalog: &mut Catalog,
+    parked: &mut Vec<Parked>,
+    plan: &Plan,
+    names: NameCounts,
+) -> Result<Reserved, Memory>
+    ensures model { catalog.new.model ≡ catalog.old.model }
+    ensures room { IsNoLess catalog.old.room catalog.new.room }
+    ensures parked { parked.new.items ≡ parked.old.items }
+    ensures spare { IfOk result (λ reserved. vec_len parked.new < vec_capacity parked.new) }
+    ensures ok { IfOk result (λ reserved. IsReserved plan.now names reserved catalog.new) }
+{
+    sweep_settled(catalog, parked);
+    make_room(catalog, parked, plan, names)
+}
+
+fn sweep_settled(catalog: &mut Catalog, parked: &[Parked])
+    ensures { catalog.new ≡ catalog.old }
+{
+    if parked.is_empty() {
+        catalog.sweep();
+    }
+}
+
+fn make_room(
     catalog: &mut Catalog,
     parked: &mut Vec<Parked>,
     plan: &Plan,

@@ -22,7 +22,7 @@ use model_refusals::accepted;
 use name_index::Name;
 use std::alloc::Global;
 use std::marker::Model;
-use user_model::{ApplyFault, Edit, Group, Objective, Refusal, Row, Undo};
+use user_model::{ApplyFault, Edit, Groups, Objective, Refusal, Rows, Undo};
 
 /// The user's model, and what is kept to take back its last edits.
 ///
@@ -69,16 +69,16 @@ impl UserModel {
     }
 
     /// The groups in the order of their numbers.
-    pub fn groups(&self) -> &[Group]
-        ensures value { result.now ≡ self.now.model.groups }
+    pub fn groups(&self) -> &Groups
+        ensures value { result.now.items ≡ self.now.model.groups }
         ensures valid { IsValid self.now.model }
     {
         self.catalog.groups()
     }
 
     /// The rows in the order of their numbers.
-    pub fn rows(&self) -> &[Row]
-        ensures value { result.now ≡ self.now.model.rows }
+    pub fn rows(&self) -> &Rows
+        ensures value { result.now.items ≡ self.now.model.rows }
         ensures valid { IsValid self.now.model }
     {
         self.catalog.rows()

@@ -13,7 +13,7 @@ use lists::Memory;
 use model_store::UserModel;
 use serde_json::{Value, json};
 use std::alloc::{AllocError, Global};
-use user_model::{Group, GroupVar, Row};
+use user_model::{Group, GroupVar, Groups, Row, Rows};
 
 /// The groups, each as an unnamed constraint, and then the rows.
 pub(crate) fn constraint_values(alloc: Global, model: &UserModel) -> Result<Vec<Value>, Memory>
@@ -29,12 +29,12 @@ pub(crate) fn constraint_values(alloc: Global, model: &UserModel) -> Result<Vec<
     Ok(values)
 }
 
-fn put_groups(alloc: Global, values: &mut Vec<Value>, groups: &[Group]) -> Result<(), Memory>
+fn put_groups(alloc: Global, values: &mut Vec<Value>, groups: &Groups) -> Result<(), Memory>
     ensures value { OnOk result (map view values.new.items
-        ≡ map view values.old.items ++ map group_data groups.now) }
-    ensures fits { OnOk result (All GroupFits groups.now) }
+        ≡ map view values.old.items ++ map group_data groups.now.items) }
+    ensures fits { OnOk result (All GroupFits groups.now.items) }
 {
-    for group in groups {
+    for group in groups.iter() {
         values.push(group_constraint(alloc, group)?)?;
     }
     Ok(())
@@ -44,13 +44,13 @@ fn put_rows(
     alloc: Global,
     values: &mut Vec<Value>,
     model: &UserModel,
-    rows: &[Row],
+    rows: &Rows,
 ) -> Result<(), Memory>
     ensures value { OnOk result (map view values.new.items
-        ≡ map view values.old.items ++ map (row_data (naming model.now.model)) rows.now) }
-    ensures fits { OnOk result (All IsSayableRow rows.now) }
+        ≡ map view values.old.items ++ map (row_data (naming model.now.model)) rows.now.items) }
+    ensures fits { OnOk result (All IsSayableRow rows.now.items) }
 {
-    for row in rows {
+    for row in rows.iter() {
         values.push(row_constraint(alloc, model, row)?)?;
     }
     Ok(())

@@ -15,7 +15,7 @@ use model_store::UserModel;
 use name_index::Text;
 use serde_json::{Value, json};
 use std::alloc::{AllocError, Global};
-use user_model::{Group, GroupVar, Objective, Sense};
+use user_model::{GroupVar, Groups, Objective, Sense};
 
 /// The compact text of a model as a MathOptFormat file, version 1.0, which names each variable in
 /// the order of the groups.
@@ -108,13 +108,13 @@ fn sense_word(sense: Sense) -> &'static str
 }
 
 // The variables of all groups.
-fn variables(alloc: Global, groups: &[Group]) -> Result<Vec<Value>, Memory>
+fn variables(alloc: Global, groups: &Groups) -> Result<Vec<Value>, Memory>
     ensures value { IfOk result (λ values. map view values.items
-        ≡ map variable_entry (flat_map (λ g. g.vars) groups.now)) }
-    ensures names { OnOk result (All VarsHaveNames groups.now) }
+        ≡ map variable_entry (flat_map (λ g. g.vars) groups.now.items)) }
+    ensures names { OnOk result (All VarsHaveNames groups.now.items) }
 {
     let mut values = Vec::new(alloc);
-    for group in groups {
+    for group in groups.iter() {
         put_variables(alloc, &mut values, group.vars.as_slice())?;
     }
     Ok(values)

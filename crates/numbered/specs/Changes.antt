@@ -1,8 +1,12 @@
 -- Changes of what stands at some numbers of a list, and what takes them back.
-use Rattle.std.specs.Prelude.{ℕ, List, [], ◌∷◌, map, All, ◌&&◌, is_some, count_by}
+use Rattle.std.specs.Prelude.{ℕ, Option, List, [], ◌∷◌, map, All, ◌&&◌, is_some, count_by}
 use Rattle.std.specs.Option.{is_none}
 use Rattle.numbered.specs.declared.change.Change.{Change}
 use Rattle.numbered.specs.Numbered.{Rise, IsAt, find, set_at}
+
+-- a number with what is to stand there
+abbrev pub change_to : {X : Type 0} → ℕ → Option X → Change X
+change_to n new = record { number = n; content = new }
 
 -- the number whose content changes
 abbrev pub changed_number : {X : Type 0} → Change X → ℕ

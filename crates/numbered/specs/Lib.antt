@@ -6,5 +6,5 @@ pub mod SetLaws
 pub mod ChangeLaws
 pub mod ExchangeLaws
 pub mod PlaceLaws
-pub mod Gap
-pub mod GapLaws
+pub mod Listed
+pub mod ListedLaws

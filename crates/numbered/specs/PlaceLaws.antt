@@ -1,5 +1,5 @@
 -- What a binary search by numbers answers, and what an exchange leaves at the place that it finds.
-use Rattle.std.specs.Prelude.{◌≡◌, ℕ, ◌+◌, ◌<◌, ◌≤◌, List, [], ◌∷◌, Option, Some, None, Result, Ok, Err, All, insert, remove, length, take, drop, slice_get, slice_index_or, nat_lt, false, refl}
+use Rattle.std.specs.Prelude.{◌≡◌, ℕ, ◌+◌, ◌-◌, ◌<◌, ◌≤◌, List, [], ◌∷◌, Option, Some, Result, Ok, Err, All, insert, length, take, drop, slice_get, slice_index_or, nat_lt, false, refl}
 use Rattle.std.specs.Option.{is_some}
 use Rattle.std.proofs.Math.ListN.{set}
 use Rattle.std.specs.Cmp.{nat_cmp_total}
@@ -8,15 +8,15 @@ use Rattle.std.specs.List.Sorted.{IsBinarySearchResult, IsSearchInRange, IsSorte
 use Rattle.std.proofs.Common.{arith, sym, ap, subst, inl, inr, add-one, ◌∙◌}
 use Rattle.std.proofs.lemmas.Bool.{cases_eq, cases_lt}
 use Rattle.std.proofs.lemmas.Bool.Decides.{nat_tests}
-use Rattle.std.proofs.lemmas.List.{append-nil, take-append-drop, length-take, length-drop, get_or-take, get_or-drop, set_split}
+use Rattle.std.proofs.lemmas.List.{append-nil, get_or_default, take-append-drop, length-take, length-drop, get_or-take, get_or-drop, set_split}
 use Rattle.std.proofs.lemmas.List.Elements.{filter-append}
 use Rattle.std.proofs.lemmas.List.Sorted.{searchable_from_sorted}
 use Rattle.std.proofs.lemmas.Option.{slice_get-get_or, slice_get_read, get_or_from_slice_get}
 use Rattle.map_laws.specs.TestLaws.{equal_to, greater_than, less_than}
-use Rattle.numbered.specs.Numbered.{Rise, find, below, above, IsAt, set_at}
+use Rattle.numbered.specs.Numbered.{Rise, find, below, above, set_at}
 use Rattle.numbered.specs.Places.{IsFoundAt, IsMissingAt, IsPlaceOf}
 use Rattle.numbered.specs.Laws.{find-at, find-none}
-use Rattle.numbered.specs.SetLaws.{below-all, below-none, above-all, above-none, Rise-set_at}
+use Rattle.numbered.specs.SetLaws.{below-all, below-none, above-all, above-none}
 
 no_less : (a b : ℕ) → a < b → is_lt (nat_cmp b a) ≡ false
 no_less a b lt = grind (arith, nat_tests)
@@ -54,7 +54,7 @@ module _ {X : Type 0} (number_of : X → ℕ) where
       ∙ rw (above-none number_of n (take i xs) low, above-all number_of n (drop i xs) high)
       refl))
 
-  found_at : (n : ℕ) (xs : List X) (i : ℕ) (x : X) → Rise number_of xs → i < length xs
+  pub found_at : (n : ℕ) (xs : List X) (i : ℕ) (x : X) → Rise number_of xs → i < length xs
       → slice_get xs i ≡ Some x → number_of x ≡ n → IsFoundAt number_of n xs i
   found_at n xs i x rise lt is e =
       let found : find number_of n xs ≡ Some x =
@@ -91,7 +91,7 @@ module _ {X : Type 0} (number_of : X → ℕ) where
             | inr other ↦ omega (arith, rise.rising k i d (omega arith) lt)
           ]
 
-  missing_at : (n : ℕ) (xs : List X) (i : ℕ) → i ≤ length xs
+  pub missing_at : (n : ℕ) (xs : List X) (i : ℕ) → i ≤ length xs
       → ((k : ℕ) (d : X) → k < i → number_of (slice_index_or xs k d) < n)
       → ((k : ℕ) (d : X) → i ≤ k → k < length xs → n < number_of (slice_index_or xs k d))
       → IsMissingAt number_of n xs i
@@ -108,6 +108,30 @@ module _ {X : Type 0} (number_of : X → ℕ) where
         after = above_place n xs i (All-take (λ y. number_of y ≤ n) i xs le
             (λ k d lt. omega (arith, low k d lt))) (All-drop (λ y. n < number_of y) i xs le high);
       }
+
+  -- a number above that of the last item
+  pub past_last : (n : ℕ) (xs : List X) (x : X) → Rise number_of xs
+      → x ≡ slice_index_or xs (length xs - 1) x → number_of x < n
+      → IsMissingAt number_of n xs (length xs)
+  past_last n xs x rise is lt = missing_at n xs (length xs) (omega arith) low
+      (λ k d ge end. absurd (omega arith))
+    where
+      low : (k : ℕ) (d : X) → k < length xs → number_of (slice_index_or xs k d) < n
+      low k d end =
+          elim (cases_eq k (length xs - 1)) [
+            | inl same ↦ omega (
+              arith,
+              lt,
+              ap (λ j. number_of (slice_index_or xs j d)) same,
+              ap number_of (is ∙ get_or_default xs (length xs - 1) x d (omega arith)),
+            )
+            | inr other ↦ omega (
+              arith,
+              lt,
+              rise.rising k (length xs - 1) d (omega arith) (omega arith),
+              ap number_of (is ∙ get_or_default xs (length xs - 1) x d (omega arith)),
+            )
+          ]
 
   -- what a binary search by numbers answers
   pub searched : (n : ℕ) (xs : List X) (r : Result ℕ ℕ) → Rise number_of xs
@@ -129,20 +153,10 @@ module _ {X : Type 0} (number_of : X → ℕ) where
   unfolding set_at
   replaced n x xs i at = set_split xs i x at.in_range ∙ rw (← at.before, ← at.after, add-one) refl
 
-  pub removed : (n : ℕ) (xs : List X) (i : ℕ) → IsFoundAt number_of n xs i
-      → remove xs i ≡ set_at number_of n None xs
-  unfolding set_at
-  removed n xs i at = rw (← at.before, ← at.after, add-one) refl
-
   pub inserted : (n : ℕ) (x : X) (xs : List X) (i : ℕ) → IsMissingAt number_of n xs i
       → insert xs i x ≡ set_at number_of n (Some x) xs
   unfolding set_at
   inserted n x xs i at = rw (← at.before, ← at.after) refl
-
-  pub left_as_is : (n : ℕ) (xs : List X) (i : ℕ) → IsMissingAt number_of n xs i
-      → xs ≡ set_at number_of n None xs
-  unfolding set_at
-  left_as_is n xs i at = rw (← at.before, ← at.after) (sym (take-append-drop i xs))
 
   -- each kind, of a list ys that is xs and contents as the code has them
   pub after_replacing : (n : ℕ) (new : Option X) (x y : X) (xs ys : List X) (i : ℕ)
@@ -152,13 +166,6 @@ module _ {X : Type 0} (number_of : X → ℕ) where
       ∙ (replaced n x xs i (subst (λ zs. IsFoundAt number_of n zs i) same at)
       ∙ ap (λ o. set_at number_of n o xs) (sym e))
 
-  pub after_removing : (n : ℕ) (new : Option X) (xs ys zs : List X) (i : ℕ)
-      → IsFoundAt number_of n ys i → ys ≡ xs → zs ≡ remove xs i → new ≡ None
-      → zs ≡ set_at number_of n new xs
-  after_removing n new xs ys zs i at same is e = is
-      ∙ (removed n xs i (subst (λ ws. IsFoundAt number_of n ws i) same at)
-      ∙ ap (λ o. set_at number_of n o xs) (sym e))
-
   pub after_inserting : (n : ℕ) (new : Option X) (x : X) (xs ys zs : List X) (i : ℕ)
       → IsMissingAt number_of n ys i → ys ≡ xs → zs ≡ insert xs i x → new ≡ Some x
       → zs ≡ set_at number_of n new xs
@@ -166,20 +173,9 @@ module _ {X : Type 0} (number_of : X → ℕ) where
       ∙ (inserted n x xs i (subst (λ ws. IsMissingAt number_of n ws i) same at)
       ∙ ap (λ o. set_at number_of n o xs) (sym e))
 
-  pub after_nothing : (n : ℕ) (new : Option X) (xs ys : List X) (i : ℕ)
-      → IsMissingAt number_of n ys i → ys ≡ xs → new ≡ None → xs ≡ set_at number_of n new xs
-  after_nothing n new xs ys i at same e = left_as_is n xs i
-      (subst (λ ws. IsMissingAt number_of n ws i) same at)
-      ∙ ap (λ o. set_at number_of n o xs) (sym e)
-
   -- what was taken out of the place
   pub taken_out : (n : ℕ) (x : X) (xs ys : List X) (i : ℕ) → IsFoundAt number_of n ys i → ys ≡ xs
       → x ≡ slice_index_or xs i x → Some x ≡ find number_of n xs
   taken_out n x xs ys i at same is =
       let here = subst (λ zs. IsFoundAt number_of n zs i) same at in
       sym (here.found ∙ slice_get_read xs (length xs) i x refl here.in_range is)
-
-  pub Rise-after : (n : ℕ) (new : Option X) (xs zs : List X) → Rise number_of xs
-      → IsAt number_of n new → zs ≡ set_at number_of n new xs → Rise number_of zs
-  Rise-after n new xs zs rise own e =
-      subst (Rise number_of) (sym e) (Rise-set_at number_of n new xs own rise)

@@ -3,11 +3,12 @@
 #![tactic(auto)]
 
 mod change;
-mod exchanges;
-mod gap;
+mod items;
+mod list;
+mod places;
 mod search;
 
 pub use change::Change;
-pub use exchanges::{exchange, exchange_all};
-pub use gap::{close_gap, exchange_at_gap, open_gap};
-pub use search::{HasNumber, place_of, with_number};
+pub use items::Items;
+pub use list::Numbered;
+pub use search::HasNumber;

@@ -25,10 +25,10 @@ fn sum(bytes: &[u8]) -> u64 {
 
 /// Prints the groups, the rows and the objective, a line each.
 pub fn show(rt: &HostRuntime, model: &UserModel) -> Result<(), Stop> {
-    for group in model.groups() {
+    for group in model.groups().iter() {
         println!(rt; "{group:?}")?;
     }
-    for row in model.rows() {
+    for row in model.rows().iter() {
         println!(rt; "{row:?}")?;
     }
     println!(rt; "{:?}", model.objective())?;
@@ -37,10 +37,10 @@ pub fn show(rt: &HostRuntime, model: &UserModel) -> Result<(), Stop> {
 
 /// Prints copies of the same.
 pub fn show_copies(rt: &HostRuntime, model: &UserModel) -> Result<(), Stop> {
-    for group in model.groups() {
+    for group in model.groups().iter() {
         show_group(rt, group)?;
     }
-    for row in model.rows() {
+    for row in model.rows().iter() {
         show_row(rt, row)?;
     }
     let objective = model.objective().copy(rt.alloc())?;

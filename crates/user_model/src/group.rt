@@ -4,7 +4,7 @@ ghost use Rattle.std.specs.Prelude.{◌≡◌, IfOk};
 use aff_core::Sequence;
 use lists::Duplicate;
 use name_index::Name;
-use numbered::HasNumber;
+use numbered::{HasNumber, Numbered};
 use ratio_core::Memory;
 use set_core::Set;
 use std::alloc::Global;
@@ -26,6 +26,9 @@ pub struct Group {
     pub vars: GroupVars,
     pub set: Set,
 }
+
+/// Groups in the order of their numbers, each found by its number.
+pub type Groups = Numbered<Group>;
 
 impl HasNumber for Group {
     ghost number_of = { λ group. group.id };

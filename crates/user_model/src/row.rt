@@ -4,7 +4,7 @@ ghost use Rattle.std.specs.Prelude.{◌≡◌, IfOk};
 use crate::UserFunc;
 use lists::Duplicate;
 use name_index::Name;
-use numbered::HasNumber;
+use numbered::{HasNumber, Numbered};
 use ratio_core::Memory;
 use set_core::Set;
 use std::alloc::Global;
@@ -17,6 +17,9 @@ pub struct Row {
     pub func: UserFunc,
     pub set: Set,
 }
+
+/// Rows in the order of their numbers, each found by its number.
+pub type Rows = Numbered<Row>;
 
 impl HasNumber for Row {
     ghost number_of = { λ row. row.id };

@@ -10,7 +10,7 @@ use Rattle.adjoint_core.proofs.costs.adjoints_of.Goals as goal
 
 pub returns : goal.returns
 returns c =
-    let parts = adjoint_parts (rows_with c.args.duals.now c.args.rows.now) in
+    let parts = adjoint_parts (rows_with c.args.duals.now c.args.rows.now.items) in
     subst (λ (us : List Address). ExactWhere c.adjoint_of_rows.result
     (All (λ v. AddUp zero_ℚ (parts v)) us)
     (λ sums. sums.items ≡ map (λ v. sum_from zero_ℚ (parts v)) us))

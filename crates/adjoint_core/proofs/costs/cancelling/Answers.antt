@@ -12,7 +12,7 @@ use Rattle.adjoint_core.proofs.costs.cancelling.Goals as goal
 
 pub returns-in_default : goal.returns-in_default
 returns-in_default c =
-    let hs = rows_with c.args.duals.now c.args.rows.now in
+    let hs = rows_with c.args.duals.now c.args.rows.now.items in
     let us = c.args.users.now in
     let i = c.loop-i.i in
     let x = c.user-item.result in
@@ -31,7 +31,7 @@ returns-in_default c =
 
 pub loop-i-preserved : goal.loop-i-preserved
 loop-i-preserved c =
-    let hs = rows_with c.args.duals.now c.args.rows.now in
+    let hs = rows_with c.args.duals.now c.args.rows.now.items in
     let us = c.args.users.now in
     let i = c.loop-i.i in
     let x = c.user-item.result in

@@ -8,7 +8,7 @@ use Rattle.adjoint_core.proofs.costs.cancelling.Given as goal
 
 abbrev pub invariant-loop-i : goal.invariant-loop-i
 invariant-loop-i l =
-    let hs = rows_with l.duals l.rows in
+    let hs = rows_with l.duals l.rows.items in
     MadeInOrder (λ v. AddUp zero_ℚ (adjoint_parts hs v)) (λ v. v) (λ v. neg_ℚ (adjoint hs v))
     l.users l.i l.vars.items
     × (l.i ≤ length l.sums.items)

@@ -15,7 +15,7 @@ use Rattle.adjoint_core.proofs.costs.reduced_costs.Goals as goal
 
 pub returns-in_default : goal.returns-in_default
 returns-in_default c =
-    let hs = rows_with c.args.duals.now c.args.rows.now in
+    let hs = rows_with c.args.duals.now c.args.rows.now.items in
     let sense = sense_of c.args.objective.now in
     let cost = coefficient (objective_function c.args.objective.now) in
     let us = c.args.users.now in
@@ -37,7 +37,7 @@ returns-in_default c =
 
 pub returns-in_err-cost_left : goal.returns-in_err-cost_left
 returns-in_err-cost_left c =
-    let hs = rows_with c.args.duals.now c.args.rows.now in
+    let hs = rows_with c.args.duals.now c.args.rows.now.items in
     let sense = sense_of c.args.objective.now in
     let cost = coefficient (objective_function c.args.objective.now) in
     let us = c.args.users.now in
@@ -70,7 +70,7 @@ returns-in_err-cost_left c =
 
 pub loop-i-preserved : goal.loop-i-preserved
 loop-i-preserved c =
-    let hs = rows_with c.args.duals.now c.args.rows.now in
+    let hs = rows_with c.args.duals.now c.args.rows.now.items in
     let sense = sense_of c.args.objective.now in
     let cost = coefficient (objective_function c.args.objective.now) in
     let us = c.args.users.now in

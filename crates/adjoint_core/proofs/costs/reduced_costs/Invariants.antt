@@ -10,7 +10,7 @@ use Rattle.adjoint_core.proofs.costs.reduced_costs.Given as goal
 
 abbrev pub invariant-loop-i : goal.invariant-loop-i
 invariant-loop-i l =
-    let hs = rows_with l.duals l.rows in
+    let hs = rows_with l.duals l.rows.items in
     let sense = sense_of l.objective in
     let cost = coefficient (objective_function l.objective) in
     MadeInOrder

@@ -8,7 +8,7 @@ use Rattle.adjoint_core.proofs.costs.up_to_unfit.Given as goal
 
 abbrev pub invariant-loop-end : goal.invariant-loop-end
 invariant-loop-end l =
-    let parts = adjoint_parts (rows_with l.duals l.rows) in
+    let parts = adjoint_parts (rows_with l.duals l.rows.items) in
     Between (λ v. AddUp zero_ℚ (parts v)) (λ v. sum_from zero_ℚ (parts v)) l.users l.sums.items
     l.end
 

@@ -18,10 +18,10 @@ returns-in_err-of_rows c =
     let rows = c.args.rows.now in
     let vars = c.args.vars.now in
     told_on c.from_residual.result c.in_err-of_rows.field-0.0
-    (GapFits zero_ℚ (zip (map row_place c.rows.result.now) (rows_with rows c.rows.result.now)))
+    (GapFits zero_ℚ (zip (map row_place c.rows.result.now.items) (rows_with rows c.rows.result.now.items)))
     (GapFits zero_ℚ (placed m rows vars)) (λ q. q ≡ dual_gap m rows vars)
-    (λ q. q ≡ sum_from zero_ℚ (gap_parts (rows_with rows c.rows.result.now)))
-    (UnfitGap zero_ℚ (zip (map row_place c.rows.result.now) (rows_with rows c.rows.result.now)))
+    (λ q. q ≡ sum_from zero_ℚ (gap_parts (rows_with rows c.rows.result.now.items)))
+    (UnfitGap zero_ℚ (zip (map row_place c.rows.result.now.items) (rows_with rows c.rows.result.now.items)))
     (UnfitGap zero_ℚ (placed m rows vars))
     c.from_residual.ensures.1 c.in_err-of_rows.ensures
     (λ at k. unfit_first zero_ℚ (placed_rows m rows) (placed_groups m vars) at
@@ -32,6 +32,6 @@ pub returns : goal.returns
 returns c =
     let m = c.args.model.now.model in
     gap_at m c.args.rows.now c.args.vars.now c.requires.entries c.requires.size c.rows.ensures.valid
-    c.rows.result.now c.groups.result.now c.rows.ensures.value c.groups.ensures.value
+    c.rows.result.now.items c.groups.result.now.items c.rows.ensures.value c.groups.ensures.value
     c.in_ok-of_rows.of_rows c.in_ok-of_rows.ensures.0 c.in_ok-of_rows.ensures.1
     c.plus_each_group.result c.plus_each_group.ensures

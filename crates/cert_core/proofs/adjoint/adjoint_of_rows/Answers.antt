@@ -13,7 +13,7 @@ use Rattle.cert_core.proofs.adjoint.adjoint_of_rows.Goals as goal
 pub returns-in_err-add_rows : goal.returns-in_err-add_rows
 returns-in_err-add_rows c =
     let us = c.args.variables.now in
-    let parts = adjoint_parts (rows_with c.args.duals.now c.args.rows.now) in
+    let parts = adjoint_parts (rows_with c.args.duals.now c.args.rows.now.items) in
     let zeros = c.deref_mut.ensures.value ∙ c.in_ok-sums.ensures
     ∙ ap (map (λ _. zero_ℚ)) c.addresses.ensures.value in
     passed_on c.from_residual-in_err-add_rows.result c.in_err-add_rows.field-0.0
@@ -24,7 +24,7 @@ returns-in_err-add_rows c =
 pub returns : goal.returns
 returns c =
     let us = c.args.variables.now in
-    let parts = adjoint_parts (rows_with c.args.duals.now c.args.rows.now) in
+    let parts = adjoint_parts (rows_with c.args.duals.now c.args.rows.now.items) in
     let made = c.in_ok-sums.ensures ∙ ap (map (λ _. zero_ℚ)) c.addresses.ensures.value in
     let added = c.in_ok-add_rows.ensures (λ _. zero_ℚ) (c.deref_mut.ensures.value ∙ made)
     (λ k d lt. Fits_zero) in (

@@ -17,7 +17,7 @@ none = record { group = 0; variable = 0; row = 0 }
 
 pub returns-then-not-has_entries : goal.returns-then-not-has_entries
 returns-then-not-has_entries c = λ next.
-    let model = model_of c.args.groups.now c.args.rows.now c.args.objective.now next in
+    let model = model_of c.args.groups.now.items c.args.rows.now.items c.args.objective.now next in
     let lacks = λ (h : HasEntries model c.args.certificate.now). true≢false
     (sym ((c.has_entries.ensures next).1 h) ∙ c.if-not-has_entries.true) in (
       (
@@ -29,35 +29,35 @@ returns-then-not-has_entries c = λ next.
 
 pub is_optimal-requires-clause-ready : goal.is_optimal-requires-clause-ready
 is_optimal-requires-clause-ready c =
-    ready c.args.groups.now c.args.rows.now c.args.objective.now c.in_ok-of.field-0 c.requires.valid
+    ready c.args.groups.now.items c.args.rows.now.items c.args.objective.now c.in_ok-of.field-0 c.requires.valid
     c.requires.numbers c.in_ok-of.ensures
 
 pub is_optimal-requires-clause-size : goal.is_optimal-requires-clause-size
 is_optimal-requires-clause-size c =
-    let entries = subst (HasEntries (model_of c.args.groups.now c.args.rows.now
+    let entries = subst (HasEntries (model_of c.args.groups.now.items c.args.rows.now.items
     c.args.objective.now none))
     c.in-Optimal.is ((c.has_entries.ensures none).0 c.if-not-has_entries.false) in
     ap length c.as_slice-in-Optimal-2.ensures ∙ entries.0
-    ∙ sym (variable_count c.args.groups.now c.in_ok-of.field-0 c.in_ok-of.ensures)
+    ∙ sym (variable_count c.args.groups.now.items c.in_ok-of.field-0 c.in_ok-of.ensures)
 
 pub is_optimal-requires-clause-rows : goal.is_optimal-requires-clause-rows
 is_optimal-requires-clause-rows c =
-    let entries = subst (HasEntries (model_of c.args.groups.now c.args.rows.now
+    let entries = subst (HasEntries (model_of c.args.groups.now.items c.args.rows.now.items
     c.args.objective.now none))
     c.in-Optimal.is ((c.has_entries.ensures none).0 c.if-not-has_entries.false) in
-    subst (HasRowDuals c.args.rows.now) (sym c.as_slice.ensures) entries.1
+    subst (HasRowDuals c.args.rows.now.items) (sym c.as_slice.ensures) entries.1
 
 pub is_optimal-requires-clause-vars : goal.is_optimal-requires-clause-vars
 is_optimal-requires-clause-vars c =
-    let entries = subst (HasEntries (model_of c.args.groups.now c.args.rows.now
+    let entries = subst (HasEntries (model_of c.args.groups.now.items c.args.rows.now.items
     c.args.objective.now none))
     c.in-Optimal.is ((c.has_entries.ensures none).0 c.if-not-has_entries.false) in
     ap length c.as_slice-in-Optimal.ensures ∙ entries.2
-    ∙ sym (variable_count c.args.groups.now c.in_ok-of.field-0 c.in_ok-of.ensures)
+    ∙ sym (variable_count c.args.groups.now.items c.in_ok-of.field-0 c.in_ok-of.ensures)
 
 pub returns-in-Optimal : goal.returns-in-Optimal
 returns-in-Optimal c = λ next.
-    let model = model_of c.args.groups.now c.args.rows.now c.args.objective.now next in
+    let model = model_of c.args.groups.now.items c.args.rows.now.items c.args.objective.now next in
     let r = c.is_optimal.result in
     let x = c.as_slice-in-Optimal-2.ensures in
     let ys = c.as_slice.ensures in
@@ -72,27 +72,27 @@ returns-in-Optimal c = λ next.
 
 pub is_infeasible-requires-clause-ready : goal.is_infeasible-requires-clause-ready
 is_infeasible-requires-clause-ready c =
-    ready c.args.groups.now c.args.rows.now c.args.objective.now c.in_ok-of.field-0 c.requires.valid
+    ready c.args.groups.now.items c.args.rows.now.items c.args.objective.now c.in_ok-of.field-0 c.requires.valid
     c.requires.numbers c.in_ok-of.ensures
 
 pub is_infeasible-requires-clause-rows : goal.is_infeasible-requires-clause-rows
 is_infeasible-requires-clause-rows c =
-    let entries = subst (HasEntries (model_of c.args.groups.now c.args.rows.now
+    let entries = subst (HasEntries (model_of c.args.groups.now.items c.args.rows.now.items
     c.args.objective.now none))
     c.in-Infeasible.is ((c.has_entries.ensures none).0 c.if-not-has_entries.false) in
-    subst (HasRowDuals c.args.rows.now) (sym c.as_slice-in-Infeasible.ensures) entries.0
+    subst (HasRowDuals c.args.rows.now.items) (sym c.as_slice-in-Infeasible.ensures) entries.0
 
 pub is_infeasible-requires-clause-vars : goal.is_infeasible-requires-clause-vars
 is_infeasible-requires-clause-vars c =
-    let entries = subst (HasEntries (model_of c.args.groups.now c.args.rows.now
+    let entries = subst (HasEntries (model_of c.args.groups.now.items c.args.rows.now.items
     c.args.objective.now none))
     c.in-Infeasible.is ((c.has_entries.ensures none).0 c.if-not-has_entries.false) in
     ap length c.as_slice-in-Infeasible-2.ensures ∙ entries.1
-    ∙ sym (variable_count c.args.groups.now c.in_ok-of.field-0 c.in_ok-of.ensures)
+    ∙ sym (variable_count c.args.groups.now.items c.in_ok-of.field-0 c.in_ok-of.ensures)
 
 pub returns-in-Infeasible : goal.returns-in-Infeasible
 returns-in-Infeasible c = λ next.
-    let model = model_of c.args.groups.now c.args.rows.now c.args.objective.now next in
+    let model = model_of c.args.groups.now.items c.args.rows.now.items c.args.objective.now next in
     let r = c.is_infeasible.result in
     let ys = c.as_slice-in-Infeasible.ensures in
     let vs = c.as_slice-in-Infeasible-2.ensures in
@@ -105,28 +105,28 @@ returns-in-Infeasible c = λ next.
 
 pub is_unbounded-requires-clause-ready : goal.is_unbounded-requires-clause-ready
 is_unbounded-requires-clause-ready c =
-    ready c.args.groups.now c.args.rows.now c.args.objective.now c.in_ok-of.field-0 c.requires.valid
+    ready c.args.groups.now.items c.args.rows.now.items c.args.objective.now c.in_ok-of.field-0 c.requires.valid
     c.requires.numbers c.in_ok-of.ensures
 
 pub is_unbounded-requires-clause-point : goal.is_unbounded-requires-clause-point
 is_unbounded-requires-clause-point c =
-    let entries = subst (HasEntries (model_of c.args.groups.now c.args.rows.now
+    let entries = subst (HasEntries (model_of c.args.groups.now.items c.args.rows.now.items
     c.args.objective.now none))
     c.in-Unbounded.is ((c.has_entries.ensures none).0 c.if-not-has_entries.false) in
     ap length c.as_slice-in-Unbounded.ensures ∙ entries.0
-    ∙ sym (variable_count c.args.groups.now c.in_ok-of.field-0 c.in_ok-of.ensures)
+    ∙ sym (variable_count c.args.groups.now.items c.in_ok-of.field-0 c.in_ok-of.ensures)
 
 pub is_unbounded-requires-clause-ray : goal.is_unbounded-requires-clause-ray
 is_unbounded-requires-clause-ray c =
-    let entries = subst (HasEntries (model_of c.args.groups.now c.args.rows.now
+    let entries = subst (HasEntries (model_of c.args.groups.now.items c.args.rows.now.items
     c.args.objective.now none))
     c.in-Unbounded.is ((c.has_entries.ensures none).0 c.if-not-has_entries.false) in
     ap length c.as_slice-in-Unbounded-2.ensures ∙ entries.1
-    ∙ sym (variable_count c.args.groups.now c.in_ok-of.field-0 c.in_ok-of.ensures)
+    ∙ sym (variable_count c.args.groups.now.items c.in_ok-of.field-0 c.in_ok-of.ensures)
 
 pub returns : goal.returns
 returns c = λ next.
-    let model = model_of c.args.groups.now c.args.rows.now c.args.objective.now next in
+    let model = model_of c.args.groups.now.items c.args.rows.now.items c.args.objective.now next in
     let r = c.is_unbounded.result in
     let x = c.as_slice-in-Unbounded.ensures in
     let d = c.as_slice-in-Unbounded-2.ensures in

@@ -1,4 +1,3 @@
-use Rattle.std.proofs.Common.{drop}
 use Rattle.aff_core.specs.FunctionLists.{evaluations}
 use Rattle.set_core.specs.Membership.{MembershipFits}
 use Rattle.certificates.specs.Points.{functions_of_group}
@@ -12,4 +11,4 @@ invariant-loop-group l =
     GroupsTested
     (λ x g. MembershipFits g.set (evaluations (one_of l.reading) (functions_of_group g) x))
     (λ x g. FunctionsHold (one_of l.reading) g.set (functions_of_group g) x)
-    l.all l.groups (drop l.group-index l.groups) l.fn.numbers l.left
+    l.all l.groups.items l.group-iterator l.fn.numbers l.left

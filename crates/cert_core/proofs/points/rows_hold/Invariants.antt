@@ -1,4 +1,3 @@
-use Rattle.std.proofs.Common.{drop}
 use Rattle.certificates.specs.Points.{functions_of}
 use Rattle.cert_core.specs.Folds.{FitIn}
 use Rattle.cert_core.specs.Holding.{FunctionsHold}
@@ -11,4 +10,4 @@ abbrev pub invariant-loop-row : goal.invariant-loop-row
 invariant-loop-row l =
     TestedAsAll (λ r. FitIn (one_of l.reading) r.set (functions_of r.func) (numbers_in l.at))
     (λ r. FunctionsHold (one_of l.reading) r.set (functions_of r.func) (numbers_in l.at))
-    l.all l.rows (drop l.row-index l.rows)
+    l.all l.rows.items l.row-iterator

@@ -6,5 +6,5 @@ use Rattle.cert_text.proofs.printing.push_numbers.Given as goal
 
 abbrev pub invariant-loop-number : goal.invariant-loop-number
 invariant-loop-number l =
-    VariablesPrinted l.word (variables_of l.groups) l.numbers l.fn.text.items
+    VariablesPrinted l.word (variables_of l.groups.items) l.numbers l.fn.text.items
     (variables_left l.variables) (drop l.number-index l.numbers) l.text.items

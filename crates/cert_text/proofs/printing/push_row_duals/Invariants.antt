@@ -4,4 +4,5 @@ use Rattle.cert_text.proofs.printing.push_row_duals.Given as goal
 
 abbrev pub invariant-loop-i : goal.invariant-loop-i
 invariant-loop-i l =
-    RowsPrinted l.rows l.duals l.fn.text.items (drop l.i l.rows) (drop l.i l.duals) l.text.items
+    RowsPrinted l.rows.items l.duals l.fn.text.items l.row-iterator
+    (drop l.i l.duals) l.text.items

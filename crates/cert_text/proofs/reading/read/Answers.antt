@@ -3,4 +3,4 @@ use Rattle.cert_text.proofs.reading.read.Goals as goal
 
 pub returns-clause-entries : goal.returns-clause-entries
 returns-clause-entries c =
-    entries_told c.args.groups.now c.args.rows.now c.read_lines.result _ c.read_lines.ensures
+    entries_told c.args.groups.now.items c.args.rows.now.items c.read_lines.result _ c.read_lines.ensures

@@ -8,4 +8,4 @@ use Rattle.cert_text.proofs.reading.read_numbers.Given as goal
 abbrev pub invariant-loop-var : goal.invariant-loop-var
 invariant-loop-var l =
     line_left (variable_number l.word) l.numbers.items (variables_left l.var-iterator) l.lines
-    ≡ point_of (variables_of l.groups) l.word l.fn.lines
+    ≡ point_of (variables_of l.groups.items) l.word l.fn.lines

@@ -9,7 +9,7 @@ returns c =
     let certificate = c.args.certificate.now in
     ap Printed
     (c.in_ok-text.ensures.value
-    ∙ ap (λ gs. certificate_text (variables_of gs) c.rows.result.now certificate)
+    ∙ ap (λ gs. certificate_text (variables_of gs) c.rows.result.now.items certificate)
     c.groups.ensures.value
     ∙ ap (λ rs. certificate_text (variables_of c.args.model.now.model.groups) rs certificate)
     c.rows.ensures.value)

@@ -8,8 +8,8 @@ use Rattle.model_bridging.proofs.kinds.check_kinds.Goals as goal
 pub returns-in_err-check_groups : goal.returns-in_err-check_groups
 returns-in_err-check_groups g c =
     let choice = (g.R.Rewriter.means c.args.rewriter.now).choice in
-    let items = map group_item c.args.groups.now in
-    let others = map row_item c.args.rows.now ++ objective_items c.args.objective.now in
+    let items = map group_item c.args.groups.now.items in
+    let others = map row_item c.args.rows.now.items ++ objective_items c.args.objective.now in
     handed_first choice (Unit {0}) (Unit {0}) c.from_residual.result c.in_err-check_groups.field-0.0
     (kinds_as_they_stand items) (map (λ i. kind_by (is_kept_by choice items) i.body) others)
     c.from_residual.ensures.1 c.in_err-check_groups.ensures
@@ -17,8 +17,8 @@ returns-in_err-check_groups g c =
 pub returns-in_err-check_rows : goal.returns-in_err-check_rows
 returns-in_err-check_rows g c =
     let choice = (g.R.Rewriter.means c.args.rewriter.now).choice in
-    let items = map group_item c.args.groups.now in
-    let rows = c.args.rows.now in
+    let items = map group_item c.args.groups.now.items in
+    let rows = c.args.rows.now.items in
     let last = objective_items c.args.objective.now in
     let by_told = told c.in_ok-kept.kept in
     let r = c.from_residual-in_err-check_rows.result in
@@ -35,8 +35,8 @@ returns-in_err-check_rows g c =
 pub returns : goal.returns
 returns g c =
     let choice = (g.R.Rewriter.means c.args.rewriter.now).choice in
-    let items = map group_item c.args.groups.now in
-    let rows = c.args.rows.now in
+    let items = map group_item c.args.groups.now.items in
+    let rows = c.args.rows.now.items in
     let last = objective_items c.args.objective.now in
     let by_told = told c.in_ok-kept.kept in
     let r = c.check_objective.result in

@@ -9,9 +9,9 @@ use Rattle.model_bridging.proofs.kinds.kept_variables.Goals as goal
 
 pub loop-group-init : goal.loop-group-init
 loop-group-init g c =
-    let source : c.args.groups.now ≡ c.into_iter-group-iterator.result.iter.rest.now =
-    sym (ap (λ r. r.iter.rest.now) c.into_iter-group-iterator.ensures.into_iter_gives
-    ∙ (ap (λ i. i.rest.now) c.rev-group-items.ensures.source ∙ c.iter.ensures.rest)) in (
+    let source : c.args.groups.now.items ≡ c.into_iter-group-iterator.result.iter =
+    sym (ap (λ r. r.iter) c.into_iter-group-iterator.ensures.into_iter_gives
+    ∙ (c.rev-group-items.ensures.source ∙ c.iter.ensures.items)) in (
       [],
       source ∙ sym (append-nil _),
       none_told (g.R.Rewriter.means c.args.rewriter.now).choice
@@ -25,7 +25,7 @@ loop-group-preserved g c =
     let taken = at.invariant.0 in
     let group = c.in-Some.group.now in (
       group ∷ taken,
-      taken_more c.next.new.self.iter.rest.now group taken at.invariant.1 c.in-Some.ensures.steps,
+      taken_more c.next.new.self.iter group taken at.invariant.1 c.in-Some.ensures.steps,
       group_more choice group taken at.kept c.tell.new.kept c.keeps-stays.result
           (c.keeps-stays.ensures ∙ ap (keeps choice) c.in_ok-kind.ensures) at.invariant.2
           (λ v. c.in_ok-tell.ensures v

@@ -8,6 +8,6 @@ use Rattle.model_bridging.proofs.kinds.kept_variables.Given as goal
 -- of the groups that were taken, from the last on, all is told
 abbrev pub invariant-loop-group : goal.invariant-loop-group
 invariant-loop-group g l =
-    (taken : List Group) × (l.groups ≡ l.group-iterator.iter.rest.now ++ taken)
+    (taken : List Group) × (l.groups.items ≡ l.group-iterator.iter ++ taken)
     × ((v : Address) → told l.kept v ≡ is_kept_by (g.R.Rewriter.means l.rewriter).choice
     (map group_item taken) v)

@@ -1,38 +1,40 @@
-use Rattle.std.proofs.Common.{◌+◌, ap, drop, map}
-use Rattle.std.proofs.lemmas.List.{drop_all}
-use Rattle.map_laws.specs.LoopLaws.{next_item}
+use Rattle.std.proofs.Common.{◌∙◌, ap, map, subst, sym}
 use Rattle.fresh_bridging.specs.ModelImage.{group_item}
-use Rattle.model_bridging.proofs.InOrder.{group_more, group_within, groups_end, groups_start}
+use Rattle.model_bridging.proofs.InOrder.{GroupsSoFar, group_more, group_within, groups_end, groups_start}
 use Rattle.model_bridging.proofs.model_plan.plan_groups.Goals as goal
 
 pub loop-group-init : goal.loop-group-init
 loop-group-init g c =
-    groups_start (g.R.Rewriter.means c.args.rewriter.now) (map group_item c.args.groups.now)
-    c.args.plan.now c.new-entries.result.items c.new-entries.ensures.items c.requires
+    let source = c.into_iter-group-iterator.ensures.into_iter_gives
+    ∙ c.iter-group-items.ensures.items in
+    subst (λ left. GroupsSoFar (g.R.Rewriter.means c.args.rewriter.now)
+    (map group_item c.args.groups.now.items) (map group_item left) c.args.plan.now
+    c.args.plan.now c.new-entries.result.items (g.R.Rewriter.means c.args.rewriter.now))
+    (sym source) (groups_start (g.R.Rewriter.means c.args.rewriter.now)
+    (map group_item c.args.groups.now.items)
+    c.args.plan.now c.new-entries.result.items c.new-entries.ensures.items c.requires)
 
 pub plan_item-requires : goal.plan_item-requires
 plan_item-requires g c =
-    let groups = c.args.groups.now in
+    let groups = c.args.groups.now.items in
     let at = c.loop-group in
-    let group = c.group-item.result in
-    let next = ap (map group_item) (next_item groups groups at.group-index group (λ i. groups)
-    c.group-item.is c.loop-group-test.true) in
+    let group = c.in-Some.group.now in
+    let next = ap (map group_item) c.in-Some.ensures.steps in
     group_within (g.R.Rewriter.means c.args.rewriter.now) (map group_item groups)
-    (map group_item (drop at.group-index groups))
-    (map group_item (drop (at.group-index + 1) groups)) (group_item group) c.args.plan.now
+    (map group_item at.group-iterator)
+    (map group_item c.next.new.self) (group_item group) c.args.plan.now
     at.plan at.entries.items (g.R.Rewriter.means at.rewriter) at.invariant next
     c.in_ok-item.item c.in_ok-item.ensures
 
 pub loop-group-preserved : goal.loop-group-preserved
 loop-group-preserved g c =
-    let groups = c.args.groups.now in
+    let groups = c.args.groups.now.items in
     let at = c.loop-group in
-    let group = c.group-item.result in
-    let next = ap (map group_item) (next_item groups groups at.group-index group (λ i. groups)
-    c.group-item.is c.loop-group-test.true) in
+    let group = c.in-Some.group.now in
+    let next = ap (map group_item) c.in-Some.ensures.steps in
     group_more (g.R.Rewriter.means c.args.rewriter.now) (map group_item groups)
-    (map group_item (drop at.group-index groups))
-    (map group_item (drop (at.group-index + 1) groups)) (group_item group) c.args.plan.now
+    (map group_item at.group-iterator)
+    (map group_item c.next.new.self) (group_item group) c.args.plan.now
     at.plan at.entries.items (g.R.Rewriter.means at.rewriter) at.invariant next
     c.in_ok-item.item c.in_ok-item.ensures
     c.plan_item.new.plan c.plan_item.new.entries.items (g.R.Rewriter.means c.plan_item.new.rewriter)
@@ -40,9 +42,9 @@ loop-group-preserved g c =
 
 pub returns-clause-answer : goal.returns-clause-answer
 returns-clause-answer g c =
-    let groups = c.args.groups.now in
+    let groups = c.args.groups.now.items in
     let at = c.loop-group in
     groups_end (g.R.Rewriter.means c.args.rewriter.now) (map group_item groups)
-    (map group_item (drop at.group-index groups)) c.args.plan.now at.plan at.entries.items
+    (map group_item at.group-iterator) c.args.plan.now at.plan at.entries.items
     (g.R.Rewriter.means at.rewriter) at.invariant
-    (ap (map group_item) (drop_all at.group-index groups c.loop-group-test.false))
+    (ap (map group_item) c.in-None.ensures.steps.0)

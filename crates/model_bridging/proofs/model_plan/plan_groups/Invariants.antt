@@ -1,10 +1,10 @@
-use Rattle.std.proofs.Common.{drop, map}
+use Rattle.std.proofs.Common.{map}
 use Rattle.fresh_bridging.specs.ModelImage.{group_item}
 use Rattle.model_bridging.proofs.InOrder.{GroupsSoFar}
 use Rattle.model_bridging.proofs.model_plan.plan_groups.Given as goal
 
 abbrev pub invariant-loop-group : goal.invariant-loop-group
 invariant-loop-group g l =
-    GroupsSoFar (g.R.Rewriter.means l.fn.rewriter) (map group_item l.groups)
-    (map group_item (drop l.group-index l.groups)) l.fn.plan l.plan l.entries.items
+    GroupsSoFar (g.R.Rewriter.means l.fn.rewriter) (map group_item l.groups.items)
+    (map group_item l.group-iterator) l.fn.plan l.plan l.entries.items
     (g.R.Rewriter.means l.rewriter)

@@ -5,16 +5,16 @@ use Rattle.model_bridging.proofs.model_plan.plan_items.Goals as goal
 
 pub plan_others-requires : goal.plan_others-requires
 plan_others-requires g c =
-    others_ready (g.R.Rewriter.means c.args.rewriter.now) c.args.groups.now
-    (map row_item c.args.rows.now ++ objective_items c.args.objective.now) c.new-plan.result
+    others_ready (g.R.Rewriter.means c.args.rewriter.now) c.args.groups.now.items
+    (map row_item c.args.rows.now.items ++ objective_items c.args.objective.now) c.new-plan.result
     c.plan_groups.new.plan c.in_ok-entries.entries.items c.in_ok-standing.standing
     (g.R.Rewriter.means c.plan_groups.new.rewriter) c.plan_groups.ensures.means
     c.in_ok-entries.ensures.answer c.in_ok-standing.ensures c.requires
 
 pub returns-in_err-plan_others-clause-answer : goal.returns-in_err-plan_others-clause-answer
 returns-in_err-plan_others-clause-answer g c =
-    whole_refused (g.R.Rewriter.means c.args.rewriter.now) c.args.groups.now
-    (map row_item c.args.rows.now ++ objective_items c.args.objective.now) c.new-plan.result
+    whole_refused (g.R.Rewriter.means c.args.rewriter.now) c.args.groups.now.items
+    (map row_item c.args.rows.now.items ++ objective_items c.args.objective.now) c.new-plan.result
     c.plan_groups.new.plan c.in_ok-entries.entries.items c.in_ok-standing.standing
     (g.R.Rewriter.means c.plan_groups.new.rewriter) c.plan_groups.ensures.means
     c.in_ok-entries.ensures.answer c.in_ok-standing.ensures
@@ -23,8 +23,8 @@ returns-in_err-plan_others-clause-answer g c =
 
 pub returns-clause-answer : goal.returns-clause-answer
 returns-clause-answer g c =
-    whole_done (g.R.Rewriter.means c.args.rewriter.now) c.args.groups.now
-    (map row_item c.args.rows.now ++ objective_items c.args.objective.now) c.new-plan.result
+    whole_done (g.R.Rewriter.means c.args.rewriter.now) c.args.groups.now.items
+    (map row_item c.args.rows.now.items ++ objective_items c.args.objective.now) c.new-plan.result
     c.plan_groups.new.plan c.in_ok-entries.entries.items c.in_ok-standing.standing
     (g.R.Rewriter.means c.plan_groups.new.rewriter) c.plan_groups.ensures.means
     c.in_ok-entries.ensures.answer c.in_ok-standing.ensures

@@ -22,7 +22,7 @@ returns c =
     let group = c.args.var.now.group.now in
     let place : c.root-at.result ≡ variable_address n = c.root-at.ensures in
     let changed : c.in_ok-plan-2.field-0.items ≡ edits_of row_number (row_without c.root-at.result)
-    (row_mentions c.root-at.result) c.rows.result.now = c.in_ok-plan-2.ensures in
+    (row_mentions c.root-at.result) c.rows.result.now.items = c.in_ok-plan-2.ensures in
     let rows : c.in_ok-plan-2.field-0.items ≡ deletion_changes model n =
     changed ∙ (ap (edits_of row_number (row_without c.root-at.result)
     (row_mentions c.root-at.result)) c.rows.ensures.value ∙ ap

@@ -21,7 +21,8 @@ returns-in-Ok c = λ name set.
     let is = c.in-Ok.ensures.value model c.requires.consistent c.requires.known in
     c.first_passed.ensures
     ∙ (ap (λ rows. first_full ((rows + 1, ROWS) ∷ (c.term_count.result + terms, ALL_TERMS)
-    ∷ (c.from.result, LAST_NUMBER) ∷ [])) (ap length c.rows.ensures.value)
+    ∷ (c.from.result, LAST_NUMBER) ∷ [])) (c.len.ensures.count
+    ∙ ap length c.rows.ensures.value)
     ∙ (ap (λ all. first_full ((length model.rows + 1, ROWS) ∷ (all + terms, ALL_TERMS)
     ∷ (c.from.result, LAST_NUMBER) ∷ [])) c.term_count.ensures
     ∙ (ap (λ next. first_full ((length model.rows + 1, ROWS) ∷ (

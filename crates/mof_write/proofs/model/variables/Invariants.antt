@@ -1,4 +1,4 @@
-use Rattle.std.proofs.Common.{◌≡◌, ◌++◌, drop, flat_map, map, take}
+use Rattle.std.proofs.Common.{◌≡◌, ◌++◌, flat_map, map}
 use Rattle.std.specs.Prelude.{All}
 use Rattle.serde_json.specs.View.{view}
 use Rattle.mof_write.specs.Written.{variable_entry}
@@ -8,7 +8,7 @@ use Rattle.mof_write.proofs.model.variables.Given as goal
 abbrev pub invariant-loop-group : goal.invariant-loop-group
 invariant-loop-group l = record {
   made : map view l.values.items
-      ++ map variable_entry (flat_map (λ g. g.vars) (drop l.group-index l.groups))
-      ≡ map variable_entry (flat_map (λ g. g.vars) l.groups);
-  fits : All VarsHaveNames (take l.group-index l.groups);
+      ++ map variable_entry (flat_map (λ g. g.vars) l.group-iterator)
+      ≡ map variable_entry (flat_map (λ g. g.vars) l.groups.items);
+  fits : All VarsHaveNames l.group-iterator → All VarsHaveNames l.groups.items;
 }

@@ -1,7 +1,13 @@
-use Rattle.std.proofs.Common.{rules}
+use Rattle.std.proofs.Common.{arith, rules}
 use Rattle.std.proofs.lemmas.Fn.{always_returns_same}
-use Rattle.numbered.specs.PlaceLaws.{searched}
+use Rattle.numbered.specs.PlaceLaws.{past_last, searched}
 use Rattle.numbered.proofs.search.place_of.Goals as goal
+
+pub returns-then-number : goal.returns-then-number
+returns-then-number g c =
+    let lt = c.if-number.true in
+    past_last g.X.HasNumber.number_of c.args.number c.args.items.now c.last-item.result c.requires
+    c.last-item.is (omega (arith, lt, c.number.ensures))
 
 pub returns : goal.returns
 returns g c =

@@ -18,9 +18,9 @@ P h = Dual h.set h.duals
 
 pub returns-in_err-rows : goal.returns-in_err-rows
 returns-in_err-rows c = λ next.
-    let groups = c.args.self.now.groups.now in
+    let groups = c.args.self.now.groups.now.items in
     let w = spread (all_addresses groups) c.args.duals.now.vars.now in
-    let front = rows_with c.args.duals.now.rows.now c.args.self.now.rows.now in
+    let front = rows_with c.args.duals.now.rows.now c.args.self.now.rows.now.items in
     let back = groups_with w groups in
     passed_on c.from_residual.result c.in_err-rows.field-0.0 (All F front) (All F (front ++ back))
     (λ holds. IsTrue holds ↔ All P (front ++ back)) (λ holds. IsTrue holds ↔ All P front)
@@ -28,11 +28,11 @@ returns-in_err-rows c = λ next.
 
 pub returns-in_err-groups : goal.returns-in_err-groups
 returns-in_err-groups c = λ next.
-    let groups = c.args.self.now.groups.now in
+    let groups = c.args.self.now.groups.now.items in
     let w = spread (all_addresses groups) c.args.duals.now.vars.now in
-    let w_is = numbers_of_model groups c.args.self.now.rows.now c.args.self.now.variables
+    let w_is = numbers_of_model groups c.args.self.now.rows.now.items c.args.self.now.variables
     c.args.duals.now.vars.now c.requires.ready c.requires.vars in
-    let front = rows_with c.args.duals.now.rows.now c.args.self.now.rows.now in
+    let front = rows_with c.args.duals.now.rows.now c.args.self.now.rows.now.items in
     let back = groups_with w groups in
     passed_on c.from_residual-in_err-groups.result c.in_err-groups.field-0.0 (All F back)
     (All F (front ++ back)) (λ holds. IsTrue holds ↔ All P (front ++ back))
@@ -41,13 +41,13 @@ returns-in_err-groups c = λ next.
 
 pub returns : goal.returns
 returns c = λ next.
-    let groups = c.args.self.now.groups.now in
+    let groups = c.args.self.now.groups.now.items in
     let w = spread (all_addresses groups) c.args.duals.now.vars.now in
-    let w_is = numbers_of_model groups c.args.self.now.rows.now c.args.self.now.variables
+    let w_is = numbers_of_model groups c.args.self.now.rows.now.items c.args.self.now.variables
     c.args.duals.now.vars.now c.requires.ready c.requires.vars in
     let a = c.in_ok-rows.rows in
     let b = c.in_ok-groups.groups in
-    appended_tell F P (rows_with c.args.duals.now.rows.now c.args.self.now.rows.now)
+    appended_tell F P (rows_with c.args.duals.now.rows.now c.args.self.now.rows.now.items)
     (groups_with w groups) a b c.all_true.result c.in_ok-rows.ensures
     (c.in_ok-groups.ensures w w_is)
     (iff_trans _ _ _ c.all_true.ensures (all_two a b))

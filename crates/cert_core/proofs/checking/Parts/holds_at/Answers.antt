@@ -13,8 +13,8 @@ use Rattle.cert_core.proofs.checking.Parts.holds_at.Goals as goal
 
 pub returns-in_err-rows : goal.returns-in_err-rows
 returns-in_err-rows c = λ next.
-    let groups = c.args.self.now.groups.now in
-    let rows = c.args.self.now.rows.now in
+    let groups = c.args.self.now.groups.now.items in
+    let rows = c.args.self.now.rows.now.items in
     let x = c.args.x.now in
     let one = one_of c.args.reading in
     let model = model_of groups rows c.args.self.now.objective.now next in
@@ -26,8 +26,8 @@ returns-in_err-rows c = λ next.
 
 pub returns-in_err-groups : goal.returns-in_err-groups
 returns-in_err-groups c = λ next.
-    let groups = c.args.self.now.groups.now in
-    let rows = c.args.self.now.rows.now in
+    let groups = c.args.self.now.groups.now.items in
+    let rows = c.args.self.now.rows.now.items in
     let x = c.args.x.now in
     let one = one_of c.args.reading in
     let model = model_of groups rows c.args.self.now.objective.now next in
@@ -41,8 +41,8 @@ returns-in_err-groups c = λ next.
 
 pub returns : goal.returns
 returns c = λ next.
-    let groups = c.args.self.now.groups.now in
-    let rows = c.args.self.now.rows.now in
+    let groups = c.args.self.now.groups.now.items in
+    let rows = c.args.self.now.rows.now.items in
     let x = c.args.x.now in
     let one = one_of c.args.reading in
     let model = model_of groups rows c.args.self.now.objective.now next in

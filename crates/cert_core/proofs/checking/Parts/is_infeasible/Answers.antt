@@ -16,8 +16,8 @@ use Rattle.cert_core.proofs.checking.Parts.is_infeasible.Goals as goal
 
 pub returns-in_err-in_sets : goal.returns-in_err-in_sets
 returns-in_err-in_sets c = λ next.
-    let groups = c.args.self.now.groups.now in
-    let rows = c.args.self.now.rows.now in
+    let groups = c.args.self.now.groups.now.items in
+    let rows = c.args.self.now.rows.now.items in
     let objective = c.args.self.now.objective.now in
     let us = c.args.self.now.variables in
     let ys = c.args.duals.now.rows.now in
@@ -29,8 +29,8 @@ returns-in_err-in_sets c = λ next.
 
 pub returns-in_err-equal : goal.returns-in_err-equal
 returns-in_err-equal c = λ next.
-    let groups = c.args.self.now.groups.now in
-    let rows = c.args.self.now.rows.now in
+    let groups = c.args.self.now.groups.now.items in
+    let rows = c.args.self.now.rows.now.items in
     let objective = c.args.self.now.objective.now in
     let us = c.args.self.now.variables in
     let ys = c.args.duals.now.rows.now in
@@ -51,8 +51,8 @@ returns-in_err-equal c = λ next.
 
 pub returns-in_err-of_duals : goal.returns-in_err-of_duals
 returns-in_err-of_duals c = λ next.
-    let groups = c.args.self.now.groups.now in
-    let rows = c.args.self.now.rows.now in
+    let groups = c.args.self.now.groups.now.items in
+    let rows = c.args.self.now.rows.now.items in
     let objective = c.args.self.now.objective.now in
     let us = c.args.self.now.variables in
     let ys = c.args.duals.now.rows.now in
@@ -65,8 +65,8 @@ returns-in_err-of_duals c = λ next.
 
 pub returns : goal.returns
 returns c = λ next.
-    let groups = c.args.self.now.groups.now in
-    let rows = c.args.self.now.rows.now in
+    let groups = c.args.self.now.groups.now.items in
+    let rows = c.args.self.now.rows.now.items in
     let objective = c.args.self.now.objective.now in
     let us = c.args.self.now.variables in
     let ys = c.args.duals.now.rows.now in

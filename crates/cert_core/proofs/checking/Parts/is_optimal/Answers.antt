@@ -18,8 +18,8 @@ use Rattle.cert_core.proofs.checking.Parts.is_optimal.Goals as goal
 
 pub returns-in_err-in_sets : goal.returns-in_err-in_sets
 returns-in_err-in_sets c = λ next.
-    let groups = c.args.self.now.groups.now in
-    let rows = c.args.self.now.rows.now in
+    let groups = c.args.self.now.groups.now.items in
+    let rows = c.args.self.now.rows.now.items in
     let objective = c.args.self.now.objective.now in
     let us = c.args.self.now.variables in
     let ys = c.args.duals.now.rows.now in
@@ -32,8 +32,8 @@ returns-in_err-in_sets c = λ next.
 
 pub returns-in_err-equal : goal.returns-in_err-equal
 returns-in_err-equal c = λ next.
-    let groups = c.args.self.now.groups.now in
-    let rows = c.args.self.now.rows.now in
+    let groups = c.args.self.now.groups.now.items in
+    let rows = c.args.self.now.rows.now.items in
     let objective = c.args.self.now.objective.now in
     let us = c.args.self.now.variables in
     let ys = c.args.duals.now.rows.now in
@@ -56,8 +56,8 @@ returns-in_err-equal c = λ next.
 
 pub returns-in_err-gap : goal.returns-in_err-gap
 returns-in_err-gap c = λ next.
-    let groups = c.args.self.now.groups.now in
-    let rows = c.args.self.now.rows.now in
+    let groups = c.args.self.now.groups.now.items in
+    let rows = c.args.self.now.rows.now.items in
     let objective = c.args.self.now.objective.now in
     let us = c.args.self.now.variables in
     let ys = c.args.duals.now.rows.now in
@@ -69,8 +69,8 @@ returns-in_err-gap c = λ next.
 
 pub returns-in_err-dual : goal.returns-in_err-dual
 returns-in_err-dual c = λ next.
-    let groups = c.args.self.now.groups.now in
-    let rows = c.args.self.now.rows.now in
+    let groups = c.args.self.now.groups.now.items in
+    let rows = c.args.self.now.rows.now.items in
     let objective = c.args.self.now.objective.now in
     let us = c.args.self.now.variables in
     let ys = c.args.duals.now.rows.now in
@@ -87,8 +87,8 @@ returns-in_err-dual c = λ next.
 
 pub returns : goal.returns
 returns c = λ next.
-    let groups = c.args.self.now.groups.now in
-    let rows = c.args.self.now.rows.now in
+    let groups = c.args.self.now.groups.now.items in
+    let rows = c.args.self.now.rows.now.items in
     let objective = c.args.self.now.objective.now in
     let us = c.args.self.now.variables in
     let ys = c.args.duals.now.rows.now in

@@ -12,8 +12,8 @@ use Rattle.cert_core.proofs.checking.Parts.is_unbounded.Goals as goal
 
 pub returns : goal.returns
 returns c = λ next.
-    let groups = c.args.self.now.groups.now in
-    let rows = c.args.self.now.rows.now in
+    let groups = c.args.self.now.groups.now.items in
+    let rows = c.args.self.now.rows.now.items in
     let objective = c.args.self.now.objective.now in
     let us = c.args.self.now.variables in
     let model = model_of groups rows objective next in

@@ -2,8 +2,8 @@ use Rattle.std.proofs.Common.{◌≡◌, length}
 use Rattle.cert_text.specs.Left.{variables_left}
 use Rattle.cert_text.proofs.variables.VariablesIterator.next.Given as goal
 
-abbrev pub invariant-loop-group : goal.invariant-loop-group
-invariant-loop-group l = variables_left l.self ≡ variables_left l.initial.self
+abbrev pub invariant-loop-self : goal.invariant-loop-self
+invariant-loop-self l = variables_left l.self ≡ variables_left l.initial.self
 
-abbrev pub decreases-loop-group : goal.decreases-loop-group
-decreases-loop-group l = length l.self.groups.now
+abbrev pub decreases-loop-self : goal.decreases-loop-self
+decreases-loop-self l = length l.self.groups

@@ -28,7 +28,6 @@ list_variables-requires-clause-room c =
       long is,
       ap (λ (x : Catalog). x.room.variables) c.self.view_is,
       c.requires.room.variables,
-      c.self.inside.kept.ok.0,
       ap put_count c.deref-2.ensures.value,
     )
 
@@ -45,7 +44,7 @@ exchange_names-requires-2-clause-distinct c =
 pub exchange_rows-requires-clause-counts : goal.exchange_rows-requires-clause-counts
 exchange_rows-requires-clause-counts c =
     counts (ready c.self.view_is c.self.invariant c.requires.changes c.requires.consistent
-    c.requires.within c.requires.names) c.deref_mut-4.ensures.value c.deref-2.ensures.value
+    c.requires.within c.requires.names) refl c.deref-2.ensures.value
     c.list_variables.ensures.entries
 
 pub changed_terms-taken_out-requires : goal.changed_terms-taken_out-requires
@@ -53,10 +52,10 @@ changed_terms-taken_out-requires c =
     let is = ready c.self.view_is c.self.invariant c.requires.changes c.requires.consistent
     c.requires.within c.requires.names in
     let back = with_items_is c.args.with.now.rows c.exchange_rows.new.changes
-    (c.exchange_rows.auto.changes ∙ c.deref_mut-5.ensures.len) in
+    (c.exchange_rows.auto.changes ∙ c.deref_mut-4.ensures.len) in
     omega (
       arith,
-      taken_fits is c.deref_mut-5.ensures.value (c.deref-3.ensures.value ∙ (back
+      taken_fits is c.deref_mut-4.ensures.value (c.deref-3.ensures.value ∙ (back
           ∙ c.exchange_rows.ensures.before)),
     )
 
@@ -68,9 +67,9 @@ fit : (c : After-changed_terms-taken_out) {now : ℕ}
     c.changed_terms-taken_out.result c.term_count-objective_was.result now
 fit c now =
     let back = with_items_is c.args.with.now.rows c.exchange_rows.new.changes
-    (c.exchange_rows.auto.changes ∙ c.deref_mut-5.ensures.len) in
+    (c.exchange_rows.auto.changes ∙ c.deref_mut-4.ensures.len) in
     terms_fit (ready c.self.view_is c.self.invariant c.requires.changes c.requires.consistent
-    c.requires.within c.requires.names) c.deref.ensures.value c.deref_mut-5.ensures.value
+    c.requires.within c.requires.names) c.deref.ensures.value c.deref_mut-4.ensures.value
     (c.deref-3.ensures.value ∙ (back ∙ c.exchange_rows.ensures.before))
     c.changed_terms-put_in.ensures c.changed_terms-taken_out.ensures
     c.term_count-objective_was.ensures now
@@ -94,7 +93,7 @@ pub returns-clause-model : goal.returns-clause-model
 returns-clause-model c =
     model_after (ready c.self.view_is c.self.invariant c.requires.changes c.requires.consistent
     c.requires.within c.requires.names) c.deref_mut-3.ensures.value c.exchange_all.ensures.after
-    c.deref_mut-5.ensures.value c.exchange_rows.ensures.after
+    c.deref_mut-4.ensures.value c.exchange_rows.ensures.after
     c.exchange_objective.ensures.objective c.swap.ensures.x_after
 
 pub returns-clause-contents : goal.returns-clause-contents
@@ -102,9 +101,9 @@ returns-clause-contents c =
     contents_after (ready c.self.view_is c.self.invariant c.requires.changes c.requires.consistent
     c.requires.within c.requires.names) c.deref_mut-3.ensures.value
     (with_items_is c.args.with.now.groups c.exchange_all.new.changes (c.exchange_all.auto.changes
-    ∙ c.deref_mut-3.ensures.len) ∙ c.exchange_all.ensures.before) c.deref_mut-5.ensures.value
+    ∙ c.deref_mut-3.ensures.len) ∙ c.exchange_all.ensures.before) c.deref_mut-4.ensures.value
     (with_items_is c.args.with.now.rows c.exchange_rows.new.changes (c.exchange_rows.auto.changes
-    ∙ c.deref_mut-5.ensures.len) ∙ c.exchange_rows.ensures.before)
+    ∙ c.deref_mut-4.ensures.len) ∙ c.exchange_rows.ensures.before)
     c.exchange_objective.ensures.other c.swap.ensures.y_after
 
 pub returns-clause-standing : goal.returns-clause-standing
@@ -133,17 +132,12 @@ invariant_of-self c =
     c.requires.within c.requires.names in
     let all = fit (goal.at.invariant_of-self c).After-changed_terms-taken_out (c.term_count.ensures
     ∙ ap objective_terms c.exchange_objective.ensures.objective) in
-    record {
-      keeps = keeps_after is (returns-clause-model c) c.deref_mut-4.ensures.value
-          c.deref-2.ensures.value c.list_variables.ensures.entries c.exchange_rows.ensures.kept
-          c.exchange_rows.ensures.entries
-          (with_items_is c.list_variables.new.kept c.exchange_rows.new.kept
-          (c.exchange_rows.auto.kept ∙ c.deref_mut-4.ensures.len)) c.deref_mut.ensures.value
-          c.exchange_names.ensures.names c.exchange_names.ensures.one_to_one
-          c.deref_mut-2.ensures.value c.exchange_names-2.ensures.names
-          c.exchange_names-2.ensures.one_to_one all.all;
-      aside = c.exchange_rows.ensures.aside;
-    }
+    keeps_after is (returns-clause-model c) refl
+    c.deref-2.ensures.value c.list_variables.ensures.entries c.exchange_rows.ensures.kept
+    c.exchange_rows.ensures.entries refl c.deref_mut.ensures.value
+    c.exchange_names.ensures.names c.exchange_names.ensures.one_to_one
+    c.deref_mut-2.ensures.value c.exchange_names-2.ensures.names
+    c.exchange_names-2.ensures.one_to_one all.all
 
 pub returns-clause-room : goal.returns-clause-room
 returns-clause-room c =
@@ -152,26 +146,20 @@ returns-clause-room c =
     let groups_back = with_items_is c.args.with.now.groups c.exchange_all.new.changes
     (c.exchange_all.auto.changes ∙ c.deref_mut-3.ensures.len) in
     let rows_back = with_items_is c.args.with.now.rows c.exchange_rows.new.changes
-    (c.exchange_rows.auto.changes ∙ c.deref_mut-5.ensures.len) in
-    let kept_is = with_items_is c.list_variables.new.kept c.exchange_rows.new.kept
-    (c.exchange_rows.auto.kept ∙ c.deref_mut-4.ensures.len) in
+    (c.exchange_rows.auto.changes ∙ c.deref_mut-4.ensures.len) in
     let counted = c.list_variables.ensures.count in
-    let variables_back = room_back is (invariant_of-self c).keeps c.deref-2.ensures.value
-    (returns-clause-standing c).variables (ap length kept_is ∙ (c.exchange_rows.auto.kept
-    ∙ ap length c.deref_mut-4.ensures.value))
-    (omega (arith, counted, c.self.inside.kept.ok.0, c.list_variables.new.kept.ok.0)) in
+    let variables_back = room_back is (invariant_of-self c) c.deref-2.ensures.value
+    (returns-clause-standing c).variables c.exchange_rows.ensures.count counted in
     record {
       groups = omega (
         arith,
         c.exchange_all.ensures.room,
-        c.exchange_all.new.items.ok.0,
-        ap (λ (cs : List (Change Group)). added group_number cs c.exchange_all.new.items.items)
+        ap (λ (cs : List (Change Group)). added group_number cs c.exchange_all.new.self.items)
             groups_back,
       );
       rows = omega (
         arith,
         c.exchange_rows.ensures.room,
-        c.exchange_rows.new.rows.ok.0,
         ap (λ (cs : List (Change Row)). added row_number cs c.exchange_rows.new.rows.items)
             rows_back,
       );
@@ -179,6 +167,7 @@ returns-clause-room c =
         arith,
         variables_back,
         c.list_variables.ensures.capacity,
+        c.exchange_rows.ensures.kept_room,
         c.requires.room.variables,
         ap (λ (x : Catalog). x.room.variables) c.self.view_is,
       );

@@ -10,10 +10,7 @@ use Rattle.model_catalog.proofs.catalog.Catalog.group_of.Goals as goal
 pub returns : goal.returns
 returns c =
     let variable = c.in_ok-variable.variable.now in
-    let there = c.in_ok-variable.ensures
-    ∙ ap (λ (vs : List Variable). find variable_number c.args.number vs)
-    c.deref.ensures.value in
-    let group = c.with_number-2.ensures ∙ ap (λ (gs : List Group). find group_number variable.group
-    gs) c.deref-2.ensures.value in
-    rw (← c.self.view_is) (group ∙ group_of_kept c.self.invariant.keeps.consistent
-    c.self.invariant.keeps.index c.args.number variable there)
+    let there = c.in_ok-variable.ensures in
+    let group = c.get-2.ensures in
+    rw (← c.self.view_is) (group ∙ group_of_kept c.self.invariant.consistent
+    c.self.invariant.index c.args.number variable there)

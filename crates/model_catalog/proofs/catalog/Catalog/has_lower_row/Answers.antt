@@ -7,14 +7,12 @@ use Rattle.model_catalog.proofs.catalog.Catalog.has_lower_row.Goals as goal
 
 pub returns-in-Some : goal.returns-in-Some
 returns-in-Some c =
-    let there = c.in-Some.ensures ∙ ap (λ (vs : List Variable). find variable_number c.args.number
-    vs) c.deref.ensures.value in
-    rw (← c.self.view_is) (lower_kept c.self.invariant.keeps.consistent
-    c.self.invariant.keeps.index c.args.number c.in-Some.variable.now there)
+    let there = c.in-Some.ensures in
+    rw (← c.self.view_is) (lower_kept c.self.invariant.consistent
+    c.self.invariant.index c.args.number c.in-Some.variable.now there)
 
 pub returns-in-None : goal.returns-in-None
 returns-in-None c =
-    let none = c.in-None.ensures ∙ ap (λ (vs : List Variable). find variable_number c.args.number
-    vs) c.deref.ensures.value in
-    rw (← c.self.view_is) (sym (no_lower c.self.invariant.keeps.consistent
-    c.self.invariant.keeps.index c.args.number (sym none)))
+    let none = c.in-None.ensures in
+    rw (← c.self.view_is) (sym (no_lower c.self.invariant.consistent
+    c.self.invariant.index c.args.number (sym none)))

@@ -6,14 +6,12 @@ use Rattle.model_catalog.proofs.Exchanges.{kept_alike}
 use Rattle.model_catalog.proofs.catalog.Catalog.new.Goals as goal
 
 pub invariant_of-result : goal.invariant_of-result
-invariant_of-result c = record {
-  keeps = kept_alike empty_model _ [] _ map.empty _ map.empty _ 0
-      (λ i. record {
-        groups = c.new.ensures.items i;
-        rows = c.new-2.ensures.items i;
-        objective = empty_model.objective;
-        next = empty_model.next;
-      })
-      c.new-4.ensures.items c.new-5.ensures c.new-6.ensures empty_kept;
-  aside = c.new-3.ensures.items;
-}
+invariant_of-result c =
+    kept_alike empty_model _ [] _ map.empty _ map.empty _ 0
+    (λ i. record {
+      groups = c.new.ensures i;
+      rows = c.new-2.ensures i;
+      objective = empty_model.objective;
+      next = empty_model.next;
+    })
+    c.new-3.ensures c.new-4.ensures c.new-5.ensures empty_kept

@@ -13,39 +13,33 @@ on_ok (Err e) h f = h
 pub invariant_of-self-2 : goal.invariant_of-self-2
 invariant_of-self-2 c =
     let a = c.self.inside in
-    record {
-      keeps =
-          kept_alike (model_of a) _ a.kept.items _ a.variable_names.numbers _
-          a.row_names.numbers _ a.terms
-          (λ i. record {
-            groups = c.reserve.ensures.items i;
-            rows = c.reserve-2.ensures.items i;
-            objective = a.objective;
-            next = a.next;
-          })
-          c.reserve-3.ensures.items c.reserve-4.ensures.numbers c.reserve-5.ensures.numbers
-          c.self.invariant.keeps;
-      aside = c.reserve_aside.ensures ∙ c.self.invariant.aside;
-    }
+    kept_alike (model_of a) _ a.kept.items _ a.variable_names.numbers _
+    a.row_names.numbers _ a.terms
+    (λ i. record {
+      groups = c.reserve.ensures.items i;
+      rows = c.reserve-2.ensures.items i;
+      objective = a.objective;
+      next = a.next;
+    })
+    c.reserve-3.ensures.items c.reserve-4.ensures.numbers c.reserve-5.ensures.numbers
+    c.self.invariant
 
 pub returns-clause-ok : goal.returns-clause-ok
 returns-clause-ok c =
     let a = c.self.inside in
-    let long = kept_length c.self.invariant.keeps.consistent
-    c.self.invariant.keeps.index in
+    let long = kept_length c.self.invariant.consistent
+    c.self.invariant.index in
     let same = ap (λ (gs : List Group). length (flat_map (λ g. g.vars) gs))
     c.reserve.ensures.items in
     on_ok c.reserve-5.result c.reserve-5.ensures.ok (λ fits. record {
-      groups = omega (arith, c.reserve.new.self.ok.0, c.in_ok-reserve.ensures.ok);
-      rows = omega (arith, c.reserve-2.new.self.ok.0, c.in_ok-reserve-2.ensures.ok);
+      groups = c.in_ok-reserve.ensures.ok;
+      rows = c.in_ok-reserve-2.ensures.ok;
       variables = omega (
         arith,
         long,
         same,
-        c.reserve-3.new.self.ok.0,
         c.in_ok-reserve-3.ensures.ok,
-        a.kept.ok.0,
-        c.reserve-3.ensures.len,
+        ap length c.reserve-3.ensures.items,
       );
       variable_names = c.in_ok-reserve-4.ensures.ok;
       row_names = fits;

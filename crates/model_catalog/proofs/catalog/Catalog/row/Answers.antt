@@ -8,13 +8,11 @@ use Rattle.model_catalog.proofs.catalog.Catalog.row.Goals as goal
 pub returns-in_err-number : goal.returns-in_err-number
 returns-in_err-number c =
     rw (c.from_residual.ensures, ← c.self.view_is)
-    (row_looked_up c.self.invariant.keeps.consistent c.self.invariant.keeps.row_names
+    (row_looked_up c.self.invariant.consistent c.self.invariant.row_names
     c.args.name.now None c.in_err-number.ensures.value)
 
 pub returns : goal.returns
 returns c =
     rw (← c.self.view_is)
-    (c.with_number.ensures ∙ (ap (λ (rs : List Row). find row_number c.in_ok-number.number rs)
-    c.deref.ensures.value
-    ∙ row_looked_up c.self.invariant.keeps.consistent c.self.invariant.keeps.row_names
-    c.args.name.now (Some c.in_ok-number.number) c.in_ok-number.ensures.value))
+    (c.get.ensures ∙ row_looked_up c.self.invariant.consistent c.self.invariant.row_names
+    c.args.name.now (Some c.in_ok-number.number) c.in_ok-number.ensures.value)

@@ -4,5 +4,5 @@ use Rattle.model_catalog.proofs.catalog.Catalog.variable.Goals as goal
 
 pub returns : goal.returns
 returns c =
-    rw (← c.self.view_is) (c.id.ensures.value ∙ variable_looked_up c.self.invariant.keeps.consistent
-    c.self.invariant.keeps.variable_names c.args.name.now)
+    rw (← c.self.view_is) (c.id.ensures.value ∙ variable_looked_up c.self.invariant.consistent
+    c.self.invariant.variable_names c.args.name.now)

@@ -6,6 +6,5 @@ pub returns : goal.returns
 returns c =
     rw (← c.self.view_is) (omega (
       arith,
-      c.self.inside.kept.ok.0,
-      kept_length c.self.invariant.keeps.consistent c.self.invariant.keeps.index,
+      kept_length c.self.invariant.consistent c.self.invariant.index,
     ))
