@@ -59,6 +59,9 @@ pub fn edit(alloc: Global, kind: Kind, row: u32, round: u32) -> Result<Edit, Mem
         Kind::DeleteVariable => Ok(Edit::DeleteVariable {
             var: name(alloc, VARIABLE)?,
         }),
+        Kind::DeleteRow | Kind::ReplaceRow => Ok(Edit::DeleteRow {
+            row: row_name(alloc, row)?,
+        }),
     }
 }
 

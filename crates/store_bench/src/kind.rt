@@ -11,6 +11,10 @@ pub enum Kind {
     Reset,
     /// The variable x, which every second row is, and back.
     DeleteVariable,
+    /// A row, for good: no more rounds than rows.
+    DeleteRow,
+    /// A row, which is then added anew.
+    ReplaceRow,
 }
 
 impl Kind {
@@ -21,6 +25,8 @@ impl Kind {
             "renrow" => Some(Kind::RenameRow),
             "reset" => Some(Kind::Reset),
             "delvar" => Some(Kind::DeleteVariable),
+            "delrow" => Some(Kind::DeleteRow),
+            "reprow" => Some(Kind::ReplaceRow),
             _ => None,
         }
     }

@@ -31,7 +31,9 @@ fn words(rt: &HostRuntime) -> io::Result<Vec<String>> {
 
 fn tell(rt: &HostRuntime, task: Option<Task>) -> io::Result<()> {
     let Some(task) = task else {
-        return println!(rt; "usage: store_bench ROWS coef|set|renrow|reset|delvar ROUNDS");
+        return println!(rt;
+            "usage: store_bench ROWS coef|set|renrow|reset|delvar|delrow|reprow ROUNDS"
+        );
     };
     if task.rows == 0 {
         return println!(rt; "there is no row to edit");

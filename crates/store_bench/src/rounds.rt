@@ -47,6 +47,9 @@ fn tally_rounds(
     for round in 0..rounds {
         let row = (u64::from(round) * STRIDE % u64::from(rows)) as u32;
         let digest = make(model, kind, edit(alloc, kind, row, round)?)?;
+        if let Kind::ReplaceRow = kind {
+            make_for_good(model, add_row(alloc, kind, row)?)?;
+        }
         tally.edits = tally.edits.wrapping_add(1);
         tally.sum = tally.sum.wrapping_mul(31).wrapping_add(digest);
     }
