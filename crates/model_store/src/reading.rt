@@ -48,7 +48,7 @@ impl<'a> Reading<'a> {
         ensures valid { IsValid self.old.model }
     {
         self.count = self.count.saturating_add(1);
-        self.user.groups().iter().find(|group| group.id == id)
+        self.user.groups().get(id)
     }
 
     /// The row with a number, and `None` where the model has none.
@@ -58,7 +58,7 @@ impl<'a> Reading<'a> {
         ensures valid { IsValid self.old.model }
     {
         self.count = self.count.saturating_add(1);
-        self.user.rows().iter().find(|row| row.id == id)
+        self.user.rows().get(id)
     }
 
     pub fn objective(&mut self) -> &'a Objective
