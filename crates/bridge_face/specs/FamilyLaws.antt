@@ -96,7 +96,7 @@ module _ {f : Family} {Source : Edge → Body → Type 0} {make : Edge → Item 
       subst (EdgeLaw edge item) (sym (image_is edge own item))
       (law edge own item suits.valid (source_is edge own item suits)))
 
--- such a body, of which the edge makes one of a kind that it leads to
+-- such a body, from which the edge makes one of a kind that it leads to
 pub record Sourced (Source : Body → Type 0) (made : Body → Body) (edge : Edge) (b : Body)
     : Type 0 where
   pub source : Source b

@@ -41,7 +41,7 @@ use Rattle.bridge_face.specs.Law.{Balances, CarriesValues, ChildDuals, EdgeLaw, 
 use Rattle.bridge_face.specs.State.{TakesDuals, child_rows_of}
 use Rattle.bridge_face.specs.declared.child_rows.ChildRows.{ChildRows}
 
--- a group in a set of such a shape, of which the edge makes one of numbers at least 0
+-- a group in a set of such a shape, from which the edge makes one of numbers at least 0
 pub record GroupSourced (shape : ℕ → Set) (edge : Edge) (b : Body) : Type 0 where
   pub count : ℕ
   pub set : set_of b ≡ shape count

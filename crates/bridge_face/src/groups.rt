@@ -10,7 +10,7 @@ use lists::Memory;
 use set_core::Set;
 use std::alloc::Global;
 
-/// The variables of a group of so many components: its address with each component appended.
+/// The variables of a group of `count` components: its address with each component appended.
 pub fn components(alloc: Global, at: &Address, count: u16) -> Result<Addresses, Memory>
     requires { length at.now.positions < 40 }
     ensures { IfOk result (λ vars. vars ≡ components at.now count) }
@@ -22,7 +22,7 @@ pub fn components(alloc: Global, at: &Address, count: u16) -> Result<Addresses, 
     Ok(Addresses::from_vec(vars))
 }
 
-/// The variables of an item's child group, at position 0, of so many components.
+/// The variables of an item's child group, at position 0, of `count` components.
 pub fn inner_variables(alloc: Global, item: &Item, count: u16) -> Result<Addresses, Memory>
     requires { length item.now.at.positions < 39 }
     ensures { IfOk result (λ vars. vars ≡ inner item.now count) }

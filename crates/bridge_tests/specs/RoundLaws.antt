@@ -21,7 +21,7 @@ use Rattle.item_core.specs.declared.family.Family.{Family}
 use Rattle.bridge_tests.specs.SampleLaws.{here}
 use Rattle.std.specs.FinMap as finite
 
--- a row for this edge, of which the image is known, is kept where samples stand
+-- a row for this edge, whose image is known, is kept where samples stand
 pub record KeepsRow (edge : Edge) (image : Image) (s : State) : Type 0 where
   pub item : Item
   pub kept : found s here ≡ Some (record { edge = edge; item = item })
@@ -57,7 +57,7 @@ suits_kept s edge item suits e there =
     by None h = absurd h
     by (Some kept) h = subst (λ e. IsItemFor e item) (sym h) suits
 
--- and nothing where one was let go
+-- and nothing where one was removed
 pub gone_found : (s : State) (at : Address) → found (gone s at) at ≡ None
 gone_found s at =
     finite.get-remove address_total s.kept at at

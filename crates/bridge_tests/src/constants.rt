@@ -1,4 +1,4 @@
-// Rows of two constants: one in `Reals`, and two of which the sums may not fit.
+// Rows of two constants: one in `Reals`, and two whose sums may exceed 128 bits.
 ghost use Rattle.std.specs.Prelude.{◌≡◌, IfOk};
 ghost use Rattle.item_core.specs.Edge.{family_of};
 ghost use Rattle.item_core.specs.declared.edge.Edge.TheVariants as edges;
@@ -19,7 +19,7 @@ use set_core::Set;
 use std::alloc::Global;
 
 /// Prints what is carried back to a row of two numbers in `Reals`, and that nothing is kept after
-/// all is let go.
+/// all is removed.
 pub fn reals(page: &mut Page) {
     let mut bridge = DropReals::new(page.alloc());
     if let Err(fault) = keep_reals(page, &mut bridge) {

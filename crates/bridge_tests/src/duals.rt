@@ -34,7 +34,7 @@ fn function_count(body: &Body) -> usize
     }
 }
 
-// So many numbers of the list, from one on.
+// A number of entries of the list, from one on.
 fn numbers(alloc: Global, family: Family, start: usize, count: usize) -> Result<Ratios, Memory>
     ensures { IfOk result (λ numbers. length numbers ≡ count) }
 {

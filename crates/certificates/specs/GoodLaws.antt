@@ -241,7 +241,7 @@ enough s g h a = record {
     not_zero : ¬ (s ≡ zero_ℚ)
     not_zero e = not_‹ℚ_from_≤ℚ zero_ℚ zero_ℚ (≤ℚ_refl zero_ℚ) (subst (λ q. zero_ℚ ‹ℚ q) e h)
 
--- from v on, so much of an improving slope s betters b
+-- from v on, that much of an improving slope s improves on b
 betters : (sense : Sense) (v s b : Rational) → IsBetter sense s zero_ℚ
     → (t : Rational) × ((zero_ℚ ≤ℚ t) × IsBetter sense (v +ℚ t *ℚ s) b)
 betters Min v s b h =
@@ -284,7 +284,7 @@ betters Max v s b h =
     right = ring₂ _ (λ ρ. simp as_expression (by_ring ρ _ _ refl))
 
 module _ (model : ModelValue) where
-  -- a feasible point whose value betters b
+  -- a feasible point whose value is better than b
   pub record BetterPoint (b : Rational) : Type 0 where
     pub point : List Rational
     pub feasible : IsFeasible model point

@@ -30,7 +30,7 @@ use Rattle.fresh_bridging.specs.RankingLaws.{LeadsDown, fewer_below, leads_down,
 use Rattle.fresh_bridging.specs.TableLaws.{all_keep_at, and_first, and_second, comes_of_norms, doubles_seldom, ends_norms, equal_kind, grows_once, grows_seldom, splits_reals, is_norm_kind, keeps_to_the_table, leads_from_others, of_family, plain_beside_free}
 use Rattle.fresh_bridging.specs.TheRules.{AreChoices, Setting, edge_at, graph_of, is_usable}
 
--- every family of which there is a box keeps the law of its edges
+-- every family that has a box keeps the law of its edges
 abbrev pub AreLawful : Setting → Type 0
 AreLawful setting = (family : Family) → is_usable setting family ≡ true → IsLawful family
 
@@ -62,7 +62,7 @@ module _ (setting : Setting) (costly : IsCostly (graph_of setting)) (choice : �
       counted (is_norm_kind kind)
       + counted (nat_le (rank_in (kind_number GroupReals)) (rank_in (kind_number kind)))
 
-  -- n times 2 for each of so many doublings
+  -- n times 2 for each doubling
   abbrev pub doubled : ℕ → ℕ → ℕ
   doubled zero n = n
   doubled (suc k) n = 2 * doubled k n
@@ -305,7 +305,7 @@ module _ (setting : Setting) (costly : IsCostly (graph_of setting)) (choice : �
       pub grows : length (functions_of child.body)
           ≤ growth (family_of (edge_at n)) * length (functions_of item.body)
 
-    -- a child whose body has this kind and so many components
+    -- a child whose body has this kind and number of components
     pub child_can : (child : Item) → IsChild child → (after : Item) → after.at ≡ child.at
         → kind_of_body after.body ≡ kind_of_body child.body
         → length (functions_of after.body) ≡ length (functions_of child.body)

@@ -30,7 +30,7 @@ use Rattle.fresh_bridging.specs.FitTests.{plus_fits}
 
 -- ---- the graph of kinds
 
--- a table, and the families of which there is a box
+-- a table, and the families that have a box
 pub record Setting : Type 0 where
   pub table : Table
   pub families : List Family

@@ -1,4 +1,4 @@
--- The owners of variables, where no two variables have one name: each group's are put last.
+-- The owners of variables, where no two variables have one name: each group's are appended.
 use Rattle.std.specs.Prelude.{◌≡◌, ℕ, zero, suc, ◌<◌, All, ⊤, Bool, true, false, ◌||◌, not, List, [], ◌∷◌, ◌++◌, length, map, Option, Some, None, bytes_eq, is_none, slice_index_or, refl}
 use Rattle.std.specs.List.{list_all, list_any}
 use Rattle.std.specs.Map.{lookup}
@@ -88,7 +88,7 @@ there : (n : List ℕ) (k : ℕ) (vars : List GroupVar) → list_any (λ w. byte
 there n k [] h = absurd (false≢true h)
 there n k (v ∷ vs) h = there_step n k v vs (bytes_eq n v.name) refl h (there n k vs)
 
--- ---- owners that are put last
+-- ---- owners that are appended
 
 last_step : (es : Owners) (e : List ℕ × ℕ) (n : List ℕ) (k : ℕ) (b : Bool) → bytes_eq n e.0 ≡ b
     → found (e ∷ es) n ≡ None → (found es n ≡ None

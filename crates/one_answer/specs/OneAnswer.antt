@@ -1,5 +1,5 @@
 -- One answer: two sessions that are the same to their users answer an optimise alike, and a look at
--- the solver's model, whatever lines led there. Want of memory alone is free.
+-- the solver's model, whatever lines led there. Running out of memory alone is free.
 use Rattle.std.specs.Prelude.{◌≡◌, ◌≢◌, ℕ, List, Result, Ok, unwrap_or}
 use Rattle.std.proofs.Common.{subst, sym}
 use Rattle.bridge_graph.specs.Hypergraph.{IsCostly}

@@ -90,7 +90,7 @@ module _ (s : State) (costly : IsCostly (graph_of s.setting)) (pivots : ℕ) whe
   answered_or_not (Err (Limit n)) is h = inr h
   answered_or_not (Err Memory) is h = absurd (is refl)
 
-  -- one result, want of memory apart
+  -- one result, unless memory runs out
   pub optimized_once : (x y : Result Certificate OptFault) → x ≢ Err Memory → y ≢ Err Memory
       → IsOptimized s pivots x → IsOptimized s pivots y → x ≡ y
   optimized_once x y m n h k = by (answered_or_not x m h) (answered_or_not y n k)

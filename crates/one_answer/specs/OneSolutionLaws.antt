@@ -126,7 +126,7 @@ module _ (model : LeafModel) (pivots : ℕ) where
       unfit (subst (AnswerFits model)
       (solved_once a.form_answer other a.solved solved) a.fits)
 
-  -- one reason at most, as it is told
+  -- at most one reason
   pub stopped_once : (f g : OptFault) → Stops model pivots f → Stops model pivots g → f ≡ g
   stopped_once f g (too_large more) (too_large over) = refl
   stopped_once f g (too_large more) (at_a_right_side cells unfit) =

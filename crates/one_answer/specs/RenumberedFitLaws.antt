@@ -1,5 +1,5 @@
 -- What is added up where an answer is carried back fits where it does for the renumbered model, and
--- the first that doesn't is told at its new address.
+-- the first that doesn't is reported at its new address.
 use Rattle.std.specs.Prelude.{◌≡◌, ◌-◌, ℕ, zero, suc, List, [], ◌∷◌, ◌++◌, All, length, map, take, refl}
 use Rattle.std.proofs.Common.{ap, ap₂, inl, inr, subst, sym, ◌∙◌}
 use Rattle.std.proofs.lemmas.List.{length-map, map-append}
@@ -46,7 +46,7 @@ use Rattle.renumbering.specs.RenumberedModel.{IsRising, Renumbered, Renumbering,
 
 -- ---- stages
 
--- what fits of one fits of the other, and what is told of one is told of the other at a new address
+-- what fits of one fits of the other, and what is reported of one, of the other at a new address
 pub record IsStage (σ : Address → Address) (Fits Other : Type 0) (Told OtherTold : Address → Type 0)
     : Type 0 where
   pub fits : Fits → Other

@@ -51,7 +51,7 @@ last_named_relation_of (token ∷ word ∷ tokens) = do
   Some (name, set)
 last_named_relation_of _ = None
 
--- the set of vectors of so many components
+-- the set of vectors of n components
 unfoldable pub vector_set_of : List ℕ → ℕ → Option Set
 vector_set_of word components =
     if is "reals" word then Some (Reals components)

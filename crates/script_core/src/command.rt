@@ -24,7 +24,7 @@ pub enum Command {
     Attach,
     /// Empties the solver.
     Detach,
-    /// Solves, with at most so many pivots where a number is given.
+    /// Solves, with at most this number of pivots where one is given.
     Optimize(Option<u32>),
     /// Prints the solver's model.
     Bridged,
@@ -34,6 +34,6 @@ pub enum Command {
     Write,
     /// Reads the user's model from the file with this name.
     Load(Name),
-    /// Ends the work.
+    /// Exits.
     Quit,
 }

@@ -38,7 +38,7 @@ pub fn last_relation(word: &[u8], mut tokens: Tokens<'_>) -> Option<Set>
     alone(set, tokens)
 }
 
-/// The set of a relation `>= Q`, `<= Q`, `== Q` or `in L U`, of which the first word is given.
+/// The set of a relation `>= Q`, `<= Q`, `== Q` or `in L U`, whose first word is given.
 #[tactic(auto, unfolding(crate::specs::Sets::relation_of))]
 pub fn relation(word: &[u8], tokens: &mut Tokens<'_>) -> Option<Set>
     ensures { option_map (λ set. (set, tokens.new)) result ≡ relation_of word.now tokens.old }
@@ -90,7 +90,7 @@ pub fn vector_set(word: &[u8], dimension: u32) -> Option<Set>
     }
 }
 
-/// The dimension for so many components. More than a dimension counts find no memory.
+/// The dimension for a number of components. More than a dimension counts find no memory.
 pub fn dimension(components: usize) -> Result<u32, Memory>
     ensures { IfOk result (λ dimension. dimension ≡ components) }
 {

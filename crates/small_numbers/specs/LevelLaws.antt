@@ -180,7 +180,7 @@ module _ (setting : Setting) (costly : IsCostly (graph_of setting)) (choice : �
 
 -- ---- growing by four
 
--- n times 4 for each of so many levels
+-- n times 4 for each level
 abbrev pub quadrupled : ℕ → ℕ → ℕ
 quadrupled zero n = n
 quadrupled (suc k) n = 4 * quadrupled k n

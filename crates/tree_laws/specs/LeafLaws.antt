@@ -84,7 +84,7 @@ pub record IsLeaf (leaf : Item) : Type 0 where
   pub native : is_leaf_kind (kind_of_body leaf.body) ≡ true
   pub group : is_group leaf.body ≡ true → IsNativeGroup leaf.body
 
--- an item for the edge, of which the family may be used
+-- an item for the edge, whose family may be used
 pub record IsNode (setting : Setting) (node : ℕ × Item) : Type 0 where
   pub suits : IsItemFor (edge_at node.0) node.1
   pub usable : is_usable setting (family_of (edge_at node.0)) ≡ true

@@ -80,7 +80,7 @@ module _ (setting : Setting) (costly : IsCostly (graph_of setting)) (choice : �
     pub zero : (v : Address) → Contains (keys own no_keys tree) v
         → adjoint (leaf_helds d (leaves tree)) v ≡ zero_ℚ
 
-  -- ---- what is told
+  -- ---- what is said
 
   -- what stands below rows stands for them, and what stands below groups for these, their variables
   -- with these numbers
