@@ -18,13 +18,13 @@ use ratio_core::{NumberFault, Ratios};
 /// bridged by, and carries duals back to them.
 ///
 /// `turns` counts the calls that work, `image`, `keep`, `alter`, `let_go` and `let_all_go`, also
-/// those that were refused, and stands still at its last value.
+/// those that were refused, and stays at its last value.
 pub trait Bridge: Drop {
     ghost use Rattle.bridge_face.specs.State.{State};
 
     ghost state: { Self → State };
 
-    /// The family, each edge of which keeps the law.
+    /// The family. Each of its edges keeps the law.
     fn family(&self) -> Family
         ensures family { result ≡ (state self.now).family }
         ensures lawful { IsLawful result };

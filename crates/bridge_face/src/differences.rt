@@ -28,7 +28,7 @@ pub fn variable_less(var: &Address, func: &Aff) -> Result<Aff, Memory>
     func.neg()?.with_coef(var, Ratio::one())
 }
 
-/// Each function less the variable at its place, none of which any of them names.
+/// Each function less the variable at its place. No function names any of these variables.
 pub fn less_variables(alloc: Global, funcs: &[Aff], vars: &[Address]) -> Result<VecAff, Memory>
     requires count { length funcs.now ≡ length vars.now }
     requires unnamed { All (λ v. Miss funcs.now v) vars.now }

@@ -35,7 +35,7 @@ pub trait ObjectiveRule: Drop {
     ghost rule: { IsObjectiveRule family source made };
 }
 
-/// What a family of bridges does with one objective, of which it makes another.
+/// What a family of bridges does with one objective: it makes another of it.
 #[derive(Drop)]
 pub struct OneObjective<R: ObjectiveRule> {
     rule: PhantomData<R>,

@@ -39,7 +39,7 @@ pub trait RowRule: Drop {
     fn family() -> Family
         ensures { result ≡ family };
 
-    /// The row that is made of a row. `Overflow` exactly where a sum that it names doesn't fit.
+    /// The row that is made of a row. `Overflow` exactly where a sum in it exceeds 128 bits.
     fn child(alloc: Global, row: &Body) -> Result<Body, NumberFault>
         requires suits { source row.now }
         requires some { 1 ≤ length (functions_of row.now) }
@@ -58,7 +58,7 @@ pub trait RowRule: Drop {
     ghost rule: { IsRowRule family source made fits carried carried_fits };
 }
 
-/// What a family of bridges does with one row, of which it makes another.
+/// What a family of bridges does with one row: it makes another row of it.
 #[derive(Drop)]
 pub struct OneRow<R: RowRule> {
     rule: PhantomData<R>,

@@ -7,7 +7,7 @@ ghost use Rattle.bridge_face.specs.BackOf.{SumsFit};
 use ratio_core::{NumberFault, Ratio, Ratios};
 use std::alloc::Global;
 
-/// The sums of what stands at equal places.
+/// The sums of the numbers at equal places.
 pub fn place_sums(alloc: Global, first: &[Ratio], second: &[Ratio]) -> Result<Ratios, NumberFault>
     requires { length first.now ≡ length second.now }
     ensures { ExactWhere result (SumsFit first.now second.now)

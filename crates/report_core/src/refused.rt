@@ -6,12 +6,12 @@ use item_core::Kind;
 use name_index::{Name, Text};
 use user_model::Refusal;
 
-/// Where a number doesn't fit.
+/// Where a number exceeds 128 bits.
 #[derive(Debug, Drop)]
 pub enum Place {
     /// In the sums of the line's own terms.
     Line,
-    /// At a group, told by its first variable.
+    /// At a group, named by its first variable.
     Var(Name),
     Row(Name),
     Objective,
@@ -27,9 +27,9 @@ pub enum Refused {
     BadLine,
     /// 2: no variable or row has a name that the edit needs.
     UnknownName,
-    /// 3: a new name is there already, or stands twice in the edit.
+    /// 3: a new name exists already, or appears twice in the edit.
     NameTaken,
-    /// 4: the edit doesn't fit the kind of function.
+    /// 4: the edit doesn't suit the kind of function.
     FunctionShape,
     /// 5: a set of vectors doesn't have the number of components.
     BadDimension,
@@ -57,9 +57,9 @@ pub enum Refused {
     Unsupported { kind: Kind },
     /// 17: a number passes 128 bits.
     Overflow { place: Place },
-    /// 18: so many pivots didn't suffice.
+    /// 18: this number of pivots didn't suffice.
     Limit { pivots: u64 },
-    /// 19: something stands in the model.
+    /// 19: the model isn't empty.
     NotEmpty,
     /// 20: the file has this fault, 1 to 8, at this place.
     File { number: u8, place: Text },

@@ -1,4 +1,4 @@
-//! Lines that change what stands.
+//! Lines that change rows and the objective.
 ghost use Rattle.std.specs.Prelude.{◌≡◌, IfOk};
 ghost use Rattle.script_core.specs.Changes.{coefficient_form, constant_form, delete_row_form, delete_variable_form, free_form, objective_coefficient_form, objective_constant_form, rename_row_form, rename_variable_form, reset_form, row_set_form, vector_coefficient_form, vector_constant_form};
 

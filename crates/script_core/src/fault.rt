@@ -10,7 +10,7 @@ pub enum LineFault {
     /// The line isn't in the grammar.
     #[error("the line has none of the forms")]
     BadLine,
-    /// The line is in the grammar, and a sum of its terms doesn't fit in 128 bits.
+    /// The line is in the grammar, and a sum of its terms exceeds 128 bits.
     #[error("a sum of terms passes 128 bits")]
     Overflow,
     /// There was no memory left.

@@ -9,7 +9,7 @@ use named_sums::AffSum;
 use ratio_core::{Memory, Ratio};
 use std::alloc::Global;
 
-/// The function of each component, or none where a sum doesn't fit.
+/// The function of each component, or none where a sum exceeds 128 bits.
 pub fn sum_components(
     alloc: Global,
     components: Sequence<Terms>,
@@ -26,7 +26,7 @@ pub fn sum_components(
     Ok(Some(Sequence::from_vec(functions)))
 }
 
-/// The sum of the terms from the left, or none where a sum doesn't fit.
+/// The sum of the terms from the left, or none where a sum exceeds 128 bits.
 #[tactic(auto, unfolding(crate::specs::Sums::function_of))]
 pub fn sum_terms(alloc: Global, terms: Terms) -> Result<Option<NamedAff>, Memory>
     ensures { IfOk result (λ function. function ≡ function_of terms) }

@@ -11,7 +11,7 @@ use std::alloc::Global;
 use user_model::{Edit, Sense};
 
 /// What a line without its end says. It is `BadLine` exactly where the line isn't in the grammar,
-/// and `Overflow` exactly where it is and a sum of its terms, from the left, doesn't fit.
+/// and `Overflow` exactly where it is and a sum of its terms, from the left, exceeds 128 bits.
 #[tactic(auto, unfolding(crate::specs::Line::line_said))]
 pub fn parse_line(alloc: Global, line: &[u8]) -> Result<Command, LineFault>
     ensures { Answers (line_said line.now) result }

@@ -6,7 +6,7 @@ use crate::Command;
 use script_words::Tokens;
 use user_model::Edit;
 
-/// What a line of the grammar says, or that a sum of its terms doesn't fit.
+/// What a line of the grammar says, or that a sum of its terms exceeds 128 bits.
 #[derive(Drop)]
 pub enum Reading {
     Says(Command),

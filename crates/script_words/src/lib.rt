@@ -1,4 +1,4 @@
-//! The words of a script: the tokens of a line, and what a token stands for by itself.
+//! The words of a script: the tokens of a line, and what a token means by itself.
 #![tactic(auto)]
 
 mod bytes;

@@ -1,11 +1,11 @@
 //! The law of small numbers: what a model of whole numbers of at most 2^40 in size is bridged by
-//! fits in 128 bits, whatever the table and the families of bridges. The law is told by a function
+//! fits in 128 bits, whatever the table and the families of bridges. The law is stated by a function
 //! that does nothing; its files in specs/ are what other crates cite.
 #![tactic(auto)]
 
 ghost use Rattle.small_numbers.specs.SmallNumbers.{SmallNumbersFit};
 
-/// Tells the law: no number of the fresh bridging of a valid model of small numbers overflows, as
+/// States the law: no number of the fresh bridging of a valid model of small numbers overflows, as
 /// long as each edge costs something and each family keeps the law of its edges.
 pub fn small_numbers_fit()
     ensures { SmallNumbersFit }
