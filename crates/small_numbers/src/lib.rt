@@ -1,6 +1,6 @@
-//! The law of small numbers: what a model of whole numbers of at most 2^40 in size is bridged by
-//! fits in 128 bits, whatever the table and the families of bridges. The law is stated by a function
-//! that does nothing; its files in specs/ are what other crates cite.
+//! The law of small numbers: bridging a model of whole numbers of at most 2^40 in size never
+//! overflows, whatever the table and the families of bridges. The law is stated by a function that
+//! does nothing; its files in specs/ are what other crates cite.
 #![tactic(auto)]
 
 ghost use Rattle.small_numbers.specs.SmallNumbers.{SmallNumbersFit};
