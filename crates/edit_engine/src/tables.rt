@@ -1,12 +1,12 @@
 //! What lines do to a table.
-ghost use Rattle.std.specs.Prelude.{◌≡◌, IsTrue};
+ghost use Rattle.std.specs.Prelude.{◌≡◌, IsTrue, length};
 ghost use Rattle.std.specs.List.{list_all};
 ghost use Rattle.bridge_graph.specs.Hypergraph.{is_edge_cost};
 ghost use Rattle.item_core.specs.Table.{target_table};
 ghost use Rattle.lazy_bridge.specs.Native.{supports_native};
-ghost use Rattle.edit_engine.specs.Tables.{costing, supporting, switched, targeted};
+ghost use Rattle.edit_engine.specs.Tables.{costing, free_with, supporting, switched, targeted};
 
-use item_core::{Edge, Family, Table, Target};
+use item_core::{Edge, Family, KIND_COUNT, Kind, Table, Target};
 use script_core::EdgeCost;
 use script_words::NativeKind;
 
@@ -33,7 +33,7 @@ pub(crate) fn targeted(target: Target, table: &Table) -> Table
     changed
 }
 
-// Whether a native kind is supported.
+// Whether a native kind is supported, and with groups in `Reals` whether free variables are.
 pub(crate) fn supporting(kind: NativeKind, value: bool, table: &Table) -> Table
     requires costs { IsTrue (list_all is_edge_cost table.now.cost) }
     requires native { IsTrue (supports_native table.now) }
@@ -41,9 +41,26 @@ pub(crate) fn supporting(kind: NativeKind, value: bool, table: &Table) -> Table
     ensures costs { IsTrue (list_all is_edge_cost result.cost) }
     ensures native { IsTrue (supports_native result) }
 {
+    let kind = kind.kind();
+    let mut supported = table.supported;
+    supported[kind as usize] = value;
     let mut changed = *table;
-    changed.supported[kind.kind() as usize] = value;
+    changed.supported = free_with(kind, value, supported);
     changed
+}
+
+// Free variables with groups in `Reals`.
+fn free_with(kind: Kind, value: bool, mut supported: [bool; KIND_COUNT]) -> [bool; KIND_COUNT]
+    ensures value { result ≡ free_with kind value supported }
+    ensures kinds { length supported ≡ 35 }
+{
+    match kind {
+        Kind::GroupReals => {
+            supported[Kind::Free as usize] = value;
+            supported
+        }
+        _ => supported,
+    }
 }
 
 pub(crate) fn costing(edge: Edge, cost: EdgeCost, table: &Table) -> Table
