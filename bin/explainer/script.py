@@ -1,0 +1,83 @@
+"""`moi_explain run`: a script with its answers beside its lines."""
+
+from . import lines, numbers, slips, tables
+from .names import Names
+
+WIDTH = 44
+NOTES = {
+    "infeasible": "no point meets all rows: those with a dual other than 0 contradict each other",
+    "unbounded": "the objective improves without end along the ray: usually a row is missing",
+}
+
+HINTS = {
+    (4, "objcoef"): "the objective isn't of terms: after `minvar x` write `min 1*x` first",
+    (4, "objconst"): "the objective isn't of terms: after `minvar x` write `min 1*x` first",
+    (4, "reset"): "only a variable made within a bound can be reset: add a row, `bound R x <= 4`",
+    (4, "free"): "the variable is free already, or was made by `vars`",
+    (4, "coef"): "the row wasn't made by `row`: `vcoef R I X Q` serves after `vrow`, and a bound's variable has no number",
+    (4, "const"): "the row wasn't made by `row`: `vconst R I Q` serves after `vrow`",
+    (4, "vcoef"): "the row wasn't made by `vrow`: `coef R X Q` serves after `row`",
+    (4, "vconst"): "the row wasn't made by `vrow`: `const R Q` serves after `row`",
+    (4, "set"): "the row is of vectors, whose set has no number",
+    (10, "reset"): "the new bound is of another type than the old: add it as a row, `bound R x <= 4`",
+    (10, "set"): "the row's relation can't change: delete the row and add another",
+}
+
+
+def beside(line, answer):
+    """A line of the script, its answer beside it, or below where the line is long."""
+    head = f"{line.number:>4}  {line.text}".rstrip()
+    if not answer:
+        return [head]
+    margin = " " * WIDTH
+    if len(head) > WIDTH - 2:
+        return [head] + [margin + text for text in answer]
+    return [head.ljust(WIDTH) + answer[0]] + [margin + text for text in answer[1:]]
+
+
+def refusal(answer):
+    """The number of a refusal, or None for another answer."""
+    words = answer.split(" ")
+    return int(words[1]) if words[0] == "refused" and len(words) > 2 and words[1].isdigit() else None
+
+
+def meaning(number):
+    """What a refusal means and what to do, a line each."""
+    row = tables.by_number("refusals").get(number)
+    if not row:
+        return []
+    return [f"means: {tables.plain(row['meaning'])}", f"do:    {tables.plain(row['todo'])}"]
+
+
+def explained(line, names):
+    """The lines below a refusal: the slip, where one is found, and what the table says."""
+    number = refusal(line.answer[0])
+    if number is None:
+        return [f"note:  {NOTES[word]}" for word in NOTES if line.answer[0].split(" ")[0] == word]
+    if number == 1:
+        slip = slips.explain(line)
+        return meaning(1)[:1] + [f"here:  {slip}"] if slip else meaning(1)
+    here = names.hint(line.tokens) if number == 2 else HINTS.get((number, line.tokens[0]))
+    return [f"here:  {here}"] * bool(here) + meaning(number)
+
+
+def shown(script, output, status):
+    """All that is printed of a script, its output and its status."""
+    all_lines = lines.lines_of(script)
+    rest = lines.hand_out(all_lines, output)
+    names, printed = Names(), []
+    for line in all_lines:
+        printed += beside(line, [numbers.with_decimals(text) for text in line.answer])
+        if line.answer:
+            printed += [" " * 8 + text for text in explained(line, names)]
+            if line.answer[0].split(" ")[0] == "ok":
+                names.accept(line.tokens)
+    asked = lines.heard(all_lines)
+    first = next((line.number for line in asked if not line.is_answered), None)
+    if first is not None:
+        printed.append(f"Line {first} and those after it have no answer.")
+    if rest:
+        printed.append("These lines of the output belong to no line of the script:")
+        printed += rest
+    printed.append(f"Exit status {status}: {tables.by_number('statuses')[status]['meaning']}.")
+    return printed

@@ -1,0 +1,1 @@
+"""The tests of bin/moi_explain and bin/bridge_graph."""
