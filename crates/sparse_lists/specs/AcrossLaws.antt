@@ -17,7 +17,7 @@ pub start_zero : (list all : List Rational) → IsStartOf list all
 start_zero list all h = (
   h.0 + 1,
   ap (λ l. l ++ zero_ℚ ∷ []) h.1 ∙ append_assoc list (replicate h.0 zero_ℚ) (zero_ℚ ∷ [])
-  ∙ ap (λ l. list ++ l) (replicate-append-replicate h.0 1 zero_ℚ),
+      ∙ ap (λ l. list ++ l) (replicate-append-replicate h.0 1 zero_ℚ),
 )
 
 start_long : (list all : List Rational) (h : IsStartOf list all) → length all ≡ length list + h.0
@@ -161,8 +161,11 @@ module _ (place : ℕ) (sign : Rational → Rational) (none : sign zero_ℚ ≡ 
       put_low : t.0 < length now → length (list_at after t.0) ≤ place + 1
       put_low c =
           subst (λ l. length l ≤ place + 1) (sym (put.here c))
-          (omega (arith, length-append (padded place (list_at now t.0)) (x ∷ []),
-          length-padded place (list_at now t.0) (across_low t left h)))
+          (omega (
+            arith,
+            length-append (padded place (list_at now t.0)) (x ∷ []),
+            length-padded place (list_at now t.0) (across_low t left h),
+          ))
 
       past_low : length now ≤ t.0 → length (list_at after t.0) ≤ place + 1
       past_low c =

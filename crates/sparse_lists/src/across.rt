@@ -49,12 +49,7 @@ fn signed(negated: bool, number: Ratio) -> Ratio
 }
 
 // Puts a number at a place of the b-th list, where there is one.
-fn put_in(
-    lists: &mut [SparseRatios],
-    b: usize,
-    place: usize,
-    number: Ratio,
-) -> Result<(), Memory>
+fn put_in(lists: &mut [SparseRatios], b: usize, place: usize, number: Ratio) -> Result<(), Memory>
     requires low { length (list_at lists.old b) ≤ place }
     ensures { OnOk result (IsPutIn b place number lists.old lists.new) }
 {

@@ -4,3 +4,4 @@ pub mod Pushes
 pub mod Steps
 pub mod Counts
 pub mod ReadTo
+pub mod Gathering

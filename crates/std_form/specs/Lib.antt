@@ -10,3 +10,4 @@ pub mod NativeLaws
 pub mod AnswerLaws
 pub mod Told
 pub mod ToldLaws
+pub mod Gathered

@@ -1,15 +1,15 @@
-//! The columns, how many cells there are, and the matrix and the costs.
+//! The columns, how many cells there are, and the costs.
 ghost use Rattle.std.specs.Prelude.{◌≡◌, ◌+◌, ◌-◌, ◌*◌, ◌^◌, IfOk, length, map, min, option_to_list};
 ghost use Rattle.std.specs.Option.{option_copied};
 ghost use Rattle.equality_form.specs.Columns.{parts_among, slack_at, slacks_from};
-ghost use Rattle.equality_form.specs.EqualityForm.{cells_from, costs_at};
-ghost use Rattle.equality_form.specs.Equations.{is_flipped, slack_of};
+ghost use Rattle.equality_form.specs.EqualityForm.{costs_at};
+ghost use Rattle.equality_form.specs.Equations.{slack_of};
 ghost use Rattle.std_form.specs.Borrowed.{equation_in, function_in};
 ghost use Rattle.std_form.specs.Indexed.{cost_in, is_greatest, is_max, objective_in};
 
 use crate::equation::{Equation, Function, slack_of};
 use crate::leaves::{Variable, push_some};
-use crate::numbers::{Slack, push_numbers, push_unit, width};
+use crate::numbers::{Slack, push_numbers, width};
 use lists::Memory;
 use ratio_core::Ratio;
 use solver_store::{LeafObjective, Sense, Set};
@@ -103,26 +103,4 @@ fn is_max(sense: Sense) -> bool
         Sense::Min => false,
         Sense::Max => true,
     }
-}
-
-// The matrix row by row, for which there is room.
-pub(crate) fn matrix(
-    alloc: Global,
-    variables: &[Variable],
-    slacks: &[Slack],
-    equations: &[Equation],
-    flips: &[bool],
-    cells: usize,
-) -> Result<Vec<Ratio>, Memory>
-    requires { flips.now ≡ map is_flipped (map equation_in equations.now) }
-    ensures { IfOk result (λ matrix. matrix.items ≡ cells_from
-        (parts_among variables.now) slacks.now 0 (map equation_in equations.now)) }
-{
-    let mut matrix = Vec::with_capacity(alloc, cells)?;
-    for (i, equation) in equations.iter().enumerate() {
-        let is_flipped = flips[i];
-        push_numbers(&mut matrix, variables, &equation.function, is_flipped)?;
-        push_unit(&mut matrix, slacks, i, is_flipped)?;
-    }
-    Ok(matrix)
 }

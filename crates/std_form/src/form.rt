@@ -7,15 +7,15 @@ ghost use Rattle.std_form.specs.Indexed.{cost_in, equations_of, form_of, variabl
 ghost use Rattle.std_form.specs.Readable.{IsReadable};
 ghost use Rattle.std_form.specs.Told.{Tells, TellsForm};
 
-use crate::cells::{cell_count, costs, matrix, slacks};
+use crate::cells::{cell_count, costs, slacks};
 use crate::fault::FormFault;
 use crate::leaves::{equations, rows, variables};
 use crate::rights::sides_of;
+use crate::terms::matrix;
 use address_map::AddressMap;
 use lists::Sequence;
 use simplex_core::StdForm;
 use solver_store::SolverModel;
-use sparse_ratios::SparseRatios;
 use std::alloc::Global;
 
 /// The most cells that a board of the form may have: 512 MiB of numbers.
@@ -57,18 +57,11 @@ fn build_by_index(
     }
     let sides = sides_of(alloc, &equations)?;
     let costs = costs(alloc, &variables, &slacks, solver.objective())?;
-    let matrix = matrix(
-        alloc,
-        &variables,
-        &slacks,
-        &equations,
-        &sides.flips,
-        cells as usize,
-    )?;
+    let matrix = matrix(alloc, &variables, &equations, &sides.flips)?;
     Ok(StdForm {
         m: equations.len(),
         c: costs.len(),
-        matrix: SparseRatios::from_slice(alloc, &matrix)?,
+        matrix,
         right: Sequence::from_vec(sides.right),
         costs: Sequence::from_vec(costs),
         flips: Sequence::from_vec(sides.flips),

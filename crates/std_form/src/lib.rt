@@ -9,6 +9,7 @@ mod leaves;
 mod numbers;
 mod reading;
 mod rights;
+mod terms;
 
 pub use address_map::AddressMap;
 pub use fault::FormFault;

@@ -1,9 +1,8 @@
 //! Numbers at the columns, pushed one after the other.
 ghost use Rattle.std.specs.Prelude.{◌≡◌, ◌++◌, OnOk, length, map};
 ghost use Rattle.aff_core.specs.Function.{coefficient};
-ghost use Rattle.simplex_form.specs.BoundedSums.{delta};
 ghost use Rattle.equality_form.specs.Columns.{parts_among, signs};
-ghost use Rattle.equality_form.specs.EqualityForm.{numbers_at, unit_at};
+ghost use Rattle.equality_form.specs.EqualityForm.{numbers_at};
 ghost use Rattle.equality_form.specs.Equations.{flipped};
 ghost use Rattle.std_form.specs.Borrowed.{function_in};
 
@@ -61,32 +60,4 @@ fn push_number(cells: &mut Vec<Ratio>, var: LeafVar, number: Ratio) -> Result<()
         LeafVar::Nonneg => {}
     }
     Ok(())
-}
-
-// The numbers of equation i at the slacks' columns.
-pub(crate) fn push_unit(
-    cells: &mut Vec<Ratio>,
-    slacks: &[Slack],
-    i: usize,
-    negated: bool,
-) -> Result<(), Memory>
-    ensures { OnOk result (cells.new.items
-        ≡ cells.old.items ++ map (flipped negated) (unit_at slacks.now i)) }
-{
-    for (equation, taken_off) in slacks {
-        let number = flipped(*taken_off, delta(*equation, i));
-        cells.push(flipped(negated, number))?;
-    }
-    Ok(())
-}
-
-// 1 where the two are the same, and 0 elsewhere.
-fn delta(equation: usize, i: usize) -> Ratio
-    ensures { result ≡ delta equation i }
-{
-    if equation == i {
-        Ratio::one()
-    } else {
-        Ratio::zero()
-    }
 }

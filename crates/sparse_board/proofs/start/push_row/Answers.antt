@@ -36,9 +36,9 @@ loop-term-preserved c = record {
   width = c.push_any.ensures.width ∙ c.loop-term.invariant.width;
   held =
       held_term c.args.from c.args.c c.args.terms.now c.loop-term.row c.term-item.result
-    (drop (c.loop-term.term-index + 1) c.args.terms.now)
-    (held_at c.args.from c.args.c c.args.terms.now c.loop-term.row c.loop-term.term-index
-    c.term-item.result c.loop-term-test.true c.term-item.is c.loop-term.invariant.held) c.push_any.new.self c.push_any.ensures;
+      (drop (c.loop-term.term-index + 1) c.args.terms.now)
+      (held_at c.args.from c.args.c c.args.terms.now c.loop-term.row c.loop-term.term-index
+      c.term-item.result c.loop-term-test.true c.term-item.is c.loop-term.invariant.held) c.push_any.new.self c.push_any.ensures;
 }
 
 pub returns-clause-held : goal.returns-clause-held

@@ -17,8 +17,8 @@ put_in-requires c = record {
       (signed_zero c.args.negated) c.args.terms.now c.args.lists.now c.loop-term.lists
       c.requires.low c.term-item.result (drop (c.loop-term.term-index + 1) c.args.terms.now)
       (across_at c.args.place (λ q. cond c.args.negated (neg_ℚ q) q) (signed_zero c.args.negated)
-    c.args.terms.now c.args.lists.now c.loop-term.lists c.requires.low c.loop-term.term-index
-    c.term-item.result c.loop-term-test.true c.term-item.is c.loop-term.invariant);
+      c.args.terms.now c.args.lists.now c.loop-term.lists c.requires.low c.loop-term.term-index
+      c.term-item.result c.loop-term-test.true c.term-item.is c.loop-term.invariant);
 }
 
 pub loop-term-preserved : goal.loop-term-preserved

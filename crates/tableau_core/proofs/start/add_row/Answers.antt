@@ -24,12 +24,17 @@ overflow_sub-j c =
 
 pub add_at-requires-clause-within : goal.add_at-requires-clause-within
 add_at-requires-clause-within c =
-    omega (arith, c.requires.long, c.loop-term.auto.sums, term_within ◌+ℚ◌ c.args.from c.args.c
-    c.args.terms.now c.args.sums.now c.loop-term.sums c.term-item.result
-    (drop (c.loop-term.term-index + 1) c.args.terms.now)
-    (at_term ◌+ℚ◌ c.args.from c.args.c c.args.terms.now c.args.sums.now c.loop-term.sums
-    c.loop-term.term-index c.term-item.result c.loop-term-test.true c.term-item.is
-    c.loop-term.invariant.done))
+    omega (
+      arith,
+      c.requires.long,
+      c.loop-term.auto.sums,
+      term_within ◌+ℚ◌ c.args.from c.args.c
+          c.args.terms.now c.args.sums.now c.loop-term.sums c.term-item.result
+          (drop (c.loop-term.term-index + 1) c.args.terms.now)
+          (at_term ◌+ℚ◌ c.args.from c.args.c c.args.terms.now c.args.sums.now c.loop-term.sums
+          c.loop-term.term-index c.term-item.result c.loop-term-test.true c.term-item.is
+          c.loop-term.invariant.done),
+    )
 
 pub returns-in_err-add_at-clause-refused : goal.returns-in_err-add_at-clause-refused
 returns-in_err-add_at-clause-refused c =
@@ -44,10 +49,10 @@ returns-in_err-add_at-clause-refused c =
       term_within ◌+ℚ◌ c.args.from c.args.c c.args.terms.now c.args.sums.now c.loop-term.sums t left
           d,
       (λ i. sum_fits
-      (sym (term_untouched ◌+ℚ◌ c.args.from c.args.c c.args.terms.now c.args.sums.now
-      c.loop-term.sums t left d) i)
-      (term_number ◌+ℚ◌ c.args.from c.args.c c.args.terms.now c.args.sums.now c.loop-term.sums t
-      left d i)) ∙ sym c.in_err-add_at.ensures.fits,
+          (sym (term_untouched ◌+ℚ◌ c.args.from c.args.c c.args.terms.now c.args.sums.now
+          c.loop-term.sums t left d) i)
+          (term_number ◌+ℚ◌ c.args.from c.args.c c.args.terms.now c.args.sums.now c.loop-term.sums t
+          left d i)) ∙ sym c.in_err-add_at.ensures.fits,
     )
 
 pub loop-term-preserved : goal.loop-term-preserved

@@ -22,11 +22,16 @@ overflow_sub-j c =
 pub put_number-requires-clause-within : goal.put_number-requires-clause-within
 put_number-requires-clause-within c =
     let left = drop (c.loop-term.term-index + 1) c.args.terms.now in
-    omega (arith, c.requires.long, c.loop-term.auto.numbers, term_within (λ x t. t) c.args.from
-    c.args.c c.args.terms.now c.args.numbers.now c.loop-term.numbers c.term-item.result left
-    (at_term (λ x t. t) c.args.from c.args.c c.args.terms.now c.args.numbers.now
-    c.loop-term.numbers c.loop-term.term-index c.term-item.result c.loop-term-test.true
-    c.term-item.is c.loop-term.invariant.done))
+    omega (
+      arith,
+      c.requires.long,
+      c.loop-term.auto.numbers,
+      term_within (λ x t. t) c.args.from
+          c.args.c c.args.terms.now c.args.numbers.now c.loop-term.numbers c.term-item.result left
+          (at_term (λ x t. t) c.args.from c.args.c c.args.terms.now c.args.numbers.now
+          c.loop-term.numbers c.loop-term.term-index c.term-item.result c.loop-term-test.true
+          c.term-item.is c.loop-term.invariant.done),
+    )
 
 pub loop-term-preserved : goal.loop-term-preserved
 loop-term-preserved c = record {
