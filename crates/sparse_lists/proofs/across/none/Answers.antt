@@ -1,4 +1,4 @@
-use Rattle.std.proofs.Common.{ap, arith, length, refl, ◌≡◌, ◌∙◌, ◌+◌, ◌≤◌}
+use Rattle.std.proofs.Common.{ap, arith, length, ◌≡◌, ◌∙◌, ◌+◌}
 use Rattle.std.proofs.lemmas.List.{length_push}
 use Rattle.sparse_lists.specs.Across.{list_at}
 use Rattle.sparse_lists.specs.AcrossLaws.{empty_more}

@@ -1,4 +1,4 @@
-use Rattle.std.proofs.Common.{arith, drop, length, ◌≡◌, ◌∙◌, ◌+◌, ◌<◌, ◌≤◌}
+use Rattle.std.proofs.Common.{arith, drop, ◌∙◌, ◌+◌}
 use Rattle.sparse_lists.specs.JoinedLaws.{appended_all, appended_at, appended_end, appended_low, appended_more, appended_none, place_high, place_within}
 use Rattle.sparse_lists.proofs.joining.append.Goals as goal
 
