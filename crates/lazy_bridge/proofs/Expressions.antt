@@ -34,6 +34,8 @@ pub record PutSoFar (old now : AddressMap) (all left : List (Address × Function
   pub exprs : now.exprs ≡ finite.from_entries done
   pub vars : now.vars ≡ old.vars
   pub rows : now.rows ≡ old.rows
+  pub noted : now.noted ≡ old.noted
+  pub kept : now.kept ≡ old.kept
 
 pub put_start : (old : AddressMap) (all : List (Address × Function)) → old.exprs ≡ finite.empty
     → PutSoFar old old all all
@@ -43,13 +45,16 @@ put_start old all none = record {
   exprs = none;
   vars = refl;
   rows = refl;
+  noted = refl;
+  kept = refl;
 }
 
 pub put_next : (old now after : AddressMap) (all left rest : List (Address × Function))
     (at : Address) (f : Function) → PutSoFar old now all left → left ≡ (at, f) ∷ rest
     → HasDistinctKeys address_cmp all → after.exprs ≡ finite.insert now.exprs at f
-    → after.vars ≡ now.vars → after.rows ≡ now.rows → PutSoFar old after all rest
-put_next old now after all left rest at f h next apart is vars rows =
+    → after.vars ≡ now.vars → after.rows ≡ now.rows → after.noted ≡ now.noted
+    → after.kept ≡ now.kept → PutSoFar old after all rest
+put_next old now after all left rest at f h next apart is vars rows noted kept =
     let whole = h.parts ∙ ap (λ l. h.done ++ l) next in
     record {
       done = h.done ++ (at, f) ∷ [];
@@ -61,4 +66,6 @@ put_next old now after all left rest at f h next apart is vars rows =
           (not_before h.done rest (at, f) (subst (HasDistinctKeys address_cmp) whole apart)));
       vars = vars ∙ h.vars;
       rows = rows ∙ h.rows;
+      noted = noted ∙ h.noted;
+      kept = kept ∙ h.kept;
     }

@@ -56,6 +56,8 @@ fn put_expressions(map: &mut AddressMap, exprs: Vec<(Address, Aff)>) -> Result<(
     ensures exprs { OnOk result (map.new.exprs ≡ finite.from_entries exprs.items) }
     ensures vars { map.new.vars ≡ map.old.vars }
     ensures rows { map.new.rows ≡ map.old.rows }
+    ensures noted { map.new.noted ≡ map.old.noted }
+    ensures kept { map.new.kept ≡ map.old.kept }
 {
     for (at, func) in exprs {
         drop(map.put_expr(at, func)?);

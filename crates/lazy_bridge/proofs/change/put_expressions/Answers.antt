@@ -20,7 +20,8 @@ loop-at-preserved c =
           (into_iter_items l.at-iterator)
           (into_iter_items c.next.new.self) c.in-Some.at c.in-Some.func l.invariant.0
           c.in-Some.ensures.steps.0 c.requires.apart c.in_ok-put_expr.ensures.ok
-          c.put_expr.ensures.vars c.put_expr.ensures.rows,
+          c.put_expr.ensures.vars c.put_expr.ensures.rows c.put_expr.ensures.noted
+          c.put_expr.ensures.kept,
       let was = l.invariant.1 in
           let gone = c.in-Some.ensures.steps.1 in
           let short = ap length c.in-Some.ensures.steps.0 in
