@@ -66,6 +66,13 @@ abbrev pub JudgesMade : Told → List ℕ → Result ModelValue Refusal → Answ
 JudgesMade shelf certificate (Ok model) = FetchesText shelf certificate model
 JudgesMade shelf certificate (Err refusal) = IsAnswer (refused (refused_of refusal))
 
+-- the file of this name may be read, and its edits make a model
+pub record MakesModel (shelf : Told) (name : List ℕ) : Type 0 where
+  pub edits : List Edit
+  pub model : ModelValue
+  pub read : IsReadOf shelf name (Ok edits)
+  pub made : after_edits empty_model edits ≡ Ok model
+
 -- the edits of the model's file, or why there are none
 abbrev pub JudgesRead : Told → List ℕ → Result (List Edit) FileFault → Answer → Type 0
 JudgesRead shelf certificate (Ok edits) =

@@ -18,12 +18,13 @@ use Rattle.report_core.specs.declared.answer.Answer.TheVariants.{Memory, ReadFau
 use Rattle.user_model.specs.Model.{ModelValue, empty_model}
 use Rattle.user_model.specs.declared.edit.Edit.{Edit}
 use Rattle.user_model.specs.declared.refusal.Refusal.{Refusal}
-use Rattle.file_verdict.specs.Verdict.{FetchesText, IsVerdict, Judges, JudgesFile, JudgesMade, JudgesRead, JudgesText}
+use Rattle.file_verdict.specs.Verdict.{FetchesText, IsVerdict, Judges, JudgesFile, JudgesMade, JudgesRead, JudgesText, MakesModel}
 
--- one of two files may not be given, for this reason
+-- one of two files may not be given, for this reason: the model's, or where that makes a model the
+-- certificate's
 pub record OneFails (shelf : Told) (model certificate : List ℕ) (reason : FetchFault) : Type 0 where
   pub name : List ℕ
-  pub one : (name ≡ model) ⊎ (name ≡ certificate)
+  pub one : (name ≡ model) ⊎ ((name ≡ certificate) × MakesModel shelf model)
   pub gave : MayGive shelf name (Err reason)
 
 -- the fault of the shelf that an answer tells, if it does
@@ -56,9 +57,9 @@ judged_text model (Some c) answer reason judges tells = judged model c answer re
 
 -- the certificate's file
 text_fails : (shelf : Told) (first certificate : List ℕ) (model : ModelValue) (answer : Answer)
-    (reason : FetchFault) → FetchesText shelf certificate model answer
+    (reason : FetchFault) → MakesModel shelf first → FetchesText shelf certificate model answer
     → shelf_fault answer ≡ Some reason → OneFails shelf first certificate reason
-text_fails shelf first certificate model answer reason (given, may, judges) tells =
+text_fails shelf first certificate model answer reason makes (given, may, judges) tells =
     by given may judges
   where
     by : (given : Result (List ℕ) FetchFault) → MayGive shelf certificate given
@@ -67,24 +68,27 @@ text_fails shelf first certificate model answer reason (given, may, judges) tell
         (certificate_of (variables_of model.groups) model.rows text) answer reason judges tells)
     by (Err fetch.Failed) may is = record {
       name = certificate;
-      one = inr refl;
+      one = inr (refl, makes);
       gave = subst (λ (r : FetchFault). MayGive shelf certificate (Err r))
           (tells_this is refl tells) may;
     }
     by (Err fetch.TooLong) may is = record {
       name = certificate;
-      one = inr refl;
+      one = inr (refl, makes);
       gave = subst (λ (r : FetchFault). MayGive shelf certificate (Err r))
           (tells_this is refl tells) may;
     }
     by (Err fetch.Memory) may is = absurd (tells_none is refl tells)
 
-made_fails : (shelf : Told) (first certificate : List ℕ) (made : Result ModelValue Refusal)
-    (answer : Answer) (reason : FetchFault) → JudgesMade shelf certificate made answer
+made_fails : (shelf : Told) (first certificate : List ℕ) (edits : List Edit)
+    (made : Result ModelValue Refusal) (answer : Answer) (reason : FetchFault)
+    → IsReadOf shelf first (Ok edits) → after_edits empty_model edits ≡ made
+    → JudgesMade shelf certificate made answer
     → shelf_fault answer ≡ Some reason → OneFails shelf first certificate reason
-made_fails shelf first certificate (Ok model) answer reason judges tells =
-    text_fails shelf first certificate model answer reason judges tells
-made_fails shelf first certificate (Err refusal) answer reason is tells =
+made_fails shelf first certificate edits (Ok model) answer reason read is judges tells =
+    text_fails shelf first certificate model answer reason
+    record { edits = edits; model = model; read = read; made = is } judges tells
+made_fails shelf first certificate edits (Err refusal) answer reason read made is tells =
     absurd (tells_none is refl tells)
 
 -- the model's file, or the certificate's
@@ -93,7 +97,8 @@ read_fails : (shelf : Told) (first certificate : List ℕ) (read : Result (List 
     → JudgesRead shelf certificate read answer → shelf_fault answer ≡ Some reason
     → OneFails shelf first certificate reason
 read_fails shelf first certificate (Ok edits) answer reason of judges tells =
-    made_fails shelf first certificate (after_edits empty_model edits) answer reason judges tells
+    made_fails shelf first certificate edits (after_edits empty_model edits) answer reason of refl
+    judges tells
 read_fails shelf first certificate (Err file.Failed) answer reason of is tells = record {
   name = first;
   one = inl refl;

@@ -85,10 +85,17 @@ runs_check model certificate end left left' shelf faults faults' source s new ol
         λ sure. (let fails = fails_by shelf model certificate (at status.ReadFault e).0 in
             (fails.name, fails.one, fails.gave sure)),
       );
-      at_read_fault = λ e. (at status.ReadFault e).2 ∙ Adds-empty old;
+      at_read_fault = λ e. (
+        (at status.ReadFault e).0,
+        (at status.ReadFault e).2 ∙ Adds-empty old,
+      );
+      at_write_fault = λ e. tt;
       too_long = λ e. (let long = too_long_by shelf model certificate (at status.TooLong e).0 in
           (long.name, long.one, long.gave));
-      at_limit = λ e. (at status.TooLong e).1 ∙ Adds-empty old;
+      at_limit = λ e. (
+        (at status.TooLong e).0,
+        (at status.TooLong e).1 ∙ Adds-empty old,
+      );
     }
 
 -- ---- the verdict was written, or a part of it, or nothing

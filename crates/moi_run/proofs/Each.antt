@@ -4,7 +4,8 @@ use Rattle.std.specs.Prelude.{map}
 use Rattle.std.proofs.lemmas.List.{drop_more, map-append, map_more, take-append-drop}
 use Rattle.edit_engine.specs.Script.{Machine, Steps}
 use Rattle.io_face.specs.Sink.{Adds, AddsPrefix}
-use Rattle.moi_run.specs.Answering.{BeginsAnswers, Hears, HearsBy, StopsAtFile, WritesAnswers}
+use Rattle.io_face.specs.SinkLaws.{Adds-append}
+use Rattle.moi_run.specs.Answering.{BeginsAnswers, Hears, HearsBy, StopsAtFile, StopsAtWrite, WritesAnswers}
 use Rattle.moi_run.specs.Run.{EachOutcome}
 use Rattle.moi_run.specs.Status.{status_of}
 use Rattle.moi_run.specs.declared.status.Status.{Status}
@@ -72,6 +73,36 @@ stops_at {done} {start} {s} {refused} line more old mid written front
       steps = steps;
     }
 
+-- the sink did in the midst of it
+pub cut_at : {lines done : List (List ℕ)} {start s new : Machine} {refused was : Bool}
+    (line : List ℕ) (more : List (List ℕ)) (old mid written : Option (List ℕ))
+    → lines ≡ done ++ line ∷ more → WritesAnswers start done refused s (Adds old mid)
+    → Hears s line was new (AddsPrefix mid written)
+    → StopsAtWrite start lines new (Adds old written)
+cut_at {done} {start} {s} {refused} {was} line more old mid written front answered hears = record {
+  done = done;
+  line = line;
+  more = more;
+  front = front;
+  refused = refused;
+  after = s;
+  text = answered.text;
+  answers = answered.answers;
+  was = was;
+  hears = record {
+    answer = hears.answer;
+    text = hears.text;
+    steps = hears.steps;
+    prints = hears.prints;
+    written = (
+      hears.written.0,
+      hears.written.1,
+      Adds-append old mid written answered.text (take hears.written.0 hears.text)
+          answered.written hears.written.2,
+    );
+  };
+}
+
 pub each_at_stop : (reason : Stop) (answer : Status) (lines done : List (List ℕ)) (line : List ℕ)
     (more : List (List ℕ)) (start s new : Machine) (refused : Bool)
     (old mid written : Option (List ℕ))
@@ -87,7 +118,8 @@ each_at_stop reason answer lines done line more start s new refused old mid writ
         → EachOutcome (status_of why) lines start new (Adds old written)
     by stop.ReadFault at = stops_at line more old mid written front answered at.0 at.1
     by stop.TooLong at = stops_at line more old mid written front answered at.0 at.1
-    by _ at = tt
+    by stop.WriteFault at = cut_at line more old mid written front answered at.1
+    by stop.Memory at = tt
 
 -- the lines before it, and a part of its answer
 pub begins_in : {answer : Status} {lines done : List (List ℕ)} {line : List ℕ}

@@ -11,7 +11,7 @@ use Rattle.io_face.specs.FaultLaws.{HasFaulted-within}
 use Rattle.io_face.specs.Shelf.{FilesByName}
 use Rattle.io_face.specs.Sink.{Adds}
 use Rattle.io_face.specs.Told.{Told, told_by}
-use Rattle.moi_run.specs.Answering.{Hears, HearsBy, StopsAtFile, WritesBy, is_quit, is_refused}
+use Rattle.moi_run.specs.Answering.{Hears, HearsBy, StopsAtFile, StopsAtWrite, WritesBy, is_quit, is_refused}
 use Rattle.moi_run.specs.Input.{AnswersTaken, AnswersWithinLimits, Ends, PassesLimit}
 use Rattle.moi_run.specs.Run.{FetchFails, HasCause, Outcome}
 use Rattle.moi_run.specs.Status.{IsEnded, has_refused, status_of, stop_of_read}
@@ -170,13 +170,15 @@ pub outcome_at_stop : (source shelf : Type 0) (reason : Stop) (answer : Status)
     → (reason ≡ stop.ReadFault → shelf)
     → (reason ≡ stop.ReadFault → IfSome all (λ bytes. StopsAtFile start (heard (lines bytes))
     ReadFault s wrote))
+    → (reason ≡ stop.WriteFault → IfSome all (λ bytes. StopsAtWrite start (heard (lines bytes))
+    s wrote))
     → (reason ≡ stop.TooLong → IfSome all (λ bytes. StopsAtFile start (heard (lines bytes))
     TooLong s wrote))
     → IfSome all (λ bytes. Outcome source shelf answer bytes left start s wrote)
-outcome_at_stop source shelf reason answer all left start s wrote is cause fault long =
+outcome_at_stop source shelf reason answer all left start s wrote is cause fault write long =
     at_stop (λ a. IfSome all (λ bytes. Outcome source shelf a bytes left start s wrote)) reason
     answer is (λ e. told_weaker _ _ all (λ bytes stops. inr (cause e, stops)) (fault e))
-    (λ _. told_always _ all (λ bytes. tt))
+    write
     (λ e. told_weaker _ _ all (λ bytes stops. inr stops) (long e))
     (told_always _ all (λ bytes. tt))
 

@@ -164,6 +164,7 @@ runs_script setup end left left' shelf faults faults' source sink s middle new w
         | inl taken ↦ inl taken
         | inr stops ↦ inr (stops.0.counted, stops.1)
       ]) (at status.ReadFault e);
+      at_write_fault = λ e. told_lines _ left (at status.WriteFault e);
       too_long = λ e. told_weaker (came status.TooLong) _ left (λ bytes. elim [
         | inl passes ↦ inl passes.0
         | inr file ↦ inr (unfetched_at_limit start new (heard (lines bytes)) wrote shelf same file)
@@ -209,6 +210,8 @@ runs_plan setup end left left' shelf source fetch s new wrote begun runs no_faul
       verdict_prefix = tt;
       read_fault = λ e. absurd (no_fault e);
       at_read_fault = λ e. absurd (no_fault e);
+      at_write_fault = λ e. subst (λ t. EachOutcome t (codes "plan" ∷ []) (start_by (Some setup) s)
+          new wrote) e runs.outcome;
       too_long = λ e. absurd (no_limit e);
       at_limit = λ e. absurd (no_limit e);
     }
@@ -240,6 +243,7 @@ runs_solve setup model end left left' shelf faults faults' source s new wrote be
             (at status.ReadFault e) in (file.0, file.1, file.2 sure)),
       );
       at_read_fault = λ e. at status.ReadFault e;
+      at_write_fault = λ e. at status.WriteFault e;
       too_long = λ e. unfetched_at_limit start new (solve_lines model) wrote shelf same
           (at status.TooLong e);
       at_limit = λ e. at status.TooLong e;
@@ -275,10 +279,11 @@ always_check (Some (Check model certificate)) Q h = h model certificate
 -- memory ran out before the first line, or the words are of no command
 runs_nothing : (said : Option Command) (end : Status) (left left' : Option (List ℕ)) (shelf : Told)
     (source fetch : Type 0) (s new : Machine) (old : Option (List ℕ)) → (IsEnded end → ⊥)
-    → (end ≢ status.ReadFault) → (end ≢ status.TooLong)
+    → (end ≢ status.ReadFault) → (end ≢ status.WriteFault) → (end ≢ status.TooLong)
     → (end ≢ status.Memory → new ≡ start_for said s)
     → Runs said end left left' shelf source fetch s new (Adds old old) (AddsPrefix old old)
-runs_nothing said end left left' shelf source fetch s new old no_end no_fault no_limit stands =
+runs_nothing said end left left' shelf source fetch s new old no_end no_fault no_write no_limit
+    stands =
     let start : Machine = start_for said s in
     record {
       text = λ ended. absurd (no_end ended);
@@ -292,6 +297,7 @@ runs_nothing said end left left' shelf source fetch s new old no_end no_fault no
           (λ model certificate. inl (begun_whole old old [] (Adds-empty old)));
       read_fault = λ e. absurd (no_fault e);
       at_read_fault = λ e. absurd (no_fault e);
+      at_write_fault = λ e. absurd (no_write e);
       too_long = λ e. absurd (no_limit e);
       at_limit = λ e. absurd (no_limit e);
     }
@@ -302,14 +308,14 @@ pub runs_without_memory : (said : Option Command) (left left' : Option (List ℕ
     (AddsPrefix old old)
 runs_without_memory said left left' shelf source fetch s new old =
     runs_nothing said status.Memory left left' shelf source fetch s new old (λ ended. ended)
-    (λ e. cc) (λ e. cc) (λ ne. absurd (ne refl))
+    (λ e. cc) (λ e. cc) (λ e. cc) (λ ne. absurd (ne refl))
 
 pub runs_of_none : (left : Option (List ℕ)) (shelf : Told) (source fetch : Type 0) (s : Machine)
     (old : Option (List ℕ)) → Runs None status.Usage left left shelf source fetch s s (Adds old old)
     (AddsPrefix old old)
 runs_of_none left shelf source fetch s old =
     runs_nothing None status.Usage left left shelf source fetch s s old (λ ended. ended)
-    (λ e. cc) (λ e. cc) (λ _. refl)
+    (λ e. cc) (λ e. cc) (λ e. cc) (λ _. refl)
 
 -- ---- lines that ask for no file
 

@@ -8,13 +8,13 @@ use Rattle.edit_engine.specs.LinesLaws.{heard-append}
 use Rattle.edit_engine.specs.Script.{Machine, Steps}
 use Rattle.io_face.specs.Sink.{Adds, AddsPrefix}
 use Rattle.io_face.specs.SourceLaws.{Takes-all}
-use Rattle.moi_run.specs.Answering.{BeginsAnswers, Hears, HearsBy, StopsAtFile}
+use Rattle.moi_run.specs.Answering.{BeginsAnswers, Hears, HearsBy, StopsAtFile, StopsAtWrite}
 use Rattle.moi_run.specs.Input.{Ends}
 use Rattle.moi_run.specs.Status.{status_of}
 use Rattle.moi_run.specs.declared.status.Status.{Status}
 use Rattle.moi_run.specs.declared.status.Status.TheVariants.{Memory}
 use Rattle.moi_run.specs.declared.stop.Stop.{Stop}
-use Rattle.moi_run.proofs.Each.{begins_in, each_begins, each_begins_at_stop, stops_at}
+use Rattle.moi_run.proofs.Each.{begins_in, cut_at, each_begins, each_begins_at_stop, stops_at}
 use Rattle.moi_run.proofs.Standing.{GivenAs, Standing, ends_at_last, ends_at_quit, given_more, told_left}
 use Rattle.moi_run.proofs.Written.{whole_more}
 use Rattle.report_core.specs.declared.answer.Answer.{Answer}
@@ -153,6 +153,22 @@ stops_in_turn next all start reader reader' left left' s new refused old mid wri
     stopped gives standing steps same =
     told_weaker _ _ all
     (λ bytes at. stops_at seen at.0 old mid written at.1 standing.answered steps same)
+    (reached_in_turn next all start reader reader' left left' s refused old mid line seen gives
+    standing)
+
+-- where the sink stopped the work in the midst of its answer
+pub cut_in_turn : (next : Next) (all : Option (List ℕ)) (start : Machine) (reader reader' : Held)
+    (left left' : Option (List ℕ)) (s new : Machine) (refused was : Bool)
+    (old mid written : Option (List ℕ)) (line seen : List ℕ)
+    → Gives next reader left reader' left' line seen
+    → Standing all start reader left s refused old mid
+    → Hears s seen was new (AddsPrefix mid written)
+    → IfSome all (λ bytes. StopsAtWrite start (heard (lines bytes)) new (Adds old written))
+unfolding Reached
+cut_in_turn next all start reader reader' left left' s new refused was old mid written line seen
+    gives standing hears =
+    told_weaker _ _ all
+    (λ bytes at. cut_at seen at.0 old mid written at.1 standing.answered hears)
     (reached_in_turn next all start reader reader' left left' s refused old mid line seen gives
     standing)
 

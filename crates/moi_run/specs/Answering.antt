@@ -3,7 +3,8 @@
 --     WritesAnswers    lines were answered, and their text was written
 --     BeginsAnswers    some of the first were, and what was written begins their text
 --     StopsAtFile      some of the first were, and at the next the shelf stopped the work
-use Rattle.std.specs.Prelude.{◌≡◌, ◌≢◌, ℕ, ◌⊎◌, Bool, true, false, List, ◌∷◌, ◌++◌, Option, Result, Ok, Err}
+--     StopsAtWrite     some of the first were, and in the answer to the next the sink did
+use Rattle.std.specs.Prelude.{◌≡◌, ◌≢◌, ◌≤◌, ℕ, ◌⊎◌, Bool, true, false, List, ◌∷◌, ◌++◌, length, take, Option, Result, Ok, Err}
 use Rattle.edit_engine.specs.Lines.{Answers, Prints, says_quit}
 use Rattle.edit_engine.specs.LinesLaws.{answers_quit}
 use Rattle.edit_engine.specs.Script.{Machine, Steps}
@@ -62,6 +63,22 @@ pub record Hears (s : Machine) (line : List ℕ) (refused : Bool) (new : Machine
   pub steps : Steps s line answer new
   pub prints : Prints answer text refused
   pub written : wrote text
+
+-- the lines before one were answered, and their text was written; of the answer to that one a part
+-- was, and no line behind it changed anything
+pub record StopsAtWrite (s : Machine) (lines : List (List ℕ)) (new : Machine)
+    (wrote : List ℕ → Type 0) : Type 0 where
+  pub done : List (List ℕ)
+  pub line : List ℕ
+  pub more : List (List ℕ)
+  pub front : lines ≡ done ++ line ∷ more
+  pub refused : Bool
+  pub after : Machine
+  pub text : List ℕ
+  pub answers : Answers s done text refused after
+  pub was : Bool
+  pub hears : Hears after line was new
+      (λ answer. (k : ℕ) × (k ≤ length answer) × wrote (text ++ take k answer))
 
 abbrev pub is_refused : Reply → Bool
 is_refused reply.Refused = true

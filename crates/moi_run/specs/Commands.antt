@@ -14,6 +14,7 @@ use Rattle.command_words.specs.Words.{command_of}
 use Rattle.edit_engine.specs.Held.{set_up}
 use Rattle.edit_engine.specs.Lines.{heard}
 use Rattle.edit_engine.specs.Script.{Machine}
+use Rattle.file_verdict.specs.Verdict.{MakesModel}
 use Rattle.io_face.specs.Shelf.{Gives}
 use Rattle.io_face.specs.Told.{Told}
 use Rattle.io_face.specs.declared.shelf.FetchFault.TheVariants.{Failed, TooLong}
@@ -74,19 +75,20 @@ abbrev pub LoadsFile : List ℕ → List ℕ → Type 0
 LoadsFile name text = line_said text ≡ Ok (line.Load name)
 
 -- the command may ask for the file of this name: a line that it answers, where they are told, loads
--- it; or it is one of the two that `check` names
-abbrev pub Asks : Option Command → Option (List ℕ) → List ℕ → Type 0
-Asks (Some (Check model certificate)) left name = (name ≡ model) ⊎ (name ≡ certificate)
-Asks said left name = IfSome (lines_for said left) (Any (LoadsFile name))
+-- it; or it is the model's that `check` names, or where that makes a model the certificate's
+abbrev pub Asks : Told → Option Command → Option (List ℕ) → List ℕ → Type 0
+Asks shelf (Some (Check model certificate)) left name =
+    (name ≡ model) ⊎ ((name ≡ certificate) × MakesModel shelf model)
+Asks shelf said left name = IfSome (lines_for said left) (Any (LoadsFile name))
 
 -- it may ask for a file that the shelf, where it tells its files, doesn't have, or that is too long
 abbrev pub AsksInVain : Option Command → Option (List ℕ) → Told → Type 0
 AsksInVain said left shelf =
-    (name : List ℕ) × Asks said left name × Gives shelf.files name (Err Failed)
+    (name : List ℕ) × Asks shelf said left name × Gives shelf.files name (Err Failed)
 
 abbrev pub AsksTooMuch : Option Command → Option (List ℕ) → Told → Type 0
 AsksTooMuch said left shelf =
-    (name : List ℕ) × Asks said left name × Gives shelf.files name (Err TooLong)
+    (name : List ℕ) × Asks shelf said left name × Gives shelf.files name (Err TooLong)
 
 -- ---- counts of faults
 

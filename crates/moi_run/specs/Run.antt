@@ -12,7 +12,7 @@ use Rattle.io_face.specs.Shelf.{Gives}
 use Rattle.io_face.specs.Sink.{Adds, AddsPrefix}
 use Rattle.io_face.specs.Told.{Told}
 use Rattle.io_face.specs.declared.shelf.FetchFault.TheVariants.{Failed}
-use Rattle.moi_run.specs.Answering.{BeginsAnswers, PrintsText, StopsAtFile, WritesAnswers}
+use Rattle.moi_run.specs.Answering.{BeginsAnswers, PrintsText, StopsAtFile, StopsAtWrite, WritesAnswers}
 use Rattle.moi_run.specs.Commands.{AsksInVain, AsksTooMuch, HasReadFault, IfCheck, input_for, lines_for, setup_for, solve_lines, start_by, start_for}
 use Rattle.moi_run.specs.Input.{AnswersTaken, AnswersWithinLimits, Ends, IsReadToEnd, IsWithinLimits, PassesLimit}
 use Rattle.moi_run.specs.Status.{IsEnded, has_refused}
@@ -32,7 +32,8 @@ Outcome source shelf status.Usage bytes left s new wrote = ⊥
 Outcome source shelf status.ReadFault bytes left s new wrote =
     (source × AnswersTaken bytes left s new wrote)
     ⊎ (shelf × StopsAtFile s (heard (lines bytes)) ReadFault new wrote)
-Outcome source shelf status.WriteFault bytes left s new wrote = Unit {0}
+Outcome source shelf status.WriteFault bytes left s new wrote =
+    StopsAtWrite s (heard (lines bytes)) new wrote
 Outcome source shelf status.Memory bytes left s new wrote = Unit {0}
 Outcome source shelf status.TooLong bytes left s new wrote =
     (PassesLimit bytes × AnswersWithinLimits bytes s new wrote)
@@ -44,7 +45,7 @@ EachOutcome status.Done lines s new wrote = WritesAnswers s lines false new wrot
 EachOutcome status.SomeRefused lines s new wrote = WritesAnswers s lines true new wrote
 EachOutcome status.Usage lines s new wrote = ⊥
 EachOutcome status.ReadFault lines s new wrote = StopsAtFile s lines ReadFault new wrote
-EachOutcome status.WriteFault lines s new wrote = Unit {0}
+EachOutcome status.WriteFault lines s new wrote = StopsAtWrite s lines new wrote
 EachOutcome status.Memory lines s new wrote = Unit {0}
 EachOutcome status.TooLong lines s new wrote = StopsAtFile s lines TooLong new wrote
 
@@ -76,29 +77,39 @@ HasCause source shelf sink status.TooLong = Unit {0}
 -- ---- of commands
 
 -- what is written where reading stopped the work: the answers of all lines that were taken, or of
--- those before the one at which the shelf stopped it
-abbrev pub AtReadFault : Option Command → Type 0 → Type 0 → Option (List ℕ) → Option (List ℕ)
-    → Machine → Machine → (List ℕ → Type 0) → Type 0
-AtReadFault (Some (Run setup)) source shelf left left' s new wrote = IfSome left (λ bytes.
+-- those before the one at which the shelf stopped it; of `check` nothing, and the verdict tells at
+-- which file
+abbrev pub AtReadFault : Told → Option Command → Type 0 → Type 0 → Option (List ℕ)
+    → Option (List ℕ) → Machine → Machine → (List ℕ → Type 0) → Type 0
+AtReadFault told (Some (Run setup)) source shelf left left' s new wrote = IfSome left (λ bytes.
     (source × AnswersTaken bytes left' s new wrote)
     ⊎ (shelf × StopsAtFile s (heard (lines bytes)) ReadFault new wrote))
-AtReadFault (Some (Solve setup model)) source shelf left left' s new wrote =
+AtReadFault told (Some (Solve setup model)) source shelf left left' s new wrote =
     StopsAtFile s (solve_lines model) ReadFault new wrote
-AtReadFault (Some (Check model certificate)) source shelf left left' s new wrote = wrote []
-AtReadFault (Some (Plan setup)) source shelf left left' s new wrote = ⊥
-AtReadFault None source shelf left left' s new wrote = ⊥
+AtReadFault told (Some (Check model certificate)) source shelf left left' s new wrote =
+    IsVerdict told model certificate ReadFault × wrote []
+AtReadFault told (Some (Plan setup)) source shelf left left' s new wrote = ⊥
+AtReadFault told None source shelf left left' s new wrote = ⊥
 
 -- the same where a limit did
-abbrev pub AtLimit : Option Command → Option (List ℕ) → Machine → Machine → (List ℕ → Type 0)
-    → Type 0
-AtLimit (Some (Run setup)) left s new wrote = IfSome left (λ bytes.
+abbrev pub AtLimit : Told → Option Command → Option (List ℕ) → Machine → Machine
+    → (List ℕ → Type 0) → Type 0
+AtLimit told (Some (Run setup)) left s new wrote = IfSome left (λ bytes.
     (PassesLimit bytes × AnswersWithinLimits bytes s new wrote)
     ⊎ StopsAtFile s (heard (lines bytes)) TooLong new wrote)
-AtLimit (Some (Solve setup model)) left s new wrote =
+AtLimit told (Some (Solve setup model)) left s new wrote =
     StopsAtFile s (solve_lines model) TooLong new wrote
-AtLimit (Some (Check model certificate)) left s new wrote = wrote []
-AtLimit (Some (Plan setup)) left s new wrote = ⊥
-AtLimit None left s new wrote = ⊥
+AtLimit told (Some (Check model certificate)) left s new wrote =
+    IsVerdict told model certificate TooLong × wrote []
+AtLimit told (Some (Plan setup)) left s new wrote = ⊥
+AtLimit told None left s new wrote = ⊥
+
+-- what is written where the sink stopped the work: the answers of all lines before one, and a part
+-- of that to it
+abbrev pub AtWriteFault : Option Command → Option (List ℕ) → Machine → Machine
+    → (List ℕ → Type 0) → Type 0
+AtWriteFault said left s new wrote =
+    IfSome (lines_for said left) (λ lines. StopsAtWrite s lines new wrote)
 
 -- what is too long
 abbrev pub HasTooLong : Option Command → Option (List ℕ) → Told → Type 0
@@ -149,6 +160,8 @@ pub record Runs (said : Option Command) (end : Status) (left left' : Option (Lis
   pub read_fault : end ≡ status.ReadFault
       → HasReadFault said source (fetch × (IsTrue shelf.sure → AsksInVain said left shelf))
   pub at_read_fault : end ≡ status.ReadFault
-      → AtReadFault said source fetch left left' (start_for said s) new wrote
+      → AtReadFault shelf said source fetch left left' (start_for said s) new wrote
+  pub at_write_fault : end ≡ status.WriteFault
+      → AtWriteFault said left (start_for said s) new wrote
   pub too_long : end ≡ status.TooLong → HasTooLong said left shelf
-  pub at_limit : end ≡ status.TooLong → AtLimit said left (start_for said s) new wrote
+  pub at_limit : end ≡ status.TooLong → AtLimit shelf said left (start_for said s) new wrote

@@ -1,5 +1,6 @@
 //! The commands, by the words.
 ghost use Rattle.std.specs.Prelude.{◌≡◌, ◌≢◌, ℕ, Bool, ◌+◌, ◌↔◌, ◌⊎◌, [], None, Some, false, IfSome, IsTrue};
+ghost use Rattle.cache_layer.specs.Cached.{Stands, model_in};
 ghost use Rattle.edit_engine.specs.Held.{machine_of, state_of};
 ghost use Rattle.io_face.specs.Fault.{HasFaulted};
 ghost use Rattle.io_face.specs.Sink.{Adds, AddsPrefix};
@@ -7,7 +8,7 @@ ghost use Rattle.io_face.specs.Told.{told_by};
 ghost use Rattle.moi_run.specs.Answering.{BeginsAnswers, WritesAnswers};
 ghost use Rattle.moi_run.specs.Commands.{AsksInVain, CanBeFetched, CanBeRead, HasReadFault, IfCheck, IsPlan, IsSound, ReadsNothing, input_for, lines_for, said_by, setup_for, start_for};
 ghost use Rattle.moi_run.specs.Input.{IsReadToEnd, IsWithinLimits};
-ghost use Rattle.moi_run.specs.Run.{AtLimit, AtReadFault, HasTooLong, Runs, WritesVerdict};
+ghost use Rattle.moi_run.specs.Run.{AtLimit, AtReadFault, AtWriteFault, HasTooLong, Runs, WritesVerdict};
 ghost use Rattle.moi_run.specs.Status.{IsEnded, has_refused};
 ghost use Rattle.script_lines.specs.Limits.{input_limit};
 ghost use Rattle.script_lines.specs.Reading.{TakesAtMost};
@@ -80,7 +81,8 @@ pub fn run<B: Bridge, H: Shelf, I: Source, O: Sink>(
     ensures taken { TakesAtMost (input_limit + 1) (I.left input.old) (I.left input.new) }
 
     // A fault of the source or of the shelf was counted; a sure shelf lacks a file that the command
-    // asks for. What was taken, or the lines before the one that asks for a file, was answered.
+    // asks for. What was taken, or the lines before the one that asks for a file, was answered; of
+    // `check` it is told at which of its files the shelf failed.
     ensures read_fault { let said = said_by words.now in
         let told = told_by (H.files shelf.old) (H.sure shelf.old) in
         result ≡ Status.ReadFault → HasReadFault said
@@ -89,13 +91,20 @@ pub fn run<B: Bridge, H: Shelf, I: Source, O: Sink>(
         × (IsTrue (H.sure shelf.old) → AsksInVain said (I.left input.old) told)) }
     ensures at_read_fault { let said = said_by words.now in
         let told = told_by (H.files shelf.old) (H.sure shelf.old) in
-        result ≡ Status.ReadFault → AtReadFault said
+        result ≡ Status.ReadFault → AtReadFault told said
         (HasFaulted (I.faults input.old) (I.faults input.new))
         (HasFaulted (H.faults shelf.old) (H.faults shelf.new)) (I.left input.old)
         (I.left input.new) (start_for said (machine_of session.old told))
         (machine_of session.new told) (Adds (O.written output.old) (O.written output.new)) }
+    // A fault of the sink was counted. The lines before one were answered, and of the answer to that
+    // one a part was written; no line behind it changed the session.
     ensures write_fault { result ≡ Status.WriteFault
         → HasFaulted (O.faults output.old) (O.faults output.new) }
+    ensures at_write_fault { let said = said_by words.now in
+        let told = told_by (H.files shelf.old) (H.sure shelf.old) in
+        result ≡ Status.WriteFault → AtWriteFault said (I.left input.old)
+        (start_for said (machine_of session.old told)) (machine_of session.new told)
+        (Adds (O.written output.old) (O.written output.new)) }
 
     // A line, the input or a file is too long. The lines before that were answered.
     ensures too_long { result ≡ Status.TooLong
@@ -103,7 +112,7 @@ pub fn run<B: Bridge, H: Shelf, I: Source, O: Sink>(
         (told_by (H.files shelf.old) (H.sure shelf.old)) }
     ensures at_limit { let said = said_by words.now in
         let told = told_by (H.files shelf.old) (H.sure shelf.old) in
-        result ≡ Status.TooLong → AtLimit said (I.left input.old)
+        result ≡ Status.TooLong → AtLimit told said (I.left input.old)
         (start_for said (machine_of session.old told)) (machine_of session.new told)
         (Adds (O.written output.old) (O.written output.new)) }
 
@@ -119,8 +128,16 @@ pub fn run<B: Bridge, H: Shelf, I: Source, O: Sink>(
         → CanBeFetched said (I.left input.old) told (H.faults shelf.old) (H.faults shelf.new)
         → IsSound (O.faults output.old) (O.faults output.new)
         → IsEnded result ⊎ (result ≡ Status.Memory) }
+
+    // While a solver is attached, the fresh bridging of the session's model stands: the solver's
+    // model, read through the map of addresses, is its leaves.
+    ensures stands { let cache = session.new.cache in
+        Stands cache.attached cache.lazy (model_in cache) }
 {
-    obey_words(alloc, words, shelf, input, output, session)
+    let status = obey_words(alloc, words, shelf, input, output, session);
+    // what this ensures: what stands in the session's cache
+    let _stands = session.cache().attached();
+    status
 }
 
 // The same, in terms of how the command ran.

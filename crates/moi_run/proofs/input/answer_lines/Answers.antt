@@ -160,6 +160,15 @@ returns-in-Err-answer_line-clause-outcome g c =
     (g.O.Sink.written c.answering.output) (g.O.Sink.written c.answer_line.new.output)
     c.next_line.new.line.items c.deref.result.now ReadFault turn
     c.answering.invariant.standing h.0 h.1)
+    (λ is. let h = at_stop stop.WriteFault is in
+    turns.cut_in_turn c.in-Ok.next (g.I.Source.left c.args.input.now)
+    (machine_of c.args.session.now told) c.answering.reader c.next_line.new.self
+    (g.I.Source.left c.answering.input) (g.I.Source.left c.next_line.new.input)
+    (machine_of c.answering.session told) (machine_of c.answer_line.new.session told)
+    c.answering.any_refused h.0 (g.O.Sink.written c.args.output.now)
+    (g.O.Sink.written c.answering.output) (g.O.Sink.written c.answer_line.new.output)
+    c.next_line.new.line.items c.deref.result.now turn
+    c.answering.invariant.standing h.1)
     (λ is. let h = at_stop stop.TooLong is in
     turns.stops_in_turn c.in-Ok.next (g.I.Source.left c.args.input.now)
     (machine_of c.args.session.now told) c.answering.reader c.next_line.new.self
