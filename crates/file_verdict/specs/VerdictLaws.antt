@@ -14,7 +14,7 @@ use Rattle.mof_fetch.specs.FetchedLaws.{may_fail}
 use Rattle.mof_fetch.specs.declared.fault.FileFault.{FileFault}
 use Rattle.mof_fetch.specs.declared.fault.FileFault.TheVariants as file
 use Rattle.report_core.specs.declared.answer.Answer.{Answer}
-use Rattle.report_core.specs.declared.answer.Answer.TheVariants.{Memory, ReadFault, TooLong}
+use Rattle.report_core.specs.declared.answer.Answer.TheVariants.{ReadFault, TooLong}
 use Rattle.user_model.specs.Model.{ModelValue, empty_model}
 use Rattle.user_model.specs.declared.edit.Edit.{Edit}
 use Rattle.user_model.specs.declared.refusal.Refusal.{Refusal}
