@@ -35,7 +35,7 @@ pub read_alike : (old now : Owned) → HasLeavesOf old now → leaf_model_in now
 read_alike old now same = λ i. leaf_model_in (record {
   boxes = now.boxes;
   solver = same.solver i;
-  map = record { vars = same.vars i; rows = same.rows i; exprs = now.map.exprs };
+  map = record now.map { vars = same.vars i; rows = same.rows i };
   objective_at = same.objective_at i;
 })
 
