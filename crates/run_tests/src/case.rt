@@ -35,6 +35,8 @@ pub struct Case {
     pub boxed: bool,
     /// Whether what the session is left with is printed.
     pub left: bool,
+    /// The line of which is printed what it does to the solver's model.
+    pub last: Option<String>,
 }
 
 impl Case {
@@ -49,6 +51,7 @@ impl Case {
             failing: None,
             boxed: false,
             left: false,
+            last: None,
         }
     }
 

@@ -12,10 +12,14 @@
 //                            `NonposVar`, in place of a bridge of each family
 //     left                   has printed what the session is left with: whether a solver is
 //                            attached, and the model as a file's text
+//     rows N                 the script has N lines more, `row R >= 0 : 1*x` with R from r1 on
+//     last LINE              the script's lines and then this one are made by a session, and what
+//                            this one does to the solver's model is printed
 //     run                    runs the case
 #![tactic(auto)]
 
 mod case;
+mod last;
 mod reading;
 mod running;
 

@@ -47,6 +47,11 @@ fn told(rt: &HostRuntime, case: &mut Case, word: &str, rest: &str) -> Result<(),
             Ok(())
         }
         "failing" => fail(case, rest),
+        "rows" => put_rows(case, rest.parse()?),
+        "last" => {
+            case.last = Some(String::from_str(rt.alloc(), rest)?);
+            Ok(())
+        }
         _ => Err(Stop),
     }
 }
@@ -60,6 +65,15 @@ fn put_words(case: &mut Case, words: &str) -> Result<(), Stop> {
     let alloc = *case.words.allocator();
     for word in words.split(' ') {
         case.words.push(String::from_str(alloc, word)?)?;
+    }
+    Ok(())
+}
+
+fn put_rows(case: &mut Case, count: u32) -> Result<(), Stop> {
+    let alloc = *case.script.allocator();
+    for n in 0..count {
+        let line = format!(in alloc; "row r{} >= 0 : 1*x\n", u64::from(n) + 1)?;
+        case.script.extend_from_slice(line.as_bytes())?;
     }
     Ok(())
 }

@@ -5,6 +5,7 @@ ghost use Rattle.boxes.specs.Boxed.{families_of, occur_once};
 ghost use Rattle.edit_engine.specs.Held.{state_of};
 
 use crate::case::{Call, Case};
+use crate::last::run_last;
 use any_bridge::all_bridges;
 use bridge_face::Bridge;
 use bridges_flip::{GreaterLess, NonposVar};
@@ -130,7 +131,10 @@ fn run_by<H: Shelf, B: Bridge>(
     requires kept { All (λ s. s.kept ≡ finite.empty) (map B.state bridges.items) }
 {
     let mut session = SessionOver::new(rt.alloc(), bridges);
-    run_session(rt, case, shelf, input, &mut session)
+    match &case.last {
+        Some(last) => run_last(rt, &case.script, last.as_bytes(), shelf, &mut session),
+        None => run_session(rt, case, shelf, input, &mut session),
+    }
 }
 
 // The session is lent, so that no way out lets go of it.

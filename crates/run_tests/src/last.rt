@@ -1,0 +1,98 @@
+// What the last line of a script does to the solver's model.
+use address_map::{Address, AddressMap};
+use bridge_face::Bridge;
+use edit_engine::{Answer, SessionOver};
+use io_face::Shelf;
+use std::alloc::Global;
+use std::str;
+use stop::Stop;
+
+// The leaves with the indices that they have in the solver's model.
+#[derive(Drop)]
+struct Indices {
+    vars: Vec<(Address, usize)>,
+    rows: Vec<(Address, usize)>,
+}
+
+/// Has a session make the lines of a script and then a last one, and prints what that is answered,
+/// how many calls of the solver's model it takes, and how many leaves keep their index.
+pub fn run_last<H: Shelf, B: Bridge>(
+    rt: &HostRuntime,
+    script: &[u8],
+    last: &[u8],
+    shelf: &mut H,
+    session: &mut SessionOver<B>,
+) -> Result<(), Stop> {
+    for line in script.split(|byte| *byte == b'\n') {
+        drop(session.line(line, shelf));
+    }
+    let calls = calls_in(session);
+    let before = indices_in(rt.alloc(), session)?;
+    tell_answer(rt, &session.line(last, shelf))?;
+    let more = calls_in(session).saturating_sub(calls);
+    rt.println(format_args!("calls {more}"))?;
+    tell_kept(rt, &before, session)
+}
+
+fn tell_answer(rt: &HostRuntime, answer: &Answer) -> Result<(), Stop> {
+    if let Answer::Printed(text) = answer {
+        rt.print(str::from_utf8(text.as_slice())?)?;
+    }
+    Ok(())
+}
+
+fn tell_kept<B: Bridge>(
+    rt: &HostRuntime,
+    before: &Indices,
+    session: &SessionOver<B>,
+) -> Result<(), Stop> {
+    let map = session.cache().lazy().map();
+    let vars = before
+        .vars
+        .iter()
+        .filter(|(at, i)| map.var_index(at) == Some(*i))
+        .count();
+    let rows = before
+        .rows
+        .iter()
+        .filter(|(at, i)| map.row_index(at) == Some(*i))
+        .count();
+    rt.println(format_args!("variables {vars} of {}", before.vars.len()))?;
+    Ok(rt.println(format_args!("rows {rows} of {}", before.rows.len()))?)
+}
+
+fn calls_in<B: Bridge>(session: &SessionOver<B>) -> u64 {
+    session.cache().lazy().solver().calls()
+}
+
+fn indices_in<B: Bridge>(alloc: Global, session: &SessionOver<B>) -> Result<Indices, Stop> {
+    let map = session.cache().lazy().map();
+    Ok(Indices {
+        vars: vars_in(alloc, map)?,
+        rows: rows_in(alloc, map)?,
+    })
+}
+
+fn vars_in(alloc: Global, map: &AddressMap) -> Result<Vec<(Address, usize)>, Stop> {
+    let mut vars = Vec::new(alloc);
+    for n in 0..map.var_count() {
+        if let Some(at) = map.nth_var(n)
+            && let Some(i) = map.var_index(&at)
+        {
+            vars.push((at, i))?;
+        }
+    }
+    Ok(vars)
+}
+
+fn rows_in(alloc: Global, map: &AddressMap) -> Result<Vec<(Address, usize)>, Stop> {
+    let mut rows = Vec::new(alloc);
+    for n in 0..map.row_count() {
+        if let Some(at) = map.nth_row(n)
+            && let Some(i) = map.row_index(&at)
+        {
+            rows.push((at, i))?;
+        }
+    }
+    Ok(rows)
+}
