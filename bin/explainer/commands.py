@@ -129,7 +129,8 @@ def check(program, words):
         lines += [MARGIN + line for line in script.meaning(17)]
     elif output and output[0].startswith("refused "):
         lines += [MARGIN + line for line in file_refusal(output[0], words[0])]
-    write(lines + [f"Exit status {status}: {tables.by_number('statuses')[status]['meaning']}."])
+    meaning = "the check ran to its end, with the answer above" if status == 0 else tables.by_number("statuses")[status]["meaning"]
+    write(lines + [f"Exit status {status}: {meaning}."])
     return status
 
 

@@ -16,8 +16,9 @@ KEYWORDS = (
 ).split()
 OTHER_WORDS = {
     "minimize": "min", "minimise": "min", "maximize": "max", "maximise": "max", "solve": "optimize",
-    "optimise": "optimize", "variable": "var", "constraint": "row", "con": "row", "st": "row", "delete": "delrow",
-    "remove": "delrow", "print": "bridged", "read": "load", "open": "load", "save": "write", "exit": "quit",
+    "optimise": "optimize", "variable": "var", "constraint": "row", "con": "row", "st": "row", "delete": "delvar` or `delrow",
+    "remove": "delvar` or `delrow", "objective": "min` or `max", "obj": "min` or `max",
+    "print": "write", "read": "load", "open": "load", "save": "write", "exit": "quit",
     "end": "quit", "int": "none", "bin": "none", "integer": "none", "binary": "none",
 }
 FORMS = {
@@ -130,6 +131,14 @@ def too_long_number(line):
             return f"`{part}` exceeds 128 bits: neither part may pass {numbers.LARGEST}"
 
 
+def star_left_out(line):
+    if line.tokens[0] not in ("row", "vrow", "min", "max"):
+        return None
+    for number, name in zip(line.tokens[1:], line.tokens[2:]):
+        if PLACE.fullmatch(number) and re.match(r"[A-Za-z_]", name) and "*" not in name:
+            return f"join the number and its variable by `*`: `{number}*{name}`"
+
+
 def no_star(line):
     for token in line.tokens[1:]:
         found = re.fullmatch(r"([+-]?[0-9]+(?:/[0-9]+)?)([A-Za-z_%\[].*)", token)
@@ -181,6 +190,9 @@ def number_behind(line):
     tokens = line.tokens
     if tokens[0] != "row" or ":" not in tokens:
         return None if tokens[0] != "row" else f"a row has its number before its terms, and a colon: {FORMS['row']}"
+    before = tokens[: tokens.index(":")]
+    if sum(token in (">=", "<=", "==") for token in before) == 2 or ("in" in before and "to" in before):
+        return "two bounds are written `in`, the lower one first: `row R in 2 8 : 1*X`"
     if any(token in (">=", "<=", "==", "in") for token in tokens[tokens.index(":") :]):
         return f"the relation and its number come before the colon: {FORMS['row']}"
 
@@ -220,7 +232,7 @@ def form_of_keyword(line):
 SLIPS = (
     byte_order_mark, tab, windows_end, other_byte, comment_behind, almost_relation, tight_relation, tight_colon, infinite,
     decimal_number, comma, too_long_number, star_behind, no_star, star_apart, plus, spaced_fraction, other_keyword,
-    number_behind, missing_bound, bare_variable, form_of_keyword,
+    number_behind, star_left_out, missing_bound, bare_variable, form_of_keyword,
 )
 
 
