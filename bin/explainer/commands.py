@@ -2,7 +2,7 @@
 
 import sys
 
-from . import answers, judge, mof, numbers, places, script, tables
+from . import answers, judge, mof, numbers, places, script, tables, unnamed
 from .program import Missing, Program
 
 HELP = """\
@@ -12,7 +12,8 @@ Runs moi_edit and explains what it prints.
         each line of the script with its answer beside it, what a refusal means and what to do,
         and fractions also as decimals (~ before a rounded one)
     bin/moi_explain solve MODEL [--target T] [--pivots N]
-        the answer to a file's model; where the file can't be read, the place of its fault
+        the answer to a file's model, with what a row without a name says; where the file can't be
+        read, the place of its fault
     bin/moi_explain check MODEL ANSWER
         where an answer isn't right: the line that can't be read, or each condition that fails
     bin/moi_explain tables
@@ -81,16 +82,23 @@ def solve(program, words):
     output, status = program.answer(["solve", *words])
     if status == 2 or len(names) != 1:
         return usage(2)
-    lines = []
+    lines, rows = [], unnamed.rows(read_file(names[0]).decode("utf-8")) if output[:1] == ["ok"] else {}
     for line in output:
         if line.startswith("refused ") and not lines:
             lines += refused_load(output, names[0])
         else:
-            lines.append(numbers.with_decimals(line))
+            lines.append(with_row(line, rows))
             if line.startswith("refused "):
                 lines += [MARGIN + text for text in script.meaning(script.refusal(line))]
     write(lines + [f"Exit status {status}: {tables.by_number('statuses')[status]['meaning']}."])
     return status
+
+
+def with_row(line, rows):
+    """A line with decimals, and behind the dual of a row without a name what the row says."""
+    words, line = line.split(" ", 3), numbers.with_decimals(line)
+    says = rows.get(words[2]) if words[:2] == ["dual", "row"] else None
+    return f"{line}    {says}" if says else line
 
 
 def files_among(words):

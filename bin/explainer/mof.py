@@ -116,6 +116,13 @@ def variables_of(value):
     return [value["name"]] if value["type"] == "Variable" else list(value.get("variables", []))
 
 
+def row_names(constraints):
+    """The name of each constraint's row, or None where it is the set in which its variables are made."""
+    names, makes = given_names(constraints), creation_sets(constraints)
+    taken, count = set(names), len(constraints)
+    return [None if made else name or made_name(place, count, taken) for place, (name, made) in enumerate(zip(names, makes), 1)]
+
+
 def parsed(text):
     """The tree of a file's text. Other numerals than whole ones stay texts: one in a skipped key may be of any size."""
     return json.loads(text, parse_float=str)
@@ -125,14 +132,12 @@ def read(text):
     """The model of a file's text."""
     file = parsed(text)
     order = {variable["name"]: place for place, variable in enumerate(file["variables"])}
-    constraints = file.get("constraints", [])
-    names, groups, rows = given_names(constraints), [], []
-    for place, (constraint, makes) in enumerate(zip(constraints, creation_sets(constraints))):
+    constraints, groups, rows = file.get("constraints", []), [], []
+    for constraint, name in zip(constraints, row_names(constraints)):
         sets = set_of(constraint["set"])
-        if makes:
+        if name is None:
             groups.append(Row(None, variables_of(constraint["function"]), sets))
         else:
-            name = names[place] or made_name(place + 1, len(constraints), set(names))
             rows.append(Row(name, function(constraint["function"]), sets))
     grouped = {name for group in groups for name in group.functions}
     groups += [Row(None, [name], ("Reals", ())) for name in order if name not in grouped]

@@ -62,6 +62,7 @@ class Build(unittest.TestCase):
         return {**words, "PATH": f"{os.path.dirname(self.top)}/gate:{os.environ['PATH']}"}
 
     def call(self, *words, fails=False):
+        words = words or ["run"]
         how = {"input": "lines\n", "capture_output": True, "text": True, "env": self.environment(fails)}
         return subprocess.run([f"{self.top}/bin/moi_edit", *words], check=False, **how)
 
@@ -82,11 +83,17 @@ class Build(unittest.TestCase):
         with open(f"{self.top}/crates/moi_edit/out/build.log", encoding="utf-8") as log:
             self.assertNotIn("must-fail", log.read())
 
+    def test_words_of_no_command_show_the_usage_and_build_nothing(self):
+        for words in (["--help"], ["slove", "m.json"]):
+            said = self.call(*words)
+            self.assertEqual((said.stdout, said.stderr.partition(":")[0], said.returncode), ("", "usage", 2))
+        self.assertFalse(os.path.exists(self.went))
+
     def test_a_change_of_code_builds_it_again(self):
         self.call()
         self.wait()
         self.write("crates/low/src/lib.rt", "second")
-        self.assertEqual(self.call().stdout, "second\nlines\n")
+        self.assertEqual(self.call().stdout, "second run\nlines\n")
 
     def test_a_crate_that_is_not_proved_is_named(self):
         said = self.call(fails=True)
@@ -96,13 +103,13 @@ class Build(unittest.TestCase):
 
     def test_the_program_of_the_gate_is_taken(self):
         self.gate()
-        self.assertEqual(self.call().stdout, "first\nlines\n")
+        self.assertEqual(self.call().stdout, "first run\nlines\n")
         self.assertEqual(self.runs(), 1)
 
     def test_the_program_of_the_gate_is_not_taken_after_a_change(self):
         self.gate()
         self.write("crates/low/src/lib.rt", "second")
-        self.assertEqual(self.call().stdout, "second\nlines\n")
+        self.assertEqual(self.call().stdout, "second run\nlines\n")
         self.assertEqual(self.runs(), 2)
 
     def test_a_program_older_than_the_gate_is_not_taken(self):
@@ -115,6 +122,6 @@ class Build(unittest.TestCase):
     @unittest.skipUnless(shutil.which("script"), "there is no terminal to show")
     def test_a_terminal_is_told_how_long_it_takes(self):
         how = {"stdin": subprocess.DEVNULL, "capture_output": True, "text": True, "env": self.environment()}
-        shown = subprocess.run(["script", "-qec", f"{self.top}/bin/moi_edit", "/dev/null"], check=False, **how).stdout
+        shown = subprocess.run(["script", "-qec", f"{self.top}/bin/moi_edit run", "/dev/null"], check=False, **how).stdout
         self.assertIn("is built on this machine once, and each proof that it rests on is checked first", shown)
         self.assertIn("about 1 minute", shown)

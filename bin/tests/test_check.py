@@ -5,7 +5,7 @@ import os
 import unittest
 from fractions import Fraction
 
-from explainer import answers, judge, mof, numbers, places
+from explainer import answers, commands, judge, mof, numbers, places, unnamed
 
 DATA = os.path.join(os.path.dirname(os.path.abspath(__file__)), "..", "..", "crates", "moi_edit", "data")
 # A workshop's plan and its answer, worked out by hand in docs/SCRIPT.md.
@@ -108,6 +108,13 @@ class Files(unittest.TestCase):
 
     def test_unnamed_rows_go_by_their_place(self):
         self.assertEqual([mof.made_name(3, 4, {"#3"}), mof.made_name(2, 4, set())], ["#7", "#2"])
+
+    def test_a_row_without_a_name_is_shown(self):
+        rows = unnamed.rows(TABLES.replace('"name":"wood",', "")[:-2] + HOTEL.replace('"name":"hotel",', ""))
+        self.assertEqual(rows["#1"], "constraint 1 of the file: 4*tables 2*chairs <= 60")
+        self.assertEqual(rows["#4"], "constraint 4 of the file: tables >= 20")
+        self.assertEqual(commands.with_row("dual row #4 1/2", rows), f"dual row #4 1/2 (0.5)    {rows['#4']}")
+        self.assertEqual(commands.with_row("dual row hours 0", rows), "dual row hours 0")
 
     def test_a_place_is_named_with_its_constraint(self):
         text = TABLES.replace('"type":"LessThan","upper":48.0', '"type":"ZeroOne"')
