@@ -57,7 +57,7 @@ def copied(names, room):
 
 
 def started(room, **how):
-    """Starts the gate in `room`. What it proves is kept for each later gate on this machine, and what is kept it doesn't prove again."""
+    """Starts the gate in `room`. It proves all from nothing, unless the kit's gate keeps what it proved on this machine before."""
     return subprocess.Popen(["rt", "ci"], cwd=room, stdin=subprocess.DEVNULL, stderr=subprocess.STDOUT, **how)
 
 
