@@ -1,0 +1,1 @@
+"""Random scripts, and a session held to what a fresh one prints."""
