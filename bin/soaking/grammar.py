@@ -54,7 +54,7 @@ class Lines:
 
     def number(self):
         """Mostly a small whole number, sometimes a fraction, and rarely one that is near the limit."""
-        size = self.draw.choices((5, 40, 2**62, 2**127), (70, 25, 4, 1))[0]
+        size = self.draw.choices((5, 40, 2**62, 2**127), (66, 24, 6, 4))[0]
         over = self.draw.randrange(-size, size)
         return str(over) if self.chance(0.8) else f"{over}/{self.draw.randrange(1, min(size, 2**64) + 1)}"
 
@@ -214,5 +214,5 @@ def nothing(it, _):
 FORMS = (
     (add_variable, 8), (add_group, 6), (add_row, 10), (add_vector_row, 6), (add_bound, 4), (add_vector_bound, 4), (delete_variable, 4),
     (delete_row, 5), (rename, 4), (reset, 8), (change_set, 8), (change_row, 10), (change_vector_row, 8), (change_objective, 5),
-    (set_objective, 5), (change_table, 5), (optimize, 3), (look, 2), (nothing, 2),
+    (set_objective, 5), (change_table, 8), (optimize, 3), (look, 2), (nothing, 2),
 )
