@@ -42,7 +42,7 @@ class Lines:
             return "attach"
         if self.chance(0.003):
             self.queue = [*self.emptied(), f"load {kept}", "attach"]
-        return self.draw.choices(*zip(*[(form, weight) for form, weight in FORMS]))[0](self, kept)
+        return self.draw.choices([*FORMS], [*FORMS.values()])[0](self, kept)
 
     def emptied(self):
         """Lines that delete all that can be deleted, without a solver."""
@@ -211,8 +211,9 @@ def nothing(it, _):
     return it.draw.choice(("", "  ", "# a remark", *MISTAKES))
 
 
-FORMS = (
-    (add_variable, 8), (add_group, 6), (add_row, 10), (add_vector_row, 6), (add_bound, 4), (add_vector_bound, 4), (delete_variable, 4),
-    (delete_row, 5), (rename, 4), (reset, 8), (change_set, 8), (change_row, 10), (change_vector_row, 8), (change_objective, 5),
-    (set_objective, 5), (change_table, 8), (optimize, 3), (look, 2), (nothing, 2),
-)
+# How often each form comes, beside the others.
+FORMS = {
+    add_variable: 8, add_group: 6, add_row: 10, add_vector_row: 6, add_bound: 4, add_vector_bound: 4, delete_variable: 4,
+    delete_row: 5, rename: 4, reset: 8, change_set: 8, change_row: 10, change_vector_row: 8, change_objective: 5,
+    set_objective: 5, change_table: 8, optimize: 3, look: 2, nothing: 2,
+}
