@@ -12,7 +12,6 @@
 //                            `NonposVar`, in place of a bridge of each family
 //     left                   has printed what the session is left with: whether a solver is
 //                            attached, and the model as a file's text
-//     spaces N               the text that the lines below belong to has N spaces more
 //     rows N                 the script has N lines more, `row R >= 0 : 1*x` with R from r1 on
 //     last LINE              the script's lines and then this one are made by a session, and what
 //                            this one does to the solver's model is printed

@@ -48,7 +48,6 @@ fn told(rt: &HostRuntime, case: &mut Case, word: &str, rest: &str) -> Result<(),
         }
         "failing" => fail(case, rest),
         "rows" => put_rows(case, rest.parse()?),
-        "spaces" => put_spaces(case.text(), rest.parse()?),
         "last" => {
             case.last = Some(String::from_str(rt.alloc(), rest)?);
             Ok(())
@@ -76,12 +75,6 @@ fn put_rows(case: &mut Case, count: u32) -> Result<(), Stop> {
         let line = format!(in alloc; "row r{} >= 0 : 1*x\n", u64::from(n) + 1)?;
         case.script.extend_from_slice(line.as_bytes())?;
     }
-    Ok(())
-}
-
-fn put_spaces(text: &mut Vec<u8>, count: usize) -> Result<(), Stop> {
-    let spaces = vec![in *text.allocator(); b' '; count]?;
-    text.extend_from_slice(&spaces)?;
     Ok(())
 }
 
