@@ -1,0 +1,3 @@
+pub mod GoodCertificates
+pub mod LeastProducts
+pub mod Trails
