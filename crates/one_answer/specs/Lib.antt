@@ -8,3 +8,7 @@ pub mod RenumberedTextLaws
 pub mod RenumberedOutcomeLaws
 pub mod AlikeLaws
 pub mod OneAnswer
+pub mod CostLaws
+pub mod OneCallLaws
+pub mod OneStepLaws
+pub mod OneText

@@ -25,6 +25,13 @@ pub record AreTwins (one other : Machine) : Type 0 where
   pub state : AreAlike one.state other.state
   pub pivots : one.pivots ≡ other.pivots
 
+-- their answers to such a line are the same, unless memory runs out
+abbrev pub OneAnswer : Type 0
+OneAnswer =
+    (one other : Machine) → AreTwins one other → IsCostly (graph_of one.state.setting)
+    → (line : List ℕ) → Asks (line_said line) → (a b : Answer) (new after : Machine) → a ≢ Memory
+    → b ≢ Memory → Steps one line a new → Steps other line b after → a ≡ b
+
 module _ (one other : Machine) (twins : AreTwins one other)
     (costly : IsCostly (graph_of one.state.setting)) where
   said_alike : (said : Result Command LineFault) (a b : Answer) (new after : State) → Asks said
