@@ -1,7 +1,8 @@
 //! The edits of a file.
-ghost use Rattle.std.specs.Prelude.{◌≡◌, ◌++◌, IfOk, OnOk};
-ghost use Rattle.mof_file.specs.File.{seen};
+ghost use Rattle.std.specs.Prelude.{◌≡◌, ◌++◌, ◌^◌, ◌<◌, IfOk, Ok, OnOk, length};
+ghost use Rattle.mof_file.specs.File.{FileValue, file_in, seen};
 ghost use Rattle.mof_read.specs.Edits.{edits_in, edits_of, objective_edits};
+ghost use Rattle.mof_read.specs.NameLaws.{MadeNamesAreNew, RowsAreApart};
 ghost use Rattle.mof_values.specs.Walked.{Meets};
 
 use crate::groups::in_order;
@@ -15,10 +16,14 @@ use user_model::Edit;
 pub type Edits = Sequence<Edit>;
 
 /// The edits that make a file's model from an empty one: its groups, rows and objective; or the
-/// first fault of the file, in the order of the walk, with its place.
+/// first fault of the file, in the order of the walk, with its place. No two rows have one name,
+/// and a name that is made for an unnamed row is that of no constraint of the file.
 #[tactic(auto, unfolding(crate::specs::Edits::edits_in))]
 pub fn read(alloc: Global, text: &[u8]) -> Result<Edits, MofFault>
-    ensures { Meets (λ edits. edits) result (edits_in text.now) }
+    ensures edits { Meets (λ edits. edits) result (edits_in text.now) }
+    ensures apart { IfOk result (λ edits. RowsAreApart edits) }
+    ensures made { IfOk result (λ _. (file : FileValue) → file_in text.now ≡ Ok file
+        → MadeNamesAreNew file.constraints) }
 {
     let file = read_file(alloc, text)?;
     let edits = edits_of(alloc, file)?;
@@ -27,7 +32,8 @@ pub fn read(alloc: Global, text: &[u8]) -> Result<Edits, MofFault>
 
 #[tactic(auto, unfolding(crate::specs::Edits::edits_of))]
 fn edits_of(alloc: Global, file: MofFile) -> Result<Edits, Memory>
-    ensures { IfOk result (λ edits. edits ≡ edits_of (seen file)) }
+    ensures edits { IfOk result (λ edits. edits ≡ edits_of (seen file)) }
+    ensures few { OnOk result (length file.constraints.items < 2 ^ 64) }
 {
     let MofFile {
         variables,

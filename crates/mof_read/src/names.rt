@@ -1,5 +1,5 @@
 //! The names of rows.
-ghost use Rattle.std.specs.Prelude.{◌≡◌, [], IfOk, OnOk, length};
+ghost use Rattle.std.specs.Prelude.{◌≡◌, ◌^◌, ◌<◌, [], IfOk, OnOk, length};
 ghost use Rattle.mof_read.specs.Names.{all_names, and_name, first_free, numbered, own_name, row_name, with_own_names};
 
 use indexmap::IndexSet;
@@ -25,6 +25,7 @@ pub(crate) fn own_names(
     ensures constraints { IfOk result (λ named. named.constraints.items
         ≡ with_own_names [] constraints.items) }
     ensures taken { IfOk result (λ named. named.taken.keys ≡ all_names [] constraints.items) }
+    ensures few { OnOk result (length constraints.items < 2 ^ 64) }
 {
     let mut taken = IndexSet::new(alloc);
     let mut named = Vec::with_capacity(alloc, constraints.len())?;

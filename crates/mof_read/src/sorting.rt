@@ -1,5 +1,5 @@
 //! Constraints, sorted into creation sets and rows.
-ghost use Rattle.std.specs.Prelude.{◌≡◌, IfOk, OnOk};
+ghost use Rattle.std.specs.Prelude.{◌≡◌, ◌^◌, ◌<◌, IfOk, OnOk, length};
 ghost use Rattle.mof_read.specs.Edits.{sorted_in, sorted_of, sorted_so_far};
 
 use crate::groups::{becomes_group, plain_names, put_owners};
@@ -23,7 +23,8 @@ pub(crate) struct Sorting {
 /// The constraints of a file, sorted.
 #[tactic(auto, unfolding(crate::specs::Edits::sorted_of))]
 pub(crate) fn sorted(alloc: Global, constraints: Vec<FileConstraint>) -> Result<Sorting, Memory>
-    ensures { IfOk result (λ sorting. sorted_so_far sorting ≡ sorted_of constraints.items) }
+    ensures sorted { IfOk result (λ sorting. sorted_so_far sorting ≡ sorted_of constraints.items) }
+    ensures few { OnOk result (length constraints.items < 2 ^ 64) }
 {
     let NamedConstraints { constraints, taken } = own_names(alloc, constraints)?;
     sorted_in(alloc, &taken, constraints)
