@@ -12,7 +12,7 @@ use Rattle.simplex_core.specs.declared.fault.SolveFault.TheVariants.{Limit, Memo
 use Rattle.simplex_form.specs.Basis.{State, start}
 use Rattle.simplex_form.specs.Fit.{start_fits, turn_fits}
 use Rattle.simplex_form.specs.Form.{Form}
-use Rattle.simplex_form.specs.Outcome.{HasTrail, IsOutcome, ended, limited, outcome, overflowing}
+use Rattle.simplex_form.specs.Outcome.{HasTrail, IsOutcome, ended, limited, overflowing}
 use Rattle.simplex_form.specs.Readings.{readings}
 use Rattle.simplex_form.specs.Trail.{ends, reached, trail}
 use Rattle.simplex_form.specs.Turns.{turn}
