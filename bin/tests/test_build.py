@@ -1,4 +1,4 @@
-"""bin/moi_edit and bin/build_moi_edit over a gate that proves nothing, in a repository of two crates."""
+"""bin/moi_edit and bin/build_program over a gate that proves nothing, in a repository of two crates."""
 
 import os
 import shutil
@@ -34,7 +34,7 @@ class Build(unittest.TestCase):
         self.addCleanup(room.cleanup)
         self.top, self.went = f"{room.name}/top", f"{room.name}/went"
         os.makedirs(f"{self.top}/bin")
-        for name in ("moi_edit", "build_moi_edit", "gate.py"):
+        for name in ("moi_edit", "build_program", "gate.py"):
             shutil.copy(f"{BIN}/{name}", f"{self.top}/bin")
         self.write("crates.txt", "# all: two crates\nlow: thiserror\nmoi_edit: low\nother: low\n")
         self.write("HANDLES", "Handles allowed: none.\n")

@@ -1,0 +1,6 @@
+mod Cuts
+mod Digits
+mod Ends
+mod Replies
+mod Shapes
+mod Taken

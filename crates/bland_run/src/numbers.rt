@@ -1,0 +1,48 @@
+//! A line of numbers.
+ghost use Rattle.std.specs.Prelude.{◌≡◌, ◌==◌, ◌++◌, IfOk, OnOk};
+ghost use Rattle.std.specs.List.{slice_split};
+ghost use Rattle.ratio_core.specs.Text.{rational_of};
+ghost use Rattle.script_words.specs.Each.{each};
+ghost use Rattle.bland_run.specs.Reading.{numbers_in};
+
+use crate::pieces::Pieces;
+use lists::{Memory, Sequence};
+use ratio_core::{Ratio, Ratios};
+use std::alloc::Global;
+
+// The numbers of each line.
+pub(crate) fn read_rows(
+    alloc: Global,
+    lines: Pieces<'_>,
+) -> Result<Option<Sequence<Ratios>>, Memory>
+    ensures { IfOk result (λ rows. rows ≡ each numbers_in lines.entry) }
+{
+    let mut rows = Vec::new(alloc);
+    for line in lines {
+        let Some(row) = read_numbers(alloc, line)? else {
+            return Ok(None);
+        };
+        rows.push(row)?;
+    }
+    Ok(Some(Sequence::from_vec(rows)))
+}
+
+// The numbers of a line, with one space between one and the next.
+fn read_numbers(alloc: Global, line: &[u8]) -> Result<Option<Ratios>, Memory>
+    ensures { IfOk result (λ numbers. numbers ≡ numbers_in line.now) }
+{
+    each_number(alloc, Pieces::new(line, b' '))
+}
+
+fn each_number(alloc: Global, words: Pieces<'_>) -> Result<Option<Ratios>, Memory>
+    ensures { IfOk result (λ numbers. numbers ≡ each rational_of words.entry) }
+{
+    let mut numbers = Vec::new(alloc);
+    for word in words {
+        let Some(number) = Ratio::read(word) else {
+            return Ok(None);
+        };
+        numbers.push(number)?;
+    }
+    Ok(Some(Sequence::from_vec(numbers)))
+}
