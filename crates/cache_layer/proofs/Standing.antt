@@ -3,10 +3,8 @@ use Rattle.std.specs.Prelude.{◌≡◌, true, List, All}
 use Rattle.std.proofs.Common.{ap, sym, subst, ◌∙◌}
 use Rattle.std.proofs.lemmas.List.Elements.{All-map}
 use Rattle.std.specs.FinMap as finite
-use Rattle.std.specs.FinMap.{FinMap}
 use Rattle.address_map.specs.AddressMap.{AddressMap}
-use Rattle.aff_core.specs.Address.{Address, address_cmp}
-use Rattle.aff_core.specs.Function.{Function}
+use Rattle.aff_core.specs.Address.{Address}
 use Rattle.boxes.specs.Boxed.{kept_by, means_of}
 use Rattle.boxes.specs.Nodes.{nodes_by}
 use Rattle.bridge_face.specs.State.{Kept, State}
@@ -15,35 +13,44 @@ use Rattle.map_laws.specs.EachLaws.{all_from_map}
 use Rattle.fresh_bridging.specs.FreshBridging.{FreshBridging, is_made, leaves_of}
 use Rattle.fresh_bridging.specs.TheRules.{Setting}
 use Rattle.item_core.specs.declared.family.Family.{Family}
+use Rattle.leaf_change.specs.Named.{NamesEach}
+use Rattle.lazy_bridge.specs.Mentioned.{IsIndexOf, marks_of}
 use Rattle.lazy_bridge.specs.Owned.{HoldsNothing, IsBridgingOf, Owned, setting_in}
 use Rattle.lazy_bridge.specs.Pushed.{IsTried}
-use Rattle.leaf_model.specs.LeafModel.{LeafModel}
 use Rattle.leaf_model.specs.ReadThrough.{read_through}
 use Rattle.model_bridging.specs.Expressions.{expressions_by}
+use Rattle.model_bridging.specs.Planned.{kept_variables}
 use Rattle.solver_store.specs.SolverModel.{Stored, no_leaves}
 use Rattle.user_model.specs.Model.{ModelValue}
+use Rattle.user_model.specs.Valid.{IsValid}
 
 -- ---- the fresh bridging
 
 record Parts : Type 0 where
   setting : Setting
   kept : List (Family × Kept)
-  leaves : LeafModel
-  exprs : FinMap address_cmp Function
+  solver : Stored
+  map : AddressMap
+  objective_at : Address
 
 record AreOf (parts : Parts) (model : ModelValue) : Type 0 where
+  valid : IsValid model
   bridging : FreshBridging parts.setting model
   made : is_made bridging ≡ true
-  leaves : parts.leaves ≡ leaves_of bridging
+  leaves : read_through parts.map parts.solver.leaves parts.objective_at ≡ leaves_of bridging
+  named : NamesEach parts.map parts.solver.leaves
   kept : All (λ (k : Family × Kept). k.1 ≡ nodes_by bridging k.0) parts.kept
-  exprs : parts.exprs ≡ expressions_by bridging
+  exprs : parts.map.exprs ≡ expressions_by bridging
+  noted : IsIndexOf model parts.map.noted
+  marks : parts.map.kept ≡ marks_of (kept_variables bridging)
 
 abbrev parts_by : Means → Stored → AddressMap → Address → Parts
 parts_by means solver at_map at = record {
   setting = means.setting;
   kept = means.kept;
-  leaves = read_through at_map solver.leaves at;
-  exprs = at_map.exprs;
+  solver = solver;
+  map = at_map;
+  objective_at = at;
 }
 
 abbrev parts_in : Owned → Parts
@@ -52,25 +59,33 @@ parts_in lazy = parts_by (means_of lazy.boxes) lazy.solver lazy.map lazy.objecti
 parts_of : (lazy : Owned) (model : ModelValue) → IsBridgingOf lazy model
     → AreOf (parts_in lazy) model
 parts_of lazy model h = record {
+  valid = h.valid;
   bridging = h.bridging;
   made = h.made;
   leaves = h.leaves;
+  named = h.named;
   kept =
       All-map (λ (k : Family × Kept). k.1 ≡ nodes_by h.bridging k.0)
       (λ (s : State). (s.family, s.kept)) lazy.boxes.states h.kept;
   exprs = h.exprs;
+  noted = h.noted;
+  marks = h.marks;
 }
 
 from_parts : (lazy : Owned) (model : ModelValue) → AreOf (parts_in lazy) model
     → IsBridgingOf lazy model
 from_parts lazy model h = record {
+  valid = h.valid;
   bridging = h.bridging;
   made = h.made;
   leaves = h.leaves;
+  named = h.named;
   kept =
       all_from_map (λ (k : Family × Kept). k.1 ≡ nodes_by h.bridging k.0)
       (λ (s : State). (s.family, s.kept)) lazy.boxes.states h.kept;
   exprs = h.exprs;
+  noted = h.noted;
+  marks = h.marks;
 }
 
 same_parts : (old new : Owned) → IsTried old new → parts_in new ≡ parts_in old
@@ -97,6 +112,8 @@ still_nothing old new solver at_map kept h =
       vars = ap (λ (m : AddressMap). m.vars.indices) at_map ∙ h.vars;
       rows = ap (λ (m : AddressMap). m.rows.indices) at_map ∙ h.rows;
       exprs = ap (λ (m : AddressMap). m.exprs) at_map ∙ h.exprs;
+      noted = ap (λ (m : AddressMap). m.noted) at_map ∙ h.noted;
+      marks = ap (λ (m : AddressMap). m.kept) at_map ∙ h.marks;
       kept =
           all_from_map Empty part new.boxes.states
           (subst (All Empty) (sym kept) (All-map Empty part old.boxes.states h.kept));

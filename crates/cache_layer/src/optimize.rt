@@ -31,9 +31,8 @@ pub(crate) fn optimize<B: Bridge>(
         result }
     ensures good { IfOk result (Good model.now.model) }
 {
-    // what these ensure: native kinds alone are supported, and the model is valid
+    // what this ensures: native kinds alone are supported
     let _native = lazy.table();
-    let _valid = model.objective();
     let answer = leaf_answer(alloc, lazy.solver(), lazy.map(), pivots)?;
     certificate(alloc, lazy, model, &answer)
 }
@@ -51,9 +50,8 @@ fn certificate<B: Bridge>(
         → TellsCertificate stands.bridging (answer_of lazy.now.map answer.now) result }
     ensures good { IfOk result (Good model.now.model) }
 {
-    // what these ensure: the choices are sound, and the model is valid
+    // what this ensures: the choices are sound
     let _sound = lazy.table();
-    let _valid = model.objective();
     match carry_back(alloc, lazy.bridges(), lazy.map(), model, answer) {
         Ok(certificate) => Ok(certificate),
         Err(fault) => Err(in_names(model, fault)),

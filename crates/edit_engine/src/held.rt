@@ -21,8 +21,7 @@ pub(crate) fn held<B: Bridge>(
     ensures { IfOk result (λ text.
         text ≡ bridged_text model.now.model (leaf_model_in lazy.now)) }
 {
-    // what these ensure: native kinds alone are supported, and the model is valid
+    // what this ensures: native kinds alone are supported
     let _native = lazy.table();
-    let _valid = model.objective();
     bridged(alloc, lazy.solver(), lazy.map(), model)
 }

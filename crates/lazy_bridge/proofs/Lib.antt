@@ -5,3 +5,5 @@ mod Standing
 mod Expressions
 mod Putting
 mod Pushing
+mod Noting
+mod Marking

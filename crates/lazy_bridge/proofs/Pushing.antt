@@ -44,12 +44,12 @@ can_be_put old tried model planned sound native valid plan same =
 
 -- and is the model's bridging once it stands there
 pub bridged : (old now new : Owned) (model : ModelValue) (planned : ModelPlan) (n : ℕ)
-    → IsPlanOf (setting_in old) model planned → HasLeavesOf old now → Holds now planned new
+    → IsPlanOf (setting_in old) model planned → HasLeavesOf old now → Holds now model planned new
     → setting_in new ≡ setting_in now → Counts (leaf_model_in now) (leaf_model_in new) n
-    → IsBridgedBy old old.boxes.table model (Ok n) new
-bridged old now new model planned n plan alike holds same counts =
+    → IsValid model → IsBridgedBy old old.boxes.table model (Ok n) new
+bridged old now new model planned n plan alike holds same counts valid =
     let setting : setting_in new ≡ setting_in old = same ∙ alike.setting in (
-      stands now new (setting_in old) model planned plan holds setting,
+      stands now new (setting_in old) model planned plan holds setting valid,
       setting,
       subst (λ l. Counts l (leaf_model_in new) n) (read_alike old now alike) counts,
     )
@@ -135,6 +135,8 @@ module _ (old first second last : Owned) (table : Table) (model : ModelValue)
     vars = ap (λ (m : AddressMap). m.vars.indices) back.map ∙ h.vars;
     rows = ap (λ (m : AddressMap). m.rows.indices) back.map ∙ h.rows;
     exprs = ap (λ (m : AddressMap). m.exprs) back.map ∙ h.exprs;
+    noted = ap (λ (m : AddressMap). m.noted) back.map ∙ h.noted;
+    marks = ap (λ (m : AddressMap). m.kept) back.map ∙ h.marks;
     kept = subst (All (λ (box : State). box.kept ≡ finite.empty)) (sym back.states) h.kept;
   }
 

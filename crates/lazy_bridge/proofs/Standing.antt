@@ -11,11 +11,13 @@ use Rattle.map_laws.specs.EachLaws.{all_from_map}
 use Rattle.fresh_bridging.specs.Leaves.{leaf_model_of}
 use Rattle.fresh_bridging.specs.TheRules.{Setting}
 use Rattle.item_core.specs.declared.family.Family.{Family}
+use Rattle.lazy_bridge.specs.Mentioned.{marks_of}
 use Rattle.lazy_bridge.specs.Owned.{IsBridgingOf, Owned, setting_in}
 use Rattle.lazy_bridge.specs.Plans.{Holds}
 use Rattle.model_bridging.specs.Planned.{IsPlanOf}
 use Rattle.model_bridging.specs.declared.model_plan.ModelPlan.{ModelPlan}
 use Rattle.user_model.specs.Model.{ModelValue}
+use Rattle.user_model.specs.Valid.{IsValid}
 
 -- what each state keeps, by its family
 all_kept : (nodes : List KeptItem) (old : List State)
@@ -34,9 +36,9 @@ each_keeps nodes old new e =
     (subst (All (λ (p : Family × Kept). p.1 ≡ kept_among nodes p.0)) (sym e) (all_kept nodes old))
 
 pub stands : (old new : Owned) (setting : Setting) (model : ModelValue) (planned : ModelPlan)
-    → IsPlanOf setting model planned → Holds old planned new → setting_in new ≡ setting
-    → IsBridgingOf new model
-stands old new setting model planned plan holds same =
+    → IsPlanOf setting model planned → Holds old model planned new → setting_in new ≡ setting
+    → IsValid model → IsBridgingOf new model
+stands old new setting model planned plan holds same valid =
     subst_setting setting (sym same) plan
   where
     subst_setting : (s : Setting) → s ≡ setting_in new → IsPlanOf s model planned
@@ -45,12 +47,16 @@ stands old new setting model planned plan holds same =
       where
         there : IsPlanOf (setting_in new) model planned → IsBridgingOf new model
         there q = record {
+          valid = valid;
           bridging = q.bridging;
           made = q.made;
           leaves = holds.leaves ∙ ap leaf_model_of q.leaves;
+          named = holds.named;
           kept =
               subst (λ ns. All (λ (s : State). s.kept ≡ kept_among ns s.family) new.boxes.states)
               q.nodes
               (each_keeps planned.plan.nodes.items old.boxes.states new.boxes.states holds.kept);
           exprs = holds.exprs ∙ ap (finite.from_entries {R = address_cmp}) q.exprs;
+          noted = holds.noted;
+          marks = holds.marks ∙ ap marks_of q.kept;
         }

@@ -5,11 +5,13 @@
 -- It names no family: an edge may be used exactly where its family is on in the table and among the
 -- boxes.
 --
---     HoldsNothing lazy          no leaf, no node, no expression
+--     HoldsNothing lazy          no leaf, no node, no expression, nothing noted, nothing marked
 --     IsBridgingOf lazy model    the fresh bridging of the model stands in it: the solver's model,
---                                read through the map, is its leaves; each box keeps the part of
---                                its nodes that is of the box's family; and the map has the
---                                expression of each of the user's variables
+--                                each leaf of which the map names, read through the map is its
+--                                leaves; each box keeps the part of its nodes that is of the box's
+--                                family; the map has the expression of each of the user's
+--                                variables, and has noted which rows, and whether the objective,
+--                                name which variables, and which of these are kept
 use Rattle.std.specs.Prelude.{◌≡◌, true, All, refl}
 use Rattle.std.specs.Coded.{Coded, code_by, coded×}
 use Rattle.std.specs.FinMap as finite
@@ -20,11 +22,15 @@ use Rattle.boxes.specs.Nodes.{nodes_by}
 use Rattle.bridge_face.specs.State.{State}
 use Rattle.fresh_bridging.specs.FreshBridging.{FreshBridging, is_made, leaves_of}
 use Rattle.fresh_bridging.specs.TheRules.{Setting}
+use Rattle.leaf_change.specs.Named.{NamesEach}
+use Rattle.lazy_bridge.specs.Mentioned.{IsIndexOf, marks_of}
 use Rattle.leaf_model.specs.LeafModel.{LeafModel}
 use Rattle.leaf_model.specs.ReadThrough.{read_through}
 use Rattle.model_bridging.specs.Expressions.{expressions_by}
+use Rattle.model_bridging.specs.Planned.{kept_variables}
 use Rattle.solver_store.specs.SolverModel.{Stored, no_leaves, stored_code}
 use Rattle.user_model.specs.Model.{ModelValue}
+use Rattle.user_model.specs.Valid.{IsValid}
 
 pub record Owned : Type 0 where
   pub boxes : Boxed
@@ -63,12 +69,18 @@ pub record HoldsNothing (lazy : Owned) : Type 0 where
   pub vars : lazy.map.vars.indices ≡ finite.empty
   pub rows : lazy.map.rows.indices ≡ finite.empty
   pub exprs : lazy.map.exprs ≡ finite.empty
+  pub noted : lazy.map.noted ≡ finite.empty
+  pub marks : lazy.map.kept ≡ finite.empty
   pub kept : All (λ (box : State). box.kept ≡ finite.empty) lazy.boxes.states
 
--- the fresh bridging of the model, in which each number fits
+-- the fresh bridging of the model, which is valid, and in which each number fits
 pub record IsBridgingOf (lazy : Owned) (model : ModelValue) : Type 0 where
+  pub valid : IsValid model
   pub bridging : FreshBridging (setting_in lazy) model
   pub made : is_made bridging ≡ true
   pub leaves : leaf_model_in lazy ≡ leaves_of bridging
+  pub named : NamesEach lazy.map lazy.solver.leaves
   pub kept : All (λ (box : State). box.kept ≡ nodes_by bridging box.family) lazy.boxes.states
   pub exprs : lazy.map.exprs ≡ expressions_by bridging
+  pub noted : IsIndexOf model lazy.map.noted
+  pub marks : lazy.map.kept ≡ marks_of (kept_variables bridging)

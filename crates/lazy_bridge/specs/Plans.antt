@@ -8,9 +8,12 @@ use Rattle.aff_core.specs.Rising.{HasDistinctKeys}
 use Rattle.boxes.specs.Boxed.{AreKeepable, kept_by, keeping}
 use Rattle.fresh_bridging.specs.Leaves.{leaf_model_of}
 use Rattle.item_core.specs.declared.family.Family.{Family}
+use Rattle.lazy_bridge.specs.Mentioned.{IsIndexOf, marks_of}
 use Rattle.lazy_bridge.specs.Owned.{Owned, leaf_model_in}
 use Rattle.leaf_change.specs.Leaves.{AreLeaves}
+use Rattle.leaf_change.specs.Named.{NamesEach}
 use Rattle.model_bridging.specs.declared.model_plan.ModelPlan.{ModelPlan}
+use Rattle.user_model.specs.Model.{ModelValue}
 
 -- a plan that can be put in where there are boxes of these families
 pub record IsPuttable (families : List Family) (planned : ModelPlan) : Type 0 where
@@ -22,9 +25,13 @@ pub record IsPuttable (families : List Family) (planned : ModelPlan) : Type 0 wh
 abbrev pub with_exprs : AddressMap → List (Address × Function) → AddressMap
 with_exprs m exprs = record m { exprs = finite.from_entries exprs }
 
--- the plan stands in it
-pub record Holds (old : Owned) (planned : ModelPlan) (new : Owned) : Type 0 where
+-- the plan of the model stands in it
+pub record Holds (old : Owned) (model : ModelValue) (planned : ModelPlan) (new : Owned)
+    : Type 0 where
   pub leaves : leaf_model_in new ≡ leaf_model_of planned.plan.leaves.items
+  pub named : NamesEach new.map new.solver.leaves
   pub kept :
       kept_by new.boxes.states ≡ map (keeping planned.plan.nodes.items) old.boxes.states
   pub exprs : new.map.exprs ≡ finite.from_entries planned.exprs.items
+  pub noted : IsIndexOf model new.map.noted
+  pub marks : new.map.kept ≡ marks_of planned.kept.items

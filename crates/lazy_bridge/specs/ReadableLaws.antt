@@ -7,19 +7,17 @@ use Rattle.equality_form.specs.Native.{IsNativeModel}
 use Rattle.lazy_bridge.specs.Native.{supports_native}
 use Rattle.lazy_bridge.specs.NativeLaws.{supported}
 use Rattle.lazy_bridge.specs.Owned.{IsBridgingOf, Owned, setting_in}
-use Rattle.leaf_change.specs.Named.{NamesEach}
 use Rattle.leaf_change.specs.ReadableLaws.{readable}
 use Rattle.leaf_model.specs.LeafModel.{LeafModel}
 use Rattle.std_form.specs.Readable.{IsReadable}
 use Rattle.tree_laws.specs.NativeModel.{native_model}
 use Rattle.user_model.specs.Model.{ModelValue}
-use Rattle.user_model.specs.Valid.{IsValid}
 
 pub readable_here : (lazy : Owned) (model : ModelValue) → AreSound (means_of lazy.boxes)
-    → IsTrue (supports_native lazy.boxes.table) → NamesEach lazy.map lazy.solver.leaves
-    → IsValid model → IsBridgingOf lazy model → IsReadable lazy.map lazy.solver.leaves
-readable_here lazy model sound native names valid stands =
-    readable lazy.map lazy.solver.leaves names lazy.objective_at
+    → IsTrue (supports_native lazy.boxes.table) → IsBridgingOf lazy model
+    → IsReadable lazy.map lazy.solver.leaves
+readable_here lazy model sound native stands =
+    readable lazy.map lazy.solver.leaves stands.named lazy.objective_at
     (subst (λ (leaves : LeafModel). IsNativeModel leaves) (sym stands.leaves)
     (native_model (setting_in lazy) sound.costly sound.lawful (supported (setting_in lazy) native)
-    model valid stands.bridging))
+    model stands.valid stands.bridging))

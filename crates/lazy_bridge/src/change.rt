@@ -8,9 +8,12 @@ ghost use Rattle.boxes.specs.Boxed.{families_of, kept_by, keeping};
 ghost use Rattle.fresh_bridging.specs.Leaves.{leaf_model_of};
 ghost use Rattle.leaf_change.specs.Named.{NamesEach};
 ghost use Rattle.leaf_change.specs.Splice.{IsChangedTo};
+ghost use Rattle.lazy_bridge.specs.Mentioned.{IsIndexOf, marks_of};
 ghost use Rattle.lazy_bridge.specs.Plans.{IsPuttable, with_exprs};
 ghost use Rattle.solver_store.specs.SolverModel.{no_leaves};
 
+use crate::marks::mark_variables;
+use crate::mentions::note_model;
 use address_map::AddressMap;
 use aff_core::{Address, Aff};
 use boxes::Boxes;
@@ -18,18 +21,21 @@ use bridge_face::Bridge;
 use leaf_change::replace_leaves;
 use lists::Memory;
 use model_bridging::ModelPlan;
+use model_store::UserModel;
 use solver_store::SolverModel;
 use std::alloc::Global;
 
-// Puts a plan in, where no node and no expression is held: the leaves that there are are changed in
-// place. The answer is the number of addresses at which the leaves differ.
-pub(crate) fn put_plan<B: Bridge>(
+// Puts a model's plan in, where no node and no expression is held: the leaves that there are are
+// changed in place, and mentions and kept variables are noted anew. The answer is the number of
+// addresses at which the leaves differ.
+pub(crate) fn put_model<B: Bridge>(
     alloc: Global,
     boxes: &mut Boxes<B>,
     solver: &mut SolverModel,
     map: &mut AddressMap,
     objective_at: &mut Address,
     planned: ModelPlan,
+    model: &UserModel,
 ) -> Result<u128, Memory>
     requires planned { IsPuttable (families_of boxes.old.states) planned }
     requires empty { All (λ s. s.kept ≡ finite.empty) boxes.old.states }
@@ -40,13 +46,18 @@ pub(crate) fn put_plan<B: Bridge>(
         solver.new map.new objective_at.new) }
     ensures kept { OnOk result (kept_by boxes.new.states
         ≡ prelude.map (keeping planned.plan.nodes.items) boxes.old.states) }
+    ensures noted { OnOk result (IsIndexOf model.now.model map.new.noted) }
+    ensures marks { OnOk result (map.new.kept ≡ marks_of planned.kept.items) }
     ensures families { families_of boxes.new.states ≡ families_of boxes.old.states }
     ensures table { boxes.new.table ≡ boxes.old.table }
 {
-    let ModelPlan { plan, exprs } = planned;
+    let ModelPlan { plan, exprs, kept } = planned;
     boxes.keep_all(plan.nodes)?;
     put_expressions(map, exprs)?;
-    replace_leaves(alloc, solver, map, objective_at, &plan.leaves)
+    let changed = replace_leaves(alloc, solver, map, objective_at, &plan.leaves)?;
+    mark_variables(map, &kept)?;
+    note_model(map, model)?;
+    Ok(changed)
 }
 
 // Puts expressions in, each of a variable of its own.
@@ -79,6 +90,8 @@ pub(crate) fn let_all_go<B: Bridge>(
     ensures vars { map.new.vars.indices ≡ finite.empty }
     ensures rows { map.new.rows.indices ≡ finite.empty }
     ensures exprs { map.new.exprs ≡ finite.empty }
+    ensures noted { map.new.noted ≡ finite.empty }
+    ensures marks { map.new.kept ≡ finite.empty }
     ensures named { NamesEach map.new solver.new.leaves }
 {
     boxes.clear();

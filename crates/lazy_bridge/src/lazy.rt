@@ -1,5 +1,5 @@
 //! The lazy bridging of a user's model.
-ghost use Rattle.std.specs.Prelude.{◌≡◌, ◌≢◌, ◌↔◌, All, Err, IfOk, IfSome, IsNone, IsTrue, OnErr};
+ghost use Rattle.std.specs.Prelude.{◌≡◌, ◌≢◌, ◌↔◌, All, Err, IfOk, IfSome, IsNone, IsTrue, OnErr, OnOk};
 ghost use Rattle.std.specs.Prelude as prelude;
 ghost use Rattle.std.specs.FinMap as finite;
 ghost use Rattle.std.specs.List.{list_all};
@@ -18,8 +18,9 @@ ghost use Rattle.lazy_bridge.specs.Plans.{Holds, IsPuttable};
 ghost use Rattle.lazy_bridge.specs.Pushed.{Counts, IsBridgedBy, IsPlannedBy};
 ghost use Rattle.small_numbers.specs.SmallNumbers.{HasSmallNumbers};
 ghost use Rattle.solver_store.specs.SolverModel.{no_leaves};
+ghost use Rattle.user_model.specs.Valid.{IsValid};
 
-use crate::change::{capped, let_all_go, put_plan};
+use crate::change::{capped, let_all_go, put_model};
 use address_map::AddressMap;
 use aff_core::{Address, Root};
 use boxes::Boxes;
@@ -87,6 +88,8 @@ impl<B: Bridge> LazyOver<B> {
         requires vars { map.vars.indices ≡ finite.empty }
         requires rows { map.rows.indices ≡ finite.empty }
         requires exprs { map.exprs ≡ finite.empty }
+        requires noted { map.noted ≡ finite.empty }
+        requires marks { map.kept ≡ finite.empty }
         ensures nothing { HoldsNothing result }
         ensures table { result.boxes.table ≡ table }
         ensures states { result.boxes.states ≡ prelude.map B.state bridges.items }
@@ -112,7 +115,7 @@ impl<B: Bridge> LazyOver<B> {
         ensures few { IfOk result (λ changed. ChangesFew self.old changed self.new) }
     {
         let planned = self.plan(model)?;
-        Ok(self.put(planned)?)
+        Ok(self.put(planned, model)?)
     }
 
     /// Bridges a model anew in place of the one before. The answer is the number of addresses at
@@ -172,13 +175,14 @@ impl<B: Bridge> LazyOver<B> {
     {
         let planned = self.plan(model)?;
         self.let_nodes_go();
-        Ok(self.put(planned)?)
+        Ok(self.put(planned, model)?)
     }
 
     // Plans a model's bridging by the table, or lets all go where memory runs out.
     fn plan(&mut self, model: &UserModel) -> Result<ModelPlan, PushFault>
         ensures planned { IsPlannedBy self.old model.now.model result self.new }
         ensures puttable { IfOk result (IsPuttable (families_of self.new.boxes.states)) }
+        ensures valid { IsValid model.now.model }
         ensures small { HasSmallNumbers model.now.model
             → (at : Address) → result ≢ Err (PushFault.Overflow at) }
     {
@@ -197,24 +201,25 @@ impl<B: Bridge> LazyOver<B> {
         }
     }
 
-    // Puts a plan in, where no node and no expression is held, or lets all go.
-    fn put(&mut self, planned: ModelPlan) -> Result<u64, Memory>
+    // Puts a model's plan in, where no node and no expression is held, or lets all go.
+    fn put(&mut self, planned: ModelPlan, model: &UserModel) -> Result<u64, Memory>
         requires planned { IsPuttable (families_of self.old.boxes.states) planned }
         requires kept { All (λ s. s.kept ≡ finite.empty) self.old.boxes.states }
         requires exprs { self.old.map.exprs ≡ finite.empty }
-        ensures holds { IfOk result (λ changed. Holds self.old planned self.new
+        ensures holds { IfOk result (λ changed. Holds self.old model.now.model planned self.new
             × Counts (leaf_model_in self.old) (leaf_model_in self.new) changed) }
         ensures few { IfOk result (λ changed. ChangesFew self.old changed self.new) }
         ensures err { OnErr result (HoldsNothing self.new) }
         ensures setting { setting_in self.new ≡ setting_in self.old }
     {
-        match put_plan(
+        match put_model(
             self.alloc,
             &mut self.boxes,
             &mut self.solver,
             &mut self.map,
             &mut self.objective_at,
             planned,
+            model,
         ) {
             Ok(changed) => {
                 // what this ensures of the count

@@ -5,6 +5,8 @@
 mod bridges;
 mod change;
 mod lazy;
+mod marks;
+mod mentions;
 
 pub use bridges::add_bridge;
 pub use lazy::{Lazy, LazyOver};

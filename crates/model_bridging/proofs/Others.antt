@@ -1,5 +1,5 @@
 -- The rows and the objective, planned in turn, and the whole model.
-use Rattle.std.specs.Prelude.{◌≡◌, ℕ, Bool, true, false, ◌&&◌, not, cond, IsTrue, List, [], ◌∷◌, ◌++◌, All, Option, Some, None, Result, Ok, Err, IsErrAnd, flat_map, map, refl}
+use Rattle.std.specs.Prelude.{◌≡◌, ℕ, Bool, true, false, ◌&&◌, not, cond, IsTrue, List, [], ◌∷◌, ◌++◌, All, Option, Some, None, Result, Ok, Err, IsErrAnd, filter, flat_map, map, refl}
 use Rattle.std.proofs.Common.{ap, ap₂, sym, subst, ◌∙◌}
 use Rattle.std.specs.Option.{option_map, option_or}
 use Rattle.std.proofs.lemmas.List.{append-nil, map-append}
@@ -23,7 +23,7 @@ use Rattle.user_model.specs.declared.group.GroupVar.{GroupVar}
 use Rattle.user_model.specs.declared.objective.Objective.{Objective}
 use Rattle.user_model.specs.declared.objective.Objective.TheVariants as objective
 use Rattle.map_laws.specs.EachLaws.{all_second}
-use Rattle.fresh_bridging.specs.Entries.{Entry, expression_in, put_in, put_in_fits}
+use Rattle.fresh_bridging.specs.Entries.{Entry, expression_in, is_kept, put_in, put_in_fits}
 use Rattle.fresh_bridging.specs.ModelImage.{group_item, objective_item, objective_items}
 use Rattle.fresh_bridging.specs.TableLaws.{and_first}
 use Rattle.fresh_bridging.specs.TheRules.{rules_by}
@@ -35,7 +35,7 @@ use Rattle.bridge_plan.specs.Worked.{IsWithin, worked, worked_in}
 use Rattle.bridge_plan.specs.declared.plan.Plan.{Plan}
 use Rattle.model_bridging.specs.ModelHeld.{child_fits, item_fits, unfit, unfit_put}
 use Rattle.model_bridging.specs.Outcome.{IsFirstAt, Outcome, refused_at}
-use Rattle.model_bridging.specs.Whole.{IsReady, IsWhole, groups_held, others_held, unfit_item, with_function}
+use Rattle.model_bridging.specs.Whole.{IsReady, IsWhole, groups_held, kept_among, others_held, unfit_item, with_function}
 use Rattle.model_bridging.specs.declared.fault.PushFault.{PushFault}
 use Rattle.model_bridging.specs.declared.fault.PushFault.TheVariants.{Memory, Overflow, Unsupported}
 use Rattle.model_bridging.specs.declared.model_plan.ModelPlan.{ModelPlan}
@@ -294,6 +294,9 @@ module _ (first : Means) (groups : List Group) (others : List Item) (start one :
   abbrev with_function_by : (Address → Expression) → GroupVar → Address × Function
   with_function_by e v = (variable_address v.number, expressed (e (variable_address v.number)))
 
+  abbrev kept_where : (Address → Expression) → List GroupVar → List Address
+  kept_where e vars = filter (λ v. is_kept (e v)) (map (λ v. variable_address v.number) vars)
+
   pub others_ready : IsReady first.choice (map group_item groups) others
       → All (λ item. IsWithin means.choice 35 (put_in standing item)) others
   others_ready ready =
@@ -326,9 +329,10 @@ module _ (first : Means) (groups : List Group) (others : List Item) (start one :
       → (unfit_put means.choice 35 standing others ≡ None)
       × Adds one planned.plan [] [] (others_held means.choice standing others)
       → planned.exprs.items ≡ map (with_function standing) (flat_map (λ g. g.vars) groups)
+      → planned.kept.items ≡ kept_among standing (flat_map (λ g. g.vars) groups)
       → (unfit_item first.choice (map group_item groups) others ≡ None)
       × IsWhole first.choice groups others planned
-  whole_done planned no_leaves no_nodes last exprs =
+  whole_done planned no_leaves no_nodes last exprs kept =
       let adds : Adds one planned.plan [] [] (others_held first.choice held_here.entries others) =
       subst (Adds one planned.plan [] []) others_same last.1 in
       let further = others_held first.choice held_here.entries others in (
@@ -342,6 +346,8 @@ module _ (first : Means) (groups : List Group) (others : List Item) (start one :
               (said.1.nodes ∙ ap (λ l. l ++ map kept_of held_here.nodes) no_nodes)
               ∙ sym (map-append kept_of held_here.nodes further.nodes));
           exprs = exprs ∙ ap (λ (e : Address → Expression). map (with_function_by e)
+              (flat_map (λ (g : Group). g.vars) groups)) alike;
+          kept = kept ∙ ap (λ (e : Address → Expression). kept_where e
               (flat_map (λ (g : Group). g.vars) groups)) alike;
         },
       )

@@ -29,7 +29,7 @@ use Rattle.model_bridging.specs.ModelHeld.{child_fits, item_fits, unfit, unfit_e
 use Rattle.model_bridging.specs.Outcome.{Outcome}
 use Rattle.model_bridging.specs.Planned.{IsPlanOf, Planned, variables_of_the_model}
 use Rattle.model_bridging.specs.Treeless.{groups_found, others_have_trees, trees_there}
-use Rattle.model_bridging.specs.Whole.{IsReady, IsWhole, groups_held, others_held, unfit_item, with_function}
+use Rattle.model_bridging.specs.Whole.{IsReady, IsWhole, groups_held, kept_among, others_held, unfit_item, with_function}
 use Rattle.model_bridging.specs.declared.fault.PushFault.{PushFault}
 use Rattle.model_bridging.specs.declared.fault.PushFault.TheVariants.{Memory, Overflow, Unsupported}
 use Rattle.model_bridging.specs.declared.model_plan.ModelPlan.{ModelPlan}
@@ -151,6 +151,9 @@ module _ (setting : Setting) (choice : ℕ → Choice) (chosen : AreChoices sett
         exprs = whole.exprs ∙ expressions_are held.entries (variables model)
             ∙ sym (ap (λ (h : Held Item Entry). map (at_address h.entries)
             (variables_of_the_model model)) found.by_groups);
+        kept = whole.kept
+            ∙ sym (ap (λ (h : Held Item Entry). kept_among h.entries (variables model))
+            found.by_groups);
       }
 
   pub answered : (r : Result ModelPlan PushFault)

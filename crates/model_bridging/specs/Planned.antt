@@ -1,9 +1,10 @@
 -- How a user's model is planned: as its fresh bridging holds it, or not at all.
-use Rattle.std.specs.Prelude.{◌≡◌, true, List, Some, Result, Ok, Err, map}
+use Rattle.std.specs.Prelude.{◌≡◌, true, List, Some, Result, Ok, Err, filter, map}
 use Rattle.aff_core.specs.Address.{Address}
 use Rattle.bridge_face.specs.Law.{expressed}
 use Rattle.bridge_plan.specs.Adds.{kept_of}
 use Rattle.expansion.specs.Read.{model_leaves, model_nodes}
+use Rattle.fresh_bridging.specs.Entries.{is_kept}
 use Rattle.fresh_bridging.specs.FreshBridging.{FreshBridging, IsUnsupported, expression_of, is_made, unfit_at}
 use Rattle.fresh_bridging.specs.TheRules.{Setting}
 use Rattle.user_model.specs.Model.{ModelValue, variable_address, variables}
@@ -15,8 +16,14 @@ use Rattle.model_bridging.specs.declared.model_plan.ModelPlan.{ModelPlan}
 abbrev pub variables_of_the_model : ModelValue → List Address
 variables_of_the_model model = map (λ v. variable_address v.number) (variables model)
 
+-- those of them for which a variable stands as it is
+abbrev pub kept_variables : {setting : Setting} {model : ModelValue} → FreshBridging setting model
+    → List Address
+kept_variables {model = model} bridging =
+    filter (λ v. is_kept (expression_of bridging v)) (variables_of_the_model model)
+
 -- the plan has the leaves and the nodes of the fresh bridging, whose numbers all fit, in its order,
--- and each of the user's variables with its expression as a function
+-- each of the user's variables with its expression as a function, and those that are kept
 pub record IsPlanOf (setting : Setting) (model : ModelValue) (planned : ModelPlan) : Type 0 where
   pub bridging : FreshBridging setting model
   pub made : is_made bridging ≡ true
@@ -25,6 +32,7 @@ pub record IsPlanOf (setting : Setting) (model : ModelValue) (planned : ModelPla
   pub exprs :
       planned.exprs.items
       ≡ map (λ v. (v, expressed (expression_of bridging v))) (variables_of_the_model model)
+  pub kept : planned.kept.items ≡ kept_variables bridging
 
 -- the fresh bridging exists and its numbers fit; or the first of the user's items without a tree is
 -- of the kind; or it exists, and a number doesn't fit first at or below the item of the address; or

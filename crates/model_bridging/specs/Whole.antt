@@ -1,6 +1,6 @@
 -- A user's model, planned whole: what its groups hold, and its further items with the groups'
 -- expressions put in.
-use Rattle.std.specs.Prelude.{◌≡◌, ℕ, List, ◌++◌, All, Option, flat_map, map}
+use Rattle.std.specs.Prelude.{◌≡◌, ℕ, List, ◌++◌, All, Option, filter, flat_map, map}
 use Rattle.std.specs.Option.{option_or}
 use Rattle.bridge_graph.specs.declared.Choice.{Choice}
 use Rattle.aff_core.specs.Address.{Address}
@@ -10,7 +10,7 @@ use Rattle.item_core.specs.declared.item.Item.{Item}
 use Rattle.user_model.specs.Model.{variable_address}
 use Rattle.user_model.specs.declared.group.Group.{Group}
 use Rattle.user_model.specs.declared.group.GroupVar.{GroupVar}
-use Rattle.fresh_bridging.specs.Entries.{Entry, function_in, put_in}
+use Rattle.fresh_bridging.specs.Entries.{Entry, expression_in, function_in, is_kept, put_in}
 use Rattle.fresh_bridging.specs.ModelImage.{group_item}
 use Rattle.bridge_plan.specs.Adds.{kept_of}
 use Rattle.bridge_plan.specs.Worked.{IsWithin, worked, worked_each, worked_in}
@@ -21,6 +21,11 @@ use Rattle.model_bridging.specs.ModelHeld.{unfit, unfit_put}
 abbrev pub with_function : List Entry → GroupVar → Address × Function
 with_function entries v =
     (variable_address v.number, function_in entries (variable_address v.number))
+
+-- the addresses of those of the variables for which a variable stands as it is
+abbrev pub kept_among : List Entry → List GroupVar → List Address
+kept_among entries vars =
+    filter (λ v. is_kept (expression_in entries v)) (map (λ v. variable_address v.number) vars)
 
 module _ (choice : ℕ → Choice) where
   abbrev pub groups_held : List Item → Held Item Entry
@@ -39,7 +44,8 @@ module _ (choice : ℕ → Choice) where
   unfit_item items further =
       option_or (unfit choice 35 items) (unfit_put choice 35 (groups_held items).entries further)
 
-  -- the plan has what they hold, and each variable with its expression as a function
+  -- the plan has what they hold, each variable with its expression as a function, and those that are
+  -- kept
   pub record IsWhole (groups : List Group) (further : List Item)
       (planned : ModelPlan) : Type 0 where
     pub leaves :
@@ -53,3 +59,6 @@ module _ (choice : ℕ → Choice) where
         let held = groups_held (map group_item groups) in
         planned.exprs.items
         ≡ map (with_function held.entries) (flat_map (λ g. g.vars) groups)
+    pub kept :
+        let held = groups_held (map group_item groups) in
+        planned.kept.items ≡ kept_among held.entries (flat_map (λ g. g.vars) groups)

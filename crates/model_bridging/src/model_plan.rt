@@ -12,7 +12,7 @@ ghost use Rattle.bridge_plan.specs.Worked.{IsWithin, worked, worked_each, worked
 ghost use Rattle.model_bridging.specs.ModelHeld.{child_fits, unfit, unfit_put};
 ghost use Rattle.model_bridging.specs.Outcome.{Outcome, refused_at};
 ghost use Rattle.model_bridging.specs.Planned.{Planned};
-ghost use Rattle.model_bridging.specs.Whole.{IsReady, IsWhole, unfit_item, with_function};
+ghost use Rattle.model_bridging.specs.Whole.{IsReady, IsWhole, kept_among, unfit_item, with_function};
 
 use crate::PushFault;
 use crate::kinds::check_kinds;
@@ -29,12 +29,13 @@ use user_model::{GroupVar, Groups, Objective, Row, Rows};
 /// How many items stand above one another at most.
 const LEVELS: u8 = 35;
 
-/// The plan of a model: its leaves and nodes, and each of its variables with its expression as a
-/// function, all in the order of the bridging.
+/// The plan of a model: its leaves and nodes, each of its variables with its expression as a
+/// function, and those of its variables that are kept, all in the order of the bridging.
 #[derive(Debug, Drop)]
 pub struct ModelPlan {
     pub plan: Plan,
     pub exprs: Vec<(Address, Aff)>,
+    pub kept: Vec<Address>,
 }
 
 /// The fresh bridging of a model. `Unsupported` where an item has no tree, with the kind of the
@@ -76,8 +77,9 @@ fn plan_items<R: Rewriter>(
     let entries = plan_groups(alloc, rewriter, &mut plan, groups)?;
     let mut standing = Standing::of(alloc, entries)?;
     let exprs = expressions(alloc, &standing, groups)?;
+    let kept = kept_variables(alloc, &standing, groups)?;
     plan_others(alloc, rewriter, &mut plan, &mut standing, rows, objective)?;
-    Ok(ModelPlan { plan, exprs })
+    Ok(ModelPlan { plan, exprs, kept })
 }
 
 // Plans the groups one after another, and answers the expressions of their variables.
@@ -262,6 +264,34 @@ fn push_expressions(
     for var in vars {
         let at = Address::root(Root::Variable, var.number);
         exprs.push((at, standing.function(&at)?))?;
+    }
+    Ok(())
+}
+
+// The variables for which a variable stands as it is.
+fn kept_variables(
+    alloc: Global,
+    standing: &Standing,
+    groups: &Groups,
+) -> Result<Vec<Address>, Memory>
+    ensures { IfOk result (λ kept. kept.items
+        ≡ kept_among standing.now (flat_map (λ g. g.vars) groups.now.items)) }
+{
+    let mut kept = Vec::new(alloc);
+    for group in groups.iter() {
+        push_kept(&mut kept, standing, group.vars.as_slice())?;
+    }
+    Ok(kept)
+}
+
+fn push_kept(kept: &mut Vec<Address>, standing: &Standing, vars: &[GroupVar]) -> Result<(), Memory>
+    ensures { OnOk result (kept.new.items ≡ kept.old.items ++ kept_among standing.now vars.now) }
+{
+    for var in vars {
+        let at = Address::root(Root::Variable, var.number);
+        if standing.kept(&at).is_some() {
+            kept.push(at)?;
+        }
     }
     Ok(())
 }

@@ -26,7 +26,7 @@ returns-in-Ok-clause-good g c =
 
 pub in_names-requires : goal.in_names-requires
 in_names-requires g c =
-    can_tell c.args.model.now.model c.objective-valid.ensures.valid c.requires.stands.bridging
+    can_tell c.args.model.now.model c.requires.stands.valid c.requires.stands.bridging
     (answer_of c.args.lazy.now.map c.args.answer.now) c.in-Err.fault
     (carried_here c.args.lazy.now c.args.model.now.model _ c.map.result.now c.args.answer.now
     c.bridges.ensures c.map.ensures.map c.table-sound.ensures.sound c.table-sound.ensures.native

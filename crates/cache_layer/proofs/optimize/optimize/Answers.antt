@@ -18,7 +18,7 @@ returns-in_err-answer-clause-outcome g c =
     (told_here lazy c.map.result.now c.solver.result.now c.args.pivots (Err fault)
     c.map.ensures.map c.solver.ensures
     (readable_here lazy model c.table-native.ensures.sound c.table-native.ensures.native
-    c.map.ensures.named c.objective-valid.ensures.valid c.requires) c.in_err-answer.ensures))
+    c.requires) c.in_err-answer.ensures))
 
 pub certificate-requires-clause-right : goal.certificate-requires-clause-right
 certificate-requires-clause-right g c =
@@ -27,7 +27,7 @@ certificate-requires-clause-right g c =
     (told_here lazy c.map.result.now c.solver.result.now c.args.pivots
     (Ok c.in_ok-answer.answer) c.map.ensures.map c.solver.ensures
     (readable_here lazy model c.table-native.ensures.sound c.table-native.ensures.native
-    c.map.ensures.named c.objective-valid.ensures.valid c.requires) c.in_ok-answer.ensures).1
+    c.requires) c.in_ok-answer.ensures).1
 
 pub returns-clause-outcome : goal.returns-clause-outcome
 returns-clause-outcome g c =
@@ -37,5 +37,5 @@ returns-clause-outcome g c =
     (told_here lazy c.map.result.now c.solver.result.now c.args.pivots
     (Ok c.in_ok-answer.answer) c.map.ensures.map c.solver.ensures
     (readable_here lazy model c.table-native.ensures.sound c.table-native.ensures.native
-    c.map.ensures.named c.objective-valid.ensures.valid c.requires) c.in_ok-answer.ensures).0
+    c.requires) c.in_ok-answer.ensures).0
     c.certificate.result (c.certificate.ensures.told c.requires)

@@ -7,5 +7,5 @@ returns g c =
     read_here c.args.lazy.now c.args.model.now.model c.map.result.now c.solver.result.now
     c.bridged.result c.map.ensures.map c.solver.ensures
     (readable_here c.args.lazy.now c.args.model.now.model c.table-native.ensures.sound
-    c.table-native.ensures.native c.map.ensures.named c.objective-valid.ensures.valid c.requires)
+    c.table-native.ensures.native c.requires)
     c.bridged.ensures.read

@@ -31,5 +31,6 @@ returns-clause-answer g c =
     (record {
       plan = c.plan_others.new.plan;
       exprs = c.in_ok-exprs.exprs;
+      kept = c.in_ok-kept.kept;
     }) c.new-plan.ensures.leaves c.new-plan.ensures.nodes c.in_ok-plan_others.ensures.answer
-    c.in_ok-exprs.ensures
+    c.in_ok-exprs.ensures c.in_ok-kept.ensures

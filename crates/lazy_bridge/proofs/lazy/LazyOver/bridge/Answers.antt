@@ -19,3 +19,4 @@ returns-clause-bridged g c =
     (leaves_both c.args.self.now c.plan.new.self c.let_nodes_go.new.self
     (tried_leaves c.args.self.now c.plan.new.self planned.1) c.let_nodes_go.ensures.leaves)
     put.holds.0 put.setting put.holds.1
+    c.plan.ensures.valid

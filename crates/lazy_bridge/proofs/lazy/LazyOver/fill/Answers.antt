@@ -13,3 +13,4 @@ returns-clause-bridged g c =
     bridged c.args.self.now c.plan.new.self c.put.new.self c.args.model.now.model
     c.in_ok-planned.planned c.in_ok-put.field-0 planned.0
     (tried_leaves c.args.self.now c.plan.new.self planned.1) put.holds.0 put.setting put.holds.1
+    c.plan.ensures.valid

@@ -18,6 +18,8 @@ returns-clause-nothing g c = record {
   vars = c.requires.vars;
   rows = c.requires.rows;
   exprs = c.requires.exprs;
+  noted = c.requires.noted;
+  marks = c.requires.marks;
   kept = subst (All (λ (s : State). s.kept ≡ finite.empty)) (sym c.new.ensures.states)
       c.requires.kept;
 }

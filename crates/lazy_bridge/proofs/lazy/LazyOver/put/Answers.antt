@@ -10,16 +10,19 @@ returns-in-Ok-clause-holds g c =
     let changed = c.in-Ok.ensures.changed in
     let nodes = c.args.planned.plan.nodes.items in
     let new : Owned = record {
-      boxes = c.put_plan.new.boxes;
-      solver = c.put_plan.new.solver;
-      map = c.put_plan.new.map;
-      objective_at = c.put_plan.new.objective_at;
+      boxes = c.put_model.new.boxes;
+      solver = c.put_model.new.solver;
+      map = c.put_model.new.map;
+      objective_at = c.put_model.new.objective_at;
     } in (
       record {
         leaves = changed.through;
+        named = changed.named;
         kept = c.in-Ok.ensures.kept
             ∙ ap (λ (o : Owned). map (keeping nodes) o.boxes.states) c.self.view_is;
         exprs = changed.exprs;
+        noted = c.in-Ok.ensures.noted;
+        marks = c.in-Ok.ensures.marks;
       },
       (
         c.in-Ok.changed,
@@ -33,10 +36,10 @@ pub returns-in-Ok-clause-few : goal.returns-in-Ok-clause-few
 returns-in-Ok-clause-few g c =
     let changed = c.in-Ok.ensures.changed in
     let new : Owned = record {
-      boxes = c.put_plan.new.boxes;
-      solver = c.put_plan.new.solver;
-      map = c.put_plan.new.map;
-      objective_at = c.put_plan.new.objective_at;
+      boxes = c.put_model.new.boxes;
+      solver = c.put_model.new.solver;
+      map = c.put_model.new.map;
+      objective_at = c.put_model.new.objective_at;
     } in
     subst (λ (o : Owned). ChangesFew o c.capped.result new) c.self.view_is (record {
       rises = changed.rises;
