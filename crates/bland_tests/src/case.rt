@@ -31,8 +31,8 @@ impl Case {
     /// The number of the call of a kind that fails, and 0 where none does.
     pub fn failing(&self, call: Call) -> u64 {
         match (self.failing, call) {
-            (Some((Call::Read, number)), Call::Read)
-            | (Some((Call::Write, number)), Call::Write) => number,
+            (Some((Call::Read, number)), Call::Read) | (Some((Call::Write, number)), Call::Write) =>
+                number,
             _ => 0,
         }
     }
