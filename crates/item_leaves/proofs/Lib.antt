@@ -1,0 +1,2 @@
+mod OrderLaws
+mod RangeLaws
