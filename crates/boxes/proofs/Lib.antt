@@ -7,3 +7,4 @@ mod AddingSteps
 mod Stands
 mod Keeping
 mod Made
+mod WalkSteps

@@ -4,3 +4,5 @@ pub mod Nodes
 pub mod Turns
 pub mod Letting
 pub mod Adding
+pub mod Walk
+pub mod WidthLaws

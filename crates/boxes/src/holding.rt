@@ -1,5 +1,5 @@
 //! The boxes.
-ghost use Rattle.std.specs.Prelude.{◌≡◌, ◌↔◌, ◌≤◌, ◌+◌, All, IfSome, IsNone, IsTrue, OnErr, OnOk, length, map, slice_index_or, true};
+ghost use Rattle.std.specs.Prelude.{◌≡◌, ◌↔◌, ◌≤◌, ◌+◌, All, IfOk, IfSome, IsNone, IsTrue, OnErr, OnOk, flat_map, length, map, slice_index_or, true};
 ghost use Rattle.std.specs.FinMap as finite;
 ghost use Rattle.std.specs.List.{list_all, list_any};
 ghost use Rattle.bridge_graph.specs.Hypergraph.{is_edge_cost};
@@ -15,17 +15,23 @@ ghost use Rattle.boxes.specs.Boxed.{AreKeepable, IsFree, at_family, families_of,
 ghost use Rattle.boxes.specs.Letting.{IsAlone, without, without_each};
 ghost use Rattle.boxes.specs.Adding.{AreFree, with_each};
 ghost use Rattle.boxes.specs.Turns.{turns_of};
+ghost use Rattle.boxes.specs.Walk.{IsNarrow, IsRoot, nodes_below};
 
 use crate::choosing::{choices_of, graph_of};
+use crate::listing::list_below;
 use crate::places::{ask_laws, clear_all, image_by, keep_by, let_go_by};
 use aff_core::Address;
 use bridge_face::{Bridge, KeptItem};
 use bridge_graph::{Choice, Graph};
 use bridge_plan::Rewriter;
 use item_core::{EDGE_COUNT, EDGES, Edge, EdgeEntry, Image, Item, KIND_COUNT, Kind, Table};
-use lists::Memory;
+use lists::{Memory, Sequence};
 use ratio_core::NumberFault;
+use std::alloc::Global;
 use std::marker::Model;
+
+// How many levels a tree has at most: none has a kind twice on the way down.
+const LEVELS: u8 = KIND_COUNT as u8;
 
 /// Bridges, each of a family of its own, and the choices by a table and their families: an edge may
 /// be used exactly where its family is on in the table and among the bridges.
@@ -191,6 +197,21 @@ impl<B: Bridge> Boxes<B> {
             self.keep(node)?;
         }
         Ok(())
+    }
+
+    /// Lists the addresses at which an item is kept at and below the user's items at some addresses,
+    /// one after another, each before those below it. It takes no turn.
+    pub fn list_nodes(&self, alloc: Global, found: &[Address]) -> Result<Sequence<Address>, Memory>
+        requires narrow { IsNarrow self.now.states }
+        requires roots { All IsRoot found.now }
+        ensures { IfOk result (λ nodes. nodes
+            ≡ flat_map (nodes_below self.now.states) found.now) }
+    {
+        let mut nodes = Sequence::new(alloc);
+        for at in found {
+            list_below(&self.bridges, at, LEVELS, &mut nodes)?;
+        }
+        Ok(nodes)
     }
 
     /// Has each bridge let all items go.

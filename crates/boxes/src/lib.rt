@@ -4,6 +4,7 @@
 
 mod choosing;
 mod holding;
+mod listing;
 mod places;
 
 pub use holding::Boxes;
