@@ -77,146 +77,156 @@ module _ {setting next : Setting} {model after : ModelValue} (sound : IsValidUnd
     (old : FreshBridging setting model) (new : FreshBridging next after)
     (found : List Address)
     {X : Type 0} (part : Part X) (view : IsView part) where
-  abbrev had : List Address
-  had = keys_of (held_by old part found)
-
   abbrev plan : Address → Option X
   plan v = planned sound sound_after old new found part view v
 
-  abbrev pub gone_of : List Address
-  gone_of = filter (λ v. not (is_some (look v (held_by new part found)))) had
+  -- a list of addresses of found items, with each at which these held something
+  pub record AreHad (had : List Address) : Type 0 where
+    pub owners :
+        (v : Address) → Contains had v
+        → (at : Address) × Contains found at × IsOwner model v at
+    pub all :
+        (v at : Address) → Contains found at → IsOwner model v at
+        → was sound sound_after old new found part view v ≢ None → Contains had v
 
-  -- whose each is
-  owners : All (λ v. (at : Address) × Contains found at × IsOwner model v at) had
-  owners =
-      owned_by sound old part view (λ v. (at : Address) × Contains found at × IsOwner model v at)
-      found
-      (all_at (λ at. (k : Address) → IsOwner model k at
-      → (at : Address) × Contains found at × IsOwner model k at) found
-      (λ at c k o. (at, c, o)))
-
-  -- what a found item held at an address is among these
-  pub had_there : (v at : Address) → Contains found at → IsOwner model v at
-      → was sound sound_after old new found part view v ≢ None → Contains had v
-  had_there v at c o some = by (look v (held_by old part found)) refl
-    where
-      by : (p : Option X) → look v (held_by old part found) ≡ p → Contains had v
-      by None e = absurd (some (sym (joined_some sound old v part view at o found c) ∙ e))
-      by (Some x) e = key_found v (held_by old part found) x e
-
-  pub gone_is : IsGone sound sound_after old new found part view gone_of
-  gone_is = record {
-    from = λ v c.
-        let all = All-contains (λ v. Contains had v
-        × (not (is_some (look v (held_by new part found))) ≡ true)) gone_of v
-        (all_kept (λ v. not (is_some (look v (held_by new part found)))) had) c in
-        let own = All-contains (λ v. (at : Address) × Contains found at × IsOwner model v at) had v
-        owners all.0 in
-        (nothing_there (plan v) all.1, own);
-    all = λ v at c o some none.
-        kept_in (λ v. not (is_some (look v (held_by new part found)))) had v
-        (had_there v at c o some) (ap (λ o. not (is_some o)) none);
+  -- such are the keys of what they held
+  pub keys_had : AreHad (keys_of (held_by old part found))
+  keys_had = record {
+    owners = λ v c.
+        All-contains (λ v. (at : Address) × Contains found at × IsOwner model v at)
+        (keys_of (held_by old part found)) v each c;
+    all = λ v at c o some. there v at c o some (look v (held_by old part found)) refl;
   }
+    where
+      each : All (λ v. (at : Address) × Contains found at × IsOwner model v at)
+          (keys_of (held_by old part found))
+      each =
+          owned_by sound old part view
+          (λ v. (at : Address) × Contains found at × IsOwner model v at) found
+          (all_at (λ at. (k : Address) → IsOwner model k at
+          → (at : Address) × Contains found at × IsOwner model k at) found
+          (λ at c k o. (at, c, o)))
 
-  module _ (others : (at : Address) → ¬ (Contains found at) → StaysAt old new at) where
-    gone : List Address
-    gone = gone_of
+      there : (v at : Address) → Contains found at → IsOwner model v at
+          → was sound sound_after old new found part view v ≢ None
+          → (p : Option X) → look v (held_by old part found) ≡ p
+          → Contains (keys_of (held_by old part found)) v
+      there v at c o some None e =
+          absurd (some (sym (joined_some sound old v part view at o found c) ∙ e))
+      there v at c o some (Some x) e = key_found v (held_by old part found) x e
 
-    -- where a found item held something, what is there now is what is planned
-    pub now_planned : (v : Address) → Contains had v
-        → is_now sound sound_after old new found part view v ≡ plan v
-    now_planned v c =
-        let own = All-contains (λ v. (at : Address) × Contains found at × IsOwner model v at) had v
-        owners c in
-        by own (owner_or_none next sound_after.costly sound_after.lawful after sound_after.valid new
-        v)
-      where
-        by : ((at : Address) × Contains found at × IsOwner model v at)
-            → ((at : Address) × IsOwner after v at) ⊎ ((at : Address) → ¬ (IsOwner after v at))
-            → is_now sound sound_after old new found part view v ≡ plan v
-        by own (inl (b, o)) = among (contains_or_not found b)
-          where
-            among : Contains found b ⊎ (¬ (Contains found b))
-                → is_now sound sound_after old new found part view v ≡ plan v
-            among (inl k) = sym (joined_some sound_after new v part view b o found k)
-            among (inr k) =
-                absurd (k (subst (Contains found)
-                (one_owner sound old v own.0 b own.2
-                (stays_before sound sound_after old new found part view others gone_of gone_is v b
-                k o)) own.1))
-        by own (inr n) =
-            nobody_looks next sound_after.costly sound_after.lawful after sound_after.valid new part
-            view v n
-            ∙ sym (no_owner sound sound_after old new found part view others gone_of gone_is v
-            (λ at m. n at))
+  -- of such a list what goes is that at which nothing is planned
+  abbrev pub gone_of : List Address → List Address
+  gone_of had = filter (λ v. not (is_some (look v (held_by new part found)))) had
 
-    -- elsewhere it is what is planned, where nothing stood, or what was there, where nothing is
-    -- planned
-    pub now_elsewhere : (v : Address) → ¬ (Contains had v)
-        → ((plan v ≡ None) × (is_now sound sound_after old new found part view v
-        ≡ was sound sound_after old new found part view v))
-        ⊎ ((was sound sound_after old new found part view v ≡ None)
-        × (is_now sound sound_after old new found part view v ≡ plan v))
-    now_elsewhere v out =
-        by (owner_or_none next sound_after.costly sound_after.lawful after sound_after.valid new v)
-      where
-        settled : (o : Option X) → was sound sound_after old new found part view v ≡ o
-            → ¬ (was sound sound_after old new found part view v ≢ None) → o ≡ None
-        settled None e n = refl
-        settled (Some x) e n = absurd (n (λ f. none-some x (sym f ∙ e)))
+  module _ (had : List Address) (are : AreHad had) where
+    pub gone_is : IsGone sound sound_after old new found part view (gone_of had)
+    gone_is = record {
+      from = λ v c.
+          let all = All-contains (λ v. Contains had v
+          × (not (is_some (look v (held_by new part found))) ≡ true)) (gone_of had) v
+          (all_kept (λ v. not (is_some (look v (held_by new part found)))) had) c in
+          (nothing_there (plan v) all.1, are.owners v all.0);
+      all = λ v at c o some none.
+          kept_in (λ v. not (is_some (look v (held_by new part found)))) had v
+          (are.all v at c o some) (ap (λ o. not (is_some o)) none);
+    }
 
-        -- nothing stood where each owner after the change was found, or there is none
-        nothing_stood : ((b : Address) → IsOwner after v b → Contains found b)
-            → was sound sound_after old new found part view v ≡ None
-        nothing_stood h =
-            before (owner_or_none setting sound.costly sound.lawful model sound.valid old v)
-          where
-            before : ((at : Address) × IsOwner model v at) ⊎ ((at : Address) → ¬ (IsOwner model v at))
-                → was sound sound_after old new found part view v ≡ None
-            before (inr n) =
-                nobody_looks setting sound.costly sound.lawful model sound.valid old part view v n
-            before (inl (a, p)) = among (contains_or_not found a)
-              where
-                among : Contains found a ⊎ (¬ (Contains found a))
-                    → was sound sound_after old new found part view v ≡ None
-                among (inl c) =
-                    settled (was sound sound_after old new found part view v) refl
-                    (λ some. out (had_there v a c p some))
-                among (inr k) =
-                    absurd (k (h a (stays_behind sound sound_after old new found part view others
-                    gone_of gone_is v a k p)))
-
-        by : ((at : Address) × IsOwner after v at) ⊎ ((at : Address) → ¬ (IsOwner after v at))
-            → ((plan v ≡ None) × (is_now sound sound_after old new found part view v
-            ≡ was sound sound_after old new found part view v))
-            ⊎ ((was sound sound_after old new found part view v ≡ None)
-            × (is_now sound sound_after old new found part view v ≡ plan v))
-        by (inl (b, o)) = among (contains_or_not found b)
-          where
-            among : Contains found b ⊎ (¬ (Contains found b))
-                → ((plan v ≡ None) × (is_now sound sound_after old new found part view v
-                ≡ was sound sound_after old new found part view v))
-                ⊎ ((was sound sound_after old new found part view v ≡ None)
-                × (is_now sound sound_after old new found part view v ≡ plan v))
-            among (inl k) =
-                inr (
-                  nothing_stood (λ q p. subst (Contains found)
-                      (one_owner sound_after new v b q o p) k),
-                  sym (joined_some sound_after new v part view b o found k),
-                )
-            among (inr k) =
-                inl (
-                  no_owner sound sound_after old new found part view others gone_of gone_is v
-                      (λ at c p. k (subst (Contains found) (one_owner sound_after new v at b p o) c)),
-                  sym (as_it_was sound sound_after old new found part view others gone_of gone_is v b
-                      k (stays_before sound sound_after old new found part view others gone_of gone_is v
-                      b k o)),
-                )
-        by (inr n) =
-            inr (
-              nothing_stood (λ b p. absurd (n b p)),
+    module _ (others : (at : Address) → ¬ (Contains found at) → StaysAt old new at) where
+      -- where a found item held something, what is there now is what is planned
+      pub now_planned : (v : Address) → Contains had v
+          → is_now sound sound_after old new found part view v ≡ plan v
+      now_planned v c =
+          let own = are.owners v c in
+          by own (owner_or_none next sound_after.costly sound_after.lawful after sound_after.valid new
+          v)
+        where
+          by : ((at : Address) × Contains found at × IsOwner model v at)
+              → ((at : Address) × IsOwner after v at) ⊎ ((at : Address) → ¬ (IsOwner after v at))
+              → is_now sound sound_after old new found part view v ≡ plan v
+          by own (inl (b, o)) = among (contains_or_not found b)
+            where
+              among : Contains found b ⊎ (¬ (Contains found b))
+                  → is_now sound sound_after old new found part view v ≡ plan v
+              among (inl k) = sym (joined_some sound_after new v part view b o found k)
+              among (inr k) =
+                  absurd (k (subst (Contains found)
+                  (one_owner sound old v own.0 b own.2
+                  (stays_before sound sound_after old new found part view others (gone_of had) gone_is v b
+                  k o)) own.1))
+          by own (inr n) =
               nobody_looks next sound_after.costly sound_after.lawful after sound_after.valid new part
-                  view v n
-                  ∙ sym (no_owner sound sound_after old new found part view others gone_of gone_is v
-                  (λ at m. n at)),
-            )
+              view v n
+              ∙ sym (no_owner sound sound_after old new found part view others (gone_of had) gone_is v
+              (λ at m. n at))
+
+      -- elsewhere it is what is planned, where nothing stood, or what was there, where nothing is
+      -- planned
+      pub now_elsewhere : (v : Address) → ¬ (Contains had v)
+          → ((plan v ≡ None) × (is_now sound sound_after old new found part view v
+          ≡ was sound sound_after old new found part view v))
+          ⊎ ((was sound sound_after old new found part view v ≡ None)
+          × (is_now sound sound_after old new found part view v ≡ plan v))
+      now_elsewhere v out =
+          by (owner_or_none next sound_after.costly sound_after.lawful after sound_after.valid new v)
+        where
+          settled : (o : Option X) → was sound sound_after old new found part view v ≡ o
+              → ¬ (was sound sound_after old new found part view v ≢ None) → o ≡ None
+          settled None e n = refl
+          settled (Some x) e n = absurd (n (λ f. none-some x (sym f ∙ e)))
+
+          -- nothing stood where each owner after the change was found, or there is none
+          nothing_stood : ((b : Address) → IsOwner after v b → Contains found b)
+              → was sound sound_after old new found part view v ≡ None
+          nothing_stood h =
+              before (owner_or_none setting sound.costly sound.lawful model sound.valid old v)
+            where
+              before : ((at : Address) × IsOwner model v at) ⊎ ((at : Address) → ¬ (IsOwner model v at))
+                  → was sound sound_after old new found part view v ≡ None
+              before (inr n) =
+                  nobody_looks setting sound.costly sound.lawful model sound.valid old part view v n
+              before (inl (a, p)) = among (contains_or_not found a)
+                where
+                  among : Contains found a ⊎ (¬ (Contains found a))
+                      → was sound sound_after old new found part view v ≡ None
+                  among (inl c) =
+                      settled (was sound sound_after old new found part view v) refl
+                      (λ some. out (are.all v a c p some))
+                  among (inr k) =
+                      absurd (k (h a (stays_behind sound sound_after old new found part view others
+                      (gone_of had) gone_is v a k p)))
+
+          by : ((at : Address) × IsOwner after v at) ⊎ ((at : Address) → ¬ (IsOwner after v at))
+              → ((plan v ≡ None) × (is_now sound sound_after old new found part view v
+              ≡ was sound sound_after old new found part view v))
+              ⊎ ((was sound sound_after old new found part view v ≡ None)
+              × (is_now sound sound_after old new found part view v ≡ plan v))
+          by (inl (b, o)) = among (contains_or_not found b)
+            where
+              among : Contains found b ⊎ (¬ (Contains found b))
+                  → ((plan v ≡ None) × (is_now sound sound_after old new found part view v
+                  ≡ was sound sound_after old new found part view v))
+                  ⊎ ((was sound sound_after old new found part view v ≡ None)
+                  × (is_now sound sound_after old new found part view v ≡ plan v))
+              among (inl k) =
+                  inr (
+                    nothing_stood (λ q p. subst (Contains found)
+                        (one_owner sound_after new v b q o p) k),
+                    sym (joined_some sound_after new v part view b o found k),
+                  )
+              among (inr k) =
+                  inl (
+                    no_owner sound sound_after old new found part view others (gone_of had) gone_is v
+                        (λ at c p. k (subst (Contains found) (one_owner sound_after new v at b p o) c)),
+                    sym (as_it_was sound sound_after old new found part view others (gone_of had) gone_is v b
+                        k (stays_before sound sound_after old new found part view others (gone_of had) gone_is v
+                        b k o)),
+                  )
+          by (inr n) =
+              inr (
+                nothing_stood (λ b p. absurd (n b p)),
+                nobody_looks next sound_after.costly sound_after.lawful after sound_after.valid new part
+                    view v n
+                    ∙ sym (no_owner sound sound_after old new found part view others (gone_of had) gone_is v
+                    (λ at m. n at)),
+              )

@@ -11,6 +11,7 @@ pub mod ExpressedLaws
 pub mod FittingLaws
 pub mod FoundLaws
 pub mod HeldLaws
+pub mod RootLaws
 pub mod InnerLaws
 pub mod JoinedLaws
 pub mod ListedLaws
@@ -25,3 +26,4 @@ pub mod UntouchedLaws
 pub mod WholeLaws
 pub mod GoneLaws
 pub mod MentionLaws
+pub mod RunLaws

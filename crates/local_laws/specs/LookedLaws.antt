@@ -32,10 +32,11 @@ use Rattle.address_laws.specs.Keys.{Mine, own}
 use Rattle.address_laws.specs.Regions.{AreApart, AtOrBelow, apart_less}
 use Rattle.local_laws.specs.Held.{held_at_in, held_of, is_there}
 use Rattle.local_laws.specs.HeldLaws.{held_each_at, keeps_own_each, none_at_each}
-use Rattle.local_laws.specs.Owner.{IsOwner, root_at}
+use Rattle.local_laws.specs.Owner.{IsOwner}
 use Rattle.local_laws.specs.OwnerLaws.{IsHomeIn, found_in_each, found_in_others, home_or_none, none_in_each, none_in_others}
 use Rattle.local_laws.specs.StaysLaws.{found_is, others_are}
 use Rattle.local_laws.specs.Views.{IsView, Part, look, look-append, look_in}
+use Rattle.item_leaves.specs.ItemLeaves.{item_of}
 
 pub found_passes : (p : Item → Bool) (items : List Item) (x : Item) → find p items ≡ Some x
     → p x ≡ true
@@ -49,22 +50,22 @@ found_passes p (y ∷ ys) x f = step (p y) refl f (λ g. found_passes p ys x g)
 
 below_or_not : (item : Item) → item.at.positions ≡ [] → (v : Address)
     → AtOrBelow item v ⊎ (¬ (AtOrBelow item v))
-below_or_not item e v = by (address_eq item.at (root_at v)) refl
+below_or_not item e v = by (address_eq item.at (item_of v)) refl
   where
-    whole : (at : Address) → at.positions ≡ [] → at ≡ root_at at
+    whole : (at : Address) → at.positions ≡ [] → at ≡ item_of at
     whole at e = λ i. record at { positions = e i }
 
-    by : (b : Bool) → address_eq item.at (root_at v) ≡ b
+    by : (b : Bool) → address_eq item.at (item_of v) ≡ b
         → AtOrBelow item v ⊎ (¬ (AtOrBelow item v))
     by true is =
         inl (record {
           rest = v.positions;
           is = ap (λ (a : Address). below a v.positions)
-              (sym ((address_eq-Decides item.at (root_at v)).0 is));
+              (sym ((address_eq-Decides item.at (item_of v)).0 is));
         })
     by false is =
-        inr (λ b. true≢false (sym ((address_eq-Decides item.at (root_at v)).1
-        (whole item.at e ∙ ap root_at (sym b.is))) ∙ is))
+        inr (λ b. true≢false (sym ((address_eq-Decides item.at (item_of v)).1
+        (whole item.at e ∙ ap item_of (sym b.is))) ∙ is))
 
 pub contains_or_not : (vs : List Address) (v : Address) → Contains vs v ⊎ (¬ (Contains vs v))
 contains_or_not vs v = by (in_or_not vs v)

@@ -1,7 +1,7 @@
 -- Whose an address is.
 use Rattle.std.specs.Prelude.{◌≡◌, Some}
 use Rattle.address_laws.specs.Keys.{Mine}
-use Rattle.aff_core.specs.Address.{Address, root_address}
+use Rattle.aff_core.specs.Address.{Address}
 use Rattle.fresh_bridging.specs.Touched.{item_at}
 use Rattle.item_core.specs.declared.item.Item.{Item}
 use Rattle.user_model.specs.Model.{ModelValue}
@@ -12,7 +12,3 @@ pub record IsOwner (model : ModelValue) (v at : Address) : Type 0 where
   pub item : Item
   pub is : item_at model at ≡ Some item
   pub mine : Mine item v
-
--- the address of the user's item that an address stands at or below, but for a user's variable
-abbrev pub root_at : Address → Address
-root_at at = root_address at.root at.number

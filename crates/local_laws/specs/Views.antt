@@ -1,11 +1,12 @@
 -- What is read of leaves and nodes by address: their entries, whose keys are those of the tree.
-use Rattle.std.specs.Prelude.{◌≡◌, ℕ, List, [], ◌∷◌, ◌++◌, flat_map, map, Option, Some, option_and_then, refl}
+use Rattle.std.specs.Prelude.{◌≡◌, ℕ, All, List, [], ◌∷◌, ◌++◌, flat_map, map, Option, Some, option_and_then, refl}
 use Rattle.std.proofs.Common.{sym, ◌∙◌}
 use Rattle.std.specs.Option.{option_or}
 use Rattle.std.specs.BTreeMap.{is_at}
 use Rattle.std.specs.Map.{keys_of, lookup}
 use Rattle.std.proofs.lemmas.Grind.{flat_map-append}
 use Rattle.std.proofs.lemmas.List.{map-append}
+use Rattle.std.proofs.lemmas.List.Elements.{All-nil, All-weaker}
 use Rattle.std.specs.Prelude.{Bool, true, false, cond}
 use Rattle.expansion.specs.Bridged.{Bridged, EachBridged, EachBridgedIn}
 use Rattle.expansion.specs.Grown.{Held}
@@ -15,7 +16,8 @@ use Rattle.aff_core.specs.Address.{Address, address_cmp}
 use Rattle.item_core.specs.declared.item.Item.{Item}
 use Rattle.fresh_bridging.specs.Entries.{Entry}
 use Rattle.fresh_bridging.specs.Leaves.{leaf_objectives, leaf_rows, leaf_variables}
-use Rattle.address_laws.specs.KeyLaws.{AreKeys}
+use Rattle.address_laws.specs.KeyLaws.{AreKeys, itself_below}
+use Rattle.fresh_bridging.specs.OmitLaws.{IsBelow}
 use Rattle.address_laws.specs.Keys.{keys, keys_in, keys_of_each}
 use Rattle.address_laws.specs.LeafKeys.{alone_are, its_key, keys_of-flat_map, keys_of_nodes, leaf_keys, leaf_keys_in, leaf_keys_of_each, leaf_variables_are, no_keys, node_keys, node_keys_in, node_keys_of_each, nodes_are, objective_keys, objectives_alone, row_keys, rows_alone}
 
@@ -90,6 +92,26 @@ nodes_view = record {
   each = λ rules items entries t. keys_of_nodes (nodes_of_each t) ∙ sym (node_keys_of_each t);
   further = λ rules inner items t. keys_of_nodes (nodes_in t) ∙ sym (node_keys_in t);
 }
+
+-- ---- but for variables, each is at or below its item's address
+
+pub nodes_low : (item : Item) → All (IsBelow item.at) (nodes_view.of_leaf item)
+unfolding nodes_view
+nodes_low item = All-nil (IsBelow item.at)
+
+itself_low : (item : Item) (ks : List Address) → All (λ k. k ≡ item.at) ks
+    → All (IsBelow item.at) ks
+itself_low item ks h =
+    All-weaker (λ k. k ≡ item.at) (IsBelow item.at)
+    (λ k e. record { rest = []; is = e ∙ itself_below item.at }) ks h
+
+pub rows_low : (item : Item) → All (IsBelow item.at) (rows_view.of_leaf item)
+unfolding rows_view leaves_view
+rows_low item = itself_low item (row_keys item) (rows_alone item).here
+
+pub objectives_low : (item : Item) → All (IsBelow item.at) (objectives_view.of_leaf item)
+unfolding objectives_view leaves_view
+objectives_low item = itself_low item (objective_keys item) (objectives_alone item).here
 
 -- ---- looked up
 
