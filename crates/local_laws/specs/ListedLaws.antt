@@ -26,7 +26,7 @@ use Rattle.local_laws.specs.Unlisted.{IsUnlisted, LeadBackTo}
 
 module _ {X : Type 0} (R : Root) (f : X → Item) (number_of : X → ℕ)
     (each : (x : X) → (f x).at ≡ root_address R (number_of x)) (at : Address) where
-  abbrev At : Bool
+  abbrev pub At : Bool
   At = address_eq (root_address R at.number) at
 
   here_test : At ≡ true → (x : X) → is_there at (f x) ≡ (number_of x == at.number)
@@ -51,7 +51,7 @@ module _ {X : Type 0} (R : Root) (f : X → Item) (number_of : X → ℕ)
           absurd (true≢false (sym ((address_eq-Decides (root_address R at.number) at).1
           (ap (root_address R) (sym (ap (λ (a : Address). a.number) same)) ∙ same)) ∙ e))
 
-  found_by_number : At ≡ true → (xs : List X)
+  pub found_by_number : At ≡ true → (xs : List X)
       → find (is_there at) (map f xs) ≡ option_map f (numbered.find number_of at.number xs)
   found_by_number e [] = refl
   found_by_number e (x ∷ xs) =
@@ -64,7 +64,7 @@ module _ {X : Type 0} (R : Root) (f : X → Item) (number_of : X → ℕ)
       by true = refl
       by false = refl
 
-  found_nowhere : At ≡ false → (xs : List X) → find (is_there at) (map f xs) ≡ None
+  pub found_nowhere : At ≡ false → (xs : List X) → find (is_there at) (map f xs) ≡ None
   found_nowhere e [] = refl
   found_nowhere e (x ∷ xs) =
       ap₂ (λ b o. cond b (Some (f x)) o) (other_test e x) (found_nowhere e xs)
@@ -102,10 +102,10 @@ objective_alike at a b h = by (address_eq (root_address root.Objective 0) at) re
         (sym ((address_eq-Decides (root_address root.Objective 0) at).0 e))))
     by false e = nowhere e a ∙ sym (nowhere e b)
 
-abbrev three : Option Item → Option Item → Option Item → Option Item
+abbrev pub three : Option Item → Option Item → Option Item → Option Item
 three a b c = option_or a (option_or b c)
 
-by_parts : (model : ModelValue) (at : Address)
+pub by_parts : (model : ModelValue) (at : Address)
     → item_at model at
     ≡ three (find (is_there at) (map group_item model.groups))
     (find (is_there at) (map row_item model.rows))

@@ -37,7 +37,7 @@ names_in f = map (λ t. t.0) (terms_of f)
 abbrev pub names_of : Body → List Address
 names_of body = flat_map names_in (functions_of body)
 
-contains_mapped : {A B : Type 0} (f : A → B) (xs : List A) (y : B) → Contains (map f xs) y
+pub contains_mapped : {A B : Type 0} (f : A → B) (xs : List A) (y : B) → Contains (map f xs) y
     → (x : A) × Contains xs x × (f x ≡ y)
 contains_mapped f [] y c = absurd (omega (arith, c.1))
 contains_mapped f (x ∷ xs) y (zero, inside, is) = (x, contains_here x xs, is)
@@ -45,7 +45,7 @@ contains_mapped f (x ∷ xs) y (suc i, inside, is) =
     let r = contains_mapped f xs y (i, omega (arith, inside), is) in
     (r.0, contains_later x r.0 xs r.1, r.2)
 
-mapped_contains : {A B : Type 0} (f : A → B) (xs : List A) (x : A) → Contains xs x
+pub mapped_contains : {A B : Type 0} (f : A → B) (xs : List A) (x : A) → Contains xs x
     → Contains (map f xs) (f x)
 mapped_contains f [] x c = absurd (omega (arith, c.1))
 mapped_contains f (y ∷ xs) x (zero, inside, is) =
