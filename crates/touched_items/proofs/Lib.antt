@@ -1,0 +1,3 @@
+mod Sames
+mod Loops
+mod Separated

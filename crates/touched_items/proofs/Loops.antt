@@ -1,0 +1,172 @@
+-- Loops that list, filter, count and read.
+use Rattle.std.specs.Prelude.{◌≡◌, ◌≢◌, ◌≤◌, ◌<◌, ◌+◌, ◌++◌, ◌||◌, ℕ, zero, suc, Bool, true, false, cond, if◌then◌else◌, List, [], ◌∷◌, MatchBool, Option, Some, None, count_by, filter, flat_map, get_or, length, map, slice_get, sum_by, take, unwrap_or, refl}
+use Rattle.std.specs.Borrow.{Bor}
+use Rattle.std.specs.BTreeSet as set
+use Rattle.std.specs.BTreeSet.{BTreeSet}
+use Rattle.std.specs.FinMap as finite
+use Rattle.std.specs.List.{filter_map, list_any}
+use Rattle.std.specs.List.Sorted.{IsStrictlySortedBy}
+use Rattle.std.specs.Option.{option_map, option_to_list}
+use Rattle.std.specs.Set.{is_member}
+use Rattle.std.proofs.Common.{arith, sym, ap, subst, ◌∙◌, append_assoc, append-nil, true≢false}
+use Rattle.std.proofs.lemmas.Grind.{flat_map-append}
+use Rattle.std.proofs.lemmas.List.{map-append, take_more}
+use Rattle.std.proofs.lemmas.List.Elements.{filter-append, filter_map-append}
+use Rattle.std.proofs.lemmas.List.Sums.{sum_by-append}
+use Rattle.std.proofs.lemmas.Map.Made.{is_member-Decides}
+use Rattle.std.proofs.lemmas.Option.{get_or_from_slice_get, none-some, slice_get_within}
+use Rattle.address_map.specs.Noted.{AddressSet, Noted, noted_items}
+use Rattle.aff_core.specs.Address.{Address, address_cmp, address_eq, address_eq-Decides, root_address}
+use Rattle.aff_core.specs.declared.root.Root.TheVariants as root
+use Rattle.map_laws.specs.MadeLaws.{entries_empty}
+use Rattle.numbered.specs.declared.change.Change.{Change}
+use Rattle.user_model.specs.declared.row.Row.{Row}
+use Rattle.user_model.specs.declared.undo.Undo.{Undo}
+use Rattle.touched_items.specs.FirstLaws.{Changes, HasFirst, HasTaken, more_taken}
+use Rattle.touched_items.specs.Search.{AreInOrder, is_objective, is_row}
+
+-- one more item of a list
+next : {A : Type 0} (xs : List A) (i : ℕ) (x : A) → x ≡ get_or xs i x → i < length xs
+    → take (i + 1) xs ≡ take i xs ++ x ∷ []
+next xs i x is lt = take_more xs i x lt ∙ ap (λ y. take i xs ++ y ∷ []) (sym is)
+
+-- ---- what passes
+
+pub pushed_if : (p : Address → Bool) (xs : List Address) (i : ℕ) (x : Address)
+    → x ≡ get_or xs i x → i < length xs → (b : Bool) → b ≡ p x → (old new : List Address)
+    → old ≡ filter p (take i xs) → new ≡ old ++ cond b (x ∷ []) []
+    → new ≡ filter p (take (i + 1) xs)
+pushed_if p xs i x is lt b test old new so_far pushed =
+    pushed
+    ∙ (λ j. so_far j ++ cond (test j) (x ∷ []) [])
+    ∙ sym (ap (filter p) (next xs i x is lt) ∙ filter-append p (take i xs) (x ∷ []))
+
+-- ---- what is noted
+
+pub nothing_noted : (noted : Noted) (var : Address) → finite.get noted var ≡ None
+    → noted_items noted var ≡ []
+nothing_noted noted var e =
+    ap (λ o. finite.keys (unwrap_or o finite.empty)) e
+    ∙ ap (map (λ e. e.0)) (entries_empty address_cmp)
+
+noted_here : (noted : Noted) (var : Address) (items : AddressSet) → finite.get noted var ≡ Some items
+    → noted_items noted var ≡ finite.keys items
+noted_here noted var items e = ap (λ o. finite.keys (unwrap_or o finite.empty)) e
+
+pub in_range : {A : Type 0} (xs : List A) (n : ℕ) → n < length xs → slice_get xs n ≡ None → ⊥
+in_range [] n lt e = absurd (omega arith)
+in_range (x ∷ xs) zero lt e = none-some x (sym e)
+in_range (x ∷ xs) (suc n) lt e = in_range xs n (omega arith) e
+
+pub noted_more : (noted : Noted) (var : Address) (items : AddressSet) (place : ℕ) (at : Address)
+    (start old new : List Address) → finite.get noted var ≡ Some items
+    → slice_get (finite.keys items) place ≡ Some at
+    → old ≡ start ++ take place (noted_items noted var) → new ≡ old ++ at ∷ []
+    → new ≡ start ++ take (place + 1) (noted_items noted var)
+noted_more noted var items place at start old new e here so_far pushed =
+    pushed
+    ∙ ap (λ l. l ++ at ∷ []) so_far
+    ∙ append_assoc start (take place (noted_items noted var)) (at ∷ [])
+    ∙ ap (λ l. start ++ l) (sym one_more)
+  where
+    one_more : take (place + 1) (noted_items noted var)
+        ≡ take place (noted_items noted var) ++ at ∷ []
+    one_more =
+        ap (take (place + 1)) (noted_here noted var items e)
+        ∙ next (finite.keys items) place at
+        (sym (get_or_from_slice_get (finite.keys items) place at at here))
+        (slice_get_within (finite.keys items) place at here)
+        ∙ ap (λ ks. take place ks ++ at ∷ []) (sym (noted_here noted var items e))
+
+-- ---- a set in its order
+
+pub ordered_same : (listed : List Address) (s : BTreeSet Address) (items : List Address)
+    → set.IsFromIterResult address_cmp listed s → items ≡ s.keys → AreInOrder listed items
+ordered_same listed s items made is =
+    subst (AreInOrder listed) (sym is) (record {
+      rising = made.1;
+      same = λ at. (
+        λ c. (is_member-Decides address_eq-Decides listed at).0
+            (sym (made.0 at) ∙ (is_member-Decides address_eq-Decides s.keys at).1 c),
+        λ c. (is_member-Decides address_eq-Decides s.keys at).0
+            (made.0 at ∙ (is_member-Decides address_eq-Decides listed at).1 c),
+      );
+    })
+
+-- ---- rows that are read
+
+module _ (h : Address → Option Row) (xs : List Address) (i : ℕ) (x : Address)
+    (is : x ≡ get_or xs i x) (lt : i < length xs) (olds : List (Bor Row))
+    (so_far : map (λ r. r.now) olds ≡ filter_map h (take i xs)) where
+  one_more : filter_map h (take (i + 1) xs) ≡ filter_map h (take i xs) ++ filter_map h (x ∷ [])
+  one_more = ap (filter_map h) (next xs i x is lt) ∙ filter_map-append h (take i xs) (x ∷ [])
+
+  one_option : (o : Option Row) → o ≡ h x → filter_map h (x ∷ []) ≡ option_to_list o
+  one_option o e = by (h x) ∙ ap option_to_list (sym e)
+    where
+      by : (p : Option Row) → filter_map (λ (y : Address). p) (x ∷ []) ≡ option_to_list p
+      by None = refl
+      by (Some r) = refl
+
+  pub row_pushed : (news : List (Bor Row)) (r : Bor Row) → Some r.now ≡ h x → news ≡ olds ++ r ∷ []
+      → map (λ r. r.now) news ≡ filter_map h (take (i + 1) xs)
+  row_pushed news r e pushed =
+      ap (map (λ r. r.now)) pushed
+      ∙ map-append (λ (r : Bor Row). r.now) olds (r ∷ [])
+      ∙ (λ j. so_far j ++ sym (one_option (Some r.now) e) j)
+      ∙ sym one_more
+
+  pub row_missing : None ≡ h x → map (λ r. r.now) olds ≡ filter_map h (take (i + 1) xs)
+  row_missing e =
+      so_far
+      ∙ sym (append-nil (filter_map h (take i xs)))
+      ∙ ap (λ l. filter_map h (take i xs) ++ l) (sym (one_option None e))
+      ∙ sym one_more
+
+pub counted_more : (p : Address → Bool) (xs : List Address) (i : ℕ) (x : Address)
+    → x ≡ get_or xs i x → i < length xs
+    → count_by p (take (i + 1) xs) ≡ count_by p (take i xs) + count_by p (x ∷ [])
+counted_more p xs i x is lt =
+    ap (count_by p) (next xs i x is lt) ∙ sum_by-append (λ x. cond (p x) 1 0) (take i xs) (x ∷ [])
+
+-- rows and the objective are no more than there are addresses
+pub reads_counted : (xs : List Address)
+    → count_by is_row xs + cond (list_any is_objective xs) 1 0 ≤ length xs
+reads_counted [] = omega arith
+reads_counted (x ∷ xs) =
+    subst (λ n. n + cond (is_objective x || list_any is_objective xs) 1 0 ≤ suc (length xs))
+    (sym (sum_by-append (λ y. cond (is_row y) 1 0) (x ∷ []) xs))
+    (by (is_row x) (is_objective x) refl refl (reads_counted xs))
+  where
+    apart : is_row x ≡ true → is_objective x ≡ true → ⊥
+    apart r o =
+        let same : root.Row ≡ root.Objective =
+        ap (λ (a : Address). a.root) (sym ((address_eq-Decides x (root_address root.Row x.number)).0 r)
+        ∙ (address_eq-Decides x (root_address root.Objective 0)).0 o) in
+        cc
+
+    by : (r o : Bool) → is_row x ≡ r → is_objective x ≡ o
+        → count_by is_row xs + cond (list_any is_objective xs) 1 0 ≤ length xs
+        → ((0 + cond r 1 0) + count_by is_row xs) + cond (o || list_any is_objective xs) 1 0
+        ≤ suc (length xs)
+    by true true e f later = absurd (apart e f)
+    by true false e f later = omega arith
+    by false true e f later = omega arith
+    by false false e f later = omega arith
+
+-- ---- changes by their numbers
+
+pub at_most_one : (b : Bool) (n a : ℕ) → n ≡ a + (if b then 0 else 1) → n ≤ a + 1
+at_most_one true n a e = omega arith
+at_most_one false n a e = omega arith
+
+pub undo_taken : {X : Type 0} (f : Undo → List (Change X)) (undos left rest : List Undo) (u : Undo)
+    (cs : List (Change X)) (old now new : Changes X)
+    → HasTaken (flat_map f undos) (flat_map f left) old now → left ≡ rest ++ u ∷ [] → cs ≡ f u
+    → HasFirst cs now new → HasTaken (flat_map f undos) (flat_map f rest) old new
+undo_taken f undos left rest u cs old now new h is same has =
+    more_taken (flat_map f undos) (flat_map f left) (flat_map f rest) (f u) old now new h
+    (ap (flat_map f) is
+    ∙ flat_map-append f rest (u ∷ [])
+    ∙ ap (λ l. flat_map f rest ++ l) (append-nil (f u)))
+    (subst (λ l. HasFirst l now new) same has)

@@ -1,0 +1,8 @@
+use Rattle.std.proofs.Common.{flat_map}
+use Rattle.touched_items.specs.FirstLaws.{HasTaken}
+use Rattle.touched_items.proofs.listed.list_groups.Given as goal
+
+abbrev pub invariant-loop-undo : goal.invariant-loop-undo
+invariant-loop-undo l =
+    HasTaken (flat_map (λ u. u.groups) l.undos)
+    (flat_map (λ u. u.groups) l.undo-iterator.iter.rest.now) l.initial.first l.first

@@ -1,0 +1,5 @@
+use Rattle.touched_items.proofs.Sames.{sets_same}
+use Rattle.touched_items.proofs.same.same_set.Goals as goal
+
+pub returns : goal.returns
+returns c = sets_same c.args.one.now c.args.other.now c.eq.result c.eq.ensures

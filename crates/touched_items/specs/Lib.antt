@@ -1,0 +1,13 @@
+pub mod FirstChanges
+pub mod Sides
+pub mod Differences
+pub mod HeldExpressions
+pub mod Search
+pub mod Results
+pub mod FirstLaws
+pub mod SideLaws
+pub mod UndoLaws
+pub mod DifferenceLaws
+pub mod ExpressionLaws
+pub mod SearchLaws
+pub mod IndexLaws

@@ -1,0 +1,14 @@
+//! The user's items that an edit touches, found from what its undos list: nothing else is looked at.
+#![tactic(auto)]
+
+mod changed;
+mod differing;
+mod found;
+mod listed;
+mod same;
+mod separating;
+
+pub use changed::{changed_variables, own_variables};
+pub use differing::{Contents, Differing, compare_listed};
+pub use found::{Found, find_items};
+pub use listed::{Listed, list_undos};
