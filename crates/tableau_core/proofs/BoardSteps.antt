@@ -1,8 +1,8 @@
 -- What is read of a board as it is kept, before and after a pivot.
-use Rattle.std.specs.Prelude.{◌≡◌, ℕ, zero, suc, ◌+◌, ◌<◌, Bool, not, List, [], ◌∷◌, length, map, take, slice_index_or, slice_set, refl}
-use Rattle.std.proofs.Common.{sym, ◌∙◌, ap, ap₂, arith, subst}
+use Rattle.std.specs.Prelude.{◌≡◌, ℕ, zero, suc, ◌+◌, ◌<◌, Bool, not, nat_lt, Option, None, Some, List, [], ◌∷◌, length, map, take, slice_index_or, slice_set, refl}
+use Rattle.std.proofs.Common.{sym, ◌∙◌, ap, ap₂, arith, subst, IfSome}
 use Rattle.std.proofs.lemmas.List.{length-map}
-use Rattle.ratio_core.specs.Rational.{Rational, rational_eq, zero_ℚ}
+use Rattle.ratio_core.specs.Rational.{Rational, rational_eq, zero_ℚ, ◌/ℚ◌, ◌‹ℚ◌}
 use Rattle.tableau_core.specs.declared.dense_board.DenseBoard.TheInside.{Inside}
 use Rattle.tableau_core.specs.declared.kept.Row.{Row}
 use Rattle.tableau_core.specs.Row.{AllFit, cell}
@@ -14,9 +14,11 @@ use Rattle.tableau_core.specs.KeptLaws.{column_kept, pivoted_read, row_kept, tes
 use Rattle.tableau_core.specs.Numbers.{IsSettled, Numbers, kept_readings, numbers_fit}
 use Rattle.simplex_form.specs.Fit.{pivot_fits}
 use Rattle.simplex_form.specs.Readings.{Agrees}
-use Rattle.simplex_form.specs.Search.{least_below}
-use Rattle.simplex_form.specs.Turns.{swept_column}
-use Rattle.simplex_laws.specs.SearchLaws.{least_below_same}
+use Rattle.simplex_form.specs.Search.{best_below, least_below}
+use Rattle.simplex_form.specs.Turns.{is_below, swept_column}
+use Rattle.simplex_form.specs.Turns as bland
+use Rattle.simplex_laws.specs.SearchLaws.{best_below_same, least_below_same}
+use Rattle.tableau_core.specs.Leaving.{IsCandidate, comes_before, leaves_before, may_leave}
 
 abbrev pub numbers_of : Inside → Numbers
 numbers_of a = numbers_in a.rows.items a.first.now.items a.second.now.items
@@ -71,6 +73,37 @@ swept_is a r row items t view b is e =
     ∙ sym (ap numbers (read_at a.rows.items r row b)))
     ∙ sym (kept_entry (width_of a) a.rows.items r j (omega (arith, c)))))
     ∙ ap (λ t. swept_column (readings_of t) r) view
+
+-- the row that leaves is that of what is read
+pub leaving_is : (a : Inside) (q : ℕ) (t : Contents) → contents_of a ≡ t → q < width_of a
+    → best_below (length a.rows.items) (may_leave a.rows.items q)
+    (leaves_before a.rows.items a.basis.items (width_of a) q) ≡ bland.leaving (readings_of t) q
+leaving_is a q t view b =
+    let R = readings_of (contents_of a) in
+    let w = width_of a in
+    let rows = a.rows.items in
+    best_below_same (may_leave rows q) (bland.may_leave R q)
+    (leaves_before rows a.basis.items w q) (bland.leaves_before R q) (length rows)
+    (λ i c. ap (is_below zero_ℚ) (sym (kept_entry w rows i q b)))
+    (λ i k c d z.
+    comes_before
+    (sym (kept_right w rows i) z /ℚ sym (kept_entry w rows i q b) z)
+    (sym (kept_right w rows k) z /ℚ sym (kept_entry w rows k q b) z)
+    (nat_lt (slice_index_or a.basis.items i 0) (slice_index_or a.basis.items k 0)))
+    ∙ ap (λ n. best_below n (bland.may_leave R q) (bland.leaves_before R q)) (sym (count_is w rows))
+    ∙ ap (λ t. bland.leaving (readings_of t) q) view
+
+pub leaving_row : (a : Inside) (q : ℕ) (t : Contents) (rows : List Row) (o : Option ℕ)
+    → contents_of a ≡ t → rows ≡ a.rows.items → q < width_of a
+    → IfSome o (λ r. IsCandidate rows q r)
+    → IfSome o (λ r. (r < length t.rows) × (zero_ℚ ‹ℚ (readings_of t).entry q r))
+leaving_row a q t rows None view is b h = h
+leaving_row a q t rows (Some r) view is b h =
+    subst (λ t. (r < length t.rows) × (zero_ℚ ‹ℚ (readings_of t).entry q r)) view (
+      subst (λ n. r < n) (ap length is ∙ sym (count_is (width_of a) a.rows.items)) h.within,
+      subst (λ x. zero_ℚ ‹ℚ x) (ap (λ l. cell (now_at l r) q) is
+          ∙ sym (kept_entry (width_of a) a.rows.items r q b)) h.above,
+    )
 
 -- a row and a column of the value are within what is kept
 module _ (a : Inside) (t : Contents) where

@@ -5,3 +5,4 @@ pub mod SettleSteps
 pub mod BoardSteps
 pub mod StartSteps
 pub mod ListSteps
+pub mod Comparing

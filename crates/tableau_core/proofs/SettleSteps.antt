@@ -30,7 +30,7 @@ module _ (before middle : List Row) (r q : ℕ) (step : List Rational) (new : Ro
       first_low second_low =
       settled_by w r q in_first (numbers_in before first.now.items second.now.items)
       (numbers_in (slice_set middle r new) first_after second_after) (cell step)
-      (λ j. ap (λ l. cell l j) new_row)
+      (λ j b. ap (λ l. cell l j) new_row)
       (λ j b. ready.divided.cells j (subst (λ n. j < n) (sym (wide r row)) b))
       (λ i b m. less (w + 1) (now_at before i) (now_at (slice_set middle r new) i) (wide i b)
       (subst (λ o. IsLowered (cell (now_at before i) q) step (now_at before i) (numbers o))

@@ -64,21 +64,22 @@ refused (Err x) P Q e h = h
 
 -- what was worked out with the step is so with the new row r, which is the step
 pub settled_by : (w r q : ℕ) (in_first : Bool) (K L : Numbers) (step : ℕ → Rational)
-    → ((j : ℕ) → L.number r j ≡ step j)
+    → ((j : ℕ) → j < w + 1 → L.number r j ≡ step j)
     → ((j : ℕ) → j < w + 1 → step j ≡ quotient_at K.number r q j)
     → ((i : ℕ) → i < K.rows → ¬ (i ≡ r) → AreLess (w + 1) q step (K.number i) (L.number i))
     → (IsTrue in_first → AreLess w q step K.first L.first) → AreLess w q step K.second L.second
     → IsSettled w r q in_first K L
 settled_by w r q in_first K L step is divided others first second = record {
-  divided = λ j b. is j ∙ divided j b;
-  others = λ i b n. by_row (w + 1) (K.number i) (L.number i) (others i b n);
-  first_lowered = λ u. by_row w K.first L.first (first u);
-  second_lowered = by_row w K.second L.second second;
+  divided = λ j b. is j b ∙ divided j b;
+  others = λ i b n. by_row (w + 1) (λ j c. c) (K.number i) (L.number i) (others i b n);
+  first_lowered = λ u. by_row w (λ j c. omega (arith, c)) K.first L.first (first u);
+  second_lowered = by_row w (λ j c. omega (arith, c)) K.second L.second second;
 }
   where
-    by_row : (n : ℕ) (before after : ℕ → Rational) → AreLess n q step before after
-        → AreLess n q (L.number r) before after
-    by_row n before after l j b = l j b ∙ ap (λ x. before j -ℚ before q *ℚ x) (sym (is j))
+    by_row : (n : ℕ) → ((j : ℕ) → j < n → j < w + 1) → (before after : ℕ → Rational)
+        → AreLess n q step before after → AreLess n q (L.number r) before after
+    by_row n few before after l j b =
+        l j b ∙ ap (λ x. before j -ℚ before q *ℚ x) (sym (is j (few j b)))
 
 module _ (c : ℕ) (basis : List ℕ) (K L : Numbers) (r q : ℕ) (in_first : Bool)
     (s : IsSettled (c + K.rows) r q in_first K L) where

@@ -17,3 +17,4 @@ pub mod ListLaws
 pub mod LoweringLaws
 pub mod StartLaws
 pub mod TermSteps
+pub mod Leaving

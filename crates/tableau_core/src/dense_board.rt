@@ -1,9 +1,9 @@
 //! The dense board: each row is kept whole.
 
-use crate::fault::BoardOverflow;
 use crate::kept::{Row, zeros};
 use crate::pivoting::{prepare_pivot, settle_pivot};
 use crate::places::room_for_places;
+use crate::ratio_test::leaving;
 use crate::scan::{first_negative, first_nonzero};
 use crate::start::{first_prices, second_prices, start_basis, start_rows};
 use crate::tableau::Tableau;
@@ -109,11 +109,16 @@ impl Tableau for DenseBoard {
         }
     }
 
+    fn leaving(&self, q: usize) -> Option<usize> {
+        let side = self.second.now.len();
+        leaving(&self.rows, &self.basis, side, q)
+    }
+
     fn swept_column(&self, r: usize) -> Option<usize> {
         first_nonzero(&self.rows[r].now, self.reals)
     }
 
-    fn pivot(&mut self, r: usize, q: usize) -> Result<(), BoardOverflow> {
+    fn pivot(&mut self, r: usize, q: usize) -> Result<(), NumberFault> {
         let used = prepare_pivot(
             &mut self.rows,
             self.in_first,

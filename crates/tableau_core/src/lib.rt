@@ -7,6 +7,7 @@ mod fault;
 mod kept;
 mod pivoting;
 mod places;
+mod ratio_test;
 mod row;
 mod rows;
 mod scan;

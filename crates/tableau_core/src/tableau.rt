@@ -1,13 +1,12 @@
 //! What the simplex asks of a board.
-ghost use Rattle.std.specs.Prelude.{◌≡◌, ◌≢◌, ◌*◌, ◌<◌, ◌⊎◌, IsTrue, All, false, true, length, is_ok, IfOk, IfSome, IsErrOf, MatchResult, OnOk};
-ghost use Rattle.ratio_core.specs.Rational.{zero_ℚ, ◌≤ℚ◌};
+ghost use Rattle.std.specs.Prelude.{◌≡◌, ◌≢◌, ◌*◌, ◌<◌, ◌⊎◌, IsTrue, All, false, true, length, IfOk, IfSome, IsErrOf, MatchResult, OnOk};
+ghost use Rattle.ratio_core.specs.Rational.{zero_ℚ, ◌≤ℚ◌, ◌‹ℚ◌};
 ghost use Rattle.simplex_form.specs.Basis.{start};
 ghost use Rattle.simplex_form.specs.Fit.{pivot_fits, start_fits};
 ghost use Rattle.simplex_form.specs.Turns as bland;
 ghost use Rattle.tableau_core.specs.Contents.{Contents, IsBoardOf, IsPivoted, prices_of, readings_of, width};
 ghost use Rattle.tableau_core.specs.Start.{form_of};
 
-use crate::fault::BoardOverflow;
 use ratio_core::{NumberFault, Ratio};
 use sparse_ratios::SparseRatios;
 use std::alloc::Global;
@@ -81,6 +80,14 @@ pub trait Tableau: Sized {
             result ≡ bland.entering (readings_of t) (prices_of phase t) }
         ensures real { IfSome result (λ q. q < (contents self.now).reals) };
 
+    /// The row of least ratio of its right side to its positive entry of column `q`, and of these
+    /// that of least basic column.
+    fn leaving(&self, q: usize) -> Option<usize>
+        requires column { q < width (contents self.now) }
+        ensures value { result ≡ bland.leaving (readings_of (contents self.now)) q }
+        ensures row { let t = contents self.now in IfSome result (λ r.
+            (r < length t.rows) × (zero_ℚ ‹ℚ (readings_of t).entry q r)) };
+
     /// The least real column whose entry in row `r` isn't 0.
     fn swept_column(&self, r: usize) -> Option<usize>
         requires row { r < length (contents self.now).rows }
@@ -88,14 +95,16 @@ pub trait Tableau: Sized {
         ensures entry { let t = contents self.now in IfSome result (λ q.
             (q < t.reals) × ¬ ((readings_of t).entry q r ≡ zero_ℚ)) };
 
-    /// Column `q` enters in row `r`, or nothing changes where a quotient, product or difference
-    /// doesn't fit. Takes no memory.
-    fn pivot(&mut self, r: usize, q: usize) -> Result<(), BoardOverflow>
+    /// Column `q` enters in row `r`, or nothing changes: Overflow where a quotient, product or
+    /// difference doesn't fit, and Memory where there is no room for numbers that become longer.
+    fn pivot(&mut self, r: usize, q: usize) -> Result<(), NumberFault>
         requires row { r < length (contents self.old).rows }
         requires column { q < width (contents self.old) }
         requires nonzero { (readings_of (contents self.old)).entry q r ≢ zero_ℚ }
         ensures fits { let t = contents self.old in
-            is_ok result ≡ pivot_fits t.in_first (readings_of t) r q }
+            OnOk result (pivot_fits t.in_first (readings_of t) r q ≡ true) }
+        ensures overflow { let t = contents self.old in IsErrOf result NumberFault.Overflow
+            → pivot_fits t.in_first (readings_of t) r q ≡ false }
         ensures board { MatchResult result
             (λ _. IsPivoted r q (contents self.old) (contents self.new))
             (λ _. contents self.new ≡ contents self.old) };

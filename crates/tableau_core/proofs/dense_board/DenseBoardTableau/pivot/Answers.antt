@@ -9,27 +9,25 @@ use Rattle.tableau_core.specs.Rows.{AreWide, now_at, numbers_in}
 use Rattle.tableau_core.specs.Numbers.{IsSettled, numbers_fit}
 use Rattle.tableau_core.specs.Kept.{width_of}
 use Rattle.tableau_core.specs.Pivoting.{IsReady}
-use Rattle.tableau_core.specs.LoweringLaws.{is_ok-err}
 use Rattle.tableau_core.specs.KeptLaws.{refused}
 use Rattle.tableau_core.proofs.BoardSteps.{kept_after, numbers_same, pivoted_all, tests_same, view_same, wide_after}
 use Rattle.tableau_core.proofs.dense_board.DenseBoardTableau.pivot.Goals as goal
 
-pub returns-in_err-used-clause-fits : goal.returns-in_err-used-clause-fits
-returns-in_err-used-clause-fits c =
-    let a = c.self.inside in
-    is_ok-err c.from_residual.result c.from_residual.ensures.0
-    ∙ c.in_err-used.ensures.fits
+pub returns-in_err-used-clause-overflow : goal.returns-in_err-used-clause-overflow
+returns-in_err-used-clause-overflow c =
+    let a = c.self.inside in λ _.
+    sym (c.in_err-used.ensures.fits
     ∙ (λ k. numbers_fit (c.self.invariant.second k) c.args.r c.args.q a.in_first
     (numbers_in (c.deref_mut.ensures.value k) a.first.now.items a.second.now.items))
-    ∙ tests_same a c.args.self.now c.args.r c.args.q c.self.view_is c.requires.row c.requires.column
+    ∙ tests_same a c.args.self.now c.args.r c.args.q c.self.view_is c.requires.row c.requires.column)
 
 pub returns-clause-fits : goal.returns-clause-fits
 returns-clause-fits c =
     let a = c.self.inside in
-    c.in_ok-used.ensures.fits
+    sym (c.in_ok-used.ensures.fits
     ∙ (λ k. numbers_fit (c.self.invariant.second k) c.args.r c.args.q a.in_first
     (numbers_in (c.deref_mut.ensures.value k) a.first.now.items a.second.now.items))
-    ∙ tests_same a c.args.self.now c.args.r c.args.q c.self.view_is c.requires.row c.requires.column
+    ∙ tests_same a c.args.self.now c.args.r c.args.q c.self.view_is c.requires.row c.requires.column)
 
 pub invariant_of-self : goal.invariant_of-self
 invariant_of-self c =
