@@ -1,27 +1,31 @@
 -- What is read of a board as it is kept, before and after a pivot.
-use Rattle.std.specs.Prelude.{◌≡◌, ℕ, zero, suc, ◌+◌, ◌*◌, ◌<◌, ◌^◌, Bool, false, not, nat_eq, List, [], ◌∷◌, length, map, Option, Some, None, slice_index_or, slice_set, vec_len, refl}
+use Rattle.std.specs.Prelude.{◌≡◌, ℕ, zero, suc, ◌+◌, ◌*◌, ◌<◌, ◌^◌, Bool, false, not, nat_eq, nat_lt, IfSome, List, [], ◌∷◌, length, map, Option, Some, None, slice_index_or, slice_set, vec_len, refl}
 use Rattle.std.proofs.Common.{sym, ◌∙◌, ap, ap₂, arith, subst}
 use Rattle.std.proofs.lemmas.Bool.{cond-false, ne_eqb}
 use Rattle.std.proofs.lemmas.List.{get_or_default, length-map}
 use Rattle.std.proofs.lemmas.List.FromFn.{get_or-map-range_with_len}
-use Rattle.ratio_core.specs.Rational.{Rational, rational_eq, zero_ℚ}
+use Rattle.ratio_core.specs.Rational.{Rational, rational_eq, zero_ℚ, ◌/ℚ◌, ◌‹ℚ◌}
 use Rattle.simplex_form.specs.Fit.{pivot_fits}
 use Rattle.simplex_form.specs.Readings.{Agrees}
-use Rattle.simplex_form.specs.Search.{least_below}
+use Rattle.simplex_form.specs.Search.{best_below, least_below}
 use Rattle.simplex_form.specs.Turns.{entering, is_below, swept_column}
+use Rattle.simplex_form.specs.Turns as bland
 use Rattle.simplex_laws.specs.AgreementLaws.{real_column}
-use Rattle.simplex_laws.specs.SearchLaws.{least_below_same}
+use Rattle.simplex_laws.specs.SearchLaws.{best_below_same, least_below_same}
 use Rattle.tableau_core.specs.Row.{cell}
 use Rattle.tableau_core.specs.Contents.{Contents, IsPivoted, prices_of, readings_of, width}
+use Rattle.tableau_core.specs.Leaving.{comes_before}
 use Rattle.tableau_core.specs.KeptLaws.{column_kept, pivoted_read, row_kept, tests_read}
 use Rattle.tableau_core.specs.Numbers.{IsSettled, Numbers, kept_readings, numbers_fit}
 use Rattle.sparse_board.specs.declared.board.Board.TheInside.{Inside}
 use Rattle.sparse_board.specs.declared.row.Row.{Row}
-use Rattle.sparse_board.specs.declared.sparse_row.SparseRow.{SparseRow}
-use Rattle.sparse_board.specs.Numbers.{number_of, width_of}
+use Rattle.sparse_board.specs.declared.mixed_row.MixedRow.{MixedRow}
+use Rattle.sparse_board.specs.declared.step.Step.{Step}
+use Rattle.sparse_board.specs.Mixed.{number_of, width_of}
 use Rattle.sparse_board.specs.Rows.{AreWide, SameNow, number_in_row, numbers, numbers_in, width_at}
 use Rattle.sparse_board.specs.Marks.{AreMarked, is_marked}
 use Rattle.sparse_board.specs.Pivoting.{IsReady}
+use Rattle.sparse_board.specs.Leaving.{IsCandidate, leaves_before, may_leave}
 use Rattle.sparse_board.proofs.MarkSteps.{place_below}
 use Rattle.sparse_board.proofs.RowsSteps.{row_is}
 use Rattle.sparse_board.specs.Kept.{IsKept, columns_of, contents_of, listed}
@@ -89,11 +93,11 @@ module _ (a : Inside) (t : Contents) where
 
 -- ---- nothing has changed
 
-abbrev read_of : {X : Type 0} → X → (SparseRow → X) → Option SparseRow → X
+abbrev read_of : {X : Type 0} → X → (MixedRow → X) → Option MixedRow → X
 read_of d f None = d
 read_of d f (Some row) = f row
 
-standing_same : {X : Type 0} (f : SparseRow → X) (rows others : List Row)
+standing_same : {X : Type 0} (f : MixedRow → X) (rows others : List Row)
     → length rows ≡ length others → SameNow others rows
     → map (λ row. f row.now) rows ≡ map (λ row. f row.now) others
 standing_same f [] [] e h = refl
@@ -131,7 +135,7 @@ wide_after before after n count rows wide i b =
     ap width_at (rows i) ∙ wide i (subst (λ k. i < k) count b)
 
 -- the numbers of rows that stand as they did
-pub numbers_same : (a : Inside) (rows : List Row) (first second : SparseRow)
+pub numbers_same : (a : Inside) (rows : List Row) (first second : MixedRow)
     → length rows ≡ length a.rows.items → SameNow a.rows.items rows → first ≡ a.first.now
     → second ≡ a.second.now → numbers_in rows first second ≡ numbers_of a
 numbers_same a rows first second count same first_is second_is = λ k. record {
@@ -150,7 +154,7 @@ module _ (a b : Inside) (reals : b.reals ≡ a.reals)
 
   pub kept_after : IsKept a → AreWide (columns_of a + 1) b.rows.items
       → width_of b.first.now ≡ width_of a.first.now → width_of b.second.now ≡ width_of a.second.now
-      → width_of b.step ≡ width_of a.step → length b.basis.items ≡ length a.basis.items
+      → b.step.width ≡ a.step.width → length b.basis.items ≡ length a.basis.items
       → length b.marks.items ≡ length a.marks.items
       → AreMarked (columns_of a + 1) b.marks.items b.rows.items → IsKept b
   kept_after h wide first second step basis marks marked = record {
@@ -300,9 +304,41 @@ marked_read a h r q n item b c e is =
 -- ---- what was worked out, of rows and marks that are the same
 
 pub ready_same : (rows old_rows : List Row) (r q : ℕ) (marks old_marks : List Bool)
-    (in_first : Bool) (first second : Row) (step : SparseRow) → rows ≡ old_rows → marks ≡ old_marks
+    (in_first : Bool) (first second : Row) (step : Step) → rows ≡ old_rows → marks ≡ old_marks
     → IsReady old_rows r q old_marks in_first first second step
     → IsReady rows r q marks in_first first second step
 ready_same rows old_rows r q marks old_marks in_first first second step e f h =
     subst (λ l. IsReady l r q marks in_first first second step) (sym e)
     (subst (λ l. IsReady old_rows r q l in_first first second step) (sym f) h)
+
+-- ---- the row that leaves is that of what is read
+
+pub leaving_is : (a : Inside) (q : ℕ) (t : Contents) → contents_of a ≡ t → q < columns_of a
+    → best_below (length a.rows.items) (may_leave a.rows.items q)
+    (leaves_before a.rows.items a.basis.items (columns_of a) q) ≡ bland.leaving (readings_of t) q
+leaving_is a q t view b =
+    let R = readings_of (contents_of a) in
+    let w = columns_of a in
+    let rows = a.rows.items in
+    best_below_same (may_leave rows q) (bland.may_leave R q)
+    (leaves_before rows a.basis.items w q) (bland.leaves_before R q) (length rows)
+    (λ i c. ap (is_below zero_ℚ) (sym (kept_entry w rows i q b)))
+    (λ i k c d z.
+    comes_before
+    (sym (kept_right w rows i) z /ℚ sym (kept_entry w rows i q b) z)
+    (sym (kept_right w rows k) z /ℚ sym (kept_entry w rows k q b) z)
+    (nat_lt (slice_index_or a.basis.items i 0) (slice_index_or a.basis.items k 0)))
+    ∙ ap (λ n. best_below n (bland.may_leave R q) (bland.leaves_before R q)) (sym (count_is w rows))
+    ∙ ap (λ t. bland.leaving (readings_of t) q) view
+
+pub leaving_row : (a : Inside) (q : ℕ) (t : Contents) (rows : List Row) (o : Option ℕ)
+    → contents_of a ≡ t → rows ≡ a.rows.items → q < columns_of a
+    → IfSome o (λ r. IsCandidate rows q r)
+    → IfSome o (λ r. (r < length t.rows) × (zero_ℚ ‹ℚ (readings_of t).entry q r))
+leaving_row a q t rows None view is b h = h
+leaving_row a q t rows (Some r) view is b h =
+    subst (λ t. (r < length t.rows) × (zero_ℚ ‹ℚ (readings_of t).entry q r)) view (
+      subst (λ n. r < n) (ap length is ∙ sym (count_is (columns_of a) a.rows.items)) h.within,
+      subst (λ x. zero_ℚ ‹ℚ x) (ap (λ l. number_in_row l r q) is
+          ∙ sym (kept_entry (columns_of a) a.rows.items r q b)) h.above,
+    )

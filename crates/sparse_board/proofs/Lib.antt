@@ -2,9 +2,15 @@ pub mod NumberLemmas
 pub mod HeldLemmas
 pub mod RowSteps
 pub mod LoweringSteps
+pub mod TestSteps
 pub mod RowsSteps
 pub mod PivotSteps
 pub mod BoardSteps
 pub mod StartSteps
 pub mod ScanSteps
 pub mod MarkSteps
+pub mod MixedSteps
+pub mod LeavingSteps
+pub mod NarrowingSteps
+pub mod EachSteps
+pub mod WideSteps

@@ -1,18 +1,24 @@
 -- Marks that are set one after another.
-use Rattle.std.specs.Prelude.{◌≡◌, ℕ, ◌+◌, ◌*◌, ◌<◌, ◌≤◌, Bool, true, false, ◌||◌, ◌⊎◌, List, length, slice_index, slice_index_or, slice_set, Some, refl}
+use Rattle.std.specs.Prelude.{◌≡◌, ℕ, ◌+◌, ◌*◌, ◌<◌, ◌≤◌, Bool, true, false, ◌||◌, not, ◌⊎◌, List, length, min, pos, slice_index, slice_index_or, slice_set, take, Some, refl}
 use Rattle.std.proofs.Common.{sym, ◌∙◌, ap, arith, subst, inl, inr, true≢false}
-use Rattle.std.proofs.lemmas.List.{get_or-set_other, get_or-set_same, length-set}
+use Rattle.std.proofs.lemmas.List.{get_or-set_other, get_or-set_same, get_or-take, get_or_default, length-set, length-take}
 use Rattle.std.proofs.lemmas.Nat.{mul-add-lt, mul-le}
-use Rattle.std.proofs.lemmas.Bool.{or_left, or_right}
-use Rattle.ratio_core.specs.Rational.{inverse_ℚ, zero_ℚ, ◌*ℚ◌, ◌/ℚ◌}
+use Rattle.std.proofs.lemmas.Bool.{cases_lt, or_left, or_right}
+use Rattle.ratio_core.specs.Rational.{Rational, inverse_ℚ, rational_eq, reduce, zero_ℚ, ◌*ℚ◌, ◌/ℚ◌}
 use Rattle.rational_laws.specs.Field.{zero-*ℚ}
+use Rattle.rational_laws.specs.Over.{over-zero_ℚ}
+use Rattle.rational_laws.specs.Tests.{zero_from_test}
 use Rattle.simplex_laws.specs.BoundedSumLaws.{same_or_other}
 use Rattle.tableau_core.specs.LoweringLaws.{lowered-zero, step-zero, zero-step}
 use Rattle.sparse_board.specs.declared.row.Row.{Row}
+use Rattle.sparse_board.specs.declared.mixed_row.MixedRow.{MixedRow}
 use Rattle.sparse_board.specs.declared.sparse_row.SparseRow.{SparseRow}
+use Rattle.sparse_board.specs.Mixed as mixed
+use Rattle.whole_rows.specs.Rows as whole
+use Rattle.whole_rows.specs.declared.step.NarrowStep.{NarrowStep}
 use Rattle.sparse_board.specs.Numbers.{number_of, row_columns, row_values, width_of}
 use Rattle.sparse_board.specs.Rows.{AreLowered, AreWide, now_at, now_of, number_in_row, numbers}
-use Rattle.sparse_board.specs.Marks.{AreMarked, KeepMarks, MarksRow, MarksUnits, is_marked}
+use Rattle.sparse_board.specs.Marks.{AreMarked, KeepMarks, MarksNumbers, MarksRow, MarksUnits, is_marked}
 use Rattle.tableau_core.specs.Numbers.{quotient_at}
 use Rattle.sparse_board.proofs.NumberLemmas.{number_missing, sought}
 use Rattle.tableau_core.specs.ItemLaws.{written_at, written_off}
@@ -79,7 +85,7 @@ marked_more columns i m old marks k h b =
 
 pub marked_all : (row : SparseRow) (i m : ℕ) (old marks : List Bool) (k : ℕ)
     → k ≡ length (row_columns row) → IsMarkedTo (row_columns row) i m old marks k
-    → MarksRow row i m marks
+    → MarksNumbers (width_of row) (number_of row) i m marks
 marked_all row i m old marks k all h j b e = by_place (sought (row_columns row) j k)
   where
     by_place : ((l : ℕ) × (l < k) × (slice_index (row_columns row) l ≡ j)) ⊎ ((l : ℕ) → l < k
@@ -98,8 +104,8 @@ pub record AreMarkedTo (w : ℕ) (marks : List Bool) (rows : List Row) (i : ℕ)
   pub marked : (k : ℕ) → k < i → (j : ℕ) → j < w → is_marked marks (length rows) j k ≡ false
       → number_in_row rows k j ≡ zero_ℚ
 
-pub rows_marked_more : (w : ℕ) (marks new : List Bool) (rows : List Row) (i : ℕ) (row : SparseRow)
-    → AreMarkedTo w marks rows i → now_at rows i ≡ Some row → width_of row ≡ w
+pub rows_marked_more : (w : ℕ) (marks new : List Bool) (rows : List Row) (i : ℕ) (row : MixedRow)
+    → AreMarkedTo w marks rows i → now_at rows i ≡ Some row → mixed.width_of row ≡ w
     → length new ≡ length marks → KeepMarks marks new → MarksRow row i (length rows) new
     → AreMarkedTo w new rows (i + 1)
 rows_marked_more w marks new rows i row h is wide long kept marked = record {
@@ -195,13 +201,14 @@ step_marked_all step w q m old marks k all h i b p j c e = by_place (sought (row
 
 -- ---- after a pivot
 
-module _ (w r q : ℕ) (before middle : List Row) (step : SparseRow) (new : Row)
+module _ (w r q : ℕ) (before middle : List Row) (units : ℕ → Rational) (new : Row)
     (old marks : List Bool) (count : length middle ≡ length before) (row : r < length before)
-    (is : new.now ≡ step) (wide : AreWide w before) (column : q < w)
+    (is : (j : ℕ) → j < w → mixed.number_of new.now j ≡ units j)
+    (wide : AreWide w before) (column : q < w)
     (marked : AreMarked w old before) (kept : KeepMarks old marks)
-    (made : MarksUnits w q (length before) (number_of step) old marks) where
-  pub marked_after : ((j : ℕ) → j < w → number_of step j ≡ quotient_at (number_in_row before) r q j)
-      → AreLowered r q (number_of step) before middle → AreMarked w marks (slice_set middle r new)
+    (made : MarksUnits w q (length before) units old marks) where
+  pub marked_after : ((j : ℕ) → j < w → units j ≡ quotient_at (number_in_row before) r q j)
+      → AreLowered r q units before middle → AreMarked w marks (slice_set middle r new)
   marked_after divided low i b j c e =
       let here : i < length before = subst (λ n. i < n) many b in
       let was : is_marked old (length before) j i ≡ false =
@@ -210,13 +217,13 @@ module _ (w r q : ℕ) (before middle : List Row) (step : SparseRow) (new : Row)
       same_or_other (number_in_row (slice_set middle r new) i j ≡ zero_ℚ) i r
       (λ f. subst (λ n. number_in_row (slice_set middle r new) n j ≡ zero_ℚ) (sym f)
       (ap (λ o. numbers (now_of o) j) (written_at middle r new (subst (λ n. r < n) (sym count) row))
-      ∙ ap (λ s. number_of s j) is ∙ divided j c
+      ∙ is j c ∙ divided j c
       ∙ ap (λ x. x /ℚ number_in_row before r q)
       (marked r row j c (subst (λ n. is_marked old (length before) j n ≡ false) f was))
       ∙ zero-*ℚ (inverse_ℚ (number_in_row before r q))))
       (λ m. ap (λ o. numbers (now_of o) j) (written_off middle r i new m)
       ∙ low i here m j (subst (λ n. j < n) (sym (wide i here)) c)
-      ∙ lowered-zero (number_in_row before i j) (number_in_row before i q) (number_of step j)
+      ∙ lowered-zero (number_in_row before i j) (number_in_row before i q) (units j)
       (no_product i here j c (subst (λ n. is_marked marks n j i ≡ false) many e))
       ∙ marked i here j c was)
     where
@@ -225,12 +232,136 @@ module _ (w r q : ℕ) (before middle : List Row) (step : SparseRow) (new : Row)
 
       no_product : (i : ℕ) → i < length before → (j : ℕ) → j < w
           → is_marked marks (length before) j i ≡ false
-          → number_in_row before i q *ℚ number_of step j ≡ zero_ℚ
+          → number_in_row before i q *ℚ units j ≡ zero_ℚ
       no_product i b j c e = by_test (is_marked old (length before) q i) refl
         where
           by_test : (t : Bool) → is_marked old (length before) q i ≡ t
-              → number_in_row before i q *ℚ number_of step j ≡ zero_ℚ
+              → number_in_row before i q *ℚ units j ≡ zero_ℚ
           by_test true f =
-              step-zero (number_in_row before i q) (number_of step j) (made i b f j c e)
+              step-zero (number_in_row before i q) (units j) (made i b f j c e)
           by_test false f =
-              zero-step (number_in_row before i q) (number_of step j) (marked i b q column f)
+              zero-step (number_in_row before i q) (units j) (marked i b q column f)
+
+-- ---- whole numbers marked up to a column
+
+pub record AreNumbersMarkedTo (numbers : ℕ → Rational) (i m : ℕ) (old marks : List Bool) (k : ℕ) :
+    Type 0 where
+  pub long : length marks ≡ length old
+  pub kept : KeepMarks old marks
+  pub marked : (j : ℕ) → j < k → is_marked marks m j i ≡ false → numbers j ≡ zero_ℚ
+
+pub numbers_marked_none : (numbers : ℕ → Rational) (i m : ℕ) (old : List Bool)
+    → AreNumbersMarkedTo numbers i m old old 0
+numbers_marked_none numbers i m old =
+    record { long = refl; kept = keep_none old; marked = λ j b. absurd (omega (arith, b)) }
+
+pub numbers_marked_more : (numbers : ℕ → Rational) (i m : ℕ) (old marks : List Bool) (k : ℕ)
+    (t u : Bool) → AreNumbersMarkedTo numbers i m old marks k → k * m + i < length marks
+    → t ≡ (is_marked marks m k i || u) → u ≡ not (rational_eq (numbers k) zero_ℚ)
+    → AreNumbersMarkedTo numbers i m old (slice_set marks (k * m + i) t) (k + 1)
+numbers_marked_more numbers i m old marks k t u h b is told = record {
+  long = length-set marks p t ∙ h.long;
+  kept = keep_more old marks (slice_set marks p t) h.kept kept;
+  marked = λ j c e. same_or_other (numbers j ≡ zero_ℚ) j k
+      (λ f. subst (λ n. numbers n ≡ zero_ℚ) (sym f) (zero_from_test (numbers k) (sym told
+      ∙ right_false _ _
+      (sym is ∙ sym (get_or-set_same marks p t false b)
+      ∙ subst (λ n. is_marked (slice_set marks p t) m n i ≡ false) f e))))
+      (λ n. h.marked j (omega (arith, c, n))
+      (was_not marks (slice_set marks p t) kept (j * m + i) e));
+}
+  where
+    p : ℕ
+    p = k * m + i
+
+    kept : KeepMarks marks (slice_set marks p t)
+    kept = write_keeps marks p t b (λ e. is ∙ or_left _ _ e)
+
+    right_false : (a c : Bool) → (a || c) ≡ false → c ≡ false
+    right_false true c e = absurd (true≢false e)
+    right_false false c e = e
+
+-- columns of zeros are passed over
+pub numbers_marked_past : (numbers : ℕ → Rational) (i m : ℕ) (old marks : List Bool) (k to : ℕ)
+    → AreNumbersMarkedTo numbers i m old marks k
+    → ((j : ℕ) → k ≤ j → j < to → numbers j ≡ zero_ℚ)
+    → AreNumbersMarkedTo numbers i m old marks to
+numbers_marked_past numbers i m old marks k to h zeros = record {
+  long = h.long;
+  kept = h.kept;
+  marked = λ j c e. by_place j c e (cases_lt j k);
+}
+  where
+    by_place : (j : ℕ) → j < to → is_marked marks m j i ≡ false → (j < k) ⊎ (k ≤ j)
+        → numbers j ≡ zero_ℚ
+    by_place j c e (inl b) = h.marked j b e
+    by_place j c e (inr b) = zeros j b c
+
+-- the same units, in as many columns
+pub units_marked : (v w q m : ℕ) (units others : ℕ → Rational) (old new : List Bool) → v ≡ w
+    → ((j : ℕ) → others j ≡ units j) → MarksUnits v q m units old new
+    → MarksUnits w q m others old new
+units_marked v w q m units others old new e is h i b p j c f =
+    is j ∙ h i b p j (subst (λ n. j < n) (sym e) c) f
+
+-- the step's listed columns, and its right side
+module _ (step : NarrowStep) (q m : ℕ) (old marks new : List Bool) (k : ℕ) (all : k ≡ step.used)
+    (h : IsStepMarkedTo step.columns.items q m old marks k) (kept : KeepMarks marks new)
+    (side : (i : ℕ) → i < m → is_marked marks m q i ≡ true
+    → is_marked new m (whole.width_of step.row) i ≡ true) where
+  listed_is : (l : ℕ) → l < length (take step.used step.columns.items)
+      → (l < step.used) × (slice_index (take step.used step.columns.items) l
+      ≡ slice_index step.columns.items l)
+  listed_is l b =
+      let c : l < step.used = below_lem l (subst (λ n. l < n)
+      (length-take step.used step.columns.items) b) in
+      (c, get_or-take step.used step.columns.items l 0 c)
+    where
+      below_lem : (l : ℕ) → l < min step.used (length step.columns.items) → l < step.used
+      below_lem l c = omega (arith, c)
+
+  zero_numerator : (j : ℕ) → j < whole.width_of step.row
+      → slice_index_or step.row.numbers.items j (pos 0) ≡ pos 0
+      → whole.number_of step.row j ≡ zero_ℚ
+  zero_numerator j b z =
+      ap (λ n. reduce n step.row.den)
+      (get_or_default step.row.numbers.items j step.row.side (pos 0) b ∙ z)
+      ∙ sym (over-zero_ℚ step.row.den step.row.above)
+
+  pub narrow_marked : MarksUnits (whole.width_of step.row + 1) q m (whole.number_of step.row)
+      old new
+  narrow_marked i b p j c e = by_end (cases_lt j (whole.width_of step.row))
+    where
+      column : List ℕ
+      column = take step.used step.columns.items
+
+      by_place : j < whole.width_of step.row
+          → ((l : ℕ) × (l < length column) × (slice_index column l ≡ j))
+          ⊎ ((l : ℕ) → l < length column → ¬ (slice_index column l ≡ j))
+          → whole.number_of step.row j ≡ zero_ℚ
+      by_place d (inr none) = zero_numerator j d (step.lists.others j d none)
+      by_place d (inl f) =
+          let is = listed_is f.0 f.1 in
+          absurd (true≢false (sym (kept (j * m + i) (subst (λ n. is_marked marks m n i ≡ true)
+          (sym is.1 ∙ f.2) (h.marked f.0 (subst (λ n. f.0 < n) (sym all) is.0) i b p))) ∙ e))
+
+      by_end : (j < whole.width_of step.row) ⊎ (whole.width_of step.row ≤ j)
+          → whole.number_of step.row j ≡ zero_ℚ
+      by_end (inl d) = by_place d (sought column j (length column))
+      by_end (inr d) =
+          absurd (true≢false (sym (subst (λ n. is_marked new m n i ≡ true) (end_lem j _ c d)
+          (side i b (h.kept (q * m + i) p))) ∙ e))
+        where
+          end_lem : (j w : ℕ) → j < w + 1 → w ≤ j → w ≡ j
+          end_lem j w x y = omega (arith, x, y)
+
+-- a listed column is one of the step's
+pub listed_below : (step : NarrowStep) (k : ℕ) → k < step.used
+    → slice_index step.columns.items k < whole.width_of step.row
+listed_below step k b =
+    subst (λ n. n < whole.width_of step.row) (get_or-take step.used step.columns.items k 0 b)
+    (step.lists.within k (subst (λ n. k < n) (sym (length-take step.used step.columns.items
+    ∙ min_lem step.used (length step.columns.items) step.fits)) b))
+  where
+    min_lem : (a b : ℕ) → a ≤ b → min a b ≡ a
+    min_lem a b c = omega (arith, c)

@@ -7,63 +7,48 @@ use Rattle.tableau_core.specs.KeptLaws.{settled_by}
 use Rattle.tableau_core.specs.Numbers.{AreLess, IsSettled}
 use Rattle.tableau_core.specs.ItemLaws.{each_written, written_at, written_off}
 use Rattle.sparse_board.specs.declared.row.Row.{Row}
-use Rattle.sparse_board.specs.declared.sparse_row.SparseRow.{SparseRow}
-use Rattle.sparse_board.specs.Numbers.{number_of, width_of}
-use Rattle.sparse_board.specs.Lowering.{IsLowered, IsPrepared}
+use Rattle.sparse_board.specs.declared.mixed_row.MixedRow.{MixedRow}
+use Rattle.sparse_board.specs.declared.step.Step.{Step}
+use Rattle.sparse_board.specs.Mixed.{IsLowered, number_of, units_of, width_of}
 use Rattle.sparse_board.specs.Rows.{AreLowered, AreWide, SameWidths, now_at, now_of, numbers, numbers_in, width_at}
 use Rattle.sparse_board.specs.Pivoting.{IsReady}
 
 -- the other rows first, and then the pivot's
-module _ (before middle : List Row) (r : ℕ) (step : SparseRow) (new : Row)
-    (count : length middle ≡ length before) (row : r < length before) (is : new.now ≡ step) where
-  new_row : now_at (slice_set middle r new) r ≡ Some step
-  new_row = ap now_of (written_at middle r new (subst (λ n. r < n) (sym count) row)) ∙ ap Some is
+module _ (before middle : List Row) (r : ℕ) (step : Step) (new : Row)
+    (count : length middle ≡ length before) (row : r < length before) where
+  new_row : now_at (slice_set middle r new) r ≡ Some new.now
+  new_row = ap now_of (written_at middle r new (subst (λ n. r < n) (sym count) row))
 
-  pub settled-wide : (n : ℕ) → width_of step ≡ n → AreWide n before → SameWidths before middle
+  pub settled-wide : (n : ℕ) → width_of new.now ≡ n → AreWide n before → SameWidths before middle
       → AreWide n (slice_set middle r new)
   settled-wide n long wide same =
       each_written (λ i o. i < length (slice_set middle r new) → width_at (now_of o) ≡ n) middle r
       new (subst (λ k. r < k) (sym count) row)
-      (λ _. ap width_of is ∙ long) (λ i m b. same i
+      (λ _. long) (λ i m b. same i
       ∙ wide i (subst (λ k. i < k) (length-set middle r new ∙ count) b))
 
   module _ (w q : ℕ) (in_first : Bool) (first second first_next second_next : Row)
-      (wide : AreWide (w + 1) before) (long : width_of step ≡ w + 1) (marks : List Bool)
+      (wide : AreWide (w + 1) before) (long : step.width ≡ w + 1) (marks : List Bool)
       (ready : IsReady before r q marks in_first first second step)
-      (low : AreLowered r q (number_of step) before middle) where
-    lowered_by : (row next : SparseRow) → width_of row ≡ w
-        → IsLowered (number_of row q) (number_of step) row next
-        → AreLess w q (number_of step) (number_of row) (number_of next)
+      (is : (j : ℕ) → j < w + 1 → number_of new.now j ≡ units_of step j)
+      (low : AreLowered r q (units_of step) before middle) where
+    lowered_by : (row next : MixedRow) → width_of row ≡ w
+        → IsLowered (number_of row q) (units_of step) row next
+        → AreLess w q (units_of step) (number_of row) (number_of next)
     lowered_by row next e l j b = l.numbers j (subst (λ n. j < n) (sym e) b)
 
     pub settled-all : width_of first.now ≡ w → width_of second.now ≡ w
-        → (IsTrue in_first → IsLowered (number_of first.now q) (number_of step) first.now
+        → (IsTrue in_first → IsLowered (number_of first.now q) (units_of step) first.now
         first_next.now) → IsLowered (number_of second.now q)
-        (number_of step) second.now second_next.now
+        (units_of step) second.now second_next.now
         → IsSettled w r q in_first (numbers_in before first.now second.now)
         (numbers_in (slice_set middle r new) first_next.now second_next.now)
     settled-all f s first_low second_low =
         settled_by w r q in_first (numbers_in before first.now second.now)
-        (numbers_in (slice_set middle r new) first_next.now second_next.now) (number_of step)
-        (λ j. ap (λ o. numbers o j) new_row)
+        (numbers_in (slice_set middle r new) first_next.now second_next.now) (units_of step)
+        (λ j b. ap (λ o. numbers o j) new_row ∙ is j b)
         (λ j b. ready.divided j (subst (λ n. j < n) (sym long) b))
         (λ i b m j c. ap (λ o. numbers (now_of o) j) (written_off middle r i new m)
         ∙ low i b m j (subst (λ n. j < n) (sym (wide i b)) c))
         (λ u. lowered_by first.now first_next.now f (first_low u))
         (lowered_by second.now second_next.now s second_low)
-
--- units that agree in w columns
-pub prepared_same : (w q : ℕ) (u v : ℕ → Rational) (row : Row) → width_of row.now ≡ w
-    → ((j : ℕ) → j < w → u j ≡ v j) → IsPrepared q u row → IsPrepared q v row
-prepared_same w q u v row wide same prepared = by_flag row.changes prepared
-  where
-    by_flag : (b : Bool) → MatchBool b (IsLowered (number_of row.now q) u row.now row.next)
-        (number_of row.now q ≡ zero_ℚ)
-        → MatchBool b (IsLowered (number_of row.now q) v row.now row.next)
-        (number_of row.now q ≡ zero_ℚ)
-    by_flag true l = record {
-      width = l.width;
-      numbers = λ j b. l.numbers j b ∙ ap (λ x. number_of row.now j -ℚ number_of row.now q *ℚ x)
-          (same j (subst (λ n. j < n) wide b));
-    }
-    by_flag false z = z

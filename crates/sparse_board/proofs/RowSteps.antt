@@ -13,13 +13,11 @@ use Rattle.simplex_laws.specs.BoundedSumLaws.{same_or_other}
 use Rattle.simplex_laws.specs.SearchLaws.{all_below_all}
 use Rattle.tableau_core.specs.LoweringLaws.{lowered-zero, lowered_fits-zero, zero-step}
 use Rattle.tableau_core.specs.Row.{cell}
-use Rattle.sparse_board.specs.declared.row.Row.{Row}
 use Rattle.sparse_board.specs.declared.sparse_row.SparseRow.{SparseRow}
 use Rattle.sparse_board.specs.declared.entry.Entry.{Entry}
 use Rattle.sparse_board.specs.Sparse.{AreUnits, IsBelow, IsSparse, IsSplit, columns_in, number_among, number_in, values_in}
 use Rattle.sparse_board.specs.Numbers.{Adds, number_of, row_columns, row_values, width_of}
 use Rattle.tableau_core.specs.Numbers.{differences_fit}
-use Rattle.sparse_board.specs.Lowering.{IsLowered, IsPrepared}
 use Rattle.sparse_board.proofs.NumberLemmas.{below_added, below_taken, number_added, number_at_place, number_fits, number_kept, number_missing, number_past, number_taken, sparse_added, sparse_taken, within_added}
 use Rattle.sparse_board.proofs.HeldLemmas.{below_less}
 
@@ -253,18 +251,6 @@ zero_row_fits row w by units z =
     all_below_all w (λ j. lowered_fits (number_of row j) by (units j))
     (λ j b. lowered_fits-zero (number_of row j) by (units j) (zero-step by (units j) z)
     (number_fits (row_columns row) (row_values row) row.sparse.fit j))
-
-pub zero_row_stays : (row : Row) (q : ℕ) (units : ℕ → Rational) → row.changes ≡ false
-    → IsPrepared q units row → IsLowered (number_of row.now q) units row.now row.now
-zero_row_stays row q units e prepared =
-    let z : number_of row.now q ≡ zero_ℚ =
-    subst (λ b. MatchBool b (IsLowered (number_of row.now q) units row.now row.next)
-    (number_of row.now q ≡ zero_ℚ)) e prepared in
-    record {
-      width = refl;
-      numbers = λ j b. sym (lowered-zero (number_of row.now j) (number_of row.now q) (units j)
-          (zero-step (number_of row.now q) (units j) z));
-    }
 
 -- ---- what a vector's length and its items are
 

@@ -13,7 +13,9 @@ use Rattle.tableau_core.specs.Start.{IsListOf}
 use Rattle.tableau_core.specs.TermSteps.{AreLeft, all_left, column_past, column_within, left_after, number_there, place_past, zero_at_end, zero_before}
 use Rattle.tableau_core.specs.StartLaws.{real-entry, unit-entry, zero-entry}
 use Rattle.sparse_board.specs.declared.board.Board.TheInside.{Inside}
+use Rattle.sparse_board.specs.declared.mixed_row.MixedRow.{MixedRow}
 use Rattle.sparse_board.specs.declared.sparse_row.SparseRow.{SparseRow}
+use Rattle.sparse_board.specs.Mixed as mixed
 use Rattle.sparse_board.specs.Numbers.{Adds, HoldsBelow, number_of, row_columns, width_of}
 use Rattle.sparse_board.specs.Sparse.{IsBelow, columns_in}
 use Rattle.sparse_board.specs.Rows.{AreWide}
@@ -22,11 +24,12 @@ use Rattle.sparse_board.specs.Kept.{IsKept, columns_of}
 use Rattle.sparse_board.proofs.HeldLemmas.{below_less, held_next, held_past, held_same}
 
 -- a cost row has the numbers that it is made of
-pub costs_are : (n : ℕ) (f : ℕ → Rational) (numbers given : List Rational) (row : SparseRow)
-    → numbers ≡ given → IsListOf n f given → HoldsBelow (length numbers) (cell numbers) row
-    → (j : ℕ) → j < n → number_of row j ≡ f j
+pub costs_are : (n : ℕ) (f : ℕ → Rational) (numbers given : List Rational) (row : MixedRow)
+    → numbers ≡ given → IsListOf n f given
+    → ((j : ℕ) → j < length numbers → mixed.number_of row j ≡ cell numbers j)
+    → (j : ℕ) → j < n → mixed.number_of row j ≡ f j
 costs_are n f numbers given row e h held j b =
-    held.numbers j (subst (λ k. j < k) (sym (ap length e ∙ h.long)) b) ∙ ap (λ l. cell l j) e
+    held j (subst (λ k. j < k) (sym (ap length e ∙ h.long)) b) ∙ ap (λ l. cell l j) e
     ∙ h.cells j b
 
 module _ (F : Form) (i : ℕ) (row : i < F.rows) where
@@ -68,8 +71,8 @@ module _ (F : Form) (i : ℕ) (row : i < F.rows) where
       adds.elsewhere j (λ e. omega (arith, b, e)) ∙ held.numbers j b
 
 pub start-kept : (a : Inside) (m : ℕ) → length a.rows.items ≡ m → a.reals + m + 1 < 2 ^ 32
-    → AreWide (a.reals + m + 1) a.rows.items → width_of a.first.now ≡ a.reals + m
-    → width_of a.second.now ≡ a.reals + m → width_of a.step ≡ a.reals + m + 1
+    → AreWide (a.reals + m + 1) a.rows.items → mixed.width_of a.first.now ≡ a.reals + m
+    → mixed.width_of a.second.now ≡ a.reals + m → a.step.width ≡ a.reals + m + 1
     → length a.basis.items ≡ m → length a.marks.items ≡ (a.reals + m + 1) * length a.rows.items
     → AreMarked (a.reals + m + 1) a.marks.items a.rows.items → IsKept a
 start-kept a m count few wide first second step basis marks marked = record {

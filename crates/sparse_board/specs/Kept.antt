@@ -4,7 +4,7 @@ use Rattle.std.specs.List.{range_with_len}
 use Rattle.ratio_core.specs.Rational.{Rational}
 use Rattle.tableau_core.specs.Contents.{Contents}
 use Rattle.sparse_board.specs.declared.board.Board.TheInside.{Inside}
-use Rattle.sparse_board.specs.Numbers.{number_of, width_of}
+use Rattle.sparse_board.specs.Mixed.{number_of, width_of}
 use Rattle.sparse_board.specs.Rows.{AreWide}
 use Rattle.sparse_board.specs.Marks.{AreMarked}
 
@@ -32,7 +32,7 @@ contents_of a = record {
 pub record IsKept (a : Inside) : Type 0 where
   pub few : columns_of a + 1 < 2 ^ 32
   pub wide : AreWide (columns_of a + 1) a.rows.items
-  pub spare : width_of a.step ≡ columns_of a + 1
+  pub spare : a.step.width ≡ columns_of a + 1
   pub first : width_of a.first.now ≡ columns_of a
   pub second : width_of a.second.now ≡ columns_of a
   pub basis : length a.basis.items ≡ length a.rows.items

@@ -1,8 +1,11 @@
 -- What the contracts cite.
 pub mod Sparse
 pub mod Numbers
+pub mod Mixed
 pub mod Lowering
 pub mod Rows
 pub mod Marks
+pub mod Testing
 pub mod Pivoting
+pub mod Leaving
 pub mod Kept

@@ -1,9 +1,13 @@
 -- What a pivot makes of a row.
-use Rattle.std.specs.Prelude.{◌≡◌, ℕ, ◌<◌, MatchBool}
+use Rattle.std.specs.Prelude.{◌≡◌, ℕ, ◌<◌, ◌&&◌, false, not, MatchBool}
 use Rattle.ratio_core.specs.Rational.{Rational, zero_ℚ, ◌*ℚ◌, ◌-ℚ◌, ◌/ℚ◌}
 use Rattle.sparse_board.specs.declared.row.Row.{Row}
+use Rattle.sparse_board.specs.declared.mixed_row.MixedRow.{MixedRow}
 use Rattle.sparse_board.specs.declared.sparse_row.SparseRow.{SparseRow}
+use Rattle.sparse_board.specs.declared.step.Step.{Step}
 use Rattle.sparse_board.specs.Numbers.{number_of, width_of}
+use Rattle.sparse_board.specs.Mixed as mixed
+use Rattle.whole_rows.specs.Rows.{can_stay}
 
 -- each number is divided
 pub record IsDivided (by : Rational) (row next : SparseRow) : Type 0 where
@@ -15,9 +19,24 @@ pub record IsLowered (by : Rational) (units : ℕ → Rational) (row next : Spar
   pub width : width_of next ≡ width_of row
   pub numbers : (j : ℕ) → j < width_of row → number_of next j ≡ number_of row j -ℚ by *ℚ units j
 
--- the next row is worked out, or the row's entry of column q is 0, so that it stays
-abbrev pub IsPrepared : ℕ → (ℕ → Rational) → Row → Type 0
-IsPrepared q units row =
-    MatchBool row.changes
-    (IsLowered (number_of row.now q) units row.now row.next)
-    (number_of row.now q ≡ zero_ℚ)
+-- each number is lowered by a multiple of the units, in fractions beside the row
+pub record IsLoweredBeside (by : Rational) (units : ℕ → Rational) (row : MixedRow)
+    (next : SparseRow) : Type 0 where
+  pub width : width_of next ≡ mixed.width_of row
+  pub numbers : (j : ℕ) → j < mixed.width_of row →
+      number_of next j ≡ mixed.number_of row j -ℚ by *ℚ units j
+
+-- there is room for the fractions of a row of whole numbers that may not stay one
+abbrev pub HasRoom : ℕ → Step → Row → Type 0
+HasRoom q step row =
+    can_stay q step.narrow.row row.now.narrow ≡ false → width_of row.next ≡ mixed.width_of row.now
+
+-- the next row is worked out, or the row's entry of column q is 0, so that it stays; a row of whole
+-- numbers is lowered in place where the step is one
+abbrev pub IsPrepared : ℕ → Step → Row → Type 0
+IsPrepared q step row =
+    MatchBool (not row.now.is_wide && step.is_narrow)
+    (HasRoom q step row)
+    (MatchBool row.changes
+    (IsLoweredBeside (mixed.number_of row.now q) (mixed.units_of step) row.now row.next)
+    (mixed.number_of row.now q ≡ zero_ℚ))

@@ -2,17 +2,18 @@
 use Rattle.std.specs.Prelude.{◌≡◌, ℕ, ◌<◌, Bool, IsTrue, List}
 use Rattle.tableau_core.specs.Numbers.{quotient_at}
 use Rattle.sparse_board.specs.declared.row.Row.{Row}
-use Rattle.sparse_board.specs.declared.sparse_row.SparseRow.{SparseRow}
-use Rattle.sparse_board.specs.Numbers.{number_of, width_of}
+use Rattle.sparse_board.specs.declared.step.Step.{Step}
+use Rattle.sparse_board.specs.Mixed.{IsBoth, units_of}
 use Rattle.sparse_board.specs.Lowering.{IsPrepared}
 use Rattle.sparse_board.specs.Rows.{number_in_row}
 use Rattle.sparse_board.specs.Marks.{ArePrepared}
 
--- the pivot's new row stands in the room for it, and beside each other row that changes its next
+-- the pivot's new row stands in the room for it, and each other row that changes is worked out
 pub record IsReady (rows : List Row) (r q : ℕ) (marks : List Bool) (in_first : Bool)
-    (first second : Row) (step : SparseRow) : Type 0 where
-  pub divided : (j : ℕ) → j < width_of step →
-      number_of step j ≡ quotient_at (number_in_row rows) r q j
-  pub others : ArePrepared r q (number_of step) marks rows
-  pub first_ready : IsTrue in_first → IsPrepared q (number_of step) first
-  pub second_ready : IsPrepared q (number_of step) second
+    (first second : Row) (step : Step) : Type 0 where
+  pub both : IsBoth step
+  pub divided : (j : ℕ) → j < step.width →
+      units_of step j ≡ quotient_at (number_in_row rows) r q j
+  pub others : ArePrepared r q step marks rows
+  pub first_ready : IsTrue in_first → IsPrepared q step first
+  pub second_ready : IsPrepared q step second

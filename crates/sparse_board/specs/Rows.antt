@@ -3,24 +3,25 @@ use Rattle.std.specs.Prelude.{◌≡◌, ℕ, ◌<◌, Bool, ◌||◌, nat_eq, L
 use Rattle.ratio_core.specs.Rational.{Rational, zero_ℚ, ◌*ℚ◌, ◌-ℚ◌}
 use Rattle.simplex_form.specs.Search.{all_below}
 use Rattle.sparse_board.specs.declared.row.Row.{Row}
-use Rattle.sparse_board.specs.declared.sparse_row.SparseRow.{SparseRow}
-use Rattle.sparse_board.specs.Numbers.{number_of, width_of}
+use Rattle.sparse_board.specs.declared.mixed_row.MixedRow.{MixedRow}
+use Rattle.sparse_board.specs.declared.step.Step.{Step}
+use Rattle.sparse_board.specs.Mixed.{number_of, width_of}
 use Rattle.tableau_core.specs.Numbers.{Numbers, differences_fit}
 use Rattle.sparse_board.specs.Lowering.{IsPrepared}
 
-abbrev pub now_of : Option Row → Option SparseRow
+abbrev pub now_of : Option Row → Option MixedRow
 now_of None = None
 now_of (Some row) = Some row.now
 
 -- what stands in row i
-abbrev pub now_at : List Row → ℕ → Option SparseRow
+abbrev pub now_at : List Row → ℕ → Option MixedRow
 now_at rows i = now_of (slice_get rows i)
 
-abbrev pub numbers : Option SparseRow → ℕ → Rational
+abbrev pub numbers : Option MixedRow → ℕ → Rational
 numbers None j = zero_ℚ
 numbers (Some row) j = number_of row j
 
-abbrev pub width_at : Option SparseRow → ℕ
+abbrev pub width_at : Option MixedRow → ℕ
 width_at None = 0
 width_at (Some row) = width_of row
 
@@ -29,7 +30,7 @@ abbrev pub number_in_row : List Row → ℕ → ℕ → Rational
 number_in_row rows i j = numbers (now_at rows i) j
 
 -- the numbers of the rows, each of which ends with its right side, and of the two cost rows
-abbrev pub numbers_in : List Row → SparseRow → SparseRow → Numbers
+abbrev pub numbers_in : List Row → MixedRow → MixedRow → Numbers
 numbers_in rows first second = record {
   rows = length rows;
   number = number_in_row rows;
@@ -50,9 +51,9 @@ rows_fit w r q units rows =
     all_below (length rows)
     (λ i. nat_eq i r || differences_fit w (number_in_row rows i) (number_in_row rows i q) units)
 
-abbrev pub IsPreparedAt : ℕ → (ℕ → Rational) → Option Row → Type 0
-IsPreparedAt q units None = Unit {0}
-IsPreparedAt q units (Some row) = IsPrepared q units row
+abbrev pub IsPreparedAt : ℕ → Step → Option Row → Type 0
+IsPreparedAt q step None = Unit {0}
+IsPreparedAt q step (Some row) = IsPrepared q step row
 
 -- the rows other than r are lowered
 abbrev pub AreLowered : ℕ → ℕ → (ℕ → Rational) → List Row → List Row → Type 0

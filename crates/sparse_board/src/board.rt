@@ -1,17 +1,19 @@
 //! The sparse board.
+use crate::leaving::leaving;
 use crate::marks::marks_of;
 use crate::pivoting::{prepare_pivot, settle_pivot};
 use crate::row::Row;
 use crate::scan::{first_negative, first_nonzero};
-use crate::sparse_row::SparseRow;
 use crate::start::{cost_row, start_rows};
+use crate::step::Step;
 use ratio_core::{NumberFault, Ratio};
 use sparse_ratios::SparseRatios;
 use std::alloc::Global;
 use std::marker::Model;
-use tableau_core::{BoardOverflow, Tableau, first_prices, second_prices, start_basis};
+use tableau_core::{Tableau, first_prices, second_prices, start_basis};
 
-/// A board that keeps the numbers that aren't 0.
+/// A board of rows of whole numbers, each over one denominator, and of fractions where 64 bits are
+/// not enough.
 #[derive(Drop)]
 pub struct Board {
     reals: usize,
@@ -20,7 +22,7 @@ pub struct Board {
     first: Row,
     second: Row,
     // room for a pivot's new row
-    step: SparseRow,
+    step: Step,
     // where a row may have a number other than 0, column by column
     marks: Vec<bool>,
     basis: Vec<usize>,
@@ -56,7 +58,7 @@ impl Tableau for Board {
         let first = cost_row(alloc, &first_prices(alloc, m, c, matrix)?)?;
         let second = cost_row(alloc, &second_prices(alloc, m, costs)?)?;
         let rows = start_rows(alloc, m, c, matrix, right)?;
-        let step = SparseRow::zeros(alloc, c + m + 1)?;
+        let step = Step::zeros(alloc, c + m)?;
         let marks = marks_of(alloc, &rows, c + m + 1)?;
         let basis = start_basis(alloc, m, c)?;
         Ok(Board {
@@ -115,11 +117,16 @@ impl Tableau for Board {
         }
     }
 
+    fn leaving(&self, q: usize) -> Option<usize> {
+        let side = self.reals + self.rows.len();
+        leaving(&self.rows, &self.basis, &self.marks, side, q)
+    }
+
     fn swept_column(&self, r: usize) -> Option<usize> {
         first_nonzero(&self.rows[r].now, self.reals)
     }
 
-    fn pivot(&mut self, r: usize, q: usize) -> Result<(), BoardOverflow> {
+    fn pivot(&mut self, r: usize, q: usize) -> Result<(), NumberFault> {
         let width = (self.reals + self.rows.len()) as u32;
         prepare_pivot(
             &mut self.rows,

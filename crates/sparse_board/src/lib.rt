@@ -1,17 +1,22 @@
-//! The board of the simplex that keeps the numbers that aren't 0: what is read from the original
-//! columns at each basis, kept by row operations.
+//! The board of the simplex in whole numbers: what is read from the original columns at each basis,
+//! kept by row operations.
 #![tactic(auto)]
 
 mod board;
 mod entry;
 mod first_costs;
+mod leaving;
 mod lowering;
 mod marks;
+mod mixed_row;
+mod narrowing;
 mod pivoting;
 mod row;
 mod rows;
 mod scan;
 mod sparse_row;
+mod spreading;
 mod start;
+mod step;
 
 pub use board::Board;

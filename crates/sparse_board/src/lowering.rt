@@ -1,14 +1,17 @@
 //! Row operations: each works out a row beside the one that stands.
-ghost use Rattle.std.specs.Prelude.{◌≡◌, ◌≢◌, ◌+◌, ◌<◌, ◌^◌, ◌↔◌, IsTrue, length, slice_index, is_ok, IfOk, OnOk};
+ghost use Rattle.std.specs.Prelude.{◌≡◌, ◌≢◌, ◌+◌, ◌<◌, ◌≤◌, ◌^◌, ◌↔◌, ℕ, IsTrue, length, slice_index, is_ok, IfOk, OnOk};
 ghost use Rattle.ratio_core.specs.Rational.{zero_ℚ, ◌*ℚ◌, ◌-ℚ◌};
 ghost use Rattle.simplex_form.specs.Fit.{lowered_fits};
 ghost use Rattle.sparse_board.specs.Sparse.{AreUnits, IsBelow, IsSplit, number_among};
 ghost use Rattle.sparse_board.specs.Numbers.{Copies, CopiesTo, IsReadyAt, number_of, row_columns, width_of};
 ghost use Rattle.tableau_core.specs.Numbers.{differences_fit, quotients_fit};
-ghost use Rattle.sparse_board.specs.Lowering.{IsDivided, IsLowered};
+ghost use Rattle.sparse_board.specs.Lowering.{IsDivided, IsLowered, IsLoweredBeside};
+ghost use Rattle.sparse_board.specs.Mixed as mixed;
 
 use crate::entry::Entry;
+use crate::mixed_row::MixedRow;
 use crate::sparse_row::SparseRow;
+use crate::step::Step;
 use ratio_core::Ratio;
 use tableau_core::{BoardOverflow, lowered};
 
@@ -25,6 +28,53 @@ pub(crate) fn divide(row: &SparseRow, by: &Ratio, next: &mut SparseRow) -> Resul
         let entry = &row.entries[k];
         let quotient = entry.value.div(by)?;
         next.push_any(entry.column, quotient);
+    }
+    Ok(())
+}
+
+// Makes `next` the row lowered by a multiple of the step, of which it may have fewer columns.
+pub(crate) fn lower_mixed(
+    row: &MixedRow,
+    by: &Ratio,
+    step: &Step,
+    next: &mut SparseRow,
+) -> Result<(), BoardOverflow>
+    requires step_width { mixed.width_of row.now ≤ step.now.width }
+    requires both { mixed.IsBoth step.now }
+    requires width { width_of next.old ≡ mixed.width_of row.now }
+    ensures width { width_of next.new ≡ width_of next.old }
+    ensures fits { is_ok result ≡ differences_fit (mixed.width_of row.now)
+        (mixed.number_of row.now) by.now (mixed.units_of step.now) }
+    ensures ok { OnOk result (IsLoweredBeside by.now (mixed.units_of step.now) row.now next.new) }
+{
+    let width = row.width;
+    if row.is_wide && step.is_spread {
+        let inner = step.wide.count_below(width as u32);
+        return lower(&row.wide, by, &step.wide.entries[..inner], next);
+    }
+    lower_each(row, by, step, width, next)
+}
+
+// The same column by column.
+fn lower_each(
+    row: &MixedRow,
+    by: &Ratio,
+    step: &Step,
+    width: usize,
+    next: &mut SparseRow,
+) -> Result<(), BoardOverflow>
+    requires few { width < 2 ^ 32 }
+    requires width { width_of next.old ≡ width }
+    ensures width { width_of next.new ≡ width_of next.old }
+    ensures fits { is_ok result ≡ differences_fit width
+        (mixed.number_of row.now) by.now (mixed.units_of step.now) }
+    ensures numbers { OnOk result ((j : ℕ) → j < width → number_of next.new j
+        ≡ mixed.number_of row.now j -ℚ by.now *ℚ mixed.units_of step.now j) }
+{
+    next.clear();
+    for j in 0..width {
+        let value = lowered(&row.number(j as u32), by, &step.number(j as u32))?;
+        next.push_any(j as u32, value);
     }
     Ok(())
 }

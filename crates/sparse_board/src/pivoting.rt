@@ -1,20 +1,20 @@
 //! A pivot worked out beside what stands.
-ghost use Rattle.std.specs.Prelude.{◌≡◌, ◌≢◌, ◌+◌, ◌*◌, ◌<◌, ℕ, IsTrue, length, is_ok, OnOk};
+ghost use Rattle.std.specs.Prelude.{◌≡◌, ◌≢◌, ◌+◌, ◌*◌, ◌<◌, ◌≤◌, ℕ, IsTrue, length, OnOk};
 ghost use Rattle.ratio_core.specs.Rational.{zero_ℚ};
 ghost use Rattle.tableau_core.specs.Numbers.{IsSettled, costs_fit, numbers_fit, quotient_at, quotients_fit};
-ghost use Rattle.sparse_board.specs.Numbers.{number_of, width_of};
+ghost use Rattle.sparse_board.specs.Mixed.{IsBoth, number_of, units_of, width_of};
 ghost use Rattle.sparse_board.specs.Lowering.{IsPrepared};
 ghost use Rattle.sparse_board.specs.Rows.{AreWide, SameNow, number_in_row, numbers_in};
 ghost use Rattle.sparse_board.specs.Marks.{AreMarked};
 ghost use Rattle.sparse_board.specs.Pivoting.{IsReady};
+ghost use Rattle.sparse_board.specs.Testing.{IsTest};
 
 use crate::first_costs::{prepare_if, settle_if};
-use crate::lowering::divide;
 use crate::marks::mark_step;
 use crate::row::Row;
-use crate::rows::{prepare_rows, settle_rows};
-use crate::sparse_row::SparseRow;
-use tableau_core::BoardOverflow;
+use crate::rows::{has_wide, prepare_rows, settle_rows};
+use crate::step::Step;
+use ratio_core::NumberFault;
 
 // Works out what a pivot makes of the rows and of the cost rows in use, and changes nothing that
 // stands. The pivot's new row goes into `step`. There are `width` columns, and a row has its right
@@ -24,31 +24,32 @@ pub(crate) fn prepare_pivot(
     in_first: bool,
     first: &mut Row,
     second: &mut Row,
-    step: &mut SparseRow,
+    step: &mut Step,
     marks: &[bool],
     width: u32,
     r: usize,
     q: u32,
-) -> Result<(), BoardOverflow>
+) -> Result<(), NumberFault>
     requires row { r < length rows.old }
     requires column { q < width }
     requires wide { AreWide (width + 1) rows.old }
     requires marks_long { length marks.now ≡ (width + 1) * length rows.old }
     requires marked { AreMarked (width + 1) marks.now rows.old }
-    requires step_wide { width_of step.old ≡ width + 1 }
+    requires step_wide { step.old.width ≡ width + 1 }
     requires first_wide { width_of first.old.now ≡ width }
     requires second_wide { width_of second.old.now ≡ width }
     requires nonzero { number_in_row rows.old r q ≢ zero_ℚ }
     ensures rows_stay { SameNow rows.old rows.new }
     ensures first_stays { first.new.now ≡ first.old.now }
     ensures second_stays { second.new.now ≡ second.old.now }
-    ensures step_wide { width_of step.new ≡ width_of step.old }
-    ensures fits { is_ok result
-        ≡ numbers_fit width r q in_first (numbers_in rows.old first.old.now second.old.now) }
+    ensures step_wide { step.new.width ≡ step.old.width }
+    ensures fits { IsTest (numbers_fit width r q in_first
+        (numbers_in rows.old first.old.now second.old.now)) result }
     ensures ok { OnOk result
         (IsReady rows.new r q marks.now in_first first.new second.new step.new) }
 {
-    divide_row(rows, r, q, step)?;
+    let asked = first.now.is_wide || second.now.is_wide || has_wide(rows, r, q, marks);
+    divide_row(rows, r, q, asked, step)?;
     prepare_rows(rows, r, q, step, marks)?;
     prepare_costs(in_first, first, second, step, width, q)
 }
@@ -58,40 +59,47 @@ fn prepare_costs(
     in_first: bool,
     first: &mut Row,
     second: &mut Row,
-    step: &SparseRow,
+    step: &Step,
     width: u32,
     q: u32,
-) -> Result<(), BoardOverflow>
+) -> Result<(), NumberFault>
+    requires column { q < width }
+    requires step_wide { width ≤ step.now.width }
     requires first_wide { width_of first.old.now ≡ width }
     requires second_wide { width_of second.old.now ≡ width }
+    requires both { IsBoth step.now }
     ensures first_stays { first.new.now ≡ first.old.now }
     ensures second_stays { second.new.now ≡ second.old.now }
-    ensures fits { is_ok result ≡ costs_fit width q in_first
-        (number_of first.old.now) (number_of second.old.now) (number_of step.now) }
-    ensures first_ready { OnOk result
-        (IsTrue in_first → IsPrepared q (number_of step.now) first.new) }
-    ensures second_ready { OnOk result (IsPrepared q (number_of step.now) second.new) }
+    ensures fits { IsTest (costs_fit width q in_first
+        (number_of first.old.now) (number_of second.old.now) (units_of step.now)) result }
+    ensures first_ready { OnOk result (IsTrue in_first → IsPrepared q step.now first.new) }
+    ensures second_ready { OnOk result (IsPrepared q step.now second.new) }
 {
-    let inner = step.count_below(width);
-    let units = &step.entries[..inner];
-    prepare_if(in_first, first, q, units)?;
-    second.prepare(q, units)
+    prepare_if(in_first, first, q, step)?;
+    second.prepare(q, step)
 }
 
 // Row r divided by its number in column q.
-fn divide_row(rows: &[Row], r: usize, q: u32, step: &mut SparseRow) -> Result<(), BoardOverflow>
+fn divide_row(
+    rows: &[Row],
+    r: usize,
+    q: u32,
+    asked: bool,
+    step: &mut Step,
+) -> Result<(), NumberFault>
     requires row { r < length rows.now }
-    requires wide { AreWide (width_of step.old) rows.now }
+    requires column { q + 1 < step.old.width }
+    requires wide { AreWide step.old.width rows.now }
     requires nonzero { number_in_row rows.now r q ≢ zero_ℚ }
-    ensures width { width_of step.new ≡ width_of step.old }
-    ensures fits { is_ok result ≡ quotients_fit (width_of step.old) (number_in_row rows.now r)
-        (number_in_row rows.now r q) }
-    ensures ok { OnOk result ((j : ℕ) → j < width_of step.old
-        → number_of step.new j ≡ quotient_at (number_in_row rows.now) r q j) }
+    ensures width { step.new.width ≡ step.old.width }
+    ensures fits { IsTest (quotients_fit step.old.width
+        (number_in_row rows.now r) (number_in_row rows.now r q)) result }
+    ensures ok { OnOk result ((j : ℕ) → j < step.old.width
+        → units_of step.new j ≡ quotient_at (number_in_row rows.now) r q j) }
+    ensures both { OnOk result (IsBoth step.new) }
 {
     let row = &rows[r].now;
-    let by = row.number(q);
-    divide(row, &by, step)
+    step.set(row, q, asked)
 }
 
 // Puts a pivot that was worked out in place.
@@ -100,32 +108,31 @@ pub(crate) fn settle_pivot(
     in_first: bool,
     first: &mut Row,
     second: &mut Row,
-    step: &mut SparseRow,
+    step: &mut Step,
     marks: &mut [bool],
     r: usize,
     q: u32,
 )
     requires row { r < length rows.old }
-    requires column { q + 1 < width_of step.old }
-    requires wide { AreWide (width_of step.old) rows.old }
-    requires marks_long { length marks.old ≡ width_of step.old * length rows.old }
-    requires marked { AreMarked (width_of step.old) marks.old rows.old }
-    ensures wide { AreWide (width_of step.old) rows.new }
-    ensures step_wide { width_of step.new ≡ width_of step.old }
+    requires column { q + 1 < step.old.width }
+    requires wide { AreWide step.old.width rows.old }
+    requires marks_long { length marks.old ≡ step.old.width * length rows.old }
+    requires marked { AreMarked step.old.width marks.old rows.old }
+    requires ready { IsReady rows.old r q marks.old in_first first.old second.old step.old }
+    ensures wide { AreWide step.old.width rows.new }
+    ensures step_wide { step.new.width ≡ step.old.width }
     ensures first_wide { width_of first.new.now ≡ width_of first.old.now }
     ensures second_wide { width_of second.new.now ≡ width_of second.old.now }
-    ensures settled { (w : ℕ) → width_of step.old ≡ w + 1
+    ensures settled { (w : ℕ) → step.old.width ≡ w + 1
         → width_of first.old.now ≡ w → width_of second.old.now ≡ w
-        → IsReady rows.old r q marks.old in_first first.old second.old step.old
         → IsSettled w r q in_first (numbers_in rows.old first.old.now second.old.now)
         (numbers_in rows.new first.new.now second.new.now) }
-    ensures marked { IsReady rows.old r q marks.old in_first first.old second.old step.old
-        → AreMarked (width_of step.old) marks.new rows.new }
+    ensures marked { AreMarked step.old.width marks.new rows.new }
 {
-    settle_rows(rows, r, q, marks);
+    settle_rows(rows, r, q, step, marks);
     mark_step(step, q, rows.len(), marks);
+    settle_if(in_first, first, q, step);
+    second.settle(q, step);
     let row = &mut rows[r];
     row.exchange(step);
-    settle_if(in_first, first);
-    second.settle();
 }

@@ -1,78 +1,118 @@
-//! A row of the board, with room for the row that comes after it.
-ghost use Rattle.std.specs.Prelude.{◌≡◌, ◌<◌, ◌^◌, ℕ, is_ok, IfOk, OnOk, vec_capacity};
-ghost use Rattle.ratio_core.specs.Rational.{Rational};
-ghost use Rattle.sparse_board.specs.Sparse.{AreUnits, number_among};
-ghost use Rattle.sparse_board.specs.Numbers.{number_of, width_of};
+//! A row of the board, and the one that comes after it.
+ghost use Rattle.std.specs.Prelude.{◌≡◌, ◌+◌, ◌<◌, ◌≤◌, ◌^◌, ◌&&◌, ℕ, not, IfOk, OnOk};
+ghost use Rattle.sparse_board.specs.Numbers as sparse;
+ghost use Rattle.sparse_board.specs.Mixed.{IsBoth, number_of, units_of, width_of};
 
-use crate::entry::Entry;
-use crate::lowering::lower;
+use crate::lowering::lower_mixed;
+use crate::mixed_row::MixedRow;
 use crate::sparse_row::SparseRow;
+use crate::step::Step;
+use ratio_core::NumberFault;
 use std::alloc::{AllocError, Global};
-use std::mem;
-use tableau_core::BoardOverflow;
 
+// Room for the next row's fractions is taken before the first pivot that may ask for it.
 #[derive(Drop)]
 pub(crate) struct Row {
-    pub(crate) now: SparseRow,
+    pub(crate) now: MixedRow,
     pub(crate) next: SparseRow,
     // whether a pivot that was worked out changes it
     changes: bool,
-    ghost wide: { vec_capacity next.entries ≡ vec_capacity now.entries },
-    ghost few: { vec_capacity now.entries < 2 ^ 32 },
+    ghost most: { sparse.width_of next ≤ width_of now },
 }
 
 impl Row {
     ghost use Rattle.tableau_core.specs.Numbers.{differences_fit};
-    ghost use Rattle.sparse_board.specs.Lowering.{IsLowered, IsPrepared};
+    ghost use Rattle.sparse_board.specs.Mixed.{IsLowered};
+    ghost use Rattle.sparse_board.specs.Lowering.{HasRoom, IsPrepared};
+    ghost use Rattle.sparse_board.specs.Testing.{IsTest};
 
-    pub(crate) fn new(alloc: Global, now: SparseRow, width: usize) -> Result<Row, AllocError>
-        requires width { width_of now ≡ width }
+    // A row of these fractions, with whole numbers for so many columns.
+    pub(crate) fn new(
+        alloc: Global,
+        wide: SparseRow,
+        width: usize,
+        columns: usize,
+    ) -> Result<Row, AllocError>
+        requires width { sparse.width_of wide ≡ width }
+        requires room { width ≤ columns + 1 }
         requires few { width < 2 ^ 32 }
-        ensures { IfOk result (λ row. row.now ≡ now) }
+        ensures width { IfOk result (λ row. width_of row.now ≡ width) }
+        ensures numbers { IfOk result (λ row. (j : ℕ) → j < width
+            → number_of row.now j ≡ sparse.number_of wide j) }
     {
-        let next = SparseRow::zeros(alloc, width)?;
+        let mut now = MixedRow::new(alloc, wide, width, columns)?;
+        now.come_back();
+        now.let_go(alloc);
         Ok(Row {
             now,
-            next,
+            next: SparseRow::closed(alloc),
             changes: false,
         })
     }
 
-    // Works out what a pivot on column q makes of the row, where the pivot's new row has the
-    // numbers `units`.
-    pub(crate) fn prepare(&mut self, q: u32, units: &[Entry]) -> Result<(), BoardOverflow>
-        requires units { AreUnits (width_of self.old.now) units.now }
+    // Works out what a pivot on column q makes of the row, where `step` is the pivot's new row. A
+    // row of whole numbers passes each test of such a step, and is lowered in place.
+    pub(crate) fn prepare(&mut self, q: u32, step: &Step) -> Result<(), NumberFault>
+        requires width { width_of self.old.now ≤ step.now.width }
+        requires column { q < width_of self.old.now }
+        requires both { IsBoth step.now }
         ensures stays { self.new.now ≡ self.old.now }
-        ensures fits { is_ok result ≡ differences_fit (width_of self.old.now)
-            (number_of self.old.now) (number_of self.old.now q) (number_among units.now) }
-        ensures ok { OnOk result (IsPrepared q (number_among units.now) self.new) }
+        ensures fits { IsTest (differences_fit (width_of self.old.now)
+            (number_of self.old.now) (number_of self.old.now q) (units_of step.now)) result }
+        ensures ok { OnOk result (IsPrepared q step.now self.new) }
     {
+        if is_in_place(&self.now, step) {
+            return Ok(self.make_room(q, step)?);
+        }
         let by = self.now.number(q);
         if by.is_zero() {
             self.changes = false;
             return Ok(());
         }
+        self.next.open(self.now.width)?;
         self.changes = true;
-        lower(&self.now, &by, units, &mut self.next)
+        Ok(lower_mixed(&self.now, &by, step, &mut self.next)?)
+    }
+
+    // Takes room for the fractions of a row of whole numbers that may not stay one.
+    fn make_room(&mut self, q: u32, step: &Step) -> Result<(), AllocError>
+        ensures stays { self.new.now ≡ self.old.now }
+        ensures room { OnOk result (HasRoom q step.now self.new) }
+    {
+        if !self.now.narrow.may_pass(&step.narrow, q as usize) {
+            return Ok(());
+        }
+        self.next.open(self.now.width)
     }
 
     // Puts in place what was worked out.
-    pub(crate) fn settle(&mut self)
-        ensures width { width_of self.new.now ≡ width_of self.old.now }
-        ensures lowered { (q : ℕ) (units : ℕ → Rational) → IsPrepared q units self.old
-            → IsLowered (number_of self.old.now q) units self.old.now self.new.now }
+    pub(crate) fn settle(&mut self, q: u32, step: &Step)
+        requires { IsPrepared q step.now self.old }
+        ensures { IsLowered (number_of self.old.now q) (units_of step.now) self.old.now self.new.now }
     {
-        if self.changes {
-            mem::swap(&mut self.now, &mut self.next);
+        if is_in_place(&self.now, step) {
+            self.now.lower(&step.narrow, q as usize, &mut self.next);
+        } else if self.changes {
+            self.now.take(&mut self.next);
         }
     }
 
-    // Changes places with a row of as many columns.
-    pub(crate) fn exchange(&mut self, other: &mut SparseRow)
-        requires { width_of other.old ≡ width_of self.old.now }
-        ensures now { self.new.now ≡ other.old }
-        ensures other { other.new ≡ self.old.now }
+    // Takes the numbers of a step of as many columns.
+    pub(crate) fn exchange(&mut self, step: &mut Step)
+        requires { step.old.width ≡ width_of self.old.now }
+        ensures width { width_of self.new.now ≡ width_of self.old.now }
+        ensures step_width { step.new.width ≡ step.old.width }
+        ensures now { (j : ℕ) → j < width_of self.old.now
+            → number_of self.new.now j ≡ units_of step.old j }
     {
-        mem::swap(&mut self.now, other);
+        self.now.take_step(step);
     }
+}
+
+// Whether a row of whole numbers is lowered by such a step.
+#[inline]
+fn is_in_place(row: &MixedRow, step: &Step) -> bool
+    ensures { result ≡ (not row.now.is_wide && step.now.is_narrow) }
+{
+    !row.is_wide && step.is_narrow
 }

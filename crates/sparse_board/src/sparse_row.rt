@@ -1,5 +1,5 @@
 //! Numbers by column: those that aren't 0, in the order of their columns.
-ghost use Rattle.std.specs.Prelude.{◌≡◌, ◌≢◌, ◌<◌, ◌≤◌, [], length, IfOk, vec_capacity};
+ghost use Rattle.std.specs.Prelude.{◌≡◌, ◌≢◌, ◌<◌, ◌≤◌, [], length, IfOk, OnErr, OnOk, vec_capacity};
 ghost use Rattle.std.specs.List.Sorted.{IsBinarySearchResult, IsSearchInRange};
 ghost use Rattle.std.specs.Ordering.{nat_cmp};
 ghost use Rattle.ratio_core.specs.Rational.{Fits, zero_ℚ};
@@ -9,8 +9,8 @@ use crate::entry::Entry;
 use ratio_core::Ratio;
 use std::alloc::{AllocError, Global};
 
-// There is room for a number in each column, so a row takes no memory once it is made. A number
-// stands beside its column: apart, they would touch two pages of memory for each row.
+// There is room for a number in each column, so a number that is put takes no memory. It stands
+// beside its column: apart, they would touch two pages of memory for each row.
 #[derive(Drop)]
 pub(crate) struct SparseRow {
     pub(crate) entries: Vec<Entry>,
@@ -28,6 +28,25 @@ impl SparseRow {
     {
         let entries = Vec::with_capacity(alloc, width)?;
         Ok(SparseRow { entries })
+    }
+
+    // No columns.
+    pub(crate) fn closed(alloc: Global) -> SparseRow
+        ensures width { width_of result ≡ 0 }
+    {
+        SparseRow {
+            entries: Vec::new(alloc),
+        }
+    }
+
+    // Zeros in so many columns, or the same row where there is no memory for them.
+    pub(crate) fn open(&mut self, width: usize) -> Result<(), AllocError>
+        requires { width_of self.old ≤ width }
+        ensures ok { OnOk result (width_of self.new ≡ width) }
+        ensures err { OnErr result (width_of self.new ≡ width_of self.old) }
+    {
+        self.entries.clear();
+        self.entries.reserve_exact(width)
     }
 
     // The number of a column.

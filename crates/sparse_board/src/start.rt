@@ -4,7 +4,9 @@ ghost use Rattle.sparse_ratios.specs.Terms.{AreTerms, number_at};
 ghost use Rattle.simplex_form.specs.Board.{entry};
 ghost use Rattle.tableau_core.specs.Row.{AllFit, cell};
 ghost use Rattle.tableau_core.specs.Start.{AtEachStart};
-ghost use Rattle.sparse_board.specs.Numbers.{HoldsBelow, number_of, width_of};
+ghost use Rattle.sparse_board.specs.Mixed.{number_of, width_of};
+ghost use Rattle.sparse_board.specs.Numbers as sparse;
+ghost use Rattle.sparse_board.specs.Numbers.{HoldsBelow};
 ghost use Rattle.sparse_board.specs.Rows.{AreWide, number_in_row};
 
 use crate::row::Row;
@@ -63,16 +65,16 @@ fn start_row(
     row.push_any((c + i) as u32, Ratio::one());
     let _fits = side.num();
     row.push_any((c + m) as u32, *side);
-    Row::new(alloc, row, width)
+    Row::new(alloc, row, width, c + m)
 }
 
 // Pushes the numbers of a row, each beside its place. The first column's place is `from`.
 fn push_row(row: &mut SparseRow, terms: &[(usize, Ratio)], from: usize, c: usize)
     requires terms { AreTerms from (from + c) terms.now }
     requires few { c < 2 ^ 32 }
-    requires wide { c ≤ width_of row.old }
+    requires wide { c ≤ sparse.width_of row.old }
     requires empty { row.old.entries.items ≡ [] }
-    ensures width { width_of row.new ≡ width_of row.old }
+    ensures width { sparse.width_of row.new ≡ sparse.width_of row.old }
     ensures held { HoldsBelow c (λ j. number_at terms.now (from + j)) row.new }
 {
     for term in terms {
@@ -88,11 +90,11 @@ pub(crate) fn cost_row(alloc: Global, numbers: &[Ratio]) -> Result<Row, AllocErr
     requires all_fit { AllFit numbers.now }
     ensures wide { IfOk result (λ row. width_of row.now ≡ length numbers.now) }
     ensures numbers { IfOk result (λ row.
-        HoldsBelow (length numbers.now) (cell numbers.now) row.now) }
+        (j : ℕ) → j < length numbers.now → number_of row.now j ≡ cell numbers.now j) }
 {
     let mut row = SparseRow::zeros(alloc, numbers.len())?;
     for j in 0..numbers.len() {
         row.push_any(j as u32, numbers[j]);
     }
-    Row::new(alloc, row, numbers.len())
+    Row::new(alloc, row, numbers.len(), numbers.len())
 }

@@ -1,43 +1,29 @@
-use Rattle.std.proofs.Common.{◌≡◌, ◌<◌, subst, sym, true, ◌∙◌}
-use Rattle.sparse_board.specs.Marks.{is_marked}
-use Rattle.sparse_board.specs.Numbers.{row_columns, width_of}
-use Rattle.sparse_board.proofs.MarkSteps.{column_within, step_marked_all, step_marked_more, step_marked_none}
-use Rattle.sparse_board.proofs.RowSteps.{column_is, row_end, row_place}
+use Rattle.std.proofs.Common.{ap, sym, ◌+◌, ◌*◌, ◌∙◌}
+use Rattle.sparse_board.specs.Mixed.{units_of}
+use Rattle.sparse_board.specs.Numbers as sparse
+use Rattle.whole_rows.specs.Rows as whole
+use Rattle.sparse_board.proofs.MarkSteps.{units_marked}
+use Rattle.sparse_board.proofs.MixedSteps.{units_narrow, units_wide}
 use Rattle.sparse_board.proofs.marks.mark_step.Goals as goal
 
-pub mark_alike-requires-clause-from : goal.mark_alike-requires-clause-from
-mark_alike-requires-clause-from c =
-    column_within (width_of c.args.step.now) c.args.count c.args.q _ (c.loop-k.invariant.long
-    ∙ c.requires.long) c.requires.column
+pub mark_narrow-requires-clause-long : goal.mark_narrow-requires-clause-long
+mark_narrow-requires-clause-long c =
+    c.requires.long ∙ ap (λ n. n * c.args.count) c.args.step.now.room
 
-pub mark_alike-requires-clause-to : goal.mark_alike-requires-clause-to
-mark_alike-requires-clause-to c =
-    let row = c.args.step.now in
-    let b = row_place row c.len-k-end.result c.loop-k.k c.len-k-end.ensures c.loop-k-test.true in
-    let is = column_is row c.loop-k.k c.index.result.now b c.index.ensures in
-    column_within (width_of row) c.args.count c.index.result.now.column _ (c.loop-k.invariant.long
-    ∙ c.requires.long) (subst (λ x. x < width_of row) (sym is) (row.within c.loop-k.k b))
+pub returns-then-step-clause-marked : goal.returns-then-step-clause-marked
+returns-then-step-clause-marked c =
+    let step = c.args.step.now in
+    units_marked (whole.width_of step.narrow.row + 1) step.width c.args.q c.args.count
+    (whole.number_of step.narrow.row) (units_of step) c.args.marks.now _ (sym step.room)
+    (units_narrow step c.if-step.true) c.mark_narrow.ensures.marked
 
-pub loop-k-init : goal.loop-k-init
-loop-k-init c =
-    step_marked_none (row_columns c.args.step.now) c.args.q c.args.count c.args.marks.now
-
-pub loop-k-preserved : goal.loop-k-preserved
-loop-k-preserved c =
-    let row = c.args.step.now in
-    let b = row_place row c.len-k-end.result c.loop-k.k c.len-k-end.ensures c.loop-k-test.true in
-    let is = column_is row c.loop-k.k c.index.result.now b c.index.ensures in
-    step_marked_more (row_columns row) c.args.q c.args.count c.args.marks.now c.loop-k.marks
-    c.mark_alike.new.marks c.loop-k.k c.loop-k.invariant c.mark_alike.auto.marks
-    c.mark_alike.ensures.kept
-    (λ i d e. subst (λ x. is_marked c.mark_alike.new.marks c.args.count x i ≡ true) is
-    (c.mark_alike.ensures.marked i d e))
+pub mark_wide-requires-clause-long : goal.mark_wide-requires-clause-long
+mark_wide-requires-clause-long c =
+    c.requires.long ∙ ap (λ n. n * c.args.count) (sym (c.args.step.now.full c.if-step.false))
 
 pub returns-clause-marked : goal.returns-clause-marked
 returns-clause-marked c =
-    step_marked_all c.args.step.now (width_of c.args.step.now) c.args.q c.args.count
-    c.args.marks.now c.loop-k.marks c.loop-k.k (row_end c.args.step.now c.len-k-end.result
-    c.loop-k.k c.len-k-end.ensures c.loop-k.auto.k-end c.loop-k-test.false) c.loop-k.invariant
-
-pub returns-clause-kept : goal.returns-clause-kept
-returns-clause-kept c = c.loop-k.invariant.kept
+    let step = c.args.step.now in
+    units_marked (sparse.width_of step.wide) step.width c.args.q c.args.count
+    (sparse.number_of step.wide) (units_of step) c.args.marks.now _ (step.full c.if-step.false)
+    (units_wide step c.if-step.false) c.mark_wide.ensures.marked

@@ -1,36 +1,53 @@
-use Rattle.std.proofs.Common.{◌<◌, arith, subst}
+use Rattle.std.proofs.Common.{◌<◌, ◌≡◌, ◌∙◌, ap, arith, slice_index_or, subst, sym}
 use Rattle.sparse_board.specs.Marks.{MarksUnits}
-use Rattle.sparse_board.specs.Numbers.{number_of, width_of}
-use Rattle.sparse_board.specs.Rows.{AreWide}
+use Rattle.sparse_board.specs.Mixed.{units_of}
+use Rattle.sparse_board.specs.Mixed as mixed
+use Rattle.sparse_board.specs.Rows.{AreWide, width_at}
 use Rattle.sparse_board.proofs.MarkSteps.{marked_after}
-use Rattle.sparse_board.proofs.PivotSteps.{settled-all}
+use Rattle.sparse_board.proofs.PivotSteps.{settled-all, settled-wide}
+use Rattle.sparse_board.proofs.RowsSteps.{row_is}
 use Rattle.sparse_board.proofs.pivoting.settle_pivot.Goals as goal
+use Rattle.sparse_board.proofs.pivoting.settle_pivot.Goals.{After-exchange}
+
+-- the pivot's row has as many columns as the step
+row_width : (c : After-exchange)
+    → mixed.width_of (slice_index_or c.settle_rows.new.rows c.args.r c.index-rows-r.result).now
+    ≡ c.args.step.now.width
+row_width c =
+    sym (ap width_at (row_is c.settle_rows.new.rows c.args.r c.index-rows-r.result
+    (subst (λ n. c.args.r < n) (sym c.settle_rows.auto.rows) c.requires.row)))
+    ∙ c.settle_rows.ensures.widths c.args.r ∙ c.requires.wide c.args.r c.requires.row
+
+pub returns-clause-wide : goal.returns-clause-wide
+returns-clause-wide c =
+    settled-wide c.args.rows.now c.settle_rows.new.rows c.args.r c.args.step.now
+    c.exchange.new.self c.settle_rows.auto.rows c.requires.row c.args.step.now.width
+    (c.exchange.ensures.width ∙ row_width c) c.requires.wide c.settle_rows.ensures.widths
 
 pub returns-clause-settled : goal.returns-clause-settled
-returns-clause-settled c = λ w long first second ready.
+returns-clause-settled c = λ w long first second.
     let step = c.args.step.now in
-    let column : c.args.q < width_of step = omega (arith, c.requires.column) in
     settled-all c.args.rows.now c.settle_rows.new.rows c.args.r step c.exchange.new.self
-    c.settle_rows.auto.rows c.requires.row c.exchange.ensures.now
+    c.settle_rows.auto.rows c.requires.row
     w c.args.q c.args.in_first c.args.first.now c.args.second.now c.settle_if.new.row
     c.settle.new.self
-    (subst (λ n. AreWide n c.args.rows.now) long c.requires.wide) long c.args.marks.now ready
-    (c.settle_rows.ensures.lowered (width_of step) (number_of step) column c.requires.marked
-    ready.others)
-    first second
-    (λ u. c.settle_if.ensures.lowered u c.args.q (number_of step) (ready.first_ready u))
-    (c.settle.ensures.lowered c.args.q (number_of step) ready.second_ready)
+    (subst (λ n. AreWide n c.args.rows.now) long c.requires.wide) long c.args.marks.now
+    c.requires.ready
+    (λ j b. c.exchange.ensures.now j (subst (λ n. j < n) (sym (row_width c ∙ long)) b))
+    c.settle_rows.ensures.lowered first second
+    c.settle_if.ensures.lowered c.settle.ensures
 
 pub returns-clause-marked : goal.returns-clause-marked
-returns-clause-marked c = λ ready.
+returns-clause-marked c =
     let step = c.args.step.now in
-    let column : c.args.q < width_of step = omega (arith, c.requires.column) in
-    marked_after (width_of step) c.args.r c.args.q c.args.rows.now c.settle_rows.new.rows step
-    c.exchange.new.self c.args.marks.now c.mark_step.new.marks
-    c.settle_rows.auto.rows c.requires.row c.exchange.ensures.now c.requires.wide column
+    let column : c.args.q < step.width = omega (arith, c.requires.column) in
+    marked_after step.width c.args.r c.args.q c.args.rows.now c.settle_rows.new.rows
+    (units_of step) c.exchange.new.self c.args.marks.now c.mark_step.new.marks
+    c.settle_rows.auto.rows c.requires.row
+    (λ j b. c.exchange.ensures.now j (subst (λ n. j < n) (sym (row_width c)) b))
+    c.requires.wide column
     c.requires.marked c.mark_step.ensures.kept
-    (subst (λ n. MarksUnits (width_of step) c.args.q n (number_of step) c.args.marks.now
+    (subst (λ n. MarksUnits step.width c.args.q n (units_of step) c.args.marks.now
     c.mark_step.new.marks) c.settle_rows.auto.rows c.mark_step.ensures.marked)
-    ready.divided
-    (c.settle_rows.ensures.lowered (width_of step) (number_of step) column c.requires.marked
-    ready.others)
+    c.requires.ready.divided
+    c.settle_rows.ensures.lowered

@@ -1,4 +1,4 @@
-use Rattle.std.proofs.Common.{arith, drop, refl, ◌≡◌, ◌∙◌, ◌+◌, ◌-◌, ◌<◌, ◌≤◌}
+use Rattle.std.proofs.Common.{arith, drop, refl, ◌∙◌, ◌+◌}
 use Rattle.sparse_board.proofs.StartSteps.{held_above, held_at, held_end, held_place, held_start, held_term, held_within}
 use Rattle.sparse_board.proofs.start.push_row.Goals as goal
 

@@ -1,9 +1,9 @@
-use Rattle.std.proofs.Common.{◌≡◌, ◌+◌, ◌*◌, ◌∙◌, [], arith}
+use Rattle.std.proofs.Common.{◌+◌, ◌*◌, ◌∙◌, arith}
 use Rattle.std.proofs.lemmas.Result.{IfOk-weaker}
 use Rattle.simplex_form.specs.Form.{Form}
 use Rattle.sparse_ratios.specs.Terms.{number_at}
 use Rattle.tableau_core.specs.Start.{form_of}
-use Rattle.sparse_board.specs.Numbers.{number_of, row_columns}
+use Rattle.sparse_board.specs.Numbers.{row_columns}
 use Rattle.sparse_board.proofs.HeldLemmas.{below_less}
 use Rattle.sparse_board.proofs.StartSteps.{reals_held, side_entries, unit_added}
 use Rattle.sparse_board.proofs.start.start_row.Goals as goal
@@ -17,7 +17,7 @@ pub returns-clause-entries : goal.returns-clause-entries
 returns-clause-entries c =
     IfOk-weaker c.new.result _ _ (λ row e right costs j b.
     let F : Form = form_of c.args.m c.args.c c.args.matrix.now right costs in
-    (λ k. number_of (e k) j)
+    e j (omega (arith, b))
     ∙ side_entries F c.args.i c.requires.within c.args.side.now c.push_any.new.self
     c.push_any-2.new.self
     (unit_added F c.args.i c.requires.within c.one.result c.push_row.new.row c.push_any.new.self
@@ -26,4 +26,4 @@ returns-clause-entries c =
     (λ k. number_at c.row_terms-terms.result.now (c.args.i * c.args.c + k))
     (λ k d. c.row_terms-terms.ensures.numbers k d) c.push_row.new.row c.push_row.ensures.held)
     c.push_any.ensures)
-    c.push_any-2.ensures j b) c.new.ensures
+    c.push_any-2.ensures j b) c.new.ensures.numbers

@@ -1,4 +1,7 @@
-use Rattle.std.proofs.Common.{sym, ◌∙◌}
+use Rattle.std.proofs.Common.{◌+◌, ◌*◌, ◌<◌, arith, length, subst, sym, ◌∙◌}
+use Rattle.std.specs.Vec.{vec_len}
+use Rattle.sparse_board.specs.Kept.{columns_of}
+use Rattle.sparse_board.proofs.MarkSteps.{place_below}
 use Rattle.sparse_board.proofs.BoardSteps.{column_within, entry_is, marked_read, row_within, unmarked_is, vec_count}
 use Rattle.sparse_board.proofs.board.BoardTableau.entry.Goals as goal
 
@@ -17,3 +20,13 @@ pub returns : goal.returns
 returns c =
     c.number.ensures ∙ entry_is c.self.inside c.args.self.now c.self.view_is c.args.r c.args.q
     c.index-2.result.now c.requires.row c.requires.column c.index-2.ensures
+
+pub index-requires : goal.index-requires
+index-requires c =
+    let a = c.self.inside in
+    let column = column_within a c.args.self.now c.args.q c.self.view_is c.requires.column in
+    subst (λ n. c.args.q * n + c.args.r < vec_len a.marks)
+    (sym (vec_count a c.len.result c.len.ensures))
+    (place_below (columns_of a + 1) (length a.rows.items) c.args.q c.args.r (vec_len a.marks)
+    (a.marks.ok.0 ∙ c.self.invariant.marks) (omega (arith, column))
+    (row_within a c.args.self.now c.args.r c.self.view_is c.requires.row))

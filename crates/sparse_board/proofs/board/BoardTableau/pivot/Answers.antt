@@ -1,9 +1,9 @@
 use Rattle.std.proofs.Common.{◌+◌, ◌∙◌, ap, length, refl, subst, sym}
 use Rattle.std.proofs.lemmas.List.{length-set, with_items_is}
 use Rattle.std.specs.Vec.{with_item, with_items}
-use Rattle.tableau_core.specs.LoweringLaws.{is_ok-err}
+use Rattle.sparse_board.proofs.TestSteps.{barred}
 use Rattle.tableau_core.specs.Numbers.{IsSettled, numbers_fit}
-use Rattle.sparse_board.specs.Numbers.{width_of}
+use Rattle.sparse_board.specs.Mixed.{width_of}
 use Rattle.sparse_board.specs.Rows.{AreWide, now_at, number_in_row, numbers_in}
 use Rattle.sparse_board.specs.Marks.{AreMarked}
 use Rattle.sparse_board.specs.Kept.{columns_of}
@@ -17,22 +17,22 @@ prepare_pivot-requires-clause-nonzero c = λ e.
     c.args.q c.requires.column) ∙ ap (λ l. number_in_row l c.args.r c.args.q)
     (sym c.deref_mut.ensures.value) ∙ e)
 
-pub returns-in_err-prepare_pivot-clause-fits : goal.returns-in_err-prepare_pivot-clause-fits
-returns-in_err-prepare_pivot-clause-fits c =
+pub returns-in_err-prepare_pivot-clause-overflow : goal.returns-in_err-prepare_pivot-clause-overflow
+returns-in_err-prepare_pivot-clause-overflow c = λ of.
     let a = c.self.inside in
-    is_ok-err c.from_residual.result c.from_residual.ensures.0
-    ∙ c.in_err-prepare_pivot.ensures.fits
-    ∙ (λ k. numbers_fit (a.reals + vec_count a c.len.result c.len.ensures k) c.args.r c.args.q
+    sym ((λ k. numbers_fit (a.reals + vec_count a c.len.result c.len.ensures k) c.args.r c.args.q
     a.in_first (numbers_in (c.deref_mut.ensures.value k) a.first.now a.second.now))
-    ∙ tests_same a c.args.self.now c.args.r c.args.q c.self.view_is c.requires.row c.requires.column
+    ∙ tests_same a c.args.self.now c.args.r c.args.q c.self.view_is c.requires.row c.requires.column)
+    ∙ barred c.from_residual.result _ _ c.from_residual.ensures.1
+    c.in_err-prepare_pivot.ensures.fits of
 
 pub returns-clause-fits : goal.returns-clause-fits
 returns-clause-fits c =
     let a = c.self.inside in
-    c.in_ok-prepare_pivot.ensures.fits
-    ∙ (λ k. numbers_fit (a.reals + vec_count a c.len.result c.len.ensures k) c.args.r c.args.q
+    sym ((λ k. numbers_fit (a.reals + vec_count a c.len.result c.len.ensures k) c.args.r c.args.q
     a.in_first (numbers_in (c.deref_mut.ensures.value k) a.first.now a.second.now))
-    ∙ tests_same a c.args.self.now c.args.r c.args.q c.self.view_is c.requires.row c.requires.column
+    ∙ tests_same a c.args.self.now c.args.r c.args.q c.self.view_is c.requires.row c.requires.column)
+    ∙ c.in_ok-prepare_pivot.ensures.fits
 
 pub invariant_of-self : goal.invariant_of-self
 invariant_of-self c =
@@ -98,6 +98,17 @@ settle_pivot-requires-clause-marked c =
     (subst (λ l. AreMarked (columns_of a + 1) l a.rows.items) (sym c.deref_mut-3.ensures.value)
     c.self.invariant.marked))
 
+pub settle_pivot-requires-clause-ready : goal.settle_pivot-requires-clause-ready
+settle_pivot-requires-clause-ready c =
+    let a = c.self.inside in
+    let prepared = c.prepare_pivot.new in
+    let rows = c.deref_mut-2.ensures.value ∙ with_items_is a.rows prepared.rows
+    (c.prepare_pivot.auto.rows ∙ c.deref_mut.ensures.len) in
+    ready_same c.deref_mut-2.result.now prepared.rows c.args.r c.args.q c.deref_mut-3.result.now
+    c.deref.result.now a.in_first prepared.first prepared.second prepared.step rows
+    (c.deref_mut-3.ensures.value ∙ sym c.deref.ensures.value)
+    c.in_ok-prepare_pivot.ensures.ok
+
 pub invariant_of-self-2 : goal.invariant_of-self-2
 invariant_of-self-2 c =
     let a = c.self.inside in
@@ -123,11 +134,7 @@ invariant_of-self-2 c =
     settled.rows).items) (sym marks)
     (subst (AreMarked (columns_of a + 1) settled.marks) (sym last)
     (subst (λ n. AreMarked n settled.marks settled.rows) wide
-    (c.settle_pivot.ensures.marked
-    (ready_same c.deref_mut-2.result.now prepared.rows c.args.r c.args.q c.deref_mut-3.result.now
-    c.deref.result.now a.in_first prepared.first prepared.second prepared.step rows
-    (c.deref_mut-3.ensures.value ∙ sym c.deref.ensures.value)
-    c.in_ok-prepare_pivot.ensures.ok)))))
+    c.settle_pivot.ensures.marked)))
 
 pub returns-clause-board : goal.returns-clause-board
 returns-clause-board c =
@@ -163,8 +170,4 @@ returns-clause-board c =
     (c.settle_pivot.ensures.settled (columns_of a) (c.prepare_pivot.ensures.step_wide
     ∙ c.self.invariant.spare)
     (ap width_of c.prepare_pivot.ensures.first_stays ∙ c.self.invariant.first)
-    (ap width_of c.prepare_pivot.ensures.second_stays ∙ c.self.invariant.second)
-    (ready_same c.deref_mut-2.result.now prepared.rows c.args.r c.args.q c.deref_mut-3.result.now
-    c.deref.result.now a.in_first prepared.first prepared.second prepared.step rows
-    (c.deref_mut-3.ensures.value ∙ sym c.deref.ensures.value)
-    c.in_ok-prepare_pivot.ensures.ok)))
+    (ap width_of c.prepare_pivot.ensures.second_stays ∙ c.self.invariant.second)))

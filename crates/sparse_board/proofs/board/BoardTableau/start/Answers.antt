@@ -56,7 +56,7 @@ invariant_of-result c =
     c.in_ok-rows.ensures.wide
     (c.in_ok-first.ensures.wide ∙ ap length c.deref.ensures.value ∙ (first_listed c).long)
     (c.in_ok-second.ensures.wide ∙ ap length c.deref-2.ensures.value ∙ (second_listed c).long)
-    c.in_ok-step.ensures.width
+    c.in_ok-step.ensures
     (ap length c.in_ok-basis.ensures ∙ length-range_with_len c.args.c c.args.m)
     (c.in_ok-marks.ensures.long ∙ ap (λ l. (c.args.c + c.args.m + 1) * length l)
     c.deref-3.ensures.value)

@@ -1,6 +1,13 @@
-use Rattle.sparse_board.proofs.RowSteps.{zero_row_stays}
+use Rattle.std.proofs.Common.{sym, ◌∙◌}
+use Rattle.sparse_board.proofs.MixedSteps.{in_place_prepared, settled_still}
 use Rattle.sparse_board.proofs.row.Row.settle.Goals as goal
 
-pub returns-else-self-clause-lowered : goal.returns-else-self-clause-lowered
-returns-else-self-clause-lowered c =
-    λ q units. zero_row_stays c.args.self.now q units c.if-self.false
+pub lower-requires-clause-room : goal.lower-requires-clause-room
+lower-requires-clause-room c =
+    in_place_prepared c.args.q c.args.step.now c.args.self.now
+    (sym c.is_in_place.ensures ∙ c.if-is_in_place.true) c.requires
+
+pub returns-else-self : goal.returns-else-self
+returns-else-self c =
+    settled_still c.args.q c.args.step.now c.args.self.now
+    (sym c.is_in_place.ensures ∙ c.if-is_in_place.false) c.if-self.false c.requires

@@ -1,0 +1,38 @@
+use Rattle.std.proofs.Common.{◌+◌, ◌*◌, ◌<◌, ◌≡◌, ◌∙◌, ap, arith, length, subst, sym}
+use Rattle.simplex_form.specs.Search.{best_below}
+use Rattle.sparse_board.specs.Kept.{columns_of}
+use Rattle.sparse_board.specs.Leaving.{leaves_before, may_leave}
+use Rattle.sparse_board.specs.Marks.{AreMarked}
+use Rattle.sparse_board.specs.Rows.{AreWide}
+use Rattle.sparse_board.proofs.BoardSteps.{column_within, leaving_is, leaving_row, vec_count}
+use Rattle.sparse_board.proofs.board.BoardTableau.leaving.Goals as goal
+use Rattle.sparse_board.proofs.board.BoardTableau.leaving.Goals.{After-deref-3}
+
+side_is : (c : After-deref-3) → c.self.inside.reals + c.len.result ≡ columns_of c.self.inside
+side_is c =
+    ap (λ n. c.self.inside.reals + n) (vec_count c.self.inside c.len.result c.len.ensures)
+
+pub leaving-requires-clause-wide : goal.leaving-requires-clause-wide
+leaving-requires-clause-wide c =
+    subst (λ l. AreWide (c.self.inside.reals + c.len.result + 1) l) (sym c.deref.ensures.value)
+    (subst (λ n. AreWide (n + 1) c.self.inside.rows.items)
+    (sym (side_is (goal.at.leaving-requires-clause-wide c).After-deref-3)) c.self.invariant.wide)
+
+pub returns-clause-value : goal.returns-clause-value
+returns-clause-value c =
+    let a = c.self.inside in
+    let q = c.args.q in
+    c.leaving.ensures.value
+    ∙ (λ k. best_below (length (c.deref.ensures.value k)) (may_leave (c.deref.ensures.value k) q)
+    (leaves_before (c.deref.ensures.value k) (c.deref-2.ensures.value k)
+    (a.reals + vec_count a c.len.result c.len.ensures k) q))
+    ∙ leaving_is a q c.args.self.now c.self.view_is
+    (column_within a c.args.self.now q c.self.view_is c.requires.column)
+
+pub returns-clause-row : goal.returns-clause-row
+returns-clause-row c =
+    let a = c.self.inside in
+    leaving_row a c.args.q c.args.self.now c.deref.result.now c.leaving.result c.self.view_is
+    c.deref.ensures.value
+    (column_within a c.args.self.now c.args.q c.self.view_is c.requires.column)
+    c.leaving.ensures.candidate

@@ -1,0 +1,104 @@
+use Rattle.std.proofs.Common.{◌≡◌, ◌+◌, ◌<◌, ◌∙◌, ap, arith, false, length, nat_lt, rules, slice_index_or, subst, sym, IfSome}
+use Rattle.ratio_core.specs.Rational.{zero_ℚ, ◌/ℚ◌, ◌‹ℚ◌}
+use Rattle.simplex_form.specs.Turns.{is_below}
+use Rattle.tableau_core.specs.Leaving.{comes_before}
+use Rattle.sparse_board.specs.Leaving.{IsCandidate, leaves_before, may_leave}
+use Rattle.sparse_board.specs.Marks.{is_marked}
+use Rattle.sparse_board.proofs.LeavingSteps.{better_none, better_some, item_number, item_width, passed_better, zero_below}
+use Rattle.sparse_board.proofs.leaving.leaves_first.Goals as goal
+use Rattle.sparse_board.proofs.leaving.leaves_first.Goals.{After-is_entry_positive, After-index-rows-k}
+
+pub returns-then-not-marks-q-clause-value : goal.returns-then-not-marks-q-clause-value
+returns-then-not-marks-q-clause-value c =
+    let rows = c.args.rows.now in
+    let unmarked : is_marked c.args.marks.now (length rows) c.args.q c.args.i ≡ false =
+    search rules in
+    passed_better (may_leave rows c.args.q)
+    (leaves_before rows c.args.basis.now c.args.side c.args.q) c.args.best c.args.i
+    (zero_below _ (c.requires.marked c.args.i c.requires.row c.args.q
+    (omega (arith, c.requires.column)) unmarked))
+
+pub is_entry_positive-requires : goal.is_entry_positive-requires
+is_entry_positive-requires c =
+    let wide = item_width (c.args.side + 1) c.args.rows.now c.args.i c.index-rows-i.result
+    c.index-rows-i.result c.requires.wide c.requires.row c.index-rows-i.is in
+    subst (λ n. c.args.q + 1 < n) (sym wide) (omega (arith, c.requires.column))
+
+-- the test, as the code makes it
+tested : (c : After-is_entry_positive) → may_leave c.args.rows.now c.args.q c.args.i
+    ≡ c.is_entry_positive.result
+tested c =
+    sym (c.is_entry_positive.ensures.value
+    ∙ ap (is_below zero_ℚ) (item_number c.args.rows.now c.args.i c.index-rows-i.result
+    c.index-rows-i.result c.requires.row c.index-rows-i.is c.args.q))
+
+pub returns-then-not-is_entry_positive-clause-value :
+    goal.returns-then-not-is_entry_positive-clause-value
+returns-then-not-is_entry_positive-clause-value c =
+    passed_better (may_leave c.args.rows.now c.args.q)
+    (leaves_before c.args.rows.now c.args.basis.now c.args.side c.args.q) c.args.best c.args.i
+    (tested (goal.at.returns-then-not-is_entry_positive-clause-value c).After-is_entry_positive
+    ∙ c.if-not-is_entry_positive.true)
+
+-- the best so far
+candidate : (c : After-index-rows-k) → IsCandidate c.args.rows.now c.args.q c.in-Some.k
+candidate c =
+    subst (λ o. IfSome o (λ k. IsCandidate c.args.rows.now c.args.q k)) c.in-Some.is
+    c.requires.best
+
+pub leaves_sooner-requires-clause-width : goal.leaves_sooner-requires-clause-width
+leaves_sooner-requires-clause-width c =
+    item_width (c.args.side + 1) c.args.rows.now c.args.i c.index-rows-i.result
+    c.index-rows-i.result c.requires.wide c.requires.row c.index-rows-i.is
+
+pub leaves_sooner-requires-clause-other_width : goal.leaves_sooner-requires-clause-other_width
+leaves_sooner-requires-clause-other_width c =
+    item_width (c.args.side + 1) c.args.rows.now c.in-Some.k c.index-rows-k.result
+    c.index-rows-k.result c.requires.wide (candidate (goal.at.leaves_sooner-requires-clause-other_width c).After-index-rows-k).within c.index-rows-k.is
+
+pub leaves_sooner-requires-clause-other_above : goal.leaves_sooner-requires-clause-other_above
+leaves_sooner-requires-clause-other_above c =
+    subst (λ x. zero_ℚ ‹ℚ x) (sym (item_number c.args.rows.now c.in-Some.k c.index-rows-k.result
+    c.index-rows-k.result (candidate (goal.at.leaves_sooner-requires-clause-other_above c).After-index-rows-k).within c.index-rows-k.is c.args.q)) (candidate (goal.at.leaves_sooner-requires-clause-other_above c).After-index-rows-k).above
+
+pub returns-in-Some-clause-value : goal.returns-in-Some-clause-value
+returns-in-Some-clause-value c =
+    let rows = c.args.rows.now in
+    let one = item_number rows c.args.i c.index-rows-i.result c.index-rows-i.result c.requires.row
+    c.index-rows-i.is in
+    let two = item_number rows c.in-Some.k c.index-rows-k.result c.index-rows-k.result
+    (candidate (goal.at.returns-in-Some-clause-value c).After-index-rows-k).within
+    c.index-rows-k.is in
+    better_some (may_leave rows c.args.q)
+    (leaves_before rows c.args.basis.now c.args.side c.args.q) c.args.best c.args.i c.in-Some.k
+    c.leaves_sooner.result c.in-Some.is
+    (tested (goal.at.returns-in-Some-clause-value c).After-is_entry_positive
+    ∙ c.if-not-is_entry_positive.false)
+    (c.leaves_sooner.ensures
+    ∙ (λ z. comes_before (one c.args.side z /ℚ one c.args.q z) (two c.args.side z /ℚ two c.args.q z)
+    (nat_lt (slice_index_or c.args.basis.now c.args.i 0)
+    (slice_index_or c.args.basis.now c.in-Some.k 0))))
+
+pub returns-in-Some-clause-candidate : goal.returns-in-Some-clause-candidate
+returns-in-Some-clause-candidate c = λ _. record {
+  within = c.requires.row;
+  above = subst (λ x. zero_ℚ ‹ℚ x) (item_number c.args.rows.now c.args.i c.index-rows-i.result
+      c.index-rows-i.result c.requires.row c.index-rows-i.is c.args.q)
+      (c.is_entry_positive.ensures.above c.if-not-is_entry_positive.false);
+}
+
+pub returns-in-None-clause-value : goal.returns-in-None-clause-value
+returns-in-None-clause-value c =
+    better_none (may_leave c.args.rows.now c.args.q)
+    (leaves_before c.args.rows.now c.args.basis.now c.args.side c.args.q) c.args.best c.args.i
+    c.in-None.is
+    (tested (goal.at.returns-in-None-clause-value c).After-is_entry_positive
+    ∙ c.if-not-is_entry_positive.false)
+
+pub returns-in-None-clause-candidate : goal.returns-in-None-clause-candidate
+returns-in-None-clause-candidate c = λ _. record {
+  within = c.requires.row;
+  above = subst (λ x. zero_ℚ ‹ℚ x) (item_number c.args.rows.now c.args.i c.index-rows-i.result
+      c.index-rows-i.result c.requires.row c.index-rows-i.is c.args.q)
+      (c.is_entry_positive.ensures.above c.if-not-is_entry_positive.false);
+}

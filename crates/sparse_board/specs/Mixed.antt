@@ -1,0 +1,52 @@
+-- What a row of whole numbers or of fractions stands for.
+use Rattle.std.specs.Prelude.{◌≡◌, ℕ, ◌*◌, ◌/◌, ◌^◌, ◌<◌, ◌≤◌, Bool, true, List, length, if◌then◌else◌, unsigned_abs}
+use Rattle.std.specs.Int.{◌∣◌}
+use Rattle.ratio_core.specs.Rational.{Rational, ◌*ℚ◌, ◌-ℚ◌}
+use Rattle.tableau_core.specs.Row.{cell}
+use Rattle.whole_rows.specs.Rows as whole
+use Rattle.sparse_board.specs.declared.mixed_row.MixedRow.{MixedRow}
+use Rattle.sparse_board.specs.declared.step.Step.{Step}
+use Rattle.sparse_board.specs.declared.narrowing.Shape.{Shape}
+use Rattle.sparse_board.specs.Numbers as sparse
+
+-- how many columns there are
+abbrev pub width_of : MixedRow → ℕ
+width_of row = row.width
+
+-- the number of column j
+abbrev pub number_of : MixedRow → ℕ → Rational
+number_of row j = if row.is_wide then sparse.number_of row.wide j else whole.number_of row.narrow j
+
+-- the same numbers, in as many columns
+pub record IsSame (row next : MixedRow) : Type 0 where
+  pub width : width_of next ≡ width_of row
+  pub numbers : (j : ℕ) → j < width_of row → number_of next j ≡ number_of row j
+
+-- each number is lowered by a multiple of the units
+pub record IsLowered (by : Rational) (units : ℕ → Rational) (row next : MixedRow) : Type 0 where
+  pub width : width_of next ≡ width_of row
+  pub numbers : (j : ℕ) → j < width_of row → number_of next j ≡ number_of row j -ℚ by *ℚ units j
+
+-- the numbers of a step
+abbrev pub units_of : Step → ℕ → Rational
+units_of step j =
+    if step.is_narrow then whole.number_of step.narrow.row j else sparse.number_of step.wide j
+
+-- the fractions of a step, where they are worked out, are its numbers
+abbrev pub IsBoth : Step → Type 0
+IsBoth step =
+    step.is_spread ≡ true → (j : ℕ) → j < step.width
+    → sparse.number_of step.wide j ≡ units_of step j
+
+-- a denominator of the first n numbers
+pub record IsDenominator (values : List Rational) (n den : ℕ) : Type 0 where
+  pub above : 0 < den
+  pub small : den < 2 ^ 63
+  pub divides : (k : ℕ) → k < n → (cell values k).den ∣ den
+
+-- a denominator of the numbers, and a bound of their numerators
+pub record IsShape (values : List Rational) (shape : Shape) : Type 0 where
+  pub denominator : IsDenominator values (length values) shape.den
+  pub small : shape.bound < 2 ^ 63
+  pub within : (k : ℕ) → k < length values →
+      unsigned_abs (cell values k).num * (shape.den / (cell values k).den) ≤ shape.bound

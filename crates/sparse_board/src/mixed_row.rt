@@ -1,0 +1,136 @@
+//! A row of whole numbers, or of fractions where 64 bits are not enough.
+ghost use Rattle.std.specs.Prelude.{◌≡◌, ◌≤◌, ◌<◌, ◌+◌, ◌^◌, true};
+ghost use Rattle.sparse_board.specs.Numbers as sparse;
+ghost use Rattle.whole_rows.specs.Rows as whole;
+
+use crate::narrowing::narrow_to;
+use crate::sparse_row::SparseRow;
+use crate::spreading::spread_lowered;
+use crate::step::Step;
+use ratio_core::Ratio;
+use std::alloc::{AllocError, Global};
+use std::mem;
+use whole_rows::{NarrowRow, NarrowStep, number};
+
+// There is room for the fractions where the row is wide. The whole numbers of a wide row mean
+// nothing, nor do the fractions of a narrow one.
+#[derive(Drop)]
+pub(crate) struct MixedRow {
+    pub(crate) width: usize,
+    pub(crate) narrow: NarrowRow,
+    pub(crate) wide: SparseRow,
+    pub(crate) is_wide: bool,
+    ghost few: { width < 2 ^ 32 },
+    ghost room: { width ≤ whole.width_of narrow + 1 },
+    ghost most: { sparse.width_of wide ≤ width },
+    ghost full: { is_wide ≡ true → sparse.width_of wide ≡ width },
+}
+
+impl MixedRow {
+    ghost use Rattle.std.specs.Prelude.{ℕ, false, IfOk};
+    ghost use Rattle.ratio_core.specs.Rational.{◌*ℚ◌, ◌-ℚ◌};
+    ghost use Rattle.whole_rows.specs.Rows.{can_stay};
+    ghost use Rattle.sparse_board.specs.Mixed.{IsSame, number_of, units_of, width_of};
+
+    // A row of these fractions, with whole numbers for so many columns.
+    pub(crate) fn new(
+        alloc: Global,
+        wide: SparseRow,
+        width: usize,
+        columns: usize,
+    ) -> Result<MixedRow, AllocError>
+        requires width { sparse.width_of wide ≡ width }
+        requires room { width ≤ columns + 1 }
+        requires few { width < 2 ^ 32 }
+        ensures width { IfOk result (λ row. width_of row ≡ width) }
+        ensures numbers { IfOk result (λ row.
+            (j : ℕ) → number_of row j ≡ sparse.number_of wide j) }
+    {
+        let narrow = NarrowRow::zeros(alloc, columns)?;
+        Ok(MixedRow {
+            width,
+            narrow,
+            wide,
+            is_wide: true,
+        })
+    }
+
+    // The number of a column.
+    pub(crate) fn number(&self, column: u32) -> Ratio
+        ensures { result ≡ number_of self.now column }
+    {
+        if self.is_wide {
+            self.wide.number(column)
+        } else {
+            number(&self.narrow, column as usize)
+        }
+    }
+
+    // Becomes a row of whole numbers where that is possible.
+    pub(crate) fn come_back(&mut self)
+        ensures { IsSame self.old self.new }
+    {
+        if self.is_wide && narrow_to(&self.wide, &mut self.narrow) {
+            self.is_wide = false;
+        }
+    }
+
+    // Lets the room for fractions go where the row is narrow.
+    pub(crate) fn let_go(&mut self, alloc: Global)
+        ensures { IsSame self.old self.new }
+    {
+        if self.is_wide {
+            return;
+        }
+        self.wide = SparseRow::closed(alloc);
+    }
+
+    // Takes fractions in as many columns.
+    pub(crate) fn take(&mut self, wide: &mut SparseRow)
+        requires { sparse.width_of wide.old ≡ width_of self.old }
+        ensures width { width_of self.new ≡ width_of self.old }
+        ensures wide_width { sparse.width_of wide.new ≤ width_of self.old }
+        ensures numbers { (j : ℕ) → j < width_of self.old
+            → number_of self.new j ≡ sparse.number_of wide.old j }
+    {
+        mem::swap(&mut self.wide, wide);
+        self.is_wide = true;
+        self.come_back();
+    }
+
+    // Takes the numbers of a step in as many columns, which then has none.
+    pub(crate) fn take_step(&mut self, step: &mut Step)
+        requires { step.old.width ≡ width_of self.old }
+        ensures width { width_of self.new ≡ width_of self.old }
+        ensures step_width { step.new.width ≡ step.old.width }
+        ensures numbers { (j : ℕ) → j < width_of self.old
+            → number_of self.new j ≡ units_of step.old j }
+    {
+        if step.is_narrow {
+            self.narrow.copy(&step.narrow.row);
+            self.is_wide = false;
+        } else {
+            step.is_narrow = true;
+            self.take(&mut step.wide);
+        }
+    }
+
+    // Lowers a row of whole numbers by its number of column q times the step. It can't fail: where
+    // the row doesn't stay narrow, each of its fractions fits, and there is room for them.
+    pub(crate) fn lower(&mut self, step: &NarrowStep, q: usize, room: &mut SparseRow)
+        requires narrow { self.old.is_wide ≡ false }
+        requires most { sparse.width_of room.old ≤ width_of self.old }
+        requires room { can_stay q step.now.row self.old.narrow ≡ false
+            → sparse.width_of room.old ≡ width_of self.old }
+        ensures width { width_of self.new ≡ width_of self.old }
+        ensures most { sparse.width_of room.new ≤ width_of self.old }
+        ensures numbers { (j : ℕ) → j < width_of self.old → number_of self.new j
+            ≡ number_of self.old j -ℚ number_of self.old q *ℚ whole.number_of step.now.row j }
+    {
+        if self.narrow.lower(step, q) {
+            return;
+        }
+        spread_lowered(&self.narrow, &step.row, q, room);
+        self.take(room);
+    }
+}

@@ -1,0 +1,113 @@
+-- Rows whose marks are those of their numbers, after a step. The lists are given as the code has
+-- them, with equations that say what they are.
+use Rattle.std.specs.Prelude.{◌≡◌, ℕ, ◌+◌, ◌*◌, ◌/◌, ◌^◌, ◌<◌, ◌≤◌, ◌⊎◌, Bool, ◌&&◌, true, false, is_some, List, length, MatchOption, Option, Some, None, slice_index_or, ℤ, pos, unsigned_abs}
+use Rattle.std.proofs.Common.{inl, inr, sym, ◌∙◌, ap, ap₂, arith, div-le_self, mul-le-mul_left, mul-le-mul_right, subst, subst₂, true≢false}
+use Rattle.std.proofs.lemmas.Bool.{cases_lt, eq-eqb, lt-ltb}
+use Rattle.std.proofs.lemmas.List.{get_or_default, get_or_past}
+use Rattle.ratio_core.specs.Gcd.{gcd}
+use Rattle.ratio_core.specs.Rational.{reduce, zero_ℚ}
+use Rattle.rational_laws.specs.Over.{over-zero_ℚ}
+use Rattle.whole_rows.specs.Blocks.{Covers, Joins, blocks_of}
+use Rattle.whole_rows.specs.declared.narrow_row.NarrowRow.{NarrowRow}
+use Rattle.whole_rows.specs.Numerators.{AreDivided, AreLowered, AreMade, AreShrunk, numerator}
+use Rattle.whole_rows.specs.Rows.{can_stay, number_of, numerator_of, width_of}
+use Rattle.whole_rows.proofs.BlockSteps.{covers_divided, covers_lowered, covers_shrunk}
+
+module _ (row step : NarrowRow) (same : width_of step ≡ width_of row) (N n N' items : List ℤ)
+    (B others B' blocks : List Bool) (N_is : N ≡ row.numbers.items) (n_is : n ≡ step.numbers.items)
+    (items_are : items ≡ N') (B_is : B ≡ row.blocks.items) (others_are : others ≡ step.blocks.items)
+    (joins : Joins (length B) others B B') (blocks_are : blocks ≡ B') where
+  long : length others ≡ length B
+  long =
+      ap length others_are ∙ step.blocks_long ∙ ap blocks_of same ∙ sym row.blocks_long
+      ∙ sym (ap length B_is)
+
+  row_covers : Covers B N
+  row_covers = subst₂ Covers (sym B_is) (sym N_is) row.covers
+
+  step_covers : Covers others n
+  step_covers = subst₂ Covers (sym others_are) (sym n_is) step.covers
+
+  pub lowered_covers : (over : ℕ) (by : ℤ) → AreLowered over by n (length N) N N'
+      → Covers blocks items
+  lowered_covers over by lowered =
+      subst₂ Covers (sym blocks_are) (sym items_are)
+      (covers_lowered over by others B B' N n N' joins long row_covers step_covers lowered)
+
+  pub shrunk_covers : (over : ℕ) (by : ℤ) (common : ℕ) → 0 < common
+      → AreShrunk over by n common (length N) N N' → Covers blocks items
+  shrunk_covers over by common above shrunk =
+      subst₂ Covers (sym blocks_are) (sym items_are)
+      (covers_shrunk over by common others B B' N n N' above joins long row_covers step_covers
+      shrunk)
+
+pub divided_covers : (row : NarrowRow) (by : ℤ) (N N' items : List ℤ) → N ≡ row.numbers.items
+    → items ≡ N' → ¬ (by ≡ pos 0) → AreDivided by (length N) N N' → Covers row.blocks.items items
+divided_covers row by N N' items N_is items_are nonzero divided =
+    subst (Covers row.blocks.items) (sym items_are)
+    (covers_divided by row.blocks.items N N' nonzero
+    (subst (Covers row.blocks.items) (sym N_is) row.covers) divided)
+
+-- there are as many blocks as there were
+pub long_kept : (row : NarrowRow) (items : List ℤ) (blocks : List Bool)
+    → length blocks ≡ length row.blocks.items → length items ≡ width_of row
+    → length blocks ≡ blocks_of (length items)
+long_kept row items blocks e f = e ∙ row.blocks_long ∙ ap blocks_of (sym f)
+
+pub zero_number : (row : NarrowRow) (j : ℕ) → j < width_of row
+    → slice_index_or row.numbers.items j (pos 0) ≡ pos 0 → number_of row j ≡ zero_ℚ
+zero_number row j b z =
+    ap (λ n. reduce n row.den) (get_or_default row.numbers.items j row.side (pos 0) b ∙ z)
+    ∙ sym (over-zero_ℚ row.den row.above)
+
+-- the numerators of a row that is copied, and its right side
+pub copied_numerators : (row : NarrowRow) (old N items : List ℤ) (side : ℤ) → items ≡ N
+    → AreMade (numerator_of row) (length old) old N → side ≡ numerator_of row (length old)
+    → (j : ℕ) → j ≤ length old → numerator items side j ≡ numerator_of row j
+copied_numerators row old N items side is made side_is j b = by_end (cases_lt j (length old))
+  where
+    long_lem : length items ≡ length old
+    long_lem = ap length is ∙ made.long
+
+    end_lem : (j n : ℕ) → j ≤ n → n ≤ j → n ≡ j
+    end_lem j n x y = omega (arith, x, y)
+
+    by_end : (j < length old) ⊎ (length old ≤ j) → numerator items side j ≡ numerator_of row j
+    by_end (inl c) =
+        get_or_default items j side (pos 0) (subst (λ n. j < n) (sym long_lem) c)
+        ∙ ap (λ l. slice_index_or l j (pos 0)) is ∙ made.made j c
+    by_end (inr h) =
+        get_or_past items j side (subst (λ n. n ≤ j) (sym long_lem) h) ∙ side_is
+        ∙ ap (numerator_of row) (end_lem j (length old) b h)
+
+-- ---- a row that stays narrow
+
+part_bound : (b o s t g h : ℕ) → b * o + s * t < 2 ^ 63 → b * (o / g) + (s / h) * t < 2 ^ 63
+part_bound b o s t g h x =
+    let left : b * (o / g) ≤ b * o = mul-le-mul_left b (div-le_self o g) in
+    let right : (s / h) * t ≤ s * t = mul-le-mul_right t (div-le_self s h) in
+    omega (arith, left, right, x)
+
+part_den : (d o g : ℕ) → d * o < 2 ^ 63 → d * (o / g) < 2 ^ 63
+part_den d o g x =
+    let left : d * (o / g) ≤ d * o = mul-le-mul_left d (div-le_self o g) in
+    omega (arith, left, x)
+
+-- what isn't reduced is larger still
+pub stays_by : (q : ℕ) (step row : NarrowRow) → q < width_of row → width_of step ≡ width_of row
+    → row.den * step.den < 2 ^ 63
+    → row.bound * step.den + unsigned_abs (numerator_of row q) * step.bound < 2 ^ 63
+    → can_stay q step row ≡ true
+stays_by q step row column width den bound =
+    ap₂ ◌&&◌ (ap₂ ◌&&◌ (lt-ltb q (width_of row) column) (eq-eqb (width_of step) (width_of row) width))
+    (ap₂ ◌&&◌
+    (lt-ltb _ (2 ^ 63) (part_bound row.bound step.den (unsigned_abs (numerator_of row q)) step.bound
+    (gcd (unsigned_abs (numerator_of row q)) step.den)
+    (gcd (unsigned_abs (numerator_of row q)) step.den) bound))
+    (lt-ltb _ (2 ^ 63) (part_den row.den step.den (gcd (unsigned_abs (numerator_of row q)) step.den)
+    den)))
+
+pub some_fits : (o : Option ℕ) (x : ℕ)
+    → MatchOption o (2 ^ 63 ≤ x) (λ n. (n ≡ x) × (n < 2 ^ 63)) → is_some o ≡ true → x < 2 ^ 63
+some_fits None x h e = absurd (true≢false (sym e))
+some_fits (Some n) x h e = subst (λ m. m < 2 ^ 63) h.0 h.1

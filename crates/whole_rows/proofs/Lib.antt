@@ -1,0 +1,15 @@
+pub mod BitLaws
+pub mod BlockSteps
+pub mod LoweringSteps
+pub mod RowSteps
+pub mod PlanSteps
+pub mod DividingSteps
+pub mod DivisionSteps
+pub mod RatioSteps
+pub mod WideSteps
+pub mod ShrinkSteps
+pub mod LongSteps
+pub mod ListedSteps
+pub mod ListedDividingSteps
+pub mod CoverSteps
+pub mod CommonSteps

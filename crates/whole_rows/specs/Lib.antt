@@ -1,0 +1,13 @@
+-- What the contracts cite.
+pub mod Over
+pub mod FitLaws
+pub mod Narrows
+pub mod NarrowFit
+pub mod Numerators
+pub mod Rows
+pub mod RatioLaws
+pub mod RowLaws
+pub mod Shrinking
+pub mod Listed
+pub mod Common
+pub mod Blocks

@@ -1,0 +1,69 @@
+-- What a row of whole numbers stands for, and what a pivot makes of it.
+use Rattle.std.specs.Prelude.{◌≡◌, ◌≢◌, ℕ, ◌+◌, ◌*◌, ◌^◌, ◌<◌, ◌≤◌, Bool, ◌&&◌, nat_eq, nat_lt, ℤ, pos, ◌*ℤ◌, int_div, length, unsigned_abs}
+use Rattle.ratio_core.specs.Rational.{Rational, reduce, ◌*ℚ◌, ◌-ℚ◌, ◌/ℚ◌}
+use Rattle.ratio_core.specs.Gcd.{gcd}
+use Rattle.whole_rows.specs.declared.narrow_row.NarrowRow.{NarrowRow}
+use Rattle.std.specs.Int.{◌∣◌}
+use Rattle.whole_rows.specs.declared.plan.Division.{Division}
+use Rattle.whole_rows.specs.declared.plan.Plan.{Plan}
+use Rattle.whole_rows.specs.Numerators.{numerator, over_left, size_left}
+
+abbrev pub width_of : NarrowRow → ℕ
+width_of row = length row.numbers.items
+
+-- the numerator of column j; behind the columns stands the right side
+abbrev pub numerator_of : NarrowRow → ℕ → ℤ
+numerator_of row j = numerator row.numbers.items row.side j
+
+abbrev pub number_of : NarrowRow → ℕ → Rational
+number_of row j = reduce (numerator_of row j) row.den
+
+-- each number is lowered by a multiple of the step's
+pub record IsLowered (q : ℕ) (step row next : NarrowRow) : Type 0 where
+  pub width : width_of next ≡ width_of row
+  pub numbers : (j : ℕ) → j < width_of row + 1 →
+      number_of next j ≡ number_of row j -ℚ number_of row q *ℚ number_of step j
+
+-- each number is divided by that of column q
+pub record IsDivided (q : ℕ) (row next : NarrowRow) : Type 0 where
+  pub width : width_of next ≡ width_of row
+  pub numbers : (j : ℕ) → j < width_of row + 1 →
+      number_of next j ≡ number_of row j /ℚ number_of row q
+
+-- the bound and the denominator of the row that is lowered
+abbrev pub next_bound : ℕ → NarrowRow → NarrowRow → ℕ
+next_bound q step row =
+    row.bound * over_left (numerator_of row q) step.den
+    + size_left (numerator_of row q) step.den * step.bound
+
+abbrev pub next_den : ℕ → NarrowRow → NarrowRow → ℕ
+next_den q step row = row.den * over_left (numerator_of row q) step.den
+
+abbrev pub stays_narrow : ℕ → NarrowRow → NarrowRow → Bool
+stays_narrow q step row =
+    nat_lt (next_bound q step row) (2 ^ 63) && nat_lt (next_den q step row) (2 ^ 63)
+
+-- the same, of rows of the same columns
+abbrev pub can_stay : ℕ → NarrowRow → NarrowRow → Bool
+can_stay q step row =
+    nat_lt q (width_of row) && nat_eq (width_of step) (width_of row) && stays_narrow q step row
+
+-- the plan by which the row is lowered and stays narrow
+pub record IsPlan (q : ℕ) (step row : NarrowRow) (plan : Plan) : Type 0 where
+  pub over : plan.over ≡ over_left (numerator_of row q) step.den
+  pub by : plan.by ≡ int_div (numerator_of row q)
+      (pos (gcd (unsigned_abs (numerator_of row q)) step.den))
+  pub bound : plan.bound ≡ next_bound q step row
+  pub den : plan.den ≡ next_den q step row
+  pub small_bound : plan.bound < 2 ^ 63
+  pub small_den : plan.den < 2 ^ 63
+
+-- what all numerators of the row are divided by, with the sign of the one of column q
+pub record IsDivision (q : ℕ) (row : NarrowRow) (division : Division) : Type 0 where
+  pub nonzero : division.by ≢ pos 0
+  pub exact : (j : ℕ) → unsigned_abs division.by ∣ unsigned_abs (numerator_of row j)
+  pub entry : numerator_of row q ≡ pos division.den *ℤ division.by
+  pub above : 0 < division.den
+  pub within : (j : ℕ) → unsigned_abs (numerator_of row j) ≤ division.bound * unsigned_abs division.by
+  pub small_den : division.den < 2 ^ 63
+  pub small_bound : division.bound < 2 ^ 63

@@ -1,0 +1,89 @@
+//! Whole numbers of 64 bits.
+ghost use Rattle.std.specs.Prelude.{◌≡◌, ◌+◌, ◌*◌, ◌/◌, ◌<◌, ◌≤◌, ◌^◌, MatchOption, int_div, pos, unsigned_abs};
+ghost use Rattle.ratio_core.specs.Gcd.{gcd};
+ghost use Rattle.whole_rows.specs.Over.{lowered_num};
+
+// Numerators, denominators and bounds are below it.
+const END: u128 = 9223372036854775808;
+
+// The greatest common divisor, by Euclid's rule.
+#[tactic(auto, using(ratio_core::specs::Gcd::remainders))]
+pub(crate) fn common_divisor(a: u64, b: u64) -> u64
+    requires { 0 < b }
+    ensures value { result ≡ gcd a b }
+    ensures positive { 0 < result }
+    ensures within { result ≤ b }
+{
+    if b == 1 {
+        return 1;
+    }
+    let mut x = a;
+    let mut y = b;
+    while y != 0 {
+        let rest = x % y;
+        x = y;
+        y = rest;
+    }
+    x
+}
+
+// A number divided by what divides it.
+#[inline]
+pub(crate) fn exact(a: i64, by: u64) -> i64
+    requires positive { 0 < by }
+    requires small { by < 2 ^ 63 }
+    ensures { result ≡ int_div a (pos by) }
+{
+    if by == 1 {
+        return a;
+    }
+    a / by as i64
+}
+
+// A size divided by what divides it.
+#[inline]
+pub(crate) fn part(size: u64, by: u64) -> u64
+    requires { 0 < by }
+    ensures { result ≡ size / by }
+{
+    if by == 1 {
+        return size;
+    }
+    size / by
+}
+
+// A numerator lowered, where both parts stay below 2^63 together.
+#[inline]
+pub(crate) fn lowered(number: i64, over: u64, by: i64, unit: i64) -> i64
+    requires over { over < 2 ^ 63 }
+    requires fits { unsigned_abs number * over + unsigned_abs by * unsigned_abs unit < 2 ^ 63 }
+    ensures { result ≡ lowered_num number over by unit }
+{
+    number * over as i64 - by * unit
+}
+
+// The bound of numerators that are lowered, where it stays below 2^63.
+#[inline]
+pub(crate) fn next_bound(bound: u64, over: u64, size: u64, greatest: u64) -> Option<u64>
+    requires bound { bound < 2 ^ 63 }
+    requires over { over < 2 ^ 63 }
+    requires size { size < 2 ^ 63 }
+    requires greatest { greatest < 2 ^ 63 }
+    ensures { MatchOption result
+        (2 ^ 63 ≤ bound * over + size * greatest)
+        (λ n. (n ≡ bound * over + size * greatest) × (n < 2 ^ 63)) }
+{
+    let next = bound as u128 * over as u128 + size as u128 * greatest as u128;
+    if next < END { Some(next as u64) } else { None }
+}
+
+// The denominator of a row that is lowered, where it stays below 2^63.
+#[inline]
+pub(crate) fn next_den(den: u64, over: u64) -> Option<u64>
+    requires den { den < 2 ^ 63 }
+    requires over { over < 2 ^ 63 }
+    ensures { MatchOption result (2 ^ 63 ≤ den * over) (λ n. (n ≡ den * over) × (n < 2 ^ 63)) }
+{
+    let next = den as u128 * over as u128;
+    if next < END { Some(next as u64) } else { None }
+}

@@ -1,0 +1,99 @@
+//! A list of numerators that is divided by what divides all.
+ghost use Rattle.std.specs.Prelude.{◌≡◌, ◌≢◌, ◌<◌, ◌≤◌, ◌^◌, ℕ, ◌*ℤ◌, length, pos, slice_index_or, unsigned_abs};
+ghost use Rattle.std.specs.Int.{◌∣◌};
+ghost use Rattle.ratio_core.specs.Gcd.{gcd};
+ghost use Rattle.ratio_core.specs.Rational.{signed};
+ghost use Rattle.std.specs.Int.{is_negative};
+ghost use Rattle.whole_rows.specs.Listed.{Lists};
+ghost use Rattle.whole_rows.specs.Numerators.{AreDivided, AreWithin, IsMeasure, numerator};
+
+use crate::arithmetic::common_divisor;
+use crate::plan::Measure;
+
+// What divides a size, the right side and each numerator of the listed columns, and how large the
+// greatest of these is.
+pub(crate) fn measured(numbers: &[i64], columns: &[u32], side: i64, size: u64) -> Measure
+    requires positive { 0 < size }
+    requires side { unsigned_abs side < 2 ^ 63 }
+    requires lists { Lists columns.now numbers.now }
+    requires small { (j : ℕ) → unsigned_abs (slice_index_or numbers.now j (pos 0)) < 2 ^ 63 }
+    ensures { IsMeasure numbers.now (length numbers.now) side size result }
+{
+    let mut common = joined(side.unsigned_abs(), size);
+    let mut greatest = side.unsigned_abs();
+    for k in 0..columns.len() {
+        let part = numbers[columns[k] as usize].unsigned_abs();
+        common = joined(part, common);
+        greatest = greater(part, greatest);
+    }
+    Measure { common, greatest }
+}
+
+// Mostly there is nothing left to divide by.
+#[inline]
+fn joined(part: u64, common: u64) -> u64
+    requires { 0 < common }
+    ensures value { result ≡ gcd part common }
+    ensures positive { 0 < result }
+{
+    if common == 1 {
+        return 1;
+    }
+    common_divisor(part, common)
+}
+
+#[inline]
+fn greater(a: u64, b: u64) -> u64
+    ensures left { a ≤ result }
+    ensures right { b ≤ result }
+    ensures small { a < 2 ^ 63 → b < 2 ^ 63 → result < 2 ^ 63 }
+{
+    if a < b { b } else { a }
+}
+
+// The common divisor with the entry's sign.
+#[inline]
+pub(crate) fn with_sign(entry: i64, common: u64) -> i64
+    requires { common < 2 ^ 63 }
+    ensures { result ≡ signed (is_negative entry) common }
+{
+    if entry < 0 {
+        -(common as i64)
+    } else {
+        common as i64
+    }
+}
+
+// The numerator of which `a` is a multiple. Mostly it is taken once, or turned.
+#[inline]
+pub(crate) fn quotient(a: i64, by: i64) -> i64
+    requires nonzero { by ≢ pos 0 }
+    requires exact { unsigned_abs by ∣ unsigned_abs a }
+    requires small { unsigned_abs a < 2 ^ 63 }
+    ensures { a ≡ result *ℤ by }
+{
+    if by == 1 {
+        return a;
+    }
+    if by == -1 {
+        return -a;
+    }
+    a / by
+}
+
+// Divides each number, in place. Those that aren't 0 are of the listed columns.
+pub(crate) fn divide_numbers(numbers: &mut [i64], columns: &[u32], by: i64)
+    requires lists { Lists columns.now numbers.old }
+    requires nonzero { by ≢ pos 0 }
+    requires exact { (j : ℕ) → unsigned_abs by ∣ unsigned_abs (slice_index_or numbers.old j (pos 0)) }
+    requires small { (j : ℕ) → unsigned_abs (slice_index_or numbers.old j (pos 0)) < 2 ^ 63 }
+    ensures { AreDivided by (length numbers.old) numbers.old numbers.new }
+{
+    if by == 1 {
+        return;
+    }
+    for k in 0..columns.len() {
+        let j = columns[k] as usize;
+        numbers[j] = quotient(numbers[j], by);
+    }
+}

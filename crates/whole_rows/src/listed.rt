@@ -1,0 +1,50 @@
+//! The columns where a row isn't 0: a row is lowered there alone, which a pivot does most.
+ghost use Rattle.std.specs.Prelude.{◌≡◌, ◌<◌, ◌+◌, ◌*◌, ◌≤◌, ◌^◌, length, take, unsigned_abs};
+ghost use Rattle.whole_rows.specs.Listed.{Lists, lowered_once};
+ghost use Rattle.whole_rows.specs.Blocks.{Covers, blocks_of};
+ghost use Rattle.whole_rows.specs.Numerators.{AreLowered, LoweringFits};
+
+use crate::blocks::next_marked;
+
+// Notes the columns of the numbers that aren't 0, and tells how many there are.
+pub(crate) fn note_columns(numbers: &[i64], blocks: &[bool], columns: &mut [u32]) -> usize
+    requires covers { Covers blocks.now numbers.now }
+    requires blocks { length blocks.now ≡ blocks_of (length numbers.now) }
+    requires long { length numbers.now ≤ length columns.old }
+    requires few { length numbers.now < 2 ^ 32 }
+    ensures within { result ≤ length columns.new }
+    ensures lists { Lists (take result columns.new) numbers.now }
+{
+    let mut used = 0;
+    let mut j = next_marked(blocks, 0, numbers.len());
+    while j < numbers.len() {
+        if numbers[j] != 0 {
+            columns[used] = j as u32;
+            used += 1;
+        }
+        j = next_marked(blocks, j + 1, numbers.len());
+    }
+    used
+}
+
+// Lowers the numbers of the listed columns by a multiple of the step's, in place. The row's
+// denominator is a multiple of the step's, or was made one.
+pub(crate) fn lower_listed(numbers: &mut [i64], by: i64, step: &[i64], columns: &[u32])
+    requires long { length step.now ≡ length numbers.old }
+    requires lists { Lists columns.now step.now }
+    requires fits { LoweringFits 1 by step.now numbers.old }
+    ensures { AreLowered 1 by step.now (length numbers.old) numbers.old numbers.new }
+{
+    for k in 0..columns.len() {
+        let j = columns[k] as usize;
+        numbers[j] = less(numbers[j], by, step[j]);
+    }
+}
+
+#[inline]
+fn less(number: i64, by: i64, unit: i64) -> i64
+    requires { unsigned_abs number + unsigned_abs by * unsigned_abs unit < 2 ^ 63 }
+    ensures { result ≡ lowered_once number by unit }
+{
+    number - by * unit
+}

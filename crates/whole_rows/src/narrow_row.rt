@@ -1,0 +1,288 @@
+//! A row of whole numbers over one denominator, in 64 bits.
+ghost use Rattle.std.specs.Prelude.{◌≡◌, ◌+◌, ◌/◌, ◌<◌, ◌≤◌, ◌^◌, length};
+ghost use Rattle.whole_rows.specs.Blocks.{Covers, blocks_of};
+ghost use Rattle.whole_rows.specs.Numerators.{AreWithin};
+
+use crate::arithmetic::{common_divisor, exact, lowered, next_bound, next_den, part};
+use crate::blocks::{BLOCK, block_count, join_blocks, next_marked};
+use crate::clearing::{clear_numbers, copy_marked};
+use crate::dividing::{divide_numbers, measured, quotient, with_sign};
+use crate::lowering::lower_numbers;
+use crate::plan::{Division, LongPlan, Plan};
+use crate::shrinking::{bound_of, common_of, shrink_numbers, shrunk};
+use crate::step::NarrowStep;
+use crate::widening::numerator;
+use std::alloc::{AllocError, Global};
+
+/// A row of numbers, and a right side behind them: numerators over one denominator, not in lowest
+/// terms. No numerator is larger than the bound.
+#[derive(Drop)]
+pub struct NarrowRow {
+    /// The numerators by column.
+    pub numbers: Vec<i64>,
+    /// Marks of the blocks of columns in which a numerator may differ from 0.
+    pub blocks: Vec<bool>,
+    /// The numerator of the right side.
+    pub side: i64,
+    /// The denominator, above 0 and below 2^63.
+    pub den: u64,
+    /// Below 2^63.
+    pub bound: u64,
+    ghost above: { 0 < den },
+    ghost small_den: { den < 2 ^ 63 },
+    ghost small_bound: { bound < 2 ^ 63 },
+    ghost within: { AreWithin bound numbers.items side },
+    ghost blocks_long: { length blocks.items ≡ blocks_of (length numbers.items) },
+    ghost covers: { Covers blocks.items numbers.items },
+}
+
+impl NarrowRow {
+    ghost use Rattle.std.specs.Prelude.{◌≢◌, ℕ, IsTrue, false, is_some, pos, true, unsigned_abs, IfOk, IfSome};
+    ghost use Rattle.ratio_core.specs.Rational.{zero_ℚ};
+    ghost use Rattle.whole_rows.specs.Listed.{Lists};
+    ghost use Rattle.whole_rows.specs.Shrinking.{IsLongPlan};
+    ghost use Rattle.whole_rows.specs.Rows.{IsDivided, IsDivision, IsLowered, IsPlan, can_stay, number_of, numerator_of, stays_narrow, width_of};
+
+    /// Zeros in so many columns.
+    pub fn zeros(alloc: Global, width: usize) -> Result<NarrowRow, AllocError>
+        ensures { IfOk result (λ row. width_of row ≡ width) }
+    {
+        let numbers = vec![in alloc; 0i64; width]?;
+        let blocks = vec![in alloc; false; block_count(width)]?;
+        Ok(NarrowRow {
+            numbers,
+            blocks,
+            side: 0,
+            den: 1,
+            bound: 0,
+        })
+    }
+
+    /// Takes the numerators of a row, its right side behind its columns.
+    pub fn copy(&mut self, row: &NarrowRow)
+        ensures width { width_of self.new ≡ width_of self.old }
+        ensures den { self.new.den ≡ row.now.den }
+        ensures numerators { (j : ℕ) → j ≤ width_of self.old
+            → numerator_of self.new j ≡ numerator_of row.now j }
+    {
+        self.side = numerator(row, self.numbers.len());
+        copy_marked(&mut self.numbers, &mut self.blocks, row);
+        self.den = row.den;
+        self.bound = row.bound;
+    }
+
+    /// Zeros, to which numerators up to the bound are to be put.
+    pub fn clear(&mut self, den: u64, bound: u64)
+        requires above { 0 < den }
+        requires small_den { den < 2 ^ 63 }
+        requires small_bound { bound < 2 ^ 63 }
+        ensures den { self.new.den ≡ den }
+        ensures bound { self.new.bound ≡ bound }
+        ensures width { width_of self.new ≡ width_of self.old }
+        ensures zeros { (j : ℕ) → numerator_of self.new j ≡ pos 0 }
+    {
+        clear_numbers(&mut self.numbers);
+        self.blocks.fill(false);
+        self.side = 0;
+        self.den = den;
+        self.bound = bound;
+    }
+
+    /// Puts the numerator of a column; behind the columns stands the right side.
+    pub fn put(&mut self, j: usize, numerator: i64)
+        requires within { j ≤ width_of self.old }
+        requires small { unsigned_abs numerator ≤ self.old.bound }
+        ensures den { self.new.den ≡ self.old.den }
+        ensures bound { self.new.bound ≡ self.old.bound }
+        ensures width { width_of self.new ≡ width_of self.old }
+        ensures here { numerator_of self.new j ≡ numerator }
+        ensures elsewhere { (k : ℕ) → k ≤ width_of self.old → k ≢ j
+            → numerator_of self.new k ≡ numerator_of self.old k }
+    {
+        if j < self.numbers.len() {
+            self.numbers[j] = numerator;
+            self.blocks[j / BLOCK] = true;
+        } else {
+            self.side = numerator;
+        }
+    }
+
+    /// The first column, from this one on, whose number may differ from 0.
+    #[inline]
+    pub fn next_marked(&self, from: usize) -> usize
+        ensures from { from ≤ result }
+        ensures zeros { (j : ℕ) → from ≤ j → j < result → number_of self.now j ≡ zero_ℚ }
+    {
+        let width = self.numbers.len();
+        if from >= width {
+            return from;
+        }
+        next_marked(&self.blocks, from, width)
+    }
+
+    /// Lowers the row by its number of column q times the step, or changes nothing where its
+    /// numerators and its denominator then don't stay below 2^63, or the two have other columns.
+    pub fn lower(&mut self, step: &NarrowStep, q: usize) -> bool
+        ensures lowered { IsTrue result → IsLowered q step.now.row self.old self.new }
+        ensures kept { result ≡ false → self.new ≡ self.old }
+        ensures tight { result ≡ false → can_stay q step.now.row self.old ≡ false }
+    {
+        let width = self.numbers.len();
+        if q >= width || step.row.numbers.len() != width {
+            return false;
+        }
+        if self.numbers[q] == 0 {
+            return true;
+        }
+        if self.lower_short(&step.row, &step.columns[..step.used], q) {
+            return true;
+        }
+        self.lower_long(&step.row, q)
+    }
+
+    /// Whether the row may not stay narrow when it is lowered by its number of column q times the
+    /// step: without a division, so it may say so of a row that does.
+    pub fn may_pass(&self, step: &NarrowStep, q: usize) -> bool
+        ensures { result ≡ false → can_stay q step.now.row self.now ≡ true }
+    {
+        let width = self.numbers.len();
+        if q >= width || step.row.numbers.len() != width {
+            return true;
+        }
+        let entry = self.numbers[q];
+        let size = entry.unsigned_abs();
+        let over = step.row.den;
+        let Some(_den) = next_den(self.den, over) else {
+            return true;
+        };
+        let Some(_bound) = next_bound(self.bound, over, size, step.row.bound) else {
+            return true;
+        };
+        false
+    }
+
+    // Lowers the row by its number of column q times the step, where the bound and the denominator
+    // stay below 2^63. Else nothing changes.
+    fn lower_short(&mut self, step: &NarrowRow, columns: &[u32], q: usize) -> bool
+        requires column { q < width_of self.old }
+        requires width { width_of step.now ≡ width_of self.old }
+        requires lists { Lists columns.now step.now.numbers.items }
+        ensures narrow { result ≡ stays_narrow q step.now self.old }
+        ensures lowered { IsTrue result → IsLowered q step.now self.old self.new }
+        ensures kept { result ≡ false → self.new ≡ self.old }
+    {
+        let Some(plan) = self.plan(step, q) else {
+            return false;
+        };
+        lower_numbers(
+            &mut self.numbers,
+            &self.blocks,
+            plan.over,
+            plan.by,
+            &step.numbers,
+            columns,
+        );
+        join_blocks(&mut self.blocks, &step.blocks);
+        self.side = lowered(self.side, plan.over, plan.by, step.side);
+        self.den = plan.den;
+        self.bound = plan.bound;
+        true
+    }
+
+    // The same in 128 bits, where the row stays narrow once it is divided by what divides it.
+    fn lower_long(&mut self, step: &NarrowRow, q: usize) -> bool
+        requires column { q < width_of self.old }
+        requires width { width_of step.now ≡ width_of self.old }
+        ensures lowered { IsTrue result → IsLowered q step.now self.old self.new }
+        ensures kept { result ≡ false → self.new ≡ self.old }
+    {
+        let Some(plan) = self.long_plan(step, q) else {
+            return false;
+        };
+        shrink_numbers(
+            &mut self.numbers,
+            plan.over,
+            plan.by,
+            &step.numbers,
+            plan.common,
+        );
+        join_blocks(&mut self.blocks, &step.blocks);
+        self.side = shrunk(self.side, plan.over, plan.by, step.side, plan.common);
+        self.den = plan.den;
+        self.bound = plan.bound;
+        true
+    }
+
+    fn long_plan(&self, step: &NarrowRow, q: usize) -> Option<LongPlan>
+        requires column { q < width_of self.now }
+        ensures { IfSome result (λ plan. IsLongPlan q step.now self.now plan) }
+    {
+        let entry = self.numbers[q];
+        let divisor = common_divisor(entry.unsigned_abs(), step.den);
+        let over = part(step.den, divisor);
+        let by = exact(entry, divisor);
+        let common = common_of(self, step, over, by);
+        let bound = bound_of(self, step, over, by, common)?;
+        let den = next_den(part(self.den, common), over)?;
+        Some(LongPlan {
+            over,
+            by,
+            common,
+            bound,
+            den,
+        })
+    }
+
+    // What the row is to be multiplied and lowered by, where it stays narrow.
+    fn plan(&self, step: &NarrowRow, q: usize) -> Option<Plan>
+        requires column { q < width_of self.now }
+        ensures room { is_some result ≡ stays_narrow q step.now self.now }
+        ensures plan { IfSome result (λ plan. IsPlan q step.now self.now plan) }
+    {
+        let entry = self.numbers[q];
+        let common = common_divisor(entry.unsigned_abs(), step.den);
+        let over = part(step.den, common);
+        let by = exact(entry, common);
+        let bound = next_bound(self.bound, over, by.unsigned_abs(), step.bound)?;
+        let den = next_den(self.den, over)?;
+        Some(Plan {
+            over,
+            by,
+            bound,
+            den,
+        })
+    }
+
+    // Divides the row by its number of column q, in lowest terms: what divides all its numerators
+    // goes out. Those that aren't 0 are of the listed columns, before and after.
+    pub(crate) fn divide(&mut self, columns: &[u32], q: usize)
+        requires column { q < width_of self.old }
+        requires nonzero { numerator_of self.old q ≢ pos 0 }
+        requires lists { Lists columns.now self.old.numbers.items }
+        ensures divided { IsDivided q self.old self.new }
+        ensures lists { Lists columns.now self.new.numbers.items }
+    {
+        let division = self.division(columns, q);
+        divide_numbers(&mut self.numbers, columns, division.by);
+        self.side = quotient(self.side, division.by);
+        self.den = division.den;
+        self.bound = division.bound;
+    }
+
+    // What the numerators are to be divided by, with the sign of the one of column q.
+    fn division(&self, columns: &[u32], q: usize) -> Division
+        requires column { q < width_of self.now }
+        requires nonzero { numerator_of self.now q ≢ pos 0 }
+        requires lists { Lists columns.now self.now.numbers.items }
+        ensures { IsDivision q self.now result }
+    {
+        let entry = self.numbers[q];
+        let size = entry.unsigned_abs();
+        let measure = measured(&self.numbers, columns, self.side, size);
+        Division {
+            by: with_sign(entry, measure.common),
+            den: part(size, measure.common),
+            bound: part(measure.greatest, measure.common),
+        }
+    }
+}

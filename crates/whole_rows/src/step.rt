@@ -1,0 +1,52 @@
+//! The row that a pivot lowers others by.
+ghost use Rattle.std.specs.Prelude.{◌≡◌, ◌<◌, ◌≤◌, ◌^◌, length, take};
+ghost use Rattle.whole_rows.specs.Listed.{Lists};
+
+use crate::listed::note_columns;
+use crate::narrow_row::NarrowRow;
+use std::alloc::{AllocError, Global};
+
+/// A row of whole numbers, and the columns where it isn't 0.
+#[derive(Drop)]
+pub struct NarrowStep {
+    /// The numbers.
+    pub row: NarrowRow,
+    /// The first so many are the columns, rising.
+    pub columns: Vec<u32>,
+    /// How many columns there are where the row isn't 0.
+    pub used: usize,
+    ghost room: { length columns.items ≡ length row.numbers.items },
+    ghost few: { length columns.items < 2 ^ 32 },
+    ghost fits: { used ≤ length columns.items },
+    ghost lists: { Lists (take used columns.items) row.numbers.items },
+}
+
+impl NarrowStep {
+    ghost use Rattle.std.specs.Prelude.{◌≢◌, ℕ, pos, IfOk};
+    ghost use Rattle.ratio_core.specs.Rational.{◌/ℚ◌};
+    ghost use Rattle.whole_rows.specs.Rows.{number_of, numerator_of, width_of};
+
+    /// Zeros in so many columns.
+    pub fn zeros(alloc: Global, width: usize) -> Result<NarrowStep, AllocError>
+        requires { width < 2 ^ 32 }
+        ensures { IfOk result (λ step. width_of step.row ≡ width) }
+    {
+        let row = NarrowRow::zeros(alloc, width)?;
+        let mut columns = vec![in alloc; 0u32; width]?;
+        let used = note_columns(&row.numbers, &row.blocks, &mut columns);
+        Ok(NarrowStep { row, columns, used })
+    }
+
+    /// Takes a row, divided by its number of column q.
+    pub fn set(&mut self, row: &NarrowRow, q: usize)
+        requires column { q < width_of self.old.row }
+        requires nonzero { numerator_of row.now q ≢ pos 0 }
+        ensures width { width_of self.new.row ≡ width_of self.old.row }
+        ensures divided { (j : ℕ) → j ≤ width_of self.old.row
+            → number_of self.new.row j ≡ number_of row.now j /ℚ number_of row.now q }
+    {
+        self.row.copy(row);
+        self.used = note_columns(&self.row.numbers, &self.row.blocks, &mut self.columns);
+        self.row.divide(&self.columns[..self.used], q);
+    }
+}
