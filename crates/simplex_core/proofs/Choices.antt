@@ -1,14 +1,10 @@
--- The least and the best below a bound, found by a loop.
+-- The least below a bound, found by a loop.
 use Rattle.std.specs.Prelude.{◌≡◌, ℕ, zero, suc, ◌+◌, ◌-◌, ◌<◌, ◌≤◌, Bool, true, false, ◌&&◌, ◌||◌, Option, Some, None}
-use Rattle.std.proofs.Common.{sym, ◌∙◌, ap, add-one, arith, is_lt, Ordering}
-use Rattle.std.specs.Ordering.{is_eq}
+use Rattle.std.proofs.Common.{sym, ◌∙◌, ap, add-one, arith}
 use Rattle.std.proofs.lemmas.Bool.{or_right}
-use Rattle.ratio_core.specs.Rational.{Rational, rational_cmp, rational_eq, ◌/ℚ◌}
-use Rattle.ratio_core.specs.RationalLaws.{rational_eq-is_eq}
 use Rattle.simplex_laws.specs.BoundedSumLaws.{same_or_other}
 use Rattle.simplex_laws.specs.SearchLaws.{all_below_at, all_below_failed, all_below_more}
-use Rattle.simplex_form.specs.Search.{all_below, best_below, better_of, least_row, row_or_else, some_below}
-use Rattle.simplex_form.specs.Turns.{is_below}
+use Rattle.simplex_form.specs.Search.{all_below, least_row, row_or_else, some_below}
 
 -- ---- the least row
 
@@ -29,27 +25,6 @@ row_found (suc n) r q column_of b e f =
     (λ i. ap (λ k. least_row (suc k) column_of) (sym i) ∙ row_here r q column_of e f)
     (λ m. ap (λ o. row_or_else o n (column_of n))
     (row_found n r q column_of (omega (arith, b, m)) e f))
-
--- ---- the best
-
-pub best_more : (n : ℕ) (test : ℕ → Bool) (before : ℕ → ℕ → Bool) (best next : Option ℕ)
-    → best ≡ best_below n test before → next ≡ better_of test before best n
-    → next ≡ best_below (n + 1) test before
-best_more n test before best next e f =
-    f ∙ ap (λ o. better_of test before o n) e ∙ ap (λ k. best_below k test before)
-    (sym (add-one n))
-
--- ---- which row leaves first
-
-pub before_by : (p q : Rational) (w : Bool) (r : Ordering) → r ≡ rational_cmp p q
-    → (is_lt r || is_eq r && w) ≡ (is_below p q || rational_eq p q && w)
-before_by p q w r e =
-    (λ i. is_lt (e i) || is_eq (e i) && w)
-    ∙ (λ i. is_lt (rational_cmp p q) || sym (rational_eq-is_eq p q) i && w)
-
-pub ratios_same : (a b c d x y z w : Rational) (r : Ordering) → r ≡ rational_cmp (a /ℚ b) (c /ℚ d)
-    → a ≡ x → b ≡ y → c ≡ z → d ≡ w → r ≡ rational_cmp (x /ℚ y) (z /ℚ w)
-ratios_same a b c d x y z w r e f g h k = e ∙ (λ i. rational_cmp (f i /ℚ g i) (h i /ℚ k i))
 
 -- ---- some number
 

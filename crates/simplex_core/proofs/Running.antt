@@ -1,5 +1,5 @@
 -- The loop: what is told of the rest of the trail is told of all of it.
-use Rattle.std.specs.Prelude.{◌≡◌, ℕ, zero, suc, ◌+◌, ◌-◌, ◌<◌, Bool, true, false, Result, Ok, Err, MatchResult, is_err, is_ok, List, if◌then◌else◌, IsTrue, length, refl}
+use Rattle.std.specs.Prelude.{◌≡◌, ℕ, zero, suc, ◌+◌, ◌-◌, ◌<◌, Bool, true, false, Result, Ok, Err, MatchResult, OnOk, is_err, is_ok, List, if◌then◌else◌, IsTrue, length, refl}
 use Rattle.std.proofs.Common.{sym, ◌∙◌, ap, arith, subst, true≢false}
 use Rattle.std.proofs.lemmas.Bool.{cond-false, cond-true}
 use Rattle.simplex_form.specs.declared.turn.Phase.{Phase}
@@ -53,15 +53,9 @@ goes_on_at F (suc n) s b e =
 
 -- ---- a result and what it says
 
-pub refused_and : {T E : Type 0} (r : Result T E) (P Q : Type 0) → MatchResult r (λ _. P) (λ _. Q)
-    → is_err r ≡ true → (is_ok r ≡ false) × Q
-refused_and (Ok x) P Q h e = absurd (true≢false (sym e))
-refused_and (Err x) P Q h e = (refl, h)
-
-pub made_and : {T E : Type 0} (r : Result T E) (P Q : Type 0) → MatchResult r (λ _. P) (λ _. Q)
-    → is_err r ≡ false → (is_ok r ≡ true) × P
-made_and (Ok x) P Q h e = (refl, h)
-made_and (Err x) P Q h e = absurd (true≢false e)
+pub on_ok_then : {T E : Type 0} (r : Result T E) (P Q : Type 0) → (P → Q) → OnOk r P → OnOk r Q
+on_ok_then (Ok x) P Q f p = f p
+on_ok_then (Err e) P Q f p = tt
 
 -- ---- the loop
 

@@ -1,15 +1,13 @@
 //! Bland's rule, read on the board.
-ghost use Rattle.std.specs.Prelude.{◌≡◌, ◌<◌, IsTrue, IfSome, None, Some, if◌then◌else◌, length};
-ghost use Rattle.ratio_core.specs.Rational.{zero_ℚ, ◌‹ℚ◌};
+ghost use Rattle.std.specs.Prelude.{◌≡◌, ◌<◌, IsTrue, IfSome, length};
+ghost use Rattle.ratio_core.specs.Rational.{zero_ℚ};
 ghost use Rattle.simplex_form.specs.Fit.{uses_first};
-ghost use Rattle.simplex_form.specs.Search.{better_of};
 ghost use Rattle.simplex_form.specs.Turns as bland;
-ghost use Rattle.tableau_core.specs.Contents.{readings_of, width};
+ghost use Rattle.tableau_core.specs.Contents.{readings_of};
 ghost use Rattle.simplex_core.specs.Phases.{IsInPhase, IsWithin};
 
 use ratio_core::Ratio;
 use simplex_form::{Phase, Turn};
-use std::cmp::Ordering;
 use tableau_core::{Tableau, is_positive};
 
 // What is done at the board's basis.
@@ -78,79 +76,9 @@ fn enters<T: Tableau>(board: &T, phase: Phase, column: usize) -> Turn
         ≡ bland.enters phase column (bland.leaving (readings_of (T.contents board.now)) column) }
     ensures within { IsWithin (T.contents board.now) result }
 {
-    match leaving(board, column) {
+    match board.leaving(column) {
         Some(row) => Turn::Pivot { phase, row, column },
         None => Turn::Unbounded { column },
-    }
-}
-
-// The row of least ratio of its right side to its positive entry of column q, and of these that of
-// least basic column. Each row's entry is read once.
-fn leaving<T: Tableau>(board: &T, q: usize) -> Option<usize>
-    requires column { q < width (T.contents board.now) }
-    ensures value { result ≡ bland.leaving (readings_of (T.contents board.now)) q }
-    ensures row { let t = T.contents board.now in
-        IfSome result (λ r. (r < length t.rows) × (zero_ℚ ‹ℚ (readings_of t).entry q r)) }
-{
-    let mut best = None;
-    let mut over = Ratio::one();
-    for i in 0..board.row_count() {
-        let by = board.entry(i, q);
-        if leaves_first(board, q, i, &by, best, &over) {
-            best = Some(i);
-            over = by;
-        }
-    }
-    best
-}
-
-// Whether row i leaves before the best so far. Their entries of column q are `by` and `over`.
-#[tactic(auto, using(rational_laws::specs::Tests::rational_tests))]
-fn leaves_first<T: Tableau>(
-    board: &T,
-    q: usize,
-    i: usize,
-    by: &Ratio,
-    best: Option<usize>,
-    over: &Ratio,
-) -> bool
-    requires row { i < length (T.contents board.now).rows }
-    requires by { by.now ≡ (readings_of (T.contents board.now)).entry q i }
-    requires best { let t = T.contents board.now in IfSome best (λ k. (k < length t.rows)
-        × (zero_ℚ ‹ℚ over.now) × (over.now ≡ (readings_of t).entry q k)) }
-    ensures value { let R = readings_of (T.contents board.now) in
-        better_of (bland.may_leave R q) (bland.leaves_before R q) best i
-        ≡ (if result then Some i else best) }
-    ensures positive { IsTrue result → zero_ℚ ‹ℚ by.now }
-{
-    if !is_positive(by) {
-        return false;
-    }
-    match best {
-        Some(k) => leaves_before(board, q, i, by, k, over),
-        None => true,
-    }
-}
-
-// Row i leaves before row k: by a lower ratio, and of equal ones by the lower basic column.
-fn leaves_before<T: Tableau>(
-    board: &T,
-    q: usize,
-    i: usize,
-    by: &Ratio,
-    k: usize,
-    over: &Ratio,
-) -> bool
-    requires row { let t = T.contents board.now in
-        (i < length t.rows) × (zero_ℚ ‹ℚ by.now) × (by.now ≡ (readings_of t).entry q i) }
-    requires other { let t = T.contents board.now in
-        (k < length t.rows) × (zero_ℚ ‹ℚ over.now) × (over.now ≡ (readings_of t).entry q k) }
-    ensures { result ≡ bland.leaves_before (readings_of (T.contents board.now)) q i k }
-{
-    match board.right(i).cmp_quotients(by, &board.right(k), over) {
-        Ordering::Less => true,
-        Ordering::Equal => board.basis()[i] < board.basis()[k],
-        Ordering::Greater => false,
     }
 }
 

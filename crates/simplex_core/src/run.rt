@@ -1,5 +1,5 @@
 //! The trail, one pivot a step.
-ghost use Rattle.std.specs.Prelude.{◌≡◌, ◌≢◌, ◌<◌, is_ok, IsTrue, MatchResult, length, true};
+ghost use Rattle.std.specs.Prelude.{◌≡◌, ◌≢◌, ◌<◌, IsErrOf, IsTrue, MatchResult, OnOk, false, length, true};
 ghost use Rattle.ratio_core.specs.Rational.{zero_ℚ};
 ghost use Rattle.simplex_form.specs.Basis.{start};
 ghost use Rattle.simplex_form.specs.Fit.{pivot_fits, uses_first};
@@ -13,9 +13,10 @@ use crate::answer::SolverAnswer;
 use crate::fault::SolveFault;
 use crate::read_off::{basis_of, infeasible, optimal, unbounded};
 use crate::rule::turn;
+use ratio_core::NumberFault;
 use simplex_form::{Phase, Turn};
 use std::alloc::Global;
-use tableau_core::{BoardOverflow, Tableau};
+use tableau_core::Tableau;
 
 // Goes on from the first board, with an allowance of pivots.
 pub(crate) fn run<T: Tableau + Drop>(
@@ -50,9 +51,13 @@ pub(crate) fn run<T: Tableau + Drop>(
                     let basis = basis_of(alloc, &board)?;
                     return Err(SolveFault::Limit { basis, pivots });
                 }
-                if step(&mut board, next, row, column).is_err() {
-                    let basis = basis_of(alloc, &board)?;
-                    return Err(SolveFault::Overflow { basis });
+                match step(&mut board, next, row, column) {
+                    Ok(()) => (),
+                    Err(NumberFault::Overflow) => {
+                        let basis = basis_of(alloc, &board)?;
+                        return Err(SolveFault::Overflow { basis });
+                    }
+                    Err(NumberFault::Memory) => return Err(SolveFault::Memory),
                 }
                 phase = next;
                 left -= 1;
@@ -67,13 +72,15 @@ fn step<T: Tableau>(
     next: Phase,
     row: usize,
     column: usize,
-) -> Result<(), BoardOverflow>
+) -> Result<(), NumberFault>
     requires first { IsTrue (uses_first next) → IsTrue (T.contents board.old).in_first }
     requires row { row < length (T.contents board.old).rows }
     requires column { column < (T.contents board.old).reals }
     requires nonzero { (readings_of (T.contents board.old)).entry column row ≢ zero_ℚ }
     ensures fits { let t = T.contents board.old in
-        is_ok result ≡ pivot_fits (uses_first next) (readings_of t) row column }
+        OnOk result (pivot_fits (uses_first next) (readings_of t) row column ≡ true) }
+    ensures overflow { let t = T.contents board.old in IsErrOf result NumberFault.Overflow
+        → pivot_fits (uses_first next) (readings_of t) row column ≡ false }
     ensures board { let t = in_phase next (T.contents board.old) in MatchResult result
         (λ _. IsPivoted row column t (T.contents board.new))
         (λ _. T.contents board.new ≡ t) }

@@ -26,7 +26,17 @@ const TOP: &str = "1 170141183460469231731687303715884105727";
 // is 2^127 / 3.
 const STUCK: &str = "1 0  9223372036854775807 1  -9223372036854775807 6148914691236517205  -2/3 0";
 
-const FORMS: [Numbers; 15] = [
+const PAST: &str = "9223372036854775808 18446744073709551616";
+
+const ROOT: &str = "3037000499 1 1 3037000499";
+
+const PAST_ROOT: &str = "3037000500 1 1 3037000500";
+
+const WIDE: &str = "4294967296 4294967295 3 4294967295 4294967296 5 7 11 4294967297";
+
+const WIDE_SIDES: &str = "12884901890 12884901896 4294967315";
+
+const FORMS: [Numbers; 21] = [
     // Beale's example, at which the rule of the greatest coefficient cycles.
     (BEALE, "0 0 1", BEALE_COSTS, 1000),
     (BEALE, "0 0 1", BEALE_COSTS, 0),
@@ -48,6 +58,15 @@ const FORMS: [Numbers; 15] = [
     (TOP, "1", "3 0", 1000),
     (STUCK, "0 0 1 1", "0 0", 2),
     (STUCK, "0 0 1 1", "0 0", 3),
+    // The last numbers of 63 bits and the first of 64: rows that stay whole numbers, that start as
+    // fractions, and that come back from them once they are divided.
+    ("9223372036854775807 1", "9223372036854775807", "1 0", 1000),
+    ("9223372036854775808 1", "9223372036854775808", "1 0", 1000),
+    (PAST, "9223372036854775808", "3 2", 1000),
+    // A product of two entries that passes 63 bits, and one that doesn't.
+    (ROOT, "3037000500 3037000500", "1 2", 1000),
+    (PAST_ROOT, "3037000501 3037000501", "1 2", 1000),
+    (WIDE, WIDE_SIDES, "1 -1 1", 1000),
 ];
 
 /// What each form comes to.

@@ -1,5 +1,5 @@
 use Rattle.std.proofs.Common.{arith, refl, sym, ◌∙◌}
-use Rattle.simplex_core.proofs.Running.{at_next, at_start, made_and, refused_and, tells_end, tells_limit, tells_overflow, tells_refused}
+use Rattle.simplex_core.proofs.Running.{at_next, at_start, tells_end, tells_limit, tells_overflow, tells_refused}
 use Rattle.simplex_core.proofs.run.run.Goals as goal
 
 pub steps-init : goal.steps-init
@@ -41,21 +41,18 @@ returns-then-left-eq0-2 g c = λ F h b.
     tells_limit (c.steps.invariant.steps F h b) c.steps.invariant.phase c.turn.ensures.turn
     c.in-Pivot.is refl c.if-left-eq0-2.true c.in_ok-basis-in-Pivot.ensures
 
-pub returns-then-is_err : goal.returns-then-is_err
-returns-then-is_err g c = λ F h b.
-    let made = refused_and c.step.result _ _ c.step.ensures.board (sym c.is_err.ensures.value
-    ∙ c.if-is_err.true) in
+pub returns-in-Err-Overflow : goal.returns-in-Err-Overflow
+returns-in-Err-Overflow g c = λ F h b.
     tells_refused (c.steps.invariant.steps F h b) c.steps.invariant.phase c.turn.ensures.turn
-    c.in-Pivot.is c.in-Pivot.ensures.within (omega arith) c.step.ensures.fits made.0 made.1
-    c.in_ok-basis-in-Pivot-2.ensures
+    c.in-Pivot.is c.in-Pivot.ensures.within (omega arith) refl
+    (c.in-Err-Overflow.ensures.overflow refl) c.in-Err-Overflow.ensures.board
+    c.in_ok-basis-in-Err-Overflow.ensures
 
 pub steps-preserved : goal.steps-preserved
-steps-preserved g c =
-    let made = made_and c.step.result _ _ c.step.ensures.board (sym c.is_err.ensures.value
-    ∙ c.if-is_err.false) in
-    record {
-      phase = made.1.in_first;
-      steps = λ F h b.
-          at_next (c.steps.invariant.steps F h b) c.steps.invariant.phase c.turn.ensures.turn
-          c.in-Pivot.is c.in-Pivot.ensures.within (omega arith) c.step.ensures.fits made.0 made.1;
-    }
+steps-preserved g c = record {
+  phase = c.in-Ok.ensures.board.in_first;
+  steps = λ F h b.
+      at_next (c.steps.invariant.steps F h b) c.steps.invariant.phase c.turn.ensures.turn
+      c.in-Pivot.is c.in-Pivot.ensures.within (omega arith) refl c.in-Ok.ensures.fits
+      c.in-Ok.ensures.board;
+}
