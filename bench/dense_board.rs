@@ -132,7 +132,7 @@ impl Tableau for DenseBoard {
         if in_first { self.first.now[q] } else { self.second.now[q] }
     }
 
-    fn entering(&self, in_first: bool) -> Option<usize> {
+    fn entering(&mut self, in_first: bool) -> Option<usize> {
         let prices = if in_first { &self.first.now } else { &self.second.now };
         (0..self.c).find(|&j| prices[j].num < 0)
     }

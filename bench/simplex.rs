@@ -1,14 +1,17 @@
 //! The same benchmark as `simplex_bench`, written plainly in Rust: fractions of 128 bits, a dense
-//! and a sparse board, and Bland's rule in two phases with a sweep between them.
+//! and a sparse board, and Bland's rule in two phases with a sweep between them. After the word
+//! `whole` it solves on the board of whole numbers instead.
 mod dense_board;
 #[allow(dead_code)]
 mod fraction;
 mod models;
 mod sparse_board;
+mod whole_board;
 
 use dense_board::DenseBoard;
 use fraction::{ONE, Ratio, ZERO, cmp_quotients};
 use sparse_board::SparseBoard;
+use whole_board::WholeBoard;
 
 struct Form {
     m: usize,
@@ -27,14 +30,18 @@ trait Tableau: Sized {
     fn entry(&self, r: usize, q: usize) -> Ratio;
     fn right(&self, r: usize) -> Ratio;
     fn price(&self, in_first: bool, q: usize) -> Ratio;
-    fn entering(&self, in_first: bool) -> Option<usize>;
+    fn entering(&mut self, in_first: bool) -> Option<usize>;
+    /// The row that leaves for column q.
+    fn leaving(&mut self, q: usize) -> Option<usize> {
+        least_ratio(self, q)
+    }
     fn swept_column(&self, r: usize) -> Option<usize>;
     fn basis(&self) -> &[usize];
 }
 
-fn leaving<T: Tableau>(board: &T, m: usize, q: usize) -> Option<usize> {
+fn least_ratio<T: Tableau>(board: &T, q: usize) -> Option<usize> {
     let mut best: Option<(usize, Ratio)> = None;
-    for i in 0..m {
+    for i in 0..board.basis().len() {
         let by = board.entry(i, q);
         if by.num <= 0 {
             continue;
@@ -66,13 +73,14 @@ enum Turn {
     Optimal,
 }
 
-fn turn<T: Tableau>(board: &T, form: &Form, phase: Phase) -> Turn {
-    let enters = |phase: Phase, q: usize| {
-        leaving(board, form.m, q).map_or(Turn::Unbounded(q), |r| Turn::Pivot(phase, r, q))
-    };
+fn enters<T: Tableau>(board: &mut T, phase: Phase, q: usize) -> Turn {
+    board.leaving(q).map_or(Turn::Unbounded(q), |r| Turn::Pivot(phase, r, q))
+}
+
+fn turn<T: Tableau>(board: &mut T, form: &Form, phase: Phase) -> Turn {
     if phase == Phase::First {
         if let Some(q) = board.entering(true) {
-            return enters(phase, q);
+            return enters(board, phase, q);
         }
         if (0..form.m).any(|i| board.basis()[i] >= form.c && board.right(i).num > 0) {
             let multiplier = |k: usize| ONE.sub(&board.price(true, form.c + k)).ok();
@@ -86,7 +94,7 @@ fn turn<T: Tableau>(board: &T, form: &Form, phase: Phase) -> Turn {
             return Turn::Pivot(Phase::Sweep, r, q);
         }
     }
-    board.entering(false).map_or(Turn::Optimal, |q| enters(Phase::Second, q))
+    board.entering(false).map_or(Turn::Optimal, |q| enters(board, Phase::Second, q))
 }
 
 /// What the allowance leads to, mixed into one number.
@@ -97,7 +105,7 @@ fn solve<T: Tableau>(form: &Form, pivots: u64) -> u64 {
     let mut phase = Phase::First;
     let mut left = pivots;
     loop {
-        match turn(&board, form, phase) {
+        match turn(&mut board, form, phase) {
             Turn::Optimal => {
                 let sum = mixed(mixed(5, &point(&board, form)), &multipliers(&board, form));
                 return mixed_basis(sum, board.basis());
@@ -206,40 +214,61 @@ fn whole(n: i64) -> Ratio {
 fn main() {
     let words: Vec<String> = std::env::args().skip(1).collect();
     let words: Vec<&str> = words.iter().map(String::as_str).collect();
-    let sum = match words[..] {
+    let (is_whole, words) = match words.split_first() {
+        Some((&"whole", words)) => (true, words),
+        _ => (false, &words[..]),
+    };
+    let sum = match *words {
         [kind @ ("chain" | "transport" | "blend"), rows, columns, board, times] => {
+            let board = if is_whole { "whole" } else { board };
             of_model(kind, rows, columns, board, times)
         }
-        [rows, columns, sparse, greatest, forms] => random(rows, columns, sparse, greatest, forms),
+        [rows, columns, sparse, greatest, board, forms] => {
+            let board = if is_whole { "whole" } else { board };
+            random(rows, columns, sparse, greatest, board, forms)
+        }
         _ => None,
     };
     match sum {
         Some(sum) => println!("{sum}"),
         None => println!(
-            "usage: simplex_plain ROWS COLUMNS SPARSE GREATEST FORMS, or simplex_plain \
-             chain|transport|blend ROWS COLUMNS dense|sparse TIMES"
+            "usage: simplex_plain [whole] ROWS COLUMNS SPARSE GREATEST dense|sparse FORMS, or \
+             simplex_plain [whole] chain|transport|blend ROWS COLUMNS dense|sparse TIMES"
         ),
     }
 }
 
-fn random(rows: &str, columns: &str, sparse: &str, greatest: &str, forms: &str) -> Option<u64> {
+fn solve_on(board: &str) -> Option<fn(&Form, u64) -> u64> {
+    match board {
+        "dense" => Some(solve::<DenseBoard>),
+        "sparse" => Some(solve::<SparseBoard>),
+        "whole" => Some(solve::<WholeBoard>),
+        _ => None,
+    }
+}
+
+fn random(
+    rows: &str,
+    columns: &str,
+    sparse: &str,
+    greatest: &str,
+    board: &str,
+    forms: &str,
+) -> Option<u64> {
+    let solve = solve_on(board)?;
     let (rows, columns) = (rows.parse().ok()?, columns.parse().ok()?);
     let (sparse, greatest) = (sparse.parse().ok()?, greatest.parse().ok()?);
     let mut sum = 0u64;
     for seed in 1..=forms.parse().ok()? {
         let form = form(seed, rows, columns, sparse, greatest);
-        sum = sum.wrapping_mul(31).wrapping_add(solve::<DenseBoard>(&form, ALLOWANCE));
+        sum = sum.wrapping_mul(31).wrapping_add(solve(&form, ALLOWANCE));
     }
     Some(sum)
 }
 
 fn of_model(kind: &str, rows: &str, columns: &str, board: &str, times: &str) -> Option<u64> {
     let form = models::model(kind, rows.parse().ok()?, columns.parse().ok()?)?;
-    let solve = match board {
-        "dense" => solve::<DenseBoard>,
-        "sparse" => solve::<SparseBoard>,
-        _ => return None,
-    };
+    let solve = solve_on(board)?;
     let answers = (0..times.parse().ok()?).map(|_| solve(&form, ALLOWANCE));
     Some(answers.fold(0u64, |sum, one| sum.wrapping_mul(31).wrapping_add(one)))
 }

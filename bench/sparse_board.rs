@@ -117,7 +117,7 @@ impl Tableau for SparseBoard {
         if in_first { self.first.number(q as u32) } else { self.second.number(q as u32) }
     }
 
-    fn entering(&self, in_first: bool) -> Option<usize> {
+    fn entering(&mut self, in_first: bool) -> Option<usize> {
         let row = if in_first { &self.first } else { &self.second };
         let real = row.columns.iter().map(|&j| j as usize).take_while(|&j| j < self.c);
         real.zip(&row.values).find(|(_, price)| price.num < 0).map(|(j, _)| j)

@@ -12,18 +12,23 @@ use std::alloc::Global;
 const ALLOWANCE: u64 = 1_000_000;
 
 /// The checksum of what the forms of the numbers from 1 on lead to.
-pub fn checksum(alloc: Global, size: &Size, count: u32) -> Result<u64, BenchFault> {
+pub fn checksum(
+    alloc: Global,
+    size: &Size,
+    board: Board,
+    count: u32,
+) -> Result<u64, BenchFault> {
     let mut sum = 0u64;
     for seed in 0..count {
-        let one = of_form(alloc, seed.wrapping_add(1), size)?;
+        let one = of_form(alloc, seed.wrapping_add(1), size, board)?;
         sum = sum.wrapping_mul(31).wrapping_add(one);
     }
     Ok(sum)
 }
 
-fn of_form(alloc: Global, seed: u32, size: &Size) -> Result<u64, BenchFault> {
+fn of_form(alloc: Global, seed: u32, size: &Size, board: Board) -> Result<u64, BenchFault> {
     let form = form(alloc, seed, size)?;
-    digest_on(alloc, &form, Board::Dense)
+    digest_on(alloc, &form, board)
 }
 
 /// The board that is solved on.

@@ -1,8 +1,8 @@
-// Solves generated forms with an ample allowance of pivots, and prints a checksum of the answers.
-// `simplex_bench ROWS COLUMNS SPARSE GREATEST FORMS` solves random forms on the dense board: one
-// entry in SPARSE isn't 0, and is at most GREATEST in magnitude. `simplex_bench KIND ROWS COLUMNS
-// BOARD TIMES` makes the form of a chain of balances, a transport or a blending plan and solves it
-// so many times on the dense or the sparse board.
+// Solves generated forms on the dense or the sparse board, with an ample allowance of pivots, and
+// prints a checksum of the answers. `simplex_bench ROWS COLUMNS SPARSE GREATEST BOARD FORMS` solves
+// random forms: one entry in SPARSE isn't 0, and is at most GREATEST in magnitude. `simplex_bench
+// KIND ROWS COLUMNS BOARD TIMES` makes the form of a chain of balances, a transport or a blending
+// plan and solves it TIMES times.
 #![tactic(auto)]
 
 mod answers;
@@ -19,8 +19,8 @@ use models::Kind;
 use std::alloc::Global;
 use std::{env, io};
 
-const USAGE: &str = "usage: simplex_bench ROWS COLUMNS SPARSE GREATEST FORMS, or simplex_bench \
-chain|transport|blend ROWS COLUMNS dense|sparse TIMES";
+const USAGE: &str = "usage: simplex_bench ROWS COLUMNS SPARSE GREATEST dense|sparse FORMS, or \
+simplex_bench chain|transport|blend ROWS COLUMNS dense|sparse TIMES";
 
 fn main(rt: HostRuntime) -> io::Result<()> {
     let mut words = Vec::new(rt.alloc());
@@ -50,14 +50,16 @@ fn told(alloc: Global, words: &[String]) -> Option<Result<u64, BenchFault>> {
 
 fn of_random(alloc: Global, rows: &str, words: &[String]) -> Option<Result<u64, BenchFault>> {
     match words {
-        [columns, sparse, greatest, forms] => {
+        [columns, sparse, greatest, board, forms] => {
             let size = Size {
                 rows: rows.parse().ok()?,
                 columns: columns.as_str().parse().ok()?,
                 sparse: sparse.as_str().parse().ok()?,
                 greatest: greatest.as_str().parse().ok()?,
             };
-            Some(answers::checksum(alloc, &size, forms.as_str().parse().ok()?))
+            let board = Board::named(board.as_str())?;
+            let forms = forms.as_str().parse().ok()?;
+            Some(answers::checksum(alloc, &size, board, forms))
         }
         _ => None,
     }
