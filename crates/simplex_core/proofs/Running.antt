@@ -1,6 +1,6 @@
 -- The loop: what is told of the rest of the trail is told of all of it.
-use Rattle.std.specs.Prelude.{◌≡◌, ℕ, zero, suc, ◌+◌, ◌-◌, ◌<◌, Bool, true, false, Result, Ok, Err, MatchResult, OnOk, is_err, is_ok, List, if◌then◌else◌, IsTrue, length, refl}
-use Rattle.std.proofs.Common.{sym, ◌∙◌, ap, arith, subst, true≢false}
+use Rattle.std.specs.Prelude.{◌≡◌, ℕ, zero, suc, ◌+◌, ◌-◌, ◌<◌, Bool, true, false, Result, Ok, Err, OnOk, List, if◌then◌else◌, IsTrue, length, refl}
+use Rattle.std.proofs.Common.{sym, ◌∙◌, ap, arith, subst}
 use Rattle.std.proofs.lemmas.Bool.{cond-false, cond-true}
 use Rattle.simplex_form.specs.declared.turn.Phase.{Phase}
 use Rattle.simplex_form.specs.declared.turn.Phase.TheVariants.{First}

@@ -1,4 +1,4 @@
-use Rattle.std.proofs.Common.{arith, refl, sym, ◌∙◌}
+use Rattle.std.proofs.Common.{Err, ap, arith, refl}
 use Rattle.simplex_core.proofs.Running.{at_next, at_start, tells_end, tells_limit, tells_overflow, tells_refused}
 use Rattle.simplex_core.proofs.run.run.Goals as goal
 
@@ -45,7 +45,7 @@ pub returns-in-Err-Overflow : goal.returns-in-Err-Overflow
 returns-in-Err-Overflow g c = λ F h b.
     tells_refused (c.steps.invariant.steps F h b) c.steps.invariant.phase c.turn.ensures.turn
     c.in-Pivot.is c.in-Pivot.ensures.within (omega arith) refl
-    (c.in-Err-Overflow.ensures.overflow refl) c.in-Err-Overflow.ensures.board
+    (c.in-Err-Overflow.ensures.overflow (ap Err c.in-Err-Overflow.field-0-is)) c.in-Err-Overflow.ensures.board
     c.in_ok-basis-in-Err-Overflow.ensures
 
 pub steps-preserved : goal.steps-preserved
