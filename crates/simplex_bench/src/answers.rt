@@ -12,12 +12,7 @@ use std::alloc::Global;
 const ALLOWANCE: u64 = 1_000_000;
 
 /// The checksum of what the forms of the numbers from 1 on lead to.
-pub fn checksum(
-    alloc: Global,
-    size: &Size,
-    board: Board,
-    count: u32,
-) -> Result<u64, BenchFault> {
+pub fn checksum(alloc: Global, size: &Size, board: Board, count: u32) -> Result<u64, BenchFault> {
     let mut sum = 0u64;
     for seed in 0..count {
         let one = of_form(alloc, seed.wrapping_add(1), size, board)?;
