@@ -3,3 +3,4 @@ mod KindSteps
 mod Telling
 mod Others
 mod ModelSteps
+mod FoundSteps

@@ -1,5 +1,6 @@
 pub mod Assembly
 pub mod Expressions
+pub mod Found
 pub mod Kinds
 pub mod Levels
 pub mod ModelHeld

@@ -68,7 +68,7 @@ fn check_rows<R: Rewriter>(
     Ok(())
 }
 
-fn check_objective<R: Rewriter>(
+pub(crate) fn check_objective<R: Rewriter>(
     rewriter: &R,
     kept: &ByAddress<bool>,
     objective: &Objective,
@@ -85,7 +85,7 @@ fn check_objective<R: Rewriter>(
     }
 }
 
-fn check_kind<R: Rewriter>(rewriter: &R, kind: Kind) -> Result<(), PushFault>
+pub(crate) fn check_kind<R: Rewriter>(rewriter: &R, kind: Kind) -> Result<(), PushFault>
     ensures { KindsOutcome result (first_missing (R.means rewriter.now).choice (kind ∷ [])) }
 {
     match rewriter.choice(kind) {
@@ -113,7 +113,7 @@ fn kept_variables<R: Rewriter>(
 }
 
 // Says of variables whether they are kept.
-fn tell(kept: &mut ByAddress<bool>, vars: &[GroupVar], keeps: bool) -> Result<(), Memory>
+pub(crate) fn tell(kept: &mut ByAddress<bool>, vars: &[GroupVar], keeps: bool) -> Result<(), Memory>
     ensures { OnOk result ((v : Address) → told kept.new v
         ≡ cond (list_any (λ u. address_eq u v) (map (λ x. variable_address x.number) vars.now))
         keeps (told kept.old v)) }
@@ -133,7 +133,7 @@ fn is_kept(kept: &ByAddress<bool>, var: &Address) -> bool
 }
 
 // A group keeps its variables where it is native, or is bridged later from a native group.
-fn keeps<R: Rewriter>(rewriter: &R, kind: Kind) -> bool
+pub(crate) fn keeps<R: Rewriter>(rewriter: &R, kind: Kind) -> bool
     ensures { result ≡ keeps (R.means rewriter.now).choice kind }
 {
     match rewriter.choice(kind) {
@@ -168,7 +168,7 @@ fn begun_kind(children: Children) -> Kind
 }
 
 #[tactic(auto, unfolding(item_core::specs::KindOf::kind_of_body))]
-fn group_kind(alloc: Global, set: &Set) -> Result<Kind, Memory>
+pub(crate) fn group_kind(alloc: Global, set: &Set) -> Result<Kind, Memory>
     ensures { IfOk result (λ kind. kind ≡ kinds.group_kind_of set.now) }
 {
     let body = Body::Group {
@@ -188,7 +188,7 @@ fn kind_of_body(body: Body) -> Kind
 }
 
 // The kind of a row once the groups' expressions are put in.
-fn row_kind(alloc: Global, kept: &ByAddress<bool>, row: &Row) -> Result<Kind, Memory>
+pub(crate) fn row_kind(alloc: Global, kept: &ByAddress<bool>, row: &Row) -> Result<Kind, Memory>
     ensures { IfOk result (λ kind. kind ≡ kind_by (told kept.now) (row_item row.now).body) }
 {
     function_kind(alloc, is_plain(kept, &row.func), &row.set)

@@ -1,5 +1,5 @@
 //! The fresh bridging of a user's model, worked out before anything is changed.
-ghost use Rattle.std.specs.Prelude.{◌≡◌, ◌++◌, [], All, IfOk, IsTrue, OnOk, flat_map, map};
+ghost use Rattle.std.specs.Prelude.{◌≡◌, ◌≤◌, ◌+◌, ◌++◌, [], All, IfOk, IsTrue, OnOk, flat_map, length, map};
 ghost use Rattle.ratio_core.specs.Answers.{ExactWhere};
 ghost use Rattle.expansion.specs.Grown.{put_held};
 ghost use Rattle.item_core.specs.declared.item.Item.{Item};
@@ -27,7 +27,7 @@ use std::alloc::Global;
 use user_model::{GroupVar, Groups, Objective, Row, Rows};
 
 /// How many items stand above one another at most.
-const LEVELS: u8 = 35;
+pub(crate) const LEVELS: u8 = 35;
 
 /// The plan of a model: its leaves and nodes, each of its variables with its expression as a
 /// function, and those of its variables that are kept, all in the order of the bridging.
@@ -159,7 +159,7 @@ fn plan_rows<R: Rewriter>(
 }
 
 // Plans a row.
-fn plan_row<R: Rewriter>(
+pub(crate) fn plan_row<R: Rewriter>(
     alloc: Global,
     rewriter: &mut R,
     plan: &mut Plan,
@@ -173,6 +173,8 @@ fn plan_row<R: Rewriter>(
         (λ _. Adds plan.old plan.new [] [] (put_held (rules_by choice) standing.old item
         (worked choice 35 (put_in standing.old item)))) }
     ensures means { R.means rewriter.new ≡ R.means rewriter.old }
+    ensures turns { OnOk result (R.turns rewriter.new + length plan.old.nodes.items
+        ≤ R.turns rewriter.old + length plan.new.nodes.items) }
     ensures same { standing.new ≡ standing.old }
 {
     let body = standing.row_body(&row.func, &row.set)?;
@@ -181,7 +183,7 @@ fn plan_row<R: Rewriter>(
 }
 
 // Plans the objective, if there is one.
-fn plan_objective<R: Rewriter>(
+pub(crate) fn plan_objective<R: Rewriter>(
     alloc: Global,
     rewriter: &mut R,
     plan: &mut Plan,
@@ -195,6 +197,8 @@ fn plan_objective<R: Rewriter>(
         let held = worked_in choice (worked choice 35) standing.old items in
         ExactWhere result (IsTrue held.fits) (λ _. Adds plan.old plan.new [] [] held) }
     ensures means { R.means rewriter.new ≡ R.means rewriter.old }
+    ensures turns { OnOk result (R.turns rewriter.new + length plan.old.nodes.items
+        ≤ R.turns rewriter.old + length plan.new.nodes.items) }
 {
     let at = Address::root(Root::Objective, 0);
     match objective {
@@ -222,13 +226,15 @@ fn plan_further<R: Rewriter>(
         ExactWhere result (IsTrue held.fits)
         (λ _. Adds plan.old plan.new [] [] (record held { entries = [] })) }
     ensures means { R.means rewriter.new ≡ R.means rewriter.old }
+    ensures turns { OnOk result (R.turns rewriter.new + length plan.old.nodes.items
+        ≤ R.turns rewriter.old + length plan.new.nodes.items) }
 {
     let mut none = Vec::new(alloc);
     plan_item(alloc, rewriter, plan, &mut none, item, LEVELS)
 }
 
 // Why the user's item at an address isn't planned.
-fn refused(fault: NumberFault, at: Address) -> PushFault
+pub(crate) fn refused(fault: NumberFault, at: Address) -> PushFault
     ensures { result ≡ refused_at fault at }
 {
     match fault {

@@ -1,0 +1,32 @@
+use Rattle.std.proofs.Common.{rules, ◌≡◌, [], ◌∷◌, ap, ◌∙◌, cond, map}
+use Rattle.user_model.specs.Model.{variable_address}
+use Rattle.user_model.specs.declared.group.GroupVar.{GroupVar}
+use Rattle.map_laws.specs.LoopLaws.{taken_more}
+use Rattle.bridge_plan.specs.KeptGroups.{keeps}
+use Rattle.model_bridging.specs.Kinds.{told}
+use Rattle.model_bridging.proofs.FoundSteps.{over_more, over_none}
+use Rattle.model_bridging.proofs.Telling.{is_among}
+use Rattle.model_bridging.proofs.found.tell_groups.Goals as goal
+
+pub loop-group-init : goal.loop-group-init
+loop-group-init g c = (
+  [],
+  search rules,
+  over_none (g.R.Rewriter.means c.args.rewriter.now).choice c.args.kept.now,
+)
+
+pub loop-group-preserved : goal.loop-group-preserved
+loop-group-preserved g c =
+    let choice = (g.R.Rewriter.means c.args.rewriter.now).choice in
+    let at = c.loop-group in
+    let taken = at.invariant.0 in
+    let group = c.in-Some.group.now in (
+      group ∷ taken,
+      taken_more c.next.new.self.iter.rest.now group taken at.invariant.1 c.in-Some.ensures.steps,
+      over_more choice group.now (map (λ x. x.now) taken) c.args.kept.now at.kept
+          c.tell.new.kept c.keeps-stays.result
+          (c.keeps-stays.ensures ∙ ap (keeps choice) c.in_ok-group_kind.ensures) at.invariant.2
+          (λ v. c.in_ok-tell.ensures v
+          ∙ ap (λ vs. cond (is_among (map (λ (x : GroupVar). variable_address x.number) vs) v)
+          c.keeps-stays.result (told at.kept v)) c.as_slice.ensures),
+    )
