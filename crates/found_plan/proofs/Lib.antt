@@ -1,0 +1,2 @@
+mod MarkSteps
+mod LoopSteps

@@ -1,0 +1,4 @@
+pub mod Marked
+pub mod Read
+pub mod KindLaws
+pub mod Stood
