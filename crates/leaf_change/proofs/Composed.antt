@@ -28,12 +28,13 @@ use Rattle.solver_store.specs.SolverModel.{Leaves, Stored}
 use Rattle.solver_store.specs.declared.leaf.LeafObjective.{LeafObjective}
 use Rattle.solver_store.specs.declared.leaf.LeafVar.{LeafVar}
 use Rattle.leaf_change.specs.Steps.{Calls}
+use Rattle.leaf_change.specs.CoverLaws.{read_where, row_where}
 use Rattle.leaf_change.proofs.Counted.{counts_none}
 use Rattle.leaf_change.specs.Phases.{AreDroppable, BodiesMiss, Changes, CountsAt, DropsRows, HasDropped, SetsRows, SetsVariables}
-use Rattle.leaf_change.proofs.Dropping.{own_miss, read_where}
+use Rattle.leaf_change.proofs.Dropping.{own_miss}
 use Rattle.leaf_change.specs.Objective.{CanChange, ChangesObjective, objective_held}
 use Rattle.leaf_change.proofs.ObjectiveSteps.{read_objective_is}
-use Rattle.leaf_change.proofs.PhaseSteps.{row_where, spliced_after}
+use Rattle.leaf_change.proofs.PhaseSteps.{spliced_after}
 use Rattle.leaf_change.specs.Splice.{AreBeside, Gone, IsSplice, IsSplicedInto, KeepsIndices, keys_of, spliced, spliced_model, without_all}
 use Rattle.leaf_change.specs.SplicedLaws.{get_beside, get_gone, get_put, get_without}
 

@@ -13,6 +13,7 @@ use Rattle.bridge_face.specs.Law.{Miss}
 use Rattle.equality_form.specs.Native.{NamesVariables}
 use Rattle.item_core.specs.Item.{functions_of}
 use Rattle.item_core.specs.declared.item.Body.{Body}
+use Rattle.leaf_change.specs.CoverLaws.{read_where}
 use Rattle.leaf_change.specs.Named.{NamesEach}
 use Rattle.leaf_change.specs.Puts.{objectives_in, rows_in, variables_in}
 use Rattle.leaf_model.specs.LeafModel.{Differ, IsCountOf, LeafModel}
@@ -131,24 +132,6 @@ module _ (old : AddressMap) (leaves : Leaves) (n : ℕ) (mid : AddressMap) (betw
 still_there : (m : FinMap address_cmp LeafVar) (n : FinMap address_cmp LeafVar) (at q : Address)
     → n ≡ finite.remove m at → ¬ (q ≡ at) → finite.get n q ≡ finite.get m q
 still_there m n at q e k = ap (λ o. finite.get o q) e ∙ get_beside address_order m at q k
-
--- an index stands exactly where a variable is read
-pub read_where : (map : AddressMap) (leaves : Leaves) → NamesEach map leaves → (q : Address)
-    → is_some (finite.get map.vars.indices q) ≡ is_some (finite.get (variables_in map leaves) q)
-read_where map leaves names q =
-    by (finite.get map.vars.indices q) refl
-    ∙ sym (ap is_some (get_through leaves.vars (λ v. v) map.vars.indices q))
-  where
-    at_index : (i : ℕ) (o : Option LeafVar) → finite.get leaves.vars i ≡ o
-        → IsSome (finite.get leaves.vars i) → is_some (Some i) ≡ is_some (option_map (λ v. v) o)
-    at_index i None e h = absurd (not_some (finite.get leaves.vars i) e h)
-    at_index i (Some x) e h = refl
-
-    by : (o : Option ℕ) → finite.get map.vars.indices q ≡ o
-        → is_some o
-        ≡ is_some (option_and_then (λ j. option_map (λ v. v) (finite.get leaves.vars j)) o)
-    by None e = refl
-    by (Some i) e = at_index i (finite.get leaves.vars i) refl (names.vars.used q i e)
 
 module _ (map : AddressMap) (leaves : Leaves) (names : NamesEach map leaves) (at : Address)
     (gone : List Address) (are : AreDroppable map leaves (at ∷ gone)) (new : AddressMap)

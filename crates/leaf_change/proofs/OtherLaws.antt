@@ -23,7 +23,9 @@ use Rattle.item_core.specs.Item.{functions_of}
 use Rattle.item_core.specs.declared.item.Body.{Body}
 use Rattle.item_core.specs.declared.item.Body.TheVariants.{Group, Free, Plain, Affine, PlainVec, AffineVec, PlainObj, AffineObj}
 use Rattle.item_core.specs.declared.item.Item.{Item}
+use Rattle.leaf_change.specs.CoverLaws.{objective_covers, rows_cover, variables_cover}
 use Rattle.leaf_change.specs.Leaves.{AreLeaves, NamesLeaves}
+use Rattle.leaf_change.specs.LeavesLaws.{among_contained, contains_among, entries_apart, has_one, keys_apart, looked_among, names_own}
 use Rattle.leaf_change.specs.Named.{NamesEach}
 use Rattle.leaf_change.specs.Objective.{HasOne}
 use Rattle.leaf_change.specs.Others.{among, objective_addresses, others, others_in}
@@ -31,9 +33,7 @@ use Rattle.leaf_change.specs.Puts.{rows_in, variables_in}
 use Rattle.leaf_change.specs.ReadableLaws.{found_passes}
 use Rattle.leaf_change.specs.Splice.{AreApart, AreBeside, Gone, IsChangedTo, IsSplice, NamesOwn, keys_of, spliced, spliced_model, without_all}
 use Rattle.leaf_change.specs.SplicedLaws.{get_put_all, get_without, none_without}
-use Rattle.leaf_change.proofs.Dropping.{read_where}
 use Rattle.leaf_change.proofs.KeyLaws.{rising_distinct}
-use Rattle.leaf_change.proofs.PhaseSteps.{row_where}
 use Rattle.leaf_model.specs.LeafModel.{LeafModel}
 use Rattle.leaf_model.specs.ReadThrough.{read_objective, read_through}
 use Rattle.map_laws.specs.EachLaws.{all_from_map, contains_later}
@@ -59,57 +59,7 @@ contains_filtered p (y ∷ ys) x (suc k, inside, is) t =
     later true c = contains_later y x (filter p ys) c
     later false c = c
 
-contains_among : (q : Address) (ks : List Address) → among ks q ≡ true → Contains ks q
-contains_among q [] e = absurd (true≢false (sym e))
-contains_among q (k ∷ ks) e = by (address_eq q k) refl e (contains_among q ks)
-  where
-    by : (b : Bool) → address_eq q k ≡ b → (b || among ks q) ≡ true
-        → (among ks q ≡ true → Contains ks q) → Contains (k ∷ ks) q
-    by true same h later = (0, omega arith, sym ((address_eq-Decides q k).0 same))
-    by false other h later = contains_later k q ks (later h)
-
-among_contained : (q : Address) (ks : List Address) → Contains ks q → among ks q ≡ true
-among_contained q ks c = list_any-from_Contains (eq_by_cmp_equiv address_total) q ks c
-
-module _ {X : Type 0} where
-  -- entries of distinct keys are apart
-  entries_apart : (es : List (Address × X)) → HasDistinctKeys address_cmp es
-      → AllPairs (λ d e. ¬ (e.0 ≡ d.0)) es
-  entries_apart [] h = AllPairs-nil (λ d e. ¬ (e.0 ≡ d.0))
-  entries_apart (e ∷ es) h =
-      AllPairs-cons (λ d e. ¬ (e.0 ≡ d.0)) e es
-      (each es (IsDistinct-head address_eq e.0 (keys_of es) h))
-      (entries_apart es (IsDistinct-tail address_eq e.0 (keys_of es) h))
-    where
-      each : (fs : List (Address × X))
-          → AllByRecursion (λ y. address_eq e.0 y ≡ false) (keys_of fs)
-          → All (λ f. ¬ (f.0 ≡ e.0)) fs
-      each [] k = All-nil (λ f. ¬ (f.0 ≡ e.0))
-      each (f ∷ fs) k =
-          All-cons (λ f. ¬ (f.0 ≡ e.0)) f fs
-          (λ s. true≢false (sym ((address_eq-Decides e.0 f.0).1 (sym s)) ∙ k.0)) (each fs k.1)
-
-  keys_apart : (es : List (Address × X)) → HasDistinctKeys address_cmp es → AreApart es
-  keys_apart es h =
-      AllPairs-map (λ a b. ¬ (b ≡ a)) (λ (e : Address × X). e.0) (λ d e. ¬ (e.0 ≡ d.0)) es
-      (λ d e n. n) (entries_apart es h)
-
-  looked_among : (q : Address) (fs : List (Address × X))
-      → is_some (lookup (is_at (address_cmp q)) fs) ≡ among (keys_of fs) q
-  looked_among q [] = refl
-  looked_among q (f ∷ fs) = by (address_eq q f.0) (looked_among q fs)
-    where
-      by : (b : Bool) → is_some (lookup (is_at (address_cmp q)) fs) ≡ among (keys_of fs) q
-          → is_some (cond b (Some f.1) (lookup (is_at (address_cmp q)) fs))
-          ≡ (b || among (keys_of fs) q)
-      by true later = refl
-      by false later = later
-
--- the addresses of indices, each of which has one, and no two of which are the same
-indices_among : (indices : Indices) (q : Address)
-    → is_some (finite.get indices q) ≡ among (addresses indices) q
-indices_among indices q = finite.contains_key-keys indices q
-
+-- the addresses of indices are apart
 indices_apart : (indices : Indices) → AllPairs (λ a b. ¬ (b ≡ a)) (addresses indices)
 indices_apart indices =
     keys_apart (finite.entries indices)
@@ -163,78 +113,6 @@ module _ {X : Type 0} (m : FinMap address_cmp X) (es : List (Address × X)) (all
       ∙ ap not (among_contained e.0 (keys_of es) c))) es
       (all_from_map (Contains (keys_of es)) (λ e. e.0) es (All-contains_itself (keys_of es)))
 
--- ---- what leaves name
-
-module _ (model : LeafModel) where
-  abbrev NamesIn : Address × Body → Type 0
-  NamesIn e = All (NamesVariables model) (functions_of e.1)
-
-  each_names : (f : Item → List (Address × Body))
-      → ((i : Item) → All (λ (e : Address × Body). e.1 ≡ i.body) (f i)) → (leaves : List Item)
-      → All (NamesLeaves model) leaves → All NamesIn (flat_map f leaves)
-  each_names f own [] h = All-nil NamesIn
-  each_names f own (i ∷ leaves) h =
-      All-append NamesIn (f i) (flat_map f leaves)
-      (All-weaker (λ (e : Address × Body). e.1 ≡ i.body) NamesIn
-      (λ e s. subst (λ b. All (NamesVariables model) (functions_of b)) (sym s)
-      (All-head (NamesLeaves model) i leaves h)) (f i) (own i))
-      (each_names f own leaves (All-tail (NamesLeaves model) i leaves h))
-
-  found_names : (es : List (Address × Body)) → All NamesIn es → (at : Address) (body : Body)
-      → finite.get (finite.from_entries {R = address_cmp} es) at ≡ Some body
-      → All (NamesVariables model) (functions_of body)
-  found_names es h at body e =
-      found_passes NamesIn es at body h (sym (finite.get-from_entries address_total es at) ∙ e)
-
-abbrev IsBody : Body → Address × Body → Type 0
-IsBody b e = e.1 ≡ b
-
-alone : (at : Address) (b : Body) → All (IsBody b) ((at, b) ∷ [])
-alone at b = All-cons (IsBody b) (at, b) [] refl (All-nil (IsBody b))
-
-row_bodies : (i : Item) → All (IsBody i.body) (leaf_rows i)
-row_bodies i = by i.body
-  where
-    by : (b : Body) → All (IsBody b) (leaf_rows (record { at = i.at; body = b }))
-    by (Group set vars) = All-nil (IsBody (Group set vars))
-    by (Free vars) = All-nil (IsBody (Free vars))
-    by (PlainObj sense var) = All-nil (IsBody (PlainObj sense var))
-    by (AffineObj sense func) = All-nil (IsBody (AffineObj sense func))
-    by (Plain var set) = alone i.at (Plain var set)
-    by (Affine func set) = alone i.at (Affine func set)
-    by (PlainVec vars set) = alone i.at (PlainVec vars set)
-    by (AffineVec func set) = alone i.at (AffineVec func set)
-
-objective_bodies : (i : Item) → All (IsBody i.body) (leaf_objectives i)
-objective_bodies i = by i.body
-  where
-    by : (b : Body) → All (IsBody b) (leaf_objectives (record { at = i.at; body = b }))
-    by (Group set vars) = All-nil (IsBody (Group set vars))
-    by (Free vars) = All-nil (IsBody (Free vars))
-    by (Plain var set) = All-nil (IsBody (Plain var set))
-    by (Affine func set) = All-nil (IsBody (Affine func set))
-    by (PlainVec vars set) = All-nil (IsBody (PlainVec vars set))
-    by (AffineVec func set) = All-nil (IsBody (AffineVec func set))
-    by (PlainObj sense var) = alone i.at (PlainObj sense var)
-    by (AffineObj sense func) = alone i.at (AffineObj sense func)
-
--- at most one objective stands at one address
-one_at : (os : List (Address × Body)) → length os ≤ 1
-    → HasOne (finite.from_entries {R = address_cmp} os)
-one_at [] h one other f g e k =
-    absurd (none-some f (sym (finite.get-from_entries {R = address_cmp} address_total [] one) ∙ e))
-one_at (o ∷ []) h one other f g e k = its one f e ∙ sym (its other g k)
-  where
-    its : (q : Address) (b : Body)
-        → finite.get (finite.from_entries {R = address_cmp} (o ∷ [])) q ≡ Some b → q ≡ o.0
-    its q b s = by (address_eq q o.0) refl
-        (sym (finite.get-from_entries address_total (o ∷ []) q) ∙ s)
-      where
-        by : (t : Bool) → address_eq q o.0 ≡ t → cond t (Some o.1) None ≡ Some b → q ≡ o.0
-        by true same d = (address_eq-Decides q o.0).0 same
-        by false n d = absurd (none-some b d)
-one_at (o ∷ p ∷ os) h one other f g e k = absurd (omega (arith, h))
-
 one_distinct : (os : List (Address × Body)) → length os ≤ 1 → HasDistinctKeys address_cmp os
 unfolding IsDistinct
 one_distinct [] h = tt
@@ -251,44 +129,14 @@ module _ (places : AddressMap) (leaves : Leaves) (at : Address) (put : List Item
   abbrev all_gone : Gone
   all_gone = others_in places leaves at put
 
-  variables_cover : (q : Address)
-      → is_some (finite.get (variables_in places leaves) q) ≡ among (addresses places.vars.indices) q
-  variables_cover q = sym (read_where places leaves names q) ∙ indices_among places.vars.indices q
-
-  rows_cover : (q : Address)
-      → is_some (finite.get (rows_in places leaves) q) ≡ among (addresses places.rows.indices) q
-  rows_cover q = sym (row_where places leaves names q) ∙ indices_among places.rows.indices q
-
-  objective_covers : (q : Address)
-      → is_some (finite.get model.objective q) ≡ among (objective_addresses leaves at) q
-  objective_covers q = by leaves.objective
-    where
-      none : is_some (finite.get (finite.empty {X = Body} {R = address_cmp}) q) ≡ false
-      none = ap is_some (finite.get-empty address_cmp q)
-
-      same : (o : LeafObjective) (b : Bool)
-          → is_some (cond b (Some (read_objective places.vars.indices o))
-          (finite.get (finite.empty {R = address_cmp}) q)) ≡ (b || false)
-      same o true = refl
-      same o false = none
-
-      by : (o : Option LeafObjective)
-          → is_some (finite.get (option_map_or (λ p. finite.insert (finite.empty {R = address_cmp}) at
-          (read_objective places.vars.indices p)) o finite.empty) q)
-          ≡ among (option_map_or (λ p. at ∷ []) o []) q
-      by None = none
-      by (Some o) =
-          ap is_some (finite.get-insert address_total finite.empty at
-          (read_objective places.vars.indices o) q) ∙ same o (address_eq q at)
-
   replaced : spliced_model model all_gone put ≡ leaf_model_of put
   replaced = λ i. record {
     variables = all_replaced model.variables (flat_map leaf_variables put)
-        (addresses places.vars.indices) variables_cover are.variables i;
+        (addresses places.vars.indices) (variables_cover places leaves at names) are.variables i;
     rows = all_replaced model.rows (flat_map leaf_rows put) (addresses places.rows.indices)
-        rows_cover are.rows i;
+        (rows_cover places leaves at names) are.rows i;
     objective = all_replaced model.objective (flat_map leaf_objectives put)
-        (objective_addresses leaves at) objective_covers
+        (objective_addresses leaves at) (objective_covers places leaves at names)
         (one_distinct (flat_map leaf_objectives put) are.objective) i;
   }
 
@@ -300,31 +148,25 @@ module _ (places : AddressMap) (leaves : Leaves) (at : Address) (put : List Item
     rows = keys_apart (flat_map leaf_rows put) are.rows;
     objective = are.objective;
     variables_beside = all_beside model.variables (flat_map leaf_variables put)
-        (addresses places.vars.indices) variables_cover;
+        (addresses places.vars.indices) (variables_cover places leaves at names);
     rows_beside = all_beside model.rows (flat_map leaf_rows put) (addresses places.rows.indices)
-        rows_cover;
+        (rows_cover places leaves at names);
     objective_beside = all_beside model.objective (flat_map leaf_objectives put)
-        (objective_addresses leaves at) objective_covers;
+        (objective_addresses leaves at) (objective_covers places leaves at names);
     gone_variables = gone_there model.variables (flat_map leaf_variables put)
-        (addresses places.vars.indices) variables_cover;
+        (addresses places.vars.indices) (variables_cover places leaves at names);
     gone_rows = gone_there model.rows (flat_map leaf_rows put) (addresses places.rows.indices)
-        rows_cover;
+        (rows_cover places leaves at names);
     gone_objective = gone_there model.objective (flat_map leaf_objectives put)
-        (objective_addresses leaves at) objective_covers;
+        (objective_addresses leaves at) (objective_covers places leaves at names);
     variables_apart = AllPairs-filter (λ a b. ¬ (b ≡ a))
         (λ q. not (among (keys_of (flat_map leaf_variables put)) q))
         (addresses places.vars.indices) (indices_apart places.vars.indices);
     rows_apart = AllPairs-filter (λ a b. ¬ (b ≡ a))
         (λ q. not (among (keys_of (flat_map leaf_rows put)) q))
         (addresses places.rows.indices) (indices_apart places.rows.indices);
-    names = subst NamesOwn (sym replaced) (record {
-      rows = found_names (leaf_model_of put) (flat_map leaf_rows put)
-          (each_names (leaf_model_of put) leaf_rows row_bodies put are.names);
-      objective = found_names (leaf_model_of put) (flat_map leaf_objectives put)
-          (each_names (leaf_model_of put) leaf_objectives objective_bodies put are.names);
-    });
-    one = subst (λ (m : LeafModel). HasOne m.objective) (sym replaced)
-        (one_at (flat_map leaf_objectives put) are.objective);
+    names = subst NamesOwn (sym replaced) (names_own put are);
+    one = subst (λ (m : LeafModel). HasOne m.objective) (sym replaced) (has_one put are);
   }
 
   -- so what is spliced is the leaves

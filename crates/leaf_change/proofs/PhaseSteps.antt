@@ -9,6 +9,7 @@ use Rattle.aff_core.specs.Address.{Address, address_cmp, address_total, exact_ad
 use Rattle.aff_core.specs.KeyOrder.{address_order, same_or_other}
 use Rattle.address_map.specs.AddressMap.{AddressMap}
 use Rattle.item_core.specs.declared.item.Body.{Body}
+use Rattle.leaf_change.specs.CoverLaws.{row_where}
 use Rattle.leaf_change.specs.Named.{NamesEach}
 use Rattle.leaf_change.specs.Puts.{put_all, rows_in, variables_in}
 use Rattle.leaf_model.specs.LeafModel.{Differ, IsCountOf}
@@ -346,26 +347,6 @@ drops_rows_more a b c x y z all ks ls rest n m h e first second = (
   append_assoc ks ls rest ∙ e,
   drops_rows_both a b c x y z ks ls n m first second (next_apart all ks ls rest h e),
 )
-
--- an index stands where a row is read
-pub row_where : (map : AddressMap) (leaves : Leaves) → NamesEach map leaves → (q : Address)
-    → is_some (finite.get map.rows.indices q) ≡ is_some (finite.get (rows_in map leaves) q)
-row_where map leaves names q =
-    by (finite.get map.rows.indices q) refl
-    ∙ sym (ap is_some (get_through leaves.rows (read_row map.vars.indices) map.rows.indices q))
-  where
-    at_index : (i : ℕ) (o : Option LeafRow) → finite.get leaves.rows i ≡ o
-        → IsSome (finite.get leaves.rows i)
-        → is_some (Some i) ≡ is_some (option_map (read_row map.vars.indices) o)
-    at_index i None e h = absurd (not_some (finite.get leaves.rows i) e h)
-    at_index i (Some x) e h = refl
-
-    by : (o : Option ℕ) → finite.get map.rows.indices q ≡ o
-        → is_some o
-        ≡ is_some (option_and_then (λ j. option_map (read_row map.vars.indices)
-        (finite.get leaves.rows j)) o)
-    by None e = refl
-    by (Some i) e = at_index i (finite.get leaves.rows i) refl (names.rows.used q i e)
 
 -- rows that are left stand still
 left_rows : (m : FinMap address_cmp Body) (ks : List Address) (q : Address) → ¬ (Contains ks q)

@@ -8,3 +8,5 @@ pub mod Steps
 pub mod Phases
 pub mod Objective
 pub mod ReadableLaws
+pub mod LeavesLaws
+pub mod CoverLaws
