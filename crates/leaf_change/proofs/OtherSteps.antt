@@ -1,5 +1,5 @@
 -- Addresses gathered in a map, and those that are not in it, one after another.
-use Rattle.std.specs.Prelude.{◌≡◌, ◌+◌, ◌||◌, ◌⊎◌, ℕ, Bool, true, false, cond, not, List, [], ◌∷◌, ◌++◌, is_some, Some, drop, flat_map, length, slice_get, refl}
+use Rattle.std.specs.Prelude.{◌≡◌, ◌≤◌, ◌+◌, ◌||◌, ◌⊎◌, ℕ, Bool, true, false, cond, not, List, [], ◌∷◌, ◌++◌, is_some, Some, drop, flat_map, length, slice_get, refl}
 use Rattle.std.specs.FinMap as finite
 use Rattle.std.specs.FinMap.{FinMap}
 use Rattle.std.proofs.Common.{inl, inr, append_assoc, arith, sym, ◌∙◌, ap}
@@ -81,14 +81,15 @@ none_before keys put more q =
     nothing true = refl
     nothing false = refl
 
-pub other_more : (keys all : List Address) (n : ℕ) (at : Address) (found : Bool)
-    (old new : List Address) → slice_get all n ≡ Some at → found ≡ among keys at
+-- what is next is pushed where it isn't found
+pub other_next : (keys all : List Address) (n : ℕ) (at : Address) (found : Bool)
+    (old new : List Address) → drop n all ≡ at ∷ drop (n + 1) all → found ≡ among keys at
     → (found ≡ true → new ≡ old) → (found ≡ false → new ≡ old ++ at ∷ [])
     → old ++ others keys (drop n all) ≡ others keys all
     → new ++ others keys (drop (n + 1) all) ≡ others keys all
-other_more keys all n at found old new here is there absent so_far =
+other_next keys all n at found old new here is there absent so_far =
     by found is there absent
-    ∙ ap (λ ks. old ++ others keys ks) (sym (drop_at n at all here)) ∙ so_far
+    ∙ ap (λ ks. old ++ others keys ks) (sym here) ∙ so_far
   where
     by : (b : Bool) → b ≡ among keys at → (b ≡ true → new ≡ old)
         → (b ≡ false → new ≡ old ++ at ∷ [])
@@ -103,6 +104,19 @@ other_more keys all n at found old new here is there absent so_far =
         ∙ append_assoc old (at ∷ []) (others keys (drop (n + 1) all))
         ∙ ap (λ b. old ++ cond (not b) (at ∷ others keys (drop (n + 1) all))
         (others keys (drop (n + 1) all))) s
+
+pub other_more : (keys all : List Address) (n : ℕ) (at : Address) (found : Bool)
+    (old new : List Address) → slice_get all n ≡ Some at → found ≡ among keys at
+    → (found ≡ true → new ≡ old) → (found ≡ false → new ≡ old ++ at ∷ [])
+    → old ++ others keys (drop n all) ≡ others keys all
+    → new ++ others keys (drop (n + 1) all) ≡ others keys all
+other_more keys all n at found old new here is there absent so_far =
+    other_next keys all n at found old new (drop_at n at all here) is there absent so_far
+
+pub none_past : (keys all gone : List Address) (n : ℕ) → length all ≤ n
+    → gone ++ others keys (drop n all) ≡ others keys all → gone ≡ others keys all
+none_past keys all gone n end so_far =
+    sym (ap (λ ks. gone ++ others keys ks) (drop_all n all end) ∙ append-nil gone) ∙ so_far
 
 pub others_done : (keys all gone : List Address) (n : ℕ) → length all ≡ n
     → gone ++ others keys (drop n all) ≡ others keys all → gone ≡ others keys all

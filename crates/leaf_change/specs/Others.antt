@@ -25,6 +25,14 @@ others keys all = filter (λ at. not (among keys at)) all
 abbrev pub objective_addresses : Leaves → Address → List Address
 objective_addresses leaves at = option_map_or (λ o. at ∷ []) leaves.objective []
 
+-- of old leaves all those at which none of these leaves is put
+abbrev pub others_among : Gone → List Item → Gone
+others_among had put = record {
+  variables = others (keys_of (flat_map leaf_variables put)) had.variables;
+  rows = others (keys_of (flat_map leaf_rows put)) had.rows;
+  objective = others (keys_of (flat_map leaf_objectives put)) had.objective;
+}
+
 abbrev pub others_in : AddressMap → Leaves → Address → List Item → Gone
 others_in map leaves at put = record {
   variables = others (keys_of (flat_map leaf_variables put)) (addresses map.vars.indices);

@@ -3,6 +3,7 @@
 #![tactic(auto)]
 
 mod change;
+mod gone;
 mod indexed;
 mod objective;
 mod others;
@@ -13,6 +14,7 @@ mod variables;
 pub use address_map::AddressMap;
 pub use aff_core::Address;
 pub use change::{GoneLeaves, change_leaves};
+pub use gone::gone_among;
 pub use item_core::Item;
 pub use lists::Memory;
 pub use others::replace_leaves;

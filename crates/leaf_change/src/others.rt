@@ -113,7 +113,7 @@ fn other_objective(
 }
 
 // Whether a leaf is an objective at the address.
-fn puts_objective(at: &Address, leaves: &[Item]) -> bool
+pub(crate) fn puts_objective(at: &Address, leaves: &[Item]) -> bool
     ensures { result ≡ among (keys_of (flat_map leaf_objectives leaves.now)) at.now }
 {
     for leaf in leaves {
@@ -125,7 +125,11 @@ fn puts_objective(at: &Address, leaves: &[Item]) -> bool
 }
 
 // Pushes an address at which nothing is put.
-fn push_other(gone: &mut Vec<Address>, put: &ByAddress<bool>, at: Address) -> Result<(), Memory>
+pub(crate) fn push_other(
+    gone: &mut Vec<Address>,
+    put: &ByAddress<bool>,
+    at: Address,
+) -> Result<(), Memory>
     ensures there { is_some (finite.get put.now at) ≡ true
         → OnOk result (gone.new.items ≡ gone.old.items) }
     ensures absent { is_some (finite.get put.now at) ≡ false
@@ -138,7 +142,7 @@ fn push_other(gone: &mut Vec<Address>, put: &ByAddress<bool>, at: Address) -> Re
 }
 
 // The addresses of the variables among leaves.
-fn variables_put(alloc: Global, leaves: &[Item]) -> Result<ByAddress<bool>, Memory>
+pub(crate) fn variables_put(alloc: Global, leaves: &[Item]) -> Result<ByAddress<bool>, Memory>
     ensures { IfOk result (λ put.
         HasMore (keys_of (flat_map leaf_variables leaves.now)) finite.empty put) }
 {
@@ -168,7 +172,7 @@ fn add_each(put: &mut ByAddress<bool>, vars: &[Address]) -> Result<(), Memory>
 }
 
 // The addresses of the rows among leaves.
-fn rows_put(alloc: Global, leaves: &[Item]) -> Result<ByAddress<bool>, Memory>
+pub(crate) fn rows_put(alloc: Global, leaves: &[Item]) -> Result<ByAddress<bool>, Memory>
     ensures { IfOk result (λ put.
         HasMore (keys_of (flat_map leaf_rows leaves.now)) finite.empty put) }
 {
