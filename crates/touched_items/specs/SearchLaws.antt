@@ -17,6 +17,7 @@ use Rattle.fresh_bridging.specs.ModelImage.{group_item, model_image}
 use Rattle.fresh_bridging.specs.TheRules.{Setting}
 use Rattle.fresh_bridging.specs.Touched.{IsTouched, item_at}
 use Rattle.item_core.specs.Item.{is_group}
+use Rattle.item_core.specs.declared.image.Expression.{Expression}
 use Rattle.item_core.specs.declared.item.Item.{Item}
 use Rattle.leaf_model.specs.LeafModel.{IsCountOf}
 use Rattle.local_laws.specs.FoundLaws.{in_groups}
@@ -99,37 +100,9 @@ own_among model at item v given is group own alike =
     (Contains-found group_number at.number r.0 given (alike ∙ r.1))
     (subst (HasOwn v) (sym r.2) own)
 
-module _ {setting : Setting} {model after : ModelValue} (sound : IsValidUnder setting model)
-    (sound_after : IsValidUnder setting after)
-    (old : FreshBridging setting model) (new : FreshBridging setting after)
-    (d : Differing) (h : HasDifferences model after d)
-    (m : AddressMap) (has : HasExpressions m old)
-    (standing : List Entry)
-    (stands : (v : Address) → Contains (own_variables d) v
-    → expression_in standing v ≡ expression_of new v)
-    (index : IsIndexOf model (noted_items m.noted)) where
-  abbrev changes : Address → Bool
-  changes v = not (stays_as m v (expression_in standing v))
+-- ---- variables of groups that differ
 
-  abbrev changed : List Address
-  changed = filter changes (own_variables d)
-
-  abbrev alike : (at : Address) → ¬ (Contains (differing_addresses d) at)
-      → item_at model at ≡ item_at after at
-  alike at out = others_stay model after d h at out
-
-  is_not : (b : Bool) → not b ≡ true → b ≡ true → ⊥
-  is_not true e f = true≢false (sym e)
-  is_not false e f = true≢false (sym f)
-
-  all_changed : All (λ v. expression_of old v ≢ expression_of new v) changed
-  all_changed =
-      All-weaker (λ v. Contains (own_variables d) v × (changes v ≡ true))
-      (λ v. expression_of old v ≢ expression_of new v)
-      (λ v k e. is_not (stays_as m v (expression_in standing v)) k.1
-      ((stays_where sound m old has v (expression_in standing v)).1 (e ∙ sym (stands v k.0))))
-      changed (all_kept changes (own_variables d))
-
+module _ (model after : ModelValue) (d : Differing) (h : HasDifferences model after d) where
   differs_there : (at : Address) → Contains (differing_addresses d) at
       → item_at model at ≢ item_at after at
   differs_there at c =
@@ -137,7 +110,7 @@ module _ {setting : Setting} {model after : ModelValue} (sound : IsValidUnder se
       (all_differ model after d h) c
 
   -- a variable of no group that differs
-  beside : (v : Address) → ¬ (Contains (own_variables d) v)
+  pub beside : (v : Address) → ¬ (Contains (own_variables d) v)
       → IsBesideGroups model after (differing_addresses d) v
   beside v out = record {
     before = λ at item c is group own. was at item c is group own (h.groups.each at.number);
@@ -181,28 +154,95 @@ module _ {setting : Setting} {model after : ModelValue} (sound : IsValidUnder se
           (variables_in (groups_in d.after)) v
           (own_among after at item v (groups_in d.after) is group own k))
 
+-- ---- the variables for which something else stands
+
+module _ {setting : Setting} {model : ModelValue} (sound : IsValidUnder setting model)
+    (after : ModelValue) (old : FreshBridging setting model)
+    (d : Differing) (h : HasDifferences model after d)
+    (m : AddressMap) (has : HasExpressions m old)
+    (standing : List Entry) (now : Address → Expression)
+    (stands : (v : Address) → Contains (own_variables d) v → expression_in standing v ≡ now v) where
+  abbrev changes : Address → Bool
+  changes v = not (stays_as m v (expression_in standing v))
+
+  abbrev pub changed_by : List Address
+  changed_by = filter changes (own_variables d)
+
+  is_not : (b : Bool) → not b ≡ true → b ≡ true → ⊥
+  is_not true e f = true≢false (sym e)
+  is_not false e f = true≢false (sym f)
+
+  pub all_changed : All (λ v. expression_of old v ≢ now v) changed_by
+  all_changed =
+      All-weaker (λ v. Contains (own_variables d) v × (changes v ≡ true))
+      (λ v. expression_of old v ≢ now v)
+      (λ v k e. is_not (stays_as m v (expression_in standing v)) k.1
+      ((stays_where sound m old has v (expression_in standing v)).1 (e ∙ sym (stands v k.0))))
+      changed_by (all_kept changes (own_variables d))
+
   is_true : (b : Bool) → not b ≡ false → b ≡ true
   is_true true e = refl
   is_true false e = absurd (true≢false e)
 
-  all_compared : (v : Address) → ¬ (Contains changed v)
-      → (expression_of old v ≡ expression_of new v)
-      ⊎ IsBesideGroups model after (differing_addresses d) v
+  -- for each other what stood stands, or no group that differs has it
+  pub all_compared : (v : Address) → ¬ (Contains changed_by v)
+      → (expression_of old v ≡ now v) ⊎ IsBesideGroups model after (differing_addresses d) v
   all_compared v out = by (contains_or_not (own_variables d) v)
     where
       tested : Contains (own_variables d) v → (b : Bool) → changes v ≡ b
-          → (expression_of old v ≡ expression_of new v)
-          ⊎ IsBesideGroups model after (differing_addresses d) v
+          → (expression_of old v ≡ now v) ⊎ IsBesideGroups model after (differing_addresses d) v
       tested c true e = absurd (out (kept_in changes (own_variables d) v c e))
       tested c false e =
           inl ((stays_where sound m old has v (expression_in standing v)).0
           (is_true (stays_as m v (expression_in standing v)) e) ∙ stands v c)
 
       by : Contains (own_variables d) v ⊎ (¬ (Contains (own_variables d) v))
-          → (expression_of old v ≡ expression_of new v)
-          ⊎ IsBesideGroups model after (differing_addresses d) v
+          → (expression_of old v ≡ now v) ⊎ IsBesideGroups model after (differing_addresses d) v
       by (inl c) = tested c (changes v) refl
-      by (inr n) = inr (beside v n)
+      by (inr n) = inr (beside model after d h v n)
+
+-- ---- what is found at them
+
+-- as laws of touch ask for it
+pub in_order_noted : (differing changed : List Address) (noted : Address → List Address)
+    (addresses : List Address)
+    → AreInOrder (differing ++ flat_map noted changed) addresses → (at : Address)
+    → Contains addresses at
+    ↔ (Contains differing at ⊎ ((v : Address) × Contains changed v × Contains (noted v) at))
+in_order_noted differing changed noted addresses order at = (
+  λ c. to (Contains-append_cases differing (flat_map noted changed) at ((order.same at).0 c)),
+  λ k. (order.same at).1 (from k),
+)
+  where
+    Noted : Type 0
+    Noted = (v : Address) × Contains changed v × Contains (noted v) at
+
+    to : Contains differing at ⊎ Contains (flat_map noted changed) at
+        → Contains differing at ⊎ Noted
+    to (inl c) = inl c
+    to (inr c) = inr (in_some noted changed at c)
+
+    from : Contains differing at ⊎ Noted → Contains (differing ++ flat_map noted changed) at
+    from (inl c) = Contains-append_left differing (flat_map noted changed) at c
+    from (inr k) =
+        Contains-append_right differing (flat_map noted changed) at
+        (in_all noted changed k.0 at k.1 k.2)
+
+module _ {setting : Setting} {model after : ModelValue} (sound : IsValidUnder setting model)
+    (sound_after : IsValidUnder setting after)
+    (old : FreshBridging setting model) (new : FreshBridging setting after)
+    (d : Differing) (h : HasDifferences model after d)
+    (m : AddressMap) (has : HasExpressions m old)
+    (standing : List Entry)
+    (stands : (v : Address) → Contains (own_variables d) v
+    → expression_in standing v ≡ expression_of new v)
+    (index : IsIndexOf model (noted_items m.noted)) where
+  abbrev changed : List Address
+  changed = changed_by sound after old d h m has standing (expression_of new) stands
+
+  abbrev alike : (at : Address) → ¬ (Contains (differing_addresses d) at)
+      → item_at model at ≡ item_at after at
+  alike at out = others_stay model after d h at out
 
   module _ (addresses : List Address)
       (order : AreInOrder (differing_addresses d ++ flat_map (noted_items m.noted) changed)
@@ -213,33 +253,11 @@ module _ {setting : Setting} {model after : ModelValue} (sound : IsValidUnder se
     searched = record {
       differ = all_differ model after d h;
       index = index;
-      changed = all_changed;
-      compared = all_compared;
-      found_are = λ at. (
-        λ c. to at (Contains-append_cases (differing_addresses d)
-            (flat_map (noted_items m.noted) changed) at ((order.same at).0 c)),
-        λ k. (order.same at).1 (from at k),
-      );
+      changed = all_changed sound after old d h m has standing (expression_of new) stands;
+      compared = all_compared sound after old d h m has standing (expression_of new) stands;
+      found_are =
+          in_order_noted (differing_addresses d) changed (noted_items m.noted) addresses order;
     }
-      where
-        Noted : Address → Type 0
-        Noted at = (v : Address) × Contains changed v × Contains (noted_items m.noted v) at
-
-        to : (at : Address)
-            → Contains (differing_addresses d) at
-            ⊎ Contains (flat_map (noted_items m.noted) changed) at
-            → Contains (differing_addresses d) at ⊎ Noted at
-        to at (inl c) = inl c
-        to at (inr c) = inr (in_some (noted_items m.noted) changed at c)
-
-        from : (at : Address) → Contains (differing_addresses d) at ⊎ Noted at
-            → Contains (differing_addresses d ++ flat_map (noted_items m.noted) changed) at
-        from at (inl c) =
-            Contains-append_left (differing_addresses d) (flat_map (noted_items m.noted) changed)
-            at c
-        from at (inr k) =
-            Contains-append_right (differing_addresses d) (flat_map (noted_items m.noted) changed)
-            at (in_all (noted_items m.noted) changed k.0 at k.1 k.2)
 
     -- what is found is exactly what is touched, and what isn't stays
     pub found_exactly : (at : Address)

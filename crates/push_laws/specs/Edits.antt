@@ -1,0 +1,223 @@
+-- An edit of a model whose fresh bridging is held, the search for what it touches, and what is planned
+-- of that.
+--     HoldsBridging     the fresh bridging of a model stands in boxes, a solver's model and a map
+--     Edit              so of the model before; and where the model after differs
+--     IsSearch          the rows and the objective that are found by variables that change
+--     AreChanging AreAllOwn     these are those that change, or all of the groups that differ
+--     IsPlanned         what is planned of all that is found
+--     Step              all that precedes the change of what is held
+use Rattle.std.specs.Prelude.{◌≡◌, ◌++◌, ◌&&◌, ◌||◌, ℕ, Bool, true, false, cond, not, List, Option, Some, None, filter, flat_map, is_some, map}
+use Rattle.std.specs.FinMap as finite
+use Rattle.std.specs.List.{filter_map, list_any}
+use Rattle.std.specs.Option.{option_copied, option_map_or}
+use Rattle.address_map.specs.AddressMap.{AddressMap}
+use Rattle.address_map.specs.Noted.{noted_in, noted_items}
+use Rattle.aff_core.specs.Address.{Address, address_eq}
+use Rattle.boxes.specs.Boxed.{Boxed, families_of, means_of, occur_once, setting_of}
+use Rattle.boxes.specs.Nodes.{HoldNodes}
+use Rattle.bridge_face.specs.State.{State}
+use Rattle.bridge_face.specs.declared.kept_item.KeptItem.{KeptItem}
+use Rattle.bridge_graph.specs.declared.Choice.{Choice}
+use Rattle.bridge_plan.specs.Adds.{kept_of}
+use Rattle.bridge_plan.specs.Means.{AreSound}
+use Rattle.bridge_plan.specs.Worked.{worked, worked_each, worked_in}
+use Rattle.expansion.specs.Grown.{Held}
+use Rattle.found_plan.specs.Read.{is_marked, named_by, own_entries, read_entries}
+use Rattle.fresh_bridging.specs.Entries.{Entry, expression_in, function_in, is_kept}
+use Rattle.fresh_bridging.specs.FreshBridging.{FreshBridging, is_made, leaves_of}
+use Rattle.fresh_bridging.specs.ModelImage.{group_item}
+use Rattle.fresh_bridging.specs.TheRules.{Setting}
+use Rattle.item_core.specs.declared.item.Item.{Item}
+use Rattle.item_core.specs.declared.kind.Kind.{Kind}
+use Rattle.leaf_change.specs.Named.{NamesEach}
+use Rattle.leaf_change.specs.Others.{among}
+use Rattle.leaf_model.specs.ReadThrough.{read_through}
+use Rattle.local_laws.specs.Sound.{IsValidUnder}
+use Rattle.model_bridging.specs.Expressions.{expressions_by}
+use Rattle.model_bridging.specs.Found.{found_others, kept_over}
+use Rattle.model_bridging.specs.Kinds.{first_missing, kind_by, kinds_as_they_stand}
+use Rattle.model_bridging.specs.ModelHeld.{unfit, unfit_put}
+use Rattle.model_bridging.specs.Planned.{kept_variables}
+use Rattle.solver_store.specs.SolverModel.{Leaves}
+use Rattle.tree_laws.specs.LeafLaws.{SupportsNativeKinds}
+use Rattle.touched_items.specs.DifferenceLaws.{HasDifferences, objective_address}
+use Rattle.touched_items.specs.Differences.{differing_addresses, groups_in, own_variables, rows_in, variables_in}
+use Rattle.touched_items.specs.HeldExpressions.{stays_as}
+use Rattle.touched_items.specs.IndexLaws.{other_names, row_names}
+use Rattle.touched_items.specs.Search.{AreInOrder, objective_among, row_at}
+use Rattle.touched_items.specs.declared.differing.Contents.{Contents}
+use Rattle.touched_items.specs.declared.differing.Differing.{Differing}
+use Rattle.user_model.specs.Model.{ModelValue, objective_mentions}
+use Rattle.user_model.specs.Valid.{IsValid}
+use Rattle.user_model.specs.declared.objective.Objective.{Objective}
+use Rattle.user_model.specs.declared.row.Row.{Row}
+
+-- the fresh bridging of the model, which is valid, and in which each number fits
+pub record HoldsBridging (setting : Setting) (states : List State) (solver : Leaves)
+    (places : AddressMap) (objective_at : Address) (model : ModelValue) : Type 0 where
+  pub valid : IsValid model
+  pub bridging : FreshBridging setting model
+  pub made : is_made bridging ≡ true
+  pub leaves : read_through places solver objective_at ≡ leaves_of bridging
+  pub named : NamesEach places solver
+  pub kept : HoldNodes bridging states
+  pub exprs : places.exprs ≡ expressions_by bridging
+  pub noted :
+      (var at : Address)
+      → is_some (finite.get (noted_in places.noted var) at) ≡ other_names model var at
+  pub marks : places.kept ≡ finite.from_entries (map (λ v. (v, tt)) (kept_variables bridging))
+
+pub record Edit : Type 0 where
+  pub boxes : Boxed
+  pub solver : Leaves
+  pub places : AddressMap
+  pub objective_at : Address
+  pub model : ModelValue
+  pub after : ModelValue
+  pub sound : AreSound (means_of boxes)
+  pub native : SupportsNativeKinds (setting_of boxes)
+  pub once : occur_once (families_of boxes.states) ≡ true
+  pub held : HoldsBridging (setting_of boxes) boxes.states solver places objective_at model
+  pub valid : IsValid after
+  pub d : Differing
+  pub differs : HasDifferences model after d
+
+module _ (e : Edit) where
+  abbrev pub setting_here : Setting
+  setting_here = setting_of e.boxes
+
+  abbrev pub choice_here : ℕ → Choice
+  choice_here = (means_of e.boxes).choice
+
+  abbrev pub old_here : FreshBridging (setting_of e.boxes) e.model
+  old_here = e.held.bridging
+
+  pub sound_before : IsValidUnder (setting_of e.boxes) e.model
+  sound_before = record {
+    costly = e.sound.costly;
+    lawful = e.sound.lawful;
+    valid = e.held.valid;
+  }
+
+  pub sound_behind : IsValidUnder (setting_of e.boxes) e.after
+  sound_behind = record {
+    costly = e.sound.costly;
+    lawful = e.sound.lawful;
+    valid = e.valid;
+  }
+
+  -- ---- groups
+
+  -- the groups that differ, as they are
+  abbrev pub groups_now : List Item
+  groups_now = map group_item (groups_in e.d.after)
+
+  abbrev pub missing_groups : Option Kind
+  missing_groups = first_missing choice_here (kinds_as_they_stand groups_now)
+
+  abbrev pub unfit_groups : Option Item
+  unfit_groups = unfit choice_here 35 groups_now
+
+  abbrev pub groups_held : Held Item Entry
+  groups_held = worked_each choice_here (worked choice_here 35) groups_now
+
+  -- ---- the search
+
+  pub record IsSearch (changed addresses : List Address) (rows : List Row)
+      (objective : Option Objective) : Type 0 where
+    pub order :
+        AreInOrder (differing_addresses e.d ++ flat_map (noted_items e.places.noted) changed)
+        addresses
+    pub rows_are : rows ≡ filter_map (row_at e.after) addresses
+    pub objective_is : objective ≡ objective_among e.after addresses
+
+  -- by the variables of the groups that differ which change, as these groups are planned
+  pub record AreChanging (standing : List Entry) (changed : List Address) : Type 0 where
+    pub trees : missing_groups ≡ None
+    pub fit : unfit_groups ≡ None
+    pub stands : expression_in standing ≡ expression_in groups_held.entries
+    pub changes :
+        changed
+        ≡ filter (λ v. not (stays_as e.places v (expression_in standing v))) (own_variables e.d)
+
+  -- by all of these variables
+  pub record AreAllOwn (changed : List Address) : Type 0 where
+    pub trees : missing_groups ≡ None
+    pub all : changed ≡ own_variables e.d
+
+  -- what is kept, by the groups that differ or else by the marks
+  abbrev pub kept_now : Address → Bool
+  kept_now = kept_over choice_here (is_marked e.places) groups_now
+
+  -- the first of the further items that are found which lacks a tree
+  abbrev pub missing_others : List Row → Option Objective → Option Kind
+  missing_others rows objective =
+      first_missing choice_here
+      (map (λ i. kind_by kept_now i.body) (found_others rows objective))
+
+  -- ---- the plan
+
+  -- what stands for the variables that the found rows and the objective name
+  abbrev pub IsStandingFor : List Entry → List Row → Option Objective → List Entry → Type 0
+  IsStandingFor standing rows objective further =
+      expression_in further
+      ≡ expression_in (own_entries standing (groups_in e.d.after)
+      ++ read_entries e.places (named_by rows objective))
+
+  abbrev pub others_held : List Entry → List Row → Option Objective → Held Item Entry
+  others_held further rows objective =
+      worked_in choice_here (worked choice_here 35) further (found_others rows objective)
+
+  pub record IsPlanned (further : List Entry) (rows : List Row) (objective : Option Objective)
+      (leaves : List Item) (nodes : List KeptItem) : Type 0 where
+    pub fit : unfit_put choice_here 35 further (found_others rows objective) ≡ None
+    pub leaves_are : leaves ≡ groups_held.leaves ++ (others_held further rows objective).leaves
+    pub nodes_are :
+        nodes
+        ≡ map kept_of groups_held.nodes ++ map kept_of (others_held further rows objective).nodes
+
+-- ---- all of an edit that is accepted, before what is held is changed
+
+pub record Step (e : Edit) : Type 0 where
+  pub standing : List Entry
+  pub changed : List Address
+  pub addresses : List Address
+  pub rows : List Row
+  pub objective : Option Objective
+  pub further : List Entry
+  pub leaves : List Item
+  pub nodes : List KeptItem
+  pub changing : AreChanging e standing changed
+  pub search : IsSearch e changed addresses rows objective
+  pub trees : missing_others e rows objective ≡ None
+  pub stands : IsStandingFor e standing rows objective further
+  pub planned : IsPlanned e further rows objective leaves nodes
+
+-- ---- and what the map has after it
+
+-- the row at the address, or the objective, is one of the items and names the variable
+abbrev pub contents_name : Contents → Address → Address → Bool
+contents_name contents var at =
+    list_any (λ row. row_names row var at) (rows_in contents)
+    || (address_eq at objective_address
+    && option_map_or (objective_mentions var) (option_copied contents.objective) false)
+
+-- what the groups that differ were is gone, and what they are is there; so of the rows and the
+-- objective
+pub record IsMappedAnew (e : Edit) (standing : List Entry) (places : AddressMap) : Type 0 where
+  pub exprs :
+      (v : Address)
+      → finite.get places.exprs v
+      ≡ cond (among (variables_in (groups_in e.d.after)) v) (Some (function_in standing v))
+      (cond (among (variables_in (groups_in e.d.before)) v) None (finite.get e.places.exprs v))
+  pub marks :
+      (v : Address)
+      → is_marked places v
+      ≡ cond (among (variables_in (groups_in e.d.after)) v) (is_kept (expression_in standing v))
+      (not (among (variables_in (groups_in e.d.before)) v) && is_marked e.places v)
+  pub noted :
+      (var at : Address)
+      → is_some (finite.get (noted_in places.noted var) at)
+      ≡ ((is_some (finite.get (noted_in e.places.noted var) at)
+      && not (contents_name e.d.before var at))
+      || contents_name e.d.after var at)
