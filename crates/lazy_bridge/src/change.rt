@@ -87,6 +87,7 @@ pub(crate) fn let_all_go<B: Bridge>(
     ensures table { boxes.new.table ≡ boxes.old.table }
     ensures choices { boxes.new.choices ≡ boxes.old.choices }
     ensures leaves { solver.new.leaves ≡ no_leaves solver.new.leaves.calls }
+    ensures calls { solver.new.leaves.calls ≡ solver.old.leaves.calls }
     ensures vars { map.new.vars.indices ≡ finite.empty }
     ensures rows { map.new.rows.indices ≡ finite.empty }
     ensures exprs { map.new.exprs ≡ finite.empty }

@@ -243,11 +243,12 @@ impl<B: Bridge> LazyOver<B> {
         self.map.clear_exprs();
     }
 
-    /// Lets all go.
+    /// Lets all go. The solver's model is not called.
     pub fn clear(&mut self)
         ensures nothing { HoldsNothing self.new }
         ensures setting { setting_in self.new ≡ setting_in self.old }
         ensures choices { self.new.boxes.choices ≡ self.old.boxes.choices }
+        ensures calls { self.new.solver.leaves.calls ≡ self.old.solver.leaves.calls }
     {
         let_all_go(&mut self.boxes, &mut self.solver, &mut self.map);
     }

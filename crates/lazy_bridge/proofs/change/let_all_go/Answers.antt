@@ -4,6 +4,7 @@ use Rattle.std.specs.FinMap as finite
 use Rattle.boxes.specs.Boxed.{families_of}
 use Rattle.bridge_face.specs.State.{State}
 use Rattle.boxes.specs.Sound.{families_stay}
+use Rattle.solver_store.specs.SolverModel.{Leaves}
 use Rattle.lazy_bridge.proofs.Empty.{its_calls, names_none, none_kept}
 use Rattle.lazy_bridge.proofs.change.let_all_go.Goals as goal
 
@@ -19,6 +20,9 @@ returns-clause-families g c =
 pub returns-clause-leaves : goal.returns-clause-leaves
 returns-clause-leaves g c =
     its_calls c.clear-2.new.self.leaves c.args.solver.now.leaves.calls c.clear-2.ensures.emptied
+
+pub returns-clause-calls : goal.returns-clause-calls
+returns-clause-calls g c = ap (λ (l : Leaves). l.calls) c.clear-2.ensures.emptied
 
 pub returns-clause-named : goal.returns-clause-named
 returns-clause-named g c =

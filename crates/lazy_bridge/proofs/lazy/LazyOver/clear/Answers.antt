@@ -1,7 +1,7 @@
 use Rattle.std.proofs.Common.{ap, subst, sym, ◌∙◌}
 use Rattle.std.specs.Prelude.{IsTrue}
 use Rattle.lazy_bridge.specs.Native.{supports_native}
-use Rattle.lazy_bridge.specs.Owned.{setting_in}
+use Rattle.lazy_bridge.specs.Owned.{Owned, setting_in}
 use Rattle.lazy_bridge.proofs.lazy.LazyOver.clear.Goals as goal
 
 pub invariant_of-self : goal.invariant_of-self
@@ -17,3 +17,7 @@ returns-clause-setting g c =
       families = c.let_all_go.ensures.families i;
     })
     ∙ ap setting_in c.self.view_is
+
+pub returns-clause-calls : goal.returns-clause-calls
+returns-clause-calls g c =
+    c.let_all_go.ensures.calls ∙ ap (λ (o : Owned). o.solver.leaves.calls) c.self.view_is
