@@ -329,7 +329,7 @@ step_answer user new_user old new table model fault given is e h stands settled 
 
 -- ---- a cache to which a solver is to be attached
 
-by_fault : {E : Type 0} (r : Result ℕ E) (fault : E) (Q : Result ℕ E → Type 0)
+pub by_fault : {E : Type 0} (r : Result ℕ E) (fault : E) (Q : Result ℕ E → Type 0)
     → IsErrAnd r (λ e. e ≡ fault) → Q (Err fault) → Q r
 by_fault (Ok n) fault Q h q = absurd h
 by_fault (Err e) fault Q h q = subst (λ x. Q (Err x)) (sym h) q

@@ -5,3 +5,4 @@ pub mod Stepping
 mod Solved
 mod Carrying
 mod Optimized
+mod FewSteps

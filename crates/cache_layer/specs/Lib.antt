@@ -6,3 +6,5 @@ pub mod Bridging
 pub mod Loads
 pub mod Outcome
 pub mod Optimizing
+pub mod FewCalls
+pub mod FewCallsLaws

@@ -1,7 +1,8 @@
 //! Bridging, with its faults in the user's names.
-ghost use Rattle.std.specs.Prelude.{◌≢◌, Err, IsTrue};
+ghost use Rattle.std.specs.Prelude.{◌≢◌, Err, IfOk, IsTrue};
 ghost use Rattle.std.specs.List.{list_all};
 ghost use Rattle.bridge_graph.specs.Hypergraph.{is_edge_cost};
+ghost use Rattle.lazy_bridge.specs.Few.{ChangesFew};
 ghost use Rattle.lazy_bridge.specs.Native.{supports_native};
 ghost use Rattle.lazy_bridge.specs.Owned.{HoldsNothing};
 ghost use Rattle.cache_layer.specs.Bridging.{IsBridgedInNames, IsFaultOf, IsToldAs};
@@ -22,6 +23,7 @@ pub(crate) fn fill<B: Bridge>(lazy: &mut LazyOver<B>, model: &UserModel) -> Resu
         result lazy.new }
     ensures small { HasSmallNumbers model.now.model
         → (place : Place) → result ≢ Err (BridgeFault.Overflow place) }
+    ensures few { IfOk result (λ changed. ChangesFew lazy.old changed lazy.new) }
 {
     match lazy.fill(model) {
         Ok(leaves) => Ok(leaves),
@@ -40,6 +42,7 @@ pub(crate) fn push<B: Bridge>(
         result lazy.new }
     ensures small { HasSmallNumbers model.now.model
         → (place : Place) → result ≢ Err (BridgeFault.Overflow place) }
+    ensures few { IfOk result (λ changed. ChangesFew lazy.old changed lazy.new) }
 {
     match lazy.push(model, undos) {
         Ok(changed) => Ok(changed),
@@ -58,6 +61,7 @@ pub(crate) fn set_table<B: Bridge>(
     ensures bridged { IsBridgedInNames lazy.old table model.now.model result lazy.new }
     ensures small { HasSmallNumbers model.now.model
         → (place : Place) → result ≢ Err (BridgeFault.Overflow place) }
+    ensures few { IfOk result (λ changed. ChangesFew lazy.old changed lazy.new) }
 {
     match lazy.set_table(model, table) {
         Ok(changed) => Ok(changed),

@@ -2,11 +2,13 @@
 ghost use Rattle.std.specs.Prelude.{◌≡◌, ◌≢◌, [], Err, IfErr, IfOk, IsTrue, false, true};
 ghost use Rattle.std.specs.List.{list_all};
 ghost use Rattle.bridge_graph.specs.Hypergraph.{is_edge_cost};
+ghost use Rattle.lazy_bridge.specs.Few.{ChangesFew};
 ghost use Rattle.lazy_bridge.specs.Native.{supports_native};
 ghost use Rattle.lazy_bridge.specs.Owned.{HoldsNothing};
 ghost use Rattle.cache_layer.specs.Answers.{Becomes, IsAttached, IsEdited, IsLoaded, UnlessAttached, UnlessRefused};
 ghost use Rattle.cache_layer.specs.Bridging.{stays};
 ghost use Rattle.cache_layer.specs.Cached.{Stands, model_in, state_of};
+ghost use Rattle.cache_layer.specs.FewCalls.{AttachesFew, EditsFew};
 ghost use Rattle.cache_layer.specs.Outcome.{IsOptimized};
 ghost use Rattle.cache_layer.specs.State.{detached, with_table};
 ghost use Rattle.certificates.specs.Good.{Good};
@@ -70,13 +72,16 @@ impl<B: Bridge> CacheOver<B> {
     }
 
     /// Makes an edit. While a solver is attached, the answer is the number of addresses at which
-    /// its model changes. Where each number of the edited model is whole and at most 2^40 in size,
-    /// it is never `Overflow`, whatever the table.
+    /// its model changes, which is called no more often: a leaf that stays keeps its index. Where
+    /// each number of the edited model is whole and at most 2^40 in size, the answer is never
+    /// `Overflow`, whatever the table.
+    #[tactic(auto, using(crate::specs::FewCallsLaws::edits_same))]
     pub fn edit(&mut self, edit: Edit) -> Result<Option<u64>, EditFault>
         ensures answer { IsEdited (state_of self.old) edit result (state_of self.new) }
         ensures untouched { UnlessRefused result self.old self.new }
         ensures small { HasSmallNumbers (edited (model_in self.old) edit)
             → (place : Place) → result ≢ Err (EditFault.Overflow place) }
+        ensures few { EditsFew result self.old.lazy self.new.lazy }
     {
         if !self.attached {
             edit_alone(&mut self.user, edit)?;
@@ -100,7 +105,8 @@ impl<B: Bridge> CacheOver<B> {
     }
 
     /// Bridges by another table. While a solver is attached, the answer is the number of addresses
-    /// at which its model changes.
+    /// at which its model changes, which is called no more often, as by an edit.
+    #[tactic(auto, using(crate::specs::FewCallsLaws::few_kept))]
     pub fn table(&mut self, table: Table) -> Result<Option<u64>, EditFault>
         requires costs { IsTrue (list_all is_edge_cost table.cost) }
         requires native { IsTrue (supports_native table) }
@@ -109,6 +115,7 @@ impl<B: Bridge> CacheOver<B> {
         ensures untouched { UnlessRefused result self.old self.new }
         ensures small { HasSmallNumbers (model_in self.old)
             → (place : Place) → result ≢ Err (EditFault.Overflow place) }
+        ensures few { EditsFew result self.old.lazy self.new.lazy }
     {
         if !self.attached {
             self.lazy.preset(table);
@@ -119,12 +126,14 @@ impl<B: Bridge> CacheOver<B> {
         answer
     }
 
-    /// Attaches a solver. The answer is the number of its leaves.
+    /// Attaches a solver. The answer is the number of its leaves; its model is called no more often.
+    #[tactic(auto, using(crate::specs::FewCallsLaws::few_same))]
     pub fn attach(&mut self) -> Result<u64, AttachFault>
         ensures answer { IsAttached (state_of self.old) result (state_of self.new) }
         ensures untouched { UnlessAttached result self.old self.new }
         ensures small { HasSmallNumbers (model_in self.old)
             → (place : Place) → result ≢ Err (AttachFault.Overflow place) }
+        ensures few { AttachesFew result self.old.lazy self.new.lazy }
     {
         if self.attached {
             return Err(AttachFault::AlreadyAttached);
@@ -134,12 +143,14 @@ impl<B: Bridge> CacheOver<B> {
         Ok(leaves)
     }
 
-    /// Detaches the solver, whose model is empty afterwards. Refused exactly where none is
-    /// attached.
+    /// Detaches the solver, whose model is empty afterwards, without a call. Refused exactly where
+    /// none is attached.
+    #[tactic(auto, using(crate::specs::FewCallsLaws::few_same))]
     pub fn detach(&mut self) -> Result<(), NotAttached>
         ensures ok { IfOk result (λ _. (self.old.attached ≡ true)
             × (state_of self.new ≡ detached (state_of self.old))) }
         ensures refused { IfErr result (λ _. (self.old.attached ≡ false) × (self.new ≡ self.old)) }
+        ensures few { ChangesFew self.old.lazy 0 self.new.lazy }
     {
         if !self.attached {
             return Err(NotAttached);

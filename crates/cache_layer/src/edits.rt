@@ -8,6 +8,7 @@ ghost use Rattle.model_store.specs.Store.{Stored};
 ghost use Rattle.cache_layer.specs.Answers.{Becomes, IsEdited, UnlessRefused};
 ghost use Rattle.cache_layer.specs.Bridging.{state_by, stays};
 ghost use Rattle.cache_layer.specs.Cached.{IsInStep, cached, state_of};
+ghost use Rattle.cache_layer.specs.FewCalls.{EditsFew};
 ghost use Rattle.cache_layer.specs.Loads.{IsLastStep, IsMadeBy};
 ghost use Rattle.report_core.specs.declared.refused.Place.{Place};
 ghost use Rattle.small_numbers.specs.SmallNumbers.{HasSmallNumbers};
@@ -42,6 +43,7 @@ pub(crate) fn take_back(model: &mut UserModel, undo: Undo)
 
 /// Makes an edit and bridges the model anew, or leaves both as they were. Where memory is wanting
 /// nothing is bridged any more.
+#[tactic(auto, using(crate::specs::FewCallsLaws::few_same))]
 pub(crate) fn edit_bridged<B: Bridge>(
     model: &mut UserModel,
     lazy: &mut LazyOver<B>,
@@ -56,6 +58,7 @@ pub(crate) fn edit_bridged<B: Bridge>(
     ensures in_step { IsInStep (cached model.new lazy.new (stays result)) }
     ensures small { HasSmallNumbers (edited model.old.model edit)
         → (place : Place) → result ≢ Err (EditFault.Overflow place) }
+    ensures few { EditsFew result lazy.old lazy.new }
 {
     let undo = match model.apply(edit) {
         Ok(undo) => undo,
@@ -95,6 +98,7 @@ pub(crate) fn table_bridged<B: Bridge>(
     ensures in_step { IsInStep (cached model.now lazy.new (stays result)) }
     ensures small { HasSmallNumbers model.now.model
         → (place : Place) → result ≢ Err (EditFault.Overflow place) }
+    ensures few { EditsFew result lazy.old lazy.new }
 {
     match set_table(lazy, model, table) {
         Ok(changed) => Ok(Some(changed)),

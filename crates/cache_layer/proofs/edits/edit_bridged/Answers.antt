@@ -2,6 +2,7 @@ use Rattle.std.proofs.Common.{refl, subst, sym}
 use Rattle.std.specs.Prelude.{Err}
 use Rattle.small_numbers.specs.SmallNumbers.{HasSmallNumbers}
 use Rattle.cache_layer.proofs.Editing.{edit_answer, edit_bridged, never_given, step_answer}
+use Rattle.cache_layer.proofs.FewSteps.{edit_few}
 use Rattle.cache_layer.proofs.edits.edit_bridged.Goals as goal
 
 pub returns-in-Ok-push-clause-answer : goal.returns-in-Ok-push-clause-answer
@@ -39,3 +40,8 @@ pub returns-in-Err-clause-small : goal.returns-in-Err-clause-small
 returns-in-Err-clause-small g c = λ small.
     never_given c.in-Err.fault c.from.result (Err c.from.result) refl c.from.ensures
     (c.in-Err.ensures.small (subst HasSmallNumbers (sym c.in-Ok.ensures.model) small))
+
+pub returns-in-Err-clause-few : goal.returns-in-Err-clause-few
+returns-in-Err-clause-few g c =
+    edit_few c.args.lazy.now c.push.new.lazy c.args.lazy.now.boxes.table c.apply.new.self.model
+    c.in-Err.fault c.from.result c.from.ensures c.in-Err.ensures.bridged

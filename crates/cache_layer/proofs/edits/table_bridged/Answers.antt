@@ -1,6 +1,7 @@
 use Rattle.std.proofs.Common.{refl}
 use Rattle.std.specs.Prelude.{Err}
 use Rattle.cache_layer.proofs.Editing.{bridged, never_given, step_answer, table_answer}
+use Rattle.cache_layer.proofs.FewSteps.{edit_few}
 use Rattle.cache_layer.proofs.edits.table_bridged.Goals as goal
 
 pub returns-in-Ok-clause-answer : goal.returns-in-Ok-clause-answer
@@ -24,3 +25,8 @@ pub returns-in-Err-clause-small : goal.returns-in-Err-clause-small
 returns-in-Err-clause-small g c = λ small.
     never_given c.in-Err.fault c.from.result (Err c.from.result) refl c.from.ensures
     (c.in-Err.ensures.small small)
+
+pub returns-in-Err-clause-few : goal.returns-in-Err-clause-few
+returns-in-Err-clause-few g c =
+    edit_few c.args.lazy.now c.set_table.new.lazy c.args.table c.args.model.now.model
+    c.in-Err.fault c.from.result c.from.ensures c.in-Err.ensures.bridged
