@@ -1,16 +1,21 @@
 -- When the shelf is asked for a file, and when its fault is answered.
-use Rattle.std.specs.Prelude.{◌≡◌, ℕ, Bool, true, false, List, Result, Ok, Err}
+use Rattle.std.specs.Prelude.{◌≡◌, ◌≢◌, ℕ, Bool, true, false, List, [], ◌∷◌, Option, Result, Ok, Err, OnOk}
 use Rattle.std.specs.Result.{result_unwrap_or}
-use Rattle.std.proofs.Common.{sym, ap, subst, ◌∙◌, true≢false}
+use Rattle.std.proofs.Common.{sym, ap, subst, inl, inr, ◌∙◌, true≢false}
+use Rattle.std.proofs.lemmas.Bool.{cases_Bool}
 use Rattle.lists.specs.declared.memory.Memory.{Memory as NoMemory}
 use Rattle.cache_layer.specs.State.{State}
-use Rattle.edit_engine.specs.Lines.{is_load, says_load}
+use Rattle.edit_engine.specs.AskingLaws.{on_ok}
+use Rattle.edit_engine.specs.Lines.{is_load, line_asks, load_asks, said_asks, says_load}
 use Rattle.edit_engine.specs.LinesLaws.{does_fit, fetches}
 use Rattle.edit_engine.specs.Script.{DoesSaid, Machine, Makes}
+use Rattle.io_face.specs.Shelf.{AsksFor}
+use Rattle.io_face.specs.ToldLaws.{asks_none}
 use Rattle.report_core.specs.declared.answer.Answer.{Answer}
 use Rattle.report_core.specs.declared.answer.Answer.TheVariants.{Memory, ReadFault}
 use Rattle.script_core.specs.Line.{line_said}
 use Rattle.script_core.specs.declared.command.Command.{Command}
+use Rattle.script_core.specs.declared.command.Command.TheVariants as line
 use Rattle.script_core.specs.declared.fault.LineFault.{LineFault}
 
 abbrev fault_of_result : Result Answer NoMemory → Bool
@@ -40,3 +45,71 @@ pub fault_made : (made : Result Answer NoMemory) (result : Answer)
 fault_made (Ok answer) result is fault = ap Ok (sym is ∙ fault)
 fault_made (Err memory) result is fault =
     absurd (true≢false (sym (ap fetches (sym is ∙ fault))))
+
+-- ---- for which files the shelf is asked
+
+-- for none while a solver is attached, or where something stands in the model
+pub asks_attached : (asked : Option (List (List ℕ))) (attached bare : Bool) (name : List ℕ)
+    → attached ≡ true → AsksFor asked asked (load_asks attached bare name)
+asks_attached asked true bare name is = asks_none asked
+asks_attached asked false bare name is = absurd (true≢false (sym is))
+
+pub asks_full : (asked : Option (List (List ℕ))) (attached bare : Bool) (name : List ℕ)
+    → bare ≡ false → AsksFor asked asked (load_asks attached bare name)
+asks_full asked true bare name is = asks_none asked
+asks_full asked false false name is = asks_none asked
+asks_full asked false true name is = absurd (true≢false is)
+
+-- else for the file of the line
+pub asks_bare : (old new : Option (List (List ℕ))) (attached bare : Bool) (name : List ℕ)
+    → attached ≡ false → bare ≡ true → AsksFor old new (name ∷ [])
+    → AsksFor old new (load_asks attached bare name)
+asks_bare old new true bare name is full asks = absurd (true≢false is)
+asks_bare old new false false name is full asks = absurd (true≢false (sym full))
+asks_bare old new false true name is full asks = asks
+
+-- another line asks for none
+asks_nothing : (asked : Option (List (List ℕ))) (s : State) (said : Result Command LineFault)
+    → is_load said ≡ false → AsksFor asked asked (said_asks s said)
+asks_nothing asked s (Ok (line.Load name)) off = absurd (true≢false off)
+asks_nothing asked s (Ok _) off = asks_none asked
+asks_nothing asked s (Err fault) off = asks_none asked
+
+-- a line that is read as no command
+pub unread_asks : (asked : Option (List (List ℕ))) (s : State) (text : List ℕ) (fault : LineFault)
+    (r : Result Answer NoMemory) → Err fault ≡ line_said text
+    → OnOk r (AsksFor asked asked (line_asks s text))
+unfolding line_asks
+unread_asks asked s text fault r is =
+    on_ok r _ (subst (λ said. AsksFor asked asked (said_asks s said)) is (asks_none asked))
+
+-- a command, by whether it is a `load`
+pub command_asks : (old new : Option (List (List ℕ))) (s : State) (text : List ℕ)
+    (command : Command) (r : Result Answer NoMemory) → Ok command ≡ line_said text
+    → (is_load (Ok command) ≡ true → OnOk r (AsksFor old new (said_asks s (Ok command))))
+    → (is_load (Ok command) ≡ false → new ≡ old)
+    → OnOk r (AsksFor old new (line_asks s text))
+unfolding line_asks
+command_asks old new s text command r is loads other =
+    subst (λ said. OnOk r (AsksFor old new (said_asks s said))) is
+    (elim (cases_Bool (is_load (Ok command))) [
+      | inl on ↦ loads on
+      | inr off ↦ on_ok r _ (subst (λ n. AsksFor old n (said_asks s (Ok command)))
+          (sym (other off)) (asks_nothing old s (Ok command) off))
+    ])
+
+-- the count of faults, likewise
+pub command_sound : (P : Type 0) (command : Command) → (is_load (Ok command) ≡ true → P)
+    → (is_load (Ok command) ≡ false → P) → P
+command_sound P command loads other =
+    elim (cases_Bool (is_load (Ok command))) [ inl on ↦ loads on | inr off ↦ other off ]
+
+-- what holds of an answer that was made, where want of memory is one
+pub asks_or : (made : Result Answer NoMemory) (result : Answer) (P : Type 0)
+    → result ≡ result_unwrap_or made Memory → result ≢ Memory → OnOk made P → P
+asks_or (Ok answer) result P is other h = h
+asks_or (Err memory) result P is other h = absurd (other is)
+
+pub sound_or : (made : Result Answer NoMemory) (result : Answer) (P : Type 0)
+    → result ≡ result_unwrap_or made Memory → result ≢ ReadFault → (made ≢ Ok ReadFault → P) → P
+sound_or made result P is other h = h (λ e. other (is ∙ ap (λ r. result_unwrap_or r Memory) e))

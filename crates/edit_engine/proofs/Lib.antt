@@ -1,4 +1,5 @@
 mod Asking
+mod FewTold
 mod PlanSteps
 mod Shown
 mod Steps

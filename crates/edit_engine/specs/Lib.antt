@@ -3,4 +3,9 @@ pub mod Bare
 pub mod Script
 pub mod Lines
 pub mod LinesLaws
+pub mod AskingLaws
 pub mod Held
+pub mod Counts
+pub mod CountLaws
+pub mod Served
+pub mod ServedLaws

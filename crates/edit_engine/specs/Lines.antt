@@ -1,6 +1,8 @@
 -- Lines, one after another: which of them are heard, what they are answered, and the state that
 -- they leave.
 use Rattle.std.specs.Prelude.{ℕ, Bool, true, false, ◌||◌, List, [], ◌∷◌, ◌++◌, Result, Ok, if◌then◌else◌}
+use Rattle.cache_layer.specs.State.{State}
+use Rattle.edit_engine.specs.Bare.{is_bare}
 use Rattle.edit_engine.specs.Script.{Machine, Steps}
 use Rattle.report_core.specs.declared.answer.Answer.{Answer}
 use Rattle.report_core.specs.declared.answer.Answer.TheVariants.{Printed, Quit, Refused, Silent}
@@ -24,6 +26,20 @@ is_load said = false
 -- the line asks for a file
 unfoldable pub says_load : List ℕ → Bool
 says_load line = is_load (line_said line)
+
+-- the files that a line `load` of this name asks for, by whether a solver is attached and whether
+-- nothing stands in the model
+abbrev pub load_asks : Bool → Bool → List ℕ → List (List ℕ)
+load_asks false true name = name ∷ []
+load_asks attached bare name = []
+
+abbrev pub said_asks : State → Result Command LineFault → List (List ℕ)
+said_asks s (Ok (line.Load name)) = load_asks s.attached (is_bare s.model) name
+said_asks s said = []
+
+-- the names of the files that a line asks for
+unfoldable pub line_asks : State → List ℕ → List (List ℕ)
+line_asks s line = said_asks s (line_said line)
 
 -- the lines up to their end, or through the first that ends the work
 abbrev pub heard : List (List ℕ) → List (List ℕ)

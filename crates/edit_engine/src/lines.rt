@@ -1,16 +1,19 @@
 //! What lines do to a cache: for each a step of the script machine.
-ghost use Rattle.std.specs.Prelude.{◌≡◌, ◌≤◌, IfOk, IsTrue, Ok, OnErr, OnOk, false, true};
+ghost use Rattle.std.specs.Prelude.{◌≡◌, ◌≢◌, ◌≤◌, IfOk, IsTrue, Ok, OnErr, OnOk, false, true};
 ghost use Rattle.std.specs.List.{list_all};
 ghost use Rattle.bridge_graph.specs.Hypergraph.{is_edge_cost};
 ghost use Rattle.cache_layer.specs.Answers.{Becomes, IsAttached, IsEdited};
 ghost use Rattle.cache_layer.specs.Cached.{state_of};
 ghost use Rattle.cache_layer.specs.State.{with_table};
+ghost use Rattle.lazy_bridge.specs.Few.{ChangesFew};
 ghost use Rattle.lazy_bridge.specs.Native.{supports_native};
 ghost use Rattle.report_core.specs.Refused.{HasFault};
+ghost use Rattle.edit_engine.specs.Counts.{TakesFew};
 ghost use Rattle.edit_engine.specs.Held.{KeepsRefused};
-ghost use Rattle.edit_engine.specs.Lines.{is_load, says_load};
+ghost use Rattle.edit_engine.specs.Lines.{is_load, line_asks, said_asks, says_load};
 ghost use Rattle.edit_engine.specs.Script.{Detaches, Does, DoesLine, Makes, Plans, Says, Shows, Tells, attach_answer, edit_answer, file_line, machine_by, refused};
 ghost use Rattle.io_face.specs.Fault.{HasFaulted};
+ghost use Rattle.io_face.specs.Shelf.{AsksFor};
 ghost use Rattle.io_face.specs.Told.{told_by};
 ghost use Rattle.report_core.specs.declared.answer.Answer.TheVariants.{Printed};
 
@@ -44,11 +47,16 @@ pub(crate) fn step<B: Bridge, H: Shelf>(
         Makes (DoesLine (machine_by old pivots told) line.now) old result (state_of cache.new) }
     ensures untouched { IfOk result (λ answer.
         KeepsRefused answer cache.old cache.new) }
+    ensures few { IfOk result (λ answer.
+        TakesFew answer cache.old.lazy cache.new.lazy) }
     ensures files { H.files shelf.new ≡ H.files shelf.old }
     ensures sure { H.sure shelf.new ≡ H.sure shelf.old }
     ensures count { H.faults shelf.old ≤ H.faults shelf.new }
     ensures cause { result ≡ Ok Answer.ReadFault
         → HasFaulted (H.faults shelf.old) (H.faults shelf.new) }
+    ensures sound { result ≢ Ok Answer.ReadFault → H.faults shelf.new ≡ H.faults shelf.old }
+    ensures asks { OnOk result (AsksFor (H.asked shelf.old) (H.asked shelf.new)
+        (line_asks (state_of cache.old) line.now)) }
     ensures unasked { says_load line.now ≡ false → shelf.new ≡ shelf.old }
 {
     match parse_line(alloc, line) {
@@ -71,11 +79,18 @@ fn obey<B: Bridge, H: Shelf>(
         Makes (Does (machine_by old pivots told) command) old result (state_of cache.new) }
     ensures untouched { IfOk result (λ answer.
         KeepsRefused answer cache.old cache.new) }
+    ensures few { IfOk result (λ answer.
+        TakesFew answer cache.old.lazy cache.new.lazy) }
     ensures files { H.files shelf.new ≡ H.files shelf.old }
     ensures sure { H.sure shelf.new ≡ H.sure shelf.old }
     ensures count { H.faults shelf.old ≤ H.faults shelf.new }
     ensures cause { is_load (Ok command) ≡ true → result ≡ Ok Answer.ReadFault
         → HasFaulted (H.faults shelf.old) (H.faults shelf.new) }
+    ensures sound { is_load (Ok command) ≡ true → result ≢ Ok Answer.ReadFault
+        → H.faults shelf.new ≡ H.faults shelf.old }
+    ensures asks { is_load (Ok command) ≡ true
+        → OnOk result (AsksFor (H.asked shelf.old) (H.asked shelf.new)
+        (said_asks (state_of cache.old) (Ok command))) }
     ensures unasked { is_load (Ok command) ≡ false → shelf.new ≡ shelf.old }
 {
     match command {
@@ -122,6 +137,8 @@ fn make<B: Bridge>(alloc: Global, cache: &mut CacheOver<B>, edit: Edit) -> Resul
         Makes (Tells edit_answer (IsEdited old edit)) old result (state_of cache.new) }
     ensures untouched { IfOk result (λ answer.
         KeepsRefused answer cache.old cache.new) }
+    ensures few { IfOk result (λ answer.
+        TakesFew answer cache.old.lazy cache.new.lazy) }
 {
     let made = cache.edit(edit);
     tell(alloc, made)
@@ -140,6 +157,8 @@ fn set_table<B: Bridge>(
         (state_of cache.new) }
     ensures untouched { IfOk result (λ answer.
         KeepsRefused answer cache.old cache.new) }
+    ensures few { IfOk result (λ answer.
+        TakesFew answer cache.old.lazy cache.new.lazy) }
 {
     let made = cache.table(table);
     tell(alloc, made)
@@ -163,6 +182,8 @@ fn attach<B: Bridge>(alloc: Global, cache: &mut CacheOver<B>) -> Result<Answer, 
         Makes (Tells attach_answer (IsAttached old)) old result (state_of cache.new) }
     ensures untouched { IfOk result (λ answer.
         KeepsRefused answer cache.old cache.new) }
+    ensures few { IfOk result (λ answer.
+        TakesFew answer cache.old.lazy cache.new.lazy) }
 {
     let made = cache.attach();
     tell_attached(alloc, made)
@@ -186,6 +207,8 @@ fn detach<B: Bridge>(alloc: Global, cache: &mut CacheOver<B>) -> Result<Answer, 
         Makes (Detaches old.attached old) old result (state_of cache.new) }
     ensures untouched { IfOk result (λ answer.
         KeepsRefused answer cache.old cache.new) }
+    ensures few { IfOk result (λ answer.
+        TakesFew answer cache.old.lazy cache.new.lazy) }
 {
     match cache.detach() {
         Ok(()) => done(alloc, None),
@@ -231,6 +254,7 @@ pub(crate) fn preset<B: Bridge>(cache: &mut CacheOver<B>, table: Table) -> Resul
     requires native { IsTrue (supports_native table) }
     ensures ok { OnOk result (state_of cache.new ≡ with_table (state_of cache.old) table) }
     ensures err { OnErr result (state_of cache.new ≡ state_of cache.old) }
+    ensures few { OnOk result (ChangesFew cache.old.lazy 0 cache.new.lazy) }
 {
     match cache.table(table) {
         Ok(_) => Ok(()),

@@ -1,11 +1,14 @@
 //! What a line `load` does to a cache.
-ghost use Rattle.std.specs.Prelude.{◌≡◌, ◌≤◌, IfOk, Ok, false};
+ghost use Rattle.std.specs.Prelude.{◌≡◌, ◌≢◌, ◌≤◌, IfOk, IsErr, Ok, OnOk, false};
 ghost use Rattle.cache_layer.specs.Answers.{IsLoaded};
 ghost use Rattle.cache_layer.specs.Cached.{state_of};
 ghost use Rattle.edit_engine.specs.Bare as bare;
+ghost use Rattle.edit_engine.specs.Counts.{TakesFew};
 ghost use Rattle.edit_engine.specs.Held.{KeepsRefused};
 ghost use Rattle.edit_engine.specs.Script.{Loads, Makes, Tells, fault_answer, load_answer};
+ghost use Rattle.edit_engine.specs.Lines.{load_asks};
 ghost use Rattle.io_face.specs.Fault.{HasFaulted};
+ghost use Rattle.io_face.specs.Shelf.{AsksFor};
 ghost use Rattle.io_face.specs.Told.{told_by};
 ghost use Rattle.mof_fetch.specs.Fetched.{HasNumber};
 
@@ -34,11 +37,16 @@ pub(crate) fn load<B: Bridge, H: Shelf>(
         Makes (Loads (told_by (H.files shelf.old) (H.sure shelf.old)) old name.now) old result
         (state_of cache.new) }
     ensures untouched { IfOk result (λ answer. KeepsRefused answer cache.old cache.new) }
+    ensures few { IfOk result (λ answer. TakesFew answer cache.old.lazy cache.new.lazy) }
     ensures files { H.files shelf.new ≡ H.files shelf.old }
     ensures sure { H.sure shelf.new ≡ H.sure shelf.old }
     ensures count { H.faults shelf.old ≤ H.faults shelf.new }
     ensures cause { result ≡ Ok Answer.ReadFault
         → HasFaulted (H.faults shelf.old) (H.faults shelf.new) }
+    ensures sound { result ≢ Ok Answer.ReadFault → H.faults shelf.new ≡ H.faults shelf.old }
+    ensures asks { let old = state_of cache.old in
+        OnOk result (AsksFor (H.asked shelf.old) (H.asked shelf.new)
+        (load_asks old.attached (bare.is_bare old.model) name.now)) }
 {
     if cache.attached() {
         return refuse(alloc, &Refused::AlreadyAttached);
@@ -75,6 +83,7 @@ fn make_all<B: Bridge>(
     ensures step { let old = state_of cache.old in
         Makes (Tells load_answer (IsLoaded old edits)) old result (state_of cache.new) }
     ensures untouched { IfOk result (λ answer. KeepsRefused answer cache.old cache.new) }
+    ensures few { IfOk result (λ answer. TakesFew answer cache.old.lazy cache.new.lazy) }
 {
     let made = cache.load(edits.into_vec());
     tell_loaded(alloc, made)
@@ -96,7 +105,9 @@ fn tell_loaded(alloc: Global, made: Result<(), EditFault>) -> Result<Answer, Mem
 /// Why no edits were read of a file, as it is answered.
 pub fn tell_fault(alloc: Global, fault: FileFault) -> Result<Answer, Memory>
     requires { HasNumber fault }
-    ensures { IfOk result (λ answer. answer ≡ fault_answer fault) }
+    ensures answer { IfOk result (λ answer. answer ≡ fault_answer fault) }
+    ensures failed { fault ≡ FileFault.Failed → result ≡ Ok Answer.ReadFault }
+    ensures memory { fault ≡ FileFault.Memory → IsErr result }
 {
     match fault {
         FileFault::Failed => Ok(Answer::ReadFault),

@@ -1,5 +1,5 @@
 //! The session of a script.
-ghost use Rattle.std.specs.Prelude.{◌≡◌, ◌≤◌, All, IsTrue, OnErr, OnOk, false};
+ghost use Rattle.std.specs.Prelude.{◌≡◌, ◌≢◌, ◌≤◌, All, IsTrue, OnErr, OnOk, false};
 ghost use Rattle.std.specs.Prelude as prelude;
 ghost use Rattle.std.specs.FinMap as finite;
 ghost use Rattle.boxes.specs.Boxed.{families_of, occur_once, setting_by};
@@ -7,10 +7,13 @@ ghost use Rattle.cache_layer.specs.Cached.{Stands, model_in};
 ghost use Rattle.cache_layer.specs.State.{start, with_table};
 ghost use Rattle.item_core.specs.Table.{target_table};
 ghost use Rattle.item_core.specs.declared.table.Target.TheVariants.{Standard};
+ghost use Rattle.lazy_bridge.specs.Few.{ChangesFew};
+ghost use Rattle.edit_engine.specs.Counts.{TakesFew};
 ghost use Rattle.edit_engine.specs.Held.{KeepsRefused, machine_of, state_of};
-ghost use Rattle.edit_engine.specs.Lines.{says_load};
+ghost use Rattle.edit_engine.specs.Lines.{line_asks, says_load};
 ghost use Rattle.edit_engine.specs.Script.{Answered};
 ghost use Rattle.io_face.specs.Fault.{HasFaulted};
+ghost use Rattle.io_face.specs.Shelf.{AsksFor};
 ghost use Rattle.io_face.specs.Told.{told_by};
 
 use crate::lines::{preset, step};
@@ -82,6 +85,7 @@ impl<B: Bridge> SessionOver<B> {
         ensures allowance { OnOk result (self.new.pivots ≡ pivots) }
         ensures err { OnErr result (state_of self.new ≡ state_of self.old) }
         ensures kept { OnErr result (self.new.pivots ≡ self.old.pivots) }
+        ensures few { OnOk result (ChangesFew self.old.cache.lazy 0 self.new.cache.lazy) }
     {
         preset(&mut self.cache, target_table(target))?;
         self.pivots = pivots;
@@ -94,6 +98,9 @@ impl<B: Bridge> SessionOver<B> {
         ensures step { let told = told_by (H.files shelf.old) (H.sure shelf.old) in
             Answered (machine_of self.old told) line.now result (machine_of self.new told) }
         ensures untouched { KeepsRefused result self.old.cache self.new.cache }
+        // The solver's model is called at most as often as the number after `ok` says, and leaves
+        // that stay keep their indices.
+        ensures few { TakesFew result self.old.cache.lazy self.new.cache.lazy }
         // While a solver is attached, the fresh bridging of the model stands.
         ensures stands { let cache = self.new.cache in
             Stands cache.attached cache.lazy (model_in cache) }
@@ -106,6 +113,12 @@ impl<B: Bridge> SessionOver<B> {
         // A fault of the shelf was counted.
         ensures cause { result ≡ Answer.ReadFault
             → HasFaulted (H.faults shelf.old) (H.faults shelf.new) }
+        // And each fault was answered.
+        ensures sound { result ≢ Answer.ReadFault → H.faults shelf.new ≡ H.faults shelf.old }
+        // Only a line `load` asks for a file, for its own and once, while no solver is attached and
+        // nothing stands in the model.
+        ensures asks { result ≢ Answer.Memory → AsksFor (H.asked shelf.old) (H.asked shelf.new)
+            (line_asks (state_of self.old) line.now) }
         ensures unasked { says_load line.now ≡ false → shelf.new ≡ shelf.old }
     {
         let made = step(self.alloc, &mut self.cache, self.pivots, shelf, line);

@@ -4,6 +4,7 @@ use Rattle.edit_engine.specs.Script.{attach_answer}
 use Rattle.edit_engine.proofs.Steps.{told}
 use Rattle.edit_engine.proofs.Untouched.{attach_untouched}
 use Rattle.edit_engine.proofs.lines.attach.Goals as goal
+use Rattle.edit_engine.proofs.FewTold.{attach_told}
 
 pub returns-clause-step : goal.returns-clause-step
 returns-clause-step g c =
@@ -16,3 +17,10 @@ pub returns-clause-untouched : goal.returns-clause-untouched
 returns-clause-untouched g c =
     attach_untouched c.attach-made.result c.args.cache.now c.attach-made.new.self
     c.tell_attached.result c.attach-made.ensures.untouched c.tell_attached.ensures
+
+pub returns-clause-few : goal.returns-clause-few
+returns-clause-few g c =
+    attach_told (state_of c.args.cache.now) (state_of c.attach-made.new.self)
+    c.attach-made.result c.args.cache.now.lazy c.attach-made.new.self.lazy
+    c.tell_attached.result c.attach-made.ensures.answer c.attach-made.ensures.few
+    c.tell_attached.ensures

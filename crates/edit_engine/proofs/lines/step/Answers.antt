@@ -1,9 +1,11 @@
-use Rattle.std.proofs.Common.{Ok}
+use Rattle.std.proofs.Common.{Ok, ap, refl}
 use Rattle.cache_layer.specs.Cached.{state_of}
-use Rattle.edit_engine.proofs.Asking.{asked_by, unasked_by}
+use Rattle.edit_engine.proofs.Asking.{asked_by, command_asks, command_sound, unasked_by, unread_asks}
 use Rattle.edit_engine.proofs.lines.step.Goals as goal
 use Rattle.edit_engine.specs.Script.{machine_by}
 use Rattle.io_face.specs.Told.{told_by}
+use Rattle.script_core.specs.declared.fault.LineFault.TheVariants.{BadLine, Overflow}
+use Rattle.edit_engine.proofs.FewTold.{few_stays}
 
 pub returns-in-Ok-clause-cause : goal.returns-in-Ok-clause-cause
 returns-in-Ok-clause-cause g c = λ fault.
@@ -16,3 +18,33 @@ pub returns-in-Ok-clause-unasked : goal.returns-in-Ok-clause-unasked
 returns-in-Ok-clause-unasked g c = λ off.
     c.obey.ensures.unasked
     (unasked_by c.args.line.now c.in-Ok.command c.in-Ok.ensures off)
+
+pub returns-in-Ok-clause-sound : goal.returns-in-Ok-clause-sound
+returns-in-Ok-clause-sound g c = λ other.
+    command_sound _ c.in-Ok.command (λ on. c.obey.ensures.sound on other)
+    (λ off. ap g.H.Shelf.faults (c.obey.ensures.unasked off))
+
+pub returns-in-Ok-clause-asks : goal.returns-in-Ok-clause-asks
+returns-in-Ok-clause-asks g c =
+    command_asks _ _ (state_of c.args.cache.now) c.args.line.now c.in-Ok.command c.obey.result
+    c.in-Ok.ensures c.obey.ensures.asks
+    (λ off. ap g.H.Shelf.asked (c.obey.ensures.unasked off))
+
+pub returns-in-Err-BadLine-clause-asks : goal.returns-in-Err-BadLine-clause-asks
+returns-in-Err-BadLine-clause-asks g c =
+    unread_asks (g.H.Shelf.asked c.args.shelf.now) (state_of c.args.cache.now) c.args.line.now
+    BadLine c.refuse.result (rw c.in-Err-BadLine.field-0-is at c.in-Err-BadLine.ensures)
+
+pub returns-in-Err-Overflow-clause-asks : goal.returns-in-Err-Overflow-clause-asks
+returns-in-Err-Overflow-clause-asks g c =
+    unread_asks (g.H.Shelf.asked c.args.shelf.now) (state_of c.args.cache.now) c.args.line.now
+    Overflow c.refuse-in-Err-Overflow.result
+    (rw c.in-Err-Overflow.field-0-is at c.in-Err-Overflow.ensures)
+
+pub returns-in-Err-BadLine-clause-few : goal.returns-in-Err-BadLine-clause-few
+returns-in-Err-BadLine-clause-few g c =
+    few_stays c.refuse.result c.args.cache.now.lazy c.args.cache.now.lazy refl
+
+pub returns-in-Err-Overflow-clause-few : goal.returns-in-Err-Overflow-clause-few
+returns-in-Err-Overflow-clause-few g c =
+    few_stays c.refuse-in-Err-Overflow.result c.args.cache.now.lazy c.args.cache.now.lazy refl
