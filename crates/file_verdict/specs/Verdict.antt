@@ -1,5 +1,5 @@
 -- What is answered to the files of a model and of a certificate.
-use Rattle.std.specs.Prelude.{◌≡◌, ℕ, ◌⊎◌, List, ◌++◌, Option, Some, None, Result, Ok, Err, codes}
+use Rattle.std.specs.Prelude.{◌≡◌, ℕ, ◌⊎◌, List, [], ◌∷◌, ◌++◌, Option, Some, None, Result, Ok, Err, codes}
 use Rattle.cache_layer.specs.Answers.{after_edits}
 use Rattle.cert_core.specs.Folds.{CertificateFits}
 use Rattle.certificates.specs.Points.{variables_of}
@@ -84,3 +84,20 @@ abbrev pub IsVerdict : Told → List ℕ → List ℕ → Answer → Type 0
 IsVerdict shelf model certificate answer =
     (read : Result (List Edit) FileFault) × IsReadOf shelf model read
     × JudgesRead shelf certificate read answer
+
+-- ---- the files that are asked for
+
+-- the certificate's, where the model was made
+abbrev pub asks_made : List ℕ → Result ModelValue Refusal → List (List ℕ)
+asks_made certificate (Ok model) = certificate ∷ []
+asks_made certificate (Err refusal) = []
+
+abbrev pub asks_read : List ℕ → Result (List Edit) FileFault → List (List ℕ)
+asks_read certificate (Ok edits) = asks_made certificate (after_edits empty_model edits)
+asks_read certificate (Err fault) = []
+
+-- the model's file, and after that the certificate's, where the model was made
+abbrev pub AsksFiles : Told → List ℕ → List ℕ → (List (List ℕ) → Type 0) → Type 0
+AsksFiles shelf model certificate asked =
+    (read : Result (List Edit) FileFault) × IsReadOf shelf model read
+    × asked (model ∷ asks_read certificate read)

@@ -1,11 +1,12 @@
 //! The verdict on the files of a model and of a certificate.
-ghost use Rattle.std.specs.Prelude.{◌≡◌, ◌≢◌, Result, Ok, IfOk};
+ghost use Rattle.std.specs.Prelude.{◌≡◌, ◌≢◌, [], ◌∷◌, Result, Ok, IfOk, OnOk};
 ghost use Rattle.cache_layer.specs.Answers.{after_edits};
 ghost use Rattle.certificates.specs.Points.{variables_of};
 ghost use Rattle.cert_text.specs.Reading.{certificate_of};
 ghost use Rattle.cert_text.specs.ReadsBack.{HasItsEntries};
-ghost use Rattle.file_verdict.specs.Verdict.{FetchesText, IsVerdict, Judges, JudgesMade, JudgesText};
+ghost use Rattle.file_verdict.specs.Verdict.{AsksFiles, FetchesText, IsVerdict, Judges, JudgesMade, JudgesText, asks_made};
 ghost use Rattle.io_face.specs.Fault.{HasFaulted};
+ghost use Rattle.io_face.specs.Shelf.{AsksFor};
 ghost use Rattle.io_face.specs.Told.{told_by};
 ghost use Rattle.user_model.specs.Model.{empty_model};
 
@@ -28,19 +29,41 @@ use user_model::{ApplyFault, Edit};
 /// What is answered to the files of a model and of a certificate, by their names: `yes` where the
 /// text is a certificate for the model, all that is multiplied and added fits, and the certificate
 /// is good; `no` where the text isn't one, or all fits and it isn't good; and otherwise a refusal,
-/// or why a file wasn't fetched. The certificate is fetched only for a model that was made.
+/// or why a file wasn't fetched. The model's file is asked for first and once; the certificate's
+/// once, and only for a model that was made.
 pub fn verdict<H: Shelf>(alloc: Global, shelf: &mut H, model: &Name, certificate: &Name) -> Answer
     ensures verdict { result ≢ Answer.Memory
         → IsVerdict (told_by (H.files shelf.old) (H.sure shelf.old)) model.now certificate.now
         result }
     ensures cause { result ≡ Answer.ReadFault
         → HasFaulted (H.faults shelf.old) (H.faults shelf.new) }
+    ensures sound { result ≢ Answer.ReadFault → H.faults shelf.new ≡ H.faults shelf.old }
+    ensures asks { result ≢ Answer.Memory
+        → AsksFiles (told_by (H.files shelf.old) (H.sure shelf.old)) model.now certificate.now
+        (AsksFor (H.asked shelf.old) (H.asked shelf.new)) }
 {
-    let judged = match fetch_edits(alloc, shelf, model) {
+    judge_model(alloc, shelf, model, certificate).unwrap_or(Answer::Memory)
+}
+
+// The same, where want of memory is an error.
+fn judge_model<H: Shelf>(
+    alloc: Global,
+    shelf: &mut H,
+    model: &Name,
+    certificate: &Name,
+) -> Result<Answer, Memory>
+    ensures verdict { IfOk result (IsVerdict (told_by (H.files shelf.old) (H.sure shelf.old))
+        model.now certificate.now) }
+    ensures cause { result ≡ Ok Answer.ReadFault
+        → HasFaulted (H.faults shelf.old) (H.faults shelf.new) }
+    ensures sound { result ≢ Ok Answer.ReadFault → H.faults shelf.new ≡ H.faults shelf.old }
+    ensures asks { OnOk result (AsksFiles (told_by (H.files shelf.old) (H.sure shelf.old))
+        model.now certificate.now (AsksFor (H.asked shelf.old) (H.asked shelf.new))) }
+{
+    match fetch_edits(alloc, shelf, model) {
         Ok(edits) => judge_edits(alloc, shelf, edits, certificate),
         Err(fault) => tell_fault(alloc, fault),
-    };
-    judged.unwrap_or(Answer::Memory)
+    }
 }
 
 // The same once the edits of the model were read.
@@ -54,6 +77,9 @@ fn judge_edits<H: Shelf>(
         certificate.now (after_edits empty_model edits)) }
     ensures cause { result ≡ Ok Answer.ReadFault
         → HasFaulted (H.faults shelf.old) (H.faults shelf.new) }
+    ensures sound { result ≢ Ok Answer.ReadFault → H.faults shelf.new ≡ H.faults shelf.old }
+    ensures asks { OnOk result (AsksFor (H.asked shelf.old) (H.asked shelf.new)
+        (asks_made certificate.now (after_edits empty_model edits))) }
 {
     let mut model = UserModel::new(alloc);
     judge_on(alloc, shelf, &mut model, edits.into_vec(), certificate)
@@ -71,6 +97,9 @@ fn judge_on<H: Shelf>(
         certificate.now (after_edits model.old.model edits.items)) }
     ensures cause { result ≡ Ok Answer.ReadFault
         → HasFaulted (H.faults shelf.old) (H.faults shelf.new) }
+    ensures sound { result ≢ Ok Answer.ReadFault → H.faults shelf.new ≡ H.faults shelf.old }
+    ensures asks { OnOk result (AsksFor (H.asked shelf.old) (H.asked shelf.new)
+        (asks_made certificate.now (after_edits model.old.model edits.items))) }
 {
     match load_all(model, edits) {
         Ok(()) => judge_file(alloc, shelf, model, certificate),
@@ -90,6 +119,9 @@ fn judge_file<H: Shelf>(
         certificate.now model.now.model) }
     ensures cause { result ≡ Ok Answer.ReadFault
         → HasFaulted (H.faults shelf.old) (H.faults shelf.new) }
+    ensures sound { result ≢ Ok Answer.ReadFault → H.faults shelf.new ≡ H.faults shelf.old }
+    ensures asks { OnOk result (AsksFor (H.asked shelf.old) (H.asked shelf.new)
+        (certificate.now ∷ [])) }
 {
     let mut text = Vec::new(alloc);
     match shelf.fetch(certificate.text(), &mut text) {

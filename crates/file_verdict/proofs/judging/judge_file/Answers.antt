@@ -1,7 +1,9 @@
 -- What the shelf gave, and what was answered to it.
 use Rattle.std.proofs.Common.{Err, ap, refl, subst}
+use Rattle.edit_engine.specs.AskingLaws.{on_ok}
 use Rattle.io_face.specs.Shelf.{Gives}
 use Rattle.io_face.specs.Told.{told_by}
+use Rattle.io_face.specs.ToldLaws.{asked_for}
 use Rattle.io_face.specs.declared.shelf.FetchFault.TheVariants.{Failed, TooLong}
 use Rattle.file_verdict.proofs.Judged.{judged_text}
 use Rattle.file_verdict.proofs.judging.judge_file.Goals as goal
@@ -30,3 +32,18 @@ returns-in-Err-TooLong-clause-verdict g c = (
       (c.in-Err-TooLong.ensures.too_long (ap Err c.in-Err-TooLong.field-0-is)),
   refl,
 )
+
+pub returns-in-Ok-clause-asks : goal.returns-in-Ok-clause-asks
+returns-in-Ok-clause-asks g c =
+    on_ok c.judge_text.result _ (asked_for _ _ c.text.result.now c.args.certificate.now
+    c.text.ensures.value (c.fetch.ensures.asks (λ e. cc (c.in-Ok.is, e))))
+
+pub returns-in-Err-Failed-clause-asks : goal.returns-in-Err-Failed-clause-asks
+returns-in-Err-Failed-clause-asks g c =
+    asked_for _ _ c.text.result.now c.args.certificate.now c.text.ensures.value
+    (c.fetch.ensures.asks (λ e. cc (c.in-Err-Failed.is, c.in-Err-Failed.field-0-is, e)))
+
+pub returns-in-Err-TooLong-clause-asks : goal.returns-in-Err-TooLong-clause-asks
+returns-in-Err-TooLong-clause-asks g c =
+    asked_for _ _ c.text.result.now c.args.certificate.now c.text.ensures.value
+    (c.fetch.ensures.asks (λ e. cc (c.in-Err-TooLong.is, c.in-Err-TooLong.field-0-is, e)))
