@@ -1,0 +1,4 @@
+pub mod Draws
+pub mod Jumps
+pub mod Costs
+pub mod Moving

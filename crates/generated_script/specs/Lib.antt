@@ -1,0 +1,5 @@
+pub mod Numbers
+pub mod Generator
+pub mod Jump
+pub mod Parts
+pub mod Script
