@@ -25,11 +25,11 @@ use Rattle.mof_round_trip.specs.Renumbered.{any_made, find_made, made_variable, 
 
 -- ---- counts
 
-none_there : (b : Bool) → cond b 1 0 ≤ 0 → b ≡ false
+pub none_there : (b : Bool) → cond b 1 0 ≤ 0 → b ≡ false
 none_there true h = absurd (omega arith)
 none_there false h = refl
 
-none_pass : {X : Type 0} (p : X → Bool) (xs : List X) → count_by p xs ≤ 0 → list_any p xs ≡ false
+pub none_pass : {X : Type 0} (p : X → Bool) (xs : List X) → count_by p xs ≤ 0 → list_any p xs ≡ false
 none_pass p [] h = refl
 none_pass p (x ∷ xs) h =
     let all = sum_by-cons (λ x. cond (p x) 1 0) x xs in

@@ -50,7 +50,7 @@ unfolding gathered
 gathered_constant ts k = constant-function_of address_cmp _ k
 
 -- where the keys rise it makes no difference that the first of each key counts
-gathered_is : (ts : List (Address × Rational)) (k : Rational) → RiseStrictly ts
+pub gathered_is : (ts : List (Address × Rational)) (k : Rational) → RiseStrictly ts
     → gathered {R = address_cmp} ts k ≡ function_of ts k
 gathered_is ts k rise =
     same_coefficients address_order (gathered ts k) (function_of ts k)

@@ -98,7 +98,7 @@ module _ (model : ModelValue) where
 
 module _ (model : ModelValue) (c : IsConsistent model) where
   -- a variable is found by its name
-  found_variable : (v : GroupVar) → Contains (variables model) v
+  pub found_variable : (v : GroupVar) → Contains (variables model) v
       → find (λ w. bytes_eq w.name v.name) (variables model) ≡ Some v
   found_variable v there =
       let test : GroupVar → Bool = λ w. bytes_eq w.name v.name in

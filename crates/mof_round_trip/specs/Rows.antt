@@ -98,18 +98,18 @@ module _ (model : ModelValue) (valid : IsValid model) (other : ModelValue)
 
 -- ---- shapes
 
-scalar_kept : (model : ModelValue) (func : UserFunc)
+pub scalar_kept : (model : ModelValue) (func : UserFunc)
     → is_scalar_named (named_function (naming model) func) ≡ is_scalar_function func
 scalar_kept model (Plain var) = refl
 scalar_kept model (Affine f) = refl
 scalar_kept model (PlainVec vars) = refl
 scalar_kept model (AffineVec fs) = refl
 
-same_shape : (a b : Bool) → b ≡ a → differ a b ≡ false
+pub same_shape : (a b : Bool) → b ≡ a → differ a b ≡ false
 same_shape true b e = ap (λ b. not b) e
 same_shape false b e = e
 
-unless : (b c : Bool) → (b ≡ true → c ≡ false) → (b && c) ≡ false
+pub unless : (b c : Bool) → (b ≡ true → c ≡ false) → (b && c) ≡ false
 unless true c h = h refl
 unless false c h = refl
 

@@ -1,0 +1,3 @@
+pub mod EachAlone
+pub mod LaterNumbers
+pub mod BridgedRows

@@ -1,0 +1,2 @@
+pub mod Deleted
+pub mod AddedAgain
