@@ -1,0 +1,8 @@
+pub mod DualOf
+pub mod Carried
+pub mod NumberLaws
+pub mod RowPartLaws
+pub mod GroupRowLaws
+pub mod PlaceLaws
+pub mod LaidLaws
+pub mod Duality
