@@ -1,7 +1,7 @@
 -- What a point of the dual says of the model: duals of its rows and of its variables. And that the
 -- dual is right: each feasible point is carried to right duals, whose objective is at least as good,
 -- and all right duals are carried from a feasible point with their objective.
-use Rattle.std.specs.Prelude.{◌≡◌, ℕ, List, [], ◌∷◌, All, drop, length, map, take}
+use Rattle.std.specs.Prelude.{◌≡◌, ℕ, List, [], ◌∷◌, All, drop, map, take}
 use Rattle.ratio_core.specs.Rational.{Rational}
 use Rattle.aff_core.specs.Address.{Address}
 use Rattle.user_model.specs.declared.row.Row.{Row}

@@ -10,7 +10,7 @@
 -- With each variable of the model moved to the one bound that its creation set has, the objective's
 -- constant is the model's own value there, and the coefficient of a row's variable is its bound less
 -- the row's value there.
-use Rattle.std.specs.Prelude.{ℕ, zero, suc, ◌+◌, Bool, List, [], ◌∷◌, ◌++◌, decimal, flat_map, if◌then◌else◌, length, map}
+use Rattle.std.specs.Prelude.{ℕ, zero, suc, ◌+◌, List, [], ◌∷◌, ◌++◌, decimal, flat_map, if◌then◌else◌, length, map}
 use Rattle.ratio_core.specs.Rational.{Rational, neg_ℚ, one_ℚ, zero_ℚ}
 use Rattle.rational_laws.specs.Dot.{minus, negated}
 use Rattle.set_core.specs.declared.set.Set.{Set}
@@ -20,7 +20,7 @@ use Rattle.set_core.specs.Shapes.{is_scalar}
 use Rattle.aff_core.specs.Address.{Address}
 use Rattle.aff_core.specs.declared.sense.Sense.{Sense}
 use Rattle.aff_core.specs.declared.sense.Sense.TheVariants.{Min, Max}
-use Rattle.aff_core.specs.Function.{Function, function_of, value_of}
+use Rattle.aff_core.specs.Function.{Function, function_of}
 use Rattle.aff_core.specs.FunctionLists.{coefficients, values}
 use Rattle.user_model.specs.declared.function.UserFunc.{UserFunc}
 use Rattle.user_model.specs.declared.function.UserFunc.TheVariants.{Affine, AffineVec}
@@ -30,8 +30,8 @@ use Rattle.user_model.specs.declared.objective.Objective.TheVariants as objectiv
 use Rattle.user_model.specs.declared.row.Row.{Row}
 use Rattle.user_model.specs.Edited.{numbered_from}
 use Rattle.user_model.specs.Model.{ModelValue, variable_address}
-use Rattle.certificates.specs.Points.{addresses_of, at_point, functions_of, objective_coefficient, objective_function, objective_value, sense_of}
-use Rattle.dual_parts.specs.Parts.{bounds_on, on_parts, own_bounds, part_count, shifts_on}
+use Rattle.certificates.specs.Points.{addresses_of, at_point, functions_of, objective_coefficient, objective_value, sense_of}
+use Rattle.dual_parts.specs.Parts.{bounds_on, on_parts, own_bounds, shifts_on}
 
 -- ---- names
 

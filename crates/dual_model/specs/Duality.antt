@@ -1,12 +1,12 @@
 -- The dual of a valid model holds just its duals: the theorem both ways.
-use Rattle.std.specs.Prelude.{◌≡◌, ℕ, suc, ◌+◌, ◌≤◌, List, [], ◌∷◌, ◌++◌, All, flat_map, length, map, refl}
+use Rattle.std.specs.Prelude.{◌≡◌, ℕ, ◌+◌, ◌≤◌, List, [], ◌∷◌, ◌++◌, All, flat_map, length, map, refl}
 use Rattle.std.proofs.Common.{sym, ◌∙◌, ap, ap₂, arith, subst}
 use Rattle.std.proofs.lemmas.List.{length-append, length-map}
 use Rattle.std.proofs.lemmas.List.Elements.{All-append, All-head, All-tail, All-weaker}
 use Rattle.map_laws.specs.EachLaws.{all_first, all_second, map_same_on}
-use Rattle.ratio_core.specs.Rational.{Rational, neg_ℚ, one_ℚ, zero_ℚ, ◌*ℚ◌, ◌+ℚ◌, ◌-ℚ◌, ◌≤ℚ◌}
+use Rattle.ratio_core.specs.Rational.{Rational, neg_ℚ, ◌+ℚ◌, ◌-ℚ◌, ◌≤ℚ◌}
 use Rattle.rational_laws.specs.Dot.{dot, negated}
-use Rattle.rational_laws.specs.DotLaws.{dot-append, dot_comm, length-negated, negated-dot}
+use Rattle.rational_laws.specs.DotLaws.{dot-append, length-negated, negated-dot}
 use Rattle.rational_laws.specs.Field.{+ℚ_inner_comm, neg_ℚ-sum}
 use Rattle.rational_laws.specs.Order.{neg_ℚ-≤ℚ, not_‹ℚ_from_≤ℚ, ≤ℚ-+ℚ, ≤ℚ-+ℚ_left, ≤ℚ_refl}
 use Rattle.rational_laws.specs.Ring.{as_expression, by_ring, ring₂, ring₃}
@@ -19,7 +19,7 @@ use Rattle.aff_core.specs.KeyOrder.{address_order}
 use Rattle.aff_core.specs.declared.sense.Sense.{Sense}
 use Rattle.aff_core.specs.declared.sense.Sense.TheVariants.{Min, Max}
 use Rattle.linear_laws.specs.ListLaws.{slope_negated}
-use Rattle.dual_laws.specs.Held.{Held, adjoint, gap, pull, pull_of}
+use Rattle.dual_laws.specs.Held.{adjoint, gap, pull, pull_of}
 use Rattle.dual_laws.specs.PullLaws.{gap-append}
 use Rattle.user_model.specs.declared.group.Group.{Group}
 use Rattle.user_model.specs.declared.row.Row.{Row}
@@ -28,19 +28,19 @@ use Rattle.user_model.specs.Valid.{IsValid, IsValidGroup, IsValidRow}
 use Rattle.set_core.specs.Shapes.{IsSetOf}
 use Rattle.certificates.specs.Points.{address_of, addresses_of, all_addresses, at_point, functions_of, objective_coefficient, objective_constant, objective_function, objective_value, sense_of}
 use Rattle.certificates.specs.Feasible.{IsBetter, IsFeasible}
-use Rattle.certificates.specs.Duals.{AreDuals, HasDuals, adjoint_of_rows, dual_gap, dual_value, groups_with, reduced_cost, rows_with, with_duals}
+use Rattle.certificates.specs.Duals.{HasDuals, adjoint_of_rows, dual_gap, dual_value, groups_with, reduced_cost, rows_with, with_duals}
 use Rattle.certificates.specs.Good.{HasReducedCost, dual_objective}
 use Rattle.certificates.specs.DualPointLaws.{component_count, pull_at, weighs}
 use Rattle.certificates.specs.PointLaws.{split_addresses}
-use Rattle.dual_parts.specs.Parts.{IsLeft, bounds_on, on_parts, own_bounds, shifts_on}
+use Rattle.dual_parts.specs.Parts.{IsLeft, on_parts, own_bounds, shifts_on}
 use Rattle.dual_parts.specs.GroupPartLaws.{shifts_below}
 use Rattle.dual_parts.specs.PartLaws.{below_low, length-on_parts}
-use Rattle.dual_model.specs.DualOf.{NewGroup, at_bounds, bound_numbers, column_in, cost_of, costs, dual_of_model, each_placed, group_groups, left_for, new_groups, opposite, row_costs, row_groups, row_size, row_variables, signed, variable_count}
+use Rattle.dual_model.specs.DualOf.{NewGroup, at_bounds, bound_numbers, column_in, cost_of, costs, dual_of_model, each_placed, group_groups, new_groups, opposite, row_costs, row_groups, row_size, row_variables, signed, variable_count}
 use Rattle.dual_model.specs.Carried.{AreRightDuals, CarriesTo, HoldsDuals, IsCarriedFrom, carried_rows, carried_variable, carried_variables, part_size}
 use Rattle.dual_model.specs.NumberLaws.{length-numbers_from, numbers_from, numbers_from-append, value_from}
 use Rattle.dual_model.specs.RowPartLaws.{AddsUp, ArePartsOf, Count, HasSetOf, HoldFrom, adjoint_weighed, carried_are, count-append, count-rows, duals_of_rows, hold_both, hold_first, hold_second, length-costs, length-rows_duals, parts_of_rows, rows_count, rows_duals, rows_from_parts, total_parts}
 use Rattle.dual_model.specs.GroupRowLaws.{AreLeft, AreOwnOf, CountOwn, HasGroupSetOf, IsLeftAt, count-groups, duals_of_groups, groups_count, groups_of_own, left_at, left_from_rows, length-own, own_of_groups, own_total, rows_from_left}
-use Rattle.dual_model.specs.PlaceLaws.{GroupIn, dual_point_at, each_same, each_shift, group_addresses, groups_from_hold, hold_from_groups, joined_alike, length-addresses_from, length-bound_numbers, point_at}
+use Rattle.dual_model.specs.PlaceLaws.{dual_point_at, each_same, each_shift, group_addresses, groups_from_hold, hold_from_groups, joined_alike, length-addresses_from, length-bound_numbers, point_at}
 use Rattle.dual_model.specs.LaidLaws.{equal_adds, laid_count, laid_count_own, laid_duals, laid_left, laid_own, laid_parts, length-own_numbers, length-row_numbers, own_numbers, row_numbers}
 
 -- ---- at most adds up
@@ -508,12 +508,15 @@ module _ (model : ModelValue) (valid : IsValid model) where
         ∙ ap (λ ys. dual_objective model ys vars) same_rows
 
     comes_from : (x : List Rational) × IsCarriedFrom model rows vars x
-    comes_from = (made, record {
-      feasible = is_feasible;
-      gives_rows = back_to_rows;
-      gives_variables = back_to_variables;
-      value = same_objective;
-    })
+    comes_from = (
+      made,
+      record {
+        feasible = is_feasible;
+        gives_rows = back_to_rows;
+        gives_variables = back_to_variables;
+        value = same_objective;
+      },
+    )
 
   -- the theorem
   pub holds_duals : HoldsDuals model

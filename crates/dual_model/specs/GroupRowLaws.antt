@@ -1,21 +1,19 @@
 -- The duals of a model's variables at a point of its dual: that they are in the dual sets where the
 -- point meets the dual's rows, and what they and the groups' own variables count.
-use Rattle.std.specs.Prelude.{◌≡◌, ℕ, zero, suc, ◌+◌, ◌≤◌, Bool, true, false, if◌then◌else◌, List, [], ◌∷◌, ◌++◌, All, flat_map, length, map, refl}
+use Rattle.std.specs.Prelude.{◌≡◌, ℕ, suc, ◌+◌, ◌≤◌, Bool, true, false, if◌then◌else◌, List, [], ◌∷◌, ◌++◌, All, flat_map, length, map, refl}
 use Rattle.std.proofs.Common.{sym, ◌∙◌, ap, ap₂, arith, subst}
-use Rattle.std.proofs.lemmas.List.{length-append, length-map, map-append}
+use Rattle.std.proofs.lemmas.List.{length-append, length-map}
 use Rattle.std.proofs.lemmas.List.Elements.{All-append, All-cons, All-head, All-nil, All-tail}
 use Rattle.map_laws.specs.EachLaws.{all_first, all_second, map_same_on}
 use Rattle.ratio_core.specs.Rational.{Rational, neg_ℚ, one_ℚ, zero_ℚ, ◌*ℚ◌, ◌+ℚ◌, ◌-ℚ◌}
 use Rattle.rational_laws.specs.Dot.{dot, negated}
-use Rattle.rational_laws.specs.DotLaws.{dot-append, dot_comm, dot_map_zero, length-negated, negated-dot}
-use Rattle.rational_laws.specs.Field.{*ℚ-one, +ℚ-zero, +ℚ_inner_comm, neg_ℚ-*ℚ, neg_ℚ-sum, neg_ℚ-zero, one-*ℚ}
+use Rattle.rational_laws.specs.DotLaws.{dot-append, dot_comm, dot_map_zero, length-negated}
+use Rattle.rational_laws.specs.Field.{+ℚ-zero, +ℚ_inner_comm, neg_ℚ-*ℚ, neg_ℚ-zero, one-*ℚ}
 use Rattle.rational_laws.specs.Ring.{as_expression, by_ring, ring₄}
 use Rattle.aff_core.specs.Address.{Address, address_cmp}
 use Rattle.aff_core.specs.Function.{Function, value_of, variable}
 use Rattle.aff_core.specs.FunctionLaws.{constant-variable}
 use Rattle.aff_core.specs.FunctionLists.{constants, slopes, values}
-use Rattle.aff_core.specs.declared.sense.Sense.{Sense}
-use Rattle.aff_core.specs.declared.sense.Sense.TheVariants.{Min, Max}
 use Rattle.linear_laws.specs.ListLaws.{evaluations_slopes, evaluations_variables}
 use Rattle.set_core.specs.declared.set.Set.{Set}
 use Rattle.set_core.specs.declared.set.Set.TheVariants.{EqualTo, Interval, Zeros}
@@ -25,15 +23,14 @@ use Rattle.set_core.specs.Vectors.{first_of, others_of}
 use Rattle.dual_laws.specs.Held.{Held, gap, gap_of, pull, pull_of}
 use Rattle.user_model.specs.declared.function.UserFunc.TheVariants.{AffineVec}
 use Rattle.user_model.specs.declared.group.Group.{Group}
-use Rattle.user_model.specs.declared.group.GroupVar.{GroupVar}
 use Rattle.user_model.specs.declared.row.Row.{Row}
-use Rattle.user_model.specs.Model.{ModelValue, variable_address, variables}
-use Rattle.certificates.specs.Points.{address_of, addresses_of, all_addresses, functions_of, functions_of_group, objective_coefficient, sense_of, variables_at}
-use Rattle.certificates.specs.Duals.{HasDuals, adjoint_of_rows, group_with, groups_with, reduced_cost}
+use Rattle.user_model.specs.Model.{ModelValue, variable_address}
+use Rattle.certificates.specs.Points.{addresses_of, all_addresses, functions_of, variables_at}
+use Rattle.certificates.specs.Duals.{HasDuals, group_with, groups_with}
 use Rattle.certificates.specs.PointLaws.{split_addresses}
 use Rattle.dual_parts.specs.Parts.{AreOwn, IsLeft, own_bounds, shifts_on}
 use Rattle.dual_parts.specs.GroupPartLaws.{left_dual}
-use Rattle.dual_model.specs.DualOf.{NewGroup, column_in, cost_of, each_placed, function_in, group_groups, group_rows, left_for, left_less_two, own_groups, row_for, scalar_function, signed, variable_count}
+use Rattle.dual_model.specs.DualOf.{NewGroup, column_in, cost_of, each_placed, function_in, group_groups, group_rows, left_for, left_less_two, own_groups, row_for, scalar_function, variable_count}
 use Rattle.dual_model.specs.NumberLaws.{length-numbers_from, numbers_from, numbers_from-append, value_from, value_from_two}
 use Rattle.dual_model.specs.RowPartLaws.{AddsUp, HoldFrom, hold_both, hold_first, hold_second, count-append, parts_from_two, two_from_parts}
 

@@ -1,14 +1,13 @@
 -- The point of the dual that is made of right duals: where each variable has the part that it
 -- holds, the point meets the dual, gives these duals back and counts just the least products.
-use Rattle.std.specs.Prelude.{◌≡◌, ℕ, suc, ◌+◌, List, [], ◌∷◌, ◌++◌, All, flat_map, length, map, refl}
+use Rattle.std.specs.Prelude.{◌≡◌, ℕ, ◌+◌, List, [], ◌∷◌, ◌++◌, All, flat_map, length, map, refl}
 use Rattle.std.proofs.Common.{sym, ◌∙◌, ap, ap₂, arith, subst}
 use Rattle.std.proofs.lemmas.List.{length-append, length-map}
 use Rattle.std.proofs.lemmas.List.Elements.{All-head, All-tail}
 use Rattle.map_laws.specs.EachLaws.{all_first, all_second, map_same_on}
 use Rattle.ratio_core.specs.Rational.{Rational, ◌+ℚ◌}
 use Rattle.rational_laws.specs.Dot.{dot}
-use Rattle.aff_core.specs.Address.{Address, address_cmp}
-use Rattle.aff_core.specs.Function.{variable}
+use Rattle.aff_core.specs.Address.{Address}
 use Rattle.set_core.specs.Membership.{low_of}
 use Rattle.user_model.specs.declared.group.Group.{Group}
 use Rattle.user_model.specs.declared.row.Row.{Row}

@@ -1,18 +1,18 @@
 -- Functions of the dual's variables at a point: a function of coefficients in the variables' order
 -- is the product of the coefficients with the numbers that stand there.
-use Rattle.std.specs.Prelude.{◌≡◌, ℕ, zero, suc, ◌+◌, ◌<◌, ◌≤◌, Bool, true, false, ◌&&◌, IsTrue, cond, filter, List, [], ◌∷◌, ◌++◌, length, map, not, refl}
+use Rattle.std.specs.Prelude.{◌≡◌, ℕ, zero, suc, ◌+◌, ◌<◌, ◌≤◌, Bool, true, false, ◌&&◌, cond, filter, List, [], ◌∷◌, ◌++◌, length, not, refl}
 use Rattle.std.specs.FinMap.{is_sorted}
 use Rattle.std.specs.FinMap.Entries.{below_all}
 use Rattle.std.specs.Ordering.{is_lt, ordering_then}
 use Rattle.std.specs.declared.cmp.Ordering.TheVariants.{Equal, Less}
-use Rattle.std.proofs.Common.{sym, ◌∙◌, ap, ap₂, arith, subst}
+use Rattle.std.proofs.Common.{sym, ◌∙◌, ap, ap₂, arith}
 use Rattle.map_laws.specs.TestLaws.{less_number}
 use Rattle.ratio_core.specs.Rational.{Rational, rational_eq, zero_ℚ, ◌*ℚ◌, ◌+ℚ◌}
 use Rattle.ratio_core.specs.RationalLaws.{rational_eq-true}
 use Rattle.rational_laws.specs.Dot.{dot}
 use Rattle.rational_laws.specs.Field.{+ℚ_assoc, zero-*ℚ, zero-+ℚ}
 use Rattle.aff_core.specs.Address.{Address, address_cmp}
-use Rattle.aff_core.specs.Function.{Function, function_of, terms_of, value_of}
+use Rattle.aff_core.specs.Function.{function_of, value_of}
 use Rattle.aff_core.specs.FunctionLaws.{constant-function_of, terms-function_of}
 use Rattle.aff_core.specs.Rising.{RiseStrictly}
 use Rattle.aff_core.specs.Terms.{is_nonzero, linear}

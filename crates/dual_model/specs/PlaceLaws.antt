@@ -1,6 +1,6 @@
 -- What stands where: a point of a model has its numbers at the variables, one after another, and
 -- those of the dual are numbered from 0 on.
-use Rattle.std.specs.Prelude.{◌≡◌, ◌≢◌, ℕ, zero, suc, ◌+◌, ◌<◌, ◌≤◌, List, [], ◌∷◌, ◌++◌, All, AllPairs, drop, flat_map, length, map, take, refl}
+use Rattle.std.specs.Prelude.{◌≡◌, ◌≢◌, ℕ, zero, suc, ◌+◌, ◌<◌, ◌≤◌, List, [], ◌∷◌, ◌++◌, All, AllPairs, drop, length, map, take, refl}
 use Rattle.std.specs.List.{IsDistinct}
 use Rattle.std.proofs.Common.{sym, ◌∙◌, ap, ap₂, arith, subst}
 use Rattle.std.proofs.Math.Seq.{drop-append_seam, take-append_seam}
@@ -8,7 +8,7 @@ use Rattle.std.proofs.lemmas.List.{length-append, length-map, map-append}
 use Rattle.std.proofs.lemmas.List.Elements.{All-cons, All-head, All-nil, All-tail, All-weaker}
 use Rattle.std.proofs.lemmas.List.Kept.{AllPairs-cons}
 use Rattle.std.proofs.lemmas.Map.Made.{IsDistinct-from_AllPairs}
-use Rattle.map_laws.specs.EachLaws.{all_first, all_second, cons_head, cons_tail}
+use Rattle.map_laws.specs.EachLaws.{cons_head, cons_tail}
 use Rattle.map_laws.specs.PairLaws.{AllPairs-map, AllPairs-nil}
 use Rattle.ratio_core.specs.Rational.{Rational}
 use Rattle.numbered.specs.Numbered.{Rise}
@@ -29,7 +29,7 @@ use Rattle.certificates.specs.PointLaws.{split_addresses}
 use Rattle.dual_parts.specs.GroupPartLaws.{length-shifts_on}
 use Rattle.dual_parts.specs.Parts.{shifts_on}
 use Rattle.dual_model.specs.DualOf.{NewGroup, bound_numbers, numbered_groups, variable_count}
-use Rattle.dual_model.specs.NumberLaws.{numbers_from, numbers_from-append}
+use Rattle.dual_model.specs.NumberLaws.{numbers_from}
 use Rattle.dual_model.specs.RowPartLaws.{HoldFrom}
 use Rattle.dual_model.specs.GroupRowLaws.{HasGroupSetOf}
 

@@ -1,12 +1,12 @@
 -- The rows' duals that a point of the dual has: that they are in the dual sets where the point's
 -- groups are in theirs, what they give as adjoint, and what their variables count.
-use Rattle.std.specs.Prelude.{◌≡◌, ℕ, zero, suc, ◌+◌, List, [], ◌∷◌, ◌++◌, All, drop, flat_map, length, map, take, refl}
+use Rattle.std.specs.Prelude.{◌≡◌, ℕ, zero, suc, ◌+◌, List, [], ◌∷◌, ◌++◌, All, drop, flat_map, length, take, refl}
 use Rattle.std.proofs.Common.{sym, ◌∙◌, ap, ap₂, arith, subst}
 use Rattle.std.proofs.Math.Seq.{drop-append_seam, take-append_seam}
 use Rattle.std.proofs.lemmas.List.{length-append, length-map}
 use Rattle.std.proofs.lemmas.List.Elements.{All-cons, All-head, All-nil, All-tail}
-use Rattle.ratio_core.specs.Rational.{Rational, neg_ℚ, zero_ℚ, ◌*ℚ◌, ◌+ℚ◌, ◌-ℚ◌, ◌≤ℚ◌}
-use Rattle.rational_laws.specs.Dot.{dot, minus}
+use Rattle.ratio_core.specs.Rational.{Rational, neg_ℚ, zero_ℚ, ◌+ℚ◌, ◌-ℚ◌, ◌≤ℚ◌}
+use Rattle.rational_laws.specs.Dot.{dot}
 use Rattle.rational_laws.specs.DotLaws.{dot-append, dot_comm, length-minus, minus-dot}
 use Rattle.rational_laws.specs.Field.{+ℚ_inner_comm, +ℚ-zero}
 use Rattle.rational_laws.specs.Ring.{as_expression, by_ring, ring₃}
@@ -15,10 +15,9 @@ use Rattle.aff_core.specs.Function.{Function, coefficient, value_of}
 use Rattle.aff_core.specs.FunctionLists.{coefficients, constants, slopes, values}
 use Rattle.linear_laws.specs.ListLaws.{dot_values}
 use Rattle.set_core.specs.declared.set.Set.{Set}
-use Rattle.set_core.specs.declared.set.Set.TheVariants.{GreaterThan, Interval, LessThan}
+use Rattle.set_core.specs.declared.set.Set.TheVariants.{Interval}
 use Rattle.set_core.specs.Membership.{In, dual_of, low_of}
 use Rattle.set_core.specs.Shapes.{IsSetOf}
-use Rattle.set_core.specs.Vectors.{first_of, others_of}
 use Rattle.dual_laws.specs.Held.{Held, adjoint, gap, gap_of, pull, pull_of}
 use Rattle.user_model.specs.declared.row.Row.{Row}
 use Rattle.user_model.specs.Model.{variable_address}
@@ -127,9 +126,11 @@ module _ (x : Address → Rational) where
   pub hold_both : (n : ℕ) (gs hs : List NewGroup) → HoldFrom n gs
       → HoldFrom (n + variable_count gs) hs → HoldFrom n (gs ++ hs)
   hold_both n [] hs h k = subst (λ m. HoldFrom m hs) (stay n) k
-  hold_both n (g ∷ gs) hs h k =
-      (h.0, hold_both (n + length g.names) gs hs h.1
-      (subst (λ m. HoldFrom m hs) (sym (along n (length g.names) (variable_count gs))) k))
+  hold_both n (g ∷ gs) hs h k = (
+    h.0,
+    hold_both (n + length g.names) gs hs h.1
+        (subst (λ m. HoldFrom m hs) (sym (along n (length g.names) (variable_count gs))) k),
+  )
 
   next : (n : ℕ) → n + 1 ≡ suc n
   next n = omega arith
