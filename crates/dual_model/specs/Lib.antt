@@ -6,3 +6,4 @@ pub mod GroupRowLaws
 pub mod PlaceLaws
 pub mod LaidLaws
 pub mod Duality
+pub mod Solved
