@@ -1,56 +1,77 @@
 -- What an answer that was written says of its line.
-use Rattle.std.proofs.Common.{◌≡◌, ℕ, Bool, List, sym, ap, ◌∙◌, subst, inl, inr, Option, Result, Ok, Err}
+use Rattle.std.proofs.Common.{◌≡◌, ◌≢◌, ℕ, Bool, List, sym, ap, ◌∙◌, subst, inl, inr, Option, Result, Ok, Err}
 use Rattle.edit_engine.specs.Lines.{Prints, accepted, quit, refusal, silent}
 use Rattle.edit_engine.specs.LinesLaws.{answers_quit, quit_is_said}
-use Rattle.edit_engine.specs.Script.{Answered, Machine, Steps}
 use Rattle.io_face.specs.Sink.{Adds, AddsPrefix}
 use Rattle.io_face.specs.declared.sink.SinkFault.{SinkFault}
 use Rattle.io_face.specs.declared.sink.SinkFault.TheVariants as fault
 use Rattle.moi_run.specs.Answering.{Hears, HearsBy, PrintsText, WritesBy, is_refused}
+use Rattle.moi_run.specs.Tally.{Moves, Tally}
 use Rattle.moi_run.specs.declared.reply.Reply.{Reply}
 use Rattle.moi_run.specs.Status.{stop_of_sink}
 use Rattle.moi_run.specs.declared.stop.Stop.{Stop}
 use Rattle.moi_run.specs.declared.stop.Stop.TheVariants as stop
 use Rattle.report_core.specs.declared.answer.Answer.{Answer}
+use Rattle.report_core.specs.declared.answer.Answer.TheVariants.{ReadFault, TooLong}
+use Rattle.report_core.specs.declared.answer.Answer.TheVariants.{Memory as NoMemory}
+use Rattle.std.specs.Prelude.{OnOk}
 
--- an answer that prints was found by a step
-prints_step : (s new : Machine) (line : List ℕ) {answer : Answer} {text : List ℕ} {refused : Bool}
-    → Prints answer text refused → Answered s line answer new → Steps s line answer new
-prints_step s new line silent answered = answered
-prints_step s new line accepted answered = answered
-prints_step s new line refusal answered = answered
-prints_step s new line quit answered = answered
+-- an answer that prints isn't want of memory, nor the shelf's fault
+pub prints_memory : {answer : Answer} {text : List ℕ} {was : Bool} → Prints answer text was
+    → answer ≢ NoMemory
+prints_memory silent e = cc
+prints_memory accepted e = cc
+prints_memory refusal e = cc
+prints_memory quit e = cc
 
-hears_of : (s new : Machine) (line : List ℕ) (answer : Answer) (refused : Bool)
-    (wrote : List ℕ → Type 0) → Answered s line answer new → PrintsText answer refused wrote
-    → Hears s line refused new wrote
-hears_of s new line answer refused wrote answered printed = record {
+pub prints_fault : {answer : Answer} {text : List ℕ} {was : Bool} → Prints answer text was
+    → answer ≢ ReadFault
+prints_fault silent e = cc
+prints_fault accepted e = cc
+prints_fault refusal e = cc
+prints_fault quit e = cc
+
+hears_of : (s new : Tally) (line : List ℕ) (answer : Answer) (refused : Bool)
+    (wrote : List ℕ → Type 0) → (answer ≢ NoMemory → Moves s line answer new)
+    → PrintsText answer refused wrote → Hears s line refused new wrote
+hears_of s new line answer refused wrote moves printed = record {
   answer = answer;
   text = printed.text;
-  steps = prints_step s new line printed.prints answered;
+  moves = moves (prints_memory printed.prints);
   prints = printed.prints;
   written = printed.written;
 }
 
 -- what became of the line, from its answer and what became of that
-pub line_heard : (result : Result Reply Stop) (s new : Machine) (line : List ℕ) (answer : Answer)
-    (old written : Option (List ℕ)) → Answered s line answer new
+pub line_heard : (result : Result Reply Stop) (s new : Tally) (line : List ℕ) (answer : Answer)
+    (old written : Option (List ℕ)) → (answer ≢ NoMemory → Moves s line answer new)
     → WritesBy result answer old written
     → HearsBy result s line new old written
-line_heard (Ok given) s new line answer old written answered wrote = (
-  hears_of s new line answer (is_refused given) (Adds old written) answered wrote.0,
+line_heard (Ok given) s new line answer old written moves wrote = (
+  hears_of s new line answer (is_refused given) (Adds old written) moves wrote.0,
   wrote.1
-      ∙ sym (quit_is_said s new line answer (prints_step s new line wrote.0.prints answered)),
+      ∙ sym (quit_is_said s.machine new.machine line answer
+      (moves (prints_memory wrote.0.prints)).steps),
 )
-line_heard (Err stop.WriteFault) s new line answer old written answered wrote =
-    (wrote.0, hears_of s new line answer wrote.0 (AddsPrefix old written) answered wrote.1)
-line_heard (Err stop.ReadFault) s new line answer old written answered wrote =
-    (subst (λ a. Answered s line a new) wrote.0 answered, wrote.1)
-line_heard (Err stop.TooLong) s new line answer old written answered wrote =
-    (subst (λ a. Answered s line a new) wrote.0 answered, wrote.1)
-line_heard (Err stop.Memory) s new line answer old written answered (inl same) = inl same
-line_heard (Err stop.Memory) s new line answer old written answered (inr begun) =
-    inr (begun.0, new, hears_of s new line answer begun.0 (AddsPrefix old written) answered begun.1)
+line_heard (Err stop.WriteFault) s new line answer old written moves wrote =
+    (wrote.0, hears_of s new line answer wrote.0 (AddsPrefix old written) moves wrote.1)
+line_heard (Err stop.ReadFault) s new line answer old written moves wrote =
+    let is : answer ≡ ReadFault = wrote.0 in
+    (subst (λ a. Moves s line a new) is (moves (λ e. cc)), wrote.1)
+line_heard (Err stop.TooLong) s new line answer old written moves wrote =
+    let is : answer ≡ TooLong = wrote.0 in
+    (subst (λ a. Moves s line a new) is (moves (λ e. cc)), wrote.1)
+line_heard (Err stop.Memory) s new line answer old written moves (inl same) = inl same
+line_heard (Err stop.Memory) s new line answer old written moves (inr begun) =
+    inr (begun.0, new, hears_of s new line answer begun.0 (AddsPrefix old written) moves begun.1)
+
+-- the shelf counted no fault where the answer was written
+pub heard_sound : (result : Result Reply Stop) (answer : Answer) (old written : Option (List ℕ))
+    (faults faults' : ℕ) → WritesBy result answer old written
+    → (answer ≢ ReadFault → faults' ≡ faults) → OnOk result (faults' ≡ faults)
+heard_sound (Ok given) answer old written faults faults' wrote sound =
+    sound (prints_fault wrote.0.prints)
+heard_sound (Err reason) answer old written faults faults' wrote sound = tt
 
 -- ---- one answer
 

@@ -2,22 +2,23 @@
 use Rattle.std.proofs.Common.{◌≡◌, ◌≢◌, ℕ, ◌⊎◌, Bool, true, false, List, [], sym, ◌∙◌, subst, inl, inr, Option, Some}
 use Rattle.std.specs.Prelude.{if◌then◌else◌, Ok, Err}
 use Rattle.command_words.specs.declared.words.Command.TheVariants.{Check}
-use Rattle.edit_engine.specs.Lines.{Prints, accepted, quit, refusal, silent}
-use Rattle.edit_engine.specs.Script.{Machine}
-use Rattle.file_verdict.specs.Verdict.{IsVerdict}
+use Rattle.file_verdict.specs.Verdict.{AsksFiles, IsVerdict}
 use Rattle.file_verdict.specs.VerdictLaws.{fails_by, too_long_by}
 use Rattle.io_face.specs.Fault.{HasFaulted}
+use Rattle.io_face.specs.Shelf.{AsksFor}
 use Rattle.io_face.specs.Sink.{Adds, AddsPrefix}
 use Rattle.io_face.specs.SinkLaws.{Adds-empty}
 use Rattle.io_face.specs.Told.{Told}
 use Rattle.moi_run.specs.Answering.{PrintsText, WritesBy, is_refused}
 use Rattle.moi_run.specs.Run.{CheckOutcome, Runs, WritesVerdict}
 use Rattle.moi_run.specs.Status.{IsEnded, has_refused, status_of}
+use Rattle.moi_run.specs.Tally.{Tally}
 use Rattle.moi_run.specs.declared.reply.Reply.{Reply}
 use Rattle.moi_run.specs.declared.status.Status.{Status}
 use Rattle.moi_run.specs.declared.status.Status.TheVariants as status
 use Rattle.moi_run.specs.declared.stop.Stop.{Stop}
 use Rattle.moi_run.specs.declared.stop.Stop.TheVariants as stop
+use Rattle.moi_run.proofs.Answering.{prints_memory}
 use Rattle.moi_run.proofs.Exits.{at_end, when_ended}
 use Rattle.moi_run.proofs.Written.{begun_whole}
 use Rattle.report_core.specs.declared.answer.Answer.{Answer}
@@ -61,12 +62,15 @@ module _ (shelf : Told) (faults faults' : ℕ) (model certificate : List ℕ)
   check_begins status.TooLong outcome = inl (nothing_begun outcome.1)
 
 pub runs_check : (model certificate : List ℕ) (end : Status) (left left' : Option (List ℕ))
-    (shelf : Told) (faults faults' : ℕ) (source : Type 0) (s new : Machine)
+    (shelf : Told) (faults faults' : ℕ) (source : Type 0) (s new : Tally)
     (old written : Option (List ℕ))
     → CheckOutcome end shelf faults faults' model certificate old written
+    → (end ≢ status.Memory
+    → AsksFiles shelf model certificate (AsksFor s.asked new.asked))
     → Runs (Some (Check model certificate)) end left left' shelf source (HasFaulted faults faults')
     s new (Adds old written) (AddsPrefix old written)
-runs_check model certificate end left left' shelf faults faults' source s new old written outcome =
+runs_check model certificate end left left' shelf faults faults' source s new old written outcome
+    asks =
     let at : (how : Status) → end ≡ how
     → CheckOutcome how shelf faults faults' model certificate old written =
     λ (how : Status) (e : end ≡ how). subst (λ t. CheckOutcome t shelf faults faults' model
@@ -79,6 +83,7 @@ runs_check model certificate end left left' shelf faults faults' source s new ol
       to_the_end = λ ended. tt;
       within_limits = λ ended. tt;
       prefix = tt;
+      asks = asks;
       verdict_prefix = check_begins shelf faults faults' model certificate old written end outcome;
       read_fault = λ e. (
         (at status.ReadFault e).1,
@@ -99,14 +104,6 @@ runs_check model certificate end left left' shelf faults faults' source s new ol
     }
 
 -- ---- the verdict was written, or a part of it, or nothing
-
--- an answer that prints isn't want of memory
-prints_memory : {answer : Answer} {text : List ℕ} {was : Bool} → Prints answer text was
-    → answer ≢ NoMemory
-prints_memory silent e = cc
-prints_memory accepted e = cc
-prints_memory refusal e = cc
-prints_memory quit e = cc
 
 verdict_of : (shelf : Told) (model certificate : List ℕ) (answer : Answer) (was : Bool)
     (wrote : List ℕ → Type 0) → (answer ≢ NoMemory → IsVerdict shelf model certificate answer)
@@ -155,3 +152,15 @@ check_answered given end shelf faults faults' model certificate answer refused o
     (λ b. WritesVerdict shelf model certificate b (Adds old new)) (λ w. w) (λ w. w) refused end is
     (subst (λ b. WritesVerdict shelf model certificate b (Adds old new)) (sym same)
     (verdict_of shelf model certificate answer (is_refused given) (Adds old new) verdict wrote.0))
+
+-- memory ran out only where that is how it ended
+pub memory_told : (reason : Stop) (end : Status) (answer : Answer) (old new : Option (List ℕ))
+    → end ≡ status_of reason → WritesBy (Err reason) answer old new → end ≢ status.Memory
+    → answer ≢ NoMemory
+memory_told stop.Memory end answer old new is wrote other e = absurd (other is)
+memory_told stop.WriteFault end answer old new is wrote other e =
+    prints_memory wrote.1.prints e
+memory_told stop.ReadFault end answer old new is wrote other e =
+    let other_is : answer ≡ ReadFault = wrote.0 in cc
+memory_told stop.TooLong end answer old new is wrote other e =
+    let other_is : answer ≡ TooLong = wrote.0 in cc

@@ -6,13 +6,13 @@ use Rattle.std.proofs.lemmas.List.Elements.{All-get_or}
 use Rattle.command_words.specs.declared.words.Command.{Command}
 use Rattle.command_words.specs.declared.words.Command.TheVariants.{Plan, Run}
 use Rattle.edit_engine.specs.Lines.{heard}
-use Rattle.edit_engine.specs.Script.{Machine}
 use Rattle.io_face.specs.Fault.{HasFaulted}
 use Rattle.io_face.specs.Told.{Told}
 use Rattle.moi_run.specs.Commands.{AsksInVain, CanBeFetched, CanBeRead, HasReadFault, IsSound}
 use Rattle.moi_run.specs.Input.{IsWithinLimits, PassesLimit}
 use Rattle.moi_run.specs.Run.{HasTooLong, Runs}
 use Rattle.moi_run.specs.Status.{IsEnded}
+use Rattle.moi_run.specs.Tally.{Tally}
 use Rattle.moi_run.specs.declared.status.Status.{Status}
 use Rattle.moi_run.specs.declared.status.Status.TheVariants as status
 use Rattle.script_lines.specs.Limits.{line_limit}
@@ -70,7 +70,7 @@ module _ (shelf : Told) (reads reads' fetches fetches' : ℕ) where
   no_limit (Some command) left read fetched long = fetched.short long
 
 pub completes : (said : Option Command) (end : Status) (left left' : Option (List ℕ)) (shelf : Told)
-    (reads reads' fetches fetches' writes writes' : ℕ) (s new : Machine)
+    (reads reads' fetches fetches' writes writes' : ℕ) (s new : Tally)
     (wrote begun : List ℕ → Type 0)
     → Runs said end left left' shelf (HasFaulted reads reads')
     (HasFaulted fetches fetches') s new wrote begun

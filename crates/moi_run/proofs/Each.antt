@@ -2,17 +2,18 @@
 use Rattle.std.proofs.Common.{◌≡◌, ℕ, ◌+◌, ◌<◌, Bool, ◌||◌, List, [], ◌∷◌, ◌++◌, length, take, drop, get_or, refl, sym, ◌∙◌, ap, subst, inl, inr, Option, Err, append_assoc}
 use Rattle.std.specs.Prelude.{map}
 use Rattle.std.proofs.lemmas.List.{drop_more, map-append, map_more, take-append-drop}
-use Rattle.edit_engine.specs.Script.{Machine, Steps}
 use Rattle.io_face.specs.Sink.{Adds, AddsPrefix}
 use Rattle.io_face.specs.SinkLaws.{Adds-append}
 use Rattle.moi_run.specs.Answering.{BeginsAnswers, Hears, HearsBy, StopsAtFile, StopsAtWrite, WritesAnswers}
 use Rattle.moi_run.specs.Run.{EachOutcome}
 use Rattle.moi_run.specs.Status.{status_of}
+use Rattle.moi_run.specs.Tally.{IsStill, Moves, Tally}
 use Rattle.moi_run.specs.declared.status.Status.{Status}
 use Rattle.moi_run.specs.declared.status.Status.TheVariants.{Memory}
 use Rattle.moi_run.specs.declared.stop.Stop.{Stop}
 use Rattle.moi_run.specs.declared.stop.Stop.TheVariants as stop
 use Rattle.moi_run.proofs.Exits.{stays_at_fault, stays_at_limit}
+use Rattle.moi_run.proofs.Moving.{still}
 use Rattle.moi_run.proofs.Written.{answers_begun, part_more, whole_more}
 use Rattle.report_core.specs.declared.answer.Answer.{Answer}
 
@@ -26,7 +27,7 @@ lines_around f lines i d low =
     (get_or lines i d ∷ drop (i + 1) lines)
 
 pub each_more : {X : Type 0} (f : X → List ℕ) (lines : List X) (i : ℕ) (d : X) → i < length lines
-    → (start s new : Machine) (refused any was : Bool) (old mid written : Option (List ℕ))
+    → (start s new : Tally) (refused any was : Bool) (old mid written : Option (List ℕ))
     → any ≡ was
     → WritesAnswers start (map f (take i lines)) refused s (Adds old mid)
     → Hears s (f (get_or lines i d)) was new (Adds mid written)
@@ -41,8 +42,8 @@ each_more f lines i d low start s new refused any was old mid written same answe
 -- ---- all were answered
 
 pub each_begins : (refused : Bool) (answer : Status) (lines done more : List (List ℕ))
-    (start s new : Machine) (old written : Option (List ℕ)) → lines ≡ done ++ more
-    → WritesAnswers start done refused s (Adds old written) → ((answer ≡ Memory → ⊥) → new ≡ s)
+    (start s new : Tally) (old written : Option (List ℕ)) → lines ≡ done ++ more
+    → WritesAnswers start done refused s (Adds old written) → ((answer ≡ Memory → ⊥) → IsStill s new)
     → BeginsAnswers start lines answer new (AddsPrefix old written)
 each_begins refused answer lines done more start s new old written front answered stands = record {
   done = done;
@@ -56,13 +57,13 @@ each_begins refused answer lines done more start s new old written front answere
 
 -- ---- the answer to a line stopped the work
 
-pub stops_at : {stopped : Answer} {lines done : List (List ℕ)} {start s new : Machine}
+pub stops_at : {stopped : Answer} {lines done : List (List ℕ)} {start s new : Tally}
     {refused : Bool} (line : List ℕ) (more : List (List ℕ)) (old mid written : Option (List ℕ))
     → lines ≡ done ++ line ∷ more → WritesAnswers start done refused s (Adds old mid)
-    → Steps s line stopped new → written ≡ mid
+    → Moves s line stopped new → written ≡ mid
     → StopsAtFile start lines stopped new (Adds old written)
 stops_at {done} {start} {s} {refused} line more old mid written front
-    answered steps same = record {
+    answered moves same = record {
       done = done;
       line = line;
       more = more;
@@ -70,11 +71,11 @@ stops_at {done} {start} {s} {refused} line more old mid written front
       refused = refused;
       after = s;
       answered = subst (λ w. WritesAnswers start done refused s (Adds old w)) (sym same) answered;
-      steps = steps;
+      moves = moves;
     }
 
 -- the sink did in the midst of it
-pub cut_at : {lines done : List (List ℕ)} {start s new : Machine} {refused was : Bool}
+pub cut_at : {lines done : List (List ℕ)} {start s new : Tally} {refused was : Bool}
     (line : List ℕ) (more : List (List ℕ)) (old mid written : Option (List ℕ))
     → lines ≡ done ++ line ∷ more → WritesAnswers start done refused s (Adds old mid)
     → Hears s line was new (AddsPrefix mid written)
@@ -88,11 +89,12 @@ cut_at {done} {start} {s} {refused} {was} line more old mid written front answer
   after = s;
   text = answered.text;
   answers = answered.answers;
+  moves = answered.moves;
   was = was;
   hears = record {
     answer = hears.answer;
     text = hears.text;
-    steps = hears.steps;
+    moves = hears.moves;
     prints = hears.prints;
     written = (
       hears.written.0,
@@ -104,7 +106,7 @@ cut_at {done} {start} {s} {refused} {was} line more old mid written front answer
 }
 
 pub each_at_stop : (reason : Stop) (answer : Status) (lines done : List (List ℕ)) (line : List ℕ)
-    (more : List (List ℕ)) (start s new : Machine) (refused : Bool)
+    (more : List (List ℕ)) (start s new : Tally) (refused : Bool)
     (old mid written : Option (List ℕ))
     → answer ≡ status_of reason → lines ≡ done ++ line ∷ more
     → WritesAnswers start done refused s (Adds old mid)
@@ -123,10 +125,10 @@ each_at_stop reason answer lines done line more start s new refused old mid writ
 
 -- the lines before it, and a part of its answer
 pub begins_in : {answer : Status} {lines done : List (List ℕ)} {line : List ℕ}
-    {start s after new : Machine} {refused was : Bool} (more : List (List ℕ))
+    {start s after new : Tally} {refused was : Bool} (more : List (List ℕ))
     (old mid written : Option (List ℕ)) → lines ≡ done ++ line ∷ more
     → WritesAnswers start done refused s (Adds old mid)
-    → Hears s line was after (AddsPrefix mid written) → ((answer ≡ Memory → ⊥) → new ≡ after)
+    → Hears s line was after (AddsPrefix mid written) → ((answer ≡ Memory → ⊥) → IsStill after new)
     → BeginsAnswers start lines answer new (AddsPrefix old written)
 begins_in {done} {line} {after} {refused} {was} more old mid
     written front answered heard stands = record {
@@ -140,7 +142,7 @@ begins_in {done} {line} {after} {refused} {was} more old mid
     }
 
 pub each_begins_at_stop : (reason : Stop) (answer : Status) (lines done : List (List ℕ))
-    (line : List ℕ) (more : List (List ℕ)) (start s new : Machine) (refused : Bool)
+    (line : List ℕ) (more : List (List ℕ)) (start s new : Tally) (refused : Bool)
     (old mid written : Option (List ℕ))
     → answer ≡ status_of reason → lines ≡ done ++ line ∷ more
     → WritesAnswers start done refused s (Adds old mid)
@@ -149,7 +151,7 @@ pub each_begins_at_stop : (reason : Stop) (answer : Status) (lines done : List (
 each_begins_at_stop reason answer lines done line more start s new refused old mid written is front
     answered heard = by reason is heard
   where
-    before : written ≡ mid → ((answer ≡ Memory → ⊥) → new ≡ s)
+    before : written ≡ mid → ((answer ≡ Memory → ⊥) → IsStill s new)
         → BeginsAnswers start lines answer new (AddsPrefix old written)
     before same = each_begins refused answer lines done (line ∷ more) start s new old written front
         (subst (λ w. WritesAnswers start done refused s (Adds old w)) (sym same) answered)
@@ -158,7 +160,7 @@ each_begins_at_stop reason answer lines done line more start s new refused old m
         → BeginsAnswers start lines answer new (AddsPrefix old written)
     by stop.ReadFault is at = before at.1 (λ _. stays_at_fault s new line at.0)
     by stop.TooLong is at = before at.1 (λ _. stays_at_limit s new line at.0)
-    by stop.WriteFault is at = begins_in more old mid written front answered at.1 (λ _. refl)
+    by stop.WriteFault is at = begins_in more old mid written front answered at.1 (λ _. still new)
     by stop.Memory is (inl same) = before same (λ ne. absurd (ne is))
     by stop.Memory is (inr at) =
         begins_in more old mid written front answered at.2 (λ ne. absurd (ne is))

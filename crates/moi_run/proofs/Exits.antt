@@ -2,10 +2,10 @@
 use Rattle.std.proofs.Common.{◌≡◌, ℕ, ◌≤◌, Bool, true, false, List, refl, sym, ◌∙◌, ap, subst, inl, inr, Option, IfSome, Result, Ok, Err, arith}
 use Rattle.std.specs.Prelude.{if◌then◌else◌}
 use Rattle.std.specs.Str.Lines.{lines}
-use Rattle.edit_engine.specs.Held.{Held as Session, machine_of}
+use Rattle.edit_engine.specs.Held.{Held as Session}
 use Rattle.edit_engine.specs.Lines.{heard, says_quit}
 use Rattle.edit_engine.specs.LinesLaws.{stops_by}
-use Rattle.edit_engine.specs.Script.{Answered, Machine, Steps, with_state}
+use Rattle.edit_engine.specs.Script.{Answered, Machine, with_state}
 use Rattle.io_face.specs.Fault.{HasFaulted}
 use Rattle.io_face.specs.FaultLaws.{HasFaulted-within}
 use Rattle.io_face.specs.Shelf.{FilesByName}
@@ -15,6 +15,7 @@ use Rattle.moi_run.specs.Answering.{Hears, HearsBy, StopsAtFile, StopsAtWrite, W
 use Rattle.moi_run.specs.Input.{AnswersTaken, AnswersWithinLimits, Ends, PassesLimit}
 use Rattle.moi_run.specs.Run.{FetchFails, HasCause, Outcome}
 use Rattle.moi_run.specs.Status.{IsEnded, has_refused, status_of, stop_of_read}
+use Rattle.moi_run.specs.Tally.{IsStill, Moves, Tally, tally_of}
 use Rattle.moi_run.specs.declared.reply.Reply.{Reply}
 use Rattle.moi_run.specs.declared.reply.Reply.TheVariants as reply
 use Rattle.moi_run.specs.declared.status.Status.{Status}
@@ -27,6 +28,11 @@ use Rattle.report_core.specs.declared.answer.Answer.TheVariants.{ReadFault, TooL
 use Rattle.script_lines.specs.ReadingLaws.{told_always, told_weaker}
 use Rattle.script_lines.specs.declared.line_reader.ReadStop.{ReadStop}
 use Rattle.script_lines.specs.declared.line_reader.ReadStop.TheVariants as read
+
+-- ---- counts of faults
+
+pub at_least : (old new : ℕ) → new ≡ old → old ≤ new
+at_least old new same = omega (arith, same)
 
 -- ---- the shelf
 
@@ -44,34 +50,46 @@ fails_within told told' first old new same low fails = subst (λ t. FetchFails t
       missing = fails.missing;
     }
 
-pub heard_told : (result : Result Reply Stop) (told told' : Told) (s new : Session) (line : List ℕ)
-    (old written : Option (List ℕ)) → told' ≡ told
-    → HearsBy result (machine_of s told') line (machine_of new told') old written
-    → HearsBy result (machine_of s told) line (machine_of new told) old written
-heard_told result told told' s new line old written same heard =
-    subst (λ t. HearsBy result (machine_of s t) line (machine_of new t) old written) same heard
+pub heard_told : (result : Result Reply Stop) (told told' : Told) (s new : Session)
+    (asked asked' : Option (List (List ℕ))) (line : List ℕ) (old written : Option (List ℕ))
+    → told' ≡ told
+    → HearsBy result (tally_of s told' asked) line (tally_of new told' asked') old written
+    → HearsBy result (tally_of s told asked) line (tally_of new told asked') old written
+heard_told result told told' s new asked asked' line old written same heard =
+    subst (λ t. HearsBy result (tally_of s t asked) line (tally_of new t asked') old written) same
+    heard
 
 -- a line that was answered, by whether its reply is a refusal
-pub heard_whole : (given : Reply) (told told' : Told) (s new : Session) (line : List ℕ)
-    (old written : Option (List ℕ)) (was : Bool) → told' ≡ told → was ≡ is_refused given
-    → HearsBy (Ok given) (machine_of s told') line (machine_of new told') old written
-    → Hears (machine_of s told) line was (machine_of new told) (Adds old written)
+pub heard_whole : (given : Reply) (told told' : Told) (s new : Session)
+    (asked asked' : Option (List (List ℕ))) (line : List ℕ) (old written : Option (List ℕ))
+    (was : Bool) → told' ≡ told → was ≡ is_refused given
+    → HearsBy (Ok given) (tally_of s told' asked) line (tally_of new told' asked') old written
+    → Hears (tally_of s told asked) line was (tally_of new told asked') (Adds old written)
     × (is_quit given ≡ says_quit line)
-heard_whole given told told' s new line old written was same is heard =
-    let came = heard_told (Ok given) told told' s new line old written same heard in (
-      subst (λ b. Hears (machine_of s told) line b (machine_of new told) (Adds old written))
+heard_whole given told told' s new asked asked' line old written was same is heard =
+    let came = heard_told (Ok given) told told' s new asked asked' line old written same heard in (
+      subst
+          (λ b. Hears (tally_of s told asked) line b (tally_of new told asked') (Adds old written))
           (sym is) came.0,
       came.1,
     )
 
 -- the machine is as it was where the shelf stopped the work
-pub stays_at_fault : (s new : Machine) (line : List ℕ) → Steps s line ReadFault new → new ≡ s
-stays_at_fault s new line steps =
-    steps.1 ∙ ap (with_state s) (stops_by s new line ReadFault steps).kept
+pub stays_at_fault : (s new : Tally) (line : List ℕ) → Moves s line ReadFault new → IsStill s new
+stays_at_fault s new line moves =
+    let steps = moves.steps in record {
+      machine = steps.1
+          ∙ ap (with_state s.machine) (stops_by s.machine new.machine line ReadFault steps).kept;
+      calls = omega (arith, moves.rises, moves.few);
+    }
 
-pub stays_at_limit : (s new : Machine) (line : List ℕ) → Steps s line TooLong new → new ≡ s
-stays_at_limit s new line steps =
-    steps.1 ∙ ap (with_state s) (stops_by s new line TooLong steps).kept
+pub stays_at_limit : (s new : Tally) (line : List ℕ) → Moves s line TooLong new → IsStill s new
+stays_at_limit s new line moves =
+    let steps = moves.steps in record {
+      machine = steps.1
+          ∙ ap (with_state s.machine) (stops_by s.machine new.machine line TooLong steps).kept;
+      calls = omega (arith, moves.rises, moves.few);
+    }
 
 -- a line whose answer is a fault of the shelf
 pub line_fails : (result : Result Reply Stop) (s new : Machine) (line : List ℕ) (answer : Answer)
@@ -103,7 +121,7 @@ when_ended P Q none some SomeRefused ended h = some h
 when_ended P Q none some _ ended h = absurd ended
 
 pub outcome_at_end : (source shelf : Type 0) (refused : Bool) (answer : Status)
-    (all left : Option (List ℕ)) (start s : Machine) (wrote : List ℕ → Type 0)
+    (all left : Option (List ℕ)) (start s : Tally) (wrote : List ℕ → Type 0)
     → answer ≡ (if refused then SomeRefused else Done)
     → IfSome all (λ bytes. Ends bytes left refused start s wrote)
     → IfSome all (λ bytes. Outcome source shelf answer bytes left start s wrote)
@@ -133,7 +151,7 @@ at_read P read.TooLong answer is fault long memory = subst P (sym is) (long refl
 at_read P read.Memory answer is fault long memory = subst P (sym is) memory
 
 pub outcome_at_read : (source shelf : Type 0) (reason : ReadStop) (answer : Status)
-    (all left : Option (List ℕ)) (start s : Machine) (wrote : List ℕ → Type 0)
+    (all left : Option (List ℕ)) (start s : Tally) (wrote : List ℕ → Type 0)
     → answer ≡ status_of (stop_of_read reason)
     → (reason ≡ read.ReadFault → source)
     → (reason ≡ read.ReadFault → IfSome all (λ bytes. AnswersTaken bytes left start s wrote))
@@ -165,7 +183,7 @@ at_stop P stop.TooLong answer is fault write long memory = subst P (sym is) (lon
 at_stop P stop.Memory answer is fault write long memory = subst P (sym is) memory
 
 pub outcome_at_stop : (source shelf : Type 0) (reason : Stop) (answer : Status)
-    (all left : Option (List ℕ)) (start s : Machine) (wrote : List ℕ → Type 0)
+    (all left : Option (List ℕ)) (start s : Tally) (wrote : List ℕ → Type 0)
     → answer ≡ status_of reason
     → (reason ≡ stop.ReadFault → shelf)
     → (reason ≡ stop.ReadFault → IfSome all (λ bytes. StopsAtFile start (heard (lines bytes))
@@ -192,6 +210,17 @@ pub no_usage_at_stop : (reason : Stop) (answer : Status) → answer ≡ status_o
     → answer ≡ Usage → ⊥
 no_usage_at_stop stop.ReadFault answer is usage = cc
 no_usage_at_stop _ answer is usage = cc
+
+-- the work didn't end
+pub no_end_at_stop : (reason : Stop) (answer : Status) → answer ≡ status_of reason → IsEnded answer
+    → ⊥
+no_end_at_stop reason answer is ended = by reason (subst IsEnded is ended)
+  where
+    by : (why : Stop) → IsEnded (status_of why) → ⊥
+    by stop.ReadFault ended = ended
+    by stop.WriteFault ended = ended
+    by stop.TooLong ended = ended
+    by stop.Memory ended = ended
 
 -- which reason a status tells
 pub reason_by : (reason : Stop) (answer : Status) → answer ≡ status_of reason → (told : Stop)

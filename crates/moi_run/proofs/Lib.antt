@@ -1,3 +1,4 @@
+pub mod Moving
 pub mod Written
 pub mod Standing
 pub mod Answering

@@ -11,7 +11,9 @@ use Rattle.edit_engine.specs.Lines.{Answers, heard, is_load, next, none, says_lo
 use Rattle.edit_engine.specs.LinesLaws.{IsStopped, stops_by}
 use Rattle.cache_layer.specs.State.{with_table}
 use Rattle.edit_engine.specs.Script.{Machine, machine_by}
+use Rattle.file_verdict.specs.Verdict.{AsksFiles}
 use Rattle.io_face.specs.Fault.{HasFaulted}
+use Rattle.io_face.specs.Shelf.{AsksFor}
 use Rattle.io_face.specs.Sink.{Adds, AddsPrefix}
 use Rattle.io_face.specs.SinkLaws.{Adds-empty}
 use Rattle.io_face.specs.Told.{MayGive, Told}
@@ -23,11 +25,13 @@ use Rattle.moi_run.specs.Commands.{AsksInVain, IfCheck, LoadsFile, lines_for, so
 use Rattle.moi_run.specs.Input.{Ends}
 use Rattle.moi_run.specs.Run.{EachOutcome, FetchFails, HasCause, Outcome, Runs, RunsEach}
 use Rattle.moi_run.specs.Status.{IsEnded, has_refused}
+use Rattle.moi_run.specs.Tally.{IsStill, Tally, tally_of}
 use Rattle.moi_run.specs.declared.status.Status.{Status}
 use Rattle.moi_run.specs.declared.status.Status.TheVariants as status
 use Rattle.moi_run.proofs.Completing.{clash}
 use Rattle.moi_run.proofs.Each.{each_begins}
 use Rattle.moi_run.proofs.Exits.{when_ended}
+use Rattle.moi_run.proofs.Moving.{still}
 use Rattle.moi_run.proofs.PlanLine.{one_line, plan_loads_nothing}
 use Rattle.moi_run.proofs.Standing.{any_behind}
 use Rattle.moi_run.proofs.Written.{answers_nothing, begun_whole}
@@ -54,10 +58,10 @@ abbrev Unfetched : List (List ℕ) → Told → FetchFault → Type 0
 Unfetched ls shelf reason =
     (name : List ℕ) × Any (LoadsFile name) ls × MayGive shelf name (Err reason)
 
-unfetched : (s new : Machine) (ls : List (List ℕ)) (wrote : List ℕ → Type 0) (shelf : Told)
-    (stopped : Answer) (reason : FetchFault) → s.shelf ≡ shelf
+unfetched : (s new : Tally) (ls : List (List ℕ)) (wrote : List ℕ → Type 0) (shelf : Told)
+    (stopped : Answer) (reason : FetchFault) → s.machine.shelf ≡ shelf
     → (stops : StopsAtFile s ls stopped new wrote)
-    → IsStopped stops.after (line_said stops.line) reason new.state → Unfetched ls shelf reason
+    → IsStopped stops.after.machine (line_said stops.line) reason new.machine.state → Unfetched ls shelf reason
 unfetched s new ls wrote shelf stopped reason same stops told = (
   told.name,
   subst (Any (LoadsFile told.name)) (sym stops.front)
@@ -66,23 +70,23 @@ unfetched s new ls wrote shelf stopped reason same stops told = (
       told.gave,
 )
 
-unfetched_at_fault : (s new : Machine) (ls : List (List ℕ)) (wrote : List ℕ → Type 0)
-    (shelf : Told) → s.shelf ≡ shelf → StopsAtFile s ls ReadFault new wrote
+unfetched_at_fault : (s new : Tally) (ls : List (List ℕ)) (wrote : List ℕ → Type 0)
+    (shelf : Told) → s.machine.shelf ≡ shelf → StopsAtFile s ls ReadFault new wrote
     → Unfetched ls shelf fetch.Failed
 unfetched_at_fault s new ls wrote shelf same stops =
     unfetched s new ls wrote shelf ReadFault fetch.Failed same stops
-    (stops_by stops.after new stops.line ReadFault stops.steps)
+    (stops_by stops.after.machine new.machine stops.line ReadFault stops.moves.steps)
 
-unfetched_at_limit : (s new : Machine) (ls : List (List ℕ)) (wrote : List ℕ → Type 0)
-    (shelf : Told) → s.shelf ≡ shelf → StopsAtFile s ls TooLong new wrote
+unfetched_at_limit : (s new : Tally) (ls : List (List ℕ)) (wrote : List ℕ → Type 0)
+    (shelf : Told) → s.machine.shelf ≡ shelf → StopsAtFile s ls TooLong new wrote
     → Unfetched ls shelf fetch.TooLong
 unfetched_at_limit s new ls wrote shelf same stops =
     unfetched s new ls wrote shelf TooLong fetch.TooLong same stops
-    (stops_by stops.after new stops.line TooLong stops.steps)
+    (stops_by stops.after.machine new.machine stops.line TooLong stops.moves.steps)
 
 -- ---- what the outcome says, by the status
 
-ends_by : (source shelf : Type 0) (end : Status) (left left' : Option (List ℕ)) (s new : Machine)
+ends_by : (source shelf : Type 0) (end : Status) (left left' : Option (List ℕ)) (s new : Tally)
     (wrote : List ℕ → Type 0) → IsEnded end
     → IfSome left (λ bytes. Outcome source shelf end bytes left' s new wrote)
     → IfSome left (λ bytes. Ends bytes left' (has_refused end) s new wrote)
@@ -90,7 +94,7 @@ ends_by source shelf end left left' s new wrote =
     when_ended (λ e. IfSome left (λ bytes. Outcome source shelf e bytes left' s new wrote))
     (λ b. IfSome left (λ bytes. Ends bytes left' b s new wrote)) (λ o. o) (λ o. o) end
 
-each_ends_by : (end : Status) (ls : List (List ℕ)) (s new : Machine) (wrote : List ℕ → Type 0)
+each_ends_by : (end : Status) (ls : List (List ℕ)) (s new : Tally) (wrote : List ℕ → Type 0)
     → IsEnded end → EachOutcome end ls s new wrote → WritesAnswers s ls (has_refused end) new wrote
 each_ends_by end ls s new wrote =
     when_ended (λ e. EachOutcome e ls s new wrote) (λ b. WritesAnswers s ls b new wrote)
@@ -106,7 +110,7 @@ told_lines Q (Some bytes) told = told
 -- ---- `run`
 
 script_fault : (setup : Setup) (left left' : Option (List ℕ)) (shelf : Told) (faults faults' : ℕ)
-    (source : Type 0) (s new : Machine) (wrote : List ℕ → Type 0) → s.shelf ≡ shelf
+    (source : Type 0) (s new : Tally) (wrote : List ℕ → Type 0) → s.machine.shelf ≡ shelf
     → IfSome left (λ bytes. Outcome source (FetchFails shelf faults faults') status.ReadFault bytes
     left' s new wrote)
     → source ⊎ FetchFails shelf faults faults'
@@ -124,9 +128,9 @@ script_fault setup (Some bytes) left' shelf faults faults' source s new wrote sa
     inr (stops.0.counted, λ sure. (file.0, file.1, file.2 sure))
 
 pub runs_script : (setup : Setup) (end : Status) (left left' : Option (List ℕ)) (shelf : Told)
-    (faults faults' : ℕ) (source sink : Type 0) (s middle new : Machine)
+    (faults faults' : ℕ) (source sink : Type 0) (s middle new : Tally)
     (wrote begun : List ℕ → Type 0)
-    → middle ≡ start_by (Some setup) s → s.shelf ≡ shelf → new.pivots ≡ middle.pivots
+    → middle ≡ start_by (Some setup) s → s.machine.shelf ≡ shelf → new.machine.pivots ≡ middle.machine.pivots
     → IfSome left (λ bytes. Outcome source (FetchFails shelf faults faults') end bytes left'
     middle new wrote)
     → IfSome left (λ bytes. BeginsAnswers middle (heard (lines bytes)) end new begun)
@@ -135,7 +139,7 @@ pub runs_script : (setup : Setup) (end : Status) (left left' : Option (List ℕ)
     new wrote begun
 runs_script setup end left left' shelf faults faults' source sink s middle new wrote begun is same
     pivots outcome begins cause =
-    let start : Machine = start_by (Some setup) s in
+    let start : Tally = start_by (Some setup) s in
     let fetch : Type 0 = FetchFails shelf faults faults' in
     let came : Status → List ℕ → Type 0 =
     λ how bytes. Outcome source fetch how bytes left' start new wrote in
@@ -151,12 +155,13 @@ runs_script setup end left left' shelf faults faults' source sink s middle new w
       text = λ ended. told_lines _ left (told_weaker Ended _ left (λ bytes e. e.answered)
           (ends ended));
       verdict = λ ended. tt;
-      pivots = λ ended. pivots ∙ ap (λ (m : Machine). m.pivots) is;
+      pivots = λ ended. pivots ∙ ap (λ (m : Tally). m.machine.pivots) is;
       to_the_end = λ ended. told_weaker Ended _ left (λ bytes e. e.to_the_end) (ends ended);
       within_limits = λ ended. told_weaker Ended _ left (λ bytes e. e.within_limits) (ends ended);
       prefix = told_lines _ left
           (subst (λ m. IfSome left (λ bytes. BeginsAnswers m (heard (lines bytes)) end new begun))
           is begins);
+      asks = λ _. tt;
       verdict_prefix = tt;
       read_fault = λ e. script_fault setup left left' shelf faults faults' source start new wrote
           same (at status.ReadFault e) (subst (HasCause source fetch sink) e cause);
@@ -173,28 +178,32 @@ runs_script setup end left left' shelf faults faults' source sink s middle new w
     }
 
 -- the session was told the options
-pub set_up_is : (setup : Setup) (old new : Held) (shelf : Told)
+pub set_up_is : (setup : Setup) (old new : Held) (shelf : Told) (asked : Option (List (List ℕ)))
     → state_of new ≡ with_table (state_of old) (target_table setup.target)
     → new.pivots ≡ setup.pivots
-    → machine_of new shelf ≡ start_by (Some setup) (machine_of old shelf)
-set_up_is setup old new shelf state pivots =
+    → new.cache.lazy.solver.leaves.calls ≡ old.cache.lazy.solver.leaves.calls
+    → tally_of new shelf asked ≡ start_by (Some setup) (tally_of old shelf asked)
+set_up_is setup old new shelf asked state pivots calls =
+    let machine : machine_of new shelf
+    ≡ machine_by (with_table (state_of old) (target_table setup.target)) setup.pivots shelf =
     ap (λ s. machine_by s new.pivots shelf) state
-    ∙ ap (λ n. machine_by (with_table (state_of old) (target_table setup.target)) n shelf) pivots
+    ∙ ap (λ n. machine_by (with_table (state_of old) (target_table setup.target)) n shelf) pivots in
+    λ i. record { machine = machine i; calls = calls i; asked = asked }
 
 -- ---- given lines
 
-pub runs_each : (ls : List (List ℕ)) (setup : Setup) (end : Status) (s middle new : Machine)
-    (wrote begun : List ℕ → Type 0) → middle ≡ start_by (Some setup) s → new.pivots ≡ middle.pivots
+pub runs_each : (ls : List (List ℕ)) (setup : Setup) (end : Status) (s middle new : Tally)
+    (wrote begun : List ℕ → Type 0) → middle ≡ start_by (Some setup) s → new.machine.pivots ≡ middle.machine.pivots
     → EachOutcome end ls middle new wrote → BeginsAnswers middle ls end new begun
     → RunsEach ls setup end s new wrote begun
 runs_each ls setup end s middle new wrote begun is pivots outcome begins = record {
   outcome = subst (λ m. EachOutcome end ls m new wrote) is outcome;
   prefix = subst (λ m. BeginsAnswers m ls end new begun) is begins;
-  pivots = λ ended. pivots ∙ ap (λ (m : Machine). m.pivots) is;
+  pivots = λ ended. pivots ∙ ap (λ (m : Tally). m.machine.pivots) is;
 }
 
 pub runs_plan : (setup : Setup) (end : Status) (left left' : Option (List ℕ)) (shelf : Told)
-    (source fetch : Type 0) (s new : Machine) (wrote begun : List ℕ → Type 0)
+    (source fetch : Type 0) (s new : Tally) (wrote begun : List ℕ → Type 0)
     → RunsEach (codes "plan" ∷ []) setup end s new wrote begun → (end ≢ status.ReadFault)
     → (end ≢ status.TooLong)
     → Runs (Some (Plan setup)) end left left' shelf source fetch s new wrote begun
@@ -207,6 +216,7 @@ runs_plan setup end left left' shelf source fetch s new wrote begun runs no_faul
       to_the_end = λ ended. tt;
       within_limits = λ ended. tt;
       prefix = runs.prefix;
+      asks = λ _. tt;
       verdict_prefix = tt;
       read_fault = λ e. absurd (no_fault e);
       at_read_fault = λ e. absurd (no_fault e);
@@ -217,15 +227,15 @@ runs_plan setup end left left' shelf source fetch s new wrote begun runs no_faul
     }
 
 pub runs_solve : (setup : Setup) (model : List ℕ) (end : Status) (left left' : Option (List ℕ))
-    (shelf : Told) (faults faults' : ℕ) (source : Type 0) (s new : Machine)
-    (wrote begun : List ℕ → Type 0) → s.shelf ≡ shelf
+    (shelf : Told) (faults faults' : ℕ) (source : Type 0) (s new : Tally)
+    (wrote begun : List ℕ → Type 0) → s.machine.shelf ≡ shelf
     → RunsEach (solve_lines model) setup end s new wrote begun
     → (end ≡ status.ReadFault → FetchFails shelf faults faults')
     → Runs (Some (Solve setup model)) end left left' shelf source (HasFaulted faults faults') s
     new wrote begun
 runs_solve setup model end left left' shelf faults faults' source s new wrote begun
     same runs fails =
-    let start : Machine = start_by (Some setup) s in
+    let start : Tally = start_by (Some setup) s in
     let at : (how : Status) → end ≡ how → EachOutcome how (solve_lines model) start new wrote =
     λ (how : Status) (e : end ≡ how). subst (λ t. EachOutcome t (solve_lines model) start new wrote)
     e runs.outcome in
@@ -236,6 +246,7 @@ runs_solve setup model end left left' shelf faults faults' source s new wrote be
       to_the_end = λ ended. tt;
       within_limits = λ ended. tt;
       prefix = runs.prefix;
+      asks = λ _. tt;
       verdict_prefix = tt;
       read_fault = λ e. (
         (fails e).counted,
@@ -251,11 +262,11 @@ runs_solve setup model end left left' shelf faults faults' source s new wrote be
 
 -- ---- nothing was done
 
-pub each_without_memory : (ls : List (List ℕ)) (setup : Setup) (s new : Machine)
+pub each_without_memory : (ls : List (List ℕ)) (setup : Setup) (s new : Tally)
     (old : Option (List ℕ)) → RunsEach ls setup status.Memory s new (Adds old old)
     (AddsPrefix old old)
 each_without_memory ls setup s new old =
-    let start : Machine = start_by (Some setup) s in
+    let start : Tally = start_by (Some setup) s in
     record {
       outcome = tt;
       prefix = each_begins false status.Memory ls [] ls start start new old old refl
@@ -278,13 +289,15 @@ always_check (Some (Check model certificate)) Q h = h model certificate
 
 -- memory ran out before the first line, or the words are of no command
 runs_nothing : (said : Option Command) (end : Status) (left left' : Option (List ℕ)) (shelf : Told)
-    (source fetch : Type 0) (s new : Machine) (old : Option (List ℕ)) → (IsEnded end → ⊥)
+    (source fetch : Type 0) (s new : Tally) (old : Option (List ℕ)) → (IsEnded end → ⊥)
     → (end ≢ status.ReadFault) → (end ≢ status.WriteFault) → (end ≢ status.TooLong)
-    → (end ≢ status.Memory → new ≡ start_for said s)
+    → (end ≢ status.Memory → IsStill (start_for said s) new)
+    → (end ≢ status.Memory → IfCheck said
+    (λ model certificate. AsksFiles shelf model certificate (AsksFor s.asked new.asked)))
     → Runs said end left left' shelf source fetch s new (Adds old old) (AddsPrefix old old)
 runs_nothing said end left left' shelf source fetch s new old no_end no_fault no_write no_limit
-    stands =
-    let start : Machine = start_for said s in
+    stands asks =
+    let start : Tally = start_for said s in
     record {
       text = λ ended. absurd (no_end ended);
       verdict = λ ended. absurd (no_end ended);
@@ -293,6 +306,7 @@ runs_nothing said end left left' shelf source fetch s new old no_end no_fault no
       within_limits = λ ended. absurd (no_end ended);
       prefix = always_lines _ (lines_for said left) (λ ls. each_begins false end ls [] ls start
           start new old old refl (answers_nothing start old) stands);
+      asks = asks;
       verdict_prefix = always_check said _
           (λ model certificate. inl (begun_whole old old [] (Adds-empty old)));
       read_fault = λ e. absurd (no_fault e);
@@ -303,41 +317,41 @@ runs_nothing said end left left' shelf source fetch s new old no_end no_fault no
     }
 
 pub runs_without_memory : (said : Option Command) (left left' : Option (List ℕ)) (shelf : Told)
-    (source fetch : Type 0) (s new : Machine) (old : Option (List ℕ))
+    (source fetch : Type 0) (s new : Tally) (old : Option (List ℕ))
     → Runs said status.Memory left left' shelf source fetch s new (Adds old old)
     (AddsPrefix old old)
 runs_without_memory said left left' shelf source fetch s new old =
     runs_nothing said status.Memory left left' shelf source fetch s new old (λ ended. ended)
-    (λ e. cc) (λ e. cc) (λ e. cc) (λ ne. absurd (ne refl))
+    (λ e. cc) (λ e. cc) (λ e. cc) (λ ne. absurd (ne refl)) (λ ne. absurd (ne refl))
 
-pub runs_of_none : (left : Option (List ℕ)) (shelf : Told) (source fetch : Type 0) (s : Machine)
+pub runs_of_none : (left : Option (List ℕ)) (shelf : Told) (source fetch : Type 0) (s : Tally)
     (old : Option (List ℕ)) → Runs None status.Usage left left shelf source fetch s s (Adds old old)
     (AddsPrefix old old)
 runs_of_none left shelf source fetch s old =
     runs_nothing None status.Usage left left shelf source fetch s s old (λ ended. ended)
-    (λ e. cc) (λ e. cc) (λ e. cc) (λ _. refl)
+    (λ e. cc) (λ e. cc) (λ e. cc) (λ _. still s) (λ _. tt)
 
 -- ---- lines that ask for no file
 
-no_fetch : (ls : List (List ℕ)) (end : Status) (s new : Machine) (wrote : List ℕ → Type 0)
+no_fetch : (ls : List (List ℕ)) (end : Status) (s new : Tally) (wrote : List ℕ → Type 0)
     → All (λ line. says_load line ≡ false) ls → EachOutcome end ls s new wrote
     → (end ≢ status.ReadFault) × (end ≢ status.TooLong)
 no_fetch ls end s new wrote quiet outcome = (
   λ e. unasked fetch.Failed
-      (unfetched_at_fault s new ls wrote s.shelf refl (at status.ReadFault e)),
+      (unfetched_at_fault s new ls wrote s.machine.shelf refl (at status.ReadFault e)),
   λ e. unasked fetch.TooLong
-      (unfetched_at_limit s new ls wrote s.shelf refl (at status.TooLong e)),
+      (unfetched_at_limit s new ls wrote s.machine.shelf refl (at status.TooLong e)),
 )
   where
     at : (how : Status) → end ≡ how → EachOutcome how ls s new wrote
     at how e = subst (λ t. EachOutcome t ls s new wrote) e outcome
 
-    unasked : (reason : FetchFault) → Unfetched ls s.shelf reason → ⊥
+    unasked : (reason : FetchFault) → Unfetched ls s.machine.shelf reason → ⊥
     unasked reason file =
         clash (LoadsFile file.0) (λ line. says_load line ≡ false) ls quiet file.1
         (λ line no loads. true≢false (sym (loads_file file.0 line loads) ∙ no))
 
-pub plan_fetches_nothing : (end : Status) (s new : Machine) (wrote : List ℕ → Type 0)
+pub plan_fetches_nothing : (end : Status) (s new : Tally) (wrote : List ℕ → Type 0)
     → EachOutcome end (codes "plan" ∷ []) s new wrote → (end ≢ status.ReadFault)
     × (end ≢ status.TooLong)
 plan_fetches_nothing end s new wrote =
@@ -348,7 +362,7 @@ plan_fetches_nothing end s new wrote =
 
 -- what holds of a command holds of the one that the words say
 pub said_runs : {said other : Option Command} {end : Status} {left left' : Option (List ℕ)}
-    {shelf : Told} {source fetch : Type 0} {s new : Machine} {wrote begun : List ℕ → Type 0}
+    {shelf : Told} {source fetch : Type 0} {s new : Tally} {wrote begun : List ℕ → Type 0}
     → other ≡ said → Runs other end left left' shelf source fetch s new wrote begun
     → Runs said end left left' shelf source fetch s new wrote begun
 said_runs {said} {other} {end} {left} {left'} {shelf} {source} {fetch} {s} {new} {wrote} {begun} is
@@ -370,7 +384,7 @@ usage_at_memory None some = absurd (true≢false (sym some))
 usage_at_memory (Some command) some = (λ e. cc, λ none. cc)
 
 pub command_runs : {given command : Command} {end : Status} {left left' : Option (List ℕ)}
-    {shelf : Told} {source fetch : Type 0} {s new : Machine} {wrote begun : List ℕ → Type 0}
+    {shelf : Told} {source fetch : Type 0} {s new : Tally} {wrote begun : List ℕ → Type 0}
     → given ≡ command → Runs (Some given) end left left' shelf source fetch s new wrote begun
     → Runs (Some command) end left left' shelf source fetch s new wrote begun
 command_runs is runs = said_runs (ap Some is) runs

@@ -5,12 +5,12 @@ use Rattle.std.specs.Str.Lines.{lines}
 use Rattle.std.proofs.lemmas.List.Folds.{list_any-append}
 use Rattle.edit_engine.specs.Lines.{heard, says_quit}
 use Rattle.edit_engine.specs.LinesLaws.{heard-append}
-use Rattle.edit_engine.specs.Script.{Machine, Steps}
 use Rattle.io_face.specs.Sink.{Adds, AddsPrefix}
 use Rattle.io_face.specs.SourceLaws.{Takes-all}
 use Rattle.moi_run.specs.Answering.{BeginsAnswers, Hears, HearsBy, StopsAtFile, StopsAtWrite}
 use Rattle.moi_run.specs.Input.{Ends}
 use Rattle.moi_run.specs.Status.{status_of}
+use Rattle.moi_run.specs.Tally.{IsStill, Moves, Tally}
 use Rattle.moi_run.specs.declared.status.Status.{Status}
 use Rattle.moi_run.specs.declared.status.Status.TheVariants.{Memory}
 use Rattle.moi_run.specs.declared.stop.Stop.{Stop}
@@ -27,10 +27,10 @@ use Rattle.script_lines.specs.declared.line_reader.ReadStop.{ReadStop}
 
 -- ---- between two lines
 
-pub begins_so_far : (all : Option (List ℕ)) (start : Machine) (reader : Held)
-    (left : Option (List ℕ)) (s new : Machine) (refused : Bool) (old written : Option (List ℕ))
+pub begins_so_far : (all : Option (List ℕ)) (start : Tally) (reader : Held)
+    (left : Option (List ℕ)) (s new : Tally) (refused : Bool) (old written : Option (List ℕ))
     (end : Status)
-    → Standing all start reader left s refused old written → (end ≢ Memory → new ≡ s)
+    → Standing all start reader left s refused old written → (end ≢ Memory → IsStill s new)
     → IfSome all (λ bytes. BeginsAnswers start (heard (lines bytes)) end new
     (AddsPrefix old written))
 begins_so_far all start reader left s new refused old written end standing stands =
@@ -77,8 +77,8 @@ reached done line more bytes no_quit is = (
   ap heard is ∙ heard-append done (line ∷ more) no_quit,
 )
 
-reached_in_turn : (next : Next) (all : Option (List ℕ)) (start : Machine) (reader reader' : Held)
-    (left left' : Option (List ℕ)) (s : Machine) (refused : Bool) (old mid : Option (List ℕ))
+reached_in_turn : (next : Next) (all : Option (List ℕ)) (start : Tally) (reader reader' : Held)
+    (left left' : Option (List ℕ)) (s : Tally) (refused : Bool) (old mid : Option (List ℕ))
     (line seen : List ℕ) → Gives next reader left reader' left' line seen
     → (standing : Standing all start reader left s refused old mid)
     → IfSome all (Reached standing.done seen)
@@ -107,12 +107,12 @@ reached_in_turn came.LastLine all start reader reader' left left' s refused old 
     ∙ ap (λ ls. done ++ ls) (lines-unended seen now.unended now.some)))
 
 -- within the answer to the line, or after it
-pub begins_in_turn : (next : Next) (all : Option (List ℕ)) (start : Machine) (reader reader' : Held)
-    (left left' : Option (List ℕ)) (s after new : Machine) (refused was : Bool)
+pub begins_in_turn : (next : Next) (all : Option (List ℕ)) (start : Tally) (reader reader' : Held)
+    (left left' : Option (List ℕ)) (s after new : Tally) (refused was : Bool)
     (old mid written : Option (List ℕ)) (line seen : List ℕ) (end : Status)
     → Gives next reader left reader' left' line seen
     → Standing all start reader left s refused old mid
-    → Hears s seen was after (AddsPrefix mid written) → (end ≢ Memory → new ≡ after)
+    → Hears s seen was after (AddsPrefix mid written) → (end ≢ Memory → IsStill after new)
     → IfSome all (λ bytes. BeginsAnswers start (heard (lines bytes)) end new
     (AddsPrefix old written))
 unfolding Reached
@@ -125,7 +125,7 @@ begins_in_turn next all start reader reader' left left' s after new refused was 
 
 -- where its answer stopped the work
 pub begins_at_stop : (reason : Stop) (answer : Status) (next : Next) (all : Option (List ℕ))
-    (start : Machine) (reader reader' : Held) (left left' : Option (List ℕ)) (s s' : Machine)
+    (start : Tally) (reader reader' : Held) (left left' : Option (List ℕ)) (s s' : Tally)
     (refused : Bool) (old mid written : Option (List ℕ)) (line seen : List ℕ) → answer ≡ status_of
     reason → HearsBy (Err reason) s seen s' mid written
     → Gives next reader left reader' left' line seen
@@ -141,11 +141,11 @@ begins_at_stop reason answer next all start reader reader' left left' s s' refus
     standing)
 
 -- where it asks for a file and the shelf stopped the work
-pub stops_in_turn : (next : Next) (all : Option (List ℕ)) (start : Machine) (reader reader' : Held)
-    (left left' : Option (List ℕ)) (s new : Machine) (refused : Bool)
+pub stops_in_turn : (next : Next) (all : Option (List ℕ)) (start : Tally) (reader reader' : Held)
+    (left left' : Option (List ℕ)) (s new : Tally) (refused : Bool)
     (old mid written : Option (List ℕ)) (line seen : List ℕ) (stopped : Answer)
     → Gives next reader left reader' left' line seen
-    → Standing all start reader left s refused old mid → Steps s seen stopped new
+    → Standing all start reader left s refused old mid → Moves s seen stopped new
     → written ≡ mid
     → IfSome all (λ bytes. StopsAtFile start (heard (lines bytes)) stopped new (Adds old written))
 unfolding Reached
@@ -157,8 +157,8 @@ stops_in_turn next all start reader reader' left left' s new refused old mid wri
     standing)
 
 -- where the sink stopped the work in the midst of its answer
-pub cut_in_turn : (next : Next) (all : Option (List ℕ)) (start : Machine) (reader reader' : Held)
-    (left left' : Option (List ℕ)) (s new : Machine) (refused was : Bool)
+pub cut_in_turn : (next : Next) (all : Option (List ℕ)) (start : Tally) (reader reader' : Held)
+    (left left' : Option (List ℕ)) (s new : Tally) (refused was : Bool)
     (old mid written : Option (List ℕ)) (line seen : List ℕ)
     → Gives next reader left reader' left' line seen
     → Standing all start reader left s refused old mid
@@ -173,8 +173,8 @@ cut_in_turn next all start reader reader' left left' s new refused was old mid w
     standing)
 
 -- where it ends the work
-pub ends_in_turn : (next : Next) (all : Option (List ℕ)) (start : Machine) (reader reader' : Held)
-    (left left' : Option (List ℕ)) (s s' : Machine) (refused was : Bool)
+pub ends_in_turn : (next : Next) (all : Option (List ℕ)) (start : Tally) (reader reader' : Held)
+    (left left' : Option (List ℕ)) (s s' : Tally) (refused was : Bool)
     (old mid new : Option (List ℕ)) (line seen : List ℕ)
     → Gives next reader left reader' left' line seen
     → Standing all start reader left s refused old mid → says_quit seen ≡ true
@@ -192,8 +192,8 @@ ends_in_turn came.LastLine all start reader reader' left left' s s' refused was 
     (gives.last refl) gives.same standing hears
 
 -- where the work goes on
-pub standing_after_turn : (next : Next) (all : Option (List ℕ)) (start : Machine)
-    (reader reader' : Held) (left left' : Option (List ℕ)) (s s' : Machine) (refused was : Bool)
+pub standing_after_turn : (next : Next) (all : Option (List ℕ)) (start : Tally)
+    (reader reader' : Held) (left left' : Option (List ℕ)) (s s' : Tally) (refused was : Bool)
     (old mid new : Option (List ℕ)) (line seen : List ℕ)
     → Gives next reader left reader' left' line seen
     → (next ≡ came.LastLine → ⊥) → Standing all start reader left s refused old mid

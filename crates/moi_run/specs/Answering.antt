@@ -7,8 +7,8 @@
 use Rattle.std.specs.Prelude.{◌≡◌, ◌≢◌, ◌≤◌, ℕ, ◌⊎◌, Bool, true, false, List, ◌∷◌, ◌++◌, length, take, Option, Result, Ok, Err}
 use Rattle.edit_engine.specs.Lines.{Answers, Prints, says_quit}
 use Rattle.edit_engine.specs.LinesLaws.{answers_quit}
-use Rattle.edit_engine.specs.Script.{Machine, Steps}
 use Rattle.io_face.specs.Sink.{Adds, AddsPrefix}
+use Rattle.moi_run.specs.Tally.{IsStill, Moves, MovesThrough, Tally}
 use Rattle.moi_run.specs.declared.reply.Reply.{Reply}
 use Rattle.moi_run.specs.declared.reply.Reply.TheVariants as reply
 use Rattle.moi_run.specs.declared.status.Status.{Status}
@@ -21,61 +21,63 @@ use Rattle.report_core.specs.declared.answer.Answer.TheVariants.{ReadFault, TooL
 -- ---- lines
 
 -- from a machine the lines were answered, one of them was refused or not, and this machine is left;
--- and their text was written
-pub record WritesAnswers (s : Machine) (lines : List (List ℕ)) (refused : Bool) (new : Machine)
+-- and their text was written. They took few calls, and asked for their files
+pub record WritesAnswers (s : Tally) (lines : List (List ℕ)) (refused : Bool) (new : Tally)
     (wrote : List ℕ → Type 0) : Type 0 where
   pub text : List ℕ
-  pub answers : Answers s lines text refused new
+  pub answers : Answers s.machine lines text refused new.machine
   pub written : wrote text
+  pub moves : MovesThrough s lines text new
 
 -- some of the first lines were answered, and what was written begins their text. They left the
 -- session's machine, unless memory ran out
-pub record BeginsAnswers (s : Machine) (lines : List (List ℕ)) (end : Status) (new : Machine)
+pub record BeginsAnswers (s : Tally) (lines : List (List ℕ)) (end : Status) (new : Tally)
     (wrote : List ℕ → Type 0) : Type 0 where
   pub done : List (List ℕ)
   pub more : List (List ℕ)
   pub front : lines ≡ done ++ more
   pub refused : Bool
-  pub after : Machine
+  pub after : Tally
   pub answered : WritesAnswers s done refused after wrote
-  pub stands : end ≢ status.Memory → new ≡ after
+  pub stands : end ≢ status.Memory → IsStill after new
 
 -- the lines before one were answered, and at that one, which asks for a file, the shelf stopped the
 -- work: its answer is this
-pub record StopsAtFile (s : Machine) (lines : List (List ℕ)) (stopped : Answer) (new : Machine)
+pub record StopsAtFile (s : Tally) (lines : List (List ℕ)) (stopped : Answer) (new : Tally)
     (wrote : List ℕ → Type 0) : Type 0 where
   pub done : List (List ℕ)
   pub line : List ℕ
   pub more : List (List ℕ)
   pub front : lines ≡ done ++ line ∷ more
   pub refused : Bool
-  pub after : Machine
+  pub after : Tally
   pub answered : WritesAnswers s done refused after wrote
-  pub steps : Steps after line stopped new
+  pub moves : Moves after line stopped new
 
 -- ---- one line
 
 -- a line was answered, it was refused or not, and a machine is left; and what is said of its text
-pub record Hears (s : Machine) (line : List ℕ) (refused : Bool) (new : Machine)
+pub record Hears (s : Tally) (line : List ℕ) (refused : Bool) (new : Tally)
     (wrote : List ℕ → Type 0) : Type 0 where
   pub answer : Answer
   pub text : List ℕ
-  pub steps : Steps s line answer new
+  pub moves : Moves s line answer new
   pub prints : Prints answer text refused
   pub written : wrote text
 
 -- the lines before one were answered, and their text was written; of the answer to that one a part
 -- was, and no line behind it changed anything
-pub record StopsAtWrite (s : Machine) (lines : List (List ℕ)) (new : Machine)
+pub record StopsAtWrite (s : Tally) (lines : List (List ℕ)) (new : Tally)
     (wrote : List ℕ → Type 0) : Type 0 where
   pub done : List (List ℕ)
   pub line : List ℕ
   pub more : List (List ℕ)
   pub front : lines ≡ done ++ line ∷ more
   pub refused : Bool
-  pub after : Machine
+  pub after : Tally
   pub text : List ℕ
-  pub answers : Answers s done text refused after
+  pub answers : Answers s.machine done text refused after.machine
+  pub moves : MovesThrough s done text after
   pub was : Bool
   pub hears : Hears after line was new
       (λ answer. (k : ℕ) × (k ≤ length answer) × wrote (text ++ take k answer))
@@ -91,17 +93,17 @@ is_quit reply.Accepted = false
 is_quit reply.Refused = false
 
 -- what became of a line, by how its answer came out
-abbrev pub HearsBy : Result Reply Stop → Machine → List ℕ → Machine → Option (List ℕ)
+abbrev pub HearsBy : Result Reply Stop → Tally → List ℕ → Tally → Option (List ℕ)
     → Option (List ℕ) → Type 0
 HearsBy (Ok reply) s line new old written =
     Hears s line (is_refused reply) new (Adds old written) × (is_quit reply ≡ says_quit line)
 HearsBy (Err stop.WriteFault) s line new old written =
     (refused : Bool) × Hears s line refused new (AddsPrefix old written)
 HearsBy (Err stop.ReadFault) s line new old written =
-    Steps s line ReadFault new × (written ≡ old)
-HearsBy (Err stop.TooLong) s line new old written = Steps s line TooLong new × (written ≡ old)
+    Moves s line ReadFault new × (written ≡ old)
+HearsBy (Err stop.TooLong) s line new old written = Moves s line TooLong new × (written ≡ old)
 HearsBy (Err stop.Memory) s line new old written = (written ≡ old)
-    ⊎ ((refused : Bool) × (after : Machine) × Hears s line refused after (AddsPrefix old written))
+    ⊎ ((refused : Bool) × (after : Tally) × Hears s line refused after (AddsPrefix old written))
 
 -- ---- one answer
 

@@ -13,13 +13,13 @@ use Rattle.command_words.specs.Texts.{texts}
 use Rattle.command_words.specs.Words.{command_of}
 use Rattle.edit_engine.specs.Held.{set_up}
 use Rattle.edit_engine.specs.Lines.{heard}
-use Rattle.edit_engine.specs.Script.{Machine}
 use Rattle.file_verdict.specs.Verdict.{MakesModel}
 use Rattle.io_face.specs.Shelf.{Gives}
 use Rattle.io_face.specs.Told.{Told}
 use Rattle.io_face.specs.declared.shelf.FetchFault.TheVariants.{Failed, TooLong}
 use Rattle.item_core.specs.Table.{target_table}
 use Rattle.moi_run.specs.Input.{IsWithinLimits}
+use Rattle.moi_run.specs.Tally.{Tally}
 use Rattle.name_index.specs.Escape.{escaped}
 use Rattle.script_core.specs.Line.{line_said}
 use Rattle.script_core.specs.declared.command.Command.TheVariants as line
@@ -60,12 +60,13 @@ setup_for (Some (Solve setup model)) = Some setup
 setup_for (Some (Check model certificate)) = None
 setup_for None = None
 
-abbrev pub start_by : Option Setup → Machine → Machine
+abbrev pub start_by : Option Setup → Tally → Tally
 start_by None s = s
-start_by (Some setup) s = set_up s (target_table setup.target) setup.pivots
+start_by (Some setup) s =
+    record s { machine = set_up s.machine (target_table setup.target) setup.pivots }
 
 -- the machine with which the command begins, by that of its session
-abbrev pub start_for : Option Command → Machine → Machine
+abbrev pub start_for : Option Command → Tally → Tally
 start_for said s = start_by (setup_for said) s
 
 -- ---- files

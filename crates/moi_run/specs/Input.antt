@@ -4,9 +4,9 @@ use Rattle.std.specs.List.{list_any}
 use Rattle.std.specs.Str.Lines.{lines}
 use Rattle.std.specs.Io.KnownBytes.{IsAtEnd}
 use Rattle.edit_engine.specs.Lines.{heard, says_quit}
-use Rattle.edit_engine.specs.Script.{Machine}
 use Rattle.io_face.specs.Source.{Takes}
 use Rattle.moi_run.specs.Answering.{WritesAnswers}
+use Rattle.moi_run.specs.Tally.{Tally}
 use Rattle.script_lines.specs.Limits.{line_limit, input_limit}
 use Rattle.script_lines.specs.Lines.{ended_lines, is_short, stripped_parts}
 
@@ -32,7 +32,7 @@ PassesLimit bytes = Any (λ line. line_limit < length line) (heard (lines bytes)
 
 -- the answers of all lines whose newline was taken were written, none of them ended the work, and
 -- neither these nor what was taken of the next are too long
-pub record AnswersTaken (bytes : List ℕ) (left : Option (List ℕ)) (s new : Machine)
+pub record AnswersTaken (bytes : List ℕ) (left : Option (List ℕ)) (s new : Tally)
     (wrote : List ℕ → Type 0) : Type 0 where
   pub taken : List ℕ
   pub takes : Takes (Some bytes) left taken
@@ -42,12 +42,12 @@ pub record AnswersTaken (bytes : List ℕ) (left : Option (List ℕ)) (s new : M
   pub answered : WritesAnswers s (ended_lines taken) refused new wrote
 
 -- the answers of all lines that end within the limit were written, up to the first that is too long
-abbrev pub AnswersWithinLimits : List ℕ → Machine → Machine → (List ℕ → Type 0) → Type 0
+abbrev pub AnswersWithinLimits : List ℕ → Tally → Tally → (List ℕ → Type 0) → Type 0
 AnswersWithinLimits bytes s new wrote = (refused : Bool)
     × WritesAnswers s (take_while is_short (ended_lines (take input_limit bytes))) refused new wrote
 
 -- the work ended
-pub record Ends (bytes : List ℕ) (left : Option (List ℕ)) (refused : Bool) (s new : Machine)
+pub record Ends (bytes : List ℕ) (left : Option (List ℕ)) (refused : Bool) (s new : Tally)
     (wrote : List ℕ → Type 0) : Type 0 where
   pub answered : WritesAnswers s (heard (lines bytes)) refused new wrote
   pub to_the_end : IsReadToEnd bytes left

@@ -1,12 +1,14 @@
 //! Lines that are answered one after another.
-ghost use Rattle.std.specs.Prelude.{◌≡◌, ◌≢◌, ◌≤◌, All, IsErrOf, false, map};
-ghost use Rattle.edit_engine.specs.Held.{machine_of, state_of};
+ghost use Rattle.std.specs.Prelude.{◌≡◌, ◌≢◌, ◌≤◌, All, IsErrOf, OnOk, false, map};
+ghost use Rattle.edit_engine.specs.Held.{state_of};
 ghost use Rattle.edit_engine.specs.Lines.{says_load};
 ghost use Rattle.io_face.specs.Fault.{HasFaulted};
 ghost use Rattle.io_face.specs.Sink.{Adds, AddsPrefix};
 ghost use Rattle.io_face.specs.Told.{told_by};
 ghost use Rattle.moi_run.specs.Answering.{BeginsAnswers, HearsBy};
 ghost use Rattle.moi_run.specs.Run.{EachOutcome, FetchFails, RunsEach};
+ghost use Rattle.moi_run.specs.Tally.{tally_of};
+ghost use Rattle.moi_run.specs.Status.{IsEnded};
 
 use crate::reply::{Reply, write_answer};
 use crate::status::Status;
@@ -24,7 +26,9 @@ pub(crate) fn answer_line<B: Bridge, H: Shelf, O: Sink>(
     output: &mut O,
 ) -> Result<Reply, Stop>
     ensures heard { let told = told_by (H.files shelf.old) (H.sure shelf.old) in
-        HearsBy result (machine_of session.old told) line.now (machine_of session.new told)
+        let before = tally_of session.old told (H.asked shelf.old) in
+        let after = tally_of session.new told (H.asked shelf.new) in
+        HearsBy result before line.now after
         (O.written output.old) (O.written output.new) }
     ensures pivots { session.new.pivots ≡ session.old.pivots }
     ensures files { H.files shelf.new ≡ H.files shelf.old }
@@ -35,6 +39,8 @@ pub(crate) fn answer_line<B: Bridge, H: Shelf, O: Sink>(
         → FetchFails (told_by (H.files shelf.old) (H.sure shelf.old)) (H.faults shelf.old)
         (H.faults shelf.new) }
     ensures unasked { says_load line.now ≡ false → shelf.new ≡ shelf.old }
+    ensures sound_fetches { OnOk result (H.faults shelf.new ≡ H.faults shelf.old) }
+    ensures sound_writes { OnOk result (O.faults output.new ≡ O.faults output.old) }
     ensures write_fault { IsErrOf result Stop.WriteFault
         → HasFaulted (O.faults output.old) (O.faults output.new) }
 {
@@ -52,8 +58,10 @@ pub(crate) fn answer_with<B: Bridge, H: Shelf, O: Sink>(
 ) -> Status
     requires detached { (state_of session.old).attached ≡ false }
     ensures runs { let told = told_by (H.files shelf.old) (H.sure shelf.old) in
-        RunsEach (map (λ line. line.now) lines.now) setup result (machine_of session.old told)
-        (machine_of session.new told) (Adds (O.written output.old) (O.written output.new))
+        let before = tally_of session.old told (H.asked shelf.old) in
+        let after = tally_of session.new told (H.asked shelf.new) in
+        RunsEach (map (λ line. line.now) lines.now) setup result before
+        after (Adds (O.written output.old) (O.written output.new))
         (AddsPrefix (O.written output.old) (O.written output.new)) }
     ensures unasked { All (λ line. says_load line.now ≡ false) lines.now
         → shelf.new ≡ shelf.old }
@@ -62,6 +70,8 @@ pub(crate) fn answer_with<B: Bridge, H: Shelf, O: Sink>(
         (H.faults shelf.new) }
     ensures write_fault { result ≡ Status.WriteFault
         → HasFaulted (O.faults output.old) (O.faults output.new) }
+    ensures sound_fetches { IsEnded result → H.faults shelf.new ≡ H.faults shelf.old }
+    ensures sound_writes { IsEnded result → O.faults output.new ≡ O.faults output.old }
     ensures not_usage { result ≢ Status.Usage }
 {
     match session.set_up(setup.target, setup.pivots) {
@@ -78,11 +88,15 @@ fn answer_each<B: Bridge, H: Shelf, O: Sink>(
     session: &mut SessionOver<B>,
 ) -> Status
     ensures outcome { let told = told_by (H.files shelf.old) (H.sure shelf.old) in
-        EachOutcome result (map (λ line. line.now) lines.now) (machine_of session.old told)
-        (machine_of session.new told) (Adds (O.written output.old) (O.written output.new)) }
+        let before = tally_of session.old told (H.asked shelf.old) in
+        let after = tally_of session.new told (H.asked shelf.new) in
+        EachOutcome result (map (λ line. line.now) lines.now) before
+        after (Adds (O.written output.old) (O.written output.new)) }
     ensures prefix { let told = told_by (H.files shelf.old) (H.sure shelf.old) in
-        BeginsAnswers (machine_of session.old told) (map (λ line. line.now) lines.now) result
-        (machine_of session.new told)
+        let before = tally_of session.old told (H.asked shelf.old) in
+        let after = tally_of session.new told (H.asked shelf.new) in
+        BeginsAnswers before (map (λ line. line.now) lines.now) result
+        after
         (AddsPrefix (O.written output.old) (O.written output.new)) }
     ensures pivots { session.new.pivots ≡ session.old.pivots }
     ensures unasked { All (λ line. says_load line.now ≡ false) lines.now
@@ -92,6 +106,8 @@ fn answer_each<B: Bridge, H: Shelf, O: Sink>(
         (H.faults shelf.new) }
     ensures write_fault { result ≡ Status.WriteFault
         → HasFaulted (O.faults output.old) (O.faults output.new) }
+    ensures sound_fetches { IsEnded result → H.faults shelf.new ≡ H.faults shelf.old }
+    ensures sound_writes { IsEnded result → O.faults output.new ≡ O.faults output.old }
     ensures not_usage { result ≢ Status.Usage }
 {
     let mut any_refused = false;

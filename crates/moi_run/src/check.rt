@@ -1,8 +1,11 @@
 //! The certificate of a file, held against the model of a file.
 ghost use Rattle.std.specs.Prelude.{◌≡◌, ◌≢◌};
+ghost use Rattle.file_verdict.specs.Verdict.{AsksFiles};
 ghost use Rattle.io_face.specs.Fault.{HasFaulted};
+ghost use Rattle.io_face.specs.Shelf.{AsksFor};
 ghost use Rattle.io_face.specs.Told.{told_by};
 ghost use Rattle.moi_run.specs.Run.{CheckOutcome};
+ghost use Rattle.moi_run.specs.Status.{IsEnded};
 
 use crate::reply::write_answer;
 use crate::status::Status;
@@ -24,6 +27,11 @@ pub(crate) fn answer_check<H: Shelf, O: Sink>(
         (O.written output.old) (O.written output.new) }
     ensures write_fault { result ≡ Status.WriteFault
         → HasFaulted (O.faults output.old) (O.faults output.new) }
+    ensures asks { result ≢ Status.Memory
+        → AsksFiles (told_by (H.files shelf.old) (H.sure shelf.old)) model.now certificate.now
+        (AsksFor (H.asked shelf.old) (H.asked shelf.new)) }
+    ensures sound_fetches { IsEnded result → H.faults shelf.new ≡ H.faults shelf.old }
+    ensures sound_writes { IsEnded result → O.faults output.new ≡ O.faults output.old }
     ensures not_usage { result ≢ Status.Usage }
 {
     let answer = verdict(alloc, shelf, model, certificate);

@@ -1,8 +1,10 @@
 //! The commands, by the words.
 ghost use Rattle.std.specs.Prelude.{◌≡◌, ◌≢◌, ℕ, Bool, ◌+◌, ◌↔◌, ◌⊎◌, [], None, Some, false, IfSome, IsTrue};
 ghost use Rattle.cache_layer.specs.Cached.{Stands, model_in};
-ghost use Rattle.edit_engine.specs.Held.{machine_of, state_of};
+ghost use Rattle.edit_engine.specs.Held.{state_of};
+ghost use Rattle.file_verdict.specs.Verdict.{AsksFiles};
 ghost use Rattle.io_face.specs.Fault.{HasFaulted};
+ghost use Rattle.io_face.specs.Shelf.{AsksFor};
 ghost use Rattle.io_face.specs.Sink.{Adds, AddsPrefix};
 ghost use Rattle.io_face.specs.Told.{told_by};
 ghost use Rattle.moi_run.specs.Answering.{BeginsAnswers, WritesAnswers};
@@ -10,6 +12,7 @@ ghost use Rattle.moi_run.specs.Commands.{AsksInVain, CanBeFetched, CanBeRead, Ha
 ghost use Rattle.moi_run.specs.Input.{IsReadToEnd, IsWithinLimits};
 ghost use Rattle.moi_run.specs.Run.{AtLimit, AtReadFault, AtWriteFault, HasTooLong, Runs, WritesVerdict};
 ghost use Rattle.moi_run.specs.Status.{IsEnded, has_refused};
+ghost use Rattle.moi_run.specs.Tally.{tally_of};
 ghost use Rattle.script_lines.specs.Limits.{input_limit};
 ghost use Rattle.script_lines.specs.Reading.{TakesAtMost};
 
@@ -45,12 +48,16 @@ pub fn run<B: Bridge, H: Shelf, I: Source, O: Sink>(
         × (input.new ≡ input.old) × (output.new ≡ output.old) × (session.new ≡ session.old) }
 
     // Once the work ended, the lines were answered one after another and their text was written,
-    // and the session is in the state that they leave.
+    // and the session is in the state that they leave. Its solver's model was called at most as
+    // often as the numbers after `ok` in the answers say together, and the files for which the
+    // lines ask were asked for, in turn, and no others.
     ensures text { let said = said_by words.now in
         let told = told_by (H.files shelf.old) (H.sure shelf.old) in
+        let before = tally_of session.old told (H.asked shelf.old) in
+        let after = tally_of session.new told (H.asked shelf.new) in
         IsEnded result → IfSome (lines_for said (I.left input.old)) (λ lines.
-        WritesAnswers (start_for said (machine_of session.old told)) lines (has_refused result)
-        (machine_of session.new told) (Adds (O.written output.old) (O.written output.new))) }
+        WritesAnswers (start_for said before) lines (has_refused result) after
+        (Adds (O.written output.old) (O.written output.new))) }
     ensures pivots { IsEnded result → IfSome (setup_for (said_by words.now)) (λ setup.
         session.new.pivots ≡ setup.pivots) }
     ensures to_the_end { IsEnded result
@@ -65,14 +72,24 @@ pub fn run<B: Bridge, H: Shelf, I: Source, O: Sink>(
         WritesVerdict told model certificate (has_refused result)
         (Adds (O.written output.old) (O.written output.new))) }
     ensures idle { IfCheck (said_by words.now) (λ _ _. session.new ≡ session.old) }
+    // The model's file was asked for, and after it the certificate's, where the model was made.
+    ensures asks { let told = told_by (H.files shelf.old) (H.sure shelf.old) in
+        result ≢ Status.Memory → IfCheck (said_by words.now) (λ model certificate.
+        AsksFiles told model certificate (AsksFor (H.asked shelf.old) (H.asked shelf.new))) }
+
+    // Where the work ended, no fault was counted: each that is counted is reported.
+    ensures sound_reads { IsEnded result → I.faults input.new ≡ I.faults input.old }
+    ensures sound_fetches { IsEnded result → H.faults shelf.new ≡ H.faults shelf.old }
+    ensures sound_writes { IsEnded result → O.faults output.new ≡ O.faults output.old }
 
     // However it ended, some of the first lines were answered, and what was written begins their
     // text, or that of the verdict. At most one byte past the limit of the input was taken.
     ensures prefix { let said = said_by words.now in
         let told = told_by (H.files shelf.old) (H.sure shelf.old) in
+        let before = tally_of session.old told (H.asked shelf.old) in
+        let after = tally_of session.new told (H.asked shelf.new) in
         IfSome (lines_for said (I.left input.old)) (λ lines.
-        BeginsAnswers (start_for said (machine_of session.old told)) lines result
-        (machine_of session.new told)
+        BeginsAnswers (start_for said before) lines result after
         (AddsPrefix (O.written output.old) (O.written output.new))) }
     ensures verdict_prefix { let told = told_by (H.files shelf.old) (H.sure shelf.old) in
         let begun = AddsPrefix (O.written output.old) (O.written output.new) in
@@ -91,19 +108,23 @@ pub fn run<B: Bridge, H: Shelf, I: Source, O: Sink>(
         × (IsTrue (H.sure shelf.old) → AsksInVain said (I.left input.old) told)) }
     ensures at_read_fault { let said = said_by words.now in
         let told = told_by (H.files shelf.old) (H.sure shelf.old) in
+        let before = tally_of session.old told (H.asked shelf.old) in
+        let after = tally_of session.new told (H.asked shelf.new) in
         result ≡ Status.ReadFault → AtReadFault told said
         (HasFaulted (I.faults input.old) (I.faults input.new))
         (HasFaulted (H.faults shelf.old) (H.faults shelf.new)) (I.left input.old)
-        (I.left input.new) (start_for said (machine_of session.old told))
-        (machine_of session.new told) (Adds (O.written output.old) (O.written output.new)) }
+        (I.left input.new) (start_for said before) after
+        (Adds (O.written output.old) (O.written output.new)) }
     // A fault of the sink was counted. The lines before one were answered, and of the answer to that
     // one a part was written; no line behind it changed the session.
     ensures write_fault { result ≡ Status.WriteFault
         → HasFaulted (O.faults output.old) (O.faults output.new) }
     ensures at_write_fault { let said = said_by words.now in
         let told = told_by (H.files shelf.old) (H.sure shelf.old) in
+        let before = tally_of session.old told (H.asked shelf.old) in
+        let after = tally_of session.new told (H.asked shelf.new) in
         result ≡ Status.WriteFault → AtWriteFault said (I.left input.old)
-        (start_for said (machine_of session.old told)) (machine_of session.new told)
+        (start_for said before) after
         (Adds (O.written output.old) (O.written output.new)) }
 
     // A line, the input or a file is too long. The lines before that were answered.
@@ -112,8 +133,10 @@ pub fn run<B: Bridge, H: Shelf, I: Source, O: Sink>(
         (told_by (H.files shelf.old) (H.sure shelf.old)) }
     ensures at_limit { let said = said_by words.now in
         let told = told_by (H.files shelf.old) (H.sure shelf.old) in
+        let before = tally_of session.old told (H.asked shelf.old) in
+        let after = tally_of session.new told (H.asked shelf.new) in
         result ≡ Status.TooLong → AtLimit told said (I.left input.old)
-        (start_for said (machine_of session.old told)) (machine_of session.new told)
+        (start_for said before) after
         (Adds (O.written output.old) (O.written output.new)) }
 
     // Only `run` reads the input, and `plan` asks for no file.
@@ -154,10 +177,12 @@ fn obey_words<B: Bridge, H: Shelf, I: Source, O: Sink>(
     ensures untouched { result ≡ Status.Usage → (shelf.new ≡ shelf.old)
         × (input.new ≡ input.old) × (output.new ≡ output.old) × (session.new ≡ session.old) }
     ensures runs { let told = told_by (H.files shelf.old) (H.sure shelf.old) in
+        let before = tally_of session.old told (H.asked shelf.old) in
+        let after = tally_of session.new told (H.asked shelf.new) in
         Runs (said_by words.now) result (I.left input.old) (I.left input.new) told
         (HasFaulted (I.faults input.old) (I.faults input.new))
-        (HasFaulted (H.faults shelf.old) (H.faults shelf.new)) (machine_of session.old told)
-        (machine_of session.new told) (Adds (O.written output.old) (O.written output.new))
+        (HasFaulted (H.faults shelf.old) (H.faults shelf.new)) before
+        after (Adds (O.written output.old) (O.written output.new))
         (AddsPrefix (O.written output.old) (O.written output.new)) }
     ensures idle { IfCheck (said_by words.now) (λ _ _. session.new ≡ session.old) }
     ensures taken { TakesAtMost (input_limit + 1) (I.left input.old) (I.left input.new) }
@@ -166,6 +191,9 @@ fn obey_words<B: Bridge, H: Shelf, I: Source, O: Sink>(
     ensures unread { ReadsNothing (said_by words.now) → input.new ≡ input.old }
     ensures unasked { IsPlan (said_by words.now) → (shelf.new ≡ shelf.old)
         × (result ≢ Status.ReadFault) × (result ≢ Status.TooLong) }
+    ensures sound_reads { IsEnded result → I.faults input.new ≡ I.faults input.old }
+    ensures sound_fetches { IsEnded result → H.faults shelf.new ≡ H.faults shelf.old }
+    ensures sound_writes { IsEnded result → O.faults output.new ≡ O.faults output.old }
 {
     let said = match read_words(alloc, words) {
         Ok(said) => said,
@@ -188,10 +216,12 @@ fn obey<B: Bridge, H: Shelf, I: Source, O: Sink>(
 ) -> Status
     requires detached { (state_of session.old).attached ≡ false }
     ensures runs { let told = told_by (H.files shelf.old) (H.sure shelf.old) in
+        let before = tally_of session.old told (H.asked shelf.old) in
+        let after = tally_of session.new told (H.asked shelf.new) in
         Runs (Some command) result (I.left input.old) (I.left input.new) told
         (HasFaulted (I.faults input.old) (I.faults input.new))
-        (HasFaulted (H.faults shelf.old) (H.faults shelf.new)) (machine_of session.old told)
-        (machine_of session.new told) (Adds (O.written output.old) (O.written output.new))
+        (HasFaulted (H.faults shelf.old) (H.faults shelf.new)) before
+        after (Adds (O.written output.old) (O.written output.new))
         (AddsPrefix (O.written output.old) (O.written output.new)) }
     ensures idle { IfCheck (Some command) (λ _ _. session.new ≡ session.old) }
     ensures taken { TakesAtMost (input_limit + 1) (I.left input.old) (I.left input.new) }
@@ -200,6 +230,9 @@ fn obey<B: Bridge, H: Shelf, I: Source, O: Sink>(
     ensures unread { ReadsNothing (Some command) → input.new ≡ input.old }
     ensures unasked { IsPlan (Some command) → (shelf.new ≡ shelf.old)
         × (result ≢ Status.ReadFault) × (result ≢ Status.TooLong) }
+    ensures sound_reads { IsEnded result → I.faults input.new ≡ I.faults input.old }
+    ensures sound_fetches { IsEnded result → H.faults shelf.new ≡ H.faults shelf.old }
+    ensures sound_writes { IsEnded result → O.faults output.new ≡ O.faults output.old }
     ensures not_usage { result ≢ Status.Usage }
 {
     match command {

@@ -2,13 +2,15 @@
 ghost use Rattle.std.specs.Prelude.{◌≡◌, ◌≢◌, ◌+◌, [], Some, IfSome, false};
 ghost use Rattle.std.specs.Str.Lines.{lines};
 ghost use Rattle.command_words.specs.declared.words.Command.TheVariants.{Run};
-ghost use Rattle.edit_engine.specs.Held.{machine_of, state_of};
+ghost use Rattle.edit_engine.specs.Held.{state_of};
 ghost use Rattle.edit_engine.specs.Lines.{heard};
 ghost use Rattle.io_face.specs.Fault.{HasFaulted};
 ghost use Rattle.io_face.specs.Sink.{Adds, AddsPrefix};
 ghost use Rattle.io_face.specs.Told.{told_by};
 ghost use Rattle.moi_run.specs.Answering.{BeginsAnswers};
 ghost use Rattle.moi_run.specs.Run.{FetchFails, HasCause, Outcome, Runs};
+ghost use Rattle.moi_run.specs.Tally.{tally_of};
+ghost use Rattle.moi_run.specs.Status.{IsEnded};
 ghost use Rattle.script_lines.specs.Limits.{input_limit};
 ghost use Rattle.script_lines.specs.Reading.{TakesAtMost};
 
@@ -34,14 +36,19 @@ pub(crate) fn answer_script<B: Bridge, H: Shelf, I: Source, O: Sink>(
 ) -> Status
     requires detached { (state_of session.old).attached ≡ false }
     ensures runs { let told = told_by (H.files shelf.old) (H.sure shelf.old) in
+        let before = tally_of session.old told (H.asked shelf.old) in
+        let after = tally_of session.new told (H.asked shelf.new) in
         Runs (Some (Run setup)) result (I.left input.old) (I.left input.new) told
         (HasFaulted (I.faults input.old) (I.faults input.new))
-        (HasFaulted (H.faults shelf.old) (H.faults shelf.new)) (machine_of session.old told)
-        (machine_of session.new told) (Adds (O.written output.old) (O.written output.new))
+        (HasFaulted (H.faults shelf.old) (H.faults shelf.new)) before
+        after (Adds (O.written output.old) (O.written output.new))
         (AddsPrefix (O.written output.old) (O.written output.new)) }
     ensures taken { TakesAtMost (input_limit + 1) (I.left input.old) (I.left input.new) }
     ensures write_fault { result ≡ Status.WriteFault
         → HasFaulted (O.faults output.old) (O.faults output.new) }
+    ensures sound_reads { IsEnded result → I.faults input.new ≡ I.faults input.old }
+    ensures sound_fetches { IsEnded result → H.faults shelf.new ≡ H.faults shelf.old }
+    ensures sound_writes { IsEnded result → O.faults output.new ≡ O.faults output.old }
     ensures not_usage { result ≢ Status.Usage }
 {
     let Ok(mut reader) = LineReader::new(alloc) else {
@@ -65,20 +72,27 @@ fn answer_lines<B: Bridge, H: Shelf, I: Source, O: Sink>(
     requires held { reader.old.held ≡ [] }
     requires room { reader.old.room ≡ input_limit }
     ensures outcome { let told = told_by (H.files shelf.old) (H.sure shelf.old) in
+        let before = tally_of session.old told (H.asked shelf.old) in
+        let after = tally_of session.new told (H.asked shelf.new) in
         IfSome (I.left input.old) (λ bytes. Outcome
         (HasFaulted (I.faults input.old) (I.faults input.new))
         (FetchFails told (H.faults shelf.old) (H.faults shelf.new)) result bytes
-        (I.left input.new) (machine_of session.old told) (machine_of session.new told)
+        (I.left input.new) before after
         (Adds (O.written output.old) (O.written output.new))) }
     ensures prefix { let told = told_by (H.files shelf.old) (H.sure shelf.old) in
-        IfSome (I.left input.old) (λ bytes. BeginsAnswers (machine_of session.old told)
-        (heard (lines bytes)) result (machine_of session.new told)
+        let before = tally_of session.old told (H.asked shelf.old) in
+        let after = tally_of session.new told (H.asked shelf.new) in
+        IfSome (I.left input.old) (λ bytes. BeginsAnswers before
+        (heard (lines bytes)) result after
         (AddsPrefix (O.written output.old) (O.written output.new))) }
     ensures taken { TakesAtMost (input_limit + 1) (I.left input.old) (I.left input.new) }
     ensures pivots { session.new.pivots ≡ session.old.pivots }
     ensures cause { HasCause (HasFaulted (I.faults input.old) (I.faults input.new))
         (FetchFails (told_by (H.files shelf.old) (H.sure shelf.old)) (H.faults shelf.old)
         (H.faults shelf.new)) (HasFaulted (O.faults output.old) (O.faults output.new)) result }
+    ensures sound_reads { IsEnded result → I.faults input.new ≡ I.faults input.old }
+    ensures sound_fetches { IsEnded result → H.faults shelf.new ≡ H.faults shelf.old }
+    ensures sound_writes { IsEnded result → O.faults output.new ≡ O.faults output.old }
     ensures not_usage { result ≢ Status.Usage }
 {
     let mut line = Vec::new(alloc);

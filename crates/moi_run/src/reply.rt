@@ -1,5 +1,5 @@
 //! What an answer prints, written whole.
-ghost use Rattle.std.specs.Prelude.{◌≡◌, ◌≤◌, IsErrOf};
+ghost use Rattle.std.specs.Prelude.{◌≡◌, ◌≤◌, IsErrOf, OnOk};
 ghost use Rattle.io_face.specs.Fault.{HasFaulted};
 ghost use Rattle.moi_run.specs.Answering.{WritesBy, is_refused};
 
@@ -32,6 +32,7 @@ pub(crate) fn write_answer<O: Sink>(answer: Answer, output: &mut O) -> Result<Re
     ensures cause { IsErrOf result Stop.WriteFault
         → HasFaulted (O.faults output.old) (O.faults output.new) }
     ensures count { O.faults output.old ≤ O.faults output.new }
+    ensures sound { OnOk result (O.faults output.new ≡ O.faults output.old) }
 {
     match answer {
         Answer::Silent => Ok(Reply::Accepted),

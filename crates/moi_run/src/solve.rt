@@ -1,11 +1,13 @@
 //! The lines by which the model of a file is solved.
 ghost use Rattle.std.specs.Prelude.{◌≡◌, ◌≢◌, IfOk, false};
-ghost use Rattle.edit_engine.specs.Held.{machine_of, state_of};
+ghost use Rattle.edit_engine.specs.Held.{state_of};
 ghost use Rattle.io_face.specs.Fault.{HasFaulted};
 ghost use Rattle.io_face.specs.Sink.{Adds, AddsPrefix};
 ghost use Rattle.io_face.specs.Told.{told_by};
 ghost use Rattle.moi_run.specs.Commands.{load_line, solve_lines};
 ghost use Rattle.moi_run.specs.Run.{FetchFails, RunsEach};
+ghost use Rattle.moi_run.specs.Tally.{tally_of};
+ghost use Rattle.moi_run.specs.Status.{IsEnded};
 
 use crate::answers::answer_with;
 use crate::status::Status;
@@ -29,14 +31,18 @@ pub(crate) fn answer_solve<B: Bridge, H: Shelf, O: Sink>(
 ) -> Status
     requires detached { (state_of session.old).attached ≡ false }
     ensures runs { let told = told_by (H.files shelf.old) (H.sure shelf.old) in
-        RunsEach (solve_lines model.now) setup result (machine_of session.old told)
-        (machine_of session.new told) (Adds (O.written output.old) (O.written output.new))
+        let before = tally_of session.old told (H.asked shelf.old) in
+        let after = tally_of session.new told (H.asked shelf.new) in
+        RunsEach (solve_lines model.now) setup result before
+        after (Adds (O.written output.old) (O.written output.new))
         (AddsPrefix (O.written output.old) (O.written output.new)) }
     ensures read_fault { result ≡ Status.ReadFault
         → FetchFails (told_by (H.files shelf.old) (H.sure shelf.old)) (H.faults shelf.old)
         (H.faults shelf.new) }
     ensures write_fault { result ≡ Status.WriteFault
         → HasFaulted (O.faults output.old) (O.faults output.new) }
+    ensures sound_fetches { IsEnded result → H.faults shelf.new ≡ H.faults shelf.old }
+    ensures sound_writes { IsEnded result → O.faults output.new ≡ O.faults output.old }
     ensures not_usage { result ≢ Status.Usage }
 {
     match load_line(alloc, model) {

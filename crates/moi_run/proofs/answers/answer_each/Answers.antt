@@ -3,25 +3,25 @@ use Rattle.std.proofs.Common.{◌≡◌, ◌+◌, [], Ok, Err, false, take, drop
 use Rattle.std.specs.Prelude.{map}
 use Rattle.std.proofs.lemmas.List.{take_all}
 use Rattle.std.proofs.lemmas.List.Elements.{All-get_or}
-use Rattle.edit_engine.specs.Held.{machine_of}
+use Rattle.moi_run.specs.Tally.{tally_of}
 use Rattle.edit_engine.specs.Lines.{says_load}
 use Rattle.io_face.specs.Told.{told_by}
 use Rattle.moi_run.proofs.Each.{each_at_stop, each_begins, each_begins_at_stop, each_more, lines_around}
 use Rattle.moi_run.specs.declared.stop.Stop.TheVariants.{ReadFault}
-use Rattle.moi_run.proofs.Exits.{fails_within, heard_told, reason_by, told_same}
+use Rattle.moi_run.proofs.Exits.{at_least, fails_within, heard_told, no_end_at_stop, reason_by, told_same}
+use Rattle.moi_run.proofs.Moving.{still}
 use Rattle.moi_run.proofs.Written.{answers_nothing}
 use Rattle.moi_run.proofs.answers.answer_each.Goals as goal
 
 pub loop-line-init : goal.loop-line-init
 loop-line-init g c = record {
-  answered = answers_nothing (machine_of c.args.session.now
-      (told_by (g.H.Shelf.files c.args.shelf.now) (g.H.Shelf.sure c.args.shelf.now)))
+  answered = answers_nothing (tally_of c.args.session.now (told_by (g.H.Shelf.files c.args.shelf.now) (g.H.Shelf.sure c.args.shelf.now)) (g.H.Shelf.asked c.args.shelf.now))
       (g.O.Sink.written c.args.output.now);
   pivots = refl;
   files = refl;
   sure = refl;
-  fetches = omega arith;
-  writes = omega arith;
+  fetches = refl;
+  writes = refl;
   unasked = λ _. refl;
 }
 
@@ -33,12 +33,13 @@ returns-in-Err-clause-outcome g c =
     let same = told_same _ _ _ _ c.loop-line.invariant.files c.loop-line.invariant.sure in
     each_at_stop c.in-Err.stop c.from.result (map (λ line. line.now) lines)
     (map (λ line. line.now) (take i lines)) _ (map (λ line. line.now) (drop (i + 1) lines))
-    (machine_of c.args.session.now told) (machine_of c.loop-line.session told)
-    (machine_of c.answer_line.new.session told) c.loop-line.any_refused
+    (tally_of c.args.session.now told (g.H.Shelf.asked c.args.shelf.now)) (tally_of c.loop-line.session told (g.H.Shelf.asked c.loop-line.shelf))
+    (tally_of c.answer_line.new.session told (g.H.Shelf.asked c.answer_line.new.shelf)) c.loop-line.any_refused
     (g.O.Sink.written c.args.output.now) (g.O.Sink.written c.loop-line.output)
     (g.O.Sink.written c.answer_line.new.output) c.from.ensures
     (lines_around (λ line. line.now) lines i _ c.loop-line-test.true) c.loop-line.invariant.answered
-    (heard_told (Err c.in-Err.stop) told _ c.loop-line.session c.answer_line.new.session _ _ _ same
+    (heard_told (Err c.in-Err.stop) told _ c.loop-line.session c.answer_line.new.session (g.H.Shelf.asked c.loop-line.shelf)
+    (g.H.Shelf.asked c.answer_line.new.shelf) _ _ _ same
     c.in-Err.ensures.heard)
 
 pub returns-in-Err-clause-prefix : goal.returns-in-Err-clause-prefix
@@ -49,19 +50,20 @@ returns-in-Err-clause-prefix g c =
     let same = told_same _ _ _ _ c.loop-line.invariant.files c.loop-line.invariant.sure in
     each_begins_at_stop c.in-Err.stop c.from.result (map (λ line. line.now) lines)
     (map (λ line. line.now) (take i lines)) _ (map (λ line. line.now) (drop (i + 1) lines))
-    (machine_of c.args.session.now told) (machine_of c.loop-line.session told)
-    (machine_of c.answer_line.new.session told) c.loop-line.any_refused
+    (tally_of c.args.session.now told (g.H.Shelf.asked c.args.shelf.now)) (tally_of c.loop-line.session told (g.H.Shelf.asked c.loop-line.shelf))
+    (tally_of c.answer_line.new.session told (g.H.Shelf.asked c.answer_line.new.shelf)) c.loop-line.any_refused
     (g.O.Sink.written c.args.output.now) (g.O.Sink.written c.loop-line.output)
     (g.O.Sink.written c.answer_line.new.output) c.from.ensures
     (lines_around (λ line. line.now) lines i _ c.loop-line-test.true) c.loop-line.invariant.answered
-    (heard_told (Err c.in-Err.stop) told _ c.loop-line.session c.answer_line.new.session _ _ _ same
+    (heard_told (Err c.in-Err.stop) told _ c.loop-line.session c.answer_line.new.session (g.H.Shelf.asked c.loop-line.shelf)
+    (g.H.Shelf.asked c.answer_line.new.shelf) _ _ _ same
     c.in-Err.ensures.heard)
 
 pub returns-in-Err-clause-read_fault : goal.returns-in-Err-clause-read_fault
 returns-in-Err-clause-read_fault g c is =
     let same = told_same _ _ _ _ c.loop-line.invariant.files c.loop-line.invariant.sure in
     fails_within (told_by (g.H.Shelf.files c.args.shelf.now) (g.H.Shelf.sure c.args.shelf.now)) _ _
-    _ _ same c.loop-line.invariant.fetches (c.in-Err.ensures.read_fault
+    _ _ same (at_least _ _ c.loop-line.invariant.fetches) (c.in-Err.ensures.read_fault
     (ap Err (reason_by c.in-Err.stop c.from.result c.from.ensures ReadFault is)))
 
 pub loop-line-preserved : goal.loop-line-preserved
@@ -70,13 +72,14 @@ loop-line-preserved g c =
     let lines = c.args.lines.now in
     let i = c.loop-line.line-index in
     let same = told_same _ _ _ _ c.loop-line.invariant.files c.loop-line.invariant.sure in
-    let came = heard_told (Ok c.in-Ok.reply) told _ c.loop-line.session c.answer_line.new.session _
+    let came = heard_told (Ok c.in-Ok.reply) told _ c.loop-line.session c.answer_line.new.session (g.H.Shelf.asked c.loop-line.shelf)
+    (g.H.Shelf.asked c.answer_line.new.shelf) _
     _ _ same c.in-Ok.ensures.heard in
     record {
       answered =
           each_more (λ line. line.now) lines i _ c.loop-line-test.true
-          (machine_of c.args.session.now told) (machine_of c.loop-line.session told)
-          (machine_of c.answer_line.new.session told)
+          (tally_of c.args.session.now told (g.H.Shelf.asked c.args.shelf.now)) (tally_of c.loop-line.session told (g.H.Shelf.asked c.loop-line.shelf))
+          (tally_of c.answer_line.new.session told (g.H.Shelf.asked c.answer_line.new.shelf))
           c.loop-line.any_refused c.is_refused-any_refused.result _
           (g.O.Sink.written c.args.output.now) (g.O.Sink.written c.loop-line.output)
           (g.O.Sink.written c.answer_line.new.output)
@@ -84,8 +87,8 @@ loop-line-preserved g c =
       pivots = c.in-Ok.ensures.pivots ∙ c.loop-line.invariant.pivots;
       files = c.in-Ok.ensures.files ∙ c.loop-line.invariant.files;
       sure = c.in-Ok.ensures.sure ∙ c.loop-line.invariant.sure;
-      fetches = omega (arith, c.loop-line.invariant.fetches, c.in-Ok.ensures.fetches);
-      writes = omega (arith, c.loop-line.invariant.writes, c.in-Ok.ensures.writes);
+      fetches = c.in-Ok.ensures.sound_fetches ∙ c.loop-line.invariant.fetches;
+      writes = c.in-Ok.ensures.sound_writes ∙ c.loop-line.invariant.writes;
       unasked = λ none. c.in-Ok.ensures.unasked (All-get_or (λ line. says_load line.now ≡ false)
           lines i _ c.loop-line-test.true none) ∙ c.loop-line.invariant.unasked none;
     }
@@ -97,9 +100,25 @@ returns-clause-prefix g c =
     let i = c.loop-line.line-index in
     let all = take_all i lines c.loop-line-test.false in
     each_begins c.loop-line.any_refused c.ended.result (map (λ line. line.now) lines)
-    (map (λ line. line.now) (take i lines)) [] (machine_of c.args.session.now told)
-    (machine_of c.loop-line.session told) (machine_of c.loop-line.session told)
+    (map (λ line. line.now) (take i lines)) [] (tally_of c.args.session.now told (g.H.Shelf.asked c.args.shelf.now))
+    (tally_of c.loop-line.session told (g.H.Shelf.asked c.loop-line.shelf)) (tally_of c.loop-line.session told (g.H.Shelf.asked c.loop-line.shelf))
     (g.O.Sink.written c.args.output.now) (g.O.Sink.written c.loop-line.output)
     (ap (map (λ line. line.now)) (sym all)
     ∙ sym (append-nil (map (λ line. line.now) (take i lines)))) c.loop-line.invariant.answered
-    (λ _. refl)
+    (λ _. still _)
+
+-- ---- no fault was counted
+
+pub returns-in-Err-clause-sound_fetches : goal.returns-in-Err-clause-sound_fetches
+returns-in-Err-clause-sound_fetches g c ended =
+    absurd (no_end_at_stop c.in-Err.stop c.from.result c.from.ensures ended)
+
+pub returns-in-Err-clause-sound_writes : goal.returns-in-Err-clause-sound_writes
+returns-in-Err-clause-sound_writes g c ended =
+    absurd (no_end_at_stop c.in-Err.stop c.from.result c.from.ensures ended)
+
+pub returns-clause-sound_fetches : goal.returns-clause-sound_fetches
+returns-clause-sound_fetches g c _ = c.loop-line.invariant.fetches
+
+pub returns-clause-sound_writes : goal.returns-clause-sound_writes
+returns-clause-sound_writes g c _ = c.loop-line.invariant.writes

@@ -1,6 +1,6 @@
 -- Each command ran as its function says.
 use Rattle.std.proofs.Common.{◌≡◌, false, refl, sym}
-use Rattle.edit_engine.specs.Held.{machine_of}
+use Rattle.moi_run.specs.Tally.{tally_of}
 use Rattle.edit_engine.specs.Lines.{says_load}
 use Rattle.io_face.specs.Told.{told_by}
 use Rattle.moi_run.proofs.PlanLine.{one_line, plan_loads_nothing}
@@ -19,7 +19,7 @@ returns-in-Plan-clause-runs g c =
     command_runs (sym c.in-Plan.is)
     (runs_plan c.in-Plan.setup c.answer_with.result (g.I.Source.left c.args.input.now)
     (g.I.Source.left c.args.input.now) told _ _
-    (machine_of c.args.session.now told) (machine_of c.answer_with.new.session told) _ _
+    (tally_of c.args.session.now told (g.H.Shelf.asked c.args.shelf.now)) (tally_of c.answer_with.new.session told (g.H.Shelf.asked c.answer_with.new.shelf)) _ _
     c.answer_with.ensures.runs stops.0 stops.1)
 
 pub returns-in-Plan-clause-unasked : goal.returns-in-Plan-clause-unasked
@@ -38,7 +38,7 @@ returns-in-Solve-clause-runs g c =
     command_runs (sym c.in-Solve.is)
     (runs_solve c.in-Solve.setup c.in-Solve.model c.answer_solve.result
     (g.I.Source.left c.args.input.now) (g.I.Source.left c.args.input.now) told _ _ _
-    (machine_of c.args.session.now told) (machine_of c.answer_solve.new.session told) _ _ refl
+    (tally_of c.args.session.now told (g.H.Shelf.asked c.args.shelf.now)) (tally_of c.answer_solve.new.session told (g.H.Shelf.asked c.answer_solve.new.shelf)) _ _ refl
     c.answer_solve.ensures.runs c.answer_solve.ensures.read_fault)
 
 pub returns-in-Check-clause-runs : goal.returns-in-Check-clause-runs
@@ -47,5 +47,6 @@ returns-in-Check-clause-runs g c =
     command_runs (sym c.in-Check.is)
     (runs_check c.in-Check.model c.in-Check.certificate c.answer_check.result
     (g.I.Source.left c.args.input.now) (g.I.Source.left c.args.input.now) told _ _ _
-    (machine_of c.args.session.now told) (machine_of c.args.session.now told) _ _
-    c.answer_check.ensures.outcome)
+    (tally_of c.args.session.now told (g.H.Shelf.asked c.args.shelf.now))
+    (tally_of c.args.session.now told (g.H.Shelf.asked c.answer_check.new.shelf)) _ _
+    c.answer_check.ensures.outcome c.answer_check.ensures.asks)

@@ -1,7 +1,7 @@
 -- What holds of the command holds of the one that the words say.
 use Rattle.std.proofs.Common.{◌≡◌, sym, ◌∙◌, subst, refl}
 use Rattle.command_words.specs.declared.words.Command.{Command}
-use Rattle.edit_engine.specs.Held.{machine_of}
+use Rattle.moi_run.specs.Tally.{tally_of}
 use Rattle.io_face.specs.Told.{told_by}
 use Rattle.moi_run.specs.Commands.{IfCheck, IsPlan, ReadsNothing}
 use Rattle.moi_run.proofs.Running.{always_check, runs_of_none, runs_without_memory, said_runs, usage_at_command, usage_at_memory, usage_at_none}
@@ -41,8 +41,8 @@ pub returns-in-None-clause-runs : goal.returns-in-None-clause-runs
 returns-in-None-clause-runs g c = said_runs (sym c.in-None.is ∙ c.in-Ok.ensures.said)
     (runs_of_none (g.I.Source.left c.args.input.now) (told_by (g.H.Shelf.files c.args.shelf.now)
     (g.H.Shelf.sure c.args.shelf.now)) _ _
-    (machine_of c.args.session.now (told_by (g.H.Shelf.files c.args.shelf.now)
-    (g.H.Shelf.sure c.args.shelf.now))) (g.O.Sink.written c.args.output.now))
+    (tally_of c.args.session.now (told_by (g.H.Shelf.files c.args.shelf.now)
+    (g.H.Shelf.sure c.args.shelf.now)) (g.H.Shelf.asked c.args.shelf.now)) (g.O.Sink.written c.args.output.now))
 
 pub returns-in-None-clause-idle : goal.returns-in-None-clause-idle
 returns-in-None-clause-idle g c = always_check _ _ (λ _ _. refl)
@@ -57,7 +57,7 @@ returns-in-Err-clause-runs g c =
     let told = told_by (g.H.Shelf.files c.args.shelf.now) (g.H.Shelf.sure c.args.shelf.now) in
     runs_without_memory _ (g.I.Source.left c.args.input.now)
     (g.I.Source.left c.args.input.now) told _ _
-    (machine_of c.args.session.now told) (machine_of c.args.session.now told)
+    (tally_of c.args.session.now told (g.H.Shelf.asked c.args.shelf.now)) (tally_of c.args.session.now told (g.H.Shelf.asked c.args.shelf.now))
     (g.O.Sink.written c.args.output.now)
 
 pub returns-in-Err-clause-idle : goal.returns-in-Err-clause-idle

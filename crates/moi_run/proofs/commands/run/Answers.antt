@@ -42,3 +42,6 @@ pub returns-clause-complete : goal.returns-clause-complete
 returns-clause-complete g c =
     completes _ _ _ _ _ _ _ _ _ _ _ _ _ _ _ c.obey_words-status.ensures.runs (c.obey_words-status.ensures.usage).0
     c.obey_words-status.ensures.write_fault
+
+pub returns-clause-asks : goal.returns-clause-asks
+returns-clause-asks g c = c.obey_words-status.ensures.runs.asks

@@ -1,6 +1,6 @@
 -- The lines so far were answered, and what is left is read.
-use Rattle.std.proofs.Common.{◌≡◌, ◌≤◌}
-use Rattle.edit_engine.specs.Held.{machine_of}
+use Rattle.std.proofs.Common.{◌≡◌}
+use Rattle.moi_run.specs.Tally.{tally_of}
 use Rattle.io_face.specs.Told.{told_by}
 use Rattle.moi_run.proofs.Standing.{Standing}
 use Rattle.moi_run.proofs.input.answer_lines.Given as goal
@@ -9,17 +9,17 @@ use Rattle.script_lines.specs.Reading.{allowance}
 abbrev pub invariant-answering : goal.invariant-answering
 invariant-answering g l = record {
   standing : Standing (g.I.Source.left l.initial.input)
-      (machine_of l.initial.session (told_by (g.H.Shelf.files l.initial.shelf)
-      (g.H.Shelf.sure l.initial.shelf))) l.reader (g.I.Source.left l.input)
-      (machine_of l.session (told_by (g.H.Shelf.files l.initial.shelf)
-      (g.H.Shelf.sure l.initial.shelf))) l.any_refused (g.O.Sink.written l.initial.output)
+      (tally_of l.initial.session (told_by (g.H.Shelf.files l.initial.shelf)
+      (g.H.Shelf.sure l.initial.shelf)) (g.H.Shelf.asked l.initial.shelf)) l.reader (g.I.Source.left l.input)
+      (tally_of l.session (told_by (g.H.Shelf.files l.initial.shelf)
+      (g.H.Shelf.sure l.initial.shelf)) (g.H.Shelf.asked l.shelf)) l.any_refused (g.O.Sink.written l.initial.output)
       (g.O.Sink.written l.output);
   pivots : l.session.pivots ≡ l.initial.session.pivots;
   files : g.H.Shelf.files l.shelf ≡ g.H.Shelf.files l.initial.shelf;
   sure : g.H.Shelf.sure l.shelf ≡ g.H.Shelf.sure l.initial.shelf;
-  reads : g.I.Source.faults l.initial.input ≤ g.I.Source.faults l.input;
-  fetches : g.H.Shelf.faults l.initial.shelf ≤ g.H.Shelf.faults l.shelf;
-  writes : g.O.Sink.faults l.initial.output ≤ g.O.Sink.faults l.output;
+  reads : g.I.Source.faults l.input ≡ g.I.Source.faults l.initial.input;
+  fetches : g.H.Shelf.faults l.shelf ≡ g.H.Shelf.faults l.initial.shelf;
+  writes : g.O.Sink.faults l.output ≡ g.O.Sink.faults l.initial.output;
 }
 
 abbrev pub decreases-answering : goal.decreases-answering
