@@ -5,6 +5,7 @@ pub mod SpliceLaws
 pub mod ReadLaws
 pub mod AgreeLaws
 pub mod PlanLaws
+pub mod RunListLaws
 pub mod HadLaws
 pub mod ToldLaws
 pub mod AloneLaws
