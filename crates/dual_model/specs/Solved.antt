@@ -1,18 +1,18 @@
 -- What follows of a model whose dual is solved: an optimal point of the dual is carried to the best
 -- duals, and a dual without a feasible point says that there are none.
 use Rattle.std.specs.Prelude.{◌≡◌, List}
-use Rattle.std.proofs.Common.{subst, sym, ◌∙◌}
+use Rattle.std.proofs.Common.{subst, sym}
 use Rattle.ratio_core.specs.Rational.{Rational}
 use Rattle.rational_laws.specs.Order.{≤ℚ_antisymm, ≤ℚ_from_not_‹ℚ}
 use Rattle.aff_core.specs.declared.sense.Sense.{Sense}
 use Rattle.aff_core.specs.declared.sense.Sense.TheVariants.{Min, Max}
 use Rattle.user_model.specs.Model.{ModelValue}
 use Rattle.user_model.specs.Valid.{IsValid}
-use Rattle.certificates.specs.Points.{objective_value, sense_of}
+use Rattle.certificates.specs.Points.{sense_of}
 use Rattle.certificates.specs.Feasible.{IsBetter}
 use Rattle.certificates.specs.Good.{IsInfeasible, IsOptimal, dual_objective}
 use Rattle.certificates.specs.GoodLaws.{none_is_better, none_is_feasible}
-use Rattle.dual_model.specs.Carried.{AreRightDuals, CarriesTo, HoldsDuals, IsCarriedFrom, carried_rows, carried_variables}
+use Rattle.dual_model.specs.Carried.{AreRightDuals, HoldsDuals, carried_rows, carried_variables}
 use Rattle.dual_model.specs.DualOf.{dual_of_model}
 use Rattle.dual_model.specs.Duality.{holds_duals}
 
