@@ -1,4 +1,5 @@
 pub mod Texts
 pub mod Options
 pub mod Files
+pub mod Generate
 pub mod Words

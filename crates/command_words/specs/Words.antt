@@ -4,16 +4,20 @@
 --     plan [--target T]
 --     solve MODEL [--target T] [--pivots N]
 --     check MODEL CERTIFICATE
+--     gen SEED VARS ROWS EDITS
 --
 -- T is `standard`, `rows`, `cone`, `all` or `less`, and N one to ten decimal digits of at most
 -- 4,294,967,295. An option and its value are two words, or one with = between them. Each option
 -- stands at most once. MODEL and CERTIFICATE are names of files, of 1 to 4,096 bytes, which don't
--- begin with `-`. Options and files stand in any order.
-use Rattle.std.specs.Prelude.{◌&&◌, is_none, List, [], ◌∷◌, Option, Some, None, option_and_then, bytes_eq, codes, if◌then◌else◌}
+-- begin with `-`. Options and files stand in any order. The four numbers of `gen` are one to ten
+-- decimal digits: SEED is at most 2,147,483,647, VARS 1 to 1,000, ROWS at most 1,000, and EDITS at
+-- most 100,000, and 0 where ROWS is 0.
+use Rattle.std.specs.Prelude.{◌&&◌, is_none, List, [], ◌∷◌, Option, Some, None, option_and_then, option_map, bytes_eq, codes, if◌then◌else◌}
 use Rattle.command_words.specs.declared.options.Options.{Options}
 use Rattle.command_words.specs.declared.words.Command.{Command}
-use Rattle.command_words.specs.declared.words.Command.TheVariants.{Check, Plan, Run, Solve}
+use Rattle.command_words.specs.declared.words.Command.TheVariants.{Check, Generate, Plan, Run, Solve}
 use Rattle.command_words.specs.Files.{files_of, has_name_length}
+use Rattle.command_words.specs.Generate.{recipe_in}
 use Rattle.command_words.specs.Options.{Word, no_options, options_from, setup_by}
 
 abbrev pub without_files : Options → Word → Option Command
@@ -43,9 +47,15 @@ command_named name options (model ∷ []) = with_model options name model
 command_named name options (model ∷ certificate ∷ []) = with_both options name model certificate
 command_named name options (first ∷ second ∷ third ∷ more) = None
 
+-- what the command of a name is to do, by the words that follow it, which give options and files
+unfoldable pub command_given : Word → List Word → Option Command
+command_given name words =
+    option_and_then (λ options. command_named name options (files_of words))
+    (options_from no_options words)
+
 -- what the words say; nothing where they are of no command
 unfoldable pub command_of : List Word → Option Command
 command_of [] = None
 command_of (name ∷ words) =
-    option_and_then (λ options. command_named name options (files_of words))
-    (options_from no_options words)
+    if bytes_eq name (codes "gen") then option_map Generate (recipe_in words)
+    else command_given name words

@@ -2,6 +2,7 @@
 #![tactic(auto)]
 
 mod files;
+mod generate;
 mod given;
 mod options;
 pub mod words;

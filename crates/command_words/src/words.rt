@@ -2,11 +2,13 @@
 ghost use Rattle.std.specs.Prelude.{◌≡◌, IfOk, IsSome, OnErr};
 ghost use Rattle.command_words.specs.Files.{files_in};
 ghost use Rattle.command_words.specs.Texts.{texts};
-ghost use Rattle.command_words.specs.Words.{command_named, command_of, with_both, with_model, without_files};
+ghost use Rattle.command_words.specs.Words.{command_given, command_named, command_of, with_both, with_model, without_files};
 
 use crate::files::{FileWords, is_name};
+use crate::generate::read_recipe;
 use crate::given::Given;
 use crate::options::Options;
+use generated_script::Recipe;
 use item_core::Target;
 use lists::Memory;
 use name_index::Name;
@@ -24,6 +26,8 @@ pub enum Command {
     Solve { setup: Setup, model: Name },
     /// Says whether the certificate of a file proves what it says of a file's model.
     Check { model: Name, certificate: Name },
+    /// Answers the lines of a generated script, and sums the answers up.
+    Generate(Recipe),
 }
 
 /// What the session is told before its first line.
@@ -43,10 +47,24 @@ pub fn read_words(alloc: Global, words: &[String]) -> Result<Option<Command>, Me
 {
     match words {
         [] => Ok(None),
-        [name, words @ ..] => match Given::read(words) {
-            None => Ok(None),
-            Some(given) => command_for(alloc, &given, name.as_bytes()),
-        },
+        [name, words @ ..] => {
+            if is(name.as_bytes(), "gen") {
+                return Ok(read_recipe(words).map(Command::Generate));
+            }
+            read_given(alloc, name.as_bytes(), words)
+        }
+    }
+}
+
+// What the command of this name is to do, by the words that follow it.
+#[tactic(auto, unfolding(crate::specs::Words::command_given))]
+fn read_given(alloc: Global, name: &[u8], words: &[String]) -> Result<Option<Command>, Memory>
+    ensures said { IfOk result (λ said. said ≡ command_given name.now (texts words.now)) }
+    ensures of_one { OnErr result (IsSome (command_given name.now (texts words.now))) }
+{
+    match Given::read(words) {
+        None => Ok(None),
+        Some(given) => command_for(alloc, &given, name),
     }
 }
 

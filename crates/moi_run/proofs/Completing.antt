@@ -4,7 +4,7 @@ use Rattle.std.specs.Prelude.{All, Any, IsTrue}
 use Rattle.std.specs.Str.Lines.{lines}
 use Rattle.std.proofs.lemmas.List.Elements.{All-get_or}
 use Rattle.command_words.specs.declared.words.Command.{Command}
-use Rattle.command_words.specs.declared.words.Command.TheVariants.{Plan, Run}
+use Rattle.command_words.specs.declared.words.Command.TheVariants.{Generate, Plan, Run}
 use Rattle.edit_engine.specs.Lines.{heard}
 use Rattle.io_face.specs.Fault.{HasFaulted}
 use Rattle.io_face.specs.Told.{Told}
@@ -53,6 +53,7 @@ module _ (shelf : Told) (reads reads' fetches fetches' : ℕ) where
       (HasFaulted fetches fetches' × (IsTrue shelf.sure → AsksInVain said left shelf)) → ⊥
   no_read_fault None left read fetched fault = absurd read
   no_read_fault (Some (Plan setup)) left read fetched fault = absurd fault
+  no_read_fault (Some (Generate numbers)) left read fetched fault = absurd fault
   no_read_fault (Some (Run setup)) left read fetched (inl fault) =
       unsound reads reads' read.2 fault
   no_read_fault (Some (Run setup)) left read fetched (inr fault) =

@@ -9,3 +9,5 @@ pub mod Completing
 pub mod Running
 pub mod Checking
 pub mod PlanLine
+pub mod Quiet
+pub mod Summaries

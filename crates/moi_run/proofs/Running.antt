@@ -4,7 +4,7 @@ use Rattle.std.specs.Prelude.{◌↔◌, All, Any, IsSome, codes, option_map, Is
 use Rattle.std.specs.Str.Lines.{lines}
 use Rattle.std.proofs.lemmas.Option.{none-some}
 use Rattle.command_words.specs.declared.words.Command.{Command}
-use Rattle.command_words.specs.declared.words.Command.TheVariants.{Check, Plan, Run, Solve}
+use Rattle.command_words.specs.declared.words.Command.TheVariants.{Check, Generate, Plan, Run, Solve}
 use Rattle.command_words.specs.declared.words.Setup.{Setup}
 use Rattle.edit_engine.specs.Held.{Held, machine_of, state_of}
 use Rattle.edit_engine.specs.Lines.{Answers, heard, is_load, next, none, says_load}
@@ -12,6 +12,7 @@ use Rattle.edit_engine.specs.LinesLaws.{IsStopped, stops_by}
 use Rattle.cache_layer.specs.State.{with_table}
 use Rattle.edit_engine.specs.Script.{Machine, machine_by}
 use Rattle.file_verdict.specs.Verdict.{AsksFiles}
+use Rattle.generated_script.specs.Numbers.{Numbers}
 use Rattle.io_face.specs.Fault.{HasFaulted}
 use Rattle.io_face.specs.Shelf.{AsksFor}
 use Rattle.io_face.specs.Sink.{Adds, AddsPrefix}
@@ -21,7 +22,7 @@ use Rattle.io_face.specs.declared.shelf.FetchFault.{FetchFault}
 use Rattle.io_face.specs.declared.shelf.FetchFault.TheVariants as fetch
 use Rattle.item_core.specs.Table.{target_table}
 use Rattle.moi_run.specs.Answering.{BeginsAnswers, StopsAtFile, WritesAnswers}
-use Rattle.moi_run.specs.Commands.{AsksInVain, IfCheck, LoadsFile, lines_for, solve_lines, start_by, start_for}
+use Rattle.moi_run.specs.Commands.{AsksInVain, IfCheck, IfGenerate, LoadsFile, lines_for, solve_lines, start_by, start_for}
 use Rattle.moi_run.specs.Input.{Ends}
 use Rattle.moi_run.specs.Run.{EachOutcome, FetchFails, HasCause, Outcome, Runs, RunsEach}
 use Rattle.moi_run.specs.Status.{IsEnded, has_refused}
@@ -178,6 +179,15 @@ runs_script setup end left left' shelf faults faults' source sink s middle new w
     }
 
 -- the session was told the options
+pub machine_set_up : (setup : Setup) (old new : Held) (shelf : Told)
+    → state_of new ≡ with_table (state_of old) (target_table setup.target)
+    → new.pivots ≡ setup.pivots
+    → machine_of new shelf
+    ≡ machine_by (with_table (state_of old) (target_table setup.target)) setup.pivots shelf
+machine_set_up setup old new shelf state pivots =
+    ap (λ s. machine_by s new.pivots shelf) state
+    ∙ ap (λ n. machine_by (with_table (state_of old) (target_table setup.target)) n shelf) pivots
+
 pub set_up_is : (setup : Setup) (old new : Held) (shelf : Told) (asked : Option (List (List ℕ)))
     → state_of new ≡ with_table (state_of old) (target_table setup.target)
     → new.pivots ≡ setup.pivots
@@ -186,8 +196,7 @@ pub set_up_is : (setup : Setup) (old new : Held) (shelf : Told) (asked : Option 
 set_up_is setup old new shelf asked state pivots calls =
     let machine : machine_of new shelf
     ≡ machine_by (with_table (state_of old) (target_table setup.target)) setup.pivots shelf =
-    ap (λ s. machine_by s new.pivots shelf) state
-    ∙ ap (λ n. machine_by (with_table (state_of old) (target_table setup.target)) n shelf) pivots in
+    machine_set_up setup old new shelf state pivots in
     λ i. record { machine = machine i; calls = calls i; asked = asked }
 
 -- ---- given lines
@@ -286,6 +295,16 @@ always_check (Some (Run setup)) Q h = tt
 always_check (Some (Plan setup)) Q h = tt
 always_check (Some (Solve setup model)) Q h = tt
 always_check (Some (Check model certificate)) Q h = h model certificate
+always_check (Some (Generate numbers)) Q h = tt
+
+pub always_generate : (said : Option Command) (Q : Numbers → Type 0) → ((n : Numbers) → Q n)
+    → IfGenerate said Q
+always_generate None Q h = tt
+always_generate (Some (Run setup)) Q h = tt
+always_generate (Some (Plan setup)) Q h = tt
+always_generate (Some (Solve setup model)) Q h = tt
+always_generate (Some (Check model certificate)) Q h = tt
+always_generate (Some (Generate numbers)) Q h = h numbers
 
 -- memory ran out before the first line, or the words are of no command
 runs_nothing : (said : Option Command) (end : Status) (left left' : Option (List ℕ)) (shelf : Told)
@@ -388,3 +407,26 @@ pub command_runs : {given command : Command} {end : Status} {left left' : Option
     → given ≡ command → Runs (Some given) end left left' shelf source fetch s new wrote begun
     → Runs (Some command) end left left' shelf source fetch s new wrote begun
 command_runs is runs = said_runs (ap Some is) runs
+
+-- ---- a generated script
+
+pub runs_generated : (n : Numbers) (end : Status) (left left' : Option (List ℕ)) (shelf : Told)
+    (source fetch : Type 0) (s new : Tally) (wrote begun : List ℕ → Type 0)
+    → (IsEnded end → new.machine.pivots ≡ 100000)
+    → (end ≢ status.ReadFault) × (end ≢ status.TooLong)
+    → Runs (Some (Generate n)) end left left' shelf source fetch s new wrote begun
+runs_generated n end left left' shelf source fetch s new wrote begun pivots stops = record {
+  text = λ ended. tt;
+  verdict = λ ended. tt;
+  pivots = pivots;
+  to_the_end = λ ended. tt;
+  within_limits = λ ended. tt;
+  prefix = tt;
+  asks = λ other. tt;
+  verdict_prefix = tt;
+  read_fault = λ e. absurd (stops.0 e);
+  at_read_fault = λ e. absurd (stops.0 e);
+  at_write_fault = λ e. tt;
+  too_long = λ e. absurd (stops.1 e);
+  at_limit = λ e. absurd (stops.1 e);
+}

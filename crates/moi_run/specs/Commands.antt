@@ -7,17 +7,20 @@ use Rattle.std.specs.Prelude.{◌≡◌, ℕ, ◌^◌, ◌-◌, ◌<◌, ◌⊎�
 use Rattle.std.specs.declared.alloc.Global.{Global}
 use Rattle.std.specs.Str.Lines.{lines}
 use Rattle.command_words.specs.declared.words.Command.{Command}
-use Rattle.command_words.specs.declared.words.Command.TheVariants.{Check, Plan, Run, Solve}
+use Rattle.command_words.specs.declared.words.Command.TheVariants.{Check, Generate, Plan, Run, Solve}
 use Rattle.command_words.specs.declared.words.Setup.{Setup}
 use Rattle.command_words.specs.Texts.{texts}
 use Rattle.command_words.specs.Words.{command_of}
 use Rattle.edit_engine.specs.Held.{set_up}
 use Rattle.edit_engine.specs.Lines.{heard}
+use Rattle.edit_engine.specs.Script.{Machine}
 use Rattle.file_verdict.specs.Verdict.{MakesModel}
+use Rattle.generated_script.specs.Numbers.{Numbers}
 use Rattle.io_face.specs.Shelf.{Gives}
 use Rattle.io_face.specs.Told.{Told}
 use Rattle.io_face.specs.declared.shelf.FetchFault.TheVariants.{Failed, TooLong}
 use Rattle.item_core.specs.Table.{target_table}
+use Rattle.item_core.specs.declared.table.Target.TheVariants.{Standard}
 use Rattle.moi_run.specs.Input.{IsWithinLimits}
 use Rattle.moi_run.specs.Tally.{Tally}
 use Rattle.name_index.specs.Escape.{escaped}
@@ -49,15 +52,21 @@ lines_for (Some (Run setup)) left = option_map (λ bytes. heard (lines bytes)) l
 lines_for (Some (Plan setup)) left = Some (codes "plan" ∷ [])
 lines_for (Some (Solve setup model)) left = Some (solve_lines model)
 lines_for (Some (Check model certificate)) left = None
+lines_for (Some (Generate numbers)) left = None
 lines_for None left = None
 
 -- ---- what a session is told before its first line
+
+-- of a generated script
+abbrev pub generate_setup : Setup
+generate_setup = record { target = Standard; pivots = 100000 }
 
 abbrev pub setup_for : Option Command → Option Setup
 setup_for (Some (Run setup)) = Some setup
 setup_for (Some (Plan setup)) = Some setup
 setup_for (Some (Solve setup model)) = Some setup
 setup_for (Some (Check model certificate)) = None
+setup_for (Some (Generate numbers)) = Some generate_setup
 setup_for None = None
 
 abbrev pub start_by : Option Setup → Tally → Tally
@@ -68,6 +77,10 @@ start_by (Some setup) s =
 -- the machine with which the command begins, by that of its session
 abbrev pub start_for : Option Command → Tally → Tally
 start_for said s = start_by (setup_for said) s
+
+-- the machine with which a generated script begins, by that of its session
+abbrev pub generate_start : Machine → Machine
+generate_start s = set_up s (target_table generate_setup.target) generate_setup.pivots
 
 -- ---- files
 
@@ -80,6 +93,7 @@ LoadsFile name text = line_said text ≡ Ok (line.Load name)
 abbrev pub Asks : Told → Option Command → Option (List ℕ) → List ℕ → Type 0
 Asks shelf (Some (Check model certificate)) left name =
     (name ≡ model) ⊎ ((name ≡ certificate) × MakesModel shelf model)
+Asks shelf (Some (Generate numbers)) left name = ⊥
 Asks shelf said left name = IfSome (lines_for said left) (Any (LoadsFile name))
 
 -- it may ask for a file that the shelf, where it tells its files, doesn't have, or that is too long
@@ -99,6 +113,7 @@ HasReadFault (Some (Run setup)) source shelf = source ⊎ shelf
 HasReadFault (Some (Plan setup)) source shelf = ⊥
 HasReadFault (Some (Solve setup model)) source shelf = shelf
 HasReadFault (Some (Check model certificate)) source shelf = shelf
+HasReadFault (Some (Generate numbers)) source shelf = ⊥
 HasReadFault None source shelf = ⊥
 
 -- no fault is counted between two counts, which stand short of the last
@@ -129,12 +144,18 @@ abbrev pub ReadsNothing : Option Command → Type 0
 ReadsNothing (Some (Run setup)) = ⊥
 ReadsNothing said = Unit {0}
 
--- `plan` leaves the shelf
-abbrev pub IsPlan : Option Command → Type 0
-IsPlan (Some (Plan setup)) = Unit {0}
-IsPlan said = ⊥
+-- `plan` and a generated script leave the shelf
+abbrev pub FetchesNothing : Option Command → Type 0
+FetchesNothing (Some (Plan setup)) = Unit {0}
+FetchesNothing (Some (Generate numbers)) = Unit {0}
+FetchesNothing said = ⊥
 
 -- `check`, and what holds of its files
 abbrev pub IfCheck : Option Command → (List ℕ → List ℕ → Type 0) → Type 0
 IfCheck (Some (Check model certificate)) holds = holds model certificate
 IfCheck said holds = Unit {0}
+
+-- a generated script, and what holds of its numbers
+abbrev pub IfGenerate : Option Command → (Numbers → Type 0) → Type 0
+IfGenerate (Some (Generate numbers)) holds = holds numbers
+IfGenerate said holds = Unit {0}

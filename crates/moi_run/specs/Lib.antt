@@ -3,4 +3,5 @@ pub mod Tally
 pub mod Answering
 pub mod Input
 pub mod Commands
+pub mod Generated
 pub mod Run

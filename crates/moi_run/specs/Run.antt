@@ -2,7 +2,7 @@
 use Rattle.std.specs.Prelude.{◌≡◌, ◌≢◌, ℕ, ◌⊎◌, Bool, true, false, List, [], Option, Some, None, Err, IfSome, IsTrue}
 use Rattle.std.specs.Str.Lines.{lines}
 use Rattle.command_words.specs.declared.words.Command.{Command}
-use Rattle.command_words.specs.declared.words.Command.TheVariants.{Check, Plan, Run, Solve}
+use Rattle.command_words.specs.declared.words.Command.TheVariants.{Check, Generate, Plan, Run, Solve}
 use Rattle.command_words.specs.declared.words.Setup.{Setup}
 use Rattle.edit_engine.specs.Lines.{heard}
 use Rattle.file_verdict.specs.Verdict.{AsksFiles, IsVerdict}
@@ -89,6 +89,7 @@ AtReadFault told (Some (Solve setup model)) source shelf left left' s new wrote 
 AtReadFault told (Some (Check model certificate)) source shelf left left' s new wrote =
     IsVerdict told model certificate ReadFault × wrote []
 AtReadFault told (Some (Plan setup)) source shelf left left' s new wrote = ⊥
+AtReadFault told (Some (Generate numbers)) source shelf left left' s new wrote = ⊥
 AtReadFault told None source shelf left left' s new wrote = ⊥
 
 -- the same where a limit did
@@ -102,6 +103,7 @@ AtLimit told (Some (Solve setup model)) left s new wrote =
 AtLimit told (Some (Check model certificate)) left s new wrote =
     IsVerdict told model certificate TooLong × wrote []
 AtLimit told (Some (Plan setup)) left s new wrote = ⊥
+AtLimit told (Some (Generate numbers)) left s new wrote = ⊥
 AtLimit told None left s new wrote = ⊥
 
 -- what is written where the sink stopped the work: the answers of all lines before one, and a part

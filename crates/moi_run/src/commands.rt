@@ -1,14 +1,15 @@
 //! The commands, by the words.
 ghost use Rattle.std.specs.Prelude.{◌≡◌, ◌≢◌, ℕ, Bool, ◌+◌, ◌↔◌, ◌⊎◌, [], None, Some, false, IfSome, IsTrue};
 ghost use Rattle.cache_layer.specs.Cached.{Stands, model_in};
-ghost use Rattle.edit_engine.specs.Held.{state_of};
+ghost use Rattle.edit_engine.specs.Held.{machine_of, state_of};
 ghost use Rattle.file_verdict.specs.Verdict.{AsksFiles};
 ghost use Rattle.io_face.specs.Fault.{HasFaulted};
 ghost use Rattle.io_face.specs.Shelf.{AsksFor};
 ghost use Rattle.io_face.specs.Sink.{Adds, AddsPrefix};
 ghost use Rattle.io_face.specs.Told.{told_by};
 ghost use Rattle.moi_run.specs.Answering.{BeginsAnswers, WritesAnswers};
-ghost use Rattle.moi_run.specs.Commands.{AsksInVain, CanBeFetched, CanBeRead, HasReadFault, IfCheck, IsPlan, IsSound, ReadsNothing, input_for, lines_for, said_by, setup_for, start_for};
+ghost use Rattle.moi_run.specs.Commands.{AsksInVain, CanBeFetched, CanBeRead, FetchesNothing, HasReadFault, IfCheck, IfGenerate, IsSound, ReadsNothing, generate_start, input_for, lines_for, said_by, setup_for, start_for};
+ghost use Rattle.moi_run.specs.Generated.{BeginsSummary, EndsWithSummary, MayWriteSummary, WritesSummary};
 ghost use Rattle.moi_run.specs.Input.{IsReadToEnd, IsWithinLimits};
 ghost use Rattle.moi_run.specs.Run.{AtLimit, AtReadFault, AtWriteFault, HasTooLong, Runs, WritesVerdict};
 ghost use Rattle.moi_run.specs.Status.{IsEnded, has_refused};
@@ -18,6 +19,7 @@ ghost use Rattle.script_lines.specs.Reading.{TakesAtMost};
 
 use crate::answers::answer_with;
 use crate::check::answer_check;
+use crate::generating::answer_generated;
 use crate::input::answer_script;
 use crate::solve::answer_solve;
 use crate::status::Status;
@@ -31,7 +33,8 @@ use std::alloc::Global;
 /// the answer of each line to `output`, up to the end of the input or the line `quit`; `plan`
 /// answers that line alone; `solve` answers the lines that load the model of a file, attach a
 /// solver and optimise; `check` answers whether the certificate of a file proves what it says of a
-/// file's model.
+/// file's model; `gen` answers the lines of a generated script, and writes the summary of the
+/// answers.
 pub fn run<B: Bridge, H: Shelf, I: Source, O: Sink>(
     alloc: Global,
     words: &[String],
@@ -66,6 +69,13 @@ pub fn run<B: Bridge, H: Shelf, I: Source, O: Sink>(
     ensures within_limits { IsEnded result
         → IfSome (input_for (said_by words.now) (I.left input.old)) IsWithinLimits }
 
+    // Or the lines of the generated script were answered, and the summary was written.
+    ensures summary { let said = said_by words.now in
+        let told = told_by (H.files shelf.old) (H.sure shelf.old) in
+        IsEnded result → IfGenerate said (λ numbers.
+        WritesSummary (generate_start (machine_of session.old told)) numbers (has_refused result)
+        (machine_of session.new told) (Adds (O.written output.old) (O.written output.new))) }
+
     // Or the verdict on the two files was given, and the session is as it was.
     ensures verdict { let told = told_by (H.files shelf.old) (H.sure shelf.old) in
         IsEnded result → IfCheck (said_by words.now) (λ model certificate.
@@ -95,6 +105,12 @@ pub fn run<B: Bridge, H: Shelf, I: Source, O: Sink>(
         let begun = AddsPrefix (O.written output.old) (O.written output.new) in
         IfCheck (said_by words.now) (λ model certificate. begun []
         ⊎ ((refused : Bool) × WritesVerdict told model certificate refused begun)) }
+    ensures summary_prefix { let said = said_by words.now in
+        let told = told_by (H.files shelf.old) (H.sure shelf.old) in
+        IfGenerate said (λ numbers.
+        MayWriteSummary (generate_start (machine_of session.old told)) numbers
+        (machine_of session.new told)
+        (AddsPrefix (O.written output.old) (O.written output.new))) }
     ensures taken { TakesAtMost (input_limit + 1) (I.left input.old) (I.left input.new) }
 
     // A fault of the source or of the shelf was counted; a sure shelf lacks a file that the command
@@ -139,9 +155,9 @@ pub fn run<B: Bridge, H: Shelf, I: Source, O: Sink>(
         (start_for said before) after
         (Adds (O.written output.old) (O.written output.new)) }
 
-    // Only `run` reads the input, and `plan` asks for no file.
+    // Only `run` reads the input, and neither `plan` nor `gen` asks for a file.
     ensures unread { ReadsNothing (said_by words.now) → input.new ≡ input.old }
-    ensures unasked { IsPlan (said_by words.now) → (shelf.new ≡ shelf.old)
+    ensures unasked { FetchesNothing (said_by words.now) → (shelf.new ≡ shelf.old)
         × (result ≢ Status.ReadFault) × (result ≢ Status.TooLong) }
 
     // With nothing against it, the work ends, unless memory runs out.
@@ -184,12 +200,18 @@ fn obey_words<B: Bridge, H: Shelf, I: Source, O: Sink>(
         (HasFaulted (H.faults shelf.old) (H.faults shelf.new)) before
         after (Adds (O.written output.old) (O.written output.new))
         (AddsPrefix (O.written output.old) (O.written output.new)) }
+    ensures summary { let told = told_by (H.files shelf.old) (H.sure shelf.old) in
+        EndsWithSummary (said_by words.now) result (machine_of session.old told)
+        (machine_of session.new told) (Adds (O.written output.old) (O.written output.new)) }
+    ensures summary_prefix { let told = told_by (H.files shelf.old) (H.sure shelf.old) in
+        BeginsSummary (said_by words.now) (machine_of session.old told) (machine_of session.new told)
+        (AddsPrefix (O.written output.old) (O.written output.new)) }
     ensures idle { IfCheck (said_by words.now) (λ _ _. session.new ≡ session.old) }
     ensures taken { TakesAtMost (input_limit + 1) (I.left input.old) (I.left input.new) }
     ensures write_fault { result ≡ Status.WriteFault
         → HasFaulted (O.faults output.old) (O.faults output.new) }
     ensures unread { ReadsNothing (said_by words.now) → input.new ≡ input.old }
-    ensures unasked { IsPlan (said_by words.now) → (shelf.new ≡ shelf.old)
+    ensures unasked { FetchesNothing (said_by words.now) → (shelf.new ≡ shelf.old)
         × (result ≢ Status.ReadFault) × (result ≢ Status.TooLong) }
     ensures sound_reads { IsEnded result → I.faults input.new ≡ I.faults input.old }
     ensures sound_fetches { IsEnded result → H.faults shelf.new ≡ H.faults shelf.old }
@@ -223,12 +245,18 @@ fn obey<B: Bridge, H: Shelf, I: Source, O: Sink>(
         (HasFaulted (H.faults shelf.old) (H.faults shelf.new)) before
         after (Adds (O.written output.old) (O.written output.new))
         (AddsPrefix (O.written output.old) (O.written output.new)) }
+    ensures summary { let told = told_by (H.files shelf.old) (H.sure shelf.old) in
+        EndsWithSummary (Some command) result (machine_of session.old told)
+        (machine_of session.new told) (Adds (O.written output.old) (O.written output.new)) }
+    ensures summary_prefix { let told = told_by (H.files shelf.old) (H.sure shelf.old) in
+        BeginsSummary (Some command) (machine_of session.old told) (machine_of session.new told)
+        (AddsPrefix (O.written output.old) (O.written output.new)) }
     ensures idle { IfCheck (Some command) (λ _ _. session.new ≡ session.old) }
     ensures taken { TakesAtMost (input_limit + 1) (I.left input.old) (I.left input.new) }
     ensures write_fault { result ≡ Status.WriteFault
         → HasFaulted (O.faults output.old) (O.faults output.new) }
     ensures unread { ReadsNothing (Some command) → input.new ≡ input.old }
-    ensures unasked { IsPlan (Some command) → (shelf.new ≡ shelf.old)
+    ensures unasked { FetchesNothing (Some command) → (shelf.new ≡ shelf.old)
         × (result ≢ Status.ReadFault) × (result ≢ Status.TooLong) }
     ensures sound_reads { IsEnded result → I.faults input.new ≡ I.faults input.old }
     ensures sound_fetches { IsEnded result → H.faults shelf.new ≡ H.faults shelf.old }
@@ -247,5 +275,6 @@ fn obey<B: Bridge, H: Shelf, I: Source, O: Sink>(
         Command::Check { model, certificate } => {
             answer_check(alloc, &model, &certificate, shelf, output)
         }
+        Command::Generate(recipe) => answer_generated(alloc, recipe, shelf, output, session),
     }
 }

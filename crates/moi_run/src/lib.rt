@@ -5,6 +5,7 @@
 mod answers;
 mod check;
 mod commands;
+mod generating;
 mod input;
 mod reply;
 mod solve;

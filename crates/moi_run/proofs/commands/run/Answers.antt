@@ -45,3 +45,9 @@ returns-clause-complete g c =
 
 pub returns-clause-asks : goal.returns-clause-asks
 returns-clause-asks g c = c.obey_words-status.ensures.runs.asks
+
+pub returns-clause-summary : goal.returns-clause-summary
+returns-clause-summary g c = c.obey_words-status.ensures.summary
+
+pub returns-clause-summary_prefix : goal.returns-clause-summary_prefix
+returns-clause-summary_prefix g c = c.obey_words-status.ensures.summary_prefix
