@@ -12,8 +12,8 @@ use Rattle.aff_core.specs.declared.root.Root.TheVariants as root
 use Rattle.item_core.specs.declared.item.Body.{Body}
 use Rattle.item_core.specs.declared.item.Body.TheVariants.{PlainObj, AffineObj}
 use Rattle.item_core.specs.declared.item.Item.{Item}
-use Rattle.numbered.specs.Laws.{Rise-head, Rise-tail}
-use Rattle.numbered.specs.Numbered.{Rise}
+use Rattle.numbered_list.specs.Laws.{Rise-head, Rise-tail}
+use Rattle.numbered_list.specs.Numbered.{Rise}
 use Rattle.user_model.specs.Consistent.{variable_number}
 use Rattle.user_model.specs.Edited.{group_number, row_number}
 use Rattle.user_model.specs.Model.{ModelValue, variable_address, variables}

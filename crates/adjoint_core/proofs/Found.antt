@@ -8,7 +8,7 @@ use Rattle.std.proofs.Common.{arith, ap, subst, sym, ◌∙◌, true≢false}
 use Rattle.std.proofs.lemmas.List.Elements.{All-head, All-tail}
 use Rattle.aff_core.specs.Address.{Address, address_cmp, address_eq-Decides, address_total}
 use Rattle.aff_core.specs.KeyOrder.{address_order, other_key}
-use Rattle.boxes.specs.Boxed.{families_of, kept_among}
+use Rattle.bridge_set.specs.Boxed.{families_of, kept_among}
 use Rattle.bridge_face.specs.State.{State, found}
 use Rattle.bridge_face.specs.declared.kept_item.KeptItem.{KeptItem}
 use Rattle.item_core.specs.Edge.{family_eq, family_of}

@@ -1,6 +1,5 @@
 mod BackSizes
 mod InOrder
-mod Beside
 mod Found
 mod Halving
 mod GapSteps

@@ -42,7 +42,7 @@ use Rattle.adjoint_core.specs.CarriedBack.{AllRowsFit, IsUnfitRow, RowsFit, Unfi
 use Rattle.adjoint_core.specs.Told.{FirstNot}
 use Rattle.adjoint_core.specs.Walk.{AreWithin, DualFits, IsUnfitAmong, IsWithin, RowDualFits, dual_at, row_dual, row_place}
 use Rattle.adjoint_core.proofs.BackSizes.{row_size}
-use Rattle.adjoint_core.proofs.Beside.{all_beside}
+use Rattle.tree_laws.specs.BesideLaws.{all_beside}
 use Rattle.adjoint_core.proofs.Found.{node_kept, none_kept}
 use Rattle.adjoint_core.proofs.Walks.{IsFreeRow, Known, RowsWalk, walk_rows}
 

@@ -27,7 +27,7 @@ use Rattle.bridge_face.specs.ImageOf.{image_of}
 use Rattle.bridge_face.specs.Law.{is_objective, listed}
 use Rattle.bridge_face.specs.State.{State, child_rows_of}
 use Rattle.bridge_face.specs.declared.kept_item.KeptItem.{KeptItem}
-use Rattle.boxes.specs.Boxed.{families_of}
+use Rattle.bridge_set.specs.Boxed.{families_of}
 use Rattle.bridge_plan.specs.Adds.{kept_of}
 use Rattle.fresh_bridging.specs.BodyLaws.{length_put}
 use Rattle.fresh_bridging.specs.CanLaws.{AreLawful, down, same_entry}

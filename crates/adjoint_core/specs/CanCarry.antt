@@ -4,8 +4,8 @@ use Rattle.std.specs.Prelude.{◌≡◌, List, All, length}
 use Rattle.std.specs.FinMap as finite
 use Rattle.address_map.specs.AddressMap.{AddressMap}
 use Rattle.aff_core.specs.Address.{Address}
-use Rattle.boxes.specs.Boxed.{families_of}
-use Rattle.boxes.specs.Nodes.{nodes_by}
+use Rattle.bridge_set.specs.Boxed.{families_of}
+use Rattle.bridge_set.specs.Nodes.{nodes_by}
 use Rattle.bridge_face.specs.State.{State}
 use Rattle.bridge_graph.specs.Hypergraph.{IsCostly}
 use Rattle.equality_form.specs.ReadBack.{Answer, infeasible, optimal, unbounded}

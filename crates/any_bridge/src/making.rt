@@ -2,13 +2,13 @@
 ghost use Rattle.std.specs.Prelude.{◌≡◌, All, IfOk, IsTrue, map};
 ghost use Rattle.std.specs.FinMap as finite;
 ghost use Rattle.any_bridge.specs.States.{fresh, state_of_any};
-ghost use Rattle.boxes.specs.Boxed.{families_of, occur_once};
-ghost use Rattle.script_words.specs.declared.family.TheConstants.{FAMILIES};
+ghost use Rattle.bridge_set.specs.Boxed.{families_of, occur_once};
+ghost use Rattle.script_tokens.specs.declared.family.TheConstants.{FAMILIES};
 
 use crate::AnyBridge;
 use item_core::Family;
 use lists::Memory;
-use script_words::FAMILIES;
+use script_tokens::FAMILIES;
 use std::alloc::Global;
 
 /// A bridge of each family, which keeps nothing.

@@ -5,7 +5,7 @@ use Rattle.std.specs.Prelude.{ℕ, ◌+◌, ◌-◌, ◌≤◌, List, [], ◌∷
 use Rattle.std.specs.List.{slice_split}
 use Rattle.ratio_core.specs.Rational.{Rational}
 use Rattle.ratio_core.specs.Text.{rational_of}
-use Rattle.script_words.specs.Each.{each, ◌>>=◌}
+use Rattle.script_tokens.specs.Each.{each, ◌>>=◌}
 use Rattle.simplex_core.specs.declared.form.StdForm.{StdForm}
 use Rattle.simplex_core.specs.StdForm.{IsWellShaped}
 use Rattle.bland_run.specs.Forms.{form_from}

@@ -3,7 +3,7 @@ use Rattle.std.specs.Prelude.{ℕ, ◌+◌, ◌^◌, Bool, ◌&&◌, List, [], �
 use Rattle.std.specs.Char.{is_ascii_digit}
 use Rattle.std.specs.List.{list_all, slice_split}
 use Rattle.std.specs.Str.Parse.{digits_value}
-use Rattle.script_words.specs.Each.{◌>>=◌}
+use Rattle.script_tokens.specs.Each.{◌>>=◌}
 use Rattle.bland_run.specs.declared.size.Size.{Size}
 
 -- one decimal digit or more

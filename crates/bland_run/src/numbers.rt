@@ -2,7 +2,7 @@
 ghost use Rattle.std.specs.Prelude.{◌≡◌, ◌==◌, ◌++◌, IfOk, OnOk};
 ghost use Rattle.std.specs.List.{slice_split};
 ghost use Rattle.ratio_core.specs.Text.{rational_of};
-ghost use Rattle.script_words.specs.Each.{each};
+ghost use Rattle.script_tokens.specs.Each.{each};
 ghost use Rattle.bland_run.specs.Reading.{numbers_in};
 
 use crate::pieces::Pieces;

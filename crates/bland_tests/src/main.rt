@@ -16,7 +16,7 @@ mod running;
 
 use case::Case;
 use std::io;
-use stop::Stop;
+use test_support::Stop;
 
 fn main(rt: HostRuntime) -> io::Result<()> {
     let mut case = Case::new(rt.alloc());

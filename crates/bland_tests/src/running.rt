@@ -5,7 +5,7 @@ use io_face::{Calls, MemSink, MemSource};
 use lists::Memory;
 use std::alloc::Global;
 use std::str;
-use stop::Stop;
+use test_support::Stop;
 
 /// Runs a case, and prints how it ends and what it writes.
 pub fn run_case(rt: &HostRuntime, case: &Case) -> Result<(), Stop> {

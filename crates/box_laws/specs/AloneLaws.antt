@@ -9,9 +9,9 @@ use Rattle.std.proofs.lemmas.List.Kept.{AllPairs-cons}
 use Rattle.aff_core.specs.Address.{Address}
 use Rattle.bridge_face.specs.State.{Kept, State}
 use Rattle.bridge_plan.specs.Adds.{kept_of}
-use Rattle.boxes.specs.Boxed.{families_of, kept_by, occur_once}
-use Rattle.boxes.specs.Letting.{IsAlone}
-use Rattle.boxes.specs.Nodes.{HoldNodes, nodes_by}
+use Rattle.bridge_set.specs.Boxed.{families_of, kept_by, occur_once}
+use Rattle.bridge_set.specs.Letting.{IsAlone}
+use Rattle.bridge_set.specs.Nodes.{HoldNodes, nodes_by}
 use Rattle.fresh_bridging.specs.FreshBridging.{FreshBridging, nodes_of}
 use Rattle.fresh_bridging.specs.TableLaws.{and_first, and_second, equal_family}
 use Rattle.fresh_bridging.specs.TheRules.{Setting, edge_at}

@@ -13,8 +13,8 @@ use Rattle.aff_core.specs.Address.{Address, address_cmp, address_total}
 use Rattle.bridge_face.specs.State.{State, child_rows_of, found}
 use Rattle.bridge_face.specs.declared.kept_item.KeptItem.{KeptItem}
 use Rattle.bridge_plan.specs.Adds.{kept_of}
-use Rattle.boxes.specs.Boxed.{families_of}
-use Rattle.boxes.specs.Nodes.{HoldNodes, nodes_by}
+use Rattle.bridge_set.specs.Boxed.{families_of}
+use Rattle.bridge_set.specs.Nodes.{HoldNodes, nodes_by}
 use Rattle.expansion.specs.Read.{model_nodes}
 use Rattle.fresh_bridging.specs.FreshBridging.{FreshBridging, nodes_of}
 use Rattle.fresh_bridging.specs.TableLaws.{and_second}
@@ -28,7 +28,7 @@ use Rattle.user_model.specs.Model.{ModelValue}
 use Rattle.box_laws.specs.FamilyLaws.{family_kept, family_part}
 use Rattle.box_laws.specs.ItemWalkLaws.{old_nodes, places_now}
 use Rattle.box_laws.specs.WalkLaws.{node_places}
-use Rattle.boxes.specs.Walk.{box_places, kept_first, nodes_below, places_of, walk}
+use Rattle.bridge_set.specs.Walk.{box_places, kept_first, nodes_below, places_of, walk}
 use Rattle.local_laws.specs.Held.{held_by}
 use Rattle.local_laws.specs.Sound.{IsValidUnder}
 use Rattle.local_laws.specs.Views.{by_address, look, of_nodes}

@@ -6,10 +6,10 @@ use Rattle.std.specs.Map.{keys_of}
 use Rattle.std.proofs.Common.{arith, sym, ap, ap₂, ◌∙◌}
 use Rattle.std.proofs.lemmas.List.{length-map}
 use Rattle.aff_core.specs.Address.{Address}
-use Rattle.boxes.specs.Adding.{with_each, with_one}
-use Rattle.boxes.specs.Boxed.{kept_by}
-use Rattle.boxes.specs.Letting.{without_each, without_list}
-use Rattle.boxes.specs.Nodes.{HoldNodes, nodes_by}
+use Rattle.bridge_set.specs.Adding.{with_each, with_one}
+use Rattle.bridge_set.specs.Boxed.{kept_by}
+use Rattle.bridge_set.specs.Letting.{without_each, without_list}
+use Rattle.bridge_set.specs.Nodes.{HoldNodes, nodes_by}
 use Rattle.bridge_face.specs.State.{Kept, State}
 use Rattle.bridge_face.specs.declared.kept_item.KeptItem.{KeptItem}
 use Rattle.bridge_plan.specs.Adds.{kept_of}
@@ -18,11 +18,11 @@ use Rattle.fresh_bridging.specs.TheRules.{Setting}
 use Rattle.fresh_bridging.specs.Touched.{IsInner, IsTouched}
 use Rattle.item_core.specs.Edge.{family_eq, family_of}
 use Rattle.item_core.specs.declared.family.Family.{Family}
-use Rattle.leaf_change.specs.Puts.{put_all}
+use Rattle.leaf_update.specs.Puts.{put_all}
 use Rattle.user_model.specs.Model.{ModelValue}
 use Rattle.box_laws.specs.FamilyLaws.{by_family, held_listed, nodes_held}
 use Rattle.box_laws.specs.KeptLaws.{boxes_hold}
-use Rattle.leaf_change.specs.Splice.{spliced, without_all}
+use Rattle.leaf_update.specs.Splice.{spliced, without_all}
 use Rattle.local_laws.specs.Held.{held_by}
 use Rattle.local_laws.specs.InnerLaws.{inner_is}
 use Rattle.local_laws.specs.Sound.{IsValidUnder}

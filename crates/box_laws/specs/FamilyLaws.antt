@@ -14,8 +14,8 @@ use Rattle.address_laws.specs.MadeLaws.{absent}
 use Rattle.aff_core.specs.Address.{Address, address_cmp, address_eq, address_eq-Decides, address_total}
 use Rattle.bridge_face.specs.declared.kept_item.KeptItem.{KeptItem}
 use Rattle.bridge_plan.specs.Adds.{kept_of}
-use Rattle.boxes.specs.Boxed.{kept_among}
-use Rattle.boxes.specs.Nodes.{nodes_by}
+use Rattle.bridge_set.specs.Boxed.{kept_among}
+use Rattle.bridge_set.specs.Nodes.{nodes_by}
 use Rattle.expansion.specs.Read.{model_nodes, nodes_in, nodes_of_each}
 use Rattle.fresh_bridging.specs.FreshBridging.{FreshBridging, nodes_of}
 use Rattle.fresh_bridging.specs.TheRules.{Setting}

@@ -24,7 +24,7 @@ use Rattle.address_laws.specs.DistinctLaws.{model_groups_here, model_others_here
 use Rattle.address_laws.specs.KeyLaws.{IsHere}
 use Rattle.address_laws.specs.LeafKeys.{at_of, keys_of_nodes}
 use Rattle.box_laws.specs.WalkLaws.{node_places, walked}
-use Rattle.boxes.specs.Walk.{walk}
+use Rattle.bridge_set.specs.Walk.{walk}
 use Rattle.local_laws.specs.Held.{held_at_in, held_by, held_of, is_there}
 use Rattle.local_laws.specs.HeldLaws.{held_each_at, held_in_at, keeps_own_each, keeps_own_in, none_at_each}
 use Rattle.local_laws.specs.LookedLaws.{found_passes, owner_looks}

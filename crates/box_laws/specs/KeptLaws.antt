@@ -12,8 +12,8 @@ use Rattle.map_laws.specs.MadeLaws.{get_made}
 use Rattle.map_laws.specs.PairLaws.{AllPairs-nil}
 use Rattle.address_laws.specs.Apart.{Avoids, Distinct}
 use Rattle.aff_core.specs.Address.{Address, address_total, exact_addresses}
-use Rattle.boxes.specs.Boxed.{kept_by}
-use Rattle.boxes.specs.Nodes.{HoldNodes, nodes_by}
+use Rattle.bridge_set.specs.Boxed.{kept_by}
+use Rattle.bridge_set.specs.Nodes.{HoldNodes, nodes_by}
 use Rattle.bridge_face.specs.State.{Kept, State}
 use Rattle.bridge_face.specs.declared.kept_item.KeptItem.{KeptItem}
 use Rattle.bridge_plan.specs.Adds.{kept_of}
@@ -25,8 +25,8 @@ use Rattle.item_core.specs.declared.family.Family.{Family}
 use Rattle.item_core.specs.declared.item.Item.{Item}
 use Rattle.user_model.specs.Model.{ModelValue}
 use Rattle.box_laws.specs.FamilyLaws.{by_family, family_kept, family_part, held_listed, look_family, nodes_held}
-use Rattle.leaf_change.specs.Splice.{spliced, without_all}
-use Rattle.leaf_change.specs.SplicedLaws.{get_left, get_put_all, get_without}
+use Rattle.leaf_update.specs.Splice.{spliced, without_all}
+use Rattle.leaf_update.specs.SplicedLaws.{get_left, get_put_all, get_without}
 use Rattle.local_laws.specs.ChangedLaws.{is_now, planned, was}
 use Rattle.local_laws.specs.GoneLaws.{keys_had, now_elsewhere, now_planned}
 use Rattle.local_laws.specs.Held.{held_by}

@@ -14,14 +14,14 @@ use Rattle.map_laws.specs.MadeLaws.{get_made}
 use Rattle.tree_laws.specs.LeafLaws.{IsNode}
 use Rattle.user_model.specs.Model.{ModelValue}
 use Rattle.bridge_face.specs.State.{State}
-use Rattle.boxes.specs.Boxed.{families_of}
-use Rattle.boxes.specs.Walk.{IsNarrow}
-use Rattle.boxes.specs.WidthLaws.{few_rows}
+use Rattle.bridge_set.specs.Boxed.{families_of}
+use Rattle.bridge_set.specs.Walk.{IsNarrow}
+use Rattle.bridge_set.specs.WidthLaws.{few_rows}
 use Rattle.local_laws.specs.Sound.{IsValidUnder}
 use Rattle.box_laws.specs.BoxWalkLaws.{looked_has, same_places}
 use Rattle.box_laws.specs.WalkLaws.{node_places}
 use Rattle.local_laws.specs.Views.{by_address}
-use Rattle.boxes.specs.Nodes.{HoldNodes}
+use Rattle.bridge_set.specs.Nodes.{HoldNodes}
 
 module _ {setting : Setting} {model : ModelValue} (sound : IsValidUnder setting model)
     (bridging : FreshBridging setting model)

@@ -27,7 +27,7 @@ use Rattle.address_laws.specs.LeafKeys.{at_of, its_key, keys_of_nodes, no_keys, 
 use Rattle.address_laws.specs.MadeLaws.{absent}
 use Rattle.address_laws.specs.Regions.{AtOrBelow, at_child}
 use Rattle.bridge_face.specs.State.{child_rows_of}
-use Rattle.boxes.specs.Walk.{from_places, here_and, places_of, walk}
+use Rattle.bridge_set.specs.Walk.{from_places, here_and, places_of, walk}
 use Rattle.local_laws.specs.Views.{by_address, look, look-append}
 
 -- ---- lists

@@ -13,10 +13,10 @@ use bridges_norm::NormInfinity;
 use bridges_split::DropReals;
 use item_core::{Body, Edge, Image, Item};
 use lists::Memory;
-use page::Page;
 use ratio_core::{NumberFault, Ratio};
 use set_core::Set;
 use std::alloc::Global;
+use test_support::Page;
 
 /// Prints what is carried back to a row of two numbers in `Reals`, and that nothing is kept after
 /// all is removed.

@@ -3,7 +3,7 @@ use crate::round::pass;
 use any_bridge::all_bridges;
 use bridge_face::Bridge;
 use item_core::{EDGES, Edge, EdgeEntry};
-use page::Page;
+use test_support::Page;
 
 /// Takes an item through each edge, the edges of one family after those of another.
 pub fn all(page: &mut Page) {

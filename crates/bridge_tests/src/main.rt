@@ -10,8 +10,8 @@ mod round;
 mod samples;
 mod shown;
 
-use page::Page;
 use std::process::ExitCode;
+use test_support::Page;
 
 fn main(rt: HostRuntime) -> ExitCode {
     let mut page = Page::new(&rt);

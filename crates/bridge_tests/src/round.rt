@@ -15,10 +15,9 @@ use crate::shown::{show_child_rows, show_image, show_item};
 use bridge_face::Bridge;
 use item_core::{Body, Edge, Image, Item};
 use lists::Memory;
-use page::Page;
 use ratio_core::{NumberFault, Ratios};
 use std::alloc::Global;
-use stop::Stop;
+use test_support::{Page, Stop};
 
 /// Takes an item through the edge: its image, what is carried back of duals, another item in its
 /// place, and then none.

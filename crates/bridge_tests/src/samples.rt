@@ -10,7 +10,7 @@ use lists::Memory;
 use ratio_core::Ratio;
 use set_core::{Set, SetType};
 use std::alloc::Global;
-use stop::Stop;
+use test_support::Stop;
 
 /// Where all samples stand.
 pub fn place() -> Address

@@ -2,7 +2,7 @@
 use aff_core::Aff;
 use bridge_face::ChildRows;
 use item_core::{Body, Expression, Image, Item, kind_of};
-use page::Page;
+use test_support::Page;
 
 /// Prints an image: its groups, the expressions of the components, its rows and its objective.
 pub fn show_image(page: &mut Page, image: &Image) {

@@ -6,7 +6,7 @@ use Rattle.aff_core.specs.Address.{Address}
 use Rattle.aff_core.specs.declared.root.Root.{Root}
 use Rattle.aff_core.specs.declared.root.Root.TheVariants.{Variable, Group, Row, Objective}
 use Rattle.name_index.specs.Escape.{escaped}
-use Rattle.numbered.specs.Numbered as numbered
+use Rattle.numbered_list.specs.Numbered as numbered
 use Rattle.user_model.specs.Edited.{group_number, row_number}
 use Rattle.user_model.specs.Model.{ModelValue, name_at, variable_address}
 

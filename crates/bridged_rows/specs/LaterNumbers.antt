@@ -18,12 +18,12 @@ use Rattle.fresh_bridging.specs.TheRules.{rules_by}
 use Rattle.item_core.specs.declared.item.Body.TheVariants as body
 use Rattle.item_core.specs.declared.item.Item.{Item}
 use Rattle.ratio_core.specs.Rational.{Rational}
-use Rattle.renumbering.specs.RenamedEntries.{renamed_entry}
-use Rattle.renumbering.specs.RenamedFunctions.{is_renamed}
-use Rattle.renumbering.specs.RenamedItems.{renamed, renamed_body, renamed_item}
-use Rattle.renumbering.specs.RenamedRuleLaws.{rules-renamed}
-use Rattle.renumbering.specs.RenamedTrees.{IsRewriting, each_entries_alike, each_moved, in_fits_alike, in_moved}
-use Rattle.renumbering.specs.RenumberedModel.{IsRising, Renumbering, renumbered, renumbers}
+use Rattle.renumbering_laws.specs.RenamedEntries.{renamed_entry}
+use Rattle.renumbering_laws.specs.RenamedFunctions.{is_renamed}
+use Rattle.renumbering_laws.specs.RenamedItems.{renamed, renamed_body, renamed_item}
+use Rattle.renumbering_laws.specs.RenamedRuleLaws.{rules-renamed}
+use Rattle.renumbering_laws.specs.RenamedTrees.{IsRewriting, each_entries_alike, each_moved, in_fits_alike, in_moved}
+use Rattle.renumbering_laws.specs.RenumberedModel.{IsRising, Renumbering, renumbered, renumbers}
 use Rattle.set_core.specs.declared.set.Set.{Set}
 use Rattle.user_model.specs.Model.{variable_address}
 use Rattle.user_model.specs.declared.function.UserFunc.{UserFunc}

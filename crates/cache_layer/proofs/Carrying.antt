@@ -13,8 +13,8 @@ use Rattle.adjoint_core.specs.declared.fault.BackFault.{BackFault}
 use Rattle.adjoint_core.specs.declared.fault.BackFault.TheVariants as back
 use Rattle.address_map.specs.AddressMap.{AddressMap}
 use Rattle.aff_core.specs.Address.{Address, address_eq, address_eq-Decides}
-use Rattle.boxes.specs.Boxed.{families_of, means_of}
-use Rattle.boxes.specs.Nodes.{nodes_by}
+use Rattle.bridge_set.specs.Boxed.{families_of, means_of}
+use Rattle.bridge_set.specs.Nodes.{nodes_by}
 use Rattle.bridge_face.specs.State.{State}
 use Rattle.bridge_plan.specs.Means.{AreSound}
 use Rattle.bridged_report.specs.Places.{place_at}

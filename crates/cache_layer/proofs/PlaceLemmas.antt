@@ -14,8 +14,8 @@ use Rattle.fresh_bridging.specs.ModelImage.{group_item, objective_item, objectiv
 use Rattle.fresh_bridging.specs.TheRules.{Setting}
 use Rattle.item_core.specs.declared.item.Body.TheVariants as body
 use Rattle.item_core.specs.declared.item.Item.{Item}
-use Rattle.numbered.specs.Laws.{find-at}
-use Rattle.numbered.specs.Numbered.{find}
+use Rattle.numbered_list.specs.Laws.{find-at}
+use Rattle.numbered_list.specs.Numbered.{find}
 use Rattle.user_model.specs.Edited.{group_number, row_number}
 use Rattle.user_model.specs.Model.{ModelValue}
 use Rattle.user_model.specs.Valid.{IsValid, IsValidGroup}

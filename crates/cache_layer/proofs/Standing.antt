@@ -5,15 +5,15 @@ use Rattle.std.proofs.lemmas.List.Elements.{All-map}
 use Rattle.std.specs.FinMap as finite
 use Rattle.address_map.specs.AddressMap.{AddressMap}
 use Rattle.aff_core.specs.Address.{Address}
-use Rattle.boxes.specs.Boxed.{kept_by, means_of}
-use Rattle.boxes.specs.Nodes.{nodes_by}
+use Rattle.bridge_set.specs.Boxed.{kept_by, means_of}
+use Rattle.bridge_set.specs.Nodes.{nodes_by}
 use Rattle.bridge_face.specs.State.{Kept, State}
 use Rattle.bridge_plan.specs.Means.{Means}
 use Rattle.map_laws.specs.EachLaws.{all_from_map}
 use Rattle.fresh_bridging.specs.FreshBridging.{FreshBridging, is_made, leaves_of}
 use Rattle.fresh_bridging.specs.TheRules.{Setting}
 use Rattle.item_core.specs.declared.family.Family.{Family}
-use Rattle.leaf_change.specs.Named.{NamesEach}
+use Rattle.leaf_update.specs.Named.{NamesEach}
 use Rattle.lazy_bridge.specs.Mentioned.{IsIndexOf, marks_of}
 use Rattle.lazy_bridge.specs.Owned.{HoldsNothing, IsBridgingOf, Owned, setting_in}
 use Rattle.lazy_bridge.specs.Pushed.{IsTried}

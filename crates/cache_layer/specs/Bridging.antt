@@ -1,7 +1,7 @@
 -- What a bridging answers in the user's names, and whether a solver that was attached still is.
 use Rattle.std.specs.Prelude.{◌≡◌, ℕ, Bool, true, false, Option, Some, Result, Ok, Err}
 use Rattle.aff_core.specs.Address.{Address}
-use Rattle.boxes.specs.Boxed.{setting_by}
+use Rattle.bridge_set.specs.Boxed.{setting_by}
 use Rattle.bridged_report.specs.Places.{place_at}
 use Rattle.cache_layer.specs.State.{OverflowsAt, State}
 use Rattle.cache_layer.specs.declared.fault.BridgeFault.{BridgeFault}

@@ -8,7 +8,7 @@ use Rattle.address_map.specs.Places.{Indices}
 use Rattle.aff_core.specs.Address.{address_cmp}
 use Rattle.lazy_bridge.specs.Few.{ChangesFew}
 use Rattle.lazy_bridge.specs.Owned.{HoldsNothing, Owned}
-use Rattle.leaf_change.specs.Splice.{KeepsIndices}
+use Rattle.leaf_update.specs.Splice.{KeepsIndices}
 use Rattle.solver_store.specs.SolverModel.{Stored}
 use Rattle.cache_layer.specs.FewCalls.{EditsFew}
 use Rattle.cache_layer.specs.declared.fault.EditFault.{EditFault}

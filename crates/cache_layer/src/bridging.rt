@@ -4,9 +4,11 @@ ghost use Rattle.std.specs.List.{list_all};
 ghost use Rattle.bridge_graph.specs.Hypergraph.{is_edge_cost};
 ghost use Rattle.lazy_bridge.specs.Few.{ChangesFew};
 ghost use Rattle.lazy_bridge.specs.Native.{supports_native};
-ghost use Rattle.lazy_bridge.specs.Owned.{HoldsNothing};
+ghost use Rattle.lazy_bridge.specs.Owned.{HoldsNothing, IsBridgingOf};
+ghost use Rattle.local_laws.specs.Unlisted.{LeadBackTo};
 ghost use Rattle.cache_layer.specs.Bridging.{IsBridgedInNames, IsFaultOf, IsToldAs};
 ghost use Rattle.report_core.specs.declared.refused.Place.{Place};
+ghost use Rattle.user_model.specs.Model.{ModelValue};
 ghost use Rattle.small_numbers.specs.SmallNumbers.{HasSmallNumbers};
 
 use crate::fault::BridgeFault;
@@ -14,7 +16,7 @@ use bridge_face::Bridge;
 use bridged_report::place_at;
 use item_core::Table;
 use lazy_bridge::{LazyOver, PushFault};
-use model_store::{Undo, UserModel};
+use model_store::{Reading, Undo, UserModel};
 
 /// Bridges a model where nothing is held. The answer is the number of leaves.
 pub(crate) fn fill<B: Bridge>(lazy: &mut LazyOver<B>, model: &UserModel) -> Result<u64, BridgeFault>
@@ -31,20 +33,25 @@ pub(crate) fn fill<B: Bridge>(lazy: &mut LazyOver<B>, model: &UserModel) -> Resu
     }
 }
 
-/// Bridges a model after edits in place of the one before. The answer is the number of addresses
-/// at which leaves differ.
+/// Bridges a model after edits in place of the one before, to which the undos lead back. The answer
+/// is the number of addresses at which leaves differ.
 pub(crate) fn push<B: Bridge>(
     lazy: &mut LazyOver<B>,
     model: &UserModel,
     undos: &[Undo],
 ) -> Result<u64, BridgeFault>
+    requires { (before : ModelValue) × IsBridgingOf lazy.old before
+        × LeadBackTo before undos.now model.now.model }
     ensures bridged { IsBridgedInNames lazy.old lazy.old.boxes.table model.now.model
         result lazy.new }
     ensures small { HasSmallNumbers model.now.model
         → (place : Place) → result ≢ Err (BridgeFault.Overflow place) }
     ensures few { IfOk result (λ changed. ChangesFew lazy.old changed lazy.new) }
 {
-    match lazy.push(model, undos) {
+    // what this ensures of the model
+    let _valid = model.objective();
+    let mut reading = Reading::new(model);
+    match lazy.push(&mut reading, undos) {
         Ok(changed) => Ok(changed),
         Err(fault) => Err(in_names(lazy, model, fault)),
     }

@@ -29,7 +29,7 @@ use Rattle.cert_core.specs.Checked.{HasEachDual, HasRowDuals}
 use Rattle.cert_core.specs.Folds.{EvaluationFits, FitIn, PointFits}
 use Rattle.cert_core.specs.Holding.{FunctionsHold, HasGroupSet, HasRowSet, HoldsAt, IsReady}
 use Rattle.cert_core.specs.Variables.{Ascend}
-use Rattle.numbered.specs.Numbered.{Rise}
+use Rattle.numbered_list.specs.Numbered.{Rise}
 use Rattle.user_model.specs.Consistent.{variable_number}
 use Rattle.user_model.specs.Valid.{HasValidParts, IsValidGroup, IsValidRow}
 use Rattle.cert_core.proofs.Places.{ascend, distinct}

@@ -16,7 +16,7 @@ use Rattle.std.proofs.lemmas.Option.{get_or_from_slice_get, slice_get-get_or, sl
 use Rattle.map_laws.specs.PairLaws.{AllPairs-map}
 use Rattle.map_laws.specs.TestLaws.{less_number}
 use Rattle.ratio_core.specs.Rational.{Rational, zero_ℚ}
-use Rattle.numbered.specs.Numbered.{Rise}
+use Rattle.numbered_list.specs.Numbered.{Rise}
 use Rattle.aff_core.specs.Address.{Address, address_cmp, address_eq, address_eq-Decides, address_total, exact_addresses}
 use Rattle.aff_core.specs.KeyOrder.{address_order, other_key, same_key}
 use Rattle.aff_core.specs.Points.{spread}

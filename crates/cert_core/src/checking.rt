@@ -3,7 +3,7 @@ ghost use Rattle.std.specs.Prelude.{◌≡◌, ◌↔◌, All, IsTrue, length};
 ghost use Rattle.ratio_core.specs.Rational.{zero_ℚ, ◌‹ℚ◌};
 ghost use Rattle.ratio_core.specs.Answers.{ExactWhere};
 ghost use Rattle.set_core.specs.Membership.{Dual, DualFits};
-ghost use Rattle.numbered.specs.Numbered.{Rise};
+ghost use Rattle.numbered_list.specs.Numbered.{Rise};
 ghost use Rattle.user_model.specs.declared.undo.NextNumbers.{NextNumbers};
 ghost use Rattle.user_model.specs.Consistent.{variable_number};
 ghost use Rattle.user_model.specs.Valid.{HasValidParts};

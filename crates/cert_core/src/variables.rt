@@ -1,6 +1,6 @@
 //! The variables of a model.
 ghost use Rattle.std.specs.Prelude.{◌≡◌, ◌<◌, ◌++◌, IfOk, IfSome, OnOk, length};
-ghost use Rattle.numbered.specs.Numbered.{Rise};
+ghost use Rattle.numbered_list.specs.Numbered.{Rise};
 ghost use Rattle.user_model.specs.Consistent.{variable_number};
 ghost use Rattle.certificates.specs.Points.{addresses_of, all_addresses, variables_of};
 ghost use Rattle.cert_core.specs.Variables.{Ascend, IsPlaceOf};

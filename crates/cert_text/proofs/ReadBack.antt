@@ -21,7 +21,7 @@ use Rattle.cert_text.specs.declared.heading.Heading.TheVariants.{Optimal, Infeas
 use Rattle.cert_text.specs.Reading.{Lines, after, at_end, body_of, certificate_in, certificate_of, duals_of, each_line, heading_of, infeasible_of, number_after, numbers_in, numbers_of, optimal_of, point_of, row_duals_of, unbounded_of, variable_number}
 use Rattle.cert_text.specs.ReadsBack.{Reads, RowReads, VariableReads}
 use Rattle.cert_text.specs.Text.{Line, certificate_lines, certificate_text, dual_lines, number_line, numbers_text, row_head, row_line, row_lines, variable_head, variable_line, variable_lines}
-use Rattle.script_words.specs.Each.{each}
+use Rattle.script_tokens.specs.Each.{each}
 use Rattle.cert_text.proofs.Bytes.{OnLine, by_test, graphic_above, number_above, on_line}
 use Rattle.cert_text.proofs.Cuts.{lines_split, numbers_split}
 

@@ -10,7 +10,7 @@ use Rattle.user_model.specs.declared.row.Row.{Row}
 use Rattle.certificates.specs.declared.certificate.Certificate.{Certificate}
 use Rattle.certificates.specs.declared.certificate.Certificate.TheVariants as certificate
 use Rattle.certificates.specs.Points.{functions_of}
-use Rattle.script_words.specs.Each.{◌>>=◌, each}
+use Rattle.script_tokens.specs.Each.{◌>>=◌, each}
 use Rattle.cert_text.specs.declared.heading.Heading.{Heading}
 use Rattle.cert_text.specs.declared.heading.Heading.TheVariants.{Optimal, Infeasible, Unbounded}
 use Rattle.cert_text.specs.Text.{Line, row_head, variable_head}

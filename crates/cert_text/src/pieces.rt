@@ -3,7 +3,7 @@ ghost use Rattle.std.specs.Prelude.{◌≡◌, ◌==◌};
 ghost use Rattle.std.specs.Iterator.{YieldsFirstBy, item_count};
 ghost use Rattle.std.specs.List.{slice_split};
 
-use script_words::parted_at;
+use script_tokens::parted_at;
 use std::marker::Model;
 
 /// The pieces that are left of a text: its lines, or the words of a line. What stands after the

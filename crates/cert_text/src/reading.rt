@@ -2,7 +2,7 @@
 ghost use Rattle.std.specs.Prelude.{◌≡◌, IfOk, IfSome, option_map};
 ghost use Rattle.ratio_core.specs.Text.{rational_of};
 ghost use Rattle.certificates.specs.Points.{variables_of};
-ghost use Rattle.script_words.specs.Each.{each};
+ghost use Rattle.script_tokens.specs.Each.{each};
 ghost use Rattle.cert_text.specs.Reading as texts;
 ghost use Rattle.cert_text.specs.ReadsBack.{HasItsEntries};
 

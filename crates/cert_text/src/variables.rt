@@ -4,7 +4,7 @@ ghost use Rattle.std.specs.Iterator.{YieldsFirstRef, item_count};
 ghost use Rattle.certificates.specs.Points.{variables_of};
 ghost use Rattle.cert_text.specs.Left.{variables_left};
 
-use numbered::Items;
+use numbered_list::Items;
 use user_model::{Group, GroupVar, Groups};
 
 /// The variables that are left, in the order of the groups.

@@ -11,8 +11,8 @@ use Rattle.aff_core.specs.Address.{Address, address_eq, address_eq-Decides}
 use Rattle.aff_core.specs.Points.{spread}
 use Rattle.linear_laws.specs.SupportLaws.{count}
 use Rattle.linear_laws.specs.UnitLaws.{unit_other, unit_same}
-use Rattle.numbered.specs.Laws.{Rise-head, Rise-tail}
-use Rattle.numbered.specs.Numbered.{Rise}
+use Rattle.numbered_list.specs.Laws.{Rise-head, Rise-tail}
+use Rattle.numbered_list.specs.Numbered.{Rise}
 use Rattle.user_model.specs.declared.group.Group.{Group}
 use Rattle.user_model.specs.declared.group.GroupVar.{GroupVar}
 use Rattle.user_model.specs.Consistent.{variable_number}

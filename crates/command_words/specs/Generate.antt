@@ -2,8 +2,8 @@
 use Rattle.std.specs.Prelude.{List, [], ◌∷◌, Option, None}
 use Rattle.generated_script.specs.Numbers.{Numbers, in_range, numbers_of}
 use Rattle.command_words.specs.Options.{Word}
-use Rattle.script_words.specs.Each.{◌>>=◌}
-use Rattle.script_words.specs.Number.{number_of}
+use Rattle.script_tokens.specs.Each.{◌>>=◌}
+use Rattle.script_tokens.specs.Number.{number_of}
 
 -- the four numbers, each one to ten decimal digits, where they are within their limits
 abbrev pub recipe_in : List Word → Option Numbers

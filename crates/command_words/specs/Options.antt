@@ -5,8 +5,8 @@ use Rattle.item_core.specs.declared.table.Target.{Target}
 use Rattle.item_core.specs.declared.table.Target.TheVariants.{Standard}
 use Rattle.command_words.specs.declared.options.Options.{Options}
 use Rattle.command_words.specs.declared.words.Setup.{Setup}
-use Rattle.script_words.specs.Number.{number_of}
-use Rattle.script_words.specs.Table.{target_of}
+use Rattle.script_tokens.specs.Number.{number_of}
+use Rattle.script_tokens.specs.Table.{target_of}
 
 abbrev pub Word : Type 0
 Word = List ℕ

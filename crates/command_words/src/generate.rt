@@ -4,7 +4,7 @@ ghost use Rattle.command_words.specs.Generate.{recipe_in};
 ghost use Rattle.command_words.specs.Texts.{texts};
 
 use generated_script::Recipe;
-use script_words::read_number;
+use script_tokens::read_number;
 
 // The numbers, where four words write them and they are within their limits.
 pub(crate) fn read_recipe(words: &[String]) -> Option<Recipe>

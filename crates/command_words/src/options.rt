@@ -4,7 +4,7 @@ ghost use Rattle.command_words.specs.Options.{is_joined, is_option, no_options, 
 
 use crate::words::Setup;
 use item_core::Target;
-use script_words::{is, parted_at, read_number, read_target};
+use script_tokens::{is, parted_at, read_number, read_target};
 
 /// The options that were given.
 #[derive(Clone, Copy, Debug, PartialEq, Eq)]

@@ -12,7 +12,7 @@ use generated_script::Recipe;
 use item_core::Target;
 use lists::Memory;
 use name_index::Name;
-use script_words::is;
+use script_tokens::is;
 use std::alloc::Global;
 
 /// What the program is to do.

@@ -11,7 +11,7 @@ use Rattle.std.proofs.lemmas.Map.Made.{IsDistinct-from_AllPairs}
 use Rattle.map_laws.specs.EachLaws.{cons_head, cons_tail}
 use Rattle.map_laws.specs.PairLaws.{AllPairs-map, AllPairs-nil}
 use Rattle.ratio_core.specs.Rational.{Rational}
-use Rattle.numbered.specs.Numbered.{Rise}
+use Rattle.numbered_list.specs.Numbered.{Rise}
 use Rattle.aff_core.specs.Address.{Address, address_eq, address_eq-Decides}
 use Rattle.aff_core.specs.FunctionLists.{values}
 use Rattle.aff_core.specs.Points.{spread}

@@ -2,7 +2,7 @@
 ghost use Rattle.std.specs.Prelude.{◌≡◌, ◌≢◌, ◌≤◌, All, IsTrue, OnErr, OnOk, false};
 ghost use Rattle.std.specs.Prelude as prelude;
 ghost use Rattle.std.specs.FinMap as finite;
-ghost use Rattle.boxes.specs.Boxed.{families_of, occur_once, setting_by};
+ghost use Rattle.bridge_set.specs.Boxed.{families_of, occur_once, setting_by};
 ghost use Rattle.cache_layer.specs.Cached.{Stands, model_in};
 ghost use Rattle.cache_layer.specs.State.{start, with_table};
 ghost use Rattle.item_core.specs.Table.{target_table};

@@ -8,7 +8,7 @@ ghost use Rattle.edit_engine.specs.Tables.{costing, free_with, supporting, switc
 
 use item_core::{Edge, Family, KIND_COUNT, Kind, Table, Target};
 use script_core::EdgeCost;
-use script_words::NativeKind;
+use script_tokens::NativeKind;
 
 // The target's own table.
 pub(crate) fn target_table(target: Target) -> Table

@@ -1,5 +1,5 @@
 -- Loops over a list: what is made so far and what is left make all.
-use Rattle.std.specs.Prelude.{◌≡◌, ℕ, ◌+◌, ◌<◌, ◌≤◌, Bool, true, false, cond, List, [], ◌∷◌, ◌++◌, drop, get_or, length, map, take, refl}
+use Rattle.std.specs.Prelude.{◌≡◌, ℕ, ◌+◌, ◌<◌, ◌≤◌, Bool, true, false, cond, List, [], ◌∷◌, ◌++◌, drop, get_or, length, take, refl}
 use Rattle.std.proofs.Common.{ap, append_assoc, sym, ◌∙◌}
 use Rattle.std.proofs.lemmas.List.{append-nil, drop_all, take_more}
 use Rattle.map_laws.specs.LoopLaws.{next_item}

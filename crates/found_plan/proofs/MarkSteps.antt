@@ -12,7 +12,7 @@ use Rattle.address_map.specs.AddressMap.{AddressMap}
 use Rattle.aff_core.specs.Address.{Address, address_cmp, address_eq, address_eq-Decides, address_total}
 use Rattle.bridge_graph.specs.declared.Choice.{Choice}
 use Rattle.item_core.specs.declared.item.Item.{Item}
-use Rattle.leaf_change.specs.Others.{among}
+use Rattle.leaf_update.specs.Others.{among}
 use Rattle.map_laws.specs.EachLaws.{all_first, all_second}
 use Rattle.model_bridging.specs.Found.{found_others, kept_over}
 use Rattle.model_bridging.specs.Kinds.{kind_by, told}

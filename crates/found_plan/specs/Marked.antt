@@ -1,11 +1,10 @@
 -- Which variables of plain functions are kept, by the marks of a map of addresses.
-use Rattle.std.specs.Prelude.{◌≡◌, ◌++◌, cond, List, [], ◌∷◌, Option, flat_map}
+use Rattle.std.specs.Prelude.{◌≡◌, cond, List, [], ◌∷◌, flat_map}
 use Rattle.std.specs.FinMap.{FinMap}
-use Rattle.std.specs.Option.{option_map_or}
 use Rattle.std.specs.Prelude.{Bool}
 use Rattle.address_map.specs.AddressMap.{AddressMap}
 use Rattle.aff_core.specs.Address.{Address, address_cmp}
-use Rattle.leaf_change.specs.Others.{among}
+use Rattle.leaf_update.specs.Others.{among}
 use Rattle.model_bridging.specs.Kinds.{told}
 use Rattle.found_plan.specs.Read.{is_marked}
 use Rattle.user_model.specs.declared.function.UserFunc.{UserFunc}

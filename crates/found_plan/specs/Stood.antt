@@ -5,8 +5,8 @@ use Rattle.address_map.specs.AddressMap.{AddressMap}
 use Rattle.address_map.specs.Places.{addresses}
 use Rattle.aff_core.specs.Address.{Address}
 use Rattle.item_leaves.specs.ItemLeaves.{item_of, those_of}
-use Rattle.leaf_change.specs.Others.{among, objective_addresses}
-use Rattle.leaf_change.specs.Splice.{Gone}
+use Rattle.leaf_update.specs.Others.{among, objective_addresses}
+use Rattle.leaf_update.specs.Splice.{Gone}
 use Rattle.solver_store.specs.SolverModel.{Leaves}
 use Rattle.user_model.specs.Model.{variable_address}
 use Rattle.user_model.specs.declared.group.Group.{Group}

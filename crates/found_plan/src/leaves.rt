@@ -3,14 +3,14 @@ ghost use Rattle.std.specs.Prelude.{◌≡◌, ◌++◌, ◌∷◌, [], IfOk, On
 ghost use Rattle.std.specs.Prelude as prelude;
 ghost use Rattle.address_map.specs.Places.{addresses};
 ghost use Rattle.item_leaves.specs.ItemLeaves.{item_of, those_of};
-ghost use Rattle.leaf_change.specs.Others.{among, objective_addresses};
-ghost use Rattle.leaf_change.specs.Splice.{gone_in};
+ghost use Rattle.leaf_update.specs.Others.{among, objective_addresses};
+ghost use Rattle.leaf_update.specs.Splice.{gone_in};
 ghost use Rattle.found_plan.specs.Stood.{has_leaf, old_leaves, old_variables, own_leaves};
 
 use address_map::AddressMap;
 use aff_core::{Address, Root};
 use item_leaves::{list_rows, list_variables};
-use leaf_change::GoneLeaves;
+use leaf_update::GoneLeaves;
 use lists::{Memory, Sequence};
 use solver_store::SolverModel;
 use std::alloc::Global;

@@ -1,6 +1,6 @@
 // Addresses and lists of them.
 use aff_core::{Address, Addresses, Root, has_address, without_address};
-use page::Page;
+use test_support::Page;
 
 /// What an address is made of, the order of addresses, and a list without one of them.
 pub fn show(page: &mut Page) {

@@ -1,8 +1,8 @@
 // Affine functions over addresses, made, read and changed.
 use aff_core::{Address, Aff, Root, rise_strictly};
 use lists::{Duplicate, Memory};
-use page::Page;
 use ratio_core::Ratio;
+use test_support::Page;
 
 fn x() -> Address {
     Address::root(Root::Variable, 0)

@@ -1,7 +1,7 @@
 // Sums, multiples, values and substitutions of the function that is the variable x.
 use aff_core::{Address, Aff, Exprs, Point, Root};
-use page::Page;
 use ratio_core::{NumberFault, Ratio};
+use test_support::Page;
 
 fn x() -> Address {
     Address::root(Root::Variable, 0)

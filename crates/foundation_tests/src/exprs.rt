@@ -1,7 +1,7 @@
 // Expressions of variables.
 use address_map::AddressMap;
 use aff_core::{Address, Aff, Root};
-use page::Page;
+use test_support::Page;
 
 /// Puts the expression of a variable that stands for itself, and drops it.
 pub fn show(page: &mut Page, map: &mut AddressMap) {

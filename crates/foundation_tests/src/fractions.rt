@@ -1,9 +1,9 @@
 // Fractions. What they come to was computed with Python's exact fractions.
 use crate::literals::{OPERATIONS, PAIRS, PARTS};
 use crate::orders::{ORDERS, QUOTIENTS};
-use page::Page;
 use ratio_core::{Ratio, RatioFault};
 use std::cmp::Ordering;
+use test_support::Page;
 
 #[derive(Clone, Copy)]
 pub enum Operation {

@@ -1,7 +1,7 @@
 // The map between addresses of leaves and indices, with the expressions of variables.
 use crate::{exprs, mentions, rows, variables};
 use address_map::AddressMap;
-use page::Page;
+use test_support::Page;
 
 /// Puts into one map, finds there and drops.
 pub fn show(page: &mut Page) {

@@ -1,8 +1,8 @@
 // Exchanges of numbered loads.
 ghost use Rattle.std.specs.Prelude.{◌≡◌};
 
-use numbered::{Change, HasNumber, Numbered};
-use page::Page;
+use numbered_list::{Change, HasNumber, Numbered};
+use test_support::Page;
 
 #[derive(Clone, Copy, Debug)]
 struct Load {

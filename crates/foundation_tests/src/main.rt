@@ -25,8 +25,8 @@ mod sources;
 mod tables;
 mod variables;
 
-use page::Page;
 use std::process::ExitCode;
+use test_support::Page;
 
 fn main(rt: HostRuntime) -> ExitCode {
     let mut page = Page::new(&rt);

@@ -1,7 +1,7 @@
 // Which items mention a variable, which variables are kept, and where the leaves of an item begin.
 use address_map::AddressMap;
 use aff_core::{Address, Root};
-use page::Page;
+use test_support::Page;
 
 /// Notes mentions and takes them away, marks a variable as kept, and finds leaves from an address on.
 pub fn show(page: &mut Page, map: &mut AddressMap) {

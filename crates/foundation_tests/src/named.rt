@@ -2,9 +2,9 @@
 use lists::{Duplicate, Memory};
 use name_index::Name;
 use named_aff::{NamedAff, NamedTerm, NamedTerms, NamedVec};
-use page::Page;
 use ratio_core::Ratio;
 use std::alloc::Global;
+use test_support::Page;
 
 /// Copies of the term x, and of a function that is 1 everywhere.
 pub fn show(page: &mut Page) {

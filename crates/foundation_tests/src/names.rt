@@ -5,7 +5,7 @@ ghost use Rattle.name_index.specs.NameTable.{IsFree};
 
 use lists::Duplicate;
 use name_index::{Name, NameTable, Names};
-use page::Page;
+use test_support::Page;
 
 // Some stand for no name: their bytes are no UTF-8 (a lone byte, an overlong form, a surrogate,
 // half a character), or there are none.

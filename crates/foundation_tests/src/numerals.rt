@@ -1,6 +1,6 @@
 // Texts of JSON, with exact text in place of their numerals.
 use mof_text::exact_numerals;
-use page::Page;
+use test_support::Page;
 
 const TEXTS: [&str; 31] = [
     r#"{"upper":2.50e1}"#,

@@ -6,7 +6,7 @@ ghost use Rattle.bridge_graph.specs.Hypergraph.{is_edge_cost};
 
 use bridge_graph::{Choice, EdgeRow, Graph};
 use item_core::{EDGE_COUNT, EDGE_ROWS, KIND_COUNT, Table, Target};
-use page::Page;
+use test_support::Page;
 
 // Each edge costs 1, but for the sixth.
 const DEARER_COSTS: [u32; EDGE_COUNT] = [

@@ -1,7 +1,7 @@
 // Leaf rows.
 use address_map::AddressMap;
 use aff_core::{Address, Root};
-use page::Page;
+use test_support::Page;
 
 /// Makes room for three rows, puts them and drops the last.
 pub fn show(page: &mut Page, map: &mut AddressMap) {

@@ -1,6 +1,6 @@
 // Lists.
 use lists::{Duplicate, Sequence};
-use page::Page;
+use test_support::Page;
 
 /// A list of 2 and 5: what it has, its copy and its vector.
 pub fn show(page: &mut Page) {

@@ -2,9 +2,9 @@
 ghost use Rattle.std.specs.Prelude.{◌≡◌, length};
 ghost use Rattle.set_core.specs.Shapes.{dimension_of};
 
-use page::Page;
 use ratio_core::Ratio;
 use set_core::Set;
+use test_support::Page;
 
 /// The numbers from -1 to 1, cones of three numbers, a cone that is too small, and the numbers up
 /// to the greatest.

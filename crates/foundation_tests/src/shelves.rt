@@ -2,8 +2,8 @@
 // run of `moi_edit` fetches files of the system that are there.
 use crate::calls::fails_at;
 use io_face::{Files, MemShelf, NamedFile, NamedFiles, Shelf, SureShelf};
-use page::Page;
 use std::alloc::{AllocError, Global};
+use test_support::Page;
 
 /// Fetches from each kind of shelf.
 pub fn show(rt: &HostRuntime, page: &mut Page) {

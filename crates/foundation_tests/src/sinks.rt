@@ -1,9 +1,9 @@
 // Sinks: in memory, and of a system that interrupts and fails.
 use crate::calls::fails_at;
 use io_face::{MemSink, Sink, StdOut, SureSink, write_all};
-use page::Page;
 use std::io;
 use std::io::{ErrorKind, Write};
+use test_support::Page;
 
 /// Writes to each kind of sink.
 pub fn show(page: &mut Page) {

@@ -1,9 +1,9 @@
 // Sources: in memory, and of a system that interrupts and fails.
 use crate::calls::fails_at;
 use io_face::{MemSource, Source, StdIn, SureSource, read_whole};
-use page::Page;
 use std::io;
 use std::io::{ErrorKind, Read};
+use test_support::Page;
 
 /// Reads from each kind of source.
 pub fn show(page: &mut Page) {

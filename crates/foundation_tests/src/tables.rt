@@ -1,6 +1,6 @@
 // The tables in words.
 use item_core::{Children, EDGES, Edge, EdgeEntry, KINDS, Kind};
-use page::Page;
+use test_support::Page;
 
 /// The edges and the kinds, each on a line.
 pub fn show(page: &mut Page) {

@@ -1,7 +1,7 @@
 // Leaf variables, which are kept in the order of their addresses.
 use address_map::AddressMap;
 use aff_core::{Address, Root};
-use page::Page;
+use test_support::Page;
 
 /// Puts three variables, drops one, and clears the map.
 pub fn show(page: &mut Page, map: &mut AddressMap) {

@@ -7,7 +7,7 @@ use Rattle.std.proofs.lemmas.List.Elements.{All-map}
 use Rattle.std.proofs.lemmas.Option.{none-some}
 use Rattle.address_map.specs.AddressMap.{AddressMap}
 use Rattle.bridge_face.specs.State.{State, all_gone}
-use Rattle.leaf_change.specs.Named.{NamesEach, ObjectiveNames}
+use Rattle.leaf_update.specs.Named.{NamesEach, ObjectiveNames}
 use Rattle.solver_store.specs.SolverModel.{Leaves, no_leaves}
 use Rattle.std_form.specs.NativeLaws.{exact_empty}
 

@@ -4,6 +4,13 @@ mod Puttable
 mod Standing
 mod Expressions
 mod Putting
-mod Pushing
+mod Rebridging
+mod Sets
+mod Listing
+mod Planning
+mod Composing
+mod Changing
+mod Mapping
 mod Noting
+mod Variables
 mod Marking

@@ -9,7 +9,7 @@ use Rattle.aff_core.specs.Address.{Address, address_cmp, address_eq}
 use Rattle.aff_core.specs.Rising.{HasDistinctKeys}
 use Rattle.address_laws.specs.Apart.{is_distinct}
 use Rattle.address_laws.specs.DistinctLaws.{each_apart, rows_distinct, variables_distinct, vars_distinct}
-use Rattle.boxes.specs.Boxed.{AreKeepable}
+use Rattle.bridge_set.specs.Boxed.{AreKeepable}
 use Rattle.bridge_face.specs.Law.{IsItemFor, expressed}
 use Rattle.bridge_graph.specs.Hypergraph.{IsCostly}
 use Rattle.bridge_plan.specs.Adds.{kept_of}
@@ -25,7 +25,7 @@ use Rattle.item_core.specs.declared.item.Item.{Item}
 use Rattle.item_core.specs.Edge.{family_eq, family_of}
 use Rattle.item_core.specs.Kind.{is_native}
 use Rattle.item_core.specs.KindOf.{kind_of_body, plain_kind_of}
-use Rattle.leaf_change.specs.Leaves.{AreLeaves, HasNativeForm}
+use Rattle.leaf_update.specs.Leaves.{AreLeaves, HasNativeForm}
 use Rattle.lazy_bridge.specs.Plans.{IsPuttable}
 use Rattle.model_bridging.specs.Planned.{IsPlanOf, variables_of_the_model}
 use Rattle.model_bridging.specs.declared.model_plan.ModelPlan.{ModelPlan}

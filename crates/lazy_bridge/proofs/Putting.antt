@@ -5,13 +5,13 @@ use Rattle.std.proofs.Common.{sym, ap, subst, ◌∙◌}
 use Rattle.std.proofs.lemmas.List.Elements.{All-map}
 use Rattle.address_map.specs.AddressMap.{AddressMap}
 use Rattle.aff_core.specs.Address.{Address}
-use Rattle.boxes.specs.Boxed.{kept_by}
+use Rattle.bridge_set.specs.Boxed.{kept_by}
 use Rattle.bridge_face.specs.State.{Kept, State}
 use Rattle.bridge_plan.specs.Means.{Means}
 use Rattle.item_core.specs.declared.family.Family.{Family}
 use Rattle.lazy_bridge.specs.Owned.{HasLeavesOf, HoldsNothing, Owned, leaf_model_in}
 use Rattle.lazy_bridge.specs.Pushed.{IsTried}
-use Rattle.leaf_change.specs.Splice.{IsChangedTo}
+use Rattle.leaf_update.specs.Splice.{IsChangedTo}
 use Rattle.leaf_model.specs.LeafModel.{LeafModel}
 use Rattle.map_laws.specs.EachLaws.{all_from_map}
 use Rattle.solver_store.specs.SolverModel.{Stored}

@@ -4,7 +4,7 @@ use Rattle.std.specs.FinMap as finite
 use Rattle.std.proofs.Common.{sym, ap, subst, ◌∙◌}
 use Rattle.std.proofs.lemmas.List.Elements.{All-nil, All-cons}
 use Rattle.aff_core.specs.Address.{address_cmp}
-use Rattle.boxes.specs.Boxed.{kept_among, kept_by, keeping}
+use Rattle.bridge_set.specs.Boxed.{kept_among, kept_by, keeping}
 use Rattle.bridge_face.specs.State.{Kept, State}
 use Rattle.bridge_face.specs.declared.kept_item.KeptItem.{KeptItem}
 use Rattle.map_laws.specs.EachLaws.{all_from_map}

@@ -3,6 +3,8 @@ pub mod Native
 pub mod NativeLaws
 pub mod Few
 pub mod Mentioned
+pub mod Expressed
 pub mod Pushed
 pub mod Plans
+pub mod Steps
 pub mod ReadableLaws

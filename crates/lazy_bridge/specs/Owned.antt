@@ -17,12 +17,12 @@ use Rattle.std.specs.Coded.{Coded, code_by, coded×}
 use Rattle.std.specs.FinMap as finite
 use Rattle.address_map.specs.AddressMap.{AddressMap, address_map_code}
 use Rattle.aff_core.specs.Address.{Address, address_code}
-use Rattle.boxes.specs.Boxed.{Boxed, boxed_code, setting_of}
-use Rattle.boxes.specs.Nodes.{nodes_by}
+use Rattle.bridge_set.specs.Boxed.{Boxed, boxed_code, setting_of}
+use Rattle.bridge_set.specs.Nodes.{nodes_by}
 use Rattle.bridge_face.specs.State.{State}
 use Rattle.fresh_bridging.specs.FreshBridging.{FreshBridging, is_made, leaves_of}
 use Rattle.fresh_bridging.specs.TheRules.{Setting}
-use Rattle.leaf_change.specs.Named.{NamesEach}
+use Rattle.leaf_update.specs.Named.{NamesEach}
 use Rattle.lazy_bridge.specs.Mentioned.{IsIndexOf, marks_of}
 use Rattle.leaf_model.specs.LeafModel.{LeafModel}
 use Rattle.leaf_model.specs.ReadThrough.{read_through}

@@ -5,13 +5,13 @@ use Rattle.address_map.specs.AddressMap.{AddressMap}
 use Rattle.aff_core.specs.Address.{Address, address_cmp}
 use Rattle.aff_core.specs.Function.{Function}
 use Rattle.aff_core.specs.Rising.{HasDistinctKeys}
-use Rattle.boxes.specs.Boxed.{AreKeepable, kept_by, keeping}
+use Rattle.bridge_set.specs.Boxed.{AreKeepable, kept_by, keeping}
 use Rattle.fresh_bridging.specs.Leaves.{leaf_model_of}
 use Rattle.item_core.specs.declared.family.Family.{Family}
 use Rattle.lazy_bridge.specs.Mentioned.{IsIndexOf, marks_of}
 use Rattle.lazy_bridge.specs.Owned.{Owned, leaf_model_in}
-use Rattle.leaf_change.specs.Leaves.{AreLeaves}
-use Rattle.leaf_change.specs.Named.{NamesEach}
+use Rattle.leaf_update.specs.Leaves.{AreLeaves}
+use Rattle.leaf_update.specs.Named.{NamesEach}
 use Rattle.model_bridging.specs.declared.model_plan.ModelPlan.{ModelPlan}
 use Rattle.user_model.specs.Model.{ModelValue}
 

@@ -7,7 +7,7 @@
 -- the plan in, and changes the leaves in place; memory alone can refuse it, and then it holds
 -- nothing.
 use Rattle.std.specs.Prelude.{◌≡◌, ◌-◌, ◌^◌, ℕ, min, Some, Result, Ok, Err}
-use Rattle.boxes.specs.Boxed.{means_of, setting_by}
+use Rattle.bridge_set.specs.Boxed.{means_of, setting_by}
 use Rattle.fresh_bridging.specs.FreshBridging.{FreshBridging, IsUnsupported, unfit_at}
 use Rattle.item_core.specs.declared.table.Table.{Table}
 use Rattle.leaf_model.specs.LeafModel.{IsChanged, LeafModel}

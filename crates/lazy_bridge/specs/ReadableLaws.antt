@@ -1,13 +1,13 @@
 -- The map and the solver's model in which a fresh bridging stands belong together.
 use Rattle.std.specs.Prelude.{IsTrue}
 use Rattle.std.proofs.Common.{sym, subst}
-use Rattle.boxes.specs.Boxed.{means_of}
+use Rattle.bridge_set.specs.Boxed.{means_of}
 use Rattle.bridge_plan.specs.Means.{AreSound}
 use Rattle.equality_form.specs.Native.{IsNativeModel}
 use Rattle.lazy_bridge.specs.Native.{supports_native}
 use Rattle.lazy_bridge.specs.NativeLaws.{supported}
 use Rattle.lazy_bridge.specs.Owned.{IsBridgingOf, Owned, setting_in}
-use Rattle.leaf_change.specs.ReadableLaws.{readable}
+use Rattle.leaf_update.specs.ReadableLaws.{readable}
 use Rattle.leaf_model.specs.LeafModel.{LeafModel}
 use Rattle.std_form.specs.Readable.{IsReadable}
 use Rattle.tree_laws.specs.NativeModel.{native_model}

@@ -1,10 +1,10 @@
 //! Lists of bridges that a lazy bridging begins with.
 ghost use Rattle.std.specs.Prelude.{◌≡◌, All, IsTrue, map};
 ghost use Rattle.std.specs.FinMap as finite;
-ghost use Rattle.boxes.specs.Boxed.{families_of, occur_once};
+ghost use Rattle.bridge_set.specs.Boxed.{families_of, occur_once};
 
-use boxes::has_family;
 use bridge_face::Bridge;
+use bridge_set::has_family;
 use lists::Memory;
 
 /// Adds a bridge, which lets go of all that it keeps, unless there is one of its family.

@@ -4,14 +4,14 @@ ghost use Rattle.std.specs.Prelude as prelude;
 ghost use Rattle.std.specs.FinMap as finite;
 ghost use Rattle.std.specs.List.{list_all};
 ghost use Rattle.aff_core.specs.Address.{Address};
-ghost use Rattle.boxes.specs.Boxed.{families_of, means_of, occur_once};
+ghost use Rattle.bridge_set.specs.Boxed.{families_of, means_of, occur_once};
 ghost use Rattle.bridge_graph.specs.Hypergraph.{is_edge_cost};
 ghost use Rattle.bridge_graph.specs.Tree.{IsLeastCost, IsTreeless};
 ghost use Rattle.bridge_plan.specs.Means.{AreSound};
 ghost use Rattle.fresh_bridging.specs.TheRules.{IsChoice, graph_of};
 ghost use Rattle.item_core.specs.Kind.{kind_number};
-ghost use Rattle.leaf_change.specs.Named.{NamesEach};
-ghost use Rattle.lazy_bridge.specs.Few.{ChangesFew};
+ghost use Rattle.leaf_update.specs.Named.{NamesEach};
+ghost use Rattle.lazy_bridge.specs.Few.{CanPush, ChangesFew, IsPushedByFew};
 ghost use Rattle.lazy_bridge.specs.Native.{supports_native};
 ghost use Rattle.lazy_bridge.specs.Owned.{HasLeavesOf, HoldsNothing, leaf_model_in, setting_in};
 ghost use Rattle.lazy_bridge.specs.Plans.{Holds, IsPuttable};
@@ -21,16 +21,17 @@ ghost use Rattle.solver_store.specs.SolverModel.{no_leaves};
 ghost use Rattle.user_model.specs.Valid.{IsValid};
 
 use crate::change::{capped, let_all_go, put_model};
+use crate::pushing::push_touched;
 use address_map::AddressMap;
 use aff_core::{Address, Root};
-use boxes::Boxes;
 use bridge_face::Bridge;
 use bridge_graph::Choice;
 use bridge_plan::Rewriter;
+use bridge_set::Boxes;
 use item_core::{Kind, Table};
 use lists::Memory;
 use model_bridging::{ModelPlan, PushFault, plan_model};
-use model_store::{Undo, UserModel};
+use model_store::{Reading, Undo, UserModel};
 use solver_store::SolverModel;
 use std::alloc::Global;
 use std::marker::Model;
@@ -56,7 +57,7 @@ impl<B: Bridge> Model for LazyOver<B> {
     ghost coded = { owned_code };
 
     ghost use Rattle.std.specs.Prelude.{IsTrue};
-    ghost use Rattle.leaf_change.specs.Named.{NamesEach};
+    ghost use Rattle.leaf_update.specs.Named.{NamesEach};
     ghost use Rattle.lazy_bridge.specs.Native.{supports_native};
 
     ghost view = { λ l. record {
@@ -118,17 +119,45 @@ impl<B: Bridge> LazyOver<B> {
         Ok(self.put(planned, model)?)
     }
 
-    /// Bridges a model anew in place of the one before. The answer is the number of addresses at
-    /// which the leaves differ, and the solver's model is called no more often: a leaf that stays
-    /// keeps its index, and is not touched where it is the same.
-    pub fn push(&mut self, after: &UserModel, _undo: &[Undo]) -> Result<u64, PushFault>
-        ensures bridged { IsBridgedBy self.old self.old.boxes.table after.now.model
+    /// Bridges the model that is read in place of the one before, to which the undos lead back, the
+    /// last first. What they don't touch isn't looked at: an edit costs what it touches. The answer
+    /// is the number of addresses at which the leaves differ, and the solver's model is called no
+    /// more often: a leaf that stays keeps its index, and is not touched where it is the same.
+    pub fn push<'a>(&mut self, after: &mut Reading<'a>, undos: &'a [Undo]) -> Result<u64, PushFault>
+        requires { CanPush self.old undos.now after.old.model }
+        ensures bridged { IsBridgedBy self.old self.old.boxes.table after.old.model
             result self.new }
-        ensures small { HasSmallNumbers after.now.model
+        ensures small { HasSmallNumbers after.old.model
             → (at : Address) → result ≢ Err (PushFault.Overflow at) }
         ensures few { IfOk result (λ changed. ChangesFew self.old changed self.new) }
+        ensures touched { OnOk result (IsPushedByFew self.old undos.now after.old.model
+            after.old.reads self.new after.new.reads) }
+        ensures same { after.new.model ≡ after.old.model }
     {
-        self.bridge(after)
+        // what this ensures of the choices and the families
+        let _sound = self.boxes.table();
+        match push_touched(
+            self.alloc,
+            &mut self.boxes,
+            &mut self.solver,
+            &mut self.map,
+            &mut self.objective_at,
+            after,
+            undos,
+        ) {
+            Ok(changed) => {
+                // what this ensures of the count
+                let _few = self.solver.calls();
+                Ok(capped(changed))
+            }
+            Err(fault) => {
+                if let PushFault::Memory = fault {
+                    let_all_go(&mut self.boxes, &mut self.solver, &mut self.map);
+                    return Err(PushFault::Memory);
+                }
+                Err(fault)
+            }
+        }
     }
 
     /// Bridges the model by another table, with the same answer and the same few calls.

@@ -4,9 +4,11 @@
 
 mod bridges;
 mod change;
+mod expressing;
 mod lazy;
 mod marks;
 mod mentions;
+mod pushing;
 
 pub use bridges::add_bridge;
 pub use lazy::{Lazy, LazyOver};

@@ -12,7 +12,7 @@ use Rattle.bridge_graph.specs.Hypergraph.{Hypergraph, IsCostly}
 use Rattle.bridge_graph.specs.declared.Choice.{Choice}
 use Rattle.bridge_graph.specs.declared.Choice.TheVariants.{By, Missing, Native}
 use Rattle.bridge_graph.specs.Tree.{IsTreeless, by as by_edge, native}
-use Rattle.expansion.specs.Bridged.{Bridged, EachBridged, EachBridgedIn}
+use Rattle.expansion.specs.Bridged.{Bridged}
 use Rattle.expansion.specs.Bridged as bridged
 use Rattle.expansion.specs.Kept.{Keeps}
 use Rattle.aff_core.specs.Address.{Address, address_eq-Decides}

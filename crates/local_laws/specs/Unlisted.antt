@@ -5,8 +5,8 @@ use Rattle.std.specs.Prelude.{◌≡◌, ◌+◌, ℕ, List, [], ◌∷◌, leng
 use Rattle.std.specs.Option.{option_map_or}
 use Rattle.aff_core.specs.Address.{Address}
 use Rattle.aff_core.specs.declared.root.Root.TheVariants as root
-use Rattle.numbered.specs.Changes.{changed_number}
-use Rattle.numbered.specs.Numbered as numbered
+use Rattle.numbered_list.specs.Changes.{changed_number}
+use Rattle.numbered_list.specs.Numbered as numbered
 use Rattle.user_model.specs.Model.{ModelValue}
 use Rattle.user_model.specs.Undone.{IsUndo}
 use Rattle.user_model.specs.declared.undo.Undo.{Undo}

@@ -10,8 +10,8 @@ use Rattle.user_model.specs.Model.{ModelValue}
 use Rattle.fresh_bridging.specs.FreshBridging.{FreshBridging, leaves_of, nodes_of}
 use Rattle.fresh_bridging.specs.Leaves.{leaf_objectives, leaf_rows, leaf_variables}
 use Rattle.fresh_bridging.specs.TheRules.{Setting}
-use Rattle.leaf_change.specs.Splice.{spliced, without_all}
-use Rattle.leaf_change.specs.SplicedLaws.{get_left, get_put_all, get_without}
+use Rattle.leaf_update.specs.Splice.{spliced, without_all}
+use Rattle.leaf_update.specs.SplicedLaws.{get_left, get_put_all, get_without}
 use Rattle.local_laws.specs.ChangedLaws.{IsGone, gone_now, is_now, planned, planned_now}
 use Rattle.local_laws.specs.Held.{held_by}
 use Rattle.local_laws.specs.LookedLaws.{contains_or_not}

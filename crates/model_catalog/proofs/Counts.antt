@@ -6,9 +6,9 @@ use Rattle.std.proofs.lemmas.Bool.{cases_eq, eq-eqb, false_from_ne_true, ne_eqb}
 use Rattle.std.proofs.lemmas.Option.{same_Some}
 use Rattle.aff_core.specs.Address.{Address, address_eq, address_eq-Decides}
 use Rattle.aff_core.specs.declared.root.Root.TheVariants.{Variable as AtVariable}
-use Rattle.numbered.specs.Numbered.{Rise, IsAt, find, set_at}
-use Rattle.numbered.specs.Laws.{IsAt-find}
-use Rattle.numbered.specs.SetLaws.{find-set_at_same, find-set_at_other, length-set_at}
+use Rattle.numbered_list.specs.Numbered.{Rise, IsAt, find, set_at}
+use Rattle.numbered_list.specs.Laws.{IsAt-find}
+use Rattle.numbered_list.specs.SetLaws.{find-set_at_same, find-set_at_other, length-set_at}
 use Rattle.user_model.specs.declared.row.Row.{Row}
 use Rattle.user_model.specs.Edited.{row_number}
 use Rattle.user_model.specs.Model.{bounds_above, bounds_below, is_variable, variable_address}

@@ -6,7 +6,7 @@ use Rattle.std.specs.Cmp.Lexicographic.{slice_cmp}
 use Rattle.std.specs.Ordering.{nat_cmp}
 use Rattle.std.proofs.lemmas.Option.{none-some}
 use Rattle.name_index.specs.NameTable.{Numbers}
-use Rattle.numbered.specs.Laws.{Rise-nil}
+use Rattle.numbered_list.specs.Laws.{Rise-nil}
 use Rattle.user_model.specs.Consistent as consistent
 use Rattle.user_model.specs.Edited.{group_number, row_number}
 use Rattle.user_model.specs.Model.{empty_model}

@@ -4,12 +4,12 @@ use Rattle.std.specs.Prelude.{IsSome, IfSome, is_some, unwrap_or, sum_by}
 use Rattle.std.specs.Option.{option_map, option_map_or}
 use Rattle.std.proofs.lemmas.List.Sums.{sum_by-cons}
 use Rattle.name_index.specs.NameTable.{Numbers, IsOneToOne}
-use Rattle.numbered.specs.declared.change.Change.{Change}
-use Rattle.numbered.specs.Numbered.{Rise, find, set_at}
-use Rattle.numbered.specs.Changes.{AreChanges, changed_number, old, olds, set_all}
-use Rattle.numbered.specs.Laws.{Rise-head, number_of_found}
-use Rattle.numbered.specs.SetLaws.{Rise-set_at}
-use Rattle.numbered.specs.ChangeLaws.{AreChanges-rest, olds-set_at, set_all_back}
+use Rattle.numbered_list.specs.declared.change.Change.{Change}
+use Rattle.numbered_list.specs.Numbered.{Rise, find, set_at}
+use Rattle.numbered_list.specs.Changes.{AreChanges, changed_number, old, olds, set_all}
+use Rattle.numbered_list.specs.Laws.{Rise-head, number_of_found}
+use Rattle.numbered_list.specs.SetLaws.{Rise-set_at}
+use Rattle.numbered_list.specs.ChangeLaws.{AreChanges-rest, olds-set_at, set_all_back}
 use Rattle.user_model.specs.declared.group.GroupVar.{GroupVar}
 use Rattle.user_model.specs.declared.row.Row.{Row}
 use Rattle.user_model.specs.declared.objective.Objective.{Objective}

@@ -13,8 +13,8 @@ use Rattle.std.proofs.lemmas.Option.{none-some, same_Some, slice_get_within, get
 use Rattle.map_laws.specs.PairLaws.{AllPairs-map}
 use Rattle.map_laws.specs.PlaceLaws.{none_passes, place_of_found, some_found}
 use Rattle.map_laws.specs.SumLaws.{count_first}
-use Rattle.numbered.specs.Numbered.{Rise, IsAt, find}
-use Rattle.numbered.specs.Laws.{IsAt-find, find-at, number_of_found, same_lists}
+use Rattle.numbered_list.specs.Numbered.{Rise, IsAt, find}
+use Rattle.numbered_list.specs.Laws.{IsAt-find, find-at, number_of_found, same_lists}
 use Rattle.model_catalog.specs.Names.{AreDistinct}
 
 -- ---- searches

@@ -6,8 +6,8 @@ use Rattle.std.specs.Option.{option_map_or}
 use Rattle.std.proofs.lemmas.Bool.{cases_eq, eq-eqb, ne_eqb}
 use Rattle.std.proofs.lemmas.List.{drop_more}
 use Rattle.map_laws.specs.OptionLaws.{not_some, some_is}
-use Rattle.numbered.specs.Numbered.{Rise, find}
-use Rattle.numbered.specs.Laws.{Rise-head, Rise-tail, find-first, find-rest, find-none_above}
+use Rattle.numbered_list.specs.Numbered.{Rise, find}
+use Rattle.numbered_list.specs.Laws.{Rise-head, Rise-tail, find-first, find-rest, find-none_above}
 use Rattle.model_catalog.specs.declared.names.NameChange.{NameChange}
 use Rattle.model_catalog.specs.Names.{listed_number}
 

@@ -4,9 +4,9 @@ use Rattle.std.specs.Prelude.{IsSome, is_some, unwrap_or, slice_index_or}
 use Rattle.std.specs.Option.{option_to_list}
 use Rattle.std.proofs.lemmas.Bool.{cases_eq, eq-eqb, ne_eqb}
 use Rattle.std.proofs.lemmas.List.{drop_more}
-use Rattle.numbered.specs.Numbered.{Rise, IsAt, find, set_at}
-use Rattle.numbered.specs.Laws.{IsAt-find}
-use Rattle.numbered.specs.SetLaws.{find-set_at_same, find-set_at_other, length-set_at, set_at_found}
+use Rattle.numbered_list.specs.Numbered.{Rise, IsAt, find, set_at}
+use Rattle.numbered_list.specs.Laws.{IsAt-find}
+use Rattle.numbered_list.specs.SetLaws.{find-set_at_same, find-set_at_other, length-set_at, set_at_found}
 use Rattle.model_catalog.specs.declared.names.NameChange.{NameChange}
 use Rattle.model_catalog.specs.declared.variable.Variable.{Variable}
 use Rattle.model_catalog.specs.Names.{put_count}

@@ -9,8 +9,8 @@ use Rattle.std.proofs.lemmas.List.{length-map}
 use Rattle.std.proofs.lemmas.List.Folds.{list_any_none}
 use Rattle.std.proofs.lemmas.Option.{none-some, same_Some}
 use Rattle.name_index.specs.NameTable.{Numbers}
-use Rattle.numbered.specs.Numbered.{find}
-use Rattle.numbered.specs.Laws.{find-at}
+use Rattle.numbered_list.specs.Numbered.{find}
+use Rattle.numbered_list.specs.Laws.{find-at}
 use Rattle.user_model.specs.declared.group.Group.{Group}
 use Rattle.user_model.specs.declared.group.GroupVar.{GroupVar}
 use Rattle.user_model.specs.declared.row.Row.{Row}

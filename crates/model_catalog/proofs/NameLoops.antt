@@ -10,8 +10,8 @@ use Rattle.std.proofs.lemmas.List.Sums.{sum_by-drop_more}
 use Rattle.std.proofs.lemmas.Option.{none-some, slice_get-get_or}
 use Rattle.map_laws.specs.LoopLaws.{IsPast, as_it_was, past_more}
 use Rattle.map_laws.specs.OptionLaws.{not_some, some_is}
-use Rattle.numbered.specs.Numbered.{Rise, find}
-use Rattle.numbered.specs.Laws.{find-at}
+use Rattle.numbered_list.specs.Numbered.{Rise, find}
+use Rattle.numbered_list.specs.Laws.{find-at}
 use Rattle.name_index.specs.NameTable.{Numbers, IsOneToOne}
 use Rattle.model_catalog.specs.declared.names.NameChange.{NameChange}
 use Rattle.model_catalog.specs.Names.{AreDistinct, listed_number, standing_names, name_of, put_aside, put_count, renamed_by, settled, without_names}

@@ -2,9 +2,9 @@
 -- stand.
 use Rattle.std.proofs.Common.{◌≡◌, ℕ, List, length, Option, Some, None, refl, ap, ◌∙◌, sym}
 use Rattle.std.specs.Option.{option_map}
-use Rattle.numbered.specs.declared.change.Change.{Change}
-use Rattle.numbered.specs.Numbered.{Rise, find}
-use Rattle.numbered.specs.ExchangeLaws.{SoFar}
+use Rattle.numbered_list.specs.declared.change.Change.{Change}
+use Rattle.numbered_list.specs.Numbered.{Rise, find}
+use Rattle.numbered_list.specs.ExchangeLaws.{SoFar}
 use Rattle.user_model.specs.declared.row.Row.{Row}
 use Rattle.user_model.specs.Edited.{row_number}
 use Rattle.model_catalog.specs.declared.variable.Variable.{Variable}

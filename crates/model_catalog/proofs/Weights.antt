@@ -3,12 +3,12 @@ use Rattle.std.proofs.Common.{◌≡◌, add-zero, ℕ, ◌+◌, List, [], ◌�
 use Rattle.std.specs.Prelude.{sum_by}
 use Rattle.std.specs.Option.{option_to_list}
 use Rattle.std.proofs.lemmas.List.Sums.{sum_by-cons, sum_by-append}
-use Rattle.numbered.specs.declared.change.Change.{Change}
-use Rattle.numbered.specs.Numbered.{Rise, find, below, above, set_at}
-use Rattle.numbered.specs.Changes.{AreChanges, changed_number, olds, old, set_all}
-use Rattle.numbered.specs.Laws.{Rise-head}
-use Rattle.numbered.specs.SetLaws.{set_at_found, Rise-set_at}
-use Rattle.numbered.specs.ChangeLaws.{AreChanges-rest, IsAt-first, olds-set_at}
+use Rattle.numbered_list.specs.declared.change.Change.{Change}
+use Rattle.numbered_list.specs.Numbered.{Rise, find, below, above, set_at}
+use Rattle.numbered_list.specs.Changes.{AreChanges, changed_number, olds, old, set_all}
+use Rattle.numbered_list.specs.Laws.{Rise-head}
+use Rattle.numbered_list.specs.SetLaws.{set_at_found, Rise-set_at}
+use Rattle.numbered_list.specs.ChangeLaws.{AreChanges-rest, IsAt-first, olds-set_at}
 use Rattle.model_catalog.specs.Index.{weight}
 
 module _ {X : Type 0} (number_of : X → ℕ) (w : X → ℕ) where

@@ -1,7 +1,7 @@
 -- Exchanges of a model's content, and the room that they take.
 use Rattle.std.specs.Prelude.{◌+◌, ◌≤◌, length}
 use Rattle.std.specs.Option.{option_map}
-use Rattle.numbered.specs.Changes.{AreChanges, added, olds}
+use Rattle.numbered_list.specs.Changes.{AreChanges, added, olds}
 use Rattle.user_model.specs.declared.undo.Undo.{Undo}
 use Rattle.user_model.specs.Model.{ModelValue, variables}
 use Rattle.user_model.specs.Edited.{group_number, row_number}

@@ -1,8 +1,8 @@
 -- What is kept of each variable of a model: its group, and how many plain rows bound it.
 use Rattle.std.specs.Prelude.{◌≡◌, ℕ, ◌+◌, ◌≤◌, ◌==◌, Bool, false, cond, List, Option, Some, None, count_by, unwrap_or, is_some, if◌then◌else◌}
 use Rattle.std.specs.Option.{option_map, option_map_or}
-use Rattle.numbered.specs.Numbered as numbered
-use Rattle.numbered.specs.Numbered.{Rise}
+use Rattle.numbered_list.specs.Numbered as numbered
+use Rattle.numbered_list.specs.Numbered.{Rise}
 use Rattle.user_model.specs.declared.row.Row.{Row}
 use Rattle.user_model.specs.Model.{ModelValue, bounds_above, bounds_below, group_of, is_variable}
 use Rattle.user_model.specs.Sets.{sets_lower, sets_upper}

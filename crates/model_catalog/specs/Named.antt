@@ -1,7 +1,7 @@
 -- The names in a model by number, and what lists how they change from one model to another.
 use Rattle.std.specs.Prelude.{◌≡◌, ℕ, List, Option, None, IsSome, IfSome}
 use Rattle.std.specs.Option.{option_map}
-use Rattle.numbered.specs.Numbered.{Rise, find}
+use Rattle.numbered_list.specs.Numbered.{Rise, find}
 use Rattle.user_model.specs.Model.{ModelValue, variables}
 use Rattle.user_model.specs.Consistent.{variable_number}
 use Rattle.user_model.specs.Edited.{row_number}

@@ -3,7 +3,7 @@ use Rattle.std.specs.Prelude.{◌≡◌, ℕ, ◌==◌, List, map, Option, Some,
 use Rattle.std.specs.FinMap.{entries}
 use Rattle.std.specs.Option.{option_map, option_map_or}
 use Rattle.name_index.specs.NameTable.{Numbers}
-use Rattle.numbered.specs.Numbered as numbered
+use Rattle.numbered_list.specs.Numbered as numbered
 use Rattle.model_catalog.specs.declared.names.NameChange.{NameChange}
 
 abbrev pub listed_number : NameChange → ℕ

@@ -1,6 +1,6 @@
 -- How many terms the rows have that changes put in.
 use Rattle.std.specs.Prelude.{ℕ, List, sum_by, Option}
-use Rattle.numbered.specs.declared.change.Change.{Change}
+use Rattle.numbered_list.specs.declared.change.Change.{Change}
 use Rattle.user_model.specs.declared.row.Row.{Row}
 use Rattle.user_model.specs.Functions.{all_terms}
 use Rattle.model_catalog.specs.Index.{weight}

@@ -13,7 +13,7 @@ use crate::room::More;
 use crate::terms::changed_terms;
 use crate::variable::Variable;
 use name_index::NameTable;
-use numbered::Numbered;
+use numbered_list::Numbered;
 use ratio_core::Memory;
 use std::alloc::Global;
 use std::marker::Model;

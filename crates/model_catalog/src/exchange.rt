@@ -2,7 +2,7 @@
 ghost use Rattle.std.specs.Prelude.{◌≡◌};
 ghost use Rattle.model_catalog.specs.Exchange.{contents};
 
-use numbered::Change;
+use numbered_list::Change;
 use user_model::{Group, NextNumbers, Objective, OldGroups, OldRows, Row, Undo};
 
 /// What is to stand at some numbers of groups and of rows, another objective, and other next

@@ -1,8 +1,8 @@
 //! The variables that are kept, as groups and rows come and go.
 ghost use Rattle.std.specs.Prelude.{◌≡◌, ℕ, ◌+◌, ◌<◌, ◌≤◌, ◌^◌, length, IsSome, IsNone, IfSome, MatchOption};
 ghost use Rattle.std.specs.Option.{option_copied, option_map};
-ghost use Rattle.numbered.specs.Numbered.{IsAt, Rise, find, set_at};
-ghost use Rattle.numbered.specs.Changes.{AreChanges, added, olds, set_all};
+ghost use Rattle.numbered_list.specs.Numbered.{IsAt, Rise, find, set_at};
+ghost use Rattle.numbered_list.specs.Changes.{AreChanges, added, olds, set_all};
 ghost use Rattle.user_model.specs.Edited.{row_number};
 ghost use Rattle.user_model.specs.Model.{is_variable, variable_address};
 ghost use Rattle.aff_core.specs.Address.{address_eq};
@@ -13,7 +13,7 @@ ghost use Rattle.model_catalog.specs.Index.{CountsBounds, IsCounted, SetsBounds,
 use crate::names::NameChange;
 use crate::variable::Variable;
 use aff_core::{Address, Root};
-use numbered::{Change, Numbered};
+use numbered_list::{Change, Numbered};
 use set_core::Set;
 use user_model::{Row, Rows, UserFunc};
 

@@ -2,7 +2,7 @@
 ghost use Rattle.std.specs.Prelude.{◌≡◌, ◌+◌, ◌<◌, ◌≤◌, ◌==◌, ℕ, cond, map, None, IsSome, IfSome, is_some};
 ghost use Rattle.std.specs.FinMap.{get};
 ghost use Rattle.name_index.specs.NameTable.{IsFree, IsOneToOne};
-ghost use Rattle.numbered.specs.Numbered.{Rise, find};
+ghost use Rattle.numbered_list.specs.Numbered.{Rise, find};
 ghost use Rattle.model_catalog.specs.Names.{AreDistinct, listed_as, listed_number, standing_names, name_of, put_aside, put_count, renamed_by, settled, without_names};
 
 use name_index::{Name, NameTable};

@@ -5,7 +5,7 @@ ghost use Rattle.user_model.specs.Functions.{all_terms, term_count};
 ghost use Rattle.model_catalog.specs.Terms.{changed_terms, content_terms};
 
 use aff_core::Aff;
-use numbered::Change;
+use numbered_list::Change;
 use user_model::{Row, UserFunc};
 
 // How many terms the rows have that are to stand.

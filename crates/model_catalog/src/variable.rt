@@ -1,5 +1,5 @@
 //! What is kept of each variable, to find its group and its bounds without a scan.
-use numbered::HasNumber;
+use numbered_list::HasNumber;
 
 /// A variable by its number.
 #[derive(Clone, Copy, Debug)]

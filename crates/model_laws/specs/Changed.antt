@@ -1,6 +1,6 @@
 -- Changes of a row and of a group, where the row or the group is found.
 use Rattle.std.specs.Prelude.{◌≡◌, ℕ, List, Some, refl}
-use Rattle.numbered.specs.Numbered.{put, without}
+use Rattle.numbered_list.specs.Numbered.{put, without}
 use Rattle.user_model.specs.declared.group.Group.{Group}
 use Rattle.user_model.specs.declared.row.Row.{Row}
 use Rattle.user_model.specs.Model.{ModelValue, group_of, row_named, variable_named}

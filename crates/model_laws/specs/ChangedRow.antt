@@ -6,8 +6,8 @@ use Rattle.std.proofs.Common.{sym, ap, inl, inr, ◌∙◌}
 use Rattle.std.proofs.lemmas.Bool.{cases_Bool}
 use Rattle.std.proofs.lemmas.List.Elements.{All-head, All-tail}
 use Rattle.std.proofs.lemmas.Slice.Eq.{bytes_eq-Decides}
-use Rattle.numbered.specs.Numbered as numbered
-use Rattle.numbered.specs.Numbered.{put}
+use Rattle.numbered_list.specs.Numbered as numbered
+use Rattle.numbered_list.specs.Numbered.{put}
 use Rattle.user_model.specs.declared.function.UserFunc.{UserFunc}
 use Rattle.user_model.specs.declared.row.Row.{Row}
 use Rattle.user_model.specs.Consistent.{IsConsistent}

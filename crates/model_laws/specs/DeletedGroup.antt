@@ -7,7 +7,7 @@ use Rattle.std.proofs.lemmas.List.Elements.{All-weaker, filter_map-append}
 use Rattle.std.proofs.lemmas.List.Folds.{list_any_none}
 use Rattle.std.proofs.lemmas.Bool.{ne_eqb}
 use Rattle.map_laws.specs.EachLaws.{all_first, all_second}
-use Rattle.numbered.specs.Numbered.{Rise, find, set_at}
+use Rattle.numbered_list.specs.Numbered.{Rise, find, set_at}
 use Rattle.user_model.specs.declared.group.Group.{Group}
 use Rattle.user_model.specs.declared.group.GroupVar.{GroupVar}
 use Rattle.user_model.specs.Model.{has_variable}

@@ -3,9 +3,9 @@ use Rattle.std.specs.Prelude.{◌≡◌, ◌≢◌, ℕ, true, List, [], ◌∷�
 use Rattle.std.specs.Option.{option_map_or}
 use Rattle.std.proofs.Common.{sym, ap, subst, ◌∙◌}
 use Rattle.std.proofs.lemmas.List.Elements.{All-nil, All-cons, All-filter, All-map, Contains-get_or, filter_passes}
-use Rattle.numbered.specs.declared.change.Change.{Change}
-use Rattle.numbered.specs.Numbered.{find, put, set_at}
-use Rattle.numbered.specs.SetLaws.{set_at_found}
+use Rattle.numbered_list.specs.declared.change.Change.{Change}
+use Rattle.numbered_list.specs.Numbered.{find, put, set_at}
+use Rattle.numbered_list.specs.SetLaws.{set_at_found}
 use Rattle.aff_core.specs.Address.{Address}
 use Rattle.user_model.specs.declared.group.Group.{Group}
 use Rattle.user_model.specs.declared.row.Row.{Row}

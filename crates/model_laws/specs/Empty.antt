@@ -1,7 +1,7 @@
 -- The empty model is consistent and within its limits.
 use Rattle.std.specs.Prelude.{◌≡◌, ◌≢◌, ◌<◌, true, IsSome}
 use Rattle.std.proofs.lemmas.List.Elements.{All-nil}
-use Rattle.numbered.specs.Laws.{Rise-nil}
+use Rattle.numbered_list.specs.Laws.{Rise-nil}
 use Rattle.user_model.specs.declared.group.GroupVar.{GroupVar}
 use Rattle.user_model.specs.declared.group.Group.{Group}
 use Rattle.user_model.specs.declared.row.Row.{Row}

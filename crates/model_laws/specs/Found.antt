@@ -8,9 +8,9 @@ use Rattle.std.proofs.lemmas.Option.{slice_get-get_or}
 use Rattle.std.proofs.lemmas.Slice.Eq.{bytes_eq-Decides}
 use Rattle.std.proofs.lemmas.List.Folds.{list_any-append, list_any_at}
 use Rattle.std.proofs.lemmas.List.Elements.{All-nil, All-cons, All-weaker}
-use Rattle.numbered.specs.Numbered.{Rise}
-use Rattle.numbered.specs.Numbered as numbered
-use Rattle.numbered.specs.Laws.{find-at}
+use Rattle.numbered_list.specs.Numbered.{Rise}
+use Rattle.numbered_list.specs.Numbered as numbered
+use Rattle.numbered_list.specs.Laws.{find-at}
 
 module _ {X : Type 0} (p : X → Bool) where
   pub is_some-find : (xs : List X) → is_some (find p xs) ≡ list_any p xs

@@ -6,8 +6,8 @@ use Rattle.std.proofs.Common.{sym, ap, ap₂, inl, inr, ◌∙◌}
 use Rattle.std.proofs.lemmas.Bool.{cases_Bool, cases_eq, eq-eqb, ne_eqb}
 use Rattle.std.proofs.lemmas.List.Elements.{All-head, All-tail, filter-append}
 use Rattle.set_core.specs.declared.set.Set.{Set}
-use Rattle.numbered.specs.Numbered.{IsAt}
-use Rattle.numbered.specs.Laws.{KeepsNumbers}
+use Rattle.numbered_list.specs.Numbered.{IsAt}
+use Rattle.numbered_list.specs.Laws.{KeepsNumbers}
 use Rattle.user_model.specs.declared.group.Group.{Group}
 use Rattle.user_model.specs.declared.group.GroupVar.{GroupVar}
 use Rattle.user_model.specs.Model.{has_variable}

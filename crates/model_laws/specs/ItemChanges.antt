@@ -5,12 +5,12 @@ use Rattle.std.specs.List.{filter_map, cons_option}
 use Rattle.std.specs.Option.{option_and_then, option_map, option_map_or}
 use Rattle.std.proofs.Common.{sym, ap, ◌∙◌}
 use Rattle.std.proofs.lemmas.List.Elements.{All-nil, All-map}
-use Rattle.numbered.specs.declared.change.Change.{Change}
-use Rattle.numbered.specs.Numbered.{Rise, IsAt, find}
-use Rattle.numbered.specs.Changes.{AreChanges, changed_number, old, olds, set_all}
-use Rattle.numbered.specs.Laws.{KeepsNumbers, Rise-filter, find-filter_map, same_lists, Rise-filter_map}
-use Rattle.numbered.specs.SetLaws.{put_last}
-use Rattle.numbered.specs.ChangeLaws.{AreChanges-cons, AreChanges-nil, AreChanges-olds, Rise-set_all, find-changed, find-olds, find-set_all}
+use Rattle.numbered_list.specs.declared.change.Change.{Change}
+use Rattle.numbered_list.specs.Numbered.{Rise, IsAt, find}
+use Rattle.numbered_list.specs.Changes.{AreChanges, changed_number, old, olds, set_all}
+use Rattle.numbered_list.specs.Laws.{KeepsNumbers, Rise-filter, find-filter_map, same_lists, Rise-filter_map}
+use Rattle.numbered_list.specs.SetLaws.{put_last}
+use Rattle.numbered_list.specs.ChangeLaws.{AreChanges-cons, AreChanges-nil, AreChanges-olds, Rise-set_all, find-changed, find-olds, find-set_all}
 use Rattle.user_model.specs.Undone.{AreDifferences}
 use Rattle.map_laws.specs.PairLaws.{AllPairs-map}
 

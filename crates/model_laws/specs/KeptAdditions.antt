@@ -8,8 +8,8 @@ use Rattle.std.proofs.lemmas.List.Concat.{flat_map-append}
 use Rattle.std.proofs.lemmas.List.Folds.{list_any-append}
 use Rattle.std.proofs.lemmas.List.Quantifiers.{all_pairs_push}
 use Rattle.std.proofs.lemmas.List.Elements.{All-append, All-push, All-weaker}
-use Rattle.numbered.specs.Numbered.{Rise}
-use Rattle.numbered.specs.Laws.{Rise-append, Rise-push}
+use Rattle.numbered_list.specs.Numbered.{Rise}
+use Rattle.numbered_list.specs.Laws.{Rise-append, Rise-push}
 use Rattle.set_core.specs.declared.set.Set.{Set}
 use Rattle.user_model.specs.declared.function.UserFunc.{UserFunc}
 use Rattle.user_model.specs.declared.group.Group.{Group}

@@ -6,8 +6,8 @@ use Rattle.std.proofs.lemmas.Option.{IfSome_then}
 use Rattle.std.proofs.lemmas.List.Elements.{All-filter}
 use Rattle.std.proofs.lemmas.List.Kept.{AllPairs-filter}
 use Rattle.std.proofs.lemmas.List.Sums.{sum_by-cons}
-use Rattle.numbered.specs.Numbered.{Rise}
-use Rattle.numbered.specs.Laws.{KeepsNumbers, Rise-filter, Rise-filter_map}
+use Rattle.numbered_list.specs.Numbered.{Rise}
+use Rattle.numbered_list.specs.Laws.{KeepsNumbers, Rise-filter, Rise-filter_map}
 use Rattle.aff_core.specs.Address.{Address, address_eq}
 use Rattle.user_model.specs.declared.group.Group.{Group}
 use Rattle.user_model.specs.declared.row.Row.{Row}

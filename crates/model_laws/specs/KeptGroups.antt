@@ -4,10 +4,10 @@ use Rattle.std.specs.List.{list_any}
 use Rattle.std.proofs.Common.{arith, sym, ap, subst, ◌∙◌}
 use Rattle.std.proofs.lemmas.List.{length-map}
 use Rattle.std.proofs.lemmas.List.Elements.{All-contains, All-weaker}
-use Rattle.numbered.specs.Numbered.{Rise, put}
-use Rattle.numbered.specs.Numbered as numbered
-use Rattle.numbered.specs.Laws.{Contains-found}
-use Rattle.numbered.specs.SetLaws.{Rise-set_at}
+use Rattle.numbered_list.specs.Numbered.{Rise, put}
+use Rattle.numbered_list.specs.Numbered as numbered
+use Rattle.numbered_list.specs.Laws.{Contains-found}
+use Rattle.numbered_list.specs.SetLaws.{Rise-set_at}
 use Rattle.user_model.specs.declared.group.Group.{Group}
 use Rattle.user_model.specs.declared.group.GroupVar.{GroupVar}
 use Rattle.user_model.specs.Model.{ModelValue, group_of, has_variable, is_variable, variables}

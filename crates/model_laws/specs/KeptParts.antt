@@ -3,9 +3,9 @@ use Rattle.std.specs.Prelude.{◌≡◌, ◌⊎◌, ℕ, Bool, true, false, ◌&
 use Rattle.std.specs.List.{list_any}
 use Rattle.std.proofs.Common.{arith, sym, ap, subst, inl, inr, ◌∙◌}
 use Rattle.std.proofs.lemmas.List.Elements.{All-contains, All-push, All-weaker}
-use Rattle.numbered.specs.Numbered.{put}
-use Rattle.numbered.specs.Numbered as numbered
-use Rattle.numbered.specs.Laws.{Contains-found}
+use Rattle.numbered_list.specs.Numbered.{put}
+use Rattle.numbered_list.specs.Numbered as numbered
+use Rattle.numbered_list.specs.Laws.{Contains-found}
 use Rattle.set_core.specs.declared.set.Set.{Set}
 use Rattle.user_model.specs.declared.group.Group.{Group}
 use Rattle.user_model.specs.declared.objective.Objective.{Objective}

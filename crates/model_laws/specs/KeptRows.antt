@@ -2,9 +2,9 @@
 use Rattle.std.specs.Prelude.{◌≡◌, ◌≢◌, ◌⊎◌, ℕ, ◌+◌, ◌<◌, ◌≤◌, true, List, Some, None, All, AllPairs, Contains, IsSome, refl}
 use Rattle.std.proofs.Common.{arith, sym, ap, subst, ◌∙◌}
 use Rattle.std.proofs.lemmas.List.Elements.{All-contains}
-use Rattle.numbered.specs.Numbered.{Rise, find, put, without}
-use Rattle.numbered.specs.Laws.{Contains-found}
-use Rattle.numbered.specs.SetLaws.{Rise-set_at}
+use Rattle.numbered_list.specs.Numbered.{Rise, find, put, without}
+use Rattle.numbered_list.specs.Laws.{Contains-found}
+use Rattle.numbered_list.specs.SetLaws.{Rise-set_at}
 use Rattle.user_model.specs.declared.row.Row.{Row}
 use Rattle.user_model.specs.Functions.{all_terms}
 use Rattle.user_model.specs.Limits.{ALL_TERMS, ROWS}

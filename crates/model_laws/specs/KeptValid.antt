@@ -8,7 +8,7 @@ use Rattle.std.proofs.lemmas.List.{length-map}
 use Rattle.std.proofs.lemmas.List.Elements.{All-append, All-head, All-nil, All-cons, All-tail}
 use Rattle.std.proofs.lemmas.List.Folds.{list_any-append}
 use Rattle.map_laws.specs.EachLaws.{All-filter_map, all_first, all_second}
-use Rattle.numbered.specs.Numbered.{put}
+use Rattle.numbered_list.specs.Numbered.{put}
 use Rattle.aff_core.specs.Address.{Address, address_eq, address_eq-Decides}
 use Rattle.aff_core.specs.Function.{with_coefficient}
 use Rattle.set_core.specs.declared.set.Set.{Set}

@@ -9,7 +9,7 @@ use Rattle.std.proofs.lemmas.List.Elements.{Contains-append_left, Contains-appen
 use Rattle.std.proofs.lemmas.List.Folds.{Any-from_list_any}
 use Rattle.std.proofs.lemmas.Slice.Eq.{bytes_eq-Decides}
 use Rattle.map_laws.specs.OptionLaws.{is_some-option_map}
-use Rattle.numbered.specs.Numbered as numbered
+use Rattle.numbered_list.specs.Numbered as numbered
 use Rattle.aff_core.specs.Address.{address_eq, address_eq-Decides}
 use Rattle.user_model.specs.declared.group.Group.{Group}
 use Rattle.user_model.specs.declared.group.GroupVar.{GroupVar}

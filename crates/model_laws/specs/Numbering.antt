@@ -6,8 +6,8 @@ use Rattle.std.proofs.Common.{arith, ap}
 use Rattle.std.proofs.lemmas.Bool.{or_parts}
 use Rattle.std.proofs.lemmas.List.Elements.{All-nil, All-cons, All-head, All-tail, All-weaker}
 use Rattle.std.proofs.lemmas.List.Kept.{AllPairs-cons}
-use Rattle.numbered.specs.Numbered.{Rise}
-use Rattle.numbered.specs.Laws.{Rise-nil, Rise-cons}
+use Rattle.numbered_list.specs.Numbered.{Rise}
+use Rattle.numbered_list.specs.Laws.{Rise-nil, Rise-cons}
 use Rattle.user_model.specs.Edited.{numbered_from}
 use Rattle.user_model.specs.Consistent.{variable_number}
 use Rattle.user_model.specs.Refusals.{has_twins}

@@ -7,8 +7,8 @@ use Rattle.std.proofs.lemmas.List.{length-append}
 use Rattle.std.proofs.lemmas.List.Elements.{All-append, All-cons, All-filter}
 use Rattle.std.proofs.lemmas.List.Kept.{AllPairs-filter}
 use Rattle.std.proofs.lemmas.List.Sums.{sum_by-append, sum_by-cons, length-filter, count_by-le-length}
-use Rattle.numbered.specs.Numbered.{Rise, find, below, above, set_at, put, without}
-use Rattle.numbered.specs.SetLaws.{set_at_found, without-filter}
+use Rattle.numbered_list.specs.Numbered.{Rise, find, below, above, set_at, put, without}
+use Rattle.numbered_list.specs.SetLaws.{set_at_found, without-filter}
 
 -- a filter keeps no more than there was
 pub length_filter : {X : Type 0} (p : X → Bool) (xs : List X) → length (filter p xs) ≤ length xs

@@ -7,8 +7,8 @@ use Rattle.std.proofs.lemmas.Bool.{both_ways, cases_Bool, or_parts}
 use Rattle.std.proofs.lemmas.List.Elements.{All-head, All-tail, All-weaker}
 use Rattle.std.proofs.lemmas.List.Folds.{find-append}
 use Rattle.std.proofs.lemmas.List.Sums.{sum_by-append, sum_by-cons}
-use Rattle.numbered.specs.Numbered.{Rise, put, without}
-use Rattle.numbered.specs.Numbered as numbered
+use Rattle.numbered_list.specs.Numbered.{Rise, put, without}
+use Rattle.numbered_list.specs.Numbered as numbered
 use Rattle.set_core.specs.declared.set.Set.{Set}
 use Rattle.user_model.specs.declared.group.Group.{Group}
 use Rattle.user_model.specs.declared.row.Row.{Row}

@@ -8,10 +8,10 @@ use Rattle.std.proofs.lemmas.Bool.{both_ways, cases_Bool, cases_eq, eq-eqb, ne_e
 use Rattle.std.proofs.lemmas.List.Elements.{All-filter, All-map, filter_passes}
 use Rattle.std.proofs.lemmas.Option.{none-some}
 use Rattle.map_laws.specs.OptionLaws.{none_of}
-use Rattle.numbered.specs.declared.change.Change.{Change}
-use Rattle.numbered.specs.Numbered.{Rise, find}
-use Rattle.numbered.specs.Changes.{changed_number, set_all}
-use Rattle.numbered.specs.Laws.{Rise-filter, find-filter_map, number_of_found}
+use Rattle.numbered_list.specs.declared.change.Change.{Change}
+use Rattle.numbered_list.specs.Numbered.{Rise, find}
+use Rattle.numbered_list.specs.Changes.{changed_number, set_all}
+use Rattle.numbered_list.specs.Laws.{Rise-filter, find-filter_map, number_of_found}
 use Rattle.aff_core.specs.Address.{Address}
 use Rattle.user_model.specs.declared.group.Group.{Group}
 use Rattle.user_model.specs.declared.group.GroupVar.{GroupVar}

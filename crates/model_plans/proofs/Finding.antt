@@ -3,7 +3,7 @@ use Rattle.std.proofs.Common.{◌≡◌, ℕ, ◌==◌, true, false, cond, List,
 use Rattle.std.specs.Prelude.{Contains, IsSome}
 use Rattle.std.specs.Option.{option_map}
 use Rattle.std.proofs.lemmas.Bool.{eq-eqb}
-use Rattle.numbered.specs.Numbered.{find}
+use Rattle.numbered_list.specs.Numbered.{find}
 use Rattle.model_laws.specs.Found.{is_some-find, one_passes}
 
 -- each item is made something of the same number

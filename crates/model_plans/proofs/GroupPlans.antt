@@ -11,8 +11,8 @@ use Rattle.std.proofs.lemmas.List.Folds.{find-append, list_any_none}
 use Rattle.std.proofs.lemmas.List.Concat.{flat_map-append}
 use Rattle.std.proofs.lemmas.Option.{none-some, same_Some}
 use Rattle.map_laws.specs.OptionLaws.{none_of, not_some, option_or-none}
-use Rattle.numbered.specs.Numbered.{Rise, find, put}
-use Rattle.numbered.specs.Laws.{Contains-found, find-none_below, number_of_found}
+use Rattle.numbered_list.specs.Numbered.{Rise, find, put}
+use Rattle.numbered_list.specs.Laws.{Contains-found, find-none_below, number_of_found}
 use Rattle.set_core.specs.declared.set.Set.{Set}
 use Rattle.user_model.specs.declared.edit.Edit.TheVariants as edit
 use Rattle.user_model.specs.declared.group.Group.{Group}

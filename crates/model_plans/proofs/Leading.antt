@@ -4,10 +4,10 @@ use Rattle.std.specs.Prelude.{All, unwrap_or}
 use Rattle.std.specs.Option.{option_map}
 use Rattle.std.proofs.lemmas.List.Elements.{All-cons, All-nil}
 use Rattle.std.proofs.lemmas.Option.{same_Some}
-use Rattle.numbered.specs.declared.change.Change.{Change}
-use Rattle.numbered.specs.Numbered.{IsAt, find, put, set_at}
-use Rattle.numbered.specs.Changes.{AreChanges, set_all}
-use Rattle.numbered.specs.ChangeLaws.{AreChanges-nil}
+use Rattle.numbered_list.specs.declared.change.Change.{Change}
+use Rattle.numbered_list.specs.Numbered.{IsAt, find, put, set_at}
+use Rattle.numbered_list.specs.Changes.{AreChanges, set_all}
+use Rattle.numbered_list.specs.ChangeLaws.{AreChanges-nil}
 use Rattle.user_model.specs.declared.group.Group.{Group}
 use Rattle.user_model.specs.declared.objective.Objective.{Objective}
 use Rattle.user_model.specs.declared.row.Row.{Row}

@@ -5,9 +5,9 @@ use Rattle.std.specs.Option.{option_map, option_map_or}
 use Rattle.std.proofs.lemmas.Bool.{cases_eq}
 use Rattle.std.proofs.lemmas.List.Elements.{All-cons, All-nil}
 use Rattle.map_laws.specs.OptionLaws.{not_some}
-use Rattle.numbered.specs.Numbered.{IsAt, find, set_at}
-use Rattle.numbered.specs.Laws.{Rise-cons, Rise-nil, find-first, find-rest}
-use Rattle.numbered.specs.SetLaws.{find-set_at_other, find-set_at_same}
+use Rattle.numbered_list.specs.Numbered.{IsAt, find, set_at}
+use Rattle.numbered_list.specs.Laws.{Rise-cons, Rise-nil, find-first, find-rest}
+use Rattle.numbered_list.specs.SetLaws.{find-set_at_other, find-set_at_same}
 use Rattle.user_model.specs.declared.group.Group.{Group}
 use Rattle.user_model.specs.declared.objective.Objective.{Objective}
 use Rattle.user_model.specs.declared.row.Row.{Row}

@@ -3,7 +3,7 @@ use Rattle.std.proofs.Common.{◌≡◌, ◌≢◌, ℕ, zero, suc, add-one, ◌
 use Rattle.std.specs.Prelude.{slice_get}
 use Rattle.std.proofs.lemmas.List.Elements.{All-contains}
 use Rattle.std.proofs.lemmas.Option.{none-some}
-use Rattle.numbered.specs.Laws.{find-none_below}
+use Rattle.numbered_list.specs.Laws.{find-none_below}
 use Rattle.aff_core.specs.Function.{Function}
 use Rattle.set_core.specs.declared.set.Set.{Set}
 use Rattle.user_model.specs.declared.edit.Edit.TheVariants as edit
@@ -25,7 +25,7 @@ use Rattle.model_laws.specs.Shapes.{affine_row_other, affine_row_same, output_ro
 use Rattle.model_plans.specs.declared.plan.Plan.{Plan}
 use Rattle.model_catalog.specs.Names.{listed_as}
 use Rattle.model_catalog.specs.Named.{row_name}
-use Rattle.numbered.specs.Numbered.{find}
+use Rattle.numbered_list.specs.Numbered.{find}
 use Rattle.std.specs.Option.{option_map}
 use Rattle.model_plans.specs.Plans.{Accepts, HasParts, Leads}
 use Rattle.model_plans.proofs.NamesListed.{one_renamed, row_listed}

@@ -4,7 +4,7 @@ use Rattle.std.specs.Prelude.{◌≡◌, ◌≢◌, MatchOption, ℕ, List, All,
 use Rattle.std.specs.Option.{is_none}
 use Rattle.ratio_core.specs.Rational.{Rational}
 use Rattle.aff_core.specs.Function.{Function, with_coefficient}
-use Rattle.numbered.specs.declared.change.Change.{Change}
+use Rattle.numbered_list.specs.declared.change.Change.{Change}
 use Rattle.user_model.specs.declared.edit.Edit.{Edit}
 use Rattle.user_model.specs.declared.edit.Edit.TheVariants as edit
 use Rattle.user_model.specs.declared.group.Group.{Group}

@@ -18,7 +18,7 @@ use aff_core::{Address, Aff, Root, VecAff, has_address, without_address};
 use lists::Duplicate;
 use model_catalog::{Catalog, NameChange};
 use model_refusals::GroupedVariable;
-use numbered::Change;
+use numbered_list::Change;
 use ratio_core::{Memory, Ratio};
 use set_core::Set;
 use std::alloc::Global;

@@ -11,7 +11,7 @@ use crate::parts::Part;
 use crate::{deletion, groups, objective, rows};
 use model_catalog::{Catalog, Exchange, NameChange, NameChanges};
 use model_refusals::AcceptedEdit;
-use numbered::Change;
+use numbered_list::Change;
 use ratio_core::Memory;
 use std::alloc::Global;
 use user_model::{Group, NextNumbers, Objective, Row};

@@ -17,7 +17,7 @@ use lists::Duplicate;
 use model_catalog::{Catalog, NameChange};
 use model_refusals::{Component, NamedRow};
 use name_index::Name;
-use numbered::Change;
+use numbered_list::Change;
 use ratio_core::{Memory, Ratio};
 use set_core::Set;
 use std::alloc::Global;

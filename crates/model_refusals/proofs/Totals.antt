@@ -4,7 +4,7 @@ use Rattle.std.specs.Str.{bytes_eq}
 use Rattle.std.proofs.Common.{arith, ap, ap₂, subst, ◌∙◌}
 use Rattle.std.proofs.lemmas.Option.{same_Some}
 use Rattle.std.proofs.lemmas.List.Sums.{get_or-le-sum_by, sum_by_push, sum_by-cons}
-use Rattle.numbered.specs.Numbered.{put}
+use Rattle.numbered_list.specs.Numbered.{put}
 use Rattle.ratio_core.specs.Rational.{Rational}
 use Rattle.aff_core.specs.Function.{Function, with_coefficient}
 use Rattle.set_core.specs.declared.set.Set.{Set}

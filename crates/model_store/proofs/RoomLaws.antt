@@ -5,10 +5,10 @@ use Rattle.std.proofs.lemmas.List.{length-map, same_from_push}
 use Rattle.std.proofs.lemmas.List.Elements.{All-head, All-push, All-weaker}
 use Rattle.std.proofs.lemmas.List.Sums.{count_by-le-length, sum_by_push}
 use Rattle.map_laws.specs.EachLaws.{all_first, all_second}
-use Rattle.numbered.specs.declared.change.Change.{Change}
-use Rattle.numbered.specs.Numbered.{Rise}
-use Rattle.numbered.specs.Changes.{AreChanges, added, olds, set_all}
-use Rattle.numbered.specs.ChangeLaws.{AreChanges-olds, added-le, room_back}
+use Rattle.numbered_list.specs.declared.change.Change.{Change}
+use Rattle.numbered_list.specs.Numbered.{Rise}
+use Rattle.numbered_list.specs.Changes.{AreChanges, added, olds, set_all}
+use Rattle.numbered_list.specs.ChangeLaws.{AreChanges-olds, added-le, room_back}
 use Rattle.user_model.specs.declared.undo.Undo.{Undo}
 use Rattle.user_model.specs.Model.{ModelValue, variables}
 use Rattle.user_model.specs.Edited.{group_number, row_number}

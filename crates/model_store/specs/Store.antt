@@ -2,7 +2,7 @@
 -- that may still be taken back.
 use Rattle.std.specs.Prelude.{◌≡◌, ◌+◌, ◌≤◌, List, [], ◌∷◌, ◌++◌, Option, Some, None, length, refl}
 use Rattle.std.specs.Coded.{Coded, code_by, coded×, coded_list}
-use Rattle.numbered.specs.Changes.{AreChanges, added}
+use Rattle.numbered_list.specs.Changes.{AreChanges, added}
 use Rattle.user_model.specs.declared.refusal.ApplyFault.{ApplyFault}
 use Rattle.user_model.specs.declared.refusal.ApplyFault.TheVariants.{Refused, Memory}
 use Rattle.user_model.specs.declared.refusal.Refusal.{Refusal}

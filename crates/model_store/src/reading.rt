@@ -2,7 +2,7 @@
 ghost use Rattle.std.specs.Prelude.{◌≡◌};
 ghost use Rattle.std.specs.Option.{option_copied};
 ghost use Rattle.model_store.specs.Reading.{read_once_more};
-ghost use Rattle.numbered.specs.Numbered as numbered;
+ghost use Rattle.numbered_list.specs.Numbered as numbered;
 ghost use Rattle.user_model.specs.Edited.{group_number, row_number};
 ghost use Rattle.user_model.specs.Valid.{IsValid};
 

@@ -4,7 +4,7 @@ use Rattle.std.specs.List.{list_any}
 use Rattle.name_index.specs.Name.{is_name}
 use Rattle.named_aff.specs.declared.aff.NamedAff.{NamedAff}
 use Rattle.named_aff.specs.declared.terms.NamedTerm.{NamedTerm}
-use Rattle.named_sums.specs.Sums.{plus_term, with_term}
+use Rattle.named_aff.specs.Sums.{plus_term, with_term}
 use Rattle.user_model.specs.declared.edit.NamedFunc.{NamedFunc}
 use Rattle.user_model.specs.declared.edit.NamedFunc.TheVariants as named
 use Rattle.serde_json.specs.Data.{Data}

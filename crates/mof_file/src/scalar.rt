@@ -9,8 +9,7 @@ use crate::terms::term;
 use indexmap::IndexSet;
 use mof_values::{MofFault, array, at_key, field, here, number_field};
 use name_index::Name;
-use named_aff::{NamedAff, NamedTerms};
-use named_sums::TermSum;
+use named_aff::{NamedAff, NamedTerms, TermSum};
 use serde_json::Value;
 use std::alloc::Global;
 

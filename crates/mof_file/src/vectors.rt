@@ -11,8 +11,7 @@ use indexmap::IndexSet;
 use lists::Memory;
 use mof_values::{MofFault, array, at_key, field, here, integer, number, require_object};
 use name_index::Name;
-use named_aff::{NamedTerm, NamedVec};
-use named_sums::AffSum;
+use named_aff::{AffSum, NamedTerm, NamedVec};
 use serde_json::Value;
 use std::alloc::Global;
 

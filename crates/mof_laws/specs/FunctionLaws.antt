@@ -11,7 +11,7 @@ use Rattle.aff_core.specs.Function.{Function}
 use Rattle.aff_core.specs.Function as aff
 use Rattle.named_aff.specs.declared.aff.NamedAff.{NamedAff}
 use Rattle.named_aff.specs.declared.terms.NamedTerm.{NamedTerm}
-use Rattle.named_sums.specs.Sums.{with_term}
+use Rattle.named_aff.specs.Sums.{with_term}
 use Rattle.mof_values.specs.declared.fault.MofFault.TheVariants.{BadNumber}
 use Rattle.mof_values.specs.Sets.{is}
 use Rattle.mof_values.specs.Values.{a_number, a_text, an_array, an_object, field}

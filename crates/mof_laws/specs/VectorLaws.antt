@@ -11,7 +11,7 @@ use Rattle.aff_core.specs.Function.{Function}
 use Rattle.aff_core.specs.Function as aff
 use Rattle.named_aff.specs.declared.aff.NamedAff.{NamedAff}
 use Rattle.named_aff.specs.declared.terms.NamedTerm.{NamedTerm}
-use Rattle.named_sums.specs.Sums.{plus_term}
+use Rattle.named_aff.specs.Sums.{plus_term}
 use Rattle.serde_json.specs.Data.{Data}
 use Rattle.serde_json.specs.View.{items_of}
 use Rattle.mof_values.specs.declared.fault.MofFault.TheVariants.{BadNumber, Shape}

@@ -2,8 +2,8 @@
 use Rattle.std.proofs.Common.{◌≡◌, ◌≢◌, ℕ, ◌⊎◌, Bool, true, false, List, [], sym, ◌∙◌, subst, inl, inr, Option, Some}
 use Rattle.std.specs.Prelude.{if◌then◌else◌, Ok, Err}
 use Rattle.command_words.specs.declared.words.Command.TheVariants.{Check}
-use Rattle.file_verdict.specs.Verdict.{AsksFiles, IsVerdict}
-use Rattle.file_verdict.specs.VerdictLaws.{fails_by, too_long_by}
+use Rattle.certificate_check.specs.Verdict.{AsksFiles, IsVerdict}
+use Rattle.certificate_check.specs.VerdictLaws.{fails_by, too_long_by}
 use Rattle.io_face.specs.Fault.{HasFaulted}
 use Rattle.io_face.specs.Shelf.{AsksFor}
 use Rattle.io_face.specs.Sink.{Adds, AddsPrefix}

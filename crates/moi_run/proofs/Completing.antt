@@ -15,7 +15,7 @@ use Rattle.moi_run.specs.Status.{IsEnded}
 use Rattle.moi_run.specs.Tally.{Tally}
 use Rattle.moi_run.specs.declared.status.Status.{Status}
 use Rattle.moi_run.specs.declared.status.Status.TheVariants as status
-use Rattle.script_lines.specs.Limits.{line_limit}
+use Rattle.line_reader.specs.Limits.{line_limit}
 
 -- what holds of all doesn't fail at one
 pub clash : (P Q : List ℕ → Type 0) (xs : List (List ℕ)) → All Q xs → Any P xs

@@ -25,9 +25,9 @@ use Rattle.moi_run.specs.declared.stop.Stop.{Stop}
 use Rattle.moi_run.specs.declared.stop.Stop.TheVariants as stop
 use Rattle.report_core.specs.declared.answer.Answer.{Answer}
 use Rattle.report_core.specs.declared.answer.Answer.TheVariants.{ReadFault, TooLong}
-use Rattle.script_lines.specs.ReadingLaws.{told_always, told_weaker}
-use Rattle.script_lines.specs.declared.line_reader.ReadStop.{ReadStop}
-use Rattle.script_lines.specs.declared.line_reader.ReadStop.TheVariants as read
+use Rattle.line_reader.specs.ReadingLaws.{told_always, told_weaker}
+use Rattle.line_reader.specs.declared.line_reader.ReadStop.{ReadStop}
+use Rattle.line_reader.specs.declared.line_reader.ReadStop.TheVariants as read
 
 -- ---- counts of faults
 

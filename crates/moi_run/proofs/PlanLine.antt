@@ -5,7 +5,7 @@ use Rattle.std.proofs.lemmas.List.Elements.{All-cons, All-nil}
 use Rattle.edit_engine.specs.Lines.{says_load}
 use Rattle.script_core.specs.Keyword.{keyword_of}
 use Rattle.script_core.specs.Line.{form_of, line_form, line_said, reading_of}
-use Rattle.script_words.specs.Tokens.{tokens_of}
+use Rattle.script_tokens.specs.Tokens.{tokens_of}
 
 -- it asks for no file
 pub plan_loads_nothing : says_load (codes "plan") ≡ false

@@ -21,7 +21,7 @@ use Rattle.script_core.specs.Sums.{function_of}
 use Rattle.script_core.specs.Terms.{function_terms_of, terms_of}
 use Rattle.script_core.specs.Variables.{creation_set_of, variable_form}
 use Rattle.script_core.specs.declared.reading.Reading.{Reading}
-use Rattle.script_words.specs.Tokens.{is_line_byte, tokens_of}
+use Rattle.script_tokens.specs.Tokens.{is_line_byte, tokens_of}
 use Rattle.user_model.specs.declared.edit.Edit.{Edit}
 
 -- ---- what is read asks for no file

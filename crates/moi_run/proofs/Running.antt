@@ -11,7 +11,7 @@ use Rattle.edit_engine.specs.Lines.{Answers, heard, is_load, next, none, says_lo
 use Rattle.edit_engine.specs.LinesLaws.{IsStopped, stops_by}
 use Rattle.cache_layer.specs.State.{with_table}
 use Rattle.edit_engine.specs.Script.{Machine, machine_by}
-use Rattle.file_verdict.specs.Verdict.{AsksFiles}
+use Rattle.certificate_check.specs.Verdict.{AsksFiles}
 use Rattle.generated_script.specs.Numbers.{Numbers}
 use Rattle.io_face.specs.Fault.{HasFaulted}
 use Rattle.io_face.specs.Shelf.{AsksFor}
@@ -39,7 +39,7 @@ use Rattle.moi_run.proofs.Written.{answers_nothing, begun_whole}
 use Rattle.report_core.specs.declared.answer.Answer.{Answer}
 use Rattle.report_core.specs.declared.answer.Answer.TheVariants.{ReadFault, TooLong}
 use Rattle.script_core.specs.Line.{line_said}
-use Rattle.script_lines.specs.ReadingLaws.{told_weaker}
+use Rattle.line_reader.specs.ReadingLaws.{told_weaker}
 
 -- ---- where the shelf stopped the work
 

@@ -20,10 +20,10 @@ use Rattle.moi_run.specs.Answering.{Hears, WritesAnswers}
 use Rattle.moi_run.specs.Input.{AnswersTaken, AnswersWithinLimits, Ends, PassesLimit, has_quit}
 use Rattle.moi_run.specs.Tally.{Tally}
 use Rattle.moi_run.proofs.Written.{answers_nothing, same_lines, whole_more}
-use Rattle.script_lines.specs.Limits.{line_limit, input_limit}
-use Rattle.script_lines.specs.Lines.{ended_lines, stripped_parts, is_short}
-use Rattle.script_lines.specs.LinesLaws.{lines-ended, lines-unended, ended_lines-ended, ended_lines-unended, stripped_parts-ended, stripped_parts-unended}
-use Rattle.script_lines.specs.Reading.{Held, allowance, rest_of, GivesLine, GivesLastLine, GivesNothing, LosesPart, IsTooLong, TakesAtMost}
+use Rattle.line_reader.specs.Limits.{line_limit, input_limit}
+use Rattle.line_reader.specs.Lines.{ended_lines, stripped_parts, is_short}
+use Rattle.line_reader.specs.LinesLaws.{lines-ended, lines-unended, ended_lines-ended, ended_lines-unended, stripped_parts-ended, stripped_parts-unended}
+use Rattle.line_reader.specs.Reading.{Held, allowance, rest_of, GivesLine, GivesLastLine, GivesNothing, LosesPart, IsTooLong, TakesAtMost}
 
 -- a cut behind a front that it leaves whole
 take_over : (front rest : List ℕ) (n : ℕ) → length front ≤ n

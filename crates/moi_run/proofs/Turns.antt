@@ -18,12 +18,12 @@ use Rattle.moi_run.proofs.Each.{begins_in, cut_at, each_begins, each_begins_at_s
 use Rattle.moi_run.proofs.Standing.{GivenAs, Standing, ends_at_last, ends_at_quit, given_more, told_left}
 use Rattle.moi_run.proofs.Written.{whole_more}
 use Rattle.report_core.specs.declared.answer.Answer.{Answer}
-use Rattle.script_lines.specs.LinesLaws.{lines-unended}
-use Rattle.script_lines.specs.Reading.{Held, rest_of, GivesLine, GivesLastLine}
-use Rattle.script_lines.specs.ReadingLaws.{told_weaker}
-use Rattle.script_lines.specs.declared.line_reader.Next.{Next}
-use Rattle.script_lines.specs.declared.line_reader.Next.TheVariants as came
-use Rattle.script_lines.specs.declared.line_reader.ReadStop.{ReadStop}
+use Rattle.line_reader.specs.LinesLaws.{lines-unended}
+use Rattle.line_reader.specs.Reading.{Held, rest_of, GivesLine, GivesLastLine}
+use Rattle.line_reader.specs.ReadingLaws.{told_weaker}
+use Rattle.line_reader.specs.declared.line_reader.Next.{Next}
+use Rattle.line_reader.specs.declared.line_reader.Next.TheVariants as came
+use Rattle.line_reader.specs.declared.line_reader.ReadStop.{ReadStop}
 
 -- ---- between two lines
 

@@ -14,7 +14,7 @@ use Rattle.command_words.specs.Words.{command_of}
 use Rattle.edit_engine.specs.Held.{set_up}
 use Rattle.edit_engine.specs.Lines.{heard}
 use Rattle.edit_engine.specs.Script.{Machine}
-use Rattle.file_verdict.specs.Verdict.{MakesModel}
+use Rattle.certificate_check.specs.Verdict.{MakesModel}
 use Rattle.generated_script.specs.Numbers.{Numbers}
 use Rattle.io_face.specs.Shelf.{Gives}
 use Rattle.io_face.specs.Told.{Told}

@@ -7,8 +7,8 @@ use Rattle.edit_engine.specs.Lines.{heard, says_quit}
 use Rattle.io_face.specs.Source.{Takes}
 use Rattle.moi_run.specs.Answering.{WritesAnswers}
 use Rattle.moi_run.specs.Tally.{Tally}
-use Rattle.script_lines.specs.Limits.{line_limit, input_limit}
-use Rattle.script_lines.specs.Lines.{ended_lines, is_short, stripped_parts}
+use Rattle.line_reader.specs.Limits.{line_limit, input_limit}
+use Rattle.line_reader.specs.Lines.{ended_lines, is_short, stripped_parts}
 
 -- a line that ends the work is in the text with its newline
 abbrev pub has_quit : List ℕ → Bool

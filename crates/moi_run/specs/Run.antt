@@ -5,7 +5,7 @@ use Rattle.command_words.specs.declared.words.Command.{Command}
 use Rattle.command_words.specs.declared.words.Command.TheVariants.{Check, Generate, Plan, Run, Solve}
 use Rattle.command_words.specs.declared.words.Setup.{Setup}
 use Rattle.edit_engine.specs.Lines.{heard}
-use Rattle.file_verdict.specs.Verdict.{AsksFiles, IsVerdict}
+use Rattle.certificate_check.specs.Verdict.{AsksFiles, IsVerdict}
 use Rattle.io_face.specs.Fault.{HasFaulted}
 use Rattle.io_face.specs.Shelf.{AsksFor, Gives}
 use Rattle.io_face.specs.Sink.{Adds, AddsPrefix}

@@ -6,8 +6,8 @@ use Rattle.moi_run.specs.declared.status.Status.{Status}
 use Rattle.moi_run.specs.declared.status.Status.TheVariants.{Done, SomeRefused, Usage, ReadFault, WriteFault, Memory, TooLong}
 use Rattle.moi_run.specs.declared.stop.Stop.{Stop}
 use Rattle.moi_run.specs.declared.stop.Stop.TheVariants as stop
-use Rattle.script_lines.specs.declared.line_reader.ReadStop.{ReadStop}
-use Rattle.script_lines.specs.declared.line_reader.ReadStop.TheVariants as read
+use Rattle.line_reader.specs.declared.line_reader.ReadStop.{ReadStop}
+use Rattle.line_reader.specs.declared.line_reader.ReadStop.TheVariants as read
 
 -- the exit status of the program
 abbrev pub exit_number : Status → ℕ

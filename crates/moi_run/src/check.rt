@@ -1,6 +1,6 @@
 //! The certificate of a file, held against the model of a file.
 ghost use Rattle.std.specs.Prelude.{◌≡◌, ◌≢◌};
-ghost use Rattle.file_verdict.specs.Verdict.{AsksFiles};
+ghost use Rattle.certificate_check.specs.Verdict.{AsksFiles};
 ghost use Rattle.io_face.specs.Fault.{HasFaulted};
 ghost use Rattle.io_face.specs.Shelf.{AsksFor};
 ghost use Rattle.io_face.specs.Told.{told_by};
@@ -9,7 +9,7 @@ ghost use Rattle.moi_run.specs.Status.{IsEnded};
 
 use crate::reply::write_answer;
 use crate::status::Status;
-use file_verdict::verdict;
+use certificate_check::verdict;
 use io_face::{Shelf, Sink};
 use name_index::Name;
 use std::alloc::Global;

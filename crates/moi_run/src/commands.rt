@@ -2,7 +2,7 @@
 ghost use Rattle.std.specs.Prelude.{◌≡◌, ◌≢◌, ℕ, Bool, ◌+◌, ◌↔◌, ◌⊎◌, [], None, Some, false, IfSome, IsTrue};
 ghost use Rattle.cache_layer.specs.Cached.{Stands, model_in};
 ghost use Rattle.edit_engine.specs.Held.{machine_of, state_of};
-ghost use Rattle.file_verdict.specs.Verdict.{AsksFiles};
+ghost use Rattle.certificate_check.specs.Verdict.{AsksFiles};
 ghost use Rattle.io_face.specs.Fault.{HasFaulted};
 ghost use Rattle.io_face.specs.Shelf.{AsksFor};
 ghost use Rattle.io_face.specs.Sink.{Adds, AddsPrefix};
@@ -14,8 +14,8 @@ ghost use Rattle.moi_run.specs.Input.{IsReadToEnd, IsWithinLimits};
 ghost use Rattle.moi_run.specs.Run.{AtLimit, AtReadFault, AtWriteFault, HasTooLong, Runs, WritesVerdict};
 ghost use Rattle.moi_run.specs.Status.{IsEnded, has_refused};
 ghost use Rattle.moi_run.specs.Tally.{tally_of};
-ghost use Rattle.script_lines.specs.Limits.{input_limit};
-ghost use Rattle.script_lines.specs.Reading.{TakesAtMost};
+ghost use Rattle.line_reader.specs.Limits.{input_limit};
+ghost use Rattle.line_reader.specs.Reading.{TakesAtMost};
 
 use crate::answers::answer_with;
 use crate::check::answer_check;

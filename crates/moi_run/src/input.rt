@@ -11,8 +11,8 @@ ghost use Rattle.moi_run.specs.Answering.{BeginsAnswers};
 ghost use Rattle.moi_run.specs.Run.{FetchFails, HasCause, Outcome, Runs};
 ghost use Rattle.moi_run.specs.Tally.{tally_of};
 ghost use Rattle.moi_run.specs.Status.{IsEnded};
-ghost use Rattle.script_lines.specs.Limits.{input_limit};
-ghost use Rattle.script_lines.specs.Reading.{TakesAtMost};
+ghost use Rattle.line_reader.specs.Limits.{input_limit};
+ghost use Rattle.line_reader.specs.Reading.{TakesAtMost};
 
 use crate::answers::answer_line;
 use crate::reply::Reply;
@@ -22,7 +22,7 @@ use bridge_face::Bridge;
 use command_words::Setup;
 use edit_engine::SessionOver;
 use io_face::{Shelf, Sink, Source};
-use script_lines::{LineReader, Next};
+use line_reader::{LineReader, Next};
 use std::alloc::Global;
 
 /// Tells the session the options, and then answers the lines of the input.

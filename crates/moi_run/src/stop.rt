@@ -3,7 +3,7 @@ ghost use Rattle.std.specs.Prelude.{◌≡◌};
 ghost use Rattle.moi_run.specs.Status.{stop_of_read, stop_of_sink};
 
 use io_face::SinkFault;
-use script_lines::ReadStop;
+use line_reader::ReadStop;
 
 /// Why the work stops before its end.
 #[derive(Clone, Copy, Debug, PartialEq, Eq)]

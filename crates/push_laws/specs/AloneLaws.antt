@@ -33,8 +33,8 @@ use Rattle.local_laws.specs.StaysLaws.{found_is, groups_are, others_are}
 use Rattle.local_laws.specs.SupportedLaws.{GroupStays, OtherStays}
 use Rattle.map_laws.specs.EachLaws.{all_both}
 use Rattle.map_laws.specs.PairLaws.{AllPairs-nil}
-use Rattle.numbered.specs.Laws.{Rise-head, Rise-tail}
-use Rattle.numbered.specs.Numbered.{Rise}
+use Rattle.numbered_list.specs.Laws.{Rise-head, Rise-tail}
+use Rattle.numbered_list.specs.Numbered.{Rise}
 use Rattle.user_model.specs.Edited.{group_number, row_number}
 use Rattle.user_model.specs.Model.{ModelValue, group_of, is_variable}
 use Rattle.user_model.specs.Sets.{sets_lower, sets_upper}

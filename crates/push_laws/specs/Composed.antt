@@ -7,11 +7,11 @@ use Rattle.std.proofs.lemmas.List.Elements.{All-cons, All-nil}
 use Rattle.aff_core.specs.Address.{Address}
 use Rattle.address_map.specs.AddressMap.{AddressMap}
 use Rattle.box_laws.specs.BoxesLaws.{boxes_changed, few_turns}
-use Rattle.boxes.specs.Adding.{AreFree, with_each}
-use Rattle.boxes.specs.Boxed.{AreKeepable, families_of, kept_by}
-use Rattle.boxes.specs.Letting.{without_each}
-use Rattle.boxes.specs.Nodes.{HoldNodes, nodes_by}
-use Rattle.boxes.specs.Walk.{nodes_below}
+use Rattle.bridge_set.specs.Adding.{AreFree, with_each}
+use Rattle.bridge_set.specs.Boxed.{AreKeepable, families_of, kept_by}
+use Rattle.bridge_set.specs.Letting.{without_each}
+use Rattle.bridge_set.specs.Nodes.{HoldNodes, nodes_by}
+use Rattle.bridge_set.specs.Walk.{nodes_below}
 use Rattle.bridge_face.specs.State.{Kept, State}
 use Rattle.bridge_plan.specs.Adds.{kept_of}
 use Rattle.bridge_plan.specs.Worked.{IsWithin}
@@ -22,10 +22,10 @@ use Rattle.fresh_bridging.specs.FreshBridging.{FreshBridging, is_made, leaves_of
 use Rattle.fresh_bridging.specs.TheRules.{Setting}
 use Rattle.fresh_bridging.specs.Touched.{IsInner, IsTouched}
 use Rattle.item_core.specs.declared.family.Family.{Family}
-use Rattle.leaf_change.specs.Leaves.{AreLeaves}
-use Rattle.leaf_change.specs.Named.{NamesEach}
-use Rattle.leaf_change.specs.Others.{others_among}
-use Rattle.leaf_change.specs.Splice.{Gone, IsSplice, spliced_model}
+use Rattle.leaf_update.specs.Leaves.{AreLeaves}
+use Rattle.leaf_update.specs.Named.{NamesEach}
+use Rattle.leaf_update.specs.Others.{others_among}
+use Rattle.leaf_update.specs.Splice.{Gone, IsSplice, spliced_model}
 use Rattle.leaf_model.specs.LeafModel.{IsCountOf}
 use Rattle.leaf_model.specs.ReadThrough.{read_through}
 use Rattle.local_laws.specs.Held.{held_by}

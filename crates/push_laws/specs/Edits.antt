@@ -13,8 +13,8 @@ use Rattle.std.specs.Option.{option_copied, option_map_or}
 use Rattle.address_map.specs.AddressMap.{AddressMap}
 use Rattle.address_map.specs.Noted.{noted_in, noted_items}
 use Rattle.aff_core.specs.Address.{Address, address_eq}
-use Rattle.boxes.specs.Boxed.{Boxed, families_of, means_of, occur_once, setting_of}
-use Rattle.boxes.specs.Nodes.{HoldNodes}
+use Rattle.bridge_set.specs.Boxed.{Boxed, families_of, means_of, occur_once, setting_of}
+use Rattle.bridge_set.specs.Nodes.{HoldNodes}
 use Rattle.bridge_face.specs.State.{State}
 use Rattle.bridge_face.specs.declared.kept_item.KeptItem.{KeptItem}
 use Rattle.bridge_graph.specs.declared.Choice.{Choice}
@@ -29,8 +29,8 @@ use Rattle.fresh_bridging.specs.ModelImage.{group_item}
 use Rattle.fresh_bridging.specs.TheRules.{Setting}
 use Rattle.item_core.specs.declared.item.Item.{Item}
 use Rattle.item_core.specs.declared.kind.Kind.{Kind}
-use Rattle.leaf_change.specs.Named.{NamesEach}
-use Rattle.leaf_change.specs.Others.{among}
+use Rattle.leaf_update.specs.Named.{NamesEach}
+use Rattle.leaf_update.specs.Others.{among}
 use Rattle.leaf_model.specs.ReadThrough.{read_through}
 use Rattle.local_laws.specs.Sound.{IsValidUnder}
 use Rattle.model_bridging.specs.Expressions.{expressions_by}

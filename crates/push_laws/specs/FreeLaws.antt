@@ -9,10 +9,10 @@ use Rattle.std.proofs.lemmas.List.Elements.{All-cons, All-contains_itself, All-h
 use Rattle.address_laws.specs.Apart.{Distinct, is_distinct}
 use Rattle.aff_core.specs.Address.{Address, address_eq, address_total}
 use Rattle.box_laws.specs.FamilyLaws.{family_kept, family_part, held_listed}
-use Rattle.boxes.specs.Adding.{AreFree}
-use Rattle.boxes.specs.Boxed.{AreKeepable, kept_by}
-use Rattle.boxes.specs.Letting.{without_each, without_list}
-use Rattle.boxes.specs.Nodes.{HoldNodes, nodes_by}
+use Rattle.bridge_set.specs.Adding.{AreFree}
+use Rattle.bridge_set.specs.Boxed.{AreKeepable, kept_by}
+use Rattle.bridge_set.specs.Letting.{without_each, without_list}
+use Rattle.bridge_set.specs.Nodes.{HoldNodes, nodes_by}
 use Rattle.bridge_face.specs.Law.{IsItemFor}
 use Rattle.bridge_face.specs.State.{Kept, State}
 use Rattle.bridge_face.specs.declared.kept_item.KeptItem.{KeptItem}
@@ -23,8 +23,8 @@ use Rattle.fresh_bridging.specs.TheRules.{Setting}
 use Rattle.item_core.specs.Edge.{family_eq, family_of}
 use Rattle.item_core.specs.declared.family.Family.{Family}
 use Rattle.item_core.specs.declared.item.Item.{Item}
-use Rattle.leaf_change.specs.Splice.{without_all}
-use Rattle.leaf_change.specs.SplicedLaws.{get_left, get_without}
+use Rattle.leaf_update.specs.Splice.{without_all}
+use Rattle.leaf_update.specs.SplicedLaws.{get_left, get_without}
 use Rattle.local_laws.specs.ChangedLaws.{is_now, planned, was}
 use Rattle.local_laws.specs.GoneLaws.{keys_had, now_elsewhere}
 use Rattle.local_laws.specs.Held.{held_by}

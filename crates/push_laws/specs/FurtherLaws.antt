@@ -14,7 +14,7 @@ use Rattle.fresh_bridging.specs.ModelLaws.{objective_omits, row_omits}
 use Rattle.item_core.specs.Item.{functions_of, is_group, variables_of}
 use Rattle.item_core.specs.declared.image.Expression.TheVariants.{Kept}
 use Rattle.item_core.specs.declared.item.Item.{Item}
-use Rattle.leaf_change.specs.LeavesLaws.{among_contained}
+use Rattle.leaf_update.specs.LeavesLaws.{among_contained}
 use Rattle.local_laws.specs.ExpressedLaws.{expression_held}
 use Rattle.local_laws.specs.FoundLaws.{in_groups, item_of_group}
 use Rattle.local_laws.specs.Held.{expressed_at, is_there}

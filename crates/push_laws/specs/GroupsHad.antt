@@ -8,7 +8,7 @@ use Rattle.address_laws.specs.Apart.{Avoids, Distinct, distinct-across, distinct
 use Rattle.address_map.specs.Noted.{noted_items}
 use Rattle.aff_core.specs.Address.{Address, address_eq-Decides, root_address}
 use Rattle.aff_core.specs.declared.root.Root.TheVariants as root
-use Rattle.boxes.specs.Walk.{IsRoot}
+use Rattle.bridge_set.specs.Walk.{IsRoot}
 use Rattle.bridge_face.specs.Law.{inner_of}
 use Rattle.found_plan.specs.Stood.{old_leaves}
 use Rattle.fresh_bridging.specs.FreshBridging.{FreshBridging}
@@ -16,7 +16,7 @@ use Rattle.fresh_bridging.specs.ModelImage.{group_item, items_of, model_image, o
 use Rattle.fresh_bridging.specs.Touched.{item_at}
 use Rattle.item_core.specs.Item.{variables_of}
 use Rattle.item_core.specs.declared.item.Item.{Item}
-use Rattle.leaf_change.specs.LeavesLaws.{among_contained}
+use Rattle.leaf_update.specs.LeavesLaws.{among_contained}
 use Rattle.local_laws.specs.FoundLaws.{in_groups}
 use Rattle.local_laws.specs.Held.{is_there}
 use Rattle.local_laws.specs.LookedLaws.{found_passes}

@@ -21,10 +21,10 @@ use Rattle.fresh_bridging.specs.Touched.{item_at}
 use Rattle.item_core.specs.Item.{is_group, variables_of}
 use Rattle.item_core.specs.declared.item.Item.{Item}
 use Rattle.item_leaves.specs.ItemLeaves.{is_of, item_of, those_of}
-use Rattle.leaf_change.specs.CoverLaws.{indices_among, objective_covers, rows_cover, variables_cover}
-use Rattle.leaf_change.specs.LeavesLaws.{among_contained, contains_among}
-use Rattle.leaf_change.specs.Named.{NamesEach}
-use Rattle.leaf_change.specs.Others.{among, objective_addresses}
+use Rattle.leaf_update.specs.CoverLaws.{indices_among, objective_covers, rows_cover, variables_cover}
+use Rattle.leaf_update.specs.LeavesLaws.{among_contained, contains_among}
+use Rattle.leaf_update.specs.Named.{NamesEach}
+use Rattle.leaf_update.specs.Others.{among, objective_addresses}
 use Rattle.leaf_model.specs.LeafModel.{LeafModel}
 use Rattle.leaf_model.specs.ReadThrough.{read_through}
 use Rattle.local_laws.specs.ChangedLaws.{was}

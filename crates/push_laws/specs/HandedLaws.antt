@@ -17,13 +17,13 @@ use Rattle.fresh_bridging.specs.ModelImage.{group_item, model_image, objective_i
 use Rattle.fresh_bridging.specs.Touched.{item_at}
 use Rattle.item_core.specs.Item.{is_group}
 use Rattle.item_core.specs.declared.item.Item.{Item}
-use Rattle.leaf_change.specs.LeavesLaws.{among_contained, contains_among}
-use Rattle.leaf_change.specs.Others.{among}
+use Rattle.leaf_update.specs.LeavesLaws.{among_contained, contains_among}
+use Rattle.leaf_update.specs.Others.{among}
 use Rattle.local_laws.specs.MentionLaws.{IsIndexOf}
 use Rattle.map_laws.specs.TestLaws.{less_than}
 use Rattle.model_bridging.specs.Found.{found_others}
-use Rattle.numbered.specs.Laws.{Contains-found, Rise-cons, Rise-filter, Rise-nil, find-filter_map, find-first, find-rest, number_of_found, same_lists}
-use Rattle.numbered.specs.Numbered.{IsAt, Rise, find}
+use Rattle.numbered_list.specs.Laws.{Contains-found, Rise-cons, Rise-filter, Rise-nil, find-filter_map, find-first, find-rest, number_of_found, same_lists}
+use Rattle.numbered_list.specs.Numbered.{IsAt, Rise, find}
 use Rattle.push_laws.specs.AgreeLaws.{contains_one_of, is_one_of, one_of_contained}
 use Rattle.touched_items.specs.DifferenceLaws.{HasDifferences, all_differ, group_there, objective_address}
 use Rattle.touched_items.specs.Differences.{addresses_in, differing_addresses, groups_in}

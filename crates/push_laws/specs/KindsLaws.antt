@@ -28,7 +28,7 @@ use Rattle.item_core.specs.Item.{variables_of}
 use Rattle.item_core.specs.KindOf.{kind_of_body}
 use Rattle.item_core.specs.declared.item.Item.{Item}
 use Rattle.item_core.specs.declared.kind.Kind.{Kind}
-use Rattle.leaf_change.specs.LeavesLaws.{among_contained}
+use Rattle.leaf_update.specs.LeavesLaws.{among_contained}
 use Rattle.local_laws.specs.ExpressedLaws.{expression_held}
 use Rattle.local_laws.specs.FoundLaws.{group_has_tree}
 use Rattle.local_laws.specs.Held.{expressed_at, held_at_in, is_there}

@@ -14,8 +14,8 @@ use Rattle.fresh_bridging.specs.FreshBridging.{FreshBridging, expression_of}
 use Rattle.fresh_bridging.specs.ModelImage.{group_item, model_image}
 use Rattle.item_core.specs.Item.{is_group, variables_of}
 use Rattle.item_core.specs.declared.item.Item.{Item}
-use Rattle.leaf_change.specs.LeavesLaws.{among_contained, contains_among}
-use Rattle.leaf_change.specs.Others.{among}
+use Rattle.leaf_update.specs.LeavesLaws.{among_contained, contains_among}
+use Rattle.leaf_update.specs.Others.{among}
 use Rattle.local_laws.specs.FoundLaws.{in_groups, item_of_group}
 use Rattle.local_laws.specs.GoneLaws.{all_kept}
 use Rattle.local_laws.specs.Held.{is_there}

@@ -14,8 +14,8 @@ use Rattle.fresh_bridging.specs.ModelImage.{objective_items, row_item}
 use Rattle.item_core.specs.declared.item.Body.{Body}
 use Rattle.item_core.specs.declared.item.Body.TheVariants.{Plain, Affine, PlainVec, AffineVec, PlainObj, AffineObj}
 use Rattle.item_core.specs.declared.item.Item.{Item}
-use Rattle.numbered.specs.Laws.{Rise-head, Rise-tail, find-none_above}
-use Rattle.numbered.specs.Numbered.{Rise, find}
+use Rattle.numbered_list.specs.Laws.{Rise-head, Rise-tail, find-none_above}
+use Rattle.numbered_list.specs.Numbered.{Rise, find}
 use Rattle.push_laws.specs.Edits.{Edit, IsMappedAnew, contents_name}
 use Rattle.std.proofs.lemmas.Bool.Decides.{Decides-eqb, same_from_decides}
 use Rattle.touched_items.specs.DifferenceLaws.{HasDifferences, objective_address}

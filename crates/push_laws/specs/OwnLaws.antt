@@ -26,7 +26,7 @@ use Rattle.local_laws.specs.Owner.{IsOwner}
 use Rattle.local_laws.specs.Sound.{IsValidUnder}
 use Rattle.local_laws.specs.StaysLaws.{groups_are}
 use Rattle.map_laws.specs.EachLaws.{all_both}
-use Rattle.numbered.specs.Numbered.{find}
+use Rattle.numbered_list.specs.Numbered.{find}
 use Rattle.push_laws.specs.AloneLaws.{alone_by, groups_found, only_groups, only_groups_valid}
 use Rattle.push_laws.specs.StandingLaws.{standing_is}
 use Rattle.touched_items.specs.DifferenceLaws.{HasDifferences, group_there, objective_address, others_stay}

@@ -24,7 +24,7 @@ use Rattle.fresh_bridging.specs.ModelImage.{items_of, model_image}
 use Rattle.fresh_bridging.specs.TheRules.{graph_of}
 use Rattle.fresh_bridging.specs.Touched.{IsTouched, item_at}
 use Rattle.item_core.specs.declared.item.Item.{Item}
-use Rattle.leaf_change.specs.LeavesLaws.{among_contained}
+use Rattle.leaf_update.specs.LeavesLaws.{among_contained}
 use Rattle.leaf_model.specs.LeafModel.{IsCountOf}
 use Rattle.local_laws.specs.AgreeingLaws.{put_in_agreeing}
 use Rattle.local_laws.specs.Held.{held_of, is_there}

@@ -17,8 +17,8 @@ use Rattle.fresh_bridging.specs.ModelImage.{group_item}
 use Rattle.fresh_bridging.specs.TheRules.{Setting}
 use Rattle.item_core.specs.declared.image.Expression.{Expression}
 use Rattle.item_core.specs.declared.image.Expression.TheVariants.{Bridged, Kept}
-use Rattle.leaf_change.specs.LeavesLaws.{among_contained, contains_among}
-use Rattle.leaf_change.specs.Others.{among}
+use Rattle.leaf_update.specs.LeavesLaws.{among_contained, contains_among}
+use Rattle.leaf_update.specs.Others.{among}
 use Rattle.local_laws.specs.ExpressedLaws.{nobody_expresses}
 use Rattle.local_laws.specs.Held.{HasOwn}
 use Rattle.local_laws.specs.Sound.{IsValidUnder}

@@ -17,8 +17,8 @@ use Rattle.fresh_bridging.specs.ModelImage.{model_image}
 use Rattle.fresh_bridging.specs.TheRules.{graph_of}
 use Rattle.item_core.specs.declared.item.Item.{Item}
 use Rattle.item_core.specs.declared.kind.Kind.{Kind}
-use Rattle.leaf_change.specs.LeavesLaws.{among_contained, contains_among, looked_among}
-use Rattle.leaf_change.specs.Others.{among}
+use Rattle.leaf_update.specs.LeavesLaws.{among_contained, contains_among, looked_among}
+use Rattle.leaf_update.specs.Others.{among}
 use Rattle.local_laws.specs.FittingLaws.{first_of_kept}
 use Rattle.local_laws.specs.GoneLaws.{all_kept, kept_in}
 use Rattle.local_laws.specs.Held.{fits_at, is_there}

@@ -10,8 +10,8 @@ use Rattle.std.proofs.lemmas.List.Elements.{All-append, All-contains, All-nil, A
 use Rattle.std.proofs.lemmas.List.Kept.{AllPairs-filter}
 use Rattle.aff_core.specs.Address.{Address, address_cmp, address_eq, address_eq-Decides, address_total}
 use Rattle.item_leaves.specs.ItemLeaves.{is_of, item_of, those_of}
-use Rattle.leaf_change.specs.LeavesLaws.{contains_among}
-use Rattle.leaf_change.specs.Others.{among}
+use Rattle.leaf_update.specs.LeavesLaws.{contains_among}
+use Rattle.leaf_update.specs.Others.{among}
 use Rattle.local_laws.specs.GoneLaws.{all_kept}
 use Rattle.map_laws.specs.EachLaws.{contains_here, contains_later}
 use Rattle.map_laws.specs.EntryLaws.{key_less}

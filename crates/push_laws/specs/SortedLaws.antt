@@ -15,16 +15,16 @@ use Rattle.aff_core.specs.declared.root.Root.TheVariants as root
 use Rattle.fresh_bridging.specs.ModelImage.{group_item, items_of, model_image, objective_items, row_item}
 use Rattle.fresh_bridging.specs.Touched.{item_at}
 use Rattle.item_core.specs.declared.item.Item.{Item}
-use Rattle.leaf_change.specs.LeavesLaws.{among_contained, contains_among}
-use Rattle.leaf_change.specs.Others.{among}
+use Rattle.leaf_update.specs.LeavesLaws.{among_contained, contains_among}
+use Rattle.leaf_update.specs.Others.{among}
 use Rattle.local_laws.specs.GoneLaws.{all_kept, kept_in}
 use Rattle.local_laws.specs.Held.{is_there}
 use Rattle.local_laws.specs.LookedLaws.{found_passes}
 use Rattle.local_laws.specs.MentionLaws.{contains_mapped, mapped_contains}
 use Rattle.map_laws.specs.EachLaws.{contains_here, contains_later}
 use Rattle.map_laws.specs.TestLaws.{less_number}
-use Rattle.numbered.specs.Laws.{Rise-head, Rise-tail}
-use Rattle.numbered.specs.Numbered.{Rise}
+use Rattle.numbered_list.specs.Laws.{Rise-head, Rise-tail}
+use Rattle.numbered_list.specs.Numbered.{Rise}
 use Rattle.push_laws.specs.HandedLaws.{is_found}
 use Rattle.push_laws.specs.ListLaws.{filter_mapped}
 use Rattle.push_laws.specs.OrderLaws.{same_sorted, sorted_append}

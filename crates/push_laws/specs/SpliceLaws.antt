@@ -13,11 +13,11 @@ use Rattle.fresh_bridging.specs.Leaves.{leaf_objectives, leaf_rows, leaf_variabl
 use Rattle.fresh_bridging.specs.TheRules.{Setting}
 use Rattle.item_core.specs.declared.item.Body.{Body}
 use Rattle.item_core.specs.declared.item.Item.{Item}
-use Rattle.leaf_change.specs.Leaves.{AreLeaves, HasNativeForm, NamesLeaves}
-use Rattle.leaf_change.specs.LeavesLaws.{has_one, names_own}
-use Rattle.leaf_change.specs.Objective.{HasOne}
-use Rattle.leaf_change.specs.Others.{others, others_among}
-use Rattle.leaf_change.specs.Splice.{AreApart, AreBeside, Gone, IsSplice, NamesOwn, spliced, spliced_model}
+use Rattle.leaf_update.specs.Leaves.{AreLeaves, HasNativeForm, NamesLeaves}
+use Rattle.leaf_update.specs.LeavesLaws.{has_one, names_own}
+use Rattle.leaf_update.specs.Objective.{HasOne}
+use Rattle.leaf_update.specs.Others.{others, others_among}
+use Rattle.leaf_update.specs.Splice.{AreApart, AreBeside, Gone, IsSplice, NamesOwn, spliced, spliced_model}
 use Rattle.leaf_model.specs.LeafModel.{LeafModel}
 use Rattle.local_laws.specs.Held.{held_by}
 use Rattle.local_laws.specs.OnceLaws.{keys_once}

@@ -12,9 +12,9 @@ use Rattle.aff_core.specs.Address.{Address, address_cmp, address_total}
 use Rattle.expansion.specs.Read.{model_leaves, model_nodes}
 use Rattle.fresh_bridging.specs.FreshBridging.{FreshBridging}
 use Rattle.fresh_bridging.specs.TheRules.{Setting}
-use Rattle.leaf_change.specs.LeavesLaws.{looked_among}
-use Rattle.leaf_change.specs.Others.{others}
-use Rattle.leaf_change.specs.Splice.{AreApart, AreBeside}
+use Rattle.leaf_update.specs.LeavesLaws.{looked_among}
+use Rattle.leaf_update.specs.Others.{others}
+use Rattle.leaf_update.specs.Splice.{AreApart, AreBeside}
 use Rattle.local_laws.specs.ChangedLaws.{IsGone, is_now, planned, was}
 use Rattle.local_laws.specs.GoneLaws.{AreHad, all_kept, gone_is, gone_of, now_elsewhere, now_planned}
 use Rattle.local_laws.specs.Held.{held_by}

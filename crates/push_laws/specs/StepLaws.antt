@@ -24,7 +24,7 @@ use Rattle.fresh_bridging.specs.Touched.{item_at}
 use Rattle.item_core.specs.Item.{functions_of, is_group}
 use Rattle.item_core.specs.declared.item.Item.{Item}
 use Rattle.item_core.specs.declared.kind.Kind.{Kind}
-use Rattle.leaf_change.specs.LeavesLaws.{among_contained}
+use Rattle.leaf_update.specs.LeavesLaws.{among_contained}
 use Rattle.local_laws.specs.FoundLaws.{chooses_alike, item_of_group, unfound_group_stays}
 use Rattle.local_laws.specs.Held.{is_there}
 use Rattle.local_laws.specs.MentionLaws.{IsBesideGroups, IsIndexOf}

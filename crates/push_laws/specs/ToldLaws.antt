@@ -15,8 +15,8 @@ use Rattle.item_core.specs.declared.item.Item.{Item}
 use Rattle.map_laws.specs.EachLaws.{all_first, all_second}
 use Rattle.model_bridging.specs.Found.{kept_over}
 use Rattle.model_bridging.specs.Kinds.{is_kept_by}
-use Rattle.numbered.specs.Laws.{Rise-head, Rise-tail}
-use Rattle.numbered.specs.Numbered.{Rise}
+use Rattle.numbered_list.specs.Laws.{Rise-head, Rise-tail}
+use Rattle.numbered_list.specs.Numbered.{Rise}
 use Rattle.push_laws.specs.AgreeLaws.{contains_one_of, is_one_of, one_of_contained}
 use Rattle.tree_laws.specs.UserLaws.{inner_is}
 use Rattle.user_model.specs.Consistent.{variable_number}

@@ -12,7 +12,7 @@ use Rattle.fresh_bridging.specs.Entries.{Entry}
 use Rattle.fresh_bridging.specs.FreshBridging.{FreshBridging, is_made, unfit_at}
 use Rattle.fresh_bridging.specs.ModelImage.{items_of}
 use Rattle.item_core.specs.declared.item.Item.{Item}
-use Rattle.leaf_change.specs.LeavesLaws.{among_contained}
+use Rattle.leaf_update.specs.LeavesLaws.{among_contained}
 use Rattle.local_laws.specs.FittingLaws.{first_of_kept, made_is, unfit_is}
 use Rattle.local_laws.specs.Held.{fits_at}
 use Rattle.local_laws.specs.Stays.{StaysAt}

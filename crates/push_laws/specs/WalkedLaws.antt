@@ -12,10 +12,10 @@ use Rattle.box_laws.specs.BoxWalkLaws.{same_places}
 use Rattle.box_laws.specs.ItemWalkLaws.{item_walked}
 use Rattle.box_laws.specs.NarrowLaws.{all_narrow}
 use Rattle.box_laws.specs.WalkLaws.{node_places}
-use Rattle.boxes.specs.Boxed.{families_of, kept_by, occur_once}
-use Rattle.boxes.specs.Letting.{IsAlone}
-use Rattle.boxes.specs.Nodes.{HoldNodes, nodes_by}
-use Rattle.boxes.specs.Walk.{IsNarrow, IsRoot, box_places, from_places, here_and, nodes_below, walk}
+use Rattle.bridge_set.specs.Boxed.{families_of, kept_by, occur_once}
+use Rattle.bridge_set.specs.Letting.{IsAlone}
+use Rattle.bridge_set.specs.Nodes.{HoldNodes, nodes_by}
+use Rattle.bridge_set.specs.Walk.{IsNarrow, IsRoot, box_places, from_places, here_and, nodes_below, walk}
 use Rattle.bridge_face.specs.State.{Kept, State}
 use Rattle.expansion.specs.Grown.{Held}
 use Rattle.expansion.specs.Read.{model_nodes}

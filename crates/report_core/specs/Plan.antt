@@ -10,7 +10,7 @@ use Rattle.item_core.specs.declared.kind.Kind.{Kind}
 use Rattle.item_core.specs.declared.kind.TheConstants.{KINDS}
 use Rattle.item_core.specs.Kind.{name_of}
 use Rattle.report_core.specs.Words.{newline}
-use Rattle.script_words.specs.Family.{family_text}
+use Rattle.script_tokens.specs.Family.{family_text}
 
 -- the family of the edge at a place
 abbrev pub family_at : List EdgeEntry → ℕ → List ℕ

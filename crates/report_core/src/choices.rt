@@ -9,7 +9,7 @@ use bridge_graph::Choice;
 use item_core::{EDGES, EdgeEntry, KIND_COUNT, KINDS, Kind};
 use name_index::Text;
 use ratio_core::Memory;
-use script_words::family_text;
+use script_tokens::family_text;
 use std::alloc::Global;
 
 /// A line for each kind, with its choice and what that costs. Edges are counted from 0, and

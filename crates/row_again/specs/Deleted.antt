@@ -7,9 +7,9 @@ use Rattle.std.proofs.lemmas.Slice.Eq.{bytes_eq-Decides}
 use Rattle.model_laws.specs.Changed.{delete_row-found}
 use Rattle.model_laws.specs.Passed.{IsPassed}
 use Rattle.mof_round_trip.specs.Accepted.{accepted}
-use Rattle.numbered.specs.Laws.{Rise-head}
-use Rattle.numbered.specs.Numbered.{Rise, above, set_at, without}
-use Rattle.numbered.specs.SetLaws.{above-all, below-none}
+use Rattle.numbered_list.specs.Laws.{Rise-head}
+use Rattle.numbered_list.specs.Numbered.{Rise, above, set_at, without}
+use Rattle.numbered_list.specs.SetLaws.{above-all, below-none}
 use Rattle.user_model.specs.Edited.{edited, row_number}
 use Rattle.user_model.specs.Model.{ModelValue, row_named}
 use Rattle.user_model.specs.Refusals.{first_refusal}

@@ -5,7 +5,7 @@ ghost use Rattle.std.specs.List.{list_all};
 ghost use Rattle.std.specs.Str.Parse.{digits_value};
 ghost use Rattle.run_summary.specs.Calls.{calls_in, count_in, first_line, in_64_bits, is_count};
 
-use script_words::{is, parted_at};
+use script_tokens::{is, parted_at};
 use std::str;
 
 // The first line of a text, without its newline.

@@ -5,7 +5,7 @@ use edit_engine::{Answer, SessionOver};
 use io_face::Shelf;
 use std::alloc::Global;
 use std::str;
-use stop::Stop;
+use test_support::Stop;
 
 // The leaves with the indices that they have in the solver's model.
 #[derive(Drop)]

@@ -1,7 +1,7 @@
 // A line of the cases.
 use crate::case::{Call, Case, Part};
 use crate::running::run_case;
-use stop::Stop;
+use test_support::Stop;
 
 /// Does what a line says.
 pub fn step(rt: &HostRuntime, case: &mut Case, line: &str) -> Result<(), Stop> {

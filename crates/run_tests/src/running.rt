@@ -1,7 +1,7 @@
 // A case that is run.
 ghost use Rattle.std.specs.Prelude.{◌≡◌, ◌≤◌, All, IsTrue, false, map};
 ghost use Rattle.std.specs.FinMap as finite;
-ghost use Rattle.boxes.specs.Boxed.{families_of, occur_once};
+ghost use Rattle.bridge_set.specs.Boxed.{families_of, occur_once};
 ghost use Rattle.edit_engine.specs.Held.{state_of};
 
 use crate::case::{Call, Case};
@@ -13,11 +13,11 @@ use edit_engine::SessionOver;
 use io_face::{Calls, MemShelf, MemSink, MemSource, NamedFile, NamedFiles, Shelf, SureShelf};
 use lazy_bridge::add_bridge;
 use lists::Memory;
-use loaded_again::written_line;
+use loaded_again_laws::written_line;
 use moi_run::run;
 use std::alloc::Global;
 use std::str;
-use stop::Stop;
+use test_support::Stop;
 
 /// Runs a case, and prints how it ends and what it writes.
 pub fn run_case(rt: &HostRuntime, case: &Case) -> Result<(), Stop> {

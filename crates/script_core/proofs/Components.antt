@@ -5,7 +5,7 @@ use Rattle.std.specs.Option.{option_and_then}
 use Rattle.std.proofs.lemmas.List.{append-nil}
 use Rattle.script_core.specs.declared.terms.Term.{Term}
 use Rattle.script_core.specs.Reading.{Tokens, is}
-use Rattle.script_words.specs.Each.{each}
+use Rattle.script_tokens.specs.Each.{each}
 use Rattle.script_core.specs.Terms.{term_of, terms_of, components_of}
 
 abbrev Components : Type 0

@@ -7,8 +7,8 @@ use Rattle.script_core.specs.declared.reading.Reading.{Reading}
 use Rattle.script_core.specs.Names.{last_name_of, last_named_number_of, last_two_names_of}
 use Rattle.script_core.specs.Reading.{Tokens, makes}
 use Rattle.script_core.specs.Sets.{last_named_relation_of}
-use Rattle.script_words.specs.Each.{◌>>=◌}
-use Rattle.script_words.specs.Number.{number_of}
+use Rattle.script_tokens.specs.Each.{◌>>=◌}
+use Rattle.script_tokens.specs.Number.{number_of}
 
 -- coef R X Q
 unfoldable pub coefficient_form : Tokens → Option Reading

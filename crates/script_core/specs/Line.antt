@@ -18,8 +18,8 @@ use Rattle.script_core.specs.Rows.{bound_form, row_form, vector_bound_form, vect
 use Rattle.script_core.specs.Solver.{optimize_form, load_form}
 use Rattle.script_core.specs.Tables.{target_form, support_form, cost_form, switch_form}
 use Rattle.script_core.specs.Variables.{variable_form, group_form}
-use Rattle.script_words.specs.Each.{◌>>=◌}
-use Rattle.script_words.specs.Tokens.{is_line_byte, tokens_of}
+use Rattle.script_tokens.specs.Each.{◌>>=◌}
+use Rattle.script_tokens.specs.Tokens.{is_line_byte, tokens_of}
 
 -- a word alone
 abbrev pub word_alone : Command → Tokens → Option Reading

@@ -4,7 +4,7 @@ use Rattle.name_index.specs.Name.{name_of_token}
 use Rattle.ratio_core.specs.Rational.{Rational}
 use Rattle.ratio_core.specs.Text.{rational_of}
 use Rattle.script_core.specs.Reading.{Tokens}
-use Rattle.script_words.specs.Each.{◌>>=◌, each}
+use Rattle.script_tokens.specs.Each.{◌>>=◌, each}
 
 abbrev pub names_of : Tokens → Option (List (List ℕ))
 names_of tokens = each name_of_token tokens

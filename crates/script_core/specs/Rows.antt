@@ -10,7 +10,7 @@ use Rattle.script_core.specs.Reading.{Tokens, makes, makes_with}
 use Rattle.script_core.specs.Sets.{relation_of, last_named_relation_of, vector_set_of}
 use Rattle.script_core.specs.Sums.{function_of, functions_of}
 use Rattle.script_core.specs.Terms.{terms_of, function_terms_of, component_terms_of}
-use Rattle.script_words.specs.Each.{◌>>=◌}
+use Rattle.script_tokens.specs.Each.{◌>>=◌}
 
 -- bound R X REL
 unfoldable pub bound_form : Tokens → Option Reading

@@ -6,7 +6,7 @@ use Rattle.ratio_core.specs.Text.{rational_of}
 use Rattle.set_core.specs.declared.set.Set.{Set}
 use Rattle.set_core.specs.declared.set.Set.TheVariants.{LessThan, GreaterThan, EqualTo, Interval, Reals, Zeros, Nonnegatives, Nonpositives, NormInfinityCone, NormOneCone}
 use Rattle.script_core.specs.Reading.{Tokens, is, alone}
-use Rattle.script_words.specs.Each.{◌>>=◌}
+use Rattle.script_tokens.specs.Each.{◌>>=◌}
 
 -- the number that the first token is, and the tokens after it
 unfoldable pub first_number : Tokens → Option (Rational × Tokens)

@@ -4,8 +4,8 @@ use Rattle.script_core.specs.declared.command.Command.TheVariants.{Load, Optimiz
 use Rattle.script_core.specs.declared.reading.Reading.{Reading}
 use Rattle.script_core.specs.Names.{last_name_of}
 use Rattle.script_core.specs.Reading.{Tokens, says}
-use Rattle.script_words.specs.Each.{◌>>=◌}
-use Rattle.script_words.specs.Number.{number_of}
+use Rattle.script_tokens.specs.Each.{◌>>=◌}
+use Rattle.script_tokens.specs.Number.{number_of}
 
 -- optimize, optimize N
 unfoldable pub optimize_form : Tokens → Option Reading

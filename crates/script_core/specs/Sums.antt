@@ -2,10 +2,10 @@
 use Rattle.std.specs.Prelude.{List, [], ◌∷◌, Option, Some}
 use Rattle.ratio_core.specs.Rational.{zero_ℚ}
 use Rattle.named_aff.specs.declared.aff.NamedAff.{NamedAff}
-use Rattle.named_sums.specs.Sums.{plus_constant, plus_term}
+use Rattle.named_aff.specs.Sums.{plus_constant, plus_term}
 use Rattle.script_core.specs.declared.terms.Term.{Term}
 use Rattle.script_core.specs.declared.terms.Term.TheVariants.{Linear, Constant}
-use Rattle.script_words.specs.Each.{◌>>=◌, each}
+use Rattle.script_tokens.specs.Each.{◌>>=◌, each}
 
 abbrev pub with_term : NamedAff → Term → Option NamedAff
 with_term f (Linear term) = plus_term f term

@@ -4,10 +4,10 @@ use Rattle.bridge_graph.specs.Hypergraph.{is_edge_cost}
 use Rattle.script_core.specs.declared.command.Command.TheVariants.{Target, Support, Cost, Switch}
 use Rattle.script_core.specs.declared.reading.Reading.{Reading}
 use Rattle.script_core.specs.Reading.{Tokens, says}
-use Rattle.script_words.specs.Each.{◌>>=◌}
-use Rattle.script_words.specs.Family.{family_of}
-use Rattle.script_words.specs.Number.{number_of}
-use Rattle.script_words.specs.Table.{edge_numbered, native_kind_of, target_of}
+use Rattle.script_tokens.specs.Each.{◌>>=◌}
+use Rattle.script_tokens.specs.Family.{family_of}
+use Rattle.script_tokens.specs.Number.{number_of}
+use Rattle.script_tokens.specs.Table.{edge_numbered, native_kind_of, target_of}
 
 -- target T
 unfoldable pub target_form : Tokens → Option Reading

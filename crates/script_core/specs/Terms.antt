@@ -6,7 +6,7 @@ use Rattle.name_index.specs.Name.{name_of_token}
 use Rattle.script_core.specs.declared.terms.Term.{Term}
 use Rattle.script_core.specs.declared.terms.Term.TheVariants.{Linear, Constant}
 use Rattle.script_core.specs.Reading.{Tokens, is}
-use Rattle.script_words.specs.Each.{◌>>=◌, each}
+use Rattle.script_tokens.specs.Each.{◌>>=◌, each}
 
 abbrev pub is_star : ℕ → Bool
 is_star b = b == 42

@@ -8,7 +8,7 @@ use Rattle.script_core.specs.declared.reading.Reading.{Reading}
 use Rattle.script_core.specs.Reading.{Tokens, is, makes, alone}
 use Rattle.script_core.specs.Names.{names_of}
 use Rattle.script_core.specs.Sets.{last_relation_of, vector_set_of}
-use Rattle.script_words.specs.Each.{◌>>=◌}
+use Rattle.script_tokens.specs.Each.{◌>>=◌}
 
 -- free, which is one real number, or a relation
 unfoldable pub creation_set_of : Tokens → Option Set

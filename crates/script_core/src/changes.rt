@@ -7,7 +7,7 @@ use crate::reading::{Reading, makes};
 use crate::sets::last_named_relation;
 use name_index::Name;
 use ratio_core::{Memory, Ratio};
-use script_words::{Tokens, read_number};
+use script_tokens::{Tokens, read_number};
 use std::alloc::Global;
 use user_model::Edit;
 

@@ -2,7 +2,7 @@
 use crate::EdgeCost;
 use item_core::{Edge, Family, Target};
 use name_index::Name;
-use script_words::NativeKind;
+use script_tokens::NativeKind;
 use user_model::Edit;
 
 /// What a line of a script says.

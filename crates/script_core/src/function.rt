@@ -4,8 +4,7 @@ ghost use Rattle.script_core.specs.Sums.{function_of, functions_of, with_term};
 
 use crate::terms::{Term, Terms};
 use lists::Sequence;
-use named_aff::{NamedAff, NamedVec};
-use named_sums::AffSum;
+use named_aff::{AffSum, NamedAff, NamedVec};
 use ratio_core::{Memory, Ratio};
 use std::alloc::Global;
 

@@ -3,7 +3,7 @@ ghost use Rattle.std.specs.Prelude.{◌≡◌, Some};
 ghost use Rattle.script_core.specs.declared.keyword.Keyword.{Keyword};
 ghost use Rattle.script_core.specs.Keyword.{keyword_of, keyword_text};
 
-use script_words::is;
+use script_tokens::is;
 
 /// The first word of a line, by which its form is known.
 #[derive(Clone, Copy, Debug, PartialEq, Eq)]

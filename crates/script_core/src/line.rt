@@ -6,7 +6,7 @@ use crate::keyword::Keyword;
 use crate::reading::{Reading, alone};
 use crate::{Command, LineFault, changes, rows, solver, tables, variables};
 use ratio_core::Memory;
-use script_words::{Tokens, are_line_bytes};
+use script_tokens::{Tokens, are_line_bytes};
 use std::alloc::Global;
 use user_model::{Edit, Sense};
 

@@ -5,7 +5,7 @@ ghost use Rattle.script_core.specs.Names.{last_name_of, last_named_number_of, la
 use lists::Sequence;
 use name_index::{Name, Names};
 use ratio_core::{Memory, Ratio};
-use script_words::Tokens;
+use script_tokens::Tokens;
 use std::alloc::Global;
 
 /// Names up to the end.

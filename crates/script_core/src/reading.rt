@@ -3,7 +3,7 @@ ghost use Rattle.std.specs.Prelude.{◌≡◌};
 ghost use Rattle.script_core.specs.Reading as reading;
 
 use crate::Command;
-use script_words::Tokens;
+use script_tokens::Tokens;
 use user_model::Edit;
 
 /// What a line of the grammar says, or that a sum of its terms exceeds 128 bits.

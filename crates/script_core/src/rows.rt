@@ -9,7 +9,7 @@ use crate::sets::{dimension, last_named_relation, relation, vector_set};
 use crate::terms::{component_terms, function_terms, read_terms};
 use name_index::Name;
 use ratio_core::Memory;
-use script_words::Tokens;
+use script_tokens::Tokens;
 use std::alloc::Global;
 use user_model::{Edit, NamedFunc, Sense};
 

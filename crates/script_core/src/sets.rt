@@ -5,7 +5,7 @@ ghost use Rattle.script_core.specs.Sets.{first_number, last_named_relation_of, l
 use crate::reading::alone;
 use name_index::Name;
 use ratio_core::{Memory, Ratio};
-use script_words::{Tokens, is};
+use script_tokens::{Tokens, is};
 use set_core::Set;
 use std::alloc::Global;
 

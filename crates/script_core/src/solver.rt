@@ -6,7 +6,7 @@ use crate::Command;
 use crate::names::last_name;
 use crate::reading::{Reading, says};
 use ratio_core::Memory;
-use script_words::{Tokens, read_number};
+use script_tokens::{Tokens, read_number};
 use std::alloc::Global;
 
 /// `optimize`, `optimize N`

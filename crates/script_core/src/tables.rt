@@ -4,7 +4,7 @@ ghost use Rattle.script_core.specs.Tables.{cost_form, cost_of, support_form, swi
 
 use crate::reading::{Reading, says};
 use crate::{Command, EdgeCost};
-use script_words::{
+use script_tokens::{
     Tokens, edge_numbered, read_family, read_native_kind, read_number, read_target,
 };
 

@@ -6,7 +6,7 @@ use lists::Sequence;
 use name_index::Name;
 use named_aff::NamedTerm;
 use ratio_core::{Memory, Ratio};
-use script_words::{Tokens, is, parted_at};
+use script_tokens::{Tokens, is, parted_at};
 use std::alloc::Global;
 use std::mem;
 

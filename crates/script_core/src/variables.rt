@@ -7,7 +7,7 @@ use crate::reading::{Reading, alone, makes};
 use crate::sets::{dimension, last_relation, vector_set};
 use name_index::{Name, Names};
 use ratio_core::Memory;
-use script_words::{Tokens, is};
+use script_tokens::{Tokens, is};
 use set_core::Set;
 use std::alloc::Global;
 use user_model::Edit;

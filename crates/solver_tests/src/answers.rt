@@ -4,12 +4,12 @@ ghost use Rattle.simplex_core.specs.StdForm.{IsWellShaped};
 ghost use Rattle.std_form.specs.Indexed.{form_of};
 
 use crate::forms::ratios;
-use page::Page;
 use ratio_core::Ratios;
 use simplex_core::{Basis, SolverAnswer, StdForm, solve};
 use solver_store::SolverModel;
 use std::alloc::Global;
 use std_form::{AddressMap, build, read_back};
+use test_support::Page;
 
 /// Prints the model's form and what is read back of its answer, or why there is none.
 pub fn show(page: &mut Page, solver: &SolverModel, map: &AddressMap) {

@@ -3,12 +3,12 @@ ghost use Rattle.std.specs.Prelude.{◌≡◌, ◌⊎◌, ◌<◌, IsTrue, lengt
 
 use crate::forms::is_nonnegative;
 use crate::models::number;
-use page::Page;
 use ratio_core::Ratio;
 use sparse_board::Board;
 use sparse_ratios::SparseRatios;
 use std::alloc::Global;
 use tableau_core::{DenseBoard, Tableau};
+use test_support::Page;
 
 /// What both boards answer.
 pub fn show(page: &mut Page) {

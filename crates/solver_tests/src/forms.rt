@@ -3,11 +3,11 @@ ghost use Rattle.std.specs.Prelude.{◌↔◌, ◌≡◌, ◌*◌, All, IsTrue, 
 ghost use Rattle.ratio_core.specs.Rational.{zero_ℚ, ◌≤ℚ◌};
 ghost use Rattle.simplex_core.specs.StdForm.{IsWellShaped};
 
-use page::Page;
 use ratio_core::{Ratio, Ratios};
 use simplex_core::{Flags, SolveFault, SolverAnswer, StdForm, solve, solve_dense};
 use sparse_ratios::SparseRatios;
 use std::alloc::Global;
+use test_support::Page;
 
 /// The numbers of a form: its matrix row by row, the right sides and the costs; and how many pivots
 /// may be taken.

@@ -9,8 +9,8 @@ mod models;
 mod store;
 mod tables;
 
-use page::Page;
 use std::process::ExitCode;
+use test_support::Page;
 
 fn main(rt: HostRuntime) -> ExitCode {
     let mut page = Page::new(&rt);

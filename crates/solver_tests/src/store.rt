@@ -1,10 +1,10 @@
 // The solver's model: a variable, a row and an objective, added, changed and removed, and how many
 // calls are counted; functions and points over indices.
-use page::Page;
 use ratio_core::Ratio;
 use solver_store::{
     LeafObjective, LeafPoint, LeafRow, LeafVar, Sense, Set, SolverAff, SolverModel,
 };
+use test_support::Page;
 
 /// Each call, on one model.
 pub fn show(page: &mut Page) {

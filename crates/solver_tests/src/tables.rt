@@ -1,9 +1,9 @@
 // The models, each as a table of rows.
 use crate::answers;
 use crate::models::{Row, Terms, fill, set_objective};
-use page::Page;
 use solver_store::{Sense, SolverModel};
 use std_form::AddressMap;
+use test_support::Page;
 
 /// A form of every kind of row, the three kinds of answers, and the refusals.
 pub fn show(page: &mut Page) {

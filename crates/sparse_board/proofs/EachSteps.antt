@@ -1,6 +1,6 @@
 -- A row lowered column by column.
-use Rattle.std.specs.Prelude.{◌≡◌, ℕ, ◌+◌, ◌<◌, ◌≤◌, true, false}
-use Rattle.std.proofs.Common.{sym, ◌∙◌, arith, subst}
+use Rattle.std.specs.Prelude.{◌≡◌, ℕ, ◌+◌, ◌<◌, true, false}
+use Rattle.std.proofs.Common.{◌∙◌}
 use Rattle.ratio_core.specs.Rational.{Rational, ◌*ℚ◌, ◌-ℚ◌}
 use Rattle.simplex_form.specs.Fit.{lowered_fits}
 use Rattle.simplex_form.specs.Search.{all_below}

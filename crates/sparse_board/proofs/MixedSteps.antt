@@ -1,5 +1,5 @@
 -- Rows of whole numbers or of fractions: what of them fits, and what is lowered.
-use Rattle.std.specs.Prelude.{◌≡◌, ℕ, ◌+◌, ◌^◌, ◌<◌, ◌≤◌, Bool, true, false, ◌&&◌, not, MatchBool, if◌then◌else◌, refl, unsigned_abs}
+use Rattle.std.specs.Prelude.{◌≡◌, ℕ, ◌^◌, ◌<◌, Bool, true, false, ◌&&◌, not, MatchBool, if◌then◌else◌, refl}
 use Rattle.std.proofs.Common.{sym, ◌∙◌, ap, arith, subst, true≢false}
 use Rattle.ratio_core.specs.Rational.{Fits, Rational, fits, zero_ℚ, ◌*ℚ◌, ◌-ℚ◌, ◌/ℚ◌}
 use Rattle.simplex_form.specs.Fit.{lowered_fits}
@@ -13,7 +13,6 @@ use Rattle.whole_rows.specs.RowLaws.{row_fits, row_narrow}
 use Rattle.whole_rows.specs.Rows as whole
 use Rattle.sparse_board.specs.declared.mixed_row.MixedRow.{MixedRow}
 use Rattle.sparse_board.specs.declared.row.Row.{Row}
-use Rattle.sparse_board.specs.declared.sparse_row.SparseRow.{SparseRow}
 use Rattle.sparse_board.specs.declared.step.Step.{Step}
 use Rattle.sparse_board.specs.Lowering.{HasRoom, IsLoweredBeside, IsPrepared}
 use Rattle.sparse_board.specs.Mixed.{IsLowered, number_of, units_of, width_of}

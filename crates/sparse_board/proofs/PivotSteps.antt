@@ -2,7 +2,6 @@
 use Rattle.std.specs.Prelude.{◌≡◌, ℕ, ◌+◌, ◌<◌, Bool, true, false, IsTrue, List, length, MatchBool, Some, slice_set}
 use Rattle.std.proofs.Common.{sym, ◌∙◌, ap, subst}
 use Rattle.std.proofs.lemmas.List.{length-set}
-use Rattle.ratio_core.specs.Rational.{Rational, zero_ℚ, ◌*ℚ◌, ◌-ℚ◌}
 use Rattle.tableau_core.specs.KeptLaws.{settled_by}
 use Rattle.tableau_core.specs.Numbers.{AreLess, IsSettled}
 use Rattle.tableau_core.specs.ItemLaws.{each_written, written_at, written_off}

@@ -11,7 +11,7 @@ use Rattle.rational_laws.specs.Fitting.{Fits_zero}
 use Rattle.simplex_form.specs.Fit.{lowered_fits}
 use Rattle.simplex_laws.specs.BoundedSumLaws.{same_or_other}
 use Rattle.simplex_laws.specs.SearchLaws.{all_below_all}
-use Rattle.tableau_core.specs.LoweringLaws.{lowered-zero, lowered_fits-zero, zero-step}
+use Rattle.tableau_core.specs.LoweringLaws.{lowered_fits-zero, zero-step}
 use Rattle.tableau_core.specs.Row.{cell}
 use Rattle.sparse_board.specs.declared.sparse_row.SparseRow.{SparseRow}
 use Rattle.sparse_board.specs.declared.entry.Entry.{Entry}

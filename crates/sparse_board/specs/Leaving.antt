@@ -1,5 +1,5 @@
 -- Which row leaves, by the numbers of rows.
-use Rattle.std.specs.Prelude.{◌≡◌, ℕ, ◌<◌, Bool, nat_lt, List, length, slice_index_or}
+use Rattle.std.specs.Prelude.{ℕ, ◌<◌, Bool, nat_lt, List, length, slice_index_or}
 use Rattle.ratio_core.specs.Rational.{zero_ℚ, ◌/ℚ◌, ◌‹ℚ◌}
 use Rattle.simplex_form.specs.Turns.{is_below}
 use Rattle.tableau_core.specs.Leaving.{comes_before}

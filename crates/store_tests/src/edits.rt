@@ -4,7 +4,7 @@ use ratio_core::Ratio;
 use script_core::{Command, parse_line};
 use set_core::Set;
 use std::alloc::Global;
-use stop::Stop;
+use test_support::Stop;
 
 /// The edit of a line.
 pub fn read(alloc: Global, line: &str) -> Result<Edit, Stop> {

@@ -25,7 +25,7 @@ mod shown;
 
 use model_store::UserModel;
 use std::io;
-use stop::Stop;
+use test_support::Stop;
 
 fn main(rt: HostRuntime) -> io::Result<()> {
     let mut model = UserModel::new(rt.alloc());

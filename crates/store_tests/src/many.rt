@@ -13,7 +13,7 @@ use crate::session::make_for_good;
 use model_store::UserModel;
 use std::alloc::{AllocError, Global};
 use std::str::SplitWhitespace;
-use stop::Stop;
+use test_support::Stop;
 
 #[derive(Clone, Copy)]
 enum What {

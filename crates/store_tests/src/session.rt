@@ -6,7 +6,7 @@ use crate::many;
 use crate::shown::{digest, show, show_copies};
 use model_store::{ApplyFault, Edit, UserModel};
 use name_index::Name;
-use stop::Stop;
+use test_support::Stop;
 
 /// Makes one step, and prints what it gives. An empty line, or one that begins with `#`, is no
 /// step.

@@ -1,7 +1,7 @@
 // A model as text.
 use model_store::{Group, Row, UserModel};
 use std::alloc::{AllocError, Global};
-use stop::Stop;
+use test_support::Stop;
 
 // All that readers give of a model.
 fn text(alloc: Global, model: &UserModel) -> Result<String, AllocError> {

@@ -1,5 +1,5 @@
 -- Which row leaves, by the numbers of rows that are kept whole.
-use Rattle.std.specs.Prelude.{◌≡◌, ℕ, ◌<◌, Bool, ◌&&◌, ◌||◌, nat_lt, List, length, slice_index_or}
+use Rattle.std.specs.Prelude.{ℕ, ◌<◌, Bool, ◌&&◌, ◌||◌, nat_lt, List, length, slice_index_or}
 use Rattle.ratio_core.specs.Rational.{Rational, rational_eq, zero_ℚ, ◌/ℚ◌, ◌‹ℚ◌}
 use Rattle.simplex_form.specs.Turns.{is_below}
 use Rattle.tableau_core.specs.declared.kept.Row.{Row}

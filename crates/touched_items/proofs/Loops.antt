@@ -1,14 +1,13 @@
 -- Loops that list, filter, count and read.
-use Rattle.std.specs.Prelude.{◌≡◌, ◌≢◌, ◌≤◌, ◌<◌, ◌+◌, ◌++◌, ◌||◌, ℕ, zero, suc, Bool, true, false, cond, if◌then◌else◌, List, [], ◌∷◌, MatchBool, Option, Some, None, count_by, filter, flat_map, get_or, length, map, slice_get, sum_by, take, unwrap_or, refl}
+use Rattle.std.specs.Prelude.{◌≡◌, ◌≤◌, ◌<◌, ◌+◌, ◌++◌, ◌||◌, ℕ, zero, suc, Bool, true, false, cond, if◌then◌else◌, List, [], ◌∷◌, MatchBool, Option, Some, None, count_by, filter, flat_map, get_or, length, map, slice_get, sum_by, take, unwrap_or, refl}
 use Rattle.std.specs.Borrow.{Bor}
 use Rattle.std.specs.BTreeSet as set
 use Rattle.std.specs.BTreeSet.{BTreeSet}
 use Rattle.std.specs.FinMap as finite
 use Rattle.std.specs.List.{filter_map, list_any}
-use Rattle.std.specs.List.Sorted.{IsStrictlySortedBy}
-use Rattle.std.specs.Option.{option_map, option_to_list}
+use Rattle.std.specs.Option.{option_to_list}
 use Rattle.std.specs.Set.{is_member}
-use Rattle.std.proofs.Common.{arith, sym, ap, subst, ◌∙◌, append_assoc, append-nil, true≢false}
+use Rattle.std.proofs.Common.{arith, sym, ap, subst, ◌∙◌, append_assoc, append-nil}
 use Rattle.std.proofs.lemmas.Grind.{flat_map-append}
 use Rattle.std.proofs.lemmas.List.{map-append, take_more}
 use Rattle.std.proofs.lemmas.List.Elements.{filter-append, filter_map-append}
@@ -19,7 +18,7 @@ use Rattle.address_map.specs.Noted.{AddressSet, Noted, noted_items}
 use Rattle.aff_core.specs.Address.{Address, address_cmp, address_eq, address_eq-Decides, root_address}
 use Rattle.aff_core.specs.declared.root.Root.TheVariants as root
 use Rattle.map_laws.specs.MadeLaws.{entries_empty}
-use Rattle.numbered.specs.declared.change.Change.{Change}
+use Rattle.numbered_list.specs.declared.change.Change.{Change}
 use Rattle.user_model.specs.declared.row.Row.{Row}
 use Rattle.user_model.specs.declared.undo.Undo.{Undo}
 use Rattle.touched_items.specs.FirstLaws.{Changes, HasFirst, HasTaken, more_taken}

@@ -2,9 +2,9 @@
 use Rattle.std.specs.Prelude.{◌≡◌, ◌≢◌, ◌<◌, ◌+◌, ◌++◌, ℕ, Bool, List, MatchBool, Option, get_or, length, map, take}
 use Rattle.std.specs.Option.{option_map, option_to_list}
 use Rattle.std.proofs.Common.{subst}
-use Rattle.numbered.specs.Changes.{AreChanges}
-use Rattle.numbered.specs.Numbered.{IsAt}
-use Rattle.numbered.specs.declared.change.Change.{Change}
+use Rattle.numbered_list.specs.Changes.{AreChanges}
+use Rattle.numbered_list.specs.Numbered.{IsAt}
+use Rattle.numbered_list.specs.declared.change.Change.{Change}
 use Rattle.touched_items.specs.SideLaws.{AreSidesOf, next_separated}
 
 module _ {X Item : Type 0} (number_of : X → ℕ) (item_of : X → Item) (now : ℕ → Option X)

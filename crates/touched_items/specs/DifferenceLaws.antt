@@ -2,7 +2,7 @@
 use Rattle.std.specs.Prelude.{◌≡◌, ◌≢◌, ◌⊎◌, ◌++◌, ℕ, Bool, true, false, cond, List, [], ◌∷◌, All, Contains, Option, Some, None, flat_map, map, unwrap_or, refl}
 use Rattle.std.specs.Borrow.{Bor}
 use Rattle.std.specs.Option.{option_copied, option_map, option_map_or, option_or, option_to_list}
-use Rattle.std.proofs.Common.{inl, inr, sym, ap, ap₂, subst, ◌∙◌, true≢false}
+use Rattle.std.proofs.Common.{inl, inr, sym, ap, ap₂, subst, ◌∙◌}
 use Rattle.std.proofs.lemmas.List.Elements.{All-append, All-cons, All-contains_itself, All-map, All-nil, All-weaker, Contains-append_left, Contains-append_right}
 use Rattle.std.proofs.lemmas.Option.{none-some, same_Some}
 use Rattle.std.specs.Prelude.{find as first_passing}
@@ -12,20 +12,19 @@ use Rattle.aff_core.specs.declared.root.Root.{Root}
 use Rattle.aff_core.specs.declared.root.Root.TheVariants as root
 use Rattle.fresh_bridging.specs.ModelImage.{group_item, objective_item, objective_items, row_item}
 use Rattle.fresh_bridging.specs.Touched.{item_at}
-use Rattle.item_core.specs.declared.item.Body.{Body}
 use Rattle.item_core.specs.declared.item.Body.TheVariants.{PlainObj, AffineObj}
 use Rattle.item_core.specs.declared.item.Item.{Item}
 use Rattle.local_laws.specs.Held.{is_there}
 use Rattle.local_laws.specs.ListedLaws.{by_parts, found_by_number, found_nowhere, three}
 use Rattle.local_laws.specs.MentionLaws.{mapped_contains}
-use Rattle.numbered.specs.Laws.{Contains-found, number_of_found}
-use Rattle.numbered.specs.Numbered.{Rise, find}
+use Rattle.numbered_list.specs.Laws.{Contains-found, number_of_found}
+use Rattle.numbered_list.specs.Numbered.{find}
 use Rattle.user_model.specs.Edited.{group_number, row_number}
 use Rattle.user_model.specs.Model.{ModelValue}
 use Rattle.user_model.specs.declared.objective.Objective.{Objective}
 use Rattle.user_model.specs.declared.objective.Objective.TheVariants as objective
 use Rattle.local_laws.specs.Unlisted.{LeadBackTo}
-use Rattle.numbered.specs.Changes.{AreChanges}
+use Rattle.numbered_list.specs.Changes.{AreChanges}
 use Rattle.user_model.specs.declared.undo.Undo.{Undo}
 use Rattle.touched_items.specs.FirstChanges.{AreFirst, first_objective, stood_at}
 use Rattle.touched_items.specs.UndoLaws.{listed_changes, objective_stood, stood_is}

@@ -7,8 +7,8 @@ use Rattle.std.specs.Option.{option_copied, option_map_or}
 use Rattle.aff_core.specs.Address.{Address, root_address}
 use Rattle.aff_core.specs.declared.root.Root.TheVariants as root
 use Rattle.fresh_bridging.specs.ModelImage.{group_item, objective_items, row_item}
-use Rattle.numbered.specs.declared.change.Change.{Change}
-use Rattle.numbered.specs.Numbered.{find}
+use Rattle.numbered_list.specs.declared.change.Change.{Change}
+use Rattle.numbered_list.specs.Numbered.{find}
 use Rattle.user_model.specs.Edited.{group_number, row_number}
 use Rattle.user_model.specs.Model.{ModelValue, variable_address}
 use Rattle.user_model.specs.declared.group.Group.{Group}

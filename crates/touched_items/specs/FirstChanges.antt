@@ -4,9 +4,9 @@
 --     stood_at            what stood at a number
 use Rattle.std.specs.Prelude.{◌≡◌, ◌≤◌, ℕ, List, [], ◌∷◌, Option, None, length}
 use Rattle.std.specs.Option.{option_map_or, option_or}
-use Rattle.numbered.specs.declared.change.Change.{Change}
-use Rattle.numbered.specs.Changes.{changed_number}
-use Rattle.numbered.specs.Numbered.{Rise, find}
+use Rattle.numbered_list.specs.declared.change.Change.{Change}
+use Rattle.numbered_list.specs.Changes.{changed_number}
+use Rattle.numbered_list.specs.Numbered.{Rise, find}
 use Rattle.user_model.specs.declared.objective.Objective.{Objective}
 use Rattle.user_model.specs.declared.undo.Undo.{Undo}
 

@@ -1,5 +1,5 @@
 -- The first change of each number, by a map from numbers that is filled from the last change on.
-use Rattle.std.specs.Prelude.{◌≡◌, ◌≤◌, ◌<◌, ◌+◌, ◌==◌, ◌++◌, ℕ, Bool, true, false, cond, List, [], ◌∷◌, All, IfSome, Option, Some, None, is_some, length, map, refl}
+use Rattle.std.specs.Prelude.{◌≡◌, ◌≤◌, ◌<◌, ◌+◌, ◌==◌, ◌++◌, ℕ, Bool, true, false, cond, List, [], ◌∷◌, All, Option, Some, None, length, map, refl}
 use Rattle.std.specs.Bool.{Decides}
 use Rattle.std.specs.Borrow.{Bor}
 use Rattle.std.specs.BTreeMap.{BTreeMap, IsOrdered, Updates, btree_map_len, get, is_at, values}
@@ -16,10 +16,10 @@ use Rattle.std.proofs.lemmas.Bool.Decides.{Decides-eqb, same_from_decides}
 use Rattle.std.proofs.lemmas.List.{length-append, length-map}
 use Rattle.std.proofs.lemmas.List.Elements.{All-cons, All-head, All-nil, All-tail, All-weaker}
 use Rattle.std.proofs.lemmas.List.Folds.{find-append}
-use Rattle.numbered.specs.Changes.{changed_number}
-use Rattle.numbered.specs.Laws.{Rise-cons, Rise-nil, number_of_found}
-use Rattle.numbered.specs.Numbered.{Rise, find}
-use Rattle.numbered.specs.declared.change.Change.{Change}
+use Rattle.numbered_list.specs.Changes.{changed_number}
+use Rattle.numbered_list.specs.Laws.{Rise-cons, Rise-nil, number_of_found}
+use Rattle.numbered_list.specs.Numbered.{Rise, find}
+use Rattle.numbered_list.specs.declared.change.Change.{Change}
 use Rattle.touched_items.specs.FirstChanges.{AreFirst}
 
 -- ---- numbers as keys

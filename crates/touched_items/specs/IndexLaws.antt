@@ -25,10 +25,10 @@ use Rattle.local_laws.specs.Held.{is_there}
 use Rattle.local_laws.specs.ListedLaws.{by_parts, found_by_number, found_nowhere, three}
 use Rattle.local_laws.specs.MentionLaws.{IsIndexOf, OtherMentions, names_in, names_listed}
 use Rattle.local_laws.specs.StaysLaws.{found_is, groups_are}
-use Rattle.numbered.specs.Laws.{Contains-found, number_of_found}
-use Rattle.numbered.specs.Numbered.{find}
+use Rattle.numbered_list.specs.Laws.{Contains-found, number_of_found}
+use Rattle.numbered_list.specs.Numbered.{find}
 use Rattle.set_core.specs.declared.set.Set.{Set}
-use Rattle.user_model.specs.Edited.{group_number, row_number}
+use Rattle.user_model.specs.Edited.{row_number}
 use Rattle.user_model.specs.Functions.{func_mentions, has_term}
 use Rattle.user_model.specs.Model.{ModelValue, objective_mentions}
 use Rattle.user_model.specs.Valid.{IsValid}

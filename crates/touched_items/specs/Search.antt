@@ -7,7 +7,7 @@ use Rattle.std.specs.List.{list_any}
 use Rattle.std.specs.List.Sorted.{IsStrictlySortedBy}
 use Rattle.aff_core.specs.Address.{Address, address_cmp, address_eq, root_address}
 use Rattle.aff_core.specs.declared.root.Root.TheVariants as root
-use Rattle.numbered.specs.Numbered.{find}
+use Rattle.numbered_list.specs.Numbered.{find}
 use Rattle.user_model.specs.Edited.{row_number}
 use Rattle.user_model.specs.Model.{ModelValue}
 use Rattle.user_model.specs.declared.objective.Objective.{Objective}

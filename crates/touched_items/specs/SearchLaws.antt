@@ -1,7 +1,7 @@
 -- What is found by the items that differ and by what is noted at the variables that change is exactly
 -- what is touched.
 use Rattle.std.specs.Prelude.{◌≡◌, ◌≢◌, ◌⊎◌, ◌↔◌, ◌++◌, ℕ, zero, suc, Bool, true, false, not, List, [], ◌∷◌, All, Contains, Option, Some, None, filter, flat_map, length, map, refl}
-use Rattle.std.specs.Option.{option_copied, option_map, unwrap_or}
+use Rattle.std.specs.Option.{option_map}
 use Rattle.std.proofs.Common.{arith, inl, inr, sym, ap, subst, ◌∙◌, true≢false}
 use Rattle.std.proofs.lemmas.List.Elements.{All-contains, All-contains_itself, All-weaker, Contains-append_cases, Contains-append_left, Contains-append_right}
 use Rattle.std.proofs.lemmas.Map.Keys.{IsDistinct-from_sorted}
@@ -13,7 +13,7 @@ use Rattle.aff_core.specs.Address.{Address, address_cmp, address_eq, address_eq-
 use Rattle.aff_core.specs.declared.root.Root.TheVariants as root
 use Rattle.fresh_bridging.specs.Entries.{Entry, expression_in}
 use Rattle.fresh_bridging.specs.FreshBridging.{FreshBridging, expression_of}
-use Rattle.fresh_bridging.specs.ModelImage.{group_item, model_image}
+use Rattle.fresh_bridging.specs.ModelImage.{group_item}
 use Rattle.fresh_bridging.specs.TheRules.{Setting}
 use Rattle.fresh_bridging.specs.Touched.{IsTouched, item_at}
 use Rattle.item_core.specs.Item.{is_group}
@@ -22,15 +22,15 @@ use Rattle.item_core.specs.declared.item.Item.{Item}
 use Rattle.leaf_model.specs.LeafModel.{IsCountOf}
 use Rattle.local_laws.specs.FoundLaws.{in_groups}
 use Rattle.local_laws.specs.GoneLaws.{all_kept, kept_in}
-use Rattle.local_laws.specs.Held.{HasOwn, is_there}
+use Rattle.local_laws.specs.Held.{HasOwn}
 use Rattle.local_laws.specs.ListedLaws.{found_nowhere}
 use Rattle.local_laws.specs.LookedLaws.{contains_or_not}
 use Rattle.local_laws.specs.MentionLaws.{IsBesideGroups, IsIndexOf, IsSearched, touched_exactly}
 use Rattle.local_laws.specs.Sound.{IsValidUnder}
 use Rattle.local_laws.specs.Stays.{StaysAt}
 use Rattle.local_laws.specs.UntouchedLaws.{found_exactly as count_found}
-use Rattle.numbered.specs.Laws.{Contains-found}
-use Rattle.numbered.specs.Numbered.{find}
+use Rattle.numbered_list.specs.Laws.{Contains-found}
+use Rattle.numbered_list.specs.Numbered.{find}
 use Rattle.user_model.specs.Edited.{group_number}
 use Rattle.user_model.specs.Model.{ModelValue, variable_address}
 use Rattle.user_model.specs.declared.group.Group.{Group}
@@ -39,7 +39,7 @@ use Rattle.touched_items.specs.Differences.{differing_addresses, groups_in, own_
 use Rattle.touched_items.specs.ExpressionLaws.{HasExpressions, stays_where}
 use Rattle.touched_items.specs.HeldExpressions.{stays_as}
 use Rattle.touched_items.specs.Search.{AreInOrder}
-use Rattle.touched_items.specs.Sides.{AreSides, IsSeparated, differ, same}
+use Rattle.touched_items.specs.Sides.{IsSeparated, differ, same}
 use Rattle.touched_items.specs.declared.differing.Differing.{Differing}
 
 -- ---- lists of lists

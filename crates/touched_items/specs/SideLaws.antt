@@ -8,10 +8,10 @@ use Rattle.std.proofs.lemmas.List.Elements.{All-append, All-cons, All-contains, 
 use Rattle.std.proofs.lemmas.List.Folds.{find-append}
 use Rattle.map_laws.specs.LoopLaws.{map-take_more, next_item}
 use Rattle.map_laws.specs.PairLaws.{AllPairs-before}
-use Rattle.numbered.specs.Changes.{AreChanges, changed_number}
-use Rattle.numbered.specs.Laws.{Rise-head, Rise-nil, Rise-push, Rise-tail, find-first, find-none_below, find-rest}
-use Rattle.numbered.specs.Numbered.{IsAt, Rise, find}
-use Rattle.numbered.specs.declared.change.Change.{Change}
+use Rattle.numbered_list.specs.Changes.{AreChanges, changed_number}
+use Rattle.numbered_list.specs.Laws.{Rise-head, Rise-nil, Rise-push, Rise-tail, find-first, find-none_below, find-rest}
+use Rattle.numbered_list.specs.Numbered.{IsAt, Rise, find}
+use Rattle.numbered_list.specs.declared.change.Change.{Change}
 use Rattle.touched_items.specs.FirstChanges.{stood_at}
 use Rattle.touched_items.specs.Sides.{AreSides, IsSeparated, differ, same}
 

@@ -3,7 +3,7 @@
 --     AreSides         so at each number
 use Rattle.std.specs.Prelude.{◌≡◌, ◌≢◌, ℕ, List, Option, None}
 use Rattle.std.specs.Option.{option_map}
-use Rattle.numbered.specs.Numbered.{Rise, find}
+use Rattle.numbered_list.specs.Numbered.{Rise, find}
 
 -- the same, and neither is given; or another, and both are
 pub data IsSeparated {X Item : Type 0} (item_of : X → Item) (was is before after : Option X)

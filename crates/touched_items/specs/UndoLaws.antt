@@ -1,13 +1,13 @@
 -- What undos list is what stood before them, where they lead back to it.
-use Rattle.std.specs.Prelude.{◌≡◌, ◌==◌, ◌++◌, ℕ, List, [], ◌∷◌, All, Contains, Option, Some, None, flat_map, unwrap_or, refl}
+use Rattle.std.specs.Prelude.{◌≡◌, ◌==◌, ℕ, List, [], ◌∷◌, All, Contains, Option, Some, None, flat_map, unwrap_or, refl}
 use Rattle.std.specs.Option.{option_map_or, option_or}
 use Rattle.std.proofs.Common.{sym, ap, subst, ◌∙◌}
 use Rattle.std.proofs.lemmas.List.Elements.{All-append, All-contains, All-contains_itself, All-nil, All-weaker}
 use Rattle.std.proofs.lemmas.List.Folds.{find-append}
-use Rattle.numbered.specs.Changes.{AreChanges, changed_number}
-use Rattle.numbered.specs.Laws.{Contains-found, IsAt-find, number_of_found}
-use Rattle.numbered.specs.Numbered.{IsAt, find}
-use Rattle.numbered.specs.declared.change.Change.{Change}
+use Rattle.numbered_list.specs.Changes.{AreChanges, changed_number}
+use Rattle.numbered_list.specs.Laws.{Contains-found, IsAt-find, number_of_found}
+use Rattle.numbered_list.specs.Numbered.{IsAt, find}
+use Rattle.numbered_list.specs.declared.change.Change.{Change}
 use Rattle.user_model.specs.Model.{ModelValue}
 use Rattle.user_model.specs.Undone.{AreDifferences, IsOldObjective, IsUndo}
 use Rattle.user_model.specs.declared.objective.Objective.{Objective}

@@ -2,7 +2,7 @@
 ghost use Rattle.std.specs.Prelude.{◌≡◌, ◌≤◌, ◌+◌, IfOk, Some, unwrap_or};
 ghost use Rattle.std.specs.Option.{option_copied, option_map_or};
 ghost use Rattle.fresh_bridging.specs.ModelImage.{objective_items};
-ghost use Rattle.numbered.specs.Changes.{AreChanges};
+ghost use Rattle.numbered_list.specs.Changes.{AreChanges};
 ghost use Rattle.user_model.specs.Edited.{group_number, row_number};
 ghost use Rattle.touched_items.specs.Differences.{AreDiffering, count_listed, listed_groups, listed_rows};
 ghost use Rattle.touched_items.specs.Sides.{IsSeparated};

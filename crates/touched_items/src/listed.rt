@@ -3,12 +3,12 @@ ghost use Rattle.std.specs.Prelude.{◌≡◌, ◌≤◌, ◌+◌, ℕ, All, IfO
 ghost use Rattle.std.specs.BTreeMap.{IsOrdered, btree_map_len, get, values};
 ghost use Rattle.std.specs.Option.{option_copied, option_or};
 ghost use Rattle.std.specs.Ordering.{nat_cmp};
-ghost use Rattle.numbered.specs.Changes.{changed_number};
-ghost use Rattle.numbered.specs.Numbered.{find};
+ghost use Rattle.numbered_list.specs.Changes.{changed_number};
+ghost use Rattle.numbered_list.specs.Numbered.{find};
 ghost use Rattle.touched_items.specs.FirstChanges.{AreFirst, first_objective};
 
 use lists::Memory;
-use numbered::Change;
+use numbered_list::Change;
 use std::alloc::Global;
 use std::collections::BTreeMap;
 use user_model::{Group, Objective, Row, Undo};

@@ -2,8 +2,8 @@
 ghost use Rattle.std.specs.Prelude.{◌≡◌, ◌≤◌, ◌+◌, ◌++◌, ℕ, IfOk, MatchBool, OnOk, length, map};
 ghost use Rattle.std.specs.Option.{option_copied, option_to_list};
 ghost use Rattle.fresh_bridging.specs.ModelImage.{group_item, row_item};
-ghost use Rattle.numbered.specs.Changes.{AreChanges};
-ghost use Rattle.numbered.specs.Numbered as numbered;
+ghost use Rattle.numbered_list.specs.Changes.{AreChanges};
+ghost use Rattle.numbered_list.specs.Numbered as numbered;
 ghost use Rattle.user_model.specs.Edited.{group_number, row_number};
 ghost use Rattle.touched_items.specs.FirstChanges.{stood_at};
 ghost use Rattle.touched_items.specs.Sides.{AreSides};
@@ -11,7 +11,7 @@ ghost use Rattle.touched_items.specs.Sides.{AreSides};
 use crate::same::{same_groups, same_rows};
 use lists::Memory;
 use model_store::Reading;
-use numbered::Change;
+use numbered_list::Change;
 use std::alloc::Global;
 use user_model::{Group, Row};
 

@@ -23,3 +23,4 @@ pub mod UserHelds
 pub mod UserPoints
 pub mod UserDuals
 pub mod GoodLaws
+pub mod BesideLaws

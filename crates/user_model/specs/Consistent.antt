@@ -1,6 +1,6 @@
 -- What holds of every model that edits lead to, as far as finding things in it goes.
 use Rattle.std.specs.Prelude.{◌≡◌, ◌≢◌, ℕ, ◌+◌, ◌<◌, ◌≤◌, true, All, AllPairs, IsSome, length}
-use Rattle.numbered.specs.Numbered.{Rise}
+use Rattle.numbered_list.specs.Numbered.{Rise}
 use Rattle.user_model.specs.declared.group.GroupVar.{GroupVar}
 use Rattle.user_model.specs.Model.{ModelValue, group_of, is_variable, total_terms, variables}
 use Rattle.user_model.specs.Limits.{ALL_TERMS, LAST_NUMBER, ROWS, VARIABLES}

@@ -5,7 +5,7 @@ use Rattle.aff_core.specs.Function.{Function, gathered, with_coefficient}
 use Rattle.named_aff.specs.declared.aff.NamedAff.{NamedAff}
 use Rattle.set_core.specs.declared.set.Set.{Set}
 use Rattle.set_core.specs.declared.set.Set.TheVariants.{Reals}
-use Rattle.numbered.specs.Numbered.{put, without}
+use Rattle.numbered_list.specs.Numbered.{put, without}
 use Rattle.user_model.specs.declared.function.UserFunc.{UserFunc}
 use Rattle.user_model.specs.declared.function.UserFunc.TheVariants.{Plain, Affine, PlainVec, AffineVec}
 use Rattle.user_model.specs.declared.edit.NamedFunc.{NamedFunc}

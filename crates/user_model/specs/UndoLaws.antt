@@ -3,11 +3,11 @@ use Rattle.std.specs.Prelude.{◌≡◌, ℕ, List, Option, Some, None, unwrap_o
 use Rattle.std.specs.Option.{option_map_or}
 use Rattle.std.proofs.Common.{sym, ◌∙◌, ap, subst}
 use Rattle.std.proofs.lemmas.List.Elements.{All-contains, All-weaker}
-use Rattle.numbered.specs.declared.change.Change.{Change}
-use Rattle.numbered.specs.Numbered.{IsAt, Rise, find}
-use Rattle.numbered.specs.Changes.{AreChanges, changed_number, set_all}
-use Rattle.numbered.specs.Laws.{Contains-found, IsAt-find, number_of_found, same_lists}
-use Rattle.numbered.specs.ChangeLaws.{Rise-set_all, find-set_all}
+use Rattle.numbered_list.specs.declared.change.Change.{Change}
+use Rattle.numbered_list.specs.Numbered.{IsAt, Rise, find}
+use Rattle.numbered_list.specs.Changes.{AreChanges, changed_number, set_all}
+use Rattle.numbered_list.specs.Laws.{Contains-found, IsAt-find, number_of_found, same_lists}
+use Rattle.numbered_list.specs.ChangeLaws.{Rise-set_all, find-set_all}
 use Rattle.user_model.specs.declared.objective.Objective.{Objective}
 use Rattle.user_model.specs.declared.undo.Undo.{Undo}
 use Rattle.user_model.specs.Model.{ModelValue}

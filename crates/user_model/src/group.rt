@@ -4,7 +4,7 @@ ghost use Rattle.std.specs.Prelude.{◌≡◌, IfOk};
 use aff_core::Sequence;
 use lists::Duplicate;
 use name_index::Name;
-use numbered::{HasNumber, Numbered};
+use numbered_list::{HasNumber, Numbered};
 use ratio_core::Memory;
 use set_core::Set;
 use std::alloc::Global;

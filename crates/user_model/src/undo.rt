@@ -1,7 +1,7 @@
 //! What leads back from an edit.
 use crate::{Group, Objective, Row};
 use aff_core::Sequence;
-use numbered::Change;
+use numbered_list::Change;
 
 /// The numbers that the next group, the next variable and the next row are given.
 #[derive(Clone, Copy, Debug, PartialEq, Eq)]

@@ -1,7 +1,7 @@
 -- A common denominator.
 use Rattle.std.specs.Prelude.{◌≡◌, ℕ, ◌*◌, ◌/◌, ◌^◌, ◌<◌, ◌≤◌, IfSome, MatchOption, Option, Some, None}
 use Rattle.std.specs.Int.{◌∣◌}
-use Rattle.std.proofs.Common.{sym, ◌∙◌, ap, ap₂, arith, mul-pos, subst}
+use Rattle.std.proofs.Common.{sym, ◌∙◌, ap, arith, mul-pos, subst}
 use Rattle.std.proofs.Math.Nat.{dvd-mul_right, mul-div_cancel'}
 use Rattle.ratio_core.specs.Gcd.{gcd, gcd_is, part_pos}
 use Rattle.ratio_core.specs.Rational.{Rational}

@@ -1,7 +1,7 @@
 -- What divides the listed numbers, and numbers that are divided at listed columns.
 use Rattle.std.specs.Prelude.{◌≡◌, ℕ, ◌+◌, ◌<◌, ◌≤◌, ◌⊎◌, List, length, map, slice_index, slice_index_or, slice_set, ℤ, pos, ◌*ℤ◌, unsigned_abs, refl}
 use Rattle.std.proofs.Common.{inl, inr, sym, ◌∙◌, ap, arith, subst}
-use Rattle.std.proofs.lemmas.List.{get_or-map, get_or-set_other, get_or-set_same, length-map, length-set}
+use Rattle.std.proofs.lemmas.List.{get_or-map, get_or-set_other, get_or-set_same, length-set}
 use Rattle.std.proofs.lemmas.Nat.Gcd.{dvd-zero}
 use Rattle.std.specs.Int.{◌∣◌}
 use Rattle.rational_laws.specs.Whole.{*ℤ_pos_one}

@@ -1,7 +1,7 @@
 -- Fractions over a common denominator.
 use Rattle.std.specs.Prelude.{◌≡◌, ℕ, zero, suc, ◌*◌, ◌/◌, ◌^◌, ◌<◌, ℤ, pos, ◌*ℤ◌}
 use Rattle.std.specs.Int.{◌∣◌}
-use Rattle.std.proofs.Common.{sym, ◌∙◌, ap, arith, subst}
+use Rattle.std.proofs.Common.{sym, ◌∙◌, ap, arith}
 use Rattle.std.proofs.Math.Nat.{mul-div_cancel'}
 use Rattle.ratio_core.specs.Rational.{Rational, reduce}
 use Rattle.ratio_core.specs.RationalLaws.{reduce_itself}

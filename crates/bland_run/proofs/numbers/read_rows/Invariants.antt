@@ -1,5 +1,5 @@
 use Rattle.std.proofs.Common.{◌≡◌}
-use Rattle.script_words.specs.Each.{each, each_after}
+use Rattle.script_tokens.specs.Each.{each, each_after}
 use Rattle.bland_run.specs.Reading.{numbers_in}
 use Rattle.bland_run.proofs.numbers.read_rows.Given as goal
 

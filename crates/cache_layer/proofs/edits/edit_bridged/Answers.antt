@@ -1,6 +1,7 @@
 use Rattle.std.proofs.Common.{refl, subst, sym}
 use Rattle.std.specs.Prelude.{Err}
 use Rattle.small_numbers.specs.SmallNumbers.{HasSmallNumbers}
+use Rattle.local_laws.specs.Unlisted.{LeadBackTo}
 use Rattle.cache_layer.proofs.Editing.{edit_answer, edit_bridged, never_given, step_answer}
 use Rattle.cache_layer.proofs.FewSteps.{edit_few}
 use Rattle.cache_layer.proofs.edits.edit_bridged.Goals as goal
@@ -10,6 +11,15 @@ returns-in-Ok-push-clause-answer g c =
     edit_bridged c.args.model.now c.settle.new.self c.args.lazy.now c.push.new.lazy c.args.edit
     c.apply.new.self.model c.in-Ok-push.changed c.in-Ok.ensures.ok c.in-Ok.ensures.model
     c.settle.ensures.model c.requires.stands c.in-Ok-push.ensures.bridged
+
+pub push-requires : goal.push-requires
+push-requires g c =
+    let was = c.in-Ok.ensures in (
+      c.args.model.now.model,
+      c.requires.stands,
+      subst (λ us. LeadBackTo c.args.model.now.model us c.apply.new.self.model)
+          (sym c.from_ref.ensures.value) (c.apply.new.self.model, was.undo, refl),
+    )
 
 pub take_back-requires : goal.take_back-requires
 take_back-requires g c =

@@ -1,6 +1,6 @@
 use Rattle.std.proofs.Common.{◌≡◌}
 use Rattle.ratio_core.specs.Text.{rational_of}
-use Rattle.script_words.specs.Each.{each, each_after}
+use Rattle.script_tokens.specs.Each.{each, each_after}
 use Rattle.cert_text.proofs.reading.each_number.Given as goal
 
 abbrev pub invariant-loop-word : goal.invariant-loop-word

@@ -1,4 +1,4 @@
-use Rattle.std.proofs.Common.{◌+◌, [], ◌∷◌, arith, subst, sym, take}
+use Rattle.std.proofs.Common.{[], ◌∷◌, arith, subst, sym, take}
 use Rattle.std.proofs.lemmas.List.{take_all}
 use Rattle.found_plan.specs.Marked.{TellsMarks}
 use Rattle.found_plan.proofs.LoopSteps.{take_one}

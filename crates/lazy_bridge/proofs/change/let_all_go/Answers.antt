@@ -1,9 +1,9 @@
 use Rattle.std.proofs.Common.{◌≡◌, ap, subst, sym, ◌∙◌}
 use Rattle.std.specs.Prelude.{All}
 use Rattle.std.specs.FinMap as finite
-use Rattle.boxes.specs.Boxed.{families_of}
+use Rattle.bridge_set.specs.Boxed.{families_of}
 use Rattle.bridge_face.specs.State.{State}
-use Rattle.boxes.specs.Sound.{families_stay}
+use Rattle.bridge_set.specs.Sound.{families_stay}
 use Rattle.solver_store.specs.SolverModel.{Leaves}
 use Rattle.lazy_bridge.proofs.Empty.{its_calls, names_none, none_kept}
 use Rattle.lazy_bridge.proofs.change.let_all_go.Goals as goal

@@ -2,7 +2,7 @@ use Rattle.std.proofs.Common.{subst, sym, ◌∙◌}
 use Rattle.std.specs.Prelude.{List}
 use Rattle.fresh_bridging.specs.Leaves.{leaf_model_of}
 use Rattle.item_core.specs.declared.item.Item.{Item}
-use Rattle.leaf_change.specs.Splice.{IsChangedTo}
+use Rattle.leaf_update.specs.Splice.{IsChangedTo}
 use Rattle.lazy_bridge.specs.Plans.{with_exprs}
 use Rattle.lazy_bridge.proofs.Putting.{changed_since}
 use Rattle.lazy_bridge.proofs.change.put_model.Goals as goal

@@ -9,7 +9,7 @@ loop-func-preserved c =
     let all = c.args.funcs.now in
     let l = c.loop-func in
     let noted = c.note_terms.ensures in (
-      noting_more (function_names c.args.item) all (drop l.func-index all)
+      noting_more (function_names c.args.item) c.args.noted all (drop l.func-index all)
           (drop (l.func-index + 1) all) c.func-item.result c.args.map.now.noted l.map.noted
           c.note_terms.new.map.noted l.invariant.0
           (next_item all all l.func-index c.func-item.result (λ i. all) c.func-item.is
@@ -25,5 +25,5 @@ pub returns-clause-noted : goal.returns-clause-noted
 returns-clause-noted c =
     let all = c.args.funcs.now in
     let l = c.loop-func in
-    functions_done c.args.item all (drop l.func-index all) c.args.map.now.noted l.map.noted
+    functions_done c.args.item c.args.noted all (drop l.func-index all) c.args.map.now.noted l.map.noted
     l.invariant.0 (drop_all l.func-index all (omega (arith, c.loop-func-test.false)))

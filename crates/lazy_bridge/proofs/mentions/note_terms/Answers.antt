@@ -8,7 +8,7 @@ pub returns-clause-noted : goal.returns-clause-noted
 returns-clause-noted c =
     let all = terms_of c.args.func.now in
     let l = c.loop-var in
-    terms_done c.args.item c.args.func.now (drop l.var-index all) c.args.map.now.noted
+    terms_done c.args.item c.args.noted c.args.func.now (drop l.var-index all) c.args.map.now.noted
     l.map.noted l.invariant.0
     (subst (λ ts. drop l.var-index ts ≡ []) c.terms-var-items.ensures.all
     (drop_all l.var-index c.terms-var-items.result.now (omega (arith, c.loop-var-test.false))))

@@ -1,6 +1,6 @@
 use Rattle.std.proofs.Common.{◌≡◌, ℕ, Option, sym, ap, subst}
 use Rattle.std.specs.Option.{option_copied, option_map}
-use Rattle.numbered.specs.Numbered.{find}
+use Rattle.numbered_list.specs.Numbered.{find}
 use Rattle.user_model.specs.declared.row.Row.{Row}
 use Rattle.model_catalog.specs.Index.{counted, variable_number}
 use Rattle.model_catalog.proofs.Counts.{missing_counted}

@@ -1,5 +1,5 @@
 use Rattle.std.proofs.Common.{◌∙◌, arith}
-use Rattle.numbered.specs.ExchangeLaws.{one_more, done}
+use Rattle.numbered_list.specs.ExchangeLaws.{one_more, done}
 use Rattle.user_model.specs.Edited.{row_number}
 use Rattle.model_catalog.proofs.RowLoop.{counts_now, counts_after}
 use Rattle.model_catalog.proofs.index.exchange_rows.Goals as goal

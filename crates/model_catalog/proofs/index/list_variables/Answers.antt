@@ -1,5 +1,5 @@
 use Rattle.std.proofs.Common.{arith, ap, ◌∙◌}
-use Rattle.numbered.specs.Numbered.{find, set_at}
+use Rattle.numbered_list.specs.Numbered.{find, set_at}
 use Rattle.model_catalog.specs.declared.names.NameChange.{NameChange}
 use Rattle.model_catalog.specs.Index.{given_variable, variable_number}
 use Rattle.model_catalog.proofs.Listings.{listed_more}

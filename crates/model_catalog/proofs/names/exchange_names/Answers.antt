@@ -1,5 +1,5 @@
 use Rattle.std.proofs.Common.{map, sym, ap, subst, ◌∙◌}
-use Rattle.numbered.specs.Numbered.{Rise}
+use Rattle.numbered_list.specs.Numbered.{Rise}
 use Rattle.model_catalog.specs.Names.{listed_number, name_of, put_aside, settled}
 use Rattle.model_catalog.proofs.Found.{Rise-map}
 use Rattle.model_catalog.proofs.NameLoops.{free_aside, renamed_aside, settled_aside}

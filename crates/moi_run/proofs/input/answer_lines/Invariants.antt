@@ -4,7 +4,7 @@ use Rattle.moi_run.specs.Tally.{tally_of}
 use Rattle.io_face.specs.Told.{told_by}
 use Rattle.moi_run.proofs.Standing.{Standing}
 use Rattle.moi_run.proofs.input.answer_lines.Given as goal
-use Rattle.script_lines.specs.Reading.{allowance}
+use Rattle.line_reader.specs.Reading.{allowance}
 
 abbrev pub invariant-answering : goal.invariant-answering
 invariant-answering g l = record {

@@ -1,7 +1,7 @@
 use Rattle.std.proofs.Common.{◌≡◌}
 use Rattle.std.specs.Vec.Iter.{into_iter_items}
 use Rattle.script_core.specs.Sums.{function_of, functions_of}
-use Rattle.script_words.specs.Each.{each_after}
+use Rattle.script_tokens.specs.Each.{each_after}
 use Rattle.script_core.proofs.function.sum_components.Given as goal
 
 abbrev pub invariant-loop-terms : goal.invariant-loop-terms

@@ -1,8 +1,7 @@
-use Rattle.std.proofs.Common.{ap, ◌≡◌, ◌∙◌}
+use Rattle.std.proofs.Common.{ap, ◌∙◌}
 use Rattle.std.proofs.lemmas.List.{get_or-set_other, get_or-set_same, get_or_default}
 use Rattle.ratio_core.specs.Rational.{Fits, sum_fits, zero_ℚ, ◌+ℚ◌}
 use Rattle.std.proofs.Common.{subst, sym}
-use Rattle.tableau_core.specs.Row.{cell}
 use Rattle.tableau_core.specs.TermSteps.{on_ok}
 use Rattle.tableau_core.proofs.RowSteps.{set_fits}
 use Rattle.tableau_core.proofs.start.add_at.Goals as goal

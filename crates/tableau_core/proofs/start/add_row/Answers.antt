@@ -1,4 +1,4 @@
-use Rattle.std.proofs.Common.{ap, arith, drop, inl, length, refl, subst, sym, ◌≡◌, ◌∙◌, ◌+◌, ◌-◌, ◌<◌, ◌≤◌, ◌∷◌}
+use Rattle.std.proofs.Common.{ap, arith, drop, inl, refl, subst, sym, ◌∙◌, ◌+◌, ◌-◌, ◌∷◌}
 use Rattle.std.proofs.Math.ListN.{drop_of_length-le}
 use Rattle.std.proofs.lemmas.List.{drop_more}
 use Rattle.ratio_core.specs.Rational.{sum_fits, ◌+ℚ◌}

@@ -1,4 +1,4 @@
-use Rattle.std.proofs.Common.{arith, length, ◌≡◌, ◌∙◌, ◌+◌, ◌<◌, ◌≤◌}
+use Rattle.std.proofs.Common.{arith, ◌∙◌, ◌+◌}
 use Rattle.tableau_core.proofs.start.fill_row.Goals as goal
 
 pub put_row-requires-clause-zeros : goal.put_row-requires-clause-zeros

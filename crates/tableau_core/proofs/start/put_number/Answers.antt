@@ -1,4 +1,3 @@
-use Rattle.std.proofs.Common.{◌≡◌}
 use Rattle.std.proofs.lemmas.List.{get_or-set_other, get_or-set_same}
 use Rattle.ratio_core.specs.Rational.{zero_ℚ}
 use Rattle.tableau_core.proofs.RowSteps.{set_fits}

@@ -1,6 +1,5 @@
-use Rattle.std.proofs.Common.{arith, drop, length, refl, sym, subst, ◌≡◌, ◌+◌, ◌-◌, ◌<◌, ◌≤◌, ◌∷◌}
-use Rattle.ratio_core.specs.Rational.{Rational}
-use Rattle.tableau_core.specs.TermSteps.{IsDoneTo, at_end, at_term, done_all, done_more, done_none, term_past, term_within}
+use Rattle.std.proofs.Common.{arith, drop, refl, sym, ◌+◌, ◌-◌}
+use Rattle.tableau_core.specs.TermSteps.{at_end, at_term, done_all, done_more, done_none, term_past, term_within}
 use Rattle.tableau_core.proofs.start.put_row.Goals as goal
 
 pub loop-term-init : goal.loop-term-init

@@ -1,5 +1,4 @@
 use Rattle.std.proofs.Common.{drop}
-use Rattle.ratio_core.specs.Rational.{Rational}
 use Rattle.tableau_core.specs.Row.{AllFit}
 use Rattle.tableau_core.specs.TermSteps.{IsDoneTo}
 use Rattle.tableau_core.proofs.start.put_row.Given as goal

@@ -1,4 +1,4 @@
-use Rattle.std.proofs.Common.{ap, length, subst, sym, ◌≡◌, ◌∙◌, ◌+◌}
+use Rattle.std.proofs.Common.{ap, length, subst, sym, ◌∙◌, ◌+◌}
 use Rattle.std.proofs.lemmas.List.{with_items_is}
 use Rattle.std.proofs.lemmas.Result.{IfOk-weaker}
 use Rattle.tableau_core.specs.Row.{AllFit, cell}

@@ -1,7 +1,7 @@
 use Rattle.std.proofs.Common.{◌≡◌, ◌++◌, ◌∷◌, [], rules, ap, flat_map}
 use Rattle.std.proofs.lemmas.List.{nil_from_length}
 use Rattle.std.proofs.lemmas.Result.{IfOk-weaker}
-use Rattle.touched_items.specs.FirstLaws.{HasFirst, all_taken, listed_first}
+use Rattle.touched_items.specs.FirstLaws.{all_taken, listed_first}
 use Rattle.touched_items.proofs.Loops.{undo_taken}
 use Rattle.touched_items.proofs.listed.list_groups.Goals as goal
 

@@ -1,6 +1,6 @@
 use Rattle.std.proofs.Common.{◌≡◌, ◌≤◌, ◌+◌, map, take}
 use Rattle.fresh_bridging.specs.ModelImage.{group_item}
-use Rattle.numbered.specs.Numbered.{find}
+use Rattle.numbered_list.specs.Numbered.{find}
 use Rattle.user_model.specs.Edited.{group_number}
 use Rattle.touched_items.specs.SideLaws.{AreSidesOf}
 use Rattle.touched_items.proofs.separating.separate_groups.Given as goal

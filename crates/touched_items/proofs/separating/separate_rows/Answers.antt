@@ -1,8 +1,8 @@
 use Rattle.std.proofs.Common.{arith, ap, ◌∙◌, map}
 use Rattle.fresh_bridging.specs.ModelImage.{row_item}
 use Rattle.model_store.specs.Reading.{ReadModel}
-use Rattle.numbered.specs.Laws.{IsAt-find}
-use Rattle.numbered.specs.Numbered.{find}
+use Rattle.numbered_list.specs.Laws.{IsAt-find}
+use Rattle.numbered_list.specs.Numbered.{find}
 use Rattle.std.specs.Option.{option_copied}
 use Rattle.user_model.specs.Edited.{row_number}
 use Rattle.user_model.specs.Model.{ModelValue}

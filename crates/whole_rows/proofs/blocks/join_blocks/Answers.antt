@@ -1,5 +1,5 @@
-use Rattle.std.proofs.Common.{refl, rules, ◌<◌, length}
-use Rattle.whole_rows.proofs.BlockSteps.{joins_more, joins_none}
+use Rattle.std.proofs.Common.{refl}
+use Rattle.whole_rows.proofs.BlockSteps.{joins_none}
 use Rattle.whole_rows.proofs.blocks.join_blocks.Goals as goal
 
 pub loop-b-init : goal.loop-b-init

@@ -2,7 +2,7 @@ use Rattle.std.proofs.Common.{◌<◌, ◌≡◌, ◌∙◌, ℕ, ℤ, FitsSigne
 use Rattle.std.proofs.lemmas.Int.{to_z-of_z}
 use Rattle.std.specs.Int.{◌∣◌}
 use Rattle.whole_rows.specs.Numerators.{AreDivided}
-use Rattle.whole_rows.proofs.ListedDividingSteps.{divided_all, divided_by_one, divided_next, divided_none}
+use Rattle.whole_rows.proofs.ListedDividingSteps.{divided_all, divided_next, divided_none}
 use Rattle.whole_rows.proofs.dividing.divide_numbers.Goals as goal
 
 apart_lem : (x y : ℕ) → x < y → x ≡ y → ⊥

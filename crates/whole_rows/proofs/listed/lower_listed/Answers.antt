@@ -1,7 +1,7 @@
-use Rattle.std.proofs.Common.{◌<◌, ◌≡◌, ◌∙◌, ℕ, ℤ, FitsSigned, pos, rules, slice_index, slice_index_or, subst, sym, to_z, of_z, w64, length, arith}
+use Rattle.std.proofs.Common.{◌<◌, ◌≡◌, ◌∙◌, ℕ, ℤ, FitsSigned, pos, rules, slice_index, slice_index_or, subst, sym, to_z, of_z, w64, arith}
 use Rattle.std.proofs.lemmas.Int.{to_z-of_z}
 use Rattle.whole_rows.specs.Listed.{IsLoweredAt, lowered_once}
-use Rattle.whole_rows.proofs.ListedSteps.{less_fits, listed_all, listed_more, listed_none}
+use Rattle.whole_rows.proofs.ListedSteps.{less_fits, listed_all, listed_more}
 use Rattle.whole_rows.proofs.listed.lower_listed.Goals as goal
 
 apart_lem : (x y : ℕ) → x < y → x ≡ y → ⊥

@@ -1,4 +1,4 @@
-use Rattle.std.proofs.Common.{arith, refl, rules, slice_set, slice_index_or, ◌+◌, ◌≡◌, pos, subst, sym, ◌∙◌}
+use Rattle.std.proofs.Common.{arith, refl, rules, slice_set, slice_index_or, ◌+◌, ◌≡◌, pos, subst, sym}
 use Rattle.whole_rows.proofs.BlockSteps.{skipped_zero}
 use Rattle.whole_rows.proofs.ListedSteps.{IsNotedTo, noted_all, noted_here, noted_none, noted_past, noted_skip}
 use Rattle.whole_rows.proofs.listed.note_columns.Goals as goal

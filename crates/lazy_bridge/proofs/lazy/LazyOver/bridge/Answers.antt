@@ -1,7 +1,7 @@
 use Rattle.std.proofs.Common.{subst, sym}
 use Rattle.fresh_bridging.specs.TheRules.{Setting}
 use Rattle.lazy_bridge.specs.Plans.{IsPuttable}
-use Rattle.lazy_bridge.proofs.Pushing.{bridged}
+use Rattle.lazy_bridge.proofs.Rebridging.{bridged}
 use Rattle.lazy_bridge.proofs.Putting.{leaves_both, tried_leaves}
 use Rattle.lazy_bridge.proofs.lazy.LazyOver.bridge.Goals as goal
 

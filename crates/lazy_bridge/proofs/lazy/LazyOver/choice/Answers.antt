@@ -1,6 +1,6 @@
 use Rattle.std.proofs.Common.{subst, sym}
 use Rattle.item_core.specs.Kind.{kind_number}
-use Rattle.boxes.specs.Boxed.{setting_of}
+use Rattle.bridge_set.specs.Boxed.{setting_of}
 use Rattle.fresh_bridging.specs.TheRules.{IsChoice, graph_of}
 use Rattle.lazy_bridge.specs.Owned.{Owned, setting_in}
 use Rattle.lazy_bridge.proofs.lazy.LazyOver.choice.Goals as goal

@@ -1,4 +1,4 @@
-use Rattle.lazy_bridge.proofs.Pushing.{bridged}
+use Rattle.lazy_bridge.proofs.Rebridging.{bridged}
 use Rattle.lazy_bridge.proofs.Putting.{nothing_tried, tried_leaves}
 use Rattle.lazy_bridge.proofs.lazy.LazyOver.fill.Goals as goal
 

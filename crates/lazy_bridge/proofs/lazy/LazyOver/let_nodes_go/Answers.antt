@@ -2,8 +2,8 @@ use Rattle.std.proofs.Common.{◌≡◌, ap, refl, subst, sym, ◌∙◌}
 use Rattle.std.specs.Prelude.{All}
 use Rattle.std.specs.FinMap as finite
 use Rattle.bridge_face.specs.State.{State}
-use Rattle.boxes.specs.Boxed.{families_of}
-use Rattle.boxes.specs.Sound.{families_stay}
+use Rattle.bridge_set.specs.Boxed.{families_of}
+use Rattle.bridge_set.specs.Sound.{families_stay}
 use Rattle.lazy_bridge.specs.Owned.{HasLeavesOf, Owned}
 use Rattle.lazy_bridge.proofs.Empty.{none_kept}
 use Rattle.lazy_bridge.proofs.lazy.LazyOver.let_nodes_go.Goals as goal

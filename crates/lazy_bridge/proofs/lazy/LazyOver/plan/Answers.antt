@@ -1,10 +1,10 @@
 use Rattle.std.proofs.Common.{ap, refl, subst}
 use Rattle.std.specs.Prelude.{Ok, Err}
-use Rattle.boxes.specs.Boxed.{families_of}
+use Rattle.bridge_set.specs.Boxed.{families_of}
 use Rattle.bridge_plan.specs.Means.{Means}
 use Rattle.lazy_bridge.specs.Owned.{Owned}
 use Rattle.lazy_bridge.specs.Pushed.{IsPlannedBy, IsTried}
-use Rattle.lazy_bridge.proofs.Pushing.{can_be_put, no_overflow, refused}
+use Rattle.lazy_bridge.proofs.Rebridging.{can_be_put, no_overflow, refused}
 use Rattle.lazy_bridge.proofs.lazy.LazyOver.plan.Goals as goal
 
 pub returns-in-Ok-clause-planned : goal.returns-in-Ok-clause-planned

@@ -1,5 +1,5 @@
 use Rattle.std.proofs.Common.{arith, ap, map, subst, ◌∙◌}
-use Rattle.boxes.specs.Boxed.{keeping}
+use Rattle.bridge_set.specs.Boxed.{keeping}
 use Rattle.leaf_model.specs.LeafModel.{IsChanged}
 use Rattle.lazy_bridge.specs.Few.{ChangesFew}
 use Rattle.lazy_bridge.specs.Owned.{Owned, leaf_model_in}

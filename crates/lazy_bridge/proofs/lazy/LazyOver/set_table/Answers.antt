@@ -1,5 +1,5 @@
 use Rattle.std.proofs.Common.{◌∙◌}
-use Rattle.lazy_bridge.proofs.Pushing.{few_on, set_back, set_on}
+use Rattle.lazy_bridge.proofs.Rebridging.{few_on, set_back, set_on}
 use Rattle.lazy_bridge.proofs.lazy.LazyOver.set_table.Goals as goal
 
 pub returns-in-Ok-clause-bridged : goal.returns-in-Ok-clause-bridged

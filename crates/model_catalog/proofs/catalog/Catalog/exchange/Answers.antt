@@ -1,8 +1,8 @@
 use Rattle.std.proofs.Common.{◌≡◌, ℕ, List, length, refl, ap, ◌∙◌, arith}
 use Rattle.std.specs.Prelude.{unwrap_or}
 use Rattle.std.proofs.lemmas.List.{with_items_is}
-use Rattle.numbered.specs.declared.change.Change.{Change}
-use Rattle.numbered.specs.Changes.{added}
+use Rattle.numbered_list.specs.declared.change.Change.{Change}
+use Rattle.numbered_list.specs.Changes.{added}
 use Rattle.user_model.specs.declared.group.Group.{Group}
 use Rattle.user_model.specs.declared.row.Row.{Row}
 use Rattle.user_model.specs.Edited.{group_number, row_number}

@@ -1,5 +1,5 @@
 use Rattle.std.proofs.Common.{List, ap, ◌∙◌}
-use Rattle.numbered.specs.Numbered.{find}
+use Rattle.numbered_list.specs.Numbered.{find}
 use Rattle.user_model.specs.declared.group.Group.{Group}
 use Rattle.user_model.specs.Edited.{group_number}
 use Rattle.model_catalog.specs.declared.variable.Variable.{Variable}

@@ -1,5 +1,5 @@
 use Rattle.std.proofs.Common.{List, None, Some, ap, ◌∙◌}
-use Rattle.numbered.specs.Numbered.{find}
+use Rattle.numbered_list.specs.Numbered.{find}
 use Rattle.user_model.specs.declared.row.Row.{Row}
 use Rattle.user_model.specs.Edited.{row_number}
 use Rattle.model_catalog.proofs.Models.{row_looked_up}

@@ -1,8 +1,7 @@
-use Rattle.std.proofs.Common.{◌+◌, ◌*◌, ◌<◌, ◌≡◌, ◌∙◌, ap, arith, length, subst, sym}
+use Rattle.std.proofs.Common.{◌+◌, ◌≡◌, ◌∙◌, ap, length, subst, sym}
 use Rattle.simplex_form.specs.Search.{best_below}
 use Rattle.sparse_board.specs.Kept.{columns_of}
 use Rattle.sparse_board.specs.Leaving.{leaves_before, may_leave}
-use Rattle.sparse_board.specs.Marks.{AreMarked}
 use Rattle.sparse_board.specs.Rows.{AreWide}
 use Rattle.sparse_board.proofs.BoardSteps.{column_within, leaving_is, leaving_row, vec_count}
 use Rattle.sparse_board.proofs.board.BoardTableau.leaving.Goals as goal

@@ -1,9 +1,0 @@
-use Rattle.std.proofs.Common.{map}
-use Rattle.bridge_face.specs.State.{all_gone}
-use Rattle.map_laws.specs.LoopLaws.{IsPast}
-use Rattle.boxes.proofs.places.clear_all.Given as goal
-
-abbrev pub invariant-loop-bridge : goal.invariant-loop-bridge
-invariant-loop-bridge g l =
-    IsPast all_gone (map g.B.Bridge.state l.initial.bridges) (map g.B.Bridge.state l.bridges)
-    l.bridge-index

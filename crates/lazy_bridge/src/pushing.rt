@@ -1,0 +1,241 @@
+//! An edit of a bridged model: what it touches is planned, and then put in the place of what was held.
+ghost use Rattle.std.specs.Prelude.{◌≡◌, ◌≤◌, ◌+◌, IfOk, OnOk, None, length};
+ghost use Rattle.bridge_set.specs.Boxed.{means_of, setting_of};
+ghost use Rattle.bridge_set.specs.Turns.{turns_of};
+ghost use Rattle.lazy_bridge.specs.Steps.{AreGroupsOf, IsChangedOf, IsEditOf, IsFoundBy, IsHeldBy, IsMadeBy, IsPassedBy, IsPlannedOf, IsPushedTo, IsStart, parts_of};
+ghost use Rattle.local_laws.specs.Unlisted.{LeadBackTo, entries_of};
+ghost use Rattle.push_laws.specs.Edits.{Edit, IsMappedAnew, missing_groups};
+ghost use Rattle.touched_items.specs.DifferenceLaws.{HasDifferences};
+ghost use Rattle.user_model.specs.Model.{ModelValue};
+
+use crate::expressing::{express_groups, forget_groups};
+use crate::mentions::note_contents;
+use address_map::AddressMap;
+use aff_core::Address;
+use bridge_face::Bridge;
+use bridge_plan::{Plan, Standing};
+use bridge_set::Boxes;
+use found_plan::{check_found, old_leaves, standing_for};
+use leaf_update::{change_leaves, gone_among};
+use lists::Memory;
+use model_bridging::{PushFault, check_found_groups, plan_found_groups, plan_found_others};
+use model_store::{Reading, Undo};
+use solver_store::SolverModel;
+use std::alloc::Global;
+use touched_items::{
+    Differing, Found, changed_variables, compare_listed, find_items, list_undos, own_variables,
+};
+
+// What is planned of all that an edit touches.
+#[derive(Drop)]
+pub(crate) struct Planned {
+    // the addresses of these items, in their order
+    pub(crate) found: Vec<Address>,
+    // their leaves and nodes
+    pub(crate) plan: Plan,
+    // what stands for the variables of the groups that differ
+    pub(crate) standing: Standing,
+}
+
+// Bridges the model that is read in place of the one to which undos lead back, of which the fresh
+// bridging stands. The answer is the number of addresses at which the leaves differ. After `Memory`
+// some of this may be done.
+pub(crate) fn push_touched<'a, B: Bridge>(
+    alloc: Global,
+    boxes: &mut Boxes<B>,
+    solver: &mut SolverModel,
+    map: &mut AddressMap,
+    objective_at: &mut Address,
+    after: &mut Reading<'a>,
+    undos: &'a [Undo],
+) -> Result<u128, PushFault>
+    requires { (model : ModelValue) × IsStart boxes.old solver.old map.old objective_at.old model
+        undos.now after.old.model }
+    ensures pushed { (model : ModelValue)
+        → (start : IsStart boxes.old solver.old map.old objective_at.old model undos.now
+        after.old.model)
+        → IsPushedTo (parts_of boxes.old solver.old map.old objective_at.old after.old.reads) model
+        undos.now after.old.model start result
+        (parts_of boxes.new solver.new map.new objective_at.new after.new.reads) }
+    ensures model { after.new.model ≡ after.old.model }
+{
+    let differing = find_differing(alloc, after, undos)?;
+    let planned = plan_touched(alloc, boxes, map, after, &differing)?;
+    let changed = change_touched(alloc, boxes, solver, map, objective_at, &differing, planned)?;
+    Ok(changed)
+}
+
+// The items that differ from what they were before undos, which are read once each.
+fn find_differing<'a>(
+    alloc: Global,
+    reading: &mut Reading<'a>,
+    undos: &'a [Undo],
+) -> Result<Differing<'a>, Memory>
+    requires { (model : ModelValue) × LeadBackTo model undos.now reading.old.model }
+    ensures differs { IfOk result (λ d. (model : ModelValue)
+        → LeadBackTo model undos.now reading.old.model
+        → HasDifferences model reading.old.model d) }
+    ensures model { reading.new.model ≡ reading.old.model }
+    ensures reads { OnOk result (reading.new.reads ≤ reading.old.reads + entries_of undos.now) }
+{
+    let listed = list_undos(alloc, undos)?;
+    compare_listed(alloc, reading, &listed)
+}
+
+// Plans what an edit touches, and changes nothing but the boxes' turns.
+fn plan_touched<'a, B: Bridge>(
+    alloc: Global,
+    boxes: &mut Boxes<B>,
+    map: &AddressMap,
+    reading: &mut Reading<'a>,
+    differing: &Differing<'a>,
+) -> Result<Planned, PushFault>
+    requires { (e : Edit) × IsEditOf e boxes.old map.now reading.old.model differing.now }
+    ensures made { (e : Edit) → IsEditOf e boxes.old map.now reading.old.model differing.now
+        → IsMadeBy e result }
+    ensures means { means_of boxes.new ≡ means_of boxes.old }
+    ensures turns { IfOk result (λ planned. turns_of boxes.new.states
+        ≤ turns_of boxes.old.states + length planned.plan.nodes.items) }
+    ensures model { reading.new.model ≡ reading.old.model }
+    ensures reads { IfOk result (λ planned. reading.new.reads
+        ≤ reading.old.reads + length planned.found.items) }
+{
+    check_found_groups(alloc, boxes, &differing.after.groups)?;
+    let mut plan = Plan::new(alloc);
+    let entries = match plan_found_groups(alloc, boxes, &mut plan, &differing.after.groups) {
+        Ok(entries) => entries,
+        Err(fault) => {
+            check_all(alloc, boxes, map, reading, differing)?;
+            return Err(fault);
+        }
+    };
+    let standing = Standing::of(alloc, entries)?;
+    let found = plan_found(alloc, boxes, map, reading, differing, &standing, &mut plan)?;
+    Ok(Planned {
+        found,
+        plan,
+        standing,
+    })
+}
+
+// Plans the rows and the objective that the search finds, after the groups that differ. The answer is
+// the addresses of all that is found.
+fn plan_found<'a, B: Bridge>(
+    alloc: Global,
+    boxes: &mut Boxes<B>,
+    map: &AddressMap,
+    reading: &mut Reading<'a>,
+    differing: &Differing<'a>,
+    standing: &Standing,
+    plan: &mut Plan,
+) -> Result<Vec<Address>, PushFault>
+    requires { (e : Edit) × IsEditOf e boxes.old map.now reading.old.model differing.now
+        × AreGroupsOf e standing.now plan.old }
+    ensures made { (e : Edit) → IsEditOf e boxes.old map.now reading.old.model differing.now
+        → AreGroupsOf e standing.now plan.old
+        → IsFoundBy result (λ found. found.items) e standing.now plan.new }
+    ensures means { means_of boxes.new ≡ means_of boxes.old }
+    ensures turns { OnOk result (turns_of boxes.new.states + length plan.old.nodes.items
+        ≤ turns_of boxes.old.states + length plan.new.nodes.items) }
+    ensures model { reading.new.model ≡ reading.old.model }
+    ensures reads { IfOk result (λ found. reading.new.reads
+        ≤ reading.old.reads + length found.items) }
+{
+    let groups = &differing.after.groups;
+    let vars = own_variables(alloc, differing)?;
+    let changed = changed_variables(alloc, map, standing, &vars)?;
+    let found = find_items(alloc, reading, map, differing, &changed)?;
+    check_found(alloc, boxes, map, groups, &found.rows, found.objective)?;
+    let mut inner = standing_for(alloc, standing, map, groups, &found.rows, found.objective)?;
+    plan_found_others(alloc, boxes, plan, &mut inner, &found.rows, found.objective)?;
+    let Found { addresses, .. } = found;
+    Ok(addresses)
+}
+
+// Refuses the first item without a tree, where a number of the groups doesn't fit: items are found by
+// all variables of the groups that differ.
+fn check_all<'a, B: Bridge>(
+    alloc: Global,
+    boxes: &Boxes<B>,
+    map: &AddressMap,
+    reading: &mut Reading<'a>,
+    differing: &Differing<'a>,
+) -> Result<(), PushFault>
+    ensures passed { (e : Edit) → IsEditOf e boxes.now map.now reading.old.model differing.now
+        → missing_groups e ≡ None → IsPassedBy e result }
+    ensures model { reading.new.model ≡ reading.old.model }
+{
+    let vars = own_variables(alloc, differing)?;
+    let found = find_items(alloc, reading, map, differing, &vars)?;
+    check_found(
+        alloc,
+        boxes,
+        map,
+        &differing.after.groups,
+        &found.rows,
+        found.objective,
+    )
+}
+
+// Puts what is planned in the place of what was held. The answer is the number of addresses at which
+// the leaves differ. After `Memory` some of this may be done.
+fn change_touched<B: Bridge>(
+    alloc: Global,
+    boxes: &mut Boxes<B>,
+    solver: &mut SolverModel,
+    map: &mut AddressMap,
+    objective_at: &mut Address,
+    differing: &Differing<'_>,
+    planned: Planned,
+) -> Result<u128, Memory>
+    requires { (e : Edit)
+        × IsHeldBy e boxes.old solver.old map.old objective_at.old differing.now
+        × IsPlannedOf e planned.standing planned.found.items planned.plan }
+    ensures changed { IfOk result (λ n. (e : Edit)
+        → IsHeldBy e boxes.old solver.old map.old objective_at.old differing.now
+        → (made : IsPlannedOf e planned.standing planned.found.items planned.plan)
+        → IsChangedOf e made.step boxes.old solver.old map.old objective_at.old n
+        boxes.new solver.new map.new objective_at.new) }
+    ensures setting { setting_of boxes.new ≡ setting_of boxes.old }
+{
+    let Planned {
+        found,
+        plan,
+        standing,
+    } = planned;
+    let Plan { leaves, nodes } = plan;
+    let old_nodes = boxes.list_nodes(alloc, &found)?;
+    let old_leaves = old_leaves(
+        alloc,
+        map,
+        solver,
+        objective_at,
+        &differing.before.groups,
+        &found,
+    )?;
+    let gone = gone_among(alloc, &old_leaves, &leaves)?;
+    boxes.let_each_go(old_nodes.as_slice());
+    let changed = change_leaves(alloc, solver, map, objective_at, &gone, &leaves)?;
+    boxes.keep_each(nodes)?;
+    change_entries(map, differing, &standing)?;
+    Ok(changed)
+}
+
+// Sets anew what the map has of the items that differ: the expressions of their variables, and what
+// they mention.
+fn change_entries(
+    map: &mut AddressMap,
+    differing: &Differing<'_>,
+    standing: &Standing,
+) -> Result<(), Memory>
+    ensures anew { OnOk result ((e : Edit) → map.old.exprs ≡ e.places.exprs
+        → map.old.kept ≡ e.places.kept → map.old.noted ≡ e.places.noted
+        → differing.now ≡ e.d → IsMappedAnew e standing.now map.new) }
+    ensures vars { map.new.vars ≡ map.old.vars }
+    ensures rows { map.new.rows ≡ map.old.rows }
+{
+    forget_groups(map, &differing.before.groups);
+    express_groups(map, standing, &differing.after.groups)?;
+    note_contents(map, &differing.before, false)?;
+    note_contents(map, &differing.after, true)
+}

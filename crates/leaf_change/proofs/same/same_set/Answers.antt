@@ -1,5 +1,0 @@
-use Rattle.leaf_change.proofs.SameParts.{sets_same}
-use Rattle.leaf_change.proofs.same.same_set.Goals as goal
-
-pub returns : goal.returns
-returns c = sets_same c.args.one.now c.args.other.now c.eq.result c.eq.ensures
