@@ -18,12 +18,12 @@ ghost use Rattle.user_model.specs.Edited.{edited};
 
 use crate::bridging::fill;
 use crate::edits::{edit_alone, edit_bridged, table_bridged};
-use crate::loading::load_all;
 use crate::optimize::optimize;
 use crate::{AttachFault, Certificate, EditFault, NotAttached, OptFault};
 use bridge_face::Bridge;
 use item_core::Table;
 use lazy_bridge::LazyOver;
+use model_load::load_all;
 use model_store::UserModel;
 use std::alloc::Global;
 use std::marker::Model;

@@ -1,6 +1,6 @@
 //! The verdict on the files of a model and of a certificate.
 ghost use Rattle.std.specs.Prelude.{◌≡◌, ◌≢◌, [], ◌∷◌, Result, Ok, IfOk, OnOk};
-ghost use Rattle.cache_layer.specs.Answers.{after_edits};
+ghost use Rattle.model_load.specs.Loads.{after_edits};
 ghost use Rattle.certificates.specs.Points.{variables_of};
 ghost use Rattle.cert_text.specs.Reading.{certificate_of};
 ghost use Rattle.cert_text.specs.ReadsBack.{HasItsEntries};
@@ -11,18 +11,18 @@ ghost use Rattle.io_face.specs.Told.{told_by};
 ghost use Rattle.user_model.specs.Model.{empty_model};
 
 use crate::verdict_text::yes_or_no;
-use cache_layer::{Certificate, load_all};
-use cert_core::check;
+use cert_core::{Certificate, check};
 use cert_text::read;
-use edit_engine::{Answer, tell_fault};
+use file_answers::tell_fault;
 use io_face::{FetchFault, Shelf};
 use lists::Memory;
+use model_load::load_all;
 use model_store::UserModel;
 use mof_fetch::fetch_edits;
 use mof_read::Edits;
 use name_index::Name;
 use ratio_core::NumberFault;
-use report_core::{Place, Refused, refusal};
+use report_core::{Answer, Place, Refused, refusal};
 use std::alloc::Global;
 use user_model::{ApplyFault, Edit};
 

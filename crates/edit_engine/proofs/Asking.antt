@@ -5,7 +5,7 @@ use Rattle.std.proofs.Common.{sym, ap, subst, inl, inr, ◌∙◌, true≢false}
 use Rattle.std.proofs.lemmas.Bool.{cases_Bool}
 use Rattle.lists.specs.declared.memory.Memory.{Memory as NoMemory}
 use Rattle.cache_layer.specs.State.{State}
-use Rattle.edit_engine.specs.AskingLaws.{on_ok}
+use Rattle.file_answers.specs.AskingLaws.{on_ok}
 use Rattle.edit_engine.specs.Lines.{is_load, line_asks, load_asks, said_asks, says_load}
 use Rattle.edit_engine.specs.LinesLaws.{does_fit, fetches}
 use Rattle.edit_engine.specs.Script.{DoesSaid, Machine, Makes}
