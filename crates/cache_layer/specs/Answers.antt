@@ -45,7 +45,7 @@ IsLoaded old edits (Err Memory) new = new ≡ old
 IsLoaded old edits (Err (Unsupported kind)) new = ⊥
 IsLoaded old edits (Err (Overflow place)) new = ⊥
 
--- a solver is attached, and has so many leaves
+-- a solver is attached, and has this number of leaves
 abbrev pub IsAttached : State → Result ℕ AttachFault → State → Type 0
 IsAttached old (Ok n) new =
     (old.attached ≡ false) × HasLeaves old n × (new ≡ attached old)

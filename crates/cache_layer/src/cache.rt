@@ -160,8 +160,8 @@ impl<B: Bridge> CacheOver<B> {
         Ok(())
     }
 
-    /// Solves the solver's model with at most so many pivots. The certificate is in the user's
-    /// rows, and good for the user's model.
+    /// Solves the solver's model with at most this number of pivots. The certificate is in the
+    /// user's rows, and good for the user's model.
     pub fn optimize(&self, pivots: u64) -> Result<Certificate, OptFault>
         ensures outcome { IsOptimized (state_of self.now) pivots result }
         ensures good { IfOk result (Good (model_in self.now)) }

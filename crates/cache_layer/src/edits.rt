@@ -32,7 +32,7 @@ pub(crate) fn edit_alone(model: &mut UserModel, edit: Edit) -> Result<(), ApplyF
     Ok(())
 }
 
-/// Makes an edit and bridges the model anew, or leaves both as they were. Where memory is wanting
+/// Makes an edit and bridges the model anew, or leaves both as they were. Where memory runs out
 /// nothing is bridged any more.
 #[tactic(auto, using(crate::specs::FewCallsLaws::few_same))]
 pub(crate) fn edit_bridged<B: Bridge>(

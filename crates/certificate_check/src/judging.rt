@@ -45,7 +45,7 @@ pub fn verdict<H: Shelf>(alloc: Global, shelf: &mut H, model: &Name, certificate
     judge_model(alloc, shelf, model, certificate).unwrap_or(Answer::Memory)
 }
 
-// The same, where want of memory is an error.
+// The same, where running out of memory is an error.
 fn judge_model<H: Shelf>(
     alloc: Global,
     shelf: &mut H,
@@ -85,7 +85,7 @@ fn judge_edits<H: Shelf>(
     judge_on(alloc, shelf, &mut model, edits.into_vec(), certificate)
 }
 
-// The same of edits on a model, which is lent, so that no way out lets go of it.
+// The same of edits on a model. It is lent, so that no way out frees it.
 fn judge_on<H: Shelf>(
     alloc: Global,
     shelf: &mut H,

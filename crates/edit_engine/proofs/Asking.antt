@@ -104,7 +104,7 @@ pub command_sound : (P : Type 0) (command : Command) → (is_load (Ok command) �
 command_sound P command loads other =
     elim (cases_Bool (is_load (Ok command))) [ inl on ↦ loads on | inr off ↦ other off ]
 
--- what holds of an answer that was made, where want of memory is one
+-- what holds of an answer that was made, where running out of memory is one
 pub asks_or : (made : Result Answer NoMemory) (result : Answer) (P : Type 0)
     → result ≡ result_unwrap_or made Memory → result ≢ Memory → OnOk made P → P
 asks_or (Ok answer) result P is other h = h

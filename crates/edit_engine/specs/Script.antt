@@ -122,7 +122,7 @@ Says s said answer new = (answer ≡ said) × (new ≡ s)
 abbrev pub Tabled : State → (Table → Table) → Step
 Tabled s change = Tells edit_answer (Becomes s (with_table s (change s.setting.table)))
 
--- the solver is let go, where one is attached
+-- the solver is detached, where one is attached
 abbrev pub Detaches : Bool → State → Step
 Detaches true s answer new = (answer ≡ done None) × (new ≡ detached s)
 Detaches false s answer new = Says s (refused NotAttached) answer new
@@ -163,7 +163,7 @@ Optimizes s pivots =
 abbrev pub file_line : ModelValue → List ℕ
 file_line model = written model ++ newline
 
--- the edits of a file are made, or it is told why there are none
+-- the edits of a file are made, or it is said why there are none
 abbrev pub LoadsEdits : State → Result (List Edit) FileFault → Step
 LoadsEdits s (Ok edits) = Tells load_answer (IsLoaded s edits)
 LoadsEdits s (Err fault) = Says s (fault_answer fault)
@@ -206,7 +206,7 @@ DoesLine m line = DoesSaid m (line_said line)
 abbrev pub Steps : Machine → List ℕ → Answer → Machine → Type 0
 Steps old line answer new = DoesLine old line answer new.state × (new ≡ with_state old new.state)
 
--- ---- want of memory
+-- ---- out of memory
 
 -- the state is the one before, that one without its solver, or one that the step leaves
 abbrev pub IsLeftBy : Step → State → State → Type 0

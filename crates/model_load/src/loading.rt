@@ -9,7 +9,7 @@ use model_store::{Undo, UserModel};
 use user_model::{ApplyFault, Edit};
 
 /// Makes edits in turn and for good, or none of them: where one is refused, its refusal is the
-/// answer, and where memory is wanting, the model is as it was too. On an empty model it makes the
+/// answer, and where memory runs out, the model is as it was too. On an empty model it makes the
 /// model that the edits of a file say.
 pub fn load_all(model: &mut UserModel, edits: Vec<Edit>) -> Result<(), ApplyFault>
     ensures { AreMadeBy model.old edits.items result model.new }
