@@ -1,5 +1,5 @@
 -- An answer for the leaves can be carried back from the bridging that stands, and each address that
--- is told then has a place.
+-- is reported then has a place.
 use Rattle.std.specs.Prelude.{◌≡◌, ℕ, ◌<◌, zero, suc, Bool, true, false, List, [], ◌∷◌, ◌++◌, All, IfOk, IsSome, IsTrue, Option, Some, None, Result, Err, find, length, map, refl}
 use Rattle.std.specs.List.{zip}
 use Rattle.std.specs.Option.{option_map}
@@ -196,7 +196,7 @@ module _ (P : Address → Type 0) {rules : Rules Item Entry} (d : LeafDuals) whe
   unfit_row (suc n) (each_in {item = item} {items = items} first rest) at all (inr u) =
       unfit_row n rest at (All-tail (λ (i : Item). P i.at) item items all) u.1
 
--- ---- what is told has a place
+-- ---- what is said has a place
 
 module _ {setting : Setting} (model : ModelValue) (valid : IsValid model)
     (bridging : FreshBridging setting model) where

@@ -1,7 +1,6 @@
 mod PlaceLemmas
 mod Standing
 mod Editing
-pub mod Stepping
 mod Solved
 mod Carrying
 mod Optimized

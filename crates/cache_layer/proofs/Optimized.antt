@@ -105,7 +105,7 @@ pub optimized_there : (user : Stored) (lazy : Owned) (attached : Bool) (pivots :
 optimized_there user lazy attached pivots result on h =
     subst (λ a. IsOptimized (state_of (cached user lazy a)) pivots result) (sym on) h
 
--- what is told of the leaves through a map and a solver's model which are the bridging's
+-- what is said of the leaves through a map and a solver's model which are the bridging's
 pub told_here : (lazy : Owned) (places : AddressMap) (solver : stored.Stored) (pivots : ℕ)
     (result : Result LeafAnswer OptFault) → places ≡ lazy.map → solver ≡ lazy.solver
     → IsReadable lazy.map lazy.solver.leaves

@@ -117,7 +117,7 @@ objective_told model (objective.Affine sense func) =
     All-cons (IsTold model) (objective_item (body.AffineObj sense func)) [] refl
     (All-nil (IsTold model))
 
--- ---- the address that is told
+-- ---- the address that is reported
 
 told_at : (model : ModelValue) (o : Option Item) (at : Address)
     → ((unfit : Item) → o ≡ Some unfit → IsTold model unfit)

@@ -23,7 +23,7 @@ use Rattle.std_form.specs.Told.{TellsAnswer, TellsForm}
 use Rattle.std_form.specs.declared.fault.FormFault.{FormFault}
 use Rattle.std_form.specs.declared.fault.FormFault.TheVariants as form
 
--- what is told of a fault is told of the result that hands it on
+-- what is said of a fault is said of the result that hands it on
 pub handed_on : {A : Type 0} (Q : Result A OptFault → Type 0) (r : Result A OptFault)
     (fault : OptFault) → IsErrAnd r (λ e. e ≡ fault) → Q (Err fault) → Q r
 handed_on Q (Ok a) fault h told = absurd h

@@ -1,4 +1,4 @@
--- What stands in a bridging hangs on its parts alone, and not on the boxes' turns.
+-- What stands in a bridging depends on its parts alone, and not on the boxes' turns.
 use Rattle.std.specs.Prelude.{◌≡◌, true, List, All}
 use Rattle.std.proofs.Common.{ap, sym, subst, ◌∙◌}
 use Rattle.std.proofs.lemmas.List.Elements.{All-map}

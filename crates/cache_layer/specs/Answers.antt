@@ -1,7 +1,6 @@
 -- What the calls of a cache answer, and the state that they leave. After a refusal it is the one
 -- before, and without memory it is that one without its solver.
-use Rattle.std.specs.Prelude.{◌≡◌, ℕ, true, false, List, [], ◌∷◌, Option, Some, None, Result, Ok, Err}
-use Rattle.std.specs.Option.{option_map_or}
+use Rattle.std.specs.Prelude.{◌≡◌, ℕ, true, false, List, Option, Some, None, Result, Ok, Err}
 use Rattle.cache_layer.specs.Cached.{Cached}
 use Rattle.cache_layer.specs.State.{Changes, HasLeaves, OverflowsAt, State, attached, detached, with_model}
 use Rattle.cache_layer.specs.declared.fault.AttachFault.{AttachFault}
@@ -10,10 +9,9 @@ use Rattle.cache_layer.specs.declared.fault.EditFault.{EditFault}
 use Rattle.cache_layer.specs.declared.fault.EditFault.TheVariants.{Memory, Overflow, Refused, Unsupported}
 use Rattle.fresh_bridging.specs.FreshBridging.{IsUnsupported}
 use Rattle.lazy_bridge.specs.Pushed.{IsTried}
+use Rattle.model_load.specs.Loads.{after_edits}
 use Rattle.user_model.specs.declared.edit.Edit.{Edit}
-use Rattle.user_model.specs.declared.refusal.Refusal.{Refusal}
 use Rattle.user_model.specs.Edited.{edited}
-use Rattle.user_model.specs.Model.{ModelValue}
 use Rattle.user_model.specs.Refusals.{first_refusal}
 
 -- the next state is reached; but while a solver is attached not where an item of its model has no
@@ -37,12 +35,6 @@ IsEdited old edit answer new =
     (first_refusal old.model edit ≡ None)
     × Becomes old (with_model old (edited old.model edit)) answer new
 
--- edits one after another, or why the first that is refused is
-unfoldable pub after_edits : ModelValue → List Edit → Result ModelValue Refusal
-after_edits model [] = Ok model
-after_edits model (edit ∷ edits) =
-    option_map_or Err (first_refusal model edit) (after_edits (edited model edit) edits)
-
 -- all edits are made, or none
 abbrev pub IsLoaded : State → List Edit → Result Unit EditFault → State → Type 0
 IsLoaded old edits (Ok done) new =
@@ -53,7 +45,7 @@ IsLoaded old edits (Err Memory) new = new ≡ old
 IsLoaded old edits (Err (Unsupported kind)) new = ⊥
 IsLoaded old edits (Err (Overflow place)) new = ⊥
 
--- a solver is attached, and has so many leaves
+-- a solver is attached, and has this number of leaves
 abbrev pub IsAttached : State → Result ℕ AttachFault → State → Type 0
 IsAttached old (Ok n) new =
     (old.attached ≡ false) × HasLeaves old n × (new ≡ attached old)

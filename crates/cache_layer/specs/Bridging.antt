@@ -32,7 +32,7 @@ IsBridgedInNames old table model (Err (Overflow place)) new =
 IsBridgedInNames old table model (Err Memory) new =
     IsBridgedBy old table model (Err push.Memory) new
 
--- without memory the solver is let go
+-- without memory the solver is detached
 abbrev pub stays : Result (Option ℕ) EditFault → Bool
 stays (Err edit.Memory) = false
 stays _ = true
@@ -45,7 +45,7 @@ IsFaultOf model (push.Overflow at) =
     (setting : Setting) × (bridging : FreshBridging setting model) × (unfit_at bridging ≡ Some at)
 IsFaultOf model _ = Unit {0}
 
--- a place that is told changes nothing, and without memory for it nothing is held
+-- a place that is reported changes nothing, and without memory for it nothing is held
 abbrev pub IsPlaceToldAs : ModelValue → Owned → Address → BridgeFault → Owned → Type 0
 IsPlaceToldAs model old at (Unsupported kind) new = ⊥
 IsPlaceToldAs model old at (Overflow place) new = (place_at model at ≡ Some place) × (new ≡ old)

@@ -55,7 +55,7 @@ pub few_same : (old new : Owned) → new ≡ old → ChangesFew old 0 new
 few_same old new same =
     few_kept old new (ap (λ (l : Owned). l.solver) same) (ap (λ (l : Owned). l.map) same)
 
--- all is let go
+-- all is removed
 pub few_cleared : (old new : Owned) → HoldsNothing new
     → new.solver.leaves.calls ≡ old.solver.leaves.calls → ChangesFew old 0 new
 few_cleared old new nothing same = record {

@@ -20,7 +20,7 @@ use Rattle.cache_layer.specs.Outcome.{IsAnswered, Stops}
 use Rattle.cache_layer.specs.declared.fault.OptFault.{OptFault}
 use Rattle.cache_layer.specs.declared.fault.OptFault.TheVariants.{Memory, NotAttached, Overflow}
 
--- a right answer for the leaf model, or why there is none; want of memory tells nothing
+-- a right answer for the leaf model, or why there is none; out of memory says nothing
 abbrev pub TellsLeaf : AddressMap → LeafModel → ℕ → Result LeafAnswer OptFault → Type 0
 TellsLeaf map leaves pivots (Ok a) =
     IsAnswered leaves pivots (answer_of map a) × IsRight leaves (answer_of map a)

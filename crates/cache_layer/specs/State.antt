@@ -43,13 +43,13 @@ pub record Bridging (s : State) : Type 0 where
 abbrev pub leaves : {s : State} → Bridging s → LeafModel
 leaves b = leaves_of b.bridging
 
--- at so many addresses the solver's model changes from one state to another
+-- at this number of addresses the solver's model changes from one state to another
 pub record Changes (old new : State) (n : ℕ) : Type 0 where
   pub before : Bridging old
   pub after : Bridging new
   pub counts : Counts (leaves before) (leaves after) n
 
--- the solver's model has so many leaves
+-- the solver's model has this number of leaves
 pub record HasLeaves (s : State) (n : ℕ) : Type 0 where
   pub bridging : Bridging s
   pub counts : Counts no_leaves (leaves bridging) n

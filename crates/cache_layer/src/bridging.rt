@@ -76,7 +76,7 @@ pub(crate) fn set_table<B: Bridge>(
     }
 }
 
-// The fault in the user's names. Where memory is wanting for these, nothing is held any more.
+// The fault in the user's names. Where memory runs out for these, nothing is held any more.
 fn in_names<B: Bridge>(lazy: &mut LazyOver<B>, model: &UserModel, fault: PushFault) -> BridgeFault
     requires { IsFaultOf model.now.model fault }
     ensures { IsToldAs model.now.model lazy.old fault result lazy.new }

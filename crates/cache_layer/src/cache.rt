@@ -18,12 +18,12 @@ ghost use Rattle.user_model.specs.Edited.{edited};
 
 use crate::bridging::fill;
 use crate::edits::{edit_alone, edit_bridged, table_bridged};
-use crate::loading::load_all;
 use crate::optimize::optimize;
 use crate::{AttachFault, Certificate, EditFault, NotAttached, OptFault};
 use bridge_face::Bridge;
 use item_core::Table;
 use lazy_bridge::LazyOver;
+use model_load::load_all;
 use model_store::UserModel;
 use std::alloc::Global;
 use std::marker::Model;
@@ -160,8 +160,8 @@ impl<B: Bridge> CacheOver<B> {
         Ok(())
     }
 
-    /// Solves the solver's model with at most so many pivots. The certificate is in the user's
-    /// rows, and good for the user's model.
+    /// Solves the solver's model with at most this number of pivots. The certificate is in the
+    /// user's rows, and good for the user's model.
     pub fn optimize(&self, pivots: u64) -> Result<Certificate, OptFault>
         ensures outcome { IsOptimized (state_of self.now) pivots result }
         ensures good { IfOk result (Good (model_in self.now)) }

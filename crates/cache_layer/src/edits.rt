@@ -4,12 +4,11 @@ ghost use Rattle.std.specs.List.{list_all};
 ghost use Rattle.bridge_graph.specs.Hypergraph.{is_edge_cost};
 ghost use Rattle.lazy_bridge.specs.Native.{supports_native};
 ghost use Rattle.lazy_bridge.specs.Owned.{IsBridgingOf};
-ghost use Rattle.model_store.specs.Store.{Stored};
 ghost use Rattle.cache_layer.specs.Answers.{Becomes, IsEdited, UnlessRefused};
 ghost use Rattle.cache_layer.specs.Bridging.{state_by, stays};
 ghost use Rattle.cache_layer.specs.Cached.{IsInStep, cached, state_of};
 ghost use Rattle.cache_layer.specs.FewCalls.{EditsFew};
-ghost use Rattle.cache_layer.specs.Loads.{IsLastStep, IsMadeBy};
+ghost use Rattle.model_load.specs.Loads.{IsMadeBy};
 ghost use Rattle.report_core.specs.declared.refused.Place.{Place};
 ghost use Rattle.small_numbers.specs.SmallNumbers.{HasSmallNumbers};
 ghost use Rattle.user_model.specs.Edited.{edited};
@@ -19,9 +18,10 @@ use crate::bridging::{push, set_table};
 use bridge_face::Bridge;
 use item_core::Table;
 use lazy_bridge::LazyOver;
+use model_load::take_back;
 use model_store::UserModel;
 use std::slice;
-use user_model::{ApplyFault, Edit, Undo};
+use user_model::{ApplyFault, Edit};
 
 /// Makes an edit for good.
 pub(crate) fn edit_alone(model: &mut UserModel, edit: Edit) -> Result<(), ApplyFault>
@@ -32,16 +32,7 @@ pub(crate) fn edit_alone(model: &mut UserModel, edit: Edit) -> Result<(), ApplyF
     Ok(())
 }
 
-/// Takes the last edit back that waits, so that the model is as it was before.
-#[tactic(auto, using(crate::proofs::Stepping::taken_back))]
-pub(crate) fn take_back(model: &mut UserModel, undo: Undo)
-    requires { (start : Stored) × IsLastStep start undo model.old }
-    ensures { (start : Stored) → IsLastStep start undo model.old → model.new ≡ start }
-{
-    model.take_back(undo);
-}
-
-/// Makes an edit and bridges the model anew, or leaves both as they were. Where memory is wanting
+/// Makes an edit and bridges the model anew, or leaves both as they were. Where memory runs out
 /// nothing is bridged any more.
 #[tactic(auto, using(crate::specs::FewCallsLaws::few_same))]
 pub(crate) fn edit_bridged<B: Bridge>(

@@ -40,12 +40,12 @@ pub struct NotAttached;
 #[derive(Debug, Drop)]
 pub enum OptFault {
     NotAttached,
-    /// The equality form would have so many cells, which are more than 16,777,216; or more where
-    /// they are the greatest `u64`.
+    /// The number of cells that the equality form would have, which is above 16,777,216, capped at
+    /// `u64::MAX`.
     TooLarge { cells: u64 },
     /// Where the first number doesn't fit.
     Overflow { place: Place },
-    /// So many pivots lead to no answer.
+    /// This number of pivots leads to no answer.
     Limit { pivots: u64 },
     Memory,
 }

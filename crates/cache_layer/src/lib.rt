@@ -6,12 +6,10 @@ mod bridging;
 mod cache;
 mod edits;
 mod fault;
-mod loading;
 mod optimize;
 mod solving;
 
 pub use cache::{Cache, CacheOver};
 pub use cert_core::Certificate;
 pub use fault::{AttachFault, EditFault, NotAttached, OptFault};
-pub use loading::load_all;
 pub use report_core::Place;

@@ -19,7 +19,7 @@ use model_store::UserModel;
 use solver_store::LeafAnswer;
 use std::alloc::Global;
 
-/// The certificate of the model whose fresh bridging stands, by at most so many pivots.
+/// The certificate of the model whose fresh bridging stands, by at most this number of pivots.
 pub(crate) fn optimize<B: Bridge>(
     alloc: Global,
     lazy: &LazyOver<B>,

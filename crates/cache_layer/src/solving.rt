@@ -11,7 +11,7 @@ use solver_store::{LeafAnswer, SolverModel};
 use std::alloc::Global;
 use std_form::{build, read_back};
 
-/// The answer for the leaves, by at most so many pivots.
+/// The answer for the leaves, by at most this number of pivots.
 pub(crate) fn leaf_answer(
     alloc: Global,
     solver: &SolverModel,

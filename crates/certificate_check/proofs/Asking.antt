@@ -1,7 +1,7 @@
 -- For which files a verdict asks.
 use Rattle.std.specs.Prelude.{◌≡◌, List, ℕ, [], ◌∷◌, ◌++◌, Option, Result, Ok, Err, OnOk, refl}
 use Rattle.lists.specs.declared.memory.Memory.{Memory as NoMemory}
-use Rattle.cache_layer.specs.Answers.{after_edits}
+use Rattle.model_load.specs.Loads.{after_edits}
 use Rattle.io_face.specs.Shelf.{AsksFor}
 use Rattle.io_face.specs.Told.{Told}
 use Rattle.io_face.specs.ToldLaws.{asks_more}

@@ -8,7 +8,7 @@ use Rattle.certificates.specs.Points.{variables_of}
 use Rattle.cert_text.specs.Reading.{certificate_of}
 use Rattle.cert_text.specs.ReadsBack.{HasItsEntries}
 use Rattle.certificates.specs.declared.certificate.Certificate.{Certificate}
-use Rattle.edit_engine.specs.Script.{refused}
+use Rattle.file_answers.specs.FileAnswers.{refused}
 use Rattle.io_face.specs.Shelf.{Gives, file_limit}
 use Rattle.io_face.specs.Told.{Told}
 use Rattle.lists.specs.declared.memory.Memory.{Memory}

@@ -1,12 +1,12 @@
 -- What is answered to the files of a model and of a certificate.
 use Rattle.std.specs.Prelude.{◌≡◌, ℕ, ◌⊎◌, List, [], ◌∷◌, ◌++◌, Option, Some, None, Result, Ok, Err, codes}
-use Rattle.cache_layer.specs.Answers.{after_edits}
+use Rattle.model_load.specs.Loads.{after_edits}
 use Rattle.cert_core.specs.Folds.{CertificateFits}
 use Rattle.certificates.specs.Points.{variables_of}
 use Rattle.cert_text.specs.Reading.{certificate_of}
 use Rattle.certificates.specs.declared.certificate.Certificate.{Certificate}
 use Rattle.certificates.specs.Good.{Good}
-use Rattle.edit_engine.specs.Script.{fault_answer, refused}
+use Rattle.file_answers.specs.FileAnswers.{fault_answer, refused}
 use Rattle.io_face.specs.Told.{MayGive, Told}
 use Rattle.io_face.specs.declared.shelf.FetchFault.{FetchFault}
 use Rattle.io_face.specs.declared.shelf.FetchFault.TheVariants as fetch

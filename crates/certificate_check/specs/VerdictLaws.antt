@@ -2,7 +2,7 @@
 use Rattle.std.specs.Prelude.{◌≡◌, ℕ, ◌⊎◌, List, Option, Some, None, Result, Ok, Err, refl}
 use Rattle.std.proofs.Common.{sym, ap, ◌∙◌, subst, inl, inr}
 use Rattle.std.proofs.lemmas.Option.{none-some, same_Some}
-use Rattle.cache_layer.specs.Answers.{after_edits}
+use Rattle.model_load.specs.Loads.{after_edits}
 use Rattle.certificates.specs.Points.{variables_of}
 use Rattle.cert_text.specs.Reading.{certificate_of}
 use Rattle.certificates.specs.declared.certificate.Certificate.{Certificate}

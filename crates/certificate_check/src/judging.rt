@@ -1,6 +1,6 @@
 //! The verdict on the files of a model and of a certificate.
 ghost use Rattle.std.specs.Prelude.{◌≡◌, ◌≢◌, [], ◌∷◌, Result, Ok, IfOk, OnOk};
-ghost use Rattle.cache_layer.specs.Answers.{after_edits};
+ghost use Rattle.model_load.specs.Loads.{after_edits};
 ghost use Rattle.certificates.specs.Points.{variables_of};
 ghost use Rattle.cert_text.specs.Reading.{certificate_of};
 ghost use Rattle.cert_text.specs.ReadsBack.{HasItsEntries};
@@ -11,18 +11,18 @@ ghost use Rattle.io_face.specs.Told.{told_by};
 ghost use Rattle.user_model.specs.Model.{empty_model};
 
 use crate::verdict_text::yes_or_no;
-use cache_layer::{Certificate, load_all};
-use cert_core::check;
+use cert_core::{Certificate, check};
 use cert_text::read;
-use edit_engine::{Answer, tell_fault};
+use file_answers::tell_fault;
 use io_face::{FetchFault, Shelf};
 use lists::Memory;
+use model_load::load_all;
 use model_store::UserModel;
 use mof_fetch::fetch_edits;
 use mof_read::Edits;
 use name_index::Name;
 use ratio_core::NumberFault;
-use report_core::{Place, Refused, refusal};
+use report_core::{Answer, Place, Refused, refusal};
 use std::alloc::Global;
 use user_model::{ApplyFault, Edit};
 
@@ -45,7 +45,7 @@ pub fn verdict<H: Shelf>(alloc: Global, shelf: &mut H, model: &Name, certificate
     judge_model(alloc, shelf, model, certificate).unwrap_or(Answer::Memory)
 }
 
-// The same, where want of memory is an error.
+// The same, where running out of memory is an error.
 fn judge_model<H: Shelf>(
     alloc: Global,
     shelf: &mut H,
@@ -85,7 +85,7 @@ fn judge_edits<H: Shelf>(
     judge_on(alloc, shelf, &mut model, edits.into_vec(), certificate)
 }
 
-// The same of edits on a model, which is lent, so that no way out lets go of it.
+// The same of edits on a model. It is lent, so that no way out frees it.
 fn judge_on<H: Shelf>(
     alloc: Global,
     shelf: &mut H,

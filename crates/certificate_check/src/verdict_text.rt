@@ -2,9 +2,9 @@
 ghost use Rattle.std.specs.Prelude.{◌≡◌, IfOk, if◌then◌else◌};
 ghost use Rattle.certificate_check.specs.Verdict.{no as answers_no, yes as answers_yes};
 
-use edit_engine::Answer;
 use lists::Memory;
 use name_index::Text;
+use report_core::Answer;
 use std::alloc::Global;
 
 /// `yes` or `no`, in a line.

@@ -5,7 +5,7 @@ use Rattle.std.proofs.Common.{sym, ap, subst, inl, inr, ◌∙◌, true≢false}
 use Rattle.std.proofs.lemmas.Bool.{cases_Bool}
 use Rattle.lists.specs.declared.memory.Memory.{Memory as NoMemory}
 use Rattle.cache_layer.specs.State.{State}
-use Rattle.edit_engine.specs.AskingLaws.{on_ok}
+use Rattle.file_answers.specs.AskingLaws.{on_ok}
 use Rattle.edit_engine.specs.Lines.{is_load, line_asks, load_asks, said_asks, says_load}
 use Rattle.edit_engine.specs.LinesLaws.{does_fit, fetches}
 use Rattle.edit_engine.specs.Script.{DoesSaid, Machine, Makes}
@@ -104,7 +104,7 @@ pub command_sound : (P : Type 0) (command : Command) → (is_load (Ok command) �
 command_sound P command loads other =
     elim (cases_Bool (is_load (Ok command))) [ inl on ↦ loads on | inr off ↦ other off ]
 
--- what holds of an answer that was made, where want of memory is one
+-- what holds of an answer that was made, where running out of memory is one
 pub asks_or : (made : Result Answer NoMemory) (result : Answer) (P : Type 0)
     → result ≡ result_unwrap_or made Memory → result ≢ Memory → OnOk made P → P
 asks_or (Ok answer) result P is other h = h

@@ -125,7 +125,7 @@ pub attach_told : (s t : State) (made : Result ℕ AttachFault) (old new : Owned
 attach_told s t made old new result is few =
     few_said attach_answer made old new result (attach_takes s t made old new is few)
 
--- ---- where memory runs out nothing is told
+-- ---- where memory runs out nothing is reported
 
 pub few_or : (old new : Owned) (made : Result Answer NoMemory) (result : Answer)
     → result ≡ result_unwrap_or made Memory → IfOk made (λ answer. TakesFew answer old new)

@@ -14,7 +14,7 @@ use Rattle.report_core.specs.declared.answer.Answer.{Answer}
 use Rattle.report_core.specs.declared.answer.Answer.TheVariants.{Memory, Printed, Quit, ReadFault, Refused, Silent, TooLong}
 use Rattle.edit_engine.specs.Script.{Answered, DoesLine, IsCost, IsPlan, Machine, Makes, Plans, Shows, Steps, Tells, with_state}
 
--- what a call gave is told
+-- what a call gave is reported
 pub told : {A : Type 0} (text : A → Answer) (gives : A → State → Type 0) (old new : State)
     (given : A) (result : Result Answer NoMemory) → gives given new
     → IfOk result (λ answer. answer ≡ text given) → Makes (Tells text gives) old result new

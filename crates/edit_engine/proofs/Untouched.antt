@@ -53,7 +53,7 @@ pub attach_untouched : (made : Result ℕ AttachFault) (old new : Cached)
 attach_untouched made old new result h is =
     told_keeps attach_answer made old new result (attach_keeps made old new h) is
 
--- where memory runs out nothing is told
+-- where memory runs out nothing is reported
 pub untouched_or : (old new : Cached) (made : Result Answer NoMemory) (result : Answer)
     → result ≡ result_unwrap_or made Memory → IfOk made (λ answer. KeepsRefused answer old new)
     → KeepsRefused result old new

@@ -3,7 +3,6 @@ pub mod Bare
 pub mod Script
 pub mod Lines
 pub mod LinesLaws
-pub mod AskingLaws
 pub mod Held
 pub mod Counts
 pub mod CountLaws

@@ -15,7 +15,7 @@ abbrev pub is_quit : Result Command LineFault → Bool
 is_quit (Ok line.Quit) = true
 is_quit said = false
 
--- the line ends the work
+-- the line ends the run
 unfoldable pub says_quit : List ℕ → Bool
 says_quit line = is_quit (line_said line)
 
@@ -41,7 +41,7 @@ said_asks s said = []
 unfoldable pub line_asks : State → List ℕ → List (List ℕ)
 line_asks s line = said_asks s (line_said line)
 
--- the lines up to their end, or through the first that ends the work
+-- the lines up to their end, or through the first that ends the run
 abbrev pub heard : List (List ℕ) → List (List ℕ)
 heard [] = []
 heard (line ∷ lines) = line ∷ (if says_quit line then [] else heard lines)

@@ -1,4 +1,4 @@
--- Lines that are answered one after another, and which of them ends the work.
+-- Lines that are answered one after another, and which of them ends the run.
 use Rattle.std.specs.Prelude.{◌≡◌, ◌⊎◌, ℕ, Bool, true, false, ◌||◌, List, [], ◌∷◌, ◌++◌, Option, Some, Result, Ok, Err, cond, refl}
 use Rattle.std.specs.List.{list_any}
 use Rattle.std.proofs.Common.{inl, inr, sym, ap, ◌∙◌, subst, append_assoc, append-nil, true≢false}
@@ -87,7 +87,7 @@ heard-append (line ∷ done) more h =
     others_of true b e = absurd (true≢false e)
     others_of false b e = e
 
--- a line that ends the work is the last that is heard, and so is the last line
+-- a line that ends the run is the last that is heard, and so is the last line
 pub heard_at_quit : (line : List ℕ) (more : List (List ℕ)) → says_quit line ≡ true
     → heard (line ∷ more) ≡ line ∷ []
 heard_at_quit line more e =
@@ -107,7 +107,7 @@ fetches ReadFault = true
 fetches TooLong = true
 fetches answer = false
 
--- whether an answer ends the work, and whether it is a file's
+-- whether an answer ends the run, and whether it is a file's
 abbrev pub ends_or_fetches : Answer → Bool × Bool
 ends_or_fetches answer = (answers_quit answer, fetches answer)
 
@@ -125,7 +125,7 @@ StopsBy m said ReadFault new = IsStopped m said fetch.Failed new
 StopsBy m said TooLong new = IsStopped m said fetch.TooLong new
 StopsBy m said answer new = Unit {0}
 
--- whether the answer ends the work as the line says, and that none but a shelf's fault is a file's
+-- whether the answer ends the run as the line says, and that none but a shelf's fault is a file's
 abbrev pub Fits : Machine → Result Command LineFault → Answer → State → Type 0
 Fits m said answer new = (answers_quit answer ≡ is_quit said) × StopsBy m said answer new
 
@@ -248,7 +248,7 @@ does_fit m said new answer does = by (does_what m said new answer does)
     by (inl is) = fits_plainly m said answer new is
     by (inr h) = h
 
--- the answer says whether the line ends the work
+-- the answer says whether the line ends the run
 pub quit_is_said : (s new : Machine) (line : List ℕ) (answer : Answer) → Steps s line answer new
     → says_quit line ≡ answers_quit answer
 unfolding says_quit

@@ -28,6 +28,7 @@ use Rattle.certificates.specs.Points.{variables_of}
 use Rattle.cert_text.specs.Text.{certificate_text}
 use Rattle.certificates.specs.Good.{Good}
 use Rattle.certificates.specs.declared.certificate.Certificate.{Certificate}
+use Rattle.file_answers.specs.FileAnswers.{fault_answer, refused}
 use Rattle.fresh_bridging.specs.TheRules.{IsChoice, graph_of}
 use Rattle.io_face.specs.Told.{Told}
 use Rattle.item_core.specs.declared.kind.Kind.{Kind}
@@ -36,17 +37,15 @@ use Rattle.item_core.specs.declared.table.Table.{Table}
 use Rattle.item_core.specs.Kind.{kind_number}
 use Rattle.mof_fetch.specs.Fetched.{IsReadOf}
 use Rattle.mof_fetch.specs.declared.fault.FileFault.{FileFault}
-use Rattle.mof_fetch.specs.declared.fault.FileFault.TheVariants as file
 use Rattle.mof_write.specs.Written.{written}
 use Rattle.report_core.specs.Plan.{plan_text}
-use Rattle.report_core.specs.Refused.{refusal_text, refused_of}
+use Rattle.report_core.specs.Refused.{refused_of}
 use Rattle.report_core.specs.Replies.{done_text}
 use Rattle.report_core.specs.Words.{newline}
 use Rattle.report_core.specs.declared.answer.Answer.{Answer}
-use Rattle.report_core.specs.declared.answer.Answer.TheVariants.{Memory, Printed, Quit, ReadFault, Refused, Silent, TooLong}
+use Rattle.report_core.specs.declared.answer.Answer.TheVariants.{Memory, Printed, Quit, Silent}
 use Rattle.report_core.specs.declared.refused.Place.TheVariants.{Line}
-use Rattle.report_core.specs.declared.refused.Refused as refusal
-use Rattle.report_core.specs.declared.refused.Refused.TheVariants.{AlreadyAttached, BadLine, File, Limit, NotAttached, NotEmpty, Overflow, TooLarge, Unsupported}
+use Rattle.report_core.specs.declared.refused.Refused.TheVariants.{AlreadyAttached, BadLine, Limit, NotAttached, NotEmpty, Overflow, TooLarge, Unsupported}
 use Rattle.script_core.specs.declared.command.Command.{Command}
 use Rattle.script_core.specs.declared.command.Command.TheVariants as line
 use Rattle.script_core.specs.declared.fault.LineFault.{LineFault}
@@ -69,9 +68,6 @@ abbrev pub with_state : Machine → State → Machine
 with_state machine s = record machine { state = s }
 
 -- ---- what is printed
-
-abbrev pub refused : refusal.Refused → Answer
-refused r = Refused (refusal_text r)
 
 abbrev pub done : Option ℕ → Answer
 done count = Printed (done_text count)
@@ -108,13 +104,6 @@ load_answer (Err (edit.Unsupported kind)) = refused (Unsupported kind)
 load_answer (Err (edit.Overflow place)) = refused (Overflow place)
 load_answer (Err edit.Memory) = Memory
 
--- why no edits were read of a file
-abbrev pub fault_answer : FileFault → Answer
-fault_answer file.Failed = ReadFault
-fault_answer file.TooLong = TooLong
-fault_answer (file.Unread number place) = refused (File number place)
-fault_answer file.Memory = Memory
-
 -- ---- one line
 
 -- what may be answered in a state, and the state that is left
@@ -133,7 +122,7 @@ Says s said answer new = (answer ≡ said) × (new ≡ s)
 abbrev pub Tabled : State → (Table → Table) → Step
 Tabled s change = Tells edit_answer (Becomes s (with_table s (change s.setting.table)))
 
--- the solver is let go, where one is attached
+-- the solver is detached, where one is attached
 abbrev pub Detaches : Bool → State → Step
 Detaches true s answer new = (answer ≡ done None) × (new ≡ detached s)
 Detaches false s answer new = Says s (refused NotAttached) answer new
@@ -174,7 +163,7 @@ Optimizes s pivots =
 abbrev pub file_line : ModelValue → List ℕ
 file_line model = written model ++ newline
 
--- the edits of a file are made, or it is told why there are none
+-- the edits of a file are made, or it is said why there are none
 abbrev pub LoadsEdits : State → Result (List Edit) FileFault → Step
 LoadsEdits s (Ok edits) = Tells load_answer (IsLoaded s edits)
 LoadsEdits s (Err fault) = Says s (fault_answer fault)
@@ -217,7 +206,7 @@ DoesLine m line = DoesSaid m (line_said line)
 abbrev pub Steps : Machine → List ℕ → Answer → Machine → Type 0
 Steps old line answer new = DoesLine old line answer new.state × (new ≡ with_state old new.state)
 
--- ---- want of memory
+-- ---- out of memory
 
 -- the state is the one before, that one without its solver, or one that the step leaves
 abbrev pub IsLeftBy : Step → State → State → Type 0

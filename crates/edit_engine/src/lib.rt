@@ -10,6 +10,5 @@ mod session;
 mod tables;
 
 pub use cache_layer::Cache;
-pub use loading::tell_fault;
 pub use report_core::Answer;
 pub use session::{Session, SessionOver};

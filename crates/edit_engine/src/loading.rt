@@ -1,24 +1,24 @@
 //! What a line `load` does to a cache.
-ghost use Rattle.std.specs.Prelude.{◌≡◌, ◌≢◌, ◌≤◌, IfOk, IsErr, Ok, OnOk, false};
+ghost use Rattle.std.specs.Prelude.{◌≡◌, ◌≢◌, ◌≤◌, IfOk, Ok, OnOk, false};
 ghost use Rattle.cache_layer.specs.Answers.{IsLoaded};
 ghost use Rattle.cache_layer.specs.Cached.{state_of};
 ghost use Rattle.edit_engine.specs.Bare as bare;
 ghost use Rattle.edit_engine.specs.Counts.{TakesFew};
 ghost use Rattle.edit_engine.specs.Held.{KeepsRefused};
-ghost use Rattle.edit_engine.specs.Script.{Loads, Makes, Tells, fault_answer, load_answer};
+ghost use Rattle.edit_engine.specs.Script.{Loads, Makes, Tells, load_answer};
 ghost use Rattle.edit_engine.specs.Lines.{load_asks};
 ghost use Rattle.io_face.specs.Fault.{HasFaulted};
 ghost use Rattle.io_face.specs.Shelf.{AsksFor};
 ghost use Rattle.io_face.specs.Told.{told_by};
-ghost use Rattle.mof_fetch.specs.Fetched.{HasNumber};
 
 use crate::lines::refuse;
 use bridge_face::Bridge;
 use cache_layer::{CacheOver, EditFault};
+use file_answers::tell_fault;
 use io_face::Shelf;
 use lists::Memory;
 use model_store::UserModel;
-use mof_fetch::{FileFault, fetch_edits};
+use mof_fetch::fetch_edits;
 use mof_read::Edits;
 use name_index::Name;
 use report_core::{Answer, Refused, done};
@@ -99,20 +99,5 @@ fn tell_loaded(alloc: Global, made: Result<(), EditFault>) -> Result<Answer, Mem
         Err(EditFault::Unsupported { kind }) => refuse(alloc, &Refused::Unsupported { kind }),
         Err(EditFault::Overflow { place }) => refuse(alloc, &Refused::Overflow { place }),
         Err(EditFault::Memory) => Err(Memory),
-    }
-}
-
-/// Why no edits were read of a file, as it is answered.
-pub fn tell_fault(alloc: Global, fault: FileFault) -> Result<Answer, Memory>
-    requires { HasNumber fault }
-    ensures answer { IfOk result (λ answer. answer ≡ fault_answer fault) }
-    ensures failed { fault ≡ FileFault.Failed → result ≡ Ok Answer.ReadFault }
-    ensures memory { fault ≡ FileFault.Memory → IsErr result }
-{
-    match fault {
-        FileFault::Failed => Ok(Answer::ReadFault),
-        FileFault::TooLong => Ok(Answer::TooLong),
-        FileFault::Unread { number, place } => refuse(alloc, &Refused::File { number, place }),
-        FileFault::Memory => Err(Memory),
     }
 }

@@ -12,7 +12,7 @@ use model_store::UserModel;
 use report_core::{Answer, Refused};
 use std::alloc::Global;
 
-/// Solves the solver's model with at most so many pivots.
+/// Solves the solver's model with at most this number of pivots.
 pub(crate) fn optimize<B: Bridge>(
     alloc: Global,
     cache: &CacheOver<B>,

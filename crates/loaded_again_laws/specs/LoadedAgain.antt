@@ -3,7 +3,8 @@
 use Rattle.std.specs.Prelude.{◌≡◌, ◌≢◌, ◌⊎◌, ℕ, false, true, IsTrue, List, [], ◌∷◌, Some, None, Result, Ok, Err, refl}
 use Rattle.std.specs.Option.{option_map_or}
 use Rattle.std.proofs.Common.{ap, inl, inr, subst, sym, ◌∙◌}
-use Rattle.cache_layer.specs.Answers.{IsLoaded, after_edits}
+use Rattle.cache_layer.specs.Answers.{IsLoaded}
+use Rattle.model_load.specs.Loads.{after_edits}
 use Rattle.cache_layer.specs.State.{State}
 use Rattle.cache_layer.specs.declared.fault.EditFault.{EditFault}
 use Rattle.cache_layer.specs.declared.fault.EditFault.TheVariants as edit

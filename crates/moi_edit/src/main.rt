@@ -28,7 +28,7 @@ fn run_words(rt: &HostRuntime, words: &[String]) -> Result<Status, Memory> {
     Ok(run_on(rt, words, &mut session))
 }
 
-// The session is lent, so that it is let go of once, where nothing else is at hand.
+// The session is lent, so that it is freed once, where nothing else is at hand.
 fn run_on(rt: &HostRuntime, words: &[String], session: &mut SessionOver<AnyBridge>) -> Status
     requires { (state_of session.old).attached ≡ false }
 {

@@ -16,7 +16,7 @@ use Rattle.report_core.specs.declared.answer.Answer.TheVariants.{ReadFault, TooL
 use Rattle.report_core.specs.declared.answer.Answer.TheVariants.{Memory as NoMemory}
 use Rattle.std.specs.Prelude.{OnOk}
 
--- an answer that prints isn't want of memory, nor the shelf's fault
+-- an answer that prints is neither running out of memory nor the shelf's fault
 pub prints_memory : {answer : Answer} {text : List ℕ} {was : Bool} → Prints answer text was
     → answer ≢ NoMemory
 prints_memory silent e = cc

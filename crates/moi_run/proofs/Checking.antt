@@ -122,7 +122,7 @@ check_stopped reason end shelf faults faults' model certificate answer old new i
     subst (λ e. CheckOutcome e shelf faults faults' model certificate old new) (sym is)
     (by reason wrote)
   where
-    -- the verdict is this one, which isn't want of memory
+    -- the verdict is this one, which isn't running out of memory
     this : (said : Answer) → answer ≡ said → said ≢ NoMemory
         → IsVerdict shelf model certificate said
     this said same other =

@@ -101,7 +101,7 @@ each_ends_by end ls s new wrote =
     when_ended (λ e. EachOutcome e ls s new wrote) (λ b. WritesAnswers s ls b new wrote)
     (λ o. o) (λ o. o) end
 
--- what is told of the lines, from what is told of the bytes
+-- what is said of the lines, from what is said of the bytes
 told_lines : (Q : List (List ℕ) → Type 0) (left : Option (List ℕ))
     → IfSome left (λ bytes. Q (heard (lines bytes)))
     → IfSome (option_map (λ bytes. heard (lines bytes)) left) Q

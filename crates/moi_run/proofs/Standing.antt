@@ -75,7 +75,7 @@ given_more {all} {left} {left'} {reader} {reader'} {given} {done} {line} front g
         ∙ ap (λ ls. done ++ ls) (ended more ∙ ap (λ l. l ∷ read more) (sym gives.stripped))
         ∙ sym (append_assoc done (line ∷ []) (read more))
 
--- the lines done are some of the input's, none is too long or ends the work, and their answers are
+-- the lines done are some of the input's, none is too long or ends the run, and their answers are
 -- written
 pub record Standing (all : Option (List ℕ)) (start : Tally) (reader : Held)
     (left : Option (List ℕ)) (s : Tally) (refused : Bool)
@@ -105,7 +105,7 @@ standing_at_start start reader left old none whole = record {
   answered = answers_nothing start old;
 }
 
--- what is told of all bytes, from what holds for those that are left
+-- what is said of all bytes, from what holds for those that are left
 pub told_left : (Q : List ℕ → Type 0) (all left : Option (List ℕ)) (front : List ℕ)
     → all ≡ prepend_known front left
     → ((rest : List ℕ) → left ≡ Some rest → Q (front ++ rest)) → IfSome all Q
@@ -176,7 +176,7 @@ ends_at_last all start reader left left' s s' refused was old mid new line seen 
     (All-push (λ l. length l ≤ line_limit) standing.done seen standing.front.short gives.short)
     (whole_more old mid new standing.answered hears)
 
--- a line that ends the work is in every text that begins with the lines done and that line
+-- a line that ends the run is in every text that begins with the lines done and that line
 has_quit_behind : (given : List ℕ) (done : List (List ℕ)) (line more : List ℕ)
     → BeginsBy ended_lines given (done ++ line ∷ []) → says_quit line ≡ true
     → has_quit (given ++ more) ≡ true
@@ -190,7 +190,7 @@ has_quit_behind given done line more ended_on quit =
     or_true true = refl
     or_true false = refl
 
--- at the line that ends the work
+-- at the line that ends the run
 pub ends_at_quit : (all : Option (List ℕ)) (start : Tally) (reader reader' : Held)
     (left left' : Option (List ℕ)) (s s' : Tally) (refused was : Bool)
     (old mid new : Option (List ℕ)) (line : List ℕ)

@@ -172,7 +172,7 @@ cut_in_turn next all start reader reader' left left' s new refused was old mid w
     (reached_in_turn next all start reader reader' left left' s refused old mid line seen gives
     standing)
 
--- where it ends the work
+-- where it ends the run
 pub ends_in_turn : (next : Next) (all : Option (List ℕ)) (start : Tally) (reader reader' : Held)
     (left left' : Option (List ℕ)) (s s' : Tally) (refused was : Bool)
     (old mid new : Option (List ℕ)) (line seen : List ℕ)

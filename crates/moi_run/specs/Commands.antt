@@ -41,12 +41,12 @@ load_line name = codes "load " ++ escaped name
 abbrev pub solve_lines : List ℕ → List (List ℕ)
 solve_lines model = load_line model ∷ codes "attach" ∷ codes "optimize" ∷ []
 
--- what the command reads, where it is told
+-- what the command reads, where it is known
 abbrev pub input_for : Option Command → Option (List ℕ) → Option (List ℕ)
 input_for (Some (Run setup)) left = left
 input_for said left = None
 
--- the lines that the command answers, where they are told
+-- the lines that the command answers, where they are known
 abbrev pub lines_for : Option Command → Option (List ℕ) → Option (List (List ℕ))
 lines_for (Some (Run setup)) left = option_map (λ bytes. heard (lines bytes)) left
 lines_for (Some (Plan setup)) left = Some (codes "plan" ∷ [])
@@ -55,7 +55,7 @@ lines_for (Some (Check model certificate)) left = None
 lines_for (Some (Generate numbers)) left = None
 lines_for None left = None
 
--- ---- what a session is told before its first line
+-- ---- what a session hears before its first line
 
 -- of a generated script
 abbrev pub generate_setup : Setup
@@ -88,7 +88,7 @@ generate_start s = set_up s (target_table generate_setup.target) generate_setup.
 abbrev pub LoadsFile : List ℕ → List ℕ → Type 0
 LoadsFile name text = line_said text ≡ Ok (line.Load name)
 
--- the command may ask for the file of this name: a line that it answers, where they are told, loads
+-- the command may ask for the file of this name: a line that it answers, where they are known, loads
 -- it; or it is the model's that `check` names, or where that makes a model the certificate's
 abbrev pub Asks : Told → Option Command → Option (List ℕ) → List ℕ → Type 0
 Asks shelf (Some (Check model certificate)) left name =

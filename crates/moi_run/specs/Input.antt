@@ -10,22 +10,22 @@ use Rattle.moi_run.specs.Tally.{Tally}
 use Rattle.line_reader.specs.Limits.{line_limit, input_limit}
 use Rattle.line_reader.specs.Lines.{ended_lines, is_short, stripped_parts}
 
--- a line that ends the work is in the text with its newline
+-- a line that ends the run is in the text with its newline
 abbrev pub has_quit : List ℕ → Bool
 has_quit text = list_any says_quit (ended_lines text)
 
--- what was taken is all of the input, or has the line that ends the work
+-- what was taken is all of the input, or has the line that ends the run
 pub record IsReadToEnd (bytes : List ℕ) (left : Option (List ℕ)) : Type 0 where
   pub taken : List ℕ
   pub takes : Takes (Some bytes) left taken
   pub end : IsAtEnd left ⊎ (has_quit taken ≡ true)
 
--- up to its end or the line that ends the work no line is too long, nor is the input
+-- up to its end or the line that ends the run no line is too long, nor is the input
 pub record IsWithinLimits (bytes : List ℕ) : Type 0 where
   pub each : All (λ line. length line ≤ line_limit) (heard (lines bytes))
   pub whole : (length bytes ≤ input_limit) ⊎ (has_quit (take input_limit bytes) ≡ true)
 
--- up to its end or the line that ends the work a line is too long, or the input is
+-- up to its end or the line that ends the run a line is too long, or the input is
 abbrev pub PassesLimit : List ℕ → Type 0
 PassesLimit bytes = Any (λ line. line_limit < length line) (heard (lines bytes))
     ⊎ ((input_limit < length bytes) × (has_quit (take input_limit bytes) ≡ false))

@@ -115,7 +115,7 @@ pub fn run<B: Bridge, H: Shelf, I: Source, O: Sink>(
 
     // A fault of the source or of the shelf was counted; a sure shelf lacks a file that the command
     // asks for. What was taken, or the lines before the one that asks for a file, was answered; of
-    // `check` it is told at which of its files the shelf failed.
+    // `check` it is said at which of its files the shelf failed.
     ensures read_fault { let said = said_by words.now in
         let told = told_by (H.files shelf.old) (H.sure shelf.old) in
         result ≡ Status.ReadFault → HasReadFault said

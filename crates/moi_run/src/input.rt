@@ -1,4 +1,4 @@
-//! Lines of an input that are answered, up to its end or the line that ends the work.
+//! Lines of an input that are answered, up to its end or the line that ends the run.
 ghost use Rattle.std.specs.Prelude.{◌≡◌, ◌≢◌, ◌+◌, [], Some, IfSome, false};
 ghost use Rattle.std.specs.Str.Lines.{lines};
 ghost use Rattle.command_words.specs.declared.words.Command.TheVariants.{Run};
@@ -60,7 +60,7 @@ pub(crate) fn answer_script<B: Bridge, H: Shelf, I: Source, O: Sink>(
     }
 }
 
-// Answers line after line, up to the end of the input or the line that ends the work.
+// Answers line after line, up to the end of the input or the line that ends the run.
 fn answer_lines<B: Bridge, H: Shelf, I: Source, O: Sink>(
     alloc: Global,
     reader: &mut LineReader,

@@ -14,7 +14,8 @@ use Rattle.bridge_graph.specs.Hypergraph.{Hypergraph, IsCostly}
 use Rattle.bridge_graph.specs.Tree.{IsTreeless, by as by_edge, native}
 use Rattle.bridge_graph.specs.declared.Choice.{Choice}
 use Rattle.bridged_report.specs.Places.{place_at}
-use Rattle.cache_layer.specs.Answers.{Becomes, IsAttached, IsEdited, IsLoaded, after_edits}
+use Rattle.cache_layer.specs.Answers.{Becomes, IsAttached, IsEdited, IsLoaded}
+use Rattle.model_load.specs.Loads.{after_edits}
 use Rattle.cache_layer.specs.State.{Bridging, Changes, HasLeaves, OverflowsAt, State, leaves, with_model}
 use Rattle.cache_layer.specs.declared.fault.AttachFault.{AttachFault}
 use Rattle.cache_layer.specs.declared.fault.AttachFault.TheVariants as attach

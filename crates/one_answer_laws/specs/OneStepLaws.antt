@@ -18,7 +18,8 @@ use Rattle.cache_layer.specs.declared.fault.OptFault.{OptFault}
 use Rattle.cache_layer.specs.declared.fault.OptFault.TheVariants as opt
 use Rattle.certificates.specs.declared.certificate.Certificate.{Certificate}
 use Rattle.edit_engine.specs.Bare.{is_bare}
-use Rattle.edit_engine.specs.Script.{Detaches, DoesSaid, IsChosen, IsCost, IsPlan, LoadsEdits, LoadsWhere, Machine, Shows, Tabled, attach_answer, done, edit_answer, fault_answer, load_answer, optimize_answer}
+use Rattle.edit_engine.specs.Script.{Detaches, DoesSaid, IsChosen, IsCost, IsPlan, LoadsEdits, LoadsWhere, Machine, Shows, Tabled, attach_answer, done, edit_answer, load_answer, optimize_answer}
+use Rattle.file_answers.specs.FileAnswers.{fault_answer}
 use Rattle.edit_engine.specs.Tables.{costing, supporting, switched, targeted}
 use Rattle.fresh_bridging.specs.ChoiceLaws.{one_choice}
 use Rattle.fresh_bridging.specs.OnceLaws.{same_leaves}

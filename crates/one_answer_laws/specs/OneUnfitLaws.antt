@@ -1,4 +1,4 @@
--- Of what is carried back the first that doesn't fit stands at one address, and nothing is told
+-- Of what is carried back the first that doesn't fit stands at one address, and nothing is reported
 -- where everything fits.
 use Rattle.std.specs.Prelude.{◌≡◌, ℕ, zero, suc, List, [], ◌∷◌, All}
 use Rattle.std.proofs.Common.{inl, inr, sym, ◌∙◌}
@@ -20,7 +20,7 @@ use Rattle.ratio_core.specs.Rational.{Rational}
 use Rattle.tree_laws.specs.Carried.{LeafDuals}
 use Rattle.user_model.specs.Model.{ModelValue}
 
--- one address at most is told, and none where all fits
+-- one address at most is reported, and none where all fits
 pub record IsTold (Fits : Type 0) (Told : Address → Type 0) : Type 0 where
   pub once : (at other : Address) → Told at → Told other → at ≡ other
   pub unfit : (at : Address) → Told at → Fits → ⊥

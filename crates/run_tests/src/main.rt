@@ -6,7 +6,7 @@
 //     model, certificate, script
 //                            what stands in `m.json`, in `c.txt` and in the script: the lines below
 //                            that begin with `|`, or with `>` where no newline ends them
-//     piece N                a read gives and a write takes so many bytes at most, and not 4,096
+//     piece N                a read gives and a write takes N bytes at most, and not 4,096
 //     failing read N         the read of this number fails, or the write, or the fetch
 //     full                   each write runs out of memory
 //     boxed                  boxes with a bridge of `GreaterLess`, a second one of it, and one of

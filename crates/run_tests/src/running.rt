@@ -138,7 +138,7 @@ fn run_by<H: Shelf, B: Bridge>(
     }
 }
 
-// The session is lent, so that no way out lets go of it.
+// The session is lent, so that no way out frees it.
 fn run_session<H: Shelf, B: Bridge>(
     rt: &HostRuntime,
     case: &Case,

@@ -1,4 +1,4 @@
--- What was checked is told.
+-- What was checked is reported.
 use Rattle.certificate_check.proofs.Judged.{judged_by_check, judged_by_overflow}
 use Rattle.certificate_check.proofs.judging.judge.Goals as goal
 

@@ -1,6 +1,6 @@
 -- What the shelf gave, and what was answered to it.
 use Rattle.std.proofs.Common.{Err, ap, refl, subst}
-use Rattle.edit_engine.specs.AskingLaws.{on_ok}
+use Rattle.file_answers.specs.AskingLaws.{on_ok}
 use Rattle.io_face.specs.Shelf.{Gives}
 use Rattle.io_face.specs.Told.{told_by}
 use Rattle.io_face.specs.ToldLaws.{asked_for}

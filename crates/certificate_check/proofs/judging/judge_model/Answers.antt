@@ -1,6 +1,6 @@
 -- For which files the shelf is asked.
 use Rattle.std.proofs.Common.{Err, Ok, ap, ◌∙◌}
-use Rattle.edit_engine.specs.AskingLaws.{on_fault}
+use Rattle.file_answers.specs.AskingLaws.{on_fault}
 use Rattle.io_face.specs.Told.{told_by}
 use Rattle.certificate_check.proofs.Asking.{asks_both, asks_one}
 use Rattle.certificate_check.proofs.judging.judge_model.Goals as goal

@@ -6,7 +6,7 @@ use Rattle.lazy_bridge.specs.Few.{ChangesFew}
 use Rattle.edit_engine.proofs.FewTold.{preset_few}
 use Rattle.edit_engine.proofs.lines.preset.Goals as goal
 use Rattle.edit_engine.proofs.lines.preset.Goals.{in-Err, in-Ok}
-use Rattle.edit_engine.specs.AskingLaws.{on_ok}
+use Rattle.file_answers.specs.AskingLaws.{on_ok}
 
 pub returns-clause-few : goal.returns-clause-few
 returns-clause-few g c =

@@ -2,7 +2,7 @@
 use Rattle.std.proofs.Common.{ap, refl, sym, ◌∙◌}
 use Rattle.model_store.specs.Store.{Stored}
 use Rattle.edit_engine.proofs.Asking.{asks_attached, asks_bare, asks_full}
-use Rattle.edit_engine.specs.AskingLaws.{on_fault, on_ok}
+use Rattle.file_answers.specs.AskingLaws.{on_fault, on_ok}
 use Rattle.edit_engine.specs.Bare.{is_bare}
 use Rattle.edit_engine.proofs.loading.load.Goals as goal
 use Rattle.edit_engine.proofs.FewTold.{few_stays}

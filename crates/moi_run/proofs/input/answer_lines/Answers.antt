@@ -221,7 +221,7 @@ returns-in-Err-answer_line-clause-not_usage g c =
     exits.no_usage_at_stop c.in-Err-answer_line.stop c.from-in-Err-answer_line.result
     c.from-in-Err-answer_line.ensures
 
--- ---- at the line that ends the work
+-- ---- at the line that ends the run
 
 pub returns-in-Quit-clause-outcome : goal.returns-in-Quit-clause-outcome
 returns-in-Quit-clause-outcome g c =

@@ -1,6 +1,6 @@
 -- Edits made one after another, and what leads back from them.
 use Rattle.std.specs.Prelude.{◌≡◌, List, [], ◌∷◌, ◌++◌, None, Result, Ok, Err}
-use Rattle.cache_layer.specs.Answers.{after_edits}
+use Rattle.std.specs.Option.{option_map_or}
 use Rattle.model_store.specs.Store.{HasParked, Stored, refusal_of}
 use Rattle.model_store.specs.declared.parked.Parked.{Parked}
 use Rattle.user_model.specs.Accepted.{LeadsTo}
@@ -9,9 +9,16 @@ use Rattle.user_model.specs.Model.{ModelValue}
 use Rattle.user_model.specs.Refusals.{first_refusal}
 use Rattle.user_model.specs.Undone.{before}
 use Rattle.user_model.specs.declared.edit.Edit.{Edit}
+use Rattle.user_model.specs.declared.refusal.Refusal.{Refusal}
 use Rattle.user_model.specs.declared.refusal.ApplyFault.{ApplyFault}
 use Rattle.user_model.specs.declared.refusal.ApplyFault.TheVariants.{Memory, Refused}
 use Rattle.user_model.specs.declared.undo.Undo.{Undo}
+
+-- edits one after another, or why the first that is refused is
+unfoldable pub after_edits : ModelValue → List Edit → Result ModelValue Refusal
+after_edits model [] = Ok model
+after_edits model (edit ∷ edits) =
+    option_map_or Err (first_refusal model edit) (after_edits (edited model edit) edits)
 
 -- an edit is made for good, or nothing changed
 abbrev pub IsMadeBy : Stored → Edit → Result Unit ApplyFault → Stored → Type 0

@@ -1,8 +1,8 @@
 use Rattle.std.proofs.Common.{length, reverse, ap, sym, arith, ◌∙◌}
 use Rattle.std.specs.Vec.Iter.{into_iter_items}
 use Rattle.std.proofs.lemmas.List.{nil_from_length}
-use Rattle.cache_layer.proofs.Stepping.{all_made, kept_back, one_made, one_refused, waits}
-use Rattle.cache_layer.proofs.loading.load_all.Goals as goal
+use Rattle.model_load.proofs.Stepping.{all_made, kept_back, one_made, one_refused, waits}
+use Rattle.model_load.proofs.loading.load_all.Goals as goal
 
 pub returns-in-Err : goal.returns-in-Err
 returns-in-Err c =

@@ -3,14 +3,13 @@ ghost use Rattle.std.specs.Prelude.{◌≡◌, List, IfErr, OnErr, OnOk, reverse
 ghost use Rattle.model_store.specs.Store.{Stored, refusal_of};
 ghost use Rattle.model_store.specs.declared.parked.Parked.{Parked};
 ghost use Rattle.user_model.specs.Refusals.{first_refusal};
-ghost use Rattle.cache_layer.specs.Loads.{AreMadeBy, AreParkedFor, IsNextStep, LeadBack};
+ghost use Rattle.model_load.specs.Loads.{AreMadeBy, AreParkedFor, IsLastStep, IsNextStep, LeadBack};
 
-use crate::edits::take_back;
 use model_store::{Undo, UserModel};
 use user_model::{ApplyFault, Edit};
 
 /// Makes edits in turn and for good, or none of them: where one is refused, its refusal is the
-/// answer, and where memory is wanting, the model is as it was too. On an empty model it makes the
+/// answer, and where memory runs out, the model is as it was too. On an empty model it makes the
 /// model that the edits of a file say.
 pub fn load_all(model: &mut UserModel, edits: Vec<Edit>) -> Result<(), ApplyFault>
     ensures { AreMadeBy model.old edits.items result model.new }
@@ -24,6 +23,15 @@ pub fn load_all(model: &mut UserModel, edits: Vec<Edit>) -> Result<(), ApplyFaul
     }
     settle_all(model, undos);
     Ok(())
+}
+
+/// Takes the last edit back that waits, so that the model is as it was before.
+#[tactic(auto, using(crate::proofs::Stepping::taken_back))]
+pub fn take_back(model: &mut UserModel, undo: Undo)
+    requires { (start : Stored) × IsLastStep start undo model.old }
+    ensures { (start : Stored) → IsLastStep start undo model.old → model.new ≡ start }
+{
+    model.take_back(undo);
 }
 
 // Makes an edit, and puts what leads back from it last.

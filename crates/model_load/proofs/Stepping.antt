@@ -13,8 +13,8 @@ use Rattle.user_model.specs.declared.edit.Edit.{Edit}
 use Rattle.user_model.specs.declared.refusal.ApplyFault.{ApplyFault}
 use Rattle.user_model.specs.declared.refusal.ApplyFault.TheVariants.{Memory, Refused}
 use Rattle.user_model.specs.declared.undo.Undo.{Undo}
-use Rattle.cache_layer.specs.Answers.{after_edits}
-use Rattle.cache_layer.specs.Loads.{AreMadeBy, AreParkedFor, IsLastStep, IsNextStep, LeadBack}
+use Rattle.model_load.specs.Loads.{after_edits}
+use Rattle.model_load.specs.Loads.{AreMadeBy, AreParkedFor, IsLastStep, IsNextStep, LeadBack}
 
 -- ---- one edit
 

@@ -1,7 +1,7 @@
 use Rattle.std.proofs.Common.{◌≡◌, List, reverse, vec_len}
 use Rattle.model_store.specs.declared.parked.Parked.{Parked}
-use Rattle.cache_layer.specs.Loads.{AreParkedFor}
-use Rattle.cache_layer.proofs.loading.settle_all.Given as goal
+use Rattle.model_load.specs.Loads.{AreParkedFor}
+use Rattle.model_load.proofs.loading.settle_all.Given as goal
 
 abbrev pub invariant-loop-undo : goal.invariant-loop-undo
 invariant-loop-undo l = record {

@@ -1,7 +1,7 @@
 use Rattle.std.proofs.Common.{reverse, vec_len}
 use Rattle.model_store.specs.Store.{Stored}
-use Rattle.cache_layer.specs.Loads.{LeadBack}
-use Rattle.cache_layer.proofs.loading.take_back_all.Given as goal
+use Rattle.model_load.specs.Loads.{LeadBack}
+use Rattle.model_load.proofs.loading.take_back_all.Given as goal
 
 abbrev pub invariant-loop-undo : goal.invariant-loop-undo
 invariant-loop-undo l =

@@ -1,7 +1,7 @@
 use Rattle.std.proofs.Common.{reverse, subst, sym}
-use Rattle.cache_layer.specs.Loads.{LeadBack}
-use Rattle.cache_layer.proofs.Stepping.{last_step}
-use Rattle.cache_layer.proofs.loading.take_back_all.Goals as goal
+use Rattle.model_load.specs.Loads.{LeadBack}
+use Rattle.model_load.proofs.Stepping.{last_step}
+use Rattle.model_load.proofs.loading.take_back_all.Goals as goal
 
 pub loop-undo-preserved : goal.loop-undo-preserved
 loop-undo-preserved c = λ start h.

@@ -1,0 +1,18 @@
+-- What is answered where the edits of a file weren't read.
+use Rattle.mof_fetch.specs.declared.fault.FileFault.{FileFault}
+use Rattle.mof_fetch.specs.declared.fault.FileFault.TheVariants as file
+use Rattle.report_core.specs.Refused.{refusal_text}
+use Rattle.report_core.specs.declared.answer.Answer.{Answer}
+use Rattle.report_core.specs.declared.answer.Answer.TheVariants.{Memory, ReadFault, Refused, TooLong}
+use Rattle.report_core.specs.declared.refused.Refused as refusal
+use Rattle.report_core.specs.declared.refused.Refused.TheVariants.{File}
+
+abbrev pub refused : refusal.Refused → Answer
+refused r = Refused (refusal_text r)
+
+-- why no edits were read of a file
+abbrev pub fault_answer : FileFault → Answer
+fault_answer file.Failed = ReadFault
+fault_answer file.TooLong = TooLong
+fault_answer (file.Unread number place) = refused (File number place)
+fault_answer file.Memory = Memory
