@@ -14,3 +14,4 @@ mod Mapping
 mod Noting
 mod Variables
 mod Marking
+mod Placing

@@ -1,9 +1,10 @@
 //! The lazy bridging of a user's model.
-ghost use Rattle.std.specs.Prelude.{◌≡◌, ◌≢◌, ◌↔◌, All, Err, IfOk, IfSome, IsNone, IsTrue, OnErr, OnOk};
+ghost use Rattle.std.specs.Prelude.{◌≡◌, ◌≢◌, ◌↔◌, All, Err, IfOk, IfSome, IsNone, IsSome, IsTrue, OnErr, OnOk};
 ghost use Rattle.std.specs.Prelude as prelude;
 ghost use Rattle.std.specs.FinMap as finite;
 ghost use Rattle.std.specs.List.{list_all};
-ghost use Rattle.aff_core.specs.Address.{Address};
+ghost use Rattle.aff_core.specs.Address.{Address, root_address};
+ghost use Rattle.aff_core.specs.declared.root.Root.TheVariants.{Objective};
 ghost use Rattle.bridge_set.specs.Boxed.{families_of, means_of, occur_once};
 ghost use Rattle.bridge_graph.specs.Hypergraph.{is_edge_cost};
 ghost use Rattle.bridge_graph.specs.Tree.{IsLeastCost, IsTreeless};
@@ -13,11 +14,13 @@ ghost use Rattle.item_core.specs.Kind.{kind_number};
 ghost use Rattle.leaf_update.specs.Named.{NamesEach};
 ghost use Rattle.lazy_bridge.specs.Few.{CanPush, ChangesFew, IsPushedByFew};
 ghost use Rattle.lazy_bridge.specs.Native.{supports_native};
-ghost use Rattle.lazy_bridge.specs.Owned.{HasLeavesOf, HoldsNothing, leaf_model_in, setting_in};
+ghost use Rattle.lazy_bridge.specs.Owned.{HasLeavesOf, HoldsNothing, IsBridgingOf, leaf_model_in, setting_in};
 ghost use Rattle.lazy_bridge.specs.Plans.{Holds, IsPuttable};
 ghost use Rattle.lazy_bridge.specs.Pushed.{Counts, IsBridgedBy, IsPlannedBy};
+ghost use Rattle.objective_laws.specs.ObjectivePlace.{LeadsTo};
 ghost use Rattle.small_numbers.specs.SmallNumbers.{HasSmallNumbers};
 ghost use Rattle.solver_store.specs.SolverModel.{no_leaves};
+ghost use Rattle.user_model.specs.Model.{ModelValue};
 ghost use Rattle.user_model.specs.Valid.{IsValid};
 
 use crate::change::{capped, let_all_go, put_model};
@@ -310,6 +313,19 @@ impl<B: Bridge> LazyOver<B> {
         ensures { prelude.map B.state result.now ≡ self.now.boxes.states }
     {
         self.boxes.bridges()
+    }
+
+    /// The address of the objective of the solver's model: the one to which the boxes lead from
+    /// the root of the user's objective.
+    pub fn objective_at(&self) -> &Address
+        ensures at { result.now ≡ self.now.objective_at }
+        ensures place { (model : ModelValue) → IsBridgingOf self.now model
+            → IsSome self.now.solver.leaves.objective
+            → LeadsTo self.now.boxes.states (root_address Objective 0) result.now }
+    {
+        // what this ensures of the choices and of the table
+        let _sound = self.boxes.table();
+        &self.objective_at
     }
 
     /// How an item of the kind reaches the solver at least cost.

@@ -31,6 +31,8 @@ pub struct Case {
     pub piece: usize,
     /// The call that fails.
     pub failing: Option<(Call, u64)>,
+    /// Whether each write runs out of memory.
+    pub full: bool,
     /// Whether the session has a few boxed bridges, in place of one of each family.
     pub boxed: bool,
     /// Whether what the session is left with is printed.
@@ -49,6 +51,7 @@ impl Case {
             part: Part::Script,
             piece: 4096,
             failing: None,
+            full: false,
             boxed: false,
             left: false,
             last: None,

@@ -8,6 +8,7 @@
 //                            that begin with `|`, or with `>` where no newline ends them
 //     piece N                a read gives and a write takes N bytes at most, and not 4,096
 //     failing read N         the read of this number fails, or the write, or the fetch
+//     full                   each write runs out of memory
 //     boxed                  boxes with a bridge of `GreaterLess`, a second one of it, and one of
 //                            `NonposVar`, in place of a bridge of each family
 //     left                   has printed what the session is left with: whether a solver is
@@ -19,6 +20,7 @@
 #![tactic(auto)]
 
 mod case;
+mod full;
 mod last;
 mod reading;
 mod running;

@@ -29,6 +29,7 @@ fn named(rt: &HostRuntime, case: &mut Case, word: &str) -> Result<(), Stop> {
         "model" => case.part = Part::Model,
         "certificate" => case.part = Part::Certificate,
         "script" => case.part = Part::Script,
+        "full" => case.full = true,
         "boxed" => case.boxed = true,
         "left" => case.left = true,
         "run" => return run_case(rt, case),

@@ -5,6 +5,7 @@ ghost use Rattle.bridge_set.specs.Boxed.{families_of, occur_once};
 ghost use Rattle.edit_engine.specs.Held.{state_of};
 
 use crate::case::{Call, Case};
+use crate::full::Full;
 use crate::last::run_last;
 use any_bridge::all_bridges;
 use bridge_face::Bridge;
@@ -148,6 +149,9 @@ fn run_session<H: Shelf, B: Bridge>(
     requires piece { 1 ≤ case.now.piece }
     requires detached { (state_of session.old).attached ≡ false }
 {
+    if case.full {
+        return run_full(rt, case, shelf, input, session);
+    }
     let writes = failing(rt.alloc(), case.failing(Call::Write))?;
     let mut output = MemSink::new(rt.alloc(), case.piece, writes);
     let status = run(rt.alloc(), &case.words, shelf, input, &mut output, session);
@@ -157,6 +161,21 @@ fn run_session<H: Shelf, B: Bridge>(
     } else {
         Ok(())
     }
+}
+
+// Into a sink without memory.
+fn run_full<H: Shelf, B: Bridge>(
+    rt: &HostRuntime,
+    case: &Case,
+    shelf: &mut H,
+    input: &mut MemSource,
+    session: &mut SessionOver<B>,
+) -> Result<(), Stop>
+    requires { (state_of session.old).attached ≡ false }
+{
+    let mut output = Full;
+    let status = run(rt.alloc(), &case.words, shelf, input, &mut output, session);
+    tell(rt, status.number(), b"")
 }
 
 fn tell(rt: &HostRuntime, status: u8, written: &[u8]) -> Result<(), Stop> {

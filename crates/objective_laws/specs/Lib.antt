@@ -1,0 +1,3 @@
+pub mod ObjectivePlace
+pub mod DownLaws
+pub mod PlaceLaws
