@@ -1,4 +1,4 @@
-use Rattle.std.proofs.Common.{◌≡◌, Some, map, take}
+use Rattle.std.proofs.Common.{◌≡◌, Some, take}
 use Rattle.fresh_bridging.specs.Entries.{expression_in, function_in, is_kept}
 use Rattle.lazy_bridge.specs.Expressed.{SetsAt, expr_at, is_marked}
 use Rattle.lazy_bridge.proofs.Variables.{numbered}

@@ -1,4 +1,4 @@
-use Rattle.std.proofs.Common.{◌≡◌, None, false, map, take}
+use Rattle.std.proofs.Common.{◌≡◌, None, false, take}
 use Rattle.lazy_bridge.specs.Expressed.{SetsAt, expr_at, is_marked}
 use Rattle.lazy_bridge.proofs.Variables.{numbered}
 use Rattle.lazy_bridge.proofs.expressing.forget_each.Given as goal
