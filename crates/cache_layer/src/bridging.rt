@@ -35,10 +35,10 @@ pub(crate) fn fill<B: Bridge>(lazy: &mut LazyOver<B>, model: &UserModel) -> Resu
 
 /// Bridges a model after edits in place of the one before, to which the undos lead back. The answer
 /// is the number of addresses at which leaves differ.
-pub(crate) fn push<B: Bridge>(
+pub(crate) fn push<'a, B: Bridge>(
     lazy: &mut LazyOver<B>,
-    model: &UserModel,
-    undos: &[Undo],
+    model: &'a UserModel,
+    undos: &'a [Undo],
 ) -> Result<u64, BridgeFault>
     requires { (before : ModelValue) × IsBridgingOf lazy.old before
         × LeadBackTo before undos.now model.now.model }
