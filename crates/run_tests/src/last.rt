@@ -15,7 +15,8 @@ struct Indices {
 }
 
 /// Has a session make the lines of a script and then a last one, and prints what that is answered,
-/// how many calls of the solver's model it takes, and how many leaves keep their index.
+/// how many calls of the solver's model it takes, of how many that all lines took, how many turns of
+/// the bridges, and how many leaves keep their index.
 pub fn run_last<H: Shelf, B: Bridge>(
     rt: &HostRuntime,
     script: &[u8],
@@ -26,11 +27,12 @@ pub fn run_last<H: Shelf, B: Bridge>(
     for line in script.split(|byte| *byte == b'\n') {
         drop(session.line(line, shelf));
     }
-    let calls = calls_in(session);
+    let (calls, turns) = (calls_in(session), turns_in(session));
     let before = indices_in(rt.alloc(), session)?;
     tell_answer(rt, &session.line(last, shelf))?;
-    let more = calls_in(session).saturating_sub(calls);
-    rt.println(format_args!("calls {more}"))?;
+    let all = calls_in(session);
+    rt.println(format_args!("calls {} of {all}", all.saturating_sub(calls)))?;
+    rt.println(format_args!("turns {}", turns_in(session).saturating_sub(turns)))?;
     tell_kept(rt, &before, session)
 }
 
@@ -63,6 +65,15 @@ fn tell_kept<B: Bridge>(
 
 fn calls_in<B: Bridge>(session: &SessionOver<B>) -> u64 {
     session.cache().lazy().solver().calls()
+}
+
+// The turns that all bridges have taken.
+fn turns_in<B: Bridge>(session: &SessionOver<B>) -> u64 {
+    let mut turns: u64 = 0;
+    for bridge in session.cache().lazy().bridges() {
+        turns = turns.saturating_add(bridge.turns());
+    }
+    turns
 }
 
 fn indices_in<B: Bridge>(alloc: Global, session: &SessionOver<B>) -> Result<Indices, Stop> {

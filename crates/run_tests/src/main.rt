@@ -13,9 +13,11 @@
 //                            `NonposVar`, in place of a bridge of each family
 //     left                   has printed what the session is left with: whether a solver is
 //                            attached, and the model as a file's text
-//     rows N                 the script has N lines more, `row R >= 0 : 1*x` with R from r1 on
+//     rows FIRST N TERMS     the script has N lines more, `row R >= 0 : TERMS` with R from rFIRST on
+//     sets FIRST N BOUND     the script has N lines more, `set R >= BOUND` with R from rFIRST on
 //     last LINE              the script's lines and then this one are made by a session, and what
-//                            this one does to the solver's model is printed
+//                            this one does to the solver's model is printed, with the turns of the
+//                            bridges that it takes
 //     run                    runs the case
 #![tactic(auto)]
 

@@ -48,7 +48,8 @@ fn told(rt: &HostRuntime, case: &mut Case, word: &str, rest: &str) -> Result<(),
             Ok(())
         }
         "failing" => fail(case, rest),
-        "rows" => put_rows(case, rest.parse()?),
+        "rows" => put_rows(case, rest),
+        "sets" => put_sets(case, rest),
         "last" => {
             case.last = Some(String::from_str(rt.alloc(), rest)?);
             Ok(())
@@ -70,13 +71,37 @@ fn put_words(case: &mut Case, words: &str) -> Result<(), Stop> {
     Ok(())
 }
 
-fn put_rows(case: &mut Case, count: u32) -> Result<(), Stop> {
+fn put_rows(case: &mut Case, told: &str) -> Result<(), Stop> {
     let alloc = *case.script.allocator();
+    let (first, count, terms) = numbers_and_text(told)?;
     for n in 0..count {
-        let line = format!(in alloc; "row r{} >= 0 : 1*x\n", u64::from(n) + 1)?;
+        let number = u64::from(first) + u64::from(n);
+        let line = format!(in alloc; "row r{number} >= 0 : {terms}\n")?;
         case.script.extend_from_slice(line.as_bytes())?;
     }
     Ok(())
+}
+
+fn put_sets(case: &mut Case, told: &str) -> Result<(), Stop> {
+    let alloc = *case.script.allocator();
+    let (first, count, bound) = numbers_and_text(told)?;
+    for n in 0..count {
+        let number = u64::from(first) + u64::from(n);
+        let line = format!(in alloc; "set r{number} >= {bound}\n")?;
+        case.script.extend_from_slice(line.as_bytes())?;
+    }
+    Ok(())
+}
+
+// The first number, how many there are, and a text.
+fn numbers_and_text(told: &str) -> Result<(u32, u32, &str), Stop> {
+    let Some((first, rest)) = told.split_once(' ') else {
+        return Err(Stop);
+    };
+    let Some((count, text)) = rest.split_once(' ') else {
+        return Err(Stop);
+    };
+    Ok((first.parse()?, count.parse()?, text))
 }
 
 fn fail(case: &mut Case, told: &str) -> Result<(), Stop> {
