@@ -6,7 +6,7 @@ from dataclasses import dataclass
 
 TOP = os.path.dirname(os.path.dirname(os.path.dirname(os.path.abspath(__file__))))
 TABLE = os.path.join(TOP, "crates", "item_core", "src", "edge.rt")
-ROW = re.compile(r"^\s*E(\d+) (\w+) (\w+) =>((?: \w+)*);", re.MULTILINE)
+ROW = re.compile(r"^\s*E(\d+) (\w+) (?:keeps|rewrites) (\w+) =>((?: \w+)*);", re.MULTILINE)
 KIND = re.compile(r"(Plain|Affine|Vplain|Vaffine|Group|Min|Max)(\w+)")
 
 

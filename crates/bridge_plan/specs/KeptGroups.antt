@@ -27,7 +27,8 @@ use Rattle.item_core.specs.declared.item.Body.TheVariants.{Group, Free}
 use Rattle.item_core.specs.declared.item.Item.{Item}
 use Rattle.item_core.specs.declared.kind.Kind.{Kind}
 use Rattle.item_core.specs.declared.kind.Kind.TheVariants as kind
-use Rattle.item_core.specs.Edge.{children_of, edge_entry, family_eq, family_of}
+use Rattle.item_core.specs.Edge.{children_of, edge_entry, family_eq, family_of, keeps_components}
+use Rattle.item_core.specs.EdgeLaws.{keeps_by_family}
 use Rattle.item_core.specs.Item.{functions_of, is_group, set_of, variables_of}
 use Rattle.item_core.specs.Kind.{kind_eq, kind_number}
 use Rattle.item_core.specs.KindOf.{kind_of_body}
@@ -45,7 +46,7 @@ use Rattle.fresh_bridging.specs.TheRules.{AreChoices, Setting, edge_at, graph_of
 -- ---- by the choices
 
 abbrev pub is_later : ℕ → Bool
-is_later edge = family_eq (family_of (edge_at edge)) family.Later
+is_later edge = keeps_components (edge_at edge)
 
 -- the kind of the group that such an edge begins with
 abbrev pub begun_kind : ℕ → Kind
@@ -113,7 +114,8 @@ rewritten_outer edge item entries h =
     (All-weaker (λ e. not (is_kept e) ≡ true) (λ e. is_kept (put_into entries e) ≡ false)
     (λ e k. still_rewritten entries e (not-true (is_kept e) k)) exprs
     (AllPass-from_list_all (λ e. not (is_kept e)) exprs
-    (rewritten_by (family_of (edge_at edge)) (edge_at edge) item h)))
+    (rewritten_by (family_of (edge_at edge)) (edge_at edge) item
+    (sym (keeps_by_family (edge_at edge)) ∙ h))))
 
 -- ---- later
 
@@ -131,13 +133,15 @@ later_groups : (edge : ℕ) (item : Item) → is_later edge ≡ true
     → (image_of (edge_at edge) item).groups ≡ begun edge item ∷ []
 unfolding image_by
 later_groups edge item h =
-    ap (λ f. (image_by f (edge_at edge) item).groups) (later_is (family_of (edge_at edge)) h)
+    ap (λ f. (image_by f (edge_at edge) item).groups)
+    (later_is (family_of (edge_at edge)) (sym (keeps_by_family (edge_at edge)) ∙ h))
 
 later_exprs : (edge : ℕ) (item : Item) → is_later edge ≡ true
     → (image_of (edge_at edge) item).exprs ≡ map Kept (inner item (size item))
 unfolding image_by
 later_exprs edge item h =
-    ap (λ f. (image_by f (edge_at edge) item).exprs) (later_is (family_of (edge_at edge)) h)
+    ap (λ f. (image_by f (edge_at edge) item).exprs)
+    (later_is (family_of (edge_at edge)) (sym (keeps_by_family (edge_at edge)) ∙ h))
 
 begun_is : (b : Bool) (item : Item) (n : ℕ)
     → kind_of_body (cond b (free_at item n) (group_at item (Reals n) n)).body
@@ -239,7 +243,8 @@ module _ (setting : Setting) (costly : IsCostly (graph_of setting)) (choice : �
       → kind_of_body group.body ≡ begun_kind edge → is_later n ≡ false
   never_later group is n edge e kind_is =
       let there = down setting costly choice chosen lawful group is.can n e in
-      ap (λ x. family_eq x.family family.Later)
+      keeps_by_family (edge_at n)
+      ∙ ap (λ x. family_eq x.family family.Later)
       (ap edge_entry there.is_entry.edge ∙ there.is_entry.entry_is)
       ∙ not_both (family_eq there.entry.family family.Later) (kind_eq there.entry.source kind.Free
       || kind_eq there.entry.source kind.GroupReals)

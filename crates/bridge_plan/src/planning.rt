@@ -17,7 +17,7 @@ use crate::{Entry, Plan, Rewriter, Standing};
 use aff_core::Address;
 use bridge_face::KeptItem;
 use bridge_graph::Choice;
-use item_core::{Body, EDGES, Edge, EdgeEntry, Expression, Item, Items, kind_of};
+use item_core::{Body, Edge, Expression, Item, Items, kind_of};
 use lists::Memory;
 use ratio_core::NumberFault;
 use std::alloc::Global;
@@ -142,19 +142,11 @@ fn plan_in<R: Rewriter>(
 }
 
 /// The edge of a number in the graph of kinds.
+#[tactic(auto, using(item_core::specs::EdgeLaws::edge_or))]
 pub fn edge_of(edge: u8) -> Edge
     ensures { result ≡ edge_at edge }
 {
-    match entry_at(&EDGES, edge as usize) {
-        Some(entry) => entry.edge,
-        None => Edge::E1,
-    }
-}
-
-fn entry_at(entries: &[EdgeEntry], n: usize) -> Option<EdgeEntry>
-    ensures { result ≡ slice_get entries.now n }
-{
-    entries.get(n).copied()
+    Edge::numbered(edge as usize).unwrap_or(Edge::E1)
 }
 
 // Plans a native item: it is a leaf, and a group keeps its components.

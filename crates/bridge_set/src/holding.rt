@@ -1,15 +1,14 @@
 //! The boxes.
-ghost use Rattle.std.specs.Prelude.{◌≡◌, ◌↔◌, ◌≤◌, ◌+◌, All, IfOk, IfSome, IsNone, IsTrue, OnErr, OnOk, flat_map, length, map, slice_index_or, true};
+ghost use Rattle.std.specs.Prelude.{◌≡◌, ◌↔◌, ◌≤◌, ◌+◌, All, IfOk, IfSome, IsNone, IsTrue, OnErr, OnOk, flat_map, length, map, true};
 ghost use Rattle.std.specs.FinMap as finite;
 ghost use Rattle.std.specs.List.{list_all, list_any};
 ghost use Rattle.bridge_graph.specs.Hypergraph.{is_edge_cost};
 ghost use Rattle.bridge_graph.specs.Tree.{IsLeastCost, IsTreeless};
-ghost use Rattle.item_core.specs.declared.edge.Edge.TheVariants.{E1};
 ghost use Rattle.item_core.specs.Edge.{family_eq, family_of};
 ghost use Rattle.item_core.specs.Kind.{kind_number};
 ghost use Rattle.bridge_face.specs.Law.{IsItemFor};
 ghost use Rattle.bridge_face.specs.State.{all_gone, given, tried};
-ghost use Rattle.fresh_bridging.specs.TheRules.{edge_at, graph_of};
+ghost use Rattle.fresh_bridging.specs.TheRules.{graph_of};
 ghost use Rattle.bridge_plan.specs.Means.{AreSound};
 ghost use Rattle.bridge_set.specs.Boxed.{AreKeepable, IsFree, at_family, families_of, kept_by, keeping, means_of, occur_once, setting_of};
 ghost use Rattle.bridge_set.specs.Letting.{IsAlone, without, without_each};
@@ -23,8 +22,8 @@ use crate::places::{ask_laws, clear_all, image_by, keep_by, let_go_by};
 use aff_core::Address;
 use bridge_face::{Bridge, KeptItem};
 use bridge_graph::{Choice, Graph};
-use bridge_plan::Rewriter;
-use item_core::{EDGE_COUNT, EDGES, Edge, EdgeEntry, Image, Item, KIND_COUNT, Kind, Table};
+use bridge_plan::{Rewriter, edge_of};
+use item_core::{EDGE_COUNT, Image, Item, KIND_COUNT, Kind, Table};
 use lists::{Memory, Sequence};
 use ratio_core::NumberFault;
 use std::alloc::Global;
@@ -238,22 +237,7 @@ impl<B: Bridge> Rewriter for Boxes<B> {
     }
 
     fn image(&mut self, edge: u8, item: &Item) -> Result<Image, NumberFault> {
-        image_by(&mut self.bridges, edge_numbered(edge), item)
+        image_by(&mut self.bridges, edge_of(edge), item)
     }
 }
 
-// The edge of a number in the graph, and the first one past the last.
-fn edge_numbered(edge: u8) -> Edge
-    ensures { result ≡ edge_at edge }
-{
-    edge_in(&EDGES, edge)
-}
-
-fn edge_in(rows: &[EdgeEntry], n: u8) -> Edge
-    ensures { result ≡ slice_index_or (map (λ row. row.edge) rows.now) n E1 }
-{
-    match rows.get(n as usize) {
-        Some(row) => row.edge,
-        None => Edge::E1,
-    }
-}

@@ -109,7 +109,7 @@ read_fails shelf first certificate (Err file.TooLong) answer reason of is tells 
   one = inl refl;
   gave = may_fail shelf first (Err file.TooLong) reason (ap Some (tells_this is refl tells)) of;
 }
-read_fails shelf first certificate (Err (file.Unread number place)) answer reason of is tells =
+read_fails shelf first certificate (Err (file.Unread kind place)) answer reason of is tells =
     absurd (tells_none is refl tells)
 read_fails shelf first certificate (Err file.Memory) answer reason of is tells =
     absurd (tells_none is refl tells)

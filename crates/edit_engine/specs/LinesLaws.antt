@@ -191,7 +191,7 @@ load_fits : (m : Machine) (name : List ℕ) (read : Result (List Edit) FileFault
     → IsPlainly m (Ok (line.Load name)) answer new
 load_fits m name (Ok edits) new answer read_so does =
     inl (ap ends_or_fetches does.2 ∙ load_plain does.0)
-load_fits m name (Err (file.Unread number place)) new answer read_so does =
+load_fits m name (Err (file.Unread kind place)) new answer read_so does =
     inl (ap ends_or_fetches does.0)
 load_fits m name (Err file.Memory) new answer read_so does =
     inl (ap ends_or_fetches does.0)

@@ -7,7 +7,6 @@ ghost use Rattle.cache_layer.specs.Cached.{state_of};
 ghost use Rattle.cache_layer.specs.State.{with_table};
 ghost use Rattle.lazy_bridge.specs.Few.{ChangesFew};
 ghost use Rattle.lazy_bridge.specs.Native.{supports_native};
-ghost use Rattle.report_core.specs.Refused.{HasFault};
 ghost use Rattle.edit_engine.specs.Counts.{TakesFew};
 ghost use Rattle.edit_engine.specs.Held.{KeepsRefused};
 ghost use Rattle.edit_engine.specs.Lines.{is_load, line_asks, said_asks, says_load};
@@ -126,7 +125,6 @@ fn obey<B: Bridge, H: Shelf>(
 
 /// A refusal, as it is printed.
 pub(crate) fn refuse(alloc: Global, fault: &Refused) -> Result<Answer, Memory>
-    requires { HasFault fault.now }
     ensures { IfOk result (λ answer. answer ≡ refused fault.now) }
 {
     refusal(alloc, fault)

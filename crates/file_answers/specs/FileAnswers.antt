@@ -14,5 +14,5 @@ refused r = Refused (refusal_text r)
 abbrev pub fault_answer : FileFault → Answer
 fault_answer file.Failed = ReadFault
 fault_answer file.TooLong = TooLong
-fault_answer (file.Unread number place) = refused (File number place)
+fault_answer (file.Unread kind place) = refused (File kind place)
 fault_answer file.Memory = Memory

@@ -3,7 +3,6 @@
 
 ghost use Rattle.std.specs.Prelude.{◌≡◌, IfOk, IsErr, Ok};
 ghost use Rattle.file_answers.specs.FileAnswers.{fault_answer};
-ghost use Rattle.mof_fetch.specs.Fetched.{HasNumber};
 
 use lists::Memory;
 use mof_fetch::FileFault;
@@ -12,7 +11,6 @@ use std::alloc::Global;
 
 /// Why no edits were read of a file, as it is answered.
 pub fn tell_fault(alloc: Global, fault: FileFault) -> Result<Answer, Memory>
-    requires { HasNumber fault }
     ensures answer { IfOk result (λ answer. answer ≡ fault_answer fault) }
     ensures failed { fault ≡ FileFault.Failed → result ≡ Ok Answer.ReadFault }
     ensures memory { fault ≡ FileFault.Memory → IsErr result }
@@ -20,7 +18,7 @@ pub fn tell_fault(alloc: Global, fault: FileFault) -> Result<Answer, Memory>
     match fault {
         FileFault::Failed => Ok(Answer::ReadFault),
         FileFault::TooLong => Ok(Answer::TooLong),
-        FileFault::Unread { number, place } => refusal(alloc, &Refused::File { number, place }),
+        FileFault::Unread { kind, place } => refusal(alloc, &Refused::File { kind, place }),
         FileFault::Memory => Err(Memory),
     }
 }

@@ -35,8 +35,8 @@ pub fn check_found<R: Rewriter>(
 {
     let mut kept = ByAddress::new(alloc);
     tell_found(&mut kept, map, rows, objective)?;
-    tell_groups(alloc, rewriter, &mut kept, groups)?;
-    check_found_others(alloc, rewriter, &kept, rows, objective)
+    tell_groups(rewriter, &mut kept, groups)?;
+    check_found_others(rewriter, &kept, rows, objective)
 }
 
 // Marks of the variables that plain functions name.

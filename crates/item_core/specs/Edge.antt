@@ -1,5 +1,6 @@
 -- Edges, read off the table of edges.
-use Rattle.std.specs.Prelude.{ℕ, Bool, List, [], ◌∷◌, map, filter, slice_index_or}
+use Rattle.std.specs.Prelude.{ℕ, Bool, false, List, [], ◌∷◌, Option, map, filter, slice_get, slice_index_or}
+use Rattle.std.specs.Option.{option_map}
 use denote.Enum.Declared.{tag_of}
 use Rattle.item_core.specs.declared.edge.Edge.{Edge}
 use Rattle.item_core.specs.declared.edge.EdgeEntry.{EdgeEntry}
@@ -21,7 +22,21 @@ edge_number edge = tag_of contracts.the_type edge
 unfoldable pub edge_entry : Edge → EdgeEntry
 edge_entry edge =
     slice_index_or EDGES (edge_number edge)
-    (record { edge = edge; family = GreaterLess; source = Free; children = None })
+    (record {
+      edge = edge;
+      family = GreaterLess;
+      keeps = false;
+      source = Free;
+      children = None;
+    })
+
+-- the edge at a place of the table
+abbrev pub edge_numbered : ℕ → Option Edge
+edge_numbered number = option_map (λ row. row.edge) (slice_get EDGES number)
+
+-- a group's components stand as variables of its child group
+abbrev pub keeps_components : Edge → Bool
+keeps_components edge = (edge_entry edge).keeps
 
 abbrev pub source_of : Edge → Kind
 source_of edge = (edge_entry edge).source

@@ -4,3 +4,4 @@ pub mod KindOf
 pub mod Item
 pub mod Valid
 pub mod Table
+pub mod EdgeLaws

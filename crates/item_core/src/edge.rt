@@ -1,6 +1,7 @@
 //! The edges: one table, of which all that is said of edges is read.
-ghost use Rattle.std.specs.Prelude.{◌≡◌, slice_index_or};
-ghost use Rattle.item_core.specs.Edge.{edge_entry, edge_number};
+ghost use Rattle.std.specs.Prelude.{◌≡◌, slice_get, slice_index_or};
+ghost use Rattle.std.specs.Option.{option_map};
+ghost use Rattle.item_core.specs.Edge.{edge_entry, edge_number, edge_numbered};
 ghost use Rattle.item_core.specs.declared.edge.EdgeEntry.{EdgeEntry};
 
 use crate::{Family, Kind};
@@ -87,82 +88,87 @@ pub enum Children {
     Three(Kind, Kind, Kind),
 }
 
-/// What is said of an edge: the family of bridges that it is of, and what it leads from and to.
+/// What is said of an edge: the family of bridges that it is of, whether it keeps components, and
+/// what it leads from and to.
 #[derive(Clone, Copy, Debug, PartialEq, Eq)]
 pub struct EdgeEntry {
     pub edge: Edge,
     pub family: Family,
+    /// Whether a child group's variables stand for a group's components, where other edges from
+    /// groups put functions in their place.
+    pub keeps: bool,
     pub source: Kind,
     pub children: Children,
 }
 
-// The table of edges, a row an edge, in order: its family, and the kinds that it leads from and to.
+// The table of edges, a row an edge, in order: its family, whether it keeps components, and the
+// kinds that it leads from and to.
 macro_rules! edges {
     ($with:ident) => {
         $with! {
-            E1 GreaterLess PlainLessThan => AffineGreaterThan;
-            E2 GreaterLess AffineLessThan => AffineGreaterThan;
-            E3 GreaterLess PlainGreaterThan => AffineLessThan;
-            E4 GreaterLess AffineGreaterThan => AffineLessThan;
-            E5 Vectorize AffineLessThan => VaffineNonpositives;
-            E6 Vectorize AffineGreaterThan => VaffineNonnegatives;
-            E7 Vectorize AffineEqualTo => VaffineZeros;
-            E8 Vectorize PlainLessThan => VaffineNonpositives;
-            E9 Vectorize PlainGreaterThan => VaffineNonnegatives;
-            E10 Vectorize PlainEqualTo => VaffineZeros;
-            E11 SplitSet AffineInterval => AffineGreaterThan AffineLessThan;
-            E12 SplitSet PlainInterval => PlainGreaterThan PlainLessThan;
-            E13 SplitSet AffineEqualTo => AffineGreaterThan AffineLessThan;
-            E14 SplitSet VaffineZeros => VaffineNonnegatives VaffineNonpositives;
-            E15 Scalarize VaffineZeros => AffineEqualTo;
-            E16 Scalarize VaffineNonnegatives => AffineGreaterThan;
-            E17 Scalarize VaffineNonpositives => AffineLessThan;
-            E18 Scalarize VplainZeros => PlainEqualTo;
-            E19 Scalarize VplainNonnegatives => PlainGreaterThan;
-            E20 Scalarize VplainNonpositives => PlainLessThan;
-            E21 OrthantFlip VaffineNonnegatives => VaffineNonpositives;
-            E22 OrthantFlip VaffineNonpositives => VaffineNonnegatives;
-            E23 ScalarFunctionize PlainLessThan => AffineLessThan;
-            E24 ScalarFunctionize PlainGreaterThan => AffineGreaterThan;
-            E25 ScalarFunctionize PlainEqualTo => AffineEqualTo;
-            E26 ScalarFunctionize PlainInterval => AffineInterval;
-            E27 VectorSlack VaffineNonnegatives => GroupNonnegatives VaffineZeros;
-            E28 VectorSlack VaffineNonpositives => GroupNonpositives VaffineZeros;
-            E29 VectorSlack VaffineNormInfinityCone => GroupNormInfinityCone VaffineZeros;
-            E30 VectorSlack VaffineNormOneCone => GroupNormOneCone VaffineZeros;
-            E31 ScalarSlack AffineLessThan => GroupLessThan AffineEqualTo;
-            E32 ScalarSlack AffineGreaterThan => GroupGreaterThan AffineEqualTo;
-            E33 ScalarSlack AffineInterval => GroupInterval AffineEqualTo;
-            E34 VectorFunctionize VplainZeros => VaffineZeros;
-            E35 VectorFunctionize VplainNonnegatives => VaffineNonnegatives;
-            E36 VectorFunctionize VplainNonpositives => VaffineNonpositives;
-            E37 VectorFunctionize VplainNormInfinityCone => VaffineNormInfinityCone;
-            E38 VectorFunctionize VplainNormOneCone => VaffineNormOneCone;
-            E39 DropReals VplainReals =>;
-            E40 DropReals VaffineReals =>;
-            E41 NormInfinity VaffineNormInfinityCone => VaffineNonnegatives;
-            E42 NormOne VaffineNormOneCone => GroupReals VaffineNonnegatives;
-            E43 FreeVar GroupReals => GroupNonnegatives;
-            E44 NonposVar GroupNonpositives => GroupNonnegatives;
-            E45 ZerosVar GroupZeros =>;
-            E46 VectorizeVar GroupLessThan => GroupNonpositives;
-            E47 VectorizeVar GroupGreaterThan => GroupNonnegatives;
-            E48 VectorizeVar GroupEqualTo => GroupZeros;
-            E49 Later GroupLessThan => Free PlainLessThan;
-            E50 Later GroupGreaterThan => Free PlainGreaterThan;
-            E51 Later GroupEqualTo => Free PlainEqualTo;
-            E52 Later GroupInterval => Free PlainInterval;
-            E53 Later GroupNonnegatives => Free VplainNonnegatives;
-            E54 Later GroupInterval => GroupReals AffineInterval;
-            E55 Later GroupNonnegatives => GroupReals VaffineNonnegatives;
-            E56 Later GroupNormInfinityCone => GroupReals VaffineNormInfinityCone;
-            E57 Later GroupNormOneCone => GroupReals VaffineNormOneCone;
-            E58 ObjFlip MinAffine => MaxAffine;
-            E59 ObjFlip MaxAffine => MinAffine;
-            E60 ObjFunctionize MinPlain => MinAffine;
-            E61 ObjFunctionize MaxPlain => MaxAffine;
-            E62 ObjSlack MinAffine => Free AffineGreaterThan MinPlain;
-            E63 ObjSlack MaxAffine => Free AffineLessThan MaxPlain;
+            E1 GreaterLess rewrites PlainLessThan => AffineGreaterThan;
+            E2 GreaterLess rewrites AffineLessThan => AffineGreaterThan;
+            E3 GreaterLess rewrites PlainGreaterThan => AffineLessThan;
+            E4 GreaterLess rewrites AffineGreaterThan => AffineLessThan;
+            E5 Vectorize rewrites AffineLessThan => VaffineNonpositives;
+            E6 Vectorize rewrites AffineGreaterThan => VaffineNonnegatives;
+            E7 Vectorize rewrites AffineEqualTo => VaffineZeros;
+            E8 Vectorize rewrites PlainLessThan => VaffineNonpositives;
+            E9 Vectorize rewrites PlainGreaterThan => VaffineNonnegatives;
+            E10 Vectorize rewrites PlainEqualTo => VaffineZeros;
+            E11 SplitSet rewrites AffineInterval => AffineGreaterThan AffineLessThan;
+            E12 SplitSet rewrites PlainInterval => PlainGreaterThan PlainLessThan;
+            E13 SplitSet rewrites AffineEqualTo => AffineGreaterThan AffineLessThan;
+            E14 SplitSet rewrites VaffineZeros => VaffineNonnegatives VaffineNonpositives;
+            E15 Scalarize rewrites VaffineZeros => AffineEqualTo;
+            E16 Scalarize rewrites VaffineNonnegatives => AffineGreaterThan;
+            E17 Scalarize rewrites VaffineNonpositives => AffineLessThan;
+            E18 Scalarize rewrites VplainZeros => PlainEqualTo;
+            E19 Scalarize rewrites VplainNonnegatives => PlainGreaterThan;
+            E20 Scalarize rewrites VplainNonpositives => PlainLessThan;
+            E21 OrthantFlip rewrites VaffineNonnegatives => VaffineNonpositives;
+            E22 OrthantFlip rewrites VaffineNonpositives => VaffineNonnegatives;
+            E23 ScalarFunctionize rewrites PlainLessThan => AffineLessThan;
+            E24 ScalarFunctionize rewrites PlainGreaterThan => AffineGreaterThan;
+            E25 ScalarFunctionize rewrites PlainEqualTo => AffineEqualTo;
+            E26 ScalarFunctionize rewrites PlainInterval => AffineInterval;
+            E27 VectorSlack rewrites VaffineNonnegatives => GroupNonnegatives VaffineZeros;
+            E28 VectorSlack rewrites VaffineNonpositives => GroupNonpositives VaffineZeros;
+            E29 VectorSlack rewrites VaffineNormInfinityCone => GroupNormInfinityCone VaffineZeros;
+            E30 VectorSlack rewrites VaffineNormOneCone => GroupNormOneCone VaffineZeros;
+            E31 ScalarSlack rewrites AffineLessThan => GroupLessThan AffineEqualTo;
+            E32 ScalarSlack rewrites AffineGreaterThan => GroupGreaterThan AffineEqualTo;
+            E33 ScalarSlack rewrites AffineInterval => GroupInterval AffineEqualTo;
+            E34 VectorFunctionize rewrites VplainZeros => VaffineZeros;
+            E35 VectorFunctionize rewrites VplainNonnegatives => VaffineNonnegatives;
+            E36 VectorFunctionize rewrites VplainNonpositives => VaffineNonpositives;
+            E37 VectorFunctionize rewrites VplainNormInfinityCone => VaffineNormInfinityCone;
+            E38 VectorFunctionize rewrites VplainNormOneCone => VaffineNormOneCone;
+            E39 DropReals rewrites VplainReals =>;
+            E40 DropReals rewrites VaffineReals =>;
+            E41 NormInfinity rewrites VaffineNormInfinityCone => VaffineNonnegatives;
+            E42 NormOne rewrites VaffineNormOneCone => GroupReals VaffineNonnegatives;
+            E43 FreeVar rewrites GroupReals => GroupNonnegatives;
+            E44 NonposVar rewrites GroupNonpositives => GroupNonnegatives;
+            E45 ZerosVar rewrites GroupZeros =>;
+            E46 VectorizeVar rewrites GroupLessThan => GroupNonpositives;
+            E47 VectorizeVar rewrites GroupGreaterThan => GroupNonnegatives;
+            E48 VectorizeVar rewrites GroupEqualTo => GroupZeros;
+            E49 Later keeps GroupLessThan => Free PlainLessThan;
+            E50 Later keeps GroupGreaterThan => Free PlainGreaterThan;
+            E51 Later keeps GroupEqualTo => Free PlainEqualTo;
+            E52 Later keeps GroupInterval => Free PlainInterval;
+            E53 Later keeps GroupNonnegatives => Free VplainNonnegatives;
+            E54 Later keeps GroupInterval => GroupReals AffineInterval;
+            E55 Later keeps GroupNonnegatives => GroupReals VaffineNonnegatives;
+            E56 Later keeps GroupNormInfinityCone => GroupReals VaffineNormInfinityCone;
+            E57 Later keeps GroupNormOneCone => GroupReals VaffineNormOneCone;
+            E58 ObjFlip rewrites MinAffine => MaxAffine;
+            E59 ObjFlip rewrites MaxAffine => MinAffine;
+            E60 ObjFunctionize rewrites MinPlain => MinAffine;
+            E61 ObjFunctionize rewrites MaxPlain => MaxAffine;
+            E62 ObjSlack rewrites MinAffine => Free AffineGreaterThan MinPlain;
+            E63 ObjSlack rewrites MaxAffine => Free AffineLessThan MaxPlain;
         }
     };
 }
@@ -182,11 +188,21 @@ macro_rules! children {
     };
 }
 
+macro_rules! keeps_components {
+    (keeps) => {
+        true
+    };
+    (rewrites) => {
+        false
+    };
+}
+
 macro_rules! edge_entries {
-    ($($edge:ident $family:ident $source:ident => $($child:ident)*;)*) => {
+    ($($edge:ident $family:ident $keeps:ident $source:ident => $($child:ident)*;)*) => {
         [$(EdgeEntry {
             edge: Edge::$edge,
             family: Family::$family,
+            keeps: keeps_components!($keeps),
             source: Kind::$source,
             children: children!($($child)*),
         }),*]
@@ -219,7 +235,7 @@ macro_rules! graph_row {
 }
 
 macro_rules! graph_rows {
-    ($($edge:ident $family:ident $source:ident => $($child:ident)*;)*) => {
+    ($($edge:ident $family:ident $keeps:ident $source:ident => $($child:ident)*;)*) => {
         [$(graph_row!($source $($child)*)),*]
     };
 }
@@ -234,6 +250,13 @@ impl Edge {
     {
         entry_in(&EDGES, self)
     }
+
+    /// The edge of a number, from 0 on in the table's order, and `None` past the last.
+    pub fn numbered(number: usize) -> Option<Edge>
+        ensures { result ≡ edge_numbered number }
+    {
+        edge_in(&EDGES, number)
+    }
 }
 
 // The edge's entry in a table. The table is lent: a proof takes one that is owned apart, entry by
@@ -242,4 +265,11 @@ fn entry_in(entries: &[EdgeEntry; EDGE_COUNT], edge: Edge) -> EdgeEntry
     ensures { (other : EdgeEntry) → result ≡ slice_index_or entries.now (edge_number edge) other }
 {
     entries[edge as usize]
+}
+
+fn edge_in(entries: &[EdgeEntry], number: usize) -> Option<Edge>
+    ensures { result ≡ option_map (λ row. row.edge) (slice_get entries.now number) }
+{
+    let entry = entries.get(number)?;
+    Some(entry.edge)
 }

@@ -55,8 +55,8 @@ pub fn kind_of(item: &Item) -> Kind
     }
 }
 
-// The kind of variables created in the set.
-fn group_kind(set: &Set) -> Kind
+/// The kind of variables created in the set.
+pub fn group_kind(set: &Set) -> Kind
     ensures { result ≡ group_kind_of set.now }
 {
     match set {
@@ -73,8 +73,8 @@ fn group_kind(set: &Set) -> Kind
     }
 }
 
-// The kind of plain variables in the set.
-fn plain_kind(set: &Set) -> Kind
+/// The kind of plain variables in the set.
+pub fn plain_kind(set: &Set) -> Kind
     ensures { result ≡ plain_kind_of set.now }
 {
     match set {
@@ -91,8 +91,8 @@ fn plain_kind(set: &Set) -> Kind
     }
 }
 
-// The kind of affine functions in the set.
-fn affine_kind(set: &Set) -> Kind
+/// The kind of affine functions in the set.
+pub fn affine_kind(set: &Set) -> Kind
     ensures { result ≡ affine_kind_of set.now }
 {
     match set {

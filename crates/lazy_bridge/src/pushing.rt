@@ -100,7 +100,7 @@ fn plan_touched<'a, B: Bridge>(
     ensures reads { IfOk result (λ planned. reading.new.reads
         ≤ reading.old.reads + length planned.found.items) }
 {
-    check_found_groups(alloc, boxes, &differing.after.groups)?;
+    check_found_groups(boxes, &differing.after.groups)?;
     let mut plan = Plan::new(alloc);
     let entries = match plan_found_groups(alloc, boxes, &mut plan, &differing.after.groups) {
         Ok(entries) => entries,

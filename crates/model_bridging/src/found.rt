@@ -12,18 +12,18 @@ ghost use Rattle.model_bridging.specs.ModelHeld.{unfit, unfit_put};
 ghost use Rattle.model_bridging.specs.Outcome.{KindsOutcome, Outcome};
 
 use crate::PushFault;
-use crate::kinds::{check_kind, check_objective, group_kind, keeps, row_kind, tell};
+use crate::kinds::{check_kind, check_objective, keeps, row_kind, tell};
 use crate::model_items::item_of_group;
 use crate::model_plan::{LEVELS, plan_objective, plan_row, refused};
 use aff_core::{Address, ByAddress, Root};
 use bridge_plan::{Entry, Plan, Rewriter, Standing, plan_item};
+use item_core::group_kind;
 use lists::Memory;
 use std::alloc::Global;
 use user_model::{Group, Objective, Row};
 
 /// Refuses the first of these groups that has no tree.
 pub fn check_found_groups<R: Rewriter>(
-    alloc: Global,
     rewriter: &R,
     groups: &[&Group],
 ) -> Result<(), PushFault>
@@ -31,14 +31,13 @@ pub fn check_found_groups<R: Rewriter>(
         (kinds_as_they_stand (map group_item (map (λ g. g.now) groups.now)))) }
 {
     for group in groups {
-        check_kind(rewriter, group_kind(alloc, &group.set)?)?;
+        check_kind(rewriter, group_kind(&group.set))?;
     }
     Ok(())
 }
 
 /// Tells of each variable of these groups whether it is kept, by the first group's kind that has it.
 pub fn tell_groups<R: Rewriter>(
-    alloc: Global,
     rewriter: &R,
     kept: &mut ByAddress<bool>,
     groups: &[&Group],
@@ -48,7 +47,7 @@ pub fn tell_groups<R: Rewriter>(
         (map group_item (map (λ g. g.now) groups.now)) v) }
 {
     for group in groups.iter().rev() {
-        let stays = keeps(rewriter, group_kind(alloc, &group.set)?);
+        let stays = keeps(rewriter, group_kind(&group.set));
         tell(kept, group.vars.as_slice(), stays)?;
     }
     Ok(())
@@ -87,7 +86,6 @@ pub fn plan_found_groups<R: Rewriter>(
 /// Refuses the first of these rows, or else this objective, that has no tree, by what is told of
 /// variables.
 pub fn check_found_others<R: Rewriter>(
-    alloc: Global,
     rewriter: &R,
     kept: &ByAddress<bool>,
     rows: &[&Row],
@@ -97,7 +95,7 @@ pub fn check_found_others<R: Rewriter>(
         (map (λ i. kind_by (told kept.now) i.body)
         (found_others (map (λ r. r.now) rows.now) (option_copied objective.entry)))) }
 {
-    check_found_rows(alloc, rewriter, kept, rows)?;
+    check_found_rows(rewriter, kept, rows)?;
     if let Some(objective) = objective {
         return check_objective(rewriter, kept, objective);
     }
@@ -105,7 +103,6 @@ pub fn check_found_others<R: Rewriter>(
 }
 
 fn check_found_rows<R: Rewriter>(
-    alloc: Global,
     rewriter: &R,
     kept: &ByAddress<bool>,
     rows: &[&Row],
@@ -114,7 +111,7 @@ fn check_found_rows<R: Rewriter>(
         (map (λ i. kind_by (told kept.now) i.body) (map row_item (map (λ r. r.now) rows.now)))) }
 {
     for row in rows {
-        check_kind(rewriter, row_kind(alloc, kept, row)?)?;
+        check_kind(rewriter, row_kind(kept, row))?;
     }
     Ok(())
 }

@@ -16,10 +16,10 @@ ghost use Rattle.model_bridging.specs.Kinds.{first_missing, is_kept_by, is_plain
 ghost use Rattle.model_bridging.specs.Outcome.{KindsOutcome};
 
 use crate::PushFault;
-use aff_core::{Address, Addresses, ByAddress, Root, Sense, VecAff};
+use aff_core::{Address, ByAddress, Root, Sense};
 use bridge_graph::Choice;
 use bridge_plan::{Rewriter, edge_of};
-use item_core::{Body, Children, Family, Item, Kind, kind_of};
+use item_core::{Children, Kind, affine_kind, group_kind, plain_kind};
 use lists::Memory;
 use set_core::Set;
 use std::alloc::Global;
@@ -37,24 +37,23 @@ pub(crate) fn check_kinds<R: Rewriter>(
         KindsOutcome result (first_missing choice (kinds_told choice (map group_item groups.now.items)
         (map row_item rows.now.items ++ objective_items objective.now))) }
 {
-    check_groups(alloc, rewriter, groups)?;
+    check_groups(rewriter, groups)?;
     let kept = kept_variables(alloc, rewriter, groups)?;
-    check_rows(alloc, rewriter, &kept, rows)?;
+    check_rows(rewriter, &kept, rows)?;
     check_objective(rewriter, &kept, objective)
 }
 
-fn check_groups<R: Rewriter>(alloc: Global, rewriter: &R, groups: &Groups) -> Result<(), PushFault>
+fn check_groups<R: Rewriter>(rewriter: &R, groups: &Groups) -> Result<(), PushFault>
     ensures { KindsOutcome result (first_missing (R.means rewriter.now).choice
         (map (λ i. kinds.kind_of_body i.body) (map group_item groups.now.items))) }
 {
     for group in groups.iter() {
-        check_kind(rewriter, group_kind(alloc, &group.set)?)?;
+        check_kind(rewriter, group_kind(&group.set))?;
     }
     Ok(())
 }
 
 fn check_rows<R: Rewriter>(
-    alloc: Global,
     rewriter: &R,
     kept: &ByAddress<bool>,
     rows: &Rows,
@@ -63,7 +62,7 @@ fn check_rows<R: Rewriter>(
         (map (λ i. kind_by (told kept.now) i.body) (map row_item rows.now.items))) }
 {
     for row in rows.iter() {
-        check_kind(rewriter, row_kind(alloc, kept, row)?)?;
+        check_kind(rewriter, row_kind(kept, row))?;
     }
     Ok(())
 }
@@ -105,8 +104,7 @@ fn kept_variables<R: Rewriter>(
 {
     let mut kept = ByAddress::new(alloc);
     for group in groups.iter().rev() {
-        let kind = group_kind(alloc, &group.set)?;
-        let stays = keeps(rewriter, kind);
+        let stays = keeps(rewriter, group_kind(&group.set));
         tell(&mut kept, group.vars.as_slice(), stays)?;
     }
     Ok(kept)
@@ -140,7 +138,7 @@ pub(crate) fn keeps<R: Rewriter>(rewriter: &R, kind: Kind) -> bool
         Choice::Native => true,
         Choice::By(edge) => {
             let entry = edge_of(edge).entry();
-            entry.family == Family::Later && is_native(rewriter.choice(begun_kind(entry.children)))
+            entry.keeps && is_native(rewriter.choice(begun_kind(entry.children)))
         }
         Choice::Missing => false,
     }
@@ -167,50 +165,18 @@ fn begun_kind(children: Children) -> Kind
     }
 }
 
-#[tactic(auto, unfolding(item_core::specs::KindOf::kind_of_body))]
-pub(crate) fn group_kind(alloc: Global, set: &Set) -> Result<Kind, Memory>
-    ensures { IfOk result (λ kind. kind ≡ kinds.group_kind_of set.now) }
-{
-    let body = Body::Group {
-        set: set.copy(alloc)?,
-        vars: Addresses::new(alloc),
-    };
-    Ok(kind_of_body(body))
-}
-
-fn kind_of_body(body: Body) -> Kind
-    ensures { result ≡ kinds.kind_of_body body }
-{
-    kind_of(&Item {
-        at: Address::root(Root::Row, 0),
-        body,
-    })
-}
-
 // The kind of a row once the groups' expressions are put in.
-pub(crate) fn row_kind(alloc: Global, kept: &ByAddress<bool>, row: &Row) -> Result<Kind, Memory>
-    ensures { IfOk result (λ kind. kind ≡ kind_by (told kept.now) (row_item row.now).body) }
+pub(crate) fn row_kind(kept: &ByAddress<bool>, row: &Row) -> Kind
+    ensures { result ≡ kind_by (told kept.now) (row_item row.now).body }
 {
-    function_kind(alloc, is_plain(kept, &row.func), &row.set)
+    function_kind(is_plain(kept, &row.func), &row.set)
 }
 
 // The kind of plain variables, or of another function, in a set.
-#[tactic(auto, unfolding(item_core::specs::KindOf::kind_of_body))]
-fn function_kind(alloc: Global, plain: bool, set: &Set) -> Result<Kind, Memory>
-    ensures { IfOk result (λ kind. kind
-        ≡ cond plain (kinds.plain_kind_of set.now) (kinds.affine_kind_of set.now)) }
+fn function_kind(plain: bool, set: &Set) -> Kind
+    ensures { result ≡ cond plain (kinds.plain_kind_of set.now) (kinds.affine_kind_of set.now) }
 {
-    let set = set.copy(alloc)?;
-    if plain {
-        return Ok(kind_of_body(Body::PlainVec {
-            vars: Addresses::new(alloc),
-            set,
-        }));
-    }
-    Ok(kind_of_body(Body::AffineVec {
-        func: VecAff::new(alloc),
-        set,
-    }))
+    if plain { plain_kind(set) } else { affine_kind(set) }
 }
 
 // Whether a function names variables, all of which are kept.

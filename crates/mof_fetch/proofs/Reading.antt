@@ -25,7 +25,7 @@ read_given shelf name bytes (Err Failed) may is =
     (Ok bytes, may, is (λ e. true≢false (sym (ap is_memory e))))
 read_given shelf name bytes (Err TooLong) may is =
     (Ok bytes, may, is (λ e. true≢false (sym (ap is_memory e))))
-read_given shelf name bytes (Err (Unread number place)) may is =
+read_given shelf name bytes (Err (Unread kind place)) may is =
     (Ok bytes, may, is (λ e. true≢false (sym (ap is_memory e))))
 
 -- ---- by the text that was asked for, which is the name

@@ -1,5 +1,5 @@
 -- What a file of a shelf is read as.
-use Rattle.std.specs.Prelude.{◌≡◌, ◌≤◌, ℕ, List, Result, Ok, Err}
+use Rattle.std.specs.Prelude.{◌≡◌, ℕ, List, Result, Ok, Err}
 use Rattle.io_face.specs.Told.{MayGive, Told}
 use Rattle.io_face.specs.declared.shelf.FetchFault.{FetchFault}
 use Rattle.io_face.specs.declared.shelf.FetchFault.TheVariants as fetch
@@ -7,26 +7,22 @@ use Rattle.mof_fetch.specs.declared.fault.FileFault.{FileFault}
 use Rattle.mof_fetch.specs.declared.fault.FileFault.TheVariants.{Failed, Memory, TooLong, Unread}
 use Rattle.mof_read.specs.Edits.{edits_in}
 use Rattle.mof_values.specs.Walked.{Walked}
+use Rattle.mof_values.specs.declared.fault.FaultKind.TheVariants as kind
 use Rattle.mof_values.specs.declared.fault.MofFault.{MofFault}
 use Rattle.mof_values.specs.declared.fault.MofFault.TheVariants as file
 use Rattle.user_model.specs.declared.edit.Edit.{Edit}
 
--- a fault of a file by its number
+-- a fault of a file by its kind
 abbrev pub fault_of : MofFault → FileFault
-fault_of (file.NotJson place) = Unread 1 place
-fault_of (file.Shape place) = Unread 2 place
-fault_of (file.Version place) = Unread 3 place
-fault_of (file.UnknownKind place) = Unread 4 place
-fault_of (file.BadNumber place) = Unread 5 place
-fault_of (file.DuplicateName place) = Unread 6 place
-fault_of (file.UnknownName place) = Unread 7 place
-fault_of (file.Dimension place) = Unread 8 place
+fault_of (file.NotJson place) = Unread kind.NotJson place
+fault_of (file.Shape place) = Unread kind.Shape place
+fault_of (file.Version place) = Unread kind.Version place
+fault_of (file.UnknownKind place) = Unread kind.UnknownKind place
+fault_of (file.BadNumber place) = Unread kind.BadNumber place
+fault_of (file.DuplicateName place) = Unread kind.DuplicateName place
+fault_of (file.UnknownName place) = Unread kind.UnknownName place
+fault_of (file.Dimension place) = Unread kind.Dimension place
 fault_of file.Memory = Memory
-
--- a file's fault has a number from 1 to 8
-abbrev pub HasNumber : FileFault → Type 0
-HasNumber (Unread number place) = (1 ≤ number) × (number ≤ 8)
-HasNumber fault = Unit {0}
 
 -- the edits that a walk over a file gives, or its fault
 abbrev pub walked : Walked (List Edit) → Result (List Edit) FileFault

@@ -1,7 +1,7 @@
 //! Why no edits are read of a file.
 ghost use Rattle.std.specs.Prelude.{◌≡◌};
 
-use mof_read::MofFault;
+use mof_values::{FaultKind, MofFault};
 use name_index::Text;
 
 /// Why no edits are read of a file.
@@ -11,8 +11,8 @@ pub enum FileFault {
     Failed,
     /// The file has more than 67,108,864 bytes.
     TooLong,
-    /// The file has this fault, 1 to 8 in the order of `MofFault`, at this place.
-    Unread { number: u8, place: Text },
+    /// The file has a fault of this kind at this place.
+    Unread { kind: FaultKind, place: Text },
     /// There was no memory left.
     Memory,
 }
@@ -24,15 +24,21 @@ impl From<MofFault> for FileFault {
 
     fn from(fault: MofFault) -> FileFault {
         match fault {
-            MofFault::NotJson { place } => FileFault::Unread { number: 1, place },
-            MofFault::Shape { place } => FileFault::Unread { number: 2, place },
-            MofFault::Version { place } => FileFault::Unread { number: 3, place },
-            MofFault::UnknownKind { place } => FileFault::Unread { number: 4, place },
-            MofFault::BadNumber { place } => FileFault::Unread { number: 5, place },
-            MofFault::DuplicateName { place } => FileFault::Unread { number: 6, place },
-            MofFault::UnknownName { place } => FileFault::Unread { number: 7, place },
-            MofFault::Dimension { place } => FileFault::Unread { number: 8, place },
+            MofFault::NotJson { place } => unread(FaultKind::NotJson, place),
+            MofFault::Shape { place } => unread(FaultKind::Shape, place),
+            MofFault::Version { place } => unread(FaultKind::Version, place),
+            MofFault::UnknownKind { place } => unread(FaultKind::UnknownKind, place),
+            MofFault::BadNumber { place } => unread(FaultKind::BadNumber, place),
+            MofFault::DuplicateName { place } => unread(FaultKind::DuplicateName, place),
+            MofFault::UnknownName { place } => unread(FaultKind::UnknownName, place),
+            MofFault::Dimension { place } => unread(FaultKind::Dimension, place),
             MofFault::Memory => FileFault::Memory,
         }
     }
+}
+
+fn unread(kind: FaultKind, place: Text) -> FileFault
+    ensures { result ≡ FileFault.Unread kind place }
+{
+    FileFault::Unread { kind, place }
 }

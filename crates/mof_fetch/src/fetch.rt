@@ -1,9 +1,9 @@
 //! Fetching and reading a file.
-ghost use Rattle.std.specs.Prelude.{◌≡◌, ◌≢◌, ◌≤◌, [], ◌∷◌, Err, IfErr, IsErrOf};
+ghost use Rattle.std.specs.Prelude.{◌≡◌, ◌≢◌, ◌≤◌, [], ◌∷◌, Err, IsErrOf};
 ghost use Rattle.io_face.specs.Fault.{HasFaulted};
 ghost use Rattle.io_face.specs.Shelf.{AsksFor};
 ghost use Rattle.io_face.specs.Told.{told_by};
-ghost use Rattle.mof_fetch.specs.Fetched.{HasNumber, IsReadOf, walked};
+ghost use Rattle.mof_fetch.specs.Fetched.{IsReadOf, walked};
 ghost use Rattle.mof_read.specs.Edits.{edits_in};
 
 use crate::FileFault;
@@ -16,7 +16,6 @@ use std::alloc::Global;
 /// empty one. The file's bytes are let go before it returns.
 pub fn fetch_edits<H: Shelf>(alloc: Global, shelf: &mut H, name: &Name) -> Result<Edits, FileFault>
     ensures read { IsReadOf (told_by (H.files shelf.old) (H.sure shelf.old)) name.now result }
-    ensures number { IfErr result HasNumber }
     ensures files { H.files shelf.new ≡ H.files shelf.old }
     ensures sure { H.sure shelf.new ≡ H.sure shelf.old }
     ensures count { H.faults shelf.old ≤ H.faults shelf.new }
@@ -38,7 +37,6 @@ pub fn fetch_edits<H: Shelf>(alloc: Global, shelf: &mut H, name: &Name) -> Resul
 // The edits of a file, or its fault.
 fn read_edits(alloc: Global, bytes: &[u8]) -> Result<Edits, FileFault>
     ensures read { result ≢ Err FileFault.Memory → result ≡ walked (edits_in bytes.now) }
-    ensures number { IfErr result HasNumber }
     ensures not_failed { result ≢ Err FileFault.Failed }
 {
     match read(alloc, bytes) {

@@ -31,6 +31,19 @@ pub enum MofFault {
     Memory,
 }
 
+/// What is wrong with a file, as `MofFault` says, without the place.
+#[derive(Clone, Copy, Debug, PartialEq, Eq)]
+pub enum FaultKind {
+    NotJson,
+    Shape,
+    Version,
+    UnknownKind,
+    BadNumber,
+    DuplicateName,
+    UnknownName,
+    Dimension,
+}
+
 impl From<Memory> for MofFault {
     ghost use Rattle.mof_values.specs.declared.fault.MofFault.TheVariants.{Memory};
 

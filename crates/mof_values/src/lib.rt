@@ -8,7 +8,7 @@ mod numbers;
 mod sets;
 mod texts;
 
-pub use fault::{MofFault, here};
+pub use fault::{FaultKind, MofFault, here};
 pub use fields::{array, at_key, field, require_object};
 pub use numbers::{integer, integer_field, number, number_field};
 pub use sets::read_set;

@@ -1,5 +1,6 @@
 //! Terms by name, in the order of first mention.
-ghost use Rattle.std.specs.Prelude.{◌≡◌, [], ◌∷◌, ◌++◌, IfOk, IfErr, OnOk, OnErr};
+ghost use Rattle.std.specs.Prelude.{◌≡◌, [], ◌∷◌, ◌++◌, IfOk, IfErr, OnOk, OnErr, length, slice_get};
+ghost use Rattle.std.specs.Option.{option_copied};
 ghost use Rattle.named_aff.specs.Distinct.{HasDistinctNames};
 
 use lists::{Duplicate, Memory, Sequence};
@@ -72,6 +73,20 @@ impl NamedTerms {
         ensures handed_back { IfErr result (λ refused. refused.0 ≡ term) }
     {
         self.items.push(term)
+    }
+
+    /// How many terms there are.
+    pub fn len(&self) -> usize
+        ensures { result ≡ length self.now }
+    {
+        self.items.len()
+    }
+
+    /// The term at a place, and `None` past the last.
+    pub fn get(&self, n: usize) -> Option<&NamedTerm>
+        ensures { option_copied result ≡ slice_get self.now n }
+    {
+        self.items.get(n)
     }
 
     /// All terms. No two of them are of one variable.

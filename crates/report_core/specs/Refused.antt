@@ -1,6 +1,8 @@
 -- The refusals: one table of their numbers and names, and the fields of each.
-use Rattle.std.specs.Prelude.{ℕ, ◌≤◌, List, [], ◌∷◌, ◌++◌, codes, decimal, flat_map, slice_index_or, ◌-◌}
+use Rattle.std.specs.Prelude.{ℕ, List, [], ◌∷◌, ◌++◌, codes, decimal, flat_map}
 use Rattle.item_core.specs.Kind.{name_of}
+use Rattle.mof_values.specs.declared.fault.FaultKind.{FaultKind}
+use Rattle.mof_values.specs.declared.fault.FaultKind.TheVariants as fault
 use Rattle.name_index.specs.Escape.{escaped}
 use Rattle.report_core.specs.declared.refused.Place.{Place}
 use Rattle.report_core.specs.declared.refused.Place.TheVariants as place
@@ -31,7 +33,7 @@ heading (Unsupported kind) = (16, codes "Unsupported")
 heading (Overflow place) = (17, codes "Overflow")
 heading (Limit pivots) = (18, codes "Limit")
 heading NotEmpty = (19, codes "NotEmpty")
-heading (File number place) = (20, codes "File")
+heading (File kind place) = (20, codes "File")
 
 -- why an edit of the user's model is refused
 abbrev pub refused_of : Refusal → Refused
@@ -56,14 +58,16 @@ place_text place.Objective = codes "objective"
 place_text place.Solver = codes "solver"
 place_text place.Check = codes "check"
 
--- the faults of files, numbered from 1
-abbrev pub fault_names : List (List ℕ)
-fault_names =
-    codes "NotJson" ∷ codes "Shape" ∷ codes "Version" ∷ codes "UnknownKind" ∷ codes "BadNumber"
-    ∷ codes "DuplicateName" ∷ codes "UnknownName" ∷ codes "Dimension" ∷ []
-
-abbrev pub fault_name : ℕ → List ℕ
-fault_name number = slice_index_or fault_names (number - 1) []
+-- the number and the name of a kind of a file's fault
+abbrev pub fault_heading : FaultKind → ℕ × List ℕ
+fault_heading fault.NotJson = (1, codes "NotJson")
+fault_heading fault.Shape = (2, codes "Shape")
+fault_heading fault.Version = (3, codes "Version")
+fault_heading fault.UnknownKind = (4, codes "UnknownKind")
+fault_heading fault.BadNumber = (5, codes "BadNumber")
+fault_heading fault.DuplicateName = (6, codes "DuplicateName")
+fault_heading fault.UnknownName = (7, codes "UnknownName")
+fault_heading fault.Dimension = (8, codes "Dimension")
 
 -- the most cells of a standard form
 abbrev pub most_cells : ℕ
@@ -75,13 +79,8 @@ fields (TooLarge cells) = decimal cells ∷ decimal most_cells ∷ []
 fields (Unsupported kind) = name_of kind ∷ []
 fields (Overflow place) = place_text place ∷ []
 fields (Limit pivots) = decimal pivots ∷ []
-fields (File number place) = decimal number ∷ fault_name number ∷ place ∷ []
+fields (File kind place) = decimal (fault_heading kind).0 ∷ (fault_heading kind).1 ∷ place ∷ []
 fields _ = []
-
--- a fault of a file has a number from 1 to 8
-abbrev pub HasFault : Refused → Type 0
-HasFault (File number place) = (1 ≤ number) × (number ≤ 8)
-HasFault _ = Unit {0}
 
 abbrev pub heading_text : Refused → List ℕ
 heading_text refused =

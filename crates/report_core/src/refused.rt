@@ -1,8 +1,9 @@
 //! Why a line is refused.
-ghost use Rattle.std.specs.Prelude.{◌≡◌, ◌≤◌};
+ghost use Rattle.std.specs.Prelude.{◌≡◌};
 ghost use Rattle.report_core.specs.Refused as texts;
 
 use item_core::Kind;
+use mof_values::FaultKind;
 use name_index::{Name, Text};
 use user_model::Refusal;
 
@@ -61,8 +62,8 @@ pub enum Refused {
     Limit { pivots: u64 },
     /// 19: the model isn't empty.
     NotEmpty,
-    /// 20: the file has this fault, 1 to 8, at this place.
-    File { number: u8, place: Text },
+    /// 20: the file has a fault of this kind at this place.
+    File { kind: FaultKind, place: Text },
 }
 
 impl From<Refusal> for Refused {
@@ -118,19 +119,19 @@ impl Refused {
     }
 }
 
-/// The name of a file's fault by its number.
-pub fn fault_name(number: u8) -> &'static str
-    requires { (1 ≤ number) × (number ≤ 8) }
-    ensures { result.now ≡ texts.fault_name number }
+/// The number, 1 to 8, and the name of a kind of a file's fault.
+pub fn fault_heading(kind: FaultKind) -> (u8, &'static str)
+    ensures number { result.0 ≡ (texts.fault_heading kind).0 }
+    ensures name { result.1.now ≡ (texts.fault_heading kind).1 }
 {
-    match number {
-        1 => "NotJson",
-        2 => "Shape",
-        3 => "Version",
-        4 => "UnknownKind",
-        5 => "BadNumber",
-        6 => "DuplicateName",
-        7 => "UnknownName",
-        _ => "Dimension",
+    match kind {
+        FaultKind::NotJson => (1, "NotJson"),
+        FaultKind::Shape => (2, "Shape"),
+        FaultKind::Version => (3, "Version"),
+        FaultKind::UnknownKind => (4, "UnknownKind"),
+        FaultKind::BadNumber => (5, "BadNumber"),
+        FaultKind::DuplicateName => (6, "DuplicateName"),
+        FaultKind::UnknownName => (7, "UnknownName"),
+        FaultKind::Dimension => (8, "Dimension"),
     }
 }

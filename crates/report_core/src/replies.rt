@@ -1,14 +1,15 @@
 //! The replies to accepted lines and to refused ones.
-ghost use Rattle.std.specs.Prelude.{◌≡◌, ◌≤◌, [], ◌∷◌, ◌++◌, OnOk, IfOk, decimal, flat_map};
+ghost use Rattle.std.specs.Prelude.{◌≡◌, [], ◌∷◌, ◌++◌, OnOk, IfOk, decimal, flat_map};
 ghost use Rattle.item_core.specs.Kind.{name_of};
-ghost use Rattle.report_core.specs.Refused.{HasFault, fault_name, fields, heading_text, place_text, refusal_text};
+ghost use Rattle.report_core.specs.Refused.{fault_heading, fields, heading_text, place_text, refusal_text};
 ghost use Rattle.report_core.specs.Replies.{done_text};
 ghost use Rattle.report_core.specs.Words.{spaced};
 
 use crate::draft::Draft;
-use crate::refused::fault_name;
+use crate::refused::fault_heading;
 use crate::{Answer, Place, Refused};
 use item_core::Kind;
+use mof_values::FaultKind;
 use ratio_core::Memory;
 use std::alloc::Global;
 
@@ -27,7 +28,6 @@ pub fn done(alloc: Global, count: Option<u64>) -> Result<Answer, Memory>
 /// The refusal's number, name and fields.
 #[tactic(auto, unfolding(crate::specs::Refused::refusal_text))]
 pub fn refusal(alloc: Global, refused: &Refused) -> Result<Answer, Memory>
-    requires { HasFault refused.now }
     ensures { IfOk result (λ answer. answer ≡ Answer.Refused (refusal_text refused.now)) }
 {
     let mut draft = Draft::new(alloc);
@@ -63,7 +63,6 @@ fn push_heading(draft: &mut Draft, refused: &Refused) -> Result<(), Memory>
 
 // Each field after a space.
 fn push_fields(draft: &mut Draft, refused: &Refused) -> Result<(), Memory>
-    requires { HasFault refused.now }
     ensures { OnOk result (draft.new ≡ draft.old ++ flat_map spaced (fields refused.now)) }
 {
     match refused {
@@ -72,7 +71,7 @@ fn push_fields(draft: &mut Draft, refused: &Refused) -> Result<(), Memory>
         Refused::Unsupported { kind } => push_kind(draft, *kind),
         Refused::Overflow { place } => push_place(draft, place),
         Refused::Limit { pivots } => push_one_number(draft, *pivots),
-        Refused::File { number, place } => push_fault(draft, *number, place.as_slice()),
+        Refused::File { kind, place } => push_fault(draft, *kind, place.as_slice()),
         Refused::BadLine | Refused::UnknownName | Refused::NameTaken => Ok(()),
         Refused::FunctionShape | Refused::BadDimension | Refused::OutputIndex => Ok(()),
         Refused::BadInterval | Refused::LowerBoundAlreadySet => Ok(()),
@@ -123,14 +122,14 @@ fn push_place(draft: &mut Draft, place: &Place) -> Result<(), Memory>
     }
 }
 
-fn push_fault(draft: &mut Draft, number: u8, place: &[u8]) -> Result<(), Memory>
-    requires { (1 ≤ number) × (number ≤ 8) }
-    ensures { OnOk result (draft.new ≡ draft.old
-        ++ flat_map spaced (decimal number ∷ fault_name number ∷ place.now ∷ [])) }
+fn push_fault(draft: &mut Draft, kind: FaultKind, place: &[u8]) -> Result<(), Memory>
+    ensures { OnOk result (draft.new ≡ draft.old ++ flat_map spaced
+        (decimal (fault_heading kind).0 ∷ (fault_heading kind).1 ∷ place.now ∷ [])) }
 {
+    let (number, name) = fault_heading(kind);
     push_one_number(draft, u64::from(number))?;
     draft.push(" ")?;
-    draft.push(fault_name(number))?;
+    draft.push(name)?;
     draft.push(" ")?;
     draft.push_bytes(place)
 }

@@ -1,12 +1,12 @@
 -- The words of lines on tables: targets, native kinds, and edges by number.
-use Rattle.std.specs.Prelude.{ℕ, ◌-◌, ◌==◌, Bool, ◌&&◌, List, Option, Some, None, bytes_eq, codes, slice_get, option_map, if◌then◌else◌}
+use Rattle.std.specs.Prelude.{ℕ, ◌-◌, ◌==◌, Bool, ◌&&◌, List, Option, Some, None, bytes_eq, codes, if◌then◌else◌}
 use Rattle.std.specs.List.{find, before_first, after_first}
 use Rattle.item_core.specs.declared.edge.Edge.{Edge}
-use Rattle.item_core.specs.declared.edge.TheConstants.{EDGES}
 use Rattle.item_core.specs.declared.kind.Kind.{Kind}
 use Rattle.item_core.specs.declared.kind.TheConstants.{KINDS}
 use Rattle.item_core.specs.declared.table.Target.{Target}
 use Rattle.item_core.specs.declared.table.Target.TheVariants.{Standard, Rows, Cone, All, Less}
+use Rattle.item_core.specs.Edge as item
 use Rattle.item_core.specs.Kind.{first_of, first_text, is_native, second_of, second_text}
 
 unfoldable pub target_of : List ℕ → Option Target
@@ -34,4 +34,4 @@ native_kind_of token =
 -- the edge with a number, counted from 1
 unfoldable pub edge_numbered : ℕ → Option Edge
 edge_numbered number =
-    if number == 0 then None else option_map (λ row. row.edge) (slice_get EDGES (number - 1))
+    if number == 0 then None else item.edge_numbered (number - 1)

@@ -1,5 +1,5 @@
 //! The words of lines on tables: targets, native kinds, and edges by number.
-ghost use Rattle.std.specs.Prelude.{◌≡◌, IfSome, IsTrue, Some, option_map, slice_get};
+ghost use Rattle.std.specs.Prelude.{◌≡◌, IfSome, IsTrue, Some};
 ghost use Rattle.std.specs.List.{find};
 ghost use Rattle.item_core.specs.declared.kind.Kind.{Kind};
 ghost use Rattle.item_core.specs.declared.kind.TheConstants.{KINDS};
@@ -7,7 +7,7 @@ ghost use Rattle.item_core.specs.Kind.{is_native, name_of};
 ghost use Rattle.script_tokens.specs.Table.{edge_numbered, is_native_named, native_kind_of, target_of};
 
 use crate::{NativeKind, is, parted_at};
-use item_core::{EDGES, Edge, EdgeEntry, KINDS, Kind, Target};
+use item_core::{Edge, KINDS, Kind, Target};
 
 /// The target with this name.
 #[tactic(auto, unfolding(crate::specs::Table::target_of))]
@@ -69,12 +69,5 @@ pub fn edge_numbered(number: u32) -> Option<Edge>
     if number == 0 {
         return None;
     }
-    edge_at(&EDGES, (number - 1) as usize)
-}
-
-fn edge_at(rows: &[EdgeEntry], place: usize) -> Option<Edge>
-    ensures { result ≡ option_map (λ row. row.edge) (slice_get rows.now place) }
-{
-    let row = rows.get(place)?;
-    Some(row.edge)
+    Edge::numbered((number - 1) as usize)
 }

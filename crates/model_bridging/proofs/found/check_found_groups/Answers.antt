@@ -10,7 +10,7 @@ loop-group-preserved g c =
     let groups = c.args.groups.now in
     let i = c.loop-group.group-index in
     let group = c.group-item.result in
-    let kind = c.in_ok-group_kind.field-0 in
+    let kind = c.group_kind.result in
     let next = ap (map (λ x. x.now))
     (next_item groups groups i group (λ j. groups) c.group-item.is c.loop-group-test.true) in
     kinds_more (g.R.Rewriter.means c.args.rewriter.now).choice
@@ -19,7 +19,7 @@ loop-group-preserved g c =
     (kinds_as_they_stand (map group_item (map (λ x. x.now) (drop (i + 1) groups)))) kind
     c.loop-group.invariant
     (next_group (map (λ x. x.now) (drop i groups)) (map (λ x. x.now) (drop (i + 1) groups))
-    group.now kind next c.in_ok-group_kind.ensures)
+    group.now kind next c.group_kind.ensures)
     c.in_ok-check_kind.ensures
 
 pub returns-in_err-check_kind : goal.returns-in_err-check_kind
@@ -27,7 +27,7 @@ returns-in_err-check_kind g c =
     let groups = c.args.groups.now in
     let i = c.loop-group.group-index in
     let group = c.group-item.result in
-    let kind = c.in_ok-group_kind.field-0 in
+    let kind = c.group_kind.result in
     let next = ap (map (λ x. x.now))
     (next_item groups groups i group (λ j. groups) c.group-item.is c.loop-group-test.true) in
     kinds_refused (g.R.Rewriter.means c.args.rewriter.now).choice
@@ -36,6 +36,6 @@ returns-in_err-check_kind g c =
     (kinds_as_they_stand (map group_item (map (λ x. x.now) (drop (i + 1) groups)))) kind
     c.loop-group.invariant
     (next_group (map (λ x. x.now) (drop i groups)) (map (λ x. x.now) (drop (i + 1) groups))
-    group.now kind next c.in_ok-group_kind.ensures) (Unit {0})
+    group.now kind next c.group_kind.ensures) (Unit {0})
     (Unit {0}) c.from_residual-in_err-check_kind.result c.in_err-check_kind.field-0.0
     c.from_residual-in_err-check_kind.ensures.1 c.in_err-check_kind.ensures

@@ -10,7 +10,7 @@ loop-row-preserved g c =
     let kept = told c.args.kept.now in
     let i = c.loop-row.row-index in
     let row = c.row-item.result in
-    let kind = c.in_ok-row_kind.field-0 in
+    let kind = c.row_kind.result in
     let next = ap (map (λ x. x.now))
     (next_item rows rows i row (λ j. rows) c.row-item.is c.loop-row-test.true) in
     kinds_more (g.R.Rewriter.means c.args.rewriter.now).choice
@@ -19,7 +19,7 @@ loop-row-preserved g c =
     (row_kinds kept (map (λ x. x.now) (drop (i + 1) rows)))
     kind c.loop-row.invariant
     (next_row kept (map (λ x. x.now) (drop i rows)) (map (λ x. x.now) (drop (i + 1) rows)) row.now
-    kind next c.in_ok-row_kind.ensures)
+    kind next c.row_kind.ensures)
     c.in_ok-check_kind.ensures
 
 pub returns-in_err-check_kind : goal.returns-in_err-check_kind
@@ -28,7 +28,7 @@ returns-in_err-check_kind g c =
     let kept = told c.args.kept.now in
     let i = c.loop-row.row-index in
     let row = c.row-item.result in
-    let kind = c.in_ok-row_kind.field-0 in
+    let kind = c.row_kind.result in
     let next = ap (map (λ x. x.now))
     (next_item rows rows i row (λ j. rows) c.row-item.is c.loop-row-test.true) in
     kinds_refused (g.R.Rewriter.means c.args.rewriter.now).choice
@@ -37,6 +37,6 @@ returns-in_err-check_kind g c =
     (row_kinds kept (map (λ x. x.now) (drop (i + 1) rows)))
     kind c.loop-row.invariant
     (next_row kept (map (λ x. x.now) (drop i rows)) (map (λ x. x.now) (drop (i + 1) rows)) row.now
-    kind next c.in_ok-row_kind.ensures) (Unit {0})
+    kind next c.row_kind.ensures) (Unit {0})
     (Unit {0}) c.from_residual-in_err-check_kind.result c.in_err-check_kind.field-0.0
     c.from_residual-in_err-check_kind.ensures.1 c.in_err-check_kind.ensures

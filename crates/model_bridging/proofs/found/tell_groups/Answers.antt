@@ -1,4 +1,4 @@
-use Rattle.std.proofs.Common.{rules, ◌≡◌, [], ◌∷◌, ap, ◌∙◌, cond, map}
+use Rattle.std.proofs.Common.{rules, [], ◌∷◌, ap, ◌∙◌, cond, map}
 use Rattle.user_model.specs.Model.{variable_address}
 use Rattle.user_model.specs.declared.group.GroupVar.{GroupVar}
 use Rattle.map_laws.specs.LoopLaws.{taken_more}
@@ -25,7 +25,7 @@ loop-group-preserved g c =
       taken_more c.next.new.self.iter.rest.now group taken at.invariant.1 c.in-Some.ensures.steps,
       over_more choice group.now (map (λ x. x.now) taken) c.args.kept.now at.kept
           c.tell.new.kept c.keeps-stays.result
-          (c.keeps-stays.ensures ∙ ap (keeps choice) c.in_ok-group_kind.ensures) at.invariant.2
+          (c.keeps-stays.ensures ∙ ap (keeps choice) c.group_kind.ensures) at.invariant.2
           (λ v. c.in_ok-tell.ensures v
           ∙ ap (λ vs. cond (is_among (map (λ (x : GroupVar). variable_address x.number) vs) v)
           c.keeps-stays.result (told at.kept v)) c.as_slice.ensures),

@@ -9,13 +9,13 @@ loop-group-preserved g c =
     let groups = c.args.groups.now.items in
     let at = c.loop-group in
     let group = c.in-Some.group.now in
-    let kind = c.in_ok-group_kind.field-0 in
+    let kind = c.group_kind.result in
     let next = c.in-Some.ensures.steps in
     kinds_more (g.R.Rewriter.means c.args.rewriter.now).choice
     (kinds_as_they_stand (map group_item groups))
     (kinds_as_they_stand (map group_item at.group-iterator))
     (kinds_as_they_stand (map group_item c.next.new.self)) kind at.invariant
-    (next_group at.group-iterator c.next.new.self group kind next c.in_ok-group_kind.ensures)
+    (next_group at.group-iterator c.next.new.self group kind next c.group_kind.ensures)
     c.in_ok-check_kind.ensures
 
 pub returns-in_err-check_kind : goal.returns-in_err-check_kind
@@ -23,12 +23,12 @@ returns-in_err-check_kind g c =
     let groups = c.args.groups.now.items in
     let at = c.loop-group in
     let group = c.in-Some.group.now in
-    let kind = c.in_ok-group_kind.field-0 in
+    let kind = c.group_kind.result in
     let next = c.in-Some.ensures.steps in
     kinds_refused (g.R.Rewriter.means c.args.rewriter.now).choice
     (kinds_as_they_stand (map group_item groups))
     (kinds_as_they_stand (map group_item at.group-iterator))
     (kinds_as_they_stand (map group_item c.next.new.self)) kind at.invariant
-    (next_group at.group-iterator c.next.new.self group kind next c.in_ok-group_kind.ensures) (Unit {0})
+    (next_group at.group-iterator c.next.new.self group kind next c.group_kind.ensures) (Unit {0})
     (Unit {0}) c.from_residual-in_err-check_kind.result c.in_err-check_kind.field-0.0
     c.from_residual-in_err-check_kind.ensures.1 c.in_err-check_kind.ensures

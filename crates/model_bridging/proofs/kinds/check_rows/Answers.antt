@@ -8,12 +8,12 @@ loop-row-preserved g c =
     let kept = told c.args.kept.now in
     let at = c.loop-row in
     let row = c.in-Some.row.now in
-    let kind = c.in_ok-row_kind.field-0 in
+    let kind = c.row_kind.result in
     let next = c.in-Some.ensures.steps in
     kinds_more (g.R.Rewriter.means c.args.rewriter.now).choice (row_kinds kept rows)
     (row_kinds kept at.row-iterator) (row_kinds kept c.next.new.self)
     kind at.invariant
-    (next_row kept at.row-iterator c.next.new.self row kind next c.in_ok-row_kind.ensures)
+    (next_row kept at.row-iterator c.next.new.self row kind next c.row_kind.ensures)
     c.in_ok-check_kind.ensures
 
 pub returns-in_err-check_kind : goal.returns-in_err-check_kind
@@ -22,11 +22,11 @@ returns-in_err-check_kind g c =
     let kept = told c.args.kept.now in
     let at = c.loop-row in
     let row = c.in-Some.row.now in
-    let kind = c.in_ok-row_kind.field-0 in
+    let kind = c.row_kind.result in
     let next = c.in-Some.ensures.steps in
     kinds_refused (g.R.Rewriter.means c.args.rewriter.now).choice (row_kinds kept rows)
     (row_kinds kept at.row-iterator) (row_kinds kept c.next.new.self)
     kind at.invariant
-    (next_row kept at.row-iterator c.next.new.self row kind next c.in_ok-row_kind.ensures) (Unit {0})
+    (next_row kept at.row-iterator c.next.new.self row kind next c.row_kind.ensures) (Unit {0})
     (Unit {0}) c.from_residual-in_err-check_kind.result c.in_err-check_kind.field-0.0
     c.from_residual-in_err-check_kind.ensures.1 c.in_err-check_kind.ensures

@@ -27,7 +27,7 @@ loop-group-preserved g c =
       group ∷ taken,
       taken_more c.next.new.self.iter group taken at.invariant.1 c.in-Some.ensures.steps,
       group_more choice group taken at.kept c.tell.new.kept c.keeps-stays.result
-          (c.keeps-stays.ensures ∙ ap (keeps choice) c.in_ok-kind.ensures) at.invariant.2
+          (c.keeps-stays.ensures ∙ ap (keeps choice) c.group_kind.ensures) at.invariant.2
           (λ v. c.in_ok-tell.ensures v
           ∙ ap (λ vs. cond (is_among (map (λ (x : GroupVar). variable_address x.number) vs) v)
           c.keeps-stays.result (told at.kept v)) c.as_slice.ensures),

@@ -21,7 +21,7 @@ pub image_by-requires-clause-own : goal.image_by-requires-clause-own
 image_by-requires-clause-own g c =
     let state = g.B.Bridge.state in
     ap (λ (e : Edge). list_any (family_eq (family_of e))
-    (families_of (map state c.deref_mut.result.now))) c.edge_numbered.ensures
+    (families_of (map state c.deref_mut.result.now))) c.edge_of.ensures
     ∙ ap (λ bs. list_any (family_eq (family_of (edge_at c.args.edge)))
     (families_of (map state bs))) c.deref_mut.ensures.value
     ∙ ap (λ (b : Boxed). list_any (family_eq (family_of (edge_at c.args.edge)))
@@ -41,7 +41,7 @@ invariant_of-self g c =
     sound_still c.self.inside.table c.self.inside.choices (map state v.items)
     (map state (take v.len (new ++ drop (length new) v.items))) c.self.inside.graph
     (ap (λ bs. families_of (map state bs)) back
-    ∙ same_after (λ (s : State). s.family) (family_of c.edge_numbered.result) tried
+    ∙ same_after (λ (s : State). s.family) (family_of c.edge_of.result) tried
     (map state c.deref_mut.result.now) (map state new) (λ s. refl) c.image_by.ensures.states
     ∙ ap (λ bs. families_of (map state bs)) c.deref_mut.ensures.value)
     c.self.invariant
@@ -55,7 +55,7 @@ returns-clause-answer g c =
     (λ image. image ≡ image_of (edge_at c.args.edge) c.args.item.now) decides.1
     decides.0 (λ _ is. is)
     (subst (λ (e : Edge). ExactWhere c.image_by.result (ImageFits e c.args.item.now)
-    (λ image. image ≡ image_of e c.args.item.now)) c.edge_numbered.ensures
+    (λ image. image ≡ image_of e c.args.item.now)) c.edge_of.ensures
     c.image_by.ensures.answer)
 
 pub returns-clause-means : goal.returns-clause-means
@@ -71,9 +71,9 @@ returns-clause-means g c =
     (omega (arith, v.ok.0)) in
     ap (λ bs. means_of (boxed_of t cs (map state bs))) back
     ∙ means_same t cs (map state old) (map state new)
-    (same_after (λ (s : State). s.family) (family_of c.edge_numbered.result) tried
+    (same_after (λ (s : State). s.family) (family_of c.edge_of.result) tried
     (map state old) (map state new) (λ s. refl) c.image_by.ensures.states)
-    (same_after (λ (s : State). (s.family, s.kept)) (family_of c.edge_numbered.result) tried
+    (same_after (λ (s : State). (s.family, s.kept)) (family_of c.edge_of.result) tried
     (map state old) (map state new) (λ s. refl) c.image_by.ensures.states)
     ∙ ap (λ bs. means_of (boxed_of t cs (map state bs))) c.deref_mut.ensures.value
     ∙ ap means_of c.self.view_is
@@ -90,5 +90,5 @@ returns-clause-turns g c =
     ap (map state) c.deref_mut.ensures.value ∙ ap (λ (b : Boxed). b.states) c.self.view_is in
     subst (λ (p : List State × List State). turns_of p.0 ≤ turns_of p.1 + 1)
     (λ i. (sym (ap (map state) back) i, was i))
-    (turns_changed (family_of c.edge_numbered.result) tried (λ s. one_turn s s.kept)
+    (turns_changed (family_of c.edge_of.result) tried (λ s. one_turn s s.kept)
     (map state c.deref_mut.result.now) (map state new) c.image_by.ensures.states)
