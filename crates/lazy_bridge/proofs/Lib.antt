@@ -15,3 +15,4 @@ mod Noting
 mod Variables
 mod Marking
 mod Placing
+mod Names

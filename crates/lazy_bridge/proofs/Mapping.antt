@@ -4,9 +4,11 @@ use Rattle.std.specs.FinMap as finite
 use Rattle.std.proofs.Common.{ap, subst, ◌∙◌}
 use Rattle.address_map.specs.AddressMap.{AddressMap}
 use Rattle.address_map.specs.Noted.{Noted}
+use Rattle.aff_core.specs.Address.{Address}
 use Rattle.fresh_bridging.specs.Entries.{Entry, expression_in, function_in, is_kept}
 use Rattle.lazy_bridge.specs.Expressed.{SetsAt, expr_at, is_marked}
 use Rattle.lazy_bridge.specs.Mentioned.{Notes, contents_name, is_noted}
+use Rattle.lazy_bridge.proofs.Names.{still_noted}
 use Rattle.leaf_update.specs.Others.{among}
 use Rattle.push_laws.specs.Edits.{Edit, IsMappedAnew}
 use Rattle.std.specs.Prelude.{List}
@@ -28,9 +30,8 @@ noted_is false true false = refl
 noted_is false false true = refl
 noted_is false false false = refl
 
--- what groups, rows and the objective were is taken out, and then what they are is put
-pub mapped_anew : (old forgotten expressed without last : AddressMap) (d : Differing)
-    (standing : List Entry)
+-- what groups were is taken out, and then what they are is put
+mapped_with : (old forgotten expressed last : AddressMap) (d : Differing) (standing : List Entry)
     → SetsAt (λ _. None) (variables_in (groups_in d.before)) (expr_at old) (expr_at forgotten)
     → SetsAt (λ _. false) (variables_in (groups_in d.before)) (is_marked old) (is_marked forgotten)
     → SetsAt (λ v. Some (function_in standing v)) (variables_in (groups_in d.after))
@@ -38,12 +39,14 @@ pub mapped_anew : (old forgotten expressed without last : AddressMap) (d : Diffe
     → SetsAt (λ v. is_kept (expression_in standing v)) (variables_in (groups_in d.after))
     (is_marked forgotten) (is_marked expressed)
     → last.exprs ≡ expressed.exprs → last.kept ≡ expressed.kept
-    → Notes (contents_name d.before) false old.noted without.noted
-    → Notes (contents_name d.after) true without.noted last.noted
-    → (e : Edit) → old.exprs ≡ e.places.exprs → old.kept ≡ e.places.kept
-    → old.noted ≡ e.places.noted → d ≡ e.d → IsMappedAnew e standing last
-mapped_anew old forgotten expressed without last d standing gone unmarked put marked exprs kept
-    unnoted noted e same_exprs same_kept same_noted same_d =
+    → (e : Edit) → old.exprs ≡ e.places.exprs → old.kept ≡ e.places.kept → d ≡ e.d
+    → ((var at : Address)
+    → is_noted last.noted var at
+    ≡ ((is_noted e.places.noted var at && not (contents_name e.d.before var at))
+    || contents_name e.d.after var at))
+    → IsMappedAnew e standing last
+mapped_with old forgotten expressed last d standing gone unmarked put marked exprs kept e
+    same_exprs same_kept same_d noted =
     record {
       exprs = λ v. subst (λ (x : Differing). finite.get last.exprs v
           ≡ cond (among (variables_in (groups_in x.after)) v) (Some (function_in standing v))
@@ -67,15 +70,56 @@ mapped_anew old forgotten expressed without last d standing gone unmarked put ma
           ∙ (λ i. cond (among (variables_in (groups_in d.before)) v) false
           (is_marked (record old { kept = same_kept i }) v))
           ∙ unmarked_is (among (variables_in (groups_in d.before)) v) (is_marked e.places v)));
-      noted = λ var at. subst (λ (x : Differing). is_noted last.noted var at
-          ≡ ((is_noted e.places.noted var at && not (contents_name x.before var at))
-          || contents_name x.after var at))
-          same_d
-          (noted var at
-          ∙ ap (cond (contents_name d.after var at) true)
-          (unnoted var at
-          ∙ ap (λ (n : Noted). cond (contents_name d.before var at) false (is_noted n var at))
-          same_noted)
-          ∙ noted_is (contents_name d.before var at) (contents_name d.after var at)
-          (is_noted e.places.noted var at));
+      noted = noted;
     }
+
+-- and then so of rows and the objective
+pub mapped_anew : (old forgotten expressed without last : AddressMap) (d : Differing)
+    (standing : List Entry)
+    → SetsAt (λ _. None) (variables_in (groups_in d.before)) (expr_at old) (expr_at forgotten)
+    → SetsAt (λ _. false) (variables_in (groups_in d.before)) (is_marked old) (is_marked forgotten)
+    → SetsAt (λ v. Some (function_in standing v)) (variables_in (groups_in d.after))
+    (expr_at forgotten) (expr_at expressed)
+    → SetsAt (λ v. is_kept (expression_in standing v)) (variables_in (groups_in d.after))
+    (is_marked forgotten) (is_marked expressed)
+    → last.exprs ≡ expressed.exprs → last.kept ≡ expressed.kept
+    → Notes (contents_name d.before) false old.noted without.noted
+    → Notes (contents_name d.after) true without.noted last.noted
+    → (e : Edit) → old.exprs ≡ e.places.exprs → old.kept ≡ e.places.kept
+    → old.noted ≡ e.places.noted → d ≡ e.d → IsMappedAnew e standing last
+mapped_anew old forgotten expressed without last d standing gone unmarked put marked exprs kept
+    unnoted noted e same_exprs same_kept same_noted same_d =
+    mapped_with old forgotten expressed last d standing gone unmarked put marked exprs kept e
+    same_exprs same_kept same_d
+    (λ var at. subst (λ (x : Differing). is_noted last.noted var at
+    ≡ ((is_noted e.places.noted var at && not (contents_name x.before var at))
+    || contents_name x.after var at))
+    same_d
+    (noted var at
+    ∙ ap (cond (contents_name d.after var at) true)
+    (unnoted var at
+    ∙ ap (λ (n : Noted). cond (contents_name d.before var at) false (is_noted n var at))
+    same_noted)
+    ∙ noted_is (contents_name d.before var at) (contents_name d.after var at)
+    (is_noted e.places.noted var at)))
+
+-- or these name what they named
+pub mapped_alike : (old forgotten last : AddressMap) (d : Differing) (standing : List Entry)
+    → SetsAt (λ _. None) (variables_in (groups_in d.before)) (expr_at old) (expr_at forgotten)
+    → SetsAt (λ _. false) (variables_in (groups_in d.before)) (is_marked old) (is_marked forgotten)
+    → SetsAt (λ v. Some (function_in standing v)) (variables_in (groups_in d.after))
+    (expr_at forgotten) (expr_at last)
+    → SetsAt (λ v. is_kept (expression_in standing v)) (variables_in (groups_in d.after))
+    (is_marked forgotten) (is_marked last)
+    → last.noted ≡ old.noted
+    → ((var at : Address) → contents_name d.before var at ≡ contents_name d.after var at)
+    → (e : Edit) → old.exprs ≡ e.places.exprs → old.kept ≡ e.places.kept
+    → old.noted ≡ e.places.noted → d ≡ e.d → IsMappedAnew e standing last
+mapped_alike old forgotten last d standing gone unmarked put marked stay alike e same_exprs
+    same_kept same_noted same_d =
+    mapped_with old forgotten last last d standing gone unmarked put marked refl refl e same_exprs
+    same_kept same_d
+    (λ var at. ap (λ (n : Noted). is_noted n var at) (stay ∙ same_noted)
+    ∙ still_noted e
+    (subst (λ (x : Differing). (v a : Address) → contents_name x.before v a
+    ≡ contents_name x.after v a) same_d alike) var at)

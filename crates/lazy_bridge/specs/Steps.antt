@@ -1,11 +1,12 @@
 -- The steps of an edit of a bridged model, as one function hands them to the next.
 --     IsEditOf          an edit is of these boxes, this map and these models
 --     IsRefusedBy       why it isn't made: an item has no tree, or a number doesn't fit
+--     changing_variables      those of the groups that differ that change
 --     AreGroupsOf       the groups that differ are planned
 --     IsPlannedOf       all that it touches is
 --     IsChangedOf       what is planned stands in the place of what was held
 --     IsPushedTo        what a whole edit answers and leaves
-use Rattle.std.specs.Prelude.{◌≡◌, ◌≤◌, ◌+◌, ◌*◌, ℕ, true, List, None, Some, Result, Ok, Err, length, map}
+use Rattle.std.specs.Prelude.{◌≡◌, ◌≤◌, ◌+◌, ◌*◌, ℕ, true, List, None, Some, Result, Ok, Err, filter, length, map, not}
 use Rattle.address_map.specs.AddressMap.{AddressMap}
 use Rattle.aff_core.specs.Address.{Address}
 use Rattle.bridge_set.specs.Boxed.{Boxed, families_of, means_of, occur_once, setting_of}
@@ -28,6 +29,8 @@ use Rattle.push_laws.specs.Composed.{IsDone}
 use Rattle.push_laws.specs.Edits.{Edit, HoldsBridging, Step, groups_held, missing_groups, setting_here, unfit_groups}
 use Rattle.solver_store.specs.SolverModel.{Stored}
 use Rattle.tree_laws.specs.LeafLaws.{SupportsNativeKinds}
+use Rattle.touched_items.specs.Differences.{own_variables}
+use Rattle.touched_items.specs.HeldExpressions.{stays_as}
 use Rattle.touched_items.specs.declared.differing.Differing.{Differing}
 use Rattle.user_model.specs.Model.{ModelValue}
 use Rattle.user_model.specs.Valid.{IsValid}
@@ -58,6 +61,11 @@ IsPassedBy e (Ok x) =
 IsPassedBy e (Err fault) = IsRefusedBy e fault
 
 -- ---- what is planned
+
+-- the variables of the groups that differ for which something else is to stand than the map has
+abbrev pub changing_variables : AddressMap → List Entry → Differing → List Address
+changing_variables places standing d =
+    filter (λ v. not (stays_as places v (expression_in standing v))) (own_variables d)
 
 pub record AreGroupsOf (e : Edit) (standing : List Entry) (plan : Plan) : Type 0 where
   pub trees : missing_groups e ≡ None

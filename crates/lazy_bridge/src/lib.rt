@@ -2,6 +2,7 @@
 //! user's.
 #![tactic(auto)]
 
+mod alike;
 mod bridges;
 mod change;
 mod expressing;

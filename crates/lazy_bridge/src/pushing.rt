@@ -1,13 +1,26 @@
 //! An edit of a bridged model: what it touches is planned, and then put in the place of what was held.
-ghost use Rattle.std.specs.Prelude.{◌≡◌, ◌≤◌, ◌+◌, IfOk, OnOk, None, length};
-ghost use Rattle.bridge_set.specs.Boxed.{means_of, setting_of};
+ghost use Rattle.std.specs.Prelude.{◌≡◌, ◌≤◌, ◌+◌, ◌++◌, All, IfOk, OnOk, List, None, flat_map, length};
+ghost use Rattle.std.specs.Prelude as prelude;
+ghost use Rattle.std.specs.List.{filter_map};
+ghost use Rattle.std.specs.Option.{option_copied};
+ghost use Rattle.address_map.specs.Noted.{noted_items};
+ghost use Rattle.aff_core.specs.Address.{Address};
+ghost use Rattle.bridge_set.specs.Boxed.{families_of, kept_by, means_of, setting_of};
+ghost use Rattle.bridge_set.specs.Letting.{IsAlone, without_each};
 ghost use Rattle.bridge_set.specs.Turns.{turns_of};
-ghost use Rattle.lazy_bridge.specs.Steps.{AreGroupsOf, IsChangedOf, IsEditOf, IsFoundBy, IsHeldBy, IsMadeBy, IsPassedBy, IsPlannedOf, IsPushedTo, IsStart, parts_of};
+ghost use Rattle.bridge_set.specs.Walk.{IsNarrow, IsRoot, nodes_below};
+ghost use Rattle.found_plan.specs.Read.{named_by, own_entries, read_entries};
+ghost use Rattle.fresh_bridging.specs.Entries.{expression_in};
+ghost use Rattle.lazy_bridge.specs.Steps.{AreGroupsOf, IsChangedOf, IsEditOf, IsFoundBy, IsHeldBy, IsMadeBy, IsPassedBy, IsPlannedOf, IsPushedTo, IsStart, changing_variables, parts_of};
 ghost use Rattle.local_laws.specs.Unlisted.{LeadBackTo, entries_of};
 ghost use Rattle.push_laws.specs.Edits.{Edit, IsMappedAnew, missing_groups};
 ghost use Rattle.touched_items.specs.DifferenceLaws.{HasDifferences};
+ghost use Rattle.touched_items.specs.Differences.{differing_addresses, groups_in};
+ghost use Rattle.touched_items.specs.Results.{found_rows};
+ghost use Rattle.touched_items.specs.Search.{AreInOrder, objective_among, row_at};
 ghost use Rattle.user_model.specs.Model.{ModelValue};
 
+use crate::alike::name_alike;
 use crate::expressing::{express_groups, forget_groups};
 use crate::mentions::note_contents;
 use address_map::AddressMap;
@@ -141,15 +154,71 @@ fn plan_found<'a, B: Bridge>(
     ensures reads { IfOk result (λ found. reading.new.reads
         ≤ reading.old.reads + length found.items) }
 {
-    let groups = &differing.after.groups;
+    let found = find_touched(alloc, reading, map, differing, standing)?;
+    check_found(
+        alloc,
+        boxes,
+        map,
+        &differing.after.groups,
+        &found.rows,
+        found.objective,
+    )?;
+    let mut further = stand_for_found(alloc, standing, map, differing, &found)?;
+    plan_found_others(
+        alloc,
+        boxes,
+        plan,
+        &mut further,
+        &found.rows,
+        found.objective,
+    )?;
+    let Found { addresses, .. } = found;
+    Ok(addresses)
+}
+
+// The items that differ, and the rows and the objective that are noted at the variables that change.
+fn find_touched<'a>(
+    alloc: Global,
+    reading: &mut Reading<'a>,
+    map: &AddressMap,
+    differing: &Differing<'a>,
+    standing: &Standing,
+) -> Result<Found<'a>, Memory>
+    ensures order { IfOk result (λ found. AreInOrder (differing_addresses differing.now
+        ++ flat_map (noted_items map.now.noted)
+        (changing_variables map.now standing.now differing.now)) found.addresses.items) }
+    ensures rows { IfOk result (λ found. found_rows found
+        ≡ filter_map (row_at reading.old.model) found.addresses.items) }
+    ensures objective { IfOk result (λ found. option_copied found.objective
+        ≡ objective_among reading.old.model found.addresses.items) }
+    ensures model { reading.new.model ≡ reading.old.model }
+    ensures reads { IfOk result (λ found. reading.new.reads
+        ≤ reading.old.reads + length found.addresses.items) }
+{
     let vars = own_variables(alloc, differing)?;
     let changed = changed_variables(alloc, map, standing, &vars)?;
     let found = find_items(alloc, reading, map, differing, &changed)?;
-    check_found(alloc, boxes, map, groups, &found.rows, found.objective)?;
-    let mut inner = standing_for(alloc, standing, map, groups, &found.rows, found.objective)?;
-    plan_found_others(alloc, boxes, plan, &mut inner, &found.rows, found.objective)?;
-    let Found { addresses, .. } = found;
-    Ok(addresses)
+    Ok(found)
+}
+
+// What stands for the variables that found items name: for those of the groups that differ what the
+// standing has, and for others what the map has.
+fn stand_for_found(
+    alloc: Global,
+    standing: &Standing,
+    map: &AddressMap,
+    differing: &Differing<'_>,
+    found: &Found<'_>,
+) -> Result<Standing, Memory>
+    ensures { IfOk result (λ further. expression_in further
+        ≡ expression_in (own_entries standing.now (groups_in differing.now.after)
+        ++ read_entries map.now (named_by (found_rows found.now)
+        (option_copied found.now.objective)))) }
+{
+    let after = &differing.after;
+    let rows = &found.rows;
+    let further = standing_for(alloc, standing, map, &after.groups, rows, found.objective)?;
+    Ok(further)
 }
 
 // Refuses the first item without a tree, where a number of the groups doesn't fit: items are found by
@@ -204,7 +273,6 @@ fn change_touched<B: Bridge>(
         standing,
     } = planned;
     let Plan { leaves, nodes } = plan;
-    let old_nodes = boxes.list_nodes(alloc, &found)?;
     let old_leaves = old_leaves(
         alloc,
         map,
@@ -214,11 +282,33 @@ fn change_touched<B: Bridge>(
         &found,
     )?;
     let gone = gone_among(alloc, &old_leaves, &leaves)?;
-    boxes.let_each_go(old_nodes.as_slice());
+    let_found_go(alloc, boxes, &found)?;
     let changed = change_leaves(alloc, solver, map, objective_at, &gone, &leaves)?;
     boxes.keep_each(nodes)?;
     change_entries(map, differing, &standing)?;
     Ok(changed)
+}
+
+// Lets all nodes go that are below found items.
+fn let_found_go<B: Bridge>(
+    alloc: Global,
+    boxes: &mut Boxes<B>,
+    found: &[Address],
+) -> Result<(), Memory>
+    requires narrow { IsNarrow boxes.old.states }
+    requires roots { All IsRoot found.now }
+    requires alone { (ats : List Address) → All (λ at. IsAlone at (kept_by boxes.old.states)) ats }
+    ensures gone { OnOk result (kept_by boxes.new.states ≡ prelude.map
+        (without_each (flat_map (nodes_below boxes.old.states) found.now))
+        (kept_by boxes.old.states)) }
+    ensures turns { OnOk result (turns_of boxes.new.states ≤ turns_of boxes.old.states
+        + length (flat_map (nodes_below boxes.old.states) found.now)) }
+    ensures families { families_of boxes.new.states ≡ families_of boxes.old.states }
+    ensures table { boxes.new.table ≡ boxes.old.table }
+{
+    let nodes = boxes.list_nodes(alloc, found)?;
+    boxes.let_each_go(nodes.as_slice());
+    Ok(())
 }
 
 // Sets anew what the map has of the items that differ: the expressions of their variables, and what
@@ -236,6 +326,10 @@ fn change_entries(
 {
     forget_groups(map, &differing.before.groups);
     express_groups(map, standing, &differing.after.groups)?;
+    // where a set or a constant changes, notes stay
+    if name_alike(&differing.before, &differing.after) {
+        return Ok(());
+    }
     note_contents(map, &differing.before, false)?;
     note_contents(map, &differing.after, true)
 }

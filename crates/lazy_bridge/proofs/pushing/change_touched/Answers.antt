@@ -9,25 +9,24 @@ use Rattle.leaf_update.specs.Splice.{IsSplice, IsSplicedInto, gone_in}
 use Rattle.leaf_model.specs.ReadThrough.{read_through}
 use Rattle.lazy_bridge.proofs.pushing.change_touched.Goals as goal
 
-pub list_nodes-requires-clause-narrow : goal.list_nodes-requires-clause-narrow
-list_nodes-requires-clause-narrow g c =
+pub let_found_go-requires-clause-narrow : goal.let_found_go-requires-clause-narrow
+let_found_go-requires-clause-narrow g c =
     narrow c.requires.0 c.args.boxes.now c.args.solver.now c.args.map.now c.args.objective_at.now
     c.args.differing.now c.requires.1 c.args.planned.standing c.args.planned.found.items
     c.args.planned.plan c.requires.2
 
-pub list_nodes-requires-clause-roots : goal.list_nodes-requires-clause-roots
-list_nodes-requires-clause-roots g c =
-    subst (All IsRoot) (sym c.deref.ensures.value)
+pub let_found_go-requires-clause-roots : goal.let_found_go-requires-clause-roots
+let_found_go-requires-clause-roots g c =
+    subst (All IsRoot) (sym c.deref-4.ensures.value)
     (roots c.requires.0 c.args.boxes.now c.args.solver.now c.args.map.now c.args.objective_at.now
     c.args.differing.now c.requires.1 c.args.planned.standing c.args.planned.found.items
     c.args.planned.plan c.requires.2)
 
-pub let_each_go-requires : goal.let_each_go-requires
-let_each_go-requires g c = record {
-  alone = alone c.requires.0 c.args.boxes.now c.args.solver.now c.args.map.now
-      c.args.objective_at.now c.args.differing.now c.requires.1 c.args.planned.standing
-      c.args.planned.found.items c.args.planned.plan c.requires.2 c.as_slice.result.now;
-}
+pub let_found_go-requires-clause-alone : goal.let_found_go-requires-clause-alone
+let_found_go-requires-clause-alone g c =
+    alone c.requires.0 c.args.boxes.now c.args.solver.now c.args.map.now c.args.objective_at.now
+    c.args.differing.now c.requires.1 c.args.planned.standing c.args.planned.found.items
+    c.args.planned.plan c.requires.2
 
 pub change_leaves-requires-clause-named : goal.change_leaves-requires-clause-named
 change_leaves-requires-clause-named g c =
@@ -43,25 +42,25 @@ change_leaves-requires-clause-splice g c =
     c.args.differing.now c.requires.1 c.args.planned.standing c.args.planned.found.items
     c.args.planned.plan c.requires.2 (gone_in c.in_ok-gone.gone)
     (c.in_ok-gone.ensures
-    ∙ (λ i. others_among (c.in_ok-old_leaves.ensures i) (c.deref-4.ensures.value i))
+    ∙ (λ i. others_among (c.in_ok-old_leaves.ensures i) (c.deref-3.ensures.value i))
     ∙ (λ i. others_among (old_leaves c.args.map.now c.args.solver.now.leaves
-    c.args.objective_at.now (map (λ x. x.now) (c.deref-2.ensures.value i))
-    (c.deref-3.ensures.value i)) c.args.planned.plan.leaves.items)))
+    c.args.objective_at.now (map (λ x. x.now) (c.deref.ensures.value i))
+    (c.deref-2.ensures.value i)) c.args.planned.plan.leaves.items)))
 
 pub keep_each-requires-clause-nodes : goal.keep_each-requires-clause-nodes
 keep_each-requires-clause-nodes g c =
     keepable c.requires.0 c.args.boxes.now c.args.solver.now c.args.map.now
     c.args.objective_at.now c.args.differing.now c.requires.1 c.args.planned.standing
-    c.args.planned.found.items c.args.planned.plan c.requires.2 _ c.let_each_go.ensures.families
+    c.args.planned.found.items c.args.planned.plan c.requires.2 _ c.let_found_go.ensures.families
 
 pub keep_each-requires-clause-free : goal.keep_each-requires-clause-free
 keep_each-requires-clause-free g c =
     free c.requires.0 c.args.boxes.now c.args.solver.now c.args.map.now c.args.objective_at.now
     c.args.differing.now c.requires.1 c.args.planned.standing c.args.planned.found.items
-    c.args.planned.plan c.requires.2 c.let_each_go.new.self.states c.as_slice.result.now
-    (c.as_slice.ensures ∙ c.in_ok-old_nodes.ensures
-    ∙ ap (flat_map (nodes_below c.args.boxes.now.states)) c.deref.ensures.value)
-    c.let_each_go.ensures.gone
+    c.args.planned.plan c.requires.2 c.let_found_go.new.boxes.states
+    (flat_map (nodes_below c.args.boxes.now.states) c.deref-4.result.now)
+    (ap (flat_map (nodes_below c.args.boxes.now.states)) c.deref-4.ensures.value)
+    c.in_ok-let_found_go.ensures.gone
 
 pub returns-clause-changed : goal.returns-clause-changed
 returns-clause-changed g c = λ e held made.
@@ -72,25 +71,25 @@ returns-clause-changed g c = λ e held made.
     let rest = c.in_ok-changed.ensures.rest in
     changed e c.args.boxes.now c.args.solver.now c.args.map.now c.args.objective_at.now
     c.args.differing.now held c.args.planned.standing c.args.planned.found.items
-    c.args.planned.plan made c.let_each_go.new.self.states c.as_slice.result.now
-    (c.as_slice.ensures ∙ c.in_ok-old_nodes.ensures
-    ∙ ap (flat_map (nodes_below c.args.boxes.now.states)) c.deref.ensures.value)
-    c.let_each_go.ensures.gone c.keep_each.new.self c.change_leaves.new.solver
+    c.args.planned.plan made c.let_found_go.new.boxes.states
+    (flat_map (nodes_below c.args.boxes.now.states) c.deref-4.result.now)
+    (ap (flat_map (nodes_below c.args.boxes.now.states)) c.deref-4.ensures.value)
+    c.in_ok-let_found_go.ensures.gone c.keep_each.new.self c.change_leaves.new.solver
     c.change_leaves.new.map c.change_entries.new.map c.change_leaves.new.objective_at
     c.in_ok-changed.changed (gone_in c.in_ok-gone.gone)
     (λ i. record {
-      table = (c.keep_each.ensures.table ∙ c.let_each_go.ensures.table) i;
-      families = (c.keep_each.ensures.families ∙ c.let_each_go.ensures.families) i;
+      table = (c.keep_each.ensures.table ∙ c.let_found_go.ensures.table) i;
+      families = (c.keep_each.ensures.families ∙ c.let_found_go.ensures.families) i;
     })
     c.in_ok-keep_each.ensures.kept
     (c.in_ok-gone.ensures
-    ∙ (λ i. others_among (c.in_ok-old_leaves.ensures i) (c.deref-4.ensures.value i))
+    ∙ (λ i. others_among (c.in_ok-old_leaves.ensures i) (c.deref-3.ensures.value i))
     ∙ (λ i. others_among (old_leaves c.args.map.now c.args.solver.now.leaves
-    c.args.objective_at.now (map (λ x. x.now) (c.deref-2.ensures.value i))
-    (c.deref-3.ensures.value i)) c.args.planned.plan.leaves.items))
+    c.args.objective_at.now (map (λ x. x.now) (c.deref.ensures.value i))
+    (c.deref-2.ensures.value i)) c.args.planned.plan.leaves.items))
     into c.change_entries.ensures.vars c.change_entries.ensures.rows
     (c.in_ok-change_entries.ensures.anew e
     ((λ i. (rest i).0) ∙ ap (λ (m : AddressMap). m.exprs) held.mapped)
     ((λ i. (rest i).1.1) ∙ ap (λ (m : AddressMap). m.kept) held.mapped)
     ((λ i. (rest i).1.0) ∙ ap (λ (m : AddressMap). m.noted) held.mapped) held.differing)
-    c.let_each_go.ensures.turns c.in_ok-keep_each.ensures.turns
+    c.in_ok-let_found_go.ensures.turns c.in_ok-keep_each.ensures.turns
