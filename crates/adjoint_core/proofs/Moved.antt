@@ -1,4 +1,4 @@
--- What is told of equal lists, told of a model's own.
+-- What holds of lists holds of a model's own, where they are equal.
 use Rattle.std.specs.Prelude.{◌≡◌, List, All, map}
 use Rattle.std.proofs.Common.{subst, subst₂, ◌∙◌}
 use Rattle.ratio_core.specs.Rational.{Rational, one_ℚ, zero_ℚ}

@@ -3,7 +3,7 @@
 --
 -- In order: the values of the user's variables, for a ray each followed by its entry; the duals of
 -- the user's rows, those of the child rows of each before its own; the variables' duals; the
--- objective's value, or the gap. What is below a row is told at the row.
+-- objective's value, or the gap. A number below a row that exceeds 128 bits is reported at the row.
 use Rattle.std.specs.List.{zip}
 use Rattle.std.specs.Prelude.{◌≡◌, ℕ, zero, suc, ◌⊎◌, List, [], ◌∷◌, ◌++◌, All, Result, length, map, take}
 use Rattle.ratio_core.specs.Folds.{sum_from}
@@ -191,7 +191,7 @@ module _ {setting : Setting} {model : ModelValue} (bridging : FreshBridging sett
       InfeasibleFits model (rows_of bridging d) (AllRowsFit d) (IsUnfitRow d)
   AllFits (unbounded x d) = All (BothFit model expression x d) (users model)
 
-  -- the first that doesn't is told at the address
+  -- the first that doesn't is reported at the address
   abbrev pub IsFirstUnfit : Answer → Address → Type 0
   IsFirstUnfit (optimal x y) at =
       let d = optimal_duals bridging y in

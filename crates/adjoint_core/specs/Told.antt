@@ -6,8 +6,8 @@ use Rattle.aff_core.specs.Address.{Address}
 use Rattle.adjoint_core.specs.declared.fault.BackFault.{BackFault}
 use Rattle.adjoint_core.specs.declared.fault.BackFault.TheVariants.{Memory, Overflow}
 
--- a value with Q exactly where P holds, and else an overflow at the address that is told; of want
--- of memory nothing is said
+-- a value with Q exactly where P holds, and else an overflow at this address; of running out of
+-- memory nothing is said
 abbrev pub Tells : {T : Type 0} → Result T BackFault → Type 0 → (T → Type 0) → (Address → Type 0)
     → Type 0
 Tells (Ok x) P Q Told = P × Q x

@@ -1,4 +1,4 @@
--- The dual of a row by what boxes keep: that of a leaf row is told, and that of a kept one is what
+-- The dual of a row by what boxes keep: that of a leaf row is given, and that of a kept one is what
 -- its edge makes of its child rows' duals, down to a number of levels.
 use Rattle.std.specs.Prelude.{◌+◌, ◌<◌, ◌≤◌, ◌^◌, ℕ, zero, suc, List, [], ◌∷◌, All, Option, Some, None, length, map}
 use Rattle.std.specs.List.{range_with_len}
@@ -33,7 +33,7 @@ pub record Takes (below : Address → List Rational) (at : Address) (kept : Kept
   pub places : (child_rows_of kept.edge kept.item).first
       + (child_rows_of kept.edge kept.item).count ≤ 2 ^ 16
 
--- below an item there stand fewer levels than there are kinds, of which there are 35
+-- below an item there stand fewer levels than the 35 kinds
 abbrev pub levels : ℕ
 levels = 36
 
@@ -41,7 +41,7 @@ abbrev pub row_place : Row → Address
 row_place r = root_address root.Row r.id
 
 module _ (states : List State) (leaf : Address → List Rational) where
-  -- ---- by what is told of the rows below
+  -- ---- by what is said of the rows below
 
   unfoldable pub dual_by : (Address → List Rational) → Address → Option KeptItem → List Rational
   dual_by below at None = leaf at

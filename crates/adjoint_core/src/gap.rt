@@ -1,4 +1,4 @@
-//! The gap of duals, which is told at the first row or group whose part of it doesn't fit.
+//! The gap of duals, which is reported at the first row or group whose part exceeds 128 bits.
 ghost use Rattle.std.specs.Prelude.{◌≡◌, All, length, map};
 ghost use Rattle.std.specs.List.{zip};
 ghost use Rattle.aff_core.specs.Address.{Address};

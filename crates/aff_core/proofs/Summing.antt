@@ -308,7 +308,7 @@ module _ {K : Type 0} {R : K → K → Ordering} (total : IsTotalOrder R) where
         ∙ ap (λ l. l ++ filter is_nonzero (drop j right)) (filter-append is_nonzero so_far.sums
         (drop i left)))
 
-    -- where the right list is read, what is left of the left list is put last
+    -- where the right list is read, what is left of the left list is appended
     pub summed-end_right : length right ≤ j → Sums
     summed-end_right h =
         let none : drop j right ≡ [] = drop_of_length-le right h in

@@ -99,7 +99,7 @@ module _ {K : Type 0} {R : K → K → Ordering} where
     nonzero = kept_nonzero R ts;
   }
 
-  -- the function of terms in any order, of which the first of each key counts
+  -- the function of terms in any order, where the first of each key counts
   unfoldable pub gathered : List (K × Rational) → Rational → FunctionOver R
   gathered ts constant = function_of (finite.entries (finite.from_entries {R = R} ts)) constant
 

@@ -144,7 +144,7 @@ impl Ord for Address {
 
     ghost matches_eq = { λ a b. refl };
 
-    /// By root, number and positions, of which the first that differ decide.
+    /// By root, number and positions, the first that differ decide.
     fn cmp(&self, other: &Address) -> Ordering {
         let first = self.root.cmp(&other.root);
         match first.then(self.number.cmp(&other.number)) {

@@ -40,7 +40,7 @@ module _ (F : Form) (standard : IsStandard F) (n : ℕ) (same : n ≡ most_steps
   no_limit fault h = not_limited fault (subst (λ k. SaysOutcome F k (Err fault)) same h)
 
 module _ (F : Form) (o : Outcome) (m : ℕ) where
-  -- a fault is told as it is
+  -- a fault is reported as it is
   told_lem : (fault : SolveFault) (small : SmallFault) → Tells F m o (Err fault)
       → small_fault_of fault ≡ Some small → TellsSmall F o (Err small)
   told_lem (solve.Limit basis pivots) small h e = absurd (none-some small e)

@@ -15,7 +15,7 @@ abbrev pub PrintsAnswer : Form → (List ℕ → Type 0) → Type 0
 PrintsAnswer F wrote = (answer : SolverAnswer)
     × EndsTrail F (Ok answer) × IsRightAnswer F answer × wrote (answer_text answer)
 
--- the trail comes to numbers that don't fit, and that is told
+-- the trail comes to numbers that exceed 128 bits, and that is printed
 abbrev pub PrintsOverflow : Form → (List ℕ → Type 0) → Type 0
 PrintsOverflow F wrote = (basis : List ℕ)
     × EndsTrail F (Err (Overflow basis)) × wrote (codes "refused 17 Overflow\n")

@@ -6,7 +6,7 @@ use Rattle.io_face.specs.Source.{Takes}
 abbrev pub input_limit : ℕ
 input_limit = 65536
 
--- so many bytes were taken, or fewer
+-- n bytes were taken, or fewer
 pub record TakesAtMost (most : ℕ) (left left' : Option (List ℕ)) : Type 0 where
   pub taken : List ℕ
   pub takes : Takes left left' taken

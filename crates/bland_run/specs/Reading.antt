@@ -1,6 +1,6 @@
 -- The form that a text writes: a line of its numbers of rows and columns, a line for each row with
--- its right side last, and a line of costs. A line's words are parted by single spaces, and a newline
--- ends each line.
+-- its right side last, and a line of costs. A line's words are separated by single spaces, and
+-- a newline ends each line.
 use Rattle.std.specs.Prelude.{ℕ, ◌+◌, ◌-◌, ◌≤◌, List, [], ◌∷◌, Option, Some, None, length, slice_index, take, if◌then◌else◌, ◌==◌}
 use Rattle.std.specs.List.{slice_split}
 use Rattle.ratio_core.specs.Rational.{Rational}

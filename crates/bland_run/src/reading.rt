@@ -12,7 +12,7 @@ use simplex_core::StdForm;
 use std::alloc::Global;
 
 // The form that a text writes: a line of its numbers of rows and columns, a line a row with its
-// right side last, and a line of costs; words parted by single spaces, and a newline after each
+// right side last, and a line of costs; words separated by single spaces, and a newline after each
 // line. There is none exactly where the text isn't of this form, a number of rows or columns is 0,
 // they are more than 61 together, or a right side is below 0.
 #[tactic(auto, unfolding(crate::specs::Reading::form_in))]

@@ -20,7 +20,7 @@ pub fn solve_small(alloc: Global, form: &StdForm) -> Result<SolverAnswer, SmallF
     requires small { form.now.c + form.now.m ≤ 61 }
 
     // The answer is read off the end of the trail, and is right. Where a number of the first board
-    // or of the next pivot doesn't fit, the basis there is told. That is the outcome of the trail
+    // or of the next pivot exceeds 128 bits, the basis there is reported. That is the outcome of the trail
     // with an allowance of as many pivots as none has.
     ensures end { EndsTrail (equality_form form.now) result }
     ensures outcome { let F = equality_form form.now in

@@ -5,7 +5,7 @@
 //     words WORD ..          its words
 //     |LINE                  a line of the input; `>` in place of `|` where no newline ends it
 //     zeros N                N bytes of the input, each the digit 0
-//     piece N                a read gives and a write takes so many bytes at most, and not 4,096
+//     piece N                a read gives and a write takes N bytes at most, and not 4,096
 //     failing read N         the read of this number fails, or the write
 //     run                    runs the case
 #![tactic(auto)]

@@ -164,7 +164,7 @@ module _ (setting : Setting) (costly : IsCostly (graph_of setting)) (choice : �
   abbrev Here : Item → Type 0
   Here item = IsHere setting costly choice chosen lawful item
 
-  -- what is told at and below the address is of these nodes
+  -- what is said at and below the address is of these nodes
   abbrev pub Tells : Address → List (ℕ × Item) → Type 0
   Tells at ns =
       (v : Address) → IsBelow at v → places v ≡ option_map node_places (look v (by_address ns))
@@ -174,7 +174,7 @@ module _ (setting : Setting) (costly : IsCostly (graph_of setting)) (choice : �
       (v : Address) (j : ℕ) → low ≤ j → IsBelowAt at j v
       → places v ≡ option_map node_places (look v (by_address ns))
 
-  -- where nothing is told nothing is listed
+  -- where there is nothing, nothing is listed
   nothing_walked : (fuel : ℕ) (at : Address) → places at ≡ None → walk places fuel at ≡ []
   unfolding walk
   nothing_walked zero at e = refl

@@ -22,8 +22,8 @@ use lists::Memory;
 use ratio_core::NumberFault;
 use std::alloc::Global;
 
-/// Bridges an item, no deeper than so many levels: puts its leaves and its nodes last in the plan,
-/// and the expressions of its components last in the entries. `Overflow` exactly where a number
+/// Bridges an item, no deeper than this number of levels: appends its leaves and its nodes to the
+/// plan, and the expressions of its components to the entries. `Overflow` exactly where a number
 /// that the bridging is made with doesn't fit.
 #[cycle(planning)]
 pub fn plan_item<R: Rewriter>(

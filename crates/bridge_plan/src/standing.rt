@@ -54,7 +54,7 @@ impl Model for Standing {
 }
 
 impl Standing {
-    /// What stands for variables by these entries, of which the first of a variable's serves.
+    /// What stands for variables by these entries; if a variable has several, the first wins.
     pub fn of(alloc: Global, entries: Vec<Entry>) -> Result<Standing, Memory>
         ensures { IfOk result (λ s. expression_in s ≡ expression_in entries.items) }
     {

@@ -12,7 +12,7 @@ use bridge_face::Bridge;
 use bridge_graph::{Choice, Graph};
 use item_core::{EDGE_COUNT, EDGE_ROWS, EDGES, EdgeEntry, Family, KIND_COUNT, Table};
 
-// The graph of kinds, with the edges of which the family is on and among the bridges.
+// The graph of kinds, with the edges whose family is on and among the bridges.
 pub(crate) fn graph_of<B: Bridge>(table: &Table, bridges: &[B]) -> Graph<KIND_COUNT, EDGE_COUNT>
     requires { IsTrue (list_all is_edge_cost table.now.cost) }
     ensures graph { result ≡ graph_of (setting_by table.now (map B.state bridges.now)) }

@@ -87,7 +87,7 @@ pub(crate) fn keep_by<B: Bridge>(bridges: &mut [B], node: KeptItem) -> Result<()
     unreachable!()
 }
 
-// Has each bridge let all go.
+// Has each bridge free all that it keeps.
 pub(crate) fn clear_all<B: Bridge>(bridges: &mut [B])
     ensures { map B.state bridges.new ≡ map all_gone (map B.state bridges.old) }
 {

@@ -112,7 +112,7 @@ fn hold<B: Bridge>(bridge: &mut B, edge: Edge, item: Item) -> Result<(), Memory>
     }
 }
 
-// Puts an item in the place of the one that is kept, and prints what the bridge lets go of then,
+// Puts an item in the place of the one that is kept, and prints what the bridge frees then,
 // that there is nothing after it, and the turns.
 fn change<B: Bridge>(page: &mut Page, bridge: &mut B, edge: Edge, item: Item)
     requires suits { IsItemFor edge item }

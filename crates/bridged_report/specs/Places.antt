@@ -1,4 +1,4 @@
--- Where something is in the user's model, by name: a group is told by its first variable.
+-- Where something is in the user's model, by name: a group is named by its first variable.
 use Rattle.std.specs.Prelude.{ℕ, Option, Some}
 use Rattle.std.specs.Option.{option_map}
 use Rattle.aff_core.specs.Address.{Address}

@@ -47,7 +47,7 @@ pub rows_done : (ys : List (List Rational)) (rows : List Row) (i : ℕ) → leng
 rows_done ys rows i e le =
     drop_of_length-le (rows_with ys rows) (subst (λ n. n ≤ i) (sym (row_count ys rows e)) le)
 
--- the row at a place has so many duals, and a set for them
+-- the row at a place has this number of duals, and a set for them
 pub row_size : (ys : List (List Rational)) (rows : List Row) (i : ℕ) (y : List Rational) (r : Row)
     → HasRowDuals rows ys → y ≡ get_or ys i y → r ≡ get_or rows i r → i < length rows
     → length y ≡ length (functions_of r.func)

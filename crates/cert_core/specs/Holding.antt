@@ -24,7 +24,7 @@ pub record HoldsAt (model : ModelValue) (one : Rational) (x : List Rational) : T
   pub groups :
       All (λ g. FunctionsHold one g.set (functions_of_group g) (at_point model x)) model.groups
 
--- ---- sets for so many components
+-- ---- sets for n components
 
 pub record HasRowSet (r : Row) : Type 0 where
   pub dimension : length (functions_of r.func) ≡ dimension_of r.set

@@ -30,7 +30,7 @@ pub enum Command {
     Generate(Recipe),
 }
 
-/// What the session is told before its first line.
+/// What is set up before the session's first line.
 #[derive(Clone, Copy, Debug, PartialEq, Eq)]
 pub struct Setup {
     pub target: Target,

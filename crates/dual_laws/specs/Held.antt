@@ -22,7 +22,7 @@ pub record Held : Type 0 where
   pub functions : List Function
   pub set : Set
 
--- the set is one for so many functions, and its dual set has the duals, one for each
+-- the set is one for n functions, and its dual set has the duals, one for each
 pub record IsHeld (h : Held) : Type 0 where
   pub set : IsSetOf (length h.functions) h.set
   pub size : length h.duals ≡ length h.functions

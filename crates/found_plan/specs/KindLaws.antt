@@ -1,4 +1,4 @@
--- The kinds of rows and of the objective hang on plain functions' variables alone.
+-- The kinds of rows and of the objective depend on plain functions' variables alone.
 use Rattle.std.specs.Prelude.{◌≡◌, ℕ, Bool, ◌&&◌, ◌++◌, cond, List, [], ◌∷◌, All, Option, Some, None, map, refl}
 use Rattle.std.proofs.Common.{ap, ap₂, sym, ◌∙◌}
 use Rattle.std.specs.List.{list_all, list_any}

@@ -28,7 +28,7 @@ plain_in_objective (objective.Affine sense f) = []
 abbrev pub plain_in : List Row → List Address
 plain_in rows = flat_map (λ (r : Row). plain_in_row r.func) rows
 
--- of each of these variables its mark is told, and of others what was told
+-- these variables have their marks, and others what they had
 abbrev pub TellsMarks : AddressMap → List Address → FinMap address_cmp Bool
     → FinMap address_cmp Bool → Type 0
 TellsMarks places vars old new =

@@ -44,8 +44,8 @@ impl AffineMap {
 }
 
 impl Generator {
-    // The generator after so many draws, in a number of steps that is the logarithm of theirs: the
-    // map of a draw is squared.
+    // The generator after this number of draws, in a number of steps that is the logarithm of
+    // theirs: the map of a draw is squared.
     pub(crate) fn after(self, draws: u64) -> Generator
         ensures { result.state ≡ after draws self.state }
     {

@@ -24,16 +24,16 @@ fetched_file (Some bytes) = if nat_le (length bytes) file_limit then Ok bytes el
 abbrev pub fetched : FilesByName → List ℕ → Result (List ℕ) FetchFault
 fetched files name = fetched_file (get files name)
 
--- the names that were asked for are those before, and then these, where they are told
+-- the names that were asked for are those before, and then these, where they are known
 abbrev pub AsksFor : Option (List (List ℕ)) → Option (List (List ℕ)) → List (List ℕ) → Type 0
 AsksFor old new names = new ≡ option_map (λ asked. asked ++ names) old
 
--- fetching the file of a name gives this, where the files are told
+-- fetching the file of a name gives this, where the files are known
 abbrev pub Gives : Option FilesByName → List ℕ → Result (List ℕ) FetchFault → Type 0
 Gives None name given = ⊤
 Gives (Some files) name given = fetched files name ≡ given
 
--- this is how the file of a name begins, or nothing, where the files are told
+-- this is how the file of a name begins, or nothing, where the files are known
 abbrev pub GivesFront : Option FilesByName → List ℕ → List ℕ → Type 0
 GivesFront None name front = ⊤
 GivesFront (Some files) name front = StartsWith (unwrap_or (get files name) []) front

@@ -16,7 +16,7 @@ pub Adds-append : (first second third : Option (List ℕ)) (s t : List ℕ)
 Adds-append None second third s t p q = rw p at q
 Adds-append (Some bytes) second third s t p q = (rw p at q) ∙ ap Some (append_assoc bytes s t)
 
--- what is told stays told, and ends in the text
+-- what was written is known as before, and ends in the text
 pub Adds-told : (bytes : List ℕ) (new : Option (List ℕ)) (text : List ℕ)
     → Adds (Some bytes) new text → new ≡ Some (bytes ++ text)
 Adds-told bytes new text p = p

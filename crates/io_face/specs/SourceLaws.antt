@@ -16,7 +16,7 @@ pub Takes-append : (first second third : Option (List ℕ)) (s t : List ℕ)
 Takes-append first second None s t p q = rw q at p
 Takes-append first second (Some rest) s t p q = (rw q at p) ∙ ap Some (sym (append_assoc s t rest))
 
--- what is told stays told, and began with the text
+-- what was read is known as before, and began with the text
 pub Takes-told : (bytes : List ℕ) (new : Option (List ℕ)) (text : List ℕ)
     → Takes (Some bytes) new text → (rest : List ℕ) × (new ≡ Some rest) × (bytes ≡ text ++ rest)
 Takes-told bytes None text p = cc

@@ -17,8 +17,8 @@ abbrev pub given_by : Result Unit FetchFault → List ℕ → Result (List ℕ) 
 given_by (Ok done) bytes = Ok bytes
 given_by (Err fault) bytes = Err fault
 
--- fetching the file of a name may give this: the file, where it is told; a failure at any time, but
--- of a sure shelf only where there is no such file; want of memory at any time
+-- fetching the file of a name may give this: the file, where it is known; a failure at any time, but
+-- of a sure shelf only where there is no such file; running out of memory at any time
 abbrev pub MayGive : Told → List ℕ → Result (List ℕ) FetchFault → Type 0
 MayGive shelf name (Ok bytes) = Gives shelf.files name (Ok bytes) × (length bytes ≤ file_limit)
 MayGive shelf name (Err TooLong) = Gives shelf.files name (Err TooLong)

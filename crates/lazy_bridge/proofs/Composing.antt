@@ -299,7 +299,7 @@ module _ (old : Owned) (undos : List Undo) (after : ModelValue) (sound : AreSoun
   memory_setting fault is reads new reads_after pushed =
       subst (λ f. told_by (Err f) reads new reads_after) is pushed
 
--- memory ran out on the way, and all was let go
+-- memory ran out on the way, and all was freed
 pub same_setting : (old mid new : Boxed) → setting_of mid ≡ setting_of old
     → families_of new.states ≡ families_of mid.states → new.table ≡ mid.table
     → setting_of new ≡ setting_of old

@@ -274,7 +274,7 @@ pub noted_if : {T E P Q : Type 0} (r : Result T E) → (P → Q) → OnOk r P �
 noted_if (Ok v) f h = f h
 noted_if (Err e) f h = h
 
--- by what is told
+-- by what was noted
 pub told_as : (told b : Bool) → told ≡ b → (names : Address → Address → Bool) (old new : Noted)
     → Notes names b old new → Notes names told old new
 told_as told b e names old new h = subst (λ t. Notes names t old new) (sym e) h

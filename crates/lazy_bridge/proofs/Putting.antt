@@ -57,7 +57,7 @@ nothing_tried old new same h =
     (subst (All (λ (k : Family × Kept). k.1 ≡ finite.empty))
     (sym (ap (λ (m : Means). m.kept) same.means)) (none_kept old.boxes.states h.kept))
 
--- ---- what hangs on a map's leaves and expressions alone
+-- ---- what depends on a map's leaves and expressions alone
 
 pub record HasLeavesAndExpressions (one other : AddressMap) : Type 0 where
   pub vars : other.vars ≡ one.vars

@@ -76,7 +76,7 @@ fn put_expressions(map: &mut AddressMap, exprs: Vec<(Address, Aff)>) -> Result<(
     Ok(())
 }
 
-// Lets all go.
+// Frees all that is kept.
 pub(crate) fn let_all_go<B: Bridge>(
     boxes: &mut Boxes<B>,
     solver: &mut SolverModel,

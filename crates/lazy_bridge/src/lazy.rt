@@ -210,7 +210,7 @@ impl<B: Bridge> LazyOver<B> {
         Ok(self.put(planned, model)?)
     }
 
-    // Plans a model's bridging by the table, or lets all go where memory runs out.
+    // Plans a model's bridging by the table, or frees all where memory runs out.
     fn plan(&mut self, model: &UserModel) -> Result<ModelPlan, PushFault>
         ensures planned { IsPlannedBy self.old model.now.model result self.new }
         ensures puttable { IfOk result (IsPuttable (families_of self.new.boxes.states)) }
@@ -233,7 +233,7 @@ impl<B: Bridge> LazyOver<B> {
         }
     }
 
-    // Puts a model's plan in, where no node and no expression is held, or lets all go.
+    // Puts a model's plan in, where no node and no expression is held, or frees all.
     fn put(&mut self, planned: ModelPlan, model: &UserModel) -> Result<u64, Memory>
         requires planned { IsPuttable (families_of self.old.boxes.states) planned }
         requires kept { All (λ s. s.kept ≡ finite.empty) self.old.boxes.states }
@@ -275,7 +275,7 @@ impl<B: Bridge> LazyOver<B> {
         self.map.clear_exprs();
     }
 
-    /// Lets all go. The solver's model is not called.
+    /// Frees all that is kept. The solver's model is not called.
     pub fn clear(&mut self)
         ensures nothing { HoldsNothing self.new }
         ensures setting { setting_in self.new ≡ setting_in self.old }

@@ -23,7 +23,7 @@ no_leaves = record {
 
 -- ---- at how many addresses two models differ
 
--- so many addresses pass
+-- this number of addresses passes
 pub record IsCountOf (P : Address → Type 0) (n : ℕ) : Type 0 where
   pub addresses : List Address
   pub distinct : IsDistinct address_eq addresses

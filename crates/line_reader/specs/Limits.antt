@@ -5,6 +5,6 @@ use Rattle.std.specs.Prelude.{ℕ}
 abbrev pub line_limit : ℕ
 line_limit = 65536
 
--- the input, up to its end or the line that ends the work
+-- the input, up to its end or the line that ends the run
 abbrev pub input_limit : ℕ
 input_limit = 67108864

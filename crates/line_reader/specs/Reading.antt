@@ -53,7 +53,7 @@ pub record LosesPart (old : Held) (left left' : Option (List ℕ)) : Type 0 wher
   pub short : length (strip_carriage_return part) ≤ line_limit
   pub kept : rest_of old left ≡ prepend_known part left'
 
--- so many bytes were taken, or fewer
+-- n bytes were taken, or fewer
 pub record TakesAtMost (most : ℕ) (left left' : Option (List ℕ)) : Type 0 where
   pub taken : List ℕ
   pub takes : Takes left left' taken

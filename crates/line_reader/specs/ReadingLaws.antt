@@ -1,4 +1,4 @@
--- Bytes that are told, by those before them.
+-- Bytes that are known, by those before them.
 use Rattle.std.proofs.Common.{◌≡◌, ℕ, List, ◌++◌, refl, sym, ap, subst, Option, None, Some, append_assoc, IfSome}
 use Rattle.std.specs.Io.KnownBytes.{prepend_known}
 
@@ -9,7 +9,7 @@ pub prepend-append : (front more : List ℕ) (known : Option (List ℕ))
 prepend-append front more None = refl
 prepend-append front more (Some bytes) = ap Some (append_assoc front more bytes)
 
--- ---- what is told of all bytes
+-- ---- what is said of all bytes
 
 -- from what holds of those that come behind the known front
 pub told_behind : (Q : List ℕ → Type 0) (all behind : Option (List ℕ)) (front : List ℕ)

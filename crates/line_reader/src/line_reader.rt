@@ -182,8 +182,8 @@ impl LineReader {
     }
 }
 
-/// Reads at most so many bytes, one or more, into the front of the buffer. Zero at the end of the
-/// input.
+/// Reads at most this number of bytes, one or more, into the front of the buffer. Zero at the end
+/// of the input.
 fn read_front<I: Source>(input: &mut I, buffer: &mut [u8], most: usize) -> Result<usize, ReadStop>
     requires some { 0 < most }
     requires room { most ≤ length buffer.old }

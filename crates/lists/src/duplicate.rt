@@ -3,7 +3,7 @@ ghost use Rattle.std.specs.Prelude.{◌≡◌, IfOk};
 
 use crate::Memory;
 
-/// A value that an equal one can be made of, for want of memory alone excepted.
+/// A value that an equal one can be made of, except for running out of memory.
 pub trait Duplicate: Drop {
     /// An equal value in memory of its own, which the value's own allocator gives.
     fn copy(&self) -> Result<Self, Memory>

@@ -1,4 +1,4 @@
-//! Lists that contracts see as lists, how their values are copied, and want of memory.
+//! Lists that contracts see as lists, how their values are copied, and the fault of running out of memory.
 #![tactic(auto)]
 
 mod duplicate;

@@ -1,4 +1,4 @@
-//! Want of memory.
+//! The fault of running out of memory.
 use std::alloc::{AllocError, AllocFailed};
 use thiserror::Error;
 

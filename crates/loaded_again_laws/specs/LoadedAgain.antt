@@ -15,8 +15,8 @@ use Rattle.io_face.specs.Told.{MayGive, Told}
 use Rattle.io_face.specs.declared.shelf.FetchFault.{FetchFault}
 use Rattle.io_face.specs.declared.shelf.FetchFault.TheVariants as fetch
 use Rattle.mof_fetch.specs.Fetched.{read_of, walked}
-use Rattle.mof_round_trip.specs.Accepted.{LeadTo}
-use Rattle.mof_round_trip.specs.RoundTrip.{MakesAgain}
+use Rattle.mof_round_trip_laws.specs.Accepted.{LeadTo}
+use Rattle.mof_round_trip_laws.specs.RoundTrip.{MakesAgain}
 use Rattle.report_core.specs.declared.answer.Answer.{Answer}
 use Rattle.report_core.specs.declared.answer.Answer.TheVariants.{Memory, Printed}
 use Rattle.script_core.specs.Line.{line_said}

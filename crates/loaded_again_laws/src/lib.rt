@@ -18,7 +18,7 @@ pub fn written_line(alloc: Global, model: &UserModel) -> Result<Text, Memory>
     // A line that loads it makes the model again.
     ensures loaded { IfOk result (λ text. LoadsAgain model.now.model text) }
 {
-    let mut text = mof_round_trip::write(alloc, model)?.into_vec();
+    let mut text = mof_round_trip_laws::write(alloc, model)?.into_vec();
     text.push(b'\n')?;
     Ok(Text::from_vec(text))
 }

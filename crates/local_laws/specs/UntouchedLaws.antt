@@ -39,7 +39,7 @@ use Rattle.local_laws.specs.Sound.{IsValidUnder}
 use Rattle.local_laws.specs.Stays.{StaysAt}
 use Rattle.local_laws.specs.StaysLaws.{found_is, holds_alike}
 
--- ---- choices that agree with a tree are told by its leaves and nodes
+-- ---- choices that agree with a tree are given by its leaves and nodes
 
 module _ (choice : Item → Choice) where
   -- each leaf is native, and each node by its edge

@@ -17,7 +17,7 @@ pub drop_at : {X : Type 0} (i : ℕ) (x : X) (xs : List X) → slice_get xs i �
     → drop i xs ≡ x ∷ drop (i + 1) xs
 drop_at i x xs e = rw add-one (drop_suc i x xs e)
 
--- an item of the first so many
+-- an item of the first n
 pub taken_at : {X : Type 0} (n i : ℕ) (x : X) (xs : List X) → i < n → slice_get xs i ≡ Some x
     → slice_get (take n xs) i ≡ Some x
 taken_at n i x [] lt e = cc

@@ -39,7 +39,7 @@ module _ (kept : Bool) where
   regrouped true false t = refl
   regrouped false b t = refl
 
-  -- what is told now, with what is left to tell, is what all is to be
+  -- what is entered now, with what is left to enter, makes the whole
   pub record IsToldSoFar (all left : List Address) (old now : Told) : Type 0 where
     pub told_now : (v : Address)
         → cond (is_among left v) kept (told now v) ≡ cond (is_among all v) kept (told old v)

@@ -17,7 +17,7 @@ abbrev pub found_others : List Row → Option Objective → List Item
 found_others rows objective = map row_item rows ++ option_map_or objective_items objective []
 
 -- a variable of one of the groups is kept as the first such group's kind says, and of any other it
--- is told otherwise
+-- is known otherwise
 unfoldable pub kept_over : (ℕ → Choice) → (Address → Bool) → List Item → Address → Bool
 kept_over choice otherwise [] v = otherwise v
 kept_over choice otherwise (group ∷ groups) v =

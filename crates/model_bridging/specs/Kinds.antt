@@ -198,6 +198,6 @@ abbrev pub kinds_told : (ℕ → Choice) → List Item → List Item → List Ki
 kinds_told choice groups others =
     kinds_as_they_stand groups ++ map (λ i. kind_by (is_kept_by choice groups) i.body) others
 
--- what is told of a variable: one of which nothing is told stands for itself
+-- what is known of a variable: one of which nothing is known stands for itself
 abbrev pub told : FinMap address_cmp Bool → Address → Bool
 told kept v = unwrap_or (finite.get kept v) true

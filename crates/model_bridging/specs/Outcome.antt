@@ -13,7 +13,7 @@ use Rattle.model_bridging.specs.declared.fault.PushFault.TheVariants.{Unsupporte
 abbrev pub IsFirstAt : Option Item → Address → Type 0
 IsFirstAt unfit at = option_map (λ item. item.at) unfit ≡ Some at
 
--- a value with Q where all fit, else the address of the first that doesn't; or want of memory
+-- a value with Q where all fit, else the address of the first that doesn't; or running out of memory
 abbrev pub Outcome : {T : Type 0} → Result T PushFault → Option Item → (T → Type 0) → Type 0
 Outcome (Ok x) unfit Q = (unfit ≡ None) × Q x
 Outcome (Err (Unsupported kind)) unfit Q = ⊥
@@ -25,7 +25,7 @@ abbrev pub refused_at : NumberFault → Address → PushFault
 refused_at fault.Overflow at = Overflow at
 refused_at fault.Memory at = Memory
 
--- no item lacks a tree, or the first that does is of this kind; or want of memory
+-- no item lacks a tree, or the first that does is of this kind; or running out of memory
 abbrev pub KindsOutcome : {T : Type 0} → Result T PushFault → Option Kind → Type 0
 KindsOutcome (Ok x) missing = missing ≡ None
 KindsOutcome (Err (Unsupported kind)) missing = missing ≡ Some kind

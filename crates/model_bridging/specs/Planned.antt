@@ -36,7 +36,7 @@ pub record IsPlanOf (setting : Setting) (model : ModelValue) (planned : ModelPla
 
 -- the fresh bridging exists and its numbers fit; or the first of the user's items without a tree is
 -- of the kind; or it exists, and a number doesn't fit first at or below the item of the address; or
--- memory is wanting
+-- memory runs out
 abbrev pub Planned : Setting → ModelValue → Result ModelPlan PushFault → Type 0
 Planned setting model (Ok planned) = IsPlanOf setting model planned
 Planned setting model (Err (Unsupported kind)) = IsUnsupported setting model kind

@@ -1,4 +1,4 @@
--- The first of the user's items that has no tree, by the kinds that are told of them.
+-- The first of the user's items that has no tree, by the kinds that are given for them.
 use Rattle.std.specs.Prelude.{◌≡◌, ℕ, Bool, true, false, cond, List, [], ◌∷◌, ◌++◌, All, map, Option, Some, None, refl}
 use Rattle.std.proofs.Common.{ap, ap₂, sym, ◌∙◌, true≢false}
 use Rattle.std.specs.Option.{option_or}
@@ -132,7 +132,7 @@ module _ (setting : Setting) (costly : IsCostly (graph_of setting)) (choice : �
   abbrev others_here : List Item
   others_here = (model_image model).others
 
-  -- the kinds that are told of rows and the objective are those that they have
+  -- the kinds that are given for rows and the objective are those that they have
   told_kinds : (kept : _) (entries : List Entry) (items : List Item)
       → ((i : Item) → kind_by kept i.body ≡ kind_of_body (put_in entries i).body)
       → map (λ i. kind_by kept i.body) items ≡ kinds_as_they_stand (map (put_in entries) items)

@@ -83,7 +83,7 @@ pub fn plan_found_groups<R: Rewriter>(
     Ok(entries)
 }
 
-/// Refuses the first of these rows, or else this objective, that has no tree, by what is told of
+/// Refuses the first of these rows, or else this objective, that has no tree, by what is said of
 /// variables.
 pub fn check_found_others<R: Rewriter>(
     rewriter: &R,

@@ -1,6 +1,6 @@
 //! Whether each item of the user's model has a tree, before any number is worked out.
 //!
-//! The kind of a row with plain functions hangs on whether its variables are kept, which the kinds
+//! The kind of a row with plain functions depends on whether its variables are kept, which the kinds
 //! of their groups tell.
 ghost use Rattle.std.specs.Prelude.{◌≡◌, ◌∷◌, ◌++◌, [], IfOk, OnOk, cond, map};
 ghost use Rattle.std.specs.List.{list_all, list_any};

@@ -69,7 +69,7 @@ pub record IsNoLess (old new : Room) : Type 0 where
   pub variable_names : old.variable_names ≤ new.variable_names
   pub row_names : old.row_names ≤ new.row_names
 
--- there is room for so many more
+-- there is room for this number more
 pub record HasRoom (more : More) (catalog : Catalog) : Type 0 where
   pub groups : length catalog.model.groups + more.groups ≤ catalog.room.groups
   pub rows : length catalog.model.rows + more.rows ≤ catalog.room.rows

@@ -1,4 +1,4 @@
-//! Lists made anew for a plan.
+//! Lists rebuilt for a plan.
 ghost use Rattle.std.specs.Prelude.{◌≡◌, ◌+◌, ◌<◌, ◌∷◌, [], ◌++◌, IfOk, length, take, drop};
 
 use aff_core::{Aff, VecAff};

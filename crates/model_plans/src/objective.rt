@@ -16,7 +16,7 @@ use ratio_core::{Memory, Ratio};
 use std::alloc::Global;
 use user_model::{NamedFunc, Objective, Sense};
 
-/// The objective of a scalar function, which is made anew over the addresses of its variables.
+/// The objective of a scalar function, which is rebuilt over the addresses of its variables.
 #[tactic(auto, unfolding(user_model::specs::Edited::edited))]
 pub(crate) fn set(
     alloc: Global,

@@ -126,7 +126,7 @@ impl Plan {
     }
 }
 
-/// The plan of an edit that is not refused. It fails for want of memory alone. Only the row, the
+/// The plan of an edit that is not refused. It fails only where memory runs out. Only the row, the
 /// group or the objective that changes is copied, and the deletion of a variable goes once over the
 /// rows. What stays as it is, is in no plan. What the edit names was found; the variables of a new
 /// row or objective are looked up as its function is made.

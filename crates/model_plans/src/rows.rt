@@ -23,7 +23,7 @@ use set_core::Set;
 use std::alloc::Global;
 use user_model::{NamedFunc, NextNumbers, Row, UserFunc};
 
-/// A new row. Its function is made anew over the addresses of its variables, and its name is copied
+/// A new row. Its function is rebuilt over the addresses of its variables, and its name is copied
 /// into the row and into the listed names.
 pub(crate) fn add(
     alloc: Global,

@@ -149,7 +149,7 @@ fn full_by_terms(model: &Catalog, old: u64, new: u64) -> Option<Refusal>
     full_by_total(model, old, new)
 }
 
-// The same where the function may have so many terms.
+// The same where the function may have this number of terms.
 fn full_by_total(model: &Catalog, old: u64, new: u64) -> Option<Refusal>
     requires within { IsWithinLimits model.now.model }
     requires part { old ≤ models.total_terms model.now.model }

@@ -8,7 +8,7 @@ ghost use Rattle.model_refusals.specs.Hash.{AreNew, hash_of};
 use crate::marks::Marks;
 use name_index::{Name, Names};
 
-// So many names set at most a tenth of the marks' bits.
+// This number of names sets at most a tenth of the marks' bits.
 const AT_ONCE: usize = 16_384;
 
 /// Whether some name stands twice.
@@ -69,7 +69,7 @@ pub(crate) fn hash_of(name: &Name) -> u64
     hash
 }
 
-// Whether the name is one of the first so many.
+// Whether the name is one of the first ones, up to this number.
 fn stands_before(names: &Names, end: usize, name: &Name) -> bool
     requires { end ≤ length names.now }
     ensures { result ≡ list_any (bytes_eq name.now) (take end names.now) }

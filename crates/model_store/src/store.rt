@@ -136,7 +136,7 @@ impl UserModel {
         ensures kept { OnErr result (self.new ≡ self.old) }
     {
         let planned = plan_of(self.alloc, &self.catalog, &edit);
-        // let go here, where no way has parted yet
+        // freed here, before the ways part
         drop(edit);
         let plan = planned?;
         let Ok(reserved) = reserve(&mut self.catalog, &mut self.parked, &plan, self.names) else {

@@ -1,4 +1,4 @@
-//! Reads a file so many times, as a JSON tree alone or as the edits that make its model, and prints
+//! Reads a file several times, as a JSON tree alone or as the edits that make its model, and prints
 //! how many bytes it has and how often it was read: `mof_bench FILE tree|edits TIMES`.
 #![tactic(auto)]
 

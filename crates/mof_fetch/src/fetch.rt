@@ -13,7 +13,7 @@ use name_index::Name;
 use std::alloc::Global;
 
 /// Fetches the file of a name, once and no other, and reads the edits that make its model from an
-/// empty one. The file's bytes are let go before it returns.
+/// empty one. The file's bytes are freed before it returns.
 pub fn fetch_edits<H: Shelf>(alloc: Global, shelf: &mut H, name: &Name) -> Result<Edits, FileFault>
     ensures read { IsReadOf (told_by (H.files shelf.old) (H.sure shelf.old)) name.now result }
     ensures files { H.files shelf.new ≡ H.files shelf.old }

@@ -32,7 +32,7 @@ with_row taken count k s c = record s {
   rows = s.rows ++ AddRow (row_name taken count k c.name) c.func c.set ∷ [];
 }
 
--- with the k-th constraint of so many
+-- with the k-th constraint of n
 unfoldable pub with_constraint : List (List ℕ) → ℕ → ℕ → Sorted → FileConstraint → Sorted
 with_constraint taken count k s c =
     if becomes_group s.owners c.func c.set then with_group s c else with_row taken count k s c

@@ -32,14 +32,14 @@ all_names earlier (c ∷ cs) = all_names (and_name earlier c.name) cs
 abbrev pub numbered : ℕ → List ℕ
 numbered n = 35 ∷ decimal n
 
--- the first of n, n + step, n + 2 * step and so on whose name isn't taken; so many tries find one,
+-- the first of n, n + step, n + 2 * step and so on whose name isn't taken; n tries find one,
 -- as there are names
 abbrev pub first_free : List (List ℕ) → ℕ → ℕ → ℕ → ℕ
 first_free taken step zero n = n
 first_free taken step (suc tries) n =
     if list_any (bytes_eq (numbered n)) taken then first_free taken step tries (n + step) else n
 
--- the name of the k-th constraint of so many, as a row
+-- the name of the k-th constraint of n, as a row
 abbrev pub row_name : List (List ℕ) → ℕ → ℕ → Option (List ℕ) → List ℕ
 row_name taken count k (Some name) = name
 row_name taken count k None = numbered (first_free taken count (length taken) k)

@@ -58,7 +58,7 @@ fn take_name(taken: &mut IndexSet<Name>, name: Option<Name>) -> Result<Option<Na
     }
 }
 
-/// The name of a constraint with this number, of so many, as a row.
+/// The name of a constraint with this number, of this total, as a row.
 pub(crate) fn row_name(
     alloc: Global,
     taken: &IndexSet<Name>,

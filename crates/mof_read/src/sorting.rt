@@ -62,7 +62,7 @@ impl Sorting {
         }
     }
 
-    // Adds the constraint with this number, of so many.
+    // Adds the constraint with this number, of this total.
     #[tactic(auto, unfolding(crate::specs::Edits::with_constraint))]
     fn add(
         &mut self,

@@ -7,7 +7,7 @@ use Rattle.ratio_core.specs.Rational.{Rational, reduce, signed}
 abbrev pub are_zeros : List ℕ → Bool
 are_zeros ds = list_all (λ d. d == 48) ds
 
--- so many digits are passed, and so many zeros are put behind the last or before the first
+-- this number of digits is passed, and the zeros are put behind the last or before the first
 pub record MovesBy (len power moved zeros : ℕ) : Type 0 where
   pub power_is : moved + zeros ≡ power
   pub within : moved ≤ len

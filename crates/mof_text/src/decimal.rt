@@ -25,7 +25,7 @@ pub(crate) fn exact_number(is_negative: bool, numeral: &Numeral) -> Option<Ratio
     }
 }
 
-/// So many digits, and so great an exponent, need no fraction in between.
+/// Up to this number of digits, and this exponent, need no fraction in between.
 const SHORT: u32 = 18;
 
 // The exponent's value, where it and the count of digits are short.
@@ -140,7 +140,7 @@ struct Shift {
     zeros: usize,
 }
 
-// The shift over so many digits, or `None` for 39 zeros and more.
+// The shift over this number of digits, or `None` for 39 zeros and more.
 fn shift_of(len: usize, exponent: &[u8]) -> Option<Shift>
     requires { AllDigits 10 exponent.now }
     ensures { MatchOption result (len + 39 ≤ digits_value 10 exponent.now)

@@ -10,7 +10,7 @@ pub(crate) const GREATEST_PART: u128 = 170141183460469231731687303715884105727;
 // More zeros than a number that fits has straight before or behind its point.
 const ZEROS: [u8; 39] = [b'0'; 39];
 
-/// So many zeros.
+/// This number of zeros.
 pub(crate) fn zeros(count: usize) -> &'static [u8]
     requires { count < 39 }
     ensures { result.now ≡ replicate count 48 }

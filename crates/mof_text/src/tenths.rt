@@ -27,7 +27,7 @@ impl Tenths {
         Tenths { num: 0, den: 1 }
     }
 
-    // So many tenths.
+    // This number of tenths.
     #[tactic(auto, unfolding(ratio_core::specs::Gcd::gcd))]
     fn of_digit(digit: u128) -> Tenths
         requires { digit < 10 }

@@ -10,14 +10,14 @@ use Rattle.mof_values.specs.declared.fault.MofFault.TheVariants.{Memory}
 use Rattle.mof_values.specs.Values.{field_at, walk_at}
 use Rattle.mof_values.specs.Walked.{Meets, Tells, TellsAt, Walked, at, each, index, key_part, under, ◌>>=◌}
 
--- a fault that is told at a part of a pointer
+-- a fault that is reported at a part of a pointer
 pub at_fault : {A : Type 0} (part : List ℕ) (walked : Walked A) (fault told : MofFault)
     → (fault ≢ Memory → walked ≡ Err fault) → Tells told (under part fault) → told ≢ Memory
     → at part walked ≡ Err told
 at_fault part walked fault told failed tells not =
     ap (at part) (failed (λ is. not (tells not ∙ ap (under part) is))) ∙ ap Err (sym (tells not))
 
--- what is told at a part of a pointer of what was read there
+-- what is said at a part of a pointer of what was read there
 pub at_met : {T A : Type 0} (seen : T → A) (part : List ℕ) (walked : Walked A)
     (read told : Result T MofFault) → Meets seen read walked → TellsAt part read told
     → Meets seen told (at part walked)

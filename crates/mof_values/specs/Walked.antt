@@ -67,15 +67,15 @@ each step i s (item d ds) = at (index i) (step s d) >>= (λ more. each step (suc
 
 -- ---- what a call answers
 
--- the fault, or want of memory
+-- the fault, or running out of memory
 abbrev pub Tells : MofFault → MofFault → Type 0
 Tells told fault = told ≢ Memory → told ≡ fault
 
--- what the walk gives, or want of memory
+-- what the walk gives, or running out of memory
 abbrev pub Meets : {T A : Type 0} → (T → A) → Result T MofFault → Walked A → Type 0
 Meets seen r walked = MatchResult r (λ x. walked ≡ Ok (seen x)) (λ e. e ≢ Memory → walked ≡ Err e)
 
--- what is told at a part of a pointer of what was read there
+-- what is said at a part of a pointer of what was read there
 abbrev pub TellsAt : {T : Type 0} → List ℕ → Result T MofFault → Result T MofFault → Type 0
 TellsAt part (Ok x) told = told ≡ Ok x
 TellsAt part (Err fault) told = MatchResult told (λ _. ⊥) (λ e. Tells e (under part fault))

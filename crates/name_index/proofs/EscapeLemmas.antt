@@ -16,7 +16,7 @@ use Rattle.name_index.specs.Escape.{percent, hex_digit, hex_value, is_escaped, e
 
 -- ---- bytes of a text
 
--- the bytes in one character, of which there are one to four
+-- the bytes in one character, one to four of them
 one : (a : ℕ) → IsByte a → All IsByte (a ∷ [])
 one a p = All-cons IsByte a [] p (All-nil IsByte)
 

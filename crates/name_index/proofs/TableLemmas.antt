@@ -200,7 +200,7 @@ module _ (es : Entries) (ids : List ℕ) (step : InStep es ids) where
       slice_get-get_or ids i 0 fact.0 ∙ ap Some (sym (eqb-true id (get_or ids i 0) fact.1)) in
       with_value es i id (ap (λ l. slice_get l i) step.in_step ∙ stands)
 
-  -- a new name and a new number, put last
+  -- a new name and a new number, appended
   pub add_in_step : (name : List ℕ) (id : ℕ) (more : Entries) (others : List ℕ)
       → IsFree (numbers_of es) id → more ≡ es ++ (name, id) ∷ [] → others ≡ insert_key nat_eq ids id
       → IsDistinct bytes_eq (keys_of more) → IsDistinct nat_eq others → InStep more others

@@ -60,7 +60,7 @@ impl From<AllocError> for NameFault {
     }
 }
 
-// Whether a text of so many bytes can be a name.
+// Whether a text of this number of bytes can be a name.
 fn is_name_length(len: usize) -> bool
     ensures { IsTrue result ↔ ((1 ≤ len) × (len ≤ 4096)) }
 {

@@ -53,7 +53,7 @@ impl TermSum {
         }
     }
 
-    /// No terms, with room for so many as long as they are few.
+    /// No terms, with room for this number as long as they are few.
     pub fn with_capacity(alloc: Global, count: usize) -> Result<TermSum, Memory>
         ensures { IfOk result (λ sum. sum ≡ []) }
     {

@@ -55,7 +55,7 @@ impl NamedTerms {
         }
     }
 
-    /// No terms, with room for so many.
+    /// No terms, with room for this number.
     pub fn with_capacity(alloc: Global, count: usize) -> Result<NamedTerms, Memory>
         ensures { IfOk result (λ terms. terms ≡ []) }
     {

@@ -1,4 +1,4 @@
--- Whether each item has a tree after an edit, by the found items alone: the kinds of those are told by
+-- Whether each item has a tree after an edit, by the found items alone: the kinds of those come from
 -- the kinds of the found groups, and for other variables by the marks of a map of addresses. So where
 -- one lacks a tree it is the first of all that does, and else there is a fresh bridging.
 use Rattle.std.specs.Prelude.{◌≡◌, ℕ, Bool, true, false, cond, List, [], ◌∷◌, All, Contains, filter, map, Some, None, refl}
@@ -143,7 +143,7 @@ module _ {setting : Setting} {model : ModelValue} (sound : IsValidUnder setting 
   abbrev IsGroupNow : Item → Type 0
   IsGroupNow g = IsGroup next sound_after.costly choice chosen sound_after.lawful g
 
-  -- the kinds are told by these
+  -- the kinds are given by these
   abbrev pub kept_now : Address → Bool
   kept_now v = kept_over choice (is_marked places) (filter keep all_groups) v
 
@@ -166,7 +166,7 @@ module _ {setting : Setting} {model : ModelValue} (sound : IsValidUnder setting 
       groups)
       (trees_there next choice chosen (filter keep all_groups) e)
 
-  -- ---- what is told of variables
+  -- ---- what is said of variables
 
   -- a group that stays keeps its variables as the map has them marked
   group_marked : (v : Address) (g : Item) → IsGroupNow g
@@ -226,7 +226,7 @@ module _ {setting : Setting} {model : ModelValue} (sound : IsValidUnder setting 
 
     module _ (entries : List Entry) (bridged : EachBridged (rules_by choice) all_groups entries)
       where
-        -- the kinds that are told are those with the groups' expressions put in
+        -- the kinds that are given are those with the groups' expressions put in
         kinds_found : map (λ (i : Item). kind_by kept_now i.body) (filter keep all_others)
             ≡ kinds_as_they_stand (map (put_in entries) (filter keep all_others))
         kinds_found =

@@ -1,4 +1,4 @@
--- What is told of a variable by the kinds of some groups, and else by a mark, is what the kinds of all
+-- What is said of a variable by the kinds of some groups, and else by a mark, is what the kinds of all
 -- groups tell, where a group that is left out keeps the variable as the mark says.
 use Rattle.std.specs.Prelude.{◌≡◌, ◌<◌, ◌⊎◌, ◌++◌, ℕ, Bool, true, false, cond, List, [], ◌∷◌, All, Contains, filter, find, map, Some, refl}
 use Rattle.std.proofs.Common.{arith, inl, inr, ap, sym, subst, ◌∙◌, true≢false}

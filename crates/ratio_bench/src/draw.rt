@@ -93,7 +93,7 @@ impl Draw {
         self.state
     }
 
-    // A number of so many bits: the highest of two draws, which are the best of such a congruence.
+    // A number of n bits: the highest of two draws, which are the best of such a congruence.
     fn part(&mut self, bits: u32) -> i128
         requires { bits ≤ 126 }
         ensures low { pos 0 ≤ℤ result }

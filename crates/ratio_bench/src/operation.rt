@@ -21,7 +21,7 @@ impl Operation {
     }
 }
 
-/// The results of the operation on each two neighbours, mixed, of so many rounds.
+/// The results of the operation on each two neighbours, mixed, of this number of rounds.
 pub fn checksum(operation: Operation, operands: &[Ratio], rounds: u32) -> u64 {
     let mut sum = 0u64;
     for _ in 0..rounds {
@@ -38,7 +38,7 @@ pub fn checksum(operation: Operation, operands: &[Ratio], rounds: u32) -> u64 {
     sum
 }
 
-/// The results of all operations on each two neighbours of so many operands, drawn from the seed.
+/// The results of all operations on each two neighbours of some operands, drawn from the seed.
 pub fn comparison(size: Size, seed: u64, count: u32) -> u64 {
     let mut draw = Draw::new(seed);
     let mut left = Ratio::zero();

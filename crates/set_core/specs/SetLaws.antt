@@ -1,4 +1,4 @@
--- Sets that differ are told apart.
+-- Sets that differ are distinguished.
 use Rattle.std.specs.Prelude.{MatchBool}
 use Rattle.std.proofs.Common.{◌≡◌, ◌≢◌, arith}
 use Rattle.ratio_core.specs.RationalLaws.{rational_eq_Decides}

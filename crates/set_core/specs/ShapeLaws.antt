@@ -1,4 +1,4 @@
--- When a set is one of so many components: the tests that refuse one that isn't, and what is left
+-- When a set is one of n components: the tests that refuse one that isn't, and what is left
 -- when components go.
 use Rattle.std.specs.Prelude.{◌≡◌, ℕ, ◌<◌, ◌≤◌, nat_lt, Bool, true, false, ◌||◌, not, ◌==◌, List, length, filter, refl}
 use Rattle.std.proofs.Common.{sym, arith, is_lt, subst, true≢false}
@@ -38,7 +38,7 @@ good d n least h = grind (arith, nat_tests)
 not_bad : (d n least : ℕ) → d ≡ n → least ≤ n → (not (d == n) || nat_lt d least) ≡ false
 not_bad d n least e h = grind (arith, nat_tests)
 
--- a set that no test refuses is one of so many components
+-- a set that no test refuses is one of n components
 pub set_of_from_tests : (n : ℕ) (set : Set) → (is_scalar set ≡ true → n ≡ 1)
     → has_bad_dimension set n ≡ false → is_crossed set ≡ false → IsSetOf n set
 set_of_from_tests n set one bad crossed = record {
@@ -63,7 +63,7 @@ set_of_from_tests n set one bad crossed = record {
     sizes (NormInfinityCone d) one bad = good d n 2 bad
     sizes (NormOneCone d) one bad = good d n 2 bad
 
--- and a set of so many components is refused by none
+-- and a set of n components is refused by none
 pub scalar_of_one : (n : ℕ) (set : Set) → IsSetOf n set → is_scalar set ≡ true → n ≡ 1
 scalar_of_one n (LessThan u) s h = sym s.dimension
 scalar_of_one n (GreaterThan l) s h = sym s.dimension

@@ -78,7 +78,7 @@ pub record IsSetOf (n : ℕ) (set : Set) : Type 0 where
   pub enough : least_dimension set ≤ n
   pub uncrossed : is_crossed set ≡ false
 
--- a set of vectors that isn't one of so many components
+-- a set of vectors that isn't one of n components
 abbrev pub has_bad_dimension : Set → ℕ → Bool
 has_bad_dimension set components =
     not (is_scalar set)

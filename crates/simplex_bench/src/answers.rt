@@ -43,7 +43,7 @@ impl Board {
     }
 }
 
-/// The checksum of what a model leads to, which is solved so many times.
+/// The checksum of what a model leads to, which is solved this number of times.
 pub fn of_model(
     alloc: Global,
     kind: Kind,

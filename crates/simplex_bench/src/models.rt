@@ -31,7 +31,7 @@ impl Kind {
     }
 }
 
-/// The form of a kind with so many rows and columns.
+/// The form of a kind with these numbers of rows and columns.
 pub fn model(alloc: Global, kind: Kind, m: u16, c: u16) -> Result<StdForm, BenchFault>
     ensures { IfOk result IsWellShaped }
 {
@@ -129,8 +129,8 @@ fn put_arc(
     draft.put_cost(arc, i64::from(draw.below(99)) + 1)
 }
 
-// The base has a part of each component. So many parts of each are needed, and what is over is of
-// no use. The first components are also bought alone.
+// The base has a part of each component. That number of parts of each is needed, and what is over
+// is of no use. The first components are also bought alone.
 fn blend(m: u16, c: u16, draft: &mut Draft, draw: &mut Draw) -> Result<(), BenchFault> {
     let bought = u32::from(c).saturating_sub(u32::from(m) + 1);
     draft.put_cost(0, 1000)?;

@@ -1,4 +1,4 @@
--- What is told of the outcome is right.
+-- What is said of the outcome is right.
 use Rattle.std.specs.Prelude.{◌≡◌, ℕ, ◌<◌, true, false, IfOk, Result, Ok, Err, List, refl}
 use Rattle.std.specs.List.{range_with_len}
 use Rattle.std.proofs.Common.{sym, ◌∙◌, ap, subst}

@@ -1,4 +1,4 @@
--- The loop: what is told of the rest of the trail is told of all of it.
+-- The loop: what holds of the rest of the trail holds of all of it.
 use Rattle.std.specs.Prelude.{◌≡◌, ℕ, zero, suc, ◌+◌, ◌-◌, ◌<◌, Bool, true, false, Result, Ok, Err, OnOk, List, if◌then◌else◌, IsTrue, length, refl}
 use Rattle.std.proofs.Common.{sym, ◌∙◌, ap, arith, subst}
 use Rattle.std.proofs.lemmas.Bool.{cond-false, cond-true}

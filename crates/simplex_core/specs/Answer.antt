@@ -24,7 +24,7 @@ IsReadOff F s t (Unbounded x d basis) =
     (q : ℕ) × (t ≡ turn.Unbounded q) × IsListOf F.reals (point F s) x
     × IsListOf F.reals (ray F s q) d × (basis ≡ s.basis)
 
--- the result tells the outcome of a trail with an allowance of n steps; want of memory tells
+-- the result tells the outcome of a trail with an allowance of n steps; running out of memory tells
 -- nothing
 abbrev pub Tells : Form → ℕ → Outcome → Result SolverAnswer SolveFault → Type 0
 Tells F n o (Ok answer) = (s : State) × (t : Turn) × (o ≡ ended s t) × IsReadOff F s t answer

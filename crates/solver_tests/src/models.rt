@@ -19,7 +19,7 @@ pub enum Row {
     Fixes(&'static str),
     /// Both are at least 0.
     Pair(Terms, Terms),
-    /// So many functions without terms are 0.
+    /// Functions without terms, this many, are 0.
     Zeros(u32),
 }
 

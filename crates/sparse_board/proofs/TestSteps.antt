@@ -33,7 +33,7 @@ test_same r a b e h = subst (λ t. IsTest t r) e h
 pub left_fails : (a b : Bool) → a ≡ false → (a && b) ≡ false
 left_fails a b e = λ i. e i && b
 
--- where memory ran out nothing is told, and an overflow tells that the test fails
+-- where memory ran out nothing is said, and an overflow says that the test fails
 fault_lem : {T : Type 0} (r : Result T NumberFault) (e : NumberFault) → r ≡ Err e
     → r ≡ Err Overflow → e ≡ Overflow
 fault_lem r e p q = cc

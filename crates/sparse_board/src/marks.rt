@@ -13,7 +13,7 @@ use crate::step::Step;
 use std::alloc::{AllocError, Global};
 use whole_rows::{NarrowRow, NarrowStep, is_nonzero_at};
 
-// The marks of the numbers of rows with so many columns, column by column.
+// The marks of the numbers of rows with this number of columns, column by column.
 pub(crate) fn marks_of(alloc: Global, rows: &[Row], width: usize) -> Result<Vec<bool>, AllocError>
     requires wide { AreWide width rows.now }
     requires few { width < 2 ^ 32 }
@@ -54,7 +54,7 @@ fn mark_entries(row: &SparseRow, i: usize, count: usize, marks: &mut [bool])
     }
 }
 
-// The same of whole numbers in so many columns.
+// The same of whole numbers in this number of columns.
 fn mark_numbers(row: &NarrowRow, i: usize, count: usize, width: usize, marks: &mut [bool])
     requires within { i < count }
     requires long { length marks.old ≡ width * count }

@@ -32,7 +32,7 @@ impl MixedRow {
     ghost use Rattle.whole_rows.specs.Rows.{can_stay};
     ghost use Rattle.sparse_board.specs.Mixed.{IsSame, number_of, units_of, width_of};
 
-    // A row of these fractions, with whole numbers for so many columns.
+    // A row of these fractions, with whole numbers for this number of columns.
     pub(crate) fn new(
         alloc: Global,
         wide: SparseRow,

@@ -26,7 +26,7 @@ impl Row {
     ghost use Rattle.sparse_board.specs.Lowering.{HasRoom, IsPrepared};
     ghost use Rattle.sparse_board.specs.Testing.{IsTest};
 
-    // A row of these fractions, with whole numbers for so many columns.
+    // A row of these fractions, with whole numbers for this number of columns.
     pub(crate) fn new(
         alloc: Global,
         wide: SparseRow,

@@ -12,7 +12,7 @@ use crate::sparse_row::SparseRow;
 use tableau_core::is_negative;
 use whole_rows::{NarrowRow, is_negative_at, is_nonzero_at};
 
-// The first of so many columns whose number is below 0.
+// The first of this number of columns whose number is below 0.
 pub(crate) fn first_negative(row: &MixedRow, count: usize) -> Option<usize>
     ensures value { result
         ≡ least_below count (λ j. is_below (mixed.number_of row.now j) zero_ℚ) }
@@ -54,7 +54,7 @@ fn negative_entry(row: &SparseRow, count: usize) -> Option<usize>
     None
 }
 
-// The first of so many columns whose number isn't 0.
+// The first of this number of columns whose number isn't 0.
 pub(crate) fn first_nonzero(row: &MixedRow, count: usize) -> Option<usize>
     ensures value { result
         ≡ least_below count (λ j. not (rational_eq (mixed.number_of row.now j) zero_ℚ)) }

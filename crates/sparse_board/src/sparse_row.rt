@@ -21,7 +21,7 @@ pub(crate) struct SparseRow {
 impl SparseRow {
     ghost use Rattle.sparse_board.specs.Numbers.{Adds, number_of, row_columns, width_of};
 
-    // Zeros in so many columns.
+    // Zeros in this number of columns.
     pub(crate) fn zeros(alloc: Global, width: usize) -> Result<SparseRow, AllocError>
         ensures empty { IfOk result (λ row. row.entries.items ≡ []) }
         ensures width { IfOk result (λ row. width_of row ≡ width) }
@@ -39,7 +39,7 @@ impl SparseRow {
         }
     }
 
-    // Zeros in so many columns, or the same row where there is no memory for them.
+    // Zeros in this number of columns, or the same row where there is no memory for them.
     pub(crate) fn open(&mut self, width: usize) -> Result<(), AllocError>
         requires { width_of self.old ≤ width }
         ensures ok { OnOk result (width_of self.new ≡ width) }

@@ -34,7 +34,7 @@ impl Step {
     ghost use Rattle.sparse_board.specs.Mixed as mixed;
     ghost use Rattle.sparse_board.specs.Testing.{IsTest};
 
-    // Zeros in so many columns, and a right side.
+    // Zeros in this number of columns, and a right side.
     pub(crate) fn zeros(alloc: Global, width: usize) -> Result<Step, AllocError>
         requires { width + 1 < 2 ^ 32 }
         ensures { IfOk result (λ step. step.width ≡ width + 1) }

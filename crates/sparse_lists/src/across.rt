@@ -9,7 +9,7 @@ use ratio_core::Ratio;
 use sparse_ratios::SparseRatios;
 use std::alloc::Global;
 
-/// So many lists of no numbers.
+/// This number of lists without numbers.
 pub fn none(alloc: Global, count: usize) -> Result<Vec<SparseRatios>, Memory>
     ensures count { IfOk result (λ lists. length lists.items ≡ count) }
     ensures empty { IfOk result (λ lists. (b : ℕ) → list_at lists.items b ≡ []) }

@@ -200,7 +200,7 @@ terms_rise from to (t ∷ ts) (suc i) zero d h b c = absurd (omega (arith, b))
 terms_rise from to (t ∷ ts) (suc i) (suc j) d h b c =
     terms_rise (t.0 + 1) to ts i j d h.2 (omega (arith, b)) (omega (arith, c))
 
--- ---- a term that is put last
+-- ---- a term that is appended
 
 pub puts_none : (p : ℕ) (x : Rational) (ts : List (ℕ × Rational)) → x ≡ zero_ℚ → Puts p x ts ts
 puts_none p x ts e = record {

@@ -19,7 +19,7 @@ use Rattle.std_form.specs.declared.fault.FormFault.TheVariants.{TooLarge, Overfl
 use Rattle.std_form.specs.Answers.{answer_of}
 
 -- the form, its number of cells where they are more than the limit, or else that some right side
--- doesn't fit; want of memory tells nothing
+-- exceeds 128 bits; running out of memory says nothing
 abbrev pub Tells : {K : Type 0} {R : K → K → Ordering} → List (K × LeafVar) → List (EquationOver R)
     → FunctionOver R → Result StdForm FormFault → Type 0
 Tells vars es cost (Ok form) =

@@ -1,4 +1,4 @@
--- What is told of a model by index is told of the leaf model that is read through its map.
+-- What holds of a model by index holds of the leaf model that is read through its map.
 use Rattle.std.specs.Prelude.{◌≡◌, ◌+◌, ◌*◌, ◌<◌, ◌≤◌, ◌-◌, ◌^◌, List, [], ◌∷◌, All, IfOk, Result, Ok, Err, min}
 use Rattle.std.specs.Prelude as prelude
 use Rattle.std.proofs.Common.{sym, ◌∙◌, ap, subst}
@@ -79,7 +79,7 @@ module _ (map : AddressMap) (leaves : Leaves) (one : IsOneToOne map.vars.indices
       (subst (λ n. n ≤ 16777216) cells_through h.0, λ k. h.1 (fits_back k))
   tells_through (Err Memory) h = tt
 
--- what is told by index of reading back
+-- what is said by index of reading back
 abbrev pub TellsByIndex : AddressMap → Leaves → StdForm → SolverAnswer
     → Result LeafAnswer NumberFault
     → Type 0
@@ -89,7 +89,7 @@ TellsByIndex map leaves form a (Err number.Overflow) = ¬ FitByIndex map leaves 
 TellsByIndex map leaves form a (Err number.Memory) = Unit {0}
 
 module _ (map : AddressMap) (leaves : Leaves) where
-  -- a form that is told is that of the model, and well shaped
+  -- a form that is given is that of the model, and well shaped
   pub built_is : (r : Result StdForm FormFault)
       → Tells (variables_of map leaves) (equations_of map leaves) (cost_in leaves.objective) r
       → IfOk r (λ form. form ≡ form_of map leaves)

@@ -10,7 +10,7 @@ use thiserror::Error;
 /// Why a model has no equality form.
 #[derive(Clone, Copy, Debug, PartialEq, Eq, Error)]
 pub enum FormFault {
-    /// The form would have so many cells, or more where they are the greatest `u64`.
+    /// The form would have this number of cells, capped at `u64::MAX`.
     #[error("the form has {cells} cells")]
     TooLarge { cells: u64 },
     /// A right side without its function's constant passes 128 bits.

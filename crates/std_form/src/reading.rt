@@ -185,7 +185,7 @@ fn duals(alloc: Global, rows: &[Row], flips: &[bool], y: &[Ratio]) -> Result<Lea
     by_index(alloc, dual_entries(alloc, rows, &multipliers)?)
 }
 
-// The map of entries, of which the first of each index counts.
+// The map of entries, where the first of each index counts.
 fn by_index<V: Drop>(alloc: Global, entries: Vec<(usize, V)>) -> Result<ByIndex<V>, Memory>
     ensures { IfOk result (λ values. values ≡ finite.from_entries entries.items) }
 {

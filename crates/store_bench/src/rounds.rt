@@ -16,7 +16,7 @@ pub struct Tally {
 // How many rows on the next round's row is.
 const STRIDE: u64 = 7919;
 
-/// The edits of one kind of a model with so many rows, one a round.
+/// The edits of one kind of a model with this number of rows, one a round.
 pub fn tally_edits(alloc: Global, rows: u32, kind: Kind, rounds: u32) -> Result<Tally, ApplyFault>
     requires { 0 < rows }
 {

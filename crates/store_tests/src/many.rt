@@ -4,9 +4,9 @@
 //     many groups FIRST COUNT SIZE      groups of variables, whose names go on from the first
 //                                       number
 //     many rows FIRST COUNT COMPONENTS  rows of components that are each x0
-//     many coefs FIRST COUNT 1          the coefficients of so many variables in the first
+//     many coefs FIRST COUNT 1          the coefficients of COUNT variables in the first
 //                                       component of r0
-//     many twins 0 1 COUNT              a group of so many variables, and of one more that is x0
+//     many twins 0 1 COUNT              a group of COUNT variables, and of one more that is x0
 //                                       again
 use crate::edits::read;
 use crate::session::make_for_good;

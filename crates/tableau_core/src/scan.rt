@@ -8,7 +8,7 @@ ghost use Rattle.tableau_core.specs.Row.{cell};
 use crate::sign::is_negative;
 use ratio_core::Ratio;
 
-// The first of so many numbers that is below 0.
+// The first of this number of numbers that is below 0.
 pub(crate) fn first_negative(row: &[Ratio], count: usize) -> Option<usize>
     requires { count ≤ length row.now }
     ensures value { result ≡ least_below count (λ j. is_below (cell row.now j) zero_ℚ) }
@@ -22,7 +22,7 @@ pub(crate) fn first_negative(row: &[Ratio], count: usize) -> Option<usize>
     None
 }
 
-// The first of so many numbers that isn't 0.
+// The first of this number of numbers that isn't 0.
 pub(crate) fn first_nonzero(row: &[Ratio], count: usize) -> Option<usize>
     requires { count ≤ length row.now }
     ensures value { result ≡ least_below count (λ j. not (rational_eq (cell row.now j) zero_ℚ)) }

@@ -1,7 +1,7 @@
 use std::error::Error;
 
-/// Want of memory, a line that says nothing that the program does, an edit that is to be made and
-/// is refused, or what can't be read or written. It is `Copy`, so a way out by it costs little to
+/// Running out of memory, a line that says nothing that the program does, an edit that is to be
+/// made and is refused, or what can't be read or written. It is `Copy`, so a way out by it costs little to
 /// prove.
 #[derive(Clone, Copy)]
 pub struct Stop;

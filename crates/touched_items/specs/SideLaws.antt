@@ -42,7 +42,7 @@ found_itself number_of (y ∷ ys) x rise (suc i, inside, is) =
     find-rest number_of (number_of x) y ys (λ e. omega arith)
     ∙ found_itself number_of ys x (Rise-tail number_of y ys rise) there
 
--- ---- an item of a number, or none, is put last
+-- ---- an item of a number, or none, is appended
 
 module _ {X : Type 0} (number_of : X → ℕ) (k : ℕ) where
   pushed_here : (xs : List X) (o : Option X) → All (λ x. number_of x < k) xs

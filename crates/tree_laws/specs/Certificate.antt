@@ -1,4 +1,4 @@
--- The certificate that an answer for the leaf model is carried to: what is told of the user's
+-- The certificate that an answer for the leaf model is carried to: what is said of the user's
 -- variables and rows.
 use Rattle.std.specs.Prelude.{List, [], ◌∷◌, length, map, take}
 use Rattle.ratio_core.specs.Rational.{Rational, neg_ℚ, one_ℚ, zero_ℚ, ◌-ℚ◌}

@@ -19,7 +19,7 @@ pub record Stands (groups : List Group) (at : Address) : Type 0 where
   pub address : at ≡ variable_address number
   pub group : IsSome (find (has_variable number) groups)
 
--- the creation set is one for the variables, of which there are no more than there may be
+-- the creation set is one for the variables, which are no more than there may be
 pub record IsValidGroup (group : Group) : Type 0 where
   pub limit : length group.vars ≤ COMPONENTS
   pub set : IsSetOf (length group.vars) group.set

@@ -213,7 +213,7 @@ covers_shrunk over by common others blocks new numbers step made above joins lon
     zero_lem : (n : ℕ) → 0 < n → pos n ≡ pos 0 → ⊥
     zero_lem n h e = omega (arith, h, ap unsigned_abs e)
 
--- ---- rows that are made anew
+-- ---- rows that are rebuilt
 
 pub copied_made : (old items : List ℤ) (side : ℤ) → length old ≡ length items
     → AreMade (numerator items side) (length old) old items

@@ -1,7 +1,7 @@
 -- Blocks of eight columns, marked where a number may differ from 0.
 use Rattle.std.specs.Prelude.{◌≡◌, ℕ, ◌/◌, ◌+◌, ◌<◌, ◌≤◌, Bool, ◌||◌, false, List, length, slice_index_or, ℤ, pos, ◌*ℤ◌}
 
--- how many blocks so many columns have
+-- how many blocks n columns have
 abbrev pub blocks_of : ℕ → ℕ
 blocks_of width = (width + 7) / 8
 

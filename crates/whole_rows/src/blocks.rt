@@ -6,7 +6,7 @@ ghost use Rattle.whole_rows.specs.Blocks.{AreScaled, AreUnmarked, Covers, Joins,
 // How many columns a block has.
 pub(crate) const BLOCK: usize = 8;
 
-// How many blocks there are for so many columns.
+// How many blocks there are for this number of columns.
 pub(crate) fn block_count(width: usize) -> usize
     ensures { result ≡ blocks_of width }
 {

@@ -1,4 +1,4 @@
-//! A list of numerators that is made anew.
+//! A list of numerators that is rebuilt.
 ghost use Rattle.std.specs.Prelude.{◌≡◌, length, pos};
 ghost use Rattle.whole_rows.specs.Blocks.{Covers, blocks_of};
 ghost use Rattle.whole_rows.specs.Numerators.{AreMade};

@@ -43,7 +43,7 @@ impl NarrowRow {
     ghost use Rattle.whole_rows.specs.Shrinking.{IsLongPlan};
     ghost use Rattle.whole_rows.specs.Rows.{IsDivided, IsDivision, IsLowered, IsPlan, can_stay, number_of, numerator_of, stays_narrow, width_of};
 
-    /// Zeros in so many columns.
+    /// Zeros in this number of columns.
     pub fn zeros(alloc: Global, width: usize) -> Result<NarrowRow, AllocError>
         ensures { IfOk result (λ row. width_of row ≡ width) }
     {

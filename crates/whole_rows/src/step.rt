@@ -11,7 +11,7 @@ use std::alloc::{AllocError, Global};
 pub struct NarrowStep {
     /// The numbers.
     pub row: NarrowRow,
-    /// The first so many are the columns, rising.
+    /// The columns, rising, in the first places.
     pub columns: Vec<u32>,
     /// How many columns there are where the row isn't 0.
     pub used: usize,
@@ -26,7 +26,7 @@ impl NarrowStep {
     ghost use Rattle.ratio_core.specs.Rational.{◌/ℚ◌};
     ghost use Rattle.whole_rows.specs.Rows.{number_of, numerator_of, width_of};
 
-    /// Zeros in so many columns.
+    /// Zeros in this number of columns.
     pub fn zeros(alloc: Global, width: usize) -> Result<NarrowStep, AllocError>
         requires { width < 2 ^ 32 }
         ensures { IfOk result (λ step. width_of step.row ≡ width) }

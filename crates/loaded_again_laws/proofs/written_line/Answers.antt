@@ -1,6 +1,6 @@
 use Rattle.std.proofs.Common.{◌≡◌, subst}
 use Rattle.mof_laws.specs.SameTokens.{as_line}
-use Rattle.mof_round_trip.specs.RoundTrip.{MakesAgain}
+use Rattle.mof_round_trip_laws.specs.RoundTrip.{MakesAgain}
 use Rattle.loaded_again_laws.specs.LoadedAgain.{loaded_again}
 use Rattle.loaded_again_laws.proofs.written_line.Goals as goal
 

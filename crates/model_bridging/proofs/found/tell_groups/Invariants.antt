@@ -5,7 +5,7 @@ use Rattle.model_bridging.specs.Found.{kept_over}
 use Rattle.model_bridging.specs.Kinds.{told}
 use Rattle.model_bridging.proofs.found.tell_groups.Given as goal
 
--- of the groups that were taken, from the last on, all is told
+-- the groups that were taken, from the last on, are entered
 abbrev pub invariant-loop-group : goal.invariant-loop-group
 invariant-loop-group g l =
     (taken : List _) × (l.groups ≡ l.group-iterator.iter.rest.now ++ taken)

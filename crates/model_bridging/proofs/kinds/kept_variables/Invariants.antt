@@ -5,7 +5,7 @@ use Rattle.fresh_bridging.specs.ModelImage.{group_item}
 use Rattle.model_bridging.specs.Kinds.{is_kept_by, told}
 use Rattle.model_bridging.proofs.kinds.kept_variables.Given as goal
 
--- of the groups that were taken, from the last on, all is told
+-- the groups that were taken, from the last on, are entered
 abbrev pub invariant-loop-group : goal.invariant-loop-group
 invariant-loop-group g l =
     (taken : List Group) × (l.groups.items ≡ l.group-iterator.iter ++ taken)

@@ -59,7 +59,7 @@ changed_terms-taken_out-requires c =
           ∙ c.exchange_rows.ensures.before)),
     )
 
--- the sums that count the terms, where the objective that is to stand has so many
+-- the sums that count the terms, where the objective that is to stand has this number
 fit : (c : After-changed_terms-taken_out) {now : ℕ}
     → now ≡ objective_terms (unwrap_or c.args.with.now.objective c.self.inside.objective)
     → TermsFit (ready c.self.view_is c.self.invariant c.requires.changes c.requires.consistent

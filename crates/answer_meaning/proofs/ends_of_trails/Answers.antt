@@ -1,5 +1,0 @@
-use Rattle.answer_meaning.specs.Trails.{along_trail}
-use Rattle.answer_meaning.proofs.ends_of_trails.Goals as goal
-
-pub returns : goal.returns
-returns g = along_trail

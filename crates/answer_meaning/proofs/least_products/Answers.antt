@@ -1,5 +1,0 @@
-use Rattle.answer_meaning.specs.LeastProducts.{low_is_least}
-use Rattle.answer_meaning.proofs.least_products.Goals as goal
-
-pub returns : goal.returns
-returns g = low_is_least

@@ -1,0 +1,16 @@
+pub mod NameLemmas
+pub mod ApartLemmas
+pub mod AlongLemmas
+pub mod ValidLemmas
+pub mod MovedLemmas
+pub mod TermLemmas
+pub mod RowLemmas
+pub mod ToldLemmas
+pub mod PlaceLemmas
+pub mod MoveLemmas
+pub mod CarryLemmas
+pub mod EditLemmas
+pub mod MadeLemmas
+pub mod LoopLemmas
+pub mod WholeLemmas
+pub mod ZeroLemmas
