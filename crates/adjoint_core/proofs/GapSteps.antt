@@ -12,7 +12,7 @@ use Rattle.certificates.specs.Points.{addresses_of, all_addresses}
 use Rattle.cert_core.specs.Folds.{AddUp, gap_parts, gap_parts_of}
 use Rattle.cert_core.proofs.Groups.{GroupsSoFar, groups_more, next_numbers}
 use Rattle.cert_core.proofs.Parts.{gap_is}
-use Rattle.dual_laws.specs.Held.{Held, gap}
+use Rattle.dual_laws.specs.Held.{DualRow, gap}
 use Rattle.user_model.specs.declared.group.Group.{Group}
 use Rattle.adjoint_core.specs.CarriedBack.{GapFits, UnfitGap, group_place}
 use Rattle.adjoint_core.specs.Told.{Tells}
@@ -21,14 +21,14 @@ use Rattle.adjoint_core.proofs.InOrder.{told_alike}
 
 -- what is left, from the sum so far, as all of it
 pub record GapSoFar (start sum : Rational) (ps left_ps : List Address)
-    (hs left_hs : List Held) : Type 0 where
+    (hs left_hs : List DualRow) : Type 0 where
   pub fits : GapFits sum (zip left_ps left_hs) → GapFits start (zip ps hs)
   pub unfit : (at : Address) → UnfitGap sum (zip left_ps left_hs) at
       → UnfitGap start (zip ps hs) at
   pub value : sum_from sum (gap_parts left_hs) ≡ sum_from start (gap_parts hs)
 
-module _ (start sum : Rational) (ps left_ps rest_ps : List Address) (hs left_hs rest_hs : List Held)
-    (p : Address) (held : Held) (h : GapSoFar start sum ps left_ps hs left_hs)
+module _ (start sum : Rational) (ps left_ps rest_ps : List Address) (hs left_hs rest_hs : List DualRow)
+    (p : Address) (held : DualRow) (h : GapSoFar start sum ps left_ps hs left_hs)
     (next_p : left_ps ≡ p ∷ rest_ps) (next_h : left_hs ≡ held ∷ rest_hs) where
   next : zip left_ps left_hs ≡ (p, held) ∷ zip rest_ps rest_hs
   next = ap₂ zip next_p next_h
@@ -53,7 +53,7 @@ module _ (start sum : Rational) (ps left_ps rest_ps : List Address) (hs left_hs 
   unfolding UnfitGap
   gap_refused at n = h.unfit at (subst (λ l. UnfitGap sum l at) (sym next) (inl n))
 
-pub gap_end : (start sum : Rational) (ps left_ps : List Address) (hs left_hs : List Held)
+pub gap_end : (start sum : Rational) (ps left_ps : List Address) (hs left_hs : List DualRow)
     → GapSoFar start sum ps left_ps hs left_hs → left_ps ≡ [] → left_hs ≡ []
     → GapFits start (zip ps hs) × (sum ≡ sum_from start (gap_parts hs))
 unfolding GapFits
@@ -119,7 +119,7 @@ groups_gap_end start sum groups left_groups numbers left h none w is =
 -- ---- rows, and then groups
 
 -- one list after another
-pub gap_append : (start : Rational) (xs ys : List (Address × Held))
+pub gap_append : (start : Rational) (xs ys : List (Address × DualRow))
     → GapFits start xs → GapFits (sum_from start (gap_parts (map (λ x. x.1) xs))) ys
     → GapFits start (xs ++ ys)
 unfolding GapFits
@@ -131,7 +131,7 @@ gap_append start (x ∷ xs) ys h k = (
       (fold-append ◌+ℚ◌ start (gap_parts_of x.1) (gap_parts (map (λ x. x.1) xs))) k),
 )
 
-unfit_either : (start : Rational) (x : Address × Held) (xs ys : List (Address × Held))
+unfit_either : (start : Rational) (x : Address × DualRow) (xs ys : List (Address × DualRow))
     (at : Address)
     → (UnfitGap (sum_from start (gap_parts_of x.1)) xs at
     → UnfitGap (sum_from start (gap_parts_of x.1)) (xs ++ ys) at)
@@ -143,14 +143,14 @@ unfit_either : (start : Rational) (x : Address × Held) (xs ys : List (Address �
 unfit_either start x xs ys at later (inl n) = inl n
 unfit_either start x xs ys at later (inr k) = inr (k.0, later k.1)
 
-pub unfit_first : (start : Rational) (xs ys : List (Address × Held)) (at : Address)
+pub unfit_first : (start : Rational) (xs ys : List (Address × DualRow)) (at : Address)
     → UnfitGap start xs at → UnfitGap start (xs ++ ys) at
 unfolding UnfitGap
 unfit_first start [] ys at h = absurd h
 unfit_first start (x ∷ xs) ys at h =
     unfit_either start x xs ys at (unfit_first (sum_from start (gap_parts_of x.1)) xs ys at) h
 
-pub unfit_second : (start : Rational) (xs ys : List (Address × Held)) (at : Address)
+pub unfit_second : (start : Rational) (xs ys : List (Address × DualRow)) (at : Address)
     → GapFits start xs → UnfitGap (sum_from start (gap_parts (map (λ x. x.1) xs))) ys at
     → UnfitGap start (xs ++ ys) at
 unfolding GapFits UnfitGap
@@ -163,18 +163,18 @@ unfit_second start (x ∷ xs) ys at h k =
           (fold-append ◌+ℚ◌ start (gap_parts_of x.1) (gap_parts (map (λ x. x.1) xs))) k),
     )
 
-seconds : (ps : List Address) (hs : List Held) → length ps ≡ length hs
-    → map (λ (x : Address × Held). x.1) (zip ps hs) ≡ hs
+seconds : (ps : List Address) (hs : List DualRow) → length ps ≡ length hs
+    → map (λ (x : Address × DualRow). x.1) (zip ps hs) ≡ hs
 seconds [] [] e = refl
 seconds [] (h ∷ hs) e = absurd (omega (arith, e))
 seconds (p ∷ ps) [] e = absurd (omega (arith, e))
 seconds (p ∷ ps) (h ∷ hs) e = ap (λ l. h ∷ l) (seconds ps hs (omega (arith, e)))
 
 -- the rows' part, and then the groups'
-module _ (ps qs : List Address) (hs gs : List Held) (size : length ps ≡ length hs)
+module _ (ps qs : List Address) (hs gs : List DualRow) (size : length ps ≡ length hs)
     (before : Rational) (fits : GapFits zero_ℚ (zip ps hs))
     (is : before ≡ sum_from zero_ℚ (gap_parts hs)) where
-  same_start : before ≡ sum_from zero_ℚ (gap_parts (map (λ (x : Address × Held). x.1) (zip ps hs)))
+  same_start : before ≡ sum_from zero_ℚ (gap_parts (map (λ (x : Address × DualRow). x.1) (zip ps hs)))
   same_start = is ∙ ap (λ l. sum_from zero_ℚ (gap_parts l)) (sym (seconds ps hs size))
 
   whole_gap : sum_from before (gap_parts gs) ≡ gap (hs ++ gs)

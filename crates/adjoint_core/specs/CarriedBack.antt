@@ -17,7 +17,7 @@ use Rattle.cert_core.specs.Folds.{AddUp, EvaluationFits, ObjectiveFits, ReducedC
 use Rattle.certificates.specs.declared.certificate.Certificate.{Certificate}
 use Rattle.certificates.specs.Duals.{adjoint_of_rows, groups_with, reduced_cost, rows_with}
 use Rattle.certificates.specs.Points.{addresses_of, at_point, objective_coefficient, sense_of}
-use Rattle.dual_laws.specs.Held.{Held}
+use Rattle.dual_laws.specs.Held.{DualRow}
 use Rattle.equality_form.specs.ReadBack.{Answer, infeasible, optimal, unbounded}
 use Rattle.expansion.specs.Bridged.{Bridged, EachBridgedIn, by, each_in, natively, none_in}
 use Rattle.expansion.specs.Rules.{Rules}
@@ -66,13 +66,13 @@ module _ {rules : Rules Item Entry} (d : LeafDuals) where
 -- ---- the gap
 
 -- the first whose part of the gap doesn't fit, added to the parts before
-unfoldable pub UnfitGap : Rational → List (Address × Held) → Address → Type 0
+unfoldable pub UnfitGap : Rational → List (Address × DualRow) → Address → Type 0
 UnfitGap sum [] at = ⊥
 UnfitGap sum (h ∷ hs) at =
     (¬ (AddUp sum (gap_parts_of h.1)) × (h.0 ≡ at))
     ⊎ (AddUp sum (gap_parts_of h.1) × UnfitGap (sum_from sum (gap_parts_of h.1)) hs at)
 
-unfoldable pub GapFits : Rational → List (Address × Held) → Type 0
+unfoldable pub GapFits : Rational → List (Address × DualRow) → Type 0
 GapFits sum [] = Unit {0}
 GapFits sum (h ∷ hs) =
     AddUp sum (gap_parts_of h.1) × GapFits (sum_from sum (gap_parts_of h.1)) hs
@@ -81,16 +81,16 @@ abbrev pub group_place : Group → Address
 group_place g = root_address root.Group g.id
 
 -- rows and groups with their duals, at their addresses
-abbrev pub placed_rows : ModelValue → List (List Rational) → List (Address × Held)
+abbrev pub placed_rows : ModelValue → List (List Rational) → List (Address × DualRow)
 placed_rows model rows =
     zip (map row_place model.rows) (rows_with rows model.rows)
 
-abbrev pub placed_groups : ModelValue → List Rational → List (Address × Held)
+abbrev pub placed_groups : ModelValue → List Rational → List (Address × DualRow)
 placed_groups model vars =
     zip (map group_place model.groups)
     (groups_with (at_point model vars) model.groups)
 
-abbrev pub placed : ModelValue → List (List Rational) → List Rational → List (Address × Held)
+abbrev pub placed : ModelValue → List (List Rational) → List Rational → List (Address × DualRow)
 placed model rows vars = placed_rows model rows ++ placed_groups model vars
 
 -- ---- of a model
@@ -133,7 +133,7 @@ module _ (model : ModelValue) (rows : List (List Rational)) where
   abbrev pub cancelled : List Rational
   cancelled = map (λ v. neg_ℚ (adjoint_of_rows model rows v)) (users model)
 
-  abbrev pub gap_parts_placed : List (Address × Held)
+  abbrev pub gap_parts_placed : List (Address × DualRow)
   gap_parts_placed = placed model rows cancelled
 
 -- whether these duals fit, and at which address the first stands that doesn't

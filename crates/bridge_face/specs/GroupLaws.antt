@@ -14,7 +14,7 @@ use Rattle.aff_core.specs.Address.{Address, child_of}
 use Rattle.aff_core.specs.Function.{Function, variable}
 use Rattle.aff_core.specs.FunctionLists.{coefficients, constants, evaluations}
 use Rattle.linear_laws.specs.ListLaws.{evaluations_variables}
-use Rattle.dual_laws.specs.Held.{Held, Holds, IsHeld, adjoint, adjoint_of, gap_of}
+use Rattle.dual_laws.specs.Held.{DualRow, Holds, IsHeld, adjoint, adjoint_of, gap_of}
 use Rattle.set_core.specs.Membership.{Dual, In, low_of}
 use Rattle.set_core.specs.Mirrored.{multiplied}
 use Rattle.set_core.specs.Shapes.{IsSetOf}
@@ -50,7 +50,7 @@ pub record GroupSourced (shape : ℕ → Set) (edge : Edge) (b : Body) : Type 0 
 
 -- ---- of groups
 
-abbrev pub held_of : List Rational → List Function → Set → Held
+abbrev pub held_of : List Rational → List Function → Set → DualRow
 held_of w fs set = record { duals = w; functions = fs; set = set }
 
 -- a group stands as its expressions

@@ -9,7 +9,7 @@ use Rattle.aff_core.specs.Address.{Address, child_of}
 use Rattle.aff_core.specs.Function.{Function, coefficient, constant_function, evaluated, negated, variable}
 use Rattle.set_core.specs.declared.set.Set.{Set}
 use Rattle.set_core.specs.declared.set.Set.TheVariants.{LessThan}
-use Rattle.dual_laws.specs.Held.{DualsHold, Held, Holds, IsHeld, adjoint, adjoint_of, gap, gap_of}
+use Rattle.dual_laws.specs.Held.{DualsHold, DualRow, Holds, IsHeld, adjoint, adjoint_of, gap, gap_of}
 use Rattle.item_core.specs.declared.edge.Edge.{Edge}
 use Rattle.item_core.specs.declared.family.Family.{Family}
 use Rattle.item_core.specs.declared.family.Family.TheVariants as family
@@ -57,7 +57,7 @@ row_set bound (PlainObj sense var) = LessThan bound
 row_set bound (AffineObj sense func) = LessThan bound
 row_set bound body = set_of body
 
-abbrev pub held_body : Rational → Body → List Rational → Held
+abbrev pub held_body : Rational → Body → List Rational → DualRow
 held_body bound body w =
     record { duals = w; functions = row_functions body; set = row_set bound body }
 
@@ -71,7 +71,7 @@ standing item image =
     cond (is_group item.body) (map expressed image.exprs) (row_functions item.body)
 
 -- the item with its dual, which for a group are its components' numbers
-abbrev pub held_item : Rational → Item → Image → List Rational → Held
+abbrev pub held_item : Rational → Item → Image → List Rational → DualRow
 held_item bound item image w =
     record { duals = w; functions = standing item image; set = row_set bound item.body }
 
@@ -110,7 +110,7 @@ pub record CarriesValues (item : Item) (image : Image) : Type 0 where
 -- ---- duals downward
 
 -- items with their duals
-abbrev pub held : Rational → List Item → List (List Rational) → List Held
+abbrev pub held : Rational → List Item → List (List Rational) → List DualRow
 held bound items duals = map (λ p. held_body bound p.0.body p.1) (zip items duals)
 
 -- duals of the children: of its groups the variables' numbers
@@ -124,7 +124,7 @@ pub record OnePerChild (image : Image) (duals : ChildDuals) : Type 0 where
   pub rows : length duals.rows ≡ length image.rows
   pub objective : length duals.objective ≡ length (listed image.objective)
 
-abbrev pub held_children : Rational → Image → ChildDuals → List Held
+abbrev pub held_children : Rational → Image → ChildDuals → List DualRow
 held_children bound image duals =
     held bound image.groups duals.groups
     ++ (held bound image.rows duals.rows ++ held bound (listed image.objective) duals.objective)

@@ -9,7 +9,7 @@ use Rattle.ratio_core.specs.AnsweredLaws.{exact_as}
 use Rattle.ratio_core.specs.Answers.{ExactWhere}
 use Rattle.aff_core.specs.Function.{Function, coefficient, evaluated}
 use Rattle.ratio_core.specs.declared.fault.NumberFault.{NumberFault}
-use Rattle.dual_laws.specs.Held.{Held, Holds, IsHeld, adjoint_of, gap_of}
+use Rattle.dual_laws.specs.Held.{DualRow, Holds, IsHeld, adjoint_of, gap_of}
 use Rattle.set_core.specs.declared.set.Set.{Set}
 use Rattle.item_core.specs.declared.edge.Edge.{Edge}
 use Rattle.item_core.specs.declared.family.Family.{Family}
@@ -37,7 +37,7 @@ pub row : {b : Body} → is_group b ≡ false → is_objective b ≡ false → I
 row no_group no_objective = record { no_group = no_group; no_objective = no_objective }
 
 -- a body with duals
-abbrev pub row_held : Body → List Rational → Held
+abbrev pub row_held : Body → List Rational → DualRow
 row_held b w = record { duals = w; functions = functions_of b; set = set_of b }
 
 -- what an edge owes that makes this row of the item
@@ -60,7 +60,7 @@ pub record OneRow (edge : Edge) (item : Item) (child : Body) : Type 0 where
   pub leads : LeadsTo edge child
   pub mentioned : (v : Address) → Miss (functions_of item.body) v → Miss (functions_of child) v
 
-abbrev record_of : List Rational → List Function → Set → Held
+abbrev record_of : List Rational → List Function → Set → DualRow
 record_of w fs set = record { duals = w; functions = fs; set = set }
 
 pub held_row : (bound : Rational) (b : Body) (w : List Rational) → IsRow b

@@ -8,7 +8,7 @@ use Rattle.std.proofs.lemmas.List.FromFn.{length-enumerate_from}
 use Rattle.ratio_core.specs.Rational.{Rational, zero_ℚ, ◌≤ℚ◌}
 use Rattle.aff_core.specs.Address.{Address, child_of}
 use Rattle.aff_core.specs.Function.{coefficient}
-use Rattle.dual_laws.specs.Held.{DualsHold, Held, Holds, IsHeld, adjoint, adjoint_of, gap, gap_of}
+use Rattle.dual_laws.specs.Held.{DualsHold, DualRow, Holds, IsHeld, adjoint, adjoint_of, gap, gap_of}
 use Rattle.set_core.specs.Shapes.{IsSetOf}
 use Rattle.item_core.specs.declared.edge.Edge.{Edge}
 use Rattle.item_core.specs.declared.item.Body.{Body}
@@ -24,7 +24,7 @@ use Rattle.bridge_face.specs.Law.{Balances, CarriesValues, ChildDuals, EdgeLaw, 
 use Rattle.bridge_face.specs.OneRowLaws.{IsRow, held_row, row_held, row_stands, row_values}
 
 -- rows with their duals
-abbrev pub rows_held : List Body → List (List Rational) → List Held
+abbrev pub rows_held : List Body → List (List Rational) → List DualRow
 rows_held bodies ys = map (λ p. row_held p.0 p.1) (zip bodies ys)
 
 -- a row that is made of the item

@@ -240,4 +240,3 @@ impl<B: Bridge> Rewriter for Boxes<B> {
         image_by(&mut self.bridges, edge_of(edge), item)
     }
 }
-

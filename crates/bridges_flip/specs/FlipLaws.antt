@@ -21,7 +21,7 @@ use Rattle.set_core.specs.Membership.{Dual, In, low_of}
 use Rattle.set_core.specs.Mirrored.{mirrored, multiplied}
 use Rattle.set_core.specs.Shapes.{IsSetOf, is_norm_cone}
 use Rattle.set_laws.specs.Mirrors.{mirrored-multiplied, mirrored_set, mirrors, negated-negated}
-use Rattle.dual_laws.specs.Held.{Held, Holds, IsHeld, adjoint_of, gap_of}
+use Rattle.dual_laws.specs.Held.{DualRow, Holds, IsHeld, adjoint_of, gap_of}
 use Rattle.item_core.specs.declared.edge.Edge.{Edge}
 use Rattle.item_core.specs.declared.item.Body.{Body}
 use Rattle.item_core.specs.declared.item.Item.{Item}
@@ -85,10 +85,10 @@ cone_kept one (NormInfinityCone n) c = c
 cone_kept one (NormOneCone n) c = c
 
 module _ (fs : List Function) (s : Set) (no_norm_cone : is_norm_cone s ≡ false) where
-  abbrev flipped : List Rational → Held
+  abbrev flipped : List Rational → DualRow
   flipped y = record { duals = y; functions = map negated fs; set = mirrored s }
 
-  abbrev straight : List Rational → Held
+  abbrev straight : List Rational → DualRow
   straight w = record { duals = w; functions = fs; set = s }
 
   same_products : (g : Function → Rational) → ((f : Function) → g (negated f) ≡ neg_ℚ (g f))

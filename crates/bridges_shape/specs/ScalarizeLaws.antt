@@ -11,7 +11,7 @@ use Rattle.rational_laws.specs.Ring.{as_expression, by_ring, ring₂, zero_as}
 use Rattle.aff_core.specs.Address.{Address, address_cmp}
 use Rattle.aff_core.specs.Function.{Function, coefficient, evaluated, variable}
 use Rattle.aff_core.specs.FunctionLists.{coefficients, constants, evaluations}
-use Rattle.dual_laws.specs.Held.{DualsHold, Held, Holds, IsHeld, adjoint, adjoint_of, gap, gap_of}
+use Rattle.dual_laws.specs.Held.{DualsHold, DualRow, Holds, IsHeld, adjoint, adjoint_of, gap, gap_of}
 use Rattle.set_core.specs.Membership.{Dual, In, low_of}
 use Rattle.set_core.specs.Mirrored.{multiplied}
 use Rattle.set_core.specs.Shapes.{IsSetOf, is_scalar}
@@ -51,7 +51,7 @@ pub data AreParts (c : Set) : List Function → List Body → Type 0 where
       → functions_of b ≡ f ∷ [] → set_of b ≡ c → AreParts c fs bodies
       → AreParts c (f ∷ fs) (b ∷ bodies)
 
-abbrev held_as : List Rational → List Function → Set → Held
+abbrev held_as : List Rational → List Function → Set → DualRow
 held_as w fs set = record { duals = w; functions = fs; set = set }
 
 part_held : {c : Set} (b : Body) (f : Function) (w : List Rational) → functions_of b ≡ f ∷ []

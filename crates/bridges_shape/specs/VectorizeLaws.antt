@@ -9,7 +9,7 @@ use Rattle.rational_laws.specs.Order.{≤ℚ_from_≡}
 use Rattle.rational_laws.specs.Ring.{as_expression, by_ring, ring₁, ring₄, zero_as}
 use Rattle.aff_core.specs.Address.{Address, child_of}
 use Rattle.aff_core.specs.Function.{Function, coefficient, evaluated}
-use Rattle.dual_laws.specs.Held.{Held, Holds, IsHeld, adjoint_of, gap_of}
+use Rattle.dual_laws.specs.Held.{DualRow, Holds, IsHeld, adjoint_of, gap_of}
 use Rattle.set_core.specs.Membership.{In}
 use Rattle.set_core.specs.Mirrored.{multiplied}
 use Rattle.set_core.specs.declared.set.Set.{Set}
@@ -87,7 +87,7 @@ gap_number = ring₄ _ (λ ρ. simp (as_expression, zero_as ρ) (by_ring ρ _ _ 
 gap_none : (a : Rational) → zero_ℚ -ℚ zero_ℚ ≡ a *ℚ zero_ℚ -ℚ zero_ℚ
 gap_none = ring₁ _ (λ ρ. simp (as_expression, zero_as ρ) (by_ring ρ _ _ refl))
 
-abbrev one_held : List Rational → Function → Set → Held
+abbrev one_held : List Rational → Function → Set → DualRow
 one_held w f set = record { duals = w; functions = f ∷ []; set = set }
 
 module _ (f : Function) {S C : Set} {a : Rational} (has : HasNumber S a C) where

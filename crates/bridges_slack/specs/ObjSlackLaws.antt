@@ -15,7 +15,7 @@ use Rattle.item_core.specs.declared.edge.Edge.{Edge}
 use Rattle.bridge_face.specs.ImageOf.{beyond, differences, free_at, image_by, image_of, inner, inner_functions, obj_slack, sense_of}
 use Rattle.item_core.specs.Valid.{IsValidItem, NamesNothingBelow}
 use Rattle.aff_core.specs.Function.{Function, coefficient, evaluated, variable}
-use Rattle.dual_laws.specs.Held.{Held, IsHeld, adjoint, adjoint_of, gap, gap_of}
+use Rattle.dual_laws.specs.Held.{DualRow, IsHeld, adjoint, adjoint_of, gap, gap_of}
 use Rattle.item_core.specs.declared.image.Image.{Image}
 use Rattle.set_core.specs.Membership.{In, low_of}
 use Rattle.set_core.specs.Shapes.{IsSetOf, is_scalar}
@@ -250,13 +250,13 @@ module _ (edge : Edge) (item : Item) (sense : Sense) (f : Function)
   abbrev duals_of : List Rational → List Rational → List Rational → ChildDuals
   duals_of g y o = record { groups = g ∷ []; rows = y ∷ []; objective = o ∷ [] }
 
-  abbrev group_held : List Rational → Held
+  abbrev group_held : List Rational → DualRow
   group_held g = held_of g (variables (inner item 1)) (Reals 1)
 
-  abbrev row_held_by : List Rational → Held
+  abbrev row_held_by : List Rational → DualRow
   row_held_by y = held_of y (difference slack f ∷ []) (beyond sense)
 
-  abbrev objective_held_by : Rational → List Rational → Held
+  abbrev objective_held_by : Rational → List Rational → DualRow
   objective_held_by bound o = held_of o (cost_by sense slack ∷ []) (LessThan bound)
 
   module _

@@ -10,7 +10,7 @@ use Rattle.item_core.specs.declared.item.Body.TheVariants.{Affine, AffineVec, Pl
 use Rattle.bridge_face.specs.BackOf.{BackFits, BackFitsBy, SumsFit, back_by, back_of}
 use Rattle.item_core.specs.declared.item.Body.{Body}
 use Rattle.set_core.specs.Membership.{Dual, In, low_of}
-use Rattle.dual_laws.specs.Held.{DualsHold, Held, Holds, IsHeld, adjoint, adjoint_of, gap, gap_of}
+use Rattle.dual_laws.specs.Held.{DualsHold, DualRow, Holds, IsHeld, adjoint, adjoint_of, gap, gap_of}
 use Rattle.item_core.specs.declared.edge.Edge.TheVariants.{E11, E12, E13, E14}
 use Rattle.item_core.specs.declared.edge.Edge.{Edge}
 use Rattle.bridge_face.specs.Law.{IsLawful, LeadsTo, Miss, growth, IsItemFor}
@@ -272,7 +272,7 @@ module _ (edge : Edge) (own : family_of edge ≡ SplitSet) where
       mentioned = λ v m. subst (λ gs. Miss gs v) (sym is.same) m;
     }
 
-    abbrev held_by : List Rational → Set → Held
+    abbrev held_by : List Rational → Set → DualRow
     held_by w part = record { duals = w; functions = fs; set = part }
 
     part_is : (part : Set) → IsPart item.body part → (w : List Rational)

@@ -24,7 +24,7 @@ use Rattle.cert_core.specs.Folds.{gap_parts_of}
 use Rattle.certificates.specs.Good.{Good}
 use Rattle.certificates.specs.Points.{address_of}
 use Rattle.certificates.specs.declared.certificate.Certificate.{Certificate}
-use Rattle.dual_laws.specs.Held.{Held}
+use Rattle.dual_laws.specs.Held.{DualRow}
 use Rattle.equality_form.specs.ReadBack.{Answer, infeasible, optimal, unbounded}
 use Rattle.equality_form.specs.Right.{AreDuals, HasDuals, IsRight, held}
 use Rattle.expansion.specs.Bridged.{EachBridgedIn, each_in, none_in}
@@ -164,15 +164,15 @@ module _ (P : Address → Type 0) where
   first_not Q place (x ∷ xs) at all (inr h) =
       first_not Q place xs at (All-tail (λ x. P (place x)) x xs all) h.1
 
-  unfit_part : (hs : List (Address × Held)) (sum : Rational) (at : Address)
-      → All (λ (h : Address × Held). P h.0) hs → UnfitGap sum hs at → P at
+  unfit_part : (hs : List (Address × DualRow)) (sum : Rational) (at : Address)
+      → All (λ (h : Address × DualRow). P h.0) hs → UnfitGap sum hs at → P at
   unfolding UnfitGap
   unfit_part [] sum at all u = absurd u
   unfit_part (h ∷ hs) sum at all (inl u) =
-      subst P u.1 (All-head (λ (h : Address × Held). P h.0) h hs all)
+      subst P u.1 (All-head (λ (h : Address × DualRow). P h.0) h hs all)
   unfit_part (h ∷ hs) sum at all (inr u) =
       unfit_part hs (sum_from sum (gap_parts_of h.1)) at
-      (All-tail (λ (h : Address × Held). P h.0) h hs all) u.1
+      (All-tail (λ (h : Address × DualRow). P h.0) h hs all) u.1
 
   all_firsts : {X Y : Type 0} (place : X → Address) (xs : List X) (ys : List Y)
       → All (λ x. P (place x)) xs
@@ -210,9 +210,9 @@ module _ {setting : Setting} (model : ModelValue) (valid : IsValid model)
       (objective_told model model.objective)
 
   placed_told : (rows : List (List Rational)) (vars : List Rational)
-      → All (λ (h : Address × Held). HasPlace h.0) (placed model rows vars)
+      → All (λ (h : Address × DualRow). HasPlace h.0) (placed model rows vars)
   placed_told rows vars =
-      All-append (λ (h : Address × Held). HasPlace h.0) _ _
+      All-append (λ (h : Address × DualRow). HasPlace h.0) _ _
       (all_firsts HasPlace row_place model.rows _ (rows_told model valid))
       (all_firsts HasPlace group_place model.groups _ (groups_told model valid))
 

@@ -11,7 +11,7 @@ use Rattle.aff_core.specs.Address.{Address, address_cmp}
 use Rattle.aff_core.specs.Function.{Function, evaluated, variable}
 use Rattle.aff_core.specs.FunctionLists.{evaluations, slopes, values}
 use Rattle.aff_core.specs.Points.{spread}
-use Rattle.dual_laws.specs.Held.{Held}
+use Rattle.dual_laws.specs.Held.{DualRow}
 use Rattle.linear_laws.specs.ListLaws.{evaluations_slopes, evaluations_values}
 use Rattle.linear_laws.specs.PointLaws.{spread_at}
 use Rattle.set_core.specs.declared.set.Set.{Set}
@@ -27,7 +27,7 @@ use Rattle.certificates.specs.DualPointLaws.{component_count}
 use Rattle.certificates.specs.Feasible.{IsFeasible, IsRay}
 use Rattle.cert_core.specs.Checked.{HasEachDual, HasRowDuals}
 use Rattle.cert_core.specs.Folds.{EvaluationFits, FitIn, PointFits}
-use Rattle.cert_core.specs.Holding.{FunctionsHold, HasGroupSet, HasRowSet, HoldsAt, IsReady}
+use Rattle.cert_core.specs.Holding.{FunctionsHold, HasGroupSet, HasRowSet, HoldsAt, HasSets}
 use Rattle.cert_core.specs.Variables.{Ascend}
 use Rattle.numbered_list.specs.Numbered.{Rise}
 use Rattle.user_model.specs.Consistent.{variable_number}
@@ -84,7 +84,7 @@ module _ (model : ModelValue) (x : List Rational) where
 -- ---- duals
 
 module _ (model : ModelValue) (rows : List (List Rational)) (vars : List Rational) where
-  abbrev InDual : Held → Type 0
+  abbrev InDual : DualRow → Type 0
   InDual h = Dual h.set h.duals
 
   pub are_duals : HasRowDuals model.rows rows → length vars ≡ length (variables model)
@@ -121,14 +121,14 @@ module _ (groups : List Group) (us : List Address) (is : us ≡ all_addresses gr
 
 -- the model's own point has a vector's numbers at its variables
 pub numbers_of_model : (groups : List Group) (rows : List Row) (us : List Address)
-    (x : List Rational) → IsReady groups rows us → length x ≡ length us
+    (x : List Rational) → HasSets groups rows us → length x ≡ length us
     → map (spread (all_addresses groups) x) (all_addresses groups) ≡ x
 numbers_of_model groups rows us x ready size =
     subst (λ vs. map (spread vs x) vs ≡ x) ready.variables
     (numbers_at groups us ready.variables x ready.ascend size)
 
 pub size_of_model : (groups : List Group) (rows : List Row) (us : List Address) (x : List Rational)
-    → IsReady groups rows us → length x ≡ length us → length x ≡ length (variables_of groups)
+    → HasSets groups rows us → length x ≡ length us → length x ≡ length (variables_of groups)
 size_of_model groups rows us x ready size = size ∙ variable_count groups us ready.variables
 
 -- ---- what is read of a model at its own point
@@ -199,7 +199,7 @@ row_duals model rows vars h = record {
 
 pub ready : (groups : List Group) (rows : List Row) (objective : Objective) (us : List Address)
     → HasValidParts groups rows objective → Rise variable_number (variables_of groups)
-    → us ≡ all_addresses groups → IsReady groups rows us
+    → us ≡ all_addresses groups → HasSets groups rows us
 ready groups rows objective us valid rise is = record {
   variables = is;
   ascend = subst Ascend (sym is) (ascend (variables_of groups) rise);

@@ -5,7 +5,7 @@ use Rattle.ratio_core.specs.Folds.{sum_from}
 use Rattle.ratio_core.specs.Rational.{Rational, SumFits, one_ℚ, zero_ℚ, ◌‹ℚ◌}
 use Rattle.aff_core.specs.Address.{Address}
 use Rattle.aff_core.specs.Function.{evaluated, slope}
-use Rattle.dual_laws.specs.Held.{Held, adjoint}
+use Rattle.dual_laws.specs.Held.{DualRow, adjoint}
 use Rattle.linear_laws.specs.EvaluationLaws.{evaluated_slope, evaluated_value}
 use Rattle.set_core.specs.Membership.{Dual, DualFits}
 use Rattle.user_model.specs.Model.{ModelValue, variables}
@@ -28,7 +28,7 @@ use Rattle.cert_core.proofs.Assembled.{are_duals, feasible, row_duals, from_dual
 use Rattle.cert_core.proofs.Parts.{adjoint_is}
 
 -- the sums of all variables are the adjoint
-pub sums_are : (hs : List Held) (us : List Address) (sums : List Rational)
+pub sums_are : (hs : List DualRow) (us : List Address) (sums : List Rational)
     → sums ≡ map (λ v. sum_from zero_ℚ (adjoint_parts hs v)) us → map (adjoint hs) us ≡ sums
 sums_are hs us sums e = sym (e ∙ (λ i. map (λ v. adjoint_is hs v i) us))
 
@@ -44,7 +44,7 @@ module _ (model : ModelValue) where
 
   module _ (rows : List (List Rational)) (vars : List Rational)
       (entries : HasRowDuals model.rows rows) (size : HasSize vars) where
-    abbrev hs : List Held
+    abbrev hs : List DualRow
     hs = with_duals model rows vars
 
     abbrev Sets : Type 0

@@ -15,7 +15,7 @@ use Rattle.rational_laws.specs.Sums.{fold_ℚ, sum_ℚ, sum_ℚ-append}
 use Rattle.aff_core.specs.Address.{Address, address_cmp}
 use Rattle.aff_core.specs.FunctionLaws.{constant-variable}
 use Rattle.aff_core.specs.FunctionLists.{coefficients, constants}
-use Rattle.dual_laws.specs.Held.{Held, adjoint, gap, gap_of}
+use Rattle.dual_laws.specs.Held.{DualRow, adjoint, gap, gap_of}
 use Rattle.set_core.specs.Membership.{LowFits, low_of}
 use Rattle.certificates.specs.Points.{variables_at}
 use Rattle.cert_core.specs.Folds.{AddUp, adjoint_parts, adjoint_parts_of, gap_parts, gap_parts_of, products}
@@ -39,26 +39,26 @@ sum_negated (q ∷ qs) =
     ap (λ s. neg_ℚ q +ℚ s) (sum_negated qs) ∙ sym (neg_ℚ-sum q (sum_ℚ qs))
 
 -- the adjoint
-pub adjoint_is : (hs : List Held) (v : Address) → sum_from zero_ℚ (adjoint_parts hs v)
+pub adjoint_is : (hs : List DualRow) (v : Address) → sum_from zero_ℚ (adjoint_parts hs v)
     ≡ adjoint hs v
 adjoint_is hs v = from_zero (adjoint_parts hs v) ∙ sums hs
   where
-    sums : (hs : List Held) → sum_ℚ (adjoint_parts hs v) ≡ adjoint hs v
+    sums : (hs : List DualRow) → sum_ℚ (adjoint_parts hs v) ≡ adjoint hs v
     sums [] = refl
     sums (h ∷ hs) =
         sum_ℚ-append (adjoint_parts_of h v) (adjoint_parts hs v)
         ∙ ap₂ ◌+ℚ◌ (sum_products h.duals (coefficients h.functions v)) (sums hs)
 
 -- the gap
-pub gap_is : (hs : List Held) → sum_from zero_ℚ (gap_parts hs) ≡ gap hs
+pub gap_is : (hs : List DualRow) → sum_from zero_ℚ (gap_parts hs) ≡ gap hs
 gap_is hs = from_zero (gap_parts hs) ∙ sums hs
   where
-    one : (h : Held) → sum_ℚ (gap_parts_of h) ≡ gap_of h
+    one : (h : DualRow) → sum_ℚ (gap_parts_of h) ≡ gap_of h
     one h = ap (λ s. low_of h.set h.duals +ℚ s)
         (sum_negated (products h.duals (constants h.functions))
         ∙ ap neg_ℚ (sum_products h.duals (constants h.functions)))
 
-    sums : (hs : List Held) → sum_ℚ (gap_parts hs) ≡ gap hs
+    sums : (hs : List DualRow) → sum_ℚ (gap_parts hs) ≡ gap hs
     sums [] = refl
     sums (h ∷ hs) = sum_ℚ-append (gap_parts_of h) (gap_parts hs) ∙ ap₂ ◌+ℚ◌ (one h) (sums hs)
 
@@ -120,7 +120,7 @@ none_less w fs i le =
     ∙ ap negated (no_products (drop i w))
 
 -- the gap of two lists together
-pub gap_told : (r : Result Rational NumberFault) (xs ys : List Held) (before : Rational)
+pub gap_told : (r : Result Rational NumberFault) (xs ys : List DualRow) (before : Rational)
     → AddUp zero_ℚ (gap_parts xs) → before ≡ sum_from zero_ℚ (gap_parts xs)
     → ExactWhere r (AddUp before (gap_parts ys)) (λ q. q ≡ sum_from before (gap_parts ys))
     → ExactWhere r (AddUp zero_ℚ (gap_parts (xs ++ ys))) (λ q. q ≡ gap (xs ++ ys))
@@ -140,7 +140,7 @@ gap_told r xs ys before fits is said =
     joined = flat_map-append gap_parts_of xs ys
 
 -- what the first of them owes
-pub gap_of_first : (xs ys : List Held) → AddUp zero_ℚ (gap_parts (xs ++ ys))
+pub gap_of_first : (xs ys : List DualRow) → AddUp zero_ℚ (gap_parts (xs ++ ys))
     → AddUp zero_ℚ (gap_parts xs)
 gap_of_first xs ys h =
     (AddUp_parts zero_ℚ (gap_parts xs) (gap_parts ys)

@@ -3,7 +3,7 @@ use Rattle.std.specs.Prelude.{◌≡◌, ◌↔◌, Bool, IsTrue, List, length, 
 use Rattle.ratio_core.specs.Rational.{Rational}
 use Rattle.ratio_core.specs.declared.fault.NumberFault.{NumberFault}
 use Rattle.ratio_core.specs.declared.fault.NumberFault.TheVariants.{Overflow, Memory}
-use Rattle.dual_laws.specs.Held.{Held}
+use Rattle.dual_laws.specs.Held.{DualRow}
 use Rattle.user_model.specs.declared.group.Group.{Group}
 use Rattle.user_model.specs.declared.objective.Objective.{Objective}
 use Rattle.user_model.specs.declared.row.Row.{Row}
@@ -22,7 +22,7 @@ model_of groups rows objective next =
 -- ---- the numbers of entries
 
 -- a number for each component
-abbrev pub HasEachDual : Held → Type 0
+abbrev pub HasEachDual : DualRow → Type 0
 HasEachDual h = length h.duals ≡ length h.functions
 
 -- a list for each row, of a number for each component

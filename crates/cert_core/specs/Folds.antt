@@ -12,7 +12,7 @@ use Rattle.aff_core.specs.declared.sense.Sense.{Sense}
 use Rattle.aff_core.specs.declared.sense.Sense.TheVariants.{Min, Max}
 use Rattle.aff_core.specs.Function.{Function, terms_of}
 use Rattle.aff_core.specs.FunctionLists.{coefficients, constants, evaluations}
-use Rattle.dual_laws.specs.Held.{Held}
+use Rattle.dual_laws.specs.Held.{DualRow}
 use Rattle.set_core.specs.declared.set.Set.{Set}
 use Rattle.set_core.specs.Membership.{DualFits, MembershipFits, low_of}
 use Rattle.user_model.specs.Model.{ModelValue, variables}
@@ -34,16 +34,16 @@ products [] v = []
 products (p ∷ w) [] = []
 products (p ∷ w) (q ∷ v) = p *ℚ q ∷ products w v
 
-abbrev pub adjoint_parts_of : Held → Address → List Rational
+abbrev pub adjoint_parts_of : DualRow → Address → List Rational
 adjoint_parts_of h v = products h.duals (coefficients h.functions v)
 
-abbrev pub adjoint_parts : List Held → Address → List Rational
+abbrev pub adjoint_parts : List DualRow → Address → List Rational
 adjoint_parts hs v = flat_map (λ h. adjoint_parts_of h v) hs
 
-abbrev pub gap_parts_of : Held → List Rational
+abbrev pub gap_parts_of : DualRow → List Rational
 gap_parts_of h = low_of h.set h.duals ∷ negated (products h.duals (constants h.functions))
 
-abbrev pub gap_parts : List Held → List Rational
+abbrev pub gap_parts : List DualRow → List Rational
 gap_parts hs = flat_map gap_parts_of hs
 
 -- ---- functions in sets, at a point where `one` is 1, and along a ray where it is 0

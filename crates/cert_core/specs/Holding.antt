@@ -33,7 +33,7 @@ pub record HasGroupSet (g : Group) : Type 0 where
   pub dimension : length g.vars ≡ dimension_of g.set
 
 -- the addresses are those of the groups' variables, and each row and group has such a set
-pub record IsReady (groups : List Group) (rows : List Row) (us : List Address) : Type 0 where
+pub record HasSets (groups : List Group) (rows : List Row) (us : List Address) : Type 0 where
   pub variables : us ≡ all_addresses groups
   pub ascend : Ascend us
   pub row_sets : All HasRowSet rows

@@ -13,7 +13,7 @@ ghost use Rattle.certificates.specs.Good.{IsInfeasible, IsOptimal, IsUnbounded};
 ghost use Rattle.cert_core.specs.Answers.{TellsWhere};
 ghost use Rattle.cert_core.specs.Checked.{Checks, HasEntries, HasRowDuals, model_of};
 ghost use Rattle.cert_core.specs.Folds.{AddUp, InfeasibleFits, OptimalFits, PointFits, UnboundedFits, gap_parts};
-ghost use Rattle.cert_core.specs.Holding.{HoldsAt, IsReady};
+ghost use Rattle.cert_core.specs.Holding.{HoldsAt, HasSets};
 ghost use Rattle.cert_core.specs.Readings.{one_of};
 ghost use Rattle.certificates.specs.Points.{all_addresses, variables_of};
 
@@ -124,7 +124,7 @@ impl<'a> Parts<'a> {
 
     // Whether rows and groups hold at a point, or along a ray.
     fn holds_at(&self, alloc: Global, reading: Reading, x: &[Ratio]) -> Result<bool, NumberFault>
-        requires ready { IsReady self.now.groups.now.items self.now.rows.now.items self.now.variables }
+        requires ready { HasSets self.now.groups.now.items self.now.rows.now.items self.now.variables }
         requires size { length x.now ≡ length self.now.variables }
         ensures { (next : NextNumbers) → let model = model_of self.now.groups.now.items
             self.now.rows.now.items self.now.objective.now next in
@@ -139,7 +139,7 @@ impl<'a> Parts<'a> {
 
     // Whether the duals are in the dual sets.
     fn duals_hold(&self, duals: &Duals) -> Result<bool, NumberFault>
-        requires ready { IsReady self.now.groups.now.items self.now.rows.now.items self.now.variables }
+        requires ready { HasSets self.now.groups.now.items self.now.rows.now.items self.now.variables }
         requires rows { HasRowDuals self.now.rows.now.items duals.now.rows.now }
         requires vars { length duals.now.vars.now ≡ length self.now.variables }
         ensures { (next : NextNumbers) → let model = model_of self.now.groups.now.items
@@ -154,7 +154,7 @@ impl<'a> Parts<'a> {
     }
 
     fn gap(&self, duals: &Duals) -> Result<Ratio, NumberFault>
-        requires ready { IsReady self.now.groups.now.items self.now.rows.now.items self.now.variables }
+        requires ready { HasSets self.now.groups.now.items self.now.rows.now.items self.now.variables }
         requires rows { HasRowDuals self.now.rows.now.items duals.now.rows.now }
         requires vars { length duals.now.vars.now ≡ length self.now.variables }
         ensures { (next : NextNumbers) → let model = model_of self.now.groups.now.items
@@ -174,7 +174,7 @@ impl<'a> Parts<'a> {
         x: &[Ratio],
         duals: &Duals,
     ) -> Result<bool, NumberFault>
-        requires ready { IsReady self.now.groups.now.items self.now.rows.now.items self.now.variables }
+        requires ready { HasSets self.now.groups.now.items self.now.rows.now.items self.now.variables }
         requires size { length x.now ≡ length self.now.variables }
         requires rows { HasRowDuals self.now.rows.now.items duals.now.rows.now }
         requires vars { length duals.now.vars.now ≡ length self.now.variables }
@@ -198,7 +198,7 @@ impl<'a> Parts<'a> {
     }
 
     fn is_infeasible(&self, alloc: Global, gap: &Ratio, duals: &Duals) -> Result<bool, NumberFault>
-        requires ready { IsReady self.now.groups.now.items self.now.rows.now.items self.now.variables }
+        requires ready { HasSets self.now.groups.now.items self.now.rows.now.items self.now.variables }
         requires rows { HasRowDuals self.now.rows.now.items duals.now.rows.now }
         requires vars { length duals.now.vars.now ≡ length self.now.variables }
         ensures { (next : NextNumbers) → let model = model_of self.now.groups.now.items
@@ -216,7 +216,7 @@ impl<'a> Parts<'a> {
     }
 
     fn is_unbounded(&self, alloc: Global, x: &[Ratio], d: &[Ratio]) -> Result<bool, NumberFault>
-        requires ready { IsReady self.now.groups.now.items self.now.rows.now.items self.now.variables }
+        requires ready { HasSets self.now.groups.now.items self.now.rows.now.items self.now.variables }
         requires point { length x.now ≡ length self.now.variables }
         requires ray { length d.now ≡ length self.now.variables }
         ensures { (next : NextNumbers) → let model = model_of self.now.groups.now.items

@@ -19,7 +19,7 @@ use Rattle.set_core.specs.Membership.{In}
 use Rattle.set_core.specs.Mirrored.{multiplied}
 use Rattle.set_core.specs.Shapes.{IsSetOf}
 use Rattle.set_laws.specs.Multiples.{multiplied_one}
-use Rattle.dual_laws.specs.Held.{AllHold, DualsHold, Held, Holds, adjoint, pull}
+use Rattle.dual_laws.specs.Held.{AllHold, DualsHold, DualRow, Holds, adjoint, pull}
 use Rattle.dual_laws.specs.PullLaws.{adjoint-append, mentioned_in, pull_is, pull_over, variables_in}
 use Rattle.user_model.specs.declared.function.UserFunc.{UserFunc}
 use Rattle.user_model.specs.declared.function.UserFunc.TheVariants.{PlainVec}
@@ -95,7 +95,7 @@ module _ (model : ModelValue) (rows : List (List Rational)) (vars : List Rationa
 
 -- ---- the pull at such a point
 
-module _ (hs : List Held) (f : Function) where
+module _ (hs : List DualRow) (f : Function) where
   abbrev both : List Address
   both = support (mentioned_in hs ++ mentioned f)
 
@@ -108,7 +108,7 @@ module _ (hs : List Held) (f : Function) where
       ∙ sym (slope_over both f x (supports_second both (mentioned_in hs) (mentioned f)
       (support_supports (mentioned_in hs ++ mentioned f))))
 
-pub no_pull_at : (hs : List Held) (x : Address → Rational)
+pub no_pull_at : (hs : List DualRow) (x : Address → Rational)
     → ((v : Address) → adjoint hs v *ℚ x v ≡ zero_ℚ *ℚ x v) → pull hs x ≡ zero_ℚ
 no_pull_at hs x h =
     pull_is hs x
@@ -118,7 +118,7 @@ no_pull_at hs x h =
 
 -- ---- duals of a valid model hold
 
-abbrev HasSet : Held → Type 0
+abbrev HasSet : DualRow → Type 0
 HasSet h = IsSetOf (length h.functions) h.set
 
 pub component_count : (func : UserFunc) → length (functions_of func) ≡ components func

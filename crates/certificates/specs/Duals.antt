@@ -10,7 +10,7 @@ use Rattle.ratio_core.specs.Rational.{Rational, neg_ℚ, ◌+ℚ◌, ◌-ℚ◌}
 use Rattle.aff_core.specs.Address.{Address}
 use Rattle.aff_core.specs.declared.sense.Sense.{Sense}
 use Rattle.aff_core.specs.declared.sense.Sense.TheVariants.{Min, Max}
-use Rattle.dual_laws.specs.Held.{Held, adjoint, gap}
+use Rattle.dual_laws.specs.Held.{DualRow, adjoint, gap}
 use Rattle.set_core.specs.Membership.{Dual}
 use Rattle.user_model.specs.declared.group.Group.{Group}
 use Rattle.user_model.specs.declared.row.Row.{Row}
@@ -19,19 +19,19 @@ use Rattle.certificates.specs.Points.{addresses_of, at_point, functions_of, func
 
 -- ---- rows and groups with their duals
 
-abbrev pub row_with : List Rational → Row → Held
+abbrev pub row_with : List Rational → Row → DualRow
 row_with y r = record { duals = y; functions = functions_of r.func; set = r.set }
 
-abbrev pub rows_with : List (List Rational) → List Row → List Held
+abbrev pub rows_with : List (List Rational) → List Row → List DualRow
 rows_with [] rows = []
 rows_with (y ∷ ys) [] = []
 rows_with (y ∷ ys) (r ∷ rows) = row_with y r ∷ rows_with ys rows
 
-abbrev pub group_with : (Address → Rational) → Group → Held
+abbrev pub group_with : (Address → Rational) → Group → DualRow
 group_with w g =
     record { duals = map w (addresses_of g.vars); functions = functions_of_group g; set = g.set }
 
-abbrev pub groups_with : (Address → Rational) → List Group → List Held
+abbrev pub groups_with : (Address → Rational) → List Group → List DualRow
 groups_with w groups = map (group_with w) groups
 
 module _ (model : ModelValue) (rows : List (List Rational)) where
@@ -39,14 +39,14 @@ module _ (model : ModelValue) (rows : List (List Rational)) where
   adjoint_of_rows v = adjoint (rows_with rows model.rows) v
 
   module _ (vars : List Rational) where
-    abbrev pub with_duals : List Held
+    abbrev pub with_duals : List DualRow
     with_duals = rows_with rows model.rows ++ groups_with (at_point model vars) model.groups
 
     abbrev pub dual_gap : Rational
     dual_gap = gap with_duals
 
 -- a dual for each component, together in the dual of the set
-pub record HasDuals (h : Held) : Type 0 where
+pub record HasDuals (h : DualRow) : Type 0 where
   pub size : length h.duals ≡ length h.functions
   pub dual : Dual h.set h.duals
 

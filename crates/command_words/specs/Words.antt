@@ -14,26 +14,26 @@
 -- most 100,000, and 0 where ROWS is 0.
 use Rattle.std.specs.Prelude.{◌&&◌, is_none, List, [], ◌∷◌, Option, Some, None, option_and_then, option_map, bytes_eq, codes, if◌then◌else◌}
 use Rattle.command_words.specs.declared.options.Options.{Options}
-use Rattle.command_words.specs.declared.words.Command.{Command}
-use Rattle.command_words.specs.declared.words.Command.TheVariants.{Check, Generate, Plan, Run, Solve}
+use Rattle.command_words.specs.declared.words.Invocation.{Invocation}
+use Rattle.command_words.specs.declared.words.Invocation.TheVariants.{Check, Generate, Plan, Run, Solve}
 use Rattle.command_words.specs.Files.{files_of, has_name_length}
 use Rattle.command_words.specs.Generate.{recipe_in}
 use Rattle.command_words.specs.Options.{Word, no_options, options_from, setup_by}
 
-abbrev pub without_files : Options → Word → Option Command
+abbrev pub without_files : Options → Word → Option Invocation
 without_files options name =
     if bytes_eq name (codes "run") then Some (Run (setup_by options))
     else (if bytes_eq name (codes "plan") && is_none options.pivots
     then Some (Plan (setup_by options))
     else None)
 
-abbrev pub with_model : Options → Word → Word → Option Command
+abbrev pub with_model : Options → Word → Word → Option Invocation
 with_model options name model =
     if bytes_eq name (codes "solve") && has_name_length model
     then Some (Solve (setup_by options) model)
     else None
 
-abbrev pub with_both : Options → Word → Word → Word → Option Command
+abbrev pub with_both : Options → Word → Word → Word → Option Invocation
 with_both options name model certificate =
     if (bytes_eq name (codes "check") && (is_none options.target && is_none options.pivots))
     && (has_name_length model && has_name_length certificate)
@@ -41,20 +41,20 @@ with_both options name model certificate =
     else None
 
 -- what the command of a name is to do, by its options and its files
-unfoldable pub command_named : Word → Options → List Word → Option Command
+unfoldable pub command_named : Word → Options → List Word → Option Invocation
 command_named name options [] = without_files options name
 command_named name options (model ∷ []) = with_model options name model
 command_named name options (model ∷ certificate ∷ []) = with_both options name model certificate
 command_named name options (first ∷ second ∷ third ∷ more) = None
 
 -- what the command of a name is to do, by the words that follow it, which give options and files
-unfoldable pub command_given : Word → List Word → Option Command
+unfoldable pub command_given : Word → List Word → Option Invocation
 command_given name words =
     option_and_then (λ options. command_named name options (files_of words))
     (options_from no_options words)
 
 -- what the words say; nothing where they are of no command
-unfoldable pub command_of : List Word → Option Command
+unfoldable pub command_of : List Word → Option Invocation
 command_of [] = None
 command_of (name ∷ words) =
     if bytes_eq name (codes "gen") then option_map Generate (recipe_in words)

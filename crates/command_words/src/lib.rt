@@ -7,4 +7,4 @@ mod given;
 mod options;
 pub mod words;
 
-pub use words::{Command, Setup, read_words};
+pub use words::{Invocation, Setup, read_words};

@@ -17,7 +17,7 @@ use std::alloc::Global;
 
 /// What the program is to do.
 #[derive(Debug, Drop)]
-pub enum Command {
+pub enum Invocation {
     /// Answers each line of the input.
     Run(Setup),
     /// Answers the one line `plan`.
@@ -41,7 +41,7 @@ pub struct Setup {
 /// What the words after the program's name say; `None` exactly where they are of no command.
 /// Memory runs out only where they are of one.
 #[tactic(auto, unfolding(crate::specs::Words::command_of))]
-pub fn read_words(alloc: Global, words: &[String]) -> Result<Option<Command>, Memory>
+pub fn read_words(alloc: Global, words: &[String]) -> Result<Option<Invocation>, Memory>
     ensures said { IfOk result (λ said. said ≡ command_of (texts words.now)) }
     ensures of_one { OnErr result (IsSome (command_of (texts words.now))) }
 {
@@ -49,7 +49,7 @@ pub fn read_words(alloc: Global, words: &[String]) -> Result<Option<Command>, Me
         [] => Ok(None),
         [name, words @ ..] => {
             if is(name.as_bytes(), "gen") {
-                return Ok(read_recipe(words).map(Command::Generate));
+                return Ok(read_recipe(words).map(Invocation::Generate));
             }
             read_given(alloc, name.as_bytes(), words)
         }
@@ -58,7 +58,7 @@ pub fn read_words(alloc: Global, words: &[String]) -> Result<Option<Command>, Me
 
 // What the command of this name is to do, by the words that follow it.
 #[tactic(auto, unfolding(crate::specs::Words::command_given))]
-fn read_given(alloc: Global, name: &[u8], words: &[String]) -> Result<Option<Command>, Memory>
+fn read_given(alloc: Global, name: &[u8], words: &[String]) -> Result<Option<Invocation>, Memory>
     ensures said { IfOk result (λ said. said ≡ command_given name.now (texts words.now)) }
     ensures of_one { OnErr result (IsSome (command_given name.now (texts words.now))) }
 {
@@ -70,7 +70,7 @@ fn read_given(alloc: Global, name: &[u8], words: &[String]) -> Result<Option<Com
 
 // What the command of this name is to do, with these options and files.
 #[tactic(auto, unfolding(crate::specs::Words::command_named))]
-fn command_for(alloc: Global, given: &Given<'_>, name: &[u8]) -> Result<Option<Command>, Memory>
+fn command_for(alloc: Global, given: &Given<'_>, name: &[u8]) -> Result<Option<Invocation>, Memory>
     ensures said { IfOk result (λ said.
         said ≡ command_named name.now given.now.options (files_in given.now.files)) }
     ensures of_one { OnErr result
@@ -86,13 +86,13 @@ fn command_for(alloc: Global, given: &Given<'_>, name: &[u8]) -> Result<Option<C
 }
 
 // `run` and `plan`.
-fn without_files(options: Options, name: &[u8]) -> Option<Command>
+fn without_files(options: Options, name: &[u8]) -> Option<Invocation>
     ensures { result ≡ without_files options name.now }
 {
     if is(name, "run") {
-        Some(Command::Run(options.setup()))
+        Some(Invocation::Run(options.setup()))
     } else if is(name, "plan") && options.pivots.is_none() {
-        Some(Command::Plan(options.setup()))
+        Some(Invocation::Plan(options.setup()))
     } else {
         None
     }
@@ -104,7 +104,7 @@ fn with_model(
     options: Options,
     name: &[u8],
     model: &str,
-) -> Result<Option<Command>, Memory>
+) -> Result<Option<Invocation>, Memory>
     ensures said { IfOk result (λ said.
         said ≡ with_model options name.now model.now) }
     ensures of_one { OnErr result
@@ -113,7 +113,7 @@ fn with_model(
     if !is(name, "solve") || !is_name(model) {
         return Ok(None);
     }
-    Ok(Some(Command::Solve {
+    Ok(Some(Invocation::Solve {
         setup: options.setup(),
         model: file_name(alloc, model)?,
     }))
@@ -126,7 +126,7 @@ fn with_both(
     name: &[u8],
     model: &str,
     certificate: &str,
-) -> Result<Option<Command>, Memory>
+) -> Result<Option<Invocation>, Memory>
     ensures said { IfOk result (λ said. said ≡ with_both options name.now
         model.now certificate.now) }
     ensures of_one { OnErr result (IsSome (with_both options name.now
@@ -138,7 +138,7 @@ fn with_both(
     if !is_name(model) || !is_name(certificate) {
         return Ok(None);
     }
-    Ok(Some(Command::Check {
+    Ok(Some(Invocation::Check {
         model: file_name(alloc, model)?,
         certificate: file_name(alloc, certificate)?,
     }))

@@ -12,13 +12,13 @@ use Rattle.aff_core.specs.Function.{Function, coefficient, slope}
 use Rattle.aff_core.specs.FunctionLists.{coefficients, slopes}
 use Rattle.linear_laws.specs.SlopeLaws.{mentioned, slope_over}
 use Rattle.linear_laws.specs.SupportLaws.{Supports, support, support_supports, supports_first, supports_second}
-use Rattle.dual_laws.specs.Held.{Held, adjoint, adjoint_of, gap, gap_of, pull}
+use Rattle.dual_laws.specs.Held.{DualRow, adjoint, adjoint_of, gap, gap_of, pull}
 
 -- the addresses that some functions mention, and those that some rows do
 abbrev pub all_mentioned : List Function → List Address
 all_mentioned fs = flat_map mentioned fs
 
-abbrev pub mentioned_in : List Held → List Address
+abbrev pub mentioned_in : List DualRow → List Address
 mentioned_in hs = flat_map (λ h. all_mentioned h.functions) hs
 
 -- ---- over any list that has each address once
@@ -47,7 +47,7 @@ weighed_over us y fs x h = spread fs y h ∙ dot_map-sum y (λ f u. coefficient 
         ∙ dot_map-*ℚ y (x u) (λ f. coefficient f u) fs
         ∙ *ℚ_comm (x u) (dot y (coefficients fs u))
 
-pub pull_over : (us : List Address) (hs : List Held) (x : Address → Rational)
+pub pull_over : (us : List Address) (hs : List DualRow) (x : Address → Rational)
     → Supports us (mentioned_in hs) → pull hs x ≡ sum_by_ℚ (λ u. adjoint hs u *ℚ x u) us
 pull_over us [] x h = sym (sum_by_ℚ_same (λ u. zero_ℚ *ℚ x u) (λ _. zero_ℚ) us (λ u. zero-*ℚ (x u))
     ∙ sum_by_ℚ_zero us)
@@ -61,10 +61,10 @@ pull_over us (g ∷ hs) x h =
     (λ u. sym (+ℚ-*ℚ (adjoint_of g u) (adjoint hs u) (x u)))
 
 -- the variables that some rows mention, each once
-abbrev pub variables_in : List Held → List Address
+abbrev pub variables_in : List DualRow → List Address
 variables_in hs = support (mentioned_in hs)
 
-pub pull_is : (hs : List Held) (x : Address → Rational)
+pub pull_is : (hs : List DualRow) (x : Address → Rational)
     → pull hs x ≡ sum_by_ℚ (λ v. adjoint hs v *ℚ x v) (variables_in hs)
 pull_is hs x = pull_over (variables_in hs) hs x (support_supports (mentioned_in hs))
 
@@ -94,20 +94,20 @@ weighed_alike vs ws p q a b x first_over second_over h =
     whole = support_supports (vs ++ ws)
 
 -- equal adjoints give equal pulls
-pub pull_same : (hs gs : List Held) → ((v : Address) → adjoint hs v ≡ adjoint gs v)
+pub pull_same : (hs gs : List DualRow) → ((v : Address) → adjoint hs v ≡ adjoint gs v)
     → (x : Address → Rational) → pull hs x ≡ pull gs x
 pull_same hs gs h x = weighed_alike (mentioned_in hs) (mentioned_in gs) (pull hs x) (pull gs x)
     (adjoint hs) (adjoint gs) x (λ us. pull_over us hs x) (λ us. pull_over us gs x) h
 
 -- and an adjoint that is a function's coefficients gives its slope
-pub pull_is_slope : (hs : List Held) (f : Function)
+pub pull_is_slope : (hs : List DualRow) (f : Function)
     → ((v : Address) → adjoint hs v ≡ coefficient f v) → (x : Address → Rational)
     → pull hs x ≡ slope f x
 pull_is_slope hs f h x = weighed_alike (mentioned_in hs) (mentioned f) (pull hs x) (slope f x)
     (adjoint hs) (coefficient f) x (λ us. pull_over us hs x) (λ us. slope_over us f x) h
 
 -- rows whose adjoints are 0 have no pull
-pub pull_none : (hs : List Held) → ((v : Address) → adjoint hs v ≡ zero_ℚ)
+pub pull_none : (hs : List DualRow) → ((v : Address) → adjoint hs v ≡ zero_ℚ)
     → (x : Address → Rational) → pull hs x ≡ zero_ℚ
 pull_none hs h x =
     pull_is hs x ∙ alike (variables_in hs) (adjoint hs) (λ _. zero_ℚ) x h
@@ -116,9 +116,9 @@ pull_none hs h x =
 
 -- ---- rows joined
 
-pub adjoint-append : (hs gs : List Held) (v : Address)
+pub adjoint-append : (hs gs : List DualRow) (v : Address)
     → adjoint (hs ++ gs) v ≡ adjoint hs v +ℚ adjoint gs v
 adjoint-append hs gs v = sum_by_ℚ-append (λ h. adjoint_of h v) hs gs
 
-pub gap-append : (hs gs : List Held) → gap (hs ++ gs) ≡ gap hs +ℚ gap gs
+pub gap-append : (hs gs : List DualRow) → gap (hs ++ gs) ≡ gap hs +ℚ gap gs
 gap-append hs gs = sum_by_ℚ-append gap_of hs gs

@@ -18,7 +18,7 @@ use Rattle.set_core.specs.Membership.{low_of}
 use Rattle.set_core.specs.Mirrored.{multiplied}
 use Rattle.set_laws.specs.Least.{low_least}
 use Rattle.set_laws.specs.Multiples.{dual_of-multiplied, low_multiplied, multiplied_set}
-use Rattle.dual_laws.specs.Held.{AllHold, DualsHold, Held, Holds, IsHeld, adjoint, gap, gap_of, pull, pull_of}
+use Rattle.dual_laws.specs.Held.{AllHold, DualsHold, DualRow, Holds, IsHeld, adjoint, gap, gap_of, pull, pull_of}
 use Rattle.dual_laws.specs.PullLaws.{pull_is_slope, pull_none}
 
 one_nonneg : zero_ℚ ≤ℚ one_ℚ
@@ -37,7 +37,7 @@ module _ (one : Rational) (a : zero_ℚ ≤ℚ one) (x : Address → Rational) w
       right : (o l k s : Rational) → (o *ℚ k +ℚ s) -ℚ o *ℚ k ≡ s
       right = ring₄ _ (λ ρ. simp as_expression (by_ring ρ _ _ refl))
 
-  pub gap_below : (h : Held) → IsHeld h → Holds one h x → (one *ℚ gap_of h) ≤ℚ pull_of h x
+  pub gap_below : (h : DualRow) → IsHeld h → Holds one h x → (one *ℚ gap_of h) ≤ℚ pull_of h x
   gap_below h d i =
       moved one (low_of h.set h.duals) (dot h.duals (constants h.functions)) (pull_of h x)
       (subst (λ q. q ≤ℚ (one *ℚ dot h.duals (constants h.functions) +ℚ pull_of h x))
@@ -49,7 +49,7 @@ module _ (one : Rational) (a : zero_ℚ ≤ℚ one) (x : Address → Rational) w
       (length-map h.functions (λ f. evaluated one f x)) i
       (dual_of-multiplied one h.set h.duals d.dual))))
 
-  pub gaps_below : (hs : List Held) → DualsHold hs → AllHold one hs x → (one *ℚ gap hs) ≤ℚ pull hs x
+  pub gaps_below : (hs : List DualRow) → DualsHold hs → AllHold one hs x → (one *ℚ gap hs) ≤ℚ pull hs x
   gaps_below [] d i = subst (λ q. q ≤ℚ zero_ℚ) (sym (*ℚ-zero one)) (≤ℚ_refl zero_ℚ)
   gaps_below (h ∷ hs) d i =
       subst (λ q. q ≤ℚ (pull_of h x +ℚ pull hs x)) (sym (*ℚ-+ℚ one (gap_of h) (gap hs)))
@@ -58,14 +58,14 @@ module _ (one : Rational) (a : zero_ℚ ≤ℚ one) (x : Address → Rational) w
       (gaps_below hs (All-tail IsHeld h hs d) (All-tail (λ h. Holds one h x) h hs i)))
 
   -- where the adjoint is a function's coefficients, its slope is at least the gap times `one`
-  pub weak_duality : (hs : List Held) (f : Function) → DualsHold hs
+  pub weak_duality : (hs : List DualRow) (f : Function) → DualsHold hs
       → ((v : Address) → adjoint hs v ≡ coefficient f v) → AllHold one hs x
       → (one *ℚ gap hs) ≤ℚ slope f x
   weak_duality hs f d e i =
       subst (λ q. (one *ℚ gap hs) ≤ℚ q) (pull_is_slope hs f e x) (gaps_below hs d i)
 
 -- the value at a point is at least the duals' objective
-pub value_above_duals : (hs : List Held) (f : Function) (x : Address → Rational) → DualsHold hs
+pub value_above_duals : (hs : List DualRow) (f : Function) (x : Address → Rational) → DualsHold hs
     → ((v : Address) → adjoint hs v ≡ coefficient f v) → AllHold one_ℚ hs x
     → (f.constant +ℚ gap hs) ≤ℚ value_of f x
 unfolding value_of
@@ -74,7 +74,7 @@ value_above_duals hs f x d e i =
     (subst (λ q. q ≤ℚ slope f x) (one-*ℚ (gap hs)) (weak_duality one_ℚ one_nonneg x hs f d e i))
 
 -- a gap above 0 where every adjoint is 0 is a proof that no point is in all sets
-pub no_point : (hs : List Held) (x : Address → Rational) → DualsHold hs
+pub no_point : (hs : List DualRow) (x : Address → Rational) → DualsHold hs
     → ((v : Address) → adjoint hs v ≡ zero_ℚ) → zero_ℚ ‹ℚ gap hs → ¬ (AllHold one_ℚ hs x)
 no_point hs x d e g i =
     not_‹ℚ_from_≤ℚ (gap hs) zero_ℚ

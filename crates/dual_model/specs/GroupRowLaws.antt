@@ -20,7 +20,7 @@ use Rattle.set_core.specs.declared.set.Set.TheVariants.{EqualTo, Interval, Zeros
 use Rattle.set_core.specs.Membership.{In, dual_of, low_of}
 use Rattle.set_core.specs.Shapes.{IsSetOf, is_scalar}
 use Rattle.set_core.specs.Vectors.{first_of, others_of}
-use Rattle.dual_laws.specs.Held.{Held, gap, gap_of, pull, pull_of}
+use Rattle.dual_laws.specs.Held.{DualRow, gap, gap_of, pull, pull_of}
 use Rattle.user_model.specs.declared.function.UserFunc.TheVariants.{AffineVec}
 use Rattle.user_model.specs.declared.group.Group.{Group}
 use Rattle.user_model.specs.declared.row.Row.{Row}
@@ -316,8 +316,8 @@ module _ (x w : Address → Rational) (R : Rational → Rational → Type 0) (or
       let bounds : List Rational = flat_map (λ g. own_bounds g.set) groups in
       let own : Rational = dot (own_bounds g.set) (numbers_from x n size) in
       let rest : Rational = dot bounds (numbers_from x m (own_total groups)) in
-      let first : Held = group_with w g in
-      let others : List Held = groups_with w groups in
+      let first : DualRow = group_with w g in
+      let others : List DualRow = groups_with w groups in
       subst (λ q. R q (gap (first ∷ others)))
       (sym (ap (λ q. q +ℚ pull (first ∷ others) at)
       (ap (dot (own_bounds g.set ++ bounds)) (numbers_from-append x n size (own_total groups))

@@ -18,7 +18,7 @@ use Rattle.set_core.specs.declared.set.Set.{Set}
 use Rattle.set_core.specs.declared.set.Set.TheVariants.{Interval}
 use Rattle.set_core.specs.Membership.{In, dual_of, low_of}
 use Rattle.set_core.specs.Shapes.{IsSetOf}
-use Rattle.dual_laws.specs.Held.{Held, adjoint, gap, gap_of, pull, pull_of}
+use Rattle.dual_laws.specs.Held.{DualRow, adjoint, gap, gap_of, pull, pull_of}
 use Rattle.user_model.specs.declared.row.Row.{Row}
 use Rattle.user_model.specs.Model.{variable_address}
 use Rattle.certificates.specs.Points.{functions_of}
@@ -313,8 +313,8 @@ module _ (x : Address → Rational) where
         let own : Rational = dot (row_costs at r) (numbers_from x n (part_size r)) in
         let rest : Rational = dot (flat_map (row_costs at) rows)
         (numbers_from x m (total_parts rows)) in
-        let first : Held = row_with (row_duals n r) r in
-        let others : List Held = rows_with (rows_duals m rows) rows in
+        let first : DualRow = row_with (row_duals n r) r in
+        let others : List DualRow = rows_with (rows_duals m rows) rows in
         subst (λ q. R q (gap (first ∷ others)))
         (sym (ap (λ q. q +ℚ pull (first ∷ others) at) (weighed_on n r rows (row_costs at r)
         (flat_map (row_costs at) rows) (length-row_costs r set))

@@ -6,11 +6,11 @@ mod models;
 use dualization::{Carried, DualFault, carry, dual};
 use lists::Memory;
 use model_store::UserModel;
-use test_support::Page;
 use ratio_core::{Ratio, Ratios};
 use report_core::Place;
 use std::alloc::Global;
 use std::process::ExitCode;
+use test_support::Page;
 use user_model::Edit;
 
 fn main(rt: HostRuntime) -> ExitCode {

@@ -12,20 +12,20 @@ use Rattle.item_core.specs.declared.table.Table.{Table}
 use Rattle.report_core.specs.declared.answer.Answer.{Answer}
 use Rattle.report_core.specs.declared.answer.Answer.TheVariants.{Refused}
 
-pub record Held : Type 0 where
+pub record SessionValue : Type 0 where
   pub cache : Cached
   pub pivots : ℕ
 
-abbrev pub held_code : Coded Held
+abbrev pub held_code : Coded SessionValue
 held_code =
     code_by (Cached × ℕ) (coded× cached_code coded_ℕ) (λ s. (s.cache, s.pivots))
     (λ p. record { cache = p.0; pivots = p.1 }) (λ _. refl)
 
-abbrev pub state_of : Held → State
+abbrev pub state_of : SessionValue → State
 state_of session = cached.state_of session.cache
 
 -- the machine that lines step over, beside what the shelf tells
-abbrev pub machine_of : Held → Told → Machine
+abbrev pub machine_of : SessionValue → Told → Machine
 machine_of session shelf = machine_by (state_of session) session.pivots shelf
 
 -- by another table and another allowance

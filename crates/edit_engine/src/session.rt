@@ -43,9 +43,9 @@ pub struct SessionOver<B: Bridge> {
 }
 
 impl<B: Bridge> Model for SessionOver<B> {
-    ghost use Rattle.edit_engine.specs.Held.{Held, held_code};
+    ghost use Rattle.edit_engine.specs.Held.{SessionValue, held_code};
 
-    ghost Value = { Held };
+    ghost Value = { SessionValue };
 
     ghost coded = { held_code };
 

@@ -11,7 +11,7 @@ use Rattle.rational_laws.specs.Linear.{as_scaled, linear₁, linear₂, scaled_z
 use Rattle.rational_laws.specs.Order.{nonneg_from_≤ℚ}
 use Rattle.aff_core.specs.Address.{Address}
 use Rattle.aff_core.specs.Function.{Function, coefficient}
-use Rattle.dual_laws.specs.Held.{Held, adjoint, gap}
+use Rattle.dual_laws.specs.Held.{DualRow, adjoint, gap}
 use Rattle.item_core.specs.declared.item.Body.{Body}
 use Rattle.item_core.specs.Item.{functions_of, set_of}
 use Rattle.set_core.specs.declared.set.Set.{Set}
@@ -91,7 +91,7 @@ left_over ((v, Nonneg) ∷ vars) a c h =
 -- ---- rows with duals
 
 -- rows and lists of duals, one after the other
-abbrev pub held_with : List (List Rational) → List (Address × Body) → List Held
+abbrev pub held_with : List (List Rational) → List (Address × Body) → List DualRow
 held_with [] rows = []
 held_with (y ∷ ys) [] = []
 held_with (y ∷ ys) (row ∷ rows) =

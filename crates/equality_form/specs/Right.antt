@@ -5,7 +5,7 @@ use Rattle.ratio_core.specs.Rational.{Rational, one_ℚ, zero_ℚ, ◌+ℚ◌, �
 use Rattle.aff_core.specs.Address.{Address}
 use Rattle.aff_core.specs.Function.{coefficient, slope, value_of}
 use Rattle.aff_core.specs.FunctionLists.{evaluations}
-use Rattle.dual_laws.specs.Held.{Held, adjoint, gap}
+use Rattle.dual_laws.specs.Held.{DualRow, adjoint, gap}
 use Rattle.item_core.specs.declared.item.Body.{Body}
 use Rattle.item_core.specs.Item.{functions_of, set_of}
 use Rattle.leaf_model.specs.LeafModel.{LeafModel}
@@ -18,14 +18,14 @@ use Rattle.equality_form.specs.ReadBack.{Answer, infeasible, optimal, unbounded}
 
 -- ---- rows with duals
 
-abbrev pub held : (Address → List Rational) → Address × Body → Held
+abbrev pub held : (Address → List Rational) → Address × Body → DualRow
 held y row = record { duals = y row.0; functions = functions_of row.1; set = set_of row.1 }
 
-abbrev pub held_rows : LeafModel → (Address → List Rational) → List Held
+abbrev pub held_rows : LeafModel → (Address → List Rational) → List DualRow
 held_rows leaves y = map (held y) (finite.entries leaves.rows)
 
 -- a dual for each component, together in the dual set
-pub record HasDuals (h : Held) : Type 0 where
+pub record HasDuals (h : DualRow) : Type 0 where
   pub size : length h.duals ≡ length h.functions
   pub dual : Dual h.set h.duals
 

@@ -3,7 +3,7 @@ use Rattle.std.specs.Prelude.{ℕ, List, refl}
 use Rattle.std.specs.Coded.{Coded, code_by, coded×, coded_ℕ, coded_list}
 use Rattle.std.specs.FinMap as finite
 use Rattle.io_face.specs.Fault.{next_count}
-use Rattle.io_face.specs.Plan.{Plan, after_success, after_failure}
+use Rattle.io_face.specs.Plan.{FaultPlan, after_success, after_failure}
 use Rattle.io_face.specs.Shelf.{FilesByName}
 
 -- files by their names, and how many fetches failed
@@ -14,7 +14,7 @@ pub record Archive : Type 0 where
 -- files by their names, and which fetches fail
 pub record PlannedArchive : Type 0 where
   pub files : FilesByName
-  pub plan : Plan
+  pub plan : FaultPlan
 
 abbrev files_code : Coded FilesByName
 files_code = finite.code (coded_list coded_ℕ) (coded_list coded_ℕ)
@@ -25,7 +25,7 @@ archive_code =
     code_by (FilesByName × ℕ) (coded× files_code coded_ℕ)
     (λ a. (a.files, a.faults)) (λ p. record { files = p.0; faults = p.1 }) (λ _. refl)
 
-abbrev plan_code : Coded Plan
+abbrev plan_code : Coded FaultPlan
 plan_code =
     code_by (List ℕ × (ℕ × ℕ)) (coded× (coded_list coded_ℕ) (coded× coded_ℕ coded_ℕ))
     (λ p. (p.fails, (p.made, p.faults)))
@@ -34,7 +34,7 @@ plan_code =
 -- and so is one with a plan
 abbrev pub planned_archive_code : Coded PlannedArchive
 planned_archive_code =
-    code_by (FilesByName × Plan) (coded× files_code plan_code)
+    code_by (FilesByName × FaultPlan) (coded× files_code plan_code)
     (λ a. (a.files, a.plan)) (λ p. record { files = p.0; plan = p.1 }) (λ _. refl)
 
 -- the archive after a fetch that failed

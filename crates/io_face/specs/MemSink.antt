@@ -1,12 +1,12 @@
 -- A sink in memory as its callers see it.
 use Rattle.std.specs.Prelude.{ℕ, List, ◌++◌}
-use Rattle.io_face.specs.Plan.{Plan, after_success, after_failure}
+use Rattle.io_face.specs.Plan.{FaultPlan, after_success, after_failure}
 
 -- the bytes written, how many a write takes at most, and which writes fail
 pub record Collector : Type 0 where
   pub written : List ℕ
   pub piece : ℕ
-  pub plan : Plan
+  pub plan : FaultPlan
 
 -- the collector after a write that took the text
 abbrev pub collector_after : Collector → List ℕ → Collector

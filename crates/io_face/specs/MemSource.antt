@@ -1,12 +1,12 @@
 -- A source in memory as its callers see it.
 use Rattle.std.specs.Prelude.{ℕ, List, drop}
-use Rattle.io_face.specs.Plan.{Plan, after_success, after_failure}
+use Rattle.io_face.specs.Plan.{FaultPlan, after_success, after_failure}
 
 -- the bytes left, how many a read gives at most, and which reads fail
 pub record Feed : Type 0 where
   pub left : List ℕ
   pub piece : ℕ
-  pub plan : Plan
+  pub plan : FaultPlan
 
 -- the feed after a read that gave n bytes
 abbrev pub feed_after : Feed → ℕ → Feed

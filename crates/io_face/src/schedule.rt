@@ -1,7 +1,7 @@
 //! Which calls of an object in memory fail.
 ghost use Rattle.std.specs.Prelude.{◌≡◌, ◌↔◌, ◌≤◌, IsTrue, if◌then◌else◌};
 ghost use Rattle.io_face.specs.Fault.{next_count};
-ghost use Rattle.io_face.specs.Plan.{Plan, IsFailing, after_success, after_failure};
+ghost use Rattle.io_face.specs.Plan.{FaultPlan, IsFailing, after_success, after_failure};
 
 use crate::Calls;
 use std::marker::Model;
@@ -14,7 +14,7 @@ pub struct Schedule {
 }
 
 impl Model for Schedule {
-    ghost Value = { Plan };
+    ghost Value = { FaultPlan };
 
     ghost view = { λ s. record { fails = s.fails; made = s.made; faults = s.faults } };
 }

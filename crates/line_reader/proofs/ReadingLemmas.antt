@@ -16,7 +16,7 @@ use Rattle.line_reader.specs.declared.line_reader.ReadStop.{ReadStop}
 use Rattle.line_reader.specs.declared.line_reader.ReadStop.TheVariants.{TooLong}
 use Rattle.line_reader.specs.Limits.{line_limit}
 use Rattle.line_reader.specs.Lines.{ended_lines, IsUnended, is_short}
-use Rattle.line_reader.specs.Reading.{Held, allowance, rest_of, HasLongLine, IsTooLong, TakesAtMost}
+use Rattle.line_reader.specs.Reading.{Buffered, allowance, rest_of, HasLongLine, IsTooLong, TakesAtMost}
 use Rattle.line_reader.specs.LinesLaws.{ended_lines-unended, ended_lines-ended, lines-unended, lines-ended}
 use Rattle.line_reader.specs.ReadingLaws.{prepend-append, told_always, told_behind, told_weaker}
 
@@ -130,7 +130,7 @@ too_long_input part more allowed none is some =
     }
 
 -- the line so far, and what is held and left behind it, are all that was not given
-pub record SoFar (all : Option (List ℕ)) (allowed : ℕ) (line : List ℕ) (reader : Held)
+pub record SoFar (all : Option (List ℕ)) (allowed : ℕ) (line : List ℕ) (reader : Buffered)
     (left : Option (List ℕ)) : Type 0 where
   pub kept : all ≡ prepend_known line (rest_of reader left)
   pub unended : IsUnended line
@@ -144,14 +144,14 @@ pub record AllMoved (all : Option (List ℕ)) (allowed : ℕ) (line : List ℕ) 
   pub counted : allowed ≡ length line + room
 
 -- the line and its newline are at the front of all that was not given
-pub record LineMoved (all : Option (List ℕ)) (allowed : ℕ) (line : List ℕ) (reader : Held)
+pub record LineMoved (all : Option (List ℕ)) (allowed : ℕ) (line : List ℕ) (reader : Buffered)
     (left : Option (List ℕ)) : Type 0 where
   pub kept : all ≡ prepend_known (line ++ 10 ∷ []) (rest_of reader left)
   pub unended : IsUnended line
   pub counted : allowed ≡ length (line ++ 10 ∷ []) + allowance reader
 
 pub piece_moved : (all : Option (List ℕ)) (allowed : ℕ) (line line' piece : List ℕ)
-    (reader reader' : Held) (left : Option (List ℕ)) → SoFar all allowed line reader left
+    (reader reader' : Buffered) (left : Option (List ℕ)) → SoFar all allowed line reader left
     → IsUnended piece → reader.held ≡ piece ++ 10 ∷ reader'.held → line' ≡ line ++ piece
     → reader'.room ≡ reader.room → LineMoved all allowed line' reader' left
 piece_moved all allowed line line' piece reader reader' left so_far none held is room =
@@ -179,7 +179,7 @@ piece_moved all allowed line line' piece reader reader' left so_far none held is
       );
     }
 
-pub all_moved : (all : Option (List ℕ)) (allowed : ℕ) (line line' : List ℕ) (reader reader' : Held)
+pub all_moved : (all : Option (List ℕ)) (allowed : ℕ) (line line' : List ℕ) (reader reader' : Buffered)
     (left : Option (List ℕ)) → SoFar all allowed line reader left
     → IsUnended reader.held → line' ≡ line ++ reader.held → reader'.room ≡ reader.room
     → AllMoved all allowed line' reader'.room left
@@ -191,7 +191,7 @@ all_moved all allowed line line' reader reader' left so_far none is room = recor
   counted = omega (arith, so_far.counted, room, ap length is, length-append line reader.held);
 }
 
-pub more_read : (all : Option (List ℕ)) (allowed : ℕ) (line : List ℕ) (reader reader' : Held)
+pub more_read : (all : Option (List ℕ)) (allowed : ℕ) (line : List ℕ) (reader reader' : Buffered)
     (left left' : Option (List ℕ)) → AllMoved all allowed line reader.room left
     → reader.held ≡ [] → left ≡ prepend_known reader'.held left'
     → allowance reader' ≡ allowance reader → SoFar all allowed line reader' left'
@@ -201,7 +201,7 @@ more_read all allowed line reader reader' left left' moved none taken same = rec
   counted = omega (arith, moved.counted, same, ap length none);
 }
 
-pub line_too_long : (all : Option (List ℕ)) (allowed : ℕ) (line : List ℕ) (reader : Held)
+pub line_too_long : (all : Option (List ℕ)) (allowed : ℕ) (line : List ℕ) (reader : Buffered)
     (left : Option (List ℕ)) → LineMoved all allowed line reader left
     → line_limit < length (strip_carriage_return line) → IfSome all (IsTooLong allowed)
 line_too_long all allowed line reader left moved long =
@@ -246,7 +246,7 @@ strip-front text n is =
     (λ _ same. take_all n text (omega (arith, same))) is
 
 -- the step of a turn that found the newline, and of one that didn't
-pub ended_turn : (all : Option (List ℕ)) (allowed : ℕ) (line line' : List ℕ) (reader reader' : Held)
+pub ended_turn : (all : Option (List ℕ)) (allowed : ℕ) (line line' : List ℕ) (reader reader' : Buffered)
     (left : Option (List ℕ)) → SoFar all allowed line reader left
     → (piece : List ℕ) × IsUnended piece × (reader.held ≡ piece ++ 10 ∷ reader'.held)
     × (line' ≡ line ++ piece) → reader'.room ≡ reader.room
@@ -256,7 +256,7 @@ ended_turn all allowed line line' reader reader' left so_far moved room =
     moved.2 moved.3 room
 
 pub unended_turn : (all : Option (List ℕ)) (allowed : ℕ) (line line' : List ℕ)
-    (reader reader' : Held) (left : Option (List ℕ)) → SoFar all allowed line reader left
+    (reader reader' : Buffered) (left : Option (List ℕ)) → SoFar all allowed line reader left
     → IsUnended reader.held × (reader'.held ≡ []) × (line' ≡ line ++ reader.held)
     → reader'.room ≡ reader.room → AllMoved all allowed line' reader'.room left
 unended_turn all allowed line line' reader reader' left so_far moved room =
@@ -300,7 +300,7 @@ pub record TookSoFar (left left' : Option (List ℕ)) (room room' : ℕ) : Type 
   pub takes : Takes left left' taken
   pub counted : length taken + room' ≡ room
 
-pub took_more : (left mid left' : Option (List ℕ)) (room : ℕ) (reader reader' : Held)
+pub took_more : (left mid left' : Option (List ℕ)) (room : ℕ) (reader reader' : Buffered)
     → TookSoFar left mid room reader.room
     → reader.held ≡ [] → Takes mid left' reader'.held → allowance reader' ≡ allowance reader
     → TookSoFar left left' room reader'.room

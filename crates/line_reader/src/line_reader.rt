@@ -63,9 +63,9 @@ pub struct LineReader {
 
 impl Model for LineReader {
     ghost use Rattle.std.specs.Prelude.{◌≤◌, ◌<◌, ◌-◌, take, drop, length};
-    ghost use Rattle.line_reader.specs.Reading.{Held};
+    ghost use Rattle.line_reader.specs.Reading.{Buffered};
 
-    ghost Value = { Held };
+    ghost Value = { Buffered };
 
     ghost view = { λ r. record { held = drop r.start (take r.end r.buffer.items); room = r.room } };
 

@@ -14,7 +14,7 @@ use Rattle.model_bridging.specs.Kinds.{first_missing, kinds_told}
 use Rattle.model_bridging.specs.Outcome.{KindsOutcome, Outcome}
 use Rattle.model_bridging.specs.Planned.{Planned}
 use Rattle.model_bridging.specs.Treeless.{unsupported}
-use Rattle.model_bridging.specs.Whole.{IsReady, IsWhole, unfit_item}
+use Rattle.model_bridging.specs.Whole.{IsWithinLevels, IsWhole, unfit_item}
 use Rattle.model_bridging.specs.declared.fault.PushFault.{PushFault}
 use Rattle.model_bridging.specs.declared.fault.PushFault.TheVariants.{Memory, Overflow, Unsupported}
 use Rattle.model_bridging.specs.declared.model_plan.ModelPlan.{ModelPlan}
@@ -29,7 +29,7 @@ module _ (means : Means) (sound : AreSound means) (model : ModelValue) (valid : 
 
     abbrev Ready : List Group → List Row → Objective → Type 0
     Ready groups rows objective =
-        IsReady means.choice (map group_item groups)
+        IsWithinLevels means.choice (map group_item groups)
         (map row_item rows ++ objective_items objective)
 
     abbrev Answered : Result ModelPlan PushFault → List Group → List Row → Objective → Type 0

@@ -35,7 +35,7 @@ use Rattle.bridge_plan.specs.Worked.{IsWithin, worked, worked_in}
 use Rattle.bridge_plan.specs.declared.plan.Plan.{Plan}
 use Rattle.model_bridging.specs.ModelHeld.{child_fits, item_fits, unfit, unfit_put}
 use Rattle.model_bridging.specs.Outcome.{IsFirstAt, Outcome, refused_at}
-use Rattle.model_bridging.specs.Whole.{IsReady, IsWhole, groups_held, kept_among, others_held, unfit_item, with_function}
+use Rattle.model_bridging.specs.Whole.{IsWithinLevels, IsWhole, groups_held, kept_among, others_held, unfit_item, with_function}
 use Rattle.model_bridging.specs.declared.fault.PushFault.{PushFault}
 use Rattle.model_bridging.specs.declared.fault.PushFault.TheVariants.{Memory, Overflow, Unsupported}
 use Rattle.model_bridging.specs.declared.model_plan.ModelPlan.{ModelPlan}
@@ -297,7 +297,7 @@ module _ (first : Means) (groups : List Group) (others : List Item) (start one :
   abbrev kept_where : (Address → Expression) → List GroupVar → List Address
   kept_where e vars = filter (λ v. is_kept (e v)) (map (λ v. variable_address v.number) vars)
 
-  pub others_ready : IsReady first.choice (map group_item groups) others
+  pub others_ready : IsWithinLevels first.choice (map group_item groups) others
       → All (λ item. IsWithin means.choice 35 (put_in standing item)) others
   others_ready ready =
       subst (λ (m : Means). All (λ item. IsWithin m.choice 35 (put_in standing item)) others)

@@ -29,7 +29,7 @@ use Rattle.model_bridging.specs.ModelHeld.{child_fits, item_fits, unfit, unfit_e
 use Rattle.model_bridging.specs.Outcome.{Outcome}
 use Rattle.model_bridging.specs.Planned.{IsPlanOf, Planned, variables_of_the_model}
 use Rattle.model_bridging.specs.Treeless.{groups_found, others_have_trees, trees_there}
-use Rattle.model_bridging.specs.Whole.{IsReady, IsWhole, groups_held, kept_among, others_held, unfit_item, with_function}
+use Rattle.model_bridging.specs.Whole.{IsWithinLevels, IsWhole, groups_held, kept_among, others_held, unfit_item, with_function}
 use Rattle.model_bridging.specs.declared.fault.PushFault.{PushFault}
 use Rattle.model_bridging.specs.declared.fault.PushFault.TheVariants.{Memory, Overflow, Unsupported}
 use Rattle.model_bridging.specs.declared.model_plan.ModelPlan.{ModelPlan}
@@ -96,7 +96,7 @@ module _ (choice : ℕ → Choice) (model : ModelValue) where
         unfit_other = unfit_in_is choice 35 made.trees others;
       }
 
-  pub has_fresh : IsReady choice items_here further_here
+  pub has_fresh : IsWithinLevels choice items_here further_here
       → HasFresh (groups_held choice items_here)
   has_fresh ready =
       let made = each_bridged choice (worked choice 35) (IsWithin choice 35)
@@ -119,7 +119,7 @@ expressions_are entries (v ∷ vs) =
 
 module _ (setting : Setting) (choice : ℕ → Choice) (chosen : AreChoices setting choice)
     (model : ModelValue)
-    (ready : IsReady choice (model_image model).groups (model_image model).others) where
+    (ready : IsWithinLevels choice (model_image model).groups (model_image model).others) where
   abbrev found : HasFresh choice model (groups_held choice (model_image model).groups)
   found = has_fresh choice model ready
 
@@ -174,7 +174,7 @@ pub ready_by_kinds : (means : Means) (sound : AreSound means) (model : ModelValu
     (valid : IsValid model)
     → first_missing means.choice (kinds_told means.choice (model_image model).groups
     (model_image model).others) ≡ None
-    → IsReady means.choice (model_image model).groups (model_image model).others
+    → IsWithinLevels means.choice (model_image model).groups (model_image model).others
 ready_by_kinds means sound model valid none =
     let setting = means.setting in
     let choice = means.choice in

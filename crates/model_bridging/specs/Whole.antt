@@ -35,7 +35,7 @@ module _ (choice : ℕ → Choice) where
   others_held inner items = worked_in choice (worked choice 35) inner items
 
   -- the items, of which these are the groups, stand within the levels that there are
-  pub record IsReady (items further : List Item) : Type 0 where
+  pub record IsWithinLevels (items further : List Item) : Type 0 where
     pub groups : All (IsWithin choice 35) items
     pub others : All (λ item. IsWithin choice 35 (put_in (groups_held items).entries item)) further
 

@@ -23,10 +23,7 @@ use std::alloc::Global;
 use user_model::{Group, Objective, Row};
 
 /// Refuses the first of these groups that has no tree.
-pub fn check_found_groups<R: Rewriter>(
-    rewriter: &R,
-    groups: &[&Group],
-) -> Result<(), PushFault>
+pub fn check_found_groups<R: Rewriter>(rewriter: &R, groups: &[&Group]) -> Result<(), PushFault>
     ensures { KindsOutcome result (first_missing (R.means rewriter.now).choice
         (kinds_as_they_stand (map group_item (map (λ g. g.now) groups.now)))) }
 {

@@ -176,7 +176,11 @@ pub(crate) fn row_kind(kept: &ByAddress<bool>, row: &Row) -> Kind
 fn function_kind(plain: bool, set: &Set) -> Kind
     ensures { result ≡ cond plain (kinds.plain_kind_of set.now) (kinds.affine_kind_of set.now) }
 {
-    if plain { plain_kind(set) } else { affine_kind(set) }
+    if plain {
+        plain_kind(set)
+    } else {
+        affine_kind(set)
+    }
 }
 
 // Whether a function names variables, all of which are kept.

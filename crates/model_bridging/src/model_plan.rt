@@ -12,7 +12,7 @@ ghost use Rattle.bridge_plan.specs.Worked.{IsWithin, worked, worked_each, worked
 ghost use Rattle.model_bridging.specs.ModelHeld.{child_fits, unfit, unfit_put};
 ghost use Rattle.model_bridging.specs.Outcome.{Outcome, refused_at};
 ghost use Rattle.model_bridging.specs.Planned.{Planned};
-ghost use Rattle.model_bridging.specs.Whole.{IsReady, IsWhole, kept_among, unfit_item, with_function};
+ghost use Rattle.model_bridging.specs.Whole.{IsWithinLevels, IsWhole, kept_among, unfit_item, with_function};
 
 use crate::PushFault;
 use crate::kinds::check_kinds;
@@ -65,7 +65,7 @@ fn plan_items<R: Rewriter>(
     rows: &Rows,
     objective: &Objective,
 ) -> Result<ModelPlan, PushFault>
-    requires { IsReady (R.means rewriter.old).choice (map group_item groups.now.items)
+    requires { IsWithinLevels (R.means rewriter.old).choice (map group_item groups.now.items)
         (map row_item rows.now.items ++ objective_items objective.now) }
     ensures answer { let choice = (R.means rewriter.old).choice in
         let items = map group_item groups.now.items in

@@ -35,7 +35,7 @@ use Rattle.model_laws.specs.RowWithout.{IsRowWithout, row_without_is}
 use Rattle.model_laws.specs.Differing.{Differs, deletion_differs, group_deletion_differs}
 use Rattle.model_laws.specs.Variables.{group_found, vars_in}
 use Rattle.model_catalog.specs.declared.names.NameChange.{NameChange}
-use Rattle.model_plans.specs.declared.plan.Plan.{Plan}
+use Rattle.model_plans.specs.declared.plan.EditPlan.{EditPlan}
 use Rattle.model_catalog.specs.Names.{listed_as, listed_number}
 use Rattle.model_catalog.specs.Named.{IsInGroup, AreNameChanges, ChangesNames, variable_name}
 use Rattle.model_plans.specs.Plans.{HasParts, IsChange, IsRenamed, Leads, gone}
@@ -256,7 +256,7 @@ gone_renamed rows cs differ =
 
 -- ---- the plan
 
-module _ (model : ModelValue) (plan : Plan) (c : IsConsistent model) (name : List ℕ) (n : ℕ)
+module _ (model : ModelValue) (plan : EditPlan) (c : IsConsistent model) (name : List ℕ) (n : ℕ)
     (named : variable_named model name ≡ Some n) (group : Group)
     (found : group_of model n ≡ Some group) where
   abbrev pub at : Address

@@ -36,7 +36,7 @@ use Rattle.model_laws.specs.Shapes.{group_name_other, group_set_other, group_set
 use Rattle.model_laws.specs.Differing.{group_unchanged}
 use Rattle.model_laws.specs.Variables.{group_found, vars_in, vars_renamed, vars_replaced}
 use Rattle.model_catalog.specs.declared.names.NameChange.{NameChange}
-use Rattle.model_plans.specs.declared.plan.Plan.{Plan}
+use Rattle.model_plans.specs.declared.plan.EditPlan.{EditPlan}
 use Rattle.model_catalog.specs.Names.{listed_as, listed_number}
 use Rattle.model_catalog.specs.Index.{group_number_of}
 use Rattle.model_catalog.specs.Named.{IsInGroup, AreNameChanges, ChangesNames, variable_name}
@@ -102,7 +102,7 @@ module _ (n : ℕ) (name : List ℕ) where
 
 -- ---- the plans
 
-module _ (model : ModelValue) (plan : Plan) (c : IsConsistent model) (name : List ℕ) (n : ℕ)
+module _ (model : ModelValue) (plan : EditPlan) (c : IsConsistent model) (name : List ℕ) (n : ℕ)
     (named : variable_named model name ≡ Some n) (group : Group)
     (found : group_of model n ≡ Some group) where
   there : find group_number group.id model.groups ≡ Some group
@@ -310,7 +310,7 @@ module _ (first : ℕ) (vars : List GroupVar) (old : List GroupVar)
     named = added_name;
   }
 
-pub added_leads : (model : ModelValue) (plan : Plan) (names : List (List ℕ)) (set : Set)
+pub added_leads : (model : ModelValue) (plan : EditPlan) (names : List (List ℕ)) (set : Set)
     → IsConsistent model → plan.names.group ≡ model.next.group
     → HasParts plan (record {
       number = model.next.group;

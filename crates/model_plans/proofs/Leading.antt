@@ -21,12 +21,12 @@ use Rattle.model_laws.specs.ItemChanges.{one_change, set_to}
 use Rattle.model_laws.specs.Located.{row_by_number}
 use Rattle.model_laws.specs.Differing.{Differs, row_unchanged}
 use Rattle.model_catalog.specs.declared.names.NameChange.{NameChange}
-use Rattle.model_plans.specs.declared.plan.Plan.{Plan}
+use Rattle.model_plans.specs.declared.plan.EditPlan.{EditPlan}
 use Rattle.model_catalog.specs.Named.{AreNameChanges, ChangesNames, row_name, variable_name}
 use Rattle.model_plans.specs.Plans.{HasParts, IsRenamed, Leads}
 use Rattle.model_plans.proofs.NamesListed.{AreNameChanges-rows, one_renamed, row_listed, row_names_in, row_unlisted, unlisted}
 
-module _ (model : ModelValue) (plan : Plan) where
+module _ (model : ModelValue) (plan : EditPlan) where
   abbrev pub made : List (Change Group) → List (Change Row) → Option Objective
       → NextNumbers → ModelValue
   made groups rows o next =
@@ -164,7 +164,7 @@ module _ (model : ModelValue) (plan : Plan) where
           (λ same. other (same_Some row.name (h row).name (sym stood ∙ (same ∙ listed)))))
 
 -- the same parts
-pub parts_same : {plan : Plan} {gs : List (Change Group)} {rs : List (Change Row)}
+pub parts_same : {plan : EditPlan} {gs : List (Change Group)} {rs : List (Change Row)}
     {o : Option Objective} {k : NextNumbers} {vs ns : List NameChange}
     → HasParts plan gs rs o k vs ns → (groups : List (Change Group)) (rows : List (Change Row))
     (next : NextNumbers) (variables row_names : List NameChange) → gs ≡ groups → rs ≡ rows

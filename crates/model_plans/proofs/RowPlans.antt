@@ -22,7 +22,7 @@ use Rattle.model_laws.specs.KeptWithin.{kept_within}
 use Rattle.model_laws.specs.ItemChanges.{set_all_last, set_to}
 use Rattle.model_laws.specs.Located.{free_row, row_by_number}
 use Rattle.model_laws.specs.Shapes.{affine_row_other, affine_row_same, output_row_other, output_row_same, row_name_other, row_set_other, row_set_same}
-use Rattle.model_plans.specs.declared.plan.Plan.{Plan}
+use Rattle.model_plans.specs.declared.plan.EditPlan.{EditPlan}
 use Rattle.model_catalog.specs.Names.{listed_as}
 use Rattle.model_catalog.specs.Named.{row_name}
 use Rattle.numbered_list.specs.Numbered.{find}
@@ -51,7 +51,7 @@ changed_split i h xs x e = rw add-one (from i xs e)
     from zero (y ∷ ys) is = let same : y ≡ x = cc in ap (λ z. h z ∷ ys) same
     from (suc i) (y ∷ ys) is = ap (λ zs. y ∷ zs) (from i ys is)
 
-module _ (model : ModelValue) (plan : Plan) (c : IsConsistent model) (name : List ℕ) (row : Row)
+module _ (model : ModelValue) (plan : EditPlan) (c : IsConsistent model) (name : List ℕ) (row : Row)
     (found : row_named model name ≡ Some row) where
   abbrev IsUnchanged : Type 0
   IsUnchanged = HasParts plan [] [] None model.next [] []
@@ -130,7 +130,7 @@ module _ (model : ModelValue) (plan : Plan) (c : IsConsistent model) (name : Lis
       model.rows tt refl refl) (one_renamed (row_name model) (listed_as row.id None)
       (λ same. none-some row.name (sym same ∙ ap (option_map (λ r. r.name)) there))))
 
-pub added_leads : (model : ModelValue) (plan : Plan) (name : List ℕ) (func : UserFunc) (set : Set)
+pub added_leads : (model : ModelValue) (plan : EditPlan) (name : List ℕ) (func : UserFunc) (set : Set)
     → IsConsistent model → HasParts plan [] (record {
       number = model.next.row;
       content = Some (record { id = model.next.row; name = name; func = func; set = set });

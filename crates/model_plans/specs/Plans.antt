@@ -22,7 +22,7 @@ use Rattle.model_refusals.specs.Accepted.{IsVariable}
 use Rattle.model_catalog.specs.declared.names.NameChange.{NameChange}
 use Rattle.model_plans.specs.declared.parts.Part.{Part}
 use Rattle.model_plans.specs.declared.parts.Part.TheVariants.{Coefficient, Constant}
-use Rattle.model_plans.specs.declared.plan.Plan.{Plan}
+use Rattle.model_plans.specs.declared.plan.EditPlan.{EditPlan}
 use Rattle.model_catalog.specs.Exchange.{IsExchange, exchanged}
 use Rattle.model_catalog.specs.Named.{AreNameChanges, row_name, variable_name}
 use Rattle.model_catalog.specs.Names.{listed_as}
@@ -38,7 +38,7 @@ abbrev pub IsRenamed : (ℕ → Option (List ℕ)) → NameChange → Type 0
 IsRenamed naming l = naming l.number ≢ l.name
 
 -- the plan leads from the model to the one after, and has exactly what differs
-pub record Leads (model target : ModelValue) (plan : Plan) : Type 0 where
+pub record Leads (model target : ModelValue) (plan : EditPlan) : Type 0 where
   pub changes : IsExchange plan.exchange
   pub after : exchanged plan.exchange model ≡ target
   pub groups : All (Differs group_number model.groups) plan.exchange.groups.items
@@ -49,7 +49,7 @@ pub record Leads (model target : ModelValue) (plan : Plan) : Type 0 where
   pub row_names : All (IsRenamed (row_name model)) plan.names.rows.items
 
 -- the parts of a plan
-pub record HasParts (plan : Plan) (group_list : List (Change Group)) (row_list : List (Change Row))
+pub record HasParts (plan : EditPlan) (group_list : List (Change Group)) (row_list : List (Change Row))
     (content : Option Objective) (numbers : NextNumbers)
     (variable_list row_name_list : List NameChange) : Type 0 where
   pub groups : plan.exchange.groups.items ≡ group_list

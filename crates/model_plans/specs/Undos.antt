@@ -8,7 +8,7 @@ use Rattle.user_model.specs.Edited.{group_number, row_number}
 use Rattle.user_model.specs.Undone.{IsOldObjective, IsUndo}
 use Rattle.model_laws.specs.ItemChanges.{differences}
 use Rattle.model_catalog.specs.Exchange.{contents, exchanged, standing}
-use Rattle.model_plans.specs.declared.plan.Plan.{Plan}
+use Rattle.model_plans.specs.declared.plan.EditPlan.{EditPlan}
 use Rattle.model_plans.specs.Plans.{Leads}
 
 old_objective : (old new : Objective) (o : Option Objective) → IsOldObjective new old o
@@ -17,7 +17,7 @@ old_objective old new None e = sym e
 old_objective old new (Some content) e = (refl, λ same. e.1 (sym same))
 
 -- what stood where the plan's contents are is what leads back
-pub undo_of : (model after : ModelValue) (plan : Plan) → Leads model after plan
+pub undo_of : (model after : ModelValue) (plan : EditPlan) → Leads model after plan
     → IsUndo model after (standing model (contents plan.exchange))
 undo_of model after plan h =
     subst (λ m. IsUndo model m (standing model (contents plan.exchange))) h.after (record {
@@ -31,7 +31,7 @@ undo_of model after plan h =
     })
 
 -- what a plan's exchange leaves leads back
-pub undo_left : (model target old new : ModelValue) (plan : Plan) (undo : Undo)
+pub undo_left : (model target old new : ModelValue) (plan : EditPlan) (undo : Undo)
     → Leads model target plan → old ≡ model → new ≡ exchanged plan.exchange old
     → undo ≡ standing old (contents plan.exchange) → IsUndo model new undo
 undo_left model target old new plan undo h same after left =

@@ -13,7 +13,7 @@ ghost use Rattle.model_refusals.specs.Accepted.{IsGrouped};
 ghost use Rattle.model_plans.specs.Plans.{IsChange, Leads, gone};
 
 use crate::made_lists::only;
-use crate::plan::Plan;
+use crate::plan::EditPlan;
 use aff_core::{Address, Aff, Root, VecAff, has_address, without_address};
 use lists::Duplicate;
 use model_catalog::{Catalog, NameChange};
@@ -26,7 +26,11 @@ use user_model::{Group, GroupVar, GroupVars, Objective, Row, Rows, UserFunc};
 
 /// The model without a variable. It goes once over the rows, and copies those that mention it, the
 /// variable's group, and the objective where it mentions it.
-pub(crate) fn delete(alloc: Global, model: &Catalog, var: &GroupedVariable) -> Result<Plan, Memory>
+pub(crate) fn delete(
+    alloc: Global,
+    model: &Catalog,
+    var: &GroupedVariable,
+) -> Result<EditPlan, Memory>
     requires consistent { IsConsistent model.now.model }
     requires var { IsGrouped model.now.model var.now }
     ensures { IfOk result (Leads model.now.model
@@ -38,7 +42,7 @@ pub(crate) fn delete(alloc: Global, model: &Catalog, var: &GroupedVariable) -> R
         content: group_without(alloc, var.group, var.number)?,
     };
     let listed = only(alloc, NameChange::new(var.number, None))?;
-    let mut plan = Plan::of_group_change(alloc, change, listed, model.next())?;
+    let mut plan = EditPlan::of_group_change(alloc, change, listed, model.next())?;
     plan.exchange.rows = rows_without(alloc, model.rows(), &at)?;
     plan.names.rows = gone_rows(alloc, &plan.exchange.rows)?;
     plan.exchange.objective = objective_without(model.objective(), &at)?;

@@ -7,7 +7,7 @@ ghost use Rattle.model_refusals.specs.Accepted.{IsGrouped};
 ghost use Rattle.model_plans.specs.Plans.{Accepts, Leads, listed_variables};
 
 use crate::made_lists::only;
-use crate::plan::Plan;
+use crate::plan::EditPlan;
 use lists::Duplicate;
 use model_catalog::{Catalog, NameChange};
 use model_refusals::GroupedVariable;
@@ -18,7 +18,12 @@ use std::alloc::Global;
 use user_model::{Group, GroupVar, GroupVars, NextNumbers};
 
 /// A new group. Each name is copied into the group and into the listing.
-pub(crate) fn add(alloc: Global, model: &Catalog, names: &Names, set: &Set) -> Result<Plan, Memory>
+pub(crate) fn add(
+    alloc: Global,
+    model: &Catalog,
+    names: &Names,
+    set: &Set,
+) -> Result<EditPlan, Memory>
     requires { Accepts model.now.model (AddGroup names.now set.now) }
     ensures { IfOk result (Leads model.now.model
         (edited model.now.model (AddGroup names.now set.now))) }
@@ -36,7 +41,7 @@ pub(crate) fn add(alloc: Global, model: &Catalog, names: &Names, set: &Set) -> R
         vars: GroupVars::from_vec(vars),
         set: set.copy(alloc)?,
     };
-    Plan::of_group(alloc, group, listed, after)
+    EditPlan::of_group(alloc, group, listed, after)
 }
 
 // The variables with these names, numbered from the first on.
@@ -74,23 +79,27 @@ pub(crate) fn reset(
     model: &Catalog,
     var: &GroupedVariable,
     set: &Set,
-) -> Result<Plan, Memory>
+) -> Result<EditPlan, Memory>
     requires consistent { IsConsistent model.now.model }
     requires var { IsGrouped model.now.model var.now }
     ensures { IfOk result (Leads model.now.model
         (edited model.now.model (Reset var.now.name.now set.now))) }
 {
     if var.group.set == *set {
-        return Ok(Plan::unchanged(alloc, model.next()));
+        return Ok(EditPlan::unchanged(alloc, model.next()));
     }
     let mut group = var.group.copy(alloc)?;
     group.set = set.copy(alloc)?;
-    Plan::of_group(alloc, group, Vec::new(alloc), model.next())
+    EditPlan::of_group(alloc, group, Vec::new(alloc), model.next())
 }
 
 /// A group of one variable becomes free. It copies the group, or nothing where it is free.
 #[tactic(auto, unfolding(user_model::specs::Edited::edited))]
-pub(crate) fn free(alloc: Global, model: &Catalog, var: &GroupedVariable) -> Result<Plan, Memory>
+pub(crate) fn free(
+    alloc: Global,
+    model: &Catalog,
+    var: &GroupedVariable,
+) -> Result<EditPlan, Memory>
     requires consistent { IsConsistent model.now.model }
     requires var { IsGrouped model.now.model var.now }
     ensures { IfOk result (Leads model.now.model
@@ -105,7 +114,7 @@ pub(crate) fn rename(
     model: &Catalog,
     var: &GroupedVariable,
     new: &Name,
-) -> Result<Plan, Memory>
+) -> Result<EditPlan, Memory>
     requires accepts { Accepts model.now.model (RenameVariable var.now.name.now new.now) }
     requires var { IsGrouped model.now.model var.now }
     ensures { IfOk result (Leads model.now.model
@@ -119,7 +128,7 @@ pub(crate) fn rename(
         set: group.set.copy(alloc)?,
     };
     let listed = only(alloc, NameChange::new(var.number, Some(new.copy()?)))?;
-    Plan::of_group(alloc, group, listed, model.next())
+    EditPlan::of_group(alloc, group, listed, model.next())
 }
 
 // The variables, of which the one with the number has the new name.

@@ -10,4 +10,4 @@ mod parts;
 mod plan;
 mod rows;
 
-pub use plan::{Plan, planned};
+pub use plan::{EditPlan, planned};

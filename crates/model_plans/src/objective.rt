@@ -9,7 +9,7 @@ ghost use Rattle.model_plans.specs.Plans.{Accepts, IsPart, Leads, objective_edit
 
 use crate::located::{address_named, affine};
 use crate::parts::{Part, replaced};
-use crate::plan::Plan;
+use crate::plan::EditPlan;
 use aff_core::Aff;
 use model_catalog::Catalog;
 use ratio_core::{Memory, Ratio};
@@ -23,7 +23,7 @@ pub(crate) fn set(
     model: &Catalog,
     sense: Sense,
     func: &NamedFunc,
-) -> Result<Plan, Memory>
+) -> Result<EditPlan, Memory>
     requires { Accepts model.now.model (edit.Objective sense func.now) }
     ensures { IfOk result (Leads model.now.model
         (edited model.now.model (edit.Objective sense func.now))) }
@@ -57,19 +57,19 @@ fn objective_of(
 
 /// No objective. Nothing is copied.
 #[tactic(auto, unfolding(user_model::specs::Edited::edited))]
-pub(crate) fn feasibility(alloc: Global, model: &Catalog) -> Plan
+pub(crate) fn feasibility(alloc: Global, model: &Catalog) -> EditPlan
     ensures { Leads model.now.model (edited model.now.model edit.Feasibility) result }
 {
     with_objective(alloc, model, Objective::Feasibility)
 }
 
-fn with_objective(alloc: Global, model: &Catalog, objective: Objective) -> Plan
+fn with_objective(alloc: Global, model: &Catalog, objective: Objective) -> EditPlan
     ensures { Leads model.now.model (record model.now.model { objective = objective }) result }
 {
     if same_objective(model.objective(), &objective) {
-        return Plan::unchanged(alloc, model.next());
+        return EditPlan::unchanged(alloc, model.next());
     }
-    Plan::of_objective(alloc, Some(objective), model.next())
+    EditPlan::of_objective(alloc, Some(objective), model.next())
 }
 
 // Whether two objectives are the same.
@@ -97,7 +97,7 @@ pub(crate) fn affine_part(
     func: &Aff,
     part: &Part,
     value: Ratio,
-) -> Result<Plan, Memory>
+) -> Result<EditPlan, Memory>
     requires objective { model.now.model.objective ≡ objective.Affine sense func.now }
     requires part { IsPart model.now.model part.now }
     ensures { IfOk result (Leads model.now.model
@@ -114,7 +114,7 @@ fn with_part_of(
     func: &Aff,
     part: &Part,
     value: Ratio,
-) -> Result<Plan, Memory>
+) -> Result<EditPlan, Memory>
     requires { model.now.model.objective ≡ objective.Affine sense func.now }
     ensures { IfOk result (Leads model.now.model
         (record model.now.model {
@@ -123,5 +123,5 @@ fn with_part_of(
         })) }
 {
     let objective = replaced(func, part, value)?.map(|func| Objective::Affine { sense, func });
-    Ok(Plan::of_objective(alloc, objective, model.next()))
+    Ok(EditPlan::of_objective(alloc, objective, model.next()))
 }

@@ -19,17 +19,17 @@ use user_model::{Group, NextNumbers, Objective, Row};
 /// What is to stand in the model, each content other than what stands there, and the names that
 /// change.
 #[derive(Drop)]
-pub struct Plan {
+pub struct EditPlan {
     pub exchange: Exchange,
     pub names: NameChanges,
 }
 
-impl Plan {
+impl EditPlan {
     /// Nothing changes.
-    pub(crate) fn unchanged(alloc: Global, next: NextNumbers) -> Plan
+    pub(crate) fn unchanged(alloc: Global, next: NextNumbers) -> EditPlan
         ensures { HasParts result [] [] None next [] [] }
     {
-        Plan::of_objective(alloc, None, next)
+        EditPlan::of_objective(alloc, None, next)
     }
 
     /// Nothing changes but the objective, where one is given.
@@ -37,10 +37,10 @@ impl Plan {
         alloc: Global,
         objective: Option<Objective>,
         next: NextNumbers,
-    ) -> Plan
+    ) -> EditPlan
         ensures { HasParts result [] [] objective next [] [] }
     {
-        Plan {
+        EditPlan {
             exchange: Exchange {
                 groups: Vec::new(alloc),
                 rows: Vec::new(alloc),
@@ -61,7 +61,7 @@ impl Plan {
         row: Row,
         name: Option<NameChange>,
         next: NextNumbers,
-    ) -> Result<Plan, Memory>
+    ) -> Result<EditPlan, Memory>
         ensures { IfOk result (λ plan. HasParts plan [] (set_to row_number row ∷ []) None next []
             (option_to_list name)) }
     {
@@ -69,7 +69,7 @@ impl Plan {
             number: row.id,
             content: Some(row),
         };
-        Plan::of_row_change(alloc, change, name, next)
+        EditPlan::of_row_change(alloc, change, name, next)
     }
 
     /// One row changes, and its name, where one is listed.
@@ -78,11 +78,11 @@ impl Plan {
         change: Change<Row>,
         name: Option<NameChange>,
         next: NextNumbers,
-    ) -> Result<Plan, Memory>
+    ) -> Result<EditPlan, Memory>
         ensures { IfOk result (λ plan. HasParts plan [] (change ∷ []) None next []
             (option_to_list name)) }
     {
-        let mut plan = Plan::unchanged(alloc, next);
+        let mut plan = EditPlan::unchanged(alloc, next);
         plan.exchange.rows = only(alloc, change)?;
         if let Some(listed) = name {
             plan.names.rows = only(alloc, listed)?;
@@ -96,7 +96,7 @@ impl Plan {
         group: Group,
         variables: Vec<NameChange>,
         next: NextNumbers,
-    ) -> Result<Plan, Memory>
+    ) -> Result<EditPlan, Memory>
         ensures { IfOk result (λ plan. HasParts plan
             (set_to group_number group ∷ []) [] None next variables.items []
             × (plan.names.group ≡ group.id)) }
@@ -105,7 +105,7 @@ impl Plan {
             number: group.id,
             content: Some(group),
         };
-        Plan::of_group_change(alloc, change, variables, next)
+        EditPlan::of_group_change(alloc, change, variables, next)
     }
 
     /// One group changes, and the names of its variables that are listed.
@@ -114,11 +114,11 @@ impl Plan {
         change: Change<Group>,
         variables: Vec<NameChange>,
         next: NextNumbers,
-    ) -> Result<Plan, Memory>
+    ) -> Result<EditPlan, Memory>
         ensures { IfOk result (λ plan. HasParts plan (change ∷ []) [] None next variables.items []
             × (plan.names.group ≡ change.number)) }
     {
-        let mut plan = Plan::unchanged(alloc, next);
+        let mut plan = EditPlan::unchanged(alloc, next);
         plan.names.group = change.number;
         plan.names.variables = variables;
         plan.exchange.groups = only(alloc, change)?;
@@ -130,7 +130,7 @@ impl Plan {
 /// group or the objective that changes is copied, and the deletion of a variable goes once over the
 /// rows. What stays as it is, is in no plan. What the edit names was found; the variables of a new
 /// row or objective are looked up as its function is made.
-pub fn planned(alloc: Global, model: &Catalog, edit: &AcceptedEdit) -> Result<Plan, Memory>
+pub fn planned(alloc: Global, model: &Catalog, edit: &AcceptedEdit) -> Result<EditPlan, Memory>
     requires accepts { Accepts model.now.model (edit_of edit.now) }
     requires found { IsFound model.now.model edit.now }
     ensures { IfOk result (Leads model.now.model

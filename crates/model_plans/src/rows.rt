@@ -11,7 +11,7 @@ ghost use Rattle.model_plans.specs.Plans.{Accepts, HasParts, IsPart, Leads, outp
 use crate::located::located;
 use crate::made_lists::with_component;
 use crate::parts::{Part, replaced};
-use crate::plan::Plan;
+use crate::plan::EditPlan;
 use aff_core::Aff;
 use lists::Duplicate;
 use model_catalog::{Catalog, NameChange};
@@ -31,7 +31,7 @@ pub(crate) fn add(
     name: &Name,
     func: &NamedFunc,
     set: &Set,
-) -> Result<Plan, Memory>
+) -> Result<EditPlan, Memory>
     requires { Accepts model.now.model (AddRow name.now func.now set.now) }
     ensures { IfOk result (Leads model.now.model
         (edited model.now.model (AddRow name.now func.now set.now))) }
@@ -49,7 +49,7 @@ pub(crate) fn add(
         variable: next.variable,
         row: next.row + 1,
     };
-    Plan::of_row(alloc, row, Some(listed), after)
+    EditPlan::of_row(alloc, row, Some(listed), after)
 }
 
 /// Another coefficient or constant of a scalar affine row. It copies the row, or nothing where the
@@ -61,7 +61,7 @@ pub(crate) fn scalar_part(
     func: &Aff,
     part: &Part,
     value: Ratio,
-) -> Result<Plan, Memory>
+) -> Result<EditPlan, Memory>
     requires consistent { IsConsistent model.now.model }
     requires row { IsRow model.now.model row.now }
     requires affine { row.now.row.now.func ≡ Affine func.now }
@@ -71,7 +71,7 @@ pub(crate) fn scalar_part(
 {
     match replaced(func, part, value)? {
         Some(func) => with_function(alloc, model, row.row, UserFunc::Affine(func)),
-        None => Ok(Plan::unchanged(alloc, model.next())),
+        None => Ok(EditPlan::unchanged(alloc, model.next())),
     }
 }
 
@@ -85,7 +85,7 @@ pub(crate) fn vector_part(
     component: &Component,
     part: &Part,
     value: Ratio,
-) -> Result<Plan, Memory>
+) -> Result<EditPlan, Memory>
     requires consistent { IsConsistent model.now.model }
     requires row { IsRow model.now.model row.now }
     requires vector { row.now.row.now.func ≡ AffineVec component.now.funcs.now }
@@ -100,12 +100,17 @@ pub(crate) fn vector_part(
             let funcs = with_component(alloc, funcs, component.place, func)?;
             with_function(alloc, model, row.row, UserFunc::AffineVec(funcs))
         }
-        None => Ok(Plan::unchanged(alloc, model.next())),
+        None => Ok(EditPlan::unchanged(alloc, model.next())),
     }
 }
 
 // A row with another function.
-fn with_function(alloc: Global, model: &Catalog, row: &Row, func: UserFunc) -> Result<Plan, Memory>
+fn with_function(
+    alloc: Global,
+    model: &Catalog,
+    row: &Row,
+    func: UserFunc,
+) -> Result<EditPlan, Memory>
     ensures { IfOk result (λ plan. HasParts plan []
         (set_to row_number (record row.now { func = func }) ∷ []) None model.now.model.next [] []) }
 {
@@ -115,11 +120,16 @@ fn with_function(alloc: Global, model: &Catalog, row: &Row, func: UserFunc) -> R
         func,
         set: row.set.copy(alloc)?,
     };
-    Plan::of_row(alloc, row, None, model.next())
+    EditPlan::of_row(alloc, row, None, model.next())
 }
 
 /// Another set of a row. It copies the row, or nothing where the set stays.
-pub(crate) fn set(alloc: Global, model: &Catalog, row: &NamedRow, set: &Set) -> Result<Plan, Memory>
+pub(crate) fn set(
+    alloc: Global,
+    model: &Catalog,
+    row: &NamedRow,
+    set: &Set,
+) -> Result<EditPlan, Memory>
     requires consistent { IsConsistent model.now.model }
     requires row { IsRow model.now.model row.now }
     ensures { IfOk result (Leads model.now.model
@@ -127,7 +137,7 @@ pub(crate) fn set(alloc: Global, model: &Catalog, row: &NamedRow, set: &Set) -> 
 {
     let row = row.row;
     if row.set == *set {
-        return Ok(Plan::unchanged(alloc, model.next()));
+        return Ok(EditPlan::unchanged(alloc, model.next()));
     }
     let row = Row {
         id: row.id,
@@ -135,11 +145,11 @@ pub(crate) fn set(alloc: Global, model: &Catalog, row: &NamedRow, set: &Set) -> 
         func: row.func.copy(alloc)?,
         set: set.copy(alloc)?,
     };
-    Plan::of_row(alloc, row, None, model.next())
+    EditPlan::of_row(alloc, row, None, model.next())
 }
 
 /// A row goes. Nothing is copied.
-pub(crate) fn delete(alloc: Global, model: &Catalog, row: &NamedRow) -> Result<Plan, Memory>
+pub(crate) fn delete(alloc: Global, model: &Catalog, row: &NamedRow) -> Result<EditPlan, Memory>
     requires consistent { IsConsistent model.now.model }
     requires row { IsRow model.now.model row.now }
     ensures { IfOk result (Leads model.now.model
@@ -150,7 +160,7 @@ pub(crate) fn delete(alloc: Global, model: &Catalog, row: &NamedRow) -> Result<P
         number,
         content: None,
     };
-    Plan::of_row_change(
+    EditPlan::of_row_change(
         alloc,
         change,
         Some(NameChange::new(number, None)),
@@ -164,7 +174,7 @@ pub(crate) fn rename(
     model: &Catalog,
     row: &NamedRow,
     new: &Name,
-) -> Result<Plan, Memory>
+) -> Result<EditPlan, Memory>
     requires accepts { Accepts model.now.model (RenameRow row.now.name.now new.now) }
     requires row { IsRow model.now.model row.now }
     ensures { IfOk result (Leads model.now.model
@@ -178,5 +188,5 @@ pub(crate) fn rename(
         func: row.func.copy(alloc)?,
         set: row.set.copy(alloc)?,
     };
-    Plan::of_row(alloc, row, Some(listed), model.next())
+    EditPlan::of_row(alloc, row, Some(listed), model.next())
 }

@@ -19,7 +19,7 @@ use Rattle.model_catalog.specs.declared.names.NameChange.{NameChange}
 use Rattle.model_store.specs.declared.parked.Parked.{Parked}
 use Rattle.model_store.specs.declared.parking.NameCounts.{NameCounts}
 use Rattle.model_store.specs.declared.parking.Reserved.{Reserved}
-use Rattle.model_plans.specs.declared.plan.Plan.{Plan}
+use Rattle.model_plans.specs.declared.plan.EditPlan.{EditPlan}
 use Rattle.model_catalog.specs.Catalog.{Catalog, Room}
 use Rattle.model_catalog.specs.Exchange.{HasRoomFor, IsExchange, KeepsRoom, contents, exchanged, standing}
 use Rattle.model_catalog.specs.Names.{put_count}
@@ -44,7 +44,7 @@ more_lengths parked old new groups rows vars h =
 
 -- ---- one entry more
 
-module _ (plan : Plan) (names : NameCounts) (reserved : Reserved) (old new : Catalog)
+module _ (plan : EditPlan) (names : NameCounts) (reserved : Reserved) (old new : Catalog)
     (with : Exchange) (parked : List Parked) (entry : Parked)
     (h : IsReserved plan names reserved old) where
   pub parked_more : IsParked parked names old.room → KeepsRoom plan.names old.room new.room
@@ -88,7 +88,7 @@ module _ {X : Type 0} (number_of : X → ℕ) (cs us : List (Change X)) (xs : Li
       let more = added-le number_of cs xs in omega arith
 
 -- the entry is that of the undo
-pub entry_of : (plan : Plan) (names : NameCounts) (reserved : Reserved) (old new : Catalog)
+pub entry_of : (plan : EditPlan) (names : NameCounts) (reserved : Reserved) (old new : Catalog)
     (entry : Parked) (undo : Undo) → IsReserved plan names reserved old → IsConsistent old.model
     → IsExchange plan.exchange → new.model ≡ exchanged plan.exchange old.model
     → undo ≡ standing old.model (contents plan.exchange) → before new.model undo ≡ old.model

@@ -4,7 +4,7 @@ use Rattle.user_model.specs.Model.{variables}
 use Rattle.model_store.specs.declared.parked.Parked.{Parked}
 use Rattle.model_store.specs.declared.parking.NameCounts.{NameCounts}
 use Rattle.model_store.specs.declared.parking.Reserved.{Reserved}
-use Rattle.model_plans.specs.declared.plan.Plan.{Plan}
+use Rattle.model_plans.specs.declared.plan.EditPlan.{EditPlan}
 use Rattle.model_catalog.specs.Catalog.{Catalog, Room}
 
 -- how many names of variables, and of rows, an entry puts back at most
@@ -33,7 +33,7 @@ pub record IsParked (parked : List Parked) (names : NameCounts) (room : Room) : 
   pub rows : names.rows ≤ room.row_names
 
 -- there is room for the plan, and for an entry of its undo
-pub record IsReserved (plan : Plan) (names : NameCounts) (reserved : Reserved)
+pub record IsReserved (plan : EditPlan) (names : NameCounts) (reserved : Reserved)
     (catalog : Catalog) : Type 0 where
   pub groups : reserved.groups ≡ length catalog.model.groups + length plan.exchange.groups.items
   pub rows : reserved.rows ≡ length catalog.model.rows + length plan.exchange.rows.items

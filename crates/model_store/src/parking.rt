@@ -11,7 +11,7 @@ ghost use Rattle.model_store.specs.Store.{HasParked};
 
 use crate::Parked;
 use model_catalog::{Catalog, More, NameChange};
-use model_plans::Plan;
+use model_plans::EditPlan;
 use ratio_core::Memory;
 use user_model::Undo;
 
@@ -37,7 +37,7 @@ pub(crate) struct Reserved {
 pub(crate) fn reserve(
     catalog: &mut Catalog,
     parked: &mut Vec<Parked>,
-    plan: &Plan,
+    plan: &EditPlan,
     names: NameCounts,
 ) -> Result<Reserved, Memory>
     ensures model { catalog.new.model ≡ catalog.old.model }
@@ -61,7 +61,7 @@ fn sweep_settled(catalog: &mut Catalog, parked: &[Parked])
 fn make_room(
     catalog: &mut Catalog,
     parked: &mut Vec<Parked>,
-    plan: &Plan,
+    plan: &EditPlan,
     names: NameCounts,
 ) -> Result<Reserved, Memory>
     ensures model { catalog.new.model ≡ catalog.old.model }
@@ -103,7 +103,7 @@ fn total(one: usize, other: usize) -> Result<usize, Memory>
 pub(crate) fn park(
     catalog: &mut Catalog,
     parked: &mut Vec<Parked>,
-    plan: Plan,
+    plan: EditPlan,
     names: NameCounts,
     reserved: Reserved,
 ) -> Undo

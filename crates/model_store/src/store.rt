@@ -17,7 +17,7 @@ use crate::Parked;
 use crate::parking::{NameCounts, park, reserve, take_last};
 use aff_core::{Address, Root};
 use model_catalog::{Catalog, Exchange, variable_at};
-use model_plans::{Plan, planned};
+use model_plans::{EditPlan, planned};
 use model_refusals::accepted;
 use name_index::Name;
 use std::alloc::Global;
@@ -179,7 +179,7 @@ impl UserModel {
 }
 
 // What an edit is to make of the model, or why it isn't made.
-fn plan_of(alloc: Global, catalog: &Catalog, edit: &Edit) -> Result<Plan, ApplyFault>
+fn plan_of(alloc: Global, catalog: &Catalog, edit: &Edit) -> Result<EditPlan, ApplyFault>
     ensures ok { IfOk result (λ _. refusals.first_refusal catalog.now.model edit.now ≡ None) }
     ensures leads { IfOk result (Leads catalog.now.model (edited catalog.now.model edit.now)) }
     ensures refused { IfErr result (λ fault. refusal_of fault

@@ -1,7 +1,7 @@
 -- How `check` runs, from what became of its verdict.
 use Rattle.std.proofs.Common.{◌≡◌, ◌≢◌, ℕ, ◌⊎◌, Bool, true, false, List, [], sym, ◌∙◌, subst, inl, inr, Option, Some}
 use Rattle.std.specs.Prelude.{if◌then◌else◌, Ok, Err}
-use Rattle.command_words.specs.declared.words.Command.TheVariants.{Check}
+use Rattle.command_words.specs.declared.words.Invocation.TheVariants.{Check}
 use Rattle.certificate_check.specs.Verdict.{AsksFiles, IsVerdict}
 use Rattle.certificate_check.specs.VerdictLaws.{fails_by, too_long_by}
 use Rattle.io_face.specs.Fault.{HasFaulted}

@@ -3,8 +3,8 @@ use Rattle.std.proofs.Common.{◌≡◌, ℕ, ◌<◌, ◌≤◌, ◌⊎◌, Lis
 use Rattle.std.specs.Prelude.{All, Any, IsTrue}
 use Rattle.std.specs.Str.Lines.{lines}
 use Rattle.std.proofs.lemmas.List.Elements.{All-get_or}
-use Rattle.command_words.specs.declared.words.Command.{Command}
-use Rattle.command_words.specs.declared.words.Command.TheVariants.{Generate, Plan, Run}
+use Rattle.command_words.specs.declared.words.Invocation.{Invocation}
+use Rattle.command_words.specs.declared.words.Invocation.TheVariants.{Generate, Plan, Run}
 use Rattle.edit_engine.specs.Lines.{heard}
 use Rattle.io_face.specs.Fault.{HasFaulted}
 use Rattle.io_face.specs.Told.{Told}
@@ -39,7 +39,7 @@ within bytes limits (inr long) = elim limits.whole [
 
 module _ (shelf : Told) (reads reads' fetches fetches' : ℕ) where
   -- the shelf counted no fault, or is sure of what was asked
-  not_in_vain : (said : Option Command) (left : Option (List ℕ))
+  not_in_vain : (said : Option Invocation) (left : Option (List ℕ))
       → CanBeFetched said left shelf fetches fetches'
       → HasFaulted fetches fetches' × (IsTrue shelf.sure → AsksInVain said left shelf) → ⊥
   not_in_vain said left fetched fault = elim fetched.there [
@@ -47,7 +47,7 @@ module _ (shelf : Told) (reads reads' fetches fetches' : ℕ) where
     | inr there ↦ there.1 (fault.1 there.0)
   ]
 
-  no_read_fault : (said : Option Command) (left : Option (List ℕ))
+  no_read_fault : (said : Option Invocation) (left : Option (List ℕ))
       → CanBeRead said left reads reads' → CanBeFetched said left shelf fetches fetches'
       → HasReadFault said (HasFaulted reads reads')
       (HasFaulted fetches fetches' × (IsTrue shelf.sure → AsksInVain said left shelf)) → ⊥
@@ -61,7 +61,7 @@ module _ (shelf : Told) (reads reads' fetches fetches' : ℕ) where
   no_read_fault (Some command) left read fetched fault =
       not_in_vain (Some command) left fetched fault
 
-  no_limit : (said : Option Command) (left : Option (List ℕ))
+  no_limit : (said : Option Invocation) (left : Option (List ℕ))
       → CanBeRead said left reads reads' → CanBeFetched said left shelf fetches fetches'
       → HasTooLong said left shelf → ⊥
   no_limit None left read fetched long = absurd read
@@ -70,7 +70,7 @@ module _ (shelf : Told) (reads reads' fetches fetches' : ℕ) where
   no_limit (Some (Run setup)) (Some bytes) read fetched (inr much) = fetched.short much
   no_limit (Some command) left read fetched long = fetched.short long
 
-pub completes : (said : Option Command) (end : Status) (left left' : Option (List ℕ)) (shelf : Told)
+pub completes : (said : Option Invocation) (end : Status) (left left' : Option (List ℕ)) (shelf : Told)
     (reads reads' fetches fetches' writes writes' : ℕ) (s new : Tally)
     (wrote begun : List ℕ → Type 0)
     → Runs said end left left' shelf (HasFaulted reads reads')

@@ -2,7 +2,7 @@
 use Rattle.std.proofs.Common.{◌≡◌, ℕ, ◌≤◌, Bool, true, false, List, refl, sym, ◌∙◌, ap, subst, inl, inr, Option, IfSome, Result, Ok, Err, arith}
 use Rattle.std.specs.Prelude.{if◌then◌else◌}
 use Rattle.std.specs.Str.Lines.{lines}
-use Rattle.edit_engine.specs.Held.{Held as Session}
+use Rattle.edit_engine.specs.Held.{SessionValue as Session}
 use Rattle.edit_engine.specs.Lines.{heard, says_quit}
 use Rattle.edit_engine.specs.LinesLaws.{stops_by}
 use Rattle.edit_engine.specs.Script.{Answered, Machine, with_state}

@@ -6,7 +6,7 @@ use Rattle.std.proofs.lemmas.List.{flat_map_more}
 use Rattle.std.proofs.lemmas.List.Sums.{sum_by-append}
 use Rattle.edit_engine.specs.CountLaws.{takes_calls}
 use Rattle.edit_engine.specs.Counts.{TakesFew, count_of}
-use Rattle.edit_engine.specs.Held.{Held, machine_of, state_of}
+use Rattle.edit_engine.specs.Held.{SessionValue, machine_of, state_of}
 use Rattle.edit_engine.specs.Lines.{Prints, line_asks}
 use Rattle.edit_engine.specs.Script.{Answered, Machine, Steps}
 use Rattle.edit_engine.specs.Served.{text_of}
@@ -30,7 +30,7 @@ steps_of s new line ReadFault answered other = answered
 steps_of s new line TooLong answered other = answered
 steps_of s new line Memory answered other = absurd (other refl)
 
-pub moved : (old new : Held) (told : Told) (asked asked' : Option (List (List ℕ))) (line : List ℕ)
+pub moved : (old new : SessionValue) (told : Told) (asked asked' : Option (List (List ℕ))) (line : List ℕ)
     (answer : Answer) → Answered (machine_of old told) line answer (machine_of new told)
     → TakesFew answer old.cache.lazy new.cache.lazy
     → (answer ≢ Memory → AsksFor asked asked' (line_asks (state_of old) line))

@@ -3,10 +3,10 @@ use Rattle.std.proofs.Common.{◌≡◌, ◌≢◌, ℕ, ◌⊎◌, Bool, true, 
 use Rattle.std.specs.Prelude.{◌↔◌, All, Any, IsSome, codes, option_map, IsTrue, Err}
 use Rattle.std.specs.Str.Lines.{lines}
 use Rattle.std.proofs.lemmas.Option.{none-some}
-use Rattle.command_words.specs.declared.words.Command.{Command}
-use Rattle.command_words.specs.declared.words.Command.TheVariants.{Check, Generate, Plan, Run, Solve}
+use Rattle.command_words.specs.declared.words.Invocation.{Invocation}
+use Rattle.command_words.specs.declared.words.Invocation.TheVariants.{Check, Generate, Plan, Run, Solve}
 use Rattle.command_words.specs.declared.words.Setup.{Setup}
-use Rattle.edit_engine.specs.Held.{Held, machine_of, state_of}
+use Rattle.edit_engine.specs.Held.{SessionValue, machine_of, state_of}
 use Rattle.edit_engine.specs.Lines.{Answers, heard, is_load, next, none, says_load}
 use Rattle.edit_engine.specs.LinesLaws.{IsStopped, stops_by}
 use Rattle.cache_layer.specs.State.{with_table}
@@ -179,7 +179,7 @@ runs_script setup end left left' shelf faults faults' source sink s middle new w
     }
 
 -- the session was told the options
-pub machine_set_up : (setup : Setup) (old new : Held) (shelf : Told)
+pub machine_set_up : (setup : Setup) (old new : SessionValue) (shelf : Told)
     → state_of new ≡ with_table (state_of old) (target_table setup.target)
     → new.pivots ≡ setup.pivots
     → machine_of new shelf
@@ -188,7 +188,7 @@ machine_set_up setup old new shelf state pivots =
     ap (λ s. machine_by s new.pivots shelf) state
     ∙ ap (λ n. machine_by (with_table (state_of old) (target_table setup.target)) n shelf) pivots
 
-pub set_up_is : (setup : Setup) (old new : Held) (shelf : Told) (asked : Option (List (List ℕ)))
+pub set_up_is : (setup : Setup) (old new : SessionValue) (shelf : Told) (asked : Option (List (List ℕ)))
     → state_of new ≡ with_table (state_of old) (target_table setup.target)
     → new.pivots ≡ setup.pivots
     → new.cache.lazy.solver.leaves.calls ≡ old.cache.lazy.solver.leaves.calls
@@ -288,7 +288,7 @@ always_lines : (Q : List (List ℕ) → Type 0) (told : Option (List (List ℕ))
 always_lines Q None h = tt
 always_lines Q (Some ls) h = h ls
 
-pub always_check : (said : Option Command) (Q : List ℕ → List ℕ → Type 0)
+pub always_check : (said : Option Invocation) (Q : List ℕ → List ℕ → Type 0)
     → ((model certificate : List ℕ) → Q model certificate) → IfCheck said Q
 always_check None Q h = tt
 always_check (Some (Run setup)) Q h = tt
@@ -297,7 +297,7 @@ always_check (Some (Solve setup model)) Q h = tt
 always_check (Some (Check model certificate)) Q h = h model certificate
 always_check (Some (Generate numbers)) Q h = tt
 
-pub always_generate : (said : Option Command) (Q : Numbers → Type 0) → ((n : Numbers) → Q n)
+pub always_generate : (said : Option Invocation) (Q : Numbers → Type 0) → ((n : Numbers) → Q n)
     → IfGenerate said Q
 always_generate None Q h = tt
 always_generate (Some (Run setup)) Q h = tt
@@ -307,7 +307,7 @@ always_generate (Some (Check model certificate)) Q h = tt
 always_generate (Some (Generate numbers)) Q h = h numbers
 
 -- memory ran out before the first line, or the words are of no command
-runs_nothing : (said : Option Command) (end : Status) (left left' : Option (List ℕ)) (shelf : Told)
+runs_nothing : (said : Option Invocation) (end : Status) (left left' : Option (List ℕ)) (shelf : Told)
     (source fetch : Type 0) (s new : Tally) (old : Option (List ℕ)) → (IsEnded end → ⊥)
     → (end ≢ status.ReadFault) → (end ≢ status.WriteFault) → (end ≢ status.TooLong)
     → (end ≢ status.Memory → IsStill (start_for said s) new)
@@ -335,7 +335,7 @@ runs_nothing said end left left' shelf source fetch s new old no_end no_fault no
       at_limit = λ e. absurd (no_limit e);
     }
 
-pub runs_without_memory : (said : Option Command) (left left' : Option (List ℕ)) (shelf : Told)
+pub runs_without_memory : (said : Option Invocation) (left left' : Option (List ℕ)) (shelf : Told)
     (source fetch : Type 0) (s new : Tally) (old : Option (List ℕ))
     → Runs said status.Memory left left' shelf source fetch s new (Adds old old)
     (AddsPrefix old old)
@@ -380,7 +380,7 @@ plan_fetches_nothing end s new wrote =
 -- ---- by the words
 
 -- what holds of a command holds of the one that the words say
-pub said_runs : {said other : Option Command} {end : Status} {left left' : Option (List ℕ)}
+pub said_runs : {said other : Option Invocation} {end : Status} {left left' : Option (List ℕ)}
     {shelf : Told} {source fetch : Type 0} {s new : Tally} {wrote begun : List ℕ → Type 0}
     → other ≡ said → Runs other end left left' shelf source fetch s new wrote begun
     → Runs said end left left' shelf source fetch s new wrote begun
@@ -388,21 +388,21 @@ said_runs {said} {other} {end} {left} {left'} {shelf} {source} {fetch} {s} {new}
     runs = subst (λ which. Runs which end left left' shelf source fetch s new wrote begun) is runs
 
 -- whether the words are of a command
-pub usage_at_command : (end : Status) (command : Command) (said : Option Command)
+pub usage_at_command : (end : Status) (command : Invocation) (said : Option Invocation)
     → Some command ≡ said → end ≢ status.Usage → (end ≡ status.Usage) ↔ (said ≡ None)
 usage_at_command end command said is not_usage =
     (λ e. absurd (not_usage e), λ none. absurd (none-some command (sym none ∙ sym is)))
 
-pub usage_at_none : (said : Option Command) → None ≡ said → (status.Usage ≡ status.Usage)
+pub usage_at_none : (said : Option Invocation) → None ≡ said → (status.Usage ≡ status.Usage)
     ↔ (said ≡ None)
 usage_at_none said is = (λ _. sym is, λ _. refl)
 
-pub usage_at_memory : (said : Option Command) → IsSome said → (status.Memory ≡ status.Usage)
+pub usage_at_memory : (said : Option Invocation) → IsSome said → (status.Memory ≡ status.Usage)
     ↔ (said ≡ None)
 usage_at_memory None some = absurd (true≢false (sym some))
 usage_at_memory (Some command) some = (λ e. cc, λ none. cc)
 
-pub command_runs : {given command : Command} {end : Status} {left left' : Option (List ℕ)}
+pub command_runs : {given command : Invocation} {end : Status} {left left' : Option (List ℕ)}
     {shelf : Told} {source fetch : Type 0} {s new : Tally} {wrote begun : List ℕ → Type 0}
     → given ≡ command → Runs (Some given) end left left' shelf source fetch s new wrote begun
     → Runs (Some command) end left left' shelf source fetch s new wrote begun

@@ -23,7 +23,7 @@ use Rattle.moi_run.proofs.Written.{answers_nothing, same_lines, whole_more}
 use Rattle.line_reader.specs.Limits.{line_limit, input_limit}
 use Rattle.line_reader.specs.Lines.{ended_lines, stripped_parts, is_short}
 use Rattle.line_reader.specs.LinesLaws.{lines-ended, lines-unended, ended_lines-ended, ended_lines-unended, stripped_parts-ended, stripped_parts-unended}
-use Rattle.line_reader.specs.Reading.{Held, allowance, rest_of, GivesLine, GivesLastLine, GivesNothing, LosesPart, IsTooLong, TakesAtMost}
+use Rattle.line_reader.specs.Reading.{Buffered, allowance, rest_of, GivesLine, GivesLastLine, GivesNothing, LosesPart, IsTooLong, TakesAtMost}
 
 -- a cut behind a front that it leaves whole
 take_over : (front rest : List ℕ) (n : ℕ) → length front ≤ n
@@ -40,7 +40,7 @@ BeginsBy read given done = (more : List ℕ) → read (given ++ more) ≡ done +
 
 -- of all bytes these were given first: they are these lines, each with its newline and none too
 -- long
-pub record GivenAs (all : Option (List ℕ)) (reader : Held) (left : Option (List ℕ))
+pub record GivenAs (all : Option (List ℕ)) (reader : Buffered) (left : Option (List ℕ))
     (given : List ℕ) (done : List (List ℕ)) : Type 0 where
   pub kept : all ≡ prepend_known given (rest_of reader left)
   pub counted : input_limit ≡ length given + allowance reader
@@ -49,7 +49,7 @@ pub record GivenAs (all : Option (List ℕ)) (reader : Held) (left : Option (Lis
   pub parts_on : BeginsBy stripped_parts given done
   pub short : All (λ line. length line ≤ line_limit) done
 
-pub given_more : {all left left' : Option (List ℕ)} {reader reader' : Held} {given : List ℕ}
+pub given_more : {all left left' : Option (List ℕ)} {reader reader' : Buffered} {given : List ℕ}
     {done : List (List ℕ)} {line : List ℕ} → GivenAs all reader left given done
     → (gives : GivesLine reader left reader' left' line)
     → GivenAs all reader' left' (given ++ (gives.raw ++ 10 ∷ [])) (done ++ line ∷ [])
@@ -77,7 +77,7 @@ given_more {all} {left} {left'} {reader} {reader'} {given} {done} {line} front g
 
 -- the lines done are some of the input's, none is too long or ends the run, and their answers are
 -- written
-pub record Standing (all : Option (List ℕ)) (start : Tally) (reader : Held)
+pub record Standing (all : Option (List ℕ)) (start : Tally) (reader : Buffered)
     (left : Option (List ℕ)) (s : Tally) (refused : Bool)
     (old new : Option (List ℕ)) : Type 0 where
   pub given : List ℕ
@@ -86,7 +86,7 @@ pub record Standing (all : Option (List ℕ)) (start : Tally) (reader : Held)
   pub no_quit : list_any says_quit done ≡ false
   pub answered : WritesAnswers start done refused s (Adds old new)
 
-pub standing_at_start : (start : Tally) (reader : Held) (left old : Option (List ℕ))
+pub standing_at_start : (start : Tally) (reader : Buffered) (left old : Option (List ℕ))
     → reader.held ≡ [] → reader.room ≡ input_limit
     → Standing left start reader left start false old old
 standing_at_start start reader left old none whole = record {
@@ -115,7 +115,7 @@ told_left Q all (Some rest) front is h = subst (λ o. IfSome o Q) (sym is) (h re
 -- ---- the work ends
 
 -- at the end of the input, of which this text was left
-ends_behind : {all left : Option (List ℕ)} {start s : Tally} {reader : Held} {given : List ℕ}
+ends_behind : {all left : Option (List ℕ)} {start s : Tally} {reader : Buffered} {given : List ℕ}
     {done total : List (List ℕ)} {refused : Bool} {wrote : List ℕ → Type 0}
     (left' : Option (List ℕ)) (text : List ℕ) → GivenAs all reader left given done
     → list_any says_quit done ≡ false → rest_of reader left ≡ prepend_known text left'
@@ -150,7 +150,7 @@ ends_behind {all} {left} {start} {s} {reader} {given} {done} {total} {refused} {
     })
 
 -- after whole lines
-pub ends_at_end : (all : Option (List ℕ)) (start : Tally) (reader : Held)
+pub ends_at_end : (all : Option (List ℕ)) (start : Tally) (reader : Buffered)
     (left left' : Option (List ℕ)) (s : Tally) (refused : Bool) (old new : Option (List ℕ))
     → Standing all start reader left s refused old new → GivesNothing reader left left'
     → IfSome all (λ bytes. Ends bytes left' refused start s (Adds old new))
@@ -160,7 +160,7 @@ ends_at_end all start reader left left' s refused old new standing gives =
     standing.answered
 
 -- after a last line that no newline ends
-pub ends_at_last : (all : Option (List ℕ)) (start : Tally) (reader : Held)
+pub ends_at_last : (all : Option (List ℕ)) (start : Tally) (reader : Buffered)
     (left left' : Option (List ℕ)) (s s' : Tally) (refused was : Bool)
     (old mid new : Option (List ℕ)) (line seen : List ℕ)
     → GivesLastLine reader left left' line → seen ≡ line
@@ -191,7 +191,7 @@ has_quit_behind given done line more ended_on quit =
     or_true false = refl
 
 -- at the line that ends the run
-pub ends_at_quit : (all : Option (List ℕ)) (start : Tally) (reader reader' : Held)
+pub ends_at_quit : (all : Option (List ℕ)) (start : Tally) (reader reader' : Buffered)
     (left left' : Option (List ℕ)) (s s' : Tally) (refused was : Bool)
     (old mid new : Option (List ℕ)) (line : List ℕ)
     → Standing all start reader left s refused old mid → GivesLine reader left reader' left' line
@@ -228,7 +228,7 @@ ends_at_quit all start reader reader' left left' s s' refused was old mid new li
 -- ---- the work stops
 
 -- reading failed
-pub stops_at_fault : (all : Option (List ℕ)) (start : Tally) (reader : Held)
+pub stops_at_fault : (all : Option (List ℕ)) (start : Tally) (reader : Buffered)
     (left left' : Option (List ℕ)) (s : Tally) (refused : Bool) (old new : Option (List ℕ))
     → Standing all start reader left s refused old new → LosesPart reader left left'
     → IfSome all (λ bytes. AnswersTaken bytes left' start s (Adds old new))
@@ -275,7 +275,7 @@ take_while_short (line ∷ done) more short =
     (All-tail (λ l. length l ≤ line_limit) line done short))
 
 -- a line or the input is too long
-pub stops_at_limit : (all : Option (List ℕ)) (start : Tally) (reader : Held)
+pub stops_at_limit : (all : Option (List ℕ)) (start : Tally) (reader : Buffered)
     (left : Option (List ℕ)) (s : Tally) (refused : Bool) (old new : Option (List ℕ))
     → Standing all start reader left s refused old new
     → IfSome (rest_of reader left) (IsTooLong (allowance reader))
@@ -322,7 +322,7 @@ stops_at_limit all start reader left s refused old new standing too_long =
 -- ---- however it ends
 
 -- at most one byte past the limit of the input was taken
-pub taken_in_all : (all : Option (List ℕ)) (start : Tally) (reader : Held)
+pub taken_in_all : (all : Option (List ℕ)) (start : Tally) (reader : Buffered)
     (left left' : Option (List ℕ)) (s : Tally) (refused : Bool) (old new : Option (List ℕ))
     → Standing all start reader left s refused old new → TakesAtMost (reader.room + 1) left left'
     → TakesAtMost (input_limit + 1) all left'

@@ -4,8 +4,8 @@ use Rattle.std.specs.Prelude.{map, nat_lt, if◌then◌else◌}
 use Rattle.std.specs.List.{range_with_len}
 use Rattle.std.proofs.lemmas.Bool.{cases_lt, cond-false, cond-true}
 use Rattle.std.proofs.lemmas.List.FromFn.{map-range_with_len_more}
-use Rattle.command_words.specs.declared.words.Command.{Command}
-use Rattle.command_words.specs.declared.words.Command.TheVariants.{Generate}
+use Rattle.command_words.specs.declared.words.Invocation.{Invocation}
+use Rattle.command_words.specs.declared.words.Invocation.TheVariants.{Generate}
 use Rattle.edit_engine.specs.Lines.{Prints, accepted, is_load, quit, refusal, says_load, silent}
 use Rattle.edit_engine.specs.LinesLaws.{stops_by}
 use Rattle.edit_engine.specs.Script.{Answered, Machine, Steps}
@@ -395,11 +395,11 @@ module _ (n : Numbers) (s new : Machine) (old written : Option (List ℕ)) where
   )
 
 -- what holds of a command holds of the one that the words say
-pub of_command : (P : Option Command → Type 0) (said other : Option Command) → other ≡ said
+pub of_command : (P : Option Invocation → Type 0) (said other : Option Invocation) → other ≡ said
     → P other → P said
 of_command P said other is = subst P is
 
-pub nothing_begun : (said : Option Command) (s new : Machine) (old : Option (List ℕ))
+pub nothing_begun : (said : Option Invocation) (s new : Machine) (old : Option (List ℕ))
     → BeginsSummary said s new (AddsPrefix old old)
 nothing_begun said s new old =
     always_generate said _ (λ n. inl (begun_whole old old [] (Adds-empty old)))

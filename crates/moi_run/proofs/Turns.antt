@@ -19,7 +19,7 @@ use Rattle.moi_run.proofs.Standing.{GivenAs, Standing, ends_at_last, ends_at_qui
 use Rattle.moi_run.proofs.Written.{whole_more}
 use Rattle.report_core.specs.declared.answer.Answer.{Answer}
 use Rattle.line_reader.specs.LinesLaws.{lines-unended}
-use Rattle.line_reader.specs.Reading.{Held, rest_of, GivesLine, GivesLastLine}
+use Rattle.line_reader.specs.Reading.{Buffered, rest_of, GivesLine, GivesLastLine}
 use Rattle.line_reader.specs.ReadingLaws.{told_weaker}
 use Rattle.line_reader.specs.declared.line_reader.Next.{Next}
 use Rattle.line_reader.specs.declared.line_reader.Next.TheVariants as came
@@ -27,7 +27,7 @@ use Rattle.line_reader.specs.declared.line_reader.ReadStop.{ReadStop}
 
 -- ---- between two lines
 
-pub begins_so_far : (all : Option (List ℕ)) (start : Tally) (reader : Held)
+pub begins_so_far : (all : Option (List ℕ)) (start : Tally) (reader : Buffered)
     (left : Option (List ℕ)) (s new : Tally) (refused : Bool) (old written : Option (List ℕ))
     (end : Status)
     → Standing all start reader left s refused old written → (end ≢ Memory → IsStill s new)
@@ -43,7 +43,7 @@ begins_so_far all start reader left s new refused old written end standing stand
 -- ---- at a line
 
 -- what a read that gave a line says, and that the line is the one that was answered
-pub record Gives (next : Next) (reader : Held) (left : Option (List ℕ)) (reader' : Held)
+pub record Gives (next : Next) (reader : Buffered) (left : Option (List ℕ)) (reader' : Buffered)
     (left' : Option (List ℕ)) (line seen : List ℕ) : Type 0 where
   pub not_end : next ≡ came.End → ⊥
   pub whole : next ≡ came.Line → GivesLine reader left reader' left' line
@@ -51,7 +51,7 @@ pub record Gives (next : Next) (reader : Held) (left : Option (List ℕ)) (reade
   pub same : seen ≡ line
 
 -- by what the read says of the line that it gave
-pub gives_by : {next : Next} {reader reader' : Held} {left left' : Option (List ℕ)}
+pub gives_by : {next : Next} {reader reader' : Buffered} {left left' : Option (List ℕ)}
     {line seen : List ℕ} → (next ≡ came.End → ⊥)
     → (◌≡◌ {A = Result Next ReadStop} (Ok next) (Ok came.Line)
     → GivesLine reader left reader' left' line)
@@ -77,7 +77,7 @@ reached done line more bytes no_quit is = (
   ap heard is ∙ heard-append done (line ∷ more) no_quit,
 )
 
-reached_in_turn : (next : Next) (all : Option (List ℕ)) (start : Tally) (reader reader' : Held)
+reached_in_turn : (next : Next) (all : Option (List ℕ)) (start : Tally) (reader reader' : Buffered)
     (left left' : Option (List ℕ)) (s : Tally) (refused : Bool) (old mid : Option (List ℕ))
     (line seen : List ℕ) → Gives next reader left reader' left' line seen
     → (standing : Standing all start reader left s refused old mid)
@@ -107,7 +107,7 @@ reached_in_turn came.LastLine all start reader reader' left left' s refused old 
     ∙ ap (λ ls. done ++ ls) (lines-unended seen now.unended now.some)))
 
 -- within the answer to the line, or after it
-pub begins_in_turn : (next : Next) (all : Option (List ℕ)) (start : Tally) (reader reader' : Held)
+pub begins_in_turn : (next : Next) (all : Option (List ℕ)) (start : Tally) (reader reader' : Buffered)
     (left left' : Option (List ℕ)) (s after new : Tally) (refused was : Bool)
     (old mid written : Option (List ℕ)) (line seen : List ℕ) (end : Status)
     → Gives next reader left reader' left' line seen
@@ -125,7 +125,7 @@ begins_in_turn next all start reader reader' left left' s after new refused was 
 
 -- where its answer stopped the work
 pub begins_at_stop : (reason : Stop) (answer : Status) (next : Next) (all : Option (List ℕ))
-    (start : Tally) (reader reader' : Held) (left left' : Option (List ℕ)) (s s' : Tally)
+    (start : Tally) (reader reader' : Buffered) (left left' : Option (List ℕ)) (s s' : Tally)
     (refused : Bool) (old mid written : Option (List ℕ)) (line seen : List ℕ) → answer ≡ status_of
     reason → HearsBy (Err reason) s seen s' mid written
     → Gives next reader left reader' left' line seen
@@ -141,7 +141,7 @@ begins_at_stop reason answer next all start reader reader' left left' s s' refus
     standing)
 
 -- where it asks for a file and the shelf stopped the work
-pub stops_in_turn : (next : Next) (all : Option (List ℕ)) (start : Tally) (reader reader' : Held)
+pub stops_in_turn : (next : Next) (all : Option (List ℕ)) (start : Tally) (reader reader' : Buffered)
     (left left' : Option (List ℕ)) (s new : Tally) (refused : Bool)
     (old mid written : Option (List ℕ)) (line seen : List ℕ) (stopped : Answer)
     → Gives next reader left reader' left' line seen
@@ -157,7 +157,7 @@ stops_in_turn next all start reader reader' left left' s new refused old mid wri
     standing)
 
 -- where the sink stopped the work in the midst of its answer
-pub cut_in_turn : (next : Next) (all : Option (List ℕ)) (start : Tally) (reader reader' : Held)
+pub cut_in_turn : (next : Next) (all : Option (List ℕ)) (start : Tally) (reader reader' : Buffered)
     (left left' : Option (List ℕ)) (s new : Tally) (refused was : Bool)
     (old mid written : Option (List ℕ)) (line seen : List ℕ)
     → Gives next reader left reader' left' line seen
@@ -173,7 +173,7 @@ cut_in_turn next all start reader reader' left left' s new refused was old mid w
     standing)
 
 -- where it ends the run
-pub ends_in_turn : (next : Next) (all : Option (List ℕ)) (start : Tally) (reader reader' : Held)
+pub ends_in_turn : (next : Next) (all : Option (List ℕ)) (start : Tally) (reader reader' : Buffered)
     (left left' : Option (List ℕ)) (s s' : Tally) (refused was : Bool)
     (old mid new : Option (List ℕ)) (line seen : List ℕ)
     → Gives next reader left reader' left' line seen
@@ -193,7 +193,7 @@ ends_in_turn came.LastLine all start reader reader' left left' s s' refused was 
 
 -- where the work goes on
 pub standing_after_turn : (next : Next) (all : Option (List ℕ)) (start : Tally)
-    (reader reader' : Held) (left left' : Option (List ℕ)) (s s' : Tally) (refused was : Bool)
+    (reader reader' : Buffered) (left left' : Option (List ℕ)) (s s' : Tally) (refused was : Bool)
     (old mid new : Option (List ℕ)) (line seen : List ℕ)
     → Gives next reader left reader' left' line seen
     → (next ≡ came.LastLine → ⊥) → Standing all start reader left s refused old mid

@@ -1,7 +1,7 @@
 -- The run of a generated script: its lines are answered one after another, and the summary of the
 -- answers is written.
 use Rattle.std.specs.Prelude.{◌≡◌, ℕ, ◌⊎◌, Bool, true, false, List, [], ◌∷◌, Option, Some, None, nat_lt}
-use Rattle.command_words.specs.declared.words.Command.{Command}
+use Rattle.command_words.specs.declared.words.Invocation.{Invocation}
 use Rattle.edit_engine.specs.Lines.{Prints}
 use Rattle.edit_engine.specs.Script.{Machine, Steps}
 use Rattle.generated_script.specs.Numbers.{Numbers}
@@ -44,13 +44,13 @@ MayWriteSummary s numbers new wrote =
 -- ---- by the command
 
 -- a command that generates a script wrote the summary, once the work ended
-abbrev pub EndsWithSummary : Option Command → Status → Machine → Machine → (List ℕ → Type 0)
+abbrev pub EndsWithSummary : Option Invocation → Status → Machine → Machine → (List ℕ → Type 0)
     → Type 0
 EndsWithSummary said end s new wrote = IsEnded end
     → IfGenerate said (λ n. WritesSummary (generate_start s) n (has_refused end) new wrote)
 
 -- however it ended, it wrote a part of the summary
-abbrev pub BeginsSummary : Option Command → Machine → Machine → (List ℕ → Type 0) → Type 0
+abbrev pub BeginsSummary : Option Invocation → Machine → Machine → (List ℕ → Type 0) → Type 0
 BeginsSummary said s new wrote =
     IfGenerate said (λ n. MayWriteSummary (generate_start s) n new wrote)
 

@@ -1,8 +1,8 @@
 -- How runs end.
 use Rattle.std.specs.Prelude.{◌≡◌, ◌≢◌, ℕ, ◌⊎◌, Bool, true, false, List, [], Option, Some, None, Err, IfSome, IsTrue}
 use Rattle.std.specs.Str.Lines.{lines}
-use Rattle.command_words.specs.declared.words.Command.{Command}
-use Rattle.command_words.specs.declared.words.Command.TheVariants.{Check, Generate, Plan, Run, Solve}
+use Rattle.command_words.specs.declared.words.Invocation.{Invocation}
+use Rattle.command_words.specs.declared.words.Invocation.TheVariants.{Check, Generate, Plan, Run, Solve}
 use Rattle.command_words.specs.declared.words.Setup.{Setup}
 use Rattle.edit_engine.specs.Lines.{heard}
 use Rattle.certificate_check.specs.Verdict.{AsksFiles, IsVerdict}
@@ -79,7 +79,7 @@ HasCause source shelf sink status.TooLong = Unit {0}
 -- what is written where reading stopped the work: the answers of all lines that were taken, or of
 -- those before the one at which the shelf stopped it; of `check` nothing, and the verdict tells at
 -- which file
-abbrev pub AtReadFault : Told → Option Command → Type 0 → Type 0 → Option (List ℕ)
+abbrev pub AtReadFault : Told → Option Invocation → Type 0 → Type 0 → Option (List ℕ)
     → Option (List ℕ) → Tally → Tally → (List ℕ → Type 0) → Type 0
 AtReadFault told (Some (Run setup)) source shelf left left' s new wrote = IfSome left (λ bytes.
     (source × AnswersTaken bytes left' s new wrote)
@@ -93,7 +93,7 @@ AtReadFault told (Some (Generate numbers)) source shelf left left' s new wrote =
 AtReadFault told None source shelf left left' s new wrote = ⊥
 
 -- the same where a limit did
-abbrev pub AtLimit : Told → Option Command → Option (List ℕ) → Tally → Tally
+abbrev pub AtLimit : Told → Option Invocation → Option (List ℕ) → Tally → Tally
     → (List ℕ → Type 0) → Type 0
 AtLimit told (Some (Run setup)) left s new wrote = IfSome left (λ bytes.
     (PassesLimit bytes × AnswersWithinLimits bytes s new wrote)
@@ -108,13 +108,13 @@ AtLimit told None left s new wrote = ⊥
 
 -- what is written where the sink stopped the work: the answers of all lines before one, and a part
 -- of that to it
-abbrev pub AtWriteFault : Option Command → Option (List ℕ) → Tally → Tally
+abbrev pub AtWriteFault : Option Invocation → Option (List ℕ) → Tally → Tally
     → (List ℕ → Type 0) → Type 0
 AtWriteFault said left s new wrote =
     IfSome (lines_for said left) (λ lines. StopsAtWrite s lines new wrote)
 
 -- what is too long
-abbrev pub HasTooLong : Option Command → Option (List ℕ) → Told → Type 0
+abbrev pub HasTooLong : Option Invocation → Option (List ℕ) → Told → Type 0
 HasTooLong (Some (Run setup)) left shelf =
     IfSome left (λ bytes. PassesLimit bytes ⊎ AsksTooMuch (Some (Run setup)) (Some bytes) shelf)
 HasTooLong said left shelf = AsksTooMuch said left shelf
@@ -144,7 +144,7 @@ CheckOutcome status.TooLong shelf faults faults' model certificate old new =
     IsVerdict shelf model certificate TooLong × (new ≡ old)
 
 -- how a command ran, in the terms of the clauses of `run`
-pub record Runs (said : Option Command) (end : Status) (left left' : Option (List ℕ))
+pub record Runs (said : Option Invocation) (end : Status) (left left' : Option (List ℕ))
     (shelf : Told) (source fetch : Type 0) (s new : Tally) (wrote begun : List ℕ → Type 0)
     : Type 0 where
   pub text : IsEnded end → IfSome (lines_for said left)

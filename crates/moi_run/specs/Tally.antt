@@ -7,7 +7,7 @@
 use Rattle.std.specs.Prelude.{◌≡◌, ◌≤◌, ◌+◌, ℕ, List, Option, flat_map}
 use Rattle.std.specs.List.{sum_by}
 use Rattle.edit_engine.specs.Counts.{count_of}
-use Rattle.edit_engine.specs.Held.{Held, machine_of}
+use Rattle.edit_engine.specs.Held.{SessionValue, machine_of}
 use Rattle.edit_engine.specs.Lines.{line_asks}
 use Rattle.edit_engine.specs.Script.{Machine, Steps}
 use Rattle.edit_engine.specs.Served.{Serves, text_of}
@@ -20,7 +20,7 @@ pub record Tally : Type 0 where
   pub calls : ℕ
   pub asked : Option (List (List ℕ))
 
-abbrev pub tally_of : Held → Told → Option (List (List ℕ)) → Tally
+abbrev pub tally_of : SessionValue → Told → Option (List (List ℕ)) → Tally
 tally_of session shelf asked = record {
   machine = machine_of session shelf;
   calls = session.cache.lazy.solver.leaves.calls;

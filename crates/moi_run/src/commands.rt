@@ -24,7 +24,7 @@ use crate::input::answer_script;
 use crate::solve::answer_solve;
 use crate::status::Status;
 use bridge_face::Bridge;
-use command_words::{Command, read_words};
+use command_words::{Invocation, read_words};
 use edit_engine::SessionOver;
 use io_face::{Shelf, Sink, Source};
 use std::alloc::Global;
@@ -230,7 +230,7 @@ fn obey_words<B: Bridge, H: Shelf, I: Source, O: Sink>(
 // Does what a command says.
 fn obey<B: Bridge, H: Shelf, I: Source, O: Sink>(
     alloc: Global,
-    command: Command,
+    command: Invocation,
     shelf: &mut H,
     input: &mut I,
     output: &mut O,
@@ -264,17 +264,17 @@ fn obey<B: Bridge, H: Shelf, I: Source, O: Sink>(
     ensures not_usage { result ≢ Status.Usage }
 {
     match command {
-        Command::Run(setup) => answer_script(alloc, setup, shelf, input, output, session),
-        Command::Plan(setup) => {
+        Invocation::Run(setup) => answer_script(alloc, setup, shelf, input, output, session),
+        Invocation::Plan(setup) => {
             let lines: [&[u8]; 1] = [b"plan"];
             answer_with(setup, &lines, shelf, output, session)
         }
-        Command::Solve { setup, model } => {
+        Invocation::Solve { setup, model } => {
             answer_solve(alloc, setup, &model, shelf, output, session)
         }
-        Command::Check { model, certificate } => {
+        Invocation::Check { model, certificate } => {
             answer_check(alloc, &model, &certificate, shelf, output)
         }
-        Command::Generate(recipe) => answer_generated(alloc, recipe, shelf, output, session),
+        Invocation::Generate(recipe) => answer_generated(alloc, recipe, shelf, output, session),
     }
 }

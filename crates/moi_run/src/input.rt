@@ -1,7 +1,7 @@
 //! Lines of an input that are answered, up to its end or the line that ends the run.
 ghost use Rattle.std.specs.Prelude.{◌≡◌, ◌≢◌, ◌+◌, [], Some, IfSome, false};
 ghost use Rattle.std.specs.Str.Lines.{lines};
-ghost use Rattle.command_words.specs.declared.words.Command.TheVariants.{Run};
+ghost use Rattle.command_words.specs.declared.words.Invocation.TheVariants.{Run};
 ghost use Rattle.edit_engine.specs.Held.{state_of};
 ghost use Rattle.edit_engine.specs.Lines.{heard};
 ghost use Rattle.io_face.specs.Fault.{HasFaulted};

@@ -7,7 +7,7 @@ use Rattle.adjoint_core.specs.CarriedBack.{AllFits, GapFits, IsFirstUnfit, RowFi
 use Rattle.adjoint_core.specs.Told.{FirstNot}
 use Rattle.aff_core.specs.Address.{Address}
 use Rattle.cert_core.specs.Folds.{AddUp, gap_parts_of}
-use Rattle.dual_laws.specs.Held.{Held}
+use Rattle.dual_laws.specs.Held.{DualRow}
 use Rattle.equality_form.specs.ReadBack.{Answer, infeasible, optimal, unbounded}
 use Rattle.expansion.specs.Bridged.{EachBridgedIn, each_in, none_in}
 use Rattle.expansion.specs.Rules.{Rules}
@@ -76,7 +76,7 @@ module _ {rules : Rules Item Entry} (d : LeafDuals) where
   unfit_row_told (suc n) (each_in {item} first rest) =
       told_then (told_at (RowFits d first) item.at) (unfit_row_told n rest)
 
-unfit_gap_told : (sum : Rational) (hs : List (Address × Held))
+unfit_gap_told : (sum : Rational) (hs : List (Address × DualRow))
     → IsTold (GapFits sum hs) (UnfitGap sum hs)
 unfolding GapFits UnfitGap
 unfit_gap_told sum [] = told_nowhere

@@ -16,7 +16,7 @@ use Rattle.bridge_face.specs.ImageOf.{image_of}
 use Rattle.cert_core.specs.Folds.{AddUp, CostFits, EvaluationFits, ObjectiveFits, adjoint_parts, gap_parts_of, products, products_at}
 use Rattle.certificates.specs.Duals.{groups_with, rows_with}
 use Rattle.certificates.specs.Points.{at_point, objective_function}
-use Rattle.dual_laws.specs.Held.{Held}
+use Rattle.dual_laws.specs.Held.{DualRow}
 use Rattle.equality_form.specs.ReadBack.{Answer, infeasible, optimal, unbounded}
 use Rattle.expansion.specs.Bridged.{Bridged, EachBridgedIn}
 use Rattle.expansion.specs.Rules.{Rules}
@@ -117,22 +117,22 @@ module _ (σ : Address → Address) (r : IsRenaming σ) where
       (map_kept (λ t. (σ t.0, t.1)) (λ t. t.1 *ℚ y t.0) (λ t. t.1 *ℚ x t.0)
       (λ t. ap (λ q. t.1 *ℚ q) (same t.0)) (terms_of f))
 
-  adjoint_parts-renamed : (hs : List Held) (v : Address)
+  adjoint_parts-renamed : (hs : List DualRow) (v : Address)
       → adjoint_parts (map (renamed_held σ) hs) (σ v) ≡ adjoint_parts hs v
   adjoint_parts-renamed [] v = refl
   adjoint_parts-renamed (h ∷ hs) v =
       ap₂ (λ a b. products h.duals a ++ b) (coefficients-renamed σ r h.functions v)
       (adjoint_parts-renamed hs v)
 
-  gap_parts-renamed : (h : Held) → gap_parts_of (renamed_held σ h) ≡ gap_parts_of h
+  gap_parts-renamed : (h : DualRow) → gap_parts_of (renamed_held σ h) ≡ gap_parts_of h
   gap_parts-renamed h =
       ap (λ cs. low_of h.set h.duals ∷ negated (products h.duals cs))
       (constants-renamed σ r h.functions)
 
-  abbrev placed_held : Address × Held → Address × Held
+  abbrev placed_held : Address × DualRow → Address × DualRow
   placed_held p = (σ p.0, renamed_held σ p.1)
 
-  stage_gap : (sum : Rational) (hs : List (Address × Held))
+  stage_gap : (sum : Rational) (hs : List (Address × DualRow))
       → IsStage σ (GapFits sum hs) (GapFits sum (map placed_held hs)) (UnfitGap sum hs)
       (UnfitGap sum (map placed_held hs))
   unfolding GapFits UnfitGap

@@ -12,7 +12,7 @@ use Rattle.aff_core.specs.Points.{spread}
 use Rattle.certificates.specs.Duals.{adjoint_of_rows, dual_gap, group_with, groups_with, reduced_cost, rows_with}
 use Rattle.certificates.specs.Points.{address_of, addresses_of, at_point, functions_of, objective_coefficient, objective_function, objective_value, sense_of, variables_at}
 use Rattle.certificates.specs.declared.certificate.Certificate.TheVariants.{Infeasible, Optimal, Unbounded}
-use Rattle.dual_laws.specs.Held.{Held, adjoint, gap}
+use Rattle.dual_laws.specs.Held.{DualRow, adjoint, gap}
 use Rattle.equality_form.specs.ReadBack.{Answer, infeasible, optimal, unbounded}
 use Rattle.fresh_bridging.specs.Entries.{function_in}
 use Rattle.fresh_bridging.specs.FreshBridging.{FreshBridging}
@@ -39,7 +39,7 @@ use Rattle.renumbering_laws.specs.RenumberedModel.{IsRising, Renumbered, Renumbe
 -- ---- rows with duals
 
 module _ (σ : Address → Address) where
-  abbrev pub renamed_held : Held → Held
+  abbrev pub renamed_held : DualRow → DualRow
   renamed_held h = record h { functions = map (renamed σ) h.functions }
 
 module _ (σ : Address → Address) (r : IsRenaming σ) where
@@ -53,13 +53,13 @@ module _ (σ : Address → Address) (r : IsRenaming σ) where
   constants-renamed fs =
       map_kept (renamed σ) (λ f. f.constant) (λ f. f.constant) (constant-renamed σ r.order) fs
 
-  pub adjoint-renamed : (hs : List Held) (v : Address)
+  pub adjoint-renamed : (hs : List DualRow) (v : Address)
       → adjoint (map (renamed_held σ) hs) (σ v) ≡ adjoint hs v
   adjoint-renamed [] v = refl
   adjoint-renamed (h ∷ hs) v =
       ap₂ (λ a b. dot h.duals a +ℚ b) (coefficients-renamed h.functions v) (adjoint-renamed hs v)
 
-  pub gap-renamed : (hs : List Held) → gap (map (renamed_held σ) hs) ≡ gap hs
+  pub gap-renamed : (hs : List DualRow) → gap (map (renamed_held σ) hs) ≡ gap hs
   gap-renamed [] = refl
   gap-renamed (h ∷ hs) =
       ap₂ (λ a b. (low_of h.set h.duals -ℚ dot h.duals a) +ℚ b) (constants-renamed h.functions)

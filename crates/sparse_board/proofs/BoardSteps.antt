@@ -24,7 +24,7 @@ use Rattle.sparse_board.specs.declared.step.Step.{Step}
 use Rattle.sparse_board.specs.Mixed.{number_of, width_of}
 use Rattle.sparse_board.specs.Rows.{AreWide, SameNow, number_in_row, numbers, numbers_in, width_at}
 use Rattle.sparse_board.specs.Marks.{AreMarked, is_marked}
-use Rattle.sparse_board.specs.Pivoting.{IsReady}
+use Rattle.sparse_board.specs.Pivoting.{IsBoardReady}
 use Rattle.sparse_board.specs.Leaving.{IsCandidate, leaves_before, may_leave}
 use Rattle.sparse_board.proofs.MarkSteps.{place_below}
 use Rattle.sparse_board.proofs.RowsSteps.{row_is}
@@ -305,11 +305,11 @@ marked_read a h r q n item b c e is =
 
 pub ready_same : (rows old_rows : List Row) (r q : ℕ) (marks old_marks : List Bool)
     (in_first : Bool) (first second : Row) (step : Step) → rows ≡ old_rows → marks ≡ old_marks
-    → IsReady old_rows r q old_marks in_first first second step
-    → IsReady rows r q marks in_first first second step
+    → IsBoardReady old_rows r q old_marks in_first first second step
+    → IsBoardReady rows r q marks in_first first second step
 ready_same rows old_rows r q marks old_marks in_first first second step e f h =
-    subst (λ l. IsReady l r q marks in_first first second step) (sym e)
-    (subst (λ l. IsReady old_rows r q l in_first first second step) (sym f) h)
+    subst (λ l. IsBoardReady l r q marks in_first first second step) (sym e)
+    (subst (λ l. IsBoardReady old_rows r q l in_first first second step) (sym f) h)
 
 -- ---- the row that leaves is that of what is read
 

@@ -10,7 +10,7 @@ use Rattle.sparse_board.specs.declared.mixed_row.MixedRow.{MixedRow}
 use Rattle.sparse_board.specs.declared.step.Step.{Step}
 use Rattle.sparse_board.specs.Mixed.{IsLowered, number_of, units_of, width_of}
 use Rattle.sparse_board.specs.Rows.{AreLowered, AreWide, SameWidths, now_at, now_of, numbers, numbers_in, width_at}
-use Rattle.sparse_board.specs.Pivoting.{IsReady}
+use Rattle.sparse_board.specs.Pivoting.{IsBoardReady}
 
 -- the other rows first, and then the pivot's
 module _ (before middle : List Row) (r : ℕ) (step : Step) (new : Row)
@@ -28,7 +28,7 @@ module _ (before middle : List Row) (r : ℕ) (step : Step) (new : Row)
 
   module _ (w q : ℕ) (in_first : Bool) (first second first_next second_next : Row)
       (wide : AreWide (w + 1) before) (long : step.width ≡ w + 1) (marks : List Bool)
-      (ready : IsReady before r q marks in_first first second step)
+      (ready : IsBoardReady before r q marks in_first first second step)
       (is : (j : ℕ) → j < w + 1 → number_of new.now j ≡ units_of step j)
       (low : AreLowered r q (units_of step) before middle) where
     lowered_by : (row next : MixedRow) → width_of row ≡ w

@@ -9,7 +9,7 @@ use Rattle.sparse_board.specs.Rows.{number_in_row}
 use Rattle.sparse_board.specs.Marks.{ArePrepared}
 
 -- the pivot's new row stands in the room for it, and each other row that changes is worked out
-pub record IsReady (rows : List Row) (r q : ℕ) (marks : List Bool) (in_first : Bool)
+pub record IsBoardReady (rows : List Row) (r q : ℕ) (marks : List Bool) (in_first : Bool)
     (first second : Row) (step : Step) : Type 0 where
   pub both : IsBoth step
   pub divided : (j : ℕ) → j < step.width →

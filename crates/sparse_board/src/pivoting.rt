@@ -6,7 +6,7 @@ ghost use Rattle.sparse_board.specs.Mixed.{IsBoth, number_of, units_of, width_of
 ghost use Rattle.sparse_board.specs.Lowering.{IsPrepared};
 ghost use Rattle.sparse_board.specs.Rows.{AreWide, SameNow, number_in_row, numbers_in};
 ghost use Rattle.sparse_board.specs.Marks.{AreMarked};
-ghost use Rattle.sparse_board.specs.Pivoting.{IsReady};
+ghost use Rattle.sparse_board.specs.Pivoting.{IsBoardReady};
 ghost use Rattle.sparse_board.specs.Testing.{IsTest};
 
 use crate::first_costs::{prepare_if, settle_if};
@@ -46,7 +46,7 @@ pub(crate) fn prepare_pivot(
     ensures fits { IsTest (numbers_fit width r q in_first
         (numbers_in rows.old first.old.now second.old.now)) result }
     ensures ok { OnOk result
-        (IsReady rows.new r q marks.now in_first first.new second.new step.new) }
+        (IsBoardReady rows.new r q marks.now in_first first.new second.new step.new) }
 {
     let asked = first.now.is_wide || second.now.is_wide || has_wide(rows, r, q, marks);
     divide_row(rows, r, q, asked, step)?;
@@ -118,7 +118,7 @@ pub(crate) fn settle_pivot(
     requires wide { AreWide step.old.width rows.old }
     requires marks_long { length marks.old ≡ step.old.width * length rows.old }
     requires marked { AreMarked step.old.width marks.old rows.old }
-    requires ready { IsReady rows.old r q marks.old in_first first.old second.old step.old }
+    requires ready { IsBoardReady rows.old r q marks.old in_first first.old second.old step.old }
     ensures wide { AreWide step.old.width rows.new }
     ensures step_wide { step.new.width ≡ step.old.width }
     ensures first_wide { width_of first.new.now ≡ width_of first.old.now }

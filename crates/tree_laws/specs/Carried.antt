@@ -4,7 +4,7 @@ use Rattle.ratio_core.specs.Rational.{Rational, ◌≤ℚ◌}
 use Rattle.aff_core.specs.Address.{Address}
 use Rattle.aff_core.specs.Arithmetic.{composed}
 use Rattle.aff_core.specs.Function.{coefficient, slope}
-use Rattle.dual_laws.specs.Held.{DualsHold, Held, adjoint, gap}
+use Rattle.dual_laws.specs.Held.{DualsHold, DualRow, adjoint, gap}
 use Rattle.expansion.specs.Bridged.{Bridged, EachBridgedIn, by, each_in, natively, none_in}
 use Rattle.expansion.specs.Rules.{Rules}
 use Rattle.item_core.specs.declared.item.Item.{Item}
@@ -29,12 +29,12 @@ module _ (d : LeafDuals) where
   abbrev pub row_dual : Item → List Rational
   row_dual leaf = cond (is_objective leaf.body) d.objective (d.duals leaf.at)
 
-  abbrev pub leaf_held : Item → Held
+  abbrev pub leaf_held : Item → DualRow
   leaf_held leaf =
       held_body d.bound leaf.body
       (cond (is_group leaf.body) (map d.numbers (variables_of leaf.body)) (row_dual leaf))
 
-  abbrev pub leaf_helds : List Item → List Held
+  abbrev pub leaf_helds : List Item → List DualRow
   leaf_helds leaves = map leaf_held leaves
 
 -- ---- duals carried back
@@ -56,15 +56,15 @@ module _ {rules : Rules Item Entry} (d : LeafDuals) where
     backs (each_in first rest) = back first ∷ backs rest
 
 -- groups, their variables with these numbers
-abbrev pub group_held : Rational → (Address → Rational) → Item → Held
+abbrev pub group_held : Rational → (Address → Rational) → Item → DualRow
 group_held bound w g = held_body bound g.body (map w (variables_of g.body))
 
-abbrev pub group_helds : Rational → (Address → Rational) → List Item → List Held
+abbrev pub group_helds : Rational → (Address → Rational) → List Item → List DualRow
 group_helds bound w items = map (group_held bound w) items
 
 -- ---- with the expressions of the variables put in
 
-abbrev pub through : List Entry → Held → Held
+abbrev pub through : List Entry → DualRow → DualRow
 through entries h = record h { functions = map (composed (function_in entries)) h.functions }
 
 -- a point as the expressions' slopes see it
@@ -81,7 +81,7 @@ constants_in entries u = (function_in entries u).constant
 -- ---- one list of rows with duals in the place of another
 
 -- the duals hold, the adjoints are the same, and the gap is no smaller
-pub record StandFor (hs ls : List Held) : Type 0 where
+pub record StandFor (hs ls : List DualRow) : Type 0 where
   pub holds : DualsHold hs
   pub same : (v : Address) → adjoint hs v ≡ adjoint ls v
   pub gaps : gap ls ≤ℚ gap hs

@@ -15,7 +15,7 @@ use Rattle.aff_core.specs.Address.{Address, root_number}
 use Rattle.aff_core.specs.Function.{coefficient}
 use Rattle.aff_core.specs.declared.root.Root.TheVariants as root
 use Rattle.linear_laws.specs.SupportLaws.{count}
-use Rattle.dual_laws.specs.Held.{DualsHold, Held, adjoint, adjoint_of, gap, gap_of}
+use Rattle.dual_laws.specs.Held.{DualsHold, DualRow, adjoint, adjoint_of, gap, gap_of}
 use Rattle.dual_laws.specs.PullLaws.{adjoint-append}
 use Rattle.equality_form.specs.Right.{AreDuals, HasDuals, MayCost, held as entry_held, held_rows}
 use Rattle.item_core.specs.declared.item.Item.{Item}
@@ -145,7 +145,7 @@ module _ (setting : Setting) (costly : IsCostly (graph_of setting)) (lawful : Ar
     abbrev pub d : LeafDuals
     d = leaf_duals bridging o costs y
 
-    abbrev pub other_helds : List Held
+    abbrev pub other_helds : List DualRow
     other_helds = held d.bound others (backs d bridging.made.others)
 
     are_right : AreRight d all_leaves
@@ -162,7 +162,7 @@ module _ (setting : Setting) (costly : IsCostly (graph_of setting)) (lawful : Ar
     }
 
     -- sums over the leaf model's rows are those over the leaves
-    rows_summed : (F : Held → Rational)
+    rows_summed : (F : DualRow → Rational)
         → sum_by_ℚ F (held_rows (leaves_of bridging) y)
         ≡ sum_by_ℚ (λ e. F (entry_held y e)) (flat_map leaf_rows all_leaves)
     unfolding model_leaves
@@ -274,7 +274,7 @@ module _ (setting : Setting) (costly : IsCostly (graph_of setting)) (lawful : Ar
         (level_groups setting costly bridging.choice bridging.chosen lawful d groups others entries
         bridging.made.groups bridging.made.others [] user_level left left_rest rows)
 
-    abbrev pub user_helds : List Held
+    abbrev pub user_helds : List DualRow
     user_helds = group_helds d.bound left groups ++ other_helds
 
     -- the duals hold

@@ -13,7 +13,7 @@ use Rattle.rational_laws.specs.Order.{≤ℚ_refl}
 use Rattle.aff_core.specs.Address.{Address, address_cmp}
 use Rattle.aff_core.specs.Arithmetic.{composed}
 use Rattle.aff_core.specs.Function.{Function, coefficient, variable}
-use Rattle.dual_laws.specs.Held.{DualsHold, Held, adjoint, adjoint_of, gap}
+use Rattle.dual_laws.specs.Held.{DualsHold, DualRow, adjoint, adjoint_of, gap}
 use Rattle.item_core.specs.declared.item.Item.{Item}
 use Rattle.item_core.specs.Item.{is_group, variables_of}
 use Rattle.bridge_face.specs.Law.{Miss, expressed, inner_of}
@@ -33,7 +33,7 @@ use Rattle.tree_laws.specs.ThroughLaws.{HeldMisses, adjoints_missed}
 
 -- ---- what stands for itself
 
-pub stand_itself : (hs : List Held) → DualsHold hs → StandFor hs hs
+pub stand_itself : (hs : List DualRow) → DualsHold hs → StandFor hs hs
 stand_itself hs h = record { holds = h; same = λ v. refl; gaps = ≤ℚ_refl (gap hs) }
 
 -- ---- groups with expressions put in
@@ -52,7 +52,7 @@ group_through bound w g es h =
     each [] = refl
     each (v ∷ vs) = ap₂ ◌∷◌ (composed-variable (function_in es) v) (each vs)
 
-abbrev with_functions : Held → List Function → Held
+abbrev with_functions : DualRow → List Function → DualRow
 with_functions h fs = record h { functions = fs }
 
 looked_up_alike : (es fs : List Entry) (vars : List Address)

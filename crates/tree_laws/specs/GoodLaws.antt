@@ -11,7 +11,7 @@ use Rattle.rational_laws.specs.Ring.{as_expression, by_ring, ring₁, ring₂, r
 use Rattle.aff_core.specs.Address.{Address}
 use Rattle.aff_core.specs.Function.{Function, coefficient, evaluated, value_of}
 use Rattle.linear_laws.specs.EvaluationLaws.{evaluated_value}
-use Rattle.dual_laws.specs.Held.{Held, Holds, IsHeld, adjoint, gap}
+use Rattle.dual_laws.specs.Held.{DualRow, Holds, IsHeld, adjoint, gap}
 use Rattle.dual_laws.specs.PullLaws.{adjoint-append, gap-append}
 use Rattle.dual_laws.specs.WeakDuality.{value_above_duals}
 use Rattle.certificates.specs.Duals.{adjoint_of_rows, dual_gap, reduced_cost}
@@ -102,11 +102,11 @@ module _ (setting : Setting) (costly : IsCostly (graph_of setting)) (lawful : Ar
     abbrev G : Rational
     G = dual_gap model optimal_rows optimal_vars
 
-    abbrev row_part : List Held
+    abbrev row_part : List DualRow
     row_part = row_helds setting costly lawful native model valid bridging (neg_ℚ one_ℚ) costs_of y
         minus_nonpos right.duals cost_weighed
 
-    abbrev variable_part : List Held
+    abbrev variable_part : List DualRow
     variable_part = group_part setting costly lawful native model valid bridging (neg_ℚ one_ℚ)
         costs_of y minus_nonpos right.duals cost_weighed
 

@@ -24,7 +24,7 @@ use Rattle.aff_core.specs.FunctionLists.{constants}
 use Rattle.linear_laws.specs.SupportLaws.{count}
 use Rattle.aff_core.specs.Points.{unit}
 use Rattle.aff_core.specs.FunctionLaws.{constant-variable}
-use Rattle.dual_laws.specs.Held.{DualsHold, Held, IsHeld, adjoint_of, gap_of}
+use Rattle.dual_laws.specs.Held.{DualsHold, DualRow, IsHeld, adjoint_of, gap_of}
 use Rattle.equality_form.specs.Right.{HasDuals, MayCost, held}
 use Rattle.item_core.specs.declared.item.Body.{Body}
 use Rattle.item_core.specs.declared.item.Body.TheVariants.{Group, Free, Plain, Affine, PlainVec, AffineVec, PlainObj, AffineObj}
@@ -201,10 +201,10 @@ third_alone q =
     sym (zero-+ℚ (zero_ℚ +ℚ (q +ℚ zero_ℚ)) ∙ zero-+ℚ (q +ℚ zero_ℚ) ∙ +ℚ-zero q)
 
 module _ (d : LeafDuals) where
-  abbrev pub objective_held : Address × Body → Held
+  abbrev pub objective_held : Address × Body → DualRow
   objective_held e = held_body d.bound e.1 d.objective
 
-  module _ (F : Held → Rational) where
+  module _ (F : DualRow → Rational) where
     abbrev pub group_part : Item → Rational
     group_part i = cond (is_group i.body) (F (leaf_held d i)) zero_ℚ
 

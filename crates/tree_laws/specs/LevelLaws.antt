@@ -21,7 +21,7 @@ use Rattle.linear_laws.specs.ListLaws.{weighed_variables}
 use Rattle.linear_laws.specs.SupportLaws.{count}
 use Rattle.linear_laws.specs.UnitLaws.{same_or_other}
 use Rattle.rational_laws.specs.Sums.{sum_by_ℚ-append}
-use Rattle.dual_laws.specs.Held.{DualsHold, Held, IsHeld, adjoint, adjoint_of}
+use Rattle.dual_laws.specs.Held.{DualsHold, DualRow, IsHeld, adjoint, adjoint_of}
 use Rattle.dual_laws.specs.PullLaws.{adjoint-append}
 use Rattle.item_core.specs.declared.item.Item.{Item}
 use Rattle.item_core.specs.Item.{is_group, variables_of}
@@ -71,7 +71,7 @@ module _ (d : LeafDuals) where
       all_second IsHeld (leaf_helds d xs) (leaf_helds d ys)
       (subst DualsHold (map-append (leaf_held d) xs ys) h)
 
-  pub stand_leaves : (hs gs : List Held) (xs ys : List Item) → StandFor hs (leaf_helds d xs)
+  pub stand_leaves : (hs gs : List DualRow) (xs ys : List Item) → StandFor hs (leaf_helds d xs)
       → StandFor gs (leaf_helds d ys) → StandFor (hs ++ gs) (leaf_helds d (xs ++ ys))
   stand_leaves hs gs xs ys s t =
       subst (StandFor (hs ++ gs)) (sym (map-append (leaf_held d) xs ys))
@@ -121,12 +121,12 @@ module _ (setting : Setting) (costly : IsCostly (graph_of setting)) (choice : �
     abbrev pub all_leaves : List Item
     all_leaves = leaves_of_each gs ++ leaves_in os
 
-    abbrev pub other_helds : List Held
+    abbrev pub other_helds : List DualRow
     other_helds = held d.bound others (backs d os)
 
     -- what is above balances what stands below, and nothing of a further child is mentioned above
     -- it or beside it
-    pub record IsLevel (ts : List Held) : Type 0 where
+    pub record IsLevel (ts : List DualRow) : Type 0 where
       pub groups_here : All GroupHere groups
       pub others_here : All (λ c. RowHere (put_in inner c)) others
       pub rows_only : All (λ c. is_group c.body ≡ false) others
@@ -143,7 +143,7 @@ module _ (setting : Setting) (costly : IsCostly (graph_of setting)) (choice : �
       pub outside : (v : Address) → Contains group_keys v → Avoids (inner_of groups) v
           → (adjoint ts v ≡ zero_ℚ) × (adjoint other_helds v ≡ zero_ℚ)
 
-    module _ (ts : List Held) (level : IsLevel ts) where
+    module _ (ts : List DualRow) (level : IsLevel ts) where
       -- what stands below groups has no part in the further children's leaves
       pub others_zero : (v : Address) → Contains other_keys v
           → adjoint (leaf_helds d (leaves_in os)) v ≡ zero_ℚ
@@ -168,7 +168,7 @@ module _ (setting : Setting) (costly : IsCostly (graph_of setting)) (choice : �
           (rest : (v : Address) → w v +ℚ adjoint other_helds v ≡ adjoint ts v)
           (rows : StandFor (held d.bound (map (put_in inner) others) (backs d os))
           (leaf_helds d (leaves_in os))) where
-        abbrev pub children : List Held
+        abbrev pub children : List DualRow
         children = group_helds d.bound w groups ++ other_helds
 
         groups_only : All (λ g. is_group g.body ≡ true) groups

@@ -14,7 +14,7 @@ use Rattle.rational_laws.specs.Field.{+ℚ-zero, -ℚ-+ℚ_cancel}
 use Rattle.aff_core.specs.Address.{Address}
 use Rattle.aff_core.specs.Arithmetic.{composed}
 use Rattle.aff_core.specs.Function.{coefficient}
-use Rattle.dual_laws.specs.Held.{DualsHold, Held, IsHeld, adjoint, adjoint_of, gap, gap_of}
+use Rattle.dual_laws.specs.Held.{DualsHold, DualRow, IsHeld, adjoint, adjoint_of, gap, gap_of}
 use Rattle.item_core.specs.declared.image.Image.{Image}
 use Rattle.item_core.specs.declared.item.Item.{Item}
 use Rattle.item_core.specs.Item.{functions_of, is_group, variables_of}
@@ -101,7 +101,7 @@ held_groups bound w (g ∷ groups) =
 
 -- ---- one row with its dual, as a list
 
-pub one_stands : (h : Held) (ls : List Held) → IsHeld h
+pub one_stands : (h : DualRow) (ls : List DualRow) → IsHeld h
     → ((v : Address) → adjoint_of h v ≡ adjoint ls v) → gap ls ≤ℚ gap_of h
     → StandFor (h ∷ []) ls
 one_stands h ls i same gaps = record {
@@ -141,10 +141,10 @@ module _ (setting : Setting) (costly : IsCostly (graph_of setting)) (choice : �
       abbrev pub all_leaves : List Item
       all_leaves = leaves_of_each gs ++ leaves_in os
 
-      abbrev pub other_helds : List Held
+      abbrev pub other_helds : List DualRow
       other_helds = held d.bound others (backs d os)
 
-      abbrev pub target : List Rational → Held
+      abbrev pub target : List Rational → DualRow
       target w = held_item d.bound item image w
 
       -- ---- leaf variables stand below the item
@@ -296,7 +296,7 @@ module _ (setting : Setting) (costly : IsCostly (graph_of setting)) (choice : �
               objective = drop (length image.rows) (backs d os);
             }
 
-            abbrev all_children : List Held
+            abbrev all_children : List DualRow
             all_children = group_helds d.bound left groups ++ other_helds
 
             children_are : held_children d.bound image child_duals ≡ all_children

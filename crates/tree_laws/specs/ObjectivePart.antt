@@ -17,7 +17,7 @@ use Rattle.aff_core.specs.Address.{Address, address_cmp}
 use Rattle.aff_core.specs.Function.{Function, coefficient, constant_function, evaluated, variable}
 use Rattle.aff_core.specs.FunctionLaws.{constant-constant_function}
 use Rattle.linear_laws.specs.ListLaws.{evaluated_constant_function}
-use Rattle.dual_laws.specs.Held.{Held, adjoint, gap}
+use Rattle.dual_laws.specs.Held.{DualRow, adjoint, gap}
 use Rattle.certificates.specs.Points.{objective_function, sense_of}
 use Rattle.equality_form.specs.EqualityForm.{cost, cost_among}
 use Rattle.equality_form.specs.Right.{IsFeasible}
@@ -67,7 +67,7 @@ none_gap o =
     ∙ ap neg_ℚ (*ℚ-zero o) ∙ neg_ℚ-zero)
 
 -- the objective weighs its cost, and its gap is that of the constant
-pub record Weighs (o : Rational) (f : Function) (hs : List Held) : Type 0 where
+pub record Weighs (o : Rational) (f : Function) (hs : List DualRow) : Type 0 where
   pub adjoints : (v : Address) → adjoint hs v ≡ o *ℚ coefficient f v
   pub gaps : gap hs ≡ neg_ℚ (o *ℚ f.constant)
 

@@ -9,7 +9,7 @@ use Rattle.expansion.specs.Bridged.{Bridged, EachBridged, EachBridgedIn, by, eac
 use Rattle.expansion.specs.Read.{leaves, leaves_in, leaves_of_each}
 use Rattle.ratio_core.specs.Rational.{Rational, zero_ℚ, ◌+ℚ◌}
 use Rattle.aff_core.specs.Address.{Address}
-use Rattle.dual_laws.specs.Held.{DualsHold, Held, IsHeld, adjoint}
+use Rattle.dual_laws.specs.Held.{DualsHold, DualRow, IsHeld, adjoint}
 use Rattle.item_core.specs.declared.item.Item.{Item}
 use Rattle.item_core.specs.Item.{variables_of}
 use Rattle.item_core.specs.Kind.{kind_number}
@@ -161,7 +161,7 @@ module _ (setting : Setting) (costly : IsCostly (graph_of setting)) (choice : �
 
   module _ (groups others : List Item) (inner : List Entry)
       (gs : EachBridged (rules_by choice) groups inner)
-      (os : EachBridgedIn (rules_by choice) inner others) (ts : List Held)
+      (os : EachBridgedIn (rules_by choice) inner others) (ts : List DualRow)
       (lv : IsLevel setting costly choice chosen lawful d groups others inner gs os ts) where
     pub level_rows : RowsReady os
     level_rows = record {
@@ -193,10 +193,10 @@ module _ (setting : Setting) (costly : IsCostly (graph_of setting)) (choice : �
       (groups_at setting costly choice chosen lawful item here n e) inner)
       (os : EachBridgedIn (rules_by choice) inner
       (others_at setting costly choice chosen lawful item here n e)) where
-    abbrev below : List Held
+    abbrev below : List DualRow
     below = leaf_helds d (leaves_of_each gs ++ leaves_in os)
 
-    abbrev target_by : List Rational → Held
+    abbrev target_by : List Rational → DualRow
     target_by w = target setting costly choice chosen lawful d item here n e inner gs os w
 
     -- the item with these numbers, where they balance what stands below its children

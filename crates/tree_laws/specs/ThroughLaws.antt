@@ -23,7 +23,7 @@ use Rattle.aff_core.specs.Points.{unit}
 use Rattle.linear_laws.specs.ListLaws.{coefficient_variable, coefficients-composed, constants-composed, dot_values}
 use Rattle.linear_laws.specs.SlopeLaws.{coefficient_by_unit, slope_agreeing}
 use Rattle.linear_laws.specs.SupportLaws.{support, support_supports, supports_first, supports_second}
-use Rattle.dual_laws.specs.Held.{DualsHold, Held, IsHeld, adjoint, adjoint_of, gap, gap_of, pull, pull_of}
+use Rattle.dual_laws.specs.Held.{DualsHold, DualRow, IsHeld, adjoint, adjoint_of, gap, gap_of, pull, pull_of}
 use Rattle.dual_laws.specs.PullLaws.{adjoint-append, gap-append, mentioned_in, pull_over, pull_same}
 use Rattle.bridge_face.specs.Law.{Miss}
 use Rattle.map_laws.specs.EachLaws.{all_from_map}
@@ -34,7 +34,7 @@ use Rattle.tree_laws.specs.Carried.{StandFor, constants_in, seen_at, through}
 module _ (entries : List Entry) where
   -- ---- of one
 
-  pub adjoint_through : (h : Held) (v : Address)
+  pub adjoint_through : (h : DualRow) (v : Address)
       → adjoint_of (through entries h) v ≡ pull_of h (seen_at entries v)
   adjoint_through h v =
       ap (dot h.duals) (coefficients-composed (function_in entries) h.functions v)
@@ -42,7 +42,7 @@ module _ (entries : List Entry) where
   apart_sum : (l a b : Rational) → l -ℚ (a +ℚ b) ≡ (l -ℚ a) -ℚ b
   apart_sum = ring₃ _ (λ ρ. simp as_expression (by_ring ρ _ _ refl))
 
-  pub gap_through : (h : Held)
+  pub gap_through : (h : DualRow)
       → gap_of (through entries h) ≡ gap_of h -ℚ pull_of h (constants_in entries)
   gap_through h =
       ap (λ q. low_of h.set h.duals -ℚ q)
@@ -51,7 +51,7 @@ module _ (entries : List Entry) where
       ∙ apart_sum (low_of h.set h.duals) (dot h.duals (constants h.functions))
       (pull_of h (constants_in entries))
 
-  pub held_through : (h : Held) → IsHeld h → IsHeld (through entries h)
+  pub held_through : (h : DualRow) → IsHeld h → IsHeld (through entries h)
   held_through h i =
       let same = length-map h.functions (composed (function_in entries)) in
       record {
@@ -60,7 +60,7 @@ module _ (entries : List Entry) where
         dual = i.dual;
       }
 
-  pub held_from_through : (h : Held) → IsHeld (through entries h) → IsHeld h
+  pub held_from_through : (h : DualRow) → IsHeld (through entries h) → IsHeld h
   held_from_through h i =
       let same = length-map h.functions (composed (function_in entries)) in
       record {
@@ -71,10 +71,10 @@ module _ (entries : List Entry) where
 
   -- ---- of all
 
-  abbrev pub all_through : List Held → List Held
+  abbrev pub all_through : List DualRow → List DualRow
   all_through hs = map (through entries) hs
 
-  pub adjoints_through : (hs : List Held) (v : Address)
+  pub adjoints_through : (hs : List DualRow) (v : Address)
       → adjoint (all_through hs) v ≡ pull hs (seen_at entries v)
   adjoints_through [] v = refl
   adjoints_through (h ∷ hs) v = ap₂ ◌+ℚ◌ (adjoint_through h v) (adjoints_through hs v)
@@ -82,7 +82,7 @@ module _ (entries : List Entry) where
   apart_sums : (g p a b : Rational) → (g -ℚ p) +ℚ (a -ℚ b) ≡ (g +ℚ a) -ℚ (p +ℚ b)
   apart_sums = ring₄ _ (λ ρ. simp as_expression (by_ring ρ _ _ refl))
 
-  pub gaps_through : (hs : List Held)
+  pub gaps_through : (hs : List DualRow)
       → gap (all_through hs) ≡ gap hs -ℚ pull hs (constants_in entries)
   gaps_through [] = sym (-ℚ-itself zero_ℚ)
   gaps_through (h ∷ hs) =
@@ -90,18 +90,18 @@ module _ (entries : List Entry) where
       ∙ apart_sums (gap_of h) (pull_of h (constants_in entries)) (gap hs)
       (pull hs (constants_in entries))
 
-  pub duals_through : (hs : List Held) → DualsHold hs → DualsHold (all_through hs)
+  pub duals_through : (hs : List DualRow) → DualsHold hs → DualsHold (all_through hs)
   duals_through hs d =
       All-map IsHeld (through entries) hs
       (All-weaker IsHeld (λ h. IsHeld (through entries h)) held_through hs d)
 
-  pub duals_from_through : (hs : List Held) → DualsHold (all_through hs) → DualsHold hs
+  pub duals_from_through : (hs : List DualRow) → DualsHold (all_through hs) → DualsHold hs
   duals_from_through hs d =
       All-weaker (λ h. IsHeld (through entries h)) IsHeld held_from_through hs
       (all_from_map IsHeld (through entries) hs d)
 
   -- equal adjoints stay equal, and a gap that is no smaller stays so
-  pub stand_through : (hs gs : List Held) → StandFor hs gs
+  pub stand_through : (hs gs : List DualRow) → StandFor hs gs
       → StandFor (all_through hs) (all_through gs)
   stand_through hs gs s = record {
     holds = duals_through hs s.holds;
@@ -136,7 +136,7 @@ module _ (entries : List Entry) where
 
 -- ---- one list after another, and one before another
 
-pub stand_both : (hs ls gs ks : List Held) → StandFor hs ls → StandFor gs ks
+pub stand_both : (hs ls gs ks : List DualRow) → StandFor hs ls → StandFor gs ks
     → StandFor (hs ++ gs) (ls ++ ks)
 stand_both hs ls gs ks s t = record {
   holds = All-append IsHeld hs gs s.holds t.holds;
@@ -148,7 +148,7 @@ stand_both hs ls gs ks s t = record {
       (≤ℚ-+ℚ (gap ls) (gap hs) (gap ks) (gap gs) s.gaps t.gaps));
 }
 
-pub stand_after : (hs gs ls : List Held) → StandFor hs gs → StandFor gs ls → StandFor hs ls
+pub stand_after : (hs gs ls : List DualRow) → StandFor hs gs → StandFor gs ls → StandFor hs ls
 stand_after hs gs ls s t = record {
   holds = s.holds;
   same = λ v. s.same v ∙ t.same v;
@@ -157,7 +157,7 @@ stand_after hs gs ls s t = record {
 
 -- ---- pulls at a point where the adjoints weigh alike
 
-pub pull_alike : (hs gs : List Held) (x : Address → Rational)
+pub pull_alike : (hs gs : List DualRow) (x : Address → Rational)
     → ((u : Address) → adjoint hs u *ℚ x u ≡ adjoint gs u *ℚ x u) → pull hs x ≡ pull gs x
 pull_alike hs gs x h =
     pull_over both hs x (supports_first both (mentioned_in hs) (mentioned_in gs)
@@ -171,15 +171,15 @@ pull_alike hs gs x h =
 
 -- ---- what isn't mentioned
 
-abbrev pub HeldMisses : Address → Held → Type 0
+abbrev pub HeldMisses : Address → DualRow → Type 0
 HeldMisses v h = Miss h.functions v
 
-pub adjoint_missed : (h : Held) (v : Address) → HeldMisses v h → adjoint_of h v ≡ zero_ℚ
+pub adjoint_missed : (h : DualRow) (v : Address) → HeldMisses v h → adjoint_of h v ≡ zero_ℚ
 adjoint_missed h v m =
     dot_zeros h.duals (coefficients h.functions v)
     (All-map (λ q. q ≡ zero_ℚ) (λ f. coefficient f v) h.functions m)
 
-pub adjoints_missed : (hs : List Held) (v : Address) → All (HeldMisses v) hs
+pub adjoints_missed : (hs : List DualRow) (v : Address) → All (HeldMisses v) hs
     → adjoint hs v ≡ zero_ℚ
 adjoints_missed [] v m = refl
 adjoints_missed (h ∷ hs) v m =

@@ -14,7 +14,7 @@ use Rattle.rational_laws.specs.Field.{+ℚ-zero, one-*ℚ, zero-+ℚ}
 use Rattle.aff_core.specs.Address.{Address, address_cmp}
 use Rattle.aff_core.specs.Arithmetic.{composed}
 use Rattle.aff_core.specs.Function.{Function, coefficient, variable}
-use Rattle.dual_laws.specs.Held.{DualsHold, Held, adjoint}
+use Rattle.dual_laws.specs.Held.{DualsHold, DualRow, adjoint}
 use Rattle.linear_laws.specs.SupportLaws.{count}
 use Rattle.item_core.specs.declared.image.Expression.{Expression}
 use Rattle.item_core.specs.declared.image.Expression.TheVariants.{Kept, Bridged as Made}
@@ -47,7 +47,7 @@ use Rattle.tree_laws.specs.ThroughLaws.{HeldMisses, adjoints_missed, untouched}
 
 -- ---- a native group, and one that an edge rewrites
 
-abbrev with_functions : Held → List Function → Held
+abbrev with_functions : DualRow → List Function → DualRow
 with_functions h fs = record h { functions = fs }
 
 own_functions : (vars : List Address) (vs : List Address)
@@ -169,7 +169,7 @@ module _ (setting : Setting) (costly : IsCostly (graph_of setting)) (choice : �
   module _ (item : Item) (is : GroupThere item) (n : ℕ)
       (e : choice (kind_number (kind_of_body item.body)) ≡ By n) (inner : List Entry)
       (w : Address → Rational) where
-    abbrev group_target : Held
+    abbrev group_target : DualRow
     group_target =
         held_item d.bound item (image_of (edge_at n) item) (map w (variables_of item.body))
 
@@ -235,7 +235,7 @@ module _ (setting : Setting) (costly : IsCostly (graph_of setting)) (choice : �
 
     module _ (inner : List Entry) (gs : EachBridged (rules_by choice) child_groups inner)
         (w : List Rational) where
-      abbrev row_target : Held
+      abbrev row_target : DualRow
       row_target = held_item d.bound item (image_of (edge_at n) item) w
 
       same_components : components inner ≡ inner_of child_groups

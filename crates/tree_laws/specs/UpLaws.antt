@@ -16,7 +16,7 @@ use Rattle.aff_core.specs.Address.{Address}
 use Rattle.aff_core.specs.Function.{evaluated}
 use Rattle.aff_core.specs.FunctionLists.{evaluations}
 use Rattle.linear_laws.specs.ListLaws.{evaluations-composed}
-use Rattle.dual_laws.specs.Held.{AllHold, Held, Holds}
+use Rattle.dual_laws.specs.Held.{AllHold, DualRow, Holds}
 use Rattle.item_core.specs.declared.item.Body.{Body}
 use Rattle.item_core.specs.declared.item.Body.TheVariants.{PlainObj, AffineObj}
 use Rattle.item_core.specs.declared.item.Item.{Item}
@@ -65,13 +65,13 @@ module _ (one : Rational) (a : zero_ℚ ≤ℚ one) (x : Address → Rational) w
   abbrev pub point_in : List Entry → Address → Rational
   point_in entries u = evaluated one (function_in entries u) x
 
-  pub to_point : (entries : List Entry) (h : Held) → Holds one (through entries h) x
+  pub to_point : (entries : List Entry) (h : DualRow) → Holds one (through entries h) x
       → Holds one h (point_in entries)
   to_point entries h k =
       subst (In (multiplied one h.set))
       (evaluations-composed (function_in entries) h.functions one x) k
 
-  from_point : (entries : List Entry) (h : Held) → Holds one h (point_in entries)
+  from_point : (entries : List Entry) (h : DualRow) → Holds one h (point_in entries)
       → Holds one (through entries h) x
   from_point entries h k =
       subst (In (multiplied one h.set))

@@ -8,7 +8,7 @@ use Rattle.ratio_core.specs.Rational.{Rational, neg_ℚ, zero_ℚ, ◌*ℚ◌, �
 use Rattle.rational_laws.specs.Sums.{sum_by_ℚ, sum_by_ℚ-map}
 use Rattle.aff_core.specs.Address.{Address}
 use Rattle.aff_core.specs.Function.{Function, coefficient}
-use Rattle.dual_laws.specs.Held.{DualsHold, Held, IsHeld, adjoint, adjoint_of, gap, gap_of}
+use Rattle.dual_laws.specs.Held.{DualsHold, DualRow, IsHeld, adjoint, adjoint_of, gap, gap_of}
 use Rattle.dual_laws.specs.PullLaws.{adjoint-append, gap-append}
 use Rattle.certificates.specs.Duals.{AreDuals, HasDuals, adjoint_of_rows, dual_gap, groups_with, rows_with}
 use Rattle.certificates.specs.Points.{all_addresses, at_point}
@@ -69,7 +69,7 @@ module _ (setting : Setting) (costly : IsCostly (graph_of setting)) (lawful : Ar
       abbrev pub rows_here : List (List Rational)
       rows_here = rows_of bridging d
 
-      abbrev pub objective_part : List Held
+      abbrev pub objective_part : List DualRow
       objective_part =
           held d.bound (objective_items model.objective)
           (drop (length (map row_item model.rows)) (backs d bridging.made.others))
@@ -77,13 +77,13 @@ module _ (setting : Setting) (costly : IsCostly (graph_of setting)) (lawful : Ar
       pub user_part : Weighs o user_f objective_part
       user_part = user_weighs setting costly lawful native model valid bridging d o refl refl
 
-      abbrev pub row_helds : List Held
+      abbrev pub row_helds : List DualRow
       row_helds = rows_with rows_here model.rows
 
       abbrev pub numbers : Address → Rational
       numbers = left setting costly lawful native model valid bridging o costs y nonpos duals weighs
 
-      abbrev pub group_part : List Held
+      abbrev pub group_part : List DualRow
       group_part = group_helds zero_ℚ numbers (model_image model).groups
 
       -- the user's rows, and beside them the objective

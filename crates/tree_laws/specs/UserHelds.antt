@@ -7,7 +7,7 @@ use Rattle.set_core.specs.Membership.{In}
 use Rattle.set_core.specs.Mirrored.{multiplied}
 use Rattle.aff_core.specs.Address.{Address}
 use Rattle.aff_core.specs.FunctionLists.{evaluations}
-use Rattle.dual_laws.specs.Held.{AllHold, DualsHold, Held, Holds, IsHeld}
+use Rattle.dual_laws.specs.Held.{AllHold, DualsHold, DualRow, Holds, IsHeld}
 use Rattle.certificates.specs.Duals.{HasDuals, groups_with, row_with, rows_with}
 use Rattle.certificates.specs.Points.{addresses_of, all_addresses, functions_of, functions_of_group}
 use Rattle.bridge_face.specs.Law.{held}
@@ -48,7 +48,7 @@ groups_are w z (g ∷ gs) h =
     (λ v c. h v (subst (λ l. Contains l v) (sym (split_addresses g gs))
     (Contains-append_right (addresses_of g.vars) (all_addresses gs) v c))))
 
-pub held_duals : (hs : List Held) → DualsHold hs → All HasDuals hs
+pub held_duals : (hs : List DualRow) → DualsHold hs → All HasDuals hs
 held_duals hs h =
     All-weaker IsHeld HasDuals (λ k i. record { size = i.size; dual = i.dual }) hs h
 

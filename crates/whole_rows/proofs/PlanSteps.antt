@@ -5,7 +5,7 @@ use Rattle.std.proofs.Common.{sym, ◌∙◌, ap, ap₂, mul-pos, subst, subst�
 use Rattle.ratio_core.specs.Gcd.{gcd, part_pos}
 use Rattle.ratio_core.specs.Rational.{reduce}
 use Rattle.whole_rows.specs.declared.narrow_row.NarrowRow.{NarrowRow}
-use Rattle.whole_rows.specs.declared.plan.Plan.{Plan}
+use Rattle.whole_rows.specs.declared.plan.LoweringPlan.{LoweringPlan}
 use Rattle.whole_rows.specs.Numerators.{AreLowered, AreWithin, LoweringFits}
 use Rattle.whole_rows.specs.Over.{lowered_num}
 use Rattle.whole_rows.specs.Rows.{IsLowered, IsPlan, number_of, numerator_of, width_of}
@@ -13,7 +13,7 @@ use Rattle.rational_laws.specs.Over.{over-zero_ℚ}
 use Rattle.tableau_core.specs.LoweringLaws.{lowered-zero, zero-step}
 use Rattle.whole_rows.proofs.RowSteps.{list_fits, lowered_within, number_lowered, side_fits, size_int_div}
 
-module _ (q : ℕ) (step row : NarrowRow) (plan : Plan) (planned : IsPlan q step row plan)
+module _ (q : ℕ) (step row : NarrowRow) (plan : LoweringPlan) (planned : IsPlan q step row plan)
     (long : width_of step ≡ width_of row) where
   bound_is : row.bound * plan.over + unsigned_abs plan.by * step.bound ≡ plan.bound
   bound_is =

@@ -5,7 +5,7 @@ use Rattle.ratio_core.specs.Gcd.{gcd}
 use Rattle.whole_rows.specs.declared.narrow_row.NarrowRow.{NarrowRow}
 use Rattle.std.specs.Int.{◌∣◌}
 use Rattle.whole_rows.specs.declared.plan.Division.{Division}
-use Rattle.whole_rows.specs.declared.plan.Plan.{Plan}
+use Rattle.whole_rows.specs.declared.plan.LoweringPlan.{LoweringPlan}
 use Rattle.whole_rows.specs.Numerators.{numerator, over_left, size_left}
 
 abbrev pub width_of : NarrowRow → ℕ
@@ -49,7 +49,7 @@ can_stay q step row =
     nat_lt q (width_of row) && nat_eq (width_of step) (width_of row) && stays_narrow q step row
 
 -- the plan by which the row is lowered and stays narrow
-pub record IsPlan (q : ℕ) (step row : NarrowRow) (plan : Plan) : Type 0 where
+pub record IsPlan (q : ℕ) (step row : NarrowRow) (plan : LoweringPlan) : Type 0 where
   pub over : plan.over ≡ over_left (numerator_of row q) step.den
   pub by : plan.by ≡ int_div (numerator_of row q)
       (pos (gcd (unsigned_abs (numerator_of row q)) step.den))

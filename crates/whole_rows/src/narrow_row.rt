@@ -8,7 +8,7 @@ use crate::blocks::{BLOCK, block_count, join_blocks, next_marked};
 use crate::clearing::{clear_numbers, copy_marked};
 use crate::dividing::{divide_numbers, measured, quotient, with_sign};
 use crate::lowering::lower_numbers;
-use crate::plan::{Division, LongPlan, Plan};
+use crate::plan::{Division, LongPlan, LoweringPlan};
 use crate::shrinking::{bound_of, common_of, shrink_numbers, shrunk};
 use crate::step::NarrowStep;
 use crate::widening::numerator;
@@ -234,7 +234,7 @@ impl NarrowRow {
     }
 
     // What the row is to be multiplied and lowered by, where it stays narrow.
-    fn plan(&self, step: &NarrowRow, q: usize) -> Option<Plan>
+    fn plan(&self, step: &NarrowRow, q: usize) -> Option<LoweringPlan>
         requires column { q < width_of self.now }
         ensures room { is_some result ≡ stays_narrow q step.now self.now }
         ensures plan { IfSome result (λ plan. IsPlan q step.now self.now plan) }
@@ -245,7 +245,7 @@ impl NarrowRow {
         let by = exact(entry, common);
         let bound = next_bound(self.bound, over, by.unsigned_abs(), step.bound)?;
         let den = next_den(self.den, over)?;
-        Some(Plan {
+        Some(LoweringPlan {
             over,
             by,
             bound,

@@ -1,7 +1,7 @@
 use Rattle.std.specs.Prelude.{◌+◌, ◌↔◌, IsTrue, All, length, ◌&&◌}
 use Rattle.std.proofs.Common.{◌∙◌, ap, drop, refl, subst, sym}
 use Rattle.ratio_core.specs.AnsweredLaws.{overflowed}
-use Rattle.dual_laws.specs.Held.{Held}
+use Rattle.dual_laws.specs.Held.{DualRow}
 use Rattle.set_core.specs.Membership.{Dual, DualFits}
 use Rattle.certificates.specs.Duals.{row_with, rows_with}
 use Rattle.cert_core.proofs.Rows.{next_row, row_set, row_size, rows_done, row_turn}
@@ -9,10 +9,10 @@ use Rattle.cert_core.proofs.Tested.{tested_end, tested_refused, tested_step, Tes
 use Rattle.cert_core.specs.CountedLaws.{counted_all}
 use Rattle.cert_core.proofs.duals.row_duals_hold.Goals as goal
 
-abbrev F : Held → Type 0
+abbrev F : DualRow → Type 0
 F h = DualFits h.set h.duals
 
-abbrev P : Held → Type 0
+abbrev P : DualRow → Type 0
 P h = Dual h.set h.duals
 
 pub dual_holds-requires : goal.dual_holds-requires

@@ -1,6 +1,6 @@
 -- Each command ran as its function says.
 use Rattle.std.proofs.Common.{◌≡◌, Some, ap, false, refl, sym}
-use Rattle.command_words.specs.declared.words.Command.TheVariants.{Generate}
+use Rattle.command_words.specs.declared.words.Invocation.TheVariants.{Generate}
 use Rattle.edit_engine.specs.Held.{machine_of}
 use Rattle.edit_engine.specs.Lines.{says_load}
 use Rattle.io_face.specs.Sink.{Adds, AddsPrefix}

@@ -1,6 +1,6 @@
 -- What holds of the command holds of the one that the words say.
 use Rattle.std.proofs.Common.{◌≡◌, sym, ◌∙◌, subst, refl}
-use Rattle.command_words.specs.declared.words.Command.{Command}
+use Rattle.command_words.specs.declared.words.Invocation.{Invocation}
 use Rattle.moi_run.specs.Tally.{tally_of}
 use Rattle.edit_engine.specs.Held.{machine_of}
 use Rattle.io_face.specs.Sink.{Adds, AddsPrefix}
@@ -25,7 +25,7 @@ returns-in-Some-clause-runs g c =
 
 pub returns-in-Some-clause-idle : goal.returns-in-Some-clause-idle
 returns-in-Some-clause-idle g c =
-    subst (λ (o : Option Command). IfCheck o (λ _ _. c.obey.new.session ≡ c.args.session.now))
+    subst (λ (o : Option Invocation). IfCheck o (λ _ _. c.obey.new.session ≡ c.args.session.now))
     (sym c.in-Some.is ∙ c.in-Ok.ensures.said) c.obey.ensures.idle
 
 pub returns-in-Some-clause-unread : goal.returns-in-Some-clause-unread

@@ -1,6 +1,6 @@
 -- The session was told the options, and then the lines were answered.
 use Rattle.std.proofs.Common.{Some}
-use Rattle.command_words.specs.declared.words.Command.TheVariants.{Run}
+use Rattle.command_words.specs.declared.words.Invocation.TheVariants.{Run}
 use Rattle.moi_run.specs.Tally.{tally_of}
 use Rattle.io_face.specs.Fault.{HasFaulted}
 use Rattle.edit_engine.specs.CountLaws.{calls_stay}

@@ -1,7 +1,7 @@
 use Rattle.std.specs.Prelude.{◌++◌, ◌↔◌, All, IsTrue}
 use Rattle.ratio_core.specs.AnsweredLaws.{passed_on}
 use Rattle.aff_core.specs.Points.{spread}
-use Rattle.dual_laws.specs.Held.{Held}
+use Rattle.dual_laws.specs.Held.{DualRow}
 use Rattle.set_core.specs.Membership.{Dual, DualFits}
 use Rattle.certificates.specs.Duals.{groups_with, rows_with}
 use Rattle.certificates.specs.Points.{all_addresses}
@@ -10,10 +10,10 @@ use Rattle.map_laws.specs.EachLaws.{all_first, all_second}
 use Rattle.cert_core.proofs.Tested.{all_two, appended_tell, iff_trans}
 use Rattle.cert_core.proofs.checking.Parts.duals_hold.Goals as goal
 
-abbrev F : Held → Type 0
+abbrev F : DualRow → Type 0
 F h = DualFits h.set h.duals
 
-abbrev P : Held → Type 0
+abbrev P : DualRow → Type 0
 P h = Dual h.set h.duals
 
 pub returns-in_err-rows : goal.returns-in_err-rows

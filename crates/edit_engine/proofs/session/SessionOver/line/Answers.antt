@@ -1,6 +1,6 @@
 use Rattle.std.proofs.Common.{refl, subst}
 use Rattle.cache_layer.specs.Cached as cached
-use Rattle.edit_engine.specs.Held.{Held, KeepsRefused, machine_of, state_of}
+use Rattle.edit_engine.specs.Held.{SessionValue, KeepsRefused, machine_of, state_of}
 use Rattle.edit_engine.specs.Lines.{line_asks}
 use Rattle.edit_engine.specs.Script.{Answered}
 use Rattle.edit_engine.proofs.Asking.{asks_or, fault_made, sound_or}
@@ -16,16 +16,16 @@ pub returns-clause-step : goal.returns-clause-step
 returns-clause-step g c =
     let told : Told =
     told_by (g.H.Shelf.files c.args.shelf.now) (g.H.Shelf.sure c.args.shelf.now) in
-    let before : Held = record { cache = c.self.inside.cache; pivots = c.self.inside.pivots } in
-    let after : Held = record { cache = c.step-made.new.cache; pivots = c.self.inside.pivots } in
-    subst (λ (h : Held). Answered (machine_of h told) c.args.line.now c.unwrap_or.result
+    let before : SessionValue = record { cache = c.self.inside.cache; pivots = c.self.inside.pivots } in
+    let after : SessionValue = record { cache = c.step-made.new.cache; pivots = c.self.inside.pivots } in
+    subst (λ (h : SessionValue). Answered (machine_of h told) c.args.line.now c.unwrap_or.result
     (machine_of after told)) c.self.view_is
     (answered_or (machine_of before told) (machine_of after told) c.args.line.now
     c.step-made.result c.unwrap_or.result c.unwrap_or.ensures c.step-made.ensures.step refl)
 
 pub returns-clause-untouched : goal.returns-clause-untouched
 returns-clause-untouched g c =
-    subst (λ (h : Held). KeepsRefused c.unwrap_or.result h.cache c.step-made.new.cache)
+    subst (λ (h : SessionValue). KeepsRefused c.unwrap_or.result h.cache c.step-made.new.cache)
     c.self.view_is
     (untouched_or c.self.inside.cache c.step-made.new.cache c.step-made.result c.unwrap_or.result
     c.unwrap_or.ensures c.step-made.ensures.untouched)
@@ -44,14 +44,14 @@ pub returns-clause-asks : goal.returns-clause-asks
 returns-clause-asks g c = λ other.
     let old = g.H.Shelf.asked c.args.shelf.now in
     let new = g.H.Shelf.asked c.step-made.new.shelf in
-    subst (λ (h : Held). AsksFor old new (line_asks (state_of h) c.args.line.now)) c.self.view_is
+    subst (λ (h : SessionValue). AsksFor old new (line_asks (state_of h) c.args.line.now)) c.self.view_is
     (asks_or c.step-made.result c.unwrap_or.result
     (AsksFor old new (line_asks (cached.state_of c.self.inside.cache) c.args.line.now))
     c.unwrap_or.ensures other c.step-made.ensures.asks)
 
 pub returns-clause-few : goal.returns-clause-few
 returns-clause-few g c =
-    subst (λ (h : Held). TakesFew c.unwrap_or.result h.cache.lazy c.step-made.new.cache.lazy)
+    subst (λ (h : SessionValue). TakesFew c.unwrap_or.result h.cache.lazy c.step-made.new.cache.lazy)
     c.self.view_is
     (few_or c.self.inside.cache.lazy c.step-made.new.cache.lazy c.step-made.result
     c.unwrap_or.result c.unwrap_or.ensures c.step-made.ensures.few)
