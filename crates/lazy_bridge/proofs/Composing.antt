@@ -7,6 +7,7 @@ use Rattle.bridge_set.specs.Boxed.{Boxed, families_of, means_of, occur_once, set
 use Rattle.bridge_set.specs.Turns.{turns_of}
 use Rattle.bridge_plan.specs.Means.{AreSound, Means}
 use Rattle.bridge_plan.specs.declared.plan.Plan.{Plan}
+use Rattle.edit_laws.specs.DifferingLaws.{chooses_itself, differing_touched, separated}
 use Rattle.fresh_bridging.specs.Entries.{Entry}
 use Rattle.fresh_bridging.specs.TheRules.{Setting}
 use Rattle.lazy_bridge.specs.Few.{CanPush, ChangesFew, IsPushedByFew}
@@ -20,7 +21,8 @@ use Rattle.local_laws.specs.Unlisted.{entries_of}
 use Rattle.model_bridging.specs.Planned.{Planned}
 use Rattle.model_bridging.specs.declared.fault.PushFault.{PushFault}
 use Rattle.model_bridging.specs.declared.fault.PushFault.TheVariants.{Unsupported, Overflow, Memory}
-use Rattle.push_laws.specs.Edits.{Edit, HoldsBridging}
+use Rattle.edit_laws.specs.Edits.{Edit}
+use Rattle.push_laws.specs.Edits.{HoldsBridging}
 use Rattle.solver_store.specs.SolverModel.{Stored}
 use Rattle.touched_items.specs.DifferenceLaws.{HasDifferences}
 use Rattle.touched_items.specs.declared.differing.Differing.{Differing}
@@ -55,6 +57,7 @@ module _ (boxes : Boxed) (solver : Stored) (places : AddressMap) (objective_at :
     abbrev pub edit : Edit
     edit = record {
       boxes = boxes;
+      table = boxes.table;
       solver = solver.leaves;
       places = places;
       objective_at = objective_at;
@@ -63,10 +66,16 @@ module _ (boxes : Boxed) (solver : Stored) (places : AddressMap) (objective_at :
       sound = start.sound;
       native = start.native;
       once = start.once;
+      costly = start.sound.costly;
+      lawful = start.sound.lawful;
+      native_before = start.native;
       held = start.held;
       valid = start.valid;
       d = d;
-      differs = differs;
+      separates = separated model after start.held.valid start.valid d differs;
+      alike = λ at out. chooses_itself start.held.bridging start.sound.costly (means_of boxes).choice
+          start.sound.chosen at;
+      touched = λ new. differing_touched start.held.bridging new d differs;
     }
 
     pub of_edit : (read : ModelValue) → read ≡ after → IsEditOf edit boxes places read d

@@ -9,6 +9,7 @@ mod Sets
 mod Listing
 mod Planning
 mod Composing
+mod TableSteps
 mod Changing
 mod Mapping
 mod Noting

@@ -10,7 +10,7 @@ use Rattle.lazy_bridge.specs.Expressed.{SetsAt, expr_at, is_marked}
 use Rattle.lazy_bridge.specs.Mentioned.{Notes, contents_name, is_noted}
 use Rattle.lazy_bridge.proofs.Names.{still_noted}
 use Rattle.leaf_update.specs.Others.{among}
-use Rattle.push_laws.specs.Edits.{Edit, IsMappedAnew}
+use Rattle.edit_laws.specs.Edits.{Edit, IsMappedAnew}
 use Rattle.std.specs.Prelude.{List}
 use Rattle.touched_items.specs.Differences.{groups_in, variables_in}
 use Rattle.touched_items.specs.declared.differing.Differing.{Differing}

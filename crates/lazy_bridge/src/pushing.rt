@@ -13,7 +13,7 @@ ghost use Rattle.found_plan.specs.Read.{named_by, own_entries, read_entries};
 ghost use Rattle.fresh_bridging.specs.Entries.{expression_in};
 ghost use Rattle.lazy_bridge.specs.Steps.{AreGroupsOf, IsChangedOf, IsEditOf, IsFoundBy, IsHeldBy, IsMadeBy, IsPassedBy, IsPlannedOf, IsPushedTo, IsStart, changing_variables, parts_of};
 ghost use Rattle.local_laws.specs.Unlisted.{LeadBackTo, entries_of};
-ghost use Rattle.push_laws.specs.Edits.{Edit, IsMappedAnew, missing_groups};
+ghost use Rattle.edit_laws.specs.Edits.{Edit, IsMappedAnew, missing_groups};
 ghost use Rattle.touched_items.specs.DifferenceLaws.{HasDifferences};
 ghost use Rattle.touched_items.specs.Differences.{differing_addresses, groups_in};
 ghost use Rattle.touched_items.specs.Results.{found_rows};
@@ -96,7 +96,7 @@ fn find_differing<'a>(
 }
 
 // Plans what an edit touches, and changes nothing but the boxes' turns.
-fn plan_touched<'a, B: Bridge>(
+pub(crate) fn plan_touched<'a, B: Bridge>(
     alloc: Global,
     boxes: &mut Boxes<B>,
     map: &AddressMap,
@@ -248,7 +248,7 @@ fn check_all<'a, B: Bridge>(
 
 // Puts what is planned in the place of what was held. The answer is the number of addresses at which
 // the leaves differ. After `Memory` some of this may be done.
-fn change_touched<B: Bridge>(
+pub(crate) fn change_touched<B: Bridge>(
     alloc: Global,
     boxes: &mut Boxes<B>,
     solver: &mut SolverModel,

@@ -1,0 +1,12 @@
+pub mod Edits
+pub mod GivenLaws
+pub mod AloneLaws
+pub mod RefusedLaws
+pub mod PlannedLaws
+pub mod FurtherLaws
+pub mod UnfitLaws
+pub mod WalkedLaws
+pub mod GroupsHad
+pub mod MappedLaws
+pub mod Composed
+pub mod DifferingLaws

@@ -1,0 +1,4 @@
+pub mod ChangedKinds
+pub mod OccursLaws
+pub mod PutKindLaws
+pub mod ChangedKindLaws
