@@ -22,10 +22,10 @@ use Rattle.leaf_update.specs.Others.{others_among}
 use Rattle.leaf_update.specs.Splice.{Gone, IsSplice, IsSplicedInto, KeepsIndices, spliced_model}
 use Rattle.leaf_model.specs.LeafModel.{IsChanged}
 use Rattle.leaf_model.specs.ReadThrough.{read_through}
-use Rattle.edit_laws.specs.Composed.{done, free_here, keepable_here, splice_here}
-use Rattle.edit_laws.specs.Edits.{Edit, IsMappedAnew}
-use Rattle.edit_laws.specs.GroupsHad.{all_roots}
-use Rattle.edit_laws.specs.WalkedLaws.{narrow_boxes, nodes_alone}
+use Rattle.push_laws.specs.Composed.{done, free_here, keepable_here, splice_here}
+use Rattle.push_laws.specs.Edits.{Edit, IsMappedAnew}
+use Rattle.push_laws.specs.GroupsHad.{all_roots}
+use Rattle.push_laws.specs.WalkedLaws.{narrow_boxes, nodes_alone}
 use Rattle.solver_store.specs.SolverModel.{Leaves, Stored}
 use Rattle.touched_items.specs.Differences.{groups_in}
 use Rattle.touched_items.specs.declared.differing.Differing.{Differing}

@@ -7,7 +7,7 @@ use Rattle.bridge_set.specs.Boxed.{Boxed, families_of, means_of, occur_once, set
 use Rattle.bridge_set.specs.Turns.{turns_of}
 use Rattle.bridge_plan.specs.Means.{AreSound, Means}
 use Rattle.bridge_plan.specs.declared.plan.Plan.{Plan}
-use Rattle.edit_laws.specs.DifferingLaws.{chooses_itself, differing_touched, separated}
+use Rattle.push_laws.specs.DifferingLaws.{chooses_itself, differing_touched, separated}
 use Rattle.fresh_bridging.specs.Entries.{Entry}
 use Rattle.fresh_bridging.specs.TheRules.{Setting}
 use Rattle.lazy_bridge.specs.Few.{CanPush, ChangesFew, IsPushedByFew}
@@ -21,8 +21,7 @@ use Rattle.local_laws.specs.Unlisted.{entries_of}
 use Rattle.model_bridging.specs.Planned.{Planned}
 use Rattle.model_bridging.specs.declared.fault.PushFault.{PushFault}
 use Rattle.model_bridging.specs.declared.fault.PushFault.TheVariants.{Unsupported, Overflow, Memory}
-use Rattle.edit_laws.specs.Edits.{Edit}
-use Rattle.push_laws.specs.Edits.{HoldsBridging}
+use Rattle.push_laws.specs.Edits.{Edit, HoldsBridging}
 use Rattle.solver_store.specs.SolverModel.{Stored}
 use Rattle.touched_items.specs.DifferenceLaws.{HasDifferences}
 use Rattle.touched_items.specs.declared.differing.Differing.{Differing}

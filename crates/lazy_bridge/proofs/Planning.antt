@@ -25,9 +25,9 @@ use Rattle.model_bridging.specs.ModelHeld.{unfit, unfit_put}
 use Rattle.model_bridging.specs.Outcome.{IsFirstAt, KindsOutcome, Outcome}
 use Rattle.model_bridging.specs.declared.fault.PushFault.{PushFault}
 use Rattle.model_bridging.specs.declared.fault.PushFault.TheVariants.{Unsupported, Overflow, Memory}
-use Rattle.edit_laws.specs.Composed.{others_within, overflow_others}
-use Rattle.edit_laws.specs.Edits.{AreAllOwn, AreChanging, Edit, IsSearch, choice_here, groups_held, missing_groups, missing_others}
-use Rattle.edit_laws.specs.RefusedLaws.{groups_within, overflow_groups, unsupported_groups, unsupported_others, unsupported_wide}
+use Rattle.push_laws.specs.Composed.{others_within, overflow_others}
+use Rattle.push_laws.specs.Edits.{AreAllOwn, AreChanging, Edit, IsSearch, choice_here, groups_held, missing_groups, missing_others}
+use Rattle.push_laws.specs.RefusedLaws.{groups_within, overflow_groups, unsupported_groups, unsupported_others, unsupported_wide}
 use Rattle.touched_items.specs.Differences.{differing_addresses, groups_in, own_variables}
 use Rattle.touched_items.specs.HeldExpressions.{stays_as}
 use Rattle.touched_items.specs.Search.{AreInOrder, objective_among, row_at}

@@ -9,14 +9,14 @@ use Rattle.bridge_plan.specs.Means.{AreSound, Means}
 use Rattle.bridge_plan.specs.declared.plan.Plan.{Plan}
 use Rattle.bridge_set.specs.Boxed.{Boxed, choice_in, families_of, means_of, occur_once, setting_by, setting_of}
 use Rattle.bridge_set.specs.Turns.{turns_of}
-use Rattle.edit_laws.specs.Edits.{Edit}
+use Rattle.push_laws.specs.Edits.{Edit}
 use Rattle.found_plan.specs.Read.{is_marked}
 use Rattle.fresh_bridging.specs.Entries.{Entry}
 use Rattle.item_core.specs.Kind.{kind_number}
 use Rattle.item_core.specs.declared.kind.Kind.{Kind}
 use Rattle.item_core.specs.declared.table.Table.{Table}
-use Rattle.kind_changes.specs.ChangedKindLaws.{changed_alike}
-use Rattle.kind_changes.specs.ChangedKinds.{is_changed}
+use Rattle.table_change.specs.ChangedKindLaws.{changed_alike}
+use Rattle.table_change.specs.ChangedKinds.{is_changed}
 use Rattle.lazy_bridge.specs.Steps.{IsChangedOf, IsEditOf, IsHeldBy, IsPlannedOf, IsRefusedBy}
 use Rattle.lazy_bridge.specs.Few.{ChangesFew, IsRetabledByFew}
 use Rattle.lazy_bridge.specs.Native.{supports_native}
@@ -33,7 +33,7 @@ use Rattle.model_bridging.specs.declared.fault.PushFault.{PushFault}
 use Rattle.model_bridging.specs.declared.fault.PushFault.TheVariants.{Unsupported, Overflow, Memory}
 use Rattle.solver_store.specs.SolverModel.{Stored}
 use Rattle.table_change.specs.Given.{AreGiven, passes}
-use Rattle.table_change.specs.TableEdits.{AreRetabled, table_edit}
+use Rattle.lazy_bridge.proofs.TableEdits.{AreRetabled, table_edit}
 use Rattle.touched_items.specs.declared.differing.Differing.{Differing}
 use Rattle.user_model.specs.Model.{ModelValue}
 

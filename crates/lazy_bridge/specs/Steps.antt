@@ -25,9 +25,8 @@ use Rattle.model_bridging.specs.Outcome.{IsFirstAt}
 use Rattle.model_bridging.specs.declared.fault.PushFault.{PushFault}
 use Rattle.model_bridging.specs.declared.fault.PushFault.TheVariants.{Unsupported, Overflow, Memory}
 use Rattle.lazy_bridge.specs.declared.pushing.Planned.{Planned}
-use Rattle.edit_laws.specs.Composed.{IsDone}
-use Rattle.edit_laws.specs.Edits.{Edit, Step, groups_held, missing_groups, setting_here, unfit_groups}
-use Rattle.push_laws.specs.Edits.{HoldsBridging}
+use Rattle.push_laws.specs.Composed.{IsDone}
+use Rattle.push_laws.specs.Edits.{Edit, Step, groups_held, missing_groups, setting_here, unfit_groups, HoldsBridging}
 use Rattle.solver_store.specs.SolverModel.{Stored}
 use Rattle.tree_laws.specs.LeafLaws.{SupportsNativeKinds}
 use Rattle.touched_items.specs.Differences.{own_variables}

@@ -1,16 +1,20 @@
 -- Another table for a bridged model, as one function hands it to the next.
+--     HoldsByTable      it stands in boxes that choose by another table
 --     IsTableStart      the fresh bridging of a model by other choices stands
 --     IsRetabled        the one by the boxes' choices stands, with few turns
 --     IsRetabledTo      what is answered, and what is left
 --     IsRetabledFrom    so of a lazy bridging
-use Rattle.std.specs.Prelude.{◌≡◌, ◌≤◌, ◌+◌, ◌*◌, ℕ, List, Some, Result, Ok, Err}
+use Rattle.std.specs.Prelude.{◌≡◌, ◌≤◌, ◌+◌, ◌*◌, ℕ, true, List, Some, Result, Ok, Err}
 use Rattle.address_map.specs.AddressMap.{AddressMap}
 use Rattle.aff_core.specs.Address.{Address}
+use Rattle.bridge_graph.specs.Hypergraph.{IsCostly}
 use Rattle.bridge_graph.specs.declared.Choice.{Choice}
 use Rattle.bridge_plan.specs.Means.{AreSound}
-use Rattle.bridge_set.specs.Boxed.{Boxed, choice_in, means_of, setting_of}
+use Rattle.bridge_set.specs.Boxed.{Boxed, choice_in, families_of, means_of, occur_once, setting_by, setting_of}
 use Rattle.bridge_set.specs.Turns.{turns_of}
+use Rattle.fresh_bridging.specs.CanLaws.{AreLawful}
 use Rattle.fresh_bridging.specs.FreshBridging.{FreshBridging, IsUnsupported, unfit_at}
+use Rattle.fresh_bridging.specs.TheRules.{AreChoices, graph_of}
 use Rattle.fresh_bridging.specs.Touched.{IsInner}
 use Rattle.item_core.specs.Kind.{kind_number}
 use Rattle.item_core.specs.declared.kind.Kind.{Kind}
@@ -22,9 +26,23 @@ use Rattle.leaf_update.specs.Splice.{KeepsIndices}
 use Rattle.model_bridging.specs.declared.fault.PushFault.{PushFault}
 use Rattle.model_bridging.specs.declared.fault.PushFault.TheVariants.{Unsupported, Overflow, Memory}
 use Rattle.push_laws.specs.Edits.{HoldsBridging}
-use Rattle.solver_store.specs.SolverModel.{Stored}
-use Rattle.table_change.specs.TableEdits.{HoldsByTable}
+use Rattle.solver_store.specs.SolverModel.{Leaves, Stored}
+use Rattle.tree_laws.specs.LeafLaws.{SupportsNativeKinds}
 use Rattle.user_model.specs.Model.{ModelValue}
+
+-- boxes that choose by another table than the one by which a fresh bridging was made that they hold
+pub record HoldsByTable (boxes : Boxed) (table : Table) (choice : ℕ → Choice) (solver : Leaves)
+    (places : AddressMap) (objective_at : Address) (model : ModelValue) : Type 0 where
+  pub sound : AreSound (means_of boxes)
+  pub native : SupportsNativeKinds (setting_of boxes)
+  pub once : occur_once (families_of boxes.states) ≡ true
+  -- by the table before
+  pub costly : IsCostly (graph_of (setting_by table boxes.states))
+  pub lawful : AreLawful (setting_by table boxes.states)
+  pub chosen : AreChoices (setting_by table boxes.states) choice
+  pub native_before : SupportsNativeKinds (setting_by table boxes.states)
+  pub held :
+      HoldsBridging (setting_by table boxes.states) boxes.states solver places objective_at model
 
 -- the fresh bridging of a model stands, by a table and these choices
 pub record IsTableStart (boxes : Boxed) (table : Table) (choices : List Choice) (solver : Stored)

@@ -35,13 +35,13 @@ use bridge_graph::Choice;
 use bridge_plan::Rewriter;
 use bridge_set::Boxes;
 use item_core::{Kind, Table};
-use kind_changes::{Choices, list_choices};
 use lists::Memory;
 use model_bridging::{ModelPlan, PushFault, plan_model};
 use model_store::{Reading, Undo, UserModel};
 use solver_store::SolverModel;
 use std::alloc::Global;
 use std::marker::Model;
+use table_change::{Choices, list_choices};
 
 /// The lazy bridging over boxed bridges.
 pub type Lazy = LazyOver<Box<dyn Bridge>>;

@@ -13,7 +13,7 @@ ghost use Rattle.found_plan.specs.Read.{named_by, own_entries, read_entries};
 ghost use Rattle.fresh_bridging.specs.Entries.{expression_in};
 ghost use Rattle.lazy_bridge.specs.Steps.{AreGroupsOf, IsChangedOf, IsEditOf, IsFoundBy, IsHeldBy, IsMadeBy, IsPassedBy, IsPlannedOf, IsPushedTo, IsStart, changing_variables, parts_of};
 ghost use Rattle.local_laws.specs.Unlisted.{LeadBackTo, entries_of};
-ghost use Rattle.edit_laws.specs.Edits.{Edit, IsMappedAnew, missing_groups};
+ghost use Rattle.push_laws.specs.Edits.{Edit, IsMappedAnew, missing_groups};
 ghost use Rattle.touched_items.specs.DifferenceLaws.{HasDifferences};
 ghost use Rattle.touched_items.specs.Differences.{differing_addresses, groups_in};
 ghost use Rattle.touched_items.specs.Results.{found_rows};

@@ -8,12 +8,11 @@ use address_map::AddressMap;
 use aff_core::Address;
 use bridge_face::Bridge;
 use bridge_set::Boxes;
-use kind_changes::{Choices, changed_kinds, list_choices};
 use model_bridging::PushFault;
 use model_store::{Reading, UserModel};
 use solver_store::SolverModel;
 use std::alloc::Global;
-use table_change::find_changed;
+use table_change::{Choices, changed_kinds, find_changed, list_choices};
 
 // Bridges a model anew whose fresh bridging by other choices stands. The answer is the number of
 // addresses at which the leaves differ. After `Memory` some of this may be done.

@@ -1,1 +1,2 @@
+mod ChangedSteps
 mod FoundSteps

@@ -87,4 +87,4 @@ returns-in-Ok-clause-touched g c =
     c.table-before.ensures.sound set.sound c.table-before.ensures.once
     c.table-before.ensures.native c.requires.native c.requires.stands c.list_choices-choices.result
     (λ kind. c.list_choices-choices.ensures.each kind
-          ∙ ap (λ (o : Owned). choice_in o.boxes.choices (kind_number kind)) c.self.view_is) c.rebridge.new.self c.in-Ok.ensures.touched
+    ∙ ap (λ (o : Owned). choice_in o.boxes.choices (kind_number kind)) c.self.view_is) c.rebridge.new.self c.in-Ok.ensures.touched

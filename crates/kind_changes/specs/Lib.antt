@@ -1,4 +1,0 @@
-pub mod ChangedKinds
-pub mod OccursLaws
-pub mod PutKindLaws
-pub mod ChangedKindLaws
