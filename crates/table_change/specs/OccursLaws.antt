@@ -42,7 +42,6 @@ Occurs items k = (i : Item) × Contains items i × (kind_of_body i.body ≡ k)
 
 -- ---- kinds by what they are of
 
--- of groups, or of free variables
 abbrev is_of_variables : Kind → Bool
 is_of_variables k = is_group_kind k || kind_eq k kind.Free
 
@@ -178,7 +177,6 @@ two_kinds test a b i j not_a is_b first second leads =
           (All-nil (λ x. test x ≡ true → x ≡ b)))),
     ) (All-nil (Occurs (i ∷ j ∷ []))))
 
--- a group, a row and an objective
 three_kinds : (a b c : Kind) (i j k : Item)
     → is_shaped family.ObjSlack a (kinds.Three a b c) ≡ true
     → is_of_variables (kind_of_body i.body) ≡ true
