@@ -1,6 +1,6 @@
 -- Lists compared in turn: where each item is as the other's at its place, all are. And notes stay
 -- where the items that differ name the same variables.
-use Rattle.std.specs.Prelude.{◌≡◌, ◌<◌, ◌≤◌, ◌+◌, ◌&&◌, ◌||◌, ℕ, Bool, true, false, not, List, [], ◌∷◌, Option, length, map, take, get_or, refl}
+use Rattle.std.specs.Prelude.{◌≡◌, ◌<◌, ◌≤◌, ◌+◌, ◌&&◌, ◌||◌, ℕ, Bool, true, false, not, List, [], ◌∷◌, length, map, take, get_or, refl}
 use Rattle.std.specs.List.{list_all, list_any, zip}
 use Rattle.std.proofs.Common.{arith, ap, sym, ◌∙◌, true≢false}
 use Rattle.std.proofs.lemmas.List.{take_all}

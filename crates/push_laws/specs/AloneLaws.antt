@@ -1,8 +1,8 @@
 -- A model's groups alone: what stands for its variables is known once they are bridged, whatever its
 -- rows and its objective are.
-use Rattle.std.specs.Prelude.{◌≡◌, ◌≢◌, ◌⊎◌, ◌+◌, ◌<◌, ◌≤◌, IsSome, ℕ, Bool, true, false, cond, List, [], ◌∷◌, All, Contains, find, map, Option, Some, None, refl}
+use Rattle.std.specs.Prelude.{◌≡◌, ◌≢◌, ◌+◌, ◌<◌, ◌≤◌, IsSome, ℕ, Bool, true, false, cond, List, [], ◌∷◌, All, find, map, Option, Some, None, refl}
 use Rattle.std.specs.Option.{option_or}
-use Rattle.std.proofs.Common.{arith, inl, inr, ap, sym, subst, ◌∙◌, true≢false}
+use Rattle.std.proofs.Common.{arith, ap, sym, ◌∙◌, true≢false}
 use Rattle.std.proofs.lemmas.List.Elements.{All-append, All-cons, All-map, All-nil, All-weaker}
 use Rattle.std.proofs.lemmas.List.Folds.{find-append}
 use Rattle.address_laws.specs.DistinctLaws.{others_of_model_apart}

@@ -1,9 +1,9 @@
 -- What is given of an edit: the groups to be bridged anew stand at its addresses, before and after, and a
 -- search finds no other group.
-use Rattle.std.specs.Prelude.{◌≡◌, ◌⊎◌, ◌++◌, Bool, true, false, cond, List, [], ◌∷◌, All, Contains, filter, find as first_passing, flat_map, is_some, map, Option, Some, refl}
+use Rattle.std.specs.Prelude.{◌≡◌, Bool, true, false, cond, List, [], ◌∷◌, All, Contains, filter, find as first_passing, is_some, Option, Some, refl}
 use Rattle.std.specs.FinMap as finite
-use Rattle.std.proofs.Common.{inl, inr, ap, sym, subst, ◌∙◌, true≢false}
-use Rattle.std.proofs.lemmas.List.Elements.{All-cons, All-contains, All-contains_itself, All-filter, All-head, All-map, All-nil, All-tail, All-weaker, Contains-append_left, Contains-append_right}
+use Rattle.std.proofs.Common.{ap, sym, subst, ◌∙◌, true≢false}
+use Rattle.std.proofs.lemmas.List.Elements.{All-cons, All-filter, All-head, All-map, All-nil, All-tail, All-weaker, Contains-append_left, Contains-append_right}
 use Rattle.address_map.specs.Noted.{noted_items}
 use Rattle.aff_core.specs.Address.{Address, address_eq-Decides}
 use Rattle.push_laws.specs.Edits.{AreGroupsAt, Edit, IsSearch, old_here}

@@ -3,7 +3,7 @@
 use Rattle.std.specs.Prelude.{◌≡◌, ◌⊎◌, ◌++◌, Bool, true, false, cond, List, [], ◌∷◌, All, AllPairs, Contains, filter, map, Option, Some, None, refl}
 use Rattle.std.specs.Option.{option_map_or}
 use Rattle.std.proofs.Common.{inl, inr, sym, subst}
-use Rattle.std.proofs.lemmas.List.Elements.{All-append, All-cons, All-contains, All-contains_itself, All-map, All-nil, All-weaker, Contains-append_cases, Contains-append_left, Contains-append_right}
+use Rattle.std.proofs.lemmas.List.Elements.{All-append, All-cons, All-contains, All-contains_itself, All-map, All-nil, All-weaker}
 use Rattle.address_laws.specs.Apart.{Avoids, Distinct, distinct-across, distinct-append, distinct-first, distinct-second}
 use Rattle.address_map.specs.Noted.{noted_items}
 use Rattle.aff_core.specs.Address.{Address, address_eq-Decides, root_address}

@@ -1,13 +1,10 @@
 -- Each refusal of an edit is right: the first item without a tree is of the kind that is answered, and
 -- where each has one, the first item that doesn't fit stands at the address.
-use Rattle.std.specs.Prelude.{◌≡◌, ◌⊎◌, Bool, true, false, List, [], ◌∷◌, All, Contains, filter, find, is_some, map, not, Option, Some, None, refl}
+use Rattle.std.specs.Prelude.{◌≡◌, Bool, true, false, List, [], ◌∷◌, All, Contains, filter, is_some, map, refl}
 use Rattle.std.specs.FinMap as finite
 use Rattle.std.specs.Map.{keys_of}
-use Rattle.std.specs.Option.{option_map, option_or}
-use Rattle.std.proofs.Common.{ap, ap₂, sym, subst, ◌∙◌}
-use Rattle.std.proofs.lemmas.List.Elements.{All-contains, All-filter, All-weaker, filter-append}
-use Rattle.std.proofs.lemmas.List.Folds.{find-append}
-use Rattle.std.proofs.lemmas.Option.{none-some}
+use Rattle.std.proofs.Common.{ap, sym, ◌∙◌}
+use Rattle.std.proofs.lemmas.List.Elements.{All-contains}
 use Rattle.aff_core.specs.Address.{Address, address_cmp, address_total}
 use Rattle.leaf_update.specs.LeavesLaws.{among_contained, contains_among, looked_among}
 use Rattle.leaf_update.specs.Others.{among}

@@ -1,9 +1,9 @@
 -- What stands for the variables that the found rows and the objective name is what stands for them by
 -- the new bridging.
-use Rattle.std.specs.Prelude.{◌≡◌, ◌⊎◌, ◌++◌, Bool, true, false, cond, find as first_passing, List, [], ◌∷◌, All, Contains, Option, Some, flat_map, map, refl}
-use Rattle.std.proofs.Common.{inl, inr, sym, ap, subst, ◌∙◌}
+use Rattle.std.specs.Prelude.{◌≡◌, ◌++◌, Bool, true, false, List, [], ◌∷◌, All, Contains, flat_map, map, refl}
+use Rattle.std.proofs.Common.{sym, ap, subst, ◌∙◌}
 use Rattle.std.proofs.lemmas.List.{map-append}
-use Rattle.std.proofs.lemmas.List.Elements.{All-append, All-cons, All-contains, All-filter, All-head, All-map, All-nil, All-weaker, Contains-append_right}
+use Rattle.std.proofs.lemmas.List.Elements.{All-append, All-cons, All-head, All-map, All-nil, All-weaker}
 use Rattle.aff_core.specs.Address.{Address}
 use Rattle.bridge_face.specs.Law.{Miss}
 use Rattle.fresh_bridging.specs.ModelImage.{group_item, model_image, objective_items, row_item}

@@ -1,11 +1,10 @@
 -- The tests for trees of an edit's step, on the items that are found: of the groups to be bridged anew,
 -- and then of the rows and the objective. Each refusal is right: the first item without a tree is of the
 -- kind that is answered, and where each has one, the first item that doesn't fit stands at the address.
-use Rattle.std.specs.Prelude.{◌≡◌, ◌≢◌, ◌⊎◌, ◌++◌, ℕ, Bool, true, false, List, [], ◌∷◌, All, Contains, filter, find, flat_map, map, not, Option, Some, None, refl}
-use Rattle.std.specs.List.{filter_map}
+use Rattle.std.specs.Prelude.{◌≡◌, ◌≢◌, ◌⊎◌, ℕ, Bool, true, false, List, [], All, Contains, filter, find, map, not, Option, Some, None, refl}
 use Rattle.std.specs.Option.{option_map, option_or}
 use Rattle.std.proofs.Common.{ap, ap₂, inl, inr, sym, subst, ◌∙◌, true≢false}
-use Rattle.std.proofs.lemmas.List.Elements.{All-append, All-contains, All-filter, All-weaker, filter-append}
+use Rattle.std.proofs.lemmas.List.Elements.{All-append, All-filter, All-weaker, filter-append}
 use Rattle.std.proofs.lemmas.List.Folds.{find-append}
 use Rattle.std.proofs.lemmas.Option.{none-some, same_Some}
 use Rattle.aff_core.specs.Address.{Address}

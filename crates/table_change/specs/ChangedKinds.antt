@@ -3,7 +3,7 @@
 --     led_to          the kinds that a choice leads to
 --     is_changed      the other choice of the kind isn't the same, or that of a kind to which the choices
 --                     lead from it, on some levels
-use Rattle.std.specs.Prelude.{◌≡◌, ◌==◌, ◌||◌, ℕ, zero, suc, Bool, true, false, not, List, []}
+use Rattle.std.specs.Prelude.{◌==◌, ◌||◌, ℕ, zero, suc, Bool, true, false, not, List, []}
 use Rattle.std.specs.List.{list_any}
 use Rattle.bridge_graph.specs.declared.Choice.{Choice}
 use Rattle.bridge_graph.specs.declared.Choice.TheVariants.{By, Missing, Native}
