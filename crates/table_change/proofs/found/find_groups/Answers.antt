@@ -3,7 +3,7 @@ use Rattle.std.proofs.Common.{ap, ◌∙◌}
 use Rattle.found_plan.specs.Read.{is_marked}
 use Rattle.fresh_bridging.specs.ModelImage.{group_item}
 use Rattle.table_change.specs.Given.{is_given, passes}
-use Rattle.table_change.proofs.FoundSteps.{finding_done, finding_more}
+use Rattle.table_change.proofs.FoundSteps.{finding_more}
 use Rattle.table_change.proofs.found.find_groups.Goals as goal
 use Rattle.user_model.specs.declared.group.Group.{Group}
 
