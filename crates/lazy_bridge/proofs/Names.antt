@@ -12,7 +12,6 @@ use Rattle.lazy_bridge.specs.Mentioned.{contents_name, is_noted, other_names, ro
 use Rattle.push_laws.specs.Edits.{Edit}
 use Rattle.touched_items.specs.Differences.{rows_in}
 use Rattle.touched_items.specs.declared.differing.Contents.{Contents}
-use Rattle.touched_items.specs.Sides.{same}
 use Rattle.user_model.specs.Model.{objective_mentions}
 
 -- ---- two lists, from the first to the last
