@@ -22,8 +22,3 @@ module _ {X : Type 0} (p : X → Bool) where
       ∙ one_more (p x) x found rest
       ∙ sym (ap (λ l. found ++ filter p l) next)
       ∙ h
-
-  pub finding_done : (all left found : List X) → IsFinding all left found → left ≡ []
-      → found ≡ filter p all
-  finding_done all left found h none =
-      sym (append-nil found) ∙ sym (ap (λ l. found ++ filter p l) none) ∙ h

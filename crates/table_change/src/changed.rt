@@ -1,15 +1,14 @@
 //! Which kinds other choices bridge otherwise.
-ghost use Rattle.std.specs.Prelude.{◌≡◌, ◌<◌, false, length, map, slice_index_or};
+ghost use Rattle.std.specs.Prelude.{◌≡◌, ◌<◌, false, length, slice_index_or};
 ghost use Rattle.bridge_set.specs.Boxed.{choice_in};
 ghost use Rattle.item_core.specs.Edge.{kinds_in};
 ghost use Rattle.item_core.specs.Kind.{kind_number};
-ghost use Rattle.item_core.specs.declared.edge.Edge.TheVariants.{E1};
 ghost use Rattle.item_core.specs.declared.kind.Kind.{Kind};
 ghost use Rattle.table_change.specs.ChangedKinds.{is_changed, led_to, same_choice};
 
 use bridge_graph::Choice;
-use bridge_plan::Rewriter;
-use item_core::{Children, EDGES, Edge, EdgeEntry, KIND_COUNT, KINDS, Kind};
+use bridge_plan::{Rewriter, edge_of};
+use item_core::{Children, KIND_COUNT, KINDS, Kind};
 
 /// The choice of each kind, by its number.
 pub type Choices = [Choice; KIND_COUNT];
@@ -114,16 +113,7 @@ fn led_to(choice: Choice) -> Children
     ensures { kinds_in result ≡ led_to choice }
 {
     match choice {
-        Choice::By(edge) => edge_in(&EDGES, edge).entry().children,
+        Choice::By(edge) => edge_of(edge).entry().children,
         Choice::Native | Choice::Missing => Children::None,
-    }
-}
-
-fn edge_in(rows: &[EdgeEntry], n: u8) -> Edge
-    ensures { result ≡ slice_index_or (map (λ row. row.edge) rows.now) n E1 }
-{
-    match rows.get(n as usize) {
-        Some(row) => row.edge,
-        None => Edge::E1,
     }
 }

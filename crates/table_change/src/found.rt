@@ -7,9 +7,9 @@ ghost use Rattle.found_plan.specs.Read.{is_marked};
 ghost use Rattle.fresh_bridging.specs.ModelImage.{group_item, objective_items, row_item};
 ghost use Rattle.table_change.specs.Given.{AreGiven, is_given, passes};
 
-use crate::kinds::{group_kind, objective_kind, row_kind};
+use crate::kinds::{objective_kind, row_kind};
 use address_map::AddressMap;
-use item_core::{KIND_COUNT, Kind};
+use item_core::{KIND_COUNT, Kind, group_kind};
 use lists::Memory;
 use model_store::UserModel;
 use std::alloc::Global;
@@ -61,8 +61,7 @@ fn find_groups<'a>(
 {
     let mut list = Vec::new(alloc);
     for group in groups.iter() {
-        let kind = group_kind(alloc, map, group)?;
-        push_where(&mut list, group, passes(changed, kind))?;
+        push_where(&mut list, group, passes(changed, group_kind(&group.set)))?;
     }
     Ok(list)
 }
@@ -79,8 +78,7 @@ fn find_rows<'a>(
 {
     let mut list = Vec::new(alloc);
     for row in rows.iter() {
-        let kind = row_kind(alloc, map, row)?;
-        push_where(&mut list, row, passes(changed, kind))?;
+        push_where(&mut list, row, passes(changed, row_kind(map, row)))?;
     }
     Ok(list)
 }

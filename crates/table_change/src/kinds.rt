@@ -1,34 +1,21 @@
 //! The kinds of the user's items as they are bridged, by a map's marks of the variables that are kept.
-ghost use Rattle.std.specs.Prelude.{◌≡◌, IfOk, cond};
+ghost use Rattle.std.specs.Prelude.{◌≡◌, cond};
 ghost use Rattle.std.specs.List.{list_all};
 ghost use Rattle.found_plan.specs.Read.{is_marked};
-ghost use Rattle.fresh_bridging.specs.ModelImage.{group_item, row_item};
+ghost use Rattle.fresh_bridging.specs.ModelImage.{row_item};
 ghost use Rattle.item_core.specs.KindOf as kinds;
 ghost use Rattle.model_bridging.specs.Kinds.{is_plain_by, kind_by, objective_kind_by};
 
 use address_map::AddressMap;
-use aff_core::{Address, Addresses, Root, Sense, VecAff};
-use item_core::{Body, Item, Kind, kind_of};
-use lists::Memory;
+use aff_core::{Address, Sense};
+use item_core::{Kind, affine_kind, plain_kind};
 use set_core::Set;
-use std::alloc::Global;
-use user_model::{Group, Row, UserFunc};
+use user_model::{Row, UserFunc};
 
-#[tactic(auto, unfolding(item_core::specs::KindOf::kind_of_body))]
-pub(crate) fn group_kind(alloc: Global, map: &AddressMap, group: &Group) -> Result<Kind, Memory>
-    ensures { IfOk result (λ kind. kind ≡ kind_by (is_marked map.now) (group_item group.now).body) }
+pub(crate) fn row_kind(map: &AddressMap, row: &Row) -> Kind
+    ensures { result ≡ kind_by (is_marked map.now) (row_item row.now).body }
 {
-    let body = Body::Group {
-        set: group.set.copy(alloc)?,
-        vars: Addresses::new(alloc),
-    };
-    Ok(kind_of_body(body))
-}
-
-pub(crate) fn row_kind(alloc: Global, map: &AddressMap, row: &Row) -> Result<Kind, Memory>
-    ensures { IfOk result (λ kind. kind ≡ kind_by (is_marked map.now) (row_item row.now).body) }
-{
-    function_kind(alloc, is_plain(map, &row.func), &row.set)
+    function_kind(is_plain(map, &row.func), &row.set)
 }
 
 // The kind of an objective that is a plain variable, or another function.
@@ -43,32 +30,15 @@ pub(crate) fn objective_kind(sense: Sense, plain: bool) -> Kind
     }
 }
 
-fn kind_of_body(body: Body) -> Kind
-    ensures { result ≡ kinds.kind_of_body body }
-{
-    kind_of(&Item {
-        at: Address::root(Root::Row, 0),
-        body,
-    })
-}
-
 // The kind of plain variables, or of another function, in a set.
-#[tactic(auto, unfolding(item_core::specs::KindOf::kind_of_body))]
-fn function_kind(alloc: Global, plain: bool, set: &Set) -> Result<Kind, Memory>
-    ensures { IfOk result (λ kind. kind
-        ≡ cond plain (kinds.plain_kind_of set.now) (kinds.affine_kind_of set.now)) }
+fn function_kind(plain: bool, set: &Set) -> Kind
+    ensures { result ≡ cond plain (kinds.plain_kind_of set.now) (kinds.affine_kind_of set.now) }
 {
-    let set = set.copy(alloc)?;
     if plain {
-        return Ok(kind_of_body(Body::PlainVec {
-            vars: Addresses::new(alloc),
-            set,
-        }));
+        plain_kind(set)
+    } else {
+        affine_kind(set)
     }
-    Ok(kind_of_body(Body::AffineVec {
-        func: VecAff::new(alloc),
-        set,
-    }))
 }
 
 // Whether a function names variables, all of which are kept.

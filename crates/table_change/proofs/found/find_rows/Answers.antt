@@ -14,5 +14,5 @@ loop-row-preserved c =
     (row_item x)) c.args.rows.now.items l.row-iterator c.next.new.self c.in-Some.row.now
     c.passes.result (map (λ x. x.now) l.list.items) (map (λ x. x.now) c.push_where.new.list.items)
     l.invariant c.in-Some.ensures.steps
-    (c.passes.ensures ∙ ap (passes c.args.changed.now) c.in_ok-kind.ensures)
+    (c.passes.ensures ∙ ap (passes c.args.changed.now) c.row_kind.ensures)
     c.in_ok-push_where.ensures
