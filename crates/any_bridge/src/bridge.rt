@@ -41,62 +41,51 @@ pub enum AnyBridge {
     NormOne(NormOne),
 }
 
-impl AnyBridge {
-    /// A bridge of the family, which keeps nothing.
-    pub fn new(alloc: Global, family: Family) -> AnyBridge
-        ensures { state_of_any result ≡ fresh family }
-    {
-        match family {
-            Family::GreaterLess => Self::GreaterLess(GreaterLess::new(alloc)),
-            Family::OrthantFlip => Self::OrthantFlip(OrthantFlip::new(alloc)),
-            Family::NonposVar => Self::NonposVar(NonposVar::new(alloc)),
-            Family::ObjFlip => Self::ObjFlip(ObjFlip::new(alloc)),
-            Family::Vectorize => Self::Vectorize(Vectorize::new(alloc)),
-            Family::Scalarize => Self::Scalarize(Scalarize::new(alloc)),
-            Family::ScalarFunctionize => Self::ScalarFunctionize(ScalarFunctionize::new(alloc)),
-            Family::VectorFunctionize => Self::VectorFunctionize(VectorFunctionize::new(alloc)),
-            Family::VectorizeVar => Self::VectorizeVar(VectorizeVar::new(alloc)),
-            Family::ObjFunctionize => Self::ObjFunctionize(ObjFunctionize::new(alloc)),
-            Family::SplitSet => Self::SplitSet(SplitSet::new(alloc)),
-            Family::DropReals => Self::DropReals(DropReals::new(alloc)),
-            Family::ZerosVar => Self::ZerosVar(ZerosVar::new(alloc)),
-            Family::FreeVar => Self::FreeVar(FreeVar::new(alloc)),
-            Family::ScalarSlack => Self::ScalarSlack(ScalarSlack::new(alloc)),
-            Family::VectorSlack => Self::VectorSlack(VectorSlack::new(alloc)),
-            Family::Later => Self::Later(Later::new(alloc)),
-            Family::ObjSlack => Self::ObjSlack(ObjSlack::new(alloc)),
-            Family::NormInfinity => Self::NormInfinity(NormInfinity::new(alloc)),
-            Family::NormOne => Self::NormOne(NormOne::new(alloc)),
+// The families, each the name of a variant and of the type that it holds, before what a macro takes.
+macro_rules! with_families {
+    ($then:ident, $($taken:tt)*) => {
+        $then! {
+            [
+                GreaterLess OrthantFlip NonposVar ObjFlip Vectorize Scalarize ScalarFunctionize
+                VectorFunctionize VectorizeVar ObjFunctionize SplitSet DropReals ZerosVar FreeVar
+                ScalarSlack VectorSlack Later ObjSlack NormInfinity NormOne
+            ]
+            $($taken)*
         }
-    }
+    };
+}
+
+// A new bridge of the family `$wanted`.
+macro_rules! make {
+    ([$($family:ident)*] $wanted:expr, $alloc:expr) => {
+        match $wanted {
+            $(Family::$family => AnyBridge::$family($family::new($alloc)),)*
+        }
+    };
 }
 
 // A call of the bridge that `$any` holds, as `$bridge`.
 macro_rules! call {
     ($any:expr, $bridge:ident => $call:expr) => {
+        with_families!(call_held, $any, $bridge, $call)
+    };
+}
+
+macro_rules! call_held {
+    ([$($family:ident)*] $any:expr, $bridge:ident, $call:expr) => {
         match $any {
-            AnyBridge::GreaterLess($bridge) => $call,
-            AnyBridge::OrthantFlip($bridge) => $call,
-            AnyBridge::NonposVar($bridge) => $call,
-            AnyBridge::ObjFlip($bridge) => $call,
-            AnyBridge::Vectorize($bridge) => $call,
-            AnyBridge::Scalarize($bridge) => $call,
-            AnyBridge::ScalarFunctionize($bridge) => $call,
-            AnyBridge::VectorFunctionize($bridge) => $call,
-            AnyBridge::VectorizeVar($bridge) => $call,
-            AnyBridge::ObjFunctionize($bridge) => $call,
-            AnyBridge::SplitSet($bridge) => $call,
-            AnyBridge::DropReals($bridge) => $call,
-            AnyBridge::ZerosVar($bridge) => $call,
-            AnyBridge::FreeVar($bridge) => $call,
-            AnyBridge::ScalarSlack($bridge) => $call,
-            AnyBridge::VectorSlack($bridge) => $call,
-            AnyBridge::Later($bridge) => $call,
-            AnyBridge::ObjSlack($bridge) => $call,
-            AnyBridge::NormInfinity($bridge) => $call,
-            AnyBridge::NormOne($bridge) => $call,
+            $(AnyBridge::$family($bridge) => $call,)*
         }
     };
+}
+
+impl AnyBridge {
+    /// A bridge of the family, which keeps nothing.
+    pub fn new(alloc: Global, family: Family) -> AnyBridge
+        ensures { state_of_any result ≡ fresh family }
+    {
+        with_families!(make, family, alloc)
+    }
 }
 
 impl Bridge for AnyBridge {
