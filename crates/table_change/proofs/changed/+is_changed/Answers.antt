@@ -1,4 +1,4 @@
-use Rattle.std.proofs.Common.{false, true, ◌||◌, ◌-◌, ap, sym, ◌∙◌}
+use Rattle.std.proofs.Common.{true, ◌||◌, ◌-◌, ap, sym, ◌∙◌}
 use Rattle.std.specs.List.{list_any}
 use Rattle.bridge_set.specs.Boxed.{choice_in}
 use Rattle.item_core.specs.Edge.{kinds_in}

@@ -1,4 +1,3 @@
-use Rattle.std.proofs.Common.{ℕ}
 use Rattle.table_change.proofs.changed.+is_changed.Given as goal
 
 abbrev pub decreases-is_changed : goal.decreases-is_changed

@@ -1,4 +1,4 @@
-use Rattle.std.proofs.Common.{arith, false, length, ◌∙◌}
+use Rattle.std.proofs.Common.{arith, false, ◌∙◌}
 use Rattle.std.proofs.lemmas.List.{length-set}
 use Rattle.bridge_set.specs.Boxed.{choice_in}
 use Rattle.table_change.specs.ChangedKinds.{is_changed}

@@ -1,4 +1,4 @@
-use Rattle.std.proofs.Common.{arith, length, ◌∙◌}
+use Rattle.std.proofs.Common.{arith, ◌∙◌}
 use Rattle.std.proofs.lemmas.List.{length-set}
 use Rattle.bridge_graph.specs.declared.Choice.TheVariants.{Missing}
 use Rattle.item_core.specs.Kind.{kind_number}
