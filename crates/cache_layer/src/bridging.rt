@@ -65,6 +65,7 @@ pub(crate) fn set_table<B: Bridge>(
 ) -> Result<u64, BridgeFault>
     requires costs { IsTrue (list_all is_edge_cost table.cost) }
     requires native { IsTrue (supports_native table) }
+    requires stands { IsBridgingOf lazy.old model.now.model }
     ensures bridged { IsBridgedInNames lazy.old table model.now.model result lazy.new }
     ensures small { HasSmallNumbers model.now.model
         → (place : Place) → result ≢ Err (BridgeFault.Overflow place) }

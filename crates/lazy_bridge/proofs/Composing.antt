@@ -7,6 +7,7 @@ use Rattle.bridge_set.specs.Boxed.{Boxed, families_of, means_of, occur_once, set
 use Rattle.bridge_set.specs.Turns.{turns_of}
 use Rattle.bridge_plan.specs.Means.{AreSound, Means}
 use Rattle.bridge_plan.specs.declared.plan.Plan.{Plan}
+use Rattle.push_laws.specs.DifferingLaws.{chooses_itself, differing_touched, separated}
 use Rattle.fresh_bridging.specs.Entries.{Entry}
 use Rattle.fresh_bridging.specs.TheRules.{Setting}
 use Rattle.lazy_bridge.specs.Few.{CanPush, ChangesFew, IsPushedByFew}
@@ -55,6 +56,7 @@ module _ (boxes : Boxed) (solver : Stored) (places : AddressMap) (objective_at :
     abbrev pub edit : Edit
     edit = record {
       boxes = boxes;
+      table = boxes.table;
       solver = solver.leaves;
       places = places;
       objective_at = objective_at;
@@ -63,10 +65,16 @@ module _ (boxes : Boxed) (solver : Stored) (places : AddressMap) (objective_at :
       sound = start.sound;
       native = start.native;
       once = start.once;
+      costly = start.sound.costly;
+      lawful = start.sound.lawful;
+      native_before = start.native;
       held = start.held;
       valid = start.valid;
       d = d;
-      differs = differs;
+      separates = separated model after start.held.valid start.valid d differs;
+      alike = λ at out. chooses_itself start.held.bridging start.sound.costly (means_of boxes).choice
+          start.sound.chosen at;
+      touched = λ new. differing_touched start.held.bridging new d differs;
     }
 
     pub of_edit : (read : ModelValue) → read ≡ after → IsEditOf edit boxes places read d

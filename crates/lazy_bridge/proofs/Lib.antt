@@ -9,6 +9,10 @@ mod Sets
 mod Listing
 mod Planning
 mod Composing
+mod GivenKinds
+mod KindsAlike
+mod TableEdits
+mod TableSteps
 mod Changing
 mod Mapping
 mod Noting

@@ -1,5 +1,5 @@
 -- What the map has of the items that differ, set anew in turn.
-use Rattle.std.specs.Prelude.{◌≡◌, ◌&&◌, ◌||◌, Bool, true, false, cond, not, None, Some, refl}
+use Rattle.std.specs.Prelude.{◌≡◌, ◌&&◌, ◌||◌, Bool, true, false, cond, not, None, Some, refl, List}
 use Rattle.std.specs.FinMap as finite
 use Rattle.std.proofs.Common.{ap, subst, ◌∙◌}
 use Rattle.address_map.specs.AddressMap.{AddressMap}
@@ -11,7 +11,6 @@ use Rattle.lazy_bridge.specs.Mentioned.{Notes, contents_name, is_noted}
 use Rattle.lazy_bridge.proofs.Names.{still_noted}
 use Rattle.leaf_update.specs.Others.{among}
 use Rattle.push_laws.specs.Edits.{Edit, IsMappedAnew}
-use Rattle.std.specs.Prelude.{List}
 use Rattle.touched_items.specs.Differences.{groups_in, variables_in}
 use Rattle.touched_items.specs.declared.differing.Differing.{Differing}
 

@@ -1,6 +1,6 @@
 -- Lists compared in turn: where each item is as the other's at its place, all are. And notes stay
 -- where the items that differ name the same variables.
-use Rattle.std.specs.Prelude.{◌≡◌, ◌<◌, ◌≤◌, ◌+◌, ◌&&◌, ◌||◌, ℕ, Bool, true, false, not, List, [], ◌∷◌, Option, length, map, take, get_or, refl}
+use Rattle.std.specs.Prelude.{◌≡◌, ◌<◌, ◌≤◌, ◌+◌, ◌&&◌, ◌||◌, ℕ, Bool, true, false, not, List, [], ◌∷◌, length, map, take, get_or, refl}
 use Rattle.std.specs.List.{list_all, list_any, zip}
 use Rattle.std.proofs.Common.{arith, ap, sym, ◌∙◌, true≢false}
 use Rattle.std.proofs.lemmas.List.{take_all}
@@ -8,16 +8,11 @@ use Rattle.std.proofs.lemmas.List.Folds.{list_any_more}
 use Rattle.std.specs.Option.{option_copied, option_map_or}
 use Rattle.aff_core.specs.Address.{Address, address_eq, address_eq-Decides, root_address}
 use Rattle.aff_core.specs.declared.root.Root.TheVariants as root
-use Rattle.fresh_bridging.specs.ModelImage.{group_item, objective_items, row_item}
 use Rattle.lazy_bridge.specs.Mentioned.{contents_name, is_noted, other_names, row_names}
 use Rattle.push_laws.specs.Edits.{Edit}
-use Rattle.push_laws.specs.NotedLaws.{names_anew}
 use Rattle.touched_items.specs.Differences.{rows_in}
 use Rattle.touched_items.specs.declared.differing.Contents.{Contents}
-use Rattle.touched_items.specs.DifferenceLaws.{HasDifferences}
-use Rattle.touched_items.specs.Sides.{IsSeparated, differ, same}
-use Rattle.touched_items.specs.declared.differing.Differing.{Differing}
-use Rattle.user_model.specs.Model.{ModelValue, objective_mentions}
+use Rattle.user_model.specs.Model.{objective_mentions}
 
 -- ---- two lists, from the first to the last
 
@@ -79,40 +74,15 @@ contents_alike one other rows objective var at = λ i.
 
 -- ---- the items that differ
 
-abbrev swapped : Differing → Differing
-swapped d = record { before = d.after; after = d.before }
-
-swap : {X Y : Type 0} (f : X → Y) (was is before after : Option X)
-    → IsSeparated f was is before after → IsSeparated f is was after before
-swap f was is before after (same i j k) = same (sym i) k j
-swap f was is before after (differ i j k) = differ (λ e. i (sym e)) k j
-
-has_swapped : (model after : ModelValue) (d : Differing) → HasDifferences model after d
-    → HasDifferences after model (swapped d)
-has_swapped model after d h = record {
-  groups = record {
-    rising_before = h.groups.rising_after;
-    rising_after = h.groups.rising_before;
-    each = λ n. swap group_item _ _ _ _ (h.groups.each n);
-  };
-  rows = record {
-    rising_before = h.rows.rising_after;
-    rising_after = h.rows.rising_before;
-    each = λ n. swap row_item _ _ _ _ (h.rows.each n);
-  };
-  objective = swap objective_items _ _ _ _ h.objective;
-}
-
 -- what is named before and after was noted, and is
-stays : (was is before after : Bool) → ((is && not after) || before) ≡ was → before ≡ after
+stays : (was before after : Bool) → (before ≡ true → was ≡ true) → before ≡ after
     → was ≡ ((was && not before) || after)
-stays true is true true k e = refl
-stays false true true true k e = absurd (true≢false k)
-stays false false true true k e = absurd (true≢false k)
-stays true is false false k e = refl
-stays false is false false k e = refl
-stays was is true false k e = absurd (true≢false e)
-stays was is false true k e = absurd (true≢false (sym e))
+stays true true true h e = refl
+stays true false false h e = refl
+stays false true true h e = absurd (true≢false (sym (h refl)))
+stays false false false h e = refl
+stays was true false h e = absurd (true≢false e)
+stays was false true h e = absurd (true≢false (sym e))
 
 pub still_noted : (e : Edit) → ((var at : Address)
     → contents_name e.d.before var at ≡ contents_name e.d.after var at) → (var at : Address)
@@ -122,10 +92,7 @@ pub still_noted : (e : Edit) → ((var at : Address)
 still_noted e alike var at =
     let was = e.held.noted var at in
     was
-    ∙ stays (other_names e.model var at) (other_names e.after var at)
-    (contents_name e.d.before var at) (contents_name e.d.after var at)
-    (names_anew var e.after e.model (swapped e.d) (has_swapped e.model e.after e.d e.differs)
-    e.valid.consistent.rows_rise e.held.valid.consistent.rows_rise at)
-    (alike var at)
+    ∙ stays (other_names e.model var at) (contents_name e.d.before var at)
+    (contents_name e.d.after var at) (e.separates.named var at) (alike var at)
     ∙ ap (λ b. (b && not (contents_name e.d.before var at)) || contents_name e.d.after var at)
     (sym was)

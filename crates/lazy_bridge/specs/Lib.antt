@@ -8,3 +8,4 @@ pub mod Pushed
 pub mod Plans
 pub mod Steps
 pub mod ReadableLaws
+pub mod Tables

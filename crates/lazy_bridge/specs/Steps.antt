@@ -26,7 +26,7 @@ use Rattle.model_bridging.specs.declared.fault.PushFault.{PushFault}
 use Rattle.model_bridging.specs.declared.fault.PushFault.TheVariants.{Unsupported, Overflow, Memory}
 use Rattle.lazy_bridge.specs.declared.pushing.Planned.{Planned}
 use Rattle.push_laws.specs.Composed.{IsDone}
-use Rattle.push_laws.specs.Edits.{Edit, HoldsBridging, Step, groups_held, missing_groups, setting_here, unfit_groups}
+use Rattle.push_laws.specs.Edits.{Edit, Step, groups_held, missing_groups, setting_here, unfit_groups, HoldsBridging}
 use Rattle.solver_store.specs.SolverModel.{Stored}
 use Rattle.tree_laws.specs.LeafLaws.{SupportsNativeKinds}
 use Rattle.touched_items.specs.Differences.{own_variables}

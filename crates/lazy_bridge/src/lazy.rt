@@ -12,11 +12,13 @@ ghost use Rattle.bridge_plan.specs.Means.{AreSound};
 ghost use Rattle.fresh_bridging.specs.TheRules.{IsChoice, graph_of};
 ghost use Rattle.item_core.specs.Kind.{kind_number};
 ghost use Rattle.leaf_update.specs.Named.{NamesEach};
-ghost use Rattle.lazy_bridge.specs.Few.{CanPush, ChangesFew, IsPushedByFew};
+ghost use Rattle.lazy_bridge.specs.Few.{CanPush, ChangesFew, IsPushedByFew, IsRetabledByFew};
 ghost use Rattle.lazy_bridge.specs.Native.{supports_native};
-ghost use Rattle.lazy_bridge.specs.Owned.{HasLeavesOf, HoldsNothing, IsBridgingOf, leaf_model_in, setting_in};
+ghost use Rattle.lazy_bridge.specs.Owned.{HoldsNothing, IsBridgingOf, leaf_model_in, setting_in};
 ghost use Rattle.lazy_bridge.specs.Plans.{Holds, IsPuttable};
 ghost use Rattle.lazy_bridge.specs.Pushed.{Counts, IsBridgedBy, IsPlannedBy};
+ghost use Rattle.lazy_bridge.specs.Tables.{IsRetabledFrom, IsTableStart};
+ghost use Rattle.item_core.specs.declared.table.Table.{Table};
 ghost use Rattle.objective_laws.specs.ObjectivePlace.{LeadsTo};
 ghost use Rattle.small_numbers.specs.SmallNumbers.{HasSmallNumbers};
 ghost use Rattle.solver_store.specs.SolverModel.{no_leaves};
@@ -25,6 +27,7 @@ ghost use Rattle.user_model.specs.Valid.{IsValid};
 
 use crate::change::{capped, let_all_go, put_model};
 use crate::pushing::push_touched;
+use crate::retabling::retable;
 use address_map::AddressMap;
 use aff_core::{Address, Root};
 use bridge_face::Bridge;
@@ -38,6 +41,7 @@ use model_store::{Reading, Undo, UserModel};
 use solver_store::SolverModel;
 use std::alloc::Global;
 use std::marker::Model;
+use table_change::{Choices, list_choices};
 
 /// The lazy bridging over boxed bridges.
 pub type Lazy = LazyOver<Box<dyn Bridge>>;
@@ -163,18 +167,23 @@ impl<B: Bridge> LazyOver<B> {
         }
     }
 
-    /// Bridges the model by another table, with the same answer and the same few calls.
+    /// Bridges the model by another table in place of the one by which its bridging stands, with the
+    /// same answer and the same few calls. Each item is looked at, and none is planned that isn't
+    /// bridged otherwise: one of a kind that the table changes, or that names such a variable.
     pub fn set_table(&mut self, model: &UserModel, table: Table) -> Result<u64, PushFault>
         requires costs { IsTrue (list_all is_edge_cost table.cost) }
         requires native { IsTrue (supports_native table) }
+        requires stands { IsBridgingOf self.old model.now.model }
         ensures bridged { IsBridgedBy self.old table model.now.model result self.new }
         ensures small { HasSmallNumbers model.now.model
             → (at : Address) → result ≢ Err (PushFault.Overflow at) }
         ensures few { IfOk result (λ changed. ChangesFew self.old changed self.new) }
+        ensures touched { OnOk result (IsRetabledByFew self.old model.now.model self.new) }
     {
         let before = *self.table();
+        let choices = list_choices(&self.boxes);
         self.preset(table);
-        match self.bridge(model) {
+        match self.rebridge(model, &choices) {
             Ok(count) => Ok(count),
             Err(fault) => {
                 self.preset(before);
@@ -197,17 +206,44 @@ impl<B: Bridge> LazyOver<B> {
         self.boxes.choose(table);
     }
 
-    // Bridges a model by the table in place of the one before.
-    fn bridge(&mut self, model: &UserModel) -> Result<u64, PushFault>
+    // Bridges a model anew whose bridging by other choices stands.
+    fn rebridge(&mut self, model: &UserModel, before: &Choices) -> Result<u64, PushFault>
+        requires { (table : Table) × IsTableStart self.old.boxes table before.now self.old.solver
+            self.old.map self.old.objective_at model.now.model }
         ensures bridged { IsBridgedBy self.old self.old.boxes.table model.now.model
             result self.new }
         ensures small { HasSmallNumbers model.now.model
             → (at : Address) → result ≢ Err (PushFault.Overflow at) }
         ensures few { IfOk result (λ changed. ChangesFew self.old changed self.new) }
+        ensures touched { OnOk result ((table : Table)
+            → (start : IsTableStart self.old.boxes table before.now self.old.solver self.old.map
+            self.old.objective_at model.now.model)
+            → IsRetabledFrom self.old table before.now model.now.model start self.new) }
     {
-        let planned = self.plan(model)?;
-        self.let_nodes_go();
-        Ok(self.put(planned, model)?)
+        // what this ensures of the choices and the families
+        let _sound = self.boxes.table();
+        match retable(
+            self.alloc,
+            &mut self.boxes,
+            &mut self.solver,
+            &mut self.map,
+            &mut self.objective_at,
+            model,
+            before,
+        ) {
+            Ok(changed) => {
+                // what this ensures of the count
+                let _few = self.solver.calls();
+                Ok(capped(changed))
+            }
+            Err(fault) => {
+                if let PushFault::Memory = fault {
+                    let_all_go(&mut self.boxes, &mut self.solver, &mut self.map);
+                    return Err(PushFault::Memory);
+                }
+                Err(fault)
+            }
+        }
     }
 
     // Plans a model's bridging by the table, or frees all where memory runs out.
@@ -263,16 +299,6 @@ impl<B: Bridge> LazyOver<B> {
                 Err(memory)
             }
         }
-    }
-
-    // Lets all nodes and expressions go.
-    fn let_nodes_go(&mut self)
-        ensures kept { All (λ s. s.kept ≡ finite.empty) self.new.boxes.states }
-        ensures exprs { self.new.map.exprs ≡ finite.empty }
-        ensures leaves { HasLeavesOf self.old self.new }
-    {
-        self.boxes.clear();
-        self.map.clear_exprs();
     }
 
     /// Frees all that is kept. The solver's model is not called.

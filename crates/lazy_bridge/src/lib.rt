@@ -10,6 +10,7 @@ mod lazy;
 mod marks;
 mod mentions;
 mod pushing;
+mod retabling;
 
 pub use bridges::add_bridge;
 pub use lazy::{Lazy, LazyOver};

@@ -96,7 +96,7 @@ fn find_differing<'a>(
 }
 
 // Plans what an edit touches, and changes nothing but the boxes' turns.
-fn plan_touched<'a, B: Bridge>(
+pub(crate) fn plan_touched<'a, B: Bridge>(
     alloc: Global,
     boxes: &mut Boxes<B>,
     map: &AddressMap,
@@ -248,7 +248,7 @@ fn check_all<'a, B: Bridge>(
 
 // Puts what is planned in the place of what was held. The answer is the number of addresses at which
 // the leaves differ. After `Memory` some of this may be done.
-fn change_touched<B: Bridge>(
+pub(crate) fn change_touched<B: Bridge>(
     alloc: Global,
     boxes: &mut Boxes<B>,
     solver: &mut SolverModel,

@@ -1,8 +1,8 @@
 -- A model's groups alone: what stands for its variables is known once they are bridged, whatever its
 -- rows and its objective are.
-use Rattle.std.specs.Prelude.{◌≡◌, ◌≢◌, ◌⊎◌, ◌+◌, ◌<◌, ◌≤◌, IsSome, ℕ, Bool, true, false, cond, List, [], ◌∷◌, All, Contains, find, map, Option, Some, None, refl}
+use Rattle.std.specs.Prelude.{◌≡◌, ◌≢◌, ◌+◌, ◌<◌, ◌≤◌, IsSome, ℕ, Bool, true, false, cond, List, [], ◌∷◌, All, find, map, Option, Some, None, refl}
 use Rattle.std.specs.Option.{option_or}
-use Rattle.std.proofs.Common.{arith, inl, inr, ap, sym, subst, ◌∙◌, true≢false}
+use Rattle.std.proofs.Common.{arith, ap, sym, ◌∙◌, true≢false}
 use Rattle.std.proofs.lemmas.List.Elements.{All-append, All-cons, All-map, All-nil, All-weaker}
 use Rattle.std.proofs.lemmas.List.Folds.{find-append}
 use Rattle.address_laws.specs.DistinctLaws.{others_of_model_apart}
@@ -13,24 +13,18 @@ use Rattle.bridge_graph.specs.Hypergraph.{IsCostly}
 use Rattle.bridge_graph.specs.declared.Choice.{Choice}
 use Rattle.expansion.specs.Bridged.{EachBridged, none_in}
 use Rattle.fresh_bridging.specs.ChoiceLaws.{one_choice}
-use Rattle.fresh_bridging.specs.Entries.{Entry, expression_in}
-use Rattle.fresh_bridging.specs.FreshBridging.{FreshBridging, expression_of}
+use Rattle.fresh_bridging.specs.Entries.{Entry}
+use Rattle.fresh_bridging.specs.FreshBridging.{FreshBridging}
 use Rattle.fresh_bridging.specs.ModelImage.{group_item, model_image, objective_items, row_item}
 use Rattle.fresh_bridging.specs.TheRules.{AreChoices, Setting, graph_of, rules_by}
-use Rattle.fresh_bridging.specs.Touched.{KeepsAtEach, KeepsAtIn, choice_of_item, item_at}
+use Rattle.fresh_bridging.specs.Touched.{item_at}
 use Rattle.item_core.specs.Item.{is_group}
 use Rattle.item_core.specs.declared.item.Item.{Item}
 use Rattle.local_laws.specs.FittingLaws.{AreAlone, alone}
-use Rattle.local_laws.specs.FoundLaws.{expression_stays, in_groups, item_of_group, unfound_group_stays}
-use Rattle.local_laws.specs.Held.{HasOwn, is_there}
-use Rattle.local_laws.specs.HeldLaws.{keeps_own_each, keeps_own_in}
+use Rattle.local_laws.specs.Held.{is_there}
 use Rattle.local_laws.specs.ListedLaws.{found_nowhere}
-use Rattle.local_laws.specs.LookedLaws.{below_itself, contains_or_not}
-use Rattle.local_laws.specs.MentionLaws.{IsBesideGroups, IsIndexOf}
-use Rattle.local_laws.specs.Sound.{IsValidUnder}
-use Rattle.local_laws.specs.Stays.{StaysAt}
-use Rattle.local_laws.specs.StaysLaws.{found_is, groups_are, others_are}
-use Rattle.local_laws.specs.SupportedLaws.{GroupStays, OtherStays}
+use Rattle.local_laws.specs.LookedLaws.{below_itself}
+use Rattle.local_laws.specs.StaysLaws.{found_is, groups_are}
 use Rattle.map_laws.specs.EachLaws.{all_both}
 use Rattle.map_laws.specs.PairLaws.{AllPairs-nil}
 use Rattle.numbered_list.specs.Laws.{Rise-head, Rise-tail}
@@ -224,133 +218,3 @@ pub one_for_all : (setting : Setting) → IsCostly (graph_of setting) → (choic
 one_for_all setting costly choice other chosen chosen_too =
     λ i kind. one_choice (graph_of setting) costly kind (choice kind) (other kind) (chosen kind)
     (chosen_too kind) i
-
--- ---- an edit, where the table stays
-
-module _ {setting : Setting} {model after : ModelValue} (sound : IsValidUnder setting model)
-    (valid : IsValid after) (old : FreshBridging setting model)
-    (choice : ℕ → Choice) (chosen : AreChoices setting choice)
-    (differing : List Address)
-    (same : (at : Address) → ¬ (Contains differing at) → item_at model at ≡ item_at after at)
-  where
-    choices_are : old.choice ≡ choice
-    choices_are = one_for_all setting sound.costly old.choice choice old.chosen chosen
-
-    abbrev KeepsBy : Address → (ℕ → Choice) → Type 0
-    KeepsBy at c =
-        KeepsAtEach (choice_of_item c) at old.made.groups
-        × KeepsAtIn (choice_of_item c) at old.made.others
-
-    keeps_at : (at : Address) → KeepsBy at choice
-    keeps_at at =
-        subst (KeepsBy at) choices_are
-        (keeps_own_each at old.made.groups, keeps_own_in at old.made.others)
-
-    -- a group that isn't among those that differ is as it was
-    pub groups_stay : (keep : Item → Bool)
-        → ((i : Item) → keep i ≡ false → ¬ (Contains differing i.at))
-        → All (λ g. keep g ≡ false → GroupStays old setting choice chosen after g)
-        (model_image after).groups
-    groups_stay keep left =
-        All-weaker
-        (λ g. (find (is_there g.at) (model_image after).groups ≡ Some g) × (is_group g.body ≡ true))
-        (λ g. keep g ≡ false → GroupStays old setting choice chosen after g)
-        (λ g h e. record {
-          stood = in_groups model g.at g
-              (same g.at (left g e) ∙ item_of_group after g.at g h.0) h.1;
-          alike = (keeps_at g.at).0;
-        })
-        (model_image after).groups
-        (all_both (λ g. find (is_there g.at) (model_image after).groups ≡ Some g)
-        (λ g. is_group g.body ≡ true) (model_image after).groups (groups_found after valid)
-        (groups_are after))
-
-    module _ (entries : List Entry)
-        (trees : EachBridged (rules_by choice) (model_image after).groups entries) where
-      abbrev new : FreshBridging setting (only_groups after)
-      new = alone_by setting choice chosen after entries trees
-
-      sound_alone : IsValidUnder setting (only_groups after)
-      sound_alone = record {
-        costly = sound.costly;
-        lawful = sound.lawful;
-        valid = only_groups_valid after valid;
-      }
-
-      -- what stands for a variable of no group that differs is what did
-      pub beside_stays : (v : Address) → IsBesideGroups model after differing v
-          → expression_of old v ≡ expression_in entries v
-      beside_stays v beside =
-          expression_stays sound sound_alone old new v (record {
-            before = λ at item is group own. was at item is group own (contains_or_not differing at);
-            behind = λ at item is group own. now at item
-                (item_of_group after at item (in_groups (only_groups after) at item is group)) is group
-                own (contains_or_not differing at);
-          })
-        where
-          was : (at : Address) (item : Item) → item_at model at ≡ Some item
-              → is_group item.body ≡ true → HasOwn v item
-              → Contains differing at ⊎ (¬ (Contains differing at)) → StaysAt old new at
-          was at item is group own (inl c) = absurd (beside.before at item c is group own)
-          was at item is group own (inr n) =
-              unfound_group_stays sound.costly old new at item
-              (is ∙ sym (item_of_group (only_groups after) at item
-              (in_groups after at item (sym (same at n) ∙ is) group))) is group
-
-          now : (at : Address) (item : Item) → item_at after at ≡ Some item
-              → item_at (only_groups after) at ≡ Some item → is_group item.body ≡ true
-              → HasOwn v item → Contains differing at ⊎ (¬ (Contains differing at))
-              → StaysAt old new at
-          now at item is there group own (inl c) = absurd (beside.behind at item c is group own)
-          now at item is there group own (inr n) =
-              unfound_group_stays sound.costly old new at item (same at n ∙ is ∙ sym there)
-              (same at n ∙ is) group
-
-      -- what a search takes, once the groups are bridged: items whose content differs, and those that
-      -- the old index notes at variables for which something else stands
-      pub record IsSearchedAlone (noted : Address → List Address) (vars found : List Address)
-          : Type 0 where
-        pub index : IsIndexOf model noted
-        pub compared :
-            (v : Address) → ¬ (Contains vars v)
-            → (expression_of old v ≡ expression_in entries v) ⊎ IsBesideGroups model after differing v
-        pub found_are :
-            (at : Address)
-            → (Contains differing at ⊎ ((v : Address) × Contains vars v × Contains (noted v) at))
-            → Contains found at
-
-      module _ (noted : Address → List Address) (vars found : List Address)
-          (searched : IsSearchedAlone noted vars found) where
-        expression_same : (v : Address) → ¬ (Contains vars v)
-            → expression_of old v ≡ expression_in entries v
-        expression_same v n = by (searched.compared v n)
-          where
-            by : (expression_of old v ≡ expression_in entries v)
-                ⊎ IsBesideGroups model after differing v
-                → expression_of old v ≡ expression_in entries v
-            by (inl e) = e
-            by (inr b) = beside_stays v b
-
-        -- a row or an objective that isn't found is as it was, and so is all that it names
-        pub others_stay : (keep : Item → Bool)
-            → ((i : Item) → keep i ≡ false → ¬ (Contains found i.at))
-            → All (λ c. keep c ≡ false → OtherStays old setting choice chosen after entries c)
-            (model_image after).others
-        others_stay keep left =
-            All-weaker (λ c. (item_at after c.at ≡ Some c) × (is_group c.body ≡ false))
-            (λ c. keep c ≡ false → OtherStays old setting choice chosen after entries c)
-            (λ c h e. stays c h.0 h.1 (left c e)) (model_image after).others
-            (all_both (λ c. item_at after c.at ≡ Some c) (λ c. is_group c.body ≡ false)
-            (model_image after).others (others_there after valid) (others_are after))
-          where
-            stays : (c : Item) → item_at after c.at ≡ Some c → is_group c.body ≡ false
-                → ¬ (Contains found c.at) → OtherStays old setting choice chosen after entries c
-            stays c is other out =
-                let was : item_at model c.at ≡ Some c =
-                same c.at (λ d. out (searched.found_are c.at (inl d))) ∙ is in
-                record {
-                  stood = in_others model c.at c was other;
-                  alike = (keeps_at c.at).1;
-                  agree = λ v names. expression_same v (λ k. out (searched.found_are c.at
-                      (inr (v, k, (searched.index v c.at).1 (c, was, other, names)))));
-                }

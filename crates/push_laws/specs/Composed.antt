@@ -1,6 +1,6 @@
 -- The change step of an edit, composed: each call on the way may be made, and what is left holds the
 -- fresh bridging of the model after, with little done. RefusedLaws has what is refused before it.
-use Rattle.std.specs.Prelude.{◌≡◌, ◌≤◌, ◌+◌, ◌*◌, ℕ, List, [], ◌∷◌, All, AllPairs, Option, Some, None, flat_map, length, map, true, Contains, refl}
+use Rattle.std.specs.Prelude.{◌≡◌, ◌≤◌, ◌+◌, ◌*◌, ◌&&◌, ◌||◌, not, ℕ, List, [], ◌∷◌, All, AllPairs, Option, Some, None, flat_map, length, map, true, Contains, refl}
 use Rattle.std.specs.Map.{keys_of}
 use Rattle.std.proofs.Common.{sym, ap, subst, ◌∙◌}
 use Rattle.std.proofs.lemmas.List.Elements.{All-cons, All-nil}
@@ -35,13 +35,12 @@ use Rattle.map_laws.specs.EachLaws.{all_from_map}
 use Rattle.model_bridging.specs.Found.{found_others}
 use Rattle.model_bridging.specs.ModelHeld.{unfit_put}
 use Rattle.model_bridging.specs.Outcome.{IsFirstAt}
-use Rattle.push_laws.specs.Edits.{AreChanging, Edit, HoldsBridging, IsMappedAnew, IsSearch, IsStandingFor, Step, choice_here, missing_others, old_here, setting_here, sound_before, sound_behind}
+use Rattle.push_laws.specs.Edits.{AreChanging, Edit, IsMappedAnew, IsSearch, IsStandingFor, Step, choice_here, missing_others, old_here, setting_here, sound_before, sound_behind, HoldsBridging, contents_name}
 use Rattle.push_laws.specs.FreeLaws.{free_after, to_be_kept}
 use Rattle.push_laws.specs.FurtherLaws.{agree_here}
 use Rattle.push_laws.specs.GroupsHad.{all_roots, had_here}
 use Rattle.push_laws.specs.HeldAllLaws.{leaves_held, nodes_held}
 use Rattle.push_laws.specs.MappedLaws.{exprs_are, marks_are}
-use Rattle.push_laws.specs.NotedLaws.{noted_anew}
 use Rattle.push_laws.specs.PlannedLaws.{all_touched, apart, count_here, leaves_planned, nodes_planned, others_stay, within_here}
 use Rattle.push_laws.specs.PutLaws.{leaves_are, nodes_are}
 use Rattle.push_laws.specs.RefusedLaws.{bridged}
@@ -234,7 +233,10 @@ module _ (e : Edit) (s : Step e) where
       kept = nodes_left;
       exprs = exprs_are e new_here s.standing s.changed s.addresses s.rows s.objective s.search
           s.changing places mapped;
-      noted = noted_anew e s.standing places mapped;
+      noted = λ var at. mapped.noted var at
+          ∙ ap (λ b. (b && not (contents_name e.d.before var at)) || contents_name e.d.after var at)
+          (e.held.noted var at)
+          ∙ e.separates.names var at;
       marks = marks_are e new_here s.standing s.changed s.addresses s.rows s.objective s.search
           s.changing places mapped;
     }

@@ -1,16 +1,14 @@
 -- What stands for the variables that the found rows and the objective name is what stands for them by
 -- the new bridging.
-use Rattle.std.specs.Prelude.{◌≡◌, ◌⊎◌, ◌++◌, Bool, true, false, cond, find as first_passing, List, [], ◌∷◌, All, Contains, Option, Some, flat_map, map, refl}
+use Rattle.std.specs.Prelude.{◌≡◌, ◌⊎◌, Bool, true, false, cond, find as first_passing, List, [], All, Contains, Option, Some, refl}
 use Rattle.std.proofs.Common.{inl, inr, sym, ap, subst, ◌∙◌}
-use Rattle.std.proofs.lemmas.List.{map-append}
-use Rattle.std.proofs.lemmas.List.Elements.{All-append, All-cons, All-contains, All-filter, All-head, All-map, All-nil, All-weaker, Contains-append_right}
+use Rattle.std.proofs.lemmas.List.Elements.{All-contains, All-filter, All-weaker, Contains-append_right}
 use Rattle.aff_core.specs.Address.{Address}
 use Rattle.bridge_face.specs.Law.{Miss}
 use Rattle.found_plan.specs.Read.{named_by, read_expression}
 use Rattle.fresh_bridging.specs.Entries.{Entry, expression_in}
 use Rattle.fresh_bridging.specs.FreshBridging.{FreshBridging, expression_of}
-use Rattle.fresh_bridging.specs.ModelImage.{group_item, model_image, objective_items, row_item}
-use Rattle.fresh_bridging.specs.ModelLaws.{objective_omits, row_omits}
+use Rattle.fresh_bridging.specs.ModelImage.{model_image}
 use Rattle.item_core.specs.Item.{functions_of, is_group, variables_of}
 use Rattle.item_core.specs.declared.image.Expression.TheVariants.{Kept}
 use Rattle.item_core.specs.declared.item.Item.{Item}
@@ -19,7 +17,6 @@ use Rattle.local_laws.specs.ExpressedLaws.{expression_held}
 use Rattle.local_laws.specs.FoundLaws.{in_groups, item_of_group}
 use Rattle.local_laws.specs.Held.{expressed_at, is_there}
 use Rattle.local_laws.specs.LookedLaws.{contains_or_not}
-use Rattle.local_laws.specs.MentionLaws.{contains_mapped, mapped_contains}
 use Rattle.local_laws.specs.Stays.{AgreeOn, StaysAt}
 use Rattle.local_laws.specs.StaysLaws.{groups_are, holds_alike}
 use Rattle.map_laws.specs.EachLaws.{all_both}
@@ -28,99 +25,14 @@ use Rattle.push_laws.specs.AgreeLaws.{contains_one_of, found_standing, is_one_of
 use Rattle.push_laws.specs.AloneLaws.{groups_found}
 use Rattle.push_laws.specs.Edits.{AreChanging, Edit, IsSearch, IsStandingFor, old_here, setting_here, sound_before, sound_behind}
 use Rattle.push_laws.specs.HandedLaws.{is_found}
-use Rattle.push_laws.specs.ListLaws.{in_all, in_some, kept_item}
+use Rattle.push_laws.specs.ListLaws.{kept_item}
 use Rattle.push_laws.specs.PlannedLaws.{found_groups, found_others_are, others_stay, standing_is}
 use Rattle.push_laws.specs.ReadLaws.{read_is}
-use Rattle.push_laws.specs.RefusedLaws.{has_here}
+use Rattle.push_laws.specs.GivenLaws.{has_here}
 use Rattle.touched_items.specs.Differences.{groups_in, variables_in}
-use Rattle.tree_laws.specs.UserLaws.{stands_in}
-use Rattle.user_model.specs.Functions.{func_mentions}
-use Rattle.user_model.specs.Model.{ModelValue, objective_mentions, variable_address}
-use Rattle.user_model.specs.Valid.{IsValid, IsValidObjective, IsValidRow}
-use Rattle.user_model.specs.declared.group.Group.{Group}
-use Rattle.user_model.specs.declared.group.GroupVar.{GroupVar}
 use Rattle.user_model.specs.declared.objective.Objective.{Objective}
-use Rattle.user_model.specs.declared.objective.Objective.TheVariants as objective
 use Rattle.user_model.specs.declared.row.Row.{Row}
-
--- ---- rows and the objective name the model's variables
-
--- what the item names stands
-abbrev NamesStanding : List Group → Item → Type 0
-NamesStanding groups i = (v : Address) → ¬ (Miss (functions_of i.body) v) → Contains (own_of groups) v
-
--- one of the two, by a test
-by_test : {A B : Type 0} (b : Bool) → (b ≡ true → A) → (b ≡ false → B) → ¬ B → A
-by_test true f g n = f refl
-by_test false f g n = absurd (n (g refl))
-
-row_stands : (groups : List Group) (r : Row) → IsValidRow groups r
-    → NamesStanding groups (row_item r)
-row_stands groups r valid v n =
-    by_test (func_mentions v r.func) (λ t. stands_in groups v (valid.stand v t))
-    (λ f. row_omits r.func r.set v f) n
-
-objective_stands : (groups : List Group) (o : Objective) → IsValidObjective groups o
-    → All (NamesStanding groups) (objective_items o)
-objective_stands groups o valid =
-    by o (λ v t. stands_in groups v (valid.stand v t)) (λ v f. objective_omits o v f)
-  where
-    Omits : Address → Item → Type 0
-    Omits v i = Miss (functions_of i.body) v
-
-    by : (o : Objective)
-        → ((v : Address) → objective_mentions v o ≡ true → Contains (own_of groups) v)
-        → ((v : Address) → objective_mentions v o ≡ false → All (Omits v) (objective_items o))
-        → All (NamesStanding groups) (objective_items o)
-    by objective.Feasibility f g = All-nil (NamesStanding groups)
-    by (objective.Plain sense var) f g =
-        All-cons (NamesStanding groups) _ []
-        (λ v n. by_test (objective_mentions v (objective.Plain sense var)) (f v)
-        (λ t. All-head (Omits v) _ [] (g v t)) n)
-        (All-nil (NamesStanding groups))
-    by (objective.Affine sense func) f g =
-        All-cons (NamesStanding groups) _ []
-        (λ v n. by_test (objective_mentions v (objective.Affine sense func)) (f v)
-        (λ t. All-head (Omits v) _ [] (g v t)) n)
-        (All-nil (NamesStanding groups))
-
-others_stand : (model : ModelValue) → IsValid model
-    → All (NamesStanding model.groups) (model_image model).others
-others_stand model valid =
-    All-append (NamesStanding model.groups) (map row_item model.rows)
-    (objective_items model.objective)
-    (All-map (NamesStanding model.groups) row_item model.rows
-    (All-weaker (IsValidRow model.groups) (λ r. NamesStanding model.groups (row_item r))
-    (λ r h. row_stands model.groups r h) model.rows valid.parts.valid_rows))
-    (objective_stands model.groups model.objective valid.parts.valid_objective)
-
--- ---- the group of a variable
-
-pub numbered_flat : (gs : List Group) → own_of gs ≡ variables_in gs
-numbered_flat [] = refl
-numbered_flat (g ∷ gs) =
-    map-append (λ (v : GroupVar). variable_address v.number) g.vars
-    (flat_map (λ (g : Group). g.vars) gs)
-    ∙ ap (λ l. map (λ (v : GroupVar). variable_address v.number) g.vars ++ l) (numbered_flat gs)
-
--- a variable of groups is one of a group of these
-pub own_group : (v : Address) (gs : List Group) → Contains (own_of gs) v
-    → (g : Item) × Contains (map group_item gs) g × Contains (variables_of g.body) v
-own_group v gs c =
-    let r = in_some (λ (g : Group). map (λ (v : GroupVar). variable_address v.number) g.vars) gs v
-    (subst (λ l. Contains l v) (numbered_flat gs) c) in
-    (group_item r.0, mapped_contains group_item gs r.0 r.1, r.2)
-
--- and the other way round
-pub group_own : (v : Address) (gs : List Group) (g : Item) → Contains (map group_item gs) g
-    → Contains (variables_of g.body) v → Contains (own_of gs) v
-group_own v gs g c own =
-    let r = contains_mapped group_item gs g c in
-    subst (λ l. Contains l v) (sym (numbered_flat gs))
-    (in_all (λ (g : Group). map (λ (v : GroupVar). variable_address v.number) g.vars) gs r.0 v r.1
-    (subst (λ (i : Item). Contains (variables_of i.body) v) (sym r.2) own))
-
--- ---- of an edit
+use Rattle.push_laws.specs.NamingLaws.{NamesStanding, group_own, numbered_flat, others_stand, own_group}
 
 module _ (e : Edit) (new : FreshBridging (setting_here e) e.after)
     (standing : List Entry) (changed addresses : List Address) (rows : List Row)
@@ -139,7 +51,7 @@ module _ (e : Edit) (new : FreshBridging (setting_here e) e.after)
       ∙ ap (λ o. expressed_at o v) (holds_alike (old_here e) new g.at stays)
       ∙ sym (expression_held (sound_behind e) new v g.at g is own)
 
-  -- so has one of the model's that no group has which differs
+  -- so has one of the model's that no group has that is given
   pub unchanged : (v : Address) → Contains (own_of e.after.groups) v
       → ¬ (Contains (own_of (groups_in e.d.after)) v)
       → expression_of (old_here e) v ≡ expression_of new v

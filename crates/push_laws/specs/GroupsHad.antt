@@ -1,15 +1,17 @@
--- The groups that differ, as they were, are the groups among the found items of the model before; and
--- each found item stands at a root.
+-- The given groups, as they were, are the groups among the found items of the model before; and each found
+-- item stands at a root.
 use Rattle.std.specs.Prelude.{◌≡◌, ◌⊎◌, ◌++◌, Bool, true, false, cond, List, [], ◌∷◌, All, AllPairs, Contains, filter, map, Option, Some, None, refl}
 use Rattle.std.specs.Option.{option_map_or}
 use Rattle.std.proofs.Common.{inl, inr, sym, subst}
-use Rattle.std.proofs.lemmas.List.Elements.{All-append, All-cons, All-contains, All-contains_itself, All-map, All-nil, All-weaker, Contains-append_cases, Contains-append_left, Contains-append_right}
+use Rattle.std.proofs.lemmas.List.Elements.{All-append, All-cons, All-contains, All-contains_itself, All-map, All-nil, All-weaker}
 use Rattle.address_laws.specs.Apart.{Avoids, Distinct, distinct-across, distinct-append, distinct-first, distinct-second}
 use Rattle.address_map.specs.Noted.{noted_items}
 use Rattle.aff_core.specs.Address.{Address, address_eq-Decides, root_address}
 use Rattle.aff_core.specs.declared.root.Root.TheVariants as root
-use Rattle.bridge_set.specs.Walk.{IsRoot}
 use Rattle.bridge_face.specs.Law.{inner_of}
+use Rattle.bridge_set.specs.Walk.{IsRoot}
+use Rattle.push_laws.specs.Edits.{AreGroupsAt, Edit, IsSearch, old_here, setting_here, sound_before, sound_behind}
+use Rattle.push_laws.specs.GivenLaws.{IsGivenAt, before_given, given_found, groups_had, index_here}
 use Rattle.found_plan.specs.Stood.{old_leaves}
 use Rattle.fresh_bridging.specs.FreshBridging.{FreshBridging}
 use Rattle.fresh_bridging.specs.ModelImage.{group_item, items_of, model_image, objective_items, row_item}
@@ -24,69 +26,27 @@ use Rattle.local_laws.specs.Stays.{StaysAt}
 use Rattle.local_laws.specs.StaysLaws.{found_is}
 use Rattle.map_laws.specs.EachLaws.{all_first, all_second}
 use Rattle.push_laws.specs.AgreeLaws.{own_variables as own_of}
-use Rattle.push_laws.specs.Edits.{Edit, IsSearch, old_here, setting_here, sound_before, sound_behind}
 use Rattle.push_laws.specs.HadLaws.{AreGroups, had_is}
-use Rattle.push_laws.specs.HandedLaws.{all_differing, groups_handed, is_found, only_differing}
+use Rattle.push_laws.specs.HandedLaws.{is_found}
 use Rattle.push_laws.specs.ListLaws.{kept_item}
-use Rattle.push_laws.specs.OwnLaws.{IsGiven, before_given}
-use Rattle.push_laws.specs.RefusedLaws.{index_here}
 use Rattle.push_laws.specs.SortedLaws.{passing_contained}
 use Rattle.push_laws.specs.SpliceLaws.{AreHadBy}
 use Rattle.push_laws.specs.StandsLaws.{distinct_apart}
 use Rattle.push_laws.specs.ToldLaws.{variables_once}
-use Rattle.touched_items.specs.DifferenceLaws.{HasDifferences, objective_address}
-use Rattle.touched_items.specs.Differences.{addresses_in, differing_addresses, group_addresses, groups_in, row_addresses, rows_in}
+use Rattle.touched_items.specs.DifferenceLaws.{objective_address}
+use Rattle.touched_items.specs.Differences.{addresses_in, group_addresses, groups_in, row_addresses, rows_in, differing_addresses}
 use Rattle.touched_items.specs.SearchLaws.{in_order_noted}
-use Rattle.touched_items.specs.Sides.{IsSeparated, differ, same}
 use Rattle.touched_items.specs.declared.differing.Contents.{Contents}
-use Rattle.touched_items.specs.declared.differing.Differing.{Differing}
 use Rattle.tree_laws.specs.UserLaws.{inner_is}
 use Rattle.user_model.specs.Model.{ModelValue}
 use Rattle.user_model.specs.declared.group.Group.{Group}
-use Rattle.user_model.specs.declared.objective.Objective.{Objective}
 use Rattle.user_model.specs.declared.objective.Objective.TheVariants as objective
+use Rattle.user_model.specs.declared.objective.Objective.{Objective}
 use Rattle.user_model.specs.declared.row.Row.{Row}
-
--- ---- the way back
-
-abbrev swapped : Differing → Differing
-swapped d = record { before = d.after; after = d.before }
-
-swap : {X Y : Type 0} (f : X → Y) (was is before after : Option X)
-    → IsSeparated f was is before after → IsSeparated f is was after before
-swap f was is before after (same i j k) = same (sym i) k j
-swap f was is before after (differ i j k) = differ (λ e. i (sym e)) k j
-
-has_swapped : (model after : ModelValue) (d : Differing) → HasDifferences model after d
-    → HasDifferences after model (swapped d)
-has_swapped model after d h = record {
-  groups = record {
-    rising_before = h.groups.rising_after;
-    rising_after = h.groups.rising_before;
-    each = λ n. swap group_item _ _ _ _ (h.groups.each n);
-  };
-  rows = record {
-    rising_before = h.rows.rising_after;
-    rising_after = h.rows.rising_before;
-    each = λ n. swap row_item _ _ _ _ (h.rows.each n);
-  };
-  objective = swap objective_items _ _ _ _ h.objective;
-}
-
--- the same addresses differ
-swapped_among : (d : Differing) (at : Address) → Contains (differing_addresses d) at
-    → Contains (differing_addresses (swapped d)) at
-swapped_among d at c =
-    by (Contains-append_cases (addresses_in d.before) (addresses_in d.after) at c)
-  where
-    by : Contains (addresses_in d.before) at ⊎ Contains (addresses_in d.after) at
-        → Contains (addresses_in d.after ++ addresses_in d.before) at
-    by (inl k) = Contains-append_right (addresses_in d.after) (addresses_in d.before) at k
-    by (inr k) = Contains-append_left (addresses_in d.after) (addresses_in d.before) at k
 
 -- ---- each item stands at a root that is no variable
 
-abbrev IsItemRoot : Address → Type 0
+abbrev pub IsItemRoot : Address → Type 0
 IsItemRoot at = IsRoot at × (¬ (at.root ≡ root.Variable))
 
 each_rooted : {X : Type 0} (f : X → Address) → ((x : X) → IsItemRoot (f x)) → (xs : List X)
@@ -95,7 +55,7 @@ each_rooted f each [] = All-nil IsItemRoot
 each_rooted f each (x ∷ xs) =
     All-cons IsItemRoot (f x) (map f xs) (each x) (each_rooted f each xs)
 
-contents_rooted : (c : Contents) → All IsItemRoot (addresses_in c)
+pub contents_rooted : (c : Contents) → All IsItemRoot (addresses_in c)
 contents_rooted c =
     All-append IsItemRoot (group_addresses (groups_in c))
     (row_addresses (rows_in c) ++ option_map_or (λ _. objective_address ∷ []) c.objective [])
@@ -134,7 +94,7 @@ items_rooted model =
     last (objective.Plain sense var) = All-cons Rooted _ [] (refl, λ e. cc) (All-nil Rooted)
     last (objective.Affine sense func) = All-cons Rooted _ [] (refl, λ e. cc) (All-nil Rooted)
 
-item_rooted : (model : ModelValue) (at : Address) (item : Item) → item_at model at ≡ Some item
+pub item_rooted : (model : ModelValue) (at : Address) (item : Item) → item_at model at ≡ Some item
     → IsItemRoot at
 item_rooted model at item is =
     subst IsItemRoot
@@ -158,7 +118,7 @@ module _ (p : Item → Bool) where
           (all_first (λ k. ¬ (k ≡ v)) (variables_of x.body) (inner_of xs) h) later
       by false later = later
 
-  fewer_once : (items : List Item) → Distinct (inner_of items)
+  pub fewer_once : (items : List Item) → Distinct (inner_of items)
       → Distinct (inner_of (filter p items))
   fewer_once [] d = d
   fewer_once (x ∷ xs) d =
@@ -174,38 +134,28 @@ module _ (p : Item → Bool) where
           (distinct-across (variables_of x.body) (inner_of xs) d))
       by false later = later
 
--- ---- of an edit
-
 module _ (e : Edit) (changed addresses : List Address) (rows : List Row)
     (objective : Option Objective) (search : IsSearch e changed addresses rows objective) where
-  abbrev differing : List Address
-  differing = differing_addresses e.d
+  abbrev given : List Address
+  given = differing_addresses e.d
 
   abbrev noted : Address → List Address
   noted = noted_items e.places.noted
 
-  -- the groups among the found items of the model before
-  pub groups_had : filter (is_found addresses) (map group_item e.model.groups)
-      ≡ map group_item (groups_in e.d.before)
-  groups_had =
-      groups_handed e.after e.model e.held.valid (swapped e.d)
-      (has_swapped e.model e.after e.d e.differs) addresses
-      (λ at c. all_differing noted differing changed addresses search.order at
-      (swapped_among (swapped e.d) at c))
-      (λ n c. swapped_among e.d (root_address root.Group n)
-      (only_differing e.model noted (index_here e) differing changed addresses search.order n c))
+  abbrev had_here_groups : AreGroupsAt e.model addresses (groups_in e.d.before)
+  had_here_groups = groups_had e changed addresses rows objective search
 
   rooted : All IsItemRoot addresses
   rooted =
       All-weaker (Contains addresses) IsItemRoot
-      (λ at c. by at ((in_order_noted differing changed noted addresses search.order at).0 c))
+      (λ at c. by at ((in_order_noted given changed noted addresses search.order at).0 c))
       addresses (All-contains_itself addresses)
     where
       by : (at : Address)
-          → Contains differing at ⊎ ((v : Address) × Contains changed v × Contains (noted v) at)
+          → Contains given at ⊎ ((v : Address) × Contains changed v × Contains (noted v) at)
           → IsItemRoot at
       by at (inl c) =
-          All-contains IsItemRoot differing at
+          All-contains IsItemRoot given at
           (All-append IsItemRoot (addresses_in e.d.before) (addresses_in e.d.after)
           (contents_rooted e.d.before) (contents_rooted e.d.after)) c
       by at (inr k) =
@@ -222,15 +172,13 @@ module _ (e : Edit) (changed addresses : List Address) (rows : List Row)
       e.solver e.objective_at e.held.named e.held.leaves (groups_in e.d.before)
   are_groups new apart stay = record {
     among_found =
-        All-weaker (IsGiven e.model e.after e.d e.differs e.model)
+        All-weaker (λ g. IsGivenAt e.model given (group_item g))
         (λ g. Contains addresses (group_item g).at
         × (item_at e.model (group_item g).at ≡ Some (group_item g)))
-        (λ g h. (
-          all_differing noted differing changed addresses search.order (group_item g).at h.1,
-          h.0,
-        )) (groups_in e.d.before) (before_given e.model e.after e.d e.differs);
+        (λ g h. (given_found e changed addresses rows objective search (group_item g).at h.1, h.0))
+        (groups_in e.d.before) (before_given e);
     all = λ at item c is group.
-        subst (λ l. Contains l item) groups_had
+        subst (λ l. Contains l item) had_here_groups
         (kept_item (is_found addresses) (map group_item e.model.groups) item
         (passing_contained (is_there at) (map group_item e.model.groups) item
         (in_groups e.model at item is group))
@@ -241,7 +189,7 @@ module _ (e : Edit) (changed addresses : List Address) (rows : List Row)
     once =
         distinct_apart (own_of (groups_in e.d.before))
         (subst Distinct (inner_is (groups_in e.d.before))
-        (subst (λ l. Distinct (inner_of l)) groups_had
+        (subst (λ l. Distinct (inner_of l)) had_here_groups
         (fewer_once (is_found addresses) (model_image e.model).groups
         (variables_once e.model e.held.valid))));
     roots = All-weaker IsItemRoot (λ at. ¬ (at.root ≡ root.Variable)) (λ at h. h.1) addresses rooted;

@@ -19,27 +19,36 @@ use Rattle.item_core.specs.Item.{is_group}
 use Rattle.item_core.specs.declared.item.Item.{Item}
 use Rattle.leaf_update.specs.LeavesLaws.{among_contained, contains_among}
 use Rattle.leaf_update.specs.Others.{among}
-use Rattle.local_laws.specs.MentionLaws.{IsIndexOf}
+use Rattle.local_laws.specs.MentionLaws.{IsIndexOf, mapped_contains}
 use Rattle.map_laws.specs.TestLaws.{less_than}
 use Rattle.model_bridging.specs.Found.{found_others}
 use Rattle.numbered_list.specs.Laws.{Contains-found, Rise-cons, Rise-filter, Rise-nil, find-filter_map, find-first, find-rest, number_of_found, same_lists}
 use Rattle.numbered_list.specs.Numbered.{IsAt, Rise, find}
 use Rattle.push_laws.specs.AgreeLaws.{contains_one_of, is_one_of, one_of_contained}
+use Rattle.push_laws.specs.ListLaws.{filter_mapped}
 use Rattle.touched_items.specs.DifferenceLaws.{HasDifferences, all_differ, group_there, objective_address}
-use Rattle.touched_items.specs.Differences.{addresses_in, differing_addresses, groups_in}
+use Rattle.touched_items.specs.Differences.{addresses_in, differing_addresses, groups_in, group_addresses, row_addresses, rows_in}
 use Rattle.touched_items.specs.Search.{AreInOrder, is_row, objective_among, row_at}
 use Rattle.touched_items.specs.SearchLaws.{in_order_noted}
 use Rattle.touched_items.specs.Sides.{IsSeparated, differ, same}
+use Rattle.touched_items.specs.declared.differing.Contents.{Contents}
 use Rattle.touched_items.specs.declared.differing.Differing.{Differing}
-use Rattle.push_laws.specs.ListLaws.{filter_mapped}
-use Rattle.push_laws.specs.OwnLaws.{in_contents}
 use Rattle.user_model.specs.Edited.{group_number, row_number}
 use Rattle.user_model.specs.Model.{ModelValue}
 use Rattle.user_model.specs.Valid.{IsValid}
 use Rattle.user_model.specs.declared.group.Group.{Group}
-use Rattle.user_model.specs.declared.objective.Objective.{Objective}
 use Rattle.user_model.specs.declared.objective.Objective.TheVariants as objective
+use Rattle.user_model.specs.declared.objective.Objective.{Objective}
 use Rattle.user_model.specs.declared.row.Row.{Row}
+
+-- a group's address is among those of contents that have it
+pub in_contents : (c : Contents) (g : Group) → Contains (groups_in c) g
+    → Contains (addresses_in c) (group_item g).at
+in_contents c g k =
+    Contains-append_left (group_addresses (groups_in c))
+    (row_addresses (rows_in c) ++ option_map_or (λ _. objective_address ∷ []) c.objective [])
+    (group_item g).at
+    (mapped_contains (λ (g : Group). root_address root.Group g.id) (groups_in c) g k)
 
 -- ---- lists
 

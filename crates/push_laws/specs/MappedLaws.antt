@@ -1,20 +1,27 @@
 -- What a map of addresses has after an edit is what the new bridging has of the user's variables: their
 -- functions, and which of them are kept.
-use Rattle.std.specs.Prelude.{◌≡◌, ◌⊎◌, ◌&&◌, ◌||◌, Bool, true, false, cond, find as first_passing, not, List, [], ◌∷◌, All, Contains, Option, Some, None, filter, is_some, map, refl}
 use Rattle.std.specs.FinMap as finite
+use Rattle.std.specs.Prelude.{◌≡◌, ◌⊎◌, ◌&&◌, ◌||◌, Bool, true, false, cond, find as first_passing, not, List, [], ◌∷◌, All, Contains, Option, Some, None, filter, is_some, map, refl}
 use Rattle.std.proofs.Common.{inl, inr, sym, ap, ap₂, subst, ◌∙◌, true≢false}
 use Rattle.std.proofs.lemmas.List.Elements.{All-contains, All-contains_itself, All-filter, Contains-append_left, Contains-append_right}
 use Rattle.address_map.specs.AddressMap.{AddressMap}
 use Rattle.aff_core.specs.Address.{Address, address_cmp, address_eq, address_eq-Decides, address_total, exact_addresses}
 use Rattle.aff_core.specs.Function.{Function}
 use Rattle.bridge_face.specs.Law.{expressed}
+use Rattle.push_laws.specs.StayingLaws.{without}
+use Rattle.push_laws.specs.Edits.{AreChanging, Edit, IsMappedAnew, IsSearch, old_here, setting_here}
+use Rattle.push_laws.specs.FurtherLaws.{unchanged}
+use Rattle.push_laws.specs.GivenLaws.{groups_had, unfound}
+use Rattle.push_laws.specs.PlannedLaws.{found_groups, new_choice, others_stay, standing_is}
+use Rattle.expansion.specs.Bridged.{EachBridged}
 use Rattle.found_plan.specs.Read.{is_marked}
 use Rattle.fresh_bridging.specs.Entries.{Entry, expression_in, function_in, is_kept}
 use Rattle.fresh_bridging.specs.FreshBridging.{FreshBridging, expression_of}
 use Rattle.fresh_bridging.specs.ModelImage.{group_item, model_image}
-use Rattle.item_core.specs.Item.{is_group, variables_of}
+use Rattle.fresh_bridging.specs.TheRules.{Setting, rules_by}
+use Rattle.item_core.specs.Item.{variables_of, is_group}
 use Rattle.item_core.specs.declared.item.Item.{Item}
-use Rattle.leaf_update.specs.LeavesLaws.{among_contained, contains_among}
+use Rattle.leaf_update.specs.LeavesLaws.{contains_among, among_contained}
 use Rattle.leaf_update.specs.Others.{among}
 use Rattle.local_laws.specs.FoundLaws.{in_groups, item_of_group}
 use Rattle.local_laws.specs.GoneLaws.{all_kept}
@@ -28,14 +35,10 @@ use Rattle.model_bridging.specs.Expressions.{expressions_by}
 use Rattle.model_bridging.specs.Planned.{kept_variables, variables_of_the_model}
 use Rattle.push_laws.specs.AgreeLaws.{own_variables as own_of}
 use Rattle.push_laws.specs.AloneLaws.{groups_found}
-use Rattle.push_laws.specs.Edits.{AreChanging, Edit, IsMappedAnew, IsSearch, old_here, setting_here, sound_before, sound_behind}
-use Rattle.push_laws.specs.FurtherLaws.{group_own, numbered_flat, own_group, unchanged}
-use Rattle.push_laws.specs.GroupsHad.{groups_had}
+use Rattle.push_laws.specs.NamingLaws.{group_own, numbered_flat, own_group}
 use Rattle.push_laws.specs.HandedLaws.{is_found}
 use Rattle.push_laws.specs.ListLaws.{kept_item}
-use Rattle.push_laws.specs.OwnLaws.{without}
-use Rattle.push_laws.specs.PlannedLaws.{found_groups, others_stay, standing_is, unfound}
-use Rattle.push_laws.specs.RefusedLaws.{marked_where}
+use Rattle.push_laws.specs.MarkedLaws.{marked_where}
 use Rattle.push_laws.specs.SortedLaws.{passing_contained}
 use Rattle.touched_items.specs.Differences.{groups_in, variables_in}
 use Rattle.user_model.specs.Model.{ModelValue}
@@ -45,7 +48,7 @@ use Rattle.user_model.specs.declared.row.Row.{Row}
 
 -- ---- maps
 
-looked_each : {X : Type 0} (f : Address → X) (vs : List Address) (v : Address)
+pub looked_each : {X : Type 0} (f : Address → X) (vs : List Address) (v : Address)
     → look v (map (λ u. (u, f u)) vs) ≡ cond (among vs v) (Some (f v)) None
 looked_each f [] v = refl
 looked_each f (u ∷ us) v = by (address_eq v u) refl (looked_each f us v)
@@ -57,13 +60,13 @@ looked_each f (u ∷ us) v = by (address_eq v u) refl (looked_each f us v)
     by true e rest = ap (λ w. Some (f w)) (sym ((address_eq-Decides v u).0 e))
     by false e rest = rest
 
-unit_same : (o p : Option (Unit {0})) → is_some o ≡ is_some p → o ≡ p
+pub unit_same : (o p : Option (Unit {0})) → is_some o ≡ is_some p → o ≡ p
 unit_same None None e = refl
 unit_same None (Some x) e = absurd (true≢false (sym e))
 unit_same (Some x) None e = absurd (true≢false e)
 unit_same (Some x) (Some y) e = refl
 
-not_among : (vs : List Address) (v : Address) → ¬ (Contains vs v) → among vs v ≡ false
+pub not_among : (vs : List Address) (v : Address) → ¬ (Contains vs v) → among vs v ≡ false
 not_among vs v n = by (among vs v) refl
   where
     by : (b : Bool) → among vs v ≡ b → b ≡ false
@@ -71,7 +74,7 @@ not_among vs v n = by (among vs v) refl
     by true t = absurd (n (contains_among v vs t))
 
 -- none is marked that isn't one of them
-unmarked : (f : Address → Bool) (vs : List Address) (v : Address) → ¬ (Contains vs v)
+pub unmarked : (f : Address → Bool) (vs : List Address) (v : Address) → ¬ (Contains vs v)
     → is_some (finite.get (finite.from_entries {R = address_cmp}
     (map {B = Address × Unit {0}} (λ u. (u, tt)) (filter f vs))) v) ≡ false
 unmarked f vs v n =
@@ -84,14 +87,14 @@ unmarked f vs v n =
 -- ---- variables of groups
 
 -- a kept group's variable is one of these
-among_kept_groups : (keep : Item → Bool) (all gs : List Group) (v : Address) (g : Item)
+pub among_kept_groups : (keep : Item → Bool) (all gs : List Group) (v : Address) (g : Item)
     → filter keep (map group_item all) ≡ map group_item gs → Contains (map group_item all) g
     → keep g ≡ true → Contains (variables_of g.body) v → Contains (own_of gs) v
 among_kept_groups keep all gs v g same c t own =
     group_own v gs g
     (subst (λ l. Contains l g) same (kept_item keep (map group_item all) g c t)) own
 
-all_contained : {X : Type 0} (p : X → Bool) (xs : List X) → All (Contains xs) (filter p xs)
+pub all_contained : {X : Type 0} (p : X → Bool) (xs : List X) → All (Contains xs) (filter p xs)
 all_contained p xs = All-filter p (Contains xs) xs (All-contains_itself xs)
 
 module _ (e : Edit) (new : FreshBridging (setting_here e) e.after)
@@ -110,7 +113,7 @@ module _ (e : Edit) (new : FreshBridging (setting_here e) e.after)
   abbrev vars_after : List Address
   vars_after = variables_of_the_model e.after
 
-  -- what a group that differs has stands
+  -- what a given group has stands
   own_there : (v : Address) → Contains is_own v → Contains vars_after v
   own_there v c =
       let g = own_group v (groups_in e.d.after)
@@ -123,7 +126,7 @@ module _ (e : Edit) (new : FreshBridging (setting_here e) e.after)
       (sym (found_groups e changed addresses rows objective search)) g.1))
       g.2
 
-  -- what a group that differed had, and none that differs has, is gone
+  -- what a given group had, and none that is given has, is gone
   own_gone : (v : Address) → Contains was_own v → ¬ (Contains is_own v)
       → ¬ (Contains vars_after v)
   own_gone v c n k =
@@ -140,13 +143,15 @@ module _ (e : Edit) (new : FreshBridging (setting_here e) e.after)
           All-contains
           (λ (g : Item). is_found addresses g ≡ false → ¬ (Contains (variables_of g.body) v))
           (model_image e.after).groups g
-          (without (sound_before e) (sound_behind e) (old_here e) e.d e.differs new.choice new.chosen
-          new.made.entries new.made.groups (is_found addresses)
-          (λ i out group. unfound e changed addresses rows objective search i out) v
+          (without e new.made.entries
+          (subst (λ c. EachBridged (rules_by c) (model_image e.after).groups new.made.entries)
+          (new_choice e changed addresses rows objective search new) new.made.groups)
+          (is_found addresses)
+          (λ i out. unfound e changed addresses rows objective search i out) v
           (Contains-append_left was_own is_own v c))
           inside t own
 
-  -- of no group that differs: it stands on both sides or on none
+  -- of no given group: it stands on both sides or on none
   stood_there : (v : Address) → ¬ (Contains is_own v) → Contains vars_after v
       → Contains vars_before v
   stood_there v n k =
@@ -208,7 +213,7 @@ module _ (e : Edit) (new : FreshBridging (setting_here e) e.after)
   -- ---- the map
 
   module _ (places : AddressMap) (mapped : IsMappedAnew e standing places) where
-    abbrev function_of : {model : ModelValue} → FreshBridging (setting_here e) model → Address
+    abbrev function_of : {setting : Setting} {model : ModelValue} → FreshBridging setting model → Address
         → Function
     function_of bridging u = expressed (expression_of bridging u)
 
@@ -274,7 +279,8 @@ module _ (e : Edit) (new : FreshBridging (setting_here e) e.after)
 
     -- ---- marks
 
-    abbrev keeps_it : {model : ModelValue} → FreshBridging (setting_here e) model → Address → Bool
+    abbrev keeps_it : {setting : Setting} {model : ModelValue} → FreshBridging setting model → Address
+        → Bool
     keeps_it bridging u = is_kept (expression_of bridging u)
 
     abbrev marks_after : Address → Bool

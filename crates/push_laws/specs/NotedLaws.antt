@@ -1,22 +1,18 @@
 -- What is noted of which rows, and the objective, name which variables is so of the model after, where
 -- what the rows that differ named is gone and what they name is noted.
-use Rattle.std.specs.Prelude.{◌≡◌, ◌<◌, ◌==◌, ◌&&◌, ◌||◌, Bool, true, false, cond, not, List, [], ◌∷◌, All, Option, Some, None, is_some, refl}
-use Rattle.std.specs.FinMap as finite
+use Rattle.std.specs.Prelude.{◌≡◌, ◌<◌, ◌==◌, ◌&&◌, ◌||◌, Bool, true, false, cond, not, List, [], ◌∷◌, All, Option, Some, None, refl}
 use Rattle.std.specs.List.{list_any}
 use Rattle.std.specs.Option.{option_copied, option_map, option_map_or}
 use Rattle.std.proofs.Common.{arith, sym, ap, ap₂, subst, ◌∙◌, true≢false}
-use Rattle.address_map.specs.AddressMap.{AddressMap}
-use Rattle.address_map.specs.Noted.{noted_in}
 use Rattle.aff_core.specs.Address.{Address, address_eq, address_eq-Decides, root_address, root_number}
 use Rattle.aff_core.specs.declared.root.Root.TheVariants as root
-use Rattle.fresh_bridging.specs.Entries.{Entry}
 use Rattle.fresh_bridging.specs.ModelImage.{objective_items, row_item}
 use Rattle.item_core.specs.declared.item.Body.{Body}
 use Rattle.item_core.specs.declared.item.Body.TheVariants.{Plain, Affine, PlainVec, AffineVec, PlainObj, AffineObj}
 use Rattle.item_core.specs.declared.item.Item.{Item}
 use Rattle.numbered_list.specs.Laws.{Rise-head, Rise-tail, find-none_above}
 use Rattle.numbered_list.specs.Numbered.{Rise, find}
-use Rattle.push_laws.specs.Edits.{Edit, IsMappedAnew, contents_name}
+use Rattle.push_laws.specs.Edits.{contents_name}
 use Rattle.std.proofs.lemmas.Bool.Decides.{Decides-eqb, same_from_decides}
 use Rattle.touched_items.specs.DifferenceLaws.{HasDifferences, objective_address}
 use Rattle.touched_items.specs.Differences.{rows_in}
@@ -287,14 +283,3 @@ module _ (var : Address) where
             (option_copied d.before.objective) (option_copied d.after.objective) h.objective)
             ∙ sym (ap (λ b. b || (is_objective at && objective_mentions var after.objective))
             (none_named at f after.rows))
-
--- so of a map after an edit
-pub noted_anew : (e : Edit) (standing : List Entry) (places : AddressMap)
-    → IsMappedAnew e standing places → (var at : Address)
-    → is_some (finite.get (noted_in places.noted var) at) ≡ other_names e.after var at
-noted_anew e standing places mapped var at =
-    mapped.noted var at
-    ∙ ap (λ b. (b && not (contents_name e.d.before var at)) || contents_name e.d.after var at)
-    (e.held.noted var at)
-    ∙ names_anew var e.model e.after e.d e.differs e.held.valid.consistent.rows_rise
-    e.valid.consistent.rows_rise at

@@ -1,52 +1,58 @@
 -- What is found of an edit is what it touches, and what is planned of it is what the new bridging holds
 -- of it.
-use Rattle.std.specs.Prelude.{◌≡◌, ◌++◌, ℕ, false, find as first_passing, List, [], ◌∷◌, All, AllPairs, Contains, Option, Some, None, filter, flat_map, is_some, length, map, refl}
+use Rattle.std.specs.Prelude.{◌≡◌, ◌++◌, ℕ, false, find as first_passing, List, [], ◌∷◌, All, AllPairs, Contains, Option, Some, None, filter, flat_map, is_some, length, map, refl, ◌≢◌, ◌⊎◌, ◌↔◌, Bool, true}
 use Rattle.std.specs.List.Sorted.{IsStrictlySortedBy}
 use Rattle.std.specs.Option.{option_map_or}
 use Rattle.std.specs.declared.cmp.Ordering.TheVariants.{Less}
-use Rattle.std.proofs.Common.{sym, ap, ap₂, subst, ◌∙◌, true≢false}
+use Rattle.std.proofs.Common.{sym, ap, ap₂, subst, ◌∙◌, true≢false, inl, inr}
 use Rattle.std.proofs.lemmas.Grind.{flat_map-append}
 use Rattle.std.proofs.lemmas.List.{map-append}
-use Rattle.std.proofs.lemmas.List.Elements.{All-contains_itself, All-filter, All-from_recursion, All-weaker, filter-append}
+use Rattle.std.proofs.lemmas.List.Elements.{All-contains_itself, All-filter, All-from_recursion, All-weaker, filter-append, All-contains}
 use Rattle.std.proofs.lemmas.List.Kept.{AllPairs-cons}
-use Rattle.std.proofs.lemmas.Map.Keys.{sorted_head, sorted_tail}
+use Rattle.std.proofs.lemmas.Map.Keys.{sorted_head, sorted_tail, IsDistinct-from_sorted}
+use Rattle.std.proofs.lemmas.Option.{none-some}
 use Rattle.address_map.specs.Noted.{noted_items}
 use Rattle.aff_core.specs.Address.{Address, address_cmp, address_total}
 use Rattle.bridge_face.specs.declared.kept_item.KeptItem.{KeptItem}
 use Rattle.bridge_graph.specs.declared.Choice.{Choice}
 use Rattle.bridge_plan.specs.Adds.{kept_of}
 use Rattle.bridge_plan.specs.Worked.{IsWithin, worked, worked_each, worked_in}
+use Rattle.push_laws.specs.StayingLaws.{alike_by, group_stays_at, own_stands}
+use Rattle.push_laws.specs.Edits.{AreChanging, Edit, IsPlanned, IsSearch, IsStandingFor, choice_here, groups_held, groups_now, old_here, others_held, setting_here, sound_before, sound_behind}
+use Rattle.push_laws.specs.GivenLaws.{given_here, groups_handed, index_here, unfound}
+use Rattle.push_laws.specs.RefusedLaws.{all_changed, all_compared}
+use Rattle.expansion.specs.Bridged.{EachBridged}
 use Rattle.expansion.specs.Grown.{Held}
 use Rattle.fresh_bridging.specs.Entries.{Entry, expression_in, put_in}
 use Rattle.fresh_bridging.specs.ExistenceLaws.{trees_of_bridged}
 use Rattle.fresh_bridging.specs.FreshBridging.{FreshBridging, HasTree, expression_of}
 use Rattle.fresh_bridging.specs.ModelImage.{items_of, model_image}
-use Rattle.fresh_bridging.specs.TheRules.{graph_of}
-use Rattle.fresh_bridging.specs.Touched.{IsTouched, item_at}
+use Rattle.fresh_bridging.specs.TheRules.{graph_of, rules_by}
+use Rattle.fresh_bridging.specs.Touched.{IsTouched, item_at, named}
+use Rattle.item_core.specs.Item.{is_group}
 use Rattle.item_core.specs.declared.item.Item.{Item}
-use Rattle.leaf_update.specs.LeavesLaws.{among_contained}
 use Rattle.leaf_model.specs.LeafModel.{IsCountOf}
 use Rattle.local_laws.specs.AgreeingLaws.{put_in_agreeing}
-use Rattle.local_laws.specs.Held.{held_of, is_there}
+use Rattle.local_laws.specs.FoundLaws.{expression_stays}
+use Rattle.local_laws.specs.Held.{HasOwn, held_of, is_there}
+use Rattle.local_laws.specs.LookedLaws.{contains_or_not}
+use Rattle.local_laws.specs.MentionLaws.{IsBesideGroups}
 use Rattle.local_laws.specs.Stays.{AgreeOn, StaysAt}
 use Rattle.local_laws.specs.StaysLaws.{none_held}
+use Rattle.local_laws.specs.UntouchedLaws.{found_exactly}
 use Rattle.map_laws.specs.EachLaws.{all_both}
 use Rattle.map_laws.specs.PairLaws.{AllPairs-nil}
 use Rattle.model_bridging.specs.Found.{found_others}
 use Rattle.model_bridging.specs.Levels.{groups_within, others_within}
 use Rattle.push_laws.specs.AloneLaws.{groups_found, one_for_all, others_found}
-use Rattle.push_laws.specs.Edits.{AreChanging, Edit, IsPlanned, IsSearch, IsStandingFor, choice_here, groups_held, groups_now, old_here, others_held, setting_here, sound_before, sound_behind}
-use Rattle.push_laws.specs.HandedLaws.{all_differing, groups_handed, is_found, only_differing, others_handed}
+use Rattle.push_laws.specs.HandedLaws.{is_found, others_handed}
 use Rattle.push_laws.specs.HeldAllLaws.{leaves_held, nodes_held}
 use Rattle.push_laws.specs.ListLaws.{flat_kept}
 use Rattle.push_laws.specs.OrderLaws.{not_below}
-use Rattle.push_laws.specs.OwnLaws.{own_stands}
-use Rattle.push_laws.specs.RefusedLaws.{has_here, index_here}
 use Rattle.push_laws.specs.PlanLaws.{IsGroupOf, IsOtherOf, addresses_of, groups_leaves, groups_nodes, others_leaves, others_nodes}
 use Rattle.push_laws.specs.SortedLaws.{standing_addresses}
-use Rattle.touched_items.specs.Differences.{differing_addresses, own_variables}
-use Rattle.touched_items.specs.Search.{AreInOrder}
-use Rattle.touched_items.specs.SearchLaws.{found_count, found_exactly}
+use Rattle.touched_items.specs.Differences.{own_variables}
+use Rattle.touched_items.specs.SearchLaws.{in_order_noted}
 use Rattle.user_model.specs.declared.objective.Objective.{Objective}
 use Rattle.user_model.specs.declared.row.Row.{Row}
 
@@ -65,18 +71,8 @@ sorted_apart (a ∷ ats) h =
 
 module _ (e : Edit) (changed addresses : List Address) (rows : List Row)
     (objective : Option Objective) (search : IsSearch e changed addresses rows objective) where
-  -- what differs is found
-  pub differing_found : (at : Address) → Contains (differing_addresses e.d) at
-      → Contains addresses at
-  differing_found =
-      all_differing (noted_items e.places.noted) (differing_addresses e.d) changed addresses
-      search.order
-
   pub found_groups : filter (is_found addresses) (model_image e.after).groups ≡ groups_now e
-  found_groups =
-      groups_handed e.model e.after e.valid e.d e.differs addresses differing_found
-      (only_differing e.model (noted_items e.places.noted) (index_here e) (differing_addresses e.d)
-      changed addresses search.order)
+  found_groups = groups_handed e changed addresses rows objective search
 
   pub found_others_are :
       filter (is_found addresses) (model_image e.after).others ≡ found_others rows objective
@@ -89,11 +85,6 @@ module _ (e : Edit) (changed addresses : List Address) (rows : List Row)
   found_items =
       filter-append (is_found addresses) (model_image e.after).groups (model_image e.after).others
       ∙ ap₂ ◌++◌ found_groups found_others_are
-
-  pub unfound : (i : Item) → is_found addresses i ≡ false
-      → ¬ (Contains (differing_addresses e.d) i.at)
-  unfound i out c =
-      true≢false (sym (among_contained i.at addresses (differing_found i.at c)) ∙ out)
 
   pub apart : AllPairs (λ a b. ¬ (b ≡ a)) addresses
   apart = sorted_apart addresses search.order.rising
@@ -136,15 +127,16 @@ module _ (e : Edit) (changed addresses : List Address) (rows : List Row)
     pub own_is : (v : Address) → Contains (own_variables e.d) v
         → expression_in (groups_held e).entries v ≡ expression_of new v
     own_is v c =
-        ap (λ (c : ℕ → Choice).
-        expression_in (worked_each c (worked c 35) (groups_now e)).entries v) (sym new_choice)
-        ∙ ap (λ gs. expression_in (worked_each new.choice (worked new.choice 35) gs).entries v)
-        (sym found_groups)
-        ∙ own_stands (sound_before e) (sound_behind e) (old_here e) e.d e.differs new.choice
-        new.chosen new.made.entries new.made.groups (is_found addresses)
-        (λ i out group. unfound i out)
+        ap (λ gs. expression_in
+        (worked_each (choice_here e) (worked (choice_here e) 35) gs).entries v) (sym found_groups)
+        ∙ own_stands e new.made.entries
+        (subst (λ c. EachBridged (rules_by c) (model_image e.after).groups new.made.entries) new_choice
+        new.made.groups) (is_found addresses)
+        (λ i out. unfound e changed addresses rows objective search i out)
+        (subst (λ c. All (IsWithin c 35) (filter (is_found addresses) (model_image e.after).groups))
+        new_choice
         (All-filter (is_found addresses) (IsWithin new.choice 35) (model_image e.after).groups
-        all_groups_within) v c
+        all_groups_within)) v c
 
 module _ (e : Edit) (new : FreshBridging (setting_here e) e.after)
     (standing : List Entry) (changed addresses : List Address) (rows : List Row)
@@ -155,32 +147,114 @@ module _ (e : Edit) (new : FreshBridging (setting_here e) e.after)
   standing_is v c =
       ap (λ f. f v) changing.stands ∙ own_is e changed addresses rows objective search new v c
 
+  abbrev choice_is : new.choice ≡ choice_here e
+  choice_is = new_choice e changed addresses rows objective search new
+
+  -- the search is by the variables for which something else stands
+  changed_are : All (λ v. expression_of (old_here e) v ≢ expression_of new v) changed
+  changed_are =
+      subst (All (λ v. expression_of (old_here e) v ≢ expression_of new v)) (sym changing.changes)
+      (all_changed e standing (expression_of new) standing_is)
+
+  beside_same : (v : Address) → IsBesideGroups e.model e.after (given_here e) v
+      → expression_of (old_here e) v ≡ expression_of new v
+  beside_same v beside =
+      expression_stays (sound_before e) (sound_behind e) (old_here e) new v (record {
+        before = λ at item is group own.
+            was at item is group own (contains_or_not (given_here e) at);
+        behind = λ at item is group own.
+            now at item is group own (contains_or_not (given_here e) at);
+      })
+    where
+      was : (at : Address) (item : Item) → item_at e.model at ≡ Some item
+          → is_group item.body ≡ true → HasOwn v item
+          → Contains (given_here e) at ⊎ (¬ (Contains (given_here e) at))
+          → StaysAt (old_here e) new at
+      was at item is group own (inl c) = absurd (beside.before at item c is group own)
+      was at item is group own (inr n) =
+          group_stays_at e new choice_is at item (e.separates.same at n) is group n
+
+      now : (at : Address) (item : Item) → item_at e.after at ≡ Some item
+          → is_group item.body ≡ true → HasOwn v item
+          → Contains (given_here e) at ⊎ (¬ (Contains (given_here e) at))
+          → StaysAt (old_here e) new at
+      now at item is group own (inl c) = absurd (beside.behind at item c is group own)
+      now at item is group own (inr n) =
+          group_stays_at e new choice_is at item (e.separates.same at n)
+          (e.separates.same at n ∙ is) group n
+
+  same_unchanged : (v : Address) → ¬ (Contains changed v)
+      → expression_of (old_here e) v ≡ expression_of new v
+  same_unchanged v n =
+      by (all_compared e standing (expression_of new) standing_is v
+      (subst (λ l. ¬ (Contains l v)) changing.changes n))
+    where
+      by : (expression_of (old_here e) v ≡ expression_of new v)
+          ⊎ IsBesideGroups e.model e.after (given_here e) v
+          → expression_of (old_here e) v ≡ expression_of new v
+      by (inl is) = is
+      by (inr beside) = beside_same v beside
+
+  found_where : (at : Address)
+      → Contains addresses at
+      ↔ (Contains (given_here e) at
+      ⊎ ((v : Address) × Contains changed v × Contains (noted_items e.places.noted v) at))
+  found_where =
+      in_order_noted (given_here e) changed (noted_items e.places.noted) addresses search.order
+
   -- what is found is exactly what is touched
-  pub exactly : (at : Address)
-      → (Contains addresses at → IsTouched (old_here e) new at)
-      × (¬ (Contains addresses at) → StaysAt (old_here e) new at)
-  exactly at =
-      found_exactly (sound_before e) (sound_behind e) (old_here e) new e.d e.differs e.places
-      (has_here e) standing standing_is (index_here e) addresses
-      (subst (λ c. AreInOrder (differing_addresses e.d ++ flat_map (noted_items e.places.noted) c)
-      addresses) changing.changes search.order)
-      at
+  found_touched : (at : Address) → Contains addresses at → IsTouched (old_here e) new at
+  found_touched at c = by ((found_where at).0 c)
+    where
+      by : Contains (given_here e) at
+          ⊎ ((v : Address) × Contains changed v × Contains (noted_items e.places.noted v) at)
+          → IsTouched (old_here e) new at
+      by (inl d) = All-contains (IsTouched (old_here e) new) (given_here e) at (e.touched new) d
+      by (inr (v, k, n)) =
+          let m = (index_here e v at).0 n in
+          named v (inl (m.0, m.1, m.3))
+          (All-contains (λ v. expression_of (old_here e) v ≢ expression_of new v) changed v
+          changed_are k)
 
   pub others_stay : (at : Address) → ¬ (Contains addresses at) → StaysAt (old_here e) new at
-  others_stay at n = (exactly at).1 n
+  others_stay at out = by (item_at e.model at) refl
+    where
+      apart_here : ¬ (Contains (given_here e) at)
+      apart_here d = out ((found_where at).1 (inl d))
+
+      other : (item : Item) → item_at e.model at ≡ Some item → is_group item.body ≡ false
+          → StaysAt (old_here e) new at
+      other item is none = record {
+        same = e.separates.same at apart_here;
+        alike = alike_by e new choice_is at apart_here;
+        agree = λ x found no_group v names. same_unchanged v (λ k. out ((found_where at).1
+            (inr (v, k, (index_here e v at).1 (x, found, no_group, names)))));
+      }
+
+      by : (o : Option Item) → item_at e.model at ≡ o → StaysAt (old_here e) new at
+      by None none = record {
+        same = e.separates.same at apart_here;
+        alike = alike_by e new choice_is at apart_here;
+        agree = λ item found no_group v names. absurd (none-some item (sym none ∙ found));
+      }
+      by (Some item) is = sort (is_group item.body) refl
+        where
+          sort : (b : Bool) → is_group item.body ≡ b → StaysAt (old_here e) new at
+          sort true group =
+              group_stays_at e new choice_is at item (e.separates.same at apart_here) is group
+              apart_here
+          sort false none = other item is none
 
   pub all_touched : All (IsTouched (old_here e) new) addresses
   all_touched =
-      All-weaker (Contains addresses) (IsTouched (old_here e) new) (λ at c. (exactly at).0 c)
+      All-weaker (Contains addresses) (IsTouched (old_here e) new) found_touched
       addresses (All-contains_itself addresses)
 
   -- so there are as many as are found
   pub count_here : IsCountOf (IsTouched (old_here e) new) (length addresses)
   count_here =
-      found_count (sound_before e) (sound_behind e) (old_here e) new e.d e.differs e.places
-      (has_here e) standing standing_is (index_here e) addresses
-      (subst (λ c. AreInOrder (differing_addresses e.d ++ flat_map (noted_items e.places.noted) c)
-      addresses) changing.changes search.order)
+      found_exactly (sound_before e) (sound_behind e) (old_here e) new addresses
+      (IsDistinct-from_sorted address_cmp addresses search.order.rising) all_touched others_stay
 
   -- ---- rows and the objective
 

@@ -1,4 +1,4 @@
--- Where the groups that differ fit, the first item that doesn't is the first of the found rows and the
+-- Where the given groups fit, the first item that doesn't is the first of the found rows and the
 -- objective that doesn't as it is planned, and without one the whole bridging is made.
 use Rattle.std.specs.Prelude.{◌≡◌, ◌&&◌, Bool, true, false, cond, not, List, [], ◌∷◌, Contains, find, Option, Some, None, refl}
 use Rattle.std.specs.List.{list_all}
@@ -8,6 +8,9 @@ use Rattle.std.proofs.lemmas.List.Elements.{All-contains_itself, All-weaker}
 use Rattle.std.proofs.lemmas.List.Folds.{find-append}
 use Rattle.std.proofs.lemmas.Option.{none-some}
 use Rattle.aff_core.specs.Address.{Address}
+use Rattle.push_laws.specs.Edits.{AreChanging, Edit, IsSearch, IsStandingFor, choice_here, groups_now, old_here, setting_here, sound_before, sound_behind}
+use Rattle.push_laws.specs.FurtherLaws.{agree_here}
+use Rattle.push_laws.specs.PlannedLaws.{found_are, found_items, groups_planned, new_choice, others_stay}
 use Rattle.fresh_bridging.specs.Entries.{Entry}
 use Rattle.fresh_bridging.specs.FreshBridging.{FreshBridging, is_made, unfit_at}
 use Rattle.fresh_bridging.specs.ModelImage.{items_of}
@@ -19,16 +22,13 @@ use Rattle.local_laws.specs.Stays.{StaysAt}
 use Rattle.model_bridging.specs.Found.{found_others}
 use Rattle.model_bridging.specs.ModelHeld.{unfit, unfit_put}
 use Rattle.model_bridging.specs.Outcome.{IsFirstAt}
-use Rattle.push_laws.specs.Edits.{AreChanging, Edit, IsSearch, IsStandingFor, choice_here, groups_now, old_here, setting_here, sound_before, sound_behind}
-use Rattle.push_laws.specs.FurtherLaws.{agree_here}
 use Rattle.push_laws.specs.HandedLaws.{is_found}
 use Rattle.push_laws.specs.PlanLaws.{groups_unfit, others_unfit}
-use Rattle.push_laws.specs.PlannedLaws.{found_are, found_items, groups_planned, new_choice, others_stay}
 use Rattle.user_model.specs.declared.objective.Objective.{Objective}
 use Rattle.user_model.specs.declared.row.Row.{Row}
 
 -- none of the items fails the test
-none_fails : (p : Item → Bool) (items : List Item) → find (λ i. not (p i)) items ≡ None
+pub none_fails : (p : Item → Bool) (items : List Item) → find (λ i. not (p i)) items ≡ None
     → list_all p items ≡ true
 none_fails p [] e = refl
 none_fails p (x ∷ xs) e = by (p x) e (none_fails p xs)
@@ -39,7 +39,7 @@ none_fails p (x ∷ xs) e = by (p x) e (none_fails p xs)
     by true f later = later f
     by false f later = absurd (none-some x (sym f))
 
-not_there : (o : Option Item) → option_map (λ (i : Item). i.at) o ≡ None → o ≡ None
+pub not_there : (o : Option Item) → option_map (λ (i : Item). i.at) o ≡ None → o ≡ None
 not_there None e = refl
 not_there (Some i) e = absurd (none-some i.at (sym e))
 

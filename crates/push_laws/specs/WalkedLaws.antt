@@ -12,11 +12,12 @@ use Rattle.box_laws.specs.BoxWalkLaws.{same_places}
 use Rattle.box_laws.specs.ItemWalkLaws.{item_walked}
 use Rattle.box_laws.specs.NarrowLaws.{all_narrow}
 use Rattle.box_laws.specs.WalkLaws.{node_places}
+use Rattle.bridge_face.specs.State.{Kept, State}
 use Rattle.bridge_set.specs.Boxed.{families_of, kept_by, occur_once}
 use Rattle.bridge_set.specs.Letting.{IsAlone}
 use Rattle.bridge_set.specs.Nodes.{HoldNodes, nodes_by}
-use Rattle.bridge_set.specs.Walk.{IsNarrow, IsRoot, box_places, from_places, here_and, nodes_below, walk}
-use Rattle.bridge_face.specs.State.{Kept, State}
+use Rattle.bridge_set.specs.Walk.{from_places, here_and, walk, IsNarrow, IsRoot, box_places, nodes_below}
+use Rattle.push_laws.specs.Edits.{Edit, old_here, setting_before, sound_before}
 use Rattle.expansion.specs.Grown.{Held}
 use Rattle.expansion.specs.Read.{model_nodes}
 use Rattle.fresh_bridging.specs.Entries.{Entry}
@@ -32,12 +33,11 @@ use Rattle.local_laws.specs.StaysLaws.{none_held}
 use Rattle.local_laws.specs.Views.{by_address, look, nodes_low, nodes_view, of_nodes}
 use Rattle.map_laws.specs.EachLaws.{all_from_map}
 use Rattle.map_laws.specs.MadeLaws.{get_made}
-use Rattle.push_laws.specs.Edits.{Edit, old_here, setting_here, sound_before}
 use Rattle.tree_laws.specs.LeafLaws.{IsNode}
 use Rattle.tree_laws.specs.PrimalLaws.{nodes_here}
 
 -- nothing is walked from where nothing stands
-walked_none : (places : Address → Option ℕ) (levels : ℕ) (at : Address) → places at ≡ None
+pub walked_none : (places : Address → Option ℕ) (levels : ℕ) (at : Address) → places at ≡ None
     → walk places levels at ≡ []
 unfolding walk
 walked_none places zero at e = refl
@@ -55,9 +55,9 @@ same_families one other e =
     sym (families_kept one) ∙ ap (map (λ (k : Family × Kept). k.0)) e ∙ families_kept other
 
 module _ (e : Edit) where
-  pub usable : All (IsNode (setting_here e)) (model_nodes (old_here e).made)
+  pub usable : All (IsNode (setting_before e)) (model_nodes (old_here e).made)
   usable =
-      nodes_here (setting_here e) e.sound.costly e.sound.lawful e.native e.model e.held.valid
+      nodes_here (setting_before e) e.costly e.lawful e.native_before e.model e.held.valid
       (old_here e)
 
   module _ (states : List State) (same : kept_by states ≡ kept_by e.boxes.states) where
@@ -98,7 +98,7 @@ module _ (e : Edit) where
         ∙ ap (option_map node_places)
         (get_made address_total (by_address (model_nodes (old_here e).made)) at
         ∙ by (look at (by_address (model_nodes (old_here e).made))) refl
-        (owner_or_none (setting_here e) e.sound.costly e.sound.lawful e.model e.held.valid
+        (owner_or_none (setting_before e) e.costly e.lawful e.model e.held.valid
         (old_here e) at))
       where
         root : item_of at ≡ at
@@ -109,7 +109,7 @@ module _ (e : Edit) where
             → look at (by_address (model_nodes (old_here e).made)) ≡ None
         by None f owner = f
         by (Some n) f (inr nobody) =
-            nobody_looks (setting_here e) e.sound.costly e.sound.lawful e.model e.held.valid
+            nobody_looks (setting_before e) e.costly e.lawful e.model e.held.valid
             (old_here e) of_nodes nodes_view at nobody
         by (Some n) f (inl (b, o)) =
             absurd (none-some o.item

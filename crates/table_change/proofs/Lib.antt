@@ -1,0 +1,2 @@
+mod ChangedSteps
+mod FoundSteps
