@@ -18,7 +18,7 @@ use simplex_core::StdForm;
 use solver_store::SolverModel;
 use std::alloc::Global;
 
-/// The most cells that a board of the form may have: 512 MiB of numbers.
+/// The most cells that a board of the form may have: some 150 MB of whole numbers.
 pub const CELL_LIMIT: u64 = 16_777_216;
 
 /// The equality form of the solver's model, in the order of the addresses that the map gives.
