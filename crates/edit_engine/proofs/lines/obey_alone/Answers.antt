@@ -20,10 +20,6 @@ pub returns-in-Commit-clause-few : goal.returns-in-Commit-clause-few
 returns-in-Commit-clause-few g c =
     few_stays c.refuse.result c.args.cache.now.lazy c.args.cache.now.lazy refl
 
-pub returns-in-Abandon-clause-few : goal.returns-in-Abandon-clause-few
-returns-in-Abandon-clause-few g c =
-    few_stays c.refuse.result c.args.cache.now.lazy c.args.cache.now.lazy refl
-
 pub returns-in-Bridged-clause-few : goal.returns-in-Bridged-clause-few
 returns-in-Bridged-clause-few g c =
     few_stays c.bridged.result c.args.cache.now.lazy c.args.cache.now.lazy refl
