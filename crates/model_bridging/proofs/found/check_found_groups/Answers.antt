@@ -37,5 +37,5 @@ returns-in_err-check_kind g c =
     c.loop-group.invariant
     (next_group (map (λ x. x.now) (drop i groups)) (map (λ x. x.now) (drop (i + 1) groups))
     group.now kind next c.group_kind.ensures) (Unit {0})
-    (Unit {0}) c.from_residual-in_err-check_kind.result c.in_err-check_kind.field-0.0
-    c.from_residual-in_err-check_kind.ensures.1 c.in_err-check_kind.ensures
+    (Unit {0}) c.from_residual.result c.in_err-check_kind.field-0.0
+    c.from_residual.ensures.1 c.in_err-check_kind.ensures

@@ -38,5 +38,5 @@ returns-in_err-check_kind g c =
     kind c.loop-row.invariant
     (next_row kept (map (λ x. x.now) (drop i rows)) (map (λ x. x.now) (drop (i + 1) rows)) row.now
     kind next c.row_kind.ensures) (Unit {0})
-    (Unit {0}) c.from_residual-in_err-check_kind.result c.in_err-check_kind.field-0.0
-    c.from_residual-in_err-check_kind.ensures.1 c.in_err-check_kind.ensures
+    (Unit {0}) c.from_residual.result c.in_err-check_kind.field-0.0
+    c.from_residual.ensures.1 c.in_err-check_kind.ensures

@@ -30,5 +30,5 @@ returns-in_err-check_kind g c =
     (kinds_as_they_stand (map group_item at.group-iterator))
     (kinds_as_they_stand (map group_item c.next.new.self)) kind at.invariant
     (next_group at.group-iterator c.next.new.self group kind next c.group_kind.ensures) (Unit {0})
-    (Unit {0}) c.from_residual-in_err-check_kind.result c.in_err-check_kind.field-0.0
-    c.from_residual-in_err-check_kind.ensures.1 c.in_err-check_kind.ensures
+    (Unit {0}) c.from_residual.result c.in_err-check_kind.field-0.0
+    c.from_residual.ensures.1 c.in_err-check_kind.ensures

@@ -28,5 +28,5 @@ returns-in_err-check_kind g c =
     (row_kinds kept at.row-iterator) (row_kinds kept c.next.new.self)
     kind at.invariant
     (next_row kept at.row-iterator c.next.new.self row kind next c.row_kind.ensures) (Unit {0})
-    (Unit {0}) c.from_residual-in_err-check_kind.result c.in_err-check_kind.field-0.0
-    c.from_residual-in_err-check_kind.ensures.1 c.in_err-check_kind.ensures
+    (Unit {0}) c.from_residual.result c.in_err-check_kind.field-0.0
+    c.from_residual.ensures.1 c.in_err-check_kind.ensures
