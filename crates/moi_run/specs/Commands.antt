@@ -25,7 +25,7 @@ use Rattle.moi_run.specs.Input.{IsWithinLimits}
 use Rattle.moi_run.specs.Tally.{Tally}
 use Rattle.name_index.specs.Escape.{escaped}
 use Rattle.script_core.specs.Line.{line_said}
-use Rattle.script_core.specs.declared.command.Invocation.TheVariants as line
+use Rattle.script_core.specs.declared.command.Command.TheVariants as line
 
 -- the command that the words say
 abbrev pub said_by : List (String Global) → Option Invocation
